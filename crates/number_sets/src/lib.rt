@@ -1,0 +1,2 @@
+//! Sets of numbers: as tests, as rising lists, and the bridge between the two.
+#![tactic(auto)]

@@ -1,0 +1,6 @@
+pub mod Ends
+pub mod Laws
+pub mod Nodes
+pub mod Shape
+pub mod Structure
+pub mod Trace

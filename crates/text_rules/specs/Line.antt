@@ -1,0 +1,85 @@
+-- The lines of a text, each with its number and its section.
+use Rattle.std.specs.Prelude.{◌==◌, ◌&&◌, ◌+◌, ◌-◌, ℕ, Bool, true, false, List, [], ◌∷◌, Option, Some, None, length, take, drop, map, codes, not, nat_eq, slice_index, slice_index_or, unwrap_or, filter, if◌then◌else◌}
+use Rattle.std.specs.List.{list_any, before_first, after_first, slice_split, starts_with}
+use Rattle.std.specs.Str.{bytes_eq, byte}
+use Rattle.text_rules.specs.declared.Section.{Section}
+use Rattle.text_rules.specs.declared.Section.TheVariants.{Preamble, MeasurementUnits, Defaults, Materials, OperatingUnits, Rates, Exclusions}
+use Rattle.problem_rules.specs.Names.{is_name}
+use Rattle.text_rules.specs.Blanks.{trim}
+
+abbrev pub byte_order_mark : List ℕ
+byte_order_mark = 239 ∷ 187 ∷ 191 ∷ []
+
+abbrev pub without_mark : List ℕ → List ℕ
+without_mark bytes = if starts_with nat_eq bytes byte_order_mark then drop 3 bytes else bytes
+
+abbrev pub without_return : List ℕ → List ℕ
+without_return text = if slice_index text (length text - 1) == 13 then take (length text - 1) text else text
+
+-- an empty last part is no line
+abbrev pub without_empty_last : List (List ℕ) → List (List ℕ)
+without_empty_last parts = if length (slice_index_or parts (length parts - 1) (0 ∷ [])) == 0 then take (length parts - 1) parts else parts
+
+-- the lines, without carriage returns and blanks at their ends
+abbrev pub lines_of : List ℕ → List (List ℕ)
+lines_of bytes = map (λ part. trim (without_return part)) (without_empty_last (slice_split (λ c. c == 10) (without_mark bytes)))
+
+abbrev pub is_section : Section → Section → Bool
+is_section Preamble Preamble = true
+is_section MeasurementUnits MeasurementUnits = true
+is_section Defaults Defaults = true
+is_section Materials Materials = true
+is_section OperatingUnits OperatingUnits = true
+is_section Rates Rates = true
+is_section Exclusions Exclusions = true
+is_section section other = false
+
+-- the section of a header's name
+abbrev pub section_named : List ℕ → Option Section
+section_named name =
+    if bytes_eq name (codes "measurement_units") then Some MeasurementUnits
+    else if bytes_eq name (codes "defaults") then Some Defaults
+    else if bytes_eq name (codes "materials") then Some Materials
+    else if bytes_eq name (codes "operating_units") then Some OperatingUnits
+    else if bytes_eq name (codes "material_to_operating_unit_flow_rates") then Some Rates
+    else if bytes_eq name (codes "mutual_exclusions") then Some Exclusions
+    else None
+
+abbrev pub is_colon : ℕ → Bool
+is_colon c = c == byte ":"
+
+-- what stands before the first colon and after it, without blanks
+abbrev pub head_of : List ℕ → List ℕ
+head_of text = trim (before_first is_colon text)
+
+abbrev pub tail_of : List ℕ → List ℕ
+tail_of text = trim (after_first is_colon text)
+
+-- one name and a colon with nothing after
+abbrev pub is_header : List ℕ → Bool
+is_header text = list_any is_colon text && is_name (head_of text) && length (tail_of text) == 0
+
+-- a line, with the section that it stands in or begins
+pub record Placed : Type 0 where
+  pub number : ℕ
+  pub section : Section
+  pub header : Bool
+  pub text : List ℕ
+
+-- the section after a line: an unknown header changes none
+abbrev pub section_after : Section → List ℕ → Section
+section_after section text = if is_header text then unwrap_or (section_named (head_of text)) section else section
+
+abbrev pub placed_from : ℕ → Section → List (List ℕ) → List Placed
+placed_from number section [] = []
+placed_from number section (text ∷ texts) =
+    record { number = number; section = section_after section text; header = is_header text; text = text }
+    ∷ placed_from (number + 1) (section_after section text) texts
+
+abbrev pub standing : List Placed → List Placed
+standing = filter (λ line. not (length line.text == 0))
+
+-- the lines after the first that are not empty
+abbrev pub body_of : List (List ℕ) → List Placed
+body_of [] = []
+body_of (first ∷ texts) = standing (placed_from 2 Preamble texts)
