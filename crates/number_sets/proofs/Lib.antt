@@ -1,1 +1,3 @@
+pub mod MaskOrder
+pub mod OptionLemmas
 pub mod SetLemmas

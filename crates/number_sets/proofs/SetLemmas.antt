@@ -266,6 +266,18 @@ IsRising-listed (suc n) t =
       | false ↦ rw append_nil (IsRising-listed n t)
     ]
 
+-- a number of a list that is below n is below n
+pub has_below : (n : ℕ) (xs : List ℕ) (u : ℕ) → AreBelow n xs → has xs u ≡ true → u < n
+has_below n [] u b e = cc
+has_below n (x ∷ xs) u b e = elim (or_cases (x == u) (has xs u) e) [
+  | inl here ↦ let same : x ≡ u = eqb-true x u here in omega (arith, b.0)
+  | inr there ↦ has_below n xs u b.1 there
+]
+
+pub below_from : (n : ℕ) (xs : List ℕ) → ((u : ℕ) → has xs u ≡ true → u < n) → AreBelow n xs
+below_from n [] h = tt
+below_from n (x ∷ xs) h = (h x (has-first x xs), below_from n xs (λ u e. h u (has-rest x u xs e)))
+
 -- ---- length
 
 pub length-within : (xs ys : List ℕ) → IsRising xs → IsRising ys → IsWithin (has xs) (has ys) → length xs ≤ length ys

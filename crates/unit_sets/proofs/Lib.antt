@@ -1,0 +1,3 @@
+pub mod HalfLemmas
+pub mod MaskLemmas
+pub mod NextLemmas

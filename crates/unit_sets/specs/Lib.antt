@@ -1,0 +1,4 @@
+pub mod HalfInverse
+pub mod Halves
+pub mod MaskInverse
+pub mod Masks
