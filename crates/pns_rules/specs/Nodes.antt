@@ -1,7 +1,8 @@
 -- Nodes of the search, the five steps that lose no structure, and the options of a material (neutral extension and decision
 -- of Friedler, Tarjan, Huang and Fan 1996).
-use Rattle.std.specs.Prelude.{◌≡◌, ℕ, ◌<◌, Bool, true, false, not, ◌&&◌, ◌||◌, ◌==◌, List, [], ◌∷◌}
-use Rattle.number_sets.specs.Sets.{has, listed, union, IsWithin, IsRising}
+use Rattle.std.specs.Prelude.{◌≡◌, ℕ, ◌<◌, Bool, true, false, not, ◌&&◌, ◌||◌, ◌==◌, List}
+use Rattle.number_sets.specs.Sets.{has, listed, IsWithin, IsRising}
+use Rattle.number_sets.specs.Options.{all_options}
 use Rattle.pns_rules.specs.Shape.{Shape}
 use Rattle.pns_rules.specs.Structure.{is_needed, makers}
 
@@ -48,32 +49,16 @@ after g n (starve x) = record { inside = n.inside; outside = λ v. g.uses v x ||
 after g n (loose w) = record { inside = n.inside; outside = λ v. has w v || n.outside v }
 after g n (sole x u) = record { inside = λ v. (u == v) || n.inside v; outside = n.outside }
 
--- each set, and then the same with u
-abbrev pub without_and_with : ℕ → List (List ℕ) → List (List ℕ)
-without_and_with u [] = []
-without_and_with u (t ∷ ts) = t ∷ (u ∷ t) ∷ without_and_with u ts
+-- the makers of x that are taken in, and those that are still free
+abbrev pub base_makers : Shape → Node → ℕ → List ℕ
+base_makers g n x = listed g.units (makers g n.inside x)
 
--- the subsets of a rising list in numeric order: its least number changes fastest
-abbrev pub subsets : List ℕ → List (List ℕ)
-subsets [] = [] ∷ []
-subsets (u ∷ us) = without_and_with u (subsets us)
+abbrev pub free_makers : Shape → Node → ℕ → List ℕ
+free_makers g n x = listed g.units (λ u. is_free g n u && g.makes u x)
 
--- each with the base
-abbrev pub with_base : List ℕ → List (List ℕ) → List (List ℕ)
-with_base base [] = []
-with_base base (t ∷ ts) = union base t ∷ with_base base ts
-
-abbrev pub non_empty : List (List ℕ) → List (List ℕ)
-non_empty [] = []
-non_empty ([] ∷ ts) = non_empty ts
-non_empty ((u ∷ us) ∷ ts) = (u ∷ us) ∷ non_empty ts
-
--- the options of a material, in numeric order: the makers of x in I are the base, those outside I and E are free
+-- the options of a material, in numeric order
 abbrev pub options : Shape → Node → ℕ → List (List ℕ)
-options g n x =
-    non_empty (with_base
-    (listed g.units (makers g n.inside x))
-    (subsets (listed g.units (λ u. is_free g n u && g.makes u x))))
+options g n x = all_options (base_makers g n x) (free_makers g n x)
 
 -- the child of the option t
 abbrev pub child : Shape → Node → ℕ → List ℕ → Node

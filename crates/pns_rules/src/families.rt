@@ -1,0 +1,18 @@
+ghost use Rattle.pns_rules.specs.Laws.{StepsKeepFamilies, ClashesAreEmpty, DeadAreEmpty, ChildrenCover, ChildrenAreApart};
+
+/// A possible step of a node leaves its family as it was.
+pub fn steps_keep_families()
+    ensures { StepsKeepFamilies }
+{}
+
+/// A node that clashes at an exclusion has an empty family, and so has a node with a dead material.
+pub fn ends_are_empty()
+    ensures clash { ClashesAreEmpty }
+    ensures dead { DeadAreEmpty }
+{}
+
+/// The families of the children of a needed material cover the family of the node, and no structure is in two.
+pub fn children_split_families()
+    ensures cover { ChildrenCover }
+    ensures apart { ChildrenAreApart }
+{}
