@@ -1,3 +1,4 @@
 pub mod MaskOrder
 pub mod OptionLemmas
+pub mod OptionLists
 pub mod SetLemmas

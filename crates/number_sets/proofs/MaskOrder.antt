@@ -1,8 +1,8 @@
 -- The order of sets by their numbers: at the greatest number in which two sets differ, the one that has it is the greater.
-use Rattle.std.proofs.Common.{◌≡◌, ⊎_elim, ℕ, zero, suc, ◌+◌, ◌^◌, ◌<◌, ◌≤◌, ◌==◌, Bool, true, false, cond, ◌||◌, List, [], ◌∷◌, refl, sym, ap, ◌∙◌, subst, arith, inl, inr, ◌⊎◌, pow-suc}
-use Rattle.std.proofs.lemmas.Bool.{cases_eq, ne_eqb, eq-eqb, eqb-true, both_ways}
-use Rattle.number_sets.specs.Sets.{has, IsRising, AreBelow, IsSet, IsWithin, mask_of}
-use Rattle.number_sets.proofs.SetLemmas.{below_not_had}
+use Rattle.std.proofs.Common.{◌&&◌, ◌≡◌, ⊎_elim, ℕ, zero, suc, ◌+◌, ◌^◌, ◌<◌, ◌≤◌, ◌==◌, Bool, true, false, cond, ◌||◌, List, [], ◌∷◌, refl, sym, ap, ◌∙◌, subst, arith, inl, inr, ◌⊎◌, pow-suc}
+use Rattle.std.proofs.lemmas.Bool.{cases_eq, ne_eqb, eq-eqb, eqb-true, both_ways, lt-ltb}
+use Rattle.number_sets.specs.Sets.{has, IsRising, AreBelow, IsSet, IsWithin, mask_of, listed}
+use Rattle.number_sets.proofs.SetLemmas.{below_not_had, has-listed, IsSet-listed, listed-same}
 
 -- the number of the numbers below n that pass
 abbrev pub weight : ℕ → (ℕ → Bool) → ℕ
@@ -136,3 +136,20 @@ compared (suc n) s t = at (s n) (t n) refl refl (compared n s t)
     at false false p q c = same (p ∙ sym q) c
     at false true p q c = inr (inl (n, top n s t p q))
     at true false p q c = inr (inr (n, top n t s q p))
+
+-- ---- the numbers below n that pass
+
+pub mask-listed : (n : ℕ) (s : ℕ → Bool) → mask_of (listed n s) ≡ weight n s
+mask-listed n s = mask-weight n (listed n s) (IsSet-listed n s) ∙ weight-same n (has (listed n s)) s (λ u less. has-listed n s u ∙ ap (λ b. b && s u) (lt-ltb u n less))
+
+pub listed-less : (n : ℕ) (s t : ℕ → Bool) (d : ℕ) → IsLessAt n s t d → mask_of (listed n s) < mask_of (listed n t)
+listed-less n s t d l = let a = mask-listed n s in let b = mask-listed n t in let c = weight-less n s t d l in omega arith
+
+-- tests with one number list the same
+pub listed-same_mask : (n : ℕ) (s t : ℕ → Bool) → mask_of (listed n s) ≡ mask_of (listed n t) → listed n s ≡ listed n t
+listed-same_mask n s t e = at (compared n s t)
+  where
+    at : Compared n s t → listed n s ≡ listed n t
+    at (inl same) = listed-same n s t same
+    at (inr (inl l)) = absurd (let less = listed-less n s t l.0 l.1 in omega arith)
+    at (inr (inr l)) = absurd (let less = listed-less n t s l.0 l.1 in omega arith)

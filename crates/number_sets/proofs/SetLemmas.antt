@@ -1,7 +1,7 @@
 -- Tests below a bound, lists as tests, and rising lists.
 use Rattle.std.proofs.Common.{◌≡◌, ℕ, zero, suc, ◌<◌, ◌≤◌, ◌==◌, nat_lt, Bool, true, false, cond, not, ◌&&◌, ◌||◌, List, [], ◌∷◌, ◌++◌, length, refl, sym, ap, ap₂, ◌∙◌, subst, inl, inr, arith, eq-eqb, eqb-true, ltb-true, ltb-false, ne_eqb}
 use Rattle.std.proofs.lemmas.Bool.{cases_lt, true_from_ne_false, le-ltb, lt-ltb, eqb-false, and_right, or_from, or_cases, or_left, or_right, or_parts, both_ways, cases_eq, cases_order, false_from_ne_true}
-use Rattle.number_sets.specs.Sets.{has, IsBelowAll, IsRising, AreBelow, any_below, listed, IsWithin, with_number, kept, union, meet, minus}
+use Rattle.number_sets.specs.Sets.{has, IsBelowAll, IsRising, AreBelow, any_below, listed, IsWithin, with_number, kept, union, meet, minus, IsSet}
 
 -- a number below n that passes
 pub any_below-from : (n : ℕ) (t : ℕ → Bool) (u : ℕ) → u < n → t u ≡ true → any_below n t ≡ true
@@ -277,6 +277,27 @@ has_below n (x ∷ xs) u b e = elim (or_cases (x == u) (has xs u) e) [
 pub below_from : (n : ℕ) (xs : List ℕ) → ((u : ℕ) → has xs u ≡ true → u < n) → AreBelow n xs
 below_from n [] h = tt
 below_from n (x ∷ xs) h = (h x (has-first x xs), below_from n xs (λ u e. h u (has-rest x u xs e)))
+
+pub IsSet-listed : (n : ℕ) (t : ℕ → Bool) → IsSet n (listed n t)
+IsSet-listed n t = record { rising = IsRising-listed n t; below = AreBelow-listed n t }
+
+-- tests that agree below n list the same
+pub listed-same : (n : ℕ) (s t : ℕ → Bool) → ((u : ℕ) → u < n → s u ≡ t u) → listed n s ≡ listed n t
+listed-same n s t same =
+    same_sets (listed n s) (listed n t) (IsRising-listed n s) (IsRising-listed n t) (λ u. has-listed n s u ∙ (at u (nat_lt u n) refl ∙ sym (has-listed n t u)))
+  where
+    at : (u : ℕ) (b : Bool) → nat_lt u n ≡ b → (b && s u) ≡ (b && t u)
+    at u true e = same u (ltb-true u n e)
+    at u false e = refl
+
+-- a set is the list of its own numbers
+pub listed-is : (n : ℕ) (xs : List ℕ) → IsSet n xs → listed n (has xs) ≡ xs
+listed-is n xs s = same_sets (listed n (has xs)) xs (IsRising-listed n (has xs)) s.rising (λ u. has-listed n (has xs) u ∙ at u (nat_lt u n) (has xs u) refl refl)
+  where
+    at : (u : ℕ) (a b : Bool) → nat_lt u n ≡ a → has xs u ≡ b → (a && b) ≡ b
+    at u true b p q = refl
+    at u false true p q = absurd (both_ways (nat_lt u n) p (lt-ltb u n (has_below n xs u s.below q)))
+    at u false false p q = refl
 
 -- ---- length
 

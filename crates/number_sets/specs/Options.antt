@@ -1,5 +1,5 @@
 -- The sets between a base and the base with free numbers, in numeric order, in which number u counts 2 ^ u.
-use Rattle.std.specs.Prelude.{◌≡◌, ℕ, ◌<◌, ◌≤◌, true, ◌||◌, List, [], ◌∷◌}
+use Rattle.std.specs.Prelude.{◌≡◌, ℕ, ◌<◌, ◌≤◌, true, ◌||◌, List, [], ◌∷◌, ◌⊎◌}
 use Rattle.number_sets.specs.Sets.{has, IsRising, IsWithin, mask_of, union}
 
 -- a set with all numbers of the base, and no others but free ones
@@ -51,3 +51,18 @@ non_empty ((u ∷ us) ∷ ts) = (u ∷ us) ∷ non_empty ts
 -- all options, in numeric order
 abbrev pub all_options : List ℕ → List ℕ → List (List ℕ)
 all_options base free = non_empty (with_base base (subsets free))
+
+-- t stands in the list
+abbrev pub IsIn : List ℕ → List (List ℕ) → Type 0
+IsIn t [] = ⊥
+IsIn t (s ∷ ss) = (t ≡ s) ⊎ IsIn t ss
+
+-- the number of t is below that of each
+abbrev pub IsBelowEach : List ℕ → List (List ℕ) → Type 0
+IsBelowEach t [] = Unit {0}
+IsBelowEach t (s ∷ ss) = (mask_of t < mask_of s) × IsBelowEach t ss
+
+-- each comes before all that stand after it, in numeric order
+abbrev pub IsAscending : List (List ℕ) → Type 0
+IsAscending [] = Unit {0}
+IsAscending (t ∷ ts) = IsBelowEach t ts × IsAscending ts

@@ -4,7 +4,7 @@ use Rattle.std.proofs.lemmas.Bool.{or_cases, or_left, or_right, and_parts, and_f
 use Rattle.number_sets.specs.Sets.{has, listed, IsWithin}
 use Rattle.pns_rules.specs.Shape.{Shape, IsProper}
 use Rattle.pns_rules.specs.Structure.{is_used, is_needed, makers, IsPath, IsStructure}
-use Rattle.pns_rules.specs.Trace.{Pair, is_done, units_of, least_below, or_later, next_material, Continues, IsTrace, onto}
+use Rattle.pns_rules.specs.Trace.{Pair, is_done, units_of, least_below, or_later, next_material, Continues, IsTrace, onto, HasMakers}
 use Rattle.number_sets.proofs.SetLemmas.{has-listed, IsRising-listed, length-less, same_tests}
 use Rattle.pns_rules.proofs.StructureLemmas.{is_used-from, raw_unmade}
 
@@ -108,17 +108,11 @@ one_trace g s done (p ∷ ps) (q ∷ qs) h k =
 
 -- ---- a structure is the units of its trace
 
--- each pair has the makers of its material
-unfoldable pub AreMakers : Shape → (ℕ → Bool) → List Pair → Type 0
-AreMakers g s [] = Unit {0}
-AreMakers g s (p ∷ ps) = (p.chosen ≡ listed g.units (makers g s p.material)) × AreMakers g s ps
-
 at_end : (g : Shape) (s : ℕ → Bool) (done t : List Pair) → Continues g s done t → next_material g (onto t done) ≡ None
 at_end g s done [] h = h
 at_end g s done (p ∷ ps) h = at_end g s (p ∷ done) ps h.2
 
-keeps_makers : (g : Shape) (s : ℕ → Bool) (done t : List Pair) → Continues g s done t → AreMakers g s done → AreMakers g s (onto t done)
-unfolding AreMakers
+keeps_makers : (g : Shape) (s : ℕ → Bool) (done t : List Pair) → Continues g s done t → HasMakers g s done → HasMakers g s (onto t done)
 keeps_makers g s done [] h m = m
 keeps_makers g s done (p ∷ ps) h m = keeps_makers g s (p ∷ done) ps h.2 (h.1, m)
 
@@ -127,8 +121,7 @@ module _ (g : Shape) (s : ℕ → Bool) where
   has_maker x u = has-listed g.units (makers g s x) u
 
   -- the units of the pairs are of the set
-  units_within : (ps : List Pair) → AreMakers g s ps → IsWithin (units_of ps) s
-  unfolding AreMakers
+  units_within : (ps : List Pair) → HasMakers g s ps → IsWithin (units_of ps) s
   units_within [] m u e = cc
   units_within (p ∷ ps) m u e = elim (or_cases (has p.chosen u) (units_of ps u) e) [
     | inl h ↦ (and_parts (s u) (g.makes u p.material) (and_parts (nat_lt u g.units) (s u && g.makes u p.material) (sym (has_maker p.material u) ∙ (ap (λ xs. has xs u) (sym m.0) ∙ h))).1).0
@@ -136,8 +129,7 @@ module _ (g : Shape) (s : ℕ → Bool) where
   ]
 
   -- a unit of the set that makes a material of a pair is in the pairs
-  units_have : (ps : List Pair) → AreMakers g s ps → (u x : ℕ) → u < g.units → s u ≡ true → g.makes u x ≡ true → is_done ps x ≡ true → units_of ps u ≡ true
-  unfolding AreMakers
+  units_have : (ps : List Pair) → HasMakers g s ps → (u x : ℕ) → u < g.units → s u ≡ true → g.makes u x ≡ true → is_done ps x ≡ true → units_of ps u ≡ true
   units_have [] m u x lt su mk d = cc
   units_have (p ∷ ps) m u x lt su mk d = elim (or_cases (p.material == x) (is_done ps x) d) [
     | inl e ↦
@@ -147,7 +139,7 @@ module _ (g : Shape) (s : ℕ → Bool) where
     | inr r ↦ or_right (has p.chosen u) (units_of ps u) (units_have ps m.1 u x lt su mk r)
   ]
 
-  module _ (proper : IsProper g) (hs : IsStructure g s) (ps : List Pair) (m : AreMakers g s ps) (end : next_material g ps ≡ None) where
+  module _ (proper : IsProper g) (hs : IsStructure g s) (ps : List Pair) (m : HasMakers g s ps) (end : next_material g ps ≡ None) where
     all_done : (x : ℕ) → x < g.materials → is_needed g (units_of ps) x ≡ true → is_done ps x ≡ true
     all_done x lt n = true_from_ne_false (is_done ps x) (λ d.
         both_ways (is_needed g (units_of ps) x && not (is_done ps x))
@@ -175,7 +167,6 @@ module _ (g : Shape) (s : ℕ → Bool) where
 
 -- a structure is the units of its trace
 pub units_of_trace : (g : Shape) (s : ℕ → Bool) (t : List Pair) → IsProper g → IsStructure g s → IsTrace g s t → (u : ℕ) → s u ≡ units_of (onto t []) u
-unfolding AreMakers
 units_of_trace g s t proper hs h u = is_units g s proper hs (onto t []) (keeps_makers g s [] t h tt) (at_end g s [] t h) u
 
 pub traces_tell : (g : Shape) (s s' : ℕ → Bool) (t : List Pair) → IsProper g → IsStructure g s → IsStructure g s' → IsTrace g s t → IsTrace g s' t → (u : ℕ) → s u ≡ s' u

@@ -1,5 +1,6 @@
 pub mod Ends
 pub mod Laws
+pub mod Listing
 pub mod Nodes
 pub mod Shape
 pub mod Structure

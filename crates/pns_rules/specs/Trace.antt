@@ -57,7 +57,19 @@ pub record IsBefore (g : Shape) (s t : ℕ → Bool) : Type 0 where
   pub of_t : IsTrace g t trace_of_t
   pub less : IsLess trace_of_s trace_of_t
 
--- the pairs of the trace put before those that are done, the last one first
+-- ---- traces that begin with the pairs of a list, the last pair first
+
+-- the pairs of the trace put before those that are done
 abbrev pub onto : List Pair → List Pair → List Pair
 onto [] done = done
 onto (p ∷ ps) done = onto ps (p ∷ done)
+
+-- each material is the one that comes next after the pairs before it
+abbrev pub IsWalk : Shape → List Pair → Type 0
+IsWalk g [] = Unit {0}
+IsWalk g (p ∷ ps) = (next_material g ps ≡ Some p.material) × IsWalk g ps
+
+-- each pair has the makers of its material in s
+abbrev pub HasMakers : Shape → (ℕ → Bool) → List Pair → Type 0
+HasMakers g s [] = Unit {0}
+HasMakers g s (p ∷ ps) = (p.chosen ≡ listed g.units (makers g s p.material)) × HasMakers g s ps

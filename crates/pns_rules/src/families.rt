@@ -1,4 +1,4 @@
-ghost use Rattle.pns_rules.specs.Laws.{StepsKeepFamilies, ClashesAreEmpty, DeadAreEmpty, ChildrenCover, ChildrenAreApart};
+ghost use Rattle.pns_rules.specs.Laws.{StepsKeepFamilies, ClashesAreEmpty, DeadAreEmpty};
 
 /// A possible step of a node leaves its family as it was.
 pub fn steps_keep_families()
@@ -9,10 +9,4 @@ pub fn steps_keep_families()
 pub fn ends_are_empty()
     ensures clash { ClashesAreEmpty }
     ensures dead { DeadAreEmpty }
-{}
-
-/// The families of the children of a needed material cover the family of the node, and no structure is in two.
-pub fn children_split_families()
-    ensures cover { ChildrenCover }
-    ensures apart { ChildrenAreApart }
 {}

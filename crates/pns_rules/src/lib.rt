@@ -6,9 +6,15 @@
 #![tactic(auto)]
 
 mod families;
+mod listing;
+mod options;
+mod order;
 mod structures;
 mod traces;
 
-pub use families::{children_split_families, ends_are_empty, steps_keep_families};
+pub use families::{ends_are_empty, steps_keep_families};
+pub use listing::{listing_exists, listing_resumes};
+pub use options::{children_split_families, options_are_all};
+pub use order::{order_is_total, traces_branch};
 pub use structures::structures_unite;
 pub use traces::{traces_exist, traces_tell};

@@ -1,5 +1,5 @@
 use Rattle.pns_rules.proofs.StepLemmas.{children_cover, children_apart}
-use Rattle.pns_rules.proofs.families.children_split_families.Goals as goal
+use Rattle.pns_rules.proofs.options.children_split_families.Goals as goal
 
 pub returns-clause-cover : goal.returns-clause-cover
 returns-clause-cover c = children_cover
