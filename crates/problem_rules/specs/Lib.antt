@@ -1,3 +1,5 @@
+pub mod Each
 pub mod Names
 pub mod Problem
 pub mod Validity
+pub mod WellFormed

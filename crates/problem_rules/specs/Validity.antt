@@ -1,13 +1,14 @@
 -- The faults of the parts of a problem, in the order in which they are judged, and the problems that have none.
 use Rattle.std.specs.Prelude.{◌≡◌, ◌==◌, ℕ, ◌+◌, nat_lt, nat_le, Bool, true, false, not, ◌||◌, Option, Some, None, List, [], ◌∷◌, ◌++◌, length, ℤ, pos, int_lt, unsigned_abs}
 use Rattle.std.specs.List.{list_any}
-use Rattle.problem_rules.specs.Problem.{Problem, Material, Term, OperatingUnit, Exclusion, is_product, numbers_of, rates_of}
+use Rattle.problem_rules.specs.Problem.{Problem, Material, Term, OperatingUnit, Exclusion, is_product, numbers_of, rates_of, terms_have}
 use Rattle.problem_rules.specs.Names.{is_name, is_among}
 
 pub data FaultKind : Type 0 where
   too_many_materials too_many_units bad_name double_name out_of_range low_above_high sign : FaultKind
   no_material double_term both_sides empty_side no_product too_many_exclusions bad_exclusion bad_payout : FaultKind
 
+-- a fault, with the number of the item that has it
 pub record Refusal : Type 0 where
   pub kind : FaultKind
   pub at : ℕ
@@ -18,146 +19,145 @@ or_else (Some r) rest = Some r
 or_else None rest = rest
 
 -- a refusal where the test passes, else the rest
-abbrev pub refuse : ℕ → FaultKind → Bool → Option Refusal → Option Refusal
-refuse at k true rest = Some (record { kind = k; at = at })
-refuse at k false rest = rest
+abbrev pub refuse_if : ℕ → FaultKind → Bool → Option Refusal → Option Refusal
+refuse_if at kind true rest = Some (record { kind = kind; at = at })
+refuse_if at kind false rest = rest
 
-abbrev pub is_far : ℤ → Bool
-is_far z = nat_lt 1000000000000000 (unsigned_abs z)
-
-abbrev pub is_low : ℤ → Bool
-is_low z = int_lt z (pos 0)
-
--- items judged in order; `seen` are the names of the items before, and `at` is the number of the first
+-- items judged in order; `before` are the names of the items before, and `at` is the number of the first
 abbrev pub items_fault : {X : Type 0} → (X → List ℕ) → (List (List ℕ) → ℕ → X → Option Refusal) → List (List ℕ) → ℕ → List X → Option Refusal
-items_fault name judge seen at [] = None
-items_fault name judge seen at (x ∷ xs) = or_else (judge seen at x) (items_fault name judge (seen ++ name x ∷ []) (at + 1) xs)
+items_fault name judge before at [] = None
+items_fault name judge before at (x ∷ xs) = or_else (judge before at x) (items_fault name judge (before ++ name x ∷ []) (at + 1) xs)
 
-abbrev pub has_far : Material → Bool
-has_far m = is_far m.price || is_far m.lower || is_far m.upper
+-- ---- amounts
 
-abbrev pub has_low : Material → Bool
-has_low m = is_low m.lower || is_low m.upper
+-- more than 10^9 in absolute value, in millionths
+abbrev pub is_out_of_range : ℤ → Bool
+is_out_of_range z = nat_lt 1000000000000000 (unsigned_abs z)
 
--- `seen` are the names of the materials before it
+abbrev pub is_negative : ℤ → Bool
+is_negative z = int_lt z (pos 0)
+
+-- ---- materials
+
+abbrev pub material_out_of_range : Material → Bool
+material_out_of_range m = is_out_of_range m.price || is_out_of_range m.lower || is_out_of_range m.upper
+
+abbrev pub material_negative : Material → Bool
+material_negative m = is_negative m.lower || is_negative m.upper
+
+-- `before` are the names of the materials before it
 abbrev pub material_fault : List (List ℕ) → ℕ → Material → Option Refusal
-material_fault seen at m =
-    refuse at bad_name (not (is_name m.name))
-    (refuse at double_name (is_among seen m.name)
-    (refuse at out_of_range (has_far m)
-    (refuse at low_above_high (int_lt m.upper m.lower)
-    (refuse at sign (has_low m) None))))
+material_fault before at m =
+    refuse_if at bad_name (not (is_name m.name))
+    (refuse_if at double_name (is_among before m.name)
+    (refuse_if at out_of_range (material_out_of_range m)
+    (refuse_if at low_above_high (int_lt m.upper m.lower)
+    (refuse_if at sign (material_negative m) None))))
 
 abbrev pub materials_fault : List (List ℕ) → ℕ → List Material → Option Refusal
-materials_fault seen at ms = items_fault (λ m. m.name) material_fault seen at ms
+materials_fault before at materials = items_fault (λ m. m.name) material_fault before at materials
 
-abbrev pub any_far : List ℤ → Bool
-any_far [] = false
-any_far (r ∷ rs) = is_far r || any_far rs
+-- ---- terms
 
--- a rate below 1
-abbrev pub any_low : List ℤ → Bool
-any_low [] = false
-any_low (r ∷ rs) = int_lt r (pos 1) || any_low rs
+abbrev pub any_out_of_range : List ℤ → Bool
+any_out_of_range [] = false
+any_out_of_range (rate ∷ rates) = is_out_of_range rate || any_out_of_range rates
 
-abbrev pub has_far_rate : List Term → Bool
-has_far_rate ts = any_far (rates_of ts)
+abbrev pub any_below_one : List ℤ → Bool
+any_below_one [] = false
+any_below_one (rate ∷ rates) = int_lt rate (pos 1) || any_below_one rates
 
-abbrev pub has_low_rate : List Term → Bool
-has_low_rate ts = any_low (rates_of ts)
+-- a number that is none of so many materials
+abbrev pub names_no_material : ℕ → List Term → Bool
+names_no_material materials [] = false
+names_no_material materials (t ∷ ts) = nat_le materials t.material || names_no_material materials ts
 
--- a number that is none of n materials
-abbrev pub has_stranger : ℕ → List Term → Bool
-has_stranger n [] = false
-has_stranger n (t ∷ ts) = nat_le n t.material || has_stranger n ts
+-- a material that stands twice
+abbrev pub repeats_material : List Term → Bool
+repeats_material [] = false
+repeats_material (t ∷ ts) = terms_have ts t.material || repeats_material ts
 
--- whether some key of the list equals x
-abbrev pub among : {K : Type 0} → (K → K → Bool) → K → List K → Bool
-among eq x [] = false
-among eq x (k ∷ ks) = eq k x || among eq x ks
-
--- some key stands twice
-abbrev pub double : {K : Type 0} → (K → K → Bool) → List K → Bool
-double eq [] = false
-double eq (k ∷ ks) = among eq k ks || double eq ks
-
--- some key of the second list is in the first
-abbrev pub both : {K : Type 0} → (K → K → Bool) → List K → List K → Bool
-both eq ks [] = false
-both eq ks (j ∷ js) = among eq j ks || both eq ks js
-
-abbrev pub none_of : {K : Type 0} → List K → Bool
-none_of [] = true
-none_of (k ∷ ks) = false
-
-abbrev pub has_double : List Term → Bool
-has_double ts = double (λ a b. a == b) (numbers_of ts)
-
-abbrev pub has_both : List Term → List Term → Bool
-has_both ins outs = both (λ a b. a == b) (numbers_of ins) (numbers_of outs)
+-- a material of the second list that stands in the first
+abbrev pub shares_material : List Term → List Term → Bool
+shares_material terms [] = false
+shares_material terms (t ∷ ts) = terms_have terms t.material || shares_material terms ts
 
 abbrev pub is_empty : List Term → Bool
-is_empty ts = none_of (numbers_of ts)
+is_empty [] = true
+is_empty (t ∷ ts) = false
 
-abbrev pub costs_far : OperatingUnit → Bool
-costs_far u = is_far u.fix || is_far u.proportional || is_far u.investment_fix || is_far u.investment_proportional
+-- ---- operating units
 
-abbrev pub bounds_far : OperatingUnit → Bool
-bounds_far u = is_far u.lower || is_far u.upper
+abbrev pub bounds_out_of_range : OperatingUnit → Bool
+bounds_out_of_range u = is_out_of_range u.lower || is_out_of_range u.upper
 
-abbrev pub rates_far : OperatingUnit → Bool
-rates_far u = has_far_rate u.inputs || has_far_rate u.outputs
+abbrev pub costs_out_of_range : OperatingUnit → Bool
+costs_out_of_range u = is_out_of_range u.fix || is_out_of_range u.proportional || is_out_of_range u.investment_fix || is_out_of_range u.investment_proportional
 
-abbrev pub unit_far : OperatingUnit → Bool
-unit_far u = bounds_far u || costs_far u || rates_far u
+abbrev pub rates_out_of_range : OperatingUnit → Bool
+rates_out_of_range u = any_out_of_range (rates_of u.inputs) || any_out_of_range (rates_of u.outputs)
 
-abbrev pub unit_low : OperatingUnit → Bool
-unit_low u = is_low u.lower || is_low u.upper || is_low u.fix || is_low u.investment_fix || has_low_rate u.inputs || has_low_rate u.outputs
+abbrev pub unit_out_of_range : OperatingUnit → Bool
+unit_out_of_range u = bounds_out_of_range u || costs_out_of_range u || rates_out_of_range u
 
--- `n` materials, and the names of the units before it
+-- a bound, a fixed cost or an investment fixed cost below 0, or a rate below one millionth
+abbrev pub unit_negative : OperatingUnit → Bool
+unit_negative u = is_negative u.lower || is_negative u.upper || is_negative u.fix || is_negative u.investment_fix
+    || any_below_one (rates_of u.inputs) || any_below_one (rates_of u.outputs)
+
+-- of so many materials; `before` are the names of the units before it
 abbrev pub unit_fault : ℕ → List (List ℕ) → ℕ → OperatingUnit → Option Refusal
-unit_fault n seen at u =
-    refuse at bad_name (not (is_name u.name))
-    (refuse at double_name (is_among seen u.name)
-    (refuse at out_of_range (unit_far u)
-    (refuse at low_above_high (int_lt u.upper u.lower)
-    (refuse at sign (unit_low u)
-    (refuse at no_material (has_stranger n u.inputs || has_stranger n u.outputs)
-    (refuse at double_term (has_double u.inputs || has_double u.outputs)
-    (refuse at both_sides (has_both u.inputs u.outputs)
-    (refuse at empty_side (is_empty u.inputs || is_empty u.outputs) None))))))))
+unit_fault materials before at u =
+    refuse_if at bad_name (not (is_name u.name))
+    (refuse_if at double_name (is_among before u.name)
+    (refuse_if at out_of_range (unit_out_of_range u)
+    (refuse_if at low_above_high (int_lt u.upper u.lower)
+    (refuse_if at sign (unit_negative u)
+    (refuse_if at no_material (names_no_material materials u.inputs || names_no_material materials u.outputs)
+    (refuse_if at double_term (repeats_material u.inputs || repeats_material u.outputs)
+    (refuse_if at both_sides (shares_material u.inputs u.outputs)
+    (refuse_if at empty_side (is_empty u.inputs || is_empty u.outputs) None))))))))
 
 abbrev pub units_fault : ℕ → List (List ℕ) → ℕ → List OperatingUnit → Option Refusal
-units_fault n seen at us = items_fault (λ u. u.name) (unit_fault n) seen at us
+units_fault materials before at units = items_fault (λ u. u.name) (unit_fault materials) before at units
 
--- some number is below `least`, or not below n, or not above the one before it
-abbrev pub is_bad_rise : ℕ → ℕ → List ℕ → Bool
-is_bad_rise n least [] = false
-is_bad_rise n least (x ∷ xs) = (nat_lt x least || nat_le n x) || is_bad_rise n (x + 1) xs
+-- ---- exclusions
 
+-- a number below `least`, not below `units`, or not above the one before it
+abbrev pub breaks_rise : ℕ → ℕ → List ℕ → Bool
+breaks_rise units least [] = false
+breaks_rise units least (u ∷ us) = (nat_lt u least || nat_le units u) || breaks_rise units (u + 1) us
+
+-- fewer than two members, or members that are not units in rising order
 abbrev pub bad_members : ℕ → Exclusion → Bool
-bad_members n x = nat_lt (length x.units) 2 || is_bad_rise n 0 x.units
+bad_members units e = nat_lt (length e.units) 2 || breaks_rise units 0 e.units
 
--- `n` units, and the names of the exclusions before it
+-- of so many units; `before` are the names of the exclusions before it
 abbrev pub exclusion_fault : ℕ → List (List ℕ) → ℕ → Exclusion → Option Refusal
-exclusion_fault n seen at x =
-    refuse at bad_name (not (is_name x.name))
-    (refuse at double_name (is_among seen x.name)
-    (refuse at bad_exclusion (bad_members n x) None))
+exclusion_fault units before at e =
+    refuse_if at bad_name (not (is_name e.name))
+    (refuse_if at double_name (is_among before e.name)
+    (refuse_if at bad_exclusion (bad_members units e) None))
 
 abbrev pub exclusions_fault : ℕ → List (List ℕ) → ℕ → List Exclusion → Option Refusal
-exclusions_fault n seen at xs = items_fault (λ x. x.name) (exclusion_fault n) seen at xs
+exclusions_fault units before at exclusions = items_fault (λ e. e.name) (exclusion_fault units) before at exclusions
+
+-- ---- the problem
 
 abbrev pub counts_fault : Problem → Option Refusal
 counts_fault p =
-    refuse 256 too_many_materials (nat_lt 256 (length p.materials))
-    (refuse 128 too_many_units (nat_lt 128 (length p.units))
-    (refuse 64 too_many_exclusions (nat_lt 64 (length p.exclusions)) None))
+    refuse_if 256 too_many_materials (nat_lt 256 (length p.materials))
+    (refuse_if 128 too_many_units (nat_lt 128 (length p.units))
+    (refuse_if 64 too_many_exclusions (nat_lt 64 (length p.exclusions)) None))
+
+abbrev pub has_product : List Material → Bool
+has_product materials = list_any (λ (m : Material). is_product m.kind) materials
+
+abbrev pub is_bad_payout : ℤ → Bool
+is_bad_payout years = int_lt years (pos 1) || int_lt (pos 100) years
 
 abbrev pub whole_fault : Problem → Option Refusal
-whole_fault p =
-    refuse 0 no_product (not (list_any (λ (m : Material). is_product m.kind) p.materials))
-    (refuse 0 bad_payout (int_lt p.payout (pos 1) || int_lt (pos 100) p.payout) None)
+whole_fault p = refuse_if 0 no_product (not (has_product p.materials)) (refuse_if 0 bad_payout (is_bad_payout p.payout) None)
 
 -- the first fault
 abbrev pub fault_of : Problem → Option Refusal
