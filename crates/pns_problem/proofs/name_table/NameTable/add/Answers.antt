@@ -1,0 +1,15 @@
+use Rattle.std.proofs.Common.{◌≡◌, ◌++◌, [], ◌∷◌, false, map, sym, ap, ◌∙◌, string_bytes}
+use Rattle.problem_rules.specs.Names.{is_among}
+use Rattle.pns_problem.proofs.NameLemmas.{names-insert_key}
+use Rattle.pns_problem.proofs.name_table.NameTable.add.Goals as goal
+
+pub returns : goal.returns
+returns c =
+    let is = c.self.view_is in
+    let same = c.in_ok-name.ensures.ok in
+    record {
+      added =
+          ap (λ keys. map string_bytes keys) c.in_ok-insert.ensures.keys
+          ∙ (names-insert_key c.self.inside.names.keys c.in_ok-name.name ((λ i. is_among (is i) (same i)) ∙ c.requires)
+          ∙ (λ i. is i ++ same i ∷ []));
+    }

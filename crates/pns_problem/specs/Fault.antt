@@ -1,0 +1,52 @@
+-- The refusals of parts, as the rules name them, and what an answer tells of the first fault.
+use Rattle.std.specs.Prelude.{◌≡◌, Bool, true, false, Option, Some, None, Result, Ok, Err}
+use Rattle.problem_rules.specs.Validity.{Refusal, too_many_materials, too_many_units, bad_name, double_name, out_of_range, low_above_high, sign, no_material, double_term, both_sides, empty_side, no_product, too_many_exclusions, bad_exclusion, bad_payout}
+use Rattle.pns_problem.specs.declared.fault.BuildFault.{BuildFault}
+use Rattle.pns_problem.specs.declared.fault.BuildFault.TheVariants.{TooManyMaterials, TooManyUnits, BadName, DoubleName, OutOfRange, LowAboveHigh, Sign, NoMaterial, DoubleTerm, BothSides, EmptySide, NoProduct, TooManyExclusions, BadExclusion, BadPayout, Memory}
+
+-- the refusal that an answer stands for; want of memory is none
+abbrev pub refusal_of : BuildFault → Option Refusal
+refusal_of (TooManyMaterials at) = Some (record { kind = too_many_materials; at = at })
+refusal_of (TooManyUnits at) = Some (record { kind = too_many_units; at = at })
+refusal_of (BadName at) = Some (record { kind = bad_name; at = at })
+refusal_of (DoubleName at) = Some (record { kind = double_name; at = at })
+refusal_of (OutOfRange at) = Some (record { kind = out_of_range; at = at })
+refusal_of (LowAboveHigh at) = Some (record { kind = low_above_high; at = at })
+refusal_of (Sign at) = Some (record { kind = sign; at = at })
+refusal_of (NoMaterial at) = Some (record { kind = no_material; at = at })
+refusal_of (DoubleTerm at) = Some (record { kind = double_term; at = at })
+refusal_of (BothSides at) = Some (record { kind = both_sides; at = at })
+refusal_of (EmptySide at) = Some (record { kind = empty_side; at = at })
+refusal_of (NoProduct at) = Some (record { kind = no_product; at = at })
+refusal_of (TooManyExclusions at) = Some (record { kind = too_many_exclusions; at = at })
+refusal_of (BadExclusion at) = Some (record { kind = bad_exclusion; at = at })
+refusal_of (BadPayout at) = Some (record { kind = bad_payout; at = at })
+refusal_of Memory = None
+
+abbrev pub is_memory : BuildFault → Bool
+is_memory Memory = true
+is_memory (TooManyMaterials at) = false
+is_memory (TooManyUnits at) = false
+is_memory (BadName at) = false
+is_memory (DoubleName at) = false
+is_memory (OutOfRange at) = false
+is_memory (LowAboveHigh at) = false
+is_memory (Sign at) = false
+is_memory (NoMaterial at) = false
+is_memory (DoubleTerm at) = false
+is_memory (BothSides at) = false
+is_memory (EmptySide at) = false
+is_memory (NoProduct at) = false
+is_memory (TooManyExclusions at) = false
+is_memory (BadExclusion at) = false
+is_memory (BadPayout at) = false
+
+-- the answer is want of memory, or just this refusal
+abbrev pub Tells : Option Refusal → BuildFault → Type 0
+Tells refusal Memory = Unit {0}
+Tells refusal fault = refusal_of fault ≡ refusal
+
+-- a judgement that takes no memory: Ok where there is no fault, else the fault
+abbrev pub Judges : {X : Type 0} → Result X BuildFault → Option Refusal → Type 0
+Judges (Ok x) refusal = refusal ≡ None
+Judges (Err fault) refusal = refusal_of fault ≡ refusal

@@ -1,0 +1,29 @@
+//! A process synthesis problem that is valid by its type. `Problem::build` judges parts and tells their first fault, with
+//! the item that has it; a problem that was built keeps its names by number, is read by reference, gives its parts back
+//! as a copy, and prints its one canonical text. Amounts are whole millionths of the file's unit.
+//!
+//! Contracts see materials, units, exclusions, parts and problems as the records of `problem_rules`, and names as lists of
+//! bytes. Modules: `material`, `term`, `unit`, `exclusion` (the items, each with its tests), `name` and `name_table`,
+//! `parts`, `fault`, `judge` (the first fault), `problem`.
+#![tactic(auto)]
+
+mod amount;
+mod exclusion;
+mod fault;
+mod judge;
+mod material;
+mod name;
+mod name_table;
+mod parts;
+mod problem;
+mod term;
+mod unit;
+
+pub use exclusion::Exclusion;
+pub use fault::BuildFault;
+pub use material::{Kind, Material};
+pub use name::is_name;
+pub use parts::Parts;
+pub use problem::Problem;
+pub use term::Term;
+pub use unit::OperatingUnit;

@@ -1,0 +1,113 @@
+//! A valid problem, with its names by number.
+ghost use Rattle.std.specs.Prelude.{◌≡◌, IfOk, IfErr, OnOk};
+ghost use Rattle.std.specs.List.{position};
+ghost use Rattle.std.specs.Str.{bytes_eq};
+ghost use Rattle.problem_rules.specs.Problem.{material_names, unit_names};
+ghost use Rattle.problem_rules.specs.Validity.{fault_of, IsValid};
+ghost use Rattle.pns_problem.specs.Fault.{Tells};
+
+use crate::exclusion::Exclusion;
+use crate::fault::BuildFault;
+use crate::judge::judge;
+use crate::material::Material;
+use crate::name_table::NameTable;
+use crate::parts::Parts;
+use crate::unit::OperatingUnit;
+use std::alloc::{AllocError, Global};
+use std::marker::Model;
+
+/// A valid problem. Contracts see its materials, units, exclusions and payout period, in file order.
+#[derive(Drop)]
+pub struct Problem {
+    parts: Parts,
+    materials: NameTable,
+    units: NameTable,
+}
+
+impl Model for Problem {
+    ghost use Rattle.problem_rules.specs.Problem as rules;
+    ghost use Rattle.pns_problem.specs.Built.{IsBuilt};
+
+    ghost Value = { rules.Problem };
+
+    ghost view = { λ p. p.parts };
+
+    ghost invariant = { λ p. IsBuilt p.parts p.materials p.units };
+}
+
+impl Problem {
+    /// The problem of these parts, or their first fault: the counts are judged first, then each material, each unit and
+    /// each exclusion in order, then whether there is a product, and the payout period last. Within one item the order is
+    /// that of the variants of `BuildFault`. Linear in the size of the parts, which are dropped with a refusal.
+    pub fn build(alloc: Global, parts: Parts) -> Result<Problem, BuildFault>
+        ensures built { IfOk result (λ p. p ≡ parts) }
+        ensures valid { OnOk result (IsValid parts) }
+        ensures fault { IfErr result (Tells (fault_of parts)) }
+    {
+        match judge(alloc, &parts) {
+            Err(fault) => Err(fault),
+            Ok((materials, units)) => Ok(Problem {
+                parts,
+                materials,
+                units,
+            }),
+        }
+    }
+
+    /// The materials in file order.
+    pub fn materials(&self) -> &[Material]
+        ensures { result.now ≡ self.now.materials }
+    {
+        &self.parts.materials
+    }
+
+    /// The operating units in file order.
+    pub fn units(&self) -> &[OperatingUnit]
+        ensures { result.now ≡ self.now.units }
+    {
+        &self.parts.units
+    }
+
+    /// The exclusions in file order.
+    pub fn exclusions(&self) -> &[Exclusion]
+        ensures { result.now ≡ self.now.exclusions }
+    {
+        &self.parts.exclusions
+    }
+
+    /// The payout period in years, 1 to 100.
+    pub fn payout(&self) -> i64
+        ensures { result ≡ self.now.payout }
+    {
+        self.parts.payout
+    }
+
+    /// None of the faults stands in a problem; this tells a proof so, and does nothing.
+    pub fn is_valid(&self)
+        ensures { IsValid self.now }
+    {
+        let _payout = self.parts.payout;
+    }
+
+    /// The number of the material of this name; none exactly where no material has it.
+    pub fn material_named(&self, name: &str) -> Option<u32>
+        ensures { result ≡ position (λ word. bytes_eq word name.now) (material_names self.now.materials) }
+    {
+        self.materials.number_of(name)
+    }
+
+    /// The number of the unit of this name; none exactly where no unit has it.
+    pub fn unit_named(&self, name: &str) -> Option<u32>
+        ensures { result ≡ position (λ word. bytes_eq word name.now) (unit_names self.now.units) }
+    {
+        self.units.number_of(name)
+    }
+
+    /// A copy of the parts, from which `build` makes an equal problem, want of memory aside.
+    pub fn parts(&self, alloc: Global) -> Result<Parts, AllocError>
+        ensures same { IfOk result (λ parts. parts ≡ self.now) }
+        ensures valid { OnOk result (IsValid self.now) }
+    {
+        self.parts.copy(alloc)
+    }
+}

@@ -1,0 +1,119 @@
+//! Terms of one side of an operating unit, and the tests by which they are judged.
+ghost use Rattle.std.specs.Prelude.{◌≡◌, IfOk, int_lt, pos};
+ghost use Rattle.problem_rules.specs.Problem.{terms_have, rates_of};
+ghost use Rattle.problem_rules.specs.Validity.{is_out_of_range, any_out_of_range, any_below_one, names_no_material, repeats_material, shares_material, is_empty};
+
+use crate::amount::is_out_of_range;
+use std::alloc::AllocError;
+use std::marker::Model;
+
+/// A material, by its number, and the rate in millionths at which a unit of size 1 uses or makes it.
+#[derive(Clone, Copy)]
+pub struct Term {
+    pub material: u32,
+    pub rate: i64,
+}
+
+impl Model for Term {
+    ghost use Rattle.problem_rules.specs.Problem as rules;
+
+    ghost Value = { rules.Term };
+
+    ghost view = { λ t. record { material = t.material; rate = t.rate } };
+
+    ghost inverse = { λ v. record { material = v.material; rate = v.rate } };
+}
+
+impl Term {
+    fn is_out_of_range(&self) -> bool
+        ensures { result ≡ is_out_of_range self.now.rate }
+    {
+        is_out_of_range(self.rate)
+    }
+
+    fn is_below_one(&self) -> bool
+        ensures { result ≡ int_lt self.now.rate (pos 1) }
+    {
+        self.rate < 1
+    }
+}
+
+pub(crate) fn any_out_of_range(terms: &[Term]) -> bool
+    ensures { result ≡ any_out_of_range (rates_of terms.now) }
+{
+    'looking: for term in terms {
+        if term.is_out_of_range() {
+            return true;
+        }
+    }
+    false
+}
+
+pub(crate) fn any_below_one(terms: &[Term]) -> bool
+    ensures { result ≡ any_below_one (rates_of terms.now) }
+{
+    'looking: for term in terms {
+        if term.is_below_one() {
+            return true;
+        }
+    }
+    false
+}
+
+pub(crate) fn names_no_material(materials: u32, terms: &[Term]) -> bool
+    ensures { result ≡ names_no_material materials terms.now }
+{
+    'looking: for term in terms {
+        if materials <= term.material {
+            return true;
+        }
+    }
+    false
+}
+
+fn terms_have(terms: &[Term], material: u32) -> bool
+    ensures { result ≡ terms_have terms.now material }
+{
+    'looking: for term in terms {
+        if term.material == material {
+            return true;
+        }
+    }
+    false
+}
+
+pub(crate) fn repeats_material(terms: &[Term]) -> bool
+    ensures { result ≡ repeats_material terms.now }
+{
+    'looking: for i in 0..terms.len() {
+        let term = &terms[i];
+        if terms_have(&terms[i + 1..], term.material) {
+            return true;
+        }
+    }
+    false
+}
+
+pub(crate) fn shares_material(inputs: &[Term], outputs: &[Term]) -> bool
+    ensures { result ≡ shares_material inputs.now outputs.now }
+{
+    'looking: for term in outputs {
+        if terms_have(inputs, term.material) {
+            return true;
+        }
+    }
+    false
+}
+
+pub(crate) fn is_empty(terms: &[Term]) -> bool
+    ensures { result ≡ is_empty terms.now }
+{
+    terms.is_empty()
+}
+
+pub(crate) fn copy_terms(terms: &Vec<Term>) -> Result<Vec<Term>, AllocError>
+    ensures { IfOk result (λ v. v.items ≡ terms.now.items) }
+{
+    let copy = terms.clone()?;
+    Ok(copy)
+}
