@@ -1,7 +1,7 @@
 -- The faults of the parts of a problem, in the order in which they are judged, and the problems that have none.
-use Rattle.std.specs.Prelude.{◌≡◌, ◌==◌, ℕ, ◌+◌, nat_lt, nat_le, Bool, true, false, not, ◌||◌, Option, Some, None, List, [], ◌∷◌, ◌++◌, length, ℤ, pos, int_lt, unsigned_abs}
+use Rattle.std.specs.Prelude.{◌≡◌, ℕ, ◌+◌, nat_lt, nat_le, Bool, true, false, not, ◌||◌, Option, Some, None, List, [], ◌∷◌, ◌++◌, length, ℤ, pos, int_lt, unsigned_abs}
 use Rattle.std.specs.List.{list_any}
-use Rattle.problem_rules.specs.Problem.{Problem, Material, Term, OperatingUnit, Exclusion, is_product, numbers_of, rates_of, terms_have}
+use Rattle.problem_rules.specs.Problem.{Problem, Material, Term, OperatingUnit, Exclusion, is_product, rates_of, terms_have}
 use Rattle.problem_rules.specs.Names.{is_name, is_among}
 
 pub data FaultKind : Type 0 where

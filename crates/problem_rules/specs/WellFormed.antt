@@ -1,6 +1,6 @@
 -- A problem is well formed where each of its materials, operating units and exclusions is, where their names are apart,
 -- and where it has a product and a payout period of 1 to 100 years.
-use Rattle.std.specs.Prelude.{◌≡◌, ◌↔◌, ◌<◌, ◌≤◌, ℕ, ◌+◌, Bool, true, false, List, [], ◌∷◌, length, ℤ, pos, int_lt, unsigned_abs}
+use Rattle.std.specs.Prelude.{◌≡◌, ◌↔◌, ◌<◌, ◌≤◌, ℕ, ◌+◌, true, false, List, [], ◌∷◌, length, ℤ, pos, int_lt, unsigned_abs}
 use Rattle.problem_rules.specs.Problem.{Problem, Material, Term, OperatingUnit, Exclusion, material_names, unit_names, exclusion_names}
 use Rattle.problem_rules.specs.Names.{is_name, has_double}
 use Rattle.problem_rules.specs.Each.{Each}

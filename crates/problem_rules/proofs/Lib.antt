@@ -1,0 +1,5 @@
+pub mod AmountLemmas
+pub mod ItemLemmas
+pub mod RefusalLemmas
+pub mod TermLemmas
+pub mod ValidLemmas
