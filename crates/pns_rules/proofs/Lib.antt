@@ -3,7 +3,9 @@ pub mod ListingLemmas
 pub mod OptionLemmas
 pub mod OrderLemmas
 pub mod PathLemmas
+pub mod ProperLemmas
 mod SortLemmas
 pub mod StepLemmas
 pub mod StructureLemmas
+pub mod StructureList
 pub mod TraceLemmas

@@ -1,15 +1,24 @@
--- Whether a unit has a path to a product is decided: the units that have one grow from the products, until no unit is added.
-use Rattle.std.proofs.Common.{◌≡◌, ℕ, zero, suc, ◌+◌, ◌<◌, ◌≤◌, nat_lt, Bool, true, false, not, ◌&&◌, ◌||◌, List, [], ◌∷◌, length, refl, sym, ap, ◌∙◌, inl, inr, ◌⊎◌, arith, lt-ltb}
-use Rattle.std.proofs.lemmas.Bool.{cases_Bool, cases_lt, both_ways, and_parts, and_from, or_cases, or_left, or_right}
+-- Whether a unit has a path to a product is computed: the units that have one grow from the products, until no unit is added.
+use Rattle.std.proofs.Common.{Bool, List, [], ap, arith, cond, false, inl, inr, length, length-append, lt-ltb, nat_lt, not, refl, subst, suc, sym, true, zero, ℕ, ⊎_elim, ◌&&◌, ◌++◌, ◌+◌, ◌-◌, ◌<◌, ◌||◌, ◌∙◌, ◌∷◌, ◌≡◌, ◌≤◌, ◌⊎◌}
+use Rattle.std.proofs.lemmas.Bool.{cases_eq, cases_Bool, cases_lt, both_ways, and_parts, and_from, or_cases, or_left, or_right}
 use Rattle.number_sets.specs.Sets.{has, listed, any_below, IsWithin}
 use Rattle.number_sets.proofs.SetLemmas.{any_below-from, any_below-some, any_below-within, has-listed, IsRising-listed, same_length, length-within}
 use Rattle.pns_rules.specs.Shape.{Shape, IsProper}
 use Rattle.pns_rules.specs.Structure.{IsPath, HasPath}
 
+length_listed : (n : ℕ) (t : ℕ → Bool) → length (listed n t) ≤ n
+unfolding listed
+length_listed zero t = omega arith
+length_listed (suc n) t = at (t n) (length_listed n t)
+  where
+    at : (b : Bool) → length (listed n t) ≤ n → length (listed n t ++ cond b (n ∷ []) []) ≤ suc n
+    at true ih = let e = length-append (listed n t) (n ∷ []) in omega arith
+    at false ih = let e = length-append (listed n t) [] in omega arith
+
 module _ (g : Shape) (o : ℕ → Bool) where
   -- x is a product, or an input of a unit that was found
   abbrev pub leads_on : (ℕ → Bool) → ℕ → Bool
-  leads_on found x = g.product x || any_below g.units (λ v. found v && g.uses v x)
+  leads_on found x = g.product x || any_below g.units (λ v. g.uses v x && found v)
 
   -- u is in o and makes such a material
   abbrev pub grown : (ℕ → Bool) → ℕ → Bool
@@ -29,12 +38,12 @@ module _ (g : Shape) (o : ℕ → Bool) where
         (
           x.0,
           q.0,
-          elim (or_cases (g.product x.0) (any_below g.units (λ v. f v && g.uses v x.0)) q.1) [
+          elim (or_cases (g.product x.0) (any_below g.units (λ v. g.uses v x.0 && f v)) q.1) [
             | inl r ↦ inl r
             | inr r ↦
-                let v = any_below-some g.units (λ w. f w && g.uses w x.0) r in
-                let s = and_parts (f v.0) (g.uses v.0 x.0) v.2 in
-                inr (v.0, s.0, s.1)
+                let v = any_below-some g.units (λ w. g.uses w x.0 && f w) r in
+                let s = and_parts (g.uses v.0 x.0) (f v.0) v.2 in
+                inr (v.0, s.1, s.0)
           ],
         ),
       )
@@ -49,11 +58,11 @@ module _ (g : Shape) (o : ℕ → Bool) where
       more x q =
           let r = and_parts (g.makes u x) (leads_on f x) q in
           and_from (g.makes u x) (leads_on h x) r.0
-          (elim (or_cases (g.product x) (any_below g.units (λ v. f v && g.uses v x)) r.1) [
-            | inl a ↦ or_left (g.product x) (any_below g.units (λ v. h v && g.uses v x)) a
-            | inr a ↦ or_right (g.product x) (any_below g.units (λ v. h v && g.uses v x))
-                (any_below-within g.units (λ v. f v && g.uses v x) (λ v. h v && g.uses v x)
-                (λ v b. let c = and_parts (f v) (g.uses v x) b in and_from (h v) (g.uses v x) (w v c.0) c.1) a)
+          (elim (or_cases (g.product x) (any_below g.units (λ v. g.uses v x && f v)) r.1) [
+            | inl a ↦ or_left (g.product x) (any_below g.units (λ v. g.uses v x && h v)) a
+            | inr a ↦ or_right (g.product x) (any_below g.units (λ v. g.uses v x && h v))
+                (any_below-within g.units (λ v. g.uses v x && f v) (λ v. g.uses v x && h v)
+                (λ v b. let c = and_parts (g.uses v x) (f v) b in and_from (g.uses v x) (h v) c.0 (w v c.1)) a)
           ])
 
   found_grows : (k : ℕ) → IsWithin (found_in k) (found_in (suc k))
@@ -64,7 +73,7 @@ module _ (g : Shape) (o : ℕ → Bool) where
   found_inside zero u e = absurd (both_ways false refl e)
   found_inside (suc k) u e = (grown_parts (found_in k) u e).0
 
-  found_leads : (k u : ℕ) → found_in k u ≡ true → HasPath g o u
+  pub found_leads : (k u : ℕ) → found_in k u ≡ true → HasPath g o u
   found_leads zero u e = absurd (both_ways false refl e)
   found_leads (suc k) u e = at (grown_parts (found_in k) u e) (found_leads k)
     where
@@ -79,14 +88,14 @@ module _ (g : Shape) (o : ℕ → Bool) where
     closed_has f c u (x ∷ []) p =
         c u (and_from (o u) (any_below g.materials (λ y. g.makes u y && leads_on f y)) p.0
         (any_below-from g.materials (λ y. g.makes u y && leads_on f y) x (proper.output_known u x p.1)
-        (and_from (g.makes u x) (leads_on f x) p.1 (or_left (g.product x) (any_below g.units (λ v. f v && g.uses v x)) p.2))))
+        (and_from (g.makes u x) (leads_on f x) p.1 (or_left (g.product x) (any_below g.units (λ v. g.uses v x && f v)) p.2))))
     closed_has f c u (x ∷ v ∷ rest) p =
         let later = closed_has f c v rest p.3 in
         c u (and_from (o u) (any_below g.materials (λ y. g.makes u y && leads_on f y)) p.0
         (any_below-from g.materials (λ y. g.makes u y && leads_on f y) x (proper.output_known u x p.1)
         (and_from (g.makes u x) (leads_on f x) p.1
-        (or_right (g.product x) (any_below g.units (λ w. f w && g.uses w x))
-        (any_below-from g.units (λ w. f w && g.uses w x) v (proper.user_known v x p.2) (and_from (f v) (g.uses v x) later p.2))))))
+        (or_right (g.product x) (any_below g.units (λ w. g.uses w x && f w))
+        (any_below-from g.units (λ w. g.uses w x && f w) v (proper.user_known v x p.2) (and_from (g.uses v x) (f v) p.2 later))))))
 
     found_has : (k u : ℕ) → has (listed g.units (found_in k)) u ≡ found_in k u
     found_has k u = has-listed g.units (found_in k) u ∙ at (nat_lt u g.units) (found_in k u) refl refl
@@ -105,39 +114,25 @@ module _ (g : Shape) (o : ℕ → Bool) where
         (λ u e. has-listed g.units o u ∙ (let i = found_inside k u (sym (found_has k u) ∙ e) in and_from (nat_lt u g.units) (o u) (lt-ltb u g.units (known u i)) i))
 
     -- after some turn nothing is added
-    stable : (fuel k : ℕ) → length (listed g.units o) ≤ length (listed g.units (found_in k)) + fuel → (j : ℕ) × IsWithin (found_in (suc j)) (found_in j)
+    stable : (fuel k : ℕ) → length (listed g.units o) ≤ length (listed g.units (found_in k)) + fuel → (j : ℕ) × (j ≤ k + fuel) × IsWithin (found_in (suc j)) (found_in j)
     stable fuel k h = by fuel k h (cases_lt (length (listed g.units (found_in k))) (length (listed g.units (found_in (suc k)))))
       where
-        by : (fuel k : ℕ) → length (listed g.units o) ≤ length (listed g.units (found_in k)) + fuel → (length (listed g.units (found_in k)) < length (listed g.units (found_in (suc k)))) ⊎ (length (listed g.units (found_in (suc k))) ≤ length (listed g.units (found_in k))) → (j : ℕ) × IsWithin (found_in (suc j)) (found_in j)
+        by : (fuel k : ℕ) → length (listed g.units o) ≤ length (listed g.units (found_in k)) + fuel → (length (listed g.units (found_in k)) < length (listed g.units (found_in (suc k)))) ⊎ (length (listed g.units (found_in (suc k))) ≤ length (listed g.units (found_in k))) → (j : ℕ) × (j ≤ k + fuel) × IsWithin (found_in (suc j)) (found_in j)
         by fuel k h (inr le) =
             let e = same_length (listed g.units (found_in k)) (listed g.units (found_in (suc k))) (IsRising-listed g.units (found_in k)) (IsRising-listed g.units (found_in (suc k))) (list_within k (suc k) (found_grows k)) le in
-            (k, λ u q. sym (found_has k u) ∙ (ap (λ xs. has xs u) e ∙ (found_has (suc k) u ∙ q)))
+            (k, omega arith, λ u q. sym (found_has k u) ∙ (ap (λ xs. has xs u) e ∙ (found_has (suc k) u ∙ q)))
         by zero k h (inl lt) = absurd (let most = size_most (suc k) in omega arith)
-        by (suc fuel) k h (inl lt) = by fuel (suc k) (omega (arith, h, lt)) (cases_lt (length (listed g.units (found_in (suc k)))) (length (listed g.units (found_in (suc (suc k))))))
+        by (suc fuel) k h (inl lt) =
+            let rest = by fuel (suc k) (omega (arith, h, lt)) (cases_lt (length (listed g.units (found_in (suc k)))) (length (listed g.units (found_in (suc (suc k)))))) in
+            (rest.0, omega (arith, rest.1), rest.2)
 
-    pub path_or_not : (u : ℕ) → HasPath g o u ⊎ (HasPath g o u → ⊥)
-    path_or_not u = at (stable (length (listed g.units o)) 0 (omega arith))
-      where
-        at : ((j : ℕ) × IsWithin (found_in (suc j)) (found_in j)) → HasPath g o u ⊎ (HasPath g o u → ⊥)
-        at (j, c) = elim (cases_Bool (found_in j u)) [
-          | inl e ↦ inl (found_leads j u e)
-          | inr none ↦ inr (λ p. both_ways (found_in j u) none (closed_has (found_in j) c u p.path p.leads))
-        ]
+    found_later : (j k : ℕ) → j ≤ k → IsWithin (found_in j) (found_in k)
+    found_later j zero le u e = let q : j ≡ zero = omega arith in subst (λ i. found_in i u ≡ true) q e
+    found_later j (suc k) le u e = ⊎_elim (λ q. subst (λ i. found_in i u ≡ true) q e) (λ ne. found_grows k u (found_later j k (omega arith) u e)) (cases_eq j (suc k))
 
-    -- each unit of o has a path, or one has none
-    pub all_lead_or_not : ((u : ℕ) → o u ≡ true → HasPath g o u) ⊎ (((u : ℕ) → o u ≡ true → HasPath g o u) → ⊥)
-    all_lead_or_not = at (stable (length (listed g.units o)) 0 (omega arith))
+    -- as many turns as there are units find each unit with a path
+    pub path_found : (u : ℕ) → HasPath g o u → found_in g.units u ≡ true
+    path_found u p = at (stable g.units 0 (omega (arith, length_listed g.units o)))
       where
-        at : ((j : ℕ) × IsWithin (found_in (suc j)) (found_in j)) → ((u : ℕ) → o u ≡ true → HasPath g o u) ⊎ (((u : ℕ) → o u ≡ true → HasPath g o u) → ⊥)
-        at (j, c) = elim (cases_Bool (any_below g.units (λ u. o u && not (found_in j u)))) [
-          | inl e ↦ inr (λ all.
-              let k = any_below-some g.units (λ u. o u && not (found_in j u)) e in
-              let p = and_parts (o k.0) (not (found_in j k.0)) k.2 in
-              let path = all k.0 p.0 in
-              both_ways (not (found_in j k.0)) (ap not (closed_has (found_in j) c k.0 path.path path.leads)) p.1)
-          | inr none ↦ inl (λ u e. elim (cases_Bool (found_in j u)) [
-            | inl f ↦ found_leads j u f
-            | inr f ↦ absurd (both_ways (any_below g.units (λ v. o v && not (found_in j v))) none
-                (any_below-from g.units (λ v. o v && not (found_in j v)) u (known u e) (and_from (o u) (not (found_in j u)) e (ap not f))))
-          ])
-        ]
+        at : ((j : ℕ) × (j ≤ 0 + g.units) × IsWithin (found_in (suc j)) (found_in j)) → found_in g.units u ≡ true
+        at (j, le, c) = found_later j g.units (omega arith) u (closed_has (found_in j) c u p.path p.leads)

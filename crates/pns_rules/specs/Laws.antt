@@ -2,12 +2,18 @@
 use Rattle.std.specs.Prelude.{◌≡◌, ℕ, ◌<◌, Bool, true, false, List, ◌∷◌, ◌++◌, Option, Some, ◌↔◌, ◌⊎◌}
 use Rattle.number_sets.specs.Sets.{Avoids}
 use Rattle.number_sets.specs.Options.{IsIn, IsAscending}
-use Rattle.pns_rules.specs.Shape.{Shape, IsProper}
+use Rattle.problem_rules.specs.Problem.{Problem}
+use Rattle.problem_rules.specs.Validity.{IsValid}
+use Rattle.pns_rules.specs.Shape.{Shape, shape_of, IsProper}
 use Rattle.pns_rules.specs.Trace.{Pair, IsTrace, IsBefore, IsWalk, HasMakers, next_material}
 use Rattle.pns_rules.specs.Listing.{IsListing}
 use Rattle.pns_rules.specs.Structure.{IsStructure, InFamily, Clashes, both, is_needed}
 use Rattle.pns_rules.specs.Nodes.{Node, Step, IsPossible, after, IsOption, options, child}
 use Rattle.pns_rules.specs.Ends.{IsDead}
+
+-- the shape of each valid problem is proper
+abbrev pub ValidIsProper : Type 0
+ValidIsProper = (p : Problem) → IsValid p → IsProper (shape_of p)
 
 -- ---- structures and traces
 

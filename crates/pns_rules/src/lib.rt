@@ -9,6 +9,7 @@ mod families;
 mod listing;
 mod options;
 mod order;
+mod shape;
 mod structures;
 mod traces;
 
@@ -16,5 +17,6 @@ pub use families::{ends_are_empty, steps_keep_families};
 pub use listing::{listing_exists, listing_resumes};
 pub use options::{children_split_families, options_are_all};
 pub use order::{order_is_total, traces_branch};
+pub use shape::valid_is_proper;
 pub use structures::structures_unite;
 pub use traces::{traces_exist, traces_tell};
