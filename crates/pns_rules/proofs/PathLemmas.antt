@@ -1,6 +1,6 @@
 -- Whether a unit has a path to a product is computed: the units that have one grow from the products, until no unit is added.
-use Rattle.std.proofs.Common.{Bool, List, [], ap, arith, cond, false, inl, inr, length, length-append, lt-ltb, nat_lt, not, refl, subst, suc, sym, true, zero, ℕ, ⊎_elim, ◌&&◌, ◌++◌, ◌+◌, ◌-◌, ◌<◌, ◌||◌, ◌∙◌, ◌∷◌, ◌≡◌, ◌≤◌, ◌⊎◌}
-use Rattle.std.proofs.lemmas.Bool.{cases_eq, cases_Bool, cases_lt, both_ways, and_parts, and_from, or_cases, or_left, or_right}
+use Rattle.std.proofs.Common.{Bool, List, [], ap, arith, cond, false, inl, inr, length, length-append, lt-ltb, nat_lt, refl, subst, suc, sym, true, zero, ℕ, ⊎_elim, ◌&&◌, ◌++◌, ◌+◌, ◌<◌, ◌||◌, ◌∙◌, ◌∷◌, ◌≡◌, ◌≤◌, ◌⊎◌}
+use Rattle.std.proofs.lemmas.Bool.{cases_eq, cases_lt, both_ways, and_parts, and_from, or_cases, or_left, or_right}
 use Rattle.number_sets.specs.Sets.{has, listed, any_below, IsWithin}
 use Rattle.number_sets.proofs.SetLemmas.{any_below-from, any_below-some, any_below-within, has-listed, IsRising-listed, same_length, length-within}
 use Rattle.pns_rules.specs.Shape.{Shape, IsProper}

@@ -1,5 +1,5 @@
 -- The shape of a valid problem is proper.
-use Rattle.std.proofs.Common.{◌≡◌, ⊎_elim, ℕ, ◌+◌, ◌<◌, ◌≤◌, ◌==◌, Bool, true, false, ◌||◌, List, [], ◌∷◌, length, refl, sym, ap, ◌∙◌, subst, arith, eqb-true, slice_index_or}
+use Rattle.std.proofs.Common.{◌≡◌, ⊎_elim, ℕ, ◌+◌, ◌<◌, ◌==◌, Bool, true, false, List, [], ◌∷◌, length, refl, ap, ◌∙◌, subst, eqb-true}
 use Rattle.std.proofs.lemmas.Bool.{cases_lt, both_ways, or_cases}
 use Rattle.std.proofs.lemmas.List.{get_or_past}
 use Rattle.number_sets.specs.Sets.{has}
@@ -9,7 +9,7 @@ use Rattle.problem_rules.specs.WellFormed.{IsWellFormed, IsWellFormedUnit, IsWel
 use Rattle.problem_rules.proofs.ItemLemmas.{Each-at}
 use Rattle.problem_rules.proofs.TermLemmas.{known_material, sides_apart}
 use Rattle.problem_rules.proofs.ValidLemmas.{well_formed_from_valid}
-use Rattle.pns_rules.specs.Shape.{Shape, shape_of, IsProper}
+use Rattle.pns_rules.specs.Shape.{shape_of, IsProper}
 
 -- a raw material is no product
 kinds_apart : (k : Kind) → is_raw_material k ≡ true → is_product k ≡ true → ⊥

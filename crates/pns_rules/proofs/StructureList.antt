@@ -1,13 +1,13 @@
 -- The allowed solution structures of a small shape are computed: of all unit sets those that pass the tests.
-use Rattle.std.proofs.Common.{◌≡◌, ⊎_elim, ℕ, zero, suc, ◌<◌, ◌+◌, Bool, true, false, ◌&&◌, cond, List, [], ◌∷◌, refl, sym, ap, ◌∙◌, subst, inl, inr, ◌⊎◌, None, arith, ◌==◌, eq-eqb}
-use Rattle.std.proofs.lemmas.Bool.{cases_Bool, both_ways, and_parts, and_from, or_left, or_right, cases_eq}
-use Rattle.number_sets.specs.Sets.{has, IsRising, AreBelow, IsSet, IsWithin, IsBelowAll}
+use Rattle.std.proofs.Common.{◌≡◌, ⊎_elim, ℕ, zero, suc, ◌<◌, ◌+◌, Bool, true, false, ◌&&◌, cond, List, [], ◌∷◌, refl, sym, subst, inl, inr, None, arith, ◌==◌, eq-eqb}
+use Rattle.std.proofs.lemmas.Bool.{both_ways, and_parts, and_from, or_left, or_right, cases_eq}
+use Rattle.number_sets.specs.Sets.{has, IsRising, AreBelow, IsBelowAll}
 use Rattle.number_sets.specs.Options.{IsIn, subsets}
-use Rattle.number_sets.proofs.SetLemmas.{below_from, has_below}
+use Rattle.number_sets.proofs.SetLemmas.{has_below}
 use Rattle.number_sets.proofs.OptionLists.{subset_sound, subset_complete}
 use Rattle.pns_rules.specs.Shape.{Shape, IsProper}
 use Rattle.pns_rules.specs.Structure.{IsStructure, IsAllowed}
-use Rattle.pns_rules.specs.Listing.{IsListed, IsInOrder, IsListing}
+use Rattle.pns_rules.specs.Listing.{IsInOrder, IsListing}
 use Rattle.pns_rules.proofs.DecideLemmas.{meets_axioms, is_allowed, structure_if, if_structure, allowed_if, if_allowed}
 
 -- the numbers from a on, n of them
