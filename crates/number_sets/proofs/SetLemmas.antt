@@ -1,5 +1,5 @@
 -- Tests below a bound, lists as tests, and rising lists.
-use Rattle.std.proofs.Common.{◌≡◌, ℕ, zero, suc, ◌<◌, ◌≤◌, ◌==◌, nat_lt, Bool, true, false, cond, not, ◌&&◌, ◌||◌, List, [], ◌∷◌, ◌++◌, length, refl, sym, ap, ap₂, ◌∙◌, subst, inl, inr, arith, eq-eqb, eqb-true, ltb-true, ltb-false, ne_eqb}
+use Rattle.std.proofs.Common.{length-append, ◌≡◌, ℕ, zero, suc, ◌<◌, ◌≤◌, ◌==◌, nat_lt, Bool, true, false, cond, not, ◌&&◌, ◌||◌, List, [], ◌∷◌, ◌++◌, length, refl, sym, ap, ap₂, ◌∙◌, subst, inl, inr, arith, eq-eqb, eqb-true, ltb-true, ltb-false, ne_eqb}
 use Rattle.std.proofs.lemmas.Bool.{cases_lt, true_from_ne_false, le-ltb, lt-ltb, eqb-false, and_right, or_from, or_cases, or_left, or_right, or_parts, both_ways, cases_eq, cases_order, false_from_ne_true}
 use Rattle.number_sets.specs.Sets.{has, IsBelowAll, IsRising, AreBelow, any_below, listed, IsWithin, with_number, kept, union, meet, minus, IsSet}
 
@@ -354,3 +354,16 @@ same_length xs ys r s w le =
 pub length-lt_of_ne : (xs ys : List ℕ) → IsRising xs → IsRising ys → IsWithin (has xs) (has ys) → (xs ≡ ys → ⊥) → length xs < length ys
 length-lt_of_ne xs ys r s w ne =
     elim (cases_lt (length xs) (length ys)) [ inl lt ↦ lt | inr le ↦ absurd (ne (same_length xs ys r s w le)) ]
+
+-- a set of numbers below n has at most n
+pub length_listed : (n : ℕ) (t : ℕ → Bool) → length (listed n t) ≤ n
+unfolding listed
+length_listed zero t = omega arith
+length_listed (suc n) t = at (t n) (length_listed n t)
+  where
+    at : (b : Bool) → length (listed n t) ≤ n → length (listed n t ++ cond b (n ∷ []) []) ≤ suc n
+    at true ih = let e = length-append (listed n t) (n ∷ []) in omega arith
+    at false ih = let e = length-append (listed n t) [] in omega arith
+
+pub length_below : (n : ℕ) (xs : List ℕ) → IsRising xs → AreBelow n xs → length xs ≤ n
+length_below n xs r b = omega (arith, ap length (listed-is n xs record { rising = r; below = b }), length_listed n (has xs))

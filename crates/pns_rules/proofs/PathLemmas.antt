@@ -1,19 +1,10 @@
 -- Whether a unit has a path to a product is computed: the units that have one grow from the products, until no unit is added.
-use Rattle.std.proofs.Common.{Bool, List, [], ap, arith, cond, false, inl, inr, length, length-append, lt-ltb, nat_lt, refl, subst, suc, sym, true, zero, ℕ, ⊎_elim, ◌&&◌, ◌++◌, ◌+◌, ◌<◌, ◌||◌, ◌∙◌, ◌∷◌, ◌≡◌, ◌≤◌, ◌⊎◌}
+use Rattle.std.proofs.Common.{Bool, List, [], ap, arith, false, inl, inr, length, lt-ltb, nat_lt, refl, subst, suc, sym, true, zero, ℕ, ⊎_elim, ◌&&◌, ◌+◌, ◌<◌, ◌||◌, ◌∙◌, ◌∷◌, ◌≡◌, ◌≤◌, ◌⊎◌}
 use Rattle.std.proofs.lemmas.Bool.{cases_eq, cases_lt, both_ways, and_parts, and_from, or_cases, or_left, or_right}
 use Rattle.number_sets.specs.Sets.{has, listed, any_below, IsWithin}
-use Rattle.number_sets.proofs.SetLemmas.{any_below-from, any_below-some, any_below-within, has-listed, IsRising-listed, same_length, length-within}
+use Rattle.number_sets.proofs.SetLemmas.{length_listed, any_below-from, any_below-some, any_below-within, has-listed, IsRising-listed, same_length, length-within}
 use Rattle.pns_rules.specs.Shape.{Shape, IsProper}
 use Rattle.pns_rules.specs.Structure.{IsPath, HasPath}
-
-length_listed : (n : ℕ) (t : ℕ → Bool) → length (listed n t) ≤ n
-unfolding listed
-length_listed zero t = omega arith
-length_listed (suc n) t = at (t n) (length_listed n t)
-  where
-    at : (b : Bool) → length (listed n t) ≤ n → length (listed n t ++ cond b (n ∷ []) []) ≤ suc n
-    at true ih = let e = length-append (listed n t) (n ∷ []) in omega arith
-    at false ih = let e = length-append (listed n t) [] in omega arith
 
 module _ (g : Shape) (o : ℕ → Bool) where
   -- x is a product, or an input of a unit that was found

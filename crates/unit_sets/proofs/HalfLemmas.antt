@@ -1,13 +1,10 @@
 -- What the operations on two halves do to their list.
-use Rattle.std.proofs.Common.{◌≡◌, ⊎_elim, ℕ, zero, suc, ◌+◌, ◌-◌, ◌<◌, ◌≤◌, ◌==◌, nat_lt, Bool, true, false, cond, not, ◌&&◌, ◌||◌, List, [], ◌∷◌, ◌++◌, length, map, refl, sym, ap, ◌∙◌, subst, arith, Some, None}
-use Rattle.std.proofs.lemmas.Bool.{cases_lt, lt-ltb, or_from, ne_eqb, eqb-true, eq-eqb}
+use Rattle.std.proofs.Common.{◌≡◌, ⊎_elim, ℕ, ◌+◌, ◌-◌, ◌<◌, ◌≤◌, ◌==◌, Bool, true, false, not, ◌&&◌, ◌||◌, List, [], ◌∷◌, length, map, refl, sym, ap, ◌∙◌, subst, arith, Some, None}
+use Rattle.std.proofs.lemmas.Bool.{cases_lt, or_from, ne_eqb, eqb-true, eq-eqb}
 use Rattle.number_sets.specs.Sets.{has, first, IsBelowAll, IsRising, AreBelow, IsSet, kept, with_number, union, meet, minus, IsWithin}
 use Rattle.number_sets.proofs.SetLemmas.{has_below, has-append, same_sets, same_tests, has-union, has-meet, has-minus, has-kept, has-with_number, IsRising-union, IsRising-kept, IsRising-with_number}
 use Rattle.std.proofs.Common.{length-append}
 use Rattle.std.proofs.lemmas.List.{length-map}
-use Rattle.std.proofs.lemmas.Bool.{and_from}
-use Rattle.number_sets.specs.Sets.{listed}
-use Rattle.number_sets.proofs.SetLemmas.{length-within, IsRising-listed, has-listed}
 use Rattle.unit_sets.specs.Halves.{halves, lows, highs, IsHalves}
 use Rattle.unit_sets.specs.HalfInverse.{lows-halves, highs-halves}
 
@@ -158,21 +155,6 @@ first_none [] [] e g = refl
 
 pub low_within : (l h m k : List ℕ) → AreBelow 128 l → IsWithin (has (halves l h)) (has (halves m k)) → IsWithin (has l) (has m)
 low_within l h m k b e u x = let less = has_below 128 l u b x in sym (low_of m k u less) ∙ e u (low_of l h u less ∙ x)
-
-length_listed : (n : ℕ) (t : ℕ → Bool) → length (listed n t) ≤ n
-unfolding listed
-length_listed zero t = omega arith
-length_listed (suc n) t = at (t n) (length_listed n t)
-  where
-    at : (b : Bool) → length (listed n t) ≤ n → length (listed n t ++ cond b (n ∷ []) []) ≤ suc n
-    at true ih = let e = length-append (listed n t) (n ∷ []) in omega arith
-    at false ih = let e = length-append (listed n t) [] in omega arith
-
-pub length_below : (n : ℕ) (xs : List ℕ) → IsRising xs → AreBelow n xs → length xs ≤ n
-length_below n xs r b =
-    let h = length-within xs (listed n (λ _. true)) r (IsRising-listed n (λ _. true)) (λ u e. has-listed n (λ _. true) u ∙ and_from (nat_lt u n) true (lt-ltb u n (has_below n xs u b e)) refl) in
-    let c = length_listed n (λ _. true) in
-    omega arith
 
 pub length-halves : (l h : List ℕ) → length (halves l h) ≡ length l + length h
 length-halves l h = length-append l (map (λ x. x + 128) h) ∙ ap (λ n. length l + n) (length-map h (λ x. x + 128))

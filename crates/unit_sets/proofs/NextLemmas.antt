@@ -8,6 +8,7 @@ use Rattle.std.specs.Int.{w128, trailing_ones, bit_at}
 use Rattle.number_sets.specs.Sets.{has, IsSet, IsWithin, Avoids}
 use Rattle.number_sets.specs.Options.{IsBetween, IsNextOption}
 use Rattle.number_sets.proofs.OptionLemmas.{IsCarried, next_is}
+use Rattle.number_sets.proofs.SetLemmas.{same_tests}
 use Rattle.unit_sets.specs.Masks.{has_bit, members}
 use Rattle.unit_sets.specs.MaskInverse.{split_bit}
 use Rattle.unit_sets.proofs.MaskLemmas.{has-members, has_bit-or, has_bit-and, has_bit-not, IsRising-members, AreBelow-members}
@@ -115,12 +116,6 @@ or_not true b e q = refl
 or_not false true e q = cc
 or_not false false e q = cc
 
-same_bools : (a b : Bool) → (a ≡ true → b ≡ true) → (b ≡ true → a ≡ true) → a ≡ b
-same_bools true true f g = refl
-same_bools true false f g = sym (f refl)
-same_bools false true f g = g refl
-same_bools false false f g = refl
-
 pub stepped : (s base free x y r : ℕ → Bool) (k : ℕ) → k < 128 → IsStepped s base free x y r k → IsCarried free s r k
 stepped s base free x y r k low h = record {
   is_free = at_k.1;
@@ -142,7 +137,7 @@ stepped s base free x y r k low h = record {
     not_free : (v : ℕ) → free v ≡ false → r v ≡ s v
     not_free v f =
         h.r_is v
-        ∙ same_bools ((y v && free v) || base v) (s v)
+        ∙ same_tests ((y v && free v) || base v) (s v)
         (λ e. ⊎_elim (λ p. absurd (both_ways (y v && free v) (and_right (y v) (free v) f) p)) (λ b. h.has_base v b) (or_cases (y v && free v) (base v) e))
         (λ e. or_right (y v && free v) (base v) (⊎_elim (λ b. b) (λ p. absurd (both_ways (free v) f p)) (or_cases (base v) (free v) (h.inside v e))))
 
