@@ -1,2 +1,6 @@
+pub mod CanonicalLemmas
 pub mod Judging
+pub mod MemoryLemmas
 pub mod NameLemmas
+pub mod Printed
+pub mod PrintingLemmas

@@ -1,3 +1,4 @@
 pub mod Built
 pub mod Fault
 pub mod Kind
+pub mod Printing

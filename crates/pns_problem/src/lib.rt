@@ -8,6 +8,7 @@
 #![tactic(auto)]
 
 mod amount;
+mod canonical;
 mod exclusion;
 mod fault;
 mod judge;
@@ -19,6 +20,7 @@ mod problem;
 mod term;
 mod unit;
 
+pub use amount::amount_text;
 pub use exclusion::Exclusion;
 pub use fault::BuildFault;
 pub use material::{Kind, Material};

@@ -1,11 +1,14 @@
 //! A valid problem, with its names by number.
-ghost use Rattle.std.specs.Prelude.{◌≡◌, IfOk, IfErr, OnOk};
+ghost use Rattle.std.specs.Prelude.{◌≡◌, true, IfOk, IfErr, OnOk};
 ghost use Rattle.std.specs.List.{position};
 ghost use Rattle.std.specs.Str.{bytes_eq};
 ghost use Rattle.problem_rules.specs.Problem.{material_names, unit_names};
 ghost use Rattle.problem_rules.specs.Validity.{fault_of, IsValid};
-ghost use Rattle.pns_problem.specs.Fault.{Tells};
+ghost use Rattle.pns_problem.specs.Fault.{Tells, is_memory};
+ghost use Rattle.problem_rules.specs.WellFormed.{IsWellFormed};
+ghost use Rattle.text_rules.specs.Canonical.{canonical};
 
+use crate::canonical::push_problem;
 use crate::exclusion::Exclusion;
 use crate::fault::BuildFault;
 use crate::judge::judge;
@@ -43,6 +46,7 @@ impl Problem {
         ensures built { IfOk result (λ p. p ≡ parts) }
         ensures valid { OnOk result (IsValid parts) }
         ensures fault { IfErr result (Tells (fault_of parts)) }
+        ensures valid_parts { IfErr result (λ fault. IsValid parts → is_memory fault ≡ true) }
     {
         match judge(alloc, &parts) {
             Err(fault) => Err(fault),
@@ -82,9 +86,11 @@ impl Problem {
         self.parts.payout
     }
 
-    /// None of the faults stands in a problem; this tells a proof so, and does nothing.
+    /// None of the faults stands in a problem, so each of its items is well formed. A call tells a proof so, and does
+    /// nothing.
     pub fn is_valid(&self)
-        ensures { IsValid self.now }
+        ensures valid { IsValid self.now }
+        ensures well_formed { IsWellFormed self.now }
     {
         let _payout = self.parts.payout;
     }
@@ -109,5 +115,29 @@ impl Problem {
         ensures valid { OnOk result (IsValid self.now) }
     {
         self.parts.copy(alloc)
+    }
+
+    /// A copy.
+    pub fn copy(&self, alloc: Global) -> Result<Problem, AllocError>
+        ensures { IfOk result (λ problem. problem ≡ self.now) }
+    {
+        let parts = self.parts(alloc)?;
+        match Problem::build(alloc, parts) {
+            Ok(problem) => Ok(problem),
+            Err(fault) => {
+                let memory = fault.is_memory();
+                prove!(memory);
+                Err(AllocError)
+            }
+        }
+    }
+
+    /// The one canonical text of the problem, which reads back as it.
+    pub fn canonical_text(&self, alloc: Global) -> Result<Vec<u8>, AllocError>
+        ensures { IfOk result (λ text. text.items ≡ canonical self.now) }
+    {
+        let mut text = String::new(alloc);
+        push_problem(&mut text, &self.parts)?;
+        Ok(text.into_bytes())
     }
 }

@@ -1,0 +1,24 @@
+-- A refusal of parts that have no fault is want of memory.
+use Rattle.std.proofs.Common.{◌≡◌, true, Option, None, refl, sym, ◌∙◌}
+use Rattle.problem_rules.specs.Validity.{Refusal}
+use Rattle.pns_problem.specs.Fault.{Tells, is_memory}
+use Rattle.pns_problem.specs.declared.fault.BuildFault.{BuildFault}
+use Rattle.pns_problem.specs.declared.fault.BuildFault.TheVariants.{TooManyMaterials, TooManyUnits, BadName, DoubleName, OutOfRange, LowAboveHigh, Sign, NoMaterial, DoubleTerm, BothSides, EmptySide, NoProduct, TooManyExclusions, BadExclusion, BadPayout, Memory}
+
+pub only_memory : (fault : BuildFault) (first : Option Refusal) → Tells first fault → first ≡ None → is_memory fault ≡ true
+only_memory Memory first h none = refl
+only_memory (TooManyMaterials at) first h none = let e = h ∙ none in cc
+only_memory (TooManyUnits at) first h none = let e = h ∙ none in cc
+only_memory (BadName at) first h none = let e = h ∙ none in cc
+only_memory (DoubleName at) first h none = let e = h ∙ none in cc
+only_memory (OutOfRange at) first h none = let e = h ∙ none in cc
+only_memory (LowAboveHigh at) first h none = let e = h ∙ none in cc
+only_memory (Sign at) first h none = let e = h ∙ none in cc
+only_memory (NoMaterial at) first h none = let e = h ∙ none in cc
+only_memory (DoubleTerm at) first h none = let e = h ∙ none in cc
+only_memory (BothSides at) first h none = let e = h ∙ none in cc
+only_memory (EmptySide at) first h none = let e = h ∙ none in cc
+only_memory (NoProduct at) first h none = let e = h ∙ none in cc
+only_memory (TooManyExclusions at) first h none = let e = h ∙ none in cc
+only_memory (BadExclusion at) first h none = let e = h ∙ none in cc
+only_memory (BadPayout at) first h none = let e = h ∙ none in cc

@@ -1,0 +1,23 @@
+use Rattle.std.proofs.Common.{rules, ◌≡◌, ◌++◌, [], ◌∷◌, map, length, ap, ◌∙◌, string_bytes, codes, w64, SFits}
+use Rattle.std.proofs.lemmas.Int.{to_z-of_z}
+use Rattle.text_rules.specs.Printed.{amount_bytes}
+use Rattle.text_rules.specs.Canonical.{joined, spaced, field, field_unless_zero, kind_word, named, name_at, token_text, side_tokens}
+use Rattle.problem_rules.specs.Problem.{Material, OperatingUnit, Exclusion, material_names, unit_names}
+use Rattle.pns_problem.specs.Kind.{kind_of}
+use Rattle.pns_problem.specs.Printing.{further, further_items, further_terms, material_amounts, unit_amounts, unit_investment_fix, unit_investment_proportional}
+use Rattle.pns_problem.proofs.PrintingLemmas.{line_of_rates}
+use Rattle.pns_problem.proofs.canonical.push_rates.Goals as goal
+
+pub returns : goal.returns
+returns c =
+    let names = material_names c.args.materials.now in
+    let v = c.unit.view_is in
+    let t1 = string_bytes c.push_name.new.text in
+    let t3 = string_bytes c.push_str.new.self in
+    line_of_rates names c.args.unit.now c.deref.result.now (string_bytes c.args.text.now) t1 (string_bytes c.push_side.new.text) t3 (string_bytes c.push_side-2.new.text)
+    (c.deref.ensures ∙ ap (λ (u : OperatingUnit). u.name) v)
+    c.requires.some_inputs c.requires.some_outputs
+    c.in_ok-push_name.ensures
+    (c.in_ok-push_side.ensures ∙ ap (λ terms. t1 ++ token_text (side_tokens names terms)) (c.deref-2.ensures.value ∙ ap (λ (u : OperatingUnit). u.inputs) v))
+    c.in_ok-push_str.ensures.bytes
+    (c.in_ok-push_side-2.ensures ∙ ap (λ terms. t3 ++ token_text (side_tokens names terms)) (c.deref-3.ensures.value ∙ ap (λ (u : OperatingUnit). u.outputs) v))
