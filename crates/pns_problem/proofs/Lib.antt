@@ -1,5 +1,6 @@
 pub mod CanonicalLemmas
 pub mod Judging
+pub mod MarkLemmas
 pub mod MemoryLemmas
 pub mod NameLemmas
 pub mod Printed

@@ -1,4 +1,5 @@
 pub mod Built
 pub mod Fault
 pub mod Kind
+pub mod Marks
 pub mod Printing

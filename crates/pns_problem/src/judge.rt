@@ -62,6 +62,7 @@ fn judge_unit(
     unit: &OperatingUnit,
     at: u32,
 ) -> Result<(), BuildFault>
+    requires { materials ≤ 256 }
     ensures { Judges result (unit_fault materials names.now at unit.now) }
 {
     if !is_name(&unit.name) {
@@ -82,10 +83,10 @@ fn judge_unit(
     if unit.names_no_material(materials) {
         return Err(BuildFault::NoMaterial { at });
     }
-    if unit.repeats_material() {
+    if unit.repeats_material(materials) {
         return Err(BuildFault::DoubleTerm { at });
     }
-    if unit.shares_material() {
+    if unit.shares_material(materials) {
         return Err(BuildFault::BothSides { at });
     }
     if unit.has_empty_side() {
@@ -99,7 +100,8 @@ fn judge_units(
     materials: u32,
     units: &[OperatingUnit],
 ) -> Result<NameTable, BuildFault>
-    requires { length units.now ≤ 128 }
+    requires few_materials { materials ≤ 256 }
+    requires few_units { length units.now ≤ 128 }
     ensures names { IfOk result (λ names. names ≡ unit_names units.now) }
     ensures ok { OnOk result (units_fault materials [] 0 units.now ≡ None) }
     ensures err { IfErr result (Tells (units_fault materials [] 0 units.now)) }

@@ -29,3 +29,6 @@ pub use parts::Parts;
 pub use problem::Problem;
 pub use term::Term;
 pub use unit::OperatingUnit;
+
+#[cfg(test)]
+mod tests;

@@ -1,6 +1,7 @@
 //! Terms of one side of an operating unit, and the tests by which they are judged.
-ghost use Rattle.std.specs.Prelude.{◌≡◌, IfOk, int_lt, pos};
-ghost use Rattle.problem_rules.specs.Problem.{terms_have, rates_of};
+ghost use Rattle.std.specs.Prelude.{◌≡◌, ◌≤◌, false, IfOk, int_lt, pos};
+ghost use Rattle.problem_rules.specs.Problem.{rates_of};
+ghost use Rattle.pns_problem.specs.Marks.{AreMarks};
 ghost use Rattle.problem_rules.specs.Validity.{is_out_of_range, any_out_of_range, any_below_one, names_no_material, repeats_material, shares_material, is_empty};
 
 use crate::amount::is_out_of_range;
@@ -71,34 +72,46 @@ pub(crate) fn names_no_material(materials: u32, terms: &[Term]) -> bool
     false
 }
 
-fn terms_have(terms: &[Term], material: u32) -> bool
-    ensures { result ≡ terms_have terms.now material }
-{
-    'looking: for term in terms {
-        if term.material == material {
-            return true;
-        }
-    }
-    false
-}
-
-pub(crate) fn repeats_material(terms: &[Term]) -> bool
+/// Whether a material stands twice, in one pass over the terms.
+pub(crate) fn repeats_material(materials: u32, terms: &[Term]) -> bool
+    requires few { materials ≤ 256 }
+    requires known { names_no_material materials terms.now ≡ false }
     ensures { result ≡ repeats_material terms.now }
 {
-    'looking: for i in 0..terms.len() {
-        let term = &terms[i];
-        if terms_have(&terms[i + 1..], term.material) {
+    let mut marked = [false; 256];
+    'looking: for term in terms {
+        let number = term.material as usize;
+        if marked[number] {
             return true;
         }
+        marked[number] = true;
     }
     false
 }
 
-pub(crate) fn shares_material(inputs: &[Term], outputs: &[Term]) -> bool
+/// A mark for each material that stands among the terms.
+fn marks_of(materials: u32, terms: &[Term]) -> [bool; 256]
+    requires few { materials ≤ 256 }
+    requires known { names_no_material materials terms.now ≡ false }
+    ensures { AreMarks result terms.now }
+{
+    let mut marked = [false; 256];
+    'marking: for term in terms {
+        marked[term.material as usize] = true;
+    }
+    marked
+}
+
+/// Whether a material of the outputs stands among the inputs, in one pass over each.
+pub(crate) fn shares_material(materials: u32, inputs: &[Term], outputs: &[Term]) -> bool
+    requires few { materials ≤ 256 }
+    requires inputs_known { names_no_material materials inputs.now ≡ false }
+    requires outputs_known { names_no_material materials outputs.now ≡ false }
     ensures { result ≡ shares_material inputs.now outputs.now }
 {
+    let marked = marks_of(materials, inputs);
     'looking: for term in outputs {
-        if terms_have(inputs, term.material) {
+        if marked[term.material as usize] {
             return true;
         }
     }

@@ -1,5 +1,5 @@
 //! Operating units, and the tests by which they are judged.
-ghost use Rattle.std.specs.Prelude.{◌≡◌, ◌||◌, IfOk, int_lt};
+ghost use Rattle.std.specs.Prelude.{◌≡◌, ◌≤◌, ◌||◌, false, IfOk, int_lt};
 ghost use Rattle.problem_rules.specs.Validity.{bounds_out_of_range, costs_out_of_range, rates_out_of_range, unit_out_of_range, unit_negative, names_no_material, repeats_material, shares_material, is_empty};
 
 use crate::amount::is_out_of_range;
@@ -95,16 +95,20 @@ impl OperatingUnit {
         names_no_material(materials, &self.inputs) || names_no_material(materials, &self.outputs)
     }
 
-    pub(crate) fn repeats_material(&self) -> bool
+    pub(crate) fn repeats_material(&self, materials: u32) -> bool
+        requires few { materials ≤ 256 }
+        requires known { (names_no_material materials self.now.inputs || names_no_material materials self.now.outputs) ≡ false }
         ensures { result ≡ (repeats_material self.now.inputs || repeats_material self.now.outputs) }
     {
-        repeats_material(&self.inputs) || repeats_material(&self.outputs)
+        repeats_material(materials, &self.inputs) || repeats_material(materials, &self.outputs)
     }
 
-    pub(crate) fn shares_material(&self) -> bool
+    pub(crate) fn shares_material(&self, materials: u32) -> bool
+        requires few { materials ≤ 256 }
+        requires known { (names_no_material materials self.now.inputs || names_no_material materials self.now.outputs) ≡ false }
         ensures { result ≡ shares_material self.now.inputs self.now.outputs }
     {
-        shares_material(&self.inputs, &self.outputs)
+        shares_material(materials, &self.inputs, &self.outputs)
     }
 
     pub(crate) fn has_empty_side(&self) -> bool
