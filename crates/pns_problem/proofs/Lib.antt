@@ -5,3 +5,4 @@ pub mod MemoryLemmas
 pub mod NameLemmas
 pub mod Printed
 pub mod PrintingLemmas
+pub mod WorkedTexts
