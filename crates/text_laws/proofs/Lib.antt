@@ -1,0 +1,9 @@
+pub mod Cuts
+pub mod Each
+pub mod Names
+pub mod Digits
+pub mod PrintedAmount
+pub mod PrintedLines
+pub mod Pieces
+pub mod Good
+pub mod Faultless

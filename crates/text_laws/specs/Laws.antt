@@ -1,0 +1,21 @@
+-- Laws of the problem text, each of which a public function of this crate has as its contract.
+use Rattle.std.specs.Prelude.{◌≡◌, ◌≤◌, ℕ, List, Ok, ℤ, unsigned_abs}
+use Rattle.problem_rules.specs.Problem.{Problem}
+use Rattle.problem_rules.specs.Validity.{IsValid}
+use Rattle.text_rules.specs.Amount.{amount_limit, amount_of}
+use Rattle.text_rules.specs.Canonical.{canonical}
+use Rattle.text_rules.specs.Printed.{amount_bytes}
+use Rattle.text_rules.specs.Value.{read_text}
+
+-- a printed amount reads as that amount
+abbrev pub AmountsReadBack : Type 0
+AmountsReadBack = (z : ℤ) → unsigned_abs z ≤ amount_limit → amount_of (amount_bytes z) ≡ Ok z
+
+-- The canonical text of a valid problem is in the grammar, and stands for that problem. Since a text stands for at most
+-- one problem, it stands for no other.
+abbrev pub CanonicalReads : Type 0
+CanonicalReads = (p : Problem) → IsValid p → read_text (canonical p) ≡ Ok p
+
+-- what a text without a fault stands for has none of the faults of a problem
+abbrev pub ReadIsValid : Type 0
+ReadIsValid = (bytes : List ℕ) (p : Problem) → read_text bytes ≡ Ok p → IsValid p

@@ -1,0 +1,17 @@
+//! The laws, each on a function without a body.
+ghost use Rattle.text_laws.specs.Laws.{AmountsReadBack, CanonicalReads, ReadIsValid};
+
+/// A printed amount of at most 10^15 millionths reads as that amount.
+pub fn amounts_read_back()
+    ensures { AmountsReadBack }
+{}
+
+/// The canonical text of a valid problem reads as that problem.
+pub fn canonical_reads()
+    ensures { CanonicalReads }
+{}
+
+/// What a text without a fault stands for is a valid problem.
+pub fn read_is_valid()
+    ensures { ReadIsValid }
+{}
