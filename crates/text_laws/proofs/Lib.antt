@@ -7,3 +7,12 @@ pub mod PrintedLines
 pub mod Pieces
 pub mod Good
 pub mod Faultless
+pub mod PrintedSides
+pub mod CanonicalParts
+pub mod Clear
+pub mod ItemLines
+pub mod RatesLines
+pub mod NoFormFault
+pub mod Found
+pub mod ItemsBack
+pub mod CanonicalReads

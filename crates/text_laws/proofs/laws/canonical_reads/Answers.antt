@@ -1,0 +1,5 @@
+use Rattle.text_laws.proofs.CanonicalReads.{canonical_reads as law}
+use Rattle.text_laws.proofs.laws.canonical_reads.Goals as goal
+
+pub returns : goal.returns
+returns c = law
