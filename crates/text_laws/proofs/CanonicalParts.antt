@@ -1,5 +1,5 @@
 -- The lines of a canonical text, taken apart in their sections.
-use Rattle.std.proofs.Common.{◌≡◌, ◌^◌, subst, append-nil, ◌<◌, ◌≤◌, ◌+◌, ◌==◌, Bool, true, false, not, ℕ, List, [], ◌∷◌, ◌++◌, length, map, codes, decimal, ℤ, unsigned_abs, refl, sym, ◌∙◌, ap, arith, ne_eqb, if◌then◌else◌, unwrap_or}
+use Rattle.std.proofs.Common.{◌≡◌, ◌^◌, append-nil, ◌<◌, ◌≤◌, ◌+◌, ◌==◌, Bool, true, false, not, ℕ, List, [], ◌∷◌, ◌++◌, length, map, codes, decimal, ℤ, unsigned_abs, refl, sym, ◌∙◌, ap, arith, ne_eqb, if◌then◌else◌, unwrap_or}
 use Rattle.std.specs.List.{list_any}
 use Rattle.std.specs.Char.{is_ascii_digit}
 use Rattle.std.proofs.lemmas.Bool.{cond-true, cond-false, cond_both, and_left}
@@ -15,7 +15,7 @@ use Rattle.problem_rules.specs.Problem.{Material, OperatingUnit, Exclusion, Prob
 use Rattle.text_rules.specs.Fault.{parts_of}
 use Rattle.text_rules.specs.Canonical.{joined, spaced, named, item_line, field, material_items, unit_items, name_at, term_tokens, token_text, rates_tokens, section_lines, material_lines, unit_lines, rates_lines, exclusion_lines, payout_lines, exclusion_section, canonical_lines, canonical}
 use Rattle.text_laws.proofs.Good.{GoodProblem, GoodMaterial, GoodUnit, GoodExclusion, material_pieces, unit_pieces, member_words}
-use Rattle.text_laws.proofs.Each.{Each, each-append, each-map, each-from_all, each-to}
+use Rattle.text_laws.proofs.Each.{Each, each-append, each-map, each-to}
 use Rattle.text_laws.proofs.Digits.{decimal_reads}
 use Rattle.text_laws.proofs.PrintedAmount.{all_to}
 use Rattle.text_laws.proofs.Cuts.{prefix_none}

@@ -1,11 +1,9 @@
 -- Lines at which no kind stands, and what was before.
-use Rattle.std.proofs.Common.{◌≡◌, ◌+◌, ◌&&◌, ◌||◌, Bool, true, false, not, ℕ, List, [], ◌∷◌, ◌++◌, map, filter, bytes_eq, find, Option, Some, None, Result, Ok, ℤ, pos, int_lt, refl, sym, ◌∙◌, ap}
+use Rattle.std.proofs.Common.{◌≡◌, ◌+◌, ◌&&◌, ◌||◌, Bool, true, false, not, ℕ, List, [], ◌∷◌, ◌++◌, map, filter, find, Option, Some, None, Result, Ok, ℤ, pos, int_lt, refl, ◌∙◌, ap}
 use Rattle.std.specs.List.{list_any}
 use Rattle.std.specs.Result.{result_unwrap_or}
-use Rattle.std.proofs.lemmas.Bool.{cond-true, cond-false, or_parts, or_from, false_from_ne_true}
-use Rattle.std.proofs.lemmas.Slice.Eq.{bytes_eq-Decides}
+use Rattle.std.proofs.lemmas.Bool.{cond-true, cond-false}
 use Rattle.text_rules.specs.declared.TextKind.{TextKind}
-use Rattle.problem_rules.specs.Names.{is_among}
 use Rattle.text_rules.specs.Amount.{amount_of}
 use Rattle.text_rules.specs.Field.{Line}
 use Rattle.text_rules.specs.Fault.{Fault, first_of, is_bad, is_too_fine, is_too_large, millionths, may_be_negative}

@@ -6,11 +6,11 @@ use Rattle.std.proofs.lemmas.List.{length-map}
 use Rattle.problem_rules.specs.Names.{is_name, is_among}
 use Rattle.problem_rules.specs.Names.{has_double as has_double_name}
 use Rattle.problem_rules.specs.Problem.{Material, Term, OperatingUnit, Exclusion, Problem, is_product, material_names, unit_names, numbers_of, rates_of}
-use Rattle.problem_rules.specs.Validity.{FaultKind, bad_name, double_name, out_of_range, low_above_high, sign, no_material, double_term, both_sides, empty_side, too_many_materials, too_many_units, too_many_exclusions, no_product, bad_exclusion, bad_payout, Refusal, or_else, refuse, is_far, is_low, items_fault, has_far, has_low, material_fault, materials_fault, any_far, any_low, has_far_rate, has_low_rate, has_stranger, among, double, both, none_of, has_double, has_both, is_empty, costs_far, bounds_far, rates_far, unit_far, unit_low, unit_fault, units_fault, is_bad_rise, bad_members, exclusion_fault, exclusions_fault, counts_fault, whole_fault, IsValid}
+use Rattle.problem_rules.specs.Validity.{FaultKind, bad_name, double_name, out_of_range, low_above_high, sign, no_material, double_term, both_sides, empty_side, too_many_materials, too_many_units, too_many_exclusions, no_product, bad_exclusion, bad_payout, Refusal, or_else, refuse, is_far, is_low, items_fault, has_far, has_low, material_fault, materials_fault, any_far, any_low, has_far_rate, has_low_rate, has_stranger, both, has_double, has_both, is_empty, costs_far, bounds_far, rates_far, unit_far, unit_low, unit_fault, units_fault, is_bad_rise, bad_members, exclusion_fault, exclusions_fault, counts_fault, whole_fault, IsValid}
 use Rattle.text_rules.specs.Amount.{amount_limit}
 use Rattle.text_laws.proofs.Each.{Each}
 use Rattle.text_laws.proofs.Names.{Fresh, fresh-nil, fresh-last, fresh-parts}
-use Rattle.text_laws.proofs.Good.{has_number, has_double_number, is_rising, GoodBound, GoodMaterial, GoodTerm, GoodSide, GoodUnit, GoodExclusion, GoodProblem}
+use Rattle.text_laws.proofs.Good.{has_number, is_rising, GoodBound, GoodMaterial, GoodTerm, GoodUnit, GoodExclusion, GoodProblem}
 
 -- refusals one behind the other
 both_none : (first rest : Option Refusal) → or_else first rest ≡ None → (first ≡ None) × (rest ≡ None)

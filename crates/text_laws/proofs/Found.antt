@@ -1,6 +1,6 @@
 -- Names, numbers and settings are found again in the lines of a canonical text.
 use Rattle.std.proofs.Common.{◌≡◌, ◌<◌, ◌≤◌, ◌+◌, ◌||◌, ◌==◌, Bool, true, false, not, ℕ, zero, suc, List, [], ◌∷◌, length, map, filter, bytes_eq, find, position, Option, Some, None, unwrap_or, Result, ℤ, pos, unsigned_abs, refl, sym, ◌∙◌, ap, arith, if◌then◌else◌, eqb-true, ltb-true, leb-true, lt-ltb, ne_eqb, eq-eqb, one-add, ⊎_elim, le-leb, nat_lt}
-use Rattle.std.specs.List.{list_any, position_or_len}
+use Rattle.std.specs.List.{position_or_len}
 use Rattle.std.specs.Result.{result_unwrap_or}
 use Rattle.std.proofs.lemmas.Bool.{cond_both, cond-true, cond-false, and_parts, or_parts, or_left, or_right, cases_Bool, true≢false, or_cases, and_from}
 use Rattle.text_rules.specs.declared.TextKind.{TextKind}
@@ -13,7 +13,7 @@ use Rattle.text_rules.specs.Value.{term_read, numbers_among}
 use Rattle.text_rules.specs.Canonical.{name_at, term_tokens}
 use Rattle.text_laws.proofs.Good.{has_number, is_rising, GoodTerm}
 use Rattle.text_laws.proofs.PrintedAmount.{amounts_read_back}
-use Rattle.text_laws.proofs.Each.{Each, each-to, each-both, each-unmap, none_each}
+use Rattle.text_laws.proofs.Each.{Each, each-both, each-unmap, none_each}
 use Rattle.text_laws.proofs.CanonicalParts.{numbered}
 use Rattle.text_laws.proofs.Names.{bytes_same, bytes_differ}
 use Rattle.text_laws.proofs.RatesLines.{name_at_apart, among_numbers, one_rate, material_of_term, rising_none, rising_within}

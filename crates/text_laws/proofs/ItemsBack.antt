@@ -1,30 +1,19 @@
 -- A material's and a unit's line of a canonical text are read back.
-use Rattle.std.proofs.Common.{◌≡◌, ◌<◌, ◌≤◌, ◌+◌, ◌/◌, ◌==◌, Bool, true, false, not, ℕ, suc, List, [], ◌∷◌, ◌++◌, length, map, filter, codes, bytes_eq, decimal, find, option_map, Option, Some, None, unwrap_or, Ok, Err, Result, ℤ, pos, negsuc, int_lt, unsigned_abs, refl, sym, ◌∙◌, ap, arith, if◌then◌else◌, eqb-true, append-nil, mul-div_cancel}
-use Rattle.std.specs.List.{list_any}
+use Rattle.std.proofs.Common.{◌≡◌, ◌≤◌, true, ℕ, suc, List, [], ◌∷◌, codes, Result, ℤ, pos, negsuc, unsigned_abs, refl, sym, ◌∙◌, ap, arith, eqb-true}
 use Rattle.std.specs.Result.{result_unwrap_or}
-use Rattle.std.proofs.lemmas.Bool.{cond_both, cond-true, cond-false, and_left, true≢false}
-use Rattle.std.proofs.lemmas.List.Elements.{filter-append}
+use Rattle.std.proofs.lemmas.Bool.{cond_both}
 use Rattle.text_rules.specs.declared.TextKind.{TextKind}
-use Rattle.text_rules.specs.declared.TextKind.TheVariants.{NoProduct}
-use Rattle.problem_rules.specs.Problem.{Kind, raw_material, intermediate, product, Material, Term, OperatingUnit, Exclusion, Problem, is_product, material_names, unit_names}
-use Rattle.text_rules.specs.declared.Section.TheVariants.{Defaults, Materials, OperatingUnits, Rates, Exclusions}
+use Rattle.problem_rules.specs.Problem.{Kind, raw_material, intermediate, product, Material, Term, OperatingUnit}
 use Rattle.text_rules.specs.Blanks.{trim}
-use Rattle.problem_rules.specs.Names.{is_among}
 use Rattle.text_rules.specs.Amount.{amount_limit}
 use Rattle.text_rules.specs.Printed.{amount_bytes}
-use Rattle.text_rules.specs.Field.{Line, key_of, value_of, is_in, lines_in, names_in, fields_of, left, right, material_of, payout_period, sides_of, for_unit}
-use Rattle.text_rules.specs.Fault.{Fault, millionths, parts_of}
-use Rattle.text_rules.specs.Value.{material_read, unit_read, term_read, side_of, bare_rates, unit_names as unit_names_in, exclusion_read, payout_of, problem_of, default_at, numbers_among, value_at, stands_in, meaning_kinds, meaning_fault, read_lines, read_text}
-use Rattle.text_rules.specs.Canonical.{unit_items, is_zero, field, field_unless_zero, item_line, name_at, term_tokens, canonical_lines, canonical}
-use Rattle.text_laws.proofs.Good.{GoodProblem, GoodMaterial, GoodUnit, GoodExclusion, GoodTerm}
-use Rattle.text_laws.proofs.Each.{Each, each-to, each-map, each-append, none_from_each, each-both, each-unmap}
-use Rattle.text_laws.proofs.CanonicalParts.{numbered, header_part, material_part, unit_part, rates_part, exclusion_part, payout_part, payout_parts, exclusion_parts, parts_at, canonical_parts, canonical_read}
-use Rattle.text_laws.proofs.Clear.{Clear, clear-none, filter_fails, filter_passes_all, map_numbered}
-use Rattle.text_laws.proofs.ItemLines.{amount_trimmed, payout_amount, unit_with}
-use Rattle.text_laws.proofs.RatesLines.{name_at_each, rising_within, material_of_term}
-use Rattle.text_laws.proofs.NoFormFault.{no_form_fault}
-use Rattle.text_laws.proofs.Names.{among_self}
-use Rattle.text_laws.proofs.Found.{IsFound, each_found, filter_among, terms_back, members_back}
+use Rattle.text_rules.specs.Field.{Line, fields_of, left, right, for_unit}
+use Rattle.text_rules.specs.Fault.{millionths}
+use Rattle.text_rules.specs.Value.{material_read, unit_read, side_of, default_at}
+use Rattle.text_rules.specs.Canonical.{is_zero, field, field_unless_zero}
+use Rattle.text_laws.proofs.Good.{GoodMaterial, GoodUnit}
+use Rattle.text_laws.proofs.CanonicalParts.{material_part, unit_part}
+use Rattle.text_laws.proofs.ItemLines.{amount_trimmed, unit_with}
 
 trimmed_value : (z : ℤ) → unsigned_abs z ≤ amount_limit → millionths (trim (amount_bytes z)) ≡ z
 trimmed_value z small = ap (λ (r : Result ℤ TextKind). result_unwrap_or r (pos 0)) (amount_trimmed z small)

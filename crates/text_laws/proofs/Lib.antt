@@ -16,3 +16,7 @@ pub mod NoFormFault
 pub mod Found
 pub mod ItemsBack
 pub mod CanonicalReads
+pub mod ReadFields
+pub mod ReadItems
+pub mod ReadCounts
+pub mod ReadIsValid

@@ -1,6 +1,5 @@
 -- Equal texts, and names that do or do not stand among others.
-use Rattle.std.proofs.Common.{◌≡◌, ◌||◌, Bool, true, false, ℕ, List, [], ◌∷◌, ◌++◌, bytes_eq, refl, sym, ◌∙◌}
-use Rattle.std.specs.List.{list_any}
+use Rattle.std.proofs.Common.{◌≡◌, ◌||◌, true, false, ℕ, List, [], ◌∷◌, ◌++◌, bytes_eq, refl, sym, ◌∙◌}
 use Rattle.std.proofs.lemmas.Bool.{or_parts, or_from, or_left, or_right, true≢false, false_from_ne_true}
 use Rattle.std.proofs.lemmas.List.Folds.{list_any-append}
 use Rattle.std.proofs.lemmas.Slice.Eq.{bytes_eq-Decides}

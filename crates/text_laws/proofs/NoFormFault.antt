@@ -107,7 +107,6 @@ abbrev name_of : Line → List ℕ
 name_of line = line.name
 
 module _ (p : Problem) (is : GoodProblem p) where
-
   m_names : Each (λ name. is_name name ≡ true) (material_names p.materials)
   m_names = each-map (λ name. is_name name ≡ true) (λ (m : Material). m.name) p.materials (each-to GoodMaterial (λ m. is_name m.name ≡ true) (λ m good. good.name) p.materials is.materials)
 

@@ -7,7 +7,7 @@ use Rattle.std.proofs.Math.Nat.{mul-mod_left}
 use Rattle.std.proofs.lemmas.Nat.{pow-add}
 use Rattle.std.proofs.lemmas.Fmt.{decimal_nonempty, length-decimal-le}
 use Rattle.std.proofs.lemmas.List.Sums.{sum_by-append, count_by-le-length, sum_by-cons}
-use Rattle.text_rules.specs.declared.TextKind.TheVariants.{BadNumber, TooFine, TooLarge}
+use Rattle.text_rules.specs.declared.TextKind.TheVariants.{BadNumber, TooLarge}
 use Rattle.text_rules.specs.Amount.{is_point, is_digit_or_point, is_sign, is_exponent_mark, has_minus, without_sign, number_from, number_of, mantissa, exponent, is_mantissa, is_exponent, is_number, tens_for, tens_against, amount_limit, signed, scaled, scaled_by, with_sign, amount_of}
 use Rattle.text_rules.specs.Printed.{digits, places, amount_bytes}
 use Rattle.text_laws.proofs.Digits.{number-append, all-append, decimal_reads, digits_all, number-digits, pow-pos}
