@@ -1,4 +1,5 @@
--- Numbers, in millionths.
+-- Numbers, in millionths: an optional sign, digits with at most one point, then optionally `e` or `E`, an optional sign and
+-- one to three digits. The value has to be a whole number of millionths of at most 10^15, whatever its sign.
 use Rattle.std.specs.Prelude.{◌==◌, ◌&&◌, ◌||◌, ◌+◌, ◌-◌, ◌*◌, ◌/◌, ◌%◌, ◌^◌, ℕ, Bool, false, List, [], ◌∷◌, Result, Ok, Err, ℤ, pos, neg_ℤ, length, nat_le, nat_lt, not, count_by, if◌then◌else◌}
 use Rattle.std.specs.List.{list_all, list_any, before_first, after_first}
 use Rattle.std.specs.Str.{byte}
@@ -41,7 +42,8 @@ mantissa text = before_first is_exponent_mark (without_sign text)
 abbrev pub exponent : List ℕ → List ℕ
 exponent text = after_first is_exponent_mark (without_sign text)
 
--- digits with at most one point, one to thirty digits
+-- Digits with at most one point, one to thirty digits. Zeros in front and at the end count, the digits of the exponent do
+-- not; the point may stand first or last.
 abbrev pub is_mantissa : List ℕ → Bool
 is_mantissa text = list_all is_digit_or_point text && nat_le (count_by is_point text) 1
     && nat_le 1 (count_by is_ascii_digit text) && nat_le (count_by is_ascii_digit text) 30
@@ -53,7 +55,8 @@ is_exponent text = list_all is_ascii_digit (without_sign text) && nat_le 1 (leng
 abbrev pub is_number : List ℕ → Bool
 is_number text = is_mantissa (mantissa text) && (not (list_any is_exponent_mark (without_sign text)) || is_exponent (exponent text))
 
--- what the exponent adds to the six tens of a millionth, and what it and the places after the point take away
+-- The number that the digits of the mantissa spell is multiplied by ten as often as the first says and divided by ten as
+-- often as the second: six times for the millionths, the exponent up or down, and the places after the point.
 abbrev pub tens_for : List ℕ → ℕ
 tens_for text = 6 + (if has_minus (exponent text) then 0 else number_of (exponent text))
 
@@ -67,7 +70,8 @@ amount_limit = 10 ^ 15
 abbrev pub signed : Bool → ℕ → ℤ
 signed minus n = if minus then neg_ℤ (pos n) else pos n
 
--- the number times ten to the one power, divided by ten to the other, which has to be whole and within the limit
+-- The number times ten to the one power, divided by ten to the other, which has to be whole and within the limit. A number
+-- that is neither is too fine; 0 is 0 whatever its exponent.
 abbrev pub scaled_by : ℕ → ℕ → ℕ → Result ℕ TextKind
 scaled_by number up down =
     if not (number * 10 ^ up % 10 ^ down == 0) then Err TooFine
@@ -82,7 +86,8 @@ abbrev pub with_sign : Bool → Result ℕ TextKind → Result ℤ TextKind
 with_sign minus (Ok n) = Ok (signed minus n)
 with_sign minus (Err kind) = Err kind
 
--- the number of millionths
+-- The number of millionths that the text stands for, or what is wrong with it. A text of this form alone is a number: it has
+-- no blanks and no other sign.
 abbrev pub amount_of : List ℕ → Result ℤ TextKind
 amount_of text =
     if is_number text then with_sign (has_minus text) (scaled (number_of (mantissa text)) (tens_for text) (tens_against text)) else Err BadNumber

@@ -1,4 +1,4 @@
--- Blanks: spaces and tabs, which are dropped at both ends of a text.
+-- Blanks: spaces and tabs, and no other byte, which are dropped at both ends of a text.
 use Rattle.std.specs.Prelude.{◌==◌, ◌||◌, ◌-◌, ℕ, Bool, List, length, take, drop}
 use Rattle.std.specs.List.{prefix_len, suffix_len}
 

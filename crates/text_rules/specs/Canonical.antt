@@ -1,4 +1,6 @@
--- The canonical text of a problem: one spelling for each problem, which reads back as that problem.
+-- The canonical text of a problem: one spelling for each problem, which reads back as that problem. Its sections follow the
+-- first line in a fixed order, each behind an empty line and its header. Every key is printed but the two of the investment
+-- costs, which stand exactly where their value is not 0, and the payout period, which stands exactly where it is not 1.
 use Rattle.std.specs.Prelude.{◌==◌, ℕ, Bool, List, [], ◌∷◌, ◌++◌, map, flat_map, codes, ℤ, unsigned_abs, decimal, slice_index_or, if◌then◌else◌}
 use Rattle.text_rules.specs.Printed.{amount_bytes}
 use Rattle.problem_rules.specs.Problem.{Kind, raw_material, intermediate, product, Material, Term, OperatingUnit, Problem, material_names, unit_names}
@@ -66,6 +68,7 @@ token_text tokens = joined 32 tokens
 abbrev pub rates_tokens : List (List ℕ) → OperatingUnit → List (List ℕ)
 rates_tokens names u = side_tokens names u.inputs ++ codes "=>" ∷ side_tokens names u.outputs
 
+-- an empty line, the header, and the lines of a section
 abbrev pub section_lines : List ℕ → List (List ℕ) → List (List ℕ)
 section_lines header lines = [] ∷ (header ++ 58 ∷ []) ∷ lines
 
@@ -97,6 +100,6 @@ canonical_lines p = file_type ∷ (payout_lines p.payout
     ++ (section_lines (codes "material_to_operating_unit_flow_rates") (rates_lines p)
     ++ exclusion_section (exclusion_lines p)))))
 
--- the canonical text of a problem
+-- the canonical text of a problem, each line with its line feed
 abbrev pub canonical : Problem → List ℕ
 canonical p = flat_map (λ line. line ++ 10 ∷ []) (canonical_lines p)

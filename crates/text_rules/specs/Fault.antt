@@ -1,4 +1,5 @@
--- The faults of a text: which stand at a line, and which is the first.
+-- The faults of form of a text: which stand at a line, and which is the first. Each kind is one clause over a line that is
+-- taken apart and the lines before it; of the kinds that stand at a line the first of the list is told.
 use Rattle.std.specs.Prelude.{◌==◌, ◌&&◌, ◌||◌, ℕ, Bool, true, false, List, [], ◌∷◌, ◌++◌, length, map, filter, codes, not, nat_le, nat_lt, Option, Some, None, Result, Err, is_none, find, ◌%◌, ℤ, pos, int_lt, unsigned_abs, if◌then◌else◌}
 use Rattle.std.specs.List.{list_any}
 use Rattle.std.specs.Str.{bytes_eq}
@@ -36,6 +37,9 @@ may_be_negative = is_among (codes "price" ∷ codes "proportional_cost" ∷ code
 abbrev pub is_payout : ℤ → Bool
 is_payout z = int_lt (pos 0) z && unsigned_abs z % 1000000 == 0 && nat_le (unsigned_abs z) 100000000
 
+-- A line without its section's form. An item of a material may not be empty, an item of a unit needs its `=` (a kind word has
+-- none), rates need a colon, two sides and one or two tokens a term, exclusions a colon and no empty item, and all other lines
+-- an `=`. A line without a colon has its name alone, so an item that stands there makes a bad name.
 abbrev pub lacks_form : Line → Bool
 lacks_form line =
     if line.header then false
@@ -46,6 +50,7 @@ lacks_form line =
     else if is_in Exclusions line then not (list_any is_colon line.text) || list_any (λ item. length item == 0) line.items
     else not (has_key line.text)
 
+-- the keys that an item of a line may have: that of `material_type` is for defaults alone
 abbrev pub keys_of_section : Line → List (List ℕ)
 keys_of_section line =
     if is_in Defaults line then default_keys else if is_in Materials line then material_keys else unit_keys
@@ -54,7 +59,12 @@ keys_of_section line =
 abbrev pub keyed_items : Line → List (List ℕ)
 keyed_items line = if is_in Defaults line then line.text ∷ [] else if is_in Materials line || is_in OperatingUnits line then filter has_key line.items else []
 
--- the kinds of form that stand at a line, where these lines stand before it
+-- The kinds of form that stand at a line, where these lines stand before it.
+-- A name and an item are judged apart, so a line may have several kinds. Numbers are judged one kind after the other: one that
+-- is no number, too fine or too large counts as 0 for the kinds behind, and these are told first.
+-- `-0` is no number below 0, and a rate of 0. A payout period below 1 is a bad payout period and no negative number.
+-- Lines of exclusions are counted, not their names: a 65th is one too many even where it repeats a name. Names of units are
+-- counted in both sections together. A doubled member is judged by its text, whether the unit is known or not.
 abbrev pub stands : List Line → Line → TextKind → Bool
 stands before line UnknownSection = line.header && is_none (section_named line.name)
 stands before line DoubleSection = line.header && list_any (λ other. other.header && bytes_eq other.name line.name) before
@@ -101,7 +111,7 @@ form_kinds = UnknownSection ∷ DoubleSection ∷ BadLine ∷ BadName ∷ Unknow
 abbrev pub Fault : Type 0
 Fault = ℕ × TextKind
 
--- The first line at which a kind stands, with the least such kind. before has the lines in front, the last first.
+-- The first line at which a kind of the list stands, with the first such kind. `before` has the lines in front, the last first.
 abbrev pub first_of : (List Line → Line → TextKind → Bool) → List TextKind → List Line → List Line → Option Fault
 first_of test kinds before [] = None
 first_of test kinds before (line ∷ lines) = elim (find (test before line) kinds) [
@@ -112,6 +122,7 @@ first_of test kinds before (line ∷ lines) = elim (find (test before line) kind
 abbrev pub file_type : List ℕ
 file_type = codes "file_type=PNS_problem_v1"
 
+-- the first line itself, not the first that is not empty
 abbrev pub first_is_type : List (List ℕ) → Bool
 first_is_type [] = false
 first_is_type (first ∷ texts) = bytes_eq first file_type
@@ -119,5 +130,6 @@ first_is_type (first ∷ texts) = bytes_eq first file_type
 abbrev pub parts_of : List (List ℕ) → List Line
 parts_of texts = map taken_apart (body_of texts)
 
+-- the first fault of form
 abbrev pub form_fault : List (List ℕ) → Option Fault
 form_fault texts = if first_is_type texts then first_of stands form_kinds [] (parts_of texts) else Some (1, FileType)

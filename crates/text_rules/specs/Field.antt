@@ -1,4 +1,5 @@
--- The fields of a line: its name, its items with keys and values, and its sides with terms.
+-- The fields of a line: its name, its items with keys and values, and its sides with terms. What a line consists of does not
+-- hang on its section: each line is taken apart in all these ways, and its section says which of them count.
 use Rattle.std.specs.Prelude.{◌==◌, ◌&&◌, ◌||◌, ℕ, Bool, List, [], ◌∷◌, ◌++◌, length, map, filter, flat_map, codes, not, slice_index_or, if◌then◌else◌}
 use Rattle.std.specs.List.{list_any, before_first, after_first, slice_split}
 use Rattle.std.specs.Str.{bytes_eq, byte}
@@ -8,6 +9,7 @@ use Rattle.text_rules.specs.declared.Section.{Section}
 use Rattle.text_rules.specs.declared.Section.TheVariants.{Defaults, Materials, OperatingUnits, Rates, Exclusions}
 use Rattle.text_rules.specs.Line.{is_section, is_colon, head_of, tail_of, Placed}
 
+-- the first `=` of an item parts its key from its value; blanks round it are dropped
 abbrev pub is_equals : ℕ → Bool
 is_equals c = c == byte "="
 
@@ -20,24 +22,26 @@ key_of item = trim (before_first is_equals item)
 abbrev pub value_of : List ℕ → List ℕ
 value_of item = trim (after_first is_equals item)
 
--- what stands between the commas after the colon
+-- what stands between the commas after the first colon, without blanks; no item where there is no colon
 abbrev pub items_of : List ℕ → List (List ℕ)
 items_of text = if list_any is_colon text then map trim (slice_split (λ c. c == byte ",") (tail_of text)) else []
 
--- what stands between the blanks
+-- what stands between the blanks: in rates nothing else parts a token, so `A+B` is one and `1e+5` is one
 abbrev pub tokens_of : List ℕ → List (List ℕ)
 tokens_of text = filter (λ token. not (length token == 0)) (slice_split is_blank text)
 
--- the terms of a side, each a list of tokens
+-- The terms of a side, each a list of tokens, parted by `+` where it is a whole token. A side without tokens has no terms; a
+-- side `+` has two terms without tokens.
 abbrev pub terms_of : List (List ℕ) → List (List (List ℕ))
 terms_of [] = []
 terms_of (token ∷ tokens) = slice_split (λ t. bytes_eq t (codes "+")) (token ∷ tokens)
 
--- the sides after the colon, each a list of terms
+-- the sides after the first colon, parted by `=>` where it is a whole token; a further colon is a byte of a token
 abbrev pub sides_of : List ℕ → List (List (List (List ℕ)))
 sides_of text = map terms_of (slice_split (λ token. bytes_eq token (codes "=>")) (tokens_of (tail_of text)))
 
--- a line that is taken apart
+-- A line that is taken apart. Its name is what stands before the first colon, or the whole line where there is none: nothing
+-- else parts a name from what follows.
 pub record Line : Type 0 where
   pub number : ℕ
   pub section : Section
@@ -73,7 +77,8 @@ lines_in section = filter (is_in section)
 abbrev pub names_in : Section → List Line → List (List ℕ)
 names_in section lines = map (λ line. line.name) (lines_in section lines)
 
--- the last token of a term is its material, and the first of two is its rate
+-- The last token of a term is its material, and the first of two is its rate; a rate that is left out is 1. So one token
+-- stands in a name's place, whatever it is.
 abbrev pub material_of : List (List ℕ) → List ℕ
 material_of [] = []
 material_of (token ∷ []) = token
@@ -96,6 +101,7 @@ left line = slice_index_or line.sides 0 []
 abbrev pub right : Line → List (List (List ℕ))
 right line = slice_index_or line.sides 1 []
 
+-- the words and keys of the sections
 abbrev pub kind_words : List (List ℕ)
 kind_words = codes "raw_material" ∷ codes "intermediate" ∷ codes "product" ∷ []
 
@@ -122,7 +128,7 @@ payout_period = codes "payout_period"
 abbrev pub default_keys : List (List ℕ)
 default_keys = material_type ∷ payout_period ∷ map for_material material_keys ++ map for_unit unit_keys
 
--- the keys of a line with their values, where a kind word has the key of the default that it stands for
+-- an item's key and value, where a kind word has the key of the default that it stands for, so that two are a doubled key
 abbrev pub keyed : List ℕ → List ℕ × List ℕ
 keyed item = if is_among kind_words item then (material_type, item) else (key_of item, value_of item)
 
@@ -130,6 +136,7 @@ keyed item = if is_among kind_words item then (material_type, item) else (key_of
 abbrev pub is_keyed : List ℕ → Bool
 is_keyed item = has_key item || is_among kind_words item
 
+-- the keys and values of a line; a rate has a key of its own
 abbrev pub fields_of : Line → List (List ℕ × List ℕ)
 fields_of line =
     if is_in Defaults line then (key_of line.text, value_of line.text) ∷ []

@@ -1,4 +1,4 @@
--- The lines of a text, each with its number and its section.
+-- The lines of a text, each with its number and its section. Lines count from 1, empty ones too.
 use Rattle.std.specs.Prelude.{◌==◌, ◌&&◌, ◌+◌, ◌-◌, ℕ, Bool, true, false, List, [], ◌∷◌, Option, Some, None, length, take, drop, map, codes, not, nat_eq, slice_index, slice_index_or, unwrap_or, filter, if◌then◌else◌}
 use Rattle.std.specs.List.{list_any, before_first, after_first, slice_split, starts_with}
 use Rattle.std.specs.Str.{bytes_eq, byte}
@@ -7,20 +7,22 @@ use Rattle.text_rules.specs.declared.Section.TheVariants.{Preamble, MeasurementU
 use Rattle.problem_rules.specs.Names.{is_name}
 use Rattle.text_rules.specs.Blanks.{trim}
 
+-- one byte order mark is dropped, at the very start
 abbrev pub byte_order_mark : List ℕ
 byte_order_mark = 239 ∷ 187 ∷ 191 ∷ []
 
 abbrev pub without_mark : List ℕ → List ℕ
 without_mark bytes = if starts_with nat_eq bytes byte_order_mark then drop 3 bytes else bytes
 
+-- one carriage return is dropped, directly at the end of a line and before blanks are: one in front of blanks stays
 abbrev pub without_return : List ℕ → List ℕ
 without_return text = if slice_index text (length text - 1) == 13 then take (length text - 1) text else text
 
--- an empty last part is no line
+-- The last line need not have its line feed. What is empty behind a last line feed is no line; a carriage return alone is one.
 abbrev pub without_empty_last : List (List ℕ) → List (List ℕ)
 without_empty_last parts = if length (slice_index_or parts (length parts - 1) (0 ∷ [])) == 0 then take (length parts - 1) parts else parts
 
--- the lines, without carriage returns and blanks at their ends
+-- the lines, without the carriage return at their end and without blanks at both ends
 abbrev pub lines_of : List ℕ → List (List ℕ)
 lines_of bytes = map (λ part. trim (without_return part)) (without_empty_last (slice_split (λ c. c == 10) (without_mark bytes)))
 
@@ -55,18 +57,20 @@ head_of text = trim (before_first is_colon text)
 abbrev pub tail_of : List ℕ → List ℕ
 tail_of text = trim (after_first is_colon text)
 
--- one name and a colon with nothing after
+-- One name and a colon with nothing after is a header, in every section; where the text before the colon is no name, the line
+-- is one of its section. Blanks round the colon are dropped: `materials :` is the header `materials:`.
 abbrev pub is_header : List ℕ → Bool
 is_header text = list_any is_colon text && is_name (head_of text) && length (tail_of text) == 0
 
--- a line, with the section that it stands in or begins
+-- a line of the text, with the section that it stands in or begins
 pub record Placed : Type 0 where
   pub number : ℕ
   pub section : Section
   pub header : Bool
   pub text : List ℕ
 
--- the section after a line: an unknown header changes none
+-- The section after a line. An unknown header changes none, which matters to nothing: it is a fault, and no line behind the
+-- first fault is told.
 abbrev pub section_after : Section → List ℕ → Section
 section_after section text = if is_header text then unwrap_or (section_named (head_of text)) section else section
 
@@ -76,10 +80,11 @@ placed_from number section (text ∷ texts) =
     record { number = number; section = section_after section text; header = is_header text; text = text }
     ∷ placed_from (number + 1) (section_after section text) texts
 
+-- the lines that are not empty
 abbrev pub standing : List Placed → List Placed
 standing = filter (λ line. not (length line.text == 0))
 
--- the lines after the first that are not empty
+-- the lines after the first that are not empty: the first is judged by itself
 abbrev pub body_of : List (List ℕ) → List Placed
 body_of [] = []
 body_of (first ∷ texts) = standing (placed_from 2 Preamble texts)

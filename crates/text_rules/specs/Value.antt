@@ -1,4 +1,5 @@
--- The problem that a text without faults of form stands for, and its faults of meaning.
+-- The problem that a text without faults of form stands for, and its faults of meaning. Sections may stand in any order, so a
+-- value is looked up in all lines: a default counts for the lines in front of it too.
 use Rattle.std.specs.Prelude.{◌&&◌, ◌+◌, ◌/◌, ℕ, Bool, false, List, [], ◌∷◌, ◌++◌, length, map, filter, codes, not, Option, Some, None, Result, Ok, Err, find, position, unwrap_or, option_map, ℤ, pos, unsigned_abs, int_lt, if◌then◌else◌}
 use Rattle.std.specs.List.{list_any}
 use Rattle.std.specs.Str.{bytes_eq}
@@ -15,7 +16,7 @@ use Rattle.problem_rules.specs.Problem.{Kind, raw_material, intermediate, produc
 abbrev pub value_at : List ℕ → List (List ℕ × List ℕ) → Option (List ℕ)
 value_at key fields = option_map (λ field. field.1) (find (λ field. bytes_eq field.0 key) fields)
 
--- the value of a default, or else of the table
+-- the value of a default, or else the one that is built in
 abbrev pub default_at : List Line → List ℕ → List ℕ → List ℕ
 default_at lines key built_in = unwrap_or (value_at key (map (λ line. (key_of line.text, value_of line.text)) (lines_in Defaults lines))) built_in
 
@@ -54,7 +55,7 @@ side_of side lines name = elim (find (λ line. bytes_eq line.name name) (lines_i
   | Some line ↦ map (term_read (names_in Materials lines)) (side line)
 ]
 
--- the unit of this name with these fields
+-- the unit of this name with these fields; its terms are those of its rates line
 abbrev pub unit_read : List Line → List ℕ → List (List ℕ × List ℕ) → OperatingUnit
 unit_read lines name fields = record {
   name = name;
@@ -76,7 +77,7 @@ bare_rates lines = filter (λ line. not (is_among (names_in OperatingUnits lines
 abbrev pub unit_names : List Line → List (List ℕ)
 unit_names lines = names_in OperatingUnits lines ++ map (λ line. line.name) (bare_rates lines)
 
--- the numbers of the names that are among the words, counted from k
+-- the numbers of the names that are among the words, counted from k: so an exclusion's units rise, in whatever order they stand
 abbrev pub numbers_among : List (List ℕ) → ℕ → List (List ℕ) → List ℕ
 numbers_among words k [] = []
 numbers_among words k (name ∷ names) = if is_among words name then k ∷ numbers_among words (k + 1) names else numbers_among words (k + 1) names
@@ -97,7 +98,8 @@ problem_of lines = record {
   payout = payout_of lines;
 }
 
--- the kinds of meaning that stand at a line of these lines
+-- The kinds of meaning that stand at a line of these lines. Bounds are judged where a material or unit has them, defaults
+-- filled in; defaults by themselves are never at fault. A unit that has a rates line alone is a unit of the problem.
 abbrev pub stands_in : List Line → List Line → Line → TextKind → Bool
 stands_in lines before line LowAboveHigh =
     if is_in Materials line then int_lt (material_read lines line).upper (material_read lines line).lower
@@ -112,6 +114,7 @@ stands_in lines before line kind = false
 abbrev pub meaning_kinds : List TextKind
 meaning_kinds = LowAboveHigh ∷ UnknownMaterial ∷ NoRates ∷ UnknownUnit ∷ []
 
+-- the first fault of meaning; that no material is a product is told behind all lines, and so behind all other faults
 abbrev pub meaning_fault : List (List ℕ) → List Line → Option Fault
 meaning_fault texts lines = elim (first_of (stands_in lines) meaning_kinds [] lines) [
   | Some fault ↦ Some fault
@@ -128,5 +131,6 @@ read_lines texts = elim (form_fault texts) [
   ]
 ]
 
+-- the problem that a text stands for, or its first fault: what a reader of problem texts is to answer
 abbrev pub read_text : List ℕ → Result Problem Fault
 read_text bytes = read_lines (lines_of bytes)

@@ -1,0 +1,2 @@
+mod LineFaults
+mod Texts
