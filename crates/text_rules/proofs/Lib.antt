@@ -1,2 +1,6 @@
+mod CanonicalTexts
 mod LineFaults
+mod Numbers
+mod ShippedFile
 mod Texts
+mod WholeTexts

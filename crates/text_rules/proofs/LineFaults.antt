@@ -1,9 +1,8 @@
 -- Lines under each header, each with the kind of fault that is told of it.
-use Rattle.std.proofs.Common.{◌≡◌, ℕ, List, [], ◌∷◌, map, codes, refl, Err}
+use Rattle.std.proofs.Common.{ℕ, List, [], ◌∷◌, codes, refl}
 use Rattle.text_rules.specs.declared.TextKind.{TextKind}
 use Rattle.text_rules.specs.declared.TextKind.TheVariants.{UnknownSection, BadLine, BadName, UnknownKey, DoubleKey, BadNumber, TooFine, TooLarge, Negative, UnknownKind, ZeroRate, DoubleTerm, BothSides, EmptySide, DoubleMember, FewMembers, BadPayout, UnknownMaterial}
-use Rattle.text_rules.specs.Value.{read_text}
-use Rattle.text_rules.proofs.Texts.{Told, body}
+use Rattle.text_rules.proofs.Texts.{Told}
 
 measurement_rows : List (List ℕ × TextKind)
 measurement_rows =
