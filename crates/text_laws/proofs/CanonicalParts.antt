@@ -1,5 +1,5 @@
 -- The lines of a canonical text, taken apart in their sections.
-use Rattle.std.proofs.Common.{◌≡◌, ◌^◌, append-nil, ◌<◌, ◌≤◌, ◌+◌, ◌==◌, Bool, true, false, not, ℕ, List, [], ◌∷◌, ◌++◌, length, map, codes, decimal, ℤ, unsigned_abs, refl, sym, ◌∙◌, ap, arith, ne_eqb, if◌then◌else◌, unwrap_or}
+use Rattle.std.proofs.Common.{subst, ◌≡◌, ◌^◌, append-nil, ◌<◌, ◌≤◌, ◌+◌, ◌==◌, Bool, true, false, not, ℕ, List, [], ◌∷◌, ◌++◌, length, map, codes, decimal, ℤ, unsigned_abs, refl, sym, ◌∙◌, ap, arith, ne_eqb, if◌then◌else◌, unwrap_or}
 use Rattle.std.specs.List.{list_any}
 use Rattle.std.specs.Char.{is_ascii_digit}
 use Rattle.std.proofs.lemmas.Bool.{cond-true, cond-false, cond_both, and_left}
@@ -14,8 +14,10 @@ use Rattle.text_rules.specs.Field.{Line, taken_apart, items_of, sides_of}
 use Rattle.problem_rules.specs.Problem.{Material, OperatingUnit, Exclusion, Problem, material_names, unit_names}
 use Rattle.text_rules.specs.Fault.{parts_of}
 use Rattle.text_rules.specs.Canonical.{joined, spaced, named, item_line, field, material_items, unit_items, name_at, term_tokens, token_text, rates_tokens, section_lines, material_lines, unit_lines, rates_lines, exclusion_lines, payout_lines, exclusion_section, canonical_lines, canonical}
-use Rattle.text_laws.proofs.Good.{GoodProblem, GoodMaterial, GoodUnit, GoodExclusion, material_pieces, unit_pieces, member_words}
-use Rattle.text_laws.proofs.Each.{Each, each-append, each-map, each-to}
+use Rattle.problem_rules.specs.WellFormed.{IsWellFormed, IsWellFormedMaterial, IsWellFormedUnit, IsWellFormedExclusion}
+use Rattle.text_laws.proofs.PrintedItems.{material_pieces, unit_pieces, member_words}
+use Rattle.problem_rules.specs.Each.{Each}
+use Rattle.text_laws.proofs.Each.{each-append, each-map, each-to}
 use Rattle.text_laws.proofs.Digits.{decimal_reads}
 use Rattle.text_laws.proofs.PrintedAmount.{all_to}
 use Rattle.text_laws.proofs.Cuts.{prefix_none}
@@ -155,19 +157,19 @@ items_line section name (item ∷ items) some word each = record {
   apart = item_placed section name item items word each.0 each.1;
 }
 
-pub material_placed : (m : Material) → GoodMaterial m → IsPlaced Materials (λ m. item_line m.name (material_items m)) material_part m
+pub material_placed : (m : Material) → IsWellFormedMaterial m → IsPlaced Materials (λ m. item_line m.name (material_items m)) material_part m
 material_placed m good =
-    let is : IsItemLine Materials m.name (material_items m) = items_line Materials m.name (material_items m) (omega arith) (name_word m.name good.name) (material_pieces m good) in
+    let is : IsItemLine Materials m.name (material_items m) = items_line Materials m.name (material_items m) (omega arith) (name_word m.name good.named) (material_pieces m good) in
     record { no_header = is.named.no_header; long = is.named.long; apart = is.apart; line = is.named.line }
 
-pub unit_placed : (count : ℕ) (u : OperatingUnit) → GoodUnit count u → IsPlaced OperatingUnits (λ u. item_line u.name (unit_items u)) unit_part u
+pub unit_placed : (count : ℕ) (u : OperatingUnit) → IsWellFormedUnit count u → IsPlaced OperatingUnits (λ u. item_line u.name (unit_items u)) unit_part u
 unit_placed count u good =
-    let is : IsItemLine OperatingUnits u.name (unit_items u) = items_line OperatingUnits u.name (unit_items u) (omega arith) (name_word u.name good.name) (unit_pieces count u good) in
+    let is : IsItemLine OperatingUnits u.name (unit_items u) = items_line OperatingUnits u.name (unit_items u) (omega arith) (name_word u.name good.named) (unit_pieces count u good) in
     record { no_header = is.named.no_header; long = is.named.long; apart = is.apart; line = is.named.line }
 
-pub rates_placed : (names : List (List ℕ)) → Each IsWord names → (u : OperatingUnit) → GoodUnit (length names) u → IsPlaced Rates (rates_text names) (rates_part names) u
+pub rates_placed : (names : List (List ℕ)) → Each IsWord names → (u : OperatingUnit) → IsWellFormedUnit (length names) u → IsPlaced Rates (rates_text names) (rates_part names) u
 rates_placed names words u good =
-    let word : IsWord u.name = name_word u.name good.name in
+    let word : IsWord u.name = name_word u.name good.named in
     let is = named_apart u.name (token_text (rates_tokens names u)) word (rates_tail names words u good) in
     record {
       no_header = is.no_header;
@@ -178,12 +180,12 @@ rates_placed names words u good =
       line = is.line;
     }
 
-pub exclusion_placed : (names : List (List ℕ)) → Each IsWord names → (e : Exclusion) → GoodExclusion (length names) e → IsPlaced Exclusions (exclusion_text names) (exclusion_part names) e
+pub exclusion_placed : (names : List (List ℕ)) → Each IsWord names → (e : Exclusion) → IsWellFormedExclusion (length names) e → IsPlaced Exclusions (exclusion_text names) (exclusion_part names) e
 exclusion_placed names words e good =
     let items : List (List ℕ) = map (name_at names) e.units in
-    let many : 1 < length e.units = good.many in
+    let many : 2 ≤ length e.units = good.enough in
     let some : 0 < length items = omega (arith, length-map e.units (name_at names)) in
-    let is : IsItemLine Exclusions e.name items = items_line Exclusions e.name items some (name_word e.name good.name)
+    let is : IsItemLine Exclusions e.name items = items_line Exclusions e.name items some (name_word e.name good.named)
     (each-to IsWord IsPiece word_piece items (member_words names 0 e.units words good.rising)) in
     record { no_header = is.named.no_header; long = is.named.long; apart = is.apart; line = is.named.line }
 
@@ -229,25 +231,32 @@ payout_placed payout small rest =
       all : List Line
       all = header_part 3 Defaults (codes "defaults") ∷ payout_part 4 k ∷ []
 
-module _ (p : Problem) (is : GoodProblem p) where
+module _ (p : Problem) (is : IsWellFormed p) where
+  -- units and exclusions, by the names that stand for their materials and units
+  pub units_named : Each (IsWellFormedUnit (length (material_names p.materials))) p.units
+  units_named = subst (λ k. Each (IsWellFormedUnit k) p.units) (sym (length-map p.materials (λ (m : Material). m.name))) is.units_formed
+
+  pub exclusions_named : Each (IsWellFormedExclusion (length (unit_names p.units))) p.exclusions
+  exclusions_named = subst (λ k. Each (IsWellFormedExclusion k) p.exclusions) (sym (length-map p.units (λ (u : OperatingUnit). u.name))) is.exclusions_formed
+
   -- the names are words
   pub material_words : Each IsWord (material_names p.materials)
-  material_words = each-map IsWord (λ (m : Material). m.name) p.materials (each-to GoodMaterial (λ m. IsWord m.name) (λ m good. name_word m.name good.name) p.materials is.materials)
+  material_words = each-map IsWord (λ (m : Material). m.name) p.materials (each-to IsWellFormedMaterial (λ m. IsWord m.name) (λ m good. name_word m.name good.named) p.materials is.materials_formed)
 
   pub unit_words : Each IsWord (unit_names p.units)
-  unit_words = each-map IsWord (λ (u : OperatingUnit). u.name) p.units (each-to (GoodUnit (length (material_names p.materials))) (λ u. IsWord u.name) (λ u good. name_word u.name good.name) p.units is.units)
+  unit_words = each-map IsWord (λ (u : OperatingUnit). u.name) p.units (each-to (IsWellFormedUnit (length (material_names p.materials))) (λ u. IsWord u.name) (λ u good. name_word u.name good.named) p.units units_named)
 
   ms : Each (IsPlaced Materials (λ m. item_line m.name (material_items m)) material_part) p.materials
-  ms = each-to GoodMaterial _ material_placed p.materials is.materials
+  ms = each-to IsWellFormedMaterial _ material_placed p.materials is.materials_formed
 
   us : Each (IsPlaced OperatingUnits (λ u. item_line u.name (unit_items u)) unit_part) p.units
-  us = each-to (GoodUnit (length (material_names p.materials))) _ (unit_placed (length (material_names p.materials))) p.units is.units
+  us = each-to (IsWellFormedUnit (length (material_names p.materials))) _ (unit_placed (length (material_names p.materials))) p.units units_named
 
   rs : Each (IsPlaced Rates (rates_text (material_names p.materials)) (rates_part (material_names p.materials))) p.units
-  rs = each-to (GoodUnit (length (material_names p.materials))) _ (rates_placed (material_names p.materials) material_words) p.units is.units
+  rs = each-to (IsWellFormedUnit (length (material_names p.materials))) _ (rates_placed (material_names p.materials) material_words) p.units units_named
 
   es : Each (IsPlaced Exclusions (exclusion_text (unit_names p.units)) (exclusion_part (unit_names p.units))) p.exclusions
-  es = each-to (GoodExclusion (length (unit_names p.units))) _ (exclusion_placed (unit_names p.units) unit_words) p.exclusions is.exclusions
+  es = each-to (IsWellFormedExclusion (length (unit_names p.units))) _ (exclusion_placed (unit_names p.units) unit_words) p.exclusions exclusions_named
 
   exclusions_placed : (n : ℕ) (xs : List Exclusion) → Each (IsPlaced Exclusions (exclusion_text (unit_names p.units)) (exclusion_part (unit_names p.units))) xs
       → taken n Rates (exclusion_section (map (exclusion_text (unit_names p.units)) xs)) ≡ exclusion_parts (unit_names p.units) (n + 1) xs
@@ -260,7 +269,7 @@ module _ (p : Problem) (is : GoodProblem p) where
 
   -- the lines of the canonical text, taken apart
   pub canonical_parts : (a b c d : ℕ) × (parts_of (canonical_lines p) ≡ parts_at p a b c d)
-  canonical_parts = from (payout_placed p.payout is.payout_high (section_lines (codes "materials") (material_lines p) ++ (section_lines (codes "operating_units") (unit_lines p) ++ (section_lines (codes "material_to_operating_unit_flow_rates") (rates_lines p) ++ exclusion_section (exclusion_lines p))))) where
+  canonical_parts = from (payout_placed p.payout is.payout_limit (section_lines (codes "materials") (material_lines p) ++ (section_lines (codes "operating_units") (unit_lines p) ++ (section_lines (codes "material_to_operating_unit_flow_rates") (rates_lines p) ++ exclusion_section (exclusion_lines p))))) where
     from : ((n : ℕ) × (s : Section) × (taken 2 Preamble (payout_lines p.payout ++ (section_lines (codes "materials") (material_lines p) ++ (section_lines (codes "operating_units") (unit_lines p) ++ (section_lines (codes "material_to_operating_unit_flow_rates") (rates_lines p) ++ exclusion_section (exclusion_lines p))))) ≡ payout_parts p.payout ++ taken n s (section_lines (codes "materials") (material_lines p) ++ (section_lines (codes "operating_units") (unit_lines p) ++ (section_lines (codes "material_to_operating_unit_flow_rates") (rates_lines p) ++ exclusion_section (exclusion_lines p))))))
         → (a b c d : ℕ) × (parts_of (canonical_lines p) ≡ parts_at p a b c d)
     from found =
@@ -299,7 +308,7 @@ module _ (p : Problem) (is : GoodProblem p) where
   payout_line : Each IsLine (payout_lines p.payout)
   payout_line = cond_both (unsigned_abs p.payout == 1) [] (section_lines (codes "defaults") (payout_text (unsigned_abs p.payout) ∷ [])) (λ lines. Each IsLine lines) (λ e. tt)
       (λ e. section_line (codes "defaults") (payout_text (unsigned_abs p.payout) ∷ []) (record { feed = refl; ret = refl; front = refl; back = refl })
-      (piece_line (payout_text (unsigned_abs p.payout)) (payout_piece (unsigned_abs p.payout) (omega (arith, is.payout_high))), tt))
+      (piece_line (payout_text (unsigned_abs p.payout)) (payout_piece (unsigned_abs p.payout) (omega (arith, is.payout_limit))), tt))
 
   all_lines : Each IsLine (canonical_lines p)
   all_lines = (

@@ -14,17 +14,19 @@ use Rattle.text_rules.specs.Field.{Line, key_of, value_of, is_in, lines_in, name
 use Rattle.text_rules.specs.Fault.{Fault, millionths, parts_of}
 use Rattle.text_rules.specs.Value.{material_read, unit_read, term_read, side_of, bare_rates, unit_names as unit_names_in, exclusion_read, payout_of, problem_of, default_at, numbers_among, value_at, stands_in, meaning_kinds, meaning_fault, read_lines, read_text}
 use Rattle.text_rules.specs.Canonical.{name_at, term_tokens, canonical_lines, canonical}
-use Rattle.text_laws.proofs.Good.{GoodProblem, GoodMaterial, GoodUnit, GoodExclusion, GoodTerm}
-use Rattle.text_laws.proofs.Each.{Each, each-to, each-map, each-append, none_from_each, each-both, each-unmap}
-use Rattle.text_laws.proofs.CanonicalParts.{numbered, header_part, material_part, unit_part, rates_part, exclusion_part, payout_part, payout_parts, exclusion_parts, parts_at, canonical_parts, canonical_read}
+use Rattle.problem_rules.specs.WellFormed.{IsWellFormed, IsWellFormedMaterial, IsWellFormedUnit, IsWellFormedExclusion, IsWellFormedTerm}
+use Rattle.problem_rules.specs.Each.{Each}
+use Rattle.text_laws.proofs.Each.{each-to, each-map, each-append, none_from_each, each-both, each-unmap}
+use Rattle.text_laws.proofs.CanonicalParts.{units_named, exclusions_named, numbered, header_part, material_part, unit_part, rates_part, exclusion_part, payout_part, payout_parts, exclusion_parts, parts_at, canonical_parts, canonical_read}
 use Rattle.text_laws.proofs.Clear.{Clear, clear-none, filter_fails, filter_passes_all, map_numbered}
 use Rattle.text_laws.proofs.ItemLines.{payout_amount}
-use Rattle.text_laws.proofs.RatesLines.{name_at_each, rising_within, material_of_term}
+use Rattle.text_laws.proofs.Numbers.{rising_within}
+use Rattle.text_laws.proofs.RatesLines.{name_at_each, material_of_term}
 use Rattle.text_laws.proofs.NoFormFault.{no_form_fault}
 use Rattle.text_laws.proofs.Names.{among_self}
 use Rattle.text_laws.proofs.Found.{IsFound, each_found, filter_among, terms_back, members_back}
 use Rattle.problem_rules.specs.Validity.{IsValid}
-use Rattle.text_laws.proofs.Faultless.{good_problem}
+use Rattle.problem_rules.proofs.ValidLemmas.{well_formed_from_valid}
 use Rattle.text_laws.proofs.ItemsBack.{material_back, unit_back}
 
 abbrev name_of : Line → List ℕ
@@ -38,7 +40,7 @@ positive_is : (z : ℤ) → int_lt (pos 0) z ≡ true → pos (unsigned_abs z) �
 positive_is (pos n) lt = refl
 positive_is (negsuc n) lt = absurd (true≢false (sym lt))
 
-module _ (p : Problem) (is : GoodProblem p) (a b c d : ℕ) where
+module _ (p : Problem) (is : IsWellFormed p) (a b c d : ℕ) where
   abbrev P : List Line
   P = parts_at p a b c d
 
@@ -114,13 +116,13 @@ module _ (p : Problem) (is : GoodProblem p) (a b c d : ℕ) where
 
   -- names
   material_names_are : names_in Materials P ≡ material_names p.materials
-  material_names_are = ap (map name_of) material_lines_are ∙ map_numbered material_part name_of (λ (m : Material). m.name) (a + 1) p.materials (each-to GoodMaterial (λ m. (k : ℕ) → (material_part k m).name ≡ m.name) (λ m good k. refl) p.materials is.materials)
+  material_names_are = ap (map name_of) material_lines_are ∙ map_numbered material_part name_of (λ (m : Material). m.name) (a + 1) p.materials (each-to IsWellFormedMaterial (λ m. (k : ℕ) → (material_part k m).name ≡ m.name) (λ m good k. refl) p.materials is.materials_formed)
 
   unit_names_are : names_in OperatingUnits P ≡ unit_names p.units
-  unit_names_are = ap (map name_of) unit_lines_are ∙ map_numbered unit_part name_of (λ (u : OperatingUnit). u.name) (b + 1) p.units (each-to (GoodUnit (length (material_names p.materials))) (λ u. (k : ℕ) → (unit_part k u).name ≡ u.name) (λ u good k. refl) p.units is.units)
+  unit_names_are = ap (map name_of) unit_lines_are ∙ map_numbered unit_part name_of (λ (u : OperatingUnit). u.name) (b + 1) p.units (each-to (IsWellFormedUnit (length (material_names p.materials))) (λ u. (k : ℕ) → (unit_part k u).name ≡ u.name) (λ u good k. refl) p.units (units_named p is))
 
   rates_names_are : names_in Rates P ≡ unit_names p.units
-  rates_names_are = ap (map name_of) rates_lines_are ∙ map_numbered (rates_part (material_names p.materials)) name_of (λ (u : OperatingUnit). u.name) (c + 1) p.units (each-to (GoodUnit (length (material_names p.materials))) (λ u. (k : ℕ) → (rates_part (material_names p.materials) k u).name ≡ u.name) (λ u good k. refl) p.units is.units)
+  rates_names_are = ap (map name_of) rates_lines_are ∙ map_numbered (rates_part (material_names p.materials)) name_of (λ (u : OperatingUnit). u.name) (c + 1) p.units (each-to (IsWellFormedUnit (length (material_names p.materials))) (λ u. (k : ℕ) → (rates_part (material_names p.materials) k u).name ≡ u.name) (λ u good k. refl) p.units (units_named p is))
 
   units_among : Each (λ u. is_among (unit_names p.units) u.name ≡ true) p.units
   units_among = each-unmap (λ name. is_among (unit_names p.units) name ≡ true) (λ (u : OperatingUnit). u.name) p.units (among_self (unit_names p.units))
@@ -147,38 +149,38 @@ module _ (p : Problem) (is : GoodProblem p) (a b c d : ℕ) where
       let years : List Line → ℤ = λ ls. pos (unsigned_abs (millionths (unwrap_or (value_in payout_period ls) (codes "1"))) / 1000000) in
       ap years default_lines_are
       ∙ cond_both (k == 1) [] (payout_part 4 k ∷ []) (λ ls. years ls ≡ p.payout)
-      (λ e. ap pos (sym (eqb-true k 1 e)) ∙ positive_is p.payout is.payout_low)
-      (λ e. ap (λ (r : Result ℤ TextKind). pos (unsigned_abs (result_unwrap_or r (pos 0)) / 1000000)) (payout_amount k is.payout_high) ∙ ap pos (mul-div_cancel k (omega arith)) ∙ positive_is p.payout is.payout_low)
+      (λ e. ap pos (sym (eqb-true k 1 e)) ∙ positive_is p.payout is.payout_positive)
+      (λ e. ap (λ (r : Result ℤ TextKind). pos (unsigned_abs (result_unwrap_or r (pos 0)) / 1000000)) (payout_amount k is.payout_limit) ∙ ap pos (mul-div_cancel k (omega arith)) ∙ positive_is p.payout is.payout_positive)
 
   -- the sides of a unit
   side_back : (side : Line → List (List (List ℕ))) (terms : OperatingUnit → List Term) → ((k : ℕ) (u : OperatingUnit) → side (rates_part (material_names p.materials) k u) ≡ map (term_tokens (material_names p.materials)) (terms u))
-      → (u : OperatingUnit) → Each (GoodTerm (length (material_names p.materials))) (terms u) → IsFound (λ (u : OperatingUnit). u.name) (rates_part (material_names p.materials)) (numbered (rates_part (material_names p.materials)) (c + 1) p.units) u → side_of side P u.name ≡ terms u
+      → (u : OperatingUnit) → Each (IsWellFormedTerm (length (material_names p.materials))) (terms u) → IsFound (λ (u : OperatingUnit). u.name) (rates_part (material_names p.materials)) (numbered (rates_part (material_names p.materials)) (c + 1) p.units) u → side_of side P u.name ≡ terms u
   side_back side terms says u goods found =
       let from : Option Line → List Term = λ o. elim o as (λ _. List Term) [ None ↦ [] | Some line ↦ map (term_read (names_in Materials P)) (side line) ] in
       ap (λ (ls : List Line). from (find (λ line. bytes_eq line.name u.name) ls)) rates_lines_are
       ∙ ap from found.1
       ∙ ap (map (term_read (names_in Materials P))) (says found.0 u)
       ∙ ap (λ (names : List (List ℕ)). map (term_read names) (map (term_tokens (material_names p.materials)) (terms u))) material_names_are
-      ∙ terms_back (material_names p.materials) is.material_names_once (terms u) goods
+      ∙ terms_back (material_names p.materials) is.materials_apart (terms u) goods
 
   units_found : Each (IsFound (λ (u : OperatingUnit). u.name) (rates_part (material_names p.materials)) (numbered (rates_part (material_names p.materials)) (c + 1) p.units)) p.units
-  units_found = each_found (λ (u : OperatingUnit). u.name) (rates_part (material_names p.materials)) (λ n u. refl) (c + 1) p.units is.unit_names_once
+  units_found = each_found (λ (u : OperatingUnit). u.name) (rates_part (material_names p.materials)) (λ n u. refl) (c + 1) p.units is.units_apart
 
   units_back : Each (λ u. (k : ℕ) → unit_read P u.name (fields_of (unit_part k u)) ≡ u) p.units
-  units_back = each-both (GoodUnit (length (material_names p.materials))) (IsFound (λ (u : OperatingUnit). u.name) (rates_part (material_names p.materials)) (numbered (rates_part (material_names p.materials)) (c + 1) p.units)) (λ u. (k : ℕ) → unit_read P u.name (fields_of (unit_part k u)) ≡ u)
+  units_back = each-both (IsWellFormedUnit (length (material_names p.materials))) (IsFound (λ (u : OperatingUnit). u.name) (rates_part (material_names p.materials)) (numbered (rates_part (material_names p.materials)) (c + 1) p.units)) (λ u. (k : ℕ) → unit_read P u.name (fields_of (unit_part k u)) ≡ u)
       (λ u good found k. unit_back P (default_none (for_unit (codes "investment_fix_cost")) (codes "0") refl) (default_none (for_unit (codes "investment_proportional_cost")) (codes "0") refl) k (length (material_names p.materials)) u good
-      (side_back left (λ u. u.inputs) (λ k u. refl) u good.inputs.terms found) (side_back right (λ u. u.outputs) (λ k u. refl) u good.outputs.terms found))
-      p.units is.units units_found
+      (side_back left (λ u. u.inputs) (λ k u. refl) u good.inputs.terms_formed found) (side_back right (λ u. u.outputs) (λ k u. refl) u good.outputs.terms_formed found))
+      p.units (units_named p is) units_found
 
   materials_back : Each (λ m. (k : ℕ) → material_read P (material_part k m) ≡ m) p.materials
-  materials_back = each-to GoodMaterial (λ m. (k : ℕ) → material_read P (material_part k m) ≡ m) (λ m good k. material_back P k m good) p.materials is.materials
+  materials_back = each-to IsWellFormedMaterial (λ m. (k : ℕ) → material_read P (material_part k m) ≡ m) (λ m good k. material_back P k m good) p.materials is.materials_formed
 
   exclusions_back : Each (λ e. (k : ℕ) → exclusion_read P (exclusion_part (unit_names p.units) k e) ≡ e) p.exclusions
-  exclusions_back = each-to (GoodExclusion (length (unit_names p.units))) (λ e. (k : ℕ) → exclusion_read P (exclusion_part (unit_names p.units) k e) ≡ e)
+  exclusions_back = each-to (IsWellFormedExclusion (length (unit_names p.units))) (λ e. (k : ℕ) → exclusion_read P (exclusion_part (unit_names p.units) k e) ≡ e)
       (λ e good k.
       ap (λ (names : List (List ℕ)). let x : Exclusion = record { name = e.name; units = numbers_among (map (name_at (unit_names p.units)) e.units) 0 names } in x) all_names_are
-      ∙ ap (λ (ks : List ℕ). let x : Exclusion = record { name = e.name; units = ks } in x) (members_back (unit_names p.units) e.units is.unit_names_once good.rising))
-      p.exclusions is.exclusions
+      ∙ ap (λ (ks : List ℕ). let x : Exclusion = record { name = e.name; units = ks } in x) (members_back (unit_names p.units) e.units is.units_apart good.rising))
+      p.exclusions (exclusions_named p is)
 
   same : {A : Type 0} (xs : List A) → map (λ x. x) xs ≡ xs
   same [] = refl
@@ -215,8 +217,8 @@ module _ (p : Problem) (is : GoodProblem p) (a b c d : ℕ) where
   each_numbered f n (x ∷ xs) each = (each.0 n, each_numbered f (n + 1) xs each.1)
 
   materials_mean : Each (λ m. (k : ℕ) → Means (material_part k m)) p.materials
-  materials_mean = each-both GoodMaterial (λ m. (k : ℕ) → material_read P (material_part k m) ≡ m) (λ m. (k : ℕ) → Means (material_part k m))
-      (λ m good read k before. (ap (λ (e : Material). int_lt e.upper e.lower) (read k) ∙ good.order, (refl, (refl, (refl, tt))))) p.materials is.materials materials_back
+  materials_mean = each-both IsWellFormedMaterial (λ m. (k : ℕ) → material_read P (material_part k m) ≡ m) (λ m. (k : ℕ) → Means (material_part k m))
+      (λ m good read k before. (ap (λ (e : Material). int_lt e.upper e.lower) (read k) ∙ good.bounds.ordered, (refl, (refl, (refl, tt))))) p.materials is.materials_formed materials_back
 
   listed : Each (λ u. is_among (names_in Rates P) u.name ≡ true) p.units
   listed = each-to (λ u. is_among (unit_names p.units) u.name ≡ true) (λ u. is_among (names_in Rates P) u.name ≡ true) (λ (u : OperatingUnit) e. ap (λ (ns : List (List ℕ)). is_among ns u.name) rates_names_are ∙ e) p.units units_among
@@ -225,33 +227,33 @@ module _ (p : Problem) (is : GoodProblem p) (a b c d : ℕ) where
   listed_units = each-to (λ u. is_among (unit_names p.units) u.name ≡ true) (λ u. is_among (names_in OperatingUnits P) u.name ≡ true) (λ (u : OperatingUnit) e. ap (λ (ns : List (List ℕ)). is_among ns u.name) unit_names_are ∙ e) p.units units_among
 
   units_mean : Each (λ u. (k : ℕ) → Means (unit_part k u)) p.units
-  units_mean = each-both (GoodUnit (length (material_names p.materials))) (λ u. ((k : ℕ) → unit_read P u.name (fields_of (unit_part k u)) ≡ u) × (is_among (names_in Rates P) u.name ≡ true)) (λ u. (k : ℕ) → Means (unit_part k u))
-      (λ u good facts k before. (ap (λ (e : OperatingUnit). int_lt e.upper e.lower) (facts.0 k) ∙ good.order, (refl, (ap not facts.1, (refl, tt)))))
-      p.units is.units (each-both (λ u. (k : ℕ) → unit_read P u.name (fields_of (unit_part k u)) ≡ u) (λ u. is_among (names_in Rates P) u.name ≡ true) (λ u. ((k : ℕ) → unit_read P u.name (fields_of (unit_part k u)) ≡ u) × (is_among (names_in Rates P) u.name ≡ true)) (λ u one two. (one, two)) p.units units_back listed)
+  units_mean = each-both (IsWellFormedUnit (length (material_names p.materials))) (λ u. ((k : ℕ) → unit_read P u.name (fields_of (unit_part k u)) ≡ u) × (is_among (names_in Rates P) u.name ≡ true)) (λ u. (k : ℕ) → Means (unit_part k u))
+      (λ u good facts k before. (ap (λ (e : OperatingUnit). int_lt e.upper e.lower) (facts.0 k) ∙ good.bounds.ordered, (refl, (ap not facts.1, (refl, tt)))))
+      p.units (units_named p is) (each-both (λ u. (k : ℕ) → unit_read P u.name (fields_of (unit_part k u)) ≡ u) (λ u. is_among (names_in Rates P) u.name ≡ true) (λ u. ((k : ℕ) → unit_read P u.name (fields_of (unit_part k u)) ≡ u) × (is_among (names_in Rates P) u.name ≡ true)) (λ u one two. (one, two)) p.units units_back listed)
 
-  known : (terms : List Term) → Each (GoodTerm (length (material_names p.materials))) terms → Each (λ term. not (is_among (names_in Materials P) (material_of term)) ≡ false) (map (term_tokens (material_names p.materials)) terms)
+  known : (terms : List Term) → Each (IsWellFormedTerm (length (material_names p.materials))) terms → Each (λ term. not (is_among (names_in Materials P) (material_of term)) ≡ false) (map (term_tokens (material_names p.materials)) terms)
   known terms goods = each-map (λ term. not (is_among (names_in Materials P) (material_of term)) ≡ false) (term_tokens (material_names p.materials)) terms
-      (each-to (GoodTerm (length (material_names p.materials))) (λ t. not (is_among (names_in Materials P) (material_of (term_tokens (material_names p.materials) t))) ≡ false)
+      (each-to (IsWellFormedTerm (length (material_names p.materials))) (λ t. not (is_among (names_in Materials P) (material_of (term_tokens (material_names p.materials) t))) ≡ false)
       (λ t good. ap not
       (ap (λ (text : List ℕ). is_among (names_in Materials P) text) (material_of_term (material_names p.materials) t)
       ∙ ap (λ (ns : List (List ℕ)). is_among ns (name_at (material_names p.materials) t.material)) material_names_are
-      ∙ name_at_each (λ name. is_among (material_names p.materials) name ≡ true) (material_names p.materials) t.material (among_self (material_names p.materials)) good.material)) terms goods)
+      ∙ name_at_each (λ name. is_among (material_names p.materials) name ≡ true) (material_names p.materials) t.material (among_self (material_names p.materials)) good.known)) terms goods)
 
   rates_mean : Each (λ u. (k : ℕ) → Means (rates_part (material_names p.materials) k u)) p.units
-  rates_mean = each-both (GoodUnit (length (material_names p.materials))) (λ u. is_among (names_in OperatingUnits P) u.name ≡ true) (λ u. (k : ℕ) → Means (rates_part (material_names p.materials) k u))
+  rates_mean = each-both (IsWellFormedUnit (length (material_names p.materials))) (λ u. is_among (names_in OperatingUnits P) u.name ≡ true) (λ u. (k : ℕ) → Means (rates_part (material_names p.materials) k u))
       (λ u good among k before. (
         and_left _ _ (ap not among),
         (
           none_from_each (λ term. not (is_among (names_in Materials P) (material_of term))) (map (term_tokens (material_names p.materials)) u.inputs ++ (map (term_tokens (material_names p.materials)) u.outputs ++ []))
-              (each-append (λ term. not (is_among (names_in Materials P) (material_of term)) ≡ false) (map (term_tokens (material_names p.materials)) u.inputs) (map (term_tokens (material_names p.materials)) u.outputs ++ []) (known u.inputs good.inputs.terms)
-              (each-append (λ term. not (is_among (names_in Materials P) (material_of term)) ≡ false) (map (term_tokens (material_names p.materials)) u.outputs) [] (known u.outputs good.outputs.terms) tt)),
+              (each-append (λ term. not (is_among (names_in Materials P) (material_of term)) ≡ false) (map (term_tokens (material_names p.materials)) u.inputs) (map (term_tokens (material_names p.materials)) u.outputs ++ []) (known u.inputs good.inputs.terms_formed)
+              (each-append (λ term. not (is_among (names_in Materials P) (material_of term)) ≡ false) (map (term_tokens (material_names p.materials)) u.outputs) [] (known u.outputs good.outputs.terms_formed) tt)),
           (refl, (refl, tt)),
         ),
       ))
-      p.units is.units listed_units
+      p.units (units_named p is) listed_units
 
   exclusions_mean : Each (λ e. (k : ℕ) → Means (exclusion_part (unit_names p.units) k e)) p.exclusions
-  exclusions_mean = each-to (GoodExclusion (length (unit_names p.units))) (λ e. (k : ℕ) → Means (exclusion_part (unit_names p.units) k e))
+  exclusions_mean = each-to (IsWellFormedExclusion (length (unit_names p.units))) (λ e. (k : ℕ) → Means (exclusion_part (unit_names p.units) k e))
       (λ e good k before. (
         refl,
         (
@@ -263,13 +265,13 @@ module _ (p : Problem) (is : GoodProblem p) (a b c d : ℕ) where
                   (each-map (λ item. not (is_among (unit_names_in P) item) ≡ false) (name_at (unit_names p.units)) e.units
                   (each-to (λ j. j < length (unit_names p.units)) (λ j. not (is_among (unit_names_in P) (name_at (unit_names p.units) j)) ≡ false)
                   (λ j lt. ap not (ap (λ (ns : List (List ℕ)). is_among ns (name_at (unit_names p.units) j)) all_names_are ∙ name_at_each (λ name. is_among (unit_names p.units) name ≡ true) (unit_names p.units) j (among_self (unit_names p.units)) lt))
-                  e.units (rising_within 0 (length (unit_names p.units)) e.units good.rising))),
+                  e.units (rising_within (length (unit_names p.units)) 0 e.units good.rising))),
               tt,
             ),
           ),
         ),
       ))
-      p.exclusions is.exclusions
+      p.exclusions (exclusions_named p is)
 
   exclusion_parts_mean : (n : ℕ) (es : List Exclusion) → Each (λ e. (k : ℕ) → Means (exclusion_part (unit_names p.units) k e)) es → Each Means (exclusion_parts (unit_names p.units) n es)
   exclusion_parts_mean n [] each = tt
@@ -296,13 +298,13 @@ module _ (p : Problem) (is : GoodProblem p) (a b c d : ℕ) where
 
   pub no_meaning_fault : (texts : List (List ℕ)) → meaning_fault texts P ≡ None
   no_meaning_fault texts =
-      let product : list_any (λ (m : Material). is_product m.kind) (problem_of P).materials ≡ true = ap (list_any (λ (m : Material). is_product m.kind)) materials_are ∙ is.some_product in
+      let product : list_any (λ (m : Material). is_product m.kind) (problem_of P).materials ≡ true = ap (list_any (λ (m : Material). is_product m.kind)) materials_are ∙ is.with_product in
       ap (λ (o : Option Fault). elim o as (λ _. Option Fault) [ Some fault ↦ Some fault | None ↦ if list_any (λ (m : Material). is_product m.kind) (problem_of P).materials then None else Some (length texts + 1, NoProduct) ])
       (clear-none (stands_in P) meaning_kinds [] P (clear_from [] P all_mean))
       ∙ cond-true _ None (Some (length texts + 1, NoProduct)) product
 
 -- the canonical text of a problem whose items are good reads as that problem
-good_reads : (p : Problem) → GoodProblem p → read_text (canonical p) ≡ Ok p
+good_reads : (p : Problem) → IsWellFormed p → read_text (canonical p) ≡ Ok p
 good_reads p is = ap read_lines (canonical_read p is) ∙ from (canonical_parts p is) where
   from : ((a b c d : ℕ) × (parts_of (canonical_lines p) ≡ parts_at p a b c d)) → read_lines (canonical_lines p) ≡ Ok p
   from found =
@@ -316,4 +318,4 @@ good_reads p is = ap read_lines (canonical_read p is) ∙ from (canonical_parts 
 
 -- the canonical text of a valid problem reads as that problem
 pub canonical_reads : (p : Problem) → IsValid p → read_text (canonical p) ≡ Ok p
-canonical_reads p valid = good_reads p (good_problem p valid)
+canonical_reads p valid = good_reads p (well_formed_from_valid p valid)

@@ -7,7 +7,8 @@ use Rattle.text_rules.specs.declared.TextKind.{TextKind}
 use Rattle.text_rules.specs.Amount.{amount_of}
 use Rattle.text_rules.specs.Field.{Line}
 use Rattle.text_rules.specs.Fault.{Fault, first_of, is_bad, is_too_fine, is_too_large, millionths, may_be_negative}
-use Rattle.text_laws.proofs.Each.{Each, none_from_each, each-to}
+use Rattle.problem_rules.specs.Each.{Each}
+use Rattle.text_laws.proofs.Each.{none_from_each, each-to}
 use Rattle.text_laws.proofs.CanonicalParts.{numbered}
 
 -- the lines before, the last first, after more of them

@@ -1,5 +1,5 @@
 -- Names, numbers and settings are found again in the lines of a canonical text.
-use Rattle.std.proofs.Common.{◌≡◌, ◌<◌, ◌≤◌, ◌+◌, ◌||◌, ◌==◌, Bool, true, false, not, ℕ, zero, suc, List, [], ◌∷◌, length, map, filter, bytes_eq, find, position, Option, Some, None, unwrap_or, Result, ℤ, pos, unsigned_abs, refl, sym, ◌∙◌, ap, arith, if◌then◌else◌, eqb-true, ltb-true, leb-true, lt-ltb, ne_eqb, eq-eqb, one-add, ⊎_elim, le-leb, nat_lt}
+use Rattle.std.proofs.Common.{◌≡◌, ◌<◌, ◌≤◌, ◌+◌, ◌||◌, ◌==◌, Bool, true, false, not, ℕ, zero, suc, List, [], ◌∷◌, length, map, filter, bytes_eq, find, position, Option, Some, None, unwrap_or, Result, ℤ, pos, unsigned_abs, refl, sym, ◌∙◌, ap, arith, if◌then◌else◌, eqb-true, ltb-true, leb-true, lt-ltb, ne_eqb, eq-eqb, one-add, ⊎_elim, le-leb, nat_lt, subst}
 use Rattle.std.specs.List.{position_or_len}
 use Rattle.std.specs.Result.{result_unwrap_or}
 use Rattle.std.proofs.lemmas.Bool.{cond_both, cond-true, cond-false, and_parts, or_parts, or_left, or_right, cases_Bool, true≢false, or_cases, and_from}
@@ -11,12 +11,14 @@ use Rattle.text_rules.specs.Field.{Line, material_of, rate_of}
 use Rattle.text_rules.specs.Fault.{millionths}
 use Rattle.text_rules.specs.Value.{term_read, numbers_among}
 use Rattle.text_rules.specs.Canonical.{name_at, term_tokens}
-use Rattle.text_laws.proofs.Good.{has_number, is_rising, GoodTerm}
+use Rattle.problem_rules.specs.WellFormed.{IsWellFormedTerm, AreRisingFrom}
 use Rattle.text_laws.proofs.PrintedAmount.{amounts_read_back}
-use Rattle.text_laws.proofs.Each.{Each, each-both, each-unmap, none_each}
+use Rattle.problem_rules.specs.Each.{Each}
+use Rattle.text_laws.proofs.Each.{each-both, each-unmap, none_each}
 use Rattle.text_laws.proofs.CanonicalParts.{numbered}
+use Rattle.text_laws.proofs.Numbers.{has_number, rising_none, rising_within}
 use Rattle.text_laws.proofs.Names.{bytes_same, bytes_differ}
-use Rattle.text_laws.proofs.RatesLines.{name_at_apart, among_numbers, one_rate, material_of_term, rising_none, rising_within}
+use Rattle.text_laws.proofs.RatesLines.{name_at_apart, among_numbers, one_rate, material_of_term}
 
 -- the line of each name is found
 abbrev pub IsFound : {A : Type 0} → (A → List ℕ) → (ℕ → A → Line) → List Line → A → Type 0
@@ -60,17 +62,17 @@ position_of names k off lt =
     ∙ cond-true (nat_lt k (length names)) (Some k) None (lt-ltb k (length names) lt)
 
 -- a term is read back
-pub term_back : (names : List (List ℕ)) → has_double names ≡ false → (t : Term) → GoodTerm (length names) t → term_read names (term_tokens names t) ≡ t
+pub term_back : (names : List (List ℕ)) → has_double names ≡ false → (t : Term) → IsWellFormedTerm (length names) t → term_read names (term_tokens names t) ≡ t
 term_back names off t good =
     let number : ℕ = unwrap_or (position (λ name. bytes_eq name (material_of (term_tokens names t))) names) 0 in
-    let place : number ≡ t.material = ap (λ (text : List ℕ). unwrap_or (position (λ name. bytes_eq name text) names) 0) (material_of_term names t) ∙ ap (λ (o : Option ℕ). unwrap_or o 0) (position_of names t.material off good.material) in
+    let place : number ≡ t.material = ap (λ (text : List ℕ). unwrap_or (position (λ name. bytes_eq name text) names) 0) (material_of_term names t) ∙ ap (λ (o : Option ℕ). unwrap_or o 0) (position_of names t.material off good.known) in
     let rate : millionths (rate_of (term_tokens names t)) ≡ t.rate =
     cond_both (unsigned_abs t.rate == 1000000) (name_at names t.material ∷ []) (amount_bytes t.rate ∷ name_at names t.material ∷ []) (λ ts. millionths (rate_of ts) ≡ t.rate)
-    (λ e. sym (one_rate t.rate good.sign e)) (λ e. ap (λ (r : Result ℤ TextKind). result_unwrap_or r (pos 0)) (amounts_read_back t.rate good.size)) in
+    (λ e. sym (one_rate t.rate good.positive e)) (λ e. ap (λ (r : Result ℤ TextKind). result_unwrap_or r (pos 0)) (amounts_read_back t.rate good.in_range)) in
     ap (λ (k : ℕ). let e : Term = record { material = k; rate = millionths (rate_of (term_tokens names t)) } in e) place
     ∙ ap (λ (z : ℤ). let e : Term = record { material = t.material; rate = z } in e) rate
 
-pub terms_back : (names : List (List ℕ)) → has_double names ≡ false → (terms : List Term) → Each (GoodTerm (length names)) terms → map (term_read names) (map (term_tokens names) terms) ≡ terms
+pub terms_back : (names : List (List ℕ)) → has_double names ≡ false → (terms : List Term) → Each (IsWellFormedTerm (length names)) terms → map (term_read names) (map (term_tokens names) terms) ≡ terms
 terms_back names off [] goods = refl
 terms_back names off (t ∷ terms) goods =
     ap (λ (e : Term). e ∷ map (term_read names) (map (term_tokens names) terms)) (term_back names off t goods.0)
@@ -92,29 +94,27 @@ pick_none k zero = refl
 pick_none k (suc n) = pick_none (k + 1) n
 
 -- numbers that rise are those that pass
-pick_rising : (k n top : ℕ) (ks : List ℕ) → top ≡ k + n → is_rising k top ks ≡ true → pick (λ j. has_number j ks) k n ≡ ks
+pick_rising : (k n top : ℕ) (ks : List ℕ) → top ≡ k + n → AreRisingFrom top k ks → pick (λ j. has_number j ks) k n ≡ ks
 pick_rising k n top [] e rising = pick_none k n
 pick_rising k zero top (h ∷ ks) e rising =
-    let parts = and_parts _ (is_rising (suc h) top ks) rising in
-    let first = and_parts _ _ parts.0 in
-    absurd (omega (arith, leb-true k h first.0, ltb-true h top first.1))
+    let le : k ≤ h = rising.0 in
+    let lt : h < top = rising.1 in
+    absurd (omega arith)
 pick_rising k (suc n) top (h ∷ ks) e rising =
-    let parts = and_parts _ (is_rising (suc h) top ks) rising in
-    let first = and_parts _ _ parts.0 in
-    let le : k ≤ h = leb-true k h first.0 in
-    let lt : h < top = ltb-true h top first.1 in
+    let le : k ≤ h = rising.0 in
+    let lt : h < top = rising.1 in
     ⊎_elim
     (λ (same : (h == k) ≡ true).
     let eq : h ≡ k = eqb-true h k same in
     cond-true (has_number k (h ∷ ks)) (k ∷ pick (λ j. has_number j (h ∷ ks)) (k + 1) n) (pick (λ j. has_number j (h ∷ ks)) (k + 1) n) (or_left (h == k) (has_number k ks) same)
     ∙ ap (λ rest. k ∷ rest) (pick_same (λ j. has_number j (h ∷ ks)) (λ j. has_number j ks) (k + 1) n (λ j le. ap (λ b. b || has_number j ks) (ne_eqb h j (λ e. absurd (omega arith)))))
-    ∙ ap (λ rest. k ∷ rest) (pick_rising (k + 1) n top ks (omega arith) (ap (λ m. is_rising m top ks) (omega arith) ∙ parts.1))
+    ∙ ap (λ rest. k ∷ rest) (pick_rising (k + 1) n top ks (omega arith) (subst (λ m. AreRisingFrom top (m + 1) ks) eq rising.2))
     ∙ ap (λ m. m ∷ ks) (sym eq))
     (λ (other : (h == k) ≡ false).
     let ne : h ≡ k → ⊥ = λ eq. true≢false (sym (eq-eqb h k eq) ∙ other) in
-    cond-false (has_number k (h ∷ ks)) (k ∷ pick (λ j. has_number j (h ∷ ks)) (k + 1) n) (pick (λ j. has_number j (h ∷ ks)) (k + 1) n)
-    (rising_none k (k + 1) top (h ∷ ks) (omega arith) (and_from _ _ (and_from _ _ (le-leb (k + 1) h (omega (arith, ne))) first.1) parts.1))
-    ∙ pick_rising (k + 1) n top (h ∷ ks) (omega arith) (and_from _ _ (and_from _ _ (le-leb (k + 1) h (omega (arith, ne))) first.1) parts.1))
+    let above : AreRisingFrom top (k + 1) (h ∷ ks) = (omega (arith, ne), lt, rising.2) in
+    cond-false (has_number k (h ∷ ks)) (k ∷ pick (λ j. has_number j (h ∷ ks)) (k + 1) n) (pick (λ j. has_number j (h ∷ ks)) (k + 1) n) (rising_none k top (k + 1) (h ∷ ks) (omega arith) above)
+    ∙ pick_rising (k + 1) n top (h ∷ ks) (omega arith) above)
     (cases_Bool (h == k))
 
 -- the numbers of the names that are among the words
@@ -131,10 +131,10 @@ has_among names (j ∷ ks) k has = ⊎_elim
     (λ (rest : has_number k ks ≡ true). or_right _ _ (has_among names ks k rest))
     (or_cases (j == k) (has_number k ks) has)
 
-pub members_back : (names : List (List ℕ)) (ks : List ℕ) → has_double names ≡ false → is_rising 0 (length names) ks ≡ true → numbers_among (map (name_at names) ks) 0 names ≡ ks
+pub members_back : (names : List (List ℕ)) (ks : List ℕ) → has_double names ≡ false → AreRisingFrom (length names) 0 ks → numbers_among (map (name_at names) ks) 0 names ≡ ks
 members_back names ks off rising =
     among_pick (map (name_at names) ks) (λ j. has_number j ks) 0 names (λ i lt. says i lt (has_number i ks) refl ∙ ap (λ j. has_number j ks) (omega arith))
     ∙ pick_rising 0 (length names) (length names) ks (omega arith) rising where
       says : (i : ℕ) → i < length names → (b : Bool) → has_number i ks ≡ b → is_among (map (name_at names) ks) (name_at names i) ≡ has_number i ks
       says i lt true has = has_among names ks i has ∙ sym has
-      says i lt false has = among_numbers names off ks i (rising_within 0 (length names) ks rising) lt has ∙ sym has
+      says i lt false has = among_numbers names off ks i (rising_within (length names) 0 ks rising) lt has ∙ sym has

@@ -14,10 +14,12 @@ use Rattle.text_rules.specs.Field.{Line, lines_in, names_in, numbers_of, sides_o
 use Rattle.text_rules.specs.Fault.{stands, form_kinds, may_be_negative, millionths, is_payout}
 use Rattle.text_rules.specs.Canonical.{material_items, unit_items, is_zero, field, field_unless_zero, item_line}
 use Rattle.text_laws.proofs.PrintedAmount.{amounts_read_back}
-use Rattle.text_laws.proofs.Each.{Each, each-to, none_from_each}
+use Rattle.problem_rules.specs.Each.{Each}
+use Rattle.text_laws.proofs.Each.{each-to, none_from_each}
 use Rattle.text_laws.proofs.Cuts.{trim_none}
 use Rattle.text_laws.proofs.Pieces.{IsPiece, word_piece, amount_word, piece_none, no_blank}
-use Rattle.text_laws.proofs.Good.{GoodBound, GoodMaterial, GoodUnit, material_pieces}
+use Rattle.problem_rules.specs.WellFormed.{IsBound, IsWellFormedMaterial, IsWellFormedUnit}
+use Rattle.text_laws.proofs.PrintedItems.{material_pieces}
 use Rattle.text_laws.proofs.CanonicalParts.{material_part, unit_part, payout_part, piece_long, header_part}
 use Rattle.text_laws.proofs.Clear.{GoodNumber, numbers_bad, numbers_fine, numbers_large, numbers_negative}
 
@@ -27,43 +29,43 @@ amount_trimmed z small = ap amount_of (trim_none (amount_bytes z) (piece_none is
 pub no_empty : (items : List (List ℕ)) → Each IsPiece items → list_any (λ item. length item == 0) items ≡ false
 no_empty items pieces = none_from_each (λ item. length item == 0) items (each-to IsPiece (λ item. (length item == 0) ≡ false) piece_long items pieces)
 
-bound_field : (key : List ℕ) (z : ℤ) → GoodBound z → GoodNumber (key, trim (amount_bytes z))
-bound_field key z good = record { amount = z; reads = amount_trimmed z good.size; sign = and_left (int_lt z (pos 0)) (not (may_be_negative key)) good.sign }
+bound_field : (key : List ℕ) (z : ℤ) → IsBound z → GoodNumber (key, trim (amount_bytes z))
+bound_field key z good = record { amount = z; reads = amount_trimmed z good.in_range; sign = and_left (int_lt z (pos 0)) (not (may_be_negative key)) good.not_negative }
 
 free_field : (key : List ℕ) (z : ℤ) → may_be_negative key ≡ true → unsigned_abs z ≤ amount_limit → GoodNumber (key, trim (amount_bytes z))
 free_field key z may small = record { amount = z; reads = amount_trimmed z small; sign = and_right (int_lt z (pos 0)) (not (may_be_negative key)) (ap not may) }
 
 clear-raw : (before : List Line) (n : ℕ) (name : List ℕ) (price lower upper : ℤ) → let m : Material = record { name = name; kind = raw_material; price = price; lower = lower; upper = upper } in
-    GoodMaterial m → is_among (names_in Materials before) name ≡ false → length (lines_in Materials before) < 256 → Each (λ kind. stands before (material_part n m) kind ≡ false) form_kinds
+    IsWellFormedMaterial m → is_among (names_in Materials before) name ≡ false → length (lines_in Materials before) < 256 → Each (λ kind. stands before (material_part n m) kind ≡ false) form_kinds
 clear-raw before n name price lower upper good fresh few =
     let m : Material = record { name = name; kind = raw_material; price = price; lower = lower; upper = upper } in
     let fields : List (List ℕ × List ℕ) = numbers_of (material_part n m) in
-    let numbers : Each GoodNumber fields = (free_field (codes "price") price refl good.price, (bound_field (codes "flow_rate_lower_bound") lower good.lower, (bound_field (codes "flow_rate_upper_bound") upper good.upper, tt))) in
-    (refl, (refl, (no_empty (material_items m) (material_pieces m good), (ap (λ b. not b || false || false) good.name, (refl, (refl, (numbers_bad fields numbers, (numbers_fine fields numbers, (numbers_large fields numbers, (numbers_negative fields numbers, (refl, (refl, (refl, (refl, (refl, (fresh, (refl, (refl, (lt-leb 256 (length (lines_in Materials before)) few, (refl, (refl, (refl, (refl, tt)))))))))))))))))))))))
+    let numbers : Each GoodNumber fields = (free_field (codes "price") price refl good.price_in_range, (bound_field (codes "flow_rate_lower_bound") lower good.bounds.lower_bound, (bound_field (codes "flow_rate_upper_bound") upper good.bounds.upper_bound, tt))) in
+    (refl, (refl, (no_empty (material_items m) (material_pieces m good), (ap (λ b. not b || false || false) good.named, (refl, (refl, (numbers_bad fields numbers, (numbers_fine fields numbers, (numbers_large fields numbers, (numbers_negative fields numbers, (refl, (refl, (refl, (refl, (refl, (fresh, (refl, (refl, (lt-leb 256 (length (lines_in Materials before)) few, (refl, (refl, (refl, (refl, tt)))))))))))))))))))))))
 
 clear-intermediate : (before : List Line) (n : ℕ) (name : List ℕ) (price lower upper : ℤ) → let m : Material = record { name = name; kind = intermediate; price = price; lower = lower; upper = upper } in
-    GoodMaterial m → is_among (names_in Materials before) name ≡ false → length (lines_in Materials before) < 256 → Each (λ kind. stands before (material_part n m) kind ≡ false) form_kinds
+    IsWellFormedMaterial m → is_among (names_in Materials before) name ≡ false → length (lines_in Materials before) < 256 → Each (λ kind. stands before (material_part n m) kind ≡ false) form_kinds
 clear-intermediate before n name price lower upper good fresh few =
     let m : Material = record { name = name; kind = intermediate; price = price; lower = lower; upper = upper } in
     let fields : List (List ℕ × List ℕ) = numbers_of (material_part n m) in
-    let numbers : Each GoodNumber fields = (free_field (codes "price") price refl good.price, (bound_field (codes "flow_rate_lower_bound") lower good.lower, (bound_field (codes "flow_rate_upper_bound") upper good.upper, tt))) in
-    (refl, (refl, (no_empty (material_items m) (material_pieces m good), (ap (λ b. not b || false || false) good.name, (refl, (refl, (numbers_bad fields numbers, (numbers_fine fields numbers, (numbers_large fields numbers, (numbers_negative fields numbers, (refl, (refl, (refl, (refl, (refl, (fresh, (refl, (refl, (lt-leb 256 (length (lines_in Materials before)) few, (refl, (refl, (refl, (refl, tt)))))))))))))))))))))))
+    let numbers : Each GoodNumber fields = (free_field (codes "price") price refl good.price_in_range, (bound_field (codes "flow_rate_lower_bound") lower good.bounds.lower_bound, (bound_field (codes "flow_rate_upper_bound") upper good.bounds.upper_bound, tt))) in
+    (refl, (refl, (no_empty (material_items m) (material_pieces m good), (ap (λ b. not b || false || false) good.named, (refl, (refl, (numbers_bad fields numbers, (numbers_fine fields numbers, (numbers_large fields numbers, (numbers_negative fields numbers, (refl, (refl, (refl, (refl, (refl, (fresh, (refl, (refl, (lt-leb 256 (length (lines_in Materials before)) few, (refl, (refl, (refl, (refl, tt)))))))))))))))))))))))
 
 clear-product : (before : List Line) (n : ℕ) (name : List ℕ) (price lower upper : ℤ) → let m : Material = record { name = name; kind = product; price = price; lower = lower; upper = upper } in
-    GoodMaterial m → is_among (names_in Materials before) name ≡ false → length (lines_in Materials before) < 256 → Each (λ kind. stands before (material_part n m) kind ≡ false) form_kinds
+    IsWellFormedMaterial m → is_among (names_in Materials before) name ≡ false → length (lines_in Materials before) < 256 → Each (λ kind. stands before (material_part n m) kind ≡ false) form_kinds
 clear-product before n name price lower upper good fresh few =
     let m : Material = record { name = name; kind = product; price = price; lower = lower; upper = upper } in
     let fields : List (List ℕ × List ℕ) = numbers_of (material_part n m) in
-    let numbers : Each GoodNumber fields = (free_field (codes "price") price refl good.price, (bound_field (codes "flow_rate_lower_bound") lower good.lower, (bound_field (codes "flow_rate_upper_bound") upper good.upper, tt))) in
-    (refl, (refl, (no_empty (material_items m) (material_pieces m good), (ap (λ b. not b || false || false) good.name, (refl, (refl, (numbers_bad fields numbers, (numbers_fine fields numbers, (numbers_large fields numbers, (numbers_negative fields numbers, (refl, (refl, (refl, (refl, (refl, (fresh, (refl, (refl, (lt-leb 256 (length (lines_in Materials before)) few, (refl, (refl, (refl, (refl, tt)))))))))))))))))))))))
+    let numbers : Each GoodNumber fields = (free_field (codes "price") price refl good.price_in_range, (bound_field (codes "flow_rate_lower_bound") lower good.bounds.lower_bound, (bound_field (codes "flow_rate_upper_bound") upper good.bounds.upper_bound, tt))) in
+    (refl, (refl, (no_empty (material_items m) (material_pieces m good), (ap (λ b. not b || false || false) good.named, (refl, (refl, (numbers_bad fields numbers, (numbers_fine fields numbers, (numbers_large fields numbers, (numbers_negative fields numbers, (refl, (refl, (refl, (refl, (refl, (fresh, (refl, (refl, (lt-leb 256 (length (lines_in Materials before)) few, (refl, (refl, (refl, (refl, tt)))))))))))))))))))))))
 
-pub material_clear : (before : List Line) (n : ℕ) (m : Material) → GoodMaterial m → is_among (names_in Materials before) m.name ≡ false → length (lines_in Materials before) < 256
+pub material_clear : (before : List Line) (n : ℕ) (m : Material) → IsWellFormedMaterial m → is_among (names_in Materials before) m.name ≡ false → length (lines_in Materials before) < 256
     → Each (λ kind. stands before (material_part n m) kind ≡ false) form_kinds
 material_clear before n m good fresh few = from m.kind refl where
   from : (kind : Kind) → kind ≡ m.kind → Each (λ kind. stands before (material_part n m) kind ≡ false) form_kinds
   from kind e = subst (λ (k : Kind). Each (λ kind. stands before (material_part n (record { name = m.name; kind = k; price = m.price; lower = m.lower; upper = m.upper })) kind ≡ false) form_kinds) e
-      (at kind (record { name = good.name; price = good.price; lower = good.lower; upper = good.upper; order = good.order })) where
-        at : (kind : Kind) → GoodMaterial (record { name = m.name; kind = kind; price = m.price; lower = m.lower; upper = m.upper }) → Each (λ k. stands before (material_part n (record { name = m.name; kind = kind; price = m.price; lower = m.lower; upper = m.upper })) k ≡ false) form_kinds
+      (at kind (record { named = good.named; price_in_range = good.price_in_range; bounds = good.bounds })) where
+        at : (kind : Kind) → IsWellFormedMaterial (record { name = m.name; kind = kind; price = m.price; lower = m.lower; upper = m.upper }) → Each (λ k. stands before (material_part n (record { name = m.name; kind = kind; price = m.price; lower = m.lower; upper = m.upper })) k ≡ false) form_kinds
         at raw_material good' = clear-raw before n m.name m.price m.lower m.upper good' fresh few
         at intermediate good' = clear-intermediate before n m.name m.price m.lower m.upper good' fresh few
         at product good' = clear-product before n m.name m.price m.lower m.upper good' fresh few
@@ -103,35 +105,35 @@ unit_with n u one two = record {
   sides = sides_of (item_line u.name (unit_items u));
 }
 
-clear-00 : (before : List Line) (n count : ℕ) (u : OperatingUnit) → GoodUnit count u → is_among (names_in OperatingUnits before) u.name ≡ false
+clear-00 : (before : List Line) (n count : ℕ) (u : OperatingUnit) → IsWellFormedUnit count u → is_among (names_in OperatingUnits before) u.name ≡ false
     → length (distinct (names_in OperatingUnits before ++ names_in Rates before)) < 128 → Each (λ kind. stands before (unit_with n u [] []) kind ≡ false) form_kinds
 clear-00 before n count u good fresh few =
     let fields : List (List ℕ × List ℕ) = numbers_of (unit_with n u [] []) in
-    let numbers : Each GoodNumber fields = (bound_field (codes "capacity_lower_bound") u.lower good.lower, (bound_field (codes "capacity_upper_bound") u.upper good.upper, (bound_field (codes "fix_cost") u.fix good.fix, (free_field (codes "proportional_cost") u.proportional refl good.proportional, tt)))) in
-    (refl, (refl, (refl, (ap (λ b. not b || false || false) good.name, (refl, (refl, (numbers_bad fields numbers, (numbers_fine fields numbers, (numbers_large fields numbers, (numbers_negative fields numbers, (refl, (refl, (refl, (refl, (refl, (refl, (fresh, (refl, (and_right _ _ (lt-leb 128 (length (distinct (names_in OperatingUnits before ++ names_in Rates before))) few), (refl, (refl, (refl, (refl, tt)))))))))))))))))))))))
+    let numbers : Each GoodNumber fields = (bound_field (codes "capacity_lower_bound") u.lower good.bounds.lower_bound, (bound_field (codes "capacity_upper_bound") u.upper good.bounds.upper_bound, (bound_field (codes "fix_cost") u.fix good.fix, (free_field (codes "proportional_cost") u.proportional refl good.proportional, tt)))) in
+    (refl, (refl, (refl, (ap (λ b. not b || false || false) good.named, (refl, (refl, (numbers_bad fields numbers, (numbers_fine fields numbers, (numbers_large fields numbers, (numbers_negative fields numbers, (refl, (refl, (refl, (refl, (refl, (refl, (fresh, (refl, (and_right _ _ (lt-leb 128 (length (distinct (names_in OperatingUnits before ++ names_in Rates before))) few), (refl, (refl, (refl, (refl, tt)))))))))))))))))))))))
 
-clear-01 : (before : List Line) (n count : ℕ) (u : OperatingUnit) → GoodUnit count u → is_among (names_in OperatingUnits before) u.name ≡ false
+clear-01 : (before : List Line) (n count : ℕ) (u : OperatingUnit) → IsWellFormedUnit count u → is_among (names_in OperatingUnits before) u.name ≡ false
     → length (distinct (names_in OperatingUnits before ++ names_in Rates before)) < 128 → Each (λ kind. stands before (unit_with n u [] (field (codes "investment_proportional_cost") (amount_bytes u.investment_proportional) ∷ [])) kind ≡ false) form_kinds
 clear-01 before n count u good fresh few =
     let fields : List (List ℕ × List ℕ) = numbers_of (unit_with n u [] (field (codes "investment_proportional_cost") (amount_bytes u.investment_proportional) ∷ [])) in
-    let numbers : Each GoodNumber fields = (bound_field (codes "capacity_lower_bound") u.lower good.lower, (bound_field (codes "capacity_upper_bound") u.upper good.upper, (bound_field (codes "fix_cost") u.fix good.fix, (free_field (codes "proportional_cost") u.proportional refl good.proportional, (free_field (codes "investment_proportional_cost") u.investment_proportional refl good.investment_proportional, tt))))) in
-    (refl, (refl, (refl, (ap (λ b. not b || false || false) good.name, (refl, (refl, (numbers_bad fields numbers, (numbers_fine fields numbers, (numbers_large fields numbers, (numbers_negative fields numbers, (refl, (refl, (refl, (refl, (refl, (refl, (fresh, (refl, (and_right _ _ (lt-leb 128 (length (distinct (names_in OperatingUnits before ++ names_in Rates before))) few), (refl, (refl, (refl, (refl, tt)))))))))))))))))))))))
+    let numbers : Each GoodNumber fields = (bound_field (codes "capacity_lower_bound") u.lower good.bounds.lower_bound, (bound_field (codes "capacity_upper_bound") u.upper good.bounds.upper_bound, (bound_field (codes "fix_cost") u.fix good.fix, (free_field (codes "proportional_cost") u.proportional refl good.proportional, (free_field (codes "investment_proportional_cost") u.investment_proportional refl good.investment_proportional, tt))))) in
+    (refl, (refl, (refl, (ap (λ b. not b || false || false) good.named, (refl, (refl, (numbers_bad fields numbers, (numbers_fine fields numbers, (numbers_large fields numbers, (numbers_negative fields numbers, (refl, (refl, (refl, (refl, (refl, (refl, (fresh, (refl, (and_right _ _ (lt-leb 128 (length (distinct (names_in OperatingUnits before ++ names_in Rates before))) few), (refl, (refl, (refl, (refl, tt)))))))))))))))))))))))
 
-clear-10 : (before : List Line) (n count : ℕ) (u : OperatingUnit) → GoodUnit count u → is_among (names_in OperatingUnits before) u.name ≡ false
+clear-10 : (before : List Line) (n count : ℕ) (u : OperatingUnit) → IsWellFormedUnit count u → is_among (names_in OperatingUnits before) u.name ≡ false
     → length (distinct (names_in OperatingUnits before ++ names_in Rates before)) < 128 → Each (λ kind. stands before (unit_with n u (field (codes "investment_fix_cost") (amount_bytes u.investment_fix) ∷ []) []) kind ≡ false) form_kinds
 clear-10 before n count u good fresh few =
     let fields : List (List ℕ × List ℕ) = numbers_of (unit_with n u (field (codes "investment_fix_cost") (amount_bytes u.investment_fix) ∷ []) []) in
-    let numbers : Each GoodNumber fields = (bound_field (codes "capacity_lower_bound") u.lower good.lower, (bound_field (codes "capacity_upper_bound") u.upper good.upper, (bound_field (codes "fix_cost") u.fix good.fix, (free_field (codes "proportional_cost") u.proportional refl good.proportional, (bound_field (codes "investment_fix_cost") u.investment_fix good.investment_fix, tt))))) in
-    (refl, (refl, (refl, (ap (λ b. not b || false || false) good.name, (refl, (refl, (numbers_bad fields numbers, (numbers_fine fields numbers, (numbers_large fields numbers, (numbers_negative fields numbers, (refl, (refl, (refl, (refl, (refl, (refl, (fresh, (refl, (and_right _ _ (lt-leb 128 (length (distinct (names_in OperatingUnits before ++ names_in Rates before))) few), (refl, (refl, (refl, (refl, tt)))))))))))))))))))))))
+    let numbers : Each GoodNumber fields = (bound_field (codes "capacity_lower_bound") u.lower good.bounds.lower_bound, (bound_field (codes "capacity_upper_bound") u.upper good.bounds.upper_bound, (bound_field (codes "fix_cost") u.fix good.fix, (free_field (codes "proportional_cost") u.proportional refl good.proportional, (bound_field (codes "investment_fix_cost") u.investment_fix good.investment_fix, tt))))) in
+    (refl, (refl, (refl, (ap (λ b. not b || false || false) good.named, (refl, (refl, (numbers_bad fields numbers, (numbers_fine fields numbers, (numbers_large fields numbers, (numbers_negative fields numbers, (refl, (refl, (refl, (refl, (refl, (refl, (fresh, (refl, (and_right _ _ (lt-leb 128 (length (distinct (names_in OperatingUnits before ++ names_in Rates before))) few), (refl, (refl, (refl, (refl, tt)))))))))))))))))))))))
 
-clear-11 : (before : List Line) (n count : ℕ) (u : OperatingUnit) → GoodUnit count u → is_among (names_in OperatingUnits before) u.name ≡ false
+clear-11 : (before : List Line) (n count : ℕ) (u : OperatingUnit) → IsWellFormedUnit count u → is_among (names_in OperatingUnits before) u.name ≡ false
     → length (distinct (names_in OperatingUnits before ++ names_in Rates before)) < 128 → Each (λ kind. stands before (unit_with n u (field (codes "investment_fix_cost") (amount_bytes u.investment_fix) ∷ []) (field (codes "investment_proportional_cost") (amount_bytes u.investment_proportional) ∷ [])) kind ≡ false) form_kinds
 clear-11 before n count u good fresh few =
     let fields : List (List ℕ × List ℕ) = numbers_of (unit_with n u (field (codes "investment_fix_cost") (amount_bytes u.investment_fix) ∷ []) (field (codes "investment_proportional_cost") (amount_bytes u.investment_proportional) ∷ [])) in
-    let numbers : Each GoodNumber fields = (bound_field (codes "capacity_lower_bound") u.lower good.lower, (bound_field (codes "capacity_upper_bound") u.upper good.upper, (bound_field (codes "fix_cost") u.fix good.fix, (free_field (codes "proportional_cost") u.proportional refl good.proportional, (bound_field (codes "investment_fix_cost") u.investment_fix good.investment_fix, (free_field (codes "investment_proportional_cost") u.investment_proportional refl good.investment_proportional, tt)))))) in
-    (refl, (refl, (refl, (ap (λ b. not b || false || false) good.name, (refl, (refl, (numbers_bad fields numbers, (numbers_fine fields numbers, (numbers_large fields numbers, (numbers_negative fields numbers, (refl, (refl, (refl, (refl, (refl, (refl, (fresh, (refl, (and_right _ _ (lt-leb 128 (length (distinct (names_in OperatingUnits before ++ names_in Rates before))) few), (refl, (refl, (refl, (refl, tt)))))))))))))))))))))))
+    let numbers : Each GoodNumber fields = (bound_field (codes "capacity_lower_bound") u.lower good.bounds.lower_bound, (bound_field (codes "capacity_upper_bound") u.upper good.bounds.upper_bound, (bound_field (codes "fix_cost") u.fix good.fix, (free_field (codes "proportional_cost") u.proportional refl good.proportional, (bound_field (codes "investment_fix_cost") u.investment_fix good.investment_fix, (free_field (codes "investment_proportional_cost") u.investment_proportional refl good.investment_proportional, tt)))))) in
+    (refl, (refl, (refl, (ap (λ b. not b || false || false) good.named, (refl, (refl, (numbers_bad fields numbers, (numbers_fine fields numbers, (numbers_large fields numbers, (numbers_negative fields numbers, (refl, (refl, (refl, (refl, (refl, (refl, (fresh, (refl, (and_right _ _ (lt-leb 128 (length (distinct (names_in OperatingUnits before ++ names_in Rates before))) few), (refl, (refl, (refl, (refl, tt)))))))))))))))))))))))
 
-pub unit_clear : (before : List Line) (n count : ℕ) (u : OperatingUnit) → GoodUnit count u → is_among (names_in OperatingUnits before) u.name ≡ false
+pub unit_clear : (before : List Line) (n count : ℕ) (u : OperatingUnit) → IsWellFormedUnit count u → is_among (names_in OperatingUnits before) u.name ≡ false
     → length (distinct (names_in OperatingUnits before ++ names_in Rates before)) < 128 → Each (λ kind. stands before (unit_part n u) kind ≡ false) form_kinds
 unit_clear before n count u good fresh few =
     let P : List (List ℕ) → List (List ℕ) → Type 0 = λ one two. Each (λ kind. stands before (unit_with n u one two) kind ≡ false) form_kinds in

@@ -11,7 +11,7 @@ use Rattle.text_rules.specs.Field.{Line, fields_of, left, right, for_unit}
 use Rattle.text_rules.specs.Fault.{millionths}
 use Rattle.text_rules.specs.Value.{material_read, unit_read, side_of, default_at}
 use Rattle.text_rules.specs.Canonical.{is_zero, field, field_unless_zero}
-use Rattle.text_laws.proofs.Good.{GoodMaterial, GoodUnit}
+use Rattle.problem_rules.specs.WellFormed.{IsWellFormedMaterial, IsWellFormedUnit}
 use Rattle.text_laws.proofs.CanonicalParts.{material_part, unit_part}
 use Rattle.text_laws.proofs.ItemLines.{amount_trimmed, unit_with}
 
@@ -44,8 +44,8 @@ same_unit e u name lower upper fix proportional investment_fix investment_propor
     ∙ ap (λ ts. make u.name u.lower u.upper u.fix u.proportional u.investment_fix u.investment_proportional u.inputs ts) outs
 
 -- a material's line
-pub material_back : (lines : List Line) (n : ℕ) (m : Material) → GoodMaterial m → material_read lines (material_part n m) ≡ m
-material_back lines n m good = at m.kind m.name m.price m.lower m.upper good.price good.lower.size good.upper.size where
+pub material_back : (lines : List Line) (n : ℕ) (m : Material) → IsWellFormedMaterial m → material_read lines (material_part n m) ≡ m
+material_back lines n m good = at m.kind m.name m.price m.lower m.upper good.price_in_range good.bounds.lower_bound.in_range good.bounds.upper_bound.in_range where
   of_kind : Kind → List ℕ → ℤ → ℤ → ℤ → Material
   of_kind kind name price lower upper = record { name = name; kind = kind; price = price; lower = lower; upper = upper }
 
@@ -61,18 +61,18 @@ zero_is (negsuc n) e = absurd (omega (arith, eqb-true (suc n) 0 e))
 
 -- a unit's line, with an investment cost that is printed or that the defaults leave at 0
 module _ (lines : List Line) (no_fix : default_at lines (for_unit (codes "investment_fix_cost")) (codes "0") ≡ codes "0") (no_proportional : default_at lines (for_unit (codes "investment_proportional_cost")) (codes "0") ≡ codes "0") where
-  pub unit_back : (n count : ℕ) (u : OperatingUnit) → GoodUnit count u → side_of left lines u.name ≡ u.inputs → side_of right lines u.name ≡ u.outputs → unit_read lines u.name (fields_of (unit_part n u)) ≡ u
+  pub unit_back : (n count : ℕ) (u : OperatingUnit) → IsWellFormedUnit count u → side_of left lines u.name ≡ u.inputs → side_of right lines u.name ≡ u.outputs → unit_read lines u.name (fields_of (unit_part n u)) ≡ u
   unit_back n count u good ins outs =
       let back : List (List ℕ) → List (List ℕ) → OperatingUnit = λ one two. unit_read lines u.name (fields_of (unit_with n u one two)) in
       let fix : List (List ℕ) = field (codes "investment_fix_cost") (amount_bytes u.investment_fix) ∷ [] in
       let proportional : List (List ℕ) = field (codes "investment_proportional_cost") (amount_bytes u.investment_proportional) ∷ [] in
-      let low : millionths (trim (amount_bytes u.lower)) ≡ u.lower = trimmed_value u.lower good.lower.size in
-      let high : millionths (trim (amount_bytes u.upper)) ≡ u.upper = trimmed_value u.upper good.upper.size in
-      let cost : millionths (trim (amount_bytes u.fix)) ≡ u.fix = trimmed_value u.fix good.fix.size in
+      let low : millionths (trim (amount_bytes u.lower)) ≡ u.lower = trimmed_value u.lower good.bounds.lower_bound.in_range in
+      let high : millionths (trim (amount_bytes u.upper)) ≡ u.upper = trimmed_value u.upper good.bounds.upper_bound.in_range in
+      let cost : millionths (trim (amount_bytes u.fix)) ≡ u.fix = trimmed_value u.fix good.fix.in_range in
       let rate : millionths (trim (amount_bytes u.proportional)) ≡ u.proportional = trimmed_value u.proportional good.proportional in
       let no_cost : is_zero u.investment_fix ≡ true → millionths (default_at lines (for_unit (codes "investment_fix_cost")) (codes "0")) ≡ u.investment_fix = λ e. ap millionths no_fix ∙ zero_is u.investment_fix e in
       let no_rate : is_zero u.investment_proportional ≡ true → millionths (default_at lines (for_unit (codes "investment_proportional_cost")) (codes "0")) ≡ u.investment_proportional = λ e. ap millionths no_proportional ∙ zero_is u.investment_proportional e in
-      let own_cost : millionths (trim (amount_bytes u.investment_fix)) ≡ u.investment_fix = trimmed_value u.investment_fix good.investment_fix.size in
+      let own_cost : millionths (trim (amount_bytes u.investment_fix)) ≡ u.investment_fix = trimmed_value u.investment_fix good.investment_fix.in_range in
       let own_rate : millionths (trim (amount_bytes u.investment_proportional)) ≡ u.investment_proportional = trimmed_value u.investment_proportional good.investment_proportional in
       cond_both (is_zero u.investment_fix) [] fix (λ one. back one (field_unless_zero (codes "investment_proportional_cost") u.investment_proportional) ≡ u)
       (λ zf. cond_both (is_zero u.investment_proportional) [] proportional (λ two. back [] two ≡ u)

@@ -1,22 +1,22 @@
-pub mod Cuts
-pub mod Each
-pub mod Names
-pub mod Digits
-pub mod PrintedAmount
-pub mod PrintedLines
-pub mod Pieces
-pub mod Good
-pub mod Faultless
-pub mod PrintedSides
-pub mod CanonicalParts
-pub mod Clear
-pub mod ItemLines
-pub mod RatesLines
-pub mod NoFormFault
-pub mod Found
-pub mod ItemsBack
-pub mod CanonicalReads
-pub mod ReadFields
-pub mod ReadItems
-pub mod ReadCounts
-pub mod ReadIsValid
+mod CanonicalParts
+mod CanonicalReads
+mod Clear
+mod Cuts
+mod Digits
+mod Each
+mod Found
+mod ItemLines
+mod ItemsBack
+mod Names
+mod NoFormFault
+mod Numbers
+mod Pieces
+mod PrintedAmount
+mod PrintedItems
+mod PrintedLines
+mod PrintedSides
+mod RatesLines
+mod ReadCounts
+mod ReadFields
+mod ReadIsValid
+mod ReadItems

@@ -4,7 +4,8 @@ use Rattle.std.proofs.lemmas.Bool.{or_parts, or_from, or_left, or_right, true≢
 use Rattle.std.proofs.lemmas.List.Folds.{list_any-append}
 use Rattle.std.proofs.lemmas.Slice.Eq.{bytes_eq-Decides}
 use Rattle.problem_rules.specs.Names.{is_among}
-use Rattle.text_laws.proofs.Each.{Each, each-to}
+use Rattle.problem_rules.specs.Each.{Each}
+use Rattle.text_laws.proofs.Each.{each-to}
 
 -- equal texts, the one way and the other
 pub bytes_same : (xs : List ℕ) → bytes_eq xs xs ≡ true

@@ -9,9 +9,10 @@ use Rattle.problem_rules.specs.Problem.{Material, OperatingUnit, Exclusion, Prob
 use Rattle.text_rules.specs.Field.{Line, is_in, lines_in, names_in}
 use Rattle.text_rules.specs.Fault.{first_of, stands, form_kinds, form_fault, parts_of}
 use Rattle.text_rules.specs.Canonical.{canonical_lines}
-use Rattle.text_laws.proofs.Good.{GoodProblem, GoodMaterial, GoodUnit, GoodExclusion}
-use Rattle.text_laws.proofs.Each.{Each, each-to, each-map}
-use Rattle.text_laws.proofs.CanonicalParts.{numbered, header_part, material_part, unit_part, rates_part, exclusion_part, payout_part, exclusion_parts, parts_at, canonical_parts}
+use Rattle.problem_rules.specs.WellFormed.{IsWellFormed, IsWellFormedMaterial, IsWellFormedUnit, IsWellFormedExclusion}
+use Rattle.problem_rules.specs.Each.{Each}
+use Rattle.text_laws.proofs.Each.{each-to, each-map}
+use Rattle.text_laws.proofs.CanonicalParts.{units_named, exclusions_named, numbered, header_part, material_part, unit_part, rates_part, exclusion_part, payout_part, exclusion_parts, parts_at, canonical_parts}
 use Rattle.text_laws.proofs.Names.{Fresh, fresh-cons, fresh-nil, bytes_same}
 use Rattle.text_laws.proofs.Clear.{onto, Clear, clear-append, clear-none, filter_onto, any_onto}
 use Rattle.text_laws.proofs.ItemLines.{material_clear, unit_clear, payout_clear}
@@ -41,7 +42,7 @@ distinct_few : (names : List (List ℕ)) → length (distinct names) ≤ length 
 distinct_few [] = omega arith
 distinct_few (name ∷ names) = cond_both (is_among names name) (distinct names) (name ∷ distinct names) (λ ns. length ns ≤ suc (length names)) (λ e. omega (arith, distinct_few names)) (λ e. omega (arith, distinct_few names))
 
-pub materials_walk : (before : List Line) (n : ℕ) (ms : List Material) → Each GoodMaterial ms → has_double (map (λ m. m.name) ms) ≡ false → Fresh (names_in Materials before) (map (λ m. m.name) ms)
+pub materials_walk : (before : List Line) (n : ℕ) (ms : List Material) → Each IsWellFormedMaterial ms → has_double (map (λ m. m.name) ms) ≡ false → Fresh (names_in Materials before) (map (λ m. m.name) ms)
     → length (lines_in Materials before) + length ms ≤ 256 → Clear stands form_kinds before (numbered material_part n ms)
 materials_walk before n [] goods off fresh few = tt
 materials_walk before n (m ∷ ms) goods off fresh few =
@@ -50,7 +51,7 @@ materials_walk before n (m ∷ ms) goods off fresh few =
       materials_walk (material_part n m ∷ before) (n + 1) ms goods.1 parts.1 (fresh-cons (names_in Materials before) m.name (map (λ (m : Material). m.name) ms) parts.0 fresh.1) (omega arith),
     )
 
-pub units_walk : (count : ℕ) (before : List Line) (n : ℕ) (us : List OperatingUnit) → Each (GoodUnit count) us → has_double (map (λ u. u.name) us) ≡ false → Fresh (names_in OperatingUnits before) (map (λ u. u.name) us)
+pub units_walk : (count : ℕ) (before : List Line) (n : ℕ) (us : List OperatingUnit) → Each (IsWellFormedUnit count) us → has_double (map (λ u. u.name) us) ≡ false → Fresh (names_in OperatingUnits before) (map (λ u. u.name) us)
     → names_in Rates before ≡ [] → length (names_in OperatingUnits before) + length us ≤ 128 → Clear stands form_kinds before (numbered unit_part n us)
 units_walk count before n [] goods off fresh none few = tt
 units_walk count before n (u ∷ us) goods off fresh none few =
@@ -74,7 +75,7 @@ all_among before n (u ∷ us) = (
 )
 
 module _ (names : List (List ℕ)) (each : Each (λ name. is_name name ≡ true) names) (distinct_names : has_double names ≡ false) where
-  pub rates_walk : (before : List Line) (n : ℕ) (us : List OperatingUnit) → Each (GoodUnit (length names)) us → has_double (map (λ u. u.name) us) ≡ false → Fresh (names_in Rates before) (map (λ u. u.name) us)
+  pub rates_walk : (before : List Line) (n : ℕ) (us : List OperatingUnit) → Each (IsWellFormedUnit (length names)) us → has_double (map (λ u. u.name) us) ≡ false → Fresh (names_in Rates before) (map (λ u. u.name) us)
       → Each (λ u. is_among (names_in OperatingUnits before) u.name ≡ true) us → Clear stands form_kinds before (numbered (rates_part names) n us)
   rates_walk before n [] goods off fresh listed = tt
   rates_walk before n (u ∷ us) goods off fresh listed =
@@ -83,7 +84,7 @@ module _ (names : List (List ℕ)) (each : Each (λ name. is_name name ≡ true)
         rates_walk (rates_part names n u ∷ before) (n + 1) us goods.1 parts.1 (fresh-cons (names_in Rates before) u.name (map (λ (u : OperatingUnit). u.name) us) parts.0 fresh.1) listed.1,
       )
 
-  pub exclusions_walk : (before : List Line) (n : ℕ) (es : List Exclusion) → Each (GoodExclusion (length names)) es → has_double (map (λ e. e.name) es) ≡ false → Fresh (names_in Exclusions before) (map (λ e. e.name) es)
+  pub exclusions_walk : (before : List Line) (n : ℕ) (es : List Exclusion) → Each (IsWellFormedExclusion (length names)) es → has_double (map (λ e. e.name) es) ≡ false → Fresh (names_in Exclusions before) (map (λ e. e.name) es)
       → length (lines_in Exclusions before) + length es ≤ 64 → Clear stands form_kinds before (numbered (exclusion_part names) n es)
   exclusions_walk before n [] goods off fresh few = tt
   exclusions_walk before n (e ∷ es) goods off fresh few =
@@ -106,12 +107,12 @@ pub record Start (before : List Line) : Type 0 where
 abbrev name_of : Line → List ℕ
 name_of line = line.name
 
-module _ (p : Problem) (is : GoodProblem p) where
+module _ (p : Problem) (is : IsWellFormed p) where
   m_names : Each (λ name. is_name name ≡ true) (material_names p.materials)
-  m_names = each-map (λ name. is_name name ≡ true) (λ (m : Material). m.name) p.materials (each-to GoodMaterial (λ m. is_name m.name ≡ true) (λ m good. good.name) p.materials is.materials)
+  m_names = each-map (λ name. is_name name ≡ true) (λ (m : Material). m.name) p.materials (each-to IsWellFormedMaterial (λ m. is_name m.name ≡ true) (λ m good. good.named) p.materials is.materials_formed)
 
   u_names : Each (λ name. is_name name ≡ true) (unit_names p.units)
-  u_names = each-map (λ name. is_name name ≡ true) (λ (u : OperatingUnit). u.name) p.units (each-to (GoodUnit (length (material_names p.materials))) (λ u. is_name u.name ≡ true) (λ u good. good.name) p.units is.units)
+  u_names = each-map (λ name. is_name name ≡ true) (λ (u : OperatingUnit). u.name) p.units (each-to (IsWellFormedUnit (length (material_names p.materials))) (λ u. is_name u.name ≡ true) (λ u good. good.named) p.units (units_named p is))
 
   abbrev b1 : List Line → ℕ → List Line
   b1 before a = header_part a Materials (codes "materials") ∷ before
@@ -174,12 +175,12 @@ module _ (p : Problem) (is : GoodProblem p) where
   fresh_from : (lines : List Line) (names : List (List ℕ)) → lines ≡ [] → Fresh (map name_of lines) names
   fresh_from lines names e = subst (λ (ls : List Line). Fresh (map name_of ls) names) (sym e) (fresh-nil names)
 
-  exclusions_clear : (before : List Line) (d : ℕ) (es : List Exclusion) → Each (GoodExclusion (length (unit_names p.units))) es → has_double (map (λ e. e.name) es) ≡ false → length es ≤ 64
+  exclusions_clear : (before : List Line) (d : ℕ) (es : List Exclusion) → Each (IsWellFormedExclusion (length (unit_names p.units))) es → has_double (map (λ e. e.name) es) ≡ false → length es ≤ 64
       → lines_in Exclusions before ≡ [] → list_any (is_header_of (codes "mutual_exclusions")) before ≡ false → Clear stands form_kinds before (exclusion_parts (unit_names p.units) d es)
   exclusions_clear before d [] goods off few none new = tt
   exclusions_clear before d (e ∷ es) goods off few none new = (
     header-exclusions before d new,
-    exclusions_walk (unit_names p.units) u_names is.unit_names_once (header_part d Exclusions (codes "mutual_exclusions") ∷ before) (d + 1) (e ∷ es) goods off
+    exclusions_walk (unit_names p.units) u_names is.units_apart (header_part d Exclusions (codes "mutual_exclusions") ∷ before) (d + 1) (e ∷ es) goods off
         (fresh_from (lines_in Exclusions before) (map (λ (e : Exclusion). e.name) (e ∷ es)) none)
         (omega (arith, ap (λ (ls : List Line). length ls) none, few)),
   )
@@ -192,17 +193,17 @@ module _ (p : Problem) (is : GoodProblem p) where
   sections_clear before a b c d start = (
     header-materials before a start.material_header,
     clear-append stands form_kinds (b1 before a) (numbered material_part (a + 1) p.materials) _
-        (materials_walk (b1 before a) (a + 1) p.materials is.materials is.material_names_once
+        (materials_walk (b1 before a) (a + 1) p.materials is.materials_formed is.materials_apart
         (fresh_from (lines_in Materials before) (material_names p.materials) start.materials) (omega (arith, ap (λ (ls : List Line). length ls) start.materials, is.few_materials))) (
           header-units (b2 before a) b (units_new before a start),
           clear-append stands form_kinds (b3 before a b) (numbered unit_part (b + 1) p.units) _
-              (units_walk (length (material_names p.materials)) (b3 before a b) (b + 1) p.units is.units is.unit_names_once (fresh_from (lines_in OperatingUnits (b3 before a b)) (unit_names p.units) (no_units before a b start))
+              (units_walk (length (material_names p.materials)) (b3 before a b) (b + 1) p.units (units_named p is) is.units_apart (fresh_from (lines_in OperatingUnits (b3 before a b)) (unit_names p.units) (no_units before a b start))
               (ap (map name_of) (no_rates3 before a b start)) (omega (arith, ap (λ (ls : List Line). length (map name_of ls)) (no_units before a b start), is.few_units))) (
                 header-rates (b4 before a b) c (rates_new before a b start),
                 clear-append stands form_kinds (b5 before a b c) (numbered (rates_part (material_names p.materials)) (c + 1) p.units) _
-                    (rates_walk (material_names p.materials) m_names is.material_names_once (b5 before a b c) (c + 1) p.units is.units is.unit_names_once
+                    (rates_walk (material_names p.materials) m_names is.materials_apart (b5 before a b c) (c + 1) p.units (units_named p is) is.units_apart
                     (fresh_from (lines_in Rates (b5 before a b c)) (unit_names p.units) (no_rates5 before a b c start)) (all_among (b3 before a b) (b + 1) p.units))
-                    (exclusions_clear (b6 before a b c) d p.exclusions is.exclusions is.exclusion_names_once is.few_exclusions (no_exclusions before a b c start) (exclusions_new before a b c start)),
+                    (exclusions_clear (b6 before a b c) d p.exclusions (exclusions_named p is) is.exclusions_apart is.few_exclusions (no_exclusions before a b c start) (exclusions_new before a b c start)),
               ),
         ),
   )
@@ -224,7 +225,7 @@ module _ (p : Problem) (is : GoodProblem p) where
       (λ e. (
         header-defaults [] 3 refl,
         (
-          payout_clear k (payout_some p.payout is.payout_low) is.payout_high,
+          payout_clear k (payout_some p.payout is.payout_positive) is.payout_limit,
           sections_clear (payout_part 4 k ∷ header_part 3 Defaults (codes "defaults") ∷ []) a b c d
               (record { materials = refl; units = refl; rates = refl; exclusions = refl; material_header = refl; unit_header = refl; rates_header = refl; exclusion_header = refl }),
         ),

@@ -14,7 +14,8 @@ use Rattle.text_rules.specs.Canonical.{joined, spaced, named, item_line, token_t
 use Rattle.text_laws.proofs.Digits.{all-append, decimal_reads}
 use Rattle.text_laws.proofs.PrintedAmount.{fraction, fraction_reads, all_to}
 use Rattle.text_laws.proofs.Cuts.{not_mark, none_from_all, none-append, split_at, split_none, before_mark, after_mark, any_mark, no_prefix, suffix_behind, suffix_none, prefix_none, trim_none, trim_space}
-use Rattle.text_laws.proofs.Each.{Each, each-map, each-to}
+use Rattle.problem_rules.specs.Each.{Each}
+use Rattle.text_laws.proofs.Each.{each-map, each-to}
 use Rattle.text_laws.proofs.PrintedLines.{IsLine}
 
 -- the bytes of names, numbers, keys and signs

@@ -5,7 +5,8 @@ use Rattle.std.proofs.lemmas.Bool.{cond-false, cond-true, or_parts}
 use Rattle.text_rules.specs.Blanks.{is_blank, trim}
 use Rattle.text_rules.specs.Line.{without_return, without_empty_last, lines_of, without_mark}
 use Rattle.text_laws.proofs.Cuts.{split_at, take_front, trim_solid}
-use Rattle.text_laws.proofs.Each.{Each, each-to, map_same}
+use Rattle.problem_rules.specs.Each.{Each}
+use Rattle.text_laws.proofs.Each.{each-to, map_same}
 
 -- a line as it is printed: no line feed and no return, and no blank at its ends
 pub record IsLine (text : List ℕ) : Type 0 where

@@ -14,9 +14,12 @@ use Rattle.problem_rules.specs.Problem.{Term, OperatingUnit, Exclusion}
 use Rattle.text_rules.specs.Field.{Line, lines_in, names_in, numbers_of, material_of, rate_of, materials_of, material_type}
 use Rattle.text_rules.specs.Fault.{stands, form_kinds, millionths}
 use Rattle.text_rules.specs.Canonical.{name_at, term_tokens, token_text, rates_tokens}
-use Rattle.text_laws.proofs.Good.{has_number, has_double_number, is_rising, GoodTerm, GoodSide, GoodUnit, GoodExclusion, member_words}
+use Rattle.problem_rules.specs.WellFormed.{IsWellFormedTerm, IsWellFormedSide, IsWellFormedUnit, IsWellFormedExclusion}
+use Rattle.text_laws.proofs.Numbers.{has_number, has_double_number, repeats_same, sides_apart, rising_within, rising_double}
+use Rattle.text_laws.proofs.PrintedItems.{member_words}
 use Rattle.text_laws.proofs.PrintedAmount.{amounts_read_back}
-use Rattle.text_laws.proofs.Each.{Each, each-to, each-map, each-append, none_from_each}
+use Rattle.problem_rules.specs.Each.{Each}
+use Rattle.text_laws.proofs.Each.{each-to, each-map, each-append, none_from_each}
 use Rattle.text_laws.proofs.Pieces.{IsWord, IsPiece, IsNamed, word_piece, name_word, named_apart}
 use Rattle.text_laws.proofs.PrintedSides.{rates_tail}
 use Rattle.text_laws.proofs.CanonicalParts.{rates_part, exclusion_part, IsItemLine, items_line}
@@ -74,28 +77,6 @@ module _ (names : List (List ℕ)) (distinct_names : has_double names ≡ false)
       or_from (is_among (map (name_at names) js) (name_at names k)) (list_any (is_among (map (name_at names) js)) (map (name_at names) ks))
       (among_numbers js k each within.0 parts.0) (shared_numbers js ks each within.1 parts.1)
 
--- numbers that rise are within the count and come once
-pub rising_within : (low count : ℕ) (ks : List ℕ) → is_rising low count ks ≡ true → Each (λ k. k < count) ks
-rising_within low count [] rising = tt
-rising_within low count (k ∷ ks) rising =
-    let parts = and_parts _ (is_rising (suc k) count ks) rising in
-    let first = and_parts _ _ parts.0 in
-    (ltb-true k count first.1, rising_within (suc k) count ks parts.1)
-
-pub rising_none : (n low count : ℕ) (ks : List ℕ) → n < low → is_rising low count ks ≡ true → has_number n ks ≡ false
-rising_none n low count [] lt rising = refl
-rising_none n low count (k ∷ ks) lt rising =
-    let parts = and_parts _ (is_rising (suc k) count ks) rising in
-    let first = and_parts _ _ parts.0 in
-    let le : low ≤ k = leb-true low k first.0 in
-    or_from (k == n) (has_number n ks) (ne_eqb k n (λ e. absurd (omega arith))) (rising_none n (suc k) count ks (omega arith) parts.1)
-
-pub rising_double : (low count : ℕ) (ks : List ℕ) → is_rising low count ks ≡ true → has_double_number ks ≡ false
-rising_double low count [] rising = refl
-rising_double low count (k ∷ ks) rising =
-    let parts = and_parts _ (is_rising (suc k) count ks) rising in
-    or_from (has_number k ks) (has_double_number ks) (rising_none k (suc k) count ks (omega arith) parts.1) (rising_double (suc k) count ks parts.1)
-
 -- what the tokens of a term say
 pub record IsTermTokens (tokens : List (List ℕ)) : Type 0 where
   pub few : (length tokens == 0 || nat_lt 2 (length tokens)) ≡ false
@@ -108,13 +89,13 @@ positive_rate text z reads is =
     ap (λ (r : Result ℤ TextKind). not (int_lt (result_unwrap_or r (pos 0)) (pos 0)) && not (int_lt (pos 0) (result_unwrap_or r (pos 0)))) reads
     ∙ and_right (not (int_lt z (pos 0))) (not (int_lt (pos 0) z)) (ap not is)
 
-pub term_good : (names : List (List ℕ)) → Each (λ name. is_name name ≡ true) names → (t : Term) → GoodTerm (length names) t → IsTermTokens (term_tokens names t)
+pub term_good : (names : List (List ℕ)) → Each (λ name. is_name name ≡ true) names → (t : Term) → IsWellFormedTerm (length names) t → IsTermTokens (term_tokens names t)
 term_good names each t good =
-    let name : is_name (name_at names t.material) ≡ true = name_at_each (λ name. is_name name ≡ true) names t.material each good.material in
-    let reads : amount_of (amount_bytes t.rate) ≡ Ok t.rate = amounts_read_back t.rate good.size in
+    let name : is_name (name_at names t.material) ≡ true = name_at_each (λ name. is_name name ≡ true) names t.material each good.known in
+    let reads : amount_of (amount_bytes t.rate) ≡ Ok t.rate = amounts_read_back t.rate good.in_range in
     cond_both (unsigned_abs t.rate == 1000000) (name_at names t.material ∷ []) (amount_bytes t.rate ∷ name_at names t.material ∷ []) IsTermTokens
     (λ e. record { few = refl; name = name; number = record { amount = pos 1000000; reads = refl; sign = refl }; rate = refl })
-    (λ e. record { few = refl; name = name; number = record { amount = t.rate; reads = reads; sign = and_left (int_lt t.rate (pos 0)) true (positive_sign t.rate good.sign) }; rate = positive_rate (amount_bytes t.rate) t.rate reads good.sign })
+    (λ e. record { few = refl; name = name; number = record { amount = t.rate; reads = reads; sign = and_left (int_lt t.rate (pos 0)) true (positive_sign t.rate good.positive) }; rate = positive_rate (amount_bytes t.rate) t.rate reads good.positive })
 
 pub material_of_term : (names : List (List ℕ)) (t : Term) → material_of (term_tokens names t) ≡ name_at names t.material
 material_of_term names t = cond_both (unsigned_abs t.rate == 1000000) (name_at names t.material ∷ []) (amount_bytes t.rate ∷ name_at names t.material ∷ []) (λ ts. material_of ts ≡ name_at names t.material) (λ e. refl) (λ e. refl)
@@ -141,51 +122,51 @@ term_rates (t ∷ terms) each = or_from _ _ each.0.rate (term_rates terms each.1
 some_side : (names : List (List ℕ)) (terms : List Term) → 0 < length terms → (length (map (term_tokens names) terms) == 0) ≡ false
 some_side names terms some = ne_eqb (length (map (term_tokens names) terms)) 0 (λ e. absurd (omega (arith, e, length-map terms (term_tokens names))))
 
-module _ (names : List (List ℕ)) (each : Each (λ name. is_name name ≡ true) names) (distinct_names : has_double names ≡ false) (u : OperatingUnit) (good : GoodUnit (length names) u) where
+module _ (names : List (List ℕ)) (each : Each (λ name. is_name name ≡ true) names) (distinct_names : has_double names ≡ false) (u : OperatingUnit) (good : IsWellFormedUnit (length names) u) where
   words : Each IsWord names
   words = each-to (λ name. is_name name ≡ true) IsWord name_word names each
 
-  pub terms_good : (side : List Term) → Each (GoodTerm (length names)) side → Each IsTermTokens (map (term_tokens names) side)
-  terms_good side goods = each-map IsTermTokens (term_tokens names) side (each-to (GoodTerm (length names)) (λ t. IsTermTokens (term_tokens names t)) (term_good names each) side goods)
+  pub terms_good : (side : List Term) → Each (IsWellFormedTerm (length names)) side → Each IsTermTokens (map (term_tokens names) side)
+  terms_good side goods = each-map IsTermTokens (term_tokens names) side (each-to (IsWellFormedTerm (length names)) (λ t. IsTermTokens (term_tokens names t)) (term_good names each) side goods)
 
   pub all_terms : Each IsTermTokens (map (term_tokens names) u.inputs ++ (map (term_tokens names) u.outputs ++ []))
-  all_terms = each-append IsTermTokens (map (term_tokens names) u.inputs) (map (term_tokens names) u.outputs ++ []) (terms_good u.inputs good.inputs.terms)
-      (each-append IsTermTokens (map (term_tokens names) u.outputs) [] (terms_good u.outputs good.outputs.terms) tt)
+  all_terms = each-append IsTermTokens (map (term_tokens names) u.inputs) (map (term_tokens names) u.outputs ++ []) (terms_good u.inputs good.inputs.terms_formed)
+      (each-append IsTermTokens (map (term_tokens names) u.outputs) [] (terms_good u.outputs good.outputs.terms_formed) tt)
 
-  within : (side : List Term) → Each (GoodTerm (length names)) side → Each (λ k. k < length names) (map (λ t. t.material) side)
-  within side goods = each-map (λ k. k < length names) (λ (t : Term). t.material) side (each-to (GoodTerm (length names)) (λ t. t.material < length names) (λ t g. g.material) side goods)
+  within : (side : List Term) → Each (IsWellFormedTerm (length names)) side → Each (λ k. k < length names) (map (λ t. t.material) side)
+  within side goods = each-map (λ k. k < length names) (λ (t : Term). t.material) side (each-to (IsWellFormedTerm (length names)) (λ t. t.material < length names) (λ t g. g.known) side goods)
 
-  side_double : (side : List Term) → GoodSide (length names) side → has_double (materials_of (map (term_tokens names) side)) ≡ false
-  side_double side is = ap has_double (materials_of_terms names side) ∙ double_numbers names distinct_names (map (λ t. t.material) side) (within side is.terms) is.once
+  side_double : (side : List Term) → IsWellFormedSide (length names) side → has_double (materials_of (map (term_tokens names) side)) ≡ false
+  side_double side is = ap has_double (materials_of_terms names side) ∙ double_numbers names distinct_names (map (λ t. t.material) side) (within side is.terms_formed) (sym (repeats_same side) ∙ is.once)
 
   shared : list_any (is_among (materials_of (map (term_tokens names) u.outputs))) (materials_of (map (term_tokens names) u.inputs)) ≡ false
   shared =
       ap (λ (os : List (List ℕ)). list_any (is_among os) (materials_of (map (term_tokens names) u.inputs))) (materials_of_terms names u.outputs)
       ∙ ap (list_any (is_among (map (name_at names) (map (λ t. t.material) u.outputs)))) (materials_of_terms names u.inputs)
-      ∙ shared_numbers names distinct_names (map (λ t. t.material) u.outputs) (map (λ t. t.material) u.inputs) (within u.outputs good.outputs.terms) (within u.inputs good.inputs.terms) good.apart
+      ∙ shared_numbers names distinct_names (map (λ t. t.material) u.outputs) (map (λ t. t.material) u.inputs) (within u.outputs good.outputs.terms_formed) (within u.inputs good.inputs.terms_formed) (sides_apart u.inputs u.outputs good.sides_apart)
 
   pub rates_clear : (before : List Line) (n : ℕ) → is_among (names_in Rates before) u.name ≡ false → is_among (names_in OperatingUnits before) u.name ≡ true
       → Each (λ kind. stands before (rates_part names n u) kind ≡ false) form_kinds
   rates_clear before n fresh listed =
-      let is : IsNamed u.name (token_text (rates_tokens names u)) = named_apart u.name (token_text (rates_tokens names u)) (name_word u.name good.name) (rates_tail names words u good) in
+      let is : IsNamed u.name (token_text (rates_tokens names u)) = named_apart u.name (token_text (rates_tokens names u)) (name_word u.name good.named) (rates_tail names words u good) in
       let terms : List (List (List ℕ)) = map (term_tokens names) u.inputs ++ (map (term_tokens names) u.outputs ++ []) in
       let fields : List (List ℕ × List ℕ) = numbers_of (rates_part names n u) in
       let numbers : Each GoodNumber fields = term_numbers terms all_terms in
       let old : List (List ℕ) = names_in OperatingUnits before ++ names_in Rates before in
-      (refl, (refl, (or_from _ _ (or_from _ _ (ap not is.colon) refl) (none_from_each (λ term. length term == 0 || nat_lt 2 (length term)) terms (each-to IsTermTokens _ (λ t g. g.few) terms all_terms)), (or_from _ _ (or_from _ _ (ap not good.name) (none_from_each (λ term. not (is_name (material_of term))) terms (each-to IsTermTokens _ (λ t g. ap not g.name) terms all_terms))) refl, (refl, (refl, (numbers_bad fields numbers, (numbers_fine fields numbers, (numbers_large fields numbers, (numbers_negative fields numbers, (refl, (term_rates terms all_terms, (or_from _ _ (side_double u.inputs good.inputs) (side_double u.outputs good.outputs), (shared, (or_from _ _ (some_side names u.inputs good.inputs.some) (or_from _ _ (some_side names u.outputs good.outputs.some) refl), (refl, (refl, (fresh, (and_left _ _ (ap not (list_any-append (λ word. bytes_eq word u.name) (names_in OperatingUnits before) (names_in Rates before) ∙ or_left _ _ listed)), (refl, (refl, (refl, (refl, tt)))))))))))))))))))))))
+      (refl, (refl, (or_from _ _ (or_from _ _ (ap not is.colon) refl) (none_from_each (λ term. length term == 0 || nat_lt 2 (length term)) terms (each-to IsTermTokens _ (λ t g. g.few) terms all_terms)), (or_from _ _ (or_from _ _ (ap not good.named) (none_from_each (λ term. not (is_name (material_of term))) terms (each-to IsTermTokens _ (λ t g. ap not g.name) terms all_terms))) refl, (refl, (refl, (numbers_bad fields numbers, (numbers_fine fields numbers, (numbers_large fields numbers, (numbers_negative fields numbers, (refl, (term_rates terms all_terms, (or_from _ _ (side_double u.inputs good.inputs) (side_double u.outputs good.outputs), (shared, (or_from _ _ (some_side names u.inputs good.inputs.some) (or_from _ _ (some_side names u.outputs good.outputs.some) refl), (refl, (refl, (fresh, (and_left _ _ (ap not (list_any-append (λ word. bytes_eq word u.name) (names_in OperatingUnits before) (names_in Rates before) ∙ or_left _ _ listed)), (refl, (refl, (refl, (refl, tt)))))))))))))))))))))))
 
 -- an exclusion's line
-pub exclusion_clear : (names : List (List ℕ)) → Each (λ name. is_name name ≡ true) names → has_double names ≡ false → (e : Exclusion) → GoodExclusion (length names) e
+pub exclusion_clear : (names : List (List ℕ)) → Each (λ name. is_name name ≡ true) names → has_double names ≡ false → (e : Exclusion) → IsWellFormedExclusion (length names) e
     → (before : List Line) (n : ℕ) → is_among (names_in Exclusions before) e.name ≡ false → length (lines_in Exclusions before) < 64
     → Each (λ kind. stands before (exclusion_part names n e) kind ≡ false) form_kinds
 exclusion_clear names each distinct_names e good before n fresh few =
     let words : Each IsWord names = each-to (λ name. is_name name ≡ true) IsWord name_word names each in
     let items : List (List ℕ) = map (name_at names) e.units in
     let count : length items ≡ length e.units = length-map e.units (name_at names) in
-    let many : 1 < length e.units = good.many in
+    let many : 2 ≤ length e.units = good.enough in
     let pieces : Each IsPiece items = each-to IsWord IsPiece word_piece items (member_words names 0 e.units words good.rising) in
-    let is : IsItemLine Exclusions e.name items = items_line Exclusions e.name items (omega arith) (name_word e.name good.name) pieces in
-    let within : Each (λ k. k < length names) e.units = rising_within 0 (length names) e.units good.rising in
+    let is : IsItemLine Exclusions e.name items = items_line Exclusions e.name items (omega arith) (name_word e.name good.named) pieces in
+    let within : Each (λ k. k < length names) e.units = rising_within (length names) 0 e.units good.rising in
     let good_names : Each (λ item. not (is_name item) ≡ false) items = each-map (λ item. not (is_name item) ≡ false) (name_at names) e.units
     (each-to (λ k. k < length names) (λ k. not (is_name (name_at names k)) ≡ false) (λ k lt. ap not (name_at_each (λ name. is_name name ≡ true) names k each lt)) e.units within) in
-    (refl, (refl, (or_from _ _ (ap not is.named.colon) (no_empty items pieces), (or_from _ _ (or_from _ _ (ap not good.name) refl) (none_from_each (λ item. not (is_name item)) items good_names), (refl, (refl, (refl, (refl, (refl, (refl, (refl, (refl, (refl, (refl, (refl, (refl, (refl, (refl, (lt-leb 64 (length (lines_in Exclusions before)) few, (fresh, (double_numbers names distinct_names e.units within (rising_double 0 (length names) e.units good.rising), (le-ltb (length items) 2 (omega arith), (refl, tt)))))))))))))))))))))))
+    (refl, (refl, (or_from _ _ (ap not is.named.colon) (no_empty items pieces), (or_from _ _ (or_from _ _ (ap not good.named) refl) (none_from_each (λ item. not (is_name item)) items good_names), (refl, (refl, (refl, (refl, (refl, (refl, (refl, (refl, (refl, (refl, (refl, (refl, (refl, (refl, (lt-leb 64 (length (lines_in Exclusions before)) few, (fresh, (double_numbers names distinct_names e.units within (rising_double (length names) 0 e.units good.rising), (le-ltb (length items) 2 (omega arith), (refl, tt)))))))))))))))))))))))

@@ -9,8 +9,10 @@ use Rattle.problem_rules.specs.Names.{is_among, has_double, distinct}
 use Rattle.text_rules.specs.Field.{Line, is_in, lines_in, names_in}
 use Rattle.text_rules.specs.Fault.{stands, form_kinds}
 use Rattle.text_rules.specs.Value.{numbers_among, stands_in, meaning_kinds}
-use Rattle.text_laws.proofs.Good.{is_rising}
-use Rattle.text_laws.proofs.Each.{Each, each-to, each-both}
+use Rattle.problem_rules.specs.Each.{Each}
+use Rattle.text_laws.proofs.Each.{each-to, each-both}
+use Rattle.problem_rules.specs.WellFormed.{AreRisingFrom}
+use Rattle.text_laws.proofs.Numbers.{rising_less}
 use Rattle.text_laws.proofs.Names.{bytes_same, bytes_differ, among_self}
 use Rattle.text_laws.proofs.Clear.{Clear}
 use Rattle.text_laws.proofs.ReadFields.{line_in, is_line_in}
@@ -190,21 +192,12 @@ double_append (x ∷ xs) ys one two apart =
       none (z ∷ zs) each = or_from (bytes_eq z x) (is_among zs x) (bytes_differ x z ((or_parts (bytes_eq x z) (is_among xs z) each.0).0)) (none zs each.1)
 
 -- the units of an exclusion
-rising_less : (low low' top : ℕ) (ks : List ℕ) → low ≤ low' → is_rising low' top ks ≡ true → is_rising low top ks ≡ true
-rising_less low low' top [] le is = refl
-rising_less low low' top (k ∷ ks) le is =
-    let parts = and_parts _ (is_rising (suc k) top ks) is in
-    let first = and_parts _ _ parts.0 in
-    let here : low' ≤ k = leb-true low' k first.0 in
-    and_from _ _ (and_from _ _ (le-leb low k (omega arith)) first.1) parts.1
-
-pub members_rise : (words : List (List ℕ)) (k top : ℕ) (names : List (List ℕ)) → top ≡ k + length names → is_rising k top (numbers_among words k names) ≡ true
-members_rise words k top [] e = refl
+pub members_rise : (words : List (List ℕ)) (k top : ℕ) (names : List (List ℕ)) → top ≡ k + length names → AreRisingFrom top k (numbers_among words k names)
+members_rise words k top [] e = tt
 members_rise words k top (name ∷ names) e =
-    let rest : is_rising (suc k) top (numbers_among words (k + 1) names) ≡ true = ap (λ m. is_rising m top (numbers_among words (k + 1) names)) (omega arith) ∙ members_rise words (k + 1) top names (omega arith) in
-    cond_both (is_among words name) (k ∷ numbers_among words (k + 1) names) (numbers_among words (k + 1) names) (λ ks. is_rising k top ks ≡ true)
-    (λ e'. and_from _ _ (and_from _ _ (le-leb k k (omega arith)) (lt-ltb k top (omega arith))) rest)
-    (λ e'. rising_less k (suc k) top (numbers_among words (k + 1) names) (omega arith) rest)
+    let rest : AreRisingFrom top (k + 1) (numbers_among words (k + 1) names) = members_rise words (k + 1) top names (omega arith) in
+    cond_both (is_among words name) (k ∷ numbers_among words (k + 1) names) (numbers_among words (k + 1) names) (λ ks. AreRisingFrom top k ks)
+    (λ e'. (omega arith, omega arith, rest)) (λ e'. rising_less top k (k + 1) (numbers_among words (k + 1) names) (omega arith) rest)
 
 members_count : (words : List (List ℕ)) (k : ℕ) (names : List (List ℕ)) → length (numbers_among words k names) ≡ length (filter (is_among words) names)
 members_count words k [] = refl

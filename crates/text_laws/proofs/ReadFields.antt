@@ -14,7 +14,8 @@ use Rattle.text_rules.specs.Line.{is_section}
 use Rattle.text_rules.specs.Field.{Line, is_in, lines_in, names_in, key_of, value_of, material_type}
 use Rattle.text_rules.specs.Fault.{Fault, first_of, stands, form_kinds, millionths, may_be_negative}
 use Rattle.text_rules.specs.Value.{value_at}
-use Rattle.text_laws.proofs.Each.{Each, each-to}
+use Rattle.problem_rules.specs.Each.{Each}
+use Rattle.text_laws.proofs.Each.{each-to}
 use Rattle.text_laws.proofs.Names.{Fresh, bytes_differ}
 use Rattle.text_laws.proofs.Clear.{Clear}
 

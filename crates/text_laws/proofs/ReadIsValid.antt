@@ -12,10 +12,11 @@ use Rattle.problem_rules.specs.Problem.{Material, OperatingUnit, Exclusion, Prob
 use Rattle.text_rules.specs.Field.{Line, key_of, value_of, payout_period, is_in, lines_in, names_in, fields_of}
 use Rattle.text_rules.specs.Fault.{Fault, first_of, stands, form_kinds, form_fault, first_is_type, parts_of, millionths, is_payout}
 use Rattle.text_rules.specs.Value.{unit_read, material_read, bare_rates, unit_names as unit_names_in, numbers_among, exclusion_read, problem_of, value_at, stands_in, meaning_kinds, meaning_fault, read_text}
-use Rattle.text_laws.proofs.Good.{GoodUnit, GoodExclusion, GoodProblem}
-use Rattle.text_laws.proofs.Faultless.{valid_problem}
+use Rattle.problem_rules.specs.WellFormed.{IsWellFormedUnit, IsWellFormedExclusion, IsWellFormed}
+use Rattle.problem_rules.proofs.ValidLemmas.{valid_from_well_formed}
 use Rattle.problem_rules.specs.Validity.{IsValid}
-use Rattle.text_laws.proofs.Each.{Each, each-to, each-map, each-append, each-both, each-unmap}
+use Rattle.problem_rules.specs.Each.{Each}
+use Rattle.text_laws.proofs.Each.{each-to, each-map, each-append, each-both, each-unmap}
 use Rattle.text_laws.proofs.Clear.{Clear}
 use Rattle.text_laws.proofs.Names.{among_self}
 use Rattle.text_laws.proofs.ReadFields.{IsClearAt, clear_each, each_filter, line_in, is_line_in, names_once, lines_few, first_clear}
@@ -139,16 +140,16 @@ module _ (P : List Line) (form : Clear stands form_kinds [] P) (mean : Clear (st
   abbrev count : ℕ
   count = length (names_in Materials P)
 
-  own_good : (line : Line) → At OperatingUnits line → GoodUnit count (unit_read P line.name (fields_of line))
+  own_good : (line : Line) → At OperatingUnits line → IsWellFormedUnit count (unit_read P line.name (fields_of line))
   own_good line is =
       let kinds : Each (λ kind. stands is.1.0.0 (line_in OperatingUnits line) kind ≡ false) form_kinds = kinds_in OperatingUnits is.1.0.0 line is.0 is.1.0.1 in
       let means : Each (λ kind. stands_in P is.1.1.0 (line_in OperatingUnits line) kind ≡ false) meaning_kinds = means_in P OperatingUnits is.1.1.0 line is.0 is.1.1.1 in
       let named = or_parts (not (is_name line.name) || false) false kinds.1.1.1.0 in
-      subst (λ (l : Line). GoodUnit count (unit_read P l.name (fields_of l))) (sym (is_line_in OperatingUnits line is.0))
+      subst (λ (l : Line). IsWellFormedUnit count (unit_read P l.name (fields_of l))) (sym (is_line_in OperatingUnits line is.0))
       (unit_good P form mean line.name (fields_of (line_in OperatingUnits line)) (not-false (is_name line.name) (or_parts (not (is_name line.name)) false named.0).0) kinds.1.1.1.1.1.1.1.1.1.0 means.0
       (not-false (is_among (names_in Rates P) line.name) means.1.1.0))
 
-  bare_good : (line : Line) → (not (is_among (names_in OperatingUnits P) line.name) ≡ true) × (At Rates line × (is_among (names_in Rates P) line.name ≡ true)) → GoodUnit count (unit_read P line.name [])
+  bare_good : (line : Line) → (not (is_among (names_in OperatingUnits P) line.name) ≡ true) × (At Rates line × (is_among (names_in Rates P) line.name ≡ true)) → IsWellFormedUnit count (unit_read P line.name [])
   bare_good line is =
       let here : At Rates line = is.1.0 in
       let kinds : Each (λ kind. stands here.1.0.0 (line_in Rates line) kind ≡ false) form_kinds = kinds_in Rates here.1.0.0 line here.0 here.1.0.1 in
@@ -157,11 +158,11 @@ module _ (P : List Line) (form : Clear stands form_kinds [] P) (mean : Clear (st
       unit_good P form mean line.name [] (not-false (is_name line.name) (or_parts (not (is_name line.name)) _ named.0).0) refl
       (and_first true (not (is_among (names_in OperatingUnits P) line.name)) (int_lt (unit_read P line.name []).upper (unit_read P line.name []).lower) means.0 refl is.0) is.1.1
 
-  units_good : Each (GoodUnit count) (problem_of P).units
+  units_good : Each (IsWellFormedUnit count) (problem_of P).units
   units_good =
-      each-append (GoodUnit count) (map (λ line. unit_read P line.name (fields_of line)) (lines_in OperatingUnits P)) (map (λ line. unit_read P line.name []) (bare_rates P))
-      (each-map (GoodUnit count) (λ (line : Line). unit_read P line.name (fields_of line)) (lines_in OperatingUnits P) (each-to (At OperatingUnits) _ own_good (lines_in OperatingUnits P) (at_section OperatingUnits)))
-      (each-map (GoodUnit count) (λ (line : Line). unit_read P line.name []) (bare_rates P) (each-to _ _ bare_good (bare_rates P)
+      each-append (IsWellFormedUnit count) (map (λ line. unit_read P line.name (fields_of line)) (lines_in OperatingUnits P)) (map (λ line. unit_read P line.name []) (bare_rates P))
+      (each-map (IsWellFormedUnit count) (λ (line : Line). unit_read P line.name (fields_of line)) (lines_in OperatingUnits P) (each-to (At OperatingUnits) _ own_good (lines_in OperatingUnits P) (at_section OperatingUnits)))
+      (each-map (IsWellFormedUnit count) (λ (line : Line). unit_read P line.name []) (bare_rates P) (each-to _ _ bare_good (bare_rates P)
       (each_filter (λ line. At Rates line × (is_among (names_in Rates P) line.name ≡ true)) (λ line. not (is_among (names_in OperatingUnits P) line.name)) (lines_in Rates P)
       (each-both (At Rates) (λ line. is_among (names_in Rates P) line.name ≡ true) (λ line. At Rates line × (is_among (names_in Rates P) line.name ≡ true)) (λ line one two. (one, two)) (lines_in Rates P) (at_section Rates) rates_listed))))
 
@@ -170,7 +171,7 @@ module _ (P : List Line) (form : Clear stands form_kinds [] P) (mean : Clear (st
   known [] none = tt
   known (item ∷ items) none = let parts = or_parts (not (is_among (unit_names_in P) item)) _ none in (not-false (is_among (unit_names_in P) item) parts.0, known items parts.1)
 
-  exclusion_good : (line : Line) → At Exclusions line → GoodExclusion (length (unit_names_in P)) (exclusion_read P line)
+  exclusion_good : (line : Line) → At Exclusions line → IsWellFormedExclusion (length (unit_names_in P)) (exclusion_read P line)
   exclusion_good line is =
       let kinds : Each (λ kind. stands is.1.0.0 (line_in Exclusions line) kind ≡ false) form_kinds = kinds_in Exclusions is.1.0.0 line is.0 is.1.0.1 in
       let means : Each (λ kind. stands_in P is.1.1.0 (line_in Exclusions line) kind ≡ false) meaning_kinds = means_in P Exclusions is.1.1.0 line is.0 is.1.1.1 in
@@ -178,16 +179,16 @@ module _ (P : List Line) (form : Clear stands form_kinds [] P) (mean : Clear (st
       let two : 2 ≤ length line.items = ltb-false (length line.items) 2 kinds.1.1.1.1.1.1.1.1.1.1.1.1.1.1.1.1.1.1.1.1.1.0 in
       let many : length line.items ≤ length (numbers_among line.items 0 (unit_names_in P)) = members_many line.items (unit_names_in P) kinds.1.1.1.1.1.1.1.1.1.1.1.1.1.1.1.1.1.1.1.1.0 (known line.items means.1.1.1.0) in
       record {
-        name = not-false (is_name line.name) (or_parts (not (is_name line.name)) false named.0).0;
-        many = omega arith;
+        named = not-false (is_name line.name) (or_parts (not (is_name line.name)) false named.0).0;
+        enough = omega arith;
         rising = members_rise line.items 0 (length (unit_names_in P)) (unit_names_in P) (omega arith);
       }
 
-  exclusions_good : Each (GoodExclusion (length (unit_names_in P))) (problem_of P).exclusions
-  exclusions_good = each-map (GoodExclusion (length (unit_names_in P))) (exclusion_read P) (lines_in Exclusions P) (each-to (At Exclusions) _ exclusion_good (lines_in Exclusions P) (at_section Exclusions))
+  exclusions_good : Each (IsWellFormedExclusion (length (unit_names_in P))) (problem_of P).exclusions
+  exclusions_good = each-map (IsWellFormedExclusion (length (unit_names_in P))) (exclusion_read P) (lines_in Exclusions P) (each-to (At Exclusions) _ exclusion_good (lines_in Exclusions P) (at_section Exclusions))
 
   -- the items of a problem that is read are good
-  pub good_read : list_any (λ (m : Material). is_product m.kind) (problem_of P).materials ≡ true → GoodProblem (problem_of P)
+  pub good_read : list_any (λ (m : Material). is_product m.kind) (problem_of P).materials ≡ true → IsWellFormed (problem_of P)
   good_read some_product =
       let years = payout_range (millionths (unwrap_or (value_at payout_period (default_fields (lines_in Defaults P))) (codes "1")))
       (years_of (value_at payout_period (default_fields (lines_in Defaults P))) (years_found (lines_in Defaults P) (each_filter (IsClearAt stands form_kinds) (is_in Defaults) P (clear_each stands form_kinds [] P form)))) in
@@ -197,15 +198,15 @@ module _ (P : List Line) (form : Clear stands form_kinds [] P) (mean : Clear (st
         few_materials = omega (arith, m_count, few_materials_read);
         few_units = omega (arith, unit_count, few_units_read);
         few_exclusions = omega (arith, length-map (lines_in Exclusions P) (exclusion_read P), few_exclusions_read);
-        materials = materials_good P form mean;
-        material_names_once = ap has_double names_same ∙ once_materials;
-        units = subst (λ (names : List (List ℕ)). Each (GoodUnit (length names)) (problem_of P).units) (sym names_same) units_good;
-        unit_names_once = ap has_double unit_names_read ∙ once_all;
-        exclusions = subst (λ (names : List (List ℕ)). Each (GoodExclusion (length names)) (problem_of P).exclusions) (sym unit_names_read) exclusions_good;
-        exclusion_names_once = ap has_double (map_twice (λ (e : Exclusion). e.name) (exclusion_read P) (lines_in Exclusions P)) ∙ once_exclusions;
-        some_product = some_product;
-        payout_low = years.0;
-        payout_high = years.1;
+        materials_formed = materials_good P form mean;
+        units_formed = subst (λ k. Each (IsWellFormedUnit k) (problem_of P).units) (ap (λ (names : List (List ℕ)). length names) (sym names_same) ∙ length-map (problem_of P).materials (λ (m : Material). m.name)) units_good;
+        exclusions_formed = subst (λ k. Each (IsWellFormedExclusion k) (problem_of P).exclusions) (sym unit_count) exclusions_good;
+        materials_apart = ap has_double names_same ∙ once_materials;
+        units_apart = ap has_double unit_names_read ∙ once_all;
+        exclusions_apart = ap has_double (map_twice (λ (e : Exclusion). e.name) (exclusion_read P) (lines_in Exclusions P)) ∙ once_exclusions;
+        with_product = some_product;
+        payout_positive = years.0;
+        payout_limit = years.1;
       }
 
 -- the two kinds of fault apart
@@ -232,4 +233,4 @@ read_is_valid bytes p e =
     let parts = read_cases (form_fault texts) (meaning_fault texts P) (problem_of P) p e in
     let form : first_of stands form_kinds [] P ≡ None = typed_cond (first_is_type texts) (first_of stands form_kinds [] P) parts.0 in
     let meant = meant_cond (first_of (stands_in P) meaning_kinds [] P) (list_any (λ (m : Material). is_product m.kind) (problem_of P).materials) (length texts + 1) parts.1 in
-    subst IsValid parts.2 (valid_problem (problem_of P) (good_read P (first_clear stands form_kinds [] P form) (first_clear (stands_in P) meaning_kinds [] P meant.0) meant.1))
+    subst IsValid parts.2 (valid_from_well_formed (problem_of P) (good_read P (first_clear stands form_kinds [] P form) (first_clear (stands_in P) meaning_kinds [] P meant.0) meant.1))

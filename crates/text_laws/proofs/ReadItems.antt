@@ -11,8 +11,10 @@ use Rattle.text_rules.specs.Field.{Line, is_in, lines_in, names_in, key_of, valu
 use Rattle.text_rules.specs.Fault.{stands, form_kinds, millionths, may_be_negative}
 use Rattle.text_rules.specs.Value.{value_at, setting, material_read, unit_read, term_read, side_of, stands_in, meaning_kinds}
 use Rattle.text_rules.specs.Canonical.{name_at}
-use Rattle.text_laws.proofs.Good.{has_number, has_double_number, GoodBound, GoodMaterial, GoodTerm, GoodSide, GoodUnit}
-use Rattle.text_laws.proofs.Each.{Each, each-to, each-map, each-both}
+use Rattle.problem_rules.specs.WellFormed.{IsBound, IsWellFormedMaterial, IsWellFormedTerm, IsWellFormedSide, IsWellFormedUnit}
+use Rattle.text_laws.proofs.Numbers.{has_number, has_double_number, repeats_same, shares_none}
+use Rattle.problem_rules.specs.Each.{Each}
+use Rattle.text_laws.proofs.Each.{each-to, each-map, each-both}
 use Rattle.text_laws.proofs.Clear.{Clear}
 use Rattle.text_laws.proofs.ReadFields.{IsClearAt, clear_each, each_filter, line_in, is_line_in, range_of, NotBelow, is_number_field, is_negative_field, value_good, setting_good, defaults_good}
 
@@ -77,12 +79,12 @@ numbers_same : (names : List (List ℕ)) (terms : List (List (List ℕ))) → nu
 numbers_same names [] = refl
 numbers_same names (t ∷ terms) = ap (λ (ks : List ℕ). number_in names (material_of t) ∷ ks) (numbers_same names terms)
 
-pub side_good : (names : List (List ℕ)) (terms : List (List (List ℕ))) → (length terms == 0) ≡ false → Each (IsTermRead names) terms → has_double (materials_of terms) ≡ false → GoodSide (length names) (map (term_read names) terms)
+pub side_good : (names : List (List ℕ)) (terms : List (List (List ℕ))) → (length terms == 0) ≡ false → Each (IsTermRead names) terms → has_double (materials_of terms) ≡ false → IsWellFormedSide (length names) (map (term_read names) terms)
 side_good names terms some each once = record {
   some = omega (arith, length-map terms (term_read names), long (length terms) some);
-  terms = each-map (GoodTerm (length names)) (term_read names) terms
-      (each-to (IsTermRead names) (λ term. GoodTerm (length names) (term_read names term)) (λ term is. record { material = (number_found names (material_of term) is.known).0; size = range_of (rate_of term); sign = is.positive }) terms each);
-  once = ap has_double_number (numbers_same names terms)
+  terms_formed = each-map (IsWellFormedTerm (length names)) (term_read names) terms
+      (each-to (IsTermRead names) (λ term. IsWellFormedTerm (length names) (term_read names term)) (λ term is. record { known = (number_found names (material_of term) is.known).0; in_range = range_of (rate_of term); positive = is.positive }) terms each);
+  once = repeats_same (map (term_read names) terms) ∙ ap has_double_number (numbers_same names terms)
       ∙ numbers_once names (materials_of terms) (each-map (λ y. is_among names y ≡ true) material_of terms (each-to (IsTermRead names) (λ term. is_among names (material_of term) ≡ true) (λ term is. is.known) terms each)) once;
 } where
   long : (n : ℕ) → (n == 0) ≡ false → 0 < n
@@ -103,8 +105,8 @@ apart_read names outs (t ∷ ins) known is none =
 -- both sides of a rates line
 pub record IsRatesRead (names : List (List ℕ)) (line : Line) : Type 0 where
   pub name : is_name line.name ≡ true
-  pub inputs : GoodSide (length names) (map (term_read names) (left line))
-  pub outputs : GoodSide (length names) (map (term_read names) (right line))
+  pub inputs : IsWellFormedSide (length names) (map (term_read names) (left line))
+  pub outputs : IsWellFormedSide (length names) (map (term_read names) (right line))
   pub apart : list_any (λ n. has_number n (numbers_of (map (term_read names) (right line)))) (numbers_of (map (term_read names) (left line))) ≡ false
 
 two_of : {A : Type 0} (xs : List A) → length xs ≡ 2 → (a : A) × (b : A) × (xs ≡ a ∷ b ∷ [])
@@ -178,13 +180,13 @@ module _ (P : List Line) (form : Clear stands form_kinds [] P) (mean : Clear (st
   given key number bound = value_good key number bound _ (defaults_good (lines_in Defaults P) (each_filter (IsClearAt stands form_kinds) (is_in Defaults) P form_at))
 
   bound_good : (fields : List (List ℕ × List ℕ)) (key dkey table : List ℕ) → list_any is_negative_field (filter is_number_field fields) ≡ false → bytes_eq key material_type ≡ false → may_be_negative key ≡ false
-      → bytes_eq dkey material_type ≡ false → may_be_negative dkey ≡ false → NotBelow table → GoodBound (millionths (setting P fields key dkey table))
+      → bytes_eq dkey material_type ≡ false → may_be_negative dkey ≡ false → NotBelow table → IsBound (millionths (setting P fields key dkey table))
   bound_good fields key dkey table none a b c d e = record {
-    size = range_of (setting P fields key dkey table);
-    sign = setting_good (value_at key fields) (value_at dkey (map (λ line. (key_of line.text, value_of line.text)) (lines_in Defaults P))) table (value_good key a b fields none) (given dkey c d) e;
+    in_range = range_of (setting P fields key dkey table);
+    not_negative = setting_good (value_at key fields) (value_at dkey (map (λ line. (key_of line.text, value_of line.text)) (lines_in Defaults P))) table (value_good key a b fields none) (given dkey c d) e;
   }
 
-  material_good : (line : Line) → (is_in Materials line ≡ true) × (IsClearAt stands form_kinds line × IsClearAt (stands_in P) meaning_kinds line) → GoodMaterial (material_read P line)
+  material_good : (line : Line) → (is_in Materials line ≡ true) × (IsClearAt stands form_kinds line × IsClearAt (stands_in P) meaning_kinds line) → IsWellFormedMaterial (material_read P line)
   material_good line is =
       let whole : line ≡ line_in Materials line = is_line_in Materials line is.0 in
       let kinds : Each (λ kind. stands is.1.0.0 (line_in Materials line) kind ≡ false) form_kinds = subst (λ (l : Line). Each (λ kind. stands is.1.0.0 l kind ≡ false) form_kinds) whole is.1.0.1 in
@@ -192,22 +194,24 @@ module _ (P : List Line) (form : Clear stands form_kinds [] P) (mean : Clear (st
       let fields : List (List ℕ × List ℕ) = fields_of (line_in Materials line) in
       let negative : list_any is_negative_field (filter is_number_field fields) ≡ false = kinds.1.1.1.1.1.1.1.1.1.0 in
       let named = or_parts (not (is_name line.name) || false) false kinds.1.1.1.0 in
-      subst (λ (l : Line). GoodMaterial (material_read P l)) (sym whole)
+      subst (λ (l : Line). IsWellFormedMaterial (material_read P l)) (sym whole)
       (record {
-        name = not-false (is_name line.name) (or_parts (not (is_name line.name)) false named.0).0;
-        price = range_of (setting P fields (codes "price") (for_material (codes "price")) (codes "0"));
-        lower = bound_good fields (codes "flow_rate_lower_bound") (for_material (codes "flow_rate_lower_bound")) (codes "0") negative refl refl refl refl refl;
-        upper = bound_good fields (codes "flow_rate_upper_bound") (for_material (codes "flow_rate_upper_bound")) (codes "1000000000") negative refl refl refl refl refl;
-        order = means.0;
+        named = not-false (is_name line.name) (or_parts (not (is_name line.name)) false named.0).0;
+        price_in_range = range_of (setting P fields (codes "price") (for_material (codes "price")) (codes "0"));
+        bounds = record {
+          lower_bound = bound_good fields (codes "flow_rate_lower_bound") (for_material (codes "flow_rate_lower_bound")) (codes "0") negative refl refl refl refl refl;
+          upper_bound = bound_good fields (codes "flow_rate_upper_bound") (for_material (codes "flow_rate_upper_bound")) (codes "1000000000") negative refl refl refl refl refl;
+          ordered = means.0;
+        };
       })
 
-  pub materials_good : Each GoodMaterial (map (material_read P) (lines_in Materials P))
-  materials_good = each-map GoodMaterial (material_read P) (lines_in Materials P)
-      (each-to _ (λ line. GoodMaterial (material_read P line)) material_good (lines_in Materials P) (each_filter _ (is_in Materials) P both_at))
+  pub materials_good : Each IsWellFormedMaterial (map (material_read P) (lines_in Materials P))
+  materials_good = each-map IsWellFormedMaterial (material_read P) (lines_in Materials P)
+      (each-to _ (λ line. IsWellFormedMaterial (material_read P line)) material_good (lines_in Materials P) (each_filter _ (is_in Materials) P both_at))
 
   -- a unit with these fields, whose name has a rates line
   pub unit_good : (name : List ℕ) (fields : List (List ℕ × List ℕ)) → is_name name ≡ true → list_any is_negative_field (filter is_number_field fields) ≡ false
-      → int_lt (unit_read P name fields).upper (unit_read P name fields).lower ≡ false → is_among (names_in Rates P) name ≡ true → GoodUnit (length (names_in Materials P)) (unit_read P name fields)
+      → int_lt (unit_read P name fields).upper (unit_read P name fields).lower ≡ false → is_among (names_in Rates P) name ≡ true → IsWellFormedUnit (length (names_in Materials P)) (unit_read P name fields)
   unit_good name fields good negative order listed =
       let found = find_named (IsRatesRead (names_in Materials P)) (lines_in Rates P) name
       (each-to _ (IsRatesRead (names_in Materials P)) (λ line is. rates_read P line is.0 is.1.0 is.1.1) (lines_in Rates P) (each_filter _ (is_in Rates) P both_at)) listed in
@@ -215,16 +219,19 @@ module _ (P : List Line) (form : Clear stands form_kinds [] P) (mean : Clear (st
       let ins : side_of left P name ≡ map (term_read (names_in Materials P)) (left found.0) = ap (from left) found.1 in
       let outs : side_of right P name ≡ map (term_read (names_in Materials P)) (right found.0) = ap (from right) found.1 in
       record {
-        name = good;
-        lower = bound_good fields (codes "capacity_lower_bound") (for_unit (codes "capacity_lower_bound")) (codes "0") negative refl refl refl refl refl;
-        upper = bound_good fields (codes "capacity_upper_bound") (for_unit (codes "capacity_upper_bound")) (codes "1000000000") negative refl refl refl refl refl;
+        named = good;
+        bounds = record {
+          lower_bound = bound_good fields (codes "capacity_lower_bound") (for_unit (codes "capacity_lower_bound")) (codes "0") negative refl refl refl refl refl;
+          upper_bound = bound_good fields (codes "capacity_upper_bound") (for_unit (codes "capacity_upper_bound")) (codes "1000000000") negative refl refl refl refl refl;
+          ordered = order;
+        };
         fix = bound_good fields (codes "fix_cost") (for_unit (codes "fix_cost")) (codes "0") negative refl refl refl refl refl;
         proportional = range_of (setting P fields (codes "proportional_cost") (for_unit (codes "proportional_cost")) (codes "0"));
         investment_fix = bound_good fields (codes "investment_fix_cost") (for_unit (codes "investment_fix_cost")) (codes "0") negative refl refl refl refl refl;
         investment_proportional = range_of (setting P fields (codes "investment_proportional_cost") (for_unit (codes "investment_proportional_cost")) (codes "0"));
-        order = order;
-        inputs = subst (GoodSide (length (names_in Materials P))) (sym ins) found.2.inputs;
-        outputs = subst (GoodSide (length (names_in Materials P))) (sym outs) found.2.outputs;
-        apart = ap (λ (os : List Term). list_any (λ n. has_number n (numbers_of os)) (numbers_of (side_of left P name))) outs
-            ∙ ap (λ (is : List Term). list_any (λ n. has_number n (numbers_of (map (term_read (names_in Materials P)) (right found.0)))) (numbers_of is)) ins ∙ found.2.apart;
+        inputs = subst (IsWellFormedSide (length (names_in Materials P))) (sym ins) found.2.inputs;
+        outputs = subst (IsWellFormedSide (length (names_in Materials P))) (sym outs) found.2.outputs;
+        sides_apart = shares_none (side_of left P name) (side_of right P name)
+            (ap (λ (os : List Term). list_any (λ n. has_number n (numbers_of os)) (numbers_of (side_of left P name))) outs
+            ∙ ap (λ (is : List Term). list_any (λ n. has_number n (numbers_of (map (term_read (names_in Materials P)) (right found.0)))) (numbers_of is)) ins ∙ found.2.apart);
       }
