@@ -1,4 +1,4 @@
--- The canonical text of a valid problem reads as that problem.
+-- The canonical text of a well formed problem reads as that problem.
 use Rattle.std.proofs.Common.{◌≡◌, ◌<◌, ◌+◌, ◌/◌, ◌==◌, Bool, true, false, not, ℕ, List, [], ◌∷◌, ◌++◌, length, map, filter, codes, bytes_eq, decimal, find, option_map, Option, Some, None, unwrap_or, Ok, Err, Result, ℤ, pos, negsuc, int_lt, unsigned_abs, refl, sym, ◌∙◌, ap, arith, if◌then◌else◌, eqb-true, append-nil, mul-div_cancel}
 use Rattle.std.specs.List.{list_any}
 use Rattle.std.specs.Result.{result_unwrap_or}
@@ -25,8 +25,6 @@ use Rattle.text_laws.proofs.RatesLines.{name_at_each, material_of_term}
 use Rattle.text_laws.proofs.NoFormFault.{no_form_fault}
 use Rattle.text_laws.proofs.Names.{among_self}
 use Rattle.text_laws.proofs.Found.{IsFound, each_found, filter_among, terms_back, members_back}
-use Rattle.problem_rules.specs.Validity.{IsValid}
-use Rattle.problem_rules.proofs.ValidLemmas.{well_formed_from_valid}
 use Rattle.text_laws.proofs.ItemsBack.{material_back, unit_back}
 
 abbrev name_of : Line → List ℕ
@@ -303,9 +301,9 @@ module _ (p : Problem) (is : IsWellFormed p) (a b c d : ℕ) where
       (clear-none (stands_in P) meaning_kinds [] P (clear_from [] P all_mean))
       ∙ cond-true _ None (Some (length texts + 1, NoProduct)) product
 
--- the canonical text of a problem whose items are good reads as that problem
-good_reads : (p : Problem) → IsWellFormed p → read_text (canonical p) ≡ Ok p
-good_reads p is = ap read_lines (canonical_read p is) ∙ from (canonical_parts p is) where
+-- the canonical text of a well formed problem reads as that problem
+pub canonical_reads : (p : Problem) → IsWellFormed p → read_text (canonical p) ≡ Ok p
+canonical_reads p is = ap read_lines (canonical_read p is) ∙ from (canonical_parts p is) where
   from : ((a b c d : ℕ) × (parts_of (canonical_lines p) ≡ parts_at p a b c d)) → read_lines (canonical_lines p) ≡ Ok p
   from found =
       let P : List Line = parts_at p found.0 found.1 found.2 found.3 in
@@ -315,7 +313,3 @@ good_reads p is = ap read_lines (canonical_read p is) ∙ from (canonical_parts 
       ∙ ap meant found.4
       ∙ ap (λ (o : Option Fault). elim o as (λ _. Result Problem Fault) [ Some fault ↦ Err fault | None ↦ Ok (problem_of P) ]) (no_meaning_fault p is found.0 found.1 found.2 found.3 texts)
       ∙ ap Ok (problem_is p is found.0 found.1 found.2 found.3)
-
--- the canonical text of a valid problem reads as that problem
-pub canonical_reads : (p : Problem) → IsValid p → read_text (canonical p) ≡ Ok p
-canonical_reads p valid = good_reads p (well_formed_from_valid p valid)

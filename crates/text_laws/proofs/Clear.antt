@@ -66,9 +66,6 @@ pub record GoodNumber (field : List ℕ × List ℕ) : Type 0 where
   pub reads : amount_of (field.1) ≡ Ok amount
   pub sign : (int_lt amount (pos 0) && not (may_be_negative (field.0))) ≡ false
 
-good_bad : (field : List ℕ × List ℕ) → GoodNumber field → is_bad (amount_of (field.1)) ≡ false
-good_bad field good = ap is_bad good.reads
-
 pub numbers_bad : (fields : List (List ℕ × List ℕ)) → Each GoodNumber fields → list_any (λ field. is_bad (amount_of (field.1))) fields ≡ false
 numbers_bad fields each = none_from_each _ fields (each-to GoodNumber _ (λ field good. ap is_bad good.reads) fields each)
 

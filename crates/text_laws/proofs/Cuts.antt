@@ -18,9 +18,6 @@ none_from_all p q each (x ∷ xs) all =
     let parts : (p x ≡ true) × (list_all p xs ≡ true) = and_parts (p x) (list_all p xs) all in
     or_from (q x) (list_any q xs) (each x parts.0) (none_from_all p q each xs parts.1)
 
-pub no_byte : (p : ℕ → Bool) (k : ℕ) → p k ≡ false → (xs : List ℕ) → list_all p xs ≡ true → list_any (λ c. c == k) xs ≡ false
-no_byte p k off = none_from_all p (λ c. c == k) (λ c is. not_mark p k c off is)
-
 module _ {A : Type 0} (p : A → Bool) where
   pub all_false : (xs : List A) → list_any p xs ≡ false → All (λ x. p x ≡ false) xs
   all_false [] none = All-nil (λ x. p x ≡ false)
@@ -68,9 +65,6 @@ module _ {A : Type 0} (p : A → Bool) where
   -- the end of a list
   pub no_prefix : (x : A) (xs : List A) → p x ≡ false → prefix_len p (x ∷ xs) ≡ 0
   no_prefix x xs off = cond-false (p x) (1 + prefix_len p xs) 0 off
-
-  pub no_suffix : (ys : List A) (x : A) → p x ≡ false → suffix_len p (ys ++ x ∷ []) ≡ 0
-  no_suffix ys x off = ap (prefix_len p) (reverse-append ys (x ∷ [])) ∙ no_prefix x (reverse ys) off
 
   -- one more in front changes nothing behind
   suffix_step : (y x : A) (xs : List A) → suffix_len p (x ∷ xs) ≡ 0 → suffix_len p (y ∷ x ∷ xs) ≡ 0

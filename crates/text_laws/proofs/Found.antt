@@ -1,8 +1,8 @@
 -- Names, numbers and settings are found again in the lines of a canonical text.
-use Rattle.std.proofs.Common.{◌≡◌, ◌<◌, ◌≤◌, ◌+◌, ◌||◌, ◌==◌, Bool, true, false, not, ℕ, zero, suc, List, [], ◌∷◌, length, map, filter, bytes_eq, find, position, Option, Some, None, unwrap_or, Result, ℤ, pos, unsigned_abs, refl, sym, ◌∙◌, ap, arith, if◌then◌else◌, eqb-true, ltb-true, leb-true, lt-ltb, ne_eqb, eq-eqb, one-add, ⊎_elim, le-leb, nat_lt, subst}
+use Rattle.std.proofs.Common.{◌≡◌, ◌<◌, ◌≤◌, ◌+◌, ◌||◌, ◌==◌, Bool, true, false, not, ℕ, zero, suc, List, [], ◌∷◌, length, map, filter, bytes_eq, find, position, Option, Some, None, unwrap_or, Result, ℤ, pos, unsigned_abs, refl, sym, ◌∙◌, ap, arith, if◌then◌else◌, eqb-true, lt-ltb, ne_eqb, eq-eqb, one-add, ⊎_elim, nat_lt, subst}
 use Rattle.std.specs.List.{position_or_len}
 use Rattle.std.specs.Result.{result_unwrap_or}
-use Rattle.std.proofs.lemmas.Bool.{cond_both, cond-true, cond-false, and_parts, or_parts, or_left, or_right, cases_Bool, true≢false, or_cases, and_from}
+use Rattle.std.proofs.lemmas.Bool.{cond_both, cond-true, cond-false, or_parts, or_left, or_right, cases_Bool, true≢false, or_cases}
 use Rattle.text_rules.specs.declared.TextKind.{TextKind}
 use Rattle.problem_rules.specs.Names.{is_among, has_double}
 use Rattle.text_rules.specs.Printed.{amount_bytes}

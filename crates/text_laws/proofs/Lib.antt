@@ -18,5 +18,5 @@ mod PrintedSides
 mod RatesLines
 mod ReadCounts
 mod ReadFields
-mod ReadIsValid
+mod ReadIsWellFormed
 mod ReadItems

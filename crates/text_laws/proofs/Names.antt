@@ -1,7 +1,6 @@
 -- Equal texts, and names that do or do not stand among others.
-use Rattle.std.proofs.Common.{◌≡◌, ◌||◌, true, false, ℕ, List, [], ◌∷◌, ◌++◌, bytes_eq, refl, sym, ◌∙◌}
+use Rattle.std.proofs.Common.{◌≡◌, true, false, ℕ, List, [], ◌∷◌, bytes_eq, refl, sym, ◌∙◌}
 use Rattle.std.proofs.lemmas.Bool.{or_parts, or_from, or_left, or_right, true≢false, false_from_ne_true}
-use Rattle.std.proofs.lemmas.List.Folds.{list_any-append}
 use Rattle.std.proofs.lemmas.Slice.Eq.{bytes_eq-Decides}
 use Rattle.problem_rules.specs.Names.{is_among}
 use Rattle.problem_rules.specs.Each.{Each}
@@ -37,17 +36,3 @@ fresh-cons old x [] none fresh = tt
 fresh-cons old x (y ∷ ys) none fresh =
     let parts : (bytes_eq y x ≡ false) × (is_among ys x ≡ false) = or_parts (bytes_eq y x) (is_among ys x) none in
     (or_from (bytes_eq x y) (is_among old y) (bytes_differ y x parts.0) fresh.0, fresh-cons old x ys parts.1 fresh.1)
-
--- behind the last of the others
-pub fresh-last : (old : List (List ℕ)) (x : List ℕ) (xs : List (List ℕ)) → is_among xs x ≡ false → Fresh old xs → Fresh (old ++ x ∷ []) xs
-fresh-last old x [] none fresh = tt
-fresh-last old x (y ∷ ys) none fresh =
-    let parts : (bytes_eq y x ≡ false) × (is_among ys x ≡ false) = or_parts (bytes_eq y x) (is_among ys x) none in
-    (list_any-append (λ word. bytes_eq word y) old (x ∷ []) ∙ or_from (is_among old y) (bytes_eq x y || false) fresh.0 (or_from (bytes_eq x y) false (bytes_differ y x parts.0) refl), fresh-last old x ys parts.1 fresh.1)
-
-pub fresh-parts : (old : List (List ℕ)) (x : List ℕ) (xs : List (List ℕ)) → Fresh (old ++ x ∷ []) xs → Fresh old xs × (is_among xs x ≡ false)
-fresh-parts old x [] fresh = (tt, refl)
-fresh-parts old x (y ∷ ys) fresh =
-    let parts = or_parts (is_among old y) (bytes_eq x y || false) (sym (list_any-append (λ word. bytes_eq word y) old (x ∷ [])) ∙ fresh.0) in
-    let rest = fresh-parts old x ys fresh.1 in
-    ((parts.0, rest.0), or_from (bytes_eq y x) (is_among ys x) (bytes_differ x y ((or_parts (bytes_eq x y) false parts.1).0)) rest.1)

@@ -1,9 +1,7 @@
 -- The words and pieces that are printed for each item of a well formed problem.
-use Rattle.std.proofs.Common.{◌≡◌, ◌<◌, ◌≤◌, ◌==◌, ◌+◌, Bool, true, false, ℕ, zero, suc, List, [], ◌∷◌, length, map, codes, ℤ, pos, unsigned_abs, int_lt, nat_le, nat_lt, ◌&&◌, refl, arith, ltb-true}
-use Rattle.std.specs.List.{list_any}
-use Rattle.std.proofs.lemmas.Bool.{and_parts, cond_both}
-use Rattle.problem_rules.specs.Names.{is_name, has_double}
-use Rattle.problem_rules.specs.Problem.{Kind, raw_material, intermediate, product, is_product, Material, Term, OperatingUnit, Exclusion, Problem, material_names, unit_names, exclusion_names, numbers_of}
+use Rattle.std.proofs.Common.{◌<◌, ◌≤◌, ◌==◌, ◌+◌, ℕ, zero, suc, List, [], ◌∷◌, length, map, codes, ℤ, unsigned_abs, refl, arith}
+use Rattle.std.proofs.lemmas.Bool.{cond_both}
+use Rattle.problem_rules.specs.Problem.{Kind, raw_material, intermediate, product, Material, Term, OperatingUnit}
 use Rattle.text_rules.specs.Amount.{amount_limit}
 use Rattle.text_rules.specs.Canonical.{field, kind_word, material_items, is_zero, field_unless_zero, unit_items, name_at, term_tokens}
 use Rattle.text_rules.specs.Printed.{amount_bytes}

@@ -1,8 +1,8 @@
 -- No kind of form stands at a rates line, nor at an exclusion's.
-use Rattle.std.proofs.Common.{◌≡◌, ◌<◌, ◌≤◌, ◌&&◌, ◌||◌, ◌==◌, Bool, true, false, not, ℕ, zero, suc, List, [], ◌∷◌, ◌++◌, length, get_or, map, filter, codes, bytes_eq, Ok, Result, ℤ, pos, negsuc, int_lt, unsigned_abs, nat_lt, refl, sym, ◌∙◌, ap, arith, eqb-true, ltb-true, leb-true, le-ltb, ne_eqb, eq-eqb}
+use Rattle.std.proofs.Common.{◌≡◌, ◌<◌, ◌≤◌, ◌&&◌, ◌||◌, ◌==◌, Bool, true, false, not, ℕ, zero, suc, List, [], ◌∷◌, ◌++◌, length, get_or, map, filter, codes, bytes_eq, Ok, Result, ℤ, pos, negsuc, int_lt, unsigned_abs, nat_lt, refl, sym, ◌∙◌, ap, arith, eqb-true, le-ltb, ne_eqb, eq-eqb}
 use Rattle.std.specs.List.{list_any}
 use Rattle.std.specs.Result.{result_unwrap_or}
-use Rattle.std.proofs.lemmas.Bool.{cond_both, lt-leb, and_left, and_right, and_parts, or_parts, or_from, or_left, true≢false}
+use Rattle.std.proofs.lemmas.Bool.{cond_both, lt-leb, and_left, and_right, or_parts, or_from, or_left, true≢false}
 use Rattle.std.proofs.lemmas.List.{length-map}
 use Rattle.std.proofs.lemmas.List.Folds.{list_any-append}
 use Rattle.text_rules.specs.declared.TextKind.{TextKind}

@@ -1,6 +1,6 @@
 -- A text without a fault names at most 128 units, and the units of its exclusions rise and are at least two.
-use Rattle.std.proofs.Common.{◌≡◌, ◌<◌, ◌≤◌, ◌⊎◌, inl, inr, ⊎_elim, ◌+◌, ◌&&◌, ◌||◌, Bool, true, false, cond, not, nat_le, ℕ, suc, List, [], ◌∷◌, ◌++◌, length, map, filter, bytes_eq, refl, sym, ◌∙◌, ap, subst, arith, le-leb, lt-ltb, leb-true, leb-false}
-use Rattle.std.proofs.lemmas.Bool.{cond_both, and_parts, and_from, or_parts, or_from, or_left, or_right, or_cases, true≢false}
+use Rattle.std.proofs.Common.{◌≡◌, ◌<◌, ◌≤◌, ◌⊎◌, inl, inr, ⊎_elim, ◌+◌, ◌&&◌, ◌||◌, Bool, true, false, cond, not, nat_le, ℕ, suc, List, [], ◌∷◌, ◌++◌, length, map, filter, bytes_eq, refl, sym, ◌∙◌, ap, subst, arith, leb-false}
+use Rattle.std.proofs.lemmas.Bool.{cond_both, or_parts, or_from, or_left, or_right, or_cases, true≢false}
 use Rattle.std.proofs.lemmas.List.Folds.{list_any-append}
 use Rattle.std.proofs.lemmas.Slice.Eq.{bytes_eq-Decides}
 use Rattle.text_rules.specs.declared.Section.{Section}

@@ -1,8 +1,8 @@
 -- What follows where no kind stands.
 use Rattle.std.proofs.Common.{◌≡◌, ◌<◌, ◌≤◌, ◌+◌, ◌*◌, ◌/◌, ◌%◌, ◌^◌, ◌-◌, ◌&&◌, ◌==◌, Bool, true, false, cond, not, nat_lt, ℕ, zero, suc, List, [], ◌∷◌, length, map, filter, bytes_eq, find, Option, Some, None, IfSome, unwrap_or, option_map, Result, Ok, Err, ℤ, pos, int_lt, refl, sym, ◌∙◌, ap, subst, arith, if◌then◌else◌, leb-true, ltb-false, unsigned_abs}
-use Rattle.std.specs.List.{list_all, list_any}
+use Rattle.std.specs.List.{list_any}
 use Rattle.std.specs.Result.{result_unwrap_or}
-use Rattle.std.proofs.lemmas.Bool.{cond_both, and_parts, and_from, or_parts, or_from, true≢false, not-true}
+use Rattle.std.proofs.lemmas.Bool.{cond_both, and_parts, or_parts, or_from, true≢false, not-true}
 use Rattle.std.proofs.lemmas.Slice.Eq.{bytes_eq-Decides}
 use Rattle.text_rules.specs.declared.TextKind.{TextKind}
 use Rattle.text_rules.specs.declared.TextKind.TheVariants.{BadNumber, TooFine, TooLarge}
@@ -55,10 +55,6 @@ each_filter P q (x ∷ xs) each = at (q x) refl (each_filter P q xs each.1) wher
   at : (b : Bool) → q x ≡ b → Each (λ x. (q x ≡ true) × P x) (filter q xs) → Each (λ x. (q x ≡ true) × P x) (cond b (x ∷ filter q xs) (filter q xs))
   at true e rest = ((e, each.0), rest)
   at false e rest = rest
-
-pub all_from_each : {A : Type 0} (test : A → Bool) (xs : List A) → Each (λ x. test x ≡ true) xs → list_all test xs ≡ true
-all_from_each test [] each = refl
-all_from_each test (x ∷ xs) each = and_from (test x) (list_all test xs) each.0 (all_from_each test xs each.1)
 
 -- the section of a line
 section_same : (a b : Section) → is_section a b ≡ true → b ≡ a

@@ -1,6 +1,8 @@
 //! The laws, each on a function without a body.
 ghost use Rattle.text_laws.specs.Laws.{AmountsReadBack, CanonicalReads, ReadIsValid};
 
+use problem_rules::valid_is_well_formed;
+
 /// A printed amount of at most 10^15 millionths reads as that amount.
 pub fn amounts_read_back()
     ensures { AmountsReadBack }
@@ -9,9 +11,13 @@ pub fn amounts_read_back()
 /// The canonical text of a valid problem reads as that problem.
 pub fn canonical_reads()
     ensures { CanonicalReads }
-{}
+{
+    valid_is_well_formed();
+}
 
 /// What a text without a fault stands for is a valid problem.
 pub fn read_is_valid()
     ensures { ReadIsValid }
-{}
+{
+    valid_is_well_formed();
+}

@@ -1,4 +1,4 @@
--- What a text without a fault stands for is a valid problem.
+-- What a text without a fault stands for is a well formed problem.
 use Rattle.std.proofs.Common.{◌≡◌, ◌<◌, ◌≤◌, ◌+◌, ◌/◌, ◌%◌, ◌&&◌, ◌||◌, ◌==◌, Bool, true, false, cond, not, nat_le, ℕ, List, [], ◌∷◌, ◌++◌, length, map, filter, codes, bytes_eq, find, Option, Some, None, IfSome, unwrap_or, option_map, Result, Ok, Err, ℤ, pos, negsuc, int_lt, unsigned_abs, refl, sym, ◌∙◌, ap, subst, arith, if◌then◌else◌, lt-ltb, leb-true, leb-false, ltb-true, ltb-false, eqb-true}
 use Rattle.std.specs.List.{list_any}
 use Rattle.std.proofs.lemmas.Bool.{cond_both, and_parts, or_parts, true≢false, not-true, not-false}
@@ -13,8 +13,6 @@ use Rattle.text_rules.specs.Field.{Line, key_of, value_of, payout_period, is_in,
 use Rattle.text_rules.specs.Fault.{Fault, first_of, stands, form_kinds, form_fault, first_is_type, parts_of, millionths, is_payout}
 use Rattle.text_rules.specs.Value.{unit_read, material_read, bare_rates, unit_names as unit_names_in, numbers_among, exclusion_read, problem_of, value_at, stands_in, meaning_kinds, meaning_fault, read_text}
 use Rattle.problem_rules.specs.WellFormed.{IsWellFormedUnit, IsWellFormedExclusion, IsWellFormed}
-use Rattle.problem_rules.proofs.ValidLemmas.{valid_from_well_formed}
-use Rattle.problem_rules.specs.Validity.{IsValid}
 use Rattle.problem_rules.specs.Each.{Each}
 use Rattle.text_laws.proofs.Each.{each-to, each-map, each-append, each-both, each-unmap}
 use Rattle.text_laws.proofs.Clear.{Clear}
@@ -225,12 +223,12 @@ read_cases (Some fault) mean read p e = cc
 read_cases None (Some fault) read p e = cc
 read_cases None None read p e = (refl, refl, cc)
 
--- what is read is valid
-pub read_is_valid : (bytes : List ℕ) (p : Problem) → read_text bytes ≡ Ok p → IsValid p
-read_is_valid bytes p e =
+-- what a text without a fault stands for is well formed
+pub read_is_well_formed : (bytes : List ℕ) (p : Problem) → read_text bytes ≡ Ok p → IsWellFormed p
+read_is_well_formed bytes p e =
     let texts : List (List ℕ) = lines_of bytes in
     let P : List Line = parts_of texts in
     let parts = read_cases (form_fault texts) (meaning_fault texts P) (problem_of P) p e in
     let form : first_of stands form_kinds [] P ≡ None = typed_cond (first_is_type texts) (first_of stands form_kinds [] P) parts.0 in
     let meant = meant_cond (first_of (stands_in P) meaning_kinds [] P) (list_any (λ (m : Material). is_product m.kind) (problem_of P).materials) (length texts + 1) parts.1 in
-    subst IsValid parts.2 (valid_from_well_formed (problem_of P) (good_read P (first_clear stands form_kinds [] P form) (first_clear (stands_in P) meaning_kinds [] P meant.0) meant.1))
+    subst IsWellFormed parts.2 (good_read P (first_clear stands form_kinds [] P form) (first_clear (stands_in P) meaning_kinds [] P meant.0) meant.1)
