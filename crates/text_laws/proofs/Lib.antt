@@ -1,17 +1,18 @@
 mod CanonicalParts
 mod CanonicalReads
-mod Clear
-mod Cuts
-mod Digits
-mod Each
+pub mod Clear
+pub mod Cuts
+pub mod Digits
+pub mod Each
 mod Found
 mod ItemLines
 mod ItemsBack
-mod Names
+pub mod NoKind
+pub mod Names
 mod NoFormFault
-mod Numbers
+pub mod Numbers
 mod Pieces
-mod PrintedAmount
+pub mod PrintedAmount
 mod PrintedItems
 mod PrintedLines
 mod PrintedSides

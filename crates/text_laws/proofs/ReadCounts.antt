@@ -1,5 +1,5 @@
 -- A text without a fault names at most 128 units, and the units of its exclusions rise and are at least two.
-use Rattle.std.proofs.Common.{◌≡◌, ◌<◌, ◌≤◌, ◌⊎◌, inl, inr, ⊎_elim, ◌+◌, ◌&&◌, ◌||◌, Bool, true, false, cond, not, nat_le, ℕ, suc, List, [], ◌∷◌, ◌++◌, length, map, filter, bytes_eq, refl, sym, ◌∙◌, ap, subst, arith, leb-false}
+use Rattle.std.proofs.Common.{◌≡◌, ◌<◌, ◌≤◌, ◌⊎◌, inl, inr, ⊎_elim, ◌+◌, ◌&&◌, ◌||◌, Bool, true, false, cond, not, nat_le, ℕ, suc, List, [], ◌∷◌, ◌++◌, length, map, filter, bytes_eq, refl, sym, ◌∙◌, ap, arith, leb-false}
 use Rattle.std.proofs.lemmas.Bool.{cond_both, or_parts, or_from, or_left, or_right, or_cases, true≢false}
 use Rattle.std.proofs.lemmas.List.Folds.{list_any-append}
 use Rattle.std.proofs.lemmas.Slice.Eq.{bytes_eq-Decides}
@@ -8,21 +8,14 @@ use Rattle.text_rules.specs.declared.Section.TheVariants.{OperatingUnits, Rates}
 use Rattle.problem_rules.specs.Names.{is_among, has_double, distinct}
 use Rattle.text_rules.specs.Field.{Line, is_in, lines_in, names_in}
 use Rattle.text_rules.specs.Fault.{stands, form_kinds}
-use Rattle.text_rules.specs.Value.{numbers_among, stands_in, meaning_kinds}
+use Rattle.text_rules.specs.Value.{numbers_among}
 use Rattle.problem_rules.specs.Each.{Each}
 use Rattle.text_laws.proofs.Each.{each-to, each-both}
 use Rattle.problem_rules.specs.WellFormed.{AreRisingFrom}
 use Rattle.text_laws.proofs.Numbers.{rising_less}
 use Rattle.text_laws.proofs.Names.{bytes_same, bytes_differ, among_self}
 use Rattle.text_laws.proofs.Clear.{Clear}
-use Rattle.text_laws.proofs.ReadFields.{line_in, is_line_in}
-
--- the kinds at a line of a section
-pub kinds_in : (s : Section) (before : List Line) (line : Line) → is_in s line ≡ true → Each (λ kind. stands before line kind ≡ false) form_kinds → Each (λ kind. stands before (line_in s line) kind ≡ false) form_kinds
-kinds_in s before line is each = subst (λ (l : Line). Each (λ kind. stands before l kind ≡ false) form_kinds) (is_line_in s line is) each
-
-pub means_in : (P : List Line) (s : Section) (before : List Line) (line : Line) → is_in s line ≡ true → Each (λ kind. stands_in P before line kind ≡ false) meaning_kinds → Each (λ kind. stands_in P before (line_in s line) kind ≡ false) meaning_kinds
-means_in P s before line is each = subst (λ (l : Line). Each (λ kind. stands_in P before l kind ≡ false) meaning_kinds) (is_line_in s line is) each
+use Rattle.text_laws.proofs.NoKind.{NoForm, kinds_in, line_in}
 
 -- a list without a double, all of whose members are among others, is no longer
 abbrev without : List ℕ → List (List ℕ) → List (List ℕ)
@@ -124,12 +117,12 @@ held_step before line kinds names few held = at (is_in OperatingUnits line) (is_
 
   at : (b1 b2 : Bool) → is_in OperatingUnits line ≡ b1 → is_in Rates line ≡ b2 → (more : List (List ℕ)) × (length more ≤ 128) × HeldBy more (line ∷ before)
   at true b2 e1 e2 = with_name (λ none.
-      let here : Each (λ kind. stands before (line_in OperatingUnits line) kind ≡ false) form_kinds = kinds_in OperatingUnits before line e1 kinds in
-      let full : (not (is_among (names_in OperatingUnits before ++ names_in Rates before) line.name) && nat_le 128 (length (distinct (names_in OperatingUnits before ++ names_in Rates before)))) ≡ false = here.1.1.1.1.1.1.1.1.1.1.1.1.1.1.1.1.1.1.0 in
+      let here : NoForm (stands before (line_in OperatingUnits line)) = kinds_in OperatingUnits before line e1 kinds in
+      let full : (not (is_among (names_in OperatingUnits before ++ names_in Rates before) line.name) && nat_le 128 (length (distinct (names_in OperatingUnits before ++ names_in Rates before)))) ≡ false = here.too_many in
       leb-false 128 (length (distinct (names_in OperatingUnits before ++ names_in Rates before))) (ap (λ b. not b && nat_le 128 (length (distinct (names_in OperatingUnits before ++ names_in Rates before)))) (sym none) ∙ full))
   at false true e1 e2 = with_name (λ none.
-      let here : Each (λ kind. stands before (line_in Rates line) kind ≡ false) form_kinds = kinds_in Rates before line e2 kinds in
-      let full : (not (is_among (names_in OperatingUnits before ++ names_in Rates before) line.name) && nat_le 128 (length (distinct (names_in OperatingUnits before ++ names_in Rates before)))) ≡ false = here.1.1.1.1.1.1.1.1.1.1.1.1.1.1.1.1.1.1.0 in
+      let here : NoForm (stands before (line_in Rates line)) = kinds_in Rates before line e2 kinds in
+      let full : (not (is_among (names_in OperatingUnits before ++ names_in Rates before) line.name) && nat_le 128 (length (distinct (names_in OperatingUnits before ++ names_in Rates before)))) ≡ false = here.too_many in
       leb-false 128 (length (distinct (names_in OperatingUnits before ++ names_in Rates before))) (ap (λ b. not b && nat_le 128 (length (distinct (names_in OperatingUnits before ++ names_in Rates before)))) (sym none) ∙ full))
   at false false e1 e2 = (
     names,

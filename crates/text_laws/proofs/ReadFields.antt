@@ -2,20 +2,20 @@
 use Rattle.std.proofs.Common.{◌≡◌, ◌<◌, ◌≤◌, ◌+◌, ◌*◌, ◌/◌, ◌%◌, ◌^◌, ◌-◌, ◌&&◌, ◌==◌, Bool, true, false, cond, not, nat_lt, ℕ, zero, suc, List, [], ◌∷◌, length, map, filter, bytes_eq, find, Option, Some, None, IfSome, unwrap_or, option_map, Result, Ok, Err, ℤ, pos, int_lt, refl, sym, ◌∙◌, ap, subst, arith, if◌then◌else◌, leb-true, ltb-false, unsigned_abs}
 use Rattle.std.specs.List.{list_any}
 use Rattle.std.specs.Result.{result_unwrap_or}
-use Rattle.std.proofs.lemmas.Bool.{cond_both, and_parts, or_parts, or_from, true≢false, not-true}
+use Rattle.std.proofs.lemmas.Bool.{cond_both, or_parts, or_from, true≢false}
 use Rattle.std.proofs.lemmas.Slice.Eq.{bytes_eq-Decides}
 use Rattle.text_rules.specs.declared.TextKind.{TextKind}
 use Rattle.text_rules.specs.declared.TextKind.TheVariants.{BadNumber, TooFine, TooLarge}
 use Rattle.text_rules.specs.declared.Section.{Section}
-use Rattle.text_rules.specs.declared.Section.TheVariants.{Preamble, MeasurementUnits, Defaults, Materials, OperatingUnits, Rates, Exclusions}
+use Rattle.text_rules.specs.declared.Section.TheVariants.{Defaults}
 use Rattle.problem_rules.specs.Names.{is_among, has_double}
 use Rattle.text_rules.specs.Amount.{amount_limit, signed, scaled, with_sign, is_number, has_minus, number_of, mantissa, tens_for, tens_against}
-use Rattle.text_rules.specs.Line.{is_section}
 use Rattle.text_rules.specs.Field.{Line, is_in, lines_in, names_in, key_of, value_of, material_type}
 use Rattle.text_rules.specs.Fault.{Fault, first_of, stands, form_kinds, millionths, may_be_negative}
 use Rattle.text_rules.specs.Value.{value_at}
 use Rattle.problem_rules.specs.Each.{Each}
 use Rattle.text_laws.proofs.Each.{each-to}
+use Rattle.text_laws.proofs.NoKind.{NoForm, kinds_in, line_in}
 use Rattle.text_laws.proofs.Names.{Fresh, bytes_differ}
 use Rattle.text_laws.proofs.Clear.{Clear}
 
@@ -55,26 +55,6 @@ each_filter P q (x ∷ xs) each = at (q x) refl (each_filter P q xs each.1) wher
   at : (b : Bool) → q x ≡ b → Each (λ x. (q x ≡ true) × P x) (filter q xs) → Each (λ x. (q x ≡ true) × P x) (cond b (x ∷ filter q xs) (filter q xs))
   at true e rest = ((e, each.0), rest)
   at false e rest = rest
-
--- the section of a line
-section_same : (a b : Section) → is_section a b ≡ true → b ≡ a
-section_same Preamble Preamble e = refl
-section_same MeasurementUnits MeasurementUnits e = refl
-section_same Defaults Defaults e = refl
-section_same Materials Materials e = refl
-section_same OperatingUnits OperatingUnits e = refl
-section_same Rates Rates e = refl
-section_same Exclusions Exclusions e = refl
-section_same a b e = absurd (true≢false (sym e))
-
-abbrev pub line_in : Section → Line → Line
-line_in section line = record { number = line.number; section = section; header = false; text = line.text; name = line.name; items = line.items; sides = line.sides }
-
-pub is_line_in : (section : Section) (line : Line) → is_in section line ≡ true → line ≡ line_in section line
-is_line_in section line is =
-    let parts = and_parts (is_section section line.section) (not line.header) is in
-    let made : Section → Bool → Line = λ s h. record { number = line.number; section = s; header = h; text = line.text; name = line.name; items = line.items; sides = line.sides } in
-    ap (λ s. made s line.header) (section_same section line.section parts.0) ∙ ap (made section) (not-true line.header parts.1)
 
 -- every number that is read is within the limit
 signed_range : (minus : Bool) (q : ℕ) → q ≤ amount_limit → unsigned_abs (signed minus q) ≤ amount_limit
@@ -180,8 +160,8 @@ defaults_good (line ∷ lines) each = from (is_number_field (key_of line.text, v
   negative : list_any is_negative_field (filter is_number_field ((key_of line.text, value_of line.text) ∷ [])) ≡ false
   negative =
       let before : List Line = each.0.1.0 in
-      let kinds : Each (λ kind. stands before (line_in Defaults line) kind ≡ false) form_kinds = subst (λ (l : Line). Each (λ kind. stands before l kind ≡ false) form_kinds) (is_line_in Defaults line each.0.0) each.0.1.1 in
-      kinds.1.1.1.1.1.1.1.1.1.0
+      let kinds : NoForm (stands before (line_in Defaults line)) = kinds_in Defaults before line each.0.0 each.0.1.1 in
+      kinds.negative
 
   from : (b : Bool) → is_number_field (key_of line.text, value_of line.text) ≡ b → list_any is_negative_field (filter is_number_field (map (λ line. (key_of line.text, value_of line.text)) lines)) ≡ false
       → list_any is_negative_field (cond b ((key_of line.text, value_of line.text) ∷ filter is_number_field (map (λ line. (key_of line.text, value_of line.text)) lines)) (filter is_number_field (map (λ line. (key_of line.text, value_of line.text)) lines))) ≡ false

@@ -17,9 +17,10 @@ use Rattle.problem_rules.specs.Each.{Each}
 use Rattle.text_laws.proofs.Each.{each-to, each-map, each-append, each-both, each-unmap}
 use Rattle.text_laws.proofs.Clear.{Clear}
 use Rattle.text_laws.proofs.Names.{among_self}
-use Rattle.text_laws.proofs.ReadFields.{IsClearAt, clear_each, each_filter, line_in, is_line_in, names_once, lines_few, first_clear}
+use Rattle.text_laws.proofs.ReadFields.{IsClearAt, clear_each, each_filter, names_once, lines_few, first_clear}
 use Rattle.text_laws.proofs.ReadItems.{both_at, materials_good, unit_good}
-use Rattle.text_laws.proofs.ReadCounts.{kinds_in, means_in, AllHeld, held_walk, no_longer, double_left, double_append, members_rise, members_many}
+use Rattle.text_laws.proofs.NoKind.{NoForm, NoMeaning, kinds_in, means_in, line_in, is_line_in}
+use Rattle.text_laws.proofs.ReadCounts.{AllHeld, held_walk, no_longer, double_left, double_append, members_rise, members_many}
 
 map_append : {A B : Type 0} (f : A → B) (xs ys : List A) → map f (xs ++ ys) ≡ map f xs ++ map f ys
 map_append f [] ys = refl
@@ -48,11 +49,11 @@ default_fields lines = map (λ line. (key_of line.text, value_of line.text)) lin
 years_found : (lines : List Line) → Each (λ line. (is_in Defaults line ≡ true) × IsClearAt stands form_kinds line) lines → IfSome (value_at payout_period (default_fields lines)) IsYears
 years_found [] each = tt
 years_found (line ∷ lines) each = from (bytes_eq (key_of line.text) payout_period) refl (years_found lines each.1) where
-  kinds : Each (λ kind. stands each.0.1.0 (line_in Defaults line) kind ≡ false) form_kinds
+  kinds : NoForm (stands each.0.1.0 (line_in Defaults line))
   kinds = kinds_in Defaults each.0.1.0 line each.0.0 each.0.1.1
 
   good : (bytes_eq (key_of line.text) payout_period && not (is_payout (millionths (value_of line.text)))) ≡ false
-  good = kinds.1.1.1.1.1.1.1.1.1.1.1.1.1.1.1.1.1.1.1.1.1.1.0
+  good = kinds.bad_payout
 
   from : (b : Bool) → bytes_eq (key_of line.text) payout_period ≡ b → IfSome (value_at payout_period (default_fields lines)) IsYears
       → IfSome (option_map (λ (field : List ℕ × List ℕ). field.1) (cond b (Some (key_of line.text, value_of line.text)) (find (λ field. bytes_eq (field.0) payout_period) (default_fields lines)))) IsYears
@@ -85,22 +86,22 @@ module _ (P : List Line) (form : Clear stands form_kinds [] P) (mean : Clear (st
 
   -- names that come once
   once_materials : has_double (names_in Materials P) ≡ false
-  once_materials = (names_once Materials (λ before line is each. let kinds = kinds_in Materials before line is each in kinds.1.1.1.1.1.1.1.1.1.1.1.1.1.1.1.0) [] P form).1
+  once_materials = (names_once Materials (λ before line is each. let kinds = kinds_in Materials before line is each in kinds.double_material) [] P form).1
 
   once_units : has_double (names_in OperatingUnits P) ≡ false
-  once_units = (names_once OperatingUnits (λ before line is each. let kinds = kinds_in OperatingUnits before line is each in kinds.1.1.1.1.1.1.1.1.1.1.1.1.1.1.1.1.0) [] P form).1
+  once_units = (names_once OperatingUnits (λ before line is each. let kinds = kinds_in OperatingUnits before line is each in kinds.double_unit) [] P form).1
 
   once_rates : has_double (names_in Rates P) ≡ false
-  once_rates = (names_once Rates (λ before line is each. let kinds = kinds_in Rates before line is each in kinds.1.1.1.1.1.1.1.1.1.1.1.1.1.1.1.1.1.0) [] P form).1
+  once_rates = (names_once Rates (λ before line is each. let kinds = kinds_in Rates before line is each in kinds.double_rates) [] P form).1
 
   once_exclusions : has_double (names_in Exclusions P) ≡ false
-  once_exclusions = (names_once Exclusions (λ before line is each. let kinds = kinds_in Exclusions before line is each in kinds.1.1.1.1.1.1.1.1.1.1.1.1.1.1.1.1.1.1.1.0) [] P form).1
+  once_exclusions = (names_once Exclusions (λ before line is each. let kinds = kinds_in Exclusions before line is each in kinds.double_exclusion) [] P form).1
 
   few_materials_read : length (lines_in Materials P) ≤ 256
-  few_materials_read = omega (arith, lines_few Materials 256 (λ before line is each. let kinds = kinds_in Materials before line is each in leb-false 256 (length (lines_in Materials before)) kinds.1.1.1.1.1.1.1.1.1.1.1.1.1.1.1.1.1.1.0) [] P form (omega arith))
+  few_materials_read = omega (arith, lines_few Materials 256 (λ before line is each. let kinds = kinds_in Materials before line is each in leb-false 256 (length (lines_in Materials before)) kinds.too_many) [] P form (omega arith))
 
   few_exclusions_read : length (lines_in Exclusions P) ≤ 64
-  few_exclusions_read = omega (arith, lines_few Exclusions 64 (λ before line is each. let kinds = kinds_in Exclusions before line is each in leb-false 64 (length (lines_in Exclusions before)) kinds.1.1.1.1.1.1.1.1.1.1.1.1.1.1.1.1.1.1.0) [] P form (omega arith))
+  few_exclusions_read = omega (arith, lines_few Exclusions 64 (λ before line is each. let kinds = kinds_in Exclusions before line is each in leb-false 64 (length (lines_in Exclusions before)) kinds.too_many) [] P form (omega arith))
 
   abbrev name_of : Line → List ℕ
   name_of line = line.name
@@ -140,21 +141,21 @@ module _ (P : List Line) (form : Clear stands form_kinds [] P) (mean : Clear (st
 
   own_good : (line : Line) → At OperatingUnits line → IsWellFormedUnit count (unit_read P line.name (fields_of line))
   own_good line is =
-      let kinds : Each (λ kind. stands is.1.0.0 (line_in OperatingUnits line) kind ≡ false) form_kinds = kinds_in OperatingUnits is.1.0.0 line is.0 is.1.0.1 in
-      let means : Each (λ kind. stands_in P is.1.1.0 (line_in OperatingUnits line) kind ≡ false) meaning_kinds = means_in P OperatingUnits is.1.1.0 line is.0 is.1.1.1 in
-      let named = or_parts (not (is_name line.name) || false) false kinds.1.1.1.0 in
+      let kinds : NoForm (stands is.1.0.0 (line_in OperatingUnits line)) = kinds_in OperatingUnits is.1.0.0 line is.0 is.1.0.1 in
+      let means : NoMeaning (stands_in P is.1.1.0 (line_in OperatingUnits line)) = means_in P OperatingUnits is.1.1.0 line is.0 is.1.1.1 in
+      let named = or_parts (not (is_name line.name) || false) false kinds.bad_name in
       subst (λ (l : Line). IsWellFormedUnit count (unit_read P l.name (fields_of l))) (sym (is_line_in OperatingUnits line is.0))
-      (unit_good P form mean line.name (fields_of (line_in OperatingUnits line)) (not-false (is_name line.name) (or_parts (not (is_name line.name)) false named.0).0) kinds.1.1.1.1.1.1.1.1.1.0 means.0
-      (not-false (is_among (names_in Rates P) line.name) means.1.1.0))
+      (unit_good P form mean line.name (fields_of (line_in OperatingUnits line)) (not-false (is_name line.name) (or_parts (not (is_name line.name)) false named.0).0) kinds.negative means.low_above_high
+      (not-false (is_among (names_in Rates P) line.name) means.no_rates))
 
   bare_good : (line : Line) → (not (is_among (names_in OperatingUnits P) line.name) ≡ true) × (At Rates line × (is_among (names_in Rates P) line.name ≡ true)) → IsWellFormedUnit count (unit_read P line.name [])
   bare_good line is =
       let here : At Rates line = is.1.0 in
-      let kinds : Each (λ kind. stands here.1.0.0 (line_in Rates line) kind ≡ false) form_kinds = kinds_in Rates here.1.0.0 line here.0 here.1.0.1 in
-      let means : Each (λ kind. stands_in P here.1.1.0 (line_in Rates line) kind ≡ false) meaning_kinds = means_in P Rates here.1.1.0 line here.0 here.1.1.1 in
-      let named = or_parts _ false kinds.1.1.1.0 in
+      let kinds : NoForm (stands here.1.0.0 (line_in Rates line)) = kinds_in Rates here.1.0.0 line here.0 here.1.0.1 in
+      let means : NoMeaning (stands_in P here.1.1.0 (line_in Rates line)) = means_in P Rates here.1.1.0 line here.0 here.1.1.1 in
+      let named = or_parts _ false kinds.bad_name in
       unit_good P form mean line.name [] (not-false (is_name line.name) (or_parts (not (is_name line.name)) _ named.0).0) refl
-      (and_first true (not (is_among (names_in OperatingUnits P) line.name)) (int_lt (unit_read P line.name []).upper (unit_read P line.name []).lower) means.0 refl is.0) is.1.1
+      (and_first true (not (is_among (names_in OperatingUnits P) line.name)) (int_lt (unit_read P line.name []).upper (unit_read P line.name []).lower) means.low_above_high refl is.0) is.1.1
 
   units_good : Each (IsWellFormedUnit count) (problem_of P).units
   units_good =
@@ -171,11 +172,11 @@ module _ (P : List Line) (form : Clear stands form_kinds [] P) (mean : Clear (st
 
   exclusion_good : (line : Line) → At Exclusions line → IsWellFormedExclusion (length (unit_names_in P)) (exclusion_read P line)
   exclusion_good line is =
-      let kinds : Each (λ kind. stands is.1.0.0 (line_in Exclusions line) kind ≡ false) form_kinds = kinds_in Exclusions is.1.0.0 line is.0 is.1.0.1 in
-      let means : Each (λ kind. stands_in P is.1.1.0 (line_in Exclusions line) kind ≡ false) meaning_kinds = means_in P Exclusions is.1.1.0 line is.0 is.1.1.1 in
-      let named = or_parts (not (is_name line.name) || false) _ kinds.1.1.1.0 in
-      let two : 2 ≤ length line.items = ltb-false (length line.items) 2 kinds.1.1.1.1.1.1.1.1.1.1.1.1.1.1.1.1.1.1.1.1.1.0 in
-      let many : length line.items ≤ length (numbers_among line.items 0 (unit_names_in P)) = members_many line.items (unit_names_in P) kinds.1.1.1.1.1.1.1.1.1.1.1.1.1.1.1.1.1.1.1.1.0 (known line.items means.1.1.1.0) in
+      let kinds : NoForm (stands is.1.0.0 (line_in Exclusions line)) = kinds_in Exclusions is.1.0.0 line is.0 is.1.0.1 in
+      let means : NoMeaning (stands_in P is.1.1.0 (line_in Exclusions line)) = means_in P Exclusions is.1.1.0 line is.0 is.1.1.1 in
+      let named = or_parts (not (is_name line.name) || false) _ kinds.bad_name in
+      let two : 2 ≤ length line.items = ltb-false (length line.items) 2 kinds.few_members in
+      let many : length line.items ≤ length (numbers_among line.items 0 (unit_names_in P)) = members_many line.items (unit_names_in P) kinds.double_member (known line.items means.unknown_unit) in
       record {
         named = not-false (is_name line.name) (or_parts (not (is_name line.name)) false named.0).0;
         enough = omega arith;

@@ -12,11 +12,12 @@ use Rattle.text_rules.specs.Fault.{stands, form_kinds, millionths, may_be_negati
 use Rattle.text_rules.specs.Value.{value_at, setting, material_read, unit_read, term_read, side_of, stands_in, meaning_kinds}
 use Rattle.text_rules.specs.Canonical.{name_at}
 use Rattle.problem_rules.specs.WellFormed.{IsBound, IsWellFormedMaterial, IsWellFormedTerm, IsWellFormedSide, IsWellFormedUnit}
+use Rattle.text_laws.proofs.NoKind.{NoForm, NoMeaning, no_form, no_meaning, kinds_in, means_in, line_in, is_line_in}
 use Rattle.text_laws.proofs.Numbers.{has_number, has_double_number, repeats_same, shares_none}
 use Rattle.problem_rules.specs.Each.{Each}
 use Rattle.text_laws.proofs.Each.{each-to, each-map, each-both}
 use Rattle.text_laws.proofs.Clear.{Clear}
-use Rattle.text_laws.proofs.ReadFields.{IsClearAt, clear_each, each_filter, line_in, is_line_in, range_of, NotBelow, is_number_field, is_negative_field, value_good, setting_good, defaults_good}
+use Rattle.text_laws.proofs.ReadFields.{IsClearAt, clear_each, each_filter, range_of, NotBelow, is_number_field, is_negative_field, value_good, setting_good, defaults_good}
 
 -- the number of a name that is among the names
 abbrev pub number_in : List (List ℕ) → List ℕ → ℕ
@@ -140,19 +141,22 @@ each_front P (x ∷ xs) ys each = let rest = each_front P xs ys each.1 in ((each
 module _ (P : List Line) where
   rates_two : (before behind : List Line) (n : ℕ) (text name : List ℕ) (items : List (List ℕ)) (l r : List (List (List ℕ))) → let line : Line = record { number = n; section = Rates; header = false; text = text; name = name; items = items; sides = l ∷ r ∷ [] } in
       Each (λ kind. stands before line kind ≡ false) form_kinds → Each (λ kind. stands_in P behind line kind ≡ false) meaning_kinds → IsRatesRead (names_in Materials P) line
-  rates_two before behind n text name items l r kinds means =
+  rates_two before behind n text name items l r form mean =
+      let line : Line = record { number = n; section = Rates; header = false; text = text; name = name; items = items; sides = l ∷ r ∷ [] } in
+      let kinds : NoForm (stands before line) = no_form (stands before line) form in
+      let means : NoMeaning (stands_in P behind line) = no_meaning (stands_in P behind line) mean in
       let names : List (List ℕ) = names_in Materials P in
-      let terms : Each (IsTermRead names) (l ++ (r ++ [])) = terms_known names (l ++ (r ++ [])) means.1.0 kinds.1.1.1.1.1.1.1.1.1.0 kinds.1.1.1.1.1.1.1.1.1.1.1.0 in
+      let terms : Each (IsTermRead names) (l ++ (r ++ [])) = terms_known names (l ++ (r ++ [])) means.unknown_material kinds.negative kinds.zero_rate in
       let ins = each_front (IsTermRead names) l (r ++ []) terms in
       let outs = each_front (IsTermRead names) r [] ins.1 in
-      let double = or_parts (has_double (materials_of l)) (has_double (materials_of r)) kinds.1.1.1.1.1.1.1.1.1.1.1.1.0 in
-      let empty = or_parts (length l == 0) ((length r == 0) || false) kinds.1.1.1.1.1.1.1.1.1.1.1.1.1.1.0 in
-      let named = or_parts _ false kinds.1.1.1.0 in
+      let double = or_parts (has_double (materials_of l)) (has_double (materials_of r)) kinds.double_term in
+      let empty = or_parts (length l == 0) ((length r == 0) || false) kinds.empty_side in
+      let named = or_parts _ false kinds.bad_name in
       record {
         name = not-false (is_name name) (or_parts (not (is_name name)) _ named.0).0;
         inputs = side_good names l empty.0 ins.0 double.0;
         outputs = side_good names r (or_parts (length r == 0) false empty.1).0 outs.0 double.1;
-        apart = apart_read names r l outs.0 ins.0 kinds.1.1.1.1.1.1.1.1.1.1.1.1.1.0;
+        apart = apart_read names r l outs.0 ins.0 kinds.both_sides;
       }
 
   pub rates_read : (line : Line) → is_in Rates line ≡ true → IsClearAt stands form_kinds line → IsClearAt (stands_in P) meaning_kinds line → IsRatesRead (names_in Materials P) line
@@ -160,7 +164,7 @@ module _ (P : List Line) where
       let whole : line ≡ line_in Rates line = is_line_in Rates line is in
       let kinds : Each (λ kind. stands form.0 (line_in Rates line) kind ≡ false) form_kinds = subst (λ (l : Line). Each (λ kind. stands form.0 l kind ≡ false) form_kinds) whole form.1 in
       let means : Each (λ kind. stands_in P mean.0 (line_in Rates line) kind ≡ false) meaning_kinds = subst (λ (l : Line). Each (λ kind. stands_in P mean.0 l kind ≡ false) meaning_kinds) whole mean.1 in
-      let formed = or_parts _ _ kinds.1.1.0 in
+      let formed = or_parts _ _ (no_form (stands form.0 (line_in Rates line)) kinds).bad_line in
       let two = or_parts _ (not (length line.sides == 2)) formed.0 in
       let sides = two_of line.sides (eqb-true (length line.sides) 2 (not-false (length line.sides == 2) two.1)) in
       let Made : List (List (List (List ℕ))) → Line = λ ss. record { number = line.number; section = Rates; header = false; text = line.text; name = line.name; items = line.items; sides = ss } in
@@ -189,11 +193,11 @@ module _ (P : List Line) (form : Clear stands form_kinds [] P) (mean : Clear (st
   material_good : (line : Line) → (is_in Materials line ≡ true) × (IsClearAt stands form_kinds line × IsClearAt (stands_in P) meaning_kinds line) → IsWellFormedMaterial (material_read P line)
   material_good line is =
       let whole : line ≡ line_in Materials line = is_line_in Materials line is.0 in
-      let kinds : Each (λ kind. stands is.1.0.0 (line_in Materials line) kind ≡ false) form_kinds = subst (λ (l : Line). Each (λ kind. stands is.1.0.0 l kind ≡ false) form_kinds) whole is.1.0.1 in
-      let means : Each (λ kind. stands_in P is.1.1.0 (line_in Materials line) kind ≡ false) meaning_kinds = subst (λ (l : Line). Each (λ kind. stands_in P is.1.1.0 l kind ≡ false) meaning_kinds) whole is.1.1.1 in
+      let kinds : NoForm (stands is.1.0.0 (line_in Materials line)) = kinds_in Materials is.1.0.0 line is.0 is.1.0.1 in
+      let means : NoMeaning (stands_in P is.1.1.0 (line_in Materials line)) = means_in P Materials is.1.1.0 line is.0 is.1.1.1 in
       let fields : List (List ℕ × List ℕ) = fields_of (line_in Materials line) in
-      let negative : list_any is_negative_field (filter is_number_field fields) ≡ false = kinds.1.1.1.1.1.1.1.1.1.0 in
-      let named = or_parts (not (is_name line.name) || false) false kinds.1.1.1.0 in
+      let negative : list_any is_negative_field (filter is_number_field fields) ≡ false = kinds.negative in
+      let named = or_parts (not (is_name line.name) || false) false kinds.bad_name in
       subst (λ (l : Line). IsWellFormedMaterial (material_read P l)) (sym whole)
       (record {
         named = not-false (is_name line.name) (or_parts (not (is_name line.name)) false named.0).0;
@@ -201,7 +205,7 @@ module _ (P : List Line) (form : Clear stands form_kinds [] P) (mean : Clear (st
         bounds = record {
           lower_bound = bound_good fields (codes "flow_rate_lower_bound") (for_material (codes "flow_rate_lower_bound")) (codes "0") negative refl refl refl refl refl;
           upper_bound = bound_good fields (codes "flow_rate_upper_bound") (for_material (codes "flow_rate_upper_bound")) (codes "1000000000") negative refl refl refl refl refl;
-          ordered = means.0;
+          ordered = means.low_above_high;
         };
       })
 

@@ -11,10 +11,14 @@ use Rattle.text_rules.specs.Value.{read_text}
 abbrev pub AmountsReadBack : Type 0
 AmountsReadBack = (z : ℤ) → unsigned_abs z ≤ amount_limit → amount_of (amount_bytes z) ≡ Ok z
 
--- The canonical text of a valid problem is in the grammar, and stands for that problem. Since a text stands for at most
--- one problem, it stands for no other.
+-- The canonical text of a valid problem has no fault, and stands for that problem. Since a text stands for at most one
+-- problem, it stands for no other.
 abbrev pub CanonicalReads : Type 0
 CanonicalReads = (p : Problem) → IsValid p → read_text (canonical p) ≡ Ok p
+
+-- so two valid problems with one canonical text are one problem
+abbrev pub CanonicalTells : Type 0
+CanonicalTells = (p q : Problem) → IsValid p → IsValid q → canonical p ≡ canonical q → p ≡ q
 
 -- what a text without a fault stands for has none of the faults of a problem
 abbrev pub ReadIsValid : Type 0

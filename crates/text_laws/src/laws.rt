@@ -1,5 +1,5 @@
-//! The laws, each on a function without a body.
-ghost use Rattle.text_laws.specs.Laws.{AmountsReadBack, CanonicalReads, ReadIsValid};
+//! The laws. Each function does nothing when it runs; a call tells a proof its law.
+ghost use Rattle.text_laws.specs.Laws.{AmountsReadBack, CanonicalReads, CanonicalTells, ReadIsValid};
 
 use problem_rules::valid_is_well_formed;
 
@@ -13,6 +13,13 @@ pub fn canonical_reads()
     ensures { CanonicalReads }
 {
     valid_is_well_formed();
+}
+
+/// Two valid problems with one canonical text are one problem.
+pub fn canonical_tells()
+    ensures { CanonicalTells }
+{
+    canonical_reads();
 }
 
 /// What a text without a fault stands for is a valid problem.
