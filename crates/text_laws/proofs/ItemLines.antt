@@ -105,30 +105,30 @@ unit_with n u one two = record {
   sides = sides_of (item_line u.name (unit_items u));
 }
 
-clear-00 : (before : List Line) (n count : ℕ) (u : OperatingUnit) → IsWellFormedUnit count u → is_among (names_in OperatingUnits before) u.name ≡ false
+clear-neither : (before : List Line) (n count : ℕ) (u : OperatingUnit) → IsWellFormedUnit count u → is_among (names_in OperatingUnits before) u.name ≡ false
     → length (distinct (names_in OperatingUnits before ++ names_in Rates before)) < 128 → Each (λ kind. stands before (unit_with n u [] []) kind ≡ false) form_kinds
-clear-00 before n count u good fresh few =
+clear-neither before n count u good fresh few =
     let fields : List (List ℕ × List ℕ) = numbers_of (unit_with n u [] []) in
     let numbers : Each GoodNumber fields = (bound_field (codes "capacity_lower_bound") u.lower good.bounds.lower_bound, (bound_field (codes "capacity_upper_bound") u.upper good.bounds.upper_bound, (bound_field (codes "fix_cost") u.fix good.fix, (free_field (codes "proportional_cost") u.proportional refl good.proportional, tt)))) in
     (refl, (refl, (refl, (ap (λ b. not b || false || false) good.named, (refl, (refl, (numbers_bad fields numbers, (numbers_fine fields numbers, (numbers_large fields numbers, (numbers_negative fields numbers, (refl, (refl, (refl, (refl, (refl, (refl, (fresh, (refl, (and_right _ _ (lt-leb 128 (length (distinct (names_in OperatingUnits before ++ names_in Rates before))) few), (refl, (refl, (refl, (refl, tt)))))))))))))))))))))))
 
-clear-01 : (before : List Line) (n count : ℕ) (u : OperatingUnit) → IsWellFormedUnit count u → is_among (names_in OperatingUnits before) u.name ≡ false
+clear-proportional : (before : List Line) (n count : ℕ) (u : OperatingUnit) → IsWellFormedUnit count u → is_among (names_in OperatingUnits before) u.name ≡ false
     → length (distinct (names_in OperatingUnits before ++ names_in Rates before)) < 128 → Each (λ kind. stands before (unit_with n u [] (field (codes "investment_proportional_cost") (amount_bytes u.investment_proportional) ∷ [])) kind ≡ false) form_kinds
-clear-01 before n count u good fresh few =
+clear-proportional before n count u good fresh few =
     let fields : List (List ℕ × List ℕ) = numbers_of (unit_with n u [] (field (codes "investment_proportional_cost") (amount_bytes u.investment_proportional) ∷ [])) in
     let numbers : Each GoodNumber fields = (bound_field (codes "capacity_lower_bound") u.lower good.bounds.lower_bound, (bound_field (codes "capacity_upper_bound") u.upper good.bounds.upper_bound, (bound_field (codes "fix_cost") u.fix good.fix, (free_field (codes "proportional_cost") u.proportional refl good.proportional, (free_field (codes "investment_proportional_cost") u.investment_proportional refl good.investment_proportional, tt))))) in
     (refl, (refl, (refl, (ap (λ b. not b || false || false) good.named, (refl, (refl, (numbers_bad fields numbers, (numbers_fine fields numbers, (numbers_large fields numbers, (numbers_negative fields numbers, (refl, (refl, (refl, (refl, (refl, (refl, (fresh, (refl, (and_right _ _ (lt-leb 128 (length (distinct (names_in OperatingUnits before ++ names_in Rates before))) few), (refl, (refl, (refl, (refl, tt)))))))))))))))))))))))
 
-clear-10 : (before : List Line) (n count : ℕ) (u : OperatingUnit) → IsWellFormedUnit count u → is_among (names_in OperatingUnits before) u.name ≡ false
+clear-fix : (before : List Line) (n count : ℕ) (u : OperatingUnit) → IsWellFormedUnit count u → is_among (names_in OperatingUnits before) u.name ≡ false
     → length (distinct (names_in OperatingUnits before ++ names_in Rates before)) < 128 → Each (λ kind. stands before (unit_with n u (field (codes "investment_fix_cost") (amount_bytes u.investment_fix) ∷ []) []) kind ≡ false) form_kinds
-clear-10 before n count u good fresh few =
+clear-fix before n count u good fresh few =
     let fields : List (List ℕ × List ℕ) = numbers_of (unit_with n u (field (codes "investment_fix_cost") (amount_bytes u.investment_fix) ∷ []) []) in
     let numbers : Each GoodNumber fields = (bound_field (codes "capacity_lower_bound") u.lower good.bounds.lower_bound, (bound_field (codes "capacity_upper_bound") u.upper good.bounds.upper_bound, (bound_field (codes "fix_cost") u.fix good.fix, (free_field (codes "proportional_cost") u.proportional refl good.proportional, (bound_field (codes "investment_fix_cost") u.investment_fix good.investment_fix, tt))))) in
     (refl, (refl, (refl, (ap (λ b. not b || false || false) good.named, (refl, (refl, (numbers_bad fields numbers, (numbers_fine fields numbers, (numbers_large fields numbers, (numbers_negative fields numbers, (refl, (refl, (refl, (refl, (refl, (refl, (fresh, (refl, (and_right _ _ (lt-leb 128 (length (distinct (names_in OperatingUnits before ++ names_in Rates before))) few), (refl, (refl, (refl, (refl, tt)))))))))))))))))))))))
 
-clear-11 : (before : List Line) (n count : ℕ) (u : OperatingUnit) → IsWellFormedUnit count u → is_among (names_in OperatingUnits before) u.name ≡ false
+clear-both : (before : List Line) (n count : ℕ) (u : OperatingUnit) → IsWellFormedUnit count u → is_among (names_in OperatingUnits before) u.name ≡ false
     → length (distinct (names_in OperatingUnits before ++ names_in Rates before)) < 128 → Each (λ kind. stands before (unit_with n u (field (codes "investment_fix_cost") (amount_bytes u.investment_fix) ∷ []) (field (codes "investment_proportional_cost") (amount_bytes u.investment_proportional) ∷ [])) kind ≡ false) form_kinds
-clear-11 before n count u good fresh few =
+clear-both before n count u good fresh few =
     let fields : List (List ℕ × List ℕ) = numbers_of (unit_with n u (field (codes "investment_fix_cost") (amount_bytes u.investment_fix) ∷ []) (field (codes "investment_proportional_cost") (amount_bytes u.investment_proportional) ∷ [])) in
     let numbers : Each GoodNumber fields = (bound_field (codes "capacity_lower_bound") u.lower good.bounds.lower_bound, (bound_field (codes "capacity_upper_bound") u.upper good.bounds.upper_bound, (bound_field (codes "fix_cost") u.fix good.fix, (free_field (codes "proportional_cost") u.proportional refl good.proportional, (bound_field (codes "investment_fix_cost") u.investment_fix good.investment_fix, (free_field (codes "investment_proportional_cost") u.investment_proportional refl good.investment_proportional, tt)))))) in
     (refl, (refl, (refl, (ap (λ b. not b || false || false) good.named, (refl, (refl, (numbers_bad fields numbers, (numbers_fine fields numbers, (numbers_large fields numbers, (numbers_negative fields numbers, (refl, (refl, (refl, (refl, (refl, (refl, (fresh, (refl, (and_right _ _ (lt-leb 128 (length (distinct (names_in OperatingUnits before ++ names_in Rates before))) few), (refl, (refl, (refl, (refl, tt)))))))))))))))))))))))
@@ -140,5 +140,5 @@ unit_clear before n count u good fresh few =
     let fix : List (List ℕ) = field (codes "investment_fix_cost") (amount_bytes u.investment_fix) ∷ [] in
     let proportional : List (List ℕ) = field (codes "investment_proportional_cost") (amount_bytes u.investment_proportional) ∷ [] in
     cond_both (is_zero u.investment_fix) [] fix (λ one. P one (field_unless_zero (codes "investment_proportional_cost") u.investment_proportional))
-    (λ e. cond_both (is_zero u.investment_proportional) [] proportional (λ two. P [] two) (λ e. clear-00 before n count u good fresh few) (λ e. clear-01 before n count u good fresh few))
-    (λ e. cond_both (is_zero u.investment_proportional) [] proportional (λ two. P fix two) (λ e. clear-10 before n count u good fresh few) (λ e. clear-11 before n count u good fresh few))
+    (λ e. cond_both (is_zero u.investment_proportional) [] proportional (λ two. P [] two) (λ e. clear-neither before n count u good fresh few) (λ e. clear-proportional before n count u good fresh few))
+    (λ e. cond_both (is_zero u.investment_proportional) [] proportional (λ two. P fix two) (λ e. clear-fix before n count u good fresh few) (λ e. clear-both before n count u good fresh few))

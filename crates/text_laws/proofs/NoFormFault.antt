@@ -114,63 +114,63 @@ module _ (p : Problem) (is : IsWellFormed p) where
   u_names : Each (λ name. is_name name ≡ true) (unit_names p.units)
   u_names = each-map (λ name. is_name name ≡ true) (λ (u : OperatingUnit). u.name) p.units (each-to (IsWellFormedUnit (length (material_names p.materials))) (λ u. is_name u.name ≡ true) (λ u good. good.named) p.units (units_named p is))
 
-  abbrev b1 : List Line → ℕ → List Line
-  b1 before a = header_part a Materials (codes "materials") ∷ before
+  abbrev at_materials : List Line → ℕ → List Line
+  at_materials before a = header_part a Materials (codes "materials") ∷ before
 
-  abbrev b2 : List Line → ℕ → List Line
-  b2 before a = onto (b1 before a) (numbered material_part (a + 1) p.materials)
+  abbrev past_materials : List Line → ℕ → List Line
+  past_materials before a = onto (at_materials before a) (numbered material_part (a + 1) p.materials)
 
-  abbrev b3 : List Line → ℕ → ℕ → List Line
-  b3 before a b = header_part b OperatingUnits (codes "operating_units") ∷ b2 before a
+  abbrev at_units : List Line → ℕ → ℕ → List Line
+  at_units before a b = header_part b OperatingUnits (codes "operating_units") ∷ past_materials before a
 
-  abbrev b4 : List Line → ℕ → ℕ → List Line
-  b4 before a b = onto (b3 before a b) (numbered unit_part (b + 1) p.units)
+  abbrev past_units : List Line → ℕ → ℕ → List Line
+  past_units before a b = onto (at_units before a b) (numbered unit_part (b + 1) p.units)
 
-  abbrev b5 : List Line → ℕ → ℕ → ℕ → List Line
-  b5 before a b c = header_part c Rates (codes "material_to_operating_unit_flow_rates") ∷ b4 before a b
+  abbrev at_rates : List Line → ℕ → ℕ → ℕ → List Line
+  at_rates before a b c = header_part c Rates (codes "material_to_operating_unit_flow_rates") ∷ past_units before a b
 
-  abbrev b6 : List Line → ℕ → ℕ → ℕ → List Line
-  b6 before a b c = onto (b5 before a b c) (numbered (rates_part (material_names p.materials)) (c + 1) p.units)
+  abbrev past_rates : List Line → ℕ → ℕ → ℕ → List Line
+  past_rates before a b c = onto (at_rates before a b c) (numbered (rates_part (material_names p.materials)) (c + 1) p.units)
 
   -- what fails at the lines of a section is not found behind it
-  any2 : (q : Line → Bool) → ((n : ℕ) (m : Material) → q (material_part n m) ≡ false) → (before : List Line) (a : ℕ) → list_any q (b2 before a) ≡ list_any q (b1 before a)
-  any2 q off before a = any_onto material_part q off (b1 before a) (a + 1) p.materials
+  any_materials : (q : Line → Bool) → ((n : ℕ) (m : Material) → q (material_part n m) ≡ false) → (before : List Line) (a : ℕ) → list_any q (past_materials before a) ≡ list_any q (at_materials before a)
+  any_materials q off before a = any_onto material_part q off (at_materials before a) (a + 1) p.materials
 
-  any4 : (q : Line → Bool) → ((n : ℕ) (u : OperatingUnit) → q (unit_part n u) ≡ false) → (before : List Line) (a b : ℕ) → list_any q (b4 before a b) ≡ list_any q (b3 before a b)
-  any4 q off before a b = any_onto unit_part q off (b3 before a b) (b + 1) p.units
+  any_units : (q : Line → Bool) → ((n : ℕ) (u : OperatingUnit) → q (unit_part n u) ≡ false) → (before : List Line) (a b : ℕ) → list_any q (past_units before a b) ≡ list_any q (at_units before a b)
+  any_units q off before a b = any_onto unit_part q off (at_units before a b) (b + 1) p.units
 
-  any6 : (q : Line → Bool) → ((n : ℕ) (u : OperatingUnit) → q (rates_part (material_names p.materials) n u) ≡ false) → (before : List Line) (a b c : ℕ) → list_any q (b6 before a b c) ≡ list_any q (b5 before a b c)
-  any6 q off before a b c = any_onto (rates_part (material_names p.materials)) q off (b5 before a b c) (c + 1) p.units
+  any_rates : (q : Line → Bool) → ((n : ℕ) (u : OperatingUnit) → q (rates_part (material_names p.materials) n u) ≡ false) → (before : List Line) (a b c : ℕ) → list_any q (past_rates before a b c) ≡ list_any q (at_rates before a b c)
+  any_rates q off before a b c = any_onto (rates_part (material_names p.materials)) q off (at_rates before a b c) (c + 1) p.units
 
-  lines2 : (q : Line → Bool) → ((n : ℕ) (m : Material) → q (material_part n m) ≡ false) → (before : List Line) (a : ℕ) → filter q (b2 before a) ≡ filter q (b1 before a)
-  lines2 q off before a = filter_onto material_part q off (b1 before a) (a + 1) p.materials
+  kept_materials : (q : Line → Bool) → ((n : ℕ) (m : Material) → q (material_part n m) ≡ false) → (before : List Line) (a : ℕ) → filter q (past_materials before a) ≡ filter q (at_materials before a)
+  kept_materials q off before a = filter_onto material_part q off (at_materials before a) (a + 1) p.materials
 
-  lines4 : (q : Line → Bool) → ((n : ℕ) (u : OperatingUnit) → q (unit_part n u) ≡ false) → (before : List Line) (a b : ℕ) → filter q (b4 before a b) ≡ filter q (b3 before a b)
-  lines4 q off before a b = filter_onto unit_part q off (b3 before a b) (b + 1) p.units
+  kept_units : (q : Line → Bool) → ((n : ℕ) (u : OperatingUnit) → q (unit_part n u) ≡ false) → (before : List Line) (a b : ℕ) → filter q (past_units before a b) ≡ filter q (at_units before a b)
+  kept_units q off before a b = filter_onto unit_part q off (at_units before a b) (b + 1) p.units
 
-  lines6 : (q : Line → Bool) → ((n : ℕ) (u : OperatingUnit) → q (rates_part (material_names p.materials) n u) ≡ false) → (before : List Line) (a b c : ℕ) → filter q (b6 before a b c) ≡ filter q (b5 before a b c)
-  lines6 q off before a b c = filter_onto (rates_part (material_names p.materials)) q off (b5 before a b c) (c + 1) p.units
+  kept_rates : (q : Line → Bool) → ((n : ℕ) (u : OperatingUnit) → q (rates_part (material_names p.materials) n u) ≡ false) → (before : List Line) (a b c : ℕ) → filter q (past_rates before a b c) ≡ filter q (at_rates before a b c)
+  kept_rates q off before a b c = filter_onto (rates_part (material_names p.materials)) q off (at_rates before a b c) (c + 1) p.units
 
-  units_new : (before : List Line) (a : ℕ) → Start before → list_any (is_header_of (codes "operating_units")) (b2 before a) ≡ false
-  units_new before a start = any2 (is_header_of (codes "operating_units")) (λ n m. refl) before a ∙ start.unit_header
+  units_new : (before : List Line) (a : ℕ) → Start before → list_any (is_header_of (codes "operating_units")) (past_materials before a) ≡ false
+  units_new before a start = any_materials (is_header_of (codes "operating_units")) (λ n m. refl) before a ∙ start.unit_header
 
-  rates_new : (before : List Line) (a b : ℕ) → Start before → list_any (is_header_of (codes "material_to_operating_unit_flow_rates")) (b4 before a b) ≡ false
-  rates_new before a b start = any4 (is_header_of (codes "material_to_operating_unit_flow_rates")) (λ n u. refl) before a b ∙ any2 (is_header_of (codes "material_to_operating_unit_flow_rates")) (λ n m. refl) before a ∙ start.rates_header
+  rates_new : (before : List Line) (a b : ℕ) → Start before → list_any (is_header_of (codes "material_to_operating_unit_flow_rates")) (past_units before a b) ≡ false
+  rates_new before a b start = any_units (is_header_of (codes "material_to_operating_unit_flow_rates")) (λ n u. refl) before a b ∙ any_materials (is_header_of (codes "material_to_operating_unit_flow_rates")) (λ n m. refl) before a ∙ start.rates_header
 
-  exclusions_new : (before : List Line) (a b c : ℕ) → Start before → list_any (is_header_of (codes "mutual_exclusions")) (b6 before a b c) ≡ false
-  exclusions_new before a b c start = any6 (is_header_of (codes "mutual_exclusions")) (λ n u. refl) before a b c ∙ any4 (is_header_of (codes "mutual_exclusions")) (λ n u. refl) before a b ∙ any2 (is_header_of (codes "mutual_exclusions")) (λ n m. refl) before a ∙ start.exclusion_header
+  exclusions_new : (before : List Line) (a b c : ℕ) → Start before → list_any (is_header_of (codes "mutual_exclusions")) (past_rates before a b c) ≡ false
+  exclusions_new before a b c start = any_rates (is_header_of (codes "mutual_exclusions")) (λ n u. refl) before a b c ∙ any_units (is_header_of (codes "mutual_exclusions")) (λ n u. refl) before a b ∙ any_materials (is_header_of (codes "mutual_exclusions")) (λ n m. refl) before a ∙ start.exclusion_header
 
-  no_units : (before : List Line) (a b : ℕ) → Start before → lines_in OperatingUnits (b3 before a b) ≡ []
-  no_units before a b start = lines2 (is_in OperatingUnits) (λ n m. refl) before a ∙ start.units
+  no_units : (before : List Line) (a b : ℕ) → Start before → lines_in OperatingUnits (at_units before a b) ≡ []
+  no_units before a b start = kept_materials (is_in OperatingUnits) (λ n m. refl) before a ∙ start.units
 
-  no_rates3 : (before : List Line) (a b : ℕ) → Start before → lines_in Rates (b3 before a b) ≡ []
-  no_rates3 before a b start = lines2 (is_in Rates) (λ n m. refl) before a ∙ start.rates
+  no_rates_at_units : (before : List Line) (a b : ℕ) → Start before → lines_in Rates (at_units before a b) ≡ []
+  no_rates_at_units before a b start = kept_materials (is_in Rates) (λ n m. refl) before a ∙ start.rates
 
-  no_rates5 : (before : List Line) (a b c : ℕ) → Start before → lines_in Rates (b5 before a b c) ≡ []
-  no_rates5 before a b c start = lines4 (is_in Rates) (λ n u. refl) before a b ∙ no_rates3 before a b start
+  no_rates_at_rates : (before : List Line) (a b c : ℕ) → Start before → lines_in Rates (at_rates before a b c) ≡ []
+  no_rates_at_rates before a b c start = kept_units (is_in Rates) (λ n u. refl) before a b ∙ no_rates_at_units before a b start
 
-  no_exclusions : (before : List Line) (a b c : ℕ) → Start before → lines_in Exclusions (b6 before a b c) ≡ []
-  no_exclusions before a b c start = lines6 (is_in Exclusions) (λ n u. refl) before a b c ∙ lines4 (is_in Exclusions) (λ n u. refl) before a b ∙ lines2 (is_in Exclusions) (λ n m. refl) before a ∙ start.exclusions
+  no_exclusions : (before : List Line) (a b c : ℕ) → Start before → lines_in Exclusions (past_rates before a b c) ≡ []
+  no_exclusions before a b c start = kept_rates (is_in Exclusions) (λ n u. refl) before a b c ∙ kept_units (is_in Exclusions) (λ n u. refl) before a b ∙ kept_materials (is_in Exclusions) (λ n m. refl) before a ∙ start.exclusions
 
   fresh_from : (lines : List Line) (names : List (List ℕ)) → lines ≡ [] → Fresh (map name_of lines) names
   fresh_from lines names e = subst (λ (ls : List Line). Fresh (map name_of ls) names) (sym e) (fresh-nil names)
@@ -192,18 +192,18 @@ module _ (p : Problem) (is : IsWellFormed p) where
       ++ exclusion_parts (unit_names p.units) d p.exclusions))))))
   sections_clear before a b c d start = (
     header-materials before a start.material_header,
-    clear-append stands form_kinds (b1 before a) (numbered material_part (a + 1) p.materials) _
-        (materials_walk (b1 before a) (a + 1) p.materials is.materials_formed is.materials_apart
+    clear-append stands form_kinds (at_materials before a) (numbered material_part (a + 1) p.materials) _
+        (materials_walk (at_materials before a) (a + 1) p.materials is.materials_formed is.materials_apart
         (fresh_from (lines_in Materials before) (material_names p.materials) start.materials) (omega (arith, ap (λ (ls : List Line). length ls) start.materials, is.few_materials))) (
-          header-units (b2 before a) b (units_new before a start),
-          clear-append stands form_kinds (b3 before a b) (numbered unit_part (b + 1) p.units) _
-              (units_walk (length (material_names p.materials)) (b3 before a b) (b + 1) p.units (units_named p is) is.units_apart (fresh_from (lines_in OperatingUnits (b3 before a b)) (unit_names p.units) (no_units before a b start))
-              (ap (map name_of) (no_rates3 before a b start)) (omega (arith, ap (λ (ls : List Line). length (map name_of ls)) (no_units before a b start), is.few_units))) (
-                header-rates (b4 before a b) c (rates_new before a b start),
-                clear-append stands form_kinds (b5 before a b c) (numbered (rates_part (material_names p.materials)) (c + 1) p.units) _
-                    (rates_walk (material_names p.materials) m_names is.materials_apart (b5 before a b c) (c + 1) p.units (units_named p is) is.units_apart
-                    (fresh_from (lines_in Rates (b5 before a b c)) (unit_names p.units) (no_rates5 before a b c start)) (all_among (b3 before a b) (b + 1) p.units))
-                    (exclusions_clear (b6 before a b c) d p.exclusions (exclusions_named p is) is.exclusions_apart is.few_exclusions (no_exclusions before a b c start) (exclusions_new before a b c start)),
+          header-units (past_materials before a) b (units_new before a start),
+          clear-append stands form_kinds (at_units before a b) (numbered unit_part (b + 1) p.units) _
+              (units_walk (length (material_names p.materials)) (at_units before a b) (b + 1) p.units (units_named p is) is.units_apart (fresh_from (lines_in OperatingUnits (at_units before a b)) (unit_names p.units) (no_units before a b start))
+              (ap (map name_of) (no_rates_at_units before a b start)) (omega (arith, ap (λ (ls : List Line). length (map name_of ls)) (no_units before a b start), is.few_units))) (
+                header-rates (past_units before a b) c (rates_new before a b start),
+                clear-append stands form_kinds (at_rates before a b c) (numbered (rates_part (material_names p.materials)) (c + 1) p.units) _
+                    (rates_walk (material_names p.materials) m_names is.materials_apart (at_rates before a b c) (c + 1) p.units (units_named p is) is.units_apart
+                    (fresh_from (lines_in Rates (at_rates before a b c)) (unit_names p.units) (no_rates_at_rates before a b c start)) (all_among (at_units before a b) (b + 1) p.units))
+                    (exclusions_clear (past_rates before a b c) d p.exclusions (exclusions_named p is) is.exclusions_apart is.few_exclusions (no_exclusions before a b c start) (exclusions_new before a b c start)),
               ),
         ),
   )
