@@ -70,8 +70,8 @@ amount_limit = 10 ^ 15
 abbrev pub signed : Bool → ℕ → ℤ
 signed minus n = if minus then neg_ℤ (pos n) else pos n
 
--- The number times ten to the one power, divided by ten to the other, which has to be whole and within the limit. A number
--- that is neither is too fine; 0 is 0 whatever its exponent.
+-- The number times ten to the one power, divided by ten to the other, which has to be whole and within the limit. One that
+-- is not whole is too fine, however large it is; 0 is 0 whatever its exponent.
 abbrev pub scaled_by : ℕ → ℕ → ℕ → Result ℕ TextKind
 scaled_by number up down =
     if not (number * 10 ^ up % 10 ^ down == 0) then Err TooFine

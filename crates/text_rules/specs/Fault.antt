@@ -61,8 +61,9 @@ keyed_items line = if is_in Defaults line then line.text ∷ [] else if is_in Ma
 
 -- The kinds of form that stand at a line, where these lines stand before it.
 -- A name and an item are judged apart, so a line may have several kinds. Numbers are judged one kind after the other: one that
--- is no number, too fine or too large counts as 0 for the kinds behind, and these are told first.
--- `-0` is no number below 0, and a rate of 0. A payout period below 1 is a bad payout period and no negative number.
+-- is no number, too fine or too large counts as 0 for the kinds behind, and is told before them.
+-- `-0` is not below 0, and as a rate it is 0. A payout period below 1 is a bad payout period and no negative number.
+-- A side without tokens is no bad line: what stands on the other side by an earlier kind is told first.
 -- Lines of exclusions are counted, not their names: a 65th is one too many even where it repeats a name. Names of units are
 -- counted in both sections together. A doubled member is judged by its text, whether the unit is known or not.
 abbrev pub stands : List Line → Line → TextKind → Bool

@@ -1,5 +1,5 @@
 -- The fields of a line: its name, its items with keys and values, and its sides with terms. What a line consists of does not
--- hang on its section: each line is taken apart in all these ways, and its section says which of them count.
+-- depend on its section: each line is taken apart in all these ways, and its section says which of them count.
 use Rattle.std.specs.Prelude.{◌==◌, ◌&&◌, ◌||◌, ℕ, Bool, List, [], ◌∷◌, ◌++◌, length, map, filter, flat_map, codes, not, slice_index_or, if◌then◌else◌}
 use Rattle.std.specs.List.{list_any, before_first, after_first, slice_split}
 use Rattle.std.specs.Str.{bytes_eq, byte}
