@@ -1,0 +1,4 @@
+pub mod RangeLemmas
+pub mod Division
+pub mod Entries
+pub mod Unique

@@ -1,0 +1,96 @@
+// A row combined with a pivot row: the step of an elimination in whole numbers.
+ghost use Rattle.std.specs.Prelude.{◌≡◌, ◌<◌, ◌<ℤ◌, ◌*ℤ◌, ◌-ℤ◌, pos, length, IfOk, IfErr, OnErr, OnOk, ℕ, slice_index_or, None, Some};
+ghost use Rattle.int_rows.specs.Range.{InRange, AllInRange};
+ghost use Rattle.int_rows.specs.Combined.{past_of, past_at, combined, IsCombined, IsPastEntry};
+
+use crate::{checked_difference, checked_product, gcd, primitive, quotient};
+
+/// Which number of an entry is out of range: the first product, the second, or their difference.
+#[derive(Clone, Copy, Debug, PartialEq, Eq)]
+pub enum Which {
+    Left,
+    Right,
+    Difference,
+}
+
+/// The first number out of range among all places.
+#[derive(Clone, Copy, Debug, PartialEq, Eq)]
+pub struct PastEntry {
+    pub j: usize,
+    pub which: Which,
+}
+
+/// `p * x - q * y`, or the first of the two products and their difference that is out of range.
+fn entry_of(p: i128, x: i128, q: i128, y: i128) -> Result<i128, Which>
+    ensures value { IfOk result (λ z. (z ≡ p *ℤ x -ℤ q *ℤ y) × InRange z × (past_of p x q y ≡ None)) }
+    ensures past { IfErr result (λ which. past_of p x q y ≡ Some which) }
+{
+    let Some(left) = checked_product(p, x) else {
+        return Err(Which::Left);
+    };
+    let Some(right) = checked_product(q, y) else {
+        return Err(Which::Right);
+    };
+    match checked_difference(left, right) {
+        Some(entry) => Ok(entry),
+        None => Err(Which::Difference),
+    }
+}
+
+/// `p * x - q * y`, where all three numbers are in range.
+fn entry_within(p: i128, x: i128, q: i128, y: i128) -> i128
+    requires { past_of p x q y ≡ None }
+    ensures value { result ≡ p *ℤ x -ℤ q *ℤ y }
+    ensures in_range { InRange result }
+{
+    p * x - q * y
+}
+
+fn check_entries(row: &[i128], pivot: &[i128], p: i128, q: i128) -> Result<(), PastEntry>
+    requires { length row.now ≡ length pivot.now }
+    ensures ok { OnOk result ((k : ℕ) → k < length row.now → past_at p q row.now pivot.now k ≡ None) }
+    ensures within { IfErr result (λ e. e.j < length row.now) }
+    ensures past { IfErr result (λ e. past_at p q row.now pivot.now e.j ≡ Some e.which) }
+    ensures before { IfErr result (λ e. (k : ℕ) → k < e.j → past_at p q row.now pivot.now k ≡ None) }
+{
+    for j in 0..row.len() {
+        if let Err(which) = entry_of(p, row[j], q, pivot[j]) {
+            return Err(PastEntry { j, which });
+        }
+    }
+    Ok(())
+}
+
+fn write_entries(row: &mut [i128], pivot: &[i128], p: i128, q: i128)
+    requires lengths { length row.old ≡ length pivot.now }
+    requires in_range { (k : ℕ) → k < length row.old → past_at p q row.old pivot.now k ≡ None }
+    ensures value { row.new ≡ combined p q row.old pivot.now }
+    ensures in_range { AllInRange row.new }
+{
+    for j in 0..row.len() {
+        row[j] = entry_within(p, row[j], q, pivot[j]);
+    }
+}
+
+/// `p * row - q * pivot`, made primitive. p and q are `pivot[c]` and `row[c]` divided by their greatest common divisor, so place c
+/// becomes 0. Refused exactly where one of the products or differences is out of range: the error names the least such place and the
+/// first such number there, and the row is as it was.
+pub fn combine(row: &mut [i128], pivot: &[i128], c: usize) -> Result<(), PastEntry>
+    requires lengths { length row.old ≡ length pivot.now }
+    requires place { c < length row.old }
+    requires positive { pos 0 <ℤ slice_index_or pivot.now c (pos 0) }
+    requires row_in_range { AllInRange row.old }
+    requires pivot_in_range { AllInRange pivot.now }
+    ensures done { OnOk result (IsCombined row.old pivot.now c row.new) }
+    ensures past { IfErr result (λ e. IsPastEntry row.old pivot.now c e.j e.which) }
+    ensures unchanged { OnErr result (row.new ≡ row.old) }
+    ensures in_range { AllInRange row.new }
+{
+    let common = gcd(pivot[c], row[c]);
+    let p = quotient(pivot[c], common);
+    let q = quotient(row[c], common);
+    check_entries(row, pivot, p, q)?;
+    write_entries(row, pivot, p, q);
+    primitive(row);
+    Ok(())
+}

@@ -1,0 +1,65 @@
+// Greatest common divisors, of two numbers and of a row.
+ghost use Rattle.std.specs.Prelude.{◌≡◌, ◌≤ℤ◌, ◌<ℤ◌, ◌*ℤ◌, pos, unsigned_abs, int_div};
+ghost use Rattle.std.specs.Int.{IsGcd, ◌∣◌};
+ghost use Rattle.int_rows.specs.Range.{InRange, AllInRange};
+ghost use Rattle.int_rows.specs.Reduced.{IsReduced, IsRowGcd};
+
+/// The greatest common divisor. It is at least 0, and 0 only for two zeros.
+pub fn gcd(a: i128, b: i128) -> i128
+    requires a_in_range { InRange a }
+    requires b_in_range { InRange b }
+    ensures not_negative { pos 0 ≤ℤ result }
+    ensures in_range { InRange result }
+    ensures greatest { IsGcd (unsigned_abs a) (unsigned_abs b) (unsigned_abs result) }
+{
+    let mut x = a.unsigned_abs();
+    let mut y = b.unsigned_abs();
+    while y != 0 {
+        let rest = x % y;
+        x = y;
+        y = rest;
+    }
+    x as i128
+}
+
+/// The entry divided by a divisor of it that is above 0.
+pub fn quotient(entry: i128, divisor: i128) -> i128
+    requires entry_in_range { InRange entry }
+    requires positive { pos 0 <ℤ divisor }
+    requires divides { unsigned_abs divisor ∣ unsigned_abs entry }
+    ensures value { result ≡ int_div entry divisor }
+    ensures in_range { InRange result }
+    ensures exact { divisor *ℤ result ≡ entry }
+{
+    entry / divisor
+}
+
+fn row_gcd(row: &[i128]) -> i128
+    requires { AllInRange row.now }
+    ensures not_negative { pos 0 ≤ℤ result }
+    ensures in_range { InRange result }
+    ensures greatest { IsRowGcd row.now (unsigned_abs result) }
+{
+    let mut common = 0;
+    for entry in row {
+        common = gcd(*entry, common);
+        if common == 1 {
+            break;
+        }
+    }
+    common
+}
+
+/// Divides the row by the greatest common divisor of its entries. A row of zeros stays.
+pub fn primitive(row: &mut [i128])
+    requires { AllInRange row.old }
+    ensures reduced { IsReduced row.old row.new }
+    ensures in_range { AllInRange row.new }
+{
+    let common = row_gcd(row);
+    if common > 1 {
+        for entry in row.iter_mut() {
+            *entry = quotient(*entry, common);
+        }
+    }
+}

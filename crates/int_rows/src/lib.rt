@@ -1,0 +1,17 @@
+//! Rows of whole numbers: exact steps of elimination in 128 bits, with a range that is symmetric. A number is in range where its
+//! absolute value is at most 2^127 - 1, so `i128::MIN` is never made, and each call that takes numbers wants them in range.
+//!
+//! - `checked`: products, sums and differences that answer `None` exactly where they leave the range.
+//! - `divisors`: the greatest common divisor of two numbers, and a row divided by that of its entries.
+//! - `combination`: a row combined with a pivot row, or the first number on the way that is out of range.
+//!
+//! No call takes memory, and a refused call leaves its row as it was.
+#![tactic(auto)]
+
+mod checked;
+mod combination;
+mod divisors;
+
+pub use checked::{checked_difference, checked_product, checked_sum};
+pub use combination::{combine, PastEntry, Which};
+pub use divisors::{gcd, primitive, quotient};
