@@ -1,9 +1,6 @@
--- The combined row, entry after entry, and its two factors.
-use Rattle.std.proofs.Common.{◌≡◌, ℕ, refl, sym, ap, ◌∙◌, arith, pos, negsuc, ℤ, ◌-ℤ◌, ◌*ℤ◌, ◌≤ℤ◌, ◌+◌, ◌-◌, ◌≤◌, ◌<◌, suc, List, [], ◌∷◌, take, drop, ◌++◌, set, get_or, length}
-use Rattle.std.specs.Prelude.{unsigned_abs}
-use Rattle.std.specs.Int.{IsGcd}
+-- The combined row, entry after entry.
+use Rattle.std.proofs.Common.{◌≡◌, ℕ, refl, sym, ap, ◌∙◌, arith, pos, ℤ, ◌-ℤ◌, ◌*ℤ◌, ◌+◌, ◌-◌, ◌≤◌, ◌<◌, suc, List, [], ◌∷◌, take, drop, ◌++◌, set, get_or, length}
 use Rattle.std.proofs.lemmas.List.{take_all, length-take-le, get_or-append_right, get_or-drop, drop_all, append-nil, drop_more, take_more, set_at, append_assoc}
-use Rattle.int_rows.specs.Lowest.{IsLowest}
 use Rattle.int_rows.specs.Combined.{combined}
 
 pub length-combined : (p q : ℤ) (row pivot : List ℤ) → length row ≡ length pivot → length (combined p q row pivot) ≡ length row
@@ -45,8 +42,3 @@ combined_more p q old pivot new j z e same within v =
 pub combined_all : (p q : ℤ) (old pivot new : List ℤ) (j : ℕ) → new ≡ combined p q (take j old) (take j pivot) ++ drop j old → length old ≡ length pivot → length old ≤ j → new ≡ combined p q old pivot
 combined_all p q old pivot new j e same past =
     e ∙ ap (λ xs. combined p q xs (take j pivot) ++ drop j old) (take_all j old past) ∙ ap (λ xs. combined p q old xs ++ drop j old) (take_all j pivot (omega arith)) ∙ ap (λ xs. combined p q old pivot ++ xs) (drop_all j old past) ∙ append-nil (combined p q old pivot)
-
--- what is left after division by the greatest common divisor is in lowest terms
-pub is_lowest : (x y g p q : ℤ) → pos 0 ≤ℤ g → IsGcd (unsigned_abs x) (unsigned_abs y) (unsigned_abs g) → g *ℤ p ≡ x → g *ℤ q ≡ y → IsLowest x y p q
-is_lowest x y (pos g) p q n h e f = record { common = g; is_gcd = h; x-is = sym e; y-is = sym f }
-is_lowest x y (negsuc g) p q n h e f = absurd n.le

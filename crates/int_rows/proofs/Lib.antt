@@ -1,4 +1,5 @@
 pub mod RangeLemmas
+pub mod LowestLemmas
 pub mod Division
 pub mod Entries
 pub mod Unique

@@ -24,12 +24,12 @@ past_of p x q y =
 abbrev pub past_at : ℤ → ℤ → List ℤ → List ℤ → ℕ → Option Which
 past_at p q row pivot j = past_of p (slice_index_or row j (pos 0)) q (slice_index_or pivot j (pos 0))
 
--- `new` is p times old minus q times pivot, made primitive. p and q are the entries of pivot and old at place c in lowest terms,
--- so place c becomes 0. No number on the way is out of range.
+-- `new` is p times old minus q times pivot, made primitive. p and q are the entries of pivot and old at place c,
+-- divided by their greatest common divisor, so place c becomes 0. No number on the way is out of range.
 pub record IsCombined (old pivot : List ℤ) (c : ℕ) (new : List ℤ) : Type 0 where
   pub p : ℤ
   pub q : ℤ
-  pub lowest : IsLowest (slice_index_or pivot c (pos 0)) (slice_index_or old c (pos 0)) p q
+  pub lowest : IsLowest (slice_index_or old c (pos 0)) (slice_index_or pivot c (pos 0)) q p
   pub in_range : (k : ℕ) → k < length old → past_at p q old pivot k ≡ None
   pub reduced : IsReduced (combined p q old pivot) new
 
@@ -37,7 +37,7 @@ pub record IsCombined (old pivot : List ℤ) (c : ℕ) (new : List ℤ) : Type 0
 pub record IsPastEntry (old pivot : List ℤ) (c j : ℕ) (which : Which) : Type 0 where
   pub p : ℤ
   pub q : ℤ
-  pub lowest : IsLowest (slice_index_or pivot c (pos 0)) (slice_index_or old c (pos 0)) p q
+  pub lowest : IsLowest (slice_index_or old c (pos 0)) (slice_index_or pivot c (pos 0)) q p
   pub within : j < length old
   pub past : past_at p q old pivot j ≡ Some which
   pub before : (k : ℕ) → k < j → past_at p q old pivot k ≡ None

@@ -3,7 +3,7 @@ ghost use Rattle.std.specs.Prelude.{◌≡◌, ◌<◌, ◌<ℤ◌, ◌*ℤ◌, 
 ghost use Rattle.int_rows.specs.Range.{InRange, AllInRange};
 ghost use Rattle.int_rows.specs.Combined.{past_of, past_at, combined, IsCombined, IsPastEntry};
 
-use crate::{checked_difference, checked_product, gcd, primitive, quotient};
+use crate::{checked_difference, checked_product, lowest_terms, primitive};
 
 /// Which number of an entry is out of range: the first product, the second, or their difference.
 #[derive(Clone, Copy, Debug, PartialEq, Eq)]
@@ -86,9 +86,7 @@ pub fn combine(row: &mut [i128], pivot: &[i128], c: usize) -> Result<(), PastEnt
     ensures unchanged { OnErr result (row.new ≡ row.old) }
     ensures in_range { AllInRange row.new }
 {
-    let common = gcd(pivot[c], row[c]);
-    let p = quotient(pivot[c], common);
-    let q = quotient(row[c], common);
+    let (q, p) = lowest_terms(row[c], pivot[c]);
     check_entries(row, pivot, p, q)?;
     write_entries(row, pivot, p, q);
     primitive(row);

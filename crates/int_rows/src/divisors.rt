@@ -2,6 +2,7 @@
 ghost use Rattle.std.specs.Prelude.{◌≡◌, ◌≤ℤ◌, ◌<ℤ◌, ◌*ℤ◌, pos, unsigned_abs, int_div};
 ghost use Rattle.std.specs.Int.{IsGcd, ◌∣◌};
 ghost use Rattle.int_rows.specs.Range.{InRange, AllInRange};
+ghost use Rattle.int_rows.specs.Lowest.{IsLowest};
 ghost use Rattle.int_rows.specs.Reduced.{IsReduced, IsRowGcd};
 
 /// The greatest common divisor. It is at least 0, and 0 only for two zeros.
@@ -23,7 +24,7 @@ pub fn gcd(a: i128, b: i128) -> i128
 }
 
 /// The entry divided by a divisor of it that is above 0.
-pub fn quotient(entry: i128, divisor: i128) -> i128
+fn quotient(entry: i128, divisor: i128) -> i128
     requires entry_in_range { InRange entry }
     requires positive { pos 0 <ℤ divisor }
     requires divides { unsigned_abs divisor ∣ unsigned_abs entry }
@@ -32,6 +33,21 @@ pub fn quotient(entry: i128, divisor: i128) -> i128
     ensures exact { divisor *ℤ result ≡ entry }
 {
     entry / divisor
+}
+
+/// x and y divided by their greatest common divisor, so x / y in lowest terms.
+pub fn lowest_terms(x: i128, y: i128) -> (i128, i128)
+    requires x_in_range { InRange x }
+    requires y_in_range { InRange y }
+    requires positive { pos 0 <ℤ y }
+    ensures lowest { IsLowest x y result.0 result.1 }
+    ensures first_in_range { InRange result.0 }
+    ensures second_in_range { InRange result.1 }
+    ensures second_positive { pos 0 <ℤ result.1 }
+    ensures coprime { IsGcd (unsigned_abs result.0) (unsigned_abs result.1) 1 }
+{
+    let common = gcd(x, y);
+    (quotient(x, common), quotient(y, common))
 }
 
 fn row_gcd(row: &[i128]) -> i128

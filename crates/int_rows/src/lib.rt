@@ -2,7 +2,7 @@
 //! absolute value is at most 2^127 - 1, so `i128::MIN` is never made, and each call that takes numbers wants them in range.
 //!
 //! - `checked`: products, sums and differences that answer `None` exactly where they leave the range.
-//! - `divisors`: the greatest common divisor of two numbers, and a row divided by that of its entries.
+//! - `divisors`: the greatest common divisor of two numbers, two numbers divided by it, and a row divided by that of its entries.
 //! - `combination`: a row combined with a pivot row, or the first number on the way that is out of range.
 //!
 //! No call takes memory, and a refused call leaves its row as it was.
@@ -14,4 +14,4 @@ mod divisors;
 
 pub use checked::{checked_difference, checked_product, checked_sum};
 pub use combination::{combine, PastEntry, Which};
-pub use divisors::{gcd, primitive, quotient};
+pub use divisors::{gcd, lowest_terms, primitive};

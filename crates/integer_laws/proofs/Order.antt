@@ -1,7 +1,11 @@
 -- Products and the order of the integers.
-use Rattle.std.proofs.Common.{◌≡◌, zero, suc, ◌⊎◌, inl, inr, arith, refl, ◌∙◌, pos, negsuc, ℤ, ◌-ℤ◌, ◌*ℤ◌, neg_ℤ, ◌<ℤ◌, ◌≤ℤ◌}
+use Rattle.std.proofs.Common.{◌≡◌, zero, suc, ◌⊎◌, inl, inr, arith, refl, sym, ap, ◌∙◌, pos, negsuc, ℤ, ◌-ℤ◌, ◌*ℤ◌, neg_ℤ, ◌<ℤ◌, ◌≤ℤ◌}
 use Rattle.std.proofs.lemmas.Int.{ints, clamps}
 use Rattle.std.specs.Int.{int_min, int_max}
+use Rattle.std.specs.Cmp.{int_cmp_is, int_ranks}
+use Rattle.std.specs.Ordering.{int_cmp, MatchOrdering}
+use Rattle.std.specs.declared.cmp.Ordering.{Ordering}
+use Rattle.std.specs.declared.cmp.Ordering.TheVariants.{Less, Equal, Greater}
 use Rattle.integer_laws.proofs.Ring.{ring_z, mul-sub_z}
 
 -- ---- signs
@@ -117,3 +121,14 @@ right-le_int_max x y = omega (arith, ints, clamps)
 
 pub int_max-le : (x y z : ℤ) → x ≤ℤ z → y ≤ℤ z → int_max x y ≤ℤ z
 int_max-le x y z h k = omega (arith, ints, clamps)
+
+-- ---- comparison
+
+scaled_rank : (k a b : ℤ) → pos 0 <ℤ k → (r : Ordering) → MatchOrdering r (a <ℤ b) (a ≡ b) (b <ℤ a) → MatchOrdering r ((k *ℤ a) <ℤ (k *ℤ b)) (k *ℤ a ≡ k *ℤ b) ((k *ℤ b) <ℤ (k *ℤ a))
+scaled_rank k a b p Less h = mul-lt_left k a b h p
+scaled_rank k a b p Equal h = ap (λ (z : ℤ). k *ℤ z) h
+scaled_rank k a b p Greater h = mul-lt_left k b a h p
+
+-- a factor above 0 on both sides changes no comparison
+pub int_cmp-mul : (k a b : ℤ) → pos 0 <ℤ k → int_cmp (k *ℤ a) (k *ℤ b) ≡ int_cmp a b
+int_cmp-mul k a b p = sym (int_cmp_is (k *ℤ a) (k *ℤ b) (int_cmp a b) (scaled_rank k a b p (int_cmp a b) (int_ranks a b)))
