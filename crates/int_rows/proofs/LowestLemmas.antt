@@ -23,6 +23,11 @@ common_positive {x} {y} h l = gcd_positive x y (pos l.common) h (omega (arith, i
 pub lowest_positive : {x y p q : ℤ} → pos 0 <ℤ y → IsLowest x y p q → pos 0 <ℤ q
 lowest_positive {x} {y} {p} {q} h l = pos_of-mul (pos l.common) q (common_positive h l) (subst (λ (z : ℤ). pos 0 <ℤ z) l.y-is h)
 
+pub lowest_first_positive : {x y p q : ℤ} → pos 0 <ℤ x → IsLowest x y p q → pos 0 <ℤ p
+lowest_first_positive {x} {y} {p} {q} h l =
+    let g = gcd_positive y x (pos l.common) h (omega (arith, ints)) (IsGcd-swap (unsigned_abs x) (unsigned_abs y) l.common l.is_gcd) in
+    pos_of-mul (pos l.common) p g (subst (λ (z : ℤ). pos 0 <ℤ z) l.x-is h)
+
 pub lowest_coprime : {x y p q : ℤ} → pos 0 <ℤ y → IsLowest x y p q → IsGcd (unsigned_abs p) (unsigned_abs q) 1
 lowest_coprime {x} {y} {p} {q} h l = lowest_of-gcd (pos l.common) p q x y (common_positive h l) (sym l.x-is) (sym l.y-is) l.is_gcd
 
@@ -35,9 +40,10 @@ lowest_cross {x} {y} {p} {q} l =
 pub lowest_same : {x y p q r s : ℤ} → pos 0 <ℤ y → IsLowest x y p q → IsLowest x y r s → (p ≡ r) × (q ≡ s)
 lowest_same {x} {y} {p} {q} {r} {s} h l m =
     let g : l.common ≡ m.common = same_from_IsGcd (unsigned_abs x) (unsigned_abs y) l.common m.common l.is_gcd m.is_gcd in
-    let k = common_positive h l in
-    (cancel (pos l.common) p r k (sym l.x-is ∙ (m.x-is ∙ ap (λ (n : ℕ). pos n *ℤ r) (sym g))),
-    cancel (pos l.common) q s k (sym l.y-is ∙ (m.y-is ∙ ap (λ (n : ℕ). pos n *ℤ s) (sym g))))
+    let k = common_positive h l in (
+      cancel (pos l.common) p r k (sym l.x-is ∙ (m.x-is ∙ ap (λ (n : ℕ). pos n *ℤ r) (sym g))),
+      cancel (pos l.common) q s k (sym l.y-is ∙ (m.y-is ∙ ap (λ (n : ℕ). pos n *ℤ s) (sym g))),
+    )
 
 -- a common factor changes nothing
 pub lowest_scaled : {x y p q : ℤ} (k : ℕ) → IsLowest x y p q → IsLowest (pos k *ℤ x) (pos k *ℤ y) p q
@@ -58,7 +64,7 @@ lowest_by : (x p : ℤ) (y q k : ℕ) → pos 0 <ℤ pos q → IsGcd (unsigned_a
 lowest_by x p y q k hq h e whole =
     let y-is : pos y ≡ pos k *ℤ pos q = ap pos (sym whole) ∙ omega (arith, ints) in
     let x-is : x ≡ pos k *ℤ p = cancel (pos q) x (pos k *ℤ p) hq
-        (mul_comm_z (pos q) x ∙ (sym e ∙ (ap (λ (z : ℤ). p *ℤ z) y-is ∙ ring (V p ⊗ (V (pos k) ⊗ V (pos q))) (V (pos q) ⊗ (V (pos k) ⊗ V p)) (omega arith)))) in
+    (mul_comm_z (pos q) x ∙ (sym e ∙ (ap (λ (z : ℤ). p *ℤ z) y-is ∙ ring (V p ⊗ (V (pos k) ⊗ V (pos q))) (V (pos q) ⊗ (V (pos k) ⊗ V p)) (omega arith)))) in
     let size : unsigned_abs p * k ≡ unsigned_abs x = mul_comm (unsigned_abs p) k ∙ (sym (unsigned_abs-mul (pos k) p) ∙ ap unsigned_abs (sym x-is)) in
     let one : 1 * k ≡ k = omega arith in
     record {

@@ -52,7 +52,7 @@ returns-clause-second_positive c =
     let p : SFits w128 c.quotient.result = fits_from_range _ c.quotient.ensures.in_range in
     let q : SFits w128 c.quotient-2.result = fits_from_range _ c.quotient-2.ensures.in_range in
     let low : IsLowest c.args.x c.args.y c.quotient.result c.quotient-2.result =
-        is_lowest c.args.x c.args.y c.gcd-common.result c.quotient.result c.quotient-2.result c.gcd-common.ensures.not_negative (simp to_z-of_z at c.gcd-common.ensures.greatest) (simp to_z-of_z at c.quotient.ensures.exact) (simp to_z-of_z at c.quotient-2.ensures.exact) in
+    is_lowest c.args.x c.args.y c.gcd-common.result c.quotient.result c.quotient-2.result c.gcd-common.ensures.not_negative (simp to_z-of_z at c.gcd-common.ensures.greatest) (simp to_z-of_z at c.quotient.ensures.exact) (simp to_z-of_z at c.quotient-2.ensures.exact) in
     simp to_z-of_z (lowest_positive c.requires.positive low)
 
 pub returns-clause-coprime : goal.returns-clause-coprime
@@ -63,5 +63,5 @@ returns-clause-coprime c =
     let p : SFits w128 c.quotient.result = fits_from_range _ c.quotient.ensures.in_range in
     let q : SFits w128 c.quotient-2.result = fits_from_range _ c.quotient-2.ensures.in_range in
     let low : IsLowest c.args.x c.args.y c.quotient.result c.quotient-2.result =
-        is_lowest c.args.x c.args.y c.gcd-common.result c.quotient.result c.quotient-2.result c.gcd-common.ensures.not_negative (simp to_z-of_z at c.gcd-common.ensures.greatest) (simp to_z-of_z at c.quotient.ensures.exact) (simp to_z-of_z at c.quotient-2.ensures.exact) in
+    is_lowest c.args.x c.args.y c.gcd-common.result c.quotient.result c.quotient-2.result c.gcd-common.ensures.not_negative (simp to_z-of_z at c.gcd-common.ensures.greatest) (simp to_z-of_z at c.quotient.ensures.exact) (simp to_z-of_z at c.quotient-2.ensures.exact) in
     simp to_z-of_z (lowest_coprime c.requires.positive low)

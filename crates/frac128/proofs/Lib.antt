@@ -1,0 +1,2 @@
+pub mod EuclidLemmas
+pub mod FractionLemmas

@@ -1,0 +1,4 @@
+pub mod Product
+pub mod Sum
+pub mod Text
+pub mod OrderLaws

@@ -1,0 +1,11 @@
+-- A fraction that cannot be kept, because its lowest terms leave the range.
+use Rattle.std.specs.Prelude.{ℤ}
+use Rattle.int_rows.specs.Range.{InRange}
+use Rattle.int_rows.specs.Lowest.{IsLowest}
+
+-- x / y in lowest terms has a numerator or a denominator out of range
+pub record IsPastLowest (x y : ℤ) : Type 0 where
+  pub n : ℤ
+  pub d : ℤ
+  pub lowest : IsLowest x y n d
+  pub past : ¬ (InRange n × InRange d)

@@ -1,0 +1,16 @@
+//! Exact fractions. A `Frac` is a fraction of two numbers of at most 127 bits in lowest terms, with a denominator above 0, so each
+//! number has one `Frac`: `==` and `Hash` go by numerator and denominator, and `<` by the numbers that they stand for.
+//!
+//! Comparison refuses nothing, whatever the size of the cross products. Sum and product answer `Past` exactly where a number that they
+//! form is out of range; the numbers formed are stated in `specs/Sum` and `specs/Product`.
+//!
+//! - `fraction`: `Frac`, its sum, product and order.
+//! - `text`: its text, as `5/6` or `-2`.
+//! - `euclid`: the comparison of two fractions by Euclid's steps.
+#![tactic(auto)]
+
+mod euclid;
+mod fraction;
+mod text;
+
+pub use fraction::{Frac, Past};
