@@ -1,5 +1,5 @@
 // A row combined with a pivot row: the step of an elimination in whole numbers.
-ghost use Rattle.std.specs.Prelude.{◌≡◌, ◌<◌, ◌<ℤ◌, ◌*ℤ◌, ◌-ℤ◌, pos, length, IfOk, IfErr, OnErr, OnOk, ℕ, slice_index_or, None, Some};
+ghost use Rattle.std.specs.Prelude.{◌≡◌, ◌<◌, ◌<ℤ◌, ◌*ℤ◌, ◌-ℤ◌, pos, length, IfOk, IfErr, OnErr, OnOk, ℕ, slice_index_or, None, Some, IsTrue, ◌↔◌, ◌^◌, unsigned_abs};
 ghost use Rattle.int_rows.specs.Range.{InRange, AllInRange};
 ghost use Rattle.int_rows.specs.Combined.{past_of, past_at, combined, IsCombined, IsPastEntry};
 
@@ -20,20 +20,32 @@ pub struct PastEntry {
     pub which: Which,
 }
 
-/// `p * x - q * y`, or the first of the two products and their difference that is out of range.
-fn entry_of(p: i128, x: i128, q: i128, y: i128) -> Result<i128, Which>
-    ensures value { IfOk result (λ z. (z ≡ p *ℤ x -ℤ q *ℤ y) × InRange z × (past_of p x q y ≡ None)) }
-    ensures past { IfErr result (λ which. past_of p x q y ≡ Some which) }
+/// Whether the number has less than 64 bits.
+fn is_small(number: i128) -> bool
+    ensures { IsTrue result ↔ (unsigned_abs number < 2 ^ 63) }
 {
+    -SMALL < number && number < SMALL
+}
+
+const SMALL: i128 = 1 << 63;
+
+/// The first of `p * x`, `q * y` and their difference that is out of range.
+fn first_past(p: i128, x: i128, q: i128, y: i128) -> Option<Which>
+    ensures { result ≡ past_of p x q y }
+{
+    // Most numbers of a row are small, and their products need no check.
+    if is_small(p) && is_small(x) && is_small(q) && is_small(y) {
+        return None;
+    }
     let Some(left) = checked_product(p, x) else {
-        return Err(Which::Left);
+        return Some(Which::Left);
     };
     let Some(right) = checked_product(q, y) else {
-        return Err(Which::Right);
+        return Some(Which::Right);
     };
     match checked_difference(left, right) {
-        Some(entry) => Ok(entry),
-        None => Err(Which::Difference),
+        Some(_) => None,
+        None => Some(Which::Difference),
     }
 }
 
@@ -54,7 +66,7 @@ fn check_entries(row: &[i128], pivot: &[i128], p: i128, q: i128) -> Result<(), P
     ensures before { IfErr result (λ e. (k : ℕ) → k < e.j → past_at p q row.now pivot.now k ≡ None) }
 {
     for j in 0..row.len() {
-        if let Err(which) = entry_of(p, row[j], q, pivot[j]) {
+        if let Some(which) = first_past(p, row[j], q, pivot[j]) {
             return Err(PastEntry { j, which });
         }
     }

@@ -13,14 +13,28 @@ pub fn gcd(a: i128, b: i128) -> i128
     ensures in_range { InRange result }
     ensures greatest { IsGcd (unsigned_abs a) (unsigned_abs b) (unsigned_abs result) }
 {
-    let mut x = a.unsigned_abs();
-    let mut y = b.unsigned_abs();
-    while y != 0 {
-        let rest = x % y;
-        x = y;
-        y = rest;
+    let (mut x, mut y) = (a.unsigned_abs(), b.unsigned_abs());
+    while y > WIDE {
+        (x, y) = (y, x % y);
     }
-    x as i128
+    if y == 0 {
+        return x as i128;
+    }
+
+    // From here on 64 bits do, whose division is many times faster.
+    narrow_gcd(y as u64, (x % y) as u64) as i128
+}
+
+const WIDE: u128 = u64::MAX as u128;
+
+fn narrow_gcd(a: u64, b: u64) -> u64
+    ensures { IsGcd a b result }
+{
+    let (mut x, mut y) = (a, b);
+    while y != 0 {
+        (x, y) = (y, x % y);
+    }
+    x
 }
 
 /// The entry divided by a divisor of it that is above 0.

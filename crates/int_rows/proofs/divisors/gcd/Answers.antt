@@ -21,7 +21,12 @@ loop-y-preserved c = record {
   same = λ g h. c.loop-y.invariant.same g (IsGcd-from_mod _ _ g h);
 }
 
+pub returns-then-y-eq0-clause-greatest : goal.returns-then-y-eq0-clause-greatest
+returns-then-y-eq0-clause-greatest c =
+    let x_is : to_z w128 c.loop-y.x ≡ pos c.loop-y.x = to_z_pos w128 c.loop-y.x c.loop-y.invariant.x_in_range in
+    rw x_is (simp (to_z-of_z w128 c.args.a c.ranges.a, to_z-of_z w128 c.args.b c.ranges.b) at (c.loop-y.invariant.same _ (IsGcd-from_zero _ _ c.if-y-eq0.true)))
+
 pub returns-clause-greatest : goal.returns-clause-greatest
 returns-clause-greatest c =
-    let x_is : to_z w128 c.loop-y.x ≡ pos c.loop-y.x = to_z_pos w128 c.loop-y.x c.loop-y.invariant.x_in_range in
-    rw x_is (simp (to_z-of_z w128 c.args.a c.ranges.a, to_z-of_z w128 c.args.b c.ranges.b) at (c.loop-y.invariant.same _ (IsGcd-from_zero _ _ c.loop-y-test.false)))
+    let g_is : to_z w128 c.narrow_gcd.result ≡ pos c.narrow_gcd.result = to_z_pos w128 c.narrow_gcd.result (omega (arith, c.narrow_gcd.type_inv)) in
+    rw g_is (simp (to_z-of_z w128 c.args.a c.ranges.a, to_z-of_z w128 c.args.b c.ranges.b) at (c.loop-y.invariant.same _ (IsGcd-from_mod c.loop-y.x c.loop-y.y c.narrow_gcd.result c.narrow_gcd.ensures)))
