@@ -14,3 +14,6 @@ mod fraction;
 mod text;
 
 pub use fraction::{Frac, Past};
+
+#[cfg(test)]
+mod tests;
