@@ -114,14 +114,26 @@ impl Ord for Frac {
 
     /// Compares the two numbers. No product of theirs has to be in range.
     fn cmp(&self, other: &Frac) -> Ordering {
-        let (size, other_size) = (self.num.unsigned_abs(), other.num.unsigned_abs());
-        let (den, other_den) = (self.den.unsigned_abs(), other.den.unsigned_abs());
-        match (self.num < 0, other.num < 0) {
-            (false, false) => compare_fractions(size, den, other_size, other_den),
-            (true, true) => compare_fractions(other_size, other_den, size, den),
-            (true, false) => Ordering::Less,
-            (false, true) => Ordering::Greater,
+        let left = checked_product(self.num, other.den);
+        let right = checked_product(other.num, self.den);
+        match (left, right) {
+            (Some(left), Some(right)) => left.cmp(&right),
+            _ => compare_by_steps(self, other),
         }
+    }
+}
+
+/// The comparison where a cross product may be out of range.
+fn compare_by_steps(left: &Frac, right: &Frac) -> Ordering
+    ensures { result ≡ int_cmp (left.now.num *ℤ right.now.den) (right.now.num *ℤ left.now.den) }
+{
+    let (size, other_size) = (left.num.unsigned_abs(), right.num.unsigned_abs());
+    let (den, other_den) = (left.den.unsigned_abs(), right.den.unsigned_abs());
+    match (left.num < 0, right.num < 0) {
+        (false, false) => compare_fractions(size, den, other_size, other_den),
+        (true, true) => compare_fractions(other_size, other_den, size, den),
+        (true, false) => Ordering::Less,
+        (false, true) => Ordering::Greater,
     }
 }
 

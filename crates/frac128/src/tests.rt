@@ -4,6 +4,7 @@ use std::cmp::Ordering;
 use std::hash::{DefaultHasher, Hash, Hasher};
 
 const MAX: i128 = i128::MAX;
+
 const MIN: i128 = i128::MIN;
 
 #[test]

@@ -2,9 +2,13 @@
 ghost use Rattle.std.specs.Prelude.{IsTrue};
 ghost use Rattle.int_rows.specs.Range.{AllInRange};
 
-use super::{checked_difference, checked_product, checked_sum, combine, gcd, lowest_terms, primitive, PastEntry, Which};
+use super::{
+    PastEntry, Which, checked_difference, checked_product, checked_sum, combine, gcd, lowest_terms,
+    primitive,
+};
 
 const MAX: i128 = i128::MAX;
+
 const MIN: i128 = i128::MIN;
 
 fn are_in_range(row: &[i128]) -> bool
@@ -26,13 +30,43 @@ fn combines_rows(rt: HostRuntime) {
         ([1, MAX - 1, 1], [1, -1, 0], 0, Ok(()), [0, MAX, 1]),
         ([1, -MAX, 0], [1, 0, 0], 0, Ok(()), [0, -1, 0]),
         ([1, MAX, 0], [2, 0, 0], 0, past(1, Which::Left), [1, MAX, 0]),
-        ([1, MAX, MAX], [2, 0, 0], 0, past(1, Which::Left), [1, MAX, MAX]),
-        ([2, 1, MAX], [1, MAX, MAX], 0, past(1, Which::Right), [2, 1, MAX]),
-        ([1, 0, MAX], [1, 0, -1], 0, past(2, Which::Difference), [1, 0, MAX]),
+        (
+            [1, MAX, MAX],
+            [2, 0, 0],
+            0,
+            past(1, Which::Left),
+            [1, MAX, MAX],
+        ),
+        (
+            [2, 1, MAX],
+            [1, MAX, MAX],
+            0,
+            past(1, Which::Right),
+            [2, 1, MAX],
+        ),
+        (
+            [1, 0, MAX],
+            [1, 0, -1],
+            0,
+            past(2, Which::Difference),
+            [1, 0, MAX],
+        ),
         // -2^127 fits an `i128`, and is out of range.
-        ([1, -half, 0], [2, 0, 0], 0, past(1, Which::Left), [1, -half, 0]),
+        (
+            [1, -half, 0],
+            [2, 0, 0],
+            0,
+            past(1, Which::Left),
+            [1, -half, 0],
+        ),
         ([2, 1, 1], [1, half, 0], 0, past(1, Which::Right), [2, 1, 1]),
-        ([1, -MAX, 0], [1, 1, 0], 0, past(1, Which::Difference), [1, -MAX, 0]),
+        (
+            [1, -MAX, 0],
+            [1, 1, 0],
+            0,
+            past(1, Which::Difference),
+            [1, -MAX, 0],
+        ),
     ] {
         let mut row = row;
         assert!(rt; are_in_range(&row) && are_in_range(&pivot) && c < 3 && pivot[c] > 0);
