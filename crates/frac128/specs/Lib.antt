@@ -1,4 +1,5 @@
 pub mod Product
 pub mod Sum
 pub mod Text
+pub mod Order
 pub mod OrderLaws

@@ -1,19 +1,15 @@
--- The order of fractions by their cross products, and its laws. The traits' members cite the laws, which is why they stand here.
+-- Not a definition to believe: the laws of `fraction_cmp`, which the members of `Ord` and `PartialOrd` cite, and so they stand in specs.
 use Rattle.std.specs.Prelude.{◌≡◌, Bool, true, false, ◌&&◌, ℤ, pos, ◌*ℤ◌, ◌<ℤ◌, unsigned_abs, refl}
 use Rattle.std.specs.Int.{IsGcd}
 use Rattle.std.proofs.Common.{sym, ap, ◌∙◌, arith, true≢false}
 use Rattle.std.specs.Cmp.{IsTotalOrder, int_cmp_total, int_cmp_is, int_ranked, both_ways, signed_Decides}
 use Rattle.std.specs.Ordering.{int_cmp, int_eq, eq_by_cmp}
-use Rattle.std.specs.declared.cmp.Ordering.{Ordering}
 use Rattle.std.specs.declared.cmp.Ordering.TheVariants.{Less, Equal}
 use Rattle.integer_laws.proofs.Ring.{ring_z, V, ◌⊗◌, ring}
 use Rattle.integer_laws.proofs.Order.{mul-lt_left, cancel_lt, int_cmp-mul}
 use Rattle.integer_laws.proofs.LowestTerms.{lowest_unique}
 use Rattle.frac128.specs.declared.fraction.Frac.{Frac}
-
--- a / b against c / d, where b and d are above 0
-abbrev pub fraction_cmp : Frac → Frac → Ordering
-fraction_cmp x y = int_cmp (x.num *ℤ y.den) (y.num *ℤ x.den)
+use Rattle.frac128.specs.Order.{fraction_cmp}
 
 chain : (a b c d e f : ℤ) → pos 0 <ℤ b → pos 0 <ℤ d → pos 0 <ℤ f → int_cmp (a *ℤ d) (c *ℤ b) ≡ Less → int_cmp (c *ℤ f) (e *ℤ d) ≡ Less → int_cmp (a *ℤ f) (e *ℤ b) ≡ Less
 chain a b c d e f pb pd pf h k =

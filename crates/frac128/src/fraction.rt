@@ -43,7 +43,7 @@ fn of_products(a: i128, c: i128, b: i128, d: i128) -> Result<Frac, Past>
 }
 
 impl Frac {
-    /// num / den.
+    /// num / den, where den is at least 1.
     pub fn of(num: i128, den: i128) -> Frac
         requires num_in_range { InRange num }
         requires den_in_range { InRange den }
@@ -101,7 +101,8 @@ impl Frac {
 }
 
 impl Ord for Frac {
-    ghost use Rattle.frac128.specs.OrderLaws.{fraction_cmp, fraction_cmp_total, fraction_cmp_ties};
+    ghost use Rattle.frac128.specs.Order.{fraction_cmp};
+    ghost use Rattle.frac128.specs.OrderLaws.{fraction_cmp_total, fraction_cmp_ties};
     ghost use Rattle.std.specs.Prelude.{refl};
 
     ghost cmp = { fraction_cmp };
@@ -138,7 +139,8 @@ fn compare_by_steps(left: &Frac, right: &Frac) -> Ordering
 }
 
 impl PartialOrd for Frac {
-    ghost use Rattle.frac128.specs.OrderLaws.{fraction_cmp, fraction_cmp_total, fraction_cmp_ties};
+    ghost use Rattle.frac128.specs.Order.{fraction_cmp};
+    ghost use Rattle.frac128.specs.OrderLaws.{fraction_cmp_total, fraction_cmp_ties};
     ghost use Rattle.std.specs.Prelude.{refl, Some};
     ghost use Rattle.std.specs.Cmp.{partial_order_from_agreeing_total};
 
