@@ -14,8 +14,8 @@ use std::cmp::Ordering;
 /// A fraction in lowest terms: the denominator is at least 1, and no number above 1 divides numerator and denominator.
 #[derive(Clone, Copy, Debug, PartialEq, Eq, Hash)]
 pub struct Frac {
-    num: i128,
-    den: i128,
+    pub num: i128,
+    pub den: i128,
     ghost num_in_range: { InRange num },
     ghost den_in_range: { InRange den },
     ghost positive: { pos 0 <ℤ den },
