@@ -1,0 +1,7 @@
+pub mod Cells
+pub mod Chains
+pub mod Represents
+pub mod Stack
+pub mod Vacancies
+pub mod States
+pub mod Vectors

@@ -1,0 +1,31 @@
+use Rattle.std.proofs.Common.{rules, ◌≡◌, ◌<◌, ◌≤◌, ◌+◌, ◌^◌, ◌-◌, ℕ, Bool, true, false, cond, nat_lt, None, Some, List, [], length, slice_set, arith, sym, ap, ◌∙◌, subst}
+use Rattle.link_lists.specs.Lists.{Rows, row, has, IsListed, IsFree, AreApart, AreBelow, first, following, preceding, with_cells, with_pushed, with_inserted, with_taken, IsTop, unlinked, relinked}
+use Rattle.link_lists.specs.Links.{rows_of, saved_of, vacancies, stacked, next_of, prev_of, state_of}
+use Rattle.link_lists.proofs.States.{rep, apart_lists, length_rows, first_state, following_state, preceding_state, few_cell, few_prev, few_next, room, unlink_state, IsRelinked, relink_state, push_state, insert_state, take_state, open_state, longer_state}
+use Rattle.link_lists.proofs.Represents.{last_below}
+use Rattle.link_lists.proofs.Vacancies.{relink_undoes_unlink}
+use Rattle.link_lists.proofs.lists.Lists.open.Goals as goal
+
+pub invariant_of-result : goal.invariant_of-result
+invariant_of-result c =
+    let long = c.in_ok-links.ensures.length in
+    let ok = c.in_ok-stack.stack.ok in
+    let len = c.in_ok-stack.ensures.len in
+    let fits_lists = c.ranges.lists.fits in
+    let fits_cells = c.ranges.cells.fits in
+    let room : c.args.lists + c.args.cells ≤ length c.in_ok-links.links.items = omega arith in
+    let room_stack : c.args.cells ≤ length c.in_ok-stack.stack.items = omega arith in
+    let small : (c.args.lists < 2 ^ 32) × (c.args.cells < 2 ^ 32) = (omega arith, omega arith) in
+    (open_state c.args.lists c.args.cells c.in_ok-links.links.items c.in_ok-stack.stack.items room room_stack small c.in_ok-links.ensures.next c.in_ok-links.ensures.prev).held
+
+pub returns : goal.returns
+returns c =
+    let long = c.in_ok-links.ensures.length in
+    let ok = c.in_ok-stack.stack.ok in
+    let len = c.in_ok-stack.ensures.len in
+    let fits_lists = c.ranges.lists.fits in
+    let fits_cells = c.ranges.cells.fits in
+    let room : c.args.lists + c.args.cells ≤ length c.in_ok-links.links.items = omega arith in
+    let room_stack : c.args.cells ≤ length c.in_ok-stack.stack.items = omega arith in
+    let small : (c.args.lists < 2 ^ 32) × (c.args.cells < 2 ^ 32) = (omega arith, omega arith) in
+    (open_state c.args.lists c.args.cells c.in_ok-links.links.items c.in_ok-stack.stack.items room room_stack small c.in_ok-links.ensures.next c.in_ok-links.ensures.prev).state
