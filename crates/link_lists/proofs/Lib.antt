@@ -5,3 +5,4 @@ pub mod Stack
 pub mod Vacancies
 pub mod States
 pub mod Vectors
+pub mod Walks

@@ -14,5 +14,7 @@
 pub mod laws;
 mod links;
 pub mod lists;
+pub mod walk;
 
 pub use lists::Lists;
+pub use walk::Walk;

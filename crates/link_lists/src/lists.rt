@@ -3,6 +3,7 @@
 ghost use Rattle.std.specs.Prelude.{◌≡◌, ◌<◌, ◌+◌, ◌^◌, ℕ, true, [], length, IfOk, OnErr};
 ghost use Rattle.link_lists.specs.Lists.{row, has, IsListed, IsFree, AreApart, AreBelow, first, following, preceding, opened, with_cells, with_pushed, with_inserted, with_taken, IsTop, unlinked, relinked};
 
+use crate::walk::Walk;
 use crate::links::{Link, bypass, cell_of, lengthen, lengthen_stack, next_node, prev_node, restore, rings, splice};
 use std::alloc::{AllocError, Global};
 use std::marker::Model;
@@ -82,6 +83,18 @@ impl Lists {
         ensures { (l : ℕ) → has (row self.now.lists l) cell ≡ true → result ≡ preceding cell (row self.now.lists l) }
     {
         cell_of(prev_node(&self.links, self.lists as usize + cell as usize), self.lists)
+    }
+
+    /// The list's cells in order.
+    pub fn walk(&self, list: u32) -> Walk<'_>
+        requires { list < length self.now.lists }
+        ensures { result ≡ row self.now.lists list }
+    {
+        self.are_apart();
+        Walk {
+            lists: self,
+            cell: self.first(list),
+        }
     }
 
     /// Puts a free cell at the end of the list. No cell is unlinked.
