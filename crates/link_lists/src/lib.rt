@@ -18,3 +18,6 @@ pub mod walk;
 
 pub use lists::Lists;
 pub use walk::Walk;
+
+#[cfg(test)]
+mod tests;
