@@ -1,0 +1,4 @@
+//! A tree of nodes with values and payloads, and its open leaves in rising order of value.
+#![tactic(auto)]
+
+mod tree;
