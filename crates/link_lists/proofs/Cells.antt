@@ -1,9 +1,8 @@
 -- Lists of cells: a cell more, a cell less, and how many there are.
-use Rattle.std.proofs.Common.{◌≡◌, ℕ, zero, suc, ◌+◌, ◌-◌, ◌<◌, ◌≤◌, ◌==◌, nat_lt, Bool, true, false, cond, not, ◌&&◌, ◌||◌, List, [], ◌∷◌, ◌++◌, length, map, Option, Some, None, slice_index_or, slice_set, replicate, reverse, take, ◌^◌, refl, sym, ap, ap₂, ◌∙◌, subst, inl, inr, ◌⊎◌, eqb-true, lt-ltb, ltb-true, eq-eqb, ne_eqb, arith}
-use Rattle.std.proofs.lemmas.Bool.{or_cases, or_left, or_right, or_from, or_parts, and_from, and_parts, and_right, both_ways, false_from_ne_true, true_from_ne_false, not-true, cases_Bool, cases_eq, cases_lt, le-ltb, eqb-false}
-use Rattle.std.proofs.lemmas.List.{length-map, reverse-append, take_more_set, take_more, get_or-set_same, get_or-set_other, length-set, length-reverse, get_or_read, get_or_past, get_or-replicate, length-replicate, get_or_append_left, get_or-append_right, length-append}
+use Rattle.std.proofs.Common.{◌≡◌, ℕ, zero, suc, ◌<◌, ◌≤◌, ◌==◌, Bool, true, false, cond, not, ◌&&◌, ◌||◌, List, [], ◌∷◌, ◌++◌, length, map, refl, sym, ap, ◌∙◌, subst, inl, inr, ◌⊎◌, eqb-true, eq-eqb, ne_eqb, arith}
+use Rattle.std.proofs.lemmas.Bool.{or_cases, or_left, or_right, or_from, or_parts, and_parts, and_right, both_ways, false_from_ne_true, not-true, cases_eq, eqb-false}
 use Rattle.std.specs.List.{filter}
-use Rattle.link_lists.specs.Lists.{Vacancy, Rows, row, has, IsListed, IsFree, first, following, preceding, preceding_from, without, pushed, inserted, opened, with_cells, with_pushed, with_inserted, with_taken, list_with, place_in, vacancy, filled, unlinked, IsTop, relinked, relinked_by, IsOnce, AreApart, RelinkUndoesUnlink, UnlinkKeepsApart}
+use Rattle.link_lists.specs.Lists.{row, has, without, pushed, inserted, IsOnce}
 
 -- ---- cells of a list
 
@@ -126,7 +125,6 @@ IsOnce-push (x ∷ xs) c o h =
       IsOnce-push xs c o.1 p.1,
     )
 
-
 -- ---- a cell put before another
 
 pub inserted-none : (c b : ℕ) (xs : List ℕ) → has xs b ≡ false → inserted c b xs ≡ xs
@@ -171,4 +169,3 @@ IsOnce-inserted c b (x ∷ xs) out o = elim (cases_eq x b) [
 
 pub row-inserted : (c b : ℕ) (ls : List (List ℕ)) (l : ℕ) → row (map (inserted c b) ls) l ≡ inserted c b (row ls l)
 row-inserted c b ls l = row-map (inserted c b) ls l refl
-

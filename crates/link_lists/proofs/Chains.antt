@@ -1,9 +1,9 @@
 -- Chains of links: a cell cut out, put at the end, or put before another.
-use Rattle.std.proofs.Common.{◌≡◌, ℕ, zero, suc, ◌+◌, ◌-◌, ◌<◌, ◌≤◌, ◌==◌, nat_lt, Bool, true, false, cond, not, ◌&&◌, ◌||◌, List, [], ◌∷◌, ◌++◌, length, map, Option, Some, None, slice_index_or, slice_set, replicate, reverse, take, ◌^◌, refl, sym, ap, ap₂, ◌∙◌, subst, inl, inr, ◌⊎◌, eqb-true, lt-ltb, ltb-true, eq-eqb, ne_eqb, arith}
-use Rattle.std.proofs.lemmas.Bool.{or_cases, or_left, or_right, or_from, or_parts, and_from, and_parts, and_right, both_ways, false_from_ne_true, true_from_ne_false, not-true, cases_Bool, cases_eq, cases_lt, le-ltb, eqb-false}
-use Rattle.link_lists.specs.Lists.{Vacancy, Rows, row, has, IsListed, IsFree, first, following, preceding, preceding_from, without, pushed, inserted, opened, with_cells, with_pushed, with_inserted, with_taken, list_with, place_in, vacancy, filled, unlinked, IsTop, relinked, relinked_by, IsOnce, AreApart, RelinkUndoesUnlink, UnlinkKeepsApart}
-use Rattle.link_lists.specs.Links.{Chain, with_at, Rep, Saved, IsSaved, next_back, prev_back, Holds, cells_of, walked, rows_of, saved_of, vacancies, nowhere, next_of, prev_of, stacked, state_of, IsHeld}
-use Rattle.link_lists.proofs.Cells.{has-here, has-later, has-without, without-none, without-here, without-later, IsOnce-without, once_length, inserted-none}
+use Rattle.std.proofs.Common.{◌≡◌, ℕ, zero, suc, ◌+◌, ◌-◌, ◌<◌, ◌≤◌, ◌==◌, nat_lt, Bool, true, false, cond, not, List, [], ◌∷◌, ◌++◌, length, Option, Some, None, refl, sym, ap, ap₂, ◌∙◌, subst, inl, inr, ◌⊎◌, eqb-true, lt-ltb, eq-eqb, ne_eqb, arith}
+use Rattle.std.proofs.lemmas.Bool.{or_cases, or_parts, both_ways, cases_eq, le-ltb, eqb-false}
+use Rattle.link_lists.specs.Lists.{has, first, following, preceding_from, without, inserted, IsOnce}
+use Rattle.link_lists.specs.Links.{Chain, with_at, walked}
+use Rattle.link_lists.proofs.Cells.{has-here, has-later, without-none, without-later}
 
 -- ---- writing at a place
 

@@ -1,12 +1,11 @@
 -- Links that hold several lists, and what the writes of each call make of them.
-use Rattle.std.proofs.Common.{◌≡◌, ℕ, zero, suc, ◌+◌, ◌-◌, ◌<◌, ◌≤◌, ◌==◌, nat_lt, Bool, true, false, cond, not, ◌&&◌, ◌||◌, List, [], ◌∷◌, ◌++◌, length, map, Option, Some, None, slice_index_or, slice_set, replicate, reverse, take, ◌^◌, refl, sym, ap, ap₂, ◌∙◌, subst, inl, inr, ◌⊎◌, eqb-true, lt-ltb, ltb-true, eq-eqb, ne_eqb, arith}
-use Rattle.std.proofs.lemmas.Bool.{or_cases, or_left, or_right, or_from, or_parts, and_from, and_parts, and_right, both_ways, false_from_ne_true, true_from_ne_false, not-true, cases_Bool, cases_eq, cases_lt, le-ltb, eqb-false}
-use Rattle.std.proofs.lemmas.List.{length-map, reverse-append, take_more_set, take_more, get_or-set_same, get_or-set_other, length-set, length-reverse, get_or_read, get_or_past, get_or-replicate, length-replicate, get_or_append_left, get_or-append_right, length-append}
-use Rattle.std.specs.List.{range_with_len}
+use Rattle.std.proofs.Common.{◌≡◌, ℕ, ◌+◌, ◌-◌, ◌<◌, ◌==◌, nat_lt, true, false, cond, not, List, [], ◌∷◌, ◌++◌, length, map, Some, None, replicate, refl, sym, ap, ◌∙◌, subst, inl, inr, ◌⊎◌, eqb-true, lt-ltb, arith}
+use Rattle.std.proofs.lemmas.Bool.{or_cases, and_parts, both_ways, false_from_ne_true, cases_eq, cases_lt}
+use Rattle.std.proofs.lemmas.List.{length-map, get_or_past, get_or-replicate, length-replicate}
 use Rattle.std.proofs.lemmas.List.FromFn.{fill_by_all}
-use Rattle.link_lists.specs.Lists.{Vacancy, Rows, row, has, IsListed, IsFree, first, following, preceding, preceding_from, without, pushed, inserted, opened, with_cells, with_pushed, with_inserted, with_taken, list_with, place_in, vacancy, filled, unlinked, IsTop, relinked, relinked_by, IsOnce, AreApart, RelinkUndoesUnlink, UnlinkKeepsApart}
-use Rattle.link_lists.specs.Links.{Chain, with_at, Rep, Saved, IsSaved, next_back, prev_back, Holds, cells_of, walked, rows_of, saved_of, vacancies, nowhere, next_of, prev_of, stacked, state_of, IsHeld}
-use Rattle.link_lists.proofs.Cells.{has-here, has-later, has-append, has-without, without-none, IsOnce-without, once_length, row-without, row-pushed, row-pushed_other, length-pushed, IsOnce-push, inserted-none, has-inserted, IsOnce-inserted, row-inserted}
+use Rattle.link_lists.specs.Lists.{row, has, first, following, preceding, without, pushed, inserted, IsOnce}
+use Rattle.link_lists.specs.Links.{Chain, with_at, Rep, next_back, prev_back, walked, rows_of}
+use Rattle.link_lists.proofs.Cells.{has-append, has-without, without-none, IsOnce-without, once_length, row-without, row-pushed, row-pushed_other, length-pushed, IsOnce-push, inserted-none, has-inserted, IsOnce-inserted, row-inserted}
 use Rattle.link_lists.proofs.Chains.{with_at-same, with_at-other, with_at-back, agree, prev_in, next_in, cut, forth, back, not_prev, not_next, last_in, grown, placed, first_is, following_is, first_near, preceding_is, walked_chain}
 
 -- ---- the lists

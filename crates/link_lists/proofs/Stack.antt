@@ -1,8 +1,8 @@
 -- The stack of the unlinked cells: what memory holds after each of them is put back.
-use Rattle.std.proofs.Common.{◌≡◌, ℕ, zero, suc, ◌+◌, ◌-◌, ◌<◌, ◌≤◌, ◌==◌, nat_lt, Bool, true, false, cond, not, ◌&&◌, ◌||◌, List, [], ◌∷◌, ◌++◌, length, map, Option, Some, None, slice_index_or, slice_set, replicate, reverse, take, ◌^◌, refl, sym, ap, ap₂, ◌∙◌, subst, inl, inr, ◌⊎◌, eqb-true, lt-ltb, ltb-true, eq-eqb, ne_eqb, arith}
-use Rattle.std.proofs.lemmas.Bool.{or_cases, or_left, or_right, or_from, or_parts, and_from, and_parts, and_right, both_ways, false_from_ne_true, true_from_ne_false, not-true, cases_Bool, cases_eq, cases_lt, le-ltb, eqb-false}
-use Rattle.link_lists.specs.Lists.{Vacancy, Rows, row, has, IsListed, IsFree, first, following, preceding, preceding_from, without, pushed, inserted, opened, with_cells, with_pushed, with_inserted, with_taken, list_with, place_in, vacancy, filled, unlinked, IsTop, relinked, relinked_by, IsOnce, AreApart, RelinkUndoesUnlink, UnlinkKeepsApart}
-use Rattle.link_lists.specs.Links.{Chain, with_at, Rep, Saved, IsSaved, next_back, prev_back, Holds, cells_of, walked, rows_of, saved_of, vacancies, nowhere, next_of, prev_of, stacked, state_of, IsHeld}
+use Rattle.std.proofs.Common.{◌≡◌, ℕ, ◌+◌, ◌<◌, ◌==◌, true, false, not, ◌&&◌, List, [], ◌∷◌, length, map, refl, sym, ap, ap₂, ◌∙◌, subst, inl, inr, eqb-true}
+use Rattle.std.proofs.lemmas.Bool.{or_cases, or_from, and_parts, both_ways, not-true}
+use Rattle.link_lists.specs.Lists.{row, has, without, IsOnce}
+use Rattle.link_lists.specs.Links.{with_at, Rep, Saved, next_back, prev_back, Holds, cells_of, saved_of}
 use Rattle.link_lists.proofs.Cells.{has-without, once_length, row-without}
 use Rattle.link_lists.proofs.Represents.{rows_seen, cut_rows, keeps_next, keeps_prev, next_again, prev_again, prev_below, next_below}
 

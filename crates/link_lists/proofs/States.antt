@@ -1,13 +1,10 @@
 -- The same of the memory of `Lists`: its links, and the vector of its stack.
-use Rattle.std.proofs.Common.{◌≡◌, ℕ, zero, suc, ◌+◌, ◌-◌, ◌<◌, ◌≤◌, ◌==◌, nat_lt, Bool, true, false, cond, not, ◌&&◌, ◌||◌, List, [], ◌∷◌, ◌++◌, length, map, Option, Some, None, slice_index_or, slice_set, replicate, reverse, take, ◌^◌, refl, sym, ap, ap₂, ◌∙◌, subst, inl, inr, ◌⊎◌, eqb-true, lt-ltb, ltb-true, eq-eqb, ne_eqb, arith}
-use Rattle.std.specs.Prelude.{Result, Ok, Err, OnErr}
-use Rattle.std.proofs.lemmas.Bool.{or_cases, or_left, or_right, or_from, or_parts, and_from, and_parts, and_right, both_ways, false_from_ne_true, true_from_ne_false, not-true, cases_Bool, cases_eq, cases_lt, le-ltb, eqb-false}
-use Rattle.std.proofs.lemmas.List.{length-map, reverse-append, take_more_set, take_more, get_or-set_same, get_or-set_other, length-set, length-reverse, get_or_read, get_or_past, get_or-replicate, length-replicate, get_or_append_left, get_or-append_right, length-append}
+use Rattle.std.proofs.Common.{◌≡◌, ℕ, zero, suc, ◌+◌, ◌-◌, ◌<◌, ◌≤◌, nat_lt, true, cond, List, [], ◌∷◌, ◌++◌, length, map, Some, None, slice_index_or, slice_set, replicate, reverse, take, ◌^◌, refl, sym, ap, ◌∙◌, subst, arith}
+use Rattle.std.proofs.lemmas.List.{reverse-append, take_more_set, take_more, length-set, length-reverse}
 use Rattle.link_lists.specs.declared.links.Link.{Link}
-use Rattle.link_lists.specs.Lists.{Vacancy, Rows, row, has, IsListed, IsFree, first, following, preceding, preceding_from, without, pushed, inserted, opened, with_cells, with_pushed, with_inserted, with_taken, list_with, place_in, vacancy, filled, unlinked, IsTop, relinked, relinked_by, IsOnce, AreApart, RelinkUndoesUnlink, UnlinkKeepsApart}
-use Rattle.link_lists.specs.Links.{Chain, with_at, Rep, Saved, IsSaved, next_back, prev_back, Holds, cells_of, walked, rows_of, saved_of, vacancies, nowhere, next_of, prev_of, stacked, state_of, IsHeld}
-use Rattle.link_lists.proofs.Cells.{has-without}
-use Rattle.link_lists.proofs.Represents.{rows_seen, prev_below, next_below, cell_below, following_at, preceding_at, last_below, push_rows, insert_rows, first_at, first_below, cut_rows, open_rows}
+use Rattle.link_lists.specs.Lists.{Rows, row, has, IsListed, IsFree, first, following, preceding, without, pushed, inserted, opened, with_cells, with_pushed, with_inserted, with_taken, vacancy, filled, unlinked, IsTop, relinked, relinked_by, AreApart}
+use Rattle.link_lists.specs.Links.{with_at, Rep, Saved, next_back, prev_back, Holds, cells_of, rows_of, saved_of, vacancies, next_of, prev_of, stacked, state_of, IsHeld}
+use Rattle.link_lists.proofs.Represents.{rows_seen, prev_below, next_below, cell_below, following_at, preceding_at, push_rows, insert_rows, first_at, first_below, cut_rows, open_rows}
 use Rattle.link_lists.proofs.Stack.{holds_rep, unlink_holds, saved_seen, cells_saved, stack_room}
 use Rattle.link_lists.proofs.Vacancies.{filled_back}
 
@@ -145,10 +142,10 @@ module _ (n cells : ℕ) (links : List Link) (stack : List ℕ) (depth : ℕ) (h
     few_next = h.1.near_next;
     some = split.0;
     change = λ links' en ep el. subst (IsChange n cells links' stack (depth - 1)) seen (change_from n cells links' stack (depth - 1) (rows_of n cells f') (saved_of n cells f' g' ds)
-      (subst (λ k. Holds n cells k (prev_of links') (rows_of n cells f') (saved_of n cells f' g' ds)) (sym en) (subst (λ k. Holds n cells f' k (rows_of n cells f') (saved_of n cells f' g' ds)) (sym ep) h.2))
-      on_stack
-      (let x = held.room_links in omega arith)
-      held.room_stack held.few (let x = held.deep in omega arith));
+        (subst (λ k. Holds n cells k (prev_of links') (rows_of n cells f') (saved_of n cells f' g' ds)) (sym en) (subst (λ k. Holds n cells f' k (rows_of n cells f') (saved_of n cells f' g' ds)) (sym ep) h.2))
+        on_stack
+        (let x = held.room_links in omega arith)
+        held.room_stack held.few (let x = held.deep in omega arith));
   }
     where
       f' : ℕ → ℕ

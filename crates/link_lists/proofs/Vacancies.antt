@@ -1,9 +1,9 @@
 -- A cell that is put back at the place that it left leaves the lists as they were.
-use Rattle.std.proofs.Common.{◌≡◌, ℕ, zero, suc, ◌+◌, ◌-◌, ◌<◌, ◌≤◌, ◌==◌, nat_lt, Bool, true, false, cond, not, ◌&&◌, ◌||◌, List, [], ◌∷◌, ◌++◌, length, map, Option, Some, None, slice_index_or, slice_set, replicate, reverse, take, ◌^◌, refl, sym, ap, ap₂, ◌∙◌, subst, inl, inr, ◌⊎◌, eqb-true, lt-ltb, ltb-true, eq-eqb, ne_eqb, arith}
-use Rattle.std.proofs.lemmas.Bool.{or_cases, or_left, or_right, or_from, or_parts, and_from, and_parts, and_right, both_ways, false_from_ne_true, true_from_ne_false, not-true, cases_Bool, cases_eq, cases_lt, le-ltb, eqb-false}
-use Rattle.std.specs.List.{filter, insert}
-use Rattle.link_lists.specs.Lists.{Vacancy, Rows, row, has, IsListed, IsFree, first, following, preceding, preceding_from, without, pushed, inserted, opened, with_cells, with_pushed, with_inserted, with_taken, list_with, place_in, vacancy, filled, unlinked, IsTop, relinked, relinked_by, IsOnce, AreApart, RelinkUndoesUnlink, UnlinkKeepsApart}
-use Rattle.link_lists.proofs.Cells.{has-here, has-later, has-without, without-none, without-here, without-later, IsOnce-without, row-without}
+use Rattle.std.proofs.Common.{◌≡◌, ℕ, zero, suc, ◌==◌, Bool, true, false, cond, not, List, [], ◌∷◌, map, refl, sym, ap, ap₂, ◌∙◌, subst, inl, inr, eqb-true, eq-eqb, ne_eqb, arith}
+use Rattle.std.proofs.lemmas.Bool.{or_cases, and_parts, both_ways, false_from_ne_true, cases_eq}
+use Rattle.std.specs.List.{insert}
+use Rattle.link_lists.specs.Lists.{row, has, without, list_with, place_in, vacancy, filled, IsOnce, RelinkUndoesUnlink, UnlinkKeepsApart}
+use Rattle.link_lists.proofs.Cells.{has-without, without-none, without-later, IsOnce-without, row-without}
 
 insert_back : (c : ℕ) (xs : List ℕ) → IsOnce xs → has xs c ≡ true → insert (without c xs) (place_in c xs) c ≡ xs
 insert_back c [] o h = absurd (both_ways false refl h)

@@ -1,6 +1,6 @@
 -- A walk from cell to cell goes through the whole list.
-use Rattle.std.proofs.Common.{◌≡◌, ℕ, zero, suc, ◌+◌, ◌==◌, Bool, true, false, cond, ◌||◌, List, [], ◌∷◌, Option, Some, None, refl, sym, ap, ap₂, ◌∙◌, subst, inl, inr, eqb-true, eq-eqb, ne_eqb, arith}
-use Rattle.std.proofs.lemmas.Bool.{or_cases, or_right, or_parts, both_ways, false_from_ne_true, cases_eq, eqb-false}
+use Rattle.std.proofs.Common.{◌≡◌, ℕ, zero, suc, ◌==◌, Bool, true, false, cond, List, [], ◌∷◌, Option, Some, None, refl, sym, ap, ap₂, ◌∙◌, subst, inl, inr, eqb-true, eq-eqb, ne_eqb, arith}
+use Rattle.std.proofs.lemmas.Bool.{or_cases, both_ways, false_from_ne_true, cases_eq}
 use Rattle.link_lists.specs.Lists.{Rows, row, has, IsListed, first, following, list_with, IsOnce, AreApart}
 use Rattle.link_lists.specs.Walk.{from, left_of, IsOnTheWay}
 use Rattle.link_lists.proofs.Cells.{has-here, has-later}

@@ -1,6 +1,6 @@
 -- How memory holds the lists. With n lists, list l has the node l, which closes it to a ring, and cell c has the node n + c.
 -- Each node has a link to the next one and a link to the one before, here as functions from node to node.
-use Rattle.std.specs.Prelude.{◌≡◌, ℕ, zero, suc, ◌+◌, ◌-◌, ◌<◌, ◌≤◌, ◌==◌, nat_lt, Bool, true, false, cond, List, [], ◌∷◌, ◌++◌, length, map, take, reverse, slice_index_or, replicate, Option, Some, None, ◌^◌}
+use Rattle.std.specs.Prelude.{◌≡◌, ℕ, zero, suc, ◌+◌, ◌-◌, ◌<◌, ◌≤◌, ◌==◌, nat_lt, true, cond, List, [], ◌∷◌, length, map, take, reverse, slice_index_or, ◌^◌}
 use Rattle.std.specs.List.{range_with_len}
 use Rattle.link_lists.specs.declared.links.Link.{Link}
 use Rattle.link_lists.specs.Lists.{Vacancy, Rows, row, has, without, vacancy, IsListed, IsOnce}

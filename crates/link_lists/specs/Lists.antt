@@ -1,6 +1,6 @@
 -- Several lists of cells, and the stack of the cells that were unlinked: what contracts see. Cells and lists are numbered from 0.
 -- To unlink a cell and to put it back later at the place that it left is Knuth's "dancing links" (2000).
-use Rattle.std.specs.Prelude.{◌≡◌, ℕ, zero, suc, ◌+◌, ◌<◌, ◌==◌, Bool, true, false, cond, not, ◌||◌, List, [], ◌∷◌, ◌++◌, length, map, slice_index_or, slice_set, replicate, Option, Some, None}
+use Rattle.std.specs.Prelude.{◌≡◌, ℕ, zero, suc, ◌+◌, ◌<◌, ◌==◌, Bool, true, false, cond, not, ◌||◌, List, [], ◌∷◌, ◌++◌, map, slice_index_or, slice_set, replicate, Option, Some, None}
 use Rattle.std.specs.List.{filter, insert}
 
 -- an unlinked cell, the list that it left, and its place there: the number of the cells that stood before it

@@ -113,13 +113,7 @@ pub fn lengthen(links: &mut Vec<Link>, len: usize) -> Result<(), AllocError>
     ensures enough { IfOk result (λ _. len ≤ length links.new.items) }
 {
     if links.len() < len {
-        links.resize(
-            len,
-            Link {
-                next: 0,
-                prev: 0,
-            },
-        )
+        links.resize(len, Link { next: 0, prev: 0 })
     } else {
         Ok(())
     }
@@ -144,10 +138,7 @@ pub fn rings(alloc: Global, lists: usize, count: usize) -> Result<Vec<Link>, All
     ensures next { IfOk result (λ links. (l : ℕ) → l < lists → next_of links.items l ≡ l) }
     ensures prev { IfOk result (λ links. (l : ℕ) → l < lists → prev_of links.items l ≡ l) }
 {
-    let nowhere = Link {
-        next: 0,
-        prev: 0,
-    };
+    let nowhere = Link { next: 0, prev: 0 };
     let mut links = vec![in alloc; nowhere; count]?;
     for l in 0..lists {
         set_next(&mut links, l, l);

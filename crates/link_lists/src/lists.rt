@@ -3,8 +3,10 @@
 ghost use Rattle.std.specs.Prelude.{◌≡◌, ◌<◌, ◌+◌, ◌^◌, ℕ, true, [], length, IfOk, OnErr};
 ghost use Rattle.link_lists.specs.Lists.{row, has, IsListed, IsFree, AreApart, AreBelow, first, following, preceding, opened, with_cells, with_pushed, with_inserted, with_taken, IsTop, unlinked, relinked};
 
+use crate::links::{
+    Link, bypass, cell_of, lengthen, lengthen_stack, next_node, prev_node, restore, rings, splice,
+};
 use crate::walk::Walk;
-use crate::links::{Link, bypass, cell_of, lengthen, lengthen_stack, next_node, prev_node, restore, rings, splice};
 use std::alloc::{AllocError, Global};
 use std::marker::Model;
 
@@ -74,7 +76,10 @@ impl Lists {
         requires { IsListed self.now.lists cell }
         ensures { (l : ℕ) → has (row self.now.lists l) cell ≡ true → result ≡ following cell (row self.now.lists l) }
     {
-        cell_of(next_node(&self.links, self.lists as usize + cell as usize), self.lists)
+        cell_of(
+            next_node(&self.links, self.lists as usize + cell as usize),
+            self.lists,
+        )
     }
 
     /// The cell that comes before it in its list, and none at the list's beginning.
@@ -82,7 +87,10 @@ impl Lists {
         requires { IsListed self.now.lists cell }
         ensures { (l : ℕ) → has (row self.now.lists l) cell ≡ true → result ≡ preceding cell (row self.now.lists l) }
     {
-        cell_of(prev_node(&self.links, self.lists as usize + cell as usize), self.lists)
+        cell_of(
+            prev_node(&self.links, self.lists as usize + cell as usize),
+            self.lists,
+        )
     }
 
     /// The list's cells in order.
@@ -105,7 +113,8 @@ impl Lists {
         requires none_unlinked { self.old.stack ≡ [] }
         ensures { self.new ≡ with_pushed self.old list cell }
     {
-        splice(&mut self.links, self.lists as usize + cell as usize, list as usize);
+        let node = self.lists as usize + cell as usize;
+        splice(&mut self.links, node, list as usize);
     }
 
     /// Puts a free cell just before `at`, in the list of that cell. No cell is unlinked.

@@ -66,7 +66,13 @@ struct Step<'a> {
     left: Rows<'a>,
 }
 
-fn unlinking<'a>(list: u32, cell: u32, first: &'a [u32], second: &'a [u32], third: &'a [u32]) -> Step<'a> {
+fn unlinking<'a>(
+    list: u32,
+    cell: u32,
+    first: &'a [u32],
+    second: &'a [u32],
+    third: &'a [u32],
+) -> Step<'a> {
     Step {
         list,
         cell,
@@ -155,7 +161,10 @@ fn reads_and_changes_one_list(rt: HostRuntime) -> Result<(), AllocError> {
     let mut lists = Lists::open(rt.alloc(), 3, 2)?;
     lists.grow(1)?;
     assert!(&rt; push_all(&mut lists, 0, &[0, 1, 2], 3));
-    let steps = [unlinking(0, 1, &[0, 2], &[], &[]), unlinking(0, 0, &[2], &[], &[])];
+    let steps = [
+        unlinking(0, 1, &[0, 2], &[], &[]),
+        unlinking(0, 0, &[2], &[], &[]),
+    ];
     assert!(&rt; nest(&mut lists, &steps));
     assert!(&rt; reads(&lists, 0, &[0, 1, 2]));
     assert!(&rt; holds(&lists, 0, 1));

@@ -1,4 +1,4 @@
-use Rattle.std.proofs.Common.{◌≡◌, ◌+◌, ◌<◌, ℕ, sym, ap, ◌∙◌, subst, arith}
+use Rattle.std.proofs.Common.{◌≡◌, ap, ◌∙◌}
 use Rattle.link_lists.specs.Links.{next_of, prev_of, with_at}
 use Rattle.link_lists.proofs.Vectors.{ring_more}
 use Rattle.link_lists.proofs.links.rings.Goals as goal

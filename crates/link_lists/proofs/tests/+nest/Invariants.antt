@@ -1,6 +1,4 @@
-use Rattle.std.proofs.Common.{length, ◌≡◌, ◌<◌, ◌+◌, ◌^◌, [], true, IfOk, OnErr, ℕ, ◌-◌, ◌*◌, ◌≤◌}
-use Rattle.std.specs.Bool.{OnTrue}
-use Rattle.link_lists.specs.Lists.{row, has, IsFree, IsListed}
+use Rattle.std.proofs.Common.{length}
 use Rattle.link_lists.proofs.tests.+nest.Given as goal
 
 -- proposed from what the function passes where it calls itself

@@ -1,4 +1,4 @@
-use Rattle.std.proofs.Common.{◌≡◌, length, ap, ◌∙◌}
+use Rattle.std.proofs.Common.{length, ap, ◌∙◌}
 use Rattle.link_lists.specs.Lists.{Rows}
 use Rattle.link_lists.proofs.Cells.{length-pushed}
 use Rattle.link_lists.proofs.tests.push_all.Goals as goal

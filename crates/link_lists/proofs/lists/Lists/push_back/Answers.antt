@@ -1,9 +1,8 @@
-use Rattle.std.proofs.Common.{rules, ◌≡◌, ◌<◌, ◌≤◌, ◌+◌, ◌^◌, ◌-◌, ℕ, Bool, true, false, cond, nat_lt, None, Some, List, [], length, slice_set, arith, sym, ap, ◌∙◌, subst}
-use Rattle.link_lists.specs.Lists.{Rows, row, has, IsListed, IsFree, AreApart, AreBelow, first, following, preceding, with_cells, with_pushed, with_inserted, with_taken, IsTop, unlinked, relinked}
-use Rattle.link_lists.specs.Links.{rows_of, saved_of, vacancies, stacked, next_of, prev_of, state_of}
-use Rattle.link_lists.proofs.States.{rep, apart_lists, length_rows, first_state, following_state, preceding_state, few_cell, few_prev, few_next, room, unlink_state, IsRelinked, relink_state, push_state, insert_state, take_state, open_state, longer_state}
+use Rattle.std.proofs.Common.{◌≡◌, ◌<◌, [], length, arith, sym, ap, ◌∙◌, subst}
+use Rattle.link_lists.specs.Lists.{Rows, IsFree, with_pushed}
+use Rattle.link_lists.specs.Links.{rows_of, next_of, prev_of, state_of}
+use Rattle.link_lists.proofs.States.{rep, length_rows, push_state}
 use Rattle.link_lists.proofs.Represents.{last_below}
-use Rattle.link_lists.proofs.Vacancies.{relink_undoes_unlink}
 use Rattle.link_lists.proofs.lists.Lists.push_back.Goals as goal
 
 pub splice-requires-clause-after : goal.splice-requires-clause-after
