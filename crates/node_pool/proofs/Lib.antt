@@ -1,2 +1,5 @@
 pub mod Children
 pub mod Linked
+pub mod Places
+pub mod Order
+pub mod OneList

@@ -1,2 +1,6 @@
 pub mod Tree
 pub mod Kin
+pub mod Order
+pub mod Pooled
+pub mod OneList
+pub mod Sound

@@ -1,0 +1,80 @@
+use Rattle.std.proofs.Common.{◌≡◌, ◌<◌, ◌≤◌, ◌+◌, ◌-◌, ◌++◌, ◌∷◌, [], ℕ, List, Bool, true, false, Option, Some, None, length, refl, sym, ap, ◌∙◌, subst, inl, inr, arith}
+use Rattle.std.specs.List.{find}
+use Rattle.frac128.specs.declared.fraction.Frac.{Frac}
+use Rattle.link_lists.specs.Lists.{Rows, row, has, first, following, preceding, without, place_in, IsListed}
+use Rattle.node_pool.specs.Order.{is_above, placed, put_before, IsRising, OpenLeaves}
+use Rattle.node_pool.specs.OneList.{IsOneList}
+use Rattle.node_pool.proofs.Places.{StaysTrue, Fails, found_back, found_on, found_none, found_first, found_has, preceding_place, place_following, place_below, following_has, first_has}
+use Rattle.node_pool.proofs.Order.{stays_above}
+use Rattle.node_pool.proofs.leaves.on_to_first.Goals as goal
+
+pub is_higher-requires : goal.is_higher-requires
+is_higher-requires c =
+    let xs = row c.args.lists.now.lists 0 in
+    let vs = c.args.values.now.items in
+    let v = c.args.value.now in
+    let t = is_above vs v in
+    let leaf = c.loop-after.leaf in
+    let listed = c.loop-after.invariant.listed in
+    let once = c.are_apart.ensures.apart.once 0 in
+    let stays = stays_above vs v xs c.requires.known c.requires.rising in
+    let near : following leaf xs ≡ Some c.in-Some.after = sym (c.next.ensures 0 listed) ∙ c.in-Some.is in
+    let there = following_has leaf xs c.in-Some.after near in
+    c.requires.known c.in-Some.after there
+
+pub returns-then-is_higher : goal.returns-then-is_higher
+returns-then-is_higher c =
+    let xs = row c.args.lists.now.lists 0 in
+    let vs = c.args.values.now.items in
+    let v = c.args.value.now in
+    let t = is_above vs v in
+    let leaf = c.loop-after.leaf in
+    let listed = c.loop-after.invariant.listed in
+    let once = c.are_apart.ensures.apart.once 0 in
+    let stays = stays_above vs v xs c.requires.known c.requires.rising in
+    let near : following leaf xs ≡ Some c.in-Some.after = sym (c.next.ensures 0 listed) ∙ c.in-Some.is in
+    let there = following_has leaf xs c.in-Some.after near in
+    sym (found_on t xs leaf c.in-Some.after stays listed c.loop-after.invariant.lower near (sym c.is_higher.ensures ∙ c.if-is_higher.true))
+
+pub loop-after-smaller : goal.loop-after-smaller
+loop-after-smaller c =
+    let xs = row c.args.lists.now.lists 0 in
+    let vs = c.args.values.now.items in
+    let v = c.args.value.now in
+    let t = is_above vs v in
+    let leaf = c.loop-after.leaf in
+    let listed = c.loop-after.invariant.listed in
+    let once = c.are_apart.ensures.apart.once 0 in
+    let stays = stays_above vs v xs c.requires.known c.requires.rising in
+    let near : following leaf xs ≡ Some c.in-Some.after = sym (c.next.ensures 0 listed) ∙ c.in-Some.is in
+    let there = following_has leaf xs c.in-Some.after near in
+    let next = place_following xs leaf c.in-Some.after once listed near in
+    let below = place_below xs c.in-Some.after there in
+    omega arith
+
+pub loop-after-preserved : goal.loop-after-preserved
+loop-after-preserved c =
+    let xs = row c.args.lists.now.lists 0 in
+    let vs = c.args.values.now.items in
+    let v = c.args.value.now in
+    let t = is_above vs v in
+    let leaf = c.loop-after.leaf in
+    let listed = c.loop-after.invariant.listed in
+    let once = c.are_apart.ensures.apart.once 0 in
+    let stays = stays_above vs v xs c.requires.known c.requires.rising in
+    let near : following leaf xs ≡ Some c.in-Some.after = sym (c.next.ensures 0 listed) ∙ c.in-Some.is in
+    let there = following_has leaf xs c.in-Some.after near in
+    record { listed = there; lower = sym c.is_higher.ensures ∙ c.if-is_higher.false }
+
+pub returns : goal.returns
+returns c =
+    let xs = row c.args.lists.now.lists 0 in
+    let vs = c.args.values.now.items in
+    let v = c.args.value.now in
+    let t = is_above vs v in
+    let leaf = c.loop-after.leaf in
+    let listed = c.loop-after.invariant.listed in
+    let once = c.are_apart.ensures.apart.once 0 in
+    let stays = stays_above vs v xs c.requires.known c.requires.rising in
+    let none : following leaf xs ≡ None = sym (c.next.ensures 0 listed) ∙ c.in_default.is in
+    sym (found_none t xs leaf stays listed c.loop-after.invariant.lower none)
