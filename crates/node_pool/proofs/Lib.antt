@@ -3,3 +3,4 @@ pub mod Linked
 pub mod Places
 pub mod Order
 pub mod OneList
+pub mod Sound

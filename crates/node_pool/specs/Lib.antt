@@ -4,3 +4,4 @@ pub mod Order
 pub mod Pooled
 pub mod OneList
 pub mod Sound
+pub mod Lending

@@ -2,6 +2,7 @@
 
 ghost use Rattle.std.specs.Prelude.{◌≡◌, ◌∷◌, [], ℕ, true, false, Some, ◌<◌, ◌≤◌, ◌+◌, ◌-◌, ◌^◌, length, max, IfOk, OnOk, IsOk, IfErr, OnErr, vec_len};
 ghost use Rattle.std.specs.List.{slice_get};
+ghost use Rattle.std.specs.Borrow.{sem};
 ghost use Rattle.link_lists.specs.Lists.{first, has};
 ghost use Rattle.node_pool.specs.Tree.{children, sibling_after, AreAfterParents};
 ghost use Rattle.node_pool.specs.Order.{placed, IsRising};
@@ -43,14 +44,16 @@ impl<T> Model for Pool<T> {
 }
 
 impl<T> Pool<T> {
+    ghost use Rattle.node_pool.specs.Lending.{LendsPayload};
+
     /// No nodes. The first `room` adds cannot fail.
     pub fn open(alloc: Global, room: u32) -> Result<Pool<T>, AllocError>
         ensures { IfOk result (λ p. p ≡ record { parents = []; values = []; payloads = []; leaves = []; spare = room }) }
     {
         let tree = Tree::with_room(alloc, room)?;
         let values = Vec::with_capacity(alloc, room as usize)?;
-        let payloads = Vec::with_capacity(alloc, room as usize)?;
         let leaves = Leaves::with_room(alloc, room)?;
+        let payloads = Vec::with_capacity(alloc, room as usize)?;
         Ok(Pool {
             tree,
             values,
@@ -103,6 +106,99 @@ impl<T> Pool<T> {
         ensures { slice_get self.now.payloads id ≡ Some result.now }
     {
         &self.payloads[id as usize]
+    }
+
+    /// The node's payload, for writing. Nothing else of the pool changes.
+    pub fn payload_mut(&mut self, id: u32) -> &mut T
+        requires { id < length self.old.parents }
+        ensures* writes_back { sem 𝓛 (LendsPayload T.row self.entry id result) }
+        ensures value { slice_get self.old.payloads id ≡ Some result.now }
+    {
+        &mut self.payloads[id as usize]
+    }
+
+    /// Makes `spare` at least `room`. After `Err`, which comes for want of memory alone, all is as before.
+    pub fn reserve(&mut self, room: u32) -> Result<(), AllocError>
+        requires { length self.old.parents + room < 2 ^ 32 }
+        ensures spare { OnOk result (self.new.spare ≡ max self.old.spare room) }
+        ensures nodes { AreSameNodes self.old self.new }
+        ensures same { OnErr result (self.new ≡ self.old) }
+    {
+        let spare = self.spare();
+        if room <= spare {
+            return Ok(());
+        }
+        self.tree.reserve(room)?;
+        self.values.reserve_exact(room as usize)?;
+        self.payloads.reserve_exact(room as usize)?;
+        self.leaves.grow(room - spare)?;
+        Ok(())
+    }
+
+    /// Makes `spare` at least 1, and more by a part of the nodes that there are, so that many adds take memory seldom.
+    fn make_room(&mut self) -> Result<(), AllocError>
+        requires { length self.old.parents < 2 ^ 32 - 1 }
+        ensures some { OnOk result (0 < self.new.spare) }
+        ensures no_less { OnOk result (self.old.spare ≤ self.new.spare) }
+        ensures succeeds { 0 < self.old.spare → IsOk result }
+        ensures nodes { AreSameNodes self.old self.new }
+        ensures same { OnErr result (self.new ≡ self.old) }
+    {
+        if self.spare() > 0 {
+            return Ok(());
+        }
+        let count = self.tree.len() as u32;
+        self.reserve(count.max(8).min(u32::MAX - count))
+    }
+
+    fn add_within(&mut self, parent: Option<u32>, value: Frac, payload: T) -> u32
+        requires parent { IsParent self.old parent }
+        requires spare { 0 < self.old.spare }
+        ensures id { result ≡ length self.old.parents }
+        ensures added { IsWithLeaf self.old parent value payload self.new }
+        ensures spare { self.new.spare + 1 ≡ self.old.spare }
+    {
+        let id = self.tree.len() as u32;
+        let before = self.leaves.first_higher(&self.values, &value);
+        self.tree.push(parent);
+        self.values.push_reserved(value);
+        self.payloads.push_reserved(payload);
+        self.leaves.put(id, before);
+        id
+    }
+
+    /// Adds an open leaf, the last child of its parent, behind the open leaves of the same value. The first node has no parent, and
+    /// each other has one that is shut. `Err` hands the payload back for want of memory. It cannot come where `spare` is above 0.
+    ///
+    /// The leaf's place is sought from the one that was added last, or the leaf beside it when that one is shut, in the direction
+    /// of the value. So an add takes one step for each open leaf between the two: few where children have values like their
+    /// siblings or close behind the least one, and all open leaves at worst.
+    pub fn add(&mut self, parent: Option<u32>, value: Frac, payload: T) -> Result<u32, T>
+        requires parent { IsParent self.old parent }
+        requires few { length self.old.parents < 2 ^ 32 - 1 }
+        ensures id { IfOk result (λ id. id ≡ length self.old.parents) }
+        ensures added { OnOk result (IsWithLeaf self.old parent value payload self.new) }
+        ensures spare { OnOk result (self.old.spare ≤ self.new.spare + 1) }
+        ensures succeeds { 0 < self.old.spare → IsOk result }
+        ensures payload { IfErr result (λ back. back ≡ payload) }
+        ensures same { OnErr result (self.new ≡ self.old) }
+    {
+        match self.make_room() {
+            Ok(()) => Ok(self.add_within(parent, value, payload)),
+            Err(_) => Err(payload),
+        }
+    }
+
+    /// Changes nothing. What it ensures holds of all pools, for callers that prove with it.
+    pub fn is_pool(&self)
+        ensures values { length self.now.values ≡ length self.now.parents }
+        ensures payloads { length self.now.payloads ≡ length self.now.parents }
+        ensures leaves { (id : ℕ) → has self.now.leaves id ≡ true → id < length self.now.parents }
+        ensures rising { IsRising self.now.values self.now.leaves }
+        ensures after_parents { AreAfterParents self.now.parents }
+        ensures numbered { length self.now.parents + self.now.spare < 2 ^ 32 }
+    {
+        self.tree.is_tree();
     }
 
     /// Shuts an open leaf: it leaves the open leaves.
