@@ -1,4 +1,13 @@
-//! A tree of nodes with values and payloads, and its open leaves in rising order of value.
+//! A tree of nodes with values and payloads, and its open leaves in rising order of value: what a best-first search keeps.
+//!
+//! Nodes are numbered from 0 in the order of adding, and none is ever removed. Contracts see a `Pool` as the parents, values and
+//! payloads of its nodes, the list of its open leaves, and how many adds cannot fail. A new leaf stands behind the leaves of the same
+//! value, so that equal leaves are taken in the order of adding. Only `open`, `reserve` and `add` take memory. Every call but these
+//! takes constant time; `add` says what it takes.
+//!
+//! - `pool`: `Pool` and its calls
+//! - `tree`: the nodes by first child and next sibling
+//! - `leaves`: the open leaves as one linked list
 #![tactic(auto)]
 
 mod leaves;
@@ -6,3 +15,6 @@ pub mod pool;
 mod tree;
 
 pub use pool::Pool;
+
+#[cfg(test)]
+mod tests;

@@ -26,7 +26,7 @@ pub struct Tree {
 impl Model for Tree {
     ghost use Rattle.std.specs.Prelude.{vec_capacity};
     ghost use Rattle.node_pool.specs.Kin.{parents_of, first_at, last_at, next_at, with_at, IsAdopted, IsAdoptedBy};
-ghost use Rattle.node_pool.specs.Tree.{Branches};
+    ghost use Rattle.node_pool.specs.Tree.{Branches};
 
     ghost Value = { Branches };
 
