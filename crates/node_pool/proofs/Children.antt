@@ -1,11 +1,11 @@
 -- The children of a node, and what becomes of them when a node is added.
-use Rattle.std.proofs.Common.{◌≡◌, ℕ, zero, suc, ◌+◌, ◌-◌, ◌<◌, ◌≤◌, ◌==◌, nat_lt, Bool, true, false, cond, not, ◌&&◌, ◌||◌, List, [], ◌∷◌, ◌++◌, length, map, Option, Some, None, slice_index_or, slice_set, refl, sym, ap, ap₂, ◌∙◌, subst, inl, inr, ◌⊎◌, eqb-true, lt-ltb, ltb-true, eq-eqb, ne_eqb, arith}
-use Rattle.std.proofs.lemmas.Bool.{or_cases, or_left, or_right, or_from, or_parts, both_ways, false_from_ne_true, cases_Bool, cases_eq, cases_lt, eqb-false}
+use Rattle.std.proofs.Common.{◌≡◌, ℕ, zero, suc, ◌+◌, ◌<◌, ◌==◌, Bool, true, false, cond, List, [], ◌∷◌, ◌++◌, length, Option, Some, None, refl, sym, ap, ◌∙◌, subst, inl, inr, eqb-true, eq-eqb, ne_eqb, arith}
+use Rattle.std.proofs.lemmas.Bool.{or_cases, or_parts, both_ways, false_from_ne_true, cases_eq, cases_lt}
 use Rattle.std.specs.List.{last_or}
-use Rattle.std.proofs.lemmas.List.{get_or_past, get_or_append_left, get_or-append_right}
+use Rattle.std.proofs.lemmas.List.{get_or_past, get_or_append_left}
 use Rattle.link_lists.specs.Lists.{has, first, following, IsOnce}
-use Rattle.link_lists.proofs.Cells.{has-here, has-later, has-append}
-use Rattle.node_pool.specs.Tree.{parent_of, is_parent, children_from, children, next_child, sibling_after, AreAfterParents}
+use Rattle.link_lists.proofs.Cells.{has-here, has-later}
+use Rattle.node_pool.specs.Tree.{parent_of, is_parent, children_from, children}
 
 append_nil : (xs : List ℕ) → xs ++ [] ≡ xs
 append_nil [] = refl

@@ -1,11 +1,11 @@
 -- The links of a tree in memory, after a node was added.
-use Rattle.std.proofs.Common.{◌≡◌, ℕ, zero, suc, ◌+◌, ◌-◌, ◌<◌, ◌≤◌, ◌==◌, Bool, true, false, cond, List, [], ◌∷◌, ◌++◌, length, map, Option, Some, None, slice_index_or, slice_set, refl, sym, ap, ap₂, ◌∙◌, subst, inl, inr, ◌⊎◌, eqb-true, eq-eqb, ne_eqb, arith}
+use Rattle.std.proofs.Common.{◌≡◌, ℕ, zero, suc, ◌<◌, ◌≤◌, true, false, cond, List, [], ◌∷◌, ◌++◌, length, Option, Some, None, slice_index_or, slice_set, refl, sym, ap, ◌∙◌, subst, inl, inr, eq-eqb, ne_eqb, arith}
 use Rattle.std.proofs.lemmas.Bool.{both_ways, false_from_ne_true, cases_eq, cases_lt}
-use Rattle.std.proofs.lemmas.List.{length-map, get_or_past, get_or_append_left, get_or-append_right}
-use Rattle.link_lists.specs.Lists.{has, first, following, IsOnce}
+use Rattle.std.proofs.lemmas.List.{length-map, get_or_past}
+use Rattle.link_lists.specs.Lists.{has, first, following}
 use Rattle.node_pool.specs.declared.tree.Kin.{Kin}
-use Rattle.node_pool.specs.Tree.{parent_of, is_parent, children, next_child, sibling_after, AreAfterParents, IsThere}
-use Rattle.node_pool.specs.Kin.{alone, kin_at, parents_of, first_at, last_at, next_at, with_at, first_with, next_with, IsAdopted, IsAdoptedBy, last, IsLinked}
+use Rattle.node_pool.specs.Tree.{parent_of, children, next_child, sibling_after, AreAfterParents, IsThere}
+use Rattle.node_pool.specs.Kin.{parents_of, first_at, last_at, next_at, with_at, first_with, next_with, IsAdopted, IsAdoptedBy, last, IsLinked}
 use Rattle.node_pool.proofs.Children.{children_push, children_other, child_parent, parent_child, parent_below, IsOnce_children, last_push, last_none, last_has, first_push, following_at_last, following_within, following_new, parent_before, parent_new, parent_past}
 
 -- a write to another field leaves the parents

@@ -1,6 +1,6 @@
 -- The one list of open leaves, after a leaf was put or taken.
-use Rattle.std.proofs.Common.{◌≡◌, ℕ, ◌+◌, ◌<◌, ◌≤◌, ◌==◌, Bool, true, false, cond, not, ◌&&◌, ◌||◌, List, [], ◌∷◌, ◌++◌, length, map, Option, Some, None, refl, sym, ap, ◌∙◌, subst, inl, inr, eqb-true, eq-eqb, ne_eqb, arith}
-use Rattle.std.proofs.lemmas.Bool.{or_right, or_left, and_from, both_ways, cases_eq}
+use Rattle.std.proofs.Common.{◌≡◌, ℕ, ◌==◌, Bool, true, false, cond, not, ◌||◌, List, [], ◌∷◌, map, Option, Some, refl, sym, ap, ◌∙◌, subst, ne_eqb, arith}
+use Rattle.std.proofs.lemmas.Bool.{or_right, and_from, both_ways}
 use Rattle.std.proofs.lemmas.List.{length-map}
 use Rattle.link_lists.specs.Lists.{Rows, row, has, without, pushed, inserted, following, preceding, with_pushed, with_inserted, with_taken, place_in, IsOnce}
 use Rattle.link_lists.proofs.Cells.{has-here, has-later, has-append, has-without, row-without, row-pushed, row-inserted, length-pushed}

@@ -1,8 +1,7 @@
 -- Rising leaves: what is behind a greater value is greater, and a new leaf keeps the order.
-use Rattle.std.proofs.Common.{◌≡◌, ℕ, zero, suc, ◌+◌, ◌-◌, ◌<◌, ◌≤◌, ◌==◌, Bool, true, false, cond, not, ◌&&◌, ◌||◌, List, [], ◌∷◌, ◌++◌, length, Option, Some, None, refl, sym, ap, ap₂, ◌∙◌, subst, inl, inr, ◌⊎◌, eqb-true, eq-eqb, ne_eqb, arith}
-use Rattle.std.proofs.lemmas.Bool.{or_cases, or_left, or_right, or_parts, both_ways, false_from_ne_true, true_from_ne_false, cases_Bool, cases_eq, cases_lt, eqb-false}
+use Rattle.std.proofs.Common.{◌≡◌, ℕ, zero, suc, ◌<◌, ◌==◌, Bool, true, false, cond, not, List, [], ◌∷◌, ◌++◌, length, Option, Some, None, refl, sym, ap, ◌∙◌, subst, inl, inr, ◌⊎◌, eqb-true, eq-eqb, ne_eqb, arith}
+use Rattle.std.proofs.lemmas.Bool.{or_cases, or_left, both_ways}
 use Rattle.std.specs.List.{slice_get, find}
-use Rattle.std.specs.Cmp.{IsTotalOrder}
 use Rattle.std.specs.Ordering.{is_lt, ordering_reverse}
 use Rattle.std.specs.declared.cmp.Ordering.{Ordering}
 use Rattle.std.specs.declared.cmp.Ordering.TheVariants.{Less, Equal, Greater}
@@ -12,7 +11,7 @@ use Rattle.link_lists.specs.Lists.{has, without, inserted}
 use Rattle.link_lists.proofs.Cells.{has-here, has-later, has-without}
 use Rattle.std.proofs.lemmas.Bool.{and_parts}
 use Rattle.node_pool.specs.Order.{above, is_above, placed, IsAtMost, IsRising, put_before}
-use Rattle.node_pool.proofs.Places.{StaysTrue, found_has}
+use Rattle.node_pool.proofs.Places.{StaysTrue}
 
 -- ---- the order of two values
 

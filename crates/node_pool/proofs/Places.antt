@@ -1,10 +1,9 @@
 -- The first leaf that passes a test which all leaves behind it pass too, sought from any leaf in either direction.
-use Rattle.std.proofs.Common.{◌≡◌, ℕ, zero, suc, ◌+◌, ◌-◌, ◌<◌, ◌≤◌, ◌==◌, Bool, true, false, cond, not, ◌&&◌, ◌||◌, List, [], ◌∷◌, ◌++◌, length, Option, Some, None, refl, sym, ap, ap₂, ◌∙◌, subst, inl, inr, ◌⊎◌, eqb-true, eq-eqb, ne_eqb, arith}
-use Rattle.std.proofs.lemmas.Bool.{or_cases, or_left, or_right, or_parts, both_ways, false_from_ne_true, true_from_ne_false, cases_Bool, cases_eq, cases_lt, eqb-false}
+use Rattle.std.proofs.Common.{◌≡◌, ℕ, suc, ◌<◌, ◌==◌, Bool, true, false, cond, List, [], ◌∷◌, length, Option, Some, None, refl, sym, ap, ◌∙◌, subst, inl, inr, ◌⊎◌, eqb-true, eq-eqb, ne_eqb, arith}
+use Rattle.std.proofs.lemmas.Bool.{or_cases, both_ways, false_from_ne_true, cases_eq}
 use Rattle.std.specs.List.{find}
-use Rattle.link_lists.specs.Lists.{has, first, following, preceding, preceding_from, place_in, IsOnce, inserted}
+use Rattle.link_lists.specs.Lists.{has, first, following, preceding, preceding_from, place_in, IsOnce}
 use Rattle.link_lists.proofs.Cells.{has-here, has-later}
-use Rattle.node_pool.specs.Order.{put_before}
 
 -- once a leaf passes, each behind it passes
 abbrev pub StaysTrue : (ℕ → Bool) → List ℕ → Type 0

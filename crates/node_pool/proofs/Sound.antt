@@ -1,11 +1,10 @@
 -- The parts of a pool fit together after each call.
-use Rattle.std.proofs.Common.{◌≡◌, ℕ, suc, ◌+◌, ◌-◌, ◌<◌, ◌≤◌, Bool, true, false, List, [], ◌∷◌, ◌++◌, length, Option, Some, None, refl, sym, ap, ◌∙◌, subst, inl, inr, ◌⊎◌, ◌^◌, length-append, arith}
+use Rattle.std.proofs.Common.{◌≡◌, ℕ, ◌+◌, ◌<◌, ◌≤◌, Bool, true, false, List, [], ◌∷◌, ◌++◌, length, Option, Some, None, refl, sym, ap, ◌∙◌, subst, inl, inr, ◌^◌, length-append, arith}
 use Rattle.std.specs.List.{find}
 use Rattle.frac128.specs.declared.fraction.Frac.{Frac}
 use Rattle.link_lists.specs.Lists.{has, without}
 use Rattle.node_pool.specs.Tree.{Branches, with_node}
 use Rattle.node_pool.specs.Order.{OpenLeaves, is_above, placed, put_before, IsRising}
-use Rattle.node_pool.specs.Pooled.{Pooled, IsShut, IsParent, AreSameNodes, IsWithLeaf}
 use Rattle.node_pool.specs.Sound.{IsSound}
 use Rattle.node_pool.proofs.Order.{placed_by, has-placed, rising_placed, rising_without, has-less}
 
@@ -86,18 +85,3 @@ module _ (t : Branches) (vs : List Frac) (vr pl pr : ℕ) (o : OpenLeaves) (p : 
       false_by : (b : Bool) → has o.leaves (length t.parents) ≡ b → b ≡ false
       false_by true q = let z = h.known (length t.parents) q in absurd (omega arith)
       false_by false q = refl
-
-pub parent_same : {T : Type 0} (old new : Pooled T) (p : Option ℕ) → AreSameNodes old new → IsParent old p → IsParent new p
-parent_same old new None s h = s.parents ∙ h
-parent_same old new (Some i) s h = record {
-  there = let e = ap length s.parents in let x = h.there in omega arith;
-  out = ap (λ xs. has xs i) s.leaves ∙ h.out;
-}
-
-pub with_leaf_same : {T : Type 0} (old mid new : Pooled T) (p : Option ℕ) (v : Frac) (x : T) → AreSameNodes old mid → IsWithLeaf mid p v x new → IsWithLeaf old p v x new
-with_leaf_same old mid new p v x s h = record {
-  parents = h.parents ∙ ap (λ ps. ps ++ p ∷ []) s.parents;
-  values = h.values ∙ ap (λ vs. vs ++ v ∷ []) s.values;
-  payloads = h.payloads ∙ ap (λ xs. xs ++ x ∷ []) s.payloads;
-  leaves = h.leaves ∙ (ap (λ vs. placed vs v (length mid.parents) mid.leaves) s.values ∙ (ap (λ ps. placed old.values v (length ps) mid.leaves) s.parents ∙ ap (placed old.values v (length old.parents)) s.leaves));
-}

@@ -1,5 +1,5 @@
 -- How memory holds the open leaves: as the one list of `Lists`, of which no cell is unlinked.
-use Rattle.std.specs.Prelude.{◌≡◌, ℕ, ◌<◌, true, List, [], length, ◌^◌, Option, Some}
+use Rattle.std.specs.Prelude.{◌≡◌, ℕ, true, [], length, Option, Some}
 use Rattle.link_lists.specs.Lists.{Rows, row, has}
 
 pub record IsOneList (lists : Rows) (room : ℕ) (near : Option ℕ) : Type 0 where

@@ -1,6 +1,5 @@
 -- A pool of nodes: what contracts see.
-use Rattle.std.specs.Prelude.{◌≡◌, ℕ, ◌<◌, ◌-◌, Bool, true, false, List, [], ◌∷◌, ◌++◌, length, slice_set, Option, Some, None}
-use Rattle.std.specs.List.{slice_get}
+use Rattle.std.specs.Prelude.{◌≡◌, ℕ, ◌<◌, false, List, [], ◌∷◌, ◌++◌, length, slice_set, Option, Some, None}
 use Rattle.frac128.specs.declared.fraction.Frac.{Frac}
 use Rattle.link_lists.specs.Lists.{has, without}
 use Rattle.node_pool.specs.Order.{placed}

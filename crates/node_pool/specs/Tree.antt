@@ -1,5 +1,5 @@
 -- A tree by the parents of its nodes. Nodes are numbered from 0 in the order of adding, and a node's children in that order too.
-use Rattle.std.specs.Prelude.{◌≡◌, ℕ, zero, suc, ◌<◌, ◌==◌, Bool, true, false, cond, List, [], ◌∷◌, ◌++◌, length, slice_index_or, Option, Some, None}
+use Rattle.std.specs.Prelude.{◌≡◌, ℕ, suc, ◌<◌, ◌==◌, Bool, false, cond, List, [], ◌∷◌, ◌++◌, length, slice_index_or, Option, Some, None}
 use Rattle.link_lists.specs.Lists.{following}
 
 -- the parent of node i, and none for a root and past the last node

@@ -1,10 +1,9 @@
-use Rattle.std.proofs.Common.{◌≡◌, ◌<◌, ◌≤◌, ◌+◌, ◌==◌, ◌∷◌, [], ℕ, List, Bool, Some, true, false, cond, length, refl, sym, ap, ◌∙◌, subst, inl, inr, length-append, arith}
+use Rattle.std.proofs.Common.{◌≡◌, ◌==◌, ◌∷◌, [], ℕ, List, Bool, Some, true, false, cond, length, refl, ap, ◌∙◌, inl, inr, length-append, arith}
 use Rattle.std.proofs.lemmas.Bool.{or_cases, or_left, both_ways, false_from_ne_true, cases_eq}
 use Rattle.frac128.specs.declared.fraction.Frac.{Frac}
 use Rattle.link_lists.specs.Lists.{has}
 use Rattle.link_lists.proofs.Cells.{has-here, has-later}
 use Rattle.node_pool.specs.Order.{is_above, placed}
-use Rattle.node_pool.specs.Pooled.{Pooled, IsWithLeaf}
 use Rattle.node_pool.proofs.Order.{has-placed}
 use Rattle.node_pool.proofs.tests.add_children.Goals as goal
 

@@ -1,8 +1,8 @@
-use Rattle.std.proofs.Common.{◌≡◌, ◌<◌, ◌≤◌, ◌+◌, ◌-◌, ◌++◌, ◌∷◌, [], ℕ, Some, length, sym, ap, ◌∙◌, subst, length-append, arith}
+use Rattle.std.proofs.Common.{◌≡◌, ◌<◌, ◌+◌, ◌-◌, ◌++◌, ◌∷◌, [], length, sym, ap, ◌∙◌, subst, length-append, arith}
 use Rattle.std.specs.Prelude.{vec_capacity}
 use Rattle.node_pool.specs.Tree.{Branches}
 use Rattle.node_pool.specs.Order.{OpenLeaves, is_above, placed, put_before}
-use Rattle.node_pool.specs.Pooled.{Pooled, IsWithLeaf}
+use Rattle.node_pool.specs.Pooled.{Pooled}
 use Rattle.node_pool.proofs.Places.{found_has}
 use Rattle.node_pool.proofs.Sound.{leaves_added, sound_added}
 use Rattle.node_pool.proofs.pool.Pool.add_within.Goals as goal

@@ -1,6 +1,5 @@
-use Rattle.std.proofs.Common.{◌≡◌, length, subst, sym}
+use Rattle.std.proofs.Common.{length}
 use Rattle.std.specs.Prelude.{vec_capacity}
-use Rattle.node_pool.specs.Sound.{IsSound}
 use Rattle.node_pool.proofs.Sound.{sound_shut}
 use Rattle.node_pool.proofs.pool.Pool.shut.Goals as goal
 

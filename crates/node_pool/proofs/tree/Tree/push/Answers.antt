@@ -1,7 +1,7 @@
-use Rattle.std.proofs.Common.{◌≡◌, ◌∷◌, ◌++◌, [], ℕ, Option, List, length, sym, ap, ◌∙◌, subst, arith}
+use Rattle.std.proofs.Common.{◌≡◌, length, sym, subst, arith}
 use Rattle.node_pool.specs.Tree.{Branches, IsThere}
 use Rattle.node_pool.specs.Kin.{parents_of, IsLinked, IsAdoptedBy}
-use Rattle.node_pool.proofs.Linked.{newborn, pushed_linked, last_is_node}
+use Rattle.node_pool.proofs.Linked.{pushed_linked, last_is_node}
 use Rattle.node_pool.proofs.tree.Tree.push.Goals as goal
 
 pub adopt_by-requires-clause-last : goal.adopt_by-requires-clause-last
