@@ -6,7 +6,8 @@ use Rattle.std.specs.Ordering.{is_lt, ordering_reverse}
 use Rattle.std.specs.declared.cmp.Ordering.{Ordering}
 use Rattle.std.specs.declared.cmp.Ordering.TheVariants.{Less, Equal, Greater}
 use Rattle.frac128.specs.declared.fraction.Frac.{Frac}
-use Rattle.frac128.specs.OrderLaws.{fraction_cmp, fraction_cmp_total}
+use Rattle.frac128.specs.Order.{fraction_cmp}
+use Rattle.frac128.specs.OrderLaws.{fraction_cmp_total}
 use Rattle.link_lists.specs.Lists.{has, without, inserted}
 use Rattle.link_lists.proofs.Cells.{has-here, has-later, has-without}
 use Rattle.std.proofs.lemmas.Bool.{and_parts}

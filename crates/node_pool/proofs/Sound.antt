@@ -1,5 +1,5 @@
 -- The parts of a pool fit together after each call.
-use Rattle.std.proofs.Common.{◌≡◌, ℕ, ◌+◌, ◌<◌, ◌≤◌, Bool, true, false, List, [], ◌∷◌, ◌++◌, length, Option, Some, None, refl, sym, ap, ◌∙◌, subst, inl, inr, ◌^◌, length-append, arith}
+use Rattle.std.proofs.Common.{◌≡◌, ℕ, ◌+◌, ◌<◌, ◌≤◌, Bool, true, false, List, [], ◌∷◌, ◌++◌, length, Option, refl, sym, ap, ◌∙◌, subst, inl, inr, ◌^◌, length-append, arith}
 use Rattle.std.specs.List.{find}
 use Rattle.frac128.specs.declared.fraction.Frac.{Frac}
 use Rattle.link_lists.specs.Lists.{has, without}

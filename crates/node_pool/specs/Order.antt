@@ -4,7 +4,7 @@ use Rattle.std.specs.List.{slice_get}
 use Rattle.std.specs.Ordering.{is_lt}
 use Rattle.std.specs.declared.cmp.Ordering.TheVariants.{Greater}
 use Rattle.frac128.specs.declared.fraction.Frac.{Frac}
-use Rattle.frac128.specs.OrderLaws.{fraction_cmp}
+use Rattle.frac128.specs.Order.{fraction_cmp}
 use Rattle.link_lists.specs.Lists.{has, inserted}
 
 abbrev pub above : Frac → Option Frac → Bool

@@ -2,7 +2,7 @@
 
 ghost use Rattle.std.specs.Prelude.{◌≡◌, [], ℕ, true, false, Some, ◌<◌, ◌+◌, ◌^◌, length, IfOk, OnErr};
 ghost use Rattle.std.specs.List.{find};
-ghost use Rattle.frac128.specs.OrderLaws.{fraction_cmp};
+ghost use Rattle.frac128.specs.Order.{fraction_cmp};
 ghost use Rattle.link_lists.specs.Lists.{first, has, row, without, IsListed};
 ghost use Rattle.node_pool.specs.Order.{OpenLeaves, is_above, put_before, IsRising};
 
