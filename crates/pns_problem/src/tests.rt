@@ -426,27 +426,34 @@ fn full_example(alloc: Global) -> Result<Parts, AllocError> {
     })
 }
 
+fn is_printed(alloc: Global, problem: &Problem) -> Result<bool, AllocError> {
+    let text = problem.canonical_text(alloc)?;
+    Ok(text.as_slice() == FULL_TEXT.as_bytes())
+}
+
+fn is_read(problem: &Problem) -> bool {
+    let counts = problem.materials().len() + problem.units().len() + problem.exclusions().len();
+    counts == 6 && problem.payout() == 10
+}
+
+fn is_looked_up(problem: &Problem) -> bool {
+    problem.unit_named("U2") == Some(1) && problem.material_named("U2").is_none()
+}
+
+fn copy_of_example(alloc: Global) -> Result<Problem, AllocError> {
+    let parts = full_example(alloc)?;
+    match Problem::build(alloc, parts) {
+        Ok(problem) => problem.copy(alloc),
+        Err(_) => Err(AllocError),
+    }
+}
+
 #[test]
 fn a_problem_is_printed(rt: HostRuntime) -> Result<(), Fail> {
     let alloc = rt.alloc();
-    let Ok(problem) = Problem::build(alloc, full_example(alloc)?) else {
-        return Err(Fail::from(AllocError));
-    };
-    let text = problem.copy(alloc)?.canonical_text(alloc)?;
-    assert_eq!(rt; text.as_slice(), FULL_TEXT.as_bytes());
-    assert_eq!(rt; fault_of(alloc, problem.parts(alloc)?), None);
-    assert_eq!(rt;
-        (problem.unit_named("U2"), problem.material_named("U2")),
-        (Some(1), None)
-    );
-    assert_eq!(rt; problem.payout(), 10);
-    assert_eq!(rt;
-        (
-            problem.materials().len(),
-            problem.units().len(),
-            problem.exclusions().len()
-        ),
-        (3, 2, 1)
-    );
+    let problem = copy_of_example(alloc)?;
+    assert!(rt; is_printed(alloc, &problem)?);
+    assert!(rt; is_read(&problem) && is_looked_up(&problem));
+    assert!(rt; fault_of(alloc, problem.parts(alloc)?).is_none());
     Ok(())
 }
