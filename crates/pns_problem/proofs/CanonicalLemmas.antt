@@ -1,7 +1,7 @@
 -- The canonical text from its sections, and what validity gives for printing them.
-use Rattle.std.proofs.Common.{◌≡◌, ℕ, ◌+◌, ◌<◌, ◌≤◌, List, [], ◌∷◌, ◌++◌, map, length, codes, refl, sym, ap, ◌∙◌, arith}
+use Rattle.std.proofs.Common.{◌≡◌, ℕ, ◌+◌, ◌≤◌, List, [], ◌∷◌, ◌++◌, length, codes, sym, ap, ◌∙◌, arith}
 use Rattle.std.proofs.lemmas.Grind.{flat_map-append}
-use Rattle.problem_rules.specs.Problem.{Problem, Material, OperatingUnit, Exclusion, material_names, unit_names}
+use Rattle.problem_rules.specs.Problem.{Problem, OperatingUnit, Exclusion}
 use Rattle.problem_rules.specs.Each.{Each}
 use Rattle.problem_rules.specs.Validity.{IsValid}
 use Rattle.problem_rules.specs.WellFormed.{IsWellFormedUnit, IsWellFormedExclusion, AreRisingFrom}

@@ -1,5 +1,5 @@
 -- A refusal of parts that have no fault is want of memory.
-use Rattle.std.proofs.Common.{◌≡◌, true, Option, None, refl, sym, ◌∙◌}
+use Rattle.std.proofs.Common.{◌≡◌, true, Option, None, refl, ◌∙◌}
 use Rattle.problem_rules.specs.Validity.{Refusal}
 use Rattle.pns_problem.specs.Fault.{Tells, is_memory}
 use Rattle.pns_problem.specs.declared.fault.BuildFault.{BuildFault}

@@ -1,13 +1,13 @@
 -- Lines of the canonical text from the pieces that are appended one after another.
 use Rattle.std.proofs.Common.{◌≡◌, ℕ, zero, suc, ◌+◌, ◌<◌, ◌≤◌, Bool, true, false, cond, List, [], ◌∷◌, ◌++◌, map, length, take, drop, get_or, ◌-◌, codes, refl, sym, ap, ◌∙◌, append_assoc, arith}
-use Rattle.std.specs.Prelude.{if◌then◌else◌, unsigned_abs, ◌==◌, slice_index_or, ℤ, decimal}
+use Rattle.std.specs.Prelude.{unsigned_abs, ◌==◌, ℤ, decimal}
 use Rattle.std.proofs.lemmas.List.{append-nil, take_all, drop_more}
-use Rattle.problem_rules.specs.Problem.{Material, Term, OperatingUnit}
+use Rattle.problem_rules.specs.Problem.{Term, OperatingUnit}
 use Rattle.problem_rules.specs.Validity.{is_empty}
 use Rattle.text_rules.specs.Printed.{amount_bytes}
-use Rattle.text_rules.specs.Canonical.{joined, spaced, named, item_line, field, term_tokens, token_text, side_tokens, rates_tokens, name_at, unit_items, payout_lines, section_lines, exclusion_section}
+use Rattle.text_rules.specs.Canonical.{joined, spaced, named, item_line, field, term_tokens, token_text, side_tokens, rates_tokens, name_at, payout_lines, section_lines, exclusion_section}
 use Rattle.pns_problem.proofs.Printed.{AreLinesPrinted}
-use Rattle.pns_problem.specs.Printing.{printed, further, further_items, rate_text, term_text, further_terms, unit_amounts, unit_investment_fix, unit_investment_proportional}
+use Rattle.pns_problem.specs.Printing.{printed, further, further_items, term_text, further_terms}
 
 -- one piece after another
 pub after : (old mid new x y : List ℕ) → mid ≡ old ++ x → new ≡ mid ++ y → new ≡ old ++ (x ++ y)

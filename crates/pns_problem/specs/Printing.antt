@@ -1,5 +1,5 @@
 -- How the canonical text is put together from its pieces.
-use Rattle.std.specs.Prelude.{◌≡◌, ◌<◌, ℕ, Bool, false, List, [], ◌∷◌, ◌++◌, flat_map, map, length, codes, ℤ, unsigned_abs, ◌==◌, if◌then◌else◌}
+use Rattle.std.specs.Prelude.{◌≡◌, ◌<◌, ℕ, false, List, [], ◌∷◌, ◌++◌, flat_map, map, length, codes, ℤ, unsigned_abs, ◌==◌, if◌then◌else◌}
 use Rattle.problem_rules.specs.Problem.{Material, Term, OperatingUnit, Exclusion}
 use Rattle.problem_rules.specs.Validity.{names_no_material, is_empty}
 use Rattle.text_rules.specs.Printed.{amount_bytes}

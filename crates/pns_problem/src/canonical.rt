@@ -1,9 +1,9 @@
 //! The canonical text of a problem, appended line by line.
-ghost use Rattle.std.specs.Prelude.{◌≡◌, ◌<◌, ◌≤◌, ◌++◌, OnOk, false, [], ◌∷◌, ℕ, length, string_bytes, codes, map};
+ghost use Rattle.std.specs.Prelude.{◌≡◌, ◌<◌, ◌++◌, OnOk, false, [], length, string_bytes, map};
 ghost use Rattle.problem_rules.specs.Problem.{material_names, unit_names};
 ghost use Rattle.problem_rules.specs.Validity.{names_no_material, is_empty, IsValid};
 ghost use Rattle.text_rules.specs.Printed.{amount_bytes};
-ghost use Rattle.text_rules.specs.Canonical.{joined, spaced, field, field_unless_zero, kind_word, material_items, unit_items, item_line, name_at, term_tokens, token_text, side_tokens, rates_tokens, named, payout_lines, exclusion_section, canonical};
+ghost use Rattle.text_rules.specs.Canonical.{joined, spaced, field, field_unless_zero, kind_word, material_items, unit_items, item_line, name_at, token_text, side_tokens, rates_tokens, named, payout_lines, exclusion_section, canonical};
 ghost use Rattle.pns_problem.specs.Kind.{kind_of};
 ghost use Rattle.pns_problem.specs.Printing.{printed, further, further_items, rate_text, term_text, further_terms, material_amounts, unit_amounts, unit_investment_fix, unit_investment_proportional, material_line, unit_line, rates_line, exclusion_line, IsPrintable, AreKnown, HasKnownMembers};
 ghost use Rattle.problem_rules.specs.Each.{Each};

@@ -4,7 +4,7 @@
 //!
 //! Contracts see materials, units, exclusions, parts and problems as the records of `problem_rules`, and names as lists of
 //! bytes. Modules: `material`, `term`, `unit`, `exclusion` (the items, each with its tests), `name` and `name_table`,
-//! `parts`, `fault`, `judge` (the first fault), `problem`.
+//! `parts`, `fault`, `judge` (the first fault), `problem`, and for its text `amount` and `canonical`.
 #![tactic(auto)]
 
 mod amount;

@@ -7,6 +7,8 @@ use crate::amount::is_out_of_range;
 use std::alloc::{AllocError, Global};
 use std::marker::Model;
 
+/// What a network does with a material: it buys a raw material, makes what it uses of an intermediate, and has to make
+/// each product.
 #[derive(Clone, Copy, Debug, PartialEq, Eq)]
 pub enum Kind {
     RawMaterial,

@@ -1,5 +1,5 @@
 use Rattle.pns_problem.proofs.Printed.{AreTermsPrinted}
-use Rattle.std.proofs.Common.{drop, length, string_bytes}
+use Rattle.std.proofs.Common.{length, string_bytes}
 use Rattle.problem_rules.specs.Problem.{material_names}
 use Rattle.pns_problem.proofs.canonical.push_further_terms.Given as goal
 

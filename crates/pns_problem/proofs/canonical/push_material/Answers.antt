@@ -1,10 +1,7 @@
-use Rattle.std.proofs.Common.{rules, ◌≡◌, ◌++◌, [], ◌∷◌, map, length, ap, ◌∙◌, string_bytes, codes, w64, SFits}
-use Rattle.std.proofs.lemmas.Int.{to_z-of_z}
-use Rattle.text_rules.specs.Printed.{amount_bytes}
-use Rattle.text_rules.specs.Canonical.{joined, spaced, field, field_unless_zero, kind_word, named, name_at, token_text, side_tokens}
-use Rattle.problem_rules.specs.Problem.{Material, OperatingUnit, Exclusion, material_names, unit_names}
-use Rattle.pns_problem.specs.Kind.{kind_of}
-use Rattle.pns_problem.specs.Printing.{further, further_items, further_terms, material_amounts, unit_amounts, unit_investment_fix, unit_investment_proportional}
+use Rattle.std.proofs.Common.{◌++◌, [], ap, ◌∙◌, string_bytes}
+use Rattle.text_rules.specs.Canonical.{kind_word, named}
+use Rattle.problem_rules.specs.Problem.{Material}
+use Rattle.pns_problem.specs.Printing.{material_amounts}
 use Rattle.pns_problem.proofs.PrintingLemmas.{line_of_items}
 use Rattle.pns_problem.proofs.canonical.push_material.Goals as goal
 

@@ -2,7 +2,6 @@ use Rattle.std.proofs.Common.{◌≡◌, ◌++◌, false, string_bytes, arith, s
 use Rattle.std.proofs.lemmas.Int.{to_z-of_z}
 use Rattle.std.proofs.lemmas.Bool.{ne_eqb}
 use Rattle.std.specs.Prelude.{unsigned_abs, ◌==◌, decimal}
-use Rattle.std.proofs.lemmas.Grind.{common_steps}
 use Rattle.pns_problem.proofs.PrintingLemmas.{payout_text}
 use Rattle.pns_problem.proofs.canonical.push_payout.Goals as goal
 

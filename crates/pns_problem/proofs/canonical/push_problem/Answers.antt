@@ -1,4 +1,4 @@
-use Rattle.std.proofs.Common.{◌≡◌, ◌++◌, map, length, string_bytes, ap, ◌∙◌, w64, SFits, rules}
+use Rattle.std.proofs.Common.{◌++◌, map, string_bytes, ap, ◌∙◌, w64, SFits, rules}
 use Rattle.std.proofs.lemmas.Int.{to_z-of_z}
 use Rattle.problem_rules.specs.Problem.{Problem, material_names, unit_names}
 use Rattle.text_rules.specs.Canonical.{payout_lines, exclusion_section}

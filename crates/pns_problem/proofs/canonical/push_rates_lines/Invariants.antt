@@ -1,7 +1,7 @@
-use Rattle.std.proofs.Common.{◌≡◌, length, map, string_bytes}
-use Rattle.problem_rules.specs.Problem.{material_names, unit_names}
-use Rattle.pns_problem.specs.Printing.{material_line, unit_line, rates_line, exclusion_line, IsPrintable, HasKnownMembers}
-use Rattle.pns_problem.proofs.Printed.{AreLinesPrinted, AreFitLinesPrinted}
+use Rattle.std.proofs.Common.{length, string_bytes}
+use Rattle.problem_rules.specs.Problem.{material_names}
+use Rattle.pns_problem.specs.Printing.{rates_line, IsPrintable}
+use Rattle.pns_problem.proofs.Printed.{AreFitLinesPrinted}
 use Rattle.pns_problem.proofs.canonical.push_rates_lines.Given as goal
 
 abbrev pub invariant-printing : goal.invariant-printing

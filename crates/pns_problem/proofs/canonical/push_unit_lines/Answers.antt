@@ -1,4 +1,4 @@
-use Rattle.std.proofs.Common.{◌<◌, ◌++◌, length, string_bytes, ap, ◌∙◌, arith}
+use Rattle.std.proofs.Common.{◌++◌, string_bytes, ap, ◌∙◌, arith}
 use Rattle.pns_problem.specs.Printing.{unit_line}
 use Rattle.pns_problem.proofs.PrintingLemmas.{one_line}
 use Rattle.pns_problem.proofs.canonical.push_unit_lines.Goals as goal
