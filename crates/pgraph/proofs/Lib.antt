@@ -1,0 +1,7 @@
+pub mod ArcLemmas
+pub mod AxiomLemmas
+pub mod ExclusionLemmas
+pub mod OptionLemmas
+pub mod PathLemmas
+pub mod TableLemmas
+pub mod Proper

@@ -1,0 +1,8 @@
+use Rattle.std.proofs.Common.{◌<◌, ℕ}
+use Rattle.number_sets.specs.Sets.{has}
+use Rattle.pns_rules.specs.Structure.{Clashes}
+use Rattle.pgraph.specs.Tables.{shape}
+use Rattle.pgraph.proofs.graph.Graph.clash.Given as goal
+
+abbrev pub invariant-exclusions : goal.invariant-exclusions
+invariant-exclusions l = (j : ℕ) → j < l.k → Clashes (shape l.self) (has l.set) j → ⊥

@@ -1,0 +1,10 @@
+use Rattle.std.proofs.Common.{◌∙◌, ◌&&◌, ◌||◌, ◌==◌, ap, sym}
+use Rattle.number_sets.specs.Sets.{has}
+use Rattle.number_sets.proofs.SetLemmas.{has-with_number}
+use Rattle.pgraph.proofs.tables.with_if.Goals as goal
+
+pub returns-then-belongs : goal.returns-then-belongs
+returns-then-belongs c = λ y.
+    ap (λ xs. has xs y) c.with.ensures
+    ∙ (has-with_number c.args.x c.args.set y
+    ∙ ap (λ b. (b && (c.args.x == y)) || has c.args.set y) (sym c.if-belongs.true))

@@ -1,0 +1,22 @@
+-- The verdict on a unit set: it meets the axioms, or the first that it breaks and the least place where it does.
+use Rattle.std.specs.Prelude.{ℕ, Bool}
+use Rattle.pns_rules.specs.Shape.{Shape}
+use Rattle.pns_rules.specs.Structure.{IsStructure}
+use Rattle.pns_rules.specs.Ends.{IsFirst, IsNever}
+use Rattle.pgraph.specs.Breaks.{BreaksS1, BreaksS2, BreaksS4}
+use Rattle.pgraph.specs.declared.verdict.Axiom.{Axiom}
+use Rattle.pgraph.specs.declared.verdict.Axiom.TheVariants.{S1, S2, S3, S4, S5}
+use Rattle.pgraph.specs.declared.verdict.Verdict.{Verdict}
+use Rattle.pgraph.specs.declared.verdict.Verdict.TheVariants.{Meets, Breaks}
+
+-- S3 and S5 hold of every set of units of the problem
+abbrev pub BreaksFirst : Shape → (ℕ → Bool) → Axiom → ℕ → Type 0
+BreaksFirst g o S1 x = IsFirst (BreaksS1 g o) x
+BreaksFirst g o S2 x = IsNever (BreaksS1 g o) × IsFirst (BreaksS2 g o) x
+BreaksFirst g o S3 x = ⊥
+BreaksFirst g o S4 u = IsNever (BreaksS1 g o) × IsNever (BreaksS2 g o) × IsFirst (BreaksS4 g o) u
+BreaksFirst g o S5 x = ⊥
+
+abbrev pub Judges : Shape → (ℕ → Bool) → Verdict → Type 0
+Judges g o Meets = IsStructure g o
+Judges g o (Breaks broken at) = BreaksFirst g o broken at
