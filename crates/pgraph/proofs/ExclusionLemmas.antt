@@ -51,10 +51,13 @@ module _ (g : Shape) (o : List ℕ) (k : ℕ) (excluded both : List ℕ) (exclud
 -- ---- rivals
 
 pub met_none : (found excluded o : List ℕ) → meet excluded o ≡ [] → (u : ℕ) → (has found u ≡ true) ↔ IsFoundOrMet (has found) (has excluded) (has o) u
-met_none found excluded o none u = (λ e. inl e, λ h. elim h [
-  | inl e ↦ e
-  | inr m ↦ let v = m.1 in absurd (both_ways (has (meet excluded o) v.0) (ap (λ xs. has xs v.0) none) (has-meet excluded o v.0 ∙ and_from (has excluded v.0) (has o v.0) v.1 v.2))
-])
+met_none found excluded o none u = (
+  λ e. inl e,
+  λ h. elim h [
+    | inl e ↦ e
+    | inr m ↦ let v = m.1 in absurd (both_ways (has (meet excluded o) v.0) (ap (λ xs. has xs v.0) none) (has-meet excluded o v.0 ∙ and_from (has excluded v.0) (has o v.0) v.1 v.2))
+  ],
+)
 
 pub met_some : (found excluded o : List ℕ) → (meet excluded o ≡ [] → ⊥) → (u : ℕ) → (has (union found excluded) u ≡ true) ↔ IsFoundOrMet (has found) (has excluded) (has o) u
 met_some found excluded o ne u = (

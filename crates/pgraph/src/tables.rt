@@ -26,11 +26,7 @@ fn with_if(set: MatSet, x: u32, belongs: bool) -> MatSet
     requires { x < 256 }
     ensures { (y : ℕ) → has result y ≡ ((belongs && (x == y)) || has set y) }
 {
-    if belongs {
-        set.with(x)
-    } else {
-        set
-    }
+    if belongs { set.with(x) } else { set }
 }
 
 /// The raw materials and the products.

@@ -5,7 +5,6 @@ use Rattle.pgraph.specs.Tables.{shape}
 use Rattle.pgraph.proofs.PathLemmas.{IsGrowing, growing_start, growing_more, taken_wanted, taken_fresh, fresh_makes, all_found, fits}
 use Rattle.pgraph.proofs.graph.Graph.reaching.Goals as goal
 
-
 pub grow-init : goal.grow-init
 grow-init c =
     let start = growing_start (shape c.args.self.now) (has c.args.set) (has c.products-wanted.result) c.is_proper.ensures.proper c.products-wanted.ensures in
