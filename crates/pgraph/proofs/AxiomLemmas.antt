@@ -68,7 +68,7 @@ module _ (g : Shape) (o : List ℕ) where
 
 -- a test is decided, and so is the second axiom at a material
 module _ (g : Shape) (o : ℕ → Bool) where
-  balanced : (made raw : Bool) → ((((made ≡ false) ↔ (raw ≡ true)) → ⊥) → ⊥) → (made ≡ false) ↔ (raw ≡ true)
+  pub balanced : (made raw : Bool) → ((((made ≡ false) ↔ (raw ≡ true)) → ⊥) → ⊥) → (made ≡ false) ↔ (raw ≡ true)
   balanced true true nn = absurd (nn (λ h. both_ways false refl (sym (h.1 refl))))
   balanced true false nn = (λ q. absurd (both_ways true q refl), λ q. absurd (both_ways false refl q))
   balanced false true nn = (λ q. refl, λ q. refl)

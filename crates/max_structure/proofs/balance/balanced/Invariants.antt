@@ -1,0 +1,14 @@
+use Rattle.std.proofs.Common.{ℕ, Bool, length}
+use Rattle.number_sets.specs.Sets.{has, IsWithin}
+use Rattle.pns_rules.specs.Structure.{Meets}
+use Rattle.pgraph.specs.Tables.{shape}
+use Rattle.max_structure.proofs.balance.balanced.Given as goal
+
+abbrev pub invariant-leave : goal.invariant-leave
+invariant-leave l = record {
+  within : IsWithin (has l.left) (has l.fn.set);
+  keeps : (m o : ℕ → Bool) → Meets (shape l.graph) m o → IsWithin o (has l.fn.set) → IsWithin o (has l.left);
+}
+
+abbrev pub decreases-leave : goal.decreases-leave
+decreases-leave l = length l.left
