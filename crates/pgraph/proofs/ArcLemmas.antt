@@ -80,7 +80,7 @@ join_more false term before old = refl
 
 -- one term more
 pub joined_more : (old before after : ℕ → ℕ → Bool) (u : ℕ) (ts : List Term) (i : ℕ) (d : Term) → i < length ts → ((v y : ℕ) → before v y ≡ (((u == v) && terms_have (take i ts) y) || old v y)) → ((v y : ℕ) → after v y ≡ (((u == v) && ((get_or ts i d).material == y)) || before v y)) → (v y : ℕ) → after v y ≡ (((u == v) && terms_have (take (i + 1) ts) y) || old v y)
-joined_more old before after u ts i d h was is v y =
+joined_more old before later u ts i d h was is v y =
     is v y
     ∙ (ap (λ b. ((u == v) && ((get_or ts i d).material == y)) || b) (was v y)
     ∙ (join_more (u == v) ((get_or ts i d).material == y) (terms_have (take i ts) y) (old v y)
@@ -95,7 +95,7 @@ below_more x i a e = elim (cases_lt x i) [
 ]
 
 pub unit_more : (side : Side) (us : List OperatingUnit) (u : ℕ) (d : OperatingUnit) (ts : List Term) (before after : ℕ → ℕ → Bool) → u < length us → ts ≡ terms_on side (get_or us u d) → ((v y : ℕ) → before v y ≡ (nat_lt v u && has_term side us v y)) → ((v y : ℕ) → after v y ≡ (((u == v) && terms_have ts y) || before v y)) → (v y : ℕ) → after v y ≡ (nat_lt v (u + 1) && has_term side us v y)
-unit_more side us u d ts before after lt terms was is v y = is v y ∙ at (cases_eq v u)
+unit_more side us u d ts before later lt terms was is v y = is v y ∙ at (cases_eq v u)
   where
     named : terms_have ts y ≡ has_term side us u y
     named = ap (λ xs. terms_have xs y) (terms ∙ ap (terms_on side) (get_or_default us u d no_unit lt))

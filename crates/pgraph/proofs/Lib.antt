@@ -4,4 +4,3 @@ pub mod ExclusionLemmas
 pub mod OptionLemmas
 pub mod PathLemmas
 pub mod TableLemmas
-pub mod Proper

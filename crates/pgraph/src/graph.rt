@@ -8,7 +8,7 @@ ghost use Rattle.pgraph.specs.Tables.{shape, excluded_at, IsGraph};
 use crate::arcs::{Arcs, Side};
 use crate::tables::{excluded_units, raws_and_products};
 use pns_problem::Problem;
-use problem_rules::valid_is_well_formed;
+use pns_rules::valid_is_proper;
 use std::alloc::{AllocError, Global};
 use std::marker::Model;
 use unit_sets::{MatSet, UnitSet};
@@ -39,7 +39,7 @@ impl Graph {
         ensures { IfOk result (λ g. shape g ≡ shape_of problem.now) }
     {
         problem.is_valid();
-        valid_is_well_formed();
+        valid_is_proper();
         let materials = problem.materials();
         let units = problem.units();
         let inputs = Arcs::of(alloc, materials.len(), units, Side::Inputs)?;
