@@ -1,4 +1,5 @@
-//! The union of all solution structures, and viability.
+//! The union of all solution structures, after the maximal structure generation of Friedler, Tarjan, Huang and Fan (1993),
+//! and viability.
 ghost use Rattle.std.specs.Prelude.{◌≡◌, ◌+◌, ◌↔◌, ℕ, Bool, false, IsTrue, IfSome, IfNone};
 ghost use Rattle.number_sets.specs.Sets.{has, Avoids};
 ghost use Rattle.pns_rules.specs.Structure.{Meets, IsBetween, IsUnion};
