@@ -1,10 +1,10 @@
 -- A turn of the balance takes some unit out, and no unit of a solution structure.
-use Rattle.std.proofs.Common.{◌≡◌, ℕ, ◌<◌, Bool, true, false, not, cond, ◌&&◌, ◌||◌, List, length, refl, sym, ap, ◌∙◌, subst, inl, inr, ◌⊎◌, ◌↔◌}
-use Rattle.std.proofs.lemmas.Bool.{or_cases, or_left, or_right, and_parts, and_from, both_ways, cases_Bool, true_from_ne_false, false_from_ne_true, not-true}
+use Rattle.std.proofs.Common.{◌≡◌, ℕ, ◌<◌, Bool, true, false, not, cond, ◌&&◌, List, length, refl, sym, ap, ◌∙◌, inl, inr}
+use Rattle.std.proofs.lemmas.Bool.{or_cases, or_left, or_right, and_parts, and_from, both_ways, true_from_ne_false, false_from_ne_true, not-true}
 use Rattle.number_sets.specs.Sets.{has, minus, IsWithin, IsRising}
 use Rattle.number_sets.proofs.SetLemmas.{has-minus, length-less}
 use Rattle.pns_rules.specs.Shape.{Shape, IsProper}
-use Rattle.pns_rules.specs.Structure.{is_made, is_used, mats, Meets}
+use Rattle.pns_rules.specs.Structure.{is_made, is_used, Meets}
 use Rattle.pns_rules.proofs.StructureLemmas.{is_made-from, is_made-some, is_made-within, is_used-from, is_used-some}
 use Rattle.pgraph.specs.Breaks.{BreaksS2}
 use Rattle.max_structure.specs.Balance.{is_to_blame}

@@ -1,10 +1,10 @@
 -- The units with a path in a balanced set are the union of all structures within it.
-use Rattle.std.proofs.Common.{◌≡◌, ℕ, ◌<◌, nat_lt, Bool, true, false, not, ◌&&◌, ◌||◌, List, [], ◌∷◌, refl, sym, ap, ◌∙◌, inl, inr, ◌⊎◌, ◌↔◌, ltb-true, lt-ltb}
+use Rattle.std.proofs.Common.{◌≡◌, ℕ, ◌<◌, nat_lt, Bool, true, false, not, ◌&&◌, List, [], ◌∷◌, sym, ap, ◌∙◌, inl, inr, ◌↔◌, ltb-true, lt-ltb}
 use Rattle.std.proofs.lemmas.Bool.{or_cases, or_left, or_right, and_parts, and_from, both_ways, true_from_ne_false, false_from_ne_true, not-true}
 use Rattle.number_sets.specs.Sets.{has, minus, IsWithin, Avoids}
 use Rattle.number_sets.proofs.SetLemmas.{has-minus}
 use Rattle.pns_rules.specs.Shape.{Shape}
-use Rattle.pns_rules.specs.Structure.{is_made, is_used, mats, IsPath, HasPath, Meets, IsStructure, IsBetween, IsUnion}
+use Rattle.pns_rules.specs.Structure.{is_made, is_used, mats, IsPath, HasPath, Meets, IsStructure, IsUnion}
 use Rattle.pns_rules.specs.Ends.{IsNever}
 use Rattle.pns_rules.proofs.StructureLemmas.{is_made-from, is_made-some, is_made-within, is_used-some, mats-within, HasPath-within}
 use Rattle.pgraph.specs.Breaks.{BreaksS1, BreaksS2}

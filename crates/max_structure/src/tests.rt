@@ -94,7 +94,12 @@ fn material(alloc: Global, number: usize, letter: u8) -> Result<Material, AllocE
     })
 }
 
-fn unit(alloc: Global, number: usize, inputs: u32, outputs: u32) -> Result<OperatingUnit, AllocError> {
+fn unit(
+    alloc: Global,
+    number: usize,
+    inputs: u32,
+    outputs: u32,
+) -> Result<OperatingUnit, AllocError> {
     let name = format!(in alloc; "U{number}")?;
     Ok(OperatingUnit {
         name,
@@ -256,13 +261,26 @@ fn units_exclude_each_other(rt: HostRuntime) -> Result<(), Fail> {
 #[test]
 fn arcs_and_options_are_told(rt: HostRuntime) -> Result<(), Fail> {
     let graph = graph_of(rt.alloc(), FIRST)?;
-    assert_eq!(rt; (graph.unit_count(), graph.material_count(), graph.exclusion_count()), (5, 6, 0));
+    assert_eq!(rt;
+        (
+            graph.unit_count(),
+            graph.material_count(),
+            graph.exclusion_count()
+        ),
+        (5, 6, 0)
+    );
     if graph.material_count() == 6 && graph.unit_count() == 5 {
         let raws = MatSet::empty().with(0).with(1);
         let products = MatSet::empty().with(5);
         assert_eq!(rt; (graph.raws(), graph.products()), (raws, products));
-        assert_eq!(rt; (graph.producers(2), graph.consumers(1)), (UnitSet::from_bits(3), UnitSet::from_bits(18)));
-        assert_eq!(rt; (graph.inputs(4), graph.outputs(4)), (MatSet::empty().with(1), MatSet::empty().with(4)));
+        assert_eq!(rt;
+            (graph.producers(2), graph.consumers(1)),
+            (UnitSet::from_bits(3), UnitSet::from_bits(18))
+        );
+        assert_eq!(rt;
+            (graph.inputs(4), graph.outputs(4)),
+            (MatSet::empty().with(1), MatSet::empty().with(4))
+        );
         let inside = UnitSet::empty().with(2);
         assert!(rt; inside.within(UnitSet::below(graph.unit_count())));
         assert_eq!(rt; graph.needed(inside), products.with(2));
@@ -271,7 +289,10 @@ fn arcs_and_options_are_told(rt: HostRuntime) -> Result<(), Fail> {
         assert_eq!(rt; (base, free), (UnitSet::empty(), UnitSet::from_bits(3)));
         let inside = inside.with(0);
         let (base, free) = graph.options(Node { inside, outside }, 2);
-        assert_eq!(rt; (base, free), (UnitSet::from_bits(1), UnitSet::from_bits(2)));
+        assert_eq!(rt;
+            (base, free),
+            (UnitSet::from_bits(1), UnitSet::from_bits(2))
+        );
     }
     Ok(())
 }

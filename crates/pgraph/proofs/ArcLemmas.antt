@@ -1,8 +1,8 @@
 -- Arcs that are joined one by one, and the materials of a set of units.
-use Rattle.std.proofs.Common.{◌≡◌, ◌≢◌, ℕ, zero, suc, ◌+◌, ◌<◌, ◌≤◌, ◌==◌, nat_lt, Bool, true, false, not, cond, ◌&&◌, ◌||◌, List, [], ◌∷◌, ◌++◌, map, length, get_or, set, take, Option, Some, None, refl, sym, ap, ap₂, ◌∙◌, subst, inl, inr, ◌⊎◌, arith, eq-eqb, ne_eqb, eqb-true}
-use Rattle.std.proofs.lemmas.Bool.{or_left, or_right, or_cases, or_from, and_parts, and_from, both_ways, cases_eq, cases_lt, lt-ltb, le-ltb, eqb-false, not-true, true_from_ne_false, false_from_ne_true}
+use Rattle.std.proofs.Common.{◌≡◌, ◌≢◌, ℕ, zero, suc, ◌+◌, ◌<◌, ◌≤◌, ◌==◌, nat_lt, Bool, true, false, not, cond, ◌&&◌, ◌||◌, List, [], ◌∷◌, ◌++◌, length, get_or, set, take, Some, None, refl, sym, ap, ◌∙◌, subst, inl, inr, ◌⊎◌, arith, eq-eqb, ne_eqb}
+use Rattle.std.proofs.lemmas.Bool.{or_left, or_right, or_cases, and_parts, and_from, both_ways, cases_eq, cases_lt, lt-ltb, le-ltb, eqb-false, false_from_ne_true}
 use Rattle.std.proofs.lemmas.List.{get_or_default, get_or_past, take_more, get_or-set_same, get_or-set_other, get_or_read}
-use Rattle.number_sets.specs.Sets.{has, first, any_below, with_number, kept, union, meet, IsWithin}
+use Rattle.number_sets.specs.Sets.{has, first, with_number, kept, union, meet, IsWithin}
 use Rattle.number_sets.proofs.SetLemmas.{has-with_number, has-kept, has-union, has-meet, any_below-from, any_below-some, same_tests}
 use Rattle.problem_rules.specs.Problem.{Term, OperatingUnit, no_unit, terms_have}
 use Rattle.pgraph.specs.declared.arcs.Side.{Side}

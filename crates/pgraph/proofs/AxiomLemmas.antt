@@ -1,6 +1,6 @@
 -- Where a set breaks the axioms, and what the judge's answers mean.
-use Rattle.std.proofs.Common.{◌≡◌, ℕ, ◌<◌, Bool, true, false, not, ◌&&◌, ◌||◌, List, ◌↔◌, refl, sym, ap, ap₂, ◌∙◌, subst, inl, inr, ◌⊎◌}
-use Rattle.std.proofs.lemmas.Bool.{and_parts, and_from, both_ways, true_from_ne_false, false_from_ne_true, not-true, cases_Bool}
+use Rattle.std.proofs.Common.{◌≡◌, ℕ, ◌<◌, Bool, true, false, not, ◌&&◌, ◌||◌, List, ◌↔◌, refl, sym, ap, ap₂, ◌∙◌}
+use Rattle.std.proofs.lemmas.Bool.{and_parts, and_from, both_ways, true_from_ne_false, false_from_ne_true, not-true}
 use Rattle.number_sets.specs.Sets.{has, union, meet, minus}
 use Rattle.number_sets.proofs.SetLemmas.{has-union, has-meet, has-minus}
 use Rattle.pns_rules.specs.Shape.{Shape}

@@ -1,5 +1,5 @@
 -- The base and the free makers of a material as sets.
-use Rattle.std.proofs.Common.{◌≡◌, ℕ, ◌<◌, nat_lt, Bool, true, false, not, ◌&&◌, List, refl, sym, ap, ap₂, ◌∙◌, ltb-true, lt-ltb}
+use Rattle.std.proofs.Common.{◌≡◌, ℕ, nat_lt, Bool, true, not, ◌&&◌, List, sym, ap, ◌∙◌, lt-ltb}
 use Rattle.std.proofs.lemmas.Bool.{and_parts, and_from, both_ways, not-true}
 use Rattle.number_sets.specs.Sets.{has, meet, minus, listed, IsRising, Avoids}
 use Rattle.number_sets.proofs.SetLemmas.{has-meet, has-minus, has-listed, IsRising-listed, same_sets, same_tests}

@@ -1,8 +1,8 @@
 -- The units that lead to a product, found back from the products.
-use Rattle.std.proofs.Common.{◌≡◌, ℕ, suc, ◌+◌, ◌-◌, ◌<◌, ◌≤◌, ◌==◌, Bool, true, false, not, ◌&&◌, ◌||◌, List, [], ◌∷◌, length, Option, Some, None, ◌↔◌, refl, sym, ap, ◌∙◌, subst, inl, inr, ◌⊎◌, arith, eq-eqb, eqb-true, ne_eqb}
-use Rattle.std.proofs.lemmas.Bool.{or_cases, or_left, or_right, or_from, and_parts, and_from, both_ways, cases_Bool, true_from_ne_false, false_from_ne_true, not-true}
+use Rattle.std.proofs.Common.{◌≡◌, ℕ, suc, ◌+◌, ◌<◌, ◌≤◌, ◌==◌, Bool, true, false, not, ◌&&◌, ◌||◌, List, [], ◌∷◌, length, Some, None, ◌↔◌, refl, sym, ap, ◌∙◌, subst, inl, inr, arith, eqb-true, ne_eqb}
+use Rattle.std.proofs.lemmas.Bool.{or_cases, or_left, or_right, or_from, and_parts, and_from, both_ways, true_from_ne_false, not-true}
 use Rattle.number_sets.specs.Sets.{has, first, with_number, union, meet, minus, IsWithin, IsBelowAll, IsRising, AreBelow, IsSet}
-use Rattle.number_sets.proofs.SetLemmas.{has-with_number, has-union, has-meet, has-minus, length-with_number, below_not_had}
+use Rattle.number_sets.proofs.SetLemmas.{has-with_number, has-union, has-meet, has-minus, below_not_had}
 use Rattle.pns_rules.specs.Shape.{Shape, IsProper}
 use Rattle.pns_rules.specs.Structure.{is_used, IsPath, HasPath}
 use Rattle.pns_rules.specs.Ends.{IsFirst, IsNever}

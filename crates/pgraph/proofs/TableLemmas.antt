@@ -1,6 +1,6 @@
 -- The sets that a graph takes from its problem, and the whole graph.
-use Rattle.std.proofs.Common.{◌≡◌, ◌≢◌, ℕ, zero, suc, ◌+◌, ◌<◌, ◌≤◌, ◌==◌, nat_lt, Bool, true, false, not, ◌&&◌, ◌||◌, List, [], ◌∷◌, ◌++◌, map, length, get_or, take, refl, sym, ap, ap₂, ◌∙◌, subst, inl, inr, ◌⊎◌, arith, eq-eqb, ne_eqb}
-use Rattle.std.proofs.lemmas.Bool.{or_left, or_right, cases_eq, cases_lt, lt-ltb, le-ltb}
+use Rattle.std.proofs.Common.{◌≡◌, ◌≢◌, ℕ, zero, suc, ◌+◌, ◌<◌, ◌≤◌, ◌==◌, nat_lt, Bool, true, false, ◌&&◌, ◌||◌, List, [], ◌∷◌, ◌++◌, length, get_or, take, refl, sym, ap, ◌∙◌, subst, inl, inr, ◌⊎◌, arith, eq-eqb, ne_eqb}
+use Rattle.std.proofs.lemmas.Bool.{or_left, or_right, cases_eq, lt-ltb, le-ltb}
 use Rattle.std.proofs.lemmas.List.{get_or_default, get_or_past, take_more}
 use Rattle.number_sets.specs.Sets.{has, with_number}
 use Rattle.number_sets.proofs.SetLemmas.{has-append, has-with_number}

@@ -1,4 +1,4 @@
-use Rattle.std.proofs.Common.{◌≡◌, ◌∙◌, ℕ, Bool, cond, true, false, sym, ap}
+use Rattle.std.proofs.Common.{◌≡◌, ◌∙◌, ℕ, cond, true, false, sym, ap}
 use Rattle.pgraph.specs.Tables.{shape}
 use Rattle.max_structure.proofs.balance.to_blame.Goals as goal
 

@@ -1,4 +1,4 @@
-use Rattle.std.proofs.Common.{◌≡◌, ◌∙◌, sym, ap, refl, false, true}
+use Rattle.std.proofs.Common.{ap, refl, false}
 use Rattle.std.proofs.lemmas.Bool.{both_ways}
 use Rattle.number_sets.specs.Sets.{has}
 use Rattle.pns_rules.specs.Ends.{IsNever}

@@ -1,9 +1,8 @@
-use Rattle.std.proofs.Common.{◌≡◌, ◌∙◌, ◌<◌, ap, sym, get_or, length, length-append, ◌+◌, ℕ, List, [], ◌∷◌}
+use Rattle.std.proofs.Common.{◌∙◌, ap, sym, get_or, length, length-append, ◌+◌, ℕ, List, [], ◌∷◌}
 use Rattle.std.proofs.lemmas.List.{get_or_default}
 use Rattle.number_sets.specs.Sets.{has}
 use Rattle.problem_rules.specs.Problem.{Exclusion, no_exclusion}
-use Rattle.pgraph.specs.Building.{units_excluded}
-use Rattle.pgraph.proofs.TableLemmas.{set_more, none_past}
+use Rattle.pgraph.proofs.TableLemmas.{set_more}
 use Rattle.pgraph.proofs.tables.excluded_units.Goals as goal
 
 pub set_of-requires : goal.set_of-requires

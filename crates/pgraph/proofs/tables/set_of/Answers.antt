@@ -1,5 +1,4 @@
-use Rattle.std.proofs.Common.{◌≡◌, ◌∙◌, ap, sym, take, get_or}
-use Rattle.std.proofs.lemmas.List.{get_or_default}
+use Rattle.std.proofs.Common.{get_or}
 use Rattle.pgraph.proofs.TableLemmas.{has-get, has-more}
 use Rattle.pgraph.proofs.tables.set_of.Goals as goal
 

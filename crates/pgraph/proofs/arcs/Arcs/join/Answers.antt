@@ -1,6 +1,6 @@
-use Rattle.std.proofs.Common.{◌≡◌, ◌<◌, ◌≤◌, ◌==◌, ◌&&◌, ◌||◌, ℕ, subst, sym, ap, ap₂, ◌∙◌, length, arith}
+use Rattle.std.proofs.Common.{◌<◌, ◌≤◌, ◌==◌, ◌&&◌, ◌||◌, subst, sym, ap, ◌∙◌, length}
 use Rattle.std.proofs.lemmas.List.{length-set}
-use Rattle.pgraph.specs.Arcs.{Arcs, joins, IsArcs}
+use Rattle.pgraph.specs.Arcs.{Arcs, joins}
 use Rattle.pgraph.proofs.ArcLemmas.{joined, joined_ends}
 use Rattle.pgraph.proofs.arcs.Arcs.join.Goals as goal
 

@@ -1,4 +1,4 @@
-use Rattle.std.proofs.Common.{◌≡◌, ◌∙◌, ◌<◌, ◌==◌, ◌&&◌, ◌||◌, sym, ap, subst, length, ℕ, arith, pos, get_or}
+use Rattle.std.proofs.Common.{◌≡◌, ◌∙◌, ◌<◌, ◌==◌, ◌&&◌, ◌||◌, sym, ap, subst, length, pos, get_or}
 use Rattle.std.proofs.lemmas.List.{get_or_default}
 use Rattle.problem_rules.specs.Problem.{Term}
 use Rattle.pgraph.specs.Arcs.{joins}

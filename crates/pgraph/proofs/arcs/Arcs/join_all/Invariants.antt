@@ -1,4 +1,4 @@
-use Rattle.std.proofs.Common.{◌≡◌, ◌==◌, ◌&&◌, ◌||◌, ℕ, length, map, take}
+use Rattle.std.proofs.Common.{◌≡◌, ◌==◌, ◌&&◌, ◌||◌, ℕ, length, take}
 use Rattle.problem_rules.specs.Problem.{terms_have}
 use Rattle.pgraph.specs.Arcs.{joins}
 use Rattle.pgraph.proofs.arcs.Arcs.join_all.Given as goal

@@ -1,5 +1,5 @@
-use Rattle.std.proofs.Common.{◌≡◌, ◌∙◌, ◌<◌, sym, ap, subst, not, ◌==◌, List, ℕ, length, Option, Some, None}
-use Rattle.number_sets.specs.Sets.{has, first, union, kept}
+use Rattle.std.proofs.Common.{◌∙◌, ◌<◌, sym, subst, not, ◌==◌, List, ℕ, length}
+use Rattle.number_sets.specs.Sets.{has, kept}
 use Rattle.pgraph.proofs.ArcLemmas.{IsGathered, gathered_more, gathered_all, first_has, first_none, first_shorter}
 use Rattle.pgraph.proofs.arcs.Arcs.materials_of.Goals as goal
 

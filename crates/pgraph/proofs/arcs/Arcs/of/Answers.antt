@@ -1,9 +1,9 @@
-use Rattle.std.proofs.Common.{◌≡◌, ◌∙◌, ◌<◌, sym, ap, subst, length, map, ℕ, arith}
+use Rattle.std.proofs.Common.{◌∙◌, ◌<◌, sym, ap, subst}
 use Rattle.std.proofs.lemmas.List.{get_or_default}
 use Rattle.problem_rules.specs.Problem.{terms_have, no_unit}
 use Rattle.pgraph.specs.Arcs.{joins}
-use Rattle.pgraph.specs.Building.{terms_on, has_term}
-use Rattle.pgraph.proofs.ArcLemmas.{unit_more, past_end, no_term}
+use Rattle.pgraph.specs.Building.{terms_on}
+use Rattle.pgraph.proofs.ArcLemmas.{unit_more}
 use Rattle.pgraph.proofs.arcs.Arcs.of.Goals as goal
 
 pub join_all-requires-clause-known : goal.join_all-requires-clause-known

@@ -1,4 +1,4 @@
-use Rattle.std.proofs.Common.{arith, ◌<◌}
+use Rattle.std.proofs.Common.{arith}
 use Rattle.pgraph.proofs.graph.Graph.clash.Goals as goal
 
 pub returns : goal.returns

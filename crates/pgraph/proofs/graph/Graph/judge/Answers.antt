@@ -1,6 +1,5 @@
-use Rattle.std.proofs.Common.{◌≡◌, ◌∙◌, sym, ap, refl, true, false}
+use Rattle.std.proofs.Common.{◌∙◌, sym, ap, refl}
 use Rattle.number_sets.specs.Sets.{has}
-use Rattle.pns_rules.specs.Ends.{IsFirst, IsNever}
 use Rattle.pgraph.specs.Breaks.{BreaksS1, BreaksS2, BreaksS4}
 use Rattle.pgraph.specs.Tables.{shape}
 use Rattle.pgraph.proofs.ArcLemmas.{first_none}

@@ -1,5 +1,5 @@
-use Rattle.std.proofs.Common.{◌≡◌, ◌∙◌, ◌||◌, ◌&&◌, not, ap, ap₂, refl, Bool, true, false}
-use Rattle.number_sets.specs.Sets.{has, minus}
+use Rattle.std.proofs.Common.{◌∙◌, ◌||◌, ◌&&◌, not, ap, ap₂, Bool}
+use Rattle.number_sets.specs.Sets.{has}
 use Rattle.number_sets.proofs.SetLemmas.{has-union, has-minus}
 use Rattle.pgraph.proofs.ArcLemmas.{and_swap}
 use Rattle.pgraph.proofs.graph.Graph.needed.Goals as goal

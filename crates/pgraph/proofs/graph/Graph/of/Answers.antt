@@ -1,10 +1,9 @@
-use Rattle.std.proofs.Common.{◌≡◌, ◌∙◌, ◌<◌, ap, sym, subst, length, arith, List}
-use Rattle.problem_rules.specs.Problem.{Material, OperatingUnit, Exclusion}
+use Rattle.std.proofs.Common.{◌∙◌, ◌<◌, ap, sym, subst, length, arith, List}
+use Rattle.problem_rules.specs.Problem.{Material, Exclusion}
 use Rattle.number_sets.specs.Sets.{has}
-use Rattle.pns_rules.specs.Shape.{IsProper}
 use Rattle.pgraph.specs.declared.arcs.Side.TheVariants.{Inputs, Outputs}
-use Rattle.pgraph.specs.Building.{has_term, is_raw_at, is_product_at, units_excluded}
-use Rattle.pgraph.specs.Tables.{Tables, shape}
+use Rattle.pgraph.specs.Building.{has_term, units_excluded}
+use Rattle.pgraph.specs.Tables.{shape}
 use Rattle.pgraph.proofs.TableLemmas.{same_shape, is_graph}
 use Rattle.pgraph.proofs.graph.Graph.of.Goals as goal
 

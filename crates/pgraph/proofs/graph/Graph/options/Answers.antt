@@ -1,5 +1,4 @@
 use Rattle.pgraph.specs.Tables.{shape}
-use Rattle.pgraph.specs.View.{node_of}
 use Rattle.pgraph.proofs.OptionLemmas.{base_is, free_is, base_and_free_apart}
 use Rattle.pgraph.proofs.graph.Graph.options.Goals as goal
 

@@ -1,5 +1,5 @@
-use Rattle.std.proofs.Common.{◌≡◌, ◌∙◌, ◌<◌, ◌≤◌, ◌-◌, sym, ap, subst, length, List, [], ℕ, suc, arith, true, Option, None, Some}
-use Rattle.number_sets.specs.Sets.{has, first, minus, meet, union, with_number}
+use Rattle.std.proofs.Common.{◌≡◌, ◌∙◌, sym, ap, subst, length, List, [], ℕ, suc, arith}
+use Rattle.number_sets.specs.Sets.{has, first, minus, union}
 use Rattle.number_sets.proofs.SetLemmas.{length-with_number}
 use Rattle.pgraph.specs.Tables.{shape}
 use Rattle.pgraph.proofs.PathLemmas.{IsGrowing, growing_start, growing_more, taken_wanted, taken_fresh, fresh_makes, all_found, fits}
