@@ -154,15 +154,7 @@ meets_some a is o x ne =
     let p = and_parts (has (units_at a x) k.0) (has o k.0) (sym (has-meet (units_at a x) o k.0) ∙ k.1) in
     joins_some-from a is (has o) k.0 x p.1 p.0
 
--- the least number of a list that is taken out
-pub first_has : (xs : List ℕ) (u : ℕ) → first xs ≡ Some u → has xs u ≡ true
-first_has [] u e = cc
-first_has (x ∷ xs) u e = let same : x ≡ u = cc in or_left (x == u) (has xs u) (eq-eqb x u same)
-
-pub first_none : (xs : List ℕ) → first xs ≡ None → xs ≡ []
-first_none [] e = refl
-first_none (x ∷ xs) e = cc
-
+-- a list without its first number is shorter
 length-kept : (t : ℕ → Bool) (xs : List ℕ) → length (kept t xs) ≤ length xs
 length-kept t [] = omega arith
 length-kept t (x ∷ xs) = elim (t x) as (λ b. length (cond b (x ∷ kept t xs) (kept t xs)) ≤ suc (length xs)) [ true ↦ omega (arith, length-kept t xs) | false ↦ omega (arith, length-kept t xs) ]

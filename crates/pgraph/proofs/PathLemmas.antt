@@ -7,19 +7,7 @@ use Rattle.pns_rules.specs.Shape.{Shape, IsProper}
 use Rattle.pns_rules.specs.Structure.{is_used, IsPath, HasPath}
 use Rattle.pns_rules.specs.Ends.{IsFirst, IsNever}
 use Rattle.pns_rules.proofs.StructureLemmas.{is_used-from, is_used-some}
-use Rattle.pgraph.proofs.ArcLemmas.{first_has, first_none}
-
--- no more numbers than there are below n
-fits_above : (x n : ℕ) (xs : List ℕ) → x < n → IsBelowAll x xs → IsRising xs → AreBelow n xs → length xs + suc x ≤ n
-fits_above x n [] lt above rising below = omega arith
-fits_above x n (y ∷ ys) lt above rising below =
-    let less = above.0 in
-    let rest = fits_above y n ys below.0 rising.0 rising.1 below.1 in
-    omega arith
-
-pub fits : (n : ℕ) (xs : List ℕ) → IsSet n xs → length xs ≤ n
-fits n [] is = omega arith
-fits n (x ∷ xs) is = let rest = fits_above x n xs is.below.0 is.rising.0 is.rising.1 is.below.1 in omega arith
+use Rattle.number_sets.proofs.OptionLemmas.{first_had, first_none}
 
 -- ---- the least number of a set
 
@@ -30,7 +18,7 @@ first_below (z ∷ xs) x y r e lt =
     or_from (z == y) (has xs y) (ne_eqb z y (λ q. omega arith)) (below_not_had z y xs (omega arith) r.0)
 
 pub first_is : (xs : List ℕ) (P : ℕ → Type 0) → IsRising xs → ((x : ℕ) → (has xs x ≡ true) ↔ P x) → (x : ℕ) → first xs ≡ Some x → IsFirst P x
-first_is xs P r is x e = ((is x).0 (first_has xs x e), λ y lt p. both_ways (has xs y) (first_below xs x y r e lt) ((is y).1 p))
+first_is xs P r is x e = ((is x).0 (first_had xs x e), λ y lt p. both_ways (has xs y) (first_below xs x y r e lt) ((is y).1 p))
 
 pub first_never : (xs : List ℕ) (P : ℕ → Type 0) → ((x : ℕ) → (has xs x ≡ true) ↔ P x) → first xs ≡ None → IsNever P
 first_never xs P is e y p = both_ways (has xs y) (ap (λ zs. has zs y) (first_none xs e)) ((is y).1 p)
@@ -59,10 +47,10 @@ growing_start g set products proper same = record {
 module _ (g : Shape) (proper : IsProper g) (set found wanted done : List ℕ) (before : IsGrowing g (has set) (has found) (has wanted) (has done))
     (x : ℕ) (least : first (minus wanted done) ≡ Some x) where
   pub taken_wanted : has wanted x ≡ true
-  taken_wanted = (and_parts (has wanted x) (not (has done x)) (sym (has-minus wanted done x) ∙ first_has (minus wanted done) x least)).0
+  taken_wanted = (and_parts (has wanted x) (not (has done x)) (sym (has-minus wanted done x) ∙ first_had (minus wanted done) x least)).0
 
   pub taken_fresh : has done x ≡ false
-  taken_fresh = not-true (has done x) (and_parts (has wanted x) (not (has done x)) (sym (has-minus wanted done x) ∙ first_has (minus wanted done) x least)).1
+  taken_fresh = not-true (has done x) (and_parts (has wanted x) (not (has done x)) (sym (has-minus wanted done x) ∙ first_had (minus wanted done) x least)).1
 
   module _ (producers fresh : List ℕ) (producers_are : has producers ≡ (λ u. g.makes u x)) (fresh_is : fresh ≡ minus (meet producers set) found) where
     fresh_has : (u : ℕ) → has fresh u ≡ ((has producers u && has set u) && not (has found u))

@@ -2,7 +2,7 @@ use Rattle.std.proofs.Common.{◌∙◌, sym, ap, refl}
 use Rattle.number_sets.specs.Sets.{has}
 use Rattle.pgraph.specs.Breaks.{BreaksS1, BreaksS2, BreaksS4}
 use Rattle.pgraph.specs.Tables.{shape}
-use Rattle.pgraph.proofs.ArcLemmas.{first_none}
+use Rattle.number_sets.proofs.OptionLemmas.{first_none}
 use Rattle.pgraph.proofs.PathLemmas.{first_is, first_never}
 use Rattle.pgraph.proofs.AxiomLemmas.{meets_all, s1_refutes, s2_refutes, s4_refutes}
 use Rattle.pgraph.proofs.graph.Graph.judge.Goals as goal

@@ -1,8 +1,8 @@
 use Rattle.std.proofs.Common.{◌≡◌, ◌∙◌, sym, ap, subst, length, List, [], ℕ, suc, arith}
 use Rattle.number_sets.specs.Sets.{has, first, minus, union}
-use Rattle.number_sets.proofs.SetLemmas.{length-with_number}
+use Rattle.number_sets.proofs.SetLemmas.{length-with_number, length_below}
 use Rattle.pgraph.specs.Tables.{shape}
-use Rattle.pgraph.proofs.PathLemmas.{IsGrowing, growing_start, growing_more, taken_wanted, taken_fresh, fresh_makes, all_found, fits}
+use Rattle.pgraph.proofs.PathLemmas.{IsGrowing, growing_start, growing_more, taken_wanted, taken_fresh, fresh_makes, all_found}
 use Rattle.pgraph.proofs.graph.Graph.reaching.Goals as goal
 
 pub grow-init : goal.grow-init
@@ -31,7 +31,7 @@ pub grow-smaller : goal.grow-smaller
 grow-smaller c =
     let more : length c.with-more.result ≡ suc (length c.grow.done) = ap length c.with-more.ensures ∙ length-with_number c.in-Some.x c.grow.done
     (taken_fresh (shape c.args.self.now) c.is_proper.ensures.proper c.args.set c.grow.found c.grow.wanted c.grow.done c.grow.invariant c.in-Some.x (sym (c.least.ensures ∙ ap first c.minus.ensures) ∙ c.in-Some.is)) in
-    let most = fits 256 c.with-more.result c.rises-in-grow.ensures in
+    let most = length_below 256 c.with-more.result c.rises-in-grow.ensures.rising c.rises-in-grow.ensures.below in
     omega arith
 
 pub grow-preserved : goal.grow-preserved
