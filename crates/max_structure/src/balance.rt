@@ -1,6 +1,6 @@
 //! Leaving out the units that no solution structure can have, until a material has a maker exactly where it is not raw.
-ghost use Rattle.std.specs.Prelude.{◌≡◌, ◌<◌, ℕ, Bool, true};
-ghost use Rattle.number_sets.specs.Sets.{has, IsWithin};
+ghost use Rattle.std.specs.Prelude.{◌≡◌, ◌<◌, ◌↔◌, ◌&&◌, ℕ, Bool, true, not, IsTrue};
+ghost use Rattle.number_sets.specs.Sets.{has, IsWithin, Avoids};
 ghost use Rattle.pns_rules.specs.Structure.{Meets};
 ghost use Rattle.pns_rules.specs.Ends.{IsNever};
 ghost use Rattle.pgraph.specs.Tables.{shape};
@@ -9,6 +9,19 @@ ghost use Rattle.max_structure.specs.Balance.{is_to_blame};
 
 use pgraph::Graph;
 use unit_sets::UnitSet;
+
+fn is_broken(graph: &Graph, set: UnitSet, x: u32) -> bool
+    requires { x < (shape graph.now).materials }
+    ensures { IsTrue result ↔ BreaksS2 (shape graph.now) (has set) x }
+{
+    graph.is_proper();
+    let is_made = graph.is_made(set, x);
+    if graph.raws().has(x) {
+        is_made
+    } else {
+        !is_made && graph.is_used(set, x)
+    }
+}
 
 /// The units that no solution structure has where S2 is broken at the material in a set that holds them all.
 fn to_blame(graph: &Graph, x: u32) -> UnitSet
@@ -23,8 +36,23 @@ fn to_blame(graph: &Graph, x: u32) -> UnitSet
     }
 }
 
+/// The units of the set without which S2 is not broken at the material: none where it is not broken.
+fn to_leave_out(graph: &Graph, set: UnitSet, x: u32) -> UnitSet
+    requires { x < (shape graph.now).materials }
+    ensures within { IsWithin (has result) (has set) }
+    ensures keeps { (m o : ℕ → Bool) → Meets (shape graph.now) m o → IsWithin o (has set) → Avoids o (has result) }
+    ensures settles { (rest : ℕ → Bool) → ((u : ℕ) → rest u ≡ (has set u && not (has result u))) → BreaksS2 (shape graph.now) rest x → ⊥ }
+{
+    if is_broken(graph, set, x) {
+        set.meet(to_blame(graph, x))
+    } else {
+        UnitSet::empty()
+    }
+}
+
 /// The units of the set that are left when those to blame at a material where S2 is broken have gone, until it is broken
-/// nowhere.
+/// nowhere. A unit that goes can break S2 at its outputs alone, so each material is looked at once, and once more for
+/// each of its makers that goes.
 pub fn balanced(graph: &Graph, set: UnitSet) -> UnitSet
     requires { (u : ℕ) → has set u ≡ true → u < (shape graph.now).units }
     ensures within { IsWithin (has result) (has set) }
@@ -33,13 +61,19 @@ pub fn balanced(graph: &Graph, set: UnitSet) -> UnitSet
 {
     graph.is_proper();
     let mut left = set;
+    let mut waiting = graph.breaking_s2(set);
     'leave: loop {
-        let Some(x) = graph.breaking_s2(left).least() else {
+        let Some(x) = waiting.least() else {
             return left;
         };
-        let next = left.minus(to_blame(graph, x));
+        let gone = to_leave_out(graph, left, x);
+        let next = left.minus(gone);
+        let more = waiting.without(x).union(graph.made(gone));
         left.rises();
         next.rises();
+        waiting.rises();
+        more.rises();
         left = next;
+        waiting = more;
     }
 }
