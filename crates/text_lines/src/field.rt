@@ -1,0 +1,105 @@
+//! The items of a line, each with a key and a value or a kind word.
+ghost use Rattle.std.specs.Prelude.{◌≡◌, ◌==◌, ◌≤◌, IfOk, length, map};
+ghost use Rattle.std.specs.List.{list_any, slice_split};
+ghost use Rattle.std.specs.Str.{byte};
+ghost use Rattle.problem_rules.specs.Names.{is_among};
+ghost use Rattle.text_rules.specs.Blanks.{trim};
+ghost use Rattle.text_rules.specs.Field.{items_of, has_key, key_of, value_of, keyed, is_keyed, kind_words};
+ghost use Rattle.text_lines.specs.View.{texts};
+
+use crate::line::{has_colon, place_of, tail_of, trim};
+use std::alloc::{AllocError, Global};
+
+fn commas<'a>(alloc: Global, text: &'a [u8]) -> Result<Vec<&'a [u8]>, AllocError>
+    ensures { IfOk result (λ parts. texts parts.items ≡ slice_split (λ c. c == byte ",") text.now) }
+{
+    text.split(|c| *c == b',').collect(alloc)
+}
+
+fn trimmed<'a>(alloc: Global, parts: &[&'a [u8]]) -> Result<Vec<&'a [u8]>, AllocError>
+    ensures { IfOk result (λ items. texts items.items ≡ map trim (texts parts.now)) }
+{
+    let mut items = Vec::new(alloc);
+    for part in parts {
+        items.push(trim(*part))?;
+    }
+    Ok(items)
+}
+
+/// What stands between the commas behind the colon; none where there is no colon.
+pub fn items_of<'a>(alloc: Global, text: &'a [u8]) -> Result<Vec<&'a [u8]>, AllocError>
+    ensures { IfOk result (λ items. texts items.items ≡ items_of text.now) }
+{
+    if has_colon(text) {
+        let parts = commas(alloc, tail_of(text))?;
+        trimmed(alloc, &parts)
+    } else {
+        Ok(Vec::new(alloc))
+    }
+}
+
+/// Whether the item has a key, that is an equals sign.
+pub fn has_key(item: &[u8]) -> bool
+    ensures { result ≡ has_key item.now }
+{
+    item.iter().any(|c| *c == b'=')
+}
+
+/// What stands before the first equals sign.
+pub fn key_of(item: &[u8]) -> &[u8]
+    ensures { result.now ≡ key_of item.now }
+{
+    trim(&item[..place_of(b'=', item)])
+}
+
+/// What stands behind the first equals sign.
+pub fn value_of(item: &[u8]) -> &[u8]
+    ensures within { length result.now ≤ length item.now }
+    ensures value { result.now ≡ value_of item.now }
+{
+    let at = place_of(b'=', item);
+    if at < item.len() {
+        trim(&item[at + 1..])
+    } else {
+        trim(&[])
+    }
+}
+
+/// Whether the item is a kind word.
+pub fn is_kind_word(item: &[u8]) -> bool
+    ensures { result ≡ is_among kind_words item.now }
+{
+    b"raw_material".as_slice() == item
+        || b"intermediate".as_slice() == item
+        || b"product".as_slice() == item
+}
+
+/// Whether the item has a key or is a kind word.
+pub fn is_keyed(item: &[u8]) -> bool
+    ensures { result ≡ is_keyed item.now }
+{
+    has_key(item) || is_kind_word(item)
+}
+
+/// The key of an item; that of a kind word is the key of the default that it stands for.
+pub fn field_key(item: &[u8]) -> &[u8]
+    ensures { result.now ≡ (keyed item.now).0 }
+{
+    if is_kind_word(item) {
+        b"material_type".as_slice()
+    } else {
+        key_of(item)
+    }
+}
+
+/// The value of an item; that of a kind word is the word.
+pub fn field_value(item: &[u8]) -> &[u8]
+    ensures within { length result.now ≤ length item.now }
+    ensures value { result.now ≡ (keyed item.now).1 }
+{
+    if is_kind_word(item) {
+        item
+    } else {
+        value_of(item)
+    }
+}

@@ -1,0 +1,115 @@
+//! Lines, and what stands before and behind a mark in them.
+ghost use Rattle.std.specs.Prelude.{◌≡◌, ◌<◌, ◌≤◌, ◌==◌, ◌∷◌, length};
+ghost use Rattle.std.specs.List.{prefix_len, suffix_len, list_any, position_or_len};
+ghost use Rattle.text_rules.specs.Blanks.{is_blank, trim};
+ghost use Rattle.text_rules.specs.Line.{is_colon, head_of, tail_of, without_return, without_mark};
+ghost use Rattle.text_lines.specs.Lines.{lines_from, cleaned};
+
+fn is_blank(c: u8) -> bool
+    ensures { result ≡ is_blank c }
+{
+    c == b' ' || c == b'\t'
+}
+
+fn blanks_in_front(text: &[u8]) -> usize
+    ensures within { result ≤ length text.now }
+    ensures count { result ≡ prefix_len is_blank text.now }
+{
+    text.iter().take_while(|c| is_blank(**c)).count()
+}
+
+fn blanks_behind(text: &[u8]) -> usize
+    ensures within { result ≤ length text.now }
+    ensures count { result ≡ suffix_len is_blank text.now }
+{
+    text.iter().rev().take_while(|c| is_blank(**c)).count()
+}
+
+/// The text without the blanks at its ends.
+pub fn trim(text: &[u8]) -> &[u8]
+    ensures within { length result.now ≤ length text.now }
+    ensures value { result.now ≡ trim text.now }
+{
+    let rest = &text[blanks_in_front(text)..];
+    &rest[..rest.len() - blanks_behind(rest)]
+}
+
+/// The first place of the byte, or the length of the text where it has none.
+pub fn place_of(byte: u8, text: &[u8]) -> usize
+    ensures within { result ≤ length text.now }
+    ensures place { result ≡ position_or_len (λ c. c == byte) text.now }
+{
+    for (i, c) in text.iter().enumerate() {
+        if *c == byte {
+            return i;
+        }
+    }
+    text.len()
+}
+
+fn without_return(text: &[u8]) -> &[u8]
+    ensures { result.now ≡ without_return text.now }
+{
+    match text {
+        [rest @ .., b'\r'] => rest,
+        _ => text,
+    }
+}
+
+/// The text behind its byte order mark, where it has one.
+pub fn without_mark(bytes: &[u8]) -> &[u8]
+    ensures { result.now ≡ without_mark bytes.now }
+{
+    if bytes.starts_with(&[239, 187, 191]) {
+        &bytes[3..]
+    } else {
+        bytes
+    }
+}
+
+fn cleaned(part: &[u8]) -> &[u8]
+    ensures { result.now ≡ cleaned part.now }
+{
+    trim(without_return(part))
+}
+
+/// The first line of what is left of a text, and what is left behind it. A line has neither blanks nor a carriage
+/// return at its ends.
+pub fn cut_line(rest: &[u8]) -> (&[u8], &[u8])
+    requires { 0 < length rest.now }
+    ensures cut { lines_from rest.now ≡ result.0.now ∷ lines_from result.1.now }
+    ensures shorter { length result.1.now < length rest.now }
+{
+    let at = place_of(b'\n', rest);
+    if at < rest.len() {
+        (cleaned(&rest[..at]), &rest[at + 1..])
+    } else {
+        (cleaned(rest), &[])
+    }
+}
+
+/// What stands before the first colon, or the whole text where there is none.
+pub fn head_of(text: &[u8]) -> &[u8]
+    ensures { result.now ≡ head_of text.now }
+{
+    trim(&text[..place_of(b':', text)])
+}
+
+/// What stands behind the first colon.
+pub fn tail_of(text: &[u8]) -> &[u8]
+    ensures { result.now ≡ tail_of text.now }
+{
+    let at = place_of(b':', text);
+    if at < text.len() {
+        trim(&text[at + 1..])
+    } else {
+        trim(&[])
+    }
+}
+
+/// Whether the text has a colon.
+pub fn has_colon(text: &[u8]) -> bool
+    ensures { result ≡ list_any is_colon text.now }
+{
+    text.iter().any(|c| *c == b':')
+}

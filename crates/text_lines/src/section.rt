@@ -1,0 +1,46 @@
+//! Headers and the sections that they begin.
+ghost use Rattle.std.specs.Prelude.{◌≡◌};
+ghost use Rattle.text_rules.specs.Line.{is_header, section_named, section_after};
+
+use crate::line::{has_colon, head_of, tail_of};
+use crate::name::is_name;
+use text_rules::Section;
+
+/// Whether the line is a header: one name and a colon with nothing behind it.
+pub fn is_header(text: &[u8]) -> bool
+    ensures { result ≡ is_header text.now }
+{
+    has_colon(text) && is_name(head_of(text)) && tail_of(text).is_empty()
+}
+
+/// The section of this name.
+pub fn section_named(name: &[u8]) -> Option<Section>
+    ensures { result ≡ section_named name.now }
+{
+    if name == b"measurement_units".as_slice() {
+        Some(Section::MeasurementUnits)
+    } else if name == b"defaults".as_slice() {
+        Some(Section::Defaults)
+    } else if name == b"materials".as_slice() {
+        Some(Section::Materials)
+    } else if name == b"operating_units".as_slice() {
+        Some(Section::OperatingUnits)
+    } else if name == b"material_to_operating_unit_flow_rates".as_slice() {
+        Some(Section::Rates)
+    } else if name == b"mutual_exclusions".as_slice() {
+        Some(Section::Exclusions)
+    } else {
+        None
+    }
+}
+
+/// The section that a line stands in or begins, where this section stands before it.
+pub fn section_after(section: Section, text: &[u8]) -> Section
+    ensures { result ≡ section_after section text.now }
+{
+    if is_header(text) {
+        section_named(head_of(text)).unwrap_or(section)
+    } else {
+        section
+    }
+}

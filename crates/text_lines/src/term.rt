@@ -1,0 +1,159 @@
+//! The terms of a line of rates, on both sides of its arrow.
+ghost use Rattle.std.specs.Prelude.{◌≡◌, ◌≤◌, ◌==◌, IfOk, length, filter, not, option_map};
+ghost use Rattle.std.specs.List.{slice_split, position_or_len};
+ghost use Rattle.text_rules.specs.Blanks.{is_blank};
+ghost use Rattle.text_rules.specs.Field.{tokens_of, terms_of, sides_of};
+ghost use Rattle.text_lines.specs.View.{texts};
+ghost use Rattle.text_lines.specs.Terms.{terms_view, terms_read, both_read, only_two, sides_view, sides_read, begins, is_plus, is_arrow};
+
+use crate::line::tail_of;
+use std::alloc::{AllocError, Global};
+
+/// A term: a material with the number that stands before it, which is `1` where none stands.
+#[derive(Clone, Copy, Debug, PartialEq, Eq)]
+pub struct Term<'a> {
+    pub number: &'a [u8],
+    pub name: &'a [u8],
+}
+
+/// The terms on both sides of the arrow.
+#[derive(Debug, Drop)]
+pub struct Sides<'a> {
+    pub inputs: Vec<Term<'a>>,
+    pub outputs: Vec<Term<'a>>,
+}
+
+fn pieces<'a>(alloc: Global, text: &'a [u8]) -> Result<Vec<&'a [u8]>, AllocError>
+    ensures { IfOk result (λ pieces. texts pieces.items ≡ slice_split is_blank text.now) }
+{
+    text.split(|c| *c == b' ' || *c == b'\t').collect(alloc)
+}
+
+fn without_empty<'a>(alloc: Global, pieces: &[&'a [u8]]) -> Result<Vec<&'a [u8]>, AllocError>
+    ensures { IfOk result (λ tokens. texts tokens.items ≡ filter (λ token. not (length token == 0)) (texts pieces.now)) }
+{
+    let mut tokens = Vec::new(alloc);
+    for piece in pieces {
+        if !piece.is_empty() {
+            tokens.push(*piece)?;
+        }
+    }
+    Ok(tokens)
+}
+
+fn tokens_of<'a>(alloc: Global, text: &'a [u8]) -> Result<Vec<&'a [u8]>, AllocError>
+    ensures { IfOk result (λ tokens. texts tokens.items ≡ tokens_of text.now) }
+{
+    let pieces = pieces(alloc, text)?;
+    without_empty(alloc, &pieces)
+}
+
+// The first place of a plus among the tokens, or their number where none is one.
+fn plus_place(tokens: &[&[u8]]) -> usize
+    ensures within { result ≤ length tokens.now }
+    ensures place { result ≡ position_or_len is_plus (texts tokens.now) }
+{
+    for (i, token) in tokens.iter().enumerate() {
+        if *token == b"+".as_slice() {
+            return i;
+        }
+    }
+    tokens.len()
+}
+
+// The first place of an arrow among the tokens, or their number where none is one.
+fn arrow_place(tokens: &[&[u8]]) -> usize
+    ensures within { result ≤ length tokens.now }
+    ensures place { result ≡ position_or_len is_arrow (texts tokens.now) }
+{
+    for (i, token) in tokens.iter().enumerate() {
+        if *token == b"=>".as_slice() {
+            return i;
+        }
+    }
+    tokens.len()
+}
+
+// The term of the tokens: a name, or a number and a name.
+fn term_of<'a>(tokens: &[&'a [u8]]) -> Option<Term<'a>>
+    ensures { option_map (λ term. (term.number.now, term.name.now)) result ≡ begins (texts tokens.now) }
+{
+    match tokens {
+        [name] => Some(Term {
+            number: b"1".as_slice(),
+            name: *name,
+        }),
+        [number, name] => Some(Term {
+            number: *number,
+            name: *name,
+        }),
+        _ => None,
+    }
+}
+
+// The terms of a side, or none where one of them has no token or more than two.
+fn terms_of<'a>(alloc: Global, tokens: &[&'a [u8]]) -> Result<Option<Vec<Term<'a>>>, AllocError>
+    ensures { IfOk result (λ found. option_map (λ terms. terms_view terms.items) found ≡ terms_read (terms_of (texts tokens.now))) }
+{
+    let mut terms = Vec::new(alloc);
+    if tokens.is_empty() {
+        return Ok(Some(terms));
+    }
+    let mut rest = tokens;
+    loop {
+        let at = plus_place(rest);
+        match term_of(&rest[..at]) {
+            Some(term) => terms.push(term)?,
+            None => return Ok(None),
+        }
+        if at == rest.len() {
+            return Ok(Some(terms));
+        }
+        rest = &rest[at + 1..];
+    }
+}
+
+// What stands on both sides of the only arrow.
+fn cut_sides<'b, 'a>(tokens: &'b [&'a [u8]]) -> Option<(&'b [&'a [u8]], &'b [&'a [u8]])>
+    ensures { option_map (λ cut. (texts cut.0.now, texts cut.1.now)) result ≡ only_two (slice_split is_arrow (texts tokens.now)) }
+{
+    let at = arrow_place(tokens);
+    if at == tokens.len() {
+        return None;
+    }
+    let right = &tokens[at + 1..];
+    if arrow_place(right) < right.len() {
+        return None;
+    }
+    Some((&tokens[..at], right))
+}
+
+/// The terms on both sides of the arrow behind the line's colon; none where there is not exactly one arrow, or where a
+/// term is neither a name nor a number and a name.
+pub fn sides_of<'a>(alloc: Global, text: &'a [u8]) -> Result<Option<Sides<'a>>, AllocError>
+    ensures { IfOk result (λ found. option_map sides_view found ≡ sides_read (sides_of text.now)) }
+{
+    let tokens = tokens_of(alloc, tail_of(text))?;
+    match cut_sides(&tokens) {
+        Some((left, right)) => read_sides(alloc, left, right),
+        None => Ok(None),
+    }
+}
+
+// The terms on both sides, or none where a term has not its form.
+fn read_sides<'a>(
+    alloc: Global,
+    left: &[&'a [u8]],
+    right: &[&'a [u8]],
+) -> Result<Option<Sides<'a>>, AllocError>
+    ensures { IfOk result (λ found. option_map sides_view found ≡ both_read (terms_read (terms_of (texts left.now))) (terms_read (terms_of (texts right.now)))) }
+{
+    let inputs = match terms_of(alloc, left)? {
+        Some(terms) => terms,
+        None => return Ok(None),
+    };
+    match terms_of(alloc, right)? {
+        Some(outputs) => Ok(Some(Sides { inputs, outputs })),
+        None => Ok(None),
+    }
+}
