@@ -1,5 +1,6 @@
 pub mod Borrowed
 pub mod Cutting
+pub mod Mantissa
 pub mod Marks
 pub mod Sides
 pub mod Tens

@@ -139,12 +139,20 @@ fn are_digits_or_points(text: &[u8]) -> bool
     text.iter().all(|c| is_digit_or_point(*c))
 }
 
+#[tactic(auto, using(crate::proofs::Mantissa::digits_and_points))]
 fn is_mantissa(text: &[u8]) -> bool
     ensures test { result ≡ is_mantissa text.now }
     ensures few { OnTrue result (count_by is_ascii_digit text.now ≤ 30) }
+    ensures short { OnTrue result (length text.now ≤ 31) }
 {
+    if !are_digits_or_points(text) {
+        return false;
+    }
+    if count_points(text) > 1 {
+        return false;
+    }
     let digits = count_digits(text);
-    are_digits_or_points(text) && count_points(text) <= 1 && 1 <= digits && digits <= 30
+    1 <= digits && digits <= 30
 }
 
 fn is_exponent(text: &[u8]) -> bool
@@ -231,7 +239,6 @@ fn magnitude(mantissa: &[u8], exponent: &[u8]) -> Result<u64, TextKind>
 /// One number in millionths. `BadNumber` where the text is no number, `TooFine` where it is no whole number of millionths,
 /// and `TooLarge` where that is above 10^15 without its sign. It takes no memory.
 pub fn read_amount(text: &[u8]) -> Result<i64, TextKind>
-    requires { length text.now < 2 ^ 32 - 1 }
     ensures { result ≡ amount_of text.now }
 {
     let mantissa = mantissa(text);
