@@ -1,13 +1,27 @@
-// A library with one function.
+//! The reader of a problem text. `read_problem` gives the problem that the text stands for, or the first fault with its
+//! line and kind; `read_amount` gives one number in millionths.
+//!
+//! One pass goes over the bytes, judges the form of each line by what was seen before it (`walk`, `seen`, and a module for
+//! the lines of each section), and keeps the lines that have a meaning, borrowed from the text. The second pass judges the
+//! meaning of these, with defaults filled in (`meaning`), and makes the parts of the problem (`value`).
 #![tactic(auto)]
 
-ghost use Rattle.std.specs.Prelude.{◌≡◌};
-ghost use Rattle.pns_text.specs.Echo.{echo_of};
+mod default_line;
+mod exclusion_line;
+mod fault;
+mod item;
+mod material_line;
+mod meaning;
+mod name_set;
+mod rates_line;
+mod read;
+mod seen;
+mod settings;
+mod unit_line;
+mod value;
+mod walk;
 
-// The `ensures` clause is the contract: what `echo` returns is `echo_of` of its argument, a definition
-// in `specs/Echo.antt`, which a caller's clause can cite too.
-pub fn echo(x: usize) -> usize
-    ensures { result ≡ echo_of x }
-{
-    x
-}
+pub use fault::TextFault;
+pub use read::read_problem;
+pub use text_lines::amount::read_amount;
+pub use text_rules::TextKind;

@@ -58,7 +58,8 @@ fn without_return(text: &[u8]) -> &[u8]
 
 /// The text behind its byte order mark, where it has one.
 pub fn without_mark(bytes: &[u8]) -> &[u8]
-    ensures { result.now ≡ without_mark bytes.now }
+    ensures within { length result.now ≤ length bytes.now }
+    ensures value { result.now ≡ without_mark bytes.now }
 {
     if bytes.starts_with(&[239, 187, 191]) {
         &bytes[3..]

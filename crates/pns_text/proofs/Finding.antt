@@ -1,0 +1,58 @@
+-- Tests over lists, and the first that passes.
+use Rattle.std.proofs.Common.{◌≡◌, ◌&&◌, ◌||◌, Bool, true, false, cond, not, ℕ, List, [], ◌∷◌, ◌++◌, map, filter, find, Option, Some, None, refl, sym, ◌∙◌, ap}
+use Rattle.std.specs.List.{list_any}
+use Rattle.std.specs.Str.{bytes_eq}
+use Rattle.problem_rules.specs.Each.{Each}
+use Rattle.text_rules.specs.Field.{keyed, is_keyed, material_type}
+
+any_step : {A : Type 0} (p : A → Bool) (a : Bool) (x : A) (xs : List A) (rest : Bool) → list_any p xs ≡ rest → list_any p (cond a (x ∷ xs) xs) ≡ ((a && p x) || rest)
+any_step p true x xs rest e = ap (λ r. p x || r) e
+any_step p false x xs rest e = e
+
+pub any_filter : {A : Type 0} (p q : A → Bool) (xs : List A) → list_any p (filter q xs) ≡ list_any (λ x. q x && p x) xs
+any_filter p q [] = refl
+any_filter p q (x ∷ xs) = any_step p (q x) x (filter q xs) (list_any (λ x. q x && p x) xs) (any_filter p q xs)
+
+pub any_map : {A B : Type 0} (p : B → Bool) (f : A → B) (xs : List A) → list_any p (map f xs) ≡ list_any (λ x. p (f x)) xs
+any_map p f [] = refl
+any_map p f (x ∷ xs) = ap (λ r. p (f x) || r) (any_map p f xs)
+
+pub any_same : {A : Type 0} (p q : A → Bool) → ((x : A) → p x ≡ q x) → (xs : List A) → list_any p xs ≡ list_any q xs
+any_same p q same [] = refl
+any_same p q same (x ∷ xs) = ap (λ b. b || list_any p xs) (same x) ∙ ap (λ r. q x || r) (any_same p q same xs)
+
+and_assoc : (a b c : Bool) → (a && (b && c)) ≡ ((a && b) && c)
+and_assoc true b c = refl
+and_assoc false b c = refl
+
+abbrev is_number : List ℕ × List ℕ → Bool
+is_number field = not (bytes_eq (field.0) material_type)
+
+-- a test of the numbers is one of the items
+pub any_number : (p : List ℕ × List ℕ → Bool) (items : List (List ℕ)) → list_any p (filter is_number (map keyed (filter is_keyed items))) ≡ list_any (λ item. (is_keyed item && is_number (keyed item)) && p (keyed item)) items
+any_number p items =
+    any_filter p is_number (map keyed (filter is_keyed items))
+    ∙ any_map (λ field. is_number field && p field) keyed (filter is_keyed items)
+    ∙ any_filter (λ item. is_number (keyed item) && p (keyed item)) is_keyed items
+    ∙ any_same (λ item. is_keyed item && (is_number (keyed item) && p (keyed item))) (λ item. (is_keyed item && is_number (keyed item)) && p (keyed item)) (λ item. and_assoc (is_keyed item) (is_number (keyed item)) (p (keyed item))) items
+
+pub map_twice : {A B C : Type 0} (g : B → C) (f : A → B) (xs : List A) → map g (map f xs) ≡ map (λ x. g (f x)) xs
+map_twice g f [] = refl
+map_twice {A} {B} {C} g f (x ∷ xs) = ap (λ (ys : List C). g (f x) ∷ ys) (map_twice g f xs)
+
+pub no_more : (b : Bool) → ((b || false) || false) ≡ b
+no_more true = refl
+no_more false = refl
+
+pub or_none : (b : Bool) → (b || false) ≡ b
+or_none true = refl
+or_none false = refl
+
+pub and_true : (b : Bool) → (b && true) ≡ b
+and_true true = refl
+and_true false = refl
+
+-- the same first where the tests agree
+pub find_same : {A : Type 0} (p q : A → Bool) (xs : List A) → Each (λ x. p x ≡ q x) xs → find p xs ≡ find q xs
+find_same p q [] each = refl
+find_same p q (x ∷ xs) each = ap (λ b. cond b (Some x) (find p xs)) each.0 ∙ ap (λ rest. cond (q x) (Some x) rest) (find_same p q xs each.1)

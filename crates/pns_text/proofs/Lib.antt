@@ -1,0 +1,12 @@
+pub mod Finding
+pub mod FormKinds
+pub mod KeptLines
+pub mod MeaningLaw
+pub mod NamesBefore
+pub mod Naming
+pub mod RateKinds
+pub mod RatesKinds
+pub mod ReadLaw
+pub mod SidesRead
+pub mod WalkLaw
+pub mod Walking

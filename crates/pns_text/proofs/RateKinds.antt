@@ -1,0 +1,45 @@
+-- Only at a faulty rate can a kind of rates stand.
+use Rattle.std.proofs.Common.{◌≡◌, ◌&&◌, ◌||◌, ℕ, Bool, true, false, not, List, [], ◌∷◌, Result, Ok, Err, ℤ, pos, negsuc, int_lt, nat_lt, refl, sym, ap, ◌∙◌, arith}
+use Rattle.std.specs.List.{list_any}
+use Rattle.std.proofs.lemmas.Bool.{le-ltb}
+use Rattle.std.specs.Result.{result_unwrap_or}
+use Rattle.text_rules.specs.declared.TextKind.{TextKind}
+use Rattle.text_rules.specs.declared.TextKind.TheVariants.{BadNumber, TooFine, TooLarge, Negative, ZeroRate}
+use Rattle.text_rules.specs.Amount.{amount_of}
+use Rattle.text_rules.specs.Fault.{is_bad, is_too_fine, is_too_large, millionths}
+use Rattle.text_lines.specs.Terms.{Pair}
+use Rattle.pns_text.specs.RatesLine.{rate_stands, is_faulty}
+
+not_bad : (r : Result ℤ TextKind) → not (int_lt (pos 0) (result_unwrap_or r (pos 0))) ≡ false → (is_bad r ≡ false) × (is_too_fine r ≡ false) × (is_too_large r ≡ false)
+not_bad (Ok z) e = (refl, refl, refl)
+not_bad (Err kind) e = cc
+
+not_low : (z : ℤ) → not (int_lt (pos 0) z) ≡ false → int_lt z (pos 0) ≡ false
+not_low (pos n) e = le-ltb n 0 (omega arith)
+not_low (negsuc n) e = cc
+
+and_none : (a b : Bool) → b ≡ false → (a && b) ≡ false
+and_none true b e = e
+and_none false b e = refl
+
+none_stands : (kind : TextKind) (term : Pair) → is_faulty term ≡ false → rate_stands kind term ≡ false
+none_stands BadNumber term e = (not_bad (amount_of term.0) e).0
+none_stands TooFine term e = (not_bad (amount_of term.0) e).1
+none_stands TooLarge term e = (not_bad (amount_of term.0) e).2
+none_stands Negative term e = not_low (millionths term.0) e
+none_stands ZeroRate term e = and_none (not (int_lt (millionths term.0) (pos 0))) (not (int_lt (pos 0) (millionths term.0))) e
+none_stands kind term e = refl
+
+first_none : (a b : Bool) → (a || b) ≡ false → a ≡ false
+first_none true b e = cc
+first_none false b e = refl
+
+rest_none : (a b : Bool) → (a || b) ≡ false → b ≡ false
+rest_none true b e = cc
+rest_none false b e = e
+
+pub no_rate_stands : (kind : TextKind) (terms : List Pair) → list_any is_faulty terms ≡ false → list_any (rate_stands kind) terms ≡ false
+no_rate_stands kind [] e = refl
+no_rate_stands kind (term ∷ terms) e =
+    ap (λ (b : Bool). b || list_any (rate_stands kind) terms) (none_stands kind term (first_none (is_faulty term) (list_any is_faulty terms) e))
+    ∙ no_rate_stands kind terms (rest_none (is_faulty term) (list_any is_faulty terms) e)

@@ -1,0 +1,7 @@
+use Rattle.std.proofs.Common.{◌≡◌, ◌++◌, map, take}
+use Rattle.text_rules.specs.Line.{head_of}
+use Rattle.text_lines.specs.View.{texts}
+use Rattle.pns_text.proofs.value.unit_names.Given as goal
+
+abbrev pub invariant-loop-text : goal.invariant-loop-text
+invariant-loop-text l = texts l.all.items ≡ texts l.initial.all.items ++ map head_of (texts (take l.text-index l.text-items))

@@ -1,0 +1,9 @@
+-- What a fault of the reader tells of a reading in the grammar's words; want of memory tells nothing.
+use Rattle.std.specs.Prelude.{◌≡◌, Result, Err}
+use Rattle.text_rules.specs.Fault as rules
+use Rattle.pns_text.specs.declared.fault.TextFault.{TextFault}
+use Rattle.pns_text.specs.declared.fault.TextFault.TheVariants.{At, Memory}
+
+abbrev pub Tells : {A : Type 0} → Result A rules.Fault → TextFault → Type 0
+Tells reading Memory = Unit {0}
+Tells reading (At line kind) = reading ≡ Err (line, kind)

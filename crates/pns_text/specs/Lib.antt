@@ -1,0 +1,16 @@
+pub mod DefaultLine
+pub mod ExclusionLine
+pub mod Fault
+pub mod Item
+pub mod Kept
+pub mod MaterialLine
+pub mod Meaning
+pub mod Once
+pub mod RatesLine
+pub mod Reading
+pub mod Seen
+pub mod Settings
+pub mod UnitLine
+pub mod Value
+pub mod View
+pub mod Walk

@@ -1,0 +1,48 @@
+-- Lines, and what was seen, as the definitions have them.
+use Rattle.std.specs.Prelude.{ℕ, List, map}
+use Rattle.text_rules.specs.Line as line
+use Rattle.text_lines.specs.View.{texts}
+use Rattle.pns_text.specs.Seen as seen
+use Rattle.pns_text.specs.Walk as walk
+use Rattle.pns_text.specs.Settings as settings
+use Rattle.pns_text.specs.Meaning as meaning
+use Rattle.pns_text.specs.declared.meaning.Names.{Names}
+use Rattle.pns_problem.specs.Kind.{kind_of}
+use Rattle.pns_text.specs.declared.settings.Settings.{Settings}
+use Rattle.pns_text.specs.declared.seen.Placed.{Placed}
+use Rattle.pns_text.specs.declared.seen.Seen.{Seen}
+use Rattle.pns_text.specs.declared.walk.Walk.{Walk}
+
+abbrev pub placed_view : Placed → line.Placed
+placed_view p = record { number = p.number; section = p.section; header = p.header; text = p.text.now }
+
+abbrev pub seen_view : Seen → seen.Seen
+seen_view s = record {
+  headers = texts s.headers.items;
+  keys = texts s.keys.items;
+  materials = texts s.materials.items;
+  units = texts s.units.items;
+  rates = texts s.rates.items;
+  exclusions = texts s.exclusions.items;
+  unit_names = texts s.unit_names.items;
+}
+
+abbrev pub walk_view : Walk → walk.Walk
+walk_view w = record { seen = seen_view w.seen; kept = map placed_view w.kept.items; number = w.number; section = w.section }
+
+abbrev pub settings_view : Settings → settings.Settings
+settings_view s = record {
+  kind = kind_of s.kind;
+  price = s.price;
+  flow_lower = s.flow_lower;
+  flow_upper = s.flow_upper;
+  capacity_lower = s.capacity_lower;
+  capacity_upper = s.capacity_upper;
+  fix = s.fix;
+  proportional = s.proportional;
+  investment_fix = s.investment_fix;
+  investment_proportional = s.investment_proportional;
+}
+
+abbrev pub names_view : Names → meaning.Names
+names_view n = record { materials = n.materials; units = n.units; rates = n.rates }

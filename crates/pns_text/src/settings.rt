@@ -1,0 +1,183 @@
+//! The defaults, and the values of materials and units by them.
+ghost use Rattle.std.specs.Prelude.{◌≡◌, codes, option_map, map};
+ghost use Rattle.text_rules.specs.Fault.{millionths};
+ghost use Rattle.text_rules.specs.Value.{value_at, kind_of};
+ghost use Rattle.problem_rules.specs.Problem.{intermediate};
+ghost use Rattle.pns_problem.specs.Kind as kinds;
+ghost use Rattle.text_lines.specs.View.{texts};
+ghost use Rattle.pns_text.specs.Kept.{lines_apart, item_fields};
+ghost use Rattle.pns_text.specs.Settings.{settings_of, payout_from, default_fields, default_number, number_at, kind_or};
+ghost use Rattle.pns_text.specs.View.{placed_view, settings_view};
+
+use crate::seen::Placed;
+use pns_problem::Kind;
+use text_lines::amount::read_amount;
+use text_lines::field::{field_key, field_value, is_keyed, key_of, value_of};
+use text_rules::Section;
+
+/// What holds of materials and units whose lines say nothing else. Prices, bounds and costs are in millionths.
+#[derive(Clone, Copy, Debug)]
+pub struct Settings {
+    pub kind: Kind,
+    pub price: i64,
+    pub flow_lower: i64,
+    pub flow_upper: i64,
+    pub capacity_lower: i64,
+    pub capacity_upper: i64,
+    pub fix: i64,
+    pub proportional: i64,
+    pub investment_fix: i64,
+    pub investment_proportional: i64,
+}
+
+/// The number of the text, which is 0 where it has a fault.
+pub(crate) fn number_of(text: &[u8]) -> i64
+    ensures { result ≡ millionths text.now }
+{
+    match read_amount(text) {
+        Ok(amount) => amount,
+        Err(_) => 0,
+    }
+}
+
+// The kind that the word stands for.
+fn kind_named(word: &[u8]) -> Kind
+    ensures { kinds.kind_of result ≡ kind_of word.now }
+{
+    if word == b"raw_material".as_slice() {
+        Kind::RawMaterial
+    } else if word == b"product".as_slice() {
+        Kind::Product
+    } else {
+        Kind::Intermediate
+    }
+}
+
+// The value of the default of this key.
+fn default_at<'a>(lines: &[Placed<'a>], key: &[u8]) -> Option<&'a [u8]>
+    ensures { option_map (λ value. value.now) result ≡ value_at key.now (default_fields (lines_apart (map placed_view lines.now))) }
+{
+    for line in lines {
+        if line.is_at(Section::Defaults) && key_of(line.text) == key {
+            return Some(value_of(line.text));
+        }
+    }
+    None
+}
+
+// The number of the default of this key, or else the table's own.
+fn default_number(lines: &[Placed<'_>], key: &[u8], built_in: i64) -> i64
+    ensures { result ≡ default_number (lines_apart (map placed_view lines.now)) key.now built_in }
+{
+    match default_at(lines, key) {
+        Some(text) => number_of(text),
+        None => built_in,
+    }
+}
+
+/// The value of the first item of this key.
+pub(crate) fn value_at<'a>(items: &[&'a [u8]], key: &[u8]) -> Option<&'a [u8]>
+    ensures { option_map (λ value. value.now) result ≡ value_at key.now (item_fields (texts items.now)) }
+{
+    for item in items {
+        if is_keyed(*item) && field_key(*item) == key {
+            return Some(field_value(*item));
+        }
+    }
+    None
+}
+
+/// The number of the first item of this key, or else the default.
+pub(crate) fn number_at(items: &[&[u8]], key: &[u8], default: i64) -> i64
+    ensures { result ≡ number_at key.now (item_fields (texts items.now)) default }
+{
+    match value_at(items, key) {
+        Some(text) => number_of(text),
+        None => default,
+    }
+}
+
+/// The kind of a material by its items, or else the default.
+pub(crate) fn kind_at(items: &[&[u8]], default: Kind) -> Kind
+    ensures { kinds.kind_of result ≡ kind_or (value_at (codes "material_type") (item_fields (texts items.now))) (kinds.kind_of default) }
+{
+    match value_at(items, b"material_type".as_slice()) {
+        Some(word) => kind_named(word),
+        None => default,
+    }
+}
+
+// The kind of materials whose lines have no kind word.
+fn default_kind(lines: &[Placed<'_>]) -> Kind
+    ensures { kinds.kind_of result ≡ kind_or (value_at (codes "material_type") (default_fields (lines_apart (map placed_view lines.now)))) intermediate }
+{
+    match default_at(lines, b"material_type".as_slice()) {
+        Some(word) => kind_named(word),
+        None => Kind::Intermediate,
+    }
+}
+
+// 10^9 in millionths: the upper bounds that hold where nothing else is said.
+const MUCH: i64 = 1_000_000_000_000_000;
+
+/// The settings that the lines of defaults give.
+pub(crate) fn settings_of(lines: &[Placed<'_>]) -> Settings
+    ensures { settings_view result ≡ settings_of (lines_apart (map placed_view lines.now)) }
+{
+    Settings {
+        kind: default_kind(lines),
+        price: default_number(lines, b"material_price".as_slice(), 0),
+        flow_lower: default_number(lines, b"material_flow_rate_lower_bound".as_slice(), 0),
+        flow_upper: default_number(lines, b"material_flow_rate_upper_bound".as_slice(), MUCH),
+        capacity_lower: default_number(
+            lines,
+            b"operating_unit_capacity_lower_bound".as_slice(),
+            0,
+        ),
+        capacity_upper: default_number(
+            lines,
+            b"operating_unit_capacity_upper_bound".as_slice(),
+            MUCH,
+        ),
+        fix: default_number(lines, b"operating_unit_fix_cost".as_slice(), 0),
+        proportional: default_number(lines, b"operating_unit_proportional_cost".as_slice(), 0),
+        investment_fix: default_number(
+            lines,
+            b"operating_unit_investment_fix_cost".as_slice(),
+            0,
+        ),
+        investment_proportional: default_number(
+            lines,
+            b"operating_unit_investment_proportional_cost".as_slice(),
+            0,
+        ),
+    }
+}
+
+/// The payout period in whole years.
+pub(crate) fn payout_of(lines: &[Placed<'_>]) -> i64
+    ensures { result ≡ payout_from (lines_apart (map placed_view lines.now)) }
+{
+    let amount = default_number(lines, b"payout_period".as_slice(), 1_000_000);
+    (amount.unsigned_abs() / 1_000_000) as i64
+}
+
+impl Settings {
+    ghost use Rattle.pns_text.specs.Meaning.{is_material_turned, is_unit_turned};
+
+    /// Whether the lower bound of a material with these items is above its upper bound.
+    pub(crate) fn is_material_turned(&self, items: &[&[u8]]) -> bool
+        ensures { result ≡ is_material_turned (settings_view self.now) (item_fields (texts items.now)) }
+    {
+        number_at(items, b"flow_rate_upper_bound".as_slice(), self.flow_upper)
+            < number_at(items, b"flow_rate_lower_bound".as_slice(), self.flow_lower)
+    }
+
+    /// Whether the lower bound of a unit with these items is above its upper bound.
+    pub(crate) fn is_unit_turned(&self, items: &[&[u8]]) -> bool
+        ensures { result ≡ is_unit_turned (settings_view self.now) (item_fields (texts items.now)) }
+    {
+        number_at(items, b"capacity_upper_bound".as_slice(), self.capacity_upper)
+            < number_at(items, b"capacity_lower_bound".as_slice(), self.capacity_lower)
+    }
+}

@@ -1,0 +1,155 @@
+//! The walk over the lines of a text, which judges their form and keeps those that have a meaning.
+ghost use Rattle.std.specs.Prelude.{◌≡◌, ◌<◌, ◌+◌, ◌-◌, ◌^◌, Ok, IfOk, IfErr, OnOk, length, map};
+ghost use Rattle.text_rules.specs.Line.{lines_of};
+ghost use Rattle.text_lines.specs.Lines.{lines_from};
+ghost use Rattle.pns_text.specs.Fault.{Tells};
+ghost use Rattle.pns_text.specs.View.{placed_view, walk_view};
+ghost use Rattle.pns_text.specs.Walk.{is_meant, matters, walk_start, kept_after, placed_at, take_line, step, walk_from, walk};
+
+use crate::fault::TextFault;
+use crate::seen::{Placed, Seen};
+use std::alloc::{AllocError, Global};
+use text_lines::line::{cut_line, without_mark};
+use text_lines::section::{is_header, section_after};
+use text_rules::{Section, TextKind};
+
+/// The lines that matter so far, what was seen, and the number and the section of the next line.
+#[derive(Debug, Drop)]
+pub struct Walk<'a> {
+    pub seen: Seen<'a>,
+    pub kept: Vec<Placed<'a>>,
+    pub number: u32,
+    pub section: Section,
+}
+
+fn is_meant(section: Section) -> bool
+    ensures { result ≡ is_meant section }
+{
+    match section {
+        Section::Preamble => false,
+        Section::MeasurementUnits => false,
+        Section::Defaults => true,
+        Section::Materials => true,
+        Section::OperatingUnits => true,
+        Section::Rates => true,
+        Section::Exclusions => true,
+    }
+}
+
+fn matters(line: &Placed<'_>) -> bool
+    ensures { result ≡ matters (placed_view line.now) }
+{
+    !line.header && is_meant(line.section)
+}
+
+fn placed<'a>(number: u32, section: Section, text: &'a [u8]) -> Placed<'a>
+    ensures { placed_view result ≡ placed_at number section text.now }
+{
+    Placed {
+        number,
+        section: section_after(section, text),
+        header: is_header(text),
+        text,
+    }
+}
+
+impl<'a> Walk<'a> {
+    fn new(alloc: Global) -> Walk<'a>
+        ensures { walk_view result ≡ walk_start }
+    {
+        Walk {
+            seen: Seen::new(alloc),
+            kept: Vec::new(alloc),
+            number: 2,
+            section: Section::Preamble,
+        }
+    }
+
+    // Takes a line that is not empty.
+    fn take_line(&mut self, alloc: Global, line: &Placed<'a>) -> Result<(), TextFault>
+        requires { self.old.number < 2 ^ 32 - 1 }
+        ensures ok { OnOk result (take_line (walk_view self.old) (placed_view line.now) ≡ Ok (walk_view self.new)) }
+        ensures next { OnOk result (self.new.number ≡ self.old.number + 1) }
+        ensures fault { IfErr result (Tells (take_line (walk_view self.old) (placed_view line.now))) }
+    {
+        match self.seen.line_fault(alloc, line)? {
+            Some(kind) => {
+                return Err(TextFault::At {
+                    line: line.number,
+                    kind,
+                });
+            }
+            None => {}
+        }
+        self.seen.note(line)?;
+        keep(&mut self.kept, line)?;
+        self.section = line.section;
+        self.number += 1;
+        Ok(())
+    }
+
+    // Takes one line.
+    fn step(&mut self, alloc: Global, text: &'a [u8]) -> Result<(), TextFault>
+        requires { self.old.number < 2 ^ 32 - 1 }
+        ensures ok { OnOk result (step (walk_view self.old) text.now ≡ Ok (walk_view self.new)) }
+        ensures next { OnOk result (self.new.number ≡ self.old.number + 1) }
+        ensures fault { IfErr result (Tells (step (walk_view self.old) text.now)) }
+    {
+        if text.is_empty() {
+            self.number += 1;
+            return Ok(());
+        }
+        let line = placed(self.number, self.section, text);
+        self.take_line(alloc, &line)
+    }
+}
+
+// Keeps a line that matters.
+fn keep<'a>(kept: &mut Vec<Placed<'a>>, line: &Placed<'a>) -> Result<(), AllocError>
+    ensures { OnOk result (map placed_view kept.new.items ≡ kept_after (map placed_view kept.old.items) (placed_view line.now)) }
+{
+    if matters(line) {
+        kept.push(*line)?;
+    }
+    Ok(())
+}
+
+// Takes all lines of what is left of a text.
+fn walk_rest<'a>(alloc: Global, bytes: &'a [u8]) -> Result<Walk<'a>, TextFault>
+    requires { length bytes.now < 2 ^ 32 - 2 }
+    ensures ok { IfOk result (λ w. walk_from walk_start (lines_from bytes.now) ≡ Ok (walk_view w)) }
+    ensures fault { IfErr result (Tells (walk_from walk_start (lines_from bytes.now))) }
+{
+    let mut walk = Walk::new(alloc);
+    let mut rest = bytes;
+    while !rest.is_empty() {
+        let (text, behind) = cut_line(rest);
+        walk.step(alloc, text)?;
+        rest = behind;
+    }
+    Ok(walk)
+}
+
+/// The lines of the text that have a meaning, or its first fault of form.
+pub(crate) fn walk_text<'a>(alloc: Global, bytes: &'a [u8]) -> Result<Walk<'a>, TextFault>
+    requires { length bytes.now < 2 ^ 32 - 1 }
+    ensures ok { IfOk result (λ w. walk (lines_of bytes.now) ≡ Ok (walk_view w)) }
+    ensures fault { IfErr result (Tells (walk (lines_of bytes.now))) }
+{
+    let bytes = without_mark(bytes);
+    if bytes.is_empty() {
+        return Err(TextFault::At {
+            line: 1,
+            kind: TextKind::FileType,
+        });
+    }
+    let (first, rest) = cut_line(bytes);
+    if first == b"file_type=PNS_problem_v1".as_slice() {
+        walk_rest(alloc, rest)
+    } else {
+        Err(TextFault::At {
+            line: 1,
+            kind: TextKind::FileType,
+        })
+    }
+}
