@@ -4,7 +4,7 @@ ghost use Rattle.std.specs.List.{list_any};
 ghost use Rattle.problem_rules.specs.Names.{is_among};
 ghost use Rattle.text_rules.specs.Field.{items_of, sides_of};
 ghost use Rattle.text_lines.specs.View.{texts};
-ghost use Rattle.text_lines.specs.Terms.{terms_view};
+ghost use Rattle.text_lines.specs.Terms.{terms_view, sides_view};
 ghost use Rattle.pns_text.specs.RatesLine.{names_of};
 ghost use Rattle.pns_text.specs.Kept.{heads_at};
 ghost use Rattle.pns_text.specs.Meaning.{has_unknown, is_unit, material_meaning, unit_meaning, rates_meaning, exclusion_meaning, entry_meaning, line_meaning, first_meaning};
@@ -16,7 +16,7 @@ use crate::settings::Settings;
 use std::alloc::{AllocError, Global};
 use text_lines::field::items_of;
 use text_lines::line::head_of;
-use text_lines::term::{Term, sides_of};
+use text_lines::term::{Sides, Term, sides_of};
 use text_rules::{Section, TextKind};
 
 /// The names of all materials, units and lines of rates.
@@ -126,12 +126,19 @@ fn some_unknown(materials: &NameSet<'_>, terms: &[Term<'_>]) -> bool
     false
 }
 
-#[tactic(auto, using(crate::proofs::SidesRead::any_of_both))]
+fn some_unknown_of(materials: &NameSet<'_>, sides: &Sides<'_>) -> bool
+    ensures { result ≡ (list_any (λ name. not (is_among materials.now name)) (names_of (sides_view sides.now).0)
+        || list_any (λ name. not (is_among materials.now name)) (names_of (sides_view sides.now).1)) }
+{
+    some_unknown(materials, &sides.inputs) || some_unknown(materials, &sides.outputs)
+}
+
+// Whether a term is of none of the materials. A line whose sides have not their form does not come here.
 fn has_unknown(alloc: Global, materials: &NameSet<'_>, text: &[u8]) -> Result<bool, AllocError>
     ensures { IfOk result (λ unknown. unknown ≡ has_unknown materials.now (sides_of text.now)) }
 {
     match sides_of(alloc, text)? {
-        Some(sides) => Ok(some_unknown(materials, &sides.inputs) || some_unknown(materials, &sides.outputs)),
+        Some(sides) => Ok(some_unknown_of(materials, &sides)),
         None => Err(AllocError),
     }
 }

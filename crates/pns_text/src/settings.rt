@@ -1,5 +1,5 @@
 //! The defaults, and the values of materials and units by them.
-ghost use Rattle.std.specs.Prelude.{◌≡◌, codes, option_map, map};
+ghost use Rattle.std.specs.Prelude.{◌≡◌, ◌/◌, codes, option_map, map, pos, unsigned_abs};
 ghost use Rattle.text_rules.specs.Fault.{millionths};
 ghost use Rattle.text_rules.specs.Value.{value_at, kind_of};
 ghost use Rattle.problem_rules.specs.Problem.{intermediate};
@@ -75,8 +75,8 @@ fn default_number(lines: &[Placed<'_>], key: &[u8], built_in: i64) -> i64
     }
 }
 
-/// The value of the first item of this key.
-pub(crate) fn value_at<'a>(items: &[&'a [u8]], key: &[u8]) -> Option<&'a [u8]>
+// The value of the first item of this key.
+fn value_at<'a>(items: &[&'a [u8]], key: &[u8]) -> Option<&'a [u8]>
     ensures { option_map (λ value. value.now) result ≡ value_at key.now (item_fields (texts items.now)) }
 {
     for item in items {
@@ -87,8 +87,8 @@ pub(crate) fn value_at<'a>(items: &[&'a [u8]], key: &[u8]) -> Option<&'a [u8]>
     None
 }
 
-/// The number of the first item of this key, or else the default.
-pub(crate) fn number_at(items: &[&[u8]], key: &[u8], default: i64) -> i64
+// The number of the first item of this key, or else the default.
+fn number_at(items: &[&[u8]], key: &[u8], default: i64) -> i64
     ensures { result ≡ number_at key.now (item_fields (texts items.now)) default }
 {
     match value_at(items, key) {
@@ -154,12 +154,94 @@ pub(crate) fn settings_of(lines: &[Placed<'_>]) -> Settings
     }
 }
 
+// The keys of materials and units, and that of the payout period.
+const PRICE: &[u8] = b"price";
+const FLOW_RATE_LOWER_BOUND: &[u8] = b"flow_rate_lower_bound";
+const FLOW_RATE_UPPER_BOUND: &[u8] = b"flow_rate_upper_bound";
+const CAPACITY_LOWER_BOUND: &[u8] = b"capacity_lower_bound";
+const CAPACITY_UPPER_BOUND: &[u8] = b"capacity_upper_bound";
+const FIX_COST: &[u8] = b"fix_cost";
+const PROPORTIONAL_COST: &[u8] = b"proportional_cost";
+const INVESTMENT_FIX_COST: &[u8] = b"investment_fix_cost";
+const INVESTMENT_PROPORTIONAL_COST: &[u8] = b"investment_proportional_cost";
+const PAYOUT_PERIOD: &[u8] = b"payout_period";
+
+// So many whole millions.
+fn millions(amount: i64) -> i64
+    ensures { result ≡ pos (unsigned_abs amount / 1000000) }
+{
+    (amount.unsigned_abs() / 1_000_000) as i64
+}
+
 /// The payout period in whole years.
 pub(crate) fn payout_of(lines: &[Placed<'_>]) -> i64
     ensures { result ≡ payout_from (lines_apart (map placed_view lines.now)) }
 {
-    let amount = default_number(lines, b"payout_period".as_slice(), 1_000_000);
-    (amount.unsigned_abs() / 1_000_000) as i64
+    let amount = default_number(lines, PAYOUT_PERIOD, 1_000_000);
+    millions(amount)
+}
+
+/// The price of a material with these items, or else the default.
+pub(crate) fn price_at(items: &[&[u8]], default: i64) -> i64
+    ensures { result ≡ number_at (codes "price") (item_fields (texts items.now)) default }
+{
+    number_at(items, PRICE, default)
+}
+
+/// The lower bound of a material with these items, or else the default.
+pub(crate) fn flow_lower_at(items: &[&[u8]], default: i64) -> i64
+    ensures { result ≡ number_at (codes "flow_rate_lower_bound") (item_fields (texts items.now)) default }
+{
+    number_at(items, FLOW_RATE_LOWER_BOUND, default)
+}
+
+/// The upper bound of a material with these items, or else the default.
+pub(crate) fn flow_upper_at(items: &[&[u8]], default: i64) -> i64
+    ensures { result ≡ number_at (codes "flow_rate_upper_bound") (item_fields (texts items.now)) default }
+{
+    number_at(items, FLOW_RATE_UPPER_BOUND, default)
+}
+
+/// The lower bound of a unit with these items, or else the default.
+pub(crate) fn capacity_lower_at(items: &[&[u8]], default: i64) -> i64
+    ensures { result ≡ number_at (codes "capacity_lower_bound") (item_fields (texts items.now)) default }
+{
+    number_at(items, CAPACITY_LOWER_BOUND, default)
+}
+
+/// The upper bound of a unit with these items, or else the default.
+pub(crate) fn capacity_upper_at(items: &[&[u8]], default: i64) -> i64
+    ensures { result ≡ number_at (codes "capacity_upper_bound") (item_fields (texts items.now)) default }
+{
+    number_at(items, CAPACITY_UPPER_BOUND, default)
+}
+
+/// The fixed cost of a unit with these items, or else the default.
+pub(crate) fn fix_at(items: &[&[u8]], default: i64) -> i64
+    ensures { result ≡ number_at (codes "fix_cost") (item_fields (texts items.now)) default }
+{
+    number_at(items, FIX_COST, default)
+}
+
+/// The proportional cost of a unit with these items, or else the default.
+pub(crate) fn proportional_at(items: &[&[u8]], default: i64) -> i64
+    ensures { result ≡ number_at (codes "proportional_cost") (item_fields (texts items.now)) default }
+{
+    number_at(items, PROPORTIONAL_COST, default)
+}
+
+/// The fixed investment cost of a unit with these items, or else the default.
+pub(crate) fn investment_fix_at(items: &[&[u8]], default: i64) -> i64
+    ensures { result ≡ number_at (codes "investment_fix_cost") (item_fields (texts items.now)) default }
+{
+    number_at(items, INVESTMENT_FIX_COST, default)
+}
+
+/// The proportional investment cost of a unit with these items, or else the default.
+pub(crate) fn investment_proportional_at(items: &[&[u8]], default: i64) -> i64
+    ensures { result ≡ number_at (codes "investment_proportional_cost") (item_fields (texts items.now)) default }
+{
+    number_at(items, INVESTMENT_PROPORTIONAL_COST, default)
 }
 
 impl Settings {
@@ -169,15 +251,17 @@ impl Settings {
     pub(crate) fn is_material_turned(&self, items: &[&[u8]]) -> bool
         ensures { result ≡ is_material_turned (settings_view self.now) (item_fields (texts items.now)) }
     {
-        number_at(items, b"flow_rate_upper_bound".as_slice(), self.flow_upper)
-            < number_at(items, b"flow_rate_lower_bound".as_slice(), self.flow_lower)
+        let upper = flow_upper_at(items, self.flow_upper);
+        let lower = flow_lower_at(items, self.flow_lower);
+        upper < lower
     }
 
     /// Whether the lower bound of a unit with these items is above its upper bound.
     pub(crate) fn is_unit_turned(&self, items: &[&[u8]]) -> bool
         ensures { result ≡ is_unit_turned (settings_view self.now) (item_fields (texts items.now)) }
     {
-        number_at(items, b"capacity_upper_bound".as_slice(), self.capacity_upper)
-            < number_at(items, b"capacity_lower_bound".as_slice(), self.capacity_lower)
+        let upper = capacity_upper_at(items, self.capacity_upper);
+        let lower = capacity_lower_at(items, self.capacity_lower);
+        upper < lower
     }
 }

@@ -14,7 +14,11 @@ ghost use Rattle.pns_text.specs.View.{placed_view, settings_view};
 use crate::meaning::{Names, heads_at};
 use crate::name_set::{NameSet, once};
 use crate::seen::Placed;
-use crate::settings::{Settings, kind_at, number_at, number_of, payout_of};
+use crate::settings::{
+    Settings, capacity_lower_at, capacity_upper_at, fix_at, flow_lower_at, flow_upper_at,
+    investment_fix_at, investment_proportional_at, kind_at, number_of, payout_of, price_at,
+    proportional_at,
+};
 use pns_problem::{Exclusion, Material, OperatingUnit, Parts, Term};
 use std::alloc::{AllocError, Global};
 use std::str;
@@ -41,9 +45,9 @@ fn material(alloc: Global, settings: &Settings, text: &[u8]) -> Result<Material,
     Ok(Material {
         name,
         kind: kind_at(&items, settings.kind),
-        price: number_at(&items, b"price".as_slice(), settings.price),
-        lower: number_at(&items, b"flow_rate_lower_bound".as_slice(), settings.flow_lower),
-        upper: number_at(&items, b"flow_rate_upper_bound".as_slice(), settings.flow_upper),
+        price: price_at(&items, settings.price),
+        lower: flow_lower_at(&items, settings.flow_lower),
+        upper: flow_upper_at(&items, settings.flow_upper),
     })
 }
 
@@ -93,13 +97,13 @@ fn terms(
 {
     let mut all = Vec::new(alloc);
     for one in terms {
-        all.push(term(names, one)?)?;
+        let one = term(names, one)?;
+        all.push(one)?;
     }
     Ok(all)
 }
 
 // The terms on both sides of a line of rates. One whose sides have not their form does not come here.
-#[tactic(auto, using(crate::proofs::SidesRead::sides_are))]
 fn sides_of_text(
     alloc: Global,
     names: &NameSet<'_>,
@@ -159,16 +163,12 @@ fn unit(
     let name = name_string(alloc, name)?;
     Ok(OperatingUnit {
         name,
-        lower: number_at(items, b"capacity_lower_bound".as_slice(), settings.capacity_lower),
-        upper: number_at(items, b"capacity_upper_bound".as_slice(), settings.capacity_upper),
-        fix: number_at(items, b"fix_cost".as_slice(), settings.fix),
-        proportional: number_at(items, b"proportional_cost".as_slice(), settings.proportional),
-        investment_fix: number_at(items, b"investment_fix_cost".as_slice(), settings.investment_fix),
-        investment_proportional: number_at(
-            items,
-            b"investment_proportional_cost".as_slice(),
-            settings.investment_proportional,
-        ),
+        lower: capacity_lower_at(items, settings.capacity_lower),
+        upper: capacity_upper_at(items, settings.capacity_upper),
+        fix: fix_at(items, settings.fix),
+        proportional: proportional_at(items, settings.proportional),
+        investment_fix: investment_fix_at(items, settings.investment_fix),
+        investment_proportional: investment_proportional_at(items, settings.investment_proportional),
         inputs,
         outputs,
     })
@@ -277,13 +277,14 @@ fn unit_names<'a>(
     Ok(all)
 }
 
-// The numbers of the units that are among the items.
-fn members(alloc: Global, units: &[&[u8]], items: &[&[u8]]) -> Result<Vec<u32>, AllocError>
-    ensures { IfOk result (λ members. members.items ≡ numbers_among (texts items.now) 0 (texts units.now)) }
+// The numbers of the units that are among the names.
+fn numbers_among(
+    alloc: Global,
+    among: &NameSet<'_>,
+    units: &[&[u8]],
+) -> Result<Vec<u32>, AllocError>
+    ensures { IfOk result (λ members. members.items ≡ numbers_among among.now 0 (texts units.now)) }
 {
-    let Some(among) = once(alloc, items)? else {
-        return Err(AllocError);
-    };
     let mut members = Vec::new(alloc);
     for (number, name) in units.iter().enumerate() {
         if among.has(*name) {
@@ -294,6 +295,16 @@ fn members(alloc: Global, units: &[&[u8]], items: &[&[u8]]) -> Result<Vec<u32>, 
         }
     }
     Ok(members)
+}
+
+// The numbers of the units that are among the items. A line with an item twice does not come here.
+fn members(alloc: Global, units: &[&[u8]], items: &[&[u8]]) -> Result<Vec<u32>, AllocError>
+    ensures { IfOk result (λ members. members.items ≡ numbers_among (texts items.now) 0 (texts units.now)) }
+{
+    match once(alloc, items)? {
+        Some(among) => numbers_among(alloc, &among, units),
+        None => Err(AllocError),
+    }
 }
 
 fn exclusion(alloc: Global, units: &[&[u8]], text: &[u8]) -> Result<Exclusion, AllocError>

@@ -13,7 +13,7 @@ whole : (c : After-read_meaning) → read_text c.args.bytes.now ≡ meaning_read
 whole c = read_is c.args.bytes.now ∙ ap readings c.in_ok-walk.ensures.ok
 
 pub returns-clause-read : goal.returns-clause-read
-returns-clause-read c = ?
+returns-clause-read c = subst (λ (reading : Result Problem rules.Fault). IfOk c.read_meaning.result (λ p. reading ≡ Ok p)) (sym (whole c)) c.read_meaning.ensures.ok
 
 pub returns-clause-fault : goal.returns-clause-fault
-returns-clause-fault c = ?
+returns-clause-fault c = subst (λ (reading : Result Problem rules.Fault). IfErr c.read_meaning.result (Tells reading)) (sym (whole c)) c.read_meaning.ensures.fault
