@@ -59,16 +59,36 @@ module _ (before : List Line) (seen : Seen) (is : IsSeen before seen) where
       let field : List ℕ × List ℕ = (key_of text, value_of text) in
       let b : Bool = not (bytes_eq (key_of text) material_type) in
       find_same (default_stands seen.keys text) (stands before (taken_apart (placed false Defaults number text))) default_kinds
-        (refl, (sym (or_none (not (is_among default_keys (key_of text)))), (is.keys (key_of text), (one_number _ b field, (one_number _ b field, (one_number _ b field, (one_number _ b field, (refl, (refl, tt)))))))))
+      (refl, (sym (or_none (not (is_among default_keys (key_of text)))), (is.keys (key_of text), (one_number _ b field, (one_number _ b field, (one_number _ b field, (one_number _ b field, (refl, (refl, tt)))))))))
 
   pub material_kind : (number : ℕ) (text : List ℕ) → material_fault seen.materials (head_of text) (items_of text) ≡ find (stands before (taken_apart (placed false Materials number text))) form_kinds
   material_kind number text =
       let items : List (List ℕ) = items_of text in
-      find_same (material_stands seen.materials (head_of text) items) (stands before (taken_apart (placed false Materials number text))) material_kinds
-        (refl, (sym (no_more (not (is_name (head_of text)))), (sym (any_filter (λ item. not (is_among material_keys (key_of item))) has_key items),
-          (ap has_double (sym (map_twice (λ (field : List ℕ × List ℕ). field.0) keyed (filter is_keyed items))),
-            (sym (any_number _ items), (sym (any_number _ items), (sym (any_number _ items), (sym (any_number _ items),
-              (refl, (is.materials.among (head_of text), (ap (nat_le 256) (is.materials.long ∙ length-map (lines_in Materials before) (λ (line : Line). line.name)), tt)))))))))))
+      find_same (material_stands seen.materials (head_of text) items) (stands before (taken_apart (placed false Materials number text))) material_kinds (
+        refl,
+        (
+          sym (no_more (not (is_name (head_of text)))),
+          (
+            sym (any_filter (λ item. not (is_among material_keys (key_of item))) has_key items),
+            (
+              ap has_double (sym (map_twice (λ (field : List ℕ × List ℕ). field.0) keyed (filter is_keyed items))),
+              (
+                sym (any_number _ items),
+                (
+                  sym (any_number _ items),
+                  (
+                    sym (any_number _ items),
+                    (
+                      sym (any_number _ items),
+                      (refl, (is.materials.among (head_of text), (ap (nat_le 256) (is.materials.long ∙ length-map (lines_in Materials before) (λ (line : Line). line.name)), tt))),
+                    ),
+                  ),
+                ),
+              ),
+            ),
+          ),
+        ),
+      )
 
   beyond : (name : List ℕ) → is_beyond seen.unit_names name ≡ (not (is_among (units_before before) name) && nat_le 128 (length (distinct (units_before before))))
   beyond name =
@@ -78,15 +98,39 @@ module _ (before : List Line) (seen : Seen) (is : IsSeen before seen) where
   pub unit_kind : (number : ℕ) (text : List ℕ) → unit_fault seen.units seen.unit_names (head_of text) (items_of text) ≡ find (stands before (taken_apart (placed false OperatingUnits number text))) form_kinds
   unit_kind number text =
       let items : List (List ℕ) = items_of text in
-      find_same (unit_stands seen.units seen.unit_names (head_of text) items) (stands before (taken_apart (placed false OperatingUnits number text))) unit_kinds
-        (refl, (sym (no_more (not (is_name (head_of text)))), (sym (any_filter (λ item. not (is_among unit_keys (key_of item))) has_key items),
-          (ap has_double (sym (map_twice (λ (field : List ℕ × List ℕ). field.0) keyed (filter is_keyed items))),
-            (sym (any_number _ items), (sym (any_number _ items), (sym (any_number _ items), (sym (any_number _ items),
-              (is.units (head_of text), (beyond (head_of text), tt))))))))))
+      find_same (unit_stands seen.units seen.unit_names (head_of text) items) (stands before (taken_apart (placed false OperatingUnits number text))) unit_kinds (
+        refl,
+        (
+          sym (no_more (not (is_name (head_of text)))),
+          (
+            sym (any_filter (λ item. not (is_among unit_keys (key_of item))) has_key items),
+            (
+              ap has_double (sym (map_twice (λ (field : List ℕ × List ℕ). field.0) keyed (filter is_keyed items))),
+              (
+                sym (any_number _ items),
+                (
+                  sym (any_number _ items),
+                  (
+                    sym (any_number _ items),
+                    (
+                      sym (any_number _ items),
+                      (is.units (head_of text), (beyond (head_of text), tt)),
+                    ),
+                  ),
+                ),
+              ),
+            ),
+          ),
+        ),
+      )
 
   pub exclusion_kind : (number : ℕ) (text : List ℕ) → exclusion_fault seen.exclusions text (head_of text) (items_of text) ≡ find (stands before (taken_apart (placed false Exclusions number text))) form_kinds
   exclusion_kind number text =
       let items : List (List ℕ) = items_of text in
-      find_same (exclusion_stands seen.exclusions text (head_of text) items) (stands before (taken_apart (placed false Exclusions number text))) exclusion_kinds
-        (refl, (or_middle (not (is_name (head_of text))) (list_any (λ item. not (is_name item)) items),
-          (ap (nat_le 64) (is.exclusions.long ∙ length-map (lines_in Exclusions before) (λ (line : Line). line.name)), (is.exclusions.among (head_of text), (refl, (refl, tt))))))
+      find_same (exclusion_stands seen.exclusions text (head_of text) items) (stands before (taken_apart (placed false Exclusions number text))) exclusion_kinds (
+        refl,
+        (
+          or_middle (not (is_name (head_of text))) (list_any (λ item. not (is_name item)) items),
+          (ap (nat_le 64) (is.exclusions.long ∙ length-map (lines_in Exclusions before) (λ (line : Line). line.name)), (is.exclusions.among (head_of text), (refl, (refl, tt)))),
+        ),
+      )

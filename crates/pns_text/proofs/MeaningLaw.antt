@@ -215,6 +215,7 @@ module _ (all : List Placed) where
     differ : (e : Bool) → bytes_eq r.name x ≡ e → is_among us r.name ≡ true → e ≡ false
     differ true same here = let moved : is_among us r.name ≡ is_among us x = ap (λ (y : List ℕ). is_among us y) ((bytes_eq-Decides r.name x).0 same) in cc
     differ false same here = refl
+
     by : (b : Bool) → is_among us r.name ≡ b → is_among (map (λ (line : Line). line.name) (filter (λ (line : Line). not (is_among us line.name)) rs)) x ≡ is_among (map (λ (line : Line). line.name) rs) x → is_among (map (λ (line : Line). line.name) (cond (not b) (r ∷ filter (λ (line : Line). not (is_among us line.name)) rs) (filter (λ (line : Line). not (is_among us line.name)) rs))) x ≡ (bytes_eq r.name x || is_among (map (λ (line : Line). line.name) rs) x)
     by true here more = more ∙ ap (λ (b : Bool). b || is_among (map (λ (line : Line). line.name) rs) x) (sym (differ (bytes_eq r.name x) refl here))
     by false here more = ap (λ (b : Bool). bytes_eq r.name x || b) more
@@ -244,7 +245,7 @@ module _ (all : List Placed) where
   unit_kind number text =
       ap (λ (b : Bool). if b then Some LowAboveHigh else if not (is_among (names_in Rates lines) (head_of text)) then Some NoRates else None) (unit_turned (head_of text) (fields_at text))
       ∙ ap (λ (o : Option TextKind). if is_unit_turned s (fields_at text) then Some LowAboveHigh else o)
-        (flip_rates (is_among (names_in Rates lines) (head_of text)) ∙ ap (λ (rates : List (List ℕ)). if is_among rates (head_of text) then None else Some NoRates) (names_kept Rates refl all))
+      (flip_rates (is_among (names_in Rates lines) (head_of text)) ∙ ap (λ (rates : List (List ℕ)). if is_among rates (head_of text) then None else Some NoRates) (names_kept Rates refl all))
 
   rates_kind : (number : ℕ) (text : List ℕ) → find (stands_in lines [] (taken_apart (line_of Rates number text))) meaning_kinds ≡ line_meaning s known (line_of Rates number text)
   rates_kind number text = λ i.
@@ -254,7 +255,7 @@ module _ (all : List Placed) where
   exclusion_kind : (number : ℕ) (text : List ℕ) → find (stands_in lines [] (taken_apart (line_of Exclusions number text))) meaning_kinds ≡ line_meaning s known (line_of Exclusions number text)
   exclusion_kind number text =
       ap (λ (b : Bool). if b then Some UnknownUnit else None)
-        (any_same (λ item. not (is_among (unit_names lines) item)) (λ item. not (is_unit known item)) (λ item. ap not (unit_known item)) (items_of text))
+      (any_same (λ item. not (is_among (unit_names lines) item)) (λ item. not (is_unit known item)) (λ item. ap not (unit_known item)) (items_of text))
 
   kind_by : (header : Bool) (section : Section) (number : ℕ) (text : List ℕ) → find (stands_in lines [] (taken_apart (record { number = number; section = section; header = header; text = text }))) meaning_kinds ≡ line_meaning s known (record { number = number; section = section; header = header; text = text })
   kind_by true Preamble number text = refl

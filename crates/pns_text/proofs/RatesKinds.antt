@@ -67,20 +67,29 @@ module _ (before : List Line) (seen : Seen) (is : IsSeen before seen) where
 
   term_part : (number : ℕ) (text : List ℕ) (left right : List (List (List ℕ))) → term_fault (head_of text) (map pair_of left) (map pair_of right) ≡ find (stands before (line_with number text (left ∷ right ∷ []))) term_kinds
   term_part number text left right =
-      find_same (term_stands (head_of text) (map pair_of left) (map pair_of right)) (stands before (line_with number text (left ∷ right ∷ []))) term_kinds
-        (ap (λ (b : Bool). not (is_name (head_of text)) || b) (both_terms (λ term. not (is_name term.1)) left right) ∙ no_more_left (not (is_name (head_of text))) (list_any (λ term. not (is_name (material_of term))) (left ++ (right ++ []))),
-          (rates_any (rate_stands BadNumber) _ left right (λ term. refl),
-            (rates_any (rate_stands TooFine) _ left right (λ term. refl),
-              (rates_any (rate_stands TooLarge) _ left right (λ term. refl),
-                (rates_any (rate_stands Negative) _ left right (λ term. sym (and_true (rate_stands Negative (pair_of term)))),
-                  (rates_any (rate_stands ZeroRate) _ left right (λ term. refl), tt))))))
+      find_same (term_stands (head_of text) (map pair_of left) (map pair_of right)) (stands before (line_with number text (left ∷ right ∷ []))) term_kinds (
+        ap (λ (b : Bool). not (is_name (head_of text)) || b) (both_terms (λ term. not (is_name term.1)) left right) ∙ no_more_left (not (is_name (head_of text))) (list_any (λ term. not (is_name (material_of term))) (left ++ (right ++ []))),
+        (
+          rates_any (rate_stands BadNumber) _ left right (λ term. refl),
+          (
+            rates_any (rate_stands TooFine) _ left right (λ term. refl),
+            (
+              rates_any (rate_stands TooLarge) _ left right (λ term. refl),
+              (
+                rates_any (rate_stands Negative) _ left right (λ term. sym (and_true (rate_stands Negative (pair_of term)))),
+                (rates_any (rate_stands ZeroRate) _ left right (λ term. refl), tt),
+              ),
+            ),
+          ),
+        ),
+      )
 
   doubled_part : (number : ℕ) (text : List ℕ) (left right : List (List (List ℕ))) → doubled (map pair_of left) (map pair_of right) ≡ find (stands before (line_with number text (left ∷ right ∷ []))) (DoubleTerm ∷ BothSides ∷ [])
   doubled_part number text left right =
       ap (λ (names : List (List ℕ)). doubled_by names (names_of (map pair_of right))) (names_are left)
       ∙ ap (λ (names : List (List ℕ)). doubled_by (map material_of left) names) (names_are right) where
-    doubled_by : List (List ℕ) → List (List ℕ) → Option TextKind
-    doubled_by lefts rights = if has_double lefts || has_double rights then Some DoubleTerm else if list_any (is_among rights) lefts then Some BothSides else None
+        doubled_by : List (List ℕ) → List (List ℕ) → Option TextKind
+        doubled_by lefts rights = if has_double lefts || has_double rights then Some DoubleTerm else if list_any (is_among rights) lefts then Some BothSides else None
 
   same_empty : (left right : List (List (List ℕ))) → (length (map pair_of left) == 0 || length (map pair_of right) == 0) ≡ ((length left == 0) || ((length right == 0) || false))
   same_empty left right =
@@ -98,8 +107,8 @@ module _ (before : List Line) (seen : Seen) (is : IsSeen before seen) where
       ap (λ (b : Bool). whole_by b (is_among seen.rates (head_of text)) (is_beyond seen.unit_names (head_of text))) (same_empty left right)
       ∙ ap (λ (b : Bool). whole_by (length left == 0 || (length right == 0 || false)) b (is_beyond seen.unit_names (head_of text))) (is.rates (head_of text))
       ∙ ap (λ (b : Bool). whole_by (length left == 0 || (length right == 0 || false)) (is_among (names_in Rates before) (head_of text)) b) (beyond (head_of text)) where
-    whole_by : Bool → Bool → Bool → Option TextKind
-    whole_by empty again many = if empty then Some EmptySide else if again then Some DoubleRates else if many then Some TooMany else None
+        whole_by : Bool → Bool → Bool → Option TextKind
+        whole_by empty again many = if empty then Some EmptySide else if again then Some DoubleRates else if many then Some TooMany else None
 
   two_parts : (number : ℕ) (text : List ℕ) (left right : List (List (List ℕ)))
       → sides_fault seen.rates seen.unit_names (head_of text) (Some (map pair_of left, map pair_of right)) ≡ find (stands before (line_with number text (left ∷ right ∷ []))) (term_kinds ++ ((DoubleTerm ∷ BothSides ∷ []) ++ (EmptySide ∷ DoubleRates ∷ TooMany ∷ [])))

@@ -12,7 +12,7 @@ use Rattle.pns_text.specs.Kept.{lines_apart}
 use Rattle.pns_text.specs.Settings.{settings_of}
 use Rattle.pns_text.specs.Meaning.{first_meaning}
 use Rattle.pns_text.specs.Value.{problem_from}
-use Rattle.pns_text.specs.Reading.{names_all, has_product, with_product, or_first, meaning_read}
+use Rattle.pns_text.specs.Reading.{names_all, has_product, with_product, or_first, meaning_at}
 use Rattle.pns_text.specs.Walk.{Walk, matters, walk_start, walk}
 use Rattle.pns_text.specs.declared.fault.TextFault.{TextFault}
 use Rattle.pns_text.specs.declared.fault.TextFault.TheVariants.{At, Memory}
@@ -21,11 +21,8 @@ use Rattle.pns_text.proofs.WalkLaw.{ending, walked, behind_first, walk_is, walke
 
 -- by the walk
 abbrev pub readings : Result Walk rules.Fault → Result Problem rules.Fault
-readings (Ok w) = meaning_read w
+readings (Ok w) = meaning_at w.kept w.number
 readings (Err fault) = Err fault
-
-abbrev by_kept : List Placed → ℕ → Result Problem rules.Fault
-by_kept kept number = or_first (first_meaning (settings_of (lines_apart kept)) (names_all kept) kept) (with_product number (problem_from kept))
 
 abbrev none_or : Bool → ℕ → Option rules.Fault
 none_or b number = if b then None else Some (number, NoProduct)
@@ -43,7 +40,7 @@ meaning_by (Some fault) p number = refl
 meaning_of : (texts : List (List ℕ)) → Result Problem rules.Fault
 meaning_of texts = elim (meaning_fault texts (parts_of texts)) as (λ _. Result Problem rules.Fault) [ Some fault ↦ Err fault | None ↦ Ok (problem_of (parts_of texts)) ]
 
-meaning_kept : (texts : List (List ℕ)) → meaning_of texts ≡ by_kept (filter matters (body_of texts)) (length texts + 1)
+meaning_kept : (texts : List (List ℕ)) → meaning_of texts ≡ meaning_at (filter matters (body_of texts)) (length texts + 1)
 unfolding meaning_of
 meaning_kept texts =
     let all : List Placed = body_of texts in
@@ -51,7 +48,7 @@ meaning_kept texts =
     ∙ ap (λ (o : Option rules.Fault). or_first o (with_product (length texts + 1) (problem_of (parts_of texts)))) (meaning_is all)
     ∙ ap (λ (p : Problem). or_first (first_meaning (settings_of (lines_apart (filter matters all))) (names_all (filter matters all)) (filter matters all)) (with_product (length texts + 1) p)) (problem_is all)
 
-form_by : (o : Option rules.Fault) (texts : List (List ℕ)) (w : Walk) → meaning_of texts ≡ meaning_read w → (elim o as (λ _. Result Problem rules.Fault) [ Some fault ↦ Err fault | None ↦ meaning_of texts ]) ≡ readings (ending o (Ok w))
+form_by : (o : Option rules.Fault) (texts : List (List ℕ)) (w : Walk) → meaning_of texts ≡ meaning_at w.kept w.number → (elim o as (λ _. Result Problem rules.Fault) [ Some fault ↦ Err fault | None ↦ meaning_of texts ]) ≡ readings (ending o (Ok w))
 form_by None texts w e = e
 form_by (Some fault) texts w e = refl
 
@@ -61,7 +58,7 @@ read_first first texts =
     let w : Walk = walked walk_start texts in
     let all : List (List ℕ) = first ∷ texts in
     let number : length all + 1 ≡ w.number = let n = walked_counts texts walk_start in omega (arith, n) in
-    form_by (form_fault all) all w (meaning_kept all ∙ ap (λ (kept : List Placed). by_kept kept (length all + 1)) (sym (walked_keeps texts walk_start)) ∙ ap (by_kept w.kept) number)
+    form_by (form_fault all) all w (meaning_kept all ∙ ap (λ (kept : List Placed). meaning_at kept (length all + 1)) (sym (walked_keeps texts walk_start)) ∙ ap (meaning_at w.kept) number)
     ∙ ap readings (sym (walk_is all))
 
 read_all : (texts : List (List ℕ)) → read_lines texts ≡ readings (walk texts)

@@ -26,7 +26,7 @@ any_two : (q : List ℕ → Bool) (left right : List (List (List ℕ))) → (lis
 any_two q left right =
     ap (λ (b : Bool). b || list_any q (names_of (map pair_of right))) (any_names q left)
     ∙ ap (λ (b : Bool). list_any (λ term. q (material_of term)) left || b)
-      (any_names q right ∙ sym (or_none (list_any (λ term. q (material_of term)) right)) ∙ sym (list_any-append (λ term. q (material_of term)) right []))
+    (any_names q right ∙ sym (or_none (list_any (λ term. q (material_of term)) right)) ∙ sym (list_any-append (λ term. q (material_of term)) right []))
     ∙ sym (list_any-append (λ term. q (material_of term)) left (right ++ []))
 
 -- a test of the materials of both sides

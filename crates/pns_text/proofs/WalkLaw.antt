@@ -89,7 +89,7 @@ walk_ends [] w before is = refl
 walk_ends ([] ∷ texts) w before is = walk_ends texts (record w { number = w.number + 1 }) before is
 walk_ends ((c ∷ cs) ∷ texts) w before is =
     full_line w (c ∷ cs) texts before (not_empty c cs) is
-      (walk_ends texts (walk_past w (placed_at w.number w.section (c ∷ cs))) (taken_apart (placed_at w.number w.section (c ∷ cs)) ∷ before) (seen_more before w.seen is (placed_at w.number w.section (c ∷ cs))))
+    (walk_ends texts (walk_past w (placed_at w.number w.section (c ∷ cs))) (taken_apart (placed_at w.number w.section (c ∷ cs)) ∷ before) (seen_more before w.seen is (placed_at w.number w.section (c ∷ cs))))
 
 typed : (b : Bool) (fault : Option Fault) (reading whole : Result Walk Fault) → whole ≡ ending fault reading → (if b then whole else Err (1, FileType)) ≡ ending (if b then fault else Some (1, FileType)) reading
 typed true fault reading whole e = e

@@ -10,7 +10,6 @@ use Rattle.pns_text.specs.Kept.{heads_at, lines_apart}
 use Rattle.pns_text.specs.Settings.{settings_of}
 use Rattle.pns_text.specs.Meaning.{Names, first_meaning}
 use Rattle.pns_text.specs.Value.{problem_from}
-use Rattle.pns_text.specs.Walk.{Walk}
 
 abbrev pub names_all : List Placed → Names
 names_all lines = record { materials = heads_at Materials lines; units = heads_at OperatingUnits lines; rates = heads_at Rates lines }
@@ -26,6 +25,6 @@ abbrev pub or_first : Option Fault → Result Problem Fault → Result Problem F
 or_first (Some fault) rest = Err fault
 or_first None rest = rest
 
--- the first fault of meaning, or the problem
-abbrev pub meaning_read : Walk → Result Problem Fault
-meaning_read w = or_first (first_meaning (settings_of (lines_apart w.kept)) (names_all w.kept) w.kept) (with_product w.number (problem_from w.kept))
+-- the first fault of meaning of these lines, or the problem; the line behind the last one has the number
+abbrev pub meaning_at : List Placed → ℕ → Result Problem Fault
+meaning_at lines number = or_first (first_meaning (settings_of (lines_apart lines)) (names_all lines) lines) (with_product number (problem_from lines))

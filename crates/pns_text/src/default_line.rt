@@ -13,7 +13,6 @@ use text_lines::field::{has_key, is_kind_word, key_of, value_of};
 use text_lines::name::is_among;
 use text_rules::TextKind;
 
-
 fn is_default_key(key: &[u8]) -> bool
     ensures { result ≡ is_among default_keys key.now }
 {

@@ -172,12 +172,7 @@ fn term_kind(name: &[u8], sides: &Sides<'_>) -> Option<TextKind>
 }
 
 // The kind that stands at the whole line, behind the terms.
-fn unit_kind(
-    names: &[&[u8]],
-    seen: &[&[u8]],
-    name: &[u8],
-    sides: &Sides<'_>,
-) -> Option<TextKind>
+fn unit_kind(names: &[&[u8]], seen: &[&[u8]], name: &[u8], sides: &Sides<'_>) -> Option<TextKind>
     ensures { result ≡ whole_fault (texts names.now) (texts seen.now) name.now (sides_view sides.now).0 (sides_view sides.now).1 }
 {
     if sides.inputs.is_empty() || sides.outputs.is_empty() {

@@ -1,15 +1,16 @@
 //! The reader of a whole text.
-ghost use Rattle.std.specs.Prelude.{◌≡◌, ◌<◌, ◌-◌, ◌^◌, Ok, IfOk, IfErr, length};
+ghost use Rattle.std.specs.Prelude.{◌≡◌, ◌<◌, ◌-◌, ◌^◌, Ok, IfOk, IfErr, length, map};
 ghost use Rattle.text_rules.specs.Value.{read_text};
 ghost use Rattle.pns_text.specs.Fault.{Tells};
-ghost use Rattle.pns_text.specs.Reading.{has_product, with_product, meaning_read};
-ghost use Rattle.pns_text.specs.View.{walk_view};
+ghost use Rattle.pns_text.specs.Reading.{has_product, with_product, meaning_at};
+ghost use Rattle.pns_text.specs.View.{placed_view};
 
 use crate::fault::TextFault;
 use crate::meaning::{Names, first_meaning};
+use crate::seen::Placed;
 use crate::settings::settings_of;
 use crate::value::parts_of;
-use crate::walk::{Walk, walk_text};
+use crate::walk::walk_text;
 use pns_problem::{Kind, Material, Parts, Problem};
 use std::alloc::Global;
 use text_rules::TextKind;
@@ -43,18 +44,18 @@ fn with_product(alloc: Global, number: u32, parts: Parts) -> Result<Problem, Tex
     }
 }
 
-// The problem of the lines that a walk kept, or their first fault of meaning.
-fn read_meaning(alloc: Global, walk: &Walk<'_>) -> Result<Problem, TextFault>
-    ensures ok { IfOk result (λ p. meaning_read (walk_view walk.now) ≡ Ok p) }
-    ensures fault { IfErr result (Tells (meaning_read (walk_view walk.now))) }
+// The problem of these lines, or their first fault of meaning; the line behind the last one has the number.
+fn read_meaning(alloc: Global, lines: &[Placed<'_>], number: u32) -> Result<Problem, TextFault>
+    ensures ok { IfOk result (λ p. meaning_at (map placed_view lines.now) number ≡ Ok p) }
+    ensures fault { IfErr result (Tells (meaning_at (map placed_view lines.now) number)) }
 {
-    let settings = settings_of(&walk.kept);
-    let names = Names::of(alloc, &walk.kept)?;
-    match first_meaning(alloc, &settings, &names, &walk.kept)? {
+    let settings = settings_of(lines);
+    let names = Names::of(alloc, lines)?;
+    match first_meaning(alloc, &settings, &names, lines)? {
         Some((line, kind)) => Err(TextFault::At { line, kind }),
         None => {
-            let parts = parts_of(alloc, &settings, &names, &walk.kept)?;
-            with_product(alloc, walk.number, parts)
+            let parts = parts_of(alloc, &settings, &names, lines)?;
+            with_product(alloc, number, parts)
         }
     }
 }
@@ -67,6 +68,8 @@ pub fn read_problem(alloc: Global, bytes: &[u8]) -> Result<Problem, TextFault>
     ensures read { IfOk result (λ p. read_text bytes.now ≡ Ok p) }
     ensures fault { IfErr result (Tells (read_text bytes.now)) }
 {
-    let walk = walk_text(alloc, bytes)?;
-    read_meaning(alloc, &walk)
+    match walk_text(alloc, bytes) {
+        Ok(walk) => read_meaning(alloc, &walk.kept, walk.number),
+        Err(fault) => Err(fault),
+    }
 }

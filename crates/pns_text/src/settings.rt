@@ -120,35 +120,43 @@ fn default_kind(lines: &[Placed<'_>]) -> Kind
 // 10^9 in millionths: the upper bounds that hold where nothing else is said.
 const MUCH: i64 = 1_000_000_000_000_000;
 
+// The keys of defaults.
+const MATERIAL_PRICE: &[u8] = b"material_price";
+
+const MATERIAL_FLOW_RATE_LOWER_BOUND: &[u8] = b"material_flow_rate_lower_bound";
+
+const MATERIAL_FLOW_RATE_UPPER_BOUND: &[u8] = b"material_flow_rate_upper_bound";
+
+const OPERATING_UNIT_CAPACITY_LOWER_BOUND: &[u8] = b"operating_unit_capacity_lower_bound";
+
+const OPERATING_UNIT_CAPACITY_UPPER_BOUND: &[u8] = b"operating_unit_capacity_upper_bound";
+
+const OPERATING_UNIT_FIX_COST: &[u8] = b"operating_unit_fix_cost";
+
+const OPERATING_UNIT_PROPORTIONAL_COST: &[u8] = b"operating_unit_proportional_cost";
+
+const OPERATING_UNIT_INVESTMENT_FIX_COST: &[u8] = b"operating_unit_investment_fix_cost";
+
+const OPERATING_UNIT_INVESTMENT_PROPORTIONAL_COST: &[u8] =
+    b"operating_unit_investment_proportional_cost";
+
 /// The settings that the lines of defaults give.
 pub(crate) fn settings_of(lines: &[Placed<'_>]) -> Settings
     ensures { settings_view result ≡ settings_of (lines_apart (map placed_view lines.now)) }
 {
     Settings {
         kind: default_kind(lines),
-        price: default_number(lines, b"material_price".as_slice(), 0),
-        flow_lower: default_number(lines, b"material_flow_rate_lower_bound".as_slice(), 0),
-        flow_upper: default_number(lines, b"material_flow_rate_upper_bound".as_slice(), MUCH),
-        capacity_lower: default_number(
-            lines,
-            b"operating_unit_capacity_lower_bound".as_slice(),
-            0,
-        ),
-        capacity_upper: default_number(
-            lines,
-            b"operating_unit_capacity_upper_bound".as_slice(),
-            MUCH,
-        ),
-        fix: default_number(lines, b"operating_unit_fix_cost".as_slice(), 0),
-        proportional: default_number(lines, b"operating_unit_proportional_cost".as_slice(), 0),
-        investment_fix: default_number(
-            lines,
-            b"operating_unit_investment_fix_cost".as_slice(),
-            0,
-        ),
+        price: default_number(lines, MATERIAL_PRICE, 0),
+        flow_lower: default_number(lines, MATERIAL_FLOW_RATE_LOWER_BOUND, 0),
+        flow_upper: default_number(lines, MATERIAL_FLOW_RATE_UPPER_BOUND, MUCH),
+        capacity_lower: default_number(lines, OPERATING_UNIT_CAPACITY_LOWER_BOUND, 0),
+        capacity_upper: default_number(lines, OPERATING_UNIT_CAPACITY_UPPER_BOUND, MUCH),
+        fix: default_number(lines, OPERATING_UNIT_FIX_COST, 0),
+        proportional: default_number(lines, OPERATING_UNIT_PROPORTIONAL_COST, 0),
+        investment_fix: default_number(lines, OPERATING_UNIT_INVESTMENT_FIX_COST, 0),
         investment_proportional: default_number(
             lines,
-            b"operating_unit_investment_proportional_cost".as_slice(),
+            OPERATING_UNIT_INVESTMENT_PROPORTIONAL_COST,
             0,
         ),
     }
@@ -156,14 +164,23 @@ pub(crate) fn settings_of(lines: &[Placed<'_>]) -> Settings
 
 // The keys of materials and units, and that of the payout period.
 const PRICE: &[u8] = b"price";
+
 const FLOW_RATE_LOWER_BOUND: &[u8] = b"flow_rate_lower_bound";
+
 const FLOW_RATE_UPPER_BOUND: &[u8] = b"flow_rate_upper_bound";
+
 const CAPACITY_LOWER_BOUND: &[u8] = b"capacity_lower_bound";
+
 const CAPACITY_UPPER_BOUND: &[u8] = b"capacity_upper_bound";
+
 const FIX_COST: &[u8] = b"fix_cost";
+
 const PROPORTIONAL_COST: &[u8] = b"proportional_cost";
+
 const INVESTMENT_FIX_COST: &[u8] = b"investment_fix_cost";
+
 const INVESTMENT_PROPORTIONAL_COST: &[u8] = b"investment_proportional_cost";
+
 const PAYOUT_PERIOD: &[u8] = b"payout_period";
 
 // So many whole millions.

@@ -30,7 +30,10 @@ fn tells_faults_of_lines(rt: HostRuntime) -> Result<(), Fail> {
     let alloc = rt.alloc();
     assert_eq!(rt; told(alloc, ""), Some((1, TextKind::FileType)));
     assert_eq!(rt; told(alloc, "\u{feff}"), Some((1, TextKind::FileType)));
-    assert_eq!(rt; told(alloc, "\nfile_type=PNS_problem_v1\n"), Some((1, TextKind::FileType)));
+    assert_eq!(rt;
+        told(alloc, "\nfile_type=PNS_problem_v1\n"),
+        Some((1, TextKind::FileType))
+    );
     for (rest, line, kind) in [
         ("stuff :\n", 2, TextKind::UnknownSection),
         ("materials:\nA:\n", 3, TextKind::UnknownSection),
@@ -42,22 +45,54 @@ fn tells_faults_of_lines(rt: HostRuntime) -> Result<(), Fail> {
         ("materials:\nA=1: product\n", 3, TextKind::BadName),
         ("materials:\nA: cost=x\n", 3, TextKind::UnknownKey),
         ("materials:\nA: product, product\n", 3, TextKind::DoubleKey),
-        ("defaults:\nmaterial_price=1\nmaterial_price=2\n", 4, TextKind::DoubleKey),
+        (
+            "defaults:\nmaterial_price=1\nmaterial_price=2\n",
+            4,
+            TextKind::DoubleKey,
+        ),
         ("materials:\nA: price=1e1000\n", 3, TextKind::BadNumber),
-        ("materials:\nA: price=1000000000.0000001\n", 3, TextKind::TooFine),
-        ("materials:\nA: flow_rate_lower_bound=-1e10\n", 3, TextKind::TooLarge),
-        ("defaults:\noperating_unit_fix_cost=-1\n", 3, TextKind::Negative),
+        (
+            "materials:\nA: price=1000000000.0000001\n",
+            3,
+            TextKind::TooFine,
+        ),
+        (
+            "materials:\nA: flow_rate_lower_bound=-1e10\n",
+            3,
+            TextKind::TooLarge,
+        ),
+        (
+            "defaults:\noperating_unit_fix_cost=-1\n",
+            3,
+            TextKind::Negative,
+        ),
         ("materials:\nA: product, foo\n", 3, TextKind::UnknownKind),
         ("materials:\nA\nA: price=2\n", 4, TextKind::DoubleMaterial),
         ("operating_units:\nU\nU\n", 4, TextKind::DoubleUnit),
         ("defaults:\npayout_period=0.5\n", 3, TextKind::BadPayout),
         ("defaults:\npayout_period=-1\n", 3, TextKind::BadPayout),
-        ("mutual_exclusions:\nX: A, B\nX: A, C\n", 4, TextKind::DoubleExclusion),
+        (
+            "mutual_exclusions:\nX: A, B\nX: A, C\n",
+            4,
+            TextKind::DoubleExclusion,
+        ),
         ("mutual_exclusions:\nX: A, A\n", 3, TextKind::DoubleMember),
         ("mutual_exclusions:\nX: A\n", 3, TextKind::FewMembers),
-        ("materials:\nA: product\nmutual_exclusions:\nX: A, B\n", 5, TextKind::UnknownUnit),
-        ("materials:\nA: flow_rate_lower_bound=2\ndefaults:\nmaterial_flow_rate_upper_bound=1\n", 3, TextKind::LowAboveHigh),
-        ("materials:\nA: product\noperating_units:\nU\n", 5, TextKind::NoRates),
+        (
+            "materials:\nA: product\nmutual_exclusions:\nX: A, B\n",
+            5,
+            TextKind::UnknownUnit,
+        ),
+        (
+            "materials:\nA: flow_rate_lower_bound=2\ndefaults:\nmaterial_flow_rate_upper_bound=1\n",
+            3,
+            TextKind::LowAboveHigh,
+        ),
+        (
+            "materials:\nA: product\noperating_units:\nU\n",
+            5,
+            TextKind::NoRates,
+        ),
         ("materials:\nA\n\n", 5, TextKind::NoProduct),
     ] {
         assert_eq!(rt; told_of(alloc, rest)?, Some((line, kind)), "{rest}");
@@ -90,14 +125,21 @@ fn tells_faults_of_rates(rt: HostRuntime) -> Result<(), Fail> {
         text.push_str(line)?;
         assert_eq!(rt; told(alloc, text.as_str()), Some((3, kind)), "{line}");
     }
-    assert_eq!(rt; told_of(alloc, "material_to_operating_unit_flow_rates:\nU: A => B\nU: C => D\n")?, Some((4, TextKind::DoubleRates)));
+    assert_eq!(rt;
+        told_of(
+            alloc,
+            "material_to_operating_unit_flow_rates:\nU: A => B\nU: C => D\n"
+        )?,
+        Some((4, TextKind::DoubleRates))
+    );
     Ok(())
 }
 
 #[test]
 fn reads_a_text(rt: HostRuntime) -> Result<(), Fail> {
     let alloc = rt.alloc();
-    let text = "\u{feff}file_type=PNS_problem_v1\r\nfile_name=x\r\nmaterial_to_operating_unit_flow_rates:\r\nU2: 2 A + 1e+1 B => P\r\nU1: A => P\r\noperating_units:\r\nU1: fix_cost=10\r\nmutual_exclusions:\r\nX: U2, U1\r\ndefaults:\r\npayout_period=10\r\nmaterial_price=3\r\nmaterials:\r\nA: raw_material, price=2.50\r\nB : raw_material\r\nP: product";
+    let text =
+        "\u{feff}file_type=PNS_problem_v1\r\nfile_name=x\r\nmaterial_to_operating_unit_flow_rates:\r\nU2: 2 A + 1e+1 B => P\r\nU1: A => P\r\noperating_units:\r\nU1: fix_cost=10\r\nmutual_exclusions:\r\nX: U2, U1\r\ndefaults:\r\npayout_period=10\r\nmaterial_price=3\r\nmaterials:\r\nA: raw_material, price=2.50\r\nB : raw_material\r\nP: product";
     let Ok(problem) = read_problem(alloc, text.as_bytes()) else {
         assert!(rt; false);
         return Ok(());

@@ -32,12 +32,7 @@ pub(crate) fn is_beyond(seen: &[&[u8]], name: &[u8]) -> bool
 }
 
 // The kind of form at the line of this name and these items, behind lines of units of these names.
-fn unit_kind(
-    names: &[&[u8]],
-    seen: &[&[u8]],
-    name: &[u8],
-    items: &[&[u8]],
-) -> Option<TextKind>
+fn unit_kind(names: &[&[u8]], seen: &[&[u8]], name: &[u8], items: &[&[u8]]) -> Option<TextKind>
     ensures { result ≡ unit_fault (texts names.now) (texts seen.now) name.now (texts items.now) }
 {
     if some_without_key(items) {

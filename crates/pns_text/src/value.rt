@@ -168,7 +168,10 @@ fn unit(
         fix: fix_at(items, settings.fix),
         proportional: proportional_at(items, settings.proportional),
         investment_fix: investment_fix_at(items, settings.investment_fix),
-        investment_proportional: investment_proportional_at(items, settings.investment_proportional),
+        investment_proportional: investment_proportional_at(
+            items,
+            settings.investment_proportional,
+        ),
         inputs,
         outputs,
     })
@@ -260,6 +263,16 @@ fn units(
     Ok(units)
 }
 
+// Adds the names of these lines.
+fn push_heads<'a>(names: &mut Vec<&'a [u8]>, lines: &[&'a [u8]]) -> Result<(), AllocError>
+    ensures { OnOk result (texts names.new.items ≡ texts names.old.items ++ map head_of (texts lines.now)) }
+{
+    for text in lines {
+        names.push(head_of(*text))?;
+    }
+    Ok(())
+}
+
 // The names of the units, in their order.
 fn unit_names<'a>(
     alloc: Global,
@@ -271,9 +284,7 @@ fn unit_names<'a>(
 {
     let mut all = heads_at(alloc, Section::OperatingUnits, lines)?;
     let bare = bare_lines(alloc, &names.units, lines)?;
-    for text in &bare {
-        all.push(head_of(*text))?;
-    }
+    push_heads(&mut all, &bare)?;
     Ok(all)
 }
 

@@ -10,4 +10,4 @@ pub returns-in-Some : goal.returns-in-Some
 returns-in-Some c =
     c.some_unknown_of.ensures
     ∙ any_of_both (λ name. not (is_among c.args.materials.now name)) (sides_of c.args.text.now) (sides_view c.in-Some.sides)
-      (ap (λ (o : Option Sides). option_map sides_view o) (sym c.in-Some.is) ∙ c.in_ok-sides.ensures)
+    (ap (λ (o : Option Sides). option_map sides_view o) (sym c.in-Some.is) ∙ c.in_ok-sides.ensures)

@@ -1,19 +1,25 @@
-use Rattle.std.proofs.Common.{◌≡◌, Result, Ok, IfOk, IfErr, subst, sym, ap, ◌∙◌}
+use Rattle.std.proofs.Common.{◌≡◌, ℕ, List, Result, Ok, IfOk, IfErr, map, subst, sym, ap, ◌∙◌}
 use Rattle.problem_rules.specs.Problem.{Problem}
 use Rattle.text_rules.specs.Fault as rules
 use Rattle.text_rules.specs.Value.{read_text}
 use Rattle.pns_text.specs.Fault.{Tells}
-use Rattle.pns_text.specs.Reading.{meaning_read}
-use Rattle.pns_text.specs.View.{walk_view}
-use Rattle.pns_text.proofs.ReadLaw.{readings, read_is}
+use Rattle.pns_text.specs.Reading.{meaning_at}
+use Rattle.pns_text.specs.View.{placed_view}
+use Rattle.pns_text.specs.declared.seen.Placed.{Placed}
+use Rattle.pns_text.proofs.ReadLaw.{readings, read_is, walk_tells}
 use Rattle.pns_text.proofs.read.read_problem.Goals as goal
-use Rattle.pns_text.proofs.read.read_problem.Goals.{After-read_meaning}
 
-whole : (c : After-read_meaning) → read_text c.args.bytes.now ≡ meaning_read (walk_view c.in_ok-walk.walk)
-whole c = read_is c.args.bytes.now ∙ ap readings c.in_ok-walk.ensures.ok
+pub returns-in-Ok-clause-read : goal.returns-in-Ok-clause-read
+returns-in-Ok-clause-read c =
+    let whole : read_text c.args.bytes.now ≡ meaning_at (map placed_view c.deref.result.now) c.in-Ok.walk.number =
+    read_is c.args.bytes.now ∙ ap readings c.in-Ok.ensures.ok ∙ ap (λ (lines : List Placed). meaning_at (map placed_view lines) c.in-Ok.walk.number) (sym c.deref.ensures.value) in
+    subst (λ (reading : Result Problem rules.Fault). IfOk c.read_meaning.result (λ p. reading ≡ Ok p)) (sym whole) c.read_meaning.ensures.ok
 
-pub returns-clause-read : goal.returns-clause-read
-returns-clause-read c = subst (λ (reading : Result Problem rules.Fault). IfOk c.read_meaning.result (λ p. reading ≡ Ok p)) (sym (whole c)) c.read_meaning.ensures.ok
+pub returns-in-Ok-clause-fault : goal.returns-in-Ok-clause-fault
+returns-in-Ok-clause-fault c =
+    let whole : read_text c.args.bytes.now ≡ meaning_at (map placed_view c.deref.result.now) c.in-Ok.walk.number =
+    read_is c.args.bytes.now ∙ ap readings c.in-Ok.ensures.ok ∙ ap (λ (lines : List Placed). meaning_at (map placed_view lines) c.in-Ok.walk.number) (sym c.deref.ensures.value) in
+    subst (λ (reading : Result Problem rules.Fault). IfErr c.read_meaning.result (Tells reading)) (sym whole) c.read_meaning.ensures.fault
 
-pub returns-clause-fault : goal.returns-clause-fault
-returns-clause-fault c = subst (λ (reading : Result Problem rules.Fault). IfErr c.read_meaning.result (Tells reading)) (sym (whole c)) c.read_meaning.ensures.fault
+pub returns-in-Err-clause-fault : goal.returns-in-Err-clause-fault
+returns-in-Err-clause-fault c = walk_tells c.in-Err.fault c.args.bytes.now c.in-Err.ensures.fault

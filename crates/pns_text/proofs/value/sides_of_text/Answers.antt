@@ -15,4 +15,4 @@ returns-in_ok-outputs-in-Some c =
     let rights : c.in_ok-outputs-in-Some.outputs.items ≡ read c.in-Some.sides.outputs.items = c.in_ok-outputs-in-Some.ensures ∙ ap read c.deref-in-Some.ensures.value in
     (λ i. (lefts i, rights i))
     ∙ ap (λ (both : List Pair × List Pair). (map (term_from c.args.names.now) both.0, map (term_from c.args.names.now) both.1))
-      (sides_are (sides_of c.args.text.now) (sides_view c.in-Some.sides) (ap (λ (o : Option Sides). option_map sides_view o) (sym c.in-Some.is) ∙ c.in_ok-sides.ensures))
+    (sides_are (sides_of c.args.text.now) (sides_view c.in-Some.sides) (ap (λ (o : Option Sides). option_map sides_view o) (sym c.in-Some.is) ∙ c.in_ok-sides.ensures))

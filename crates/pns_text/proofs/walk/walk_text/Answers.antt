@@ -14,8 +14,8 @@ use Rattle.pns_text.proofs.walk.walk_text.Goals.{After-walk_rest}
 whole : (c : After-walk_rest) → walk (lines_of c.args.bytes.now) ≡ walk_from walk_start (lines_from c.cut_line.result.1.now)
 whole c =
     walk-typed c.args.bytes.now c.cut_line.result.0.now c.cut_line.result.1.now
-      (ap lines_from (sym c.without_mark-bytes.ensures.value) ∙ c.cut_line.ensures.cut)
-      (ap (λ (text : List ℕ). bytes_eq c.cut_line.result.0.now text) (sym c.as_slice.ensures) ∙ sym c.if-eq.ensures)
+    (ap lines_from (sym c.without_mark-bytes.ensures.value) ∙ c.cut_line.ensures.cut)
+    (ap (λ (text : List ℕ). bytes_eq c.cut_line.result.0.now text) (sym c.as_slice.ensures) ∙ sym c.if-eq.ensures)
 
 pub returns-then-eq-clause-ok : goal.returns-then-eq-clause-ok
 returns-then-eq-clause-ok c =
