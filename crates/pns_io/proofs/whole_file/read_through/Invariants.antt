@@ -1,0 +1,13 @@
+use Rattle.std.proofs.Common.{◌≡◌, ◌≤◌, List, ℕ, length, take, vec_len, IfSome, ◌+◌, ◌-◌}
+use Rattle.pns_io.proofs.whole_file.read_through.Given as goal
+
+abbrev pub invariant-loop-bytes : goal.invariant-loop-bytes
+invariant-loop-bytes g l = record {
+  front : IfSome (g.F.Shelf.held l.fn.shelf l.fn.name) (λ file. (l.bytes.items ≡ take (vec_len l.bytes) file) × (vec_len l.bytes ≤ length file));
+  within : vec_len l.bytes ≤ l.limit + 1;
+  later : (other : List ℕ) → g.F.Shelf.faults l.fn.shelf other ≤ g.F.Shelf.faults l.shelf other;
+  keeps : (other : List ℕ) → g.F.Shelf.held l.shelf other ≡ g.F.Shelf.held l.fn.shelf other;
+}
+
+abbrev pub decreases-loop-bytes : goal.decreases-loop-bytes
+decreases-loop-bytes g l = l.limit + 1 - vec_len l.bytes

@@ -1,0 +1,4 @@
+pub mod Outside
+pub mod NamedFiles
+pub mod MemoryShelf
+pub mod MemorySink

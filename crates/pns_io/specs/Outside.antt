@@ -1,0 +1,31 @@
+-- What a read gives of a file, what a sink has taken, and when a count of faults rose.
+use Rattle.std.specs.Prelude.{◌≡◌, ◌<◌, ◌≤◌, ◌+◌, ◌⊎◌, ◌↔◌, ◌++◌, ℕ, List, Option, length, take, drop, min}
+use Rattle.std.specs.Io.KnownBytes.{Appends}
+
+-- The last value of a count of 64 bits, at which it stays.
+abbrev pub last_count : ℕ
+last_count = 18446744073709551615
+
+-- one more, or the last value
+abbrev pub counted : ℕ → ℕ
+counted count = min (count + 1) last_count
+
+-- A count of faults rose in a call. Where it stands at its last value after the call it counts as risen.
+abbrev pub HasRisen : ℕ → ℕ → Type 0
+HasRisen before after = (before < after) ⊎ (after ≡ last_count)
+
+-- k bytes at the front of the buffer are those of the file from the place on, and none come exactly at the end
+pub record ReadsAt (file : List ℕ) (at : ℕ) (into : List ℕ) (k : ℕ) : Type 0 where
+  pub bytes : take k into ≡ take k (drop at file)
+  pub fits : at + k ≤ length file ⊎ (k ≡ 0)
+  pub end : 0 < length into → (k ≡ 0) ↔ (length file ≤ at)
+
+-- known bytes grow by a front of the piece
+abbrev pub AppendsFront : Option (List ℕ) → Option (List ℕ) → List ℕ → Type 0
+AppendsFront old new piece = (front : List ℕ) × (rest : List ℕ) × (piece ≡ front ++ rest) × Appends old new front
+
+-- k more bytes of the file behind those that were there, and none exactly at its end
+pub record Continues (file old new : List ℕ) (k : ℕ) : Type 0 where
+  pub bytes : new ≡ old ++ take k (drop (length old) file)
+  pub fits : length old + k ≤ length file ⊎ (k ≡ 0)
+  pub end : (k ≡ 0) ↔ (length file ≤ length old)

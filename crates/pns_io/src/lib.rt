@@ -1,0 +1,37 @@
+//! What stands outside the program: shelves, which hold files by name, and sinks, which take bytes.
+//!
+//! A [`Shelf`] is read piece by piece and a [`Sink`] takes one piece after another. Each counts its faults, and a read or
+//! a put fails only where the count rose, so a caller that meets a fault can say whose it was. [`read_all`] gives the
+//! whole of a file that is within a limit.
+//!
+//! `MemShelf` and `MemSink` are exact and fail where they are told to; `PlainShelf` and `PlainSink` never fail;
+//! `FileShelf` and `OutSink` are the files of the system and the standard output, of which nothing is told but their
+//! counts.
+#![tactic(auto)]
+
+mod file_shelf;
+mod mem_shelf;
+mod mem_sink;
+mod named_file;
+mod out_sink;
+mod plain_shelf;
+mod plain_sink;
+mod shelf;
+mod sink;
+#[cfg(test)]
+mod tests;
+mod whole_file;
+
+pub use file_shelf::FileShelf;
+pub use mem_shelf::MemShelf;
+pub use mem_sink::MemSink;
+pub use out_sink::OutSink;
+pub use plain_shelf::PlainShelf;
+pub use plain_sink::PlainSink;
+pub use shelf::Shelf;
+pub use sink::Sink;
+pub use whole_file::{ReadAllFault, read_all};
+
+/// A read of a shelf or a put into a sink that failed.
+#[derive(Clone, Copy, Debug, PartialEq, Eq)]
+pub struct Failed;

@@ -1,0 +1,55 @@
+//! The standard output.
+ghost use Rattle.std.specs.Prelude.{◌≡◌, ◌≤◌, OnOk, OnErr, None};
+ghost use Rattle.std.specs.Io.KnownBytes.{Appends};
+ghost use Rattle.pns_io.specs.Outside.{HasRisen, AppendsFront, counted};
+
+use crate::{Failed, Sink};
+use std::marker::Model;
+
+/// The standard output. What was written is not told; contracts see the count of the puts that failed, which stays at
+/// 2^64 - 1.
+#[derive(Drop)]
+pub struct OutSink<'a, R> {
+    rt: &'a R,
+    failed: u64,
+}
+
+impl<'a, R> Model for OutSink<'a, R> {
+    ghost use Rattle.std.specs.Prelude.{ℕ};
+
+    ghost Value = { ℕ };
+
+    ghost view = { λ s. s.failed };
+}
+
+impl<'a, R: Print> OutSink<'a, R> {
+    /// A sink of which no put has failed.
+    pub fn new(rt: &'a R) -> OutSink<'a, R>
+        ensures { result ≡ 0 }
+    {
+        OutSink { rt, failed: 0 }
+    }
+}
+
+impl<'a, R: Print> Sink for OutSink<'a, R> {
+    ghost written = { λ _. None };
+
+    ghost faults = { λ failed. failed };
+
+    fn put(&mut self, bytes: &[u8]) -> Result<(), Failed>
+        ensures ok { OnOk result (Appends None None bytes.now) }
+        ensures err { OnErr result (AppendsFront None None bytes.now) }
+        ensures good { OnOk result (self.new ≡ self.old) }
+        ensures bad { OnErr result (self.new ≡ counted self.old) }
+        ensures cause { OnErr result (HasRisen self.old self.new) }
+        ensures later { self.old ≤ self.new }
+    {
+        match self.rt.write_all(bytes) {
+            Ok(()) => Ok(()),
+            Err(_) => {
+                self.failed = self.failed.saturating_add(1);
+                Err(Failed)
+            }
+        }
+    }
+}
