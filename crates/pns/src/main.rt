@@ -1,0 +1,46 @@
+//! The program `pns`: its words call the studio over the files of the system and the standard output.
+#![tactic(auto)]
+
+use pns_io::{FileShelf, OutSink};
+use std::alloc::Global;
+use std::env;
+use std::io::ErrorKind;
+use std::process::ExitCode;
+use std::rt::Env;
+use studio::{Status, studio};
+
+/// The number with which the program ends where its words cannot be gathered, for another cause than want of memory.
+/// No call of the studio ends so.
+const NO_WORDS: u8 = 20;
+
+/// A word has fewer bytes.
+const WORD_LIMIT: usize = 4_294_967_295;
+
+// The words after the program's name, or the number with which the program ends.
+fn words_of<R: Env + Alloc<A = Global>>(rt: &R) -> Result<Vec<String>, u8> {
+    let args = match env::args(rt) {
+        Ok(args) => args,
+        Err(error) if error.kind() == ErrorKind::OutOfMemory => return Err(Status::Memory.code()),
+        Err(_) => return Err(NO_WORDS),
+    };
+    let mut words = Vec::new(rt.alloc());
+    for word in args.skip(1) {
+        if word.len() >= WORD_LIMIT {
+            return Err(NO_WORDS);
+        }
+        if words.push(word).is_err() {
+            return Err(Status::Memory.code());
+        }
+    }
+    Ok(words)
+}
+
+fn main(rt: HostRuntime) -> ExitCode {
+    let words = match words_of(&rt) {
+        Ok(words) => words,
+        Err(code) => return ExitCode::from(code),
+    };
+    let mut shelf = FileShelf::new(&rt);
+    let mut out = OutSink::new(&rt);
+    ExitCode::from(studio(rt.alloc(), &words, &mut shelf, &mut out).code())
+}

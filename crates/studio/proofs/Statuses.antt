@@ -1,0 +1,98 @@
+-- The statuses with which a call may end.
+use Rattle.std.proofs.Common.{◌≡◌, ◌⊎◌, ◌<◌, ◌≤◌, ◌∷◌, [], Some, None, IsSomeAnd, refl, inl, inr, List, ℕ, Option, subst, sym, ap, arith, length}
+use Rattle.problem_rules.specs.Problem.{Problem}
+use Rattle.pgraph.specs.declared.verdict.Verdict.{Verdict}
+use Rattle.pgraph.specs.declared.verdict.Verdict.TheVariants.{Meets, Breaks}
+use Rattle.pns_io.specs.Outside.{HasRisen}
+use Rattle.studio.specs.Command.{Command, Max, Axioms, command_of, IsFileOf, IsFileWord}
+use Rattle.studio.specs.Reading.{AreHeld, FileFault, OnFile, file_limit}
+use Rattle.studio.specs.Max.{MaxWork}
+use Rattle.studio.specs.Axioms.{AxiomsWork, NamesSay, VerdictSays, first_stranger}
+use Rattle.studio.specs.Ending.{Shelves, Ends, Tells, Says, IsOneOf}
+use Rattle.studio.specs.Answers.{AnswersTo, CommandAnswers, WordsSay, IsUndisturbed, statuses_of}
+use Rattle.studio.specs.declared.status.Status.{Status}
+use Rattle.studio.specs.declared.status.Status.TheVariants.{Done, Refused, Usage, BadProblem, ReadFault, WriteFault, Memory, TooLong}
+
+-- a file that gives no problem, where it is held within the limit or not
+fault_status : (name file : List ℕ) (s : Status) (lines : List (List ℕ)) → FileFault name file s lines → (s ≡ BadProblem) ⊎ ((s ≡ TooLong) × (file_limit < length file))
+fault_status name file TooLong lines h = inr (refl, h.0)
+fault_status name file BadProblem lines h = inl refl
+fault_status name file s lines h = absurd h
+
+max_status : (p : Problem) (s : Status) (lines : List (List ℕ)) → MaxWork p s lines → s ≡ Done
+max_status p Done lines h = refl
+max_status p s lines h = absurd h
+
+verdict_status : (p : Problem) (v : Verdict) (s : Status) (lines : List (List ℕ)) → VerdictSays p v s lines → (s ≡ Done) ⊎ (s ≡ Refused)
+verdict_status p Meets s lines h = inl h.0
+verdict_status p (Breaks broken at) s lines h = inr h.0
+
+names_status : (names : List (List ℕ)) (p : Problem) (o : Option (List ℕ)) (s : Status) (lines : List (List ℕ)) → NamesSay names p o s lines → (s ≡ Done) ⊎ (s ≡ Refused)
+names_status names p (Some stranger) s lines h = inr h.0
+names_status names p None s lines h = verdict_status p h.0 s lines h.2
+
+-- the statuses of a command, where its file is within the limit
+within_limit : (held : Option (List ℕ)) (file : List ℕ) → IsSomeAnd held (λ told. length told ≤ file_limit) → AreHeld held file → file_limit < length file → ⊥
+within_limit None file h is long = absurd h
+within_limit (Some told) file h is long = let same = ap length is in absurd (omega arith)
+
+command_status : (held : List ℕ → Option (List ℕ)) (command : Command) (s : Status) (lines : List (List ℕ)) → CommandAnswers held command s lines → ((name : List ℕ) → IsFileOf command name → IsSomeAnd (held name) (λ told. length told ≤ file_limit)) → IsOneOf (statuses_of command) s
+command_status held (Max name) s lines (file, is, inl fault) short = elim (fault_status name file s lines fault) [
+  | inl q ↦ inr (inl q)
+  | inr q ↦ absurd (within_limit (held name) file (short name refl) is q.1)
+]
+command_status held (Max name) s lines (file, is, inr work) short = inl (max_status work.0 s lines work.2)
+command_status held (Axioms name units) s lines (file, is, inl fault) short = elim (fault_status name file s lines fault) [
+  | inl q ↦ inr (inr (inl q))
+  | inr q ↦ absurd (within_limit (held name) file (short name refl) is q.1)
+]
+command_status held (Axioms name units) s lines (file, is, inr work) short = elim (names_status units work.0 (first_stranger work.0 units) s lines work.2) [
+  | inl q ↦ inl q
+  | inr q ↦ inr (inl q)
+]
+
+-- some status of a command, whatever its file holds
+answer_status : (held : List ℕ → Option (List ℕ)) (command : Command) (lines : List (List ℕ)) → CommandAnswers held command Usage lines → ⊥
+answer_status held (Max name) lines (file, is, inl fault) = absurd fault
+answer_status held (Max name) lines (file, is, inr work) = absurd work.2
+answer_status held (Axioms name units) lines (file, is, inl fault) = absurd fault
+answer_status held (Axioms name units) lines (file, is, inr work) = elim (names_status units work.0 (first_stranger work.0 units) Usage lines work.2) [ inl q ↦ cc | inr q ↦ cc ]
+
+usage_answers : (held : List ℕ → Option (List ℕ)) (found : Option Command) (lines : List (List ℕ)) → AnswersTo held found Usage lines → found ≡ None
+usage_answers held None lines h = refl
+usage_answers held (Some command) lines h = absurd (answer_status held command lines h)
+
+memory_status : (command : Command) → IsOneOf (statuses_of command) Memory
+memory_status (Max file) = inr (inr (inl refl))
+memory_status (Axioms file units) = inr (inr (inr (inl refl)))
+
+module _ (shelves : Shelves) (words : List (List ℕ)) (risen : Type 0) (old new : Option (List ℕ)) where
+  pub usage_ends : (s : Status) → Ends (WordsSay shelves words) risen old new s → s ≡ Usage → command_of words ≡ None
+  usage_ends s e is =
+      let said = subst (λ (t : Status). Ends (WordsSay shelves words) risen old new t) is e in
+      usage_answers shelves.held (command_of words) said.1.0 said.1.1
+
+  pub read_fault_ends : (s : Status) → Ends (WordsSay shelves words) risen old new s → s ≡ ReadFault → (name : List ℕ) × IsFileWord words name × HasRisen (shelves.before name) (shelves.after name)
+  read_fault_ends s e is =
+      let said = subst (λ (t : Status). Ends (WordsSay shelves words) risen old new t) is e in
+      (said.1.0, said.1.1, said.1.2)
+
+  pub write_fault_ends : (s : Status) → Ends (WordsSay shelves words) risen old new s → s ≡ WriteFault → risen
+  write_fault_ends s e is = (subst (λ (t : Status). Ends (WordsSay shelves words) risen old new t) is e).0
+
+  -- words without a form are told so, unless the sink or memory fails
+  pub no_form_ends : (s : Status) → Ends (WordsSay shelves words) risen old new s → command_of words ≡ None → IsOneOf (Usage ∷ WriteFault ∷ Memory ∷ []) s
+  no_form_ends WriteFault e none = inr (inl refl)
+  no_form_ends Memory e none = inr (inr (inl refl))
+  no_form_ends ReadFault e none = absurd (subst (λ (f : Option Command). IsSomeAnd f (λ command. IsFileOf command e.1.0)) none e.1.1)
+  no_form_ends s e none =
+      let told = subst (λ (f : Option Command). AnswersTo shelves.held f s e.1.0) none e.1.1 in inl told.0
+
+  -- nothing but want of memory stops a command that nothing disturbs
+  pub complete_ends : (s : Status) → Ends (WordsSay shelves words) risen old new s → (command : Command) → command_of words ≡ Some command → IsUndisturbed shelves command risen → IsOneOf (statuses_of command) s
+  complete_ends WriteFault e command is calm = absurd (calm.written e.0)
+  complete_ends Memory e command is calm = memory_status command
+  complete_ends ReadFault e command is calm =
+      absurd (calm.read e.1.0 (subst (λ (f : Option Command). IsSomeAnd f (λ command. IsFileOf command e.1.0)) is e.1.1) e.1.2)
+  complete_ends s e command is calm =
+      let told = subst (λ (f : Option Command). AnswersTo shelves.held f s e.1.0) is e.1.1 in command_status shelves.held command s e.1.0 told calm.held

@@ -1,0 +1,41 @@
+-- What each command says, from its words and what the shelf holds.
+use Rattle.std.specs.Prelude.{◌≡◌, ◌≤◌, ℕ, List, [], ◌∷◌, Option, Some, None, IsSomeAnd, length, codes}
+use Rattle.pns_io.specs.Outside.{HasRisen}
+use Rattle.studio.specs.Command.{Command, Max, Axioms, command_of, IsFileOf, IsFileWord}
+use Rattle.studio.specs.Reading.{OnFile, file_limit}
+use Rattle.studio.specs.Max.{MaxWork}
+use Rattle.studio.specs.Axioms.{AxiomsWork}
+use Rattle.studio.specs.Ending.{Shelves, Says}
+use Rattle.studio.specs.declared.status.Status.{Status}
+use Rattle.studio.specs.declared.status.Status.TheVariants.{Done, Refused, Usage, BadProblem, Memory}
+
+-- the statuses and lines of a command, while neither shelf, sink nor memory fails
+abbrev pub CommandAnswers : (List ℕ → Option (List ℕ)) → Command → Status → List (List ℕ) → Type 0
+CommandAnswers held (Max file) status lines = OnFile MaxWork held file status lines
+CommandAnswers held (Axioms file units) status lines = OnFile (AxiomsWork units) held file status lines
+
+-- words without a form are told so
+abbrev pub AnswersTo : (List ℕ → Option (List ℕ)) → Option Command → Status → List (List ℕ) → Type 0
+AnswersTo held None status lines = (status ≡ Usage) × (lines ≡ codes "usage" ∷ [])
+AnswersTo held (Some command) status lines = CommandAnswers held command status lines
+
+abbrev pub Answers : (List ℕ → Option (List ℕ)) → List (List ℕ) → Status → List (List ℕ) → Type 0
+Answers held words = AnswersTo held (command_of words)
+
+-- what a command, and what the words, may have out with a status
+abbrev pub CommandSays : Shelves → Command → Status → List ℕ → Type 0
+CommandSays shelves command = Says (CommandAnswers shelves.held command) (IsFileOf command) shelves
+
+abbrev pub WordsSay : Shelves → List (List ℕ) → Status → List ℕ → Type 0
+WordsSay shelves words = Says (Answers shelves.held words) (IsFileWord words) shelves
+
+-- the files of the command are held within the limit, and neither their counts of faults nor that of the sink rise
+pub record IsUndisturbed (shelves : Shelves) (command : Command) (risen : Type 0) : Type 0 where
+  pub held : (name : List ℕ) → IsFileOf command name → IsSomeAnd (shelves.held name) (λ file. length file ≤ file_limit)
+  pub read : (name : List ℕ) → IsFileOf command name → HasRisen (shelves.before name) (shelves.after name) → ⊥
+  pub written : risen → ⊥
+
+-- the statuses with which an undisturbed command may end
+abbrev pub statuses_of : Command → List Status
+statuses_of (Max file) = Done ∷ BadProblem ∷ Memory ∷ []
+statuses_of (Axioms file units) = Done ∷ Refused ∷ BadProblem ∷ Memory ∷ []

@@ -1,0 +1,10 @@
+pub mod Lines
+pub mod Command
+pub mod Reading
+pub mod Ending
+pub mod Max
+pub mod Axioms
+pub mod Answers
+pub mod Code
+pub mod View
+pub mod Gathering

@@ -1,0 +1,70 @@
+//! The call: it judges the words and does their command.
+ghost use Rattle.std.specs.Prelude.{◌≡◌, ◌∷◌, [], List, ℕ, Some, None, map, string_bytes};
+ghost use Rattle.pns_io.specs.Outside.{HasRisen};
+ghost use Rattle.studio.specs.Command as rules;
+ghost use Rattle.studio.specs.Command.{command_of, IsFileWord};
+ghost use Rattle.studio.specs.Ending.{Ends, IsOneOf};
+ghost use Rattle.studio.specs.Answers.{CommandSays, WordsSay, IsUndisturbed, statuses_of};
+ghost use Rattle.studio.specs.View.{command_view};
+
+use crate::axioms::axioms;
+use crate::command::{Command, command_of};
+use crate::max::max;
+use crate::say::{say, say_memory};
+use crate::status::Status;
+use pns_io::{Shelf, Sink};
+use std::alloc::Global;
+
+fn perform<F: Shelf, K: Sink>(
+    alloc: Global,
+    command: Command<'_>,
+    shelf: &mut F,
+    out: &mut K,
+) -> Status
+    ensures { Ends (CommandSays (record { held = F.held shelf.old; before = F.faults shelf.old; after = F.faults shelf.new }) (command_view command.entry))
+        (HasRisen (K.faults out.old) (K.faults out.new)) (K.written out.old) (K.written out.new) result }
+{
+    match command {
+        Command::Max(file) => max(alloc, file, shelf, out),
+        Command::Axioms(file, units) => axioms(alloc, file, &units, shelf, out),
+    }
+}
+
+fn run<F: Shelf, K: Sink>(alloc: Global, words: &[String], shelf: &mut F, out: &mut K) -> Status
+    ensures { Ends (WordsSay (record { held = F.held shelf.old; before = F.faults shelf.old; after = F.faults shelf.new }) (map string_bytes words.now))
+        (HasRisen (K.faults out.old) (K.faults out.new)) (K.written out.old) (K.written out.new) result }
+{
+    let Ok(found) = command_of(alloc, words) else {
+        return say_memory(out);
+    };
+    match found {
+        Some(command) => perform(alloc, command, shelf, out),
+        None => say(out, b"usage\n", Status::Usage),
+    }
+}
+
+/// Does what the words say over the shelf's files, and puts the text into the sink line by line.
+///
+/// The clause `ends` says the whole: which text is out with which status. The others are parts of it in words of their
+/// own.
+pub fn studio<F: Shelf, K: Sink>(
+    alloc: Global,
+    words: &[String],
+    shelf: &mut F,
+    out: &mut K,
+) -> Status
+    ensures ends { Ends (WordsSay (record { held = F.held shelf.old; before = F.faults shelf.old; after = F.faults shelf.new }) (map string_bytes words.now))
+        (HasRisen (K.faults out.old) (K.faults out.new)) (K.written out.old) (K.written out.new) result }
+    // Usage comes exactly where the words have no form, and yields to the faults of the sink and of memory.
+    ensures usage { result ≡ Status.Usage → command_of (map string_bytes words.now) ≡ None }
+    ensures no_form { command_of (map string_bytes words.now) ≡ None → IsOneOf (Status.Usage ∷ Status.WriteFault ∷ Status.Memory ∷ []) result }
+    // A fault of reading or writing has its count: that of a file of the words, or that of the sink.
+    ensures read_fault { result ≡ Status.ReadFault → (name : List ℕ) × IsFileWord (map string_bytes words.now) name × HasRisen (F.faults shelf.old name) (F.faults shelf.new name) }
+    ensures write_fault { result ≡ Status.WriteFault → HasRisen (K.faults out.old) (K.faults out.new) }
+    // Where the command's files are held within the limit and no count rises, nothing but want of memory stops it.
+    ensures complete { (command : rules.Command) → command_of (map string_bytes words.now) ≡ Some command
+        → IsUndisturbed (record { held = F.held shelf.old; before = F.faults shelf.old; after = F.faults shelf.new }) command (HasRisen (K.faults out.old) (K.faults out.new))
+        → IsOneOf (statuses_of command) result }
+{
+    run(alloc, words, shelf, out)
+}
