@@ -16,6 +16,8 @@ mod max;
 mod problem_file;
 mod say;
 mod status;
+#[cfg(test)]
+mod tests;
 mod unit_names;
 
 pub use call::studio;

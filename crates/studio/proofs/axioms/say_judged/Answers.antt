@@ -16,8 +16,8 @@ returns-in-Some g c =
     let told : List ℕ = breaks_line S3 c.in-Some.name.now in
     Ends-map _ Q _ _ _ _ _
     (only_or_memory_in Q Refused (line told)
-      (told ∷ [], subst (λ (o : Option (List ℕ)). NamesSay names p o Refused (told ∷ [])) c.in-Some.ensures (refl, refl), one_line told)
-      ([], inl refl, refl))
+    (told ∷ [], subst (λ (o : Option (List ℕ)). NamesSay names p o Refused (told ∷ [])) c.in-Some.ensures (refl, refl), one_line told)
+    ([], inl refl, refl))
     (λ r. r) c.say_breaks.ensures
 
 pub returns-in-None : goal.returns-in-None

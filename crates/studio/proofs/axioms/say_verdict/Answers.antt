@@ -23,8 +23,10 @@ returns-in-Breaks g c =
     let Q : Status → List ℕ → Type 0 = Tells (VerdictSays p c.args.verdict) in
     let told : List ℕ = breaks_line c.in-Breaks.axiom (place_name p c.in-Breaks.axiom c.in-Breaks.at) in
     Ends-map _ Q _ _ _ _ _
-    (only_or_memory_in Q Refused (line (breaks_line c.in-Breaks.axiom c.place_name.result.now))
-      (told ∷ [], subst (λ (v : Verdict). VerdictSays p v Refused (told ∷ [])) (sym c.in-Breaks.is) (refl, refl),
-        ap (λ (name : List ℕ). line (breaks_line c.in-Breaks.axiom name)) c.place_name.ensures ∙ one_line told)
-      ([], inl refl, refl))
+    (only_or_memory_in Q Refused (line (breaks_line c.in-Breaks.axiom c.place_name.result.now)) (
+      told ∷ [],
+      subst (λ (v : Verdict). VerdictSays p v Refused (told ∷ [])) (sym c.in-Breaks.is) (refl, refl),
+      ap (λ (name : List ℕ). line (breaks_line c.in-Breaks.axiom name)) c.place_name.ensures ∙ one_line told,
+    )
+    ([], inl refl, refl))
     (λ r. r) c.say_breaks.ensures

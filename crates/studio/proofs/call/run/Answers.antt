@@ -25,8 +25,8 @@ returns-in-Some g c =
     let found : Some command ≡ command_of words = ap (option_map command_view) (sym c.in-Some.is) ∙ c.in-Ok.ensures in
     Ends-map (CommandSays shelves command) Q _ _ _ _ _
     (Says-map (CommandAnswers shelves.held command) (Answers shelves.held words) (IsFileOf command) (IsFileWord words) shelves
-      (λ s lines h. subst (λ (f : Option Command). AnswersTo shelves.held f s lines) found h)
-      (λ name h. subst (λ (f : Option Command). IsSomeAnd f (λ command. IsFileOf command name)) found h))
+    (λ s lines h. subst (λ (f : Option Command). AnswersTo shelves.held f s lines) found h)
+    (λ name h. subst (λ (f : Option Command). IsSomeAnd f (λ command. IsFileOf command name)) found h))
     (λ r. r) c.perform.ensures
 
 pub returns-in-None : goal.returns-in-None

@@ -25,5 +25,5 @@ returns g c =
     let first : c.deref.result.now ≡ line (units_line p (has c.args.set)) = c.deref.ensures.value ∙ c.in-Ok.ensures in
     let there : has c.materials.result ≡ mats (shape_of p) (has c.args.set) = c.materials.ensures ∙ ap (λ (h : Shape). mats h (has c.args.set)) c.requires.graph in
     let second : c.deref-2.result.now ≡ line (materials_line p (mats (shape_of p) (has c.args.set))) =
-        c.deref-2.ensures.value ∙ c.in-Ok-materials_line.ensures ∙ ap (λ (m : ℕ → Bool). line (materials_line p m)) there in
+    c.deref-2.ensures.value ∙ c.in-Ok-materials_line.ensures ∙ ap (λ (m : ℕ → Bool). line (materials_line p m)) there in
     Ends-map (Only Done (c.deref.result.now ++ c.deref-2.result.now)) Q _ _ _ _ _ (λ s t q. inl (q.0, q.1 ∙ (λ i. first i ++ second i))) (λ r. r) c.say_both.ensures

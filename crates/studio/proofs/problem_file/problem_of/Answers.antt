@@ -16,7 +16,7 @@ returns-in-Err-ReadFault-clause-told g c =
     let Q : Status → List ℕ → Type 0 = Says (FileFaults held name) (λ other. other ≡ name) shelves in
     Ends-map _ Q _ _ _ _ _
     (only_or_memory_in Q ReadFault (line (codes "read fault " ++ name))
-      (name, refl, (rw c.in-Err-ReadFault.field-0-is at c.in-Err-ReadFault.ensures.fault) refl, refl) ([], inl refl, refl))
+    (name, refl, (rw c.in-Err-ReadFault.field-0-is at c.in-Err-ReadFault.ensures.fault) refl, refl) ([], inl refl, refl))
     (λ r. r) c.say_of.ensures
 
 pub returns-in-Err-TooLong-clause-told : goal.returns-in-Err-TooLong-clause-told
@@ -28,7 +28,7 @@ returns-in-Err-TooLong-clause-told g c =
     let long = long_file (held name) 4194304 ((rw c.in-Err-TooLong.field-0-is at c.in-Err-TooLong.ensures.too_long) refl) in
     Ends-map _ Q _ _ _ _ _
     (only_or_memory_in Q TooLong (line (codes "too long " ++ name))
-      ((codes "too long " ++ name) ∷ [], (long.0, long.1, (long.2, refl)), one_line (codes "too long " ++ name)) ([], inl refl, refl))
+    ((codes "too long " ++ name) ∷ [], (long.0, long.1, (long.2, refl)), one_line (codes "too long " ++ name)) ([], inl refl, refl))
     (λ r. r) c.say_of-in-Err-TooLong.ensures
 
 pub returns-in-Err-At-clause-told : goal.returns-in-Err-At-clause-told
@@ -38,13 +38,14 @@ returns-in-Err-At-clause-told g c =
     let name = c.args.name.now in
     let Q : Status → List ℕ → Type 0 = Says (FileFaults held name) (λ other. other ≡ name) shelves in
     let told : read_text c.in-Ok.bytes.items ≡ Err (c.in-Err-At.line, c.in-Err-At.kind) =
-        ap read_text (sym c.deref.ensures.value) ∙ (rw c.in-Err-At.field-0-is at c.in-Err-At.ensures.fault) in
+    ap read_text (sym c.deref.ensures.value) ∙ (rw c.in-Err-At.field-0-is at c.in-Err-At.ensures.fault) in
     let short : c.in-Ok.bytes.len ≤ 4194304 = c.in-Ok.ensures.within in
     Ends-map _ Q _ _ _ _ _
-    (only_or_memory_in Q BadProblem (line (fault_line c.in-Err-At.line c.in-Err-At.kind))
-      (fault_line c.in-Err-At.line c.in-Err-At.kind ∷ [],
-        (c.in-Ok.bytes.items, c.in-Ok.ensures.whole, (omega (arith, c.in-Ok.bytes.ok.0), (c.in-Err-At.line, c.in-Err-At.kind, told, refl))),
-        one_line (fault_line c.in-Err-At.line c.in-Err-At.kind)) ([], inl refl, refl))
+    (only_or_memory_in Q BadProblem (line (fault_line c.in-Err-At.line c.in-Err-At.kind)) (
+      fault_line c.in-Err-At.line c.in-Err-At.kind ∷ [],
+      (c.in-Ok.bytes.items, c.in-Ok.ensures.whole, (omega (arith, c.in-Ok.bytes.ok.0), (c.in-Err-At.line, c.in-Err-At.kind, told, refl))),
+      one_line (fault_line c.in-Err-At.line c.in-Err-At.kind),
+    ) ([], inl refl, refl))
     (λ r. r) c.say_fault.ensures
 
 pub returns-clause-told : goal.returns-clause-told

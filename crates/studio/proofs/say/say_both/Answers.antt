@@ -11,8 +11,7 @@ returns-in-Ok g c =
 
 pub returns-in-Err : goal.returns-in-Err
 returns-in-Err g c =
-    let w = c.in-Err.ensures.err in
-    (
+    let w = c.in-Err.ensures.err in (
       c.in-Err.ensures.cause,
       c.args.status,
       c.args.first.now ++ c.args.second.now,
