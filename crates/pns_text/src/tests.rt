@@ -145,17 +145,29 @@ fn reads_a_text(rt: HostRuntime) -> Result<(), Fail> {
         return Ok(());
     };
     assert_eq!(rt; problem.payout(), 10);
-    assert_eq!(rt; problem.materials().len(), 3);
-    assert_eq!(rt; problem.units().len(), 2);
-    assert_eq!(rt; problem.exclusions().len(), 1);
-    assert_eq!(rt; problem.materials()[0].price, 2_500_000);
-    assert_eq!(rt; problem.materials()[1].price, 3_000_000);
-    assert!(rt; problem.materials()[2].kind == Kind::Product);
-    assert_eq!(rt; problem.units()[0].name.as_str(), "U1");
-    assert_eq!(rt; problem.units()[0].fix, 10_000_000);
-    assert_eq!(rt; problem.units()[1].inputs.len(), 2);
-    assert_eq!(rt; problem.units()[1].inputs[1].rate, 10_000_000);
-    assert_eq!(rt; problem.exclusions()[0].units.as_slice(), [0, 1].as_slice());
+    let [a, b, p] = problem.materials() else {
+        assert!(rt; false);
+        return Ok(());
+    };
+    assert_eq!(rt; a.price, 2_500_000);
+    assert_eq!(rt; b.price, 3_000_000);
+    assert!(rt; p.kind == Kind::Product);
+    let [first, second] = problem.units() else {
+        assert!(rt; false);
+        return Ok(());
+    };
+    assert_eq!(rt; first.name.as_str(), "U1");
+    assert_eq!(rt; first.fix, 10_000_000);
+    let [_, term] = second.inputs.as_slice() else {
+        assert!(rt; false);
+        return Ok(());
+    };
+    assert_eq!(rt; term.rate, 10_000_000);
+    let [exclusion] = problem.exclusions() else {
+        assert!(rt; false);
+        return Ok(());
+    };
+    assert_eq!(rt; exclusion.units.as_slice(), [0, 1].as_slice());
     Ok(())
 }
 

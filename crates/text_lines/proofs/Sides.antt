@@ -1,12 +1,12 @@
 -- Terms and sides that are read one by one.
-use Rattle.std.proofs.Common.{◌≡◌, ◌==◌, ◌<◌, ◌≤◌, ◌+◌, ◌||◌, ◌++◌, ℕ, Bool, true, false, cond, not, List, [], ◌∷◌, Option, Some, None, length, map, flat_map, option_map, if◌then◌else◌, refl, ap, sym, ◌∙◌, arith, append_assoc, append-nil, suc, take, drop}
+use Rattle.std.proofs.Common.{◌≡◌, ◌==◌, ◌<◌, ◌≤◌, ◌+◌, ◌||◌, ◌++◌, ℕ, Bool, true, false, not, List, [], ◌∷◌, Option, Some, None, length, map, flat_map, option_map, if◌then◌else◌, refl, ap, sym, ◌∙◌, arith, append_assoc, append-nil, take, drop}
 use Rattle.std.specs.List.{list_any, slice_split, position_or_len}
 use Rattle.std.proofs.lemmas.Bool.{ne_eqb}
 use Rattle.std.proofs.lemmas.List.{length-map}
 use Rattle.std.proofs.lemmas.List.Folds.{list_any-append}
 use Rattle.std.proofs.lemmas.List.Splits.{length-slice_split}
 use Rattle.text_lines.proofs.Cutting.{split-at, split-none}
-use Rattle.text_lines.specs.Terms.{Pair, is_bad_term, pair_of, begins, terms_read, both_read, only_two, sides_read, has_bad_sides, is_plus, is_arrow}
+use Rattle.text_lines.specs.Terms.{Pair, is_bad_term, pair_of, begins, terms_read, both_read, only_two, sides_read, is_plus, is_arrow}
 use Rattle.text_rules.specs.Field.{terms_of}
 
 more_good : (b c : Bool) (pair : Pair) (pairs : List Pair) (t : Pair) → (if b then None else Some t) ≡ Some pair → (if b || c then None else Some (t ∷ pairs)) ≡ option_map (λ more. pair ∷ more) (if c then None else Some pairs)

@@ -1,8 +1,8 @@
-use Rattle.std.proofs.Common.{◌≡◌, ◌∷◌, ◌+◌, ◌-◌, ◌<◌, ◌≤◌, ◌++◌, [], Some, None, ℕ, List, ap, sym, ◌∙◌, arith, take, drop, length}
-use Rattle.std.specs.List.{slice_split, position_or_len}
+use Rattle.std.proofs.Common.{◌≡◌, ◌+◌, ◌-◌, ◌<◌, ◌≤◌, Some, ℕ, List, ap, sym, ◌∙◌, arith, take, drop, length}
+use Rattle.std.specs.List.{position_or_len}
 use Rattle.std.specs.Borrow.{Bor}
 use Rattle.text_lines.specs.View.{texts}
-use Rattle.text_lines.specs.Terms.{is_arrow, only_two}
+use Rattle.text_lines.specs.Terms.{is_arrow}
 use Rattle.text_lines.proofs.Borrowed.{texts-behind, texts-front, texts-long}
 use Rattle.text_lines.proofs.Sides.{none_parted, twice_parted, once_parted}
 use Rattle.text_lines.proofs.term.cut_sides.Goals as goal
