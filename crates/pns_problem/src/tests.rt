@@ -284,7 +284,9 @@ fn the_first_fault_is_told(rt: HostRuntime) -> Result<(), Fail> {
             let (first_place, first) = ORDER[i];
             let (place, fault) = ORDER[j];
             let mut parts = with_exclusions(alloc)?;
-            spoil(alloc, &mut parts, place, fault)?;
+            if i < j {
+                spoil(alloc, &mut parts, place, fault)?;
+            }
             spoil(alloc, &mut parts, first_place, first)?;
             assert_eq!(rt; fault_of(alloc, parts), Some(first), "{i} {j}");
         }
