@@ -1,5 +1,5 @@
 -- The kinds of form at a line, by what was seen before it, are those of the grammar.
-use Rattle.std.proofs.Common.{◌≡◌, ◌&&◌, ◌||◌, Bool, true, false, cond, not, nat_le, ℕ, List, [], ◌∷◌, ◌++◌, length, map, filter, find, Option, Some, None, is_none, if◌then◌else◌, refl, sym, ◌∙◌, ap}
+use Rattle.std.proofs.Common.{◌≡◌, ◌&&◌, ◌||◌, Bool, true, false, not, nat_le, ℕ, List, [], ◌∷◌, length, filter, find, Some, None, is_none, if◌then◌else◌, refl, sym, ◌∙◌, ap}
 use Rattle.std.specs.List.{list_any}
 use Rattle.std.specs.Str.{bytes_eq}
 use Rattle.std.proofs.lemmas.List.{length-map}
@@ -9,7 +9,7 @@ use Rattle.text_rules.specs.declared.TextKind.TheVariants.{UnknownSection, Doubl
 use Rattle.text_rules.specs.declared.Section.{Section}
 use Rattle.text_rules.specs.declared.Section.TheVariants.{Preamble, MeasurementUnits, Defaults, Materials, OperatingUnits, Rates, Exclusions}
 use Rattle.text_rules.specs.Line.{Placed, section_named, head_of}
-use Rattle.text_rules.specs.Field.{Line, taken_apart, lines_in, names_in, has_key, key_of, value_of, keyed, is_keyed, items_of, material_keys, unit_keys, default_keys, material_type}
+use Rattle.text_rules.specs.Field.{Line, taken_apart, lines_in, has_key, key_of, value_of, keyed, is_keyed, items_of, material_keys, unit_keys, default_keys, material_type}
 use Rattle.text_rules.specs.Fault.{stands, form_kinds}
 use Rattle.pns_text.specs.MaterialLine.{material_stands, material_kinds, material_fault}
 use Rattle.pns_text.specs.UnitLine.{unit_stands, unit_kinds, unit_fault, is_beyond}
@@ -17,7 +17,7 @@ use Rattle.pns_text.specs.ExclusionLine.{exclusion_stands, exclusion_kinds, excl
 use Rattle.pns_text.specs.DefaultLine.{default_stands, default_kinds, default_fault}
 use Rattle.pns_text.specs.Seen.{Seen, header_fault, skipped_fault}
 use Rattle.pns_text.proofs.Finding.{any_filter, any_number, map_twice, no_more, or_none, find_same}
-use Rattle.pns_text.proofs.NamesBefore.{SameNames, IsSeen, has_header, units_before}
+use Rattle.pns_text.proofs.NamesBefore.{IsSeen, has_header, units_before}
 
 abbrev pub placed : Bool → Section → ℕ → List ℕ → Placed
 placed header section number text = record { number = number; section = section; header = header; text = text }

@@ -1,11 +1,9 @@
 -- The lines that matter have all that the meaning of a text depends on.
-use Rattle.std.proofs.Common.{◌≡◌, ◌==◌, ◌&&◌, ◌||◌, ◌++◌, Bool, true, false, cond, not, ℕ, List, [], ◌∷◌, length, map, filter, find, Option, Some, None, if◌then◌else◌, refl, sym, ◌∙◌, ap}
-use Rattle.std.specs.List.{list_any}
-use Rattle.std.specs.Str.{bytes_eq}
+use Rattle.std.proofs.Common.{◌≡◌, ◌&&◌, Bool, true, false, not, ℕ, List, [], ◌∷◌, map, filter, if◌then◌else◌, refl, sym, ◌∙◌, ap}
 use Rattle.text_rules.specs.declared.Section.{Section}
 use Rattle.text_rules.specs.declared.Section.TheVariants.{Preamble, MeasurementUnits, Defaults, Materials, OperatingUnits, Rates, Exclusions}
-use Rattle.text_rules.specs.Line.{Placed, is_section, head_of}
-use Rattle.text_rules.specs.Field.{Line, taken_apart, is_in, lines_in, names_in}
+use Rattle.text_rules.specs.Line.{Placed, is_section}
+use Rattle.text_rules.specs.Field.{Line, taken_apart, lines_in, names_in}
 use Rattle.pns_text.specs.Kept.{is_at, lines_at, heads_at, lines_apart}
 use Rattle.pns_text.specs.Walk.{is_meant, matters}
 use Rattle.pns_text.proofs.Finding.{map_twice}

@@ -1,28 +1,27 @@
 -- The problem of the lines that matter, and their first fault of meaning, are those of the grammar.
-use Rattle.std.proofs.Common.{◌≡◌, ◌==◌, ◌&&◌, ◌||◌, ◌++◌, ◌+◌, ◌/◌, Bool, true, false, cond, not, ℕ, List, [], ◌∷◌, length, map, filter, flat_map, find, position, unwrap_or, option_map, codes, Option, Some, None, Result, Ok, Err, ℤ, pos, int_lt, unsigned_abs, slice_index_or, if◌then◌else◌, refl, sym, ◌∙◌, ap}
-use Rattle.std.specs.List.{list_any}
+use Rattle.std.proofs.Common.{◌≡◌, ◌&&◌, ◌||◌, ◌++◌, ◌/◌, Bool, true, false, cond, not, ℕ, List, [], ◌∷◌, map, filter, find, unwrap_or, option_map, codes, Option, Some, None, pos, int_lt, unsigned_abs, slice_index_or, if◌then◌else◌, refl, sym, ◌∙◌, ap}
 use Rattle.std.specs.Str.{bytes_eq}
 use Rattle.std.proofs.lemmas.List.Folds.{list_any-append}
 use Rattle.std.proofs.lemmas.Slice.Eq.{bytes_eq-Decides}
 use Rattle.problem_rules.specs.Names.{is_among}
-use Rattle.problem_rules.specs.Problem.{Kind, intermediate, Material, Term, OperatingUnit, Exclusion, Problem, is_product}
+use Rattle.problem_rules.specs.Problem.{intermediate, Material, Term, OperatingUnit}
 use Rattle.text_rules.specs.declared.TextKind.{TextKind}
-use Rattle.text_rules.specs.declared.TextKind.TheVariants.{LowAboveHigh, UnknownMaterial, NoRates, UnknownUnit, NoProduct}
+use Rattle.text_rules.specs.declared.TextKind.TheVariants.{LowAboveHigh, UnknownMaterial, NoRates, UnknownUnit}
 use Rattle.text_rules.specs.declared.Section.{Section}
 use Rattle.text_rules.specs.declared.Section.TheVariants.{Preamble, MeasurementUnits, Defaults, Materials, OperatingUnits, Rates, Exclusions}
 use Rattle.text_rules.specs.Line.{Placed, head_of}
-use Rattle.text_rules.specs.Field.{Line, taken_apart, is_in, lines_in, names_in, key_of, value_of, fields_of, items_of, sides_of, material_of, rate_of, terms_in, left, right, material_type, payout_period, for_material, for_unit}
+use Rattle.text_rules.specs.Field.{Line, taken_apart, lines_in, names_in, key_of, value_of, fields_of, items_of, sides_of, left, right, material_type, payout_period, for_material, for_unit}
 use Rattle.text_rules.specs.Fault.{Fault, first_of, millionths}
-use Rattle.text_rules.specs.Value.{value_at, default_at, setting, material_number, unit_number, kind_of, material_read, term_read, side_of, unit_read, bare_rates, unit_names, numbers_among, exclusion_read, payout_of, problem_of, stands_in, meaning_kinds, meaning_fault}
-use Rattle.text_lines.specs.Terms.{Pair, pair_of}
-use Rattle.pns_text.specs.Kept.{is_at, lines_at, heads_at, lines_apart, item_fields, fields_at}
-use Rattle.pns_text.specs.Settings.{Settings, default_fields, number_or, kind_or, number_at, default_number, settings_of, payout_from, material_from, unit_from}
-use Rattle.pns_text.specs.Meaning.{Names, is_material_turned, is_unit_turned, has_unknown, is_unit, entry_meaning, line_meaning, fault_or, first_meaning}
-use Rattle.pns_text.specs.Value.{materials_from, term_from, sides_from, sides_or, sides_named, listed_unit, bare_unit, bare_lines, units_from, unit_names_from, exclusion_from, exclusions_from, problem_from}
+use Rattle.text_rules.specs.Value.{value_at, kind_of, material_read, term_read, side_of, unit_read, bare_rates, unit_names, exclusion_read, payout_of, problem_of, stands_in, meaning_kinds}
+use Rattle.text_lines.specs.Terms.{pair_of}
+use Rattle.pns_text.specs.Kept.{lines_at, heads_at, lines_apart, fields_at}
+use Rattle.pns_text.specs.Settings.{Settings, default_fields, number_or, kind_or, number_at, settings_of, payout_from, material_from, unit_from}
+use Rattle.pns_text.specs.Meaning.{Names, is_unit_turned, has_unknown, is_unit, line_meaning, fault_or, first_meaning}
+use Rattle.pns_text.specs.Value.{materials_from, term_from, sides_or, sides_named, listed_unit, bare_unit, bare_lines, units_from, unit_names_from, exclusion_from, exclusions_from, problem_from}
 use Rattle.pns_text.specs.Reading.{names_all}
 use Rattle.pns_text.specs.Walk.{matters}
 use Rattle.pns_text.proofs.Finding.{map_twice, any_same}
-use Rattle.pns_text.proofs.KeptLines.{in_apart, kept_at, lines_kept, names_kept, line_of, map_at}
+use Rattle.pns_text.proofs.KeptLines.{in_apart, lines_kept, names_kept, line_of, map_at}
 
 -- a value by the line, the defaults or the table
 number_of_two : (own default : Option (List ℕ)) (built_in : List ℕ) → millionths (unwrap_or own (unwrap_or default built_in)) ≡ number_or own (number_or default (millionths built_in))

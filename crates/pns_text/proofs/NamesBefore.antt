@@ -1,5 +1,5 @@
 -- What was seen of the lines before a line, in the words of the grammar.
-use Rattle.std.proofs.Common.{◌≡◌, ◌≤◌, ◌+◌, ◌&&◌, ◌||◌, Bool, true, false, cond, not, ℕ, List, [], ◌∷◌, ◌++◌, length, map, suc, if◌then◌else◌, refl, sym, ◌∙◌, ap, arith, length-append}
+use Rattle.std.proofs.Common.{◌≡◌, ◌+◌, ◌&&◌, ◌||◌, Bool, true, false, ℕ, List, [], ◌∷◌, ◌++◌, length, map, if◌then◌else◌, refl, sym, ◌∙◌, ap, arith, length-append}
 use Rattle.std.specs.List.{list_any}
 use Rattle.std.specs.Str.{bytes_eq}
 use Rattle.std.proofs.lemmas.Slice.Eq.{bytes_eq-Decides}
@@ -10,7 +10,7 @@ use Rattle.problem_rules.specs.Names.{is_among, distinct}
 use Rattle.text_rules.specs.Line.{Placed, head_of}
 use Rattle.text_rules.specs.Field.{Line, taken_apart, lines_in, names_in, key_of}
 use Rattle.pns_text.specs.Once.{with_name}
-use Rattle.pns_text.specs.Seen.{Seen, seen_none, seen_entry, seen_after}
+use Rattle.pns_text.specs.Seen.{Seen, seen_none, seen_after}
 use Rattle.pns_text.proofs.Naming.{bytes_eq-sym}
 
 -- lists with the same names, so many of them

@@ -1,5 +1,5 @@
 -- The kinds of form at a line of rates, by what was seen before it, are those of the grammar.
-use Rattle.std.proofs.Common.{◌≡◌, ◌==◌, ◌<◌, ◌&&◌, ◌||◌, Bool, true, false, cond, not, nat_le, nat_lt, suc, ℕ, List, [], ◌∷◌, ◌++◌, length, map, filter, flat_map, codes, find, Option, Some, None, if◌then◌else◌, refl, sym, ◌∙◌, ap, arith}
+use Rattle.std.proofs.Common.{◌≡◌, ◌==◌, ◌&&◌, ◌||◌, Bool, true, false, cond, not, nat_le, ℕ, List, [], ◌∷◌, ◌++◌, length, map, filter, flat_map, codes, find, Option, Some, None, if◌then◌else◌, refl, sym, ◌∙◌, ap, arith}
 use Rattle.std.specs.List.{list_any}
 use Rattle.std.specs.Str.{bytes_eq}
 use Rattle.std.proofs.lemmas.Bool.{ne_eqb}
@@ -7,10 +7,9 @@ use Rattle.std.proofs.lemmas.List.{length-map}
 use Rattle.std.proofs.lemmas.List.Folds.{list_any-append}
 use Rattle.problem_rules.specs.Names.{is_name, is_among, has_double, distinct}
 use Rattle.text_rules.specs.declared.TextKind.{TextKind}
-use Rattle.text_rules.specs.declared.TextKind.TheVariants.{BadLine, BadName, BadNumber, TooFine, TooLarge, Negative, ZeroRate, DoubleTerm, BothSides, EmptySide, DoubleRates, TooMany}
-use Rattle.text_rules.specs.declared.Section.{Section}
+use Rattle.text_rules.specs.declared.TextKind.TheVariants.{BadLine, BadNumber, TooFine, TooLarge, Negative, ZeroRate, DoubleTerm, BothSides, EmptySide, DoubleRates, TooMany}
 use Rattle.text_rules.specs.declared.Section.TheVariants.{Rates}
-use Rattle.text_rules.specs.Line.{Placed, is_colon, head_of}
+use Rattle.text_rules.specs.Line.{is_colon, head_of}
 use Rattle.text_rules.specs.Field.{Line, taken_apart, names_in, sides_of, material_of, rate_of, material_type, items_of}
 use Rattle.text_rules.specs.Fault.{stands, form_kinds}
 use Rattle.text_lines.specs.Terms.{Pair, pair_of, is_bad_term, has_bad_sides, sides_read}

@@ -1,7 +1,6 @@
 -- What the walk and the meaning of the lines that it keeps give is what the text stands for.
-use Rattle.std.proofs.Common.{◌≡◌, ◌+◌, ◌++◌, Bool, true, false, ℕ, List, [], ◌∷◌, length, map, filter, Option, Some, None, Result, Ok, Err, if◌then◌else◌, refl, sym, ◌∙◌, ap, arith}
-use Rattle.std.specs.List.{list_any}
-use Rattle.problem_rules.specs.Problem.{Problem, Material, is_product}
+use Rattle.std.proofs.Common.{◌≡◌, ◌+◌, Bool, true, false, ℕ, List, [], ◌∷◌, length, filter, Option, Some, None, Result, Ok, Err, if◌then◌else◌, refl, sym, ◌∙◌, ap, arith}
+use Rattle.problem_rules.specs.Problem.{Problem}
 use Rattle.text_rules.specs.declared.TextKind.TheVariants.{NoProduct}
 use Rattle.text_rules.specs.Line.{Placed, lines_of, body_of}
 use Rattle.text_rules.specs.Fault as rules
@@ -11,13 +10,12 @@ use Rattle.pns_text.specs.Fault.{Tells}
 use Rattle.pns_text.specs.Kept.{lines_apart}
 use Rattle.pns_text.specs.Settings.{settings_of}
 use Rattle.pns_text.specs.Meaning.{first_meaning}
-use Rattle.pns_text.specs.Value.{problem_from}
 use Rattle.pns_text.specs.Reading.{names_all, has_product, with_product, or_first, meaning_at}
 use Rattle.pns_text.specs.Walk.{Walk, matters, walk_start, walk}
 use Rattle.pns_text.specs.declared.fault.TextFault.{TextFault}
 use Rattle.pns_text.specs.declared.fault.TextFault.TheVariants.{At, Memory}
 use Rattle.pns_text.proofs.MeaningLaw.{problem_is, meaning_is}
-use Rattle.pns_text.proofs.WalkLaw.{ending, walked, behind_first, walk_is, walked_keeps, walked_counts}
+use Rattle.pns_text.proofs.WalkLaw.{ending, walked, walk_is, walked_keeps, walked_counts}
 
 -- by the walk
 abbrev pub readings : Result Walk rules.Fault → Result Problem rules.Fault

@@ -1,16 +1,16 @@
 -- The walk over a text finds its first fault of form in the words of the grammar, or keeps the lines that matter.
-use Rattle.std.proofs.Common.{◌≡◌, ◌==◌, ◌+◌, ◌&&◌, Bool, true, false, cond, not, ℕ, List, [], ◌∷◌, ◌++◌, length, map, filter, find, Option, Some, None, Result, Ok, Err, if◌then◌else◌, refl, sym, ◌∙◌, ap, suc, arith, append_assoc, append-nil}
+use Rattle.std.proofs.Common.{◌≡◌, ◌==◌, ◌+◌, Bool, true, false, not, ℕ, List, [], ◌∷◌, ◌++◌, length, map, filter, find, Option, Some, None, Result, Ok, Err, if◌then◌else◌, refl, sym, ◌∙◌, ap, suc, arith, append_assoc, append-nil}
 use Rattle.std.specs.Str.{bytes_eq}
 use Rattle.std.proofs.lemmas.Bool.{cond-false, ne_eqb}
 use Rattle.text_rules.specs.declared.TextKind.{TextKind}
 use Rattle.text_rules.specs.declared.TextKind.TheVariants.{FileType}
 use Rattle.text_rules.specs.declared.Section.{Section}
 use Rattle.text_rules.specs.declared.Section.TheVariants.{Preamble, MeasurementUnits, Defaults, Materials, OperatingUnits, Rates, Exclusions}
-use Rattle.text_rules.specs.Line.{Placed, placed_from, standing, body_of, section_after, is_header}
+use Rattle.text_rules.specs.Line.{Placed, placed_from, standing, section_after}
 use Rattle.text_rules.specs.Field.{Line, taken_apart}
-use Rattle.text_rules.specs.Fault.{Fault, stands, form_kinds, first_of, file_type, parts_of, form_fault}
-use Rattle.pns_text.specs.Seen.{Seen, line_fault, seen_after}
-use Rattle.pns_text.specs.Walk.{Walk, matters, kept_after, placed_at, walk_start, walk_past, or_fault, take_line, step, walk_from, walk}
+use Rattle.text_rules.specs.Fault.{Fault, stands, form_kinds, first_of, file_type, form_fault}
+use Rattle.pns_text.specs.Seen.{Seen, line_fault}
+use Rattle.pns_text.specs.Walk.{Walk, matters, placed_at, walk_start, walk_past, or_fault, take_line, step, walk_from, walk}
 use Rattle.pns_text.proofs.FormKinds.{header_kind, preamble_kind, measurement_kind, default_kind, material_kind, unit_kind, exclusion_kind}
 use Rattle.pns_text.proofs.NamesBefore.{IsSeen, none_seen, seen_more}
 use Rattle.pns_text.proofs.RatesKinds.{rates_kind}

@@ -1,5 +1,5 @@
 -- Items of a line of materials or of units, and the kinds that stand at them.
-use Rattle.std.specs.Prelude.{◌==◌, ◌&&◌, ℕ, Bool, false, List, map, filter, not, pos, int_lt}
+use Rattle.std.specs.Prelude.{◌&&◌, ℕ, Bool, false, List, map, filter, not, pos, int_lt}
 use Rattle.std.specs.Str.{bytes_eq}
 use Rattle.problem_rules.specs.Names.{is_among}
 use Rattle.text_rules.specs.declared.TextKind.{TextKind}

@@ -1,5 +1,5 @@
 -- The kinds of meaning at a line, by the defaults and by the names of all materials, units and lines of rates.
-use Rattle.std.specs.Prelude.{◌&&◌, ◌||◌, ℕ, Bool, List, [], ◌∷◌, flat_map, codes, not, Option, Some, None, ℤ, int_lt, if◌then◌else◌}
+use Rattle.std.specs.Prelude.{◌&&◌, ◌||◌, ℕ, Bool, List, [], ◌∷◌, flat_map, codes, not, Option, Some, None, int_lt, if◌then◌else◌}
 use Rattle.std.specs.List.{list_any}
 use Rattle.problem_rules.specs.Names.{is_among}
 use Rattle.text_rules.specs.declared.TextKind.{TextKind}

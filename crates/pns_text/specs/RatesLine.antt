@@ -1,5 +1,5 @@
 -- The kinds of form at a line of rates, by the names of such lines before it and by all names of units that were seen.
-use Rattle.std.specs.Prelude.{◌==◌, ◌&&◌, ◌||◌, ◌++◌, ℕ, Bool, false, List, [], ◌∷◌, length, map, not, pos, int_lt, codes, Option, Some, None, find, if◌then◌else◌}
+use Rattle.std.specs.Prelude.{◌==◌, ◌&&◌, ◌||◌, ◌++◌, ℕ, Bool, List, [], ◌∷◌, length, map, not, pos, int_lt, Option, Some, None, find, if◌then◌else◌}
 use Rattle.std.specs.List.{list_any}
 use Rattle.problem_rules.specs.Names.{is_name, is_among, has_double}
 use Rattle.text_rules.specs.declared.TextKind.{TextKind}

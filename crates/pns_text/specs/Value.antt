@@ -1,5 +1,5 @@
 -- The problem that lines without a fault stand for, by the settings and by the lines of each section.
-use Rattle.std.specs.Prelude.{ℕ, Bool, List, [], ◌∷◌, ◌++◌, map, filter, not, position, unwrap_or, find, slice_index_or, Option, Some, None}
+use Rattle.std.specs.Prelude.{ℕ, List, [], ◌++◌, map, filter, not, position, unwrap_or, find, slice_index_or, Option, Some, None}
 use Rattle.std.specs.Str.{bytes_eq}
 use Rattle.problem_rules.specs.Problem.{Material, Term, OperatingUnit, Exclusion, Problem}
 use Rattle.problem_rules.specs.Names.{is_among}

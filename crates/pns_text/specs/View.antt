@@ -1,5 +1,5 @@
 -- Lines, and what was seen, as the definitions have them.
-use Rattle.std.specs.Prelude.{ℕ, List, map}
+use Rattle.std.specs.Prelude.{map}
 use Rattle.text_rules.specs.Line as line
 use Rattle.text_lines.specs.View.{texts}
 use Rattle.pns_text.specs.Seen as seen

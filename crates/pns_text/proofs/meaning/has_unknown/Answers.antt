@@ -1,7 +1,7 @@
-use Rattle.std.proofs.Common.{◌≡◌, not, option_map, ℕ, List, Option, Some, sym, ap, ◌∙◌}
+use Rattle.std.proofs.Common.{not, option_map, Option, sym, ap, ◌∙◌}
 use Rattle.problem_rules.specs.Names.{is_among}
 use Rattle.text_rules.specs.Field.{sides_of}
-use Rattle.text_lines.specs.Terms.{sides_view, sides_read}
+use Rattle.text_lines.specs.Terms.{sides_view}
 use Rattle.text_lines.specs.declared.term.Sides.{Sides}
 use Rattle.pns_text.proofs.SidesRead.{any_of_both}
 use Rattle.pns_text.proofs.meaning.has_unknown.Goals as goal

@@ -1,4 +1,4 @@
-use Rattle.std.proofs.Common.{◌≡◌, ◌++◌, false, not, sym, ap, ◌∙◌}
+use Rattle.std.proofs.Common.{◌≡◌, ◌++◌, false, sym, ◌∙◌}
 use Rattle.text_lines.specs.Terms.{terms_view}
 use Rattle.pns_text.proofs.RateKinds.{no_rate_stands}
 use Rattle.pns_text.proofs.rates_line.stands_at_rates.Goals as goal

@@ -1,12 +1,11 @@
-use Rattle.std.proofs.Common.{◌≡◌, ℕ, List, Option, Result, None, Ok, IfOk, IfErr, map, subst, sym, ap, ◌∙◌}
+use Rattle.std.proofs.Common.{◌≡◌, List, Option, Result, None, Ok, IfOk, IfErr, map, subst, sym, ap, ◌∙◌}
 use Rattle.problem_rules.specs.Problem.{Problem}
 use Rattle.text_rules.specs.Line as line
 use Rattle.text_rules.specs.Fault as rules
 use Rattle.pns_text.specs.Fault.{Tells}
 use Rattle.pns_text.specs.Kept.{lines_apart}
-use Rattle.pns_text.specs.Settings as settings
 use Rattle.pns_text.specs.Settings.{settings_of}
-use Rattle.pns_text.specs.Meaning.{Names, first_meaning}
+use Rattle.pns_text.specs.Meaning.{first_meaning}
 use Rattle.pns_text.specs.Value.{problem_from}
 use Rattle.pns_text.specs.Reading.{names_all, with_product, or_first, meaning_at}
 use Rattle.pns_text.specs.View.{placed_view, settings_view, names_view}

@@ -1,4 +1,4 @@
-use Rattle.std.proofs.Common.{◌≡◌, ℕ, List, Result, Ok, IfOk, IfErr, map, subst, sym, ap, ◌∙◌}
+use Rattle.std.proofs.Common.{◌≡◌, List, Result, Ok, IfOk, IfErr, map, subst, sym, ap, ◌∙◌}
 use Rattle.problem_rules.specs.Problem.{Problem}
 use Rattle.text_rules.specs.Fault as rules
 use Rattle.text_rules.specs.Value.{read_text}

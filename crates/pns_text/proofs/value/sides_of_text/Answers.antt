@@ -1,4 +1,4 @@
-use Rattle.std.proofs.Common.{◌≡◌, option_map, ℕ, List, Option, map, sym, ap, ◌∙◌}
+use Rattle.std.proofs.Common.{◌≡◌, option_map, List, Option, map, sym, ap, ◌∙◌}
 use Rattle.problem_rules.specs.Problem as rules
 use Rattle.text_rules.specs.Field.{sides_of}
 use Rattle.text_lines.specs.Terms.{Pair, terms_view, sides_view}

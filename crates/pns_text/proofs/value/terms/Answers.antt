@@ -1,4 +1,4 @@
-use Rattle.std.proofs.Common.{◌≡◌, ◌++◌, ◌∷◌, [], ℕ, List, map, take, sym, ap, ◌∙◌}
+use Rattle.std.proofs.Common.{◌++◌, ◌∷◌, [], List, map, take, sym, ap, ◌∙◌}
 use Rattle.problem_rules.specs.Problem as rules
 use Rattle.text_lines.specs.Terms.{term_view, terms_view}
 use Rattle.text_lines.specs.declared.term.Term.{Term}

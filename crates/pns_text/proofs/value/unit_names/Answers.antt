@@ -1,4 +1,4 @@
-use Rattle.std.proofs.Common.{◌≡◌, ◌++◌, ℕ, List, map, sym, ap, ◌∙◌}
+use Rattle.std.proofs.Common.{◌++◌, ℕ, List, map, ap, ◌∙◌}
 use Rattle.text_rules.specs.Line.{Placed, head_of}
 use Rattle.text_rules.specs.declared.Section.TheVariants.{OperatingUnits}
 use Rattle.text_lines.specs.View.{texts}

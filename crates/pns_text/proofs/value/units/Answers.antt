@@ -1,4 +1,4 @@
-use Rattle.std.proofs.Common.{◌≡◌, ◌++◌, ℕ, List, map, sym, ap, ◌∙◌}
+use Rattle.std.proofs.Common.{◌++◌, ℕ, List, map, ap, ◌∙◌}
 use Rattle.problem_rules.specs.Problem as rules
 use Rattle.text_rules.specs.Line.{Placed}
 use Rattle.text_rules.specs.declared.Section.TheVariants.{OperatingUnits}

@@ -1,7 +1,7 @@
-use Rattle.std.proofs.Common.{◌≡◌, ◌≤◌, ◌+◌, length, sym, ap, ◌∙◌, arith}
+use Rattle.std.proofs.Common.{length, sym, ◌∙◌, arith}
 use Rattle.std.proofs.lemmas.Bool.{eqb-true}
 use Rattle.pns_text.specs.View.{walk_view}
-use Rattle.pns_text.proofs.Walking.{walk-more, walk-end, walk-fault}
+use Rattle.pns_text.proofs.Walking.{walk-more, walk-end}
 use Rattle.pns_text.proofs.walk.walk_rest.Goals as goal
 
 pub loop-rest-preserved : goal.loop-rest-preserved

@@ -1,4 +1,4 @@
-use Rattle.std.proofs.Common.{◌≡◌, not, sym, ap, ◌∙◌}
+use Rattle.std.proofs.Common.{not, ap, ◌∙◌}
 use Rattle.problem_rules.specs.Names.{is_among}
 use Rattle.text_lines.specs.View.{texts}
 use Rattle.pns_text.specs.Once.{with_name}

@@ -1,4 +1,4 @@
-use Rattle.std.proofs.Common.{◌≡◌, sym, ap, ◌∙◌}
+use Rattle.std.proofs.Common.{ap, ◌∙◌}
 use Rattle.problem_rules.specs.Names.{is_among}
 use Rattle.pns_text.proofs.Naming.{has_listed}
 use Rattle.pns_text.proofs.name_set.NameSet.has.Goals as goal
