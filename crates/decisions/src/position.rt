@@ -48,14 +48,14 @@ impl Position {
     /// The unit that is to be decided next: the greatest maker of the material under decision that is neither taken in nor
     /// left out. A material without such a maker is done, and the least needed one that is not done comes next. `None`
     /// exactly where no unit is left to be decided.
-    pub fn turn(self, graph: &Graph) -> Option<Turn>
-        requires { IsPosition (shape graph.now) self }
+    pub fn turn(&self, graph: &Graph) -> Option<Turn>
+        requires { IsPosition (shape graph.now) self.now }
         ensures turn { IfSome result (λ t. IsTurn (shape graph.now) t) }
-        ensures node { IfSome result (λ t. t.position.decided.node ≡ self.decided.node) }
-        ensures settled { IfNone result (IsSettled (shape graph.now) self.decided.node) }
+        ensures node { IfSome result (λ t. t.position.decided.node ≡ self.now.decided.node) }
+        ensures settled { IfNone result (IsSettled (shape graph.now) self.now.decided.node) }
     {
         graph.is_proper();
-        let mut here = self;
+        let mut here = *self;
         'pass: loop {
             let Some(x) = here.at else {
                 return None;

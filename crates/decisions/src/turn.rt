@@ -17,11 +17,11 @@ pub struct Turn {
 
 impl Turn {
     /// The position in which the unit is left out. Its structures stand before those of `taking`.
-    pub fn leaving(self, graph: &Graph) -> Position
-        requires { IsTurn (shape graph.now) self }
+    pub fn leaving(&self, graph: &Graph) -> Position
+        requires { IsTurn (shape graph.now) self.now }
         ensures position { IsPosition (shape graph.now) result }
-        ensures node { result.decided.node ≡ without_unit self.unit self.position.decided.node }
-        ensures fewer { free_count (shape graph.now) result.decided.node < free_count (shape graph.now) self.position.decided.node }
+        ensures node { result.decided.node ≡ without_unit self.now.unit self.now.position.decided.node }
+        ensures fewer { free_count (shape graph.now) result.decided.node < free_count (shape graph.now) self.now.position.decided.node }
     {
         graph.is_proper();
         let Position {
@@ -44,11 +44,11 @@ impl Turn {
     }
 
     /// The position in which the unit is taken in.
-    pub fn taking(self, graph: &Graph) -> Position
-        requires { IsTurn (shape graph.now) self }
+    pub fn taking(&self, graph: &Graph) -> Position
+        requires { IsTurn (shape graph.now) self.now }
         ensures position { IsPosition (shape graph.now) result }
-        ensures node { result.decided.node ≡ with_unit self.unit self.position.decided.node }
-        ensures fewer { free_count (shape graph.now) result.decided.node < free_count (shape graph.now) self.position.decided.node }
+        ensures node { result.decided.node ≡ with_unit self.now.unit self.now.position.decided.node }
+        ensures fewer { free_count (shape graph.now) result.decided.node < free_count (shape graph.now) self.now.position.decided.node }
     {
         graph.is_proper();
         let Position {

@@ -1,0 +1,4 @@
+pub mod DigitLemmas
+pub mod FamilyLemmas
+pub mod StartLemmas
+pub mod StepLemmas

@@ -1,0 +1,9 @@
+use Rattle.std.proofs.Common.{◌≡◌, ◌*◌, ◌<◌, ◌^◌, take}
+use Rattle.structure_list.specs.Tokens.{digits}
+use Rattle.structure_list.proofs.token.read_token.Given as goal
+
+abbrev pub invariant-loop-i : goal.invariant-loop-i
+invariant-loop-i l = record {
+  same : take l.i l.bytes ≡ digits l.i l.value;
+  below : l.value < 2 ^ (4 * l.i);
+}

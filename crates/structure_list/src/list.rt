@@ -1,0 +1,130 @@
+//! The list of structures that are still to come.
+ghost use Rattle.std.specs.Prelude.{◌≡◌, ◌+◌, ◌*◌, ◌<◌, ◌≤◌, ◌↔◌, ◌∷◌, ◌++◌, ℕ, List, [], false, length, Some, IfOk, IfErr, IfSome, IfNone, IsOk, IsTrue};
+ghost use Rattle.number_sets.specs.Sets.{has, IsRising};
+ghost use Rattle.pns_rules.specs.Structure.{IsStructure, IsUnion};
+ghost use Rattle.pgraph.specs.Tables.{shape};
+ghost use Rattle.structure_list.specs.Rest.{Rest, IsToCome};
+
+use crate::search::{next_structure, start};
+use decisions::Position;
+use max_structure::Steps;
+use pgraph::{Graph, Verdict};
+use std::alloc::{AllocError, Global};
+use std::marker::Model;
+use std::sync::ledger::Ledger;
+use thiserror::Error;
+use unit_sets::UnitSet;
+
+/// Why a listing cannot begin.
+#[derive(Clone, Copy, PartialEq, Eq, Debug, Drop, Error)]
+pub enum OpenFault {
+    /// The set has a unit that the problem has not, or breaks an axiom.
+    #[error("the set is no solution structure of this problem")]
+    NotAStructure,
+    /// There is no memory left. A listing holds a few sets, so it never comes today.
+    #[error("out of memory")]
+    Memory,
+}
+
+/// A listing of which a part was given. Contracts see it by its graph and the structure that was given last: what is
+/// still to come is the listing after that.
+#[derive(Drop)]
+pub struct StructureList<'a> {
+    graph: &'a Graph,
+    start: Option<Position>,
+    last: Option<UnitSet>,
+}
+
+impl<'a> Model for StructureList<'a> {
+    ghost use Rattle.pgraph.specs.Tables.{shape};
+    ghost use Rattle.structure_list.specs.Rest.{Rest, IsUnderWay};
+
+    ghost Value = { Rest };
+
+    ghost view = { λ l. record { graph = l.graph.now; last = l.last } };
+
+    ghost invariant = { λ l. IsUnderWay (shape l.graph.now) l.start l.last };
+}
+
+impl<'a> StructureList<'a> {
+    /// The listing after a solution structure, allowed or not, or from the beginning. `NotAStructure` exactly where
+    /// `after` is no solution structure of this graph.
+    pub fn open(
+        _alloc: Global,
+        graph: &'a Graph,
+        after: Option<UnitSet>,
+    ) -> Result<StructureList<'a>, OpenFault>
+        ensures ok { IfOk result (λ l. l ≡ record { graph = graph.now; last = after }) }
+        ensures structure { IsOk result ↔ IfSome after (λ s. IsStructure (shape graph.now) (has s)) }
+        ensures fault { IfErr result (λ e. e ≡ OpenFault.NotAStructure) }
+    {
+        if let Some(set) = after {
+            if !is_structure(graph, set) {
+                return Err(OpenFault::NotAStructure);
+            }
+        }
+        Ok(StructureList {
+            graph,
+            start: start(graph),
+            last: after,
+        })
+    }
+
+    /// Gives the next structure, and leaves those after it, so that the list is the one that `open` gives at this
+    /// structure. `None` exactly where nothing is to come, and again at each later call. Without exclusions it counts at
+    /// most two viability tests for each unit of the maximal structure. It takes no memory.
+    pub fn next<L: Ledger>(&mut self, steps: &mut Steps<L>) -> Option<UnitSet>
+        ensures head { IfSome result (λ r. (xs : List (List ℕ)) → IsToCome self.new xs ↔ IsToCome self.old (r ∷ xs)) }
+        ensures last { IfSome result (λ r. self.new ≡ record { graph = self.old.graph; last = Some r }) }
+        ensures end { IfNone result (IsToCome self.old []) }
+        ensures stays { IfNone result (self.new ≡ self.old) }
+        ensures few_tests { (shape self.old.graph).exclusions ≡ 0 → (m : List ℕ) → IsRising m → IsUnion (shape self.old.graph) (λ _. false) (has m) → steps.new ≤ steps.old + 2 * length m }
+    {
+        let Some(set) = next_structure(self.graph, self.start, self.last, steps) else {
+            return None;
+        };
+        self.last = Some(set);
+        Some(set)
+    }
+
+    /// Gives the next structures, at most `count` of them, and fewer only at the end.
+    pub fn give<L: Ledger>(
+        &mut self,
+        alloc: Global,
+        count: usize,
+        steps: &mut Steps<L>,
+    ) -> Result<Vec<UnitSet>, AllocError>
+        ensures given { IfOk result (λ v. (xs : List (List ℕ)) → IsToCome self.new xs ↔ IsToCome self.old (v.items ++ xs)) }
+        ensures at_most { IfOk result (λ v. length v.items ≤ count) }
+        ensures fewer { IfOk result (λ v. length v.items < count → IsToCome self.new []) }
+    {
+        let mut given = Vec::new(alloc);
+        for i in 0..count {
+            let Some(set) = self.next(steps) else {
+                return Ok(given);
+            };
+            given.push(set)?;
+        }
+        Ok(given)
+    }
+
+    /// Tells a proof that what is to come is one list, and no other.
+    pub fn is_one(&self)
+        ensures exists { (xs : List (List ℕ)) × IsToCome self.now xs }
+        ensures unique { (xs ys : List (List ℕ)) → IsToCome self.now xs → IsToCome self.now ys → xs ≡ ys }
+    {
+        self.graph.is_proper();
+        pns_rules::listing_exists();
+    }
+}
+
+/// Whether the set is a solution structure.
+fn is_structure(graph: &Graph, set: UnitSet) -> bool
+    ensures { IsTrue result ↔ IsStructure (shape graph.now) (has set) }
+{
+    graph.is_proper();
+    if !set.within(UnitSet::below(graph.unit_count())) {
+        return false;
+    }
+    matches!(graph.judge(set), Verdict::Meets)
+}
