@@ -1,6 +1,6 @@
 -- The least and the greatest number of a set.
-use Rattle.std.proofs.Common.{◌≡◌, ℕ, zero, suc, ◌+◌, ◌-◌, ◌^◌, ◌<◌, ◌≤◌, ◌==◌, Bool, true, false, cond, ◌||◌, List, [], ◌∷◌, refl, sym, ap, ap₂, ◌∙◌, subst, inl, inr, arith, eq-eqb, eqb-true, ne_eqb, Option, Some, None}
-use Rattle.std.proofs.lemmas.Bool.{cases_eq, or_cases, or_left, or_from, false_from_ne_true, cases_Bool, both_ways}
+use Rattle.std.proofs.Common.{◌≡◌, ℕ, zero, suc, ◌+◌, ◌-◌, ◌^◌, ◌<◌, ◌≤◌, ◌==◌, Bool, true, false, cond, List, [], ◌∷◌, refl, sym, ap, ap₂, ◌∙◌, subst, inl, inr, arith, eq-eqb, eqb-true, ne_eqb, Some, None}
+use Rattle.std.proofs.lemmas.Bool.{cases_eq, or_cases, or_left, or_from, false_from_ne_true, cases_Bool}
 use Rattle.std.proofs.lemmas.Nat.{leading_top}
 use Rattle.std.proofs.Math.Pow.{pow_mono}
 use Rattle.std.specs.Int.{leading_zeros, w128}

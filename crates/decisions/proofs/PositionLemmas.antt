@@ -1,6 +1,6 @@
 -- Positions, and what a turn there decides.
-use Rattle.std.proofs.Common.{◌≡◌, ℕ, ◌<◌, ◌==◌, nat_lt, Bool, true, false, not, ◌&&◌, ◌||◌, List, [], ◌∷◌, length, refl, sym, ap, ap₂, ◌∙◌, subst, inl, inr, ◌⊎◌, arith, lt-ltb, ltb-true, Option, Some, None}
-use Rattle.std.proofs.lemmas.Bool.{both_ways, or_cases, or_left, or_right, and_parts, and_from, false_from_ne_true, true_from_ne_false, not-true}
+use Rattle.std.proofs.Common.{◌≡◌, ℕ, ◌<◌, ◌==◌, nat_lt, Bool, true, false, not, ◌&&◌, ◌||◌, List, [], ◌∷◌, refl, sym, ap, ap₂, ◌∙◌, subst, inl, inr, arith, lt-ltb, ltb-true, Option, Some, None}
+use Rattle.std.proofs.lemmas.Bool.{both_ways, or_cases, or_left, or_right, and_parts, and_from, false_from_ne_true, not-true}
 use Rattle.number_sets.specs.Sets.{has, first, listed, with_number, union, minus, IsRising}
 use Rattle.number_sets.proofs.SetLemmas.{has-with_number, has-union, has-minus, has-listed, listed-same, same_tests}
 use Rattle.pns_rules.specs.Shape.{Shape, IsProper}

@@ -91,4 +91,3 @@ pub next_goes : (graph : Tables) (last : Option (List ℕ)) (before : Rest) (r :
 next_goes graph last before r q h xs =
     subst (λ k. IsListing (shape graph) (Some r) xs ↔ IsToCome k (r ∷ xs)) q
     (goes_on (shape graph) last r h.listed h.first xs, goes_back (shape graph) last r h.listed h.first xs)
-

@@ -10,6 +10,8 @@
 
 mod list;
 mod search;
+#[cfg(test)]
+mod tests;
 mod token;
 
 pub use list::{OpenFault, StructureList};

@@ -66,11 +66,7 @@ fn found_in<L: Ledger>(
 }
 
 /// The first allowed structure of the position's node.
-fn first_in<L: Ledger>(
-    graph: &Graph,
-    position: &Position,
-    steps: &mut Steps<L>,
-) -> Option<UnitSet>
+fn first_in<L: Ledger>(graph: &Graph, position: &Position, steps: &mut Steps<L>) -> Option<UnitSet>
     requires position { IsPosition (shape graph.now) position.now }
     requires promising { IsPromising (shape graph.now) position.now.decided.node }
     ensures found { IsFirstIn (shape graph.now) position.now.decided.node result }

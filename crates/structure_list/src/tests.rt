@@ -2,10 +2,12 @@
 ghost use Rattle.std.specs.Prelude.{◌≡◌, ◌<◌};
 
 use crate::{BadForm, OpenFault, StructureList, print_token, read_token};
+use decisions::{Decided, compare_traces};
 use max_structure::Steps;
-use pgraph::Graph;
+use pgraph::{Graph, Verdict};
 use pns_problem::{Exclusion, Kind, Material, OperatingUnit, Parts, Problem, Term};
 use std::alloc::{AllocError, Global};
+use std::cmp::Ordering;
 use std::marker::Brand;
 use std::sync::ledger::{Blank, Ledger};
 use std::test::Fail;
@@ -189,6 +191,67 @@ fn other_sets_are_refused(rt: HostRuntime) -> Result<(), Fail> {
         let set = UnitSet::from_bits(bits);
         let opened = StructureList::open(rt.alloc(), &graph, Some(set));
         assert!(rt; matches!(opened, Err(OpenFault::NotAStructure)));
+    }
+    Ok(())
+}
+
+/// The order of two sets, `None` where one is no structure.
+fn compared(graph: &Graph, a: UnitSet, b: UnitSet) -> Option<Ordering> {
+    let all = UnitSet::below(graph.unit_count());
+    if !a.within(all) || !b.within(all) {
+        return None;
+    }
+    if !matches!(graph.judge(a), Verdict::Meets) {
+        return None;
+    }
+    if !matches!(graph.judge(b), Verdict::Meets) {
+        return None;
+    }
+    Some(compare_traces(graph, a, b))
+}
+
+#[test]
+fn structures_are_compared(rt: HostRuntime) -> Result<(), Fail> {
+    let graph = graph_of(rt.alloc(), FIRST.kinds, FIRST.units, FIRST.exclusions)?;
+    for (a, b, want) in [
+        (5, 6, Some(Ordering::Less)),
+        (6, 5, Some(Ordering::Greater)),
+        (6, 7, Some(Ordering::Less)),
+        (7, 7, Some(Ordering::Equal)),
+        (5, 1, None),
+    ] {
+        let found = compared(&graph, UnitSet::from_bits(a), UnitSet::from_bits(b));
+        assert_eq!(rt; found, want);
+    }
+    Ok(())
+}
+
+/// The material that is due, `None` where the units that are taken in are not all of the graph.
+fn due(graph: &Graph, decided: &Decided) -> Option<u32> {
+    let inside = decided.node.inside;
+    if inside.within(UnitSet::below(graph.unit_count())) {
+        decided.first_needed(graph)
+    } else {
+        None
+    }
+}
+
+#[test]
+fn makers_are_decided(rt: HostRuntime) -> Result<(), Fail> {
+    let graph = graph_of(rt.alloc(), FIRST.kinds, FIRST.units, FIRST.exclusions)?;
+    let start = Decided::start();
+    assert_eq!(rt; due(&graph, &start), Some(5));
+    if graph.material_count() == 6 {
+        let (base, free) = start.options(&graph, 5);
+        assert_eq!(rt; (base.bits(), free.bits()), (0, 0b1100));
+        let product = start.decide(&graph, 5, UnitSet::from_bits(0b100));
+        assert_eq!(rt; due(&graph, &product), Some(2));
+        let (base, free) = product.options(&graph, 2);
+        assert_eq!(rt; (base.bits(), free.bits()), (0, 0b11));
+        let all = product.decide(&graph, 2, UnitSet::from_bits(0b1));
+        assert_eq!(rt; due(&graph, &all), None);
+        assert_eq!(rt; all.node.inside.bits(), 0b101);
+        assert_eq!(rt; all.node.outside.bits(), 0b1010);
     }
     Ok(())
 }

@@ -1,7 +1,7 @@
 use Rattle.std.proofs.Common.{sym, ◌∙◌, arith}
 use Rattle.number_sets.specs.Sets.{has}
 use Rattle.pgraph.specs.Tables.{shape}
-use Rattle.decisions.proofs.TurnLemmas.{within_taken, within_left, fewer_before, turn_apart}
+use Rattle.decisions.proofs.TurnLemmas.{within_taken, within_left, fewer_before}
 use Rattle.decisions.proofs.compare.+compare_from.Goals as goal
 
 pub returns-in_default-clause-equal : goal.returns-in_default-clause-equal

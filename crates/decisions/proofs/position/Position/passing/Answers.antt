@@ -1,5 +1,5 @@
 use Rattle.std.proofs.Common.{ap, subst, sym, refl, ◌∙◌, ◌<◌, List, ℕ, arith}
-use Rattle.number_sets.specs.Sets.{has, with_number, minus}
+use Rattle.number_sets.specs.Sets.{with_number, minus}
 use Rattle.pns_rules.specs.Nodes.{free_makers}
 use Rattle.pgraph.specs.Tables.{shape}
 use Rattle.pgraph.specs.View.{node_of}

@@ -1,4 +1,4 @@
-use Rattle.std.proofs.Common.{subst, sym, ◌∙◌, ◌<◌, arith}
+use Rattle.std.proofs.Common.{subst, ◌<◌, arith}
 use Rattle.unit_sets.specs.declared.node.Node.{Node}
 use Rattle.pgraph.specs.Tables.{shape}
 use Rattle.decisions.specs.Position.{IsSettled}
