@@ -11,7 +11,7 @@ use std::cmp::Ordering;
 use std::marker::Brand;
 use std::sync::ledger::{Blank, Ledger};
 use std::test::Fail;
-use unit_sets::UnitSet;
+use unit_sets::{Node, UnitSet};
 
 /// A problem in few words: `r`, `i` and `p` for the kinds of its materials, the inputs and outputs of each unit and the
 /// units of each exclusion as masks.
@@ -146,8 +146,8 @@ fn graph_of(
 
 /// What is to come after the set, at most `count` structures.
 fn listed<L: Ledger>(
-    alloc: Global,
     blank: Blank,
+    alloc: Global,
     graph: &Graph,
     after: Option<UnitSet>,
     count: usize,
@@ -173,7 +173,7 @@ fn structures_are_listed(rt: HostRuntime) -> Result<(), Fail> {
     ] {
         let graph = graph_of(rt.alloc(), sketch.kinds, sketch.units, sketch.exclusions)?;
         let after = after.map(UnitSet::from_bits);
-        let given = listed::<Brand>(rt.alloc(), Blank::new(1), &graph, after, 10)?;
+        let given = listed::<Brand>(Blank::new(1), rt.alloc(), &graph, after, 10)?;
         assert_eq!(rt; given.len(), want.len(), "{number}");
         for i in 0..want.len() {
             if i < given.len() {
@@ -197,6 +197,7 @@ fn other_sets_are_refused(rt: HostRuntime) -> Result<(), Fail> {
 
 /// The order of two sets, `None` where one is no structure.
 fn compared(graph: &Graph, a: UnitSet, b: UnitSet) -> Option<Ordering> {
+    graph.is_proper();
     let all = UnitSet::below(graph.unit_count());
     if !a.within(all) || !b.within(all) {
         return None;
@@ -228,6 +229,7 @@ fn structures_are_compared(rt: HostRuntime) -> Result<(), Fail> {
 
 /// The material that is due, `None` where the units that are taken in are not all of the graph.
 fn due(graph: &Graph, decided: &Decided) -> Option<u32> {
+    graph.is_proper();
     let inside = decided.node.inside;
     if inside.within(UnitSet::below(graph.unit_count())) {
         decided.first_needed(graph)
@@ -250,8 +252,8 @@ fn makers_are_decided(rt: HostRuntime) -> Result<(), Fail> {
         assert_eq!(rt; (base.bits(), free.bits()), (0, 0b11));
         let all = product.decide(&graph, 2, UnitSet::from_bits(0b1));
         assert_eq!(rt; due(&graph, &all), None);
-        assert_eq!(rt; all.node.inside.bits(), 0b101);
-        assert_eq!(rt; all.node.outside.bits(), 0b1010);
+        let Node { inside, outside } = all.node;
+        assert_eq!(rt; (inside.bits(), outside.bits()), (0b101, 0b1010));
     }
     Ok(())
 }
@@ -270,7 +272,7 @@ fn dead_ends_are_seen_early(rt: HostRuntime) -> Result<(), Fail> {
     arcs.push((1, 2 | 1 << 42))?;
     arcs.push((1 << 42, 1 << 41))?;
     let graph = graph_of(rt.alloc(), kinds, &arcs, &[])?;
-    let given = listed::<Brand>(rt.alloc(), Blank::new(1), &graph, None, 1)?;
+    let given = listed::<Brand>(Blank::new(1), rt.alloc(), &graph, None, 1)?;
     assert_eq!(rt; given.len(), 1);
     for set in given {
         let token = print_token(rt.alloc(), set)?;
