@@ -1,0 +1,40 @@
+use Rattle.std.proofs.Common.{◌≡◌, ◌<◌, ◌≤◌, ◌+◌, ◌==◌, ℕ, Bool, true, false, not, ◌&&◌, ◌||◌, List, [], ◌∷◌, ◌++◌, map, length, nat_lt, refl, sym, ap, ap₂, ◌∙◌, subst, arith, MatchOption, Option, Some, None, IsTrue, ◌↔◌, lt-ltb, ltb-true}
+use Rattle.std.proofs.lemmas.Bool.{both_ways, and_parts, and_from}
+use Rattle.number_sets.specs.Sets.{has, first, kept, meet, minus, union, with_number, listed, IsRising}
+use Rattle.number_sets.proofs.SetLemmas.{has-minus, has-meet, has-union, has-with_number, has-kept}
+use Rattle.pns_rules.specs.Nodes.{Node, Step, raw, rival, starve, loose, sole, IsPossible, after, is_free}
+use Rattle.pns_rules.specs.Structure.{is_needed, is_made, is_used, Clashes}
+use Rattle.pns_rules.specs.Ends.{IsSound, IsDead, IsUndecided, remaining, IsFirst, IsNever, Leads}
+use Rattle.pgraph.specs.Tables.{shape}
+use Rattle.pgraph.specs.View.{node_of, step_of}
+use Rattle.pgraph.proofs.ArcLemmas.{first_has, first_none, first_shorter}
+use Rattle.neutral_extension.specs.Tests.{is_open, MakesRaw, IsLooseSet}
+use Rattle.neutral_extension.proofs.EndLemmas.{remains_parts, free_falls, sound_after, Leads-push, leads_family, decided_from}
+use Rattle.neutral_extension.proofs.FindLemmas.{node_out, node_in, IsGathered, gathered_start, gathered_more, gathered_all, before_first, needed_known, dead_found, starved_found, undecided_found, raw_found, rival_found, loose_is, loose_possible, loose_whole, no_loose, sole_to, sole_one, sole_outside}
+use Rattle.neutral_extension.proofs.units.raw_makers.Goals as goal
+
+pub raws-init : goal.raws-init
+raws-init c =
+    subst (λ (xs : List ℕ). IsGathered (shape c.args.graph.now) (has c.args.set) (has c.meet-left.result) (has xs)) (sym c.empty-found.ensures)
+    (gathered_start (shape c.args.graph.now) c.args.set c.meet-left.result c.made.result c.raws-2.result c.is_proper.ensures.proper c.requires c.meet-left.ensures c.made.ensures c.raws-2.ensures)
+
+pub producers-requires : goal.producers-requires
+producers-requires c = (c.raws.invariant.raws c.in-Some.x (first_has c.raws.left c.in-Some.x (sym c.least.ensures ∙ c.in-Some.is))).0
+
+pub raws-smaller : goal.raws-smaller
+raws-smaller c =
+    subst (λ (xs : List ℕ). length xs < length c.raws.left) (sym c.without-left.ensures)
+    (first_shorter c.raws.left c.in-Some.x (sym c.least.ensures ∙ c.in-Some.is))
+
+pub raws-preserved : goal.raws-preserved
+raws-preserved c =
+    let g = shape c.args.graph.now in
+    let set = has c.args.set in
+    let here = first_has c.raws.left c.in-Some.x (sym c.least.ensures ∙ c.in-Some.is) in
+    subst (λ (xs : List ℕ). IsGathered g set (has xs) (has c.union-found.result)) (sym c.without-left.ensures)
+    (subst (λ (ys : List ℕ). IsGathered g set (has (kept (λ v. not (c.in-Some.x == v)) c.raws.left)) (has ys)) (sym c.union-found.ensures)
+    (gathered_more g set c.raws.left c.raws.found c.producers.result c.in-Some.x c.producers.ensures here c.raws.invariant))
+
+pub returns-in_default : goal.returns-in_default
+returns-in_default c =
+    gathered_all (shape c.args.graph.now) c.args.set c.raws.left c.raws.found c.meet.result (first_none c.raws.left (sym c.least.ensures ∙ c.in_default.is)) c.meet.ensures c.raws.invariant

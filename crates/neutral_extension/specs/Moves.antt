@@ -1,0 +1,31 @@
+-- What one turn of an extension answers, and what the whole of it does (neutral extension of Friedler, Tarjan, Huang and
+-- Fan 1996).
+use Rattle.std.specs.Prelude.{ℕ, List, ◌↔◌, Bool}
+use Rattle.pns_rules.specs.Shape.{Shape}
+use Rattle.pns_rules.specs.Structure.{InFamily}
+use Rattle.pns_rules.specs.Nodes as rules
+use Rattle.pns_rules.specs.Ends.{IsSound, IsNextStep, Leads, EndsAt}
+use Rattle.pns_rules.specs.Ends as ends
+use Rattle.pgraph.specs.View.{step_of}
+use Rattle.neutral_extension.specs.declared.end.Stop.{Stop}
+use Rattle.neutral_extension.specs.declared.end.Stop.TheVariants.{Decided, Dead, Clash, Branch}
+use Rattle.neutral_extension.specs.declared.turn.Move.{Move}
+use Rattle.neutral_extension.specs.declared.turn.Move.TheVariants.{Take, End}
+
+abbrev pub stop_of : Stop → ends.Stop
+stop_of Decided = ends.decided
+stop_of (Dead x) = ends.dead x
+stop_of (Clash k) = ends.clash k
+stop_of (Branch x) = ends.branch x
+
+-- a step that comes next, or the end that holds
+abbrev pub IsMove : Shape → rules.Node → Move → Type 0
+IsMove g d (Take s) = IsNextStep g d (step_of s)
+IsMove g d (End e) = EndsAt g d (stop_of e)
+
+-- the steps, each next in turn, lead from d to e, which is sound, has the same family, and is where the rules end
+pub record Extends (g : Shape) (d : rules.Node) (steps : List rules.Step) (e : rules.Node) (stop : ends.Stop) : Type 0 where
+  pub leads : Leads g d steps e
+  pub sound : IsSound g e
+  pub same_family : (o : ℕ → Bool) → InFamily g d.inside d.outside o ↔ InFamily g e.inside e.outside o
+  pub ends : EndsAt g e stop

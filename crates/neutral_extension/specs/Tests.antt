@@ -1,0 +1,20 @@
+-- Units of a node by what the steps ask of them.
+use Rattle.std.specs.Prelude.{◌≡◌, ℕ, Bool, true, false, ◌&&◌, nat_lt, List}
+use Rattle.number_sets.specs.Sets.{has}
+use Rattle.pns_rules.specs.Shape.{Shape}
+use Rattle.pns_rules.specs.Structure.{HasPath}
+use Rattle.pns_rules.specs.Nodes.{Node, is_free}
+use Rattle.pns_rules.specs.Ends.{remaining, IsPathless}
+
+-- a unit of the graph that is neither taken in nor left out
+abbrev pub is_open : Shape → Node → ℕ → Bool
+is_open g d u = nat_lt u g.units && is_free g d u
+
+-- u makes a raw material
+abbrev pub MakesRaw : Shape → ℕ → Type 0
+MakesRaw g u = (x : ℕ) × (g.makes u x ≡ true) × (g.raw x ≡ true)
+
+-- w is the set of the units outside E without a path to a product through units outside E
+pub record IsLooseSet (g : Shape) (d : Node) (w : List ℕ) : Type 0 where
+  pub pathless : (u : ℕ) → has w u ≡ true → IsPathless g d u
+  pub others : (u : ℕ) → remaining g d u ≡ true → has w u ≡ false → HasPath g (remaining g d) u

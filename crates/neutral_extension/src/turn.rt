@@ -1,0 +1,85 @@
+//! Which step comes at a node, and what it does.
+ghost use Rattle.std.specs.Prelude.{◌≡◌};
+ghost use Rattle.pns_rules.specs.Nodes.{IsPossible, after};
+ghost use Rattle.pns_rules.specs.Ends.{IsSound};
+ghost use Rattle.pgraph.specs.Tables.{shape};
+ghost use Rattle.pgraph.specs.View.{node_of, step_of};
+ghost use Rattle.neutral_extension.specs.Moves.{IsMove};
+
+use crate::end::Stop;
+use crate::materials::{dead_material, starved_material, undecided_material};
+use crate::units::{loose_units, raw_unit, rival_unit, sole_step};
+use pgraph::Graph;
+use unit_sets::{Node, Step};
+
+/// What comes at a node: a step, or the end.
+#[derive(Clone, Copy, Debug)]
+pub enum Move {
+    Take(Step),
+    End(Stop),
+}
+
+/// What comes at the node.
+pub fn next_move(graph: &Graph, node: &Node) -> Move
+    requires { IsSound (shape graph.now) (node_of node.now) }
+    ensures { IsMove (shape graph.now) (node_of node.now) result }
+{
+    if let Some(x) = dead_material(graph, node) {
+        return Move::End(Stop::Dead(x));
+    }
+    if let Some(k) = graph.clash(node.inside) {
+        return Move::End(Stop::Clash(k));
+    }
+    if let Some(u) = raw_unit(graph, node) {
+        return Move::Take(Step::Raw(u));
+    }
+    if let Some(u) = rival_unit(graph, node) {
+        return Move::Take(Step::Rival(u));
+    }
+    if let Some(x) = starved_material(graph, node) {
+        return Move::Take(Step::Starve(x));
+    }
+    let loose = loose_units(graph, node);
+    if !loose.is_empty() {
+        return Move::Take(Step::Loose(loose));
+    }
+    if let Some((material, unit)) = sole_step(graph, node) {
+        return Move::Take(Step::Sole { material, unit });
+    }
+    match undecided_material(graph, node) {
+        Some(x) => Move::End(Stop::Branch(x)),
+        None => Move::End(Stop::Decided),
+    }
+}
+
+/// The node after a step.
+pub fn taken(graph: &Graph, node: &Node, step: &Step) -> Node
+    requires { IsPossible (shape graph.now) (node_of node.now) (step_of step.now) }
+    ensures { node_of result ≡ after (shape graph.now) (node_of node.now) (step_of step.now) }
+{
+    graph.is_proper();
+    let inside = node.inside;
+    let outside = node.outside;
+    match *step {
+        Step::Raw(u) => Node {
+            inside,
+            outside: outside.with(u),
+        },
+        Step::Rival(u) => Node {
+            inside,
+            outside: outside.with(u),
+        },
+        Step::Starve(x) => Node {
+            inside,
+            outside: graph.consumers(x).union(outside),
+        },
+        Step::Loose(set) => Node {
+            inside,
+            outside: set.union(outside),
+        },
+        Step::Sole { material: _, unit } => Node {
+            inside: inside.with(unit),
+            outside,
+        },
+    }
+}
