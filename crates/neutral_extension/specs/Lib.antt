@@ -1,2 +1,4 @@
+pub mod Candidates
+pub mod Cells
 pub mod Moves
 pub mod Tests

@@ -15,6 +15,7 @@
 
 mod end;
 mod extension;
+mod makers;
 mod materials;
 mod sets;
 mod turn;
@@ -22,3 +23,4 @@ mod units;
 
 pub use end::{Extended, Stop};
 pub use extension::extend;
+pub use makers::Makers;

@@ -1,0 +1,225 @@
+-- What the methods of `Makers` keep.
+use Rattle.std.proofs.Common.{◌≡◌, ℕ, zero, suc, ◌+◌, ◌-◌, ◌*◌, ◌<◌, ◌≤◌, ◌==◌, nat_lt, Bool, true, false, cond, not, ◌&&◌, ◌||◌, List, [], ◌∷◌, ◌++◌, length, map, take, Option, Some, None, slice_index_or, slice_set, refl, sym, ap, ap₂, ◌∙◌, subst, inl, inr, ◌⊎◌, eqb-true, lt-ltb, ltb-true, eq-eqb, ne_eqb, arith}
+use Rattle.std.proofs.lemmas.Bool.{or_cases, or_left, or_right, or_from, or_parts, and_from, and_parts, both_ways, false_from_ne_true, true_from_ne_false, not-true, cases_Bool, cases_eq, cases_lt, eqb-false}
+use Rattle.std.proofs.lemmas.List.{get_or_past, get_or-replicate, length-replicate, length-map, map-append, take_more, take_more_set, length-set, ext_get_or}
+use Rattle.number_sets.specs.Sets.{has, kept, first, IsSet, IsRising, IsBelowAll}
+use Rattle.number_sets.proofs.SetLemmas.{has-kept, has-append, below_not_had, has_below}
+use Rattle.link_lists.specs.Lists.{Rows, row, pushed, unlinked, relinked, with_pushed, opened, IsOnce, IsListed, IsTop, IsFree}
+use Rattle.link_lists.specs.Lists as cells
+use Rattle.link_lists.proofs.Cells as laws
+use Rattle.neutral_extension.specs.Candidates.{Candidates, makers_at, left}
+use Rattle.neutral_extension.specs.Cells.{cell_at, full_from, full_rows, unit_cells, out_cells, makes_in, out_units, IsKept, IsOrdered, IsOut, AreInBands, IsFilled}
+use Rattle.neutral_extension.proofs.OutLemmas.{cells_has, out_cells_push, out_units_push, row_left, cell_listed, length_out, room_left, row_full, length_full, has-map_to, once_cells, apart_out}
+
+length_taken : (k : ℕ) (xs : List ℕ) → k ≤ length xs → length (take k xs) ≡ k
+length_taken zero xs h = refl
+length_taken (suc k) [] h = absurd (omega arith)
+length_taken (suc k) (x ∷ xs) h = ap suc (length_taken k xs (omega arith))
+
+pub take_taken : (j k : ℕ) (xs : List ℕ) → j ≤ k → take j (take k xs) ≡ take j xs
+take_taken zero k xs h = refl
+take_taken (suc j) zero xs h = absurd (omega arith)
+take_taken (suc j) (suc k) [] h = refl
+take_taken (suc j) (suc k) (x ∷ xs) h = ap (λ ys. x ∷ ys) (take_taken j k xs (omega arith))
+
+IsOnce-front : (xs : List ℕ) (u : ℕ) → IsOnce (xs ++ u ∷ []) → IsOnce xs
+IsOnce-front [] u o = tt
+IsOnce-front (x ∷ xs) u o = ((or_parts (cells.has xs x) (cells.has (u ∷ []) x) (sym (laws.has-append xs (u ∷ []) x) ∙ o.0)).0, IsOnce-front xs u o.1)
+
+units_of : (mk : List (List ℕ)) → ((x : ℕ) → IsSet 128 (makers_at mk x)) → (x u : ℕ) → has (makers_at mk x) u ≡ true → u < 128
+units_of mk sets x u h = has_below 128 (makers_at mk x) u (sets x).below h
+
+module _ (r : Rows) (mk : List (List ℕ)) (order : List ℕ) (count : ℕ) (held : IsOrdered r mk order count) where
+  abbrev ts : List ℕ
+  ts = take count order
+
+  pub count_taken : length (take count order) ≡ count
+  count_taken = length_taken count order (let a = held.room in let b = held.deep in omega arith)
+
+  pub count_lists : length r.lists ≡ length mk
+  count_lists = ap (λ (k : Rows). length k.lists) held.kept.is ∙ length_out mk ts
+
+  pub row_is : (x : ℕ) → x < length mk → row r.lists x ≡ map (cell_at x) (kept (λ v. not (has (take count order) v)) (makers_at mk x))
+  row_is x lt = ap (λ (k : Rows). row k.lists x) held.kept.is ∙ row_left mk (units_of mk held.kept.sets) x lt ts held.kept.below
+
+  -- ---- take_out
+  module _ (u : ℕ) (few : u < 128) (fresh : has (take count order) u ≡ false) where
+    pub take_listed : (x : ℕ) → x < length mk → makes_in mk u x ≡ true → IsListed (out_cells r (unit_cells (makes_in mk) u x)).lists (cell_at x u)
+    take_listed x lt h = subst (λ (k : Rows). IsListed (out_cells k (unit_cells (makes_in mk) u x)).lists (cell_at x u)) (sym held.kept.is) (cell_listed mk (units_of mk held.kept.sets) x lt ts u held.kept.below few fresh h)
+
+    pub take_room : count < 128
+    take_room = let a = room_left ts u held.kept.once held.kept.below few fresh in let b = count_taken in omega arith
+
+    pub take_all : (r' : Rows) → r' ≡ out_cells r (unit_cells (makes_in mk) u (length mk)) → IsOrdered r' mk (slice_set order count u) (count + 1) × (take (count + 1) (slice_set order count u) ≡ take count order ++ u ∷ [])
+    take_all r' e =
+        let more = take_more_set order count u (let a = held.room in let b = take_room in omega arith) in (
+          record {
+            kept = subst (IsKept r' mk) (sym more) kept_more;
+            room = length-set order count u ∙ held.room;
+            deep = let b = take_room in omega arith;
+          },
+          more,
+        )
+      where
+        kept_more : IsKept r' mk (ts ++ u ∷ [])
+        kept_more = record {
+          is = e ∙ (ap (λ k. out_cells k (unit_cells (makes_in mk) u (length mk))) held.kept.is ∙ sym (out_units_push mk (full_rows mk) ts u));
+          few = held.kept.few;
+          sets = held.kept.sets;
+          once = laws.IsOnce-push ts u held.kept.once (cells_has ts u ∙ fresh);
+          below = λ v h. elim (or_cases (has ts v) (has (u ∷ []) v) (sym (has-append ts (u ∷ []) v) ∙ h)) [
+            | inl p ↦ held.kept.below v p
+            | inr p ↦ elim (or_cases (u == v) false p) [ inl q ↦ subst (λ k. k < 128) (eqb-true u v q) few | inr never ↦ absurd (both_ways false refl never) ]
+          ];
+        }
+
+  -- ---- undo
+  module _ (k u : ℕ) (more : count ≡ k + 1) (is_u : u ≡ slice_index_or order k 0) where
+    split : take count order ≡ take k order ++ u ∷ []
+    split = ap (λ n. take n order) more ∙ (take_more order k 0 (let a = held.room in let b = held.deep in omega arith) ∙ ap (λ v. take k order ++ v ∷ []) (sym is_u))
+
+    kept_split : IsKept r mk (take k order ++ u ∷ [])
+    kept_split = subst (λ t. IsKept r mk t) split held.kept
+
+    pub undo_unit : u < 128
+    undo_unit = kept_split.below u (has-append (take k order) (u ∷ []) u ∙ or_right (has (take k order) u) ((u == u) || false) (or_left (u == u) false (eq-eqb u u refl)))
+
+    below_less : (v : ℕ) → has (take k order) v ≡ true → v < 128
+    below_less v h = kept_split.below v (has-append (take k order) (u ∷ []) v ∙ or_left (has (take k order) v) ((u == v) || false) h)
+
+    last_fresh : has (take k order) u ≡ false
+    last_fresh = false_from_ne_true (has (take k order) u) (λ h. twice (take k order) kept_split.once h)
+      where
+        twice : (xs : List ℕ) → IsOnce (xs ++ u ∷ []) → has xs u ≡ true → ⊥
+        twice [] o h = both_ways false refl h
+        twice (x ∷ xs) o h = elim (or_cases (x == u) (has xs u) h) [
+          | inl e ↦ both_ways (cells.has (xs ++ u ∷ []) x) o.0 (laws.has-append xs (u ∷ []) x ∙ or_right (cells.has xs x) ((u == x) || false) (or_left (u == x) false (eq-eqb u x (sym (eqb-true x u e)))))
+          | inr q ↦ twice xs o.1 q
+        ]
+
+    pub undo_out : IsOut (makes_in mk) u (length mk) (out_units mk (full_rows mk) (take k order)) r
+    undo_out = record {
+      is = kept_split.is ∙ out_units_push mk (full_rows mk) (take k order) u;
+      apart = apart_out mk (take k order) held.kept.sets;
+      listed = λ x lt h. cell_listed mk (units_of mk held.kept.sets) x lt (take k order) u below_less undo_unit last_fresh h;
+    }
+
+    pub undo_all : (r' : Rows) → r' ≡ out_units mk (full_rows mk) (take k order) → IsOrdered r' mk order k × (take k order ≡ take (length (take count order) - 1) (take count order))
+    undo_all r' back = (
+      record {
+        kept = record { is = back; few = held.kept.few; sets = held.kept.sets; once = IsOnce-front (take k order) u kept_split.once; below = below_less };
+        room = held.room;
+        deep = let b = held.deep in omega arith;
+      },
+      sym same,
+    )
+      where
+        one_less : length (take count order) - 1 ≡ k
+        one_less = let a = count_taken in omega arith
+
+        same : take (length (take count order) - 1) (take count order) ≡ take k order
+        same = ap (λ n. take n (take count order)) one_less ∙ take_taken k count order (omega arith)
+
+-- ---- the first of a list of cells
+pub first_some : (x : ℕ) (us : List ℕ) (c : ℕ) → cells.first (map (cell_at x) us) ≡ Some c → (first us ≡ Some (c - x * 128)) × (x * 128 ≤ c)
+first_some x [] c e = cc
+first_some x (u ∷ us) c e =
+    let same : x * 128 + u ≡ c = cc in
+    let v : u ≡ c - x * 128 = omega arith in
+    (ap Some v, omega arith)
+
+pub first_none : (x : ℕ) (us : List ℕ) → cells.first (map (cell_at x) us) ≡ None → first us ≡ None
+first_none x [] e = refl
+first_none x (u ∷ us) e = cc
+
+-- ---- filling
+
+once_apart : (xs ys : List ℕ) (c : ℕ) → IsOnce (xs ++ ys) → cells.has ys c ≡ true → cells.has xs c ≡ false
+once_apart [] ys c o h = refl
+once_apart (x ∷ xs) ys c o h =
+    or_from (x == c) (cells.has xs c)
+    (ne_eqb x c (λ e. both_ways (cells.has (xs ++ ys) x) o.0 (laws.has-append xs ys x ∙ or_right (cells.has xs x) (cells.has ys x) (subst (λ v. cells.has ys v ≡ true) (sym e) h))))
+    (once_apart xs ys c o.1 h)
+
+pub first_of_rising : (us : List ℕ) (u : ℕ) → IsRising us → first us ≡ Some u → us ≡ u ∷ kept (λ v. not (u == v)) us
+first_of_rising [] u r e = cc
+first_of_rising (w ∷ us) u r e =
+    let same : w ≡ u = cc in
+    subst (λ z. w ∷ us ≡ z ∷ kept (λ v. not (z == v)) (w ∷ us)) same
+    (ap (λ ys. w ∷ ys) (sym (ap (λ b. cond (not b) (w ∷ kept (λ v. not (w == v)) us) (kept (λ v. not (w == v)) us)) (eq-eqb w w refl) ∙ all us r.0)))
+  where
+    all : (ys : List ℕ) → IsBelowAll w ys → kept (λ v. not (w == v)) ys ≡ ys
+    all [] b = refl
+    all (y ∷ ys) b =
+        let ne : w ≡ y → ⊥ = λ q. let lt : w < y = b.0 in omega arith in
+        ap (λ t. cond (not t) (y ∷ kept (λ v. not (w == v)) ys) (kept (λ v. not (w == v)) ys)) (ne_eqb w y ne) ∙ ap (λ zs. y ∷ zs) (all ys b.1)
+
+pub first_empty : (us : List ℕ) → first us ≡ None → us ≡ []
+first_empty [] e = refl
+first_empty (w ∷ us) e = cc
+
+module _ (old now : Rows) (x u : ℕ) (set left : List ℕ) (rising : IsRising set) (lt : x < length old.lists) (bands : AreInBands old.lists)
+    (count : length now.lists ≡ length old.lists)
+    (here : row now.lists x ++ map (cell_at x) left ≡ map (cell_at x) set)
+    (others : (y : ℕ) → (y ≡ x → ⊥) → row now.lists y ≡ row old.lists y)
+    (few : u < 128) (head : left ≡ u ∷ kept (λ v. not (u == v)) left) where
+  pub fill_free : IsFree now.lists (cell_at x u)
+  fill_free y = elim (cases_eq y x) [
+    | inl e ↦ subst (λ k. cells.has (row now.lists k) (cell_at x u) ≡ false) (sym e)
+        (once_apart (row now.lists x) (map (cell_at x) left) (cell_at x u) (subst IsOnce (sym here) (once_cells x set rising))
+        (ap (λ us. cells.has (map (cell_at x) us) (cell_at x u)) head ∙ or_left (cell_at x u == cell_at x u) (cells.has (map (cell_at x) (kept (λ v. not (u == v)) left)) (cell_at x u)) (eq-eqb (cell_at x u) (cell_at x u) refl)))
+    | inr ne ↦ false_from_ne_true (cells.has (row now.lists y) (cell_at x u)) (λ h.
+        let b = bands y (cell_at x u) (sym (ap (λ xs. cells.has xs (cell_at x u)) (others y ne)) ∙ h) in
+        let lo : y * 128 ≤ x * 128 + u = b.0 in
+        let hi : x * 128 + u < y * 128 + 128 = b.1 in
+        ne (omega arith))
+  ]
+
+  pub fill_here : row (pushed now.lists x (cell_at x u)) x ++ map (cell_at x) (kept (λ v. not (u == v)) left) ≡ map (cell_at x) set
+  fill_here =
+      ap (λ xs. xs ++ map (cell_at x) (kept (λ v. not (u == v)) left)) (laws.row-pushed now.lists x (cell_at x u) (omega arith))
+      ∙ (group (row now.lists x) (cell_at x u) (map (cell_at x) (kept (λ v. not (u == v)) left))
+      ∙ (ap (λ us. row now.lists x ++ map (cell_at x) us) (sym head) ∙ here))
+    where
+      group : (xs : List ℕ) (c : ℕ) (ys : List ℕ) → (xs ++ c ∷ []) ++ ys ≡ xs ++ c ∷ ys
+      group [] c ys = refl
+      group (z ∷ xs) c ys = ap (λ zs. z ∷ zs) (group xs c ys)
+
+  pub fill_others : (y : ℕ) → (y ≡ x → ⊥) → row (pushed now.lists x (cell_at x u)) y ≡ row old.lists y
+  fill_others y ne = laws.row-pushed_other now.lists x y (cell_at x u) ne ∙ others y ne
+
+  pub fill_less : length (kept (λ v. not (u == v)) left) < length left
+  fill_less = let e = ap length head in omega arith
+
+-- ---- the lists as they are opened
+
+pub bands_of : (ls mk : List (List ℕ)) (x : ℕ) → ((y : ℕ) → IsSet 128 (makers_at mk y)) → ((y : ℕ) → y < x → row ls y ≡ map (cell_at y) (makers_at mk y)) → ((y : ℕ) → x ≤ y → row ls y ≡ []) → AreInBands ls
+bands_of ls mk x sets filled empty y d h = elim (cases_lt y x) [
+  | inl lt ↦
+      let k = has-map_to y (makers_at mk y) d (sym (ap (λ xs. cells.has xs d) (filled y lt)) ∙ h) in
+      let b = units_of mk sets y k.0 k.1 in
+      let e : d ≡ y * 128 + k.0 = k.2 in
+      (omega arith, omega arith)
+  | inr le ↦ absurd (both_ways false refl (sym (ap (λ xs. cells.has xs d) (empty y le)) ∙ h))
+]
+
+pub rows_of_none : (n y : ℕ) → row (opened n (n * 128)).lists y ≡ []
+rows_of_none n y = elim (cases_lt y n) [
+  | inl low ↦ get_or-replicate n y [] [] low
+  | inr le ↦ get_or_past (opened n (n * 128)).lists y [] (let e = length-replicate {A = List ℕ} n [] in omega arith)
+]
+
+pub open_is : (r : Rows) (mk : List (List ℕ)) → r.cells ≡ length mk * 128 → length r.lists ≡ length mk → r.stack ≡ [] → ((y : ℕ) → y < length mk → row r.lists y ≡ map (cell_at y) (makers_at mk y)) → r ≡ full_rows mk
+open_is r mk cells count stack filled = λ i. record { cells = cells i; lists = same i; stack = stack i }
+  where
+    same : r.lists ≡ full_from 0 mk
+    same = ext_get_or [] r.lists (full_from 0 mk) (count ∙ sym (length_full 0 mk)) (λ y lt.
+        let z : 0 + y ≡ y = omega arith in
+        filled y (subst (λ k. y < k) count lt) ∙ sym (row_full 0 mk y ∙ ap (λ k. map (cell_at k) (makers_at mk y)) z))
+
+pub open_all : (r : Rows) (order : List ℕ) (mk : List (List ℕ)) → r ≡ full_rows mk → length mk ≤ 256 → ((x : ℕ) → IsSet 128 (makers_at mk x)) → length order ≡ 128 → IsOrdered r mk order 0
+open_all r order mk is few sets room = record {
+  kept = record { is = is; few = few; sets = sets; once = tt; below = λ u h. absurd (both_ways false refl h) };
+  room = room;
+  deep = omega arith;
+}

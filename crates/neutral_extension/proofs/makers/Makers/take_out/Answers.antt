@@ -1,0 +1,70 @@
+use Rattle.std.proofs.Common.{◌≡◌, ◌<◌, ◌≤◌, ◌+◌, ◌-◌, ◌*◌, ◌==◌, ℕ, Bool, true, false, not, ◌&&◌, ◌||◌, List, [], ◌∷◌, ◌++◌, map, length, take, nat_lt, refl, sym, ap, ap₂, ◌∙◌, subst, arith, MatchOption, Option, Some, None, IsTrue, ◌↔◌, inl, inr, slice_index_or, slice_set, eqb-true}
+use Rattle.std.proofs.lemmas.Bool.{both_ways, and_parts, and_from, or_from, not-true, cases_eq, cases_lt}
+use Rattle.std.proofs.lemmas.List.{get_or_read, length-replicate}
+use Rattle.number_sets.specs.Sets.{has, first, kept, minus, IsRising, IsSet, AreBelow}
+use Rattle.number_sets.proofs.SetLemmas.{has-kept, has-append, has-minus}
+use Rattle.link_lists.specs.Lists.{Rows, row, pushed, unlinked, relinked, with_pushed, opened, IsListed, IsTop, IsFree}
+use Rattle.link_lists.proofs.Cells.{length-pushed}
+use Rattle.pgraph.specs.Tables.{shape}
+use Rattle.neutral_extension.specs.Candidates.{Candidates, makers_at, left, AreMakersOf, IsFront}
+use Rattle.neutral_extension.specs.Cells.{cell_at, full_rows, unit_cells, out_cells, makes_in, out_units, IsKept, IsOrdered, IsOut, AreInBands, IsFilled}
+use Rattle.neutral_extension.proofs.OutLemmas.{out_cells_push, cells_more, cells_same, cells_none, back_one}
+use Rattle.neutral_extension.proofs.KeptLemmas.{count_taken, count_lists, row_is, take_listed, take_room, take_all, undo_unit, undo_out, undo_all, first_some, first_none, first_of_rising, first_empty, fill_free, fill_here, fill_others, fill_less, bands_of, rows_of_none, open_is, open_all, take_taken}
+use Rattle.neutral_extension.proofs.makers.Makers.take_out.Goals as goal
+
+pub unlink_cells-requires-clause-listed : goal.unlink_cells-requires-clause-listed
+unlink_cells-requires-clause-listed c =
+    let s = c.self.inside in
+    let held = c.self.invariant in
+    let mk : s.makers.items ≡ c.args.self.now.makers = ap (λ (k : Candidates). k.makers) c.self.view_is in
+    let ts : take s.count s.order.items ≡ c.args.self.now.taken = ap (λ (k : Candidates). k.taken) c.self.view_is in
+    let g = shape c.args.graph.now in
+    let fresh : has (take s.count s.order.items) c.args.u ≡ false = ap (λ t. has t c.args.u) ts ∙ c.requires.fresh in
+    let makes : makes_in s.makers.items ≡ g.makes = ap makes_in mk ∙ (λ i. λ u x. c.requires.same.makes x u i) in
+    let count : length s.makers.items ≡ g.materials = ap length mk ∙ c.requires.same.count in
+    subst (λ (n : ℕ). (x : ℕ) → x < n → g.makes c.args.u x ≡ true → IsListed (out_cells s.lists (unit_cells g.makes c.args.u x)).lists (cell_at x c.args.u)) count
+    (subst (λ (m : ℕ → ℕ → Bool). (x : ℕ) → x < length s.makers.items → m c.args.u x ≡ true → IsListed (out_cells s.lists (unit_cells m c.args.u x)).lists (cell_at x c.args.u)) makes
+    (take_listed s.lists s.makers.items s.order.items s.count held c.args.u c.requires.unit fresh))
+
+pub index_mut-requires : goal.index_mut-requires
+index_mut-requires c =
+    let s = c.self.inside in
+    let held = c.self.invariant in
+    let mk : s.makers.items ≡ c.args.self.now.makers = ap (λ (k : Candidates). k.makers) c.self.view_is in
+    let ts : take s.count s.order.items ≡ c.args.self.now.taken = ap (λ (k : Candidates). k.taken) c.self.view_is in
+    let g = shape c.args.graph.now in
+    let fresh : has (take s.count s.order.items) c.args.u ≡ false = ap (λ t. has t c.args.u) ts ∙ c.requires.fresh in
+    let makes : makes_in s.makers.items ≡ g.makes = ap makes_in mk ∙ (λ i. λ u x. c.requires.same.makes x u i) in
+    let count : length s.makers.items ≡ g.materials = ap length mk ∙ c.requires.same.count in
+    let room = take_room s.lists s.makers.items s.order.items s.count held c.args.u c.requires.unit fresh in
+    let size = held.room in
+    let ok = s.order.ok in
+    omega arith
+
+pub invariant_of-self : goal.invariant_of-self
+invariant_of-self c =
+    let s = c.self.inside in
+    let held = c.self.invariant in
+    let mk : s.makers.items ≡ c.args.self.now.makers = ap (λ (k : Candidates). k.makers) c.self.view_is in
+    let ts : take s.count s.order.items ≡ c.args.self.now.taken = ap (λ (k : Candidates). k.taken) c.self.view_is in
+    let g = shape c.args.graph.now in
+    let fresh : has (take s.count s.order.items) c.args.u ≡ false = ap (λ t. has t c.args.u) ts ∙ c.requires.fresh in
+    let makes : makes_in s.makers.items ≡ g.makes = ap makes_in mk ∙ (λ i. λ u x. c.requires.same.makes x u i) in
+    let count : length s.makers.items ≡ g.materials = ap length mk ∙ c.requires.same.count in
+    let all = take_all s.lists s.makers.items s.order.items s.count held c.args.u c.requires.unit fresh c.unlink_cells.new.lists
+    (c.unlink_cells.ensures ∙ ap₂ (λ m n. out_cells s.lists (unit_cells m c.args.u n)) (sym makes) (sym count)) in
+    all.0
+
+pub returns : goal.returns
+returns c =
+    let s = c.self.inside in
+    let held = c.self.invariant in
+    let mk : s.makers.items ≡ c.args.self.now.makers = ap (λ (k : Candidates). k.makers) c.self.view_is in
+    let ts : take s.count s.order.items ≡ c.args.self.now.taken = ap (λ (k : Candidates). k.taken) c.self.view_is in
+    let g = shape c.args.graph.now in
+    let fresh : has (take s.count s.order.items) c.args.u ≡ false = ap (λ t. has t c.args.u) ts ∙ c.requires.fresh in
+    let makes : makes_in s.makers.items ≡ g.makes = ap makes_in mk ∙ (λ i. λ u x. c.requires.same.makes x u i) in
+    let count : length s.makers.items ≡ g.materials = ap length mk ∙ c.requires.same.count in
+    let all = take_all s.lists s.makers.items s.order.items s.count held c.args.u c.requires.unit fresh c.unlink_cells.new.lists
+    (c.unlink_cells.ensures ∙ ap₂ (λ m n. out_cells s.lists (unit_cells m c.args.u n)) (sym makes) (sym count)) in
+    λ i. record { makers = mk i; taken = (all.1 ∙ ap (λ (t : List ℕ). t ++ c.args.u ∷ []) ts) i }

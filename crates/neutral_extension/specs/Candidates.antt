@@ -1,0 +1,28 @@
+-- The makers of each material, of which some units are taken out.
+use Rattle.std.specs.Prelude.{◌≡◌, ℕ, not, List, [], length, slice_index_or, ◌++◌}
+use Rattle.number_sets.specs.Sets.{has, kept, IsSet}
+use Rattle.pns_rules.specs.Shape.{Shape}
+
+-- the makers of each material, and the units that are taken out, the last one last
+pub record Candidates : Type 0 where
+  pub makers : List (List ℕ)
+  pub taken : List ℕ
+
+-- the makers of x, none where there is no such material
+abbrev pub makers_at : List (List ℕ) → ℕ → List ℕ
+makers_at mk x = slice_index_or mk x []
+
+-- the makers of x that are not taken out
+abbrev pub left : Candidates → ℕ → List ℕ
+left k x = kept (λ u. not (has k.taken u)) (makers_at k.makers x)
+
+-- for each material of the graph the rising list of its makers
+pub record AreMakersOf (g : Shape) (mk : List (List ℕ)) : Type 0 where
+  pub count : length mk ≡ g.materials
+  pub makes : (x u : ℕ) → has (makers_at mk x) u ≡ g.makes u x
+  pub sets : (x : ℕ) → IsSet 128 (makers_at mk x)
+
+-- the one list begins the other
+pub record IsFront (front all : List ℕ) : Type 0 where
+  pub rest : List ℕ
+  pub is : all ≡ front ++ rest

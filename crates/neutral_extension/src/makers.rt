@@ -1,0 +1,185 @@
+//! `Makers`: the makers of each material as linked lists, out of which units are taken and brought back.
+ghost use Rattle.std.specs.Prelude.{◌≡◌, ◌<◌, ◌≤◌, ◌+◌, ◌-◌, ◌*◌, ℕ, true, false, List, [], ◌∷◌, ◌++◌, length, take, IfOk};
+ghost use Rattle.number_sets.specs.Sets.{has, first, IsSet};
+ghost use Rattle.link_lists.specs.Lists.{Rows, row, IsListed};
+ghost use Rattle.pgraph.specs.Tables.{shape};
+ghost use Rattle.neutral_extension.specs.Candidates.{left, makers_at, AreMakersOf};
+ghost use Rattle.neutral_extension.specs.Cells.{cell_at, unit_cells, out_cells, full_rows, AreInBands, IsFilled, IsOut};
+
+use link_lists::Lists;
+use pgraph::Graph;
+use std::alloc::{AllocError, Global};
+use std::marker::Model;
+use unit_sets::UnitSet;
+
+/// The makers of each material, as linked lists of those that are not taken out.
+#[derive(Drop)]
+pub struct Makers {
+    // The maker u of the material x has the cell 128 x + u in list x.
+    lists: Lists,
+    makers: Vec<UnitSet>,
+    order: Vec<u32>,
+    count: u32,
+}
+
+impl Model for Makers {
+    ghost use Rattle.std.specs.Prelude.{take};
+    ghost use Rattle.neutral_extension.specs.Candidates.{Candidates};
+    ghost use Rattle.neutral_extension.specs.Cells.{IsOrdered};
+
+    ghost Value = { Candidates };
+
+    ghost view = { λ s. record { makers = s.makers.items; taken = take s.count s.order.items } };
+
+    ghost invariant = { λ s. IsOrdered s.lists s.makers.items s.order.items s.count };
+}
+
+/// Unlinks the cells of the unit.
+fn unlink_cells(lists: &mut Lists, graph: &Graph, u: u32)
+    requires unit { u < 128 }
+    requires listed { (x : ℕ) → x < (shape graph.now).materials → (shape graph.now).makes u x ≡ true → IsListed (out_cells lists.old (unit_cells (shape graph.now).makes u x)).lists (cell_at x u) }
+    ensures { lists.new ≡ out_cells lists.old (unit_cells (shape graph.now).makes u (shape graph.now).materials) }
+{
+    graph.is_proper();
+    for x in 0..graph.material_count() {
+        if graph.producers(x).has(u) {
+            lists.unlink(x * 128 + u);
+        }
+    }
+}
+
+/// Relinks the cells of the unit, which was the last to be unlinked.
+fn relink_cells(lists: &mut Lists, graph: &Graph, u: u32)
+    requires unit { u < 128 }
+    requires out { (b : Rows) × IsOut (shape graph.now).makes u (shape graph.now).materials b lists.old }
+    ensures { (b : Rows) → IsOut (shape graph.now).makes u (shape graph.now).materials b lists.old → lists.new ≡ b }
+{
+    graph.is_proper();
+    let count = graph.material_count();
+    for i in 0..count {
+        let x = count - 1 - i;
+        if graph.producers(x).has(u) {
+            lists.relink(x * 128 + u);
+        }
+    }
+}
+
+/// Puts a cell for each unit of the set into an empty list.
+fn fill(lists: &mut Lists, x: u32, set: UnitSet)
+    requires list { (x < length lists.old.lists) × (length lists.old.lists ≤ 256) }
+    requires cells { lists.old.cells ≡ length lists.old.lists * 128 }
+    requires stack { lists.old.stack ≡ [] }
+    requires empty { row lists.old.lists x ≡ [] }
+    requires bands { AreInBands lists.old.lists }
+    ensures { IsFilled lists.old lists.new x set }
+{
+    set.rises();
+    let mut rest = set;
+    'fill: loop {
+        rest.rises();
+        let Some(u) = rest.least() else {
+            return;
+        };
+        lists.push_back(x, x * 128 + u);
+        rest = rest.without(u);
+    }
+}
+
+/// The makers of each material of the graph.
+fn all_makers(alloc: Global, graph: &Graph) -> Result<Vec<UnitSet>, AllocError>
+    ensures { IfOk result (λ makers. AreMakersOf (shape graph.now) makers.items) }
+{
+    graph.is_proper();
+    let mut makers = Vec::new(alloc);
+    for x in 0..graph.material_count() {
+        let producers = graph.producers(x);
+        producers.rises();
+        makers.push(producers)?;
+    }
+    Ok(makers)
+}
+
+/// Lists of the makers, each maker in the list of its material.
+fn full_lists(alloc: Global, makers: &[UnitSet]) -> Result<Lists, AllocError>
+    requires few { length makers.now ≤ 256 }
+    requires sets { (x : ℕ) → IsSet 128 (makers_at makers.now x) }
+    ensures { IfOk result (λ lists. lists ≡ full_rows makers.now) }
+{
+    let count = makers.len() as u32;
+    let mut lists = Lists::open(alloc, count, count * 128)?;
+    for x in 0..count {
+        fill(&mut lists, x, makers[x as usize]);
+    }
+    Ok(lists)
+}
+
+impl Makers {
+    /// The makers of the graph's materials, none of them taken out. `Err` comes for want of memory alone.
+    pub fn open(alloc: Global, graph: &Graph) -> Result<Makers, AllocError>
+        ensures makers { IfOk result (λ m. AreMakersOf (shape graph.now) m.makers) }
+        ensures taken { IfOk result (λ m. m.taken ≡ []) }
+    {
+        graph.is_proper();
+        let makers = all_makers(alloc, graph)?;
+        let order = vec![in alloc; 0u32; 128]?;
+        let lists = full_lists(alloc, &makers)?;
+        Ok(Makers {
+            lists,
+            makers,
+            order,
+            count: 0,
+        })
+    }
+
+    /// How many units are taken out.
+    pub fn taken(&self) -> u32
+        ensures { result ≡ length self.now.taken }
+    {
+        self.count
+    }
+
+    /// The first maker of the material that is not taken out, and `None` exactly where all are.
+    pub fn first(&self, x: u32) -> Option<u32>
+        requires { x < length self.now.makers }
+        ensures { result ≡ first (left self.now x) }
+    {
+        match self.lists.first(x) {
+            Some(cell) => Some(cell - x * 128),
+            None => None,
+        }
+    }
+
+    /// Takes the unit out of the lists of all materials. The graph is the one of `open`.
+    pub fn take_out(&mut self, graph: &Graph, u: u32)
+        requires same { AreMakersOf (shape graph.now) self.old.makers }
+        requires unit { u < 128 }
+        requires fresh { has self.old.taken u ≡ false }
+        ensures { self.new ≡ record { makers = self.old.makers; taken = self.old.taken ++ u ∷ [] } }
+    {
+        unlink_cells(&mut self.lists, graph, u);
+        self.order[self.count as usize] = u;
+        self.count += 1;
+    }
+
+    /// Brings back the unit that was taken out last.
+    fn undo(&mut self, graph: &Graph)
+        requires same { AreMakersOf (shape graph.now) self.old.makers }
+        requires some { 0 < length self.old.taken }
+        ensures { self.new ≡ record { makers = self.old.makers; taken = take (length self.old.taken - 1) self.old.taken } }
+    {
+        let u = self.order[self.count as usize - 1];
+        relink_cells(&mut self.lists, graph, u);
+        self.count -= 1;
+    }
+
+    /// Brings back the units that were taken out last, until only the first `to` are out. The graph is the one of `open`.
+    pub fn back(&mut self, graph: &Graph, to: u32)
+        requires same { AreMakersOf (shape graph.now) self.old.makers }
+        requires most { to ≤ length self.old.taken }
+        ensures { self.new ≡ record { makers = self.old.makers; taken = take to self.old.taken } }
+    {
+        'back: while self.taken() > to {
+            self.undo(graph);
+        }
+    }
+}
