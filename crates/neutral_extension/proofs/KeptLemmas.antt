@@ -1,13 +1,14 @@
 -- What the methods of `Makers` keep.
 use Rattle.std.proofs.Common.{◌≡◌, ℕ, zero, suc, ◌+◌, ◌-◌, ◌*◌, ◌<◌, ◌≤◌, ◌==◌, nat_lt, Bool, true, false, cond, not, ◌&&◌, ◌||◌, List, [], ◌∷◌, ◌++◌, length, map, take, Option, Some, None, slice_index_or, slice_set, refl, sym, ap, ap₂, ◌∙◌, subst, inl, inr, ◌⊎◌, eqb-true, lt-ltb, ltb-true, eq-eqb, ne_eqb, arith}
 use Rattle.std.proofs.lemmas.Bool.{or_cases, or_left, or_right, or_from, or_parts, and_from, and_parts, both_ways, false_from_ne_true, true_from_ne_false, not-true, cases_Bool, cases_eq, cases_lt, eqb-false}
-use Rattle.std.proofs.lemmas.List.{get_or_past, get_or-replicate, length-replicate, length-map, map-append, take_more, take_more_set, length-set, ext_get_or}
+use Rattle.std.proofs.lemmas.List.{length-append, get_or_push, get_or_append_left, get_or_past, get_or-replicate, length-replicate, length-map, map-append, take_more, take_more_set, length-set, ext_get_or}
 use Rattle.number_sets.specs.Sets.{has, kept, first, IsSet, IsRising, IsBelowAll}
 use Rattle.number_sets.proofs.SetLemmas.{has-kept, has-append, below_not_had, has_below}
 use Rattle.link_lists.specs.Lists.{Rows, row, pushed, unlinked, relinked, with_pushed, opened, IsOnce, IsListed, IsTop, IsFree}
 use Rattle.link_lists.specs.Lists as cells
 use Rattle.link_lists.proofs.Cells as laws
-use Rattle.neutral_extension.specs.Candidates.{Candidates, makers_at, left}
+use Rattle.pns_rules.specs.Shape.{Shape, IsProper}
+use Rattle.neutral_extension.specs.Candidates.{Candidates, makers_at, left, AreMakersOf}
 use Rattle.neutral_extension.specs.Cells.{cell_at, full_from, full_rows, unit_cells, out_cells, makes_in, out_units, IsKept, IsOrdered, IsOut, AreInBands, IsFilled}
 use Rattle.neutral_extension.proofs.OutLemmas.{cells_has, out_cells_push, out_units_push, row_left, cell_listed, length_out, room_left, row_full, length_full, has-map_to, once_cells, apart_out}
 
@@ -222,4 +223,41 @@ open_all r order mk is few sets room = record {
   kept = record { is = is; few = few; sets = sets; once = tt; below = λ u h. absurd (both_ways false refl h) };
   room = room;
   deep = omega arith;
+}
+
+-- ---- the makers read of a graph
+
+-- the makers of the materials below n
+pub record AreRead (g : Shape) (n : ℕ) (mk : List (List ℕ)) : Type 0 where
+  pub count : length mk ≡ n
+  pub makes : (x u : ℕ) → x < n → has (makers_at mk x) u ≡ g.makes u x
+  pub sets : (x : ℕ) → IsSet 128 (makers_at mk x)
+
+pub read_none : (g : Shape) → AreRead g 0 []
+read_none g = record { count = refl; makes = λ x u lt. absurd (omega arith); sets = λ x. record { rising = tt; below = tt } }
+
+pub read_more : (g : Shape) (n : ℕ) (mk : List (List ℕ)) (us : List ℕ) → has us ≡ (λ u. g.makes u n) → IsSet 128 us → AreRead g n mk → AreRead g (n + 1) (mk ++ us ∷ [])
+read_more g n mk us e set h = record {
+  count = length-append mk (us ∷ []) ∙ (let a = h.count in omega arith);
+  makes = λ x u lt. elim (cases_eq x n) [
+    | inl q ↦ ap (λ j. has (makers_at (mk ++ us ∷ []) j) u) q ∙ (ap (λ xs. has xs u) (get_or_push mk us [] n h.count) ∙ (ap (λ (f : ℕ → Bool). f u) e ∙ ap (g.makes u) (sym q)))
+    | inr ne ↦ ap (λ xs. has xs u) (get_or_append_left mk (us ∷ []) [] x (let a = h.count in omega arith)) ∙ h.makes x u (omega arith)
+  ];
+  sets = λ x. elim (cases_eq x n) [
+    | inl q ↦ subst (IsSet 128) (sym (ap (makers_at (mk ++ us ∷ [])) q ∙ get_or_push mk us [] n h.count)) set
+    | inr ne ↦ elim (cases_lt x n) [
+      | inl lt ↦ subst (IsSet 128) (sym (get_or_append_left mk (us ∷ []) [] x (let a = h.count in omega arith))) (h.sets x)
+      | inr le ↦ subst (IsSet 128) (sym (get_or_past (mk ++ us ∷ []) x [] (let a = h.count in let b = length-append mk (us ∷ []) in omega arith))) (record { rising = tt; below = tt })
+    ]
+  ];
+}
+
+pub read_all : (g : Shape) (mk : List (List ℕ)) (n : ℕ) → IsProper g → n ≡ g.materials → AreRead g n mk → AreMakersOf g mk
+read_all g mk n proper e h = record {
+  count = h.count ∙ e;
+  makes = λ x u. elim (cases_lt x n) [
+    | inl lt ↦ h.makes x u lt
+    | inr le ↦ ap (λ xs. has xs u) (get_or_past mk x [] (let a = h.count in omega arith)) ∙ sym (false_from_ne_true (g.makes u x) (λ m. let lt = proper.output_known u x m in omega arith))
+  ];
+  sets = h.sets;
 }

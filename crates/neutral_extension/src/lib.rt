@@ -10,7 +10,8 @@
 //! - `materials`: dead, starved and undecided materials
 //! - `units`: units that go out or in by a step
 //! - `turn`: which step comes at a node, and what it does
-//! - `extension`: `extend`
+//! - `makers`: `Makers`
+//! - `extension`: `extend` and `extend_with`
 #![tactic(auto)]
 
 mod end;
@@ -22,5 +23,5 @@ mod turn;
 mod units;
 
 pub use end::{Extended, Stop};
-pub use extension::extend;
+pub use extension::{extend, extend_with};
 pub use makers::Makers;

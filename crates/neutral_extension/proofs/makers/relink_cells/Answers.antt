@@ -57,7 +57,10 @@ loop-i-preserved c = λ b out.
     ]
 
 pub loop-i-init : goal.loop-i-init
-loop-i-init c = λ b out. out.is
+loop-i-init c = λ b out.
+    let g = shape c.args.graph.now in
+    let e : g.materials ≡ g.materials - 0 = omega arith in
+    out.is ∙ ap (λ n. out_cells b (unit_cells g.makes c.args.u n)) e
 
 pub returns : goal.returns
 returns c = λ b out.

@@ -31,3 +31,12 @@ loop-x-preserved c =
       | else-has w ↦
           w.lists-is ∙ (c.loop-x.invariant ∙ ap (out_cells r) (sym (cells_same makes u x (sym there ∙ w.if-has.false))))
     ]
+
+pub unlink-requires : goal.unlink-requires
+unlink-requires c =
+    let u = c.args.u in
+    let x = c.loop-x.x in
+    let test = c.loop-x-test.true in
+    let end = c.material_count-x-end.ensures in
+    let there = c.has.ensures ∙ ap (λ (f : ℕ → Bool). f u) c.producers.ensures in
+    subst (λ (k : Rows). IsListed k.lists (cell_at x u)) (sym c.loop-x.invariant) (c.requires.listed x (omega arith) (sym there ∙ c.if-has.true))
