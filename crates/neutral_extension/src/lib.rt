@@ -19,6 +19,8 @@ mod extension;
 mod makers;
 mod materials;
 mod sets;
+#[cfg(test)]
+mod tests;
 mod turn;
 mod units;
 
