@@ -1,11 +1,11 @@
 -- What a step does to a node, and what a decided node is.
-use Rattle.std.proofs.Common.{◌≡◌, ℕ, zero, suc, ◌<◌, ◌≤◌, ◌==◌, nat_lt, Bool, true, false, not, ◌&&◌, ◌||◌, List, [], ◌∷◌, ◌++◌, ◌↔◌, length, refl, sym, ap, ◌∙◌, subst, inl, inr, ◌⊎◌, eqb-true, lt-ltb, ltb-true, eq-eqb, arith}
+use Rattle.std.proofs.Common.{◌≡◌, ℕ, ◌<◌, ◌==◌, nat_lt, Bool, true, false, not, ◌&&◌, ◌||◌, List, [], ◌∷◌, ◌++◌, ◌↔◌, length, refl, sym, ap, ◌∙◌, subst, inl, inr, eqb-true, lt-ltb, ltb-true, eq-eqb, arith}
 use Rattle.std.proofs.lemmas.Bool.{or_cases, or_left, or_right, and_from, and_parts, both_ways, false_from_ne_true, true_from_ne_false, not-true, cases_Bool}
-use Rattle.number_sets.specs.Sets.{has, listed, IsWithin, Avoids}
+use Rattle.number_sets.specs.Sets.{has, listed, IsWithin}
 use Rattle.pns_rules.specs.Shape.{Shape, IsProper}
-use Rattle.pns_rules.specs.Structure.{is_made, is_used, is_needed, mats, IsPath, HasPath, IsStructure, InFamily, Clashes}
+use Rattle.pns_rules.specs.Structure.{is_made, is_used, is_needed, IsPath, HasPath, IsStructure, InFamily}
 use Rattle.pns_rules.specs.Nodes.{Node, Step, raw, rival, starve, loose, sole, IsPossible, after, is_free}
-use Rattle.pns_rules.specs.Ends.{IsSound, IsDead, remaining, IsPathless, IsUndecided, IsNever, kind_order, number_of, IsEarlier, IsWhole, IsLive, IsNextStep, Leads, IsReduced, IsDecided}
+use Rattle.pns_rules.specs.Ends.{IsSound, remaining, IsUndecided, IsNever, IsNextStep, Leads, IsReduced, IsDecided}
 use Rattle.number_sets.proofs.SetLemmas.{has-listed, IsRising-listed, length-less}
 use Rattle.pns_rules.proofs.StructureLemmas.{is_made-from, is_made-some, is_used-from, is_used-some, HasPath-within}
 use Rattle.pns_rules.proofs.StepLemmas.{steps_keep_families}

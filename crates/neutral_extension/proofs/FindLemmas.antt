@@ -1,12 +1,12 @@
 -- What the finders find: each set is that of the numbers with the property, so its least number is the first of them.
-use Rattle.std.proofs.Common.{◌≡◌, ℕ, zero, suc, ◌+◌, ◌<◌, ◌≤◌, ◌==◌, nat_lt, Bool, true, false, cond, not, ◌&&◌, ◌||◌, List, [], ◌∷◌, ◌↔◌, length, Option, Some, None, MatchOption, IsTrue, refl, sym, ap, ap₂, ◌∙◌, subst, inl, inr, ◌⊎◌, eqb-true, lt-ltb, ltb-true, eq-eqb, ne_eqb, arith}
+use Rattle.std.proofs.Common.{◌≡◌, ℕ, ◌<◌, ◌==◌, nat_lt, Bool, true, false, cond, not, ◌&&◌, ◌||◌, List, [], ◌∷◌, ◌↔◌, length, Some, MatchOption, refl, sym, ap, ap₂, ◌∙◌, subst, inl, inr, ◌⊎◌, eqb-true, lt-ltb, ltb-true, eq-eqb, ne_eqb, arith}
 use Rattle.std.proofs.lemmas.Bool.{or_cases, or_left, or_right, or_from, and_from, and_parts, both_ways, false_from_ne_true, true_from_ne_false, not-true, cases_Bool}
 use Rattle.number_sets.specs.Sets.{has, first, kept, minus, meet, union, IsRising, IsWithin, Avoids}
 use Rattle.number_sets.proofs.SetLemmas.{has-minus, has-meet, has-union, has-kept, below_not_had, same_sets, same_tests}
 use Rattle.pns_rules.specs.Shape.{Shape, IsProper}
 use Rattle.pns_rules.specs.Structure.{is_made, is_used, is_needed, IsPath, HasPath}
-use Rattle.pns_rules.specs.Nodes.{Node, Step, raw, rival, starve, loose, sole, IsPossible, is_free}
-use Rattle.pns_rules.specs.Ends.{IsSound, IsDead, remaining, IsPathless, IsUndecided, IsNever, IsFirst, IsWhole}
+use Rattle.pns_rules.specs.Nodes.{Node, raw, rival, starve, loose, sole, IsPossible, is_free}
+use Rattle.pns_rules.specs.Ends.{IsSound, IsDead, remaining, IsUndecided, IsNever, IsFirst, IsWhole}
 use Rattle.pns_rules.proofs.StructureLemmas.{is_made-from, is_made-some, is_used-from, is_used-some, HasPath-within}
 use Rattle.pgraph.specs.Rivals.{IsRival}
 use Rattle.pgraph.specs.View.{node_of}

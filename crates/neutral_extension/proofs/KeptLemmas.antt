@@ -1,16 +1,16 @@
 -- What the methods of `Makers` keep.
-use Rattle.std.proofs.Common.{◌≡◌, ℕ, zero, suc, ◌+◌, ◌-◌, ◌*◌, ◌<◌, ◌≤◌, ◌==◌, nat_lt, Bool, true, false, cond, not, ◌&&◌, ◌||◌, List, [], ◌∷◌, ◌++◌, length, map, take, Option, Some, None, slice_index_or, slice_set, refl, sym, ap, ap₂, ◌∙◌, subst, inl, inr, ◌⊎◌, eqb-true, lt-ltb, ltb-true, eq-eqb, ne_eqb, arith}
-use Rattle.std.proofs.lemmas.Bool.{or_cases, or_left, or_right, or_from, or_parts, and_from, and_parts, both_ways, false_from_ne_true, true_from_ne_false, not-true, cases_Bool, cases_eq, cases_lt, eqb-false}
-use Rattle.std.proofs.lemmas.List.{length-append, get_or_push, get_or_append_left, get_or_past, get_or-replicate, length-replicate, length-map, map-append, take_more, take_more_set, length-set, ext_get_or}
+use Rattle.std.proofs.Common.{◌≡◌, ℕ, zero, suc, ◌+◌, ◌-◌, ◌*◌, ◌<◌, ◌≤◌, ◌==◌, Bool, true, false, cond, not, ◌||◌, List, [], ◌∷◌, ◌++◌, length, map, take, Some, None, slice_index_or, slice_set, refl, sym, ap, ◌∙◌, subst, inl, inr, eqb-true, eq-eqb, ne_eqb, arith}
+use Rattle.std.proofs.lemmas.Bool.{or_cases, or_left, or_right, or_from, or_parts, both_ways, false_from_ne_true, cases_eq, cases_lt}
+use Rattle.std.proofs.lemmas.List.{length-append, get_or_push, get_or_append_left, get_or_past, get_or-replicate, length-replicate, take_more, take_more_set, length-set, ext_get_or}
 use Rattle.number_sets.specs.Sets.{has, kept, first, IsSet, IsRising, IsBelowAll}
-use Rattle.number_sets.proofs.SetLemmas.{has-kept, has-append, below_not_had, has_below}
+use Rattle.number_sets.proofs.SetLemmas.{has-append, has_below}
 use Rattle.link_lists.specs.Lists.{Rows, row, pushed, unlinked, relinked, with_pushed, opened, IsOnce, IsListed, IsTop, IsFree}
 use Rattle.link_lists.specs.Lists as cells
 use Rattle.link_lists.proofs.Cells as laws
 use Rattle.pns_rules.specs.Shape.{Shape, IsProper}
-use Rattle.neutral_extension.specs.Candidates.{Candidates, makers_at, left, AreMakersOf}
-use Rattle.neutral_extension.specs.Cells.{cell_at, full_from, full_rows, unit_cells, out_cells, makes_in, out_units, IsKept, IsOrdered, IsOut, AreInBands, IsFilled}
-use Rattle.neutral_extension.proofs.OutLemmas.{cells_has, out_cells_push, out_units_push, row_left, cell_listed, length_out, room_left, row_full, length_full, has-map_to, once_cells, apart_out}
+use Rattle.neutral_extension.specs.Candidates.{makers_at, AreMakersOf}
+use Rattle.neutral_extension.specs.Cells.{cell_at, full_from, full_rows, unit_cells, out_cells, makes_in, out_units, IsKept, IsOrdered, IsOut, AreInBands}
+use Rattle.neutral_extension.proofs.OutLemmas.{cells_has, out_units_push, row_left, cell_listed, length_out, room_left, row_full, length_full, has-map_to, once_cells, apart_out}
 
 length_taken : (k : ℕ) (xs : List ℕ) → k ≤ length xs → length (take k xs) ≡ k
 length_taken zero xs h = refl

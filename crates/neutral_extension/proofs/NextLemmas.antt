@@ -1,10 +1,9 @@
 -- The step that comes, kind by kind.
-use Rattle.std.proofs.Common.{◌≡◌, ℕ, ◌<◌, ◌≤◌, Bool, true, false, List, [], ◌∷◌, ◌↔◌, refl, inl, inr, ◌⊎◌, arith}
-use Rattle.number_sets.specs.Sets.{has}
+use Rattle.std.proofs.Common.{◌≡◌, ℕ, ◌<◌, List, inl, inr, ◌⊎◌, arith}
 use Rattle.pns_rules.specs.Shape.{Shape}
-use Rattle.pns_rules.specs.Structure.{Clashes, HasPath}
+use Rattle.pns_rules.specs.Structure.{Clashes}
 use Rattle.pns_rules.specs.Nodes.{Node, Step, raw, rival, starve, loose, sole, IsPossible}
-use Rattle.pns_rules.specs.Ends.{IsSound, IsDead, remaining, IsNever, IsFirst, IsUndecided, kind_order, number_of, IsEarlier, IsWhole, IsLive, IsNextStep, IsReduced, IsDecided}
+use Rattle.pns_rules.specs.Ends.{IsDead, IsNever, IsFirst, IsEarlier, IsWhole, IsLive, IsNextStep, IsReduced}
 
 late : (a b : ℕ) (X : Type 0) → b < a → ((a < b) ⊎ ((a ≡ b) × X)) → ⊥
 late a b X h e = elim e [ inl lt ↦ omega arith | inr q ↦ let same = q.0 in omega arith ]

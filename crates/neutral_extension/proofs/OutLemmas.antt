@@ -1,7 +1,7 @@
 -- Units taken out of the lists of makers, and brought back.
-use Rattle.std.proofs.Common.{◌≡◌, ℕ, zero, suc, ◌+◌, ◌-◌, ◌*◌, ◌<◌, ◌≤◌, ◌==◌, nat_lt, Bool, true, false, cond, not, ◌&&◌, ◌||◌, List, [], ◌∷◌, ◌++◌, length, map, take, Option, Some, None, slice_index_or, refl, sym, ap, ap₂, ◌∙◌, subst, inl, inr, ◌⊎◌, eqb-true, lt-ltb, ltb-true, eq-eqb, ne_eqb, arith}
-use Rattle.std.proofs.lemmas.Bool.{or_cases, or_left, or_right, or_from, or_parts, and_from, and_parts, both_ways, false_from_ne_true, true_from_ne_false, not-true, cases_Bool, cases_eq, cases_lt, eqb-false}
-use Rattle.std.proofs.lemmas.List.{get_or_past, length-map, map-append}
+use Rattle.std.proofs.Common.{◌≡◌, ℕ, zero, suc, ◌+◌, ◌*◌, ◌<◌, ◌==◌, Bool, true, false, cond, not, ◌&&◌, ◌||◌, List, [], ◌∷◌, ◌++◌, length, map, refl, sym, ap, ◌∙◌, subst, inl, inr, eqb-true, eq-eqb, arith}
+use Rattle.std.proofs.lemmas.Bool.{or_cases, or_left, or_right, and_from, and_parts, both_ways, false_from_ne_true, cases_eq}
+use Rattle.std.proofs.lemmas.List.{length-map}
 use Rattle.std.specs.List.{filter}
 use Rattle.number_sets.specs.Sets.{has, kept, IsSet, IsRising}
 use Rattle.number_sets.proofs.SetLemmas.{has-kept, same_tests, has_below, below_not_had}
@@ -10,7 +10,7 @@ use Rattle.link_lists.specs.Lists as cells
 use Rattle.link_lists.proofs.Cells as laws
 use Rattle.link_lists.proofs.Vacancies.{relink_undoes_unlink, unlink_keeps_apart}
 use Rattle.neutral_extension.specs.Candidates.{makers_at}
-use Rattle.neutral_extension.specs.Cells.{cell_at, full_from, full_rows, unit_cells, out_cells, makes_in, out_units, IsKept, IsOrdered, IsOut}
+use Rattle.neutral_extension.specs.Cells.{cell_at, full_from, full_rows, unit_cells, out_cells, makes_in, out_units, IsOut}
 
 -- the tests of two crates for the numbers of a list are the same
 pub cells_has : (xs : List ℕ) (u : ℕ) → cells.has xs u ≡ has xs u

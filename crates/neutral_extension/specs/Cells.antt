@@ -1,4 +1,5 @@
--- The makers as lists of cells: the maker u of the material x has the cell 128 x + u in the list x.
+-- How memory holds the makers, which the invariant of `Makers` cites: the maker u of the material x has the cell 128 x + u in
+-- the list x.
 use Rattle.std.specs.Prelude.{◌≡◌, ℕ, zero, suc, ◌+◌, ◌*◌, ◌<◌, ◌≤◌, Bool, true, cond, List, [], ◌∷◌, ◌++◌, length, map, take}
 use Rattle.number_sets.specs.Sets.{has, IsSet}
 use Rattle.link_lists.specs.Lists.{Rows, row, unlinked, IsListed, IsOnce, AreApart}
