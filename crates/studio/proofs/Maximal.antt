@@ -1,5 +1,5 @@
 -- What the search for the maximal structure gives, said of the problem.
-use Rattle.std.proofs.Common.{◌≡◌, [], ℕ, List, Bool, true, false, ap, sym, subst}
+use Rattle.std.proofs.Common.{◌≡◌, [], ℕ, List, Bool, false, ap, sym, subst}
 use Rattle.std.proofs.lemmas.Bool.{both_ways}
 use Rattle.number_sets.specs.Sets.{has, Avoids}
 use Rattle.pns_rules.specs.Shape.{Shape}

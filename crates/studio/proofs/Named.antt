@@ -1,6 +1,5 @@
 -- The units of names, one name after another.
-use Rattle.std.proofs.Common.{◌≡◌, ◌<◌, ◌||◌, ◌∷◌, [], ◌∙◌, ℕ, List, Option, Some, None, Bool, true, false, suc, length, get_or, drop, ap, sym, refl, cond, drop-cons, eqb-true, ◌==◌, inl, inr, arith}
-use Rattle.std.specs.Prelude.{find}
+use Rattle.std.proofs.Common.{◌≡◌, ◌<◌, ◌||◌, [], ◌∙◌, ℕ, List, Some, Bool, true, false, suc, length, get_or, drop, ap, sym, refl, cond, drop-cons, eqb-true, ◌==◌, inl, inr, arith}
 use Rattle.std.specs.List.{list_any}
 use Rattle.std.specs.Str.{bytes_eq}
 use Rattle.std.proofs.lemmas.Bool.{or_cases}

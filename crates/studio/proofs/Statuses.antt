@@ -1,14 +1,14 @@
 -- The statuses with which a call may end.
-use Rattle.std.proofs.Common.{◌≡◌, ◌⊎◌, ◌<◌, ◌≤◌, ◌∷◌, [], Some, None, IsSomeAnd, refl, inl, inr, List, ℕ, Option, subst, sym, ap, arith, length}
+use Rattle.std.proofs.Common.{◌≡◌, ◌⊎◌, ◌<◌, ◌≤◌, ◌∷◌, [], Some, None, IsSomeAnd, refl, inl, inr, List, ℕ, Option, subst, ap, arith, length}
 use Rattle.problem_rules.specs.Problem.{Problem}
 use Rattle.pgraph.specs.declared.verdict.Verdict.{Verdict}
 use Rattle.pgraph.specs.declared.verdict.Verdict.TheVariants.{Meets, Breaks}
 use Rattle.pns_io.specs.Outside.{HasRisen}
 use Rattle.studio.specs.Command.{Command, Max, Axioms, command_of, IsFileOf, IsFileWord}
-use Rattle.studio.specs.Reading.{AreHeld, FileFault, OnFile, file_limit}
+use Rattle.studio.specs.Reading.{AreHeld, FileFault, file_limit}
 use Rattle.studio.specs.Max.{MaxWork}
-use Rattle.studio.specs.Axioms.{AxiomsWork, NamesSay, VerdictSays, first_stranger}
-use Rattle.studio.specs.Ending.{Shelves, Ends, Tells, Says, IsOneOf}
+use Rattle.studio.specs.Axioms.{NamesSay, VerdictSays, first_stranger}
+use Rattle.studio.specs.Ending.{Shelves, Ends, IsOneOf}
 use Rattle.studio.specs.Answers.{AnswersTo, CommandAnswers, WordsSay, IsUndisturbed, statuses_of}
 use Rattle.studio.specs.declared.status.Status.{Status}
 use Rattle.studio.specs.declared.status.Status.TheVariants.{Done, Refused, Usage, BadProblem, ReadFault, WriteFault, Memory, TooLong}

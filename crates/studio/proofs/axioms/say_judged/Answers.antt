@@ -1,4 +1,4 @@
-use Rattle.std.proofs.Common.{◌≡◌, ◌∷◌, [], refl, subst, inl, ℕ, List, Option, codes}
+use Rattle.std.proofs.Common.{◌∷◌, [], refl, subst, inl, ℕ, List, Option}
 use Rattle.pgraph.specs.declared.verdict.Axiom.TheVariants.{S3}
 use Rattle.studio.specs.Lines.{line}
 use Rattle.studio.specs.Axioms.{AxiomsWork, NamesSay, breaks_line}

@@ -1,13 +1,11 @@
-use Rattle.std.proofs.Common.{◌≡◌, [], None, refl, subst, inl, ℕ, List, Bool, codes}
+use Rattle.std.proofs.Common.{None, subst, ℕ, List, Bool}
 use Rattle.number_sets.specs.Sets.{has}
 use Rattle.pns_rules.specs.Shape.{Shape, shape_of}
 use Rattle.pgraph.specs.Verdict.{Judges}
-use Rattle.studio.specs.Lines.{line}
 use Rattle.studio.specs.Axioms.{NamesSay, VerdictSays, units_named}
 use Rattle.studio.specs.Ending.{Tells}
 use Rattle.studio.specs.declared.status.Status.{Status}
-use Rattle.studio.specs.declared.status.Status.TheVariants.{Memory}
-use Rattle.studio.proofs.Ending.{Ends-map, only_in, Tells-map}
+use Rattle.studio.proofs.Ending.{Ends-map, Tells-map}
 use Rattle.studio.proofs.axioms.say_known.Goals as goal
 
 pub returns : goal.returns

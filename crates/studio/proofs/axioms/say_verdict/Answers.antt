@@ -1,6 +1,5 @@
-use Rattle.std.proofs.Common.{◌≡◌, ◌∷◌, ◌∙◌, [], refl, sym, ap, subst, inl, ℕ, List, codes}
+use Rattle.std.proofs.Common.{◌∷◌, ◌∙◌, [], refl, sym, ap, subst, inl, ℕ, List, codes}
 use Rattle.pgraph.specs.declared.verdict.Verdict.{Verdict}
-use Rattle.pgraph.specs.declared.verdict.Verdict.TheVariants.{Breaks}
 use Rattle.studio.specs.Lines.{line}
 use Rattle.studio.specs.Axioms.{VerdictSays, breaks_line, place_name}
 use Rattle.studio.specs.Ending.{Tells}

@@ -1,4 +1,4 @@
-use Rattle.std.proofs.Common.{◌≡◌, ◌||◌, ◌∙◌, ap, subst, sym, ℕ, List, Bool, length}
+use Rattle.std.proofs.Common.{◌||◌, ◌∙◌, ap, sym, ℕ, List, Bool, length}
 use Rattle.number_sets.specs.Sets.{has}
 use Rattle.number_sets.proofs.SetLemmas.{has-with_number}
 use Rattle.studio.specs.Axioms.{is_unit}

@@ -1,4 +1,4 @@
-use Rattle.std.proofs.Common.{◌≡◌, sym, ap, subst, ℕ, List}
+use Rattle.std.proofs.Common.{sym, ap, subst, ℕ, List}
 use Rattle.studio.specs.Command.{Command, Max, Axioms}
 use Rattle.studio.specs.View.{command_view}
 use Rattle.studio.specs.Ending.{Shelves}

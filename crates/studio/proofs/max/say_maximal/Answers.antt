@@ -1,4 +1,4 @@
-use Rattle.std.proofs.Common.{◌≡◌, ◌++◌, ◌∷◌, [], refl, inl, inr, ℕ, List, codes}
+use Rattle.std.proofs.Common.{◌++◌, ◌∷◌, [], refl, inl, inr, ℕ, List, codes}
 use Rattle.number_sets.specs.Sets.{has}
 use Rattle.pns_rules.specs.Shape.{shape_of}
 use Rattle.pns_rules.specs.Structure.{mats}

@@ -1,4 +1,4 @@
-use Rattle.std.proofs.Common.{◌≡◌, ◌≤◌, ◌++◌, ◌∷◌, [], Err, refl, sym, ◌∙◌, inl, inr, List, ℕ, codes, ap, arith}
+use Rattle.std.proofs.Common.{◌≡◌, ◌≤◌, ◌++◌, ◌∷◌, [], Err, refl, sym, ◌∙◌, inl, List, ℕ, codes, ap, arith}
 use Rattle.text_rules.specs.Value.{read_text}
 use Rattle.studio.specs.Lines.{line}
 use Rattle.studio.specs.Reading.{FileFaults, fault_line}

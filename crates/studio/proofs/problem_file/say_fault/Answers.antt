@@ -1,4 +1,4 @@
-use Rattle.std.proofs.Common.{◌++◌, ◌∙◌, inl, inr}
+use Rattle.std.proofs.Common.{◌∙◌, inl, inr}
 use Rattle.studio.specs.Lines.{line}
 use Rattle.studio.specs.Reading.{fault_line}
 use Rattle.studio.specs.Ending.{Only, OrMemory}

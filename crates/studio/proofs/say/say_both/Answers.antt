@@ -1,6 +1,5 @@
-use Rattle.std.proofs.Common.{◌≡◌, ◌++◌, ◌∙◌, ap, sym, refl, List, ℕ, append_assoc}
+use Rattle.std.proofs.Common.{◌++◌, ◌∙◌, ap, refl, List, ℕ, append_assoc}
 use Rattle.studio.specs.Ending.{Only}
-use Rattle.studio.specs.declared.status.Status.{Status}
 use Rattle.studio.proofs.Ending.{Ends-after, HasRisen-later}
 use Rattle.studio.proofs.say.say_both.Goals as goal
 

@@ -1,4 +1,4 @@
-use Rattle.std.proofs.Common.{◌≡◌, sym, ap, ◌∙◌}
+use Rattle.std.proofs.Common.{ap, ◌∙◌}
 use Rattle.problem_rules.specs.Names.{is_among}
 use Rattle.pns_problem.proofs.NameLemmas.{has_listed}
 use Rattle.studio.proofs.unit_names.UnitNames.has.Goals as goal

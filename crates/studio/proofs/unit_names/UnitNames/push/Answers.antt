@@ -1,4 +1,4 @@
-use Rattle.std.proofs.Common.{◌≡◌, ◌++◌, [], ◌∷◌, false, map, sym, ap, ◌∙◌, string_bytes}
+use Rattle.std.proofs.Common.{◌++◌, [], ◌∷◌, map, ap, ◌∙◌, string_bytes}
 use Rattle.problem_rules.specs.Names.{is_among}
 use Rattle.pns_problem.proofs.NameLemmas.{names-insert_key}
 use Rattle.studio.proofs.unit_names.UnitNames.push.Goals as goal
