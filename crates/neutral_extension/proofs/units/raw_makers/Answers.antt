@@ -1,7 +1,8 @@
 use Rattle.std.proofs.Common.{◌<◌, ◌==◌, ℕ, not, List, length, sym, ◌∙◌, subst}
 use Rattle.number_sets.specs.Sets.{has, kept}
 use Rattle.pgraph.specs.Tables.{shape}
-use Rattle.pgraph.proofs.ArcLemmas.{first_has, first_none, first_shorter}
+use Rattle.number_sets.proofs.OptionLemmas.{first_had, first_none}
+use Rattle.pgraph.proofs.ArcLemmas.{first_shorter}
 use Rattle.neutral_extension.proofs.FindLemmas.{IsGathered, gathered_start, gathered_more, gathered_all}
 use Rattle.neutral_extension.proofs.units.raw_makers.Goals as goal
 
@@ -11,7 +12,7 @@ raws-init c =
     (gathered_start (shape c.args.graph.now) c.args.set c.meet-left.result c.made.result c.raws-2.result c.is_proper.ensures.proper c.requires c.meet-left.ensures c.made.ensures c.raws-2.ensures)
 
 pub producers-requires : goal.producers-requires
-producers-requires c = (c.raws.invariant.raws c.in-Some.x (first_has c.raws.left c.in-Some.x (sym c.least.ensures ∙ c.in-Some.is))).0
+producers-requires c = (c.raws.invariant.raws c.in-Some.x (first_had c.raws.left c.in-Some.x (sym c.least.ensures ∙ c.in-Some.is))).0
 
 pub raws-smaller : goal.raws-smaller
 raws-smaller c =
@@ -22,7 +23,7 @@ pub raws-preserved : goal.raws-preserved
 raws-preserved c =
     let g = shape c.args.graph.now in
     let set = has c.args.set in
-    let here = first_has c.raws.left c.in-Some.x (sym c.least.ensures ∙ c.in-Some.is) in
+    let here = first_had c.raws.left c.in-Some.x (sym c.least.ensures ∙ c.in-Some.is) in
     subst (λ (xs : List ℕ). IsGathered g set (has xs) (has c.union-found.result)) (sym c.without-left.ensures)
     (subst (λ (ys : List ℕ). IsGathered g set (has (kept (λ v. not (c.in-Some.x == v)) c.raws.left)) (has ys)) (sym c.union-found.ensures)
     (gathered_more g set c.raws.left c.raws.found c.producers.result c.in-Some.x c.producers.ensures here c.raws.invariant))

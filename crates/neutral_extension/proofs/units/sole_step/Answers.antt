@@ -5,7 +5,8 @@ use Rattle.number_sets.proofs.SetLemmas.{has-kept}
 use Rattle.pns_rules.specs.Nodes.{sole, IsPossible}
 use Rattle.pgraph.specs.Tables.{shape}
 use Rattle.pgraph.specs.View.{node_of}
-use Rattle.pgraph.proofs.ArcLemmas.{first_has, first_none, first_shorter}
+use Rattle.number_sets.proofs.OptionLemmas.{first_had, first_none}
+use Rattle.pgraph.proofs.ArcLemmas.{first_shorter}
 use Rattle.neutral_extension.proofs.FindLemmas.{before_first, needed_known}
 use Rattle.neutral_extension.proofs.units.sole_step.Goals as goal
 
@@ -19,10 +20,10 @@ pub sole_maker-requires-clause-known : goal.sole_maker-requires-clause-known
 sole_maker-requires-clause-known c =
     let g = shape c.args.graph.now in
     needed_known g (has c.args.node.now.inside) c.in-Some.x c.is_proper.ensures.proper
-    (c.materials.invariant.needed c.in-Some.x (first_has c.materials.left c.in-Some.x (sym c.least.ensures ∙ c.in-Some.is)))
+    (c.materials.invariant.needed c.in-Some.x (first_had c.materials.left c.in-Some.x (sym c.least.ensures ∙ c.in-Some.is)))
 
 pub sole_maker-requires-clause-needed : goal.sole_maker-requires-clause-needed
-sole_maker-requires-clause-needed c = c.materials.invariant.needed c.in-Some.x (first_has c.materials.left c.in-Some.x (sym c.least.ensures ∙ c.in-Some.is))
+sole_maker-requires-clause-needed c = c.materials.invariant.needed c.in-Some.x (first_had c.materials.left c.in-Some.x (sym c.least.ensures ∙ c.in-Some.is))
 
 pub materials-smaller : goal.materials-smaller
 materials-smaller c =
