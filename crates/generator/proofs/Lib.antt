@@ -1,0 +1,5 @@
+pub mod DrawLemmas
+pub mod Examples
+pub mod NameLemmas
+pub mod RangeLemmas
+pub mod ValidLemmas
