@@ -1,8 +1,8 @@
 -- What the finders find: each set is that of the numbers with the property, so its least number is the first of them.
-use Rattle.std.proofs.Common.{◌≡◌, ℕ, ◌<◌, ◌==◌, nat_lt, Bool, true, false, cond, not, ◌&&◌, ◌||◌, List, [], ◌∷◌, ◌↔◌, length, Some, MatchOption, refl, sym, ap, ap₂, ◌∙◌, subst, inl, inr, ◌⊎◌, eqb-true, lt-ltb, ltb-true, eq-eqb, ne_eqb, arith}
-use Rattle.std.proofs.lemmas.Bool.{or_cases, or_left, or_right, or_from, and_from, and_parts, both_ways, false_from_ne_true, true_from_ne_false, not-true, cases_Bool}
-use Rattle.number_sets.specs.Sets.{has, first, kept, minus, meet, union, IsRising, IsWithin, Avoids}
-use Rattle.number_sets.proofs.SetLemmas.{has-minus, has-meet, has-union, has-kept, below_not_had, same_sets, same_tests}
+use Rattle.std.proofs.Common.{◌≡◌, ℕ, ◌<◌, ◌==◌, ◌+◌, nat_lt, Bool, true, false, not, ◌&&◌, ◌||◌, List, [], ◌∷◌, ◌↔◌, Some, MatchOption, refl, sym, ap, ap₂, ◌∙◌, subst, inl, inr, lt-ltb, ltb-true, eq-eqb, ne_eqb, arith}
+use Rattle.std.proofs.lemmas.Bool.{or_cases, or_left, or_right, or_from, and_from, and_parts, both_ways, false_from_ne_true, true_from_ne_false, not-true, cases_Bool, cases_eq}
+use Rattle.number_sets.specs.Sets.{has, first, minus, meet, union, IsRising, IsWithin, Avoids}
+use Rattle.number_sets.proofs.SetLemmas.{has-minus, has-meet, has-union, below_not_had}
 use Rattle.pns_rules.specs.Shape.{Shape, IsProper}
 use Rattle.pns_rules.specs.Structure.{is_made, is_used, is_needed, IsPath, HasPath}
 use Rattle.pns_rules.specs.Nodes.{Node, raw, rival, starve, loose, sole, IsPossible, is_free}
@@ -11,6 +11,7 @@ use Rattle.pns_rules.proofs.StructureLemmas.{is_made-from, is_made-some, is_used
 use Rattle.pgraph.specs.Rivals.{IsRival}
 use Rattle.pgraph.specs.View.{node_of}
 use Rattle.pgraph.proofs.PathLemmas.{first_is}
+use Rattle.neutral_extension.specs.Standing.{IsOnlyMaker}
 use Rattle.neutral_extension.specs.Tests.{is_open, MakesRaw, IsLooseSet}
 use Rattle.neutral_extension.proofs.EndLemmas.{free_from, free_parts, remains_from, remains_parts}
 
@@ -38,54 +39,50 @@ node_in i o r more e = λ k. record { inside = λ v. e v k; outside = has o }
 
 -- ---- the makers of raw materials
 
--- what a turn over the raw materials that the set makes keeps
-pub record IsGathered (g : Shape) (set left found : ℕ → Bool) : Type 0 where
-  pub raws : (x : ℕ) → left x ≡ true → (x < g.materials) × (g.raw x ≡ true)
-  pub sound : (u : ℕ) → found u ≡ true → MakesRaw g u
-  pub complete : (u x : ℕ) → set u ≡ true → g.makes u x ≡ true → g.raw x ≡ true → (found u ≡ true) ⊎ (left x ≡ true)
+-- the units that make a raw material below n
+pub record MakesRawBelow (g : Shape) (n u : ℕ) : Type 0 where
+  pub raw : ℕ
+  pub below : raw < n
+  pub makes : g.makes u raw ≡ true
+  pub is_raw : g.raw raw ≡ true
 
-pub gathered_start : (g : Shape) (set left made raws : List ℕ) → IsProper g → ((u : ℕ) → has set u ≡ true → u < g.units) → left ≡ meet made raws → has made ≡ is_made g (has set) → has raws ≡ g.raw → IsGathered g (has set) (has left) (has [])
-gathered_start g set left made raws proper known e m r = record {
-  raws = λ x h.
-      let p = and_parts (has made x) (has raws x) (sym (there x) ∙ h) in
-      let k = is_made-some g (has set) x (sym (same_at (has made) (is_made g (has set)) x m) ∙ p.0) in
-      (proper.output_known k.0 x k.3, sym (same_at (has raws) g.raw x r) ∙ p.1);
-  sound = λ u h. absurd (both_ways false refl h);
-  complete = λ u x s k q. inr (there x ∙ and_from (has made x) (has raws x) (same_at (has made) (is_made g (has set)) x m ∙ is_made-from g (has set) u x (known u s) s k) (same_at (has raws) g.raw x r ∙ q));
-}
-  where
-    there : (x : ℕ) → has left x ≡ (has made x && has raws x)
-    there x = ap (λ xs. has xs x) e ∙ has-meet made raws x
+pub raw_none : (g : Shape) (u : ℕ) → (has [] u ≡ true) ↔ MakesRawBelow g 0 u
+raw_none g u = ((λ h. absurd (both_ways false refl h)), (λ m. let lt = m.below in absurd (omega arith)))
 
-pub gathered_more : (g : Shape) (set : ℕ → Bool) (left found makers : List ℕ) (x : ℕ) → has makers ≡ (λ u. g.makes u x) → has left x ≡ true → IsGathered g set (has left) (has found) → IsGathered g set (has (kept (λ v. not (x == v)) left)) (has (union found makers))
-gathered_more g set left found makers x e there h = record {
-  raws = λ y p. h.raws y (and_parts (has left y) (not (x == y)) (sym (has-kept (λ v. not (x == v)) left y) ∙ p)).0;
-  sound = λ u p. elim (or_cases (has found u) (has makers u) (sym (has-union found makers u) ∙ p)) [
-    | inl q ↦ h.sound u q
-    | inr q ↦ (x, sym (same_at (has makers) (λ v. g.makes v x) u e) ∙ q, (h.raws x there).1)
-  ];
-  complete = λ u y s m r. elim (h.complete u y s m r) [
-    | inl q ↦ inl (has-union found makers u ∙ or_left (has found u) (has makers u) q)
-    | inr q ↦ elim (cases_Bool (x == y)) [
-      | inl t ↦ inl (has-union found makers u ∙ or_right (has found u) (has makers u) (same_at (has makers) (λ v. g.makes v x) u e ∙ subst (λ z. g.makes u z ≡ true) (sym (eqb-true x y t)) m))
-      | inr t ↦ inr (has-kept (λ v. not (x == v)) left y ∙ and_from (has left y) (not (x == y)) q (ap not t))
-    ]
-  ];
-}
-
-pub gathered_all : (g : Shape) (set left found all : List ℕ) → left ≡ [] → all ≡ meet found set → IsGathered g (has set) (has left) (has found) → (u : ℕ) → (has all u ≡ true) ↔ ((has set u ≡ true) × MakesRaw g u)
-gathered_all g set left found all e a h u = (
-  (λ p. let q = and_parts (has found u) (has set u) (sym there ∙ p) in (q.1, h.sound u q.0)),
-  (λ p.
-      let k = p.1 in
-      elim (h.complete u k.0 p.0 k.1 k.2) [
-        | inl q ↦ there ∙ and_from (has found u) (has set u) q p.0
-        | inr q ↦ absurd (both_ways false refl (sym (ap (λ xs. has xs k.0) e) ∙ q))
-      ]),
+pub raw_same : (g : Shape) (n u : ℕ) (found : List ℕ) → g.raw n ≡ false → (has found u ≡ true) ↔ MakesRawBelow g n u → (has found u ≡ true) ↔ MakesRawBelow g (n + 1) u
+raw_same g n u found plain h = (
+  (λ q. let m = h.0 q in record { raw = m.raw; below = let lt = m.below in omega arith; makes = m.makes; is_raw = m.is_raw }),
+  (λ m. h.1 (record {
+    raw = m.raw;
+    below = let lt = m.below in let ne : m.raw ≡ n → ⊥ = λ e. both_ways (g.raw m.raw) (subst (λ x. g.raw x ≡ false) (sym e) plain) m.is_raw in less m.raw lt ne;
+    makes = m.makes;
+    is_raw = m.is_raw;
+  })),
 )
   where
-    there : has all u ≡ (has found u && has set u)
-    there = ap (λ xs. has xs u) a ∙ has-meet found set u
+    less : (x : ℕ) → x < n + 1 → (x ≡ n → ⊥) → x < n
+    less x lt ne = elim (cases_eq x n) [ inl e ↦ absurd (ne e) | inr q ↦ omega arith ]
+
+pub raw_more : (g : Shape) (n u : ℕ) (found makers all : List ℕ) → all ≡ union found makers → has makers ≡ (λ v. g.makes v n) → g.raw n ≡ true → (has found u ≡ true) ↔ MakesRawBelow g n u → (has all u ≡ true) ↔ MakesRawBelow g (n + 1) u
+raw_more g n u found makers all e m q h = (
+  (λ t. elim (or_cases (has found u) (has makers u) (sym there ∙ t)) [
+    | inl p ↦ let k = h.0 p in record { raw = k.raw; below = let lt = k.below in omega arith; makes = k.makes; is_raw = k.is_raw }
+    | inr p ↦ record { raw = n; below = omega arith; makes = sym (same_at (has makers) (λ v. g.makes v n) u m) ∙ p; is_raw = q }
+  ]),
+  (λ k. there ∙ elim (cases_eq k.raw n) [
+    | inl s ↦ or_right (has found u) (has makers u) (same_at (has makers) (λ v. g.makes v n) u m ∙ subst (λ x. g.makes u x ≡ true) s k.makes)
+    | inr ne ↦ or_left (has found u) (has makers u) (h.1 (record { raw = k.raw; below = let lt = k.below in omega arith; makes = k.makes; is_raw = k.is_raw }))
+  ]),
+)
+  where
+    there : has all u ≡ (has found u || has makers u)
+    there = ap (λ xs. has xs u) e ∙ has-union found makers u
+
+pub raw_all : (g : Shape) (n u : ℕ) (found : List ℕ) → IsProper g → n ≡ g.materials → (has found u ≡ true) ↔ MakesRawBelow g n u → (has found u ≡ true) ↔ MakesRaw g u
+raw_all g n u found proper e h = (
+  (λ q. let m = h.0 q in (m.raw, m.makes, m.is_raw)),
+  (λ m. h.1 (record { raw = m.0; below = let lt = proper.output_known u m.0 m.1 in omega arith; makes = m.1; is_raw = m.2 })),
+)
 
 -- the first of a rising list is less than the others
 pub before_first : (xs : List ℕ) (x y : ℕ) → IsRising xs → first xs ≡ Some x → y < x → has xs y ≡ true → ⊥
@@ -107,19 +104,17 @@ module _ (g : Shape) (d : Node) where
   all_out x unmade u lt m = true_from_ne_false (d.outside u) (λ o. both_ways (is_made g (remaining g d) x) unmade (is_made-from g (remaining g d) u x lt (remains_from g d u lt o) m))
 
   -- ---- materials
-  pub dead_found : (found needed made rest : List ℕ) → found ≡ minus needed made → has needed ≡ is_needed g d.inside → has made ≡ is_made g (has rest) → has rest ≡ remaining g d → IsRising found → MatchOption (first found) (IsNever (IsDead g d)) (IsFirst (IsDead g d))
-  dead_found found needed made rest e n m r rising = first_of found (IsDead g d) rising
+  pub dead_found : (found needed unmade : List ℕ) → found ≡ meet needed unmade → has needed ≡ is_needed g d.inside → ((x : ℕ) → has unmade x ≡ (nat_lt x g.materials && not (is_made g (remaining g d) x))) → IsProper g → IsRising found → MatchOption (first found) (IsNever (IsDead g d)) (IsFirst (IsDead g d))
+  dead_found found needed unmade e n u proper rising = first_of found (IsDead g d) rising
       (λ x h.
-      let p = and_parts (is_needed g d.inside x) (not (is_made g (remaining g d) x)) (sym (there x) ∙ h) in
-      record { needed = p.0; all_out = all_out x (not-true (is_made g (remaining g d) x) p.1) })
-      (λ x h. there x ∙ and_from (is_needed g d.inside x) (not (is_made g (remaining g d) x)) h.needed (ap not (none_made x h.all_out)))
+      let p = and_parts (has needed x) (has unmade x) (sym (there x) ∙ h) in
+      let q = and_parts (nat_lt x g.materials) (not (is_made g (remaining g d) x)) (sym (u x) ∙ p.1) in
+      record { needed = sym (same_at (has needed) (is_needed g d.inside) x n) ∙ p.0; all_out = all_out x (not-true (is_made g (remaining g d) x) q.1) })
+      (λ x h. there x ∙ and_from (has needed x) (has unmade x) (same_at (has needed) (is_needed g d.inside) x n ∙ h.needed)
+      (u x ∙ and_from (nat_lt x g.materials) (not (is_made g (remaining g d) x)) (lt-ltb x g.materials (needed_known g d.inside x proper h.needed)) (ap not (none_made x h.all_out))))
     where
-      there : (x : ℕ) → has found x ≡ (is_needed g d.inside x && not (is_made g (remaining g d) x))
-      there x =
-          ap (λ xs. has xs x) e
-          ∙ (has-minus needed made x
-          ∙ ap₂ (λ (a b : Bool). a && not b) (same_at (has needed) (is_needed g d.inside) x n)
-          (same_at (has made) (is_made g (has rest)) x m ∙ ap (λ (t : ℕ → Bool). is_made g t x) r))
+      there : (x : ℕ) → has found x ≡ (has needed x && has unmade x)
+      there x = ap (λ xs. has xs x) e ∙ has-meet needed unmade x
 
   pub undecided_found : (found needed made free : List ℕ) → found ≡ meet needed made → has needed ≡ is_needed g d.inside → has made ≡ is_made g (has free) → has free ≡ is_open g d → IsRising found → MatchOption (first found) (IsNever (IsUndecided g d)) (IsFirst (IsUndecided g d))
   undecided_found found needed made free e n m f rising = first_of found (IsUndecided g d) rising
@@ -139,42 +134,29 @@ module _ (g : Shape) (d : Node) where
           ∙ ap₂ (λ (a b : Bool). a && b) (same_at (has needed) (is_needed g d.inside) x n)
           (same_at (has made) (is_made g (has free)) x m ∙ ap (λ (t : ℕ → Bool). is_made g t x) f))
 
-  pub starved_found : Avoids d.inside d.outside → (found unused unmade used users made raws rest : List ℕ) → unused ≡ minus used users → unmade ≡ minus unused made → found ≡ minus unmade raws → has used ≡ is_used g (has rest) → has users ≡ is_used g d.inside → has made ≡ is_made g (has rest) → has raws ≡ g.raw → has rest ≡ remaining g d → IsRising found → MatchOption (first found) (IsNever (λ x. IsPossible g d (starve x))) (IsFirst (λ x. IsPossible g d (starve x)))
-  starved_found apart found unused unmade used users made raws rest e1 e2 e3 u i m w r rising = first_of found (λ x. IsPossible g d (starve x)) rising to from
+  pub starved_found : Avoids d.inside d.outside → IsProper g → (found unused idle unmade used users raws : List ℕ) → unused ≡ minus used users → idle ≡ meet unused unmade → found ≡ minus idle raws → has used ≡ is_used g (remaining g d) → has users ≡ is_used g d.inside → ((x : ℕ) → has unmade x ≡ (nat_lt x g.materials && not (is_made g (remaining g d) x))) → has raws ≡ g.raw → IsRising found → MatchOption (first found) (IsNever (λ x. IsPossible g d (starve x))) (IsFirst (λ x. IsPossible g d (starve x)))
+  starved_found apart proper found unused idle unmade used users raws e1 e2 e3 u i m w rising = first_of found (λ x. IsPossible g d (starve x)) rising to from
     where
-      U : ℕ → Bool
-      U x = is_used g (remaining g d) x
-
-      I : ℕ → Bool
-      I x = is_used g d.inside x
-
-      M : ℕ → Bool
-      M x = is_made g (remaining g d) x
-
-      there : (x : ℕ) → has found x ≡ (((is_used g (remaining g d) x && not (is_used g d.inside x)) && not (is_made g (remaining g d) x)) && not (g.raw x))
+      there : (x : ℕ) → has found x ≡ (((has used x && not (has users x)) && has unmade x) && not (has raws x))
       there x =
           ap (λ xs. has xs x) e3
-          ∙ (has-minus unmade raws x
-          ∙ ap₂ (λ (a b : Bool). a && not b)
+          ∙ (has-minus idle raws x
+          ∙ ap (λ b. b && not (has raws x))
           (ap (λ xs. has xs x) e2
-          ∙ (has-minus unused made x
-          ∙ ap₂ (λ (a b : Bool). a && not b)
-          (ap (λ xs. has xs x) e1
-          ∙ (has-minus used users x
-          ∙ ap₂ (λ (a b : Bool). a && not b) (same_at (has used) (is_used g (has rest)) x u ∙ ap (λ (t : ℕ → Bool). is_used g t x) r) (same_at (has users) (is_used g d.inside) x i)))
-          (same_at (has made) (is_made g (has rest)) x m ∙ ap (λ (t : ℕ → Bool). is_made g t x) r)))
-          (same_at (has raws) g.raw x w))
+          ∙ (has-meet unused unmade x
+          ∙ ap (λ b. b && has unmade x) (ap (λ xs. has xs x) e1 ∙ has-minus used users x))))
 
       to : (x : ℕ) → has found x ≡ true → IsPossible g d (starve x)
       to x h =
-          let p = and_parts ((is_used g (remaining g d) x && not (is_used g d.inside x)) && not (is_made g (remaining g d) x)) (not (g.raw x)) (sym (there x) ∙ h) in
-          let q = and_parts (is_used g (remaining g d) x && not (is_used g d.inside x)) (not (is_made g (remaining g d) x)) p.0 in
-          let s = and_parts (is_used g (remaining g d) x) (not (is_used g d.inside x)) q.0 in
-          let k = is_used-some g (remaining g d) x s.0 in (
-            not-true (g.raw x) p.1,
-            all_out x (not-true (is_made g (remaining g d) x) q.1),
+          let p = and_parts ((has used x && not (has users x)) && has unmade x) (not (has raws x)) (sym (there x) ∙ h) in
+          let q = and_parts (has used x && not (has users x)) (has unmade x) p.0 in
+          let s = and_parts (has used x) (not (has users x)) q.0 in
+          let no = and_parts (nat_lt x g.materials) (not (is_made g (remaining g d) x)) (sym (m x) ∙ q.1) in
+          let k = is_used-some g (remaining g d) x (sym (same_at (has used) (is_used g (remaining g d)) x u) ∙ s.0) in (
+            sym (same_at (has raws) g.raw x w) ∙ not-true (has raws x) p.1,
+            all_out x (not-true (is_made g (remaining g d) x) no.1),
             (k.0, k.1, k.3, (remains_parts g d k.0 k.2).1),
-            (λ v lt h o. false_from_ne_true (d.inside v) (λ z. both_ways (is_used g d.inside x) (not-true (is_used g d.inside x) s.1) (is_used-from g d.inside v x lt z h))),
+            (λ v lt h o. false_from_ne_true (d.inside v) (λ z. both_ways (has users x) (not-true (has users x) s.1) (same_at (has users) (is_used g d.inside) x i ∙ is_used-from g d.inside v x lt z h))),
           )
 
       from : (x : ℕ) → IsPossible g d (starve x) → has found x ≡ true
@@ -183,11 +165,11 @@ module _ (g : Shape) (d : Node) where
           let none = false_from_ne_true (is_used g d.inside x) (λ z.
           let v = is_used-some g d.inside x z in
           both_ways (d.inside v.0) (p.3 v.0 v.1 v.3 (false_from_ne_true (d.outside v.0) (λ o. apart v.0 v.2 o))) v.2) in
-          there x ∙ and_from ((is_used g (remaining g d) x && not (is_used g d.inside x)) && not (is_made g (remaining g d) x)) (not (g.raw x))
-          (and_from (is_used g (remaining g d) x && not (is_used g d.inside x)) (not (is_made g (remaining g d) x))
-          (and_from (is_used g (remaining g d) x) (not (is_used g d.inside x)) (is_used-from g (remaining g d) k.0 x k.1 (remains_from g d k.0 k.1 k.3) k.2) (ap not none))
-          (ap not (none_made x p.1)))
-          (ap not p.0)
+          there x ∙ and_from ((has used x && not (has users x)) && has unmade x) (not (has raws x))
+          (and_from (has used x && not (has users x)) (has unmade x)
+          (and_from (has used x) (not (has users x)) (same_at (has used) (is_used g (remaining g d)) x u ∙ is_used-from g (remaining g d) k.0 x k.1 (remains_from g d k.0 k.1 k.3) k.2) (ap not (same_at (has users) (is_used g d.inside) x i ∙ none)))
+          (m x ∙ and_from (nat_lt x g.materials) (not (is_made g (remaining g d) x)) (lt-ltb x g.materials (proper.input_known k.0 x k.2)) (ap not (none_made x p.1))))
+          (ap not (same_at (has raws) g.raw x w ∙ p.0))
 
   -- ---- units that make a raw material, and rivals
   open_parts : (free : List ℕ) → has free ≡ is_open g d → (u : ℕ) → has free u ≡ true → (u < g.units) × (is_free g d u ≡ true)
@@ -196,13 +178,13 @@ module _ (g : Shape) (d : Node) where
   open_from : (free : List ℕ) → has free ≡ is_open g d → (u : ℕ) → u < g.units → is_free g d u ≡ true → has free u ≡ true
   open_from free f u lt h = same_at (has free) (is_open g d) u f ∙ and_from (nat_lt u g.units) (is_free g d u) (lt-ltb u g.units lt) h
 
-  pub raw_found : (found free : List ℕ) → has free ≡ is_open g d → ((u : ℕ) → (has found u ≡ true) ↔ ((has free u ≡ true) × MakesRaw g u)) → IsRising found → MatchOption (first found) (IsNever (λ u. IsPossible g d (raw u))) (IsFirst (λ u. IsPossible g d (raw u)))
-  raw_found found free f is rising = first_of found (λ u. IsPossible g d (raw u)) rising
+  pub raw_found : (found free makers : List ℕ) → found ≡ meet free makers → has free ≡ is_open g d → ((u : ℕ) → (has makers u ≡ true) ↔ MakesRaw g u) → IsRising found → MatchOption (first found) (IsNever (λ u. IsPossible g d (raw u))) (IsFirst (λ u. IsPossible g d (raw u)))
+  raw_found found free makers e f is rising = first_of found (λ u. IsPossible g d (raw u)) rising
       (λ u h.
-      let p = (is u).0 h in
+      let p = and_parts (has free u) (has makers u) (sym (ap (λ xs. has xs u) e ∙ has-meet free makers u) ∙ h) in
       let o = open_parts free f u p.0 in
-      (o.0, o.1, p.1))
-      (λ u p. (is u).1 (open_from free f u p.0 p.1, p.2))
+      (o.0, o.1, (is u).0 p.1))
+      (λ u p. ap (λ xs. has xs u) e ∙ (has-meet free makers u ∙ and_from (has free u) (has makers u) (open_from free f u p.0 p.1) ((is u).1 p.2)))
 
   pub rival_found : (found free rivals : List ℕ) → found ≡ meet free rivals → has free ≡ is_open g d → ((u : ℕ) → (has rivals u ≡ true) ↔ IsRival g d.inside u) → IsRising found → MatchOption (first found) (IsNever (λ u. IsPossible g d (rival u))) (IsFirst (λ u. IsPossible g d (rival u)))
   rival_found found free rivals e f is rising = first_of found (λ u. IsPossible g d (rival u)) rising
@@ -282,46 +264,38 @@ module _ (g : Shape) (d : Node) where
       loose_path w p u.0 k.path u.1 k.leads
 
   -- ---- sole
-  module _ (proper : IsProper g) (x : ℕ) (makers all out inside : List ℕ) (e : makers ≡ minus all out) (a : has all ≡ (λ u. g.makes u x)) (o : has out ≡ d.outside) (i : has inside ≡ d.inside) where
-    abbrev P : ℕ → Type 0
-    P u = IsPossible g d (sole x u)
+  module _ (apart : Avoids d.inside d.outside) (proper : IsProper g) (found scarce needed single made : List ℕ) (e1 : scarce ≡ meet needed single) (e2 : found ≡ minus scarce made)
+      (n : has needed ≡ is_needed g d.inside) (one : (x : ℕ) → (has single x ≡ true) ↔ ((u : ℕ) × IsOnlyMaker g d x u)) (m : has made ≡ is_made g d.inside) where
+    there : (x : ℕ) → has found x ≡ ((has needed x && has single x) && not (has made x))
+    there x = ap (λ xs. has xs x) e2 ∙ (has-minus scarce made x ∙ ap (λ b. b && not (has made x)) (ap (λ xs. has xs x) e1 ∙ has-meet needed single x))
 
-    there : (v : ℕ) → has makers v ≡ (g.makes v x && not (d.outside v))
-    there v = ap (λ xs. has xs v) e ∙ (has-minus all out v ∙ ap₂ (λ (p q : Bool). p && not q) (same_at (has all) (λ u. g.makes u x) v a) (same_at (has out) d.outside v o))
+    pub sole_known : (x : ℕ) → has found x ≡ true → x < g.materials
+    sole_known x h =
+        let p = and_parts (has needed x && has single x) (not (has made x)) (sym (there x) ∙ h) in
+        needed_known g d.inside x proper (sym (same_at (has needed) (is_needed g d.inside) x n) ∙ (and_parts (has needed x) (has single x) p.0).0)
 
-    pub sole_to : is_needed g d.inside x ≡ true → length makers ≡ 1 → meet makers inside ≡ [] → MatchOption (first makers) (IsNever (λ u. IsPossible g d (sole x u))) (λ u. IsPossible g d (sole x u))
-    sole_to needed one none = by makers one none there
-      where
-        by : (xs : List ℕ) → length xs ≡ 1 → meet xs inside ≡ [] → ((v : ℕ) → has xs v ≡ (g.makes v x && not (d.outside v))) → MatchOption (first xs) (IsNever P) P
-        by [] one none is = absurd (omega arith)
-        by (u ∷ v ∷ ws) one none is = absurd (omega arith)
-        by (u ∷ []) one none is =
-            let here : has (u ∷ []) u ≡ true = or_left (u == u) false (eq-eqb u u refl) in
-            let q = and_parts (g.makes u x) (not (d.outside u)) (sym (is u) ∙ here) in (
-              needed,
-              proper.maker_known u x q.0,
-              q.0,
-              not-true (d.outside u) q.1,
-              false_from_ne_true (d.inside u) (λ k. both_ways false refl (sym (ap (λ xs. has xs u) none) ∙ (has-meet (u ∷ []) inside u ∙ and_from (has (u ∷ []) u) (has inside u) here (same_at (has inside) d.inside u i ∙ k)))),
-              (λ v lt m q. elim (or_cases (u == v) false (is v ∙ and_from (g.makes v x) (not (d.outside v)) m (ap not q))) [
-                | inl s ↦ sym (eqb-true u v s)
-                | inr never ↦ absurd (both_ways false refl never)
-              ]),
-            )
+    pub sole_alone : (x : ℕ) → has found x ≡ true → (u : ℕ) × IsOnlyMaker g d x u
+    sole_alone x h =
+        let p = and_parts (has needed x && has single x) (not (has made x)) (sym (there x) ∙ h) in
+        (one x).0 (and_parts (has needed x) (has single x) p.0).1
 
-    only : (u : ℕ) → IsRising makers → IsPossible g d (sole x u) → makers ≡ u ∷ []
-    only u r p = same_sets makers (u ∷ []) r (tt, tt) (λ v. same_tests (has makers v) (has (u ∷ []) v)
-        (λ h.
-        let q = and_parts (g.makes v x) (not (d.outside v)) (sym (there v) ∙ h) in
-        or_left (u == v) false (eq-eqb u v (sym (p.5 v (proper.maker_known v x q.0) q.0 (not-true (d.outside v) q.1)))))
-        (λ h. elim (or_cases (u == v) false h) [
-          | inl q ↦ subst (λ w. has makers w ≡ true) (eqb-true u v q) (there u ∙ and_from (g.makes u x) (not (d.outside u)) p.2 (ap not p.3))
-          | inr never ↦ absurd (both_ways false refl never)
-        ]))
+    pub sole_to : (x u : ℕ) → has found x ≡ true → IsOnlyMaker g d x u → IsPossible g d (sole x u)
+    sole_to x u h k =
+        let p = and_parts (has needed x && has single x) (not (has made x)) (sym (there x) ∙ h) in (
+          sym (same_at (has needed) (is_needed g d.inside) x n) ∙ (and_parts (has needed x) (has single x) p.0).0,
+          k.known,
+          k.makes,
+          k.remains,
+          false_from_ne_true (d.inside u) (λ i. both_ways (has made x) (not-true (has made x) p.1) (same_at (has made) (is_made g d.inside) x m ∙ is_made-from g d.inside u x k.known i k.makes)),
+          k.alone,
+        )
 
-    -- a sole maker is the only one, and not inside
-    pub sole_one : (u : ℕ) → IsRising makers → IsPossible g d (sole x u) → length makers ≡ 1
-    sole_one u r p = ap length (only u r p)
-
-    pub sole_outside : (u : ℕ) → IsRising makers → IsPossible g d (sole x u) → meet makers inside ≡ []
-    sole_outside u r p = ap (λ xs. meet xs inside) (only u r p) ∙ ap (λ b. cond b (u ∷ []) []) (same_at (has inside) d.inside u i ∙ p.4)
+    pub sole_from : (x u : ℕ) → IsPossible g d (sole x u) → has found x ≡ true
+    sole_from x u p =
+        let none = false_from_ne_true (is_made g d.inside x) (λ h.
+        let v = is_made-some g d.inside x h in
+        let same = p.5 v.0 v.1 v.3 (false_from_ne_true (d.outside v.0) (λ o. apart v.0 v.2 o)) in
+        both_ways (d.inside u) p.4 (subst (λ w. d.inside w ≡ true) same v.2)) in
+        there x ∙ and_from (has needed x && has single x) (not (has made x))
+        (and_from (has needed x) (has single x) (same_at (has needed) (is_needed g d.inside) x n ∙ p.0) ((one x).1 (u, record { known = p.1; makes = p.2; remains = p.3; alone = p.5 })))
+        (ap not (same_at (has made) (is_made g d.inside) x m ∙ none))

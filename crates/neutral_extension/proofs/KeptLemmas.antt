@@ -1,16 +1,17 @@
 -- What the methods of `Makers` keep.
-use Rattle.std.proofs.Common.{◌≡◌, ℕ, zero, suc, ◌+◌, ◌-◌, ◌*◌, ◌<◌, ◌≤◌, ◌==◌, Bool, true, false, cond, not, ◌||◌, List, [], ◌∷◌, ◌++◌, length, map, take, Some, None, slice_index_or, slice_set, refl, sym, ap, ◌∙◌, subst, inl, inr, eqb-true, eq-eqb, ne_eqb, arith}
+use Rattle.std.proofs.Common.{◌≡◌, ℕ, zero, suc, ◌+◌, ◌-◌, ◌*◌, ◌<◌, ◌≤◌, ◌==◌, Bool, true, false, cond, not, ◌||◌, List, [], ◌∷◌, ◌++◌, length, map, take, Option, Some, None, is_some, slice_index_or, slice_set, refl, sym, ap, ap₂, ◌∙◌, subst, inl, inr, eqb-true, eq-eqb, ne_eqb, arith}
 use Rattle.std.proofs.lemmas.Bool.{or_cases, or_left, or_right, or_from, or_parts, both_ways, false_from_ne_true, cases_eq, cases_lt}
 use Rattle.std.proofs.lemmas.List.{length-append, get_or_push, get_or_append_left, get_or_past, get_or-replicate, length-replicate, take_more, take_more_set, length-set, ext_get_or}
 use Rattle.number_sets.specs.Sets.{has, kept, first, IsSet, IsRising, IsBelowAll}
 use Rattle.number_sets.proofs.SetLemmas.{has-append, has_below}
-use Rattle.link_lists.specs.Lists.{Rows, row, pushed, unlinked, relinked, with_pushed, opened, IsOnce, IsListed, IsTop, IsFree}
+use Rattle.link_lists.specs.Lists.{Rows, row, pushed, unlinked, relinked, with_pushed, opened, IsOnce, IsListed, IsTop, IsFree, AreApart}
 use Rattle.link_lists.specs.Lists as cells
 use Rattle.link_lists.proofs.Cells as laws
 use Rattle.pns_rules.specs.Shape.{Shape, IsProper}
 use Rattle.neutral_extension.specs.Candidates.{makers_at, AreMakersOf}
-use Rattle.neutral_extension.specs.Cells.{cell_at, full_from, full_rows, unit_cells, out_cells, makes_in, out_units, IsKept, IsOrdered, IsOut, AreInBands}
-use Rattle.neutral_extension.proofs.OutLemmas.{cells_has, out_units_push, row_left, cell_listed, length_out, room_left, row_full, length_full, has-map_to, once_cells, apart_out}
+use Rattle.neutral_extension.specs.Cells.{cell_at, full_from, full_rows, unit_cells, out_cells, makes_in, out_units, units_from, refilled, makers_of, IsKept, IsOrdered, IsOut, AreInBands}
+use Rattle.neutral_extension.specs.Standing.{is_empty, is_single}
+use Rattle.neutral_extension.proofs.OutLemmas.{cells_has, out_cells_push, cells_more, cells_same, cells_none, back_one, out_units_push, row_left, cell_listed, length_out, room_left, row_full, length_full, has-map_to, once_cells, apart_out}
 
 length_taken : (k : ℕ) (xs : List ℕ) → k ≤ length xs → length (take k xs) ≡ k
 length_taken zero xs h = refl
@@ -50,6 +51,13 @@ module _ (r : Rows) (mk : List (List ℕ)) (order : List ℕ) (count : ℕ) (hel
 
     pub take_room : count < 128
     take_room = let a = room_left ts u held.kept.once held.kept.below few fresh in let b = count_taken in omega arith
+
+    pub take_out_of : (r' : Rows) → r' ≡ out_cells r (unit_cells (makes_in mk) u (length mk)) → IsOut (makes_in mk) u (length mk) r r'
+    take_out_of r' e = record {
+      is = e;
+      apart = subst (λ (k : Rows). AreApart k.lists) (sym held.kept.is) (apart_out mk ts held.kept.sets);
+      listed = take_listed;
+    }
 
     pub take_all : (r' : Rows) → r' ≡ out_cells r (unit_cells (makes_in mk) u (length mk)) → IsOrdered r' mk (slice_set order count u) (count + 1) × (take (count + 1) (slice_set order count u) ≡ take count order ++ u ∷ [])
     take_all r' e =
@@ -120,6 +128,40 @@ module _ (r : Rows) (mk : List (List ℕ)) (order : List ℕ) (count : ℕ) (hel
 
         same : take (length (take count order) - 1) (take count order) ≡ take k order
         same = ap (λ n. take n (take count order)) one_less ∙ take_taken k count order (omega arith)
+
+-- ---- the makers that the lists had
+
+abbrev refill : Rows → List (List ℕ)
+refill r = refilled r.lists r.stack
+
+-- the cells of a unit that left can be put back
+refill_more : (makes : ℕ → ℕ → Bool) (u n : ℕ) (b r : Rows) → IsOut makes u n b r → (k : ℕ) → k < n → (t : Bool) → makes u k ≡ t → refill (out_cells b (unit_cells makes u k)) ≡ refill b → refill (out_cells b (unit_cells makes u (k + 1))) ≡ refill b
+refill_more makes u n b r out k lt true h ih =
+    ap (λ cs. refill (out_cells b cs)) (cells_more makes u k h)
+    ∙ (ap refill (out_cells_push b (unit_cells makes u k) (cell_at k u))
+    ∙ (ap refill (back_one makes u n k b r out lt h) ∙ ih))
+refill_more makes u n b r out k lt false h ih = ap (λ cs. refill (out_cells b cs)) (cells_same makes u k h) ∙ ih
+
+refill_out : (makes : ℕ → ℕ → Bool) (u n : ℕ) (b r : Rows) → IsOut makes u n b r → (k : ℕ) → k ≤ n → refill (out_cells b (unit_cells makes u k)) ≡ refill b
+refill_out makes u n b r out zero le = ap (λ cs. refill (out_cells b cs)) (cells_none makes u)
+refill_out makes u n b r out (suc k) le =
+    let e : suc k ≡ k + 1 = omega arith in
+    ap (λ j. refill (out_cells b (unit_cells makes u j))) e
+    ∙ refill_more makes u n b r out k (omega arith) (makes u k) refl (refill_out makes u n b r out k (omega arith))
+
+pub makers_out : (makes : ℕ → ℕ → Bool) (u n : ℕ) (b r : Rows) → IsOut makes u n b r → makers_of r ≡ makers_of b
+makers_out makes u n b r out = ap (units_from 0) (ap refill out.is ∙ refill_out makes u n b r out n (omega arith))
+
+pub units_full : (y : ℕ) (mk : List (List ℕ)) → units_from y (full_from y mk) ≡ mk
+units_full y [] = refl
+units_full y (us ∷ mk) = ap₂ (λ vs ns. vs ∷ ns) (back us) (units_full (suc y) mk)
+  where
+    back : (vs : List ℕ) → map (λ c. c - y * 128) (map (cell_at y) vs) ≡ vs
+    back [] = refl
+    back (v ∷ vs) = let e : (y * 128 + v) - y * 128 ≡ v = omega arith in ap₂ (λ w ws. w ∷ ws) e (back vs)
+
+pub makers_full : (r : Rows) (mk : List (List ℕ)) → r ≡ full_rows mk → makers_of r ≡ mk
+makers_full r mk e = ap makers_of e ∙ units_full 0 mk
 
 -- ---- the first of a list of cells
 pub first_some : (x : ℕ) (us : List ℕ) (c : ℕ) → cells.first (map (cell_at x) us) ≡ Some c → (first us ≡ Some (c - x * 128)) × (x * 128 ≤ c)
@@ -225,35 +267,46 @@ open_all r order mk is few sets room = record {
   deep = omega arith;
 }
 
--- ---- the makers read of a graph
+-- ---- the lists of a graph's makers
 
--- the makers of the materials below n
-pub record AreRead (g : Shape) (n : ℕ) (mk : List (List ℕ)) : Type 0 where
+-- the lists of the materials below n are those of their makers
+pub record AreFilled (g : Shape) (n : ℕ) (ls mk : List (List ℕ)) : Type 0 where
   pub count : length mk ≡ n
   pub makes : (x u : ℕ) → x < n → has (makers_at mk x) u ≡ g.makes u x
   pub sets : (x : ℕ) → IsSet 128 (makers_at mk x)
+  pub filled : (y : ℕ) → y < n → row ls y ≡ map (cell_at y) (makers_at mk y)
 
-pub read_none : (g : Shape) → AreRead g 0 []
-read_none g = record { count = refl; makes = λ x u lt. absurd (omega arith); sets = λ x. record { rising = tt; below = tt } }
+pub filled_none : (g : Shape) (ls : List (List ℕ)) → AreFilled g 0 ls []
+filled_none g ls = record { count = refl; makes = λ x u lt. absurd (omega arith); sets = λ x. record { rising = tt; below = tt }; filled = λ y lt. absurd (omega arith) }
 
-pub read_more : (g : Shape) (n : ℕ) (mk : List (List ℕ)) (us : List ℕ) → has us ≡ (λ u. g.makes u n) → IsSet 128 us → AreRead g n mk → AreRead g (n + 1) (mk ++ us ∷ [])
-read_more g n mk us e set h = record {
+pub filled_more : (g : Shape) (n : ℕ) (ls new mk : List (List ℕ)) (us : List ℕ) → has us ≡ (λ u. g.makes u n) → IsSet 128 us → row new n ≡ map (cell_at n) us → ((y : ℕ) → (y ≡ n → ⊥) → row new y ≡ row ls y) → AreFilled g n ls mk → AreFilled g (n + 1) new (mk ++ us ∷ [])
+filled_more g n ls new mk us e set here others h = record {
   count = length-append mk (us ∷ []) ∙ (let a = h.count in omega arith);
   makes = λ x u lt. elim (cases_eq x n) [
-    | inl q ↦ ap (λ j. has (makers_at (mk ++ us ∷ []) j) u) q ∙ (ap (λ xs. has xs u) (get_or_push mk us [] n h.count) ∙ (ap (λ (f : ℕ → Bool). f u) e ∙ ap (g.makes u) (sym q)))
-    | inr ne ↦ ap (λ xs. has xs u) (get_or_append_left mk (us ∷ []) [] x (let a = h.count in omega arith)) ∙ h.makes x u (omega arith)
+    | inl q ↦ ap (λ j. has (makers_at (mk ++ us ∷ []) j) u) q ∙ (ap (λ xs. has xs u) last ∙ (ap (λ (f : ℕ → Bool). f u) e ∙ ap (g.makes u) (sym q)))
+    | inr ne ↦ ap (λ xs. has xs u) (before x (omega arith)) ∙ h.makes x u (omega arith)
   ];
   sets = λ x. elim (cases_eq x n) [
-    | inl q ↦ subst (IsSet 128) (sym (ap (makers_at (mk ++ us ∷ [])) q ∙ get_or_push mk us [] n h.count)) set
+    | inl q ↦ subst (IsSet 128) (sym (ap (makers_at (mk ++ us ∷ [])) q ∙ last)) set
     | inr ne ↦ elim (cases_lt x n) [
-      | inl lt ↦ subst (IsSet 128) (sym (get_or_append_left mk (us ∷ []) [] x (let a = h.count in omega arith))) (h.sets x)
+      | inl lt ↦ subst (IsSet 128) (sym (before x lt)) (h.sets x)
       | inr le ↦ subst (IsSet 128) (sym (get_or_past (mk ++ us ∷ []) x [] (let a = h.count in let b = length-append mk (us ∷ []) in omega arith))) (record { rising = tt; below = tt })
     ]
   ];
+  filled = λ y lt. elim (cases_eq y n) [
+    | inl q ↦ ap (row new) q ∙ (here ∙ (ap (map (cell_at n)) (sym last) ∙ ap (λ j. map (cell_at j) (makers_at (mk ++ us ∷ []) j)) (sym q)))
+    | inr ne ↦ others y ne ∙ (h.filled y (omega arith) ∙ ap (map (cell_at y)) (sym (before y (omega arith))))
+  ];
 }
+  where
+    last : makers_at (mk ++ us ∷ []) n ≡ us
+    last = get_or_push mk us [] n h.count
 
-pub read_all : (g : Shape) (mk : List (List ℕ)) (n : ℕ) → IsProper g → n ≡ g.materials → AreRead g n mk → AreMakersOf g mk
-read_all g mk n proper e h = record {
+    before : (x : ℕ) → x < n → makers_at (mk ++ us ∷ []) x ≡ makers_at mk x
+    before x lt = get_or_append_left mk (us ∷ []) [] x (let a = h.count in omega arith)
+
+pub filled_all : (g : Shape) (ls mk : List (List ℕ)) (n : ℕ) → IsProper g → n ≡ g.materials → AreFilled g n ls mk → AreMakersOf g mk
+filled_all g ls mk n proper e h = record {
   count = h.count ∙ e;
   makes = λ x u. elim (cases_lt x n) [
     | inl lt ↦ h.makes x u lt
@@ -261,3 +314,36 @@ read_all g mk n proper e h = record {
   ];
   sets = h.sets;
 }
+
+-- ---- one cell
+
+abbrev pub lacks_first : Option ℕ → Bool
+lacks_first None = true
+lacks_first (Some x) = false
+
+pub lacks_from : (o : Option ℕ) (b : Bool) → is_some o ≡ not b → b ≡ lacks_first o
+lacks_from None true e = refl
+lacks_from None false e = absurd (both_ways false refl e)
+lacks_from (Some x) true e = absurd (both_ways true e refl)
+lacks_from (Some x) false e = refl
+
+pub one_cell : (x : ℕ) (us : List ℕ) (c : ℕ) → cells.first (map (cell_at x) us) ≡ Some c → cells.has (map (cell_at x) us) c ≡ true
+one_cell x [] c e = cc
+one_cell x (u ∷ us) c e = or_left (cell_at x u == c) (cells.has (map (cell_at x) us) c) (eq-eqb (cell_at x u) c cc)
+
+pub one_alone : (x : ℕ) (us : List ℕ) (c : ℕ) (o : Option ℕ) → cells.first (map (cell_at x) us) ≡ Some c → o ≡ cells.following c (map (cell_at x) us) → lacks_first o ≡ is_single us
+one_alone x [] c o e f = cc
+one_alone x (u ∷ us) c o e f =
+    ap lacks_first (f ∙ ap (λ b. cond b (cells.first (map (cell_at x) us)) (cells.following c (map (cell_at x) us))) (eq-eqb (cell_at x u) c cc)) ∙ by us
+  where
+    by : (vs : List ℕ) → lacks_first (cells.first (map (cell_at x) vs)) ≡ is_empty vs
+    by [] = refl
+    by (v ∷ vs) = refl
+
+pub first_lacks : (us : List ℕ) → lacks_first (first us) ≡ is_empty us
+first_lacks [] = refl
+first_lacks (v ∷ vs) = refl
+
+pub not_one : (x : ℕ) (us : List ℕ) → cells.first (map (cell_at x) us) ≡ None → false ≡ is_single us
+not_one x [] e = refl
+not_one x (u ∷ us) e = let never : Some (cell_at x u) ≡ None = e in cc

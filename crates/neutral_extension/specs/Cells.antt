@@ -1,8 +1,8 @@
 -- How memory holds the makers, which the invariant of `Makers` cites: the maker u of the material x has the cell 128 x + u in
 -- the list x.
-use Rattle.std.specs.Prelude.{◌≡◌, ℕ, zero, suc, ◌+◌, ◌*◌, ◌<◌, ◌≤◌, Bool, true, cond, List, [], ◌∷◌, ◌++◌, length, map, take}
+use Rattle.std.specs.Prelude.{◌≡◌, ℕ, zero, suc, ◌+◌, ◌-◌, ◌*◌, ◌<◌, ◌≤◌, Bool, true, cond, List, [], ◌∷◌, ◌++◌, length, map, take}
 use Rattle.number_sets.specs.Sets.{has, IsSet}
-use Rattle.link_lists.specs.Lists.{Rows, row, unlinked, IsListed, IsOnce, AreApart}
+use Rattle.link_lists.specs.Lists.{Vacancy, Rows, row, filled, unlinked, IsListed, IsOnce, AreApart}
 use Rattle.link_lists.specs.Lists as cells
 use Rattle.neutral_extension.specs.Candidates.{makers_at}
 
@@ -16,6 +16,20 @@ full_from x (us ∷ mk) = map (cell_at x) us ∷ full_from (suc x) mk
 
 abbrev pub full_rows : List (List ℕ) → Rows
 full_rows mk = record { cells = length mk * 128; lists = full_from 0 mk; stack = [] }
+
+-- the makers that the lists have, from the material x on
+abbrev pub units_from : ℕ → List (List ℕ) → List (List ℕ)
+units_from x [] = []
+units_from x (cs ∷ ls) = map (λ c. c - x * 128) cs ∷ units_from (suc x) ls
+
+-- the lists with all unlinked cells back at the places that they left, the last one first
+abbrev pub refilled : List (List ℕ) → List Vacancy → List (List ℕ)
+refilled ls [] = ls
+refilled ls (v ∷ vs) = refilled (filled v ls) vs
+
+-- the makers of each material as the lists had them before any cell was unlinked
+abbrev pub makers_of : Rows → List (List ℕ)
+makers_of r = units_from 0 (refilled r.lists r.stack)
 
 -- the cells of a unit, one for each material below n that it makes
 unfoldable pub unit_cells : (ℕ → ℕ → Bool) → ℕ → ℕ → List ℕ

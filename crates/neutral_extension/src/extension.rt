@@ -1,5 +1,5 @@
 //! The extension of a node, over the makers of each material.
-ghost use Rattle.std.specs.Prelude.{◌≡◌, ℕ, true, false, map, ◌++◌, IfOk};
+ghost use Rattle.std.specs.Prelude.{◌≡◌, ℕ, map, IfOk};
 ghost use Rattle.number_sets.specs.Sets.{has};
 ghost use Rattle.pns_rules.specs.Ends.{IsSound};
 ghost use Rattle.pgraph.specs.Tables.{shape};
@@ -9,27 +9,11 @@ ghost use Rattle.neutral_extension.specs.Moves.{Extends, stop_of};
 
 use crate::end::Extended;
 use crate::makers::Makers;
-use crate::turn::{Move, next_move, taken};
+use crate::standing::{stand, stand_after, take_out_all};
+use crate::turn::{Move, next_move};
 use pgraph::Graph;
 use std::alloc::{AllocError, Global};
 use unit_sets::{Node, UnitSet};
-
-/// Takes out the units of the set, the least first.
-fn take_out_all(makers: &mut Makers, graph: &Graph, set: UnitSet)
-    requires same { AreMakersOf (shape graph.now) makers.old.makers }
-    requires fresh { (u : ℕ) → has set u ≡ true → has makers.old.taken u ≡ false }
-    ensures { makers.new ≡ record { makers = makers.old.makers; taken = makers.old.taken ++ set } }
-{
-    let mut left = set;
-    'take: loop {
-        left.rises();
-        let Some(u) = left.least() else {
-            return;
-        };
-        makers.take_out(graph, u);
-        left = left.without(u);
-    }
-}
 
 /// The extension of the node, with each unit that goes out taken out of the makers.
 fn extend_from(
@@ -47,18 +31,17 @@ fn extend_from(
 {
     graph.is_proper();
     let mut steps = Vec::new(alloc);
-    let mut now = node;
+    let mut standing = stand(graph, makers, node);
+    let mut leading = UnitSet::empty();
     'steps: loop {
-        match next_move(graph, &now) {
+        match next_move(graph, makers, &standing, &mut leading) {
             Move::Take(step) => {
-                let next = taken(graph, &now, &step);
-                take_out_all(makers, graph, next.outside.minus(now.outside));
-                now = next;
+                standing = stand_after(graph, makers, &standing, &step);
                 steps.push(step)?;
             }
             Move::End(end) => {
                 return Ok(Extended {
-                    node: now,
+                    node: standing.node,
                     steps,
                     end,
                 });
@@ -69,7 +52,7 @@ fn extend_from(
 
 /// Takes the steps that come at a sound node, each in its turn, until none comes. The makers are those of the graph, and the
 /// units taken out of them are those that the node leaves out. Afterwards they are as before, also after `Err`, which comes
-/// for want of memory alone.
+/// for want of memory alone. Each step looks again only at the materials of the units that it takes in or leaves out.
 pub fn extend_with(
     alloc: Global,
     graph: &Graph,

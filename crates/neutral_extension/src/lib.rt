@@ -5,20 +5,31 @@
 //! is sound and has the family of the first. [`extend_with`] does the same over [`Makers`], the makers of each material as
 //! linked lists, which it leaves as they were. Only [`Makers::open`] and the vector of steps take memory.
 //!
+//! A look over the whole graph comes once, before the first step. From then on a step looks at the materials of the units that
+//! it takes in or leaves out, and at nothing else: their lists of makers tell which materials have no maker left and which have
+//! one, so the dead material, the starved one and the sole maker are the least numbers of a few masks. Paths to a product are
+//! looked for only where a unit has gone out since they were found.
+//!
 //! - `end`: where an extension ends, and what it gives
+//! - `makers`: `Makers`
 //! - `sets`: the units outside a node's second set, and the free ones
+//! - `intake`: what the units taken in need, use, make and exclude
+//! - `scarce`: materials of which no maker is left, or one
+//! - `standing`: a node with these, and what a step makes of them
 //! - `materials`: dead, starved and undecided materials
 //! - `units`: units that go out or in by a step
 //! - `turn`: which step comes at a node, and what it does
-//! - `makers`: `Makers`
 //! - `extension`: `extend` and `extend_with`
 #![tactic(auto)]
 
 mod end;
 mod extension;
+mod intake;
 mod makers;
 mod materials;
+mod scarce;
 mod sets;
+mod standing;
 #[cfg(test)]
 mod tests;
 mod turn;

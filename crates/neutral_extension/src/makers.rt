@@ -3,8 +3,9 @@ ghost use Rattle.std.specs.Prelude.{◌≡◌, ◌<◌, ◌≤◌, ◌+◌, ◌-
 ghost use Rattle.number_sets.specs.Sets.{has, first, IsSet};
 ghost use Rattle.link_lists.specs.Lists.{Rows, row, IsListed};
 ghost use Rattle.pgraph.specs.Tables.{shape};
-ghost use Rattle.neutral_extension.specs.Candidates.{left, makers_at, AreMakersOf};
+ghost use Rattle.neutral_extension.specs.Candidates.{left, AreMakersOf};
 ghost use Rattle.neutral_extension.specs.Cells.{cell_at, unit_cells, out_cells, full_rows, AreInBands, IsFilled, IsOut};
+ghost use Rattle.neutral_extension.specs.Standing.{is_empty, is_single};
 
 use link_lists::Lists;
 use pgraph::Graph;
@@ -17,7 +18,7 @@ use unit_sets::UnitSet;
 pub struct Makers {
     // The maker u of the material x has the cell 128 x + u in list x.
     lists: Lists,
-    makers: Vec<UnitSet>,
+    // The units taken out, the last one last, and room for the others.
     order: Vec<u32>,
     count: u32,
 }
@@ -25,13 +26,13 @@ pub struct Makers {
 impl Model for Makers {
     ghost use Rattle.std.specs.Prelude.{take};
     ghost use Rattle.neutral_extension.specs.Candidates.{Candidates};
-    ghost use Rattle.neutral_extension.specs.Cells.{IsOrdered};
+    ghost use Rattle.neutral_extension.specs.Cells.{makers_of, IsOrdered};
 
     ghost Value = { Candidates };
 
-    ghost view = { λ s. record { makers = s.makers.items; taken = take s.count s.order.items } };
+    ghost view = { λ s. record { makers = makers_of s.lists; taken = take s.count s.order.items } };
 
-    ghost invariant = { λ s. IsOrdered s.lists s.makers.items s.order.items s.count };
+    ghost invariant = { λ s. IsOrdered s.lists (makers_of s.lists) s.order.items s.count };
 }
 
 /// Unlinks the cells of the unit.
@@ -85,30 +86,17 @@ fn fill(lists: &mut Lists, x: u32, set: UnitSet)
     }
 }
 
-/// The makers of each material of the graph.
-fn all_makers(alloc: Global, graph: &Graph) -> Result<Vec<UnitSet>, AllocError>
-    ensures { IfOk result (λ makers. AreMakersOf (shape graph.now) makers.items) }
+/// Lists of the makers of the graph's materials, each maker in the list of its material.
+fn full_lists(alloc: Global, graph: &Graph) -> Result<Lists, AllocError>
+    ensures { IfOk result (λ lists. (makers : List (List ℕ)) × AreMakersOf (shape graph.now) makers × (lists ≡ full_rows makers)) }
 {
     graph.is_proper();
-    let mut makers = Vec::new(alloc);
-    for x in 0..graph.material_count() {
-        let producers = graph.producers(x);
-        producers.rises();
-        makers.push(producers)?;
-    }
-    Ok(makers)
-}
-
-/// Lists of the makers, each maker in the list of its material.
-fn full_lists(alloc: Global, makers: &[UnitSet]) -> Result<Lists, AllocError>
-    requires few { length makers.now ≤ 256 }
-    requires sets { (x : ℕ) → IsSet 128 (makers_at makers.now x) }
-    ensures { IfOk result (λ lists. lists ≡ full_rows makers.now) }
-{
-    let count = makers.len() as u32;
+    let count = graph.material_count();
     let mut lists = Lists::open(alloc, count, count * 128)?;
     for x in 0..count {
-        fill(&mut lists, x, makers[x as usize]);
+        let producers = graph.producers(x);
+        producers.rises();
+        fill(&mut lists, x, producers);
     }
     Ok(lists)
 }
@@ -120,12 +108,10 @@ impl Makers {
         ensures taken { IfOk result (λ m. m.taken ≡ []) }
     {
         graph.is_proper();
-        let makers = all_makers(alloc, graph)?;
+        let lists = full_lists(alloc, graph)?;
         let order = vec![in alloc; 0u32; 128]?;
-        let lists = full_lists(alloc, &makers)?;
         Ok(Makers {
             lists,
-            makers,
             order,
             count: 0,
         })
@@ -146,6 +132,25 @@ impl Makers {
         match self.lists.first(x) {
             Some(cell) => Some(cell - x * 128),
             None => None,
+        }
+    }
+
+    /// Whether no maker of the material is left.
+    pub(crate) fn lacks(&self, x: u32) -> bool
+        requires { x < length self.now.makers }
+        ensures { result ≡ is_empty (left self.now x) }
+    {
+        self.first(x).is_none()
+    }
+
+    /// Whether one maker of the material is left.
+    pub(crate) fn has_one(&self, x: u32) -> bool
+        requires { x < length self.now.makers }
+        ensures { result ≡ is_single (left self.now x) }
+    {
+        match self.lists.first(x) {
+            Some(cell) => self.lists.next(cell).is_none(),
+            None => false,
         }
     }
 

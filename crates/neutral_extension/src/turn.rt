@@ -1,16 +1,20 @@
 //! Which step comes at a node, and what it does.
 ghost use Rattle.std.specs.Prelude.{◌≡◌};
+ghost use Rattle.number_sets.specs.Sets.{has};
 ghost use Rattle.pns_rules.specs.Nodes.{IsPossible, after};
 ghost use Rattle.pns_rules.specs.Ends.{IsSound};
 ghost use Rattle.pgraph.specs.Tables.{shape};
 ghost use Rattle.pgraph.specs.View.{node_of, step_of};
 ghost use Rattle.neutral_extension.specs.Moves.{IsMove};
+ghost use Rattle.neutral_extension.specs.Standing.{Stands, Follows, AllLead};
 
 use crate::end::Stop;
+use crate::makers::Makers;
 use crate::materials::{dead_material, starved_material, undecided_material};
+use crate::standing::Standing;
 use crate::units::{loose_units, raw_unit, rival_unit, sole_step};
 use pgraph::Graph;
-use unit_sets::{Node, Step};
+use unit_sets::{Node, Step, UnitSet};
 
 /// What comes at a node: a step, or the end.
 #[derive(Clone, Copy, Debug)]
@@ -19,34 +23,38 @@ pub enum Move {
     End(Stop),
 }
 
-/// What comes at the node.
-pub fn next_move(graph: &Graph, node: &Node) -> Move
-    requires { IsSound (shape graph.now) (node_of node.now) }
-    ensures { IsMove (shape graph.now) (node_of node.now) result }
+/// What comes at the node. `leading` keeps from turn to turn which units lead to a product.
+pub fn next_move(graph: &Graph, makers: &Makers, standing: &Standing, leading: &mut UnitSet) -> Move
+    requires sound { IsSound (shape graph.now) (node_of standing.now.node) }
+    requires stands { Stands (shape graph.now) standing.now }
+    requires follows { Follows (shape graph.now) makers.now standing.now }
+    requires leading { AllLead (shape graph.now) (has leading.old) }
+    ensures comes { IsMove (shape graph.now) (node_of standing.now.node) result }
+    ensures leading { AllLead (shape graph.now) (has leading.new) }
 {
-    if let Some(x) = dead_material(graph, node) {
+    if let Some(x) = dead_material(graph, standing) {
         return Move::End(Stop::Dead(x));
     }
-    if let Some(k) = graph.clash(node.inside) {
+    if let Some(k) = standing.intake.clash {
         return Move::End(Stop::Clash(k));
     }
-    if let Some(u) = raw_unit(graph, node) {
+    if let Some(u) = raw_unit(graph, standing) {
         return Move::Take(Step::Raw(u));
     }
-    if let Some(u) = rival_unit(graph, node) {
+    if let Some(u) = rival_unit(graph, standing) {
         return Move::Take(Step::Rival(u));
     }
-    if let Some(x) = starved_material(graph, node) {
+    if let Some(x) = starved_material(graph, standing) {
         return Move::Take(Step::Starve(x));
     }
-    let loose = loose_units(graph, node);
+    let loose = loose_units(graph, &standing.node, leading);
     if !loose.is_empty() {
         return Move::Take(Step::Loose(loose));
     }
-    if let Some((material, unit)) = sole_step(graph, node) {
+    if let Some((material, unit)) = sole_step(graph, makers, standing) {
         return Move::Take(Step::Sole { material, unit });
     }
-    match undecided_material(graph, node) {
+    match undecided_material(graph, standing) {
         Some(x) => Move::End(Stop::Branch(x)),
         None => Move::End(Stop::Decided),
     }

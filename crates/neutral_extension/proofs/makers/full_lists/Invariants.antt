@@ -1,14 +1,14 @@
-use Rattle.std.proofs.Common.{◌≡◌, ◌<◌, ◌≤◌, ◌*◌, ℕ, [], map, length}
+use Rattle.std.proofs.Common.{◌≡◌, ◌≤◌, ◌*◌, ℕ, List, [], length}
 use Rattle.link_lists.specs.Lists.{row}
-use Rattle.neutral_extension.specs.Candidates.{makers_at}
-use Rattle.neutral_extension.specs.Cells.{cell_at}
+use Rattle.pgraph.specs.Tables.{shape}
+use Rattle.neutral_extension.proofs.KeptLemmas.{AreFilled}
 use Rattle.neutral_extension.proofs.makers.full_lists.Given as goal
 
 abbrev pub invariant-loop-x : goal.invariant-loop-x
 invariant-loop-x l = record {
-  cells : l.lists.cells ≡ length l.makers * 128;
-  count : length l.lists.lists ≡ length l.makers;
+  cells : l.lists.cells ≡ (shape l.graph).materials * 128;
+  count : length l.lists.lists ≡ (shape l.graph).materials;
   stack : l.lists.stack ≡ [];
-  filled : (y : ℕ) → y < l.x → row l.lists.lists y ≡ map (cell_at y) (makers_at l.makers y);
+  filled : (mk : List (List ℕ)) × AreFilled (shape l.graph) l.x l.lists.lists mk;
   empty : (y : ℕ) → l.x ≤ y → row l.lists.lists y ≡ [];
 }

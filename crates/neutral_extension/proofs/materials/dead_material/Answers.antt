@@ -8,6 +8,7 @@ use Rattle.neutral_extension.proofs.materials.dead_material.Goals as goal
 pub returns : goal.returns
 returns c =
     let g = shape c.args.graph.now in
-    let d = node_of c.args.node.now in
-    subst (λ o. MatchOption o (IsNever (IsDead g d)) (IsFirst (IsDead g d))) (sym c.least.ensures)
-    (dead_found g d c.minus-dead.result c.needed.result c.made.result c.remaining_units-rest.result c.minus-dead.ensures c.needed.ensures c.made.ensures c.remaining_units-rest.ensures.is c.rises.ensures.rising)
+    let d = node_of c.args.standing.now.node in
+    let P = IsDead g d in
+    subst (λ o. MatchOption o (IsNever P) (IsFirst P)) (sym c.least.ensures)
+    (dead_found g d c.meet-dead.result c.args.standing.now.intake.needed c.args.standing.now.scarce.unmade c.meet-dead.ensures c.requires.intake.needed c.requires.unmade c.is_proper.ensures.proper c.rises.ensures.rising)

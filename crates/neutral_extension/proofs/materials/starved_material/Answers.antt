@@ -9,7 +9,7 @@ use Rattle.neutral_extension.proofs.materials.starved_material.Goals as goal
 pub returns : goal.returns
 returns c =
     let g = shape c.args.graph.now in
-    let d = node_of c.args.node.now in
+    let d = node_of c.args.standing.now.node in
     let P = λ (x : ℕ). IsPossible g d (starve x) in
     subst (λ o. MatchOption o (IsNever P) (IsFirst P)) (sym c.least.ensures)
-    (starved_found g d c.requires.apart c.minus-starved.result c.minus-unused.result c.minus.result c.used.result c.used-2.result c.made.result c.raws.result c.remaining_units-rest.result c.minus-unused.ensures c.minus.ensures c.minus-starved.ensures c.used.ensures c.used-2.ensures c.made.ensures c.raws.ensures c.remaining_units-rest.ensures.is c.rises.ensures.rising)
+    (starved_found g d c.requires.sound.apart c.is_proper.ensures.proper c.minus-starved.result c.minus-unused.result c.meet.result c.args.standing.now.scarce.unmade c.args.standing.now.used c.args.standing.now.intake.used c.raws.result c.minus-unused.ensures c.meet.ensures c.minus-starved.ensures c.requires.stands.used c.requires.stands.intake.used c.requires.stands.unmade c.raws.ensures c.rises.ensures.rising)

@@ -1,5 +1,7 @@
-use Rattle.std.proofs.Common.{refl, subst}
+use Rattle.std.proofs.Common.{refl, subst, MatchOption}
 use Rattle.std.proofs.lemmas.Bool.{both_ways}
+use Rattle.pns_rules.specs.Structure.{Clashes}
+use Rattle.pns_rules.specs.Ends.{IsNever, IsFirst}
 use Rattle.pgraph.specs.Tables.{shape}
 use Rattle.pgraph.specs.View.{node_of}
 use Rattle.neutral_extension.specs.Tests.{IsLooseSet}
@@ -8,44 +10,48 @@ use Rattle.neutral_extension.proofs.FindLemmas.{loose_possible, loose_whole, no_
 use Rattle.neutral_extension.proofs.NextLemmas.{starve_next, loose_next, sole_next, reduced_from}
 use Rattle.neutral_extension.proofs.turn.next_move.Goals as goal
 
-pub returns-in-Some-starved_material : goal.returns-in-Some-starved_material
-returns-in-Some-starved_material c =
+pub returns-in-Some-starved_material-clause-comes : goal.returns-in-Some-starved_material-clause-comes
+returns-in-Some-starved_material-clause-comes c =
     let g = shape c.args.graph.now in
-    let d = node_of c.args.node.now in
-    starve_next g d c.in_default.ensures c.in_default-clash.ensures c.in_default-raw_unit.ensures c.in_default-rival_unit.ensures c.in-Some-starved_material.x c.in-Some-starved_material.ensures
+    let d = node_of c.args.standing.now.node in
+    let no_clash = subst (λ o. MatchOption o (IsNever (Clashes g d.inside)) (IsFirst (Clashes g d.inside))) c.in_default-clash.is c.requires.stands.intake.clash in
+    starve_next g d c.in_default.ensures no_clash c.in_default-raw_unit.ensures c.in_default-rival_unit.ensures c.in-Some-starved_material.x c.in-Some-starved_material.ensures
 
-pub returns-then-not-is_empty : goal.returns-then-not-is_empty
-returns-then-not-is_empty c =
+pub returns-then-not-is_empty-clause-comes : goal.returns-then-not-is_empty-clause-comes
+returns-then-not-is_empty-clause-comes c =
     let g = shape c.args.graph.now in
-    let d = node_of c.args.node.now in
+    let d = node_of c.args.standing.now.node in
+    let no_clash = subst (λ o. MatchOption o (IsNever (Clashes g d.inside)) (IsFirst (Clashes g d.inside))) c.in_default-clash.is c.requires.stands.intake.clash in
     let w = c.loose_units-loose.result in
-    loose_next g d c.in_default.ensures c.in_default-clash.ensures c.in_default-raw_unit.ensures c.in_default-rival_unit.ensures c.in_default-starved_material.ensures w
-    (loose_possible g d c.requires w c.loose_units-loose.ensures (λ e. both_ways c.is_empty.result c.if-not-is_empty.true (c.is_empty.ensures.1 e)))
-    (loose_whole g d c.requires w c.loose_units-loose.ensures)
+    let loose = c.loose_units-loose.ensures.loose in
+    loose_next g d c.in_default.ensures no_clash c.in_default-raw_unit.ensures c.in_default-rival_unit.ensures c.in_default-starved_material.ensures w
+    (loose_possible g d c.requires.sound w loose (λ e. both_ways c.is_empty.result c.if-not-is_empty.true (c.is_empty.ensures.1 e)))
+    (loose_whole g d c.requires.sound w loose)
 
-pub returns-in-Some-sole_step : goal.returns-in-Some-sole_step
-returns-in-Some-sole_step c =
+pub returns-in-Some-sole_step-clause-comes : goal.returns-in-Some-sole_step-clause-comes
+returns-in-Some-sole_step-clause-comes c =
     let g = shape c.args.graph.now in
-    let d = node_of c.args.node.now in
-    let h = subst (IsLooseSet g d) (c.is_empty.ensures.0 c.if-not-is_empty.false) c.loose_units-loose.ensures in
-    sole_next g d c.in_default.ensures c.in_default-clash.ensures c.in_default-raw_unit.ensures c.in_default-rival_unit.ensures c.in_default-starved_material.ensures
+    let d = node_of c.args.standing.now.node in
+    let no_clash = subst (λ o. MatchOption o (IsNever (Clashes g d.inside)) (IsFirst (Clashes g d.inside))) c.in_default-clash.is c.requires.stands.intake.clash in
+    let h = subst (IsLooseSet g d) (c.is_empty.ensures.0 c.if-not-is_empty.false) c.loose_units-loose.ensures.loose in
+    sole_next g d c.in_default.ensures no_clash c.in_default-raw_unit.ensures c.in_default-rival_unit.ensures c.in_default-starved_material.ensures
     (no_loose g d h) c.in-Some-sole_step.material c.in-Some-sole_step.unit c.in-Some-sole_step.ensures.0 c.in-Some-sole_step.ensures.1
 
-pub returns-in-Some-undecided_material : goal.returns-in-Some-undecided_material
-returns-in-Some-undecided_material c =
+pub returns-in-Some-undecided_material-clause-comes : goal.returns-in-Some-undecided_material-clause-comes
+returns-in-Some-undecided_material-clause-comes c =
     let g = shape c.args.graph.now in
-    let d = node_of c.args.node.now in
-    let h = subst (IsLooseSet g d) (c.is_empty.ensures.0 c.if-not-is_empty.false) c.loose_units-loose.ensures in (
-      reduced_from g d c.in_default.ensures c.in_default-clash.ensures c.in_default-raw_unit.ensures c.in_default-rival_unit.ensures c.in_default-starved_material.ensures
-          (no_loose g d h) c.in_default-sole_step.ensures,
+    let d = node_of c.args.standing.now.node in
+    let no_clash = subst (λ o. MatchOption o (IsNever (Clashes g d.inside)) (IsFirst (Clashes g d.inside))) c.in_default-clash.is c.requires.stands.intake.clash in
+    let h = subst (IsLooseSet g d) (c.is_empty.ensures.0 c.if-not-is_empty.false) c.loose_units-loose.ensures.loose in (
+      reduced_from g d c.in_default.ensures no_clash c.in_default-raw_unit.ensures c.in_default-rival_unit.ensures c.in_default-starved_material.ensures (no_loose g d h) c.in_default-sole_step.ensures,
       c.in-Some-undecided_material.ensures,
     )
 
-pub returns-in-None : goal.returns-in-None
-returns-in-None c =
+pub returns-in-None-clause-comes : goal.returns-in-None-clause-comes
+returns-in-None-clause-comes c =
     let g = shape c.args.graph.now in
-    let d = node_of c.args.node.now in
-    let h = subst (IsLooseSet g d) (c.is_empty.ensures.0 c.if-not-is_empty.false) c.loose_units-loose.ensures in
-    let r = reduced_from g d c.in_default.ensures c.in_default-clash.ensures c.in_default-raw_unit.ensures c.in_default-rival_unit.ensures c.in_default-starved_material.ensures
-    (no_loose g d h) c.in_default-sole_step.ensures in
-    decided_from g d c.requires r c.in-None.ensures (λ u q. h.others u q refl)
+    let d = node_of c.args.standing.now.node in
+    let no_clash = subst (λ o. MatchOption o (IsNever (Clashes g d.inside)) (IsFirst (Clashes g d.inside))) c.in_default-clash.is c.requires.stands.intake.clash in
+    let h = subst (IsLooseSet g d) (c.is_empty.ensures.0 c.if-not-is_empty.false) c.loose_units-loose.ensures.loose in
+    let r = reduced_from g d c.in_default.ensures no_clash c.in_default-raw_unit.ensures c.in_default-rival_unit.ensures c.in_default-starved_material.ensures (no_loose g d h) c.in_default-sole_step.ensures in
+    decided_from g d c.requires.sound r c.in-None.ensures (λ u q. h.others u q refl)

@@ -1,6 +1,6 @@
 use Rattle.std.proofs.Common.{◌≡◌, ℕ, true, false, ◌++◌, length}
 use Rattle.number_sets.specs.Sets.{has}
-use Rattle.neutral_extension.proofs.extension.take_out_all.Given as goal
+use Rattle.neutral_extension.proofs.standing.take_out_all.Given as goal
 
 abbrev pub invariant-take : goal.invariant-take
 invariant-take l = record {

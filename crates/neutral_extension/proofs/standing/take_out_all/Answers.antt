@@ -4,7 +4,7 @@ use Rattle.number_sets.specs.Sets.{has}
 use Rattle.number_sets.proofs.SetLemmas.{has-kept, has-append}
 use Rattle.neutral_extension.specs.Candidates.{Candidates}
 use Rattle.neutral_extension.proofs.KeptLemmas.{first_of_rising}
-use Rattle.neutral_extension.proofs.extension.take_out_all.Goals as goal
+use Rattle.neutral_extension.proofs.standing.take_out_all.Goals as goal
 
 group : (xs : List ℕ) (u : ℕ) (ys : List ℕ) → (xs ++ u ∷ []) ++ ys ≡ xs ++ u ∷ ys
 group [] u ys = refl

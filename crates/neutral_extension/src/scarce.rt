@@ -1,0 +1,94 @@
+//! Materials of which no maker is left, or one.
+ghost use Rattle.std.specs.Prelude.{◌≡◌, ◌<◌, ◌≤◌, ◌==◌, ℕ, Bool, true, false, cond, length};
+ghost use Rattle.number_sets.specs.Sets.{has};
+ghost use Rattle.pns_rules.specs.Structure.{is_made, is_used};
+ghost use Rattle.pgraph.specs.Tables.{shape};
+ghost use Rattle.neutral_extension.specs.Candidates.{left};
+ghost use Rattle.neutral_extension.specs.Standing.{IsTold, IsCounted, is_empty, is_single};
+
+use crate::makers::Makers;
+use pgraph::Graph;
+use unit_sets::{MatSet, UnitSet};
+
+/// The materials of which no maker is left, and those of which one is.
+#[derive(Clone, Copy, Debug)]
+pub struct Scarce {
+    pub unmade: MatSet,
+    pub single: MatSet,
+}
+
+/// The set, with x exactly where it belongs to it.
+fn with_exactly(set: MatSet, x: u32, belongs: bool) -> MatSet
+    requires { x < 256 }
+    ensures { (y : ℕ) → has result y ≡ cond (x == y) belongs (has set y) }
+{
+    if belongs { set.with(x) } else { set.without(x) }
+}
+
+/// The same, where the makers of x are counted again.
+fn counted_at(makers: &Makers, scarce: &Scarce, x: u32) -> Scarce
+    requires material { x < length makers.now.makers }
+    requires few { x < 256 }
+    ensures unmade { (y : ℕ) → has result.unmade y ≡ cond (x == y) (is_empty (left makers.now x)) (has scarce.now.unmade y) }
+    ensures single { (y : ℕ) → has result.single y ≡ cond (x == y) (is_single (left makers.now x)) (has scarce.now.single y) }
+{
+    Scarce {
+        unmade: with_exactly(scarce.unmade, x, makers.lacks(x)),
+        single: with_exactly(scarce.single, x, makers.has_one(x)),
+    }
+}
+
+/// Counts the makers that are left of each material.
+pub fn scarce_of(makers: &Makers, materials: u32) -> Scarce
+    requires all { length makers.now.makers ≡ materials }
+    requires few { materials ≤ 256 }
+    ensures { IsCounted makers.now materials (λ x. false) result }
+{
+    let mut scarce = Scarce {
+        unmade: MatSet::empty(),
+        single: MatSet::empty(),
+    };
+    for x in 0..materials {
+        scarce = counted_at(makers, &scarce, x);
+    }
+    scarce
+}
+
+/// Counts again, where some units are gone: of what these make, and of nothing else.
+pub fn scarce_after(graph: &Graph, makers: &Makers, scarce: &Scarce, gone: UnitSet) -> Scarce
+    requires all { length makers.now.makers ≡ (shape graph.now).materials }
+    requires known { (u : ℕ) → has gone u ≡ true → u < (shape graph.now).units }
+    requires others { IsCounted makers.now (shape graph.now).materials (is_made (shape graph.now) (has gone)) scarce.now }
+    ensures { IsCounted makers.now (shape graph.now).materials (λ x. false) result }
+{
+    graph.is_proper();
+    let mut scarce = *scarce;
+    let mut touched = graph.made(gone);
+    'outputs: loop {
+        touched.rises();
+        let Some(x) = touched.least() else {
+            return scarce;
+        };
+        scarce = counted_at(makers, &scarce, x);
+        touched = touched.without(x);
+    }
+}
+
+/// What the units of `rest` use, where some units are gone from it: it looks at what these use, and at nothing else.
+pub fn used_after(graph: &Graph, used: MatSet, rest: UnitSet, gone: UnitSet) -> MatSet
+    requires known { (u : ℕ) → has gone u ≡ true → u < (shape graph.now).units }
+    requires others { IsTold (is_used (shape graph.now) (has gone)) (is_used (shape graph.now) (has rest)) used }
+    ensures { has result ≡ is_used (shape graph.now) (has rest) }
+{
+    graph.is_proper();
+    let mut used = used;
+    let mut touched = graph.used(gone);
+    'inputs: loop {
+        touched.rises();
+        let Some(x) = touched.least() else {
+            return used;
+        };
+        used = with_exactly(used, x, graph.is_used(rest, x));
+        touched = touched.without(x);
+    }
+}
