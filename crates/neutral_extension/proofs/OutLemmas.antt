@@ -1,16 +1,18 @@
 -- Units taken out of the lists of makers, and brought back.
-use Rattle.std.proofs.Common.{◌≡◌, ℕ, zero, suc, ◌+◌, ◌*◌, ◌<◌, ◌==◌, Bool, true, false, cond, not, ◌&&◌, ◌||◌, List, [], ◌∷◌, ◌++◌, length, map, refl, sym, ap, ◌∙◌, subst, inl, inr, eqb-true, eq-eqb, arith}
-use Rattle.std.proofs.lemmas.Bool.{or_cases, or_left, or_right, and_from, and_parts, both_ways, false_from_ne_true, cases_eq}
+use Rattle.std.proofs.Common.{◌≡◌, ℕ, zero, suc, ◌+◌, ◌-◌, ◌*◌, ◌<◌, ◌≤◌, ◌==◌, nat_lt, Bool, true, false, cond, not, ◌&&◌, ◌||◌, List, [], ◌∷◌, ◌++◌, length, map, Some, refl, sym, ap, ◌∙◌, subst, inl, inr, eqb-true, eq-eqb, ne_eqb, lt-ltb, ltb-true, arith}
+use Rattle.std.proofs.lemmas.Bool.{or_cases, or_left, or_right, and_from, and_parts, both_ways, false_from_ne_true, not-true, cases_eq, cases_lt}
 use Rattle.std.proofs.lemmas.List.{length-map}
 use Rattle.std.specs.List.{filter}
-use Rattle.number_sets.specs.Sets.{has, kept, IsSet, IsRising}
+use Rattle.number_sets.specs.Sets.{has, kept, first, IsSet, IsRising}
 use Rattle.number_sets.proofs.SetLemmas.{has-kept, same_tests, has_below, below_not_had}
 use Rattle.link_lists.specs.Lists.{Rows, row, without, unlinked, relinked, IsOnce, IsListed, IsTop, AreApart}
 use Rattle.link_lists.specs.Lists as cells
 use Rattle.link_lists.proofs.Cells as laws
 use Rattle.link_lists.proofs.Vacancies.{relink_undoes_unlink, unlink_keeps_apart}
+use Rattle.number_sets.proofs.OptionLemmas.{first_had}
+use Rattle.pgraph.proofs.PathLemmas.{first_is}
 use Rattle.neutral_extension.specs.Candidates.{makers_at}
-use Rattle.neutral_extension.specs.Cells.{cell_at, full_from, full_rows, unit_cells, out_cells, makes_in, out_units, IsOut}
+use Rattle.neutral_extension.specs.Cells.{cell_at, full_from, full_rows, unit_cells, out_cells, makes_in, out_units, AreFrom, IsOut}
 
 -- the tests of two crates for the numbers of a list are the same
 pub cells_has : (xs : List ℕ) (u : ℕ) → cells.has xs u ≡ has xs u
@@ -261,3 +263,63 @@ apart_out mk ts sets = apart_units mk (full_rows mk) ts (full_apart mk sets)
 -- the last cell put back
 pub back_one : (makes : ℕ → ℕ → Bool) (u n x : ℕ) (b r : Rows) → IsOut makes u n b r → x < n → makes u x ≡ true → relinked (unlinked (out_cells b (unit_cells makes u x)) (cell_at x u)) ≡ out_cells b (unit_cells makes u x)
 back_one makes u n x b r out lt h = relink_undoes_unlink (out_cells b (unit_cells makes u x)) (cell_at x u) (apart_cells b (unit_cells makes u x) out.apart) (out.listed x lt h)
+
+-- ---- the outputs of a unit, from a material on
+
+-- no cells where nothing is made
+cells_gap : (makes : ℕ → ℕ → Bool) (u n k : ℕ) → ((y : ℕ) → n ≤ y → y < n + k → makes u y ≡ false) → unit_cells makes u (n + k) ≡ unit_cells makes u n
+cells_gap makes u n zero h = let e : n + 0 ≡ n = omega arith in ap (unit_cells makes u) e
+cells_gap makes u n (suc k) h =
+    let e : n + suc k ≡ (n + k) + 1 = omega arith in
+    ap (unit_cells makes u) e ∙ (cells_same makes u (n + k) (h (n + k) (omega arith) (omega arith)) ∙ cells_gap makes u n k (λ y a b. h y a (omega arith)))
+
+cells_still : (makes : ℕ → ℕ → Bool) (u n x : ℕ) → n ≤ x → ((y : ℕ) → n ≤ y → y < x → makes u y ≡ false) → unit_cells makes u x ≡ unit_cells makes u n
+cells_still makes u n x le h =
+    let e : x ≡ n + (x - n) = omega arith in
+    ap (unit_cells makes u) e ∙ cells_gap makes u n (x - n) (λ y a b. h y a (omega arith))
+
+not_below : (n x : ℕ) → nat_lt x n ≡ false → n ≤ x
+not_below n x f = elim (cases_lt x n) [ inl lt ↦ absurd (both_ways (nat_lt x n) f (lt-ltb x n lt)) | inr le ↦ le ]
+
+pub from_all : (makes : ℕ → ℕ → Bool) (u : ℕ) (xs : List ℕ) → has xs ≡ makes u → AreFrom makes u 0 xs
+from_all makes u xs e x = ap (λ (f : ℕ → Bool). f x) e ∙ (all (makes u x) ∙ ap (λ b. makes u x && not b) (sym (false_from_ne_true (nat_lt x 0) (λ t. let lt = ltb-true x 0 t in omega arith))))
+  where
+    all : (b : Bool) → b ≡ (b && not false)
+    all true = refl
+    all false = refl
+
+module _ (makes : ℕ → ℕ → Bool) (u n : ℕ) (xs : List ℕ) (is : AreFrom makes u n xs) where
+  had : (y : ℕ) → n ≤ y → makes u y ≡ true → has xs y ≡ true
+  had y le m = is y ∙ and_from (makes u y) (not (nat_lt y n)) m (ap not (false_from_ne_true (nat_lt y n) (λ t. let lt = ltb-true y n t in omega arith)))
+
+  parts : (y : ℕ) → has xs y ≡ true → (makes u y ≡ true) × (n ≤ y)
+  parts y h = let p = and_parts (makes u y) (not (nat_lt y n)) (sym (is y) ∙ h) in (p.0, not_below n y (not-true (nat_lt y n) p.1))
+
+  pub from_none : (m : ℕ) → n ≤ m → xs ≡ [] → unit_cells makes u m ≡ unit_cells makes u n
+  from_none m le none = cells_still makes u n m le (λ y a b. false_from_ne_true (makes u y) (λ t. both_ways false refl (sym (ap (λ ys. has ys y) none) ∙ had y a t)))
+
+  module _ (x : ℕ) (rising : IsRising xs) (head : first xs ≡ Some x) where
+    least : (y : ℕ) → y < x → has xs y ≡ true → ⊥
+    least y lt h = (first_is xs (λ z. has xs z ≡ true) rising (λ z. ((λ p. p), (λ p. p))) x head).1 y lt h
+
+    pub from_made : makes u x ≡ true
+    from_made = (parts x (first_had xs x head)).0
+
+    pub from_cells : unit_cells makes u x ≡ unit_cells makes u n
+    from_cells = cells_still makes u n x (parts x (first_had xs x head)).1 (λ y a b. false_from_ne_true (makes u y) (λ t. least y b (had y a t)))
+
+    pub from_more : AreFrom makes u (x + 1) (kept (λ v. not (x == v)) xs)
+    from_more y = has-kept (λ v. not (x == v)) xs y ∙ same_tests (has xs y && not (x == y)) (makes u y && not (nat_lt y (x + 1)))
+        (λ h.
+        let p = and_parts (has xs y) (not (x == y)) h in
+        and_from (makes u y) (not (nat_lt y (x + 1))) (parts y p.0).0 (ap not (false_from_ne_true (nat_lt y (x + 1)) (λ t.
+        let lt = ltb-true y (x + 1) t in
+        elim (cases_eq y x) [
+          | inl e ↦ both_ways (x == y) (not-true (x == y) p.1) (eq-eqb x y (sym e))
+          | inr ne ↦ least y (omega arith) p.0
+        ]))))
+        (λ h.
+        let p = and_parts (makes u y) (not (nat_lt y (x + 1))) h in
+        let ge = not_below (x + 1) y (not-true (nat_lt y (x + 1)) p.1) in
+        let low = (parts x (first_had xs x head)).1 in
+        and_from (has xs y) (not (x == y)) (had y (omega arith) p.0) (ap not (ne_eqb x y (λ e. omega arith))))

@@ -1,6 +1,6 @@
 -- How memory holds the makers, which the invariant of `Makers` cites: the maker u of the material x has the cell 128 x + u in
 -- the list x.
-use Rattle.std.specs.Prelude.{◌≡◌, ℕ, zero, suc, ◌+◌, ◌-◌, ◌*◌, ◌<◌, ◌≤◌, Bool, true, cond, List, [], ◌∷◌, ◌++◌, length, map, take}
+use Rattle.std.specs.Prelude.{◌≡◌, ℕ, zero, suc, ◌+◌, ◌-◌, ◌*◌, ◌<◌, ◌≤◌, Bool, true, cond, not, ◌&&◌, nat_lt, List, [], ◌∷◌, ◌++◌, length, map, take}
 use Rattle.number_sets.specs.Sets.{has, IsSet}
 use Rattle.link_lists.specs.Lists.{Vacancy, Rows, row, filled, unlinked, IsListed, IsOnce, AreApart}
 use Rattle.link_lists.specs.Lists as cells
@@ -59,6 +59,10 @@ pub record IsOrdered (r : Rows) (mk : List (List ℕ)) (order : List ℕ) (count
   pub kept : IsKept r mk (take count order)
   pub room : length order ≡ 128
   pub deep : count ≤ 128
+
+-- xs are the materials from n on that u makes
+abbrev pub AreFrom : (ℕ → ℕ → Bool) → ℕ → ℕ → List ℕ → Type 0
+AreFrom makes u n xs = (x : ℕ) → has xs x ≡ (makes u x && not (nat_lt x n))
 
 -- each list keeps to its own band of cells
 abbrev pub AreInBands : List (List ℕ) → Type 0

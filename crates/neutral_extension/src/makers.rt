@@ -4,14 +4,14 @@ ghost use Rattle.number_sets.specs.Sets.{has, first, IsSet};
 ghost use Rattle.link_lists.specs.Lists.{Rows, row, IsListed};
 ghost use Rattle.pgraph.specs.Tables.{shape};
 ghost use Rattle.neutral_extension.specs.Candidates.{left, AreMakersOf};
-ghost use Rattle.neutral_extension.specs.Cells.{cell_at, unit_cells, out_cells, full_rows, AreInBands, IsFilled, IsOut};
+ghost use Rattle.neutral_extension.specs.Cells.{cell_at, unit_cells, out_cells, full_rows, AreInBands, AreFrom, IsFilled, IsOut};
 ghost use Rattle.neutral_extension.specs.Standing.{is_empty, is_single};
 
 use link_lists::Lists;
 use pgraph::Graph;
 use std::alloc::{AllocError, Global};
 use std::marker::Model;
-use unit_sets::UnitSet;
+use unit_sets::{MatSet, UnitSet};
 
 /// The makers of each material, as linked lists of those that are not taken out.
 #[derive(Drop)]
@@ -35,18 +35,49 @@ impl Model for Makers {
     ghost invariant = { λ s. IsOrdered s.lists (makers_of s.lists) s.order.items s.count };
 }
 
-/// Unlinks the cells of the unit.
+/// The materials that the unit makes, none where there is no such unit.
+fn outputs_of(graph: &Graph, u: u32) -> MatSet
+    ensures { has result ≡ (shape graph.now).makes u }
+{
+    graph.is_proper();
+    if u < graph.unit_count() {
+        graph.outputs(u)
+    } else {
+        MatSet::empty()
+    }
+}
+
+/// Unlinks the cells of the unit, that of the least material first.
 fn unlink_cells(lists: &mut Lists, graph: &Graph, u: u32)
     requires unit { u < 128 }
     requires listed { (x : ℕ) → x < (shape graph.now).materials → (shape graph.now).makes u x ≡ true → IsListed (out_cells lists.old (unit_cells (shape graph.now).makes u x)).lists (cell_at x u) }
     ensures { lists.new ≡ out_cells lists.old (unit_cells (shape graph.now).makes u (shape graph.now).materials) }
 {
     graph.is_proper();
-    for x in 0..graph.material_count() {
-        if graph.producers(x).has(u) {
-            lists.unlink(x * 128 + u);
-        }
+    let mut outputs = outputs_of(graph, u);
+    'outputs: loop {
+        outputs.rises();
+        let Some(x) = outputs.least() else {
+            return;
+        };
+        lists.unlink(x * 128 + u);
+        outputs = outputs.without(x);
     }
+}
+
+/// Relinks the cells of the unit at these outputs, that of the greatest material first. They were the last to be unlinked.
+fn relink_from(lists: &mut Lists, graph: &Graph, u: u32, outputs: MatSet)
+    requires unit { u < 128 }
+    requires out { (b : Rows) × (n : ℕ) × (n ≤ (shape graph.now).materials) × IsOut (shape graph.now).makes u (shape graph.now).materials b lists.old × AreFrom (shape graph.now).makes u n outputs }
+    ensures { (b : Rows) (n : ℕ) → n ≤ (shape graph.now).materials → IsOut (shape graph.now).makes u (shape graph.now).materials b lists.old → AreFrom (shape graph.now).makes u n outputs → lists.new ≡ out_cells b (unit_cells (shape graph.now).makes u n) }
+{
+    graph.is_proper();
+    outputs.rises();
+    let Some(x) = outputs.least() else {
+        return;
+    };
+    relink_from(lists, graph, u, outputs.without(x));
+    lists.relink(x * 128 + u);
 }
 
 /// Relinks the cells of the unit, which was the last to be unlinked.
@@ -56,13 +87,7 @@ fn relink_cells(lists: &mut Lists, graph: &Graph, u: u32)
     ensures { (b : Rows) → IsOut (shape graph.now).makes u (shape graph.now).materials b lists.old → lists.new ≡ b }
 {
     graph.is_proper();
-    let count = graph.material_count();
-    for i in 0..count {
-        let x = count - 1 - i;
-        if graph.producers(x).has(u) {
-            lists.relink(x * 128 + u);
-        }
-    }
+    relink_from(lists, graph, u, outputs_of(graph, u));
 }
 
 /// Puts a cell for each unit of the set into an empty list.
