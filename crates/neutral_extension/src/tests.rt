@@ -4,6 +4,8 @@ ghost use Rattle.pns_rules.specs.Ends.{IsSound};
 ghost use Rattle.pgraph.specs.Tables.{shape};
 ghost use Rattle.pgraph.specs.View.{node_of};
 
+mod order;
+
 use crate::{Extended, Makers, Stop, extend, extend_with};
 use pgraph::{Graph, Verdict};
 use pns_problem::{Exclusion, Kind, Material, OperatingUnit, Parts, Problem, Term};
