@@ -1,6 +1,6 @@
-use Rattle.std.proofs.Common.{◌≡◌, ◌<◌, ◌≤◌, ◌+◌, ℕ, List, length, refl, sym, ap, ◌∙◌, subst, arith}
+use Rattle.std.proofs.Common.{◌<◌, ◌≤◌, ◌+◌, ℕ, List, length, refl, sym, ap, ◌∙◌, subst, arith}
 use Rattle.number_sets.proofs.OptionLemmas.{first_none}
-use Rattle.link_lists.specs.Lists.{Rows, relinked, unlinked, IsTop}
+use Rattle.link_lists.specs.Lists.{Rows, relinked, IsTop}
 use Rattle.pgraph.specs.Tables.{shape}
 use Rattle.pgraph.proofs.ArcLemmas.{first_shorter}
 use Rattle.neutral_extension.specs.Cells.{cell_at, unit_cells, out_cells, AreFrom}

@@ -1,6 +1,6 @@
-use Rattle.std.proofs.Common.{ℕ, sym, ap, ◌∙◌, arith}
+use Rattle.std.proofs.Common.{ap, ◌∙◌, arith}
 use Rattle.pgraph.specs.Tables.{shape}
-use Rattle.neutral_extension.specs.Cells.{unit_cells, out_cells}
+use Rattle.neutral_extension.specs.Cells.{out_cells}
 use Rattle.neutral_extension.proofs.OutLemmas.{cells_none, from_all}
 use Rattle.neutral_extension.proofs.makers.relink_cells.Goals as goal
 

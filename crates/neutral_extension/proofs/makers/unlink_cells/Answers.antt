@@ -1,5 +1,4 @@
-use Rattle.std.proofs.Common.{◌≡◌, ◌<◌, ◌≤◌, ◌+◌, ℕ, Bool, true, false, not, ◌&&◌, List, length, sym, ap, ◌∙◌, subst, arith}
-use Rattle.number_sets.specs.Sets.{has}
+use Rattle.std.proofs.Common.{◌<◌, ◌+◌, ℕ, List, length, sym, ap, ◌∙◌, subst, arith}
 use Rattle.number_sets.proofs.OptionLemmas.{first_none}
 use Rattle.link_lists.specs.Lists.{Rows, unlinked, IsListed}
 use Rattle.pgraph.specs.Tables.{shape}

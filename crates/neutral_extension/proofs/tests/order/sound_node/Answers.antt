@@ -1,4 +1,4 @@
-use Rattle.std.proofs.Common.{◌≡◌, ◌<◌, ◌&&◌, ℕ, Bool, true, false, nat_lt, refl, sym, ap, ◌∙◌, ltb-true}
+use Rattle.std.proofs.Common.{◌≡◌, ◌<◌, ℕ, Bool, true, false, nat_lt, refl, sym, ap, ◌∙◌, ltb-true}
 use Rattle.std.proofs.lemmas.Bool.{and_from, both_ways}
 use Rattle.number_sets.specs.Sets.{has}
 use Rattle.number_sets.proofs.SetLemmas.{has-meet}
