@@ -1,0 +1,2 @@
+pub mod ExampleProblem
+pub mod Worked
