@@ -1,2 +1,8 @@
-pub mod ExampleProblem
-pub mod Worked
+pub mod DualityLemmas
+mod ExampleProblem
+pub mod LastLemmas
+pub mod ListedLemmas
+pub mod NetLemmas
+pub mod RelaxedLemmas
+mod Worked
+pub mod ZeroLemmas

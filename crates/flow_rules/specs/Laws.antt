@@ -1,17 +1,18 @@
 -- Laws over the definitions, each of which a public function of this crate has as its contract. Each speaks of every valid
 -- problem, of a node (the units that are taken in and left out), and of any multipliers.
-use Rattle.std.specs.Prelude.{◌≡◌, ℕ, ℤ, pos, ◌*ℤ◌, ◌≤ℤ◌, ◌<ℤ◌, Bool}
+use Rattle.std.specs.Prelude.{◌≡◌, ℕ, ◌<◌, ℤ, pos, ◌*ℤ◌, ◌≤ℤ◌, ◌<ℤ◌, Bool, length}
 use Rattle.problem_rules.specs.Problem.{Problem}
 use Rattle.problem_rules.specs.Validity.{IsValid}
 use Rattle.pns_rules.specs.Shape.{shape_of}
 use Rattle.pns_rules.specs.Structure.{IsBetween}
 use Rattle.pns_rules.specs.Nodes.{Node}
 use Rattle.flow_rules.specs.Net.{net_of, million}
-use Rattle.flow_rules.specs.Flows.{IsFlows, cost}
-use Rattle.flow_rules.specs.Relaxed.{IsRelaxed, relaxed_cost, slope, bound, Refutes}
+use Rattle.flow_rules.specs.Flows.{IsFlows, balance, cost}
+use Rattle.flow_rules.specs.Relaxed.{IsRelaxed, relaxed_cost, slope, unit_cost, reduced_cost, bound, Refutes}
 use Rattle.flow_rules.specs.Steps.{last_from}
-use Rattle.flow_rules.specs.BoundSteps.{bound_steps}
+use Rattle.flow_rules.specs.BoundSteps.{rows_at, reduced_steps, bound_steps}
 use Rattle.flow_rules.specs.CostSteps.{cost_steps}
+use Rattle.flow_rules.specs.FeasibleSteps.{units_at, balance_steps}
 
 -- ---- relaxed flows
 
@@ -36,7 +37,7 @@ RelaxedCostsLess =
 -- the slope of a unit times its upper bound is at most its fixed cost, and no greater number is
 abbrev pub SlopeIsGreatest : Type 0
 SlopeIsGreatest =
-    (p : Problem) → IsValid p → (i : ℕ) → pos 0 <ℤ (net_of p).most i
+    (p : Problem) → IsValid p → (i : ℕ) → i < length p.units → pos 0 <ℤ (net_of p).most i
     → ((slope (net_of p) i *ℤ (net_of p).most i) ≤ℤ ((net_of p).fix i *ℤ million))
     × ((k : ℤ) → (k *ℤ (net_of p).most i) ≤ℤ ((net_of p).fix i *ℤ million) → k ≤ℤ slope (net_of p) i)
 
@@ -68,3 +69,15 @@ BoundIsLast = (p : Problem) (n : Node) (scale : ℤ) (y : ℕ → ℤ) → last_
 
 abbrev pub CostIsLast : Type 0
 CostIsLast = (p : Problem) (s : ℕ → Bool) (z : ℕ → ℤ) (d : ℤ) → last_from (pos 0) (cost_steps (net_of p) s z d) ≡ cost (net_of p) s z d
+
+-- the last step of a reduced cost is the reduced cost, and the last of a balance is the balance: the rates that are 0 add nothing
+abbrev pub ReducedIsLast : Type 0
+ReducedIsLast =
+    (p : Problem) (n : Node) (scale : ℤ) (y : ℕ → ℤ) (i : ℕ)
+    → last_from (scale *ℤ unit_cost (net_of p) n i) (reduced_steps (net_of p) y i (rows_at (net_of p) n i) (scale *ℤ unit_cost (net_of p) n i))
+    ≡ reduced_cost (net_of p) n scale y i
+
+abbrev pub BalanceIsLast : Type 0
+BalanceIsLast =
+    (p : Problem) (s : ℕ → Bool) (z : ℕ → ℤ) (j : ℕ)
+    → last_from (pos 0) (balance_steps (net_of p) z j (units_at (net_of p) s j) (pos 0)) ≡ balance (net_of p) s z j
