@@ -1,6 +1,7 @@
 pub mod DualityLemmas
 mod ExampleProblem
 pub mod LastLemmas
+pub mod LeadingLemmas
 pub mod ListedLemmas
 pub mod NetLemmas
 pub mod RelaxedLemmas

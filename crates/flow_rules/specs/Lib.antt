@@ -4,5 +4,6 @@ pub mod FeasibleSteps
 pub mod Flows
 pub mod Laws
 pub mod Net
+pub mod Program
 pub mod Relaxed
 pub mod Steps
