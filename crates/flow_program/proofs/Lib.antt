@@ -1,0 +1,5 @@
+pub mod SizeLemmas
+pub mod WalkLemmas
+mod RateLemmas
+mod TableLemmas
+mod CostLemmas
