@@ -34,7 +34,7 @@ last_of_rows net n y (j ∷ js) sum =
 
 last_of_unit : (net : Net) (n : Node) (scale : ℤ) (y : ℕ → ℤ) (i : ℕ) (before sum : ℤ) → last_from before (unit_steps net n scale y i sum) ≡ sum +ℤ unit_part net n scale y i
 last_of_unit net n scale y i before sum =
-    last-append (scale *ℤ unit_cost net n i) (reduced_steps net y i (rows_at net n i) (scale *ℤ unit_cost net n i)) (least_steps (reduced_cost net n scale y i) (unit_low net n i) (net.most i) sum)
+    last-append (scale *ℤ unit_cost net n i) (reduced_steps y (λ j. net.rate j i) (rows_at net n i) (scale *ℤ unit_cost net n i)) (least_steps (reduced_cost net n scale y i) (unit_low net n i) (net.most i) sum)
 
 last_of_units : (net : Net) (n : Node) (scale : ℤ) (y : ℕ → ℤ) (is : List ℕ) (sum : ℤ) → last_from sum (units_steps net n scale y is sum) ≡ sum +ℤ total (unit_part net n scale y) is
 last_of_units net n scale y [] sum = add_zero sum
@@ -89,17 +89,17 @@ total_at_units net s z j =
     total-sets (λ i. net.rate j i *ℤ z i) (λ i. net.rate j i *ℤ z i) (λ i. s i && not (int_eq (net.rate j i) (pos 0))) s net.graph.units
     (λ i l. where_not_zero (s i) (int_eq (net.rate j i) (pos 0)) (net.rate j i *ℤ z i) (no_term_left (net.rate j i) (z i)))
 
-last_of_reduced : (net : Net) (y : ℕ → ℤ) (i : ℕ) (js : List ℕ) (left : ℤ) → last_from left (reduced_steps net y i js left) ≡ left -ℤ total (λ j. y j *ℤ net.rate j i) js
-last_of_reduced net y i [] left = omega (arith, ints)
-last_of_reduced net y i (j ∷ js) left =
-    last_of_reduced net y i js (left -ℤ y j *ℤ net.rate j i) ∙ taken left (y j *ℤ net.rate j i) (total (λ j. y j *ℤ net.rate j i) js)
+last_of_reduced : (y rate : ℕ → ℤ) (js : List ℕ) (left : ℤ) → last_from left (reduced_steps y rate js left) ≡ left -ℤ total (λ j. y j *ℤ rate j) js
+last_of_reduced y rate [] left = omega (arith, ints)
+last_of_reduced y rate (j ∷ js) left =
+    last_of_reduced y rate js (left -ℤ y j *ℤ rate j) ∙ taken left (y j *ℤ rate j) (total (λ j. y j *ℤ rate j) js)
   where
     taken : (left a rest : ℤ) → (left -ℤ a) -ℤ rest ≡ left -ℤ (a +ℤ rest)
     taken left a rest = omega (arith, ints)
 
 pub reduced_is_last : ReducedIsLast
 reduced_is_last p n scale y i =
-    last_of_reduced (net_of p) y i (rows_at (net_of p) n i) (scale *ℤ unit_cost (net_of p) n i)
+    last_of_reduced y (λ j. (net_of p).rate j i) (rows_at (net_of p) n i) (scale *ℤ unit_cost (net_of p) n i)
     ∙ ap (λ z. scale *ℤ unit_cost (net_of p) n i -ℤ z) (total_at_rows (net_of p) n y i)
 
 last_of_balance : (net : Net) (z : ℕ → ℤ) (j : ℕ) (is : List ℕ) (sum : ℤ) → last_from sum (balance_steps net z j is sum) ≡ sum +ℤ total (λ i. net.rate j i *ℤ z i) is

@@ -5,5 +5,6 @@ pub mod LeadingLemmas
 pub mod ListedLemmas
 pub mod NetLemmas
 pub mod RelaxedLemmas
+pub mod SameLemmas
 mod Worked
 pub mod ZeroLemmas

@@ -21,15 +21,15 @@ rows_steps net n y (j ∷ js) sum = least_steps (y j) (row_low net n j) (row_hig
 abbrev pub rows_at : Net → Node → ℕ → List ℕ
 rows_at net n i = listed net.graph.materials (λ j. mats net.graph (stays n) j && not (int_eq (net.rate j i) (pos 0)))
 
--- for each of these rows the product with its multiplier, and what was left less the product
-abbrev pub reduced_steps : Net → (ℕ → ℤ) → ℕ → List ℕ → ℤ → List ℤ
-reduced_steps net y i [] left = []
-reduced_steps net y i (j ∷ js) left = (y j *ℤ net.rate j i) ∷ (left -ℤ y j *ℤ net.rate j i) ∷ reduced_steps net y i js (left -ℤ y j *ℤ net.rate j i)
+-- for each of these rows the product of its multiplier and the rate, and what was left less the product
+abbrev pub reduced_steps : (ℕ → ℤ) → (ℕ → ℤ) → List ℕ → ℤ → List ℤ
+reduced_steps y rate [] left = []
+reduced_steps y rate (j ∷ js) left = (y j *ℤ rate j) ∷ (left -ℤ y j *ℤ rate j) ∷ reduced_steps y rate js (left -ℤ y j *ℤ rate j)
 
 abbrev pub unit_steps : Net → Node → ℤ → (ℕ → ℤ) → ℕ → ℤ → List ℤ
 unit_steps net n scale y i sum =
     (scale *ℤ unit_cost net n i)
-    ∷ (reduced_steps net y i (rows_at net n i) (scale *ℤ unit_cost net n i) ++ least_steps (reduced_cost net n scale y i) (unit_low net n i) (net.most i) sum)
+    ∷ (reduced_steps y (λ j. net.rate j i) (rows_at net n i) (scale *ℤ unit_cost net n i) ++ least_steps (reduced_cost net n scale y i) (unit_low net n i) (net.most i) sum)
 
 abbrev pub units_steps : Net → Node → ℤ → (ℕ → ℤ) → List ℕ → ℤ → List ℤ
 units_steps net n scale y [] sum = []

@@ -74,7 +74,7 @@ CostIsLast = (p : Problem) (s : ℕ → Bool) (z : ℕ → ℤ) (d : ℤ) → la
 abbrev pub ReducedIsLast : Type 0
 ReducedIsLast =
     (p : Problem) (n : Node) (scale : ℤ) (y : ℕ → ℤ) (i : ℕ)
-    → last_from (scale *ℤ unit_cost (net_of p) n i) (reduced_steps (net_of p) y i (rows_at (net_of p) n i) (scale *ℤ unit_cost (net_of p) n i))
+    → last_from (scale *ℤ unit_cost (net_of p) n i) (reduced_steps y (λ j. (net_of p).rate j i) (rows_at (net_of p) n i) (scale *ℤ unit_cost (net_of p) n i))
     ≡ reduced_cost (net_of p) n scale y i
 
 abbrev pub BalanceIsLast : Type 0
