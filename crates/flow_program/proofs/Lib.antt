@@ -1,5 +1,10 @@
 pub mod SizeLemmas
 pub mod WalkLemmas
+mod FeasibleLemmas
+mod NodeSetLemmas
 mod RateLemmas
 mod TableLemmas
+mod BoundLemmas
+mod BoundSumLemmas
 mod CostLemmas
+mod CostSumLemmas

@@ -3,10 +3,10 @@ use Rattle.std.proofs.Common.{◌≡◌, ◌≢◌, ℕ, zero, suc, ◌+◌, ◌
 use Rattle.std.specs.Prelude.{int_lt}
 use Rattle.std.proofs.lemmas.Int.{ints}
 use Rattle.std.proofs.lemmas.List.{drop_more, get_or-set_same, get_or-set_other, length-set}
-use Rattle.std.proofs.lemmas.Bool.{eq-eqb, eqb-true}
+use Rattle.std.proofs.lemmas.Bool.{eq-eqb, ne_eqb, eqb-true}
 use Rattle.number_sets.specs.Sets.{has}
 use Rattle.problem_rules.specs.Each.{Each}
-use Rattle.problem_rules.specs.Problem.{Problem, OperatingUnit, Term, terms_have, rate_in, rate_of, unit_at, no_unit}
+use Rattle.problem_rules.specs.Problem.{Problem, Material, material_at, no_material, OperatingUnit, Term, terms_have, rate_in, rate_of, unit_at, no_unit}
 use Rattle.problem_rules.specs.Validity.{repeats_material}
 use Rattle.problem_rules.specs.WellFormed.{IsWellFormedSide, IsWellFormedTerm, IsWellFormedUnit, IsInRange}
 use Rattle.problem_rules.proofs.ItemLemmas.{Each-at}
@@ -92,7 +92,7 @@ module _ (terms : List Term) (used : Bool) (old now : List ℤ) (k materials : �
           clash a b = cc
 
 -- ---- the rates of a unit
-rate_in_range : (n : ℕ) (ts : List Term) (x : ℕ) → Each (IsWellFormedTerm n) ts → IsInRange (rate_in ts x)
+pub rate_in_range : (n : ℕ) (ts : List Term) (x : ℕ) → Each (IsWellFormedTerm n) ts → IsInRange (rate_in ts x)
 rate_in_range n [] x h = omega arith
 rate_in_range n (t ∷ ts) x h = at (t.material == x) h.0.in_range (rate_in_range n ts x h.1)
   where
@@ -131,6 +131,27 @@ module _ (p : Problem) (u : ℕ) (formed : IsWellFormedUnit (length p.materials)
   one_zero x true false e f = inr (no_rate_in (unit_at p u).inputs x f)
   one_zero x true true e f = absurd (sides_apart (unit_at p u).inputs (unit_at p u).outputs x formed.sides_apart f e)
 
+  neither_true : (a b : Bool) → a ≡ false → b ≡ false → (a || b) ≡ true → ⊥
+  neither_true true b e f h = cc
+  neither_true false b e f h = cc
+
+  not_zero_at : (x : ℕ) (a b : Bool) → terms_have (unit_at p u).inputs x ≡ a → terms_have (unit_at p u).outputs x ≡ b → (terms_have (unit_at p u).inputs x || terms_have (unit_at p u).outputs x) ≡ true
+      → rate_in (unit_at p u).outputs x ≡ rate_in (unit_at p u).inputs x → ⊥
+  not_zero_at x true true e f h q = sides_apart (unit_at p u).inputs (unit_at p u).outputs x formed.sides_apart e f
+  not_zero_at x true false e f h q = rate_not_zero (length p.materials) (unit_at p u).inputs x formed.inputs.terms_formed e (sym q ∙ no_rate_in (unit_at p u).outputs x f)
+  not_zero_at x false true e f h q = rate_not_zero (length p.materials) (unit_at p u).outputs x formed.outputs.terms_formed f (q ∙ no_rate_in (unit_at p u).inputs x e)
+  not_zero_at x false false e f h q = neither_true (terms_have (unit_at p u).inputs x) (terms_have (unit_at p u).outputs x) e f h
+
+  -- the rate of a material is 0 just where it is neither used nor made
+  pub rate_there : (x : ℕ) → (terms_have (unit_at p u).inputs x || terms_have (unit_at p u).outputs x) ≡ true → rate_of p x u ≡ pos 0 → ⊥
+  rate_there x h e =
+      not_zero_at x (terms_have (unit_at p u).inputs x) (terms_have (unit_at p u).outputs x) refl refl h (zero_sum (rate_in (unit_at p u).outputs x) (rate_in (unit_at p u).inputs x) e)
+
+  pub rate_elsewhere : (x : ℕ) → (terms_have (unit_at p u).inputs x || terms_have (unit_at p u).outputs x) ≡ false → rate_of p x u ≡ pos 0
+  rate_elsewhere x h =
+      let n = either (terms_have (unit_at p u).inputs x) (terms_have (unit_at p u).outputs x) h in
+      rw (no_rate_in (unit_at p u).inputs x n.0, no_rate_in (unit_at p u).outputs x n.1) (omega (arith, ints))
+
   pub are_rates : (materials : List ℕ) (old middle new : List ℤ) → length new ≡ 256
       → ((x : ℕ) → get_or middle x (pos 0) ≡ cond (terms_have (unit_at p u).outputs x) (signed false (rate_in (unit_at p u).outputs x)) (get_or old x (pos 0)))
       → ((x : ℕ) → get_or new x (pos 0) ≡ cond (terms_have (unit_at p u).inputs x) (signed true (rate_in (unit_at p u).inputs x)) (get_or middle x (pos 0)))
@@ -143,10 +164,8 @@ module _ (p : Problem) (u : ℕ) (formed : IsWellFormedUnit (length p.materials)
     in_range = λ x. size_of_rate (rate_in (unit_at p u).outputs x) (rate_in (unit_at p u).inputs x)
         (rate_in_range (length p.materials) (unit_at p u).outputs x formed.outputs.terms_formed) (rate_in_range (length p.materials) (unit_at p u).inputs x formed.inputs.terms_formed)
         (one_zero x (terms_have (unit_at p u).outputs x) (terms_have (unit_at p u).inputs x) refl refl);
-    not_zero = λ x h e. not_zero_at x (terms_have (unit_at p u).inputs x) (terms_have (unit_at p u).outputs x) refl refl (sym (members x) ∙ h)
-        (zero_sum (rate_in (unit_at p u).outputs x) (rate_in (unit_at p u).inputs x) e);
-    none_else = λ x h. let n = either (terms_have (unit_at p u).inputs x) (terms_have (unit_at p u).outputs x) (sym (members x) ∙ h) in
-        rw (no_rate_in (unit_at p u).inputs x n.0, no_rate_in (unit_at p u).outputs x n.1) (omega (arith, ints));
+    not_zero = λ x h e. rate_there x (sym (members x) ∙ h) e;
+    none_else = λ x h. rate_elsewhere x (sym (members x) ∙ h);
   }
     where
       known_at : (x : ℕ) (a : Bool) → terms_have (unit_at p u).inputs x ≡ a → (terms_have (unit_at p u).inputs x || terms_have (unit_at p u).outputs x) ≡ true → x < length p.materials
@@ -159,22 +178,28 @@ module _ (p : Problem) (u : ℕ) (formed : IsWellFormedUnit (length p.materials)
       rate_at x true false e f h = second x ∙ rw e (zero_sub (rate_in (unit_at p u).outputs x) (rate_in (unit_at p u).inputs x) (no_rate_in (unit_at p u).outputs x f))
       rate_at x false true e f h = second x ∙ rw e (first x ∙ rw f (sub_zero (rate_in (unit_at p u).outputs x) (rate_in (unit_at p u).inputs x) (no_rate_in (unit_at p u).inputs x e)))
       rate_at x false false e f h = absurd (neither_true (terms_have (unit_at p u).inputs x) (terms_have (unit_at p u).outputs x) e f h)
-        where
-          neither_true : (a b : Bool) → a ≡ false → b ≡ false → (a || b) ≡ true → ⊥
-          neither_true true b e f h = cc
-          neither_true false b e f h = cc
-
-      not_zero_at : (x : ℕ) (a b : Bool) → terms_have (unit_at p u).inputs x ≡ a → terms_have (unit_at p u).outputs x ≡ b → (terms_have (unit_at p u).inputs x || terms_have (unit_at p u).outputs x) ≡ true
-          → rate_in (unit_at p u).outputs x ≡ rate_in (unit_at p u).inputs x → ⊥
-      not_zero_at x true true e f h q = sides_apart (unit_at p u).inputs (unit_at p u).outputs x formed.sides_apart e f
-      not_zero_at x true false e f h q = rate_not_zero (length p.materials) (unit_at p u).inputs x formed.inputs.terms_formed e (sym q ∙ no_rate_in (unit_at p u).outputs x f)
-      not_zero_at x false true e f h q = rate_not_zero (length p.materials) (unit_at p u).outputs x formed.outputs.terms_formed f (q ∙ no_rate_in (unit_at p u).inputs x e)
-      not_zero_at x false false e f h q = neither_true (terms_have (unit_at p u).inputs x) (terms_have (unit_at p u).outputs x) e f h
-        where
-          neither_true : (a b : Bool) → a ≡ false → b ≡ false → (a || b) ≡ true → ⊥
-          neither_true true b e f h = cc
-          neither_true false b e f h = cc
 
 -- the unit that was read
 pub unit_read : (p : Problem) (us : List OperatingUnit) (u : ℕ) (x : OperatingUnit) → us ≡ p.units → u < length p.units → x ≡ get_or us u x → x ≡ unit_at p u
 unit_read p us u x e l h = h ∙ ap (λ (vs : List OperatingUnit). get_or vs u x) e ∙ get_or-any p.units u x no_unit l
+
+-- ---- one rate, looked up
+module _ (ts : List Term) (k j : ℕ) (t : Term) (l : k < length ts) (e : t ≡ get_or ts k t) (so_far : rate_in (drop k ts) j ≡ rate_in ts j) where
+  term_ahead : drop k ts ≡ t ∷ drop (k + 1) ts
+  term_ahead = drop_more ts k t l ∙ ap (λ (s : Term). s ∷ drop (k + 1) ts) (sym e)
+
+  pub rate_found : t.material ≡ j → t.rate ≡ rate_in ts j
+  rate_found same = here ∙ ap (λ (xs : List Term). rate_in xs j) (sym term_ahead) ∙ so_far
+    where
+      here : t.rate ≡ rate_in (t ∷ drop (k + 1) ts) j
+      here = rw (rate_in, eq-eqb t.material j same) refl
+
+  pub rate_skipped : (t.material ≡ j → ⊥) → rate_in (drop (k + 1) ts) j ≡ rate_in ts j
+  rate_skipped other = here ∙ ap (λ (xs : List Term). rate_in xs j) (sym term_ahead) ∙ so_far
+    where
+      here : rate_in (drop (k + 1) ts) j ≡ rate_in (t ∷ drop (k + 1) ts) j
+      here = rw (rate_in, ne_eqb t.material j other) refl
+
+-- the material that was read
+pub material_read : (p : Problem) (ms : List Material) (j : ℕ) (x : Material) → ms ≡ p.materials → j < length p.materials → x ≡ get_or ms j x → x ≡ material_at p j
+material_read p ms j x e l h = h ∙ ap (λ (ys : List Material). get_or ys j x) e ∙ get_or-any p.materials j x no_material l

@@ -19,10 +19,10 @@ walk_next (y ∷ ys) x h e =
     let gone : (x == y) ≡ true = eq-eqb x y (sym same) in
     rw gone ((λ i. same i ∷ ys) ∙ ap (λ zs. x ∷ zs) (sym (keeps_above x ys (subst (λ w. IsBelowAll w ys) same h.0))))
 
-has-first : (x : ℕ) (xs : List ℕ) → has (x ∷ xs) x ≡ true
+pub has-first : (x : ℕ) (xs : List ℕ) → has (x ∷ xs) x ≡ true
 has-first x xs = rw (eq-eqb x x refl) refl
 
-has-rest : (x u : ℕ) (xs : List ℕ) → has xs u ≡ true → has (x ∷ xs) u ≡ true
+pub has-rest : (x u : ℕ) (xs : List ℕ) → has xs u ≡ true → has (x ∷ xs) u ≡ true
 has-rest x u xs h = at (x == u) h
   where
     at : (b : Bool) → has xs u ≡ true → (b || has xs u) ≡ true
@@ -59,3 +59,16 @@ passed n left x rest h P before here u e = at (x == u) refl
     at : (b : Bool) → (x == u) ≡ b → P u
     at true f = subst P (eqb-true x u f) here
     at false f = before u (rw (h.is) (rw (f, e) refl))
+
+-- before the rest is named
+pub next_had : (n : ℕ) (left : List ℕ) (x : ℕ) → IsSet n left → first left ≡ Some x → has left x ≡ true
+next_had n left x h e = has_next n left x (kept (λ v. not (x == v)) left) (is_next n left x (kept (λ v. not (x == v)) left) h e refl)
+
+pub next_below : (n : ℕ) (left : List ℕ) (x : ℕ) → IsSet n left → first left ≡ Some x → x < n
+next_below n left x h e = (is_next n left x (kept (λ v. not (x == v)) left) h e refl).below
+
+pub next_counts : (n : ℕ) (left : List ℕ) (x : ℕ) → IsSet n left → first left ≡ Some x → 1 ≤ length left
+next_counts n left x h e =
+    let next = is_next n left x (kept (λ v. not (x == v)) left) h e refl in
+    let l : length left ≡ length (x ∷ kept (λ v. not (x == v)) left) = ap (λ (xs : List ℕ). length xs) next.is in
+    omega arith

@@ -51,12 +51,12 @@ fn millionfold(amount: i128) -> i128
 }
 
 /// An amount a trillion times.
-fn trillionfold(amount: i128) -> i128
+pub(crate) fn trillionfold(amount: i128) -> i128
     requires { unsigned_abs amount ≤ 10 ^ 20 }
-    ensures value { result ≡ trillion *ℤ amount }
+    ensures value { result ≡ amount *ℤ trillion }
     ensures small { unsigned_abs result ≤ 10 ^ 32 }
 {
-    1_000_000_000_000 * amount
+    amount * 1_000_000_000_000
 }
 
 /// What the unit costs to be there.

@@ -1,0 +1,247 @@
+//! Whether sizes of units are flows.
+ghost use Rattle.std.specs.Prelude.{◌≡◌, ◌<◌, ◌≤◌, ◌+◌, ◌-◌, ◌*◌, ◌^◌, ◌↔◌, ◌-ℤ◌, ◌*ℤ◌, ◌≤ℤ◌, ◌||◌, ◌&&◌, ℕ, pos, true, length, IfOk, IfErr, OnOk, IsTrue};
+ghost use Rattle.integer_laws.specs.Total.{total};
+ghost use Rattle.number_sets.specs.Sets.{has};
+ghost use Rattle.problem_rules.specs.Problem.{rate_in, rate_of};
+ghost use Rattle.problem_rules.specs.WellFormed.{IsInRange};
+ghost use Rattle.pns_rules.specs.Shape.{shape_of};
+ghost use Rattle.pns_rules.specs.Structure.{mats};
+ghost use Rattle.pgraph.specs.Tables.{shape};
+ghost use Rattle.flow_rules.specs.Net.{net_of, beside, units_of, materials_of};
+ghost use Rattle.flow_rules.specs.Flows.{balance, IsFlows};
+ghost use Rattle.flow_rules.specs.Steps.{AreInRange, IsFirstPast};
+ghost use Rattle.flow_rules.specs.FeasibleSteps.{units_at, balance_steps, box_steps, range_steps, feasible_steps};
+ghost use Rattle.flow_program.specs.Entry.{entry};
+ghost use Rattle.flow_program.specs.Feasible.{scaled_ends, AreInBoxes, AreInRanges};
+
+use crate::PastSum;
+use crate::ranges::{Range, range_of};
+use crate::tables::by_unit;
+use int_rows::{checked_product, checked_sum};
+use pgraph::Graph;
+use pns_problem::{Problem, Term};
+use unit_sets::{MatSet, UnitSet};
+
+/// The rate of the material among the terms, 0 where it is not there.
+fn rate_among(terms: &[Term], j: u32) -> i64
+    ensures { result ≡ rate_in terms.now j }
+{
+    'looking: for term in terms {
+        if term.material == j {
+            return term.rate;
+        }
+    }
+    0
+}
+
+fn difference(made: i64, used: i64) -> i64
+    requires made { IsInRange made }
+    requires used { IsInRange used }
+    ensures { result ≡ made -ℤ used }
+{
+    made - used
+}
+
+/// The unit's rate of the material, which its terms are looked through for.
+fn rate_at(problem: &Problem, j: u32, u: u32) -> i64
+    requires { u < length problem.now.units }
+    ensures { result ≡ rate_of problem.now j u }
+{
+    problem.is_valid();
+    let unit = &problem.units()[u as usize];
+    let made = rate_among(&unit.outputs, j);
+    let used = rate_among(&unit.inputs, j);
+    difference(made, used)
+}
+
+/// Both ends of a range times `d`; the first of the two steps has the number `at`.
+fn scaled(at: u32, low: i128, high: i128, d: i128) -> Result<Range, PastSum>
+    requires { at + 2 < 2 ^ 32 }
+    ensures low { IfOk result (λ ends. ends.low ≡ low *ℤ d) }
+    ensures high { IfOk result (λ ends. ends.high ≡ high *ℤ d) }
+    ensures in_range { OnOk result (AreInRange (scaled_ends low high d)) }
+    ensures from_start { IfErr result (λ e. at ≤ e.at) }
+    ensures past { IfErr result (λ e. IsFirstPast (scaled_ends low high d) (e.at - at)) }
+{
+    let Some(scaled_low) = checked_product(low, d) else {
+        return Err(PastSum { at });
+    };
+    match checked_product(high, d) {
+        Some(scaled_high) => Ok(Range {
+            low: scaled_low,
+            high: scaled_high,
+        }),
+        None => Err(PastSum { at: at + 1 }),
+    }
+}
+
+/// Whether it held so far, and the number is in the range.
+fn still_within(held: bool, range: Range, number: i128) -> bool
+    ensures { IsTrue result ↔ (IsTrue held × (range.low ≤ℤ number) × (number ≤ℤ range.high)) }
+{
+    held && range.low <= number && number <= range.high
+}
+
+fn both(first: bool, second: bool) -> bool
+    ensures { IsTrue result ↔ (IsTrue first × IsTrue second) }
+{
+    first && second
+}
+
+/// Whether each unit of the set has a size within its bounds.
+fn in_boxes(problem: &Problem, set: UnitSet, d: i128, size_at: &[i128]) -> Result<bool, PastSum>
+    requires known { (u : ℕ) → has set u ≡ true → u < length problem.now.units }
+    requires all_sizes { length size_at.now ≡ 128 }
+    ensures value { IfOk result (λ b. IsTrue b ↔ AreInBoxes (net_of problem.now) (entry size_at.now) d set) }
+    ensures in_range { OnOk result (AreInRange (box_steps (net_of problem.now) d set)) }
+    ensures past { IfErr result (λ e. IsFirstPast (box_steps (net_of problem.now) d set) e.at) }
+{
+    set.rises();
+    let mut hold = true;
+    let mut at = 0;
+    let mut left = set;
+    'units: loop {
+        left.rises();
+        let Some(u) = left.least() else {
+            return Ok(hold);
+        };
+        let unit = &problem.units()[u as usize];
+        match scaled(at, unit.lower as i128, unit.upper as i128, d) {
+            Err(past) => return Err(past),
+            Ok(range) => hold = still_within(hold, range, size_at[u as usize]),
+        }
+        at += 2;
+        left = left.without(u);
+    }
+}
+
+/// What the units make of the material less what they use, and the number of the step that comes next.
+fn balance_of(
+    start: u32,
+    problem: &Problem,
+    j: u32,
+    units: UnitSet,
+    size_at: &[i128],
+) -> Result<(i128, u32), PastSum>
+    requires known { (u : ℕ) → has units u ≡ true → u < length problem.now.units }
+    requires all_sizes { length size_at.now ≡ 128 }
+    requires room { start ≤ 100000 }
+    ensures value { IfOk result (λ p. p.0 ≡ total (λ i. rate_of problem.now j i *ℤ entry size_at.now i) units) }
+    ensures in_range { OnOk result (AreInRange (balance_steps (net_of problem.now) (entry size_at.now) j units (pos 0))) }
+    ensures count { IfOk result (λ p. p.1 ≡ start + 2 * length units) }
+    ensures from_start { IfErr result (λ e. start ≤ e.at) }
+    ensures past { IfErr result (λ e. IsFirstPast (balance_steps (net_of problem.now) (entry size_at.now) j units (pos 0)) (e.at - start)) }
+{
+    units.rises();
+    let mut sum = 0;
+    let mut at = start;
+    let mut left = units;
+    'units: loop {
+        left.rises();
+        let Some(u) = left.least() else {
+            return Ok((sum, at));
+        };
+        let rate = rate_at(problem, j, u);
+        let Some(moved) = checked_product(rate as i128, size_at[u as usize]) else {
+            return Err(PastSum { at });
+        };
+        let Some(next) = checked_sum(sum, moved) else {
+            return Err(PastSum { at: at + 1 });
+        };
+        sum = next;
+        at += 2;
+        left = left.without(u);
+    }
+}
+
+/// The units of the set that make or use the material.
+fn units_with(graph: &Graph, set: UnitSet, j: u32) -> UnitSet
+    requires { j < (shape graph.now).materials }
+    ensures { (u : ℕ) → has result u ≡ (((shape graph.now).makes u j || (shape graph.now).uses u j) && has set u) }
+{
+    graph.producers(j).union(graph.consumers(j)).meet(set)
+}
+
+/// Whether each of the materials leaves over no less and no more than its bounds.
+fn in_ranges(
+    start: u32,
+    problem: &Problem,
+    graph: &Graph,
+    set: UnitSet,
+    materials: MatSet,
+    d: i128,
+    size_at: &[i128],
+) -> Result<bool, PastSum>
+    requires graph { shape graph.now ≡ shape_of problem.now }
+    requires set_known { (u : ℕ) → has set u ≡ true → u < length problem.now.units }
+    requires known { (j : ℕ) → has materials j ≡ true → j < length problem.now.materials }
+    requires all_sizes { length size_at.now ≡ 128 }
+    requires room { start ≤ 256 }
+    ensures value { IfOk result (λ b. IsTrue b ↔ AreInRanges (net_of problem.now) (has set) (entry size_at.now) d materials) }
+    ensures in_range { OnOk result (AreInRange (range_steps (net_of problem.now) (has set) (entry size_at.now) d materials)) }
+    ensures from_start { IfErr result (λ e. start ≤ e.at) }
+    ensures past { IfErr result (λ e. IsFirstPast (range_steps (net_of problem.now) (has set) (entry size_at.now) d materials) (e.at - start)) }
+{
+    problem.is_valid();
+    materials.rises();
+    let mut hold = true;
+    let mut at = start;
+    let mut left = materials;
+    'materials: loop {
+        left.rises();
+        let Some(j) = left.least() else {
+            return Ok(hold);
+        };
+        let material = &problem.materials()[j as usize];
+        let range = range_of(problem, j, material.lower);
+        let ends = match scaled(at, range.low, range.high, d) {
+            Err(past) => return Err(past),
+            Ok(ends) => ends,
+        };
+        let units = units_with(graph, set, j);
+        units.rises();
+        match balance_of(at + 2, problem, j, units, size_at) {
+            Err(past) => return Err(past),
+            Ok((balance, next_at)) => {
+                hold = still_within(hold, ends, balance);
+                at = next_at;
+            }
+        }
+        left = left.without(j);
+    }
+}
+
+/// Whether the sizes, in millionths over `d`, that stand beside the units of the set in rising order are flows for it: each
+/// size is within its unit's bounds, and each material of the set leaves over no less and no more than its bounds; or the
+/// number of the first step that is out of range, all steps being formed before the answer. A unit's terms are looked
+/// through for each of its materials. Takes no memory.
+pub fn feasible(
+    problem: &Problem,
+    graph: &Graph,
+    set: UnitSet,
+    sizes: &[i128],
+    d: i128,
+) -> Result<bool, PastSum>
+    requires graph { shape graph.now ≡ shape_of problem.now }
+    requires known { (u : ℕ) → has set u ≡ true → u < (shape graph.now).units }
+    requires sizes { length sizes.now ≡ length set }
+    requires positive { pos 1 ≤ℤ d }
+    ensures value { IfOk result (λ b. IsTrue b ↔ IsFlows (net_of problem.now) (has set) (beside set sizes.now) d) }
+    ensures in_range { OnOk result (AreInRange (feasible_steps (net_of problem.now) (has set) (beside set sizes.now) d)) }
+    ensures past { IfErr result (λ e. IsFirstPast (feasible_steps (net_of problem.now) (has set) (beside set sizes.now) d) e.at) }
+{
+    set.rises();
+    graph.is_proper();
+    let size_at = by_unit(set, sizes);
+    match in_boxes(problem, set, d, &size_at) {
+        Err(past) => Err(past),
+        Ok(boxes_hold) => {
+            let materials = graph.materials(set);
+            materials.rises();
+            match in_ranges(2 * set.count(), problem, graph, set, materials, d, &size_at) {
+                Err(past) => Err(past),
+                Ok(ranges_hold) => Ok(both(boxes_hold, ranges_hold)),
+            }
+        }
+    }
+}
