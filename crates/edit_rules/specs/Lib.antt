@@ -1,1 +1,9 @@
 pub mod Edit
+pub mod Effect
+pub mod Fault
+pub mod Formed
+pub mod Inverse
+pub mod Migration
+pub mod Numbering
+pub mod Place
+pub mod Script
