@@ -1,0 +1,12 @@
+pub mod FormLemmas
+pub mod Goodness
+pub mod ListLemmas
+pub mod NameLemmas
+pub mod NumberLemmas
+pub mod Rows
+pub mod ScriptLemmas
+pub mod SideLemmas
+pub mod Soundness
+pub mod SoundLemmas
+pub mod UndoLemmas
+pub mod ValidLemmas
