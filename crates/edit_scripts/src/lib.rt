@@ -1,0 +1,13 @@
+//! Edit scripts: the edits of a problem as values, the reader of their text, and the text that is printed.
+#![tactic(auto)]
+
+mod edit;
+mod fault;
+mod script;
+mod term;
+
+pub use edit::Edit;
+pub use fault::EditFault;
+pub use script::Script;
+pub use script_rules::EditKind;
+pub use term::NamedTerm;

@@ -1,0 +1,18 @@
+//! The terms of a new unit.
+use std::marker::Model;
+
+/// A material, by its name, and the rate in millionths at which a unit of size 1 uses or makes it.
+#[derive(Drop)]
+pub struct NamedTerm {
+    pub name: String,
+    pub rate: i64,
+}
+
+impl Model for NamedTerm {
+    ghost use Rattle.std.specs.Prelude.{string_bytes};
+    ghost use Rattle.edit_rules.specs.Edit as rules;
+
+    ghost Value = { rules.NamedTerm };
+
+    ghost view = { λ t. record { name = string_bytes t.name; rate = t.rate } };
+}

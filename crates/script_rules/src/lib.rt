@@ -1,0 +1,43 @@
+//! The text PNS_edits_v1 of edit scripts as definitions: its lines, the faults of form that stand at each, the script that a
+//! text without a fault stands for, and the text that is printed of a script.
+#![tactic(auto)]
+
+/// A fault of an edit script. The variants stand in the order of their numbers, 1 to 16. Those of form, 1 to 8 and 16, are
+/// looked for in the whole script first; those of meaning as the script is applied. Of the faults at one line the one with
+/// the least number of its group is told.
+#[derive(Clone, Copy, Debug, PartialEq, Eq)]
+pub enum EditKind {
+    /// The first line is another text than `file_type=PNS_edits_v1`, or is missing.
+    FileType,
+    /// A line that has none of the sixteen forms, as far as its first word, the number of its tokens, kind words, `:`,
+    /// `=>` and `+` go.
+    BadLine,
+    /// A text in the place of a name that is no name.
+    BadName,
+    /// A text in the place of an amount, of a place or of the years that is none.
+    BadNumber,
+    /// An amount that is not a whole number of millionths.
+    TooFine,
+    /// An amount of more than 10^15 millionths, whatever its sign.
+    TooLarge,
+    /// A bound, a fixed cost, an investment fixed cost or a rate below 0.
+    Sign,
+    /// A rate of 0, a material twice on one side or on both sides of a unit, or an empty side.
+    BadTerms,
+    /// A name that the problem has not. A fault of meaning.
+    UnknownName,
+    /// A new name that a material, unit or exclusion, of the same sort, has. A fault of meaning.
+    DoubleName,
+    /// A place above the number of materials, units or exclusions. A fault of meaning.
+    BadPlace,
+    /// A lower bound above its upper bound. A fault of meaning.
+    LowAboveHigh,
+    /// A material is removed that a unit has, or a unit that an exclusion names. A fault of meaning.
+    InUse,
+    /// No material would be a product. A fault of meaning.
+    NoProduct,
+    /// More than 256 materials, 128 units or 64 exclusions. A fault of meaning.
+    TooMany,
+    /// A unit twice in one exclusion.
+    BadMembers,
+}
