@@ -1,0 +1,3 @@
+mod LineFaults
+mod ReadScripts
+mod Texts

@@ -1,5 +1,9 @@
 //! The text PNS_edits_v1 of edit scripts as definitions: its lines, the faults of form that stand at each, the script that a
 //! text without a fault stands for, and the text that is printed of a script.
+//!
+//! `specs/` states the format: `Line` (lines, tokens, first words), `Fault` (what is wrong with a token, and which fault of a
+//! line is told), `Term` (the sides of a new unit), `Read` (`read_script`: a script, or the first fault with its line) and
+//! `Printed` (`script_text`). `proofs/` reads and prints small scripts by computation.
 #![tactic(auto)]
 
 /// A fault of an edit script. The variants stand in the order of their numbers, 1 to 16. Those of form, 1 to 8 and 16, are
@@ -40,4 +44,25 @@ pub enum EditKind {
     TooMany,
     /// A unit twice in one exclusion.
     BadMembers,
+}
+
+/// The first word of a line of a script.
+#[derive(Clone, Copy, Debug, PartialEq, Eq)]
+pub enum Word {
+    Price,
+    Bounds,
+    Kind,
+    Capacity,
+    Fix,
+    Proportional,
+    RenameMaterial,
+    RenameUnit,
+    AddMaterial,
+    RemoveMaterial,
+    AddUnit,
+    RemoveUnit,
+    Exclude,
+    Unexclude,
+    Investment,
+    Payout,
 }
