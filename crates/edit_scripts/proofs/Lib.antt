@@ -1,1 +1,6 @@
+mod Cutting
+mod Least
+mod Naming
 mod ScriptLines
+mod TermsRead
+mod Whole

@@ -1,10 +1,14 @@
 //! Edit scripts: the edits of a problem as values, the reader of their text, and the text that is printed.
 #![tactic(auto)]
 
+mod cut;
 mod edit;
 mod fault;
+mod names;
 mod script;
+mod sides;
 mod term;
+mod token;
 
 pub use edit::Edit;
 pub use fault::EditFault;

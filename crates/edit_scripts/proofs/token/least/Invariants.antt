@@ -1,0 +1,7 @@
+use Rattle.std.proofs.Common.{◌≡◌, drop}
+use Rattle.script_rules.specs.Fault.{lesser, least}
+use Rattle.edit_scripts.proofs.token.least.Given as goal
+
+-- the least so far and that of the rest
+abbrev pub invariant-looking : goal.invariant-looking
+invariant-looking l = lesser l.found (least (drop l.kind-index l.kinds)) ≡ least l.kinds

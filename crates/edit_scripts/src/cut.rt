@@ -1,0 +1,38 @@
+//! The lines of a script, and their tokens.
+ghost use Rattle.std.specs.Prelude.{◌≡◌, ◌<◌, ◌∷◌, IfOk, length};
+ghost use Rattle.text_rules.specs.Line.{without_return};
+ghost use Rattle.text_lines.specs.View.{texts};
+ghost use Rattle.script_rules.specs.Line.{script_lines, tokens_of};
+
+use std::alloc::{AllocError, Global};
+use text_lines::line::place_of;
+
+fn without_return(text: &[u8]) -> &[u8]
+    ensures { result.now ≡ without_return text.now }
+{
+    match text {
+        [rest @ .., b'\r'] => rest,
+        _ => text,
+    }
+}
+
+/// The first line of what is left of a text, and what is left behind it.
+pub(crate) fn cut_line(rest: &[u8]) -> (&[u8], &[u8])
+    requires { 0 < length rest.now }
+    ensures cut { script_lines rest.now ≡ result.0.now ∷ script_lines result.1.now }
+    ensures shorter { length result.1.now < length rest.now }
+{
+    let at = place_of(b'\n', rest);
+    if at < rest.len() {
+        (without_return(&rest[..at]), &rest[at + 1..])
+    } else {
+        (without_return(rest), &[])
+    }
+}
+
+/// The tokens of a line, parted by one space.
+pub(crate) fn tokens_of<'a>(alloc: Global, text: &'a [u8]) -> Result<Vec<&'a [u8]>, AllocError>
+    ensures { IfOk result (λ tokens. texts tokens.items ≡ tokens_of text.now) }
+{
+    text.split(|c| *c == b' ').collect(alloc)
+}

@@ -1,0 +1,62 @@
+//! Names, each once, found by a look-up.
+ghost use Rattle.std.specs.Prelude.{◌≡◌, IfOk, not, OnOk, []};
+ghost use Rattle.problem_rules.specs.Names.{is_among};
+ghost use Rattle.text_lines.specs.View.{texts};
+ghost use Rattle.edit_scripts.specs.Once.{with_name, once};
+
+use indexmap::IndexSet;
+use std::alloc::{AllocError, Global};
+use std::marker::Model;
+
+/// Names that are borrowed from a text, each once, in the order in which they came. Contracts see the list of them.
+#[derive(Drop)]
+pub struct NameSet<'a> {
+    names: IndexSet<&'a [u8]>,
+}
+
+impl<'a> Model for NameSet<'a> {
+    ghost use Rattle.std.specs.Prelude.{ℕ, List};
+    ghost use Rattle.text_lines.specs.View.{texts};
+
+    ghost Value = { List (List ℕ) };
+
+    ghost view = { λ set. texts set.names.keys };
+}
+
+impl<'a> NameSet<'a> {
+    fn new(alloc: Global) -> NameSet<'a>
+        ensures { result ≡ [] }
+    {
+        NameSet {
+            names: IndexSet::new(alloc),
+        }
+    }
+
+    pub(crate) fn has(&self, name: &[u8]) -> bool
+        ensures { result ≡ is_among self.now name.now }
+    {
+        self.names.contains(&name)
+    }
+
+    // Whether the name is new.
+    fn add(&mut self, name: &'a [u8]) -> Result<bool, AllocError>
+        ensures new { IfOk result (λ is_new. is_new ≡ not (is_among self.old name.now)) }
+        ensures added { OnOk result (self.new ≡ with_name self.old name.now) }
+    {
+        let (_, is_new) = self.names.insert_full(name)?;
+        Ok(is_new)
+    }
+}
+
+/// The names as a set, or none where one comes twice.
+pub(crate) fn once<'a>(alloc: Global, names: &[&'a [u8]]) -> Result<Option<NameSet<'a>>, AllocError>
+    ensures { IfOk result (λ found. found ≡ once (texts names.now)) }
+{
+    let mut set = NameSet::new(alloc);
+    'adding: for name in names {
+        if !set.add(*name)? {
+            return Ok(None);
+        }
+    }
+    Ok(Some(set))
+}
