@@ -4,3 +4,4 @@ mod Naming
 mod ScriptLines
 mod TermsRead
 mod Whole
+mod TokenCounts

@@ -4,6 +4,10 @@
 mod cut;
 mod edit;
 mod fault;
+mod fields;
+mod insertion;
+mod line;
+mod line_fault;
 mod names;
 mod script;
 mod sides;

@@ -1,0 +1,21 @@
+use Rattle.std.proofs.Common.{◌≡◌, ℕ, ℤ, List, Result, Ok, IfOk, IfErr, string_bytes, subst, sym, ap}
+use Rattle.problem_rules.specs.Problem as rules
+use Rattle.pns_problem.specs.Kind as kinds
+use Rattle.script_rules.specs.declared.EditKind.{EditKind}
+use Rattle.script_rules.specs.Read.{amount_read}
+use Rattle.edit_scripts.specs.Tells.{TellsLine}
+use Rattle.edit_scripts.proofs.TokenCounts.{two_of, not_amount}
+use Rattle.edit_scripts.proofs.fields.amount.Goals as goal
+
+pub returns-then-fields-ne2-clause-fault : goal.returns-then-fields-ne2-clause-fault
+returns-then-fields-ne2-clause-fault c = not_amount c.args.fields.now c.if-fields-ne2.true
+
+pub returns-clause-ok : goal.returns-clause-ok
+returns-clause-ok c =
+    subst (λ (reading : Result (List ℕ × ℤ) EditKind). IfOk c.amount_from.result (λ read. reading ≡ Ok (string_bytes read.0, read.1)))
+    (sym (ap amount_read (two_of c.args.fields.now _ c.if-fields-ne2.false))) c.amount_from.ensures.ok
+
+pub returns-clause-fault : goal.returns-clause-fault
+returns-clause-fault c =
+    subst (λ (reading : Result (List ℕ × ℤ) EditKind). IfErr c.amount_from.result (TellsLine reading))
+    (sym (ap amount_read (two_of c.args.fields.now _ c.if-fields-ne2.false))) c.amount_from.ensures.fault
