@@ -5,3 +5,6 @@ mod ScriptLines
 mod TermsRead
 mod Whole
 mod TokenCounts
+mod Reading
+mod Clear
+mod ReadIsFormed

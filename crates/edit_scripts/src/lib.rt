@@ -9,6 +9,7 @@ mod insertion;
 mod line;
 mod line_fault;
 mod names;
+mod read;
 mod script;
 mod sides;
 mod term;
@@ -16,6 +17,7 @@ mod token;
 
 pub use edit::Edit;
 pub use fault::EditFault;
+pub use read::read_script;
 pub use script::Script;
 pub use script_rules::EditKind;
 pub use term::NamedTerm;

@@ -51,6 +51,14 @@ impl Script {
         Ok(Script { edits, lines })
     }
 
+    /// The script of edits that stand at these lines.
+    pub(crate) fn from_lines(edits: Vec<Edit>, lines: Vec<u32>) -> Script
+        requires { IsFormedScript (record { edits = map edit_of edits.items; lines = lines.items }) }
+        ensures { result ≡ record { edits = map edit_of edits.items; lines = lines.items } }
+    {
+        Script { edits, lines }
+    }
+
     /// The edits in order.
     pub fn edits(&self) -> &[Edit]
         ensures { map edit_of result.now ≡ self.now.edits }

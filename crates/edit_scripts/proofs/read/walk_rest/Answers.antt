@@ -1,0 +1,20 @@
+use Rattle.std.proofs.Common.{length, Result, map, sym, subst, ap, ◌∙◌}
+use Rattle.std.proofs.lemmas.Bool.{eqb-true}
+use Rattle.edit_rules.specs.Edit.{Script}
+use Rattle.script_rules.specs.Fault.{Fault}
+use Rattle.script_rules.specs.Line.{script_lines}
+use Rattle.edit_scripts.specs.Tells.{Tells}
+use Rattle.edit_scripts.specs.View.{edit_of}
+use Rattle.edit_scripts.specs.Walk.{read_on}
+use Rattle.edit_scripts.proofs.Reading.{read_to_end}
+use Rattle.edit_scripts.proofs.read.walk_rest.Goals as goal
+
+pub returns-in-Err-clause-fault : goal.returns-in-Err-clause-fault
+returns-in-Err-clause-fault c =
+    subst (λ (reading : Result Script Fault). Tells reading c.in-Err.fault)
+    (ap (read_on c.loop-rest.walk) (sym c.cut_line.ensures.cut) ∙ c.loop-rest.invariant.to_come) (c.in-Err.ensures.fault (script_lines c.cut_line.result.1.now))
+
+pub returns-clause-ok : goal.returns-clause-ok
+returns-clause-ok c =
+    sym c.loop-rest.invariant.to_come
+    ∙ read_to_end (map edit_of c.loop-rest.walk.edits.items) c.loop-rest.walk.lines.items c.loop-rest.walk.number c.loop-rest.rest.now (eqb-true (length c.loop-rest.rest.now) 0 (sym c.loop-rest-test.ensures))
