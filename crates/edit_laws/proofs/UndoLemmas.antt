@@ -188,7 +188,7 @@ insert-removed (y ∷ ys) (suc k) x h = ap (λ zs. y ∷ zs) (insert-removed ys 
 abbrev uninvested : OperatingUnit → OperatingUnit
 uninvested u = record u { investment_fix = pos 0; investment_proportional = pos 0 }
 
-no_amount : (z : ℤ) → (unsigned_abs z == 0) ≡ true → z ≡ pos 0
+pub no_amount : (z : ℤ) → (unsigned_abs z == 0) ≡ true → z ≡ pos 0
 no_amount (pos n) e = ap pos (eqb-true n 0 e)
 no_amount (negsuc n) e = let h = eqb-true (suc n) 0 e in absurd (omega arith)
 

@@ -1,9 +1,9 @@
 -- From yearly costs to investment costs: over a payout period of so many years, an investment of years times the old yearly
 -- cost weighs as the yearly cost did.
-use Rattle.std.specs.Prelude.{◌≡◌, ◌*ℤ◌, ℕ, ◌<◌, ◌==◌, Bool, true, false, cond, not, ◌&&◌, ◌||◌, List, [], ◌∷◌, length, flat_map, ℤ, pos, unsigned_abs}
-use Rattle.std.specs.List.{list_any}
+use Rattle.std.specs.Prelude.{◌≡◌, ◌*ℤ◌, ℕ, ◌<◌, ◌==◌, Bool, true, false, cond, not, ◌&&◌, ◌||◌, List, [], ◌∷◌, length, flat_map, Option, ℤ, pos, unsigned_abs}
+use Rattle.std.specs.List.{list_any, position_from}
 use Rattle.std.specs.Ordering.{int_eq}
-use Rattle.problem_rules.specs.Problem.{Problem, OperatingUnit, unit_at}
+use Rattle.problem_rules.specs.Problem.{Problem, OperatingUnit}
 use Rattle.problem_rules.specs.Validity.{is_out_of_range}
 use Rattle.edit_rules.specs.Edit.{Edit, fix, proportional, investment, payout}
 use Rattle.edit_rules.specs.Inverse.{costs_no_investment}
@@ -19,11 +19,9 @@ costs_nothing_yearly u = (unsigned_abs u.fix == 0) && (unsigned_abs u.proportion
 abbrev pub migrates_out_of_range : ℤ → OperatingUnit → Bool
 migrates_out_of_range years u = is_out_of_range (years *ℤ u.fix) || is_out_of_range (years *ℤ u.proportional)
 
--- unit k is the first with such a cost
-pub record IsFirstOutOfRange (p : Problem) (years : ℤ) (k : ℕ) : Type 0 where
-  pub unit : k < length p.units
-  pub out_of_range : migrates_out_of_range years (unit_at p k) ≡ true
-  pub least : (j : ℕ) → j < k → migrates_out_of_range years (unit_at p j) ≡ false
+-- the number of the first unit with such a cost
+abbrev pub out_of_range_at : ℤ → Problem → Option ℕ
+out_of_range_at years p = position_from (migrates_out_of_range years) 0 p.units
 
 -- no line for a unit without yearly costs
 abbrev pub unit_migration : ℤ → OperatingUnit → List Edit

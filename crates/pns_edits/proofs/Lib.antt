@@ -1,0 +1,4 @@
+pub mod MappedLemmas
+pub mod NumberedLemmas
+pub mod ScriptSteps
+pub mod Sought

@@ -1,0 +1,32 @@
+-- Lists that are changed item by item from the front, and lists of numbers that pass a test.
+use Rattle.std.proofs.Common.{◌≡◌, ◌<◌, ◌+◌, ℕ, zero, suc, Bool, cond, List, [], ◌∷◌, ◌++◌, length, map, reverse, take, drop, get_or, set, refl, sym, ap, ◌∙◌, arith}
+use Rattle.std.proofs.lemmas.List.{map-append, reverse-append}
+use Rattle.number_sets.specs.Sets.{listed}
+
+changed_at : {X : Type 0} (f : X → X) (old : List X) (i : ℕ) (d : X) → i < length old → set (map f (take i old) ++ drop i old) i (f (get_or (map f (take i old) ++ drop i old) i d)) ≡ map f (take (suc i) old) ++ drop (suc i) old
+changed_at f [] i d less = absurd (omega arith)
+changed_at f (x ∷ xs) zero d less = refl
+changed_at f (x ∷ xs) (suc i) d less = ap (λ zs. f x ∷ zs) (changed_at f xs i d (omega arith))
+
+pub changed_next : {X : Type 0} (f : X → X) (old now : List X) (i : ℕ) (d y : X) → i < length old → now ≡ map f (take i old) ++ drop i old → y ≡ f (get_or now i d) → set now i y ≡ map f (take (i + 1) old) ++ drop (i + 1) old
+changed_next f old now i d y less so_far e =
+    let next : suc i ≡ i + 1 = omega arith in
+    ap (λ v. set now i v) e
+    ∙ (ap (λ z. set z i (f (get_or z i d))) so_far
+    ∙ (changed_at f old i d less ∙ ap (λ j. map f (take j old) ++ drop j old) next))
+
+pub listed_none : (t : ℕ → Bool) → [] ≡ listed 0 t
+unfolding listed
+listed_none t = refl
+
+pub listed_next : (n : ℕ) (t : ℕ → Bool) (b : Bool) → t n ≡ b → listed n t ++ cond b (n ∷ []) [] ≡ listed (n + 1) t
+unfolding listed
+listed_next n t b e =
+    let next : suc n ≡ n + 1 = omega arith in
+    ap (λ c. listed n t ++ cond c (n ∷ []) []) (sym e) ∙ ap (λ j. listed j t) next
+
+pub map-reverse : {X Y : Type 0} (f : X → Y) (xs : List X) → map f (reverse xs) ≡ reverse (map f xs)
+map-reverse f [] = refl
+map-reverse f (x ∷ xs) =
+    ap (map f) (reverse-append (x ∷ []) xs)
+    ∙ (map-append f (reverse xs) (x ∷ []) ∙ (ap (λ z. z ++ f x ∷ []) (map-reverse f xs) ∙ sym (reverse-append (f x ∷ []) (map f xs))))

@@ -1,0 +1,8 @@
+-- A name is looked for from the front: what is left of the names, and how many were passed.
+use Rattle.std.proofs.Common.{◌≡◌, ◌+◌, ℕ, List}
+use Rattle.problem_rules.specs.Names.{is_among}
+use Rattle.edit_rules.specs.Place.{place_of}
+
+pub record IsSought (passed : ℕ) (name : List ℕ) (names rest : List (List ℕ)) : Type 0 where
+  pub known : is_among rest name ≡ is_among names name
+  pub place : passed + place_of rest name ≡ place_of names name

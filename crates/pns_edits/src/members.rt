@@ -1,0 +1,80 @@
+//! The units of an exclusion by name and by number.
+ghost use Rattle.std.specs.Prelude.{◌≡◌, ◌<◌, ◌≤◌, true, false, Some, None, OnOk, IfOk, IfErr, length, cond, map, string_bytes, ◌++◌, [], ◌∷◌};
+ghost use Rattle.number_sets.specs.Sets.{has, listed};
+ghost use Rattle.edit_rules.specs.Place.{unit_place, lacks_unit, members, member_names};
+ghost use Rattle.edit_rules.specs.Fault.{unknown_name};
+ghost use Rattle.pns_edits.specs.Fault.{Tells};
+ghost use Rattle.pns_edits.specs.Terms.{AreNumbersBelow};
+
+use crate::numbering::has_number;
+use crate::place::unit_place;
+use crate::refusal::Refusal;
+use edit_scripts::EditKind;
+use pns_problem::Parts;
+use std::alloc::{AllocError, Global};
+
+fn unit_places(alloc: Global, parts: &Parts, names: &[String]) -> Result<Vec<u32>, Refusal>
+    requires { length parts.now.units ≤ 128 }
+    ensures ok { IfOk result (λ v. v.items ≡ map (unit_place parts.now) (map string_bytes names.now)) }
+    ensures known { OnOk result (lacks_unit parts.now (map string_bytes names.now) ≡ false) }
+    ensures unknown { IfErr result (Tells (cond (lacks_unit parts.now (map string_bytes names.now)) (Some unknown_name) None)) }
+{
+    let mut places = Vec::new(alloc);
+    'placing: for name in names {
+        let Some(k) = unit_place(parts, name.as_str()) else {
+            return Err(Refusal::Fault(EditKind::UnknownName));
+        };
+        places.push(k as u32)?;
+    }
+    Ok(places)
+}
+
+fn push_if(test: bool, numbers: &mut Vec<u32>, number: u32) -> Result<(), AllocError>
+    ensures { OnOk result (numbers.new.items ≡ numbers.old.items ++ cond test (number ∷ []) []) }
+{
+    if test {
+        numbers.push(number)?;
+    }
+    Ok(())
+}
+
+/// The numbers below a limit that stand in a list, rising.
+fn rising(alloc: Global, limit: u32, numbers: &[u32]) -> Result<Vec<u32>, AllocError>
+    ensures { IfOk result (λ v. v.items ≡ listed limit (has numbers.now)) }
+{
+    let mut rising = Vec::new(alloc);
+    'listing: for number in 0..limit {
+        let stands = has_number(numbers, number);
+        push_if(stands, &mut rising, number)?;
+    }
+    Ok(rising)
+}
+
+/// The numbers of the units of these names, rising, where the parts have them all.
+pub(crate) fn members(alloc: Global, parts: &Parts, names: &[String]) -> Result<Vec<u32>, Refusal>
+    requires { length parts.now.units ≤ 128 }
+    ensures ok { IfOk result (λ v. v.items ≡ members parts.now (map string_bytes names.now)) }
+    ensures known { OnOk result (lacks_unit parts.now (map string_bytes names.now) ≡ false) }
+    ensures unknown { IfErr result (Tells (cond (lacks_unit parts.now (map string_bytes names.now)) (Some unknown_name) None)) }
+{
+    let places = unit_places(alloc, parts, names)?;
+    let members = rising(alloc, parts.units.len() as u32, &places)?;
+    Ok(members)
+}
+
+/// The names of the units.
+pub(crate) fn member_names(
+    alloc: Global,
+    parts: &Parts,
+    units: &[u32],
+) -> Result<Vec<String>, AllocError>
+    requires { AreNumbersBelow (length parts.now.units) units.now }
+    ensures { IfOk result (λ v. map string_bytes v.items ≡ member_names parts.now units.now) }
+{
+    let mut names = Vec::new(alloc);
+    'naming: for unit in units {
+        let name = parts.units[*unit as usize].name.clone()?;
+        names.push(name)?;
+    }
+    Ok(names)
+}

@@ -1,0 +1,70 @@
+//! Terms with their materials by name and by number.
+ghost use Rattle.std.specs.Prelude.{◌≡◌, ◌<◌, ◌≤◌, true, false, Some, None, OnOk, IfOk, IfErr, length, cond, ◌||◌};
+ghost use Rattle.edit_rules.specs.Place.{numbered_terms, named_terms, lacks_material};
+ghost use Rattle.edit_rules.specs.Fault.{unknown_name};
+ghost use Rattle.pns_edits.specs.Fault.{Tells};
+ghost use Rattle.pns_edits.specs.Terms.{AreTermsBelow};
+
+use crate::place::material_place;
+use crate::refusal::Refusal;
+use edit_scripts::{EditKind, NamedTerm};
+use pns_problem::{Parts, Term};
+use std::alloc::{AllocError, Global};
+
+/// The terms with their materials by number, where the parts have them all.
+fn numbered_terms(alloc: Global, parts: &Parts, terms: &[NamedTerm]) -> Result<Vec<Term>, Refusal>
+    requires { length parts.now.materials ≤ 256 }
+    ensures ok { IfOk result (λ v. v.items ≡ numbered_terms parts.now terms.now) }
+    ensures known { OnOk result (lacks_material parts.now terms.now ≡ false) }
+    ensures unknown { IfErr result (Tells (cond (lacks_material parts.now terms.now) (Some unknown_name) None)) }
+{
+    let mut numbered = Vec::new(alloc);
+    'numbering: for term in terms {
+        let Some(k) = material_place(parts, term.name.as_str()) else {
+            return Err(Refusal::Fault(EditKind::UnknownName));
+        };
+        numbered.push(Term {
+            material: k as u32,
+            rate: term.rate,
+        })?;
+    }
+    Ok(numbered)
+}
+
+/// The terms of both sides with their materials by number, where the parts have them all.
+pub(crate) fn numbered_sides(
+    alloc: Global,
+    parts: &Parts,
+    inputs: &[NamedTerm],
+    outputs: &[NamedTerm],
+) -> Result<(Vec<Term>, Vec<Term>), Refusal>
+    requires { length parts.now.materials ≤ 256 }
+    ensures inputs { IfOk result (λ sides. sides.0.items ≡ numbered_terms parts.now inputs.now) }
+    ensures outputs { IfOk result (λ sides. sides.1.items ≡ numbered_terms parts.now outputs.now) }
+    ensures known { OnOk result ((lacks_material parts.now inputs.now || lacks_material parts.now outputs.now) ≡ false) }
+    ensures unknown { IfErr result (Tells (cond (lacks_material parts.now inputs.now || lacks_material parts.now outputs.now) (Some unknown_name) None)) }
+{
+    let inputs = numbered_terms(alloc, parts, inputs)?;
+    let outputs = numbered_terms(alloc, parts, outputs)?;
+    Ok((inputs, outputs))
+}
+
+/// The terms with their materials by name.
+pub(crate) fn named_terms(
+    alloc: Global,
+    parts: &Parts,
+    terms: &[Term],
+) -> Result<Vec<NamedTerm>, AllocError>
+    requires { AreTermsBelow (length parts.now.materials) terms.now }
+    ensures { IfOk result (λ v. v.items ≡ named_terms parts.now terms.now) }
+{
+    let mut named = Vec::new(alloc);
+    'naming: for term in terms {
+        let name = parts.materials[term.material as usize].name.clone()?;
+        named.push(NamedTerm {
+            name,
+            rate: term.rate,
+        })?;
+    }
+    Ok(named)
+}
