@@ -1,5 +1,5 @@
 -- The token of a set of units: its number, in which unit u counts 2 ^ u, as 32 hexadecimal digits of 0123456789abcdef.
-use Rattle.std.specs.Prelude.{◌≡◌, ℕ, zero, suc, ◌+◌, ◌/◌, ◌%◌, ◌<◌, nat_lt, cond, List, [], ◌∷◌, ◌++◌}
+use Rattle.std.specs.Prelude.{◌≡◌, ℕ, zero, suc, ◌+◌, ◌/◌, ◌%◌, ◌<◌, nat_lt, cond, List, [], ◌∷◌, ◌++◌, length}
 use Rattle.number_sets.specs.Sets.{mask_of}
 
 -- the byte of a digit below 16
@@ -19,3 +19,12 @@ pub record IsDigit (b : ℕ) : Type 0 where
   pub digit_is : ℕ
   pub below : digit_is < 16
   pub same : b ≡ digit digit_is
+
+abbrev pub AreDigits : List ℕ → Type 0
+AreDigits [] = Unit {0}
+AreDigits (b ∷ bs) = IsDigit b × AreDigits bs
+
+-- the form of a token: 32 digits
+pub record IsToken (text : List ℕ) : Type 0 where
+  pub long : length text ≡ 32
+  pub digits : AreDigits text

@@ -1,6 +1,6 @@
 //! Tokens of sets of units.
-ghost use Rattle.std.specs.Prelude.{◌≡◌, ◌<◌, ◌≤◌, ℕ, List, [], ◌∷◌, IfOk, IfErr, IfSome, IfNone, string_bytes};
-ghost use Rattle.structure_list.specs.Tokens.{digit, token_of, IsDigit};
+ghost use Rattle.std.specs.Prelude.{◌≡◌, ◌<◌, ◌≤◌, ℕ, List, [], ◌∷◌, ◌↔◌, IfOk, IfErr, IfSome, IfNone, IsOk, string_bytes};
+ghost use Rattle.structure_list.specs.Tokens.{digit, token_of, IsDigit, IsToken};
 
 use std::alloc::{AllocError, Global};
 use unit_sets::UnitSet;
@@ -21,10 +21,12 @@ pub fn print_token(alloc: Global, set: UnitSet) -> Result<String, AllocError>
     Ok(text)
 }
 
-/// Reads what `print_token` prints, and nothing else. It takes no memory.
+/// Reads what `print_token` prints, and nothing else: it answers `BadForm` exactly where the text has not the form of a
+/// token. It takes no memory.
 pub fn read_token(text: &str) -> Result<UnitSet, BadForm>
-    ensures ok { IfOk result (λ set. text.now ≡ token_of set) }
-    ensures err { IfErr result (λ _. (s : List ℕ) → text.now ≡ token_of s → ⊥) }
+    ensures token { IfOk result (λ set. text.now ≡ token_of set) }
+    ensures form { IsOk result ↔ IsToken text.now }
+    ensures other { IfErr result (λ _. (s : List ℕ) → text.now ≡ token_of s → ⊥) }
 {
     let bytes = text.as_bytes();
     if bytes.len() != 32 {
