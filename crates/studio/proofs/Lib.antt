@@ -3,3 +3,7 @@ pub mod NameLists
 pub mod Maximal
 pub mod Named
 pub mod Statuses
+pub mod Numerals
+pub mod Listings
+pub mod ListingStart
+pub mod ListingParts

@@ -4,14 +4,15 @@ use Rattle.problem_rules.specs.Problem.{Problem}
 use Rattle.pgraph.specs.declared.verdict.Verdict.{Verdict}
 use Rattle.pgraph.specs.declared.verdict.Verdict.TheVariants.{Meets, Breaks}
 use Rattle.pns_io.specs.Outside.{HasRisen}
-use Rattle.studio.specs.Command.{Command, Max, Axioms, command_of, IsFileOf, IsFileWord}
+use Rattle.studio.specs.Command.{Command, Max, Axioms, Listing, command_of, IsFileOf, IsFileWord}
 use Rattle.studio.specs.Reading.{AreHeld, FileFault, file_limit}
 use Rattle.studio.specs.Max.{MaxWork}
+use Rattle.studio.specs.Listing.{ListingWork}
 use Rattle.studio.specs.Axioms.{NamesSay, VerdictSays, first_stranger}
 use Rattle.studio.specs.Ending.{Shelves, Ends, IsOneOf}
 use Rattle.studio.specs.Answers.{AnswersTo, CommandAnswers, WordsSay, IsUndisturbed, statuses_of}
 use Rattle.studio.specs.declared.status.Status.{Status}
-use Rattle.studio.specs.declared.status.Status.TheVariants.{Done, Refused, Usage, BadProblem, ReadFault, WriteFault, Memory, TooLong}
+use Rattle.studio.specs.declared.status.Status.TheVariants.{Done, Refused, Usage, BadProblem, ReadFault, WriteFault, Memory, TooLong, BadToken}
 
 -- a file that gives no problem, where it is held within the limit or not
 fault_status : (name file : List ℕ) (s : Status) (lines : List (List ℕ)) → FileFault name file s lines → (s ≡ BadProblem) ⊎ ((s ≡ TooLong) × (file_limit < length file))
@@ -30,6 +31,11 @@ verdict_status p (Breaks broken at) s lines h = inr h.0
 names_status : (names : List (List ℕ)) (p : Problem) (o : Option (List ℕ)) (s : Status) (lines : List (List ℕ)) → NamesSay names p o s lines → (s ≡ Done) ⊎ (s ≡ Refused)
 names_status names p (Some stranger) s lines h = inr h.0
 names_status names p None s lines h = verdict_status p h.0 s lines h.2
+
+listing_status : (word : List ℕ) (count : ℕ) (p : Problem) (s : Status) (lines : List (List ℕ)) → ListingWork word count p s lines → (s ≡ Done) ⊎ (s ≡ BadToken)
+listing_status word count p Done lines h = inl refl
+listing_status word count p BadToken lines h = inr refl
+listing_status word count p s lines h = absurd h
 
 -- the statuses of a command, where its file is within the limit
 within_limit : (held : Option (List ℕ)) (file : List ℕ) → IsSomeAnd held (λ told. length told ≤ file_limit) → AreHeld held file → file_limit < length file → ⊥
@@ -50,6 +56,14 @@ command_status held (Axioms name units) s lines (file, is, inr work) short = eli
   | inl q ↦ inl q
   | inr q ↦ inr (inl q)
 ]
+command_status held (Listing name after count) s lines (file, is, inl fault) short = elim (fault_status name file s lines fault) [
+  | inl q ↦ inr (inr (inl q))
+  | inr q ↦ absurd (within_limit (held name) file (short name refl) is q.1)
+]
+command_status held (Listing name after count) s lines (file, is, inr work) short = elim (listing_status after count work.0 s lines work.2) [
+  | inl q ↦ inl q
+  | inr q ↦ inr (inl q)
+]
 
 -- some status of a command, whatever its file holds
 answer_status : (held : List ℕ → Option (List ℕ)) (command : Command) (lines : List (List ℕ)) → CommandAnswers held command Usage lines → ⊥
@@ -57,6 +71,8 @@ answer_status held (Max name) lines (file, is, inl fault) = absurd fault
 answer_status held (Max name) lines (file, is, inr work) = absurd work.2
 answer_status held (Axioms name units) lines (file, is, inl fault) = absurd fault
 answer_status held (Axioms name units) lines (file, is, inr work) = elim (names_status units work.0 (first_stranger work.0 units) Usage lines work.2) [ inl q ↦ cc | inr q ↦ cc ]
+answer_status held (Listing name after count) lines (file, is, inl fault) = absurd fault
+answer_status held (Listing name after count) lines (file, is, inr work) = absurd work.2
 
 usage_answers : (held : List ℕ → Option (List ℕ)) (found : Option Command) (lines : List (List ℕ)) → AnswersTo held found Usage lines → found ≡ None
 usage_answers held None lines h = refl
@@ -65,6 +81,7 @@ usage_answers held (Some command) lines h = absurd (answer_status held command l
 memory_status : (command : Command) → IsOneOf (statuses_of command) Memory
 memory_status (Max file) = inr (inr (inl refl))
 memory_status (Axioms file units) = inr (inr (inr (inl refl)))
+memory_status (Listing file after count) = inr (inr (inr (inl refl)))
 
 module _ (shelves : Shelves) (words : List (List ℕ)) (risen : Type 0) (old new : Option (List ℕ)) where
   pub usage_ends : (s : Status) → Ends (WordsSay shelves words) risen old new s → s ≡ Usage → command_of words ≡ None

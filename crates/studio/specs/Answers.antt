@@ -1,18 +1,20 @@
 -- What each command says, from its words and what the shelf holds.
 use Rattle.std.specs.Prelude.{◌≡◌, ◌≤◌, ℕ, List, [], ◌∷◌, Option, Some, None, IsSomeAnd, length, codes}
 use Rattle.pns_io.specs.Outside.{HasRisen}
-use Rattle.studio.specs.Command.{Command, Max, Axioms, command_of, IsFileOf, IsFileWord}
+use Rattle.studio.specs.Command.{Command, Max, Axioms, Listing, command_of, IsFileOf, IsFileWord}
 use Rattle.studio.specs.Reading.{OnFile, file_limit}
 use Rattle.studio.specs.Max.{MaxWork}
 use Rattle.studio.specs.Axioms.{AxiomsWork}
+use Rattle.studio.specs.Listing.{ListingWork}
 use Rattle.studio.specs.Ending.{Shelves, Says}
 use Rattle.studio.specs.declared.status.Status.{Status}
-use Rattle.studio.specs.declared.status.Status.TheVariants.{Done, Refused, Usage, BadProblem, Memory}
+use Rattle.studio.specs.declared.status.Status.TheVariants.{Done, Refused, Usage, BadProblem, Memory, BadToken}
 
 -- the statuses and lines of a command, while neither shelf, sink nor memory fails
 abbrev pub CommandAnswers : (List ℕ → Option (List ℕ)) → Command → Status → List (List ℕ) → Type 0
 CommandAnswers held (Max file) status lines = OnFile MaxWork held file status lines
 CommandAnswers held (Axioms file units) status lines = OnFile (AxiomsWork units) held file status lines
+CommandAnswers held (Listing file after count) status lines = OnFile (ListingWork after count) held file status lines
 
 -- words without a form are told so
 abbrev pub AnswersTo : (List ℕ → Option (List ℕ)) → Option Command → Status → List (List ℕ) → Type 0
@@ -39,3 +41,4 @@ pub record IsUndisturbed (shelves : Shelves) (command : Command) (risen : Type 0
 abbrev pub statuses_of : Command → List Status
 statuses_of (Max file) = Done ∷ BadProblem ∷ Memory ∷ []
 statuses_of (Axioms file units) = Done ∷ Refused ∷ BadProblem ∷ Memory ∷ []
+statuses_of (Listing file after count) = Done ∷ BadToken ∷ BadProblem ∷ Memory ∷ []

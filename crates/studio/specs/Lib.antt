@@ -4,6 +4,9 @@ pub mod Reading
 pub mod Ending
 pub mod Max
 pub mod Axioms
+pub mod Listing
+pub mod ListingLaws
+pub mod Numeral
 pub mod Answers
 pub mod Code
 pub mod View

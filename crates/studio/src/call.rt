@@ -9,6 +9,7 @@ ghost use Rattle.studio.specs.View.{command_view};
 
 use crate::axioms::axioms;
 use crate::command::{Command, command_of};
+use crate::list::list;
 use crate::max::max;
 use crate::say::{say, say_memory};
 use crate::status::Status;
@@ -27,6 +28,7 @@ fn perform<F: Shelf, K: Sink>(
     match command {
         Command::Max(file) => max(alloc, file, shelf, out),
         Command::Axioms(file, units) => axioms(alloc, file, &units, shelf, out),
+        Command::Listing(file, after, count) => list(alloc, file, after, count, shelf, out),
     }
 }
 

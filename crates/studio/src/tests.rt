@@ -4,7 +4,7 @@ use pns_io::{MemShelf, MemSink};
 use std::alloc::{AllocError, Global};
 use std::test::Fail;
 
-const EXAMPLE: &str =
+pub(crate) const EXAMPLE: &str =
     "file_type=PNS_problem_v1\nfile_name=example_a\n\nmeasurement_units:\nmass_unit=t\ntime_unit=y\nmoney_unit=EUR\n\ndefaults:\nmaterial_type=intermediate\nmaterial_flow_rate_lower_bound=0\nmaterial_flow_rate_upper_bound=1000000000\nmaterial_price=0\noperating_unit_capacity_lower_bound=0\noperating_unit_capacity_upper_bound=1000000000\noperating_unit_fix_cost=0\noperating_unit_proportional_cost=0\n\nmaterials:\nA: raw_material, price=2\nB: raw_material, price=3\nC: intermediate\nE: intermediate\nF: intermediate\nP: product, flow_rate_lower_bound=20, flow_rate_upper_bound=20\n\noperating_units:\nU1: capacity_upper_bound=100, fix_cost=10, proportional_cost=1\nU2: capacity_upper_bound=100, fix_cost=1, proportional_cost=1\nU3: capacity_upper_bound=150, fix_cost=5\nU4\nU5\n\nmaterial_to_operating_unit_flow_rates:\nU1: A => C\nU2: B => C\nU3: C => P\nU4: E => P\nU5: B => F\n";
 
 const CYCLE: &str =
@@ -13,12 +13,12 @@ const CYCLE: &str =
 const MADE_RAW: &str =
     "file_type=PNS_problem_v1\nmaterials:\nA: raw_material\nB: raw_material\nP: product\nmaterial_to_operating_unit_flow_rates:\nU1: A => P\nU2: A => P + B\n";
 
-const STARVED: &str =
+pub(crate) const STARVED: &str =
     "file_type=PNS_problem_v1\nmaterials:\nE\nP: product\nmaterial_to_operating_unit_flow_rates:\nU1: E => P\n";
 
 const STRUCTURE: &str = "units U1 U2 U3\nmaterials A B C P\n";
 
-fn run(
+pub(crate) fn run(
     alloc: Global,
     words: &str,
     file: &[u8],
@@ -32,7 +32,7 @@ fn run(
         failing.push(number)?;
     }
     let mut shelf = MemShelf::new(files, failing);
-    let mut out = MemSink::new(alloc, 100, stop)?;
+    let mut out = MemSink::new(alloc, 1_000_000, stop)?;
     let mut all = Vec::new(alloc);
     for word in words.split(' ') {
         all.push(String::from_str(alloc, word)?)?;
@@ -42,7 +42,12 @@ fn run(
 }
 
 // The example with another text in place of one line, counted from 1, and the first lines alone.
-fn changed(alloc: Global, number: usize, text: &str, lines: usize) -> Result<Vec<u8>, AllocError> {
+pub(crate) fn changed(
+    alloc: Global,
+    number: usize,
+    text: &str,
+    lines: usize,
+) -> Result<Vec<u8>, AllocError> {
     let mut bytes = Vec::new(alloc);
     let mut at = 0usize;
     for line in EXAMPLE.lines() {

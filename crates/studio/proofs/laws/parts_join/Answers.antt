@@ -1,0 +1,5 @@
+use Rattle.studio.proofs.ListingParts as parts
+use Rattle.studio.proofs.laws.parts_join.Goals as goal
+
+pub returns : goal.returns
+returns c = parts.parts_join
