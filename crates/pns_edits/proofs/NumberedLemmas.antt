@@ -6,7 +6,7 @@ use Rattle.problem_rules.specs.Validity.{IsValid}
 use Rattle.problem_rules.specs.WellFormed.{IsWellFormed, IsWellFormedTerm, IsWellFormedUnit, IsWellFormedExclusion, AreRisingFrom}
 use Rattle.problem_rules.proofs.ItemLemmas.{Each-at}
 use Rattle.problem_rules.proofs.ValidLemmas.{well_formed_from_valid}
-use Rattle.pns_edits.specs.Terms.{AreTermsBelow, IsUnitBelow, AreNumbersBelow, IsExclusionBelow, IsNumbered}
+use Rattle.pns_edits.specs.Terms.{AreTermsBelow, IsUnitBelow, AreNumbersBelow, IsExclusionBelow, IsNumbered, AreAllYearlyInRange}
 
 terms_below : (n limit : ℕ) (ts : List Term) → n ≤ limit → Each (IsWellFormedTerm n) ts → AreTermsBelow limit ts
 terms_below n limit [] le h = tt
@@ -44,3 +44,10 @@ unit_known p h k less = Each-at (IsUnitBelow (length p.materials)) p.units k no_
 
 pub exclusion_known : (p : Problem) → IsNumbered p → (k : ℕ) → k < length p.exclusions → AreNumbersBelow (length p.units) (exclusion_at p k).units
 exclusion_known p h k less = Each-at (IsExclusionBelow (length p.units)) p.exclusions k no_exclusion less h.exclusions_known
+
+yearly_in_range : (n : ℕ) (us : List OperatingUnit) → Each (IsWellFormedUnit n) us → AreAllYearlyInRange us
+yearly_in_range n [] h = tt
+yearly_in_range n (u ∷ us) h = (record { fix = h.0.fix.in_range; proportional = h.0.proportional }, yearly_in_range n us h.1)
+
+pub all_yearly_in_range : (p : Problem) → IsWellFormed p → AreAllYearlyInRange p.units
+all_yearly_in_range p h = yearly_in_range (length p.materials) p.units h.units_formed

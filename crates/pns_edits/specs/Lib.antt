@@ -1,3 +1,4 @@
 pub mod Fault
 pub mod Inverse
+pub mod Migrate
 pub mod Terms

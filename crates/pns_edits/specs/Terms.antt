@@ -2,6 +2,7 @@
 use Rattle.std.specs.Prelude.{◌<◌, ◌≤◌, ℕ, List, length}
 use Rattle.problem_rules.specs.Problem.{Problem, Term, OperatingUnit, Exclusion}
 use Rattle.problem_rules.specs.Each.{Each}
+use Rattle.problem_rules.specs.WellFormed.{IsInRange}
 
 abbrev pub AreTermsBelow : ℕ → List Term → Type 0
 AreTermsBelow limit terms = Each (λ (t : Term). t.material < limit) terms
@@ -24,3 +25,11 @@ pub record IsNumbered (p : Problem) : Type 0 where
   pub units_small : Each (IsUnitBelow 256) p.units
   pub exclusions_known : Each (IsExclusionBelow (length p.units)) p.exclusions
   pub exclusions_small : Each (IsExclusionBelow 128) p.exclusions
+
+-- the yearly costs of a unit, so that a hundred times them fits
+pub record AreYearlyInRange (u : OperatingUnit) : Type 0 where
+  pub fix : IsInRange u.fix
+  pub proportional : IsInRange u.proportional
+
+abbrev pub AreAllYearlyInRange : List OperatingUnit → Type 0
+AreAllYearlyInRange units = Each AreYearlyInRange units

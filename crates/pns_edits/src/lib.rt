@@ -1,10 +1,20 @@
-//! Edits of a synthesis problem, applied one after another and undone.
+//! Edits of a synthesis problem: applied one after another, undone, and made.
+//!
+//! [`apply`] gives the problem after a script and the script that leads back, or the first fault of meaning at the line of its
+//! edit; [`migrate`] gives the script that turns yearly costs into investment costs. Contracts see problems, edits and scripts
+//! as the records of `problem_rules` and `edit_rules`, and say what comes of them in the words of `edit_rules`: `applied`,
+//! `undoing`, `CanApply`, `IsFirstFault`, `migration`.
+//!
+//! A script changes one copy of the parts in place, line by line, and the problem is built once behind its last line. Modules:
+//! `material`, `unit` and `exclusion` (the edits of each, with what undoes them), `place` (names), `numbering` (places moved),
+//! `terms` and `members` (names to numbers and back), `inverse`, `refusal`, `script`, `migration`.
 #![tactic(auto)]
 
 mod exclusion;
 mod inverse;
 mod material;
 mod members;
+mod migration;
 mod numbering;
 mod place;
 mod refusal;
@@ -12,4 +22,8 @@ mod script;
 mod terms;
 mod unit;
 
+pub use migration::{MigrateFault, migrate};
 pub use script::apply;
+
+#[cfg(test)]
+mod tests;

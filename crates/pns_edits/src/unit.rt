@@ -105,7 +105,8 @@ fn added_back(alloc: Global, parts: &Parts, k: u32, name: &str) -> Result<Edit, 
     })
 }
 
-fn costs_no_investment(unit: &OperatingUnit) -> bool
+/// Whether both investment costs are 0.
+pub(crate) fn costs_no_investment(unit: &OperatingUnit) -> bool
     ensures { result ≡ costs_no_investment unit.now }
 {
     unit.investment_fix.unsigned_abs() == 0 && unit.investment_proportional.unsigned_abs() == 0

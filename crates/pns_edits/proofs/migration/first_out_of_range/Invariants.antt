@@ -1,0 +1,8 @@
+use Rattle.std.proofs.Common.{◌≡◌, pos, drop}
+use Rattle.std.specs.List.{position_from}
+use Rattle.edit_rules.specs.Migration.{migrates_out_of_range}
+use Rattle.pns_edits.specs.Terms.{AreAllYearlyInRange}
+use Rattle.pns_edits.proofs.migration.first_out_of_range.Given as goal
+
+abbrev pub invariant-looking : goal.invariant-looking
+invariant-looking l = (l.at ≡ l.unit-index) × AreAllYearlyInRange (drop l.unit-index l.units) × (position_from (migrates_out_of_range (pos l.years)) l.at (drop l.unit-index l.units) ≡ position_from (migrates_out_of_range (pos l.years)) 0 l.units)
