@@ -1,5 +1,5 @@
 -- What a token has that has no fault.
-use Rattle.std.proofs.Common.{◌≡◌, ◌<◌, ◌≤◌, ◌&&◌, ◌*◌, ◌/◌, ◌%◌, ◌^◌, ◌-◌, ◌==◌, Bool, true, false, not, ℕ, zero, suc, nat_lt, nat_le, Option, Some, None, List, [], ◌∷◌, map, Result, Ok, Err, ℤ, pos, int_lt, unsigned_abs, refl, sym, subst, ap, ◌∙◌, arith, unwrap_or, if◌then◌else◌}
+use Rattle.std.proofs.Common.{◌≡◌, ◌≤◌, ◌&&◌, ◌*◌, ◌/◌, ◌%◌, ◌^◌, ◌-◌, ◌==◌, Bool, true, false, not, ℕ, zero, suc, nat_lt, nat_le, Option, Some, None, List, [], ◌∷◌, Result, Ok, Err, ℤ, pos, int_lt, unsigned_abs, refl, subst, ap, arith, unwrap_or, if◌then◌else◌}
 use Rattle.std.specs.Result.{result_unwrap_or}
 use Rattle.std.proofs.lemmas.Bool.{cond_both, and_parts, leb-true, ltb-false, lt-ltb}
 use Rattle.problem_rules.specs.Each.{Each}
@@ -12,7 +12,7 @@ use Rattle.text_rules.specs.Fault.{millionths}
 use Rattle.edit_rules.specs.Formed.{IsName, IsPlace, IsPayout}
 use Rattle.script_rules.specs.declared.EditKind.{EditKind}
 use Rattle.script_rules.specs.declared.EditKind.TheVariants as kinds
-use Rattle.script_rules.specs.Fault.{lesser, least, some_token, unless, name_fault, bound_fault, rate_fault, not_negative, positive, is_whole, whole_within, place_of, years_of, years_fault, names_fault, members_fault}
+use Rattle.script_rules.specs.Fault.{lesser, least, some_token, unless, name_fault, bound_fault, rate_fault, not_negative, positive, is_whole, whole_within, place_of, years_of, years_fault, names_fault}
 use Rattle.script_rules.specs.Read.{told, judged}
 
 abbrev IsAnErr : {A B : Type 0} → Result A B → Type 0

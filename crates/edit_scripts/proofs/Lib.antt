@@ -8,3 +8,4 @@ mod TokenCounts
 mod Reading
 mod Clear
 mod ReadIsFormed
+mod Printing

@@ -1,5 +1,5 @@
 -- What is read of a line without a fault is an edit without a fault of form.
-use Rattle.std.proofs.Common.{◌≡◌, ◌<◌, ◌≤◌, ◌+◌, ◌||◌, ◌==◌, Bool, true, false, not, ℕ, suc, Option, Some, None, List, [], ◌∷◌, map, length, Result, Ok, Err, ℤ, pos, refl, sym, subst, ap, ◌∙◌, arith, codes, if◌then◌else◌}
+use Rattle.std.proofs.Common.{◌≡◌, ◌<◌, ◌≤◌, ◌+◌, ◌||◌, ◌==◌, Bool, true, false, ℕ, suc, Option, Some, None, List, [], ◌∷◌, map, length, Result, Ok, Err, ℤ, pos, refl, subst, ap, ◌∙◌, arith, codes, if◌then◌else◌}
 use Rattle.std.specs.List.{list_any}
 use Rattle.std.specs.Str.{bytes_eq}
 use Rattle.std.proofs.lemmas.Bool.{or_parts, eqb-false}
@@ -8,7 +8,7 @@ use Rattle.problem_rules.specs.Each.{Each}
 use Rattle.problem_rules.specs.Names.{is_among, has_double}
 use Rattle.problem_rules.specs.Problem.{Kind}
 use Rattle.problem_rules.specs.WellFormed.{IsInRange, IsBound}
-use Rattle.edit_rules.specs.Edit.{NamedTerm, Edit, price, bounds, kind, capacity, fix, proportional, rename_material, rename_unit, add_material, add_unit, exclude, remove_material, remove_unit, unexclude, investment, payout, Script}
+use Rattle.edit_rules.specs.Edit.{Edit, price, bounds, kind, capacity, fix, proportional, rename_material, rename_unit, add_material, add_unit, exclude, remove_material, remove_unit, unexclude, investment, payout, Script}
 use Rattle.edit_rules.specs.Formed.{IsName, IsFormed, IsFormedTerm, IsFormedSide, AreFormedSides, AreSignedBounds, AreRising, IsFormedScript, IsPayout, term_names}
 use Rattle.text_rules.specs.Fault.{millionths}
 use Rattle.script_rules.specs.declared.EditKind.{EditKind}
@@ -18,9 +18,9 @@ use Rattle.script_rules.specs.declared.Word.TheVariants as words
 use Rattle.text_rules.specs.Value.{kind_of}
 use Rattle.script_rules.specs.Fault.{Fault, place_of, years_of, name_fault, kind_fault, amount_fault, bound_fault, place_fault, years_fault, names_fault, members_fault}
 use Rattle.script_rules.specs.Line.{tokens_of, word_named}
-use Rattle.script_rules.specs.Read.{judged, name_read, names_read, kind_read, amount_read, fixed_read, bounds_read, costs_read, years_read, material_read, with_sides, unit_read, exclusion_read, edit_by, fields_read, worded_read, tokens_read, line_read, with_line, lines_read, text_read, read_script}
+use Rattle.script_rules.specs.Read.{name_read, names_read, kind_read, amount_read, fixed_read, bounds_read, costs_read, years_read, material_read, with_sides, unit_read, exclusion_read, edit_by, fields_read, worded_read, tokens_read, line_read, with_line, lines_read}
 use Rattle.script_rules.specs.Term.{Pair, sides_of, term_fault, terms_fault, sides_fault, materials_of, are_bad_sides, term_read}
-use Rattle.edit_scripts.proofs.Clear.{err_not_ok, ok_same, judged_clear, judged_same, both_clear, least_clear, not_clear, name_clear, names_clear, range_of, bound_clear, rate_clear, place_clear, years_clear}
+use Rattle.edit_scripts.proofs.Clear.{err_not_ok, ok_same, judged_clear, judged_same, both_clear, not_clear, name_clear, names_clear, range_of, bound_clear, rate_clear, place_clear, years_clear}
 
 name_formed : (fields : List (List ℕ)) (value : List ℕ) → name_read fields ≡ Ok value → IsName value
 name_formed [] value e = absurd (err_not_ok _ value e)

@@ -1,5 +1,5 @@
 -- The number that digits spell does not fall as more are read.
-use Rattle.std.proofs.Common.{◌≡◌, ◌<◌, ◌≤◌, ◌+◌, ◌-◌, ◌*◌, ℕ, Bool, true, false, Option, Some, None, List, [], ◌∷◌, nat_le, if◌then◌else◌, arith, ap, sym}
+use Rattle.std.proofs.Common.{◌≡◌, ◌<◌, ◌≤◌, ◌+◌, ◌-◌, ◌*◌, ℕ, Bool, true, false, Some, None, List, [], ◌∷◌, nat_le, if◌then◌else◌, arith, ap, sym}
 use Rattle.std.proofs.lemmas.Bool.{lt-leb}
 use Rattle.std.specs.Char.{is_ascii_digit}
 use Rattle.text_rules.specs.Amount.{number_from}

@@ -9,6 +9,7 @@ mod insertion;
 mod line;
 mod line_fault;
 mod names;
+mod print;
 mod read;
 mod script;
 mod sides;
@@ -17,6 +18,7 @@ mod token;
 
 pub use edit::Edit;
 pub use fault::EditFault;
+pub use print::print_script;
 pub use read::read_script;
 pub use script::Script;
 pub use script_rules::EditKind;

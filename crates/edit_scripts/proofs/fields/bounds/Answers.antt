@@ -1,6 +1,4 @@
 use Rattle.std.proofs.Common.{◌≡◌, ℕ, ℤ, List, Result, Ok, IfOk, IfErr, string_bytes, subst, sym, ap}
-use Rattle.problem_rules.specs.Problem as rules
-use Rattle.pns_problem.specs.Kind as kinds
 use Rattle.script_rules.specs.declared.EditKind.{EditKind}
 use Rattle.script_rules.specs.Read.{bounds_read}
 use Rattle.edit_scripts.specs.Tells.{TellsLine}

@@ -1,4 +1,4 @@
-use Rattle.std.proofs.Common.{◌≡◌, Option, IfOk, option_map, subst, List, ℕ, sym, ◌∙◌}
+use Rattle.std.proofs.Common.{◌≡◌, Option, IfOk, option_map, subst, List, sym}
 use Rattle.std.specs.List.{slice_split}
 use Rattle.text_lines.specs.View.{texts}
 use Rattle.text_lines.specs.Terms.{sides_view}
