@@ -1,4 +1,9 @@
-//! Edit scripts: the edits of a problem as values, the reader of their text, and the text that is printed.
+//! Edit scripts: the edits of a problem as values, the reader of their text, and the text that is printed. `read_script`
+//! gives the edits with the numbers of their lines, or the first fault of form; `print_script` gives a script's one text.
+//! A `Script` holds no edit with a fault of form.
+//!
+//! Modules: `edit`, `term`, `script` and `fault` (the values), `cut` (lines and tokens), `token` (what is wrong with one token),
+//! `sides` (the terms of a new unit), `fields` and `insertion` (the forms of lines), `line` (one line), `read`, `print`.
 #![tactic(auto)]
 
 mod cut;
@@ -23,3 +28,6 @@ pub use read::read_script;
 pub use script::Script;
 pub use script_rules::EditKind;
 pub use term::NamedTerm;
+
+#[cfg(test)]
+mod tests;
