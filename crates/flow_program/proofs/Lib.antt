@@ -2,6 +2,7 @@ pub mod SizeLemmas
 pub mod WalkLemmas
 mod FeasibleLemmas
 mod NodeSetLemmas
+mod ProgramLemmas
 mod RateLemmas
 mod TableLemmas
 mod BoundLemmas

@@ -117,7 +117,7 @@ sub_zero a b e = rw e (omega (arith, ints))
 zero_sub : (a b : ℤ) → a ≡ pos 0 → neg_ℤ b ≡ a -ℤ b
 zero_sub a b e = rw e (omega (arith, ints))
 
-size_of_rate : (a b : ℤ) → IsInRange a → IsInRange b → (a ≡ pos 0) ⊎ (b ≡ pos 0) → IsInRange (a -ℤ b)
+pub size_of_rate : (a b : ℤ) → IsInRange a → IsInRange b → (a ≡ pos 0) ⊎ (b ≡ pos 0) → IsInRange (a -ℤ b)
 size_of_rate a b p q (inl e) = rw e (omega (arith, ints))
 size_of_rate a b p q (inr e) = rw e (omega (arith, ints))
 
@@ -126,7 +126,7 @@ zero_sum a b e = omega (arith, ints)
 
 -- of a unit that is well formed, one of the two rates of a material is 0
 module _ (p : Problem) (u : ℕ) (formed : IsWellFormedUnit (length p.materials) (unit_at p u)) where
-  one_zero : (x : ℕ) (a b : Bool) → terms_have (unit_at p u).outputs x ≡ a → terms_have (unit_at p u).inputs x ≡ b → (rate_in (unit_at p u).outputs x ≡ pos 0) ⊎ (rate_in (unit_at p u).inputs x ≡ pos 0)
+  pub one_zero : (x : ℕ) (a b : Bool) → terms_have (unit_at p u).outputs x ≡ a → terms_have (unit_at p u).inputs x ≡ b → (rate_in (unit_at p u).outputs x ≡ pos 0) ⊎ (rate_in (unit_at p u).inputs x ≡ pos 0)
   one_zero x false b e f = inl (no_rate_in (unit_at p u).outputs x e)
   one_zero x true false e f = inr (no_rate_in (unit_at p u).inputs x f)
   one_zero x true true e f = absurd (sides_apart (unit_at p u).inputs (unit_at p u).outputs x formed.sides_apart f e)

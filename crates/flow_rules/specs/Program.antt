@@ -59,6 +59,6 @@ pub record IsProgram (q : Program) : Type 0 where
   pub all_rates : length q.rates ≡ length q.units * length q.rows
   pub boxes : AreRanges (10 ^ 15) q.lows q.highs
   pub ranges : AreRanges (10 ^ 21) q.floors q.ceilings
-  pub fixed_small : IsWithin (10 ^ 32) q.fixed
+  pub fixed_small : IsWithin (10 ^ 33) q.fixed
   pub costs_small : All (IsWithin (10 ^ 36)) q.costs
   pub rates_small : All (IsWithin (10 ^ 15)) q.rates
