@@ -1,0 +1,13 @@
+pub mod Columns
+pub mod Equations
+pub mod Lexicographic
+pub mod LinearProgram
+pub mod Multipliers
+pub mod Path
+pub mod Pivots
+pub mod Places
+pub mod Rank
+pub mod ReadFlows
+pub mod Start
+pub mod Tableau
+pub mod Vectors
