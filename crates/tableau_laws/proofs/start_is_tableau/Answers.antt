@@ -1,0 +1,12 @@
+use Rattle.tableau_laws.proofs.StartBasisLemmas.{start_independent}
+use Rattle.tableau_laws.proofs.LawLemmas as law
+use Rattle.tableau_laws.proofs.start_is_tableau.Goals as goal
+
+pub returns-clause-basis : goal.returns-clause-basis
+returns-clause-basis c = start_independent
+
+pub returns-clause-tableau : goal.returns-clause-tableau
+returns-clause-tableau c = law.start_is_tableau
+
+pub returns-clause-solutions : goal.returns-clause-solutions
+returns-clause-solutions c = law.start_is_complete
