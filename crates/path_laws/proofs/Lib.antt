@@ -1,0 +1,11 @@
+pub mod FirstKindLemmas
+pub mod LastLemmas
+pub mod LeastLemmas
+pub mod OnePathLemmas
+pub mod PathLemmas
+pub mod RankLemmas
+pub mod RisingLemmas
+pub mod SecondKindLemmas
+pub mod ValueLemmas
+pub mod VectorLemmas
+pub mod LawLemmas
