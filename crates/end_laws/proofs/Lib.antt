@@ -1,0 +1,12 @@
+pub mod BasicLemmas
+pub mod EndLemmas
+pub mod FlowReadingLemmas
+pub mod LeastValueLemmas
+pub mod MultiplierLemmas
+pub mod PlaceLemmas
+pub mod ProgramLemmas
+pub mod ReadLemmas
+pub mod Relaxed
+pub mod RowBoundLemmas
+pub mod SolvedLemmas
+pub mod SplitLemmas
