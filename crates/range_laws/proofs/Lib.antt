@@ -1,0 +1,5 @@
+pub mod ProgramLemmas
+pub mod RowLemmas
+pub mod SmallLemmas
+pub mod WithinLemmas
+mod Worked
