@@ -1,0 +1,7 @@
+pub mod Accepted
+pub mod Claim
+pub mod Fault
+pub mod Leaf
+pub mod Lean
+pub mod Stops
+pub mod Tree

@@ -1,0 +1,43 @@
+-- Where a search stops before its end: its budget of nodes is spent, or a number of the simplex method is past the range. `IsOpen`
+-- tells which leaves are open, and each node is taken as its steps leave it.
+use Rattle.std.specs.Prelude.{◌≡◌, ℕ, ◌+◌, ◌<◌, List, [], ◌∷◌, length, Option, None}
+use Rattle.problem_rules.specs.Problem.{Problem}
+use Rattle.pns_rules.specs.Shape.{shape_of}
+use Rattle.pns_rules.specs.Nodes.{Node, options}
+use Rattle.pns_rules.specs.Ends.{IsReduced, IsUndecided, IsFirst}
+use Rattle.flow_rules.specs.Net.{net_of}
+use Rattle.flow_rules.specs.Program.{Program, program_of}
+use Rattle.tree_rules.specs.Tree.{leaf, TreeNode, Stands}
+use Rattle.tree_rules.specs.Claim.{CostOver}
+use Rattle.tree_rules.specs.Lean.{MayUndercut, IsNoDearer}
+
+-- leaf k is open, at the node n
+pub record IsOpenAt {L : Type 0} (p : Problem) (IsOpen : L → Type 0) (start : Node) (tree : List (TreeNode L)) (k : ℕ) (n : Node) : Type 0 where
+  pub what : L
+  pub stands : Stands (shape_of p) (start ∷ []) tree k n (leaf what)
+  pub is_open : IsOpen what
+
+-- an open leaf that is worth branching: reduced, with a material to decide, and with relaxed flows
+pub record IsPending (p : Problem) (n : Node) : Type 0 where
+  pub reduced : IsReduced (shape_of p) n
+  pub undecided : (x : ℕ) × IsUndecided (shape_of p) n x
+  pub relaxed : MayUndercut p None n
+
+-- leaf `next` is branched next, on a material with so many options, and the nodes would then be more than the budget
+pub record IsSpent {L : Type 0} (p : Problem) (IsOpen : L → Type 0) (claimed : Option CostOver) (start : Node) (tree : List (TreeNode L)) (next count budget : ℕ) : Type 0 where
+  pub pending : (k : ℕ) (n : Node) → IsOpenAt p IsOpen start tree k n → IsPending p n
+  pub node : Node
+  pub at_leaf : IsOpenAt p IsOpen start tree next node
+  pub of_use : MayUndercut p claimed node
+  pub least : (k : ℕ) (n : Node) → IsOpenAt p IsOpen start tree k n → IsNoDearer p node n
+  pub material : ℕ
+  pub first : IsFirst (IsUndecided (shape_of p) node) material
+  pub count_is : count ≡ length (options (shape_of p) node material)
+  pub exceeds : budget < length tree + count
+
+-- leaf k is open and reduced, and the simplex method goes past the range at its program. `Past` says so of a program.
+pub record IsPast {L : Type 0} (p : Problem) (IsOpen : L → Type 0) (start : Node) (tree : List (TreeNode L)) (Past : Program → Type 0) (k : ℕ) : Type 0 where
+  pub node : Node
+  pub at_leaf : IsOpenAt p IsOpen start tree k node
+  pub reduced : IsReduced (shape_of p) node
+  pub past : Past (program_of (net_of p) node)

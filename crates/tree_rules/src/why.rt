@@ -1,0 +1,32 @@
+/// Why a claim or a node of a branch tree is refused. On one claim or node the first line that fails tells the cause; a sum
+/// fails directly before the comparison that it is formed for.
+#[derive(Clone, Copy, Debug, PartialEq, Eq)]
+pub enum Why {
+    /// Nothing is claimed.
+    Unknown,
+    /// The units of the claimed network break an axiom.
+    Axiom,
+    /// An exclusion has two units of the claimed network.
+    Exclusion,
+    /// The sizes of the claimed network are no flows for its units.
+    Flows,
+    /// The claimed cost is not that of the flows.
+    Cost,
+    /// A step is not possible where it stands.
+    Step,
+    /// The material of a branch is not needed, or the options of its children are not all its options in order.
+    Options,
+    /// The leaf is open.
+    Open,
+    /// The material is not needed, or has a maker that is not left out.
+    Dead,
+    /// The exclusion has no two units that are taken in.
+    Clash,
+    /// The multipliers are not one for each row, or do not refute the node.
+    Refuted,
+    /// No network is claimed, the scale is below 1, the multipliers are not one for each row, or the bound is below the
+    /// claimed cost.
+    Bound,
+    /// A number that is formed for a sum is out of range.
+    Sum,
+}
