@@ -1,0 +1,80 @@
+-- The laws of trees that pass, for the trees of a problem.
+use Rattle.std.proofs.Common.{◌≡◌, ◌⊎◌, ℕ, Bool, true, false, [], ◌∷◌, subst, inl, inr}
+use Rattle.problem_rules.specs.Problem.{Problem}
+use Rattle.problem_rules.specs.Validity.{IsValid}
+use Rattle.pns_rules.specs.Shape.{shape_of}
+use Rattle.pns_rules.specs.Structure.{IsStructure, IsAllowed, InFamily}
+use Rattle.pns_rules.specs.Nodes.{Node}
+use Rattle.pns_rules.proofs.ProperLemmas.{proper_if_valid}
+use Rattle.tree_rules.specs.Tree.{leaf, Stands}
+use Rattle.tree_rules.specs.Claim.{Claim, claimed_cost}
+use Rattle.tree_rules.specs.Leaf.{Leaf, untried, LeafPasses}
+use Rattle.tree_rules.specs.Accepted.{Tree, first_node, Proves}
+use Rattle.tree_laws.specs.Laws.{CostsEnough, AcceptedIsLeast, AcceptedIsOptimal, IsAtLeaf, LeavesCover, PartialIsLeast, LeavesAreApart, AcceptedIsPartial, PartialIsAccepted}
+use Rattle.tree_laws.proofs.CoverLemmas.{IsUnder, covers}
+use Rattle.tree_laws.proofs.LeafLemmas.{scale_of, leaf_holds}
+use Rattle.tree_laws.proofs.OpenLemmas.{passes_too, leaf_whole_partial, claim_whole_partial, leaf_partial_whole, claim_partial_whole}
+use Rattle.tree_laws.proofs.ApartLemmas.{leaves_apart}
+
+pub leaves_cover : LeavesCover
+leaves_cover partial p valid start claim tree a s f =
+    let u : IsUnder (shape_of p) (LeafPasses partial p (claimed_cost claim)) (start ∷ []) tree s
+    = covers (shape_of p) s (proper_if_valid p valid) (LeafPasses partial p (claimed_cost claim)) (start ∷ []) tree a.passes (inl f) in
+    record { place = u.place; node = u.node; what = u.what; stands = u.stands; passes = u.passes; in_family = u.in_family }
+
+-- what the leaf of a structure says of it
+at_leaf : (partial : Bool) (p : Problem) → IsValid p → (start : Node) (claim : Claim) (tree : Tree) → Proves partial p start claim tree
+    → (s : ℕ → Bool) (l : IsAtLeaf partial p start claim tree s) → ((l.what ≡ untried) × (partial ≡ true)) ⊎ CostsEnough p (claimed_cost claim) s
+at_leaf partial p valid start claim tree a s l =
+    leaf_holds p valid partial (claimed_cost claim) (scale_of partial p claim a.claimed) l.node l.what l.passes s l.in_family
+
+pub accepted_is_least : AcceptedIsLeast
+accepted_is_least p valid start claim tree a s f =
+    elim (at_leaf false p valid start claim tree a s (leaves_cover false p valid start claim tree a s f)) [
+      | inl e ↦ absurd cc
+      | inr h ↦ h
+    ]
+
+in_first : (p : Problem) (s : ℕ → Bool) → IsStructure (shape_of p) s → IsAllowed (shape_of p) s → InFamily (shape_of p) first_node.inside first_node.outside s
+in_first p s meets allowed = record {
+  between = record { meets = meets; contains = λ u e. absurd cc; avoids = λ u e o. absurd cc };
+  allowed = allowed;
+}
+
+pub accepted_is_optimal : AcceptedIsOptimal
+accepted_is_optimal p valid claim tree a s meets allowed = accepted_is_least p valid first_node claim tree a s (in_first p s meets allowed)
+
+pub partial_is_least : PartialIsLeast
+partial_is_least p valid start claim tree a s f =
+    let l : IsAtLeaf true p start claim tree s = leaves_cover true p valid start claim tree a s f in
+    elim (at_leaf true p valid start claim tree a s l) [
+      | inl e ↦ inl (record {
+        place = l.place;
+        node = l.node;
+        stands = subst (λ (w : Leaf). Stands (shape_of p) (start ∷ []) tree l.place l.node (leaf w)) e.0 l.stands;
+        in_family = l.in_family;
+      })
+      | inr h ↦ inr h
+    ]
+
+pub leaves_are_apart : LeavesAreApart
+leaves_are_apart partial p valid start claim tree a s j k m n b d h f i e =
+    leaves_apart (shape_of p) s (proper_if_valid p valid) (LeafPasses partial p (claimed_cost claim)) (start ∷ []) tree j k m n b d a.passes
+    ((λ g none. none), tt) h f i e
+
+pub accepted_is_partial : AcceptedIsPartial
+accepted_is_partial p start claim tree a = record {
+  claimed = claim_whole_partial p claim a.claimed;
+  passes =
+      passes_too (shape_of p) (LeafPasses false p (claimed_cost claim)) (LeafPasses true p (claimed_cost claim)) (start ∷ []) tree
+      (λ k n l w h. leaf_whole_partial p (claimed_cost claim) n l h) a.passes;
+}
+
+pub partial_is_accepted : PartialIsAccepted
+partial_is_accepted p start claim tree a apart closed = record {
+  claimed = claim_partial_whole p claim apart a.claimed;
+  passes =
+      passes_too (shape_of p) (LeafPasses true p (claimed_cost claim)) (LeafPasses false p (claimed_cost claim)) (start ∷ []) tree
+      (λ k n l w h. leaf_partial_whole p (claimed_cost claim) n l (λ e. closed k n (subst (λ (v : Leaf). Stands (shape_of p) (start ∷ []) tree k n (leaf v)) e w)) h)
+      a.passes;
+}

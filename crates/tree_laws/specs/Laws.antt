@@ -1,0 +1,109 @@
+-- Laws of branch trees, each of which a public function of this crate has as its contract. Each speaks of every valid problem.
+use Rattle.std.specs.Prelude.{◌≡◌, ◌⊎◌, ℕ, ℤ, Bool, [], ◌∷◌, Option}
+use Rattle.problem_rules.specs.Problem.{Problem}
+use Rattle.problem_rules.specs.Validity.{IsValid}
+use Rattle.pns_rules.specs.Shape.{shape_of}
+use Rattle.pns_rules.specs.Structure.{IsStructure, IsAllowed, InFamily}
+use Rattle.pns_rules.specs.Nodes.{Node}
+use Rattle.flow_rules.specs.Net.{net_of}
+use Rattle.flow_rules.specs.Flows.{IsFlows, cost}
+use Rattle.tree_rules.specs.declared.why.Why.{Why}
+use Rattle.tree_rules.specs.Tree.{leaf, Stands}
+use Rattle.tree_rules.specs.Claim.{Network, network, Claim, unknown, CostOver, claimed_cost, IsAtLeast, IsFeasible, ClaimPasses, ClaimFails}
+use Rattle.tree_rules.specs.Leaf.{Leaf, untried, LeafPasses}
+use Rattle.tree_rules.specs.Accepted.{Tree, first_node, Proves, IsAccepted, IsPartial, NodeIsFault}
+
+-- any flows for the units of s cost at least what is claimed; where no cost is claimed there are none
+abbrev pub CostsEnough : Problem → Option CostOver → (ℕ → Bool) → Type 0
+CostsEnough p claimed s = (z : ℕ → ℤ) (d : ℤ) → IsFlows (net_of p) s z d → IsAtLeast claimed (cost (net_of p) s z d) d
+
+-- ---- whole trees
+
+-- each allowed solution structure of the start costs at least what is claimed, with any flows; where it is claimed that no
+-- network has flows, it has none
+abbrev pub AcceptedIsLeast : Type 0
+AcceptedIsLeast =
+    (p : Problem) → IsValid p → (start : Node) (claim : Claim) (tree : Tree) → IsAccepted p start claim tree
+    → (s : ℕ → Bool) → InFamily (shape_of p) start.inside start.outside s → CostsEnough p (claimed_cost claim) s
+
+-- where nothing is decided at the start, so does each allowed solution structure of the problem
+abbrev pub AcceptedIsOptimal : Type 0
+AcceptedIsOptimal =
+    (p : Problem) → IsValid p → (claim : Claim) (tree : Tree) → IsAccepted p first_node claim tree
+    → (s : ℕ → Bool) → IsStructure (shape_of p) s → IsAllowed (shape_of p) s → CostsEnough p (claimed_cost claim) s
+
+-- and what is claimed is an allowed solution structure with flows of that cost
+abbrev pub AcceptedHasFlows : Type 0
+AcceptedHasFlows = (p : Problem) (start : Node) (w : Network) (tree : Tree) → IsAccepted p start (network w) tree → IsFeasible p w
+
+-- ---- leaves
+
+-- the structure s is in the family of a leaf, which passes at its node
+pub record IsAtLeaf (partial : Bool) (p : Problem) (start : Node) (claim : Claim) (tree : Tree) (s : ℕ → Bool) : Type 0 where
+  pub place : ℕ
+  pub node : Node
+  pub what : Leaf
+  pub stands : Stands (shape_of p) (start ∷ []) tree place node (leaf what)
+  pub passes : LeafPasses partial p (claimed_cost claim) node what
+  pub in_family : InFamily (shape_of p) node.inside node.outside s
+
+-- the families of the leaves cover that of the start
+abbrev pub LeavesCover : Type 0
+LeavesCover =
+    (partial : Bool) (p : Problem) → IsValid p → (start : Node) (claim : Claim) (tree : Tree) → Proves partial p start claim tree
+    → (s : ℕ → Bool) → InFamily (shape_of p) start.inside start.outside s → IsAtLeaf partial p start claim tree s
+
+-- the structure s is in the family of an open leaf
+pub record IsStillOpen (p : Problem) (start : Node) (tree : Tree) (s : ℕ → Bool) : Type 0 where
+  pub place : ℕ
+  pub node : Node
+  pub stands : Stands (shape_of p) (start ∷ []) tree place node (leaf untried)
+  pub in_family : InFamily (shape_of p) node.inside node.outside s
+
+-- so each allowed solution structure of the start that is in no family of an open leaf costs at least what is claimed, with any
+-- flows; where no network is claimed, it has no flows
+abbrev pub PartialIsLeast : Type 0
+PartialIsLeast =
+    (p : Problem) → IsValid p → (start : Node) (claim : Claim) (tree : Tree) → IsPartial p start claim tree
+    → (s : ℕ → Bool) → InFamily (shape_of p) start.inside start.outside s
+    → IsStillOpen p start tree s ⊎ CostsEnough p (claimed_cost claim) s
+
+-- no solution structure is in the families of two leaves
+abbrev pub LeavesAreApart : Type 0
+LeavesAreApart =
+    (partial : Bool) (p : Problem) → IsValid p → (start : Node) (claim : Claim) (tree : Tree) → Proves partial p start claim tree
+    → (s : ℕ → Bool) (j k : ℕ) (m n : Node) (a b : Leaf)
+    → Stands (shape_of p) (start ∷ []) tree j m (leaf a) → InFamily (shape_of p) m.inside m.outside s
+    → Stands (shape_of p) (start ∷ []) tree k n (leaf b) → InFamily (shape_of p) n.inside n.outside s → j ≡ k
+
+-- ---- whole and partial
+
+-- an accepted tree is partial too
+abbrev pub AcceptedIsPartial : Type 0
+AcceptedIsPartial = (p : Problem) (start : Node) (claim : Claim) (tree : Tree) → IsAccepted p start claim tree → IsPartial p start claim tree
+
+-- a partial tree that claims something and has no open leaf is accepted
+abbrev pub PartialIsAccepted : Type 0
+PartialIsAccepted =
+    (p : Problem) (start : Node) (claim : Claim) (tree : Tree) → IsPartial p start claim tree → (claim ≡ unknown → ⊥)
+    → ((k : ℕ) (n : Node) → Stands (shape_of p) (start ∷ []) tree k n (leaf untried) → ⊥) → IsAccepted p start claim tree
+
+-- ---- faults
+
+-- a claim that passes has no fault, and the others have one cause
+abbrev pub PassingClaimHasNoFault : Type 0
+PassingClaimHasNoFault = (partial : Bool) (p : Problem) (claim : Claim) (why : Why) → ClaimPasses partial p claim → ClaimFails partial p claim why → ⊥
+
+abbrev pub ClaimHasOneFault : Type 0
+ClaimHasOneFault = (partial : Bool) (p : Problem) (claim : Claim) (why other : Why) → ClaimFails partial p claim why → ClaimFails partial p claim other → why ≡ other
+
+-- a tree that passes has no first fault, and the others have one
+abbrev pub PassingTreeHasNoFault : Type 0
+PassingTreeHasNoFault =
+    (partial : Bool) (p : Problem) (start : Node) (claim : Claim) (tree : Tree) (k : ℕ) (why : Why)
+    → Proves partial p start claim tree → NodeIsFault partial p start claim tree k why → ⊥
+
+abbrev pub TreeHasOneFault : Type 0
+TreeHasOneFault =
+    (partial : Bool) (p : Problem) (start : Node) (claim : Claim) (tree : Tree) (j k : ℕ) (why other : Why)
+    → NodeIsFault partial p start claim tree j why → NodeIsFault partial p start claim tree k other → (j ≡ k) × (why ≡ other)

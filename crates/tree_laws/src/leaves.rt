@@ -1,0 +1,19 @@
+ghost use Rattle.tree_laws.specs.Laws.{LeavesCover, PartialIsLeast, LeavesAreApart, AcceptedIsPartial, PartialIsAccepted};
+
+/// The families of the leaves cover that of the start, and no solution structure is in two.
+pub fn leaves_cover()
+    ensures cover { LeavesCover }
+    ensures apart { LeavesAreApart }
+{}
+
+/// Each allowed solution structure of the start that no open leaf has costs at least what a partial tree claims, with any
+/// flows; where no network is claimed, it has no flows.
+pub fn partial_is_least()
+    ensures { PartialIsLeast }
+{}
+
+/// A partial tree that claims something is accepted exactly where no leaf is open.
+pub fn open_leaves_decide()
+    ensures whole { AcceptedIsPartial }
+    ensures closed { PartialIsAccepted }
+{}
