@@ -1,0 +1,4 @@
+mod ExampleFaults
+mod ExampleProblem
+mod ExampleTree
+mod Worked
