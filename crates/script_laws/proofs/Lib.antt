@@ -1,0 +1,5 @@
+mod EditsRead
+mod Lines
+mod SidesRead
+mod Tokens
+mod TokensRead
