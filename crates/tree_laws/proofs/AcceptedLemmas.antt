@@ -1,5 +1,6 @@
 -- The laws of trees that pass, for the trees of a problem.
 use Rattle.std.proofs.Common.{◌≡◌, ◌⊎◌, ℕ, Bool, true, false, [], ◌∷◌, subst, inl, inr}
+use Rattle.number_sets.specs.Sets.{Avoids}
 use Rattle.problem_rules.specs.Problem.{Problem}
 use Rattle.problem_rules.specs.Validity.{IsValid}
 use Rattle.pns_rules.specs.Shape.{shape_of}
@@ -10,8 +11,10 @@ use Rattle.tree_rules.specs.Tree.{leaf, Stands}
 use Rattle.tree_rules.specs.Claim.{Claim, claimed_cost}
 use Rattle.tree_rules.specs.Leaf.{Leaf, untried, LeafPasses}
 use Rattle.tree_rules.specs.Accepted.{Tree, first_node, Proves}
-use Rattle.tree_laws.specs.Laws.{CostsEnough, AcceptedIsLeast, AcceptedIsOptimal, IsAtLeaf, LeavesCover, PartialIsLeast, LeavesAreApart, AcceptedIsPartial, PartialIsAccepted}
-use Rattle.tree_laws.proofs.CoverLemmas.{IsUnder, covers}
+use Rattle.tree_laws.specs.Laws.{CostsEnough, AcceptedIsLeast, AcceptedIsOptimal, IsAtLeaf, LeavesCover, PartialIsLeast, LeavesAreApart, LeavesAreDifferent, AcceptedIsPartial, PartialIsAccepted}
+use Rattle.tree_laws.proofs.CoverLemmas.{IsOf, IsUnder, covers}
+use Rattle.tree_laws.proofs.UpLemmas.{structure_goes_up, IsOver, over_goes_up}
+use Rattle.tree_laws.proofs.SidesLemmas.{stands_apart}
 use Rattle.tree_laws.proofs.LeafLemmas.{scale_of, leaf_holds}
 use Rattle.tree_laws.proofs.OpenLemmas.{passes_too, leaf_whole_partial, claim_whole_partial, leaf_partial_whole, claim_partial_whole}
 use Rattle.tree_laws.proofs.ApartLemmas.{leaves_apart}
@@ -59,8 +62,16 @@ partial_is_least p valid start claim tree a s f =
 
 pub leaves_are_apart : LeavesAreApart
 leaves_are_apart partial p valid start claim tree a s j k m n b d h f i e =
-    leaves_apart (shape_of p) s (proper_if_valid p valid) (LeafPasses partial p (claimed_cost claim)) (start ∷ []) tree j k m n b d a.passes
+    leaves_apart (shape_of p) (IsOf (shape_of p) s) (structure_goes_up (shape_of p) (proper_if_valid p valid) s) (LeafPasses partial p (claimed_cost claim)) (start ∷ []) tree j k m n b d a.passes
     ((λ g none. none), tt) h f i e
+
+pub leaves_are_different : LeavesAreDifferent
+leaves_are_different partial p valid start claim tree sides a j k n b d h i =
+    let apart : Avoids n.inside n.outside
+    = stands_apart (shape_of p) (proper_if_valid p valid) (LeafPasses partial p (claimed_cost claim)) (start ∷ []) tree j n (leaf b) a.passes (sides, tt) h in
+    let itself : IsOver n n = record { inside = λ u e. e; outside = λ u e. e } in
+    leaves_apart (shape_of p) (IsOver n) (over_goes_up (shape_of p) (proper_if_valid p valid) n apart) (LeafPasses partial p (claimed_cost claim)) (start ∷ []) tree j k n n b d a.passes
+    ((λ g none. none), tt) h itself i itself
 
 pub accepted_is_partial : AcceptedIsPartial
 accepted_is_partial p start claim tree a = record {

@@ -1,18 +1,17 @@
 -- A structure of a node that passes is a structure of one of its leaves. L is what the leaves may be, and P tells which pass.
-use Rattle.std.proofs.Common.{◌≡◌, ◌⊎◌, ℕ, zero, suc, Bool, true, List, [], ◌∷◌, ◌++◌, map, refl, sym, subst, inl, inr}
+use Rattle.std.proofs.Common.{◌≡◌, ℕ, zero, suc, Bool, true, List, [], ◌∷◌, ◌++◌, map, refl, sym, subst, inl, inr}
 use Rattle.number_sets.specs.Sets.{Avoids}
-use Rattle.number_sets.specs.Options.{IsIn}
 use Rattle.pns_rules.specs.Shape.{Shape, IsProper}
 use Rattle.pns_rules.specs.Structure.{is_needed, InFamily}
 use Rattle.pns_rules.specs.Nodes.{Node, Step, after, options, child}
 use Rattle.pns_rules.proofs.StepLemmas.{steps_keep_families, children_cover}
 use Rattle.pns_rules.proofs.OptionLemmas.{options_all}
 use Rattle.tree_rules.specs.Tree.{End, branch, leaf, TreeNode, StepsPass, after_all, below, Stands, EndPasses, Pass}
+use Rattle.tree_laws.proofs.OneLemmas.{OneHolds, left_one, right_one, at_option}
 
--- the structure is in the family of one of the nodes
-abbrev pub IsInOne : Shape → (ℕ → Bool) → List Node → Type 0
-IsInOne g s [] = ⊥
-IsInOne g s (n ∷ ns) = InFamily g n.inside n.outside s ⊎ IsInOne g s ns
+-- the structure is in the node's family
+abbrev pub IsOf : Shape → (ℕ → Bool) → Node → Type 0
+IsOf g s n = InFamily g n.inside n.outside s
 
 -- and in that of a leaf of the subtrees, which passes there
 pub record IsUnder {L : Type 0} (g : Shape) (P : Node → L → Type 0) (ns : List Node) (ts : List (TreeNode L)) (s : ℕ → Bool) : Type 0 where
@@ -27,46 +26,32 @@ pub sides_apart : (g : Shape) (n : Node) (s : ℕ → Bool) → InFamily g n.ins
 sides_apart g n s f = λ u i e. f.between.avoids u (f.between.contains u i) e
 
 module _ (g : Shape) (s : ℕ → Bool) where
-  pub left_one : (ns ms : List Node) → IsInOne g s ns → IsInOne g s (ns ++ ms)
-  left_one [] ms h = absurd h
-  left_one (n ∷ ns) ms (inl f) = inl f
-  left_one (n ∷ ns) ms (inr h) = inr (left_one ns ms h)
-
-  pub right_one : (ns ms : List Node) → IsInOne g s ms → IsInOne g s (ns ++ ms)
-  right_one [] ms h = h
-  right_one (n ∷ ns) ms h = inr (right_one ns ms h)
-
-  at_option : (f : List ℕ → Node) (t : List ℕ) (ts : List (List ℕ)) → IsIn t ts → InFamily g (f t).inside (f t).outside s → IsInOne g s (map f ts)
-  at_option f t [] i h = absurd i
-  at_option f t (u ∷ us) (inl e) h = inl (subst (λ (w : List ℕ). InFamily g (f w).inside (f w).outside s) e h)
-  at_option f t (u ∷ us) (inr i) h = inr (at_option f t us i h)
-
   module _ (proper : IsProper g) where
     pub over_steps : (n : Node) (ss : List Step) → StepsPass g n ss → InFamily g n.inside n.outside s → InFamily g (after_all g n ss).inside (after_all g n ss).outside s
     over_steps n [] p f = f
     over_steps n (t ∷ ts) p f = over_steps (after g n t) ts p.1 ((steps_keep_families g n t proper p.0 s).0 f)
 
-    pub at_branch : (n : Node) (x : ℕ) → is_needed g n.inside x ≡ true → InFamily g n.inside n.outside s → IsInOne g s (map (child g n x) (options g n x))
+    pub at_branch : (n : Node) (x : ℕ) → is_needed g n.inside x ≡ true → InFamily g n.inside n.outside s → OneHolds (IsOf g s) (map (child g n x) (options g n x))
     at_branch n x e f =
         let k = children_cover g n x s proper e f in
-        at_option (child g n x) k.0 (options g n x) ((options_all g n x k.0 proper (sides_apart g n s f)).1 k.1) k.2
+        at_option (IsOf g s) (child g n x) k.0 (options g n x) ((options_all g n x k.0 proper (sides_apart g n s f)).1 k.1) k.2
 
     module _ {L : Type 0} (P : Node → L → Type 0) where
       behind : (n : Node) (ns : List Node) (t : TreeNode L) (ts : List (TreeNode L)) → IsUnder g P (below g (after_all g n t.steps) t.end ++ ns) ts s → IsUnder g P (n ∷ ns) (t ∷ ts) s
       behind n ns t ts u = record { place = suc u.place; node = u.node; what = u.what; stands = u.stands; passes = u.passes; in_family = u.in_family }
 
       -- at a node that is reached, the end is a leaf that passes, or one of the children has the structure
-      at_end : (n : Node) (ns : List Node) (t : TreeNode L) (ts : List (TreeNode L)) (e : End L) → t.end ≡ e → EndPasses g P (after_all g n t.steps) e ts → InFamily g (after_all g n t.steps).inside (after_all g n t.steps).outside s → (IsInOne g s (below g (after_all g n t.steps) t.end ++ ns) → IsUnder g P (below g (after_all g n t.steps) t.end ++ ns) ts s) → IsUnder g P (n ∷ ns) (t ∷ ts) s
+      at_end : (n : Node) (ns : List Node) (t : TreeNode L) (ts : List (TreeNode L)) (e : End L) → t.end ≡ e → EndPasses g P (after_all g n t.steps) e ts → InFamily g (after_all g n t.steps).inside (after_all g n t.steps).outside s → (OneHolds (IsOf g s) (below g (after_all g n t.steps) t.end ++ ns) → IsUnder g P (below g (after_all g n t.steps) t.end ++ ns) ts s) → IsUnder g P (n ∷ ns) (t ∷ ts) s
       at_end n ns t ts (leaf l) q h f rest = record { place = zero; node = after_all g n t.steps; what = l; stands = (refl, q); passes = h; in_family = f }
       at_end n ns t ts (branch x c) q h f rest =
           behind n ns t ts
-          (rest (left_one (below g (after_all g n t.steps) t.end) ns
-          (subst (λ (w : End L). IsInOne g s (below g (after_all g n t.steps) w)) (sym q) (at_branch (after_all g n t.steps) x h.0 f))))
+          (rest (left_one (IsOf g s) (below g (after_all g n t.steps) t.end) ns
+          (subst (λ (w : End L). OneHolds (IsOf g s) (below g (after_all g n t.steps) w)) (sym q) (at_branch (after_all g n t.steps) x h.0 f))))
 
-      pub covers : (ns : List Node) (ts : List (TreeNode L)) → Pass g P ns ts → IsInOne g s ns → IsUnder g P ns ts s
+      pub covers : (ns : List Node) (ts : List (TreeNode L)) → Pass g P ns ts → OneHolds (IsOf g s) ns → IsUnder g P ns ts s
       covers [] ts p h = absurd h
       covers (n ∷ ns) [] p h = absurd p
       covers (n ∷ ns) (t ∷ ts) p (inr h) =
-          behind n ns t ts (covers (below g (after_all g n t.steps) t.end ++ ns) ts p.2 (right_one (below g (after_all g n t.steps) t.end) ns h))
+          behind n ns t ts (covers (below g (after_all g n t.steps) t.end ++ ns) ts p.2 (right_one (IsOf g s) (below g (after_all g n t.steps) t.end) ns h))
       covers (n ∷ ns) (t ∷ ts) p (inl f) =
           at_end n ns t ts t.end refl p.1 (over_steps n t.steps p.0 f) (λ h. covers (below g (after_all g n t.steps) t.end ++ ns) ts p.2 h)

@@ -3,4 +3,7 @@ pub mod ApartLemmas
 pub mod CoverLemmas
 pub mod FaultLemmas
 pub mod LeafLemmas
+pub mod OneLemmas
 pub mod OpenLemmas
+pub mod SidesLemmas
+pub mod UpLemmas

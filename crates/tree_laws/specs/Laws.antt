@@ -1,5 +1,6 @@
 -- Laws of branch trees, each of which a public function of this crate has as its contract. Each speaks of every valid problem.
 use Rattle.std.specs.Prelude.{◌≡◌, ◌⊎◌, ℕ, ℤ, Bool, [], ◌∷◌, Option}
+use Rattle.number_sets.specs.Sets.{Avoids}
 use Rattle.problem_rules.specs.Problem.{Problem}
 use Rattle.problem_rules.specs.Validity.{IsValid}
 use Rattle.pns_rules.specs.Shape.{shape_of}
@@ -75,6 +76,13 @@ LeavesAreApart =
     → (s : ℕ → Bool) (j k : ℕ) (m n : Node) (a b : Leaf)
     → Stands (shape_of p) (start ∷ []) tree j m (leaf a) → InFamily (shape_of p) m.inside m.outside s
     → Stands (shape_of p) (start ∷ []) tree k n (leaf b) → InFamily (shape_of p) n.inside n.outside s → j ≡ k
+
+-- where no unit is both taken in and left out at the start, no two leaves stand at one node
+abbrev pub LeavesAreDifferent : Type 0
+LeavesAreDifferent =
+    (partial : Bool) (p : Problem) → IsValid p → (start : Node) (claim : Claim) (tree : Tree) → Avoids start.inside start.outside
+    → Proves partial p start claim tree → (j k : ℕ) (n : Node) (a b : Leaf)
+    → Stands (shape_of p) (start ∷ []) tree j n (leaf a) → Stands (shape_of p) (start ∷ []) tree k n (leaf b) → j ≡ k
 
 -- ---- whole and partial
 

@@ -1,9 +1,11 @@
-ghost use Rattle.tree_laws.specs.Laws.{LeavesCover, PartialIsLeast, LeavesAreApart, AcceptedIsPartial, PartialIsAccepted};
+ghost use Rattle.tree_laws.specs.Laws.{LeavesCover, PartialIsLeast, LeavesAreApart, LeavesAreDifferent, AcceptedIsPartial, PartialIsAccepted};
 
-/// The families of the leaves cover that of the start, and no solution structure is in two.
+/// The families of the leaves cover that of the start, and no solution structure is in two. Where no unit is both taken in and
+/// left out at the start, no two leaves stand at one node.
 pub fn leaves_cover()
     ensures cover { LeavesCover }
     ensures apart { LeavesAreApart }
+    ensures different { LeavesAreDifferent }
 {}
 
 /// Each allowed solution structure of the start that no open leaf has costs at least what a partial tree claims, with any
