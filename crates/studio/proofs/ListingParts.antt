@@ -1,14 +1,13 @@
 -- The parts of a listing joined.
-use Rattle.std.proofs.Common.{◌≡◌, ◌++◌, ◌+◌, ◌-◌, ◌<◌, ◌≤◌, ℕ, zero, suc, Bool, true, false, List, [], ◌∷◌, Option, Some, None, codes, length, map, take, drop, get_or, nat_lt, refl, sym, ap, subst, ◌∙◌, arith, inl, inr, append_assoc, cond}
-use Rattle.std.proofs.lemmas.List.{length-append, length-take-le, length-drop, length-map, take-append-drop}
+use Rattle.std.proofs.Common.{◌≡◌, ◌++◌, ◌+◌, ◌<◌, ◌≤◌, ℕ, zero, suc, Bool, true, false, List, [], ◌∷◌, Option, Some, None, codes, length, map, take, drop, get_or, nat_lt, refl, sym, ap, subst, ◌∙◌, arith, inl, inr, append_assoc, cond}
+use Rattle.std.proofs.lemmas.List.{length-append, length-take-le, take-append-drop}
 use Rattle.std.proofs.lemmas.Bool.{ltb-true, ltb-false}
 use Rattle.std.proofs.Math.Seq.{take-append_seam, get_or-append_seam, take-append-add}
-use Rattle.number_sets.specs.Sets.{has, IsRising, IsSet}
+use Rattle.number_sets.specs.Sets.{has, IsRising}
 use Rattle.number_sets.specs.Options.{IsIn}
-use Rattle.number_sets.proofs.SetLemmas.{below_from, AreBelow-higher}
 use Rattle.problem_rules.specs.Problem.{Problem}
 use Rattle.problem_rules.specs.WellFormed.{IsWellFormed}
-use Rattle.pns_rules.specs.Shape.{Shape, shape_of}
+use Rattle.pns_rules.specs.Shape.{shape_of}
 use Rattle.pns_rules.specs.Structure.{IsStructure}
 use Rattle.pns_rules.specs.Listing.{IsListed, IsListing}
 use Rattle.pns_rules.proofs.ListingLemmas.{listing_is_one, listing_resumes}

@@ -1,5 +1,5 @@
 -- The text of a listing that is given one structure after another.
-use Rattle.std.proofs.Common.{◌≡◌, ◌++◌, ◌+◌, ◌-◌, ◌<◌, ◌≤◌, ◌↔◌, ℕ, suc, Bool, true, false, List, [], ◌∷◌, Option, Some, None, codes, length, map, take, nat_lt, refl, sym, ap, subst, ◌∙◌, arith, inl, inr, append_assoc, append-nil, cond}
+use Rattle.std.proofs.Common.{◌≡◌, ◌++◌, ◌+◌, ◌-◌, ◌<◌, ◌≤◌, ◌↔◌, ℕ, suc, List, [], ◌∷◌, Option, codes, length, map, take, refl, sym, ap, subst, ◌∙◌, arith, inr, append_assoc, append-nil, cond}
 use Rattle.std.specs.Io.KnownBytes.{Appends}
 use Rattle.std.proofs.KnownBytes.{Appends-nil, Appends-trans}
 use Rattle.std.proofs.lemmas.List.{map-append, length-append, take_all}

@@ -1,11 +1,10 @@
 -- The number that digits spell, one digit after another.
-use Rattle.std.proofs.Common.{◌≡◌, ◌==◌, ◌&&◌, ◌+◌, ◌-◌, ◌*◌, ◌<◌, ◌≤◌, ℕ, suc, Bool, true, false, List, [], ◌∷◌, Option, Some, None, length, get_or, drop, drop-cons, refl, sym, ap, ◌∙◌, cond, arith, nat_lt}
-use Rattle.std.specs.Prelude.{nat_le, not, if◌then◌else◌}
+use Rattle.std.proofs.Common.{◌≡◌, ◌&&◌, ◌+◌, ◌-◌, ◌*◌, ◌<◌, ◌≤◌, ℕ, suc, Bool, true, false, List, [], ◌∷◌, Option, Some, None, length, get_or, drop, drop-cons, refl, sym, ap, ◌∙◌, cond, arith}
+use Rattle.std.specs.Prelude.{nat_le, if◌then◌else◌}
 use Rattle.std.proofs.lemmas.Bool.{lt-leb}
 use Rattle.std.specs.List.{list_all}
 use Rattle.std.specs.Char.{is_ascii_digit}
 use Rattle.text_rules.specs.Amount.{number_from, number_of}
-use Rattle.studio.specs.Numeral.{is_numeral, has_leading_zero, number_within}
 
 number_from-grows : (n : ℕ) (cs : List ℕ) → n ≤ number_from n cs
 number_from-grows n [] = omega arith

@@ -1,8 +1,7 @@
-use Rattle.std.proofs.Common.{◌≡◌, ◌≤◌, ◌∷◌, [], refl, sym, ap, subst, ◌∙◌, inl, ℕ, List, codes, length, IfSome}
+use Rattle.std.proofs.Common.{◌≤◌, ◌∷◌, [], refl, sym, subst, inl, ℕ, List, codes, length, IfSome}
 use Rattle.number_sets.specs.Sets.{has}
 use Rattle.pns_rules.specs.Shape.{Shape, shape_of}
 use Rattle.pns_rules.specs.Structure.{IsStructure}
-use Rattle.pgraph.specs.Tables.{shape}
 use Rattle.studio.specs.Lines.{line}
 use Rattle.studio.specs.Listing.{ListingWork, RestSays, IsBadToken}
 use Rattle.studio.specs.Ending.{Tells}

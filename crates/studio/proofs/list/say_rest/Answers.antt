@@ -1,5 +1,4 @@
-use Rattle.std.proofs.Common.{◌≡◌, ◌≤◌, ◌<◌, ◌∷◌, ◌∙◌, List, ℕ, arith}
-use Rattle.structure_list.specs.Rest.{IsToCome}
+use Rattle.std.proofs.Common.{◌≡◌, ◌≤◌, ◌∷◌, ◌∙◌, arith}
 use Rattle.studio.proofs.Ending.{HasRisen-later}
 use Rattle.studio.proofs.Listings.{ended, starved, continued, stopped, one_more}
 use Rattle.studio.proofs.list.say_rest.Goals as goal

@@ -1,4 +1,4 @@
-use Rattle.std.proofs.Common.{◌≡◌, sym, ◌∙◌, suc, drop}
+use Rattle.std.proofs.Common.{sym, ◌∙◌, suc, drop}
 use Rattle.studio.proofs.Numerals.{number-next, spelled-above}
 use Rattle.studio.proofs.number.digits_within.Goals as goal
 
