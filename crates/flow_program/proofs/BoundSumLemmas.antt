@@ -1,29 +1,28 @@
 -- The walks that sum a bound: over the rows of a unit, over the rows, and over the units of the program.
-use Rattle.std.proofs.Common.{◌≡◌, ℕ, ◌+◌, ◌*◌, ◌-◌, ◌<◌, ◌≤◌, List, [], ◌∷◌, ◌++◌, length, true, false, Bool, refl, sym, ap, ◌∙◌, subst, arith, pos, ℤ, ◌+ℤ◌, ◌-ℤ◌, ◌*ℤ◌}
+use Rattle.std.proofs.Common.{◌≡◌, ℕ, ◌+◌, ◌*◌, ◌-◌, ◌<◌, ◌≤◌, List, [], ◌∷◌, ◌++◌, length, true, false, Bool, refl, sym, ap, ◌∙◌, arith, pos, ℤ, ◌+ℤ◌, ◌-ℤ◌, ◌*ℤ◌}
 use Rattle.std.proofs.Common.{Result, Ok, Err}
-use Rattle.std.specs.Prelude.{IfErr, nat_lt, not, ◌&&◌, ◌||◌}
+use Rattle.std.specs.Prelude.{IfErr, nat_lt, not, ◌&&◌}
 use Rattle.std.specs.Int.{int_min}
 use Rattle.std.specs.Ordering.{int_eq}
 use Rattle.std.proofs.lemmas.Int.{ints}
-use Rattle.std.proofs.lemmas.Bool.{lt-ltb, ltb-true}
-use Rattle.std.proofs.lemmas.List.{length-append}
+use Rattle.std.proofs.lemmas.Bool.{lt-ltb}
 use Rattle.int_rows.specs.Range.{InRange}
 use Rattle.integer_laws.specs.Total.{total}
 use Rattle.integer_laws.proofs.Totals.{total-agree}
-use Rattle.number_sets.specs.Sets.{has, listed, IsSet, IsWithin}
-use Rattle.number_sets.proofs.SetLemmas.{has-listed, same_sets, IsRising-listed, length_below}
+use Rattle.number_sets.specs.Sets.{has, IsSet, IsWithin}
+use Rattle.number_sets.proofs.SetLemmas.{has-listed, same_sets, IsRising-listed}
 use Rattle.problem_rules.specs.Problem.{Problem, rate_of}
 use Rattle.problem_rules.specs.WellFormed.{IsWellFormed}
 use Rattle.pns_rules.specs.Structure.{mats}
 use Rattle.pns_rules.specs.Nodes.{Node}
 use Rattle.flow_rules.specs.Net.{Net, net_of}
-use Rattle.flow_rules.specs.Relaxed.{stays, units, rows, row_low, row_high, unit_low, unit_cost, fixed_cost, reduced_cost, row_part, unit_part, bound}
+use Rattle.flow_rules.specs.Relaxed.{stays, rows, row_low, row_high, unit_low, unit_cost, reduced_cost, row_part, unit_part}
 use Rattle.flow_rules.specs.Steps.{AreInRange, IsFirstPast}
-use Rattle.flow_rules.specs.BoundSteps.{least_steps, rows_steps, rows_at, reduced_steps, unit_steps, units_steps, bound_steps}
+use Rattle.flow_rules.specs.BoundSteps.{least_steps, rows_steps, rows_at, reduced_steps, unit_steps, units_steps}
 use Rattle.flow_rules.proofs.LeadingLemmas.{Leads, leads_none, leads_one, leads_part, leads_past, leads_past_in, leads_all, leads_same, AreInRange-append}
-use Rattle.flow_rules.proofs.SameLemmas.{Agree, all_had, reduced-same}
+use Rattle.flow_rules.proofs.SameLemmas.{all_had, reduced-same}
 use Rattle.flow_rules.proofs.LastLemmas.{total_at_rows}
-use Rattle.flow_rules.proofs.NetLemmas.{IsNet, net_of_formed}
+use Rattle.flow_rules.proofs.NetLemmas.{net_of_formed}
 use Rattle.flow_rules.proofs.RelaxedLemmas.{rate_of_other}
 use Rattle.flow_rules.proofs.ZeroLemmas.{int_eq_zero, int_eq_other}
 use Rattle.flow_program.specs.Columns.{left_of, least_of, column_steps}

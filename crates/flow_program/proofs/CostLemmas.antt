@@ -1,10 +1,10 @@
 -- Costs summed over the materials of a unit, and over units.
-use Rattle.std.proofs.Common.{◌≡◌, ℕ, ◌+◌, ◌*◌, ◌<◌, ◌≤◌, ◌^◌, nat_lt, Bool, true, false, ◌&&◌, cond, List, [], ◌∷◌, length, get_or, refl, sym, ap, ◌∙◌, subst, arith, pos, ℤ, ◌+ℤ◌, ◌-ℤ◌, ◌*ℤ◌}
+use Rattle.std.proofs.Common.{◌≡◌, ℕ, ◌+◌, ◌*◌, ◌≤◌, ◌^◌, Bool, true, false, cond, List, [], length, refl, sym, ap, ◌∙◌, arith, pos, ℤ, ◌+ℤ◌, ◌-ℤ◌, ◌*ℤ◌}
 use Rattle.std.specs.Prelude.{unsigned_abs}
 use Rattle.std.proofs.lemmas.Int.{ints}
 use Rattle.integer_laws.specs.Total.{total, total_below}
 use Rattle.integer_laws.proofs.IndexTotals.{total_below-same}
-use Rattle.number_sets.specs.Sets.{has, listed, IsSet, IsWithin}
+use Rattle.number_sets.specs.Sets.{has, IsSet, IsWithin}
 use Rattle.number_sets.proofs.SetLemmas.{listed-is, below_from, length_below}
 use Rattle.problem_rules.specs.Problem.{Problem, rate_of}
 use Rattle.flow_rules.specs.Net.{net_of, million, size_cost}

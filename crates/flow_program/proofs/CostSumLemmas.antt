@@ -1,10 +1,10 @@
 -- The walk over the units of a network that sums its cost.
-use Rattle.std.proofs.Common.{◌≡◌, ℕ, ◌+◌, ◌*◌, ◌-◌, ◌<◌, ◌≤◌, List, [], ◌∷◌, ◌++◌, length, true, refl, sym, ap, ◌∙◌, subst, arith, pos, ℤ, ◌+ℤ◌, ◌*ℤ◌}
+use Rattle.std.proofs.Common.{◌≡◌, ℕ, ◌+◌, ◌*◌, ◌-◌, ◌<◌, ◌≤◌, List, [], ◌++◌, length, true, sym, ap, ◌∙◌, subst, arith, pos, ℤ, ◌+ℤ◌, ◌*ℤ◌}
 use Rattle.std.proofs.lemmas.Int.{ints}
 use Rattle.int_rows.specs.Range.{InRange}
 use Rattle.integer_laws.specs.Total.{total}
 use Rattle.integer_laws.proofs.Totals.{total-agree}
-use Rattle.number_sets.specs.Sets.{has, listed, IsSet, IsWithin}
+use Rattle.number_sets.specs.Sets.{has, IsSet, IsWithin}
 use Rattle.number_sets.proofs.SetLemmas.{listed-is, below_from}
 use Rattle.flow_rules.specs.Net.{Net, trillion, size_cost, units_of}
 use Rattle.flow_rules.specs.Flows.{cost}
@@ -12,7 +12,7 @@ use Rattle.flow_rules.specs.Steps.{AreInRange, IsFirstPast}
 use Rattle.flow_rules.specs.CostSteps.{unit_steps, cost_steps_from, cost_steps}
 use Rattle.flow_rules.proofs.LeadingLemmas.{Leads, leads_none, leads_part, leads_past_in, leads_all, leads_same}
 use Rattle.flow_rules.proofs.SameLemmas.{Agree, all_had, costs-same}
-use Rattle.flow_program.proofs.WalkLemmas.{IsNext, has_next, rest_within}
+use Rattle.flow_program.proofs.WalkLemmas.{IsNext, rest_within}
 
 -- ---- one unit
 pub third_past : (fixed each size d sum : ℤ) (at : ℕ) (a b : ℤ) → InRange (fixed *ℤ d) → a ≡ fixed *ℤ d → InRange (sum +ℤ a) → ¬ InRange (each *ℤ size)

@@ -5,12 +5,11 @@ use Rattle.std.specs.List.{AllByRecursion}
 use Rattle.std.specs.Ordering.{int_eq}
 use Rattle.std.proofs.lemmas.Int.{ints}
 use Rattle.std.proofs.lemmas.Bool.{lt-ltb, eqb-true}
-use Rattle.std.proofs.lemmas.List.{length-append}
 use Rattle.int_rows.specs.Range.{InRange}
 use Rattle.integer_laws.specs.Total.{total}
 use Rattle.integer_laws.proofs.Totals.{total-agree}
 use Rattle.number_sets.specs.Sets.{has, listed, IsSet, IsWithin}
-use Rattle.number_sets.proofs.SetLemmas.{has-listed, same_sets, IsRising-listed, listed-is, below_from}
+use Rattle.number_sets.proofs.SetLemmas.{has-listed, same_sets, IsRising-listed}
 use Rattle.problem_rules.specs.Problem.{Problem, rate_of, terms_have, unit_at}
 use Rattle.problem_rules.specs.WellFormed.{IsWellFormed}
 use Rattle.pns_rules.specs.Shape.{Shape, IsProper}

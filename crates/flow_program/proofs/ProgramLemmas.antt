@@ -1,9 +1,9 @@
 -- The lists of a program, and the sizes of its numbers.
-use Rattle.std.proofs.Common.{◌≡◌, ℕ, zero, suc, ◌+◌, ◌*◌, ◌<◌, ◌≤◌, ◌^◌, List, [], ◌∷◌, ◌++◌, length, true, false, Bool, cond, refl, sym, ap, ◌∙◌, subst, arith, pos, negsuc, ℤ, neg_ℤ, ◌+ℤ◌, ◌-ℤ◌, ◌*ℤ◌, ◌≤ℤ◌}
-use Rattle.std.specs.Prelude.{map, All, unsigned_abs, int_lt, int_div, ◌||◌}
+use Rattle.std.proofs.Common.{◌≡◌, ℕ, zero, suc, ◌*◌, ◌<◌, ◌≤◌, ◌^◌, List, [], ◌∷◌, ◌++◌, length, true, false, Bool, cond, refl, sym, ap, ◌∙◌, arith, pos, negsuc, ℤ, neg_ℤ, ◌+ℤ◌, ◌*ℤ◌, ◌≤ℤ◌}
+use Rattle.std.specs.Prelude.{map, unsigned_abs, int_div, ◌||◌}
 use Rattle.std.specs.List.{AllByRecursion}
 use Rattle.std.specs.Ordering.{int_eq}
-use Rattle.std.proofs.lemmas.Int.{ints, unsigned_abs-mul}
+use Rattle.std.proofs.lemmas.Int.{ints}
 use Rattle.std.proofs.lemmas.List.{length-append, length-map, append_assoc, append-nil}
 use Rattle.std.proofs.lemmas.List.Elements.{All-from_recursion}
 use Rattle.std.proofs.Math.Nat.{div-le_self}
@@ -15,7 +15,7 @@ use Rattle.problem_rules.specs.Problem.{Problem, rate_of, rate_in, terms_have, u
 use Rattle.problem_rules.specs.WellFormed.{IsWellFormed, IsInRange}
 use Rattle.pns_rules.specs.Structure.{mats}
 use Rattle.pns_rules.specs.Nodes.{Node}
-use Rattle.flow_rules.specs.Net.{Net, net_of, million, trillion, size_cost, units_of, low_end, high_end}
+use Rattle.flow_rules.specs.Net.{Net, net_of, million, trillion, size_cost, units_of}
 use Rattle.flow_rules.specs.Relaxed.{stays, units, rows, lower_at, row_low, row_high, unit_low, unit_cost, slope, fixed_cost}
 use Rattle.flow_rules.specs.Program as rules
 use Rattle.flow_rules.specs.Program.{Program, program_of, rates_over, IsProgram, AreRanges}

@@ -1,5 +1,5 @@
 -- Sizes of products and sums.
-use Rattle.std.proofs.Common.{◌≡◌, ℕ, ◌*◌, ◌+◌, ◌≤◌, ◌^◌, arith, ℤ, ◌+ℤ◌, ◌-ℤ◌, ◌*ℤ◌, SFits}
+use Rattle.std.proofs.Common.{ℕ, ◌*◌, ◌+◌, ◌≤◌, ◌^◌, arith, ℤ, ◌+ℤ◌, ◌-ℤ◌, ◌*ℤ◌, SFits}
 use Rattle.std.specs.Prelude.{unsigned_abs}
 use Rattle.std.specs.Int.{w128}
 use Rattle.std.proofs.lemmas.Int.{ints, unsigned_abs-mul, fits_signed_from_abs}

@@ -1,8 +1,7 @@
 -- A walk over a set from its least number on: what is left of it after that number, and what has been passed.
-use Rattle.std.proofs.Common.{◌≡◌, ℕ, ◌+◌, ◌<◌, ◌≤◌, ◌==◌, Bool, true, false, not, ◌||◌, Option, Some, List, [], ◌∷◌, length, cond, refl, sym, ap, ◌∙◌, subst, arith}
+use Rattle.std.proofs.Common.{◌≡◌, ℕ, ◌<◌, ◌≤◌, ◌==◌, Bool, true, false, not, ◌||◌, Some, List, [], ◌∷◌, length, refl, sym, ap, ◌∙◌, subst, arith}
 use Rattle.std.proofs.lemmas.Bool.{eq-eqb, ne_eqb, eqb-true}
 use Rattle.number_sets.specs.Sets.{has, first, kept, IsBelowAll, IsRising, AreBelow, IsSet, IsWithin}
-use Rattle.number_sets.proofs.SetLemmas.{below_not_had, has_below}
 
 -- nothing above x is x
 keeps_above : (x : ℕ) (xs : List ℕ) → IsBelowAll x xs → kept (λ v. not (x == v)) xs ≡ xs

@@ -1,4 +1,14 @@
-//! The flow program of a node.
+//! Flows of a plant, exactly: the program of a node, its bounds and refutations, and the cost and the feasibility of given
+//! flows. The definitions, and the laws that make a bound a bound, stand in `flow_rules`.
+//!
+//! [`bound_of`], [`refutes`], [`cost_of`] and [`feasible`] take a problem beside its graph and no memory. Each gives the
+//! value of its definition exactly where every number that is formed on the way is in range, and else, as [`PastSum`], the
+//! number of the first that is not. The numbers that a sum starts from, as costs and ranges, cannot leave the range.
+//! [`Program::of`] gives the numbers of a node's program as lists, from which a simplex method starts; [`Column`], [`Place`]
+//! and [`FlowStep`] name what such a method meets.
+//!
+//! Modules: `costs`, `ranges` and `rates` read a problem; `node_sets` and `node_numbers` say what a node makes of it; `tables`
+//! finds a value by the number of a material or unit; `bound`, `cost`, `feasibility` and `program` are the calls.
 #![tactic(auto)]
 
 mod bound;
@@ -20,6 +30,3 @@ pub use feasibility::feasible;
 pub use past_sum::PastSum;
 pub use place::{Column, FlowStep, Place};
 pub use program::Program;
-
-#[cfg(test)]
-mod tests;

@@ -1,4 +1,4 @@
-use Rattle.std.proofs.Common.{◌≡◌, ◌∙◌, refl, sym, ap, SFits, rules, ℤ, ℕ, List, length, arith, ◌+◌, ◌*◌, ◌<◌, ◌*ℤ◌, true, subst}
+use Rattle.std.proofs.Common.{◌≡◌, ◌∙◌, sym, ap, SFits, rules, ℕ, List, length, arith, ◌+◌, ◌*◌, ◌<◌, ◌*ℤ◌, true, subst}
 use Rattle.std.specs.Int.{w128}
 use Rattle.std.proofs.lemmas.Int.{to_z-of_z}
 use Rattle.std.proofs.lemmas.Result.{IfOk-weaker}

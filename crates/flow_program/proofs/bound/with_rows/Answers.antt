@@ -1,13 +1,12 @@
-use Rattle.std.proofs.Common.{◌≡◌, ◌∙◌, refl, sym, ap, SFits, rules, to_z, get_or, pos, ℤ, ℕ, ◌==◌, not, List, length, arith, ◌+◌, ◌*◌, ◌≤◌, ◌+ℤ◌, subst}
-use Rattle.std.specs.Int.{w64, w128}
+use Rattle.std.proofs.Common.{◌∙◌, refl, sym, SFits, rules, to_z, get_or, pos, ◌==◌, not, arith}
+use Rattle.std.specs.Int.{w128}
 use Rattle.std.proofs.lemmas.Int.{to_z-of_z}
-use Rattle.number_sets.specs.Sets.{has, kept}
-use Rattle.number_sets.proofs.OptionLemmas.{first_none}
+use Rattle.number_sets.specs.Sets.{kept}
 use Rattle.number_sets.proofs.SetLemmas.{length_below}
 use Rattle.pgraph.specs.View.{node_of}
 use Rattle.flow_rules.specs.Net.{net_of}
 use Rattle.flow_program.specs.Entry.{entry}
-use Rattle.flow_program.proofs.WalkLemmas.{IsNext, is_next, shorter, next_had, next_below}
+use Rattle.flow_program.proofs.WalkLemmas.{is_next, shorter, next_below}
 use Rattle.flow_program.proofs.BoundSumLemmas.{row_sum_room, row_past, row_sum_more}
 use Rattle.flow_program.proofs.bound.with_rows.Goals as goal
 

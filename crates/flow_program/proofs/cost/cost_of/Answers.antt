@@ -7,7 +7,7 @@ use Rattle.number_sets.proofs.SetLemmas.{length_below}
 use Rattle.pns_rules.specs.Shape.{Shape}
 use Rattle.flow_rules.specs.Net.{net_of, trillion, beside}
 use Rattle.flow_program.specs.Entry.{entry}
-use Rattle.flow_program.proofs.WalkLemmas.{IsNext, is_next, shorter, next_had, next_below, next_counts}
+use Rattle.flow_program.proofs.WalkLemmas.{IsNext, is_next, shorter, next_had, next_below}
 use Rattle.flow_program.proofs.CostSumLemmas.{cost_past, cost_sum_more, cost_sum_room, cost_value, cost_in_range, cost_first_past}
 use Rattle.flow_program.proofs.cost.cost_of.Goals as goal
 

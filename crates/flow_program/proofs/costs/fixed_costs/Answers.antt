@@ -1,10 +1,9 @@
-use Rattle.std.proofs.Common.{◌∙◌, refl, sym, SFits, rules, to_z, arith, ap, ℤ, ◌+ℤ◌, ◌*ℤ◌}
+use Rattle.std.proofs.Common.{◌∙◌, refl, sym, SFits, rules, to_z, arith, ◌+ℤ◌}
 use Rattle.std.specs.Int.{w128}
 use Rattle.std.proofs.lemmas.Int.{to_z-of_z}
-use Rattle.number_sets.proofs.OptionLemmas.{first_none}
 use Rattle.flow_program.proofs.SizeLemmas.{fits_small, size_add}
 use Rattle.flow_program.proofs.WalkLemmas.{IsNext, is_next, shorter, has_next}
-use Rattle.flow_program.proofs.CostLemmas.{sum_begins, sum_more, sum_small, sum_ends}
+use Rattle.flow_program.proofs.CostLemmas.{sum_more, sum_small}
 use Rattle.flow_program.proofs.costs.fixed_costs.Goals as goal
 
 pub trillionfold-requires : goal.trillionfold-requires

@@ -5,7 +5,7 @@ use Rattle.std.proofs.lemmas.Int.{to_z-of_z}
 use Rattle.number_sets.proofs.OptionLemmas.{first_none}
 use Rattle.flow_program.proofs.SizeLemmas.{fits_small, size_sub}
 use Rattle.flow_program.proofs.WalkLemmas.{IsNext, is_next, shorter, has_next}
-use Rattle.flow_program.proofs.CostLemmas.{cost_begins, cost_more, cost_so_far_small, cost_ends}
+use Rattle.flow_program.proofs.CostLemmas.{cost_more, cost_so_far_small, cost_ends}
 use Rattle.flow_program.proofs.costs.size_cost.Goals as goal
 
 pub returns-in_default-clause-value : goal.returns-in_default-clause-value

@@ -1,8 +1,7 @@
-use Rattle.std.proofs.Common.{◌≡◌, ◌∙◌, refl, sym, ap, ◌||◌, List, ℕ, true, length, ◌<◌}
+use Rattle.std.proofs.Common.{◌≡◌, ◌∙◌, refl, ap, ◌||◌, List, ℕ, length}
 use Rattle.std.specs.Prelude.{nat_lt}
 use Rattle.number_sets.specs.Sets.{has}
 use Rattle.number_sets.proofs.SetLemmas.{has-union}
-use Rattle.pns_rules.specs.Structure.{mats}
 use Rattle.pgraph.specs.Tables.{shape}
 use Rattle.pgraph.specs.View.{node_of}
 use Rattle.flow_program.proofs.NodeSetLemmas.{units_below, units_listed, rows_listed}

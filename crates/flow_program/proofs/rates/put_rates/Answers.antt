@@ -1,4 +1,4 @@
-use Rattle.std.proofs.Common.{◌≡◌, ap, ◌∙◌, sym, subst, ℕ, ◌||◌, List, true, false, cond, get_or, pos}
+use Rattle.std.proofs.Common.{◌≡◌, ap, ◌∙◌, subst, ℕ, ◌||◌, List, true, false, cond, get_or, pos}
 use Rattle.number_sets.specs.Sets.{has}
 use Rattle.number_sets.proofs.SetLemmas.{has-union}
 use Rattle.problem_rules.specs.Problem.{OperatingUnit, Term, unit_at, terms_have, rate_in}
