@@ -1,20 +1,22 @@
 -- The laws of trees that pass, for the trees of a problem.
-use Rattle.std.proofs.Common.{◌≡◌, ◌⊎◌, ℕ, Bool, true, false, [], ◌∷◌, subst, inl, inr}
+use Rattle.std.proofs.Common.{◌≡◌, ◌⊎◌, ℕ, zero, suc, ◌+◌, ◌^◌, ◌<◌, ◌≤◌, Bool, true, false, List, [], ◌∷◌, length, subst, inl, inr, arith}
 use Rattle.number_sets.specs.Sets.{Avoids}
 use Rattle.problem_rules.specs.Problem.{Problem}
 use Rattle.problem_rules.specs.Validity.{IsValid}
-use Rattle.pns_rules.specs.Shape.{shape_of}
+use Rattle.pns_rules.specs.Shape.{Shape, shape_of}
 use Rattle.pns_rules.specs.Structure.{IsStructure, IsAllowed, InFamily}
-use Rattle.pns_rules.specs.Nodes.{Node}
+use Rattle.pns_rules.specs.Nodes.{Node, is_free}
 use Rattle.pns_rules.proofs.ProperLemmas.{proper_if_valid}
-use Rattle.tree_rules.specs.Tree.{leaf, Stands}
+use Rattle.tree_rules.specs.Tree.{End, branch, leaf, TreeNode, after_all, Stands}
 use Rattle.tree_rules.specs.Claim.{Claim, claimed_cost}
 use Rattle.tree_rules.specs.Leaf.{Leaf, untried, LeafPasses}
 use Rattle.tree_rules.specs.Accepted.{Tree, first_node, Proves}
-use Rattle.tree_laws.specs.Laws.{CostsEnough, AcceptedIsLeast, AcceptedIsOptimal, IsAtLeaf, LeavesCover, PartialIsLeast, LeavesAreApart, LeavesAreDifferent, AcceptedIsPartial, PartialIsAccepted}
+use Rattle.tree_laws.specs.Laws.{CostsEnough, AcceptedIsLeast, AcceptedIsOptimal, IsAtLeaf, LeavesCover, PartialIsLeast, LeavesAreApart, LeavesAreDifferent, free_units, LeanIsSmall, AcceptedIsPartial, PartialIsAccepted}
 use Rattle.tree_laws.proofs.CoverLemmas.{IsOf, IsUnder, covers}
 use Rattle.tree_laws.proofs.UpLemmas.{structure_goes_up, IsOver, over_goes_up}
 use Rattle.tree_laws.proofs.SidesLemmas.{stands_apart}
+use Rattle.tree_laws.proofs.CountLemmas.{free_count, length-listed}
+use Rattle.tree_laws.proofs.FewLemmas.{few}
 use Rattle.tree_laws.proofs.LeafLemmas.{scale_of, leaf_holds}
 use Rattle.tree_laws.proofs.OpenLemmas.{passes_too, leaf_whole_partial, claim_whole_partial, leaf_partial_whole, claim_partial_whole}
 use Rattle.tree_laws.proofs.ApartLemmas.{leaves_apart}
@@ -89,3 +91,24 @@ partial_is_accepted p start claim tree a apart closed = record {
       (λ k n l w h. leaf_partial_whole p (claimed_cost claim) n l (λ e. closed k n (subst (λ (v : Leaf). Stands (shape_of p) (start ∷ []) tree k n (leaf v)) e w)) h)
       a.passes;
 }
+
+-- ---- lean trees
+
+-- the tree without the steps of its root, from where they lead
+abbrev bare : TreeNode Leaf → TreeNode Leaf
+bare t = record { option = t.option; steps = []; end = t.end }
+
+stands_there : (g : Shape) (start : Node) (t : TreeNode Leaf) (ts : List (TreeNode Leaf)) (k : ℕ) (n : Node) (e : End Leaf) → Stands g (after_all g start t.steps ∷ []) (bare t ∷ ts) k n e → Stands g (start ∷ []) (t ∷ ts) k n e
+stands_there g start t ts zero n e h = h
+stands_there g start t ts (suc k) n e h = h
+
+pub lean_is_small : LeanIsSmall
+lean_is_small partial p start claim [] a lean n e h = absurd h
+lean_is_small partial p start claim (t ∷ ts) a lean n e h =
+    let m : Node = after_all (shape_of p) start t.steps in
+    let small : suc (length ts) + 1 ≤ 2 ^ suc (free_count (shape_of p) m) + 0
+    = few (shape_of p) (LeafPasses partial p (claimed_cost claim)) (m ∷ []) (bare t ∷ ts) (tt, a.passes.1, a.passes.2)
+    (λ k x c o s. lean.splits k x c o (stands_there (shape_of p) start t ts k o (branch x c) s)) in
+    let same : free_units (shape_of p) m ≡ free_count (shape_of p) m = length-listed (shape_of p).units (is_free (shape_of p) m) in
+    let here : suc (length ts) < 2 ^ suc (free_units (shape_of p) m) = rw same (let less : suc (length ts) < 2 ^ suc (free_count (shape_of p) m) = omega (arith, small) in less) in
+    subst (λ (w : Node). suc (length ts) < 2 ^ suc (free_units (shape_of p) w)) h.0 here

@@ -1,7 +1,9 @@
 pub mod AcceptedLemmas
 pub mod ApartLemmas
+pub mod CountLemmas
 pub mod CoverLemmas
 pub mod FaultLemmas
+pub mod FewLemmas
 pub mod LeafLemmas
 pub mod OneLemmas
 pub mod OpenLemmas

@@ -1,17 +1,18 @@
 -- Laws of branch trees, each of which a public function of this crate has as its contract. Each speaks of every valid problem.
-use Rattle.std.specs.Prelude.{◌≡◌, ◌⊎◌, ℕ, ℤ, Bool, [], ◌∷◌, Option}
-use Rattle.number_sets.specs.Sets.{Avoids}
+use Rattle.std.specs.Prelude.{◌≡◌, ◌⊎◌, ℕ, suc, ◌<◌, ◌^◌, ℤ, Bool, [], ◌∷◌, length, Option}
+use Rattle.number_sets.specs.Sets.{listed, Avoids}
 use Rattle.problem_rules.specs.Problem.{Problem}
 use Rattle.problem_rules.specs.Validity.{IsValid}
-use Rattle.pns_rules.specs.Shape.{shape_of}
+use Rattle.pns_rules.specs.Shape.{Shape, shape_of}
 use Rattle.pns_rules.specs.Structure.{IsStructure, IsAllowed, InFamily}
-use Rattle.pns_rules.specs.Nodes.{Node}
+use Rattle.pns_rules.specs.Nodes.{Node, is_free}
 use Rattle.flow_rules.specs.Net.{net_of}
 use Rattle.flow_rules.specs.Flows.{IsFlows, cost}
 use Rattle.tree_rules.specs.declared.why.Why.{Why}
-use Rattle.tree_rules.specs.Tree.{leaf, Stands}
+use Rattle.tree_rules.specs.Tree.{End, leaf, Stands}
 use Rattle.tree_rules.specs.Claim.{Network, network, Claim, unknown, CostOver, claimed_cost, IsAtLeast, IsFeasible, ClaimPasses, ClaimFails}
-use Rattle.tree_rules.specs.Leaf.{Leaf, untried, LeafPasses}
+use Rattle.tree_rules.specs.Leaf.{Leaf, untried, IsUntried, LeafPasses}
+use Rattle.tree_rules.specs.Lean.{IsLean}
 use Rattle.tree_rules.specs.Accepted.{Tree, first_node, Proves, IsAccepted, IsPartial, NodeIsFault}
 
 -- any flows for the units of s cost at least what is claimed; where no cost is claimed there are none
@@ -83,6 +84,19 @@ LeavesAreDifferent =
     (partial : Bool) (p : Problem) → IsValid p → (start : Node) (claim : Claim) (tree : Tree) → Avoids start.inside start.outside
     → Proves partial p start claim tree → (j k : ℕ) (n : Node) (a b : Leaf)
     → Stands (shape_of p) (start ∷ []) tree j n (leaf a) → Stands (shape_of p) (start ∷ []) tree k n (leaf b) → j ≡ k
+
+-- ---- lean trees
+
+-- how many units are neither taken in nor left out
+abbrev pub free_units : Shape → Node → ℕ
+free_units g n = length (listed g.units (is_free g n))
+
+-- a lean tree has fewer nodes than twice the number of sets of units that are free where the steps of its root lead
+abbrev pub LeanIsSmall : Type 0
+LeanIsSmall =
+    (partial : Bool) (p : Problem) (start : Node) (claim : Claim) (tree : Tree) → Proves partial p start claim tree
+    → IsLean p IsUntried (claimed_cost claim) start tree
+    → (n : Node) (e : End Leaf) → Stands (shape_of p) (start ∷ []) tree 0 n e → length tree < 2 ^ suc (free_units (shape_of p) n)
 
 -- ---- whole and partial
 

@@ -24,6 +24,9 @@ pub data Leaf : Type 0 where
   bounded : ℤ → List ℤ → Leaf
   untried : Leaf
 
+abbrev pub IsUntried : Leaf → Type 0
+IsUntried l = l ≡ untried
+
 -- there is a multiplier for each row
 abbrev pub IsOneEach : Problem → Node → List ℤ → Type 0
 IsOneEach p n ys = length ys ≡ length (rows (net_of p) n)
