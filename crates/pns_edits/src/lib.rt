@@ -24,6 +24,3 @@ mod unit;
 
 pub use migration::{MigrateFault, migrate};
 pub use script::apply;
-
-#[cfg(test)]
-mod tests;
