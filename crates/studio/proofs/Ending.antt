@@ -85,3 +85,8 @@ Ends-from P Q before before' after old old' new status eb eo more e =
     subst (λ (o : Option (List ℕ)). Ends Q (HasRisen before after) o new status) eo
     (subst (λ (n : ℕ). Ends Q (HasRisen n after) old' new status) eb
     (Ends-map P Q (HasRisen before' after) (HasRisen before' after) old' new status more (λ r. r) e))
+
+-- the same over another shelf, on which a count that rose here rose too
+pub Says-over : (answers answers' : Status → List (List ℕ) → Type 0) (is_file is_file' : List ℕ → Type 0) (shelves shelves' : Shelves) → ((s : Status) (lines : List (List ℕ)) → answers s lines → answers' s lines) → ((name : List ℕ) → is_file name → is_file' name) → ((name : List ℕ) → HasRisen (shelves.before name) (shelves.after name) → HasRisen (shelves'.before name) (shelves'.after name)) → (s : Status) (t : List ℕ) → Says answers is_file shelves s t → Says answers' is_file' shelves' s t
+Says-over answers answers' is_file is_file' shelves shelves' more file rise ReadFault t e = (e.0, file e.0 e.1, rise e.0 e.2, e.3)
+Says-over answers answers' is_file is_file' shelves shelves' more file rise s t e = Tells-map answers answers' more s t e

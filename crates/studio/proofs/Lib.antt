@@ -1,4 +1,8 @@
 pub mod Ending
+pub mod Put
+pub mod Within
+pub mod EditCounts
+pub mod Scripts
 pub mod NameLists
 pub mod Maximal
 pub mod Named

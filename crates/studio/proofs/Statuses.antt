@@ -1,18 +1,22 @@
 -- The statuses with which a call may end.
 use Rattle.std.proofs.Common.{◌≡◌, ◌⊎◌, ◌<◌, ◌≤◌, ◌∷◌, [], Some, None, IsSomeAnd, refl, inl, inr, List, ℕ, Option, subst, ap, arith, length}
 use Rattle.problem_rules.specs.Problem.{Problem}
+use Rattle.edit_rules.specs.Edit.{Edit}
 use Rattle.pgraph.specs.declared.verdict.Verdict.{Verdict}
 use Rattle.pgraph.specs.declared.verdict.Verdict.TheVariants.{Meets, Breaks}
 use Rattle.pns_io.specs.Outside.{HasRisen}
-use Rattle.studio.specs.Command.{Command, Max, Axioms, Listing, command_of, IsFileOf, IsFileWord}
+use Rattle.studio.specs.Command.{Command, Max, Axioms, Listing, Make, Migrate, Editing, Undoing, command_of, IsFileOf, IsFileWord}
 use Rattle.studio.specs.Reading.{AreHeld, FileFault, file_limit}
 use Rattle.studio.specs.Max.{MaxWork}
 use Rattle.studio.specs.Listing.{ListingWork}
+use Rattle.studio.specs.Migrate.{MigrateWork}
+use Rattle.studio.specs.Script.{ScriptFault, OnScript}
+use Rattle.studio.specs.Edits.{EditWork, UndoWork}
 use Rattle.studio.specs.Axioms.{NamesSay, VerdictSays, first_stranger}
 use Rattle.studio.specs.Ending.{Shelves, Ends, IsOneOf}
 use Rattle.studio.specs.Answers.{AnswersTo, CommandAnswers, WordsSay, IsUndisturbed, statuses_of}
 use Rattle.studio.specs.declared.status.Status.{Status}
-use Rattle.studio.specs.declared.status.Status.TheVariants.{Done, Refused, Usage, BadProblem, ReadFault, WriteFault, Memory, TooLong, BadToken}
+use Rattle.studio.specs.declared.status.Status.TheVariants.{Done, Refused, Usage, BadProblem, ReadFault, WriteFault, Memory, TooLong, BadToken, BadEdit, NotMigrated}
 
 -- a file that gives no problem, where it is held within the limit or not
 fault_status : (name file : List ℕ) (s : Status) (lines : List (List ℕ)) → FileFault name file s lines → (s ≡ BadProblem) ⊎ ((s ≡ TooLong) × (file_limit < length file))
@@ -37,10 +41,27 @@ listing_status word count p Done lines h = inl refl
 listing_status word count p BadToken lines h = inr refl
 listing_status word count p s lines h = absurd h
 
+migrate_status : (years : ℕ) (p : Problem) (s : Status) (lines : List (List ℕ)) → MigrateWork years p s lines → (s ≡ Done) ⊎ (s ≡ NotMigrated)
+migrate_status years p Done lines h = inl refl
+migrate_status years p NotMigrated lines h = inr refl
+migrate_status years p s lines h = absurd h
+
+script_status : (name : List ℕ) (p : Problem) (file : List ℕ) (s : Status) (lines : List (List ℕ)) → ScriptFault name p file s lines → (s ≡ BadEdit) ⊎ ((s ≡ TooLong) × (file_limit < length file))
+script_status name p file TooLong lines h = inr (refl, h.0)
+script_status name p file BadEdit lines h = inl refl
+script_status name p file s lines h = absurd h
+
 -- the statuses of a command, where its file is within the limit
 within_limit : (held : Option (List ℕ)) (file : List ℕ) → IsSomeAnd held (λ told. length told ≤ file_limit) → AreHeld held file → file_limit < length file → ⊥
 within_limit None file h is long = absurd h
 within_limit (Some told) file h is long = let same = ap length is in absurd (omega arith)
+
+edits_status : (work : Problem → List Edit → Status → List (List ℕ) → Type 0) (held : List ℕ → Option (List ℕ)) (name : List ℕ) (p : Problem) (s : Status) (lines : List (List ℕ)) → ((edits : List Edit) → work p edits s lines → s ≡ Done) → OnScript work held name p s lines → IsSomeAnd (held name) (λ told. length told ≤ file_limit) → (s ≡ Done) ⊎ (s ≡ BadEdit)
+edits_status work held name p s lines done (file, is, inl fault) short = elim (script_status name p file s lines fault) [
+  | inl q ↦ inr q
+  | inr q ↦ absurd (within_limit (held name) file short is q.1)
+]
+edits_status work held name p s lines done (file, is, inr rest) short = inl (done rest.0.edits rest.2)
 
 command_status : (held : List ℕ → Option (List ℕ)) (command : Command) (s : Status) (lines : List (List ℕ)) → CommandAnswers held command s lines → ((name : List ℕ) → IsFileOf command name → IsSomeAnd (held name) (λ told. length told ≤ file_limit)) → IsOneOf (statuses_of command) s
 command_status held (Max name) s lines (file, is, inl fault) short = elim (fault_status name file s lines fault) [
@@ -64,6 +85,31 @@ command_status held (Listing name after count) s lines (file, is, inr work) shor
   | inl q ↦ inl q
   | inr q ↦ inr (inl q)
 ]
+command_status held (Make number units) s lines h short = inl h.0
+command_status held (Migrate name years) s lines (file, is, inl fault) short = elim (fault_status name file s lines fault) [
+  | inl q ↦ inr (inr (inl q))
+  | inr q ↦ absurd (within_limit (held name) file (short name refl) is q.1)
+]
+command_status held (Migrate name years) s lines (file, is, inr work) short = elim (migrate_status years work.0 s lines work.2) [
+  | inl q ↦ inl q
+  | inr q ↦ inr (inl q)
+]
+command_status held (Editing name script) s lines (file, is, inl fault) short = elim (fault_status name file s lines fault) [
+  | inl q ↦ inr (inr (inl q))
+  | inr q ↦ absurd (within_limit (held name) file (short name (inl refl)) is q.1)
+]
+command_status held (Editing name script) s lines (file, is, inr work) short = elim (edits_status EditWork held script work.0 s lines (λ edits h. h.0) work.2 (short script (inr refl))) [
+  | inl q ↦ inl q
+  | inr q ↦ inr (inl q)
+]
+command_status held (Undoing name script) s lines (file, is, inl fault) short = elim (fault_status name file s lines fault) [
+  | inl q ↦ inr (inr (inl q))
+  | inr q ↦ absurd (within_limit (held name) file (short name (inl refl)) is q.1)
+]
+command_status held (Undoing name script) s lines (file, is, inr work) short = elim (edits_status UndoWork held script work.0 s lines (λ edits h. h.0) work.2 (short script (inr refl))) [
+  | inl q ↦ inl q
+  | inr q ↦ inr (inl q)
+]
 
 -- some status of a command, whatever its file holds
 answer_status : (held : List ℕ → Option (List ℕ)) (command : Command) (lines : List (List ℕ)) → CommandAnswers held command Usage lines → ⊥
@@ -73,6 +119,15 @@ answer_status held (Axioms name units) lines (file, is, inl fault) = absurd faul
 answer_status held (Axioms name units) lines (file, is, inr work) = elim (names_status units work.0 (first_stranger work.0 units) Usage lines work.2) [ inl q ↦ cc | inr q ↦ cc ]
 answer_status held (Listing name after count) lines (file, is, inl fault) = absurd fault
 answer_status held (Listing name after count) lines (file, is, inr work) = absurd work.2
+answer_status held (Make number units) lines h = let q : Usage ≡ Done = h.0 in cc
+answer_status held (Migrate name years) lines (file, is, inl fault) = absurd fault
+answer_status held (Migrate name years) lines (file, is, inr work) = absurd work.2
+answer_status held (Editing name script) lines (file, is, inl fault) = absurd fault
+answer_status held (Editing name script) lines (file, is, inr (p, given, (bytes, there, inl fault))) = absurd fault
+answer_status held (Editing name script) lines (file, is, inr (p, given, (bytes, there, inr rest))) = let q : Usage ≡ Done = rest.2.0 in cc
+answer_status held (Undoing name script) lines (file, is, inl fault) = absurd fault
+answer_status held (Undoing name script) lines (file, is, inr (p, given, (bytes, there, inl fault))) = absurd fault
+answer_status held (Undoing name script) lines (file, is, inr (p, given, (bytes, there, inr rest))) = let q : Usage ≡ Done = rest.2.0 in cc
 
 usage_answers : (held : List ℕ → Option (List ℕ)) (found : Option Command) (lines : List (List ℕ)) → AnswersTo held found Usage lines → found ≡ None
 usage_answers held None lines h = refl
@@ -82,6 +137,10 @@ memory_status : (command : Command) → IsOneOf (statuses_of command) Memory
 memory_status (Max file) = inr (inr (inl refl))
 memory_status (Axioms file units) = inr (inr (inr (inl refl)))
 memory_status (Listing file after count) = inr (inr (inr (inl refl)))
+memory_status (Make number units) = inr (inl refl)
+memory_status (Migrate file years) = inr (inr (inr (inl refl)))
+memory_status (Editing file script) = inr (inr (inr (inl refl)))
+memory_status (Undoing file script) = inr (inr (inr (inl refl)))
 
 module _ (shelves : Shelves) (words : List (List ℕ)) (risen : Type 0) (old new : Option (List ℕ)) where
   pub usage_ends : (s : Status) → Ends (WordsSay shelves words) risen old new s → s ≡ Usage → command_of words ≡ None

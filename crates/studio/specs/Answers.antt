@@ -1,20 +1,28 @@
 -- What each command says, from its words and what the shelf holds.
 use Rattle.std.specs.Prelude.{◌≡◌, ◌≤◌, ℕ, List, [], ◌∷◌, Option, Some, None, IsSomeAnd, length, codes}
 use Rattle.pns_io.specs.Outside.{HasRisen}
-use Rattle.studio.specs.Command.{Command, Max, Axioms, Listing, command_of, IsFileOf, IsFileWord}
+use Rattle.studio.specs.Command.{Command, Max, Axioms, Listing, Make, Migrate, Editing, Undoing, command_of, IsFileOf, IsFileWord}
 use Rattle.studio.specs.Reading.{OnFile, file_limit}
 use Rattle.studio.specs.Max.{MaxWork}
 use Rattle.studio.specs.Axioms.{AxiomsWork}
 use Rattle.studio.specs.Listing.{ListingWork}
+use Rattle.studio.specs.Make.{MakeWork}
+use Rattle.studio.specs.Script.{OnScript}
+use Rattle.studio.specs.Migrate.{MigrateWork}
+use Rattle.studio.specs.Edits.{EditWork, UndoWork}
 use Rattle.studio.specs.Ending.{Shelves, Says}
 use Rattle.studio.specs.declared.status.Status.{Status}
-use Rattle.studio.specs.declared.status.Status.TheVariants.{Done, Refused, Usage, BadProblem, Memory, BadToken}
+use Rattle.studio.specs.declared.status.Status.TheVariants.{Done, Refused, Usage, BadProblem, Memory, BadToken, BadEdit, NotMigrated}
 
 -- the statuses and lines of a command, while neither shelf, sink nor memory fails
 abbrev pub CommandAnswers : (List ℕ → Option (List ℕ)) → Command → Status → List (List ℕ) → Type 0
 CommandAnswers held (Max file) status lines = OnFile MaxWork held file status lines
 CommandAnswers held (Axioms file units) status lines = OnFile (AxiomsWork units) held file status lines
 CommandAnswers held (Listing file after count) status lines = OnFile (ListingWork after count) held file status lines
+CommandAnswers held (Make number units) status lines = MakeWork number units status lines
+CommandAnswers held (Migrate file years) status lines = OnFile (MigrateWork years) held file status lines
+CommandAnswers held (Editing file script) status lines = OnFile (OnScript EditWork held script) held file status lines
+CommandAnswers held (Undoing file script) status lines = OnFile (OnScript UndoWork held script) held file status lines
 
 -- words without a form are told so
 abbrev pub AnswersTo : (List ℕ → Option (List ℕ)) → Option Command → Status → List (List ℕ) → Type 0
@@ -42,3 +50,7 @@ abbrev pub statuses_of : Command → List Status
 statuses_of (Max file) = Done ∷ BadProblem ∷ Memory ∷ []
 statuses_of (Axioms file units) = Done ∷ Refused ∷ BadProblem ∷ Memory ∷ []
 statuses_of (Listing file after count) = Done ∷ BadToken ∷ BadProblem ∷ Memory ∷ []
+statuses_of (Make number units) = Done ∷ Memory ∷ []
+statuses_of (Migrate file years) = Done ∷ NotMigrated ∷ BadProblem ∷ Memory ∷ []
+statuses_of (Editing file script) = Done ∷ BadEdit ∷ BadProblem ∷ Memory ∷ []
+statuses_of (Undoing file script) = Done ∷ BadEdit ∷ BadProblem ∷ Memory ∷ []

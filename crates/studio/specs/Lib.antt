@@ -5,6 +5,10 @@ pub mod Ending
 pub mod Max
 pub mod Axioms
 pub mod Listing
+pub mod Make
+pub mod Script
+pub mod Migrate
+pub mod Edits
 pub mod ListingLaws
 pub mod Numeral
 pub mod Answers

@@ -1,9 +1,13 @@
 -- A command of the code as the definitions name it.
 use Rattle.studio.specs.Command as rules
 use Rattle.studio.specs.declared.command.Command.{Command}
-use Rattle.studio.specs.declared.command.Command.TheVariants.{Max, Axioms, Listing}
+use Rattle.studio.specs.declared.command.Command.TheVariants.{Max, Axioms, Listing, Make, Migrate, Editing, Undoing}
 
 abbrev pub command_view : Command → rules.Command
 command_view (Max file) = rules.Max file.now
 command_view (Axioms file units) = rules.Axioms file.now units
 command_view (Listing file after count) = rules.Listing file.now after.now count
+command_view (Make number units) = rules.Make number units
+command_view (Migrate file years) = rules.Migrate file.now years
+command_view (Editing file script) = rules.Editing file.now script.now
+command_view (Undoing file script) = rules.Undoing file.now script.now

@@ -71,7 +71,7 @@ fn material_name<'a>(problem: &'a Problem, at: u32) -> &'a str
     }
 }
 
-fn unit_name<'a>(problem: &'a Problem, at: u32) -> &'a str
+pub(crate) fn unit_name<'a>(problem: &'a Problem, at: u32) -> &'a str
     ensures { result.now ≡ (unit_at problem.now at).name }
 {
     match problem.units().get(at as usize) {

@@ -2,15 +2,18 @@
 ghost use Rattle.std.specs.Prelude.{◌≡◌, ◌∷◌, [], List, ℕ, Some, None, map, string_bytes};
 ghost use Rattle.pns_io.specs.Outside.{HasRisen};
 ghost use Rattle.studio.specs.Command as rules;
-ghost use Rattle.studio.specs.Command.{command_of, IsFileWord};
+ghost use Rattle.studio.specs.Command.{command_of, AreWithin, IsFileWord};
 ghost use Rattle.studio.specs.Ending.{Ends, IsOneOf};
 ghost use Rattle.studio.specs.Answers.{CommandSays, WordsSay, IsUndisturbed, statuses_of};
 ghost use Rattle.studio.specs.View.{command_view};
 
 use crate::axioms::axioms;
 use crate::command::{Command, command_of};
+use crate::edits::{edit, undo};
 use crate::list::list;
+use crate::make::make;
 use crate::max::max;
+use crate::migrate::migrate;
 use crate::say::{say, say_memory};
 use crate::status::Status;
 use pns_io::{Shelf, Sink};
@@ -22,6 +25,7 @@ fn perform<F: Shelf, K: Sink>(
     shelf: &mut F,
     out: &mut K,
 ) -> Status
+    requires { AreWithin (command_view command) }
     ensures { Ends (CommandSays (record { held = F.held shelf.old; before = F.faults shelf.old; after = F.faults shelf.new }) (command_view command.entry))
         (HasRisen (K.faults out.old) (K.faults out.new)) (K.written out.old) (K.written out.new) result }
 {
@@ -29,6 +33,10 @@ fn perform<F: Shelf, K: Sink>(
         Command::Max(file) => max(alloc, file, shelf, out),
         Command::Axioms(file, units) => axioms(alloc, file, &units, shelf, out),
         Command::Listing(file, after, count) => list(alloc, file, after, count, shelf, out),
+        Command::Make(number, units) => make(alloc, number, units, out),
+        Command::Migrate(file, years) => migrate(alloc, file, years, shelf, out),
+        Command::Editing(file, script) => edit(alloc, file, script, shelf, out),
+        Command::Undoing(file, script) => undo(alloc, file, script, shelf, out),
     }
 }
 

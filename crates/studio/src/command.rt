@@ -1,6 +1,6 @@
 //! The words of a call.
 ghost use Rattle.std.specs.Prelude.{◌≡◌, ◌∷◌, [], IfOk, map, option_map, string_bytes};
-ghost use Rattle.studio.specs.Command.{command_of, unit_names_of, count_of, Axioms, Listing};
+ghost use Rattle.studio.specs.Command.{command_of, on_file, with_script, made_by, unit_names_of, count_of, seed_of, unit_count_of, years_of, Axioms, Listing, Migrate};
 ghost use Rattle.studio.specs.View.{command_view};
 
 use crate::number::number_within;
@@ -13,6 +13,10 @@ pub(crate) enum Command<'a> {
     Max(&'a str),
     Axioms(&'a str, UnitNames),
     Listing(&'a str, &'a str, u64),
+    Make(u64, u64),
+    Migrate(&'a str, u64),
+    Editing(&'a str, &'a str),
+    Undoing(&'a str, &'a str),
 }
 
 /// The command that the words are, if they have a form.
@@ -21,7 +25,7 @@ pub(crate) fn command_of(alloc: Global, words: &[String]) -> Result<Option<Comma
 {
     match words {
         [word, file] => Ok(of_two(word.as_str(), file.as_str())),
-        [word, file, second] => of_three(alloc, word.as_str(), file.as_str(), second.as_str()),
+        [word, first, second] => of_three(alloc, word.as_str(), first.as_str(), second.as_str()),
         [word, file, second, third] => Ok(of_four(
             word.as_str(),
             file.as_str(),
@@ -45,15 +49,67 @@ fn of_two<'a>(word: &str, file: &'a str) -> Option<Command<'a>>
 fn of_three<'a>(
     alloc: Global,
     word: &str,
-    file: &'a str,
-    second: &str,
+    first: &'a str,
+    second: &'a str,
 ) -> Result<Option<Command<'a>>, AllocError>
-    ensures { IfOk result (λ found. option_map command_view found ≡ command_of (word.now ∷ file.now ∷ second.now ∷ [])) }
+    ensures { IfOk result (λ found. option_map command_view found ≡ command_of (word.now ∷ first.now ∷ second.now ∷ [])) }
 {
-    if word == "axioms" && !file.is_empty() {
-        axioms_of(alloc, file, second)
+    if word == "make" {
+        Ok(made_by(first, second))
+    } else if !first.is_empty() {
+        on_file(alloc, word, first, second)
     } else {
         Ok(None)
+    }
+}
+
+/// The most operating units of a problem that is made.
+const MOST_UNITS: u64 = 128;
+
+fn made_by<'a>(number: &str, units: &str) -> Option<Command<'a>>
+    ensures { option_map command_view result ≡ made_by (seed_of number.now) (unit_count_of units.now) }
+{
+    let number = number_within(number, 0, u64::MAX)?;
+    let units = number_within(units, 1, MOST_UNITS)?;
+    Some(Command::Make(number, units))
+}
+
+fn on_file<'a>(
+    alloc: Global,
+    word: &str,
+    file: &'a str,
+    second: &'a str,
+) -> Result<Option<Command<'a>>, AllocError>
+    ensures { IfOk result (λ found. option_map command_view found ≡ on_file word.now file.now second.now) }
+{
+    if word == "axioms" {
+        axioms_of(alloc, file, second)
+    } else if word == "migrate" {
+        Ok(migrate_of(file, second))
+    } else {
+        Ok(with_script(word, file, second))
+    }
+}
+
+/// The most years of a payout period.
+const MOST_YEARS: u64 = 100;
+
+fn migrate_of<'a>(file: &'a str, years: &str) -> Option<Command<'a>>
+    ensures { option_map command_view result ≡ option_map (Migrate file.now) (years_of years.now) }
+{
+    let years = number_within(years, 1, MOST_YEARS)?;
+    Some(Command::Migrate(file, years))
+}
+
+fn with_script<'a>(word: &str, file: &'a str, script: &'a str) -> Option<Command<'a>>
+    ensures { option_map command_view result ≡ with_script word.now file.now script.now }
+{
+    if word == "edit" && !script.is_empty() {
+        Some(Command::Editing(file, script))
+    } else if word == "undo" && !script.is_empty() {
+        Some(Command::Undoing(file, script))
+    } else {
+        None
     }
 }
 

@@ -2,26 +2,32 @@
 //!
 //! [`studio`] judges the form of the words, reads and judges the files that they name, does the command's work and puts
 //! its text line by line. Its contract says which text is out with which status, from the words and the bytes that the
-//! shelf holds; each status has its cause, and want of memory alone is free. The commands are `max`, `axioms` and
-//! `list`.
+//! shelf holds; each status has its cause, and want of memory alone is free. The commands are `max`, `axioms`, `list`,
+//! `make`, `migrate`, `edit` and `undo`.
 //!
-//! Modules: `status`; `command`, `unit_names` and `number`, the words; `problem_file`, a file that is read and judged;
-//! `line` and `say`, the lines and how they are put; `max`, `axioms` and `list`, one command each; `call`, which
-//! dispatches; `laws`.
+//! Modules: `status`; `command`, `unit_names` and `number`, the words; `problem_file` and `script_file`, files that are
+//! read and judged; `line` and `say`, the lines and how they are put; `max`, `axioms`, `list`, `make`, `migrate` and `edits`,
+//! the commands; `call`, which dispatches; `laws`.
 #![tactic(auto)]
 
 mod axioms;
 mod call;
 mod command;
+#[cfg(test)]
+mod edit_tests;
+mod edits;
 mod laws;
 mod line;
 mod list;
 #[cfg(test)]
 mod list_tests;
+mod make;
 mod max;
+mod migrate;
 mod number;
 mod problem_file;
 mod say;
+mod script_file;
 mod status;
 #[cfg(test)]
 mod tests;

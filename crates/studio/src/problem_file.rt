@@ -1,5 +1,5 @@
 //! A problem file: it is read and judged.
-ghost use Rattle.std.specs.Prelude.{◌≡◌, ℕ, List, IfOk, IfErr, OnOk, string_bytes};
+ghost use Rattle.std.specs.Prelude.{◌≡◌, ◌≤◌, ℕ, List, IfOk, IfErr, OnOk, string_bytes};
 ghost use Rattle.pns_io.specs.Outside.{HasRisen};
 ghost use Rattle.studio.specs.Lines.{line};
 ghost use Rattle.studio.specs.Reading.{AreHeld, GivesProblem, FileFaults, fault_line, kind_word};
@@ -84,6 +84,8 @@ pub(crate) fn problem_of<F: Shelf, K: Sink>(
 ) -> Result<Problem, Status>
     ensures problem { IfOk result (λ p. (file : List ℕ) × AreHeld (F.held shelf.old name.now) file × GivesProblem file p) }
     ensures silent { OnOk result (out.new ≡ out.old) }
+    ensures later { (other : List ℕ) → F.faults shelf.old other ≤ F.faults shelf.new other }
+    ensures keeps { (other : List ℕ) → F.held shelf.new other ≡ F.held shelf.old other }
     ensures told { IfErr result (Ends (Says (FileFaults (F.held shelf.old) name.now) (λ other. other ≡ name.now) (record { held = F.held shelf.old; before = F.faults shelf.old; after = F.faults shelf.new }))
         (HasRisen (K.faults out.old) (K.faults out.new)) (K.written out.old) (K.written out.new)) }
 {

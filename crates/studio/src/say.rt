@@ -1,14 +1,15 @@
 //! How lines are put into the sink, and with which status a call then ends.
-ghost use Rattle.std.specs.Prelude.{◌≡◌, ◌≢◌, ◌++◌, codes};
+ghost use Rattle.std.specs.Prelude.{◌≡◌, ◌≢◌, ◌<◌, ◌++◌, ℕ, List, IfOk, codes, length};
 ghost use Rattle.pns_io.specs.Outside.{HasRisen};
-ghost use Rattle.studio.specs.Lines.{line};
+ghost use Rattle.studio.specs.Lines.{line, text_of};
 ghost use Rattle.studio.specs.Ending.{Ends, Only, OrMemory};
-ghost use Rattle.studio.specs.declared.status.Status.TheVariants.{Memory, WriteFault};
+ghost use Rattle.studio.specs.declared.status.Status.TheVariants.{Done, Memory, WriteFault};
 
 use crate::line::line_of;
 use crate::status::Status;
 use pns_io::Sink;
-use std::alloc::Global;
+use std::alloc::{AllocError, Global};
+use text_lines::line::place_of;
 
 /// Puts one line, which has its line feed, and gives the status.
 pub(crate) fn say<K: Sink>(out: &mut K, bytes: &[u8], status: Status) -> Status
@@ -29,6 +30,47 @@ pub(crate) fn say_both<K: Sink>(out: &mut K, first: &[u8], second: &[u8], status
     match out.put(first) {
         Ok(()) => say(out, second, status),
         Err(_) => Status::WriteFault,
+    }
+}
+
+// The first line, with its line feed where it has one, and what stands behind it.
+fn cut_line(text: &[u8]) -> (&[u8], &[u8])
+    requires { 0 < length text.now }
+    ensures cut { text.now ≡ result.0.now ++ result.1.now }
+    ensures shorter { length result.1.now < length text.now }
+{
+    let at = place_of(b'\n', text);
+    if at < text.len() {
+        (&text[..at + 1], &text[at + 1..])
+    } else {
+        (text, &[])
+    }
+}
+
+/// Puts a text line by line, and gives the status.
+pub(crate) fn say_text<K: Sink>(out: &mut K, text: &[u8], status: Status) -> Status
+    requires { status ≢ WriteFault }
+    ensures { Ends (Only status text.now) (HasRisen (K.faults out.old) (K.faults out.new)) (K.written out.old) (K.written out.new) result }
+{
+    let mut rest = text;
+    while !rest.is_empty() {
+        let (line, behind) = cut_line(rest);
+        let Ok(()) = out.put(line) else {
+            return Status::WriteFault;
+        };
+        rest = behind;
+    }
+    status
+}
+
+/// Puts a text line by line, or tells the want of memory for it.
+pub(crate) fn say_made<K: Sink>(out: &mut K, text: Result<Vec<u8>, AllocError>) -> Status
+    ensures { (lines : List (List ℕ)) → IfOk text (λ bytes. bytes.items ≡ text_of lines)
+        → Ends (OrMemory (Only Done (text_of lines))) (HasRisen (K.faults out.old) (K.faults out.new)) (K.written out.old) (K.written out.new) result }
+{
+    match text {
+        Ok(bytes) => say_text(out, &bytes, Status::Done),
+        Err(_) => say_memory(out),
     }
 }
 

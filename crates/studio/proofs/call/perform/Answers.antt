@@ -1,10 +1,11 @@
-use Rattle.std.proofs.Common.{sym, ap, subst, ℕ, List}
-use Rattle.studio.specs.Command.{Command, Max, Axioms, Listing}
+use Rattle.std.proofs.Common.{sym, ap, subst, ◌≤◌, ℕ, List}
+use Rattle.studio.specs.Command.{Command, Max, Axioms, Listing, Make, Migrate, Editing, Undoing, AreWithin}
 use Rattle.studio.specs.View.{command_view}
 use Rattle.studio.specs.Ending.{Shelves}
 use Rattle.studio.specs.Answers.{CommandSays}
+use Rattle.studio.specs.Make.{MakeWork}
 use Rattle.studio.specs.declared.status.Status.{Status}
-use Rattle.studio.proofs.Ending.{Ends-map}
+use Rattle.studio.proofs.Ending.{Ends-map, Says-told}
 use Rattle.studio.proofs.call.perform.Goals as goal
 
 pub returns-in-Max : goal.returns-in-Max
@@ -27,3 +28,41 @@ returns-in-Listing g c =
     let Q : Status → List ℕ → Type 0 = CommandSays shelves (command_view c.args.command) in
     Ends-map (CommandSays shelves (Listing c.in-Listing.file.now c.in-Listing.after.now c.in-Listing.count)) Q _ _ _ _ _
     (λ s t h. subst (λ (v : Command). CommandSays shelves v s t) (sym (ap command_view c.in-Listing.is)) h) (λ r. r) c.list.ensures
+
+pub returns-in-Make : goal.returns-in-Make
+returns-in-Make g c =
+    let shelves : Shelves = record { held = g.F.Shelf.held c.args.shelf.now; before = g.F.Shelf.faults c.args.shelf.now; after = g.F.Shelf.faults c.args.shelf.now } in
+    let Q : Status → List ℕ → Type 0 = CommandSays shelves (command_view c.args.command) in
+    Ends-map _ Q _ _ _ _ _
+    (λ s t h. subst (λ (v : Command). CommandSays shelves v s t) (sym (ap command_view c.in-Make.is))
+    (Says-told (MakeWork c.in-Make.number c.in-Make.units) (MakeWork c.in-Make.number c.in-Make.units) _ shelves (λ s lines h. h) s t h))
+    (λ r. r) c.make.ensures
+
+pub make-requires : goal.make-requires
+make-requires g c =
+    let within : (1 ≤ c.in-Make.units) × (c.in-Make.units ≤ 128) = subst AreWithin (ap command_view c.in-Make.is) c.requires in
+    record { some = within.0; few = within.1 }
+
+pub migrate-requires : goal.migrate-requires
+migrate-requires g c = subst AreWithin (ap command_view c.in-Migrate.is) c.requires
+
+pub returns-in-Migrate : goal.returns-in-Migrate
+returns-in-Migrate g c =
+    let shelves : Shelves = record { held = g.F.Shelf.held c.args.shelf.now; before = g.F.Shelf.faults c.args.shelf.now; after = g.F.Shelf.faults c.migrate.new.shelf } in
+    let Q : Status → List ℕ → Type 0 = CommandSays shelves (command_view c.args.command) in
+    Ends-map (CommandSays shelves (Migrate c.in-Migrate.file.now c.in-Migrate.years)) Q _ _ _ _ _
+    (λ s t h. subst (λ (v : Command). CommandSays shelves v s t) (sym (ap command_view c.in-Migrate.is)) h) (λ r. r) c.migrate.ensures
+
+pub returns-in-Editing : goal.returns-in-Editing
+returns-in-Editing g c =
+    let shelves : Shelves = record { held = g.F.Shelf.held c.args.shelf.now; before = g.F.Shelf.faults c.args.shelf.now; after = g.F.Shelf.faults c.edit.new.shelf } in
+    let Q : Status → List ℕ → Type 0 = CommandSays shelves (command_view c.args.command) in
+    Ends-map (CommandSays shelves (Editing c.in-Editing.file.now c.in-Editing.script.now)) Q _ _ _ _ _
+    (λ s t h. subst (λ (v : Command). CommandSays shelves v s t) (sym (ap command_view c.in-Editing.is)) h) (λ r. r) c.edit.ensures
+
+pub returns-in-Undoing : goal.returns-in-Undoing
+returns-in-Undoing g c =
+    let shelves : Shelves = record { held = g.F.Shelf.held c.args.shelf.now; before = g.F.Shelf.faults c.args.shelf.now; after = g.F.Shelf.faults c.undo.new.shelf } in
+    let Q : Status → List ℕ → Type 0 = CommandSays shelves (command_view c.args.command) in
+    Ends-map (CommandSays shelves (Undoing c.in-Undoing.file.now c.in-Undoing.script.now)) Q _ _ _ _ _
+    (λ s t h. subst (λ (v : Command). CommandSays shelves v s t) (sym (ap command_view c.in-Undoing.is)) h) (λ r. r) c.undo.ensures

@@ -1,13 +1,20 @@
-use Rattle.std.proofs.Common.{◌≡◌, ◌∷◌, [], Some, None, IsSomeAnd, map, refl, inl, List, ℕ, Option, codes, string_bytes, subst, ap, sym, ◌∙◌, option_map}
+use Rattle.std.proofs.Common.{◌≡◌, ◌∷◌, [], Some, None, IfSome, IsSomeAnd, map, refl, inl, List, ℕ, Option, codes, string_bytes, subst, ap, sym, ◌∙◌, option_map}
 use Rattle.studio.specs.Lines.{line}
-use Rattle.studio.specs.Command.{Command, command_of, IsFileOf, IsFileWord}
+use Rattle.studio.specs.Command.{Command, command_of, AreWithin, IsFileOf, IsFileWord}
 use Rattle.studio.specs.View.{command_view}
 use Rattle.studio.specs.Ending.{Shelves}
 use Rattle.studio.specs.Answers.{Answers, AnswersTo, CommandAnswers, CommandSays, WordsSay}
 use Rattle.studio.specs.declared.status.Status.{Status}
 use Rattle.studio.specs.declared.status.Status.TheVariants.{Usage, Memory}
 use Rattle.studio.proofs.Ending.{Ends-map, Says-map, only_in}
+use Rattle.studio.proofs.Within.{words_within}
 use Rattle.studio.proofs.call.run.Goals as goal
+
+pub perform-requires : goal.perform-requires
+perform-requires g c =
+    let words = map string_bytes c.args.words.now in
+    let found : Some (command_view c.in-Some.command) ≡ command_of words = ap (option_map command_view) (sym c.in-Some.is) ∙ c.in-Ok.ensures in
+    subst (λ (f : Option Command). IfSome f AreWithin) (sym found) (words_within words)
 
 pub returns-in_default : goal.returns-in_default
 returns-in_default g c =
