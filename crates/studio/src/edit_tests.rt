@@ -184,28 +184,28 @@ fn files_are_judged_before_scripts(rt: HostRuntime) -> Result<(), Fail> {
         (
             "edit a.pns e1",
             EXAMPLE.as_bytes(),
-            b"",
+            "".as_bytes(),
             11,
             "script line 1 FileType\n",
         ),
         (
             "undo a.pns a.pns",
             EXAMPLE.as_bytes(),
-            b"",
+            "".as_bytes(),
             11,
             "script line 1 FileType\n",
         ),
         (
             "edit a.pns e2",
             EXAMPLE.as_bytes(),
-            b"",
+            "".as_bytes(),
             6,
             "read fault e2\n",
         ),
         (
             "edit b.pns e2",
             EXAMPLE.as_bytes(),
-            b"",
+            "".as_bytes(),
             6,
             "read fault b.pns\n",
         ),
@@ -223,9 +223,21 @@ fn files_are_judged_before_scripts(rt: HostRuntime) -> Result<(), Fail> {
             11,
             "script line 1 FileType\n",
         ),
-        ("edit a.pns ", EXAMPLE.as_bytes(), b"", 2, "usage\n"),
-        ("undo  e1", EXAMPLE.as_bytes(), b"", 2, "usage\n"),
-        ("edit a.pns", EXAMPLE.as_bytes(), b"", 2, "usage\n"),
+        (
+            "edit a.pns ",
+            EXAMPLE.as_bytes(),
+            "".as_bytes(),
+            2,
+            "usage\n",
+        ),
+        ("undo  e1", EXAMPLE.as_bytes(), "".as_bytes(), 2, "usage\n"),
+        (
+            "edit a.pns",
+            EXAMPLE.as_bytes(),
+            "".as_bytes(),
+            2,
+            "usage\n",
+        ),
     ] {
         let (status, out) = run(alloc, words, file, script, None)?;
         assert_eq!(rt; status, code, "{words}");
@@ -264,7 +276,7 @@ fn an_excluded_unit_stays(rt: HostRuntime) -> Result<(), Fail> {
     let script = script_of(alloc, "remove_unit U1")?;
     let (status, out) = run(alloc, "edit a.pns e1", &file, script.as_bytes(), None)?;
     assert_eq!(rt; status, 11);
-    assert_eq!(rt; out.bytes(), b"script line 2 InUse\n");
+    assert_eq!(rt; out.bytes(), "script line 2 InUse\n".as_bytes());
     Ok(())
 }
 
@@ -309,7 +321,13 @@ fn yearly_costs_become_investments(rt: HostRuntime) -> Result<(), Fail> {
             6,
             "read fault b.pns\n",
         ),
-        ("migrate a.pns 10", b"", "", 3, "problem line 1 FileType\n"),
+        (
+            "migrate a.pns 10",
+            "".as_bytes(),
+            "",
+            3,
+            "problem line 1 FileType\n",
+        ),
     ] {
         let (status, out) = run(alloc, words, file, script.as_bytes(), None)?;
         assert_eq!(rt; status, code, "{words}");
