@@ -30,3 +30,6 @@ pub use feasibility::feasible;
 pub use past_sum::PastSum;
 pub use place::{Column, FlowStep, Place};
 pub use program::Program;
+
+#[cfg(test)]
+mod tests;
