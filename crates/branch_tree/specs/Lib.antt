@@ -1,0 +1,4 @@
+pub mod Known
+pub mod Sized
+pub mod Tail
+pub mod View

@@ -1,0 +1,19 @@
+//! The ends of nodes.
+use crate::multipliers::Multipliers;
+
+/// How a node ends.
+#[derive(Drop)]
+pub enum End {
+    /// The needed material has no maker that is not left out.
+    Dead(u32),
+    /// The exclusion has two units that are taken in.
+    Clash(u32),
+    /// The multipliers show that the node has no flows.
+    Refuted(Multipliers),
+    /// The multipliers bound the cost of the node's flows, over d.
+    Bound { d: i128, ys: Multipliers },
+    /// So many children follow, one for each option of the material.
+    Branch { material: u32, children: u32 },
+    /// The leaf is open.
+    Open,
+}
