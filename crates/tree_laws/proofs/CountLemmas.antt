@@ -65,7 +65,7 @@ length-doubled : (u : ℕ) (ts : List (List ℕ)) → length (without_and_with u
 length-doubled u [] = refl
 length-doubled u (t ∷ ts) = let h = length-doubled u ts in omega arith
 
-length-subsets : (us : List ℕ) → length (subsets us) ≡ 2 ^ length us
+pub length-subsets : (us : List ℕ) → length (subsets us) ≡ 2 ^ length us
 length-subsets [] = refl
 length-subsets (u ∷ us) =
     let h = length-subsets us in

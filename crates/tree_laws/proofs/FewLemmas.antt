@@ -17,11 +17,11 @@ module _ (g : Shape) where
   weight [] = 0
   weight (n ∷ ns) = weight_of n + weight ns
 
-  weight-append : (ns ms : List Node) → weight (ns ++ ms) ≡ weight ns + weight ms
+  pub weight-append : (ns ms : List Node) → weight (ns ++ ms) ≡ weight ns + weight ms
   weight-append [] ms = omega arith
   weight-append (n ∷ ns) ms = let h = weight-append ns ms in omega arith
 
-  steps_count : (n : Node) (ss : List Step) → free_count g (after_all g n ss) ≤ free_count g n
+  pub steps_count : (n : Node) (ss : List Step) → free_count g (after_all g n ss) ≤ free_count g n
   steps_count n [] = omega arith
   steps_count n (t ∷ ts) =
       let h = steps_count (after g n t) ts in
@@ -44,7 +44,7 @@ module _ (g : Shape) where
       let d : 2 ^ (k + suc r) ≤ 2 ^ suc f = pow-le-pow_right (omega arith) (omega arith) in
       omega (arith, a, b, d, two, each)
 
-  below_weight : (n : Node) {L : Type 0} (e : End L) → ((x c : ℕ) → e ≡ branch x c → 2 ≤ length (options g n x)) → 2 + weight (below g n e) ≤ weight_of n + length (below g n e)
+  pub below_weight : (n : Node) {L : Type 0} (e : End L) → ((x c : ℕ) → e ≡ branch x c → 2 ≤ length (options g n x)) → 2 + weight (below g n e) ≤ weight_of n + length (below g n e)
   below_weight n (leaf l) h =
       let a : 1 ≤ 2 ^ free_count g n = one-le-pow (free_count g n) 2 (omega arith) in
       let d : 2 ^ suc (free_count g n) ≡ 2 * 2 ^ free_count g n = double (free_count g n) in
