@@ -1,0 +1,6 @@
+pub mod BelowLemmas
+pub mod MonotoneLemmas
+pub mod NumberLemmas
+pub mod ReducedLemmas
+pub mod SpentLemmas
+pub mod ValueLemmas
