@@ -1,0 +1,27 @@
+//! The walk along the options.
+ghost use Rattle.std.specs.Prelude.{◌≡◌, ◌↔◌, IsTrue};
+ghost use Rattle.number_sets.specs.Sets.{has, Avoids};
+ghost use Rattle.number_sets.specs.Options.{all_options};
+
+use unit_sets::UnitSet;
+
+/// Whether the sets are all non-empty sets between the base and the base with free units, in numeric order. Linear in the
+/// number of the sets; takes no memory.
+pub fn are_options(base: UnitSet, free: UnitSet, found: &[UnitSet]) -> bool
+    requires { Avoids (has base) (has free) }
+    ensures { IsTrue result ↔ (found.now ≡ all_options base free) }
+{
+    base.rises();
+    free.rises();
+    let mut expected = UnitSet::first_option(base, free);
+    'each: for i in 0..found.len() {
+        let Some(option) = expected else {
+            return false;
+        };
+        if found[i] != option {
+            return false;
+        }
+        expected = option.next_option(base, free);
+    }
+    expected.is_none()
+}
