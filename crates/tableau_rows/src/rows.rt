@@ -1,0 +1,142 @@
+//! [`Rows`], and what is read of it.
+ghost use Rattle.std.specs.Prelude.{◌≡◌, ◌<◌, ◌≤◌, ◌+◌, ◌*◌, suc, length};
+ghost use Rattle.int_rows.specs.Range.{InRange, AllInRange};
+ghost use Rattle.tableau_rows.specs.Rows.{width, row_of, table, basis, AreRows};
+
+use std::marker::Model;
+
+/// The rows of a tableau, with a flag for each column of the basis. Columns are named by their places in a row.
+#[derive(Drop)]
+pub struct Rows {
+    units: usize,
+    rows: usize,
+    most_units: usize,
+    most_rows: usize,
+    basic: Vec<bool>,
+    // Row after row, and behind the last one room for a pivot row.
+    entries: Vec<i128>,
+}
+
+impl Model for Rows {
+    ghost use Rattle.tableau_rows.specs.Rows as specs;
+
+    ghost Value = { specs.Rows };
+
+    ghost view = { λ r. record { units = r.units; rows = r.rows; most_units = r.most_units; most_rows = r.most_rows; basic = r.basic.items; entries = r.entries.items } };
+
+    ghost invariant = { λ r. specs.AreRows (record { units = r.units; rows = r.rows; most_units = r.most_units; most_rows = r.most_rows; basic = r.basic.items; entries = r.entries.items }) };
+}
+
+impl Rows {
+    /// What holds of all rows. A clause sees the value alone.
+    pub fn are_rows(&self)
+        ensures { AreRows self.now }
+    {
+        let _units = self.units;
+    }
+
+    /// The number of the program's units.
+    pub fn units(&self) -> usize
+        ensures { result ≡ self.now.units }
+    {
+        self.units
+    }
+
+    /// The number of the program's rows.
+    pub fn rows(&self) -> usize
+        ensures { result ≡ self.now.rows }
+    {
+        self.rows
+    }
+
+    /// The number of the entries of a row.
+    pub fn width(&self) -> usize
+        ensures { result ≡ width self.now }
+    {
+        self.are_rows();
+        self.scale_at() + 1
+    }
+
+    /// The place of the size of a unit above the least.
+    pub fn x_at(&self, unit: usize) -> usize
+        ensures { result ≡ unit }
+    {
+        unit
+    }
+
+    /// The place of what is left of a unit to the greatest.
+    pub fn s_at(&self, unit: usize) -> usize
+        requires { unit < self.now.units }
+        ensures { result ≡ self.now.units + unit }
+    {
+        self.units + unit
+    }
+
+    /// The place of what a row is above its floor.
+    pub fn t_at(&self, row: usize) -> usize
+        requires { row < self.now.rows }
+        ensures { result ≡ self.now.units + self.now.units + row }
+    {
+        self.units + self.units + row
+    }
+
+    /// The place of what is left of a row to its ceiling.
+    pub fn w_at(&self, row: usize) -> usize
+        requires { row < self.now.rows }
+        ensures { result ≡ self.now.units + self.now.units + self.now.rows + row }
+    {
+        self.units + self.units + self.rows + row
+    }
+
+    /// The place of the right side, which is the number of the columns.
+    pub fn right_at(&self) -> usize
+        ensures { result ≡ self.now.units + self.now.units + self.now.rows + self.now.rows }
+    {
+        self.units + self.units + self.rows + self.rows
+    }
+
+    /// The place of the scale.
+    pub fn scale_at(&self) -> usize
+        ensures { result ≡ suc (self.now.units + self.now.units + self.now.rows + self.now.rows) }
+    {
+        self.right_at() + 1
+    }
+
+    /// Whether the basis has the column.
+    pub fn is_basic(&self, column: usize) -> bool
+        requires { column < width self.now }
+        ensures { result ≡ basis self.now column }
+    {
+        self.basic[column]
+    }
+
+    /// The flags of the basis, of which those of the columns and of the scale count.
+    pub fn basic(&self) -> &[bool]
+        ensures { result.now ≡ self.now.basic }
+    {
+        &self.basic
+    }
+
+    /// The row of a basis column.
+    pub fn row(&self, column: usize) -> &[i128]
+        requires { column < width self.now }
+        ensures value { result.now ≡ row_of self.now column }
+        ensures length { length result.now ≡ width self.now }
+        ensures in_range { AllInRange result.now }
+    {
+        self.are_rows();
+        let width = self.width();
+        let first = column * width;
+        &self.entries[first..first + width]
+    }
+
+    /// The entry of the row of a basis column at another column.
+    pub fn entry(&self, column: usize, at: usize) -> i128
+        requires row { column < width self.now }
+        requires at { at < width self.now }
+        ensures value { result ≡ table self.now column at }
+        ensures in_range { InRange result }
+    {
+        self.row(column)[at]
+    }
+}
