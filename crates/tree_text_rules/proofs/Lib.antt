@@ -1,0 +1,4 @@
+mod FirstFaults
+mod LineFaults
+mod Plant
+mod WorkedText

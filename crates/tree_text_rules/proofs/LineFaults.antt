@@ -1,0 +1,154 @@
+-- Each kind of fault beside its neighbours in the order: lines that have several faults tell the least number.
+use Rattle.std.proofs.Common.{List, [], ◌∷◌, codes, refl, ℕ}
+use Rattle.tree_text_rules.specs.Line.{word_named}
+use Rattle.tree_text_rules.specs.Read.{nodes_taken}
+use Rattle.tree_text_rules.specs.declared.TreeKind.{TreeKind}
+use Rattle.tree_text_rules.specs.declared.TreeKind.TheVariants.{BadLine, UnknownName, BadNumber, Order, WrongCount, MoreNodes, FewerNodes}
+use Rattle.tree_text_rules.proofs.Plant.{Told}
+
+-- where a step or an end must come
+parts : List (List ℕ × TreeKind)
+parts =
+    (codes "x", BadLine) ∷
+    (codes "", BadLine) ∷
+    (codes "open ", BadLine) ∷
+    (codes " open", BadLine) ∷
+    (codes "open now", BadLine) ∷
+    (codes "Open", BadLine) ∷
+    (codes "node", BadLine) ∷
+    (codes "end", BadLine) ∷
+    (codes "spent 0 1", BadLine) ∷
+    (codes "dead", BadLine) ∷
+    (codes "dead  A", BadLine) ∷
+    (codes "dead A B", BadLine) ∷
+    (codes "dead Q", UnknownName) ∷
+    (codes "dead U1", UnknownName) ∷
+    (codes "clash A", UnknownName) ∷
+    (codes "raw A", UnknownName) ∷
+    (codes "rival U9", UnknownName) ∷
+    (codes "starve U1", UnknownName) ∷
+    (codes "loose U2 U1 Q", UnknownName) ∷
+    (codes "loose U2 U1", Order) ∷
+    (codes "loose U1 U1", Order) ∷
+    (codes "loose U1  U1", BadLine) ∷
+    (codes "sole P", BadLine) ∷
+    (codes "sole P Q", UnknownName) ∷
+    (codes "sole Q U1", UnknownName) ∷
+    (codes "branch C", BadLine) ∷
+    (codes "branch C 0", BadNumber) ∷
+    (codes "branch C 01", BadNumber) ∷
+    (codes "branch C -1", BadNumber) ∷
+    (codes "branch C 4294967296", BadNumber) ∷
+    (codes "branch Q 0", UnknownName) ∷
+    (codes "bound", BadLine) ∷
+    (codes "bound A", BadNumber) ∷
+    (codes "bound 1 -0", BadNumber) ∷
+    (codes "bound 1 +1", BadNumber) ∷
+    (codes "bound 1 170141183460469231731687303715884105728", BadNumber) ∷
+    (codes "bound 1 -170141183460469231731687303715884105728", BadNumber) ∷
+    (codes "refuted 1.5", BadNumber) ∷
+    (codes "refuted -", BadNumber) ∷
+    []
+
+parts_told : Told (codes "unknown" ∷ codes "node" ∷ []) (codes "end" ∷ []) 4 parts
+unfolding parts word_named nodes_taken
+parts_told = refl
+
+-- where a child's line must come
+children : List (List ℕ × TreeKind)
+children =
+    (codes "end", FewerNodes) ∷
+    (codes "end now", FewerNodes) ∷
+    (codes "spent", FewerNodes) ∷
+    (codes "past  1", FewerNodes) ∷
+    (codes "nonbasic", BadLine) ∷
+    (codes "open", BadLine) ∷
+    (codes "node ", BadLine) ∷
+    (codes "node Q U1", UnknownName) ∷
+    (codes "node U2 U1", Order) ∷
+    []
+
+children_told : Told (codes "unknown" ∷ codes "node" ∷ codes "branch A 1" ∷ []) (codes "open" ∷ codes "end" ∷ []) 5 children
+unfolding children word_named nodes_taken
+children_told = refl
+
+-- where the root's line must come
+roots : List (List ℕ × TreeKind)
+roots = (codes "node U1", BadLine) ∷ (codes "node Q", BadLine) ∷ (codes "end", FewerNodes) ∷ (codes "open", BadLine) ∷ []
+
+roots_told : Told (codes "unknown" ∷ []) (codes "open" ∷ codes "end" ∷ []) 3 roots
+unfolding roots word_named nodes_taken
+roots_told = refl
+
+-- where the sizes must come
+sizes : List (List ℕ × TreeKind)
+sizes =
+    (codes "cost 1", BadLine) ∷
+    (codes "sizes", BadLine) ∷
+    (codes "sizes 1", WrongCount) ∷
+    (codes "sizes 1 2 3", WrongCount) ∷
+    (codes "sizes 0 1 2", BadNumber) ∷
+    (codes "sizes -1 1", BadNumber) ∷
+    (codes "sizes 1 x", BadNumber) ∷
+    []
+
+sizes_told : Told (codes "network U1" ∷ []) (codes "cost 1" ∷ codes "node" ∷ codes "open" ∷ codes "end" ∷ []) 3 sizes
+unfolding sizes word_named nodes_taken
+sizes_told = refl
+
+-- where the tail must come
+tails : List (List ℕ × TreeKind)
+tails =
+    (codes "node", MoreNodes) ∷
+    (codes "node  Q", MoreNodes) ∷
+    (codes "open", BadLine) ∷
+    (codes "end now", BadLine) ∷
+    (codes "spent 1", BadLine) ∷
+    (codes "spent 01 1", BadNumber) ∷
+    (codes "spent 4294967296 1", BadNumber) ∷
+    (codes "spent 1 340282366920938463463374607431768211456", BadNumber) ∷
+    (codes "past A", BadNumber) ∷
+    []
+
+tails_told : Told (codes "unknown" ∷ codes "node" ∷ codes "open" ∷ []) (codes "end" ∷ []) 5 tails
+unfolding tails word_named nodes_taken
+tails_told = refl
+
+-- where the nonbasic columns must come
+columns : List (List ℕ × TreeKind)
+columns =
+    (codes "node", MoreNodes) ∷
+    (codes "place cost 1", BadLine) ∷
+    (codes "nonbasic U1", BadLine) ∷
+    (codes "nonbasic x:Q y:U1", BadLine) ∷
+    (codes "nonbasic x:", UnknownName) ∷
+    (codes "nonbasic x:A", UnknownName) ∷
+    (codes "nonbasic t:U1", UnknownName) ∷
+    []
+
+columns_told : Told (codes "unknown" ∷ codes "node" ∷ codes "open" ∷ codes "past 0" ∷ []) (codes "place cost 1" ∷ codes "end" ∷ []) 6 columns
+unfolding columns word_named nodes_taken
+columns_told = refl
+
+-- where the place must come
+places : List (List ℕ × TreeKind)
+places =
+    (codes "node", MoreNodes) ∷
+    (codes "end", BadLine) ∷
+    (codes "place", BadLine) ∷
+    (codes "place here 1", BadLine) ∷
+    (codes "place cost", BadLine) ∷
+    (codes "place cost 00", BadNumber) ∷
+    (codes "place flow U1 left", BadLine) ∷
+    (codes "place flow Q lcm", UnknownName) ∷
+    (codes "place flow Q left", BadLine) ∷
+    (codes "place refute x:Q x", UnknownName) ∷
+    (codes "place refute cost 1", BadLine) ∷
+    (codes "place entry x:Q x:U1 cost right lcm", BadLine) ∷
+    (codes "place entry x:Q x:U1 cost right left", UnknownName) ∷
+    (codes "place entry x:U1 x:U1 cost cost left", BadLine) ∷
+    []
+
+places_told : Told (codes "unknown" ∷ codes "node" ∷ codes "open" ∷ codes "past 0" ∷ codes "nonbasic" ∷ []) (codes "end" ∷ []) 7 places
+unfolding places word_named nodes_taken
+places_told = refl

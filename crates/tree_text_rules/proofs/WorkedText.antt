@@ -1,0 +1,145 @@
+-- The text of a plant of five units: it is spelled as it stands, and it reads as it was.
+use Rattle.std.proofs.Common.{◌≡◌, ◌++◌, ℕ, pos, negsuc, List, [], ◌∷◌, map, codes, refl, Ok, Some, None}
+use Rattle.std.specs.Fmt.{digits}
+use Rattle.pns_rules.specs.Nodes.{raw, rival, starve, loose, sole}
+use Rattle.int_rows.specs.declared.combination.Which.TheVariants as whiches
+use Rattle.flow_program.specs.declared.place.Column.TheVariants as columns
+use Rattle.flow_program.specs.declared.place.FlowStep.TheVariants as flows
+use Rattle.flow_program.specs.declared.place.Place.{Place}
+use Rattle.flow_program.specs.declared.place.Place.TheVariants as places
+use Rattle.tree_rules.specs.Tree.{TreeNode, branch, leaf}
+use Rattle.tree_rules.specs.Leaf.{Leaf, dead, clash, refuted, bounded, untried}
+use Rattle.tree_rules.specs.Claim.{Claim, network, infeasible, unknown}
+use Rattle.tree_rules.specs.Accepted.{Tree}
+use Rattle.branch_tree.specs.Tail.{whole, spent, past}
+use Rattle.tree_text_rules.specs.Spelling.{tree_text}
+use Rattle.tree_text_rules.specs.Line.{word_named}
+use Rattle.tree_text_rules.specs.Read.{Certificate, read_text, nodes_taken}
+use Rattle.tree_text_rules.proofs.Plant.{plant, body}
+
+-- a text stands for this, and this has that text
+abbrev IsTextOf : List ℕ → Certificate → Type 0
+IsTextOf text c = (read_text plant text ≡ Ok c) × (tree_text plant c.claim c.tree c.tail ≡ text)
+
+abbrev claimed : Claim
+claimed = network (record { units = 0 ∷ 2 ∷ []; sizes = pos 20000000 ∷ pos 20000000 ∷ []; d = pos 1; cost = pos 75000000000000000000 })
+
+abbrev bound_leaf : List ℕ → ℕ → ℕ → TreeNode Leaf
+bound_leaf option y z = record { option = option; steps = []; end = leaf (bounded (pos 1) (pos 0 ∷ pos y ∷ pos z ∷ [])) }
+
+abbrev solved : Tree
+solved =
+    record { option = []; steps = starve 3 ∷ loose (4 ∷ []) ∷ sole 5 2 ∷ []; end = branch 2 3 }
+    ∷ bound_leaf (0 ∷ []) 3000000 3000000
+    ∷ bound_leaf (1 ∷ []) 4000000 4000000
+    ∷ record { option = 0 ∷ 1 ∷ []; steps = []; end = leaf (bounded (pos 1) (pos 0 ∷ pos 0 ∷ pos 3000000 ∷ pos 3000000 ∷ [])) }
+    ∷ []
+
+abbrev solved_text : List ℕ
+solved_text = body (
+    codes "network U1 U3"
+    ∷ codes "sizes 1 20000000 20000000"
+    ∷ codes "cost 75000000000000000000"
+    ∷ codes "node"
+    ∷ codes "starve E"
+    ∷ codes "loose U5"
+    ∷ codes "sole P U3"
+    ∷ codes "branch C 3"
+    ∷ codes "node U1"
+    ∷ codes "bound 1 0 3000000 3000000"
+    ∷ codes "node U2"
+    ∷ codes "bound 1 0 4000000 4000000"
+    ∷ codes "node U1 U2"
+    ∷ codes "bound 1 0 0 3000000 3000000"
+    ∷ codes "end"
+    ∷ []
+    )
+
+solved_is : IsTextOf solved_text (record { claim = claimed; tree = solved; tail = whole })
+unfolding digits nodes_taken word_named
+solved_is = (refl, refl)
+
+-- each form of a step, an end and a claim
+abbrev forms : Tree
+forms =
+    record { option = []; steps = raw 0 ∷ rival 1 ∷ starve 0 ∷ loose [] ∷ loose (0 ∷ 4 ∷ []) ∷ []; end = branch 5 5 }
+    ∷ record { option = 0 ∷ []; steps = []; end = leaf (dead 1) }
+    ∷ record { option = []; steps = []; end = leaf (clash 0) }
+    ∷ record { option = []; steps = []; end = leaf (refuted []) }
+    ∷ record { option = []; steps = []; end = leaf (bounded (negsuc 0) []) }
+    ∷ record { option = []; steps = []; end = leaf untried }
+    ∷ []
+
+abbrev forms_text : List (List ℕ) → List (List ℕ) → List ℕ
+forms_text claim tail = body (claim ++
+    codes "node"
+    ∷ codes "raw U1"
+    ∷ codes "rival U2"
+    ∷ codes "starve A"
+    ∷ codes "loose"
+    ∷ codes "loose U1 U5"
+    ∷ codes "branch P 5"
+    ∷ codes "node U1"
+    ∷ codes "dead B"
+    ∷ codes "node"
+    ∷ codes "clash X"
+    ∷ codes "node"
+    ∷ codes "refuted"
+    ∷ codes "node"
+    ∷ codes "bound -1"
+    ∷ codes "node"
+    ∷ codes "open"
+    ∷ tail
+    )
+
+forms_are : IsTextOf (forms_text (codes "infeasible" ∷ []) (codes "end" ∷ [])) (record { claim = infeasible; tree = forms; tail = whole })
+unfolding digits nodes_taken word_named
+forms_are = (refl, refl)
+
+spent_is : IsTextOf (forms_text (codes "unknown" ∷ []) (codes "spent 4294967295 340282366920938463463374607431768211455" ∷ codes "end" ∷ []))
+    (record { claim = unknown; tree = forms; tail = spent 4294967295 340282366920938463463374607431768211455 })
+unfolding digits nodes_taken word_named
+spent_is = (refl, refl)
+
+empty_network : IsTextOf (forms_text (codes "network" ∷ codes "sizes 7" ∷ codes "cost -170141183460469231731687303715884105727" ∷ []) (codes "end" ∷ []))
+    (record { claim = network (record { units = []; sizes = []; d = pos 7; cost = negsuc 170141183460469231731687303715884105726 }); tree = forms; tail = whole })
+unfolding digits nodes_taken word_named
+empty_network = (refl, refl)
+
+-- a tail with this place
+abbrev past_text : List ℕ → List ℕ
+past_text place = body (codes "unknown" ∷ codes "node" ∷ codes "open" ∷ codes "past 0" ∷ codes "nonbasic x:U1 s:U2 t:A w:P right scale" ∷ place ∷ codes "end" ∷ [])
+
+abbrev past_at : Place → Certificate
+past_at place = record {
+  claim = unknown;
+  tree = record { option = []; steps = []; end = leaf untried } ∷ [];
+  tail = past 0 (columns.X 0 ∷ columns.S 1 ∷ columns.T 0 ∷ columns.W 5 ∷ columns.Right ∷ columns.Scale ∷ []) place;
+}
+
+-- each form of a place
+abbrev places_of : List (List ℕ × Place)
+places_of =
+    (codes "place entry s:U1 x:U1 cost right left", places.Entry (columns.S 0) (columns.X 0) None columns.Right whiches.Left)
+    ∷ (codes "place entry right scale t:B w:B right", places.Entry columns.Right columns.Scale (Some (columns.T 1)) (columns.W 1) whiches.Right)
+    ∷ (codes "place entry x:U3 x:U3 x:U3 scale difference", places.Entry (columns.X 2) (columns.X 2) (Some (columns.X 2)) columns.Scale whiches.Difference)
+    ∷ (codes "place flow U5 lcm", places.Flow 4 flows.Lcm)
+    ∷ (codes "place flow U5 shift", places.Flow 4 flows.Shift)
+    ∷ (codes "place flow U5 scaled", places.Flow 4 flows.Scaled)
+    ∷ (codes "place flow U5 total", places.Flow 4 flows.Total)
+    ∷ (codes "place cost 0", places.Cost 0)
+    ∷ (codes "place flowsum 10", places.FlowSum 10)
+    ∷ (codes "place bound 4294967295", places.Bound 4294967295)
+    ∷ (codes "place refute w:F 3", places.Refute (columns.W 4) 3)
+    ∷ []
+
+places_read : map (λ row. read_text plant (past_text (row.0))) places_of ≡ map (λ row. Ok (past_at (row.1))) places_of
+unfolding nodes_taken word_named
+places_read = refl
+
+abbrev text_for : Certificate → List ℕ
+text_for c = tree_text plant c.claim c.tree c.tail
+
+places_spelled : map (λ row. text_for (past_at (row.1))) places_of ≡ map (λ row. past_text (row.0)) places_of
+unfolding digits
+places_spelled = refl

@@ -1,0 +1,5 @@
+pub mod Line
+pub mod LineRead
+pub mod Read
+pub mod Spelling
+pub mod Token
