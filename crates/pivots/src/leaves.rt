@@ -1,0 +1,55 @@
+// Which unit has a pivot of the first kind, and which column leaves the basis at one of the second.
+ghost use Rattle.std.specs.Prelude.{◌≡◌, ◌<◌, ◌≤◌, ◌↔◌, ℕ, true, false, pos, ◌<ℤ◌, ◌≤ℤ◌, length, IfNone, IfSome, IsTrue, slice_index_or};
+ghost use Rattle.path_rules.specs.LinearProgram.{LinearProgram};
+ghost use Rattle.path_rules.specs.Pivots.{IsFeasible, IsLeaving};
+ghost use Rattle.tableau_rows.specs.Rows.{width, row_of, table, basis};
+ghost use Rattle.pivots.specs.Choice.{IsOfSize, columns_of, scale_of, IsFirstNegative, HasNoNegative, IsDualFeasible};
+
+use tableau_rows::Rows;
+
+/// The first of the first n numbers below 0, or `None` exactly where none is.
+fn first_negative(row: &[i128], n: usize) -> Option<usize>
+    requires { n ≤ length row.now }
+    ensures found { IfSome result (λ k. IsFirstNegative row.now n k) }
+    ensures none { IfNone result (HasNoNegative row.now n) }
+{
+    for k in 0..n {
+        if row[k] < 0 {
+            return Some(k);
+        }
+    }
+    None
+}
+
+/// The first unit whose entry in the cost row is below 0, or `None` exactly where there is none.
+pub fn first_unit(rows: &Rows) -> Option<usize>
+    ensures found { IfSome result (λ unit. IsFirstNegative (row_of rows.now (scale_of rows.now)) rows.now.units unit) }
+    ensures none { IfNone result (HasNoNegative (row_of rows.now (scale_of rows.now)) rows.now.units) }
+{
+    first_negative(rows.row(rows.scale_at()), rows.units())
+}
+
+/// Whether the column is in the basis with a value below 0.
+fn is_negative_value(rows: &Rows, column: usize) -> bool
+    requires { column < columns_of rows.now }
+    ensures yes { IsTrue result → basis rows.now column ≡ true }
+    ensures negative { IsTrue result → table rows.now column (columns_of rows.now) <ℤ pos 0 }
+    ensures no { result ≡ false → basis rows.now column ≡ true → pos 0 ≤ℤ table rows.now column (columns_of rows.now) }
+{
+    rows.is_basic(column) && rows.entry(column, rows.right_at()) < 0
+}
+
+/// The first column of the basis whose value is below 0, where no entry of the cost row is; or `None` exactly where there is
+/// none, so that the basis gives least flows.
+pub fn leaving(rows: &Rows) -> Option<usize>
+    requires costs { IsDualFeasible rows.now }
+    ensures found { IfSome result (λ l. (p : LinearProgram) → IsOfSize p rows.now → IsLeaving p (basis rows.now) (table rows.now) l) }
+    ensures none { IfNone result ((p : LinearProgram) → IsOfSize p rows.now → IsFeasible p (basis rows.now) (table rows.now)) }
+{
+    for column in 0..rows.right_at() {
+        if is_negative_value(rows, column) {
+            return Some(column);
+        }
+    }
+    None
+}
