@@ -6,13 +6,14 @@
 //!
 //! - `fraction`: `Frac`, its sum, product and order.
 //! - `text`: its text, as `5/6` or `-2`.
-//! - `euclid`: the comparison of two fractions by Euclid's steps.
+//! - `euclid`: the comparison of two fractions by Euclid's steps, for those that are no `Frac` too.
 #![tactic(auto)]
 
 mod euclid;
 mod fraction;
 mod text;
 
+pub use euclid::compare_fractions;
 pub use fraction::{Frac, Past};
 
 #[cfg(test)]
