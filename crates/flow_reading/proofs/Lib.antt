@@ -1,1 +1,3 @@
+pub mod DivisionLemmas
 pub mod LcmLemmas
+pub mod PutLemmas
