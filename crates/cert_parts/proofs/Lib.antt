@@ -1,2 +1,4 @@
+pub mod NodeLemmas
+pub mod RowLemmas
 pub mod SetLemmas
 pub mod StepLemmas

@@ -1,7 +1,6 @@
 -- Emptiness and membership of sets.
-use Rattle.std.proofs.Common.{◌≡◌, ℕ, ◌<◌, ◌==◌, nat_lt, Bool, true, false, not, ◌&&◌, ◌||◌, List, [], ◌∷◌, ◌↔◌, IsTrue, refl, sym, ap, ◌∙◌, subst, inl, inr, eq-eqb, eqb-true, lt-ltb, ltb-true, bytes_eq}
+use Rattle.std.proofs.Common.{◌≡◌, ℕ, ◌<◌, ◌==◌, nat_lt, Bool, true, false, not, ◌&&◌, List, [], ◌∷◌, ◌↔◌, refl, sym, ap, ◌∙◌, subst, inl, inr, eq-eqb, eqb-true, lt-ltb, ltb-true}
 use Rattle.std.proofs.lemmas.Bool.{or_left, or_cases, and_parts, and_from, both_ways, not-true, false_from_ne_true}
-use Rattle.std.specs.Cmp.Lexicographic.{bytes_decides}
 use Rattle.number_sets.specs.Sets.{has, meet, minus, Avoids, IsRising}
 use Rattle.number_sets.proofs.SetLemmas.{has-meet, has-minus, same_sets, same_tests}
 use Rattle.pns_rules.specs.Shape.{Shape}
@@ -73,9 +72,9 @@ free_among g inside outside left found e is u =
 pub alone_is : (set : List ℕ) (u : ℕ) → IsRising set → (set ≡ u ∷ []) ↔ ((has set u ≡ true) × ((v : ℕ) → has set v ≡ true → v ≡ u))
 alone_is set u rising = (
   (λ e. (
-      ap (λ k. has k u) e ∙ or_left (u == u) false (eq-eqb u u refl),
-      λ v h. elim (or_cases (u == v) false (sym (ap (λ k. has k v) e) ∙ h)) [ inl q ↦ sym (eqb-true u v q) | inr q ↦ absurd (both_ways false refl q) ],
-    )),
+    ap (λ k. has k u) e ∙ or_left (u == u) false (eq-eqb u u refl),
+    λ v h. elim (or_cases (u == v) false (sym (ap (λ k. has k v) e) ∙ h)) [ inl q ↦ sym (eqb-true u v q) | inr q ↦ absurd (both_ways false refl q) ],
+  )),
   (λ h. same_sets set (u ∷ []) rising (tt, tt) (λ v.
       same_tests (has set v) (has (u ∷ []) v)
       (λ p. or_left (u == v) false (eq-eqb u v (sym (h.1 v p))))

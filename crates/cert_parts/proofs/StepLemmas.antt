@@ -1,11 +1,11 @@
 -- What is tested of a step is its condition.
-use Rattle.std.proofs.Common.{◌≡◌, ℕ, ◌<◌, Bool, true, false, not, ◌&&◌, ◌||◌, List, [], ◌↔◌, refl, sym, ap, ap₂, ◌∙◌, subst, inl, inr}
+use Rattle.std.proofs.Common.{◌≡◌, ℕ, ◌<◌, Bool, true, false, not, ◌&&◌, ◌||◌, List, [], ◌↔◌, refl, sym, ap, ap₂, ◌∙◌, inl, inr}
 use Rattle.std.proofs.lemmas.Bool.{or_cases, or_left, or_right, and_parts, both_ways, false_from_ne_true, true_from_ne_false}
-use Rattle.number_sets.specs.Sets.{has, meet, minus, union, IsWithin, Avoids}
+use Rattle.number_sets.specs.Sets.{has, minus, union, IsWithin, Avoids}
 use Rattle.number_sets.proofs.SetLemmas.{has-union}
 use Rattle.pns_rules.specs.Shape.{Shape, IsProper}
 use Rattle.pns_rules.specs.Structure.{is_made, is_used, is_needed}
-use Rattle.pns_rules.specs.Nodes.{Node, raw, rival, starve, loose, sole, IsPossible, is_free}
+use Rattle.pns_rules.specs.Nodes.{Node, raw, starve, loose, sole, IsPossible, is_free}
 use Rattle.pns_rules.specs.Ends.{IsDead}
 use Rattle.pns_rules.proofs.StructureLemmas.{is_made-from, is_made-some, is_used-from, is_used-some}
 use Rattle.cert_parts.proofs.SetLemmas.{same_at, some_number, none_there, is_none, left_is}
@@ -88,15 +88,15 @@ module _ (g : Shape) (n : Node) (proper : IsProper g) where
         pub loose_is : (w ≡ [] → ⊥) → IsWithin (has w) (has free) → Avoids (has made) (has wanted) ↔ IsPossible g n (loose w)
         loose_is some f = (
           (λ a. (
-              some_number w some,
-              (λ u h. (free_are u).0 (f u h)),
-              (λ u y h m.
-                  let there : has made y ≡ true = made_at y ∙ is_made-from g (has w) u y (loose_known f u h) h m in (
-                    false_from_ne_true (g.product y) (λ q. a y there (wanted_at y ∙ or_left (g.product y) (is_used g (has others) y) q)),
-                    (λ v lt o no. false_from_ne_true (g.uses v y) (λ q.
-                        a y there (wanted_at y ∙ or_right (g.product y) (is_used g (has others) y) (is_used-from g (has others) v y lt ((others_at v).1 ((left_are v).1 (lt, o), no)) q)))),
-                  )),
-            )),
+            some_number w some,
+            (λ u h. (free_are u).0 (f u h)),
+            (λ u y h m.
+                let there : has made y ≡ true = made_at y ∙ is_made-from g (has w) u y (loose_known f u h) h m in (
+                  false_from_ne_true (g.product y) (λ q. a y there (wanted_at y ∙ or_left (g.product y) (is_used g (has others) y) q)),
+                  (λ v lt o no. false_from_ne_true (g.uses v y) (λ q.
+                      a y there (wanted_at y ∙ or_right (g.product y) (is_used g (has others) y) (is_used-from g (has others) v y lt ((others_at v).1 ((left_are v).1 (lt, o), no)) q)))),
+                )),
+          )),
           (λ p y m q.
               let k = is_made-some g (has w) y (sym (made_at y) ∙ m) in
               let r = p.2 k.0 y k.2 k.3 in

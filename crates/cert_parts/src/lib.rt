@@ -1,9 +1,25 @@
-//! The parts of a certificate, judged one by one: a step at a node, and where it leads.
+//! The parts of a certificate, judged one by one, over problems and graphs alone: a claimed network, a step at a node and the
+//! node that it leaves, the options of a branch, and each leaf. None of it knows how a tree is found.
+//!
+//! Each judgement is exact. What passes is what the definitions of `tree_rules` let pass, and a refusal is the first line of
+//! their table that fails, with its cause. A number that the problem does not have is no condition of any call: whatever
+//! stands on it fails. No call takes memory.
+//!
+//! Modules: `sets` and `materials` are tests of sets and what a node needs; `steps` which steps are possible; `nodes` the nodes
+//! that steps and options leave; `costs` compares costs; `network` and `leaves` judge claims and leaves.
 #![tactic(auto)]
 
+mod costs;
+mod leaves;
 mod materials;
+mod network;
+mod nodes;
 mod sets;
 mod steps;
 
+pub use costs::CostOver;
+pub use leaves::{judge_bound, judge_clash, judge_dead, judge_open, judge_refutation};
 pub use materials::{is_dead, is_needed};
+pub use network::judge_network;
+pub use nodes::{after, after_steps, are_all_options, child};
 pub use steps::is_possible;

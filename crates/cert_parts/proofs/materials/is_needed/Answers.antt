@@ -1,4 +1,4 @@
-use Rattle.std.proofs.Common.{◌≡◌, ◌∙◌, ◌≤◌, ℕ, true, false, not, sym, ap, refl, arith, subst, le-ltb}
+use Rattle.std.proofs.Common.{◌≡◌, ◌∙◌, ◌≤◌, ℕ, true, false, not, sym, ap, arith, subst, le-ltb}
 use Rattle.std.proofs.lemmas.Bool.{false_from_ne_true}
 use Rattle.number_sets.specs.Sets.{has}
 use Rattle.pns_rules.specs.Structure.{is_needed}

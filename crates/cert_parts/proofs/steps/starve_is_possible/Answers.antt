@@ -1,4 +1,4 @@
-use Rattle.std.proofs.Common.{◌≡◌, ◌∙◌, ◌≤◌, ◌<◌, ℕ, List, [], true, false, sym, refl, subst, arith}
+use Rattle.std.proofs.Common.{◌∙◌, ◌≤◌, ◌<◌, ℕ, [], false, sym, refl, subst, arith}
 use Rattle.std.proofs.lemmas.Bool.{both_ways}
 use Rattle.number_sets.specs.Sets.{has}
 use Rattle.pgraph.specs.Tables.{shape}

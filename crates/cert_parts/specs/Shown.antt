@@ -1,0 +1,8 @@
+-- What contracts see of a claimed cost.
+use Rattle.std.specs.Prelude.{Option, Some, None}
+use Rattle.tree_rules.specs.Claim as rules
+use Rattle.cert_parts.specs.declared.costs.CostOver.{CostOver}
+
+abbrev pub cost_over : Option CostOver → Option rules.CostOver
+cost_over None = None
+cost_over (Some claimed) = Some (record { cost = claimed.cost; d = claimed.d })

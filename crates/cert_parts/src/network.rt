@@ -1,0 +1,54 @@
+//! A claimed network.
+ghost use Rattle.std.specs.Prelude.{◌≡◌, ◌≤ℤ◌, pos, Bool, length, OnOk, IfErr};
+ghost use Rattle.pns_rules.specs.Shape.{shape_of};
+ghost use Rattle.tree_rules.specs.Claim.{network, IsFeasible, ClaimFails};
+ghost use Rattle.pgraph.specs.Tables.{shape};
+
+use crate::costs::are_same;
+use flow_program::{cost_of, feasible};
+use pgraph::{Graph, Verdict};
+use pns_problem::Problem;
+use tree_rules::Why;
+use unit_sets::UnitSet;
+
+/// Judges the network of these units, with a size for each in rising order and its cost, all over d: its units are an allowed
+/// solution structure, the sizes are flows for them, and the cost is theirs. The first line that fails is its cause.
+pub fn judge_network(
+    problem: &Problem,
+    graph: &Graph,
+    units: UnitSet,
+    sizes: &[i128],
+    d: i128,
+    cost: i128,
+) -> Result<(), Why>
+    requires graph { shape graph.now ≡ shape_of problem.now }
+    requires sizes { length sizes.now ≡ length units }
+    requires positive { pos 1 ≤ℤ d }
+    ensures passes { OnOk result (IsFeasible problem.now (record { units = units; sizes = sizes.now; d = d; cost = cost })) }
+    ensures fails { IfErr result (λ why. (partial : Bool) → ClaimFails partial problem.now (network (record { units = units; sizes = sizes.now; d = d; cost = cost })) why) }
+{
+    graph.is_proper();
+    if !units.within(UnitSet::below(graph.unit_count())) {
+        return Err(Why::Axiom);
+    }
+    let Verdict::Meets = graph.judge(units) else {
+        return Err(Why::Axiom);
+    };
+    if let Some(_) = graph.clash(units) {
+        return Err(Why::Exclusion);
+    }
+    let Ok(holds) = feasible(problem, graph, units, sizes, d) else {
+        return Err(Why::Sum);
+    };
+    if !holds {
+        return Err(Why::Flows);
+    }
+    let Ok(total) = cost_of(problem, graph, units, sizes, d) else {
+        return Err(Why::Sum);
+    };
+    if are_same(total, cost) {
+        Ok(())
+    } else {
+        Err(Why::Cost)
+    }
+}
