@@ -6,7 +6,7 @@ use Rattle.number_sets.specs.Sets.{listed, IsWithin, Avoids}
 use Rattle.problem_rules.specs.Problem.{Problem}
 use Rattle.problem_rules.specs.Validity.{IsValid}
 use Rattle.pns_rules.specs.Shape.{Shape, IsProper, shape_of}
-use Rattle.pns_rules.specs.Structure.{IsStructure, IsUnion}
+use Rattle.pns_rules.specs.Structure.{is_needed, IsStructure, IsUnion}
 use Rattle.pns_rules.specs.Nodes.{Node, Step, base_makers, free_makers, options, child, IsOption}
 use Rattle.pns_rules.specs.Ends.{IsSound, IsDead, IsUndecided, IsNever, IsReduced, remaining}
 use Rattle.tree_rules.specs.Tree.{End, leaf, StepsPass, after_all, Stands}
@@ -62,6 +62,11 @@ StepsFreeNone = (g : Shape) (n : Node) (steps : List Step) → free_units g (aft
 -- a needed material with a maker outside I and E has two options or more
 abbrev pub DecisionsSplit : Type 0
 DecisionsSplit = (g : Shape) (n : Node) (x : ℕ) → IsReduced g n → IsUndecided g n x → 2 ≤ length (options g n x)
+
+-- the child of an option of a needed material is sound
+abbrev pub ChildrenAreSound : Type 0
+ChildrenAreSound =
+    (g : Shape) (n : Node) (x : ℕ) (t : List ℕ) → IsSound g n → IsReduced g n → is_needed g n.inside x ≡ true → IsOption g n x t → IsSound g (child g n x t)
 
 -- ---- numbers
 

@@ -11,5 +11,5 @@ mod nodes;
 mod values;
 
 pub use counts::{lean_is_few, options_are_counted, spent_is_never};
-pub use nodes::{decisions_split, free_units_are_few, reduced_is_structure};
+pub use nodes::{children_are_sound, decisions_split, free_units_are_few, reduced_is_structure};
 pub use values::{below_is_no_dearer, children_are_below, children_are_dearer};

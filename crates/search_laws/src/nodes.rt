@@ -1,4 +1,4 @@
-ghost use Rattle.search_laws.specs.Laws.{ReducedIsStructure, ReducedIsWithinUnion, FreeUnitsAreFew, StepsFreeNone, DecisionsSplit};
+ghost use Rattle.search_laws.specs.Laws.{ReducedIsStructure, ReducedIsWithinUnion, FreeUnitsAreFew, StepsFreeNone, DecisionsSplit, ChildrenAreSound};
 
 /// At a reduced node the units that are not left out form a solution structure.
 pub fn reduced_is_structure()
@@ -16,4 +16,9 @@ pub fn free_units_are_few()
 /// At a reduced node a needed material with a maker outside I and E has two options or more.
 pub fn decisions_split()
     ensures { DecisionsSplit }
+{}
+
+/// The child of an option of a needed material, at a sound node that is reduced, is sound.
+pub fn children_are_sound()
+    ensures { ChildrenAreSound }
 {}
