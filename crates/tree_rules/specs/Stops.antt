@@ -5,8 +5,6 @@ use Rattle.problem_rules.specs.Problem.{Problem}
 use Rattle.pns_rules.specs.Shape.{shape_of}
 use Rattle.pns_rules.specs.Nodes.{Node, options}
 use Rattle.pns_rules.specs.Ends.{IsReduced, IsUndecided, IsFirst}
-use Rattle.flow_rules.specs.Net.{net_of}
-use Rattle.flow_rules.specs.Program.{Program, program_of}
 use Rattle.tree_rules.specs.Tree.{leaf, TreeNode, Stands}
 use Rattle.tree_rules.specs.Claim.{CostOver}
 use Rattle.tree_rules.specs.Lean.{MayUndercut, IsNoDearer}
@@ -35,9 +33,9 @@ pub record IsSpent {L : Type 0} (p : Problem) (IsOpen : L → Type 0) (claimed :
   pub count_is : count ≡ length (options (shape_of p) node material)
   pub exceeds : budget < length tree + count
 
--- leaf k is open and reduced, and the simplex method goes past the range at its program. `Past` says so of a program.
-pub record IsPast {L : Type 0} (p : Problem) (IsOpen : L → Type 0) (start : Node) (tree : List (TreeNode L)) (Past : Program → Type 0) (k : ℕ) : Type 0 where
+-- leaf k is open and reduced, and the simplex method goes past the range at its program. `Past` says so of a node.
+pub record IsPast {L : Type 0} (p : Problem) (IsOpen : L → Type 0) (start : Node) (tree : List (TreeNode L)) (Past : Node → Type 0) (k : ℕ) : Type 0 where
   pub node : Node
   pub at_leaf : IsOpenAt p IsOpen start tree k node
   pub reduced : IsReduced (shape_of p) node
-  pub past : Past (program_of (net_of p) node)
+  pub past : Past node
