@@ -1,1 +1,3 @@
 pub mod Dual
+pub mod Reading
+pub mod Step

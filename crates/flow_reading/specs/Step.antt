@@ -1,0 +1,10 @@
+-- The numbers that are formed for a unit, by the names that `flow_program` has for them.
+use Rattle.flow_program.specs.declared.place.FlowStep.{FlowStep}
+use Rattle.flow_program.specs.declared.place.FlowStep.TheVariants.{Lcm, Shift, Scaled, Total}
+use Rattle.path_rules.specs.ReadFlows as rules
+
+abbrev pub step_of : FlowStep → rules.FlowStep
+step_of Lcm = rules.Lcm
+step_of Shift = rules.Shift
+step_of Scaled = rules.Scaled
+step_of Total = rules.Total
