@@ -1,0 +1,198 @@
+-- The tree of cells that fit passes, and what stands in it are the cells.
+use Rattle.std.proofs.Common.{◌≡◌, ℕ, zero, suc, ◌+◌, ◌<◌, ◌≤◌, List, [], ◌∷◌, ◌++◌, length, map, refl, sym, ap, ap₂, ◌∙◌, subst, arith, Some, length-append}
+use Rattle.std.specs.List.{range_with_len, slice_get}
+use Rattle.pns_rules.specs.Shape.{Shape}
+use Rattle.pns_rules.specs.Nodes.{Node, child}
+use Rattle.tree_rules.specs.Tree.{End, branch, leaf, TreeNode, children, skip, roots, StepsPass, after_all, below, Stands, EndPasses, Pass}
+use Rattle.tree_rules.specs.Leaf.{Leaf}
+use Rattle.search_tree.specs.Cells.{Cell, place_of, cell_at, numbers_below, children_at, AreBehind, IsLinked}
+use Rattle.search_tree.specs.Preorder.{IsPreorder, tree_of}
+use Rattle.search_tree.specs.Fits.{Follows, EndFits, Fits}
+use Rattle.search_tree.specs.Laws.{IsCell}
+use Rattle.search_tree.proofs.TreeLemmas.{count_below}
+
+-- ---- roots of subtrees
+from_none : (n : ℕ) → 0 + n ≡ n
+from_none n = omega arith
+
+from_next : (n m : ℕ) → suc n + m ≡ suc (n + m)
+from_next n m = omega arith
+
+skip-none : (b : ℕ) → skip {L = Leaf} b [] ≡ []
+skip-none zero = refl
+skip-none (suc b) = refl
+
+skip-add : (ts : List (TreeNode Leaf)) (a b : ℕ) → skip (a + b) ts ≡ skip b (skip a ts)
+skip-add ts zero b = ap (λ n. skip n ts) (from_none b)
+skip-add [] (suc a) b = skip-none (suc a + b) ∙ sym (skip-none b)
+skip-add (t ∷ ts) (suc a) b = ap (λ n. skip n (t ∷ ts)) (from_next a b) ∙ ap (λ n. skip n ts) (group (children t.end) a b) ∙ skip-add ts (children t.end + a) b
+  where
+    group : (x y z : ℕ) → x + (y + z) ≡ (x + y) + z
+    group x y z = omega arith
+
+roots-none : (b : ℕ) → roots {L = Leaf} b [] ≡ []
+roots-none zero = refl
+roots-none (suc b) = refl
+
+roots-add : (a b : ℕ) (ts : List (TreeNode Leaf)) → roots (a + b) ts ≡ roots a ts ++ roots b (skip a ts)
+roots-add zero b ts = ap (λ n. roots n ts) (from_none b)
+roots-add (suc a) b [] = roots-none (suc a + b) ∙ sym (roots-none b)
+roots-add (suc a) b (t ∷ ts) =
+    ap (λ n. roots n (t ∷ ts)) (from_next a b)
+    ∙ ap (λ os. t.option ∷ os) (roots-add a b (skip 1 (t ∷ ts)) ∙ ap (λ us. roots a (skip 1 (t ∷ ts)) ++ roots b us) (sym (ap (λ n. skip n (t ∷ ts)) (one a) ∙ skip-add (t ∷ ts) 1 a)))
+  where
+    one : (a : ℕ) → suc a ≡ 1 + a
+    one a = omega arith
+
+-- equal lists whose first parts are as long have equal parts
+parts : {X : Type 0} (xs xs' ys ys' : List X) → length xs ≡ length xs' → xs ++ ys ≡ xs' ++ ys' → (xs ≡ xs') × (ys ≡ ys')
+parts [] [] ys ys' l e = (refl, e)
+parts [] (x ∷ xs') ys ys' l e = cc
+parts (x ∷ xs) [] ys ys' l e = cc
+parts (x ∷ xs) (x' ∷ xs') ys ys' l e =
+    let head : x ≡ x' = cc in
+    let tail : xs ++ ys ≡ xs' ++ ys' = cc in
+    let rest = parts xs xs' ys ys' (omega (arith, l)) tail in
+    (ap₂ (λ w ws. w ∷ ws) head rest.0, rest.1)
+
+abbrev options_of : List Cell → List ℕ → List (List ℕ)
+options_of cells is = map (λ j. (cell_at cells j).option) is
+
+options_of-append : (cells : List Cell) (is js : List ℕ) → options_of cells (is ++ js) ≡ options_of cells is ++ options_of cells js
+options_of-append cells [] js = refl
+options_of-append cells (i ∷ is) js = ap (λ os. (cell_at cells i).option ∷ os) (options_of-append cells is js)
+
+length-options_of : (cells : List Cell) (is : List ℕ) → length (options_of cells is) ≡ length is
+length-options_of cells [] = refl
+length-options_of cells (i ∷ is) = ap suc (length-options_of cells is)
+
+roots-most : (a : ℕ) (ts : List (TreeNode Leaf)) → length (roots a ts) ≤ a
+roots-most zero ts = omega arith
+roots-most (suc a) [] = omega arith
+roots-most (suc a) (t ∷ ts) = let h = roots-most a (skip 1 (t ∷ ts)) in omega (arith, h)
+
+-- where all roots are known, the first and the others are
+split_roots : (cells : List Cell) (c m : ℕ) (ts : List (TreeNode Leaf)) (cs is : List ℕ) → length cs ≡ c → length is ≡ m → roots (c + m) ts ≡ options_of cells cs ++ options_of cells is
+    → (roots c ts ≡ options_of cells cs) × (roots m (skip c ts) ≡ options_of cells is)
+split_roots cells c m ts cs is lc lm h =
+    let e = sym (roots-add c m ts) ∙ h in
+    let a = roots-most c ts in
+    let b = roots-most m (skip c ts) in
+    let l = sym (length-append (roots c ts) (roots m (skip c ts))) ∙ (ap (λ os. length os) e ∙ length-append (options_of cells cs) (options_of cells is)) in
+    let k = length-options_of cells cs in
+    let j = length-options_of cells is in
+    parts (roots c ts) (options_of cells cs) (roots m (skip c ts)) (options_of cells is) (omega (arith, a, b, l, k, j, lc, lm)) e
+
+-- the numbers of the next cells, and the nodes from which their steps lead
+abbrev Aligned : Shape → List Cell → List Node → List ℕ → Type 0
+Aligned g cells [] [] = Unit {0}
+Aligned g cells [] (i ∷ is) = ⊥
+Aligned g cells (n ∷ ns) [] = ⊥
+Aligned g cells (n ∷ ns) (i ∷ is) = (i < length cells) × Follows g n (cell_at cells i) × Aligned g cells ns is
+
+aligned-append : (g : Shape) (cells : List Cell) (ns ms : List Node) (is js : List ℕ) → Aligned g cells ns is → Aligned g cells ms js → Aligned g cells (ns ++ ms) (is ++ js)
+aligned-append g cells [] ms [] js h k = k
+aligned-append g cells [] ms (i ∷ is) js h k = absurd h
+aligned-append g cells (n ∷ ns) ms [] js h k = absurd h
+aligned-append g cells (n ∷ ns) ms (i ∷ is) js h k = (h.0, h.1, aligned-append g cells ns ms is js h.2 k)
+
+aligned_children : (g : Shape) (cells : List Cell) (n : Node) (x f c : ℕ) → f + c ≤ length cells
+    → ((k : ℕ) → k < c → Follows g (child g n x (cell_at cells (f + k)).option) (cell_at cells (f + k)))
+    → Aligned g cells (map (child g n x) (options_of cells (range_with_len f c))) (range_with_len f c)
+aligned_children g cells n x f zero fits h = tt
+aligned_children g cells n x f (suc c) fits h = (
+  omega (arith, fits),
+  subst (λ j. Follows g (child g n x (cell_at cells j).option) (cell_at cells j)) (none f) (h 0 (omega arith)),
+  aligned_children g cells n x (f + 1) c (omega (arith, fits)) (λ k lt.
+      subst (λ j. Follows g (child g n x (cell_at cells j).option) (cell_at cells j)) (next f k) (h (suc k) (omega (arith, lt)))),
+)
+  where
+    none : (f : ℕ) → f + 0 ≡ f
+    none f = omega arith
+
+    next : (f k : ℕ) → f + suc k ≡ f + 1 + k
+    next f k = omega arith
+
+module _ (g : Shape) (P : Node → Leaf → Type 0) (start : Node) (cells : List Cell) (linked : IsLinked cells) (fits : Fits g P start cells) where
+  -- the nodes below a cell are those of its children
+  aligned_below : (i : ℕ) → i < length cells → Aligned g cells (below g (place_of (cell_at cells i)) (cell_at cells i).end) (children_at cells i)
+  aligned_below i lt = at (cell_at cells i).first (cell_at cells i).end (linked.behind i lt) (fits.ends i lt)
+    where
+      at : (f : ℕ) (e : End Leaf) → AreBehind (length cells) i f e → EndFits g P cells (place_of (cell_at cells i)) f e → Aligned g cells (below g (place_of (cell_at cells i)) e) (numbers_below f e)
+      at f (leaf l) behind h = tt
+      at f (branch x c) behind h =
+          subst (λ os. Aligned g cells (map (child g (place_of (cell_at cells i)) x) os) (range_with_len f c)) h.options_are
+          (aligned_children g cells (place_of (cell_at cells i)) x f c behind.2 h.follow)
+
+  aligned_next : (n : Node) (i : ℕ) (ns : List Node) (is : List ℕ) → Aligned g cells (n ∷ ns) (i ∷ is)
+      → Aligned g cells (below g (after_all g n (cell_at cells i).steps) (cell_at cells i).end ++ ns) (children_at cells i ++ is)
+  aligned_next n i ns is a =
+      aligned-append g cells (below g (after_all g n (cell_at cells i).steps) (cell_at cells i).end) ns (children_at cells i) is
+      (subst (λ m. Aligned g cells (below g m (cell_at cells i).end) (children_at cells i)) (sym a.1.leave) (aligned_below i a.0)) a.2
+
+  -- the roots of the subtrees have the options of the cells
+  next_roots : (i : ℕ) (is ks : List ℕ) → roots (length (children_at cells i ++ is)) (tree_of cells ks) ≡ options_of cells (children_at cells i ++ is)
+      → (roots (children (cell_at cells i).end) (tree_of cells ks) ≡ options_of cells (children_at cells i)) × (roots (length is) (skip (children (cell_at cells i).end) (tree_of cells ks)) ≡ options_of cells is)
+  next_roots i is ks h =
+      let count = count_below (cell_at cells i).first (cell_at cells i).end in
+      split_roots cells (children (cell_at cells i).end) (length is) (tree_of cells ks) (children_at cells i) is count refl
+      (ap (λ n. roots n (tree_of cells ks)) (ap (λ n. n + length is) (sym count) ∙ sym (length-append (children_at cells i) is)) ∙ (h ∙ options_of-append cells (children_at cells i) is))
+
+  roots_are : (is order : List ℕ) → IsPreorder cells is order → roots (length is) (tree_of cells order) ≡ options_of cells is
+  roots_are [] [] p = refl
+  roots_are [] (k ∷ ks) p = absurd p
+  roots_are (i ∷ is) [] p = absurd p
+  roots_are (i ∷ is) (k ∷ ks) p =
+      let h = next_roots i is ks (roots_are (children_at cells i ++ is) ks p.1) in
+      subst (λ j. (cell_at cells j).option ∷ roots (length is) (skip (children (cell_at cells j).end + 0) (tree_of cells ks)) ≡ (cell_at cells i).option ∷ options_of cells is) (sym p.0)
+      (ap (λ os. (cell_at cells i).option ∷ os) (ap (λ n. roots (length is) (skip n (tree_of cells ks))) (plus (children (cell_at cells i).end)) ∙ h.1))
+    where
+      plus : (n : ℕ) → n + 0 ≡ n
+      plus n = omega arith
+
+  end_passes : (n : Node) (f : ℕ) (e : End Leaf) (ts : List (TreeNode Leaf)) → EndFits g P cells n f e → roots (children e) ts ≡ options_of cells (numbers_below f e) → EndPasses g P n e ts
+  end_passes n f (branch x c) ts h same = (h.needed, same ∙ h.options_are)
+  end_passes n f (leaf l) ts h same = h
+
+  pub passes : (ns : List Node) (is order : List ℕ) → Aligned g cells ns is → IsPreorder cells is order → Pass g P ns (tree_of cells order)
+  passes [] [] [] a p = tt
+  passes [] [] (k ∷ ks) a p = absurd p
+  passes [] (i ∷ is) order a p = absurd a
+  passes (n ∷ ns) [] order a p = absurd a
+  passes (n ∷ ns) (i ∷ is) [] a p = absurd p
+  passes (n ∷ ns) (i ∷ is) (k ∷ ks) a p =
+      let h = next_roots i is ks (roots_are (children_at cells i ++ is) ks p.1) in
+      subst (λ j. StepsPass g n (cell_at cells j).steps × EndPasses g P (after_all g n (cell_at cells j).steps) (cell_at cells j).end (tree_of cells ks) × Pass g P (below g (after_all g n (cell_at cells j).steps) (cell_at cells j).end ++ ns) (tree_of cells ks)) (sym p.0) (
+        a.1.pass,
+        subst (λ (m : Node). EndPasses g P m (cell_at cells i).end (tree_of cells ks)) (sym a.1.leave)
+            (end_passes (place_of (cell_at cells i)) (cell_at cells i).first (cell_at cells i).end (tree_of cells ks) (fits.ends i a.0) h.0),
+        passes (below g (after_all g n (cell_at cells i).steps) (cell_at cells i).end ++ ns) (children_at cells i ++ is) ks (aligned_next n i ns is a) p.1,
+      )
+
+  pub nodes_are_cells : (ns : List Node) (is order : List ℕ) → Aligned g cells ns is → IsPreorder cells is order → (k : ℕ) (m : Node) (e : End Leaf) → Stands g ns (tree_of cells order) k m e → IsCell cells m e
+  nodes_are_cells [] is order a p k m e s = absurd s
+  nodes_are_cells (n ∷ ns) [] order a p k m e s = absurd a
+  nodes_are_cells (n ∷ ns) (i ∷ is) [] a p k m e s = absurd p
+  nodes_are_cells (n ∷ ns) (i ∷ is) (j ∷ js) a p zero m e s =
+      let h = subst (λ v. (after_all g n (cell_at cells v).steps ≡ m) × ((cell_at cells v).end ≡ e)) p.0 s in
+      record { number = i; there = a.0; node_is = sym a.1.leave ∙ h.0; end_is = h.1 }
+  nodes_are_cells (n ∷ ns) (i ∷ is) (j ∷ js) a p (suc k) m e s =
+      nodes_are_cells (below g (after_all g n (cell_at cells i).steps) (cell_at cells i).end ++ ns) (children_at cells i ++ is) js (aligned_next n i ns is a) p.1 k m e
+      (subst (λ v. Stands g (below g (after_all g n (cell_at cells v).steps) (cell_at cells v).end ++ ns) (tree_of cells js) k m e) p.0 s)
+
+  pub cells_stand : (ns : List Node) (is order : List ℕ) → Aligned g cells ns is → IsPreorder cells is order → (k v : ℕ) → slice_get order k ≡ Some v → Stands g ns (tree_of cells order) k (place_of (cell_at cells v)) (cell_at cells v).end
+  cells_stand [] [] [] a p k v h = cc
+  cells_stand [] [] (j ∷ js) a p k v h = absurd p
+  cells_stand [] (i ∷ is) order a p k v h = absurd a
+  cells_stand (n ∷ ns) [] order a p k v h = absurd a
+  cells_stand (n ∷ ns) (i ∷ is) [] a p k v h = absurd p
+  cells_stand (n ∷ ns) (i ∷ is) (j ∷ js) a p zero v h =
+      let e : j ≡ v = cc in
+      subst (λ w. (after_all g n (cell_at cells j).steps ≡ place_of (cell_at cells w)) × ((cell_at cells j).end ≡ (cell_at cells w).end)) e
+      (subst (λ w. after_all g n (cell_at cells w).steps ≡ place_of (cell_at cells w)) (sym p.0) a.1.leave, refl)
+  cells_stand (n ∷ ns) (i ∷ is) (j ∷ js) a p (suc k) v h =
+      subst (λ w. Stands g (below g (after_all g n (cell_at cells w).steps) (cell_at cells w).end ++ ns) (tree_of cells js) k (place_of (cell_at cells v)) (cell_at cells v).end) (sym p.0)
+      (cells_stand (below g (after_all g n (cell_at cells i).steps) (cell_at cells i).end ++ ns) (children_at cells i ++ is) js (aligned_next n i ns is a) p.1 k v h)
+
+  pub aligned_start : Aligned g cells (start ∷ []) (0 ∷ [])
+  aligned_start = (linked.some, fits.root, tt)

@@ -1,0 +1,14 @@
+use Rattle.std.specs.Prelude.{[], ◌∷◌}
+use Rattle.pns_rules.specs.Shape.{shape_of}
+use Rattle.tree_rules.specs.Leaf.{LeafPasses}
+use Rattle.tree_rules.specs.Claim.{claimed_cost}
+use Rattle.search_tree.proofs.PassLemmas.{passes, aligned_start}
+use Rattle.search_tree.proofs.laws.preorder_proves.Goals as goal
+
+pub returns : goal.returns
+returns c = λ partial p start claim cells order grown claimed preorder. record {
+  claimed = claimed;
+  passes =
+      passes (shape_of p) (LeafPasses partial p (claimed_cost claim)) start cells grown.linked grown.fits (start ∷ []) (0 ∷ []) order
+      (aligned_start (shape_of p) (LeafPasses partial p (claimed_cost claim)) start cells grown.linked grown.fits) preorder;
+}

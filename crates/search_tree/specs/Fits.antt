@@ -1,0 +1,30 @@
+-- The cells of a growing tree at the nodes of the search, each by itself: its steps pass and leave its node, a branch has a child
+-- for each option of its material, and P tells which leaves are allowed.
+use Rattle.std.specs.Prelude.{◌≡◌, ℕ, ◌+◌, ◌<◌, true, List, [], length, map}
+use Rattle.std.specs.List.{range_with_len}
+use Rattle.pns_rules.specs.Shape.{Shape}
+use Rattle.pns_rules.specs.Structure.{is_needed}
+use Rattle.pns_rules.specs.Nodes.{Node, options, child}
+use Rattle.tree_rules.specs.Tree.{End, branch, leaf, StepsPass, after_all}
+use Rattle.tree_rules.specs.Leaf.{Leaf}
+use Rattle.search_tree.specs.Cells.{Cell, place_of, cell_at}
+
+-- the cell's steps are possible from the node, each in turn, and leave the cell's node
+pub record Follows (g : Shape) (start : Node) (c : Cell) : Type 0 where
+  pub pass : StepsPass g start c.steps
+  pub leave : after_all g start c.steps ≡ place_of c
+
+-- a branch of the node at the material x, whose c children begin with the cell `first`
+pub record IsBranch (g : Shape) (cells : List Cell) (n : Node) (first x c : ℕ) : Type 0 where
+  pub needed : is_needed g n.inside x ≡ true
+  pub options_are : map (λ j. (cell_at cells j).option) (range_with_len first c) ≡ options g n x
+  pub follow : (k : ℕ) → k < c → Follows g (child g n x (cell_at cells (first + k)).option) (cell_at cells (first + k))
+
+abbrev pub EndFits : Shape → (Node → Leaf → Type 0) → List Cell → Node → ℕ → End Leaf → Type 0
+EndFits g P cells n first (branch x c) = IsBranch g cells n first x c
+EndFits g P cells n first (leaf l) = P n l
+
+pub record Fits (g : Shape) (P : Node → Leaf → Type 0) (start : Node) (cells : List Cell) : Type 0 where
+  pub no_option : (cell_at cells 0).option ≡ []
+  pub root : Follows g start (cell_at cells 0)
+  pub ends : (i : ℕ) → i < length cells → EndFits g P cells (place_of (cell_at cells i)) (cell_at cells i).first (cell_at cells i).end

@@ -1,0 +1,28 @@
+-- The cells of a growing tree in preorder, and the branch tree that they make.
+use Rattle.std.specs.Prelude.{◌≡◌, ℕ, List, [], ◌∷◌, ◌++◌, map, Some}
+use Rattle.std.specs.List.{slice_get}
+use Rattle.tree_rules.specs.Tree.{TreeNode}
+use Rattle.tree_rules.specs.Leaf.{Leaf}
+use Rattle.tree_rules.specs.Accepted.{Tree}
+use Rattle.search_tree.specs.Cells.{Cell, cell_at, children_at}
+
+-- the numbers `order` are those of the subtrees of the cells `is`, one subtree after the other, each in preorder
+abbrev pub IsPreorder : List Cell → List ℕ → List ℕ → Type 0
+IsPreorder cells [] [] = Unit {0}
+IsPreorder cells [] (k ∷ ks) = ⊥
+IsPreorder cells (i ∷ is) [] = ⊥
+IsPreorder cells (i ∷ is) (k ∷ ks) = (k ≡ i) × IsPreorder cells (children_at cells i ++ is) ks
+
+abbrev pub node_at : List Cell → ℕ → TreeNode Leaf
+node_at cells i = record { option = (cell_at cells i).option; steps = (cell_at cells i).steps; end = (cell_at cells i).end }
+
+-- the branch tree of the cells of these numbers
+abbrev pub tree_of : List Cell → List ℕ → Tree
+tree_of cells order = map (node_at cells) order
+
+-- the nodes are those of all cells in preorder, and the cell `wanted` is the node `place` there
+pub record IsTreeOf (cells : List Cell) (wanted : ℕ) (nodes : Tree) (place : ℕ) : Type 0 where
+  pub order : List ℕ
+  pub is_preorder : IsPreorder cells (0 ∷ []) order
+  pub nodes_are : nodes ≡ tree_of cells order
+  pub stands : slice_get order place ≡ Some wanted

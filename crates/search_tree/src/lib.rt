@@ -1,0 +1,18 @@
+//! The tree of a search while it grows, and the branch tree that it makes.
+//!
+//! A search adds nodes in the order in which it meets them, the children of a node one behind the other. A [`Cell`] is such a
+//! node, kept in a `Pool`. What has to hold of the cells is said of each cell by itself (`Fits`), and [`nodes_in_preorder`] makes the
+//! branch tree, whose passing then follows: no walk is a recursion, and no fact of the search relates two nodes.
+//!
+//! - `cell`: `Cell`
+//! - `walk`: the cells in preorder
+//! - `laws`: what holds of the tree where each cell fits
+#![tactic(auto)]
+
+mod cell;
+mod laws;
+mod walk;
+
+pub use cell::Cell;
+pub use laws::{cells_stand, preorder_is_tree, preorder_proves};
+pub use walk::{Preorder, nodes_in_preorder};

@@ -1,0 +1,165 @@
+//! The cells in preorder.
+ghost use Rattle.std.specs.Prelude.{◌≡◌, ◌<◌, ◌+◌, ◌-◌, ◌^◌, [], ◌∷◌, ◌++◌, cond, IfOk, OnOk, length};
+ghost use Rattle.tree_rules.specs.Tree.{HasChildren};
+ghost use Rattle.std.specs.List.{range_with_len};
+ghost use Rattle.branch_tree.specs.View.{end_of};
+ghost use Rattle.search_tree.specs.Cells.{IsLinked, numbers_below};
+ghost use Rattle.search_tree.specs.Preorder.{IsTreeOf};
+ghost use Rattle.search_tree.specs.Runs.{to_come};
+
+use crate::cell::Cell;
+use branch_tree::{End, Multipliers, Steps, TreeNode};
+use node_pool::Pool;
+use std::alloc::{AllocError, Global};
+
+/// The number of a cell, and how many follow it.
+#[derive(Clone, Copy, Debug)]
+struct Run {
+    next: u32,
+    more: u32,
+}
+
+/// Nodes in preorder, and the place of one of them.
+#[derive(Drop)]
+pub struct Preorder {
+    pub nodes: Vec<TreeNode>,
+    pub place: u32,
+}
+
+fn copy_multipliers(alloc: Global, ys: &Multipliers) -> Result<Multipliers, AllocError>
+    ensures { IfOk result (λ c. c ≡ ys.now) }
+{
+    ys.are_in_range();
+    let numbers = ys.numbers().to_vec(alloc)?;
+    Ok(Multipliers::from_vec(numbers))
+}
+
+fn copy_steps(alloc: Global, steps: &Steps) -> Result<Steps, AllocError>
+    ensures { IfOk result (λ c. c ≡ steps.now) }
+{
+    let list = steps.steps().to_vec(alloc)?;
+    Ok(Steps::from_vec(list))
+}
+
+fn copy_end(alloc: Global, end: &End) -> Result<End, AllocError>
+    ensures { IfOk result (λ c. end_of c ≡ end_of end.now) }
+{
+    match end {
+        End::Dead(material) => Ok(End::Dead(*material)),
+        End::Clash(exclusion) => Ok(End::Clash(*exclusion)),
+        End::Refuted(ys) => {
+            let copy = copy_multipliers(alloc, ys)?;
+            Ok(End::Refuted(copy))
+        }
+        End::Bound { d, ys } => {
+            let copy = copy_multipliers(alloc, ys)?;
+            Ok(End::Bound { d: *d, ys: copy })
+        }
+        End::Branch { material, children } => Ok(End::Branch {
+            material: *material,
+            children: *children,
+        }),
+        End::Open => Ok(End::Open),
+    }
+}
+
+fn copy_node(alloc: Global, cell: &Cell) -> Result<TreeNode, AllocError>
+    ensures { IfOk result (λ t. t ≡ record { option = cell.now.option; steps = cell.now.steps; end = cell.now.end }) }
+{
+    let steps = copy_steps(alloc, &cell.steps)?;
+    let end = copy_end(alloc, &cell.end)?;
+    Ok(TreeNode {
+        option: cell.option,
+        steps,
+        end,
+    })
+}
+
+/// Puts what is left of a run behind its first number back.
+fn put_rest(stack: &mut Vec<Run>, run: Run) -> Result<(), AllocError>
+    requires { run.next < 2 ^ 32 - 1 }
+    ensures { OnOk result (to_come stack.new.items ≡ range_with_len (run.next + 1) run.more ++ to_come stack.old.items) }
+{
+    if run.more == 0 {
+        return Ok(());
+    }
+    stack.push(Run {
+        next: run.next + 1,
+        more: run.more - 1,
+    })?;
+    Ok(())
+}
+
+/// Puts the numbers of a node's children on top.
+fn put_children(stack: &mut Vec<Run>, cell: &Cell) -> Result<(), AllocError>
+    requires { HasChildren cell.now.end }
+    ensures { OnOk result (to_come stack.new.items ≡ numbers_below cell.now.first cell.now.end ++ to_come stack.old.items) }
+{
+    if let End::Branch { children, .. } = cell.end {
+        stack.push(Run {
+            next: cell.first,
+            more: children - 1,
+        })?;
+    }
+    Ok(())
+}
+
+/// Visits the next cell of a run.
+fn visit(
+    alloc: Global,
+    cell: &Cell,
+    run: Run,
+    stack: &mut Vec<Run>,
+    nodes: &mut Vec<TreeNode>,
+) -> Result<(), AllocError>
+    requires number { run.next < 2 ^ 32 - 1 }
+    requires children { HasChildren cell.now.end }
+    ensures stack { OnOk result (to_come stack.new.items ≡ numbers_below cell.now.first cell.now.end ++ (range_with_len (run.next + 1) run.more ++ to_come stack.old.items)) }
+    ensures nodes { OnOk result (nodes.new.items ≡ nodes.old.items ++ record { option = cell.now.option; steps = cell.now.steps; end = cell.now.end } ∷ []) }
+{
+    put_rest(stack, run)?;
+    put_children(stack, cell)?;
+    let node = copy_node(alloc, cell)?;
+    nodes.push(node)?;
+    Ok(())
+}
+
+fn place_after(place: usize, here: bool, now: usize) -> usize
+    ensures { result ≡ cond here now place }
+{
+    if here { now } else { place }
+}
+
+fn ended(nodes: Vec<TreeNode>, place: usize) -> Preorder
+    requires { place < 2 ^ 32 }
+    ensures nodes { result.nodes ≡ nodes }
+    ensures place { result.place ≡ place }
+{
+    Preorder {
+        nodes,
+        place: place as u32,
+    }
+}
+
+/// The branch tree of the cells, and the place of the cell `wanted` in it. It takes a step for each cell, and no recursion.
+pub fn nodes_in_preorder(
+    alloc: Global,
+    pool: &Pool<Cell>,
+    wanted: u32,
+) -> Result<Preorder, AllocError>
+    requires linked { IsLinked pool.now.payloads }
+    requires wanted { wanted < length pool.now.payloads }
+    ensures { IfOk result (λ t. IsTreeOf pool.now.payloads wanted t.nodes.items t.place) }
+{
+    pool.is_pool();
+    let mut nodes = Vec::new(alloc);
+    let mut place = 0;
+    let mut stack = Vec::new(alloc);
+    stack.push(Run { next: 0, more: 0 })?;
+    'walk: while let Some(run) = stack.pop() {
+        let cell = pool.payload(run.next);
+        place = place_after(place, run.next == wanted, nodes.len());
+        visit(alloc, cell, run, &mut stack, &mut nodes)?;
+    }
+    Ok(ended(nodes, place))
+}
