@@ -1,0 +1,146 @@
+-- The tree of what a search keeps.
+use Rattle.std.proofs.Common.{◌≡◌, ℕ, ◌+◌, ◌<◌, ℤ, ◌*ℤ◌, ◌≤ℤ◌, Bool, true, List, [], ◌∷◌, length, refl, sym, subst, arith, inl, inr, Option, Some, None}
+use Rattle.std.specs.List.{slice_get}
+use Rattle.std.proofs.lemmas.Bool.{cases_eq}
+use Rattle.std.proofs.lemmas.Int.{ints}
+use Rattle.std.proofs.lemmas.List.{length-map}
+use Rattle.integer_laws.proofs.Order.{mul-le_right}
+use Rattle.problem_rules.specs.Problem.{Problem}
+use Rattle.problem_rules.specs.Validity.{IsValid}
+use Rattle.pns_rules.specs.Shape.{shape_of}
+use Rattle.pns_rules.specs.Structure.{IsBetween}
+use Rattle.pns_rules.specs.Nodes.{Node, options}
+use Rattle.pns_rules.specs.Ends.{IsDead, IsNever, IsUndecided, IsFirst}
+use Rattle.flow_rules.specs.Net.{net_of}
+use Rattle.flow_rules.specs.Flows.{IsFlows, cost}
+use Rattle.flow_rules.specs.Relaxed.{relaxed_cost}
+use Rattle.flow_rules.proofs.DualityLemmas.{flows_are_relaxed, relaxed_costs_less}
+use Rattle.tree_rules.specs.Tree.{End, branch, leaf, Stands}
+use Rattle.tree_rules.specs.Leaf.{Leaf, untried, IsUntried, LeafPasses}
+use Rattle.tree_rules.specs.Claim.{Claim, unknown, CostOver, claimed_cost, IsAtMost, ClaimPasses}
+use Rattle.tree_rules.specs.Lean.{MayUndercut, HasCheaper, IsNoDearer, IsLean}
+use Rattle.tree_rules.specs.Stops.{IsOpenAt, IsPending, IsSpent}
+use Rattle.tree_rules.specs.Accepted.{IsAccepted}
+use Rattle.tree_laws.proofs.AcceptedLemmas.{partial_is_accepted}
+use Rattle.search_tree.specs.Cells.{Cell, place_of, cell_at}
+use Rattle.search_tree.specs.Preorder.{IsPreorder, node_at, tree_of}
+use Rattle.search_tree.specs.Laws.{IsCell}
+use Rattle.search_tree.proofs.CountLemmas.{preorder_has_all}
+use Rattle.search_tree.proofs.PassLemmas.{passes, nodes_are_cells, cells_stand, aligned_start}
+use Rattle.turn_laws.specs.Values.{IsPositive, IsUnder, IsPositiveCost}
+use Rattle.turn_laws.specs.Kept.{IsFromLast, ReachesLast, LeafIsKept, EndIsKept, LastIsBelow, IsKept}
+use Rattle.turn_laws.specs.Turns.{CanBranch, IsLeastOpen}
+use Rattle.turn_laws.proofs.FractionLemmas.{fraction_trans}
+
+-- what reaches a value that is at most what is claimed may undercut it
+undercuts : (p : Problem) (claimed : Option CostOver) (n : Node) (w : CostOver) → IsPositive w → IsPositiveCost claimed → IsAtMost claimed w.cost w.d → HasCheaper p n w.cost w.d → MayUndercut p claimed n
+undercuts p claimed n w pw pc below h = record {
+  sizes = h.sizes;
+  d = h.d;
+  relaxed = h.relaxed;
+  at_most = at claimed pc below;
+}
+  where
+    at : (c : Option CostOver) → IsPositiveCost c → IsAtMost c w.cost w.d → IsAtMost c (relaxed_cost (net_of p) n h.sizes h.d) h.d
+    at None pc below = tt
+    at (Some b) pc below = fraction_trans (relaxed_cost (net_of p) n h.sizes h.d) h.d w.cost w.d b.cost b.d h.relaxed.positive pw pc h.at_most below
+
+-- what reaches a value is no dearer than what that value is under
+no_dearer : (p : Problem) (n m : Node) (w : CostOver) → IsPositive w → HasCheaper p n w.cost w.d → IsUnder p w m → IsNoDearer p n m
+no_dearer p n m w pw h under z d flows = record {
+  sizes = h.sizes;
+  d = h.d;
+  relaxed = h.relaxed;
+  at_most = fraction_trans (relaxed_cost (net_of p) n h.sizes h.d) h.d w.cost w.d (relaxed_cost (net_of p) m z d) d h.relaxed.positive pw flows.positive h.at_most (under z d flows);
+}
+
+pub networks_cost_more : (p : Problem) → IsValid p → (v : CostOver) (n : Node) → IsPositive v → IsUnder p v n → (s : ℕ → Bool) → IsBetween (shape_of p) n.inside n.outside s
+    → (z : ℕ → ℤ) (d : ℤ) → IsFlows (net_of p) s z d → (v.cost *ℤ d) ≤ℤ (cost (net_of p) s z d *ℤ v.d)
+networks_cost_more p valid v n pv under s between z d flows =
+    let a = under z d (flows_are_relaxed p valid n s between z d flows) in
+    let b = mul-le_right (relaxed_cost (net_of p) n z d) (cost (net_of p) s z d) v.d (relaxed_costs_less p valid n s between z d flows) (let q = pv in omega (arith, ints)) in
+    omega (arith, ints, a, b)
+
+module _ (p : Problem) (start : Node) (claim : Claim) (last : Option CostOver) (cells : List Cell) (order : List ℕ) (kept : IsKept p start claim last cells) (preorder : IsPreorder cells (0 ∷ []) order) where
+  cell_of : (k : ℕ) (n : Node) (e : End Leaf) → Stands (shape_of p) (start ∷ []) (tree_of cells order) k n e → IsCell cells n e
+  cell_of k n e s =
+      nodes_are_cells (shape_of p) (LeafPasses true p (claimed_cost claim)) start cells kept.grown.linked kept.grown.fits (start ∷ []) (0 ∷ []) order
+      (aligned_start (shape_of p) (LeafPasses true p (claimed_cost claim)) start cells kept.grown.linked kept.grown.fits) preorder k n e s
+
+  end_at : (k : ℕ) (n : Node) (e : End Leaf) → Stands (shape_of p) (start ∷ []) (tree_of cells order) k n e → EndIsKept p last n e
+  end_at k n e s =
+      let c = cell_of k n e s in
+      subst (λ (m : Node). EndIsKept p last m e) c.node_is (subst (λ (f : End Leaf). EndIsKept p last (place_of (cell_at cells c.number)) f) c.end_is (kept.ends c.number c.there))
+
+  open_at : (m : Node) (l : Leaf) → LeafIsKept p last m l → IsUntried l → IsNever (IsDead (shape_of p) m) → IsFromLast p last m
+  open_at m l k e = subst (λ (w : Leaf). LeafIsKept p last m w) e k
+
+  of_use : (l : Option CostOver) → l ≡ last → (n : Node) → ReachesLast p l n → MayUndercut p (claimed_cost claim) n
+  of_use None e n r = absurd r
+  of_use (Some w) e n r =
+      undercuts p (claimed_cost claim) n w (subst IsPositiveCost (sym e) kept.last_positive) kept.claim_positive (subst (λ (o : Option CostOver). LastIsBelow o (claimed_cost claim)) (sym e) kept.below) r
+
+  in_turn : (l : Option CostOver) → l ≡ last → (n m : Node) → ReachesLast p l n → IsFromLast p l m → IsNoDearer p n m
+  in_turn None e n m r f = absurd r
+  in_turn (Some w) e n m r f = no_dearer p n m w (subst IsPositiveCost (sym e) kept.last_positive) r f
+
+  pub kept_is_lean : IsLean p IsUntried (claimed_cost claim) start (tree_of cells order)
+  kept_is_lean = record {
+    reduced = λ k x c n s. (end_at k n (branch x c) s).reduced;
+    splits = λ k x c n s. (end_at k n (branch x c) s).splits;
+    of_use = λ k x c n s. of_use last refl n (end_at k n (branch x c) s).reached;
+    in_turn = λ k x c n s j m l t u no_dead. in_turn last refl n m (end_at k n (branch x c) s).reached (open_at m l (end_at j m (leaf l) t) u no_dead);
+  }
+
+  pub whole_is_accepted : ClaimPasses true p claim → (claim ≡ unknown → ⊥) → ((i : ℕ) → i < length cells → (cell_at cells i).end ≡ leaf untried → ⊥) → IsAccepted p start claim (tree_of cells order)
+  whole_is_accepted passing known shut =
+      partial_is_accepted p start claim (tree_of cells order)
+      (record {
+        claimed = passing;
+        passes =
+            passes (shape_of p) (LeafPasses true p (claimed_cost claim)) start cells kept.grown.linked kept.grown.fits (start ∷ []) (0 ∷ []) order
+            (aligned_start (shape_of p) (LeafPasses true p (claimed_cost claim)) start cells kept.grown.linked kept.grown.fits) preorder;
+      })
+      known (λ k n s. let c = cell_of k n (leaf untried) s in shut c.number c.there c.end_is)
+
+  pub open_stands : (at place : ℕ) → slice_get order place ≡ Some at → (cell_at cells at).end ≡ leaf untried → IsOpenAt p IsUntried start (tree_of cells order) place (place_of (cell_at cells at))
+  open_stands at place h untried_there = record {
+    what = untried;
+    stands = subst (λ (e : End Leaf). Stands (shape_of p) (start ∷ []) (tree_of cells order) place (place_of (cell_at cells at)) e) untried_there
+        (cells_stand (shape_of p) (LeafPasses true p (claimed_cost claim)) start cells kept.grown.linked kept.grown.fits (start ∷ []) (0 ∷ []) order
+        (aligned_start (shape_of p) (LeafPasses true p (claimed_cost claim)) start cells kept.grown.linked kept.grown.fits) preorder place at h);
+    is_open = refl;
+  }
+
+  -- the cell of an open leaf
+  open_cell : (k : ℕ) (n : Node) → IsOpenAt p IsUntried start (tree_of cells order) k n → IsCell cells n (leaf untried)
+  open_cell k n o = cell_of k n (leaf untried) (subst (λ (l : Leaf). Stands (shape_of p) (start ∷ []) (tree_of cells order) k n (leaf l)) o.is_open o.stands)
+
+  module _ (at x place count budget : ℕ) (v : CostOver) (stands : slice_get order place ≡ Some at) (can : CanBranch p cells at x v)
+      (first : IsFirst (IsUndecided (shape_of p) (place_of (cell_at cells at))) x) (least : IsLeastOpen p cells at v) (below : LastIsBelow (Some v) (claimed_cost claim))
+      (pending : (j : ℕ) → j < length cells → (cell_at cells j).end ≡ leaf untried → IsPending p (place_of (cell_at cells j)))
+      (count_is : count ≡ length (options (shape_of p) (place_of (cell_at cells at)) x)) (over : budget < length cells + count) where
+    pending_at : (n : Node) → IsCell cells n (leaf untried) → IsPending p n
+    pending_at n c = subst (λ (m : Node). IsPending p m) c.node_is (pending c.number c.there c.end_is)
+
+    under_at : (n : Node) → IsCell cells n (leaf untried) → IsUnder p v n
+    under_at n c = subst (λ (m : Node). IsUnder p v m) c.node_is (elim (cases_eq c.number at) [
+      | inl e ↦ subst (λ i. IsUnder p v (place_of (cell_at cells i))) (sym e) can.value.under
+      | inr ne ↦ least c.number c.there ne c.end_is (pending c.number c.there c.end_is).reduced.live.no_dead
+    ])
+
+    pub kept_is_spent : IsSpent p IsUntried (claimed_cost claim) start (tree_of cells order) place count budget
+    kept_is_spent = record {
+      pending = λ k n o. pending_at n (open_cell k n o);
+      node = place_of (cell_at cells at);
+      at_leaf = open_stands at place stands can.is_open;
+      of_use = undercuts p (claimed_cost claim) (place_of (cell_at cells at)) v can.value.positive kept.claim_positive below can.value.reached;
+      least = λ k n o. no_dearer p (place_of (cell_at cells at)) n v can.value.positive can.value.reached (under_at n (open_cell k n o));
+      material = x;
+      first = first;
+      count_is = count_is;
+      exceeds =
+          let a : length (tree_of cells order) ≡ length order = length-map order (node_at cells) in
+          let b = preorder_has_all cells order kept.grown.linked preorder in
+          omega (arith, a, b, over);
+    }

@@ -1,0 +1,5 @@
+pub mod FractionLemmas
+pub mod GrowLemmas
+pub mod KeptLemmas
+pub mod LeanLemmas
+pub mod LinkLemmas

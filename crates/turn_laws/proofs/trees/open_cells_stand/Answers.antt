@@ -1,0 +1,5 @@
+use Rattle.turn_laws.proofs.LeanLemmas.{open_stands}
+use Rattle.turn_laws.proofs.trees.open_cells_stand.Goals as goal
+
+pub returns : goal.returns
+returns c = λ p start claim last cells order at place kept preorder stands end. open_stands p start claim last cells order kept preorder at place stands end

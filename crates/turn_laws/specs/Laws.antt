@@ -1,0 +1,78 @@
+-- Laws of the turns of a search, each of which a public function of this crate has as its contract. Each speaks of every valid
+-- problem.
+use Rattle.std.specs.Prelude.{◌≡◌, ℕ, ◌+◌, ◌<◌, ℤ, ◌*ℤ◌, ◌≤ℤ◌, Bool, true, List, [], ◌∷◌, length, Option, Some}
+use Rattle.std.specs.List.{slice_get}
+use Rattle.problem_rules.specs.Problem.{Problem}
+use Rattle.problem_rules.specs.Validity.{IsValid}
+use Rattle.pns_rules.specs.Shape.{shape_of}
+use Rattle.pns_rules.specs.Structure.{IsBetween}
+use Rattle.pns_rules.specs.Nodes.{Node, options}
+use Rattle.pns_rules.specs.Ends.{IsUndecided, IsFirst}
+use Rattle.flow_rules.specs.Net.{net_of}
+use Rattle.flow_rules.specs.Flows.{IsFlows, cost}
+use Rattle.tree_rules.specs.Tree.{leaf}
+use Rattle.tree_rules.specs.Leaf.{IsUntried, untried}
+use Rattle.tree_rules.specs.Claim.{Claim, unknown, CostOver, claimed_cost, ClaimPasses}
+use Rattle.tree_rules.specs.Lean.{IsLean}
+use Rattle.tree_rules.specs.Stops.{IsOpenAt, IsPending, IsSpent}
+use Rattle.tree_rules.specs.Accepted.{IsAccepted}
+use Rattle.search_tree.specs.Cells.{Cell, place_of, cell_at}
+use Rattle.search_tree.specs.Preorder.{IsPreorder, tree_of}
+use Rattle.turn_laws.specs.Values.{IsPositive, IsUnder, HasFallen, IsPositiveCost}
+use Rattle.turn_laws.specs.Kept.{LastIsBelow, IsKept}
+use Rattle.turn_laws.specs.Turns.{CanBranch, IsLeastOpen, AreChildren, IsBranched, AreShut}
+
+-- ---- what a turn keeps
+
+-- an open leaf of least value is branched, where its value is at most what is claimed then
+abbrev pub BranchingIsKept : Type 0
+BranchingIsKept =
+    (p : Problem) → IsValid p → (start : Node) (claim new_claim : Claim) (last : Option CostOver) (v : CostOver) (old kids new : List Cell) (at x : ℕ)
+    → IsKept p start claim last old → CanBranch p old at x v → IsLeastOpen p old at v
+    → HasFallen (claimed_cost claim) (claimed_cost new_claim) → IsPositiveCost (claimed_cost new_claim) → LastIsBelow (Some v) (claimed_cost new_claim)
+    → AreChildren p (claimed_cost new_claim) (place_of (cell_at old at)) x kids → IsBranched old kids new at x → IsKept p start new_claim (Some v) new
+
+-- open leaves are shut
+abbrev pub ShuttingIsKept : Type 0
+ShuttingIsKept =
+    (p : Problem) (start : Node) (claim : Claim) (last : Option CostOver) (old new : List Cell)
+    → IsKept p start claim last old → AreShut p (claimed_cost claim) old new → IsKept p start claim last new
+
+-- a network of a node that has no relaxed flows cheaper than v costs at least v
+abbrev pub NetworksCostMore : Type 0
+NetworksCostMore =
+    (p : Problem) → IsValid p → (v : CostOver) (n : Node) → IsPositive v → IsUnder p v n → (s : ℕ → Bool) → IsBetween (shape_of p) n.inside n.outside s
+    → (z : ℕ → ℤ) (d : ℤ) → IsFlows (net_of p) s z d → (v.cost *ℤ d) ≤ℤ (cost (net_of p) s z d *ℤ v.d)
+
+-- ---- what the tree then is
+
+-- the tree is lean
+abbrev pub KeptIsLean : Type 0
+KeptIsLean =
+    (p : Problem) (start : Node) (claim : Claim) (last : Option CostOver) (cells : List Cell) (order : List ℕ) → IsKept p start claim last cells
+    → IsPreorder cells (0 ∷ []) order → IsLean p IsUntried (claimed_cost claim) start (tree_of cells order)
+
+-- where no leaf is open, and something is claimed that passes, the tree is accepted
+abbrev pub WholeIsAccepted : Type 0
+WholeIsAccepted =
+    (p : Problem) (start : Node) (claim : Claim) (last : Option CostOver) (cells : List Cell) (order : List ℕ) → IsKept p start claim last cells
+    → IsPreorder cells (0 ∷ []) order → ClaimPasses true p claim → (claim ≡ unknown → ⊥)
+    → ((i : ℕ) → i < length cells → (cell_at cells i).end ≡ leaf untried → ⊥) → IsAccepted p start claim (tree_of cells order)
+
+-- where all open leaves are pending, and the nodes with the options at the least needed material of a least one are more than the
+-- budget, the budget is spent
+abbrev pub KeptIsSpent : Type 0
+KeptIsSpent =
+    (p : Problem) (start : Node) (claim : Claim) (last : Option CostOver) (cells : List Cell) (order : List ℕ) (at x place count budget : ℕ) (v : CostOver)
+    → IsKept p start claim last cells → IsPreorder cells (0 ∷ []) order → slice_get order place ≡ Some at
+    → CanBranch p cells at x v → IsFirst (IsUndecided (shape_of p) (place_of (cell_at cells at))) x → IsLeastOpen p cells at v → LastIsBelow (Some v) (claimed_cost claim)
+    → ((j : ℕ) → j < length cells → (cell_at cells j).end ≡ leaf untried → IsPending p (place_of (cell_at cells j)))
+    → count ≡ length (options (shape_of p) (place_of (cell_at cells at)) x) → budget < length cells + count
+    → IsSpent p IsUntried (claimed_cost claim) start (tree_of cells order) place count budget
+
+-- an open leaf stands open at its place
+abbrev pub OpenCellsStand : Type 0
+OpenCellsStand =
+    (p : Problem) (start : Node) (claim : Claim) (last : Option CostOver) (cells : List Cell) (order : List ℕ) (at place : ℕ)
+    → IsKept p start claim last cells → IsPreorder cells (0 ∷ []) order → slice_get order place ≡ Some at
+    → (cell_at cells at).end ≡ leaf untried → IsOpenAt p IsUntried start (tree_of cells order) place (place_of (cell_at cells at))

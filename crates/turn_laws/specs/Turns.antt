@@ -1,0 +1,69 @@
+-- The steps of a turn: a leaf is branched, or open leaves are shut.
+use Rattle.std.specs.Prelude.{◌≡◌, ◌⊎◌, ℕ, ◌+◌, ◌<◌, true, List, length, map, Option}
+use Rattle.problem_rules.specs.Problem.{Problem}
+use Rattle.pns_rules.specs.Shape.{shape_of}
+use Rattle.pns_rules.specs.Nodes.{Node, options, child}
+use Rattle.pns_rules.specs.Ends.{IsSound, IsDead, IsUndecided, IsNever, IsReduced}
+use Rattle.tree_rules.specs.Tree.{End, branch, leaf}
+use Rattle.tree_rules.specs.Leaf.{Leaf, untried, LeafPasses}
+use Rattle.tree_rules.specs.Claim.{CostOver}
+use Rattle.search_tree.specs.Cells.{Cell, place_of, cell_at}
+use Rattle.search_tree.specs.Fits.{Follows}
+use Rattle.turn_laws.specs.Values.{IsValueOf, IsUnder}
+
+-- ---- a leaf is branched
+
+-- leaf `at` can be branched at the material x: it is reduced, x is still to decide there, and v is its value
+pub record CanBranch (p : Problem) (cells : List Cell) (at x : ℕ) (v : CostOver) : Type 0 where
+  pub there : at < length cells
+  pub is_open : (cell_at cells at).end ≡ leaf untried
+  pub reduced : IsReduced (shape_of p) (place_of (cell_at cells at))
+  pub undecided : IsUndecided (shape_of p) (place_of (cell_at cells at)) x
+  pub value : IsValueOf p (place_of (cell_at cells at)) v
+
+-- no other open leaf has cheaper relaxed flows
+abbrev pub IsLeastOpen : Problem → List Cell → ℕ → CostOver → Type 0
+IsLeastOpen p cells at v =
+    (j : ℕ) → j < length cells → (j ≡ at → ⊥) → (cell_at cells j).end ≡ leaf untried → IsNever (IsDead (shape_of p) (place_of (cell_at cells j)))
+    → IsUnder p v (place_of (cell_at cells j))
+
+-- a child of the node: a leaf that passes at the node to which its steps lead
+pub record IsFreshChild (p : Problem) (claimed : Option CostOver) (n : Node) (x : ℕ) (c : Cell) : Type 0 where
+  pub follows : Follows (shape_of p) (child (shape_of p) n x c.option) c
+  pub sound : IsSound (shape_of p) (place_of c)
+  pub what : Leaf
+  pub end_is : c.end ≡ leaf what
+  pub passes : LeafPasses true p claimed (place_of c) what
+
+-- the children have all options of the material, in order
+pub record AreChildren (p : Problem) (claimed : Option CostOver) (n : Node) (x : ℕ) (kids : List Cell) : Type 0 where
+  pub options_are : map (λ (c : Cell). c.option) kids ≡ options (shape_of p) n x
+  pub each : (k : ℕ) → k < length kids → IsFreshChild p claimed n x (cell_at kids k)
+
+-- the cell with another first child, end and key
+abbrev pub with_end : Cell → ℕ → End Leaf → ℕ → Cell
+with_end c first end key = record { option = c.option; steps = c.steps; node = c.node; first = first; end = end; key = key }
+
+-- the children stand behind the other cells, and the leaf is a branch
+pub record IsBranched (old kids new : List Cell) (at x : ℕ) : Type 0 where
+  pub len : length new ≡ length old + length kids
+  pub others : (j : ℕ) → j < length old → (j ≡ at → ⊥) → cell_at new j ≡ cell_at old j
+  pub key : ℕ
+  pub at_is : cell_at new at ≡ with_end (cell_at old at) (length old) (branch x (length kids)) key
+  pub kids_are : (k : ℕ) → k < length kids → cell_at new (length old + k) ≡ cell_at kids k
+
+-- ---- open leaves are shut
+
+-- an open leaf is shut as another leaf that passes
+pub record IsShut (p : Problem) (claimed : Option CostOver) (old new : Cell) : Type 0 where
+  pub was_open : old.end ≡ leaf untried
+  pub what : Leaf
+  pub shut : what ≡ untried → ⊥
+  pub passes : LeafPasses true p claimed (place_of old) what
+  pub key : ℕ
+  pub new_is : new ≡ with_end old old.first (leaf what) key
+
+-- each cell stays or is shut
+pub record AreShut (p : Problem) (claimed : Option CostOver) (old new : List Cell) : Type 0 where
+  pub len : length new ≡ length old
+  pub each : (j : ℕ) → j < length old → (cell_at new j ≡ cell_at old j) ⊎ IsShut p claimed (cell_at old j) (cell_at new j)

@@ -1,0 +1,16 @@
+ghost use Rattle.turn_laws.specs.Laws.{BranchingIsKept, ShuttingIsKept, NetworksCostMore};
+
+/// A turn that branches an open leaf of least value keeps what a search keeps.
+pub fn branching_is_kept()
+    ensures { BranchingIsKept }
+{}
+
+/// So does one that shuts open leaves.
+pub fn shutting_is_kept()
+    ensures { ShuttingIsKept }
+{}
+
+/// A network costs no less than the relaxed flows of a node that it is found at.
+pub fn networks_cost_more()
+    ensures { NetworksCostMore }
+{}
