@@ -1,0 +1,4 @@
+pub mod BlockLemmas
+pub mod StepLemmas
+pub mod ResultLemmas
+pub mod ExchangeLemmas

@@ -23,8 +23,12 @@ width_of units rows = suc (suc (units + units + rows + rows))
 abbrev pub width : Rows → ℕ
 width r = width_of r.units r.rows
 
+-- row c of rows of w numbers each
+abbrev pub row_at : ℕ → List ℤ → ℕ → List ℤ
+row_at w entries c = slice_range entries (c * w) (c * w + w)
+
 abbrev pub row_of : Rows → ℕ → List ℤ
-row_of r c = slice_range r.entries (c * width r) (c * width r + width r)
+row_of r c = row_at (width r) r.entries c
 
 -- the entry of a row at a column, 0 behind its end
 abbrev pub table : Rows → ℕ → ℕ → ℤ

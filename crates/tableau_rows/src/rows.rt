@@ -1,8 +1,11 @@
 //! [`Rows`], and what is read of it.
-ghost use Rattle.std.specs.Prelude.{◌≡◌, ◌<◌, ◌≤◌, ◌+◌, ◌*◌, suc, length};
+ghost use Rattle.std.specs.Prelude.{◌≡◌, ◌<◌, ◌≤◌, ◌+◌, ◌*◌, ◌<ℤ◌, pos, suc, length, true, false, slice_set, slice_index_or, OnOk, OnErr, IfErr};
 ghost use Rattle.int_rows.specs.Range.{InRange, AllInRange};
 ghost use Rattle.tableau_rows.specs.Rows.{width, row_of, table, basis, AreRows};
+ghost use Rattle.tableau_rows.specs.Exchange.{pivot_row, IsExchanged, IsPastRow, IsSameSize};
 
+use crate::exchange::exchange_block;
+use crate::step::PastRow;
 use std::marker::Model;
 
 /// The rows of a tableau, with a flag for each column of the basis. Columns are named by their places in a row.
@@ -139,4 +142,36 @@ impl Rows {
     {
         self.row(column)[at]
     }
+
+    /// Takes `l` out of the basis and `e` in. The row of `l`, negated if `negate` says so, is the pivot row: it becomes the row
+    /// of `e`, and is combined with each other row of the basis that has an entry at `e`. After an error, which comes exactly
+    /// where a number on the way is out of range, the basis is as it was, and its rows are not.
+    pub fn exchange(&mut self, l: usize, e: usize, negate: bool) -> Result<(), PastRow>
+        requires l { l < width self.old }
+        requires e { e < width self.old }
+        requires was { basis self.old l ≡ true }
+        requires free { basis self.old e ≡ false }
+        requires positive { pos 0 <ℤ slice_index_or (pivot_row negate (row_of self.old l)) e (pos 0) }
+        ensures size { IsSameSize self.old self.new }
+        ensures done { OnOk result (IsExchanged self.old self.new l e (pivot_row negate (row_of self.old l))) }
+        ensures past { IfErr result (λ p. IsPastRow self.old l e (pivot_row negate (row_of self.old l)) p.row p.j p.which) }
+        ensures flags { OnErr result (self.new.basic ≡ self.old.basic) }
+    {
+        self.are_rows();
+        let width = self.width();
+        if let Err(past) = exchange_block(&mut self.entries, width, &self.basic, l, e, negate) {
+            return Err(past);
+        }
+        exchange_flags(&mut self.basic, l, e);
+        Ok(())
+    }
+}
+
+fn exchange_flags(flags: &mut [bool], l: usize, e: usize)
+    requires l { l < length flags.old }
+    requires e { e < length flags.old }
+    ensures { flags.new ≡ slice_set (slice_set flags.old l false) e true }
+{
+    flags[l] = false;
+    flags[e] = true;
 }
