@@ -28,6 +28,8 @@ mod number;
 mod problem_file;
 mod say;
 mod script_file;
+#[cfg(test)]
+mod script_tests;
 mod status;
 #[cfg(test)]
 mod tests;

@@ -64,7 +64,11 @@ fn say_edit_fault<K: Sink>(alloc: Global, out: &mut K, number: u32, kind: EditKi
 
 /// The problem after the edits of the text, and the script that leads from it back. Or the first fault of form, or else the
 /// first of meaning.
-fn edited_by(alloc: Global, text: &[u8], problem: &Problem) -> Result<(Problem, Script), EditFault>
+pub(crate) fn edited_by(
+    alloc: Global,
+    text: &[u8],
+    problem: &Problem,
+) -> Result<(Problem, Script), EditFault>
     requires { length text.now ≤ 4194304 }
     ensures edited { IfOk result (λ edited. IsEdited problem.now text.now edited.0 edited.1) }
     ensures fault { IfErr result (TellsEdits problem.now text.now) }
