@@ -1,0 +1,43 @@
+-- The units that are taken in on a walk are units of the graph.
+use Rattle.std.proofs.Common.{◌≡◌, ℕ, ◌<◌, true, List, [], ◌∷◌, ◌++◌, map, refl, inl, inr}
+use Rattle.std.proofs.lemmas.Bool.{or_cases}
+use Rattle.number_sets.specs.Sets.{has}
+use Rattle.number_sets.specs.Options.{IsIn}
+use Rattle.number_sets.proofs.SetLemmas.{has_below}
+use Rattle.number_sets.proofs.OptionLists as lists
+use Rattle.pns_rules.specs.Shape.{Shape}
+use Rattle.pns_rules.specs.Nodes.{Node, Step, after, base_makers, free_makers, options, child}
+use Rattle.pns_rules.proofs.OptionLemmas.{makers_apart, base_set, free_set}
+use Rattle.tree_rules.specs.Tree.{End, branch, leaf, StepsPass, after_all, below}
+use Rattle.cert_parts.specs.Known.{KnowsInside}
+use Rattle.cert_parts.proofs.NodeLemmas.{known_after}
+use Rattle.cert_check.specs.Subtrees.{AllKnown}
+
+pub known_after_all : (g : Shape) (n : Node) (ss : List Step) → KnowsInside g n → StepsPass g n ss → KnowsInside g (after_all g n ss)
+known_after_all g n [] known p = known
+known_after_all g n (s ∷ ss) known p = known_after_all g (after g n s) ss (known_after g n s known p.0) p.1
+
+option_known : (g : Shape) (n : Node) (x : ℕ) (t : List ℕ) → IsIn t (options g n x) → (u : ℕ) → has t u ≡ true → u < g.units
+option_known g n x t i u h =
+    let o = lists.in_option g.units (base_makers g n x) (free_makers g n x) (base_set g n x) (free_set g n x) (makers_apart g n x) t i in
+    let base = base_set g n x in
+    let free = free_set g n x in
+    elim (or_cases (has (base_makers g n x) u) (has (free_makers g n x) u) (o.between.within u h)) [
+      | inl p ↦ has_below g.units (base_makers g n x) u base.below p
+      | inr q ↦ has_below g.units (free_makers g n x) u free.below q
+    ]
+
+known_children : (g : Shape) (n : Node) (x : ℕ) (ts : List (List ℕ)) → KnowsInside g n → ((t : List ℕ) → IsIn t ts → IsIn t (options g n x)) → AllKnown g (map (child g n x) ts)
+known_children g n x [] known among = tt
+known_children g n x (t ∷ ts) known among = (
+  (λ u h. elim (or_cases (has t u) (n.inside u) h) [ inl p ↦ option_known g n x t (among t (inl refl)) u p | inr q ↦ known u q ]),
+  known_children g n x ts known (λ s i. among s (inr i)),
+)
+
+pub known_below : {L : Type 0} (g : Shape) (n : Node) (e : End L) → KnowsInside g n → AllKnown g (below g n e)
+known_below g n (branch x c) known = known_children g n x (options g n x) known (λ t i. i)
+known_below g n (leaf l) known = tt
+
+pub known_both : (g : Shape) (ns ms : List Node) → AllKnown g ns → AllKnown g ms → AllKnown g (ns ++ ms)
+known_both g [] ms a b = b
+known_both g (n ∷ ns) ms a b = (a.0, known_both g ns ms a.1 b)

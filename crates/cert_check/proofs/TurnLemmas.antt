@@ -1,0 +1,74 @@
+-- A turn of the walk: the node on top of the stack is that of the next item.
+use Rattle.std.proofs.Common.{◌≡◌, ℕ, zero, suc, ◌+◌, ◌<◌, List, [], ◌∷◌, ◌++◌, length, map, drop, get_or, refl, sym, ap, ◌∙◌, subst, add-one, arith, ◌≤◌}
+use Rattle.std.proofs.lemmas.List.{reverse-append}
+use Rattle.pns_rules.specs.Shape.{Shape}
+use Rattle.pns_rules.specs.Nodes as rules
+use Rattle.tree_rules.specs.declared.why.Why.{Why}
+use Rattle.tree_rules.specs.Tree.{TreeNode, Pass, below, after_all}
+use Rattle.tree_rules.specs.Fault.{NodeFails, IsFirstFault}
+use Rattle.tree_rules.specs.Leaf.{Leaf}
+use Rattle.tree_rules.specs.Accepted.{Tree}
+use Rattle.unit_sets.specs.declared.node.Node.{Node}
+use Rattle.pgraph.specs.View.{node_of}
+use Rattle.cert_parts.specs.Known.{KnowsInside}
+use Rattle.cert_check.specs.Subtrees.{stack_of, AllKnown}
+use Rattle.cert_check.specs.Visits.{IsVisited}
+use Rattle.cert_check.proofs.EndLemmas.{node_ahead}
+use Rattle.cert_check.proofs.KnownLemmas.{known_after_all, known_below, known_both}
+use Rattle.cert_check.proofs.WalkLemmas.{Leads, leads_on, leads_fault, leads_all}
+
+stack_top : (rest : List Node) (n : Node) → stack_of (rest ++ n ∷ []) ≡ node_of n ∷ stack_of rest
+stack_top rest n = ap (λ (ns : List Node). map node_of ns) (reverse-append rest (n ∷ []))
+
+module _ (g : Shape) (P : rules.Node → Leaf → Type 0) (F : rules.Node → Leaf → Why → Type 0) (starts : List rules.Node) (ts : Tree) where
+  -- what the walk knows before item i
+  pub record IsAt (stack : List rules.Node) (i : ℕ) : Type 0 where
+    pub leads : Leads g P F starts ts stack (drop i ts) i
+    pub known : AllKnown g stack
+
+  -- the node n is taken from the stack, for the item t
+  pub record Opened (n : rules.Node) (t : TreeNode Leaf) (rest : List rules.Node) (i : ℕ) : Type 0 where
+    pub leads : Leads g P F starts ts (n ∷ rest) (t ∷ drop (i + 1) ts) i
+    pub top_known : KnowsInside g n
+    pub rest_known : AllKnown g rest
+
+  pub opened : (stack rest : List Node) (n : Node) (i : ℕ) (t : TreeNode Leaf) → i < length ts → t ≡ get_or ts i t → stack ≡ rest ++ n ∷ [] → IsAt (stack_of stack) i → Opened (node_of n) t (stack_of rest) i
+  opened stack rest n i t lt e s is =
+      let top : stack_of stack ≡ node_of n ∷ stack_of rest = ap (λ (w : List Node). stack_of w) s ∙ stack_top rest n in
+      let known : AllKnown g (node_of n ∷ stack_of rest) = subst (λ (ns : List rules.Node). AllKnown g ns) top is.known in
+      record {
+        leads = subst (λ (us : Tree). Leads g P F starts ts (node_of n ∷ stack_of rest) us i) (node_ahead ts i t lt e ∙ ap (λ (k : ℕ). t ∷ drop k ts) (sym (add-one i)))
+            (subst (λ (ns : List rules.Node). Leads g P F starts ts ns (drop i ts) i) top is.leads);
+        top_known = known.0;
+        rest_known = known.1;
+      }
+
+  pub visited : (n : rules.Node) (t : TreeNode Leaf) (rest after : List rules.Node) (i : ℕ) → Opened n t rest i → IsVisited g P n t (drop (i + 1) ts) rest after → IsAt after (i + 1)
+  visited n t rest after i o v =
+      let m : rules.Node = after_all g n t.steps in
+      record {
+        leads = subst (λ (ns : List rules.Node). Leads g P F starts ts ns (drop (i + 1) ts) (i + 1)) (sym v.children)
+            (leads_on g P F starts ts n rest t (drop (i + 1) ts) i o.leads v.steps v.end);
+        known = subst (λ (ns : List rules.Node). AllKnown g ns) (sym v.children)
+            (known_both g (below g m t.end) rest (known_below g m t.end (known_after_all g n t.steps o.top_known v.steps)) o.rest_known);
+      }
+
+  pub failed : (n : rules.Node) (t : TreeNode Leaf) (rest : List rules.Node) (i : ℕ) (why : Why) → Opened n t rest i → NodeFails g F n t (drop (i + 1) ts) why → IsFirstFault g P F starts ts i why
+  failed n t rest i why o h = leads_fault g P F starts ts n rest t (drop (i + 1) ts) i why o.leads h
+
+  all_behind : {X : Type 0} (xs : List X) (i : ℕ) → length xs ≤ i → drop i xs ≡ []
+  all_behind [] zero h = refl
+  all_behind [] (suc i) h = refl
+  all_behind (x ∷ xs) zero h = absurd (omega arith)
+  all_behind (x ∷ xs) (suc i) h = all_behind xs i (omega arith)
+
+  pub all_visited : (stack : List rules.Node) (i : ℕ) → length ts ≤ i → IsAt stack i → Pass g P starts ts
+  all_visited stack i le is = leads_all g P F starts ts stack i (subst (λ (us : Tree). Leads g P F starts ts stack us i) (all_behind ts i le) is.leads)
+
+  -- a stack without nodes is met only behind the last item
+  pub none_left : (i : ℕ) → IsAt [] i → Pass g P starts ts
+  none_left i is = at (drop i ts) is.leads
+    where
+      at : (us : Tree) → Leads g P F starts ts [] us i → Pass g P starts ts
+      at [] l = leads_all g P F starts ts [] i l
+      at (u ∷ us) l = absurd l.forest

@@ -1,0 +1,31 @@
+use Rattle.std.proofs.Common.{◌∙◌, ap, sym, map, drop}
+use Rattle.tree_rules.specs.Tree.{TreeNode}
+use Rattle.tree_rules.specs.Leaf.{Leaf, LeafPasses, LeafFails}
+use Rattle.pgraph.specs.Tables.{shape}
+use Rattle.pgraph.specs.View.{node_of, step_of}
+use Rattle.cert_parts.specs.Shown.{cost_over}
+use Rattle.cert_check.specs.Subtrees.{stack_of}
+use Rattle.cert_check.proofs.LeafLemmas.{leaf_of, leaf_visited, leaf_halts}
+use Rattle.cert_check.proofs.visit.visit.Goals as goal
+
+pub returns-in-Ok : goal.returns-in-Ok
+returns-in-Ok c =
+    let k = leaf_of c.item.inside.end c.in_default-end.not-Branch in
+    let steps_is = c.steps-steps.ensures ∙ ap (λ (t : TreeNode Leaf). t.steps) c.item.view_is in
+    record {
+      visited = leaf_visited (shape c.args.graph.now) (node_of c.args.node.now) (node_of c.in-Some.reached) c.args.item.now (map step_of c.steps-steps.result.now) steps_is c.in-Some.ensures.possible c.in-Some.ensures.leads
+          (LeafPasses c.args.partial c.args.problem.now (cost_over c.args.claimed)) (drop c.args.from c.args.nodes.now) (stack_of c.args.stack.now.items) k.0
+          (sym (ap (λ (t : TreeNode Leaf). t.end) c.item.view_is) ∙ k.1) (c.in-Ok.ensures.passes k.0 k.1);
+      halts = tt;
+    }
+
+pub returns-in-Err : goal.returns-in-Err
+returns-in-Err c =
+    let k = leaf_of c.item.inside.end c.in_default-end.not-Branch in
+    let steps_is = c.steps-steps.ensures ∙ ap (λ (t : TreeNode Leaf). t.steps) c.item.view_is in
+    record {
+      visited = tt;
+      halts = leaf_halts (shape c.args.graph.now) (node_of c.args.node.now) (node_of c.in-Some.reached) c.args.item.now (map step_of c.steps-steps.result.now) steps_is c.in-Some.ensures.possible c.in-Some.ensures.leads
+          (LeafFails c.args.partial c.args.problem.now (cost_over c.args.claimed)) (drop c.args.from c.args.nodes.now) k.0 c.in-Err.why
+          (sym (ap (λ (t : TreeNode Leaf). t.end) c.item.view_is) ∙ k.1) (c.in-Err.ensures.fails k.0 k.1);
+    }

@@ -1,0 +1,8 @@
+use Rattle.number_sets.specs.Sets.{has}
+use Rattle.pgraph.specs.Tables.{shape}
+use Rattle.cert_parts.proofs.StepLemmas.{needed_known}
+use Rattle.cert_check.proofs.visit.visit_branch.Goals as goal
+
+pub push_children-requires : goal.push_children-requires
+push_children-requires c =
+    needed_known (shape c.args.graph.now) (has c.args.node.now.inside) c.args.material c.is_proper.ensures.proper (c.are_all_options.ensures.0 c.if-not-are_all_options.false).0

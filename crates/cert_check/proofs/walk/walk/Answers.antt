@@ -1,0 +1,32 @@
+use Rattle.std.proofs.Common.{◌∷◌, [], List}
+use Rattle.pns_rules.specs.Nodes as nodes
+use Rattle.tree_rules.specs.Leaf.{LeafPasses, LeafFails}
+use Rattle.pgraph.specs.Tables.{shape}
+use Rattle.pgraph.specs.View.{node_of}
+use Rattle.cert_parts.specs.Shown.{cost_over}
+use Rattle.cert_check.specs.Subtrees.{stack_of}
+use Rattle.cert_check.proofs.TurnLemmas.{opened, visited, failed}
+use Rattle.cert_check.proofs.walk.walk.Goals as goal
+
+pub returns-in-Err-Fails-clause-fault : goal.returns-in-Err-Fails-clause-fault
+returns-in-Err-Fails-clause-fault c =
+    let g = shape c.args.graph.now in
+    let pass = LeafPasses c.args.partial c.args.problem.now (cost_over c.args.claimed) in
+    let fail = LeafFails c.args.partial c.args.problem.now (cost_over c.args.claimed) in
+    let starts : List nodes.Node = node_of c.args.start.now ∷ [] in
+    let o = opened g pass fail starts c.args.nodes.now c.walk.stack.items c.pop.new.self.items c.in-Some.node c.walk.i c.index-nodes-i.result c.walk-test.true c.index-nodes-i.is c.in-Some.ensures.items c.walk.invariant.at in
+    rw (c.in-Err-Fails.field-0-is, c.number.ensures)
+    (failed g pass fail starts c.args.nodes.now (node_of c.in-Some.node) c.index-nodes-i.result (stack_of c.pop.new.self.items) c.walk.i c.in-Err-Fails.why o (rw c.in-Err-Fails.field-0-is at c.in-Err-Fails.ensures.halts))
+
+pub walk-preserved : goal.walk-preserved
+walk-preserved c =
+    let g = shape c.args.graph.now in
+    let pass = LeafPasses c.args.partial c.args.problem.now (cost_over c.args.claimed) in
+    let fail = LeafFails c.args.partial c.args.problem.now (cost_over c.args.claimed) in
+    let starts : List nodes.Node = node_of c.args.start.now ∷ [] in
+    let o = opened g pass fail starts c.args.nodes.now c.walk.stack.items c.pop.new.self.items c.in-Some.node c.walk.i c.index-nodes-i.result c.walk-test.true c.index-nodes-i.is c.in-Some.ensures.items c.walk.invariant.at in
+    record {
+      at = visited g pass fail starts c.args.nodes.now (node_of c.in-Some.node) c.index-nodes-i.result (stack_of c.pop.new.self.items) (stack_of c.visit.new.stack.items) c.walk.i o c.in-Ok-visit.ensures.visited;
+      same = c.walk.invariant.same;
+      are = c.walk.invariant.are;
+    }

@@ -1,0 +1,27 @@
+-- Where the subtrees of a tree end, and the nodes that are still to come on a walk.
+use Rattle.std.specs.Prelude.{◌≡◌, ℕ, ◌<◌, ◌≤◌, List, map, drop, length, get_or, reverse}
+use Rattle.std.specs.List.{AllByRecursion}
+use Rattle.pns_rules.specs.Shape.{Shape}
+use Rattle.pns_rules.specs.Nodes as rules
+use Rattle.tree_rules.specs.Tree.{skip}
+use Rattle.tree_rules.specs.Accepted.{Tree}
+use Rattle.unit_sets.specs.declared.node.Node.{Node}
+use Rattle.pgraph.specs.View.{node_of}
+use Rattle.cert_parts.specs.Known.{KnowsInside}
+
+-- the subtree of the node at i ends before e
+pub record IsEnd (ts : Tree) (i e : ℕ) : Type 0 where
+  pub behind : drop e ts ≡ skip 1 (drop i ts)
+  pub within : e ≤ length ts
+  pub later : i < e
+
+-- the ends of the subtrees at all places from one on
+abbrev pub AreEnds : Tree → List ℕ → ℕ → Type 0
+AreEnds ts ends from = (i : ℕ) → from ≤ i → i < length ts → IsEnd ts i (get_or ends i 0)
+
+-- the last node of the stack comes first
+abbrev pub stack_of : List Node → List rules.Node
+stack_of ns = map node_of (reverse ns)
+
+abbrev pub AllKnown : Shape → List rules.Node → Type 0
+AllKnown g ns = AllByRecursion (KnowsInside g) ns

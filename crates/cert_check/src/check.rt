@@ -1,0 +1,88 @@
+//! Claims with their trees.
+ghost use Rattle.std.specs.Prelude.{◌≡◌, ◌<◌, ◌^◌, ℕ, Bool, false, length, OnOk, IfErr};
+ghost use Rattle.pns_rules.specs.Shape.{shape_of};
+ghost use Rattle.pns_rules.specs.Structure.{IsStructure, IsAllowed};
+ghost use Rattle.tree_rules.specs.declared.why.Why.{Why};
+ghost use Rattle.tree_rules.specs.Claim as rules;
+ghost use Rattle.tree_rules.specs.Accepted.{first_node, Proves, IsAccepted, NodeIsFault};
+ghost use Rattle.tree_laws.specs.Laws.{CostsEnough};
+ghost use Rattle.pgraph.specs.Tables.{shape};
+ghost use Rattle.pgraph.specs.View.{node_of};
+ghost use Rattle.branch_tree.specs.View.{claim_of};
+ghost use Rattle.cert_parts.specs.Known.{KnowsInside};
+ghost use Rattle.cert_check.specs.declared.refusal.Refusal.TheVariants as refusals;
+ghost use Rattle.cert_check.specs.Refusals.{Refuses, IsOkOrMemory, IsRefusalOrMemory};
+
+use crate::claim::{cost_of_claim, judge_claim};
+use crate::refusal::Refusal;
+use crate::walk::walk;
+use branch_tree::{Claim, Tree};
+use pgraph::Graph;
+use pns_problem::Problem;
+use std::alloc::Global;
+use tree_laws::{accepted_is_optimal, claim_has_one_fault, tree_has_one_fault};
+use unit_sets::{Node, UnitSet};
+
+/// Judges the claim, and then the tree from the start. In a partial tree leaves may be open, and nothing claimed.
+pub fn check_from(
+    alloc: Global,
+    problem: &Problem,
+    graph: &Graph,
+    start: &Node,
+    partial: bool,
+    claim: &Claim,
+    tree: &Tree,
+) -> Result<(), Refusal>
+    requires graph { shape graph.now ≡ shape_of problem.now }
+    requires known { KnowsInside (shape graph.now) (node_of start.now) }
+    requires few { length tree.now < 2 ^ 32 }
+    ensures proves { OnOk result (Proves partial problem.now (node_of start.now) (claim_of claim.now) tree.now) }
+    ensures refuses { IfErr result (Refuses partial problem.now (node_of start.now) (claim_of claim.now) tree.now) }
+{
+    tree.is_tree();
+    match judge_claim(problem, graph, claim, partial) {
+        Ok(()) => walk(
+            alloc,
+            problem,
+            graph,
+            cost_of_claim(claim),
+            partial,
+            start,
+            tree.nodes(),
+        ),
+        Err(why) => Err(Refusal::Claim(why)),
+    }
+}
+
+/// Judges the claim, and then the nodes of the tree in preorder, at each its steps and then its end.
+pub fn check_tree(
+    alloc: Global,
+    problem: &Problem,
+    graph: &Graph,
+    claim: &Claim,
+    tree: &Tree,
+) -> Result<(), Refusal>
+    requires graph { shape graph.now ≡ shape_of problem.now }
+    requires few { length tree.now < 2 ^ 32 }
+    // `Ok` only where the tree proves the claim, and where it does no other answer but want of memory.
+    ensures accepted { OnOk result (IsAccepted problem.now first_node (claim_of claim.now) tree.now) }
+    ensures accepts { IsAccepted problem.now first_node (claim_of claim.now) tree.now → IsOkOrMemory result }
+    // A refusal names the first fault, and a first fault is named.
+    ensures refused { IfErr result (Refuses false problem.now first_node (claim_of claim.now) tree.now) }
+    ensures names_claim { (why : Why) → rules.ClaimFails false problem.now (claim_of claim.now) why → IsRefusalOrMemory (refusals.Claim why) result }
+    ensures names_node { (k : ℕ) (why : Why) → rules.ClaimPasses false problem.now (claim_of claim.now) → NodeIsFault false problem.now first_node (claim_of claim.now) tree.now k why → IsRefusalOrMemory (refusals.Node k why) result }
+    // Each allowed solution structure costs at least what is claimed, with any flows; where no network is, none has flows.
+    ensures least { OnOk result ((s : ℕ → Bool) → IsStructure (shape_of problem.now) s → IsAllowed (shape_of problem.now) s → CostsEnough problem.now (rules.claimed_cost (claim_of claim.now)) s) }
+    // A claimed network is allowed and has flows of the claimed cost.
+    ensures feasible { OnOk result ((w : rules.Network) → claim_of claim.now ≡ rules.network w → rules.IsFeasible problem.now w) }
+{
+    problem.is_valid();
+    accepted_is_optimal();
+    claim_has_one_fault();
+    tree_has_one_fault();
+    let start = Node {
+        inside: UnitSet::empty(),
+        outside: UnitSet::empty(),
+    };
+    check_from(alloc, problem, graph, &start, false, claim, tree)
+}

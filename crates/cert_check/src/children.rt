@@ -1,0 +1,31 @@
+//! The children of a branch.
+ghost use Rattle.std.specs.Prelude.{◌≡◌, ◌<◌, ◌++◌, map, OnOk};
+ghost use Rattle.pns_rules.specs.Nodes.{child};
+ghost use Rattle.pgraph.specs.Tables.{shape};
+ghost use Rattle.pgraph.specs.View.{node_of};
+ghost use Rattle.cert_check.specs.Subtrees.{stack_of};
+
+use cert_parts::child;
+use pgraph::Graph;
+use std::alloc::AllocError;
+use unit_sets::{Node, UnitSet};
+
+/// Puts the children of the options on the stack, the first on top.
+pub fn push_children(
+    graph: &Graph,
+    node: &Node,
+    material: u32,
+    options: &[UnitSet],
+    stack: &mut Vec<Node>,
+) -> Result<(), AllocError>
+    requires { material < (shape graph.now).materials }
+    ensures { OnOk result (stack_of stack.new.items ≡ map (child (shape graph.now) (node_of node.now) material) options.now ++ stack_of stack.old.items) }
+{
+    let mut left = options.len();
+    'put: while left > 0 {
+        left -= 1;
+        let next = child(graph, node, material, options[left]);
+        stack.push(next)?;
+    }
+    Ok(())
+}

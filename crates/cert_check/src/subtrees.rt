@@ -1,0 +1,78 @@
+//! Where subtrees end, so that the children of a node are found without a walk through what lies between them.
+ghost use Rattle.std.specs.Prelude.{◌≡◌, ◌≤◌, length, drop, IfOk, OnOk};
+ghost use Rattle.tree_rules.specs.Tree as trees;
+ghost use Rattle.branch_tree.specs.View.{end_of};
+ghost use Rattle.cert_check.specs.Subtrees.{AreEnds};
+
+use branch_tree::{End, TreeNode};
+use std::alloc::{AllocError, Global};
+use unit_sets::UnitSet;
+
+/// How many subtrees follow a node as its children.
+fn child_count(end: &End) -> u32
+    ensures { result ≡ trees.children (end_of end.now) }
+{
+    match end {
+        End::Branch { children, .. } => *children,
+        _ => 0,
+    }
+}
+
+/// Where the list goes on behind some subtrees.
+fn past(nodes: &[TreeNode], ends: &[usize], from: usize, count: u32) -> usize
+    requires same { length ends.now ≡ length nodes.now }
+    requires within { from ≤ length nodes.now }
+    requires are { AreEnds nodes.now ends.now from }
+    ensures behind { drop result nodes.now ≡ trees.skip count (drop from nodes.now) }
+    ensures within { result ≤ length nodes.now }
+    ensures later { from ≤ result }
+{
+    let mut at = from;
+    let mut left = count;
+    'over: while left > 0 && at < nodes.len() {
+        at = ends[at];
+        left -= 1;
+    }
+    at
+}
+
+/// Where the subtree of each node ends. It is filled from the last node on, and each end is passed once: linear.
+pub fn ends_of(alloc: Global, nodes: &[TreeNode]) -> Result<Vec<usize>, AllocError>
+    ensures same { IfOk result (λ v. length v.items ≡ length nodes.now) }
+    ensures ends { IfOk result (λ v. AreEnds nodes.now v.items 0) }
+{
+    let mut ends = vec![in alloc; 0usize; nodes.len()]?;
+    let mut i = nodes.len();
+    'back: while i > 0 {
+        i -= 1;
+        let node = &nodes[i];
+        let end = past(nodes, &ends, i + 1, child_count(&node.end));
+        ends[i] = end;
+    }
+    Ok(ends)
+}
+
+/// Puts the options of the roots of the first subtrees from a place on into `found`, in place of what it held.
+pub fn roots(
+    nodes: &[TreeNode],
+    ends: &[usize],
+    from: usize,
+    count: u32,
+    found: &mut Vec<UnitSet>,
+) -> Result<(), AllocError>
+    requires same { length ends.now ≡ length nodes.now }
+    requires within { from ≤ length nodes.now }
+    requires are { AreEnds nodes.now ends.now 0 }
+    ensures { OnOk result (found.new.items ≡ trees.roots count (drop from nodes.now)) }
+{
+    found.clear();
+    let mut at = from;
+    let mut left = count;
+    'over: while left > 0 && at < nodes.len() {
+        let node = &nodes[at];
+        found.push(node.option)?;
+        at = ends[at];
+        left -= 1;
+    }
+    Ok(())
+}
