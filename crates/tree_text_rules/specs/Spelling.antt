@@ -1,6 +1,6 @@
 -- The one text of a claim, a tree and a tail, and of its parts, as lists of lines. A line is its tokens, parted by a space and
 -- with a line feed behind; units of a set stand in file order.
-use Rattle.std.specs.Prelude.{ℕ, List, [], ◌∷◌, ◌++◌, map, flat_map, codes, decimal, Option, Some, None}
+use Rattle.std.specs.Prelude.{ℕ, ℤ, List, [], ◌∷◌, ◌++◌, map, flat_map, codes, decimal, Option, Some, None}
 use Rattle.std.specs.Fmt.{signed_decimal}
 use Rattle.problem_rules.specs.Problem.{Problem, unit_at, material_at, exclusion_at}
 use Rattle.pns_rules.specs.Nodes as nodes
@@ -62,12 +62,15 @@ tree_lines p tree = flat_map (node_lines p) tree
 
 -- ---- claims
 
-abbrev pub network_lines : Problem → claims.Network → List (List Token)
-network_lines p w =
-    (word_text words.Network ∷ map (unit_name p) w.units)
-    ∷ (word_text words.Sizes ∷ signed_decimal w.d ∷ map signed_decimal w.sizes)
-    ∷ (word_text words.Cost ∷ signed_decimal w.cost ∷ [])
+-- the sizes and the cost of a network
+abbrev pub sizes_lines : ℤ → List ℤ → ℤ → List (List Token)
+sizes_lines d sizes cost =
+    (word_text words.Sizes ∷ signed_decimal d ∷ map signed_decimal sizes)
+    ∷ (word_text words.Cost ∷ signed_decimal cost ∷ [])
     ∷ []
+
+abbrev pub network_lines : Problem → claims.Network → List (List Token)
+network_lines p w = (word_text words.Network ∷ map (unit_name p) w.units) ∷ sizes_lines w.d w.sizes w.cost
 
 abbrev pub claim_lines : Problem → claims.Claim → List (List Token)
 claim_lines p (claims.network w) = network_lines p w
@@ -118,17 +121,23 @@ place_lines p nonbasic place =
 abbrev pub end_lines : List (List Token)
 end_lines = (word_text words.End ∷ []) ∷ []
 
+abbrev pub spent_lines : ℕ → ℕ → List (List Token)
+spent_lines next options = (word_text words.Spent ∷ decimal next ∷ decimal options ∷ []) ∷ end_lines
+
+abbrev pub past_lines : Problem → ℕ → List Column → Place → List (List Token)
+past_lines p node nonbasic place = (word_text words.Past ∷ decimal node ∷ []) ∷ (place_lines p nonbasic place ++ end_lines)
+
 -- a tail and the last line
 abbrev pub tail_lines : Problem → tails.Tail → List (List Token)
 tail_lines p tails.whole = end_lines
-tail_lines p (tails.spent next options) = (word_text words.Spent ∷ decimal next ∷ decimal options ∷ []) ∷ end_lines
-tail_lines p (tails.past node nonbasic place) = (word_text words.Past ∷ decimal node ∷ []) ∷ (place_lines p nonbasic place ++ end_lines)
+tail_lines p (tails.spent next options) = spent_lines next options
+tail_lines p (tails.past node nonbasic place) = past_lines p node nonbasic place
 
 -- ---- the text
 
 -- all lines but the first
 abbrev pub rest_lines : Problem → claims.Claim → Tree → tails.Tail → List (List Token)
-rest_lines p claim tree tail = claim_lines p claim ++ tree_lines p tree ++ tail_lines p tail
+rest_lines p claim tree tail = claim_lines p claim ++ (tree_lines p tree ++ tail_lines p tail)
 
 abbrev pub tree_text_lines : Problem → claims.Claim → Tree → tails.Tail → List (List Token)
 tree_text_lines p claim tree tail = (file_type ∷ []) ∷ rest_lines p claim tree tail

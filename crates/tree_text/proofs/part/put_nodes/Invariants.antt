@@ -1,0 +1,12 @@
+use Rattle.std.proofs.Common.{◌≤◌, map, drop}
+use Rattle.branch_tree.specs.Known.{KnowsTree}
+use Rattle.tree_text_rules.specs.Spelling.{tree_lines}
+use Rattle.tree_text.proofs.Printed.{ArePrinted}
+use Rattle.tree_text.proofs.part.put_nodes.Given as goal
+
+abbrev pub invariant-printing : goal.invariant-printing
+invariant-printing g l = record {
+  known : KnowsTree l.problem (drop l.node-index l.nodes);
+  printed : ArePrinted (tree_lines l.problem l.nodes) (tree_lines l.problem (drop l.node-index l.nodes)) (g.K.Sink.written l.fn.out) (g.K.Sink.written l.out);
+  later : g.K.Sink.faults l.fn.out ≤ g.K.Sink.faults l.out;
+}

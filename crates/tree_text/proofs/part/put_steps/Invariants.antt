@@ -1,0 +1,14 @@
+use Rattle.std.proofs.Common.{◌≤◌, map, drop}
+use Rattle.problem_rules.specs.Each.{Each}
+use Rattle.pgraph.specs.View.{step_of}
+use Rattle.branch_tree.specs.Known.{KnowsStep}
+use Rattle.tree_text_rules.specs.Spelling.{step_line}
+use Rattle.tree_text.proofs.Printed.{ArePrinted}
+use Rattle.tree_text.proofs.part.put_steps.Given as goal
+
+abbrev pub invariant-printing : goal.invariant-printing
+invariant-printing g l = record {
+  known : Each (KnowsStep l.problem) (map step_of (drop l.step-index l.steps));
+  printed : ArePrinted (map (step_line l.problem) (map step_of l.steps)) (map (step_line l.problem) (map step_of (drop l.step-index l.steps))) (g.K.Sink.written l.fn.out) (g.K.Sink.written l.out);
+  later : g.K.Sink.faults l.fn.out ≤ g.K.Sink.faults l.out;
+}

@@ -1,0 +1,135 @@
+//! Names and numbers behind the first word of a line, each behind a space.
+ghost use Rattle.std.specs.Prelude.{◌≡◌, ◌<◌, ◌≤◌, [], ◌∷◌, OnOk, decimal, map, length, string_bytes};
+ghost use Rattle.std.specs.Fmt.{signed_decimal};
+ghost use Rattle.tree_text_rules.specs.Spelling.{unit_name, material_name, exclusion_name};
+ghost use Rattle.branch_tree.specs.Known.{IsUnit, IsMaterial, IsExclusion, AreUnits};
+ghost use Rattle.tree_text.specs.Printing.{appended};
+
+use pns_problem::Problem;
+use std::alloc::AllocError;
+use unit_sets::UnitSet;
+
+/// Begins a line anew by its first word.
+pub(crate) fn begin(line: &mut String, word: &str) -> Result<(), AllocError>
+    ensures { OnOk result (string_bytes line.new ≡ word.now) }
+{
+    line.clear();
+    line.push_str(word)?;
+    Ok(())
+}
+
+pub(crate) fn push_field(line: &mut String, field: &str) -> Result<(), AllocError>
+    ensures { OnOk result (string_bytes line.new ≡ appended (string_bytes line.old) (field.now ∷ [])) }
+{
+    line.push(' ')?;
+    line.push_str(field)?;
+    Ok(())
+}
+
+pub(crate) fn push_count(line: &mut String, count: u32) -> Result<(), AllocError>
+    ensures { OnOk result (string_bytes line.new ≡ appended (string_bytes line.old) (decimal count ∷ [])) }
+{
+    line.push(' ')?;
+    write!(line, "{count}")?;
+    Ok(())
+}
+
+pub(crate) fn push_options(line: &mut String, options: u128) -> Result<(), AllocError>
+    ensures { OnOk result (string_bytes line.new ≡ appended (string_bytes line.old) (decimal options ∷ [])) }
+{
+    line.push(' ')?;
+    write!(line, "{options}")?;
+    Ok(())
+}
+
+pub(crate) fn push_number(line: &mut String, number: i128) -> Result<(), AllocError>
+    ensures { OnOk result (string_bytes line.new ≡ appended (string_bytes line.old) (signed_decimal number ∷ [])) }
+{
+    line.push(' ')?;
+    write!(line, "{number}")?;
+    Ok(())
+}
+
+pub(crate) fn push_numbers(line: &mut String, numbers: &[i128]) -> Result<(), AllocError>
+    ensures { OnOk result (string_bytes line.new ≡ appended (string_bytes line.old) (map signed_decimal numbers.now)) }
+{
+    'printing: for number in numbers {
+        push_number(line, *number)?;
+    }
+    Ok(())
+}
+
+/// The name of a unit.
+pub(crate) fn unit_name(problem: &Problem, unit: u32) -> &str
+    requires { IsUnit problem.now unit }
+    ensures { result.now ≡ unit_name problem.now unit }
+{
+    let unit = &problem.units()[unit as usize];
+    &unit.name
+}
+
+/// The name of a material.
+pub(crate) fn material_name(problem: &Problem, material: u32) -> &str
+    requires { IsMaterial problem.now material }
+    ensures { result.now ≡ material_name problem.now material }
+{
+    let material = &problem.materials()[material as usize];
+    &material.name
+}
+
+fn exclusion_name(problem: &Problem, exclusion: u32) -> &str
+    requires { IsExclusion problem.now exclusion }
+    ensures { result.now ≡ exclusion_name problem.now exclusion }
+{
+    let exclusion = &problem.exclusions()[exclusion as usize];
+    &exclusion.name
+}
+
+pub(crate) fn push_unit(line: &mut String, problem: &Problem, unit: u32) -> Result<(), AllocError>
+    requires { IsUnit problem.now unit }
+    ensures { OnOk result (string_bytes line.new ≡ appended (string_bytes line.old) (unit_name problem.now unit ∷ [])) }
+{
+    push_field(line, unit_name(problem, unit))
+}
+
+pub(crate) fn push_material(
+    line: &mut String,
+    problem: &Problem,
+    material: u32,
+) -> Result<(), AllocError>
+    requires { IsMaterial problem.now material }
+    ensures { OnOk result (string_bytes line.new ≡ appended (string_bytes line.old) (material_name problem.now material ∷ [])) }
+{
+    push_field(line, material_name(problem, material))
+}
+
+pub(crate) fn push_exclusion(
+    line: &mut String,
+    problem: &Problem,
+    exclusion: u32,
+) -> Result<(), AllocError>
+    requires { IsExclusion problem.now exclusion }
+    ensures { OnOk result (string_bytes line.new ≡ appended (string_bytes line.old) (exclusion_name problem.now exclusion ∷ [])) }
+{
+    push_field(line, exclusion_name(problem, exclusion))
+}
+
+/// The names of the units of a set, in file order.
+pub(crate) fn push_units(
+    line: &mut String,
+    problem: &Problem,
+    units: UnitSet,
+) -> Result<(), AllocError>
+    requires { AreUnits problem.now units }
+    ensures { OnOk result (string_bytes line.new ≡ appended (string_bytes line.old) (map (unit_name problem.now) units)) }
+{
+    let mut left = units;
+    'naming: loop {
+        left.rises();
+        let Some(unit) = left.least() else {
+            return Ok(());
+        };
+        push_unit(line, problem, unit)?;
+        left = left.without(unit);
+    }
+}

@@ -1,0 +1,135 @@
+//! The text of a tree, and of its parts.
+ghost use Rattle.std.specs.Prelude.{◌≡◌, ◌≤◌, [], ◌∷◌, map};
+ghost use Rattle.problem_rules.specs.Each.{Each};
+ghost use Rattle.pgraph.specs.View.{step_of};
+ghost use Rattle.branch_tree.specs.Known.{AreUnits, KnowsStep, KnowsEnd, KnowsTree, KnowsClaim, KnowsColumn, KnowsPlace, KnowsTail};
+ghost use Rattle.branch_tree.specs.View.{end_of, claim_of, tail_of};
+ghost use Rattle.tree_text_rules.specs.Spelling.{end_line, head_lines, network_lines, place_lines, tail_lines, rest_lines, tree_text_lines};
+ghost use Rattle.tree_text.specs.Prints.{Prints};
+
+use crate::fault::PrintFault;
+use crate::part::{put_end, put_head, put_network, put_place, put_rest, put_tail, put_tree};
+use branch_tree::{Claim, End, Network, Tail, Tree};
+use flow_program::{Column, Place};
+use pns_io::Sink;
+use pns_problem::Problem;
+use std::alloc::Global;
+use unit_sets::{Step, UnitSet};
+
+/// Prints a claim, a tree and a tail, whole: a text of `tree_text_rules`. `WriteFault` comes only where the sink's count of
+/// faults rose; what is out is a front of the text, and after want of memory whole lines of it.
+pub fn print_tree<K: Sink>(
+    alloc: Global,
+    problem: &Problem,
+    claim: &Claim,
+    tree: &Tree,
+    tail: &Tail,
+    out: &mut K,
+) -> Result<(), PrintFault>
+    requires claim { KnowsClaim problem.now (claim_of claim.now) }
+    requires tree { KnowsTree problem.now tree.now }
+    requires tail { KnowsTail problem.now (tail_of tail.now) }
+    ensures prints { Prints (tree_text_lines problem.now (claim_of claim.now) tree.now (tail_of tail.now)) (K.written out.old) (K.written out.new) (K.faults out.old) (K.faults out.new) result }
+    ensures later { K.faults out.old ≤ K.faults out.new }
+{
+    let mut line = String::new(alloc);
+    put_tree(&mut line, problem, claim, tree, tail, out)
+}
+
+/// Prints the whole text without its first line.
+pub fn print_rest<K: Sink>(
+    alloc: Global,
+    problem: &Problem,
+    claim: &Claim,
+    tree: &Tree,
+    tail: &Tail,
+    out: &mut K,
+) -> Result<(), PrintFault>
+    requires claim { KnowsClaim problem.now (claim_of claim.now) }
+    requires tree { KnowsTree problem.now tree.now }
+    requires tail { KnowsTail problem.now (tail_of tail.now) }
+    ensures prints { Prints (rest_lines problem.now (claim_of claim.now) tree.now (tail_of tail.now)) (K.written out.old) (K.written out.new) (K.faults out.old) (K.faults out.new) result }
+    ensures later { K.faults out.old ≤ K.faults out.new }
+{
+    let mut line = String::new(alloc);
+    put_rest(&mut line, problem, claim, tree, tail, out)
+}
+
+/// Prints the three lines of a network.
+pub fn print_network<K: Sink>(
+    alloc: Global,
+    problem: &Problem,
+    network: &Network,
+    out: &mut K,
+) -> Result<(), PrintFault>
+    requires known { AreUnits problem.now network.now.units }
+    ensures prints { Prints (network_lines problem.now network.now) (K.written out.old) (K.written out.new) (K.faults out.old) (K.faults out.new) result }
+    ensures later { K.faults out.old ≤ K.faults out.new }
+{
+    let mut line = String::new(alloc);
+    put_network(&mut line, problem, network, out)
+}
+
+/// Prints a node's line and its steps.
+pub fn print_head<K: Sink>(
+    alloc: Global,
+    problem: &Problem,
+    option: UnitSet,
+    steps: &[Step],
+    out: &mut K,
+) -> Result<(), PrintFault>
+    requires option { AreUnits problem.now option }
+    requires steps { Each (KnowsStep problem.now) (map step_of steps.now) }
+    ensures prints { Prints (head_lines problem.now option (map step_of steps.now)) (K.written out.old) (K.written out.new) (K.faults out.old) (K.faults out.new) result }
+    ensures later { K.faults out.old ≤ K.faults out.new }
+{
+    let mut line = String::new(alloc);
+    put_head(&mut line, problem, option, steps, out)
+}
+
+/// Prints the line of an end.
+pub fn print_end<K: Sink>(
+    alloc: Global,
+    problem: &Problem,
+    end: &End,
+    out: &mut K,
+) -> Result<(), PrintFault>
+    requires known { KnowsEnd problem.now (end_of end.now) }
+    ensures prints { Prints (end_line problem.now (end_of end.now) ∷ []) (K.written out.old) (K.written out.new) (K.faults out.old) (K.faults out.new) result }
+    ensures later { K.faults out.old ≤ K.faults out.new }
+{
+    let mut line = String::new(alloc);
+    put_end(&mut line, problem, end, out)
+}
+
+/// Prints the `nonbasic` and `place` lines.
+pub fn print_place<K: Sink>(
+    alloc: Global,
+    problem: &Problem,
+    nonbasic: &[Column],
+    place: &Place,
+    out: &mut K,
+) -> Result<(), PrintFault>
+    requires columns { Each (KnowsColumn problem.now) nonbasic.now }
+    requires known { KnowsPlace problem.now place.now }
+    ensures prints { Prints (place_lines problem.now nonbasic.now place.now) (K.written out.old) (K.written out.new) (K.faults out.old) (K.faults out.new) result }
+    ensures later { K.faults out.old ≤ K.faults out.new }
+{
+    let mut line = String::new(alloc);
+    put_place(&mut line, problem, nonbasic, *place, out)
+}
+
+/// Prints a tail and the line `end`.
+pub fn print_tail<K: Sink>(
+    alloc: Global,
+    problem: &Problem,
+    tail: &Tail,
+    out: &mut K,
+) -> Result<(), PrintFault>
+    requires known { KnowsTail problem.now (tail_of tail.now) }
+    ensures prints { Prints (tail_lines problem.now (tail_of tail.now)) (K.written out.old) (K.written out.new) (K.faults out.old) (K.faults out.new) result }
+    ensures later { K.faults out.old ≤ K.faults out.new }
+{
+    let mut line = String::new(alloc);
+    put_tail(&mut line, problem, tail, out)
+}

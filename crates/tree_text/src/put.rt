@@ -1,0 +1,31 @@
+//! Lines handed to the sink, one put a line.
+ghost use Rattle.std.specs.Prelude.{◌≡◌, ◌≤◌, ◌∷◌, [], List, OnOk, string_bytes};
+ghost use Rattle.text_rules.specs.Canonical.{joined};
+ghost use Rattle.tree_text_rules.specs.Line.{Token};
+ghost use Rattle.tree_text.specs.Prints.{Prints};
+
+use crate::fault::PrintFault;
+use pns_io::Sink;
+use std::alloc::AllocError;
+
+/// Puts the line that was made, with its line feed.
+pub(crate) fn put_line<K: Sink>(
+    out: &mut K,
+    line: &mut String,
+    made: Result<(), AllocError>,
+) -> Result<(), PrintFault>
+    ensures prints { (tokens : List Token) → OnOk made (string_bytes line.old ≡ joined 32 tokens)
+        → Prints (tokens ∷ []) (K.written out.old) (K.written out.new) (K.faults out.old) (K.faults out.new) result }
+    ensures later { K.faults out.old ≤ K.faults out.new }
+{
+    let Ok(()) = made else {
+        return Err(PrintFault::Memory);
+    };
+    let Ok(()) = line.push('\n') else {
+        return Err(PrintFault::Memory);
+    };
+    match out.put(line.as_bytes()) {
+        Ok(()) => Ok(()),
+        Err(_) => Err(PrintFault::WriteFault),
+    }
+}
