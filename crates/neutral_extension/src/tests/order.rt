@@ -125,6 +125,20 @@ const LOOSE_AFTER_RIVAL: Sketch = Sketch {
     exclusions: &[0b11],
 };
 
+/// Raw A and B, products P and Q; A => P, A => Q, A => Q + B.
+const RAW_AND_SOLE: Sketch = Sketch {
+    kinds: "rrpp",
+    units: &[(1, 4), (1, 8), (1, 10)],
+    exclusions: &[],
+};
+
+/// Raw A, intermediate E, products P and Q; A => P, E => Q, A => Q.
+const STARVED_AND_SOLE: Sketch = Sketch {
+    kinds: "ripp",
+    units: &[(1, 4), (2, 8), (1, 8)],
+    exclusions: &[],
+};
+
 /// Intermediate E, product P; E => P.
 const UNMADE: Sketch = Sketch {
     kinds: "ip",
@@ -255,6 +269,44 @@ fn rules_come_in_order(rt: HostRuntime) -> Result<(), Fail> {
             ),
         ),
         (15, UNMADE, 0b1, 0, wanted(0b1, 0, &[], Stop::Dead(0))),
+        (
+            16,
+            RAW_AND_SOLE,
+            0,
+            0,
+            wanted(
+                0b011,
+                0b100,
+                &[(b'r', 0, 2), (b'o', 2, 0), (b'o', 3, 1)],
+                decided,
+            ),
+        ),
+        (
+            17,
+            RAW_AND_SOLE,
+            0,
+            0b001,
+            wanted(0, 0b001, &[], Stop::Dead(2)),
+        ),
+        (
+            18,
+            STARVED_AND_SOLE,
+            0,
+            0,
+            wanted(
+                0b101,
+                0b010,
+                &[(b's', 1, 0), (b'o', 2, 0), (b'o', 3, 2)],
+                decided,
+            ),
+        ),
+        (
+            19,
+            TWO_UNDECIDED,
+            0,
+            0b1100,
+            wanted(0, 0b1100, &[], Stop::Dead(2)),
+        ),
     ] {
         let graph = graph_of(rt.alloc(), sketch)?;
         let inside = UnitSet::from_bits(inside);
