@@ -1,0 +1,5 @@
+use Rattle.tree_text_laws.proofs.Takings.{rests_read}
+use Rattle.tree_text_laws.proofs.laws.rests_are_read.Goals as goal
+
+pub returns : goal.returns
+returns c = λ p valid. rests_read p ((c.valid_is_well_formed.ensures p).0 valid)
