@@ -5,8 +5,10 @@
 #![tactic(auto)]
 
 mod exchange;
+mod numbers;
 mod pivot_row;
 mod rows;
+mod start;
 mod step;
 
 pub use rows::Rows;

@@ -1,11 +1,17 @@
 //! [`Rows`], and what is read of it.
-ghost use Rattle.std.specs.Prelude.{◌≡◌, ◌<◌, ◌≤◌, ◌+◌, ◌*◌, ◌<ℤ◌, pos, suc, length, true, false, slice_set, slice_index_or, OnOk, OnErr, IfErr};
+ghost use Rattle.std.specs.Prelude.{◌≡◌, ◌<◌, ◌≤◌, ◌+◌, ◌*◌, ◌<ℤ◌, pos, suc, length, true, false, slice_set, slice_index_or, ℕ, IfOk, OnOk, OnErr, IfErr};
+ghost use Rattle.path_rules.specs.LinearProgram.{linear_of};
+ghost use Rattle.path_rules.specs.Columns.{start};
+ghost use Rattle.path_rules.specs.Start.{IsStart};
 ghost use Rattle.int_rows.specs.Range.{InRange, AllInRange};
 ghost use Rattle.tableau_rows.specs.Rows.{width, row_of, table, basis, AreRows};
 ghost use Rattle.tableau_rows.specs.Exchange.{pivot_row, IsExchanged, IsPastRow, IsSameSize};
 
 use crate::exchange::exchange_block;
+use crate::start::{size_of, start_flags, start_rows, width};
 use crate::step::PastRow;
+use flow_program::Program;
+use std::alloc::{AllocError, Global};
 use std::marker::Model;
 
 /// The rows of a tableau, with a flag for each column of the basis. Columns are named by their places in a row.
@@ -141,6 +147,47 @@ impl Rows {
         ensures in_range { InRange result }
     {
         self.row(column)[at]
+    }
+
+    /// Makes room for the rows of programs of at most so many units and rows. `Err` comes for want of memory alone.
+    pub fn open(alloc: Global, units: u32, rows: u32) -> Result<Rows, AllocError>
+        requires units { units ≤ 128 }
+        requires rows { rows ≤ 256 }
+        ensures units { IfOk result (λ r. r.most_units ≡ units) }
+        ensures rows { IfOk result (λ r. r.most_rows ≡ rows) }
+    {
+        let (most_units, most_rows) = (units as usize, rows as usize);
+        let width = most_units + most_units + most_rows + most_rows + 2;
+        let basic = vec![in alloc; false; width]?;
+        let entries = vec![in alloc; 0i128; (width + 1) * width]?;
+        Ok(Rows {
+            units: most_units,
+            rows: most_rows,
+            most_units,
+            most_rows,
+            basic,
+            entries,
+        })
+    }
+
+    /// Makes the rows those at the start of the path of a program, whatever they were.
+    pub fn start(&mut self, program: &Program)
+        requires units { length program.now.units ≤ self.old.most_units }
+        requires rows { length program.now.rows ≤ self.old.most_rows }
+        ensures start { IsStart (linear_of program.now) (table self.new) }
+        ensures basis { (k : ℕ) → basis self.new k ≡ start (linear_of program.now) k }
+        ensures units { self.new.units ≡ length program.now.units }
+        ensures rows { self.new.rows ≡ length program.now.rows }
+        ensures most_units { self.new.most_units ≡ self.old.most_units }
+        ensures most_rows { self.new.most_rows ≡ self.old.most_rows }
+    {
+        self.are_rows();
+        let size = size_of(program);
+        let width = width(size);
+        self.units = size.units;
+        self.rows = size.rows;
+        start_rows(&mut self.entries, width, program, size);
+        start_flags(&mut self.basic, size);
     }
 
     /// Takes `l` out of the basis and `e` in. The row of `l`, negated if `negate` says so, is the pivot row: it becomes the row
