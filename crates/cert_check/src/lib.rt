@@ -25,3 +25,6 @@ mod walk;
 pub use check::{check_from, check_tree};
 pub use claim::check_claim;
 pub use refusal::Refusal;
+
+#[cfg(test)]
+mod tests;

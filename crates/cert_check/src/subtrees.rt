@@ -9,7 +9,7 @@ use std::alloc::{AllocError, Global};
 use unit_sets::UnitSet;
 
 /// How many subtrees follow a node as its children.
-fn child_count(end: &End) -> u32
+pub fn child_count(end: &End) -> u32
     ensures { result ≡ trees.children (end_of end.now) }
 {
     match end {
