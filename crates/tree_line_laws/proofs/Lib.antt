@@ -1,0 +1,10 @@
+pub mod ClaimLines
+pub mod Codes
+mod Columns
+pub mod Decimals
+mod Names
+pub mod NodeLines
+pub mod Pieces
+mod Places
+pub mod Said
+pub mod TailLines

@@ -1,0 +1,51 @@
+-- What a line can hold: numbers in range, counts up to 2^32 - 1, as many options as 2^128 - 1, and ends and places that a
+-- problem knows with such counts.
+use Rattle.std.specs.Prelude.{◌≡◌, ℕ, ℤ, pos, ◌≤◌, ◌≤ℤ◌, ◌^◌, ◌-◌, List, length}
+use Rattle.int_rows.specs.Range.{InRange}
+use Rattle.problem_rules.specs.Each.{Each}
+use Rattle.problem_rules.specs.Problem.{Problem}
+use Rattle.flow_program.specs.declared.place.Place.{Place}
+use Rattle.flow_program.specs.declared.place.Place.TheVariants as places
+use Rattle.tree_rules.specs.Tree as trees
+use Rattle.tree_rules.specs.Leaf as leaves
+use Rattle.branch_tree.specs.Known.{KnowsEnd, KnowsPlace}
+
+-- the number of a node or of a step, or how many children a branch has
+abbrev pub IsCount : ℕ → Type 0
+IsCount n = n ≤ 4294967295
+
+abbrev pub IsSomeCount : ℕ → Type 0
+IsSomeCount n = (1 ≤ n) × IsCount n
+
+-- how many options there are
+abbrev pub IsOptionCount : ℕ → Type 0
+IsOptionCount n = n ≤ 2 ^ 128 - 1
+
+-- what sizes and cost are over
+abbrev pub IsDenominator : ℤ → Type 0
+IsDenominator z = InRange z × (pos 1 ≤ℤ z)
+
+-- what sizes are over, and as many sizes
+abbrev pub FitsSizes : ℕ → ℤ × List ℤ → Type 0
+FitsSizes count c = (IsDenominator c.0 × Each InRange c.1) × (length c.1 ≡ count)
+
+abbrev pub CountsEnd : trees.End leaves.Leaf → Type 0
+CountsEnd (trees.branch x c) = IsCount c
+CountsEnd (trees.leaf l) = Unit {0}
+
+pub record FitsEnd (p : Problem) (end : trees.End leaves.Leaf) : Type 0 where
+  pub known : KnowsEnd p end
+  pub some : trees.HasChildren end
+  pub counted : CountsEnd end
+
+abbrev pub CountsPlace : Place → Type 0
+CountsPlace (places.Entry leave enter row column which) = Unit {0}
+CountsPlace (places.Flow unit which) = Unit {0}
+CountsPlace (places.Cost at) = IsCount at
+CountsPlace (places.FlowSum at) = IsCount at
+CountsPlace (places.Bound at) = IsCount at
+CountsPlace (places.Refute row at) = IsCount at
+
+pub record FitsPlace (p : Problem) (place : Place) : Type 0 where
+  pub known : KnowsPlace p place
+  pub counted : CountsPlace place
