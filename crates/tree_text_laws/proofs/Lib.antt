@@ -1,17 +1,7 @@
-mod ClaimLines
 mod Claims
-mod Codes
-mod Columns
-mod Decimals
 mod Heads
-mod Names
-mod NodeLines
 mod Nodes
 mod Parts
-mod Pieces
-mod Places
-mod Said
-mod TailLines
 mod Tails
 mod Takings
 mod WholeText

@@ -3,8 +3,7 @@ use Rattle.std.proofs.Common.{◌≡◌, ℕ, List, [], ◌∷◌, Result, Ok, E
 use Rattle.tree_text_rules.specs.Line.{Token, Line}
 use Rattle.tree_text_rules.specs.Read.{Fault, Taken, on_line, first_line, then_read}
 use Rattle.tree_text_rules.specs.declared.TreeKind.{TreeKind}
-use Rattle.tree_text_laws.proofs.Codes.{IsLineOf}
-use Rattle.tree_text_laws.specs.Lines.{line_of}
+use Rattle.tree_line_laws.specs.Codes.{line_of, IsLineCode}
 
 abbrev pub good : {A : Type 0} → A → Result A Fault
 good a = Ok a
@@ -28,7 +27,7 @@ pub record Begins {A B : Type 0} (spell : A → List Token) (Fits : A → Type 0
   pub fits : Fits what
   pub reads : read what rest ≡ Ok b
 
-module _ {A B : Type 0} (judge : Line → Result A TreeKind) (spell : A → List Token) (Fits : A → Type 0) (is : IsLineOf judge spell Fits) where
+module _ {A B : Type 0} (judge : Line → Result A TreeKind) (spell : A → List Token) (Fits : A → Type 0) (is : IsLineCode judge spell Fits) where
   pub first_back : (number : ℕ) (lines : List Line) (read : A → List Line → Result B Fault) (b : B) → first_line judge number lines read ≡ Ok b → Begins spell Fits lines read b
   first_back number [] read b e = absurd cc
   first_back number (line ∷ lines) read b e =

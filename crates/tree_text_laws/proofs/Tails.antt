@@ -12,12 +12,11 @@ use Rattle.tree_text_rules.specs.LineRead.{TailOpening, whole, spent, past, tail
 use Rattle.tree_text_rules.specs.Read.{first_line, nothing_behind, close_taken, past_taken, tail_behind, tail_taken}
 use Rattle.tree_text_rules.specs.Spelling.{column_text, place_fields, end_lines, tail_lines}
 use Rattle.tree_text_rules.specs.declared.Word.TheVariants as words
+use Rattle.tree_line_laws.specs.Fits.{FitsPlace}
 use Rattle.tree_text_laws.specs.Fits.{FitsTail}
 use Rattle.tree_text_laws.proofs.Parts.{good_is, first_back, first_again}
-use Rattle.tree_text_laws.specs.Lines.{line_of}
-use Rattle.tree_text_laws.proofs.Places.{FitsPlace}
-use Rattle.tree_text_laws.proofs.Said.{IsToken}
-use Rattle.tree_text_laws.proofs.TailLines.{tail_line, FitsTailOpening, tail_lines_of, close_line, nonbasic_line, place_line}
+use Rattle.tree_line_laws.specs.Codes.{line_of, IsToken}
+use Rattle.tree_line_laws.proofs.TailLines.{tail_line, FitsTailOpening, tail_lines_of, close_line, nonbasic_line, place_line}
 
 -- ---- the last line
 
@@ -58,12 +57,12 @@ module _ (p : Problem) (formed : IsWellFormed p) where
     tail_is : tails.past node nonbasic place ≡ tail
     lines_are : lines ≡ line_of (nonbasic_text nonbasic) ∷ line_of (place_text place) ∷ map line_of end_lines
     known : Each (KnowsColumn p) nonbasic
-    fits : FitsPlace p formed place
+    fits : FitsPlace p place
 
   past_back : (node number : ℕ) (lines : List Line) (tail : tails.Tail) → past_taken p node number lines ≡ Ok tail → TookPast node lines tail
   past_back node number lines tail e =
       let a = first_back (nonbasic_read p) nonbasic_text (Each (KnowsColumn p)) (nonbasic_line p formed) number lines _ tail e in
-      let b = first_back (place_read p) place_text (FitsPlace p formed) (place_line p formed) (suc number) a.rest _ tail a.reads in
+      let b = first_back (place_read p) place_text (FitsPlace p) (place_line p formed) (suc number) a.rest _ tail a.reads in
       let c = close_back (tails.past node a.what b.what) (suc (suc number)) b.rest tail b.reads in
       record {
         nonbasic = a.what;
@@ -96,12 +95,12 @@ module _ (p : Problem) (formed : IsWellFormed p) where
   opened : (o : TailOpening) (number : ℕ) (rest : List Line) → FitsTailOpening o → tail_taken p number (line_of (tail_line o) ∷ rest) ≡ tail_behind p o (suc number) rest
   opened o number rest fits = first_again tail_opening_read tail_line FitsTailOpening tail_lines_of number o rest (λ o lines. tail_behind p o (suc number) lines) fits
 
-  past_again : (node : ℕ) (nonbasic : List Column) (place : Place) (number : ℕ) → Each (KnowsColumn p) nonbasic → FitsPlace p formed place
+  past_again : (node : ℕ) (nonbasic : List Column) (place : Place) (number : ℕ) → Each (KnowsColumn p) nonbasic → FitsPlace p place
       → past_taken p node number (line_of (nonbasic_text nonbasic) ∷ line_of (place_text place) ∷ map line_of end_lines) ≡ Ok (tails.past node nonbasic place)
   past_again node nonbasic place number known fits =
       first_again (nonbasic_read p) nonbasic_text (Each (KnowsColumn p)) (nonbasic_line p formed) number nonbasic (line_of (place_text place) ∷ map line_of end_lines)
       (λ nonbasic lines. first_line (place_read p) (suc number) lines (λ place lines. close_taken (tails.past node nonbasic place) (suc (suc number)) lines)) known
-      ∙ first_again (place_read p) place_text (FitsPlace p formed) (place_line p formed) (suc number) place (map line_of end_lines) (λ place lines. close_taken (tails.past node nonbasic place) (suc (suc number)) lines) fits
+      ∙ first_again (place_read p) place_text (FitsPlace p) (place_line p formed) (suc number) place (map line_of end_lines) (λ place lines. close_taken (tails.past node nonbasic place) (suc (suc number)) lines) fits
       ∙ close_again (tails.past node nonbasic place) (suc (suc number))
 
   pub tail_again : (tail : tails.Tail) (number : ℕ) → FitsTail p tail → tail_taken p number (map line_of (tail_lines p tail)) ≡ Ok tail

@@ -1,5 +1,5 @@
 -- The whole text, both ways.
-use Rattle.std.proofs.Common.{◌≡◌, Bool, true, false, ℕ, List, [], ◌∷◌, ◌++◌, map, Result, Ok, Err, refl, sym, ◌∙◌, ap, ap₂, subst, append_assoc, if◌then◌else◌}
+use Rattle.std.proofs.Common.{◌≡◌, Bool, true, false, ℕ, List, [], ◌∷◌, ◌++◌, map, Result, Ok, Err, refl, sym, ◌∙◌, ap, ap₂, subst, if◌then◌else◌}
 use Rattle.std.specs.Str.{bytes_eq}
 use Rattle.std.proofs.lemmas.List.{map-append}
 use Rattle.std.proofs.lemmas.Slice.Eq.{bytes_eq-Decides}
@@ -20,9 +20,9 @@ use Rattle.tree_text_laws.specs.Fits.{Fits}
 use Rattle.tree_text_laws.proofs.Claims.{claim_back, claim_again, claim_tokens, behind_claim}
 use Rattle.tree_text_laws.proofs.Nodes.{tree_back, tree_again, tree_tokens, behind_tree}
 use Rattle.tree_text_laws.proofs.Parts.{good_is, on_line_ok, then_ok}
-use Rattle.tree_text_laws.proofs.Pieces.{text_back, text_again, HasNoFeed}
-use Rattle.tree_text_laws.specs.Lines.{line_of}
-use Rattle.tree_text_laws.proofs.Said.{IsToken, no_feed}
+use Rattle.tree_line_laws.proofs.Pieces.{text_back, text_again, HasNoFeed}
+use Rattle.tree_line_laws.specs.Codes.{line_of, IsToken}
+use Rattle.tree_line_laws.proofs.Said.{no_feed}
 use Rattle.tree_text_laws.proofs.Tails.{tail_back, tail_again, tail_tokens}
 
 -- ---- the first line
@@ -48,8 +48,7 @@ module _ (p : Problem) (formed : IsWellFormed p) where
   -- the lines of the three parts one behind the other
   parts_joined : (claim : claims.Claim) (tree : Tree) (tail : tails.Tail) → map line_of (rest_lines p claim tree tail) ≡ map line_of (claim_lines p claim) ++ (map line_of (tree_lines p tree) ++ map line_of (tail_lines p tail))
   parts_joined claim tree tail =
-      ap (map line_of) (append_assoc (claim_lines p claim) (tree_lines p tree) (tail_lines p tail))
-      ∙ map-append line_of (claim_lines p claim) (tree_lines p tree ++ tail_lines p tail)
+      map-append line_of (claim_lines p claim) (tree_lines p tree ++ tail_lines p tail)
       ∙ ap (λ (ls : List Line). map line_of (claim_lines p claim) ++ ls) (map-append line_of (tree_lines p tree) (tail_lines p tail))
 
   -- what is read behind a claim, and behind a tree
@@ -98,9 +97,8 @@ module _ (p : Problem) (formed : IsWellFormed p) where
 
   rest_tokens : (c : Certificate) → Fits p c → Each (Each IsToken) (rest_lines p c.claim c.tree c.tail)
   rest_tokens c fits =
-      each-append (Each IsToken) (claim_lines p c.claim ++ tree_lines p c.tree) (tail_lines p c.tail)
-      (each-append (Each IsToken) (claim_lines p c.claim) (tree_lines p c.tree) (claim_tokens p formed c.claim fits.claim.known fits.claim.kept) (tree_tokens p formed c.tree fits.tree))
-      (tail_tokens p formed c.tail fits.tail)
+      each-append (Each IsToken) (claim_lines p c.claim) (tree_lines p c.tree ++ tail_lines p c.tail) (claim_tokens p formed c.claim fits.claim.known fits.claim.kept)
+      (each-append (Each IsToken) (tree_lines p c.tree) (tail_lines p c.tail) (tree_tokens p formed c.tree fits.tree) (tail_tokens p formed c.tail fits.tail))
 
   pub text_read : (c : Certificate) → Fits p c → read_text p (tree_text p c.claim c.tree c.tail) ≡ Ok c
   text_read c fits =

@@ -1,41 +1,22 @@
 -- What a text can hold: claims, trees and tails that a problem knows, the networks of which are sized with numbers in range,
--- and counts within their ranges: the children of a branch and the number of a node or of a step are at most 2^32 - 1, and the
--- number of options is at most 2^128 - 1.
-use Rattle.std.specs.Prelude.{ℕ, ◌≤◌, ◌^◌, ◌-◌}
+-- and counts that a line can hold.
 use Rattle.problem_rules.specs.Each.{Each}
 use Rattle.problem_rules.specs.Problem.{Problem}
-use Rattle.flow_program.specs.declared.place.Place.{Place}
-use Rattle.flow_program.specs.declared.place.Place.TheVariants as places
 use Rattle.tree_rules.specs.Tree as trees
-use Rattle.tree_rules.specs.Leaf as leaves
 use Rattle.tree_rules.specs.Accepted.{Tree}
 use Rattle.tree_rules.specs.Claim as claims
-use Rattle.branch_tree.specs.Known.{AreUnits, KnowsClaim, KnowsStep, KnowsEnd, KnowsTree, KnowsTail}
+use Rattle.branch_tree.specs.Known.{AreUnits, KnowsClaim, KnowsStep, KnowsTree, KnowsTail}
 use Rattle.branch_tree.specs.Sized.{IsKept}
 use Rattle.branch_tree.specs.Tail as tails
 use Rattle.tree_text_rules.specs.Read.{Certificate, Head}
-
-abbrev pub IsCount : ℕ → Type 0
-IsCount n = n ≤ 4294967295
-
-abbrev pub CountsEnd : trees.End leaves.Leaf → Type 0
-CountsEnd (trees.branch x c) = IsCount c
-CountsEnd (trees.leaf l) = Unit {0}
+use Rattle.tree_line_laws.specs.Fits.{IsCount, IsOptionCount, CountsEnd, CountsPlace}
 
 abbrev pub CountsTree : Tree → Type 0
 CountsTree tree = Each (λ t. CountsEnd t.end) tree
 
-abbrev pub CountsPlace : Place → Type 0
-CountsPlace (places.Entry leave enter row column which) = Unit {0}
-CountsPlace (places.Flow unit which) = Unit {0}
-CountsPlace (places.Cost at) = IsCount at
-CountsPlace (places.FlowSum at) = IsCount at
-CountsPlace (places.Bound at) = IsCount at
-CountsPlace (places.Refute row at) = IsCount at
-
 abbrev pub CountsTail : tails.Tail → Type 0
 CountsTail tails.whole = Unit {0}
-CountsTail (tails.spent next options) = IsCount next × (options ≤ 2 ^ 128 - 1)
+CountsTail (tails.spent next options) = IsCount next × IsOptionCount options
 CountsTail (tails.past node nonbasic place) = IsCount node × CountsPlace place
 
 abbrev pub KeepsClaim : claims.Claim → Type 0
@@ -51,15 +32,10 @@ pub record FitsClaim (p : Problem) (claim : claims.Claim) : Type 0 where
   pub known : KnowsClaim p claim
   pub kept : KeepsClaim claim
 
--- a node without its end, and an end
+-- a node without its end
 pub record FitsHead (p : Problem) (head : Head) : Type 0 where
   pub option : AreUnits p head.option
   pub steps : Each (KnowsStep p) head.steps
-
-pub record FitsEnd (p : Problem) (end : trees.End leaves.Leaf) : Type 0 where
-  pub known : KnowsEnd p end
-  pub some : trees.HasChildren end
-  pub counted : CountsEnd end
 
 -- one whole tree
 pub record FitsTree (p : Problem) (tree : Tree) : Type 0 where

@@ -1,14 +1,10 @@
 -- The lines of values, and readings that take the lines of each value that fits, and no others.
-use Rattle.std.specs.Prelude.{◌≡◌, ◌+◌, ℕ, true, List, [], ◌∷◌, ◌++◌, length, map, None, Result, Ok}
+use Rattle.std.specs.Prelude.{◌≡◌, ◌+◌, ℕ, List, [], ◌∷◌, ◌++◌, length, map, None, Result, Ok}
 use Rattle.problem_rules.specs.Problem.{Problem}
-use Rattle.text_rules.specs.Canonical.{joined}
 use Rattle.tree_text_rules.specs.Line.{Token, Line}
 use Rattle.tree_text_rules.specs.LineRead.{step_read}
 use Rattle.tree_text_rules.specs.Read.{Fault, Taken}
-
--- the line of tokens: parted by a space, and ended
-abbrev pub line_of : List Token → Line
-line_of tokens = record { text = joined 32 tokens; ended = true }
+use Rattle.tree_line_laws.specs.Codes.{line_of}
 
 abbrev pub lines_said : List (List Token) → List Line
 lines_said lines = map line_of lines
