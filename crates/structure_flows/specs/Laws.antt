@@ -1,0 +1,30 @@
+-- Laws of the flows of a solution structure, each of which a public function of this crate has as its contract. They speak of
+-- every valid problem and of every solution structure of it, allowed or not.
+use Rattle.std.specs.Prelude.{◌≡◌, ℕ, ◌<◌, List, ℤ, length, not}
+use Rattle.number_sets.specs.Sets.{has, IsSet}
+use Rattle.problem_rules.specs.Problem.{Problem}
+use Rattle.problem_rules.specs.Validity.{IsValid}
+use Rattle.pns_rules.specs.Shape.{shape_of}
+use Rattle.pns_rules.specs.Structure.{IsStructure}
+use Rattle.flow_rules.specs.Net.{net_of, beside}
+use Rattle.flow_rules.specs.Relaxed.{units, Refutes}
+use Rattle.tree_rules.specs.Claim.{Network}
+use Rattle.structure_flows.specs.Flows.{decided, rows_of, HasFlows, ProveCost, IsLeastFlows, HasNoFlows}
+
+-- flows whose cost is the bound of multipliers are least
+abbrev pub ProvedIsLeast : Type 0
+ProvedIsLeast =
+    (p : Problem) → IsValid p → (w : Network) → IsStructure (shape_of p) (has w.units)
+    → (d : ℤ) (ys : List ℤ) → HasFlows p w → ProveCost p w d ys → IsLeastFlows p w d ys
+
+-- multipliers that refute the node leave no flows
+abbrev pub RefutedHasNone : Type 0
+RefutedHasNone =
+    (p : Problem) → IsValid p → (us : List ℕ) → IsStructure (shape_of p) (has us)
+    → (ys : List ℤ) → length ys ≡ length (rows_of p us) → Refutes (net_of p) (decided p us) (beside (rows_of p us) ys) → HasNoFlows p us ys
+
+-- at the node of a set of units each unit is taken in or left out, and its program has just these units
+abbrev pub NodeIsDecided : Type 0
+NodeIsDecided =
+    (p : Problem) (us : List ℕ) → IsSet (length p.units) us
+    → ((i : ℕ) → i < length p.units → (decided p us).outside i ≡ not ((decided p us).inside i)) × (units (net_of p) (decided p us) ≡ us)
