@@ -1,0 +1,6 @@
+pub mod RankLemmas
+pub mod ExchangeLemmas
+pub mod FirstLemmas
+pub mod SecondLemmas
+pub mod StartLemmas
+pub mod OptionLemmas

@@ -1,0 +1,10 @@
+-- What follows from what holds of an option.
+use Rattle.std.specs.Prelude.{Option, Some, None, IfSome, IfNone}
+
+pub map_some : {T : Type 0} {P Q : T → Type 0} (o : Option T) → ((x : T) → P x → Q x) → IfSome o P → IfSome o Q
+map_some None f h = h
+map_some (Some x) f h = f x h
+
+pub map_none : {T : Type 0} {P Q : Type 0} (o : Option T) → (P → Q) → IfNone o P → IfNone o Q
+map_none None f h = f h
+map_none (Some x) f h = h
