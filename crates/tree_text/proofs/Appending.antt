@@ -1,5 +1,5 @@
 -- Fields that are appended one after another make a line.
-use Rattle.std.proofs.Common.{◌≡◌, ℕ, List, [], ◌∷◌, ◌++◌, refl, sym, ap, ◌∙◌, append_assoc}
+use Rattle.std.proofs.Common.{◌≡◌, ℕ, List, [], ◌∷◌, ◌++◌, refl, ap, ◌∙◌, append_assoc}
 use Rattle.text_rules.specs.Canonical.{joined}
 use Rattle.tree_text.specs.Printing.{appended}
 

@@ -1,6 +1,6 @@
 use Rattle.std.proofs.Common.{◌∙◌, sym, ap, map, List, ℕ, string_bytes}
 use Rattle.tree_text_rules.specs.Spelling.{unit_name}
-use Rattle.flow_program.proofs.WalkLemmas.{IsNext, is_next, shorter}
+use Rattle.flow_program.proofs.WalkLemmas.{is_next, shorter}
 use Rattle.tree_text.specs.Printing.{appended}
 use Rattle.tree_text.proofs.field.push_units.Goals as goal
 

@@ -1,7 +1,6 @@
 use Rattle.std.proofs.Common.{◌≡◌, ◌∷◌, map, ap, refl, SFits, rules}
 use Rattle.std.specs.Int.{w128}
 use Rattle.std.proofs.lemmas.Int.{to_z-of_z}
-use Rattle.tree_rules.specs.Claim.{Network}
 use Rattle.tree_text_rules.specs.Line.{word_text}
 use Rattle.tree_text_rules.specs.declared.Word.TheVariants as words
 use Rattle.tree_text_rules.specs.Spelling.{unit_name, network_lines}

@@ -1,4 +1,4 @@
-use Rattle.std.proofs.Common.{◌≤◌, arith, subst}
+use Rattle.std.proofs.Common.{arith, subst}
 use Rattle.branch_tree.specs.Known.{KnowsTree}
 use Rattle.tree_rules.specs.Accepted.{Tree}
 use Rattle.tree_text.proofs.Printed.{then_printed, then_failed, node_ahead, item_ahead}

@@ -1,4 +1,4 @@
-use Rattle.std.proofs.Common.{◌≤◌, map, drop}
+use Rattle.std.proofs.Common.{◌≤◌, drop}
 use Rattle.branch_tree.specs.Known.{KnowsTree}
 use Rattle.tree_text_rules.specs.Spelling.{tree_lines}
 use Rattle.tree_text.proofs.Printed.{ArePrinted}

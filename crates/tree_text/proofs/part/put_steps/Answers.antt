@@ -1,4 +1,4 @@
-use Rattle.std.proofs.Common.{◌≤◌, map, arith, subst, List}
+use Rattle.std.proofs.Common.{map, arith, subst, List}
 use Rattle.problem_rules.specs.Each.{Each}
 use Rattle.unit_sets.specs.declared.step.Step.{Step}
 use Rattle.pgraph.specs.View.{step_of}
