@@ -1,0 +1,27 @@
+-- Lines with another number of tokens than their form has.
+use Rattle.std.proofs.Common.{◌≡◌, List, [], ◌∷◌, length, Result, Err, refl}
+use Rattle.problem_rules.specs.Problem.{Problem}
+use Rattle.tree_text_rules.specs.Line.{Token}
+use Rattle.tree_text_rules.specs.LineRead.{one, two, entry_of}
+use Rattle.tree_text_rules.specs.declared.TreeKind.{TreeKind}
+use Rattle.tree_text_rules.specs.declared.TreeKind.TheVariants.{BadLine}
+
+pub not_one : {A : Type 0} (read : Token → Result A TreeKind) (tokens : List Token) → (length tokens ≡ 1 → ⊥) → one read tokens ≡ Err BadLine
+not_one read [] other = refl
+not_one read (a ∷ []) other = absurd (other refl)
+not_one read (a ∷ b ∷ tokens) other = refl
+
+pub not_two : {A B : Type 0} (read : Token → Result A TreeKind) (read' : Token → Result B TreeKind) (tokens : List Token) → (length tokens ≡ 2 → ⊥) → two read read' tokens ≡ Err BadLine
+not_two read read' [] other = refl
+not_two read read' (a ∷ []) other = refl
+not_two read read' (a ∷ b ∷ []) other = absurd (other refl)
+not_two read read' (a ∷ b ∷ c ∷ tokens) other = refl
+
+pub not_entry : (p : Problem) (tokens : List Token) → (length tokens ≡ 5 → ⊥) → entry_of p tokens ≡ Err BadLine
+not_entry p [] other = refl
+not_entry p (a ∷ []) other = refl
+not_entry p (a ∷ b ∷ []) other = refl
+not_entry p (a ∷ b ∷ c ∷ []) other = refl
+not_entry p (a ∷ b ∷ c ∷ d ∷ []) other = refl
+not_entry p (a ∷ b ∷ c ∷ d ∷ e ∷ []) other = absurd (other refl)
+not_entry p (a ∷ b ∷ c ∷ d ∷ e ∷ f ∷ tokens) other = refl

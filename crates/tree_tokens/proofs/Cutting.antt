@@ -1,0 +1,43 @@
+-- A text is cut line by line, and a line token by token.
+use Rattle.std.proofs.Common.{cond, sym, ◌≡◌, ◌<◌, ◌≤◌, ◌+◌, ℕ, Bool, true, false, List, [], ◌∷◌, length, take, drop, refl, ap, ◌∙◌, arith}
+use Rattle.std.specs.List.{slice_split, onto_first, position_or_len}
+use Rattle.std.proofs.lemmas.Grind.{common_steps}
+use Rattle.text_lines.proofs.Cutting.{split-at, split-none}
+use Rattle.tree_text_rules.specs.Line.{lines_of, lines_from, is_feed, is_space}
+
+some_part : (c : Bool) (x : ℕ) (parts : List (List ℕ)) → 0 < length (cond c ([] ∷ parts) (onto_first x parts))
+some_part true x parts = omega arith
+some_part false x [] = omega arith
+some_part false x (part ∷ parts) = omega arith
+
+parts_some : (p : ℕ → Bool) (xs : List ℕ) → 0 < length (slice_split p xs)
+parts_some p [] = omega arith
+parts_some p (x ∷ xs) = some_part (p x) x (slice_split p xs)
+
+more_pieces : (piece : List ℕ) (pieces : List (List ℕ)) → 0 < length pieces → lines_from (piece ∷ pieces) ≡ record { text = piece; ended = true } ∷ lines_from pieces
+more_pieces piece [] some = absurd (omega arith)
+more_pieces piece (next ∷ pieces) some = refl
+
+-- a line that is ended by a line feed
+pub line-ended : (rest : List ℕ) (at : ℕ) → at ≡ position_or_len is_feed rest → at < length rest → lines_of rest ≡ record { text = take at rest; ended = true } ∷ lines_of (drop (at + 1) rest)
+line-ended rest at e lt =
+    ap lines_from (split-at is_feed rest 0 at e lt)
+    ∙ more_pieces (take at rest) (slice_split is_feed (drop (at + 1) rest)) (parts_some is_feed (drop (at + 1) rest))
+
+none_left : (rest : List ℕ) (at : ℕ) → length rest ≤ at → drop at rest ≡ []
+none_left rest at le = grind (arith, common_steps)
+
+last_line : (rest : List ℕ) → 0 < length rest → lines_from (rest ∷ []) ≡ record { text = rest; ended = false } ∷ []
+last_line [] some = absurd (omega arith)
+last_line (c ∷ cs) some = refl
+
+-- the last one, where none ends it
+pub line-open : (rest : List ℕ) (at : ℕ) → 0 < length rest → at ≡ position_or_len is_feed rest → length rest ≤ at → lines_of rest ≡ record { text = rest; ended = false } ∷ lines_of (drop at rest)
+line-open rest at some e le =
+    ap lines_from (split-none is_feed rest (omega arith))
+    ∙ last_line rest some
+    ∙ ap (λ (left : List ℕ). record { text = rest; ended = false } ∷ lines_of left) (sym (none_left rest at le))
+
+-- a line has a token or more
+pub tokens_some : (text : List ℕ) → 0 < length (slice_split is_space text)
+tokens_some text = parts_some is_space text

@@ -1,0 +1,87 @@
+-- Values that are read one by one.
+use Rattle.std.proofs.Common.{◌≡◌, ◌<◌, ◌≤◌, List, [], ◌∷◌, ◌++◌, Option, Some, None, Result, Ok, Err, IfErr, refl, sym, ap, ◌∙◌, arith, inl, inr, append_assoc, append-nil, if◌then◌else◌}
+use Rattle.std.proofs.lemmas.Bool.{cases_lt, le-leb, lt-leb}
+use Rattle.tree_text_rules.specs.Line.{Token}
+use Rattle.tree_text_rules.specs.Token.{kind_number, lesser, both, mapped, each}
+use Rattle.tree_text_rules.specs.declared.TreeKind.{TreeKind}
+use Rattle.tree_tokens.specs.Joined.{so_far, joined, lesser_of}
+
+first_told : (a b : TreeKind) → kind_number a ≤ kind_number b → lesser a b ≡ a
+first_told a b le = ap (λ t. if t then a else b) (le-leb (kind_number a) (kind_number b) le)
+
+second_told : (a b : TreeKind) → kind_number b < kind_number a → lesser a b ≡ b
+second_told a b lt = ap (λ t. if t then a else b) (lt-leb (kind_number a) (kind_number b) lt)
+
+pub lesser_assoc : (a b c : TreeKind) → lesser (lesser a b) c ≡ lesser a (lesser b c)
+lesser_assoc a b c = elim (cases_lt (kind_number b) (kind_number a)) as (λ _. lesser (lesser a b) c ≡ lesser a (lesser b c)) [
+  | inl ba ↦ elim (cases_lt (kind_number c) (kind_number b)) as (λ _. lesser (lesser a b) c ≡ lesser a (lesser b c)) [
+    | inl cb ↦
+        ap (λ k. lesser k c) (second_told a b ba) ∙ second_told b c cb
+        ∙ sym (second_told a c (omega arith)) ∙ ap (λ k. lesser a k) (sym (second_told b c cb))
+    | inr bc ↦
+        ap (λ k. lesser k c) (second_told a b ba) ∙ first_told b c bc
+        ∙ sym (second_told a b ba) ∙ ap (λ k. lesser a k) (sym (first_told b c bc))
+  ]
+  | inr ab ↦ elim (cases_lt (kind_number c) (kind_number b)) as (λ _. lesser (lesser a b) c ≡ lesser a (lesser b c)) [
+    | inl cb ↦ ap (λ k. lesser k c) (first_told a b ab) ∙ ap (λ k. lesser a k) (sym (second_told b c cb))
+    | inr bc ↦
+        ap (λ k. lesser k c) (first_told a b ab) ∙ first_told a c (omega arith)
+        ∙ sym (first_told a b ab) ∙ ap (λ k. lesser a k) (sym (first_told b c bc))
+  ]
+]
+
+pub one_more : {A : Type 0} (front : Result (List A) TreeKind) (here : Result A TreeKind) (rest : Result (List A) TreeKind)
+    → joined (joined front (mapped (λ a. a ∷ []) here)) rest ≡ joined front (mapped (λ found. found.0 ∷ found.1) (both here rest))
+one_more {A} (Ok vs) (Ok a) (Ok bs) = ap (λ (xs : List A). Ok xs) (append_assoc vs (a ∷ []) bs)
+one_more (Ok vs) (Ok a) (Err k) = refl
+one_more (Ok vs) (Err k) (Ok bs) = refl
+one_more (Ok vs) (Err k) (Err l) = refl
+one_more (Err j) (Ok a) (Ok bs) = refl
+one_more (Err j) (Ok a) (Err k) = refl
+one_more (Err j) (Err k) (Ok bs) = refl
+one_more {A} (Err j) (Err k) (Err l) = ap (λ (kind : TreeKind). Err kind) (lesser_assoc j k l)
+
+-- past a token
+pub each_on : {A : Type 0} (read : Token → Result A TreeKind) (front next : Result (List A) TreeKind) (token : Token) (tokens all : List Token) (whole : Result (List A) TreeKind)
+    → next ≡ joined front (mapped (λ a. a ∷ []) (read token)) → all ≡ token ∷ tokens → joined front (each read all) ≡ whole → joined next (each read tokens) ≡ whole
+each_on {A} read front next token tokens all whole e cut before =
+    ap (λ (r : Result (List A) TreeKind). joined r (each read tokens)) e
+    ∙ one_more front (read token) (each read tokens)
+    ∙ ap (λ (ts : List Token). joined front (each read ts)) (sym cut)
+    ∙ before
+
+pub joined_none : {A : Type 0} (front : Result (List A) TreeKind) → joined front (Ok []) ≡ front
+joined_none {A} (Ok vs) = ap (λ (xs : List A). Ok xs) (append-nil vs)
+joined_none (Err k) = refl
+
+pub none_joined : {A : Type 0} (rest : Result (List A) TreeKind) → joined (Ok []) rest ≡ rest
+none_joined (Ok bs) = refl
+none_joined (Err k) = refl
+
+-- a value, or a fault, at the end of what was read
+pub value_last : {A : Type 0} (vs : List A) (here : Result A TreeKind) (a : A) → here ≡ Ok a → Ok (vs ++ a ∷ []) ≡ joined (Ok vs) (mapped (λ x. x ∷ []) here)
+value_last {A} vs here a e = sym (ap (λ (r : Result A TreeKind). joined (Ok vs) (mapped (λ (x : A). x ∷ []) r)) e)
+
+pub value_behind_fault : {A : Type 0} (k : TreeKind) (here : Result A TreeKind) (a : A) → here ≡ Ok a → Err k ≡ joined (Err k) (mapped (λ x. x ∷ []) here)
+value_behind_fault {A} k here a e = sym (ap (λ (r : Result A TreeKind). joined (Err k) (mapped (λ (x : A). x ∷ []) r)) e)
+
+at_fault : {A : Type 0} (fault : Option TreeKind) (vs : List A) (kind : TreeKind) → Err (lesser_of fault kind) ≡ joined (so_far fault vs) (Err kind)
+at_fault None vs kind = refl
+at_fault (Some k) vs kind = refl
+
+pub fault_last : {A : Type 0} (fault : Option TreeKind) (vs : List A) (here : Result A TreeKind) (kind : TreeKind) → here ≡ Err kind → Err (lesser_of fault kind) ≡ joined (so_far fault vs) (mapped (λ x. x ∷ []) here)
+fault_last {A} fault vs here kind e = at_fault fault vs kind ∙ sym (ap (λ (r : Result A TreeKind). joined (so_far fault vs) (mapped (λ (x : A). x ∷ []) r)) e)
+
+-- where each token has the one fault or none
+abbrev pub OnlyFails : {A : Type 0} → TreeKind → Result A TreeKind → Type 0
+OnlyFails kind read = IfErr read (λ other. other ≡ kind)
+
+both_only : {A : Type 0} (kind : TreeKind) → lesser kind kind ≡ kind → (here : Result A TreeKind) (rest : Result (List A) TreeKind) → OnlyFails kind here → OnlyFails kind rest → OnlyFails kind (mapped (λ found. found.0 ∷ found.1) (both here rest))
+both_only kind same (Ok a) (Ok bs) h t = tt
+both_only kind same (Ok a) (Err k) h t = t
+both_only kind same (Err k) (Ok bs) h t = h
+both_only kind same (Err k) (Err l) h t = ap (λ (x : TreeKind). lesser x l) h ∙ ap (λ (x : TreeKind). lesser kind x) t ∙ same
+
+pub each_only : {A : Type 0} (read : Token → Result A TreeKind) (kind : TreeKind) → lesser kind kind ≡ kind → ((token : Token) → OnlyFails kind (read token)) → (tokens : List Token) → OnlyFails kind (each read tokens)
+each_only read kind same one [] = tt
+each_only read kind same one (token ∷ tokens) = both_only kind same (read token) (each read tokens) (one token) (each_only read kind same one tokens)

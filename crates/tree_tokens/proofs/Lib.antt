@@ -1,0 +1,6 @@
+pub mod Counted
+pub mod Cutting
+pub mod Joining
+pub mod Naming
+pub mod RisingUnits
+pub mod Whole

@@ -1,0 +1,52 @@
+-- A token is found among names, or is none of them.
+use Rattle.std.proofs.Common.{◌≡◌, ◌<◌, ◌+◌, ◌&&◌, ℕ, zero, suc, Bool, true, false, cond, not, List, [], ◌∷◌, length, map, nat_lt, nat_le, Some, None, Decides, refl, subst, arith, slice_index}
+use Rattle.std.specs.List.{list_all, position, position_or_len}
+use Rattle.std.specs.Str.{bytes_eq, IsUtf8, IsAscii}
+use Rattle.std.proofs.lemmas.Bool.{and_parts, le-ltb, cond-false}
+use Rattle.std.proofs.lemmas.Bool.Decides.{nat_tests}
+use Rattle.std.proofs.lemmas.Slice.Eq.{bytes_eq-Decides}
+use Rattle.std.proofs.lemmas.Str.{IsUtf8-from_ascii}
+use Rattle.problem_rules.specs.Each.{Each}
+use Rattle.problem_rules.specs.Names.{is_name, begins_name, continues_name}
+
+low : (c : ℕ) → continues_name c ≡ true → c < 128
+low c h = grind (arith, nat_tests)
+
+all_low : (text : List ℕ) → list_all continues_name text ≡ true → IsAscii text
+all_low [] h i = omega arith
+all_low (c ∷ cs) h zero = low c (and_parts (continues_name c) (list_all continues_name cs) h).0
+all_low (c ∷ cs) h (suc i) = all_low cs (and_parts (continues_name c) (list_all continues_name cs) h).1 i
+
+name_utf8 : (text : List ℕ) → is_name text ≡ true → IsUtf8 text
+name_utf8 text h =
+    let front = nat_le 1 (length text) && nat_le (length text) 64 && begins_name (slice_index text 0) in
+    IsUtf8-from_ascii text (all_low text (and_parts front (list_all continues_name text) h).1)
+
+not_same : (b : Bool) (name token : List ℕ) → Decides b (name ≡ token) → (name ≡ token → ⊥) → b ≡ false
+not_same true name token d apart = absurd (apart (d.0 refl))
+not_same false name token d apart = refl
+
+module _ {X : Type 0} (name : X → List ℕ) (token : List ℕ) where
+  is_it : List ℕ → Bool
+  is_it word = bytes_eq word token
+
+  stays : (b : Bool) (n m : ℕ) → b ≡ false → n ≡ m → cond (not b) (1 + n) 0 ≡ suc m
+  stays true n m e q = absurd cc
+  stays false n m e q = omega (arith, q)
+
+  nowhere : (xs : List X) → Each (λ (x : X). is_name (name x) ≡ true) xs → (IsUtf8 token → ⊥) → position_or_len (λ word. bytes_eq word token) (map name xs) ≡ length (map name xs)
+  nowhere [] named bad = refl
+  nowhere (x ∷ xs) named bad =
+      stays (bytes_eq (name x) token) (position_or_len (λ word. bytes_eq word token) (map name xs)) (length (map name xs))
+      (not_same (bytes_eq (name x) token) (name x) token (bytes_eq-Decides (name x) token) (λ e. bad (subst IsUtf8 e (name_utf8 (name x) named.0))))
+      (nowhere xs named.1 bad)
+
+  -- a text that is not UTF-8 is no name
+  pub no_name : (xs : List X) → Each (λ (x : X). is_name (name x) ≡ true) xs → (IsUtf8 token → ⊥) → position (λ word. bytes_eq word token) (map name xs) ≡ None
+  no_name xs named bad =
+      let at = position_or_len (λ word. bytes_eq word token) (map name xs) in
+      cond-false (nat_lt at (length (map name xs))) (Some at) None (le-ltb at (length (map name xs)) (let e = nowhere xs named bad in omega (arith, e)))
+
+pub each_named : {X : Type 0} (P Q : X → Type 0) → ((x : X) → P x → Q x) → (xs : List X) → Each P xs → Each Q xs
+each_named P Q one [] h = tt
+each_named P Q one (x ∷ xs) h = (one x h.0, each_named P Q one xs h.1)

@@ -1,0 +1,13 @@
+use Rattle.std.proofs.Common.{◌≡◌, true, sym, ap}
+use Rattle.problem_rules.specs.Problem.{Material}
+use Rattle.problem_rules.specs.Names.{is_name}
+use Rattle.tree_text_rules.specs.Token.{told}
+use Rattle.tree_text_rules.specs.declared.TreeKind.TheVariants.{UnknownName}
+use Rattle.tree_tokens.proofs.Naming.{no_name, each_named}
+use Rattle.tree_tokens.proofs.name.material_of.Goals as goal
+
+pub returns-in-Err-clause-value : goal.returns-in-Err-clause-value
+returns-in-Err-clause-value c =
+    let h = c.is_valid.ensures.well_formed in
+    let named = each_named _ (λ (x : Material). is_name x.name ≡ true) (λ x formed. formed.named) c.args.problem.now.materials h.materials_formed in
+    sym (ap (told UnknownName) (no_name (λ (x : Material). x.name) c.args.token.now c.args.problem.now.materials named c.in-Err.ensures.cases.0))

@@ -1,0 +1,135 @@
+//! Columns of a tableau, rows, and the words of places.
+ghost use Rattle.std.specs.Prelude.{◌≡◌, ◌≤◌, ◌∷◌, [], Ok, IfOk, IfErr, drop, length, true, codes};
+ghost use Rattle.flow_program.specs.declared.place.Column.TheVariants as columns;
+ghost use Rattle.branch_tree.specs.Known.{KnowsColumn, KnowsRow};
+ghost use Rattle.tree_text_rules.specs.Token as rules;
+ghost use Rattle.tree_tokens.specs.Joined.{so_far, joined};
+ghost use Rattle.tree_tokens.specs.Tells.{TellsLine};
+ghost use Rattle.tree_tokens.specs.View.{tokens_in};
+
+use crate::name::{material_of, unit_of};
+use flow_program::{Column, FlowStep};
+use int_rows::Which;
+use pns_problem::Problem;
+use tree_text_rules::TreeKind;
+
+fn begins(token: &[u8], front: &[u8]) -> bool
+    ensures { result ≡ rules.begins token.now front.now }
+{
+    token.starts_with(front)
+}
+
+// What stands behind the first two bytes.
+fn behind_two(token: &[u8]) -> &[u8]
+    ensures { result.now ≡ drop 2 token.now }
+{
+    if token.len() < 2 { &[] } else { &token[2..] }
+}
+
+fn column_x(problem: &Problem, name: &[u8]) -> Result<Column, TreeKind>
+    ensures value { result ≡ rules.mapped columns.X (rules.unit_of problem.now name.now) }
+    ensures known { IfOk result (KnowsColumn problem.now) }
+{
+    match unit_of(problem, name) {
+        Ok(unit) => Ok(Column::X(unit)),
+        Err(kind) => Err(kind),
+    }
+}
+
+fn column_s(problem: &Problem, name: &[u8]) -> Result<Column, TreeKind>
+    ensures value { result ≡ rules.mapped columns.S (rules.unit_of problem.now name.now) }
+    ensures known { IfOk result (KnowsColumn problem.now) }
+{
+    match unit_of(problem, name) {
+        Ok(unit) => Ok(Column::S(unit)),
+        Err(kind) => Err(kind),
+    }
+}
+
+fn column_t(problem: &Problem, name: &[u8]) -> Result<Column, TreeKind>
+    ensures value { result ≡ rules.mapped columns.T (rules.material_of problem.now name.now) }
+    ensures known { IfOk result (KnowsColumn problem.now) }
+{
+    match material_of(problem, name) {
+        Ok(material) => Ok(Column::T(material)),
+        Err(kind) => Err(kind),
+    }
+}
+
+fn column_w(problem: &Problem, name: &[u8]) -> Result<Column, TreeKind>
+    ensures value { result ≡ rules.mapped columns.W (rules.material_of problem.now name.now) }
+    ensures known { IfOk result (KnowsColumn problem.now) }
+{
+    match material_of(problem, name) {
+        Ok(material) => Ok(Column::W(material)),
+        Err(kind) => Err(kind),
+    }
+}
+
+/// A column.
+pub fn column_of(problem: &Problem, token: &[u8]) -> Result<Column, TreeKind>
+    ensures value { result ≡ rules.column_of problem.now token.now }
+    ensures known { IfOk result (KnowsColumn problem.now) }
+{
+    if begins(token, b"x:") {
+        column_x(problem, behind_two(token))
+    } else if begins(token, b"s:") {
+        column_s(problem, behind_two(token))
+    } else if begins(token, b"t:") {
+        column_t(problem, behind_two(token))
+    } else if begins(token, b"w:") {
+        column_w(problem, behind_two(token))
+    } else if token == b"right".as_slice() {
+        Ok(Column::Right)
+    } else if token == b"scale".as_slice() {
+        Ok(Column::Scale)
+    } else {
+        Err(TreeKind::BadLine)
+    }
+}
+
+/// The row of a basis column, or the cost row.
+pub fn row_of(problem: &Problem, token: &[u8]) -> Result<Option<Column>, TreeKind>
+    ensures value { result ≡ rules.row_of problem.now token.now }
+    ensures known { IfOk result (KnowsRow problem.now) }
+{
+    if token == b"cost".as_slice() {
+        return Ok(None);
+    }
+    match column_of(problem, token) {
+        Ok(column) => Ok(Some(column)),
+        Err(kind) => Err(kind),
+    }
+}
+
+/// Which number of an entry.
+pub fn which_of(token: &[u8]) -> Result<Which, TreeKind>
+    ensures { result ≡ rules.which_of token.now }
+{
+    if token == b"left".as_slice() {
+        Ok(Which::Left)
+    } else if token == b"right".as_slice() {
+        Ok(Which::Right)
+    } else if token == b"difference".as_slice() {
+        Ok(Which::Difference)
+    } else {
+        Err(TreeKind::BadLine)
+    }
+}
+
+/// Which number of a flow.
+pub fn flow_of(token: &[u8]) -> Result<FlowStep, TreeKind>
+    ensures { result ≡ rules.flow_of token.now }
+{
+    if token == b"lcm".as_slice() {
+        Ok(FlowStep::Lcm)
+    } else if token == b"shift".as_slice() {
+        Ok(FlowStep::Shift)
+    } else if token == b"scaled".as_slice() {
+        Ok(FlowStep::Scaled)
+    } else if token == b"total".as_slice() {
+        Ok(FlowStep::Total)
+    } else {
+        Err(TreeKind::BadLine)
+    }
+}

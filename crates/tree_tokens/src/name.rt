@@ -1,0 +1,54 @@
+//! Names of units, materials and exclusions.
+ghost use Rattle.std.specs.Prelude.{◌≡◌, ◌<◌, ◌≤◌, IfOk, length};
+ghost use Rattle.tree_text_rules.specs.Token as rules;
+
+use pns_problem::Problem;
+use std::str;
+use tree_text_rules::TreeKind;
+
+/// The number of the unit of this name.
+pub fn unit_of(problem: &Problem, token: &[u8]) -> Result<u32, TreeKind>
+    ensures value { result ≡ rules.unit_of problem.now token.now }
+    ensures below { IfOk result (λ u. u < length problem.now.units) }
+{
+    problem.is_valid();
+    match str::from_utf8(token) {
+        Ok(name) => match problem.unit_named(name) {
+            Some(unit) => Ok(unit),
+            None => Err(TreeKind::UnknownName),
+        },
+        Err(_) => Err(TreeKind::UnknownName),
+    }
+}
+
+/// The number of the material of this name.
+pub fn material_of(problem: &Problem, token: &[u8]) -> Result<u32, TreeKind>
+    ensures value { result ≡ rules.material_of problem.now token.now }
+    ensures below { IfOk result (λ x. x < length problem.now.materials) }
+{
+    problem.is_valid();
+    match str::from_utf8(token) {
+        Ok(name) => match problem.material_named(name) {
+            Some(material) => Ok(material),
+            None => Err(TreeKind::UnknownName),
+        },
+        Err(_) => Err(TreeKind::UnknownName),
+    }
+}
+
+/// The number of the exclusion of this name. A problem has few, so they are looked through.
+pub fn exclusion_of(problem: &Problem, token: &[u8]) -> Result<u32, TreeKind>
+    ensures value { result ≡ rules.exclusion_of problem.now token.now }
+    ensures below { IfOk result (λ k. k < length problem.now.exclusions) }
+{
+    problem.is_valid();
+    let exclusions = problem.exclusions();
+    let mut number: u32 = 0;
+    'looking: for exclusion in exclusions {
+        if exclusion.name.as_bytes() == token {
+            return Ok(number);
+        }
+        number += 1;
+    }
+    Err(TreeKind::UnknownName)
+}
