@@ -1,4 +1,5 @@
 pub mod CountLemmas
+pub mod GrowthLemmas
 pub mod PassLemmas
 pub mod RunLemmas
 pub mod TreeLemmas

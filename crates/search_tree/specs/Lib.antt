@@ -1,5 +1,6 @@
 pub mod Cells
 pub mod Preorder
 pub mod Fits
+pub mod Growth
 pub mod Laws
 pub mod Runs

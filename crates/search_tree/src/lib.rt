@@ -5,14 +5,19 @@
 //! branch tree, whose passing then follows: no walk is a recursion, and no fact of the search relates two nodes.
 //!
 //! - `cell`: `Cell`
+//! - `growth`: a leaf becomes a branch, and its children are added
 //! - `walk`: the cells in preorder
 //! - `laws`: what holds of the tree where each cell fits
 #![tactic(auto)]
 
 mod cell;
+mod growth;
 mod laws;
+#[cfg(test)]
+mod tests;
 mod walk;
 
 pub use cell::Cell;
+pub use growth::{Fresh, add_child, mark_branch};
 pub use laws::{cells_stand, preorder_is_tree, preorder_proves};
 pub use walk::{Preorder, nodes_in_preorder};
