@@ -1,8 +1,42 @@
 -- How a leaf of a growing tree becomes a branch.
-use Rattle.std.specs.Prelude.{ℕ}
-use Rattle.tree_rules.specs.Tree.{branch}
-use Rattle.search_tree.specs.Cells.{Cell}
+use Rattle.std.specs.Prelude.{◌≡◌, ℕ, ◌<◌, Bool, true, false, List, [], ◌∷◌, ◌++◌, length}
+use Rattle.link_lists.specs.Lists.{has}
+use Rattle.node_pool.specs.Pooled.{Pooled}
+use Rattle.frac128.specs.declared.fraction.Frac.{Frac}
+use Rattle.tree_rules.specs.Tree.{End, branch, leaf}
+use Rattle.tree_rules.specs.Leaf.{Leaf, dead, clash, refuted, bounded, untried}
+use Rattle.search_tree.specs.declared.growth.Fresh.{Fresh}
+use Rattle.search_tree.specs.Cells.{Cell, cell_at}
+
+-- whether the end is a leaf that is open
+abbrev pub is_open_leaf : Leaf → Bool
+is_open_leaf (dead x) = false
+is_open_leaf (clash k) = false
+is_open_leaf (refuted ys) = false
+is_open_leaf (bounded d ys) = false
+is_open_leaf untried = true
+
+abbrev pub is_open : End Leaf → Bool
+is_open (branch x c) = false
+is_open (leaf l) = is_open_leaf l
+
+-- the open leaves of the pool are the cells that end open
+abbrev pub AreOpen : Pooled Cell → Type 0
+AreOpen p = (j : ℕ) → j < length p.payloads → has p.leaves j ≡ is_open (cell_at p.payloads j).end
 
 -- the cell as a branch at the material x with `count` children, which begin with `first`
 abbrev pub as_branch : Cell → ℕ → ℕ → ℕ → Cell
 as_branch c first x count = record { option = c.option; steps = c.steps; node = c.node; first = first; end = branch x count; key = c.key }
+
+-- the cells and the values of children of which the last one stands first, in their order
+abbrev pub cells_in_turn : List Fresh → List Cell
+cells_in_turn [] = []
+cells_in_turn (f ∷ fs) = cells_in_turn fs ++ f.cell ∷ []
+
+abbrev pub values_in_turn : List Fresh → List Frac
+values_in_turn [] = []
+values_in_turn (f ∷ fs) = values_in_turn fs ++ f.value ∷ []
+
+-- the cell with another end
+abbrev pub as_shut : Cell → End Leaf → Cell
+as_shut c e = record { option = c.option; steps = c.steps; node = c.node; first = c.first; end = e; key = c.key }

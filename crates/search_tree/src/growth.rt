@@ -1,22 +1,22 @@
 //! How the tree grows.
-ghost use Rattle.std.specs.Prelude.{◌≡◌, ◌<◌, ◌≤◌, ◌+◌, ◌^◌, ◌++◌, ◌∷◌, [], true, ℕ, ◌⊎◌, Some, length, map, slice_set};
+ghost use Rattle.std.specs.Prelude.{◌≡◌, ◌<◌, ◌≤◌, ◌+◌, ◌^◌, ◌++◌, ◌∷◌, [], true, false, length, map, slice_set};
 ghost use Rattle.link_lists.specs.Lists.{has};
 ghost use Rattle.node_pool.specs.Pooled.{IsShut};
 ghost use Rattle.tree_rules.specs.Tree.{branch};
+ghost use Rattle.branch_tree.specs.View.{end_of};
 ghost use Rattle.search_tree.specs.Cells.{cell_at};
-ghost use Rattle.search_tree.specs.Growth.{as_branch};
+ghost use Rattle.search_tree.specs.Growth.{as_branch, as_shut, is_open, AreOpen, cells_in_turn, values_in_turn};
 
 use crate::cell::Cell;
 use branch_tree::End;
 use frac128::Frac;
 use node_pool::Pool;
 
-/// A child that stands ready: its cell, its value, and whether it is an open leaf.
+/// A child that stands ready, with its value.
 #[derive(Drop)]
 pub struct Fresh {
     pub cell: Cell,
     pub value: Frac,
-    pub open: bool,
 }
 
 impl Cell {
@@ -27,21 +27,39 @@ impl Cell {
         self.end = End::Branch { material, children };
         self.first = first;
     }
+
+    /// Gives the node another end.
+    pub fn make_end(&mut self, end: End)
+        ensures { self.new ≡ as_shut self.old (end_of end) }
+    {
+        self.end = end;
+    }
+
+    /// Whether the node is an open leaf.
+    pub fn ends_open(&self) -> bool
+        ensures { result ≡ is_open self.now.end }
+    {
+        match self.end {
+            End::Open => true,
+            _ => false,
+        }
+    }
 }
 
 /// Adds a child of the node `leaf` behind all other nodes, as an open leaf where it is one. It takes no memory where the pool has
 /// room for it.
-pub fn add_child(pool: &mut Pool<Cell>, leaf: u32, fresh: Fresh)
+fn add_child(pool: &mut Pool<Cell>, leaf: u32, fresh: Fresh)
     requires parent { IsShut pool.old leaf }
     requires room { 0 < pool.old.spare }
+    requires open { AreOpen pool.old }
     ensures cells { pool.new.payloads ≡ pool.old.payloads ++ fresh.cell ∷ [] }
     ensures values { pool.new.values ≡ pool.old.values ++ fresh.value ∷ [] }
     ensures parent { IsShut pool.new leaf }
     ensures room { pool.old.spare ≤ pool.new.spare + 1 }
-    ensures open { (j : ℕ) → has pool.new.leaves j ≡ true → (has pool.old.leaves j ≡ true) ⊎ ((j ≡ length pool.old.payloads) × (fresh.open ≡ true)) }
+    ensures open { AreOpen pool.new }
 {
     pool.is_pool();
-    let open = fresh.open;
+    let open = fresh.cell.ends_open();
     if let Ok(id) = pool.add(Some(leaf), fresh.value, fresh.cell) {
         if !open {
             pool.shut(id);
@@ -50,16 +68,50 @@ pub fn add_child(pool: &mut Pool<Cell>, leaf: u32, fresh: Fresh)
 }
 
 /// Makes an open leaf a branch at the material with so many children, which begin with the node `first`. It takes no memory.
-pub fn mark_branch(pool: &mut Pool<Cell>, leaf: u32, material: u32, first: u32, children: u32)
-    requires { has pool.old.leaves leaf ≡ true }
+fn mark_branch(pool: &mut Pool<Cell>, leaf: u32, material: u32, first: u32, children: u32)
+    requires leaf { has pool.old.leaves leaf ≡ true }
+    requires open { AreOpen pool.old }
     ensures cells { pool.new.payloads ≡ slice_set pool.old.payloads leaf (as_branch (cell_at pool.old.payloads leaf) first material children) }
     ensures values { pool.new.values ≡ pool.old.values }
     ensures parent { IsShut pool.new leaf }
     ensures room { pool.new.spare ≡ pool.old.spare }
-    ensures open { (j : ℕ) → has pool.new.leaves j ≡ true → (has pool.old.leaves j ≡ true) × (j ≡ leaf → ⊥) }
+    ensures open { AreOpen pool.new }
 {
     pool.is_pool();
     pool.shut(leaf);
     pool.payload_mut(leaf)
         .make_branch(material, first, children);
+}
+
+/// Makes an open leaf a branch at the material, and adds its children, the last of which stands first in the list. They begin with
+/// the node `first`. The list is empty then, and no memory is taken.
+pub fn branch(pool: &mut Pool<Cell>, leaf: u32, material: u32, first: u32, kids: &mut Vec<Fresh>)
+    requires leaf { has pool.old.leaves leaf ≡ true }
+    requires open { AreOpen pool.old }
+    requires room { length kids.old.items ≤ pool.old.spare }
+    requires few { length kids.old.items < 2 ^ 32 }
+    ensures cells { pool.new.payloads ≡ slice_set pool.old.payloads leaf (as_branch (cell_at pool.old.payloads leaf) first material (length kids.old.items)) ++ cells_in_turn kids.old.items }
+    ensures values { pool.new.values ≡ pool.old.values ++ values_in_turn kids.old.items }
+    ensures open { AreOpen pool.new }
+{
+    let children = kids.len() as u32;
+    mark_branch(pool, leaf, material, first, children);
+    'kids: while let Some(fresh) = kids.pop() {
+        add_child(pool, leaf, fresh);
+    }
+}
+
+/// Shuts an open leaf with an end that is not open. It takes no memory.
+pub fn shut(pool: &mut Pool<Cell>, leaf: u32, end: End)
+    requires leaf { has pool.old.leaves leaf ≡ true }
+    requires end { is_open (end_of end) ≡ false }
+    requires open { AreOpen pool.old }
+    ensures cells { pool.new.payloads ≡ slice_set pool.old.payloads leaf (as_shut (cell_at pool.old.payloads leaf) (end_of end)) }
+    ensures values { pool.new.values ≡ pool.old.values }
+    ensures room { pool.new.spare ≡ pool.old.spare }
+    ensures open { AreOpen pool.new }
+{
+    pool.is_pool();
+    pool.shut(leaf);
+    pool.payload_mut(leaf).make_end(end);
 }

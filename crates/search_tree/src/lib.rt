@@ -18,6 +18,6 @@ mod tests;
 mod walk;
 
 pub use cell::Cell;
-pub use growth::{Fresh, add_child, mark_branch};
+pub use growth::{Fresh, branch, shut};
 pub use laws::{cells_stand, preorder_is_tree, preorder_proves};
 pub use walk::{Preorder, nodes_in_preorder};

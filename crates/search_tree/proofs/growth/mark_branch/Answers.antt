@@ -1,14 +1,16 @@
-use Rattle.std.proofs.Common.{◌≡◌, ◌<◌, length, sym, ap, ◌∙◌, subst}
-use Rattle.link_lists.specs.Lists.{has}
+use Rattle.std.proofs.Common.{sym, ap, subst}
 use Rattle.node_pool.specs.Pooled.{Pooled, IsShut, with_payload}
 use Rattle.search_tree.specs.Cells.{Cell}
-use Rattle.search_tree.proofs.GrowthLemmas.{shut_now, open_before}
+use Rattle.search_tree.specs.Growth.{is_open, AreOpen}
+use Rattle.search_tree.proofs.GrowthLemmas.{shut_now, open_shut}
 use Rattle.search_tree.proofs.growth.mark_branch.Goals as goal
 
 pub returns-clause-parent : goal.returns-clause-parent
 returns-clause-parent c =
     subst (λ (p : Pooled Cell). IsShut (with_payload p c.args.leaf c.make_branch.new.self) c.args.leaf) (sym c.shut.ensures)
-    (shut_now c.args.pool.now c.args.leaf c.make_branch.new.self (c.is_pool.ensures.leaves c.args.leaf c.requires))
+    (shut_now c.args.pool.now c.args.leaf c.make_branch.new.self (c.is_pool.ensures.leaves c.args.leaf c.requires.leaf))
 
 pub returns-clause-open : goal.returns-clause-open
-returns-clause-open c j h = open_before c.args.pool.now c.args.leaf j (sym (ap (λ (p : Pooled Cell). has p.leaves j) c.shut.ensures) ∙ h)
+returns-clause-open c =
+    subst (λ (p : Pooled Cell). AreOpen (with_payload p c.args.leaf c.make_branch.new.self)) (sym c.shut.ensures)
+    (open_shut c.args.pool.now c.args.leaf c.make_branch.new.self c.requires.open (ap (λ (x : Cell). is_open x.end) c.make_branch.ensures))
