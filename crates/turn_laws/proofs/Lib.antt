@@ -3,3 +3,4 @@ pub mod GrowLemmas
 pub mod KeptLemmas
 pub mod LeanLemmas
 pub mod LinkLemmas
+pub mod StepLemmas

@@ -1,6 +1,6 @@
 -- Laws of the turns of a search, each of which a public function of this crate has as its contract. Each speaks of every valid
 -- problem.
-use Rattle.std.specs.Prelude.{◌≡◌, ℕ, ◌+◌, ◌<◌, ℤ, ◌*ℤ◌, ◌≤ℤ◌, Bool, true, List, [], ◌∷◌, length, Option, Some}
+use Rattle.std.specs.Prelude.{◌≡◌, ℕ, ◌+◌, ◌<◌, ◌++◌, slice_set, ℤ, ◌*ℤ◌, ◌≤ℤ◌, Bool, true, List, [], ◌∷◌, length, Option, Some}
 use Rattle.std.specs.List.{slice_get}
 use Rattle.problem_rules.specs.Problem.{Problem}
 use Rattle.problem_rules.specs.Validity.{IsValid}
@@ -11,12 +11,13 @@ use Rattle.pns_rules.specs.Ends.{IsUndecided, IsFirst}
 use Rattle.flow_rules.specs.Net.{net_of}
 use Rattle.flow_rules.specs.Flows.{IsFlows, cost}
 use Rattle.tree_rules.specs.Tree.{leaf}
-use Rattle.tree_rules.specs.Leaf.{IsUntried, untried}
+use Rattle.tree_rules.specs.Leaf.{Leaf, IsUntried, untried, LeafPasses}
 use Rattle.tree_rules.specs.Claim.{Claim, unknown, CostOver, claimed_cost, ClaimPasses}
 use Rattle.tree_rules.specs.Lean.{IsLean}
 use Rattle.tree_rules.specs.Stops.{IsOpenAt, IsPending, IsSpent}
 use Rattle.tree_rules.specs.Accepted.{IsAccepted}
 use Rattle.search_tree.specs.Cells.{Cell, place_of, cell_at}
+use Rattle.search_tree.specs.Growth.{as_branch, as_shut}
 use Rattle.search_tree.specs.Preorder.{IsPreorder, tree_of}
 use Rattle.turn_laws.specs.Values.{IsPositive, IsUnder, HasFallen, IsPositiveCost}
 use Rattle.turn_laws.specs.Kept.{LastIsBelow, IsKept}
@@ -37,6 +38,18 @@ abbrev pub ShuttingIsKept : Type 0
 ShuttingIsKept =
     (p : Problem) (start : Node) (claim : Claim) (last : Option CostOver) (old new : List Cell)
     → IsKept p start claim last old → AreShut p (claimed_cost claim) old new → IsKept p start claim last new
+
+-- ---- what the calls of `search_tree` do to the cells is such a step
+
+abbrev pub GrowthBranches : Type 0
+GrowthBranches =
+    (old kids : List Cell) (at x : ℕ) → at < length old
+    → IsBranched old kids (slice_set old at (as_branch (cell_at old at) (length old) x (length kids)) ++ kids) at x
+
+abbrev pub GrowthShuts : Type 0
+GrowthShuts =
+    (p : Problem) (claimed : Option CostOver) (old : List Cell) (at : ℕ) (l : Leaf) → at < length old → (cell_at old at).end ≡ leaf untried → (l ≡ untried → ⊥)
+    → LeafPasses true p claimed (place_of (cell_at old at)) l → AreShut p claimed old (slice_set old at (as_shut (cell_at old at) (leaf l)))
 
 -- a network of a node that has no relaxed flows cheaper than v costs at least v
 abbrev pub NetworksCostMore : Type 0

@@ -1,4 +1,4 @@
-ghost use Rattle.turn_laws.specs.Laws.{BranchingIsKept, ShuttingIsKept, NetworksCostMore};
+ghost use Rattle.turn_laws.specs.Laws.{BranchingIsKept, ShuttingIsKept, NetworksCostMore, GrowthBranches, GrowthShuts};
 
 /// A turn that branches an open leaf of least value keeps what a search keeps.
 pub fn branching_is_kept()
@@ -13,4 +13,10 @@ pub fn shutting_is_kept()
 /// A network costs no less than the relaxed flows of a node that it is found at.
 pub fn networks_cost_more()
     ensures { NetworksCostMore }
+{}
+
+/// What the calls that branch and shut leaves do to the cells is such a step.
+pub fn growth_is_turn()
+    ensures branches { GrowthBranches }
+    ensures shuts { GrowthShuts }
 {}
