@@ -1,10 +1,12 @@
 //! The worked text of a plant of five units, printed part by part, a whole small tree, and a sink that fails.
-ghost use Rattle.std.specs.Prelude.{◌≡◌, ◌≤◌, ◌∷◌, [], IfOk, length};
-ghost use Rattle.branch_tree.specs.Known.{AreUnits};
+ghost use Rattle.std.specs.Prelude.{◌≡◌, ◌<◌, ◌≤◌, ◌∷◌, [], IfOk, length};
+ghost use Rattle.problem_rules.specs.Problem as rules;
+ghost use Rattle.branch_tree.specs.Known.{AreUnits, KnowsTree};
 ghost use Rattle.int_rows.specs.Range.{AllInRange};
 
 use crate::{
-    PrintFault, print_end, print_head, print_network, print_place, print_tail, print_tree,
+    PrintFault, print_end, print_head, print_network, print_place, print_rest, print_tail,
+    print_tree,
 };
 use branch_tree::{Claim, End, Multipliers, Network, Steps, Tail, Tree, TreeNode};
 use flow_program::{Column, FlowStep, Place};
@@ -268,5 +270,67 @@ fn a_place_is_printed(rt: HostRuntime) -> Result<(), Fail> {
     assert!(rt;
         printed && out.bytes() == b"nonbasic x:U1 w:P scale\nplace flow U5 lcm\n".as_slice()
     );
+    Ok(())
+}
+
+/// A root of so many children, each an open leaf.
+fn wide(alloc: Global, count: u32) -> Result<Tree, AllocError>
+    requires { 0 < count }
+    ensures { IfOk result (λ t. (p : rules.Problem) → 6 ≤ length p.materials → 5 ≤ length p.units → KnowsTree p t) }
+{
+    let mut nodes = Vec::new(alloc);
+    nodes.push(TreeNode {
+        option: UnitSet::empty(),
+        steps: Steps::from_vec(Vec::new(alloc)),
+        end: End::Branch {
+            material: 0,
+            children: count,
+        },
+    })?;
+    'growing: for i in 0..count {
+        nodes.push(TreeNode {
+            option: UnitSet::empty().with(0),
+            steps: Steps::from_vec(Vec::new(alloc)),
+            end: End::Open,
+        })?;
+    }
+    Ok(Tree::from_nodes(nodes))
+}
+
+fn print_wide(
+    alloc: Global,
+    problem: &Problem,
+    count: u32,
+    out: &mut MemSink,
+) -> Result<(), PrintFault>
+    requires some { 0 < count }
+    requires materials { 6 ≤ length problem.now.materials }
+    requires units { 5 ≤ length problem.now.units }
+{
+    let Ok(tree) = wide(alloc, count) else {
+        return Err(PrintFault::Memory);
+    };
+    print_rest(alloc, problem, &Claim::Infeasible, &tree, &Tail::Whole, out)
+}
+
+const CHILDREN: u32 = 20_000;
+
+fn wide_text(alloc: Global) -> Result<String, AllocError> {
+    let mut text = String::from_str(alloc, "infeasible\nnode\nbranch A 20000\n")?;
+    for _ in 0..CHILDREN {
+        text.push_str("node U1\nopen\n")?;
+    }
+    text.push_str("end\n")?;
+    Ok(text)
+}
+
+#[test]
+fn a_wide_tree_is_printed(rt: HostRuntime) -> Result<(), Fail> {
+    let alloc = rt.alloc();
+    let problem = plant(alloc)?;
+    let text = wide_text(alloc)?;
+    let mut out = MemSink::new(alloc, 1_000_000, None)?;
+    let printed = print_wide(alloc, &problem, CHILDREN, &mut out).is_ok();
+    assert!(rt; printed && out.bytes() == text.as_bytes());
     Ok(())
 }
