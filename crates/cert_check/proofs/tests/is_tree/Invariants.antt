@@ -1,4 +1,4 @@
-use Rattle.std.proofs.Common.{◌≤◌, ◌+◌, ◌*◌, ◌<◌, length, drop}
+use Rattle.std.proofs.Common.{◌≤◌, ◌+◌, ◌*◌, drop}
 use Rattle.tree_rules.specs.Tree.{IsForest}
 use Rattle.cert_check.proofs.tests.is_tree.Given as goal
 
