@@ -1,14 +1,14 @@
 -- What the calls of `search_tree` do to the cells is a step of a turn.
-use Rattle.std.proofs.Common.{◌≡◌, ℕ, ◌+◌, ◌<◌, true, List, length, slice_set, ◌++◌, refl, sym, ap, ◌∙◌, subst, arith, inl, inr, Option, length-append}
+use Rattle.std.proofs.Common.{◌≡◌, ℕ, ◌+◌, ◌<◌, true, List, length, slice_set, ◌++◌, sym, ap, ◌∙◌, subst, arith, inl, inr, Option, length-append}
 use Rattle.std.proofs.lemmas.Bool.{cases_eq}
 use Rattle.std.proofs.lemmas.List.{get_or_append_left, get_or-append-add, get_or-set_same, get_or-set_other, length-set}
 use Rattle.problem_rules.specs.Problem.{Problem}
-use Rattle.tree_rules.specs.Tree.{branch, leaf}
+use Rattle.tree_rules.specs.Tree.{leaf}
 use Rattle.tree_rules.specs.Leaf.{Leaf, untried, LeafPasses}
 use Rattle.tree_rules.specs.Claim.{CostOver}
 use Rattle.search_tree.specs.Cells.{Cell, no_cell, place_of, cell_at}
 use Rattle.search_tree.specs.Growth.{as_branch, as_shut}
-use Rattle.turn_laws.specs.Turns.{with_end, IsBranched, IsShut, AreShut}
+use Rattle.turn_laws.specs.Turns.{IsBranched, IsShut, AreShut}
 
 module _ (old kids : List Cell) (at x : ℕ) (there : at < length old) where
   abbrev now : Cell
