@@ -4,3 +4,4 @@ pub mod FirstLemmas
 pub mod SecondLemmas
 pub mod StartLemmas
 pub mod OptionLemmas
+pub mod EndLemmas

@@ -1,2 +1,4 @@
 pub mod Walk
 pub mod Measure
+pub mod Bench
+pub mod Answer

@@ -1,4 +1,13 @@
 //! Least flows of a flow program, by the lexicographic dual simplex method in whole numbers.
+//!
+//! A [`Bench`] has room for programs up to a size. [`Bench::least`] walks the path of a program, which fixes each pivot, to its
+//! last basis, and keeps what that gives: multipliers whose bound is the cost of least flows, or a refutation; or it names the
+//! pivot at which a number leaves the range. Only `open` takes memory, and a bench serves program after program.
 #![tactic(auto)]
 
+mod bench;
+mod ends;
 mod walk;
+
+pub use bench::{Bench, Ends};
+pub use walk::PastPivot;

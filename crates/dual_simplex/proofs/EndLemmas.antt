@@ -1,0 +1,58 @@
+-- What the reading of multipliers asks of the last basis.
+use Rattle.std.proofs.Common.{◌≡◌, ◌<◌, ◌≤◌, ◌++◌, ℕ, arith, subst, sym, ◌∙◌, List, length, take}
+use Rattle.std.proofs.lemmas.List.{take-append-le, take_all, length-take-le}
+use Rattle.int_rows.specs.Range.{InRange, AllInRange}
+use Rattle.flow_rules.specs.Program.{Program}
+use Rattle.path_rules.specs.LinearProgram.{linear_of}
+use Rattle.path_rules.specs.Multipliers.{AreMultipliers, AreRefuting}
+use Rattle.dual_simplex.specs.Bench.{IsLeastOf, IsNoneOf}
+use Rattle.std.specs.Prelude.{ℤ, pos, ◌<ℤ◌, ◌≤ℤ◌}
+use Rattle.path_rules.specs.LinearProgram.{LinearProgram}
+use Rattle.path_rules.specs.Columns.{columns, scale_at}
+use Rattle.path_laws.proofs.LawLemmas.{basis_is_of_columns}
+use Rattle.tableau_rows.specs.Rows.{Rows, table, basis}
+use Rattle.pivots.specs.Choice.{columns_of, scale_of}
+use Rattle.flow_reading.specs.Dual.{IsNotNegative}
+use Rattle.dual_simplex.specs.Walk.{EndsFeasible, EndsRefuting}
+use Rattle.dual_simplex.proofs.FirstLemmas.{scale_is}
+use Rattle.dual_simplex.proofs.SecondLemmas.{columns_are}
+
+pub costs_not_negative : (p : LinearProgram) (r : Rows) → EndsFeasible p r → IsNotNegative r (scale_of r)
+costs_not_negative p r h k l =
+    let n = columns_are p r h.on_path.size in
+    subst (λ c. pos 0 ≤ℤ table r c k) (sym (scale_is p r h.on_path.size)) (h.feasible.costs k (subst (λ m. k < m) n l))
+
+pub scale_positive : (p : LinearProgram) (r : Rows) → EndsFeasible p r → pos 0 <ℤ table r (scale_of r) (scale_of r)
+scale_positive p r h =
+    let on = h.on_path in
+    subst (λ c. pos 0 <ℤ table r c c) (sym (scale_is p r on.size)) (on.is_tableau (scale_at p) (basis_is_of_columns p on.pivots (basis r) on.reached).0).own
+
+pub row_not_negative : (p : LinearProgram) (r : Rows) (row : ℕ) → EndsRefuting p r row → IsNotNegative r row
+row_not_negative p r row h k l = h.refuting.entries k (subst (λ m. k < m) (columns_are p r h.on_path.size) l)
+
+pub row_below : (p : LinearProgram) (r : Rows) (row : ℕ) → EndsRefuting p r row → row < columns_of r
+row_below p r row h = subst (λ m. row < m) (sym (columns_are p r h.on_path.size)) h.refuting.leaving.column
+
+pub taken : (n : ℕ) (xs rest : List ℤ) → length xs ≡ n → take n (xs ++ rest) ≡ xs
+taken n xs rest e = take-append-le n xs rest (omega arith) ∙ take_all n xs (omega arith)
+
+pub least_of : (q : Program) (r : Rows) (d : ℤ) (items ys : List ℤ) (row : ℕ) → items ≡ ys → r.rows ≤ length ys → EndsFeasible (linear_of q) r
+    → AreMultipliers (linear_of q) (table r (scale_at (linear_of q))) d (take r.rows ys) → InRange d → AllInRange (take r.rows ys)
+    → IsLeastOf q (record { rows = r; d = d; ys = take r.rows items; row = row })
+least_of q r d items ys row e room f a rd ry = record {
+  feasible = f;
+  are = subst (λ (xs : List ℤ). AreMultipliers (linear_of q) (table r (scale_at (linear_of q))) d (take r.rows xs)) (sym e) a;
+  count = subst (λ (xs : List ℤ). length (take r.rows xs) ≡ length q.rows) (sym e) (length-take-le r.rows ys room ∙ sym f.on_path.size.rows);
+  scale_in_range = rd;
+  in_range = subst (λ (xs : List ℤ). AllInRange (take r.rows xs)) (sym e) ry;
+}
+
+pub none_of : (q : Program) (r : Rows) (d : ℤ) (items ys : List ℤ) (row : ℕ) → items ≡ ys → r.rows ≤ length ys → EndsRefuting (linear_of q) r row
+    → AreRefuting (linear_of q) (table r row) (take r.rows ys) → AllInRange (take r.rows ys)
+    → IsNoneOf q (record { rows = r; d = d; ys = take r.rows items; row = row })
+none_of q r d items ys row e room f a ry = record {
+  refuting = f;
+  are = subst (λ (xs : List ℤ). AreRefuting (linear_of q) (table r row) (take r.rows xs)) (sym e) a;
+  count = subst (λ (xs : List ℤ). length (take r.rows xs) ≡ length q.rows) (sym e) (length-take-le r.rows ys room ∙ sym f.on_path.size.rows);
+  in_range = subst (λ (xs : List ℤ). AllInRange (take r.rows xs)) (sym e) ry;
+}

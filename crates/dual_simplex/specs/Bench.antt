@@ -1,0 +1,38 @@
+-- What a bench keeps of the last program that it was given, and what that means.
+use Rattle.std.specs.Prelude.{◌≡◌, ◌≤◌, ℕ, ℤ, List, length}
+use Rattle.int_rows.specs.Range.{InRange, AllInRange}
+use Rattle.int_rows.specs.declared.combination.Which.{Which}
+use Rattle.flow_rules.specs.Program.{Program}
+use Rattle.path_rules.specs.LinearProgram.{linear_of}
+use Rattle.path_rules.specs.Columns.{scale_at}
+use Rattle.path_rules.specs.Multipliers.{AreMultipliers, AreRefuting}
+use Rattle.tableau_rows.specs.Rows.{Rows, table}
+use Rattle.dual_simplex.specs.Walk.{EndsFeasible, EndsRefuting, EndsPast}
+
+pub record Bench : Type 0 where
+  pub rows : Rows
+  -- the multipliers and their scale, or the multipliers of a refutation
+  pub d : ℤ
+  pub ys : List ℤ
+  -- the column whose row can't be met
+  pub row : ℕ
+
+-- there is room for programs of so many units and rows
+pub record HasRoom (b : Bench) (units rows : ℕ) : Type 0 where
+  pub units_fit : units ≤ b.rows.most_units
+  pub rows_fit : rows ≤ b.rows.most_rows
+
+-- the bench keeps the last basis of the path of the program, which gives least flows, and the multipliers of its cost row
+pub record IsLeastOf (q : Program) (b : Bench) : Type 0 where
+  pub feasible : EndsFeasible (linear_of q) b.rows
+  pub are : AreMultipliers (linear_of q) (table b.rows (scale_at (linear_of q))) b.d b.ys
+  pub count : length b.ys ≡ length q.rows
+  pub scale_in_range : InRange b.d
+  pub in_range : AllInRange b.ys
+
+-- a row of that basis can't be met, and the bench keeps its multipliers
+pub record IsNoneOf (q : Program) (b : Bench) : Type 0 where
+  pub refuting : EndsRefuting (linear_of q) b.rows b.row
+  pub are : AreRefuting (linear_of q) (table b.rows b.row) b.ys
+  pub count : length b.ys ≡ length q.rows
+  pub in_range : AllInRange b.ys

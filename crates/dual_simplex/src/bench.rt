@@ -1,0 +1,97 @@
+//! [`Bench`], on which programs are solved one after the other.
+ghost use Rattle.std.specs.Prelude.{◌≡◌, ◌≤◌, ◌<◌, ℕ, length, IfOk, IfErr};
+ghost use Rattle.path_rules.specs.LinearProgram.{linear_of};
+ghost use Rattle.dual_simplex.specs.Walk.{EndsPast};
+ghost use Rattle.dual_simplex.specs.Bench.{HasRoom};
+ghost use Rattle.dual_simplex.specs.Answer.{EndsAs};
+
+use crate::ends::{read_multipliers, read_refutation};
+use crate::walk::{PastPivot, walk};
+use flow_program::Program;
+use std::alloc::{AllocError, Global};
+use std::marker::Model;
+use tableau_rows::Rows;
+
+/// How the path of a program ends: with least flows, or with a row that shows that there are none.
+#[derive(Clone, Copy, Debug, PartialEq, Eq)]
+pub enum Ends {
+    Least,
+    None,
+}
+
+/// Room for the rows of a tableau, in which one program is solved after the other.
+#[derive(Drop)]
+pub struct Bench {
+    rows: Rows,
+    d: i128,
+    ys: Vec<i128>,
+    row: usize,
+}
+
+impl Model for Bench {
+    ghost use Rattle.std.specs.Prelude.{◌≡◌, ◌≤◌, take, length};
+    ghost use Rattle.dual_simplex.specs.Bench as specs;
+
+    ghost Value = { specs.Bench };
+
+    ghost view = { λ b. record { rows = b.rows; d = b.d; ys = take b.rows.rows b.ys.items; row = b.row } };
+
+    ghost invariant = { λ b. length b.ys.items ≡ b.rows.most_rows };
+}
+
+impl Bench {
+    /// Makes room for programs of at most so many units and rows.
+    pub fn open(alloc: Global, units: u32, rows: u32) -> Result<Bench, AllocError>
+        requires units { units ≤ 128 }
+        requires rows { rows ≤ 256 }
+        ensures { IfOk result (λ b. HasRoom b units rows) }
+    {
+        let ys = vec![in alloc; 0i128; rows as usize]?;
+        let rows = Rows::open(alloc, units, rows)?;
+        Ok(Bench {
+            rows,
+            d: 0,
+            ys,
+            row: 0,
+        })
+    }
+
+    /// Walks the path of the program to its last basis, and keeps that.
+    pub fn least(&mut self, program: &Program) -> Result<Ends, PastPivot>
+        requires fits { HasRoom self.old (length program.now.units) (length program.now.rows) }
+        ensures units { self.new.rows.most_units ≡ self.old.rows.most_units }
+        ensures rows { self.new.rows.most_rows ≡ self.old.rows.most_rows }
+        ensures ends { IfOk result (λ end. EndsAs program.now self.new end) }
+        ensures past { IfErr result (λ e. EndsPast (linear_of program.now) self.new.rows e.leaves e.enters e.row e.j e.which) }
+    {
+        match walk(&mut self.rows, program) {
+            Err(past) => Err(past),
+            Ok(None) => {
+                self.rows.are_rows();
+                self.d = read_multipliers(&self.rows, program, &mut self.ys);
+                Ok(Ends::Least)
+            }
+            Ok(Some(row)) => {
+                self.rows.are_rows();
+                read_refutation(&self.rows, program, row, &mut self.ys);
+                self.row = row;
+                Ok(Ends::None)
+            }
+        }
+    }
+
+    /// The scale of the multipliers.
+    pub fn d(&self) -> i128
+        ensures { result ≡ self.now.d }
+    {
+        self.d
+    }
+
+    /// The multipliers of the rows of the program.
+    pub fn ys(&self) -> &[i128]
+        ensures { result.now ≡ self.now.ys }
+    {
+        self.rows.are_rows();
+        &self.ys[..self.rows.rows()]
+    }
+}
