@@ -5,3 +5,4 @@ pub mod SecondLemmas
 pub mod StartLemmas
 pub mod OptionLemmas
 pub mod EndLemmas
+pub mod LawLemmas

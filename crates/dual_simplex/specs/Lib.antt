@@ -2,3 +2,4 @@ pub mod Walk
 pub mod Measure
 pub mod Bench
 pub mod Answer
+pub mod Laws

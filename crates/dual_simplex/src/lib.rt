@@ -7,7 +7,9 @@
 
 mod bench;
 mod ends;
+mod laws;
 mod walk;
 
 pub use bench::{Bench, Ends};
+pub use laws::{least_is_least, none_is_refuted};
 pub use walk::PastPivot;

@@ -1,0 +1,35 @@
+-- The laws of the ends of a path, for what a bench keeps.
+use Rattle.std.proofs.Common.{◌≡◌, ℕ, ℤ, subst, List}
+use Rattle.problem_rules.specs.Problem.{Problem}
+use Rattle.pns_rules.specs.Nodes.{Node}
+use Rattle.flow_rules.specs.Net.{Net, net_of}
+use Rattle.flow_rules.specs.Program.{Program, program_of}
+use Rattle.end_laws.specs.Ends as ends
+use Rattle.end_laws.proofs.EndLemmas as law
+use Rattle.tableau_rows.specs.Rows.{table, basis}
+use Rattle.dual_simplex.specs.Bench.{Bench, IsLeastOf, IsNoneOf}
+use Rattle.dual_simplex.specs.Laws.{ScaleIsPositive, BoundIsReached, BoundIsLeast, NoneIsRefuted}
+
+ends_least : (net : Net) (n : Node) (q : Program) (b : Bench) → q ≡ program_of net n → IsLeastOf q b → ends.EndsLeast net n (basis b.rows) (table b.rows) b.d b.ys
+ends_least net n q b e h =
+    let k : IsLeastOf (program_of net n) b = subst (λ (p : Program). IsLeastOf p b) e h in
+    let on = k.feasible.on_path in
+    record { on_path = record { pivots = on.pivots; reached = on.reached; is_tableau = on.is_tableau }; feasible = k.feasible.feasible; are = k.are }
+
+ends_none : (net : Net) (n : Node) (q : Program) (b : Bench) → q ≡ program_of net n → IsNoneOf q b → ends.EndsNone net n (basis b.rows) (table b.rows) b.row b.ys
+ends_none net n q b e h =
+    let k : IsNoneOf (program_of net n) b = subst (λ (p : Program). IsNoneOf p b) e h in
+    let on = k.refuting.on_path in
+    record { on_path = record { pivots = on.pivots; reached = on.reached; is_tableau = on.is_tableau }; refuting = k.refuting.refuting; are = k.are }
+
+pub scale_is_positive : ScaleIsPositive
+scale_is_positive p v n q b e h = law.scale_is_positive p v n (basis b.rows) (table b.rows) b.d b.ys (ends_least (net_of p) n q b e h)
+
+pub bound_is_reached : BoundIsReached
+bound_is_reached p v n q b e h = law.bound_is_reached p v n (basis b.rows) (table b.rows) b.d b.ys (ends_least (net_of p) n q b e h)
+
+pub bound_is_least : BoundIsLeast
+bound_is_least p v n q b e h = law.bound_is_least p v n (basis b.rows) (table b.rows) b.d b.ys (ends_least (net_of p) n q b e h)
+
+pub none_is_refuted : NoneIsRefuted
+none_is_refuted p v n q b e h = law.row_refutes p v n (basis b.rows) (table b.rows) b.row b.ys (ends_none (net_of p) n q b e h)
