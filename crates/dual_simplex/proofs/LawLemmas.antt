@@ -8,7 +8,8 @@ use Rattle.end_laws.specs.Ends as ends
 use Rattle.end_laws.proofs.EndLemmas as law
 use Rattle.tableau_rows.specs.Rows.{table, basis}
 use Rattle.dual_simplex.specs.Bench.{Bench, IsLeastOf, IsNoneOf}
-use Rattle.dual_simplex.specs.Laws.{ScaleIsPositive, BoundIsReached, BoundIsLeast, NoneIsRefuted}
+use Rattle.dual_simplex.specs.Laws.{ScaleIsPositive, BoundIsReached, BoundIsLeast, NoneIsRefuted, FeasibleIsLast, RefutingIsLast, PastIsLast}
+use Rattle.path_laws.proofs.LawLemmas as path
 
 ends_least : (net : Net) (n : Node) (q : Program) (b : Bench) → q ≡ program_of net n → IsLeastOf q b → ends.EndsLeast net n (basis b.rows) (table b.rows) b.d b.ys
 ends_least net n q b e h =
@@ -33,3 +34,12 @@ bound_is_least p v n q b e h = law.bound_is_least p v n (basis b.rows) (table b.
 
 pub none_is_refuted : NoneIsRefuted
 none_is_refuted p v n q b e h = law.row_refutes p v n (basis b.rows) (table b.rows) b.row b.ys (ends_none (net_of p) n q b e h)
+
+pub feasible_is_last : FeasibleIsLast
+feasible_is_last p r h = (path.feasible_last p h.on_path.pivots (basis r) h.on_path.reached (table r) h.on_path.is_tableau h.feasible).0
+
+pub refuting_is_last : RefutingIsLast
+refuting_is_last p r row h = (path.refuting_last p h.on_path.pivots (basis r) h.on_path.reached (table r) h.on_path.is_tableau row h.refuting).0
+
+pub past_is_last : PastIsLast
+past_is_last p r l e row j which h = path.past_last p h.pivots (basis r) h.reached h.tableau h.is_tableau l e row j which h.past

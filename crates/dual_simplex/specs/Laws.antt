@@ -7,6 +7,11 @@ use Rattle.pns_rules.specs.Nodes.{Node}
 use Rattle.flow_rules.specs.Net.{net_of, beside}
 use Rattle.flow_rules.specs.Program.{Program, program_of}
 use Rattle.flow_rules.specs.Relaxed.{IsRelaxed, relaxed_cost, bound, Refutes, rows}
+use Rattle.int_rows.specs.declared.combination.Which.{Which}
+use Rattle.path_rules.specs.LinearProgram.{LinearProgram}
+use Rattle.path_rules.specs.Path.{IsLast}
+use Rattle.tableau_rows.specs.Rows.{Rows, basis}
+use Rattle.dual_simplex.specs.Walk.{EndsFeasible, EndsRefuting, EndsPast}
 use Rattle.dual_simplex.specs.Bench.{Bench, IsLeastOf, IsNoneOf}
 
 -- the scale of the multipliers is at least 1
@@ -29,3 +34,14 @@ BoundIsLeast =
 abbrev pub NoneIsRefuted : Type 0
 NoneIsRefuted =
     (p : Problem) → IsValid p → (n : Node) (q : Program) (b : Bench) → q ≡ program_of (net_of p) n → IsNoneOf q b → Refutes (net_of p) n (beside (rows (net_of p) n) b.ys)
+
+-- ---- whatever it answers, the basis that is kept is the last of the path
+
+abbrev pub FeasibleIsLast : Type 0
+FeasibleIsLast = (p : LinearProgram) (r : Rows) → EndsFeasible p r → IsLast p (basis r)
+
+abbrev pub RefutingIsLast : Type 0
+RefutingIsLast = (p : LinearProgram) (r : Rows) (row : ℕ) → EndsRefuting p r row → IsLast p (basis r)
+
+abbrev pub PastIsLast : Type 0
+PastIsLast = (p : LinearProgram) (r : Rows) (leaves enters row j : ℕ) (which : Which) → EndsPast p r leaves enters row j which → IsLast p (basis r)

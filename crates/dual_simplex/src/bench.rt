@@ -94,4 +94,11 @@ impl Bench {
         self.rows.are_rows();
         &self.ys[..self.rows.rows()]
     }
+
+    /// The place of the column whose row can't be met, after `None`.
+    pub fn row(&self) -> usize
+        ensures { result ≡ self.now.row }
+    {
+        self.row
+    }
 }

@@ -11,5 +11,5 @@ mod laws;
 mod walk;
 
 pub use bench::{Bench, Ends};
-pub use laws::{least_is_least, none_is_refuted};
+pub use laws::{kept_basis_is_last, least_is_least, none_is_refuted};
 pub use walk::PastPivot;
