@@ -1,0 +1,80 @@
+//! The head of a node: the line that begins it, and its steps.
+ghost use Rattle.std.specs.Prelude.{◌≡◌, ◌<◌, ◌-◌, ◌^◌, ◌∷◌, ◌++◌, [], Ok, IfOk, IfErr, OnOk, length, map};
+ghost use Rattle.problem_rules.specs.Each.{Each};
+ghost use Rattle.pgraph.specs.View.{step_of};
+ghost use Rattle.branch_tree.specs.Known.{AreUnits, KnowsStep};
+ghost use Rattle.tree_text_rules.specs.Read.{head_taken, steps_taken};
+ghost use Rattle.tree_reading.specs.Place.{IsCut, IsReached, IsBehind, lines_at};
+ghost use Rattle.tree_reading.specs.Taken.{taken};
+ghost use Rattle.tree_reading.specs.Tells.{Tells};
+
+use crate::cut::{Cut, line_at};
+use crate::fault::TreeFault;
+use crate::lines::{kind_at, option_at};
+use pns_problem::Problem;
+use std::alloc::{AllocError, Global};
+use tree_tokens::{parts_of, step_line};
+use unit_sets::{Step, UnitSet};
+
+// Puts a step behind the others.
+fn add_step(problem: &Problem, steps: &mut Vec<Step>, step: Step) -> Result<(), AllocError>
+    requires known { Each (KnowsStep problem.now) (map step_of steps.old.items) }
+    requires knows { KnowsStep problem.now (step_of step) }
+    ensures steps { OnOk result (map step_of steps.new.items ≡ map step_of steps.old.items ++ step_of step ∷ []) }
+    ensures known { OnOk result (Each (KnowsStep problem.now) (map step_of steps.new.items)) }
+{
+    let _units = problem.units();
+    steps.push(step)?;
+    Ok(())
+}
+
+/// The steps from a cut on, and the cut before the first line that is no step.
+pub fn read_steps(
+    alloc: Global,
+    problem: &Problem,
+    option: UnitSet,
+    bytes: &[u8],
+    cut: Cut,
+) -> Result<(Vec<Step>, Cut), TreeFault>
+    requires cut { IsCut bytes.now cut }
+    requires few { length bytes.now < 2 ^ 32 - 1 }
+    ensures ok { IfOk result (λ found. steps_taken problem.now (record { option = option; steps = [] }) cut.line (lines_at bytes.now cut) ≡ Ok (taken (record { option = option; steps = map step_of found.0.items }) bytes.now found.1)) }
+    ensures reached { IfOk result (λ found. IsReached bytes.now cut found.1) }
+    ensures known { IfOk result (λ found. Each (KnowsStep problem.now) (map step_of found.0.items)) }
+    ensures fault { IfErr result (Tells (steps_taken problem.now (record { option = option; steps = [] }) cut.line (lines_at bytes.now cut))) }
+{
+    let mut steps = Vec::new(alloc);
+    let mut at = cut;
+    'steps: while let Some((line, behind)) = line_at(bytes, at) {
+        match step_line(problem, &parts_of(&line)) {
+            None => return Ok((steps, at)),
+            Some(Err(kind)) => return Err(kind_at(at, kind)),
+            Some(Ok(step)) => {
+                add_step(problem, &mut steps, step)?;
+                at = behind;
+            }
+        }
+    }
+    Ok((steps, at))
+}
+
+/// The option and the steps of the node whose line is at the cut, and the cut behind them. The steps end before the first line
+/// whose first word is none of `raw`, `rival`, `starve`, `loose` and `sole`. Any option is taken. `At` comes exactly at the first
+/// fault of these lines, `Memory` is want of memory.
+pub fn read_head(
+    alloc: Global,
+    problem: &Problem,
+    bytes: &[u8],
+    cut: Cut,
+) -> Result<(UnitSet, Vec<Step>, Cut), TreeFault>
+    requires cut { IsCut bytes.now cut }
+    requires few { length bytes.now < 2 ^ 32 - 1 }
+    ensures read { IfOk result (λ found. head_taken problem.now cut.line (lines_at bytes.now cut) ≡ Ok (taken (record { option = found.0; steps = map step_of found.1.items }) bytes.now found.2)) }
+    ensures behind { IfOk result (λ found. IsBehind bytes.now cut found.2) }
+    ensures known { IfOk result (λ found. AreUnits problem.now found.0 × Each (KnowsStep problem.now) (map step_of found.1.items)) }
+    ensures fault { IfErr result (Tells (head_taken problem.now cut.line (lines_at bytes.now cut))) }
+{
+    let (option, first) = option_at(problem, bytes, cut)?;
+    let (steps, behind) = read_steps(alloc, problem, option, bytes, first)?;
+    Ok((option, steps, behind))
+}

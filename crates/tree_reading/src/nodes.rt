@@ -1,0 +1,94 @@
+//! A whole tree.
+ghost use Rattle.std.specs.Prelude.{◌≡◌, ◌<◌, ◌≤◌, ◌+◌, ◌-◌, ◌^◌, [], zero, Ok, Some, IfOk, IfErr, length};
+ghost use Rattle.branch_tree.specs.View.{end_of};
+ghost use Rattle.branch_tree.specs.Known.{AreUnits, KnowsTree};
+ghost use Rattle.tree_rules.specs.Tree as trees;
+ghost use Rattle.tree_text_rules.specs.Read.{nodes_taken, tree_taken};
+ghost use Rattle.tree_reading.specs.Place.{IsCut, IsBehind, lines_at};
+ghost use Rattle.tree_reading.specs.Taken.{taken};
+ghost use Rattle.tree_reading.specs.Tells.{Tells};
+
+use crate::cut::Cut;
+use crate::fault::TreeFault;
+use crate::lines::{option_at, root_at};
+use crate::node::read_node;
+use branch_tree::{End, Tree, TreeNode};
+use pns_problem::Problem;
+use std::alloc::Global;
+use unit_sets::UnitSet;
+
+fn child_count(end: &End) -> u32
+    ensures { result ≡ trees.children (end_of end.now) }
+{
+    match end {
+        End::Branch { children, .. } => *children,
+        _ => 0,
+    }
+}
+
+// How many subtrees are to come behind a node, where so many were to come before.
+fn more_subtrees(pending: u64, node: &TreeNode) -> u64
+    requires { pending < 2 ^ 64 - 2 ^ 32 }
+    ensures sum { result ≡ trees.children node.now.end + pending }
+    ensures bound { result < pending + 2 ^ 32 }
+{
+    child_count(&node.end) as u64 + pending
+}
+
+/// The nodes of a tree, from the line behind the root's on, and the cut behind them.
+pub fn read_nodes(
+    alloc: Global,
+    problem: &Problem,
+    bytes: &[u8],
+    cut: Cut,
+) -> Result<(Tree, Cut), TreeFault>
+    requires cut { IsCut bytes.now cut }
+    requires few { length bytes.now < 2 ^ 32 - 1 }
+    ensures ok { IfOk result (λ found. nodes_taken problem.now (Some (record { option = []; steps = [] })) zero cut.line (lines_at bytes.now cut) ≡ Ok (taken found.0 bytes.now found.1)) }
+    ensures behind { IfOk result (λ found. IsBehind bytes.now cut found.1) }
+    ensures count { IfOk result (λ found. length found.0 ≤ found.1.at) }
+    ensures known { IfOk result (λ found. KnowsTree problem.now found.0) }
+    ensures fault { IfErr result (Tells (nodes_taken problem.now (Some (record { option = []; steps = [] })) zero cut.line (lines_at bytes.now cut))) }
+{
+    let mut nodes = Vec::new(alloc);
+    let mut option = UnitSet::empty();
+    let mut pending: u64 = 0;
+    let mut at = cut;
+    'nodes: loop {
+        let (node, behind) = match read_node(alloc, problem, option, bytes, at) {
+            Err(fault) => return Err(fault),
+            Ok(found) => found,
+        };
+        pending = more_subtrees(pending, &node);
+        nodes.push(node)?;
+        if pending == 0 {
+            return Ok((Tree::from_nodes(nodes), behind));
+        }
+        let (next, first) = match option_at(problem, bytes, behind) {
+            Err(fault) => return Err(fault),
+            Ok(found) => found,
+        };
+        option = next;
+        pending -= 1;
+        at = first;
+    }
+}
+
+/// The tree whose root's line is at the cut, and the cut behind it.
+pub fn read_whole(
+    alloc: Global,
+    problem: &Problem,
+    bytes: &[u8],
+    cut: Cut,
+) -> Result<(Tree, Cut), TreeFault>
+    requires cut { IsCut bytes.now cut }
+    requires few { length bytes.now < 2 ^ 32 - 1 }
+    ensures ok { IfOk result (λ found. tree_taken problem.now cut.line (lines_at bytes.now cut) ≡ Ok (taken found.0 bytes.now found.1)) }
+    ensures behind { IfOk result (λ found. IsBehind bytes.now cut found.1) }
+    ensures count { IfOk result (λ found. length found.0 ≤ found.1.at) }
+    ensures known { IfOk result (λ found. KnowsTree problem.now found.0) }
+    ensures fault { IfErr result (Tells (tree_taken problem.now cut.line (lines_at bytes.now cut))) }
+{
+    let (_root, first) = root_at(bytes, cut)?;
+    read_nodes(alloc, problem, bytes, first)
+}

@@ -1,0 +1,71 @@
+//! Whole texts.
+ghost use Rattle.std.specs.Prelude.{◌≡◌, ◌<◌, ◌≤◌, ◌-◌, ◌^◌, Ok, IfOk, IfErr, length};
+ghost use Rattle.branch_tree.specs.View.{claim_of, tail_of};
+ghost use Rattle.branch_tree.specs.Known.{KnowsClaim, KnowsTree, KnowsTail};
+ghost use Rattle.tree_text_rules.specs.Read.{rest_taken, read_text};
+ghost use Rattle.tree_reading.specs.Place.{IsCut, lines_at};
+ghost use Rattle.tree_reading.specs.Tells.{Tells, TellsFault};
+
+use crate::claim::read_claim;
+use crate::cut::{Cut, line_at};
+use crate::fault::TreeFault;
+use crate::lines::kind_at;
+use crate::nodes::read_whole;
+use crate::tail::read_tail;
+use branch_tree::{Claim, Tail, Tree};
+use pns_problem::Problem;
+use std::alloc::Global;
+use tree_text_rules::TreeKind;
+use tree_tokens::file_type_line;
+
+/// The claim, the tree and the tail from the cut on, to the end of the bytes: a whole text but for its first line. `At` comes
+/// exactly at the first fault of what is left, `Memory` is want of memory. Linear in the bytes.
+pub fn read_rest(
+    alloc: Global,
+    problem: &Problem,
+    bytes: &[u8],
+    cut: Cut,
+) -> Result<(Claim, Tree, Tail), TreeFault>
+    requires cut { IsCut bytes.now cut }
+    requires few { length bytes.now < 2 ^ 32 - 1 }
+    ensures read { IfOk result (λ c. rest_taken problem.now cut.line (lines_at bytes.now cut) ≡ Ok (record { claim = claim_of c.0; tree = c.1; tail = tail_of c.2 })) }
+    ensures few { IfOk result (λ c. length c.1 ≤ length bytes.now) }
+    ensures known { IfOk result (λ c. KnowsClaim problem.now (claim_of c.0) × KnowsTree problem.now c.1 × KnowsTail problem.now (tail_of c.2)) }
+    ensures fault { IfErr result (Tells (rest_taken problem.now cut.line (lines_at bytes.now cut))) }
+{
+    let (claim, first) = match read_claim(alloc, problem, bytes, cut) {
+        Err(fault) => return Err(fault),
+        Ok(found) => found,
+    };
+    let (tree, second) = match read_whole(alloc, problem, bytes, first) {
+        Err(fault) => return Err(fault),
+        Ok(found) => found,
+    };
+    match read_tail(alloc, problem, bytes, second) {
+        Err(fault) => Err(fault),
+        Ok(tail) => Ok((claim, tree, tail)),
+    }
+}
+
+/// The claim, the tree and the tail that a text stands for. `At` comes exactly where the text is not in the grammar, with the
+/// least line that has a fault, counted from 1, and its kind; `Memory` is want of memory. Linear in the bytes.
+pub fn read_tree(
+    alloc: Global,
+    problem: &Problem,
+    bytes: &[u8],
+) -> Result<(Claim, Tree, Tail), TreeFault>
+    requires { length bytes.now < 2 ^ 32 - 1 }
+    ensures read { IfOk result (λ c. read_text problem.now bytes.now ≡ Ok (record { claim = claim_of c.0; tree = c.1; tail = tail_of c.2 })) }
+    ensures few { IfOk result (λ c. length c.1 ≤ length bytes.now) }
+    ensures known { IfOk result (λ c. KnowsClaim problem.now (claim_of c.0) × KnowsTree problem.now c.1 × KnowsTail problem.now (tail_of c.2)) }
+    ensures fault { IfErr result (TellsFault problem.now bytes.now) }
+{
+    let front = Cut { at: 0, line: 1 };
+    let Some((line, behind)) = line_at(bytes, front) else {
+        return Err(kind_at(front, TreeKind::FileType));
+    };
+    match file_type_line(&line) {
+        Err(kind) => Err(kind_at(front, kind)),
+        Ok(()) => read_rest(alloc, problem, bytes, behind),
+    }
+}
