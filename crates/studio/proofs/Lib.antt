@@ -2,7 +2,7 @@ pub mod Ending
 pub mod Put
 pub mod Within
 pub mod EditCounts
-pub mod Scripts
+pub mod Seconds
 pub mod NameLists
 pub mod Maximal
 pub mod Named

@@ -55,9 +55,16 @@ kind_word BadPayout = codes "BadPayout"
 abbrev pub fault_line : ℕ → TextKind → List ℕ
 fault_line line kind = codes "problem line " ++ decimal line ++ 32 ∷ kind_word kind
 
+-- a file above its limit is told so
+abbrev pub IsLong : List ℕ → ℕ → List ℕ → List (List ℕ) → Type 0
+IsLong name limit file lines = (limit < length file) × (lines ≡ (codes "too long " ++ name) ∷ [])
+
+abbrev pub LongFile : (List ℕ → Option (List ℕ)) → List ℕ → ℕ → Status → List (List ℕ) → Type 0
+LongFile held name limit status lines = (status ≡ TooLong) × ((file : List ℕ) × AreHeld (held name) file × IsLong name limit file lines)
+
 -- a file that gives no problem: it is above the limit, or its text has a fault, which is told with its line and kind
 abbrev pub FileFault : List ℕ → List ℕ → Status → List (List ℕ) → Type 0
-FileFault name file TooLong lines = (file_limit < length file) × (lines ≡ (codes "too long " ++ name) ∷ [])
+FileFault name file TooLong lines = IsLong name file_limit file lines
 FileFault name file BadProblem lines =
     (length file ≤ file_limit) × ((line : ℕ) × (kind : TextKind) × Reads file (Err (line, kind)) × (lines ≡ fault_line line kind ∷ []))
 FileFault name file status lines = ⊥
@@ -75,3 +82,7 @@ FileFaults held name status lines = (file : List ℕ) × AreHeld (held name) fil
 abbrev pub OnFile : (Problem → Status → List (List ℕ) → Type 0) → (List ℕ → Option (List ℕ)) → List ℕ → Status → List (List ℕ) → Type 0
 OnFile work held name status lines =
     (file : List ℕ) × AreHeld (held name) file × (FileFault name file status lines ⊎ ((p : Problem) × GivesProblem file p × work p status lines))
+
+-- The status and lines of a command on a problem and a second file, of whose bytes `judged` speaks.
+abbrev pub OnSecond : (Problem → List ℕ → Status → List (List ℕ) → Type 0) → (List ℕ → Option (List ℕ)) → List ℕ → Problem → Status → List (List ℕ) → Type 0
+OnSecond judged held name p status lines = (file : List ℕ) × AreHeld (held name) file × judged p file status lines

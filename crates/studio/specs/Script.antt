@@ -12,7 +12,7 @@ use Rattle.script_rules.specs.Printed.{edit_line}
 use Rattle.edit_scripts.specs.declared.fault.EditFault.{EditFault}
 use Rattle.edit_scripts.specs.declared.fault.EditFault.TheVariants.{Memory, At}
 use Rattle.pns_edits.specs.Fault.{HasFaultAt}
-use Rattle.studio.specs.Reading.{AreHeld, file_limit}
+use Rattle.studio.specs.Reading.{AreHeld, IsLong, OnSecond, file_limit}
 use Rattle.studio.specs.declared.status.Status.{Status}
 use Rattle.studio.specs.declared.status.Status.TheVariants.{BadEdit, TooLong}
 
@@ -49,7 +49,7 @@ HasEditFault p file line kind =
 
 -- a file that gives no script for the problem: it is above the limit, or has a fault, which is told with its line and kind
 abbrev pub ScriptFault : List ℕ → Problem → List ℕ → Status → List (List ℕ) → Type 0
-ScriptFault name p file TooLong lines = (file_limit < length file) × (lines ≡ (codes "too long " ++ name) ∷ [])
+ScriptFault name p file TooLong lines = IsLong name file_limit file lines
 ScriptFault name p file BadEdit lines =
     (length file ≤ file_limit) × ((line : ℕ) × (kind : EditKind) × HasEditFault p file line kind × (lines ≡ edit_fault_line line kind ∷ []))
 ScriptFault name p file status lines = ⊥
@@ -76,9 +76,10 @@ abbrev pub TellsEdits : Problem → List ℕ → EditFault → Type 0
 TellsEdits p file Memory = Unit {0}
 TellsEdits p file (At line kind) = HasEditFault p file line kind
 
--- The status and lines of the work on a problem and the edits of the named script: those of a file that gives no script, else
--- those of the work.
+-- The status and lines of the work on a problem and the edits of a script: those of a file that gives no script, else those of
+-- the work.
+abbrev pub ScriptSays : (Problem → List Edit → Status → List (List ℕ) → Type 0) → List ℕ → Problem → List ℕ → Status → List (List ℕ) → Type 0
+ScriptSays work name p file status lines = ScriptFault name p file status lines ⊎ ((s : Script) × GivesScript p file s × work p s.edits status lines)
+
 abbrev pub OnScript : (Problem → List Edit → Status → List (List ℕ) → Type 0) → (List ℕ → Option (List ℕ)) → List ℕ → Problem → Status → List (List ℕ) → Type 0
-OnScript work held name p status lines =
-    (file : List ℕ) × AreHeld (held name) file
-    × (ScriptFault name p file status lines ⊎ ((s : Script) × GivesScript p file s × work p s.edits status lines))
+OnScript work held name = OnSecond (ScriptSays work name) held name

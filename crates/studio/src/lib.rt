@@ -5,8 +5,8 @@
 //! shelf holds; each status has its cause, and want of memory alone is free. The commands are `max`, `axioms`, `list`,
 //! `make`, `migrate`, `edit` and `undo`.
 //!
-//! Modules: `status`; `command`, `unit_names` and `number`, the words; `problem_file` and `script_file`, files that are
-//! read and judged; `line` and `say`, the lines and how they are put; `max`, `axioms`, `list`, `make`, `migrate` and `edits`,
+//! Modules: `status`; `command`, `unit_names` and `number`, the words; `file`, `problem_file` and `script_file`, files
+//! that are read and judged; `line` and `say`, the lines and how they are put; `max`, `axioms`, `list`, `make`, `migrate` and `edits`,
 //! the commands; `call`, which dispatches; `laws`.
 #![tactic(auto)]
 
@@ -16,6 +16,7 @@ mod command;
 #[cfg(test)]
 mod edit_tests;
 mod edits;
+mod file;
 mod laws;
 mod line;
 mod list;

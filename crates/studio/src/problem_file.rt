@@ -6,9 +6,10 @@ ghost use Rattle.studio.specs.Reading.{AreHeld, GivesProblem, FileFaults, fault_
 ghost use Rattle.studio.specs.Ending.{Ends, Says, Only, OrMemory};
 ghost use Rattle.studio.specs.declared.status.Status.TheVariants.{BadProblem};
 
-use crate::say::{say, say_memory, say_of};
+use crate::file::bytes_of;
+use crate::say::{say, say_memory};
 use crate::status::Status;
-use pns_io::{ReadAllFault, Shelf, Sink, read_all};
+use pns_io::{Shelf, Sink};
 use pns_problem::Problem;
 use pns_text::{TextFault, read_problem};
 use std::alloc::{AllocError, Global};
@@ -89,15 +90,9 @@ pub(crate) fn problem_of<F: Shelf, K: Sink>(
     ensures told { IfErr result (Ends (Says (FileFaults (F.held shelf.old) name.now) (λ other. other ≡ name.now) (record { held = F.held shelf.old; before = F.faults shelf.old; after = F.faults shelf.new }))
         (HasRisen (K.faults out.old) (K.faults out.new)) (K.written out.old) (K.written out.new)) }
 {
-    let bytes = match read_all(alloc, shelf, name, FILE_LIMIT) {
+    let bytes = match bytes_of(alloc, shelf, out, name, FILE_LIMIT) {
         Ok(bytes) => bytes,
-        Err(ReadAllFault::ReadFault) => {
-            return Err(say_of(alloc, out, "read fault ", name, Status::ReadFault));
-        }
-        Err(ReadAllFault::TooLong) => {
-            return Err(say_of(alloc, out, "too long ", name, Status::TooLong));
-        }
-        Err(ReadAllFault::Memory) => return Err(say_memory(out)),
+        Err(status) => return Err(status),
     };
     match read_problem(alloc, &bytes) {
         Ok(problem) => Ok(problem),

@@ -7,11 +7,12 @@ ghost use Rattle.studio.specs.Script.{IsEdited, ScriptFaults, TellsEdits, edit_f
 ghost use Rattle.studio.specs.Ending.{Ends, Says, Only, OrMemory};
 ghost use Rattle.studio.specs.declared.status.Status.TheVariants.{BadEdit};
 
-use crate::say::{say, say_memory, say_of};
+use crate::file::bytes_of;
+use crate::say::{say, say_memory};
 use crate::status::Status;
 use edit_scripts::{EditFault, EditKind, Script, read_script};
 use pns_edits::apply;
-use pns_io::{ReadAllFault, Shelf, Sink, read_all};
+use pns_io::{Shelf, Sink};
 use pns_problem::Problem;
 use std::alloc::{AllocError, Global};
 
@@ -96,15 +97,9 @@ pub(crate) fn edited_of<F: Shelf, K: Sink>(
     ensures told { IfErr result (Ends (Says (ScriptFaults (F.held shelf.old) name.now problem.now) (λ other. other ≡ name.now) (record { held = F.held shelf.old; before = F.faults shelf.old; after = F.faults shelf.new }))
         (HasRisen (K.faults out.old) (K.faults out.new)) (K.written out.old) (K.written out.new)) }
 {
-    let bytes = match read_all(alloc, shelf, name, SCRIPT_LIMIT) {
+    let bytes = match bytes_of(alloc, shelf, out, name, SCRIPT_LIMIT) {
         Ok(bytes) => bytes,
-        Err(ReadAllFault::ReadFault) => {
-            return Err(say_of(alloc, out, "read fault ", name, Status::ReadFault));
-        }
-        Err(ReadAllFault::TooLong) => {
-            return Err(say_of(alloc, out, "too long ", name, Status::TooLong));
-        }
-        Err(ReadAllFault::Memory) => return Err(say_memory(out)),
+        Err(status) => return Err(status),
     };
     match edited_by(alloc, &bytes, problem) {
         Ok(edited) => Ok(edited),

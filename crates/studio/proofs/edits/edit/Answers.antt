@@ -1,11 +1,11 @@
 use Rattle.std.proofs.Common.{◌≡◌, ◌⊎◌, refl, ap, ℕ, List}
 use Rattle.studio.specs.Reading.{OnFile}
-use Rattle.studio.specs.Script.{OnScript}
+use Rattle.studio.specs.Script.{OnScript, ScriptSays}
 use Rattle.studio.specs.Edits.{EditWork}
 use Rattle.studio.specs.Ending.{Shelves, Says}
 use Rattle.studio.specs.declared.status.Status.{Status}
 use Rattle.studio.proofs.Ending.{Ends-map, Ends-from}
-use Rattle.studio.proofs.Scripts.{on_both-faults, on_both-work}
+use Rattle.studio.proofs.Seconds.{on_both-faults, on_both-work}
 use Rattle.studio.proofs.edits.edit.Goals as goal
 
 pub returns-in-Ok : goal.returns-in-Ok
@@ -17,7 +17,7 @@ returns-in-Ok g c =
     let P : Status → List ℕ → Type 0 = Says (OnScript EditWork later.held script c.in-Ok.problem) (λ other. other ≡ script) later in
     let Q : Status → List ℕ → Type 0 = Says (OnFile (OnScript EditWork shelves.held script) shelves.held file) (λ other. (other ≡ file) ⊎ (other ≡ script)) shelves in
     Ends-from P Q _ _ _ _ _ _ _ (ap g.K.Sink.faults c.in-Ok.ensures.silent) (ap g.K.Sink.written c.in-Ok.ensures.silent)
-    (on_both-work EditWork file script shelves later c.in-Ok.problem c.in-Ok.ensures.problem (c.problem_of.ensures.keeps script) refl c.problem_of.ensures.later) c.say_edited.ensures
+    (on_both-work (ScriptSays EditWork script) file script shelves later c.in-Ok.problem c.in-Ok.ensures.problem (c.problem_of.ensures.keeps script) refl c.problem_of.ensures.later) c.say_edited.ensures
 
 pub returns-in-Err : goal.returns-in-Err
 returns-in-Err g c =
@@ -25,4 +25,4 @@ returns-in-Err g c =
     let file = c.args.file.now in
     let script = c.args.script.now in
     let Q : Status → List ℕ → Type 0 = Says (OnFile (OnScript EditWork shelves.held script) shelves.held file) (λ other. (other ≡ file) ⊎ (other ≡ script)) shelves in
-    Ends-map _ Q _ _ _ _ _ (on_both-faults EditWork file script shelves) (λ r. r) c.in-Err.ensures.told
+    Ends-map _ Q _ _ _ _ _ (on_both-faults (ScriptSays EditWork script) file script shelves) (λ r. r) c.in-Err.ensures.told

@@ -4,13 +4,13 @@ use Rattle.edit_rules.specs.Edit.{Script}
 use Rattle.edit_rules.specs.Script.{applied, undoing}
 use Rattle.text_rules.specs.Canonical.{canonical, canonical_lines}
 use Rattle.studio.specs.Lines.{text_of}
-use Rattle.studio.specs.Script.{OnScript, IsEdited, printed_lines}
+use Rattle.studio.specs.Script.{OnScript, ScriptFault, ScriptSays, IsEdited, printed_lines}
 use Rattle.studio.specs.Edits.{EditWork}
 use Rattle.studio.specs.Ending.{Shelves, Says}
 use Rattle.studio.specs.declared.status.Status.{Status}
 use Rattle.studio.specs.declared.status.Status.TheVariants.{Done}
 use Rattle.studio.proofs.Ending.{Ends-map, Ends-from, only_or_memory_in}
-use Rattle.studio.proofs.Scripts.{on_script-faults}
+use Rattle.studio.proofs.Seconds.{on_second-faults}
 use Rattle.studio.proofs.edits.say_edited.Goals as goal
 
 pub returns-in-Ok : goal.returns-in-Ok
@@ -29,4 +29,4 @@ pub returns-in-Err : goal.returns-in-Err
 returns-in-Err g c =
     let shelves : Shelves = record { held = g.F.Shelf.held c.args.shelf.now; before = g.F.Shelf.faults c.args.shelf.now; after = g.F.Shelf.faults c.edited_of.new.shelf } in
     let Q : Status → List ℕ → Type 0 = Says (OnScript EditWork shelves.held c.args.script.now c.args.problem.now) (λ other. other ≡ c.args.script.now) shelves in
-    Ends-map _ Q _ _ _ _ _ (on_script-faults EditWork shelves c.args.script.now c.args.problem.now) (λ r. r) c.in-Err.ensures.told
+    Ends-map _ Q _ _ _ _ _ (on_second-faults (ScriptSays EditWork c.args.script.now) (ScriptFault c.args.script.now c.args.problem.now) shelves c.args.script.now c.args.problem.now (λ file s lines h. inl h)) (λ r. r) c.in-Err.ensures.told
