@@ -5,18 +5,22 @@ use Rattle.edit_rules.specs.Edit.{Edit}
 use Rattle.pgraph.specs.declared.verdict.Verdict.{Verdict}
 use Rattle.pgraph.specs.declared.verdict.Verdict.TheVariants.{Meets, Breaks}
 use Rattle.pns_io.specs.Outside.{HasRisen}
-use Rattle.studio.specs.Command.{Command, Max, Axioms, Listing, Make, Migrate, Editing, Undoing, command_of, IsFileOf, IsFileWord}
+use Rattle.studio.specs.Command.{Command, Max, Axioms, Listing, Make, Migrate, Editing, Undoing, Checking, command_of, IsFileOf, IsFileWord}
 use Rattle.studio.specs.Reading.{AreHeld, FileFault, file_limit}
 use Rattle.studio.specs.Max.{MaxWork}
 use Rattle.studio.specs.Listing.{ListingWork}
 use Rattle.studio.specs.Migrate.{MigrateWork}
 use Rattle.studio.specs.Script.{ScriptFault, OnScript}
 use Rattle.studio.specs.Edits.{EditWork, UndoWork}
+use Rattle.tree_rules.specs.Claim.{Claim}
+use Rattle.tree_rules.specs.Accepted.{Tree}
+use Rattle.studio.specs.TreeFile.{TreeFault, OnTree, tree_limit}
+use Rattle.studio.specs.Check.{CheckWork}
 use Rattle.studio.specs.Axioms.{NamesSay, VerdictSays, first_stranger}
 use Rattle.studio.specs.Ending.{Shelves, Ends, IsOneOf}
-use Rattle.studio.specs.Answers.{AnswersTo, CommandAnswers, WordsSay, IsUndisturbed, statuses_of}
+use Rattle.studio.specs.Answers.{AnswersTo, CommandAnswers, WordsSay, IsReadWithin, IsUndisturbed, statuses_of}
 use Rattle.studio.specs.declared.status.Status.{Status}
-use Rattle.studio.specs.declared.status.Status.TheVariants.{Done, Refused, Usage, BadProblem, ReadFault, WriteFault, Memory, TooLong, BadToken, BadEdit, NotMigrated}
+use Rattle.studio.specs.declared.status.Status.TheVariants.{Done, Refused, Usage, BadProblem, ReadFault, WriteFault, Memory, TooLong, BadToken, BadTree, BadEdit, NotMigrated}
 
 -- a file that gives no problem, where it is held within the limit or not
 fault_status : (name file : List ℕ) (s : Status) (lines : List (List ℕ)) → FileFault name file s lines → (s ≡ BadProblem) ⊎ ((s ≡ TooLong) × (file_limit < length file))
@@ -51,27 +55,47 @@ script_status name p file TooLong lines h = inr (refl, h.0)
 script_status name p file BadEdit lines h = inl refl
 script_status name p file s lines h = absurd h
 
+tree_status : (name : List ℕ) (p : Problem) (file : List ℕ) (s : Status) (lines : List (List ℕ)) → TreeFault name p file s lines → (s ≡ BadTree) ⊎ ((s ≡ TooLong) × (tree_limit < length file))
+tree_status name p file TooLong lines h = inr (refl, h.0)
+tree_status name p file BadTree lines h = inl refl
+tree_status name p file s lines h = absurd h
+
+check_status : (p : Problem) (claim : Claim) (tree : Tree) (s : Status) (lines : List (List ℕ)) → CheckWork p claim tree s lines → (s ≡ Done) ⊎ (s ≡ Refused)
+check_status p claim tree Done lines h = inl refl
+check_status p claim tree Refused lines h = inr refl
+check_status p claim tree s lines h = absurd h
+
 -- the statuses of a command, where its file is within the limit
-within_limit : (held : Option (List ℕ)) (file : List ℕ) → IsSomeAnd held (λ told. length told ≤ file_limit) → AreHeld held file → file_limit < length file → ⊥
-within_limit None file h is long = absurd h
-within_limit (Some told) file h is long = let same = ap length is in absurd (omega arith)
+within_limit : (held : Option (List ℕ)) (limit : ℕ) (file : List ℕ) → IsSomeAnd held (λ told. length told ≤ limit) → AreHeld held file → limit < length file → ⊥
+within_limit None limit file h is long = absurd h
+within_limit (Some told) limit file h is long = let same = ap length is in absurd (omega arith)
 
 edits_status : (work : Problem → List Edit → Status → List (List ℕ) → Type 0) (held : List ℕ → Option (List ℕ)) (name : List ℕ) (p : Problem) (s : Status) (lines : List (List ℕ)) → ((edits : List Edit) → work p edits s lines → s ≡ Done) → OnScript work held name p s lines → IsSomeAnd (held name) (λ told. length told ≤ file_limit) → (s ≡ Done) ⊎ (s ≡ BadEdit)
 edits_status work held name p s lines done (file, is, inl fault) short = elim (script_status name p file s lines fault) [
   | inl q ↦ inr q
-  | inr q ↦ absurd (within_limit (held name) file short is q.1)
+  | inr q ↦ absurd (within_limit (held name) file_limit file short is q.1)
 ]
 edits_status work held name p s lines done (file, is, inr rest) short = inl (done rest.0.edits rest.2)
 
-command_status : (held : List ℕ → Option (List ℕ)) (command : Command) (s : Status) (lines : List (List ℕ)) → CommandAnswers held command s lines → ((name : List ℕ) → IsFileOf command name → IsSomeAnd (held name) (λ told. length told ≤ file_limit)) → IsOneOf (statuses_of command) s
+trees_status : (held : List ℕ → Option (List ℕ)) (name : List ℕ) (p : Problem) (s : Status) (lines : List (List ℕ)) → OnTree CheckWork held name p s lines → IsSomeAnd (held name) (λ told. length told ≤ tree_limit) → IsOneOf (Done ∷ Refused ∷ BadProblem ∷ BadTree ∷ Memory ∷ []) s
+trees_status held name p s lines (file, is, inl fault) short = elim (tree_status name p file s lines fault) [
+  | inl q ↦ inr (inr (inr (inl q)))
+  | inr q ↦ absurd (within_limit (held name) tree_limit file short is q.1)
+]
+trees_status held name p s lines (file, is, inr rest) short = elim (check_status p rest.0 rest.1 s lines rest.3) [
+  | inl q ↦ inl q
+  | inr q ↦ inr (inl q)
+]
+
+command_status : (held : List ℕ → Option (List ℕ)) (command : Command) (s : Status) (lines : List (List ℕ)) → CommandAnswers held command s lines → ((name : List ℕ) (limit : ℕ) → IsReadWithin command name limit → IsSomeAnd (held name) (λ told. length told ≤ limit)) → IsOneOf (statuses_of command) s
 command_status held (Max name) s lines (file, is, inl fault) short = elim (fault_status name file s lines fault) [
   | inl q ↦ inr (inl q)
-  | inr q ↦ absurd (within_limit (held name) file (short name refl) is q.1)
+  | inr q ↦ absurd (within_limit (held name) file_limit file (short name file_limit (refl, refl)) is q.1)
 ]
 command_status held (Max name) s lines (file, is, inr work) short = inl (max_status work.0 s lines work.2)
 command_status held (Axioms name units) s lines (file, is, inl fault) short = elim (fault_status name file s lines fault) [
   | inl q ↦ inr (inr (inl q))
-  | inr q ↦ absurd (within_limit (held name) file (short name refl) is q.1)
+  | inr q ↦ absurd (within_limit (held name) file_limit file (short name file_limit (refl, refl)) is q.1)
 ]
 command_status held (Axioms name units) s lines (file, is, inr work) short = elim (names_status units work.0 (first_stranger work.0 units) s lines work.2) [
   | inl q ↦ inl q
@@ -79,7 +103,7 @@ command_status held (Axioms name units) s lines (file, is, inr work) short = eli
 ]
 command_status held (Listing name after count) s lines (file, is, inl fault) short = elim (fault_status name file s lines fault) [
   | inl q ↦ inr (inr (inl q))
-  | inr q ↦ absurd (within_limit (held name) file (short name refl) is q.1)
+  | inr q ↦ absurd (within_limit (held name) file_limit file (short name file_limit (refl, refl)) is q.1)
 ]
 command_status held (Listing name after count) s lines (file, is, inr work) short = elim (listing_status after count work.0 s lines work.2) [
   | inl q ↦ inl q
@@ -88,7 +112,7 @@ command_status held (Listing name after count) s lines (file, is, inr work) shor
 command_status held (Make number units) s lines h short = inl h.0
 command_status held (Migrate name years) s lines (file, is, inl fault) short = elim (fault_status name file s lines fault) [
   | inl q ↦ inr (inr (inl q))
-  | inr q ↦ absurd (within_limit (held name) file (short name refl) is q.1)
+  | inr q ↦ absurd (within_limit (held name) file_limit file (short name file_limit (refl, refl)) is q.1)
 ]
 command_status held (Migrate name years) s lines (file, is, inr work) short = elim (migrate_status years work.0 s lines work.2) [
   | inl q ↦ inl q
@@ -96,20 +120,25 @@ command_status held (Migrate name years) s lines (file, is, inr work) short = el
 ]
 command_status held (Editing name script) s lines (file, is, inl fault) short = elim (fault_status name file s lines fault) [
   | inl q ↦ inr (inr (inl q))
-  | inr q ↦ absurd (within_limit (held name) file (short name (inl refl)) is q.1)
+  | inr q ↦ absurd (within_limit (held name) file_limit file (short name file_limit (inl refl, refl)) is q.1)
 ]
-command_status held (Editing name script) s lines (file, is, inr work) short = elim (edits_status EditWork held script work.0 s lines (λ edits h. h.0) work.2 (short script (inr refl))) [
+command_status held (Editing name script) s lines (file, is, inr work) short = elim (edits_status EditWork held script work.0 s lines (λ edits h. h.0) work.2 (short script file_limit (inr refl, refl))) [
   | inl q ↦ inl q
   | inr q ↦ inr (inl q)
 ]
 command_status held (Undoing name script) s lines (file, is, inl fault) short = elim (fault_status name file s lines fault) [
   | inl q ↦ inr (inr (inl q))
-  | inr q ↦ absurd (within_limit (held name) file (short name (inl refl)) is q.1)
+  | inr q ↦ absurd (within_limit (held name) file_limit file (short name file_limit (inl refl, refl)) is q.1)
 ]
-command_status held (Undoing name script) s lines (file, is, inr work) short = elim (edits_status UndoWork held script work.0 s lines (λ edits h. h.0) work.2 (short script (inr refl))) [
+command_status held (Undoing name script) s lines (file, is, inr work) short = elim (edits_status UndoWork held script work.0 s lines (λ edits h. h.0) work.2 (short script file_limit (inr refl, refl))) [
   | inl q ↦ inl q
   | inr q ↦ inr (inl q)
 ]
+command_status held (Checking name tree) s lines (file, is, inl fault) short = elim (fault_status name file s lines fault) [
+  | inl q ↦ inr (inr (inl q))
+  | inr q ↦ absurd (within_limit (held name) file_limit file (short name file_limit (inl (refl, refl))) is q.1)
+]
+command_status held (Checking name tree) s lines (file, is, inr work) short = trees_status held tree work.0 s lines work.2 (short tree tree_limit (inr (refl, refl)))
 
 -- some status of a command, whatever its file holds
 answer_status : (held : List ℕ → Option (List ℕ)) (command : Command) (lines : List (List ℕ)) → CommandAnswers held command Usage lines → ⊥
@@ -128,6 +157,9 @@ answer_status held (Editing name script) lines (file, is, inr (p, given, (bytes,
 answer_status held (Undoing name script) lines (file, is, inl fault) = absurd fault
 answer_status held (Undoing name script) lines (file, is, inr (p, given, (bytes, there, inl fault))) = absurd fault
 answer_status held (Undoing name script) lines (file, is, inr (p, given, (bytes, there, inr rest))) = let q : Usage ≡ Done = rest.2.0 in cc
+answer_status held (Checking name tree) lines (file, is, inl fault) = absurd fault
+answer_status held (Checking name tree) lines (file, is, inr (p, given, (bytes, there, inl fault))) = absurd fault
+answer_status held (Checking name tree) lines (file, is, inr (p, given, (bytes, there, inr rest))) = absurd rest.3
 
 usage_answers : (held : List ℕ → Option (List ℕ)) (found : Option Command) (lines : List (List ℕ)) → AnswersTo held found Usage lines → found ≡ None
 usage_answers held None lines h = refl
@@ -141,6 +173,7 @@ memory_status (Make number units) = inr (inl refl)
 memory_status (Migrate file years) = inr (inr (inr (inl refl)))
 memory_status (Editing file script) = inr (inr (inr (inl refl)))
 memory_status (Undoing file script) = inr (inr (inr (inl refl)))
+memory_status (Checking file tree) = inr (inr (inr (inr (inl refl))))
 
 module _ (shelves : Shelves) (words : List (List ℕ)) (risen : Type 0) (old new : Option (List ℕ)) where
   pub usage_ends : (s : Status) → Ends (WordsSay shelves words) risen old new s → s ≡ Usage → command_of words ≡ None

@@ -1,7 +1,7 @@
 -- What each command says, from its words and what the shelf holds.
-use Rattle.std.specs.Prelude.{◌≡◌, ◌≤◌, ℕ, List, [], ◌∷◌, Option, Some, None, IsSomeAnd, length, codes}
+use Rattle.std.specs.Prelude.{◌≡◌, ◌≤◌, ◌⊎◌, ℕ, List, [], ◌∷◌, Option, Some, None, IsSomeAnd, length, codes}
 use Rattle.pns_io.specs.Outside.{HasRisen}
-use Rattle.studio.specs.Command.{Command, Max, Axioms, Listing, Make, Migrate, Editing, Undoing, command_of, IsFileOf, IsFileWord}
+use Rattle.studio.specs.Command.{Command, Max, Axioms, Listing, Make, Migrate, Editing, Undoing, Checking, command_of, IsFileOf, IsFileWord}
 use Rattle.studio.specs.Reading.{OnFile, file_limit}
 use Rattle.studio.specs.Max.{MaxWork}
 use Rattle.studio.specs.Axioms.{AxiomsWork}
@@ -10,9 +10,11 @@ use Rattle.studio.specs.Make.{MakeWork}
 use Rattle.studio.specs.Script.{OnScript}
 use Rattle.studio.specs.Migrate.{MigrateWork}
 use Rattle.studio.specs.Edits.{EditWork, UndoWork}
+use Rattle.studio.specs.TreeFile.{OnTree, tree_limit}
+use Rattle.studio.specs.Check.{CheckWork}
 use Rattle.studio.specs.Ending.{Shelves, Says}
 use Rattle.studio.specs.declared.status.Status.{Status}
-use Rattle.studio.specs.declared.status.Status.TheVariants.{Done, Refused, Usage, BadProblem, Memory, BadToken, BadEdit, NotMigrated}
+use Rattle.studio.specs.declared.status.Status.TheVariants.{Done, Refused, Usage, BadProblem, Memory, BadToken, BadTree, BadEdit, NotMigrated}
 
 -- the statuses and lines of a command, while neither shelf, sink nor memory fails
 abbrev pub CommandAnswers : (List ℕ → Option (List ℕ)) → Command → Status → List (List ℕ) → Type 0
@@ -23,6 +25,7 @@ CommandAnswers held (Make number units) status lines = MakeWork number units sta
 CommandAnswers held (Migrate file years) status lines = OnFile (MigrateWork years) held file status lines
 CommandAnswers held (Editing file script) status lines = OnFile (OnScript EditWork held script) held file status lines
 CommandAnswers held (Undoing file script) status lines = OnFile (OnScript UndoWork held script) held file status lines
+CommandAnswers held (Checking file tree) status lines = OnFile (OnTree CheckWork held tree) held file status lines
 
 -- words without a form are told so
 abbrev pub AnswersTo : (List ℕ → Option (List ℕ)) → Option Command → Status → List (List ℕ) → Type 0
@@ -39,9 +42,14 @@ CommandSays shelves command = Says (CommandAnswers shelves.held command) (IsFile
 abbrev pub WordsSay : Shelves → List (List ℕ) → Status → List ℕ → Type 0
 WordsSay shelves words = Says (Answers shelves.held words) (IsFileWord words) shelves
 
--- the files of the command are held within the limit, and neither their counts of faults nor that of the sink rise
+-- the command reads the file, which is to hold no more bytes
+abbrev pub IsReadWithin : Command → List ℕ → ℕ → Type 0
+IsReadWithin (Checking file tree) name limit = ((name ≡ file) × (limit ≡ file_limit)) ⊎ ((name ≡ tree) × (limit ≡ tree_limit))
+IsReadWithin command name limit = IsFileOf command name × (limit ≡ file_limit)
+
+-- the files of the command are held within their limits, and neither their counts of faults nor that of the sink rise
 pub record IsUndisturbed (shelves : Shelves) (command : Command) (risen : Type 0) : Type 0 where
-  pub held : (name : List ℕ) → IsFileOf command name → IsSomeAnd (shelves.held name) (λ file. length file ≤ file_limit)
+  pub held : (name : List ℕ) (limit : ℕ) → IsReadWithin command name limit → IsSomeAnd (shelves.held name) (λ file. length file ≤ limit)
   pub read : (name : List ℕ) → IsFileOf command name → HasRisen (shelves.before name) (shelves.after name) → ⊥
   pub written : risen → ⊥
 
@@ -54,3 +62,4 @@ statuses_of (Make number units) = Done ∷ Memory ∷ []
 statuses_of (Migrate file years) = Done ∷ NotMigrated ∷ BadProblem ∷ Memory ∷ []
 statuses_of (Editing file script) = Done ∷ BadEdit ∷ BadProblem ∷ Memory ∷ []
 statuses_of (Undoing file script) = Done ∷ BadEdit ∷ BadProblem ∷ Memory ∷ []
+statuses_of (Checking file tree) = Done ∷ Refused ∷ BadProblem ∷ BadTree ∷ Memory ∷ []

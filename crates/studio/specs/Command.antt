@@ -5,7 +5,7 @@ use Rattle.std.specs.Str.{bytes_eq, byte}
 use Rattle.problem_rules.specs.Names.{is_name, has_double}
 use Rattle.studio.specs.Numeral.{number_within}
 
--- a command with its words: FILE, the names of UNITS, AFTER and COUNT, NUMBER and the count of units, YEARS, SCRIPT
+-- a command with its words: FILE, the names of UNITS, AFTER and COUNT, NUMBER and the count of units, YEARS, SCRIPT, TREE
 pub data Command : Type 0 where
   Max : List ℕ → Command
   Axioms : List ℕ → List (List ℕ) → Command
@@ -14,6 +14,7 @@ pub data Command : Type 0 where
   Migrate : List ℕ → ℕ → Command
   Editing : List ℕ → List ℕ → Command
   Undoing : List ℕ → List ℕ → Command
+  Checking : List ℕ → List ℕ → Command
 
 -- the names of UNITS: none for `-`, else what the commas part, which are names and distinct
 abbrev pub unit_names_of : List ℕ → Option (List (List ℕ))
@@ -37,7 +38,7 @@ unit_count_of = number_within 1 128
 abbrev pub years_of : List ℕ → Option ℕ
 years_of = number_within 1 100
 
--- FILE and SCRIPT are any words but the empty one
+-- FILE, SCRIPT and TREE are any words but the empty one
 abbrev pub is_file_word : List ℕ → Bool
 is_file_word word = not (length word == 0)
 
@@ -46,11 +47,12 @@ abbrev pub made_by : Option ℕ → Option ℕ → Option Command
 made_by (Some number) (Some units) = Some (Make number units)
 made_by number units = None
 
--- the commands of a file and a script
-abbrev pub with_script : List ℕ → List ℕ → List ℕ → Option Command
-with_script word file script =
-    if bytes_eq word (codes "edit") && is_file_word script then Some (Editing file script)
-    else if bytes_eq word (codes "undo") && is_file_word script then Some (Undoing file script)
+-- the commands of a file and a second file
+abbrev pub with_file : List ℕ → List ℕ → List ℕ → Option Command
+with_file word file second =
+    if bytes_eq word (codes "edit") && is_file_word second then Some (Editing file second)
+    else if bytes_eq word (codes "undo") && is_file_word second then Some (Undoing file second)
+    else if bytes_eq word (codes "check") && is_file_word second then Some (Checking file second)
     else None
 
 -- the commands of a file and one more word
@@ -58,7 +60,7 @@ abbrev pub on_file : List ℕ → List ℕ → List ℕ → Option Command
 on_file word file second =
     if bytes_eq word (codes "axioms") then option_map (Axioms file) (unit_names_of second)
     else if bytes_eq word (codes "migrate") then option_map (Migrate file) (years_of second)
-    else with_script word file second
+    else with_file word file second
 
 -- the command that the words are, if they have a form
 abbrev pub command_of : List (List ℕ) → Option Command
@@ -80,6 +82,7 @@ IsFileOf (Make number units) name = ⊥
 IsFileOf (Migrate file years) name = name ≡ file
 IsFileOf (Editing file script) name = (name ≡ file) ⊎ (name ≡ script)
 IsFileOf (Undoing file script) name = (name ≡ file) ⊎ (name ≡ script)
+IsFileOf (Checking file tree) name = (name ≡ file) ⊎ (name ≡ tree)
 
 -- the numbers of a command are those that its words may be
 abbrev pub AreWithin : Command → Type 0

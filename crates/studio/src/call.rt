@@ -8,6 +8,7 @@ ghost use Rattle.studio.specs.Answers.{CommandSays, WordsSay, IsUndisturbed, sta
 ghost use Rattle.studio.specs.View.{command_view};
 
 use crate::axioms::axioms;
+use crate::check::check;
 use crate::command::{Command, command_of};
 use crate::edits::{edit, undo};
 use crate::list::list;
@@ -37,6 +38,7 @@ fn perform<F: Shelf, K: Sink>(
         Command::Migrate(file, years) => migrate(alloc, file, years, shelf, out),
         Command::Editing(file, script) => edit(alloc, file, script, shelf, out),
         Command::Undoing(file, script) => undo(alloc, file, script, shelf, out),
+        Command::Checking(file, tree) => check(alloc, file, tree, shelf, out),
     }
 }
 

@@ -1,6 +1,6 @@
 //! The words of a call.
 ghost use Rattle.std.specs.Prelude.{◌≡◌, ◌∷◌, [], IfOk, map, option_map, string_bytes};
-ghost use Rattle.studio.specs.Command.{command_of, on_file, with_script, made_by, unit_names_of, count_of, seed_of, unit_count_of, years_of, Axioms, Listing, Migrate};
+ghost use Rattle.studio.specs.Command.{command_of, on_file, with_file, made_by, unit_names_of, count_of, seed_of, unit_count_of, years_of, Axioms, Listing, Migrate};
 ghost use Rattle.studio.specs.View.{command_view};
 
 use crate::number::number_within;
@@ -17,6 +17,7 @@ pub(crate) enum Command<'a> {
     Migrate(&'a str, u64),
     Editing(&'a str, &'a str),
     Undoing(&'a str, &'a str),
+    Checking(&'a str, &'a str),
 }
 
 /// The command that the words are, if they have a form.
@@ -87,7 +88,7 @@ fn on_file<'a>(
     } else if word == "migrate" {
         Ok(migrate_of(file, second))
     } else {
-        Ok(with_script(word, file, second))
+        Ok(with_file(word, file, second))
     }
 }
 
@@ -101,13 +102,15 @@ fn migrate_of<'a>(file: &'a str, years: &str) -> Option<Command<'a>>
     Some(Command::Migrate(file, years))
 }
 
-fn with_script<'a>(word: &str, file: &'a str, script: &'a str) -> Option<Command<'a>>
-    ensures { option_map command_view result ≡ with_script word.now file.now script.now }
+fn with_file<'a>(word: &str, file: &'a str, second: &'a str) -> Option<Command<'a>>
+    ensures { option_map command_view result ≡ with_file word.now file.now second.now }
 {
-    if word == "edit" && !script.is_empty() {
-        Some(Command::Editing(file, script))
-    } else if word == "undo" && !script.is_empty() {
-        Some(Command::Undoing(file, script))
+    if word == "edit" && !second.is_empty() {
+        Some(Command::Editing(file, second))
+    } else if word == "undo" && !second.is_empty() {
+        Some(Command::Undoing(file, second))
+    } else if word == "check" && !second.is_empty() {
+        Some(Command::Checking(file, second))
     } else {
         None
     }

@@ -3,15 +3,16 @@
 //! [`studio`] judges the form of the words, reads and judges the files that they name, does the command's work and puts
 //! its text line by line. Its contract says which text is out with which status, from the words and the bytes that the
 //! shelf holds; each status has its cause, and want of memory alone is free. The commands are `max`, `axioms`, `list`,
-//! `make`, `migrate`, `edit` and `undo`.
+//! `make`, `migrate`, `edit`, `undo` and `check`.
 //!
-//! Modules: `status`; `command`, `unit_names` and `number`, the words; `file`, `problem_file` and `script_file`, files
-//! that are read and judged; `line` and `say`, the lines and how they are put; `max`, `axioms`, `list`, `make`, `migrate` and `edits`,
-//! the commands; `call`, which dispatches; `laws`.
+//! Modules: `status`; `command`, `unit_names` and `number`, the words; `file`, `problem_file`, `script_file` and `tree_file`, files
+//! that are read and judged; `line` and `say`, the lines and how they are put; `max`, `axioms`, `list`, `make`, `migrate`, `edits`
+//! and `check`, the commands; `call`, which dispatches; `laws`.
 #![tactic(auto)]
 
 mod axioms;
 mod call;
+mod check;
 mod command;
 #[cfg(test)]
 mod edit_tests;
@@ -34,6 +35,7 @@ mod script_tests;
 mod status;
 #[cfg(test)]
 mod tests;
+mod tree_file;
 mod unit_names;
 
 pub use call::studio;

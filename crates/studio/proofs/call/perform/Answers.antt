@@ -1,5 +1,5 @@
 use Rattle.std.proofs.Common.{sym, ap, subst, ◌≤◌, ℕ, List}
-use Rattle.studio.specs.Command.{Command, Max, Axioms, Listing, Make, Migrate, Editing, Undoing, AreWithin}
+use Rattle.studio.specs.Command.{Command, Max, Axioms, Listing, Make, Migrate, Editing, Undoing, Checking, AreWithin}
 use Rattle.studio.specs.View.{command_view}
 use Rattle.studio.specs.Ending.{Shelves}
 use Rattle.studio.specs.Answers.{CommandSays}
@@ -66,3 +66,10 @@ returns-in-Undoing g c =
     let Q : Status → List ℕ → Type 0 = CommandSays shelves (command_view c.args.command) in
     Ends-map (CommandSays shelves (Undoing c.in-Undoing.file.now c.in-Undoing.script.now)) Q _ _ _ _ _
     (λ s t h. subst (λ (v : Command). CommandSays shelves v s t) (sym (ap command_view c.in-Undoing.is)) h) (λ r. r) c.undo.ensures
+
+pub returns-in-Checking : goal.returns-in-Checking
+returns-in-Checking g c =
+    let shelves : Shelves = record { held = g.F.Shelf.held c.args.shelf.now; before = g.F.Shelf.faults c.args.shelf.now; after = g.F.Shelf.faults c.check.new.shelf } in
+    let Q : Status → List ℕ → Type 0 = CommandSays shelves (command_view c.args.command) in
+    Ends-map (CommandSays shelves (Checking c.in-Checking.file.now c.in-Checking.tree.now)) Q _ _ _ _ _
+    (λ s t h. subst (λ (v : Command). CommandSays shelves v s t) (sym (ap command_view c.in-Checking.is)) h) (λ r. r) c.check.ensures
