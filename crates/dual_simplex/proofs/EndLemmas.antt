@@ -5,7 +5,10 @@ use Rattle.int_rows.specs.Range.{InRange, AllInRange}
 use Rattle.flow_rules.specs.Program.{Program}
 use Rattle.path_rules.specs.LinearProgram.{linear_of}
 use Rattle.path_rules.specs.Multipliers.{AreMultipliers, AreRefuting}
-use Rattle.dual_simplex.specs.Bench.{IsLeastOf, IsNoneOf}
+use Rattle.std.proofs.lemmas.Int.{ints}
+use Rattle.path_rules.specs.ReadFlows.{AreRead}
+use Rattle.flow_reading.specs.Reading.{IsOwnPositive}
+use Rattle.dual_simplex.specs.Bench.{Bench, IsLeastOf, IsNoneOf, AreFlowsOf}
 use Rattle.std.specs.Prelude.{ℤ, pos, ◌<ℤ◌, ◌≤ℤ◌}
 use Rattle.path_rules.specs.LinearProgram.{LinearProgram}
 use Rattle.path_rules.specs.Columns.{columns, scale_at}
@@ -36,10 +39,10 @@ row_below p r row h = subst (λ m. row < m) (sym (columns_are p r h.on_path.size
 pub taken : (n : ℕ) (xs rest : List ℤ) → length xs ≡ n → take n (xs ++ rest) ≡ xs
 taken n xs rest e = take-append-le n xs rest (omega arith) ∙ take_all n xs (omega arith)
 
-pub least_of : (q : Program) (r : Rows) (d : ℤ) (items ys : List ℤ) (row : ℕ) → items ≡ ys → r.rows ≤ length ys → EndsFeasible (linear_of q) r
+pub least_of : (q : Program) (r : Rows) (d : ℤ) (items ys : List ℤ) (row : ℕ) (flows : List ℤ) (den : ℤ) → items ≡ ys → r.rows ≤ length ys → EndsFeasible (linear_of q) r
     → AreMultipliers (linear_of q) (table r (scale_at (linear_of q))) d (take r.rows ys) → InRange d → AllInRange (take r.rows ys)
-    → IsLeastOf q (record { rows = r; d = d; ys = take r.rows items; row = row })
-least_of q r d items ys row e room f a rd ry = record {
+    → IsLeastOf q (record { rows = r; d = d; ys = take r.rows items; row = row; flows = flows; flow_den = den })
+least_of q r d items ys row flows den e room f a rd ry = record {
   feasible = f;
   are = subst (λ (xs : List ℤ). AreMultipliers (linear_of q) (table r (scale_at (linear_of q))) d (take r.rows xs)) (sym e) a;
   count = subst (λ (xs : List ℤ). length (take r.rows xs) ≡ length q.rows) (sym e) (length-take-le r.rows ys room ∙ sym f.on_path.size.rows);
@@ -47,12 +50,27 @@ least_of q r d items ys row e room f a rd ry = record {
   in_range = subst (λ (xs : List ℤ). AllInRange (take r.rows xs)) (sym e) ry;
 }
 
-pub none_of : (q : Program) (r : Rows) (d : ℤ) (items ys : List ℤ) (row : ℕ) → items ≡ ys → r.rows ≤ length ys → EndsRefuting (linear_of q) r row
+pub none_of : (q : Program) (r : Rows) (d : ℤ) (items ys : List ℤ) (row : ℕ) (flows : List ℤ) (den : ℤ) → items ≡ ys → r.rows ≤ length ys → EndsRefuting (linear_of q) r row
     → AreRefuting (linear_of q) (table r row) (take r.rows ys) → AllInRange (take r.rows ys)
-    → IsNoneOf q (record { rows = r; d = d; ys = take r.rows items; row = row })
-none_of q r d items ys row e room f a ry = record {
+    → IsNoneOf q (record { rows = r; d = d; ys = take r.rows items; row = row; flows = flows; flow_den = den })
+none_of q r d items ys row flows den e room f a ry = record {
   refuting = f;
   are = subst (λ (xs : List ℤ). AreRefuting (linear_of q) (table r row) (take r.rows xs)) (sym e) a;
   count = subst (λ (xs : List ℤ). length (take r.rows xs) ≡ length q.rows) (sym e) (length-take-le r.rows ys room ∙ sym f.on_path.size.rows);
   in_range = subst (λ (xs : List ℤ). AllInRange (take r.rows xs)) (sym e) ry;
+}
+
+pub own_positive : (p : LinearProgram) (r : Rows) → EndsFeasible p r → IsOwnPositive r
+own_positive p r h i l b = (h.on_path.is_tableau i b).own
+
+-- what is read into the front of a list
+pub flows_of : (q : Program) (r : Rows) (d : ℤ) (ys : List ℤ) (row : ℕ) (items zs : List ℤ) (den : ℤ) → items ≡ zs → r.units ≤ length zs → EndsFeasible (linear_of q) r
+    → AreRead (linear_of q) (basis r) (table r) (take r.units zs) den → pos 0 <ℤ den → InRange den → AllInRange (take r.units zs)
+    → AreFlowsOf q (record { rows = r; d = d; ys = ys; row = row; flows = take r.units items; flow_den = den })
+flows_of q r d ys row items zs den e room f a positive rd rz = record {
+  read = subst (λ (xs : List ℤ). AreRead (linear_of q) (basis r) (table r) (take r.units xs) den) (sym e) a;
+  count = subst (λ (xs : List ℤ). length (take r.units xs) ≡ length q.units) (sym e) (length-take-le r.units zs room ∙ sym f.on_path.size.units);
+  positive = omega (arith, ints);
+  den_in_range = rd;
+  in_range = subst (λ (xs : List ℤ). AllInRange (take r.units xs)) (sym e) rz;
 }

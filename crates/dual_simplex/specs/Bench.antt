@@ -1,12 +1,13 @@
 -- What a bench keeps of the last program that it was given, and what that means.
-use Rattle.std.specs.Prelude.{◌≡◌, ◌≤◌, ℕ, ℤ, List, length}
+use Rattle.std.specs.Prelude.{◌≡◌, ◌≤◌, ◌≤ℤ◌, pos, ℕ, ℤ, List, length}
 use Rattle.int_rows.specs.Range.{InRange, AllInRange}
 use Rattle.int_rows.specs.declared.combination.Which.{Which}
 use Rattle.flow_rules.specs.Program.{Program}
 use Rattle.path_rules.specs.LinearProgram.{linear_of}
 use Rattle.path_rules.specs.Columns.{scale_at}
 use Rattle.path_rules.specs.Multipliers.{AreMultipliers, AreRefuting}
-use Rattle.tableau_rows.specs.Rows.{Rows, table}
+use Rattle.path_rules.specs.ReadFlows.{AreRead}
+use Rattle.tableau_rows.specs.Rows.{Rows, table, basis}
 use Rattle.dual_simplex.specs.Walk.{EndsFeasible, EndsRefuting, EndsPast}
 
 pub record Bench : Type 0 where
@@ -16,6 +17,9 @@ pub record Bench : Type 0 where
   pub ys : List ℤ
   -- the column whose row can't be met
   pub row : ℕ
+  -- the sizes of the units, in order, and their denominator
+  pub flows : List ℤ
+  pub flow_den : ℤ
 
 -- there is room for programs of so many units and rows
 pub record HasRoom (b : Bench) (units rows : ℕ) : Type 0 where
@@ -36,3 +40,11 @@ pub record IsNoneOf (q : Program) (b : Bench) : Type 0 where
   pub are : AreRefuting (linear_of q) (table b.rows b.row) b.ys
   pub count : length b.ys ≡ length q.rows
   pub in_range : AllInRange b.ys
+
+-- the bench keeps the flows of that basis
+pub record AreFlowsOf (q : Program) (b : Bench) : Type 0 where
+  pub read : AreRead (linear_of q) (basis b.rows) (table b.rows) b.flows b.flow_den
+  pub count : length b.flows ≡ length q.units
+  pub positive : pos 1 ≤ℤ b.flow_den
+  pub den_in_range : InRange b.flow_den
+  pub in_range : AllInRange b.flows

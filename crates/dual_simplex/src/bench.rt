@@ -1,13 +1,17 @@
 //! [`Bench`], on which programs are solved one after the other.
-ghost use Rattle.std.specs.Prelude.{◌≡◌, ◌≤◌, ◌<◌, ℕ, length, IfOk, IfErr};
+ghost use Rattle.std.specs.Prelude.{◌≡◌, ◌≤◌, ◌<◌, ℕ, length, IfOk, IfErr, OnOk, OnErr};
 ghost use Rattle.path_rules.specs.LinearProgram.{linear_of};
+ghost use Rattle.path_rules.specs.ReadFlows.{IsPastFlow};
+ghost use Rattle.tableau_rows.specs.Rows.{table, basis};
+ghost use Rattle.flow_reading.specs.Step.{step_of};
 ghost use Rattle.dual_simplex.specs.Walk.{EndsPast};
-ghost use Rattle.dual_simplex.specs.Bench.{HasRoom};
+ghost use Rattle.dual_simplex.specs.Bench.{HasRoom, IsLeastOf, AreFlowsOf};
 ghost use Rattle.dual_simplex.specs.Answer.{EndsAs};
 
-use crate::ends::{read_multipliers, read_refutation};
+use crate::ends::{read_multipliers, read_refutation, read_sizes};
 use crate::walk::{PastPivot, walk};
 use flow_program::Program;
+use flow_reading::PastFlow;
 use std::alloc::{AllocError, Global};
 use std::marker::Model;
 use tableau_rows::Rows;
@@ -26,6 +30,8 @@ pub struct Bench {
     d: i128,
     ys: Vec<i128>,
     row: usize,
+    flows: Vec<i128>,
+    flow_den: i128,
 }
 
 impl Model for Bench {
@@ -34,9 +40,9 @@ impl Model for Bench {
 
     ghost Value = { specs.Bench };
 
-    ghost view = { λ b. record { rows = b.rows; d = b.d; ys = take b.rows.rows b.ys.items; row = b.row } };
+    ghost view = { λ b. record { rows = b.rows; d = b.d; ys = take b.rows.rows b.ys.items; row = b.row; flows = take b.rows.units b.flows.items; flow_den = b.flow_den } };
 
-    ghost invariant = { λ b. length b.ys.items ≡ b.rows.most_rows };
+    ghost invariant = { λ b. (length b.ys.items ≡ b.rows.most_rows) × (length b.flows.items ≡ b.rows.most_units) };
 }
 
 impl Bench {
@@ -47,12 +53,15 @@ impl Bench {
         ensures { IfOk result (λ b. HasRoom b units rows) }
     {
         let ys = vec![in alloc; 0i128; rows as usize]?;
+        let flows = vec![in alloc; 0i128; units as usize]?;
         let rows = Rows::open(alloc, units, rows)?;
         Ok(Bench {
             rows,
             d: 0,
             ys,
             row: 0,
+            flows,
+            flow_den: 1,
         })
     }
 
@@ -80,6 +89,28 @@ impl Bench {
         }
     }
 
+    /// Reads the flows of the last basis of a program, after `Least` for it, and keeps them. They are refused exactly where a
+    /// number that is formed for them is out of range: the refusal names the first, and leaves the bench as it was.
+    pub fn read_flows(&mut self, program: &Program) -> Result<(), PastFlow>
+        requires least { IsLeastOf program.now self.old }
+        ensures least { IsLeastOf program.now self.new }
+        ensures rows { self.new.rows ≡ self.old.rows }
+        ensures d { self.new.d ≡ self.old.d }
+        ensures ys { self.new.ys ≡ self.old.ys }
+        ensures flows { OnOk result (AreFlowsOf program.now self.new) }
+        ensures past { IfErr result (λ e. IsPastFlow (linear_of program.now) (basis self.new.rows) (table self.new.rows) e.unit (step_of e.which)) }
+        ensures unchanged { OnErr result (self.new ≡ self.old) }
+    {
+        self.rows.are_rows();
+        match read_sizes(&self.rows, program, &mut self.flows) {
+            Err(past) => Err(past),
+            Ok(den) => {
+                self.flow_den = den;
+                Ok(())
+            }
+        }
+    }
+
     /// The scale of the multipliers.
     pub fn d(&self) -> i128
         ensures { result ≡ self.now.d }
@@ -100,5 +131,19 @@ impl Bench {
         ensures { result ≡ self.now.row }
     {
         self.row
+    }
+    /// The sizes of the units of the program over `flow_den`, after `read_flows`.
+    pub fn flows(&self) -> &[i128]
+        ensures { result.now ≡ self.now.flows }
+    {
+        self.rows.are_rows();
+        &self.flows[..self.rows.units()]
+    }
+
+    /// The denominator of the flows.
+    pub fn flow_den(&self) -> i128
+        ensures { result ≡ self.now.flow_den }
+    {
+        self.flow_den
     }
 }

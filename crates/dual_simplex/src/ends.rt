@@ -1,14 +1,16 @@
-//! What is read off the last basis of a path: multipliers, or those of a refutation.
-ghost use Rattle.std.specs.Prelude.{◌≡◌, ◌≤◌, length, take};
+//! What is read off the last basis of a path: multipliers and flows, or the multipliers of a refutation.
+ghost use Rattle.std.specs.Prelude.{◌≡◌, ◌≤◌, ◌<ℤ◌, pos, length, take, IfOk, IfErr, OnOk, OnErr};
 ghost use Rattle.int_rows.specs.Range.{InRange, AllInRange};
 ghost use Rattle.path_rules.specs.LinearProgram.{linear_of};
 ghost use Rattle.path_rules.specs.Columns.{scale_at};
 ghost use Rattle.path_rules.specs.Multipliers.{AreMultipliers, AreRefuting};
-ghost use Rattle.tableau_rows.specs.Rows.{table};
+ghost use Rattle.path_rules.specs.ReadFlows.{AreRead, IsPastFlow};
+ghost use Rattle.tableau_rows.specs.Rows.{table, basis};
+ghost use Rattle.flow_reading.specs.Step.{step_of};
 ghost use Rattle.dual_simplex.specs.Walk.{EndsFeasible, EndsRefuting};
 
 use flow_program::Program;
-use flow_reading::{multipliers, refuting};
+use flow_reading::{PastFlow, multipliers, read_flows, refuting};
 use tableau_rows::Rows;
 
 /// Puts the multipliers of the cost row into the front of `ys`, and gives their scale.
@@ -34,4 +36,24 @@ pub(crate) fn read_refutation(rows: &Rows, program: &Program, row: usize, ys: &m
 {
     program.is_program();
     refuting(rows, row, &mut ys[..rows.rows()]);
+}
+
+/// Puts the sizes of the units into the front of `flows`, and gives their denominator.
+pub(crate) fn read_sizes(
+    rows: &Rows,
+    program: &Program,
+    flows: &mut [i128],
+) -> Result<i128, PastFlow>
+    requires feasible { EndsFeasible (linear_of program.now) rows.now }
+    requires room { rows.now.units ≤ length flows.old }
+    ensures length { length flows.new ≡ length flows.old }
+    ensures read { IfOk result (λ d. AreRead (linear_of program.now) (basis rows.now) (table rows.now) (take rows.now.units flows.new) d) }
+    ensures positive { IfOk result (λ d. pos 0 <ℤ d) }
+    ensures den_in_range { IfOk result (λ d. InRange d) }
+    ensures in_range { OnOk result (AllInRange (take rows.now.units flows.new)) }
+    ensures past { IfErr result (λ e. IsPastFlow (linear_of program.now) (basis rows.now) (table rows.now) e.unit (step_of e.which)) }
+    ensures unchanged { OnErr result (flows.new ≡ flows.old) }
+{
+    program.is_program();
+    read_flows(rows, program, &mut flows[..rows.units()])
 }
