@@ -1,0 +1,45 @@
+-- What a search is told of a node that no step changes any more: the least cost of its relaxed flows with multipliers that prove it,
+-- a network of that cost, multipliers that refute it, or the place where a number is past the range.
+use Rattle.std.specs.Prelude.{◌≡◌, pos, ◌≤ℤ◌, Bool, true, false, List, Some}
+use Rattle.problem_rules.specs.Problem.{Problem}
+use Rattle.pns_rules.specs.Nodes.{Node}
+use Rattle.frac128.specs.declared.fraction.Frac.{Frac}
+use Rattle.flow_program.specs.declared.place.Column.{Column}
+use Rattle.flow_program.specs.declared.place.Place.{Place}
+use Rattle.tree_rules.specs.Claim.{Network, CostOver, IsFeasible}
+use Rattle.tree_rules.specs.Leaf.{IsRefuted, IsBounded}
+use Rattle.turn_laws.specs.Values.{IsValueOf, IsNoMore}
+use Rattle.node_looks.specs.declared.evaluator.Bound.{Bound}
+use Rattle.node_looks.specs.declared.evaluator.Evaluation.{Evaluation}
+use Rattle.node_looks.specs.declared.evaluator.Evaluation.TheVariants.{Least, Flows, Refuted, Halted}
+
+-- what is said of a node, the columns outside a basis, and a place where the basis leads past the range
+abbrev pub PastPlaces : Type 1
+PastPlaces = Problem → Node → List Column → Place → Type 0
+
+-- a fraction as a cost
+abbrev pub cost_over : Frac → CostOver
+cost_over f = record { cost = f.num; d = f.den }
+
+-- the cost of a network
+abbrev pub cost_in : Network → CostOver
+cost_in w = record { cost = w.cost; d = w.d }
+
+-- the value is the least cost of relaxed flows of the node, and the multipliers prove that none is less
+pub record IsBoundOf (p : Problem) (n : Node) (b : Bound) : Type 0 where
+  pub value : IsValueOf p n (cost_over b.value)
+  pub bounded : IsBounded p (Some (cost_over b.value)) n b.d b.ys
+
+-- the network has flows, and its cost is the value
+pub record IsNetworkOf (p : Problem) (value : Frac) (w : Network) : Type 0 where
+  pub feasible : IsFeasible p w
+  pub positive : pos 1 ≤ℤ w.d
+  pub no_more : IsNoMore (cost_in w) (cost_over value)
+  pub no_less : IsNoMore (cost_over value) (cost_in w)
+
+-- of a node at which all is decided the network is told, of others the least cost
+abbrev pub IsEvaluated : PastPlaces → Problem → Node → Bool → Evaluation → Type 0
+IsEvaluated Past p n decided (Least b) = (decided ≡ false) × IsBoundOf p n b
+IsEvaluated Past p n decided (Flows b w) = (decided ≡ true) × IsBoundOf p n b × IsNetworkOf p b.value w
+IsEvaluated Past p n decided (Refuted ys) = IsRefuted p n ys
+IsEvaluated Past p n decided (Halted h) = Past p n h.nonbasic h.place

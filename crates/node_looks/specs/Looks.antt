@@ -1,0 +1,79 @@
+-- What a search sees where it looks at a node: the steps that are possible, the node that they leave, and its end.
+use Rattle.std.specs.Prelude.{◌≡◌, ℕ, pos, ◌≤ℤ◌, true, List, Option, Some, None}
+use Rattle.problem_rules.specs.Problem.{Problem}
+use Rattle.pns_rules.specs.Shape.{shape_of}
+use Rattle.pns_rules.specs.Nodes.{Node}
+use Rattle.pns_rules.specs.Ends.{IsSound, IsReduced, IsUndecided, IsFirst}
+use Rattle.frac128.specs.declared.fraction.Frac.{Frac}
+use Rattle.tree_rules.specs.Tree.{leaf}
+use Rattle.tree_rules.specs.Claim.{Network, CostOver, IsFeasible}
+use Rattle.tree_rules.specs.Leaf.{Leaf, untried, LeafPasses}
+use Rattle.search_tree.specs.Cells.{Cell, place_of}
+use Rattle.search_tree.specs.Fits.{Follows}
+use Rattle.turn_laws.specs.Values.{IsPositive, IsUnder, IsNoMore}
+use Rattle.node_looks.specs.declared.evaluator.Halt.{Halt}
+use Rattle.node_looks.specs.declared.looks.Ready.{Ready}
+use Rattle.node_looks.specs.declared.looks.Looked.{Looked}
+use Rattle.node_looks.specs.Evaluated.{PastPlaces, cost_in, IsBoundOf}
+
+-- ---- an open leaf
+
+-- the node is reduced, and all that its branching or shutting takes is at hand: the first material that is to decide, and the
+-- bound, whose value is the leaf's
+pub record IsReady (p : Problem) (n : Node) (value : Frac) (r : Ready) : Type 0 where
+  pub reduced : IsReduced (shape_of p) n
+  pub first : IsFirst (IsUndecided (shape_of p) n) r.material
+  pub bound : IsBoundOf p n r.bound
+  pub value_is : r.bound.value ≡ value
+
+abbrev pub IsSomeReady : Problem → Node → Frac → Option Ready → Type 0
+IsSomeReady p n value None = ⊥
+IsSomeReady p n value (Some r) = IsReady p n value r
+
+-- the node is reduced, and a number of its program is past the range
+pub record IsHalted (Past : PastPlaces) (p : Problem) (n : Node) (h : Halt) : Type 0 where
+  pub reduced : IsReduced (shape_of p) n
+  pub past : Past p n h.nonbasic h.place
+
+-- an open leaf is ready, but for one that halts the search
+abbrev pub IsOpenAs : PastPlaces → Problem → Node → Leaf → Frac → Option Ready → Option Halt → Type 0
+IsOpenAs Past p n what value ready None = what ≡ untried → IsSomeReady p n value ready
+IsOpenAs Past p n what value ready (Some h) = (what ≡ untried) × IsHalted Past p n h
+
+-- ---- a network
+
+abbrev pub cost_of : Option Network → Option CostOver
+cost_of None = None
+cost_of (Some w) = Some (cost_in w)
+
+-- the network has flows, and costs no less than any number that no relaxed flows of the node undercut
+pub record IsFoundAt (p : Problem) (n : Node) (w : Network) : Type 0 where
+  pub feasible : IsFeasible p w
+  pub positive : pos 1 ≤ℤ w.d
+  pub no_less : (v : CostOver) → IsPositive v → IsUnder p v n → IsNoMore v (cost_in w)
+
+abbrev pub AreFoundAt : Problem → Node → Option Network → Type 0
+AreFoundAt p n None = Unit {0}
+AreFoundAt p n (Some w) = IsFoundAt p n w
+
+-- ---- the look
+
+-- the cell with another end
+pub record IsSameNode (c d : Cell) : Type 0 where
+  pub option : d.option ≡ c.option
+  pub steps : d.steps ≡ c.steps
+  pub node : d.node ≡ c.node
+
+-- the cell is a leaf, which passes where the network is claimed that was found
+pub record IsSeen (Past : PastPlaces) (p : Problem) (l : Looked) : Type 0 where
+  pub what : Leaf
+  pub end_is : l.cell.end ≡ leaf what
+  pub passes : LeafPasses true p (cost_of l.network) (place_of l.cell) what
+  pub found : AreFoundAt p (place_of l.cell) l.network
+  pub open_as : IsOpenAs Past p (place_of l.cell) what l.value l.ready l.halt
+
+pub record IsLooked (Past : PastPlaces) (p : Problem) (start : Node) (option : List ℕ) (l : Looked) : Type 0 where
+  pub option_is : l.cell.option ≡ option
+  pub follows : Follows (shape_of p) start l.cell
+  pub sound : IsSound (shape_of p) (place_of l.cell)
+  pub seen : IsSeen Past p l

@@ -1,0 +1,63 @@
+//! How a search comes to know the value of a node.
+ghost use Rattle.std.specs.Prelude.{◌≡◌, true, IfOk};
+ghost use Rattle.pns_rules.specs.Shape.{shape_of};
+ghost use Rattle.pns_rules.specs.Ends.{IsSound, IsReduced, IsDecided};
+ghost use Rattle.pgraph.specs.Tables.{shape};
+ghost use Rattle.pgraph.specs.View.{node_of};
+ghost use Rattle.node_looks.specs.Evaluated.{PastPlaces, IsEvaluated};
+
+use branch_tree::{Columns, Multipliers, Network};
+use flow_program::Place;
+use frac128::Frac;
+use pgraph::Graph;
+use pns_problem::Problem;
+use std::alloc::{AllocError, Global};
+use unit_sets::Node;
+
+/// The least cost of relaxed flows, and multipliers over `d` that prove it.
+#[derive(Drop)]
+pub struct Bound {
+    pub value: Frac,
+    pub d: i128,
+    pub ys: Multipliers,
+}
+
+/// The columns outside a basis, and the place where a number is past the range.
+#[derive(Drop)]
+pub struct Halt {
+    pub nonbasic: Columns,
+    pub place: Place,
+}
+
+/// What is told of a node.
+#[derive(Drop)]
+pub enum Evaluation {
+    /// The node has relaxed flows, the cheapest of this value.
+    Least(Bound),
+    /// All is decided at the node, and the network of its units costs just the value.
+    Flows(Bound, Network),
+    /// The node has no relaxed flows.
+    Refuted(Multipliers),
+    /// A number is past the range.
+    Halted(Halt),
+}
+
+/// Tells what a node is worth.
+pub trait Evaluator {
+    ghost past: { PastPlaces };
+
+    /// Evaluates a node that no step changes any more; `decided` tells whether all is decided there.
+    fn evaluate(
+        &mut self,
+        alloc: Global,
+        problem: &Problem,
+        graph: &Graph,
+        node: Node,
+        decided: bool,
+    ) -> Result<Evaluation, AllocError>
+        requires graph { shape graph.now ≡ shape_of problem.now }
+        requires sound { IsSound (shape_of problem.now) (node_of node) }
+        requires reduced { IsReduced (shape_of problem.now) (node_of node) }
+        requires split { decided ≡ true → IsDecided (shape_of problem.now) (node_of node) }
+        ensures { IfOk result (IsEvaluated past problem.now (node_of node) decided) };
+}

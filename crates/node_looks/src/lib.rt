@@ -1,0 +1,15 @@
+//! What a search sees where it looks at a node.
+//!
+//! [`look`] takes the steps that are possible at a node, and bounds what they leave. The bound is an [`Evaluator`]'s: it tells the
+//! least cost of relaxed flows with multipliers, a network, a refutation, or where a number is past the range. A search stands on
+//! this trait alone, so that nodes can be bounded in more than one way.
+//!
+//! - `evaluator`: the trait, and what it tells
+//! - `looks`: a look at a node
+#![tactic(auto)]
+
+mod evaluator;
+mod looks;
+
+pub use evaluator::{Bound, Evaluation, Evaluator, Halt};
+pub use looks::{Looked, Ready, look, open_cell};
