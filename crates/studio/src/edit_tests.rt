@@ -28,7 +28,7 @@ const MIGRATION: &str =
     "file_type=PNS_edits_v1\npayout 10\nfix U1 0\nproportional U1 0\ninvestment U1 100 10\nfix U2 0\nproportional U2 0\ninvestment U2 10 10\nfix U3 0\nproportional U3 0\ninvestment U3 50 0\n";
 
 // Runs the words over the problem a.pns and the script e1.
-fn run(
+pub(crate) fn run(
     alloc: Global,
     words: &str,
     file: &[u8],

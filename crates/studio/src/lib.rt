@@ -13,6 +13,8 @@
 mod axioms;
 mod call;
 mod check;
+#[cfg(test)]
+mod check_tests;
 mod command;
 #[cfg(test)]
 mod edit_tests;
