@@ -6,3 +6,4 @@ pub mod StartLemmas
 pub mod OptionLemmas
 pub mod EndLemmas
 pub mod LawLemmas
+pub mod NumberLemmas

@@ -8,8 +8,11 @@
 mod bench;
 mod ends;
 mod laws;
+mod names;
+mod numbers;
 mod walk;
 
 pub use bench::{Bench, Ends};
 pub use laws::{kept_basis_is_last, least_is_least, none_is_refuted};
+pub use names::{column_at, entry_place, flow_place};
 pub use walk::PastPivot;

@@ -1,0 +1,156 @@
+//! Columns and places by the numbers of the problem.
+ghost use Rattle.std.specs.Prelude.{◌≡◌, ◌<◌, ◌≤◌, ◌++◌, ℕ, [], ◌∷◌, cond, nat_eq, length, Some, None, IfOk, OnOk};
+ghost use Rattle.path_rules.specs.LinearProgram.{linear_of};
+ghost use Rattle.path_rules.specs.Columns.{scale_at};
+ghost use Rattle.path_rules.specs.Places as path;
+ghost use Rattle.tableau_rows.specs.Rows.{basis, width};
+ghost use Rattle.pivots.specs.Choice.{IsOfSize};
+ghost use Rattle.flow_reading.specs.Step.{step_of};
+ghost use Rattle.dual_simplex.specs.Named.{unit_named, named_at, column_named, nonbasic_named, place_named};
+ghost use Rattle.dual_simplex.specs.Numbers.{AreNumbers};
+
+use crate::numbers::{Numbers, numbers_of};
+use crate::walk::PastPivot;
+use flow_program::{Column, Place, Program};
+use flow_reading::PastFlow;
+use std::alloc::{AllocError, Global};
+use tableau_rows::Rows;
+
+fn unit_count(program: &Program) -> usize
+    ensures count { result ≡ length program.now.units }
+    ensures few { result ≤ 128 }
+{
+    program.is_program();
+    program.units().count() as usize
+}
+
+fn row_count(program: &Program) -> usize
+    ensures count { result ≡ length program.now.rows }
+    ensures few { result ≤ 256 }
+{
+    program.is_program();
+    program.rows().count() as usize
+}
+
+fn named_at(program: &Program, numbers: &Numbers, units: usize, rows: usize, k: usize) -> Column
+    requires numbers { AreNumbers program.now numbers.now.units numbers.now.rows }
+    requires units { units ≡ length program.now.units }
+    requires rows { rows ≡ length program.now.rows }
+    requires units_few { units ≤ 128 }
+    requires rows_few { rows ≤ 256 }
+    ensures { result ≡ named_at program.now units rows k }
+{
+    if k < units {
+        Column::X(numbers.units[k])
+    } else if k < units + units {
+        Column::S(numbers.units[k - units])
+    } else if k < units + units + rows {
+        Column::T(numbers.rows[k - (units + units)])
+    } else if k < units + units + rows + rows {
+        Column::W(numbers.rows[k - (units + units + rows)])
+    } else if k == units + units + rows + rows {
+        Column::Right
+    } else {
+        Column::Scale
+    }
+}
+
+/// The column at a place of a row.
+fn column_of(program: &Program, numbers: &Numbers, k: usize) -> Column
+    requires numbers { AreNumbers program.now numbers.now.units numbers.now.rows }
+    ensures { result ≡ column_named program.now k }
+{
+    let (units, rows) = (unit_count(program), row_count(program));
+    named_at(program, numbers, units, rows, k)
+}
+
+/// The column at a place of a row, by the numbers of the problem.
+pub fn column_at(program: &Program, k: usize) -> Column
+    ensures { result ≡ column_named program.now k }
+{
+    column_of(program, &numbers_of(program), k)
+}
+
+/// Appends the column at a place where it is not in the basis.
+fn push_outside(
+    list: &mut Vec<Column>,
+    rows: &Rows,
+    program: &Program,
+    numbers: &Numbers,
+    k: usize,
+) -> Result<(), AllocError>
+    requires place { k < width rows.now }
+    requires numbers { AreNumbers program.now numbers.now.units numbers.now.rows }
+    ensures { OnOk result (list.new.items ≡ list.old.items ++ cond (basis rows.now k) [] (column_named program.now k ∷ [])) }
+{
+    if rows.is_basic(k) {
+        return Ok(());
+    }
+    list.push(column_of(program, numbers, k))?;
+    Ok(())
+}
+
+/// The columns that are not in the basis, in the order of their places.
+pub(crate) fn nonbasic(
+    alloc: Global,
+    rows: &Rows,
+    program: &Program,
+) -> Result<Vec<Column>, AllocError>
+    requires size { IsOfSize (linear_of program.now) rows.now }
+    ensures { IfOk result (λ list. list.items ≡ nonbasic_named program.now (basis rows.now)) }
+{
+    let numbers = numbers_of(program);
+    let mut list = Vec::new(alloc);
+    for k in 0..rows.right_at() {
+        push_outside(&mut list, rows, program, &numbers, k)?;
+    }
+    Ok(list)
+}
+
+/// The column whose row is past, `None` for the cost row.
+fn row_of(program: &Program, numbers: &Numbers, row: usize) -> Option<Column>
+    requires numbers { AreNumbers program.now numbers.now.units numbers.now.rows }
+    ensures { result ≡ cond (nat_eq row (scale_at (linear_of program.now))) None (Some (column_named program.now row)) }
+{
+    let (units, rows) = (unit_count(program), row_count(program));
+    if row == units + units + rows + rows + 1 {
+        None
+    } else {
+        Some(column_of(program, numbers, row))
+    }
+}
+
+/// The place of a pivot at which a number is out of range, by the numbers of the problem.
+pub fn entry_place(program: &Program, past: PastPivot) -> Place
+    ensures { result ≡ place_named program.now (path.Entry past.leaves past.enters past.row past.j past.which) }
+{
+    let numbers = numbers_of(program);
+    Place::Entry {
+        leave: column_of(program, &numbers, past.leaves),
+        enter: column_of(program, &numbers, past.enters),
+        row: row_of(program, &numbers, past.row),
+        column: column_of(program, &numbers, past.j),
+        which: past.which,
+    }
+}
+
+fn unit_number(program: &Program, numbers: &Numbers, unit: usize) -> u32
+    requires numbers { AreNumbers program.now numbers.now.units numbers.now.rows }
+    requires unit { unit < length program.now.units }
+    ensures { result ≡ unit_named program.now unit }
+{
+    let count = unit_count(program);
+    prove!(unit < count);
+    numbers.units[unit]
+}
+
+/// The place of a flow that is out of range, by the number of its unit in the problem.
+pub fn flow_place(program: &Program, past: PastFlow) -> Place
+    requires unit { past.unit < length program.now.units }
+    ensures { result ≡ place_named program.now (path.Flow past.unit (step_of past.which)) }
+{
+    Place::Flow {
+        unit: unit_number(program, &numbers_of(program), past.unit),
+        which: past.which,
+    }
+}
