@@ -11,7 +11,7 @@ use Rattle.dual_simplex.specs.Bench.{Bench, IsLeastOf, IsNoneOf}
 use Rattle.dual_simplex.specs.Laws.{ScaleIsPositive, BoundIsReached, BoundIsLeast, NoneIsRefuted, FeasibleIsLast, RefutingIsLast, PastIsLast}
 use Rattle.path_laws.proofs.LawLemmas as path
 
-ends_least : (net : Net) (n : Node) (q : Program) (b : Bench) → q ≡ program_of net n → IsLeastOf q b → ends.EndsLeast net n (basis b.rows) (table b.rows) b.d b.ys
+pub ends_least : (net : Net) (n : Node) (q : Program) (b : Bench) → q ≡ program_of net n → IsLeastOf q b → ends.EndsLeast net n (basis b.rows) (table b.rows) b.d b.ys
 ends_least net n q b e h =
     let k : IsLeastOf (program_of net n) b = subst (λ (p : Program). IsLeastOf p b) e h in
     let on = k.feasible.on_path in

@@ -7,3 +7,5 @@ pub mod OptionLemmas
 pub mod EndLemmas
 pub mod LawLemmas
 pub mod NumberLemmas
+pub mod PastLemmas
+pub mod FlowLawLemmas

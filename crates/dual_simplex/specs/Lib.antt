@@ -5,3 +5,6 @@ pub mod Answer
 pub mod Laws
 pub mod Named
 pub mod Numbers
+pub mod PastPlace
+pub mod PastLaws
+pub mod FlowLaws

@@ -1,17 +1,17 @@
 //! [`Bench`], on which programs are solved one after the other.
 ghost use Rattle.std.specs.Prelude.{◌≡◌, ◌≤◌, ◌<◌, ℕ, length, IfOk, IfErr, OnOk, OnErr};
 ghost use Rattle.path_rules.specs.LinearProgram.{linear_of};
-ghost use Rattle.path_rules.specs.ReadFlows.{IsPastFlow};
-ghost use Rattle.tableau_rows.specs.Rows.{table, basis};
-ghost use Rattle.flow_reading.specs.Step.{step_of};
-ghost use Rattle.dual_simplex.specs.Walk.{EndsPast};
+ghost use Rattle.tableau_rows.specs.Rows.{basis};
+ghost use Rattle.pivots.specs.Choice.{IsOfSize};
+ghost use Rattle.dual_simplex.specs.Named.{nonbasic_named};
+ghost use Rattle.dual_simplex.specs.PastPlace.{IsPastOf, IsPastFlowOf};
 ghost use Rattle.dual_simplex.specs.Bench.{HasRoom, IsLeastOf, AreFlowsOf};
 ghost use Rattle.dual_simplex.specs.Answer.{EndsAs};
 
 use crate::ends::{read_multipliers, read_refutation, read_sizes};
-use crate::walk::{PastPivot, walk};
-use flow_program::Program;
-use flow_reading::PastFlow;
+use crate::names::{entry_place, flow_place, nonbasic};
+use crate::walk::walk;
+use flow_program::{Column, Place, Program};
 use std::alloc::{AllocError, Global};
 use std::marker::Model;
 use tableau_rows::Rows;
@@ -65,16 +65,18 @@ impl Bench {
         })
     }
 
-    /// Walks the path of the program to its last basis, and keeps that.
-    pub fn least(&mut self, program: &Program) -> Result<Ends, PastPivot>
+    /// Walks the path of the program to its last basis, and keeps that. `Err` names the entry that is out of range at the pivot
+    /// of this basis.
+    pub fn least(&mut self, program: &Program) -> Result<Ends, Place>
         requires fits { HasRoom self.old (length program.now.units) (length program.now.rows) }
         ensures units { self.new.rows.most_units ≡ self.old.rows.most_units }
         ensures rows { self.new.rows.most_rows ≡ self.old.rows.most_rows }
         ensures ends { IfOk result (λ end. EndsAs program.now self.new end) }
-        ensures past { IfErr result (λ e. EndsPast (linear_of program.now) self.new.rows e.leaves e.enters e.row e.j e.which) }
+        ensures past { IfErr result (λ place. IsPastOf program.now self.new place) }
+        ensures size { IsOfSize (linear_of program.now) self.new.rows }
     {
         match walk(&mut self.rows, program) {
-            Err(past) => Err(past),
+            Err(past) => Err(entry_place(program, past)),
             Ok(None) => {
                 self.rows.are_rows();
                 self.d = read_multipliers(&self.rows, program, &mut self.ys);
@@ -91,19 +93,19 @@ impl Bench {
 
     /// Reads the flows of the last basis of a program, after `Least` for it, and keeps them. They are refused exactly where a
     /// number that is formed for them is out of range: the refusal names the first, and leaves the bench as it was.
-    pub fn read_flows(&mut self, program: &Program) -> Result<(), PastFlow>
+    pub fn read_flows(&mut self, program: &Program) -> Result<(), Place>
         requires least { IsLeastOf program.now self.old }
         ensures least { IsLeastOf program.now self.new }
         ensures rows { self.new.rows ≡ self.old.rows }
         ensures d { self.new.d ≡ self.old.d }
         ensures ys { self.new.ys ≡ self.old.ys }
         ensures flows { OnOk result (AreFlowsOf program.now self.new) }
-        ensures past { IfErr result (λ e. IsPastFlow (linear_of program.now) (basis self.new.rows) (table self.new.rows) e.unit (step_of e.which)) }
+        ensures past { IfErr result (λ place. IsPastFlowOf program.now self.new place) }
         ensures unchanged { OnErr result (self.new ≡ self.old) }
     {
         self.rows.are_rows();
         match read_sizes(&self.rows, program, &mut self.flows) {
-            Err(past) => Err(past),
+            Err(past) => Err(flow_place(program, past)),
             Ok(den) => {
                 self.flow_den = den;
                 Ok(())
@@ -145,5 +147,14 @@ impl Bench {
         ensures { result ≡ self.now.flow_den }
     {
         self.flow_den
+    }
+
+    /// The columns that are not in the basis that is kept, in the order of their places: x, s, t, w. `Err` comes for want of
+    /// memory alone.
+    pub fn nonbasic(&self, alloc: Global, program: &Program) -> Result<Vec<Column>, AllocError>
+        requires size { IsOfSize (linear_of program.now) self.now.rows }
+        ensures { IfOk result (λ list. list.items ≡ nonbasic_named program.now (basis self.now.rows)) }
+    {
+        nonbasic(alloc, &self.rows, program)
     }
 }

@@ -1,5 +1,5 @@
 //! What is read off the last basis of a path: multipliers and flows, or the multipliers of a refutation.
-ghost use Rattle.std.specs.Prelude.{◌≡◌, ◌≤◌, ◌<ℤ◌, pos, length, take, IfOk, IfErr, OnOk, OnErr};
+ghost use Rattle.std.specs.Prelude.{◌≡◌, ◌<◌, ◌≤◌, ◌<ℤ◌, pos, length, take, IfOk, IfErr, OnOk, OnErr};
 ghost use Rattle.int_rows.specs.Range.{InRange, AllInRange};
 ghost use Rattle.path_rules.specs.LinearProgram.{linear_of};
 ghost use Rattle.path_rules.specs.Columns.{scale_at};
@@ -52,6 +52,7 @@ pub(crate) fn read_sizes(
     ensures den_in_range { IfOk result (λ d. InRange d) }
     ensures in_range { OnOk result (AllInRange (take rows.now.units flows.new)) }
     ensures past { IfErr result (λ e. IsPastFlow (linear_of program.now) (basis rows.now) (table rows.now) e.unit (step_of e.which)) }
+    ensures unit { IfErr result (λ e. e.unit < length program.now.units) }
     ensures unchanged { OnErr result (flows.new ≡ flows.old) }
 {
     program.is_program();

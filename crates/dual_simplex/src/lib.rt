@@ -10,9 +10,14 @@ mod ends;
 mod laws;
 mod names;
 mod numbers;
+mod past_laws;
 mod walk;
 
 pub use bench::{Bench, Ends};
-pub use laws::{kept_basis_is_last, least_is_least, none_is_refuted};
-pub use names::{column_at, entry_place, flow_place};
-pub use walk::PastPivot;
+pub use laws::{
+    flows_are_least, kept_basis_is_last, least_is_least, none_is_refuted, split_flows_are_least,
+};
+pub use names::column_at;
+pub use past_laws::{
+    balance_is_past, bound_is_past, cost_is_past, entry_is_past, flow_is_past, refutation_is_past,
+};

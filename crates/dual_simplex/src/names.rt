@@ -121,7 +121,7 @@ fn row_of(program: &Program, numbers: &Numbers, row: usize) -> Option<Column>
 }
 
 /// The place of a pivot at which a number is out of range, by the numbers of the problem.
-pub fn entry_place(program: &Program, past: PastPivot) -> Place
+pub(crate) fn entry_place(program: &Program, past: PastPivot) -> Place
     ensures { result ≡ place_named program.now (path.Entry past.leaves past.enters past.row past.j past.which) }
 {
     let numbers = numbers_of(program);
@@ -145,7 +145,7 @@ fn unit_number(program: &Program, numbers: &Numbers, unit: usize) -> u32
 }
 
 /// The place of a flow that is out of range, by the number of its unit in the problem.
-pub fn flow_place(program: &Program, past: PastFlow) -> Place
+pub(crate) fn flow_place(program: &Program, past: PastFlow) -> Place
     requires unit { past.unit < length program.now.units }
     ensures { result ≡ place_named program.now (path.Flow past.unit (step_of past.which)) }
 {

@@ -14,12 +14,12 @@ use tableau_rows::Rows;
 
 /// A pivot of the path at which a number is out of range, and which: columns by their places in a row.
 #[derive(Clone, Copy, Debug, PartialEq, Eq)]
-pub struct PastPivot {
-    pub leaves: usize,
-    pub enters: usize,
-    pub row: usize,
-    pub j: usize,
-    pub which: Which,
+pub(crate) struct PastPivot {
+    pub(crate) leaves: usize,
+    pub(crate) enters: usize,
+    pub(crate) row: usize,
+    pub(crate) j: usize,
+    pub(crate) which: Which,
 }
 
 /// Whether the unit has an entry below 0 in the cost row.

@@ -1,0 +1,49 @@
+-- The laws of the flows that a bench keeps.
+use Rattle.std.proofs.Common.{◌≡◌, ℕ, ℤ, ◌*ℤ◌, Bool, true, false, not, ◌||◌, refl, sym, ap, ◌∙◌, subst, List}
+use Rattle.problem_rules.specs.Problem.{Problem}
+use Rattle.problem_rules.specs.Validity.{IsValid}
+use Rattle.pns_rules.specs.Nodes.{Node}
+use Rattle.number_sets.proofs.SetLemmas.{listed-same}
+use Rattle.flow_rules.specs.Net.{net_of, beside}
+use Rattle.flow_rules.specs.Program.{Program, program_of}
+use Rattle.flow_rules.specs.Relaxed.{stays, units}
+use Rattle.path_rules.specs.LinearProgram.{linear_of}
+use Rattle.path_rules.specs.ReadFlows.{AreRead}
+use Rattle.end_laws.proofs.EndLemmas as law
+use Rattle.end_laws.proofs.SplitLemmas as split
+use Rattle.tableau_rows.specs.Rows.{table, basis}
+use Rattle.dual_simplex.specs.Bench.{Bench, IsLeastOf, AreFlowsOf}
+use Rattle.dual_simplex.specs.FlowLaws.{FlowsAreRelaxed, FlowsAreLeast, UnitsAreInside, SplitIsDecided, SplitFlowsAreFlows, SplitFlowsAreLeast}
+use Rattle.dual_simplex.proofs.LawLemmas.{ends_least}
+
+read_of : (q r : Program) (b : Bench) → q ≡ r → AreFlowsOf q b → AreRead (linear_of r) (basis b.rows) (table b.rows) b.flows b.flow_den
+read_of q r b e f = subst (λ (s : Program). AreRead (linear_of s) (basis b.rows) (table b.rows) b.flows b.flow_den) e f.read
+
+pub flows_are_relaxed : FlowsAreRelaxed
+flows_are_relaxed p v n q b e h f =
+    law.read_flows_are_relaxed p v n (basis b.rows) (table b.rows) b.d b.ys (ends_least (net_of p) n q b e h) b.flows b.flow_den (read_of q (program_of (net_of p) n) b e f)
+
+pub flows_are_least : FlowsAreLeast
+flows_are_least p v n q b e h f =
+    law.read_flows_are_least p v n (basis b.rows) (table b.rows) b.d b.ys (ends_least (net_of p) n q b e h) b.flows b.flow_den (read_of q (program_of (net_of p) n) b e f)
+
+not_not : (a : Bool) → not (not a) ≡ a
+not_not true = refl
+not_not false = refl
+
+or_not : (a : Bool) → (a || not a) ≡ true
+or_not true = refl
+or_not false = refl
+
+pub units_are_inside : UnitsAreInside
+units_are_inside net n s = listed-same net.graph.units (stays n) n.inside (λ u l. ap not (s u l) ∙ not_not (n.inside u))
+
+pub split_is_decided : SplitIsDecided
+split_is_decided net n s i l = ap (λ (o : Bool). n.inside i || o) (s i l) ∙ or_not (n.inside i)
+
+pub split_flows_are_flows : SplitFlowsAreFlows
+split_flows_are_flows p v n q b s e h f = split.relaxed_are_flows p n s b.flows b.flow_den (flows_are_relaxed p v n q b e h f)
+
+pub split_flows_are_least : SplitFlowsAreLeast
+split_flows_are_least p v n q b s e h f =
+    flows_are_least p v n q b e h f ∙ ap (λ (z : ℤ). b.d *ℤ z) (sym (split.relaxed_cost_is_cost p n s (beside (units (net_of p) n) b.flows) b.flow_den))
