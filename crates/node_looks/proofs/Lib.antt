@@ -1,1 +1,3 @@
+pub mod ChildLemmas
 pub mod LookLemmas
+pub mod OptionWalk

@@ -4,7 +4,7 @@ use Rattle.problem_rules.specs.Problem.{Problem}
 use Rattle.pns_rules.specs.Shape.{Shape, shape_of}
 use Rattle.pns_rules.specs.Nodes as rules
 use Rattle.pns_rules.specs.Nodes.{after}
-use Rattle.pns_rules.specs.Ends.{IsSound, Leads, Stop}
+use Rattle.pns_rules.specs.Ends.{IsSound, IsDead, IsNever, Leads, Stop}
 use Rattle.pgraph.specs.View.{node_of}
 use Rattle.unit_sets.specs.declared.node.Node.{Node}
 use Rattle.tree_rules.specs.Tree.{leaf, StepsPass, after_all}
@@ -30,8 +30,9 @@ under_value p n v b pv u h =
     let r = h.value.reached in
     fraction_trans v.cost v.d (relaxed_cost (net_of p) n r.sizes r.d) r.d b.value.num b.value.den pv r.relaxed.positive h.value.positive (u r.sizes r.d r.relaxed) r.at_most
 
-found_here : (p : Problem) (n : rules.Node) (b : Bound) (w : Network) → IsBoundOf p n b → IsNetworkOf p b.value w → IsFoundAt p n w
-found_here p n b w h k = record {
+found_here : (p : Problem) (n : rules.Node) (b : Bound) (w : Network) → IsNever (IsDead (shape_of p) n) → IsBoundOf p n b → IsNetworkOf p b.value w → IsFoundAt p n w
+found_here p n b w alive h k = record {
+  alive = alive;
   feasible = k.feasible;
   positive = k.positive;
   no_less = λ v pv u. fraction_trans v.cost v.d b.value.num b.value.den w.cost w.d pv h.value.positive k.positive (under_value p n v b pv u h) k.no_less;
@@ -39,15 +40,15 @@ found_here p n b w h k = record {
 
 module _ (Past : PastPlaces) (p : Problem) (cell : Cell) (l : Looked) where
   pub seen_solved : (b : Bound) (w : Network) → l.cell ≡ as_shut cell (leaf (bounded b.d b.ys)) → l.network ≡ Some w → l.halt ≡ None
-      → IsBoundOf p (place_of cell) b → IsNetworkOf p b.value w → IsSeen Past p l
-  seen_solved b w ec en eh h k = record {
+      → IsNever (IsDead (shape_of p) (place_of cell)) → IsBoundOf p (place_of cell) b → IsNetworkOf p b.value w → IsSeen Past p l
+  seen_solved b w ec en eh alive h k = record {
     what = bounded b.d b.ys;
     end_is = ap (λ (c : Cell). c.end) ec;
     passes = subst (λ (o : Option Network). LeafPasses true p (cost_of o) (place_of l.cell) (bounded b.d b.ys)) (sym en)
         (subst (λ (c : Cell). LeafPasses true p (Some (cost_in w)) (place_of c) (bounded b.d b.ys)) (sym ec)
         (leaf_fallen p (Some (cost_over b.value)) (Some (cost_in w)) (place_of cell) (bounded b.d b.ys) k.no_more h.value.positive k.positive h.bounded));
     found = subst (λ (o : Option Network). AreFoundAt p (place_of l.cell) o) (sym en)
-        (subst (λ (c : Cell). IsFoundAt p (place_of c) w) (sym ec) (found_here p (place_of cell) b w h k));
+        (subst (λ (c : Cell). IsFoundAt p (place_of c) w) (sym ec) (found_here p (place_of cell) b w alive h k));
     open_as = subst (λ (o : Option Halt). IsOpenAs Past p (place_of l.cell) (bounded b.d b.ys) l.value l.ready o) (sym eh) (λ e. absurd (let q : bounded b.d b.ys ≡ untried = e in cc));
   }
 

@@ -3,7 +3,7 @@ use Rattle.std.specs.Prelude.{◌≡◌, ℕ, pos, ◌≤ℤ◌, true, List, Opt
 use Rattle.problem_rules.specs.Problem.{Problem}
 use Rattle.pns_rules.specs.Shape.{shape_of}
 use Rattle.pns_rules.specs.Nodes.{Node}
-use Rattle.pns_rules.specs.Ends.{IsSound, IsReduced, IsUndecided, IsFirst}
+use Rattle.pns_rules.specs.Ends.{IsSound, IsReduced, IsUndecided, IsFirst, IsDead, IsNever}
 use Rattle.frac128.specs.declared.fraction.Frac.{Frac}
 use Rattle.tree_rules.specs.Tree.{leaf}
 use Rattle.tree_rules.specs.Claim.{Network, CostOver, IsFeasible}
@@ -46,8 +46,10 @@ abbrev pub cost_of : Option Network → Option CostOver
 cost_of None = None
 cost_of (Some w) = Some (cost_in w)
 
--- the network has flows, and costs no less than any number that no relaxed flows of the node undercut
+-- no needed material of the node is dead; the network has flows, and costs no less than any number that no relaxed flows of the
+-- node undercut
 pub record IsFoundAt (p : Problem) (n : Node) (w : Network) : Type 0 where
+  pub alive : IsNever (IsDead (shape_of p) n)
   pub feasible : IsFeasible p w
   pub positive : pos 1 ≤ℤ w.d
   pub no_less : (v : CostOver) → IsPositive v → IsUnder p v n → IsNoMore v (cost_in w)

@@ -6,10 +6,16 @@
 //!
 //! - `evaluator`: the trait, and what it tells
 //! - `looks`: a look at a node
+//! - `children`: a look at all children of a node
+//! - `costs`: costs over their scales, compared
 #![tactic(auto)]
 
+mod children;
+mod costs;
 mod evaluator;
 mod looks;
 
+pub use children::{Children, HaltedAt, look_at_children};
+pub use costs::is_no_more;
 pub use evaluator::{Bound, Evaluation, Evaluator, Halt};
 pub use looks::{Looked, Ready, look, open_cell};

@@ -43,7 +43,7 @@ pub struct Looked {
 }
 
 /// No cost.
-fn nothing() -> Frac {
+pub(crate) fn nothing() -> Frac {
     Frac::of(0, 1)
 }
 

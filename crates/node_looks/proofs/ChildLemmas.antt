@@ -1,0 +1,280 @@
+-- What a look at one child more adds to what is seen.
+use Rattle.std.proofs.Common.{◌≡◌, ℕ, ◌+◌, ◌<◌, true, false, Bool, List, [], ◌∷◌, ◌++◌, length, map, Option, Some, None, ℤ, ◌*ℤ◌, ◌≤ℤ◌, ◌↔◌, ◌⊎◌, IsTrue, refl, sym, ap, ◌∙◌, subst, arith, inl, inr, length-append, true≢false}
+use Rattle.std.specs.Prelude.{is_some}
+use Rattle.std.proofs.lemmas.Int.{ints}
+use Rattle.std.proofs.lemmas.List.{map-append, length-map, get_or_append_left, get_or-append-add}
+use Rattle.std.proofs.lemmas.Bool.{cases_eq}
+use Rattle.number_sets.specs.Options.{IsIn}
+use Rattle.problem_rules.specs.Problem.{Problem}
+use Rattle.problem_rules.specs.Validity.{IsValid}
+use Rattle.pns_rules.specs.Shape.{shape_of}
+use Rattle.pns_rules.specs.Nodes.{Node, options, child, IsOption}
+use Rattle.pns_rules.specs.Ends.{IsSound, IsReduced, IsUndecided, IsDead, IsNever}
+use Rattle.pns_rules.proofs.OptionLemmas.{options_all}
+use Rattle.pns_rules.proofs.ProperLemmas.{proper_if_valid}
+use Rattle.frac128.specs.declared.fraction.Frac.{Frac}
+use Rattle.tree_rules.specs.Tree.{leaf, after_all}
+use Rattle.tree_rules.specs.Claim as claims
+use Rattle.tree_rules.specs.Claim.{CostOver, claimed_cost, ClaimPasses}
+use Rattle.tree_rules.specs.Leaf.{Leaf, untried, LeafPasses}
+use Rattle.search_laws.proofs.ValueLemmas.{children_are_dearer}
+use Rattle.search_laws.proofs.SoundLemmas.{child_is_sound}
+use Rattle.search_tree.specs.Cells.{Cell, no_cell, place_of, cell_at}
+use Rattle.search_tree.specs.Fits.{Follows}
+use Rattle.search_tree.specs.declared.growth.Fresh.{Fresh}
+use Rattle.turn_laws.specs.Values.{IsPositive, IsUnder, HasFallen, IsPositiveCost}
+use Rattle.turn_laws.specs.Kept.{LastIsBelow}
+use Rattle.turn_laws.specs.Turns.{IsFreshChild}
+use Rattle.turn_laws.proofs.FractionLemmas.{fraction_trans}
+use Rattle.turn_laws.proofs.GrowLemmas.{leaf_fallen}
+use Rattle.turn_laws.proofs.KeptLemmas.{under_dearer}
+use Rattle.node_looks.specs.declared.evaluator.Halt.{Halt}
+use Rattle.node_looks.specs.declared.looks.Ready.{Ready}
+use Rattle.node_looks.specs.declared.looks.Looked.{Looked}
+use Rattle.node_looks.specs.declared.children.HaltedAt.{HaltedAt}
+use Rattle.node_looks.specs.declared.children.Children.{Children}
+use Rattle.node_looks.specs.Evaluated.{PastPlaces}
+use Rattle.node_looks.specs.Looks.{cost_of, AreFoundAt, IsHalted, IsOpenAs}
+use Rattle.node_looks.specs.Children.{claim_with, IsBest, IsImproved, cells_of, values_of, AreReady, IsChildAs, IsChild, HaltHolds, halt_after, AreSeen}
+use Rattle.node_looks.proofs.OptionWalk.{IsAhead}
+
+pub same_costs : (t : Bool) (a a' b b' c c' d d' : ℤ) → a ≡ a' → b ≡ b' → c ≡ c' → d ≡ d' → (IsTrue t ↔ ((a *ℤ d) ≤ℤ (c *ℤ b))) → IsTrue t ↔ ((a' *ℤ d') ≤ℤ (c' *ℤ b'))
+same_costs t a a' b b' c c' d d' ea eb ec ed h =
+    subst (λ (z : ℤ). IsTrue t ↔ ((a' *ℤ z) ≤ℤ (c' *ℤ b'))) ed
+    (subst (λ (z : ℤ). IsTrue t ↔ ((a' *ℤ d) ≤ℤ (z *ℤ b'))) ec
+    (subst (λ (z : ℤ). IsTrue t ↔ ((a' *ℤ d) ≤ℤ (c *ℤ z))) eb
+    (subst (λ (z : ℤ). IsTrue t ↔ ((z *ℤ d) ≤ℤ (c *ℤ b))) ea h)))
+
+-- ---- the best network
+
+pub cost_is : (w : Option claims.Network) → cost_of w ≡ claimed_cost (claim_with w)
+cost_is None = refl
+cost_is (Some w) = refl
+
+fallen_same : (c : Option CostOver) → HasFallen c c
+fallen_same None = tt
+fallen_same (Some v) = omega (arith, ints)
+
+pub same_best : (p : Problem) (n : Node) (best : Option claims.Network) → IsBest p best → IsImproved p n best best
+same_best p n best b = record { best = b; fallen = fallen_same (claimed_cost (claim_with best)); below = λ v pv u l. l }
+
+found_best : (p : Problem) (n : Node) (w : Option claims.Network) → AreFoundAt p n w → IsBest p w
+found_best p n None f = record { passes = refl; positive = tt }
+found_best p n (Some w) f = record { passes = f.feasible; positive = f.positive }
+
+found_below : (p : Problem) (n : Node) (w : Option claims.Network) → AreFoundAt p n w → (v : CostOver) → IsPositive v → (IsNever (IsDead (shape_of p) n) → IsUnder p v n)
+    → LastIsBelow (Some v) (claimed_cost (claim_with w))
+found_below p n None f v pv u = tt
+found_below p n (Some w) f v pv u = f.no_less v pv (u f.alive)
+
+is_best : (p : Problem) (n : Node) (old found new : Option claims.Network) → IsBest p old → AreFoundAt p n found → (new ≡ old) ⊎ (new ≡ found) → IsBest p new
+is_best p n old found new b f (inl e) = subst (λ (w : Option claims.Network). IsBest p w) (sym e) b
+is_best p n old found new b f (inr e) = subst (λ (w : Option claims.Network). IsBest p w) (sym e) (found_best p n found f)
+
+last_below : (p : Problem) (n m : Node) (first old found new : Option claims.Network) → IsImproved p n first old → AreFoundAt p m found → (new ≡ old) ⊎ (new ≡ found)
+    → ((v : CostOver) → IsPositive v → IsUnder p v n → IsNever (IsDead (shape_of p) m) → IsUnder p v m)
+    → (v : CostOver) → IsPositive v → IsUnder p v n → LastIsBelow (Some v) (claimed_cost (claim_with first)) → LastIsBelow (Some v) (claimed_cost (claim_with new))
+last_below p n m first old found new i f (inl e) dearer v pv u l = subst (λ (w : Option claims.Network). LastIsBelow (Some v) (claimed_cost (claim_with w))) (sym e) (i.below v pv u l)
+last_below p n m first old found new i f (inr e) dearer v pv u l =
+    subst (λ (w : Option claims.Network). LastIsBelow (Some v) (claimed_cost (claim_with w))) (sym e) (found_below p m found f v pv (dearer v pv u))
+
+fallen_trans : (a b c : Option CostOver) → IsPositiveCost a → IsPositiveCost b → IsPositiveCost c → HasFallen a b → HasFallen b c → HasFallen a c
+fallen_trans None b c pa pb pc h k = tt
+fallen_trans (Some a) None c pa pb pc h k = absurd h
+fallen_trans (Some a) (Some b) None pa pb pc h k = absurd k
+fallen_trans (Some a) (Some b) (Some c) pa pb pc h k = fraction_trans c.cost c.d b.cost b.d a.cost a.d pc pb pa k h
+
+-- ---- what is at hand
+
+pub ready_more : (p : Problem) (cs : List Cell) (vs : List Frac) (rs : List (Option Ready)) (cs' : List Cell) (vs' : List Frac) (rs' : List (Option Ready))
+    → AreReady p cs vs rs → AreReady p cs' vs' rs' → AreReady p (cs ++ cs') (vs ++ vs') (rs ++ rs')
+ready_more p [] [] [] cs' vs' rs' h k = k
+ready_more p (c ∷ cs) (v ∷ vs) (r ∷ rs) cs' vs' rs' h k = (h.0, ready_more p cs vs rs cs' vs' rs' h.1 k)
+ready_more p [] [] (r ∷ rs) cs' vs' rs' h k = absurd h
+ready_more p [] (v ∷ vs) rs cs' vs' rs' h k = absurd h
+ready_more p (c ∷ cs) [] rs cs' vs' rs' h k = absurd h
+ready_more p (c ∷ cs) (v ∷ vs) [] cs' vs' rs' h k = absurd h
+
+-- ---- one child more
+
+-- what is known between two looks
+pub record IsWalking (Past : PastPlaces) (p : Problem) (n : Node) (x : ℕ) (base free : List ℕ) (best : Option claims.Network) (c : Children) (next : Option (List ℕ)) : Type 0 where
+  pub ahead : IsAhead base free (map (λ (d : Cell). d.option) (cells_of c.kids.items)) next
+  pub each : (k : ℕ) → k < length (cells_of c.kids.items) → IsFreshChild p (claimed_cost (claim_with c.best)) n x (cell_at (cells_of c.kids.items) k)
+  pub improved : IsImproved p n best c.best
+  pub same_length : length c.ready.items ≡ length c.kids.items
+  pub halt_holds : HaltHolds Past p c.kids.items c.ready.items c.halt
+
+module _ (p : Problem) (valid : IsValid p) (n : Node) (x : ℕ) (sound : IsSound (shape_of p) n) (reduced : IsReduced (shape_of p) n) (undecided : IsUndecided (shape_of p) n x) (t : List ℕ)
+    (option : IsIn t (options (shape_of p) n x)) where
+  is_option : IsOption (shape_of p) n x t
+  is_option = (options_all (shape_of p) n x t (proper_if_valid p valid) sound.apart).0 option
+
+  pub sound_child : IsSound (shape_of p) (child (shape_of p) n x t)
+  sound_child = child_is_sound (shape_of p) n x t sound reduced undecided.needed is_option
+
+  dearer_child : (c : Cell) → Follows (shape_of p) (child (shape_of p) n x t) c → (v : CostOver) → IsPositive v → IsUnder p v n → IsNever (IsDead (shape_of p) (place_of c)) → IsUnder p v (place_of c)
+  dearer_child c f v pv u alive =
+      subst (λ (m : Node). IsUnder p v m) f.leave
+      (under_dearer p n (after_all (shape_of p) (child (shape_of p) n x t) c.steps) v pv u
+      (children_are_dearer p valid n x t c.steps sound.apart is_option f.pass (subst (λ (m : Node). IsNever (IsDead (shape_of p) m)) (sym f.leave) alive)))
+
+  module _ (Past : PastPlaces) (best : Option claims.Network) (first_positive : IsPositiveCost (claimed_cost (claim_with best))) (old new : Children) (l : Looked) (halted : Bool) (ib : IsImproved p n best old.best) (ic : IsChild Past p (child (shape_of p) n x t) t halted l)
+      (kids : new.kids.items ≡ old.kids.items ++ record { cell = l.cell; value = l.value } ∷ [])
+      (which : (new.best ≡ old.best) ⊎ (new.best ≡ l.network)) (fallen : HasFallen (cost_of old.best) (cost_of new.best)) (fallen_found : HasFallen (cost_of l.network) (cost_of new.best)) where
+    abbrev fresh : Fresh
+    fresh = record { cell = l.cell; value = l.value }
+
+    new_best : IsBest p new.best
+    new_best = is_best p (place_of l.cell) old.best l.network new.best ib.best ic.found which
+
+    fallen' : HasFallen (claimed_cost (claim_with old.best)) (claimed_cost (claim_with new.best))
+    fallen' = subst (λ (a : Option CostOver). HasFallen a (claimed_cost (claim_with new.best))) (cost_is old.best) (subst (λ (a : Option CostOver). HasFallen (cost_of old.best) a) (cost_is new.best) fallen)
+
+    follows' : Follows (shape_of p) (child (shape_of p) n x l.cell.option) l.cell
+    follows' = subst (λ (o : List ℕ). Follows (shape_of p) (child (shape_of p) n x o) l.cell) (sym ic.option_is) ic.follows
+
+    pub improved_more : IsImproved p n best new.best
+    improved_more = record {
+      best = new_best;
+      fallen = fallen_trans (claimed_cost (claim_with best)) (claimed_cost (claim_with old.best)) (claimed_cost (claim_with new.best)) first_positive ib.best.positive new_best.positive ib.fallen fallen';
+      below = last_below p n (place_of l.cell) best old.best l.network new.best ib ic.found which (dearer_child l.cell ic.follows);
+    }
+
+    cells_more : cells_of new.kids.items ≡ cells_of old.kids.items ++ l.cell ∷ []
+    cells_more = ap (λ (fs : List Fresh). cells_of fs) kids ∙ map-append (λ (f : Fresh). f.cell) old.kids.items (fresh ∷ [])
+
+    values_more : values_of new.kids.items ≡ values_of old.kids.items ++ l.value ∷ []
+    values_more = ap (λ (fs : List Fresh). values_of fs) kids ∙ map-append (λ (f : Fresh). f.value) old.kids.items (fresh ∷ [])
+
+    pub options_more : map (λ (d : Cell). d.option) (cells_of new.kids.items) ≡ map (λ (d : Cell). d.option) (cells_of old.kids.items) ++ t ∷ []
+    options_more =
+        ap (λ (cs : List Cell). map (λ (d : Cell). d.option) cs) cells_more
+        ∙ (map-append (λ (d : Cell). d.option) (cells_of old.kids.items) (l.cell ∷ []) ∙ ap (λ (o : List ℕ). map (λ (d : Cell). d.option) (cells_of old.kids.items) ++ o ∷ []) ic.option_is)
+
+    old_positive : IsPositiveCost (claimed_cost (claim_with old.best))
+    old_positive = ib.best.positive
+
+    this_child : IsFreshChild p (claimed_cost (claim_with new.best)) n x l.cell
+    this_child = record {
+      follows = follows';
+      sound = ic.sound;
+      what = ic.what;
+      end_is = ic.end_is;
+      passes = subst (λ (a : Option CostOver). LeafPasses true p a (place_of l.cell) ic.what) (cost_is new.best)
+          (leaf_fallen p (cost_of l.network) (cost_of new.best) (place_of l.cell) ic.what fallen_found
+          (subst IsPositiveCost (sym (cost_is l.network)) (found_best p (place_of l.cell) l.network ic.found).positive) (subst IsPositiveCost (sym (cost_is new.best)) new_best.positive) ic.passes);
+    }
+
+    pub each_more : ((k : ℕ) → k < length (cells_of old.kids.items) → IsFreshChild p (claimed_cost (claim_with old.best)) n x (cell_at (cells_of old.kids.items) k))
+        → (k : ℕ) → k < length (cells_of new.kids.items) → IsFreshChild p (claimed_cost (claim_with new.best)) n x (cell_at (cells_of new.kids.items) k)
+    each_more each k lt = elim (cases_eq k (length (cells_of old.kids.items))) [
+      | inl e ↦ subst (λ (c : Cell). IsFreshChild p (claimed_cost (claim_with new.best)) n x c)
+          (sym (ap (λ (cs : List Cell). cell_at cs k) cells_more ∙ (ap (λ i. cell_at (cells_of old.kids.items ++ l.cell ∷ []) i) (e ∙ sym plus_zero) ∙ get_or-append-add (cells_of old.kids.items) (l.cell ∷ []) 0 no_cell))) this_child
+      | inr ne ↦
+          let count = ap (λ (cs : List Cell). length cs) cells_more ∙ length-append (cells_of old.kids.items) (l.cell ∷ []) in
+          let less : k < length (cells_of old.kids.items) = omega (arith, lt, count, ne) in
+          let f = each k less in
+          subst (λ (c : Cell). IsFreshChild p (claimed_cost (claim_with new.best)) n x c)
+          (sym (ap (λ (cs : List Cell). cell_at cs k) cells_more ∙ get_or_append_left (cells_of old.kids.items) (l.cell ∷ []) no_cell k less))
+          (record {
+            follows = f.follows;
+            sound = f.sound;
+            what = f.what;
+            end_is = f.end_is;
+            passes = leaf_fallen p (claimed_cost (claim_with old.best)) (claimed_cost (claim_with new.best)) (place_of (cell_at (cells_of old.kids.items) k)) f.what fallen' old_positive new_best.positive f.passes;
+          })
+    ]
+      where
+        plus_zero : length (cells_of old.kids.items) + 0 ≡ length (cells_of old.kids.items)
+        plus_zero = omega arith
+
+    -- ---- the halt
+    at_last : cell_at (cells_of new.kids.items) (length old.kids.items) ≡ l.cell
+    at_last =
+        ap (λ (cs : List Cell). cell_at cs (length old.kids.items)) cells_more
+        ∙ (ap (λ i. cell_at (cells_of old.kids.items ++ l.cell ∷ []) i) (sym (length-map old.kids.items (λ (f : Fresh). f.cell)) ∙ plus_zero) ∙ get_or-append-add (cells_of old.kids.items) (l.cell ∷ []) 0 no_cell)
+      where
+        plus_zero : length (cells_of old.kids.items) ≡ length (cells_of old.kids.items) + 0
+        plus_zero = omega arith
+
+    longer : length new.kids.items ≡ length old.kids.items + 1
+    longer = ap (λ (fs : List Fresh). length fs) kids ∙ length-append old.kids.items (fresh ∷ [])
+
+    halts_now : (h : Halt) → IsOpenAs Past p (place_of l.cell) ic.what l.value l.ready (Some h) → HaltHolds Past p new.kids.items new.ready.items (Some (record { at = length old.kids.items; halt = h }))
+    halts_now h o = (
+      let e = longer in omega (arith, e),
+      subst (λ (c : Cell). c.end ≡ leaf untried) (sym at_last) (ic.end_is ∙ ap (λ (w : Leaf). leaf w) o.0),
+      subst (λ (c : Cell). IsHalted Past p (place_of c) h) (sym at_last) o.1,
+    )
+
+    halts_still : (h : HaltedAt) → HaltHolds Past p old.kids.items old.ready.items (Some h) → HaltHolds Past p new.kids.items new.ready.items (Some h)
+    halts_still h o =
+        let count = length-map old.kids.items (λ (f : Fresh). f.cell) in
+        let lt = o.0 in
+        let here : cell_at (cells_of new.kids.items) h.at ≡ cell_at (cells_of old.kids.items) h.at
+        = ap (λ (cs : List Cell). cell_at cs h.at) cells_more ∙ get_or_append_left (cells_of old.kids.items) (l.cell ∷ []) no_cell h.at (omega (arith, lt, count)) in (
+          let e = longer in omega (arith, e, lt),
+          subst (λ (c : Cell). c.end ≡ leaf untried) (sym here) o.1,
+          subst (λ (c : Cell). IsHalted Past p (place_of c) h.halt) (sym here) o.2,
+        )
+
+    is_ready : IsOpenAs Past p (place_of l.cell) ic.what l.value l.ready None → new.ready.items ≡ old.ready.items ++ l.ready ∷ []
+        → HaltHolds Past p old.kids.items old.ready.items None → HaltHolds Past p new.kids.items new.ready.items None
+    is_ready o er h =
+        subst (λ (rs : List (Option Ready)). AreReady p (cells_of new.kids.items) (values_of new.kids.items) rs) (sym er)
+        (subst (λ (cs : List Cell). AreReady p cs (values_of new.kids.items) (old.ready.items ++ l.ready ∷ [])) (sym cells_more)
+        (subst (λ (vs : List Frac). AreReady p (cells_of old.kids.items ++ l.cell ∷ []) vs (old.ready.items ++ l.ready ∷ [])) (sym values_more)
+        (ready_more p (cells_of old.kids.items) (values_of old.kids.items) old.ready.items (l.cell ∷ []) (l.value ∷ []) (l.ready ∷ []) h
+        ((λ e. o (let q : leaf ic.what ≡ leaf untried = sym ic.end_is ∙ e in cc)), tt))))
+
+    halt_by : (oh : Option HaltedAt) (lh : Option Halt) (b : Bool) → b ≡ is_some oh → HaltHolds Past p old.kids.items old.ready.items oh → IsChildAs Past p (place_of l.cell) ic.what l.value l.ready lh b
+        → new.ready.items ≡ old.ready.items ++ l.ready ∷ [] → HaltHolds Past p new.kids.items new.ready.items (halt_after oh (length old.kids.items) lh)
+    halt_by None None false e h o er = is_ready o er h
+    halt_by None (Some lh) false e h o er = halts_now lh o
+    halt_by None lh true e h o er = absurd (true≢false e)
+    halt_by (Some oh) None b e h o er = halts_still oh h
+    halt_by (Some oh) (Some lh) false e h o er = absurd (true≢false (sym e))
+    halt_by (Some oh) (Some lh) true e h o er = absurd (let q : Some lh ≡ None = o in cc)
+
+    pub halt_more : halted ≡ is_some old.halt → HaltHolds Past p old.kids.items old.ready.items old.halt → new.ready.items ≡ old.ready.items ++ l.ready ∷ []
+        → new.halt ≡ halt_after old.halt (length old.kids.items) l.halt → HaltHolds Past p new.kids.items new.ready.items new.halt
+    halt_more e h er eh = subst (λ (o : Option HaltedAt). HaltHolds Past p new.kids.items new.ready.items o) (sym eh) (halt_by old.halt l.halt halted e h ic.open_as er)
+
+    pub length_more : length old.ready.items ≡ length old.kids.items → new.ready.items ≡ old.ready.items ++ l.ready ∷ [] → length new.ready.items ≡ length new.kids.items
+    length_more e er =
+        let a = ap (λ (rs : List (Option Ready)). length rs) er ∙ length-append old.ready.items (l.ready ∷ []) in
+        let b = longer in
+        omega (arith, a, b, e)
+
+    -- ---- all of it
+    pub walk_more : (base free : List ℕ) (now next : Option (List ℕ)) → IsWalking Past p n x base free best old now → IsAhead base free (map (λ (d : Cell). d.option) (cells_of old.kids.items) ++ t ∷ []) next
+        → halted ≡ is_some old.halt → new.ready.items ≡ old.ready.items ++ l.ready ∷ [] → new.halt ≡ halt_after old.halt (length old.kids.items) l.halt → IsWalking Past p n x base free best new next
+    walk_more base free now next w ahead e er eh = record {
+      ahead = subst (λ (done : List (List ℕ)). IsAhead base free done next) (sym options_more) ahead;
+      each = each_more w.each;
+      improved = improved_more;
+      same_length = length_more w.same_length er;
+      halt_holds = halt_more e w.halt_holds er eh;
+    }
+
+pub walk_first : (Past : PastPlaces) (p : Problem) (n : Node) (x : ℕ) (base free : List ℕ) (best : Option claims.Network) (c : Children) (next : Option (List ℕ)) → IsBest p best
+    → c.kids.items ≡ [] → c.ready.items ≡ [] → c.best ≡ best → c.halt ≡ None → IsAhead base free [] next → IsWalking Past p n x base free best c next
+walk_first Past p n x base free best c next b ek er eb eh ahead = record {
+  ahead = subst (λ (fs : List Fresh). IsAhead base free (map (λ (d : Cell). d.option) (cells_of fs)) next) (sym ek) ahead;
+  each = λ k lt. absurd (let e = ap (λ (fs : List Fresh). length (cells_of fs)) ek in omega (arith, lt, e));
+  improved = subst (λ (w : Option claims.Network). IsImproved p n best w) (sym eb) (same_best p n best b);
+  same_length = ap (λ (rs : List (Option Ready)). length rs) er ∙ sym (ap (λ (fs : List Fresh). length fs) ek);
+  halt_holds = subst (λ (h : Option HaltedAt). HaltHolds Past p c.kids.items c.ready.items h) (sym eh)
+      (subst (λ (fs : List Fresh). AreReady p (cells_of fs) (values_of fs) c.ready.items) (sym ek)
+      (subst (λ (rs : List (Option Ready)). AreReady p [] [] rs) (sym er) tt));
+}
+
+pub walk_ends : (Past : PastPlaces) (p : Problem) (n : Node) (x : ℕ) (base free : List ℕ) (best : Option claims.Network) (c : Children) → IsWalking Past p n x base free best c None
+    → map (λ (d : Cell). d.option) (cells_of c.kids.items) ≡ options (shape_of p) n x → AreSeen Past p n x best c
+walk_ends Past p n x base free best c w e = record {
+  children = record { options_are = e; each = w.each };
+  improved = w.improved;
+  same_length = w.same_length;
+  halt_holds = w.halt_holds;
+}

@@ -1,0 +1,94 @@
+-- What a search sees of all children of a node, and the cheapest network that it knows then.
+use Rattle.std.specs.Prelude.{◌≡◌, ℕ, ◌<◌, Bool, true, false, List, [], ◌∷◌, length, map, Option, Some, None}
+use Rattle.problem_rules.specs.Problem.{Problem}
+use Rattle.pns_rules.specs.Shape.{shape_of}
+use Rattle.pns_rules.specs.Nodes.{Node}
+use Rattle.pns_rules.specs.Ends.{IsSound}
+use Rattle.frac128.specs.declared.fraction.Frac.{Frac}
+use Rattle.tree_rules.specs.Tree.{leaf}
+use Rattle.tree_rules.specs.Claim as claims
+use Rattle.tree_rules.specs.Claim.{CostOver, claimed_cost, ClaimPasses}
+use Rattle.tree_rules.specs.Leaf.{Leaf, untried, LeafPasses}
+use Rattle.search_tree.specs.Cells.{Cell, place_of, cell_at}
+use Rattle.search_tree.specs.Fits.{Follows}
+use Rattle.search_tree.specs.declared.growth.Fresh.{Fresh}
+use Rattle.turn_laws.specs.Values.{IsPositive, IsUnder, HasFallen, IsPositiveCost}
+use Rattle.turn_laws.specs.Kept.{LastIsBelow}
+use Rattle.turn_laws.specs.Turns.{AreChildren}
+use Rattle.node_looks.specs.declared.evaluator.Halt.{Halt}
+use Rattle.node_looks.specs.declared.looks.Ready.{Ready}
+use Rattle.node_looks.specs.declared.looks.Looked.{Looked}
+use Rattle.node_looks.specs.declared.children.HaltedAt.{HaltedAt}
+use Rattle.node_looks.specs.declared.children.Children.{Children}
+use Rattle.node_looks.specs.Evaluated.{PastPlaces}
+use Rattle.node_looks.specs.Looks.{cost_of, AreFoundAt, IsSomeReady, IsHalted, IsOpenAs}
+
+-- ---- the cheapest network
+
+-- the claim of the best network, nothing where there is none
+abbrev pub claim_with : Option claims.Network → claims.Claim
+claim_with (Some w) = claims.network w
+claim_with None = claims.unknown
+
+-- the network passes, and its cost is over a number above 0
+pub record IsBest (p : Problem) (best : Option claims.Network) : Type 0 where
+  pub passes : ClaimPasses true p (claim_with best)
+  pub positive : IsPositiveCost (claimed_cost (claim_with best))
+
+-- a network of nodes below n: it costs no more than the old one, and no less than any number that no relaxed flows of n undercut,
+-- where the old one did not
+pub record IsImproved (p : Problem) (n : Node) (old new : Option claims.Network) : Type 0 where
+  pub best : IsBest p new
+  pub fallen : HasFallen (claimed_cost (claim_with old)) (claimed_cost (claim_with new))
+  pub below : (v : CostOver) → IsPositive v → IsUnder p v n → LastIsBelow (Some v) (claimed_cost (claim_with old)) → LastIsBelow (Some v) (claimed_cost (claim_with new))
+
+-- ---- cells with their values, and what is at hand for those that are open
+
+abbrev pub cells_of : List Fresh → List Cell
+cells_of fs = map (λ (f : Fresh). f.cell) fs
+
+abbrev pub values_of : List Fresh → List Frac
+values_of fs = map (λ (f : Fresh). f.value) fs
+
+abbrev pub AreReady : Problem → List Cell → List Frac → List (Option Ready) → Type 0
+AreReady p [] [] [] = Unit {0}
+AreReady p (c ∷ cs) (v ∷ vs) (r ∷ rs) = (c.end ≡ leaf untried → IsSomeReady p (place_of c) v r) × AreReady p cs vs rs
+AreReady p [] [] (r ∷ rs) = ⊥
+AreReady p [] (v ∷ vs) rs = ⊥
+AreReady p (c ∷ cs) [] rs = ⊥
+AreReady p (c ∷ cs) (v ∷ vs) [] = ⊥
+
+-- ---- a child
+
+-- no child is looked at behind one that halts the search
+abbrev pub IsChildAs : PastPlaces → Problem → Node → Leaf → Frac → Option Ready → Option Halt → Bool → Type 0
+IsChildAs Past p n what value ready halt false = IsOpenAs Past p n what value ready halt
+IsChildAs Past p n what value ready halt true = halt ≡ None
+
+pub record IsChild (Past : PastPlaces) (p : Problem) (start : Node) (option : List ℕ) (halted : Bool) (l : Looked) : Type 0 where
+  pub option_is : l.cell.option ≡ option
+  pub follows : Follows (shape_of p) start l.cell
+  pub sound : IsSound (shape_of p) (place_of l.cell)
+  pub what : Leaf
+  pub end_is : l.cell.end ≡ leaf what
+  pub passes : LeafPasses true p (cost_of l.network) (place_of l.cell) what
+  pub found : AreFoundAt p (place_of l.cell) l.network
+  pub open_as : IsChildAs Past p (place_of l.cell) what l.value l.ready l.halt halted
+
+-- ---- all children
+
+-- all open children are ready, or one halts the search
+abbrev pub HaltHolds : PastPlaces → Problem → List Fresh → List (Option Ready) → Option HaltedAt → Type 0
+HaltHolds Past p kids ready None = AreReady p (cells_of kids) (values_of kids) ready
+HaltHolds Past p kids ready (Some h) =
+    (h.at < length kids) × ((cell_at (cells_of kids) h.at).end ≡ leaf untried) × IsHalted Past p (place_of (cell_at (cells_of kids) h.at)) h.halt
+
+abbrev pub halt_after : Option HaltedAt → ℕ → Option Halt → Option HaltedAt
+halt_after old at None = old
+halt_after old at (Some h) = Some (record { at = at; halt = h })
+
+pub record AreSeen (Past : PastPlaces) (p : Problem) (n : Node) (x : ℕ) (best : Option claims.Network) (c : Children) : Type 0 where
+  pub children : AreChildren p (claimed_cost (claim_with c.best)) n x (cells_of c.kids.items)
+  pub improved : IsImproved p n best c.best
+  pub same_length : length c.ready.items ≡ length c.kids.items
+  pub halt_holds : HaltHolds Past p c.kids.items c.ready.items c.halt

@@ -1,0 +1,165 @@
+//! A look at all children of a node.
+ghost use Rattle.std.specs.Prelude.{◌≡◌, ◌⊎◌, ◌↔◌, ◌++◌, ◌∷◌, [], ◌<◌, IsTrue, true, false, Some, None, IfOk, OnOk, length};
+ghost use Rattle.pns_rules.specs.Shape.{shape_of};
+ghost use Rattle.pns_rules.specs.Ends.{IsSound, IsReduced, IsUndecided};
+ghost use Rattle.pgraph.specs.Tables.{shape};
+ghost use Rattle.pgraph.specs.View.{node_of};
+ghost use Rattle.turn_laws.specs.Values.{IsNoMore, HasFallen};
+ghost use Rattle.node_looks.specs.Evaluated.{cost_in};
+ghost use Rattle.node_looks.specs.Looks.{cost_of};
+ghost use Rattle.node_looks.specs.Children.{IsBest, IsChild, AreSeen, halt_after};
+
+use crate::costs::is_no_more;
+use crate::evaluator::{Evaluator, Halt};
+use crate::looks::{Looked, Ready, look, nothing, open_cell};
+use branch_tree::{Network, Steps};
+use cert_parts::child;
+use pgraph::Graph;
+use pns_problem::Problem;
+use search_tree::Fresh;
+use std::alloc::{AllocError, Global};
+use unit_sets::{Node, UnitSet};
+
+/// A child by its number among the children, and why it halts the search.
+#[derive(Drop)]
+pub struct HaltedAt {
+    pub at: usize,
+    pub halt: Halt,
+}
+
+/// The children of a node in the order of their options, with what is at hand for each; the best network; and the first child that
+/// halts the search. Those behind it are not looked at.
+#[derive(Drop)]
+pub struct Children {
+    pub kids: Vec<Fresh>,
+    pub ready: Vec<Option<Ready>>,
+    pub best: Option<Network>,
+    pub halt: Option<HaltedAt>,
+}
+
+/// Whether the first network costs no more than the second.
+fn costs_no_more(a: &Network, b: &Network) -> bool
+    ensures { IsTrue result ↔ IsNoMore (cost_in a.now) (cost_in b.now) }
+{
+    a.is_sized();
+    b.is_sized();
+    is_no_more(a.cost(), a.d(), b.cost(), b.d())
+}
+
+/// The cheaper network, the old one where they cost the same.
+fn cheaper(old: Option<Network>, found: Option<Network>) -> Option<Network>
+    ensures which { (result ≡ old) ⊎ (result ≡ found) }
+    ensures old { HasFallen (cost_of old) (cost_of result) }
+    ensures found { HasFallen (cost_of found) (cost_of result) }
+{
+    let Some(new) = found else {
+        return old;
+    };
+    let Some(best) = old else {
+        return Some(new);
+    };
+    if costs_no_more(&best, &new) {
+        Some(best)
+    } else {
+        Some(new)
+    }
+}
+
+fn halted_after(old: Option<HaltedAt>, at: usize, halt: Option<Halt>) -> Option<HaltedAt>
+    ensures { result ≡ halt_after old at halt }
+{
+    match halt {
+        None => old,
+        Some(halt) => Some(HaltedAt { at, halt }),
+    }
+}
+
+/// The children with one more.
+fn with_child(children: Children, looked: Looked) -> Result<Children, AllocError>
+    ensures kids { IfOk result (λ c. c.kids.items ≡ children.kids.items ++ record { cell = looked.cell; value = looked.value } ∷ []) }
+    ensures ready { IfOk result (λ c. c.ready.items ≡ children.ready.items ++ looked.ready ∷ []) }
+    ensures which { IfOk result (λ c. (c.best ≡ children.best) ⊎ (c.best ≡ looked.network)) }
+    ensures old { IfOk result (λ c. HasFallen (cost_of children.best) (cost_of c.best)) }
+    ensures found { IfOk result (λ c. HasFallen (cost_of looked.network) (cost_of c.best)) }
+    ensures halt { IfOk result (λ c. c.halt ≡ halt_after children.halt (length children.kids.items) looked.halt) }
+{
+    let mut kids = children.kids;
+    let mut ready = children.ready;
+    let at = kids.len();
+    kids.push(Fresh {
+        cell: looked.cell,
+        value: looked.value,
+    })?;
+    ready.push(looked.ready)?;
+    Ok(Children {
+        kids,
+        ready,
+        best: cheaper(children.best, looked.network),
+        halt: halted_after(children.halt, at, looked.halt),
+    })
+}
+
+/// Looks at a child, or leaves it open where another halts the search.
+fn look_or_wait<E: Evaluator>(
+    alloc: Global,
+    evaluator: &mut E,
+    problem: &Problem,
+    graph: &Graph,
+    option: UnitSet,
+    start: Node,
+    halted: bool,
+) -> Result<Looked, AllocError>
+    requires graph { shape graph.now ≡ shape_of problem.now }
+    requires sound { IsSound (shape_of problem.now) (node_of start) }
+    ensures { IfOk result (IsChild E.past problem.now (node_of start) option halted) }
+{
+    if !halted {
+        return look(alloc, evaluator, problem, graph, option, start);
+    }
+    Ok(Looked {
+        cell: open_cell(option, Steps::from_vec(Vec::new(alloc)), start),
+        value: nothing(),
+        ready: None,
+        network: None,
+        halt: None,
+    })
+}
+
+/// Looks at all children of a node at the material, in the order of their options.
+pub fn look_at_children<E: Evaluator>(
+    alloc: Global,
+    evaluator: &mut E,
+    problem: &Problem,
+    graph: &Graph,
+    node: Node,
+    material: u32,
+    best: Option<Network>,
+) -> Result<Children, AllocError>
+    requires graph { shape graph.now ≡ shape_of problem.now }
+    requires sound { IsSound (shape_of problem.now) (node_of node) }
+    requires reduced { IsReduced (shape_of problem.now) (node_of node) }
+    requires undecided { IsUndecided (shape_of problem.now) (node_of node) material }
+    requires known { material < (shape graph.now).materials }
+    requires best { IsBest problem.now best }
+    ensures { IfOk result (AreSeen E.past problem.now (node_of node) material best) }
+{
+    problem.is_valid();
+    let (base, free) = graph.options(node, material);
+    base.rises();
+    free.rises();
+    let mut children = Children {
+        kids: Vec::new(alloc),
+        ready: Vec::new(alloc),
+        best,
+        halt: None,
+    };
+    let mut next = UnitSet::first_option(base, free);
+    'options: while let Some(option) = next {
+        let start = child(graph, &node, material, option);
+        let halted = children.halt.is_some();
+        let looked = look_or_wait(alloc, evaluator, problem, graph, option, start, halted)?;
+        children = with_child(children, looked)?;
+        next = option.next_option(base, free);
+    }
+    Ok(children)
+}
