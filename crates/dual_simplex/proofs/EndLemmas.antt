@@ -8,10 +8,10 @@ use Rattle.path_rules.specs.Multipliers.{AreMultipliers, AreRefuting}
 use Rattle.std.proofs.lemmas.Int.{ints}
 use Rattle.path_rules.specs.ReadFlows.{AreRead}
 use Rattle.flow_reading.specs.Reading.{IsOwnPositive}
-use Rattle.dual_simplex.specs.Bench.{Bench, IsLeastOf, IsNoneOf, AreFlowsOf}
+use Rattle.dual_simplex.specs.Bench.{IsLeastOf, IsNoneOf, AreFlowsOf}
 use Rattle.std.specs.Prelude.{ℤ, pos, ◌<ℤ◌, ◌≤ℤ◌}
 use Rattle.path_rules.specs.LinearProgram.{LinearProgram}
-use Rattle.path_rules.specs.Columns.{columns, scale_at}
+use Rattle.path_rules.specs.Columns.{scale_at}
 use Rattle.path_laws.proofs.LawLemmas.{basis_is_of_columns}
 use Rattle.tableau_rows.specs.Rows.{Rows, table, basis}
 use Rattle.pivots.specs.Choice.{columns_of, scale_of}

@@ -1,6 +1,6 @@
 -- An exchange of the rows is a step of the path.
-use Rattle.std.proofs.Common.{◌≡◌, ◌≢◌, ◌⊎◌, ℕ, suc, ◌+◌, ◌-◌, ◌*◌, ◌<◌, ◌≤◌, inl, inr, Bool, true, false, cond, nat_eq, arith, refl, ap, sym, ◌∙◌, subst, List, length, get_or, take, drop, None, Some}
-use Rattle.std.specs.Prelude.{ℤ, pos, ◌-ℤ◌, ◌*ℤ◌, ◌<ℤ◌, Option}
+use Rattle.std.proofs.Common.{◌≡◌, ◌≢◌, ℕ, suc, ◌+◌, ◌-◌, ◌*◌, ◌<◌, ◌≤◌, inl, inr, true, false, arith, refl, ap, sym, ◌∙◌, subst, List, length, get_or, drop, None, Some}
+use Rattle.std.specs.Prelude.{ℤ, pos, ◌-ℤ◌, ◌*ℤ◌, ◌<ℤ◌}
 use Rattle.std.proofs.lemmas.Int.{ints}
 use Rattle.std.proofs.lemmas.Bool.Decides.{eqb_tells}
 use Rattle.std.proofs.lemmas.List.{length-take-le}
@@ -13,13 +13,13 @@ use Rattle.int_rows.specs.Combined as rows
 use Rattle.int_rows.specs.Lowest.{IsLowest}
 use Rattle.int_rows.proofs.LowestLemmas.{lowest_same}
 use Rattle.path_rules.specs.LinearProgram.{LinearProgram}
-use Rattle.path_rules.specs.Columns.{Basis, Has, exchanged, scale_at}
+use Rattle.path_rules.specs.Columns.{Has, exchanged, scale_at}
 use Rattle.path_rules.specs.Tableau.{IsTableau, IsPrimitive}
-use Rattle.path_rules.specs.Pivots.{HasPivot, IsCombined, IsPivoted}
+use Rattle.path_rules.specs.Pivots.{HasPivot, IsCombined}
 use Rattle.path_rules.specs.Path.{Fits, IsPastEntry}
 use Rattle.path_laws.specs.Phases.{IsExchange}
 use Rattle.range_laws.proofs.RowLemmas.{rows_are_combined, rows_are_primitive}
-use Rattle.tableau_rows.specs.Rows.{Rows, width, row_at, row_of, table, basis, AreRows}
+use Rattle.tableau_rows.specs.Rows.{Rows, width, row_of, table, basis, AreRows}
 use Rattle.tableau_rows.specs.Exchange.{IsStepped, IsPastStep, IsExchanged}
 use Rattle.pivots.specs.Choice.{IsOfSize}
 

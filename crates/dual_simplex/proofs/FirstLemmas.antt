@@ -1,15 +1,13 @@
 -- Pivots of the first kind along the path.
-use Rattle.std.proofs.Common.{◌≡◌, ◌≢◌, ℕ, suc, ◌+◌, ◌<◌, ◌≤◌, inl, inr, Bool, true, false, arith, refl, ap, sym, ◌∙◌, subst, List, length, get_or, None, Some}
-use Rattle.std.specs.Prelude.{ℤ, pos, ◌<ℤ◌, ◌≤ℤ◌, unsigned_abs, Option}
-use Rattle.std.proofs.lemmas.Int.{ints}
+use Rattle.std.proofs.Common.{◌≡◌, ℕ, suc, ◌+◌, ◌<◌, inl, inr, Bool, false, arith, refl, sym, ◌∙◌, subst, List, length, get_or, None, Some}
+use Rattle.std.specs.Prelude.{ℤ, pos, ◌<ℤ◌}
 use Rattle.std.proofs.lemmas.Bool.{cases_eq}
 use Rattle.int_rows.specs.declared.combination.Which.{Which}
-use Rattle.int_rows.specs.Combined as rows
 use Rattle.flow_rules.specs.Program.{Program, IsProgram}
 use Rattle.path_rules.specs.LinearProgram.{LinearProgram, linear_of}
-use Rattle.path_rules.specs.Columns.{Basis, Has, columns, scale_at, s_at, x_at}
+use Rattle.path_rules.specs.Columns.{scale_at, s_at}
 use Rattle.path_rules.specs.Tableau.{IsTableau}
-use Rattle.path_rules.specs.Pivots.{IsFirstKind, HasPivot, first_kind}
+use Rattle.path_rules.specs.Pivots.{IsFirstKind, first_kind}
 use Rattle.path_rules.specs.Path.{Fits, IsPastEntry, Reaches}
 use Rattle.path_rules.specs.Places.{IsPastPivot, at_first}
 use Rattle.path_laws.specs.Phases.{IsFirstPhase, IsExchange}

@@ -1,8 +1,5 @@
 -- The laws of the flows that a bench keeps.
-use Rattle.std.proofs.Common.{◌≡◌, ℕ, ℤ, ◌*ℤ◌, Bool, true, false, not, ◌||◌, refl, sym, ap, ◌∙◌, subst, List}
-use Rattle.problem_rules.specs.Problem.{Problem}
-use Rattle.problem_rules.specs.Validity.{IsValid}
-use Rattle.pns_rules.specs.Nodes.{Node}
+use Rattle.std.proofs.Common.{◌≡◌, ℤ, ◌*ℤ◌, Bool, true, false, not, ◌||◌, refl, sym, ap, ◌∙◌, subst}
 use Rattle.number_sets.proofs.SetLemmas.{listed-same}
 use Rattle.flow_rules.specs.Net.{net_of, beside}
 use Rattle.flow_rules.specs.Program.{Program, program_of}
@@ -12,7 +9,7 @@ use Rattle.path_rules.specs.ReadFlows.{AreRead}
 use Rattle.end_laws.proofs.EndLemmas as law
 use Rattle.end_laws.proofs.SplitLemmas as split
 use Rattle.tableau_rows.specs.Rows.{table, basis}
-use Rattle.dual_simplex.specs.Bench.{Bench, IsLeastOf, AreFlowsOf}
+use Rattle.dual_simplex.specs.Bench.{Bench, AreFlowsOf}
 use Rattle.dual_simplex.specs.FlowLaws.{FlowsAreRelaxed, FlowsAreLeast, UnitsAreInside, SplitIsDecided, SplitFlowsAreFlows, SplitFlowsAreLeast}
 use Rattle.dual_simplex.proofs.LawLemmas.{ends_least}
 

@@ -1,6 +1,5 @@
 -- The laws of the ends of a path, for what a bench keeps.
-use Rattle.std.proofs.Common.{◌≡◌, ℕ, ℤ, subst, List}
-use Rattle.problem_rules.specs.Problem.{Problem}
+use Rattle.std.proofs.Common.{◌≡◌, subst}
 use Rattle.pns_rules.specs.Nodes.{Node}
 use Rattle.flow_rules.specs.Net.{Net, net_of}
 use Rattle.flow_rules.specs.Program.{Program, program_of}

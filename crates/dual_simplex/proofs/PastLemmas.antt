@@ -1,5 +1,5 @@
 -- The places that are past at what a bench keeps.
-use Rattle.std.proofs.Common.{◌≡◌, ℕ, zero, suc, ◌+◌, ◌<◌, ◌≤◌, Bool, true, false, cond, arith, refl, sym, subst, List, [], ◌∷◌, ◌++◌, map, length, get_or, ℤ}
+use Rattle.std.proofs.Common.{◌≡◌, ℕ, zero, suc, ◌+◌, ◌<◌, ◌≤◌, Bool, true, false, cond, arith, refl, sym, subst, List, [], ◌∷◌, ◌++◌, map, get_or, ℤ}
 use Rattle.std.specs.List.{range_with_len}
 use Rattle.pns_rules.specs.Nodes.{Node}
 use Rattle.flow_program.specs.declared.place.Place.{Place}

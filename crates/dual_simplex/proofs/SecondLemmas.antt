@@ -1,5 +1,5 @@
 -- Pivots of the second kind along the path.
-use Rattle.std.proofs.Common.{◌≡◌, ◌≢◌, ℕ, suc, ◌+◌, ◌-◌, ◌*◌, ◌^◌, ◌<◌, ◌≤◌, inl, inr, Bool, true, false, arith, refl, ap, sym, ◌∙◌, subst, List, [], ◌∷◌, length, get_or, map, drop}
+use Rattle.std.proofs.Common.{◌≡◌, ℕ, suc, ◌+◌, ◌-◌, ◌*◌, ◌^◌, ◌<◌, ◌≤◌, inl, inr, false, arith, refl, ap, sym, ◌∙◌, subst, List, [], ◌∷◌, length, get_or, map, drop}
 use Rattle.std.specs.Prelude.{ℤ, pos, neg_ℤ, ◌<ℤ◌, ◌≤ℤ◌, unsigned_abs}
 use Rattle.std.proofs.lemmas.Int.{ints}
 use Rattle.std.proofs.lemmas.Bool.{cases_eq}
@@ -9,19 +9,18 @@ use Rattle.tableau_laws.proofs.BoolLemmas.{bool_cases}
 use Rattle.int_rows.specs.declared.combination.Which.{Which}
 use Rattle.int_rows.specs.Range.{InRange, AllInRange}
 use Rattle.path_rules.specs.LinearProgram.{LinearProgram}
-use Rattle.path_rules.specs.Columns.{Basis, Has, columns, right_at, scale_at}
-use Rattle.path_rules.specs.Tableau.{IsTableau}
+use Rattle.path_rules.specs.Columns.{Has, columns, right_at, scale_at}
 use Rattle.path_rules.specs.Vectors.{value_top, value_bottom}
-use Rattle.path_rules.specs.Rank.{rank, IsWithin}
-use Rattle.path_rules.specs.Pivots.{IsLeaving, IsEntering, HasPivot, second_kind}
+use Rattle.path_rules.specs.Rank.{IsWithin}
+use Rattle.path_rules.specs.Pivots.{IsLeaving, IsEntering, second_kind}
 use Rattle.path_rules.specs.Path.{IsPastEntry}
-use Rattle.path_rules.specs.Places.{IsPastPivot, at_second}
+use Rattle.path_rules.specs.Places.{at_second}
 use Rattle.path_laws.specs.Phases.{IsExchange}
 use Rattle.path_laws.proofs.LawLemmas.{basis_is_of_columns, exchange_goes_on, costs_are_not_negative, vectors_keep_rising, values_rise_by_pivots, rank_rises_too}
 use Rattle.range_laws.proofs.WithinLemmas.{values_are_within}
 use Rattle.tableau_rows.specs.Rows.{Rows, width, row_of, table, basis, AreRows}
 use Rattle.tableau_rows.specs.Exchange.{IsExchanged, IsPastRow, IsSameSize}
-use Rattle.pivots.specs.Choice.{IsOfSize, scale_of, columns_of, IsDualFeasible}
+use Rattle.pivots.specs.Choice.{IsOfSize, columns_of, IsDualFeasible}
 use Rattle.dual_simplex.specs.Walk.{IsOnPath, IsInSecond, EndsPast}
 use Rattle.dual_simplex.specs.Measure.{rank_of, ranks}
 use Rattle.dual_simplex.proofs.RankLemmas.{rank_below}

@@ -1,8 +1,8 @@
 -- The start of the path.
-use Rattle.std.proofs.Common.{◌≡◌, ℕ, zero, ◌<◌, sym, ◌∙◌, arith}
+use Rattle.std.proofs.Common.{◌≡◌, ℕ, sym, ◌∙◌, arith}
 use Rattle.std.specs.Prelude.{ℤ}
 use Rattle.path_rules.specs.LinearProgram.{LinearProgram}
-use Rattle.path_rules.specs.Columns.{Basis, Has, start, s_at, t_at, w_at, x_at}
+use Rattle.path_rules.specs.Columns.{Basis, start, s_at, t_at, w_at, x_at}
 use Rattle.path_rules.specs.Tableau.{IsTableau}
 use Rattle.path_rules.specs.Start.{IsStart}
 use Rattle.path_laws.specs.Phases.{IsFirstPhase, IsOut}

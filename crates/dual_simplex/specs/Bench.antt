@@ -1,14 +1,13 @@
 -- What a bench keeps of the last program that it was given, and what that means.
 use Rattle.std.specs.Prelude.{◌≡◌, ◌≤◌, ◌≤ℤ◌, pos, ℕ, ℤ, List, length}
 use Rattle.int_rows.specs.Range.{InRange, AllInRange}
-use Rattle.int_rows.specs.declared.combination.Which.{Which}
 use Rattle.flow_rules.specs.Program.{Program}
 use Rattle.path_rules.specs.LinearProgram.{linear_of}
 use Rattle.path_rules.specs.Columns.{scale_at}
 use Rattle.path_rules.specs.Multipliers.{AreMultipliers, AreRefuting}
 use Rattle.path_rules.specs.ReadFlows.{AreRead}
 use Rattle.tableau_rows.specs.Rows.{Rows, table, basis}
-use Rattle.dual_simplex.specs.Walk.{EndsFeasible, EndsRefuting, EndsPast}
+use Rattle.dual_simplex.specs.Walk.{EndsFeasible, EndsRefuting}
 
 pub record Bench : Type 0 where
   pub rows : Rows

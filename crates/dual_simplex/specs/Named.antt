@@ -1,6 +1,6 @@
 -- The columns of a tableau, and the places where a number can leave the range, by the numbers that units and materials have in the
 -- problem: a tableau and its path know them by their places in the program.
-use Rattle.std.specs.Prelude.{◌≡◌, ℕ, ◌+◌, ◌-◌, not, cond, nat_lt, nat_eq, List, length, map, slice_index_or, Some, None}
+use Rattle.std.specs.Prelude.{ℕ, ◌+◌, ◌-◌, not, cond, nat_lt, nat_eq, List, length, map, slice_index_or, Some, None}
 use Rattle.std.specs.List.{filter, range_with_len}
 use Rattle.flow_program.specs.declared.place.Column.{Column}
 use Rattle.flow_program.specs.declared.place.Column.TheVariants.{X, S, T, W, Right, Scale}

@@ -1,4 +1,3 @@
-use Rattle.std.proofs.Common.{SFits, rules, ◌≡◌, subst, sym, List, ℤ, length}
 use Rattle.path_rules.specs.LinearProgram.{linear_of}
 use Rattle.dual_simplex.proofs.EndLemmas.{own_positive}
 use Rattle.tableau_rows.specs.Rows.{table, basis}

@@ -1,4 +1,4 @@
-use Rattle.std.proofs.Common.{◌≡◌, ◌++◌, ◌∙◌, [], ◌∷◌, ap, cond}
+use Rattle.std.proofs.Common.{◌++◌, ◌∙◌, [], ◌∷◌, ap, cond}
 use Rattle.std.specs.Prelude.{List}
 use Rattle.flow_program.specs.declared.place.Column.{Column}
 use Rattle.tableau_rows.specs.Rows.{basis}

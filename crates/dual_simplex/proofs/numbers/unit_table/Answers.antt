@@ -1,4 +1,4 @@
-use Rattle.std.proofs.Common.{◌<◌, ◌∙◌, sym, arith}
+use Rattle.std.proofs.Common.{◌∙◌, sym, arith}
 use Rattle.flow_program.proofs.WalkLemmas.{IsNext, is_next, shorter}
 use Rattle.number_sets.specs.Sets.{kept}
 use Rattle.std.proofs.Common.{not, ◌==◌, refl}

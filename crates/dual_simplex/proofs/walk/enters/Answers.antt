@@ -1,4 +1,4 @@
-use Rattle.std.proofs.Common.{◌≡◌, ◌<◌, ℕ, arith, subst, sym}
+use Rattle.std.proofs.Common.{◌<◌, ℕ, subst, sym}
 use Rattle.path_rules.specs.LinearProgram.{linear_of}
 use Rattle.dual_simplex.proofs.OptionLemmas.{map_some, map_none}
 use Rattle.dual_simplex.proofs.SecondLemmas.{columns_are}

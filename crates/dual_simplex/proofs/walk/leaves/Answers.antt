@@ -1,4 +1,3 @@
-use Rattle.std.proofs.Common.{◌≡◌, ℕ}
 use Rattle.path_rules.specs.LinearProgram.{linear_of}
 use Rattle.dual_simplex.proofs.OptionLemmas.{map_some}
 use Rattle.dual_simplex.proofs.SecondLemmas.{dual_feasible}

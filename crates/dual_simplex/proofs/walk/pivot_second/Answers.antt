@@ -1,8 +1,5 @@
-use Rattle.std.proofs.Common.{◌≡◌, ◌<◌, ◌+◌, ℕ, ℤ, pos, ap, sym, ◌∙◌, subst, arith}
 use Rattle.path_rules.specs.LinearProgram.{linear_of}
-use Rattle.dual_simplex.proofs.FirstLemmas.{wide}
-use Rattle.dual_simplex.proofs.SecondLemmas.{free_below, pivot_positive, rank_bounded, second_done, second_rises, second_past}
-use Rattle.tableau_rows.specs.Rows.{row_of}
+use Rattle.dual_simplex.proofs.SecondLemmas.{rank_bounded, second_done, second_rises, second_past}
 use Rattle.dual_simplex.proofs.walk.pivot_second.Goals as goal
 
 pub returns-in-Ok-clause-done : goal.returns-in-Ok-clause-done

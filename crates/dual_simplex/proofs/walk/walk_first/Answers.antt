@@ -1,4 +1,4 @@
-use Rattle.std.proofs.Common.{◌≡◌, ◌<◌, ℕ, arith, subst, sym}
+use Rattle.std.proofs.Common.{arith}
 use Rattle.path_rules.specs.LinearProgram.{linear_of}
 use Rattle.dual_simplex.proofs.FirstLemmas.{first_ends}
 use Rattle.dual_simplex.proofs.walk.walk_first.Goals as goal

@@ -1,4 +1,4 @@
-use Rattle.std.specs.Prelude.{ℕ, ◌-◌}
+use Rattle.std.specs.Prelude.{◌-◌}
 use Rattle.path_rules.specs.LinearProgram.{LinearProgram, linear_of}
 use Rattle.tableau_rows.specs.Rows.{Rows}
 use Rattle.dual_simplex.specs.Walk.{IsInSecond, IsSameRoom}

@@ -1,11 +1,10 @@
-use Rattle.std.proofs.Common.{SFits, rules, ◌≡◌, ◌≤◌, ◌∙◌, subst, sym, ap, List, ℕ, ℤ, length, arith}
+use Rattle.std.proofs.Common.{SFits, rules, ◌≡◌, ◌≤◌, ◌∙◌, subst, ap, ℕ, length, arith}
 use Rattle.std.specs.Prelude.{Option, IfNone, IfSome}
 use Rattle.path_rules.specs.LinearProgram.{linear_of}
 use Rattle.dual_simplex.specs.Walk.{EndsFeasible, EndsRefuting}
 use Rattle.std.specs.Int.{w128}
 use Rattle.std.proofs.lemmas.Int.{to_z-of_z}
 use Rattle.std.proofs.lemmas.List.{with_items_is}
-use Rattle.std.specs.Vec.{with_items}
 use Rattle.dual_simplex.proofs.EndLemmas.{least_of, none_of}
 use Rattle.dual_simplex.proofs.bench.Bench.least.Goals as goal
 
