@@ -9,3 +9,4 @@ pub mod LawLemmas
 pub mod NumberLemmas
 pub mod PastLemmas
 pub mod FlowLawLemmas
+pub mod NameLemmas

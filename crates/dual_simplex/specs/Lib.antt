@@ -8,3 +8,4 @@ pub mod Numbers
 pub mod PastPlace
 pub mod PastLaws
 pub mod FlowLaws
+pub mod ProgramNames

@@ -19,5 +19,6 @@ pub use laws::{
 };
 pub use names::column_at;
 pub use past_laws::{
-    balance_is_past, bound_is_past, cost_is_past, entry_is_past, flow_is_past, refutation_is_past,
+    balance_is_past, bound_is_past, cost_is_past, entry_is_past, flow_is_past,
+    names_are_of_program, refutation_is_past,
 };

@@ -1,6 +1,7 @@
 //! What is past, for the node of a problem, where a bench names a place or a sum over what it keeps is out of range. Each law is
 //! the contract of a function without a body.
 ghost use Rattle.dual_simplex.specs.PastLaws.{EntryIsPast, FlowIsPast, BoundIsPast, RefutationIsPast, CostIsPast, BalanceIsPast};
+ghost use Rattle.dual_simplex.specs.ProgramNames.{NonbasicAreOfProgram, ColumnsAreOfProgram, EntriesAreOfProgram, FlowsAreOfProgram};
 
 /// The place that `least` names is past at the basis that it keeps.
 pub fn entry_is_past()
@@ -30,4 +31,12 @@ pub fn cost_is_past()
 /// After `read_flows`, so is a step of the judging of the flows.
 pub fn balance_is_past()
     ensures { BalanceIsPast }
+{}
+
+/// The names of columns and places are those of units and rows of the program.
+pub fn names_are_of_program()
+    ensures nonbasic { NonbasicAreOfProgram }
+    ensures columns { ColumnsAreOfProgram }
+    ensures entries { EntriesAreOfProgram }
+    ensures flows { FlowsAreOfProgram }
 {}

@@ -1,0 +1,49 @@
+-- Names that stand for units and rows of a program: a unit's number is one of its units, a material's one of its rows.
+use Rattle.std.specs.Prelude.{◌≡◌, ℕ, true, Option, Some, None}
+use Rattle.number_sets.specs.Sets.{has}
+use Rattle.problem_rules.specs.Each.{Each}
+use Rattle.flow_program.specs.declared.place.Column.{Column}
+use Rattle.flow_program.specs.declared.place.Column.TheVariants.{X, S, T, W, Right, Scale}
+use Rattle.flow_program.specs.declared.place.Place.{Place}
+use Rattle.flow_program.specs.declared.place.Place.TheVariants as places
+use Rattle.flow_rules.specs.Program.{Program}
+use Rattle.path_rules.specs.Columns.{Basis}
+use Rattle.dual_simplex.specs.Bench.{Bench}
+use Rattle.dual_simplex.specs.Named.{column_named, nonbasic_named}
+use Rattle.dual_simplex.specs.PastPlace.{IsPastOf, IsPastFlowOf}
+
+abbrev pub IsColumnOf : Program → Column → Type 0
+IsColumnOf q (X u) = has q.units u ≡ true
+IsColumnOf q (S u) = has q.units u ≡ true
+IsColumnOf q (T x) = has q.rows x ≡ true
+IsColumnOf q (W x) = has q.rows x ≡ true
+IsColumnOf q Right = Unit {0}
+IsColumnOf q Scale = Unit {0}
+
+-- the row of a column; none is the cost row
+abbrev pub IsRowOf : Program → Option Column → Type 0
+IsRowOf q None = Unit {0}
+IsRowOf q (Some column) = IsColumnOf q column
+
+abbrev pub IsPlaceOf : Program → Place → Type 0
+IsPlaceOf q (places.Entry leave enter row column which) = IsColumnOf q leave × IsColumnOf q enter × IsRowOf q row × IsColumnOf q column
+IsPlaceOf q (places.Flow unit which) = has q.units unit ≡ true
+IsPlaceOf q (places.Cost at) = Unit {0}
+IsPlaceOf q (places.FlowSum at) = Unit {0}
+IsPlaceOf q (places.Bound at) = Unit {0}
+IsPlaceOf q (places.Refute row at) = IsColumnOf q row
+
+-- ---- the laws
+
+abbrev pub NonbasicAreOfProgram : Type 0
+NonbasicAreOfProgram = (q : Program) (b : Basis) → Each (IsColumnOf q) (nonbasic_named q b)
+
+-- the place of any column, and so that of a refuting row
+abbrev pub ColumnsAreOfProgram : Type 0
+ColumnsAreOfProgram = (q : Program) (k : ℕ) → IsColumnOf q (column_named q k)
+
+abbrev pub EntriesAreOfProgram : Type 0
+EntriesAreOfProgram = (q : Program) (b : Bench) (place : Place) → IsPastOf q b place → IsPlaceOf q place
+
+abbrev pub FlowsAreOfProgram : Type 0
+FlowsAreOfProgram = (q : Program) (b : Bench) (place : Place) → IsPastFlowOf q b place → IsPlaceOf q place
