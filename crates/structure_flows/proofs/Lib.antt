@@ -1,2 +1,4 @@
+pub mod AnswerLemmas
+pub mod KnownLemmas
 pub mod LeastLemmas
 pub mod NodeLemmas

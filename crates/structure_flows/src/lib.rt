@@ -1,22 +1,14 @@
-//! The flows of a solution structure: what it is that flows are least, with multipliers that prove it, or that there are none.
-//! `specs/Flows` has the definitions, and `specs/Laws` what the functions have as their contracts: a proof elsewhere calls one to
-//! have its laws.
+//! The flows of a solution structure: flows of least cost with multipliers that prove it, or multipliers that refute all flows, or
+//! the place where a number on the way is out of range.
+//!
+//! `specs/Flows` has what least flows are, `specs/Answers` what [`flows_of`] promises of its answers, and `specs/Laws` what the
+//! functions of `laws` have as their contracts: a proof elsewhere calls one to have its laws.
 #![tactic(auto)]
 
-ghost use Rattle.structure_flows.specs.Laws.{ProvedIsLeast, RefutedHasNone, NodeIsDecided};
+mod answer;
+mod laws;
+mod least;
 
-use flow_rules::{refutation, weak_duality};
-
-/// Flows whose cost is the bound of multipliers cost the least of all, and where multipliers refute there are none.
-pub fn multipliers_prove()
-    ensures least { ProvedIsLeast }
-    ensures none { RefutedHasNone }
-{
-    weak_duality();
-    refutation();
-}
-
-/// At the node of a set of units each unit is taken in or left out.
-pub fn node_is_decided()
-    ensures { NodeIsDecided }
-{}
+pub use answer::StructureFlows;
+pub use laws::{multipliers_prove, node_is_decided};
+pub use least::flows_of;

@@ -8,7 +8,7 @@ use Rattle.flow_rules.specs.Relaxed.{bound}
 use Rattle.structure_flows.specs.Flows.{decided, rows_of}
 use Rattle.structure_flows.proofs.LeastLemmas.{least_cost}
 use Rattle.structure_flows.proofs.NodeLemmas.{is_between}
-use Rattle.structure_flows.proofs.multipliers_prove.Goals as goal
+use Rattle.structure_flows.proofs.laws.multipliers_prove.Goals as goal
 
 pub returns-clause-least : goal.returns-clause-least
 returns-clause-least c = λ p valid w structure d ys flows proved. record {

@@ -1,0 +1,31 @@
+-- What the call answers for a set of units, and what it promises of each answer.
+use Rattle.std.specs.Prelude.{◌≡◌, ℕ, ℤ, List}
+use Rattle.int_rows.specs.Range.{InRange}
+use Rattle.problem_rules.specs.Each.{Each}
+use Rattle.problem_rules.specs.Problem.{Problem}
+use Rattle.flow_rules.specs.Net.{net_of}
+use Rattle.tree_rules.specs.Claim.{Network}
+use Rattle.flow_program.specs.declared.place.Column.{Column}
+use Rattle.flow_program.specs.declared.place.Place.{Place}
+use Rattle.branch_tree.specs.Known.{KnowsColumn, KnowsPlace}
+use Rattle.dual_simplex.specs.PastPlace.{IsPastNamed}
+use Rattle.structure_flows.specs.Flows.{decided, IsLeastFlows, HasNoFlows}
+use Rattle.structure_flows.specs.declared.answer.StructureFlows.{StructureFlows}
+use Rattle.structure_flows.specs.declared.answer.StructureFlows.TheVariants.{Least, Refuted, Past}
+
+-- the network is one of these units
+pub record IsLeastFor (p : Problem) (us : List ℕ) (w : Network) (d : ℤ) (ys : List ℤ) : Type 0 where
+  pub units_are : w.units ≡ us
+  pub d_in_range : InRange d
+  pub flows : IsLeastFlows p w d ys
+
+-- the place is past at the basis that leaves the columns out, and both have names
+pub record IsPastFor (p : Problem) (us : List ℕ) (nonbasic : List Column) (place : Place) : Type 0 where
+  pub past : IsPastNamed (net_of p) (decided p us) nonbasic place
+  pub columns : Each (KnowsColumn p) nonbasic
+  pub known : KnowsPlace p place
+
+abbrev pub AnswersFor : Problem → List ℕ → StructureFlows → Type 0
+AnswersFor p us (Least network d ys) = IsLeastFor p us network d ys
+AnswersFor p us (Refuted ys) = HasNoFlows p us ys
+AnswersFor p us (Past nonbasic place) = IsPastFor p us nonbasic place

@@ -1,0 +1,23 @@
+// What there is to say of the flows of a solution structure.
+use branch_tree::{Columns, Multipliers, Network};
+use flow_program::Place;
+
+/// What there is to say of the flows of a solution structure.
+#[derive(Drop)]
+pub enum StructureFlows {
+    /// Flows of least cost, and multipliers whose bound over d is that cost.
+    Least {
+        network: Network,
+        d: i128,
+        ys: Multipliers,
+    },
+    /// There are none: the multipliers refute them.
+    Refuted {
+        ys: Multipliers,
+    },
+    /// A number is out of range at the place, at the basis that leaves these columns out.
+    Past {
+        nonbasic: Columns,
+        place: Place,
+    },
+}

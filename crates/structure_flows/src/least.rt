@@ -1,0 +1,163 @@
+// The least flows of a set of units.
+ghost use Rattle.std.specs.Prelude.{◌≡◌, ◌<◌, ℕ, length, true, IfOk};
+ghost use Rattle.number_sets.specs.Sets.{has};
+ghost use Rattle.pns_rules.specs.Shape.{shape_of};
+ghost use Rattle.pns_rules.specs.Structure.{IsStructure};
+ghost use Rattle.pgraph.specs.Tables.{shape};
+ghost use Rattle.flow_rules.specs.Net.{net_of};
+ghost use Rattle.flow_rules.specs.Program.{program_of};
+ghost use Rattle.path_rules.specs.LinearProgram.{linear_of};
+ghost use Rattle.pivots.specs.Choice.{IsOfSize};
+ghost use Rattle.branch_tree.specs.Known.{KnowsPlace};
+ghost use Rattle.dual_simplex.specs.Bench.{IsLeastOf, IsNoneOf};
+ghost use Rattle.dual_simplex.specs.PastLaws.{IsPastHere};
+ghost use Rattle.structure_flows.specs.Flows.{decided};
+ghost use Rattle.structure_flows.specs.Answers.{AnswersFor};
+ghost use Rattle.pgraph.specs.View.{node_of};
+
+use crate::answer::StructureFlows;
+use crate::laws::{multipliers_prove, node_is_decided};
+use branch_tree::{Columns, Multipliers, Network};
+use dual_simplex::{
+    Bench, Ends, cost_is_past, entry_is_past, flow_is_past, least_is_least, none_is_refuted,
+    split_flows_are_least,
+};
+use flow_program::{Place, Program, cost_of};
+use flow_rules::sums_are_last;
+use pgraph::Graph;
+use pns_problem::Problem;
+use std::alloc::{AllocError, Global};
+use unit_sets::{Node, UnitSet};
+
+/// The node at which the units are taken in and all others left out.
+fn node_of(problem: &Problem, set: UnitSet) -> Node
+    requires { length problem.now.units < 129 }
+    ensures node { node_of result ≡ decided problem.now set }
+    ensures inside { result.inside ≡ set }
+{
+    let all = UnitSet::below(problem.units().len() as u32);
+    Node {
+        inside: set,
+        outside: all.minus(set),
+    }
+}
+
+fn past(
+    alloc: Global,
+    problem: &Problem,
+    set: UnitSet,
+    program: &Program,
+    bench: &Bench,
+    place: Place,
+) -> Result<StructureFlows, AllocError>
+    requires program { program.now ≡ program_of (net_of problem.now) (decided problem.now set) }
+    requires size { IsOfSize (linear_of program.now) bench.now.rows }
+    requires past { IsPastHere (net_of problem.now) (decided problem.now set) program.now bench.now place }
+    requires known { KnowsPlace problem.now place }
+    ensures { IfOk result (AnswersFor problem.now set) }
+{
+    let _units = problem.units().len();
+    let nonbasic = bench.nonbasic(alloc, program)?;
+    Ok(StructureFlows::Past {
+        nonbasic: Columns::from_vec(nonbasic),
+        place,
+    })
+}
+
+fn refuted(
+    alloc: Global,
+    problem: &Problem,
+    set: UnitSet,
+    program: &Program,
+    bench: &Bench,
+) -> Result<StructureFlows, AllocError>
+    requires structure { IsStructure (shape_of problem.now) (has set) }
+    requires program { program.now ≡ program_of (net_of problem.now) (decided problem.now set) }
+    requires none { IsNoneOf program.now bench.now }
+    ensures { IfOk result (AnswersFor problem.now set) }
+{
+    problem.is_valid();
+    multipliers_prove();
+    none_is_refuted();
+    let _fixed = program.fixed();
+    let ys = bench.ys().to_vec(alloc)?;
+    Ok(StructureFlows::Refuted {
+        ys: Multipliers::from_vec(ys),
+    })
+}
+
+fn least(
+    alloc: Global,
+    problem: &Problem,
+    graph: &Graph,
+    set: UnitSet,
+    program: &Program,
+    bench: &mut Bench,
+) -> Result<StructureFlows, AllocError>
+    requires graph { shape graph.now ≡ shape_of problem.now }
+    requires known { (u : ℕ) → has set u ≡ true → u < length problem.now.units }
+    requires structure { IsStructure (shape_of problem.now) (has set) }
+    requires program { program.now ≡ program_of (net_of problem.now) (decided problem.now set) }
+    requires least { IsLeastOf program.now bench.old }
+    ensures { IfOk result (AnswersFor problem.now set) }
+{
+    problem.is_valid();
+    multipliers_prove();
+    node_is_decided();
+    sums_are_last();
+    least_is_least();
+    split_flows_are_least();
+    flow_is_past();
+    cost_is_past();
+    set.rises();
+    if let Err(place) = bench.read_flows(program) {
+        return past(alloc, problem, set, program, bench, place);
+    }
+    let sizes = bench.flows().to_vec(alloc)?;
+    let ys = bench.ys().to_vec(alloc)?;
+    let (d, den) = (bench.d(), bench.flow_den());
+    match cost_of(problem, graph, set, &sizes, den) {
+        Ok(cost) => Ok(StructureFlows::Least {
+            network: Network::of(set, sizes, den, cost),
+            d,
+            ys: Multipliers::from_vec(ys),
+        }),
+        Err(sum) => past(
+            alloc,
+            problem,
+            set,
+            program,
+            bench,
+            Place::Cost { at: sum.at },
+        ),
+    }
+}
+
+/// The flows of a solution structure, allowed or not.
+pub fn flows_of(
+    alloc: Global,
+    problem: &Problem,
+    graph: &Graph,
+    set: UnitSet,
+) -> Result<StructureFlows, AllocError>
+    requires graph { shape graph.now ≡ shape_of problem.now }
+    requires known { (u : ℕ) → has set u ≡ true → u < length problem.now.units }
+    requires structure { IsStructure (shape_of problem.now) (has set) }
+    ensures { IfOk result (AnswersFor problem.now set) }
+{
+    problem.is_valid();
+    graph.is_proper();
+    let node = node_of(problem, set);
+    let program = Program::of(alloc, problem, graph, node)?;
+    program.is_program();
+    let (units, rows) = (program.units(), program.rows());
+    units.rises();
+    rows.rises();
+    entry_is_past();
+    let mut bench = Bench::open(alloc, units.count(), rows.count())?;
+    match bench.least(&program) {
+        Ok(Ends::Least) => least(alloc, problem, graph, set, &program, &mut bench),
+        Ok(Ends::None) => refuted(alloc, problem, set, &program, &bench),
+        Err(place) => past(alloc, problem, set, &program, &bench, place),
+    }
+}
