@@ -22,3 +22,6 @@ pub use past_laws::{
     balance_is_past, bound_is_past, cost_is_past, entry_is_past, flow_is_past,
     names_are_of_program, refutation_is_past,
 };
+
+#[cfg(test)]
+mod tests;
