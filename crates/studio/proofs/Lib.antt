@@ -11,3 +11,4 @@ pub mod Numerals
 pub mod Listings
 pub mod ListingStart
 pub mod ListingParts
+pub mod Printing

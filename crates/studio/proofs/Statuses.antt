@@ -5,11 +5,12 @@ use Rattle.edit_rules.specs.Edit.{Edit}
 use Rattle.pgraph.specs.declared.verdict.Verdict.{Verdict}
 use Rattle.pgraph.specs.declared.verdict.Verdict.TheVariants.{Meets, Breaks}
 use Rattle.pns_io.specs.Outside.{HasRisen}
-use Rattle.studio.specs.Command.{Command, Max, Axioms, Listing, Make, Migrate, Editing, Undoing, Checking, command_of, IsFileOf, IsFileWord}
+use Rattle.studio.specs.Command.{Command, Max, Axioms, Flows, Listing, Make, Migrate, Editing, Undoing, Checking, command_of, IsFileOf, IsFileWord}
 use Rattle.studio.specs.Reading.{AreHeld, FileFault, file_limit}
 use Rattle.studio.specs.Max.{MaxWork}
 use Rattle.studio.specs.Listing.{ListingWork}
 use Rattle.studio.specs.Migrate.{MigrateWork}
+use Rattle.studio.specs.Flows.{FlowsWork, FlowNamesSay, UnitsSay, FlowsSay}
 use Rattle.studio.specs.Script.{ScriptFault, OnScript}
 use Rattle.studio.specs.Edits.{EditWork, UndoWork}
 use Rattle.tree_rules.specs.Claim.{Claim}
@@ -20,7 +21,7 @@ use Rattle.studio.specs.Axioms.{NamesSay, VerdictSays, first_stranger}
 use Rattle.studio.specs.Ending.{Shelves, Ends, IsOneOf}
 use Rattle.studio.specs.Answers.{AnswersTo, CommandAnswers, WordsSay, IsReadWithin, IsUndisturbed, statuses_of}
 use Rattle.studio.specs.declared.status.Status.{Status}
-use Rattle.studio.specs.declared.status.Status.TheVariants.{Done, Refused, Usage, BadProblem, ReadFault, WriteFault, Memory, TooLong, BadToken, BadTree, BadEdit, NotMigrated}
+use Rattle.studio.specs.declared.status.Status.TheVariants.{Done, Refused, Usage, BadProblem, Past, ReadFault, WriteFault, Memory, TooLong, BadToken, BadTree, BadEdit, NotMigrated}
 
 -- a file that gives no problem, where it is held within the limit or not
 fault_status : (name file : List ℕ) (s : Status) (lines : List (List ℕ)) → FileFault name file s lines → (s ≡ BadProblem) ⊎ ((s ≡ TooLong) × (file_limit < length file))
@@ -39,6 +40,23 @@ verdict_status p (Breaks broken at) s lines h = inr h.0
 names_status : (names : List (List ℕ)) (p : Problem) (o : Option (List ℕ)) (s : Status) (lines : List (List ℕ)) → NamesSay names p o s lines → (s ≡ Done) ⊎ (s ≡ Refused)
 names_status names p (Some stranger) s lines h = inr h.0
 names_status names p None s lines h = verdict_status p h.0 s lines h.2
+
+flows_say_status : (p : Problem) (us : List ℕ) (s : Status) (lines : List (List ℕ)) → FlowsSay p us s lines → (s ≡ Done) ⊎ (s ≡ Past)
+flows_say_status p us Done lines h = inl refl
+flows_say_status p us Past lines h = inr refl
+flows_say_status p us s lines h = absurd h
+
+three : {s : Status} → (s ≡ Done) ⊎ (s ≡ Past) → (s ≡ Done) ⊎ ((s ≡ Refused) ⊎ (s ≡ Past))
+three (inl q) = inl q
+three (inr q) = inr (inr q)
+
+units_status : (names : List (List ℕ)) (p : Problem) (v : Verdict) (s : Status) (lines : List (List ℕ)) → UnitsSay names p v s lines → (s ≡ Done) ⊎ ((s ≡ Refused) ⊎ (s ≡ Past))
+units_status names p Meets s lines h = three (flows_say_status p h.0 s lines h.3)
+units_status names p (Breaks broken at) s lines h = inr (inl h.0)
+
+flows_status : (names : List (List ℕ)) (p : Problem) (o : Option (List ℕ)) (s : Status) (lines : List (List ℕ)) → FlowNamesSay names p o s lines → (s ≡ Done) ⊎ ((s ≡ Refused) ⊎ (s ≡ Past))
+flows_status names p (Some stranger) s lines h = inr (inl h.0)
+flows_status names p None s lines h = units_status names p h.0 s lines h.2
 
 listing_status : (word : List ℕ) (count : ℕ) (p : Problem) (s : Status) (lines : List (List ℕ)) → ListingWork word count p s lines → (s ≡ Done) ⊎ (s ≡ BadToken)
 listing_status word count p Done lines h = inl refl
@@ -101,6 +119,14 @@ command_status held (Axioms name units) s lines (file, is, inr work) short = eli
   | inl q ↦ inl q
   | inr q ↦ inr (inl q)
 ]
+command_status held (Flows name units) s lines (file, is, inl fault) short = elim (fault_status name file s lines fault) [
+  | inl q ↦ inr (inr (inr (inl q)))
+  | inr q ↦ absurd (within_limit (held name) file_limit file (short name file_limit (refl, refl)) is q.1)
+]
+command_status held (Flows name units) s lines (file, is, inr work) short = elim (flows_status units work.0 (first_stranger work.0 units) s lines work.2) [
+  | inl q ↦ inl q
+  | inr o ↦ elim o [ inl q ↦ inr (inl q) | inr q ↦ inr (inr (inl q)) ]
+]
 command_status held (Listing name after count) s lines (file, is, inl fault) short = elim (fault_status name file s lines fault) [
   | inl q ↦ inr (inr (inl q))
   | inr q ↦ absurd (within_limit (held name) file_limit file (short name file_limit (refl, refl)) is q.1)
@@ -146,6 +172,8 @@ answer_status held (Max name) lines (file, is, inl fault) = absurd fault
 answer_status held (Max name) lines (file, is, inr work) = absurd work.2
 answer_status held (Axioms name units) lines (file, is, inl fault) = absurd fault
 answer_status held (Axioms name units) lines (file, is, inr work) = elim (names_status units work.0 (first_stranger work.0 units) Usage lines work.2) [ inl q ↦ cc | inr q ↦ cc ]
+answer_status held (Flows name units) lines (file, is, inl fault) = absurd fault
+answer_status held (Flows name units) lines (file, is, inr work) = elim (flows_status units work.0 (first_stranger work.0 units) Usage lines work.2) [ inl q ↦ cc | inr o ↦ elim o [ inl q ↦ cc | inr q ↦ cc ] ]
 answer_status held (Listing name after count) lines (file, is, inl fault) = absurd fault
 answer_status held (Listing name after count) lines (file, is, inr work) = absurd work.2
 answer_status held (Make number units) lines h = let q : Usage ≡ Done = h.0 in cc
@@ -168,6 +196,7 @@ usage_answers held (Some command) lines h = absurd (answer_status held command l
 memory_status : (command : Command) → IsOneOf (statuses_of command) Memory
 memory_status (Max file) = inr (inr (inl refl))
 memory_status (Axioms file units) = inr (inr (inr (inl refl)))
+memory_status (Flows file units) = inr (inr (inr (inr (inl refl))))
 memory_status (Listing file after count) = inr (inr (inr (inl refl)))
 memory_status (Make number units) = inr (inl refl)
 memory_status (Migrate file years) = inr (inr (inr (inl refl)))

@@ -5,7 +5,7 @@ use Rattle.std.specs.Str.{bytes_eq}
 use Rattle.std.proofs.lemmas.Bool.{leb-true}
 use Rattle.text_rules.specs.Amount.{number_of}
 use Rattle.studio.specs.Numeral.{is_numeral, number_within}
-use Rattle.studio.specs.Command.{Command, Max, Axioms, Listing, Make, Migrate, Editing, Undoing, Checking, command_of, on_file, made_by, unit_names_of, count_of, seed_of, unit_count_of, years_of, is_file_word, AreWithin}
+use Rattle.studio.specs.Command.{Command, Max, Axioms, Flows, Listing, Make, Migrate, Editing, Undoing, Checking, command_of, on_file, made_by, unit_names_of, count_of, seed_of, unit_count_of, years_of, is_file_word, AreWithin}
 
 numeral_within : (least most : ℕ) (word : List ℕ) → IfSome (number_within least most word) (λ n. (least ≤ n) × (n ≤ most))
 numeral_within least most word = at (is_numeral word) (nat_le least (number_of word)) (nat_le (number_of word) most) refl refl
@@ -29,6 +29,10 @@ axioms_within : (file : List ℕ) (units : Option (List (List ℕ))) → IfSome 
 axioms_within file None = tt
 axioms_within file (Some units) = tt
 
+flows_within : (file : List ℕ) (units : Option (List (List ℕ))) → IfSome (option_map (Flows file) units) AreWithin
+flows_within file None = tt
+flows_within file (Some units) = tt
+
 migrate_within : (file : List ℕ) (years : Option ℕ) → IfSome years (λ n. (1 ≤ n) × (n ≤ 100)) → IfSome (option_map (Migrate file) years) AreWithin
 migrate_within file None p = tt
 migrate_within file (Some years) p = p
@@ -40,10 +44,11 @@ listing_within file after (Some count) = tt
 on_file_within : (word file second : List ℕ) → IfSome (on_file word file second) AreWithin
 on_file_within word file second =
     either_within (bytes_eq word (codes "axioms")) (option_map (Axioms file) (unit_names_of second)) _ (axioms_within file (unit_names_of second))
+    (either_within (bytes_eq word (codes "flows")) (option_map (Flows file) (unit_names_of second)) _ (flows_within file (unit_names_of second))
     (either_within (bytes_eq word (codes "migrate")) (option_map (Migrate file) (years_of second)) _ (migrate_within file (years_of second) (numeral_within 1 100 second))
     (either_within (bytes_eq word (codes "edit") && is_file_word second) (Some (Editing file second)) _ tt
     (either_within (bytes_eq word (codes "undo") && is_file_word second) (Some (Undoing file second)) _ tt
-    (either_within (bytes_eq word (codes "check") && is_file_word second) (Some (Checking file second)) None tt tt))))
+    (either_within (bytes_eq word (codes "check") && is_file_word second) (Some (Checking file second)) None tt tt)))))
 
 pub words_within : (words : List (List ℕ)) → IfSome (command_of words) AreWithin
 words_within [] = tt

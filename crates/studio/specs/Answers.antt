@@ -1,10 +1,11 @@
 -- What each command says, from its words and what the shelf holds.
 use Rattle.std.specs.Prelude.{◌≡◌, ◌≤◌, ◌⊎◌, ℕ, List, [], ◌∷◌, Option, Some, None, IsSomeAnd, length, codes}
 use Rattle.pns_io.specs.Outside.{HasRisen}
-use Rattle.studio.specs.Command.{Command, Max, Axioms, Listing, Make, Migrate, Editing, Undoing, Checking, command_of, IsFileOf, IsFileWord}
+use Rattle.studio.specs.Command.{Command, Max, Axioms, Flows, Listing, Make, Migrate, Editing, Undoing, Checking, command_of, IsFileOf, IsFileWord}
 use Rattle.studio.specs.Reading.{OnFile, file_limit}
 use Rattle.studio.specs.Max.{MaxWork}
 use Rattle.studio.specs.Axioms.{AxiomsWork}
+use Rattle.studio.specs.Flows.{FlowsWork}
 use Rattle.studio.specs.Listing.{ListingWork}
 use Rattle.studio.specs.Make.{MakeWork}
 use Rattle.studio.specs.Script.{OnScript}
@@ -14,12 +15,13 @@ use Rattle.studio.specs.TreeFile.{OnTree, tree_limit}
 use Rattle.studio.specs.Check.{CheckWork}
 use Rattle.studio.specs.Ending.{Shelves, Says}
 use Rattle.studio.specs.declared.status.Status.{Status}
-use Rattle.studio.specs.declared.status.Status.TheVariants.{Done, Refused, Usage, BadProblem, Memory, BadToken, BadTree, BadEdit, NotMigrated}
+use Rattle.studio.specs.declared.status.Status.TheVariants.{Done, Refused, Usage, BadProblem, Past, Memory, BadToken, BadTree, BadEdit, NotMigrated}
 
 -- the statuses and lines of a command, while neither shelf, sink nor memory fails
 abbrev pub CommandAnswers : (List ℕ → Option (List ℕ)) → Command → Status → List (List ℕ) → Type 0
 CommandAnswers held (Max file) status lines = OnFile MaxWork held file status lines
 CommandAnswers held (Axioms file units) status lines = OnFile (AxiomsWork units) held file status lines
+CommandAnswers held (Flows file units) status lines = OnFile (FlowsWork units) held file status lines
 CommandAnswers held (Listing file after count) status lines = OnFile (ListingWork after count) held file status lines
 CommandAnswers held (Make number units) status lines = MakeWork number units status lines
 CommandAnswers held (Migrate file years) status lines = OnFile (MigrateWork years) held file status lines
@@ -57,6 +59,7 @@ pub record IsUndisturbed (shelves : Shelves) (command : Command) (risen : Type 0
 abbrev pub statuses_of : Command → List Status
 statuses_of (Max file) = Done ∷ BadProblem ∷ Memory ∷ []
 statuses_of (Axioms file units) = Done ∷ Refused ∷ BadProblem ∷ Memory ∷ []
+statuses_of (Flows file units) = Done ∷ Refused ∷ Past ∷ BadProblem ∷ Memory ∷ []
 statuses_of (Listing file after count) = Done ∷ BadToken ∷ BadProblem ∷ Memory ∷ []
 statuses_of (Make number units) = Done ∷ Memory ∷ []
 statuses_of (Migrate file years) = Done ∷ NotMigrated ∷ BadProblem ∷ Memory ∷ []

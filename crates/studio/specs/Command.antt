@@ -9,6 +9,7 @@ use Rattle.studio.specs.Numeral.{number_within}
 pub data Command : Type 0 where
   Max : List ℕ → Command
   Axioms : List ℕ → List (List ℕ) → Command
+  Flows : List ℕ → List (List ℕ) → Command
   Listing : List ℕ → List ℕ → ℕ → Command
   Make : ℕ → ℕ → Command
   Migrate : List ℕ → ℕ → Command
@@ -59,6 +60,7 @@ with_file word file second =
 abbrev pub on_file : List ℕ → List ℕ → List ℕ → Option Command
 on_file word file second =
     if bytes_eq word (codes "axioms") then option_map (Axioms file) (unit_names_of second)
+    else if bytes_eq word (codes "flows") then option_map (Flows file) (unit_names_of second)
     else if bytes_eq word (codes "migrate") then option_map (Migrate file) (years_of second)
     else with_file word file second
 
@@ -77,6 +79,7 @@ command_of words = None
 abbrev pub IsFileOf : Command → List ℕ → Type 0
 IsFileOf (Max file) name = name ≡ file
 IsFileOf (Axioms file units) name = name ≡ file
+IsFileOf (Flows file units) name = name ≡ file
 IsFileOf (Listing file after count) name = name ≡ file
 IsFileOf (Make number units) name = ⊥
 IsFileOf (Migrate file years) name = name ≡ file

@@ -5,6 +5,7 @@ pub mod Code
 pub mod Command
 pub mod Edits
 pub mod Ending
+pub mod Flows
 pub mod Gathering
 pub mod Lines
 pub mod Listing

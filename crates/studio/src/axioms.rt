@@ -43,7 +43,7 @@ fn breaks_line(alloc: Global, broken: Axiom, name: &str) -> Result<Vec<u8>, Allo
     Ok(bytes)
 }
 
-fn say_breaks<K: Sink>(alloc: Global, out: &mut K, broken: Axiom, name: &str) -> Status
+pub(crate) fn say_breaks<K: Sink>(alloc: Global, out: &mut K, broken: Axiom, name: &str) -> Status
     ensures { Ends (OrMemory (Only Refused (line (breaks_line broken name.now)))) (HasRisen (K.faults out.old) (K.faults out.new)) (K.written out.old) (K.written out.new) result }
 {
     match breaks_line(alloc, broken, name) {
@@ -88,7 +88,7 @@ fn is_stranger(problem: &Problem, name: &str) -> bool
 }
 
 // The first name that no unit has.
-fn first_stranger<'a>(problem: &Problem, units: &'a UnitNames) -> Option<&'a str>
+pub(crate) fn first_stranger<'a>(problem: &Problem, units: &'a UnitNames) -> Option<&'a str>
     ensures { option_map (λ name. name.now) result ≡ first_stranger problem.now units.now }
 {
     'looking: for k in 0..units.len() {
@@ -113,7 +113,7 @@ fn with_named(problem: &Problem, name: &str, set: UnitSet) -> UnitSet
 }
 
 // The units of the names.
-fn units_named(problem: &Problem, units: &UnitNames) -> UnitSet
+pub(crate) fn units_named(problem: &Problem, units: &UnitNames) -> UnitSet
     requires { length problem.now.units ≤ 128 }
     ensures named { has result ≡ units_named problem.now units.now }
     ensures known { (u : ℕ) → has result u ≡ true → u < length problem.now.units }
@@ -125,7 +125,12 @@ fn units_named(problem: &Problem, units: &UnitNames) -> UnitSet
     set
 }
 
-fn say_verdict<K: Sink>(alloc: Global, out: &mut K, problem: &Problem, verdict: Verdict) -> Status
+pub(crate) fn say_verdict<K: Sink>(
+    alloc: Global,
+    out: &mut K,
+    problem: &Problem,
+    verdict: Verdict,
+) -> Status
     ensures { Ends (Tells (VerdictSays problem.now verdict)) (HasRisen (K.faults out.old) (K.faults out.new)) (K.written out.old) (K.written out.new) result }
 {
     match verdict {

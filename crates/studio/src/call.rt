@@ -11,6 +11,7 @@ use crate::axioms::axioms;
 use crate::check::check;
 use crate::command::{Command, command_of};
 use crate::edits::{edit, undo};
+use crate::flows::flows;
 use crate::list::list;
 use crate::make::make;
 use crate::max::max;
@@ -33,6 +34,7 @@ fn perform<F: Shelf, K: Sink>(
     match command {
         Command::Max(file) => max(alloc, file, shelf, out),
         Command::Axioms(file, units) => axioms(alloc, file, &units, shelf, out),
+        Command::Flows(file, units) => flows(alloc, file, &units, shelf, out),
         Command::Listing(file, after, count) => list(alloc, file, after, count, shelf, out),
         Command::Make(number, units) => make(alloc, number, units, out),
         Command::Migrate(file, years) => migrate(alloc, file, years, shelf, out),

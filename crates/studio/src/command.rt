@@ -1,6 +1,6 @@
 //! The words of a call.
 ghost use Rattle.std.specs.Prelude.{◌≡◌, ◌∷◌, [], IfOk, map, option_map, string_bytes};
-ghost use Rattle.studio.specs.Command.{command_of, on_file, with_file, made_by, unit_names_of, count_of, seed_of, unit_count_of, years_of, Axioms, Listing, Migrate};
+ghost use Rattle.studio.specs.Command.{command_of, on_file, with_file, made_by, unit_names_of, count_of, seed_of, unit_count_of, years_of, Axioms, Flows, Listing, Migrate};
 ghost use Rattle.studio.specs.View.{command_view};
 
 use crate::number::number_within;
@@ -12,6 +12,7 @@ use std::alloc::{AllocError, Global};
 pub(crate) enum Command<'a> {
     Max(&'a str),
     Axioms(&'a str, UnitNames),
+    Flows(&'a str, UnitNames),
     Listing(&'a str, &'a str, u64),
     Make(u64, u64),
     Migrate(&'a str, u64),
@@ -85,6 +86,8 @@ fn on_file<'a>(
 {
     if word == "axioms" {
         axioms_of(alloc, file, second)
+    } else if word == "flows" {
+        flows_of(alloc, file, second)
     } else if word == "migrate" {
         Ok(migrate_of(file, second))
     } else {
@@ -135,6 +138,19 @@ fn axioms_of<'a>(
 {
     match UnitNames::read(alloc, units)? {
         Some(units) => Ok(Some(Command::Axioms(file, units))),
+        None => Ok(None),
+    }
+}
+
+fn flows_of<'a>(
+    alloc: Global,
+    file: &'a str,
+    units: &str,
+) -> Result<Option<Command<'a>>, AllocError>
+    ensures { IfOk result (λ found. option_map command_view found ≡ option_map (Flows file.now) (unit_names_of units.now)) }
+{
+    match UnitNames::read(alloc, units)? {
+        Some(units) => Ok(Some(Command::Flows(file, units))),
         None => Ok(None),
     }
 }

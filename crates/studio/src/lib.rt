@@ -2,12 +2,12 @@
 //!
 //! [`studio`] judges the form of the words, reads and judges the files that they name, does the command's work and puts
 //! its text line by line. Its contract says which text is out with which status, from the words and the bytes that the
-//! shelf holds; each status has its cause, and want of memory alone is free. The commands are `max`, `axioms`, `list`,
-//! `make`, `migrate`, `edit`, `undo` and `check`.
+//! shelf holds; each status has its cause, and want of memory alone is free. The commands are `max`, `axioms`, `flows`,
+//! `list`, `make`, `migrate`, `edit`, `undo` and `check`.
 //!
 //! Modules: `status`; `command`, `unit_names` and `number`, the words; `file`, `problem_file`, `script_file` and `tree_file`, files
-//! that are read and judged; `line` and `say`, the lines and how they are put; `max`, `axioms`, `list`, `make`, `migrate`, `edits`
-//! and `check`, the commands; `call`, which dispatches; `laws`.
+//! that are read and judged; `line` and `say`, the lines and how they are put; `max`, `axioms`, `flows`, `list`, `make`, `migrate`,
+//! `edits` and `check`, the commands; `call`, which dispatches; `laws`.
 #![tactic(auto)]
 
 mod axioms;
@@ -20,6 +20,9 @@ mod command;
 mod edit_tests;
 mod edits;
 mod file;
+#[cfg(test)]
+mod flow_tests;
+mod flows;
 mod laws;
 mod line;
 mod list;

@@ -1,5 +1,5 @@
 use Rattle.std.proofs.Common.{sym, ap, subst, ◌≤◌, ℕ, List}
-use Rattle.studio.specs.Command.{Command, Max, Axioms, Listing, Make, Migrate, Editing, Undoing, Checking, AreWithin}
+use Rattle.studio.specs.Command.{Command, Max, Axioms, Flows, Listing, Make, Migrate, Editing, Undoing, Checking, AreWithin}
 use Rattle.studio.specs.View.{command_view}
 use Rattle.studio.specs.Ending.{Shelves}
 use Rattle.studio.specs.Answers.{CommandSays}
@@ -21,6 +21,13 @@ returns-in-Axioms g c =
     let Q : Status → List ℕ → Type 0 = CommandSays shelves (command_view c.args.command) in
     Ends-map (CommandSays shelves (Axioms c.in-Axioms.file.now c.in-Axioms.units)) Q _ _ _ _ _
     (λ s t h. subst (λ (v : Command). CommandSays shelves v s t) (sym (ap command_view c.in-Axioms.is)) h) (λ r. r) c.axioms.ensures
+
+pub returns-in-Flows : goal.returns-in-Flows
+returns-in-Flows g c =
+    let shelves : Shelves = record { held = g.F.Shelf.held c.args.shelf.now; before = g.F.Shelf.faults c.args.shelf.now; after = g.F.Shelf.faults c.flows.new.shelf } in
+    let Q : Status → List ℕ → Type 0 = CommandSays shelves (command_view c.args.command) in
+    Ends-map (CommandSays shelves (Flows c.in-Flows.file.now c.in-Flows.units)) Q _ _ _ _ _
+    (λ s t h. subst (λ (v : Command). CommandSays shelves v s t) (sym (ap command_view c.in-Flows.is)) h) (λ r. r) c.flows.ensures
 
 pub returns-in-Listing : goal.returns-in-Listing
 returns-in-Listing g c =
