@@ -58,7 +58,7 @@ fallen_same (Some v) = omega (arith, ints)
 pub same_best : (p : Problem) (n : Node) (best : Option claims.Network) → IsBest p best → IsImproved p n best best
 same_best p n best b = record { best = b; fallen = fallen_same (claimed_cost (claim_with best)); below = λ v pv u l. l }
 
-found_best : (p : Problem) (n : Node) (w : Option claims.Network) → AreFoundAt p n w → IsBest p w
+pub found_best : (p : Problem) (n : Node) (w : Option claims.Network) → AreFoundAt p n w → IsBest p w
 found_best p n None f = record { passes = refl; positive = tt }
 found_best p n (Some w) f = record { passes = f.feasible; positive = f.positive }
 

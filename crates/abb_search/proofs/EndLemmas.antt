@@ -1,0 +1,172 @@
+-- What the tree is where a search ends, and what the root is.
+use Rattle.std.proofs.Common.{◌≡◌, ℕ, ◌+◌, ◌<◌, ◌≤◌, true, List, [], ◌∷◌, length, Option, Some, None, refl, sym, ap, ◌∙◌, subst, arith}
+use Rattle.problem_rules.specs.Problem.{Problem}
+use Rattle.pns_rules.specs.Shape.{shape_of}
+use Rattle.pns_rules.specs.Nodes.{Node}
+use Rattle.pgraph.specs.View.{node_of}
+use Rattle.tree_rules.specs.Tree.{End, leaf}
+use Rattle.unit_sets.specs.declared.node.Node as starts
+use Rattle.frac128.specs.declared.fraction.Frac.{Frac}
+use Rattle.pns_rules.specs.Ends.{IsSound}
+use Rattle.tree_rules.specs.Claim as claims
+use Rattle.tree_rules.specs.Claim.{CostOver, claimed_cost, ClaimPasses}
+use Rattle.tree_rules.specs.Leaf.{Leaf, dead, clash, refuted, bounded, IsUntried, untried, LeafPasses}
+use Rattle.tree_rules.specs.Accepted.{Tree}
+use Rattle.tree_rules.specs.Stops.{IsSpent, IsPast}
+use Rattle.search_tree.specs.Cells.{Cell, place_of, cell_at, AreBehind, IsLinked}
+use Rattle.search_tree.specs.Fits.{EndFits}
+use Rattle.search_tree.specs.Growth.{AreOpen}
+use Rattle.search_tree.specs.Preorder.{IsTreeOf, tree_of}
+use Rattle.search_tree.proofs.PassLemmas.{passes, aligned_start}
+use Rattle.turn_laws.specs.Kept.{LeafIsKept, EndIsKept, IsKept}
+use Rattle.turn_laws.proofs.LeanLemmas.{kept_is_lean, whole_is_accepted, open_stands, kept_is_spent}
+use Rattle.node_looks.specs.declared.evaluator.Halt.{Halt}
+use Rattle.node_looks.specs.declared.looks.Ready.{Ready}
+use Rattle.node_looks.specs.declared.looks.Looked.{Looked}
+use Rattle.node_looks.specs.Evaluated.{PastPlaces}
+use Rattle.node_looks.specs.Looks.{IsHalted, IsOpenAs, IsLooked}
+use Rattle.node_looks.proofs.ChildLemmas.{cost_is, found_best}
+use Rattle.node_looks.specs.Children.{claim_with, IsBest, AreReady}
+use Rattle.abb_search.specs.declared.growing.Growing.{Growing}
+use Rattle.abb_search.specs.Growing.{IsTreeKept, IsGrowing, IsSpentAt, IsHaltedAt}
+use Rattle.abb_search.specs.Found.{IsProved, IsStopped, found_with, IsFound}
+
+-- nothing claimed has no cost, as none has where no network is
+as_infeasible : (p : Problem) (start : Node) (last : Option CostOver) (cells : List Cell) → IsKept p start claims.unknown last cells → IsKept p start claims.infeasible last cells
+as_infeasible p start last cells k = record {
+  grown = record { linked = k.grown.linked; fits = k.grown.fits };
+  sound = k.sound;
+  ends = k.ends;
+  last_positive = k.last_positive;
+  claim_positive = k.claim_positive;
+  below = k.below;
+}
+
+module _ (p : Problem) (s : Growing) (t : IsTreeKept p s) (at place : ℕ) (tree : Tree) (of : IsTreeOf s.pool.payloads at tree place) where
+  proved : (claim : claims.Claim) → IsKept p (node_of s.start) claim t.last s.pool.payloads → ClaimPasses true p claim → (claim ≡ claims.unknown → ⊥)
+      → ((i : ℕ) → i < length s.pool.payloads → (cell_at s.pool.payloads i).end ≡ leaf untried → ⊥) → IsProved p (node_of s.start) claim tree
+  proved claim kept passing known shut = subst (λ (w : Tree). IsProved p (node_of s.start) claim w) (sym of.nodes_are) (record {
+    accepted = whole_is_accepted p (node_of s.start) claim t.last s.pool.payloads of.order kept of.is_preorder passing known shut;
+    lean = kept_is_lean p (node_of s.start) claim t.last s.pool.payloads of.order kept of.is_preorder;
+  })
+
+  pub solved : (w : claims.Network) → s.best ≡ Some w → ((i : ℕ) → i < length s.pool.payloads → (cell_at s.pool.payloads i).end ≡ leaf untried → ⊥) → IsProved p (node_of s.start) (claims.network w) tree
+  solved w e shut =
+      proved (claims.network w) (subst (λ (b : Option claims.Network). IsKept p (node_of s.start) (claim_with b) t.last s.pool.payloads) e t.kept)
+      (subst (λ (b : Option claims.Network). ClaimPasses true p (claim_with b)) e t.passes) (λ (q : claims.network w ≡ claims.unknown). cc) shut
+
+  pub infeasible : s.best ≡ None → ((i : ℕ) → i < length s.pool.payloads → (cell_at s.pool.payloads i).end ≡ leaf untried → ⊥) → IsProved p (node_of s.start) claims.infeasible tree
+  infeasible e shut =
+      proved claims.infeasible (as_infeasible p (node_of s.start) t.last s.pool.payloads (subst (λ (b : Option claims.Network). IsKept p (node_of s.start) (claim_with b) t.last s.pool.payloads) e t.kept))
+      tt (λ (q : claims.infeasible ≡ claims.unknown). cc) shut
+
+  pub stopped : IsStopped p (node_of s.start) (claim_with s.best) tree
+  stopped = subst (λ (w : Tree). IsStopped p (node_of s.start) (claim_with s.best) w) (sym of.nodes_are) (record {
+    partial = record {
+      claimed = t.passes;
+      passes =
+          passes (shape_of p) (LeafPasses true p (claimed_cost (claim_with s.best))) (node_of s.start) s.pool.payloads t.kept.grown.linked t.kept.grown.fits (node_of s.start ∷ []) (0 ∷ []) of.order
+          (aligned_start (shape_of p) (LeafPasses true p (claimed_cost (claim_with s.best))) (node_of s.start) s.pool.payloads t.kept.grown.linked t.kept.grown.fits) of.is_preorder;
+    };
+    lean = kept_is_lean p (node_of s.start) (claim_with s.best) t.last s.pool.payloads of.order t.kept of.is_preorder;
+  })
+
+  pub spent : (count : ℕ) → IsSpentAt p s at count → IsSpent p IsUntried (claimed_cost (claim_with s.best)) (node_of s.start) tree place count s.budget
+  spent count h = subst (λ (w : Tree). IsSpent p IsUntried (claimed_cost (claim_with s.best)) (node_of s.start) w place count s.budget) (sym of.nodes_are)
+      (kept_is_spent p (node_of s.start) (claim_with s.best) t.last s.pool.payloads of.order t.kept of.is_preorder at h.material place count s.budget h.value of.stands h.can h.first h.least h.below h.pending h.count_is h.over)
+
+  pub past : (Past : PastPlaces) (h : Halt) → IsHaltedAt Past p s at h → IsPast p IsUntried (node_of s.start) tree (λ n. Past p n h.nonbasic h.place) place
+  past Past h k = subst (λ (w : Tree). IsPast p IsUntried (node_of s.start) w (λ n. Past p n h.nonbasic h.place) place) (sym of.nodes_are) (record {
+    node = place_of (cell_at s.pool.payloads at);
+    at_leaf = open_stands p (node_of s.start) (claim_with s.best) t.last s.pool.payloads of.order t.kept of.is_preorder at place of.stands k.is_open;
+    reduced = k.halted.reduced;
+    past = k.halted.past;
+  })
+
+  pub whole_found : (Past : PastPlaces) (budget : ℕ) (start : starts.Node) → s.start ≡ start
+      → ((i : ℕ) → i < length s.pool.payloads → (cell_at s.pool.payloads i).end ≡ leaf untried → ⊥) → IsFound Past p (node_of start) budget (found_with s.best tree)
+  whole_found Past budget start es shut = subst (λ (n : starts.Node). IsFound Past p (node_of n) budget (found_with s.best tree)) es (by s.best refl)
+    where
+      by : (b : Option claims.Network) → s.best ≡ b → IsFound Past p (node_of s.start) budget (found_with b tree)
+      by None e = infeasible e shut
+      by (Some w) e = solved w e shut
+
+  pub spent_found : (count budget : ℕ) (start : starts.Node) → s.start ≡ start → s.budget ≡ budget → IsSpentAt p s at count
+      → IsStopped p (node_of start) (claim_with s.best) tree × IsSpent p IsUntried (claimed_cost (claim_with s.best)) (node_of start) tree place count budget
+  spent_found count budget start es eu h =
+      subst (λ (n : starts.Node). IsStopped p (node_of n) (claim_with s.best) tree × IsSpent p IsUntried (claimed_cost (claim_with s.best)) (node_of n) tree place count budget) es
+      (stopped, subst (λ b. IsSpent p IsUntried (claimed_cost (claim_with s.best)) (node_of s.start) tree place count b) eu (spent count h))
+
+  pub past_found : (Past : PastPlaces) (h : Halt) (start : starts.Node) → s.start ≡ start → IsHaltedAt Past p s at h
+      → IsStopped p (node_of start) (claim_with s.best) tree × IsPast p IsUntried (node_of start) tree (λ n. Past p n h.nonbasic h.place) place
+  past_found Past h start es k =
+      subst (λ (n : starts.Node). IsStopped p (node_of n) (claim_with s.best) tree × IsPast p IsUntried (node_of n) tree (λ n. Past p n h.nonbasic h.place) place) es (stopped, past Past h k)
+
+-- ---- the root
+
+leaf_kept : (p : Problem) (n : Node) (l : Leaf) → LeafIsKept p None n l
+leaf_kept p n (dead x) = tt
+leaf_kept p n (clash k) = tt
+leaf_kept p n (refuted ys) = tt
+leaf_kept p n (bounded d ys) = tt
+leaf_kept p n untried = λ alive. tt
+
+module _ (Past : PastPlaces) (p : Problem) (start : starts.Node) (l : Looked) (k : IsLooked Past p (node_of start) [] l) where
+  root_best : IsBest p l.network
+  root_best = found_best p (place_of l.cell) l.network k.seen.found
+
+  root_kept : IsKept p (node_of start) (claim_with l.network) None (l.cell ∷ [])
+  root_kept = record {
+    grown = record {
+      linked = record {
+        some = omega arith;
+        behind = λ i lt. let z : i ≡ 0 = omega (arith, lt) in subst (λ j. AreBehind 1 j (cell_at (l.cell ∷ []) j).first (cell_at (l.cell ∷ []) j).end) (sym z)
+            (subst (λ (e : End Leaf). AreBehind 1 0 l.cell.first e) (sym k.seen.end_is) tt);
+        parent = λ j some lt. absurd (omega (arith, some, lt));
+      };
+      fits = record {
+        no_option = k.option_is;
+        root = k.follows;
+        ends = λ i lt. let z : i ≡ 0 = omega (arith, lt) in
+            subst (λ j. EndFits (shape_of p) (LeafPasses true p (claimed_cost (claim_with l.network))) (l.cell ∷ []) (place_of (cell_at (l.cell ∷ []) j)) (cell_at (l.cell ∷ []) j).first (cell_at (l.cell ∷ []) j).end) (sym z)
+            (subst (λ (e : End Leaf). EndFits (shape_of p) (LeafPasses true p (claimed_cost (claim_with l.network))) (l.cell ∷ []) (place_of l.cell) l.cell.first e) (sym k.seen.end_is)
+            (subst (λ (o : Option CostOver). LeafPasses true p o (place_of l.cell) k.seen.what) (cost_is l.network) k.seen.passes));
+      };
+    };
+    sound = λ i lt. let z : i ≡ 0 = omega (arith, lt) in subst (λ j. IsSound (shape_of p) (place_of (cell_at (l.cell ∷ []) j))) (sym z) k.sound;
+    ends = λ i lt. let z : i ≡ 0 = omega (arith, lt) in subst (λ j. EndIsKept p None (place_of (cell_at (l.cell ∷ []) j)) (cell_at (l.cell ∷ []) j).end) (sym z)
+        (subst (λ (e : End Leaf). EndIsKept p None (place_of l.cell) e) (sym k.seen.end_is) (leaf_kept p (place_of l.cell) k.seen.what));
+    last_positive = tt;
+    claim_positive = root_best.positive;
+    below = tt;
+  }
+
+  module _ (s : Growing) (es : s.start ≡ start) (some : 1 ≤ s.budget) (ec : s.pool.payloads ≡ l.cell ∷ []) (ev : s.pool.values ≡ l.value ∷ []) (er : s.ready.items ≡ l.ready ∷ []) (eb : s.best ≡ l.network) where
+    pub root_tree : IsTreeKept p s
+    root_tree = record {
+      last = None;
+      kept = subst (λ (n : starts.Node). IsKept p (node_of n) (claim_with s.best) None s.pool.payloads) (sym es)
+          (subst (λ (w : Option claims.Network). IsKept p (node_of start) (claim_with w) None s.pool.payloads) (sym eb)
+          (subst (λ (cs : List Cell). IsKept p (node_of start) (claim_with l.network) None cs) (sym ec) root_kept));
+      passes = subst (λ (w : Option claims.Network). ClaimPasses true p (claim_with w)) (sym eb) root_best.passes;
+      few = let a = ap (λ (cs : List Cell). length cs) ec in omega (arith, a, some);
+    }
+
+    pub root_grows : l.halt ≡ None → AreOpen s.pool → IsGrowing p s
+    root_grows eh ao = record {
+      tree = root_tree;
+      are_open = ao;
+      ready = subst (λ (cs : List Cell). AreReady p cs s.pool.values s.ready.items) (sym ec)
+          (subst (λ (vs : List Frac). AreReady p (l.cell ∷ []) vs s.ready.items) (sym ev)
+          (subst (λ (rs : List (Option Ready)). AreReady p (l.cell ∷ []) (l.value ∷ []) rs) (sym er)
+          ((λ e. subst (λ (h : Option Halt). IsOpenAs Past p (place_of l.cell) k.seen.what l.value l.ready h) eh k.seen.open_as (let q : leaf k.seen.what ≡ leaf untried = sym k.seen.end_is ∙ e in cc)), tt)));
+    }
+
+    pub root_halts : (h : Halt) → l.halt ≡ Some h → IsHaltedAt Past p s 0 h
+    root_halts h eh =
+        let o = subst (λ (i : Option Halt). IsOpenAs Past p (place_of l.cell) k.seen.what l.value l.ready i) eh k.seen.open_as in
+        record {
+          there = let a = ap (λ (cs : List Cell). length cs) ec in omega (arith, a);
+          is_open = subst (λ (cs : List Cell). (cell_at cs 0).end ≡ leaf untried) (sym ec) (k.seen.end_is ∙ ap (λ (w : Leaf). leaf w) o.0);
+          halted = subst (λ (cs : List Cell). IsHalted Past p (place_of (cell_at cs 0)) h) (sym ec) o.1;
+        }

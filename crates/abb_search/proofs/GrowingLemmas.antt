@@ -1,0 +1,72 @@
+-- What a look at all children does to the nodes, where a leaf is branched.
+use Rattle.std.proofs.Common.{◌≡◌, ℕ, ◌+◌, ◌<◌, List, [], ◌∷◌, ◌++◌, length, map, reverse, slice_set, Option, Some, None, refl, sym, ap, ap₂, ◌∙◌, subst, arith}
+use Rattle.std.specs.Prelude.{IfSome}
+use Rattle.std.proofs.lemmas.List.{reverse-append, length-map, length-reverse}
+use Rattle.problem_rules.specs.Problem.{Problem}
+use Rattle.pns_rules.specs.Shape.{shape_of}
+use Rattle.pns_rules.specs.Nodes.{Node, options}
+use Rattle.frac128.specs.declared.fraction.Frac.{Frac}
+use Rattle.tree_rules.specs.Claim as claims
+use Rattle.search_tree.specs.Cells.{Cell, cell_at}
+use Rattle.search_tree.specs.Growth.{AreOpen, as_branch, cells_in_turn, values_in_turn}
+use Rattle.search_tree.specs.declared.growth.Fresh.{Fresh}
+use Rattle.node_pool.specs.Pooled.{Pooled, AreSameNodes}
+use Rattle.node_looks.specs.declared.looks.Ready.{Ready}
+use Rattle.node_looks.specs.declared.children.HaltedAt.{HaltedAt}
+use Rattle.node_looks.specs.declared.children.Children.{Children}
+use Rattle.node_looks.specs.Evaluated.{PastPlaces}
+use Rattle.node_looks.specs.Children.{cells_of, values_of, HaltHolds, AreSeen}
+use Rattle.abb_search.specs.declared.growing.Growing.{Growing}
+use Rattle.abb_search.specs.declared.growing.Turn.{Turn}
+use Rattle.abb_search.specs.Growing.{turn_after, IsBranching}
+
+cells_last : (fs : List Fresh) (f : Fresh) → cells_in_turn (fs ++ f ∷ []) ≡ f.cell ∷ cells_in_turn fs
+cells_last [] f = refl
+cells_last (g ∷ fs) f = ap (λ (cs : List Cell). cs ++ g.cell ∷ []) (cells_last fs f)
+
+cells_turned : (fs : List Fresh) → cells_in_turn (reverse fs) ≡ cells_of fs
+cells_turned [] = refl
+cells_turned (f ∷ fs) = ap (λ (gs : List Fresh). cells_in_turn gs) (reverse-append (f ∷ []) fs) ∙ (cells_last (reverse fs) f ∙ ap (λ (cs : List Cell). f.cell ∷ cs) (cells_turned fs))
+
+values_last : (fs : List Fresh) (f : Fresh) → values_in_turn (fs ++ f ∷ []) ≡ f.value ∷ values_in_turn fs
+values_last [] f = refl
+values_last (g ∷ fs) f = ap (λ (vs : List Frac). vs ++ g.value ∷ []) (values_last fs f)
+
+values_turned : (fs : List Fresh) → values_in_turn (reverse fs) ≡ values_of fs
+values_turned [] = refl
+values_turned (f ∷ fs) = ap (λ (gs : List Fresh). values_in_turn gs) (reverse-append (f ∷ []) fs) ∙ (values_last (reverse fs) f ∙ ap (λ (vs : List Frac). f.value ∷ vs) (values_turned fs))
+
+-- as many children as options
+pub count_seen : (Past : PastPlaces) (p : Problem) (n : Node) (x : ℕ) (best : Option claims.Network) (c : Children) → AreSeen Past p n x best c → length c.kids.items ≡ length (options (shape_of p) n x)
+count_seen Past p n x best c s =
+    sym (length-map c.kids.items (λ (f : Fresh). f.cell))
+    ∙ (sym (length-map (cells_of c.kids.items) (λ (d : Cell). d.option)) ∙ ap (λ (os : List (List ℕ)). length os) s.children.options_are)
+
+pub halts_within : (Past : PastPlaces) (p : Problem) (kids : List Fresh) (ready : List (Option Ready)) (first limit : ℕ) (h : Option HaltedAt) → HaltHolds Past p kids ready h → first + length kids < limit
+    → IfSome h (λ w. first + w.at < limit)
+halts_within Past p kids ready first limit None h lt = tt
+halts_within Past p kids ready first limit (Some w) h lt = let k = h.0 in omega (arith, k, lt)
+
+pub branching : (Past : PastPlaces) (p : Problem) (n : Node) (old new : Growing) (at x : ℕ) (t : Turn) (c : Children) (mid : Pooled Cell) (rev : List Fresh) (first : ℕ)
+    → AreSeen Past p n x old.best c → AreSameNodes old.pool mid → rev ≡ reverse c.kids.items → first ≡ length old.pool.payloads
+    → new.pool.payloads ≡ slice_set mid.payloads at (as_branch (cell_at mid.payloads at) first x (length rev)) ++ cells_in_turn rev
+    → new.pool.values ≡ mid.values ++ values_in_turn rev
+    → new.ready.items ≡ old.ready.items ++ c.ready.items → new.best ≡ c.best → AreOpen new.pool → new.start ≡ old.start → new.budget ≡ old.budget → t ≡ turn_after first c.halt
+    → IsBranching Past p n old new at x t
+branching Past p n old new at x t c mid rev first seen same er ef ec ev ey eb ao es eu et = record {
+  seen = c;
+  are_seen = seen;
+  cells = ec
+      ∙ (ap (λ (cs : List Cell). slice_set cs at (as_branch (cell_at cs at) first x (length rev)) ++ cells_in_turn rev) same.payloads
+      ∙ (ap (λ (fs : List Fresh). slice_set old.pool.payloads at (as_branch (cell_at old.pool.payloads at) first x (length fs)) ++ cells_in_turn fs) er
+      ∙ (ap (λ k. slice_set old.pool.payloads at (as_branch (cell_at old.pool.payloads at) first x k) ++ cells_in_turn (reverse c.kids.items)) (length-reverse c.kids.items ∙ sym (length-map c.kids.items (λ (f : Fresh). f.cell)))
+      ∙ (ap (λ k. slice_set old.pool.payloads at (as_branch (cell_at old.pool.payloads at) k x (length (cells_of c.kids.items))) ++ cells_in_turn (reverse c.kids.items)) ef
+      ∙ ap (λ (cs : List Cell). slice_set old.pool.payloads at (as_branch (cell_at old.pool.payloads at) (length old.pool.payloads) x (length (cells_of c.kids.items))) ++ cs) (cells_turned c.kids.items)))));
+  values = ev ∙ (ap (λ (vs : List Frac). vs ++ values_in_turn rev) same.values ∙ ap (λ (vs : List Frac). old.pool.values ++ vs) (ap (λ (fs : List Fresh). values_in_turn fs) er ∙ values_turned c.kids.items));
+  ready = ey;
+  best = eb;
+  are_open = ao;
+  start = es;
+  budget = eu;
+  turn_is = et ∙ ap (λ k. turn_after k c.halt) ef;
+}

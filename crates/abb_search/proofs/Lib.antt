@@ -1,0 +1,4 @@
+pub mod EndLemmas
+pub mod GrowingLemmas
+pub mod ReadyLemmas
+pub mod TurnLemmas

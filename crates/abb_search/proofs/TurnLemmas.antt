@@ -1,0 +1,326 @@
+-- What a turn does to what a search keeps.
+use Rattle.std.proofs.Common.{◌≡◌, ◌==◌, ℕ, zero, suc, ◌+◌, ◌-◌, ◌<◌, ◌≤◌, true, false, List, [], ◌∷◌, ◌++◌, length, get_or, slice_set, Option, Some, None, ℤ, pos, ◌*ℤ◌, ◌≤ℤ◌, ◌<ℤ◌, ◌↔◌, IsTrue, refl, sym, ap, ◌∙◌, subst, arith, inl, inr, length-append, true≢false, Result, Ok, Err, IfOk, OnOk}
+use Rattle.std.specs.List.{slice_get}
+use Rattle.std.proofs.lemmas.Bool.{cases_eq, cases_lt, or_cases, eqb-true}
+use Rattle.std.proofs.lemmas.Cmp.{int_ranked}
+use Rattle.std.specs.declared.cmp.Ordering.TheVariants.{Greater}
+use Rattle.unit_sets.specs.declared.node.Node as starts
+use Rattle.std.proofs.lemmas.Int.{ints}
+use Rattle.std.proofs.lemmas.List.{length-set, length-map, get_or-set_same, get_or-set_other, get_or_append_left, get_or-append-add}
+use Rattle.std.proofs.lemmas.Option.{slice_get_within}
+use Rattle.link_lists.specs.Lists.{has, first}
+use Rattle.problem_rules.specs.Problem.{Problem}
+use Rattle.problem_rules.specs.Validity.{IsValid}
+use Rattle.pns_rules.specs.Shape.{shape_of}
+use Rattle.pns_rules.specs.Nodes.{Node, options}
+use Rattle.pns_rules.specs.Ends.{IsSound, IsDead, IsNever, IsUndecided, IsFirst}
+use Rattle.pgraph.specs.View.{node_of}
+use Rattle.frac128.specs.declared.fraction.Frac.{Frac}
+use Rattle.flow_rules.specs.Net.{net_of}
+use Rattle.flow_rules.specs.Relaxed.{relaxed_cost}
+use Rattle.node_pool.specs.Order.{IsRising}
+use Rattle.node_pool.specs.Pooled.{Pooled}
+use Rattle.tree_rules.specs.Tree.{End, branch, leaf}
+use Rattle.tree_rules.specs.Claim as claims
+use Rattle.tree_rules.specs.Claim.{CostOver, claimed_cost, ClaimPasses}
+use Rattle.tree_rules.specs.Leaf.{Leaf, bounded, untried, LeafPasses}
+use Rattle.tree_rules.specs.Stops.{IsPending}
+use Rattle.search_tree.specs.Cells.{Cell, no_cell, place_of, cell_at}
+use Rattle.search_tree.specs.declared.growth.Fresh.{Fresh}
+use Rattle.search_tree.specs.Growth.{is_open, AreOpen, as_branch, as_shut}
+use Rattle.turn_laws.specs.Values.{IsPositive, IsUnder, IsNoMore, IsValueOf, HasFallen, IsPositiveCost}
+use Rattle.turn_laws.specs.Kept.{LastIsBelow, IsKept}
+use Rattle.turn_laws.specs.Turns.{CanBranch, IsLeastOpen, AreChildren, IsBranched}
+use Rattle.turn_laws.proofs.FractionLemmas.{fraction_trans}
+use Rattle.turn_laws.proofs.GrowLemmas.{leaf_fallen}
+use Rattle.turn_laws.proofs.KeptLemmas.{branching_is_kept, shutting_is_kept}
+use Rattle.turn_laws.proofs.StepLemmas.{growth_branches, growth_shuts}
+use Rattle.node_looks.specs.declared.evaluator.Bound.{Bound}
+use Rattle.node_looks.specs.declared.evaluator.Halt.{Halt}
+use Rattle.node_looks.specs.declared.looks.Ready.{Ready}
+use Rattle.node_looks.specs.declared.children.HaltedAt.{HaltedAt}
+use Rattle.node_looks.specs.declared.children.Children.{Children}
+use Rattle.node_looks.specs.Evaluated.{PastPlaces, cost_over, cost_in, IsBoundOf}
+use Rattle.node_looks.specs.Looks.{IsReady, IsSomeReady, IsHalted}
+use Rattle.node_looks.specs.Children.{claim_with, IsBest, cells_of, values_of, AreReady, HaltHolds, AreSeen}
+use Rattle.node_looks.proofs.ChildLemmas.{ready_more}
+use Rattle.abb_search.specs.declared.growing.Growing.{Growing}
+use Rattle.abb_search.specs.declared.growing.Turn.{Turn}
+use Rattle.abb_search.specs.declared.growing.Turn.TheVariants.{More, Halted}
+use Rattle.abb_search.specs.Growing.{IsTreeKept, IsGrowing, open_count, turns_left, IsBeaten, turn_after, IsBranching, IsSpentAt, IsHaltedAt, TurnHolds}
+use Rattle.abb_search.proofs.ReadyLemmas.{open_leaf, leaf_open, not_greater, first_has, none_first, ready_length, IsReadyAt, ready_at, ready_shut, count_more, count_within, count_shut}
+use Rattle.abb_search.proofs.GrowingLemmas.{count_seen}
+
+-- the best network passes, and its scale is above 0
+pub best_of : (p : Problem) (s : Growing) → IsTreeKept p s → IsBest p s.best
+best_of p s t = record { passes = t.passes; positive = t.kept.claim_positive }
+
+-- what is under a node stays under it where it is less
+under_less : (p : Problem) (n : Node) (v w : CostOver) → IsPositive v → IsPositive w → IsNoMore v w → IsUnder p w n → IsUnder p v n
+under_less p n v w pv pw le u z d flows = fraction_trans v.cost v.d w.cost w.d (relaxed_cost (net_of p) n z d) d pv pw flows.positive le (u z d flows)
+
+-- what is not less is greater
+dearer : (x y : ℤ) → (x ≤ℤ y → ⊥) → y ≤ℤ x
+dearer x y h = not_greater y x (λ e. h (let l : x <ℤ y = int_ranked y x Greater (sym e) in omega (arith, ints)))
+
+moved_spent : (p : Problem) (s new : Growing) (at count : ℕ) → new.budget ≡ s.budget → new.best ≡ s.best → new.pool ≡ s.pool → IsSpentAt p s at count → IsSpentAt p new at count
+moved_spent p s new at count eu eb ep h = record {
+  value = h.value;
+  material = h.material;
+  can = subst (λ (l : Pooled Cell). CanBranch p l.payloads at h.material h.value) (sym ep) h.can;
+  first = subst (λ (l : Pooled Cell). IsFirst (IsUndecided (shape_of p) (place_of (cell_at l.payloads at))) h.material) (sym ep) h.first;
+  least = subst (λ (l : Pooled Cell). IsLeastOpen p l.payloads at h.value) (sym ep) h.least;
+  below = subst (λ (w : Option claims.Network). LastIsBelow (Some h.value) (claimed_cost (claim_with w))) (sym eb) h.below;
+  pending = subst (λ (l : Pooled Cell). (j : ℕ) → j < length l.payloads → (cell_at l.payloads j).end ≡ leaf untried → IsPending p (place_of (cell_at l.payloads j))) (sym ep) h.pending;
+  count_is = subst (λ (l : Pooled Cell). count ≡ length (options (shape_of p) (place_of (cell_at l.payloads at)) h.material)) (sym ep) h.count_is;
+  over = subst (λ (l : Pooled Cell). new.budget < length l.payloads + count) (sym ep) (subst (λ b. b < length s.pool.payloads + count) (sym eu) h.over);
+}
+
+-- no leaf is open where none is first
+pub whole : (p : Problem) (s : Growing) → IsGrowing p s → first s.pool.leaves ≡ None → (i : ℕ) → i < length s.pool.payloads → (cell_at s.pool.payloads i).end ≡ leaf untried → ⊥
+whole p s g e i lt h = none_first s.pool.leaves e i (g.are_open i lt ∙ leaf_open (cell_at s.pool.payloads i).end h)
+
+module _ (p : Problem) (valid : IsValid p) (s : Growing) (g : IsGrowing p s) (at : ℕ) (is_first : first s.pool.leaves ≡ Some at)
+    (same_parents : length s.pool.payloads ≡ length s.pool.parents) (below : (id : ℕ) → has s.pool.leaves id ≡ true → id < length s.pool.parents) (rising : IsRising s.pool.values s.pool.leaves) where
+  pub is_leaf : has s.pool.leaves at ≡ true
+  is_leaf = first_has s.pool.leaves at is_first
+
+  pub there : at < length s.pool.payloads
+  there = let l = below at is_leaf in let e = same_parents in omega (arith, l, e)
+
+  pub opens : is_open (cell_at s.pool.payloads at).end ≡ true
+  opens = sym (g.are_open at there) ∙ is_leaf
+
+  pub untried_there : (cell_at s.pool.payloads at).end ≡ leaf untried
+  untried_there = open_leaf (cell_at s.pool.payloads at).end opens
+
+  pub at_hand : IsReadyAt p s.pool.payloads s.pool.values s.ready.items at
+  at_hand = ready_at p s.pool.payloads s.pool.values s.ready.items at g.ready there untried_there
+
+  -- something is at hand
+  pub never_none : (r : Option Ready) → r ≡ get_or s.ready.items at None → r ≡ None → ⊥
+  never_none r e n = subst (λ (o : Option Ready). IsSomeReady p (place_of (cell_at s.pool.payloads at)) at_hand.value o) (sym e ∙ n) at_hand.some
+
+  pub ready_known : (r : Option Ready) (q : Ready) → r ≡ get_or s.ready.items at None → r ≡ Some q → IsReady p (place_of (cell_at s.pool.payloads at)) at_hand.value q
+  ready_known r q e n = subst (λ (o : Option Ready). IsSomeReady p (place_of (cell_at s.pool.payloads at)) at_hand.value o) (sym e ∙ n) at_hand.some
+
+  -- the leaf is a least one
+  no_less : (j : ℕ) → has s.pool.leaves j ≡ true → (j ≡ at → ⊥) → (w : Frac) → slice_get s.pool.values j ≡ Some w → IsNoMore (cost_over at_hand.value) (cost_over w)
+  no_less j h ne w e = by s.pool.leaves is_first rising h
+    where
+      by : (xs : List ℕ) → first xs ≡ Some at → IsRising s.pool.values xs → has xs j ≡ true → IsNoMore (cost_over at_hand.value) (cost_over w)
+      by [] f r k = absurd cc
+      by (x ∷ xs) f r k =
+          let q : x ≡ at = cc in
+          not_greater (at_hand.value.num *ℤ w.den) (w.num *ℤ at_hand.value.den)
+          (r.0 j (has_tail x xs k (λ (e : j ≡ x). ne (e ∙ q))) at_hand.value w (subst (λ i. slice_get s.pool.values i ≡ Some at_hand.value) (sym q) at_hand.value_is) e)
+        where
+          has_tail : (x : ℕ) (xs : List ℕ) → has (x ∷ xs) j ≡ true → (j ≡ x → ⊥) → has xs j ≡ true
+          has_tail x xs k ne = elim (or_cases (x == j) (has xs j) k) [ inl e ↦ absurd (ne (sym (eqb-true x j e))) | inr h ↦ h ]
+
+  valued : (q : Ready) → IsReady p (place_of (cell_at s.pool.payloads at)) at_hand.value q → IsValueOf p (place_of (cell_at s.pool.payloads at)) (cost_over at_hand.value)
+  valued q k = subst (λ (v : Frac). IsValueOf p (place_of (cell_at s.pool.payloads at)) (cost_over v)) k.value_is k.bound.value
+
+  -- what is known of another open leaf
+  record IsOther (j : ℕ) : Type 0 where
+    pub value : Frac
+    pub value_is : slice_get s.pool.values j ≡ Some value
+    pub ready : Ready
+    pub known : IsReady p (place_of (cell_at s.pool.payloads j)) value ready
+
+  other : (j : ℕ) → j < length s.pool.payloads → (cell_at s.pool.payloads j).end ≡ leaf untried → IsOther j
+  other j lt e =
+      let h = ready_at p s.pool.payloads s.pool.values s.ready.items j g.ready lt e in
+      by h.value h.value_is (get_or s.ready.items j None) h.some
+    where
+      by : (v : Frac) → slice_get s.pool.values j ≡ Some v → (r : Option Ready) → IsSomeReady p (place_of (cell_at s.pool.payloads j)) v r → IsOther j
+      by v e None k = absurd k
+      by v e (Some r) k = record { value = v; value_is = e; ready = r; known = k }
+
+  least : (q : Ready) → IsReady p (place_of (cell_at s.pool.payloads at)) at_hand.value q → IsLeastOpen p s.pool.payloads at (cost_over at_hand.value)
+  least q k j lt ne e alive =
+      let o = other j lt e in
+      let u : IsValueOf p (place_of (cell_at s.pool.payloads j)) (cost_over o.value) = subst (λ (v : Frac). IsValueOf p (place_of (cell_at s.pool.payloads j)) (cost_over v)) o.known.value_is o.known.bound.value in
+      under_less p (place_of (cell_at s.pool.payloads j)) (cost_over at_hand.value) (cost_over o.value) (valued q k).positive u.positive
+      (no_less j (g.are_open j lt ∙ leaf_open (cell_at s.pool.payloads j).end e) ne o.value o.value_is) u.under
+
+  can_branch : (q : Ready) → IsReady p (place_of (cell_at s.pool.payloads at)) at_hand.value q → CanBranch p s.pool.payloads at q.material (cost_over at_hand.value)
+  can_branch q k = record { there = there; is_open = untried_there; reduced = k.reduced; undecided = k.first.0; value = valued q k }
+
+  pending : (j : ℕ) → j < length s.pool.payloads → (cell_at s.pool.payloads j).end ≡ leaf untried → IsPending p (place_of (cell_at s.pool.payloads j))
+  pending j lt e =
+      let o = other j lt e in
+      let r = o.known.bound.value.reached in
+      record { reduced = o.known.reduced; undecided = (o.ready.material, o.known.first.0); relaxed = record { sizes = r.sizes; d = r.d; relaxed = r.relaxed; at_most = tt } }
+
+  -- where the best network is dearer, the value is below it
+  not_beaten : (best : Option claims.Network) (v : Frac) → (IsBeaten best v → ⊥) → LastIsBelow (Some (cost_over v)) (claimed_cost (claim_with best))
+  not_beaten None v h = tt
+  not_beaten (Some w) v h = dearer (w.cost *ℤ v.den) (v.num *ℤ w.d) h
+
+  module _ (q : Ready) (k : IsReady p (place_of (cell_at s.pool.payloads at)) at_hand.value q) where
+    -- ---- the leaf is shut
+    module _ (beaten : IsBeaten s.best q.bound.value) where
+      passes_by : (best : Option claims.Network) → IsPositiveCost (claimed_cost (claim_with best)) → IsBeaten best q.bound.value
+          → LeafPasses true p (claimed_cost (claim_with best)) (place_of (cell_at s.pool.payloads at)) (bounded q.bound.d q.bound.ys)
+      passes_by None pc b = absurd b
+      passes_by (Some w) pc b =
+          leaf_fallen p (Some (cost_over q.bound.value)) (Some (cost_in w)) (place_of (cell_at s.pool.payloads at)) (bounded q.bound.d q.bound.ys) b k.bound.value.positive pc k.bound.bounded
+
+      abbrev shut_cells : List Cell
+      shut_cells = slice_set s.pool.payloads at (as_shut (cell_at s.pool.payloads at) (leaf (bounded q.bound.d q.bound.ys)))
+
+      shut_kept : IsKept p (node_of s.start) (claim_with s.best) g.tree.last (slice_set s.pool.payloads at (as_shut (cell_at s.pool.payloads at) (leaf (bounded q.bound.d q.bound.ys))))
+      shut_kept =
+          shutting_is_kept p (node_of s.start) (claim_with s.best) g.tree.last s.pool.payloads (slice_set s.pool.payloads at (as_shut (cell_at s.pool.payloads at) (leaf (bounded q.bound.d q.bound.ys)))) g.tree.kept
+          (growth_shuts p (claimed_cost (claim_with s.best)) s.pool.payloads at (bounded q.bound.d q.bound.ys) there untried_there (λ (e : bounded q.bound.d q.bound.ys ≡ untried). cc)
+          (passes_by s.best g.tree.kept.claim_positive beaten))
+
+      pub shut_turn : (new : Growing) → new.start ≡ s.start → new.budget ≡ s.budget → new.best ≡ s.best
+          → new.pool.payloads ≡ slice_set s.pool.payloads at (as_shut (cell_at s.pool.payloads at) (leaf (bounded q.bound.d q.bound.ys)))
+          → new.pool.values ≡ s.pool.values → AreOpen new.pool → new.ready.items ≡ slice_set s.ready.items at None → IsGrowing p new × (turns_left new < turns_left s)
+      shut_turn new es eu eb ec ev ao er = (
+        record {
+          tree = record {
+            last = g.tree.last;
+            kept = subst (λ (cs : List Cell). IsKept p (node_of new.start) (claim_with new.best) g.tree.last cs) (sym ec)
+                (subst (λ (w : Option claims.Network). IsKept p (node_of new.start) (claim_with w) g.tree.last shut_cells) (sym eb)
+                (subst (λ (n : starts.Node). IsKept p (node_of n) (claim_with s.best) g.tree.last shut_cells) (sym es) shut_kept));
+            passes = subst (λ (w : Option claims.Network). ClaimPasses true p (claim_with w)) (sym eb) g.tree.passes;
+            few = let a = same_count in let b = g.tree.few in let c = eu in omega (arith, a, b, c);
+          };
+          are_open = ao;
+          ready = subst (λ (rs : List (Option Ready)). AreReady p new.pool.payloads new.pool.values rs) (sym er)
+              (subst (λ (vs : List Frac). AreReady p new.pool.payloads vs (slice_set s.ready.items at None)) (sym ev)
+              (subst (λ (cs : List Cell). AreReady p cs s.pool.values (slice_set s.ready.items at None)) (sym ec)
+              (ready_shut p s.pool.payloads s.pool.values s.ready.items at (as_shut (cell_at s.pool.payloads at) (leaf (bounded q.bound.d q.bound.ys))) g.ready refl)));
+        },
+        (let a = same_count in
+            let b = ap (λ (cs : List Cell). open_count cs) ec in
+            let c = count_shut s.pool.payloads at (as_shut (cell_at s.pool.payloads at) (leaf (bounded q.bound.d q.bound.ys))) there opens refl in
+            let d = eu in
+            fewer new.budget s.budget (length new.pool.payloads) (length s.pool.payloads) (open_count new.pool.payloads) (open_count s.pool.payloads) d a (ap (λ i. i + 1) b ∙ c)),
+      )
+        where
+          same_count : length new.pool.payloads ≡ length s.pool.payloads
+          same_count = ap (λ (cs : List Cell). length cs) ec ∙ length-set s.pool.payloads at (as_shut (cell_at s.pool.payloads at) (leaf (bounded q.bound.d q.bound.ys)))
+
+          fewer : (b b' n n' o o' : ℕ) → b ≡ b' → n ≡ n' → o + 1 ≡ o' → (b - n) + o < (b' - n') + o'
+          fewer b b' n n' o o' eb en eo = subst (λ i. (b - n) + o < (i - n') + o') eb (subst (λ i. (b - n) + o < (b - i) + o') en (omega (arith, eo)))
+
+    -- ---- the budget is spent
+    pub spent_turn : (new : Growing) (count : ℕ) → new.start ≡ s.start → new.budget ≡ s.budget → new.best ≡ s.best → new.pool ≡ s.pool → (IsBeaten s.best q.bound.value → ⊥)
+        → count ≡ length (options (shape_of p) (place_of (cell_at s.pool.payloads at)) q.material) → s.budget < length s.pool.payloads + count → IsTreeKept p new × IsSpentAt p new at count
+    spent_turn new count es eu eb ep nb ec over = (tree_same, spent)
+      where
+        tree_same : IsTreeKept p new
+        tree_same = record {
+          last = g.tree.last;
+          kept = subst (λ (l : Pooled Cell). IsKept p (node_of new.start) (claim_with new.best) g.tree.last l.payloads) (sym ep)
+              (subst (λ (w : Option claims.Network). IsKept p (node_of new.start) (claim_with w) g.tree.last s.pool.payloads) (sym eb)
+              (subst (λ (n : starts.Node). IsKept p (node_of n) (claim_with s.best) g.tree.last s.pool.payloads) (sym es) g.tree.kept));
+          passes = subst (λ (w : Option claims.Network). ClaimPasses true p (claim_with w)) (sym eb) g.tree.passes;
+          few = let a = ap (λ (l : Pooled Cell). length l.payloads) ep in let b = g.tree.few in let c = eu in omega (arith, a, b, c);
+        }
+
+        spent_here : IsSpentAt p s at count
+        spent_here = record {
+          value = cost_over at_hand.value;
+          material = q.material;
+          can = can_branch q k;
+          first = k.first;
+          least = least q k;
+          below = subst (λ (v : Frac). LastIsBelow (Some (cost_over v)) (claimed_cost (claim_with s.best))) k.value_is (not_beaten s.best q.bound.value nb);
+          pending = pending;
+          count_is = ec;
+          over = over;
+        }
+
+        spent : IsSpentAt p new at count
+        spent = moved_spent p s new at count eu eb ep spent_here
+
+    -- ---- the leaf is branched
+    module _ (Past : PastPlaces) (new : Growing) (t : Turn) (nb : IsBeaten s.best q.bound.value → ⊥)
+        (few : length s.pool.payloads + length (options (shape_of p) (place_of (cell_at s.pool.payloads at)) q.material) ≤ s.budget)
+        (c : Children) (seen : AreSeen Past p (place_of (cell_at s.pool.payloads at)) q.material s.best c)
+        (ec : new.pool.payloads ≡ slice_set s.pool.payloads at (as_branch (cell_at s.pool.payloads at) (length s.pool.payloads) q.material (length (cells_of c.kids.items))) ++ cells_of c.kids.items)
+        (ev : new.pool.values ≡ s.pool.values ++ values_of c.kids.items) (mid : List (Option Ready)) (em : mid ≡ slice_set s.ready.items at None) (er : new.ready.items ≡ mid ++ c.ready.items)
+        (eb : new.best ≡ c.best) (ao : AreOpen new.pool) (es : new.start ≡ s.start) (eu : new.budget ≡ s.budget) where
+      abbrev kids : List Cell
+      kids = cells_of c.kids.items
+
+      abbrev now : Cell
+      now = as_branch (cell_at s.pool.payloads at) (length s.pool.payloads) q.material (length kids)
+
+      branched : IsBranched s.pool.payloads (cells_of c.kids.items) new.pool.payloads at q.material
+      branched = subst (λ (cs : List Cell). IsBranched s.pool.payloads (cells_of c.kids.items) cs at q.material) (sym ec) (growth_branches s.pool.payloads (cells_of c.kids.items) at q.material there)
+
+      kid_count : length (cells_of c.kids.items) ≡ length (options (shape_of p) (place_of (cell_at s.pool.payloads at)) q.material)
+      kid_count = length-map c.kids.items (λ (f : Fresh). f.cell) ∙ count_seen Past p (place_of (cell_at s.pool.payloads at)) q.material s.best c seen
+
+      last_below : LastIsBelow (Some (cost_over at_hand.value)) (claimed_cost (claim_with s.best))
+      last_below = subst (λ (v : Frac). LastIsBelow (Some (cost_over v)) (claimed_cost (claim_with s.best))) k.value_is (not_beaten s.best q.bound.value nb)
+
+      kept_now : IsKept p (node_of s.start) (claim_with c.best) (Some (cost_over at_hand.value)) new.pool.payloads
+      kept_now =
+          branching_is_kept p valid (node_of s.start) (claim_with s.best) (claim_with c.best) g.tree.last (cost_over at_hand.value) s.pool.payloads (cells_of c.kids.items) new.pool.payloads at q.material
+          g.tree.kept (can_branch q k) (least q k) seen.improved.fallen seen.improved.best.positive
+          (seen.improved.below (cost_over at_hand.value) (valued q k).positive (valued q k).under last_below) seen.children branched
+
+      longer : length new.pool.payloads ≡ length s.pool.payloads + length (cells_of c.kids.items)
+      longer = branched.len
+
+      tree_now : IsTreeKept p new
+      tree_now = record {
+        last = Some (cost_over at_hand.value);
+        kept = subst (λ (w : Option claims.Network). IsKept p (node_of new.start) (claim_with w) (Some (cost_over at_hand.value)) new.pool.payloads) (sym eb)
+            (subst (λ (n : starts.Node). IsKept p (node_of n) (claim_with c.best) (Some (cost_over at_hand.value)) new.pool.payloads) (sym es) kept_now);
+        passes = subst (λ (w : Option claims.Network). ClaimPasses true p (claim_with w)) (sym eb) seen.improved.best.passes;
+        few = let a = longer in let b = kid_count in let d = few in let e = eu in omega (arith, a, b, d, e);
+      }
+
+      ready_now : AreReady p (cells_of c.kids.items) (values_of c.kids.items) c.ready.items → AreReady p new.pool.payloads new.pool.values new.ready.items
+      ready_now h =
+          subst (λ (rs : List (Option Ready)). AreReady p new.pool.payloads new.pool.values rs) (sym (er ∙ ap (λ (rs : List (Option Ready)). rs ++ c.ready.items) em))
+          (subst (λ (vs : List Frac). AreReady p new.pool.payloads vs (slice_set s.ready.items at None ++ c.ready.items)) (sym ev)
+          (subst (λ (cs : List Cell). AreReady p cs (s.pool.values ++ values_of c.kids.items) (slice_set s.ready.items at None ++ c.ready.items)) (sym ec)
+          (ready_more p (slice_set s.pool.payloads at now) s.pool.values (slice_set s.ready.items at None) (cells_of c.kids.items) (values_of c.kids.items) c.ready.items
+          (ready_shut p s.pool.payloads s.pool.values s.ready.items at now g.ready refl) h)))
+
+      fewer_now : turns_left new < turns_left s
+      fewer_now =
+          let a = ap (λ (cs : List Cell). open_count cs) ec ∙ count_more (slice_set s.pool.payloads at now) (cells_of c.kids.items) in
+          let b = count_shut s.pool.payloads at now there opens refl in
+          let d = count_within (cells_of c.kids.items) in
+          by new.budget s.budget (length s.pool.payloads) (length new.pool.payloads) (length (cells_of c.kids.items)) (open_count new.pool.payloads) (open_count (slice_set s.pool.payloads at now)) (open_count s.pool.payloads) (open_count (cells_of c.kids.items))
+          eu longer (let x = few in let y = kid_count in omega (arith, x, y)) a b d
+        where
+          by : (u u' n m j o o1 o' i : ℕ) → u ≡ u' → m ≡ n + j → n + j ≤ u' → o ≡ o1 + i → o1 + 1 ≡ o' → i ≤ j → (u - m) + o < (u' - n) + o'
+          by u u' n m j o o1 o' i eu em le eo e1 li = subst (λ z. (z - m) + o < (u' - n) + o') (sym eu) (subst (λ z. (u' - z) + o < (u' - n) + o') (sym em) (omega (arith, le, eo, e1, li)))
+
+      turn_by : (h : Option HaltedAt) → HaltHolds Past p c.kids.items c.ready.items h → TurnHolds Past p s new (turn_after (length s.pool.payloads) h)
+      turn_by None h = (record { tree = tree_now; are_open = ao; ready = ready_now h }, fewer_now)
+      turn_by (Some w) h =
+          let lt : w.at < length (cells_of c.kids.items) = let a = h.0 in let b = length-map c.kids.items (λ (f : Fresh). f.cell) in omega (arith, a, b) in
+          let here : cell_at new.pool.payloads (length s.pool.payloads + w.at) ≡ cell_at (cells_of c.kids.items) w.at = branched.kids_are w.at lt in (
+            tree_now,
+            record {
+              there = let a = longer in omega (arith, a, lt);
+              is_open = subst (λ (d : Cell). d.end ≡ leaf untried) (sym here) h.1;
+              halted = subst (λ (d : Cell). IsHalted Past p (place_of d) w.halt) (sym here) h.2;
+            },
+          )
+
+      pub branched_turn : t ≡ turn_after (length s.pool.payloads) c.halt → TurnHolds Past p s new t
+      branched_turn et = subst (λ (u : Turn). TurnHolds Past p s new u) (sym et) (turn_by c.halt seen.halt_holds)
+
+pub ok_map : {A B : Type 0} (P Q : A → Type 0) (r : Result A B) → ((a : A) → P a → Q a) → IfOk r P → IfOk r Q
+ok_map P Q (Ok a) f h = f a h
+ok_map P Q (Err e) f h = tt
+
+pub ok_on : {A B : Type 0} (P : A → Type 0) (Q : Type 0) (r : Result A B) → ((a : A) → P a → Q) → IfOk r P → OnOk r Q
+ok_on P Q (Ok a) f h = f a h
+ok_on P Q (Err e) f h = tt
+
+pub within_budget : (budget l n count k : ℕ) → l ≡ n → count ≡ k → (budget < l + count → ⊥) → n + k ≤ budget
+within_budget budget l n count k el ec h = elim (cases_lt budget (n + k)) [ inl lt ↦ absurd (h (omega (arith, el, ec, lt))) | inr le ↦ omega (arith, le) ]

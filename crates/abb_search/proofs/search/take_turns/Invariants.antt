@@ -1,0 +1,9 @@
+use Rattle.std.proofs.Common.{◌≡◌}
+use Rattle.abb_search.specs.Growing.{IsGrowing, turns_left}
+use Rattle.abb_search.proofs.search.take_turns.Given as goal
+
+abbrev pub invariant-turns : goal.invariant-turns
+invariant-turns g l = IsGrowing l.problem l.growing × (l.growing.start ≡ l.fn.growing.start) × (l.growing.budget ≡ l.fn.growing.budget)
+
+abbrev pub decreases-turns : goal.decreases-turns
+decreases-turns g l = turns_left l.growing

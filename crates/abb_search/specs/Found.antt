@@ -1,0 +1,39 @@
+-- What a search finds: a claim with the tree that proves it, or the tree as far as it came and where it stopped.
+use Rattle.std.specs.Prelude.{ℕ, Option, Some, None}
+use Rattle.problem_rules.specs.Problem.{Problem}
+use Rattle.pns_rules.specs.Nodes.{Node}
+use Rattle.tree_rules.specs.Claim as claims
+use Rattle.tree_rules.specs.Claim.{claimed_cost}
+use Rattle.tree_rules.specs.Leaf.{IsUntried}
+use Rattle.tree_rules.specs.Lean.{IsLean}
+use Rattle.tree_rules.specs.Accepted.{Tree, IsAccepted, IsPartial}
+use Rattle.tree_rules.specs.Stops.{IsSpent, IsPast}
+use Rattle.node_looks.specs.Evaluated.{PastPlaces}
+use Rattle.node_looks.specs.Children.{claim_with}
+use Rattle.abb_search.specs.declared.search.Found.{Found}
+use Rattle.abb_search.specs.declared.search.Found.TheVariants.{Solved, Infeasible, Spent, Past, Memory}
+
+-- a lean tree that proves the claim
+pub record IsProved (p : Problem) (start : Node) (claim : claims.Claim) (tree : Tree) : Type 0 where
+  pub accepted : IsAccepted p start claim tree
+  pub lean : IsLean p IsUntried (claimed_cost claim) start tree
+
+-- a lean tree that proves the claim but for its open leaves
+pub record IsStopped (p : Problem) (start : Node) (claim : claims.Claim) (tree : Tree) : Type 0 where
+  pub partial : IsPartial p start claim tree
+  pub lean : IsLean p IsUntried (claimed_cost claim) start tree
+
+-- the network, or that there is none
+abbrev pub found_with : Option claims.Network → Tree → Found
+found_with None tree = Infeasible tree
+found_with (Some w) tree = Solved w tree
+
+-- `Halts` tells at which places an evaluator of nodes goes past the range
+abbrev pub IsFound : PastPlaces → Problem → Node → ℕ → Found → Type 0
+IsFound Halts p start budget (Solved w tree) = IsProved p start (claims.network w) tree
+IsFound Halts p start budget (Infeasible tree) = IsProved p start claims.infeasible tree
+IsFound Halts p start budget (Spent best tree next options) =
+    IsStopped p start (claim_with best) tree × IsSpent p IsUntried (claimed_cost (claim_with best)) start tree next options budget
+IsFound Halts p start budget (Past best tree node nonbasic place) =
+    IsStopped p start (claim_with best) tree × IsPast p IsUntried start tree (λ n. Halts p n nonbasic place) node
+IsFound Halts p start budget Memory = Unit {0}
