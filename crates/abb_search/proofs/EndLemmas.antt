@@ -1,5 +1,5 @@
 -- What the tree is where a search ends, and what the root is.
-use Rattle.std.proofs.Common.{◌≡◌, ℕ, ◌+◌, ◌<◌, ◌≤◌, true, List, [], ◌∷◌, length, Option, Some, None, refl, sym, ap, ◌∙◌, subst, arith}
+use Rattle.std.proofs.Common.{◌≡◌, ℕ, ◌<◌, ◌≤◌, true, List, [], ◌∷◌, length, Option, Some, None, refl, sym, ap, ◌∙◌, subst, arith}
 use Rattle.problem_rules.specs.Problem.{Problem}
 use Rattle.pns_rules.specs.Shape.{shape_of}
 use Rattle.pns_rules.specs.Nodes.{Node}
@@ -13,10 +13,10 @@ use Rattle.tree_rules.specs.Claim.{CostOver, claimed_cost, ClaimPasses}
 use Rattle.tree_rules.specs.Leaf.{Leaf, dead, clash, refuted, bounded, IsUntried, untried, LeafPasses}
 use Rattle.tree_rules.specs.Accepted.{Tree}
 use Rattle.tree_rules.specs.Stops.{IsSpent, IsPast}
-use Rattle.search_tree.specs.Cells.{Cell, place_of, cell_at, AreBehind, IsLinked}
+use Rattle.search_tree.specs.Cells.{Cell, place_of, cell_at, AreBehind}
 use Rattle.search_tree.specs.Fits.{EndFits}
 use Rattle.search_tree.specs.Growth.{AreOpen}
-use Rattle.search_tree.specs.Preorder.{IsTreeOf, tree_of}
+use Rattle.search_tree.specs.Preorder.{IsTreeOf}
 use Rattle.search_tree.proofs.PassLemmas.{passes, aligned_start}
 use Rattle.turn_laws.specs.Kept.{LeafIsKept, EndIsKept, IsKept}
 use Rattle.turn_laws.proofs.LeanLemmas.{kept_is_lean, whole_is_accepted, open_stands, kept_is_spent}

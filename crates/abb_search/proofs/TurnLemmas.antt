@@ -1,54 +1,50 @@
 -- What a turn does to what a search keeps.
-use Rattle.std.proofs.Common.{◌≡◌, ◌==◌, ℕ, zero, suc, ◌+◌, ◌-◌, ◌<◌, ◌≤◌, true, false, List, [], ◌∷◌, ◌++◌, length, get_or, slice_set, Option, Some, None, ℤ, pos, ◌*ℤ◌, ◌≤ℤ◌, ◌<ℤ◌, ◌↔◌, IsTrue, refl, sym, ap, ◌∙◌, subst, arith, inl, inr, length-append, true≢false, Result, Ok, Err, IfOk, OnOk}
+use Rattle.std.proofs.Common.{◌≡◌, ◌==◌, ℕ, ◌+◌, ◌-◌, ◌<◌, ◌≤◌, true, List, [], ◌∷◌, ◌++◌, length, get_or, slice_set, Option, Some, None, ℤ, ◌*ℤ◌, ◌≤ℤ◌, ◌<ℤ◌, refl, sym, ap, ◌∙◌, subst, arith, inl, inr, Result, Ok, Err, IfOk, OnOk}
 use Rattle.std.specs.List.{slice_get}
-use Rattle.std.proofs.lemmas.Bool.{cases_eq, cases_lt, or_cases, eqb-true}
+use Rattle.std.proofs.lemmas.Bool.{cases_lt, or_cases, eqb-true}
 use Rattle.std.proofs.lemmas.Cmp.{int_ranked}
 use Rattle.std.specs.declared.cmp.Ordering.TheVariants.{Greater}
 use Rattle.unit_sets.specs.declared.node.Node as starts
 use Rattle.std.proofs.lemmas.Int.{ints}
-use Rattle.std.proofs.lemmas.List.{length-set, length-map, get_or-set_same, get_or-set_other, get_or_append_left, get_or-append-add}
-use Rattle.std.proofs.lemmas.Option.{slice_get_within}
+use Rattle.std.proofs.lemmas.List.{length-set, length-map}
 use Rattle.link_lists.specs.Lists.{has, first}
 use Rattle.problem_rules.specs.Problem.{Problem}
 use Rattle.problem_rules.specs.Validity.{IsValid}
 use Rattle.pns_rules.specs.Shape.{shape_of}
 use Rattle.pns_rules.specs.Nodes.{Node, options}
-use Rattle.pns_rules.specs.Ends.{IsSound, IsDead, IsNever, IsUndecided, IsFirst}
+use Rattle.pns_rules.specs.Ends.{IsUndecided, IsFirst}
 use Rattle.pgraph.specs.View.{node_of}
 use Rattle.frac128.specs.declared.fraction.Frac.{Frac}
 use Rattle.flow_rules.specs.Net.{net_of}
 use Rattle.flow_rules.specs.Relaxed.{relaxed_cost}
 use Rattle.node_pool.specs.Order.{IsRising}
 use Rattle.node_pool.specs.Pooled.{Pooled}
-use Rattle.tree_rules.specs.Tree.{End, branch, leaf}
+use Rattle.tree_rules.specs.Tree.{leaf}
 use Rattle.tree_rules.specs.Claim as claims
 use Rattle.tree_rules.specs.Claim.{CostOver, claimed_cost, ClaimPasses}
-use Rattle.tree_rules.specs.Leaf.{Leaf, bounded, untried, LeafPasses}
+use Rattle.tree_rules.specs.Leaf.{bounded, untried, LeafPasses}
 use Rattle.tree_rules.specs.Stops.{IsPending}
-use Rattle.search_tree.specs.Cells.{Cell, no_cell, place_of, cell_at}
+use Rattle.search_tree.specs.Cells.{Cell, place_of, cell_at}
 use Rattle.search_tree.specs.declared.growth.Fresh.{Fresh}
 use Rattle.search_tree.specs.Growth.{is_open, AreOpen, as_branch, as_shut}
-use Rattle.turn_laws.specs.Values.{IsPositive, IsUnder, IsNoMore, IsValueOf, HasFallen, IsPositiveCost}
+use Rattle.turn_laws.specs.Values.{IsPositive, IsUnder, IsNoMore, IsValueOf, IsPositiveCost}
 use Rattle.turn_laws.specs.Kept.{LastIsBelow, IsKept}
-use Rattle.turn_laws.specs.Turns.{CanBranch, IsLeastOpen, AreChildren, IsBranched}
+use Rattle.turn_laws.specs.Turns.{CanBranch, IsLeastOpen, IsBranched}
 use Rattle.turn_laws.proofs.FractionLemmas.{fraction_trans}
 use Rattle.turn_laws.proofs.GrowLemmas.{leaf_fallen}
 use Rattle.turn_laws.proofs.KeptLemmas.{branching_is_kept, shutting_is_kept}
 use Rattle.turn_laws.proofs.StepLemmas.{growth_branches, growth_shuts}
-use Rattle.node_looks.specs.declared.evaluator.Bound.{Bound}
-use Rattle.node_looks.specs.declared.evaluator.Halt.{Halt}
 use Rattle.node_looks.specs.declared.looks.Ready.{Ready}
 use Rattle.node_looks.specs.declared.children.HaltedAt.{HaltedAt}
 use Rattle.node_looks.specs.declared.children.Children.{Children}
-use Rattle.node_looks.specs.Evaluated.{PastPlaces, cost_over, cost_in, IsBoundOf}
+use Rattle.node_looks.specs.Evaluated.{PastPlaces, cost_over, cost_in}
 use Rattle.node_looks.specs.Looks.{IsReady, IsSomeReady, IsHalted}
 use Rattle.node_looks.specs.Children.{claim_with, IsBest, cells_of, values_of, AreReady, HaltHolds, AreSeen}
 use Rattle.node_looks.proofs.ChildLemmas.{ready_more}
 use Rattle.abb_search.specs.declared.growing.Growing.{Growing}
 use Rattle.abb_search.specs.declared.growing.Turn.{Turn}
-use Rattle.abb_search.specs.declared.growing.Turn.TheVariants.{More, Halted}
-use Rattle.abb_search.specs.Growing.{IsTreeKept, IsGrowing, open_count, turns_left, IsBeaten, turn_after, IsBranching, IsSpentAt, IsHaltedAt, TurnHolds}
-use Rattle.abb_search.proofs.ReadyLemmas.{open_leaf, leaf_open, not_greater, first_has, none_first, ready_length, IsReadyAt, ready_at, ready_shut, count_more, count_within, count_shut}
+use Rattle.abb_search.specs.Growing.{IsTreeKept, IsGrowing, open_count, turns_left, IsBeaten, turn_after, IsSpentAt, TurnHolds}
+use Rattle.abb_search.proofs.ReadyLemmas.{open_leaf, leaf_open, not_greater, first_has, none_first, IsReadyAt, ready_at, ready_shut, count_more, count_within, count_shut}
 use Rattle.abb_search.proofs.GrowingLemmas.{count_seen}
 
 -- the best network passes, and its scale is above 0

@@ -1,5 +1,4 @@
-use Rattle.std.proofs.Common.{◌≡◌, ◌<◌, ◌+◌, ℕ, Fits, refl, sym, ap, ◌∙◌, subst, arith, length, rules, Option}
-use Rattle.std.specs.Int.{w32}
+use Rattle.std.proofs.Common.{◌≡◌, refl, ◌∙◌, subst, arith, length, rules, Option}
 use Rattle.pgraph.specs.View.{node_of}
 use Rattle.tree_rules.specs.Claim as claims
 use Rattle.node_looks.specs.Children.{AreSeen}

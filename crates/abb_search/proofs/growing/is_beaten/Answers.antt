@@ -1,4 +1,4 @@
-use Rattle.std.proofs.Common.{ℤ, ◌∙◌, sym, subst, refl, rules, to_z, of_z, SFits, IsTrue, Option, ◌↔◌}
+use Rattle.std.proofs.Common.{◌∙◌, sym, subst, rules, to_z, of_z, SFits, IsTrue, Option, ◌↔◌}
 use Rattle.std.specs.Int.{w128}
 use Rattle.std.proofs.lemmas.Int.{to_z-of_z}
 use Rattle.tree_rules.specs.Claim as claims

@@ -1,4 +1,4 @@
-use Rattle.std.proofs.Common.{◌≡◌, ◌<◌, ◌+◌, ℕ, List, Option, None, IfOk, refl, sym, ap, ◌∙◌, subst, arith, length, rules, true≢false, ℤ, SFits, slice_set}
+use Rattle.std.proofs.Common.{◌≡◌, ◌<◌, ◌+◌, List, Option, None, IfOk, refl, sym, ap, ◌∙◌, subst, arith, length, rules, true≢false, ℤ, SFits, slice_set}
 use Rattle.std.specs.Int.{w128}
 use Rattle.std.proofs.lemmas.Int.{to_z-of_z}
 use Rattle.tree_rules.specs.Tree.{leaf}
@@ -7,19 +7,16 @@ use Rattle.search_tree.specs.Growth.{as_shut}
 use Rattle.std.proofs.lemmas.List.{length-set}
 use Rattle.node_looks.specs.declared.looks.Ready.{Ready}
 use Rattle.pns_rules.specs.Shape.{Shape, shape_of}
-use Rattle.pns_rules.specs.Nodes as rules
 use Rattle.pns_rules.specs.Nodes.{options}
 use Rattle.pns_rules.specs.Ends.{IsSound, IsReduced, IsUndecided}
 use Rattle.pns_rules.proofs.ProperLemmas.{proper_if_valid}
-use Rattle.pgraph.specs.Tables.{shape}
 use Rattle.pgraph.specs.View.{node_of}
 use Rattle.unit_sets.specs.declared.node.Node.{Node}
 use Rattle.search_tree.specs.Cells.{cell_at}
 use Rattle.abb_search.specs.declared.growing.Growing.{Growing}
-use Rattle.abb_search.specs.declared.growing.Turn.{Turn}
 use Rattle.abb_search.specs.Growing.{IsBranching, TurnHolds}
 use Rattle.abb_search.proofs.ReadyLemmas.{ready_length}
-use Rattle.abb_search.proofs.TurnLemmas.{whole, there, at_hand, never_none, ready_known, shut_turn, spent_turn, branched_turn, ok_map, within_budget}
+use Rattle.abb_search.proofs.TurnLemmas.{whole, there, never_none, ready_known, shut_turn, spent_turn, branched_turn, ok_map, within_budget}
 use Rattle.abb_search.proofs.growing.take_turn.Goals as goal
 
 pub returns-in_default-clause-holds : goal.returns-in_default-clause-holds

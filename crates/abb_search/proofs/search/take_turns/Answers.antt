@@ -1,4 +1,4 @@
-use Rattle.std.proofs.Common.{◌≡◌, sym, subst, ◌∙◌}
+use Rattle.std.proofs.Common.{sym, subst, ◌∙◌}
 use Rattle.pgraph.specs.View.{node_of}
 use Rattle.abb_search.specs.declared.growing.Turn.{Turn}
 use Rattle.abb_search.specs.declared.search.Found.{Found}
