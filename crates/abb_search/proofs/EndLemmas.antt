@@ -1,10 +1,10 @@
 -- What the tree is where a search ends, and what the root is.
-use Rattle.std.proofs.Common.{◌≡◌, ℕ, ◌<◌, ◌≤◌, true, List, [], ◌∷◌, length, Option, Some, None, refl, sym, ap, ◌∙◌, subst, arith}
+use Rattle.std.proofs.Common.{◌≡◌, ℕ, ◌<◌, ◌≤◌, true, List, [], ◌∷◌, length, Option, Some, None, refl, sym, ap, ◌∙◌, subst, arith, suc, ◌^◌, ◌+◌}
 use Rattle.problem_rules.specs.Problem.{Problem}
 use Rattle.pns_rules.specs.Shape.{shape_of}
-use Rattle.pns_rules.specs.Nodes.{Node}
+use Rattle.pns_rules.specs.Nodes.{Node, options}
 use Rattle.pgraph.specs.View.{node_of}
-use Rattle.tree_rules.specs.Tree.{End, leaf}
+use Rattle.tree_rules.specs.Tree.{End, leaf, Stands}
 use Rattle.unit_sets.specs.declared.node.Node as starts
 use Rattle.frac128.specs.declared.fraction.Frac.{Frac}
 use Rattle.pns_rules.specs.Ends.{IsSound}
@@ -16,8 +16,13 @@ use Rattle.tree_rules.specs.Stops.{IsSpent, IsPast}
 use Rattle.search_tree.specs.Cells.{Cell, place_of, cell_at, AreBehind}
 use Rattle.search_tree.specs.Fits.{EndFits}
 use Rattle.search_tree.specs.Growth.{AreOpen}
-use Rattle.search_tree.specs.Preorder.{IsTreeOf}
-use Rattle.search_tree.proofs.PassLemmas.{passes, aligned_start}
+use Rattle.search_tree.specs.Preorder.{IsPreorder, IsTreeOf, tree_of}
+use Rattle.search_tree.proofs.PassLemmas.{passes, aligned_start, cells_stand}
+use Rattle.search_laws.proofs.SpentLemmas.{spent_is_never}
+use Rattle.pns_rules.proofs.ProperLemmas.{proper_if_valid}
+use Rattle.problem_rules.specs.Validity.{IsValid}
+use Rattle.number_sets.specs.Sets.{listed}
+use Rattle.std.specs.List.{slice_get}
 use Rattle.turn_laws.specs.Kept.{LeafIsKept, EndIsKept, IsKept}
 use Rattle.turn_laws.proofs.LeanLemmas.{kept_is_lean, whole_is_accepted, open_stands, kept_is_spent}
 use Rattle.node_looks.specs.declared.evaluator.Halt.{Halt}
@@ -29,7 +34,7 @@ use Rattle.node_looks.proofs.ChildLemmas.{cost_is, found_best}
 use Rattle.node_looks.specs.Children.{claim_with, IsBest, AreReady}
 use Rattle.abb_search.specs.declared.growing.Growing.{Growing}
 use Rattle.abb_search.specs.Growing.{IsTreeKept, IsGrowing, IsSpentAt, IsHaltedAt}
-use Rattle.abb_search.specs.Found.{IsProved, IsStopped, found_with, IsFound}
+use Rattle.abb_search.specs.Found.{IsProved, IsStopped, IsBelowLimit, found_with, IsFound}
 
 -- nothing claimed has no cost, as none has where no network is
 as_infeasible : (p : Problem) (start : Node) (last : Option CostOver) (cells : List Cell) → IsKept p start claims.unknown last cells → IsKept p start claims.infeasible last cells
@@ -75,6 +80,27 @@ module _ (p : Problem) (s : Growing) (t : IsTreeKept p s) (at place : ℕ) (tree
   spent count h = subst (λ (w : Tree). IsSpent p IsUntried (claimed_cost (claim_with s.best)) (node_of s.start) w place count s.budget) (sym of.nodes_are)
       (kept_is_spent p (node_of s.start) (claim_with s.best) t.last s.pool.payloads of.order t.kept of.is_preorder at h.material place count s.budget h.value of.stands h.can h.first h.least h.below h.pending h.count_is h.over)
 
+  head_is : (order : List ℕ) → IsPreorder s.pool.payloads (0 ∷ []) order → slice_get order 0 ≡ Some 0
+  head_is [] h = absurd h
+  head_is (k ∷ ks) h = ap (λ (i : ℕ). Some i) h.0
+
+  -- a budget of twice the number of sets of units of the maximal structure is never spent
+  below_limit : IsValid p → (count : ℕ) → IsSpentAt p s at count → IsBelowLimit p s.budget
+  below_limit valid count h = λ all union.
+      let top = cells_stand (shape_of p) (LeafPasses true p (claimed_cost (claim_with s.best))) (node_of s.start) s.pool.payloads t.kept.grown.linked t.kept.grown.fits (node_of s.start ∷ []) (0 ∷ []) of.order
+      (aligned_start (shape_of p) (LeafPasses true p (claimed_cost (claim_with s.best))) (node_of s.start) s.pool.payloads t.kept.grown.linked t.kept.grown.fits) of.is_preorder 0 0 (head_is of.order of.is_preorder) in
+      let there = subst (λ (e : End Leaf). Stands (shape_of p) (node_of s.start ∷ []) (tree_of s.pool.payloads of.order) place (place_of (cell_at s.pool.payloads at)) e) h.can.is_open
+      (cells_stand (shape_of p) (LeafPasses true p (claimed_cost (claim_with s.best))) (node_of s.start) s.pool.payloads t.kept.grown.linked t.kept.grown.fits (node_of s.start ∷ []) (0 ∷ []) of.order
+      (aligned_start (shape_of p) (LeafPasses true p (claimed_cost (claim_with s.best))) (node_of s.start) s.pool.payloads t.kept.grown.linked t.kept.grown.fits) of.is_preorder place at of.stands) in
+      let now = subst (λ (w : Tree). IsStopped p (node_of s.start) (claim_with s.best) w) of.nodes_are stopped in
+      let most = spent_is_never p (proper_if_valid p valid) true (node_of s.start) (claim_with s.best) all union (tree_of s.pool.payloads of.order) now.partial now.lean
+      (place_of (cell_at s.pool.payloads 0)) (cell_at s.pool.payloads 0).end top (t.kept.sound 0 t.kept.grown.linked.some) place (place_of (cell_at s.pool.payloads at)) there h.can.reduced h.material h.can.undecided in
+      let spent_now = subst (λ (w : Tree). IsSpent p IsUntried (claimed_cost (claim_with s.best)) (node_of s.start) w place count s.budget) of.nodes_are (spent count h) in
+      under_limit s.budget (length (tree_of s.pool.payloads of.order)) count (length (options (shape_of p) (place_of (cell_at s.pool.payloads at)) h.material)) (2 ^ suc (length (listed (shape_of p).units all))) spent_now.exceeds h.count_is most
+    where
+      under_limit : (b n c k m : ℕ) → b < n + c → c ≡ k → n + k < m → b < m
+      under_limit b n c k m h e l = omega (arith, h, e, l)
+
   pub past : (Past : PastPlaces) (h : Halt) → IsHaltedAt Past p s at h → IsPast p IsUntried (node_of s.start) tree (λ n. Past p n h.nonbasic h.place) place
   past Past h k = subst (λ (w : Tree). IsPast p IsUntried (node_of s.start) w (λ n. Past p n h.nonbasic h.place) place) (sym of.nodes_are) (record {
     node = place_of (cell_at s.pool.payloads at);
@@ -91,11 +117,11 @@ module _ (p : Problem) (s : Growing) (t : IsTreeKept p s) (at place : ℕ) (tree
       by None e = infeasible e shut
       by (Some w) e = solved w e shut
 
-  pub spent_found : (count budget : ℕ) (start : starts.Node) → s.start ≡ start → s.budget ≡ budget → IsSpentAt p s at count
-      → IsStopped p (node_of start) (claim_with s.best) tree × IsSpent p IsUntried (claimed_cost (claim_with s.best)) (node_of start) tree place count budget
-  spent_found count budget start es eu h =
-      subst (λ (n : starts.Node). IsStopped p (node_of n) (claim_with s.best) tree × IsSpent p IsUntried (claimed_cost (claim_with s.best)) (node_of n) tree place count budget) es
-      (stopped, subst (λ b. IsSpent p IsUntried (claimed_cost (claim_with s.best)) (node_of s.start) tree place count b) eu (spent count h))
+  pub spent_found : IsValid p → (count budget : ℕ) (start : starts.Node) → s.start ≡ start → s.budget ≡ budget → IsSpentAt p s at count
+      → IsStopped p (node_of start) (claim_with s.best) tree × IsSpent p IsUntried (claimed_cost (claim_with s.best)) (node_of start) tree place count budget × IsBelowLimit p budget
+  spent_found valid count budget start es eu h =
+      subst (λ (n : starts.Node). IsStopped p (node_of n) (claim_with s.best) tree × IsSpent p IsUntried (claimed_cost (claim_with s.best)) (node_of n) tree place count budget × IsBelowLimit p budget) es
+      (stopped, subst (λ b. IsSpent p IsUntried (claimed_cost (claim_with s.best)) (node_of s.start) tree place count b) eu (spent count h), subst (λ b. IsBelowLimit p b) eu (below_limit valid count h))
 
   pub past_found : (Past : PastPlaces) (h : Halt) (start : starts.Node) → s.start ≡ start → IsHaltedAt Past p s at h
       → IsStopped p (node_of start) (claim_with s.best) tree × IsPast p IsUntried (node_of start) tree (λ n. Past p n h.nonbasic h.place) place

@@ -1,6 +1,9 @@
 -- What a search finds: a claim with the tree that proves it, or the tree as far as it came and where it stopped.
-use Rattle.std.specs.Prelude.{ℕ, Option, Some, None}
+use Rattle.std.specs.Prelude.{ℕ, suc, ◌<◌, ◌^◌, Bool, false, length, Option, Some, None}
+use Rattle.number_sets.specs.Sets.{listed}
 use Rattle.problem_rules.specs.Problem.{Problem}
+use Rattle.pns_rules.specs.Shape.{shape_of}
+use Rattle.pns_rules.specs.Structure.{IsUnion}
 use Rattle.pns_rules.specs.Nodes.{Node}
 use Rattle.tree_rules.specs.Claim as claims
 use Rattle.tree_rules.specs.Claim.{claimed_cost}
@@ -23,6 +26,10 @@ pub record IsStopped (p : Problem) (start : Node) (claim : claims.Claim) (tree :
   pub partial : IsPartial p start claim tree
   pub lean : IsLean p IsUntried (claimed_cost claim) start tree
 
+-- the budget is below twice the number of sets of units of the maximal structure
+abbrev pub IsBelowLimit : Problem → ℕ → Type 0
+IsBelowLimit p budget = (all : ℕ → Bool) → IsUnion (shape_of p) (λ u. false) all → budget < 2 ^ suc (length (listed (shape_of p).units all))
+
 -- the network, or that there is none
 abbrev pub found_with : Option claims.Network → Tree → Found
 found_with None tree = Infeasible tree
@@ -33,7 +40,7 @@ abbrev pub IsFound : PastPlaces → Problem → Node → ℕ → Found → Type 
 IsFound Halts p start budget (Solved w tree) = IsProved p start (claims.network w) tree
 IsFound Halts p start budget (Infeasible tree) = IsProved p start claims.infeasible tree
 IsFound Halts p start budget (Spent best tree next options) =
-    IsStopped p start (claim_with best) tree × IsSpent p IsUntried (claimed_cost (claim_with best)) start tree next options budget
+    IsStopped p start (claim_with best) tree × IsSpent p IsUntried (claimed_cost (claim_with best)) start tree next options budget × IsBelowLimit p budget
 IsFound Halts p start budget (Past best tree node nonbasic place) =
     IsStopped p start (claim_with best) tree × IsPast p IsUntried start tree (λ n. Halts p n nonbasic place) node
 IsFound Halts p start budget Memory = Unit {0}

@@ -130,6 +130,7 @@ fn take_turns<E: Evaluator>(
     requires growing { IsGrowing problem.now growing }
     ensures { IfOk result (IsFound E.past problem.now (node_of growing.start) growing.budget) }
 {
+    problem.is_valid();
     let mut growing = growing;
     'turns: loop {
         match take_turn(alloc, evaluator, problem, graph, &mut growing)? {

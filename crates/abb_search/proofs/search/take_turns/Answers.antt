@@ -19,7 +19,7 @@ pub returns-in-Spent : goal.returns-in-Spent
 returns-in-Spent g c =
     let s = c.take_turn.new.growing in
     let h = subst (λ (t : Turn). TurnHolds g.E.Evaluator.past c.args.problem.now c.turns.growing c.take_turn.new.growing t) c.in-Spent.is c.in_ok-take_turn.ensures.holds in
-    spent_found c.args.problem.now s h.0 c.in-Spent.leaf c.in_ok-stopped-in-Spent.stopped.place c.in_ok-stopped-in-Spent.stopped.tree c.in_ok-stopped-in-Spent.ensures c.in-Spent.options c.args.growing.budget c.args.growing.start
+    spent_found c.args.problem.now s h.0 c.in-Spent.leaf c.in_ok-stopped-in-Spent.stopped.place c.in_ok-stopped-in-Spent.stopped.tree c.in_ok-stopped-in-Spent.ensures c.is_valid.ensures.valid c.in-Spent.options c.args.growing.budget c.args.growing.start
     (c.in_ok-take_turn.ensures.start ∙ c.turns.invariant.1) (c.in_ok-take_turn.ensures.budget ∙ c.turns.invariant.2) h.1
 
 pub returns-in-Halted : goal.returns-in-Halted
