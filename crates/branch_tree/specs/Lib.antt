@@ -1,4 +1,5 @@
 pub mod Known
+pub mod Scaled
 pub mod Sized
 pub mod Tail
 pub mod View

@@ -14,7 +14,7 @@ abbrev pub end_of : End → trees.End leaves.Leaf
 end_of (Dead x) = trees.leaf (leaves.dead x)
 end_of (Clash k) = trees.leaf (leaves.clash k)
 end_of (Refuted ys) = trees.leaf (leaves.refuted ys)
-end_of (Bound d ys) = trees.leaf (leaves.bounded d ys)
+end_of (Bound s) = trees.leaf (leaves.bounded s.d s.ys)
 end_of (Branch x c) = trees.branch x c
 end_of Open = trees.leaf leaves.untried
 

@@ -1,5 +1,6 @@
 //! The ends of nodes.
 use crate::multipliers::Multipliers;
+use crate::scaled::Scaled;
 
 /// How a node ends.
 #[derive(Drop)]
@@ -10,8 +11,8 @@ pub enum End {
     Clash(u32),
     /// The multipliers show that the node has no flows.
     Refuted(Multipliers),
-    /// The multipliers bound the cost of the node's flows, over d.
-    Bound { d: i128, ys: Multipliers },
+    /// The multipliers bound the cost of the node's flows, over their scale.
+    Bound(Scaled),
     /// So many children follow, one for each option of the material.
     Branch { material: u32, children: u32 },
     /// The leaf is open.

@@ -5,7 +5,7 @@
 //! tails through `View`. `Known` says that the numbers of a value are below the counts of a problem. Nothing here takes memory,
 //! and what is built is read by reference or given back in its parts.
 //!
-//! Modules: `multipliers`, `steps` and `columns` are lists with a model; `network`, `claim`, `end`, `node`, `tree` and `tail`
+//! Modules: `multipliers`, `scaled`, `steps` and `columns` are lists with a model; `network`, `claim`, `end`, `node`, `tree` and `tail`
 //! have a type each.
 #![tactic(auto)]
 
@@ -15,6 +15,7 @@ mod end;
 mod multipliers;
 mod network;
 mod node;
+mod scaled;
 mod steps;
 mod tail;
 mod tree;
@@ -25,6 +26,7 @@ pub use end::End;
 pub use multipliers::Multipliers;
 pub use network::Network;
 pub use node::TreeNode;
+pub use scaled::Scaled;
 pub use steps::Steps;
 pub use tail::Tail;
 pub use tree::Tree;

@@ -8,7 +8,7 @@ ghost use Rattle.search_tree.specs.Preorder.{IsTreeOf};
 ghost use Rattle.search_tree.specs.Runs.{to_come};
 
 use crate::cell::Cell;
-use branch_tree::{End, Multipliers, Steps, TreeNode};
+use branch_tree::{End, Multipliers, Scaled, Steps, TreeNode};
 use node_pool::Pool;
 use std::alloc::{AllocError, Global};
 
@@ -34,6 +34,13 @@ fn copy_multipliers(alloc: Global, ys: &Multipliers) -> Result<Multipliers, Allo
     Ok(Multipliers::from_vec(numbers))
 }
 
+fn copy_scaled(alloc: Global, scaled: &Scaled) -> Result<Scaled, AllocError>
+    ensures { IfOk result (λ c. c ≡ scaled.now) }
+{
+    let numbers = scaled.numbers().to_vec(alloc)?;
+    Ok(Scaled::from_vec(numbers))
+}
+
 fn copy_steps(alloc: Global, steps: &Steps) -> Result<Steps, AllocError>
     ensures { IfOk result (λ c. c ≡ steps.now) }
 {
@@ -51,9 +58,9 @@ fn copy_end(alloc: Global, end: &End) -> Result<End, AllocError>
             let copy = copy_multipliers(alloc, ys)?;
             Ok(End::Refuted(copy))
         }
-        End::Bound { d, ys } => {
-            let copy = copy_multipliers(alloc, ys)?;
-            Ok(End::Bound { d: *d, ys: copy })
+        End::Bound(scaled) => {
+            let copy = copy_scaled(alloc, scaled)?;
+            Ok(End::Bound(copy))
         }
         End::Branch { material, children } => Ok(End::Branch {
             material: *material,

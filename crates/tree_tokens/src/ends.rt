@@ -13,10 +13,9 @@ ghost use Rattle.tree_tokens.specs.View.{tokens_in};
 use crate::apart::LineParts;
 use crate::cut::next_token;
 use crate::line_fault::LineFault;
-use crate::list::{number_and_more, numbers_of};
-use crate::number::number_of;
+use crate::list::numbers_of;
 use crate::some_tokens::{material_and_children, one_exclusion, one_material};
-use branch_tree::{End, Multipliers};
+use branch_tree::{End, Multipliers, Scaled};
 use pns_problem::Problem;
 use std::alloc::Global;
 use tree_text_rules::{TreeKind, Word};
@@ -65,14 +64,11 @@ fn bound(alloc: Global, problem: &Problem, fields: Option<&[u8]>) -> Result<End,
     ensures fault { IfErr result (TellsLine (reads.end_by problem.now (Some Word.Bound) (tokens_in fields.entry))) }
 {
     let _materials = problem.materials();
-    let Some((first, behind)) = next_token(fields) else {
+    if next_token(fields).is_none() {
         return Err(LineFault::Kind(TreeKind::BadLine));
-    };
-    match number_and_more(alloc, number_of(first), behind) {
-        Ok((d, numbers)) => Ok(End::Bound {
-            d,
-            ys: Multipliers::from_vec(numbers),
-        }),
+    }
+    match numbers_of(alloc, fields) {
+        Ok(numbers) => Ok(End::Bound(Scaled::from_vec(numbers))),
         Err(fault) => Err(fault),
     }
 }
