@@ -1,8 +1,9 @@
 //! The multipliers of a bound, with what they are over.
-ghost use Rattle.std.specs.Prelude.{◌≡◌, ◌<◌, length};
+ghost use Rattle.std.specs.Prelude.{◌≡◌, ◌<◌, length, IfOk};
 ghost use Rattle.int_rows.specs.Range.{InRange, AllInRange};
 ghost use Rattle.branch_tree.specs.Scaled.{scaled_of};
 
+use std::alloc::{AllocError, Global};
 use std::marker::Model;
 
 /// A scale d, and one number for each row of a node's program, in rising order of rows: the bound that the numbers give is over d.
@@ -32,6 +33,18 @@ impl Scaled {
         ensures { result ≡ scaled_of numbers.items }
     {
         Scaled { numbers }
+    }
+
+    /// A copy of the multipliers behind their scale.
+    pub fn of(alloc: Global, d: i128, ys: &[i128]) -> Result<Scaled, AllocError>
+        requires scale { InRange d }
+        requires multipliers { AllInRange ys.now }
+        ensures { IfOk result (λ s. s ≡ record { d = d; ys = ys.now }) }
+    {
+        let mut numbers = Vec::with_capacity(alloc, ys.len() + 1)?;
+        numbers.push(d)?;
+        numbers.extend_from_slice(ys)?;
+        Ok(Scaled { numbers })
     }
 
     /// What the multipliers are over.

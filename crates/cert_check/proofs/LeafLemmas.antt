@@ -33,7 +33,7 @@ pub leaf_of : (e : ends.End) → ((x c : ℕ) → e ≡ Branch x c → ⊥) → 
 leaf_of (Dead x) h = (dead x, refl)
 leaf_of (Clash x) h = (clash x, refl)
 leaf_of (Refuted ys) h = (refuted ys, refl)
-leaf_of (Bound d ys) h = (bounded d ys, refl)
+leaf_of (Bound s) h = (bounded s.d s.ys, refl)
 leaf_of (Branch x c) h = absurd (h x c refl)
 leaf_of Open h = (untried, refl)
 

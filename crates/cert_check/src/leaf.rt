@@ -34,7 +34,7 @@ pub fn judge_leaf(
         End::Dead(x) => judge_dead(problem, graph, node, *x),
         End::Clash(k) => judge_clash(problem, graph, node, *k),
         End::Refuted(ys) => judge_refutation(problem, graph, node, ys.numbers()),
-        End::Bound { d, ys } => judge_bound(problem, graph, node, claimed, *d, ys.numbers()),
+        End::Bound(scaled) => judge_bound(problem, graph, node, claimed, scaled.d(), scaled.ys()),
         End::Open => judge_open(problem, node, partial),
         End::Branch { .. } => Ok(()),
     }

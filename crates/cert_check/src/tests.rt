@@ -9,7 +9,7 @@ mod plant;
 use self::plant::build_plant;
 use crate::subtrees::child_count;
 use crate::{Refusal, check_tree};
-use branch_tree::{Claim, End, Multipliers, Network, Steps, Tree, TreeNode};
+use branch_tree::{Claim, End, Multipliers, Network, Scaled, Steps, Tree, TreeNode};
 use pgraph::Graph;
 use std::alloc::{AllocError, Global};
 use std::test::Fail;
@@ -26,7 +26,7 @@ enum Claimed {
 
 #[derive(Clone, Copy)]
 enum Leaf {
-    Bound(i128, &'static [i128]),
+    Bound(&'static [i128]),
     Refuted(&'static [i128]),
     Dead(u32),
     Clash(u32),
@@ -97,6 +97,13 @@ fn multipliers(alloc: Global, values: &[i128]) -> Option<Multipliers> {
     }
 }
 
+fn scaled(alloc: Global, values: &[i128]) -> Option<Scaled> {
+    match numbers(alloc, values) {
+        Some(found) if !found.is_empty() => Some(Scaled::from_vec(found)),
+        _ => None,
+    }
+}
+
 fn network(alloc: Global, units: u128, sizes: &[i128], cost: i128) -> Option<Network> {
     let units = UnitSet::from_bits(units);
     let Some(sizes) = numbers(alloc, sizes) else {
@@ -128,8 +135,8 @@ fn end(alloc: Global, leaf: Leaf) -> Option<End> {
             Some(ys) => Some(End::Refuted(ys)),
             None => None,
         },
-        Leaf::Bound(d, ys) => match multipliers(alloc, ys) {
-            Some(ys) => Some(End::Bound { d, ys }),
+        Leaf::Bound(values) => match scaled(alloc, values) {
+            Some(scaled) => Some(End::Bound(scaled)),
             None => None,
         },
     }
@@ -284,11 +291,11 @@ const M: i128 = 1_000_000;
 
 const MOST: i128 = i128::MAX;
 
-const LEFT: Leaf = Leaf::Bound(1, &[0, 3 * M, 3 * M]);
+const LEFT: Leaf = Leaf::Bound(&[1, 0, 3 * M, 3 * M]);
 
-const RIGHT: Leaf = Leaf::Bound(1, &[0, 4 * M, 4 * M]);
+const RIGHT: Leaf = Leaf::Bound(&[1, 0, 4 * M, 4 * M]);
 
-const BOTH: Leaf = Leaf::Bound(1, &[0, 0, 3 * M, 3 * M]);
+const BOTH: Leaf = Leaf::Bound(&[1, 0, 0, 3 * M, 3 * M]);
 
 /// The first and the third unit at 20, which cost 75; the others cost 86 and 76.
 const BEST: Claimed = Claimed::Network(0b101, &[20 * M, 20 * M], 75 * E18);
@@ -368,7 +375,7 @@ const ROWS: &[(Row, Result<(), Refusal>)] = &[
         }),
     ),
     (
-        Row::Ending(&[Leaf::Bound(1, &[0, 3 * M, 3 * M - 1]), RIGHT, BOTH]),
+        Row::Ending(&[Leaf::Bound(&[1, 0, 3 * M, 3 * M - 1]), RIGHT, BOTH]),
         Err(Refusal::Node {
             node: 1,
             why: Why::Bound,
@@ -382,7 +389,7 @@ const ROWS: &[(Row, Result<(), Refusal>)] = &[
         }),
     ),
     (
-        Row::Ending(&[Leaf::Bound(1, &[0, 0, MOST]), RIGHT, BOTH]),
+        Row::Ending(&[Leaf::Bound(&[1, 0, 0, MOST]), RIGHT, BOTH]),
         Err(Refusal::Node {
             node: 1,
             why: Why::Sum,

@@ -26,6 +26,6 @@ pub record IsPastFor (p : Problem) (us : List ℕ) (nonbasic : List Column) (pla
   pub known : KnowsPlace p place
 
 abbrev pub AnswersFor : Problem → List ℕ → StructureFlows → Type 0
-AnswersFor p us (Least network d ys) = IsLeastFor p us network d ys
+AnswersFor p us (Least network bound) = IsLeastFor p us network bound.d bound.ys
 AnswersFor p us (Refuted ys) = HasNoFlows p us ys
 AnswersFor p us (Past nonbasic place) = IsPastFor p us nonbasic place

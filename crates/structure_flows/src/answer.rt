@@ -1,15 +1,14 @@
 // What there is to say of the flows of a solution structure.
-use branch_tree::{Columns, Multipliers, Network};
+use branch_tree::{Columns, Multipliers, Network, Scaled};
 use flow_program::Place;
 
 /// What there is to say of the flows of a solution structure.
 #[derive(Drop)]
 pub enum StructureFlows {
-    /// Flows of least cost, and multipliers whose bound over d is that cost.
+    /// Flows of least cost, and multipliers whose bound over their scale is that cost.
     Least {
         network: Network,
-        d: i128,
-        ys: Multipliers,
+        bound: Scaled,
     },
     /// There are none: the multipliers refute them.
     Refuted {

@@ -17,7 +17,7 @@ ghost use Rattle.pgraph.specs.View.{node_of};
 
 use crate::answer::StructureFlows;
 use crate::laws::{multipliers_prove, node_is_decided};
-use branch_tree::{Columns, Multipliers, Network};
+use branch_tree::{Columns, Multipliers, Network, Scaled};
 use dual_simplex::{
     Bench, Ends, cost_is_past, entry_is_past, flow_is_past, least_is_least, none_is_refuted,
     split_flows_are_least,
@@ -114,13 +114,12 @@ fn least(
         return past(alloc, problem, set, program, bench, place);
     }
     let sizes = bench.flows().to_vec(alloc)?;
-    let ys = bench.ys().to_vec(alloc)?;
-    let (d, den) = (bench.d(), bench.flow_den());
+    let bound = Scaled::of(alloc, bench.d(), bench.ys())?;
+    let den = bench.flow_den();
     match cost_of(problem, graph, set, &sizes, den) {
         Ok(cost) => Ok(StructureFlows::Least {
             network: Network::of(set, sizes, den, cost),
-            d,
-            ys: Multipliers::from_vec(ys),
+            bound,
         }),
         Err(sum) => past(
             alloc,

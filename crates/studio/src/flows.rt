@@ -95,8 +95,8 @@ fn say_answer<K: Sink>(
     ensures { Ends (Tells (FlowsSay problem.now set)) (HasRisen (K.faults out.old) (K.faults out.new)) (K.written out.old) (K.written out.new) result }
 {
     match answer {
-        StructureFlows::Least { network, d, ys } => {
-            let bound = End::Bound { d, ys };
+        StructureFlows::Least { network, bound } => {
+            let bound = End::Bound(bound);
             let printed = print_least(alloc, problem, &network, &bound, out);
             say_printed(out, printed, Status::Done)
         }

@@ -100,7 +100,7 @@ pub(crate) fn end_line(line: &mut String, problem: &Problem, end: &End) -> Resul
             push_exclusion(line, problem, *exclusion)
         }
         End::Refuted(ys) => refuted_line(line, ys.numbers()),
-        End::Bound { d, ys } => bound_line(line, *d, ys.numbers()),
+        End::Bound(scaled) => bound_line(line, scaled.d(), scaled.ys()),
         End::Branch { material, children } => {
             begin(line, "branch")?;
             push_material(line, problem, *material)?;

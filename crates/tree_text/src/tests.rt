@@ -8,7 +8,7 @@ use crate::{
     PrintFault, print_end, print_head, print_network, print_place, print_rest, print_tail,
     print_tree,
 };
-use branch_tree::{Claim, End, Multipliers, Network, Steps, Tail, Tree, TreeNode};
+use branch_tree::{Claim, End, Network, Scaled, Steps, Tail, Tree, TreeNode};
 use flow_program::{Column, FlowStep, Place};
 use pns_io::MemSink;
 use pns_problem::{Kind, Material, OperatingUnit, Parts, Problem, Term};
@@ -121,18 +121,19 @@ fn print_bounded(
     alloc: Global,
     problem: &Problem,
     option: UnitSet,
-    ys: &[i64],
+    scaled: &[i64],
     out: &mut MemSink,
 ) -> Result<(), PrintFault>
-    requires { AreUnits problem.now option }
+    requires units { AreUnits problem.now option }
+    requires some { 0 < length scaled.now }
 {
     print_head(alloc, problem, option, &[], out)?;
-    let Ok(ys) = numbers(alloc, ys) else {
+    let Ok(numbers) = numbers(alloc, scaled) else {
         return Err(PrintFault::Memory);
     };
-    let ys = Multipliers::from_vec(ys);
-    ys.are_in_range();
-    print_end(alloc, problem, &End::Bound { d: 1, ys }, out)
+    let scaled = Scaled::from_vec(numbers);
+    scaled.are_in_range();
+    print_end(alloc, problem, &End::Bound(scaled), out)
 }
 
 fn print_root(alloc: Global, problem: &Problem, out: &mut MemSink) -> Result<(), PrintFault>
@@ -168,9 +169,9 @@ fn print_worked(alloc: Global, problem: &Problem, out: &mut MemSink) -> Result<(
     let first = UnitSet::empty().with(0);
     let second = UnitSet::empty().with(1);
     let both = first.with(1);
-    print_bounded(alloc, problem, first, &[0, 3_000_000, 3_000_000], out)?;
-    print_bounded(alloc, problem, second, &[0, 4_000_000, 4_000_000], out)?;
-    print_bounded(alloc, problem, both, &[0, 0, 3_000_000, 3_000_000], out)?;
+    print_bounded(alloc, problem, first, &[1, 0, 3_000_000, 3_000_000], out)?;
+    print_bounded(alloc, problem, second, &[1, 0, 4_000_000, 4_000_000], out)?;
+    print_bounded(alloc, problem, both, &[1, 0, 0, 3_000_000, 3_000_000], out)?;
     print_tail(alloc, problem, &Tail::Whole, out)
 }
 

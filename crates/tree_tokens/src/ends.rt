@@ -68,7 +68,11 @@ fn bound(alloc: Global, problem: &Problem, fields: Option<&[u8]>) -> Result<End,
         return Err(LineFault::Kind(TreeKind::BadLine));
     }
     match numbers_of(alloc, fields) {
-        Ok(numbers) => Ok(End::Bound(Scaled::from_vec(numbers))),
+        Ok(numbers) => {
+            let scaled = Scaled::from_vec(numbers);
+            scaled.are_in_range();
+            Ok(End::Bound(scaled))
+        }
         Err(fault) => Err(fault),
     }
 }

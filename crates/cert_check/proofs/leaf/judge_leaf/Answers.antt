@@ -76,10 +76,10 @@ returns-in-Bound-clause-passes c =
     let p = c.args.problem.now in
     let n = node_of c.args.node.now in
     let k = cost_over c.args.claimed in
-    let fits : SFits w128 c.in-Bound.d = search rules in
-    passes_at (end_of c.args.end.now) (bounded (to_z w128 (of_z w128 c.in-Bound.d)) c.numbers-in-Bound.result.now) (ap end_of c.in-Bound.is ∙ ap₂ (λ (d : ℤ) (ys : List ℤ). leaf (bounded d ys)) (sym (to_z-of_z w128 c.in-Bound.d fits)) (sym c.numbers-in-Bound.ensures))
+    let fits : SFits w128 c.d.result = search rules in
+    passes_at (end_of c.args.end.now) (bounded (to_z w128 (of_z w128 c.d.result)) c.ys.result.now) (ap end_of c.in-Bound.is ∙ ap₂ (λ (d : ℤ) (ys : List ℤ). leaf (bounded d ys)) (sym (c.d.ensures) ∙ sym (to_z-of_z w128 c.d.result fits)) (sym c.ys.ensures))
     (λ (l : Leaf). LeafPasses c.args.partial p k n l)
-    ((partial : Bool) → LeafPasses partial p k n (bounded (to_z w128 (of_z w128 c.in-Bound.d)) c.numbers-in-Bound.result.now))
+    ((partial : Bool) → LeafPasses partial p k n (bounded (to_z w128 (of_z w128 c.d.result)) c.ys.result.now))
     c.judge_bound.result (λ q. q c.args.partial) c.judge_bound.ensures.passes
 
 pub returns-in-Bound-clause-fails : goal.returns-in-Bound-clause-fails
@@ -87,10 +87,10 @@ returns-in-Bound-clause-fails c =
     let p = c.args.problem.now in
     let n = node_of c.args.node.now in
     let k = cost_over c.args.claimed in
-    let fits : SFits w128 c.in-Bound.d = search rules in
-    fails_at (end_of c.args.end.now) (bounded (to_z w128 (of_z w128 c.in-Bound.d)) c.numbers-in-Bound.result.now) (ap end_of c.in-Bound.is ∙ ap₂ (λ (d : ℤ) (ys : List ℤ). leaf (bounded d ys)) (sym (to_z-of_z w128 c.in-Bound.d fits)) (sym c.numbers-in-Bound.ensures))
+    let fits : SFits w128 c.d.result = search rules in
+    fails_at (end_of c.args.end.now) (bounded (to_z w128 (of_z w128 c.d.result)) c.ys.result.now) (ap end_of c.in-Bound.is ∙ ap₂ (λ (d : ℤ) (ys : List ℤ). leaf (bounded d ys)) (sym (c.d.ensures) ∙ sym (to_z-of_z w128 c.d.result fits)) (sym c.ys.ensures))
     (λ (l : Leaf) (why : Why). LeafFails c.args.partial p k n l why)
-    (λ (why : Why). (partial : Bool) → LeafFails partial p k n (bounded (to_z w128 (of_z w128 c.in-Bound.d)) c.numbers-in-Bound.result.now) why)
+    (λ (why : Why). (partial : Bool) → LeafFails partial p k n (bounded (to_z w128 (of_z w128 c.d.result)) c.ys.result.now) why)
     c.judge_bound.result (λ why q. q c.args.partial) c.judge_bound.ensures.fails
 
 pub returns-in-Open-clause-passes : goal.returns-in-Open-clause-passes
