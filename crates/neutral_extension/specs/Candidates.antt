@@ -1,6 +1,7 @@
 -- The makers of each material, of which some units are taken out.
-use Rattle.std.specs.Prelude.{◌≡◌, ℕ, not, List, [], length, slice_index_or, ◌++◌}
-use Rattle.number_sets.specs.Sets.{has, kept, IsSet}
+use Rattle.std.specs.Prelude.{◌≡◌, ℕ, not, List, [], length, take, slice_index_or, ◌++◌}
+use Rattle.std.specs.List.{prefix_len}
+use Rattle.number_sets.specs.Sets.{has, kept, minus, IsSet}
 use Rattle.pns_rules.specs.Shape.{Shape}
 
 -- the makers of each material, and the units that are taken out, the last one last
@@ -21,6 +22,14 @@ pub record AreMakersOf (g : Shape) (mk : List (List ℕ)) : Type 0 where
   pub count : length mk ≡ g.materials
   pub makes : (x u : ℕ) → has (makers_at mk x) u ≡ g.makes u x
   pub sets : (x : ℕ) → IsSet 128 (makers_at mk x)
+
+-- the longest front of the list that is in the set
+abbrev pub front_within : List ℕ → List ℕ → List ℕ
+front_within set us = take (prefix_len (has set) us) us
+
+-- that front, and behind it what else is in the set
+abbrev pub led : List ℕ → List ℕ → List ℕ
+led set us = front_within set us ++ minus set (front_within set us)
 
 -- the one list begins the other
 pub record IsFront (front all : List ℕ) : Type 0 where

@@ -1,6 +1,8 @@
 -- What one turn of an extension answers, and what the whole of it does (neutral extension of Friedler, Tarjan, Huang and
 -- Fan 1996).
 use Rattle.std.specs.Prelude.{ℕ, List, ◌↔◌, Bool}
+use Rattle.number_sets.specs.Sets.{IsSet}
+use Rattle.problem_rules.specs.Each.{Each}
 use Rattle.pns_rules.specs.Shape.{Shape}
 use Rattle.pns_rules.specs.Structure.{InFamily}
 use Rattle.pns_rules.specs.Nodes as rules
@@ -23,9 +25,22 @@ abbrev pub IsMove : Shape → rules.Node → Move → Type 0
 IsMove g d (Take s) = IsNextStep g d (step_of s)
 IsMove g d (End e) = EndsAt g d (stop_of e)
 
+-- the units of a step are a set of the graph's
+abbrev pub HasSet : Shape → rules.Step → Type 0
+HasSet g (rules.raw u) = Unit {0}
+HasSet g (rules.rival u) = Unit {0}
+HasSet g (rules.starve x) = Unit {0}
+HasSet g (rules.loose us) = IsSet g.units us
+HasSet g (rules.sole x u) = Unit {0}
+
+abbrev pub IsListedMove : Shape → Move → Type 0
+IsListedMove g (Take s) = HasSet g (step_of s)
+IsListedMove g (End e) = Unit {0}
+
 -- the steps, each next in turn, lead from d to e, which is sound, has the same family, and is where the rules end
 pub record Extends (g : Shape) (d : rules.Node) (steps : List rules.Step) (e : rules.Node) (stop : ends.Stop) : Type 0 where
   pub leads : Leads g d steps e
   pub sound : IsSound g e
   pub same_family : (o : ℕ → Bool) → InFamily g d.inside d.outside o ↔ InFamily g e.inside e.outside o
   pub ends : EndsAt g e stop
+  pub sets : Each (HasSet g) steps

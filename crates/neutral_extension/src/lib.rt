@@ -12,6 +12,7 @@
 //!
 //! - `end`: where an extension ends, and what it gives
 //! - `makers`: `Makers`
+//! - `lead`: makers that are led from node to node
 //! - `sets`: the units outside a node's second set, and the free ones
 //! - `intake`: what the units taken in need, use, make and exclude
 //! - `scarce`: materials of which no maker is left, or one
@@ -25,6 +26,7 @@
 mod end;
 mod extension;
 mod intake;
+mod lead;
 mod makers;
 mod materials;
 mod scarce;

@@ -1,5 +1,6 @@
 //! `Makers`: the makers of each material as linked lists, out of which units are taken and brought back.
 ghost use Rattle.std.specs.Prelude.{◌≡◌, ◌<◌, ◌≤◌, ◌+◌, ◌-◌, ◌*◌, ℕ, true, false, List, [], ◌∷◌, ◌++◌, length, take, IfOk};
+ghost use Rattle.std.specs.List.{prefix_len};
 ghost use Rattle.number_sets.specs.Sets.{has, first, IsSet};
 ghost use Rattle.link_lists.specs.Lists.{Rows, row, IsListed};
 ghost use Rattle.pgraph.specs.Tables.{shape};
@@ -147,6 +148,28 @@ impl Makers {
         ensures { result ≡ length self.now.taken }
     {
         self.count
+    }
+
+    /// The units taken out, as a set.
+    pub fn taken_out(&self) -> UnitSet
+        ensures { (u : ℕ) → has result u ≡ has self.now.taken u }
+    {
+        let mut out = UnitSet::empty();
+        'units: for i in 0..self.count {
+            out = out.with(self.order[i as usize]);
+        }
+        out
+    }
+
+    /// How many of the units taken out come, in the order of taking, before the first that is not in the set.
+    pub(crate) fn front_within(&self, set: UnitSet) -> u32
+        ensures { result ≡ prefix_len (has set) self.now.taken }
+    {
+        let mut front = 0;
+        'front: while front < self.count && set.has(self.order[front as usize]) {
+            front += 1;
+        }
+        front
     }
 
     /// The first maker of the material that is not taken out, and `None` exactly where all are.

@@ -401,3 +401,24 @@ fn makers_come_back(rt: HostRuntime) -> Result<(), Fail> {
     }
     Ok(())
 }
+
+#[test]
+fn makers_are_led(rt: HostRuntime) -> Result<(), Fail> {
+    let graph = graph_of(rt.alloc(), FIRST)?;
+    let mut makers = Makers::open(rt.alloc(), &graph)?;
+    assert_eq!(rt; graph.material_count(), 6);
+    if graph.material_count() == 6 {
+        'nodes: for (number, outside, first) in [
+            (0, 0b00001, Some(1)),
+            (1, 0b01011, None),
+            (2, 0b00010, Some(0)),
+            (3, 0b10001, Some(1)),
+            (4, 0, Some(0)),
+        ] {
+            makers.lead_to(&graph, UnitSet::from_bits(outside));
+            assert!(rt; makers.taken_out().bits() == outside, "{number}");
+            assert!(rt; makers.first(2) == first, "{number}");
+        }
+    }
+    Ok(())
+}

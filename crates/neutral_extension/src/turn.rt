@@ -5,7 +5,7 @@ ghost use Rattle.pns_rules.specs.Nodes.{IsPossible, after};
 ghost use Rattle.pns_rules.specs.Ends.{IsSound};
 ghost use Rattle.pgraph.specs.Tables.{shape};
 ghost use Rattle.pgraph.specs.View.{node_of, step_of};
-ghost use Rattle.neutral_extension.specs.Moves.{IsMove};
+ghost use Rattle.neutral_extension.specs.Moves.{IsMove, IsListedMove};
 ghost use Rattle.neutral_extension.specs.Standing.{Stands, Follows, AllLead};
 
 use crate::end::Stop;
@@ -30,6 +30,7 @@ pub fn next_move(graph: &Graph, makers: &Makers, standing: &Standing, leading: &
     requires follows { Follows (shape graph.now) makers.now standing.now }
     requires leading { AllLead (shape graph.now) (has leading.old) }
     ensures comes { IsMove (shape graph.now) (node_of standing.now.node) result }
+    ensures set { IsListedMove (shape graph.now) result }
     ensures leading { AllLead (shape graph.now) (has leading.new) }
 {
     if let Some(x) = dead_material(graph, standing) {
@@ -48,6 +49,7 @@ pub fn next_move(graph: &Graph, makers: &Makers, standing: &Standing, leading: &
         return Move::Take(Step::Starve(x));
     }
     let loose = loose_units(graph, &standing.node, leading);
+    loose.rises();
     if !loose.is_empty() {
         return Move::Take(Step::Loose(loose));
     }

@@ -1,5 +1,5 @@
 -- What a look at one child more adds to what is seen.
-use Rattle.std.proofs.Common.{◌≡◌, ℕ, ◌+◌, ◌<◌, true, false, Bool, List, [], ◌∷◌, ◌++◌, length, map, Option, Some, None, ℤ, ◌*ℤ◌, ◌≤ℤ◌, ◌↔◌, ◌⊎◌, IsTrue, refl, sym, ap, ◌∙◌, subst, arith, inl, inr, length-append, true≢false}
+use Rattle.std.proofs.Common.{◌≡◌, ℕ, ◌+◌, ◌<◌, true, false, Bool, List, [], ◌∷◌, ◌++◌, length, map, Option, Some, None, ℤ, ◌*ℤ◌, ◌≤ℤ◌, ◌↔◌, ◌⊎◌, ◌||◌, IsTrue, refl, sym, ap, ap₂, ◌∙◌, subst, arith, inl, inr, length-append, true≢false}
 use Rattle.std.specs.Prelude.{is_some}
 use Rattle.std.proofs.lemmas.Int.{ints}
 use Rattle.std.proofs.lemmas.List.{map-append, length-map, get_or_append_left, get_or-append-add}
@@ -25,7 +25,6 @@ use Rattle.search_tree.specs.declared.growth.Fresh.{Fresh}
 use Rattle.turn_laws.specs.Values.{IsPositive, IsUnder, HasFallen, IsPositiveCost}
 use Rattle.turn_laws.specs.Kept.{LastIsBelow}
 use Rattle.turn_laws.specs.Turns.{IsFreshChild}
-use Rattle.turn_laws.proofs.FractionLemmas.{fraction_trans}
 use Rattle.turn_laws.proofs.GrowLemmas.{leaf_fallen}
 use Rattle.turn_laws.proofs.KeptLemmas.{under_dearer}
 use Rattle.node_looks.specs.declared.evaluator.Halt.{Halt}
@@ -34,7 +33,7 @@ use Rattle.node_looks.specs.declared.looks.Looked.{Looked}
 use Rattle.node_looks.specs.declared.children.HaltedAt.{HaltedAt}
 use Rattle.node_looks.specs.declared.children.Children.{Children}
 use Rattle.node_looks.specs.Evaluated.{PastPlaces}
-use Rattle.node_looks.specs.Looks.{cost_of, AreFoundAt, IsHalted, IsOpenAs}
+use Rattle.node_looks.specs.Looks.{cost_of, is_bounded, has_bounded, KnowsCell, AreFoundAt, IsHalted, IsOpenAs}
 use Rattle.node_looks.specs.Children.{claim_with, IsBest, IsImproved, cells_of, values_of, AreReady, IsChildAs, IsChild, HaltHolds, halt_after, AreSeen}
 use Rattle.node_looks.proofs.OptionWalk.{IsAhead}
 
@@ -78,11 +77,19 @@ last_below p n m first old found new i f (inl e) dearer v pv u l = subst (λ (w 
 last_below p n m first old found new i f (inr e) dearer v pv u l =
     subst (λ (w : Option claims.Network). LastIsBelow (Some v) (claimed_cost (claim_with w))) (sym e) (found_below p m found f v pv (dearer v pv u))
 
-fallen_trans : (a b c : Option CostOver) → IsPositiveCost a → IsPositiveCost b → IsPositiveCost c → HasFallen a b → HasFallen b c → HasFallen a c
-fallen_trans None b c pa pb pc h k = tt
-fallen_trans (Some a) None c pa pb pc h k = absurd h
-fallen_trans (Some a) (Some b) None pa pb pc h k = absurd k
-fallen_trans (Some a) (Some b) (Some c) pa pb pc h k = fraction_trans c.cost c.d b.cost b.d a.cost a.d pc pb pa k h
+-- ---- bounded leaves
+
+pub has_bounded-append : (cs ds : List Cell) → has_bounded (cs ++ ds) ≡ (has_bounded cs || has_bounded ds)
+has_bounded-append [] ds = refl
+has_bounded-append (c ∷ cs) ds = ap (λ b. is_bounded c.end || b) (has_bounded-append cs ds) ∙ group (is_bounded c.end) (has_bounded cs) (has_bounded ds)
+  where
+    group : (a b c : Bool) → (a || (b || c)) ≡ ((a || b) || c)
+    group true b c = refl
+    group false b c = refl
+
+or_false : (b : Bool) → (b || false) ≡ b
+or_false true = refl
+or_false false = refl
 
 -- ---- what is at hand
 
@@ -98,16 +105,18 @@ ready_more p (c ∷ cs) (v ∷ vs) [] cs' vs' rs' h k = absurd h
 -- ---- one child more
 
 -- what is known between two looks
-pub record IsWalking (Past : PastPlaces) (p : Problem) (n : Node) (x : ℕ) (base free : List ℕ) (best : Option claims.Network) (c : Children) (next : Option (List ℕ)) : Type 0 where
+pub record IsWalking (Past : PastPlaces) (p : Problem) (n : Node) (x : ℕ) (base free : List ℕ) (c : Children) (next : Option (List ℕ)) : Type 0 where
   pub ahead : IsAhead base free (map (λ (d : Cell). d.option) (cells_of c.kids.items)) next
   pub each : (k : ℕ) → k < length (cells_of c.kids.items) → IsFreshChild p (claimed_cost (claim_with c.best)) n x (cell_at (cells_of c.kids.items) k)
-  pub improved : IsImproved p n best c.best
+  pub found : IsImproved p n None c.best
+  pub bounded : is_some c.best ≡ has_bounded (cells_of c.kids.items)
+  pub known : (k : ℕ) → k < length c.kids.items → KnowsCell p (cell_at (cells_of c.kids.items) k)
   pub same_length : length c.ready.items ≡ length c.kids.items
   pub halt_holds : HaltHolds Past p c.kids.items c.ready.items c.halt
 
 module _ (p : Problem) (valid : IsValid p) (n : Node) (x : ℕ) (sound : IsSound (shape_of p) n) (reduced : IsReduced (shape_of p) n) (undecided : IsUndecided (shape_of p) n x) (t : List ℕ)
     (option : IsIn t (options (shape_of p) n x)) where
-  is_option : IsOption (shape_of p) n x t
+  pub is_option : IsOption (shape_of p) n x t
   is_option = (options_all (shape_of p) n x t (proper_if_valid p valid) sound.apart).0 option
 
   pub sound_child : IsSound (shape_of p) (child (shape_of p) n x t)
@@ -119,9 +128,10 @@ module _ (p : Problem) (valid : IsValid p) (n : Node) (x : ℕ) (sound : IsSound
       (under_dearer p n (after_all (shape_of p) (child (shape_of p) n x t) c.steps) v pv u
       (children_are_dearer p valid n x t c.steps sound.apart is_option f.pass (subst (λ (m : Node). IsNever (IsDead (shape_of p) m)) (sym f.leave) alive)))
 
-  module _ (Past : PastPlaces) (best : Option claims.Network) (first_positive : IsPositiveCost (claimed_cost (claim_with best))) (old new : Children) (l : Looked) (halted : Bool) (ib : IsImproved p n best old.best) (ic : IsChild Past p (child (shape_of p) n x t) t halted l)
+  module _ (Past : PastPlaces) (old new : Children) (l : Looked) (halted : Bool) (ib : IsImproved p n None old.best) (ic : IsChild Past p (child (shape_of p) n x t) t halted l)
       (kids : new.kids.items ≡ old.kids.items ++ record { cell = l.cell; value = l.value } ∷ [])
-      (which : (new.best ≡ old.best) ⊎ (new.best ≡ l.network)) (fallen : HasFallen (cost_of old.best) (cost_of new.best)) (fallen_found : HasFallen (cost_of l.network) (cost_of new.best)) where
+      (which : (new.best ≡ old.best) ⊎ (new.best ≡ l.network)) (fallen : HasFallen (cost_of old.best) (cost_of new.best)) (fallen_found : HasFallen (cost_of l.network) (cost_of new.best))
+      (some : is_some new.best ≡ (is_some old.best || is_some l.network)) where
     abbrev fresh : Fresh
     fresh = record { cell = l.cell; value = l.value }
 
@@ -134,11 +144,11 @@ module _ (p : Problem) (valid : IsValid p) (n : Node) (x : ℕ) (sound : IsSound
     follows' : Follows (shape_of p) (child (shape_of p) n x l.cell.option) l.cell
     follows' = subst (λ (o : List ℕ). Follows (shape_of p) (child (shape_of p) n x o) l.cell) (sym ic.option_is) ic.follows
 
-    pub improved_more : IsImproved p n best new.best
-    improved_more = record {
+    found_more : IsImproved p n None new.best
+    found_more = record {
       best = new_best;
-      fallen = fallen_trans (claimed_cost (claim_with best)) (claimed_cost (claim_with old.best)) (claimed_cost (claim_with new.best)) first_positive ib.best.positive new_best.positive ib.fallen fallen';
-      below = last_below p n (place_of l.cell) best old.best l.network new.best ib ic.found which (dearer_child l.cell ic.follows);
+      fallen = tt;
+      below = last_below p n (place_of l.cell) None old.best l.network new.best ib ic.found which (dearer_child l.cell ic.follows);
     }
 
     cells_more : cells_of new.kids.items ≡ cells_of old.kids.items ++ l.cell ∷ []
@@ -189,7 +199,7 @@ module _ (p : Problem) (valid : IsValid p) (n : Node) (x : ℕ) (sound : IsSound
         plus_zero : length (cells_of old.kids.items) + 0 ≡ length (cells_of old.kids.items)
         plus_zero = omega arith
 
-    -- ---- the halt
+    -- ---- where it stands
     at_last : cell_at (cells_of new.kids.items) (length old.kids.items) ≡ l.cell
     at_last =
         ap (λ (cs : List Cell). cell_at cs (length old.kids.items)) cells_more
@@ -201,6 +211,25 @@ module _ (p : Problem) (valid : IsValid p) (n : Node) (x : ℕ) (sound : IsSound
     longer : length new.kids.items ≡ length old.kids.items + 1
     longer = ap (λ (fs : List Fresh). length fs) kids ∙ length-append old.kids.items (fresh ∷ [])
 
+    -- ---- its end and its numbers
+    bounded_more : is_some old.best ≡ has_bounded (cells_of old.kids.items) → is_some new.best ≡ has_bounded (cells_of new.kids.items)
+    bounded_more e =
+        some
+        ∙ (ap₂ (λ a b. a || b) e (ic.bounded ∙ sym (or_false (is_bounded l.cell.end)))
+        ∙ sym (ap (λ (cs : List Cell). has_bounded cs) cells_more ∙ has_bounded-append (cells_of old.kids.items) (l.cell ∷ [])))
+
+    known_more : ((k : ℕ) → k < length old.kids.items → KnowsCell p (cell_at (cells_of old.kids.items) k)) → (k : ℕ) → k < length new.kids.items → KnowsCell p (cell_at (cells_of new.kids.items) k)
+    known_more known k lt = elim (cases_eq k (length old.kids.items)) [
+      | inl e ↦ subst (λ (c : Cell). KnowsCell p c) (sym (ap (λ i. cell_at (cells_of new.kids.items) i) e ∙ at_last)) ic.known
+      | inr ne ↦
+          let count = length-map old.kids.items (λ (f : Fresh). f.cell) in
+          let all = longer in
+          let less : k < length old.kids.items = omega (arith, lt, all, ne) in
+          subst (λ (c : Cell). KnowsCell p c)
+          (sym (ap (λ (cs : List Cell). cell_at cs k) cells_more ∙ get_or_append_left (cells_of old.kids.items) (l.cell ∷ []) no_cell k (omega (arith, less, count)))) (known k less)
+    ]
+
+    -- ---- the halt
     halts_now : (h : Halt) → IsOpenAs Past p (place_of l.cell) ic.what l.value l.ready (Some h) → HaltHolds Past p new.kids.items new.ready.items (Some (record { at = length old.kids.items; halt = h }))
     halts_now h o = (
       let e = longer in omega (arith, e),
@@ -248,33 +277,39 @@ module _ (p : Problem) (valid : IsValid p) (n : Node) (x : ℕ) (sound : IsSound
         omega (arith, a, b, e)
 
     -- ---- all of it
-    pub walk_more : (base free : List ℕ) (now next : Option (List ℕ)) → IsWalking Past p n x base free best old now → IsAhead base free (map (λ (d : Cell). d.option) (cells_of old.kids.items) ++ t ∷ []) next
-        → halted ≡ is_some old.halt → new.ready.items ≡ old.ready.items ++ l.ready ∷ [] → new.halt ≡ halt_after old.halt (length old.kids.items) l.halt → IsWalking Past p n x base free best new next
+    pub walk_more : (base free : List ℕ) (now next : Option (List ℕ)) → IsWalking Past p n x base free old now → IsAhead base free (map (λ (d : Cell). d.option) (cells_of old.kids.items) ++ t ∷ []) next
+        → halted ≡ is_some old.halt → new.ready.items ≡ old.ready.items ++ l.ready ∷ [] → new.halt ≡ halt_after old.halt (length old.kids.items) l.halt → IsWalking Past p n x base free new next
     walk_more base free now next w ahead e er eh = record {
       ahead = subst (λ (done : List (List ℕ)). IsAhead base free done next) (sym options_more) ahead;
       each = each_more w.each;
-      improved = improved_more;
+      found = found_more;
+      bounded = bounded_more w.bounded;
+      known = known_more w.known;
       same_length = length_more w.same_length er;
       halt_holds = halt_more e w.halt_holds er eh;
     }
 
-pub walk_first : (Past : PastPlaces) (p : Problem) (n : Node) (x : ℕ) (base free : List ℕ) (best : Option claims.Network) (c : Children) (next : Option (List ℕ)) → IsBest p best
-    → c.kids.items ≡ [] → c.ready.items ≡ [] → c.best ≡ best → c.halt ≡ None → IsAhead base free [] next → IsWalking Past p n x base free best c next
-walk_first Past p n x base free best c next b ek er eb eh ahead = record {
+pub walk_first : (Past : PastPlaces) (p : Problem) (n : Node) (x : ℕ) (base free : List ℕ) (c : Children) (next : Option (List ℕ))
+    → c.kids.items ≡ [] → c.ready.items ≡ [] → c.best ≡ None → c.halt ≡ None → IsAhead base free [] next → IsWalking Past p n x base free c next
+walk_first Past p n x base free c next ek er eb eh ahead = record {
   ahead = subst (λ (fs : List Fresh). IsAhead base free (map (λ (d : Cell). d.option) (cells_of fs)) next) (sym ek) ahead;
   each = λ k lt. absurd (let e = ap (λ (fs : List Fresh). length (cells_of fs)) ek in omega (arith, lt, e));
-  improved = subst (λ (w : Option claims.Network). IsImproved p n best w) (sym eb) (same_best p n best b);
+  found = subst (λ (w : Option claims.Network). IsImproved p n None w) (sym eb) (same_best p n None (record { passes = refl; positive = tt }));
+  bounded = ap (λ (w : Option claims.Network). is_some w) eb ∙ sym (ap (λ (fs : List Fresh). has_bounded (cells_of fs)) ek);
+  known = λ k lt. absurd (let e = ap (λ (fs : List Fresh). length fs) ek in omega (arith, lt, e));
   same_length = ap (λ (rs : List (Option Ready)). length rs) er ∙ sym (ap (λ (fs : List Fresh). length fs) ek);
   halt_holds = subst (λ (h : Option HaltedAt). HaltHolds Past p c.kids.items c.ready.items h) (sym eh)
       (subst (λ (fs : List Fresh). AreReady p (cells_of fs) (values_of fs) c.ready.items) (sym ek)
       (subst (λ (rs : List (Option Ready)). AreReady p [] [] rs) (sym er) tt));
 }
 
-pub walk_ends : (Past : PastPlaces) (p : Problem) (n : Node) (x : ℕ) (base free : List ℕ) (best : Option claims.Network) (c : Children) → IsWalking Past p n x base free best c None
-    → map (λ (d : Cell). d.option) (cells_of c.kids.items) ≡ options (shape_of p) n x → AreSeen Past p n x best c
-walk_ends Past p n x base free best c w e = record {
+pub walk_ends : (Past : PastPlaces) (p : Problem) (n : Node) (x : ℕ) (base free : List ℕ) (c : Children) → IsWalking Past p n x base free c None
+    → map (λ (d : Cell). d.option) (cells_of c.kids.items) ≡ options (shape_of p) n x → AreSeen Past p n x c
+walk_ends Past p n x base free c w e = record {
   children = record { options_are = e; each = w.each };
-  improved = w.improved;
+  found = w.found;
+  bounded = w.bounded;
+  known = w.known;
   same_length = w.same_length;
   halt_holds = w.halt_holds;
 }

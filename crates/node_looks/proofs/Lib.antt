@@ -1,3 +1,5 @@
+pub mod BestLemmas
 pub mod ChildLemmas
+pub mod KnownLemmas
 pub mod LookLemmas
 pub mod OptionWalk

@@ -1,7 +1,11 @@
 -- What a look sees.
-use Rattle.std.proofs.Common.{◌≡◌, ℕ, true, List, [], ◌∷◌, Result, Ok, Err, IfOk, Option, Some, None, sym, ap, ◌∙◌, subst}
+use Rattle.std.proofs.Common.{◌≡◌, ℕ, true, false, List, [], ◌∷◌, Result, Ok, Err, IfOk, Option, Some, None, sym, ap, ◌∙◌, subst}
+use Rattle.std.specs.Prelude.{is_some}
+use Rattle.int_rows.specs.Range.{InRange, AllInRange}
+use Rattle.problem_rules.specs.Each.{Each}
 use Rattle.problem_rules.specs.Problem.{Problem}
-use Rattle.pns_rules.specs.Shape.{Shape, shape_of}
+use Rattle.pns_rules.specs.Shape.{Shape, IsProper, shape_of}
+use Rattle.branch_tree.specs.Known.{AreUnits, KnowsStep, KnowsLeaf, KnowsEnd}
 use Rattle.pns_rules.specs.Nodes as rules
 use Rattle.pns_rules.specs.Nodes.{after}
 use Rattle.pns_rules.specs.Ends.{IsSound, IsDead, IsNever, Leads, Stop}
@@ -22,7 +26,8 @@ use Rattle.node_looks.specs.declared.evaluator.Bound.{Bound}
 use Rattle.node_looks.specs.declared.evaluator.Halt.{Halt}
 use Rattle.node_looks.specs.declared.looks.Looked.{Looked}
 use Rattle.node_looks.specs.Evaluated.{PastPlaces, cost_over, cost_in, IsBoundOf, IsNetworkOf}
-use Rattle.node_looks.specs.Looks.{cost_of, IsFoundAt, AreFoundAt, IsOpenAs, IsSameNode, IsSeen, IsLooked}
+use Rattle.node_looks.specs.Looks.{is_bounded_leaf, is_bounded, cost_of, IsFoundAt, AreFoundAt, IsOpenAs, IsSameNode, IsSeen, IsLooked}
+use Rattle.node_looks.proofs.KnownLemmas.{known_steps}
 
 -- a number that no relaxed flows of the node undercut is at most the node's value
 pub under_value : (p : Problem) (n : rules.Node) (v : CostOver) (b : Bound) → IsPositive v → IsUnder p v n → IsBoundOf p n b → IsNoMore v (cost_over b.value)
@@ -39,28 +44,32 @@ found_here p n b w alive h k = record {
 }
 
 module _ (Past : PastPlaces) (p : Problem) (cell : Cell) (l : Looked) where
-  pub seen_solved : (b : Bound) (w : Network) → l.cell ≡ as_shut cell (leaf (bounded b.d b.ys)) → l.network ≡ Some w → l.halt ≡ None
-      → IsNever (IsDead (shape_of p) (place_of cell)) → IsBoundOf p (place_of cell) b → IsNetworkOf p b.value w → IsSeen Past p l
-  seen_solved b w ec en eh alive h k = record {
-    what = bounded b.d b.ys;
+  pub seen_solved : (b : Bound) (w : Network) → l.cell ≡ as_shut cell (leaf (bounded b.scaled.d b.scaled.ys)) → l.network ≡ Some w → l.halt ≡ None
+      → IsNever (IsDead (shape_of p) (place_of cell)) → IsBoundOf p (place_of cell) b → IsNetworkOf p b.value w → InRange b.scaled.d → AllInRange b.scaled.ys → IsSeen Past p l
+  seen_solved b w ec en eh alive h k scale multipliers = record {
+    what = bounded b.scaled.d b.scaled.ys;
     end_is = ap (λ (c : Cell). c.end) ec;
-    passes = subst (λ (o : Option Network). LeafPasses true p (cost_of o) (place_of l.cell) (bounded b.d b.ys)) (sym en)
-        (subst (λ (c : Cell). LeafPasses true p (Some (cost_in w)) (place_of c) (bounded b.d b.ys)) (sym ec)
-        (leaf_fallen p (Some (cost_over b.value)) (Some (cost_in w)) (place_of cell) (bounded b.d b.ys) k.no_more h.value.positive k.positive h.bounded));
+    passes = subst (λ (o : Option Network). LeafPasses true p (cost_of o) (place_of l.cell) (bounded b.scaled.d b.scaled.ys)) (sym en)
+        (subst (λ (c : Cell). LeafPasses true p (Some (cost_in w)) (place_of c) (bounded b.scaled.d b.scaled.ys)) (sym ec)
+        (leaf_fallen p (Some (cost_over b.value)) (Some (cost_in w)) (place_of cell) (bounded b.scaled.d b.scaled.ys) k.no_more h.value.positive k.positive h.bounded));
     found = subst (λ (o : Option Network). AreFoundAt p (place_of l.cell) o) (sym en)
         (subst (λ (c : Cell). IsFoundAt p (place_of c) w) (sym ec) (found_here p (place_of cell) b w alive h k));
-    open_as = subst (λ (o : Option Halt). IsOpenAs Past p (place_of l.cell) (bounded b.d b.ys) l.value l.ready o) (sym eh) (λ e. absurd (let q : bounded b.d b.ys ≡ untried = e in cc));
+    bounded = ap (λ (o : Option Network). is_some o) en ∙ sym (ap (λ (c : Cell). is_bounded c.end) ec);
+    end_known = subst (λ (c : Cell). KnowsEnd p c.end) (sym ec) (scale, multipliers);
+    open_as = subst (λ (o : Option Halt). IsOpenAs Past p (place_of l.cell) (bounded b.scaled.d b.scaled.ys) l.value l.ready o) (sym eh) (λ e. absurd (let q : bounded b.scaled.d b.scaled.ys ≡ untried = e in cc));
   }
 
-  pub seen_closed : (what : Leaf) → l.cell ≡ as_shut cell (leaf what) → l.network ≡ None → l.halt ≡ None → (what ≡ untried → ⊥)
-      → LeafPasses true p None (place_of cell) what → IsSeen Past p l
-  seen_closed what ec en eh shut passes = record {
+  pub seen_closed : (what : Leaf) → l.cell ≡ as_shut cell (leaf what) → l.network ≡ None → l.halt ≡ None → (what ≡ untried → ⊥) → is_bounded_leaf what ≡ false
+      → LeafPasses true p None (place_of cell) what → KnowsLeaf p what → IsSeen Past p l
+  seen_closed what ec en eh shut unbounded passes known = record {
     what = what;
     end_is = ap (λ (c : Cell). c.end) ec;
     passes = subst (λ (o : Option Network). LeafPasses true p (cost_of o) (place_of l.cell) what) (sym en)
         (subst (λ (c : Cell). LeafPasses true p None (place_of c) what) (sym ec) passes);
     found = subst (λ (o : Option Network). AreFoundAt p (place_of l.cell) o) (sym en) tt;
+    bounded = ap (λ (o : Option Network). is_some o) en ∙ sym (ap (λ (c : Cell). is_bounded c.end) ec ∙ unbounded);
     open_as = subst (λ (o : Option Halt). IsOpenAs Past p (place_of l.cell) what l.value l.ready o) (sym eh) (λ e. absurd (shut e));
+    end_known = subst (λ (c : Cell). KnowsEnd p c.end) (sym ec) known;
   }
 
 leads_pass : (g : Shape) (n : rules.Node) (ss : List rules.Step) (m : rules.Node) → Leads g n ss m → StepsPass g n ss × (after_all g n ss ≡ m)
@@ -71,7 +80,7 @@ pub moved : (g h : Shape) → g ≡ h → (start : rules.Node) (list : List rule
 moved g h e start list n stop x = subst (λ (k : Shape). Extends k start list n stop) e x
 
 module _ (Past : PastPlaces) (p : Problem) (g : Shape) (same : g ≡ shape_of p) (start : rules.Node) (option : List ℕ) (list steps : List rules.Step) (node : Node) (stop : Stop) (cell : Cell)
-    (steps_are : steps ≡ list) (cell_is : cell ≡ record { option = option; steps = steps; node = node; first = 0; end = leaf untried; key = 0 }) (extends : Extends g start list (node_of node) stop) where
+    (proper : IsProper (shape_of p)) (option_known : AreUnits p option) (steps_are : steps ≡ list) (cell_is : cell ≡ record { option = option; steps = steps; node = node; first = 0; end = leaf untried; key = 0 }) (extends : Extends g start list (node_of node) stop) where
   pub there : Extends (shape_of p) start list (node_of node) stop
   there = subst (λ (h : Shape). Extends h start list (node_of node) stop) same extends
 
@@ -87,6 +96,11 @@ module _ (Past : PastPlaces) (p : Problem) (g : Shape) (same : g ≡ shape_of p)
     };
     sound = subst (λ (m : Node). IsSound (shape_of p) (node_of m)) (sym (k.node ∙ node_is)) there.sound;
     seen = seen;
+    known = record {
+      option = subst (λ (o : List ℕ). AreUnits p o) (sym (k.option ∙ ap (λ (c : Cell). c.option) cell_is)) option_known;
+      steps = subst (λ (ss : List rules.Step). Each (KnowsStep p) ss) (sym all) (known_steps p proper start list (node_of node) there.leads there.sets);
+      end = seen.end_known;
+    };
   }
     where
       all : l.cell.steps ≡ list
@@ -99,8 +113,8 @@ module _ (Past : PastPlaces) (p : Problem) (g : Shape) (same : g ≡ shape_of p)
   looked_ok (Ok l) k seen = looked l k seen
   looked_ok (Err e) k seen = tt
 
-  pub looked_closed : (l : Looked) (what : Leaf) → l.cell ≡ as_shut cell (leaf what) → l.network ≡ None → l.halt ≡ None → (what ≡ untried → ⊥)
-      → LeafPasses true p None (node_of node) what → IsLooked Past p start option l
-  looked_closed l what ec en eh shut passes =
+  pub looked_closed : (l : Looked) (what : Leaf) → l.cell ≡ as_shut cell (leaf what) → l.network ≡ None → l.halt ≡ None → (what ≡ untried → ⊥) → is_bounded_leaf what ≡ false
+      → LeafPasses true p None (node_of node) what → KnowsLeaf p what → IsLooked Past p start option l
+  looked_closed l what ec en eh shut unbounded passes known =
       looked l (record { option = ap (λ (c : Cell). c.option) ec; steps = ap (λ (c : Cell). c.steps) ec; node = ap (λ (c : Cell). c.node) ec })
-      (seen_closed Past p cell l what ec en eh shut (subst (λ (m : Node). LeafPasses true p None (node_of m) what) (sym node_is) passes))
+      (seen_closed Past p cell l what ec en eh shut unbounded (subst (λ (m : Node). LeafPasses true p None (node_of m) what) (sym node_is) passes) known)

@@ -1,5 +1,5 @@
 -- What a search sees of all children of a node, and the cheapest network that it knows then.
-use Rattle.std.specs.Prelude.{◌≡◌, ℕ, ◌<◌, Bool, true, false, List, [], ◌∷◌, length, map, Option, Some, None}
+use Rattle.std.specs.Prelude.{◌≡◌, ℕ, ◌<◌, Bool, true, false, List, [], ◌∷◌, length, map, Option, Some, None, is_some}
 use Rattle.problem_rules.specs.Problem.{Problem}
 use Rattle.pns_rules.specs.Shape.{shape_of}
 use Rattle.pns_rules.specs.Nodes.{Node}
@@ -21,7 +21,7 @@ use Rattle.node_looks.specs.declared.looks.Looked.{Looked}
 use Rattle.node_looks.specs.declared.children.HaltedAt.{HaltedAt}
 use Rattle.node_looks.specs.declared.children.Children.{Children}
 use Rattle.node_looks.specs.Evaluated.{PastPlaces}
-use Rattle.node_looks.specs.Looks.{cost_of, AreFoundAt, IsSomeReady, IsHalted, IsOpenAs}
+use Rattle.node_looks.specs.Looks.{cost_of, is_bounded, has_bounded, KnowsCell, AreFoundAt, IsSomeReady, IsHalted, IsOpenAs}
 
 -- ---- the cheapest network
 
@@ -73,6 +73,8 @@ pub record IsChild (Past : PastPlaces) (p : Problem) (start : Node) (option : Li
   pub end_is : l.cell.end ≡ leaf what
   pub passes : LeafPasses true p (cost_of l.network) (place_of l.cell) what
   pub found : AreFoundAt p (place_of l.cell) l.network
+  pub bounded : is_some l.network ≡ is_bounded l.cell.end
+  pub known : KnowsCell p l.cell
   pub open_as : IsChildAs Past p (place_of l.cell) what l.value l.ready l.halt halted
 
 -- ---- all children
@@ -87,8 +89,12 @@ abbrev pub halt_after : Option HaltedAt → ℕ → Option Halt → Option Halte
 halt_after old at None = old
 halt_after old at (Some h) = Some (record { at = at; halt = h })
 
-pub record AreSeen (Past : PastPlaces) (p : Problem) (n : Node) (x : ℕ) (best : Option claims.Network) (c : Children) : Type 0 where
+-- the children pass where the cheapest network is claimed that was found among them, and so where a cheaper one is; one was found
+-- exactly where a child is a bounded leaf
+pub record AreSeen (Past : PastPlaces) (p : Problem) (n : Node) (x : ℕ) (c : Children) : Type 0 where
   pub children : AreChildren p (claimed_cost (claim_with c.best)) n x (cells_of c.kids.items)
-  pub improved : IsImproved p n best c.best
+  pub found : IsImproved p n None c.best
+  pub bounded : is_some c.best ≡ has_bounded (cells_of c.kids.items)
+  pub known : (k : ℕ) → k < length c.kids.items → KnowsCell p (cell_at (cells_of c.kids.items) k)
   pub same_length : length c.ready.items ≡ length c.kids.items
   pub halt_holds : HaltHolds Past p c.kids.items c.ready.items c.halt

@@ -28,7 +28,7 @@ cost_in w = record { cost = w.cost; d = w.d }
 -- the value is the least cost of relaxed flows of the node, and the multipliers prove that none is less
 pub record IsBoundOf (p : Problem) (n : Node) (b : Bound) : Type 0 where
   pub value : IsValueOf p n (cost_over b.value)
-  pub bounded : IsBounded p (Some (cost_over b.value)) n b.d b.ys
+  pub bounded : IsBounded p (Some (cost_over b.value)) n b.scaled.d b.scaled.ys
 
 -- the network has flows, and its cost is the value
 pub record IsNetworkOf (p : Problem) (value : Frac) (w : Network) : Type 0 where

@@ -1,13 +1,14 @@
 -- What a search sees where it looks at a node: the steps that are possible, the node that they leave, and its end.
-use Rattle.std.specs.Prelude.{◌≡◌, ℕ, pos, ◌≤ℤ◌, true, List, Option, Some, None}
+use Rattle.std.specs.Prelude.{◌≡◌, ℕ, pos, ◌≤ℤ◌, Bool, true, false, ◌||◌, List, [], ◌∷◌, Option, Some, None, is_some}
 use Rattle.problem_rules.specs.Problem.{Problem}
 use Rattle.pns_rules.specs.Shape.{shape_of}
 use Rattle.pns_rules.specs.Nodes.{Node}
 use Rattle.pns_rules.specs.Ends.{IsSound, IsReduced, IsUndecided, IsFirst, IsDead, IsNever}
 use Rattle.frac128.specs.declared.fraction.Frac.{Frac}
-use Rattle.tree_rules.specs.Tree.{leaf}
+use Rattle.tree_rules.specs.Tree.{End, branch, leaf}
 use Rattle.tree_rules.specs.Claim.{Network, CostOver, IsFeasible}
-use Rattle.tree_rules.specs.Leaf.{Leaf, untried, LeafPasses}
+use Rattle.tree_rules.specs.Leaf.{Leaf, dead, clash, refuted, bounded, untried, LeafPasses}
+use Rattle.branch_tree.specs.Known.{KnowsNode, KnowsEnd}
 use Rattle.search_tree.specs.Cells.{Cell, place_of}
 use Rattle.search_tree.specs.Fits.{Follows}
 use Rattle.turn_laws.specs.Values.{IsPositive, IsUnder, IsNoMore}
@@ -40,6 +41,29 @@ abbrev pub IsOpenAs : PastPlaces → Problem → Node → Leaf → Frac → Opti
 IsOpenAs Past p n what value ready None = what ≡ untried → IsSomeReady p n value ready
 IsOpenAs Past p n what value ready (Some h) = (what ≡ untried) × IsHalted Past p n h
 
+-- ---- what a cell ends with
+
+-- whether the end is a leaf that multipliers bound
+abbrev pub is_bounded_leaf : Leaf → Bool
+is_bounded_leaf (dead x) = false
+is_bounded_leaf (clash k) = false
+is_bounded_leaf (refuted ys) = false
+is_bounded_leaf (bounded d ys) = true
+is_bounded_leaf untried = false
+
+abbrev pub is_bounded : End Leaf → Bool
+is_bounded (branch x c) = false
+is_bounded (leaf l) = is_bounded_leaf l
+
+-- whether one of the cells ends so
+abbrev pub has_bounded : List Cell → Bool
+has_bounded [] = false
+has_bounded (c ∷ cs) = is_bounded c.end || has_bounded cs
+
+-- the numbers of the cell's option, steps and end are below the problem's counts, or in range
+abbrev pub KnowsCell : Problem → Cell → Type 0
+KnowsCell p c = KnowsNode p (record { option = c.option; steps = c.steps; end = c.end })
+
 -- ---- a network
 
 abbrev pub cost_of : Option Network → Option CostOver
@@ -66,16 +90,19 @@ pub record IsSameNode (c d : Cell) : Type 0 where
   pub steps : d.steps ≡ c.steps
   pub node : d.node ≡ c.node
 
--- the cell is a leaf, which passes where the network is claimed that was found
+-- the cell is a leaf, which passes where the network is claimed that was found, and is bounded exactly where one was
 pub record IsSeen (Past : PastPlaces) (p : Problem) (l : Looked) : Type 0 where
   pub what : Leaf
   pub end_is : l.cell.end ≡ leaf what
   pub passes : LeafPasses true p (cost_of l.network) (place_of l.cell) what
   pub found : AreFoundAt p (place_of l.cell) l.network
+  pub bounded : is_some l.network ≡ is_bounded l.cell.end
   pub open_as : IsOpenAs Past p (place_of l.cell) what l.value l.ready l.halt
+  pub end_known : KnowsEnd p l.cell.end
 
 pub record IsLooked (Past : PastPlaces) (p : Problem) (start : Node) (option : List ℕ) (l : Looked) : Type 0 where
   pub option_is : l.cell.option ≡ option
   pub follows : Follows (shape_of p) start l.cell
   pub sound : IsSound (shape_of p) (place_of l.cell)
   pub seen : IsSeen Past p l
+  pub known : KnowsCell p l.cell

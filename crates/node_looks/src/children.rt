@@ -1,5 +1,5 @@
 //! A look at all children of a node.
-ghost use Rattle.std.specs.Prelude.{◌≡◌, ◌⊎◌, ◌↔◌, ◌++◌, ◌∷◌, [], ◌<◌, IsTrue, true, false, Some, None, IfOk, OnOk, length};
+ghost use Rattle.std.specs.Prelude.{◌≡◌, ◌⊎◌, ◌↔◌, ◌++◌, ◌∷◌, [], ◌<◌, ◌||◌, IsTrue, true, false, Some, None, is_some, IfOk, OnOk, length};
 ghost use Rattle.pns_rules.specs.Shape.{shape_of};
 ghost use Rattle.pns_rules.specs.Ends.{IsSound, IsReduced, IsUndecided};
 ghost use Rattle.pgraph.specs.Tables.{shape};
@@ -7,13 +7,16 @@ ghost use Rattle.pgraph.specs.View.{node_of};
 ghost use Rattle.turn_laws.specs.Values.{IsNoMore, HasFallen};
 ghost use Rattle.node_looks.specs.Evaluated.{cost_in};
 ghost use Rattle.node_looks.specs.Looks.{cost_of};
-ghost use Rattle.node_looks.specs.Children.{IsBest, IsChild, AreSeen, halt_after};
+ghost use Rattle.node_looks.specs.Children.{IsChild, AreSeen, halt_after};
+ghost use Rattle.branch_tree.specs.Known.{AreUnits};
+ghost use Rattle.neutral_extension.specs.Candidates.{AreMakersOf};
 
 use crate::costs::is_no_more;
 use crate::evaluator::{Evaluator, Halt};
 use crate::looks::{Looked, Ready, look, nothing, open_cell};
 use branch_tree::{Network, Steps};
 use cert_parts::child;
+use neutral_extension::Makers;
 use pgraph::Graph;
 use pns_problem::Problem;
 use search_tree::Fresh;
@@ -27,8 +30,8 @@ pub struct HaltedAt {
     pub halt: Halt,
 }
 
-/// The children of a node in the order of their options, with what is at hand for each; the best network; and the first child that
-/// halts the search. Those behind it are not looked at.
+/// The children of a node in the order of their options, with what is at hand for each; the cheapest network that was found among
+/// them; and the first child that halts the search. Those behind it are not looked at.
 #[derive(Drop)]
 pub struct Children {
     pub kids: Vec<Fresh>,
@@ -47,10 +50,11 @@ fn costs_no_more(a: &Network, b: &Network) -> bool
 }
 
 /// The cheaper network, the old one where they cost the same.
-fn cheaper(old: Option<Network>, found: Option<Network>) -> Option<Network>
+pub fn cheaper(old: Option<Network>, found: Option<Network>) -> Option<Network>
     ensures which { (result ≡ old) ⊎ (result ≡ found) }
     ensures old { HasFallen (cost_of old) (cost_of result) }
     ensures found { HasFallen (cost_of found) (cost_of result) }
+    ensures some { is_some result ≡ (is_some old || is_some found) }
 {
     let Some(new) = found else {
         return old;
@@ -81,6 +85,7 @@ fn with_child(children: Children, looked: Looked) -> Result<Children, AllocError
     ensures which { IfOk result (λ c. (c.best ≡ children.best) ⊎ (c.best ≡ looked.network)) }
     ensures old { IfOk result (λ c. HasFallen (cost_of children.best) (cost_of c.best)) }
     ensures found { IfOk result (λ c. HasFallen (cost_of looked.network) (cost_of c.best)) }
+    ensures some { IfOk result (λ c. is_some c.best ≡ (is_some children.best || is_some looked.network)) }
     ensures halt { IfOk result (λ c. c.halt ≡ halt_after children.halt (length children.kids.items) looked.halt) }
 {
     let mut kids = children.kids;
@@ -105,16 +110,20 @@ fn look_or_wait<E: Evaluator>(
     evaluator: &mut E,
     problem: &Problem,
     graph: &Graph,
+    makers: &mut Makers,
     option: UnitSet,
     start: Node,
     halted: bool,
 ) -> Result<Looked, AllocError>
     requires graph { shape graph.now ≡ shape_of problem.now }
+    requires same { AreMakersOf (shape graph.now) makers.old.makers }
     requires sound { IsSound (shape_of problem.now) (node_of start) }
-    ensures { IfOk result (IsChild E.past problem.now (node_of start) option halted) }
+    requires option { AreUnits problem.now option }
+    ensures child { IfOk result (IsChild E.past problem.now (node_of start) option halted) }
+    ensures makers { makers.new.makers ≡ makers.old.makers }
 {
     if !halted {
-        return look(alloc, evaluator, problem, graph, option, start);
+        return look(alloc, evaluator, problem, graph, makers, option, start);
     }
     Ok(Looked {
         cell: open_cell(option, Steps::from_vec(Vec::new(alloc)), start),
@@ -125,23 +134,25 @@ fn look_or_wait<E: Evaluator>(
     })
 }
 
-/// Looks at all children of a node at the material, in the order of their options.
+/// Looks at all children of a node at the material, in the order of their options. The makers are those of the graph, whichever
+/// units are taken out of them, and stay so. `Err` comes for want of memory alone.
 pub fn look_at_children<E: Evaluator>(
     alloc: Global,
     evaluator: &mut E,
     problem: &Problem,
     graph: &Graph,
+    makers: &mut Makers,
     node: Node,
     material: u32,
-    best: Option<Network>,
 ) -> Result<Children, AllocError>
     requires graph { shape graph.now ≡ shape_of problem.now }
+    requires same { AreMakersOf (shape graph.now) makers.old.makers }
     requires sound { IsSound (shape_of problem.now) (node_of node) }
     requires reduced { IsReduced (shape_of problem.now) (node_of node) }
     requires undecided { IsUndecided (shape_of problem.now) (node_of node) material }
     requires known { material < (shape graph.now).materials }
-    requires best { IsBest problem.now best }
-    ensures { IfOk result (AreSeen E.past problem.now (node_of node) material best) }
+    ensures seen { IfOk result (AreSeen E.past problem.now (node_of node) material) }
+    ensures makers { makers.new.makers ≡ makers.old.makers }
 {
     problem.is_valid();
     let (base, free) = graph.options(node, material);
@@ -150,14 +161,16 @@ pub fn look_at_children<E: Evaluator>(
     let mut children = Children {
         kids: Vec::new(alloc),
         ready: Vec::new(alloc),
-        best,
+        best: None,
         halt: None,
     };
     let mut next = UnitSet::first_option(base, free);
     'options: while let Some(option) = next {
         let start = child(graph, &node, material, option);
         let halted = children.halt.is_some();
-        let looked = look_or_wait(alloc, evaluator, problem, graph, option, start, halted)?;
+        let looked = look_or_wait(
+            alloc, evaluator, problem, graph, makers, option, start, halted,
+        )?;
         children = with_child(children, looked)?;
         next = option.next_option(base, free);
     }

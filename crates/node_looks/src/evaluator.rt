@@ -6,7 +6,7 @@ ghost use Rattle.pgraph.specs.Tables.{shape};
 ghost use Rattle.pgraph.specs.View.{node_of};
 ghost use Rattle.node_looks.specs.Evaluated.{PastPlaces, IsEvaluated};
 
-use branch_tree::{Columns, Multipliers, Network};
+use branch_tree::{Columns, Multipliers, Network, Scaled};
 use flow_program::Place;
 use frac128::Frac;
 use pgraph::Graph;
@@ -14,12 +14,11 @@ use pns_problem::Problem;
 use std::alloc::{AllocError, Global};
 use unit_sets::Node;
 
-/// The least cost of relaxed flows, and multipliers over `d` that prove it.
+/// The least cost of relaxed flows, and multipliers over their scale that prove it.
 #[derive(Drop)]
 pub struct Bound {
     pub value: Frac,
-    pub d: i128,
-    pub ys: Multipliers,
+    pub scaled: Scaled,
 }
 
 /// The columns outside a basis, and the place where a number is past the range.

@@ -15,7 +15,7 @@ mod costs;
 mod evaluator;
 mod looks;
 
-pub use children::{Children, HaltedAt, look_at_children};
+pub use children::{Children, HaltedAt, cheaper, look_at_children};
 pub use costs::is_no_more;
 pub use evaluator::{Bound, Evaluation, Evaluator, Halt};
 pub use looks::{Looked, Ready, look, open_cell};

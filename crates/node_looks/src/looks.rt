@@ -7,13 +7,15 @@ ghost use Rattle.pgraph.specs.View.{node_of};
 ghost use Rattle.tree_rules.specs.Tree.{leaf};
 ghost use Rattle.tree_rules.specs.Leaf.{untried, bounded};
 ghost use Rattle.branch_tree.specs.View.{end_of};
+ghost use Rattle.branch_tree.specs.Known.{AreUnits};
+ghost use Rattle.neutral_extension.specs.Candidates.{AreMakersOf};
 ghost use Rattle.search_tree.specs.Growth.{as_shut};
 ghost use Rattle.node_looks.specs.Looks.{IsLooked, IsSameNode, IsSeen};
 
 use crate::evaluator::{Bound, Evaluation, Evaluator, Halt};
 use branch_tree::{End, Network, Steps};
 use frac128::Frac;
-use neutral_extension::{Stop, extend};
+use neutral_extension::{Makers, Stop, extend_with};
 use pgraph::Graph;
 use pns_problem::Problem;
 use search_tree::Cell;
@@ -67,16 +69,13 @@ fn closed(cell: Cell, end: End) -> Looked
 
 /// A leaf at which a network was found.
 fn solved(cell: Cell, bound: Bound, network: Network) -> Looked
-    ensures cell { result.cell ≡ as_shut cell (leaf (bounded bound.d bound.ys)) }
+    ensures cell { result.cell ≡ as_shut cell (leaf (bounded bound.scaled.d bound.scaled.ys)) }
     ensures network { result.network ≡ Some network }
     ensures halt { result.halt ≡ None }
 {
     let mut cell = cell;
     let value = bound.value;
-    cell.make_end(End::Bound {
-        d: bound.d,
-        ys: bound.ys,
-    });
+    cell.make_end(End::Bound(bound.scaled));
     Looked {
         cell,
         value,
@@ -113,8 +112,14 @@ fn look_closer<E: Evaluator>(
             network: None,
             halt: None,
         }),
-        Evaluation::Flows(bound, network) => Ok(solved(cell, bound, network)),
-        Evaluation::Refuted(ys) => Ok(closed(cell, End::Refuted(ys))),
+        Evaluation::Flows(bound, network) => {
+            bound.scaled.are_in_range();
+            Ok(solved(cell, bound, network))
+        }
+        Evaluation::Refuted(ys) => {
+            ys.are_in_range();
+            Ok(closed(cell, End::Refuted(ys)))
+        }
         Evaluation::Halted(halt) => Ok(Looked {
             cell,
             value: nothing(),
@@ -139,20 +144,27 @@ pub fn open_cell(option: UnitSet, steps: Steps, node: Node) -> Cell
     }
 }
 
-/// Takes the steps that are possible at a node, and tells what they leave.
+/// Takes the steps that are possible at a node, and tells what they leave. The makers are those of the graph, whichever units are
+/// taken out of them, and stay so. `Err` comes for want of memory alone.
 pub fn look<E: Evaluator>(
     alloc: Global,
     evaluator: &mut E,
     problem: &Problem,
     graph: &Graph,
+    makers: &mut Makers,
     option: UnitSet,
     start: Node,
 ) -> Result<Looked, AllocError>
     requires graph { shape graph.now ≡ shape_of problem.now }
+    requires same { AreMakersOf (shape graph.now) makers.old.makers }
     requires sound { IsSound (shape_of problem.now) (node_of start) }
-    ensures { IfOk result (IsLooked E.past problem.now (node_of start) option) }
+    requires option { AreUnits problem.now option }
+    ensures looked { IfOk result (IsLooked E.past problem.now (node_of start) option) }
+    ensures makers { makers.new.makers ≡ makers.old.makers }
 {
-    let extended = extend(alloc, graph, start)?;
+    problem.is_valid();
+    makers.lead_to(graph, start.outside);
+    let extended = extend_with(alloc, graph, makers, start)?;
     let cell = open_cell(option, Steps::from_vec(extended.steps), extended.node);
     match extended.end {
         Stop::Dead(material) => Ok(closed(cell, End::Dead(material))),

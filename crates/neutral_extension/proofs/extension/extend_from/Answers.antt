@@ -4,8 +4,11 @@ use Rattle.number_sets.specs.Sets.{listed, minus}
 use Rattle.pgraph.specs.Tables.{shape}
 use Rattle.pgraph.specs.View.{node_of, step_of}
 use Rattle.pns_rules.specs.Ends.{IsSound, Leads}
-use Rattle.pns_rules.specs.Nodes.{after, is_free}
+use Rattle.problem_rules.specs.Each.{Each}
+use Rattle.pns_rules.specs.Nodes.{Step, after, is_free}
+use Rattle.neutral_extension.specs.Moves.{HasSet}
 use Rattle.neutral_extension.specs.Candidates.{Candidates}
+use Rattle.neutral_extension.proofs.LeadLemmas.{Each-push}
 use Rattle.neutral_extension.proofs.EndLemmas.{free_falls, sound_after, Leads-push, leads_family}
 use Rattle.neutral_extension.proofs.extension.extend_from.Goals as goal
 
@@ -42,6 +45,7 @@ steps-preserved c =
         rest = inv.front.rest ++ gone;
         is = ap (λ (k : Candidates). k.taken) is.taken ∙ (ap (λ xs. xs ++ gone) inv.front.is ∙ append_group c.args.makers.now.taken inv.front.rest gone);
       };
+      sets = subst (λ (ss : List Step). Each (HasSet g) ss) (sym items) (Each-push (HasSet g) (map step_of c.steps.steps.items) s inv.sets c.in-Take.ensures.set);
     }
 
 pub returns-in-End-clause-extends : goal.returns-in-End-clause-extends
@@ -50,4 +54,5 @@ returns-in-End-clause-extends c = record {
   sound = c.steps.invariant.sound;
   same_family = leads_family (shape c.args.graph.now) (node_of c.args.node) (node_of c.steps.standing.node) (map step_of c.steps.steps.items) c.is_proper.ensures.proper c.steps.invariant.path;
   ends = c.in-End.ensures.comes;
+  sets = c.steps.invariant.sets;
 }

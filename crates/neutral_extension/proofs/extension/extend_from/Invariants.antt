@@ -5,6 +5,8 @@ use Rattle.pgraph.specs.View.{node_of, step_of}
 use Rattle.pns_rules.specs.Ends.{IsSound, Leads}
 use Rattle.pns_rules.specs.Nodes.{is_free}
 use Rattle.neutral_extension.specs.Candidates.{IsFront}
+use Rattle.problem_rules.specs.Each.{Each}
+use Rattle.neutral_extension.specs.Moves.{HasSet}
 use Rattle.neutral_extension.specs.Standing.{Stands, Follows, AllLead}
 use Rattle.neutral_extension.proofs.extension.extend_from.Given as goal
 
@@ -17,6 +19,7 @@ invariant-steps l = record {
   leading : AllLead (shape l.graph) (has l.leading);
   makers : l.makers.makers ≡ l.fn.makers.makers;
   front : IsFront l.fn.makers.taken l.makers.taken;
+  sets : Each (HasSet (shape l.graph)) (map step_of l.steps.items);
 }
 
 abbrev pub decreases-steps : goal.decreases-steps

@@ -1,5 +1,6 @@
 use Rattle.std.proofs.Common.{refl, subst, MatchOption}
 use Rattle.std.proofs.lemmas.Bool.{both_ways}
+use Rattle.number_sets.proofs.SetLemmas.{below_from}
 use Rattle.pns_rules.specs.Structure.{Clashes}
 use Rattle.pns_rules.specs.Ends.{IsNever, IsFirst}
 use Rattle.pgraph.specs.Tables.{shape}
@@ -27,6 +28,14 @@ returns-then-not-is_empty-clause-comes c =
     loose_next g d c.in_default.ensures no_clash c.in_default-raw_unit.ensures c.in_default-rival_unit.ensures c.in_default-starved_material.ensures w
     (loose_possible g d c.requires.sound w loose (λ e. both_ways c.is_empty.result c.if-not-is_empty.true (c.is_empty.ensures.1 e)))
     (loose_whole g d c.requires.sound w loose)
+
+pub returns-then-not-is_empty-clause-set : goal.returns-then-not-is_empty-clause-set
+returns-then-not-is_empty-clause-set c =
+    let g = shape c.args.graph.now in
+    let d = node_of c.args.standing.now.node in
+    let w = c.loose_units-loose.result in
+    let p = loose_possible g d c.requires.sound w c.loose_units-loose.ensures.loose (λ e. both_ways c.is_empty.result c.if-not-is_empty.true (c.is_empty.ensures.1 e)) in
+    record { rising = c.rises.ensures.rising; below = below_from g.units w (λ u h. (p.1 u h).0) }
 
 pub returns-in-Some-sole_step-clause-comes : goal.returns-in-Some-sole_step-clause-comes
 returns-in-Some-sole_step-clause-comes c =

@@ -1,4 +1,4 @@
-use Rattle.std.proofs.Common.{◌≡◌, subst}
+use Rattle.std.proofs.Common.{◌≡◌, refl, subst}
 use Rattle.tree_rules.specs.Leaf.{refuted, untried, IsRefuted}
 use Rattle.node_looks.specs.Evaluated.{IsBoundOf}
 use Rattle.search_tree.specs.Cells.{Cell, place_of}
@@ -10,11 +10,11 @@ returns-in-Flows-clause-seen g c =
     let h = rw c.in-Flows.is at c.in_ok-bound.ensures in
     seen_solved g.E.Evaluator.past c.args.problem.now c.args.cell c.solved.result c.in-Flows.bound c.in-Flows.network c.solved.ensures.cell c.solved.ensures.network c.solved.ensures.halt
     c.requires.reduced.live.no_dead
-    (subst (λ (w : Cell). IsBoundOf c.args.problem.now (place_of w) c.in-Flows.bound) c.cell.view_is h.1) h.2
+    (subst (λ (w : Cell). IsBoundOf c.args.problem.now (place_of w) c.in-Flows.bound) c.cell.view_is h.1) h.2 c.are_in_range.ensures.scale c.are_in_range.ensures.multipliers
 
 pub returns-in-Refuted-clause-seen : goal.returns-in-Refuted-clause-seen
 returns-in-Refuted-clause-seen g c =
     let h = rw c.in-Refuted.is at c.in_ok-bound.ensures in
     seen_closed g.E.Evaluator.past c.args.problem.now c.args.cell c.closed.result (refuted c.in-Refuted.ys) c.closed.ensures.cell c.closed.ensures.network c.closed.ensures.halt
-    (λ (e : refuted c.in-Refuted.ys ≡ untried). cc)
-    (subst (λ (w : Cell). IsRefuted c.args.problem.now (place_of w) c.in-Refuted.ys) c.cell.view_is h)
+    (λ (e : refuted c.in-Refuted.ys ≡ untried). cc) refl
+    (subst (λ (w : Cell). IsRefuted c.args.problem.now (place_of w) c.in-Refuted.ys) c.cell.view_is h) c.are_in_range-in-Refuted.ensures

@@ -1,0 +1,30 @@
+-- What a look adds to a tree has numbers that the problem knows.
+use Rattle.std.proofs.Common.{◌≡◌, ℕ, ◌<◌, true, List, [], ◌∷◌, length}
+use Rattle.number_sets.proofs.SetLemmas.{below_from}
+use Rattle.problem_rules.specs.Each.{Each}
+use Rattle.problem_rules.specs.Problem.{Problem}
+use Rattle.pns_rules.specs.Shape.{IsProper, shape_of}
+use Rattle.pns_rules.specs.Nodes.{Node, Step, raw, rival, starve, loose, sole, IsPossible, IsOption, after}
+use Rattle.pns_rules.specs.Ends.{IsDead, Leads}
+use Rattle.branch_tree.specs.Known.{AreUnits, IsMaterial, KnowsStep}
+use Rattle.cert_parts.proofs.StepLemmas.{needed_known}
+use Rattle.neutral_extension.specs.Moves.{HasSet}
+
+pub known_option : (p : Problem) (n : Node) (x : ℕ) (t : List ℕ) → IsOption (shape_of p) n x t → AreUnits p t
+known_option p n x t o = record { rising = o.rising; below = below_from (length p.units) t (λ u h. (o.made_by u h).0) }
+
+module _ (p : Problem) (proper : IsProper (shape_of p)) where
+  -- a dead material is needed
+  pub known_dead : (n : Node) (x : ℕ) → IsDead (shape_of p) n x → IsMaterial p x
+  known_dead n x d = needed_known (shape_of p) n.inside x proper d.needed
+
+  known_step : (n : Node) (s : Step) → IsPossible (shape_of p) n s → HasSet (shape_of p) s → KnowsStep p s
+  known_step n (raw u) h k = h.0
+  known_step n (rival u) h k = h.0
+  known_step n (starve x) h k = let user = h.2 in proper.input_known user.0 x user.2
+  known_step n (loose us) h k = k
+  known_step n (sole x u) h k = (proper.output_known u x h.2, h.1)
+
+  pub known_steps : (n : Node) (ss : List Step) (m : Node) → Leads (shape_of p) n ss m → Each (HasSet (shape_of p)) ss → Each (KnowsStep p) ss
+  known_steps n [] m l k = tt
+  known_steps n (s ∷ ss) m l k = (known_step n s l.0.possible k.0, known_steps (after (shape_of p) n s) ss m l.1 k.1)
