@@ -2,12 +2,14 @@
 use Rattle.std.proofs.Common.{◌≡◌, ◌<◌, ◌≤◌, ◌++◌, ℕ, arith, subst, sym, ◌∙◌, List, length, take}
 use Rattle.std.proofs.lemmas.List.{take-append-le, take_all, length-take-le}
 use Rattle.int_rows.specs.Range.{InRange, AllInRange}
+use Rattle.flow_program.specs.declared.place.Column.{Column}
 use Rattle.flow_rules.specs.Program.{Program}
 use Rattle.path_rules.specs.LinearProgram.{linear_of}
 use Rattle.path_rules.specs.Multipliers.{AreMultipliers, AreRefuting}
 use Rattle.std.proofs.lemmas.Int.{ints}
 use Rattle.path_rules.specs.ReadFlows.{AreRead}
 use Rattle.flow_reading.specs.Reading.{IsOwnPositive}
+use Rattle.dual_simplex.specs.Named.{column_named, nonbasic_named}
 use Rattle.dual_simplex.specs.Bench.{IsLeastOf, IsNoneOf, AreFlowsOf}
 use Rattle.std.specs.Prelude.{ℤ, pos, ◌<ℤ◌, ◌≤ℤ◌}
 use Rattle.path_rules.specs.LinearProgram.{LinearProgram}
@@ -39,23 +41,27 @@ row_below p r row h = subst (λ m. row < m) (sym (columns_are p r h.on_path.size
 pub taken : (n : ℕ) (xs rest : List ℤ) → length xs ≡ n → take n (xs ++ rest) ≡ xs
 taken n xs rest e = take-append-le n xs rest (omega arith) ∙ take_all n xs (omega arith)
 
-pub least_of : (q : Program) (r : Rows) (d : ℤ) (items ys : List ℤ) (row : ℕ) (flows : List ℤ) (den : ℤ) → items ≡ ys → r.rows ≤ length ys → EndsFeasible (linear_of q) r
-    → AreMultipliers (linear_of q) (table r (scale_at (linear_of q))) d (take r.rows ys) → InRange d → AllInRange (take r.rows ys)
-    → IsLeastOf q (record { rows = r; d = d; ys = take r.rows items; row = row; flows = flows; flow_den = den })
-least_of q r d items ys row flows den e room f a rd ry = record {
+pub least_of : (q : Program) (r : Rows) (nonbasic : List Column) (d : ℤ) (items ys : List ℤ) (row : Column) (flows : List ℤ) (den : ℤ) → items ≡ ys → r.rows ≤ length ys → EndsFeasible (linear_of q) r
+    → nonbasic ≡ nonbasic_named q (basis r) → AreMultipliers (linear_of q) (table r (scale_at (linear_of q))) d (take r.rows ys) → InRange d → AllInRange (take r.rows ys)
+    → IsLeastOf q (record { rows = r; nonbasic = nonbasic; d = d; ys = take r.rows items; row = row; flows = flows; flow_den = den })
+least_of q r nonbasic d items ys row flows den e room f n a rd ry = record {
   feasible = f;
+  nonbasic_are = n;
   are = subst (λ (xs : List ℤ). AreMultipliers (linear_of q) (table r (scale_at (linear_of q))) d (take r.rows xs)) (sym e) a;
   count = subst (λ (xs : List ℤ). length (take r.rows xs) ≡ length q.rows) (sym e) (length-take-le r.rows ys room ∙ sym f.on_path.size.rows);
   scale_in_range = rd;
   in_range = subst (λ (xs : List ℤ). AllInRange (take r.rows xs)) (sym e) ry;
 }
 
-pub none_of : (q : Program) (r : Rows) (d : ℤ) (items ys : List ℤ) (row : ℕ) (flows : List ℤ) (den : ℤ) → items ≡ ys → r.rows ≤ length ys → EndsRefuting (linear_of q) r row
-    → AreRefuting (linear_of q) (table r row) (take r.rows ys) → AllInRange (take r.rows ys)
-    → IsNoneOf q (record { rows = r; d = d; ys = take r.rows items; row = row; flows = flows; flow_den = den })
-none_of q r d items ys row flows den e room f a ry = record {
+pub none_of : (q : Program) (r : Rows) (nonbasic : List Column) (d : ℤ) (items ys : List ℤ) (place : ℕ) (row : Column) (flows : List ℤ) (den : ℤ) → items ≡ ys → r.rows ≤ length ys → EndsRefuting (linear_of q) r place
+    → row ≡ column_named q place → nonbasic ≡ nonbasic_named q (basis r) → AreRefuting (linear_of q) (table r place) (take r.rows ys) → AllInRange (take r.rows ys)
+    → IsNoneOf q (record { rows = r; nonbasic = nonbasic; d = d; ys = take r.rows items; row = row; flows = flows; flow_den = den })
+none_of q r nonbasic d items ys place row flows den e room f is n a ry = record {
+  place = place;
   refuting = f;
-  are = subst (λ (xs : List ℤ). AreRefuting (linear_of q) (table r row) (take r.rows xs)) (sym e) a;
+  row_is = is;
+  nonbasic_are = n;
+  are = subst (λ (xs : List ℤ). AreRefuting (linear_of q) (table r place) (take r.rows xs)) (sym e) a;
   count = subst (λ (xs : List ℤ). length (take r.rows xs) ≡ length q.rows) (sym e) (length-take-le r.rows ys room ∙ sym f.on_path.size.rows);
   in_range = subst (λ (xs : List ℤ). AllInRange (take r.rows xs)) (sym e) ry;
 }
@@ -64,10 +70,10 @@ pub own_positive : (p : LinearProgram) (r : Rows) → EndsFeasible p r → IsOwn
 own_positive p r h i l b = (h.on_path.is_tableau i b).own
 
 -- what is read into the front of a list
-pub flows_of : (q : Program) (r : Rows) (d : ℤ) (ys : List ℤ) (row : ℕ) (items zs : List ℤ) (den : ℤ) → items ≡ zs → r.units ≤ length zs → EndsFeasible (linear_of q) r
+pub flows_of : (q : Program) (r : Rows) (nonbasic : List Column) (d : ℤ) (ys : List ℤ) (row : Column) (items zs : List ℤ) (den : ℤ) → items ≡ zs → r.units ≤ length zs → EndsFeasible (linear_of q) r
     → AreRead (linear_of q) (basis r) (table r) (take r.units zs) den → pos 0 <ℤ den → InRange den → AllInRange (take r.units zs)
-    → AreFlowsOf q (record { rows = r; d = d; ys = ys; row = row; flows = take r.units items; flow_den = den })
-flows_of q r d ys row items zs den e room f a positive rd rz = record {
+    → AreFlowsOf q (record { rows = r; nonbasic = nonbasic; d = d; ys = ys; row = row; flows = take r.units items; flow_den = den })
+flows_of q r nonbasic d ys row items zs den e room f a positive rd rz = record {
   read = subst (λ (xs : List ℤ). AreRead (linear_of q) (basis r) (table r) (take r.units xs) den) (sym e) a;
   count = subst (λ (xs : List ℤ). length (take r.units xs) ≡ length q.units) (sym e) (length-take-le r.units zs room ∙ sym f.on_path.size.units);
   positive = omega (arith, ints);

@@ -16,9 +16,8 @@ ends_least net n q b e h =
     let on = k.feasible.on_path in
     record { on_path = record { pivots = on.pivots; reached = on.reached; is_tableau = on.is_tableau }; feasible = k.feasible.feasible; are = k.are }
 
-ends_none : (net : Net) (n : Node) (q : Program) (b : Bench) → q ≡ program_of net n → IsNoneOf q b → ends.EndsNone net n (basis b.rows) (table b.rows) b.row b.ys
-ends_none net n q b e h =
-    let k : IsNoneOf (program_of net n) b = subst (λ (p : Program). IsNoneOf p b) e h in
+ends_none : (net : Net) (n : Node) (b : Bench) (k : IsNoneOf (program_of net n) b) → ends.EndsNone net n (basis b.rows) (table b.rows) k.place b.ys
+ends_none net n b k =
     let on = k.refuting.on_path in
     record { on_path = record { pivots = on.pivots; reached = on.reached; is_tableau = on.is_tableau }; refuting = k.refuting.refuting; are = k.are }
 
@@ -32,7 +31,9 @@ pub bound_is_least : BoundIsLeast
 bound_is_least p v n q b e h = law.bound_is_least p v n (basis b.rows) (table b.rows) b.d b.ys (ends_least (net_of p) n q b e h)
 
 pub none_is_refuted : NoneIsRefuted
-none_is_refuted p v n q b e h = law.row_refutes p v n (basis b.rows) (table b.rows) b.row b.ys (ends_none (net_of p) n q b e h)
+none_is_refuted p v n q b e h =
+    let k : IsNoneOf (program_of (net_of p) n) b = subst (λ (r : Program). IsNoneOf r b) e h in
+    law.row_refutes p v n (basis b.rows) (table b.rows) k.place b.ys (ends_none (net_of p) n b k)
 
 pub feasible_is_last : FeasibleIsLast
 feasible_is_last p r h = (path.feasible_last p h.on_path.pivots (basis r) h.on_path.reached (table r) h.on_path.is_tableau h.feasible).0

@@ -11,7 +11,7 @@ use Rattle.path_rules.specs.LinearProgram.{linear_of}
 use Rattle.path_rules.specs.Columns.{columns, scale_at}
 use Rattle.end_laws.proofs.PlaceLemmas.{has_at}
 use Rattle.dual_simplex.specs.Named.{unit_named, row_named, column_named}
-use Rattle.dual_simplex.specs.ProgramNames.{IsColumnOf, IsRowOf, IsPlaceOf, NonbasicAreOfProgram, ColumnsAreOfProgram, EntriesAreOfProgram, FlowsAreOfProgram}
+use Rattle.dual_simplex.specs.ProgramNames.{IsColumnOf, IsRowOf, IsPlaceOf, NonbasicAreOfProgram, ColumnsAreOfProgram, RowIsOfProgram, EntriesAreOfProgram, FlowsAreOfProgram}
 
 either : {A : Type 0} (P : A → Type 0) (c : Bool) (x y : A) → (c ≡ true → P x) → (c ≡ false → P y) → P (cond c x y)
 either P true x y f g = f refl
@@ -33,6 +33,9 @@ each_named q (k ∷ ks) = (columns_are_of_program q k, each_named q ks)
 
 pub nonbasic_are_of_program : NonbasicAreOfProgram
 nonbasic_are_of_program q b = each_named q (filter (λ k. not (b k)) (range_with_len 0 (columns (linear_of q))))
+
+pub row_is_of_program : RowIsOfProgram
+row_is_of_program q b h = subst (IsColumnOf q) (sym h.row_is) (columns_are_of_program q h.place)
 
 row_of_program : (q : Program) (row : ℕ) → IsRowOf q (cond (nat_eq row (scale_at (linear_of q))) None (Some (column_named q row)))
 row_of_program q row = either (IsRowOf q) (nat_eq row (scale_at (linear_of q))) None (Some (column_named q row)) (λ e. tt) (λ e. columns_are_of_program q row)

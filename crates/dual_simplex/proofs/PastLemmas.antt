@@ -1,7 +1,8 @@
 -- The places that are past at what a bench keeps.
-use Rattle.std.proofs.Common.{◌≡◌, ℕ, zero, suc, ◌+◌, ◌<◌, ◌≤◌, Bool, true, false, cond, arith, refl, sym, subst, List, [], ◌∷◌, ◌++◌, map, get_or, ℤ}
+use Rattle.std.proofs.Common.{◌≡◌, ℕ, zero, suc, ◌+◌, ◌<◌, ◌≤◌, Bool, true, false, cond, arith, refl, sym, ap, subst, List, [], ◌∷◌, ◌++◌, map, get_or, ℤ}
 use Rattle.std.specs.List.{range_with_len}
 use Rattle.pns_rules.specs.Nodes.{Node}
+use Rattle.flow_program.specs.declared.place.Column.{Column}
 use Rattle.flow_program.specs.declared.place.Place.{Place}
 use Rattle.flow_program.specs.declared.place.Place.TheVariants as places
 use Rattle.flow_rules.specs.Net.{Net}
@@ -13,7 +14,7 @@ use Rattle.path_rules.specs.ReadFlows.{Formed, FlowStep, Lcm, lcms, sizes, round
 use Rattle.path_rules.specs.Places as path
 use Rattle.tableau_rows.specs.Rows.{table, basis}
 use Rattle.dual_simplex.specs.Bench.{Bench, IsLeastOf, IsNoneOf, AreFlowsOf}
-use Rattle.dual_simplex.specs.Named.{column_named, place_named}
+use Rattle.dual_simplex.specs.Named.{place_named}
 use Rattle.dual_simplex.specs.PastPlace.{IsPastOf, IsPastFlowOf}
 use Rattle.dual_simplex.specs.PastLaws.{IsPastHere, EntryIsPast, FlowIsPast, BoundIsPast, RefutationIsPast, CostIsPast, BalanceIsPast}
 use Rattle.dual_simplex.proofs.LawLemmas.{feasible_is_last, refuting_is_last, past_is_last}
@@ -56,63 +57,59 @@ module _ (net : Net) (n : Node) where
   abbrev q : Program
   q = program_of net n
 
-  entry_here : (b : Bench) (place : Place) → IsPastOf q b place → IsPastHere net n q b place
+  entry_here : (b : Bench) (place : Place) → IsPastOf q b place → IsPastHere net n b place
   entry_here b place h = record {
     last = basis b.rows;
     at = path.Entry h.leaves h.enters h.row h.column h.which;
-    nonbasic_are = refl;
+    nonbasic_are = h.nonbasic_are;
     named = h.named;
     past = record { last = past_is_last _ b.rows h.leaves h.enters h.row h.column h.which h.ends; tableau = h.ends.tableau; is_tableau = h.ends.is_tableau; here = h.ends.past };
   }
 
-  least_here : (b : Bench) (at : path.Place) (place : Place) → place ≡ place_named q at → IsLeastOf q b → path.IsPastAt net n (basis b.rows) (table b.rows) at → IsPastHere net n q b place
+  least_here : (b : Bench) (at : path.Place) (place : Place) → place ≡ place_named q at → IsLeastOf q b → path.IsPastAt net n (basis b.rows) (table b.rows) at → IsPastHere net n b place
   least_here b at place e h here = record {
     last = basis b.rows;
     at = at;
-    nonbasic_are = refl;
+    nonbasic_are = h.nonbasic_are;
     named = e;
     past = record { last = feasible_is_last _ b.rows h.feasible; tableau = table b.rows; is_tableau = h.feasible.on_path.is_tableau; here = here };
   }
 
-  none_here : (b : Bench) (at : path.Place) (place : Place) → place ≡ place_named q at → IsNoneOf q b → path.IsPastAt net n (basis b.rows) (table b.rows) at → IsPastHere net n q b place
+  none_here : (b : Bench) (at : path.Place) (place : Place) → place ≡ place_named q at → IsNoneOf q b → path.IsPastAt net n (basis b.rows) (table b.rows) at → IsPastHere net n b place
   none_here b at place e h here = record {
     last = basis b.rows;
     at = at;
-    nonbasic_are = refl;
+    nonbasic_are = h.nonbasic_are;
     named = e;
-    past = record { last = refuting_is_last _ b.rows b.row h.refuting; tableau = table b.rows; is_tableau = h.refuting.on_path.is_tableau; here = here };
+    past = record { last = refuting_is_last _ b.rows h.place h.refuting; tableau = table b.rows; is_tableau = h.refuting.on_path.is_tableau; here = here };
   }
 
 pub entry_is_past : EntryIsPast
-entry_is_past net n q b place e = subst (λ (r : Program). IsPastOf r b place → IsPastHere net n r b place) (sym e) (entry_here net n b place)
+entry_is_past net n q b place e = subst (λ (r : Program). IsPastOf r b place → IsPastHere net n b place) (sym e) (entry_here net n b place)
 
 pub flow_is_past : FlowIsPast
 flow_is_past net n q b place e =
-    subst (λ (r : Program). IsLeastOf r b → path.IsDecided net n → IsPastFlowOf r b place → IsPastHere net n r b place) (sym e)
+    subst (λ (r : Program). IsLeastOf r b → path.IsDecided net n → IsPastFlowOf r b place → IsPastHere net n b place) (sym e)
     (λ h decided f. least_here net n b (path.Flow f.unit f.step) place f.named h (decided, h.feasible.feasible, f.past))
 
 pub bound_is_past : BoundIsPast
 bound_is_past net n q b at e h past =
     let k : IsLeastOf (program_of net n) b = subst (λ (r : Program). IsLeastOf r b) e h in
-    subst (λ (r : Program). IsPastHere net n r b (places.Bound at)) (sym e)
-    (least_here net n b (path.Bound at) (places.Bound at) refl k (record { feasible = k.feasible.feasible; d = b.d; ys = b.ys; are = k.are; past = past }))
+    least_here net n b (path.Bound at) (places.Bound at) refl k (record { feasible = k.feasible.feasible; d = b.d; ys = b.ys; are = k.are; past = past })
 
 pub refutation_is_past : RefutationIsPast
 refutation_is_past net n q b at e h past =
     let k : IsNoneOf (program_of net n) b = subst (λ (r : Program). IsNoneOf r b) e h in
-    subst (λ (r : Program). IsPastHere net n r b (places.Refute (column_named r b.row) at)) (sym e)
-    (none_here net n b (path.Refute b.row at) (places.Refute (column_named (program_of net n) b.row) at) refl k (record { refuting = k.refuting.refuting; ys = b.ys; are = k.are; past = past }))
+    none_here net n b (path.Refute k.place at) (places.Refute b.row at) (ap (λ (row : Column). places.Refute row at) k.row_is) k (record { refuting = k.refuting.refuting; ys = b.ys; are = k.are; past = past })
 
 pub cost_is_past : CostIsPast
 cost_is_past net n q b at e h f decided past =
     let k : IsLeastOf (program_of net n) b = subst (λ (r : Program). IsLeastOf r b) e h in
     let g : AreFlowsOf (program_of net n) b = subst (λ (r : Program). AreFlowsOf r b) e f in
-    subst (λ (r : Program). IsPastHere net n r b (places.Cost at)) (sym e)
-    (least_here net n b (path.Cost at) (places.Cost at) refl k (record { decided = decided; feasible = k.feasible.feasible; zs = b.flows; d = b.flow_den; read = g.read; of = past }))
+    least_here net n b (path.Cost at) (places.Cost at) refl k (record { decided = decided; feasible = k.feasible.feasible; zs = b.flows; d = b.flow_den; read = g.read; of = past })
 
 pub balance_is_past : BalanceIsPast
 balance_is_past net n q b at e h f decided past =
     let k : IsLeastOf (program_of net n) b = subst (λ (r : Program). IsLeastOf r b) e h in
     let g : AreFlowsOf (program_of net n) b = subst (λ (r : Program). AreFlowsOf r b) e f in
-    subst (λ (r : Program). IsPastHere net n r b (places.FlowSum at)) (sym e)
-    (least_here net n b (path.FlowSum at) (places.FlowSum at) refl k (record { decided = decided; feasible = k.feasible.feasible; zs = b.flows; d = b.flow_den; read = g.read; of = past }))
+    least_here net n b (path.FlowSum at) (places.FlowSum at) refl k (record { decided = decided; feasible = k.feasible.feasible; zs = b.flows; d = b.flow_den; read = g.read; of = past })

@@ -1,5 +1,6 @@
 -- What a bench keeps of the last program that it was given, and what that means.
-use Rattle.std.specs.Prelude.{◌≡◌, ◌≤◌, ◌≤ℤ◌, pos, ℕ, ℤ, List, length}
+use Rattle.std.specs.Prelude.{◌≡◌, ◌+◌, ◌≤◌, ◌≤ℤ◌, pos, ℕ, ℤ, List, length}
+use Rattle.flow_program.specs.declared.place.Column.{Column}
 use Rattle.int_rows.specs.Range.{InRange, AllInRange}
 use Rattle.flow_rules.specs.Program.{Program}
 use Rattle.path_rules.specs.LinearProgram.{linear_of}
@@ -7,18 +8,29 @@ use Rattle.path_rules.specs.Columns.{scale_at}
 use Rattle.path_rules.specs.Multipliers.{AreMultipliers, AreRefuting}
 use Rattle.path_rules.specs.ReadFlows.{AreRead}
 use Rattle.tableau_rows.specs.Rows.{Rows, table, basis}
+use Rattle.dual_simplex.specs.Named.{column_named, nonbasic_named}
 use Rattle.dual_simplex.specs.Walk.{EndsFeasible, EndsRefuting}
 
 pub record Bench : Type 0 where
   pub rows : Rows
+  -- the columns that are not in the basis
+  pub nonbasic : List Column
   -- the multipliers and their scale, or the multipliers of a refutation
   pub d : ℤ
   pub ys : List ℤ
   -- the column whose row can't be met
-  pub row : ℕ
+  pub row : Column
   -- the sizes of the units, in order, and their denominator
   pub flows : List ℤ
   pub flow_den : ℤ
+
+-- how many numbers a bench has room for: the columns, of which some are not in the basis, the multipliers and the flows of the
+-- greatest program
+pub record HasLists (r : Rows) (nonbasic columns ys flows : ℕ) : Type 0 where
+  pub nonbasic_fit : nonbasic ≤ columns
+  pub columns_room : columns ≡ r.most_units + r.most_units + r.most_rows + r.most_rows
+  pub ys_room : ys ≡ r.most_rows
+  pub flows_room : flows ≡ r.most_units
 
 -- there is room for programs of so many units and rows
 pub record HasRoom (b : Bench) (units rows : ℕ) : Type 0 where
@@ -28,6 +40,7 @@ pub record HasRoom (b : Bench) (units rows : ℕ) : Type 0 where
 -- the bench keeps the last basis of the path of the program, which gives least flows, and the multipliers of its cost row
 pub record IsLeastOf (q : Program) (b : Bench) : Type 0 where
   pub feasible : EndsFeasible (linear_of q) b.rows
+  pub nonbasic_are : b.nonbasic ≡ nonbasic_named q (basis b.rows)
   pub are : AreMultipliers (linear_of q) (table b.rows (scale_at (linear_of q))) b.d b.ys
   pub count : length b.ys ≡ length q.rows
   pub scale_in_range : InRange b.d
@@ -35,8 +48,11 @@ pub record IsLeastOf (q : Program) (b : Bench) : Type 0 where
 
 -- a row of that basis can't be met, and the bench keeps its multipliers
 pub record IsNoneOf (q : Program) (b : Bench) : Type 0 where
-  pub refuting : EndsRefuting (linear_of q) b.rows b.row
-  pub are : AreRefuting (linear_of q) (table b.rows b.row) b.ys
+  pub place : ℕ
+  pub refuting : EndsRefuting (linear_of q) b.rows place
+  pub row_is : b.row ≡ column_named q place
+  pub nonbasic_are : b.nonbasic ≡ nonbasic_named q (basis b.rows)
+  pub are : AreRefuting (linear_of q) (table b.rows place) b.ys
   pub count : length b.ys ≡ length q.rows
   pub in_range : AllInRange b.ys
 

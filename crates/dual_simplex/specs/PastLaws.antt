@@ -12,41 +12,39 @@ use Rattle.flow_rules.specs.BoundSteps.{bound_steps}
 use Rattle.flow_rules.specs.CostSteps.{cost_steps}
 use Rattle.flow_rules.specs.FeasibleSteps.{feasible_steps}
 use Rattle.path_rules.specs.Places.{IsDecided}
-use Rattle.tableau_rows.specs.Rows.{basis}
 use Rattle.dual_simplex.specs.Bench.{Bench, IsLeastOf, IsNoneOf, AreFlowsOf}
-use Rattle.dual_simplex.specs.Named.{column_named, nonbasic_named}
 use Rattle.dual_simplex.specs.PastPlace.{IsPastOf, IsPastFlowOf, IsPastNamed}
 
 -- the place is past at the basis that is kept
-abbrev pub IsPastHere : Net → Node → Program → Bench → Place → Type 0
-IsPastHere net n q b place = IsPastNamed net n (nonbasic_named q (basis b.rows)) place
+abbrev pub IsPastHere : Net → Node → Bench → Place → Type 0
+IsPastHere net n b place = IsPastNamed net n b.nonbasic place
 
 abbrev pub EntryIsPast : Type 0
-EntryIsPast = (net : Net) (n : Node) (q : Program) (b : Bench) (place : Place) → q ≡ program_of net n → IsPastOf q b place → IsPastHere net n q b place
+EntryIsPast = (net : Net) (n : Node) (q : Program) (b : Bench) (place : Place) → q ≡ program_of net n → IsPastOf q b place → IsPastHere net n b place
 
 abbrev pub FlowIsPast : Type 0
-FlowIsPast = (net : Net) (n : Node) (q : Program) (b : Bench) (place : Place) → q ≡ program_of net n → IsLeastOf q b → IsDecided net n → IsPastFlowOf q b place → IsPastHere net n q b place
+FlowIsPast = (net : Net) (n : Node) (q : Program) (b : Bench) (place : Place) → q ≡ program_of net n → IsLeastOf q b → IsDecided net n → IsPastFlowOf q b place → IsPastHere net n b place
 
 -- a step of the bound of the multipliers
 abbrev pub BoundIsPast : Type 0
 BoundIsPast =
     (net : Net) (n : Node) (q : Program) (b : Bench) (at : ℕ) → q ≡ program_of net n → IsLeastOf q b
-    → IsFirstPast (bound_steps net n b.d (beside (rows net n) b.ys)) at → IsPastHere net n q b (places.Bound at)
+    → IsFirstPast (bound_steps net n b.d (beside (rows net n) b.ys)) at → IsPastHere net n b (places.Bound at)
 
 -- a step of the bound of a refutation
 abbrev pub RefutationIsPast : Type 0
 RefutationIsPast =
     (net : Net) (n : Node) (q : Program) (b : Bench) (at : ℕ) → q ≡ program_of net n → IsNoneOf q b
-    → IsFirstPast (bound_steps net n (pos 0) (beside (rows net n) b.ys)) at → IsPastHere net n q b (places.Refute (column_named q b.row) at)
+    → IsFirstPast (bound_steps net n (pos 0) (beside (rows net n) b.ys)) at → IsPastHere net n b (places.Refute b.row at)
 
 -- a step of the cost of the flows
 abbrev pub CostIsPast : Type 0
 CostIsPast =
     (net : Net) (n : Node) (q : Program) (b : Bench) (at : ℕ) → q ≡ program_of net n → IsLeastOf q b → AreFlowsOf q b → IsDecided net n
-    → IsFirstPast (cost_steps net n.inside (beside (units net n) b.flows) b.flow_den) at → IsPastHere net n q b (places.Cost at)
+    → IsFirstPast (cost_steps net n.inside (beside (units net n) b.flows) b.flow_den) at → IsPastHere net n b (places.Cost at)
 
 -- a step of the judging of the flows
 abbrev pub BalanceIsPast : Type 0
 BalanceIsPast =
     (net : Net) (n : Node) (q : Program) (b : Bench) (at : ℕ) → q ≡ program_of net n → IsLeastOf q b → AreFlowsOf q b → IsDecided net n
-    → IsFirstPast (feasible_steps net n.inside (beside (units net n) b.flows) b.flow_den) at → IsPastHere net n q b (places.FlowSum at)
+    → IsFirstPast (feasible_steps net n.inside (beside (units net n) b.flows) b.flow_den) at → IsPastHere net n b (places.FlowSum at)

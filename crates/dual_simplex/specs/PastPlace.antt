@@ -23,6 +23,7 @@ pub record IsPastOf (q : Program) (b : Bench) (place : Place) : Type 0 where
   pub column : ℕ
   pub which : Which
   pub ends : EndsPast (linear_of q) b.rows leaves enters row column which
+  pub nonbasic_are : b.nonbasic ≡ nonbasic_named q (basis b.rows)
   pub named : place ≡ place_named q (path.Entry leaves enters row column which)
 
 -- a number is out of range as the flows of the basis that is kept are read

@@ -8,7 +8,7 @@ use Rattle.flow_program.specs.declared.place.Place.{Place}
 use Rattle.flow_program.specs.declared.place.Place.TheVariants as places
 use Rattle.flow_rules.specs.Program.{Program}
 use Rattle.path_rules.specs.Columns.{Basis}
-use Rattle.dual_simplex.specs.Bench.{Bench}
+use Rattle.dual_simplex.specs.Bench.{Bench, IsNoneOf}
 use Rattle.dual_simplex.specs.Named.{column_named, nonbasic_named}
 use Rattle.dual_simplex.specs.PastPlace.{IsPastOf, IsPastFlowOf}
 
@@ -38,9 +38,12 @@ IsPlaceOf q (places.Refute row at) = IsColumnOf q row
 abbrev pub NonbasicAreOfProgram : Type 0
 NonbasicAreOfProgram = (q : Program) (b : Basis) → Each (IsColumnOf q) (nonbasic_named q b)
 
--- the place of any column, and so that of a refuting row
 abbrev pub ColumnsAreOfProgram : Type 0
 ColumnsAreOfProgram = (q : Program) (k : ℕ) → IsColumnOf q (column_named q k)
+
+-- the row that can't be met
+abbrev pub RowIsOfProgram : Type 0
+RowIsOfProgram = (q : Program) (b : Bench) → IsNoneOf q b → IsColumnOf q b.row
 
 abbrev pub EntriesAreOfProgram : Type 0
 EntriesAreOfProgram = (q : Program) (b : Bench) (place : Place) → IsPastOf q b place → IsPlaceOf q place

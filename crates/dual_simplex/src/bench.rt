@@ -1,15 +1,11 @@
 //! [`Bench`], on which programs are solved one after the other.
 ghost use Rattle.std.specs.Prelude.{◌≡◌, ◌≤◌, ◌<◌, ℕ, length, IfOk, IfErr, OnOk, OnErr};
-ghost use Rattle.path_rules.specs.LinearProgram.{linear_of};
-ghost use Rattle.tableau_rows.specs.Rows.{basis};
-ghost use Rattle.pivots.specs.Choice.{IsOfSize};
-ghost use Rattle.dual_simplex.specs.Named.{nonbasic_named};
 ghost use Rattle.dual_simplex.specs.PastPlace.{IsPastOf, IsPastFlowOf};
 ghost use Rattle.dual_simplex.specs.Bench.{HasRoom, IsLeastOf, AreFlowsOf};
 ghost use Rattle.dual_simplex.specs.Answer.{EndsAs};
 
 use crate::ends::{read_multipliers, read_refutation, read_sizes};
-use crate::names::{entry_place, flow_place, nonbasic};
+use crate::names::{column_at, entry_place, flow_place, put_nonbasic};
 use crate::walk::walk;
 use flow_program::{Column, Place, Program};
 use std::alloc::{AllocError, Global};
@@ -27,9 +23,12 @@ pub enum Ends {
 #[derive(Drop)]
 pub struct Bench {
     rows: Rows,
+    // The first `nonbasic` of them are the columns that are not in the basis.
+    columns: Vec<Column>,
+    nonbasic: usize,
     d: i128,
     ys: Vec<i128>,
-    row: usize,
+    row: Column,
     flows: Vec<i128>,
     flow_den: i128,
 }
@@ -40,9 +39,9 @@ impl Model for Bench {
 
     ghost Value = { specs.Bench };
 
-    ghost view = { λ b. record { rows = b.rows; d = b.d; ys = take b.rows.rows b.ys.items; row = b.row; flows = take b.rows.units b.flows.items; flow_den = b.flow_den } };
+    ghost view = { λ b. record { rows = b.rows; nonbasic = take b.nonbasic b.columns.items; d = b.d; ys = take b.rows.rows b.ys.items; row = b.row; flows = take b.rows.units b.flows.items; flow_den = b.flow_den } };
 
-    ghost invariant = { λ b. (length b.ys.items ≡ b.rows.most_rows) × (length b.flows.items ≡ b.rows.most_units) };
+    ghost invariant = { λ b. specs.HasLists b.rows b.nonbasic (length b.columns.items) (length b.ys.items) (length b.flows.items) };
 }
 
 impl Bench {
@@ -52,14 +51,19 @@ impl Bench {
         requires rows { rows ≤ 256 }
         ensures { IfOk result (λ b. HasRoom b units rows) }
     {
-        let ys = vec![in alloc; 0i128; rows as usize]?;
-        let flows = vec![in alloc; 0i128; units as usize]?;
+        let (most_units, most_rows) = (units as usize, rows as usize);
+        let most_columns = most_units + most_units + most_rows + most_rows;
+        let columns = vec![in alloc; Column::Right; most_columns]?;
+        let ys = vec![in alloc; 0i128; most_rows]?;
+        let flows = vec![in alloc; 0i128; most_units]?;
         let rows = Rows::open(alloc, units, rows)?;
         Ok(Bench {
             rows,
+            columns,
+            nonbasic: 0,
             d: 0,
             ys,
-            row: 0,
+            row: Column::Right,
             flows,
             flow_den: 1,
         })
@@ -73,19 +77,19 @@ impl Bench {
         ensures rows { self.new.rows.most_rows ≡ self.old.rows.most_rows }
         ensures ends { IfOk result (λ end. EndsAs program.now self.new end) }
         ensures past { IfErr result (λ place. IsPastOf program.now self.new place) }
-        ensures size { IsOfSize (linear_of program.now) self.new.rows }
     {
-        match walk(&mut self.rows, program) {
+        let end = walk(&mut self.rows, program);
+        self.rows.are_rows();
+        self.nonbasic = put_nonbasic(&mut self.columns, &self.rows, program);
+        match end {
             Err(past) => Err(entry_place(program, past)),
             Ok(None) => {
-                self.rows.are_rows();
                 self.d = read_multipliers(&self.rows, program, &mut self.ys);
                 Ok(Ends::Least)
             }
             Ok(Some(row)) => {
-                self.rows.are_rows();
                 read_refutation(&self.rows, program, row, &mut self.ys);
-                self.row = row;
+                self.row = column_at(program, row);
                 Ok(Ends::None)
             }
         }
@@ -128,12 +132,20 @@ impl Bench {
         &self.ys[..self.rows.rows()]
     }
 
-    /// The place of the column whose row can't be met, after `None`.
-    pub fn row(&self) -> usize
+    /// The columns that are not in the basis that is kept, after any `least`, in the order of their places: x, s, t, w.
+    pub fn nonbasic(&self) -> &[Column]
+        ensures { result.now ≡ self.now.nonbasic }
+    {
+        &self.columns[..self.nonbasic]
+    }
+
+    /// The column whose row can't be met, after `None`.
+    pub fn row(&self) -> Column
         ensures { result ≡ self.now.row }
     {
         self.row
     }
+
     /// The sizes of the units of the program over `flow_den`, after `read_flows`.
     pub fn flows(&self) -> &[i128]
         ensures { result.now ≡ self.now.flows }
@@ -147,14 +159,5 @@ impl Bench {
         ensures { result ≡ self.now.flow_den }
     {
         self.flow_den
-    }
-
-    /// The columns that are not in the basis that is kept, in the order of their places: x, s, t, w. `Err` comes for want of
-    /// memory alone.
-    pub fn nonbasic(&self, alloc: Global, program: &Program) -> Result<Vec<Column>, AllocError>
-        requires size { IsOfSize (linear_of program.now) self.now.rows }
-        ensures { IfOk result (λ list. list.items ≡ nonbasic_named program.now (basis self.now.rows)) }
-    {
-        nonbasic(alloc, &self.rows, program)
     }
 }

@@ -17,11 +17,12 @@ pub use bench::{Bench, Ends};
 pub use laws::{
     flows_are_least, kept_basis_is_last, least_is_least, none_is_refuted, split_flows_are_least,
 };
-pub use names::column_at;
 pub use past_laws::{
     balance_is_past, bound_is_past, cost_is_past, entry_is_past, flow_is_past,
     names_are_of_program, refutation_is_past,
 };
 
+#[cfg(test)]
+mod test_problems;
 #[cfg(test)]
 mod tests;

@@ -1,7 +1,7 @@
 //! Columns and places by the numbers of the problem.
-ghost use Rattle.std.specs.Prelude.{◌≡◌, ◌<◌, ◌≤◌, ◌++◌, ℕ, [], ◌∷◌, cond, nat_eq, length, Some, None, IfOk, OnOk};
+ghost use Rattle.std.specs.Prelude.{◌≡◌, ◌<◌, ◌≤◌, ◌++◌, ◌+◌, ℕ, [], ◌∷◌, cond, nat_eq, length, take, Some, None};
 ghost use Rattle.path_rules.specs.LinearProgram.{linear_of};
-ghost use Rattle.path_rules.specs.Columns.{scale_at};
+ghost use Rattle.path_rules.specs.Columns.{columns, scale_at};
 ghost use Rattle.path_rules.specs.Places as path;
 ghost use Rattle.tableau_rows.specs.Rows.{basis, width};
 ghost use Rattle.pivots.specs.Choice.{IsOfSize};
@@ -13,7 +13,6 @@ use crate::numbers::{Numbers, numbers_of};
 use crate::walk::PastPivot;
 use flow_program::{Column, Place, Program};
 use flow_reading::PastFlow;
-use std::alloc::{AllocError, Global};
 use tableau_rows::Rows;
 
 fn unit_count(program: &Program) -> usize
@@ -65,46 +64,49 @@ fn column_of(program: &Program, numbers: &Numbers, k: usize) -> Column
 }
 
 /// The column at a place of a row, by the numbers of the problem.
-pub fn column_at(program: &Program, k: usize) -> Column
+pub(crate) fn column_at(program: &Program, k: usize) -> Column
     ensures { result ≡ column_named program.now k }
 {
     column_of(program, &numbers_of(program), k)
 }
 
-/// Appends the column at a place where it is not in the basis.
-fn push_outside(
-    list: &mut Vec<Column>,
+/// Puts the column at a place behind the first `count` of a list, where it is not in the basis, and gives their new number.
+fn put_outside(
+    list: &mut [Column],
+    count: usize,
     rows: &Rows,
     program: &Program,
     numbers: &Numbers,
     k: usize,
-) -> Result<(), AllocError>
+) -> usize
     requires place { k < width rows.now }
+    requires room { count < length list.old }
     requires numbers { AreNumbers program.now numbers.now.units numbers.now.rows }
-    ensures { OnOk result (list.new.items ≡ list.old.items ++ cond (basis rows.now k) [] (column_named program.now k ∷ [])) }
+    ensures length { length list.new ≡ length list.old }
+    ensures count { result ≤ count + 1 }
+    ensures columns { take result list.new ≡ take count list.old ++ cond (basis rows.now k) [] (column_named program.now k ∷ []) }
 {
     if rows.is_basic(k) {
-        return Ok(());
+        return count;
     }
-    list.push(column_of(program, numbers, k))?;
-    Ok(())
+    list[count] = column_of(program, numbers, k);
+    count + 1
 }
 
-/// The columns that are not in the basis, in the order of their places.
-pub(crate) fn nonbasic(
-    alloc: Global,
-    rows: &Rows,
-    program: &Program,
-) -> Result<Vec<Column>, AllocError>
+/// Puts the columns that are not in the basis into the front of a list, in the order of their places, and gives their number.
+pub(crate) fn put_nonbasic(list: &mut [Column], rows: &Rows, program: &Program) -> usize
     requires size { IsOfSize (linear_of program.now) rows.now }
-    ensures { IfOk result (λ list. list.items ≡ nonbasic_named program.now (basis rows.now)) }
+    requires room { columns (linear_of program.now) ≤ length list.old }
+    ensures length { length list.new ≡ length list.old }
+    ensures count { result ≤ length list.old }
+    ensures columns { take result list.new ≡ nonbasic_named program.now (basis rows.now) }
 {
     let numbers = numbers_of(program);
-    let mut list = Vec::new(alloc);
+    let mut count = 0;
     for k in 0..rows.right_at() {
-        push_outside(&mut list, rows, program, &numbers, k)?;
+        count = put_outside(list, count, rows, program, &numbers, k);
     }
-    Ok(list)
+    count
 }
 
 /// The column whose row is past, `None` for the cost row.

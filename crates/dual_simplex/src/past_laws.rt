@@ -1,7 +1,7 @@
 //! What is past, for the node of a problem, where a bench names a place or a sum over what it keeps is out of range. Each law is
 //! the contract of a function without a body.
 ghost use Rattle.dual_simplex.specs.PastLaws.{EntryIsPast, FlowIsPast, BoundIsPast, RefutationIsPast, CostIsPast, BalanceIsPast};
-ghost use Rattle.dual_simplex.specs.ProgramNames.{NonbasicAreOfProgram, ColumnsAreOfProgram, EntriesAreOfProgram, FlowsAreOfProgram};
+ghost use Rattle.dual_simplex.specs.ProgramNames.{NonbasicAreOfProgram, ColumnsAreOfProgram, RowIsOfProgram, EntriesAreOfProgram, FlowsAreOfProgram};
 
 /// The place that `least` names is past at the basis that it keeps.
 pub fn entry_is_past()
@@ -37,6 +37,7 @@ pub fn balance_is_past()
 pub fn names_are_of_program()
     ensures nonbasic { NonbasicAreOfProgram }
     ensures columns { ColumnsAreOfProgram }
+    ensures row { RowIsOfProgram }
     ensures entries { EntriesAreOfProgram }
     ensures flows { FlowsAreOfProgram }
 {}

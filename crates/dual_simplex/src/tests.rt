@@ -1,20 +1,14 @@
 //! Programs of small problems, with the answers that are worked out by hand.
 ghost use Rattle.std.specs.Prelude.{◌≡◌, ◌<◌, ℕ, true, length, IfOk};
 
+use crate::test_problems::{LARGEST, MILLION, Stuff, materials_of, problem_of, unit};
 use crate::{Bench, Ends};
 use flow_program::{Column, Program};
 use pgraph::Graph;
-use pns_problem::{Kind, Material, OperatingUnit, Parts, Problem, Term};
+use pns_problem::{Kind, OperatingUnit, Problem};
 use std::alloc::{AllocError, Global};
 use std::test::Fail;
 use unit_sets::{Node, UnitSet};
-
-const MILLION: i64 = 1_000_000;
-
-const LARGEST: i64 = 1_000_000_000_000_000;
-
-/// A material by its kind, price and bounds.
-type Stuff = (Kind, i64, i64, i64);
 
 /// A unit by its bounds, its fixed and proportional cost, and its one input and output at rate 1.
 type Works = (i64, i64, i64, i64, u32, u32);
@@ -25,14 +19,16 @@ enum Sketch {
     Plant(i64),
     /// A unit with these bounds that makes all of P, of which so much is wanted.
     Single(i64, i64, i64),
+    /// A unit that uses P, of which so much is wanted and which no unit makes.
+    Eater(i64),
 }
 
 #[derive(Clone, Copy)]
 enum Want {
     /// The multipliers over 1, and the flows over 1.
     Least(&'static [i128], &'static [i128]),
-    /// A refutation of so many numbers.
-    None(usize),
+    /// The multipliers of the row of a column, which can't be met.
+    None(Column, &'static [i128]),
 }
 
 struct Case {
@@ -55,7 +51,7 @@ const CASES: &[Case] = &[
         sketch: Sketch::Plant(200 * MILLION),
         inside: 0b00101,
         outside: 0b11010,
-        want: Want::None(3),
+        want: Want::None(Column::S(2), &[0, 0, 1]),
     },
     // No unit is left.
     Case {
@@ -75,7 +71,7 @@ const CASES: &[Case] = &[
         sketch: Sketch::Single(0, 0, 20 * MILLION),
         inside: 1,
         outside: 0,
-        want: Want::None(2),
+        want: Want::None(Column::S(0), &[0, 1]),
     },
     Case {
         sketch: Sketch::Single(20 * MILLION, 20 * MILLION, 20 * MILLION),
@@ -87,87 +83,46 @@ const CASES: &[Case] = &[
         sketch: Sketch::Single(20 * MILLION, 20 * MILLION, 30 * MILLION),
         inside: 1,
         outside: 0,
-        want: Want::None(2),
+        want: Want::None(Column::S(0), &[0, 1]),
+    },
+    // A product of no unit is in no row; one that is used but not made is.
+    Case {
+        sketch: Sketch::Plant(20 * MILLION),
+        inside: 0b10000,
+        outside: 0b01111,
+        want: Want::Least(&[0, 0], &[0]),
+    },
+    Case {
+        sketch: Sketch::Eater(0),
+        inside: 1,
+        outside: 0,
+        want: Want::Least(&[0, 0], &[0]),
+    },
+    Case {
+        sketch: Sketch::Eater(20 * MILLION),
+        inside: 1,
+        outside: 0,
+        want: Want::None(Column::T(0), &[1, 0]),
     },
 ];
-
-fn one_term(alloc: Global, material: u32) -> Result<Vec<Term>, AllocError> {
-    let mut terms = Vec::new(alloc);
-    terms.push(Term {
-        material,
-        rate: MILLION,
-    })?;
-    Ok(terms)
-}
-
-fn material(alloc: Global, number: usize, stuff: Stuff) -> Result<Material, AllocError> {
-    let (kind, price, lower, upper) = stuff;
-    let name = format!(in alloc; "M{number}")?;
-    Ok(Material {
-        name,
-        kind,
-        price,
-        lower,
-        upper,
-    })
-}
-
-fn unit(alloc: Global, number: usize, works: Works) -> Result<OperatingUnit, AllocError> {
-    let (lower, upper, fix, proportional, input, output) = works;
-    let name = format!(in alloc; "U{number}")?;
-    let inputs = one_term(alloc, input)?;
-    let outputs = one_term(alloc, output)?;
-    Ok(OperatingUnit {
-        name,
-        lower,
-        upper,
-        fix,
-        proportional,
-        investment_fix: 0,
-        investment_proportional: 0,
-        inputs,
-        outputs,
-    })
-}
-
-fn materials_of(alloc: Global, stuff: &[Stuff]) -> Result<Vec<Material>, AllocError> {
-    let mut materials = Vec::new(alloc);
-    for x in 0..stuff.len() {
-        materials.push(material(alloc, x, stuff[x])?)?;
-    }
-    Ok(materials)
-}
 
 fn units_of(alloc: Global, works: &[Works]) -> Result<Vec<OperatingUnit>, AllocError> {
     let mut units = Vec::new(alloc);
     for u in 0..works.len() {
-        units.push(unit(alloc, u, works[u])?)?;
+        let (lower, upper, fix, proportional, input, output) = works[u];
+        let sizes = (lower, upper, fix, proportional);
+        units.push(unit(alloc, u, sizes, (input, MILLION), (output, MILLION))?)?;
     }
     Ok(units)
 }
 
-fn problem_of(alloc: Global, stuff: &[Stuff], works: &[Works]) -> Option<Problem> {
-    let Ok(materials) = materials_of(alloc, stuff) else {
-        return None;
-    };
-    let Ok(units) = units_of(alloc, works) else {
-        return None;
-    };
-    let parts = Parts {
-        materials,
-        units,
-        exclusions: Vec::new(alloc),
-        payout: 1,
-    };
-    match Problem::build(alloc, parts) {
-        Ok(problem) => Some(problem),
-        Err(_) => None,
-    }
+fn problem_with(alloc: Global, stuff: &[Stuff], works: &[Works]) -> Option<Problem> {
+    problem_of(alloc, materials_of(alloc, stuff), units_of(alloc, works))
 }
 
 fn drawn(alloc: Global, sketch: Sketch) -> Option<Problem> {
     match sketch {
-        Sketch::Plant(wanted) => problem_of(
+        Sketch::Plant(wanted) => problem_with(
             alloc,
             &[
                 (Kind::RawMaterial, 2 * MILLION, 0, LARGEST),
@@ -185,13 +140,21 @@ fn drawn(alloc: Global, sketch: Sketch) -> Option<Problem> {
                 (0, LARGEST, 0, 0, 1, 4),
             ],
         ),
-        Sketch::Single(lower, upper, wanted) => problem_of(
+        Sketch::Single(lower, upper, wanted) => problem_with(
             alloc,
             &[
                 (Kind::RawMaterial, MILLION, 0, LARGEST),
                 (Kind::Product, 0, wanted, wanted),
             ],
             &[(lower, upper, MILLION, MILLION, 0, 1)],
+        ),
+        Sketch::Eater(wanted) => problem_with(
+            alloc,
+            &[
+                (Kind::Product, 0, wanted, LARGEST),
+                (Kind::Product, 0, 0, LARGEST),
+            ],
+            &[(0, LARGEST, MILLION, MILLION, 0, 1)],
         ),
     }
 }
@@ -218,14 +181,14 @@ fn keeps(bench: &Bench, want: Want) -> bool {
         Want::Least(ys, flows) => {
             bench.d() == 1 && bench.ys() == ys && bench.flow_den() == 1 && bench.flows() == flows
         }
-        Want::None(_) => false,
+        Want::None(_, _) => false,
     }
 }
 
 fn refuted(bench: &Bench, want: Want) -> bool {
     match want {
         Want::Least(_, _) => false,
-        Want::None(count) => bench.ys().len() == count,
+        Want::None(row, ys) => bench.row() == row && bench.ys() == ys,
     }
 }
 
@@ -280,10 +243,7 @@ fn nonbasic_are(alloc: Global, program: &Program, want: &[Column]) -> bool {
     if bench.least(program).is_err() {
         return false;
     }
-    match bench.nonbasic(alloc, program) {
-        Ok(columns) => columns.as_slice() == want,
-        Err(_) => false,
-    }
+    bench.nonbasic() == want
 }
 
 /// Nothing is left over of C and of P, the last of six materials, and the second unit does not run.

@@ -3,7 +3,7 @@ ghost use Rattle.std.specs.Prelude.{◌≡◌, ◌<◌, ◌≤◌, ◌+◌, ◌-
 ghost use Rattle.path_rules.specs.LinearProgram.{linear_of};
 ghost use Rattle.path_rules.specs.Pivots.{IsLeaving, IsEntering};
 ghost use Rattle.tableau_rows.specs.Rows.{table, basis};
-ghost use Rattle.pivots.specs.Choice.{scale_of};
+ghost use Rattle.pivots.specs.Choice.{IsOfSize, scale_of};
 ghost use Rattle.dual_simplex.specs.Walk.{IsInFirst, IsInSecond, EndsFeasible, EndsRefuting, EndsPast, IsSameRoom};
 ghost use Rattle.dual_simplex.specs.Measure.{rank_of, ranks};
 
@@ -144,6 +144,7 @@ fn enters(rows: &Rows, program: &Program, leaves: usize) -> Option<usize>
 fn walk_second(rows: &mut Rows, program: &Program) -> Result<Option<usize>, PastPivot>
     requires second { IsInSecond (linear_of program.now) rows.old }
     ensures room { IsSameRoom rows.old rows.new }
+    ensures size { IsOfSize (linear_of program.now) rows.new }
     ensures least { IfOk result (λ end. IfNone end (EndsFeasible (linear_of program.now) rows.new)) }
     ensures none { IfOk result (λ end. IfSome end (λ row. EndsRefuting (linear_of program.now) rows.new row)) }
     ensures past { IfErr result (λ e. EndsPast (linear_of program.now) rows.new e.leaves e.enters e.row e.j e.which) }
@@ -167,6 +168,7 @@ pub(crate) fn walk(rows: &mut Rows, program: &Program) -> Result<Option<usize>, 
     requires units { length program.now.units ≤ rows.old.most_units }
     requires rows { length program.now.rows ≤ rows.old.most_rows }
     ensures room { IsSameRoom rows.old rows.new }
+    ensures size { IsOfSize (linear_of program.now) rows.new }
     ensures least { IfOk result (λ end. IfNone end (EndsFeasible (linear_of program.now) rows.new)) }
     ensures none { IfOk result (λ end. IfSome end (λ row. EndsRefuting (linear_of program.now) rows.new row)) }
     ensures past { IfErr result (λ e. EndsPast (linear_of program.now) rows.new e.leaves e.enters e.row e.j e.which) }

@@ -6,8 +6,6 @@ ghost use Rattle.pns_rules.specs.Structure.{IsStructure};
 ghost use Rattle.pgraph.specs.Tables.{shape};
 ghost use Rattle.flow_rules.specs.Net.{net_of};
 ghost use Rattle.flow_rules.specs.Program.{program_of};
-ghost use Rattle.path_rules.specs.LinearProgram.{linear_of};
-ghost use Rattle.pivots.specs.Choice.{IsOfSize};
 ghost use Rattle.branch_tree.specs.Known.{KnowsPlace};
 ghost use Rattle.dual_simplex.specs.Bench.{IsLeastOf, IsNoneOf};
 ghost use Rattle.dual_simplex.specs.PastLaws.{IsPastHere};
@@ -46,18 +44,15 @@ fn past(
     alloc: Global,
     problem: &Problem,
     set: UnitSet,
-    program: &Program,
     bench: &Bench,
     place: Place,
 ) -> Result<StructureFlows, AllocError>
-    requires program { program.now ≡ program_of (net_of problem.now) (decided problem.now set) }
-    requires size { IsOfSize (linear_of program.now) bench.now.rows }
-    requires past { IsPastHere (net_of problem.now) (decided problem.now set) program.now bench.now place }
+    requires past { IsPastHere (net_of problem.now) (decided problem.now set) bench.now place }
     requires known { KnowsPlace problem.now place }
     ensures { IfOk result (AnswersFor problem.now set) }
 {
     let _units = problem.units().len();
-    let nonbasic = bench.nonbasic(alloc, program)?;
+    let nonbasic = bench.nonbasic().to_vec(alloc)?;
     Ok(StructureFlows::Past {
         nonbasic: Columns::from_vec(nonbasic),
         place,
@@ -111,7 +106,7 @@ fn least(
     cost_is_past();
     set.rises();
     if let Err(place) = bench.read_flows(program) {
-        return past(alloc, problem, set, program, bench, place);
+        return past(alloc, problem, set, bench, place);
     }
     let sizes = bench.flows().to_vec(alloc)?;
     let bound = Scaled::of(alloc, bench.d(), bench.ys())?;
@@ -121,14 +116,7 @@ fn least(
             network: Network::of(set, sizes, den, cost),
             bound,
         }),
-        Err(sum) => past(
-            alloc,
-            problem,
-            set,
-            program,
-            bench,
-            Place::Cost { at: sum.at },
-        ),
+        Err(sum) => past(alloc, problem, set, bench, Place::Cost { at: sum.at }),
     }
 }
 
@@ -157,6 +145,6 @@ pub fn flows_of(
     match bench.least(&program) {
         Ok(Ends::Least) => least(alloc, problem, graph, set, &program, &mut bench),
         Ok(Ends::None) => refuted(alloc, problem, set, &program, &bench),
-        Err(place) => past(alloc, problem, set, &program, &bench, place),
+        Err(place) => past(alloc, problem, set, &bench, place),
     }
 }

@@ -1,7 +1,9 @@
-use Rattle.std.proofs.Common.{◌≡◌, List, sym, subst, rules}
+use Rattle.std.proofs.Common.{◌≡◌, List, refl, sym, subst, rules}
+use Rattle.problem_rules.specs.Each.{Each}
+use Rattle.flow_rules.specs.Net.{net_of}
+use Rattle.flow_rules.specs.Program.{program_of}
 use Rattle.flow_program.specs.declared.place.Column.{Column}
-use Rattle.tableau_rows.specs.Rows.{basis}
-use Rattle.dual_simplex.specs.Named.{nonbasic_named}
+use Rattle.branch_tree.specs.Known.{KnowsColumn}
 use Rattle.structure_flows.specs.Flows.{decided}
 use Rattle.structure_flows.specs.Answers.{IsPastFor}
 use Rattle.structure_flows.proofs.KnownLemmas.{columns_known}
@@ -11,12 +13,12 @@ pub returns : goal.returns
 returns c =
     let p = c.args.problem.now in
     let us = c.args.set in
-    let q = c.args.program.now in
     let n = decided p us in
-    let columns : List Column = nonbasic_named q (basis c.args.bench.now.rows) in
+    let past = c.requires.past in
+    let columns : List Column = c.args.bench.now.nonbasic in
     let whole : IsPastFor p us columns c.args.place = record {
-      past = c.requires.past;
-      columns = columns_known p n q (basis c.args.bench.now.rows) c.requires.program;
+      past = past;
+      columns = subst (λ (cs : List Column). Each (KnowsColumn p) cs) (sym past.nonbasic_are) (columns_known p n (program_of (net_of p) n) past.last refl);
       known = c.requires.known;
     } in
     let are : c.from_vec.result ≡ columns = search rules in

@@ -1,5 +1,7 @@
-use Rattle.std.proofs.Common.{SFits, rules, ◌≡◌, ◌≤◌, ◌∙◌, subst, ap, ℕ, length, arith}
-use Rattle.std.specs.Prelude.{Option, IfNone, IfSome}
+use Rattle.std.proofs.Common.{SFits, rules, ◌≡◌, ◌≤◌, ◌∙◌, subst, ap, ℕ, List, length, take, arith}
+use Rattle.std.specs.Prelude.{Option, Some, None, IfNone, IfSome, Result, IfOk}
+use Rattle.flow_program.specs.declared.place.Column.{Column}
+use Rattle.dual_simplex.specs.declared.walk.PastPivot.{PastPivot}
 use Rattle.path_rules.specs.LinearProgram.{linear_of}
 use Rattle.dual_simplex.specs.Walk.{EndsFeasible, EndsRefuting}
 use Rattle.std.specs.Int.{w128}
@@ -10,21 +12,37 @@ use Rattle.dual_simplex.proofs.bench.Bench.least.Goals as goal
 
 pub returns-in-Ok-None-clause-ends : goal.returns-in-Ok-None-clause-ends
 returns-in-Ok-None-clause-ends c =
+    let p = linear_of c.args.program.now in
+    let put = c.put_nonbasic-self-inside in
+    let columns = with_items_is c.self.inside.columns put.new.list (put.ensures.length ∙ c.deref_mut.ensures.len) in
+    let outside = ap (λ (xs : List Column). take put.result xs) columns ∙ put.ensures.columns in
     let read = c.read_multipliers-self-inside in
     let r : SFits w128 read.result = search rules in
-    let items = with_items_is c.self.inside.ys read.new.ys (read.ensures.length ∙ c.deref_mut.ensures.len) in
-    let long : length read.new.ys ≡ c.self.inside.rows.most_rows = read.ensures.length ∙ ap length c.deref_mut.ensures.value ∙ c.self.invariant.0 in
-    let same = c.in-Ok-None.ensures.room.most_rows in
+    let items = with_items_is c.self.inside.ys read.new.ys (read.ensures.length ∙ c.deref_mut-in-Ok-None.ensures.len) in
+    let long : length read.new.ys ≡ c.self.inside.rows.most_rows = read.ensures.length ∙ ap length c.deref_mut-in-Ok-None.ensures.value ∙ c.self.invariant.ys_room in
+    let walked = c.walk-end in
+    let same = walked.ensures.room.most_rows in
     let fit = c.are_rows.ensures.rows_fit in
-    let room : c.walk.new.rows.rows ≤ length read.new.ys = omega (arith, long, same, fit) in
-    simp to_z-of_z (least_of c.args.program.now c.walk.new.rows read.result _ read.new.ys c.self.inside.row _ _ items room (subst (λ (o : Option ℕ). IfNone o (EndsFeasible (linear_of c.args.program.now) c.walk.new.rows)) c.in-Ok-None.field-0-is c.in-Ok-None.ensures.least) read.ensures.are read.ensures.scale_in_range read.ensures.in_range)
+    let room : walked.new.rows.rows ≤ length read.new.ys = omega (arith, long, same, fit) in
+    let none = subst (λ (a : Result (Option ℕ) PastPivot). IfOk a (λ end. IfNone end (EndsFeasible p walked.new.rows))) c.in-Ok-None.is walked.ensures.least in
+    let is : c.in-Ok-None.field-0 ≡ None = search rules in
+    let feasible = subst (λ (o : Option ℕ). IfNone o (EndsFeasible p walked.new.rows)) is none in
+    simp to_z-of_z (least_of c.args.program.now walked.new.rows _ read.result _ read.new.ys _ _ _ items room feasible outside read.ensures.are read.ensures.scale_in_range read.ensures.in_range)
 
 pub returns-in-Ok-Some-clause-ends : goal.returns-in-Ok-Some-clause-ends
 returns-in-Ok-Some-clause-ends c =
+    let p = linear_of c.args.program.now in
+    let put = c.put_nonbasic-self-inside in
+    let columns = with_items_is c.self.inside.columns put.new.list (put.ensures.length ∙ c.deref_mut.ensures.len) in
+    let outside = ap (λ (xs : List Column). take put.result xs) columns ∙ put.ensures.columns in
     let read = c.read_refutation in
     let items = with_items_is c.self.inside.ys read.new.ys (read.ensures.length ∙ c.deref_mut-in-Ok-Some.ensures.len) in
-    let long : length read.new.ys ≡ c.self.inside.rows.most_rows = read.ensures.length ∙ ap length c.deref_mut-in-Ok-Some.ensures.value ∙ c.self.invariant.0 in
-    let same = c.in-Ok-Some.ensures.room.most_rows in
-    let fit = c.are_rows-in-Ok-Some.ensures.rows_fit in
-    let room : c.walk.new.rows.rows ≤ length read.new.ys = omega (arith, long, same, fit) in
-    none_of c.args.program.now c.walk.new.rows c.self.inside.d _ read.new.ys c.in-Ok-Some.row _ _ items room (subst (λ (o : Option ℕ). IfSome o (λ row. EndsRefuting (linear_of c.args.program.now) c.walk.new.rows row)) c.in-Ok-Some.field-0-is c.in-Ok-Some.ensures.none) read.ensures.are read.ensures.in_range
+    let long : length read.new.ys ≡ c.self.inside.rows.most_rows = read.ensures.length ∙ ap length c.deref_mut-in-Ok-Some.ensures.value ∙ c.self.invariant.ys_room in
+    let walked = c.walk-end in
+    let same = walked.ensures.room.most_rows in
+    let fit = c.are_rows.ensures.rows_fit in
+    let room : walked.new.rows.rows ≤ length read.new.ys = omega (arith, long, same, fit) in
+    let some = subst (λ (a : Result (Option ℕ) PastPivot). IfOk a (λ end. IfSome end (λ row. EndsRefuting p walked.new.rows row))) c.in-Ok-Some.is walked.ensures.none in
+    let is : c.in-Ok-Some.field-0 ≡ Some c.in-Ok-Some.row = search rules in
+    let refuting = subst (λ (o : Option ℕ). IfSome o (λ row. EndsRefuting p walked.new.rows row)) is some in
+    none_of c.args.program.now walked.new.rows _ c.self.inside.d _ read.new.ys c.in-Ok-Some.row c.column_at-self-inside.result _ _ items room refuting c.column_at-self-inside.ensures outside read.ensures.are read.ensures.in_range
