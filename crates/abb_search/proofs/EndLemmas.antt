@@ -1,5 +1,6 @@
 -- What the tree is where a search ends, and what the root is.
-use Rattle.std.proofs.Common.{◌≡◌, ℕ, ◌<◌, ◌≤◌, true, List, [], ◌∷◌, length, Option, Some, None, refl, sym, ap, ◌∙◌, subst, arith, suc, ◌^◌, ◌+◌}
+use Rattle.std.specs.Prelude.{IfSome, is_some}
+use Rattle.std.proofs.Common.{◌≡◌, ℕ, ◌-◌, ◌<◌, ◌≤◌, Bool, true, false, ◌||◌, List, [], ◌∷◌, length, Option, Some, None, refl, sym, ap, ◌∙◌, subst, arith, suc, ◌^◌, ◌+◌}
 use Rattle.problem_rules.specs.Problem.{Problem}
 use Rattle.pns_rules.specs.Shape.{shape_of}
 use Rattle.pns_rules.specs.Nodes.{Node, options}
@@ -9,7 +10,8 @@ use Rattle.unit_sets.specs.declared.node.Node as starts
 use Rattle.frac128.specs.declared.fraction.Frac.{Frac}
 use Rattle.pns_rules.specs.Ends.{IsSound}
 use Rattle.tree_rules.specs.Claim as claims
-use Rattle.tree_rules.specs.Claim.{CostOver, claimed_cost, ClaimPasses}
+use Rattle.tree_rules.specs.Claim.{CostOver, claimed_cost, ClaimPasses, IsSized}
+use Rattle.branch_tree.specs.Known.{KnowsTree, KnowsClaim}
 use Rattle.tree_rules.specs.Leaf.{Leaf, dead, clash, refuted, bounded, IsUntried, untried, LeafPasses}
 use Rattle.tree_rules.specs.Accepted.{Tree}
 use Rattle.tree_rules.specs.Stops.{IsSpent, IsPast}
@@ -29,11 +31,12 @@ use Rattle.node_looks.specs.declared.evaluator.Halt.{Halt}
 use Rattle.node_looks.specs.declared.looks.Ready.{Ready}
 use Rattle.node_looks.specs.declared.looks.Looked.{Looked}
 use Rattle.node_looks.specs.Evaluated.{PastPlaces}
-use Rattle.node_looks.specs.Looks.{IsHalted, IsOpenAs, IsLooked}
+use Rattle.node_looks.specs.Looks.{is_bounded, has_bounded, KnowsCell, IsHalted, IsOpenAs, IsLooked}
 use Rattle.node_looks.proofs.ChildLemmas.{cost_is, found_best}
 use Rattle.node_looks.specs.Children.{claim_with, IsBest, AreReady}
 use Rattle.abb_search.specs.declared.growing.Growing.{Growing}
 use Rattle.abb_search.specs.Growing.{IsTreeKept, IsGrowing, IsSpentAt, IsHaltedAt}
+use Rattle.abb_search.proofs.KnownLemmas.{AreKnown, knows_tree, few_nodes, knows_claim}
 use Rattle.abb_search.specs.Found.{IsProved, IsStopped, IsBelowLimit, found_with, IsFound}
 
 -- nothing claimed has no cost, as none has where no network is
@@ -47,22 +50,31 @@ as_infeasible p start last cells k = record {
   below = k.below;
 }
 
-module _ (p : Problem) (s : Growing) (t : IsTreeKept p s) (at place : ℕ) (tree : Tree) (of : IsTreeOf s.pool.payloads at tree place) where
-  proved : (claim : claims.Claim) → IsKept p (node_of s.start) claim t.last s.pool.payloads → ClaimPasses true p claim → (claim ≡ claims.unknown → ⊥)
+module _ (p : Problem) (s : Growing) (t : IsTreeKept p s) (at place : ℕ) (tree : Tree) (of : IsTreeOf s.pool.payloads at tree place) (sized : IfSome s.best IsSized) where
+  tree_known : KnowsTree p (tree_of s.pool.payloads of.order)
+  tree_known = knows_tree p s.pool.payloads t.kept.grown.linked t.known of.order of.is_preorder
+
+  few_in_tree : length (tree_of s.pool.payloads of.order) < 2 ^ 32 - 1
+  few_in_tree = few_nodes p s.pool.payloads t.kept.grown.linked t.known of.order of.is_preorder t.numbered
+
+  proved : (claim : claims.Claim) → KnowsClaim p claim → IsKept p (node_of s.start) claim t.last s.pool.payloads → ClaimPasses true p claim → (claim ≡ claims.unknown → ⊥)
       → ((i : ℕ) → i < length s.pool.payloads → (cell_at s.pool.payloads i).end ≡ leaf untried → ⊥) → IsProved p (node_of s.start) claim tree
-  proved claim kept passing known shut = subst (λ (w : Tree). IsProved p (node_of s.start) claim w) (sym of.nodes_are) (record {
+  proved claim claim_known kept passing known shut = subst (λ (w : Tree). IsProved p (node_of s.start) claim w) (sym of.nodes_are) (record {
     accepted = whole_is_accepted p (node_of s.start) claim t.last s.pool.payloads of.order kept of.is_preorder passing known shut;
     lean = kept_is_lean p (node_of s.start) claim t.last s.pool.payloads of.order kept of.is_preorder;
+    of_claim = claim_known;
+    of_tree = tree_known;
+    few = few_in_tree;
   })
 
   pub solved : (w : claims.Network) → s.best ≡ Some w → ((i : ℕ) → i < length s.pool.payloads → (cell_at s.pool.payloads i).end ≡ leaf untried → ⊥) → IsProved p (node_of s.start) (claims.network w) tree
   solved w e shut =
-      proved (claims.network w) (subst (λ (b : Option claims.Network). IsKept p (node_of s.start) (claim_with b) t.last s.pool.payloads) e t.kept)
+      proved (claims.network w) (subst (λ (b : Option claims.Network). KnowsClaim p (claim_with b)) e (knows_claim p s.best t.passes sized)) (subst (λ (b : Option claims.Network). IsKept p (node_of s.start) (claim_with b) t.last s.pool.payloads) e t.kept)
       (subst (λ (b : Option claims.Network). ClaimPasses true p (claim_with b)) e t.passes) (λ (q : claims.network w ≡ claims.unknown). cc) shut
 
   pub infeasible : s.best ≡ None → ((i : ℕ) → i < length s.pool.payloads → (cell_at s.pool.payloads i).end ≡ leaf untried → ⊥) → IsProved p (node_of s.start) claims.infeasible tree
   infeasible e shut =
-      proved claims.infeasible (as_infeasible p (node_of s.start) t.last s.pool.payloads (subst (λ (b : Option claims.Network). IsKept p (node_of s.start) (claim_with b) t.last s.pool.payloads) e t.kept))
+      proved claims.infeasible tt (as_infeasible p (node_of s.start) t.last s.pool.payloads (subst (λ (b : Option claims.Network). IsKept p (node_of s.start) (claim_with b) t.last s.pool.payloads) e t.kept))
       tt (λ (q : claims.infeasible ≡ claims.unknown). cc) shut
 
   pub stopped : IsStopped p (node_of s.start) (claim_with s.best) tree
@@ -74,6 +86,9 @@ module _ (p : Problem) (s : Growing) (t : IsTreeKept p s) (at place : ℕ) (tree
           (aligned_start (shape_of p) (LeafPasses true p (claimed_cost (claim_with s.best))) (node_of s.start) s.pool.payloads t.kept.grown.linked t.kept.grown.fits) of.is_preorder;
     };
     lean = kept_is_lean p (node_of s.start) (claim_with s.best) t.last s.pool.payloads of.order t.kept of.is_preorder;
+    of_claim = knows_claim p s.best t.passes sized;
+    of_tree = tree_known;
+    few = few_in_tree;
   })
 
   pub spent : (count : ℕ) → IsSpentAt p s at count → IsSpent p IsUntried (claimed_cost (claim_with s.best)) (node_of s.start) tree place count s.budget
@@ -130,6 +145,10 @@ module _ (p : Problem) (s : Growing) (t : IsTreeKept p s) (at place : ℕ) (tree
 
 -- ---- the root
 
+or_nothing : (b : Bool) → b ≡ (b || false)
+or_nothing true = refl
+or_nothing false = refl
+
 leaf_kept : (p : Problem) (n : Node) (l : Leaf) → LeafIsKept p None n l
 leaf_kept p n (dead x) = tt
 leaf_kept p n (clash k) = tt
@@ -175,7 +194,10 @@ module _ (Past : PastPlaces) (p : Problem) (start : starts.Node) (l : Looked) (k
           (subst (λ (w : Option claims.Network). IsKept p (node_of start) (claim_with w) None s.pool.payloads) (sym eb)
           (subst (λ (cs : List Cell). IsKept p (node_of start) (claim_with l.network) None cs) (sym ec) root_kept));
       passes = subst (λ (w : Option claims.Network). ClaimPasses true p (claim_with w)) (sym eb) root_best.passes;
+      bounded = ap (λ (w : Option claims.Network). is_some w) eb ∙ (k.seen.bounded ∙ (or_nothing (is_bounded l.cell.end) ∙ ap (λ (cs : List Cell). has_bounded cs) (sym ec)));
+      known = subst (λ (cs : List Cell). AreKnown p cs) (sym ec) (λ i lt. subst (λ j. KnowsCell p (cell_at (l.cell ∷ []) j)) (let z : 0 ≡ i = omega (arith, lt) in z) k.known);
       few = let a = ap (λ (cs : List Cell). length cs) ec in omega (arith, a, some);
+      numbered = let a = ap (λ (cs : List Cell). length cs) ec in omega (arith, a);
     }
 
     pub root_grows : l.halt ≡ None → AreOpen s.pool → IsGrowing p s

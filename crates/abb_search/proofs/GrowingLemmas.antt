@@ -1,12 +1,13 @@
 -- What a look at all children does to the nodes, where a leaf is branched.
-use Rattle.std.proofs.Common.{◌≡◌, ℕ, ◌+◌, ◌<◌, List, [], ◌∷◌, ◌++◌, length, reverse, slice_set, Option, Some, None, refl, sym, ap, ◌∙◌, arith}
-use Rattle.std.specs.Prelude.{IfSome}
+use Rattle.std.proofs.Common.{◌≡◌, ◌⊎◌, ℕ, ◌+◌, ◌-◌, ◌^◌, ◌<◌, ◌||◌, subst, List, [], ◌∷◌, ◌++◌, length, reverse, slice_set, Option, Some, None, refl, sym, ap, ◌∙◌, arith}
+use Rattle.std.specs.Prelude.{IfSome, is_some}
 use Rattle.std.proofs.lemmas.List.{reverse-append, length-map, length-reverse}
 use Rattle.problem_rules.specs.Problem.{Problem}
 use Rattle.pns_rules.specs.Shape.{shape_of}
 use Rattle.pns_rules.specs.Nodes.{Node, options}
 use Rattle.frac128.specs.declared.fraction.Frac.{Frac}
-use Rattle.tree_rules.specs.Claim as claims
+use Rattle.turn_laws.specs.Values.{HasFallen}
+use Rattle.node_looks.specs.Looks.{cost_of}
 use Rattle.search_tree.specs.Cells.{Cell, cell_at}
 use Rattle.search_tree.specs.Growth.{AreOpen, as_branch, cells_in_turn, values_in_turn}
 use Rattle.search_tree.specs.declared.growth.Fresh.{Fresh}
@@ -37,8 +38,8 @@ values_turned [] = refl
 values_turned (f ∷ fs) = ap (λ (gs : List Fresh). values_in_turn gs) (reverse-append (f ∷ []) fs) ∙ (values_last (reverse fs) f ∙ ap (λ (vs : List Frac). f.value ∷ vs) (values_turned fs))
 
 -- as many children as options
-pub count_seen : (Past : PastPlaces) (p : Problem) (n : Node) (x : ℕ) (best : Option claims.Network) (c : Children) → AreSeen Past p n x best c → length c.kids.items ≡ length (options (shape_of p) n x)
-count_seen Past p n x best c s =
+pub count_seen : (Past : PastPlaces) (p : Problem) (n : Node) (x : ℕ) (c : Children) → AreSeen Past p n x c → length c.kids.items ≡ length (options (shape_of p) n x)
+count_seen Past p n x c s =
     sym (length-map c.kids.items (λ (f : Fresh). f.cell))
     ∙ (sym (length-map (cells_of c.kids.items) (λ (d : Cell). d.option)) ∙ ap (λ (os : List (List ℕ)). length os) s.children.options_are)
 
@@ -48,12 +49,13 @@ halts_within Past p kids ready first limit None h lt = tt
 halts_within Past p kids ready first limit (Some w) h lt = let k = h.0 in omega (arith, k, lt)
 
 pub branching : (Past : PastPlaces) (p : Problem) (n : Node) (old new : Growing) (at x : ℕ) (t : Turn) (c : Children) (mid : Pooled Cell) (rev : List Fresh) (first : ℕ)
-    → AreSeen Past p n x old.best c → AreSameNodes old.pool mid → rev ≡ reverse c.kids.items → first ≡ length old.pool.payloads
+    → AreSeen Past p n x c → AreSameNodes old.pool mid → rev ≡ reverse c.kids.items → first ≡ length old.pool.payloads
     → new.pool.payloads ≡ slice_set mid.payloads at (as_branch (cell_at mid.payloads at) first x (length rev)) ++ cells_in_turn rev
     → new.pool.values ≡ mid.values ++ values_in_turn rev
-    → new.ready.items ≡ old.ready.items ++ c.ready.items → new.best ≡ c.best → AreOpen new.pool → new.start ≡ old.start → new.budget ≡ old.budget → t ≡ turn_after first c.halt
+    → new.ready.items ≡ old.ready.items ++ c.ready.items → (new.best ≡ old.best) ⊎ (new.best ≡ c.best) → HasFallen (cost_of old.best) (cost_of new.best) → HasFallen (cost_of c.best) (cost_of new.best)
+    → is_some new.best ≡ (is_some old.best || is_some c.best) → length old.pool.payloads + length c.kids.items < 2 ^ 32 - 1 → AreOpen new.pool → new.start ≡ old.start → new.budget ≡ old.budget → t ≡ turn_after first c.halt
     → IsBranching Past p n old new at x t
-branching Past p n old new at x t c mid rev first seen same er ef ec ev ey eb ao es eu et = record {
+branching Past p n old new at x t c mid rev first seen same er ef ec ev ey which fallen fallen_found some_best numbered ao es eu et = record {
   seen = c;
   are_seen = seen;
   cells = ec
@@ -64,7 +66,11 @@ branching Past p n old new at x t c mid rev first seen same er ef ec ev ey eb ao
       ∙ ap (λ (cs : List Cell). slice_set old.pool.payloads at (as_branch (cell_at old.pool.payloads at) (length old.pool.payloads) x (length (cells_of c.kids.items))) ++ cs) (cells_turned c.kids.items)))));
   values = ev ∙ (ap (λ (vs : List Frac). vs ++ values_in_turn rev) same.values ∙ ap (λ (vs : List Frac). old.pool.values ++ vs) (ap (λ (fs : List Fresh). values_in_turn fs) er ∙ values_turned c.kids.items));
   ready = ey;
-  best = eb;
+  best = which;
+  fallen = fallen;
+  fallen_found = fallen_found;
+  some_best = some_best;
+  numbered = subst (λ k. length old.pool.payloads + k < 2 ^ 32 - 1) (sym (length-map c.kids.items (λ (f : Fresh). f.cell))) numbered;
   are_open = ao;
   start = es;
   budget = eu;

@@ -1,4 +1,5 @@
 pub mod EndLemmas
 pub mod GrowingLemmas
+pub mod KnownLemmas
 pub mod ReadyLemmas
 pub mod TurnLemmas

@@ -1,5 +1,6 @@
 -- What a turn does to what a search keeps.
-use Rattle.std.proofs.Common.{◌≡◌, ◌==◌, ℕ, ◌+◌, ◌-◌, ◌<◌, ◌≤◌, true, List, [], ◌∷◌, ◌++◌, length, get_or, slice_set, Option, Some, None, ℤ, ◌*ℤ◌, ◌≤ℤ◌, ◌<ℤ◌, refl, sym, ap, ◌∙◌, subst, arith, inl, inr, Result, Ok, Err, IfOk, OnOk}
+use Rattle.std.specs.Prelude.{is_some}
+use Rattle.std.proofs.Common.{◌≡◌, ◌⊎◌, ◌==◌, ℕ, ◌+◌, ◌-◌, ◌^◌, ◌<◌, ◌≤◌, true, ◌||◌, List, [], ◌∷◌, ◌++◌, length, get_or, slice_set, Option, Some, None, ℤ, ◌*ℤ◌, ◌≤ℤ◌, ◌<ℤ◌, refl, sym, ap, ◌∙◌, subst, arith, inl, inr, Result, Ok, Err, IfOk, OnOk}
 use Rattle.std.specs.List.{slice_get}
 use Rattle.std.proofs.lemmas.Bool.{cases_lt, or_cases, eqb-true}
 use Rattle.std.proofs.lemmas.Cmp.{int_ranked}
@@ -13,6 +14,8 @@ use Rattle.problem_rules.specs.Validity.{IsValid}
 use Rattle.pns_rules.specs.Shape.{shape_of}
 use Rattle.pns_rules.specs.Nodes.{Node, options}
 use Rattle.pns_rules.specs.Ends.{IsUndecided, IsFirst}
+use Rattle.pns_rules.proofs.ProperLemmas.{proper_if_valid}
+use Rattle.int_rows.specs.Range.{InRange, AllInRange}
 use Rattle.pgraph.specs.View.{node_of}
 use Rattle.frac128.specs.declared.fraction.Frac.{Frac}
 use Rattle.flow_rules.specs.Net.{net_of}
@@ -27,9 +30,9 @@ use Rattle.tree_rules.specs.Stops.{IsPending}
 use Rattle.search_tree.specs.Cells.{Cell, place_of, cell_at}
 use Rattle.search_tree.specs.declared.growth.Fresh.{Fresh}
 use Rattle.search_tree.specs.Growth.{is_open, AreOpen, as_branch, as_shut}
-use Rattle.turn_laws.specs.Values.{IsPositive, IsUnder, IsNoMore, IsValueOf, IsPositiveCost}
+use Rattle.turn_laws.specs.Values.{IsPositive, IsUnder, IsNoMore, IsValueOf, HasFallen, IsPositiveCost}
 use Rattle.turn_laws.specs.Kept.{LastIsBelow, IsKept}
-use Rattle.turn_laws.specs.Turns.{CanBranch, IsLeastOpen, IsBranched}
+use Rattle.turn_laws.specs.Turns.{CanBranch, IsLeastOpen, AreChildren, IsBranched}
 use Rattle.turn_laws.proofs.FractionLemmas.{fraction_trans}
 use Rattle.turn_laws.proofs.GrowLemmas.{leaf_fallen}
 use Rattle.turn_laws.proofs.KeptLemmas.{branching_is_kept, shutting_is_kept}
@@ -38,14 +41,16 @@ use Rattle.node_looks.specs.declared.looks.Ready.{Ready}
 use Rattle.node_looks.specs.declared.children.HaltedAt.{HaltedAt}
 use Rattle.node_looks.specs.declared.children.Children.{Children}
 use Rattle.node_looks.specs.Evaluated.{PastPlaces, cost_over, cost_in}
-use Rattle.node_looks.specs.Looks.{IsReady, IsSomeReady, IsHalted}
-use Rattle.node_looks.specs.Children.{claim_with, IsBest, cells_of, values_of, AreReady, HaltHolds, AreSeen}
+use Rattle.node_looks.specs.Looks.{has_bounded, cost_of, IsReady, IsSomeReady, IsHalted}
+use Rattle.node_looks.specs.Children.{claim_with, IsBest, IsImproved, cells_of, values_of, AreReady, HaltHolds, AreSeen}
+use Rattle.node_looks.proofs.BestLemmas.{improved_after, children_after}
 use Rattle.node_looks.proofs.ChildLemmas.{ready_more}
 use Rattle.abb_search.specs.declared.growing.Growing.{Growing}
 use Rattle.abb_search.specs.declared.growing.Turn.{Turn}
 use Rattle.abb_search.specs.Growing.{IsTreeKept, IsGrowing, open_count, turns_left, IsBeaten, turn_after, IsSpentAt, TurnHolds}
 use Rattle.abb_search.proofs.ReadyLemmas.{open_leaf, leaf_open, not_greater, first_has, none_first, IsReadyAt, ready_at, ready_shut, count_more, count_within, count_shut}
 use Rattle.abb_search.proofs.GrowingLemmas.{count_seen}
+use Rattle.abb_search.proofs.KnownLemmas.{AreKnown, known_set, known_more, known_end, bounded_set, bounded_more, open_unbounded}
 
 -- the best network passes, and its scale is above 0
 pub best_of : (p : Problem) (s : Growing) → IsTreeKept p s → IsBest p s.best
@@ -156,24 +161,28 @@ module _ (p : Problem) (valid : IsValid p) (s : Growing) (g : IsGrowing p s) (at
 
   module _ (q : Ready) (k : IsReady p (place_of (cell_at s.pool.payloads at)) at_hand.value q) where
     -- ---- the leaf is shut
-    module _ (beaten : IsBeaten s.best q.bound.value) where
+    module _ (beaten : IsBeaten s.best q.bound.value) (numbers : InRange q.bound.scaled.d × AllInRange q.bound.scaled.ys) where
       passes_by : (best : Option claims.Network) → IsPositiveCost (claimed_cost (claim_with best)) → IsBeaten best q.bound.value
-          → LeafPasses true p (claimed_cost (claim_with best)) (place_of (cell_at s.pool.payloads at)) (bounded q.bound.d q.bound.ys)
+          → LeafPasses true p (claimed_cost (claim_with best)) (place_of (cell_at s.pool.payloads at)) (bounded q.bound.scaled.d q.bound.scaled.ys)
       passes_by None pc b = absurd b
       passes_by (Some w) pc b =
-          leaf_fallen p (Some (cost_over q.bound.value)) (Some (cost_in w)) (place_of (cell_at s.pool.payloads at)) (bounded q.bound.d q.bound.ys) b k.bound.value.positive pc k.bound.bounded
+          leaf_fallen p (Some (cost_over q.bound.value)) (Some (cost_in w)) (place_of (cell_at s.pool.payloads at)) (bounded q.bound.scaled.d q.bound.scaled.ys) b k.bound.value.positive pc k.bound.bounded
 
       abbrev shut_cells : List Cell
-      shut_cells = slice_set s.pool.payloads at (as_shut (cell_at s.pool.payloads at) (leaf (bounded q.bound.d q.bound.ys)))
+      shut_cells = slice_set s.pool.payloads at (as_shut (cell_at s.pool.payloads at) (leaf (bounded q.bound.scaled.d q.bound.scaled.ys)))
 
-      shut_kept : IsKept p (node_of s.start) (claim_with s.best) g.tree.last (slice_set s.pool.payloads at (as_shut (cell_at s.pool.payloads at) (leaf (bounded q.bound.d q.bound.ys))))
+      shut_kept : IsKept p (node_of s.start) (claim_with s.best) g.tree.last (slice_set s.pool.payloads at (as_shut (cell_at s.pool.payloads at) (leaf (bounded q.bound.scaled.d q.bound.scaled.ys))))
       shut_kept =
-          shutting_is_kept p (node_of s.start) (claim_with s.best) g.tree.last s.pool.payloads (slice_set s.pool.payloads at (as_shut (cell_at s.pool.payloads at) (leaf (bounded q.bound.d q.bound.ys)))) g.tree.kept
-          (growth_shuts p (claimed_cost (claim_with s.best)) s.pool.payloads at (bounded q.bound.d q.bound.ys) there untried_there (λ (e : bounded q.bound.d q.bound.ys ≡ untried). cc)
+          shutting_is_kept p (node_of s.start) (claim_with s.best) g.tree.last s.pool.payloads (slice_set s.pool.payloads at (as_shut (cell_at s.pool.payloads at) (leaf (bounded q.bound.scaled.d q.bound.scaled.ys)))) g.tree.kept
+          (growth_shuts p (claimed_cost (claim_with s.best)) s.pool.payloads at (bounded q.bound.scaled.d q.bound.scaled.ys) there untried_there (λ (e : bounded q.bound.scaled.d q.bound.scaled.ys ≡ untried). cc)
           (passes_by s.best g.tree.kept.claim_positive beaten))
 
+      some_best : (best : Option claims.Network) → IsBeaten best q.bound.value → is_some best ≡ true
+      some_best None b = absurd b
+      some_best (Some w) b = refl
+
       pub shut_turn : (new : Growing) → new.start ≡ s.start → new.budget ≡ s.budget → new.best ≡ s.best
-          → new.pool.payloads ≡ slice_set s.pool.payloads at (as_shut (cell_at s.pool.payloads at) (leaf (bounded q.bound.d q.bound.ys)))
+          → new.pool.payloads ≡ slice_set s.pool.payloads at (as_shut (cell_at s.pool.payloads at) (leaf (bounded q.bound.scaled.d q.bound.scaled.ys)))
           → new.pool.values ≡ s.pool.values → AreOpen new.pool → new.ready.items ≡ slice_set s.ready.items at None → IsGrowing p new × (turns_left new < turns_left s)
       shut_turn new es eu eb ec ev ao er = (
         record {
@@ -183,23 +192,29 @@ module _ (p : Problem) (valid : IsValid p) (s : Growing) (g : IsGrowing p s) (at
                 (subst (λ (w : Option claims.Network). IsKept p (node_of new.start) (claim_with w) g.tree.last shut_cells) (sym eb)
                 (subst (λ (n : starts.Node). IsKept p (node_of n) (claim_with s.best) g.tree.last shut_cells) (sym es) shut_kept));
             passes = subst (λ (w : Option claims.Network). ClaimPasses true p (claim_with w)) (sym eb) g.tree.passes;
+            bounded = ap (λ (w : Option claims.Network). is_some w) eb
+                ∙ (some_best s.best beaten ∙ sym (ap (λ (cs : List Cell). has_bounded cs) ec ∙ bounded_set s.pool.payloads at (as_shut (cell_at s.pool.payloads at) (leaf (bounded q.bound.scaled.d q.bound.scaled.ys))) there (open_unbounded (cell_at s.pool.payloads at).end untried_there)));
+            known = subst (λ (cs : List Cell). AreKnown p cs) (sym ec)
+                (known_set p s.pool.payloads at (as_shut (cell_at s.pool.payloads at) (leaf (bounded q.bound.scaled.d q.bound.scaled.ys))) g.tree.known there
+                (known_end p (cell_at s.pool.payloads at) (as_shut (cell_at s.pool.payloads at) (leaf (bounded q.bound.scaled.d q.bound.scaled.ys))) (g.tree.known at there) refl refl numbers));
             few = let a = same_count in let b = g.tree.few in let c = eu in omega (arith, a, b, c);
+            numbered = subst (λ n. n < 2 ^ 32 - 1) (sym same_count) g.tree.numbered;
           };
           are_open = ao;
           ready = subst (λ (rs : List (Option Ready)). AreReady p new.pool.payloads new.pool.values rs) (sym er)
               (subst (λ (vs : List Frac). AreReady p new.pool.payloads vs (slice_set s.ready.items at None)) (sym ev)
               (subst (λ (cs : List Cell). AreReady p cs s.pool.values (slice_set s.ready.items at None)) (sym ec)
-              (ready_shut p s.pool.payloads s.pool.values s.ready.items at (as_shut (cell_at s.pool.payloads at) (leaf (bounded q.bound.d q.bound.ys))) g.ready refl)));
+              (ready_shut p s.pool.payloads s.pool.values s.ready.items at (as_shut (cell_at s.pool.payloads at) (leaf (bounded q.bound.scaled.d q.bound.scaled.ys))) g.ready refl)));
         },
         (let a = same_count in
             let b = ap (λ (cs : List Cell). open_count cs) ec in
-            let c = count_shut s.pool.payloads at (as_shut (cell_at s.pool.payloads at) (leaf (bounded q.bound.d q.bound.ys))) there opens refl in
+            let c = count_shut s.pool.payloads at (as_shut (cell_at s.pool.payloads at) (leaf (bounded q.bound.scaled.d q.bound.scaled.ys))) there opens refl in
             let d = eu in
             fewer new.budget s.budget (length new.pool.payloads) (length s.pool.payloads) (open_count new.pool.payloads) (open_count s.pool.payloads) d a (ap (λ i. i + 1) b ∙ c)),
       )
         where
           same_count : length new.pool.payloads ≡ length s.pool.payloads
-          same_count = ap (λ (cs : List Cell). length cs) ec ∙ length-set s.pool.payloads at (as_shut (cell_at s.pool.payloads at) (leaf (bounded q.bound.d q.bound.ys)))
+          same_count = ap (λ (cs : List Cell). length cs) ec ∙ length-set s.pool.payloads at (as_shut (cell_at s.pool.payloads at) (leaf (bounded q.bound.scaled.d q.bound.scaled.ys)))
 
           fewer : (b b' n n' o o' : ℕ) → b ≡ b' → n ≡ n' → o + 1 ≡ o' → (b - n) + o < (b' - n') + o'
           fewer b b' n n' o o' eb en eo = subst (λ i. (b - n) + o < (i - n') + o') eb (subst (λ i. (b - n) + o < (b - i) + o') en (omega (arith, eo)))
@@ -216,7 +231,10 @@ module _ (p : Problem) (valid : IsValid p) (s : Growing) (g : IsGrowing p s) (at
               (subst (λ (w : Option claims.Network). IsKept p (node_of new.start) (claim_with w) g.tree.last s.pool.payloads) (sym eb)
               (subst (λ (n : starts.Node). IsKept p (node_of n) (claim_with s.best) g.tree.last s.pool.payloads) (sym es) g.tree.kept));
           passes = subst (λ (w : Option claims.Network). ClaimPasses true p (claim_with w)) (sym eb) g.tree.passes;
+          bounded = subst (λ (l : Pooled Cell). is_some new.best ≡ has_bounded l.payloads) (sym ep) (ap (λ (w : Option claims.Network). is_some w) eb ∙ g.tree.bounded);
+          known = subst (λ (l : Pooled Cell). AreKnown p l.payloads) (sym ep) g.tree.known;
           few = let a = ap (λ (l : Pooled Cell). length l.payloads) ep in let b = g.tree.few in let c = eu in omega (arith, a, b, c);
+          numbered = subst (λ (l : Pooled Cell). length l.payloads < 2 ^ 32 - 1) (sym ep) g.tree.numbered;
         }
 
         spent_here : IsSpentAt p s at count
@@ -238,10 +256,11 @@ module _ (p : Problem) (valid : IsValid p) (s : Growing) (g : IsGrowing p s) (at
     -- ---- the leaf is branched
     module _ (Past : PastPlaces) (new : Growing) (t : Turn) (nb : IsBeaten s.best q.bound.value → ⊥)
         (few : length s.pool.payloads + length (options (shape_of p) (place_of (cell_at s.pool.payloads at)) q.material) ≤ s.budget)
-        (c : Children) (seen : AreSeen Past p (place_of (cell_at s.pool.payloads at)) q.material s.best c)
+        (c : Children) (seen : AreSeen Past p (place_of (cell_at s.pool.payloads at)) q.material c)
         (ec : new.pool.payloads ≡ slice_set s.pool.payloads at (as_branch (cell_at s.pool.payloads at) (length s.pool.payloads) q.material (length (cells_of c.kids.items))) ++ cells_of c.kids.items)
         (ev : new.pool.values ≡ s.pool.values ++ values_of c.kids.items) (mid : List (Option Ready)) (em : mid ≡ slice_set s.ready.items at None) (er : new.ready.items ≡ mid ++ c.ready.items)
-        (eb : new.best ≡ c.best) (ao : AreOpen new.pool) (es : new.start ≡ s.start) (eu : new.budget ≡ s.budget) where
+        (which : (new.best ≡ s.best) ⊎ (new.best ≡ c.best)) (fallen : HasFallen (cost_of s.best) (cost_of new.best)) (fallen_found : HasFallen (cost_of c.best) (cost_of new.best))
+        (some_new : is_some new.best ≡ (is_some s.best || is_some c.best)) (numbered : length s.pool.payloads + length (cells_of c.kids.items) < 2 ^ 32 - 1) (ao : AreOpen new.pool) (es : new.start ≡ s.start) (eu : new.budget ≡ s.budget) where
       abbrev kids : List Cell
       kids = cells_of c.kids.items
 
@@ -252,16 +271,41 @@ module _ (p : Problem) (valid : IsValid p) (s : Growing) (g : IsGrowing p s) (at
       branched = subst (λ (cs : List Cell). IsBranched s.pool.payloads (cells_of c.kids.items) cs at q.material) (sym ec) (growth_branches s.pool.payloads (cells_of c.kids.items) at q.material there)
 
       kid_count : length (cells_of c.kids.items) ≡ length (options (shape_of p) (place_of (cell_at s.pool.payloads at)) q.material)
-      kid_count = length-map c.kids.items (λ (f : Fresh). f.cell) ∙ count_seen Past p (place_of (cell_at s.pool.payloads at)) q.material s.best c seen
+      kid_count = length-map c.kids.items (λ (f : Fresh). f.cell) ∙ count_seen Past p (place_of (cell_at s.pool.payloads at)) q.material c seen
 
       last_below : LastIsBelow (Some (cost_over at_hand.value)) (claimed_cost (claim_with s.best))
       last_below = subst (λ (v : Frac). LastIsBelow (Some (cost_over v)) (claimed_cost (claim_with s.best))) k.value_is (not_beaten s.best q.bound.value nb)
 
-      kept_now : IsKept p (node_of s.start) (claim_with c.best) (Some (cost_over at_hand.value)) new.pool.payloads
+      improved : IsImproved p (place_of (cell_at s.pool.payloads at)) s.best new.best
+      improved = improved_after p (place_of (cell_at s.pool.payloads at)) s.best c.best new.best (best_of p s g.tree) seen.found which fallen fallen_found
+
+      children_now : AreChildren p (claimed_cost (claim_with new.best)) (place_of (cell_at s.pool.payloads at)) q.material (cells_of c.kids.items)
+      children_now = children_after p (place_of (cell_at s.pool.payloads at)) s.best c.best new.best (best_of p s g.tree) seen.found which fallen fallen_found q.material (cells_of c.kids.items) seen.children
+
+      kept_now : IsKept p (node_of s.start) (claim_with new.best) (Some (cost_over at_hand.value)) new.pool.payloads
       kept_now =
-          branching_is_kept p valid (node_of s.start) (claim_with s.best) (claim_with c.best) g.tree.last (cost_over at_hand.value) s.pool.payloads (cells_of c.kids.items) new.pool.payloads at q.material
-          g.tree.kept (can_branch q k) (least q k) seen.improved.fallen seen.improved.best.positive
-          (seen.improved.below (cost_over at_hand.value) (valued q k).positive (valued q k).under last_below) seen.children branched
+          branching_is_kept p valid (node_of s.start) (claim_with s.best) (claim_with new.best) g.tree.last (cost_over at_hand.value) s.pool.payloads (cells_of c.kids.items) new.pool.payloads at q.material
+          g.tree.kept (can_branch q k) (least q k) improved.fallen improved.best.positive
+          (improved.below (cost_over at_hand.value) (valued q k).positive (valued q k).under last_below) children_now branched
+
+      known_now : AreKnown p new.pool.payloads
+      known_now = subst (λ (cs : List Cell). AreKnown p cs) (sym ec)
+          (known_more p (slice_set s.pool.payloads at now) (cells_of c.kids.items)
+          (known_set p s.pool.payloads at now g.tree.known there
+          (known_end p (cell_at s.pool.payloads at) now (g.tree.known at there) refl refl
+          (material_known k.first.0)))
+          (λ i lt. seen.known i (let b = length-map c.kids.items (λ (f : Fresh). f.cell) in omega (arith, lt, b))))
+        where
+          material_known : IsUndecided (shape_of p) (place_of (cell_at s.pool.payloads at)) q.material → q.material < length p.materials
+          material_known u = (proper_if_valid p valid).output_known u.some.0 q.material u.some.2
+
+      bounded_now : is_some new.best ≡ has_bounded new.pool.payloads
+      bounded_now =
+          some_new
+          ∙ (ap (λ b. b || is_some c.best) g.tree.bounded ∙ ap (λ b. has_bounded s.pool.payloads || b) seen.bounded)
+          ∙ sym (ap (λ (cs : List Cell). has_bounded cs) ec
+          ∙ (bounded_more (slice_set s.pool.payloads at now) (cells_of c.kids.items)
+          ∙ ap (λ b. b || has_bounded (cells_of c.kids.items)) (bounded_set s.pool.payloads at now there (open_unbounded (cell_at s.pool.payloads at).end untried_there))))
 
       longer : length new.pool.payloads ≡ length s.pool.payloads + length (cells_of c.kids.items)
       longer = branched.len
@@ -269,10 +313,12 @@ module _ (p : Problem) (valid : IsValid p) (s : Growing) (g : IsGrowing p s) (at
       tree_now : IsTreeKept p new
       tree_now = record {
         last = Some (cost_over at_hand.value);
-        kept = subst (λ (w : Option claims.Network). IsKept p (node_of new.start) (claim_with w) (Some (cost_over at_hand.value)) new.pool.payloads) (sym eb)
-            (subst (λ (n : starts.Node). IsKept p (node_of n) (claim_with c.best) (Some (cost_over at_hand.value)) new.pool.payloads) (sym es) kept_now);
-        passes = subst (λ (w : Option claims.Network). ClaimPasses true p (claim_with w)) (sym eb) seen.improved.best.passes;
+        kept = subst (λ (n : starts.Node). IsKept p (node_of n) (claim_with new.best) (Some (cost_over at_hand.value)) new.pool.payloads) (sym es) kept_now;
+        passes = improved.best.passes;
+        bounded = bounded_now;
+        known = known_now;
         few = let a = longer in let b = kid_count in let d = few in let e = eu in omega (arith, a, b, d, e);
+        numbered = subst (λ n. n < 2 ^ 32 - 1) (sym longer) numbered;
       }
 
       ready_now : AreReady p (cells_of c.kids.items) (values_of c.kids.items) c.ready.items → AreReady p new.pool.payloads new.pool.values new.ready.items

@@ -1,5 +1,5 @@
 -- What a search finds: a claim with the tree that proves it, or the tree as far as it came and where it stopped.
-use Rattle.std.specs.Prelude.{ℕ, suc, ◌<◌, ◌^◌, Bool, false, length, Option, Some, None}
+use Rattle.std.specs.Prelude.{ℕ, suc, ◌<◌, ◌-◌, ◌^◌, Bool, false, length, Option, Some, None}
 use Rattle.number_sets.specs.Sets.{listed}
 use Rattle.problem_rules.specs.Problem.{Problem}
 use Rattle.pns_rules.specs.Shape.{shape_of}
@@ -11,20 +11,27 @@ use Rattle.tree_rules.specs.Leaf.{IsUntried}
 use Rattle.tree_rules.specs.Lean.{IsLean}
 use Rattle.tree_rules.specs.Accepted.{Tree, IsAccepted, IsPartial}
 use Rattle.tree_rules.specs.Stops.{IsSpent, IsPast}
+use Rattle.branch_tree.specs.Known.{KnowsClaim, KnowsTree}
 use Rattle.node_looks.specs.Evaluated.{PastPlaces}
 use Rattle.node_looks.specs.Children.{claim_with}
 use Rattle.abb_search.specs.declared.search.Found.{Found}
 use Rattle.abb_search.specs.declared.search.Found.TheVariants.{Solved, Infeasible, Spent, Past, Memory}
 
--- a lean tree that proves the claim
+-- a lean tree that proves the claim, with numbers that the problem knows
 pub record IsProved (p : Problem) (start : Node) (claim : claims.Claim) (tree : Tree) : Type 0 where
   pub accepted : IsAccepted p start claim tree
   pub lean : IsLean p IsUntried (claimed_cost claim) start tree
+  pub of_claim : KnowsClaim p claim
+  pub of_tree : KnowsTree p tree
+  pub few : length tree < 2 ^ 32 - 1
 
--- a lean tree that proves the claim but for its open leaves
+-- a lean tree that proves the claim but for its open leaves, with numbers that the problem knows
 pub record IsStopped (p : Problem) (start : Node) (claim : claims.Claim) (tree : Tree) : Type 0 where
   pub partial : IsPartial p start claim tree
   pub lean : IsLean p IsUntried (claimed_cost claim) start tree
+  pub of_claim : KnowsClaim p claim
+  pub of_tree : KnowsTree p tree
+  pub few : length tree < 2 ^ 32 - 1
 
 -- the budget is below twice the number of sets of units of the maximal structure
 abbrev pub IsBelowLimit : Problem → ℕ → Type 0

@@ -1,5 +1,5 @@
 //! The tree while it grows, and a turn of the search.
-ghost use Rattle.std.specs.Prelude.{◌≡◌, ◌↔◌, ◌<◌, ◌≤◌, ◌+◌, ◌^◌, get_or, slice_set, true, IsTrue, Some, None, IfSome, IfOk, OnOk, length};
+ghost use Rattle.std.specs.Prelude.{◌≡◌, ◌↔◌, ◌<◌, ◌≤◌, ◌+◌, ◌-◌, ◌^◌, get_or, slice_set, true, IsTrue, Some, None, IfSome, IfOk, OnOk, length};
 ghost use Rattle.link_lists.specs.Lists.{has};
 ghost use Rattle.pns_rules.specs.Shape.{shape_of};
 ghost use Rattle.pns_rules.specs.Nodes.{options};
@@ -8,13 +8,14 @@ ghost use Rattle.pgraph.specs.Tables.{shape};
 ghost use Rattle.pgraph.specs.View.{node_of};
 ghost use Rattle.search_tree.specs.Cells.{cell_at};
 ghost use Rattle.search_tree.specs.Growth.{AreOpen};
-ghost use Rattle.node_looks.specs.Children.{IsBest};
+ghost use Rattle.neutral_extension.specs.Candidates.{AreMakersOf};
 ghost use Rattle.abb_search.specs.Growing.{IsGrowing, IsBeaten, IsBranching, turn_after, TurnHolds};
 
 use branch_choice::option_count;
 use branch_tree::{End, Network};
 use frac128::Frac;
-use node_looks::{Evaluator, Halt, HaltedAt, Ready, is_no_more, look_at_children};
+use neutral_extension::Makers;
+use node_looks::{Evaluator, Halt, HaltedAt, Ready, cheaper, is_no_more, look_at_children};
 use node_pool::Pool;
 use pgraph::Graph;
 use pns_problem::Problem;
@@ -67,6 +68,13 @@ fn is_over(count: u128, nodes: usize, budget: u32) -> bool
     count > u128::from(budget) - nodes as u128
 }
 
+/// Whether so many nodes more have numbers: the last number names no node.
+fn has_numbers(nodes: u32, more: usize) -> bool
+    ensures { IsTrue result ↔ (nodes + more < 2 ^ 32 - 1) }
+{
+    more < (u32::MAX - nodes) as usize
+}
+
 fn turn_after(first: u32, halt: Option<HaltedAt>) -> Turn
     requires { IfSome halt (λ h. first + h.at < 2 ^ 32) }
     ensures { result ≡ turn_after first halt }
@@ -112,34 +120,38 @@ fn branch_leaf<E: Evaluator>(
     evaluator: &mut E,
     problem: &Problem,
     graph: &Graph,
+    makers: &mut Makers,
     growing: &mut Growing,
     leaf: u32,
     node: Node,
     material: u32,
 ) -> Result<Turn, AllocError>
     requires graph { shape graph.now ≡ shape_of problem.now }
+    requires same { AreMakersOf (shape graph.now) makers.old.makers }
     requires leaf { has growing.old.pool.leaves leaf ≡ true }
     requires open { AreOpen growing.old.pool }
     requires sound { IsSound (shape_of problem.now) (node_of node) }
     requires reduced { IsReduced (shape_of problem.now) (node_of node) }
     requires undecided { IsUndecided (shape_of problem.now) (node_of node) material }
     requires known { material < (shape graph.now).materials }
-    requires best { IsBest problem.now growing.old.best }
     requires numbered { length growing.old.ready.items ≡ length growing.old.pool.payloads }
     requires few { length growing.old.pool.payloads + length (options (shape_of problem.now) (node_of node) material) < 2 ^ 32 }
-    ensures { IfOk result (IsBranching E.past problem.now (node_of node) growing.old growing.new leaf material) }
+    ensures branching { IfOk result (IsBranching E.past problem.now (node_of node) growing.old growing.new leaf material) }
+    ensures makers { makers.new.makers ≡ makers.old.makers }
 {
     growing.pool.is_pool();
-    let best = growing.best.take();
-    let children = look_at_children(alloc, evaluator, problem, graph, node, material, best)?;
+    let children = look_at_children(alloc, evaluator, problem, graph, makers, node, material)?;
     let mut kids = children.kids;
     let mut ready = children.ready;
+    let first = growing.ready.len() as u32;
+    if !has_numbers(first, kids.len()) {
+        return Err(AllocError);
+    }
     kids.reverse();
     growing.pool.reserve(kids.len() as u32)?;
-    let first = growing.ready.len() as u32;
     growing.ready.append(&mut ready)?;
     branch(&mut growing.pool, leaf, material, first, &mut kids);
-    growing.best = children.best;
+    growing.best = cheaper(growing.best.take(), children.best);
     Ok(turn_after(first, children.halt))
 }
 
@@ -149,13 +161,16 @@ pub(crate) fn take_turn<E: Evaluator>(
     evaluator: &mut E,
     problem: &Problem,
     graph: &Graph,
+    makers: &mut Makers,
     growing: &mut Growing,
 ) -> Result<Turn, AllocError>
     requires graph { shape graph.now ≡ shape_of problem.now }
+    requires same { AreMakersOf (shape graph.now) makers.old.makers }
     requires growing { IsGrowing problem.now growing.old }
     ensures holds { IfOk result (TurnHolds E.past problem.now growing.old growing.new) }
     ensures start { OnOk result (growing.new.start ≡ growing.old.start) }
     ensures budget { OnOk result (growing.new.budget ≡ growing.old.budget) }
+    ensures makers { makers.new.makers ≡ makers.old.makers }
 {
     problem.is_valid();
     growing.pool.is_pool();
@@ -167,11 +182,8 @@ pub(crate) fn take_turn<E: Evaluator>(
         return Ok(Turn::Whole);
     };
     if is_beaten(&growing.best, &ready.bound.value) {
-        let end = End::Bound {
-            d: ready.bound.d,
-            ys: ready.bound.ys,
-        };
-        shut(&mut growing.pool, leaf, end);
+        ready.bound.scaled.are_in_range();
+        shut(&mut growing.pool, leaf, End::Bound(ready.bound.scaled));
         return Ok(Turn::More);
     }
     let material = ready.material;
@@ -181,6 +193,6 @@ pub(crate) fn take_turn<E: Evaluator>(
     }
     let node = node_at(&growing.pool, leaf);
     branch_leaf(
-        alloc, evaluator, problem, graph, growing, leaf, node, material,
+        alloc, evaluator, problem, graph, makers, growing, leaf, node, material,
     )
 }

@@ -1,5 +1,5 @@
 //! The whole search.
-ghost use Rattle.std.specs.Prelude.{◌≡◌, ◌<◌, ◌≤◌, [], ◌∷◌, length, IfOk, OnOk};
+ghost use Rattle.std.specs.Prelude.{◌≡◌, ◌<◌, ◌≤◌, [], ◌∷◌, length, IfOk, OnOk, IfSome};
 ghost use Rattle.pns_rules.specs.Shape.{shape_of};
 ghost use Rattle.pns_rules.specs.Ends.{IsSound};
 ghost use Rattle.pgraph.specs.Tables.{shape};
@@ -7,6 +7,8 @@ ghost use Rattle.pgraph.specs.View.{node_of};
 ghost use Rattle.search_tree.specs.Cells.{IsLinked, cell_at};
 ghost use Rattle.search_tree.specs.Preorder.{IsTreeOf};
 ghost use Rattle.search_tree.specs.Growth.{AreOpen};
+ghost use Rattle.tree_rules.specs.Claim.{IsSized};
+ghost use Rattle.neutral_extension.specs.Candidates.{AreMakersOf};
 ghost use Rattle.abb_search.specs.Growing.{IsTreeKept, IsGrowing};
 ghost use Rattle.abb_search.specs.Found.{found_with, IsFound};
 
@@ -14,6 +16,7 @@ use crate::growing::{Growing, Turn, take_turn};
 use branch_tree::{Columns, Network, Tree};
 use flow_program::Place;
 use frac128::Frac;
+use neutral_extension::Makers;
 use node_looks::{Evaluator, Looked, look};
 use node_pool::Pool;
 use pgraph::Graph;
@@ -60,14 +63,25 @@ struct Placed {
     place: u32,
 }
 
+/// A network has a set of units below 128. A call tells a proof so, and does nothing.
+fn is_sized(best: &Option<Network>)
+    ensures { IfSome best.now IsSized }
+{
+    if let Some(network) = best {
+        network.is_sized();
+    }
+}
+
 /// The tree of the nodes, and where the leaf stands in it.
 fn tree_with(alloc: Global, growing: &Growing, leaf: u32) -> Result<Placed, AllocError>
     requires linked { IsLinked growing.now.pool.payloads }
     requires root { (cell_at growing.now.pool.payloads 0).option ≡ [] }
     requires leaf { leaf < length growing.now.pool.payloads }
-    ensures { IfOk result (λ t. IsTreeOf growing.now.pool.payloads leaf t.tree t.place) }
+    ensures tree { IfOk result (λ t. IsTreeOf growing.now.pool.payloads leaf t.tree t.place) }
+    ensures sized { IfSome growing.now.best IsSized }
 {
     search_tree::preorder_is_tree();
+    is_sized(&growing.best);
     let preorder = nodes_in_preorder(alloc, &growing.pool, leaf)?;
     Ok(Placed {
         tree: Tree::from_nodes(preorder.nodes),
@@ -124,16 +138,19 @@ fn take_turns<E: Evaluator>(
     evaluator: &mut E,
     problem: &Problem,
     graph: &Graph,
+    makers: Makers,
     growing: Growing,
 ) -> Result<Found, AllocError>
     requires graph { shape graph.now ≡ shape_of problem.now }
+    requires same { AreMakersOf (shape graph.now) makers.makers }
     requires growing { IsGrowing problem.now growing }
     ensures { IfOk result (IsFound E.past problem.now (node_of growing.start) growing.budget) }
 {
     problem.is_valid();
+    let mut makers = makers;
     let mut growing = growing;
     'turns: loop {
-        match take_turn(alloc, evaluator, problem, graph, &mut growing)? {
+        match take_turn(alloc, evaluator, problem, graph, &mut makers, &mut growing)? {
             Turn::More => {}
             Turn::Whole => {
                 let whole = tree_with(alloc, &growing, 0)?;
@@ -184,7 +201,16 @@ fn search_from<E: Evaluator>(
 {
     problem.is_valid();
     let root = copy_of(&start);
-    let looked = look(alloc, evaluator, problem, graph, UnitSet::empty(), start)?;
+    let mut makers = Makers::open(alloc, graph)?;
+    let looked = look(
+        alloc,
+        evaluator,
+        problem,
+        graph,
+        &mut makers,
+        UnitSet::empty(),
+        start,
+    )?;
     let halt = looked.halt;
     let mut ready = Vec::new(alloc);
     ready.push(looked.ready)?;
@@ -197,7 +223,7 @@ fn search_from<E: Evaluator>(
         best: looked.network,
     };
     let Some(halt) = halt else {
-        return take_turns(alloc, evaluator, problem, graph, growing);
+        return take_turns(alloc, evaluator, problem, graph, makers, growing);
     };
     let stopped = tree_with(alloc, &growing, 0)?;
     Ok(Found::Past {

@@ -35,10 +35,9 @@ returns-in_default-take_ready-clause-holds g c =
 pub returns-then-is_beaten-clause-holds : goal.returns-then-is_beaten-clause-holds
 returns-then-is_beaten-clause-holds g c =
     let k = ready_known c.args.problem.now c.is_valid.ensures.valid c.args.growing.now c.requires.growing c.in-Some.leaf (sym c.least.ensures ∙ c.in-Some.is) c.is_pool.ensures.payloads c.is_pool.ensures.leaves c.is_pool.ensures.rising c.take_ready.result c.in-Some-take_ready.ready c.take_ready.ensures.value c.in-Some-take_ready.is in
-    let fits : SFits w128 c.in-Some-take_ready.ready.bound.d = search rules in
     let new : Growing = record { start = c.args.growing.now.start; budget = c.args.growing.now.budget; pool = c.shut.new.pool; ready = c.take_ready.new.ready; best = c.args.growing.now.best } in
-    shut_turn c.args.problem.now c.is_valid.ensures.valid c.args.growing.now c.requires.growing c.in-Some.leaf (sym c.least.ensures ∙ c.in-Some.is) c.is_pool.ensures.payloads c.is_pool.ensures.leaves c.is_pool.ensures.rising c.in-Some-take_ready.ready k (c.if-is_beaten.ensures.0 refl) new refl refl refl
-    (c.shut.ensures.cells ∙ ap (λ (d : ℤ). slice_set c.args.growing.now.pool.payloads c.in-Some.leaf (as_shut (cell_at c.args.growing.now.pool.payloads c.in-Some.leaf) (leaf (bounded d c.in-Some-take_ready.ready.bound.ys)))) (to_z-of_z w128 c.in-Some-take_ready.ready.bound.d fits)) c.shut.ensures.values c.shut.ensures.open c.take_ready.ensures.after
+    shut_turn c.args.problem.now c.is_valid.ensures.valid c.args.growing.now c.requires.growing c.in-Some.leaf (sym c.least.ensures ∙ c.in-Some.is) c.is_pool.ensures.payloads c.is_pool.ensures.leaves c.is_pool.ensures.rising c.in-Some-take_ready.ready k (c.if-is_beaten.ensures.0 refl) (c.are_in_range.ensures.scale, c.are_in_range.ensures.multipliers) new refl refl refl
+    c.shut.ensures.cells c.shut.ensures.values c.shut.ensures.open c.take_ready.ensures.after
 
 pub options_at-options-requires-clause-leaf : goal.options_at-options-requires-clause-leaf
 options_at-options-requires-clause-leaf g c = there c.args.problem.now c.is_valid.ensures.valid c.args.growing.now c.requires.growing c.in-Some.leaf (sym c.least.ensures ∙ c.in-Some.is) c.is_pool.ensures.payloads c.is_pool.ensures.leaves c.is_pool.ensures.rising
@@ -120,7 +119,7 @@ returns-clause-holds g c =
     l ∙ (a ∙ e)) (c.options_at-options.ensures ∙ ap (λ (h : Shape). length (options h (node_of (cell_at c.args.growing.now.pool.payloads c.in-Some.leaf).node) c.in-Some-take_ready.ready.material)) c.requires.graph)
     (λ h. true≢false (sym (c.if-is_over.ensures.1 h))) in
     let n = node_of (cell_at s.pool.payloads c.in-Some.leaf).node in
-    let done = subst (λ (m : Node). IfOk c.branch_leaf.result (IsBranching g.E.Evaluator.past c.args.problem.now (node_of m) mid c.branch_leaf.new.growing c.in-Some.leaf c.in-Some-take_ready.ready.material)) c.node_at-node.ensures c.branch_leaf.ensures in
+    let done = subst (λ (m : Node). IfOk c.branch_leaf.result (IsBranching g.E.Evaluator.past c.args.problem.now (node_of m) mid c.branch_leaf.new.growing c.in-Some.leaf c.in-Some-take_ready.ready.material)) c.node_at-node.ensures c.branch_leaf.ensures.branching in
     ok_map (λ t. IsBranching g.E.Evaluator.past c.args.problem.now n mid c.branch_leaf.new.growing c.in-Some.leaf c.in-Some-take_ready.ready.material t) (λ t. TurnHolds g.E.Evaluator.past c.args.problem.now s c.branch_leaf.new.growing t) c.branch_leaf.result
     (λ t b. branched_turn c.args.problem.now c.is_valid.ensures.valid c.args.growing.now c.requires.growing c.in-Some.leaf (sym c.least.ensures ∙ c.in-Some.is) c.is_pool.ensures.payloads c.is_pool.ensures.leaves c.is_pool.ensures.rising c.in-Some-take_ready.ready k g.E.Evaluator.past c.branch_leaf.new.growing t (λ h. true≢false (sym (c.if-is_beaten.ensures.1 h))) few
-    b.seen b.are_seen b.cells b.values c.take_ready.new.ready.items c.take_ready.ensures.after b.ready b.best b.are_open b.start b.budget b.turn_is) done
+    b.seen b.are_seen b.cells b.values c.take_ready.new.ready.items c.take_ready.ensures.after b.ready b.best b.fallen b.fallen_found b.some_best b.numbered b.are_open b.start b.budget b.turn_is) done
