@@ -1,6 +1,6 @@
 -- What a look at all children does to the nodes, where a leaf is branched.
 use Rattle.std.proofs.Common.{◌≡◌, ◌⊎◌, ℕ, ◌+◌, ◌-◌, ◌^◌, ◌<◌, ◌||◌, subst, List, [], ◌∷◌, ◌++◌, length, reverse, slice_set, Option, Some, None, refl, sym, ap, ◌∙◌, arith}
-use Rattle.std.specs.Prelude.{IfSome, is_some}
+use Rattle.std.specs.Prelude.{MatchOption, is_some}
 use Rattle.std.proofs.lemmas.List.{reverse-append, length-map, length-reverse}
 use Rattle.problem_rules.specs.Problem.{Problem}
 use Rattle.pns_rules.specs.Shape.{shape_of}
@@ -18,8 +18,7 @@ use Rattle.node_looks.specs.declared.children.Children.{Children}
 use Rattle.node_looks.specs.Evaluated.{PastPlaces}
 use Rattle.node_looks.specs.Children.{cells_of, values_of, HaltHolds, AreSeen}
 use Rattle.abb_search.specs.declared.growing.Growing.{Growing}
-use Rattle.abb_search.specs.declared.growing.Turn.{Turn}
-use Rattle.abb_search.specs.Growing.{turn_after, IsBranching}
+use Rattle.abb_search.specs.Growing.{halt_at, IsBranching}
 
 cells_last : (fs : List Fresh) (f : Fresh) → cells_in_turn (fs ++ f ∷ []) ≡ f.cell ∷ cells_in_turn fs
 cells_last [] f = refl
@@ -44,18 +43,18 @@ count_seen Past p n x c s =
     ∙ (sym (length-map (cells_of c.kids.items) (λ (d : Cell). d.option)) ∙ ap (λ (os : List (List ℕ)). length os) s.children.options_are)
 
 pub halts_within : (Past : PastPlaces) (p : Problem) (kids : List Fresh) (ready : List (Option Ready)) (first limit : ℕ) (h : Option HaltedAt) → HaltHolds Past p kids ready h → first + length kids < limit
-    → IfSome h (λ w. first + w.at < limit)
+    → MatchOption h Unit (λ w. first + w.at < limit)
 halts_within Past p kids ready first limit None h lt = tt
 halts_within Past p kids ready first limit (Some w) h lt = let k = h.0 in omega (arith, k, lt)
 
-pub branching : (Past : PastPlaces) (p : Problem) (n : Node) (old new : Growing) (at x : ℕ) (t : Turn) (c : Children) (mid : Pooled Cell) (rev : List Fresh) (first : ℕ)
+pub branching : (Past : PastPlaces) (p : Problem) (n : Node) (old new : Growing) (at x : ℕ) (c : Children) (mid : Pooled Cell) (rev : List Fresh) (first : ℕ)
     → AreSeen Past p n x c → AreSameNodes old.pool mid → rev ≡ reverse c.kids.items → first ≡ length old.pool.payloads
     → new.pool.payloads ≡ slice_set mid.payloads at (as_branch (cell_at mid.payloads at) first x (length rev)) ++ cells_in_turn rev
     → new.pool.values ≡ mid.values ++ values_in_turn rev
     → new.ready.items ≡ old.ready.items ++ c.ready.items → (new.best ≡ old.best) ⊎ (new.best ≡ c.best) → HasFallen (cost_of old.best) (cost_of new.best) → HasFallen (cost_of c.best) (cost_of new.best)
-    → is_some new.best ≡ (is_some old.best || is_some c.best) → length old.pool.payloads + length c.kids.items < 2 ^ 32 - 1 → AreOpen new.pool → new.start ≡ old.start → new.budget ≡ old.budget → t ≡ turn_after first c.halt
-    → IsBranching Past p n old new at x t
-branching Past p n old new at x t c mid rev first seen same er ef ec ev ey which fallen fallen_found some_best numbered ao es eu et = record {
+    → is_some new.best ≡ (is_some old.best || is_some c.best) → length old.pool.payloads + length c.kids.items < 2 ^ 32 - 1 → new.nodes ≡ old.nodes + length c.kids.items → AreOpen new.pool
+    → new.start ≡ old.start → new.budget ≡ old.budget → new.halt ≡ halt_at first c.halt → IsBranching Past p n old new at x
+branching Past p n old new at x c mid rev first seen same er ef ec ev ey which fallen fallen_found some_best numbered en ao es eu eh = record {
   seen = c;
   are_seen = seen;
   cells = ec
@@ -70,9 +69,10 @@ branching Past p n old new at x t c mid rev first seen same er ef ec ev ey which
   fallen = fallen;
   fallen_found = fallen_found;
   some_best = some_best;
+  nodes = en ∙ ap (λ k. old.nodes + k) (sym (length-map c.kids.items (λ (f : Fresh). f.cell)));
   numbered = subst (λ k. length old.pool.payloads + k < 2 ^ 32 - 1) (sym (length-map c.kids.items (λ (f : Fresh). f.cell))) numbered;
   are_open = ao;
   start = es;
   budget = eu;
-  turn_is = et ∙ ap (λ k. turn_after k c.halt) ef;
+  halt = eh ∙ ap (λ k. halt_at k c.halt) ef;
 }

@@ -90,6 +90,17 @@ ready_shut p [] (v ∷ vs) rs j d h o = absurd h
 ready_shut p (c ∷ cs) [] rs j d h o = absurd h
 ready_shut p (c ∷ cs) (v ∷ vs) [] j d h o = absurd h
 
+-- nor does it need what is at hand
+pub ready_branched : (p : Problem) (cs : List Cell) (vs : List Frac) (rs : List (Option Ready)) (j : ℕ) (d : Cell) → AreReady p cs vs rs → is_open d.end ≡ false → AreReady p (slice_set cs j d) vs rs
+ready_branched p [] [] [] zero d h o = tt
+ready_branched p [] [] [] (suc j) d h o = tt
+ready_branched p (c ∷ cs) (v ∷ vs) (r ∷ rs) zero d h o = ((λ e. absurd (not_untried d.end o e)), h.1)
+ready_branched p (c ∷ cs) (v ∷ vs) (r ∷ rs) (suc j) d h o = (h.0, ready_branched p cs vs rs j d h.1 o)
+ready_branched p [] [] (r ∷ rs) j d h o = absurd h
+ready_branched p [] (v ∷ vs) rs j d h o = absurd h
+ready_branched p (c ∷ cs) [] rs j d h o = absurd h
+ready_branched p (c ∷ cs) (v ∷ vs) [] j d h o = absurd h
+
 -- ---- how many leaves are open
 
 pub count_more : (cs ds : List Cell) → open_count (cs ++ ds) ≡ open_count cs + open_count ds

@@ -13,7 +13,7 @@ use Rattle.problem_rules.specs.Problem.{Problem}
 use Rattle.problem_rules.specs.Validity.{IsValid}
 use Rattle.pns_rules.specs.Shape.{shape_of}
 use Rattle.pns_rules.specs.Nodes.{Node, options}
-use Rattle.pns_rules.specs.Ends.{IsUndecided, IsFirst}
+use Rattle.pns_rules.specs.Ends.{IsSound, IsUndecided, IsFirst}
 use Rattle.pns_rules.proofs.ProperLemmas.{proper_if_valid}
 use Rattle.int_rows.specs.Range.{InRange, AllInRange}
 use Rattle.pgraph.specs.View.{node_of}
@@ -33,6 +33,7 @@ use Rattle.search_tree.specs.Growth.{is_open, AreOpen, as_branch, as_shut}
 use Rattle.turn_laws.specs.Values.{IsPositive, IsUnder, IsNoMore, IsValueOf, HasFallen, IsPositiveCost}
 use Rattle.turn_laws.specs.Kept.{LastIsBelow, IsKept}
 use Rattle.turn_laws.specs.Turns.{CanBranch, IsLeastOpen, AreChildren, IsBranched}
+use Rattle.search_laws.proofs.NumberLemmas.{decisions_split}
 use Rattle.turn_laws.proofs.FractionLemmas.{fraction_trans}
 use Rattle.turn_laws.proofs.GrowLemmas.{leaf_fallen}
 use Rattle.turn_laws.proofs.KeptLemmas.{branching_is_kept, shutting_is_kept}
@@ -46,9 +47,9 @@ use Rattle.node_looks.specs.Children.{claim_with, IsBest, IsImproved, cells_of, 
 use Rattle.node_looks.proofs.BestLemmas.{improved_after, children_after}
 use Rattle.node_looks.proofs.ChildLemmas.{ready_more}
 use Rattle.abb_search.specs.declared.growing.Growing.{Growing}
-use Rattle.abb_search.specs.declared.growing.Turn.{Turn}
-use Rattle.abb_search.specs.Growing.{IsTreeKept, IsGrowing, open_count, turns_left, IsBeaten, turn_after, IsSpentAt, TurnHolds}
-use Rattle.abb_search.proofs.ReadyLemmas.{open_leaf, leaf_open, not_greater, first_has, none_first, IsReadyAt, ready_at, ready_shut, count_more, count_within, count_shut}
+use Rattle.abb_search.specs.declared.growing.HaltedLeaf.{HaltedLeaf}
+use Rattle.abb_search.specs.Growing.{IsTreeKept, IsGrowing, open_count, material_of, IsBeaten, LeastIsBelow, halt_at, IsHaltedAt, IsBranching, IsAfterBranch, IsShutting, IsSpentAt}
+use Rattle.abb_search.proofs.ReadyLemmas.{open_leaf, leaf_open, not_greater, first_has, none_first, IsReadyAt, ready_at, ready_shut, ready_branched, count_shut}
 use Rattle.abb_search.proofs.GrowingLemmas.{count_seen}
 use Rattle.abb_search.proofs.KnownLemmas.{AreKnown, known_set, known_more, known_end, bounded_set, bounded_more, open_unbounded}
 
@@ -63,19 +64,6 @@ under_less p n v w pv pw le u z d flows = fraction_trans v.cost v.d w.cost w.d (
 -- what is not less is greater
 dearer : (x y : ℤ) → (x ≤ℤ y → ⊥) → y ≤ℤ x
 dearer x y h = not_greater y x (λ e. h (let l : x <ℤ y = int_ranked y x Greater (sym e) in omega (arith, ints)))
-
-moved_spent : (p : Problem) (s new : Growing) (at count : ℕ) → new.budget ≡ s.budget → new.best ≡ s.best → new.pool ≡ s.pool → IsSpentAt p s at count → IsSpentAt p new at count
-moved_spent p s new at count eu eb ep h = record {
-  value = h.value;
-  material = h.material;
-  can = subst (λ (l : Pooled Cell). CanBranch p l.payloads at h.material h.value) (sym ep) h.can;
-  first = subst (λ (l : Pooled Cell). IsFirst (IsUndecided (shape_of p) (place_of (cell_at l.payloads at))) h.material) (sym ep) h.first;
-  least = subst (λ (l : Pooled Cell). IsLeastOpen p l.payloads at h.value) (sym ep) h.least;
-  below = subst (λ (w : Option claims.Network). LastIsBelow (Some h.value) (claimed_cost (claim_with w))) (sym eb) h.below;
-  pending = subst (λ (l : Pooled Cell). (j : ℕ) → j < length l.payloads → (cell_at l.payloads j).end ≡ leaf untried → IsPending p (place_of (cell_at l.payloads j))) (sym ep) h.pending;
-  count_is = subst (λ (l : Pooled Cell). count ≡ length (options (shape_of p) (place_of (cell_at l.payloads at)) h.material)) (sym ep) h.count_is;
-  over = subst (λ (l : Pooled Cell). new.budget < length l.payloads + count) (sym ep) (subst (λ b. b < length s.pool.payloads + count) (sym eu) h.over);
-}
 
 -- no leaf is open where none is first
 pub whole : (p : Problem) (s : Growing) → IsGrowing p s → first s.pool.leaves ≡ None → (i : ℕ) → i < length s.pool.payloads → (cell_at s.pool.payloads i).end ≡ leaf untried → ⊥
@@ -104,6 +92,31 @@ module _ (p : Problem) (valid : IsValid p) (s : Growing) (g : IsGrowing p s) (at
 
   pub ready_known : (r : Option Ready) (q : Ready) → r ≡ get_or s.ready.items at None → r ≡ Some q → IsReady p (place_of (cell_at s.pool.payloads at)) at_hand.value q
   ready_known r q e n = subst (λ (o : Option Ready). IsSomeReady p (place_of (cell_at s.pool.payloads at)) at_hand.value o) (sym e ∙ n) at_hand.some
+
+  pub record IsHand : Type 0 where
+    pub ready : Ready
+    pub is : get_or s.ready.items at None ≡ Some ready
+    pub known : IsReady p (place_of (cell_at s.pool.payloads at)) at_hand.value ready
+
+  pub hand : IsHand
+  hand = by (get_or s.ready.items at None) refl at_hand.some
+    where
+      by : (r : Option Ready) → get_or s.ready.items at None ≡ r → IsSomeReady p (place_of (cell_at s.pool.payloads at)) at_hand.value r → IsHand
+      by None e k = absurd k
+      by (Some r) e k = record { ready = r; is = e; known = k }
+
+  -- the material that is at hand is to decide
+  pub first_undecided : (m : ℕ) → m ≡ material_of (get_or s.ready.items at None) → IsUndecided (shape_of p) (place_of (cell_at s.pool.payloads at)) m
+  first_undecided m e = subst (λ x. IsUndecided (shape_of p) (place_of (cell_at s.pool.payloads at)) x) (sym (e ∙ ap (λ (r : Option Ready). material_of r) hand.is)) hand.known.first.0
+
+  pub first_known : (m : ℕ) → m ≡ material_of (get_or s.ready.items at None) → m < length p.materials
+  first_known m e = let u = first_undecided m e in (proper_if_valid p valid).output_known u.some.0 m u.some.2
+
+  pub first_is : (m : ℕ) → m ≡ material_of (get_or s.ready.items at None) → m ≡ hand.ready.material
+  first_is m e = e ∙ ap (λ (r : Option Ready). material_of r) hand.is
+
+  pub sound_there : IsSound (shape_of p) (place_of (cell_at s.pool.payloads at))
+  sound_there = g.tree.kept.sound at there
 
   -- the leaf is a least one
   no_less : (j : ℕ) → has s.pool.leaves j ≡ true → (j ≡ at → ⊥) → (w : Frac) → slice_get s.pool.values j ≡ Some w → IsNoMore (cost_over at_hand.value) (cost_over w)
@@ -145,8 +158,8 @@ module _ (p : Problem) (valid : IsValid p) (s : Growing) (g : IsGrowing p s) (at
       under_less p (place_of (cell_at s.pool.payloads j)) (cost_over at_hand.value) (cost_over o.value) (valued q k).positive u.positive
       (no_less j (g.are_open j lt ∙ leaf_open (cell_at s.pool.payloads j).end e) ne o.value o.value_is) u.under
 
-  can_branch : (q : Ready) → IsReady p (place_of (cell_at s.pool.payloads at)) at_hand.value q → CanBranch p s.pool.payloads at q.material (cost_over at_hand.value)
-  can_branch q k = record { there = there; is_open = untried_there; reduced = k.reduced; undecided = k.first.0; value = valued q k }
+  can_branch : (q : Ready) → IsReady p (place_of (cell_at s.pool.payloads at)) at_hand.value q → (x : ℕ) → IsUndecided (shape_of p) (place_of (cell_at s.pool.payloads at)) x → CanBranch p s.pool.payloads at x (cost_over at_hand.value)
+  can_branch q k x u = record { there = there; is_open = untried_there; reduced = k.reduced; undecided = u; value = valued q k }
 
   pending : (j : ℕ) → j < length s.pool.payloads → (cell_at s.pool.payloads j).end ≡ leaf untried → IsPending p (place_of (cell_at s.pool.payloads j))
   pending j lt e =
@@ -155,6 +168,9 @@ module _ (p : Problem) (valid : IsValid p) (s : Growing) (g : IsGrowing p s) (at
       record { reduced = o.known.reduced; undecided = (o.ready.material, o.known.first.0); relaxed = record { sizes = r.sizes; d = r.d; relaxed = r.relaxed; at_most = tt } }
 
   -- where the best network is dearer, the value is below it
+  pub beaten_at : (q : Ready) → IsReady p (place_of (cell_at s.pool.payloads at)) at_hand.value q → ((v : Frac) → slice_get s.pool.values at ≡ Some v → IsBeaten s.best v) → IsBeaten s.best q.bound.value
+  beaten_at q k h = subst (λ (v : Frac). IsBeaten s.best v) (sym k.value_is) (h at_hand.value at_hand.value_is)
+
   not_beaten : (best : Option claims.Network) (v : Frac) → (IsBeaten best v → ⊥) → LastIsBelow (Some (cost_over v)) (claimed_cost (claim_with best))
   not_beaten None v h = tt
   not_beaten (Some w) v h = dearer (w.cost *ℤ v.den) (v.num *ℤ w.d) h
@@ -181,11 +197,11 @@ module _ (p : Problem) (valid : IsValid p) (s : Growing) (g : IsGrowing p s) (at
       some_best None b = absurd b
       some_best (Some w) b = refl
 
-      pub shut_turn : (new : Growing) → new.start ≡ s.start → new.budget ≡ s.budget → new.best ≡ s.best
+      pub shut_turn : (new : Growing) → new.start ≡ s.start → new.budget ≡ s.budget → new.nodes ≡ s.nodes → new.best ≡ s.best → new.halt ≡ s.halt
           → new.pool.payloads ≡ slice_set s.pool.payloads at (as_shut (cell_at s.pool.payloads at) (leaf (bounded q.bound.scaled.d q.bound.scaled.ys)))
-          → new.pool.values ≡ s.pool.values → AreOpen new.pool → new.ready.items ≡ slice_set s.ready.items at None → IsGrowing p new × (turns_left new < turns_left s)
-      shut_turn new es eu eb ec ev ao er = (
-        record {
+          → new.pool.values ≡ s.pool.values → AreOpen new.pool → new.ready.items ≡ slice_set s.ready.items at None → IsShutting p s new
+      shut_turn new es eu en eb eh ec ev ao er = record {
+        growing = record {
           tree = record {
             last = g.tree.last;
             kept = subst (λ (cs : List Cell). IsKept p (node_of new.start) (claim_with new.best) g.tree.last cs) (sym ec)
@@ -197,6 +213,7 @@ module _ (p : Problem) (valid : IsValid p) (s : Growing) (g : IsGrowing p s) (at
             known = subst (λ (cs : List Cell). AreKnown p cs) (sym ec)
                 (known_set p s.pool.payloads at (as_shut (cell_at s.pool.payloads at) (leaf (bounded q.bound.scaled.d q.bound.scaled.ys))) g.tree.known there
                 (known_end p (cell_at s.pool.payloads at) (as_shut (cell_at s.pool.payloads at) (leaf (bounded q.bound.scaled.d q.bound.scaled.ys))) (g.tree.known at there) refl refl numbers));
+            counted = en ∙ (g.tree.counted ∙ sym same_count);
             few = let a = same_count in let b = g.tree.few in let c = eu in omega (arith, a, b, c);
             numbered = subst (λ n. n < 2 ^ 32 - 1) (sym same_count) g.tree.numbered;
           };
@@ -205,164 +222,149 @@ module _ (p : Problem) (valid : IsValid p) (s : Growing) (g : IsGrowing p s) (at
               (subst (λ (vs : List Frac). AreReady p new.pool.payloads vs (slice_set s.ready.items at None)) (sym ev)
               (subst (λ (cs : List Cell). AreReady p cs s.pool.values (slice_set s.ready.items at None)) (sym ec)
               (ready_shut p s.pool.payloads s.pool.values s.ready.items at (as_shut (cell_at s.pool.payloads at) (leaf (bounded q.bound.scaled.d q.bound.scaled.ys))) g.ready refl)));
-        },
-        (let a = same_count in
-            let b = ap (λ (cs : List Cell). open_count cs) ec in
+        };
+        fewer = let b = ap (λ (cs : List Cell). open_count cs) ec in
             let c = count_shut s.pool.payloads at (as_shut (cell_at s.pool.payloads at) (leaf (bounded q.bound.scaled.d q.bound.scaled.ys))) there opens refl in
-            let d = eu in
-            fewer new.budget s.budget (length new.pool.payloads) (length s.pool.payloads) (open_count new.pool.payloads) (open_count s.pool.payloads) d a (ap (λ i. i + 1) b ∙ c)),
-      )
+            omega (arith, b, c);
+        len = same_count;
+        start = es;
+        budget = eu;
+        halt = eh;
+      }
         where
           same_count : length new.pool.payloads ≡ length s.pool.payloads
           same_count = ap (λ (cs : List Cell). length cs) ec ∙ length-set s.pool.payloads at (as_shut (cell_at s.pool.payloads at) (leaf (bounded q.bound.scaled.d q.bound.scaled.ys)))
 
-          fewer : (b b' n n' o o' : ℕ) → b ≡ b' → n ≡ n' → o + 1 ≡ o' → (b - n) + o < (b' - n') + o'
-          fewer b b' n n' o o' eb en eo = subst (λ i. (b - n) + o < (i - n') + o') eb (subst (λ i. (b - n) + o < (b - i) + o') en (omega (arith, eo)))
-
-    -- ---- the budget is spent
-    pub spent_turn : (new : Growing) (count : ℕ) → new.start ≡ s.start → new.budget ≡ s.budget → new.best ≡ s.best → new.pool ≡ s.pool → (IsBeaten s.best q.bound.value → ⊥)
-        → count ≡ length (options (shape_of p) (place_of (cell_at s.pool.payloads at)) q.material) → s.budget < length s.pool.payloads + count → IsTreeKept p new × IsSpentAt p new at count
-    spent_turn new count es eu eb ep nb ec over = (tree_same, spent)
-      where
-        tree_same : IsTreeKept p new
-        tree_same = record {
-          last = g.tree.last;
-          kept = subst (λ (l : Pooled Cell). IsKept p (node_of new.start) (claim_with new.best) g.tree.last l.payloads) (sym ep)
-              (subst (λ (w : Option claims.Network). IsKept p (node_of new.start) (claim_with w) g.tree.last s.pool.payloads) (sym eb)
-              (subst (λ (n : starts.Node). IsKept p (node_of n) (claim_with s.best) g.tree.last s.pool.payloads) (sym es) g.tree.kept));
-          passes = subst (λ (w : Option claims.Network). ClaimPasses true p (claim_with w)) (sym eb) g.tree.passes;
-          bounded = subst (λ (l : Pooled Cell). is_some new.best ≡ has_bounded l.payloads) (sym ep) (ap (λ (w : Option claims.Network). is_some w) eb ∙ g.tree.bounded);
-          known = subst (λ (l : Pooled Cell). AreKnown p l.payloads) (sym ep) g.tree.known;
-          few = let a = ap (λ (l : Pooled Cell). length l.payloads) ep in let b = g.tree.few in let c = eu in omega (arith, a, b, c);
-          numbered = subst (λ (l : Pooled Cell). length l.payloads < 2 ^ 32 - 1) (sym ep) g.tree.numbered;
-        }
-
-        spent_here : IsSpentAt p s at count
-        spent_here = record {
-          value = cost_over at_hand.value;
-          material = q.material;
-          can = can_branch q k;
-          first = k.first;
-          least = least q k;
-          below = subst (λ (v : Frac). LastIsBelow (Some (cost_over v)) (claimed_cost (claim_with s.best))) k.value_is (not_beaten s.best q.bound.value nb);
-          pending = pending;
-          count_is = ec;
-          over = over;
-        }
-
-        spent : IsSpentAt p new at count
-        spent = moved_spent p s new at count eu eb ep spent_here
-
-    -- ---- the leaf is branched
-    module _ (Past : PastPlaces) (new : Growing) (t : Turn) (nb : IsBeaten s.best q.bound.value → ⊥)
-        (few : length s.pool.payloads + length (options (shape_of p) (place_of (cell_at s.pool.payloads at)) q.material) ≤ s.budget)
-        (c : Children) (seen : AreSeen Past p (place_of (cell_at s.pool.payloads at)) q.material c)
-        (ec : new.pool.payloads ≡ slice_set s.pool.payloads at (as_branch (cell_at s.pool.payloads at) (length s.pool.payloads) q.material (length (cells_of c.kids.items))) ++ cells_of c.kids.items)
-        (ev : new.pool.values ≡ s.pool.values ++ values_of c.kids.items) (mid : List (Option Ready)) (em : mid ≡ slice_set s.ready.items at None) (er : new.ready.items ≡ mid ++ c.ready.items)
-        (which : (new.best ≡ s.best) ⊎ (new.best ≡ c.best)) (fallen : HasFallen (cost_of s.best) (cost_of new.best)) (fallen_found : HasFallen (cost_of c.best) (cost_of new.best))
-        (some_new : is_some new.best ≡ (is_some s.best || is_some c.best)) (numbered : length s.pool.payloads + length (cells_of c.kids.items) < 2 ^ 32 - 1) (ao : AreOpen new.pool) (es : new.start ≡ s.start) (eu : new.budget ≡ s.budget) where
-      abbrev kids : List Cell
-      kids = cells_of c.kids.items
-
-      abbrev now : Cell
-      now = as_branch (cell_at s.pool.payloads at) (length s.pool.payloads) q.material (length kids)
-
-      branched : IsBranched s.pool.payloads (cells_of c.kids.items) new.pool.payloads at q.material
-      branched = subst (λ (cs : List Cell). IsBranched s.pool.payloads (cells_of c.kids.items) cs at q.material) (sym ec) (growth_branches s.pool.payloads (cells_of c.kids.items) at q.material there)
-
-      kid_count : length (cells_of c.kids.items) ≡ length (options (shape_of p) (place_of (cell_at s.pool.payloads at)) q.material)
-      kid_count = length-map c.kids.items (λ (f : Fresh). f.cell) ∙ count_seen Past p (place_of (cell_at s.pool.payloads at)) q.material c seen
+    -- ---- no network beats the leaf
+    module _ (lb : LeastIsBelow s) where
+      nb : IsBeaten s.best at_hand.value → ⊥
+      nb b = lb at at_hand.value there is_first at_hand.value_is b
 
       last_below : LastIsBelow (Some (cost_over at_hand.value)) (claimed_cost (claim_with s.best))
-      last_below = subst (λ (v : Frac). LastIsBelow (Some (cost_over v)) (claimed_cost (claim_with s.best))) k.value_is (not_beaten s.best q.bound.value nb)
+      last_below = not_beaten s.best at_hand.value nb
 
-      improved : IsImproved p (place_of (cell_at s.pool.payloads at)) s.best new.best
-      improved = improved_after p (place_of (cell_at s.pool.payloads at)) s.best c.best new.best (best_of p s g.tree) seen.found which fallen fallen_found
-
-      children_now : AreChildren p (claimed_cost (claim_with new.best)) (place_of (cell_at s.pool.payloads at)) q.material (cells_of c.kids.items)
-      children_now = children_after p (place_of (cell_at s.pool.payloads at)) s.best c.best new.best (best_of p s g.tree) seen.found which fallen fallen_found q.material (cells_of c.kids.items) seen.children
-
-      kept_now : IsKept p (node_of s.start) (claim_with new.best) (Some (cost_over at_hand.value)) new.pool.payloads
-      kept_now =
-          branching_is_kept p valid (node_of s.start) (claim_with s.best) (claim_with new.best) g.tree.last (cost_over at_hand.value) s.pool.payloads (cells_of c.kids.items) new.pool.payloads at q.material
-          g.tree.kept (can_branch q k) (least q k) improved.fallen improved.best.positive
-          (improved.below (cost_over at_hand.value) (valued q k).positive (valued q k).under last_below) children_now branched
-
-      known_now : AreKnown p new.pool.payloads
-      known_now = subst (λ (cs : List Cell). AreKnown p cs) (sym ec)
-          (known_more p (slice_set s.pool.payloads at now) (cells_of c.kids.items)
-          (known_set p s.pool.payloads at now g.tree.known there
-          (known_end p (cell_at s.pool.payloads at) now (g.tree.known at there) refl refl
-          (material_known k.first.0)))
-          (λ i lt. seen.known i (let b = length-map c.kids.items (λ (f : Fresh). f.cell) in omega (arith, lt, b))))
-        where
-          material_known : IsUndecided (shape_of p) (place_of (cell_at s.pool.payloads at)) q.material → q.material < length p.materials
-          material_known u = (proper_if_valid p valid).output_known u.some.0 q.material u.some.2
-
-      bounded_now : is_some new.best ≡ has_bounded new.pool.payloads
-      bounded_now =
-          some_new
-          ∙ (ap (λ b. b || is_some c.best) g.tree.bounded ∙ ap (λ b. has_bounded s.pool.payloads || b) seen.bounded)
-          ∙ sym (ap (λ (cs : List Cell). has_bounded cs) ec
-          ∙ (bounded_more (slice_set s.pool.payloads at now) (cells_of c.kids.items)
-          ∙ ap (λ b. b || has_bounded (cells_of c.kids.items)) (bounded_set s.pool.payloads at now there (open_unbounded (cell_at s.pool.payloads at).end untried_there))))
-
-      longer : length new.pool.payloads ≡ length s.pool.payloads + length (cells_of c.kids.items)
-      longer = branched.len
-
-      tree_now : IsTreeKept p new
-      tree_now = record {
-        last = Some (cost_over at_hand.value);
-        kept = subst (λ (n : starts.Node). IsKept p (node_of n) (claim_with new.best) (Some (cost_over at_hand.value)) new.pool.payloads) (sym es) kept_now;
-        passes = improved.best.passes;
-        bounded = bounded_now;
-        known = known_now;
-        few = let a = longer in let b = kid_count in let d = few in let e = eu in omega (arith, a, b, d, e);
-        numbered = subst (λ n. n < 2 ^ 32 - 1) (sym longer) numbered;
+      -- ---- the budget is spent
+      pub spent_here : (count : ℕ) → count ≡ length (options (shape_of p) (place_of (cell_at s.pool.payloads at)) q.material) → s.budget < length s.pool.payloads + count → IsSpentAt p s at count
+      spent_here count ec over = record {
+        value = cost_over at_hand.value;
+        material = q.material;
+        can = can_branch q k q.material k.first.0;
+        first = k.first;
+        least = least q k;
+        below = last_below;
+        pending = pending;
+        count_is = ec;
+        over = over;
       }
 
-      ready_now : AreReady p (cells_of c.kids.items) (values_of c.kids.items) c.ready.items → AreReady p new.pool.payloads new.pool.values new.ready.items
-      ready_now h =
-          subst (λ (rs : List (Option Ready)). AreReady p new.pool.payloads new.pool.values rs) (sym (er ∙ ap (λ (rs : List (Option Ready)). rs ++ c.ready.items) em))
-          (subst (λ (vs : List Frac). AreReady p new.pool.payloads vs (slice_set s.ready.items at None ++ c.ready.items)) (sym ev)
-          (subst (λ (cs : List Cell). AreReady p cs (s.pool.values ++ values_of c.kids.items) (slice_set s.ready.items at None ++ c.ready.items)) (sym ec)
-          (ready_more p (slice_set s.pool.payloads at now) s.pool.values (slice_set s.ready.items at None) (cells_of c.kids.items) (values_of c.kids.items) c.ready.items
-          (ready_shut p s.pool.payloads s.pool.values s.ready.items at now g.ready refl) h)))
+      -- ---- the leaf is branched
+      module _ (Past : PastPlaces) (new : Growing) (x : ℕ) (undecided : IsUndecided (shape_of p) (place_of (cell_at s.pool.payloads at)) x)
+          (few : length s.pool.payloads + length (options (shape_of p) (place_of (cell_at s.pool.payloads at)) x) ≤ s.budget)
+          (c : Children) (seen : AreSeen Past p (place_of (cell_at s.pool.payloads at)) x c)
+          (ec : new.pool.payloads ≡ slice_set s.pool.payloads at (as_branch (cell_at s.pool.payloads at) (length s.pool.payloads) x (length (cells_of c.kids.items))) ++ cells_of c.kids.items)
+          (ev : new.pool.values ≡ s.pool.values ++ values_of c.kids.items) (er : new.ready.items ≡ s.ready.items ++ c.ready.items)
+          (which : (new.best ≡ s.best) ⊎ (new.best ≡ c.best)) (fallen : HasFallen (cost_of s.best) (cost_of new.best)) (fallen_found : HasFallen (cost_of c.best) (cost_of new.best))
+          (some_new : is_some new.best ≡ (is_some s.best || is_some c.best)) (numbered : length s.pool.payloads + length (cells_of c.kids.items) < 2 ^ 32 - 1) (ao : AreOpen new.pool) (es : new.start ≡ s.start) (eu : new.budget ≡ s.budget)
+          (en : new.nodes ≡ s.nodes + length (cells_of c.kids.items)) where
+        abbrev kids : List Cell
+        kids = cells_of c.kids.items
 
-      fewer_now : turns_left new < turns_left s
-      fewer_now =
-          let a = ap (λ (cs : List Cell). open_count cs) ec ∙ count_more (slice_set s.pool.payloads at now) (cells_of c.kids.items) in
-          let b = count_shut s.pool.payloads at now there opens refl in
-          let d = count_within (cells_of c.kids.items) in
-          by new.budget s.budget (length s.pool.payloads) (length new.pool.payloads) (length (cells_of c.kids.items)) (open_count new.pool.payloads) (open_count (slice_set s.pool.payloads at now)) (open_count s.pool.payloads) (open_count (cells_of c.kids.items))
-          eu longer (let x = few in let y = kid_count in omega (arith, x, y)) a b d
-        where
-          by : (u u' n m j o o1 o' i : ℕ) → u ≡ u' → m ≡ n + j → n + j ≤ u' → o ≡ o1 + i → o1 + 1 ≡ o' → i ≤ j → (u - m) + o < (u' - n) + o'
-          by u u' n m j o o1 o' i eu em le eo e1 li = subst (λ z. (z - m) + o < (u' - n) + o') (sym eu) (subst (λ z. (u' - z) + o < (u' - n) + o') (sym em) (omega (arith, le, eo, e1, li)))
+        abbrev now : Cell
+        now = as_branch (cell_at s.pool.payloads at) (length s.pool.payloads) x (length kids)
 
-      turn_by : (h : Option HaltedAt) → HaltHolds Past p c.kids.items c.ready.items h → TurnHolds Past p s new (turn_after (length s.pool.payloads) h)
-      turn_by None h = (record { tree = tree_now; are_open = ao; ready = ready_now h }, fewer_now)
-      turn_by (Some w) h =
-          let lt : w.at < length (cells_of c.kids.items) = let a = h.0 in let b = length-map c.kids.items (λ (f : Fresh). f.cell) in omega (arith, a, b) in
-          let here : cell_at new.pool.payloads (length s.pool.payloads + w.at) ≡ cell_at (cells_of c.kids.items) w.at = branched.kids_are w.at lt in (
-            tree_now,
-            record {
-              there = let a = longer in omega (arith, a, lt);
-              is_open = subst (λ (d : Cell). d.end ≡ leaf untried) (sym here) h.1;
-              halted = subst (λ (d : Cell). IsHalted Past p (place_of d) w.halt) (sym here) h.2;
-            },
-          )
+        branched : IsBranched s.pool.payloads (cells_of c.kids.items) new.pool.payloads at x
+        branched = subst (λ (cs : List Cell). IsBranched s.pool.payloads (cells_of c.kids.items) cs at x) (sym ec) (growth_branches s.pool.payloads (cells_of c.kids.items) at x there)
 
-      pub branched_turn : t ≡ turn_after (length s.pool.payloads) c.halt → TurnHolds Past p s new t
-      branched_turn et = subst (λ (u : Turn). TurnHolds Past p s new u) (sym et) (turn_by c.halt seen.halt_holds)
+        kid_count : length (cells_of c.kids.items) ≡ length (options (shape_of p) (place_of (cell_at s.pool.payloads at)) x)
+        kid_count = length-map c.kids.items (λ (f : Fresh). f.cell) ∙ count_seen Past p (place_of (cell_at s.pool.payloads at)) x c seen
 
-pub ok_map : {A B : Type 0} (P Q : A → Type 0) (r : Result A B) → ((a : A) → P a → Q a) → IfOk r P → IfOk r Q
-ok_map P Q (Ok a) f h = f a h
-ok_map P Q (Err e) f h = tt
+        improved : IsImproved p (place_of (cell_at s.pool.payloads at)) s.best new.best
+        improved = improved_after p (place_of (cell_at s.pool.payloads at)) s.best c.best new.best (best_of p s g.tree) seen.found which fallen fallen_found
 
-pub ok_on : {A B : Type 0} (P : A → Type 0) (Q : Type 0) (r : Result A B) → ((a : A) → P a → Q) → IfOk r P → OnOk r Q
-ok_on P Q (Ok a) f h = f a h
-ok_on P Q (Err e) f h = tt
+        children_now : AreChildren p (claimed_cost (claim_with new.best)) (place_of (cell_at s.pool.payloads at)) x (cells_of c.kids.items)
+        children_now = children_after p (place_of (cell_at s.pool.payloads at)) s.best c.best new.best (best_of p s g.tree) seen.found which fallen fallen_found x (cells_of c.kids.items) seen.children
+
+        kept_now : IsKept p (node_of s.start) (claim_with new.best) (Some (cost_over at_hand.value)) new.pool.payloads
+        kept_now =
+            branching_is_kept p valid (node_of s.start) (claim_with s.best) (claim_with new.best) g.tree.last (cost_over at_hand.value) s.pool.payloads (cells_of c.kids.items) new.pool.payloads at x
+            g.tree.kept (can_branch q k x undecided) (least q k) improved.fallen improved.best.positive
+            (improved.below (cost_over at_hand.value) (valued q k).positive (valued q k).under last_below) children_now branched
+
+        known_now : AreKnown p new.pool.payloads
+        known_now = subst (λ (cs : List Cell). AreKnown p cs) (sym ec)
+            (known_more p (slice_set s.pool.payloads at now) (cells_of c.kids.items)
+            (known_set p s.pool.payloads at now g.tree.known there
+            (known_end p (cell_at s.pool.payloads at) now (g.tree.known at there) refl refl
+            (material_known undecided)))
+            (λ i lt. seen.known i (let b = length-map c.kids.items (λ (f : Fresh). f.cell) in omega (arith, lt, b))))
+          where
+            material_known : IsUndecided (shape_of p) (place_of (cell_at s.pool.payloads at)) x → x < length p.materials
+            material_known u = (proper_if_valid p valid).output_known u.some.0 x u.some.2
+
+        bounded_now : is_some new.best ≡ has_bounded new.pool.payloads
+        bounded_now =
+            some_new
+            ∙ (ap (λ b. b || is_some c.best) g.tree.bounded ∙ ap (λ b. has_bounded s.pool.payloads || b) seen.bounded)
+            ∙ sym (ap (λ (cs : List Cell). has_bounded cs) ec
+            ∙ (bounded_more (slice_set s.pool.payloads at now) (cells_of c.kids.items)
+            ∙ ap (λ b. b || has_bounded (cells_of c.kids.items)) (bounded_set s.pool.payloads at now there (open_unbounded (cell_at s.pool.payloads at).end untried_there))))
+
+        longer : length new.pool.payloads ≡ length s.pool.payloads + length (cells_of c.kids.items)
+        longer = branched.len
+
+        tree_now : IsTreeKept p new
+        tree_now = record {
+          last = Some (cost_over at_hand.value);
+          kept = subst (λ (n : starts.Node). IsKept p (node_of n) (claim_with new.best) (Some (cost_over at_hand.value)) new.pool.payloads) (sym es) kept_now;
+          passes = improved.best.passes;
+          bounded = bounded_now;
+          known = known_now;
+          counted = let a = longer in let b = en in let c = g.tree.counted in omega (arith, a, b, c);
+          few = let a = longer in let b = kid_count in let d = few in let e = eu in omega (arith, a, b, d, e);
+          numbered = subst (λ n. n < 2 ^ 32 - 1) (sym longer) numbered;
+        }
+
+        ready_now : AreReady p (cells_of c.kids.items) (values_of c.kids.items) c.ready.items → AreReady p new.pool.payloads new.pool.values new.ready.items
+        ready_now h =
+            subst (λ (rs : List (Option Ready)). AreReady p new.pool.payloads new.pool.values rs) (sym er)
+            (subst (λ (vs : List Frac). AreReady p new.pool.payloads vs (s.ready.items ++ c.ready.items)) (sym ev)
+            (subst (λ (cs : List Cell). AreReady p cs (s.pool.values ++ values_of c.kids.items) (s.ready.items ++ c.ready.items)) (sym ec)
+            (ready_more p (slice_set s.pool.payloads at now) s.pool.values s.ready.items (cells_of c.kids.items) (values_of c.kids.items) c.ready.items
+            (ready_branched p s.pool.payloads s.pool.values s.ready.items at now g.ready refl) h)))
+
+        -- a leaf has at least two options
+        pub more_now : length s.pool.payloads < length new.pool.payloads
+        more_now = let a = longer in let b = kid_count in let d = two in omega (arith, a, b, d)
+          where
+            two : 2 ≤ length (options (shape_of p) (place_of (cell_at s.pool.payloads at)) x)
+            two = decisions_split (shape_of p) (place_of (cell_at s.pool.payloads at)) x k.reduced undecided
+
+        pub going_now : (h : Option HaltedAt) → HaltHolds Past p c.kids.items c.ready.items h → IsAfterBranch Past p new (halt_at (length s.pool.payloads) h)
+        going_now None h = record { tree = tree_now; are_open = ao; ready = ready_now h }
+        going_now (Some w) h =
+            let lt : w.at < length (cells_of c.kids.items) = let a = h.0 in let b = length-map c.kids.items (λ (f : Fresh). f.cell) in omega (arith, a, b) in
+            let here : cell_at new.pool.payloads (length s.pool.payloads + w.at) ≡ cell_at (cells_of c.kids.items) w.at = branched.kids_are w.at lt in (
+              tree_now,
+              record {
+                there = let a = longer in omega (arith, a, lt);
+                is_open = subst (λ (d : Cell). d.end ≡ leaf untried) (sym here) h.1;
+                halted = subst (λ (d : Cell). IsHalted Past p (place_of d) w.halt) (sym here) h.2;
+              },
+            )
+
+    -- what was branched goes on with more nodes
+    pub branched_step : LeastIsBelow s → (Past : PastPlaces) (new : Growing) (x : ℕ) (undecided : IsUndecided (shape_of p) (place_of (cell_at s.pool.payloads at)) x)
+        → length s.pool.payloads + length (options (shape_of p) (place_of (cell_at s.pool.payloads at)) x) ≤ s.budget → IsBranching Past p (place_of (cell_at s.pool.payloads at)) s new at x
+        → IsAfterBranch Past p new new.halt × (length s.pool.payloads < length new.pool.payloads)
+    branched_step lb Past new x u few b = (
+      subst (λ (o : Option HaltedLeaf). IsAfterBranch Past p new o) (sym b.halt)
+          (going_now lb Past new x u few b.seen b.are_seen b.cells b.values b.ready b.best b.fallen b.fallen_found b.some_best b.numbered b.are_open b.start b.budget b.nodes b.seen.halt b.are_seen.halt_holds),
+      more_now lb Past new x u few b.seen b.are_seen b.cells b.values b.ready b.best b.fallen b.fallen_found b.some_best b.numbered b.are_open b.start b.budget b.nodes,
+    )
 
 pub within_budget : (budget l n count k : ℕ) → l ≡ n → count ≡ k → (budget < l + count → ⊥) → n + k ≤ budget
 within_budget budget l n count k el ec h = elim (cases_lt budget (n + k)) [ inl lt ↦ absurd (h (omega (arith, el, ec, lt))) | inr le ↦ omega (arith, le) ]
+
+-- the chosen material has no more options than the first
+pub few_options : (budget nodes l count a b : ℕ) → nodes ≡ l → count ≡ a → (budget < nodes + count → ⊥) → b ≤ a → l + b ≤ budget
+few_options budget nodes l count a b el ec h le = let w = within_budget budget nodes l count a el ec h in omega (arith, w, le)

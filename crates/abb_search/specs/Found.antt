@@ -14,8 +14,8 @@ use Rattle.tree_rules.specs.Stops.{IsSpent, IsPast}
 use Rattle.branch_tree.specs.Known.{KnowsClaim, KnowsTree}
 use Rattle.node_looks.specs.Evaluated.{PastPlaces}
 use Rattle.node_looks.specs.Children.{claim_with}
-use Rattle.abb_search.specs.declared.search.Found.{Found}
-use Rattle.abb_search.specs.declared.search.Found.TheVariants.{Solved, Infeasible, Spent, Past, Memory}
+use Rattle.abb_search.specs.declared.found.Found.{Found}
+use Rattle.abb_search.specs.declared.found.Found.TheVariants.{Solved, Infeasible, Spent, Past, Memory}
 
 -- a lean tree that proves the claim, with numbers that the problem knows
 pub record IsProved (p : Problem) (start : Node) (claim : claims.Claim) (tree : Tree) : Type 0 where

@@ -1,10 +1,13 @@
 -- What a search keeps between two turns, and what a turn does.
 use Rattle.std.specs.Prelude.{◌≡◌, ◌⊎◌, ℕ, ◌+◌, ◌-◌, ◌^◌, ◌<◌, ◌≤◌, cond, true, ◌||◌, List, [], ◌∷◌, ◌++◌, length, slice_set, Option, Some, None, is_some}
+use Rattle.std.specs.List.{slice_get}
+use Rattle.link_lists.specs.Lists.{first}
 use Rattle.problem_rules.specs.Problem.{Problem}
 use Rattle.pns_rules.specs.Shape.{shape_of}
 use Rattle.pns_rules.specs.Nodes.{Node, options}
 use Rattle.pns_rules.specs.Ends.{IsUndecided, IsFirst}
 use Rattle.pgraph.specs.View.{node_of}
+use Rattle.unit_sets.specs.declared.node.Node as starts
 use Rattle.frac128.specs.declared.fraction.Frac.{Frac}
 use Rattle.tree_rules.specs.Tree.{leaf}
 use Rattle.tree_rules.specs.Claim as claims
@@ -16,15 +19,17 @@ use Rattle.search_tree.specs.Growth.{is_open, AreOpen, as_branch}
 use Rattle.turn_laws.specs.Values.{IsNoMore, HasFallen}
 use Rattle.turn_laws.specs.Kept.{LastIsBelow, IsKept}
 use Rattle.turn_laws.specs.Turns.{CanBranch, IsLeastOpen}
+use Rattle.node_pool.specs.Pooled.{AreSameNodes}
 use Rattle.node_looks.specs.declared.evaluator.Halt.{Halt}
+use Rattle.node_looks.specs.declared.looks.Ready.{Ready}
+use Rattle.node_looks.specs.declared.looks.Looked.{Looked}
 use Rattle.node_looks.specs.declared.children.HaltedAt.{HaltedAt}
 use Rattle.node_looks.specs.declared.children.Children.{Children}
 use Rattle.node_looks.specs.Evaluated.{PastPlaces, cost_over, cost_in}
-use Rattle.node_looks.specs.Looks.{has_bounded, KnowsCell, cost_of, IsHalted}
+use Rattle.node_looks.specs.Looks.{has_bounded, KnowsCell, cost_of, IsHalted, IsLooked}
 use Rattle.node_looks.specs.Children.{claim_with, cells_of, values_of, AreReady, AreSeen}
 use Rattle.abb_search.specs.declared.growing.Growing.{Growing}
-use Rattle.abb_search.specs.declared.growing.Turn.{Turn}
-use Rattle.abb_search.specs.declared.growing.Turn.TheVariants.{More, Whole, Spent, Halted}
+use Rattle.abb_search.specs.declared.growing.HaltedLeaf.{HaltedLeaf}
 
 -- the tree is one that a search keeps, with numbers that the problem knows; the best network passes, and there is one exactly where
 -- a leaf is bounded
@@ -34,6 +39,7 @@ pub record IsTreeKept (p : Problem) (s : Growing) : Type 0 where
   pub passes : ClaimPasses true p (claim_with s.best)
   pub bounded : is_some s.best ≡ has_bounded s.pool.payloads
   pub known : (i : ℕ) → i < length s.pool.payloads → KnowsCell p (cell_at s.pool.payloads i)
+  pub counted : s.nodes ≡ length s.pool.payloads
   pub few : length s.pool.payloads ≤ s.budget
   pub numbered : length s.pool.payloads < 2 ^ 32 - 1
 
@@ -43,28 +49,96 @@ pub record IsGrowing (p : Problem) (s : Growing) : Type 0 where
   pub are_open : AreOpen s.pool
   pub ready : AreReady p s.pool.payloads s.pool.values s.ready.items
 
--- a turn makes the nodes more that the budget leaves, or the open leaves fewer
+-- the least material that is to decide at an open leaf
+abbrev pub material_of : Option Ready → ℕ
+material_of None = 0
+material_of (Some r) = r.material
+
+-- how many leaves are open
 abbrev pub open_count : List Cell → ℕ
 open_count [] = 0
 open_count (c ∷ cs) = cond (is_open c.end) 1 0 + open_count cs
-
-abbrev pub turns_left : Growing → ℕ
-turns_left s = (s.budget - length s.pool.payloads) + open_count s.pool.payloads
 
 -- the network costs no more than the value
 abbrev pub IsBeaten : Option claims.Network → Frac → Type 0
 IsBeaten None value = ⊥
 IsBeaten (Some w) value = IsNoMore (cost_in w) (cost_over value)
 
+-- the best network costs more than the least value of an open leaf
+abbrev pub LeastIsBelow : Growing → Type 0
+LeastIsBelow s = (at : ℕ) (v : Frac) → at < length s.pool.payloads → first s.pool.leaves ≡ Some at → slice_get s.pool.values at ≡ Some v → IsBeaten s.best v → ⊥
+
+-- ---- a leaf that halts the search
+
+abbrev pub leaf_of : Option HaltedLeaf → Option ℕ
+leaf_of None = None
+leaf_of (Some h) = Some h.leaf
+
+-- the leaf is open and halts the search
+pub record IsHaltedAt (Past : PastPlaces) (p : Problem) (s : Growing) (at : ℕ) (h : Halt) : Type 0 where
+  pub there : at < length s.pool.payloads
+  pub is_open : (cell_at s.pool.payloads at).end ≡ leaf untried
+  pub halted : IsHalted Past p (place_of (cell_at s.pool.payloads at)) h
+
+-- between two turns: all is at hand for each open leaf, and none is beaten; or one halts the search
+abbrev pub GoesOn : PastPlaces → Problem → Growing → Option HaltedLeaf → Type 0
+GoesOn Past p s None = IsGrowing p s × LeastIsBelow s
+GoesOn Past p s (Some h) = IsTreeKept p s × IsHaltedAt Past p s h.leaf h.halt
+
+abbrev pub IsGoing : PastPlaces → Problem → Growing → Type 0
+IsGoing Past p s = GoesOn Past p s s.halt
+
+-- ---- the root
+
+-- the root as an open leaf without steps
+abbrev pub open_cell : starts.Node → Cell
+open_cell n = record { option = []; steps = []; node = n; first = 0; end = leaf untried; key = 0 }
+
+-- the tree is the open root
+pub record IsOpenRoot (start : starts.Node) (budget : ℕ) (s : Growing) : Type 0 where
+  pub start_is : s.start ≡ start
+  pub budget_is : s.budget ≡ budget
+  pub nodes_are : s.nodes ≡ 1
+  pub cells_are : s.pool.payloads ≡ open_cell start ∷ []
+  pub none : s.best ≡ None
+
+abbrev pub root_halt : Option Halt → Option HaltedLeaf
+root_halt None = None
+root_halt (Some h) = Some (record { leaf = 0; halt = h })
+
+-- the tree is the root as it is seen
+pub record IsLookedRoot (Past : PastPlaces) (p : Problem) (start : starts.Node) (budget : ℕ) (s : Growing) : Type 0 where
+  pub looked : Looked
+  pub is_looked : IsLooked Past p (node_of start) [] looked
+  pub start_is : s.start ≡ start
+  pub budget_is : s.budget ≡ budget
+  pub nodes_are : s.nodes ≡ 1
+  pub cells_are : s.pool.payloads ≡ looked.cell ∷ []
+  pub values_are : s.pool.values ≡ looked.value ∷ []
+  pub ready_is : s.ready.items ≡ looked.ready ∷ []
+  pub best_is : s.best ≡ looked.network
+  pub halt_is : s.halt ≡ root_halt looked.halt
+  pub are_open : AreOpen s.pool
+
 -- ---- a leaf is branched
 
-abbrev pub turn_after : ℕ → Option HaltedAt → Turn
-turn_after first None = More
-turn_after first (Some h) = Halted (first + h.at) h.halt
+-- the nodes and all that is kept with them are as before; only the room that stands ready may be more
+pub record IsSame (old new : Growing) : Type 0 where
+  pub start : new.start ≡ old.start
+  pub budget : new.budget ≡ old.budget
+  pub nodes : new.nodes ≡ old.nodes
+  pub pool : AreSameNodes old.pool new.pool
+  pub ready : new.ready.items ≡ old.ready.items
+  pub best : new.best ≡ old.best
+  pub halt : new.halt ≡ old.halt
+
+abbrev pub halt_at : ℕ → Option HaltedAt → Option HaltedLeaf
+halt_at first None = None
+halt_at first (Some h) = Some (record { leaf = first + h.at; halt = h.halt })
 
 -- leaf `at` is branched at the material x, at the node n, and its children are as they are seen; the best network is then the cheaper
 -- one of the two
-pub record IsBranching (Past : PastPlaces) (p : Problem) (n : Node) (old new : Growing) (at x : ℕ) (t : Turn) : Type 0 where
+pub record IsBranching (Past : PastPlaces) (p : Problem) (n : Node) (old new : Growing) (at x : ℕ) : Type 0 where
   pub seen : Children
   pub are_seen : AreSeen Past p n x seen
   pub cells : new.pool.payloads ≡ slice_set old.pool.payloads at (as_branch (cell_at old.pool.payloads at) (length old.pool.payloads) x (length (cells_of seen.kids.items))) ++ cells_of seen.kids.items
@@ -74,13 +148,39 @@ pub record IsBranching (Past : PastPlaces) (p : Problem) (n : Node) (old new : G
   pub fallen : HasFallen (cost_of old.best) (cost_of new.best)
   pub fallen_found : HasFallen (cost_of seen.best) (cost_of new.best)
   pub some_best : is_some new.best ≡ (is_some old.best || is_some seen.best)
+  pub nodes : new.nodes ≡ old.nodes + length (cells_of seen.kids.items)
   pub numbered : length old.pool.payloads + length (cells_of seen.kids.items) < 2 ^ 32 - 1
   pub are_open : AreOpen new.pool
   pub start : new.start ≡ old.start
   pub budget : new.budget ≡ old.budget
-  pub turn_is : t ≡ turn_after (length old.pool.payloads) seen.halt
+  pub halt : new.halt ≡ halt_at (length old.pool.payloads) seen.halt
 
--- ---- what a turn answers
+-- then all is at hand for each open leaf, or one halts the search
+abbrev pub IsAfterBranch : PastPlaces → Problem → Growing → Option HaltedLeaf → Type 0
+IsAfterBranch Past p s None = IsGrowing p s
+IsAfterBranch Past p s (Some h) = IsTreeKept p s × IsHaltedAt Past p s h.leaf h.halt
+
+-- ---- open leaves are shut
+
+-- an open leaf is shut
+pub record IsShutting (p : Problem) (old new : Growing) : Type 0 where
+  pub growing : IsGrowing p new
+  pub fewer : open_count new.pool.payloads < open_count old.pool.payloads
+  pub len : length new.pool.payloads ≡ length old.pool.payloads
+  pub start : new.start ≡ old.start
+  pub budget : new.budget ≡ old.budget
+  pub halt : new.halt ≡ old.halt
+
+-- open leaves are shut until none is beaten
+pub record IsShutDown (p : Problem) (old new : Growing) : Type 0 where
+  pub growing : IsGrowing p new
+  pub below : LeastIsBelow new
+  pub len : length new.pool.payloads ≡ length old.pool.payloads
+  pub start : new.start ≡ old.start
+  pub budget : new.budget ≡ old.budget
+  pub halt : new.halt ≡ old.halt
+
+-- ---- the budget is spent
 
 -- all open leaves are pending, the leaf is a least one, and the nodes with its children are more than the budget
 pub record IsSpentAt (p : Problem) (s : Growing) (at count : ℕ) : Type 0 where
@@ -93,15 +193,3 @@ pub record IsSpentAt (p : Problem) (s : Growing) (at count : ℕ) : Type 0 where
   pub pending : (j : ℕ) → j < length s.pool.payloads → (cell_at s.pool.payloads j).end ≡ leaf untried → IsPending p (place_of (cell_at s.pool.payloads j))
   pub count_is : count ≡ length (options (shape_of p) (place_of (cell_at s.pool.payloads at)) material)
   pub over : s.budget < length s.pool.payloads + count
-
--- the leaf is open and halts the search
-pub record IsHaltedAt (Past : PastPlaces) (p : Problem) (s : Growing) (at : ℕ) (h : Halt) : Type 0 where
-  pub there : at < length s.pool.payloads
-  pub is_open : (cell_at s.pool.payloads at).end ≡ leaf untried
-  pub halted : IsHalted Past p (place_of (cell_at s.pool.payloads at)) h
-
-abbrev pub TurnHolds : PastPlaces → Problem → Growing → Growing → Turn → Type 0
-TurnHolds Past p old new More = IsGrowing p new × (turns_left new < turns_left old)
-TurnHolds Past p old new Whole = IsTreeKept p new × ((i : ℕ) → i < length new.pool.payloads → (cell_at new.pool.payloads i).end ≡ leaf untried → ⊥)
-TurnHolds Past p old new (Spent at count) = IsTreeKept p new × IsSpentAt p new at count
-TurnHolds Past p old new (Halted at h) = IsTreeKept p new × IsHaltedAt Past p new at h

@@ -1,2 +1,4 @@
+pub mod Answers
 pub mod Found
 pub mod Growing
+pub mod Searched

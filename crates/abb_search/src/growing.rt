@@ -1,6 +1,9 @@
-//! The tree while it grows, and a turn of the search.
-ghost use Rattle.std.specs.Prelude.{◌≡◌, ◌↔◌, ◌<◌, ◌≤◌, ◌+◌, ◌-◌, ◌^◌, get_or, slice_set, true, IsTrue, Some, None, IfSome, IfOk, OnOk, length};
-ghost use Rattle.link_lists.specs.Lists.{has};
+//! The tree while it grows.
+ghost use Rattle.std.specs.Prelude.{◌≡◌, ◌↔◌, ◌<◌, ◌≤◌, ◌+◌, ◌-◌, ◌^◌, ℕ, get_or, slice_set, true, IsTrue, Some, None, IfOk, OnOk, OnErr, MatchOption, length};
+ghost use Rattle.std.specs.List.{slice_get};
+ghost use Rattle.number_sets.specs.Sets as sets;
+ghost use Rattle.link_lists.specs.Lists.{has, first};
+ghost use Rattle.frac128.specs.declared.fraction.Frac.{Frac};
 ghost use Rattle.pns_rules.specs.Shape.{shape_of};
 ghost use Rattle.pns_rules.specs.Nodes.{options};
 ghost use Rattle.pns_rules.specs.Ends.{IsSound, IsReduced, IsUndecided};
@@ -9,9 +12,9 @@ ghost use Rattle.pgraph.specs.View.{node_of};
 ghost use Rattle.search_tree.specs.Cells.{cell_at};
 ghost use Rattle.search_tree.specs.Growth.{AreOpen};
 ghost use Rattle.neutral_extension.specs.Candidates.{AreMakersOf};
-ghost use Rattle.abb_search.specs.Growing.{IsGrowing, IsBeaten, IsBranching, turn_after, TurnHolds};
+ghost use Rattle.abb_search.specs.Growing.{IsGrowing, IsBeaten, IsBranching, IsShutting, IsShutDown, IsSame, halt_at, leaf_of, material_of};
 
-use branch_choice::option_count;
+use branch_choice::fewest_options;
 use branch_tree::{End, Network};
 use frac128::Frac;
 use neutral_extension::Makers;
@@ -23,28 +26,24 @@ use search_tree::{Cell, branch, shut};
 use std::alloc::{AllocError, Global};
 use unit_sets::Node;
 
-/// A search: where it starts, how many nodes it may take, its nodes, what is at hand for each that is an open leaf, and the cheapest
-/// network that it found.
+/// An open leaf at which a number is past the range.
+#[derive(Drop)]
+pub(crate) struct HaltedLeaf {
+    pub leaf: u32,
+    pub halt: Halt,
+}
+
+/// A search: where it starts, how many nodes it may take, its nodes, what is at hand for each that is an open leaf, the cheapest
+/// network that it found, and the leaf that halts it.
 #[derive(Drop)]
 pub(crate) struct Growing {
     pub start: Node,
     pub budget: u32,
+    pub nodes: u32,
     pub pool: Pool<Cell>,
     pub ready: Vec<Option<Ready>>,
     pub best: Option<Network>,
-}
-
-/// What a turn answers.
-#[derive(Drop)]
-pub(crate) enum Turn {
-    /// The search goes on.
-    More,
-    /// No leaf is open.
-    Whole,
-    /// The leaf would be branched next, and has too many options.
-    Spent { leaf: u32, options: u128 },
-    /// At the leaf a number is past the range.
-    Halted { leaf: u32, halt: Halt },
+    pub halt: Option<HaltedLeaf>,
 }
 
 /// Whether the network costs no more than the value.
@@ -61,11 +60,11 @@ fn is_beaten(best: &Option<Network>, value: &Frac) -> bool
 }
 
 /// Whether so many nodes more are above the budget.
-fn is_over(count: u128, nodes: usize, budget: u32) -> bool
+pub(crate) fn is_over(count: u128, nodes: u32, budget: u32) -> bool
     requires { nodes ≤ budget }
     ensures { IsTrue result ↔ (budget < nodes + count) }
 {
-    count > u128::from(budget) - nodes as u128
+    count > u128::from(budget - nodes)
 }
 
 /// Whether so many nodes more have numbers: the last number names no node.
@@ -75,16 +74,27 @@ fn has_numbers(nodes: u32, more: usize) -> bool
     more < (u32::MAX - nodes) as usize
 }
 
-fn turn_after(first: u32, halt: Option<HaltedAt>) -> Turn
-    requires { IfSome halt (λ h. first + h.at < 2 ^ 32) }
-    ensures { result ≡ turn_after first halt }
+/// The leaf that halts the search, where the children begin with the node `first`.
+fn halt_at(first: u32, halt: Option<HaltedAt>) -> Option<HaltedLeaf>
+    requires { MatchOption halt Unit (λ h. first + h.at < 2 ^ 32) }
+    ensures { result ≡ halt_at first halt }
 {
     match halt {
-        None => Turn::More,
-        Some(halted) => Turn::Halted {
+        None => None,
+        Some(halted) => Some(HaltedLeaf {
             leaf: first + halted.at as u32,
             halt: halted.halt,
-        },
+        }),
+    }
+}
+
+/// The number of the leaf that halts the search.
+pub(crate) fn halted_leaf(halt: &Option<HaltedLeaf>) -> Option<u32>
+    ensures { result ≡ leaf_of halt.now }
+{
+    match halt {
+        None => None,
+        Some(halted) => Some(halted.leaf),
     }
 }
 
@@ -97,7 +107,18 @@ fn take_ready(ready: &mut Vec<Option<Ready>>, leaf: u32) -> Option<Ready>
     ready[leaf as usize].take()
 }
 
-fn node_at(pool: &Pool<Cell>, leaf: u32) -> Node
+/// The least material that is to decide at an open leaf.
+pub(crate) fn first_material(ready: &Vec<Option<Ready>>, leaf: u32) -> u32
+    requires { leaf < length ready.now.items }
+    ensures { result ≡ material_of (get_or ready.now.items leaf None) }
+{
+    match &ready[leaf as usize] {
+        None => 0,
+        Some(ready) => ready.material,
+    }
+}
+
+pub(crate) fn node_at(pool: &Pool<Cell>, leaf: u32) -> Node
     requires { leaf < length pool.now.payloads }
     ensures { result ≡ (cell_at pool.now.payloads leaf).node }
 {
@@ -105,17 +126,21 @@ fn node_at(pool: &Pool<Cell>, leaf: u32) -> Node
     pool.payload(leaf).node
 }
 
-/// How many options the material has at a node.
-fn options_at(graph: &Graph, pool: &Pool<Cell>, leaf: u32, material: u32) -> u128
-    requires leaf { leaf < length pool.now.payloads }
-    requires known { material < (shape graph.now).materials }
-    ensures { result ≡ length (options (shape graph.now) (node_of (cell_at pool.now.payloads leaf).node) material) }
+/// Of the materials that are to decide at a node one with the fewest options. `first` is one of them.
+pub(crate) fn chosen(graph: &Graph, node: Node, first: u32) -> u32
+    requires inside { (u : ℕ) → sets.has node.inside u ≡ true → u < (shape graph.now).units }
+    requires first { IsUndecided (shape graph.now) (node_of node) first }
+    ensures undecided { IsUndecided (shape graph.now) (node_of node) result }
+    ensures fewest { length (options (shape graph.now) (node_of node) result) ≤ length (options (shape graph.now) (node_of node) first) }
 {
-    option_count(graph, node_at(pool, leaf), material)
+    match fewest_options(graph, node) {
+        None => first,
+        Some(choice) => choice.material,
+    }
 }
 
-/// Branches an open leaf at the material.
-fn branch_leaf<E: Evaluator>(
+/// Branches an open leaf at the material. After `Err`, which comes for want of memory alone, the tree is as before.
+pub(crate) fn branch_leaf<E: Evaluator>(
     alloc: Global,
     evaluator: &mut E,
     problem: &Problem,
@@ -125,7 +150,7 @@ fn branch_leaf<E: Evaluator>(
     leaf: u32,
     node: Node,
     material: u32,
-) -> Result<Turn, AllocError>
+) -> Result<(), AllocError>
     requires graph { shape graph.now ≡ shape_of problem.now }
     requires same { AreMakersOf (shape graph.now) makers.old.makers }
     requires leaf { has growing.old.pool.leaves leaf ≡ true }
@@ -134,65 +159,62 @@ fn branch_leaf<E: Evaluator>(
     requires reduced { IsReduced (shape_of problem.now) (node_of node) }
     requires undecided { IsUndecided (shape_of problem.now) (node_of node) material }
     requires known { material < (shape graph.now).materials }
-    requires numbered { length growing.old.ready.items ≡ length growing.old.pool.payloads }
+    requires counted { growing.old.nodes ≡ length growing.old.pool.payloads }
     requires few { length growing.old.pool.payloads + length (options (shape_of problem.now) (node_of node) material) < 2 ^ 32 }
-    ensures branching { IfOk result (IsBranching E.past problem.now (node_of node) growing.old growing.new leaf material) }
+    ensures branching { OnOk result (IsBranching E.past problem.now (node_of node) growing.old growing.new leaf material) }
+    ensures same { OnErr result (IsSame growing.old growing.new) }
     ensures makers { makers.new.makers ≡ makers.old.makers }
 {
     growing.pool.is_pool();
     let children = look_at_children(alloc, evaluator, problem, graph, makers, node, material)?;
     let mut kids = children.kids;
     let mut ready = children.ready;
-    let first = growing.ready.len() as u32;
-    if !has_numbers(first, kids.len()) {
+    let first = growing.nodes;
+    let count = kids.len();
+    if !has_numbers(first, count) {
         return Err(AllocError);
     }
     kids.reverse();
-    growing.pool.reserve(kids.len() as u32)?;
+    growing.pool.reserve(count as u32)?;
     growing.ready.append(&mut ready)?;
     branch(&mut growing.pool, leaf, material, first, &mut kids);
+    growing.nodes = first + count as u32;
     growing.best = cheaper(growing.best.take(), children.best);
-    Ok(turn_after(first, children.halt))
+    growing.halt = halt_at(first, children.halt);
+    Ok(())
 }
 
-/// Takes the open leaf of least value, and shuts it where the best network costs no more, or branches it.
-pub(crate) fn take_turn<E: Evaluator>(
-    alloc: Global,
-    evaluator: &mut E,
-    problem: &Problem,
-    graph: &Graph,
-    makers: &mut Makers,
-    growing: &mut Growing,
-) -> Result<Turn, AllocError>
-    requires graph { shape graph.now ≡ shape_of problem.now }
-    requires same { AreMakersOf (shape graph.now) makers.old.makers }
+/// Shuts the first open leaf, whose value the best network does not exceed.
+fn shut_leaf(problem: &Problem, growing: &mut Growing, leaf: u32)
     requires growing { IsGrowing problem.now growing.old }
-    ensures holds { IfOk result (TurnHolds E.past problem.now growing.old growing.new) }
-    ensures start { OnOk result (growing.new.start ≡ growing.old.start) }
-    ensures budget { OnOk result (growing.new.budget ≡ growing.old.budget) }
-    ensures makers { makers.new.makers ≡ makers.old.makers }
+    requires first { first growing.old.pool.leaves ≡ Some leaf }
+    requires beaten { (v : Frac) → slice_get growing.old.pool.values leaf ≡ Some v → IsBeaten growing.old.best v }
+    ensures { IsShutting problem.now growing.old growing.new }
 {
     problem.is_valid();
     growing.pool.is_pool();
-    let budget = growing.budget;
-    let Some(leaf) = growing.pool.least() else {
-        return Ok(Turn::Whole);
-    };
-    let Some(ready) = take_ready(&mut growing.ready, leaf) else {
-        return Ok(Turn::Whole);
-    };
-    if is_beaten(&growing.best, &ready.bound.value) {
+    if let Some(ready) = take_ready(&mut growing.ready, leaf) {
         ready.bound.scaled.are_in_range();
         shut(&mut growing.pool, leaf, End::Bound(ready.bound.scaled));
-        return Ok(Turn::More);
     }
-    let material = ready.material;
-    let options = options_at(graph, &growing.pool, leaf, material);
-    if is_over(options, growing.ready.len(), budget) {
-        return Ok(Turn::Spent { leaf, options });
+}
+
+/// Shuts the open leaves whose values the best network does not exceed: where the least one's value is such, all are. It takes no
+/// memory, and does nothing where a leaf halts the search.
+pub(crate) fn shut_beaten(problem: &Problem, growing: &mut Growing)
+    requires { growing.old.halt ≡ None → IsGrowing problem.now growing.old }
+    ensures { MatchOption growing.old.halt (IsShutDown problem.now growing.old growing.new) (λ h. growing.new ≡ growing.old) }
+{
+    growing.pool.is_pool();
+    if growing.halt.is_some() {
+        return;
     }
-    let node = node_at(&growing.pool, leaf);
-    branch_leaf(
-        alloc, evaluator, problem, graph, makers, growing, leaf, node, material,
-    )
+    'leaves: while let Some(leaf) = growing.pool.least() {
+        growing.pool.is_pool();
+        let value = growing.pool.value(leaf);
+        if !is_beaten(&growing.best, &value) {
+            return;
+        }
+        shut_leaf(problem, growing, leaf);
+    }
 }

@@ -1,244 +1,168 @@
-//! The whole search.
-ghost use Rattle.std.specs.Prelude.{◌≡◌, ◌<◌, ◌≤◌, [], ◌∷◌, length, IfOk, OnOk, IfSome};
+//! A search that is taken turn by turn, and the loop over its turns.
+ghost use Rattle.std.specs.Prelude.{◌≡◌, ◌≤◌, false, is_some, IfOk, option_copied, length};
 ghost use Rattle.pns_rules.specs.Shape.{shape_of};
 ghost use Rattle.pns_rules.specs.Ends.{IsSound};
 ghost use Rattle.pgraph.specs.Tables.{shape};
 ghost use Rattle.pgraph.specs.View.{node_of};
-ghost use Rattle.search_tree.specs.Cells.{IsLinked, cell_at};
-ghost use Rattle.search_tree.specs.Preorder.{IsTreeOf};
-ghost use Rattle.search_tree.specs.Growth.{AreOpen};
-ghost use Rattle.tree_rules.specs.Claim.{IsSized};
-ghost use Rattle.neutral_extension.specs.Candidates.{AreMakersOf};
-ghost use Rattle.abb_search.specs.Growing.{IsTreeKept, IsGrowing};
-ghost use Rattle.abb_search.specs.Found.{found_with, IsFound};
+ghost use Rattle.node_looks.specs.Looks.{has_bounded};
+ghost use Rattle.node_looks.specs.Children.{claim_with};
+ghost use Rattle.abb_search.specs.Found.{IsStopped, IsFound};
+ghost use Rattle.abb_search.specs.Searched.{opened, TurnHolds, AreNodesOf};
 
-use crate::growing::{Growing, Turn, take_turn};
-use branch_tree::{Columns, Network, Tree};
-use flow_program::Place;
-use frac128::Frac;
+use crate::found::{Found, tree_with};
+use crate::growing::Growing;
+use crate::root::open_root;
+use crate::step::take_turn;
+use crate::turn::Turn;
+use branch_tree::{Network, Tree};
 use neutral_extension::Makers;
-use node_looks::{Evaluator, Looked, look};
-use node_pool::Pool;
+use node_looks::Evaluator;
 use pgraph::Graph;
 use pns_problem::Problem;
-use search_tree::{Cell, nodes_in_preorder};
 use std::alloc::{AllocError, Global};
-use unit_sets::{Node, UnitSet};
+use std::marker::Model;
+use unit_sets::Node;
 
-/// What a search finds.
+/// A search of the structures of the family of a node for one whose flows are cheapest. It always takes an open leaf of least value.
 #[derive(Drop)]
-pub enum Found {
-    /// No network is cheaper, which the tree proves.
-    Solved {
-        network: Network,
-        tree: Tree,
-    },
-    /// No network has flows, which the tree proves.
-    Infeasible {
-        tree: Tree,
-    },
-    /// The budget is spent: the leaf `next` would be branched next, and has too many options.
-    Spent {
-        best: Option<Network>,
-        tree: Tree,
-        next: u32,
-        options: u128,
-    },
-    /// A number is past the range at an open leaf.
-    Past {
-        best: Option<Network>,
-        tree: Tree,
-        node: u32,
-        nonbasic: Columns,
-        place: Place,
-    },
-    /// There is no memory.
-    Memory,
-}
-
-/// A tree, and the place of one of its nodes.
-#[derive(Drop)]
-struct Placed {
-    tree: Tree,
-    place: u32,
-}
-
-/// A network has a set of units below 128. A call tells a proof so, and does nothing.
-fn is_sized(best: &Option<Network>)
-    ensures { IfSome best.now IsSized }
-{
-    if let Some(network) = best {
-        network.is_sized();
-    }
-}
-
-/// The tree of the nodes, and where the leaf stands in it.
-fn tree_with(alloc: Global, growing: &Growing, leaf: u32) -> Result<Placed, AllocError>
-    requires linked { IsLinked growing.now.pool.payloads }
-    requires root { (cell_at growing.now.pool.payloads 0).option ≡ [] }
-    requires leaf { leaf < length growing.now.pool.payloads }
-    ensures tree { IfOk result (λ t. IsTreeOf growing.now.pool.payloads leaf t.tree t.place) }
-    ensures sized { IfSome growing.now.best IsSized }
-{
-    search_tree::preorder_is_tree();
-    is_sized(&growing.best);
-    let preorder = nodes_in_preorder(alloc, &growing.pool, leaf)?;
-    Ok(Placed {
-        tree: Tree::from_nodes(preorder.nodes),
-        place: preorder.place,
-    })
-}
-
-/// Adds the root. It is an open leaf where its cell is one.
-fn add_root(pool: &mut Pool<Cell>, cell: Cell, value: Frac) -> Result<(), AllocError>
-    requires parents { pool.old.parents ≡ [] }
-    requires cells { pool.old.payloads ≡ [] }
-    requires values { pool.old.values ≡ [] }
-    requires leaves { pool.old.leaves ≡ [] }
-    ensures cells { OnOk result (pool.new.payloads ≡ cell ∷ []) }
-    ensures values { OnOk result (pool.new.values ≡ value ∷ []) }
-    ensures open { OnOk result (AreOpen pool.new) }
-{
-    let open = cell.ends_open();
-    match pool.add(None, value, cell) {
-        Err(_) => Err(AllocError),
-        Ok(id) => {
-            if !open {
-                pool.shut(id);
-            }
-            Ok(())
-        }
-    }
-}
-
-/// The root alone.
-fn root_pool(alloc: Global, cell: Cell, value: Frac) -> Result<Pool<Cell>, AllocError>
-    ensures cells { IfOk result (λ pool. pool.payloads ≡ cell ∷ []) }
-    ensures values { IfOk result (λ pool. pool.values ≡ value ∷ []) }
-    ensures open { IfOk result AreOpen }
-{
-    let mut pool = Pool::open(alloc, 1)?;
-    add_root(&mut pool, cell, value)?;
-    Ok(pool)
-}
-
-/// What is found where no leaf is open.
-fn whole_found(best: Option<Network>, tree: Tree) -> Found
-    ensures { result ≡ found_with best tree }
-{
-    match best {
-        None => Found::Infeasible { tree },
-        Some(network) => Found::Solved { network, tree },
-    }
-}
-
-/// Takes turns until the search ends.
-fn take_turns<E: Evaluator>(
+pub struct SearchWith<'a, E: Evaluator> {
     alloc: Global,
-    evaluator: &mut E,
-    problem: &Problem,
-    graph: &Graph,
+    problem: &'a Problem,
+    graph: &'a Graph,
+    evaluator: E,
     makers: Makers,
     growing: Growing,
-) -> Result<Found, AllocError>
-    requires graph { shape graph.now ≡ shape_of problem.now }
-    requires same { AreMakersOf (shape graph.now) makers.makers }
-    requires growing { IsGrowing problem.now growing }
-    ensures { IfOk result (IsFound E.past problem.now (node_of growing.start) growing.budget) }
+    looked: bool,
+    ended: bool,
+}
+
+impl<'a, E: Evaluator> Model for SearchWith<'a, E> {
+    ghost use Rattle.pgraph.specs.Tables.{shape};
+    ghost use Rattle.abb_search.specs.Searched.{Searched, IsSearching};
+
+    ghost Value = { Searched };
+
+    ghost view = { λ s. record {
+      problem = s.problem.now;
+      start = s.growing.start;
+      budget = s.growing.budget;
+      cells = s.growing.pool.payloads;
+      best = s.growing.best;
+      ended = s.ended;
+    } };
+
+    ghost invariant = { λ s. IsSearching E.past s.problem.now (shape s.graph.now) s.makers.makers s.growing s.looked s.ended };
+}
+
+impl<'a, E: Evaluator + Drop> SearchWith<'a, E> {
+    /// A search before its first turn. The graph is that of the problem.
+    pub fn open_with(
+        alloc: Global,
+        evaluator: E,
+        problem: &'a Problem,
+        graph: &'a Graph,
+        start: Node,
+        budget: u32,
+    ) -> Result<SearchWith<'a, E>, AllocError>
+        requires graph { shape graph.now ≡ shape_of problem.now }
+        requires sound { IsSound (shape_of problem.now) (node_of start) }
+        requires some { 1 ≤ budget }
+        ensures { IfOk result (λ s. s ≡ opened problem.now start budget) }
+    {
+        let makers = Makers::open(alloc, graph)?;
+        let growing = open_root(alloc, start, budget)?;
+        Ok(SearchWith {
+            alloc,
+            problem,
+            graph,
+            evaluator,
+            makers,
+            growing,
+            looked: false,
+            ended: false,
+        })
+    }
+
+    /// Takes the search so far that its nodes are more, or to its end. It takes all its memory before it shuts a leaf.
+    pub fn turn(&mut self) -> Turn
+        requires { self.old.ended ≡ false }
+        ensures { TurnHolds E.past self.old self.new result }
+    {
+        match take_turn(
+            self.alloc,
+            &mut self.evaluator,
+            self.problem,
+            self.graph,
+            &mut self.makers,
+            &mut self.growing,
+            self.looked,
+        ) {
+            Err(_) => Turn::Memory,
+            Ok(None) => {
+                self.looked = true;
+                Turn::More
+            }
+            Ok(Some(found)) => {
+                self.ended = true;
+                Turn::Ended(found)
+            }
+        }
+    }
+
+    /// How many nodes the tree has.
+    pub fn nodes(&self) -> u32
+        ensures nodes { result ≡ length self.now.cells }
+        ensures few { result ≤ self.now.budget }
+    {
+        self.growing.nodes
+    }
+
+    /// Whether a turn answered `Ended`.
+    pub fn ended(&self) -> bool
+        ensures { result ≡ self.now.ended }
+    {
+        self.ended
+    }
+
+    /// The cheapest network that was found, none exactly where no leaf of the tree is bounded.
+    pub fn best(&self) -> Option<&Network>
+        requires { self.now.ended ≡ false }
+        ensures best { option_copied result ≡ self.now.best }
+        ensures bounded { is_some self.now.best ≡ has_bounded self.now.cells }
+    {
+        self.growing.best.as_ref()
+    }
+
+    /// The tree as far as it is.
+    pub fn tree(&self, alloc: Global) -> Result<Tree, AllocError>
+        requires { self.now.ended ≡ false }
+        ensures stopped { IfOk result (IsStopped self.now.problem (node_of self.now.start) (claim_with self.now.best)) }
+        ensures nodes { IfOk result (AreNodesOf self.now.cells) }
+    {
+        let placed = tree_with(alloc, &self.growing, 0)?;
+        Ok(placed.tree)
+    }
+}
+
+/// Takes turns until the search ends, or there is no memory.
+fn run<'a, E: Evaluator + Drop>(search: SearchWith<'a, E>) -> Found
+    requires { search.ended ≡ false }
+    ensures { IsFound E.past search.entry.problem (node_of search.entry.start) search.entry.budget result }
 {
-    problem.is_valid();
-    let mut makers = makers;
-    let mut growing = growing;
+    let mut search = search;
     'turns: loop {
-        match take_turn(alloc, evaluator, problem, graph, &mut makers, &mut growing)? {
+        match search.turn() {
             Turn::More => {}
-            Turn::Whole => {
-                let whole = tree_with(alloc, &growing, 0)?;
-                return Ok(whole_found(growing.best, whole.tree));
-            }
-            Turn::Spent { leaf, options } => {
-                let stopped = tree_with(alloc, &growing, leaf)?;
-                return Ok(Found::Spent {
-                    best: growing.best,
-                    tree: stopped.tree,
-                    next: stopped.place,
-                    options,
-                });
-            }
-            Turn::Halted { leaf, halt } => {
-                let stopped = tree_with(alloc, &growing, leaf)?;
-                return Ok(Found::Past {
-                    best: growing.best,
-                    tree: stopped.tree,
-                    node: stopped.place,
-                    nonbasic: halt.nonbasic,
-                    place: halt.place,
-                });
-            }
+            Turn::Ended(found) => return found,
+            Turn::Memory => return Found::Memory,
         }
     }
 }
 
-fn copy_of(node: &Node) -> Node
-    ensures { result ≡ node.now }
-{
-    *node
-}
-
-/// Looks at the root, and takes turns from there.
-fn search_from<E: Evaluator>(
+/// Searches the structures of the family of a node for one whose flows are cheapest.
+pub fn search_with<E: Evaluator + Drop>(
     alloc: Global,
-    evaluator: &mut E,
-    problem: &Problem,
-    graph: &Graph,
-    start: Node,
-    budget: u32,
-) -> Result<Found, AllocError>
-    requires graph { shape graph.now ≡ shape_of problem.now }
-    requires sound { IsSound (shape_of problem.now) (node_of start) }
-    requires some { 1 ≤ budget }
-    ensures { IfOk result (IsFound E.past problem.now (node_of start) budget) }
-{
-    problem.is_valid();
-    let root = copy_of(&start);
-    let mut makers = Makers::open(alloc, graph)?;
-    let looked = look(
-        alloc,
-        evaluator,
-        problem,
-        graph,
-        &mut makers,
-        UnitSet::empty(),
-        start,
-    )?;
-    let halt = looked.halt;
-    let mut ready = Vec::new(alloc);
-    ready.push(looked.ready)?;
-    let pool = root_pool(alloc, looked.cell, looked.value)?;
-    let growing = Growing {
-        start: root,
-        budget,
-        pool,
-        ready,
-        best: looked.network,
-    };
-    let Some(halt) = halt else {
-        return take_turns(alloc, evaluator, problem, graph, makers, growing);
-    };
-    let stopped = tree_with(alloc, &growing, 0)?;
-    Ok(Found::Past {
-        best: growing.best,
-        tree: stopped.tree,
-        node: stopped.place,
-        nonbasic: halt.nonbasic,
-        place: halt.place,
-    })
-}
-
-/// Searches the structures of the family of a node for one whose flows are cheapest. It always takes an open leaf of least value.
-pub fn search_with<E: Evaluator>(
-    alloc: Global,
-    evaluator: &mut E,
+    evaluator: E,
     problem: &Problem,
     graph: &Graph,
     start: Node,
@@ -249,8 +173,8 @@ pub fn search_with<E: Evaluator>(
     requires some { 1 ≤ budget }
     ensures found { IsFound E.past problem.now (node_of start) budget result }
 {
-    match search_from(alloc, evaluator, problem, graph, start, budget) {
-        Ok(found) => found,
+    match SearchWith::open_with(alloc, evaluator, problem, graph, start, budget) {
+        Ok(search) => run(search),
         Err(_) => Found::Memory,
     }
 }

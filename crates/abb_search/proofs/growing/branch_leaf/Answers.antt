@@ -1,29 +1,28 @@
-use Rattle.std.proofs.Common.{◌≡◌, ◌⊎◌, ◌||◌, ◌+◌, ◌<◌, refl, ◌∙◌, subst, arith, length, rules, Option}
+use Rattle.std.proofs.Common.{◌≡◌, ◌⊎◌, ◌||◌, ◌+◌, ◌<◌, refl, ap, ◌∙◌, subst, arith, length, rules, Option}
 use Rattle.pgraph.specs.View.{node_of}
 use Rattle.std.specs.Prelude.{is_some}
 use Rattle.tree_rules.specs.Claim as claims
 use Rattle.turn_laws.specs.Values.{HasFallen}
 use Rattle.node_looks.specs.Looks.{cost_of}
 use Rattle.abb_search.specs.declared.growing.Growing.{Growing}
+use Rattle.abb_search.specs.declared.growing.HaltedLeaf.{HaltedLeaf}
 use Rattle.abb_search.proofs.GrowingLemmas.{count_seen, halts_within, branching}
 use Rattle.abb_search.proofs.growing.branch_leaf.Goals as goal
 
-pub overflow_cast-len : goal.overflow_cast-len
-overflow_cast-len g c =
+pub overflow_cast-count : goal.overflow_cast-count
+overflow_cast-count g c =
     let k = count_seen g.E.Evaluator.past c.args.problem.now (node_of c.args.node) c.args.material c.in_ok-children.children c.in_ok-children.ensures.seen in
-    let l : c.len.result ≡ length c.reverse.new.self.items = search rules in
-    let r = c.reverse.ensures.len in
+    let l : c.len-count.result ≡ length c.in_ok-children.children.kids.items = search rules in
     let few = c.requires.few in
-    omega (arith, k, l, r, few)
+    omega (arith, k, l, few)
 
 pub reserve-requires : goal.reserve-requires
 reserve-requires g c =
     let k = count_seen g.E.Evaluator.past c.args.problem.now (node_of c.args.node) c.args.material c.in_ok-children.children c.in_ok-children.ensures.seen in
-    let l : c.len.result ≡ length c.reverse.new.self.items = search rules in
-    let r = c.reverse.ensures.len in
+    let l : c.len-count.result ≡ length c.in_ok-children.children.kids.items = search rules in
     let few = c.requires.few in
     let n = c.is_pool.ensures.payloads in
-    omega (arith, k, l, r, few, n)
+    omega (arith, k, l, few, n)
 
 pub branch-growing-requires-clause-few : goal.branch-growing-requires-clause-few
 branch-growing-requires-clause-few g c =
@@ -32,24 +31,23 @@ branch-growing-requires-clause-few g c =
     let few = c.requires.few in
     omega (arith, k, r, few)
 
-pub turn_after-requires : goal.turn_after-requires
-turn_after-requires g c =
+pub halt_at-requires : goal.halt_at-requires
+halt_at-requires g c =
     let k = count_seen g.E.Evaluator.past c.args.problem.now (node_of c.args.node) c.args.material c.in_ok-children.children c.in_ok-children.ensures.seen in
-    let l : c.len-first.result ≡ length c.args.growing.now.ready.items = search rules in
     let few = c.requires.few in
-    let n = c.requires.numbered in
-    halts_within g.E.Evaluator.past c.args.problem.now c.in_ok-children.children.kids.items c.in_ok-children.children.ready.items c.len-first.result 4294967296 c.in_ok-children.children.halt c.in_ok-children.ensures.seen.halt_holds
-    (omega (arith, k, l, few, n))
+    let n = c.requires.counted in
+    halts_within g.E.Evaluator.past c.args.problem.now c.in_ok-children.children.kids.items c.in_ok-children.children.ready.items c.args.growing.now.nodes 4294967296 c.in_ok-children.children.halt c.in_ok-children.ensures.seen.halt_holds
+    (omega (arith, k, few, n))
 
 pub returns-clause-branching : goal.returns-clause-branching
 returns-clause-branching g c =
-    let l : c.len-first.result ≡ length c.args.growing.now.ready.items = search rules in
-    let new : Growing = record { start = c.args.growing.now.start; budget = c.args.growing.now.budget; pool = c.branch-growing.new.pool; ready = c.append.new.self; best = c.cheaper.result } in
+    let l : c.len-count.result ≡ length c.in_ok-children.children.kids.items = search rules in
+    let new : Growing = record { start = c.args.growing.now.start; budget = c.args.growing.now.budget; nodes = c.args.growing.now.nodes + c.len-count.result; pool = c.branch-growing.new.pool; ready = c.append.new.self; best = c.cheaper.result; halt = c.halt_at.result } in
     let b = c.in_ok-children.children.best in
     let which = subst (λ (w : Option claims.Network). (c.cheaper.result ≡ w) ⊎ (c.cheaper.result ≡ b)) c.take.ensures.value c.cheaper.ensures.which in
     let fallen = subst (λ (w : Option claims.Network). HasFallen (cost_of w) (cost_of c.cheaper.result)) c.take.ensures.value c.cheaper.ensures.old in
     let some = subst (λ (w : Option claims.Network). is_some c.cheaper.result ≡ (is_some w || is_some b)) c.take.ensures.value c.cheaper.ensures.some in
-    let n : length c.args.growing.now.pool.payloads + length c.in_ok-children.children.kids.items < 4294967295 = (let h = c.has_numbers.ensures.0 c.if-not-has_numbers.false in let e = c.requires.numbered in omega (arith, h, l, e)) in
-    branching g.E.Evaluator.past c.args.problem.now (node_of c.args.node) c.args.growing.now new c.args.leaf c.args.material c.turn_after.result c.in_ok-children.children c.reserve.new.self c.reverse.new.self.items c.len-first.result
-    c.in_ok-children.ensures.seen c.in_ok-reserve.ensures.nodes c.reverse.ensures.items (l ∙ c.requires.numbered)
-    c.branch-growing.ensures.cells c.branch-growing.ensures.values c.in_ok-append.ensures.items which fallen c.cheaper.ensures.found some n c.branch-growing.ensures.open refl refl c.turn_after.ensures
+    let n : length c.args.growing.now.pool.payloads + length c.in_ok-children.children.kids.items < 4294967295 = (let h = c.has_numbers.ensures.0 c.if-not-has_numbers.false in let e = c.requires.counted in omega (arith, h, l, e)) in
+    branching g.E.Evaluator.past c.args.problem.now (node_of c.args.node) c.args.growing.now new c.args.leaf c.args.material c.in_ok-children.children c.reserve.new.self c.reverse.new.self.items c.args.growing.now.nodes
+    c.in_ok-children.ensures.seen c.in_ok-reserve.ensures.nodes c.reverse.ensures.items c.requires.counted
+    c.branch-growing.ensures.cells c.branch-growing.ensures.values c.in_ok-append.ensures.items which fallen c.cheaper.ensures.found some n (ap (λ k. c.args.growing.now.nodes + k) l) c.branch-growing.ensures.open refl refl c.halt_at.ensures

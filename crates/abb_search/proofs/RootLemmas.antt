@@ -1,0 +1,162 @@
+-- What the tree of a root is, before it is looked at and after.
+use Rattle.std.specs.Prelude.{IfSome, is_some}
+use Rattle.std.specs.List.{slice_get}
+use Rattle.std.proofs.Common.{◌≡◌, ℕ, ◌-◌, ◌<◌, ◌≤◌, Bool, true, false, ◌||◌, List, [], ◌∷◌, length, Option, Some, None, refl, sym, ap, ◌∙◌, subst, arith, ◌^◌, ◌+◌, true≢false}
+use Rattle.link_lists.specs.Lists.{has, first}
+use Rattle.problem_rules.specs.Problem.{Problem}
+use Rattle.pns_rules.specs.Shape.{shape_of}
+use Rattle.pns_rules.specs.Nodes.{Node}
+use Rattle.pns_rules.specs.Ends.{IsSound}
+use Rattle.pgraph.specs.View.{node_of}
+use Rattle.unit_sets.specs.declared.node.Node as starts
+use Rattle.frac128.specs.declared.fraction.Frac.{Frac}
+use Rattle.tree_rules.specs.Tree.{End, leaf}
+use Rattle.tree_rules.specs.Claim as claims
+use Rattle.tree_rules.specs.Claim.{CostOver, claimed_cost, ClaimPasses}
+use Rattle.tree_rules.specs.Leaf.{Leaf, dead, clash, refuted, bounded, untried, LeafPasses}
+use Rattle.search_tree.specs.Cells.{Cell, place_of, cell_at, AreBehind}
+use Rattle.search_tree.specs.Fits.{Follows, EndFits}
+use Rattle.search_tree.specs.Growth.{is_open}
+use Rattle.turn_laws.specs.Values.{IsPositiveCost}
+use Rattle.turn_laws.specs.Kept.{LeafIsKept, EndIsKept, IsKept}
+use Rattle.node_looks.specs.declared.evaluator.Halt.{Halt}
+use Rattle.node_looks.specs.declared.looks.Ready.{Ready}
+use Rattle.node_looks.specs.declared.looks.Looked.{Looked}
+use Rattle.node_looks.specs.Evaluated.{PastPlaces}
+use Rattle.node_looks.specs.Looks.{is_bounded, has_bounded, KnowsCell, IsHalted, IsOpenAs, IsLooked}
+use Rattle.node_looks.proofs.ChildLemmas.{cost_is, found_best}
+use Rattle.node_looks.specs.Children.{claim_with, IsBest, AreReady}
+use Rattle.abb_search.specs.declared.growing.Growing.{Growing}
+use Rattle.abb_search.specs.declared.growing.HaltedLeaf.{HaltedLeaf}
+use Rattle.abb_search.specs.Growing.{IsTreeKept, IsGrowing, IsBeaten, LeastIsBelow, open_cell, IsOpenRoot, root_halt, IsLookedRoot, IsHaltedAt, GoesOn, IsGoing}
+use Rattle.abb_search.proofs.KnownLemmas.{AreKnown, open_unbounded}
+use Rattle.abb_search.proofs.ReadyLemmas.{open_leaf, first_has}
+
+or_nothing : (b : Bool) → b ≡ (b || false)
+or_nothing true = refl
+or_nothing false = refl
+
+leaf_kept : (p : Problem) (n : Node) (l : Leaf) → LeafIsKept p None n l
+leaf_kept p n (dead x) = tt
+leaf_kept p n (clash k) = tt
+leaf_kept p n (refuted ys) = tt
+leaf_kept p n (bounded d ys) = tt
+leaf_kept p n untried = λ alive. tt
+
+-- ---- one leaf is a tree
+
+module _ (p : Problem) (start : Node) (claim : claims.Claim) (cell : Cell) (what : Leaf) (end_is : cell.end ≡ leaf what) (no_option : cell.option ≡ []) (follows : Follows (shape_of p) start cell)
+    (sound : IsSound (shape_of p) (place_of cell)) (passes : LeafPasses true p (claimed_cost claim) (place_of cell) what) where
+  pub leaf_is_kept : IsPositiveCost (claimed_cost claim) → IsKept p start claim None (cell ∷ [])
+  leaf_is_kept positive = record {
+    grown = record {
+      linked = record {
+        some = omega arith;
+        behind = λ i lt. let z : i ≡ 0 = omega (arith, lt) in subst (λ j. AreBehind 1 j (cell_at (cell ∷ []) j).first (cell_at (cell ∷ []) j).end) (sym z)
+            (subst (λ (e : End Leaf). AreBehind 1 0 cell.first e) (sym end_is) tt);
+        parent = λ j some lt. absurd (omega (arith, some, lt));
+      };
+      fits = record {
+        no_option = no_option;
+        root = follows;
+        ends = λ i lt. let z : i ≡ 0 = omega (arith, lt) in
+            subst (λ j. EndFits (shape_of p) (LeafPasses true p (claimed_cost claim)) (cell ∷ []) (place_of (cell_at (cell ∷ []) j)) (cell_at (cell ∷ []) j).first (cell_at (cell ∷ []) j).end) (sym z)
+            (subst (λ (e : End Leaf). EndFits (shape_of p) (LeafPasses true p (claimed_cost claim)) (cell ∷ []) (place_of cell) cell.first e) (sym end_is) passes);
+      };
+    };
+    sound = λ i lt. let z : i ≡ 0 = omega (arith, lt) in subst (λ j. IsSound (shape_of p) (place_of (cell_at (cell ∷ []) j))) (sym z) sound;
+    ends = λ i lt. let z : i ≡ 0 = omega (arith, lt) in subst (λ j. EndIsKept p None (place_of (cell_at (cell ∷ []) j)) (cell_at (cell ∷ []) j).end) (sym z)
+        (subst (λ (e : End Leaf). EndIsKept p None (place_of cell) e) (sym end_is) (leaf_kept p (place_of cell) what));
+    last_positive = tt;
+    claim_positive = positive;
+    below = tt;
+  }
+
+-- ---- before the look
+
+pub open_tree : (p : Problem) (start : starts.Node) (budget : ℕ) (s : Growing) → IsOpenRoot start budget s → IsSound (shape_of p) (node_of start) → 1 ≤ budget → IsTreeKept p s
+open_tree p start budget s h sound some = record {
+  last = None;
+  kept = subst (λ (n : starts.Node). IsKept p (node_of n) (claim_with s.best) None s.pool.payloads) (sym h.start_is)
+      (subst (λ (w : Option claims.Network). IsKept p (node_of start) (claim_with w) None s.pool.payloads) (sym h.none)
+      (subst (λ (cs : List Cell). IsKept p (node_of start) claims.unknown None cs) (sym h.cells_are)
+      (leaf_is_kept p (node_of start) claims.unknown (open_cell start) untried refl refl (record { pass = tt; leave = refl }) sound refl tt)));
+  passes = subst (λ (w : Option claims.Network). ClaimPasses true p (claim_with w)) (sym h.none) refl;
+  bounded = ap (λ (w : Option claims.Network). is_some w) h.none ∙ sym (ap (λ (cs : List Cell). has_bounded cs) h.cells_are);
+  known = subst (λ (cs : List Cell). AreKnown p cs) (sym h.cells_are) (λ i lt. subst (λ j. KnowsCell p (cell_at (open_cell start ∷ []) j)) (let z : 0 ≡ i = omega (arith, lt) in z)
+      (record { option = record { rising = tt; below = tt }; steps = tt; end = tt }));
+  counted = let a = h.nodes_are in let b = ap (λ (cs : List Cell). length cs) h.cells_are in omega (arith, a, b);
+  few = let a = ap (λ (cs : List Cell). length cs) h.cells_are in let b = h.budget_is in omega (arith, a, b, some);
+  numbered = let a = ap (λ (cs : List Cell). length cs) h.cells_are in omega (arith, a);
+}
+
+-- ---- after it
+
+module _ (Past : PastPlaces) (p : Problem) (start : starts.Node) (budget : ℕ) (s : Growing) (h : IsLookedRoot Past p start budget s) (some : 1 ≤ budget) where
+  root_best : IsBest p h.looked.network
+  root_best = found_best p (place_of h.looked.cell) h.looked.network h.is_looked.seen.found
+
+  root_kept : IsKept p (node_of start) (claim_with h.looked.network) None (h.looked.cell ∷ [])
+  root_kept = leaf_is_kept p (node_of start) (claim_with h.looked.network) h.looked.cell h.is_looked.seen.what h.is_looked.seen.end_is h.is_looked.option_is h.is_looked.follows h.is_looked.sound
+      (subst (λ (o : Option CostOver). LeafPasses true p o (place_of h.looked.cell) h.is_looked.seen.what) (cost_is h.looked.network) h.is_looked.seen.passes) root_best.positive
+
+  root_tree : IsTreeKept p s
+  root_tree = record {
+    last = None;
+    kept = subst (λ (n : starts.Node). IsKept p (node_of n) (claim_with s.best) None s.pool.payloads) (sym h.start_is)
+        (subst (λ (w : Option claims.Network). IsKept p (node_of start) (claim_with w) None s.pool.payloads) (sym h.best_is)
+        (subst (λ (cs : List Cell). IsKept p (node_of start) (claim_with h.looked.network) None cs) (sym h.cells_are) root_kept));
+    passes = subst (λ (w : Option claims.Network). ClaimPasses true p (claim_with w)) (sym h.best_is) root_best.passes;
+    bounded = ap (λ (w : Option claims.Network). is_some w) h.best_is ∙ (h.is_looked.seen.bounded ∙ (or_nothing (is_bounded h.looked.cell.end) ∙ ap (λ (cs : List Cell). has_bounded cs) (sym h.cells_are)));
+    known = subst (λ (cs : List Cell). AreKnown p cs) (sym h.cells_are) (λ i lt. subst (λ j. KnowsCell p (cell_at (h.looked.cell ∷ []) j)) (let z : 0 ≡ i = omega (arith, lt) in z) h.is_looked.known);
+    counted = let a = h.nodes_are in let b = ap (λ (cs : List Cell). length cs) h.cells_are in omega (arith, a, b);
+    few = let a = ap (λ (cs : List Cell). length cs) h.cells_are in let b = h.budget_is in omega (arith, a, b, some);
+    numbered = let a = ap (λ (cs : List Cell). length cs) h.cells_are in omega (arith, a);
+  }
+
+  root_grows : h.looked.halt ≡ None → IsGrowing p s
+  root_grows eh = record {
+    tree = root_tree;
+    are_open = h.are_open;
+    ready = subst (λ (cs : List Cell). AreReady p cs s.pool.values s.ready.items) (sym h.cells_are)
+        (subst (λ (vs : List Frac). AreReady p (h.looked.cell ∷ []) vs s.ready.items) (sym h.values_are)
+        (subst (λ (rs : List (Option Ready)). AreReady p (h.looked.cell ∷ []) (h.looked.value ∷ []) rs) (sym h.ready_is) (
+          (λ e. subst (λ (i : Option Halt). IsOpenAs Past p (place_of h.looked.cell) h.is_looked.seen.what h.looked.value h.looked.ready i) eh h.is_looked.seen.open_as
+              (let q : leaf h.is_looked.seen.what ≡ leaf untried = sym h.is_looked.seen.end_is ∙ e in cc)),
+          tt,
+        )));
+  }
+
+  -- a root that is open has no network
+  root_below : LeastIsBelow s
+  root_below at v lt f e b = beaten_none s.best (ap (λ (w : Option claims.Network). is_some w) h.best_is ∙ (h.is_looked.seen.bounded ∙ unbounded)) b
+    where
+      one : length s.pool.payloads ≡ 1
+      one = ap (λ (cs : List Cell). length cs) h.cells_are
+
+      opens : is_open (cell_at s.pool.payloads 0).end ≡ true
+      opens = let z : at ≡ 0 = (let o = one in omega (arith, lt, o)) in
+          sym (h.are_open 0 (let o = one in omega (arith, o))) ∙ subst (λ j. has s.pool.leaves j ≡ true) z (first_has s.pool.leaves at f)
+
+      unbounded : is_bounded h.looked.cell.end ≡ false
+      unbounded = subst (λ (cs : List Cell). is_bounded (cell_at cs 0).end ≡ false) h.cells_are (open_unbounded (cell_at s.pool.payloads 0).end (open_leaf (cell_at s.pool.payloads 0).end opens))
+
+      beaten_none : (w : Option claims.Network) → is_some w ≡ false → IsBeaten w v → ⊥
+      beaten_none None n b = b
+      beaten_none (Some w) n b = true≢false n
+
+  root_halts : (i : Halt) → h.looked.halt ≡ Some i → IsHaltedAt Past p s 0 i
+  root_halts i eh =
+      let o = subst (λ (j : Option Halt). IsOpenAs Past p (place_of h.looked.cell) h.is_looked.seen.what h.looked.value h.looked.ready j) eh h.is_looked.seen.open_as in
+      record {
+        there = let a = ap (λ (cs : List Cell). length cs) h.cells_are in omega (arith, a);
+        is_open = subst (λ (cs : List Cell). (cell_at cs 0).end ≡ leaf untried) (sym h.cells_are) (h.is_looked.seen.end_is ∙ ap (λ (w : Leaf). leaf w) o.0);
+        halted = subst (λ (cs : List Cell). IsHalted Past p (place_of (cell_at cs 0)) i) (sym h.cells_are) o.1;
+      }
+
+  pub root_goes_on : IsGoing Past p s
+  root_goes_on = subst (λ (o : Option HaltedLeaf). GoesOn Past p s o) (sym h.halt_is) (by h.looked.halt refl)
+    where
+      by : (o : Option Halt) → h.looked.halt ≡ o → GoesOn Past p s (root_halt o)
+      by None e = (root_grows e, root_below)
+      by (Some i) e = (root_tree, root_halts i e)

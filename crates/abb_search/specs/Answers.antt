@@ -1,0 +1,38 @@
+-- What a turn answers.
+use Rattle.std.specs.Prelude.{◌≡◌, ℕ, ◌<◌, length, Option, Some, None}
+use Rattle.problem_rules.specs.Problem.{Problem}
+use Rattle.pgraph.specs.View.{node_of}
+use Rattle.tree_rules.specs.Claim as claims
+use Rattle.tree_rules.specs.Accepted.{Tree}
+use Rattle.node_looks.specs.Evaluated.{PastPlaces}
+use Rattle.abb_search.specs.declared.found.Found.{Found}
+use Rattle.abb_search.specs.declared.found.Found.TheVariants.{Past, Memory}
+use Rattle.abb_search.specs.declared.growing.Growing.{Growing}
+use Rattle.abb_search.specs.declared.growing.HaltedLeaf.{HaltedLeaf}
+use Rattle.abb_search.specs.Growing.{IsGoing}
+use Rattle.abb_search.specs.Found.{IsFound}
+
+-- what is found where a leaf halts the search
+abbrev pub past_with : Option claims.Network → Option HaltedLeaf → Tree → ℕ → Option Found
+past_with best None tree place = None
+past_with best (Some h) tree place = Some (Past best tree place h.halt.nonbasic h.halt.place)
+
+-- the search goes on with more nodes
+pub record IsMore (Halts : PastPlaces) (p : Problem) (old new : Growing) : Type 0 where
+  pub going : IsGoing Halts p new
+  pub more : length old.pool.payloads < length new.pool.payloads
+  pub start : new.start ≡ old.start
+  pub budget : new.budget ≡ old.budget
+
+-- or it ends, with the nodes that there are
+pub record IsEnd (Halts : PastPlaces) (p : Problem) (old new : Growing) (found : Found) : Type 0 where
+  pub is_found : IsFound Halts p (node_of old.start) old.budget found
+  pub answers : found ≡ Memory → ⊥
+  pub as_many : length new.pool.payloads ≡ length old.pool.payloads
+  pub counted : new.nodes ≡ length new.pool.payloads
+  pub start : new.start ≡ old.start
+  pub budget : new.budget ≡ old.budget
+
+abbrev pub StepHolds : PastPlaces → Problem → Growing → Growing → Option Found → Type 0
+StepHolds Halts p old new None = IsMore Halts p old new
+StepHolds Halts p old new (Some found) = IsEnd Halts p old new found

@@ -1,0 +1,107 @@
+//! What a search finds, and the tree that shows it.
+ghost use Rattle.std.specs.Prelude.{◌≡◌, ◌<◌, [], length, IfOk, IfSome};
+ghost use Rattle.tree_rules.specs.Claim.{IsSized};
+ghost use Rattle.search_tree.specs.Cells.{IsLinked, cell_at};
+ghost use Rattle.search_tree.specs.Preorder.{IsTreeOf};
+ghost use Rattle.abb_search.specs.Found.{found_with};
+ghost use Rattle.abb_search.specs.Answers.{past_with};
+
+use crate::growing::{Growing, HaltedLeaf};
+use branch_tree::{Columns, Network, Tree};
+use flow_program::Place;
+use search_tree::nodes_in_preorder;
+use std::alloc::{AllocError, Global};
+
+/// What a search finds.
+#[derive(Drop)]
+pub enum Found {
+    /// No network is cheaper, which the tree proves.
+    Solved {
+        network: Network,
+        tree: Tree,
+    },
+    /// No network has flows, which the tree proves.
+    Infeasible {
+        tree: Tree,
+    },
+    /// The budget is spent: the leaf `next` would be branched next, and has too many options.
+    Spent {
+        best: Option<Network>,
+        tree: Tree,
+        next: u32,
+        options: u128,
+    },
+    /// A number is past the range at an open leaf.
+    Past {
+        best: Option<Network>,
+        tree: Tree,
+        node: u32,
+        nonbasic: Columns,
+        place: Place,
+    },
+    /// There is no memory.
+    Memory,
+}
+
+/// A tree, and the place of one of its nodes.
+#[derive(Drop)]
+pub(crate) struct Placed {
+    pub tree: Tree,
+    pub place: u32,
+}
+
+/// A network has a set of units below 128. A call tells a proof so, and does nothing.
+fn is_sized(best: &Option<Network>)
+    ensures { IfSome best.now IsSized }
+{
+    if let Some(network) = best {
+        network.is_sized();
+    }
+}
+
+/// The tree of the nodes, and where the leaf stands in it.
+pub(crate) fn tree_with(alloc: Global, growing: &Growing, leaf: u32) -> Result<Placed, AllocError>
+    requires linked { IsLinked growing.now.pool.payloads }
+    requires root { (cell_at growing.now.pool.payloads 0).option ≡ [] }
+    requires leaf { leaf < length growing.now.pool.payloads }
+    ensures tree { IfOk result (λ t. IsTreeOf growing.now.pool.payloads leaf t.tree t.place) }
+    ensures sized { IfSome growing.now.best IsSized }
+{
+    search_tree::preorder_is_tree();
+    is_sized(&growing.best);
+    let preorder = nodes_in_preorder(alloc, &growing.pool, leaf)?;
+    Ok(Placed {
+        tree: Tree::from_nodes(preorder.nodes),
+        place: preorder.place,
+    })
+}
+
+/// What is found where no leaf is open.
+pub(crate) fn whole_found(best: Option<Network>, tree: Tree) -> Found
+    ensures { result ≡ found_with best tree }
+{
+    match best {
+        None => Found::Infeasible { tree },
+        Some(network) => Found::Solved { network, tree },
+    }
+}
+
+/// What is found where a leaf halts the search, which stands at this place of the tree.
+pub(crate) fn past_found(
+    best: Option<Network>,
+    halt: Option<HaltedLeaf>,
+    stopped: Placed,
+) -> Option<Found>
+    ensures { result ≡ past_with best halt stopped.tree stopped.place }
+{
+    match halt {
+        None => None,
+        Some(halted) => Some(Found::Past {
+            best,
+            tree: stopped.tree,
+            node: stopped.place,
+            nonbasic: halted.halt.nonbasic,
+            place: halted.halt.place,
+        }),
+    }
+}

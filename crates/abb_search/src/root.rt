@@ -1,0 +1,128 @@
+//! The root of a search.
+ghost use Rattle.std.specs.Prelude.{◌≡◌, ◌≤◌, [], ◌∷◌, None, IfOk, OnOk, length};
+ghost use Rattle.pns_rules.specs.Shape.{shape_of};
+ghost use Rattle.pns_rules.specs.Ends.{IsSound};
+ghost use Rattle.pgraph.specs.Tables.{shape};
+ghost use Rattle.pgraph.specs.View.{node_of};
+ghost use Rattle.search_tree.specs.Growth.{AreOpen};
+ghost use Rattle.neutral_extension.specs.Candidates.{AreMakersOf};
+ghost use Rattle.abb_search.specs.Growing.{root_halt, IsOpenRoot, IsLookedRoot};
+
+use crate::growing::{Growing, HaltedLeaf};
+use branch_tree::Steps;
+use frac128::Frac;
+use neutral_extension::Makers;
+use node_looks::{Evaluator, Halt, look, open_cell};
+use node_pool::Pool;
+use pgraph::Graph;
+use pns_problem::Problem;
+use search_tree::Cell;
+use std::alloc::{AllocError, Global};
+use unit_sets::{Node, UnitSet};
+
+/// Adds the root. It is an open leaf where its cell is one.
+fn add_root(pool: &mut Pool<Cell>, cell: Cell, value: Frac) -> Result<(), AllocError>
+    requires parents { pool.old.parents ≡ [] }
+    requires cells { pool.old.payloads ≡ [] }
+    requires values { pool.old.values ≡ [] }
+    requires leaves { pool.old.leaves ≡ [] }
+    ensures cells { OnOk result (pool.new.payloads ≡ cell ∷ []) }
+    ensures values { OnOk result (pool.new.values ≡ value ∷ []) }
+    ensures open { OnOk result (AreOpen pool.new) }
+{
+    let open = cell.ends_open();
+    match pool.add(None, value, cell) {
+        Err(_) => Err(AllocError),
+        Ok(id) => {
+            if !open {
+                pool.shut(id);
+            }
+            Ok(())
+        }
+    }
+}
+
+/// The root alone.
+fn root_pool(alloc: Global, cell: Cell, value: Frac) -> Result<Pool<Cell>, AllocError>
+    ensures cells { IfOk result (λ pool. pool.payloads ≡ cell ∷ []) }
+    ensures values { IfOk result (λ pool. pool.values ≡ value ∷ []) }
+    ensures open { IfOk result AreOpen }
+{
+    let mut pool = Pool::open(alloc, 1)?;
+    add_root(&mut pool, cell, value)?;
+    Ok(pool)
+}
+
+fn copy_of(node: &Node) -> Node
+    ensures { result ≡ node.now }
+{
+    *node
+}
+
+/// The root as an open leaf without steps.
+pub(crate) fn open_root(alloc: Global, start: Node, budget: u32) -> Result<Growing, AllocError>
+    ensures { IfOk result (IsOpenRoot start budget) }
+{
+    let root = copy_of(&start);
+    let cell = open_cell(UnitSet::empty(), Steps::from_vec(Vec::new(alloc)), root);
+    let pool = root_pool(alloc, cell, Frac::of(0, 1))?;
+    Ok(Growing {
+        start,
+        budget,
+        nodes: 1,
+        pool,
+        ready: Vec::new(alloc),
+        best: None,
+        halt: None,
+    })
+}
+
+/// The root is the first node.
+fn root_halt(halt: Option<Halt>) -> Option<HaltedLeaf>
+    ensures { result ≡ root_halt halt }
+{
+    match halt {
+        None => None,
+        Some(halt) => Some(HaltedLeaf { leaf: 0, halt }),
+    }
+}
+
+/// The root after the steps that are possible there.
+pub(crate) fn look_at_root<E: Evaluator>(
+    alloc: Global,
+    evaluator: &mut E,
+    problem: &Problem,
+    graph: &Graph,
+    makers: &mut Makers,
+    start: Node,
+    budget: u32,
+) -> Result<Growing, AllocError>
+    requires graph { shape graph.now ≡ shape_of problem.now }
+    requires same { AreMakersOf (shape graph.now) makers.old.makers }
+    requires sound { IsSound (shape_of problem.now) (node_of start) }
+    ensures root { IfOk result (IsLookedRoot E.past problem.now start budget) }
+    ensures makers { makers.new.makers ≡ makers.old.makers }
+{
+    let root = copy_of(&start);
+    let looked = look(
+        alloc,
+        evaluator,
+        problem,
+        graph,
+        makers,
+        UnitSet::empty(),
+        root,
+    )?;
+    let mut ready = Vec::new(alloc);
+    ready.push(looked.ready)?;
+    let pool = root_pool(alloc, looked.cell, looked.value)?;
+    Ok(Growing {
+        start,
+        budget,
+        nodes: 1,
+        pool,
+        ready,
+        best: looked.network,
+        halt: root_halt(looked.halt),
+    })
+}

@@ -1,0 +1,137 @@
+//! A turn of a search.
+ghost use Rattle.std.specs.Prelude.{◌≡◌, ◌<◌, ◌≤◌, Some, None, IfOk, OnErr, length};
+ghost use Rattle.pns_rules.specs.Shape.{shape_of};
+ghost use Rattle.pns_rules.specs.Nodes.{options};
+ghost use Rattle.pns_rules.specs.Ends.{IsSound};
+ghost use Rattle.search_tree.specs.Cells.{cell_at};
+ghost use Rattle.pgraph.specs.Tables.{shape};
+ghost use Rattle.pgraph.specs.View.{node_of};
+ghost use Rattle.neutral_extension.specs.Candidates.{AreMakersOf};
+ghost use Rattle.abb_search.specs.Growing.{IsGrowing, LeastIsBelow, IsGoing, IsSame};
+ghost use Rattle.abb_search.specs.Answers.{StepHolds};
+ghost use Rattle.abb_search.specs.Searched.{StandsAt};
+
+use crate::found::{Found, past_found, tree_with, whole_found};
+use crate::growing::{
+    Growing, branch_leaf, chosen, first_material, halted_leaf, is_over, node_at, shut_beaten,
+};
+use crate::root::look_at_root;
+use branch_choice::option_count;
+use neutral_extension::Makers;
+use node_looks::Evaluator;
+use pgraph::Graph;
+use pns_problem::Problem;
+use std::alloc::{AllocError, Global};
+
+/// How many options the material has at a leaf.
+fn options_at(graph: &Graph, growing: &Growing, leaf: u32, material: u32) -> u128
+    requires leaf { leaf < length growing.now.pool.payloads }
+    requires known { material < (shape graph.now).materials }
+    ensures { result ≡ length (options (shape graph.now) (node_of (cell_at growing.now.pool.payloads leaf).node) material) }
+{
+    option_count(graph, node_at(&growing.pool, leaf), material)
+}
+
+/// Branches the open leaf of least value, or tells what is found. No leaf halts the search.
+fn go_on<E: Evaluator>(
+    alloc: Global,
+    evaluator: &mut E,
+    problem: &Problem,
+    graph: &Graph,
+    makers: &mut Makers,
+    growing: &mut Growing,
+) -> Result<Option<Found>, AllocError>
+    requires graph { shape graph.now ≡ shape_of problem.now }
+    requires same { AreMakersOf (shape graph.now) makers.old.makers }
+    requires growing { IsGrowing problem.now growing.old }
+    requires below { LeastIsBelow growing.old }
+    requires goes_on { growing.old.halt ≡ None }
+    ensures holds { IfOk result (StepHolds E.past problem.now growing.old growing.new) }
+    ensures same { OnErr result (IsSame growing.old growing.new) }
+    ensures makers { makers.new.makers ≡ makers.old.makers }
+{
+    problem.is_valid();
+    growing.pool.is_pool();
+    let Some(leaf) = growing.pool.least() else {
+        let whole = tree_with(alloc, growing, 0)?;
+        return Ok(Some(whole_found(growing.best.take(), whole.tree)));
+    };
+    let first = first_material(&growing.ready, leaf);
+    let options = options_at(graph, growing, leaf, first);
+    if is_over(options, growing.nodes, growing.budget) {
+        let stopped = tree_with(alloc, growing, leaf)?;
+        return Ok(Some(Found::Spent {
+            best: growing.best.take(),
+            tree: stopped.tree,
+            next: stopped.place,
+            options,
+        }));
+    }
+    let material = chosen(graph, node_at(&growing.pool, leaf), first);
+    let node = node_at(&growing.pool, leaf);
+    branch_leaf(
+        alloc, evaluator, problem, graph, makers, growing, leaf, node, material,
+    )?;
+    shut_beaten(problem, growing);
+    Ok(None)
+}
+
+/// Makes the nodes more, or tells what is found. After `Err`, which comes for want of memory alone, the tree is as before.
+pub(crate) fn step<E: Evaluator>(
+    alloc: Global,
+    evaluator: &mut E,
+    problem: &Problem,
+    graph: &Graph,
+    makers: &mut Makers,
+    growing: &mut Growing,
+) -> Result<Option<Found>, AllocError>
+    requires graph { shape graph.now ≡ shape_of problem.now }
+    requires same { AreMakersOf (shape graph.now) makers.old.makers }
+    requires going { IsGoing E.past problem.now growing.old }
+    ensures holds { IfOk result (StepHolds E.past problem.now growing.old growing.new) }
+    ensures same { OnErr result (IsSame growing.old growing.new) }
+    ensures makers { makers.new.makers ≡ makers.old.makers }
+{
+    let Some(leaf) = halted_leaf(&growing.halt) else {
+        return go_on(alloc, evaluator, problem, graph, makers, growing);
+    };
+    let stopped = tree_with(alloc, growing, leaf)?;
+    Ok(past_found(growing.best.take(), growing.halt.take(), stopped))
+}
+
+/// Takes a search so far that its nodes are more, or to its end; before the first turn the root is not looked at yet. After `Err`, which
+/// comes for want of memory alone, the tree is as before.
+pub(crate) fn take_turn<E: Evaluator>(
+    alloc: Global,
+    evaluator: &mut E,
+    problem: &Problem,
+    graph: &Graph,
+    makers: &mut Makers,
+    growing: &mut Growing,
+    looked: bool,
+) -> Result<Option<Found>, AllocError>
+    requires graph { shape graph.now ≡ shape_of problem.now }
+    requires same { AreMakersOf (shape graph.now) makers.old.makers }
+    requires sound { IsSound (shape_of problem.now) (node_of growing.old.start) }
+    requires some { 1 ≤ growing.old.budget }
+    requires stands { StandsAt E.past problem.now growing.old looked }
+    ensures holds { IfOk result (StepHolds E.past problem.now growing.old growing.new) }
+    ensures same { OnErr result (IsSame growing.old growing.new) }
+    ensures makers { makers.new.makers ≡ makers.old.makers }
+{
+    if looked {
+        return step(alloc, evaluator, problem, graph, makers, growing);
+    }
+    let mut root = look_at_root(
+        alloc,
+        evaluator,
+        problem,
+        graph,
+        makers,
+        growing.start,
+        growing.budget,
+    )?;
+    let found = step(alloc, evaluator, problem, graph, makers, &mut root)?;
+    *growing = root;
+    Ok(found)
+}
