@@ -6,17 +6,9 @@ use flow_program::Place;
 #[derive(Drop)]
 pub enum StructureFlows {
     /// Flows of least cost, and multipliers whose bound over their scale is that cost.
-    Least {
-        network: Network,
-        bound: Scaled,
-    },
+    Least { network: Network, bound: Scaled },
     /// There are none: the multipliers refute them.
-    Refuted {
-        ys: Multipliers,
-    },
+    Refuted { ys: Multipliers },
     /// A number is out of range at the place, at the basis that leaves these columns out.
-    Past {
-        nonbasic: Columns,
-        place: Place,
-    },
+    Past { nonbasic: Columns, place: Place },
 }

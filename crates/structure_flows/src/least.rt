@@ -1,6 +1,7 @@
 // The least flows of a set of units.
 ghost use Rattle.std.specs.Prelude.{◌≡◌, ◌<◌, ℕ, length, true, IfOk};
 ghost use Rattle.number_sets.specs.Sets.{has};
+ghost use Rattle.int_rows.specs.Range.{InRange, AllInRange};
 ghost use Rattle.pns_rules.specs.Shape.{shape_of};
 ghost use Rattle.pns_rules.specs.Structure.{IsStructure};
 ghost use Rattle.pgraph.specs.Tables.{shape};
@@ -81,6 +82,15 @@ fn refuted(
     })
 }
 
+/// The multipliers that the bench keeps, behind their scale.
+fn kept_bound(alloc: Global, bench: &Bench) -> Result<Scaled, AllocError>
+    requires scale { InRange bench.now.d }
+    requires multipliers { AllInRange bench.now.ys }
+    ensures { IfOk result (λ s. s ≡ record { d = bench.now.d; ys = bench.now.ys }) }
+{
+    Scaled::of(alloc, bench.d(), bench.ys())
+}
+
 fn least(
     alloc: Global,
     problem: &Problem,
@@ -109,7 +119,7 @@ fn least(
         return past(alloc, problem, set, bench, place);
     }
     let sizes = bench.flows().to_vec(alloc)?;
-    let bound = Scaled::of(alloc, bench.d(), bench.ys())?;
+    let bound = kept_bound(alloc, bench)?;
     let den = bench.flow_den();
     match cost_of(problem, graph, set, &sizes, den) {
         Ok(cost) => Ok(StructureFlows::Least {

@@ -10,6 +10,7 @@ use Rattle.flow_rules.specs.Relaxed.{units}
 use Rattle.flow_rules.specs.Steps.{AreInRange, IsFirstPast}
 use Rattle.flow_rules.specs.CostSteps.{cost_steps}
 use Rattle.tree_rules.specs.Claim.{Network}
+use Rattle.branch_tree.specs.Scaled.{Scaled}
 use Rattle.dual_simplex.specs.Bench.{IsLeastOf, AreFlowsOf}
 use Rattle.branch_tree.specs.Known.{KnowsPlace}
 use Rattle.dual_simplex.specs.PastPlace.{IsPastFlowOf}
@@ -108,12 +109,10 @@ of-requires-clause-sizes_in_range c =
     let items : c.in_ok-sizes.sizes.items ≡ b.flows = search rules in
     subst AllInRange (sym items) f.in_range
 
-pub from_vec-requires : goal.from_vec-requires
-from_vec-requires c =
-    let b = c.read_flows.new.self in
-    let l : IsLeastOf c.args.program.now b = c.read_flows.ensures.least in
-    let listed : c.in_ok-ys.ys.items ≡ b.ys = search rules in
-    record { in_range = subst AllInRange (sym listed) l.in_range }
+pub kept_bound-requires-clause-multipliers : goal.kept_bound-requires-clause-multipliers
+kept_bound-requires-clause-multipliers c =
+    let l : IsLeastOf c.args.program.now c.read_flows.new.self = c.read_flows.ensures.least in
+    l.in_range
 
 pub returns-in-Ok : goal.returns-in-Ok
 returns-in-Ok c =
@@ -146,10 +145,6 @@ returns-in-Ok c =
     let network : List ℤ → ℤ → Network = λ zs e. record { units = us; sizes = zs; d = e; cost = c.in-Ok.cost } in
     let made : c.of.result ≡ network c.in_ok-sizes.sizes.items c.flow_den-den.result = simp to_z-of_z at c.of.ensures in
     let is : c.of.result ≡ network b.flows b.flow_den = made ∙ (ap (λ (zs : List ℤ). network zs c.flow_den-den.result) items ∙ ap (λ (e : ℤ). network b.flows e) den) in
-    let fs : SFits w128 c.d-d.result = search rules in
-    let scale : c.d-d.result ≡ b.d = c.d-d.ensures in
-    let listed : c.in_ok-ys.ys.items ≡ b.ys = search rules in
-    let ys : c.from_vec.result ≡ b.ys = c.from_vec.ensures ∙ listed in
-    simp to_z-of_z (subst (λ (w : Network). IsLeastFor p us w c.d-d.result c.from_vec.result) (sym is)
-    (subst (λ (d : ℤ). IsLeastFor p us (network b.flows b.flow_den) d c.from_vec.result) (sym scale)
-    (subst (λ (zs : List ℤ). IsLeastFor p us (network b.flows b.flow_den) b.d zs) (sym ys) whole)))
+    let kept : c.in_ok-bound.bound ≡ record { d = b.d; ys = b.ys } = c.in_ok-bound.ensures in
+    (subst (λ (w : Network). IsLeastFor p us w c.in_ok-bound.bound.d c.in_ok-bound.bound.ys) (sym is)
+    (subst (λ (s : Scaled). IsLeastFor p us (network b.flows b.flow_den) s.d s.ys) (sym kept) whole))
