@@ -1,0 +1,156 @@
+-- What the bench keeps of a node, as a search is told it.
+use Rattle.std.proofs.Common.{◌≡◌, ℕ, Bool, true, false, not, ℤ, pos, ◌*ℤ◌, ◌≤ℤ◌, List, [], ◌∷◌, length, refl, sym, ap, ◌∙◌, subst, arith}
+use Rattle.std.specs.Prelude.{◌&&◌}
+use Rattle.std.proofs.lemmas.Int.{ints}
+use Rattle.number_sets.specs.Sets.{has, IsRising}
+use Rattle.number_sets.proofs.SetLemmas.{below_from, listed-is}
+use Rattle.int_rows.specs.Lowest.{IsLowest}
+use Rattle.int_rows.specs.Range.{InRange}
+use Rattle.problem_rules.specs.Problem.{Problem}
+use Rattle.problem_rules.specs.Validity.{IsValid}
+use Rattle.pns_rules.specs.Shape.{shape_of}
+use Rattle.pns_rules.specs.Ends.{IsSound, IsDecided}
+use Rattle.pns_rules.specs.Nodes as rules
+use Rattle.pgraph.specs.View.{node_of}
+use Rattle.unit_sets.specs.declared.node.Node.{Node}
+use Rattle.frac128.specs.declared.fraction.Frac.{Frac}
+use Rattle.flow_rules.specs.Net.{net_of, beside}
+use Rattle.flow_rules.specs.Flows.{IsFlows, cost}
+use Rattle.flow_rules.specs.Program.{Program, program_of}
+use Rattle.flow_rules.specs.Relaxed.{bound, units}
+use Rattle.flow_rules.specs.Steps.{AreInRange, last_from}
+use Rattle.flow_rules.specs.CostSteps.{cost_steps}
+use Rattle.flow_rules.specs.FeasibleSteps.{feasible_steps}
+use Rattle.end_laws.specs.Ends.{IsSplit}
+use Rattle.tree_rules.specs.Leaf.{IsFormed, multiplier}
+use Rattle.tree_rules.specs.Claim.{Network}
+use Rattle.dual_simplex.specs.Bench.{Bench, IsLeastOf, AreFlowsOf}
+use Rattle.dual_simplex.specs.Laws.{ScaleIsPositive, BoundIsReached, BoundIsLeast}
+use Rattle.dual_simplex.specs.FlowLaws.{UnitsAreInside, SplitFlowsAreFlows, SplitFlowsAreLeast}
+use Rattle.node_looks.specs.Evaluated.{IsBoundOf, IsNetworkOf}
+use Rattle.flow_evaluator.proofs.ValueLemmas.{lowest_le, lowest_same, lowest_over}
+
+-- the fraction is the bound that the bench keeps, over its scale
+abbrev pub IsValueAt : Problem → rules.Node → Bench → Frac → Type 0
+IsValueAt p n b v = IsLowest (bound (net_of p) n b.d (multiplier p n b.ys)) b.d v.num v.den
+
+no_more : (a b : ℤ) → a ≡ b → a ≤ℤ b
+no_more a b e = omega (arith, ints)
+
+no_less : (a b : ℤ) → a ≡ b → b ≤ℤ a
+no_less a b e = omega (arith, ints)
+
+-- the last of numbers in range is in range
+pub last_in_range : (before : ℤ) (zs : List ℤ) → InRange before → AreInRange zs → InRange (last_from before zs)
+last_in_range before [] h k = h
+last_in_range before (z ∷ zs) h k = last_in_range z zs k.0 k.1
+
+-- equals for equals
+pub carried : (P : List ℕ → List ℤ → ℤ → Type 0) (us vs : List ℕ) (zs ws : List ℤ) (d e : ℤ) → us ≡ vs → zs ≡ ws → d ≡ e → P us zs d → P vs ws e
+carried P us vs zs ws d e a b c h = subst (λ (xs : List ℕ). P xs ws e) a (subst (λ (xs : List ℤ). P us xs e) b (subst (λ (x : ℤ). P us zs x) c h))
+
+-- the same multipliers over the same scale
+pub kept_value : (p : Problem) (n : rules.Node) (old new : Bench) (v : Frac) → new.d ≡ old.d → new.ys ≡ old.ys → IsValueAt p n old v → IsValueAt p n new v
+kept_value p n old new v d ys h =
+    subst (λ (e : ℤ). IsLowest (bound (net_of p) n e (multiplier p n new.ys)) e v.num v.den) (sym d)
+    (subst (λ (zs : List ℤ). IsLowest (bound (net_of p) n old.d (multiplier p n zs)) old.d v.num v.den) (sym ys) h)
+
+pub kept_steps : (p : Problem) (n : rules.Node) (old new : Bench) → new.d ≡ old.d → new.ys ≡ old.ys → IsFormed p n old.d old.ys → IsFormed p n new.d new.ys
+kept_steps p n old new d ys h =
+    subst (λ (e : ℤ). IsFormed p n e new.ys) (sym d) (subst (λ (zs : List ℤ). IsFormed p n old.d zs) (sym ys) h)
+
+module _ (p : Problem) (valid : IsValid p) (n : rules.Node) (b : Bench) (least : IsLeastOf (program_of (net_of p) n) b) where
+  -- the value with the multipliers
+  pub bound_is : ScaleIsPositive → BoundIsReached → BoundIsLeast → (v : Frac) → IsValueAt p n b v → IsFormed p n b.d b.ys
+      → IsBoundOf p n (record { value = v; scaled = record { d = b.d; ys = b.ys } })
+  bound_is scale reached under v low formed = let r = reached p valid n own b refl least in record {
+    value = record {
+      positive = den;
+      under = λ z d relaxed. lowest_le total b.d v.num v.den low positive v.positive d _ (under p valid n own b refl least z d relaxed);
+      reached = record {
+        sizes = r.0;
+        d = r.1;
+        relaxed = r.2;
+        at_most = no_less _ _ (lowest_same total b.d v.num v.den low positive v.positive r.1 _ r.3);
+      };
+    };
+    bounded = record {
+      positive = positive;
+      each_row = least.count;
+      formed = formed;
+      reaches = no_more _ _ (lowest_over total b.d v.num v.den low positive v.positive);
+    };
+  }
+    where
+      own : Program
+      own = program_of (net_of p) n
+
+      total : ℤ
+      total = bound (net_of p) n b.d (multiplier p n b.ys)
+
+      positive : pos 1 ≤ℤ b.d
+      positive = scale p valid n own b refl least
+
+      den : pos 1 ≤ℤ v.den
+      den = let h = v.positive in omega (arith, ints)
+
+-- ---- where all is decided
+
+opposed : (a b : Bool) → (a ≡ true → b ≡ true → ⊥) → (not a && not b) ≡ false → b ≡ not a
+opposed true true h k = absurd (h refl refl)
+opposed true false h k = refl
+opposed false true h k = refl
+opposed false false h k = absurd (let e : true ≡ false = k in cc)
+
+pub is_split : (p : Problem) (n : rules.Node) → IsSound (shape_of p) n → IsDecided (shape_of p) n → IsSplit (net_of p) n
+is_split p n sound decided i h = opposed (n.inside i) (n.outside i) (sound.apart i) (decided.none_free i h)
+
+-- the units of the program are those that are taken in
+pub units_inside : (p : Problem) (node : Node) → IsRising node.inside → IsSound (shape_of p) (node_of node) → IsSplit (net_of p) (node_of node) → UnitsAreInside
+    → units (net_of p) (node_of node) ≡ node.inside
+units_inside p node rising sound split law =
+    law (net_of p) (node_of node) split
+    ∙ listed-is (length p.units) node.inside (record { rising = rising; below = below_from (length p.units) node.inside sound.known })
+
+abbrev pub network_with : Node → Bench → ℤ → Network
+network_with node b total = record { units = node.inside; sizes = b.flows; d = b.flow_den; cost = total }
+
+module _ (p : Problem) (valid : IsValid p) (node : Node) (b : Bench) (least : IsLeastOf (program_of (net_of p) (node_of node)) b)
+    (flows : AreFlowsOf (program_of (net_of p) (node_of node)) b) (sound : IsSound (shape_of p) (node_of node)) (decided : IsDecided (shape_of p) (node_of node))
+    (same : units (net_of p) (node_of node) ≡ node.inside) where
+  -- the network of the flows that the bench keeps
+  pub network_is : ScaleIsPositive → SplitFlowsAreFlows → SplitFlowsAreLeast → (v : Frac) → IsValueAt p (node_of node) b v
+      → (total : ℤ) → total ≡ cost (net_of p) (has node.inside) (beside node.inside b.flows) b.flow_den
+      → AreInRange (cost_steps (net_of p) (has node.inside) (beside node.inside b.flows) b.flow_den)
+      → AreInRange (feasible_steps (net_of p) (has node.inside) (beside node.inside b.flows) b.flow_den)
+      → IsNetworkOf p v (network_with node b total)
+  network_is scale are_flows are_least v low total total_is costs balances = record {
+    feasible = record {
+      structure = decided.meets;
+      allowed = decided.allowed;
+      balances = balances;
+      flows = subst (λ (us : List ℕ). IsFlows (net_of p) (has node.inside) (beside us b.flows) b.flow_den) same (are_flows p valid n own b split refl least flows);
+      costs = costs;
+      cost_is = sym total_is;
+    };
+    positive = flows.positive;
+    no_more = no_less _ _ equal;
+    no_less = no_more _ _ equal;
+  }
+    where
+      n : rules.Node
+      n = node_of node
+
+      own : Program
+      own = program_of (net_of p) n
+
+      split : IsSplit (net_of p) n
+      split = is_split p n sound decided
+
+      reached : b.flow_den *ℤ bound (net_of p) n b.d (multiplier p n b.ys) ≡ b.d *ℤ total
+      reached =
+          are_least p valid n own b split refl least flows
+          ∙ ap (λ (z : ℤ). b.d *ℤ z) (ap (λ (us : List ℕ). cost (net_of p) (has node.inside) (beside us b.flows) b.flow_den) same ∙ sym total_is)
+
+      equal : v.num *ℤ b.flow_den ≡ total *ℤ v.den
+      equal = lowest_same (bound (net_of p) n b.d (multiplier p n b.ys)) b.d v.num v.den low (scale p valid n own b refl least) v.positive b.flow_den total reached

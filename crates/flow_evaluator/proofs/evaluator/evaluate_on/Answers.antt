@@ -1,0 +1,43 @@
+use Rattle.std.proofs.Common.{◌≤◌, length, refl, sym, subst, arith}
+use Rattle.number_sets.proofs.SetLemmas.{length_listed}
+use Rattle.pns_rules.specs.Structure.{mats}
+use Rattle.pgraph.specs.View.{node_of}
+use Rattle.flow_rules.specs.Net.{net_of}
+use Rattle.flow_rules.specs.Program.{Program, program_of}
+use Rattle.flow_rules.specs.Relaxed.{stays, units, rows}
+use Rattle.dual_simplex.specs.Bench.{HasRoom}
+use Rattle.dual_simplex.specs.PastPlace.{IsPastOf}
+use Rattle.flow_evaluator.specs.Past.{IsPastAt}
+use Rattle.flow_evaluator.proofs.KnownLemmas.{place_known, kept_known, halted_is}
+use Rattle.flow_evaluator.proofs.evaluator.evaluate_on.Goals as goal
+
+pub least-requires : goal.least-requires
+least-requires c =
+    let p = c.args.problem.now in
+    let n = node_of c.args.node.now in
+    let b = c.args.bench.now in
+    let few_units : length (units (net_of p) n) ≤ length p.units = length_listed (length p.units) (stays n) in
+    let few_rows : length (rows (net_of p) n) ≤ length p.materials = length_listed (length p.materials) (mats (net_of p).graph (stays n)) in
+    let own : HasRoom b (length (units (net_of p) n)) (length (rows (net_of p) n)) = record {
+      units_fit = omega (arith, few_units, c.requires.room.units_fit);
+      rows_fit = omega (arith, few_rows, c.requires.room.rows_fit);
+    } in
+    record { fits = subst (λ (q : Program). HasRoom b (length q.units) (length q.rows)) (sym c.in_ok-program.ensures) own }
+
+pub returns-clause-evaluated : goal.returns-clause-evaluated
+returns-clause-evaluated c =
+    let p = c.args.problem.now in
+    let n = node_of c.args.node.now in
+    let b = c.least.new.self in
+    let own = program_of (net_of p) n in
+    let place = c.in-Err.place in
+    let at : IsPastOf own b place = subst (λ (r : Program). IsPastOf r b place) c.in_ok-program.ensures c.in-Err.ensures.past in
+    let past : IsPastAt p n b.nonbasic place = record {
+      past = c.entry_is_past.ensures (net_of p) n own b place refl at;
+      columns = kept_known p n b c.names_are_of_program.ensures.nonbasic at.nonbasic_are;
+      known = place_known p n place (c.names_are_of_program.ensures.entries own b place at);
+    } in
+    halted_is p n b.nonbasic place c.halted.result past c.halted.ensures c.args.decided
+
+pub returns-in-Ok-None-clause-evaluated : goal.returns-in-Ok-None-clause-evaluated
+returns-in-Ok-None-clause-evaluated c = c.refuted.ensures c.args.decided

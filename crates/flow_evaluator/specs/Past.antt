@@ -1,0 +1,17 @@
+-- Where a number of a node's program is past the range.
+use Rattle.std.specs.Prelude.{List}
+use Rattle.problem_rules.specs.Each.{Each}
+use Rattle.problem_rules.specs.Problem.{Problem}
+use Rattle.pns_rules.specs.Nodes.{Node}
+use Rattle.flow_rules.specs.Net.{net_of}
+use Rattle.flow_program.specs.declared.place.Column.{Column}
+use Rattle.flow_program.specs.declared.place.Place.{Place}
+use Rattle.branch_tree.specs.Known.{KnowsColumn, KnowsPlace}
+use Rattle.dual_simplex.specs.PastPlace.{IsPastNamed}
+
+-- the place is past at the last basis of the path of the node's program, these are the columns outside that basis, and all their
+-- numbers are those of units and materials of the problem
+pub record IsPastAt (p : Problem) (n : Node) (nonbasic : List Column) (place : Place) : Type 0 where
+  pub past : IsPastNamed (net_of p) n nonbasic place
+  pub columns : Each (KnowsColumn p) nonbasic
+  pub known : KnowsPlace p place

@@ -1,0 +1,155 @@
+//! What the last basis of a node's path gives.
+ghost use Rattle.std.specs.Prelude.{◌≡◌, ◌≤ℤ◌, Bool, true, pos, length, IfOk};
+ghost use Rattle.int_rows.specs.Lowest.{IsLowest};
+ghost use Rattle.int_rows.specs.Range.{InRange, AllInRange};
+ghost use Rattle.pns_rules.specs.Shape.{shape_of};
+ghost use Rattle.pns_rules.specs.Ends.{IsSound, IsDecided};
+ghost use Rattle.pgraph.specs.Tables.{shape};
+ghost use Rattle.pgraph.specs.View.{node_of};
+ghost use Rattle.flow_rules.specs.Net.{net_of};
+ghost use Rattle.flow_rules.specs.Program.{program_of};
+ghost use Rattle.flow_rules.specs.Relaxed.{bound};
+ghost use Rattle.tree_rules.specs.Leaf.{IsFormed, multiplier};
+ghost use Rattle.dual_simplex.specs.Bench.{IsLeastOf, IsNoneOf};
+ghost use Rattle.node_looks.specs.Evaluated.{IsEvaluated};
+ghost use Rattle.node_looks.specs.declared.evaluator.Evaluation.TheVariants.{Halted};
+ghost use Rattle.flow_evaluator.specs.Past.{IsPastAt};
+
+use crate::sums::{cost_of_flows, form_refutation, value_of};
+use branch_tree::{Columns, Multipliers, Network, Scaled};
+use dual_simplex::{
+    Bench, flow_is_past, least_is_least, names_are_of_program, none_is_refuted,
+    split_flows_are_least,
+};
+use flow_program::{Place, Program};
+use frac128::Frac;
+use node_looks::{Bound, Evaluation, Halt};
+use pgraph::Graph;
+use pns_problem::Problem;
+use std::alloc::{AllocError, Global};
+use unit_sets::Node;
+
+/// A place at which a number is past the range, with the columns outside the basis that the bench keeps.
+pub(crate) fn halted(alloc: Global, bench: &Bench, place: Place) -> Result<Evaluation, AllocError>
+    ensures { IfOk result (λ e. e ≡ Halted (record { nonbasic = bench.now.nonbasic; place = place })) }
+{
+    let nonbasic = Columns::from_vec(bench.nonbasic().to_vec(alloc)?);
+    Ok(Evaluation::Halted(Halt { nonbasic, place }))
+}
+
+/// After `None`: the multipliers of the row that can't be met.
+pub(crate) fn refuted(
+    alloc: Global,
+    problem: &Problem,
+    graph: &Graph,
+    node: &Node,
+    bench: &Bench,
+) -> Result<Evaluation, AllocError>
+    requires graph { shape graph.now ≡ shape_of problem.now }
+    requires sound { IsSound (shape_of problem.now) (node_of node.now) }
+    requires none { IsNoneOf (program_of (net_of problem.now) (node_of node.now)) bench.now }
+    ensures { (decided : Bool) → IfOk result (IsEvaluated IsPastAt problem.now (node_of node.now) decided) }
+{
+    problem.is_valid();
+    none_is_refuted();
+    if let Err(place) = form_refutation(problem, graph, node, bench) {
+        return halted(alloc, bench, place);
+    }
+    let ys = bench.ys().to_vec(alloc)?;
+    Ok(Evaluation::Refuted(Multipliers::from_vec(ys)))
+}
+
+/// After `Least`: the value, with the multipliers that prove it.
+fn bound_at(alloc: Global, value: Frac, bench: &Bench) -> Result<Bound, AllocError>
+    requires scale_in_range { InRange bench.now.d }
+    requires in_range { AllInRange bench.now.ys }
+    ensures { IfOk result (λ b. b ≡ record { value = value; scaled = record { d = bench.now.d; ys = bench.now.ys } }) }
+{
+    let scaled = Scaled::of(alloc, bench.d(), bench.ys())?;
+    Ok(Bound { value, scaled })
+}
+
+/// After `read_flows`, where all is decided: the network of the units that are taken in.
+fn network_at(alloc: Global, node: &Node, bench: &Bench, cost: i128) -> Result<Network, AllocError>
+    requires one_size { length bench.now.flows ≡ length node.now.inside }
+    requires positive { pos 1 ≤ℤ bench.now.flow_den }
+    requires den_in_range { InRange bench.now.flow_den }
+    requires in_range { AllInRange bench.now.flows }
+    requires cost_in_range { InRange cost }
+    ensures { IfOk result (λ w. w ≡ record { units = node.now.inside; sizes = bench.now.flows; d = bench.now.flow_den; cost = cost }) }
+{
+    let sizes = bench.flows().to_vec(alloc)?;
+    Ok(Network::of(node.inside, sizes, bench.flow_den(), cost))
+}
+
+/// After `Least`, where all is decided: the network of the flows that are read off the basis.
+fn with_flows(
+    alloc: Global,
+    problem: &Problem,
+    graph: &Graph,
+    node: &Node,
+    program: &Program,
+    bench: &mut Bench,
+    value: Frac,
+) -> Result<Evaluation, AllocError>
+    requires graph { shape graph.now ≡ shape_of problem.now }
+    requires sound { IsSound (shape_of problem.now) (node_of node.now) }
+    requires decided { IsDecided (shape_of problem.now) (node_of node.now) }
+    requires program { program.now ≡ program_of (net_of problem.now) (node_of node.now) }
+    requires least { IsLeastOf program.now bench.old }
+    requires value { IsLowest (bound (net_of problem.now) (node_of node.now) bench.old.d (multiplier problem.now (node_of node.now) bench.old.ys)) bench.old.d value.num value.den }
+    requires formed { IsFormed problem.now (node_of node.now) bench.old.d bench.old.ys }
+    ensures rows { bench.new.rows ≡ bench.old.rows }
+    ensures evaluated { IfOk result (IsEvaluated IsPastAt problem.now (node_of node.now) true) }
+{
+    problem.is_valid();
+    node.inside.rises();
+    least_is_least();
+    split_flows_are_least();
+    flow_is_past();
+    names_are_of_program();
+    if let Err(place) = bench.read_flows(program) {
+        return halted(alloc, bench, place);
+    }
+    match cost_of_flows(problem, graph, node, bench) {
+        Err(place) => halted(alloc, bench, place),
+        Ok(cost) => {
+            let bound = bound_at(alloc, value, bench)?;
+            let network = network_at(alloc, node, bench, cost)?;
+            Ok(Evaluation::Flows(bound, network))
+        }
+    }
+}
+
+/// After `Least`: the least cost of relaxed flows, and where all is decided a network of that cost.
+pub(crate) fn bounded(
+    alloc: Global,
+    problem: &Problem,
+    graph: &Graph,
+    node: &Node,
+    decided: bool,
+    program: &Program,
+    bench: &mut Bench,
+) -> Result<Evaluation, AllocError>
+    requires graph { shape graph.now ≡ shape_of problem.now }
+    requires sound { IsSound (shape_of problem.now) (node_of node.now) }
+    requires split { decided ≡ true → IsDecided (shape_of problem.now) (node_of node.now) }
+    requires program { program.now ≡ program_of (net_of problem.now) (node_of node.now) }
+    requires least { IsLeastOf program.now bench.old }
+    ensures rows { bench.new.rows ≡ bench.old.rows }
+    ensures evaluated { IfOk result (IsEvaluated IsPastAt problem.now (node_of node.now) decided) }
+{
+    problem.is_valid();
+    least_is_least();
+    match value_of(problem, graph, node, bench) {
+        Err(place) => halted(alloc, bench, place),
+        Ok(value) => {
+            if decided {
+                with_flows(alloc, problem, graph, node, program, bench, value)
+            } else {
+                let bound = bound_at(alloc, value, bench)?;
+                Ok(Evaluation::Least(bound))
+            }
+        }
+    }
+}

@@ -1,0 +1,113 @@
+//! The sums over what a bench keeps, each with the place at which it leaves the range.
+ghost use Rattle.std.specs.Prelude.{◌≡◌, pos, true, IfOk, IfErr, OnOk};
+ghost use Rattle.number_sets.specs.Sets.{has};
+ghost use Rattle.int_rows.specs.Range.{InRange};
+ghost use Rattle.int_rows.specs.Lowest.{IsLowest};
+ghost use Rattle.pns_rules.specs.Shape.{shape_of};
+ghost use Rattle.pns_rules.specs.Ends.{IsSound, IsDecided};
+ghost use Rattle.pgraph.specs.Tables.{shape};
+ghost use Rattle.pgraph.specs.View.{node_of};
+ghost use Rattle.flow_rules.specs.Net.{net_of, beside};
+ghost use Rattle.flow_rules.specs.Flows.{cost};
+ghost use Rattle.flow_rules.specs.Program.{program_of};
+ghost use Rattle.flow_rules.specs.Relaxed.{bound};
+ghost use Rattle.flow_rules.specs.Steps.{AreInRange};
+ghost use Rattle.flow_rules.specs.CostSteps.{cost_steps};
+ghost use Rattle.flow_rules.specs.FeasibleSteps.{feasible_steps};
+ghost use Rattle.tree_rules.specs.Leaf.{IsFormed, multiplier};
+ghost use Rattle.dual_simplex.specs.Bench.{IsLeastOf, IsNoneOf, AreFlowsOf};
+ghost use Rattle.flow_evaluator.specs.Past.{IsPastAt};
+
+use dual_simplex::{
+    Bench, balance_is_past, bound_is_past, cost_is_past, least_is_least, names_are_of_program,
+    refutation_is_past, split_flows_are_least,
+};
+use flow_program::{Place, bound_of, cost_of, feasible, refutes};
+use flow_rules::sums_are_last;
+use frac128::Frac;
+use pgraph::Graph;
+use pns_problem::Problem;
+use unit_sets::Node;
+
+/// After `Least`: the bound of the multipliers over their scale.
+pub(crate) fn value_of(
+    problem: &Problem,
+    graph: &Graph,
+    node: &Node,
+    bench: &Bench,
+) -> Result<Frac, Place>
+    requires graph { shape graph.now ≡ shape_of problem.now }
+    requires sound { IsSound (shape_of problem.now) (node_of node.now) }
+    requires least { IsLeastOf (program_of (net_of problem.now) (node_of node.now)) bench.now }
+    ensures value { IfOk result (λ v. IsLowest (bound (net_of problem.now) (node_of node.now) bench.now.d (multiplier problem.now (node_of node.now) bench.now.ys)) bench.now.d v.num v.den) }
+    ensures formed { OnOk result (IsFormed problem.now (node_of node.now) bench.now.d bench.now.ys) }
+    ensures past { IfErr result (IsPastAt problem.now (node_of node.now) bench.now.nonbasic) }
+{
+    problem.is_valid();
+    least_is_least();
+    bound_is_past();
+    names_are_of_program();
+    sums_are_last();
+    match bound_of(problem, graph, *node, bench.d(), bench.ys()) {
+        Err(past) => Err(Place::Bound { at: past.at }),
+        Ok(bound) => Ok(Frac::of(bound, bench.d())),
+    }
+}
+
+/// After `None`: whether the bound by which the multipliers refute is formed within the range.
+pub(crate) fn form_refutation(
+    problem: &Problem,
+    graph: &Graph,
+    node: &Node,
+    bench: &Bench,
+) -> Result<(), Place>
+    requires graph { shape graph.now ≡ shape_of problem.now }
+    requires sound { IsSound (shape_of problem.now) (node_of node.now) }
+    requires none { IsNoneOf (program_of (net_of problem.now) (node_of node.now)) bench.now }
+    ensures formed { OnOk result (IsFormed problem.now (node_of node.now) (pos 0) bench.now.ys) }
+    ensures past { IfErr result (IsPastAt problem.now (node_of node.now) bench.now.nonbasic) }
+{
+    refutation_is_past();
+    names_are_of_program();
+    match refutes(problem, graph, *node, bench.ys()) {
+        Err(past) => Err(Place::Refute {
+            row: bench.row(),
+            at: past.at,
+        }),
+        Ok(_) => Ok(()),
+    }
+}
+
+/// After `read_flows`, where all is decided: the cost of the flows. All numbers by which they are judged are formed, too.
+pub(crate) fn cost_of_flows(
+    problem: &Problem,
+    graph: &Graph,
+    node: &Node,
+    bench: &Bench,
+) -> Result<i128, Place>
+    requires graph { shape graph.now ≡ shape_of problem.now }
+    requires sound { IsSound (shape_of problem.now) (node_of node.now) }
+    requires decided { IsDecided (shape_of problem.now) (node_of node.now) }
+    requires least { IsLeastOf (program_of (net_of problem.now) (node_of node.now)) bench.now }
+    requires flows { AreFlowsOf (program_of (net_of problem.now) (node_of node.now)) bench.now }
+    ensures cost { IfOk result (λ total. total ≡ cost (net_of problem.now) (has node.now.inside) (beside node.now.inside bench.now.flows) bench.now.flow_den) }
+    ensures in_range { IfOk result InRange }
+    ensures costs { OnOk result (AreInRange (cost_steps (net_of problem.now) (has node.now.inside) (beside node.now.inside bench.now.flows) bench.now.flow_den)) }
+    ensures balances { OnOk result (AreInRange (feasible_steps (net_of problem.now) (has node.now.inside) (beside node.now.inside bench.now.flows) bench.now.flow_den)) }
+    ensures past { IfErr result (IsPastAt problem.now (node_of node.now) bench.now.nonbasic) }
+{
+    problem.is_valid();
+    node.inside.rises();
+    sums_are_last();
+    split_flows_are_least();
+    cost_is_past();
+    balance_is_past();
+    names_are_of_program();
+    if let Err(past) = feasible(problem, graph, node.inside, bench.flows(), bench.flow_den()) {
+        return Err(Place::FlowSum { at: past.at });
+    }
+    match cost_of(problem, graph, node.inside, bench.flows(), bench.flow_den()) {
+        Err(past) => Err(Place::Cost { at: past.at }),
+        Ok(cost) => Ok(cost),
+    }
+}
