@@ -1,0 +1,16 @@
+use Rattle.std.proofs.Common.{ℕ, false, refl, sym, ap, ◌∙◌}
+use Rattle.std.proofs.lemmas.Bool.{both_ways}
+use Rattle.number_sets.specs.Sets.{has}
+use Rattle.node_looks.proofs.tests.leaving_out.Goals as goal
+
+pub returns : goal.returns
+returns c =
+    let none = λ (u : ℕ). ap (λ xs. has xs u) c.empty.ensures in
+    record {
+      sound = record {
+        known = λ u h. absurd (both_ways false refl (sym (none u) ∙ h));
+        apart = λ u h o. both_ways false refl (sym (none u) ∙ h);
+        no_raw = λ u x h m r. both_ways false refl (sym (none u) ∙ h);
+        leads = λ u h. absurd (both_ways false refl (sym (none u) ∙ h));
+      };
+    }
