@@ -23,6 +23,12 @@ pub use past_laws::{
 };
 
 #[cfg(test)]
+mod large_tests;
+#[cfg(test)]
+mod past_tests;
+#[cfg(test)]
+mod sum_tests;
+#[cfg(test)]
 mod test_problems;
 #[cfg(test)]
 mod tests;
