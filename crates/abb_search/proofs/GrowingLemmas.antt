@@ -1,7 +1,7 @@
 -- What a look at all children does to the nodes, where a leaf is branched.
-use Rattle.std.proofs.Common.{◌≡◌, ◌⊎◌, ℕ, ◌+◌, ◌-◌, ◌^◌, ◌<◌, ◌||◌, subst, List, [], ◌∷◌, ◌++◌, length, reverse, slice_set, Option, Some, None, refl, sym, ap, ◌∙◌, arith}
+use Rattle.std.proofs.Common.{◌≡◌, ◌⊎◌, ℕ, ◌+◌, ◌-◌, ◌^◌, ◌<◌, ◌≤◌, max, ◌||◌, subst, List, [], ◌∷◌, ◌++◌, length, reverse, slice_set, Option, Some, None, refl, sym, ap, ◌∙◌, arith}
 use Rattle.std.specs.Prelude.{MatchOption, is_some}
-use Rattle.std.proofs.lemmas.List.{reverse-append, length-map, length-reverse}
+use Rattle.std.proofs.lemmas.List.{reverse-append, length-map, length-reverse, reverse-reverse}
 use Rattle.problem_rules.specs.Problem.{Problem}
 use Rattle.pns_rules.specs.Shape.{shape_of}
 use Rattle.pns_rules.specs.Nodes.{Node, options}
@@ -18,6 +18,9 @@ use Rattle.node_looks.specs.declared.children.Children.{Children}
 use Rattle.node_looks.specs.Evaluated.{PastPlaces}
 use Rattle.node_looks.specs.Children.{cells_of, values_of, HaltHolds, AreSeen}
 use Rattle.abb_search.specs.declared.growing.Growing.{Growing}
+use Rattle.slab.specs.Slab.{Slab, Updates}
+use Rattle.abb_search.specs.Hand.{ArePlaced}
+use Rattle.abb_search.proofs.HandLemmas.{as_many_kids}
 use Rattle.abb_search.specs.Growing.{halt_at, IsBranching}
 
 cells_last : (fs : List Fresh) (f : Fresh) → cells_in_turn (fs ++ f ∷ []) ≡ f.cell ∷ cells_in_turn fs
@@ -47,32 +50,49 @@ pub halts_within : (Past : PastPlaces) (p : Problem) (kids : List Fresh) (ready 
 halts_within Past p kids ready first limit None h lt = tt
 halts_within Past p kids ready first limit (Some w) h lt = let k = h.0 in omega (arith, k, lt)
 
-pub branching : (Past : PastPlaces) (p : Problem) (n : Node) (old new : Growing) (at x : ℕ) (c : Children) (mid : Pooled Cell) (rev : List Fresh) (first : ℕ)
-    → AreSeen Past p n x c → AreSameNodes old.pool mid → rev ≡ reverse c.kids.items → first ≡ length old.pool.payloads
-    → new.pool.payloads ≡ slice_set mid.payloads at (as_branch (cell_at mid.payloads at) first x (length rev)) ++ cells_in_turn rev
-    → new.pool.values ≡ mid.values ++ values_in_turn rev
-    → new.ready.items ≡ old.ready.items ++ c.ready.items → (new.best ≡ old.best) ⊎ (new.best ≡ c.best) → HasFallen (cost_of old.best) (cost_of new.best) → HasFallen (cost_of c.best) (cost_of new.best)
+-- where the last child stands first
+cells_back : (fs : List Fresh) → cells_in_turn fs ≡ cells_of (reverse fs)
+cells_back fs = ap (λ (gs : List Fresh). cells_in_turn gs) (sym (reverse-reverse fs)) ∙ cells_turned (reverse fs)
+
+values_back : (fs : List Fresh) → values_in_turn fs ≡ values_of (reverse fs)
+values_back fs = ap (λ (gs : List Fresh). values_in_turn gs) (sym (reverse-reverse fs)) ∙ values_turned (reverse fs)
+
+pub branching : (Past : PastPlaces) (p : Problem) (n : Node) (old new : Growing) (at x : ℕ) (c : Children) (mid : Pooled Cell) (placed : List Fresh) (freed : Slab Ready) (first : ℕ)
+    → AreSeen Past p n x c → AreSameNodes old.pool mid → first ≡ length old.pool.payloads
+    → Updates old.ready freed (cell_at old.pool.payloads at).key None → ArePlaced c.kids.items (reverse placed) c.ready.items freed new.ready
+    → new.pool.payloads ≡ slice_set mid.payloads at (as_branch (cell_at mid.payloads at) first x (length placed)) ++ cells_in_turn placed
+    → new.pool.values ≡ mid.values ++ values_in_turn placed
+    → (new.best ≡ old.best) ⊎ (new.best ≡ c.best) → HasFallen (cost_of old.best) (cost_of new.best) → HasFallen (cost_of c.best) (cost_of new.best)
     → is_some new.best ≡ (is_some old.best || is_some c.best) → length old.pool.payloads + length c.kids.items < 2 ^ 32 - 1 → new.nodes ≡ old.nodes + length c.kids.items → AreOpen new.pool
     → new.start ≡ old.start → new.budget ≡ old.budget → new.halt ≡ halt_at first c.halt → IsBranching Past p n old new at x
-branching Past p n old new at x c mid rev first seen same er ef ec ev ey which fallen fallen_found some_best numbered en ao es eu eh = record {
+branching Past p n old new at x c mid placed freed first seen same ef frees are_placed ec ev which fallen fallen_found some_best numbered en ao es eu eh = record {
   seen = c;
   are_seen = seen;
+  kids = reverse placed;
+  freed = freed;
+  frees = frees;
+  placed = are_placed;
   cells = ec
-      ∙ (ap (λ (cs : List Cell). slice_set cs at (as_branch (cell_at cs at) first x (length rev)) ++ cells_in_turn rev) same.payloads
-      ∙ (ap (λ (fs : List Fresh). slice_set old.pool.payloads at (as_branch (cell_at old.pool.payloads at) first x (length fs)) ++ cells_in_turn fs) er
-      ∙ (ap (λ k. slice_set old.pool.payloads at (as_branch (cell_at old.pool.payloads at) first x k) ++ cells_in_turn (reverse c.kids.items)) (length-reverse c.kids.items ∙ sym (length-map c.kids.items (λ (f : Fresh). f.cell)))
-      ∙ (ap (λ k. slice_set old.pool.payloads at (as_branch (cell_at old.pool.payloads at) k x (length (cells_of c.kids.items))) ++ cells_in_turn (reverse c.kids.items)) ef
-      ∙ ap (λ (cs : List Cell). slice_set old.pool.payloads at (as_branch (cell_at old.pool.payloads at) (length old.pool.payloads) x (length (cells_of c.kids.items))) ++ cs) (cells_turned c.kids.items)))));
-  values = ev ∙ (ap (λ (vs : List Frac). vs ++ values_in_turn rev) same.values ∙ ap (λ (vs : List Frac). old.pool.values ++ vs) (ap (λ (fs : List Fresh). values_in_turn fs) er ∙ values_turned c.kids.items));
-  ready = ey;
+      ∙ (ap (λ (cs : List Cell). slice_set cs at (as_branch (cell_at cs at) first x (length placed)) ++ cells_in_turn placed) same.payloads
+      ∙ (ap (λ k. slice_set old.pool.payloads at (as_branch (cell_at old.pool.payloads at) first x k) ++ cells_in_turn placed) (sym (length-map (reverse placed) (λ (f : Fresh). f.cell) ∙ length-reverse placed))
+      ∙ (ap (λ k. slice_set old.pool.payloads at (as_branch (cell_at old.pool.payloads at) k x (length (cells_of (reverse placed)))) ++ cells_in_turn placed) ef
+      ∙ ap (λ (cs : List Cell). slice_set old.pool.payloads at (as_branch (cell_at old.pool.payloads at) (length old.pool.payloads) x (length (cells_of (reverse placed)))) ++ cs) (cells_back placed))));
+  values = ev ∙ (ap (λ (vs : List Frac). vs ++ values_in_turn placed) same.values ∙ ap (λ (vs : List Frac). old.pool.values ++ vs) (values_back placed));
   best = which;
   fallen = fallen;
   fallen_found = fallen_found;
   some_best = some_best;
-  nodes = en ∙ ap (λ k. old.nodes + k) (sym (length-map c.kids.items (λ (f : Fresh). f.cell)));
-  numbered = subst (λ k. length old.pool.payloads + k < 2 ^ 32 - 1) (sym (length-map c.kids.items (λ (f : Fresh). f.cell))) numbered;
+  nodes = en ∙ ap (λ k. old.nodes + k) many;
+  numbered = subst (λ k. length old.pool.payloads + k < 2 ^ 32 - 1) many numbered;
   are_open = ao;
   start = es;
   budget = eu;
   halt = eh ∙ ap (λ k. halt_at k c.halt) ef;
 }
+  where
+    many : length c.kids.items ≡ length (cells_of (reverse placed))
+    many = sym (length-map (reverse placed) (λ (f : Fresh). f.cell) ∙ as_many_kids c.kids.items (reverse placed) c.ready.items freed new.ready are_placed)
+
+-- there is room for as many as were reserved
+pub room_within : (spare old count n : ℕ) → spare ≡ max old count → n ≡ count → n ≤ spare
+room_within spare old count n e m = omega (arith, e, m)

@@ -1,5 +1,6 @@
 pub mod EndLemmas
 pub mod GrowingLemmas
+pub mod HandLemmas
 pub mod KnownLemmas
 pub mod ReadyLemmas
 pub mod RootLemmas

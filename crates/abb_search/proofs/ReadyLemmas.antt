@@ -30,7 +30,7 @@ open_leaf (leaf untried) h = refl
 pub leaf_open : (e : End Leaf) → e ≡ leaf untried → is_open e ≡ true
 leaf_open e h = ap is_open h
 
-not_untried : (e : End Leaf) → is_open e ≡ false → e ≡ leaf untried → ⊥
+pub not_untried : (e : End Leaf) → is_open e ≡ false → e ≡ leaf untried → ⊥
 not_untried e h k = true≢false (sym (leaf_open e k) ∙ h)
 
 pub not_greater : (x y : ℤ) → (int_cmp x y ≡ Greater → ⊥) → x ≤ℤ y
@@ -53,53 +53,6 @@ first_has (x ∷ xs) i h = let q : x ≡ i = cc in subst (λ j. has (x ∷ xs) j
 pub none_first : (xs : List ℕ) → first xs ≡ None → (j : ℕ) → has xs j ≡ true → ⊥
 none_first [] h j k = true≢false (sym k)
 none_first (x ∷ xs) h j k = absurd (let q : Some x ≡ None = h in cc)
-
--- ---- what is at hand
-
-pub ready_length : (p : Problem) (cs : List Cell) (vs : List Frac) (rs : List (Option Ready)) → AreReady p cs vs rs → length rs ≡ length cs
-ready_length p [] [] [] h = refl
-ready_length p (c ∷ cs) (v ∷ vs) (r ∷ rs) h = ap suc (ready_length p cs vs rs h.1)
-ready_length p [] [] (r ∷ rs) h = absurd h
-ready_length p [] (v ∷ vs) rs h = absurd h
-ready_length p (c ∷ cs) [] rs h = absurd h
-ready_length p (c ∷ cs) (v ∷ vs) [] h = absurd h
-
--- an open leaf has a value, and is ready
-pub record IsReadyAt (p : Problem) (cs : List Cell) (vs : List Frac) (rs : List (Option Ready)) (j : ℕ) : Type 0 where
-  pub value : Frac
-  pub value_is : slice_get vs j ≡ Some value
-  pub some : IsSomeReady p (place_of (cell_at cs j)) value (get_or rs j None)
-
-pub ready_at : (p : Problem) (cs : List Cell) (vs : List Frac) (rs : List (Option Ready)) (j : ℕ) → AreReady p cs vs rs → j < length cs → (cell_at cs j).end ≡ leaf untried → IsReadyAt p cs vs rs j
-ready_at p [] [] [] j h lt e = absurd (omega (arith, lt))
-ready_at p (c ∷ cs) (v ∷ vs) (r ∷ rs) zero h lt e = record { value = v; value_is = refl; some = h.0 e }
-ready_at p (c ∷ cs) (v ∷ vs) (r ∷ rs) (suc j) h lt e = let k = ready_at p cs vs rs j h.1 (omega (arith, lt)) e in record { value = k.value; value_is = k.value_is; some = k.some }
-ready_at p [] [] (r ∷ rs) j h lt e = absurd h
-ready_at p [] (v ∷ vs) rs j h lt e = absurd h
-ready_at p (c ∷ cs) [] rs j h lt e = absurd h
-ready_at p (c ∷ cs) (v ∷ vs) [] j h lt e = absurd h
-
--- a node that is no open leaf any more needs nothing
-pub ready_shut : (p : Problem) (cs : List Cell) (vs : List Frac) (rs : List (Option Ready)) (j : ℕ) (d : Cell) → AreReady p cs vs rs → is_open d.end ≡ false → AreReady p (slice_set cs j d) vs (slice_set rs j None)
-ready_shut p [] [] [] zero d h o = tt
-ready_shut p [] [] [] (suc j) d h o = tt
-ready_shut p (c ∷ cs) (v ∷ vs) (r ∷ rs) zero d h o = ((λ e. absurd (not_untried d.end o e)), h.1)
-ready_shut p (c ∷ cs) (v ∷ vs) (r ∷ rs) (suc j) d h o = (h.0, ready_shut p cs vs rs j d h.1 o)
-ready_shut p [] [] (r ∷ rs) j d h o = absurd h
-ready_shut p [] (v ∷ vs) rs j d h o = absurd h
-ready_shut p (c ∷ cs) [] rs j d h o = absurd h
-ready_shut p (c ∷ cs) (v ∷ vs) [] j d h o = absurd h
-
--- nor does it need what is at hand
-pub ready_branched : (p : Problem) (cs : List Cell) (vs : List Frac) (rs : List (Option Ready)) (j : ℕ) (d : Cell) → AreReady p cs vs rs → is_open d.end ≡ false → AreReady p (slice_set cs j d) vs rs
-ready_branched p [] [] [] zero d h o = tt
-ready_branched p [] [] [] (suc j) d h o = tt
-ready_branched p (c ∷ cs) (v ∷ vs) (r ∷ rs) zero d h o = ((λ e. absurd (not_untried d.end o e)), h.1)
-ready_branched p (c ∷ cs) (v ∷ vs) (r ∷ rs) (suc j) d h o = (h.0, ready_branched p cs vs rs j d h.1 o)
-ready_branched p [] [] (r ∷ rs) j d h o = absurd h
-ready_branched p [] (v ∷ vs) rs j d h o = absurd h
-ready_branched p (c ∷ cs) [] rs j d h o = absurd h
-ready_branched p (c ∷ cs) (v ∷ vs) [] j d h o = absurd h
 
 -- ---- how many leaves are open
 

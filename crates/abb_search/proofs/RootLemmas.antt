@@ -25,7 +25,9 @@ use Rattle.node_looks.specs.declared.looks.Looked.{Looked}
 use Rattle.node_looks.specs.Evaluated.{PastPlaces}
 use Rattle.node_looks.specs.Looks.{is_bounded, has_bounded, KnowsCell, IsHalted, IsOpenAs, IsLooked}
 use Rattle.node_looks.proofs.ChildLemmas.{cost_is, found_best}
-use Rattle.node_looks.specs.Children.{claim_with, IsBest, AreReady}
+use Rattle.node_looks.specs.Children.{claim_with, IsBest}
+use Rattle.abb_search.specs.Hand.{AreAtHand, with_key}
+use Rattle.abb_search.proofs.HandLemmas.{IsSameKid, kid_same, hand_more}
 use Rattle.abb_search.specs.declared.growing.Growing.{Growing}
 use Rattle.abb_search.specs.declared.growing.HaltedLeaf.{HaltedLeaf}
 use Rattle.abb_search.specs.Growing.{IsTreeKept, IsGrowing, IsBeaten, LeastIsBelow, open_cell, IsOpenRoot, root_halt, IsLookedRoot, IsHaltedAt, GoesOn, IsGoing}
@@ -93,11 +95,19 @@ open_tree p start budget s h sound some = record {
 -- ---- after it
 
 module _ (Past : PastPlaces) (p : Problem) (start : starts.Node) (budget : ℕ) (s : Growing) (h : IsLookedRoot Past p start budget s) (some : 1 ≤ budget) where
+  -- the root has the key of what is at hand
+  kid : IsSameKid h.looked.cell h.root.cell
+  kid = kid_same (record { cell = h.looked.cell; value = h.looked.value }) h.root h.looked.ready h.empty s.ready h.placed
+
+  cells_now : s.pool.payloads ≡ with_key h.looked.cell kid.key ∷ []
+  cells_now = h.cells_are ∙ ap (λ (c : Cell). c ∷ []) kid.is
+
   root_best : IsBest p h.looked.network
   root_best = found_best p (place_of h.looked.cell) h.looked.network h.is_looked.seen.found
 
-  root_kept : IsKept p (node_of start) (claim_with h.looked.network) None (h.looked.cell ∷ [])
-  root_kept = leaf_is_kept p (node_of start) (claim_with h.looked.network) h.looked.cell h.is_looked.seen.what h.is_looked.seen.end_is h.is_looked.option_is h.is_looked.follows h.is_looked.sound
+  root_kept : IsKept p (node_of start) (claim_with h.looked.network) None (with_key h.looked.cell kid.key ∷ [])
+  root_kept = leaf_is_kept p (node_of start) (claim_with h.looked.network) (with_key h.looked.cell kid.key) h.is_looked.seen.what h.is_looked.seen.end_is h.is_looked.option_is
+      (record { pass = h.is_looked.follows.pass; leave = h.is_looked.follows.leave }) h.is_looked.sound
       (subst (λ (o : Option CostOver). LeafPasses true p o (place_of h.looked.cell) h.is_looked.seen.what) (cost_is h.looked.network) h.is_looked.seen.passes) root_best.positive
 
   root_tree : IsTreeKept p s
@@ -105,22 +115,25 @@ module _ (Past : PastPlaces) (p : Problem) (start : starts.Node) (budget : ℕ) 
     last = None;
     kept = subst (λ (n : starts.Node). IsKept p (node_of n) (claim_with s.best) None s.pool.payloads) (sym h.start_is)
         (subst (λ (w : Option claims.Network). IsKept p (node_of start) (claim_with w) None s.pool.payloads) (sym h.best_is)
-        (subst (λ (cs : List Cell). IsKept p (node_of start) (claim_with h.looked.network) None cs) (sym h.cells_are) root_kept));
+        (subst (λ (cs : List Cell). IsKept p (node_of start) (claim_with h.looked.network) None cs) (sym cells_now) root_kept));
     passes = subst (λ (w : Option claims.Network). ClaimPasses true p (claim_with w)) (sym h.best_is) root_best.passes;
-    bounded = ap (λ (w : Option claims.Network). is_some w) h.best_is ∙ (h.is_looked.seen.bounded ∙ (or_nothing (is_bounded h.looked.cell.end) ∙ ap (λ (cs : List Cell). has_bounded cs) (sym h.cells_are)));
-    known = subst (λ (cs : List Cell). AreKnown p cs) (sym h.cells_are) (λ i lt. subst (λ j. KnowsCell p (cell_at (h.looked.cell ∷ []) j)) (let z : 0 ≡ i = omega (arith, lt) in z) h.is_looked.known);
-    counted = let a = h.nodes_are in let b = ap (λ (cs : List Cell). length cs) h.cells_are in omega (arith, a, b);
-    few = let a = ap (λ (cs : List Cell). length cs) h.cells_are in let b = h.budget_is in omega (arith, a, b, some);
-    numbered = let a = ap (λ (cs : List Cell). length cs) h.cells_are in omega (arith, a);
+    bounded = ap (λ (w : Option claims.Network). is_some w) h.best_is ∙ (h.is_looked.seen.bounded ∙ (or_nothing (is_bounded h.looked.cell.end) ∙ ap (λ (cs : List Cell). has_bounded cs) (sym cells_now)));
+    known = subst (λ (cs : List Cell). AreKnown p cs) (sym cells_now) (λ i lt. subst (λ j. KnowsCell p (cell_at (with_key h.looked.cell kid.key ∷ []) j)) (let z : 0 ≡ i = omega (arith, lt) in z) h.is_looked.known);
+    counted = let a = h.nodes_are in let b = ap (λ (cs : List Cell). length cs) cells_now in omega (arith, a, b);
+    few = let a = ap (λ (cs : List Cell). length cs) cells_now in let b = h.budget_is in omega (arith, a, b, some);
+    numbered = let a = ap (λ (cs : List Cell). length cs) cells_now in omega (arith, a);
   }
+
+  nothing_at_hand : AreAtHand p [] [] h.empty
+  nothing_at_hand = record { as_many = refl; each = λ j lt e. absurd (omega (arith, lt)); apart = λ i j li lj ei ej q. absurd (omega (arith, li)) }
 
   root_grows : h.looked.halt ≡ None → IsGrowing p s
   root_grows eh = record {
     tree = root_tree;
     are_open = h.are_open;
-    ready = subst (λ (cs : List Cell). AreReady p cs s.pool.values s.ready.items) (sym h.cells_are)
-        (subst (λ (vs : List Frac). AreReady p (h.looked.cell ∷ []) vs s.ready.items) (sym h.values_are)
-        (subst (λ (rs : List (Option Ready)). AreReady p (h.looked.cell ∷ []) (h.looked.value ∷ []) rs) (sym h.ready_is) (
+    ready = subst (λ (cs : List Cell). AreAtHand p cs s.pool.values s.ready) (sym h.cells_are)
+        (subst (λ (vs : List Frac). AreAtHand p (h.root.cell ∷ []) vs s.ready) (sym h.values_are)
+        (hand_more p [] [] h.empty s.ready nothing_at_hand (record { cell = h.looked.cell; value = h.looked.value } ∷ []) (h.root ∷ []) (h.looked.ready ∷ []) (h.empty, refl, h.placed) (
           (λ e. subst (λ (i : Option Halt). IsOpenAs Past p (place_of h.looked.cell) h.is_looked.seen.what h.looked.value h.looked.ready i) eh h.is_looked.seen.open_as
               (let q : leaf h.is_looked.seen.what ≡ leaf untried = sym h.is_looked.seen.end_is ∙ e in cc)),
           tt,
@@ -132,14 +145,14 @@ module _ (Past : PastPlaces) (p : Problem) (start : starts.Node) (budget : ℕ) 
   root_below at v lt f e b = beaten_none s.best (ap (λ (w : Option claims.Network). is_some w) h.best_is ∙ (h.is_looked.seen.bounded ∙ unbounded)) b
     where
       one : length s.pool.payloads ≡ 1
-      one = ap (λ (cs : List Cell). length cs) h.cells_are
+      one = ap (λ (cs : List Cell). length cs) cells_now
 
       opens : is_open (cell_at s.pool.payloads 0).end ≡ true
       opens = let z : at ≡ 0 = (let o = one in omega (arith, lt, o)) in
           sym (h.are_open 0 (let o = one in omega (arith, o))) ∙ subst (λ j. has s.pool.leaves j ≡ true) z (first_has s.pool.leaves at f)
 
       unbounded : is_bounded h.looked.cell.end ≡ false
-      unbounded = subst (λ (cs : List Cell). is_bounded (cell_at cs 0).end ≡ false) h.cells_are (open_unbounded (cell_at s.pool.payloads 0).end (open_leaf (cell_at s.pool.payloads 0).end opens))
+      unbounded = subst (λ (cs : List Cell). is_bounded (cell_at cs 0).end ≡ false) cells_now (open_unbounded (cell_at s.pool.payloads 0).end (open_leaf (cell_at s.pool.payloads 0).end opens))
 
       beaten_none : (w : Option claims.Network) → is_some w ≡ false → IsBeaten w v → ⊥
       beaten_none None n b = b
@@ -149,9 +162,9 @@ module _ (Past : PastPlaces) (p : Problem) (start : starts.Node) (budget : ℕ) 
   root_halts i eh =
       let o = subst (λ (j : Option Halt). IsOpenAs Past p (place_of h.looked.cell) h.is_looked.seen.what h.looked.value h.looked.ready j) eh h.is_looked.seen.open_as in
       record {
-        there = let a = ap (λ (cs : List Cell). length cs) h.cells_are in omega (arith, a);
-        is_open = subst (λ (cs : List Cell). (cell_at cs 0).end ≡ leaf untried) (sym h.cells_are) (h.is_looked.seen.end_is ∙ ap (λ (w : Leaf). leaf w) o.0);
-        halted = subst (λ (cs : List Cell). IsHalted Past p (place_of (cell_at cs 0)) i) (sym h.cells_are) o.1;
+        there = let a = ap (λ (cs : List Cell). length cs) cells_now in omega (arith, a);
+        is_open = subst (λ (cs : List Cell). (cell_at cs 0).end ≡ leaf untried) (sym cells_now) (h.is_looked.seen.end_is ∙ ap (λ (w : Leaf). leaf w) o.0);
+        halted = subst (λ (cs : List Cell). IsHalted Past p (place_of (cell_at cs 0)) i) (sym cells_now) o.1;
       }
 
   pub root_goes_on : IsGoing Past p s

@@ -4,7 +4,10 @@ use Rattle.std.specs.List.{slice_get}
 use Rattle.std.proofs.Common.{◌≡◌, ℕ, ◌-◌, ◌^◌, ◌<◌, ◌≤◌, Bool, true, false, List, length, Option, Some, None, refl, sym, ap, ◌∙◌, subst, arith}
 use Rattle.link_lists.specs.Lists.{has, first}
 use Rattle.problem_rules.specs.Problem.{Problem}
+use Rattle.pns_rules.specs.Shape.{Shape, shape_of}
+use Rattle.pns_rules.specs.Ends.{IsSound}
 use Rattle.pgraph.specs.View.{node_of}
+use Rattle.neutral_extension.specs.Candidates.{AreMakersOf}
 use Rattle.unit_sets.specs.declared.node.Node as starts
 use Rattle.frac128.specs.declared.fraction.Frac.{Frac}
 use Rattle.tree_rules.specs.Tree.{leaf}
@@ -20,10 +23,11 @@ use Rattle.std.proofs.lemmas.List.{length-map}
 use Rattle.search_tree.specs.Growth.{is_open, AreOpen}
 use Rattle.turn_laws.specs.Kept.{IsKept}
 use Rattle.node_looks.specs.declared.evaluator.Halt.{Halt}
-use Rattle.node_looks.specs.declared.looks.Ready.{Ready}
 use Rattle.node_looks.specs.Evaluated.{PastPlaces}
 use Rattle.node_looks.specs.Looks.{has_bounded, IsHalted}
-use Rattle.node_looks.specs.Children.{claim_with, AreReady}
+use Rattle.node_looks.specs.Children.{claim_with}
+use Rattle.abb_search.specs.Hand.{AreAtHand}
+use Rattle.abb_search.proofs.HandLemmas.{hand_same}
 use Rattle.abb_search.specs.declared.found.Found.{Found}
 use Rattle.abb_search.specs.declared.found.Found.TheVariants.{Solved, Infeasible, Memory}
 use Rattle.abb_search.specs.declared.growing.Growing.{Growing}
@@ -31,7 +35,7 @@ use Rattle.abb_search.specs.declared.growing.HaltedLeaf.{HaltedLeaf}
 use Rattle.abb_search.specs.Growing.{IsTreeKept, IsGrowing, IsBeaten, LeastIsBelow, leaf_of, IsHaltedAt, GoesOn, IsGoing, IsSame, IsAfterBranch, IsShutDown}
 use Rattle.abb_search.specs.Found.{IsFound, found_with}
 use Rattle.abb_search.specs.Answers.{IsMore, IsEnd, StepHolds}
-use Rattle.abb_search.specs.Searched.{Searched, IsSameSearch, AreNodesOf, StandsAt}
+use Rattle.abb_search.specs.Searched.{Searched, IsSameSearch, AreNodesOf, StandsAt, IsSearching}
 use Rattle.abb_search.proofs.KnownLemmas.{AreKnown}
 
 -- ---- a leaf that halts the search
@@ -112,9 +116,8 @@ module _ (Past : PastPlaces) (p : Problem) (s n : Growing) (e : IsSame s n) wher
   growing_same g = record {
     tree = tree_same g.tree;
     are_open = open_same g.are_open;
-    ready = subst (λ (cs : List Cell). AreReady p cs n.pool.values n.ready.items) (sym e.pool.payloads)
-        (subst (λ (vs : List Frac). AreReady p s.pool.payloads vs n.ready.items) (sym e.pool.values)
-        (subst (λ (rs : List (Option Ready)). AreReady p s.pool.payloads s.pool.values rs) (sym e.ready) g.ready));
+    ready = subst (λ (cs : List Cell). AreAtHand p cs n.pool.values n.ready) (sym e.pool.payloads)
+        (subst (λ (vs : List Frac). AreAtHand p s.pool.payloads vs n.ready) (sym e.pool.values) (hand_same p s.pool.payloads s.pool.values s.ready n.ready e.ready g.ready));
   }
 
   below_same : LeastIsBelow s → LeastIsBelow n
@@ -177,3 +180,16 @@ pub found_same : (Past : PastPlaces) (a b : Searched) (found : Found) → IsSame
 found_same Past a b found h f =
     subst (λ (q : Problem). IsFound Past q (node_of a.start) a.budget found) h.problem
     (subst (λ (n : starts.Node). IsFound Past b.problem (node_of n) a.budget found) h.start (subst (λ k. IsFound Past b.problem (node_of b.start) k found) h.budget f))
+
+-- the search stands as it stood
+pub searching_same : (Past : PastPlaces) (p : Problem) (g : Shape) (mk mk' : List (List ℕ)) (s n : Growing) (looked ended : Bool) → IsSearching Past p g mk s looked ended → mk' ≡ mk → IsSame s n
+    → IsSearching Past p g mk' n looked ended
+searching_same Past p g mk mk' s n looked ended h em e = record {
+  graph = h.graph;
+  makers = subst (λ (m : List (List ℕ)). AreMakersOf g m) (sym em) h.makers;
+  sound = subst (λ (m : starts.Node). IsSound (shape_of p) (node_of m)) (sym e.start) h.sound;
+  some = let a = e.budget in let b = h.some in omega (arith, a, b);
+  counted = e.nodes ∙ (h.counted ∙ ap (λ (cs : List Cell). length cs) (sym e.pool.payloads));
+  few = let a = ap (λ (cs : List Cell). length cs) e.pool.payloads in let b = e.budget in let c = h.few in omega (arith, a, b, c);
+  stands = λ q. stands_same Past p s n e looked (h.stands q);
+}

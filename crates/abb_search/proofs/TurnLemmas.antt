@@ -45,11 +45,13 @@ use Rattle.node_looks.specs.Evaluated.{PastPlaces, cost_over, cost_in}
 use Rattle.node_looks.specs.Looks.{has_bounded, cost_of, IsReady, IsSomeReady, IsHalted}
 use Rattle.node_looks.specs.Children.{claim_with, IsBest, IsImproved, cells_of, values_of, AreReady, HaltHolds, AreSeen}
 use Rattle.node_looks.proofs.BestLemmas.{improved_after, children_after}
-use Rattle.node_looks.proofs.ChildLemmas.{ready_more}
 use Rattle.abb_search.specs.declared.growing.Growing.{Growing}
 use Rattle.abb_search.specs.declared.growing.HaltedLeaf.{HaltedLeaf}
 use Rattle.abb_search.specs.Growing.{IsTreeKept, IsGrowing, open_count, material_of, IsBeaten, LeastIsBelow, halt_at, IsHaltedAt, IsBranching, IsAfterBranch, IsShutting, IsSpentAt}
-use Rattle.abb_search.proofs.ReadyLemmas.{open_leaf, leaf_open, not_greater, first_has, none_first, IsReadyAt, ready_at, ready_shut, ready_branched, count_shut}
+use Rattle.abb_search.proofs.ReadyLemmas.{open_leaf, leaf_open, not_greater, first_has, none_first, count_shut}
+use Rattle.slab.specs.Slab.{Slab, get, Updates}
+use Rattle.abb_search.specs.Hand.{IsAtHand, AreAtHand, with_key, ArePlaced}
+use Rattle.abb_search.proofs.HandLemmas.{hand_freed, hand_more, kids_same, as_many_kids, known_kids, children_kept, bounded_same}
 use Rattle.abb_search.proofs.GrowingLemmas.{count_seen}
 use Rattle.abb_search.proofs.KnownLemmas.{AreKnown, known_set, known_more, known_end, bounded_set, bounded_more, open_unbounded}
 
@@ -83,36 +85,36 @@ module _ (p : Problem) (valid : IsValid p) (s : Growing) (g : IsGrowing p s) (at
   pub untried_there : (cell_at s.pool.payloads at).end ≡ leaf untried
   untried_there = open_leaf (cell_at s.pool.payloads at).end opens
 
-  pub at_hand : IsReadyAt p s.pool.payloads s.pool.values s.ready.items at
-  at_hand = ready_at p s.pool.payloads s.pool.values s.ready.items at g.ready there untried_there
+  pub at_hand : IsAtHand p s.pool.payloads s.pool.values s.ready at
+  at_hand = g.ready.each at there untried_there
 
   -- something is at hand
-  pub never_none : (r : Option Ready) → r ≡ get_or s.ready.items at None → r ≡ None → ⊥
+  pub never_none : (r : Option Ready) → r ≡ get s.ready (cell_at s.pool.payloads at).key → r ≡ None → ⊥
   never_none r e n = subst (λ (o : Option Ready). IsSomeReady p (place_of (cell_at s.pool.payloads at)) at_hand.value o) (sym e ∙ n) at_hand.some
 
-  pub ready_known : (r : Option Ready) (q : Ready) → r ≡ get_or s.ready.items at None → r ≡ Some q → IsReady p (place_of (cell_at s.pool.payloads at)) at_hand.value q
+  pub ready_known : (r : Option Ready) (q : Ready) → r ≡ get s.ready (cell_at s.pool.payloads at).key → r ≡ Some q → IsReady p (place_of (cell_at s.pool.payloads at)) at_hand.value q
   ready_known r q e n = subst (λ (o : Option Ready). IsSomeReady p (place_of (cell_at s.pool.payloads at)) at_hand.value o) (sym e ∙ n) at_hand.some
 
   pub record IsHand : Type 0 where
     pub ready : Ready
-    pub is : get_or s.ready.items at None ≡ Some ready
+    pub is : get s.ready (cell_at s.pool.payloads at).key ≡ Some ready
     pub known : IsReady p (place_of (cell_at s.pool.payloads at)) at_hand.value ready
 
   pub hand : IsHand
-  hand = by (get_or s.ready.items at None) refl at_hand.some
+  hand = by (get s.ready (cell_at s.pool.payloads at).key) refl at_hand.some
     where
-      by : (r : Option Ready) → get_or s.ready.items at None ≡ r → IsSomeReady p (place_of (cell_at s.pool.payloads at)) at_hand.value r → IsHand
+      by : (r : Option Ready) → get s.ready (cell_at s.pool.payloads at).key ≡ r → IsSomeReady p (place_of (cell_at s.pool.payloads at)) at_hand.value r → IsHand
       by None e k = absurd k
       by (Some r) e k = record { ready = r; is = e; known = k }
 
   -- the material that is at hand is to decide
-  pub first_undecided : (m : ℕ) → m ≡ material_of (get_or s.ready.items at None) → IsUndecided (shape_of p) (place_of (cell_at s.pool.payloads at)) m
+  pub first_undecided : (m : ℕ) → m ≡ material_of (get s.ready (cell_at s.pool.payloads at).key) → IsUndecided (shape_of p) (place_of (cell_at s.pool.payloads at)) m
   first_undecided m e = subst (λ x. IsUndecided (shape_of p) (place_of (cell_at s.pool.payloads at)) x) (sym (e ∙ ap (λ (r : Option Ready). material_of r) hand.is)) hand.known.first.0
 
-  pub first_known : (m : ℕ) → m ≡ material_of (get_or s.ready.items at None) → m < length p.materials
+  pub first_known : (m : ℕ) → m ≡ material_of (get s.ready (cell_at s.pool.payloads at).key) → m < length p.materials
   first_known m e = let u = first_undecided m e in (proper_if_valid p valid).output_known u.some.0 m u.some.2
 
-  pub first_is : (m : ℕ) → m ≡ material_of (get_or s.ready.items at None) → m ≡ hand.ready.material
+  pub first_is : (m : ℕ) → m ≡ material_of (get s.ready (cell_at s.pool.payloads at).key) → m ≡ hand.ready.material
   first_is m e = e ∙ ap (λ (r : Option Ready). material_of r) hand.is
 
   pub sound_there : IsSound (shape_of p) (place_of (cell_at s.pool.payloads at))
@@ -144,8 +146,8 @@ module _ (p : Problem) (valid : IsValid p) (s : Growing) (g : IsGrowing p s) (at
 
   other : (j : ℕ) → j < length s.pool.payloads → (cell_at s.pool.payloads j).end ≡ leaf untried → IsOther j
   other j lt e =
-      let h = ready_at p s.pool.payloads s.pool.values s.ready.items j g.ready lt e in
-      by h.value h.value_is (get_or s.ready.items j None) h.some
+      let h = g.ready.each j lt e in
+      by h.value h.value_is (get s.ready (cell_at s.pool.payloads j).key) h.some
     where
       by : (v : Frac) → slice_get s.pool.values j ≡ Some v → (r : Option Ready) → IsSomeReady p (place_of (cell_at s.pool.payloads j)) v r → IsOther j
       by v e None k = absurd k
@@ -199,8 +201,8 @@ module _ (p : Problem) (valid : IsValid p) (s : Growing) (g : IsGrowing p s) (at
 
       pub shut_turn : (new : Growing) → new.start ≡ s.start → new.budget ≡ s.budget → new.nodes ≡ s.nodes → new.best ≡ s.best → new.halt ≡ s.halt
           → new.pool.payloads ≡ slice_set s.pool.payloads at (as_shut (cell_at s.pool.payloads at) (leaf (bounded q.bound.scaled.d q.bound.scaled.ys)))
-          → new.pool.values ≡ s.pool.values → AreOpen new.pool → new.ready.items ≡ slice_set s.ready.items at None → IsShutting p s new
-      shut_turn new es eu en eb eh ec ev ao er = record {
+          → new.pool.values ≡ s.pool.values → AreOpen new.pool → Updates s.ready new.ready (cell_at s.pool.payloads at).key None → IsShutting p s new
+      shut_turn new es eu en eb eh ec ev ao frees = record {
         growing = record {
           tree = record {
             last = g.tree.last;
@@ -218,10 +220,9 @@ module _ (p : Problem) (valid : IsValid p) (s : Growing) (g : IsGrowing p s) (at
             numbered = subst (λ n. n < 2 ^ 32 - 1) (sym same_count) g.tree.numbered;
           };
           are_open = ao;
-          ready = subst (λ (rs : List (Option Ready)). AreReady p new.pool.payloads new.pool.values rs) (sym er)
-              (subst (λ (vs : List Frac). AreReady p new.pool.payloads vs (slice_set s.ready.items at None)) (sym ev)
-              (subst (λ (cs : List Cell). AreReady p cs s.pool.values (slice_set s.ready.items at None)) (sym ec)
-              (ready_shut p s.pool.payloads s.pool.values s.ready.items at (as_shut (cell_at s.pool.payloads at) (leaf (bounded q.bound.scaled.d q.bound.scaled.ys))) g.ready refl)));
+          ready = subst (λ (vs : List Frac). AreAtHand p new.pool.payloads vs new.ready) (sym ev)
+              (subst (λ (cs : List Cell). AreAtHand p cs s.pool.values new.ready) (sym ec)
+              (hand_freed p s.pool.payloads s.pool.values s.ready new.ready at (as_shut (cell_at s.pool.payloads at) (leaf (bounded q.bound.scaled.d q.bound.scaled.ys))) g.ready there untried_there refl frees));
         };
         fewer = let b = ap (λ (cs : List Cell). open_count cs) ec in
             let c = count_shut s.pool.payloads at (as_shut (cell_at s.pool.payloads at) (leaf (bounded q.bound.scaled.d q.bound.scaled.ys))) there opens refl in
@@ -261,42 +262,44 @@ module _ (p : Problem) (valid : IsValid p) (s : Growing) (g : IsGrowing p s) (at
       module _ (Past : PastPlaces) (new : Growing) (x : ℕ) (undecided : IsUndecided (shape_of p) (place_of (cell_at s.pool.payloads at)) x)
           (few : length s.pool.payloads + length (options (shape_of p) (place_of (cell_at s.pool.payloads at)) x) ≤ s.budget)
           (c : Children) (seen : AreSeen Past p (place_of (cell_at s.pool.payloads at)) x c)
-          (ec : new.pool.payloads ≡ slice_set s.pool.payloads at (as_branch (cell_at s.pool.payloads at) (length s.pool.payloads) x (length (cells_of c.kids.items))) ++ cells_of c.kids.items)
-          (ev : new.pool.values ≡ s.pool.values ++ values_of c.kids.items) (er : new.ready.items ≡ s.ready.items ++ c.ready.items)
+          (gs : List Fresh) (freed : Slab Ready) (frees : Updates s.ready freed (cell_at s.pool.payloads at).key None) (placed : ArePlaced c.kids.items gs c.ready.items freed new.ready)
+          (ec : new.pool.payloads ≡ slice_set s.pool.payloads at (as_branch (cell_at s.pool.payloads at) (length s.pool.payloads) x (length (cells_of gs))) ++ cells_of gs)
+          (ev : new.pool.values ≡ s.pool.values ++ values_of gs)
           (which : (new.best ≡ s.best) ⊎ (new.best ≡ c.best)) (fallen : HasFallen (cost_of s.best) (cost_of new.best)) (fallen_found : HasFallen (cost_of c.best) (cost_of new.best))
-          (some_new : is_some new.best ≡ (is_some s.best || is_some c.best)) (numbered : length s.pool.payloads + length (cells_of c.kids.items) < 2 ^ 32 - 1) (ao : AreOpen new.pool) (es : new.start ≡ s.start) (eu : new.budget ≡ s.budget)
-          (en : new.nodes ≡ s.nodes + length (cells_of c.kids.items)) where
+          (some_new : is_some new.best ≡ (is_some s.best || is_some c.best)) (numbered : length s.pool.payloads + length (cells_of gs) < 2 ^ 32 - 1) (ao : AreOpen new.pool) (es : new.start ≡ s.start) (eu : new.budget ≡ s.budget)
+          (en : new.nodes ≡ s.nodes + length (cells_of gs)) where
         abbrev kids : List Cell
-        kids = cells_of c.kids.items
+        kids = cells_of gs
 
         abbrev now : Cell
         now = as_branch (cell_at s.pool.payloads at) (length s.pool.payloads) x (length kids)
 
-        branched : IsBranched s.pool.payloads (cells_of c.kids.items) new.pool.payloads at x
-        branched = subst (λ (cs : List Cell). IsBranched s.pool.payloads (cells_of c.kids.items) cs at x) (sym ec) (growth_branches s.pool.payloads (cells_of c.kids.items) at x there)
+        branched : IsBranched s.pool.payloads (cells_of gs) new.pool.payloads at x
+        branched = subst (λ (cs : List Cell). IsBranched s.pool.payloads (cells_of gs) cs at x) (sym ec) (growth_branches s.pool.payloads (cells_of gs) at x there)
 
-        kid_count : length (cells_of c.kids.items) ≡ length (options (shape_of p) (place_of (cell_at s.pool.payloads at)) x)
-        kid_count = length-map c.kids.items (λ (f : Fresh). f.cell) ∙ count_seen Past p (place_of (cell_at s.pool.payloads at)) x c seen
+        kid_count : length (cells_of gs) ≡ length (options (shape_of p) (place_of (cell_at s.pool.payloads at)) x)
+        kid_count = length-map gs (λ (f : Fresh). f.cell) ∙ (as_many_kids c.kids.items gs c.ready.items freed new.ready placed ∙ count_seen Past p (place_of (cell_at s.pool.payloads at)) x c seen)
 
         improved : IsImproved p (place_of (cell_at s.pool.payloads at)) s.best new.best
         improved = improved_after p (place_of (cell_at s.pool.payloads at)) s.best c.best new.best (best_of p s g.tree) seen.found which fallen fallen_found
 
-        children_now : AreChildren p (claimed_cost (claim_with new.best)) (place_of (cell_at s.pool.payloads at)) x (cells_of c.kids.items)
-        children_now = children_after p (place_of (cell_at s.pool.payloads at)) s.best c.best new.best (best_of p s g.tree) seen.found which fallen fallen_found x (cells_of c.kids.items) seen.children
+        children_now : AreChildren p (claimed_cost (claim_with new.best)) (place_of (cell_at s.pool.payloads at)) x (cells_of gs)
+        children_now = children_kept p c.kids.items gs c.ready.items freed new.ready placed (claimed_cost (claim_with new.best)) (place_of (cell_at s.pool.payloads at)) x
+            (children_after p (place_of (cell_at s.pool.payloads at)) s.best c.best new.best (best_of p s g.tree) seen.found which fallen fallen_found x (cells_of c.kids.items) seen.children)
 
         kept_now : IsKept p (node_of s.start) (claim_with new.best) (Some (cost_over at_hand.value)) new.pool.payloads
         kept_now =
-            branching_is_kept p valid (node_of s.start) (claim_with s.best) (claim_with new.best) g.tree.last (cost_over at_hand.value) s.pool.payloads (cells_of c.kids.items) new.pool.payloads at x
+            branching_is_kept p valid (node_of s.start) (claim_with s.best) (claim_with new.best) g.tree.last (cost_over at_hand.value) s.pool.payloads (cells_of gs) new.pool.payloads at x
             g.tree.kept (can_branch q k x undecided) (least q k) improved.fallen improved.best.positive
             (improved.below (cost_over at_hand.value) (valued q k).positive (valued q k).under last_below) children_now branched
 
         known_now : AreKnown p new.pool.payloads
         known_now = subst (λ (cs : List Cell). AreKnown p cs) (sym ec)
-            (known_more p (slice_set s.pool.payloads at now) (cells_of c.kids.items)
+            (known_more p (slice_set s.pool.payloads at now) (cells_of gs)
             (known_set p s.pool.payloads at now g.tree.known there
             (known_end p (cell_at s.pool.payloads at) now (g.tree.known at there) refl refl
             (material_known undecided)))
-            (λ i lt. seen.known i (let b = length-map c.kids.items (λ (f : Fresh). f.cell) in omega (arith, lt, b))))
+            (known_kids p c.kids.items gs c.ready.items freed new.ready placed seen.known))
           where
             material_known : IsUndecided (shape_of p) (place_of (cell_at s.pool.payloads at)) x → x < length p.materials
             material_known u = (proper_if_valid p valid).output_known u.some.0 x u.some.2
@@ -304,12 +307,12 @@ module _ (p : Problem) (valid : IsValid p) (s : Growing) (g : IsGrowing p s) (at
         bounded_now : is_some new.best ≡ has_bounded new.pool.payloads
         bounded_now =
             some_new
-            ∙ (ap (λ b. b || is_some c.best) g.tree.bounded ∙ ap (λ b. has_bounded s.pool.payloads || b) seen.bounded)
+            ∙ (ap (λ b. b || is_some c.best) g.tree.bounded ∙ ap (λ b. has_bounded s.pool.payloads || b) (seen.bounded ∙ sym (bounded_same c.kids.items gs c.ready.items freed new.ready placed)))
             ∙ sym (ap (λ (cs : List Cell). has_bounded cs) ec
-            ∙ (bounded_more (slice_set s.pool.payloads at now) (cells_of c.kids.items)
-            ∙ ap (λ b. b || has_bounded (cells_of c.kids.items)) (bounded_set s.pool.payloads at now there (open_unbounded (cell_at s.pool.payloads at).end untried_there))))
+            ∙ (bounded_more (slice_set s.pool.payloads at now) (cells_of gs)
+            ∙ ap (λ b. b || has_bounded (cells_of gs)) (bounded_set s.pool.payloads at now there (open_unbounded (cell_at s.pool.payloads at).end untried_there))))
 
-        longer : length new.pool.payloads ≡ length s.pool.payloads + length (cells_of c.kids.items)
+        longer : length new.pool.payloads ≡ length s.pool.payloads + length (cells_of gs)
         longer = branched.len
 
         tree_now : IsTreeKept p new
@@ -324,13 +327,12 @@ module _ (p : Problem) (valid : IsValid p) (s : Growing) (g : IsGrowing p s) (at
           numbered = subst (λ n. n < 2 ^ 32 - 1) (sym longer) numbered;
         }
 
-        ready_now : AreReady p (cells_of c.kids.items) (values_of c.kids.items) c.ready.items → AreReady p new.pool.payloads new.pool.values new.ready.items
+        ready_now : AreReady p (cells_of c.kids.items) (values_of c.kids.items) c.ready.items → AreAtHand p new.pool.payloads new.pool.values new.ready
         ready_now h =
-            subst (λ (rs : List (Option Ready)). AreReady p new.pool.payloads new.pool.values rs) (sym er)
-            (subst (λ (vs : List Frac). AreReady p new.pool.payloads vs (s.ready.items ++ c.ready.items)) (sym ev)
-            (subst (λ (cs : List Cell). AreReady p cs (s.pool.values ++ values_of c.kids.items) (s.ready.items ++ c.ready.items)) (sym ec)
-            (ready_more p (slice_set s.pool.payloads at now) s.pool.values s.ready.items (cells_of c.kids.items) (values_of c.kids.items) c.ready.items
-            (ready_branched p s.pool.payloads s.pool.values s.ready.items at now g.ready refl) h)))
+            subst (λ (vs : List Frac). AreAtHand p new.pool.payloads vs new.ready) (sym ev)
+            (subst (λ (cs : List Cell). AreAtHand p cs (s.pool.values ++ values_of gs) new.ready) (sym ec)
+            (hand_more p (slice_set s.pool.payloads at now) s.pool.values freed new.ready
+            (hand_freed p s.pool.payloads s.pool.values s.ready freed at now g.ready there untried_there refl frees) c.kids.items gs c.ready.items placed h))
 
         -- a leaf has at least two options
         pub more_now : length s.pool.payloads < length new.pool.payloads
@@ -342,8 +344,9 @@ module _ (p : Problem) (valid : IsValid p) (s : Growing) (g : IsGrowing p s) (at
         pub going_now : (h : Option HaltedAt) → HaltHolds Past p c.kids.items c.ready.items h → IsAfterBranch Past p new (halt_at (length s.pool.payloads) h)
         going_now None h = record { tree = tree_now; are_open = ao; ready = ready_now h }
         going_now (Some w) h =
-            let lt : w.at < length (cells_of c.kids.items) = let a = h.0 in let b = length-map c.kids.items (λ (f : Fresh). f.cell) in omega (arith, a, b) in
-            let here : cell_at new.pool.payloads (length s.pool.payloads + w.at) ≡ cell_at (cells_of c.kids.items) w.at = branched.kids_are w.at lt in (
+            let lt : w.at < length (cells_of gs) = let a = h.0 in let b = length-map gs (λ (f : Fresh). f.cell) in let d = as_many_kids c.kids.items gs c.ready.items freed new.ready placed in omega (arith, a, b, d) in
+            let kid = kids_same c.kids.items gs c.ready.items freed new.ready placed w.at (let a = h.0 in let d = as_many_kids c.kids.items gs c.ready.items freed new.ready placed in omega (arith, a, d)) in
+            let here : cell_at new.pool.payloads (length s.pool.payloads + w.at) ≡ with_key (cell_at (cells_of c.kids.items) w.at) kid.key = branched.kids_are w.at lt ∙ kid.is in (
               tree_now,
               record {
                 there = let a = longer in omega (arith, a, lt);
@@ -358,8 +361,8 @@ module _ (p : Problem) (valid : IsValid p) (s : Growing) (g : IsGrowing p s) (at
         → IsAfterBranch Past p new new.halt × (length s.pool.payloads < length new.pool.payloads)
     branched_step lb Past new x u few b = (
       subst (λ (o : Option HaltedLeaf). IsAfterBranch Past p new o) (sym b.halt)
-          (going_now lb Past new x u few b.seen b.are_seen b.cells b.values b.ready b.best b.fallen b.fallen_found b.some_best b.numbered b.are_open b.start b.budget b.nodes b.seen.halt b.are_seen.halt_holds),
-      more_now lb Past new x u few b.seen b.are_seen b.cells b.values b.ready b.best b.fallen b.fallen_found b.some_best b.numbered b.are_open b.start b.budget b.nodes,
+          (going_now lb Past new x u few b.seen b.are_seen b.kids b.freed b.frees b.placed b.cells b.values b.best b.fallen b.fallen_found b.some_best b.numbered b.are_open b.start b.budget b.nodes b.seen.halt b.are_seen.halt_holds),
+      more_now lb Past new x u few b.seen b.are_seen b.kids b.freed b.frees b.placed b.cells b.values b.best b.fallen b.fallen_found b.some_best b.numbered b.are_open b.start b.budget b.nodes,
     )
 
 pub within_budget : (budget l n count k : ℕ) → l ≡ n → count ≡ k → (budget < l + count → ⊥) → n + k ≤ budget

@@ -20,6 +20,8 @@ use Rattle.turn_laws.specs.Values.{IsNoMore, HasFallen}
 use Rattle.turn_laws.specs.Kept.{LastIsBelow, IsKept}
 use Rattle.turn_laws.specs.Turns.{CanBranch, IsLeastOpen}
 use Rattle.node_pool.specs.Pooled.{AreSameNodes}
+use Rattle.slab.specs.Slab.{Slab, get, Updates}
+use Rattle.search_tree.specs.declared.growth.Fresh.{Fresh}
 use Rattle.node_looks.specs.declared.evaluator.Halt.{Halt}
 use Rattle.node_looks.specs.declared.looks.Ready.{Ready}
 use Rattle.node_looks.specs.declared.looks.Looked.{Looked}
@@ -27,7 +29,8 @@ use Rattle.node_looks.specs.declared.children.HaltedAt.{HaltedAt}
 use Rattle.node_looks.specs.declared.children.Children.{Children}
 use Rattle.node_looks.specs.Evaluated.{PastPlaces, cost_over, cost_in}
 use Rattle.node_looks.specs.Looks.{has_bounded, KnowsCell, cost_of, IsHalted, IsLooked}
-use Rattle.node_looks.specs.Children.{claim_with, cells_of, values_of, AreReady, AreSeen}
+use Rattle.node_looks.specs.Children.{claim_with, cells_of, values_of, AreSeen}
+use Rattle.abb_search.specs.Hand.{AreAtHand, IsPlaced, ArePlaced}
 use Rattle.abb_search.specs.declared.growing.Growing.{Growing}
 use Rattle.abb_search.specs.declared.growing.HaltedLeaf.{HaltedLeaf}
 
@@ -47,7 +50,7 @@ pub record IsTreeKept (p : Problem) (s : Growing) : Type 0 where
 pub record IsGrowing (p : Problem) (s : Growing) : Type 0 where
   pub tree : IsTreeKept p s
   pub are_open : AreOpen s.pool
-  pub ready : AreReady p s.pool.payloads s.pool.values s.ready.items
+  pub ready : AreAtHand p s.pool.payloads s.pool.values s.ready
 
 -- the least material that is to decide at an open leaf
 abbrev pub material_of : Option Ready → ℕ
@@ -113,9 +116,11 @@ pub record IsLookedRoot (Past : PastPlaces) (p : Problem) (start : starts.Node) 
   pub start_is : s.start ≡ start
   pub budget_is : s.budget ≡ budget
   pub nodes_are : s.nodes ≡ 1
-  pub cells_are : s.pool.payloads ≡ looked.cell ∷ []
-  pub values_are : s.pool.values ≡ looked.value ∷ []
-  pub ready_is : s.ready.items ≡ looked.ready ∷ []
+  pub root : Fresh
+  pub empty : Slab Ready
+  pub placed : IsPlaced (record { cell = looked.cell; value = looked.value }) root looked.ready empty s.ready
+  pub cells_are : s.pool.payloads ≡ root.cell ∷ []
+  pub values_are : s.pool.values ≡ root.value ∷ []
   pub best_is : s.best ≡ looked.network
   pub halt_is : s.halt ≡ root_halt looked.halt
   pub are_open : AreOpen s.pool
@@ -128,7 +133,7 @@ pub record IsSame (old new : Growing) : Type 0 where
   pub budget : new.budget ≡ old.budget
   pub nodes : new.nodes ≡ old.nodes
   pub pool : AreSameNodes old.pool new.pool
-  pub ready : new.ready.items ≡ old.ready.items
+  pub ready : new.ready.slots ≡ old.ready.slots
   pub best : new.best ≡ old.best
   pub halt : new.halt ≡ old.halt
 
@@ -136,20 +141,23 @@ abbrev pub halt_at : ℕ → Option HaltedAt → Option HaltedLeaf
 halt_at first None = None
 halt_at first (Some h) = Some (record { leaf = first + h.at; halt = h.halt })
 
--- leaf `at` is branched at the material x, at the node n, and its children are as they are seen; the best network is then the cheaper
--- one of the two
+-- leaf `at` is branched at the material x, at the node n, and its children are as they are seen, with keys; the best network is then
+-- the cheaper one of the two
 pub record IsBranching (Past : PastPlaces) (p : Problem) (n : Node) (old new : Growing) (at x : ℕ) : Type 0 where
   pub seen : Children
   pub are_seen : AreSeen Past p n x seen
-  pub cells : new.pool.payloads ≡ slice_set old.pool.payloads at (as_branch (cell_at old.pool.payloads at) (length old.pool.payloads) x (length (cells_of seen.kids.items))) ++ cells_of seen.kids.items
-  pub values : new.pool.values ≡ old.pool.values ++ values_of seen.kids.items
-  pub ready : new.ready.items ≡ old.ready.items ++ seen.ready.items
+  pub kids : List Fresh
+  pub freed : Slab Ready
+  pub frees : Updates old.ready freed (cell_at old.pool.payloads at).key None
+  pub placed : ArePlaced seen.kids.items kids seen.ready.items freed new.ready
+  pub cells : new.pool.payloads ≡ slice_set old.pool.payloads at (as_branch (cell_at old.pool.payloads at) (length old.pool.payloads) x (length (cells_of kids))) ++ cells_of kids
+  pub values : new.pool.values ≡ old.pool.values ++ values_of kids
   pub best : (new.best ≡ old.best) ⊎ (new.best ≡ seen.best)
   pub fallen : HasFallen (cost_of old.best) (cost_of new.best)
   pub fallen_found : HasFallen (cost_of seen.best) (cost_of new.best)
   pub some_best : is_some new.best ≡ (is_some old.best || is_some seen.best)
-  pub nodes : new.nodes ≡ old.nodes + length (cells_of seen.kids.items)
-  pub numbered : length old.pool.payloads + length (cells_of seen.kids.items) < 2 ^ 32 - 1
+  pub nodes : new.nodes ≡ old.nodes + length (cells_of kids)
+  pub numbered : length old.pool.payloads + length (cells_of kids) < 2 ^ 32 - 1
   pub are_open : AreOpen new.pool
   pub start : new.start ≡ old.start
   pub budget : new.budget ≡ old.budget

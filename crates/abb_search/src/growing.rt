@@ -1,6 +1,7 @@
 //! The tree while it grows.
-ghost use Rattle.std.specs.Prelude.{◌≡◌, ◌↔◌, ◌<◌, ◌≤◌, ◌+◌, ◌-◌, ◌^◌, ℕ, get_or, slice_set, true, IsTrue, Some, None, IfOk, OnOk, OnErr, MatchOption, length};
+ghost use Rattle.std.specs.Prelude.{◌≡◌, ◌↔◌, ◌<◌, ◌≤◌, ◌+◌, ◌-◌, ◌^◌, ℕ, true, IsTrue, Some, None, IfOk, OnOk, OnErr, MatchOption, length};
 ghost use Rattle.std.specs.List.{slice_get};
+ghost use Rattle.slab.specs.Slab.{get};
 ghost use Rattle.number_sets.specs.Sets as sets;
 ghost use Rattle.link_lists.specs.Lists.{has, first};
 ghost use Rattle.frac128.specs.declared.fraction.Frac.{Frac};
@@ -14,6 +15,7 @@ ghost use Rattle.search_tree.specs.Growth.{AreOpen};
 ghost use Rattle.neutral_extension.specs.Candidates.{AreMakersOf};
 ghost use Rattle.abb_search.specs.Growing.{IsGrowing, IsBeaten, IsBranching, IsShutting, IsShutDown, IsSame, halt_at, leaf_of, material_of};
 
+use crate::hand::place_all;
 use branch_choice::fewest_options;
 use branch_tree::{End, Network};
 use frac128::Frac;
@@ -23,6 +25,7 @@ use node_pool::Pool;
 use pgraph::Graph;
 use pns_problem::Problem;
 use search_tree::{Cell, branch, shut};
+use slab::Slab;
 use std::alloc::{AllocError, Global};
 use unit_sets::Node;
 
@@ -41,7 +44,7 @@ pub(crate) struct Growing {
     pub budget: u32,
     pub nodes: u32,
     pub pool: Pool<Cell>,
-    pub ready: Vec<Option<Ready>>,
+    pub ready: Slab<Ready>,
     pub best: Option<Network>,
     pub halt: Option<HaltedLeaf>,
 }
@@ -98,21 +101,21 @@ pub(crate) fn halted_leaf(halt: &Option<HaltedLeaf>) -> Option<u32>
     }
 }
 
-/// What is at hand for an open leaf, taken out.
-fn take_ready(ready: &mut Vec<Option<Ready>>, leaf: u32) -> Option<Ready>
-    requires { leaf < length ready.old.items }
-    ensures value { result ≡ get_or ready.old.items leaf None }
-    ensures after { ready.new.items ≡ slice_set ready.old.items leaf None }
+/// The key of what is at hand for an open leaf.
+fn key_at(pool: &Pool<Cell>, leaf: u32) -> usize
+    requires { leaf < length pool.now.payloads }
+    ensures { result ≡ (cell_at pool.now.payloads leaf).key }
 {
-    ready[leaf as usize].take()
+    pool.is_pool();
+    pool.payload(leaf).key
 }
 
 /// The least material that is to decide at an open leaf.
-pub(crate) fn first_material(ready: &Vec<Option<Ready>>, leaf: u32) -> u32
-    requires { leaf < length ready.now.items }
-    ensures { result ≡ material_of (get_or ready.now.items leaf None) }
+pub(crate) fn first_material(growing: &Growing, leaf: u32) -> u32
+    requires { leaf < length growing.now.pool.payloads }
+    ensures { result ≡ material_of (get growing.now.ready (cell_at growing.now.pool.payloads leaf).key) }
 {
-    match &ready[leaf as usize] {
+    match growing.ready.get(key_at(&growing.pool, leaf)) {
         None => 0,
         Some(ready) => ready.material,
     }
@@ -167,16 +170,16 @@ pub(crate) fn branch_leaf<E: Evaluator>(
 {
     growing.pool.is_pool();
     let children = look_at_children(alloc, evaluator, problem, graph, makers, node, material)?;
-    let mut kids = children.kids;
-    let mut ready = children.ready;
     let first = growing.nodes;
-    let count = kids.len();
+    let count = children.kids.len();
     if !has_numbers(first, count) {
         return Err(AllocError);
     }
-    kids.reverse();
+    let placed = Vec::with_capacity(alloc, count)?;
     growing.pool.reserve(count as u32)?;
-    growing.ready.append(&mut ready)?;
+    growing.ready.reserve(count)?;
+    growing.ready.try_remove(key_at(&growing.pool, leaf));
+    let mut kids = place_all(children.kids, children.ready, &mut growing.ready, placed);
     branch(&mut growing.pool, leaf, material, first, &mut kids);
     growing.nodes = first + count as u32;
     growing.best = cheaper(growing.best.take(), children.best);
@@ -193,7 +196,7 @@ fn shut_leaf(problem: &Problem, growing: &mut Growing, leaf: u32)
 {
     problem.is_valid();
     growing.pool.is_pool();
-    if let Some(ready) = take_ready(&mut growing.ready, leaf) {
+    if let Some(ready) = growing.ready.try_remove(key_at(&growing.pool, leaf)) {
         ready.bound.scaled.are_in_range();
         shut(&mut growing.pool, leaf, End::Bound(ready.bound.scaled));
     }

@@ -4,6 +4,7 @@
 //! memory all is as before the turn. It stands on an evaluator of nodes.
 //!
 //! - `growing`: the tree while it grows, how a leaf is branched and how leaves are shut
+//! - `hand`: what is at hand for the open leaves, each under a key
 //! - `root`: the root, before and after the steps that are possible there
 //! - `found`: what is found, and the tree that shows it
 //! - `step`: a turn over the tree
@@ -13,6 +14,7 @@
 
 mod found;
 mod growing;
+mod hand;
 mod root;
 mod search;
 mod step;

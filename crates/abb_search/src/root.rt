@@ -9,6 +9,7 @@ ghost use Rattle.neutral_extension.specs.Candidates.{AreMakersOf};
 ghost use Rattle.abb_search.specs.Growing.{root_halt, IsOpenRoot, IsLookedRoot};
 
 use crate::growing::{Growing, HaltedLeaf};
+use crate::hand::place;
 use branch_tree::Steps;
 use frac128::Frac;
 use neutral_extension::Makers;
@@ -16,7 +17,8 @@ use node_looks::{Evaluator, Halt, look, open_cell};
 use node_pool::Pool;
 use pgraph::Graph;
 use pns_problem::Problem;
-use search_tree::Cell;
+use search_tree::{Cell, Fresh};
+use slab::Slab;
 use std::alloc::{AllocError, Global};
 use unit_sets::{Node, UnitSet};
 
@@ -71,7 +73,7 @@ pub(crate) fn open_root(alloc: Global, start: Node, budget: u32) -> Result<Growi
         budget,
         nodes: 1,
         pool,
-        ready: Vec::new(alloc),
+        ready: Slab::new(alloc),
         best: None,
         halt: None,
     })
@@ -103,7 +105,7 @@ pub(crate) fn look_at_root<E: Evaluator>(
     ensures root { IfOk result (IsLookedRoot E.past problem.now start budget) }
     ensures makers { makers.new.makers ≡ makers.old.makers }
 {
-    let root = copy_of(&start);
+    let node = copy_of(&start);
     let looked = look(
         alloc,
         evaluator,
@@ -111,11 +113,16 @@ pub(crate) fn look_at_root<E: Evaluator>(
         graph,
         makers,
         UnitSet::empty(),
-        root,
+        node,
     )?;
-    let mut ready = Vec::new(alloc);
-    ready.push(looked.ready)?;
-    let pool = root_pool(alloc, looked.cell, looked.value)?;
+    let mut ready = Slab::new(alloc);
+    ready.reserve(1)?;
+    let fresh = Fresh {
+        cell: looked.cell,
+        value: looked.value,
+    };
+    let root = place(fresh, looked.ready, &mut ready);
+    let pool = root_pool(alloc, root.cell, root.value)?;
     Ok(Growing {
         start,
         budget,

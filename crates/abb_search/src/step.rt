@@ -56,7 +56,7 @@ fn go_on<E: Evaluator>(
         let whole = tree_with(alloc, growing, 0)?;
         return Ok(Some(whole_found(growing.best.take(), whole.tree)));
     };
-    let first = first_material(&growing.ready, leaf);
+    let first = first_material(growing, leaf);
     let options = options_at(graph, growing, leaf, first);
     if is_over(options, growing.nodes, growing.budget) {
         let stopped = tree_with(alloc, growing, leaf)?;

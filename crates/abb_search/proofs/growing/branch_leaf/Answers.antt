@@ -1,4 +1,4 @@
-use Rattle.std.proofs.Common.{◌≡◌, ◌⊎◌, ◌||◌, ◌+◌, ◌<◌, refl, ap, ◌∙◌, subst, arith, length, rules, Option}
+use Rattle.std.proofs.Common.{◌≡◌, ◌⊎◌, ◌||◌, ◌+◌, ◌<◌, refl, ap, ◌∙◌, subst, arith, length, reverse, rules, List, Option, None}
 use Rattle.pgraph.specs.View.{node_of}
 use Rattle.std.specs.Prelude.{is_some}
 use Rattle.tree_rules.specs.Claim as claims
@@ -6,7 +6,12 @@ use Rattle.turn_laws.specs.Values.{HasFallen}
 use Rattle.node_looks.specs.Looks.{cost_of}
 use Rattle.abb_search.specs.declared.growing.Growing.{Growing}
 use Rattle.abb_search.specs.declared.growing.HaltedLeaf.{HaltedLeaf}
-use Rattle.abb_search.proofs.GrowingLemmas.{count_seen, halts_within, branching}
+use Rattle.std.proofs.lemmas.List.{length-reverse}
+use Rattle.slab.specs.Slab.{Slab, Updates}
+use Rattle.search_tree.specs.Cells.{Cell, cell_at}
+use Rattle.node_looks.specs.declared.looks.Ready.{Ready}
+use Rattle.abb_search.proofs.HandLemmas.{as_many_kids, freed_from}
+use Rattle.abb_search.proofs.GrowingLemmas.{count_seen, halts_within, room_within, branching}
 use Rattle.abb_search.proofs.growing.branch_leaf.Goals as goal
 
 pub overflow_cast-count : goal.overflow_cast-count
@@ -24,13 +29,6 @@ reserve-requires g c =
     let n = c.is_pool.ensures.payloads in
     omega (arith, k, l, few, n)
 
-pub branch-growing-requires-clause-few : goal.branch-growing-requires-clause-few
-branch-growing-requires-clause-few g c =
-    let k = count_seen g.E.Evaluator.past c.args.problem.now (node_of c.args.node) c.args.material c.in_ok-children.children c.in_ok-children.ensures.seen in
-    let r = c.reverse.ensures.len in
-    let few = c.requires.few in
-    omega (arith, k, r, few)
-
 pub halt_at-requires : goal.halt_at-requires
 halt_at-requires g c =
     let k = count_seen g.E.Evaluator.past c.args.problem.now (node_of c.args.node) c.args.material c.in_ok-children.children c.in_ok-children.ensures.seen in
@@ -39,15 +37,33 @@ halt_at-requires g c =
     halts_within g.E.Evaluator.past c.args.problem.now c.in_ok-children.children.kids.items c.in_ok-children.children.ready.items c.args.growing.now.nodes 4294967296 c.in_ok-children.children.halt c.in_ok-children.ensures.seen.halt_holds
     (omega (arith, k, few, n))
 
+pub branch-growing-requires-clause-few : goal.branch-growing-requires-clause-few
+branch-growing-requires-clause-few g c =
+    let k = count_seen g.E.Evaluator.past c.args.problem.now (node_of c.args.node) c.args.material c.in_ok-children.children c.in_ok-children.ensures.seen in
+    let m = as_many_kids c.in_ok-children.children.kids.items (reverse c.place_all-kids.result.items) c.in_ok-children.children.ready.items c.try_remove.new.self c.place_all-kids.new.hand c.place_all-kids.ensures in
+    let r = length-reverse c.place_all-kids.result.items in
+    let few = c.requires.few in
+    omega (arith, k, m, r, few)
+
+pub branch-growing-requires-clause-room : goal.branch-growing-requires-clause-room
+branch-growing-requires-clause-room g c =
+    let m = as_many_kids c.in_ok-children.children.kids.items (reverse c.place_all-kids.result.items) c.in_ok-children.children.ready.items c.try_remove.new.self c.place_all-kids.new.hand c.place_all-kids.ensures in
+    let r = length-reverse c.place_all-kids.result.items in
+    let l : c.len-count.result ≡ length c.in_ok-children.children.kids.items = search rules in
+    room_within c.reserve.new.self.spare c.args.growing.now.pool.spare c.len-count.result (length c.place_all-kids.result.items) c.in_ok-reserve.ensures.spare (omega (arith, m, r, l))
+
 pub returns-clause-branching : goal.returns-clause-branching
 returns-clause-branching g c =
     let l : c.len-count.result ≡ length c.in_ok-children.children.kids.items = search rules in
-    let new : Growing = record { start = c.args.growing.now.start; budget = c.args.growing.now.budget; nodes = c.args.growing.now.nodes + c.len-count.result; pool = c.branch-growing.new.pool; ready = c.append.new.self; best = c.cheaper.result; halt = c.halt_at.result } in
+    let new : Growing = record { start = c.args.growing.now.start; budget = c.args.growing.now.budget; nodes = c.args.growing.now.nodes + c.len-count.result; pool = c.branch-growing.new.pool; ready = c.place_all-kids.new.hand; best = c.cheaper.result; halt = c.halt_at.result } in
     let b = c.in_ok-children.children.best in
     let which = subst (λ (w : Option claims.Network). (c.cheaper.result ≡ w) ⊎ (c.cheaper.result ≡ b)) c.take.ensures.value c.cheaper.ensures.which in
     let fallen = subst (λ (w : Option claims.Network). HasFallen (cost_of w) (cost_of c.cheaper.result)) c.take.ensures.value c.cheaper.ensures.old in
     let some = subst (λ (w : Option claims.Network). is_some c.cheaper.result ≡ (is_some w || is_some b)) c.take.ensures.value c.cheaper.ensures.some in
     let n : length c.args.growing.now.pool.payloads + length c.in_ok-children.children.kids.items < 4294967295 = (let h = c.has_numbers.ensures.0 c.if-not-has_numbers.false in let e = c.requires.counted in omega (arith, h, l, e)) in
-    branching g.E.Evaluator.past c.args.problem.now (node_of c.args.node) c.args.growing.now new c.args.leaf c.args.material c.in_ok-children.children c.reserve.new.self c.reverse.new.self.items c.args.growing.now.nodes
-    c.in_ok-children.ensures.seen c.in_ok-reserve.ensures.nodes c.reverse.ensures.items c.requires.counted
-    c.branch-growing.ensures.cells c.branch-growing.ensures.values c.in_ok-append.ensures.items which fallen c.cheaper.ensures.found some n (ap (λ k. c.args.growing.now.nodes + k) l) c.branch-growing.ensures.open refl refl c.halt_at.ensures
+    let key : c.key_at.result ≡ (cell_at c.args.growing.now.pool.payloads c.args.leaf).key = c.key_at.ensures ∙ ap (λ (cs : List Cell). (cell_at cs c.args.leaf).key) c.in_ok-reserve.ensures.nodes.payloads in
+    let frees = subst (λ k. Updates c.args.growing.now.ready c.try_remove.new.self k None) key
+    (freed_from c.args.growing.now.ready c.reserve-2.new.self c.try_remove.new.self c.key_at.result (ap (λ (s : Slab Ready). s.slots) c.in_ok-reserve-2.ensures.rest_kept) c.try_remove.ensures.updates) in
+    branching g.E.Evaluator.past c.args.problem.now (node_of c.args.node) c.args.growing.now new c.args.leaf c.args.material c.in_ok-children.children c.reserve.new.self c.place_all-kids.result.items c.try_remove.new.self c.args.growing.now.nodes
+    c.in_ok-children.ensures.seen c.in_ok-reserve.ensures.nodes c.requires.counted frees c.place_all-kids.ensures
+    c.branch-growing.ensures.cells c.branch-growing.ensures.values which fallen c.cheaper.ensures.found some n (ap (λ k. c.args.growing.now.nodes + k) l) c.branch-growing.ensures.open refl refl c.halt_at.ensures

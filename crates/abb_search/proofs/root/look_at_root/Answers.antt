@@ -1,7 +1,6 @@
-use Rattle.std.proofs.Common.{ℕ, List, [], ◌∷◌, ◌++◌, Option, refl, ap, ◌∙◌, subst}
+use Rattle.std.proofs.Common.{ℕ, List, [], refl, subst}
 use Rattle.unit_sets.specs.declared.node.Node as starts
 use Rattle.pgraph.specs.View.{node_of}
-use Rattle.node_looks.specs.declared.looks.Ready.{Ready}
 use Rattle.node_looks.specs.Looks.{IsLooked}
 use Rattle.abb_search.proofs.root.look_at_root.Goals as goal
 
@@ -10,14 +9,16 @@ returns-clause-root g c =
     let l = c.in_ok-looked.looked in
     record {
       looked = l;
-      is_looked = subst (λ (n : starts.Node). IsLooked g.E.Evaluator.past c.args.problem.now (node_of n) [] l) c.copy_of-root.ensures
-          (subst (λ (o : List ℕ). IsLooked g.E.Evaluator.past c.args.problem.now (node_of c.copy_of-root.result) o l) c.empty.ensures c.in_ok-looked.ensures.looked);
+      is_looked = subst (λ (n : starts.Node). IsLooked g.E.Evaluator.past c.args.problem.now (node_of n) [] l) c.copy_of-node.ensures
+          (subst (λ (o : List ℕ). IsLooked g.E.Evaluator.past c.args.problem.now (node_of c.copy_of-node.result) o l) c.empty.ensures c.in_ok-looked.ensures.looked);
       start_is = refl;
       budget_is = refl;
       nodes_are = refl;
+      root = c.place-root.result;
+      empty = c.reserve.new.self;
+      placed = c.place-root.ensures.placed;
       cells_are = c.in_ok-pool.ensures.cells;
       values_are = c.in_ok-pool.ensures.values;
-      ready_is = c.in_ok-push.ensures.items ∙ ap (λ (rs : List (Option Ready)). rs ++ l.ready ∷ []) c.new-ready.ensures.items;
       best_is = refl;
       halt_is = c.root_halt.ensures;
       are_open = c.in_ok-pool.ensures.open;

@@ -14,7 +14,6 @@ use Rattle.abb_search.specs.Growing.{IsBranching, IsAfterBranch}
 use Rattle.abb_search.specs.Found.{found_with}
 use Rattle.abb_search.specs.Answers.{IsEnd}
 use Rattle.abb_search.proofs.EndLemmas.{whole_found, spent_found}
-use Rattle.abb_search.proofs.ReadyLemmas.{ready_length}
 use Rattle.abb_search.proofs.StepLemmas.{ends_with, never_memory, more_after}
 use Rattle.abb_search.proofs.TurnLemmas.{whole, there, hand, first_is, first_undecided, first_known, sound_there, spent_here, branched_step, few_options}
 use Rattle.abb_search.proofs.step.go_on.Goals as goal
@@ -33,10 +32,7 @@ returns-in_default-clause-holds g c =
     (never_memory s.best w.tree) refl refl refl refl)
 
 pub first_material-first-requires : goal.first_material-first-requires
-first_material-first-requires g c =
-    let l = there c.args.problem.now c.is_valid.ensures.valid c.args.growing.now c.requires.growing c.in-Some.leaf (sym c.least.ensures ∙ c.in-Some.is) c.is_pool.ensures.payloads c.is_pool.ensures.leaves c.is_pool.ensures.rising in
-    let e = ready_length c.args.problem.now c.args.growing.now.pool.payloads c.args.growing.now.pool.values c.args.growing.now.ready.items c.requires.growing.ready in
-    omega (arith, l, e)
+first_material-first-requires g c = there c.args.problem.now c.is_valid.ensures.valid c.args.growing.now c.requires.growing c.in-Some.leaf (sym c.least.ensures ∙ c.in-Some.is) c.is_pool.ensures.payloads c.is_pool.ensures.leaves c.is_pool.ensures.rising
 
 pub options_at-options-requires-clause-leaf : goal.options_at-options-requires-clause-leaf
 options_at-options-requires-clause-leaf g c = there c.args.problem.now c.is_valid.ensures.valid c.args.growing.now c.requires.growing c.in-Some.leaf (sym c.least.ensures ∙ c.in-Some.is) c.is_pool.ensures.payloads c.is_pool.ensures.leaves c.is_pool.ensures.rising

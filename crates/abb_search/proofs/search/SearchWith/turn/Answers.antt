@@ -1,0 +1,13 @@
+use Rattle.std.proofs.Common.{◌≡◌, ◌<◌, ◌≤◌, List, length, sym, ap, ◌∙◌, subst}
+use Rattle.pns_rules.specs.Shape.{shape_of}
+use Rattle.pns_rules.specs.Ends.{IsSound}
+use Rattle.pgraph.specs.Tables.{shape}
+use Rattle.pgraph.specs.View.{node_of}
+use Rattle.neutral_extension.specs.Candidates.{AreMakersOf}
+use Rattle.abb_search.proofs.StepLemmas.{searching_same}
+use Rattle.abb_search.proofs.search.SearchWith.turn.Goals as goal
+
+pub invariant_of-self : goal.invariant_of-self
+invariant_of-self g c =
+    searching_same g.E.Evaluator.past c.self.inside.problem.now (shape c.self.inside.graph.now) c.self.inside.makers.makers c.take_turn.new.makers.makers c.self.inside.growing c.take_turn.new.growing c.self.inside.looked c.self.inside.ended
+    c.self.invariant c.in-Err.ensures.makers c.in-Err.ensures.same

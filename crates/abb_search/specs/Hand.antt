@@ -1,0 +1,51 @@
+-- What is at hand for the open leaves, each under a key that stands in the leaf's cell.
+use Rattle.std.specs.Prelude.{◌≡◌, ℕ, ◌<◌, List, [], ◌∷◌, length, Option, Some, None}
+use Rattle.std.specs.List.{slice_get}
+use Rattle.slab.specs.Slab.{Slab, get, Updates}
+use Rattle.problem_rules.specs.Problem.{Problem}
+use Rattle.frac128.specs.declared.fraction.Frac.{Frac}
+use Rattle.tree_rules.specs.Tree.{leaf}
+use Rattle.tree_rules.specs.Leaf.{untried}
+use Rattle.search_tree.specs.Cells.{Cell, place_of, cell_at}
+use Rattle.search_tree.specs.declared.growth.Fresh.{Fresh}
+use Rattle.node_looks.specs.declared.looks.Ready.{Ready}
+use Rattle.node_looks.specs.Looks.{IsSomeReady}
+
+-- leaf j has a value, and under its key stands what its branching or shutting takes
+pub record IsAtHand (p : Problem) (cells : List Cell) (values : List Frac) (hand : Slab Ready) (j : ℕ) : Type 0 where
+  pub value : Frac
+  pub value_is : slice_get values j ≡ Some value
+  pub some : IsSomeReady p (place_of (cell_at cells j)) value (get hand (cell_at cells j).key)
+
+-- each node has a value, each open leaf has it at hand, and no two have one key
+pub record AreAtHand (p : Problem) (cells : List Cell) (values : List Frac) (hand : Slab Ready) : Type 0 where
+  pub as_many : length values ≡ length cells
+  pub each : (j : ℕ) → j < length cells → (cell_at cells j).end ≡ leaf untried → IsAtHand p cells values hand j
+  pub apart : (i j : ℕ) → i < length cells → j < length cells → (cell_at cells i).end ≡ leaf untried → (cell_at cells j).end ≡ leaf untried
+      → (cell_at cells i).key ≡ (cell_at cells j).key → i ≡ j
+
+-- ---- children are placed
+
+abbrev pub with_key : Cell → ℕ → Cell
+with_key c key = record { option = c.option; steps = c.steps; node = c.node; first = c.first; end = c.end; key = key }
+
+-- what is at hand for a child stands under a key that was vacant, and the child has this key
+pub record IsKeyed (old new : Fresh) (ready : Ready) (before after : Slab Ready) : Type 0 where
+  pub key : ℕ
+  pub was_vacant : get before key ≡ None
+  pub updates : Updates before after key (Some ready)
+  pub new_is : new ≡ record { cell = with_key old.cell key; value = old.value }
+
+-- so it is where something is at hand
+abbrev pub IsPlaced : Fresh → Fresh → Option Ready → Slab Ready → Slab Ready → Type 0
+IsPlaced old new None before after = (new ≡ old) × (after ≡ before)
+IsPlaced old new (Some ready) before after = IsKeyed old new ready before after
+
+-- the children are placed, the last one first
+abbrev pub ArePlaced : List Fresh → List Fresh → List (Option Ready) → Slab Ready → Slab Ready → Type 0
+ArePlaced [] [] [] before after = after ≡ before
+ArePlaced (f ∷ fs) (g ∷ gs) (r ∷ rs) before after = (mid : Slab Ready) × ArePlaced fs gs rs before mid × IsPlaced f g r mid after
+ArePlaced [] [] (r ∷ rs) before after = ⊥
+ArePlaced [] (g ∷ gs) rs before after = ⊥
+ArePlaced (f ∷ fs) [] rs before after = ⊥
+ArePlaced (f ∷ fs) (g ∷ gs) [] before after = ⊥

@@ -1,0 +1,61 @@
+//! What is at hand for the open leaves, each under a key.
+ghost use Rattle.std.specs.Prelude.{◌≡◌, ◌<◌, ◌≤◌, ◌+◌, [], ◌∷◌, ◌++◌, length, reverse, vec_len, vec_capacity};
+ghost use Rattle.slab.specs.Slab.{slab_len, HasRoomFor};
+ghost use Rattle.abb_search.specs.Hand.{IsPlaced, ArePlaced};
+
+use node_looks::Ready;
+use search_tree::Fresh;
+use slab::Slab;
+
+/// Takes the last item of a list that has one.
+fn take_last(ready: &mut Vec<Option<Ready>>) -> Option<Ready>
+    requires { 0 < length ready.old.items }
+    ensures { ready.old.items ≡ ready.new.items ++ result ∷ [] }
+{
+    match ready.pop() {
+        None => None,
+        Some(last) => last,
+    }
+}
+
+/// Puts what is at hand for a child into the slab, where something is, and notes its key. It takes no memory.
+pub(crate) fn place(fresh: Fresh, ready: Option<Ready>, hand: &mut Slab<Ready>) -> Fresh
+    requires room { HasRoomFor hand.old 1 }
+    ensures placed { IsPlaced fresh result ready hand.old hand.new }
+    ensures len { slab_len hand.new ≤ slab_len hand.old + 1 }
+    ensures capacity { hand.new.capacity ≡ hand.old.capacity }
+{
+    let Some(ready) = ready else {
+        return fresh;
+    };
+    let mut cell = fresh.cell;
+    cell.key = hand.insert_reserved(ready);
+    Fresh {
+        cell,
+        value: fresh.value,
+    }
+}
+
+/// Does so for each child, the last one first, and gives the children in that order. It takes no memory where `placed`, which is empty,
+/// and the slab have room for them.
+pub(crate) fn place_all(
+    kids: Vec<Fresh>,
+    ready: Vec<Option<Ready>>,
+    hand: &mut Slab<Ready>,
+    placed: Vec<Fresh>,
+) -> Vec<Fresh>
+    requires as_many { length ready.items ≡ length kids.items }
+    requires room { HasRoomFor hand.old (length kids.items) }
+    requires empty { placed.items ≡ [] }
+    requires space { length kids.items ≤ vec_capacity placed }
+    ensures { ArePlaced kids.items (reverse result.items) ready.items hand.old hand.new }
+{
+    let mut kids = kids;
+    let mut ready = ready;
+    let mut placed = placed;
+    'kids: while let Some(fresh) = kids.pop() {
+        let at_hand = take_last(&mut ready);
+        placed.push_reserved(place(fresh, at_hand, hand));
+    }
+    placed
+}
