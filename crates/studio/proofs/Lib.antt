@@ -1,5 +1,4 @@
-pub mod Ending
-pub mod Put
+pub mod Files
 pub mod Within
 pub mod EditCounts
 pub mod Seconds
@@ -11,4 +10,3 @@ pub mod Numerals
 pub mod Listings
 pub mod ListingStart
 pub mod ListingParts
-pub mod Printing

@@ -14,7 +14,7 @@ use Rattle.pns_rules.proofs.ListingLemmas.{listing_is_one, listing_resumes}
 use Rattle.structure_list.specs.Tokens.{token_of}
 use Rattle.structure_list.proofs.TokenLemmas.{token_one}
 use Rattle.studio.specs.Listing.{IsAfter, structure_line, more_line, last_of, last_line, listing_lines, ListingWork}
-use Rattle.studio.specs.declared.status.Status.TheVariants.{Done}
+use Rattle.endings.specs.declared.status.Status.TheVariants.{Done}
 use Rattle.studio.proofs.Listings.{lines_cut}
 use Rattle.studio.proofs.ListingStart.{not_start, set_of}
 

@@ -11,7 +11,7 @@ use Rattle.structure_list.specs.Tokens.{token_of}
 use Rattle.structure_list.specs.Rest.{Rest, IsToCome}
 use Rattle.structure_list.proofs.TokenLemmas.{token_one, token_has_form}
 use Rattle.studio.specs.Listing.{IsAfter, IsBadToken, RestSays, ListingWork}
-use Rattle.studio.specs.declared.status.Status.{Status}
+use Rattle.endings.specs.declared.status.Status.{Status}
 
 pub not_start : (word s : List ℕ) → word ≡ token_of s → word ≡ codes "start" → ⊥
 not_start word s e h = let five = ap length h in let long = (token_has_form word s e).long in omega (arith, five, long)

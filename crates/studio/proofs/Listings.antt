@@ -9,12 +9,12 @@ use Rattle.std.proofs.Math.Seq.{take-append-add}
 use Rattle.pns_io.specs.Outside.{AppendsFront}
 use Rattle.problem_rules.specs.Problem.{Problem}
 use Rattle.structure_list.specs.Rest.{Rest, IsToCome}
-use Rattle.studio.specs.Lines.{line, text_of}
+use Rattle.endings.specs.Lines.{line, text_of}
 use Rattle.studio.specs.Listing.{structure_line, more_line, last_of, last_line, listing_lines, RestSays}
-use Rattle.studio.specs.Ending.{Ends, Tells, Only, OrMemory}
-use Rattle.studio.specs.declared.status.Status.{Status}
-use Rattle.studio.specs.declared.status.Status.TheVariants.{Done, WriteFault, Memory}
-use Rattle.studio.proofs.Ending.{Ends-after, only_in, only_or_memory_in}
+use Rattle.endings.specs.Ending.{Ends, Tells, Only, OrMemory}
+use Rattle.endings.specs.declared.status.Status.{Status}
+use Rattle.endings.specs.declared.status.Status.TheVariants.{Done, WriteFault, Memory}
+use Rattle.endings.proofs.Ending.{Ends-after, only_in, only_or_memory_in}
 
 pub last_of-push : (ss : List (List ℕ)) (s : List ℕ) → last_of (ss ++ s ∷ []) ≡ s
 last_of-push [] s = refl

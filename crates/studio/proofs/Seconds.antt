@@ -3,10 +3,10 @@ use Rattle.std.proofs.Common.{◌≡◌, ◌<◌, ◌≤◌, ◌⊎◌, ℕ, Lis
 use Rattle.pns_io.specs.Outside.{HasRisen}
 use Rattle.problem_rules.specs.Problem.{Problem}
 use Rattle.studio.specs.Reading.{AreHeld, LongFile, IsLong, FileFaults, GivesProblem, OnFile, OnSecond}
-use Rattle.studio.specs.Ending.{Shelves, Says}
-use Rattle.studio.specs.declared.status.Status.{Status}
-use Rattle.studio.specs.declared.status.Status.TheVariants.{TooLong}
-use Rattle.studio.proofs.Ending.{Says-map, Says-over, HasRisen-later}
+use Rattle.endings.specs.Ending.{Shelves, Says}
+use Rattle.endings.specs.declared.status.Status.{Status}
+use Rattle.endings.specs.declared.status.Status.TheVariants.{TooLong}
+use Rattle.endings.proofs.Ending.{Says-map, Says-over, HasRisen-later}
 
 -- a file above its limit is one of the faults of its text
 pub long-faults : (fault : List ℕ → Status → List (List ℕ) → Type 0) (shelves : Shelves) (name : List ℕ) (limit : ℕ) → ((file : List ℕ) (lines : List (List ℕ)) → IsLong name limit file lines → fault file TooLong lines) → (s : Status) (t : List ℕ) → Says (LongFile shelves.held name limit) (λ other. other ≡ name) shelves s t → Says (λ status lines. (file : List ℕ) × AreHeld (shelves.held name) file × fault file status lines) (λ other. other ≡ name) shelves s t

@@ -5,8 +5,8 @@ use Rattle.edit_rules.specs.Edit.{Edit}
 use Rattle.pgraph.specs.declared.verdict.Verdict.{Verdict}
 use Rattle.pgraph.specs.declared.verdict.Verdict.TheVariants.{Meets, Breaks}
 use Rattle.pns_io.specs.Outside.{HasRisen}
-use Rattle.studio.specs.Command.{Command, Max, Axioms, Flows, Listing, Make, Migrate, Editing, Undoing, Checking, command_of, IsFileOf, IsFileWord}
-use Rattle.studio.specs.Reading.{AreHeld, FileFault, file_limit}
+use Rattle.studio.specs.Command.{Command, Max, Axioms, Flows, Listing, Make, Migrate, Editing, Undoing, Checking, Solving, Trial, command_of, IsFileOf, IsFileWord}
+use Rattle.studio.specs.Reading.{AreHeld, GivesProblem, FileFault, file_limit}
 use Rattle.studio.specs.Max.{MaxWork}
 use Rattle.studio.specs.Listing.{ListingWork}
 use Rattle.studio.specs.Migrate.{MigrateWork}
@@ -17,11 +17,15 @@ use Rattle.tree_rules.specs.Claim.{Claim}
 use Rattle.tree_rules.specs.Accepted.{Tree}
 use Rattle.studio.specs.TreeFile.{TreeFault, OnTree, tree_limit}
 use Rattle.studio.specs.Check.{CheckWork}
+use Rattle.branch_tree.specs.Tail.{Tail, whole, spent, past}
+use Rattle.generator.specs.Generated.{generated}
+use Rattle.searches.specs.Solve.{SolveWork, Holds, status_of, CanFinish}
+use Rattle.searches.specs.Summary.{SummaryWork}
 use Rattle.studio.specs.Axioms.{NamesSay, VerdictSays, first_stranger}
-use Rattle.studio.specs.Ending.{Shelves, Ends, IsOneOf}
-use Rattle.studio.specs.Answers.{AnswersTo, CommandAnswers, WordsSay, IsReadWithin, IsUndisturbed, statuses_of}
-use Rattle.studio.specs.declared.status.Status.{Status}
-use Rattle.studio.specs.declared.status.Status.TheVariants.{Done, Refused, Usage, BadProblem, Past, ReadFault, WriteFault, Memory, TooLong, BadToken, BadTree, BadEdit, NotMigrated}
+use Rattle.endings.specs.Ending.{Shelves, Ends, IsOneOf}
+use Rattle.studio.specs.Answers.{AnswersTo, CommandAnswers, WordsSay, IsReadWithin, IsUndisturbed, IsNotStopped, SearchCanFinish, statuses_of}
+use Rattle.endings.specs.declared.status.Status.{Status}
+use Rattle.endings.specs.declared.status.Status.TheVariants.{Done, Refused, Usage, BadProblem, Past, Spent, ReadFault, WriteFault, Memory, TooLong, BadToken, BadTree, BadEdit, NotMigrated}
 
 -- a file that gives no problem, where it is held within the limit or not
 fault_status : (name file : List ℕ) (s : Status) (lines : List (List ℕ)) → FileFault name file s lines → (s ≡ BadProblem) ⊎ ((s ≡ TooLong) × (file_limit < length file))
@@ -82,6 +86,18 @@ check_status : (p : Problem) (claim : Claim) (tree : Tree) (s : Status) (lines :
 check_status p claim tree Done lines h = inl refl
 check_status p claim tree Refused lines h = inr refl
 check_status p claim tree s lines h = absurd h
+
+tail_status : (tail : Tail) (s : Status) → s ≡ status_of tail → (s ≡ Done) ⊎ ((s ≡ Spent) ⊎ (s ≡ Past))
+tail_status whole s e = inl e
+tail_status (spent next options) s e = inr (inl e)
+tail_status (past node nonbasic place) s e = inr (inr e)
+
+solve_status : (budget : ℕ) (p : Problem) (s : Status) (lines : List (List ℕ)) → SolveWork budget p s lines → (s ≡ Done) ⊎ ((s ≡ Spent) ⊎ (s ≡ Past))
+solve_status budget p s lines h = tail_status h.0.tail s h.1
+
+search_status : (budget : ℕ) (p : Problem) (s : Status) (lines : List (List ℕ)) → SummaryWork budget p s lines → (s ≡ Done) ⊎ ((s ≡ Spent) ⊎ (s ≡ Past))
+search_status budget p Done lines h = inl refl
+search_status budget p s lines h = solve_status budget p s lines h
 
 -- the statuses of a command, where its file is within the limit
 within_limit : (held : Option (List ℕ)) (limit : ℕ) (file : List ℕ) → IsSomeAnd held (λ told. length told ≤ limit) → AreHeld held file → limit < length file → ⊥
@@ -165,6 +181,18 @@ command_status held (Checking name tree) s lines (file, is, inl fault) short = e
   | inr q ↦ absurd (within_limit (held name) file_limit file (short name file_limit (inl (refl, refl))) is q.1)
 ]
 command_status held (Checking name tree) s lines (file, is, inr work) short = trees_status held tree work.0 s lines work.2 (short tree tree_limit (inr (refl, refl)))
+command_status held (Solving name budget) s lines (file, is, inl fault) short = elim (fault_status name file s lines fault) [
+  | inl q ↦ inr (inr (inr (inl q)))
+  | inr q ↦ absurd (within_limit (held name) file_limit file (short name file_limit (refl, refl)) is q.1)
+]
+command_status held (Solving name budget) s lines (file, is, inr work) short = elim (solve_status budget work.0 s lines work.2) [
+  | inl q ↦ inl q
+  | inr o ↦ elim o [ inl q ↦ inr (inl q) | inr q ↦ inr (inr (inl q)) ]
+]
+command_status held (Trial number units budget) s lines h short = elim (search_status budget (generated number units) s lines h) [
+  | inl q ↦ inl q
+  | inr o ↦ elim o [ inl q ↦ inr (inl q) | inr q ↦ inr (inr (inl q)) ]
+]
 
 -- some status of a command, whatever its file holds
 answer_status : (held : List ℕ → Option (List ℕ)) (command : Command) (lines : List (List ℕ)) → CommandAnswers held command Usage lines → ⊥
@@ -188,6 +216,9 @@ answer_status held (Undoing name script) lines (file, is, inr (p, given, (bytes,
 answer_status held (Checking name tree) lines (file, is, inl fault) = absurd fault
 answer_status held (Checking name tree) lines (file, is, inr (p, given, (bytes, there, inl fault))) = absurd fault
 answer_status held (Checking name tree) lines (file, is, inr (p, given, (bytes, there, inr rest))) = absurd rest.3
+answer_status held (Solving name budget) lines (file, is, inl fault) = absurd fault
+answer_status held (Solving name budget) lines (file, is, inr work) = elim (solve_status budget work.0 Usage lines work.2) [ inl q ↦ cc | inr o ↦ elim o [ inl q ↦ cc | inr q ↦ cc ] ]
+answer_status held (Trial number units budget) lines h = elim (search_status budget (generated number units) Usage lines h) [ inl q ↦ cc | inr o ↦ elim o [ inl q ↦ cc | inr q ↦ cc ] ]
 
 usage_answers : (held : List ℕ → Option (List ℕ)) (found : Option Command) (lines : List (List ℕ)) → AnswersTo held found Usage lines → found ≡ None
 usage_answers held None lines h = refl
@@ -203,6 +234,34 @@ memory_status (Migrate file years) = inr (inr (inr (inl refl)))
 memory_status (Editing file script) = inr (inr (inr (inl refl)))
 memory_status (Undoing file script) = inr (inr (inr (inl refl)))
 memory_status (Checking file tree) = inr (inr (inr (inr (inl refl))))
+memory_status (Solving file budget) = inr (inr (inr (inr (inl refl))))
+memory_status (Trial number units budget) = inr (inr (inr (inl refl)))
+
+-- ---- a search that comes to its end
+
+finished : (budget : ℕ) (p : Problem) (s : Status) (lines : List (List ℕ)) → CanFinish budget p → SolveWork budget p s lines → IsNotStopped s
+finished budget p s lines can (c, e, holds, text) = at c.tail e holds
+  where
+    at : (tail : Tail) → s ≡ status_of tail → Holds budget p c.claim c.tree tail → IsNotStopped s
+    at whole e holds = ((λ q. cc), (λ q. cc))
+    at (spent next options) e holds = absurd (can.enough holds.2)
+    at (past node nonbasic place) e holds = let h = holds.1 in absurd (can.in_range h.node nonbasic place h.reduced h.past.past)
+
+search_finished : (budget : ℕ) (p : Problem) (s : Status) (lines : List (List ℕ)) → CanFinish budget p → SummaryWork budget p s lines → IsNotStopped s
+search_finished budget p Done lines can h = ((λ q. cc), (λ q. cc))
+search_finished budget p s lines can h = finished budget p s lines can h
+
+fault_not_stopped : (name file : List ℕ) (s : Status) (lines : List (List ℕ)) → FileFault name file s lines → IsNotStopped s
+fault_not_stopped name file s lines h = elim (fault_status name file s lines h) [
+  | inl q ↦ ((λ r. cc), (λ r. cc))
+  | inr q ↦ let q0 = q.0 in ((λ r. cc), (λ r. cc))
+]
+
+command_finished : (held : List ℕ → Option (List ℕ)) (command : Command) (s : Status) (lines : List (List ℕ)) → SearchCanFinish held command → CommandAnswers held command s lines → IsNotStopped s
+command_finished held (Solving name budget) s lines can (file, is, inl fault) = fault_not_stopped name file s lines fault
+command_finished held (Solving name budget) s lines can (file, is, inr work) = finished budget work.0 s lines (can file work.0 is work.1) work.2
+command_finished held (Trial number units budget) s lines can h = search_finished budget (generated number units) s lines can h
+command_finished held command s lines can h = absurd can
 
 module _ (shelves : Shelves) (words : List (List ℕ)) (risen : Type 0) (old new : Option (List ℕ)) where
   pub usage_ends : (s : Status) → Ends (WordsSay shelves words) risen old new s → s ≡ Usage → command_of words ≡ None
@@ -234,3 +293,11 @@ module _ (shelves : Shelves) (words : List (List ℕ)) (risen : Type 0) (old new
       absurd (calm.read e.1.0 (subst (λ (f : Option Command). IsSomeAnd f (λ command. IsFileOf command e.1.0)) is e.1.1) e.1.2)
   complete_ends s e command is calm =
       let told = subst (λ (f : Option Command). AnswersTo shelves.held f s e.1.0) is e.1.1 in command_status shelves.held command s e.1.0 told calm.held
+
+  -- a search that nothing stops comes to its end
+  pub finish_ends : (s : Status) → Ends (WordsSay shelves words) risen old new s → (command : Command) → command_of words ≡ Some command → SearchCanFinish shelves.held command → IsNotStopped s
+  finish_ends WriteFault e command is can = ((λ q. cc), (λ q. cc))
+  finish_ends Memory e command is can = ((λ q. cc), (λ q. cc))
+  finish_ends ReadFault e command is can = ((λ q. cc), (λ q. cc))
+  finish_ends s e command is can =
+      let told = subst (λ (f : Option Command). AnswersTo shelves.held f s e.1.0) is e.1.1 in command_finished shelves.held command s e.1.0 can told

@@ -1,8 +1,10 @@
 -- What each command says, from its words and what the shelf holds.
 use Rattle.std.specs.Prelude.{◌≡◌, ◌≤◌, ◌⊎◌, ℕ, List, [], ◌∷◌, Option, Some, None, IsSomeAnd, length, codes}
 use Rattle.pns_io.specs.Outside.{HasRisen}
-use Rattle.studio.specs.Command.{Command, Max, Axioms, Flows, Listing, Make, Migrate, Editing, Undoing, Checking, command_of, IsFileOf, IsFileWord}
-use Rattle.studio.specs.Reading.{OnFile, file_limit}
+use Rattle.studio.specs.Command.{Command, Max, Axioms, Flows, Listing, Make, Migrate, Editing, Undoing, Checking, Solving, Trial, command_of, IsFileOf, IsFileWord}
+use Rattle.generator.specs.Generated.{generated}
+use Rattle.problem_rules.specs.Problem.{Problem}
+use Rattle.studio.specs.Reading.{AreHeld, GivesProblem, OnFile, file_limit}
 use Rattle.studio.specs.Max.{MaxWork}
 use Rattle.studio.specs.Axioms.{AxiomsWork}
 use Rattle.studio.specs.Flows.{FlowsWork}
@@ -13,9 +15,11 @@ use Rattle.studio.specs.Migrate.{MigrateWork}
 use Rattle.studio.specs.Edits.{EditWork, UndoWork}
 use Rattle.studio.specs.TreeFile.{OnTree, tree_limit}
 use Rattle.studio.specs.Check.{CheckWork}
-use Rattle.studio.specs.Ending.{Shelves, Says}
-use Rattle.studio.specs.declared.status.Status.{Status}
-use Rattle.studio.specs.declared.status.Status.TheVariants.{Done, Refused, Usage, BadProblem, Past, Memory, BadToken, BadTree, BadEdit, NotMigrated}
+use Rattle.searches.specs.Solve.{SolveWork, CanFinish}
+use Rattle.studio.specs.Trial.{TrialWork}
+use Rattle.endings.specs.Ending.{Shelves, Says}
+use Rattle.endings.specs.declared.status.Status.{Status}
+use Rattle.endings.specs.declared.status.Status.TheVariants.{Done, Refused, Usage, BadProblem, Past, Spent, Memory, BadToken, BadTree, BadEdit, NotMigrated}
 
 -- the statuses and lines of a command, while neither shelf, sink nor memory fails
 abbrev pub CommandAnswers : (List ℕ → Option (List ℕ)) → Command → Status → List (List ℕ) → Type 0
@@ -28,6 +32,8 @@ CommandAnswers held (Migrate file years) status lines = OnFile (MigrateWork year
 CommandAnswers held (Editing file script) status lines = OnFile (OnScript EditWork held script) held file status lines
 CommandAnswers held (Undoing file script) status lines = OnFile (OnScript UndoWork held script) held file status lines
 CommandAnswers held (Checking file tree) status lines = OnFile (OnTree CheckWork held tree) held file status lines
+CommandAnswers held (Solving file budget) status lines = OnFile (SolveWork budget) held file status lines
+CommandAnswers held (Trial number units budget) status lines = TrialWork number units budget status lines
 
 -- words without a form are told so
 abbrev pub AnswersTo : (List ℕ → Option (List ℕ)) → Option Command → Status → List (List ℕ) → Type 0
@@ -66,3 +72,15 @@ statuses_of (Migrate file years) = Done ∷ NotMigrated ∷ BadProblem ∷ Memor
 statuses_of (Editing file script) = Done ∷ BadEdit ∷ BadProblem ∷ Memory ∷ []
 statuses_of (Undoing file script) = Done ∷ BadEdit ∷ BadProblem ∷ Memory ∷ []
 statuses_of (Checking file tree) = Done ∷ Refused ∷ BadProblem ∷ BadTree ∷ Memory ∷ []
+statuses_of (Solving file budget) = Done ∷ Spent ∷ Past ∷ BadProblem ∷ Memory ∷ []
+statuses_of (Trial number units budget) = Done ∷ Spent ∷ Past ∷ Memory ∷ []
+
+-- nothing stops the search of the command before its end, whatever problem its file gives
+abbrev pub SearchCanFinish : (List ℕ → Option (List ℕ)) → Command → Type 0
+SearchCanFinish held (Solving name budget) = (file : List ℕ) (p : Problem) → AreHeld (held name) file → GivesProblem file p → CanFinish budget p
+SearchCanFinish held (Trial number units budget) = CanFinish budget (generated number units)
+SearchCanFinish held command = ⊥
+
+-- a search came to its end
+abbrev pub IsNotStopped : Status → Type 0
+IsNotStopped status = (status ≡ Spent → ⊥) × (status ≡ Past → ⊥)

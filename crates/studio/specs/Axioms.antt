@@ -10,8 +10,8 @@ use Rattle.pgraph.specs.declared.verdict.Axiom.{Axiom}
 use Rattle.pgraph.specs.declared.verdict.Axiom.TheVariants.{S1, S2, S3, S4, S5}
 use Rattle.pgraph.specs.declared.verdict.Verdict.{Verdict}
 use Rattle.pgraph.specs.declared.verdict.Verdict.TheVariants.{Meets, Breaks}
-use Rattle.studio.specs.declared.status.Status.{Status}
-use Rattle.studio.specs.declared.status.Status.TheVariants.{Done, Refused}
+use Rattle.endings.specs.declared.status.Status.{Status}
+use Rattle.endings.specs.declared.status.Status.TheVariants.{Done, Refused}
 
 -- the number of the unit of this name
 abbrev pub number_of : Problem → List ℕ → Option ℕ

@@ -6,8 +6,8 @@ use Rattle.tree_rules.specs.declared.why.Why.{Why}
 use Rattle.tree_rules.specs.declared.why.Why.TheVariants as causes
 use Rattle.tree_rules.specs.Claim.{Claim, ClaimPasses, ClaimFails}
 use Rattle.tree_rules.specs.Accepted.{Tree, first_node, IsAccepted, NodeIsFault}
-use Rattle.studio.specs.declared.status.Status.{Status}
-use Rattle.studio.specs.declared.status.Status.TheVariants.{Done, Refused}
+use Rattle.endings.specs.declared.status.Status.{Status}
+use Rattle.endings.specs.declared.status.Status.TheVariants.{Done, Refused}
 
 -- the word by which a cause is told
 abbrev pub why_word : Why → List ℕ

@@ -5,8 +5,8 @@ use Rattle.text_rules.specs.Canonical.{canonical_lines}
 use Rattle.edit_rules.specs.Edit.{Edit}
 use Rattle.edit_rules.specs.Script.{applied, undoing}
 use Rattle.studio.specs.Script.{printed_lines}
-use Rattle.studio.specs.declared.status.Status.{Status}
-use Rattle.studio.specs.declared.status.Status.TheVariants.{Done}
+use Rattle.endings.specs.declared.status.Status.{Status}
+use Rattle.endings.specs.declared.status.Status.TheVariants.{Done}
 
 -- the canonical text of the edited problem
 abbrev pub EditWork : Problem → List Edit → Status → List (List ℕ) → Type 0

@@ -4,7 +4,6 @@
 use Rattle.std.specs.Prelude.{◌≡◌, ◌⊎◌, ◌++◌, ℕ, ℤ, List, [], ◌∷◌, Option, Some, None, length, map}
 use Rattle.number_sets.specs.Sets.{has, IsSet}
 use Rattle.problem_rules.specs.Problem.{Problem}
-use Rattle.text_rules.specs.Canonical.{joined}
 use Rattle.pns_rules.specs.Shape.{shape_of}
 use Rattle.pgraph.specs.Verdict.{Judges}
 use Rattle.pgraph.specs.declared.verdict.Axiom.{Axiom}
@@ -17,22 +16,14 @@ use Rattle.tree_rules.specs.Tree as trees
 use Rattle.tree_rules.specs.Leaf as leaves
 use Rattle.tree_rules.specs.Claim.{Network}
 use Rattle.tree_rules.specs.Claim as claims
-use Rattle.tree_text_rules.specs.Line.{Token}
 use Rattle.tree_text_rules.specs.Spelling.{network_lines, claim_lines, end_line, place_lines}
 use Rattle.flow_rules.specs.Net.{net_of}
 use Rattle.dual_simplex.specs.PastPlace.{IsPastNamed}
 use Rattle.structure_flows.specs.Flows.{decided, IsLeastFlows, HasNoFlows}
+use Rattle.endings.specs.Printed.{spelled}
 use Rattle.studio.specs.Axioms.{units_named, first_stranger, breaks_line, VerdictSays}
-use Rattle.studio.specs.declared.status.Status.{Status}
-use Rattle.studio.specs.declared.status.Status.TheVariants.{Done, Refused, Past}
-
--- the bytes of lines of tokens
-abbrev pub spelled : List (List Token) → List (List ℕ)
-spelled = map (joined 32)
-
--- these lines with this status
-abbrev pub OneAnswer : Status → List (List Token) → Status → List (List ℕ) → Type 0
-OneAnswer status lines status' lines' = (status' ≡ status) × (lines' ≡ spelled lines)
+use Rattle.endings.specs.declared.status.Status.{Status}
+use Rattle.endings.specs.declared.status.Status.TheVariants.{Done, Refused, Past}
 
 -- the lines of the network and that of the bound
 abbrev pub LeastLines : Problem → List ℕ → List (List ℕ) → Type 0

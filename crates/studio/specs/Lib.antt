@@ -1,13 +1,10 @@
 pub mod Answers
 pub mod Axioms
 pub mod Check
-pub mod Code
 pub mod Command
 pub mod Edits
-pub mod Ending
 pub mod Flows
 pub mod Gathering
-pub mod Lines
 pub mod Listing
 pub mod ListingLaws
 pub mod Make
@@ -17,4 +14,5 @@ pub mod Numeral
 pub mod Reading
 pub mod Script
 pub mod TreeFile
+pub mod Trial
 pub mod View

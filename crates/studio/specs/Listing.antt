@@ -8,9 +8,9 @@ use Rattle.pns_rules.specs.Structure.{IsStructure}
 use Rattle.pns_rules.specs.Listing.{IsListing}
 use Rattle.structure_list.specs.Tokens.{token_of}
 use Rattle.structure_list.specs.Rest.{Rest, IsToCome}
-use Rattle.studio.specs.Lines.{spaced_names, names_in}
-use Rattle.studio.specs.declared.status.Status.{Status}
-use Rattle.studio.specs.declared.status.Status.TheVariants.{Done, BadToken}
+use Rattle.endings.specs.Lines.{spaced_names, names_in}
+use Rattle.endings.specs.declared.status.Status.{Status}
+use Rattle.endings.specs.declared.status.Status.TheVariants.{Done, BadToken}
 
 -- where the listing begins: at its head for `start`, else behind the solution structure, allowed or not, of the token
 abbrev pub IsAfter : Shape → List ℕ → Option (List ℕ) → Type 0

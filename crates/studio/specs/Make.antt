@@ -2,8 +2,8 @@
 use Rattle.std.specs.Prelude.{◌≡◌, ℕ, List}
 use Rattle.text_rules.specs.Canonical.{canonical_lines}
 use Rattle.generator.specs.Generated.{generated}
-use Rattle.studio.specs.declared.status.Status.{Status}
-use Rattle.studio.specs.declared.status.Status.TheVariants.{Done}
+use Rattle.endings.specs.declared.status.Status.{Status}
+use Rattle.endings.specs.declared.status.Status.TheVariants.{Done}
 
 abbrev pub MakeWork : ℕ → ℕ → Status → List (List ℕ) → Type 0
 MakeWork number units status lines = (status ≡ Done) × (lines ≡ canonical_lines (generated number units))

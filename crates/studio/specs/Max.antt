@@ -4,9 +4,9 @@ use Rattle.std.specs.Prelude.{◌≡◌, ◌⊎◌, ◌++◌, ℕ, Bool, false, 
 use Rattle.problem_rules.specs.Problem.{Problem, material_names, unit_names}
 use Rattle.pns_rules.specs.Shape.{Shape, shape_of}
 use Rattle.pns_rules.specs.Structure.{mats, IsStructure, IsUnion}
-use Rattle.studio.specs.Lines.{spaced_names, names_in}
-use Rattle.studio.specs.declared.status.Status.{Status}
-use Rattle.studio.specs.declared.status.Status.TheVariants.{Done}
+use Rattle.endings.specs.Lines.{spaced_names, names_in}
+use Rattle.endings.specs.declared.status.Status.{Status}
+use Rattle.endings.specs.declared.status.Status.TheVariants.{Done}
 
 -- the set is the union of all solution structures, and is one of them
 pub record IsMaximal (g : Shape) (s : ℕ → Bool) : Type 0 where

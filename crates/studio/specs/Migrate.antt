@@ -4,8 +4,8 @@ use Rattle.std.specs.Prelude.{◌≡◌, ◌⊎◌, ◌++◌, ℕ, true, false, 
 use Rattle.problem_rules.specs.Problem.{Problem, unit_at}
 use Rattle.edit_rules.specs.Migration.{has_payout, out_of_range_at, migration}
 use Rattle.studio.specs.Script.{printed_lines}
-use Rattle.studio.specs.declared.status.Status.{Status}
-use Rattle.studio.specs.declared.status.Status.TheVariants.{Done, NotMigrated}
+use Rattle.endings.specs.declared.status.Status.{Status}
+use Rattle.endings.specs.declared.status.Status.TheVariants.{Done, NotMigrated}
 
 abbrev pub out_of_range_line : List ℕ → List ℕ
 out_of_range_line name = codes "out of range " ++ name

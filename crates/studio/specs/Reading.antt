@@ -5,8 +5,8 @@ use Rattle.text_rules.specs.declared.TextKind.{TextKind}
 use Rattle.text_rules.specs.declared.TextKind.TheVariants.{FileType, UnknownSection, DoubleSection, BadLine, BadName, UnknownKey, DoubleKey, BadNumber, TooFine, TooLarge, Negative, UnknownKind, ZeroRate, DoubleTerm, BothSides, EmptySide, DoubleMaterial, DoubleUnit, DoubleRates, TooMany, LowAboveHigh, UnknownMaterial, NoRates, NoProduct, DoubleExclusion, DoubleMember, FewMembers, UnknownUnit, BadPayout}
 use Rattle.text_rules.specs.Fault.{Fault}
 use Rattle.text_rules.specs.Value.{read_text}
-use Rattle.studio.specs.declared.status.Status.{Status}
-use Rattle.studio.specs.declared.status.Status.TheVariants.{BadProblem, TooLong}
+use Rattle.endings.specs.declared.status.Status.{Status}
+use Rattle.endings.specs.declared.status.Status.TheVariants.{BadProblem, TooLong}
 
 -- the most bytes of a problem file
 abbrev pub file_limit : ℕ

@@ -13,8 +13,8 @@ use Rattle.edit_scripts.specs.declared.fault.EditFault.{EditFault}
 use Rattle.edit_scripts.specs.declared.fault.EditFault.TheVariants.{Memory, At}
 use Rattle.pns_edits.specs.Fault.{HasFaultAt}
 use Rattle.studio.specs.Reading.{AreHeld, IsLong, OnSecond, file_limit}
-use Rattle.studio.specs.declared.status.Status.{Status}
-use Rattle.studio.specs.declared.status.Status.TheVariants.{BadEdit, TooLong}
+use Rattle.endings.specs.declared.status.Status.{Status}
+use Rattle.endings.specs.declared.status.Status.TheVariants.{BadEdit, TooLong}
 
 -- the lines of the printed script of some edits
 abbrev pub printed_lines : List Edit → List (List ℕ)

@@ -8,8 +8,8 @@ use Rattle.tree_text_rules.specs.declared.TreeKind.{TreeKind}
 use Rattle.tree_text_rules.specs.declared.TreeKind.TheVariants.{FileType, BadLine, UnknownName, BadNumber, Order, WrongCount, MoreNodes, FewerNodes, AfterEnd}
 use Rattle.tree_text_rules.specs.Read.{Certificate, read_text}
 use Rattle.studio.specs.Reading.{AreHeld, IsLong, OnSecond}
-use Rattle.studio.specs.declared.status.Status.{Status}
-use Rattle.studio.specs.declared.status.Status.TheVariants.{BadTree, TooLong}
+use Rattle.endings.specs.declared.status.Status.{Status}
+use Rattle.endings.specs.declared.status.Status.TheVariants.{BadTree, TooLong}
 
 -- the most bytes of a tree file
 abbrev pub tree_limit : ℕ

@@ -3,17 +3,17 @@ ghost use Rattle.std.specs.Prelude.{◌≡◌, ◌<◌, ◌≤◌, ◌||◌, ℕ
 ghost use Rattle.number_sets.specs.Sets.{has};
 ghost use Rattle.pns_io.specs.Outside.{HasRisen};
 ghost use Rattle.problem_rules.specs.Problem.{material_at, unit_at};
-ghost use Rattle.studio.specs.Lines.{line};
+ghost use Rattle.endings.specs.Lines.{line};
 ghost use Rattle.studio.specs.Command.{Axioms};
 ghost use Rattle.studio.specs.Axioms.{AxiomsWork, NamesSay, VerdictSays, axiom_word, breaks_line, place_name, is_stranger, first_stranger, is_name_of, units_named};
-ghost use Rattle.studio.specs.Ending.{Ends, Tells, Only, OrMemory};
+ghost use Rattle.endings.specs.Ending.{Ends, Tells, Only, OrMemory};
 ghost use Rattle.studio.specs.Answers.{CommandSays};
-ghost use Rattle.studio.specs.declared.status.Status.TheVariants.{Refused};
+ghost use Rattle.endings.specs.declared.status.Status.TheVariants.{Refused};
 
 use crate::problem_file::problem_of;
-use crate::say::{say, say_memory};
-use crate::status::Status;
 use crate::unit_names::UnitNames;
+use endings::Status;
+use endings::say::{say, say_memory};
 use pgraph::{Axiom, Graph, Verdict};
 use pns_io::{Shelf, Sink};
 use pns_problem::Problem;

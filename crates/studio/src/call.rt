@@ -3,8 +3,8 @@ ghost use Rattle.std.specs.Prelude.{◌≡◌, ◌∷◌, [], List, ℕ, Some, N
 ghost use Rattle.pns_io.specs.Outside.{HasRisen};
 ghost use Rattle.studio.specs.Command as rules;
 ghost use Rattle.studio.specs.Command.{command_of, AreWithin, IsFileWord};
-ghost use Rattle.studio.specs.Ending.{Ends, IsOneOf};
-ghost use Rattle.studio.specs.Answers.{CommandSays, WordsSay, IsUndisturbed, statuses_of};
+ghost use Rattle.endings.specs.Ending.{Ends, IsOneOf};
+ghost use Rattle.studio.specs.Answers.{CommandSays, WordsSay, IsUndisturbed, IsNotStopped, SearchCanFinish, statuses_of};
 ghost use Rattle.studio.specs.View.{command_view};
 
 use crate::axioms::axioms;
@@ -16,8 +16,10 @@ use crate::list::list;
 use crate::make::make;
 use crate::max::max;
 use crate::migrate::migrate;
-use crate::say::{say, say_memory};
-use crate::status::Status;
+use crate::solve::solve;
+use crate::trial::trial;
+use endings::Status;
+use endings::say::{say, say_memory};
 use pns_io::{Shelf, Sink};
 use std::alloc::Global;
 
@@ -41,6 +43,8 @@ fn perform<F: Shelf, K: Sink>(
         Command::Editing(file, script) => edit(alloc, file, script, shelf, out),
         Command::Undoing(file, script) => undo(alloc, file, script, shelf, out),
         Command::Checking(file, tree) => check(alloc, file, tree, shelf, out),
+        Command::Solving(file, budget) => solve(alloc, file, budget, shelf, out),
+        Command::Trial(number, units, budget) => trial(alloc, number, units, budget, out),
     }
 }
 
@@ -79,6 +83,8 @@ pub fn studio<F: Shelf, K: Sink>(
     ensures complete { (command : rules.Command) → command_of (map string_bytes words.now) ≡ Some command
         → IsUndisturbed (record { held = F.held shelf.old; before = F.faults shelf.old; after = F.faults shelf.new }) command (HasRisen (K.faults out.old) (K.faults out.new))
         → IsOneOf (statuses_of command) result }
+    // A search comes to its end where its budget is large enough and no number is out of range.
+    ensures finishes { (command : rules.Command) → command_of (map string_bytes words.now) ≡ Some command → SearchCanFinish (F.held shelf.old) command → IsNotStopped result }
 {
     run(alloc, words, shelf, out)
 }

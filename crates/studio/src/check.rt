@@ -2,20 +2,20 @@
 ghost use Rattle.std.specs.Prelude.{◌≡◌, ◌<◌, ◌^◌, IfOk, length, string_bytes};
 ghost use Rattle.pns_io.specs.Outside.{HasRisen};
 ghost use Rattle.branch_tree.specs.View.{claim_of};
-ghost use Rattle.studio.specs.Lines.{line};
+ghost use Rattle.endings.specs.Lines.{line};
 ghost use Rattle.studio.specs.Command.{Checking};
 ghost use Rattle.studio.specs.TreeFile.{OnTree};
 ghost use Rattle.studio.specs.Check.{CheckWork, node_line, why_word};
-ghost use Rattle.studio.specs.Ending.{Ends, Says, Tells, Only, OrMemory};
+ghost use Rattle.endings.specs.Ending.{Ends, Says, Tells, Only, OrMemory};
 ghost use Rattle.studio.specs.Answers.{CommandSays};
-ghost use Rattle.studio.specs.declared.status.Status.TheVariants.{Refused};
+ghost use Rattle.endings.specs.declared.status.Status.TheVariants.{Refused};
 
 use crate::problem_file::problem_of;
-use crate::say::{say, say_memory, say_of};
-use crate::status::Status;
 use crate::tree_file::tree_of;
 use branch_tree::{Claim, Tree};
 use cert_check::{Refusal, check_tree};
+use endings::Status;
+use endings::say::{say, say_memory, say_of};
 use pgraph::Graph;
 use pns_io::{Shelf, Sink};
 use pns_problem::Problem;

@@ -1,6 +1,6 @@
 //! The words of a call.
 ghost use Rattle.std.specs.Prelude.{◌≡◌, ◌∷◌, [], IfOk, map, option_map, string_bytes};
-ghost use Rattle.studio.specs.Command.{command_of, on_file, with_file, made_by, unit_names_of, count_of, seed_of, unit_count_of, years_of, Axioms, Flows, Listing, Migrate};
+ghost use Rattle.studio.specs.Command.{command_of, on_file, with_file, made_by, tried_by, unit_names_of, count_of, seed_of, unit_count_of, years_of, budget_of, Axioms, Flows, Listing, Migrate, Solving};
 ghost use Rattle.studio.specs.View.{command_view};
 
 use crate::number::number_within;
@@ -19,6 +19,8 @@ pub(crate) enum Command<'a> {
     Editing(&'a str, &'a str),
     Undoing(&'a str, &'a str),
     Checking(&'a str, &'a str),
+    Solving(&'a str, u64),
+    Trial(u64, u64, u64),
 }
 
 /// The command that the words are, if they have a form.
@@ -28,9 +30,9 @@ pub(crate) fn command_of(alloc: Global, words: &[String]) -> Result<Option<Comma
     match words {
         [word, file] => Ok(of_two(word.as_str(), file.as_str())),
         [word, first, second] => of_three(alloc, word.as_str(), first.as_str(), second.as_str()),
-        [word, file, second, third] => Ok(of_four(
+        [word, first, second, third] => Ok(of_four(
             word.as_str(),
-            file.as_str(),
+            first.as_str(),
             second.as_str(),
             third.as_str(),
         )),
@@ -90,6 +92,8 @@ fn on_file<'a>(
         flows_of(alloc, file, second)
     } else if word == "migrate" {
         Ok(migrate_of(file, second))
+    } else if word == "solve" {
+        Ok(solve_of(file, second))
     } else {
         Ok(with_file(word, file, second))
     }
@@ -103,6 +107,25 @@ fn migrate_of<'a>(file: &'a str, years: &str) -> Option<Command<'a>>
 {
     let years = number_within(years, 1, MOST_YEARS)?;
     Some(Command::Migrate(file, years))
+}
+
+/// The most nodes of a search.
+const MOST_NODES: u64 = 1_000_000;
+
+fn solve_of<'a>(file: &'a str, budget: &str) -> Option<Command<'a>>
+    ensures { option_map command_view result ≡ option_map (Solving file.now) (budget_of budget.now) }
+{
+    let budget = number_within(budget, 1, MOST_NODES)?;
+    Some(Command::Solving(file, budget))
+}
+
+fn tried_by<'a>(number: &str, units: &str, budget: &str) -> Option<Command<'a>>
+    ensures { option_map command_view result ≡ tried_by (seed_of number.now) (unit_count_of units.now) (budget_of budget.now) }
+{
+    let number = number_within(number, 0, u64::MAX)?;
+    let units = number_within(units, 1, MOST_UNITS)?;
+    let budget = number_within(budget, 1, MOST_NODES)?;
+    Some(Command::Trial(number, units, budget))
 }
 
 fn with_file<'a>(word: &str, file: &'a str, second: &'a str) -> Option<Command<'a>>
@@ -119,11 +142,13 @@ fn with_file<'a>(word: &str, file: &'a str, second: &'a str) -> Option<Command<'
     }
 }
 
-fn of_four<'a>(word: &str, file: &'a str, second: &'a str, third: &str) -> Option<Command<'a>>
-    ensures { option_map command_view result ≡ command_of (word.now ∷ file.now ∷ second.now ∷ third.now ∷ []) }
+fn of_four<'a>(word: &str, first: &'a str, second: &'a str, third: &str) -> Option<Command<'a>>
+    ensures { option_map command_view result ≡ command_of (word.now ∷ first.now ∷ second.now ∷ third.now ∷ []) }
 {
-    if word == "list" && !file.is_empty() {
-        listing_of(file, second, third)
+    if word == "trial" {
+        tried_by(first, second, third)
+    } else if word == "list" && !first.is_empty() {
+        listing_of(first, second, third)
     } else {
         None
     }

@@ -4,14 +4,14 @@ ghost use Rattle.pns_io.specs.Outside.{HasRisen};
 ghost use Rattle.studio.specs.Command.{Editing, Undoing};
 ghost use Rattle.studio.specs.Script.{OnScript};
 ghost use Rattle.studio.specs.Edits.{EditWork, UndoWork};
-ghost use Rattle.studio.specs.Ending.{Ends, Says};
+ghost use Rattle.endings.specs.Ending.{Ends, Says};
 ghost use Rattle.studio.specs.Answers.{CommandSays};
 
 use crate::problem_file::problem_of;
-use crate::say::say_made;
 use crate::script_file::edited_of;
-use crate::status::Status;
 use edit_scripts::print_script;
+use endings::Status;
+use endings::say::say_made;
 use pns_io::{Shelf, Sink};
 use pns_problem::Problem;
 use std::alloc::Global;

@@ -2,10 +2,10 @@
 ghost use Rattle.std.specs.Prelude.{◌≡◌, ◌≤◌, ◌<◌, ◌^◌, ℕ, List, IfOk, IfErr, OnOk, length, string_bytes};
 ghost use Rattle.pns_io.specs.Outside.{HasRisen};
 ghost use Rattle.studio.specs.Reading.{AreHeld, LongFile};
-ghost use Rattle.studio.specs.Ending.{Ends, Says};
+ghost use Rattle.endings.specs.Ending.{Ends, Says};
 
-use crate::say::{say_memory, say_of};
-use crate::status::Status;
+use endings::Status;
+use endings::say::{say_memory, say_of};
 use pns_io::{ReadAllFault, Shelf, Sink, read_all};
 use std::alloc::Global;
 

@@ -1,5 +1,5 @@
 //! The command `flows`.
-ghost use Rattle.std.specs.Prelude.{◌≡◌, ◌⊎◌, ◌≤◌, ◌<◌, ◌++◌, ◌∷◌, [], ℕ, List, Option, Some, None, true};
+ghost use Rattle.std.specs.Prelude.{◌≡◌, ◌≤◌, ◌<◌, ◌++◌, ◌∷◌, [], None, true};
 ghost use Rattle.number_sets.specs.Sets.{has};
 ghost use Rattle.pns_io.specs.Outside.{HasRisen};
 ghost use Rattle.pns_rules.specs.Shape.{shape_of};
@@ -8,22 +8,20 @@ ghost use Rattle.pgraph.specs.Tables.{shape};
 ghost use Rattle.branch_tree.specs.Known.{AreUnits, KnowsEnd};
 ghost use Rattle.branch_tree.specs.View.{end_of};
 ghost use Rattle.tree_rules.specs.Claim as claims;
-ghost use Rattle.tree_text_rules.specs.Line.{Token};
 ghost use Rattle.tree_text_rules.specs.Spelling.{network_lines, claim_lines, end_line};
 ghost use Rattle.tree_text.specs.Prints.{Prints};
 ghost use Rattle.structure_flows.specs.Answers.{AnswersFor};
 ghost use Rattle.studio.specs.Command.{Flows};
-ghost use Rattle.studio.specs.Flows.{FlowsWork, FlowNamesSay, FlowsSay, OneAnswer};
-ghost use Rattle.studio.specs.Ending.{Ends, Tells};
+ghost use Rattle.studio.specs.Flows.{FlowsWork, FlowNamesSay, FlowsSay};
+ghost use Rattle.endings.specs.Ending.{Ends, Tells};
 ghost use Rattle.studio.specs.Answers.{CommandSays};
-ghost use Rattle.studio.specs.declared.status.Status.TheVariants.{Done, Past};
 
 use crate::axioms::{first_stranger, say_breaks, say_verdict, units_named};
 use crate::problem_file::problem_of;
-use crate::say::say_memory;
-use crate::status::Status;
 use crate::unit_names::UnitNames;
 use branch_tree::{End, Network};
+use endings::Status;
+use endings::say::{say_memory, say_printed};
 use pgraph::{Axiom, Graph, Verdict};
 use pns_io::{Shelf, Sink};
 use pns_problem::Problem;
@@ -65,21 +63,6 @@ fn print_none<K: Sink>(
     match out.put(b"infeasible\n") {
         Ok(()) => print_end(alloc, problem, refuted, out),
         Err(_) => Err(PrintFault::WriteFault),
-    }
-}
-
-// With which status the call ends after lines were printed.
-fn say_printed<K: Sink>(out: &mut K, printed: Result<(), PrintFault>, status: Status) -> Status
-    requires { (status ≡ Done) ⊎ (status ≡ Past) }
-    ensures { (lines : List (List Token)) (old : Option (List ℕ)) (before : ℕ) → before ≤ K.faults out.old → Prints lines old (K.written out.old) before (K.faults out.old) printed
-        → Ends (Tells (OneAnswer status lines)) (HasRisen before (K.faults out.new)) old (K.written out.new) result }
-{
-    match printed {
-        Ok(()) => status,
-        Err(fault) => match fault {
-            PrintFault::WriteFault => Status::WriteFault,
-            PrintFault::Memory => say_memory(out),
-        },
     }
 }
 

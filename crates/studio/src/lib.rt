@@ -3,11 +3,11 @@
 //! [`studio`] judges the form of the words, reads and judges the files that they name, does the command's work and puts
 //! its text line by line. Its contract says which text is out with which status, from the words and the bytes that the
 //! shelf holds; each status has its cause, and want of memory alone is free. The commands are `max`, `axioms`, `flows`,
-//! `list`, `make`, `migrate`, `edit`, `undo` and `check`.
+//! `list`, `make`, `migrate`, `edit`, `undo`, `check`, `solve` and `trial`.
 //!
-//! Modules: `status`; `command`, `unit_names` and `number`, the words; `file`, `problem_file`, `script_file` and `tree_file`, files
-//! that are read and judged; `line` and `say`, the lines and how they are put; `max`, `axioms`, `flows`, `list`, `make`, `migrate`,
-//! `edits` and `check`, the commands; `call`, which dispatches; `laws`.
+//! Modules: `command`, `unit_names` and `number`, the words; `file`, `problem_file`, `script_file` and `tree_file`, files
+//! that are read and judged; `max`, `axioms`, `flows`, `list`, `make`, `migrate`,
+//! `edits`, `check`, `solve` and `trial`, the commands; `call`, which dispatches; `laws`.
 #![tactic(auto)]
 
 mod axioms;
@@ -24,7 +24,6 @@ mod file;
 mod flow_tests;
 mod flows;
 mod laws;
-mod line;
 mod list;
 #[cfg(test)]
 mod list_tests;
@@ -33,16 +32,16 @@ mod max;
 mod migrate;
 mod number;
 mod problem_file;
-mod say;
 mod script_file;
 #[cfg(test)]
 mod script_tests;
-mod status;
+mod solve;
 #[cfg(test)]
 mod tests;
 mod tree_file;
+mod trial;
 mod unit_names;
 
 pub use call::studio;
+pub use endings::Status;
 pub use laws::parts_join;
-pub use status::Status;

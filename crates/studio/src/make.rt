@@ -3,12 +3,12 @@ ghost use Rattle.std.specs.Prelude.{◌≡◌, ◌≤◌, IfOk};
 ghost use Rattle.pns_io.specs.Outside.{HasRisen};
 ghost use Rattle.text_rules.specs.Canonical.{canonical_lines};
 ghost use Rattle.generator.specs.Generated.{generated};
-ghost use Rattle.studio.specs.Lines.{text_of};
+ghost use Rattle.endings.specs.Lines.{text_of};
 ghost use Rattle.studio.specs.Make.{MakeWork};
-ghost use Rattle.studio.specs.Ending.{Ends, Tells};
+ghost use Rattle.endings.specs.Ending.{Ends, Tells};
 
-use crate::say::say_made;
-use crate::status::Status;
+use endings::Status;
+use endings::say::say_made;
 use generator::generate;
 use pns_io::Sink;
 use std::alloc::{AllocError, Global};

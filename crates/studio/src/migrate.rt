@@ -3,14 +3,14 @@ ghost use Rattle.std.specs.Prelude.{◌≤◌};
 ghost use Rattle.pns_io.specs.Outside.{HasRisen};
 ghost use Rattle.studio.specs.Command.{Migrate};
 ghost use Rattle.studio.specs.Migrate.{MigrateWork};
-ghost use Rattle.studio.specs.Ending.{Ends, Tells};
+ghost use Rattle.endings.specs.Ending.{Ends, Tells};
 ghost use Rattle.studio.specs.Answers.{CommandSays};
 
 use crate::axioms::unit_name;
 use crate::problem_file::problem_of;
-use crate::say::{say, say_made, say_memory, say_of};
-use crate::status::Status;
 use edit_scripts::print_script;
+use endings::Status;
+use endings::say::{say, say_made, say_memory, say_of};
 use pns_edits::MigrateFault;
 use pns_io::{Shelf, Sink};
 use pns_problem::Problem;

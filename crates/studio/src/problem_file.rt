@@ -1,14 +1,14 @@
 //! A problem file: it is read and judged.
 ghost use Rattle.std.specs.Prelude.{◌≡◌, ◌≤◌, ℕ, List, IfOk, IfErr, OnOk, string_bytes};
 ghost use Rattle.pns_io.specs.Outside.{HasRisen};
-ghost use Rattle.studio.specs.Lines.{line};
+ghost use Rattle.endings.specs.Lines.{line};
 ghost use Rattle.studio.specs.Reading.{AreHeld, GivesProblem, FileFaults, fault_line, kind_word};
-ghost use Rattle.studio.specs.Ending.{Ends, Says, Only, OrMemory};
-ghost use Rattle.studio.specs.declared.status.Status.TheVariants.{BadProblem};
+ghost use Rattle.endings.specs.Ending.{Ends, Says, Only, OrMemory};
+ghost use Rattle.endings.specs.declared.status.Status.TheVariants.{BadProblem};
 
 use crate::file::bytes_of;
-use crate::say::{say, say_memory};
-use crate::status::Status;
+use endings::Status;
+use endings::say::{say, say_memory};
 use pns_io::{Shelf, Sink};
 use pns_problem::Problem;
 use pns_text::{TextFault, read_problem};

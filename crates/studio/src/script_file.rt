@@ -1,16 +1,16 @@
 //! A script file: it is read, judged and applied to a problem.
 ghost use Rattle.std.specs.Prelude.{◌≡◌, ◌≤◌, ℕ, List, IfOk, IfErr, OnOk, length, string_bytes};
 ghost use Rattle.pns_io.specs.Outside.{HasRisen};
-ghost use Rattle.studio.specs.Lines.{line};
+ghost use Rattle.endings.specs.Lines.{line};
 ghost use Rattle.studio.specs.Reading.{AreHeld};
 ghost use Rattle.studio.specs.Script.{IsEdited, ScriptFaults, TellsEdits, edit_fault_line, edit_kind_word};
-ghost use Rattle.studio.specs.Ending.{Ends, Says, Only, OrMemory};
-ghost use Rattle.studio.specs.declared.status.Status.TheVariants.{BadEdit};
+ghost use Rattle.endings.specs.Ending.{Ends, Says, Only, OrMemory};
+ghost use Rattle.endings.specs.declared.status.Status.TheVariants.{BadEdit};
 
 use crate::file::bytes_of;
-use crate::say::{say, say_memory};
-use crate::status::Status;
 use edit_scripts::{EditFault, EditKind, Script, read_script};
+use endings::Status;
+use endings::say::{say, say_memory};
 use pns_edits::apply;
 use pns_io::{Shelf, Sink};
 use pns_problem::Problem;

@@ -2,16 +2,16 @@
 ghost use Rattle.std.specs.Prelude.{◌≡◌, ◌≤◌, ◌<◌, ◌^◌, ℕ, List, IfOk, IfErr, OnOk, length, string_bytes};
 ghost use Rattle.pns_io.specs.Outside.{HasRisen};
 ghost use Rattle.branch_tree.specs.View.{claim_of};
-ghost use Rattle.studio.specs.Lines.{line};
+ghost use Rattle.endings.specs.Lines.{line};
 ghost use Rattle.studio.specs.Reading.{AreHeld};
 ghost use Rattle.studio.specs.TreeFile.{GivesTree, TreeFaults, tree_fault_line, tree_kind_word};
-ghost use Rattle.studio.specs.Ending.{Ends, Says, Only, OrMemory};
-ghost use Rattle.studio.specs.declared.status.Status.TheVariants.{BadTree};
+ghost use Rattle.endings.specs.Ending.{Ends, Says, Only, OrMemory};
+ghost use Rattle.endings.specs.declared.status.Status.TheVariants.{BadTree};
 
 use crate::file::bytes_of;
-use crate::say::{say, say_memory};
-use crate::status::Status;
 use branch_tree::{Claim, Tree};
+use endings::Status;
+use endings::say::{say, say_memory};
 use pns_io::{Shelf, Sink};
 use pns_problem::Problem;
 use std::alloc::{AllocError, Global};

@@ -1,11 +1,11 @@
 use Rattle.std.proofs.Common.{◌∷◌, [], refl, subst, inl, ℕ, List, Option}
 use Rattle.pgraph.specs.declared.verdict.Axiom.TheVariants.{S3}
-use Rattle.studio.specs.Lines.{line}
+use Rattle.endings.specs.Lines.{line}
 use Rattle.studio.specs.Axioms.{AxiomsWork, NamesSay, breaks_line}
-use Rattle.studio.specs.Ending.{Tells}
-use Rattle.studio.specs.declared.status.Status.{Status}
-use Rattle.studio.specs.declared.status.Status.TheVariants.{Refused}
-use Rattle.studio.proofs.Ending.{Ends-map, only_or_memory_in, one_line, Tells-map}
+use Rattle.endings.specs.Ending.{Tells}
+use Rattle.endings.specs.declared.status.Status.{Status}
+use Rattle.endings.specs.declared.status.Status.TheVariants.{Refused}
+use Rattle.endings.proofs.Ending.{Ends-map, only_or_memory_in, one_line, Tells-map}
 use Rattle.studio.proofs.axioms.say_judged.Goals as goal
 
 pub returns-in-Some : goal.returns-in-Some

@@ -3,9 +3,9 @@ use Rattle.number_sets.specs.Sets.{has}
 use Rattle.pns_rules.specs.Shape.{Shape, shape_of}
 use Rattle.pgraph.specs.Verdict.{Judges}
 use Rattle.studio.specs.Axioms.{NamesSay, VerdictSays, units_named}
-use Rattle.studio.specs.Ending.{Tells}
-use Rattle.studio.specs.declared.status.Status.{Status}
-use Rattle.studio.proofs.Ending.{Ends-map, Tells-map}
+use Rattle.endings.specs.Ending.{Tells}
+use Rattle.endings.specs.declared.status.Status.{Status}
+use Rattle.endings.proofs.Ending.{Ends-map, Tells-map}
 use Rattle.studio.proofs.axioms.say_known.Goals as goal
 
 pub returns : goal.returns

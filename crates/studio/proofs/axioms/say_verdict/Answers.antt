@@ -1,11 +1,11 @@
 use Rattle.std.proofs.Common.{◌∷◌, ◌∙◌, [], refl, sym, ap, subst, inl, ℕ, List, codes}
 use Rattle.pgraph.specs.declared.verdict.Verdict.{Verdict}
-use Rattle.studio.specs.Lines.{line}
+use Rattle.endings.specs.Lines.{line}
 use Rattle.studio.specs.Axioms.{VerdictSays, breaks_line, place_name}
-use Rattle.studio.specs.Ending.{Tells}
-use Rattle.studio.specs.declared.status.Status.{Status}
-use Rattle.studio.specs.declared.status.Status.TheVariants.{Done, Refused}
-use Rattle.studio.proofs.Ending.{Ends-map, only_in, only_or_memory_in, one_line}
+use Rattle.endings.specs.Ending.{Tells}
+use Rattle.endings.specs.declared.status.Status.{Status}
+use Rattle.endings.specs.declared.status.Status.TheVariants.{Done, Refused}
+use Rattle.endings.proofs.Ending.{Ends-map, only_in, only_or_memory_in, one_line}
 use Rattle.studio.proofs.axioms.say_verdict.Goals as goal
 
 pub returns-in-Meets : goal.returns-in-Meets

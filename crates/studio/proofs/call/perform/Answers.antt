@@ -1,11 +1,12 @@
 use Rattle.std.proofs.Common.{sym, ap, subst, ◌≤◌, ℕ, List}
-use Rattle.studio.specs.Command.{Command, Max, Axioms, Flows, Listing, Make, Migrate, Editing, Undoing, Checking, AreWithin}
+use Rattle.studio.specs.Command.{Command, Max, Axioms, Flows, Listing, Make, Migrate, Editing, Undoing, Checking, Solving, AreWithin}
 use Rattle.studio.specs.View.{command_view}
-use Rattle.studio.specs.Ending.{Shelves}
+use Rattle.endings.specs.Ending.{Shelves}
 use Rattle.studio.specs.Answers.{CommandSays}
 use Rattle.studio.specs.Make.{MakeWork}
-use Rattle.studio.specs.declared.status.Status.{Status}
-use Rattle.studio.proofs.Ending.{Ends-map, Says-told}
+use Rattle.studio.specs.Trial.{TrialWork}
+use Rattle.endings.specs.declared.status.Status.{Status}
+use Rattle.endings.proofs.Ending.{Ends-map, Says-told}
 use Rattle.studio.proofs.call.perform.Goals as goal
 
 pub returns-in-Max : goal.returns-in-Max
@@ -80,3 +81,30 @@ returns-in-Checking g c =
     let Q : Status → List ℕ → Type 0 = CommandSays shelves (command_view c.args.command) in
     Ends-map (CommandSays shelves (Checking c.in-Checking.file.now c.in-Checking.tree.now)) Q _ _ _ _ _
     (λ s t h. subst (λ (v : Command). CommandSays shelves v s t) (sym (ap command_view c.in-Checking.is)) h) (λ r. r) c.check.ensures
+
+pub solve-requires : goal.solve-requires
+solve-requires g c =
+    let within : (1 ≤ c.in-Solving.budget) × (c.in-Solving.budget ≤ 1000000) = subst AreWithin (ap command_view c.in-Solving.is) c.requires in
+    record { some = within.0; few = within.1 }
+
+pub returns-in-Solving : goal.returns-in-Solving
+returns-in-Solving g c =
+    let shelves : Shelves = record { held = g.F.Shelf.held c.args.shelf.now; before = g.F.Shelf.faults c.args.shelf.now; after = g.F.Shelf.faults c.solve.new.shelf } in
+    let Q : Status → List ℕ → Type 0 = CommandSays shelves (command_view c.args.command) in
+    Ends-map (CommandSays shelves (Solving c.in-Solving.file.now c.in-Solving.budget)) Q _ _ _ _ _
+    (λ s t h. subst (λ (v : Command). CommandSays shelves v s t) (sym (ap command_view c.in-Solving.is)) h) (λ r. r) c.solve.ensures
+
+pub trial-requires : goal.trial-requires
+trial-requires g c =
+    let within : ((1 ≤ c.in-Trial.units) × (c.in-Trial.units ≤ 128)) × ((1 ≤ c.in-Trial.budget) × (c.in-Trial.budget ≤ 1000000)) = subst AreWithin (ap command_view c.in-Trial.is) c.requires in
+    record { some = within.0.0; few = within.0.1; some_nodes = within.1.0; few_nodes = within.1.1 }
+
+pub returns-in-Trial : goal.returns-in-Trial
+returns-in-Trial g c =
+    let shelves : Shelves = record { held = g.F.Shelf.held c.args.shelf.now; before = g.F.Shelf.faults c.args.shelf.now; after = g.F.Shelf.faults c.args.shelf.now } in
+    let Q : Status → List ℕ → Type 0 = CommandSays shelves (command_view c.args.command) in
+    let work : Status → List (List ℕ) → Type 0 = TrialWork c.in-Trial.number c.in-Trial.units c.in-Trial.budget in
+    Ends-map _ Q _ _ _ _ _
+    (λ s t h. subst (λ (v : Command). CommandSays shelves v s t) (sym (ap command_view c.in-Trial.is))
+    (Says-told work work _ shelves (λ s lines h. h) s t h))
+    (λ r. r) c.trial.ensures

@@ -2,12 +2,12 @@ use Rattle.std.proofs.Common.{◌++◌, ◌∷◌, ◌∙◌, [], false, refl, a
 use Rattle.branch_tree.specs.View.{claim_of}
 use Rattle.tree_rules.specs.Claim.{ClaimPasses, ClaimFails}
 use Rattle.tree_rules.specs.Accepted.{first_node, NodeIsFault}
-use Rattle.studio.specs.Lines.{line}
+use Rattle.endings.specs.Lines.{line}
 use Rattle.studio.specs.Check.{CheckWork, claim_line, node_line, why_word}
-use Rattle.studio.specs.Ending.{Tells}
-use Rattle.studio.specs.declared.status.Status.{Status}
-use Rattle.studio.specs.declared.status.Status.TheVariants.{Done, Refused, Memory}
-use Rattle.studio.proofs.Ending.{Ends-map, only_in, only_or_memory_in, one_line}
+use Rattle.endings.specs.Ending.{Tells}
+use Rattle.endings.specs.declared.status.Status.{Status}
+use Rattle.endings.specs.declared.status.Status.TheVariants.{Done, Refused, Memory}
+use Rattle.endings.proofs.Ending.{Ends-map, only_in, only_or_memory_in, one_line}
 use Rattle.studio.proofs.check.say_checked.Goals as goal
 
 pub returns-in-Err-Claim : goal.returns-in-Err-Claim

@@ -2,9 +2,9 @@ use Rattle.std.proofs.Common.{◌≡◌, refl, ap, inl, inr, ℕ, List}
 use Rattle.branch_tree.specs.View.{claim_of}
 use Rattle.studio.specs.TreeFile.{OnTree, TreeFault, TreeSays}
 use Rattle.studio.specs.Check.{CheckWork}
-use Rattle.studio.specs.Ending.{Shelves, Says}
-use Rattle.studio.specs.declared.status.Status.{Status}
-use Rattle.studio.proofs.Ending.{Ends-map, Ends-from, Says-told}
+use Rattle.endings.specs.Ending.{Shelves, Says}
+use Rattle.endings.specs.declared.status.Status.{Status}
+use Rattle.endings.proofs.Ending.{Ends-map, Ends-from, Says-told}
 use Rattle.studio.proofs.Seconds.{on_second-faults}
 use Rattle.studio.proofs.check.say_tree.Goals as goal
 

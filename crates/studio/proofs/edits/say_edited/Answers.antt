@@ -3,13 +3,13 @@ use Rattle.problem_rules.specs.Problem.{Problem}
 use Rattle.edit_rules.specs.Edit.{Script}
 use Rattle.edit_rules.specs.Script.{applied, undoing}
 use Rattle.text_rules.specs.Canonical.{canonical, canonical_lines}
-use Rattle.studio.specs.Lines.{text_of}
+use Rattle.endings.specs.Lines.{text_of}
 use Rattle.studio.specs.Script.{OnScript, ScriptFault, ScriptSays, IsEdited, printed_lines}
 use Rattle.studio.specs.Edits.{EditWork}
-use Rattle.studio.specs.Ending.{Shelves, Says}
-use Rattle.studio.specs.declared.status.Status.{Status}
-use Rattle.studio.specs.declared.status.Status.TheVariants.{Done}
-use Rattle.studio.proofs.Ending.{Ends-map, Ends-from, only_or_memory_in}
+use Rattle.endings.specs.Ending.{Shelves, Says}
+use Rattle.endings.specs.declared.status.Status.{Status}
+use Rattle.endings.specs.declared.status.Status.TheVariants.{Done}
+use Rattle.endings.proofs.Ending.{Ends-map, Ends-from, only_or_memory_in}
 use Rattle.studio.proofs.Seconds.{on_second-faults}
 use Rattle.studio.proofs.edits.say_edited.Goals as goal
 

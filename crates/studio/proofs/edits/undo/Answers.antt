@@ -2,9 +2,9 @@ use Rattle.std.proofs.Common.{◌≡◌, ◌⊎◌, refl, ap, ℕ, List}
 use Rattle.studio.specs.Reading.{OnFile}
 use Rattle.studio.specs.Script.{OnScript, ScriptSays}
 use Rattle.studio.specs.Edits.{UndoWork}
-use Rattle.studio.specs.Ending.{Shelves, Says}
-use Rattle.studio.specs.declared.status.Status.{Status}
-use Rattle.studio.proofs.Ending.{Ends-map, Ends-from}
+use Rattle.endings.specs.Ending.{Shelves, Says}
+use Rattle.endings.specs.declared.status.Status.{Status}
+use Rattle.endings.proofs.Ending.{Ends-map, Ends-from}
 use Rattle.studio.proofs.Seconds.{on_both-faults, on_both-work}
 use Rattle.studio.proofs.edits.undo.Goals as goal
 

@@ -1,4 +1,4 @@
-use Rattle.studio.proofs.Printing.{two_printed, part_failed}
+use Rattle.endings.proofs.Printing.{two_printed, part_failed}
 use Rattle.studio.proofs.flows.print_least.Goals as goal
 
 pub returns-in-Ok-clause-prints : goal.returns-in-Ok-clause-prints

@@ -3,7 +3,7 @@ use Rattle.branch_tree.specs.View.{end_of}
 use Rattle.tree_rules.specs.Claim as claims
 use Rattle.tree_text.specs.declared.fault.PrintFault.TheVariants.{WriteFault}
 use Rattle.tree_text_rules.specs.Spelling.{claim_lines, end_line}
-use Rattle.studio.proofs.Printing.{two_printed, part_failed}
+use Rattle.endings.proofs.Printing.{two_printed, part_failed}
 use Rattle.studio.proofs.flows.print_none.Goals as goal
 
 pub returns-in-Ok-clause-prints : goal.returns-in-Ok-clause-prints

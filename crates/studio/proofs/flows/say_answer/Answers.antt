@@ -11,10 +11,11 @@ use Rattle.tree_text.specs.Prints.{Prints}
 use Rattle.structure_flows.specs.declared.answer.StructureFlows.{StructureFlows}
 use Rattle.structure_flows.specs.Answers.{AnswersFor, IsLeastFor, IsPastFor}
 use Rattle.structure_flows.specs.Flows.{HasNoFlows}
-use Rattle.studio.specs.Flows.{FlowsSay, OneAnswer}
-use Rattle.studio.specs.declared.status.Status.{Status}
-use Rattle.studio.specs.declared.status.Status.TheVariants.{Done, Past}
-use Rattle.studio.proofs.Ending.{Ends-map, Tells-map}
+use Rattle.studio.specs.Flows.{FlowsSay}
+use Rattle.endings.specs.Printed.{OneAnswer}
+use Rattle.endings.specs.declared.status.Status.{Status}
+use Rattle.endings.specs.declared.status.Status.TheVariants.{Done, Past}
+use Rattle.endings.proofs.Ending.{Ends-map, Tells-map}
 use Rattle.studio.proofs.flows.say_answer.Goals as goal
 
 pub returns-in-Least : goal.returns-in-Least

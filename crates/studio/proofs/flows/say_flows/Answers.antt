@@ -1,12 +1,12 @@
 use Rattle.std.proofs.Common.{◌∷◌, [], refl, subst, inl, ℕ, List, Option}
 use Rattle.pgraph.specs.declared.verdict.Axiom.TheVariants.{S3}
-use Rattle.studio.specs.Lines.{line}
+use Rattle.endings.specs.Lines.{line}
 use Rattle.studio.specs.Axioms.{breaks_line}
 use Rattle.studio.specs.Flows.{FlowsWork, FlowNamesSay}
-use Rattle.studio.specs.Ending.{Tells}
-use Rattle.studio.specs.declared.status.Status.{Status}
-use Rattle.studio.specs.declared.status.Status.TheVariants.{Refused}
-use Rattle.studio.proofs.Ending.{Ends-map, only_or_memory_in, one_line, Tells-map}
+use Rattle.endings.specs.Ending.{Tells}
+use Rattle.endings.specs.declared.status.Status.{Status}
+use Rattle.endings.specs.declared.status.Status.TheVariants.{Refused}
+use Rattle.endings.proofs.Ending.{Ends-map, only_or_memory_in, one_line, Tells-map}
 use Rattle.studio.proofs.flows.say_flows.Goals as goal
 
 pub returns-in-Some : goal.returns-in-Some

@@ -7,8 +7,8 @@ use Rattle.pgraph.specs.declared.verdict.Verdict.{Verdict}
 use Rattle.pgraph.specs.declared.verdict.Verdict.TheVariants.{Meets, Breaks}
 use Rattle.studio.specs.Axioms.{VerdictSays, units_named}
 use Rattle.studio.specs.Flows.{FlowsSay, FlowNamesSay, UnitsSay}
-use Rattle.studio.specs.declared.status.Status.{Status}
-use Rattle.studio.proofs.Ending.{Ends-map, Tells-map}
+use Rattle.endings.specs.declared.status.Status.{Status}
+use Rattle.endings.proofs.Ending.{Ends-map, Tells-map}
 use Rattle.number_sets.proofs.SetLemmas.{below_from}
 use Rattle.studio.proofs.flows.say_known.Goals as goal
 

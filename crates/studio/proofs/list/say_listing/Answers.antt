@@ -2,12 +2,12 @@ use Rattle.std.proofs.Common.{◌≤◌, ◌∷◌, [], refl, sym, subst, inl, �
 use Rattle.number_sets.specs.Sets.{has}
 use Rattle.pns_rules.specs.Shape.{Shape, shape_of}
 use Rattle.pns_rules.specs.Structure.{IsStructure}
-use Rattle.studio.specs.Lines.{line}
+use Rattle.endings.specs.Lines.{line}
 use Rattle.studio.specs.Listing.{ListingWork, RestSays, IsBadToken}
-use Rattle.studio.specs.Ending.{Tells}
-use Rattle.studio.specs.declared.status.Status.{Status}
-use Rattle.studio.specs.declared.status.Status.TheVariants.{BadToken, Memory}
-use Rattle.studio.proofs.Ending.{Ends-map, only_in, Tells-map, one_line}
+use Rattle.endings.specs.Ending.{Tells}
+use Rattle.endings.specs.declared.status.Status.{Status}
+use Rattle.endings.specs.declared.status.Status.TheVariants.{BadToken, Memory}
+use Rattle.endings.proofs.Ending.{Ends-map, only_in, Tells-map, one_line}
 use Rattle.studio.proofs.ListingStart.{no_after, bad_after, is_after, work_of}
 use Rattle.studio.proofs.list.say_listing.Goals as goal
 

@@ -1,5 +1,5 @@
 use Rattle.std.proofs.Common.{◌≡◌, ◌≤◌, ◌∷◌, ◌∙◌, arith}
-use Rattle.studio.proofs.Ending.{HasRisen-later}
+use Rattle.endings.proofs.Ending.{HasRisen-later}
 use Rattle.studio.proofs.Listings.{ended, starved, continued, stopped, one_more}
 use Rattle.studio.proofs.list.say_rest.Goals as goal
 

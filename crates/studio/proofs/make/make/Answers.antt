@@ -1,12 +1,12 @@
 use Rattle.std.proofs.Common.{[], refl, inl, List, ℕ}
 use Rattle.text_rules.specs.Canonical.{canonical_lines}
 use Rattle.generator.specs.Generated.{generated}
-use Rattle.studio.specs.Lines.{text_of}
+use Rattle.endings.specs.Lines.{text_of}
 use Rattle.studio.specs.Make.{MakeWork}
-use Rattle.studio.specs.Ending.{Tells}
-use Rattle.studio.specs.declared.status.Status.{Status}
-use Rattle.studio.specs.declared.status.Status.TheVariants.{Done}
-use Rattle.studio.proofs.Ending.{Ends-map, only_or_memory_in}
+use Rattle.endings.specs.Ending.{Tells}
+use Rattle.endings.specs.declared.status.Status.{Status}
+use Rattle.endings.specs.declared.status.Status.TheVariants.{Done}
+use Rattle.endings.proofs.Ending.{Ends-map, only_or_memory_in}
 use Rattle.studio.proofs.make.make.Goals as goal
 
 pub returns : goal.returns

@@ -1,9 +1,10 @@
 use Rattle.std.proofs.Common.{◌≡◌, ap, ℕ, List}
 use Rattle.studio.specs.Max.{MaxWork}
 use Rattle.studio.specs.Reading.{OnFile}
-use Rattle.studio.specs.Ending.{Shelves, Says, Tells}
-use Rattle.studio.specs.declared.status.Status.{Status}
-use Rattle.studio.proofs.Ending.{Ends-map, Ends-from, on_file-faults, on_file-work}
+use Rattle.endings.specs.Ending.{Shelves, Says, Tells}
+use Rattle.endings.specs.declared.status.Status.{Status}
+use Rattle.endings.proofs.Ending.{Ends-map, Ends-from}
+use Rattle.studio.proofs.Files.{on_file-faults, on_file-work}
 use Rattle.studio.proofs.max.max.Goals as goal
 
 pub returns-in-Ok : goal.returns-in-Ok

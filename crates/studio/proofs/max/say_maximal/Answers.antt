@@ -3,12 +3,12 @@ use Rattle.number_sets.specs.Sets.{has}
 use Rattle.pns_rules.specs.Shape.{shape_of}
 use Rattle.pns_rules.specs.Structure.{mats}
 use Rattle.pgraph.specs.Tables.{shape}
-use Rattle.studio.specs.Lines.{line}
+use Rattle.endings.specs.Lines.{line}
 use Rattle.studio.specs.Max.{MaxWork, units_line, materials_line}
-use Rattle.studio.specs.Ending.{Tells}
-use Rattle.studio.specs.declared.status.Status.{Status}
-use Rattle.studio.specs.declared.status.Status.TheVariants.{Done}
-use Rattle.studio.proofs.Ending.{Ends-map, only_in, only_or_memory_in, two_lines}
+use Rattle.endings.specs.Ending.{Tells}
+use Rattle.endings.specs.declared.status.Status.{Status}
+use Rattle.endings.specs.declared.status.Status.TheVariants.{Done}
+use Rattle.endings.proofs.Ending.{Ends-map, only_in, only_or_memory_in, two_lines}
 use Rattle.studio.proofs.Maximal.{maximal_from, none_from}
 use Rattle.studio.proofs.max.say_maximal.Goals as goal
 

@@ -2,12 +2,12 @@ use Rattle.std.proofs.Common.{◌≡◌, ◌++◌, ◌∙◌, ap, inl, inr, ℕ,
 use Rattle.number_sets.specs.Sets.{has}
 use Rattle.pns_rules.specs.Shape.{Shape, shape_of}
 use Rattle.pns_rules.specs.Structure.{mats}
-use Rattle.studio.specs.Lines.{line}
+use Rattle.endings.specs.Lines.{line}
 use Rattle.studio.specs.Max.{units_line, materials_line}
-use Rattle.studio.specs.Ending.{Only, OrMemory}
-use Rattle.studio.specs.declared.status.Status.{Status}
-use Rattle.studio.specs.declared.status.Status.TheVariants.{Done}
-use Rattle.studio.proofs.Ending.{Ends-map}
+use Rattle.endings.specs.Ending.{Only, OrMemory}
+use Rattle.endings.specs.declared.status.Status.{Status}
+use Rattle.endings.specs.declared.status.Status.TheVariants.{Done}
+use Rattle.endings.proofs.Ending.{Ends-map}
 use Rattle.studio.proofs.max.say_structure.Goals as goal
 
 pub returns-in_default-materials_line : goal.returns-in_default-materials_line

@@ -3,13 +3,13 @@ use Rattle.problem_rules.specs.Problem.{unit_at}
 use Rattle.edit_rules.specs.Edit.{Script}
 use Rattle.edit_rules.specs.Migration.{has_payout, out_of_range_at, migration}
 use Rattle.script_rules.specs.Printed.{script_text}
-use Rattle.studio.specs.Lines.{line, text_of}
+use Rattle.endings.specs.Lines.{line, text_of}
 use Rattle.studio.specs.Script.{printed_lines}
 use Rattle.studio.specs.Migrate.{MigrateWork, out_of_range_line}
-use Rattle.studio.specs.Ending.{Tells}
-use Rattle.studio.specs.declared.status.Status.{Status}
-use Rattle.studio.specs.declared.status.Status.TheVariants.{Done, NotMigrated}
-use Rattle.studio.proofs.Ending.{Ends-map, only_in, only_or_memory_in, one_line}
+use Rattle.endings.specs.Ending.{Tells}
+use Rattle.endings.specs.declared.status.Status.{Status}
+use Rattle.endings.specs.declared.status.Status.TheVariants.{Done, NotMigrated}
+use Rattle.endings.proofs.Ending.{Ends-map, only_in, only_or_memory_in, one_line}
 use Rattle.studio.proofs.migrate.say_migration.Goals as goal
 
 pub returns-in-Ok : goal.returns-in-Ok

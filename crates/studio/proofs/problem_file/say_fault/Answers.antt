@@ -1,9 +1,9 @@
 use Rattle.std.proofs.Common.{◌∙◌, inl, inr}
-use Rattle.studio.specs.Lines.{line}
+use Rattle.endings.specs.Lines.{line}
 use Rattle.studio.specs.Reading.{fault_line}
-use Rattle.studio.specs.Ending.{Only, OrMemory}
-use Rattle.studio.specs.declared.status.Status.TheVariants.{BadProblem}
-use Rattle.studio.proofs.Ending.{Ends-map}
+use Rattle.endings.specs.Ending.{Only, OrMemory}
+use Rattle.endings.specs.declared.status.Status.TheVariants.{BadProblem}
+use Rattle.endings.proofs.Ending.{Ends-map}
 use Rattle.studio.proofs.problem_file.say_fault.Goals as goal
 
 pub returns-in-Ok : goal.returns-in-Ok

@@ -1,10 +1,10 @@
 use Rattle.std.proofs.Common.{◌≡◌, ◌≤◌, ◌++◌, ◌∷◌, [], Err, refl, sym, ◌∙◌, inl, List, ℕ, codes, ap, subst, arith}
-use Rattle.studio.specs.Lines.{line}
+use Rattle.endings.specs.Lines.{line}
 use Rattle.studio.specs.Script.{ScriptFault, ScriptFaults, HasEditFault, edit_fault_line}
-use Rattle.studio.specs.Ending.{Shelves, Says}
-use Rattle.studio.specs.declared.status.Status.{Status}
-use Rattle.studio.specs.declared.status.Status.TheVariants.{BadEdit, Memory}
-use Rattle.studio.proofs.Ending.{Ends-map, Ends-from, only_in, only_or_memory_in, one_line}
+use Rattle.endings.specs.Ending.{Shelves, Says}
+use Rattle.endings.specs.declared.status.Status.{Status}
+use Rattle.endings.specs.declared.status.Status.TheVariants.{BadEdit, Memory}
+use Rattle.endings.proofs.Ending.{Ends-map, Ends-from, only_in, only_or_memory_in, one_line}
 use Rattle.studio.proofs.Seconds.{long-faults}
 use Rattle.studio.proofs.script_file.edited_of.Goals as goal
 

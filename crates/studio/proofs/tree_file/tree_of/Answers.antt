@@ -1,12 +1,12 @@
 use Rattle.std.proofs.Common.{◌≡◌, ◌++◌, ◌∷◌, [], Ok, Err, refl, sym, ◌∙◌, inl, List, ℕ, codes, ap, subst}
 use Rattle.branch_tree.specs.View.{claim_of, tail_of}
 use Rattle.tree_text_rules.specs.Read.{read_text}
-use Rattle.studio.specs.Lines.{line}
+use Rattle.endings.specs.Lines.{line}
 use Rattle.studio.specs.TreeFile.{TreeFault, TreeFaults, tree_fault_line}
-use Rattle.studio.specs.Ending.{Shelves, Says}
-use Rattle.studio.specs.declared.status.Status.{Status}
-use Rattle.studio.specs.declared.status.Status.TheVariants.{BadTree, Memory}
-use Rattle.studio.proofs.Ending.{Ends-map, Ends-from, only_in, only_or_memory_in, one_line}
+use Rattle.endings.specs.Ending.{Shelves, Says}
+use Rattle.endings.specs.declared.status.Status.{Status}
+use Rattle.endings.specs.declared.status.Status.TheVariants.{BadTree, Memory}
+use Rattle.endings.proofs.Ending.{Ends-map, Ends-from, only_in, only_or_memory_in, one_line}
 use Rattle.studio.proofs.Seconds.{long-faults}
 use Rattle.studio.proofs.tree_file.tree_of.Goals as goal
 

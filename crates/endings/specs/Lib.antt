@@ -1,0 +1,4 @@
+pub mod Code
+pub mod Ending
+pub mod Lines
+pub mod Printed

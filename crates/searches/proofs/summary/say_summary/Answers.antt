@@ -1,0 +1,21 @@
+use Rattle.std.proofs.Common.{◌≡◌, ℕ, List, refl, ap, length}
+use Rattle.number_sets.specs.Sets.{has}
+use Rattle.tree_rules.specs.Claim as claims
+use Rattle.endings.specs.Lines.{text_of}
+use Rattle.endings.specs.Ending.{Tells}
+use Rattle.endings.specs.declared.status.Status.TheVariants.{Done}
+use Rattle.endings.proofs.Ending.{Ends-map, only_or_memory_in, Tells-memory}
+use Rattle.searches.specs.Summary.{CountsMaximal, SummarySays, summary_lines}
+use Rattle.searches.proofs.summary.say_summary.Goals as goal
+
+pub returns : goal.returns
+returns g c =
+    let p = c.args.problem.now in
+    let w = c.args.network.now in
+    let tree = c.args.tree.now in
+    let feasible = c.requires.solves.feasible w refl in
+    let counts : CountsMaximal p c.maximal_count-most.result = c.maximal_count-most.ensures (has w.units) feasible.structure in
+    let lines : List (List ℕ) = summary_lines p c.maximal_count-most.result w (length c.nodes.result.now) in
+    Ends-map _ _ _ _ _ _ _ (only_or_memory_in (Tells (SummarySays p)) Done (text_of lines)
+    (lines, (refl, (c.maximal_count-most.result, w, tree, counts, c.requires.solves, ap (λ ts. summary_lines p c.maximal_count-most.result w (length ts)) c.nodes.ensures)), refl) (Tells-memory (SummarySays p))) (λ r. r)
+    (c.say_made.ensures lines c.summary.ensures)

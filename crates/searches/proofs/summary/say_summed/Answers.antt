@@ -1,0 +1,41 @@
+use Rattle.std.proofs.Common.{◌≡◌, ◌∙◌, ℕ, List, sym, subst, inl}
+use Rattle.problem_rules.specs.Problem.{Problem}
+use Rattle.tree_rules.specs.Claim as claims
+use Rattle.tree_rules.specs.Claim.{Network}
+use Rattle.tree_rules.specs.Accepted.{Tree, first_node}
+use Rattle.endings.specs.Ending.{Tells}
+use Rattle.endings.specs.declared.status.Status.{Status}
+use Rattle.endings.specs.declared.status.Status.TheVariants.{Memory}
+use Rattle.endings.proofs.Ending.{Ends-map, Tells-map, Tells-memory, only_in}
+use Rattle.abb_search.specs.declared.outcome.Found.{Found}
+use Rattle.abb_search.specs.declared.outcome.Found.TheVariants.{Solved}
+use Rattle.abb_search.specs.Found.{IsFound, IsProved}
+use Rattle.searches.specs.Found.{FoundSays}
+use Rattle.searches.specs.Summary.{SummarySays, SummaryWork}
+use Rattle.searches.proofs.FoundTexts.{solves, found_sums}
+use Rattle.searches.proofs.summary.say_summed.Goals as goal
+
+pub say_summary-requires-clause-solves : goal.say_summary-requires-clause-solves
+say_summary-requires-clause-solves g c =
+    let p = c.args.problem.now in
+    let proved : IsProved p first_node (claims.network c.in-Solved.network) c.in-Solved.tree = subst (λ (f : Found). IsFound p first_node c.args.budget f) c.in-Solved.is c.search_all.ensures in
+    solves c.accepted_is_optimal.ensures p c.is_valid.ensures.valid (claims.network c.in-Solved.network) c.in-Solved.tree proved
+
+pub returns-in-Solved : goal.returns-in-Solved
+returns-in-Solved g c =
+    let p = c.args.problem.now in
+    Ends-map _ _ _ _ _ _ _ (Tells-map (SummarySays p) (SummaryWork c.args.budget p) (λ s lines h. subst (λ (t : Status). SummaryWork c.args.budget p t lines) (sym h.0) (inl h.1))) (λ r. r) c.say_summary.ensures
+
+pub say_found-requires : goal.say_found-requires
+say_found-requires g c = (c.args.budget, c.search_all.ensures)
+
+pub returns : goal.returns
+returns g c =
+    let p = c.args.problem.now in
+    let f : Found = c.search_all.result in
+    Ends-map _ _ _ _ _ _ _ (Tells-map (FoundSays p f) (SummaryWork c.args.budget p)
+    (found_sums c.accepted_is_optimal.ensures p c.is_valid.ensures.valid c.args.budget f c.search_all.ensures c.in_default-search_all.not-Solved)) (λ r. r) c.say_found.ensures
+
+pub returns-in_default : goal.returns-in_default
+returns-in_default g c =
+    Ends-map _ _ _ _ _ _ _ (only_in (Tells (SummaryWork c.args.budget c.args.problem.now)) Memory _ (Tells-memory (SummaryWork c.args.budget c.args.problem.now))) (λ r. r) c.say_memory.ensures

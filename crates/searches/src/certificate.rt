@@ -1,0 +1,197 @@
+//! What a search found, as a text of a claim, a tree and a tail.
+ghost use Rattle.std.specs.Prelude.{◌≡◌, ◌<◌, ◌^◌, ℕ, Ok, length};
+ghost use Rattle.pns_io.specs.Outside.{HasRisen};
+ghost use Rattle.branch_tree.specs.Known.{KnowsClaim, KnowsTree, KnowsTail};
+ghost use Rattle.branch_tree.specs.View.{claim_of, tail_of};
+ghost use Rattle.tree_rules.specs.Accepted.{first_node};
+ghost use Rattle.tree_text_rules.specs.Read.{read_text};
+ghost use Rattle.tree_text_rules.specs.Spelling.{tree_text};
+ghost use Rattle.tree_text_laws.specs.Fits.{CountsTail, KeepsClaim};
+ghost use Rattle.tree_line_laws.specs.Fits.{CountsPlace};
+ghost use Rattle.node_looks.specs.Children.{claim_with};
+ghost use Rattle.abb_search.specs.Found.{IsFound};
+ghost use Rattle.endings.specs.Ending.{Ends, Tells};
+ghost use Rattle.searches.specs.Solve.{status_of};
+ghost use Rattle.searches.specs.Found.{certificate_of, CertificateSays, FoundSays};
+
+use abb_search::Found;
+use branch_tree::{Claim, Network, Tail, Tree};
+use endings::Status;
+use endings::say::{say_memory, say_printed};
+use flow_program::Place;
+use pns_io::Sink;
+use pns_problem::Problem;
+use std::alloc::Global;
+use std::marker::Model;
+use tree_text::print_tree;
+use tree_text_laws::spelled_texts_read;
+
+/// What is claimed, the tree, and where the search stopped.
+#[derive(Drop)]
+pub(crate) struct Certificate {
+    claim: Claim,
+    tree: Tree,
+    tail: Tail,
+}
+
+impl Model for Certificate {
+    ghost use Rattle.tree_text_rules.specs.Read as rules;
+    ghost use Rattle.branch_tree.specs.View.{claim_of, tail_of};
+
+    ghost Value = { rules.Certificate };
+
+    ghost view = { λ c. record { claim = claim_of c.claim; tree = c.tree; tail = tail_of c.tail } };
+}
+
+/// The claim of the cheapest network that was found so far.
+fn claim_with(best: Option<Network>) -> Claim
+    ensures { claim_of result ≡ claim_with best }
+{
+    match best {
+        Some(network) => Claim::Network(network),
+        None => Claim::Unknown,
+    }
+}
+
+/// What was found, as it is printed; `None` exactly for want of memory.
+fn certificate_of(found: Found) -> Option<Certificate>
+    ensures { result ≡ certificate_of found }
+{
+    match found {
+        Found::Solved { network, tree } => Some(Certificate {
+            claim: Claim::Network(network),
+            tree,
+            tail: Tail::Whole,
+        }),
+        Found::Infeasible { tree } => Some(Certificate {
+            claim: Claim::Infeasible,
+            tree,
+            tail: Tail::Whole,
+        }),
+        Found::Spent {
+            best,
+            tree,
+            next,
+            options,
+        } => Some(Certificate {
+            claim: claim_with(best),
+            tree,
+            tail: Tail::Spent { next, options },
+        }),
+        Found::Past {
+            best,
+            tree,
+            node,
+            nonbasic,
+            place,
+        } => Some(Certificate {
+            claim: claim_with(best),
+            tree,
+            tail: Tail::Past {
+                node,
+                nonbasic,
+                place,
+            },
+        }),
+        Found::Memory => None,
+    }
+}
+
+/// The status with which a text of this tail is printed.
+fn status_of(tail: &Tail) -> Status
+    ensures { result ≡ status_of (tail_of tail.now) }
+{
+    match tail {
+        Tail::Whole => Status::Done,
+        Tail::Spent { .. } => Status::Spent,
+        Tail::Past { .. } => Status::Past,
+    }
+}
+
+// The step of a place is a number that a line can hold. A call tells a proof so, and does nothing.
+fn place_is_counted(place: &Place)
+    ensures { CountsPlace place.now }
+{
+    match place {
+        Place::Entry { .. } | Place::Flow { .. } => {}
+        Place::Cost { at }
+        | Place::FlowSum { at }
+        | Place::Bound { at }
+        | Place::Refute { at, .. } => {
+            let _at = *at;
+        }
+    }
+}
+
+// So are the numbers of a tail.
+fn tail_is_counted(tail: &Tail)
+    ensures { CountsTail (tail_of tail.now) }
+{
+    match tail {
+        Tail::Whole => {}
+        Tail::Spent { next, options } => {
+            let _next = *next;
+            let _options = *options;
+        }
+        Tail::Past { node, place, .. } => {
+            let _node = *node;
+            place_is_counted(place);
+        }
+    }
+}
+
+// A claimed network is sized, and its numbers are in range. A call tells a proof so, and does nothing.
+fn claim_is_kept(claim: &Claim)
+    ensures { KeepsClaim (claim_of claim.now) }
+{
+    match claim {
+        Claim::Network(network) => network.is_sized(),
+        Claim::Infeasible | Claim::Unknown => {}
+    }
+}
+
+impl Certificate {
+    // The text of a certificate reads as it. A call tells a proof so, and does nothing.
+    fn reads_back(&self, problem: &Problem)
+        requires claim { KnowsClaim problem.now self.now.claim }
+        requires tree { KnowsTree problem.now self.now.tree }
+        requires tail { KnowsTail problem.now self.now.tail }
+        requires few { length self.now.tree < 2 ^ 32 }
+        ensures { read_text problem.now (tree_text problem.now self.now.claim self.now.tree self.now.tail) ≡ Ok self.now }
+    {
+        problem.is_valid();
+        self.tree.is_tree();
+        claim_is_kept(&self.claim);
+        tail_is_counted(&self.tail);
+        spelled_texts_read();
+    }
+
+    /// Prints the certificate. The status tells where the search stopped.
+    pub(crate) fn say<K: Sink>(&self, alloc: Global, out: &mut K, problem: &Problem) -> Status
+        requires claim { KnowsClaim problem.now self.now.claim }
+        requires tree { KnowsTree problem.now self.now.tree }
+        requires tail { KnowsTail problem.now self.now.tail }
+        requires few { length self.now.tree < 2 ^ 32 }
+        ensures { Ends (Tells (CertificateSays problem.now self.now)) (HasRisen (K.faults out.old) (K.faults out.new)) (K.written out.old) (K.written out.new) result }
+    {
+        self.reads_back(problem);
+        let printed = print_tree(alloc, problem, &self.claim, &self.tree, &self.tail, out);
+        say_printed(out, printed, status_of(&self.tail))
+    }
+}
+
+/// Prints what was found.
+pub(crate) fn say_found<K: Sink>(
+    alloc: Global,
+    out: &mut K,
+    problem: &Problem,
+    found: Found,
+) -> Status
+    requires { (budget : ℕ) × IsFound problem.now first_node budget found }
+    ensures { Ends (Tells (FoundSays problem.now found)) (HasRisen (K.faults out.old) (K.faults out.new)) (K.written out.old) (K.written out.new) result }
+{
+    match certificate_of(found) {
+        Some(certificate) => certificate.say(alloc, out, problem),
+        None => say_memory(out),
+    }
+}

@@ -1,0 +1,113 @@
+//! The summary of a whole search.
+ghost use Rattle.std.specs.Prelude.{◌≡◌, ◌≤◌, ◌++◌, ◌∷◌, [], ℕ, Bool, IfOk, codes, decimal, length, string_bytes};
+ghost use Rattle.std.specs.Fmt.{signed_decimal};
+ghost use Rattle.pns_io.specs.Outside.{HasRisen};
+ghost use Rattle.pns_rules.specs.Shape.{shape_of};
+ghost use Rattle.pns_rules.specs.Structure.{IsStructure};
+ghost use Rattle.pgraph.specs.Tables.{shape};
+ghost use Rattle.tree_rules.specs.Claim as claims;
+ghost use Rattle.searches.specs.Solve.{Solves};
+ghost use Rattle.searches.specs.Summary.{CountsMaximal, SummarySays, SummaryWork, summary_lines};
+ghost use Rattle.endings.specs.Lines.{text_of};
+ghost use Rattle.endings.specs.Ending.{Ends, Tells};
+
+use crate::certificate::say_found;
+use crate::solve::search_all;
+use abb_search::Found;
+use branch_tree::{Network, Tree};
+use endings::Status;
+use endings::line::push_unit_names;
+use endings::say::{say_made, say_memory};
+use max_structure::maximal;
+use pgraph::Graph;
+use pns_io::Sink;
+use pns_problem::Problem;
+use std::alloc::{AllocError, Global};
+use tree_laws::accepted_is_optimal;
+use unit_sets::UnitSet;
+
+/// How many units the maximal structure has.
+fn maximal_count(problem: &Problem, graph: &Graph) -> u32
+    requires graph { shape graph.now ≡ shape_of problem.now }
+    ensures { (s : ℕ → Bool) → IsStructure (shape_of problem.now) s → CountsMaximal problem.now result }
+{
+    match maximal(graph, UnitSet::empty()) {
+        Some(all) => {
+            all.rises();
+            all.count()
+        }
+        None => 0,
+    }
+}
+
+// The lines before the names of the network, and those behind them.
+fn sizes_text(alloc: Global, units: usize, most: u32) -> Result<String, AllocError>
+    ensures { IfOk result (λ text. string_bytes text ≡ codes "units " ++ (decimal units ++ (10 ∷ codes "maximal " ++ (decimal most ++ 10 ∷ codes "network")))) }
+{
+    let text = format!(in alloc; "units {units}\nmaximal {most}\nnetwork")?;
+    Ok(text)
+}
+
+fn cost_text(alloc: Global, cost: i128, d: i128, nodes: usize) -> Result<String, AllocError>
+    ensures { IfOk result (λ text. string_bytes text ≡ 10 ∷ codes "cost " ++ (signed_decimal cost ++ (32 ∷ signed_decimal d ++ (10 ∷ codes "nodes " ++ (decimal nodes ++ 10 ∷ []))))) }
+{
+    let text = format!(in alloc; "\ncost {cost} {d}\nnodes {nodes}\n")?;
+    Ok(text)
+}
+
+fn summary(
+    alloc: Global,
+    problem: &Problem,
+    most: u32,
+    network: &Network,
+    nodes: usize,
+) -> Result<Vec<u8>, AllocError>
+    requires { length problem.now.units ≤ 128 }
+    ensures { IfOk result (λ text. text.items ≡ text_of (summary_lines problem.now most network.now nodes)) }
+{
+    let sizes = sizes_text(alloc, problem.units().len(), most)?;
+    let cost = cost_text(alloc, network.cost(), network.d(), nodes)?;
+    let mut text = sizes.as_bytes().to_vec(alloc)?;
+    push_unit_names(&mut text, problem.units(), network.units())?;
+    text.extend_from_slice(cost.as_bytes())?;
+    Ok(text)
+}
+
+fn say_summary<K: Sink>(
+    alloc: Global,
+    out: &mut K,
+    problem: &Problem,
+    graph: &Graph,
+    network: &Network,
+    tree: &Tree,
+) -> Status
+    requires graph { shape graph.now ≡ shape_of problem.now }
+    requires solves { Solves problem.now (claims.network network.now) tree.now }
+    ensures { Ends (Tells (SummarySays problem.now)) (HasRisen (K.faults out.old) (K.faults out.new)) (K.written out.old) (K.written out.new) result }
+{
+    problem.is_valid();
+    let most = maximal_count(problem, graph);
+    say_made(
+        out,
+        summary(alloc, problem, most, network, tree.nodes().len()),
+    )
+}
+
+/// Says a summary of what the search solves; or how far it came.
+pub fn say_summed<K: Sink>(alloc: Global, out: &mut K, problem: &Problem, budget: u64) -> Status
+    requires some { 1 ≤ budget }
+    requires few { budget ≤ 1000000 }
+    ensures { Ends (Tells (SummaryWork budget problem.now)) (HasRisen (K.faults out.old) (K.faults out.new)) (K.written out.old) (K.written out.new) result }
+{
+    let Ok(graph) = Graph::of(alloc, problem) else {
+        return say_memory(out);
+    };
+    problem.is_valid();
+    accepted_is_optimal();
+    match search_all(alloc, problem, &graph, budget) {
+        Found::Solved { network, tree } => {
+            say_summary(alloc, out, problem, &graph, &network, &tree)
+        }
+        stopped => say_found(alloc, out, problem, stopped),
+    }
+}
