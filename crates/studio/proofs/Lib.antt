@@ -10,3 +10,4 @@ pub mod Numerals
 pub mod Listings
 pub mod ListingStart
 pub mod ListingParts
+pub mod Accepted

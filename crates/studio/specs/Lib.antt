@@ -13,6 +13,7 @@ pub mod Migrate
 pub mod Numeral
 pub mod Reading
 pub mod Script
+pub mod SolveLaws
 pub mod TreeFile
 pub mod Trial
 pub mod View

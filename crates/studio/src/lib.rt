@@ -44,4 +44,4 @@ mod unit_names;
 
 pub use call::studio;
 pub use endings::Status;
-pub use laws::parts_join;
+pub use laws::{parts_join, solved_is_accepted};

@@ -1,0 +1,22 @@
+-- A law over what `solve` and `check` print.
+use Rattle.std.specs.Prelude.{◌≡◌, ◌⊎◌, ◌≤◌, ◌<◌, ◌++◌, ℕ, List, [], ◌∷◌, Option, Some, length, codes}
+use Rattle.endings.specs.Lines.{text_of}
+use Rattle.endings.specs.declared.status.Status.{Status}
+use Rattle.endings.specs.declared.status.Status.TheVariants.{Done, TooLong}
+use Rattle.studio.specs.Command.{Solving, Checking}
+use Rattle.studio.specs.TreeFile.{tree_limit}
+use Rattle.studio.specs.Answers.{CommandAnswers}
+
+-- `accepted`, or where the tree file is above its limit that it is too long
+abbrev pub IsAcceptedOrLong : List ℕ → List ℕ → Status → List (List ℕ) → Type 0
+IsAcceptedOrLong name file status lines =
+    ((length file ≤ tree_limit) × (status ≡ Done) × (lines ≡ codes "accepted" ∷ []))
+    ⊎ ((tree_limit < length file) × (status ≡ TooLong) × (lines ≡ (codes "too long " ++ name) ∷ []))
+
+-- What `solve` prints with status 0 is accepted by `check` with the same problem file, or it is too long.
+abbrev pub SolvedIsAccepted : Type 0
+SolvedIsAccepted =
+    (held : List ℕ → Option (List ℕ)) (file tree bytes : List ℕ) (budget : ℕ) (solved : List (List ℕ)) → held file ≡ Some bytes
+    → CommandAnswers held (Solving file budget) Done solved → held tree ≡ Some (text_of solved)
+    → (status : Status) (checked : List (List ℕ)) → CommandAnswers held (Checking file tree) status checked
+    → IsAcceptedOrLong tree (text_of solved) status checked
