@@ -23,7 +23,7 @@ is_held held bytes file e is = subst (λ (o : Option (List ℕ)). IfSome o (λ t
 -- a file that gives a problem has no fault
 no_fault : (name file : List ℕ) (p : Problem) (s : Status) (lines : List (List ℕ)) → GivesProblem file p → FileFault name file s lines → ⊥
 no_fault name file p TooLong lines given fault = let a = given.0 in let b = fault.0 in absurd (omega (arith, a, b))
-no_fault name file p BadProblem lines given fault = let e : Ok p ≡ Err (fault.1.0, fault.1.1) = sym given.1 ∙ fault.1.2 in cc
+no_fault name file p BadProblem lines given fault = let e : ◌≡◌ {A = Result Problem Fault} (Ok p) (Err (fault.1.0, fault.1.1)) = sym given.1 ∙ fault.1.2 in cc
 no_fault name file p s lines given fault = absurd fault
 
 -- and gives no other
@@ -45,7 +45,7 @@ module _ (no_claim_fault : PassingClaimHasNoFault) (no_tree_fault : PassingTreeH
 
   read : (p : Problem) (c : trees.Certificate) (name file : List ℕ) (s : Status) (lines : List (List ℕ)) → trees.read_text p file ≡ Ok c → IsAccepted p first_node c.claim c.tree → TreeSays CheckWork name p file s lines → IsAcceptedOrLong name file s lines
   read p c name file TooLong lines reads accepted (inl fault) = inr (fault.0, refl, fault.1)
-  read p c name file BadTree lines reads accepted (inl fault) = let e : Ok c ≡ Err (fault.1.0, fault.1.1) = sym reads ∙ fault.1.2 in cc
+  read p c name file BadTree lines reads accepted (inl fault) = let e : ◌≡◌ {A = Result trees.Certificate trees.Fault} (Ok c) (Err (fault.1.0, fault.1.1)) = sym reads ∙ fault.1.2 in cc
   read p c name file s lines reads accepted (inl fault) = absurd fault
   read p c name file s lines reads accepted (inr (claim, tree, given, work)) =
       let other : trees.Certificate = record { claim = claim; tree = tree; tail = given.1.0 } in

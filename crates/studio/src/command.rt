@@ -70,11 +70,32 @@ fn of_three<'a>(
 /// The most operating units of a problem that is made.
 const MOST_UNITS: u64 = 128;
 
+fn unit_count_of(word: &str) -> Option<u64>
+    ensures { result ≡ unit_count_of word.now }
+{
+    number_within(word, 1, MOST_UNITS)
+}
+
+fn seed_of(word: &str) -> Option<u64>
+    ensures { result ≡ seed_of word.now }
+{
+    number_within(word, 0, u64::MAX)
+}
+
+/// The most nodes of a search.
+const MOST_NODES: u64 = 1_000_000;
+
+fn budget_of(word: &str) -> Option<u64>
+    ensures { result ≡ budget_of word.now }
+{
+    number_within(word, 1, MOST_NODES)
+}
+
 fn made_by<'a>(number: &str, units: &str) -> Option<Command<'a>>
     ensures { option_map command_view result ≡ made_by (seed_of number.now) (unit_count_of units.now) }
 {
-    let number = number_within(number, 0, u64::MAX)?;
-    let units = number_within(units, 1, MOST_UNITS)?;
+    let number = seed_of(number)?;
+    let units = unit_count_of(units)?;
     Some(Command::Make(number, units))
 }
 
@@ -109,22 +130,19 @@ fn migrate_of<'a>(file: &'a str, years: &str) -> Option<Command<'a>>
     Some(Command::Migrate(file, years))
 }
 
-/// The most nodes of a search.
-const MOST_NODES: u64 = 1_000_000;
-
 fn solve_of<'a>(file: &'a str, budget: &str) -> Option<Command<'a>>
     ensures { option_map command_view result ≡ option_map (Solving file.now) (budget_of budget.now) }
 {
-    let budget = number_within(budget, 1, MOST_NODES)?;
+    let budget = budget_of(budget)?;
     Some(Command::Solving(file, budget))
 }
 
 fn tried_by<'a>(number: &str, units: &str, budget: &str) -> Option<Command<'a>>
     ensures { option_map command_view result ≡ tried_by (seed_of number.now) (unit_count_of units.now) (budget_of budget.now) }
 {
-    let number = number_within(number, 0, u64::MAX)?;
-    let units = number_within(units, 1, MOST_UNITS)?;
-    let budget = number_within(budget, 1, MOST_NODES)?;
+    let number = seed_of(number)?;
+    let units = unit_count_of(units)?;
+    let budget = budget_of(budget)?;
     Some(Command::Trial(number, units, budget))
 }
 
