@@ -4,7 +4,7 @@ use std::alloc::{AllocError, Global};
 use std::test::Fail;
 
 // The sizes are forced, and the common denominator of that of U1 is out of range.
-const FORCED: &str =
+pub(crate) const FORCED: &str =
     "file_type=PNS_problem_v1\nmaterials:\nA: raw_material\nM1: flow_rate_upper_bound=0\nM2: flow_rate_upper_bound=0\nM3: flow_rate_upper_bound=0\nP: product, flow_rate_lower_bound=1, flow_rate_upper_bound=1\nmaterial_to_operating_unit_flow_rates:\nU1: A => 999999999.999999 M1\nU2: 1000000000 M1 => 999999999.999999 M2\nU3: 1000000000 M2 => 999999999.999999 M3\nU4: 1000000000 M3 => P\n";
 
 // The first word of each line.

@@ -37,6 +37,8 @@ mod script_file;
 mod script_tests;
 mod solve;
 #[cfg(test)]
+mod solve_tests;
+#[cfg(test)]
 mod tests;
 mod tree_file;
 mod trial;
