@@ -37,7 +37,7 @@ use Rattle.node_looks.specs.Children.{claim_with, IsBest, AreReady}
 use Rattle.abb_search.specs.declared.growing.Growing.{Growing}
 use Rattle.abb_search.specs.Growing.{IsTreeKept, IsGrowing, IsSpentAt, IsHaltedAt}
 use Rattle.abb_search.proofs.KnownLemmas.{AreKnown, knows_tree, few_nodes, knows_claim}
-use Rattle.abb_search.specs.Found.{IsProved, IsStopped, IsBelowLimit, found_with, IsFound}
+use Rattle.abb_search.specs.Found.{IsProved, IsStopped, IsBelowLimit, found_with, IsFoundBy}
 
 -- nothing claimed has no cost, as none has where no network is
 as_infeasible : (p : Problem) (start : Node) (last : Option CostOver) (cells : List Cell) → IsKept p start claims.unknown last cells → IsKept p start claims.infeasible last cells
@@ -125,10 +125,10 @@ module _ (p : Problem) (s : Growing) (t : IsTreeKept p s) (at place : ℕ) (tree
   })
 
   pub whole_found : (Past : PastPlaces) (budget : ℕ) (start : starts.Node) → s.start ≡ start
-      → ((i : ℕ) → i < length s.pool.payloads → (cell_at s.pool.payloads i).end ≡ leaf untried → ⊥) → IsFound Past p (node_of start) budget (found_with s.best tree)
-  whole_found Past budget start es shut = subst (λ (n : starts.Node). IsFound Past p (node_of n) budget (found_with s.best tree)) es (by s.best refl)
+      → ((i : ℕ) → i < length s.pool.payloads → (cell_at s.pool.payloads i).end ≡ leaf untried → ⊥) → IsFoundBy Past p (node_of start) budget (found_with s.best tree)
+  whole_found Past budget start es shut = subst (λ (n : starts.Node). IsFoundBy Past p (node_of n) budget (found_with s.best tree)) es (by s.best refl)
     where
-      by : (b : Option claims.Network) → s.best ≡ b → IsFound Past p (node_of s.start) budget (found_with b tree)
+      by : (b : Option claims.Network) → s.best ≡ b → IsFoundBy Past p (node_of s.start) budget (found_with b tree)
       by None e = infeasible e shut
       by (Some w) e = solved w e shut
 

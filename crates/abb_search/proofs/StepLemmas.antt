@@ -28,12 +28,12 @@ use Rattle.node_looks.specs.Looks.{has_bounded, IsHalted}
 use Rattle.node_looks.specs.Children.{claim_with}
 use Rattle.abb_search.specs.Hand.{AreAtHand}
 use Rattle.abb_search.proofs.HandLemmas.{hand_same}
-use Rattle.abb_search.specs.declared.found.Found.{Found}
-use Rattle.abb_search.specs.declared.found.Found.TheVariants.{Solved, Infeasible, Memory}
+use Rattle.abb_search.specs.declared.outcome.Found.{Found}
+use Rattle.abb_search.specs.declared.outcome.Found.TheVariants.{Solved, Infeasible, Memory}
 use Rattle.abb_search.specs.declared.growing.Growing.{Growing}
 use Rattle.abb_search.specs.declared.growing.HaltedLeaf.{HaltedLeaf}
 use Rattle.abb_search.specs.Growing.{IsTreeKept, IsGrowing, IsBeaten, LeastIsBelow, leaf_of, IsHaltedAt, GoesOn, IsGoing, IsSame, IsAfterBranch, IsShutDown}
-use Rattle.abb_search.specs.Found.{IsFound, found_with}
+use Rattle.abb_search.specs.Found.{IsFoundBy, found_with}
 use Rattle.abb_search.specs.Answers.{IsMore, IsEnd, StepHolds}
 use Rattle.abb_search.specs.Searched.{Searched, IsSameSearch, AreNodesOf, StandsAt, IsSearching}
 use Rattle.abb_search.proofs.KnownLemmas.{AreKnown}
@@ -82,7 +82,7 @@ pub step_from : (Past : PastPlaces) (p : Problem) (old root new : Growing) (o : 
     → root.start ≡ old.start → root.budget ≡ old.budget → length root.pool.payloads ≡ length old.pool.payloads → StepHolds Past p old new o
 step_from Past p old root new None h es eu el = record { going = h.going; more = subst (λ n. n < length new.pool.payloads) el h.more; start = h.start ∙ es; budget = h.budget ∙ eu }
 step_from Past p old root new (Some found) h es eu el = record {
-  is_found = subst (λ (n : starts.Node). IsFound Past p (node_of n) old.budget found) es (subst (λ b. IsFound Past p (node_of root.start) b found) eu h.is_found);
+  is_found = subst (λ (n : starts.Node). IsFoundBy Past p (node_of n) old.budget found) es (subst (λ b. IsFoundBy Past p (node_of root.start) b found) eu h.is_found);
   answers = h.answers;
   as_many = h.as_many ∙ el;
   counted = h.counted;
@@ -142,7 +142,7 @@ module _ (Past : PastPlaces) (p : Problem) (s n : Growing) (e : IsSame s n) wher
 
 -- ---- the search ends
 
-pub ends_with : (Past : PastPlaces) (p : Problem) (s new : Growing) (found : Found) → IsTreeKept p s → IsFound Past p (node_of s.start) s.budget found → (found ≡ Memory → ⊥)
+pub ends_with : (Past : PastPlaces) (p : Problem) (s new : Growing) (found : Found) → IsTreeKept p s → IsFoundBy Past p (node_of s.start) s.budget found → (found ≡ Memory → ⊥)
     → new.pool ≡ s.pool → new.nodes ≡ s.nodes → new.start ≡ s.start → new.budget ≡ s.budget → IsEnd Past p s new found
 ends_with Past p s new found t f answers ep en es eu = record {
   is_found = f;
@@ -176,10 +176,10 @@ nodes_of_tree cells linked at place tree of = record {
 pub same_search : (a b c : Searched) → IsSameSearch a b → IsSameSearch b c → IsSameSearch a c
 same_search a b c h k = record { problem = k.problem ∙ h.problem; start = k.start ∙ h.start; budget = k.budget ∙ h.budget }
 
-pub found_same : (Past : PastPlaces) (a b : Searched) (found : Found) → IsSameSearch a b → IsFound Past b.problem (node_of b.start) b.budget found → IsFound Past a.problem (node_of a.start) a.budget found
+pub found_same : (Past : PastPlaces) (a b : Searched) (found : Found) → IsSameSearch a b → IsFoundBy Past b.problem (node_of b.start) b.budget found → IsFoundBy Past a.problem (node_of a.start) a.budget found
 found_same Past a b found h f =
-    subst (λ (q : Problem). IsFound Past q (node_of a.start) a.budget found) h.problem
-    (subst (λ (n : starts.Node). IsFound Past b.problem (node_of n) a.budget found) h.start (subst (λ k. IsFound Past b.problem (node_of b.start) k found) h.budget f))
+    subst (λ (q : Problem). IsFoundBy Past q (node_of a.start) a.budget found) h.problem
+    (subst (λ (n : starts.Node). IsFoundBy Past b.problem (node_of n) a.budget found) h.start (subst (λ k. IsFoundBy Past b.problem (node_of b.start) k found) h.budget f))
 
 -- the search stands as it stood
 pub searching_same : (Past : PastPlaces) (p : Problem) (g : Shape) (mk mk' : List (List ℕ)) (s n : Growing) (looked ended : Bool) → IsSearching Past p g mk s looked ended → mk' ≡ mk → IsSame s n

@@ -5,12 +5,12 @@ use Rattle.pgraph.specs.View.{node_of}
 use Rattle.tree_rules.specs.Claim as claims
 use Rattle.tree_rules.specs.Accepted.{Tree}
 use Rattle.node_looks.specs.Evaluated.{PastPlaces}
-use Rattle.abb_search.specs.declared.found.Found.{Found}
-use Rattle.abb_search.specs.declared.found.Found.TheVariants.{Past, Memory}
+use Rattle.abb_search.specs.declared.outcome.Found.{Found}
+use Rattle.abb_search.specs.declared.outcome.Found.TheVariants.{Past, Memory}
 use Rattle.abb_search.specs.declared.growing.Growing.{Growing}
 use Rattle.abb_search.specs.declared.growing.HaltedLeaf.{HaltedLeaf}
 use Rattle.abb_search.specs.Growing.{IsGoing}
-use Rattle.abb_search.specs.Found.{IsFound}
+use Rattle.abb_search.specs.Found.{IsFoundBy}
 
 -- what is found where a leaf halts the search
 abbrev pub past_with : Option claims.Network → Option HaltedLeaf → Tree → ℕ → Option Found
@@ -26,7 +26,7 @@ pub record IsMore (Halts : PastPlaces) (p : Problem) (old new : Growing) : Type 
 
 -- or it ends, with the nodes that there are
 pub record IsEnd (Halts : PastPlaces) (p : Problem) (old new : Growing) (found : Found) : Type 0 where
-  pub is_found : IsFound Halts p (node_of old.start) old.budget found
+  pub is_found : IsFoundBy Halts p (node_of old.start) old.budget found
   pub answers : found ≡ Memory → ⊥
   pub as_many : length new.pool.payloads ≡ length old.pool.payloads
   pub counted : new.nodes ≡ length new.pool.payloads

@@ -14,8 +14,9 @@ use Rattle.tree_rules.specs.Stops.{IsSpent, IsPast}
 use Rattle.branch_tree.specs.Known.{KnowsClaim, KnowsTree}
 use Rattle.node_looks.specs.Evaluated.{PastPlaces}
 use Rattle.node_looks.specs.Children.{claim_with}
-use Rattle.abb_search.specs.declared.found.Found.{Found}
-use Rattle.abb_search.specs.declared.found.Found.TheVariants.{Solved, Infeasible, Spent, Past, Memory}
+use Rattle.flow_evaluator.specs.Past.{IsPastAt}
+use Rattle.abb_search.specs.declared.outcome.Found.{Found}
+use Rattle.abb_search.specs.declared.outcome.Found.TheVariants.{Solved, Infeasible, Spent, Past, Memory}
 
 -- a lean tree that proves the claim, with numbers that the problem knows
 pub record IsProved (p : Problem) (start : Node) (claim : claims.Claim) (tree : Tree) : Type 0 where
@@ -43,11 +44,15 @@ found_with None tree = Infeasible tree
 found_with (Some w) tree = Solved w tree
 
 -- `Halts` tells at which places an evaluator of nodes goes past the range
-abbrev pub IsFound : PastPlaces → Problem → Node → ℕ → Found → Type 0
-IsFound Halts p start budget (Solved w tree) = IsProved p start (claims.network w) tree
-IsFound Halts p start budget (Infeasible tree) = IsProved p start claims.infeasible tree
-IsFound Halts p start budget (Spent best tree next options) =
+abbrev pub IsFoundBy : PastPlaces → Problem → Node → ℕ → Found → Type 0
+IsFoundBy Halts p start budget (Solved w tree) = IsProved p start (claims.network w) tree
+IsFoundBy Halts p start budget (Infeasible tree) = IsProved p start claims.infeasible tree
+IsFoundBy Halts p start budget (Spent best tree next options) =
     IsStopped p start (claim_with best) tree × IsSpent p IsUntried (claimed_cost (claim_with best)) start tree next options budget × IsBelowLimit p budget
-IsFound Halts p start budget (Past best tree node nonbasic place) =
+IsFoundBy Halts p start budget (Past best tree node nonbasic place) =
     IsStopped p start (claim_with best) tree × IsPast p IsUntried start tree (λ n. Halts p n nonbasic place) node
-IsFound Halts p start budget Memory = Unit {0}
+IsFoundBy Halts p start budget Memory = Unit {0}
+
+-- what a search finds that the simplex method bounds
+abbrev pub IsFound : Problem → Node → ℕ → Found → Type 0
+IsFound p start budget found = IsFoundBy IsPastAt p start budget found

@@ -11,12 +11,12 @@ use Rattle.search_tree.specs.Cells.{Cell}
 use Rattle.search_tree.specs.Preorder.{IsPreorder, tree_of}
 use Rattle.neutral_extension.specs.Candidates.{AreMakersOf}
 use Rattle.node_looks.specs.Evaluated.{PastPlaces}
-use Rattle.abb_search.specs.declared.found.Found.{Found}
-use Rattle.abb_search.specs.declared.found.Found.TheVariants.{Memory}
+use Rattle.abb_search.specs.declared.outcome.Found.{Found}
+use Rattle.abb_search.specs.declared.outcome.Found.TheVariants.{Memory}
 use Rattle.abb_search.specs.declared.growing.Growing.{Growing}
-use Rattle.abb_search.specs.declared.turn.Turn.{Turn}
-use Rattle.abb_search.specs.declared.turn.Turn.TheVariants as turns
-use Rattle.abb_search.specs.Found.{IsFound}
+use Rattle.abb_search.specs.declared.outcome.Turn.{Turn}
+use Rattle.abb_search.specs.declared.outcome.Turn.TheVariants as turns
+use Rattle.abb_search.specs.Found.{IsFoundBy}
 use Rattle.abb_search.specs.Growing.{open_cell, IsTreeKept, IsGoing}
 
 -- the problem, the node that the search starts from, the most nodes that it may take, its nodes in the order of adding, the
@@ -51,7 +51,7 @@ pub record GoesOn (old new : Searched) : Type 0 where
 -- the search ends with one of the first four answers, and its nodes are as many as before
 pub record HasEnded (Past : PastPlaces) (old new : Searched) (found : Found) : Type 0 where
   pub same : IsSameSearch old new
-  pub is_found : IsFound Past old.problem (node_of old.start) old.budget found
+  pub is_found : IsFoundBy Past old.problem (node_of old.start) old.budget found
   pub answers : found ≡ Memory → ⊥
   pub as_many : length new.cells ≡ length old.cells
   pub ended : new.ended ≡ true

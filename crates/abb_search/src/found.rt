@@ -1,4 +1,4 @@
-//! What a search finds, and the tree that shows it.
+//! The tree that shows what is found.
 ghost use Rattle.std.specs.Prelude.{◌≡◌, ◌<◌, [], length, IfOk, IfSome};
 ghost use Rattle.tree_rules.specs.Claim.{IsSized};
 ghost use Rattle.search_tree.specs.Cells.{IsLinked, cell_at};
@@ -7,41 +7,10 @@ ghost use Rattle.abb_search.specs.Found.{found_with};
 ghost use Rattle.abb_search.specs.Answers.{past_with};
 
 use crate::growing::{Growing, HaltedLeaf};
-use branch_tree::{Columns, Network, Tree};
-use flow_program::Place;
+use crate::outcome::Found;
+use branch_tree::{Network, Tree};
 use search_tree::nodes_in_preorder;
 use std::alloc::{AllocError, Global};
-
-/// What a search finds.
-#[derive(Drop)]
-pub enum Found {
-    /// No network is cheaper, which the tree proves.
-    Solved {
-        network: Network,
-        tree: Tree,
-    },
-    /// No network has flows, which the tree proves.
-    Infeasible {
-        tree: Tree,
-    },
-    /// The budget is spent: the leaf `next` would be branched next, and has too many options.
-    Spent {
-        best: Option<Network>,
-        tree: Tree,
-        next: u32,
-        options: u128,
-    },
-    /// A number is past the range at an open leaf.
-    Past {
-        best: Option<Network>,
-        tree: Tree,
-        node: u32,
-        nonbasic: Columns,
-        place: Place,
-    },
-    /// There is no memory.
-    Memory,
-}
 
 /// A tree, and the place of one of its nodes.
 #[derive(Drop)]

@@ -6,20 +6,22 @@
 //! - `growing`: the tree while it grows, how a leaf is branched and how leaves are shut
 //! - `hand`: what is at hand for the open leaves, each under a key
 //! - `root`: the root, before and after the steps that are possible there
-//! - `found`: what is found, and the tree that shows it
+//! - `outcome`: what a search finds, and what a turn answers
+//! - `found`: the tree that shows what is found
 //! - `step`: a turn over the tree
-//! - `turn`: what a turn answers
-//! - `search`: the object, and the loop over its turns
+//! - `turns`: the object over any evaluator, and the loop over its turns
+//! - `whole`: the same over the simplex method
 #![tactic(auto)]
 
 mod found;
 mod growing;
 mod hand;
+mod outcome;
 mod root;
-mod search;
 mod step;
-mod turn;
+mod turns;
+mod whole;
 
-pub use found::Found;
-pub use search::{SearchWith, search_with};
-pub use turn::Turn;
+pub use outcome::{Found, Turn};
+pub use turns::{SearchWith, search_with};
+pub use whole::{Search, search};

@@ -11,10 +11,11 @@ ghost use Rattle.abb_search.specs.Growing.{IsGrowing, LeastIsBelow, IsGoing, IsS
 ghost use Rattle.abb_search.specs.Answers.{StepHolds};
 ghost use Rattle.abb_search.specs.Searched.{StandsAt};
 
-use crate::found::{Found, past_found, tree_with, whole_found};
+use crate::found::{past_found, tree_with, whole_found};
 use crate::growing::{
     Growing, branch_leaf, chosen, first_material, halted_leaf, is_over, node_at, shut_beaten,
 };
+use crate::outcome::Found;
 use crate::root::look_at_root;
 use branch_choice::option_count;
 use neutral_extension::Makers;

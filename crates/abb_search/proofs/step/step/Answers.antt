@@ -1,7 +1,7 @@
 use Rattle.std.proofs.Common.{◌≡◌, ℕ, refl, sym, ap, ◌∙◌, subst, Option, Some}
 use Rattle.tree_rules.specs.Claim as claims
-use Rattle.abb_search.specs.declared.found.Found.{Found}
-use Rattle.abb_search.specs.declared.found.Found.TheVariants as found
+use Rattle.abb_search.specs.declared.outcome.Found.{Found}
+use Rattle.abb_search.specs.declared.outcome.Found.TheVariants as found
 use Rattle.abb_search.specs.declared.growing.Growing.{Growing}
 use Rattle.abb_search.specs.declared.growing.HaltedLeaf.{HaltedLeaf}
 use Rattle.abb_search.specs.Growing.{IsHaltedAt, GoesOn}

@@ -6,14 +6,14 @@ ghost use Rattle.pgraph.specs.Tables.{shape};
 ghost use Rattle.pgraph.specs.View.{node_of};
 ghost use Rattle.node_looks.specs.Looks.{has_bounded};
 ghost use Rattle.node_looks.specs.Children.{claim_with};
-ghost use Rattle.abb_search.specs.Found.{IsStopped, IsFound};
+ghost use Rattle.abb_search.specs.Found.{IsStopped, IsFoundBy};
 ghost use Rattle.abb_search.specs.Searched.{opened, TurnHolds, AreNodesOf};
 
-use crate::found::{Found, tree_with};
+use crate::found::tree_with;
 use crate::growing::Growing;
+use crate::outcome::{Found, Turn};
 use crate::root::open_root;
 use crate::step::take_turn;
-use crate::turn::Turn;
 use branch_tree::{Network, Tree};
 use neutral_extension::Makers;
 use node_looks::Evaluator;
@@ -145,9 +145,9 @@ impl<'a, E: Evaluator + Drop> SearchWith<'a, E> {
 }
 
 /// Takes turns until the search ends, or there is no memory.
-fn run<'a, E: Evaluator + Drop>(search: SearchWith<'a, E>) -> Found
+pub(crate) fn run<'a, E: Evaluator + Drop>(search: SearchWith<'a, E>) -> Found
     requires { search.ended ≡ false }
-    ensures { IsFound E.past search.entry.problem (node_of search.entry.start) search.entry.budget result }
+    ensures { IsFoundBy E.past search.entry.problem (node_of search.entry.start) search.entry.budget result }
 {
     let mut search = search;
     'turns: loop {
@@ -171,7 +171,7 @@ pub fn search_with<E: Evaluator + Drop>(
     requires graph { shape graph.now ≡ shape_of problem.now }
     requires sound { IsSound (shape_of problem.now) (node_of start) }
     requires some { 1 ≤ budget }
-    ensures found { IsFound E.past problem.now (node_of start) budget result }
+    ensures found { IsFoundBy E.past problem.now (node_of start) budget result }
 {
     match SearchWith::open_with(alloc, evaluator, problem, graph, start, budget) {
         Ok(search) => run(search),

@@ -5,7 +5,7 @@ use Rattle.pgraph.specs.Tables.{shape}
 use Rattle.pgraph.specs.View.{node_of}
 use Rattle.neutral_extension.specs.Candidates.{AreMakersOf}
 use Rattle.abb_search.proofs.StepLemmas.{searching_same}
-use Rattle.abb_search.proofs.search.SearchWith.turn.Goals as goal
+use Rattle.abb_search.proofs.turns.SearchWith.turn.Goals as goal
 
 pub invariant_of-self : goal.invariant_of-self
 invariant_of-self g c =

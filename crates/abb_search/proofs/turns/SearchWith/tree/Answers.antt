@@ -5,7 +5,7 @@ use Rattle.abb_search.specs.Found.{IsStopped}
 use Rattle.abb_search.specs.Searched.{Searched, AreNodesOf}
 use Rattle.abb_search.proofs.EndLemmas.{stopped}
 use Rattle.abb_search.proofs.StepLemmas.{stands_tree, nodes_of_tree}
-use Rattle.abb_search.proofs.search.SearchWith.tree.Goals as goal
+use Rattle.abb_search.proofs.turns.SearchWith.tree.Goals as goal
 
 pub returns-clause-stopped : goal.returns-clause-stopped
 returns-clause-stopped g c =

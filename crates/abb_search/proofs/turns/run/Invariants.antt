@@ -1,6 +1,6 @@
 use Rattle.std.proofs.Common.{◌≡◌, ◌-◌, false, length}
 use Rattle.abb_search.specs.Searched.{IsSameSearch}
-use Rattle.abb_search.proofs.search.run.Given as goal
+use Rattle.abb_search.proofs.turns.run.Given as goal
 
 abbrev pub invariant-turns : goal.invariant-turns
 invariant-turns g l = (l.search.ended ≡ false) × IsSameSearch l.fn.search l.search
