@@ -1,5 +1,5 @@
 -- What follows from a text that may be out with a status.
-use Rattle.std.proofs.Common.{◌≡◌, ◌<◌, ◌≤◌, ◌++◌, [], ◌∷◌, ℕ, List, Option, Some, None, length, refl, sym, ◌∙◌, ap, subst, arith, inl, inr, append_assoc, append-nil, suc, codes, IfSome, replicate}
+use Rattle.std.proofs.Common.{◌≡◌, ◌≤◌, ◌++◌, [], ◌∷◌, ℕ, List, Option, refl, sym, ◌∙◌, ap, subst, arith, inl, inr, append_assoc, append-nil, codes}
 use Rattle.std.specs.Io.KnownBytes.{Appends}
 use Rattle.std.proofs.KnownBytes.{Appends-trans}
 use Rattle.pns_io.specs.Outside.{HasRisen}

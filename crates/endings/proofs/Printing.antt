@@ -1,5 +1,5 @@
 -- What is out after lines of a tree text were printed.
-use Rattle.std.proofs.Common.{◌≡◌, ◌≤◌, ◌++◌, ◌∷◌, [], ℕ, List, Option, Result, Ok, Err, map, refl, sym, ap, ◌∙◌, subst, inl, inr, append_assoc, codes}
+use Rattle.std.proofs.Common.{◌≡◌, ◌≤◌, ◌++◌, ◌∷◌, [], ℕ, List, Option, Result, Ok, Err, refl, sym, ap, ◌∙◌, subst, inl, inr, append_assoc, codes}
 use Rattle.std.specs.Io.KnownBytes.{Appends}
 use Rattle.std.proofs.KnownBytes.{Appends-trans}
 use Rattle.tree_text.specs.declared.fault.PrintFault.{PrintFault}
@@ -7,7 +7,7 @@ use Rattle.pns_io.specs.Outside.{HasRisen, AppendsFront}
 use Rattle.text_rules.specs.Canonical.{joined}
 use Rattle.tree_text_rules.specs.Line.{Token}
 use Rattle.tree_text_rules.specs.Spelling as trees
-use Rattle.tree_text.specs.Prints.{Prints, FirstLines}
+use Rattle.tree_text.specs.Prints.{Prints}
 use Rattle.tree_text.specs.declared.fault.PrintFault.TheVariants as faults
 use Rattle.endings.specs.Lines.{line, text_of}
 use Rattle.endings.specs.Printed.{spelled, OneAnswer}

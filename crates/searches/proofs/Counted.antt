@@ -1,5 +1,5 @@
 -- Each branch of a whole tree has fewer children than the tree has nodes.
-use Rattle.std.proofs.Common.{◌≡◌, ◌≤◌, ◌<◌, ◌+◌, ◌^◌, ℕ, zero, suc, List, [], ◌∷◌, length, arith}
+use Rattle.std.proofs.Common.{◌≤◌, ◌<◌, ◌+◌, ◌^◌, ℕ, zero, suc, [], ◌∷◌, length, arith}
 use Rattle.tree_rules.specs.Tree as trees
 use Rattle.tree_rules.specs.Leaf as leaves
 use Rattle.tree_rules.specs.Accepted.{Tree}

@@ -1,10 +1,8 @@
 -- What a search found, and its certificate.
-use Rattle.std.proofs.Common.{◌≡◌, ◌⊎◌, ◌<◌, ◌^◌, ◌++◌, ℕ, Bool, false, List, [], ◌∷◌, Option, Some, None, Ok, length, refl, sym, ap, subst, ◌∙◌, arith, inl, inr, map}
-use Rattle.number_sets.specs.Sets.{has}
+use Rattle.std.proofs.Common.{◌≡◌, ◌<◌, ◌^◌, ℕ, false, List, [], ◌∷◌, Option, Some, None, Ok, length, refl, sym, ap, subst, ◌∙◌, arith, inl, inr}
 use Rattle.problem_rules.specs.Problem.{Problem}
 use Rattle.problem_rules.specs.Validity.{IsValid}
-use Rattle.pns_rules.specs.Shape.{Shape, shape_of}
-use Rattle.pns_rules.specs.Structure.{IsStructure, IsAllowed}
+use Rattle.pns_rules.specs.Shape.{Shape}
 use Rattle.pns_rules.specs.Ends.{IsSound}
 use Rattle.tree_rules.specs.Claim as claims
 use Rattle.tree_rules.specs.Claim.{Claim, Network, claimed_cost, ClaimPasses, IsFeasible}
@@ -13,20 +11,19 @@ use Rattle.tree_laws.specs.Laws.{AcceptedIsOptimal}
 use Rattle.branch_tree.specs.Known.{KnowsClaim, KnowsTree, KnowsTail}
 use Rattle.branch_tree.specs.Tail as tails
 use Rattle.tree_text_rules.specs.Read.{Certificate, read_text}
-use Rattle.tree_text_rules.specs.Line.{Token}
 use Rattle.tree_text_rules.specs.Spelling.{tree_text, tree_text_lines}
 use Rattle.node_looks.specs.Children.{claim_with}
 use Rattle.abb_search.specs.declared.outcome.Found.{Found}
 use Rattle.abb_search.specs.declared.outcome.Found.TheVariants as found
 use Rattle.abb_search.specs.Found.{IsFound, IsProved}
-use Rattle.endings.specs.Ending.{Tells, IsOneOf}
+use Rattle.endings.specs.Ending.{IsOneOf}
 use Rattle.endings.specs.Lines.{text_of}
 use Rattle.endings.specs.Printed.{spelled, OneAnswer}
 use Rattle.endings.specs.declared.status.Status.{Status}
 use Rattle.endings.specs.declared.status.Status.TheVariants.{Done, Spent, Past}
 use Rattle.endings.proofs.Printing.{spelled_text}
 use Rattle.searches.specs.Solve.{AreTextOf, Solves, Holds, status_of, SolveWork}
-use Rattle.searches.specs.Summary.{NoNetworkLines, SummaryWork}
+use Rattle.searches.specs.Summary.{SummaryWork}
 use Rattle.searches.specs.Found.{certificate_of, CertificateSays, FoundSays}
 
 -- nothing is decided at the first node

@@ -1,4 +1,4 @@
-use Rattle.std.proofs.Common.{◌≡◌, ◌∙◌, Result, IfOk, subst, inl, inr}
+use Rattle.std.proofs.Common.{◌≡◌, ◌∙◌, inl, inr}
 use Rattle.endings.specs.Lines.{text_of}
 use Rattle.endings.specs.Ending.{Only, OrMemory}
 use Rattle.endings.specs.declared.status.Status.TheVariants.{Done}

@@ -1,11 +1,10 @@
-use Rattle.std.proofs.Common.{◌≡◌, ◌∙◌, ℕ, List, Some, sym}
+use Rattle.std.proofs.Common.{◌∙◌, sym}
 use Rattle.tree_text_rules.specs.Read.{Certificate}
 use Rattle.endings.specs.Ending.{Tells}
-use Rattle.endings.specs.declared.status.Status.{Status}
 use Rattle.endings.specs.declared.status.Status.TheVariants.{Memory}
 use Rattle.endings.proofs.Ending.{Ends-map, Tells-map, Tells-memory, only_in}
-use Rattle.searches.specs.Found.{certificate_of, CertificateSays, FoundSays}
-use Rattle.searches.proofs.FoundTexts.{CanPrint, can_print}
+use Rattle.searches.specs.Found.{CertificateSays, FoundSays}
+use Rattle.searches.proofs.FoundTexts.{can_print}
 use Rattle.searches.proofs.certificate.say_found.Goals as goal
 
 pub say-requires : goal.say-requires

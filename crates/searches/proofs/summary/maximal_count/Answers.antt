@@ -1,4 +1,3 @@
-use Rattle.std.proofs.Common.{◌≡◌}
 use Rattle.pgraph.specs.Tables.{shape}
 use Rattle.searches.proofs.Summaries.{counts, none_refuted}
 use Rattle.searches.proofs.summary.maximal_count.Goals as goal

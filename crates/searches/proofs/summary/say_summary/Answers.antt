@@ -1,6 +1,5 @@
-use Rattle.std.proofs.Common.{◌≡◌, ℕ, List, refl, ap, length}
+use Rattle.std.proofs.Common.{ℕ, List, refl, ap, length}
 use Rattle.number_sets.specs.Sets.{has}
-use Rattle.tree_rules.specs.Claim as claims
 use Rattle.endings.specs.Lines.{text_of}
 use Rattle.endings.specs.Ending.{Tells}
 use Rattle.endings.specs.declared.status.Status.TheVariants.{Done}

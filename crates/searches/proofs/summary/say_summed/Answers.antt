@@ -1,14 +1,12 @@
-use Rattle.std.proofs.Common.{◌≡◌, ◌∙◌, ℕ, List, sym, subst, inl}
-use Rattle.problem_rules.specs.Problem.{Problem}
+use Rattle.std.proofs.Common.{sym, subst, inl}
 use Rattle.tree_rules.specs.Claim as claims
 use Rattle.tree_rules.specs.Claim.{Network}
-use Rattle.tree_rules.specs.Accepted.{Tree, first_node}
+use Rattle.tree_rules.specs.Accepted.{first_node}
 use Rattle.endings.specs.Ending.{Tells}
 use Rattle.endings.specs.declared.status.Status.{Status}
 use Rattle.endings.specs.declared.status.Status.TheVariants.{Memory}
 use Rattle.endings.proofs.Ending.{Ends-map, Tells-map, Tells-memory, only_in}
 use Rattle.abb_search.specs.declared.outcome.Found.{Found}
-use Rattle.abb_search.specs.declared.outcome.Found.TheVariants.{Solved}
 use Rattle.abb_search.specs.Found.{IsFound, IsProved}
 use Rattle.searches.specs.Found.{FoundSays}
 use Rattle.searches.specs.Summary.{SummarySays, SummaryWork}
