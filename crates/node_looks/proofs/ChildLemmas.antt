@@ -15,7 +15,7 @@ use Rattle.pns_rules.proofs.ProperLemmas.{proper_if_valid}
 use Rattle.frac128.specs.declared.fraction.Frac.{Frac}
 use Rattle.tree_rules.specs.Tree.{leaf, after_all}
 use Rattle.tree_rules.specs.Claim as claims
-use Rattle.tree_rules.specs.Claim.{CostOver, claimed_cost, ClaimPasses}
+use Rattle.tree_rules.specs.Claim.{CostOver, claimed_cost}
 use Rattle.tree_rules.specs.Leaf.{Leaf, untried, LeafPasses}
 use Rattle.search_laws.proofs.ValueLemmas.{children_are_dearer}
 use Rattle.search_laws.proofs.SoundLemmas.{child_is_sound}

@@ -1,5 +1,5 @@
 //! Looks at nodes of a small problem, by an evaluator that knows no value.
-ghost use Rattle.std.specs.Prelude.{◌≡◌, ◌<◌, IfOk};
+ghost use Rattle.std.specs.Prelude.{◌≡◌};
 ghost use Rattle.pns_rules.specs.Shape.{shape_of};
 ghost use Rattle.pns_rules.specs.Ends.{IsSound};
 ghost use Rattle.pgraph.specs.Tables.{shape};
