@@ -19,6 +19,8 @@ mod hand;
 mod outcome;
 mod root;
 mod step;
+#[cfg(test)]
+mod tests;
 mod turns;
 mod whole;
 

@@ -38,13 +38,7 @@ impl<'a> SearchWith<'a, FlowEvaluator> {
 }
 
 /// Searches the structures of the family of a node for one whose flows are cheapest: the loop over the turns of a [`Search`].
-pub fn search(
-    alloc: Global,
-    problem: &Problem,
-    graph: &Graph,
-    start: Node,
-    budget: u32,
-) -> Found
+pub fn search(alloc: Global, problem: &Problem, graph: &Graph, start: Node, budget: u32) -> Found
     requires graph { shape graph.now ≡ shape_of problem.now }
     requires sound { IsSound (shape_of problem.now) (node_of start) }
     requires some { 1 ≤ budget }
