@@ -1,19 +1,18 @@
 -- What `solve` prints with status 0 is accepted by `check`.
-use Rattle.std.proofs.Common.{◌≡◌, ◌⊎◌, ◌≤◌, ◌<◌, [], ◌∷◌, ℕ, false, List, Option, Some, Result, Ok, Err, IfSome, length, codes, refl, sym, ◌∙◌, ap, subst, arith, inl, inr}
+use Rattle.std.proofs.Common.{◌≡◌, ◌≤◌, ℕ, false, List, Option, Some, Result, Ok, Err, IfSome, length, refl, sym, ◌∙◌, subst, arith, inl, inr}
 use Rattle.problem_rules.specs.Problem.{Problem}
-use Rattle.text_rules.specs.Value as texts
 use Rattle.text_rules.specs.Fault.{Fault}
 use Rattle.tree_rules.specs.Claim.{Claim}
 use Rattle.tree_rules.specs.Accepted.{Tree, first_node, IsAccepted}
 use Rattle.tree_laws.specs.Laws.{PassingClaimHasNoFault, PassingTreeHasNoFault}
 use Rattle.branch_tree.specs.Tail.{Tail, whole, spent, past}
 use Rattle.tree_text_rules.specs.Read as trees
-use Rattle.searches.specs.Solve.{Holds, AreTextOf, status_of}
+use Rattle.searches.specs.Solve.{Holds, status_of}
 use Rattle.endings.specs.Lines.{text_of}
 use Rattle.endings.specs.declared.status.Status.{Status}
 use Rattle.endings.specs.declared.status.Status.TheVariants.{Done, Refused, BadProblem, BadTree, TooLong}
 use Rattle.studio.specs.Reading.{AreHeld, FileFault, GivesProblem}
-use Rattle.studio.specs.TreeFile.{TreeFault, TreeSays, GivesTree, tree_limit}
+use Rattle.studio.specs.TreeFile.{TreeSays, tree_limit}
 use Rattle.studio.specs.Check.{CheckWork}
 use Rattle.studio.specs.SolveLaws.{IsAcceptedOrLong, SolvedIsAccepted}
 

@@ -1,5 +1,5 @@
 -- What the commands on a file and a second file say, from what is said of each.
-use Rattle.std.proofs.Common.{◌≡◌, ◌<◌, ◌≤◌, ◌⊎◌, ℕ, List, Option, inl, inr, subst, sym, refl}
+use Rattle.std.proofs.Common.{◌≡◌, ◌≤◌, ◌⊎◌, ℕ, List, Option, inl, inr, subst, sym}
 use Rattle.pns_io.specs.Outside.{HasRisen}
 use Rattle.problem_rules.specs.Problem.{Problem}
 use Rattle.studio.specs.Reading.{AreHeld, LongFile, IsLong, FileFaults, GivesProblem, OnFile, OnSecond}

@@ -6,11 +6,11 @@ use Rattle.pgraph.specs.declared.verdict.Verdict.{Verdict}
 use Rattle.pgraph.specs.declared.verdict.Verdict.TheVariants.{Meets, Breaks}
 use Rattle.pns_io.specs.Outside.{HasRisen}
 use Rattle.studio.specs.Command.{Command, Max, Axioms, Flows, Listing, Make, Migrate, Editing, Undoing, Checking, Solving, Trial, command_of, IsFileOf, IsFileWord}
-use Rattle.studio.specs.Reading.{AreHeld, GivesProblem, FileFault, file_limit}
+use Rattle.studio.specs.Reading.{AreHeld, FileFault, file_limit}
 use Rattle.studio.specs.Max.{MaxWork}
 use Rattle.studio.specs.Listing.{ListingWork}
 use Rattle.studio.specs.Migrate.{MigrateWork}
-use Rattle.studio.specs.Flows.{FlowsWork, FlowNamesSay, UnitsSay, FlowsSay}
+use Rattle.studio.specs.Flows.{FlowNamesSay, UnitsSay, FlowsSay}
 use Rattle.studio.specs.Script.{ScriptFault, OnScript}
 use Rattle.studio.specs.Edits.{EditWork, UndoWork}
 use Rattle.tree_rules.specs.Claim.{Claim}

@@ -5,7 +5,7 @@ use Rattle.std.specs.Str.{bytes_eq}
 use Rattle.std.proofs.lemmas.Bool.{leb-true}
 use Rattle.text_rules.specs.Amount.{number_of}
 use Rattle.studio.specs.Numeral.{is_numeral, number_within}
-use Rattle.studio.specs.Command.{Command, Max, Axioms, Flows, Listing, Make, Migrate, Editing, Undoing, Checking, Solving, Trial, command_of, on_file, made_by, tried_by, unit_names_of, count_of, seed_of, unit_count_of, years_of, budget_of, is_file_word, AreWithin}
+use Rattle.studio.specs.Command.{Command, Max, Axioms, Flows, Listing, Migrate, Editing, Undoing, Checking, Solving, command_of, on_file, made_by, tried_by, unit_names_of, count_of, seed_of, unit_count_of, years_of, budget_of, is_file_word, AreWithin}
 
 numeral_within : (least most : ℕ) (word : List ℕ) → IfSome (number_within least most word) (λ n. (least ≤ n) × (n ≤ most))
 numeral_within least most word = at (is_numeral word) (nat_le least (number_of word)) (nat_le (number_of word) most) refl refl

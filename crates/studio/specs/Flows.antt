@@ -1,12 +1,11 @@
 -- `flows FILE UNITS`: where the units are a solution structure, allowed or not, flows of least cost for them with multipliers
 -- that prove it, or multipliers that refute all flows, or where a number is out of range on the way; else the broken axiom, as
 -- `axioms` tells it. The lines are those of a tree text.
-use Rattle.std.specs.Prelude.{◌≡◌, ◌⊎◌, ◌++◌, ℕ, ℤ, List, [], ◌∷◌, Option, Some, None, length, map}
+use Rattle.std.specs.Prelude.{◌≡◌, ◌⊎◌, ◌++◌, ℕ, ℤ, List, [], ◌∷◌, Option, Some, None, length}
 use Rattle.number_sets.specs.Sets.{has, IsSet}
 use Rattle.problem_rules.specs.Problem.{Problem}
 use Rattle.pns_rules.specs.Shape.{shape_of}
 use Rattle.pgraph.specs.Verdict.{Judges}
-use Rattle.pgraph.specs.declared.verdict.Axiom.{Axiom}
 use Rattle.pgraph.specs.declared.verdict.Axiom.TheVariants.{S3}
 use Rattle.pgraph.specs.declared.verdict.Verdict.{Verdict}
 use Rattle.pgraph.specs.declared.verdict.Verdict.TheVariants.{Meets, Breaks}

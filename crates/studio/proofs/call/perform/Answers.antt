@@ -1,5 +1,5 @@
 use Rattle.std.proofs.Common.{sym, ap, subst, ◌≤◌, ℕ, List}
-use Rattle.studio.specs.Command.{Command, Max, Axioms, Flows, Listing, Make, Migrate, Editing, Undoing, Checking, Solving, AreWithin}
+use Rattle.studio.specs.Command.{Command, Max, Axioms, Flows, Listing, Migrate, Editing, Undoing, Checking, Solving, AreWithin}
 use Rattle.studio.specs.View.{command_view}
 use Rattle.endings.specs.Ending.{Shelves}
 use Rattle.studio.specs.Answers.{CommandSays}

@@ -1,4 +1,4 @@
-use Rattle.std.proofs.Common.{◌≡◌, refl, ap, inl, inr, ℕ, List}
+use Rattle.std.proofs.Common.{◌≡◌, ap, inl, inr, ℕ, List}
 use Rattle.branch_tree.specs.View.{claim_of}
 use Rattle.studio.specs.TreeFile.{OnTree, TreeFault, TreeSays}
 use Rattle.studio.specs.Check.{CheckWork}

@@ -1,10 +1,9 @@
 use Rattle.std.proofs.Common.{◌≡◌, IfOk, [], refl, ap, subst, inl, inr, ℕ, List}
 use Rattle.problem_rules.specs.Problem.{Problem}
-use Rattle.edit_rules.specs.Edit.{Script}
-use Rattle.edit_rules.specs.Script.{applied, undoing}
+use Rattle.edit_rules.specs.Script.{applied}
 use Rattle.text_rules.specs.Canonical.{canonical, canonical_lines}
 use Rattle.endings.specs.Lines.{text_of}
-use Rattle.studio.specs.Script.{OnScript, ScriptFault, ScriptSays, IsEdited, printed_lines}
+use Rattle.studio.specs.Script.{OnScript, ScriptFault, ScriptSays, IsEdited}
 use Rattle.studio.specs.Edits.{EditWork}
 use Rattle.endings.specs.Ending.{Shelves, Says}
 use Rattle.endings.specs.declared.status.Status.{Status}

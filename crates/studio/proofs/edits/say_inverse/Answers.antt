@@ -1,7 +1,6 @@
 use Rattle.std.proofs.Common.{◌≡◌, IfOk, [], refl, ap, subst, inl, inr, ℕ, List}
-use Rattle.problem_rules.specs.Problem.{Problem}
 use Rattle.edit_rules.specs.Edit.{Script}
-use Rattle.edit_rules.specs.Script.{applied, undoing}
+use Rattle.edit_rules.specs.Script.{undoing}
 use Rattle.script_rules.specs.Printed.{script_text}
 use Rattle.endings.specs.Lines.{text_of}
 use Rattle.studio.specs.Script.{OnScript, ScriptFault, ScriptSays, IsEdited, printed_lines}

@@ -1,4 +1,4 @@
-use Rattle.std.proofs.Common.{◌≡◌, ◌≤◌, ◌++◌, ◌∷◌, [], refl, inl, List, ℕ, codes}
+use Rattle.std.proofs.Common.{◌≡◌, ◌++◌, ◌∷◌, [], refl, inl, List, ℕ, codes}
 use Rattle.endings.specs.Lines.{line}
 use Rattle.studio.specs.Reading.{LongFile}
 use Rattle.endings.specs.Ending.{Shelves, Says}

@@ -1,4 +1,4 @@
-use Rattle.std.proofs.Common.{◌≡◌, ◌++◌, ◌∷◌, [], ℕ, ℤ, List, refl, sym, subst, inl, inr, SFits, map}
+use Rattle.std.proofs.Common.{◌++◌, ◌∷◌, [], List, sym, subst, inl, inr, SFits}
 use Rattle.std.specs.Int.{w128}
 use Rattle.std.proofs.lemmas.Int.{to_z-of_z}
 use Rattle.int_rows.proofs.RangeLemmas.{fits_from_range}
@@ -7,8 +7,6 @@ use Rattle.tree_rules.specs.Leaf as leaves
 use Rattle.tree_rules.specs.Claim as claims
 use Rattle.tree_text_rules.specs.Line.{Token}
 use Rattle.tree_text_rules.specs.Spelling.{network_lines, claim_lines, end_line, place_lines}
-use Rattle.tree_text.specs.Prints.{Prints}
-use Rattle.structure_flows.specs.declared.answer.StructureFlows.{StructureFlows}
 use Rattle.structure_flows.specs.Answers.{AnswersFor, IsLeastFor, IsPastFor}
 use Rattle.structure_flows.specs.Flows.{HasNoFlows}
 use Rattle.studio.specs.Flows.{FlowsSay}

@@ -1,4 +1,4 @@
-use Rattle.std.proofs.Common.{◌≡◌, ◌≤◌, ◌++◌, ◌∷◌, [], Err, refl, sym, ◌∙◌, inl, List, ℕ, codes, ap, arith}
+use Rattle.std.proofs.Common.{◌≡◌, ◌∷◌, [], Err, refl, sym, ◌∙◌, inl, List, ℕ, codes, ap}
 use Rattle.text_rules.specs.Value.{read_text}
 use Rattle.endings.specs.Lines.{line}
 use Rattle.studio.specs.Reading.{FileFault, FileFaults, fault_line}

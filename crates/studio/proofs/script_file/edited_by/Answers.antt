@@ -1,5 +1,4 @@
-use Rattle.std.proofs.Common.{◌≡◌, ◌≤◌, ◌<◌, inl, inr, arith}
-use Rattle.studio.specs.Script.{IsEdited, HasEditFault}
+use Rattle.std.proofs.Common.{arith}
 use Rattle.studio.proofs.EditCounts.{few_edits}
 use Rattle.studio.proofs.script_file.edited_by.Goals as goal
 

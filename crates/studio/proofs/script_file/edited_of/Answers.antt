@@ -1,4 +1,4 @@
-use Rattle.std.proofs.Common.{◌≡◌, ◌≤◌, ◌++◌, ◌∷◌, [], Err, refl, sym, ◌∙◌, inl, List, ℕ, codes, ap, subst, arith}
+use Rattle.std.proofs.Common.{◌≡◌, ◌∷◌, [], refl, inl, List, ℕ, codes, ap, subst}
 use Rattle.endings.specs.Lines.{line}
 use Rattle.studio.specs.Script.{ScriptFault, ScriptFaults, HasEditFault, edit_fault_line}
 use Rattle.endings.specs.Ending.{Shelves, Says}

@@ -1,4 +1,4 @@
-use Rattle.std.proofs.Common.{◌≡◌, ◌++◌, ◌∷◌, [], Ok, Err, refl, sym, ◌∙◌, inl, List, ℕ, codes, ap, subst}
+use Rattle.std.proofs.Common.{◌≡◌, ◌∷◌, [], Ok, Err, refl, sym, ◌∙◌, inl, List, ℕ, codes, ap}
 use Rattle.branch_tree.specs.View.{claim_of, tail_of}
 use Rattle.tree_text_rules.specs.Read.{read_text}
 use Rattle.endings.specs.Lines.{line}

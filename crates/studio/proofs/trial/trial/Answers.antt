@@ -1,9 +1,8 @@
-use Rattle.std.proofs.Common.{◌≡◌, ℕ, List, subst}
+use Rattle.std.proofs.Common.{subst}
 use Rattle.problem_rules.specs.Problem.{Problem}
 use Rattle.searches.specs.Summary.{SummaryWork}
 use Rattle.studio.specs.Trial.{TrialWork}
 use Rattle.endings.specs.Ending.{Tells}
-use Rattle.endings.specs.declared.status.Status.{Status}
 use Rattle.endings.specs.declared.status.Status.TheVariants.{Memory}
 use Rattle.endings.proofs.Ending.{Ends-map, Tells-map, Tells-memory, only_in}
 use Rattle.studio.proofs.trial.trial.Goals as goal
