@@ -86,9 +86,21 @@ fn flows_of_units(rt: HostRuntime) -> Result<(), Fail> {
 #[test]
 fn places_past_the_range(rt: HostRuntime) -> Result<(), Fail> {
     for (file, words, text) in [
-        (SOLD, "flows a.pns U1", "nonbasic x:U1\nplace entry s:U1 x:U1 cost right right\n"),
-        (SIDE_BY_SIDE, "flows a.pns U1,U2,U3", "nonbasic t:P1 t:P2 t:P3\nplace flow U3 lcm\n"),
-        (OVER_OTHERS, "flows a.pns U1,U2,U3", "nonbasic t:P1 t:P2 t:P3\nplace flow U1 total\n"),
+        (
+            SOLD,
+            "flows a.pns U1",
+            "nonbasic x:U1\nplace entry s:U1 x:U1 cost right right\n",
+        ),
+        (
+            SIDE_BY_SIDE,
+            "flows a.pns U1,U2,U3",
+            "nonbasic t:P1 t:P2 t:P3\nplace flow U3 lcm\n",
+        ),
+        (
+            OVER_OTHERS,
+            "flows a.pns U1,U2,U3",
+            "nonbasic t:P1 t:P2 t:P3\nplace flow U1 total\n",
+        ),
         (DEAR, "flows a.pns U1", "nonbasic t:P1\nplace cost 0\n"),
     ] {
         let (status, out) = run(rt.alloc(), words, file.as_bytes(), None, None)?;

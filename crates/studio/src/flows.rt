@@ -79,6 +79,7 @@ fn say_answer<K: Sink>(
 {
     match answer {
         StructureFlows::Least { network, bound } => {
+            bound.are_in_range();
             let bound = End::Bound(bound);
             let printed = print_least(alloc, problem, &network, &bound, out);
             say_printed(out, printed, Status::Done)

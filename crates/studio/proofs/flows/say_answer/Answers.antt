@@ -1,7 +1,4 @@
-use Rattle.std.proofs.Common.{◌++◌, ◌∷◌, [], List, sym, subst, inl, inr, SFits}
-use Rattle.std.specs.Int.{w128}
-use Rattle.std.proofs.lemmas.Int.{to_z-of_z}
-use Rattle.int_rows.proofs.RangeLemmas.{fits_from_range}
+use Rattle.std.proofs.Common.{◌++◌, ◌∷◌, [], List, sym, subst, inl, inr}
 use Rattle.tree_rules.specs.Tree as trees
 use Rattle.tree_rules.specs.Leaf as leaves
 use Rattle.tree_rules.specs.Claim as claims
@@ -20,11 +17,11 @@ pub returns-in-Least : goal.returns-in-Least
 returns-in-Least g c =
     let p = c.args.problem.now in
     let us = c.args.set in
-    let a : IsLeastFor p us c.in-Least.network c.in-Least.d c.in-Least.ys = subst (AnswersFor p us) c.in-Least.is c.requires.answer in
-    let fd : SFits w128 c.in-Least.d = fits_from_range _ a.d_in_range in
-    let lines : List (List Token) = network_lines p c.in-Least.network ++ end_line p (trees.leaf (leaves.bounded c.in-Least.d c.in-Least.ys)) ∷ [] in
-    Ends-map _ _ _ _ _ _ _ (Tells-map (OneAnswer Done lines) (FlowsSay p us) (λ s ls h. subst (λ (t : Status). FlowsSay p us t ls) (sym h.0) (inl (c.in-Least.network, c.in-Least.d, c.in-Least.ys, a.units_are, a.flows, h.1)))) (λ r. r)
-    (c.say_printed.ensures lines _ _ c.print_least-printed.ensures.later (simp to_z-of_z at c.print_least-printed.ensures.prints))
+    let b = c.in-Least.bound in
+    let a : IsLeastFor p us c.in-Least.network b.d b.ys = subst (AnswersFor p us) c.in-Least.is c.requires.answer in
+    let lines : List (List Token) = network_lines p c.in-Least.network ++ end_line p (trees.leaf (leaves.bounded b.d b.ys)) ∷ [] in
+    Ends-map _ _ _ _ _ _ _ (Tells-map (OneAnswer Done lines) (FlowsSay p us) (λ s ls h. subst (λ (t : Status). FlowsSay p us t ls) (sym h.0) (inl (c.in-Least.network, b.d, b.ys, a.units_are, a.flows, h.1)))) (λ r. r)
+    (c.say_printed.ensures lines _ _ c.print_least-printed.ensures.later c.print_least-printed.ensures.prints)
 
 pub returns-in-Refuted : goal.returns-in-Refuted
 returns-in-Refuted g c =
