@@ -1,4 +1,4 @@
-# `make run` prints the maximal structure of the shipped problem, `make check` proves and tries everything, and
+# `make run` prints a least-cost network of the shipped problem with the tree that proves it, `make check` proves and tries everything, and
 # `make install PREFIX=DIR` puts the proved program in place as DIR/bin/pns. The first build proves the program and all below it,
 # which takes minutes; what is proved is kept.
 RT ?= rt
@@ -8,7 +8,7 @@ SOURCES := $(shell find crates -name out -prune -o \( -name '*.rt' -o -name '*.a
 .PHONY: run check install
 
 run: crates/pns/out/pns
-	cd crates/pns/data && ../out/pns max a.pns
+	cd crates/pns/data && ../out/pns solve a.pns 100
 
 # The program ends with the status of its call, so rt's own run of it is on the shipped problem.
 crates/pns/out/pns: crates.txt $(SOURCES)
