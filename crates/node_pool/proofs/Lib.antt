@@ -2,5 +2,5 @@ pub mod Children
 pub mod Linked
 pub mod Places
 pub mod Order
-pub mod OneList
+pub mod Marks
 pub mod Sound

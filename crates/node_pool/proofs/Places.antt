@@ -1,19 +1,14 @@
--- The first leaf that passes a test which all leaves behind it pass too, sought from any leaf in either direction.
-use Rattle.std.proofs.Common.{◌≡◌, ℕ, suc, ◌<◌, ◌==◌, Bool, true, false, cond, List, [], ◌∷◌, length, Option, Some, None, refl, sym, ap, ◌∙◌, subst, inl, inr, ◌⊎◌, eqb-true, eq-eqb, ne_eqb, arith}
+-- The first leaf that passes a test which all leaves behind it pass too, sought from a leaf that does not pass.
+use Rattle.std.proofs.Common.{◌≡◌, ℕ, suc, ◌<◌, ◌==◌, Bool, true, false, cond, List, [], ◌∷◌, length, Some, None, refl, sym, ap, ◌∙◌, subst, inl, inr, eqb-true, eq-eqb, ne_eqb, arith}
 use Rattle.std.proofs.lemmas.Bool.{or_cases, both_ways, false_from_ne_true, cases_eq}
 use Rattle.std.specs.List.{find}
-use Rattle.link_lists.specs.Lists.{has, first, following, preceding, preceding_from, place_in, IsOnce}
+use Rattle.link_lists.specs.Lists.{has, first, following, place_in, IsOnce}
 use Rattle.link_lists.proofs.Cells.{has-here, has-later}
 
 -- once a leaf passes, each behind it passes
 abbrev pub StaysTrue : (ℕ → Bool) → List ℕ → Type 0
 StaysTrue t [] = Unit {0}
 StaysTrue t (x ∷ xs) = (t x ≡ true → (y : ℕ) → has xs y ≡ true → t y ≡ true) × StaysTrue t xs
-
--- the leaf, if there is one, does not pass
-abbrev pub Fails : (ℕ → Bool) → Option ℕ → Type 0
-Fails t None = Unit {0}
-Fails t (Some x) = t x ≡ false
 
 has-rest : (x c : ℕ) (xs : List ℕ) → (x ≡ c → ⊥) → has (x ∷ xs) c ≡ true → has xs c ≡ true
 has-rest x c xs ne h = elim (or_cases (x == c) (has xs c) h) [ inl s ↦ absurd (ne (eqb-true x c s)) | inr t ↦ t ]
@@ -70,54 +65,7 @@ place_following (x ∷ xs) c d o h e = elim (cases_eq x c) [
     first_place [] d e = cc
     first_place (y ∷ ys) d e = let s : y ≡ d = cc in place_here y ys d s
 
--- the leaf before c is the one given, or has a smaller place
-before_place : (o : Option ℕ) (xs : List ℕ) (c p : ℕ) → IsOnce xs → has xs c ≡ true → preceding_from o c xs ≡ Some p → (o ≡ Some p) ⊎ ((has xs p ≡ true) × (place_in p xs < place_in c xs))
-before_place o [] c p once h e = absurd (both_ways false refl h)
-before_place o (x ∷ xs) c p once h e = elim (cases_eq x c) [
-  | inl s ↦ inl (sym (ap (λ b. cond b o (preceding_from (Some x) c xs)) (eq-eqb x c s)) ∙ e)
-  | inr ne ↦ elim (before_place (Some x) xs c p once.1 (has-rest x c xs ne h) (sym (ap (λ b. cond b o (preceding_from (Some x) c xs)) (ne_eqb x c ne)) ∙ e)) [
-    | inl s ↦ let t : x ≡ p = cc in inr (subst (λ k. has (x ∷ xs) k ≡ true) t (has-here x xs), (let a = place_here x xs p t in let b = place_later x xs c ne in omega arith))
-    | inr q ↦ inr (has-later x p xs q.0, (let a = place_later x xs p (apart x p xs once.0 q.0) in let b = place_later x xs c ne in let lt = q.1 in omega arith))
-  ]
-]
-
-pub preceding_place : (xs : List ℕ) (c p : ℕ) → IsOnce xs → has xs c ≡ true → preceding c xs ≡ Some p → (has xs p ≡ true) × (place_in p xs < place_in c xs)
-preceding_place xs c p o h e = elim (before_place None xs c p o h e) [ inl s ↦ absurd cc | inr q ↦ q ]
-
 -- ---- the first leaf that passes
-
--- where something stands before, the leaf before c is it or a leaf of the list
-some_before : (x : ℕ) (xs : List ℕ) (c : ℕ) → has xs c ≡ true → (r : ℕ) × (preceding_from (Some x) c xs ≡ Some r) × ((r ≡ x) ⊎ (has xs r ≡ true))
-some_before x [] c h = absurd (both_ways false refl h)
-some_before x (y ∷ ys) c h = elim (cases_eq y c) [
-  | inl s ↦ (x, ap (λ b. cond b (Some x) (preceding_from (Some y) c ys)) (eq-eqb y c s), inl refl)
-  | inr ne ↦
-      let r = some_before y ys c (has-rest y c ys ne h) in
-      (r.0, ap (λ b. cond b (Some x) (preceding_from (Some y) c ys)) (ne_eqb y c ne) ∙ r.1, inr (elim r.2 [ inl s ↦ subst (λ k. has (y ∷ ys) k ≡ true) (sym s) (has-here y ys) | inr t ↦ has-later y r.0 ys t ]))
-]
-
-found_from : (t : ℕ → Bool) (o : Option ℕ) (xs : List ℕ) (c : ℕ) → StaysTrue t xs → has xs c ≡ true → t c ≡ true → Fails t (preceding_from o c xs) → find t xs ≡ Some c
-found_from t o [] c m h p f = absurd (both_ways false refl h)
-found_from t o (x ∷ xs) c m h p f = elim (cases_eq x c) [
-  | inl s ↦ ap (λ b. cond b (Some x) (find t xs)) (ap t s ∙ p) ∙ ap Some s
-  | inr ne ↦ ap (λ b. cond b (Some x) (find t xs)) (low ne) ∙ found_from t (Some x) xs c m.1 (has-rest x c xs ne h) p (later ne)
-]
-  where
-    later : (x ≡ c → ⊥) → Fails t (preceding_from (Some x) c xs)
-    later ne = subst (Fails t) (ap (λ b. cond b o (preceding_from (Some x) c xs)) (ne_eqb x c ne)) f
-
-    low : (x ≡ c → ⊥) → t x ≡ false
-    low ne =
-        let r = some_before x xs c (has-rest x c xs ne h) in
-        let g : t r.0 ≡ false = subst (Fails t) r.1 (later ne) in
-        elim r.2 [
-          | inl s ↦ ap t (sym s) ∙ g
-          | inr q ↦ false_from_ne_true (t x) (λ high. both_ways (t r.0) g (m.0 high r.0 q))
-        ]
-
--- going back, at a leaf that passes: the one before does not
-pub found_back : (t : ℕ → Bool) (xs : List ℕ) (c : ℕ) → StaysTrue t xs → has xs c ≡ true → t c ≡ true → Fails t (preceding c xs) → find t xs ≡ Some c
-found_back t xs c m h p f = found_from t None xs c m h p f
 
 -- going on, from a leaf that does not pass: the one behind does
 pub found_on : (t : ℕ → Bool) (xs : List ℕ) (c d : ℕ) → StaysTrue t xs → has xs c ≡ true → t c ≡ false → following c xs ≡ Some d → t d ≡ true → find t xs ≡ Some d

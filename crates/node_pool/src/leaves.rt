@@ -1,11 +1,12 @@
 //! `Leaves`: the open leaves in rising order of value.
 
-ghost use Rattle.std.specs.Prelude.{◌≡◌, [], ℕ, true, false, Some, ◌<◌, ◌+◌, ◌^◌, length, IfOk, OnErr};
+ghost use Rattle.std.specs.Prelude.{◌≡◌, [], ℕ, true, false, Some, ◌<◌, ◌+◌, ◌^◌, length, slice_set, IfOk, OnErr};
 ghost use Rattle.std.specs.List.{find};
 ghost use Rattle.frac128.specs.Order.{fraction_cmp};
 ghost use Rattle.link_lists.specs.Lists.{first, has, row, without, IsListed};
 ghost use Rattle.node_pool.specs.Order.{OpenLeaves, is_above, put_before, IsRising};
 
+use crate::guide::Guide;
 use frac128::Frac;
 use link_lists::Lists;
 use std::alloc::{AllocError, Global};
@@ -17,8 +18,9 @@ pub struct Leaves {
     // List 0 has the leaves.
     lists: Lists,
     room: u32,
-    // A leaf near which the next one is likely to go: the last one that was put, or a neighbour of it.
-    near: Option<u32>,
+    // Of each node whether it is an open leaf.
+    marks: Vec<bool>,
+    guide: Guide,
 }
 
 impl Model for Leaves {
@@ -31,7 +33,7 @@ impl Model for Leaves {
 
     ghost view = { λ s. record { leaves = row s.lists.lists 0; room = s.room } };
 
-    ghost invariant = { λ s. IsOneList s.lists s.room s.near };
+    ghost invariant = { λ s. IsOneList s.lists s.room s.marks.items };
 }
 
 /// Whether the leaf has a greater value than `value`.
@@ -40,25 +42,6 @@ fn is_higher(values: &Vec<Frac>, value: &Frac, leaf: u32) -> bool
     ensures { result ≡ is_above values.now.items value.now leaf }
 {
     value.cmp(&values[leaf as usize]).is_lt()
-}
-
-/// From a leaf of greater value back to the first one.
-fn back_to_first(lists: &Lists, values: &Vec<Frac>, value: &Frac, leaf: u32) -> u32
-    requires listed { has (row lists.now.lists 0) leaf ≡ true }
-    requires higher { is_above values.now.items value.now leaf ≡ true }
-    requires known { (c : ℕ) → has (row lists.now.lists 0) c ≡ true → c < length values.now.items }
-    requires rising { IsRising values.now.items (row lists.now.lists 0) }
-    ensures { find (is_above values.now.items value.now) (row lists.now.lists 0) ≡ Some result }
-{
-    lists.are_apart();
-    let mut leaf = leaf;
-    while let Some(before) = lists.prev(leaf) {
-        if !is_higher(values, value, before) {
-            return leaf;
-        }
-        leaf = before;
-    }
-    leaf
 }
 
 /// From a leaf that has no greater value on to the first one that has.
@@ -80,33 +63,11 @@ fn on_to_first(lists: &Lists, values: &Vec<Frac>, value: &Frac, leaf: u32) -> Op
     None
 }
 
-/// The leaf behind this one, or the one before it.
-fn neighbour(lists: &Lists, leaf: u32) -> Option<u32>
-    requires { has (row lists.now.lists 0) leaf ≡ true }
-    ensures { (n : ℕ) → result ≡ Some n → has (without leaf (row lists.now.lists 0)) n ≡ true }
+fn mark(marks: &mut Vec<bool>, leaf: u32, is_open: bool)
+    ensures { marks.new.items ≡ slice_set marks.old.items leaf is_open }
 {
-    lists.are_apart();
-    match lists.next(leaf) {
-        Some(after) => Some(after),
-        None => lists.prev(leaf),
-    }
-}
-
-/// The leaf to seek from when this leaf is gone.
-fn near_without(lists: &Lists, near: Option<u32>, leaf: u32) -> Option<u32>
-    requires leaf { has (row lists.now.lists 0) leaf ≡ true }
-    requires near { (n : ℕ) → near ≡ Some n → has (row lists.now.lists 0) n ≡ true }
-    ensures { (n : ℕ) → result ≡ Some n → has (without leaf (row lists.now.lists 0)) n ≡ true }
-{
-    match near {
-        None => None,
-        Some(near) => {
-            if near == leaf {
-                neighbour(lists, leaf)
-            } else {
-                Some(near)
-            }
-        }
+    if (leaf as usize) < marks.len() {
+        marks[leaf as usize] = is_open;
     }
 }
 
@@ -117,7 +78,8 @@ impl Leaves {
         Ok(Leaves {
             lists: Lists::open(alloc, 1, room)?,
             room,
-            near: None,
+            marks: vec![in alloc; false; room as usize]?,
+            guide: Guide::with_room(alloc, room)?,
         })
     }
 
@@ -126,6 +88,8 @@ impl Leaves {
         ensures more { IfOk result (λ _. self.new ≡ record { leaves = self.old.leaves; room = self.old.room + more }) }
         ensures same { OnErr result (self.new ≡ self.old) }
     {
+        self.guide.grow(self.room + more)?;
+        self.marks.resize((self.room + more) as usize, false)?;
         self.lists.grow(more)?;
         self.room += more;
         Ok(())
@@ -143,19 +107,28 @@ impl Leaves {
         self.lists.first(0)
     }
 
-    /// The first leaf of greater value. It is sought from the leaf that was put last, in the direction of the value.
+    /// A leaf that has no greater value, as close as the guide leads to the first one that has.
+    fn near(&self, values: &Vec<Frac>, value: &Frac) -> Option<u32>
+        requires known { (c : ℕ) → has self.now.leaves c ≡ true → c < length values.now.items }
+        ensures listed { (leaf : ℕ) → result ≡ Some leaf → has self.now.leaves leaf ≡ true }
+        ensures lower { (leaf : ℕ) → result ≡ Some leaf → is_above values.now.items value.now leaf ≡ false }
+    {
+        let leaf = self.guide.last_up_to(values, value)?;
+        if self.marks.get(leaf as usize).copied() != Some(true) || is_higher(values, value, leaf) {
+            return None;
+        }
+        Some(leaf)
+    }
+
+    /// The first leaf of greater value.
     pub fn first_higher(&self, values: &Vec<Frac>, value: &Frac) -> Option<u32>
         requires known { (c : ℕ) → has self.now.leaves c ≡ true → c < length values.now.items }
         requires rising { IsRising values.now.items self.now.leaves }
         ensures { result ≡ find (is_above values.now.items value.now) self.now.leaves }
     {
-        let Some(leaf) = self.near else {
-            return self.first_from_front(values, value);
-        };
-        if is_higher(values, value, leaf) {
-            Some(back_to_first(&self.lists, values, value, leaf))
-        } else {
-            on_to_first(&self.lists, values, value, leaf)
+        match self.near(values, value) {
+            None => self.first_from_front(values, value),
+            Some(leaf) => on_to_first(&self.lists, values, value, leaf),
         }
     }
 
@@ -173,7 +146,7 @@ impl Leaves {
     }
 
     /// Puts a leaf just before another, or at the end.
-    pub fn put(&mut self, leaf: u32, before: Option<u32>)
+    pub fn put(&mut self, values: &Vec<Frac>, leaf: u32, before: Option<u32>)
         requires leaf { leaf < self.old.room }
         requires free { has self.old.leaves leaf ≡ false }
         requires before { (b : ℕ) → before ≡ Some b → has self.old.leaves b ≡ true }
@@ -183,15 +156,17 @@ impl Leaves {
             None => self.lists.push_back(0, leaf),
             Some(before) => self.lists.insert_before(leaf, before),
         }
-        self.near = Some(leaf);
+        mark(&mut self.marks, leaf, true);
+        self.guide.put(values, leaf);
     }
 
     /// Takes a leaf out.
-    pub fn take(&mut self, leaf: u32)
+    pub fn take(&mut self, values: &Vec<Frac>, leaf: u32)
         requires { has self.old.leaves leaf ≡ true }
         ensures { self.new ≡ record { leaves = without leaf self.old.leaves; room = self.old.room } }
     {
-        self.near = near_without(&self.lists, self.near, leaf);
         self.lists.take(leaf);
+        mark(&mut self.marks, leaf, false);
+        self.guide.take(values, leaf);
     }
 }

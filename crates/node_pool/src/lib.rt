@@ -2,14 +2,16 @@
 //!
 //! Nodes are numbered from 0 in the order of adding, and none is ever removed. Contracts see a `Pool` as the parents, values and
 //! payloads of its nodes, the list of its open leaves, and how many adds cannot fail. A new leaf stands behind the leaves of the same
-//! value, so that equal leaves are taken in the order of adding. Only `open`, `reserve` and `add` take memory. Every call but these
-//! takes constant time; `add` says what it takes.
+//! value, so that equal leaves are taken in the order of adding. Only `open`, `reserve` and `add` take memory, and `add` only where
+//! no room is left. Every call but these and `shut` takes constant time; `add` and `shut` say what they take.
 //!
 //! - `pool`: `Pool` and its calls
 //! - `tree`: the nodes by first child and next sibling
 //! - `leaves`: the open leaves as one linked list
+//! - `guide`: a search tree of the open leaves, which leads to a place in that list
 #![tactic(auto)]
 
+mod guide;
 mod leaves;
 pub mod pool;
 mod tree;

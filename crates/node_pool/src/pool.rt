@@ -129,8 +129,8 @@ impl<T> Pool<T> {
             return Ok(());
         }
         self.tree.reserve(room)?;
-        self.values.reserve_exact(room as usize)?;
-        self.payloads.reserve_exact(room as usize)?;
+        self.values.reserve(room as usize)?;
+        self.payloads.reserve(room as usize)?;
         self.leaves.grow(room - spare)?;
         Ok(())
     }
@@ -163,16 +163,14 @@ impl<T> Pool<T> {
         self.tree.push(parent);
         self.values.push_reserved(value);
         self.payloads.push_reserved(payload);
-        self.leaves.put(id, before);
+        self.leaves.put(&self.values, id, before);
         id
     }
 
     /// Adds an open leaf, the last child of its parent, behind the open leaves of the same value. The first node has no parent, and
     /// each other has one that is shut. `Err` hands the payload back for want of memory. It cannot come where `spare` is above 0.
     ///
-    /// The leaf's place is sought from the one that was added last, or the leaf beside it when that one is shut, in the direction
-    /// of the value. So an add takes one step for each open leaf between the two: few where children have values like their
-    /// siblings or close behind the least one, and all open leaves at worst.
+    /// The leaf's place is sought in a balanced tree of the open leaves, so an add takes time with the logarithm of their number.
     pub fn add(&mut self, parent: Option<u32>, value: Frac, payload: T) -> Result<u32, T>
         requires parent { IsParent self.old parent }
         requires few { length self.old.parents < 2 ^ 32 - 1 }
@@ -201,11 +199,11 @@ impl<T> Pool<T> {
         self.tree.is_tree();
     }
 
-    /// Shuts an open leaf: it leaves the open leaves.
+    /// Shuts an open leaf: it leaves the open leaves. It takes no memory, and time with the logarithm of their number.
     pub fn shut(&mut self, id: u32)
         requires { has self.old.leaves id ≡ true }
         ensures { self.new ≡ with_shut self.old id }
     {
-        self.leaves.take(id);
+        self.leaves.take(&self.values, id);
     }
 }

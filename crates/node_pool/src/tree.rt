@@ -124,7 +124,7 @@ impl Tree {
         ensures no_less { self.old.room ≤ self.new.room }
         ensures enough { OnOk result (length self.old.parents + more ≤ self.new.room) }
     {
-        self.kin.reserve_exact(more as usize)
+        self.kin.reserve(more as usize)
     }
 
     /// Adds a node, the last child of its parent.
