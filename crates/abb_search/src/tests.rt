@@ -21,14 +21,13 @@ type Stuff = (Kind, i64, i64, i64);
 /// A unit by its fixed and proportional cost and its upper bound, its input and its output.
 type Work = (i64, i64, i64, u32, u32);
 
-/// Raw A and B, intermediate C, E and F, product P.
+/// Raw A and B, intermediate C, E and F. The last material is the product P.
 const MATERIALS: &[Stuff] = &[
     (Kind::RawMaterial, 2 * MILLION, 0, LARGEST),
     (Kind::RawMaterial, 3 * MILLION, 0, LARGEST),
     (Kind::Intermediate, 0, 0, LARGEST),
     (Kind::Intermediate, 0, 0, LARGEST),
     (Kind::Intermediate, 0, 0, LARGEST),
-    (Kind::Product, 0, 20 * MILLION, 20 * MILLION),
 ];
 
 /// A => C, B => C, C => P; E => P, where nobody makes E; B => F, which is of no use.
@@ -47,20 +46,22 @@ const LEAST_COST: i128 = 75_000_000_000_000_000_000;
 #[derive(Clone, Copy, PartialEq, Eq, Debug)]
 enum Ending {
     Solved { cost: i128, nodes: usize },
-    Infeasible,
+    Infeasible { nodes: usize },
     Spent { next: u32, options: u128 },
     Past,
     Memory,
 }
 
-/// The budget of a search, and how it ends.
+/// What a plant makes of its product, the budget of a search of it, and how it ends.
 struct Case {
+    demand: i64,
     budget: u32,
     ending: Ending,
 }
 
 const CASES: &[Case] = &[
     Case {
+        demand: 20 * MILLION,
         budget: 100,
         ending: Ending::Solved {
             cost: LEAST_COST,
@@ -68,6 +69,7 @@ const CASES: &[Case] = &[
         },
     },
     Case {
+        demand: 20 * MILLION,
         budget: 4,
         ending: Ending::Solved {
             cost: LEAST_COST,
@@ -76,11 +78,18 @@ const CASES: &[Case] = &[
     },
     // C has three options: U1, U2 and both.
     Case {
+        demand: 20 * MILLION,
         budget: 1,
         ending: Ending::Spent {
             next: 0,
             options: 3,
         },
+    },
+    // C => P makes 150 at most.
+    Case {
+        demand: 151 * MILLION,
+        budget: 100,
+        ending: Ending::Infeasible { nodes: 1 },
     },
 ];
 
@@ -90,7 +99,9 @@ fn ending_of(found: &Found) -> Ending {
             cost: network.cost(),
             nodes: tree.nodes().len(),
         },
-        Found::Infeasible { .. } => Ending::Infeasible,
+        Found::Infeasible { tree } => Ending::Infeasible {
+            nodes: tree.nodes().len(),
+        },
         Found::Spent { next, options, .. } => Ending::Spent {
             next: *next,
             options: *options,
@@ -150,11 +161,13 @@ fn unit(alloc: Global, number: usize, work: Work) -> Result<OperatingUnit, Alloc
     })
 }
 
-fn parts(alloc: Global) -> Result<Parts, AllocError> {
+fn parts(alloc: Global, demand: i64) -> Result<Parts, AllocError> {
     let mut materials = Vec::new(alloc);
     for x in 0..MATERIALS.len() {
         materials.push(material(alloc, x, MATERIALS[x])?)?;
     }
+    let product = (Kind::Product, 0, demand, demand);
+    materials.push(material(alloc, MATERIALS.len(), product)?)?;
     let mut units = Vec::new(alloc);
     for u in 0..UNITS.len() {
         units.push(unit(alloc, u, UNITS[u])?)?;
@@ -167,8 +180,8 @@ fn parts(alloc: Global) -> Result<Parts, AllocError> {
     })
 }
 
-fn plant(alloc: Global) -> Option<Problem> {
-    let Ok(drawn) = parts(alloc) else {
+fn plant(alloc: Global, demand: i64) -> Option<Problem> {
+    let Ok(drawn) = parts(alloc, demand) else {
         return None;
     };
     match Problem::build(alloc, drawn) {
@@ -177,24 +190,24 @@ fn plant(alloc: Global) -> Option<Problem> {
     }
 }
 
-/// How the search of the plant ends with this budget, at least 1.
-fn searched(alloc: Global, budget: u32) -> Option<Ending> {
-    let problem = plant(alloc)?;
+/// How the search of the case's plant ends with its budget, at least 1.
+fn searched(alloc: Global, case: &Case) -> Option<Ending> {
+    let problem = plant(alloc, case.demand)?;
     let Ok(graph) = Graph::of(alloc, &problem) else {
         return None;
     };
-    if budget == 0 {
+    if case.budget == 0 {
         return None;
     }
     let start = first_node(&graph);
-    let found = search(alloc, &problem, &graph, start, budget);
+    let found = search(alloc, &problem, &graph, start, case.budget);
     Some(ending_of(&found))
 }
 
 /// The number of the first case that ends otherwise.
 fn first_wrong(alloc: Global) -> Option<usize> {
     for x in 0..CASES.len() {
-        if searched(alloc, CASES[x].budget) != Some(CASES[x].ending) {
+        if searched(alloc, &CASES[x]) != Some(CASES[x].ending) {
             return Some(x);
         }
     }
@@ -237,7 +250,7 @@ fn next_turn_solves(search: &mut Search) -> bool {
 }
 
 fn solves_in_two_turns(alloc: Global) -> Option<bool> {
-    let problem = plant(alloc)?;
+    let problem = plant(alloc, 20 * MILLION)?;
     let Ok(graph) = Graph::of(alloc, &problem) else {
         return None;
     };
