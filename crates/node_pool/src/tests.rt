@@ -5,6 +5,7 @@ ghost use Rattle.link_lists.specs.Lists.{has};
 ghost use Rattle.node_pool.specs.Pooled.{IsShut};
 
 use crate::Pool;
+use crate::guide::Guide;
 use frac128::Frac;
 use std::alloc::{AllocError, Global};
 
@@ -80,5 +81,54 @@ fn keeps_equal_leaves_in_the_order_of_adding(rt: HostRuntime) -> Result<(), Allo
     let mut pool = rooted(rt.alloc(), 1)?;
     add_children(&mut pool, &[50, 40, 60, 45, 55, 40, 50])?;
     assert!(&rt; opens(&mut pool, &[2, 6, 4, 1, 7, 5, 3]));
+    Ok(())
+}
+
+/// Of the leaves that are in the last one whose value is not above this one, by value and then by number.
+fn last_by_scan(values: &Vec<Frac>, are_in: &Vec<bool>, value: &Frac) -> Option<u32> {
+    let mut last = None;
+    let mut most = None;
+    for leaf in 0..values.len() {
+        let its = values[leaf];
+        let is_behind = match most {
+            None => true,
+            Some(most) => its >= most,
+        };
+        if are_in.get(leaf).copied() == Some(true) && its <= *value && is_behind {
+            last = u32::try_from(leaf).ok();
+            most = Some(its);
+        }
+    }
+    last
+}
+
+/// Whether a guide leads to the leaf that a scan finds, while 300 leaves of 40 values come and some go.
+fn leads_as_a_scan(alloc: Global) -> Result<bool, AllocError> {
+    let mut guide = Guide::with_room(alloc, 100)?;
+    guide.grow(300)?;
+    let mut values = Vec::new(alloc);
+    let mut are_in = Vec::new(alloc);
+    let mut state = 1u32;
+    for leaf in 0..300u32 {
+        state = state.wrapping_mul(1_103_515_245).wrapping_add(12_345);
+        let value = whole((state >> 16) % 40);
+        if guide.last_up_to(&values, &value) != last_by_scan(&values, &are_in, &value) {
+            return Ok(false);
+        }
+        values.push(value)?;
+        are_in.push(true)?;
+        guide.put(&values, leaf);
+        let gone = (state >> 8) % 300;
+        if let Some(is_in) = are_in.get_mut(gone as usize) {
+            *is_in = false;
+            guide.take(&values, gone);
+        }
+    }
+    Ok(true)
+}
+
+#[test]
+fn leads_to_the_last_leaf_up_to_a_value(rt: HostRuntime) -> Result<(), AllocError> {
+    assert!(&rt; leads_as_a_scan(rt.alloc())?);
     Ok(())
 }
