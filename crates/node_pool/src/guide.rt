@@ -1,9 +1,9 @@
 //! `Guide`: a search tree of the open leaves, which leads to the place of a new one.
 //!
 //! Only speed rests on it: whoever asks it for a leaf looks whether that leaf is open, and on which side of the place it stands. It is
-//! a treap (Aragon and Seidel 1989): in the order of the leaves from left to right, and with ranks that fall on each way down. Ranks
-//! are the leaves' numbers, well mixed, so that n leaves hang some 2 log n deep. Its ways end after 256 steps, which no tree of such
-//! ranks needs.
+//! a treap (Aragon and Seidel 1989): from left to right the leaves rise as in their list, and on each way down their ranks fall. Ranks
+//! are the leaves' numbers, well mixed, so that n leaves hang some 2 log n deep. Ways end after 256 steps, far more than such trees
+//! are deep (57 levels for 2 million leaves).
 
 use frac128::Frac;
 use std::alloc::{AllocError, Global};
