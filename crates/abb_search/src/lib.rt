@@ -19,8 +19,6 @@ mod hand;
 mod outcome;
 mod root;
 mod step;
-#[cfg(test)]
-mod tests;
 mod turns;
 mod whole;
 

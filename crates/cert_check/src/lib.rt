@@ -25,6 +25,3 @@ mod walk;
 pub use check::{check_from, check_tree};
 pub use claim::check_claim;
 pub use refusal::Refusal;
-
-#[cfg(test)]
-mod tests;

@@ -21,14 +21,3 @@ pub use past_laws::{
     balance_is_past, bound_is_past, cost_is_past, entry_is_past, flow_is_past,
     names_are_of_program, refutation_is_past,
 };
-
-#[cfg(test)]
-mod large_tests;
-#[cfg(test)]
-mod past_tests;
-#[cfg(test)]
-mod sum_tests;
-#[cfg(test)]
-mod test_problems;
-#[cfg(test)]
-mod tests;

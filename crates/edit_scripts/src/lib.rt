@@ -28,6 +28,3 @@ pub use read::read_script;
 pub use script::Script;
 pub use script_rules::EditKind;
 pub use term::NamedTerm;
-
-#[cfg(test)]
-mod tests;

@@ -14,6 +14,3 @@ mod evaluator;
 mod sums;
 
 pub use evaluator::FlowEvaluator;
-
-#[cfg(test)]
-mod tests;

@@ -30,6 +30,3 @@ pub use feasibility::feasible;
 pub use past_sum::PastSum;
 pub use place::{Column, FlowStep, Place};
 pub use program::Program;
-
-#[cfg(test)]
-mod tests;

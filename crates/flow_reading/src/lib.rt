@@ -20,6 +20,3 @@ pub use dual::{multipliers, refuting};
 pub use multiple::checked_lcm;
 pub use past_flow::PastFlow;
 pub use reading::read_flows;
-
-#[cfg(test)]
-mod tests;

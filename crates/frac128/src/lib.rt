@@ -15,6 +15,3 @@ mod text;
 
 pub use euclid::compare_fractions;
 pub use fraction::{Frac, Past};
-
-#[cfg(test)]
-mod tests;

@@ -13,6 +13,3 @@ mod problem;
 mod units;
 
 pub use problem::{generate, generated_is_valid};
-
-#[cfg(test)]
-mod tests;

@@ -15,6 +15,3 @@ mod divisors;
 pub use checked::{checked_difference, checked_product, checked_sum};
 pub use combination::{PastEntry, Which, combine};
 pub use divisors::{gcd, lowest_terms, primitive};
-
-#[cfg(test)]
-mod tests;

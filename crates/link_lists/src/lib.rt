@@ -18,6 +18,3 @@ pub mod walk;
 
 pub use lists::Lists;
 pub use walk::Walk;
-
-#[cfg(test)]
-mod tests;

@@ -10,8 +10,6 @@
 
 mod balance;
 mod steps;
-#[cfg(test)]
-mod tests;
 mod union;
 
 pub use steps::Steps;

@@ -32,8 +32,6 @@ mod materials;
 mod scarce;
 mod sets;
 mod standing;
-#[cfg(test)]
-mod tests;
 mod turn;
 mod units;
 

@@ -14,8 +14,6 @@ mod children;
 mod costs;
 mod evaluator;
 mod looks;
-#[cfg(test)]
-mod tests;
 
 pub use children::{Children, HaltedAt, cheaper, look_at_children};
 pub use costs::is_no_more;

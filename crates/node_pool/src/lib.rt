@@ -17,6 +17,3 @@ pub mod pool;
 mod tree;
 
 pub use pool::Pool;
-
-#[cfg(test)]
-mod tests;

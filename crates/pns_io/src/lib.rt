@@ -18,8 +18,6 @@ mod plain_shelf;
 mod plain_sink;
 mod shelf;
 mod sink;
-#[cfg(test)]
-mod tests;
 mod whole_file;
 
 pub use file_shelf::FileShelf;

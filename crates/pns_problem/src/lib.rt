@@ -29,6 +29,3 @@ pub use parts::Parts;
 pub use problem::Problem;
 pub use term::Term;
 pub use unit::OperatingUnit;
-
-#[cfg(test)]
-mod tests;

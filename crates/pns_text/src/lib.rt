@@ -17,8 +17,6 @@ mod rates_line;
 mod read;
 mod seen;
 mod settings;
-#[cfg(test)]
-mod tests;
 mod unit_line;
 mod value;
 mod walk;

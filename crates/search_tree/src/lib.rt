@@ -13,8 +13,6 @@
 mod cell;
 mod growth;
 mod laws;
-#[cfg(test)]
-mod tests;
 mod walk;
 
 pub use cell::Cell;

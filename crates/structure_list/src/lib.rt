@@ -10,8 +10,6 @@
 
 mod list;
 mod search;
-#[cfg(test)]
-mod tests;
 mod token;
 
 pub use list::{OpenFault, StructureList};

@@ -13,33 +13,19 @@
 mod axioms;
 mod call;
 mod check;
-#[cfg(test)]
-mod check_tests;
 mod command;
-#[cfg(test)]
-mod edit_tests;
 mod edits;
 mod file;
-#[cfg(test)]
-mod flow_tests;
 mod flows;
 mod laws;
 mod list;
-#[cfg(test)]
-mod list_tests;
 mod make;
 mod max;
 mod migrate;
 mod number;
 mod problem_file;
 mod script_file;
-#[cfg(test)]
-mod script_tests;
 mod solve;
-#[cfg(test)]
-mod solve_tests;
-#[cfg(test)]
-mod tests;
 mod tree_file;
 mod trial;
 mod unit_names;

@@ -23,6 +23,3 @@ pub use head::read_head;
 pub use node::read_end;
 pub use tail::read_tail;
 pub use text::{read_rest, read_tree};
-
-#[cfg(test)]
-mod tests;

@@ -12,8 +12,6 @@ mod line;
 mod part;
 mod print;
 mod put;
-#[cfg(test)]
-mod tests;
 
 pub use fault::PrintFault;
 pub use print::{

@@ -10,8 +10,6 @@
 mod mat_set;
 mod node;
 mod step;
-#[cfg(test)]
-mod tests;
 mod unit_set;
 
 pub use mat_set::MatSet;
