@@ -1,8 +1,8 @@
--- Rising leaves: what is behind a greater value is greater, and a new leaf keeps the order.
+-- Rising leaves: what is behind a leaf that has at least some value has so too, and a new leaf keeps the order.
 use Rattle.std.proofs.Common.{◌≡◌, ℕ, zero, suc, ◌<◌, ◌==◌, Bool, true, false, cond, not, List, [], ◌∷◌, ◌++◌, length, Option, Some, None, refl, sym, ap, ◌∙◌, subst, inl, inr, ◌⊎◌, eqb-true, eq-eqb, ne_eqb, arith}
 use Rattle.std.proofs.lemmas.Bool.{or_cases, or_left, both_ways}
 use Rattle.std.specs.List.{slice_get, find}
-use Rattle.std.specs.Ordering.{is_lt, ordering_reverse}
+use Rattle.std.specs.Ordering.{is_le, ordering_reverse}
 use Rattle.std.specs.declared.cmp.Ordering.{Ordering}
 use Rattle.std.specs.declared.cmp.Ordering.TheVariants.{Less, Equal, Greater}
 use Rattle.frac128.specs.declared.fraction.Frac.{Frac}
@@ -11,15 +11,20 @@ use Rattle.frac128.specs.OrderLaws.{fraction_cmp_total}
 use Rattle.link_lists.specs.Lists.{has, without, inserted}
 use Rattle.link_lists.proofs.Cells.{has-here, has-later, has-without}
 use Rattle.std.proofs.lemmas.Bool.{and_parts}
-use Rattle.node_pool.specs.Order.{above, is_above, placed, IsAtMost, IsRising, put_before}
+use Rattle.node_pool.specs.Order.{at_most, is_at_least, placed, IsAtMost, IsRising, put_before}
 use Rattle.node_pool.proofs.Places.{StaysTrue}
 
 -- ---- the order of two values
 
-less_is : (o : Ordering) → is_lt o ≡ true → o ≡ Less
-less_is Less h = refl
-less_is Equal h = absurd (both_ways false refl h)
-less_is Greater h = absurd (both_ways false refl h)
+le_not_greater : (o : Ordering) → is_le o ≡ true → o ≡ Greater → ⊥
+le_not_greater Less h e = cc
+le_not_greater Equal h e = cc
+le_not_greater Greater h e = both_ways false refl h
+
+not_greater_le : (o : Ordering) → (o ≡ Greater → ⊥) → is_le o ≡ true
+not_greater_le Less h = refl
+not_greater_le Equal h = refl
+not_greater_le Greater h = absurd (h refl)
 
 less_at_most : (u v w : Frac) → fraction_cmp u v ≡ Less → (fraction_cmp v w ≡ Greater → ⊥) → fraction_cmp u w ≡ Less
 less_at_most u v w l fits = by (fraction_cmp v w) refl
@@ -32,8 +37,13 @@ less_at_most u v w l fits = by (fraction_cmp v w) refl
         let same : fraction_cmp w u ≡ Greater = sym (fraction_cmp_total.congr v w u e) ∙ back in
         fraction_cmp_total.antisymm u w ∙ ap ordering_reverse same
 
-not_both : (v w : Frac) → fraction_cmp v w ≡ Less → fraction_cmp v w ≡ Greater → ⊥
-not_both v w h k = let e : Less ≡ Greater = sym h ∙ k in cc
+le_at_most : (u v w : Frac) → is_le (fraction_cmp u v) ≡ true → (fraction_cmp v w ≡ Greater → ⊥) → is_le (fraction_cmp u w) ≡ true
+le_at_most u v w l fits = by (fraction_cmp u v) refl
+  where
+    by : (o : Ordering) → fraction_cmp u v ≡ o → is_le (fraction_cmp u w) ≡ true
+    by Less e = ap is_le (less_at_most u v w e fits)
+    by Equal e = ap is_le (fraction_cmp_total.congr u v w e) ∙ not_greater_le (fraction_cmp v w) fits
+    by Greater e = absurd (le_not_greater (fraction_cmp u v) l e)
 
 -- ---- the values that are there
 
@@ -51,20 +61,19 @@ slice_get_new : (vs : List Frac) (v : Frac) → slice_get (vs ++ v ∷ []) (leng
 slice_get_new [] v = refl
 slice_get_new (w ∷ vs) v = slice_get_new vs v
 
-above_by : (vs : List Frac) (v w : Frac) (c : ℕ) → slice_get vs c ≡ Some w → is_above vs v c ≡ is_lt (fraction_cmp v w)
-above_by vs v w c e = ap (above v) e
+at_least_by : (vs : List Frac) (v w : Frac) (c : ℕ) → slice_get vs c ≡ Some w → is_at_least vs v c ≡ is_le (fraction_cmp v w)
+at_least_by vs v w c e = ap (at_most v) e
 
--- ---- what is behind a greater value is greater
+-- ---- what is behind a leaf that has at least the value
 
-pub stays_above : (vs : List Frac) (v : Frac) (xs : List ℕ) → ((c : ℕ) → has xs c ≡ true → c < length vs) → IsRising vs xs → StaysTrue (is_above vs v) xs
-stays_above vs v [] known r = tt
-stays_above vs v (x ∷ xs) known r = (
+pub stays_at_least : (vs : List Frac) (v : Frac) (xs : List ℕ) → ((c : ℕ) → has xs c ≡ true → c < length vs) → IsRising vs xs → StaysTrue (is_at_least vs v) xs
+stays_at_least vs v [] known r = tt
+stays_at_least vs v (x ∷ xs) known r = (
   λ high y hy.
       let a = slice_get_at vs x (known x (has-here x xs)) in
       let b = slice_get_at vs y (known y (has-later x y xs hy)) in
-      let l : fraction_cmp v a.0 ≡ Less = less_is (fraction_cmp v a.0) (sym (above_by vs v a.0 x a.1) ∙ high) in
-      above_by vs v b.0 y b.1 ∙ ap is_lt (less_at_most v a.0 b.0 l (r.0 y hy a.0 b.0 a.1 b.1)),
-  stays_above vs v xs (λ c h. known c (has-later x c xs h)) r.1,
+      at_least_by vs v b.0 y b.1 ∙ le_at_most v a.0 b.0 (sym (at_least_by vs v a.0 x a.1) ∙ high) (r.0 y hy a.0 b.0 a.1 b.1),
+  stays_at_least vs v xs (λ c h. known c (has-later x c xs h)) r.1,
 )
 
 -- ---- a new leaf
@@ -77,28 +86,28 @@ found_true t (x ∷ xs) c e = by (t x) refl (λ q. found_true t xs c q)
     by true q ih = let s : x ≡ c = let u = sym (ap (λ b. cond b (Some x) (find t xs)) q) ∙ e in cc in ap t (sym s) ∙ q
     by false q ih = ih (sym (ap (λ b. cond b (Some x) (find t xs)) q) ∙ e)
 
-pub placed_by : (vs : List Frac) (v : Frac) (c : ℕ) (xs : List ℕ) (o : Option ℕ) → o ≡ find (is_above vs v) xs → put_before c o xs ≡ placed vs v c xs
+pub placed_by : (vs : List Frac) (v : Frac) (c : ℕ) (xs : List ℕ) (o : Option ℕ) → o ≡ find (is_at_least vs v) xs → put_before c o xs ≡ placed vs v c xs
 placed_by vs v c [] None e = refl
 placed_by vs v c [] (Some b) e = cc
-placed_by vs v c (x ∷ xs) o e = by (is_above vs v x) refl (λ p q. placed_by vs v c xs p q)
+placed_by vs v c (x ∷ xs) o e = by (is_at_least vs v x) refl (λ p q. placed_by vs v c xs p q)
   where
-    by : (b : Bool) → is_above vs v x ≡ b → ((p : Option ℕ) → p ≡ find (is_above vs v) xs → put_before c p xs ≡ placed vs v c xs) → put_before c o (x ∷ xs) ≡ placed vs v c (x ∷ xs)
+    by : (b : Bool) → is_at_least vs v x ≡ b → ((p : Option ℕ) → p ≡ find (is_at_least vs v) xs → put_before c p xs ≡ placed vs v c xs) → put_before c o (x ∷ xs) ≡ placed vs v c (x ∷ xs)
     by true q ih =
-        ap (λ p. put_before c p (x ∷ xs)) (e ∙ ap (λ t. cond t (Some x) (find (is_above vs v) xs)) q)
+        ap (λ p. put_before c p (x ∷ xs)) (e ∙ ap (λ t. cond t (Some x) (find (is_at_least vs v) xs)) q)
         ∙ (ap (λ t. cond t (c ∷ x ∷ xs) (x ∷ inserted c x xs)) (eq-eqb x x refl)
         ∙ sym (ap (λ t. cond t (c ∷ x ∷ xs) (x ∷ placed vs v c xs)) q))
-    by false q ih = later o (e ∙ ap (λ t. cond t (Some x) (find (is_above vs v) xs)) q) ∙ sym (ap (λ t. cond t (c ∷ x ∷ xs) (x ∷ placed vs v c xs)) q)
+    by false q ih = later o (e ∙ ap (λ t. cond t (Some x) (find (is_at_least vs v) xs)) q) ∙ sym (ap (λ t. cond t (c ∷ x ∷ xs) (x ∷ placed vs v c xs)) q)
       where
-        later : (p : Option ℕ) → p ≡ find (is_above vs v) xs → put_before c p (x ∷ xs) ≡ x ∷ placed vs v c xs
+        later : (p : Option ℕ) → p ≡ find (is_at_least vs v) xs → put_before c p (x ∷ xs) ≡ x ∷ placed vs v c xs
         later None f = ap (λ ys. x ∷ ys) (ih None f)
         later (Some b) f = ap (λ t. cond t (c ∷ x ∷ xs) (x ∷ inserted c b xs)) (ne_eqb x b (differ b f)) ∙ ap (λ ys. x ∷ ys) (ih (Some b) f)
           where
-            differ : (b : ℕ) → Some b ≡ find (is_above vs v) xs → x ≡ b → ⊥
-            differ b f s = both_ways (is_above vs v x) q (ap (is_above vs v) s ∙ found_true (is_above vs v) xs b (sym f))
+            differ : (b : ℕ) → Some b ≡ find (is_at_least vs v) xs → x ≡ b → ⊥
+            differ b f s = both_ways (is_at_least vs v x) q (ap (is_at_least vs v) s ∙ found_true (is_at_least vs v) xs b (sym f))
 
 pub has-placed : (vs : List Frac) (v : Frac) (c : ℕ) (xs : List ℕ) (d : ℕ) → has (placed vs v c xs) d ≡ true → (d ≡ c) ⊎ (has xs d ≡ true)
 has-placed vs v c [] d h = elim (or_cases (c == d) false h) [ inl s ↦ inl (sym (eqb-true c d s)) | inr t ↦ inr t ]
-has-placed vs v c (x ∷ xs) d h = by (is_above vs v x) h (λ q. has-placed vs v c xs d q)
+has-placed vs v c (x ∷ xs) d h = by (is_at_least vs v x) h (λ q. has-placed vs v c xs d q)
   where
     by : (b : Bool) → has (cond b (c ∷ x ∷ xs) (x ∷ placed vs v c xs)) d ≡ true → (has (placed vs v c xs) d ≡ true → (d ≡ c) ⊎ (has xs d ≡ true)) → (d ≡ c) ⊎ (has (x ∷ xs) d ≡ true)
     by true q ih = elim (or_cases (c == d) (has (x ∷ xs) d) q) [ inl s ↦ inl (sym (eqb-true c d s)) | inr t ↦ inr t ]
@@ -111,18 +120,17 @@ has-placed vs v c (x ∷ xs) d h = by (is_above vs v x) h (λ q. has-placed vs v
 at_most_more : (vs : List Frac) (v : Frac) (x y : ℕ) → x < length vs → y < length vs → IsAtMost vs x y → IsAtMost (vs ++ v ∷ []) x y
 at_most_more vs v x y lx ly h a b ea eb = h a b (sym (slice_get_push vs v x lx) ∙ ea) (sym (slice_get_push vs v y ly) ∙ eb)
 
-new_at_most : (vs : List Frac) (v : Frac) (y : ℕ) → y < length vs → is_above vs v y ≡ true → IsAtMost (vs ++ v ∷ []) (length vs) y
+new_at_most : (vs : List Frac) (v : Frac) (y : ℕ) → y < length vs → is_at_least vs v y ≡ true → IsAtMost (vs ++ v ∷ []) (length vs) y
 new_at_most vs v y ly high a b ea eb g =
     let s : v ≡ a = let e : Some v ≡ Some a = sym (slice_get_new vs v) ∙ ea in cc in
-    let l : fraction_cmp v b ≡ Less = less_is (fraction_cmp v b) (sym (above_by vs v b y (sym (slice_get_push vs v y ly) ∙ eb)) ∙ high) in
-    not_both v b l (ap (λ (w : Frac). fraction_cmp w b) s ∙ g)
+    le_not_greater (fraction_cmp v b) (sym (at_least_by vs v b y (sym (slice_get_push vs v y ly) ∙ eb)) ∙ high) (ap (λ (w : Frac). fraction_cmp w b) s ∙ g)
 
-at_most_new : (vs : List Frac) (v : Frac) (x : ℕ) → x < length vs → is_above vs v x ≡ false → IsAtMost (vs ++ v ∷ []) x (length vs)
+at_most_new : (vs : List Frac) (v : Frac) (x : ℕ) → x < length vs → is_at_least vs v x ≡ false → IsAtMost (vs ++ v ∷ []) x (length vs)
 at_most_new vs v x lx low a b ea eb g =
     let s : v ≡ b = let e : Some v ≡ Some b = sym (slice_get_new vs v) ∙ eb in cc in
     let back : fraction_cmp b a ≡ Less = fraction_cmp_total.antisymm b a ∙ ap ordering_reverse g in
-    let l : is_lt (fraction_cmp v a) ≡ true = ap (λ (w : Frac). is_lt (fraction_cmp w a)) s ∙ ap is_lt back in
-    both_ways (is_above vs v x) low (above_by vs v a x (sym (slice_get_push vs v x lx) ∙ ea) ∙ l)
+    let l : is_le (fraction_cmp v a) ≡ true = ap (λ (w : Frac). is_le (fraction_cmp w a)) s ∙ ap is_le back in
+    both_ways (is_at_least vs v x) low (at_least_by vs v a x (sym (slice_get_push vs v x lx) ∙ ea) ∙ l)
 
 rising_more : (vs : List Frac) (v : Frac) (xs : List ℕ) → ((c : ℕ) → has xs c ≡ true → c < length vs) → IsRising vs xs → IsRising (vs ++ v ∷ []) xs
 rising_more vs v [] known r = tt
@@ -133,13 +141,13 @@ rising_more vs v (x ∷ xs) known r = (
 
 pub rising_placed : (vs : List Frac) (v : Frac) (xs : List ℕ) → ((c : ℕ) → has xs c ≡ true → c < length vs) → IsRising vs xs → IsRising (vs ++ v ∷ []) (placed vs v (length vs) xs)
 rising_placed vs v [] known r = (λ y h. absurd (both_ways false refl h), tt)
-rising_placed vs v (x ∷ xs) known r = by (is_above vs v x) refl (rising_placed vs v xs (λ c h. known c (has-later x c xs h)) r.1)
+rising_placed vs v (x ∷ xs) known r = by (is_at_least vs v x) refl (rising_placed vs v xs (λ c h. known c (has-later x c xs h)) r.1)
   where
-    by : (b : Bool) → is_above vs v x ≡ b → IsRising (vs ++ v ∷ []) (placed vs v (length vs) xs) → IsRising (vs ++ v ∷ []) (cond b (length vs ∷ x ∷ xs) (x ∷ placed vs v (length vs) xs))
+    by : (b : Bool) → is_at_least vs v x ≡ b → IsRising (vs ++ v ∷ []) (placed vs v (length vs) xs) → IsRising (vs ++ v ∷ []) (cond b (length vs ∷ x ∷ xs) (x ∷ placed vs v (length vs) xs))
     by true q ih = (
       λ y hy. new_at_most vs v y (known y hy) (elim (or_cases (x == y) (has xs y) hy) [
-        | inl s ↦ ap (is_above vs v) (sym (eqb-true x y s)) ∙ q
-        | inr t ↦ (stays_above vs v (x ∷ xs) known r).0 q y t
+        | inl s ↦ ap (is_at_least vs v) (sym (eqb-true x y s)) ∙ q
+        | inr t ↦ (stays_at_least vs v (x ∷ xs) known r).0 q y t
       ]),
       rising_more vs v (x ∷ xs) known r,
     )

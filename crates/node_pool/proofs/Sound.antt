@@ -4,7 +4,7 @@ use Rattle.std.specs.List.{find}
 use Rattle.frac128.specs.declared.fraction.Frac.{Frac}
 use Rattle.link_lists.specs.Lists.{has, without}
 use Rattle.node_pool.specs.Tree.{Branches, with_node}
-use Rattle.node_pool.specs.Order.{OpenLeaves, is_above, placed, put_before, IsRising}
+use Rattle.node_pool.specs.Order.{OpenLeaves, is_at_least, placed, put_before, IsRising}
 use Rattle.node_pool.specs.Sound.{IsSound}
 use Rattle.node_pool.proofs.Order.{placed_by, has-placed, rising_placed, rising_without, has-less}
 
@@ -51,7 +51,7 @@ sound_grown t vs vr pl pr o more h small a b d = record {
 }
 
 -- one node more
-module _ (t : Branches) (vs : List Frac) (vr pl pr : ℕ) (o : OpenLeaves) (p : Option ℕ) (v : Frac) (before : Option ℕ) (h : IsSound t vs vr pl pr o) (room : length t.parents < o.room) (e : before ≡ find (is_above vs v) o.leaves) where
+module _ (t : Branches) (vs : List Frac) (vr pl pr : ℕ) (o : OpenLeaves) (p : Option ℕ) (v : Frac) (before : Option ℕ) (h : IsSound t vs vr pl pr o) (room : length t.parents < o.room) (e : before ≡ find (is_at_least vs v) o.leaves) where
   pub leaves_added : put_before (length t.parents) before o.leaves ≡ placed vs v (length t.parents) o.leaves
   leaves_added = placed_by vs v (length t.parents) o.leaves before e
 

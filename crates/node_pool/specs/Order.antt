@@ -1,24 +1,25 @@
--- The open leaves in rising order of value, a new leaf behind its equals.
+-- The open leaves in rising order of value, a new leaf before its equals.
 use Rattle.std.specs.Prelude.{◌≡◌, ℕ, Bool, true, false, cond, List, [], ◌∷◌, ◌++◌, Option, Some, None}
 use Rattle.std.specs.List.{slice_get}
-use Rattle.std.specs.Ordering.{is_lt}
+use Rattle.std.specs.Ordering.{is_le}
 use Rattle.std.specs.declared.cmp.Ordering.TheVariants.{Greater}
 use Rattle.frac128.specs.declared.fraction.Frac.{Frac}
 use Rattle.frac128.specs.Order.{fraction_cmp}
 use Rattle.link_lists.specs.Lists.{has, inserted}
 
-abbrev pub above : Frac → Option Frac → Bool
-above v None = false
-above v (Some w) = is_lt (fraction_cmp v w)
+-- the other value is there, and v is at most that
+abbrev pub at_most : Frac → Option Frac → Bool
+at_most v None = false
+at_most v (Some w) = is_le (fraction_cmp v w)
 
--- leaf c has a greater value than v, where the values are vs
-abbrev pub is_above : List Frac → Frac → ℕ → Bool
-is_above vs v c = above v (slice_get vs c)
+-- leaf c has at least the value v, where the values are vs
+abbrev pub is_at_least : List Frac → Frac → ℕ → Bool
+is_at_least vs v c = at_most v (slice_get vs c)
 
--- the leaves with the leaf c of value v: before the first of a greater value, so behind all of the same value
+-- the leaves with the leaf c of value v: before the first that has at least this value, so before all of the same value
 abbrev pub placed : List Frac → Frac → ℕ → List ℕ → List ℕ
 placed vs v c [] = c ∷ []
-placed vs v c (x ∷ xs) = cond (is_above vs v x) (c ∷ x ∷ xs) (x ∷ placed vs v c xs)
+placed vs v c (x ∷ xs) = cond (is_at_least vs v x) (c ∷ x ∷ xs) (x ∷ placed vs v c xs)
 
 -- the value of x is at most that of y
 abbrev pub IsAtMost : List Frac → ℕ → ℕ → Type 0

@@ -45,14 +45,14 @@ fn rank(leaf: u32) -> u32 {
     twice ^ (twice >> 16)
 }
 
-/// Whether the leaf comes before the other: its value is less, or the same and its number less.
+/// Whether the leaf comes before the other: its value is less, or the same and it is the newer one.
 fn comes_before(values: &Vec<Frac>, leaf: u32, other: u32) -> bool {
     let (Some(value), Some(than)) = (values.get(leaf as usize), values.get(other as usize)) else {
         return false;
     };
     match value.cmp(than) {
         Ordering::Less => true,
-        Ordering::Equal => leaf < other,
+        Ordering::Equal => leaf > other,
         Ordering::Greater => false,
     }
 }
@@ -100,8 +100,8 @@ impl Guide {
         }
     }
 
-    /// The last leaf whose value is not above this one.
-    pub fn last_up_to(&self, values: &Vec<Frac>, value: &Frac) -> Option<u32> {
+    /// The last leaf whose value is below this one.
+    pub fn last_below(&self, values: &Vec<Frac>, value: &Frac) -> Option<u32> {
         let mut last = None;
         let mut next = self.root;
         for _ in 0..MOST_STEPS {
@@ -109,11 +109,11 @@ impl Guide {
                 None => return last,
                 Some(leaf) => leaf,
             };
-            let is_up_to = match values.get(leaf as usize) {
+            let is_below = match values.get(leaf as usize) {
                 None => false,
-                Some(its) => its.cmp(value).is_le(),
+                Some(its) => its.cmp(value).is_lt(),
             };
-            if is_up_to {
+            if is_below {
                 last = Some(leaf);
                 next = self.at(Place::Behind(leaf));
             } else {

@@ -4,7 +4,7 @@ ghost use Rattle.std.specs.Prelude.{◌≡◌, [], ℕ, true, false, Some, ◌<�
 ghost use Rattle.std.specs.List.{find};
 ghost use Rattle.frac128.specs.Order.{fraction_cmp};
 ghost use Rattle.link_lists.specs.Lists.{first, has, row, without, IsListed};
-ghost use Rattle.node_pool.specs.Order.{OpenLeaves, is_above, put_before, IsRising};
+ghost use Rattle.node_pool.specs.Order.{OpenLeaves, is_at_least, put_before, IsRising};
 
 use crate::guide::Guide;
 use frac128::Frac;
@@ -36,26 +36,26 @@ impl Model for Leaves {
     ghost invariant = { λ s. IsOneList s.lists s.room s.marks.items };
 }
 
-/// Whether the leaf has a greater value than `value`.
-fn is_higher(values: &Vec<Frac>, value: &Frac, leaf: u32) -> bool
+/// Whether the leaf has at least the value `value`.
+fn is_at_least(values: &Vec<Frac>, value: &Frac, leaf: u32) -> bool
     requires { leaf < length values.now.items }
-    ensures { result ≡ is_above values.now.items value.now leaf }
+    ensures { result ≡ is_at_least values.now.items value.now leaf }
 {
-    value.cmp(&values[leaf as usize]).is_lt()
+    value.cmp(&values[leaf as usize]).is_le()
 }
 
-/// From a leaf that has no greater value on to the first one that has.
+/// From a leaf of less value on to the first one that has at least this one.
 fn on_to_first(lists: &Lists, values: &Vec<Frac>, value: &Frac, leaf: u32) -> Option<u32>
     requires listed { has (row lists.now.lists 0) leaf ≡ true }
-    requires higher { is_above values.now.items value.now leaf ≡ false }
+    requires lower { is_at_least values.now.items value.now leaf ≡ false }
     requires known { (c : ℕ) → has (row lists.now.lists 0) c ≡ true → c < length values.now.items }
     requires rising { IsRising values.now.items (row lists.now.lists 0) }
-    ensures { result ≡ find (is_above values.now.items value.now) (row lists.now.lists 0) }
+    ensures { result ≡ find (is_at_least values.now.items value.now) (row lists.now.lists 0) }
 {
     lists.are_apart();
     let mut leaf = leaf;
     while let Some(after) = lists.next(leaf) {
-        if is_higher(values, value, after) {
+        if is_at_least(values, value, after) {
             return Some(after);
         }
         leaf = after;
@@ -107,24 +107,26 @@ impl Leaves {
         self.lists.first(0)
     }
 
-    /// A leaf that has no greater value, as close as the guide leads to the first one that has.
+    /// A leaf of less value, as close as the guide leads to the first one that has at least this one.
     fn near(&self, values: &Vec<Frac>, value: &Frac) -> Option<u32>
         requires known { (c : ℕ) → has self.now.leaves c ≡ true → c < length values.now.items }
         ensures listed { (leaf : ℕ) → result ≡ Some leaf → has self.now.leaves leaf ≡ true }
-        ensures lower { (leaf : ℕ) → result ≡ Some leaf → is_above values.now.items value.now leaf ≡ false }
+        ensures lower { (leaf : ℕ) → result ≡ Some leaf → is_at_least values.now.items value.now leaf ≡ false }
     {
-        let leaf = self.guide.last_up_to(values, value)?;
-        if self.marks.get(leaf as usize).copied() != Some(true) || is_higher(values, value, leaf) {
+        let leaf = self.guide.last_below(values, value)?;
+        if self.marks.get(leaf as usize).copied() != Some(true)
+            || is_at_least(values, value, leaf)
+        {
             return None;
         }
         Some(leaf)
     }
 
-    /// The first leaf of greater value.
-    pub fn first_higher(&self, values: &Vec<Frac>, value: &Frac) -> Option<u32>
+    /// The first leaf that has at least this value.
+    pub fn first_at_least(&self, values: &Vec<Frac>, value: &Frac) -> Option<u32>
         requires known { (c : ℕ) → has self.now.leaves c ≡ true → c < length values.now.items }
         requires rising { IsRising values.now.items self.now.leaves }
-        ensures { result ≡ find (is_above values.now.items value.now) self.now.leaves }
+        ensures { result ≡ find (is_at_least values.now.items value.now) self.now.leaves }
     {
         match self.near(values, value) {
             None => self.first_from_front(values, value),
@@ -135,10 +137,10 @@ impl Leaves {
     fn first_from_front(&self, values: &Vec<Frac>, value: &Frac) -> Option<u32>
         requires known { (c : ℕ) → has self.now.leaves c ≡ true → c < length values.now.items }
         requires rising { IsRising values.now.items self.now.leaves }
-        ensures { result ≡ find (is_above values.now.items value.now) self.now.leaves }
+        ensures { result ≡ find (is_at_least values.now.items value.now) self.now.leaves }
     {
         let leaf = self.lists.first(0)?;
-        if is_higher(values, value, leaf) {
+        if is_at_least(values, value, leaf) {
             Some(leaf)
         } else {
             on_to_first(&self.lists, values, value, leaf)

@@ -159,7 +159,7 @@ impl<T> Pool<T> {
         ensures spare { self.new.spare + 1 ≡ self.old.spare }
     {
         let id = self.tree.len() as u32;
-        let before = self.leaves.first_higher(&self.values, &value);
+        let before = self.leaves.first_at_least(&self.values, &value);
         self.tree.push(parent);
         self.values.push_reserved(value);
         self.payloads.push_reserved(payload);
@@ -167,7 +167,7 @@ impl<T> Pool<T> {
         id
     }
 
-    /// Adds an open leaf, the last child of its parent, behind the open leaves of the same value. The first node has no parent, and
+    /// Adds an open leaf, the last child of its parent, before the open leaves of the same value. The first node has no parent, and
     /// each other has one that is shut. `Err` hands the payload back for want of memory. It cannot come where `spare` is above 0.
     ///
     /// The leaf's place is sought in a balanced tree of the open leaves, so an add takes time with the logarithm of their number.

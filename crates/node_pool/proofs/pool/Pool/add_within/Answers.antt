@@ -1,14 +1,14 @@
 use Rattle.std.proofs.Common.{◌≡◌, ◌<◌, ◌+◌, ◌-◌, ◌++◌, ◌∷◌, [], length, sym, ap, ◌∙◌, subst, length-append, arith}
 use Rattle.std.specs.Prelude.{vec_capacity}
 use Rattle.node_pool.specs.Tree.{Branches}
-use Rattle.node_pool.specs.Order.{OpenLeaves, is_above, placed, put_before}
+use Rattle.node_pool.specs.Order.{OpenLeaves, is_at_least, placed, put_before}
 use Rattle.node_pool.specs.Pooled.{Pooled}
 use Rattle.node_pool.proofs.Places.{found_has}
 use Rattle.node_pool.proofs.Sound.{leaves_added, sound_added}
 use Rattle.node_pool.proofs.pool.Pool.add_within.Goals as goal
 
 pub put-requires-clause-before : goal.put-requires-clause-before
-put-requires-clause-before g c = λ b e. found_has (is_above c.self.inside.values.items c.args.value) c.self.inside.leaves.leaves b (sym c.first_higher-before.ensures ∙ e)
+put-requires-clause-before g c = λ b e. found_has (is_at_least c.self.inside.values.items c.args.value) c.self.inside.leaves.leaves b (sym c.first_at_least-before.ensures ∙ e)
 
 pub invariant_of-self : goal.invariant_of-self
 invariant_of-self g c =
@@ -19,7 +19,7 @@ invariant_of-self g c =
     let long = ap length c.push_reserved-2.ensures.items in
     let len : length c.push_reserved-2.new.self.items ≡ length s.payloads.items + 1 = omega arith in
     rw c.push.ensures (rw c.push_reserved.ensures.items (rw c.put.ensures (rw c.len-id.ensures
-    (sound_added s.tree s.values.items (vec_capacity s.values) (length s.payloads.items) (vec_capacity s.payloads) s.leaves c.args.parent c.args.value c.first_higher-before.result c.self.invariant room c.first_higher-before.ensures (vec_capacity c.push_reserved.new.self) (length c.push_reserved-2.new.self.items) (vec_capacity c.push_reserved-2.new.self) c.push_reserved.ensures.capacity len c.push_reserved-2.ensures.capacity))))
+    (sound_added s.tree s.values.items (vec_capacity s.values) (length s.payloads.items) (vec_capacity s.payloads) s.leaves c.args.parent c.args.value c.first_at_least-before.result c.self.invariant room c.first_at_least-before.ensures (vec_capacity c.push_reserved.new.self) (length c.push_reserved-2.new.self.items) (vec_capacity c.push_reserved-2.new.self) c.push_reserved.ensures.capacity len c.push_reserved-2.ensures.capacity))))
 
 pub returns-clause-added : goal.returns-clause-added
 returns-clause-added g c =
@@ -31,7 +31,7 @@ returns-clause-added g c =
       values = c.push_reserved.ensures.items ∙ ap (λ (p : Pooled g.row.T.Denot). p.values ++ c.args.value ∷ []) c.self.view_is;
       payloads = c.push_reserved-2.ensures.items ∙ ap (λ (p : Pooled g.row.T.Denot). p.payloads ++ c.args.payload ∷ []) c.self.view_is;
       leaves = ap (λ (o : OpenLeaves). o.leaves) c.put.ensures
-          ∙ (ap (λ n. put_before n c.first_higher-before.result s.leaves.leaves) c.len-id.ensures
-          ∙ (leaves_added s.tree s.values.items (vec_capacity s.values) (length s.payloads.items) (vec_capacity s.payloads) s.leaves c.args.parent c.args.value c.first_higher-before.result c.self.invariant room c.first_higher-before.ensures
+          ∙ (ap (λ n. put_before n c.first_at_least-before.result s.leaves.leaves) c.len-id.ensures
+          ∙ (leaves_added s.tree s.values.items (vec_capacity s.values) (length s.payloads.items) (vec_capacity s.payloads) s.leaves c.args.parent c.args.value c.first_at_least-before.result c.self.invariant room c.first_at_least-before.ensures
           ∙ ap (λ (p : Pooled g.row.T.Denot). placed p.values c.args.value (length p.parents) p.leaves) c.self.view_is));
     }
