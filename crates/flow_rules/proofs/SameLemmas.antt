@@ -1,5 +1,5 @@
 -- A sum reads sizes and multipliers at its own units and rows alone, so numbers that agree there give the same sum and steps.
-use Rattle.std.proofs.Common.{◌≡◌, ℕ, refl, sym, ap, ◌∙◌, pos, ℤ, ◌+ℤ◌, ◌-ℤ◌, ◌*ℤ◌, List, [], ◌∷◌, ◌++◌, Bool, true, false, ◌==◌, subst}
+use Rattle.std.proofs.Common.{◌≡◌, ℕ, refl, sym, ap, ◌∙◌, pos, ℤ, ◌+ℤ◌, ◌-ℤ◌, ◌*ℤ◌, List, [], ◌∷◌, ◌++◌, Bool, true, false, ◌==◌}
 use Rattle.std.specs.Prelude.{not, ◌&&◌, ◌||◌, nat_lt}
 use Rattle.std.specs.Ordering.{int_eq}
 use Rattle.std.specs.Int.{int_min}
@@ -7,12 +7,11 @@ use Rattle.std.specs.List.{AllByRecursion}
 use Rattle.std.proofs.lemmas.Bool.{eq-eqb}
 use Rattle.integer_laws.specs.Total.{total}
 use Rattle.integer_laws.proofs.Totals.{total-agree}
-use Rattle.number_sets.specs.Sets.{has, listed}
+use Rattle.number_sets.specs.Sets.{has}
 use Rattle.number_sets.proofs.SetLemmas.{has-listed}
 use Rattle.pns_rules.specs.Structure.{mats}
 use Rattle.pns_rules.specs.Nodes.{Node}
-use Rattle.flow_rules.specs.Net.{Net, trillion, size_cost, units_of}
-use Rattle.flow_rules.specs.Flows.{cost}
+use Rattle.flow_rules.specs.Net.{Net, trillion, size_cost}
 use Rattle.flow_rules.specs.Relaxed.{stays, units, rows, row_low, row_high, unit_low, unit_cost, fixed_cost, reduced_cost, row_part, unit_part, bound}
 use Rattle.flow_rules.specs.BoundSteps.{least_steps, rows_steps, rows_at, reduced_steps, unit_steps, units_steps, bound_steps}
 use Rattle.flow_rules.specs.CostSteps as costs

@@ -31,8 +31,8 @@ its_bound : bound (net_of example) node (pos 1) multipliers ≡ pos 670000000000
 unfolding listed
 its_bound = refl
 
--- one product, three steps for each row, and for each unit four steps and two for each of its rates
-its_steps : length (bound_steps (net_of example) node (pos 1) multipliers) ≡ 37
+-- one product, two steps for each row, and for each unit three steps and two for each of its rates
+its_steps : length (bound_steps (net_of example) node (pos 1) multipliers) ≡ 30
 unfolding listed
 its_steps = refl
 

@@ -1,4 +1,6 @@
 -- The steps of a bound, whose last is the bound: the fixed costs, the rows and then the units of the program, in rising order.
+-- Of the products of a factor with the two ends of a range only the lesser is formed: as the low end is at most the high
+-- end, it is the product with the low end where the factor is at least 0, else that with the high end.
 use Rattle.std.specs.Prelude.{ℕ, ℤ, pos, ◌+ℤ◌, ◌-ℤ◌, ◌*ℤ◌, not, ◌&&◌, List, [], ◌∷◌, ◌++◌}
 use Rattle.std.specs.Ordering.{int_eq}
 use Rattle.std.specs.Int.{int_min}
@@ -9,9 +11,9 @@ use Rattle.pns_rules.specs.Nodes.{Node}
 use Rattle.flow_rules.specs.Net.{Net}
 use Rattle.flow_rules.specs.Relaxed.{stays, units, rows, row_low, row_high, unit_low, unit_cost, fixed_cost, reduced_cost, row_part, unit_part}
 
--- the factor times each end of a range, and the sum with the lesser of the two
+-- the lesser of the products of the factor with the ends of a range, and the sum with it
 abbrev pub least_steps : ℤ → ℤ → ℤ → ℤ → List ℤ
-least_steps factor low high sum = (factor *ℤ low) ∷ (factor *ℤ high) ∷ (sum +ℤ int_min (factor *ℤ low) (factor *ℤ high)) ∷ []
+least_steps factor low high sum = int_min (factor *ℤ low) (factor *ℤ high) ∷ (sum +ℤ int_min (factor *ℤ low) (factor *ℤ high)) ∷ []
 
 abbrev pub rows_steps : Net → Node → (ℕ → ℤ) → List ℕ → ℤ → List ℤ
 rows_steps net n y [] sum = []
