@@ -12,7 +12,7 @@ use Rattle.flow_rules.proofs.LeadingLemmas.{Leads, leads_none, leads_one, leads_
 use Rattle.flow_rules.proofs.SameLemmas.{Agree, bound_steps-same, bound-same}
 use Rattle.flow_program.specs.Columns.{column_steps, left_of}
 
-length_of_rows : (net : Net) (n : Node) (y : ℕ → ℤ) (js : List ℕ) (sum : ℤ) → length (rows_steps net n y js sum) ≡ 3 * length js
+length_of_rows : (net : Net) (n : Node) (y : ℕ → ℤ) (js : List ℕ) (sum : ℤ) → length (rows_steps net n y js sum) ≡ 2 * length js
 length_of_rows net n y [] sum = refl
 length_of_rows net n y (j ∷ js) sum = let h = length_of_rows net n y js (sum +ℤ row_part net n y j) in omega arith
 
@@ -20,7 +20,7 @@ length_of_reduced : (y rate : ℕ → ℤ) (js : List ℕ) (c : ℤ) → length 
 length_of_reduced y rate [] c = refl
 length_of_reduced y rate (j ∷ js) c = let h = length_of_reduced y rate js (c -ℤ y j *ℤ rate j) in omega arith
 
-pub length_of_column : (d cost low high : ℤ) (y rate : ℕ → ℤ) (js : List ℕ) (sum : ℤ) → length (column_steps d cost low high y rate js sum) ≡ 4 + 2 * length js
+pub length_of_column : (d cost low high : ℤ) (y rate : ℕ → ℤ) (js : List ℕ) (sum : ℤ) → length (column_steps d cost low high y rate js sum) ≡ 3 + 2 * length js
 length_of_column d cost low high y rate js sum =
     let h = length_of_reduced y rate js (d *ℤ cost) in
     let k = length-append (reduced_steps y rate js (d *ℤ cost)) (least_steps (left_of y rate js (d *ℤ cost)) low high sum) in
@@ -45,7 +45,7 @@ module _ (net : Net) (n : Node) (d : ℤ) (y y' : ℕ → ℤ) (agree : Agree y 
     past_in_rows k le h = leads_past_in (bound_steps net n d y') (rows_steps net n y js start) (units_steps net n d y set (start +ℤ total (row_part net n y) js)) 0 1 (k - 1) k leads h (omega arith)
 
     module _ (sum : ℤ) (g : AreInRange (rows_steps net n y js start)) (t : sum ≡ start +ℤ total (row_part net n y) js) where
-      pub past_in_units : (at k : ℕ) → at ≡ 1 + 3 * length js → at ≤ k → IsFirstPast (units_steps net n d y set sum) (k - at) → IsFirstPast (bound_steps net n d y') k
+      pub past_in_units : (at k : ℕ) → at ≡ 1 + 2 * length js → at ≤ k → IsFirstPast (units_steps net n d y set sum) (k - at) → IsFirstPast (bound_steps net n d y') k
       past_in_units at k a le h =
           let rest = leads_part (bound_steps net n d y') (rows_steps net n y js start) (units_steps net n d y set (start +ℤ total (row_part net n y) js)) 0 1 leads g in
           let count = length_of_rows net n y js start in

@@ -1,13 +1,13 @@
 -- The walks that sum a bound: over the rows of a unit, over the rows, and over the units of the program.
-use Rattle.std.proofs.Common.{◌≡◌, ℕ, ◌+◌, ◌*◌, ◌-◌, ◌<◌, ◌≤◌, List, [], ◌∷◌, ◌++◌, length, true, false, Bool, refl, sym, ap, ◌∙◌, arith, pos, ℤ, ◌+ℤ◌, ◌-ℤ◌, ◌*ℤ◌}
+use Rattle.std.proofs.Common.{◌≡◌, ℕ, ◌+◌, ◌*◌, ◌-◌, ◌<◌, ◌≤◌, List, [], ◌∷◌, ◌++◌, length, true, false, Bool, refl, sym, ap, ◌∙◌, arith, pos, ℤ, ◌+ℤ◌, ◌-ℤ◌, ◌*ℤ◌, ◌≤ℤ◌, ◌<ℤ◌}
 use Rattle.std.proofs.Common.{Result, Ok, Err}
 use Rattle.std.specs.Prelude.{IfErr, nat_lt, not, ◌&&◌}
-use Rattle.std.specs.Int.{int_min}
 use Rattle.std.specs.Ordering.{int_eq}
-use Rattle.std.proofs.lemmas.Int.{ints}
+use Rattle.std.proofs.lemmas.Int.{ints, clamps}
 use Rattle.std.proofs.lemmas.Bool.{lt-ltb}
 use Rattle.int_rows.specs.Range.{InRange}
 use Rattle.integer_laws.specs.Total.{total}
+use Rattle.integer_laws.proofs.Order.{mul-le_left, mul-le_left_neg}
 use Rattle.integer_laws.proofs.Totals.{total-agree}
 use Rattle.number_sets.specs.Sets.{has, IsSet, IsWithin}
 use Rattle.number_sets.proofs.SetLemmas.{has-listed, same_sets, IsRising-listed}
@@ -36,11 +36,17 @@ IfErr-both (Ok x) P Q R f p q = tt
 IfErr-both (Err e) P Q R f p q = f e p q
 
 -- ---- the lesser of two products
-pub third_past : (factor low high sum : ℤ) (at : ℕ) (a b : ℤ) → InRange (factor *ℤ low) → a ≡ factor *ℤ low → InRange (factor *ℤ high) → b ≡ factor *ℤ high → ¬ InRange (sum +ℤ int_min a b)
-    → IsFirstPast (least_steps factor low high sum) (at + 2 - at)
-third_past factor low high sum at a b f e g i n =
-    let second : at + 2 - at ≡ 2 = omega arith in
-    rw second (f, (g, rw (← e, ← i) n))
+pub least_at_high : (factor low high : ℤ) → low ≤ℤ high → factor <ℤ pos 0 → factor *ℤ high ≡ least_of factor low high
+least_at_high factor low high h neg = let a : (factor *ℤ high) ≤ℤ (factor *ℤ low) = mul-le_left_neg factor low high h (omega (arith, ints)) in omega (arith, ints, clamps)
+
+pub least_at_low : (factor low high : ℤ) → low ≤ℤ high → pos 0 ≤ℤ factor → factor *ℤ low ≡ least_of factor low high
+least_at_low factor low high h some = let a : (factor *ℤ low) ≤ℤ (factor *ℤ high) = mul-le_left factor low high h some in omega (arith, ints, clamps)
+
+pub second_past : (factor low high sum : ℤ) (at : ℕ) (least : ℤ) → InRange (least_of factor low high) → least ≡ least_of factor low high → ¬ InRange (sum +ℤ least)
+    → IsFirstPast (least_steps factor low high sum) (at + 1 - at)
+second_past factor low high sum at least f e n =
+    let second : at + 1 - at ≡ 1 = omega arith in
+    rw second (f, rw (← e) n)
 
 -- ---- the rows of a unit
 pub record IsReducedSoFar (y rate : ℕ → ℤ) (materials : List ℕ) (cost rest : ℤ) (start at : ℕ) (left : List ℕ) : Type 0 where
@@ -119,14 +125,14 @@ module _ (d cost low high : ℤ) (y rate : ℕ → ℤ) (js : List ℕ) (sum sca
 -- ---- the rows
 pub record IsRowSum (net : Net) (n : Node) (y : ℕ → ℤ) (rows : List ℕ) (sum so_far : ℤ) (at : ℕ) (left : List ℕ) : Type 0 where
   pub within : IsWithin (has left) (has rows)
-  pub room : at + 3 * length left ≡ 1 + 3 * length rows
+  pub room : at + 2 * length left ≡ 1 + 2 * length rows
   pub value : so_far +ℤ total (row_part net n y) left ≡ sum +ℤ total (row_part net n y) rows
   pub steps : Leads (rows_steps net n y rows sum) (rows_steps net n y left so_far) 1 at
 
 pub row_sum_begins : (net : Net) (n : Node) (y : ℕ → ℤ) (rows : List ℕ) (sum : ℤ) → IsRowSum net n y rows sum sum 1 rows
 row_sum_begins net n y rows sum = record { within = λ j h. h; room = refl; value = refl; steps = leads_none (rows_steps net n y rows sum) 1 }
 
-pub row_sum_room : (net : Net) (n : Node) (y : ℕ → ℤ) (rows : List ℕ) (sum so_far : ℤ) (at : ℕ) (left : List ℕ) → length rows ≤ 256 → IsRowSum net n y rows sum so_far at left → at ≤ 769
+pub row_sum_room : (net : Net) (n : Node) (y : ℕ → ℤ) (rows : List ℕ) (sum so_far : ℤ) (at : ℕ) (left : List ℕ) → length rows ≤ 256 → IsRowSum net n y rows sum so_far at left → at ≤ 513
 row_sum_room net n y rows sum so_far at left few h = let a = h.room in omega arith
 
 nothing_more : (a b : ℤ) → b ≡ pos 0 → a ≡ a +ℤ b
@@ -156,7 +162,7 @@ module _ (net : Net) (n : Node) (y : ℕ → ℤ) (rows : List ℕ) (sum so_far 
       let from = h.steps.from_start in
       leads_past_in (rows_steps net n y rows sum) (least_steps a low high so_far) (rows_steps net n y rest (so_far +ℤ least_of a low high)) 1 at (k - at) (k - 1) row_leads p (omega arith)
 
-  pub row_sum_more : (new : ℤ) → new ≡ so_far +ℤ least_of a low high → AreInRange (least_steps a low high so_far) → IsRowSum net n y rows sum new (at + 3) rest
+  pub row_sum_more : (new : ℤ) → new ≡ so_far +ℤ least_of a low high → AreInRange (least_steps a low high so_far) → IsRowSum net n y rows sum new (at + 2) rest
   row_sum_more new e f = record {
     within = λ i k. h.within i (rest_within 256 left j rest next i k);
     room = let r = h.room in let l : length left ≡ length (j ∷ rest) = ap (λ (js : List ℕ). length js) next.is in omega arith;
@@ -168,7 +174,7 @@ module _ (net : Net) (n : Node) (y : ℕ → ℤ) (rows : List ℕ) (sum so_far 
 -- ---- the units
 pub record IsUnitSum (net : Net) (n : Node) (d : ℤ) (y : ℕ → ℤ) (set : List ℕ) (sum so_far : ℤ) (start at : ℕ) (left : List ℕ) : Type 0 where
   pub within : IsWithin (has left) (has set)
-  pub room : at + 516 * length left ≤ start + 516 * length set
+  pub room : at + 515 * length left ≤ start + 515 * length set
   pub value : so_far +ℤ total (unit_part net n d y) left ≡ sum +ℤ total (unit_part net n d y) set
   pub steps : Leads (units_steps net n d y set sum) (units_steps net n d y left so_far) start at
 
@@ -250,7 +256,7 @@ module _ (net : Net) (n : Node) (d : ℤ) (y : ℕ → ℤ) (set : List ℕ) (su
       let from = h.steps.from_start in
       leads_past_in (units_steps net n d y set sum) part (units_steps net n d y rest (so_far +ℤ unit_part net n d y u)) start at (k - at) (k - start) unit_leads p (omega arith)
 
-  pub unit_sum_more : (new : ℤ) (next_at : ℕ) → new ≡ so_far +ℤ unit_part net n d y u → AreInRange part → next_at ≡ at + length part → next_at ≤ at + 516 → IsUnitSum net n d y set sum new start next_at rest
+  pub unit_sum_more : (new : ℤ) (next_at : ℕ) → new ≡ so_far +ℤ unit_part net n d y u → AreInRange part → next_at ≡ at + length part → next_at ≤ at + 515 → IsUnitSum net n d y set sum new start next_at rest
   unit_sum_more new next_at e f at-is small = record {
     within = λ i k. h.within i (rest_within 128 left u rest next i k);
     room = let r = h.room in let l : length left ≡ length (u ∷ rest) = ap (λ (is : List ℕ). length is) next.is in omega arith;

@@ -17,19 +17,16 @@ use Rattle.pns_rules.specs.Structure.{mats}
 use Rattle.flow_rules.specs.Net.{Net, net_of, beside, units_of, materials_of, low_end, high_end}
 use Rattle.flow_rules.specs.Flows.{IsFlows, balance}
 use Rattle.flow_rules.specs.Steps.{AreInRange, IsFirstPast}
-use Rattle.flow_rules.specs.FeasibleSteps.{box_steps, units_at, balance_steps, range_steps, feasible_steps}
+use Rattle.flow_rules.specs.FeasibleSteps.{units_at, balance_steps, materials_steps, feasible_steps}
 use Rattle.flow_rules.proofs.LeadingLemmas.{Leads, leads_none, leads_one, leads_part, leads_past, leads_past_in, leads_all, leads_same, IsFirstPast-left, IsFirstPast-right, AreInRange-append}
 use Rattle.flow_rules.proofs.SameLemmas.{Agree, all_had}
 use Rattle.flow_rules.proofs.LastLemmas.{total_at_units}
 use Rattle.flow_rules.proofs.NetLemmas.{unit_formed}
 use Rattle.flow_rules.proofs.ZeroLemmas.{int_eq_zero, int_eq_other}
-use Rattle.flow_program.specs.Feasible.{scaled_ends, IsInBox, AreInBoxes, IsInRangeOf, AreInRanges}
+use Rattle.flow_program.specs.Feasible.{IsInBox, AreInBoxes, IsInRangeOf, AreInRanges}
 use Rattle.flow_program.proofs.NodeSetLemmas.{listed_had, mats_known, absorbs}
 use Rattle.flow_program.proofs.RateLemmas.{rate_there, rate_elsewhere}
 use Rattle.flow_program.proofs.WalkLemmas.{IsNext, rest_within, has-first, has-rest}
-
-pub second_past : (low high d : ℤ) (at : ℕ) → InRange (low *ℤ d) → ¬ InRange (high *ℤ d) → IsFirstPast (scaled_ends low high d) (at + 1 - at)
-second_past low high d at f n = let one : at + 1 - at ≡ 1 = omega arith in rw one (f, n)
 
 -- one number more of which something holds
 pub truth_more : (P : ℕ → Type 0) (H H' A B whole : Type 0) (left : List ℕ) (i : ℕ) (rest : List ℕ) → left ≡ i ∷ rest → (P i → A × B) → (A × B → P i)
@@ -46,41 +43,34 @@ truth_ends P H whole left e so_far = (
 )
 
 -- ---- the sizes of units
-pub record IsBoxesSoFar (net : Net) (z : ℕ → ℤ) (d : ℤ) (set : List ℕ) (hold : Bool) (at : ℕ) (left : List ℕ) : Type 0 where
+pub record IsBoxesSoFar (net : Net) (z : ℕ → ℤ) (d : ℤ) (set left : List ℕ) : Type 0 where
   pub within : IsWithin (has left) (has set)
-  pub room : at + 2 * length left ≡ 2 * length set
-  pub truth : (IsTrue hold × AreInBoxes net z d left) ↔ AreInBoxes net z d set
-  pub steps : Leads (box_steps net d set) (box_steps net d left) 0 at
+  pub truth : AreInBoxes net z d left ↔ AreInBoxes net z d set
 
-pub boxes_begin : (net : Net) (z : ℕ → ℤ) (d : ℤ) (set : List ℕ) → IsBoxesSoFar net z d set true 0 set
-boxes_begin net z d set = record { within = λ i h. h; room = omega arith; truth = (λ h. h.1, λ h. (refl, h)); steps = leads_none (box_steps net d set) 0 }
+pub boxes_begin : (net : Net) (z : ℕ → ℤ) (d : ℤ) (set : List ℕ) → IsBoxesSoFar net z d set set
+boxes_begin net z d set = record { within = λ i h. h; truth = (λ h. h, λ h. h) }
 
-pub boxes_end : (net : Net) (z : ℕ → ℤ) (d : ℤ) (set : List ℕ) (hold : Bool) (at : ℕ) (left : List ℕ) → left ≡ [] → IsBoxesSoFar net z d set hold at left
-    → (IsTrue hold ↔ AreInBoxes net z d set) × AreInRange (box_steps net d set)
-boxes_end net z d set hold at left e h = (
-  truth_ends (IsInBox net z d) (IsTrue hold) (AreInBoxes net z d set) left e h.truth,
-  leads_all _ 0 at (leads_same _ _ _ 0 at (ap (λ (xs : List ℕ). box_steps net d xs) e) h.steps),
-)
+pub boxes_end : (net : Net) (z : ℕ → ℤ) (d : ℤ) (set left : List ℕ) → left ≡ [] → IsBoxesSoFar net z d set left → AreInBoxes net z d set
+boxes_end net z d set left e h = h.truth.0 (subst (λ (xs : List ℕ). AreInBoxes net z d xs) (sym e) tt)
 
-pub boxes_room : (net : Net) (z : ℕ → ℤ) (d : ℤ) (set : List ℕ) (hold : Bool) (at : ℕ) (left : List ℕ) → length set ≤ 128 → IsBoxesSoFar net z d set hold at left → at ≤ 256
-boxes_room net z d set hold at left few h = let r = h.room in omega arith
+module _ (net : Net) (z : ℕ → ℤ) (d : ℤ) (set left : List ℕ) (i : ℕ) (rest : List ℕ) (next : IsNext 128 left i rest)
+    (least most size : ℤ) (lo : least ≡ net.least i) (hi : most ≡ net.most i) (sz : size ≡ z i) (h : IsBoxesSoFar net z d set left) where
+  box_is : ((least *ℤ d) ≤ℤ size) × (size ≤ℤ (most *ℤ d)) → IsInBox net z d i
+  box_is q = (rw (lo, sz) at q.0, rw (hi, sz) at q.1)
 
-module _ (net : Net) (z : ℕ → ℤ) (d : ℤ) (set : List ℕ) (hold : Bool) (at : ℕ) (left : List ℕ) (i : ℕ) (rest : List ℕ) (next : IsNext 128 left i rest)
-    (least most size : ℤ) (lo : least ≡ net.least i) (hi : most ≡ net.most i) (sz : size ≡ z i) (h : IsBoxesSoFar net z d set hold at left) where
-  box_leads : Leads (box_steps net d set) (scaled_ends least most d ++ box_steps net d rest) 0 at
-  box_leads = leads_same _ _ _ 0 at (ap (λ (xs : List ℕ). box_steps net d xs) next.is ∙ (λ k. scaled_ends (sym lo k) (sym hi k) d ++ box_steps net d rest)) h.steps
+  box_was : IsInBox net z d i → ((least *ℤ d) ≤ℤ size) × (size ≤ℤ (most *ℤ d))
+  box_was q = (rw (lo, sz) q.0, rw (hi, sz) q.1)
 
-  pub box_past : (n : ℕ) → at ≤ n → IsFirstPast (scaled_ends least most d) (n - at) → IsFirstPast (box_steps net d set) n
-  box_past n le p = leads_past_in (box_steps net d set) (scaled_ends least most d) (box_steps net d rest) 0 at (n - at) n box_leads p (omega arith)
+  pub not_in_boxes : (((least *ℤ d) ≤ℤ size) × (size ≤ℤ (most *ℤ d)) → ⊥) → AreInBoxes net z d set → ⊥
+  not_in_boxes n w = let a : AreInBoxes net z d (i ∷ rest) = subst (λ (xs : List ℕ). AreInBoxes net z d xs) next.is (h.truth.1 w) in n (box_was a.0)
 
-  pub boxes_more : (low high : ℤ) (hold' : Bool) → low ≡ least *ℤ d → high ≡ most *ℤ d → AreInRange (scaled_ends least most d) → IsTrue hold' ↔ (IsTrue hold × (low ≤ℤ size) × (size ≤ℤ high))
-      → IsBoxesSoFar net z d set hold' (at + 2) rest
-  boxes_more low high hold' a b f step = record {
+  pub boxes_more : ((least *ℤ d) ≤ℤ size) × (size ≤ℤ (most *ℤ d)) → IsBoxesSoFar net z d set rest
+  boxes_more q = record {
     within = λ j k. h.within j (rest_within 128 left i rest next j k);
-    room = let r = h.room in let l : length left ≡ length (i ∷ rest) = ap (λ (xs : List ℕ). length xs) next.is in omega arith;
-    truth = truth_more (IsInBox net z d) (IsTrue hold) (IsTrue hold') (low ≤ℤ size) (size ≤ℤ high) (AreInBoxes net z d set) left i rest next.is
-        (λ q. (rw (a, lo, sz) q.0, rw (b, hi, sz) q.1)) (λ q. (rw (a, lo, sz) at q.0, rw (b, hi, sz) at q.1)) step h.truth;
-    steps = leads_part (box_steps net d set) (scaled_ends least most d) (box_steps net d rest) 0 at box_leads f;
+    truth = (
+      λ r. h.truth.0 (subst (λ (xs : List ℕ). AreInBoxes net z d xs) (sym next.is) (box_is q, r)),
+      λ w. let a : AreInBoxes net z d (i ∷ rest) = subst (λ (xs : List ℕ). AreInBoxes net z d xs) next.is (h.truth.1 w) in a.1,
+    );
   }
 
 -- ---- what a material leaves over
@@ -178,75 +168,63 @@ units_are p formed set units j is known members =
         outside (terms_have (unit_at p u).outputs j || terms_have (unit_at p u).inputs j) (nat_lt u (length p.units)) (has set u) (not (int_eq (rate_of p j u) (pos 0))) e
 
 -- ---- the materials
-pub record IsRangesSoFar (net : Net) (s : ℕ → Bool) (z : ℕ → ℤ) (d : ℤ) (materials : List ℕ) (hold : Bool) (start at : ℕ) (left : List ℕ) : Type 0 where
+pub record IsRangesSoFar (net : Net) (s : ℕ → Bool) (z : ℕ → ℤ) (d : ℤ) (materials : List ℕ) (hold : Bool) (at : ℕ) (left : List ℕ) : Type 0 where
   pub within : IsWithin (has left) (has materials)
-  pub room : at + 258 * length left ≤ start + 258 * length materials
+  pub room : at + 256 * length left ≤ 256 * length materials
   pub truth : (IsTrue hold × AreInRanges net s z d left) ↔ AreInRanges net s z d materials
-  pub steps : Leads (range_steps net s z d materials) (range_steps net s z d left) start at
+  pub steps : Leads (materials_steps net s z materials) (materials_steps net s z left) 0 at
 
-pub ranges_begin : (net : Net) (s : ℕ → Bool) (z : ℕ → ℤ) (d : ℤ) (materials : List ℕ) (start : ℕ) → IsRangesSoFar net s z d materials true start start materials
-ranges_begin net s z d materials start = record { within = λ i h. h; room = omega arith; truth = (λ h. h.1, λ h. (refl, h)); steps = leads_none (range_steps net s z d materials) start }
+pub ranges_begin : (net : Net) (s : ℕ → Bool) (z : ℕ → ℤ) (d : ℤ) (materials : List ℕ) → IsRangesSoFar net s z d materials true 0 materials
+ranges_begin net s z d materials = record { within = λ i h. h; room = omega arith; truth = (λ h. h.1, λ h. (refl, h)); steps = leads_none (materials_steps net s z materials) 0 }
 
-pub ranges_end : (net : Net) (s : ℕ → Bool) (z : ℕ → ℤ) (d : ℤ) (materials : List ℕ) (hold : Bool) (start at : ℕ) (left : List ℕ) → left ≡ [] → IsRangesSoFar net s z d materials hold start at left
-    → (IsTrue hold ↔ AreInRanges net s z d materials) × AreInRange (range_steps net s z d materials)
-ranges_end net s z d materials hold start at left e h = (
+pub ranges_end : (net : Net) (s : ℕ → Bool) (z : ℕ → ℤ) (d : ℤ) (materials : List ℕ) (hold : Bool) (at : ℕ) (left : List ℕ) → left ≡ [] → IsRangesSoFar net s z d materials hold at left
+    → (IsTrue hold ↔ AreInRanges net s z d materials) × AreInRange (materials_steps net s z materials)
+ranges_end net s z d materials hold at left e h = (
   truth_ends (IsInRangeOf net s z d) (IsTrue hold) (AreInRanges net s z d materials) left e h.truth,
-  leads_all _ start at (leads_same _ _ _ start at (ap (λ (xs : List ℕ). range_steps net s z d xs) e) h.steps),
+  leads_all _ 0 at (leads_same _ _ _ 0 at (ap (λ (xs : List ℕ). materials_steps net s z xs) e) h.steps),
 )
 
-pub ranges_room : (net : Net) (s : ℕ → Bool) (z : ℕ → ℤ) (d : ℤ) (materials : List ℕ) (hold : Bool) (start at : ℕ) (left : List ℕ) → length materials ≤ 256 → start ≤ 256 → IsRangesSoFar net s z d materials hold start at left → at ≤ 70000
-ranges_room net s z d materials hold start at left few small h = let r = h.room in omega arith
+pub ranges_room : (net : Net) (s : ℕ → Bool) (z : ℕ → ℤ) (d : ℤ) (materials : List ℕ) (hold : Bool) (at : ℕ) (left : List ℕ) → length materials ≤ 256 → IsRangesSoFar net s z d materials hold at left → at ≤ 70000
+ranges_room net s z d materials hold at left few h = let r = h.room in omega arith
 
 length_of_balance : (net : Net) (z : ℕ → ℤ) (j : ℕ) (is : List ℕ) (sum : ℤ) → length (balance_steps net z j is sum) ≡ 2 * length is
 length_of_balance net z j [] sum = refl
 length_of_balance net z j (i ∷ is) sum = let h = length_of_balance net z j is (sum +ℤ net.rate j i *ℤ z i) in omega arith
 
-module _ (p : Problem) (s : ℕ → Bool) (z : ℕ → ℤ) (d : ℤ) (materials : List ℕ) (hold : Bool) (start at : ℕ) (left : List ℕ) (j : ℕ) (rest : List ℕ) (next : IsNext 256 left j rest)
-    (low high : ℤ) (lo : low ≡ low_end (net_of p) j ((net_of p).lower j)) (hi : high ≡ high_end (net_of p) j ((net_of p).lower j)) (units : List ℕ) (us : units ≡ units_at (net_of p) s j)
-    (h : IsRangesSoFar (net_of p) s z d materials hold start at left) where
-  range_leads : Leads (range_steps (net_of p) s z d materials) (scaled_ends low high d ++ (balance_steps (net_of p) z j units (pos 0) ++ range_steps (net_of p) s z d rest)) start at
-  range_leads = leads_same _ _ _ start at
-      (ap (λ (xs : List ℕ). range_steps (net_of p) s z d xs) next.is ∙ (λ k. scaled_ends (sym lo k) (sym hi k) d ++ (balance_steps (net_of p) z j (sym us k) (pos 0) ++ range_steps (net_of p) s z d rest)))
+module _ (p : Problem) (s : ℕ → Bool) (z : ℕ → ℤ) (d : ℤ) (materials : List ℕ) (hold : Bool) (at : ℕ) (left : List ℕ) (j : ℕ) (rest : List ℕ) (next : IsNext 256 left j rest)
+    (units : List ℕ) (us : units ≡ units_at (net_of p) s j) (h : IsRangesSoFar (net_of p) s z d materials hold at left) where
+  balance_leads : Leads (materials_steps (net_of p) s z materials) (balance_steps (net_of p) z j units (pos 0) ++ materials_steps (net_of p) s z rest) 0 at
+  balance_leads = leads_same _ _ _ 0 at
+      (ap (λ (xs : List ℕ). materials_steps (net_of p) s z xs) next.is ∙ (λ k. balance_steps (net_of p) z j (sym us k) (pos 0) ++ materials_steps (net_of p) s z rest))
       h.steps
 
-  pub ends_past : (n : ℕ) → at ≤ n → IsFirstPast (scaled_ends low high d) (n - at) → IsFirstPast (range_steps (net_of p) s z d materials) (n - start)
-  ends_past n le q =
-      let from = h.steps.from_start in
-      leads_past_in _ (scaled_ends low high d) _ start at (n - at) (n - start) range_leads q (omega arith)
+  pub balance_past : (n : ℕ) → at ≤ n → IsFirstPast (balance_steps (net_of p) z j units (pos 0)) (n - at) → IsFirstPast (materials_steps (net_of p) s z materials) n
+  balance_past n le q = leads_past_in _ (balance_steps (net_of p) z j units (pos 0)) _ 0 at (n - at) n balance_leads q (omega arith)
 
-  module _ (f : AreInRange (scaled_ends low high d)) where
-    balance_leads : Leads (range_steps (net_of p) s z d materials) (balance_steps (net_of p) z j units (pos 0) ++ range_steps (net_of p) s z d rest) start (at + 2)
-    balance_leads = leads_part _ (scaled_ends low high d) _ start at range_leads f
+  pub ranges_more : (low high over : ℤ) (hold' : Bool) (next_at : ℕ) → low ≡ low_end (net_of p) j ((net_of p).lower j) → high ≡ high_end (net_of p) j ((net_of p).lower j)
+      → over ≡ total (λ i. rate_of p j i *ℤ z i) units → AreInRange (balance_steps (net_of p) z j units (pos 0)) → next_at ≡ at + 2 * length units → length units ≤ 128
+      → IsTrue hold' ↔ (IsTrue hold × ((low *ℤ d) ≤ℤ over) × (over ≤ℤ (high *ℤ d))) → IsRangesSoFar (net_of p) s z d materials hold' next_at rest
+  ranges_more low high over hold' next_at lo hi v g at-is few step = record {
+    within = λ u k. h.within u (rest_within 256 left j rest next u k);
+    room = let r = h.room in let l : length left ≡ length (j ∷ rest) = ap (λ (xs : List ℕ). length xs) next.is in omega arith;
+    truth = truth_more (IsInRangeOf (net_of p) s z d) (IsTrue hold) (IsTrue hold') ((low *ℤ d) ≤ℤ over) (over ≤ℤ (high *ℤ d)) (AreInRanges (net_of p) s z d materials) left j rest next.is
+        (λ q. (subst (λ w. (low *ℤ d) ≤ℤ w) (sym is) (subst (λ w. w ≤ℤ balance (net_of p) s z j) (sym bottom) q.0), subst (λ w. w ≤ℤ (high *ℤ d)) (sym is) (subst (λ w. balance (net_of p) s z j ≤ℤ w) (sym top) q.1)))
+        (λ q. (subst (λ w. w ≤ℤ balance (net_of p) s z j) bottom (subst (λ w. (low *ℤ d) ≤ℤ w) is q.0), subst (λ w. balance (net_of p) s z j ≤ℤ w) top (subst (λ w. w ≤ℤ (high *ℤ d)) is q.1)))
+        step h.truth;
+    steps = rw counted (leads_part _ (balance_steps (net_of p) z j units (pos 0)) _ 0 at balance_leads g);
+  }
+    where
+      is : over ≡ balance (net_of p) s z j
+      is = v ∙ ap (λ (xs : List ℕ). total (λ i. rate_of p j i *ℤ z i) xs) us ∙ total_at_units (net_of p) s z j
 
-    pub balance_past : (n : ℕ) → at + 2 ≤ n → IsFirstPast (balance_steps (net_of p) z j units (pos 0)) (n - (at + 2)) → IsFirstPast (range_steps (net_of p) s z d materials) (n - start)
-    balance_past n le q =
-        let from = h.steps.from_start in
-        leads_past_in _ (balance_steps (net_of p) z j units (pos 0)) _ start (at + 2) (n - (at + 2)) (n - start) balance_leads q (omega arith)
+      bottom : low *ℤ d ≡ low_end (net_of p) j ((net_of p).lower j) *ℤ d
+      bottom = ap (λ w. w *ℤ d) lo
 
-    pub ranges_more : (scaled_low scaled_high over : ℤ) (hold' : Bool) (next_at : ℕ) → scaled_low ≡ low *ℤ d → scaled_high ≡ high *ℤ d → over ≡ total (λ i. rate_of p j i *ℤ z i) units
-        → AreInRange (balance_steps (net_of p) z j units (pos 0)) → next_at ≡ at + 2 + 2 * length units → length units ≤ 128
-        → IsTrue hold' ↔ (IsTrue hold × (scaled_low ≤ℤ over) × (over ≤ℤ scaled_high)) → IsRangesSoFar (net_of p) s z d materials hold' start next_at rest
-    ranges_more scaled_low scaled_high over hold' next_at a b v g at-is few step = record {
-      within = λ u k. h.within u (rest_within 256 left j rest next u k);
-      room = let r = h.room in let l : length left ≡ length (j ∷ rest) = ap (λ (xs : List ℕ). length xs) next.is in omega arith;
-      truth = truth_more (IsInRangeOf (net_of p) s z d) (IsTrue hold) (IsTrue hold') (scaled_low ≤ℤ over) (over ≤ℤ scaled_high) (AreInRanges (net_of p) s z d materials) left j rest next.is
-          (λ q. (subst (λ w. scaled_low ≤ℤ w) (sym is) (subst (λ w. w ≤ℤ balance (net_of p) s z j) (sym bottom) q.0), subst (λ w. w ≤ℤ scaled_high) (sym is) (subst (λ w. balance (net_of p) s z j ≤ℤ w) (sym top) q.1)))
-          (λ q. (subst (λ w. w ≤ℤ balance (net_of p) s z j) bottom (subst (λ w. scaled_low ≤ℤ w) is q.0), subst (λ w. balance (net_of p) s z j ≤ℤ w) top (subst (λ w. w ≤ℤ scaled_high) is q.1)))
-          step h.truth;
-      steps = rw counted (leads_part _ (balance_steps (net_of p) z j units (pos 0)) _ start (at + 2) balance_leads g);
-    }
-      where
-        is : over ≡ balance (net_of p) s z j
-        is = v ∙ ap (λ (xs : List ℕ). total (λ i. rate_of p j i *ℤ z i) xs) us ∙ total_at_units (net_of p) s z j
+      top : high *ℤ d ≡ high_end (net_of p) j ((net_of p).lower j) *ℤ d
+      top = ap (λ w. w *ℤ d) hi
 
-        bottom : scaled_low ≡ low_end (net_of p) j ((net_of p).lower j) *ℤ d
-        bottom = a ∙ ap (λ w. w *ℤ d) lo
-
-        top : scaled_high ≡ high_end (net_of p) j ((net_of p).lower j) *ℤ d
-        top = b ∙ ap (λ w. w *ℤ d) hi
-
-        counted : next_at ≡ at + 2 + length (balance_steps (net_of p) z j units (pos 0))
-        counted = at-is ∙ ap (λ (k : ℕ). at + 2 + k) (sym (length_of_balance (net_of p) z j units (pos 0)))
+      counted : next_at ≡ at + length (balance_steps (net_of p) z j units (pos 0))
+      counted = at-is ∙ ap (λ (k : ℕ). at + k) (sym (length_of_balance (net_of p) z j units (pos 0)))
 
 -- ---- the whole
 all_at : (P : ℕ → Type 0) (xs : List ℕ) (i : ℕ) → AllByRecursion P xs → has xs i ≡ true → P i
@@ -281,12 +259,12 @@ module _ (net : Net) (set : List ℕ) (z y : ℕ → ℤ) (agree : Agree z y set
       weaker true false c h = h
       weaker false b c h = let f : false ≡ true = h in cc
 
-  ranges-same : (js : List ℕ) → range_steps net (has set) z d js ≡ range_steps net (has set) y d js
-  ranges-same [] = refl
-  ranges-same (j ∷ js) = λ k. (low_end net j (net.lower j) *ℤ d) ∷ (high_end net j (net.lower j) *ℤ d) ∷ (balances-same net z y j (units_at net (has set) j) (pos 0) (within_set j) k ++ ranges-same js k)
+  materials-same : (js : List ℕ) → materials_steps net (has set) z js ≡ materials_steps net (has set) y js
+  materials-same [] = refl
+  materials-same (j ∷ js) = λ k. balances-same net z y j (units_at net (has set) j) (pos 0) (within_set j) k ++ materials-same js k
 
-  pub feasible_steps_are : (materials : List ℕ) → materials ≡ materials_of net (has set) → box_steps net d set ++ range_steps net (has set) z d materials ≡ feasible_steps net (has set) y d
-  feasible_steps_are materials ms = (λ k. box_steps net d (sym us k) ++ range_steps net (has set) z d (ms k)) ∙ ap (λ xs. box_steps net d (units_of net (has set)) ++ xs) (ranges-same (materials_of net (has set)))
+  pub feasible_steps_are : (materials : List ℕ) → materials ≡ materials_of net (has set) → materials_steps net (has set) z materials ≡ feasible_steps net (has set) y d
+  feasible_steps_are materials ms = (λ k. materials_steps net (has set) z (ms k)) ∙ materials-same (materials_of net (has set))
 
   same_balance : (j : ℕ) → balance net (has set) z j ≡ balance net (has set) y j
   same_balance j = total-agree (λ i. net.rate j i *ℤ z i) (λ i. net.rate j i *ℤ y i) (units_of net (has set))
@@ -320,24 +298,3 @@ pub materials_are : (g : Shape) → IsProper g → (set materials : List ℕ) �
 materials_are g proper set materials e is =
     same_sets materials (listed g.materials (mats g (has set))) is.rising (IsRising-listed g.materials (mats g (has set)))
     (λ j. ap (λ t. t j) e ∙ absorbs (nat_lt j g.materials) (mats g (has set) j) (λ h. lt-ltb j g.materials (mats_known g proper (has set) j h)) ∙ sym (has-listed g.materials (mats g (has set)) j))
-
-length_of_boxes : (net : Net) (d : ℤ) (is : List ℕ) → length (box_steps net d is) ≡ 2 * length is
-length_of_boxes net d [] = refl
-length_of_boxes net d (i ∷ is) = let h = length_of_boxes net d is in omega arith
-
-module _ (net : Net) (set : List ℕ) (z y : ℕ → ℤ) (agree : Agree z y set) (us : units_of net (has set) ≡ set) (d : ℤ) where
-  pub past_in_boxes : (n : ℕ) → IsFirstPast (box_steps net d set) n → IsFirstPast (feasible_steps net (has set) y d) n
-  past_in_boxes n h =
-      subst (λ (xs : List ℤ). IsFirstPast xs n) (feasible_steps_are net set z y agree us d (materials_of net (has set)) refl)
-      (IsFirstPast-left (box_steps net d set) (range_steps net (has set) z d (materials_of net (has set))) n h)
-
-  module _ (materials : List ℕ) (ms : materials ≡ materials_of net (has set)) (f : AreInRange (box_steps net d set)) where
-    pub past_in_ranges : (start n : ℕ) → start ≡ 2 * length set → start ≤ n → IsFirstPast (range_steps net (has set) z d materials) (n - start) → IsFirstPast (feasible_steps net (has set) y d) n
-    past_in_ranges start n s le h =
-        let l = length_of_boxes net d set in
-        subst (λ (xs : List ℤ). IsFirstPast xs n) (feasible_steps_are net set z y agree us d materials ms)
-        (IsFirstPast-right (box_steps net d set) (range_steps net (has set) z d materials) (n - start) n (omega arith) f h)
-
-    pub feasible_in_range : AreInRange (range_steps net (has set) z d materials) → AreInRange (feasible_steps net (has set) y d)
-    feasible_in_range h =
-        subst AreInRange (feasible_steps_are net set z y agree us d materials ms) (AreInRange-append (box_steps net d set) (range_steps net (has set) z d materials) f h)

@@ -9,3 +9,4 @@ mod BoundLemmas
 mod BoundSumLemmas
 mod CostLemmas
 mod CostSumLemmas
+mod QuotientLemmas

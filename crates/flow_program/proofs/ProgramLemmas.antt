@@ -171,7 +171,7 @@ module _ (p : Problem) (formed : IsWellFormed p) where
       let a = size_add (size_cost (net_of p) i) (cond (n.inside i) (pos 0) (slope (net_of p) i *ℤ million)) (10 ^ 35) (10 ^ 18 * 1000000 * 1000000) (size_cost_small i l) c in
       omega arith
 
-  box_formed : (n : Node) (i : ℕ) → i < length p.units → rules.IsWithin (10 ^ 15) (unit_low (net_of p) n i) × rules.IsWithin (10 ^ 15) ((net_of p).most i) × (unit_low (net_of p) n i ≤ℤ (net_of p).most i)
+  pub box_formed : (n : Node) (i : ℕ) → i < length p.units → rules.IsWithin (10 ^ 15) (unit_low (net_of p) n i) × rules.IsWithin (10 ^ 15) ((net_of p).most i) × (unit_low (net_of p) n i ≤ℤ (net_of p).most i)
   box_formed n i l =
       let b = (unit_formed p formed i l).bounds in (
         by_test (n.inside i) (unit_at p i).lower (pos 0) (10 ^ 15) b.lower_bound.in_range (zero_small (10 ^ 15)),
@@ -183,7 +183,7 @@ module _ (p : Problem) (formed : IsWellFormed p) where
       at true h k = h
       at false h k = k
 
-  range_formed : (n : Node) (j : ℕ) → j < length p.materials → rules.IsWithin (10 ^ 21) (row_low (net_of p) n j) × rules.IsWithin (10 ^ 21) (row_high (net_of p) n j) × (row_low (net_of p) n j ≤ℤ row_high (net_of p) n j)
+  pub range_formed : (n : Node) (j : ℕ) → j < length p.materials → rules.IsWithin (10 ^ 21) (row_low (net_of p) n j) × rules.IsWithin (10 ^ 21) (row_high (net_of p) n j) × (row_low (net_of p) n j ≤ℤ row_high (net_of p) n j)
   range_formed n j l =
       let b = (material_formed p formed j l).bounds in
       let lower = by_test ((net_of p).graph.product j || mats (net_of p).graph n.inside j) (material_at p j).lower (pos 0) (10 ^ 15) b.lower_bound.in_range (zero_small (10 ^ 15)) in (

@@ -1,5 +1,6 @@
 //! Bounds and refutations of a node.
-ghost use Rattle.std.specs.Prelude.{◌≡◌, ◌<◌, ◌≤◌, ◌+◌, ◌-◌, ◌*◌, ◌^◌, ◌↔◌, ◌+ℤ◌, ◌*ℤ◌, ℕ, pos, true, length, IfOk, IfErr, OnOk, IsTrue};
+ghost use Rattle.std.specs.Prelude.{◌≡◌, ◌<◌, ◌≤◌, ◌+◌, ◌-◌, ◌*◌, ◌^◌, ◌↔◌, ◌+ℤ◌, ◌*ℤ◌, ◌≤ℤ◌, ℕ, pos, true, length, SomeIff, IfOk, IfErr, OnOk, IsTrue};
+ghost use Rattle.int_rows.specs.Range.{InRange};
 ghost use Rattle.integer_laws.specs.Total.{total};
 ghost use Rattle.number_sets.specs.Sets.{has};
 ghost use Rattle.pns_rules.specs.Shape.{shape_of};
@@ -24,23 +25,33 @@ use pgraph::Graph;
 use pns_problem::Problem;
 use unit_sets::{MatSet, Node, UnitSet};
 
+/// The lesser of `factor * low` and `factor * high`, where it is in range; the greater is not formed.
+fn lesser_product(factor: i128, low: i128, high: i128) -> Option<i128>
+    requires { low ≤ℤ high }
+    ensures { SomeIff result (InRange (least_of factor low high)) (least_of factor low high) }
+{
+    if factor < 0 {
+        checked_product(factor, high)
+    } else {
+        checked_product(factor, low)
+    }
+}
+
 /// The sum with the lesser of `factor * low` and `factor * high`; its first step has the number `start`.
 fn with_least(start: u32, sum: i128, factor: i128, low: i128, high: i128) -> Result<i128, PastSum>
-    requires { start + 3 < 2 ^ 32 }
+    requires room { start + 2 < 2 ^ 32 }
+    requires ordered { low ≤ℤ high }
     ensures value { IfOk result (λ total. total ≡ sum +ℤ least_of factor low high) }
     ensures in_range { OnOk result (AreInRange (least_steps factor low high sum)) }
     ensures from_start { IfErr result (λ e. start ≤ e.at) }
     ensures past { IfErr result (λ e. IsFirstPast (least_steps factor low high sum) (e.at - start)) }
 {
-    let Some(at_low) = checked_product(factor, low) else {
+    let Some(least) = lesser_product(factor, low, high) else {
         return Err(PastSum { at: start });
     };
-    let Some(at_high) = checked_product(factor, high) else {
-        return Err(PastSum { at: start + 1 });
-    };
-    match checked_sum(sum, at_low.min(at_high)) {
+    match checked_sum(sum, least) {
         Some(total) => Ok(total),
-        None => Err(PastSum { at: start + 2 }),
+        None => Err(PastSum { at: start + 1 }),
     }
 }
 
@@ -95,9 +106,10 @@ fn with_unit(
     requires all_rates { length rates.now ≡ 256 }
     requires all_ys { length ys.now ≡ 256 }
     requires room { start ≤ 90000 }
+    requires ordered { unit.low ≤ℤ unit.high }
     ensures value { IfOk result (λ p. p.0 ≡ sum +ℤ least_of (left_of (entry ys.now) (entry rates.now) materials (d *ℤ unit.cost)) unit.low unit.high) }
     ensures in_range { OnOk result (AreInRange (column_steps d unit.cost unit.low unit.high (entry ys.now) (entry rates.now) materials sum)) }
-    ensures count { IfOk result (λ p. p.1 ≡ start + (4 + 2 * length materials)) }
+    ensures count { IfOk result (λ p. p.1 ≡ start + (3 + 2 * length materials)) }
     ensures from_start { IfErr result (λ e. start ≤ e.at) }
     ensures past { IfErr result (λ e. IsFirstPast (column_steps d unit.cost unit.low unit.high (entry ys.now) (entry rates.now) materials sum) (e.at - start)) }
 {
@@ -109,7 +121,7 @@ fn with_unit(
         Err(past) => Err(past),
         Ok((left, at)) => match with_least(at, sum, left, unit.low, unit.high) {
             Err(past) => Err(past),
-            Ok(total) => Ok((total, at + 3)),
+            Ok(total) => Ok((total, at + 2)),
         },
     }
 }
@@ -131,6 +143,7 @@ fn with_rows(
     ensures from_start { IfErr result (λ e. 1 ≤ e.at) }
     ensures past { IfErr result (λ e. IsFirstPast (rows_steps (net_of problem.now) (node_of node.now) (entry ys.now) rows sum) (e.at - 1)) }
 {
+    problem.is_valid();
     rows.rises();
     let mut total = sum;
     let mut at = 1;
@@ -145,7 +158,7 @@ fn with_rows(
             Err(past) => return Err(past),
             Ok(next) => total = next,
         }
-        at += 3;
+        at += 2;
         left = left.without(j);
     }
 }
@@ -228,7 +241,7 @@ pub fn bound_of(
     match with_rows(start, problem, &node, rows, needed, &y_at) {
         Err(past) => Err(past),
         Ok(sum) => with_units(
-            1 + 3 * rows.count(),
+            1 + 2 * rows.count(),
             sum,
             d,
             problem,

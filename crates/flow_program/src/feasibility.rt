@@ -1,5 +1,5 @@
 //! Whether sizes of units are flows.
-ghost use Rattle.std.specs.Prelude.{◌≡◌, ◌<◌, ◌≤◌, ◌+◌, ◌-◌, ◌*◌, ◌^◌, ◌↔◌, ◌-ℤ◌, ◌*ℤ◌, ◌≤ℤ◌, ◌||◌, ◌&&◌, ℕ, pos, true, length, IfOk, IfErr, OnOk, IsTrue};
+ghost use Rattle.std.specs.Prelude.{◌≡◌, ◌<◌, ◌≤◌, ◌+◌, ◌-◌, ◌*◌, ◌^◌, ◌↔◌, ◌-ℤ◌, ◌*ℤ◌, ◌≤ℤ◌, ◌<ℤ◌, ◌||◌, ◌&&◌, ℕ, pos, true, length, IfOk, IfErr, OnOk, IsTrue};
 ghost use Rattle.integer_laws.specs.Total.{total};
 ghost use Rattle.number_sets.specs.Sets.{has};
 ghost use Rattle.problem_rules.specs.Problem.{rate_in, rate_of};
@@ -10,9 +10,9 @@ ghost use Rattle.pgraph.specs.Tables.{shape};
 ghost use Rattle.flow_rules.specs.Net.{net_of, beside, units_of, materials_of};
 ghost use Rattle.flow_rules.specs.Flows.{balance, IsFlows};
 ghost use Rattle.flow_rules.specs.Steps.{AreInRange, IsFirstPast};
-ghost use Rattle.flow_rules.specs.FeasibleSteps.{units_at, balance_steps, box_steps, range_steps, feasible_steps};
+ghost use Rattle.flow_rules.specs.FeasibleSteps.{units_at, balance_steps, materials_steps, feasible_steps};
 ghost use Rattle.flow_program.specs.Entry.{entry};
-ghost use Rattle.flow_program.specs.Feasible.{scaled_ends, AreInBoxes, AreInRanges};
+ghost use Rattle.flow_program.specs.Feasible.{AreInBoxes, AreInRanges};
 
 use crate::PastSum;
 use crate::ranges::{Range, range_of};
@@ -54,32 +54,32 @@ fn rate_at(problem: &Problem, j: u32, u: u32) -> i64
     difference(made, used)
 }
 
-/// Both ends of a range times `d`; the first of the two steps has the number `at`.
-fn scaled(at: u32, low: i128, high: i128, d: i128) -> Result<Range, PastSum>
-    requires { at + 2 < 2 ^ 32 }
-    ensures low { IfOk result (λ ends. ends.low ≡ low *ℤ d) }
-    ensures high { IfOk result (λ ends. ends.high ≡ high *ℤ d) }
-    ensures in_range { OnOk result (AreInRange (scaled_ends low high d)) }
-    ensures from_start { IfErr result (λ e. at ≤ e.at) }
-    ensures past { IfErr result (λ e. IsFirstPast (scaled_ends low high d) (e.at - at)) }
+/// Whether the whole number is in the range.
+fn is_in(range: Range, number: i128) -> bool
+    ensures { IsTrue result ↔ ((range.low ≤ℤ number) × (number ≤ℤ range.high)) }
 {
-    let Some(scaled_low) = checked_product(low, d) else {
-        return Err(PastSum { at });
-    };
-    match checked_product(high, d) {
-        Some(scaled_high) => Ok(Range {
-            low: scaled_low,
-            high: scaled_high,
-        }),
-        None => Err(PastSum { at: at + 1 }),
-    }
+    range.low <= number && number <= range.high
 }
 
-/// Whether it held so far, and the number is in the range.
-fn still_within(held: bool, range: Range, number: i128) -> bool
-    ensures { IsTrue result ↔ (IsTrue held × (range.low ≤ℤ number) × (number ≤ℤ range.high)) }
+/// Whether the range has the whole number and something above it.
+fn goes_on_from(range: Range, number: i128) -> bool
+    ensures { IsTrue result ↔ ((range.low ≤ℤ number) × (number <ℤ range.high)) }
 {
-    held && range.low <= number && number <= range.high
+    range.low <= number && number < range.high
+}
+
+/// Whether the number over `d` is in the range. The floor of the quotient and the remainder tell, so that no end of the range
+/// is multiplied by `d`.
+fn is_within(number: i128, d: i128, range: Range) -> bool
+    requires { pos 1 ≤ℤ d }
+    ensures { IsTrue result ↔ (((range.low *ℤ d) ≤ℤ number) × (number ≤ℤ (range.high *ℤ d))) }
+{
+    let floor = number.div_euclid(d);
+    if number.rem_euclid(d) > 0 {
+        goes_on_from(range, floor)
+    } else {
+        is_in(range, floor)
+    }
 }
 
 fn both(first: bool, second: bool) -> bool
@@ -89,28 +89,27 @@ fn both(first: bool, second: bool) -> bool
 }
 
 /// Whether each unit of the set has a size within its bounds.
-fn in_boxes(problem: &Problem, set: UnitSet, d: i128, size_at: &[i128]) -> Result<bool, PastSum>
+fn in_boxes(problem: &Problem, set: UnitSet, d: i128, size_at: &[i128]) -> bool
     requires known { (u : ℕ) → has set u ≡ true → u < length problem.now.units }
     requires all_sizes { length size_at.now ≡ 128 }
-    ensures value { IfOk result (λ b. IsTrue b ↔ AreInBoxes (net_of problem.now) (entry size_at.now) d set) }
-    ensures in_range { OnOk result (AreInRange (box_steps (net_of problem.now) d set)) }
-    ensures past { IfErr result (λ e. IsFirstPast (box_steps (net_of problem.now) d set) e.at) }
+    requires positive { pos 1 ≤ℤ d }
+    ensures { IsTrue result ↔ AreInBoxes (net_of problem.now) (entry size_at.now) d set }
 {
     set.rises();
-    let mut hold = true;
-    let mut at = 0;
     let mut left = set;
     'units: loop {
         left.rises();
         let Some(u) = left.least() else {
-            return Ok(hold);
+            return true;
         };
         let unit = &problem.units()[u as usize];
-        match scaled(at, unit.lower as i128, unit.upper as i128, d) {
-            Err(past) => return Err(past),
-            Ok(range) => hold = still_within(hold, range, size_at[u as usize]),
+        let bounds = Range {
+            low: unit.lower as i128,
+            high: unit.upper as i128,
+        };
+        if !is_within(size_at[u as usize], d, bounds) {
+            return false;
         }
-        at += 2;
         left = left.without(u);
     }
 }
@@ -164,7 +163,6 @@ fn units_with(graph: &Graph, set: UnitSet, j: u32) -> UnitSet
 
 /// Whether each of the materials leaves over no less and no more than its bounds.
 fn in_ranges(
-    start: u32,
     problem: &Problem,
     graph: &Graph,
     set: UnitSet,
@@ -176,16 +174,15 @@ fn in_ranges(
     requires set_known { (u : ℕ) → has set u ≡ true → u < length problem.now.units }
     requires known { (j : ℕ) → has materials j ≡ true → j < length problem.now.materials }
     requires all_sizes { length size_at.now ≡ 128 }
-    requires room { start ≤ 256 }
+    requires positive { pos 1 ≤ℤ d }
     ensures value { IfOk result (λ b. IsTrue b ↔ AreInRanges (net_of problem.now) (has set) (entry size_at.now) d materials) }
-    ensures in_range { OnOk result (AreInRange (range_steps (net_of problem.now) (has set) (entry size_at.now) d materials)) }
-    ensures from_start { IfErr result (λ e. start ≤ e.at) }
-    ensures past { IfErr result (λ e. IsFirstPast (range_steps (net_of problem.now) (has set) (entry size_at.now) d materials) (e.at - start)) }
+    ensures in_range { OnOk result (AreInRange (materials_steps (net_of problem.now) (has set) (entry size_at.now) materials)) }
+    ensures past { IfErr result (λ e. IsFirstPast (materials_steps (net_of problem.now) (has set) (entry size_at.now) materials) e.at) }
 {
     problem.is_valid();
     materials.rises();
     let mut hold = true;
-    let mut at = start;
+    let mut at = 0;
     let mut left = materials;
     'materials: loop {
         left.rises();
@@ -194,16 +191,12 @@ fn in_ranges(
         };
         let material = &problem.materials()[j as usize];
         let range = range_of(problem, j, material.lower);
-        let ends = match scaled(at, range.low, range.high, d) {
-            Err(past) => return Err(past),
-            Ok(ends) => ends,
-        };
         let units = units_with(graph, set, j);
         units.rises();
-        match balance_of(at + 2, problem, j, units, size_at) {
+        match balance_of(at, problem, j, units, size_at) {
             Err(past) => return Err(past),
             Ok((balance, next_at)) => {
-                hold = still_within(hold, ends, balance);
+                hold = both(hold, is_within(balance, d, range));
                 at = next_at;
             }
         }
@@ -213,8 +206,8 @@ fn in_ranges(
 
 /// Whether the sizes, in millionths over `d`, that stand beside the units of the set in rising order are flows for it: each
 /// size is within its unit's bounds, and each material of the set leaves over no less and no more than its bounds; or the
-/// number of the first step that is out of range, all steps being formed before the answer. A unit's terms are looked
-/// through for each of its materials. Takes no memory.
+/// number of the first step that is out of range, all steps being formed before the answer. Only what materials leave over
+/// is formed: nothing is multiplied by `d`. A unit's terms are looked through for each of its materials. Takes no memory.
 pub fn feasible(
     problem: &Problem,
     graph: &Graph,
@@ -233,15 +226,10 @@ pub fn feasible(
     set.rises();
     graph.is_proper();
     let size_at = by_unit(set, sizes);
-    match in_boxes(problem, set, d, &size_at) {
+    let materials = graph.materials(set);
+    materials.rises();
+    match in_ranges(problem, graph, set, materials, d, &size_at) {
         Err(past) => Err(past),
-        Ok(boxes_hold) => {
-            let materials = graph.materials(set);
-            materials.rises();
-            match in_ranges(2 * set.count(), problem, graph, set, materials, d, &size_at) {
-                Err(past) => Err(past),
-                Ok(ranges_hold) => Ok(both(boxes_hold, ranges_hold)),
-            }
-        }
+        Ok(ranges_hold) => Ok(both(in_boxes(problem, set, d, &size_at), ranges_hold)),
     }
 }

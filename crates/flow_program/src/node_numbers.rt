@@ -1,5 +1,5 @@
 //! The numbers of units and rows at a node. None of them can leave the range.
-ghost use Rattle.std.specs.Prelude.{◌≡◌, ◌<◌, ◌≤◌, ◌*◌, ◌^◌, ◌+ℤ◌, ◌*ℤ◌, pos, cond, int_div, length, unsigned_abs};
+ghost use Rattle.std.specs.Prelude.{◌≡◌, ◌<◌, ◌≤◌, ◌*◌, ◌^◌, ◌+ℤ◌, ◌*ℤ◌, ◌≤ℤ◌, pos, cond, int_div, length, unsigned_abs};
 ghost use Rattle.std.specs.Ordering.{int_eq};
 ghost use Rattle.pns_rules.specs.Shape.{shape_of};
 ghost use Rattle.pgraph.specs.View.{node_of};
@@ -89,6 +89,7 @@ pub(crate) fn unit_numbers(
     ensures cost_small { unsigned_abs result.cost ≤ 10 ^ 36 }
     ensures low_small { unsigned_abs result.low ≤ 10 ^ 15 }
     ensures high_small { unsigned_abs result.high ≤ 10 ^ 15 }
+    ensures ordered { result.low ≤ℤ result.high }
 {
     problem.is_valid();
     let unit = &problem.units()[u as usize];

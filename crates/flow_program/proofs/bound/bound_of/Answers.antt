@@ -136,5 +136,5 @@ returns-in-Ok-clause-past c =
     let t : SFits w128 c.in-Ok.sum = search rules in
     IfErr-both c.with_units.result _ _ _
     (λ e from v. past_in_units (net_of p) n c.args.d (entry c.by_material-y_at.result) (beside (rows (net_of p) n) c.args.ys.now) agree c.fixed_costs.result fixed c.sets_of.result.units c.sets_of.result.rows us rs c.in-Some.start h.0 h.1 c.in-Ok.sum (simp to_z-of_z at c.in-Ok.ensures.in_range) (simp to_z-of_z at c.in-Ok.ensures.value)
-    (1 + 3 * c.count.result) e.at (ap (λ (k : ℕ). 1 + 3 * k) c.count.ensures) from v)
+    (1 + 2 * c.count.result) e.at (ap (λ (k : ℕ). 1 + 2 * k) c.count.ensures) from v)
     c.with_units.ensures.from_start (simp to_z-of_z at c.with_units.ensures.past)

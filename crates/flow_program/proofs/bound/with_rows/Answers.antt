@@ -6,12 +6,21 @@ use Rattle.number_sets.proofs.SetLemmas.{length_below}
 use Rattle.pgraph.specs.View.{node_of}
 use Rattle.flow_rules.specs.Net.{net_of}
 use Rattle.flow_program.specs.Entry.{entry}
-use Rattle.flow_program.proofs.WalkLemmas.{is_next, shorter, next_below}
+use Rattle.flow_program.proofs.WalkLemmas.{is_next, shorter, next_had, next_below}
+use Rattle.flow_program.proofs.ProgramLemmas.{range_formed}
 use Rattle.flow_program.proofs.BoundSumLemmas.{row_sum_room, row_past, row_sum_more}
 use Rattle.flow_program.proofs.bound.with_rows.Goals as goal
 
-pub with_least-requires : goal.with_least-requires
-with_least-requires c =
+pub with_least-requires-clause-ordered : goal.with_least-requires-clause-ordered
+with_least-requires-clause-ordered c =
+    let lo : SFits w128 c.row_range-range.result.low = search rules in
+    let hi : SFits w128 c.row_range-range.result.high = search rules in
+    let known = c.requires.known c.in-Some.j (c.rows.invariant.within c.in-Some.j (next_had 256 c.rows.left c.in-Some.j c.rises-in-rows.ensures (sym c.least.ensures ∙ c.in-Some.is))) in
+    let formed = range_formed c.args.problem.now c.is_valid.ensures.well_formed (node_of c.args.node.now) c.in-Some.j known in
+    simp to_z-of_z (rw (c.row_range-range.ensures.low, c.row_range-range.ensures.high) formed.2)
+
+pub with_least-requires-clause-room : goal.with_least-requires-clause-room
+with_least-requires-clause-room c =
     let sum = c.ranges.sum in
     let few = length_below 256 c.args.rows c.rises.ensures.rising c.rises.ensures.below in
     let r = row_sum_room (net_of c.args.problem.now) (node_of c.args.node.now) (entry c.args.ys.now) c.args.rows c.args.sum (to_z w128 c.rows.total-bits) c.rows.at c.rows.left few (simp to_z-of_z at c.rows.invariant) in

@@ -6,8 +6,14 @@ use Rattle.flow_program.specs.Entry.{entry}
 use Rattle.flow_program.proofs.BoundSumLemmas.{past_in_rows, past_in_least, column_in_range}
 use Rattle.flow_program.proofs.bound.with_unit.Goals as goal
 
-pub with_least-requires : goal.with_least-requires
-with_least-requires c =
+pub with_least-requires-clause-ordered : goal.with_least-requires-clause-ordered
+with_least-requires-clause-ordered c =
+    let lo : SFits w128 c.args.unit.low = search rules in
+    let hi : SFits w128 c.args.unit.high = search rules in
+    simp to_z-of_z c.requires.ordered
+
+pub with_least-requires-clause-room : goal.with_least-requires-clause-room
+with_least-requires-clause-room c =
     let few = length_below 256 c.args.materials c.rises.ensures.rising c.rises.ensures.below in
     let count = c.in-Ok.ensures.count in
     let room = c.requires.room in

@@ -66,7 +66,7 @@ units-preserved c =
     let few = length_below 256 c.put_rates-materials.result c.rises-in-units-2.ensures.rising c.rises-in-units-2.ensures.below in
     let count = c.in-Ok.ensures.count in
     let long = length_of_column c.args.d c.unit_numbers-unit.result.cost c.unit_numbers-unit.result.low c.unit_numbers-unit.result.high (entry c.args.ys.now) (entry c.put_rates-materials.new.rates) c.put_rates-materials.result (to_z w128 c.units.total-bits) in
-    let small : c.in-Ok.next_at ≤ c.units.at + 516 = omega arith in
+    let small : c.in-Ok.next_at ≤ c.units.at + 515 = omega arith in
     simp to_z-of_z (unit_sum_more (net_of c.args.problem.now) (node_of c.args.node.now) c.args.d (entry c.args.ys.now) c.args.set c.args.sum (to_z w128 c.units.total-bits) c.args.start c.units.at c.units.left c.in-Some.u c.without-left.result (is_next 128 c.units.left c.in-Some.u c.without-left.result c.rises-in-units.ensures (sym c.least.ensures ∙ c.in-Some.is) c.without-left.ensures)
     (column_steps c.args.d c.unit_numbers-unit.result.cost c.unit_numbers-unit.result.low c.unit_numbers-unit.result.high (entry c.args.ys.now) (entry c.put_rates-materials.new.rates) c.put_rates-materials.result (to_z w128 c.units.total-bits))
     (same_column c.args.problem.now c.is_valid.ensures.well_formed (node_of c.args.node.now) c.args.d (entry c.args.ys.now) c.in-Some.u c.put_rates-materials.result c.put_rates-materials.new.rates c.rises-in-units-2.ensures c.put_rates-materials.ensures there.0 there.1

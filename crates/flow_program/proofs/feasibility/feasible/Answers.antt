@@ -1,27 +1,15 @@
-use Rattle.std.proofs.Common.{◌≡◌, ◌∙◌, ap, ℕ, length, arith, ◌*◌, ◌<◌, true, subst}
+use Rattle.std.proofs.Common.{◌≡◌, ◌∙◌, ap, ℕ, ℤ, List, length, ◌<◌, true, subst}
 use Rattle.std.proofs.lemmas.Int.{to_z-of_z}
 use Rattle.number_sets.specs.Sets.{has, listed}
-use Rattle.number_sets.proofs.SetLemmas.{length_below}
 use Rattle.pns_rules.specs.Shape.{Shape}
 use Rattle.pns_rules.specs.Structure.{mats}
 use Rattle.pgraph.specs.Tables.{shape}
 use Rattle.flow_rules.specs.Net.{net_of, beside, units_of, materials_of}
+use Rattle.flow_rules.specs.Steps.{AreInRange, IsFirstPast}
 use Rattle.flow_program.specs.Entry.{entry}
 use Rattle.flow_program.proofs.NodeSetLemmas.{listed_had, set_listed}
-use Rattle.flow_program.proofs.FeasibleLemmas.{flows_are, materials_are, beside_none, past_in_boxes, past_in_ranges, feasible_in_range}
+use Rattle.flow_program.proofs.FeasibleLemmas.{flows_are, materials_are, beside_none, feasible_steps_are}
 use Rattle.flow_program.proofs.feasibility.feasible.Goals as goal
-
-pub overflow_mul-count : goal.overflow_mul-count
-overflow_mul-count c =
-    let few = length_below 128 c.args.set c.rises.ensures.rising c.rises.ensures.below in
-    let count = c.count.ensures in
-    omega arith
-
-pub in_ranges-requires-clause-room : goal.in_ranges-requires-clause-room
-in_ranges-requires-clause-room c =
-    let few = length_below 128 c.args.set c.rises.ensures.rising c.rises.ensures.below in
-    let count = c.count.ensures in
-    omega arith
 
 pub in_ranges-requires-clause-known : goal.in_ranges-requires-clause-known
 in_ranges-requires-clause-known c =
@@ -30,7 +18,7 @@ in_ranges-requires-clause-known c =
     let known : (u : ℕ) → has c.args.set u ≡ true → u < length p.units = subst (λ (g : Shape). (u : ℕ) → has c.args.set u ≡ true → u < g.units) c.requires.graph c.requires.known in
     let us : units_of (net_of p) (has c.args.set) ≡ c.args.set = set_listed (length p.units) c.args.set c.rises.ensures known in
     let ms : c.materials-materials.result ≡ materials_of (net_of p) (has c.args.set)
-    = materials_are (shape c.args.graph.now) c.is_proper.ensures.proper c.args.set c.materials-materials.result c.materials-materials.ensures c.rises-in-Ok.ensures ∙ ap (λ (g : Shape). listed g.materials (mats g (has c.args.set))) c.requires.graph in
+    = materials_are (shape c.args.graph.now) c.is_proper.ensures.proper c.args.set c.materials-materials.result c.materials-materials.ensures c.rises-2.ensures ∙ ap (λ (g : Shape). listed g.materials (mats g (has c.args.set))) c.requires.graph in
     λ j h. (listed_had (length p.materials) (mats (net_of p).graph (has c.args.set)) c.materials-materials.result j ms h).0
 
 pub returns-in-Err-clause-past : goal.returns-in-Err-clause-past
@@ -39,38 +27,31 @@ returns-in-Err-clause-past c =
     let p = c.args.problem.now in
     let known : (u : ℕ) → has c.args.set u ≡ true → u < length p.units = subst (λ (g : Shape). (u : ℕ) → has c.args.set u ≡ true → u < g.units) c.requires.graph c.requires.known in
     let us : units_of (net_of p) (has c.args.set) ≡ c.args.set = set_listed (length p.units) c.args.set c.rises.ensures known in
-    past_in_boxes (net_of p) c.args.set (entry c.by_unit-size_at.result) (beside c.args.set c.args.sizes.now) c.by_unit-size_at.ensures us c.args.d c.in-Err.past.at (simp to_z-of_z at c.in-Err.ensures.past)
+    let ms : c.materials-materials.result ≡ materials_of (net_of p) (has c.args.set)
+    = materials_are (shape c.args.graph.now) c.is_proper.ensures.proper c.args.set c.materials-materials.result c.materials-materials.ensures c.rises-2.ensures ∙ ap (λ (g : Shape). listed g.materials (mats g (has c.args.set))) c.requires.graph in
+    let steps = feasible_steps_are (net_of p) c.args.set (entry c.by_unit-size_at.result) (beside c.args.set c.args.sizes.now) c.by_unit-size_at.ensures us c.args.d c.materials-materials.result ms in
+    subst (λ (xs : List ℤ). IsFirstPast xs c.in-Err.past.at) steps c.in-Err.ensures.past
 
-pub returns-in-Err-in_ranges-clause-past : goal.returns-in-Err-in_ranges-clause-past
-returns-in-Err-in_ranges-clause-past c =
+pub returns-in-Ok-clause-value : goal.returns-in-Ok-clause-value
+returns-in-Ok-clause-value c =
     let d = c.ranges.d in
     let p = c.args.problem.now in
     let known : (u : ℕ) → has c.args.set u ≡ true → u < length p.units = subst (λ (g : Shape). (u : ℕ) → has c.args.set u ≡ true → u < g.units) c.requires.graph c.requires.known in
     let us : units_of (net_of p) (has c.args.set) ≡ c.args.set = set_listed (length p.units) c.args.set c.rises.ensures known in
     let ms : c.materials-materials.result ≡ materials_of (net_of p) (has c.args.set)
-    = materials_are (shape c.args.graph.now) c.is_proper.ensures.proper c.args.set c.materials-materials.result c.materials-materials.ensures c.rises-in-Ok.ensures ∙ ap (λ (g : Shape). listed g.materials (mats g (has c.args.set))) c.requires.graph in
-    past_in_ranges (net_of p) c.args.set (entry c.by_unit-size_at.result) (beside c.args.set c.args.sizes.now) c.by_unit-size_at.ensures us c.args.d c.materials-materials.result ms (simp to_z-of_z at c.in-Ok.ensures.in_range) (2 * c.count.result) c.in-Err-in_ranges.past.at (ap (λ (k : ℕ). 2 * k) c.count.ensures)
-    c.in-Err-in_ranges.ensures.from_start (simp to_z-of_z at c.in-Err-in_ranges.ensures.past)
-
-pub returns-in-Ok-in_ranges-clause-value : goal.returns-in-Ok-in_ranges-clause-value
-returns-in-Ok-in_ranges-clause-value c =
-    let d = c.ranges.d in
-    let p = c.args.problem.now in
-    let known : (u : ℕ) → has c.args.set u ≡ true → u < length p.units = subst (λ (g : Shape). (u : ℕ) → has c.args.set u ≡ true → u < g.units) c.requires.graph c.requires.known in
-    let us : units_of (net_of p) (has c.args.set) ≡ c.args.set = set_listed (length p.units) c.args.set c.rises.ensures known in
-    let ms : c.materials-materials.result ≡ materials_of (net_of p) (has c.args.set)
-    = materials_are (shape c.args.graph.now) c.is_proper.ensures.proper c.args.set c.materials-materials.result c.materials-materials.ensures c.rises-in-Ok.ensures ∙ ap (λ (g : Shape). listed g.materials (mats g (has c.args.set))) c.requires.graph in
-    let boxes = simp to_z-of_z at c.in-Ok.ensures.value in
-    let ranges = simp to_z-of_z at c.in-Ok-in_ranges.ensures.value in
+    = materials_are (shape c.args.graph.now) c.is_proper.ensures.proper c.args.set c.materials-materials.result c.materials-materials.ensures c.rises-2.ensures ∙ ap (λ (g : Shape). listed g.materials (mats g (has c.args.set))) c.requires.graph in
+    let boxes = simp to_z-of_z at c.in_boxes.ensures in
+    let ranges = simp to_z-of_z at c.in-Ok.ensures.value in
     let flows = flows_are (net_of p) c.args.set (entry c.by_unit-size_at.result) (beside c.args.set c.args.sizes.now) c.by_unit-size_at.ensures us c.args.d c.materials-materials.result ms c.requires.positive (λ i h. beside_none c.args.set c.args.sizes.now i h) known in
     (λ h. let b = c.both.ensures.0 h in flows.0 (boxes.0 b.0, ranges.0 b.1), λ f. let b = flows.1 f in c.both.ensures.1 (boxes.1 b.0, ranges.1 b.1))
 
-pub returns-in-Ok-in_ranges-clause-in_range : goal.returns-in-Ok-in_ranges-clause-in_range
-returns-in-Ok-in_ranges-clause-in_range c =
+pub returns-in-Ok-clause-in_range : goal.returns-in-Ok-clause-in_range
+returns-in-Ok-clause-in_range c =
     let d = c.ranges.d in
     let p = c.args.problem.now in
     let known : (u : ℕ) → has c.args.set u ≡ true → u < length p.units = subst (λ (g : Shape). (u : ℕ) → has c.args.set u ≡ true → u < g.units) c.requires.graph c.requires.known in
     let us : units_of (net_of p) (has c.args.set) ≡ c.args.set = set_listed (length p.units) c.args.set c.rises.ensures known in
     let ms : c.materials-materials.result ≡ materials_of (net_of p) (has c.args.set)
-    = materials_are (shape c.args.graph.now) c.is_proper.ensures.proper c.args.set c.materials-materials.result c.materials-materials.ensures c.rises-in-Ok.ensures ∙ ap (λ (g : Shape). listed g.materials (mats g (has c.args.set))) c.requires.graph in
-    feasible_in_range (net_of p) c.args.set (entry c.by_unit-size_at.result) (beside c.args.set c.args.sizes.now) c.by_unit-size_at.ensures us c.args.d c.materials-materials.result ms (simp to_z-of_z at c.in-Ok.ensures.in_range) (simp to_z-of_z at c.in-Ok-in_ranges.ensures.in_range)
+    = materials_are (shape c.args.graph.now) c.is_proper.ensures.proper c.args.set c.materials-materials.result c.materials-materials.ensures c.rises-2.ensures ∙ ap (λ (g : Shape). listed g.materials (mats g (has c.args.set))) c.requires.graph in
+    let steps = feasible_steps_are (net_of p) c.args.set (entry c.by_unit-size_at.result) (beside c.args.set c.args.sizes.now) c.by_unit-size_at.ensures us c.args.d c.materials-materials.result ms in
+    subst AreInRange steps c.in-Ok.ensures.in_range

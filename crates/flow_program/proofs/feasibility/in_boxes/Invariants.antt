@@ -5,7 +5,7 @@ use Rattle.flow_program.proofs.FeasibleLemmas.{IsBoxesSoFar}
 use Rattle.flow_program.proofs.feasibility.in_boxes.Given as goal
 
 abbrev pub invariant-units : goal.invariant-units
-invariant-units l = IsBoxesSoFar (net_of l.fn.problem) (entry l.fn.size_at) l.fn.d l.fn.set l.hold l.at l.left
+invariant-units l = IsBoxesSoFar (net_of l.fn.problem) (entry l.fn.size_at) l.fn.d l.fn.set l.left
 
 abbrev pub decreases-units : goal.decreases-units
 decreases-units l = length l.left

@@ -6,7 +6,7 @@ use Rattle.flow_program.proofs.FeasibleLemmas.{IsRangesSoFar}
 use Rattle.flow_program.proofs.feasibility.in_ranges.Given as goal
 
 abbrev pub invariant-materials : goal.invariant-materials
-invariant-materials l = IsRangesSoFar (net_of l.fn.problem) (has l.fn.set) (entry l.fn.size_at) l.fn.d l.fn.materials l.hold l.fn.start l.at l.left
+invariant-materials l = IsRangesSoFar (net_of l.fn.problem) (has l.fn.set) (entry l.fn.size_at) l.fn.d l.fn.materials l.hold l.at l.left
 
 abbrev pub decreases-materials : goal.decreases-materials
 decreases-materials l = length l.left
