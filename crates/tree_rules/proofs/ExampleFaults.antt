@@ -8,6 +8,7 @@ use Rattle.flow_rules.specs.BoundSteps.{bound_steps}
 use Rattle.flow_rules.specs.CostSteps.{cost_steps}
 use Rattle.flow_rules.specs.FeasibleSteps.{feasible_steps}
 use Rattle.tree_rules.specs.declared.why.Why.TheVariants as causes
+use Rattle.tree_rules.specs.Ways.{at_material}
 use Rattle.tree_rules.specs.Tree.{TreeNode, branch, leaf}
 use Rattle.tree_rules.specs.Claim.{Network, network, infeasible, unknown, size_in, ClaimFails}
 use Rattle.tree_rules.specs.Leaf.{Leaf, bounded, untried, multiplier}
@@ -18,7 +19,7 @@ use Rattle.tree_rules.proofs.Worked.{in_range, at_most, not_at_most}
 
 -- a root with so many children, and the first two of them; the multiplier of P at the first is handed in
 abbrev root_with : ℕ → TreeNode Leaf
-root_with c = record { option = []; steps = starve 3 ∷ loose (4 ∷ []) ∷ sole 5 2 ∷ []; end = branch 2 c }
+root_with c = record { option = []; steps = starve 3 ∷ loose (4 ∷ []) ∷ sole 5 2 ∷ []; end = branch (at_material 2 c) }
 
 abbrev first_with : ℤ → TreeNode Leaf
 first_with y = record { option = 0 ∷ []; steps = []; end = leaf (bounded (pos 1) (pos 0 ∷ pos 3000000 ∷ y ∷ [])) }

@@ -13,6 +13,7 @@ use Rattle.flow_rules.specs.Flows.{IsFlows, balance}
 use Rattle.flow_rules.specs.BoundSteps.{bound_steps}
 use Rattle.flow_rules.specs.CostSteps.{cost_steps}
 use Rattle.flow_rules.specs.FeasibleSteps.{feasible_steps}
+use Rattle.tree_rules.specs.Ways.{at_material}
 use Rattle.tree_rules.specs.Tree.{branch, leaf, IsTree, StepsPass}
 use Rattle.tree_rules.specs.Claim.{Network, network, IsFeasible, size_in, claimed_cost}
 use Rattle.tree_rules.specs.Leaf.{bounded, multiplier, LeafPasses}
@@ -31,7 +32,7 @@ claim = record { units = 0 ∷ 2 ∷ []; sizes = pos 20000000 ∷ pos 20000000 �
 
 abbrev pub tree : Tree
 tree =
-    record { option = []; steps = starve 3 ∷ loose (4 ∷ []) ∷ sole 5 2 ∷ []; end = branch 2 3 }
+    record { option = []; steps = starve 3 ∷ loose (4 ∷ []) ∷ sole 5 2 ∷ []; end = branch (at_material 2 3) }
     ∷ record { option = 0 ∷ []; steps = []; end = leaf (bounded (pos 1) (pos 0 ∷ pos 3000000 ∷ pos 3000000 ∷ [])) }
     ∷ record { option = 1 ∷ []; steps = []; end = leaf (bounded (pos 1) (pos 0 ∷ pos 4000000 ∷ pos 4000000 ∷ [])) }
     ∷ record { option = 0 ∷ 1 ∷ []; steps = []; end = leaf (bounded (pos 1) (pos 0 ∷ pos 0 ∷ pos 3000000 ∷ pos 3000000 ∷ [])) }

@@ -1,11 +1,11 @@
 -- The first fault of a tree, and its cause: the nodes in preorder, at each its steps and then its end. P tells which leaves
 -- are allowed, F for which cause one is not.
-use Rattle.std.specs.Prelude.{◌≡◌, ◌⊎◌, ℕ, zero, suc, true, List, [], ◌∷◌, ◌++◌}
+use Rattle.std.specs.Prelude.{◌≡◌, ◌⊎◌, ℕ, zero, suc, List, [], ◌∷◌, ◌++◌}
 use Rattle.pns_rules.specs.Shape.{Shape}
-use Rattle.pns_rules.specs.Structure.{is_needed}
-use Rattle.pns_rules.specs.Nodes.{Node, options}
+use Rattle.pns_rules.specs.Nodes.{Node}
 use Rattle.tree_rules.specs.declared.why.Why.{Why}
 use Rattle.tree_rules.specs.declared.why.Why.TheVariants.{Step, Options}
+use Rattle.tree_rules.specs.Ways.{width, MayBranch, options_at}
 use Rattle.tree_rules.specs.Tree.{End, branch, leaf, TreeNode, roots, StepsPass, after_all, below, EndPasses}
 
 -- a line of a table of conditions: it fails for its cause, or it holds and one of the lines below it fails
@@ -13,7 +13,7 @@ abbrev pub Fails : Type 0 → Why → Type 0 → Why → Type 0
 Fails Line cause Below why = ((why ≡ cause) × ¬ Line) ⊎ (Line × Below)
 
 abbrev pub EndFails : {L : Type 0} → Shape → (Node → L → Why → Type 0) → Node → End L → List (TreeNode L) → Why → Type 0
-EndFails g F n (branch x c) behind why = Fails ((is_needed g n.inside x ≡ true) × (roots c behind ≡ options g n x)) Options ⊥ why
+EndFails g F n (branch w) behind why = Fails (MayBranch g n w × (roots (width w) behind ≡ options_at g n w)) Options ⊥ why
 EndFails g F n (leaf l) behind why = F n l why
 
 abbrev pub NodeFails : {L : Type 0} → Shape → (Node → L → Why → Type 0) → Node → TreeNode L → List (TreeNode L) → Why → Type 0

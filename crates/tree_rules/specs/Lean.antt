@@ -1,12 +1,13 @@
 -- Lean trees: a search branches only where that may be of use. `IsOpen` tells which leaves are open, and `claimed` is the cost
 -- that is to be undercut, if there is one. Each node is taken as its steps leave it.
-use Rattle.std.specs.Prelude.{ℕ, ◌≤◌, ℤ, ◌*ℤ◌, ◌≤ℤ◌, List, [], ◌∷◌, length, Option}
+use Rattle.std.specs.Prelude.{ℕ, ℤ, ◌*ℤ◌, ◌≤ℤ◌, List, [], ◌∷◌, Option}
 use Rattle.problem_rules.specs.Problem.{Problem}
 use Rattle.pns_rules.specs.Shape.{shape_of}
-use Rattle.pns_rules.specs.Nodes.{Node, options}
+use Rattle.pns_rules.specs.Nodes.{Node}
 use Rattle.pns_rules.specs.Ends.{IsDead, IsNever, IsReduced}
 use Rattle.flow_rules.specs.Net.{net_of}
 use Rattle.flow_rules.specs.Relaxed.{IsRelaxed, relaxed_cost}
+use Rattle.tree_rules.specs.Ways.{Way, IsDecision}
 use Rattle.tree_rules.specs.Tree.{branch, leaf, TreeNode, Stands}
 use Rattle.tree_rules.specs.Claim.{CostOver, IsAtMost}
 
@@ -29,10 +30,10 @@ abbrev pub IsNoDearer : Problem → Node → Node → Type 0
 IsNoDearer p n m = (z : ℕ → ℤ) (d : ℤ) → IsRelaxed (net_of p) m z d → HasCheaper p n (relaxed_cost (net_of p) m z d) d
 
 pub record IsLean {L : Type 0} (p : Problem) (IsOpen : L → Type 0) (claimed : Option CostOver) (start : Node) (tree : List (TreeNode L)) : Type 0 where
-  pub reduced : (k x c : ℕ) (n : Node) → Stands (shape_of p) (start ∷ []) tree k n (branch x c) → IsReduced (shape_of p) n
-  pub splits : (k x c : ℕ) (n : Node) → Stands (shape_of p) (start ∷ []) tree k n (branch x c) → 2 ≤ length (options (shape_of p) n x)
-  pub of_use : (k x c : ℕ) (n : Node) → Stands (shape_of p) (start ∷ []) tree k n (branch x c) → MayUndercut p claimed n
+  pub reduced : (k : ℕ) (w : Way) (n : Node) → Stands (shape_of p) (start ∷ []) tree k n (branch w) → IsReduced (shape_of p) n
+  pub splits : (k : ℕ) (w : Way) (n : Node) → Stands (shape_of p) (start ∷ []) tree k n (branch w) → IsDecision (shape_of p) n w
+  pub of_use : (k : ℕ) (w : Way) (n : Node) → Stands (shape_of p) (start ∷ []) tree k n (branch w) → MayUndercut p claimed n
   -- no leaf that is still open should have been branched before it
-  pub in_turn : (k x c : ℕ) (n : Node) → Stands (shape_of p) (start ∷ []) tree k n (branch x c)
+  pub in_turn : (k : ℕ) (w : Way) (n : Node) → Stands (shape_of p) (start ∷ []) tree k n (branch w)
       → (j : ℕ) (m : Node) (l : L) → Stands (shape_of p) (start ∷ []) tree j m (leaf l) → IsOpen l
       → IsNever (IsDead (shape_of p) m) → IsNoDearer p n m

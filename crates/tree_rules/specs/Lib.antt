@@ -5,3 +5,4 @@ pub mod Leaf
 pub mod Lean
 pub mod Stops
 pub mod Tree
+pub mod Ways

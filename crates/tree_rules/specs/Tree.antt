@@ -1,16 +1,15 @@
 -- Branch trees, as lists of their nodes in preorder (accelerated branch and bound of Friedler, Varga, Feher and Fan 1996). L
 -- is what the leaves may be.
-use Rattle.std.specs.Prelude.{◌≡◌, ℕ, zero, suc, ◌+◌, ◌<◌, true, List, [], ◌∷◌, ◌++◌, map}
+use Rattle.std.specs.Prelude.{◌≡◌, ℕ, zero, suc, ◌+◌, ◌<◌, List, [], ◌∷◌, ◌++◌}
 use Rattle.pns_rules.specs.Shape.{Shape}
-use Rattle.pns_rules.specs.Structure.{is_needed}
-use Rattle.pns_rules.specs.Nodes.{Node, Step, IsPossible, after, options, child}
+use Rattle.pns_rules.specs.Nodes.{Node, Step, IsPossible, after}
+use Rattle.tree_rules.specs.Ways.{Way, width, MayBranch, options_at, children_at}
 
--- a branch at a material, with the number of its children, or a leaf
 pub data End (L : Type 0) : Type 0 where
-  branch : ℕ → ℕ → End L
+  branch : Way → End L
   leaf : L → End L
 
--- the units that the parent's material is made by, which are taken in at this node; what follows from them; and the end
+-- the option of the parent's way to branch, which is taken in at this node; what follows from it; and the end
 pub record TreeNode (L : Type 0) : Type 0 where
   pub option : List ℕ
   pub steps : List Step
@@ -20,11 +19,11 @@ pub record TreeNode (L : Type 0) : Type 0 where
 
 -- how many subtrees follow a node as its children
 abbrev pub children : {L : Type 0} → End L → ℕ
-children (branch x c) = c
+children (branch w) = width w
 children (leaf l) = 0
 
 abbrev pub HasChildren : {L : Type 0} → End L → Type 0
-HasChildren (branch x c) = 0 < c
+HasChildren (branch w) = 0 < width w
 HasChildren (leaf l) = Unit {0}
 
 -- the list is just k whole subtrees, one after the other
@@ -65,7 +64,7 @@ after_all g n (s ∷ ss) = after_all g (after g n s) ss
 
 -- the nodes of the children
 abbrev pub below : {L : Type 0} → Shape → Node → End L → List Node
-below g n (branch x c) = map (child g n x) (options g n x)
+below g n (branch w) = children_at g n w
 below g n (leaf l) = []
 
 -- of the subtrees of the nodes `ns`, node k in preorder has this end, and its steps leave the node `n`
@@ -77,10 +76,10 @@ Stands g (m ∷ ms) (t ∷ ts) (suc k) n e = Stands g (below g (after_all g m t.
 
 -- ---- trees that pass: P tells which leaves are allowed, and at which nodes
 
--- A leaf passes by P. A branch passes where its material is needed and the children, whose subtrees begin the list behind
--- it, have all its options in order.
+-- A leaf passes by P. A branch passes where the node may be branched so and the children, whose subtrees begin the list behind
+-- it, have all options in order.
 abbrev pub EndPasses : {L : Type 0} → Shape → (Node → L → Type 0) → Node → End L → List (TreeNode L) → Type 0
-EndPasses g P n (branch x c) behind = (is_needed g n.inside x ≡ true) × (roots c behind ≡ options g n x)
+EndPasses g P n (branch w) behind = MayBranch g n w × (roots (width w) behind ≡ options_at g n w)
 EndPasses g P n (leaf l) behind = P n l
 
 -- The list is the subtrees of the nodes, one after the other, and each passes at its node.
