@@ -1,3 +1,5 @@
+mod EitherProblem
+mod EitherTree
 mod ExampleFaults
 mod ExampleProblem
 mod ExampleTree
