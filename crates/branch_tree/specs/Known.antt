@@ -10,6 +10,7 @@ use Rattle.flow_program.specs.declared.place.Column.{Column}
 use Rattle.flow_program.specs.declared.place.Column.TheVariants.{X, S, T, W, Right, Scale}
 use Rattle.flow_program.specs.declared.place.Place.{Place}
 use Rattle.flow_program.specs.declared.place.Place.TheVariants as places
+use Rattle.tree_rules.specs.Ways as ways
 use Rattle.tree_rules.specs.Tree as trees
 use Rattle.tree_rules.specs.Leaf as leaves
 use Rattle.tree_rules.specs.Claim as claims
@@ -43,8 +44,12 @@ KnowsLeaf p (leaves.refuted ys) = AllInRange ys
 KnowsLeaf p (leaves.bounded d ys) = InRange d × AllInRange ys
 KnowsLeaf p leaves.untried = Unit {0}
 
+abbrev pub KnowsWay : Problem → ways.Way → Type 0
+KnowsWay p (ways.at_material x c) = IsMaterial p x
+KnowsWay p (ways.either u) = IsUnit p u
+
 abbrev pub KnowsEnd : Problem → trees.End leaves.Leaf → Type 0
-KnowsEnd p (trees.branch x c) = IsMaterial p x
+KnowsEnd p (trees.branch w) = KnowsWay p w
 KnowsEnd p (trees.leaf l) = KnowsLeaf p l
 
 pub record KnowsNode (p : Problem) (t : trees.TreeNode leaves.Leaf) : Type 0 where

@@ -1,10 +1,11 @@
 -- Ends, claims and tails of the code, as the rules speak of them.
+use Rattle.tree_rules.specs.Ways as ways
 use Rattle.tree_rules.specs.Tree as trees
 use Rattle.tree_rules.specs.Leaf as leaves
 use Rattle.tree_rules.specs.Claim as claims
 use Rattle.branch_tree.specs.Tail as tails
 use Rattle.branch_tree.specs.declared.end.End.{End}
-use Rattle.branch_tree.specs.declared.end.End.TheVariants.{Dead, Clash, Refuted, Bound, Branch, Open}
+use Rattle.branch_tree.specs.declared.end.End.TheVariants.{Dead, Clash, Refuted, Bound, Branch, Either, Open}
 use Rattle.branch_tree.specs.declared.claim.Claim.{Claim}
 use Rattle.branch_tree.specs.declared.claim.Claim.TheVariants.{Network, Infeasible, Unknown}
 use Rattle.branch_tree.specs.declared.tail.Tail.{Tail}
@@ -15,7 +16,8 @@ end_of (Dead x) = trees.leaf (leaves.dead x)
 end_of (Clash k) = trees.leaf (leaves.clash k)
 end_of (Refuted ys) = trees.leaf (leaves.refuted ys)
 end_of (Bound s) = trees.leaf (leaves.bounded s.d s.ys)
-end_of (Branch x c) = trees.branch x c
+end_of (Branch x c) = trees.branch (ways.at_material x c)
+end_of (Either u) = trees.branch (ways.either u)
 end_of Open = trees.leaf leaves.untried
 
 abbrev pub claim_of : Claim → claims.Claim

@@ -15,6 +15,8 @@ pub enum End {
     Bound(Scaled),
     /// So many children follow, one for each option of the material.
     Branch { material: u32, children: u32 },
+    /// Two children follow: the unit is taken in, and the unit is left out.
+    Either(u32),
     /// The leaf is open.
     Open,
 }

@@ -5,8 +5,8 @@ ghost use Rattle.tree_rules.specs.Tree.{IsTree};
 use crate::node::TreeNode;
 use std::marker::Model;
 
-/// The nodes of a branch tree in preorder: the root, which has no option, and behind each branch as many subtrees as it has
-/// children, at least one.
+/// The nodes of a branch tree in preorder: the root, which has no option, and behind each node that is branched as many subtrees
+/// as it has children, at least one.
 #[derive(Drop)]
 pub struct Tree {
     nodes: Vec<TreeNode>,

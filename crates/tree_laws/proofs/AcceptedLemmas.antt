@@ -108,7 +108,7 @@ lean_is_small partial p start claim (t ∷ ts) a lean n e h =
     let m : Node = after_all (shape_of p) start t.steps in
     let small : suc (length ts) + 1 ≤ 2 ^ suc (free_count (shape_of p) m) + 0
     = few (shape_of p) (LeafPasses partial p (claimed_cost claim)) (m ∷ []) (bare t ∷ ts) (tt, a.passes.1, a.passes.2)
-    (λ k x c o s. lean.splits k x c o (stands_there (shape_of p) start t ts k o (branch x c) s)) in
+    (λ k w o s. lean.splits k w o (stands_there (shape_of p) start t ts k o (branch w) s)) in
     let same : free_units (shape_of p) m ≡ free_count (shape_of p) m = length-listed (shape_of p).units (is_free (shape_of p) m) in
     let here : suc (length ts) < 2 ^ suc (free_units (shape_of p) m) = rw same (let less : suc (length ts) < 2 ^ suc (free_count (shape_of p) m) = omega (arith, small) in less) in
     subst (λ (w : Node). suc (length ts) < 2 ^ suc (free_units (shape_of p) w)) h.0 here

@@ -1,33 +1,28 @@
 -- What holds of a leaf holds of the node that the leaf is under, and of no other leaf: for each H that goes up a tree and
 -- holds of one child at most.
-use Rattle.std.proofs.Common.{◌≡◌, ℕ, zero, suc, ◌<◌, List, [], ◌∷◌, ◌++◌, map, refl, sym, ap, subst, inl, inr, arith}
-use Rattle.number_sets.specs.Options.{IsIn, IsAscending, IsBelowEach}
-use Rattle.number_sets.specs.Sets.{mask_of}
+use Rattle.std.proofs.Common.{◌≡◌, ℕ, zero, suc, List, [], ◌∷◌, ◌++◌, map, refl, sym, ap, subst, inl, inr}
+use Rattle.number_sets.specs.Options.{IsIn}
 use Rattle.pns_rules.specs.Shape.{Shape}
-use Rattle.pns_rules.specs.Nodes.{Node, Step, IsPossible, after, options, child}
-use Rattle.pns_rules.proofs.OptionLemmas.{options_ascend}
-use Rattle.tree_rules.specs.Tree.{End, branch, leaf, TreeNode, StepsPass, after_all, below, Stands, Pass}
+use Rattle.pns_rules.specs.Nodes.{Node, Step, IsPossible, after}
+use Rattle.tree_rules.specs.Ways.{Way, MayBranch, options_at, child_at}
+use Rattle.tree_rules.specs.Tree.{End, branch, leaf, TreeNode, StepsPass, after_all, below, Stands, EndPasses, Pass}
 use Rattle.tree_laws.proofs.OneLemmas.{OneHolds, AtMostOne, split_one, join_one, among}
+use Rattle.tree_laws.proofs.WayLemmas.{AreDistinct, options_distinct}
 
 pub record GoesUp (g : Shape) (H : Node → Type 0) : Type 0 where
   pub back : (n : Node) (t : Step) → IsPossible g n t → H (after g n t) → H n
-  pub up : (n : Node) (x : ℕ) (t : List ℕ) → H (child g n x t) → H n
-  pub alone : (n : Node) (x : ℕ) (t t' : List ℕ) → IsIn t (options g n x) → IsIn t' (options g n x) → H (child g n x t) → H (child g n x t') → t ≡ t'
-
-not_below : (t : List ℕ) (ts : List (List ℕ)) → IsBelowEach t ts → IsIn t ts → ⊥
-not_below t [] h i = i
-not_below t (u ∷ us) h (inl e) = let less : mask_of t < mask_of t = subst (λ (w : List ℕ). mask_of t < mask_of w) (sym e) h.0 in omega arith
-not_below t (u ∷ us) h (inr i) = not_below t us h.1 i
+  pub up : (n : Node) (w : Way) (t : List ℕ) → H (child_at g n w t) → H n
+  pub alone : (n : Node) (w : Way) (t t' : List ℕ) → MayBranch g n w → IsIn t (options_at g n w) → IsIn t' (options_at g n w) → H (child_at g n w t) → H (child_at g n w t') → t ≡ t'
 
 module _ (g : Shape) (H : Node → Type 0) (goes : GoesUp g H) where
-  children_one : (n : Node) (x : ℕ) (ts : List (List ℕ)) → ((t : List ℕ) → IsIn t ts → IsIn t (options g n x)) → IsAscending ts → AtMostOne H (map (child g n x) ts)
-  children_one n x [] h a = tt
-  children_one n x (t ∷ ts) h a = (
+  children_one : (n : Node) (w : Way) → MayBranch g n w → (ts : List (List ℕ)) → ((t : List ℕ) → IsIn t ts → IsIn t (options_at g n w)) → AreDistinct ts → AtMostOne H (map (child_at g n w) ts)
+  children_one n w may [] h a = tt
+  children_one n w may (t ∷ ts) h a = (
     (λ f k.
-        let w = among H (child g n x) ts k in
-        let same : t ≡ w.0 = goes.alone n x t w.0 (h t (inl refl)) (h w.0 (inr w.1)) f w.2 in
-        not_below t ts a.0 (subst (λ (v : List ℕ). IsIn v ts) (sym same) w.1)),
-    children_one n x ts (λ v i. h v (inr i)) a.1,
+        let m = among H (child_at g n w) ts k in
+        let same : t ≡ m.0 = goes.alone n w t m.0 may (h t (inl refl)) (h m.0 (inr m.1)) f m.2 in
+        a.0 (subst (λ (v : List ℕ). IsIn v ts) (sym same) m.1)),
+    children_one n w may ts (λ v i. h v (inr i)) a.1,
   )
 
   back_steps : (n : Node) (ss : List Step) → StepsPass g n ss → H (after_all g n ss) → H n
@@ -36,12 +31,12 @@ module _ (g : Shape) (H : Node → Type 0) (goes : GoesUp g H) where
 
   module _ {L : Type 0} (P : Node → L → Type 0) where
     below_one : (n : Node) (e : End L) → OneHolds H (below g n e) → H n
-    below_one n (branch x c) h = let w = among H (child g n x) (options g n x) h in goes.up n x w.0 w.2
+    below_one n (branch w) h = let m = among H (child_at g n w) (options_at g n w) h in goes.up n w m.0 m.2
     below_one n (leaf l) h = absurd h
 
-    below_apart : (n : Node) (e : End L) → AtMostOne H (below g n e)
-    below_apart n (branch x c) = children_one n x (options g n x) (λ t i. i) (options_ascend g n x)
-    below_apart n (leaf l) = tt
+    below_apart : (n : Node) (e : End L) (behind : List (TreeNode L)) → EndPasses g P n e behind → AtMostOne H (below g n e)
+    below_apart n (branch w) behind p = children_one n w p.0 (options_at g n w) (λ t i. i) (options_distinct g n w)
+    below_apart n (leaf l) behind p = tt
 
     above : (ns : List Node) (ts : List (TreeNode L)) (k : ℕ) (m : Node) (l : L) → Pass g P ns ts → Stands g ns ts k m (leaf l) → H m → OneHolds H ns
     above [] ts k m l p h f = absurd h
@@ -70,6 +65,6 @@ module _ (g : Shape) (H : Node → Type 0) (goes : GoesUp g H) where
     leaves_apart (n ∷ ns) (t ∷ ts) (suc j) (suc k) m o a b p one h f i e =
         ap suc
         (leaves_apart (below g (after_all g n t.steps) t.end ++ ns) ts j k m o a b p.2
-        (join_one H (below g (after_all g n t.steps) t.end) ns (below_apart (after_all g n t.steps) t.end) one.1
+        (join_one H (below g (after_all g n t.steps) t.end) ns (below_apart (after_all g n t.steps) t.end ts p.1) one.1
         (λ v w. one.0 (back_steps n t.steps p.0 (below_one (after_all g n t.steps) t.end v)) w))
         h f i e)

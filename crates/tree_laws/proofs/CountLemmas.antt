@@ -1,12 +1,14 @@
 -- How many units of a node are free, and how many options a material has.
-use Rattle.std.proofs.Common.{◌≡◌, ℕ, zero, suc, ◌+◌, ◌*◌, ◌^◌, ◌≤◌, Bool, true, false, cond, not, ◌&&◌, ◌||◌, ◌==◌, List, [], ◌∷◌, ◌++◌, length, refl, ap, ◌∙◌, arith}
-use Rattle.std.proofs.lemmas.Bool.{or_right, and_parts, both_ways, not-true}
+use Rattle.std.proofs.Common.{◌≡◌, ℕ, zero, suc, ◌+◌, ◌*◌, ◌^◌, ◌≤◌, ◌<◌, Bool, true, false, cond, not, ◌&&◌, ◌||◌, ◌==◌, List, [], ◌∷◌, ◌++◌, length, refl, ap, ◌∙◌, subst, inl, inr, eq-eqb, arith}
+use Rattle.std.proofs.lemmas.Bool.{or_right, and_from, and_parts, both_ways, not-true, cases_eq}
 use Rattle.std.proofs.lemmas.List.{length-append}
 use Rattle.std.proofs.lemmas.Nat.{pow-add}
+use Rattle.std.proofs.Math.Nat.{pow-le-pow_right}
 use Rattle.number_sets.specs.Sets.{has, listed}
 use Rattle.number_sets.specs.Options.{without_and_with, subsets, with_base, non_empty}
 use Rattle.pns_rules.specs.Shape.{Shape}
 use Rattle.pns_rules.specs.Nodes.{Node, Step, raw, rival, starve, loose, sole, is_free, after, free_makers, options, child}
+use Rattle.tree_rules.specs.Ways.{Way, at_material, either, MayBranch, decides, options_at, child_at, IsDecision}
 
 -- how many numbers below n pass
 abbrev pub count : ℕ → (ℕ → Bool) → ℕ
@@ -45,6 +47,17 @@ count-parts (suc n) a b c f g =
     let h = count-parts n a b c f g in
     let k = bits (a n) (b n) (c n) (f n) (g n) in
     omega (arith, h, k)
+
+pub count-some : (n : ℕ) (t : ℕ → Bool) (u : ℕ) → u < n → t u ≡ true → 1 ≤ count n t
+count-some zero t u lt e = absurd (omega (arith, lt))
+count-some (suc n) t u lt e = elim (cases_eq u n) [
+  | inl same ↦
+      let here : t n ≡ true = subst (λ (k : ℕ). t k ≡ true) same e in
+      rw here (omega arith)
+  | inr apart ↦
+      let h = count-some n t u (omega (arith, lt, apart)) e in
+      omega (arith, h)
+]
 
 count-none : (n : ℕ) → count n (λ u. false) ≡ 0
 count-none zero = refl
@@ -91,6 +104,24 @@ options_at_most g n x =
     let c = length-subsets free in
     omega (arith, a, b, c)
 
+-- the units that are free and that a way decides
+abbrev pub open_to : Shape → Node → Way → List ℕ
+open_to g n w = listed g.units (λ v. is_free g n v && decides g w v)
+
+-- a way has no more options than those units have sets
+pub ways_at_most : (g : Shape) (n : Node) (w : Way) → MayBranch g n w → length (options_at g n w) ≤ 2 ^ length (open_to g n w)
+ways_at_most g n (at_material x c) may = options_at_most g n x
+ways_at_most g n (either u) may =
+    let k : length (open_to g n (either u)) ≡ count g.units (λ v. is_free g n v && (u == v)) = length-listed g.units (λ v. is_free g n v && (u == v)) in
+    let some : 1 ≤ count g.units (λ v. is_free g n v && (u == v))
+    = count-some g.units (λ v. is_free g n v && (u == v)) u may.0 (and_from (is_free g n u) (u == u) may.1 (eq-eqb u u refl)) in
+    pow-le-pow_right (omega arith) (let one : 1 ≤ length (open_to g n (either u)) = omega (arith, k, some) in one)
+
+-- and at least two
+pub ways_split : (g : Shape) (n : Node) (w : Way) → IsDecision g n w → 2 ≤ length (options_at g n w)
+ways_split g n (at_material x c) d = d
+ways_split g n (either u) d = omega arith
+
 -- ---- free units
 
 abbrev pub free_count : Shape → Node → ℕ
@@ -111,24 +142,27 @@ step_frees g n (sole x v) u = fewer ((v == u) || n.inside u) (n.outside u) (n.in
 pub step_count : (g : Shape) (n : Node) (t : Step) → free_count g (after g n t) ≤ free_count g n
 step_count g n t = count-le g.units (is_free g (after g n t)) (is_free g n) (step_frees g n t)
 
--- a unit that is free at a child is no maker of the material
-child_makes : (a b m h : Bool) → (not (h || a) && not ((m && not h) || b)) ≡ true → m ≡ false
-child_makes a b false h e = refl
-child_makes true b true true e = absurd (both_ways false refl e)
-child_makes false b true true e = absurd (both_ways false refl e)
-child_makes true b true false e = absurd (both_ways false refl e)
-child_makes false b true false e = absurd (both_ways false refl e)
+-- a unit that is free at a child is not decided
+child_decides : (a b m h : Bool) → (not (h || a) && not ((m && not h) || b)) ≡ true → m ≡ false
+child_decides a b false h e = refl
+child_decides true b true true e = absurd (both_ways false refl e)
+child_decides false b true true e = absurd (both_ways false refl e)
+child_decides true b true false e = absurd (both_ways false refl e)
+child_decides false b true false e = absurd (both_ways false refl e)
 
-pub child_count : (g : Shape) (n : Node) (x : ℕ) (t : List ℕ) → free_count g (child g n x t) + length (free_makers g n x) ≤ free_count g n
-child_count g n x t =
-    let k : length (free_makers g n x) ≡ count g.units (λ u. is_free g n u && g.makes u x) = length-listed g.units (λ u. is_free g n u && g.makes u x) in
-    let h : count g.units (is_free g (child g n x t)) + count g.units (λ u. is_free g n u && g.makes u x) ≤ count g.units (is_free g n)
-    = count-parts g.units (is_free g (child g n x t)) (λ u. is_free g n u && g.makes u x) (is_free g n) apart (λ u e. (and_parts (is_free g n u) (g.makes u x) e).0) in
+pub way_count : (g : Shape) (n : Node) (w : Way) (t : List ℕ) → free_count g (child_at g n w t) + length (open_to g n w) ≤ free_count g n
+way_count g n w t =
+    let k : length (open_to g n w) ≡ count g.units (λ u. is_free g n u && decides g w u) = length-listed g.units (λ u. is_free g n u && decides g w u) in
+    let h : count g.units (is_free g (child_at g n w t)) + count g.units (λ u. is_free g n u && decides g w u) ≤ count g.units (is_free g n)
+    = count-parts g.units (is_free g (child_at g n w t)) (λ u. is_free g n u && decides g w u) (is_free g n) apart (λ u e. (and_parts (is_free g n u) (decides g w u) e).0) in
     omega (arith, h, k)
   where
-    apart : (u : ℕ) → is_free g (child g n x t) u ≡ true → (is_free g n u ≡ true) × ((is_free g n u && g.makes u x) ≡ false)
+    apart : (u : ℕ) → is_free g (child_at g n w t) u ≡ true → (is_free g n u ≡ true) × ((is_free g n u && decides g w u) ≡ false)
     apart u e =
         let free : is_free g n u ≡ true
-        = fewer (has t u || n.inside u) ((g.makes u x && not (has t u)) || n.outside u) (n.inside u) (n.outside u) (λ q. or_right (has t u) (n.inside u) q) (λ q. or_right (g.makes u x && not (has t u)) (n.outside u) q) e in
-        let not_made : g.makes u x ≡ false = child_makes (n.inside u) (n.outside u) (g.makes u x) (has t u) e in
-        (free, rw free (rw not_made refl))
+        = fewer (has t u || n.inside u) ((decides g w u && not (has t u)) || n.outside u) (n.inside u) (n.outside u) (λ q. or_right (has t u) (n.inside u) q) (λ q. or_right (decides g w u && not (has t u)) (n.outside u) q) e in
+        let undecided : decides g w u ≡ false = child_decides (n.inside u) (n.outside u) (decides g w u) (has t u) e in
+        (free, rw free (rw undecided refl))
+
+pub child_count : (g : Shape) (n : Node) (x : ℕ) (t : List ℕ) → free_count g (child g n x t) + length (free_makers g n x) ≤ free_count g n
+child_count g n x t = way_count g n (at_material x 0) t

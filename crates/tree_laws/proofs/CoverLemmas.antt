@@ -1,13 +1,13 @@
 -- A structure of a node that passes is a structure of one of its leaves. L is what the leaves may be, and P tells which pass.
-use Rattle.std.proofs.Common.{◌≡◌, ℕ, zero, suc, Bool, true, List, [], ◌∷◌, ◌++◌, map, refl, sym, subst, inl, inr}
-use Rattle.number_sets.specs.Sets.{Avoids}
+use Rattle.std.proofs.Common.{◌≡◌, ℕ, zero, suc, Bool, List, [], ◌∷◌, ◌++◌, refl, sym, subst, inl, inr}
 use Rattle.pns_rules.specs.Shape.{Shape, IsProper}
-use Rattle.pns_rules.specs.Structure.{is_needed, InFamily}
-use Rattle.pns_rules.specs.Nodes.{Node, Step, after, options, child}
-use Rattle.pns_rules.proofs.StepLemmas.{steps_keep_families, children_cover}
-use Rattle.pns_rules.proofs.OptionLemmas.{options_all}
+use Rattle.pns_rules.specs.Structure.{InFamily}
+use Rattle.pns_rules.specs.Nodes.{Node, Step, after}
+use Rattle.pns_rules.proofs.StepLemmas.{steps_keep_families}
+use Rattle.tree_rules.specs.Ways.{Way, MayBranch, options_at, child_at, children_at}
 use Rattle.tree_rules.specs.Tree.{End, branch, leaf, TreeNode, StepsPass, after_all, below, Stands, EndPasses, Pass}
 use Rattle.tree_laws.proofs.OneLemmas.{OneHolds, left_one, right_one, at_option}
+use Rattle.tree_laws.proofs.WayLemmas.{ways_cover}
 
 -- the structure is in the node's family
 abbrev pub IsOf : Shape → (ℕ → Bool) → Node → Type 0
@@ -22,19 +22,16 @@ pub record IsUnder {L : Type 0} (g : Shape) (P : Node → L → Type 0) (ns : Li
   pub passes : P node what
   pub in_family : InFamily g node.inside node.outside s
 
-pub sides_apart : (g : Shape) (n : Node) (s : ℕ → Bool) → InFamily g n.inside n.outside s → Avoids n.inside n.outside
-sides_apart g n s f = λ u i e. f.between.avoids u (f.between.contains u i) e
-
 module _ (g : Shape) (s : ℕ → Bool) where
   module _ (proper : IsProper g) where
     pub over_steps : (n : Node) (ss : List Step) → StepsPass g n ss → InFamily g n.inside n.outside s → InFamily g (after_all g n ss).inside (after_all g n ss).outside s
     over_steps n [] p f = f
     over_steps n (t ∷ ts) p f = over_steps (after g n t) ts p.1 ((steps_keep_families g n t proper p.0 s).0 f)
 
-    pub at_branch : (n : Node) (x : ℕ) → is_needed g n.inside x ≡ true → InFamily g n.inside n.outside s → OneHolds (IsOf g s) (map (child g n x) (options g n x))
-    at_branch n x e f =
-        let k = children_cover g n x s proper e f in
-        at_option (IsOf g s) (child g n x) k.0 (options g n x) ((options_all g n x k.0 proper (sides_apart g n s f)).1 k.1) k.2
+    pub at_branch : (n : Node) (w : Way) → MayBranch g n w → InFamily g n.inside n.outside s → OneHolds (IsOf g s) (children_at g n w)
+    at_branch n w may f =
+        let k = ways_cover g proper n w may s f in
+        at_option (IsOf g s) (child_at g n w) k.0 (options_at g n w) k.1 k.2
 
     module _ {L : Type 0} (P : Node → L → Type 0) where
       behind : (n : Node) (ns : List Node) (t : TreeNode L) (ts : List (TreeNode L)) → IsUnder g P (below g (after_all g n t.steps) t.end ++ ns) ts s → IsUnder g P (n ∷ ns) (t ∷ ts) s
@@ -43,10 +40,10 @@ module _ (g : Shape) (s : ℕ → Bool) where
       -- at a node that is reached, the end is a leaf that passes, or one of the children has the structure
       at_end : (n : Node) (ns : List Node) (t : TreeNode L) (ts : List (TreeNode L)) (e : End L) → t.end ≡ e → EndPasses g P (after_all g n t.steps) e ts → InFamily g (after_all g n t.steps).inside (after_all g n t.steps).outside s → (OneHolds (IsOf g s) (below g (after_all g n t.steps) t.end ++ ns) → IsUnder g P (below g (after_all g n t.steps) t.end ++ ns) ts s) → IsUnder g P (n ∷ ns) (t ∷ ts) s
       at_end n ns t ts (leaf l) q h f rest = record { place = zero; node = after_all g n t.steps; what = l; stands = (refl, q); passes = h; in_family = f }
-      at_end n ns t ts (branch x c) q h f rest =
+      at_end n ns t ts (branch w) q h f rest =
           behind n ns t ts
           (rest (left_one (IsOf g s) (below g (after_all g n t.steps) t.end) ns
-          (subst (λ (w : End L). OneHolds (IsOf g s) (below g (after_all g n t.steps) w)) (sym q) (at_branch (after_all g n t.steps) x h.0 f))))
+          (subst (λ (v : End L). OneHolds (IsOf g s) (below g (after_all g n t.steps) v)) (sym q) (at_branch (after_all g n t.steps) w h.0 f))))
 
       pub covers : (ns : List Node) (ts : List (TreeNode L)) → Pass g P ns ts → OneHolds (IsOf g s) ns → IsUnder g P ns ts s
       covers [] ts p h = absurd h

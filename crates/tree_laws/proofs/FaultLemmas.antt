@@ -80,11 +80,11 @@ leaf_one partial p claimed n untried why other = one_of _ _ _ _ why other (neith
 
 module _ {L : Type 0} (g : Shape) (P : Node → L → Type 0) (F : Node → L → Why → Type 0) where
   end_passes : ((n : Node) (l : L) (why : Why) → P n l → F n l why → ⊥) → (n : Node) (e : End L) (ts : List (TreeNode L)) (why : Why) → EndPasses g P n e ts → EndFails g F n e ts why → ⊥
-  end_passes apart n (branch x c) ts why p f = holds _ _ _ why p none f
+  end_passes apart n (branch w) ts why p f = holds _ _ _ why p none f
   end_passes apart n (leaf l) ts why p f = apart n l why p f
 
   end_one : ((n : Node) (l : L) (why other : Why) → F n l why → F n l other → why ≡ other) → (n : Node) (e : End L) (ts : List (TreeNode L)) (why other : Why) → EndFails g F n e ts why → EndFails g F n e ts other → why ≡ other
-  end_one one n (branch x c) ts why other = one_of _ _ _ _ why other (neither why other)
+  end_one one n (branch w) ts why other = one_of _ _ _ _ why other (neither why other)
   end_one one n (leaf l) ts why other = one n l why other
 
   pub tree_passes : ((n : Node) (l : L) (why : Why) → P n l → F n l why → ⊥) → (ns : List Node) (ts : List (TreeNode L)) (k : ℕ) (why : Why) → Pass g P ns ts → IsFirstFault g P F ns ts k why → ⊥

@@ -9,3 +9,4 @@ pub mod OneLemmas
 pub mod OpenLemmas
 pub mod SidesLemmas
 pub mod UpLemmas
+mod WayLemmas

@@ -13,7 +13,7 @@ module _ {L : Type 0} (g : Shape) (P Q : Node → L → Type 0) where
   AlsoPass ns ts = (k : ℕ) (n : Node) (l : L) → Stands g ns ts k n (leaf l) → P n l → Q n l
 
   end_too : (n : Node) (ts : List (TreeNode L)) (e : End L) → ((l : L) → e ≡ leaf l → P n l → Q n l) → EndPasses g P n e ts → EndPasses g Q n e ts
-  end_too n ts (branch x c) h p = p
+  end_too n ts (branch w) h p = p
   end_too n ts (leaf l) h p = h l refl p
 
   pub passes_too : (ns : List Node) (ts : List (TreeNode L)) → AlsoPass ns ts → Pass g P ns ts → Pass g Q ns ts

@@ -1,18 +1,19 @@
 -- No unit is both taken in and left out at a node of a tree, where none is at its start.
-use Rattle.std.proofs.Common.{◌≡◌, ℕ, zero, suc, Bool, true, false, not, ◌&&◌, ◌||◌, ◌==◌, List, [], ◌∷◌, ◌++◌, map, refl, subst, inl, inr}
-use Rattle.std.proofs.lemmas.Bool.{or_cases, and_from, and_parts, both_ways, not-true, eqb-true, false_from_ne_true}
+use Rattle.std.proofs.Common.{◌≡◌, ℕ, zero, suc, Bool, true, false, ◌||◌, ◌==◌, List, [], ◌∷◌, ◌++◌, map, refl, subst, inl, inr}
+use Rattle.std.proofs.lemmas.Bool.{or_cases, both_ways, eqb-true, false_from_ne_true}
 use Rattle.number_sets.specs.Options.{IsIn}
 use Rattle.number_sets.specs.Sets.{has, Avoids}
 use Rattle.pns_rules.specs.Shape.{Shape, IsProper}
-use Rattle.pns_rules.specs.Nodes.{Node, Step, raw, rival, starve, loose, sole, is_free, IsPossible, after, IsOption, options, child}
-use Rattle.pns_rules.proofs.OptionLemmas.{options_all}
-use Rattle.tree_rules.specs.Tree.{End, branch, leaf, TreeNode, StepsPass, after_all, below, Stands, Pass}
+use Rattle.pns_rules.specs.Nodes.{Node, Step, raw, rival, starve, loose, sole, is_free, IsPossible, after}
+use Rattle.tree_rules.specs.Ways.{Way, MayBranch, options_at, child_at}
+use Rattle.tree_rules.specs.Tree.{End, branch, leaf, TreeNode, StepsPass, after_all, below, Stands, EndPasses, Pass}
+use Rattle.tree_laws.proofs.WayLemmas.{free_parts, choices, child_apart}
 
 abbrev AreApart : Node → Type 0
 AreApart n = Avoids n.inside n.outside
 
 free_is_not_in : (g : Shape) (n : Node) (u : ℕ) → is_free g n u ≡ true → n.inside u ≡ true → ⊥
-free_is_not_in g n u f i = both_ways (n.inside u) (not-true (n.inside u) (and_parts (not (n.inside u)) (not (n.outside u)) f).0) i
+free_is_not_in g n u f i = both_ways (n.inside u) (free_parts g n u f).0 i
 
 -- more units are left out, none of which is taken in
 more_out : (n : Node) (more : ℕ → Bool) → AreApart n → ((v : ℕ) → n.inside v ≡ true → more v ≡ true → ⊥) → (v : ℕ) → n.inside v ≡ true → (more v || n.outside v) ≡ true → ⊥
@@ -33,20 +34,6 @@ step_apart g proper n (sole x u) p a =
       | inr q ↦ a v q o
     ]
 
-child_apart : (g : Shape) (n : Node) (x : ℕ) (t : List ℕ) → IsOption g n x t → AreApart n → AreApart (child g n x t)
-child_apart g n x t o a = λ u i e. elim (or_cases (has t u) (n.inside u) i) [
-  | inl h ↦ elim (or_cases (g.makes u x && not (has t u)) (n.outside u) e) [
-    | inl q ↦ both_ways (has t u) (not-true (has t u) (and_parts (g.makes u x) (not (has t u)) q).1) h
-    | inr q ↦ both_ways (n.outside u) (o.made_by u h).2 q
-  ]
-  | inr h ↦ elim (or_cases (g.makes u x && not (has t u)) (n.outside u) e) [
-    | inl q ↦
-        let k = and_parts (g.makes u x) (not (has t u)) q in
-        both_ways (has t u) (not-true (has t u) k.1) (o.has_base u (and_from (n.inside u) (g.makes u x) h k.0))
-    | inr q ↦ a u h q
-  ]
-]
-
 abbrev pub AllApart : List Node → Type 0
 AllApart [] = Unit {0}
 AllApart (n ∷ ns) = AreApart n × AllApart ns
@@ -60,15 +47,15 @@ module _ (g : Shape) (proper : IsProper g) where
   steps_apart n [] p a = a
   steps_apart n (t ∷ ts) p a = steps_apart (after g n t) ts p.1 (step_apart g proper n t p.0 a)
 
-  children_apart : (n : Node) (x : ℕ) (ts : List (List ℕ)) → ((t : List ℕ) → IsIn t ts → IsIn t (options g n x)) → AreApart n → AllApart (map (child g n x) ts)
-  children_apart n x [] h a = tt
-  children_apart n x (t ∷ ts) h a =
-      (child_apart g n x t ((options_all g n x t proper a).0 (h t (inl refl))) a, children_apart n x ts (λ v i. h v (inr i)) a)
+  children_apart : (n : Node) (w : Way) → MayBranch g n w → (ts : List (List ℕ)) → ((t : List ℕ) → IsIn t ts → IsIn t (options_at g n w)) → AreApart n → AllApart (map (child_at g n w) ts)
+  children_apart n w may [] h a = tt
+  children_apart n w may (t ∷ ts) h a =
+      (child_apart g n w t (choices g n w t proper a may (h t (inl refl))) a, children_apart n w may ts (λ v i. h v (inr i)) a)
 
   module _ {L : Type 0} (P : Node → L → Type 0) where
-    below_apart : (n : Node) (e : End L) → AreApart n → AllApart (below g n e)
-    below_apart n (branch x c) a = children_apart n x (options g n x) (λ t i. i) a
-    below_apart n (leaf l) a = tt
+    below_apart : (n : Node) (e : End L) (behind : List (TreeNode L)) → EndPasses g P n e behind → AreApart n → AllApart (below g n e)
+    below_apart n (branch w) behind p a = children_apart n w p.0 (options_at g n w) (λ t i. i) a
+    below_apart n (leaf l) behind p a = tt
 
     pub stands_apart : (ns : List Node) (ts : List (TreeNode L)) (k : ℕ) (m : Node) (e : End L) → Pass g P ns ts → AllApart ns → Stands g ns ts k m e → AreApart m
     stands_apart [] ts k m e p a h = absurd h
@@ -76,4 +63,4 @@ module _ (g : Shape) (proper : IsProper g) where
     stands_apart (n ∷ ns) (t ∷ ts) zero m e p a h = subst AreApart h.0 (steps_apart n t.steps p.0 a.0)
     stands_apart (n ∷ ns) (t ∷ ts) (suc k) m e p a h =
         stands_apart (below g (after_all g n t.steps) t.end ++ ns) ts k m e p.2
-        (join_apart (below g (after_all g n t.steps) t.end) ns (below_apart (after_all g n t.steps) t.end (steps_apart n t.steps p.0 a.0)) a.1) h
+        (join_apart (below g (after_all g n t.steps) t.end) ns (below_apart (after_all g n t.steps) t.end ts p.1 (steps_apart n t.steps p.0 a.0)) a.1) h
