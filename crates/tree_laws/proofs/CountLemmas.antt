@@ -1,14 +1,14 @@
 -- How many units of a node are free, and how many options a material has.
 use Rattle.std.proofs.Common.{◌≡◌, ℕ, zero, suc, ◌+◌, ◌*◌, ◌^◌, ◌≤◌, ◌<◌, Bool, true, false, cond, not, ◌&&◌, ◌||◌, ◌==◌, List, [], ◌∷◌, ◌++◌, length, refl, ap, ◌∙◌, subst, inl, inr, eq-eqb, arith}
 use Rattle.std.proofs.lemmas.Bool.{or_right, and_from, and_parts, both_ways, not-true, cases_eq}
-use Rattle.std.proofs.lemmas.List.{length-append}
+use Rattle.std.proofs.lemmas.List.{length-append, length-map}
 use Rattle.std.proofs.lemmas.Nat.{pow-add}
 use Rattle.std.proofs.Math.Nat.{pow-le-pow_right}
 use Rattle.number_sets.specs.Sets.{has, listed}
 use Rattle.number_sets.specs.Options.{without_and_with, subsets, with_base, non_empty}
 use Rattle.pns_rules.specs.Shape.{Shape}
 use Rattle.pns_rules.specs.Nodes.{Node, Step, raw, rival, starve, loose, sole, is_free, after, free_makers, options, child}
-use Rattle.tree_rules.specs.Ways.{Way, at_material, either, MayBranch, decides, options_at, child_at, IsDecision}
+use Rattle.tree_rules.specs.Ways.{Way, at_material, either, MayBranch, decides, options_at, child_at, children_at, IsDecision}
 
 -- how many numbers below n pass
 abbrev pub count : ℕ → (ℕ → Bool) → ℕ
@@ -121,6 +121,12 @@ ways_at_most g n (either u) may =
 pub ways_split : (g : Shape) (n : Node) (w : Way) → IsDecision g n w → 2 ≤ length (options_at g n w)
 ways_split g n (at_material x c) d = d
 ways_split g n (either u) d = omega arith
+
+pub children_are_many : (g : Shape) (n : Node) (w : Way) → IsDecision g n w → 2 ≤ length (children_at g n w)
+children_are_many g n w d =
+    let a = ways_split g n w d in
+    let b : length (children_at g n w) ≡ length (options_at g n w) = length-map (options_at g n w) (child_at g n w) in
+    omega (arith, a, b)
 
 -- ---- free units
 

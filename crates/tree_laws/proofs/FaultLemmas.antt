@@ -5,7 +5,7 @@ use Rattle.pns_rules.specs.Shape.{Shape}
 use Rattle.pns_rules.specs.Nodes.{Node}
 use Rattle.tree_rules.specs.declared.why.Why.{Why}
 use Rattle.tree_rules.specs.Tree.{End, branch, leaf, TreeNode, StepsPass, after_all, below, EndPasses, Pass}
-use Rattle.tree_rules.specs.Fault.{Fails, EndFails, NodeFails, IsFirstFault}
+use Rattle.tree_rules.specs.Fault.{Fails, AreLeafRules, EndFails, NodeFails, IsFirstFault}
 use Rattle.tree_rules.specs.Claim.{network, Claim, infeasible, unknown, CostOver, ClaimPasses, ClaimFails}
 use Rattle.tree_rules.specs.Leaf.{Leaf, dead, clash, refuted, bounded, untried, IsClaimed, IsBounded, LeafPasses, LeafFails}
 
@@ -76,36 +76,39 @@ leaf_one partial p claimed n (bounded d ys) why other =
     one_of _ _ _ _ why other (one_of _ _ _ _ why other (one_of _ _ _ _ why other (neither why other)))
 leaf_one partial p claimed n untried why other = one_of _ _ _ _ why other (neither why other)
 
+pub leaf_rules : (partial : Bool) (p : Problem) (claimed : Option CostOver) → AreLeafRules (LeafPasses partial p claimed) (LeafFails partial p claimed)
+leaf_rules partial p claimed = record { apart = leaf_passes partial p claimed; one = leaf_one partial p claimed }
+
 -- ---- trees
 
-module _ {L : Type 0} (g : Shape) (P : Node → L → Type 0) (F : Node → L → Why → Type 0) where
-  end_passes : ((n : Node) (l : L) (why : Why) → P n l → F n l why → ⊥) → (n : Node) (e : End L) (ts : List (TreeNode L)) (why : Why) → EndPasses g P n e ts → EndFails g F n e ts why → ⊥
-  end_passes apart n (branch w) ts why p f = holds _ _ _ why p none f
-  end_passes apart n (leaf l) ts why p f = apart n l why p f
+module _ {L : Type 0} (g : Shape) (P : Node → L → Type 0) (F : Node → L → Why → Type 0) (rules : AreLeafRules P F) where
+  end_passes : (n : Node) (e : End L) (ts : List (TreeNode L)) (why : Why) → EndPasses g P n e ts → EndFails g F n e ts why → ⊥
+  end_passes n (branch w) ts why p f = holds _ _ _ why p none f
+  end_passes n (leaf l) ts why p f = rules.apart n l why p f
 
-  end_one : ((n : Node) (l : L) (why other : Why) → F n l why → F n l other → why ≡ other) → (n : Node) (e : End L) (ts : List (TreeNode L)) (why other : Why) → EndFails g F n e ts why → EndFails g F n e ts other → why ≡ other
-  end_one one n (branch w) ts why other = one_of _ _ _ _ why other (neither why other)
-  end_one one n (leaf l) ts why other = one n l why other
+  end_one : (n : Node) (e : End L) (ts : List (TreeNode L)) (why other : Why) → EndFails g F n e ts why → EndFails g F n e ts other → why ≡ other
+  end_one n (branch w) ts why other = one_of _ _ _ _ why other (neither why other)
+  end_one n (leaf l) ts why other = rules.one n l why other
 
-  pub tree_passes : ((n : Node) (l : L) (why : Why) → P n l → F n l why → ⊥) → (ns : List Node) (ts : List (TreeNode L)) (k : ℕ) (why : Why) → Pass g P ns ts → IsFirstFault g P F ns ts k why → ⊥
-  tree_passes apart [] ts k why p f = f
-  tree_passes apart (n ∷ ns) [] k why p f = f
-  tree_passes apart (n ∷ ns) (t ∷ ts) zero why p f =
-      holds _ _ _ why p.0 (end_passes apart (after_all g n t.steps) t.end ts why p.1) f
-  tree_passes apart (n ∷ ns) (t ∷ ts) (suc k) why p f =
-      tree_passes apart (below g (after_all g n t.steps) t.end ++ ns) ts k why p.2 f.2
+  pub tree_passes : (ns : List Node) (ts : List (TreeNode L)) (k : ℕ) (why : Why) → Pass g P ns ts → IsFirstFault g P F ns ts k why → ⊥
+  tree_passes [] ts k why p f = f
+  tree_passes (n ∷ ns) [] k why p f = f
+  tree_passes (n ∷ ns) (t ∷ ts) zero why p f =
+      holds _ _ _ why p.0 (end_passes (after_all g n t.steps) t.end ts why p.1) f
+  tree_passes (n ∷ ns) (t ∷ ts) (suc k) why p f =
+      tree_passes (below g (after_all g n t.steps) t.end ++ ns) ts k why p.2 f.2
 
   -- a node that passes does not fail
-  node_passes : ((n : Node) (l : L) (why : Why) → P n l → F n l why → ⊥) → (n : Node) (t : TreeNode L) (ts : List (TreeNode L)) (why : Why) → StepsPass g n t.steps → EndPasses g P (after_all g n t.steps) t.end ts → NodeFails g F n t ts why → ⊥
-  node_passes apart n t ts why h p f = holds _ _ _ why h (end_passes apart (after_all g n t.steps) t.end ts why p) f
+  node_passes : (n : Node) (t : TreeNode L) (ts : List (TreeNode L)) (why : Why) → StepsPass g n t.steps → EndPasses g P (after_all g n t.steps) t.end ts → NodeFails g F n t ts why → ⊥
+  node_passes n t ts why h p f = holds _ _ _ why h (end_passes (after_all g n t.steps) t.end ts why p) f
 
-  pub tree_one : ((n : Node) (l : L) (why : Why) → P n l → F n l why → ⊥) → ((n : Node) (l : L) (why other : Why) → F n l why → F n l other → why ≡ other) → (ns : List Node) (ts : List (TreeNode L)) (j k : ℕ) (why other : Why) → IsFirstFault g P F ns ts j why → IsFirstFault g P F ns ts k other → (j ≡ k) × (why ≡ other)
-  tree_one apart one [] ts j k why other f e = absurd f
-  tree_one apart one (n ∷ ns) [] j k why other f e = absurd f
-  tree_one apart one (n ∷ ns) (t ∷ ts) zero zero why other f e =
-      (refl, one_of _ _ _ _ why other (end_one one (after_all g n t.steps) t.end ts why other) f e)
-  tree_one apart one (n ∷ ns) (t ∷ ts) zero (suc k) why other f e = absurd (node_passes apart n t ts why e.0 e.1 f)
-  tree_one apart one (n ∷ ns) (t ∷ ts) (suc j) zero why other f e = absurd (node_passes apart n t ts other f.0 f.1 e)
-  tree_one apart one (n ∷ ns) (t ∷ ts) (suc j) (suc k) why other f e =
-      let q = tree_one apart one (below g (after_all g n t.steps) t.end ++ ns) ts j k why other f.2 e.2 in
+  pub tree_one : (ns : List Node) (ts : List (TreeNode L)) (j k : ℕ) (why other : Why) → IsFirstFault g P F ns ts j why → IsFirstFault g P F ns ts k other → (j ≡ k) × (why ≡ other)
+  tree_one [] ts j k why other f e = absurd f
+  tree_one (n ∷ ns) [] j k why other f e = absurd f
+  tree_one (n ∷ ns) (t ∷ ts) zero zero why other f e =
+      (refl, one_of _ _ _ _ why other (end_one (after_all g n t.steps) t.end ts why other) f e)
+  tree_one (n ∷ ns) (t ∷ ts) zero (suc k) why other f e = absurd (node_passes n t ts why e.0 e.1 f)
+  tree_one (n ∷ ns) (t ∷ ts) (suc j) zero why other f e = absurd (node_passes n t ts other f.0 f.1 e)
+  tree_one (n ∷ ns) (t ∷ ts) (suc j) (suc k) why other f e =
+      let q = tree_one (below g (after_all g n t.steps) t.end ++ ns) ts j k why other f.2 e.2 in
       (ap suc q.0, q.1)

@@ -9,4 +9,4 @@ pub mod OneLemmas
 pub mod OpenLemmas
 pub mod SidesLemmas
 pub mod UpLemmas
-mod WayLemmas
+pub mod WayLemmas

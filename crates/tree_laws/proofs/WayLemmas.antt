@@ -1,6 +1,6 @@
 -- Of the units that a way to branch decides an option has those that are taken in and none that is left out. So the children
 -- of a node part its family.
-use Rattle.std.proofs.Common.{◌≡◌, ℕ, ◌<◌, Bool, true, false, not, ◌&&◌, ◌==◌, List, [], ◌∷◌, refl, sym, subst, inl, inr, arith, eq-eqb}
+use Rattle.std.proofs.Common.{◌≡◌, ℕ, ◌<◌, Bool, true, false, not, ◌&&◌, ◌||◌, ◌==◌, List, [], ◌∷◌, refl, sym, subst, inl, inr, arith, eq-eqb}
 use Rattle.std.proofs.lemmas.Bool.{or_left, or_right, or_cases, and_from, and_parts, both_ways, not-true, eqb-true, cases_Bool}
 use Rattle.number_sets.specs.Sets.{has, mask_of, Avoids, IsRising}
 use Rattle.number_sets.specs.Options.{IsIn, IsAscending, IsBelowEach}
@@ -10,7 +10,7 @@ use Rattle.pns_rules.specs.Structure.{InFamily}
 use Rattle.pns_rules.specs.Nodes.{Node, is_free}
 use Rattle.pns_rules.proofs.StepLemmas.{children_cover}
 use Rattle.pns_rules.proofs.OptionLemmas.{options_all, options_ascend}
-use Rattle.tree_rules.specs.Ways.{Way, at_material, either, MayBranch, decides, options_at, child_at}
+use Rattle.tree_rules.specs.Ways.{Way, at_material, either, MayBranch, decides, options_at, child_at, children_at}
 
 pub record IsChoice (g : Shape) (n : Node) (w : Way) (t : List ℕ) : Type 0 where
   pub rising : IsRising t
@@ -156,3 +156,33 @@ child_apart g n w t o a = λ v e h. elim (or_cases (decides g w v && not (has t 
     | inr i ↦ a v i q
   ]
 ]
+
+-- ---- the children at a unit
+
+one_of : (u v : ℕ) (i : Bool) → (has (u ∷ []) v || i) ≡ ((u == v) || i)
+one_of u v i = at (u == v) i
+  where
+    at : (a b : Bool) → ((a || false) || b) ≡ (a || b)
+    at true b = refl
+    at false b = refl
+
+not_out : (u v : ℕ) (o : Bool) → (((u == v) && not (has (u ∷ []) v)) || o) ≡ o
+not_out u v o = at (u == v) o
+  where
+    at : (a b : Bool) → ((a && not (a || false)) || b) ≡ b
+    at true b = refl
+    at false b = refl
+
+is_out : (u v : ℕ) (o : Bool) → (((u == v) && not (has [] v)) || o) ≡ ((u == v) || o)
+is_out u v o = at (u == v) o
+  where
+    at : (a b : Bool) → ((a && true) || b) ≡ (a || b)
+    at true b = refl
+    at false b = refl
+
+pub either_children : (g : Shape) (n : Node) (u : ℕ)
+    → children_at g n (either u) ≡ record { inside = λ v. (u == v) || n.inside v; outside = n.outside } ∷ record { inside = n.inside; outside = λ v. (u == v) || n.outside v } ∷ []
+either_children g n u = λ k.
+    record { inside = λ v. one_of u v (n.inside v) k; outside = λ v. not_out u v (n.outside v) k }
+    ∷ record { inside = n.inside; outside = λ v. is_out u v (n.outside v) k }
+    ∷ []

@@ -1,23 +1,59 @@
 -- Laws of branch trees, each of which a public function of this crate has as its contract. Each speaks of every valid problem.
-use Rattle.std.specs.Prelude.{◌≡◌, ◌⊎◌, ℕ, suc, ◌<◌, ◌^◌, ℤ, Bool, [], ◌∷◌, length, Option}
+use Rattle.std.specs.Prelude.{◌≡◌, ◌⊎◌, ℕ, suc, ◌<◌, ◌≤◌, ◌^◌, ℤ, Bool, ◌||◌, ◌==◌, List, [], ◌∷◌, length, Option}
 use Rattle.number_sets.specs.Sets.{listed, Avoids}
+use Rattle.number_sets.specs.Options.{IsIn}
 use Rattle.problem_rules.specs.Problem.{Problem}
 use Rattle.problem_rules.specs.Validity.{IsValid}
-use Rattle.pns_rules.specs.Shape.{Shape, shape_of}
+use Rattle.pns_rules.specs.Shape.{Shape, IsProper, shape_of}
 use Rattle.pns_rules.specs.Structure.{IsStructure, IsAllowed, InFamily}
 use Rattle.pns_rules.specs.Nodes.{Node, is_free}
 use Rattle.flow_rules.specs.Net.{net_of}
 use Rattle.flow_rules.specs.Flows.{IsFlows, cost}
 use Rattle.tree_rules.specs.declared.why.Why.{Why}
+use Rattle.tree_rules.specs.Ways.{Way, either, MayBranch, options_at, child_at, children_at, IsDecision}
 use Rattle.tree_rules.specs.Tree.{End, leaf, Stands}
 use Rattle.tree_rules.specs.Claim.{Network, network, Claim, unknown, CostOver, claimed_cost, IsAtLeast, IsFeasible, ClaimPasses, ClaimFails}
-use Rattle.tree_rules.specs.Leaf.{Leaf, untried, IsUntried, LeafPasses}
+use Rattle.tree_rules.specs.Fault.{AreLeafRules}
+use Rattle.tree_rules.specs.Leaf.{Leaf, untried, IsUntried, LeafPasses, LeafFails}
 use Rattle.tree_rules.specs.Lean.{IsLean}
 use Rattle.tree_rules.specs.Accepted.{Tree, first_node, Proves, IsAccepted, IsPartial, NodeIsFault}
 
 -- any flows for the units of s cost at least what is claimed; where no cost is claimed there are none
 abbrev pub CostsEnough : Problem → Option CostOver → (ℕ → Bool) → Type 0
 CostsEnough p claimed s = (z : ℕ → ℤ) (d : ℤ) → IsFlows (net_of p) s z d → IsAtLeast claimed (cost (net_of p) s z d) d
+
+-- ---- ways to branch
+
+-- each structure of a node that may be branched so is in the family of a child
+abbrev pub ChildrenCover : Type 0
+ChildrenCover =
+    (g : Shape) → IsProper g → (n : Node) (w : Way) → MayBranch g n w → (s : ℕ → Bool) → InFamily g n.inside n.outside s
+    → (t : List ℕ) × IsIn t (options_at g n w) × InFamily g (child_at g n w t).inside (child_at g n w t).outside s
+
+-- no other structure is
+abbrev pub ChildrenAreWithin : Type 0
+ChildrenAreWithin =
+    (g : Shape) (n : Node) (w : Way) (t : List ℕ) (s : ℕ → Bool) → InFamily g (child_at g n w t).inside (child_at g n w t).outside s
+    → InFamily g n.inside n.outside s
+
+-- and none is in the families of two
+abbrev pub ChildrenAreApart : Type 0
+ChildrenAreApart =
+    (g : Shape) → IsProper g → (n : Node) (w : Way) → MayBranch g n w → (s : ℕ → Bool) (t t' : List ℕ)
+    → IsIn t (options_at g n w) → IsIn t' (options_at g n w)
+    → InFamily g (child_at g n w t).inside (child_at g n w t).outside s
+    → InFamily g (child_at g n w t').inside (child_at g n w t').outside s → t ≡ t'
+
+-- of the two children at a unit the one takes it in, and the other leaves it out
+abbrev pub EitherChildren : Type 0
+EitherChildren =
+    (g : Shape) (n : Node) (u : ℕ)
+    → children_at g n (either u)
+    ≡ record { inside = λ v. (u == v) || n.inside v; outside = n.outside } ∷ record { inside = n.inside; outside = λ v. (u == v) || n.outside v } ∷ []
+
+-- where there is something to decide, there are two children or more
+abbrev pub ChildrenAreMany : Type 0
+ChildrenAreMany = (g : Shape) (n : Node) (w : Way) → IsDecision g n w → 2 ≤ length (children_at g n w)
 
 -- ---- whole trees
 
@@ -111,6 +147,10 @@ PartialIsAccepted =
     → ((k : ℕ) (n : Node) → Stands (shape_of p) (start ∷ []) tree k n (leaf untried) → ⊥) → IsAccepted p start claim tree
 
 -- ---- faults
+
+-- the leaves of a search's trees have rules
+abbrev pub LeavesHaveRules : Type 0
+LeavesHaveRules = (partial : Bool) (p : Problem) (claimed : Option CostOver) → AreLeafRules (LeafPasses partial p claimed) (LeafFails partial p claimed)
 
 -- a claim that passes has no fault, and the others have one cause
 abbrev pub PassingClaimHasNoFault : Type 0

@@ -12,6 +12,12 @@ use Rattle.tree_rules.specs.Tree.{End, branch, leaf, TreeNode, roots, StepsPass,
 abbrev pub Fails : Type 0 → Why → Type 0 → Why → Type 0
 Fails Line cause Below why = ((why ≡ cause) × ¬ Line) ⊎ (Line × Below)
 
+-- Rules of leaves: P tells which leaves pass at a node, and F for which cause one fails. No leaf does both, and one that fails
+-- does so for one cause.
+pub record AreLeafRules {L : Type 0} (P : Node → L → Type 0) (F : Node → L → Why → Type 0) : Type 0 where
+  pub apart : (n : Node) (l : L) (why : Why) → P n l → F n l why → ⊥
+  pub one : (n : Node) (l : L) (why other : Why) → F n l why → F n l other → why ≡ other
+
 abbrev pub EndFails : {L : Type 0} → Shape → (Node → L → Why → Type 0) → Node → End L → List (TreeNode L) → Why → Type 0
 EndFails g F n (branch w) behind why = Fails (MayBranch g n w × (roots (width w) behind ≡ options_at g n w)) Options ⊥ why
 EndFails g F n (leaf l) behind why = F n l why
