@@ -1,35 +1,28 @@
 -- Children, and nodes to which possible steps lead, are below their node.
 use Rattle.std.proofs.Common.{◌≡◌, ℕ, ◌==◌, Bool, true, false, not, ◌&&◌, ◌||◌, List, [], ◌∷◌, subst, inl, inr, eqb-true}
-use Rattle.std.proofs.lemmas.Bool.{or_cases, or_right, and_from, and_parts, both_ways, false_from_ne_true, not-true}
+use Rattle.std.proofs.lemmas.Bool.{or_cases, or_right, and_from, both_ways, false_from_ne_true}
 use Rattle.number_sets.specs.Sets.{has, Avoids}
 use Rattle.pns_rules.specs.Shape.{Shape, IsProper}
-use Rattle.pns_rules.specs.Nodes.{Node, Step, raw, rival, starve, loose, sole, IsPossible, after, is_free, IsOption, child}
+use Rattle.pns_rules.specs.Nodes.{Node, Step, raw, rival, starve, loose, sole, IsPossible, after, is_free, IsOption}
+use Rattle.tree_rules.specs.Ways.{Way, at_material, decides, child_at}
 use Rattle.tree_rules.specs.Tree.{StepsPass, after_all}
+use Rattle.tree_laws.proofs.WayLemmas.{IsChoice, free_parts, choices, child_apart}
 use Rattle.search_laws.specs.Below.{IsBelow}
+use Rattle.search_laws.specs.Laws.{ChildrenAreBelow}
 
-pub free_parts : (g : Shape) (n : Node) (u : ℕ) → is_free g n u ≡ true → (n.inside u ≡ false) × (n.outside u ≡ false)
-free_parts g n u e = let p = and_parts (not (n.inside u)) (not (n.outside u)) e in (not-true (n.inside u) p.0, not-true (n.outside u) p.1)
+-- an option of a material, as what its way to branch chooses
+pub choice_of : (g : Shape) (n : Node) (x c : ℕ) (t : List ℕ) → IsOption g n x t → IsChoice g n (at_material x c) t
+choice_of g n x c t o = record { rising = o.rising; has_base = λ u e m. o.has_base u (and_from (n.inside u) (g.makes u x) e m); decided = o.made_by }
 
-pub children_are_below : (g : Shape) (n : Node) (x : ℕ) (t : List ℕ) → Avoids n.inside n.outside → IsOption g n x t → IsBelow n (child g n x t)
-children_are_below g n x t apart o = record {
+pub choice_is_below : (g : Shape) (n : Node) (w : Way) (t : List ℕ) → Avoids n.inside n.outside → IsChoice g n w t → IsBelow n (child_at g n w t)
+choice_is_below g n w t apart o = record {
   more_inside = λ u h. or_right (has t u) (n.inside u) h;
-  more_outside = λ u h. or_right (g.makes u x && not (has t u)) (n.outside u) h;
-  apart = λ u i e. elim (or_cases (g.makes u x && not (has t u)) (n.outside u) e) [
-    | inl q ↦
-        let r = and_parts (g.makes u x) (not (has t u)) q in
-        both_ways (has t u) (not-true (has t u) r.1) (taken u i r.0)
-    | inr q ↦ elim (or_cases (has t u) (n.inside u) i) [
-      | inl h ↦ both_ways (n.outside u) (o.made_by u h).2 q
-      | inr h ↦ apart u h q
-    ]
-  ];
+  more_outside = λ u h. or_right (decides g w u && not (has t u)) (n.outside u) h;
+  apart = child_apart g n w t o apart;
 }
-  where
-    taken : (u : ℕ) → (has t u || n.inside u) ≡ true → g.makes u x ≡ true → has t u ≡ true
-    taken u i m = elim (or_cases (has t u) (n.inside u) i) [
-      | inl h ↦ h
-      | inr h ↦ o.has_base u (and_from (n.inside u) (g.makes u x) h m)
-    ]
+
+pub children_are_below : ChildrenAreBelow
+children_are_below g proper n w t apart may i = choice_is_below g n w t apart (choices g n w t proper apart may i)
 
 -- more units are left out, none of which is taken in
 out_below : (n : Node) (more : ℕ → Bool) → Avoids n.inside n.outside → Avoids n.inside more → IsBelow n (record { inside = n.inside; outside = λ v. more v || n.outside v })

@@ -3,12 +3,14 @@
 use Rattle.std.specs.Prelude.{◌≡◌, ℕ, suc, ◌+◌, ◌<◌, ◌≤◌, ◌^◌, Bool, true, false, List, [], ◌∷◌, length}
 use Rattle.std.specs.List.{sum_by}
 use Rattle.number_sets.specs.Sets.{listed, IsWithin, Avoids}
+use Rattle.number_sets.specs.Options.{IsIn}
 use Rattle.problem_rules.specs.Problem.{Problem}
 use Rattle.problem_rules.specs.Validity.{IsValid}
 use Rattle.pns_rules.specs.Shape.{Shape, IsProper, shape_of}
 use Rattle.pns_rules.specs.Structure.{is_needed, IsStructure, IsUnion}
-use Rattle.pns_rules.specs.Nodes.{Node, Step, base_makers, free_makers, options, child, IsOption}
+use Rattle.pns_rules.specs.Nodes.{Node, Step, is_free, base_makers, free_makers, options, child}
 use Rattle.pns_rules.specs.Ends.{IsSound, IsDead, IsUndecided, IsNever, IsReduced, remaining}
+use Rattle.tree_rules.specs.Ways.{Way, either, MayBranch, options_at, child_at, IsDecision}
 use Rattle.tree_rules.specs.Tree.{End, leaf, StepsPass, after_all, Stands}
 use Rattle.tree_rules.specs.Claim.{Claim, claimed_cost}
 use Rattle.tree_rules.specs.Leaf.{Leaf, untried, IsUntried}
@@ -19,9 +21,10 @@ use Rattle.search_laws.specs.Below.{IsBelow}
 
 -- ---- values
 
--- the child of an option is below its node
+-- each child is below its node, whichever way that is branched
 abbrev pub ChildrenAreBelow : Type 0
-ChildrenAreBelow = (g : Shape) (n : Node) (x : ℕ) (t : List ℕ) → Avoids n.inside n.outside → IsOption g n x t → IsBelow n (child g n x t)
+ChildrenAreBelow =
+    (g : Shape) → IsProper g → (n : Node) (w : Way) (t : List ℕ) → Avoids n.inside n.outside → MayBranch g n w → IsIn t (options_at g n w) → IsBelow n (child_at g n w t)
 
 -- and so is the node that possible steps leave
 abbrev pub StepsLeadBelow : Type 0
@@ -34,9 +37,10 @@ BelowIsNoDearer = (p : Problem) → IsValid p → (n m : Node) → IsBelow n m �
 -- so values do not fall from a node to its children, after whatever steps are possible there
 abbrev pub ChildrenAreDearer : Type 0
 ChildrenAreDearer =
-    (p : Problem) → IsValid p → (n : Node) (x : ℕ) (t : List ℕ) (steps : List Step) → Avoids n.inside n.outside → IsOption (shape_of p) n x t
-    → StepsPass (shape_of p) (child (shape_of p) n x t) steps → IsNever (IsDead (shape_of p) (after_all (shape_of p) (child (shape_of p) n x t) steps))
-    → IsNoDearer p n (after_all (shape_of p) (child (shape_of p) n x t) steps)
+    (p : Problem) → IsValid p → (n : Node) (w : Way) (t : List ℕ) (steps : List Step) → Avoids n.inside n.outside → MayBranch (shape_of p) n w
+    → IsIn t (options_at (shape_of p) n w) → StepsPass (shape_of p) (child_at (shape_of p) n w t) steps
+    → IsNever (IsDead (shape_of p) (after_all (shape_of p) (child_at (shape_of p) n w t) steps))
+    → IsNoDearer p n (after_all (shape_of p) (child_at (shape_of p) n w t) steps)
 
 -- ---- reduced nodes
 
@@ -63,10 +67,17 @@ StepsFreeNone = (g : Shape) (n : Node) (steps : List Step) → free_units g (aft
 abbrev pub DecisionsSplit : Type 0
 DecisionsSplit = (g : Shape) (n : Node) (x : ℕ) → IsReduced g n → IsUndecided g n x → 2 ≤ length (options g n x)
 
--- the child of an option of a needed material is sound
+-- so is one of its makers outside I and E something to decide
+abbrev pub FreeMakersDecide : Type 0
+FreeMakersDecide =
+    (g : Shape) (n : Node) (x u : ℕ) → is_needed g n.inside x ≡ true → u < g.units → g.makes u x ≡ true → is_free g n u ≡ true
+    → MayBranch g n (either u) × IsDecision g n (either u)
+
+-- where there is something to decide, the children of a sound node are sound
 abbrev pub ChildrenAreSound : Type 0
 ChildrenAreSound =
-    (g : Shape) (n : Node) (x : ℕ) (t : List ℕ) → IsSound g n → IsReduced g n → is_needed g n.inside x ≡ true → IsOption g n x t → IsSound g (child g n x t)
+    (g : Shape) → IsProper g → (n : Node) (w : Way) (t : List ℕ) → IsSound g n → IsReduced g n → MayBranch g n w → IsDecision g n w → IsIn t (options_at g n w)
+    → IsSound g (child_at g n w t)
 
 -- ---- numbers
 
@@ -92,7 +103,7 @@ LeanIsFew =
     → (root : Node) (e : End Leaf) → Stands (shape_of p) (start ∷ []) tree 0 root e → IsSound (shape_of p) root
     → (all : ℕ → Bool) → IsUnion (shape_of p) (λ u. false) all → length tree < 2 ^ suc (length (listed (shape_of p).units all))
 
--- and no more with the children of any material that is to decide at an open leaf that is reduced
+-- and no more with the children of an open leaf that is reduced, whichever way it may be branched to decide something
 abbrev pub SpentIsNever : Type 0
 SpentIsNever =
     (p : Problem) → IsValid p → (start : Node) (claim : Claim) (tree : Tree) → Proves true p start claim tree
@@ -100,4 +111,5 @@ SpentIsNever =
     → (root : Node) (e : End Leaf) → Stands (shape_of p) (start ∷ []) tree 0 root e → IsSound (shape_of p) root
     → (all : ℕ → Bool) → IsUnion (shape_of p) (λ u. false) all
     → (k : ℕ) (n : Node) → Stands (shape_of p) (start ∷ []) tree k n (leaf untried) → IsReduced (shape_of p) n
-    → (x : ℕ) → IsUndecided (shape_of p) n x → length tree + length (options (shape_of p) n x) < 2 ^ suc (length (listed (shape_of p).units all))
+    → (w : Way) → MayBranch (shape_of p) n w → IsDecision (shape_of p) n w
+    → length tree + length (options_at (shape_of p) n w) < 2 ^ suc (length (listed (shape_of p).units all))

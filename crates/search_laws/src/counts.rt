@@ -13,7 +13,7 @@ pub fn lean_is_few()
     ensures { LeanIsFew }
 {}
 
-/// This holds too of its nodes with the options at an open leaf, so a budget of so many nodes is never spent.
+/// This holds too of its nodes with the children that an open leaf may have, so a budget of so many nodes is never spent.
 pub fn spent_is_never()
     ensures { SpentIsNever }
 {}

@@ -1,4 +1,4 @@
-ghost use Rattle.search_laws.specs.Laws.{ReducedIsStructure, ReducedIsWithinUnion, FreeUnitsAreFew, StepsFreeNone, DecisionsSplit, ChildrenAreSound};
+ghost use Rattle.search_laws.specs.Laws.{ReducedIsStructure, ReducedIsWithinUnion, FreeUnitsAreFew, StepsFreeNone, DecisionsSplit, FreeMakersDecide, ChildrenAreSound};
 
 /// At a reduced node the units that are not left out form a solution structure.
 pub fn reduced_is_structure()
@@ -13,12 +13,14 @@ pub fn free_units_are_few()
     ensures steps { StepsFreeNone }
 {}
 
-/// At a reduced node a needed material with a maker outside I and E has two options or more.
+/// At a reduced node a needed material with a maker outside I and E has two options or more, and the node may be branched at each
+/// such maker too.
 pub fn decisions_split()
-    ensures { DecisionsSplit }
+    ensures options { DecisionsSplit }
+    ensures units { FreeMakersDecide }
 {}
 
-/// The child of an option of a needed material, at a sound node that is reduced, is sound.
+/// The children of a sound node that is reduced are sound, where there is something to decide.
 pub fn children_are_sound()
     ensures { ChildrenAreSound }
 {}

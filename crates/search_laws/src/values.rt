@@ -6,7 +6,7 @@ pub fn below_is_no_dearer()
     ensures { BelowIsNoDearer }
 {}
 
-/// The child of each option is below its node, and so is what possible steps lead to.
+/// Each child is below its node, and so is what possible steps lead to.
 pub fn children_are_below()
     ensures children { ChildrenAreBelow }
     ensures steps { StepsLeadBelow }

@@ -1,7 +1,7 @@
 use Rattle.std.specs.Prelude.{true}
 use Rattle.pns_rules.proofs.ProperLemmas.{proper_if_valid}
-use Rattle.search_laws.proofs.SpentLemmas.{spent_is_never}
+use Rattle.search_laws.proofs.SpentLemmas.{never_spent}
 use Rattle.search_laws.proofs.counts.spent_is_never.Goals as goal
 
 pub returns : goal.returns
-returns c = λ p valid start claim tree a lean root e s sound all union k n h r x undecided. spent_is_never p (proper_if_valid p valid) true start claim all union tree a lean root e s sound k n h r x undecided
+returns c = λ p valid start claim tree a lean root e s sound all union k n h r w may d. never_spent p (proper_if_valid p valid) true start claim all union tree a lean root e s sound k n h r w may d

@@ -1,5 +1,5 @@
-use Rattle.search_laws.proofs.ValueLemmas.{children_are_dearer}
+use Rattle.search_laws.proofs.ValueLemmas.{ways_are_dearer}
 use Rattle.search_laws.proofs.values.children_are_dearer.Goals as goal
 
 pub returns : goal.returns
-returns c = children_are_dearer
+returns c = ways_are_dearer
