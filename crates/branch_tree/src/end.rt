@@ -1,4 +1,8 @@
 //! The ends of nodes.
+ghost use Rattle.std.specs.Prelude.{◌≡◌};
+ghost use Rattle.tree_rules.specs.Tree.{children};
+ghost use Rattle.branch_tree.specs.View.{end_of};
+
 use crate::multipliers::Multipliers;
 use crate::scaled::Scaled;
 
@@ -19,4 +23,17 @@ pub enum End {
     Either(u32),
     /// The leaf is open.
     Open,
+}
+
+impl End {
+    /// How many subtrees follow the node as its children.
+    pub fn children(&self) -> u32
+        ensures { result ≡ children (end_of self.now) }
+    {
+        match self {
+            End::Branch { children, .. } => *children,
+            End::Either(_) => 2,
+            _ => 0,
+        }
+    }
 }

@@ -10,12 +10,12 @@ use Rattle.tree_rules.specs.Claim.{network, Claim, infeasible, unknown, CostOver
 use Rattle.tree_rules.specs.Leaf.{Leaf, dead, clash, refuted, bounded, untried, IsClaimed, IsBounded, LeafPasses, LeafFails}
 
 -- a line that holds, with no fault below it
-holds : (Line : Type 0) (cause : Why) (Below : Type 0) (why : Why) → Line → (Below → ⊥) → Fails Line cause Below why → ⊥
+pub holds : (Line : Type 0) (cause : Why) (Below : Type 0) (why : Why) → Line → (Below → ⊥) → Fails Line cause Below why → ⊥
 holds Line cause Below why h k (inl f) = f.1 h
 holds Line cause Below why h k (inr f) = k f.1
 
 -- a line below which there is one cause
-one_of : (Line : Type 0) (cause : Why) (Below Other : Type 0) (why other : Why) → (Below → Other → why ≡ other) → Fails Line cause Below why → Fails Line cause Other other → why ≡ other
+pub one_of : (Line : Type 0) (cause : Why) (Below Other : Type 0) (why other : Why) → (Below → Other → why ≡ other) → Fails Line cause Below why → Fails Line cause Other other → why ≡ other
 one_of Line cause Below Other why other k (inl f) (inl e) = f.0 ∙ sym e.0
 one_of Line cause Below Other why other k (inl f) (inr e) = absurd (f.1 e.0)
 one_of Line cause Below Other why other k (inr f) (inl e) = absurd (e.1 f.0)
@@ -23,10 +23,10 @@ one_of Line cause Below Other why other k (inr f) (inr e) = k f.1 e.1
 
 -- ---- claims
 
-none : ⊥ → ⊥
+pub none : ⊥ → ⊥
 none x = x
 
-neither : (why other : Why) → ⊥ → ⊥ → why ≡ other
+pub neither : (why other : Why) → ⊥ → ⊥ → why ≡ other
 neither why other x y = absurd x
 
 pub claim_passes : (partial : Bool) (p : Problem) (claim : Claim) (why : Why) → ClaimPasses partial p claim → ClaimFails partial p claim why → ⊥

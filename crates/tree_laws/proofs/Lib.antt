@@ -2,6 +2,7 @@ pub mod AcceptedLemmas
 pub mod ApartLemmas
 pub mod CountLemmas
 pub mod CoverLemmas
+mod ExampleLeaf
 pub mod FaultLemmas
 pub mod FewLemmas
 pub mod LeafLemmas
