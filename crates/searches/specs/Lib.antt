@@ -1,3 +1,4 @@
 pub mod Found
 pub mod Solve
 pub mod Summary
+pub mod Trial

@@ -1,14 +1,16 @@
-//! What a search of all structures of a problem comes to, as a text.
+//! The commands that search all structures of a problem: `solve` and `trial`.
 //!
-//! [`say_solved`] prints a claim, the tree that proves it and where the search stopped; [`say_summed`] a summary in the place of a
-//! proved network. `specs/Solve` and `specs/Summary` say what the lines are with which status.
+//! [`solve::solve`] prints a claim, the tree that proves it and where the search stopped, for the problem of a file; [`trial::trial`]
+//! a summary in the place of a proved network, for a problem out of numbers. `specs/Solve`, `specs/Summary` and `specs/Trial` say
+//! what the lines are with which status.
 //!
-//! Modules: `certificate`, the text of a claim, a tree and a tail; `solve` and `summary`, the calls.
+//! Modules: `certificate`, the text of a claim, a tree and a tail; `solve`, `summary` and `trial`.
 #![tactic(auto)]
 
 mod certificate;
-mod solve;
+pub mod solve;
 mod summary;
+pub mod trial;
 
 pub use solve::say_solved;
 pub use summary::say_summed;

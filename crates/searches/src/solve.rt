@@ -1,4 +1,4 @@
-//! The text of a whole search.
+//! The command `solve`: the text of a whole search.
 ghost use Rattle.std.specs.Prelude.{◌≡◌, ◌≤◌};
 ghost use Rattle.pns_io.specs.Outside.{HasRisen};
 ghost use Rattle.pns_rules.specs.Shape.{shape_of};
@@ -6,14 +6,16 @@ ghost use Rattle.pgraph.specs.Tables.{shape};
 ghost use Rattle.tree_rules.specs.Accepted.{first_node};
 ghost use Rattle.abb_search.specs.Found.{IsFound};
 ghost use Rattle.searches.specs.Solve.{SolveWork};
-ghost use Rattle.endings.specs.Ending.{Ends, Tells};
+ghost use Rattle.command_files.specs.Reading.{OnFile};
+ghost use Rattle.endings.specs.Ending.{Ends, Says, Tells};
 
 use crate::certificate::say_found;
 use abb_search::{Found, search};
+use command_files::problem_of;
 use endings::Status;
 use endings::say::say_memory;
 use pgraph::Graph;
-use pns_io::Sink;
+use pns_io::{Shelf, Sink};
 use pns_problem::Problem;
 use std::alloc::Global;
 use tree_laws::accepted_is_optimal;
@@ -46,4 +48,24 @@ pub fn say_solved<K: Sink>(alloc: Global, out: &mut K, problem: &Problem, budget
     accepted_is_optimal();
     let found = search_all(alloc, problem, &graph, budget);
     say_found(alloc, out, problem, found)
+}
+
+/// Says an allowed network of least cost for the file's problem with the tree that proves it, or that no network has flows; or how
+/// far the search came.
+pub fn solve<F: Shelf, K: Sink>(
+    alloc: Global,
+    file: &str,
+    budget: u64,
+    shelf: &mut F,
+    out: &mut K,
+) -> Status
+    requires some { 1 ≤ budget }
+    requires few { budget ≤ 1000000 }
+    ensures { Ends (Says (OnFile (SolveWork budget) (F.held shelf.old) file.now) (λ other. other ≡ file.now) (record { held = F.held shelf.old; before = F.faults shelf.old; after = F.faults shelf.new }))
+        (HasRisen (K.faults out.old) (K.faults out.new)) (K.written out.old) (K.written out.new) result }
+{
+    match problem_of(alloc, shelf, out, file) {
+        Ok(problem) => say_solved(alloc, out, &problem, budget),
+        Err(status) => status,
+    }
 }

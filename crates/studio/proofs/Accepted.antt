@@ -11,9 +11,9 @@ use Rattle.searches.specs.Solve.{Holds, status_of}
 use Rattle.endings.specs.Lines.{text_of}
 use Rattle.endings.specs.declared.status.Status.{Status}
 use Rattle.endings.specs.declared.status.Status.TheVariants.{Done, Refused, BadProblem, BadTree, TooLong}
-use Rattle.studio.specs.Reading.{AreHeld, FileFault, GivesProblem}
-use Rattle.studio.specs.TreeFile.{TreeSays, tree_limit}
-use Rattle.studio.specs.Check.{CheckWork}
+use Rattle.command_files.specs.Reading.{AreHeld, FileFault, GivesProblem}
+use Rattle.command_files.specs.TreeFile.{TreeSays, tree_limit}
+use Rattle.flow_commands.specs.Check.{CheckWork}
 use Rattle.studio.specs.SolveLaws.{IsAcceptedOrLong, SolvedIsAccepted}
 
 is_held : (held : Option (List ℕ)) (bytes file : List ℕ) → held ≡ Some bytes → AreHeld held file → file ≡ bytes

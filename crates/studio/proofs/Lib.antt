@@ -1,13 +1,2 @@
-pub mod Files
-pub mod Within
-pub mod EditCounts
-pub mod Seconds
-pub mod NameLists
-pub mod Maximal
-pub mod Named
 pub mod Statuses
-pub mod Numerals
-pub mod Listings
-pub mod ListingStart
-pub mod ListingParts
 pub mod Accepted

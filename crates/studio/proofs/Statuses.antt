@@ -5,23 +5,23 @@ use Rattle.edit_rules.specs.Edit.{Edit}
 use Rattle.pgraph.specs.declared.verdict.Verdict.{Verdict}
 use Rattle.pgraph.specs.declared.verdict.Verdict.TheVariants.{Meets, Breaks}
 use Rattle.pns_io.specs.Outside.{HasRisen}
-use Rattle.studio.specs.Command.{Command, Max, Axioms, Flows, Listing, Make, Migrate, Editing, Undoing, Checking, Solving, Trial, command_of, IsFileOf, IsFileWord}
-use Rattle.studio.specs.Reading.{AreHeld, FileFault, file_limit}
-use Rattle.studio.specs.Max.{MaxWork}
-use Rattle.studio.specs.Listing.{ListingWork}
-use Rattle.studio.specs.Migrate.{MigrateWork}
-use Rattle.studio.specs.Flows.{FlowNamesSay, UnitsSay, FlowsSay}
-use Rattle.studio.specs.Script.{ScriptFault, OnScript}
-use Rattle.studio.specs.Edits.{EditWork, UndoWork}
+use Rattle.studio_words.specs.Command.{Command, Max, Axioms, Flows, Listing, Make, Migrate, Editing, Undoing, Checking, Solving, Trial, command_of, IsFileOf, IsFileWord}
+use Rattle.command_files.specs.Reading.{AreHeld, FileFault, file_limit}
+use Rattle.structure_commands.specs.Max.{MaxWork}
+use Rattle.structure_commands.specs.Listing.{ListingWork}
+use Rattle.edit_commands.specs.Migrate.{MigrateWork}
+use Rattle.flow_commands.specs.Flows.{FlowNamesSay, UnitsSay, FlowsSay}
+use Rattle.command_files.specs.Script.{ScriptFault, OnScript}
+use Rattle.edit_commands.specs.Edits.{EditWork, UndoWork}
 use Rattle.tree_rules.specs.Claim.{Claim}
 use Rattle.tree_rules.specs.Accepted.{Tree}
-use Rattle.studio.specs.TreeFile.{TreeFault, OnTree, tree_limit}
-use Rattle.studio.specs.Check.{CheckWork}
+use Rattle.command_files.specs.TreeFile.{TreeFault, OnTree, tree_limit}
+use Rattle.flow_commands.specs.Check.{CheckWork}
 use Rattle.branch_tree.specs.Tail.{Tail, whole, spent, past}
 use Rattle.generator.specs.Generated.{generated}
 use Rattle.searches.specs.Solve.{SolveWork, Holds, status_of, CanFinish}
 use Rattle.searches.specs.Summary.{SummaryWork}
-use Rattle.studio.specs.Axioms.{NamesSay, VerdictSays, first_stranger}
+use Rattle.structure_commands.specs.Axioms.{NamesSay, VerdictSays, first_stranger}
 use Rattle.endings.specs.Ending.{Shelves, Ends, IsOneOf}
 use Rattle.studio.specs.Answers.{AnswersTo, CommandAnswers, WordsSay, IsReadWithin, IsUndisturbed, IsNotStopped, SearchCanFinish, statuses_of}
 use Rattle.endings.specs.declared.status.Status.{Status}

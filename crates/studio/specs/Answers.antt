@@ -1,22 +1,22 @@
 -- What each command says, from its words and what the shelf holds.
 use Rattle.std.specs.Prelude.{◌≡◌, ◌≤◌, ◌⊎◌, ℕ, List, [], ◌∷◌, Option, Some, None, IsSomeAnd, length, codes}
 use Rattle.pns_io.specs.Outside.{HasRisen}
-use Rattle.studio.specs.Command.{Command, Max, Axioms, Flows, Listing, Make, Migrate, Editing, Undoing, Checking, Solving, Trial, command_of, IsFileOf, IsFileWord}
+use Rattle.studio_words.specs.Command.{Command, Max, Axioms, Flows, Listing, Make, Migrate, Editing, Undoing, Checking, Solving, Trial, command_of, IsFileOf, IsFileWord}
 use Rattle.generator.specs.Generated.{generated}
 use Rattle.problem_rules.specs.Problem.{Problem}
-use Rattle.studio.specs.Reading.{AreHeld, GivesProblem, OnFile, file_limit}
-use Rattle.studio.specs.Max.{MaxWork}
-use Rattle.studio.specs.Axioms.{AxiomsWork}
-use Rattle.studio.specs.Flows.{FlowsWork}
-use Rattle.studio.specs.Listing.{ListingWork}
-use Rattle.studio.specs.Make.{MakeWork}
-use Rattle.studio.specs.Script.{OnScript}
-use Rattle.studio.specs.Migrate.{MigrateWork}
-use Rattle.studio.specs.Edits.{EditWork, UndoWork}
-use Rattle.studio.specs.TreeFile.{OnTree, tree_limit}
-use Rattle.studio.specs.Check.{CheckWork}
+use Rattle.command_files.specs.Reading.{AreHeld, GivesProblem, OnFile, file_limit}
+use Rattle.structure_commands.specs.Max.{MaxWork}
+use Rattle.structure_commands.specs.Axioms.{AxiomsWork}
+use Rattle.flow_commands.specs.Flows.{FlowsWork}
+use Rattle.structure_commands.specs.Listing.{ListingWork}
+use Rattle.edit_commands.specs.Make.{MakeWork}
+use Rattle.command_files.specs.Script.{OnScript}
+use Rattle.edit_commands.specs.Migrate.{MigrateWork}
+use Rattle.edit_commands.specs.Edits.{EditWork, UndoWork}
+use Rattle.command_files.specs.TreeFile.{OnTree, tree_limit}
+use Rattle.flow_commands.specs.Check.{CheckWork}
 use Rattle.searches.specs.Solve.{SolveWork, CanFinish}
-use Rattle.studio.specs.Trial.{TrialWork}
+use Rattle.searches.specs.Trial.{TrialWork}
 use Rattle.endings.specs.Ending.{Shelves, Says}
 use Rattle.endings.specs.declared.status.Status.{Status}
 use Rattle.endings.specs.declared.status.Status.TheVariants.{Done, Refused, Usage, BadProblem, Past, Spent, Memory, BadToken, BadTree, BadEdit, NotMigrated}

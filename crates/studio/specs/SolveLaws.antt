@@ -3,8 +3,8 @@ use Rattle.std.specs.Prelude.{◌≡◌, ◌⊎◌, ◌≤◌, ◌<◌, ◌++◌
 use Rattle.endings.specs.Lines.{text_of}
 use Rattle.endings.specs.declared.status.Status.{Status}
 use Rattle.endings.specs.declared.status.Status.TheVariants.{Done, TooLong}
-use Rattle.studio.specs.Command.{Solving, Checking}
-use Rattle.studio.specs.TreeFile.{tree_limit}
+use Rattle.studio_words.specs.Command.{Solving, Checking}
+use Rattle.command_files.specs.TreeFile.{tree_limit}
 use Rattle.studio.specs.Answers.{CommandAnswers}
 
 -- `accepted`, or where the tree file is above its limit that it is too long

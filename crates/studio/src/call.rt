@@ -1,27 +1,27 @@
 //! The call: it judges the words and does their command.
 ghost use Rattle.std.specs.Prelude.{◌≡◌, ◌∷◌, [], List, ℕ, Some, None, map, string_bytes};
 ghost use Rattle.pns_io.specs.Outside.{HasRisen};
-ghost use Rattle.studio.specs.Command as rules;
-ghost use Rattle.studio.specs.Command.{command_of, AreWithin, IsFileWord};
+ghost use Rattle.studio_words.specs.Command as rules;
+ghost use Rattle.studio_words.specs.Command.{command_of, AreWithin, IsFileWord};
 ghost use Rattle.endings.specs.Ending.{Ends, IsOneOf};
 ghost use Rattle.studio.specs.Answers.{CommandSays, WordsSay, IsUndisturbed, IsNotStopped, SearchCanFinish, statuses_of};
-ghost use Rattle.studio.specs.View.{command_view};
+ghost use Rattle.studio_words.specs.View.{command_view};
 
-use crate::axioms::axioms;
-use crate::check::check;
-use crate::command::{Command, command_of};
-use crate::edits::{edit, undo};
-use crate::flows::flows;
-use crate::list::list;
-use crate::make::make;
-use crate::max::max;
-use crate::migrate::migrate;
-use crate::solve::solve;
-use crate::trial::trial;
+use edit_commands::edits::{edit, undo};
+use edit_commands::make::make;
+use edit_commands::migrate::migrate;
 use endings::Status;
 use endings::say::{say, say_memory};
+use flow_commands::check::check;
+use flow_commands::flows::flows;
 use pns_io::{Shelf, Sink};
+use searches::solve::solve;
+use searches::trial::trial;
 use std::alloc::Global;
+use structure_commands::axioms::axioms;
+use structure_commands::list::list;
+use structure_commands::max::max;
+use studio_words::{Command, command_of};
 
 fn perform<F: Shelf, K: Sink>(
     alloc: Global,

@@ -1,5 +1,5 @@
 //! Laws over what the commands print. Each is the contract of a function that does nothing.
-ghost use Rattle.studio.specs.ListingLaws.{PartsJoin};
+ghost use Rattle.structure_commands.specs.ListingLaws.{PartsJoin};
 ghost use Rattle.studio.specs.SolveLaws.{SolvedIsAccepted};
 
 use tree_laws::{claim_has_one_fault, tree_has_one_fault};

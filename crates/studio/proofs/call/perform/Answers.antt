@@ -1,10 +1,10 @@
 use Rattle.std.proofs.Common.{sym, ap, subst, ◌≤◌, ℕ, List}
-use Rattle.studio.specs.Command.{Command, Max, Axioms, Flows, Listing, Migrate, Editing, Undoing, Checking, Solving, AreWithin}
-use Rattle.studio.specs.View.{command_view}
+use Rattle.studio_words.specs.Command.{Command, Max, Axioms, Flows, Listing, Migrate, Editing, Undoing, Checking, Solving, AreWithin}
+use Rattle.studio_words.specs.View.{command_view}
 use Rattle.endings.specs.Ending.{Shelves}
 use Rattle.studio.specs.Answers.{CommandSays}
-use Rattle.studio.specs.Make.{MakeWork}
-use Rattle.studio.specs.Trial.{TrialWork}
+use Rattle.edit_commands.specs.Make.{MakeWork}
+use Rattle.searches.specs.Trial.{TrialWork}
 use Rattle.endings.specs.declared.status.Status.{Status}
 use Rattle.endings.proofs.Ending.{Ends-map, Says-told}
 use Rattle.studio.proofs.call.perform.Goals as goal

@@ -1,0 +1,3 @@
+pub mod Files
+pub mod EditCounts
+pub mod Seconds

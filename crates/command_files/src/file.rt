@@ -1,0 +1,38 @@
+//! The bytes of a file.
+ghost use Rattle.std.specs.Prelude.{◌≡◌, ◌≤◌, ◌<◌, ◌^◌, ℕ, List, IfOk, IfErr, OnOk, length, string_bytes};
+ghost use Rattle.pns_io.specs.Outside.{HasRisen};
+ghost use Rattle.command_files.specs.Reading.{AreHeld, LongFile};
+ghost use Rattle.endings.specs.Ending.{Ends, Says};
+
+use endings::Status;
+use endings::say::{say_memory, say_of};
+use pns_io::{ReadAllFault, Shelf, Sink, read_all};
+use std::alloc::Global;
+
+/// The whole of the file, which may hold so many bytes. Where it can't be read, or holds more, the text that tells so is out,
+/// and the status is that of the call.
+pub(crate) fn bytes_of<F: Shelf, K: Sink>(
+    alloc: Global,
+    shelf: &mut F,
+    out: &mut K,
+    name: &str,
+    limit: u64,
+) -> Result<Vec<u8>, Status>
+    requires { limit < 2 ^ 32 }
+    ensures whole { IfOk result (λ bytes. AreHeld (F.held shelf.old name.now) bytes.items) }
+    ensures within { IfOk result (λ bytes. length bytes.items ≤ limit) }
+    ensures silent { OnOk result (out.new ≡ out.old) }
+    ensures later { (other : List ℕ) → F.faults shelf.old other ≤ F.faults shelf.new other }
+    ensures keeps { (other : List ℕ) → F.held shelf.new other ≡ F.held shelf.old other }
+    ensures told { IfErr result (Ends (Says (LongFile (F.held shelf.old) name.now limit) (λ other. other ≡ name.now) (record { held = F.held shelf.old; before = F.faults shelf.old; after = F.faults shelf.new }))
+        (HasRisen (K.faults out.old) (K.faults out.new)) (K.written out.old) (K.written out.new)) }
+{
+    match read_all(alloc, shelf, name, limit) {
+        Ok(bytes) => Ok(bytes),
+        Err(ReadAllFault::ReadFault) => {
+            Err(say_of(alloc, out, "read fault ", name, Status::ReadFault))
+        }
+        Err(ReadAllFault::TooLong) => Err(say_of(alloc, out, "too long ", name, Status::TooLong)),
+        Err(ReadAllFault::Memory) => Err(say_memory(out)),
+    }
+}

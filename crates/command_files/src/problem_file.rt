@@ -1,0 +1,102 @@
+//! A problem file: it is read and judged.
+ghost use Rattle.std.specs.Prelude.{◌≡◌, ◌≤◌, ℕ, List, IfOk, IfErr, OnOk, string_bytes};
+ghost use Rattle.pns_io.specs.Outside.{HasRisen};
+ghost use Rattle.endings.specs.Lines.{line};
+ghost use Rattle.command_files.specs.Reading.{AreHeld, GivesProblem, FileFaults, fault_line, kind_word};
+ghost use Rattle.endings.specs.Ending.{Ends, Says, Only, OrMemory};
+ghost use Rattle.endings.specs.declared.status.Status.TheVariants.{BadProblem};
+
+use crate::file::bytes_of;
+use endings::Status;
+use endings::say::{say, say_memory};
+use pns_io::{Shelf, Sink};
+use pns_problem::Problem;
+use pns_text::{TextFault, read_problem};
+use std::alloc::{AllocError, Global};
+use text_rules::TextKind;
+
+/// The most bytes of a problem file.
+const FILE_LIMIT: u64 = 4_194_304;
+
+/// The word by which a kind of fault is told.
+fn kind_word(kind: TextKind) -> &'static str
+    ensures { result.now ≡ kind_word kind }
+{
+    match kind {
+        TextKind::FileType => "FileType",
+        TextKind::UnknownSection => "UnknownSection",
+        TextKind::DoubleSection => "DoubleSection",
+        TextKind::BadLine => "BadLine",
+        TextKind::BadName => "BadName",
+        TextKind::UnknownKey => "UnknownKey",
+        TextKind::DoubleKey => "DoubleKey",
+        TextKind::BadNumber => "BadNumber",
+        TextKind::TooFine => "TooFine",
+        TextKind::TooLarge => "TooLarge",
+        TextKind::Negative => "Negative",
+        TextKind::UnknownKind => "UnknownKind",
+        TextKind::ZeroRate => "ZeroRate",
+        TextKind::DoubleTerm => "DoubleTerm",
+        TextKind::BothSides => "BothSides",
+        TextKind::EmptySide => "EmptySide",
+        TextKind::DoubleMaterial => "DoubleMaterial",
+        TextKind::DoubleUnit => "DoubleUnit",
+        TextKind::DoubleRates => "DoubleRates",
+        TextKind::TooMany => "TooMany",
+        TextKind::LowAboveHigh => "LowAboveHigh",
+        TextKind::UnknownMaterial => "UnknownMaterial",
+        TextKind::NoRates => "NoRates",
+        TextKind::NoProduct => "NoProduct",
+        TextKind::DoubleExclusion => "DoubleExclusion",
+        TextKind::DoubleMember => "DoubleMember",
+        TextKind::FewMembers => "FewMembers",
+        TextKind::UnknownUnit => "UnknownUnit",
+        TextKind::BadPayout => "BadPayout",
+    }
+}
+
+fn fault_line(alloc: Global, number: u32, kind: TextKind) -> Result<String, AllocError>
+    ensures { IfOk result (λ text. string_bytes text ≡ line (fault_line number kind)) }
+{
+    let mut text = String::from_str(alloc, "problem line ")?;
+    write!(text, "{number}")?;
+    text.push(' ')?;
+    text.push_str(kind_word(kind))?;
+    text.push('\n')?;
+    Ok(text)
+}
+
+fn say_fault<K: Sink>(alloc: Global, out: &mut K, number: u32, kind: TextKind) -> Status
+    ensures { Ends (OrMemory (Only BadProblem (line (fault_line number kind)))) (HasRisen (K.faults out.old) (K.faults out.new)) (K.written out.old) (K.written out.new) result }
+{
+    match fault_line(alloc, number, kind) {
+        Ok(text) => say(out, text.as_bytes(), Status::BadProblem),
+        Err(_) => say_memory(out),
+    }
+}
+
+/// Reads the file and judges its text. Where that gives no problem the text that tells why is out, and the status is that
+/// of the call.
+pub fn problem_of<F: Shelf, K: Sink>(
+    alloc: Global,
+    shelf: &mut F,
+    out: &mut K,
+    name: &str,
+) -> Result<Problem, Status>
+    ensures problem { IfOk result (λ p. (file : List ℕ) × AreHeld (F.held shelf.old name.now) file × GivesProblem file p) }
+    ensures silent { OnOk result (out.new ≡ out.old) }
+    ensures later { (other : List ℕ) → F.faults shelf.old other ≤ F.faults shelf.new other }
+    ensures keeps { (other : List ℕ) → F.held shelf.new other ≡ F.held shelf.old other }
+    ensures told { IfErr result (Ends (Says (FileFaults (F.held shelf.old) name.now) (λ other. other ≡ name.now) (record { held = F.held shelf.old; before = F.faults shelf.old; after = F.faults shelf.new }))
+        (HasRisen (K.faults out.old) (K.faults out.new)) (K.written out.old) (K.written out.new)) }
+{
+    let bytes = match bytes_of(alloc, shelf, out, name, FILE_LIMIT) {
+        Ok(bytes) => bytes,
+        Err(status) => return Err(status),
+    };
+    match read_problem(alloc, &bytes) {
+        Ok(problem) => Ok(problem),
+        Err(TextFault::At { line, kind }) => Err(say_fault(alloc, out, line, kind)),
+        Err(TextFault::Memory) => Err(say_memory(out)),
+    }
+}

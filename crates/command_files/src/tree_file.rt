@@ -1,0 +1,85 @@
+//! A tree file: it is read and judged by its grammar.
+ghost use Rattle.std.specs.Prelude.{◌≡◌, ◌≤◌, ◌<◌, ◌^◌, ℕ, List, IfOk, IfErr, OnOk, length, string_bytes};
+ghost use Rattle.pns_io.specs.Outside.{HasRisen};
+ghost use Rattle.branch_tree.specs.View.{claim_of};
+ghost use Rattle.endings.specs.Lines.{line};
+ghost use Rattle.command_files.specs.Reading.{AreHeld};
+ghost use Rattle.command_files.specs.TreeFile.{GivesTree, TreeFaults, tree_fault_line, tree_kind_word};
+ghost use Rattle.endings.specs.Ending.{Ends, Says, Only, OrMemory};
+ghost use Rattle.endings.specs.declared.status.Status.TheVariants.{BadTree};
+
+use crate::file::bytes_of;
+use branch_tree::{Claim, Tree};
+use endings::Status;
+use endings::say::{say, say_memory};
+use pns_io::{Shelf, Sink};
+use pns_problem::Problem;
+use std::alloc::{AllocError, Global};
+use tree_reading::{TreeFault, read_tree};
+use tree_text_rules::TreeKind;
+
+/// The most bytes of a tree file.
+const TREE_LIMIT: u64 = 268_435_456;
+
+/// The word by which a kind of fault is told.
+fn tree_kind_word(kind: TreeKind) -> &'static str
+    ensures { result.now ≡ tree_kind_word kind }
+{
+    match kind {
+        TreeKind::FileType => "FileType",
+        TreeKind::BadLine => "BadLine",
+        TreeKind::UnknownName => "UnknownName",
+        TreeKind::BadNumber => "BadNumber",
+        TreeKind::Order => "Order",
+        TreeKind::WrongCount => "WrongCount",
+        TreeKind::MoreNodes => "MoreNodes",
+        TreeKind::FewerNodes => "FewerNodes",
+        TreeKind::AfterEnd => "AfterEnd",
+    }
+}
+
+fn tree_fault_line(alloc: Global, number: u32, kind: TreeKind) -> Result<String, AllocError>
+    ensures { IfOk result (λ text. string_bytes text ≡ line (tree_fault_line number kind)) }
+{
+    let mut text = String::from_str(alloc, "tree line ")?;
+    write!(text, "{number}")?;
+    text.push(' ')?;
+    text.push_str(tree_kind_word(kind))?;
+    text.push('\n')?;
+    Ok(text)
+}
+
+fn say_tree_fault<K: Sink>(alloc: Global, out: &mut K, number: u32, kind: TreeKind) -> Status
+    ensures { Ends (OrMemory (Only BadTree (line (tree_fault_line number kind)))) (HasRisen (K.faults out.old) (K.faults out.new)) (K.written out.old) (K.written out.new) result }
+{
+    match tree_fault_line(alloc, number, kind) {
+        Ok(text) => say(out, text.as_bytes(), Status::BadTree),
+        Err(_) => say_memory(out),
+    }
+}
+
+/// Reads the file and judges its text as a claim and a tree for the problem. Where that gives none the text that tells why is
+/// out, and the status is that of the call.
+pub fn tree_of<F: Shelf, K: Sink>(
+    alloc: Global,
+    shelf: &mut F,
+    out: &mut K,
+    name: &str,
+    problem: &Problem,
+) -> Result<(Claim, Tree), Status>
+    ensures tree { IfOk result (λ found. (file : List ℕ) × AreHeld (F.held shelf.old name.now) file × GivesTree problem.now file (claim_of found.0) found.1) }
+    ensures few { IfOk result (λ found. length found.1 < 2 ^ 32) }
+    ensures silent { OnOk result (out.new ≡ out.old) }
+    ensures told { IfErr result (Ends (Says (TreeFaults (F.held shelf.old) name.now problem.now) (λ other. other ≡ name.now) (record { held = F.held shelf.old; before = F.faults shelf.old; after = F.faults shelf.new }))
+        (HasRisen (K.faults out.old) (K.faults out.new)) (K.written out.old) (K.written out.new)) }
+{
+    let bytes = match bytes_of(alloc, shelf, out, name, TREE_LIMIT) {
+        Ok(bytes) => bytes,
+        Err(status) => return Err(status),
+    };
+    match read_tree(alloc, problem, &bytes) {
+        Ok((claim, tree, _)) => Ok((claim, tree)),
+        Err(TreeFault::At { line, kind }) => Err(say_tree_fault(alloc, out, line, kind)),
+        Err(TreeFault::Memory) => Err(say_memory(out)),
+    }
+}

@@ -1,0 +1,31 @@
+use Rattle.std.proofs.Common.{◌≡◌, IfOk, [], refl, ap, subst, inl, inr, ℕ, List}
+use Rattle.problem_rules.specs.Problem.{Problem}
+use Rattle.edit_rules.specs.Script.{applied}
+use Rattle.text_rules.specs.Canonical.{canonical, canonical_lines}
+use Rattle.endings.specs.Lines.{text_of}
+use Rattle.command_files.specs.Script.{OnScript, ScriptFault, ScriptSays, IsEdited}
+use Rattle.edit_commands.specs.Edits.{EditWork}
+use Rattle.endings.specs.Ending.{Shelves, Says}
+use Rattle.endings.specs.declared.status.Status.{Status}
+use Rattle.endings.specs.declared.status.Status.TheVariants.{Done}
+use Rattle.endings.proofs.Ending.{Ends-map, Ends-from, only_or_memory_in}
+use Rattle.command_files.proofs.Seconds.{on_second-faults}
+use Rattle.edit_commands.proofs.edits.say_edited.Goals as goal
+
+pub returns-in-Ok : goal.returns-in-Ok
+returns-in-Ok g c =
+    let shelves : Shelves = record { held = g.F.Shelf.held c.args.shelf.now; before = g.F.Shelf.faults c.args.shelf.now; after = g.F.Shelf.faults c.edited_of.new.shelf } in
+    let p = c.args.problem.now in
+    let read = c.in-Ok.ensures.edited in
+    let is : IsEdited p read.0 c.in-Ok.edited.0 c.in-Ok.edited.1 = read.2 in
+    let lines : List (List ℕ) = canonical_lines (applied p is.script.edits) in
+    let Q : Status → List ℕ → Type 0 = Says (OnScript EditWork shelves.held c.args.script.now p) (λ other. other ≡ c.args.script.now) shelves in
+    Ends-from _ Q _ _ _ _ _ _ _ (ap g.K.Sink.faults c.in-Ok.ensures.silent) (ap g.K.Sink.written c.in-Ok.ensures.silent)
+    (only_or_memory_in Q Done (text_of lines) (lines, (read.0, read.1, inr (is.script, is.gives, (refl, refl))), refl) ([], inl refl, refl))
+    (c.say_made.ensures lines (subst (λ (q : Problem). IfOk c.canonical_text.result (λ text. text.items ≡ canonical q)) is.edited_is c.canonical_text.ensures))
+
+pub returns-in-Err : goal.returns-in-Err
+returns-in-Err g c =
+    let shelves : Shelves = record { held = g.F.Shelf.held c.args.shelf.now; before = g.F.Shelf.faults c.args.shelf.now; after = g.F.Shelf.faults c.edited_of.new.shelf } in
+    let Q : Status → List ℕ → Type 0 = Says (OnScript EditWork shelves.held c.args.script.now c.args.problem.now) (λ other. other ≡ c.args.script.now) shelves in
+    Ends-map _ Q _ _ _ _ _ (on_second-faults (ScriptSays EditWork c.args.script.now) (ScriptFault c.args.script.now c.args.problem.now) shelves c.args.script.now c.args.problem.now (λ file s lines h. inl h)) (λ r. r) c.in-Err.ensures.told

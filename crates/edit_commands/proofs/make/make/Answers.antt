@@ -1,0 +1,17 @@
+use Rattle.std.proofs.Common.{[], refl, inl, List, ℕ}
+use Rattle.text_rules.specs.Canonical.{canonical_lines}
+use Rattle.generator.specs.Generated.{generated}
+use Rattle.endings.specs.Lines.{text_of}
+use Rattle.edit_commands.specs.Make.{MakeWork}
+use Rattle.endings.specs.Ending.{Tells}
+use Rattle.endings.specs.declared.status.Status.{Status}
+use Rattle.endings.specs.declared.status.Status.TheVariants.{Done}
+use Rattle.endings.proofs.Ending.{Ends-map, only_or_memory_in}
+use Rattle.edit_commands.proofs.make.make.Goals as goal
+
+pub returns : goal.returns
+returns g c =
+    let lines : List (List ℕ) = canonical_lines (generated c.args.number c.args.units) in
+    let Q : Status → List ℕ → Type 0 = Tells (MakeWork c.args.number c.args.units) in
+    Ends-map _ Q _ _ _ _ _ (only_or_memory_in Q Done (text_of lines) (lines, (refl, refl), refl) ([], inl refl, refl)) (λ r. r)
+    (c.say_made.ensures lines c.made_text.ensures)

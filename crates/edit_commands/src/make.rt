@@ -1,0 +1,32 @@
+//! The command `make`.
+ghost use Rattle.std.specs.Prelude.{◌≡◌, ◌≤◌, IfOk};
+ghost use Rattle.pns_io.specs.Outside.{HasRisen};
+ghost use Rattle.text_rules.specs.Canonical.{canonical_lines};
+ghost use Rattle.generator.specs.Generated.{generated};
+ghost use Rattle.endings.specs.Lines.{text_of};
+ghost use Rattle.edit_commands.specs.Make.{MakeWork};
+ghost use Rattle.endings.specs.Ending.{Ends, Tells};
+
+use endings::Status;
+use endings::say::say_made;
+use generator::generate;
+use pns_io::Sink;
+use std::alloc::{AllocError, Global};
+
+fn made_text(alloc: Global, number: u64, units: u64) -> Result<Vec<u8>, AllocError>
+    requires some { 1 ≤ units }
+    requires few { units ≤ 128 }
+    ensures { IfOk result (λ text. text.items ≡ text_of (canonical_lines (generated number units))) }
+{
+    let problem = generate(alloc, number, units as u32)?;
+    problem.canonical_text(alloc)
+}
+
+/// Puts the canonical text of the problem of this number with so many operating units, 1 to 128.
+pub fn make<K: Sink>(alloc: Global, number: u64, units: u64, out: &mut K) -> Status
+    requires some { 1 ≤ units }
+    requires few { units ≤ 128 }
+    ensures { Ends (Tells (MakeWork number units)) (HasRisen (K.faults out.old) (K.faults out.new)) (K.written out.old) (K.written out.new) result }
+{
+    say_made(out, made_text(alloc, number, units))
+}

@@ -1,0 +1,58 @@
+//! The command `migrate`.
+ghost use Rattle.std.specs.Prelude.{◌≡◌, ◌≤◌};
+ghost use Rattle.pns_io.specs.Outside.{HasRisen};
+ghost use Rattle.problem_rules.specs.Problem.{unit_at};
+ghost use Rattle.command_files.specs.Reading.{OnFile};
+ghost use Rattle.edit_commands.specs.Migrate.{MigrateWork};
+ghost use Rattle.endings.specs.Ending.{Ends, Says, Tells};
+
+use command_files::problem_of;
+use edit_scripts::print_script;
+use endings::Status;
+use endings::say::{say, say_made, say_memory, say_of};
+use pns_edits::MigrateFault;
+use pns_io::{Shelf, Sink};
+use pns_problem::Problem;
+use std::alloc::Global;
+
+fn unit_name<'a>(problem: &'a Problem, at: u32) -> &'a str
+    ensures { result.now ≡ (unit_at problem.now at).name }
+{
+    match problem.units().get(at as usize) {
+        Some(unit) => unit.name.as_str(),
+        None => "",
+    }
+}
+
+fn say_migration<K: Sink>(alloc: Global, out: &mut K, problem: &Problem, years: u64) -> Status
+    requires { (1 ≤ years) × (years ≤ 100) }
+    ensures { Ends (Tells (MigrateWork years problem.now)) (HasRisen (K.faults out.old) (K.faults out.new)) (K.written out.old) (K.written out.new) result }
+{
+    match pns_edits::migrate(alloc, problem, years as u32) {
+        Ok(script) => say_made(out, print_script(alloc, &script)),
+        Err(MigrateFault::HasPayout) => say(out, b"has payout\n", Status::NotMigrated),
+        Err(MigrateFault::OutOfRange { unit }) => {
+            let name = unit_name(problem, unit);
+            say_of(alloc, out, "out of range ", name, Status::NotMigrated)
+        }
+        Err(MigrateFault::Memory) => say_memory(out),
+    }
+}
+
+/// Puts the script that turns the yearly costs of the file's problem into investment costs over so many years, 1 to 100.
+pub fn migrate<F: Shelf, K: Sink>(
+    alloc: Global,
+    file: &str,
+    years: u64,
+    shelf: &mut F,
+    out: &mut K,
+) -> Status
+    requires { (1 ≤ years) × (years ≤ 100) }
+    ensures { Ends (Says (OnFile (MigrateWork years) (F.held shelf.old) file.now) (λ other. other ≡ file.now) (record { held = F.held shelf.old; before = F.faults shelf.old; after = F.faults shelf.new }))
+        (HasRisen (K.faults out.old) (K.faults out.new)) (K.written out.old) (K.written out.new) result }
+{
+    match problem_of(alloc, shelf, out, file) {
+        Ok(problem) => say_migration(alloc, out, &problem, years),
+        Err(status) => status,
+    }
+}

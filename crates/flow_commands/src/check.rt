@@ -1,0 +1,119 @@
+//! The command `check`.
+ghost use Rattle.std.specs.Prelude.{◌≡◌, ◌<◌, ◌^◌, ◌⊎◌, IfOk, length, string_bytes};
+ghost use Rattle.pns_io.specs.Outside.{HasRisen};
+ghost use Rattle.branch_tree.specs.View.{claim_of};
+ghost use Rattle.endings.specs.Lines.{line};
+ghost use Rattle.command_files.specs.Reading.{OnFile};
+ghost use Rattle.command_files.specs.TreeFile.{OnTree};
+ghost use Rattle.flow_commands.specs.Check.{CheckWork, node_line, why_word};
+ghost use Rattle.endings.specs.Ending.{Ends, Says, Tells, Only, OrMemory};
+ghost use Rattle.endings.specs.declared.status.Status.TheVariants.{Refused};
+
+use branch_tree::{Claim, Tree};
+use cert_check::{Refusal, check_tree};
+use command_files::{problem_of, tree_of};
+use endings::Status;
+use endings::say::{say, say_memory, say_of};
+use pgraph::Graph;
+use pns_io::{Shelf, Sink};
+use pns_problem::Problem;
+use std::alloc::{AllocError, Global};
+use tree_rules::Why;
+
+/// The word by which a cause is told.
+fn why_word(why: Why) -> &'static str
+    ensures { result.now ≡ why_word why }
+{
+    match why {
+        Why::Unknown => "unknown",
+        Why::Axiom => "axiom",
+        Why::Exclusion => "exclusion",
+        Why::Flows => "flows",
+        Why::Cost => "cost",
+        Why::Step => "step",
+        Why::Options => "options",
+        Why::Open => "open",
+        Why::Dead => "dead",
+        Why::Clash => "clash",
+        Why::Refuted => "refuted",
+        Why::Bound => "bound",
+        Why::Sum => "sum",
+    }
+}
+
+fn node_line(alloc: Global, node: u32, why: Why) -> Result<String, AllocError>
+    ensures { IfOk result (λ text. string_bytes text ≡ line (node_line node why)) }
+{
+    let mut text = String::from_str(alloc, "refused node ")?;
+    write!(text, "{node}")?;
+    text.push(' ')?;
+    text.push_str(why_word(why))?;
+    text.push('\n')?;
+    Ok(text)
+}
+
+fn say_node<K: Sink>(alloc: Global, out: &mut K, node: u32, why: Why) -> Status
+    ensures { Ends (OrMemory (Only Refused (line (node_line node why)))) (HasRisen (K.faults out.old) (K.faults out.new)) (K.written out.old) (K.written out.new) result }
+{
+    match node_line(alloc, node, why) {
+        Ok(text) => say(out, text.as_bytes(), Status::Refused),
+        Err(_) => say_memory(out),
+    }
+}
+
+/// Says whether the tree proves the claim, or else the first line of the claim or the first node that fails.
+fn say_checked<K: Sink>(
+    alloc: Global,
+    out: &mut K,
+    problem: &Problem,
+    claim: &Claim,
+    tree: &Tree,
+) -> Status
+    requires few { length tree.now < 2 ^ 32 }
+    ensures { Ends (Tells (CheckWork problem.now (claim_of claim.now) tree.now)) (HasRisen (K.faults out.old) (K.faults out.new)) (K.written out.old) (K.written out.new) result }
+{
+    let Ok(graph) = Graph::of(alloc, problem) else {
+        return say_memory(out);
+    };
+    match check_tree(alloc, problem, &graph, claim, tree) {
+        Ok(()) => say(out, b"accepted\n", Status::Done),
+        Err(Refusal::Claim(why)) => {
+            say_of(alloc, out, "refused claim ", why_word(why), Status::Refused)
+        }
+        Err(Refusal::Node { node, why }) => say_node(alloc, out, node, why),
+        Err(Refusal::Memory) => say_memory(out),
+    }
+}
+
+fn say_tree<F: Shelf, K: Sink>(
+    alloc: Global,
+    problem: &Problem,
+    name: &str,
+    shelf: &mut F,
+    out: &mut K,
+) -> Status
+    ensures { Ends (Says (OnTree CheckWork (F.held shelf.old) name.now problem.now) (λ other. other ≡ name.now) (record { held = F.held shelf.old; before = F.faults shelf.old; after = F.faults shelf.new }))
+        (HasRisen (K.faults out.old) (K.faults out.new)) (K.written out.old) (K.written out.new) result }
+{
+    match tree_of(alloc, shelf, out, name, problem) {
+        Ok((claim, tree)) => say_checked(alloc, out, problem, &claim, &tree),
+        Err(status) => status,
+    }
+}
+
+/// Says whether the tree of the one file proves its claim on the problem of the other.
+pub fn check<F: Shelf, K: Sink>(
+    alloc: Global,
+    file: &str,
+    tree: &str,
+    shelf: &mut F,
+    out: &mut K,
+) -> Status
+    ensures { Ends (Says (OnFile (OnTree CheckWork (F.held shelf.old) tree.now) (F.held shelf.old) file.now) (λ other. (other ≡ file.now) ⊎ (other ≡ tree.now)) (record { held = F.held shelf.old; before = F.faults shelf.old; after = F.faults shelf.new }))
+        (HasRisen (K.faults out.old) (K.faults out.new)) (K.written out.old) (K.written out.new) result }
+{
+    match problem_of(alloc, shelf, out, file) {
+        Ok(problem) => say_tree(alloc, &problem, tree, shelf, out),
+        Err(status) => status,
+    }
+}

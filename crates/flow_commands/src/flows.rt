@@ -1,0 +1,157 @@
+//! The command `flows`.
+ghost use Rattle.std.specs.Prelude.{◌≡◌, ◌≤◌, ◌<◌, ◌++◌, ◌∷◌, [], None, true};
+ghost use Rattle.number_sets.specs.Sets.{has};
+ghost use Rattle.pns_io.specs.Outside.{HasRisen};
+ghost use Rattle.pns_rules.specs.Shape.{shape_of};
+ghost use Rattle.pns_rules.specs.Structure.{IsStructure};
+ghost use Rattle.pgraph.specs.Tables.{shape};
+ghost use Rattle.branch_tree.specs.Known.{AreUnits, KnowsEnd};
+ghost use Rattle.branch_tree.specs.View.{end_of};
+ghost use Rattle.tree_rules.specs.Claim as claims;
+ghost use Rattle.tree_text_rules.specs.Spelling.{network_lines, claim_lines, end_line};
+ghost use Rattle.tree_text.specs.Prints.{Prints};
+ghost use Rattle.structure_flows.specs.Answers.{AnswersFor};
+ghost use Rattle.command_files.specs.Reading.{OnFile};
+ghost use Rattle.flow_commands.specs.Flows.{FlowsWork, FlowNamesSay, FlowsSay};
+ghost use Rattle.endings.specs.Ending.{Ends, Says, Tells};
+
+use branch_tree::{End, Network};
+use command_files::problem_of;
+use endings::Status;
+use endings::say::{say_memory, say_printed};
+use pgraph::{Axiom, Graph, Verdict};
+use pns_io::{Shelf, Sink};
+use pns_problem::Problem;
+use std::alloc::Global;
+use structure_commands::axioms::{first_stranger, say_breaks, say_verdict, units_named};
+use structure_flows::{StructureFlows, flows_of};
+use studio_words::UnitNames;
+use tree_text::{PrintFault, print_end, print_network, print_place};
+use unit_sets::UnitSet;
+
+// The lines of a network, and the line of its bound.
+fn print_least<K: Sink>(
+    alloc: Global,
+    problem: &Problem,
+    network: &Network,
+    bound: &End,
+    out: &mut K,
+) -> Result<(), PrintFault>
+    requires units { AreUnits problem.now network.now.units }
+    requires bound { KnowsEnd problem.now (end_of bound.now) }
+    ensures prints { Prints (network_lines problem.now network.now ++ end_line problem.now (end_of bound.now) ∷ []) (K.written out.old) (K.written out.new) (K.faults out.old) (K.faults out.new) result }
+    ensures later { K.faults out.old ≤ K.faults out.new }
+{
+    match print_network(alloc, problem, network, out) {
+        Ok(()) => print_end(alloc, problem, bound, out),
+        Err(fault) => Err(fault),
+    }
+}
+
+// The line `infeasible`, and that of the refutation.
+fn print_none<K: Sink>(
+    alloc: Global,
+    problem: &Problem,
+    refuted: &End,
+    out: &mut K,
+) -> Result<(), PrintFault>
+    requires { KnowsEnd problem.now (end_of refuted.now) }
+    ensures prints { Prints (claim_lines problem.now claims.infeasible ++ end_line problem.now (end_of refuted.now) ∷ []) (K.written out.old) (K.written out.new) (K.faults out.old) (K.faults out.new) result }
+    ensures later { K.faults out.old ≤ K.faults out.new }
+{
+    match out.put(b"infeasible\n") {
+        Ok(()) => print_end(alloc, problem, refuted, out),
+        Err(_) => Err(PrintFault::WriteFault),
+    }
+}
+
+fn say_answer<K: Sink>(
+    alloc: Global,
+    out: &mut K,
+    problem: &Problem,
+    set: UnitSet,
+    answer: StructureFlows,
+) -> Status
+    requires known { AreUnits problem.now set }
+    requires answer { AnswersFor problem.now set answer }
+    ensures { Ends (Tells (FlowsSay problem.now set)) (HasRisen (K.faults out.old) (K.faults out.new)) (K.written out.old) (K.written out.new) result }
+{
+    match answer {
+        StructureFlows::Least { network, bound } => {
+            bound.are_in_range();
+            let bound = End::Bound(bound);
+            let printed = print_least(alloc, problem, &network, &bound, out);
+            say_printed(out, printed, Status::Done)
+        }
+        StructureFlows::Refuted { ys } => {
+            let refuted = End::Refuted(ys);
+            let printed = print_none(alloc, problem, &refuted, out);
+            say_printed(out, printed, Status::Done)
+        }
+        StructureFlows::Past { nonbasic, place } => {
+            let printed = print_place(alloc, problem, nonbasic.columns(), &place, out);
+            say_printed(out, printed, Status::Past)
+        }
+    }
+}
+
+fn say_structure<K: Sink>(
+    alloc: Global,
+    out: &mut K,
+    problem: &Problem,
+    graph: &Graph,
+    set: UnitSet,
+) -> Status
+    requires graph { shape graph.now ≡ shape_of problem.now }
+    requires known { AreUnits problem.now set }
+    requires structure { IsStructure (shape_of problem.now) (has set) }
+    ensures { Ends (Tells (FlowsSay problem.now set)) (HasRisen (K.faults out.old) (K.faults out.new)) (K.written out.old) (K.written out.new) result }
+{
+    match flows_of(alloc, problem, graph, set) {
+        Ok(answer) => say_answer(alloc, out, problem, set, answer),
+        Err(_) => say_memory(out),
+    }
+}
+
+// The flows of the units of names that are all known.
+fn say_known<K: Sink>(alloc: Global, out: &mut K, problem: &Problem, units: &UnitNames) -> Status
+    ensures { Ends (Tells (FlowNamesSay units.now problem.now None)) (HasRisen (K.faults out.old) (K.faults out.new)) (K.written out.old) (K.written out.new) result }
+{
+    let Ok(graph) = Graph::of(alloc, problem) else {
+        return say_memory(out);
+    };
+    graph.is_proper();
+    let set = units_named(problem, units);
+    set.rises();
+    match graph.judge(set) {
+        Verdict::Meets => say_structure(alloc, out, problem, &graph, set),
+        verdict => say_verdict(alloc, out, problem, verdict),
+    }
+}
+
+fn say_flows<K: Sink>(alloc: Global, out: &mut K, problem: &Problem, units: &UnitNames) -> Status
+    ensures { Ends (Tells (FlowsWork units.now problem.now)) (HasRisen (K.faults out.old) (K.faults out.new)) (K.written out.old) (K.written out.new) result }
+{
+    match first_stranger(problem, units) {
+        Some(name) => say_breaks(alloc, out, Axiom::S3, name),
+        None => say_known(alloc, out, problem, units),
+    }
+}
+
+/// Says the least flows of the named units of the file's problem with multipliers that prove them, or that they have none, where
+/// they are a solution structure; or else the first axiom that they break.
+pub fn flows<F: Shelf, K: Sink>(
+    alloc: Global,
+    file: &str,
+    units: &UnitNames,
+    shelf: &mut F,
+    out: &mut K,
+) -> Status
+    ensures { Ends (Says (OnFile (FlowsWork units.now) (F.held shelf.old) file.now) (λ other. other ≡ file.now) (record { held = F.held shelf.old; before = F.faults shelf.old; after = F.faults shelf.new }))
+        (HasRisen (K.faults out.old) (K.faults out.new)) (K.written out.old) (K.written out.new) result }
+{
+    match problem_of(alloc, shelf, out, file) {
+        Ok(problem) => say_flows(alloc, out, &problem, units),
+        Err(status) => status,
+    }
+}

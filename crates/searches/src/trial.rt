@@ -1,0 +1,26 @@
+//! The command `trial`.
+ghost use Rattle.std.specs.Prelude.{◌≤◌};
+ghost use Rattle.pns_io.specs.Outside.{HasRisen};
+ghost use Rattle.searches.specs.Trial.{TrialWork};
+ghost use Rattle.endings.specs.Ending.{Ends, Tells};
+
+use crate::summary::say_summed;
+use endings::Status;
+use endings::say::say_memory;
+use generator::generate;
+use pns_io::Sink;
+use std::alloc::Global;
+
+/// Says what the search of the problem of this number with so many operating units, 1 to 128, comes to.
+pub fn trial<K: Sink>(alloc: Global, number: u64, units: u64, budget: u64, out: &mut K) -> Status
+    requires some { 1 ≤ units }
+    requires few { units ≤ 128 }
+    requires some_nodes { 1 ≤ budget }
+    requires few_nodes { budget ≤ 1000000 }
+    ensures { Ends (Tells (TrialWork number units budget)) (HasRisen (K.faults out.old) (K.faults out.new)) (K.written out.old) (K.written out.new) result }
+{
+    match generate(alloc, number, units as u32) {
+        Ok(problem) => say_summed(alloc, out, &problem, budget),
+        Err(_) => say_memory(out),
+    }
+}

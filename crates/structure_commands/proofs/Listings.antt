@@ -1,0 +1,158 @@
+-- The text of a listing that is given one structure after another.
+use Rattle.std.proofs.Common.{◌≡◌, ◌++◌, ◌+◌, ◌-◌, ◌<◌, ◌≤◌, ◌↔◌, ℕ, suc, List, [], ◌∷◌, Option, codes, length, map, take, refl, sym, ap, subst, ◌∙◌, arith, inr, append_assoc, append-nil, cond}
+use Rattle.std.specs.Io.KnownBytes.{Appends}
+use Rattle.std.proofs.KnownBytes.{Appends-nil, Appends-trans}
+use Rattle.std.proofs.lemmas.List.{map-append, length-append, take_all}
+use Rattle.std.proofs.lemmas.Bool.{le-ltb, lt-ltb}
+use Rattle.std.proofs.lemmas.Grind.{flat_map-append}
+use Rattle.std.proofs.Math.Seq.{take-append-add}
+use Rattle.pns_io.specs.Outside.{AppendsFront}
+use Rattle.problem_rules.specs.Problem.{Problem}
+use Rattle.structure_list.specs.Rest.{Rest, IsToCome}
+use Rattle.endings.specs.Lines.{line, text_of}
+use Rattle.structure_commands.specs.Listing.{structure_line, more_line, last_of, last_line, listing_lines, RestSays}
+use Rattle.endings.specs.Ending.{Ends, Tells, Only, OrMemory}
+use Rattle.endings.specs.declared.status.Status.{Status}
+use Rattle.endings.specs.declared.status.Status.TheVariants.{Done, WriteFault, Memory}
+use Rattle.endings.proofs.Ending.{Ends-after, only_in, only_or_memory_in}
+
+pub last_of-push : (ss : List (List ℕ)) (s : List ℕ) → last_of (ss ++ s ∷ []) ≡ s
+last_of-push [] s = refl
+last_of-push (t ∷ []) s = refl
+last_of-push (t ∷ r ∷ ss) s = last_of-push (r ∷ ss) s
+
+text_of-push : (ls : List (List ℕ)) (l : List ℕ) → text_of (ls ++ l ∷ []) ≡ text_of ls ++ line l
+text_of-push ls l = flat_map-append line ls (l ∷ []) ∙ ap (λ t. text_of ls ++ t) (append-nil (line l))
+
+-- the structures that were given are the first of the listing, and their lines are out
+pub record IsGiven (p : Problem) (start now : Rest) (many : ℕ) (old new : Option (List ℕ)) (last : List ℕ) : Type 0 where
+  pub given : List (List ℕ)
+  pub many_is : length given ≡ many
+  pub rest : (xs : List (List ℕ)) → IsToCome now xs ↔ IsToCome start (given ++ xs)
+  pub last_is : last ≡ last_of given
+  pub out : Appends old new (text_of (map (structure_line p) given))
+
+pub none_given : (p : Problem) (start : Rest) (old : Option (List ℕ)) (last : List ℕ) → last ≡ [] → IsGiven p start start 0 old old last
+none_given p start old last e = record {
+  given = [];
+  many_is = refl;
+  rest = λ xs. (λ h. h, λ h. h);
+  last_is = e;
+  out = Appends-nil old;
+}
+
+module _ (p : Problem) where
+  -- the lines of the structures given stand first, those of n more behind them
+  pub lines_cut : (given xs : List (List ℕ)) (count n : ℕ) → count ≡ length given + n → listing_lines p count (given ++ xs) ≡ map (structure_line p) given ++ (map (structure_line p) (take n xs) ++ last_line count (given ++ xs) ∷ [])
+  lines_cut given xs count n e =
+      let last : List (List ℕ) = last_line count (given ++ xs) ∷ [] in
+      let cut : take count (given ++ xs) ≡ given ++ take n xs = ap (λ k. take k (given ++ xs)) e ∙ take-append-add given xs n in
+      ap (λ ss. map (structure_line p) ss ++ last) cut
+      ∙ (ap (λ ls. ls ++ last) (map-append (structure_line p) given (take n xs))
+      ∙ append_assoc (map (structure_line p) given) (map (structure_line p) (take n xs)) last)
+
+  pub lines_end : (given : List (List ℕ)) (count : ℕ) → length given ≤ count → listing_lines p count (given ++ []) ≡ map (structure_line p) given ++ codes "end" ∷ []
+  lines_end given count le =
+      let all : given ++ [] ≡ given = append-nil given in
+      let last : last_line count (given ++ []) ≡ codes "end" =
+      ap (last_line count) all ∙ ap (λ b. cond b (more_line (last_of (take count given))) (codes "end")) (le-ltb count (length given) le) in
+      let none : take (count - length given) [] ≡ [] = take_all {A = List ℕ} (count - length given) [] (let short : 0 ≤ count - length given = omega arith in short) in
+      lines_cut given [] count (count - length given) (omega (arith, le))
+      ∙ ap (λ ss. map (structure_line p) given ++ (map (structure_line p) ss ++ last_line count (given ++ []) ∷ [])) none
+      ∙ ap (λ l. map (structure_line p) given ++ l ∷ []) last
+
+  pub lines_more : (given : List (List ℕ)) (r : List ℕ) (xs : List (List ℕ)) (count : ℕ) → length given ≡ count → listing_lines p count (given ++ r ∷ xs) ≡ map (structure_line p) given ++ more_line (last_of given) ∷ []
+  lines_more given r xs count e =
+      let long = length-append given (r ∷ xs) in
+      let cut : take count (given ++ r ∷ xs) ≡ given = ap (λ k. take k (given ++ r ∷ xs)) (let q : count ≡ length given + 0 = omega (arith, e) in q) ∙ (take-append-add given (r ∷ xs) 0 ∙ append-nil given) in
+      let last : last_line count (given ++ r ∷ xs) ≡ more_line (last_of given) =
+      ap (λ b. cond b (more_line (last_of (take count (given ++ r ∷ xs)))) (codes "end")) (lt-ltb count (length (given ++ r ∷ xs)) (omega (arith, e, long)))
+      ∙ ap (λ ss. more_line (last_of ss)) cut in
+      lines_cut given (r ∷ xs) count 0 (omega (arith, e)) ∙ ap (λ l. map (structure_line p) given ++ l ∷ []) last
+
+  module _ (count : ℕ) (start : Rest) where
+    -- want of memory behind the lines of structures that begin a listing
+    pub memory_behind : (given xs : List (List ℕ)) → length given ≤ count → IsToCome start (given ++ xs) → Tells (RestSays p count start) Memory (text_of (map (structure_line p) given) ++ line (codes "memory"))
+    memory_behind given xs le is = (
+      map (structure_line p) given,
+      inr (
+        Done,
+        listing_lines p count (given ++ xs),
+        map (structure_line p) (take (count - length given) xs) ++ last_line count (given ++ xs) ∷ [],
+        (refl, (given ++ xs, is, refl)),
+        lines_cut given xs count (count - length given) (omega (arith, le)),
+      ),
+      refl,
+    )
+
+    -- the last line behind the lines of the structures given
+    pub whole_behind : (given all : List (List ℕ)) (last : List ℕ) → IsToCome start all → listing_lines p count all ≡ map (structure_line p) given ++ last ∷ [] → Tells (RestSays p count start) Done (text_of (map (structure_line p) given) ++ line last)
+    whole_behind given all last is e =
+        (map (structure_line p) given ++ last ∷ [], (refl, (all, is, sym e)), sym (text_of-push (map (structure_line p) given) last))
+
+    module _ (now : Rest) (many : ℕ) (old mid : Option (List ℕ)) (last : List ℕ) (g : IsGiven p start now many old mid last) (le : many ≤ count) where
+      le_given : length g.given ≤ count
+      le_given = let e = g.many_is in omega (arith, e, le)
+
+      module _ (risen' risen : Type 0) (later : risen' → risen) (new : Option (List ℕ)) (status : Status) where
+        -- no structure is to come, and `end` is said
+        pub ended : IsToCome now [] → Ends (Only Done (line (codes "end"))) risen' mid new status → Ends (Tells (RestSays p count start)) risen old new status
+        ended none =
+            Ends-after (Only Done (line (codes "end"))) (Tells (RestSays p count start)) risen' risen old mid new status (text_of (map (structure_line p) g.given)) g.out
+            (only_in (λ s t. Tells (RestSays p count start) s (text_of (map (structure_line p) g.given) ++ t)) Done (line (codes "end"))
+            (whole_behind g.given (g.given ++ []) (codes "end") ((g.rest []).0 none) (lines_end g.given count le_given))) later
+
+        -- there is no memory for the next line
+        pub starved : (xs : List (List ℕ)) → IsToCome now xs → Ends (Only Memory (line (codes "memory"))) risen' mid new status → Ends (Tells (RestSays p count start)) risen old new status
+        starved xs is =
+            Ends-after (Only Memory (line (codes "memory"))) (Tells (RestSays p count start)) risen' risen old mid new status (text_of (map (structure_line p) g.given)) g.out
+            (only_in (λ s t. Tells (RestSays p count start) s (text_of (map (structure_line p) g.given) ++ t)) Memory (line (codes "memory"))
+            (memory_behind g.given xs le_given ((g.rest xs).0 is))) later
+
+        -- all that are wanted are given, and another is to come
+        pub continued : many ≡ count → (r : List ℕ) (xs : List (List ℕ)) → IsToCome now (r ∷ xs) → Ends (OrMemory (Only Done (line (more_line last)))) risen' mid new status → Ends (Tells (RestSays p count start)) risen old new status
+        continued all r xs is =
+            Ends-after (OrMemory (Only Done (line (more_line last)))) (Tells (RestSays p count start)) risen' risen old mid new status (text_of (map (structure_line p) g.given)) g.out
+            (only_or_memory_in (λ s t. Tells (RestSays p count start) s (text_of (map (structure_line p) g.given) ++ t)) Done (line (more_line last))
+            (subst (λ l. Tells (RestSays p count start) Done (text_of (map (structure_line p) g.given) ++ line (more_line l))) (sym g.last_is)
+            (whole_behind g.given (g.given ++ r ∷ xs) (more_line (last_of g.given)) ((g.rest (r ∷ xs)).0 is) (lines_more g.given r xs count (g.many_is ∙ all))))
+            (memory_behind g.given (r ∷ xs) le_given ((g.rest (r ∷ xs)).0 is))) later
+
+      -- the line of the next structure is cut off
+      pub stopped : (risen : Type 0) (new : Option (List ℕ)) (r : List ℕ) (xs : List (List ℕ)) (piece : List ℕ) → many < count → risen → IsToCome now (r ∷ xs) → piece ≡ line (structure_line p r) → AppendsFront mid new piece → Ends (Tells (RestSays p count start)) risen old new WriteFault
+      stopped risen new r xs piece less rose is piece_is front =
+          let f : List ℕ → List ℕ = structure_line p in
+          let all : List (List ℕ) = g.given ++ r ∷ xs in
+          let n : ℕ = count - suc many in
+          let behind : List (List ℕ) = map f (take n xs) ++ last_line count all ∷ [] in
+          let cut : listing_lines p count all ≡ map f g.given ++ (f r ∷ behind) =
+          lines_cut g.given (r ∷ xs) count (suc n) (let e = g.many_is in omega (arith, e, less)) in
+          let text : text_of (listing_lines p count all) ≡ (text_of (map f g.given) ++ front.0) ++ (front.1 ++ text_of behind) =
+          ap text_of cut
+          ∙ (flat_map-append line (map f g.given) (f r ∷ behind)
+          ∙ (ap (λ t. text_of (map f g.given) ++ (t ++ text_of behind)) (sym piece_is ∙ front.2)
+          ∙ (ap (λ t. text_of (map f g.given) ++ t) (append_assoc front.0 front.1 (text_of behind))
+          ∙ sym (append_assoc (text_of (map f g.given)) front.0 (front.1 ++ text_of behind))))) in (
+            rose,
+            Done,
+            text_of (listing_lines p count all),
+            (listing_lines p count all, (refl, (all, (g.rest (r ∷ xs)).0 is, refl)), refl),
+            (text_of (map f g.given) ++ front.0, front.1 ++ text_of behind, text, Appends-trans old mid new (text_of (map f g.given)) front.0 g.out front.3),
+          )
+
+      -- one more is given
+      pub one_more : (after : Rest) (new : Option (List ℕ)) (r : List ℕ) (piece : List ℕ) → ((xs : List (List ℕ)) → IsToCome after xs ↔ IsToCome now (r ∷ xs)) → piece ≡ line (structure_line p r) → Appends mid new piece → IsGiven p start after (many + 1) old new r
+      one_more after new r piece head piece_is put = record {
+        given = g.given ++ r ∷ [];
+        many_is = let long = length-append g.given (r ∷ []) in let e = g.many_is in omega (arith, long, e);
+        rest = λ xs. (
+          λ h. subst (IsToCome start) (sym (append_assoc g.given (r ∷ []) xs)) ((g.rest (r ∷ xs)).0 ((head xs).0 h)),
+          λ h. (head xs).1 ((g.rest (r ∷ xs)).1 (subst (IsToCome start) (append_assoc g.given (r ∷ []) xs) h)),
+        );
+        last_is = sym (last_of-push g.given r);
+        out =
+            let f : List ℕ → List ℕ = structure_line p in
+            subst (λ t. Appends old new t)
+            (ap (λ t. text_of (map f g.given) ++ t) piece_is ∙ (sym (text_of-push (map f g.given) (f r)) ∙ ap text_of (sym (map-append f g.given (r ∷ [])))))
+            (Appends-trans old mid new (text_of (map f g.given)) piece g.out put);
+      }

@@ -1,0 +1,30 @@
+use Rattle.std.proofs.Common.{◌∷◌, [], refl, subst, inl, ℕ, List, Option}
+use Rattle.pgraph.specs.declared.verdict.Axiom.TheVariants.{S3}
+use Rattle.endings.specs.Lines.{line}
+use Rattle.structure_commands.specs.Axioms.{AxiomsWork, NamesSay, breaks_line}
+use Rattle.endings.specs.Ending.{Tells}
+use Rattle.endings.specs.declared.status.Status.{Status}
+use Rattle.endings.specs.declared.status.Status.TheVariants.{Refused}
+use Rattle.endings.proofs.Ending.{Ends-map, only_or_memory_in, one_line, Tells-map}
+use Rattle.structure_commands.proofs.axioms.say_judged.Goals as goal
+
+pub returns-in-Some : goal.returns-in-Some
+returns-in-Some g c =
+    let p = c.args.problem.now in
+    let names = c.args.units.now in
+    let Q : Status → List ℕ → Type 0 = Tells (AxiomsWork names p) in
+    let told : List ℕ = breaks_line S3 c.in-Some.name.now in
+    Ends-map _ Q _ _ _ _ _
+    (only_or_memory_in Q Refused (line told)
+    (told ∷ [], subst (λ (o : Option (List ℕ)). NamesSay names p o Refused (told ∷ [])) c.in-Some.ensures (refl, refl), one_line told)
+    ([], inl refl, refl))
+    (λ r. r) c.say_breaks.ensures
+
+pub returns-in-None : goal.returns-in-None
+returns-in-None g c =
+    let p = c.args.problem.now in
+    let names = c.args.units.now in
+    let Q : Status → List ℕ → Type 0 = Tells (AxiomsWork names p) in
+    Ends-map _ Q _ _ _ _ _
+    (Tells-map _ (AxiomsWork names p) (λ s lines h. subst (λ (o : Option (List ℕ)). NamesSay names p o s lines) c.in-None.ensures h))
+    (λ r. r) c.say_known.ensures

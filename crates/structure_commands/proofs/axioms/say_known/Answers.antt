@@ -1,0 +1,20 @@
+use Rattle.std.proofs.Common.{None, subst, ℕ, List, Bool}
+use Rattle.number_sets.specs.Sets.{has}
+use Rattle.pns_rules.specs.Shape.{Shape, shape_of}
+use Rattle.pgraph.specs.Verdict.{Judges}
+use Rattle.structure_commands.specs.Axioms.{NamesSay, VerdictSays, units_named}
+use Rattle.endings.specs.Ending.{Tells}
+use Rattle.endings.specs.declared.status.Status.{Status}
+use Rattle.endings.proofs.Ending.{Ends-map, Tells-map}
+use Rattle.structure_commands.proofs.axioms.say_known.Goals as goal
+
+pub returns : goal.returns
+returns g c =
+    let p = c.args.problem.now in
+    let names = c.args.units.now in
+    let v = c.judge-verdict.result in
+    let judged : Judges (shape_of p) (units_named p names) v =
+    subst (λ (s : ℕ → Bool). Judges (shape_of p) s v) c.units_named.ensures.named
+    (subst (λ (h : Shape). Judges h (has c.units_named.result) v) c.in-Ok.ensures c.judge-verdict.ensures.judges) in
+    let Q : Status → List ℕ → Type 0 = Tells (NamesSay names p None) in
+    Ends-map (Tells (VerdictSays p v)) Q _ _ _ _ _ (Tells-map (VerdictSays p v) (NamesSay names p None) (λ s lines h. (v, judged, h))) (λ r. r) c.say_verdict.ensures

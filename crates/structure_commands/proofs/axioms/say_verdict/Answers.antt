@@ -1,0 +1,31 @@
+use Rattle.std.proofs.Common.{◌∷◌, ◌∙◌, [], refl, sym, ap, subst, inl, ℕ, List, codes}
+use Rattle.pgraph.specs.declared.verdict.Verdict.{Verdict}
+use Rattle.endings.specs.Lines.{line}
+use Rattle.structure_commands.specs.Axioms.{VerdictSays, breaks_line, place_name}
+use Rattle.endings.specs.Ending.{Tells}
+use Rattle.endings.specs.declared.status.Status.{Status}
+use Rattle.endings.specs.declared.status.Status.TheVariants.{Done, Refused}
+use Rattle.endings.proofs.Ending.{Ends-map, only_in, only_or_memory_in, one_line}
+use Rattle.structure_commands.proofs.axioms.say_verdict.Goals as goal
+
+pub returns-in-Meets : goal.returns-in-Meets
+returns-in-Meets g c =
+    let p = c.args.problem.now in
+    let Q : Status → List ℕ → Type 0 = Tells (VerdictSays p c.args.verdict) in
+    Ends-map _ Q _ _ _ _ _
+    (only_in Q Done (line (codes "meets")) (codes "meets" ∷ [], subst (λ (v : Verdict). VerdictSays p v Done (codes "meets" ∷ [])) (sym c.in-Meets.is) (refl, refl), refl))
+    (λ r. r) c.say.ensures
+
+pub returns-in-Breaks : goal.returns-in-Breaks
+returns-in-Breaks g c =
+    let p = c.args.problem.now in
+    let Q : Status → List ℕ → Type 0 = Tells (VerdictSays p c.args.verdict) in
+    let told : List ℕ = breaks_line c.in-Breaks.axiom (place_name p c.in-Breaks.axiom c.in-Breaks.at) in
+    Ends-map _ Q _ _ _ _ _
+    (only_or_memory_in Q Refused (line (breaks_line c.in-Breaks.axiom c.place_name.result.now)) (
+      told ∷ [],
+      subst (λ (v : Verdict). VerdictSays p v Refused (told ∷ [])) (sym c.in-Breaks.is) (refl, refl),
+      ap (λ (name : List ℕ). line (breaks_line c.in-Breaks.axiom name)) c.place_name.ensures ∙ one_line told,
+    )
+    ([], inl refl, refl))
+    (λ r. r) c.say_breaks.ensures

@@ -1,0 +1,11 @@
+use Rattle.std.proofs.Common.{◌≡◌, ◌||◌, ◌<◌, ℕ, drop, length, true}
+use Rattle.number_sets.specs.Sets.{has}
+use Rattle.structure_commands.specs.Axioms.{units_named}
+use Rattle.structure_commands.proofs.axioms.units_named.Given as goal
+
+-- the names to come finish the set
+abbrev pub invariant-finding : goal.invariant-finding
+invariant-finding l = record {
+  named : (u : ℕ) → (has l.set u || units_named l.problem (drop l.k l.units) u) ≡ units_named l.problem l.units u;
+  known : (u : ℕ) → has l.set u ≡ true → u < length l.problem.units;
+}

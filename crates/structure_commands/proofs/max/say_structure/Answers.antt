@@ -1,0 +1,29 @@
+use Rattle.std.proofs.Common.{◌≡◌, ◌++◌, ◌∙◌, ap, inl, inr, ℕ, List, Bool}
+use Rattle.number_sets.specs.Sets.{has}
+use Rattle.pns_rules.specs.Shape.{Shape, shape_of}
+use Rattle.pns_rules.specs.Structure.{mats}
+use Rattle.endings.specs.Lines.{line}
+use Rattle.structure_commands.specs.Max.{units_line, materials_line}
+use Rattle.endings.specs.Ending.{Only, OrMemory}
+use Rattle.endings.specs.declared.status.Status.{Status}
+use Rattle.endings.specs.declared.status.Status.TheVariants.{Done}
+use Rattle.endings.proofs.Ending.{Ends-map}
+use Rattle.structure_commands.proofs.max.say_structure.Goals as goal
+
+pub returns-in_default-materials_line : goal.returns-in_default-materials_line
+returns-in_default-materials_line g c =
+    let p = c.args.problem.now in
+    let text : List ℕ = line (units_line p (has c.args.set)) ++ line (materials_line p (mats (shape_of p) (has c.args.set))) in
+    let Q : Status → List ℕ → Type 0 = OrMemory (Only Done text) in
+    Ends-map _ Q _ _ _ _ _ (λ s t q. inr q) (λ r. r) c.say_memory-in_default-materials_line.ensures
+
+pub returns : goal.returns
+returns g c =
+    let p = c.args.problem.now in
+    let text : List ℕ = line (units_line p (has c.args.set)) ++ line (materials_line p (mats (shape_of p) (has c.args.set))) in
+    let Q : Status → List ℕ → Type 0 = OrMemory (Only Done text) in
+    let first : c.deref.result.now ≡ line (units_line p (has c.args.set)) = c.deref.ensures.value ∙ c.in-Ok.ensures in
+    let there : has c.materials.result ≡ mats (shape_of p) (has c.args.set) = c.materials.ensures ∙ ap (λ (h : Shape). mats h (has c.args.set)) c.requires.graph in
+    let second : c.deref-2.result.now ≡ line (materials_line p (mats (shape_of p) (has c.args.set))) =
+    c.deref-2.ensures.value ∙ c.in-Ok-materials_line.ensures ∙ ap (λ (m : ℕ → Bool). line (materials_line p m)) there in
+    Ends-map (Only Done (c.deref.result.now ++ c.deref-2.result.now)) Q _ _ _ _ _ (λ s t q. inl (q.0, q.1 ∙ (λ i. first i ++ second i))) (λ r. r) c.say_both.ensures

@@ -1,0 +1,4 @@
+pub mod Axioms
+pub mod Listing
+pub mod ListingLaws
+pub mod Max

@@ -1,0 +1,14 @@
+-- A law over the listing that `list` prints.
+use Rattle.std.specs.Prelude.{◌<◌, ◌+◌, ◌++◌, ℕ, List, [], ◌∷◌, codes}
+use Rattle.problem_rules.specs.Problem.{Problem}
+use Rattle.problem_rules.specs.WellFormed.{IsWellFormed}
+use Rattle.structure_commands.specs.Listing.{ListingWork}
+use Rattle.endings.specs.declared.status.Status.TheVariants.{Done}
+
+-- A listing that is taken in parts, the second behind the last token of the first, is the listing taken at once: the lines
+-- of the second part stand in the place of the line `more` of the first.
+abbrev pub PartsJoin : Type 0
+PartsJoin =
+    (p : Problem) (word token : List ℕ) (m n : ℕ) (first second : List (List ℕ)) → IsWellFormed p → 0 < m → 0 < n
+    → ListingWork word m p Done (first ++ (codes "more " ++ token) ∷ []) → ListingWork token n p Done second
+    → ListingWork word (m + n) p Done (first ++ second)

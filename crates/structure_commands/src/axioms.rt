@@ -1,0 +1,181 @@
+//! The command `axioms`.
+ghost use Rattle.std.specs.Prelude.{◌≡◌, ◌<◌, ◌≤◌, ◌||◌, ℕ, None, IfOk, length, option_map, true};
+ghost use Rattle.number_sets.specs.Sets.{has};
+ghost use Rattle.pns_io.specs.Outside.{HasRisen};
+ghost use Rattle.problem_rules.specs.Problem.{material_at, unit_at};
+ghost use Rattle.endings.specs.Lines.{line};
+ghost use Rattle.command_files.specs.Reading.{OnFile};
+ghost use Rattle.structure_commands.specs.Axioms.{AxiomsWork, NamesSay, VerdictSays, axiom_word, breaks_line, place_name, is_stranger, first_stranger, is_name_of, units_named};
+ghost use Rattle.endings.specs.Ending.{Ends, Says, Tells, Only, OrMemory};
+ghost use Rattle.endings.specs.declared.status.Status.TheVariants.{Refused};
+
+use command_files::problem_of;
+use endings::Status;
+use endings::say::{say, say_memory};
+use pgraph::{Axiom, Graph, Verdict};
+use pns_io::{Shelf, Sink};
+use pns_problem::Problem;
+use std::alloc::{AllocError, Global};
+use studio_words::UnitNames;
+use unit_sets::UnitSet;
+
+fn axiom_word(broken: Axiom) -> &'static str
+    ensures { result.now ≡ axiom_word broken }
+{
+    match broken {
+        Axiom::S1 => "S1",
+        Axiom::S2 => "S2",
+        Axiom::S3 => "S3",
+        Axiom::S4 => "S4",
+        Axiom::S5 => "S5",
+    }
+}
+
+fn breaks_line(alloc: Global, broken: Axiom, name: &str) -> Result<Vec<u8>, AllocError>
+    ensures { IfOk result (λ bytes. bytes.items ≡ line (breaks_line broken name.now)) }
+{
+    let mut bytes = b"breaks ".to_vec(alloc)?;
+    bytes.extend_from_slice(axiom_word(broken).as_bytes())?;
+    bytes.push(b' ')?;
+    bytes.extend_from_slice(name.as_bytes())?;
+    bytes.push(b'\n')?;
+    Ok(bytes)
+}
+
+/// Says the broken axiom with the name of its place.
+pub fn say_breaks<K: Sink>(alloc: Global, out: &mut K, broken: Axiom, name: &str) -> Status
+    ensures { Ends (OrMemory (Only Refused (line (breaks_line broken name.now)))) (HasRisen (K.faults out.old) (K.faults out.new)) (K.written out.old) (K.written out.new) result }
+{
+    match breaks_line(alloc, broken, name) {
+        Ok(bytes) => say(out, &bytes, Status::Refused),
+        Err(_) => say_memory(out),
+    }
+}
+
+// The name of a place: a material for S1, S2 and S5, a unit for S3 and S4.
+fn place_name<'a>(problem: &'a Problem, broken: Axiom, at: u32) -> &'a str
+    ensures { result.now ≡ place_name problem.now broken at }
+{
+    match broken {
+        Axiom::S1 | Axiom::S2 | Axiom::S5 => material_name(problem, at),
+        Axiom::S3 | Axiom::S4 => unit_name(problem, at),
+    }
+}
+
+fn material_name<'a>(problem: &'a Problem, at: u32) -> &'a str
+    ensures { result.now ≡ (material_at problem.now at).name }
+{
+    match problem.materials().get(at as usize) {
+        Some(material) => material.name.as_str(),
+        None => "",
+    }
+}
+
+fn unit_name<'a>(problem: &'a Problem, at: u32) -> &'a str
+    ensures { result.now ≡ (unit_at problem.now at).name }
+{
+    match problem.units().get(at as usize) {
+        Some(unit) => unit.name.as_str(),
+        None => "",
+    }
+}
+
+// Whether no unit has the name.
+fn is_stranger(problem: &Problem, name: &str) -> bool
+    ensures { result ≡ is_stranger problem.now name.now }
+{
+    problem.unit_named(name).is_none()
+}
+
+/// The first name that no unit has.
+pub fn first_stranger<'a>(problem: &Problem, units: &'a UnitNames) -> Option<&'a str>
+    ensures { option_map (λ name. name.now) result ≡ first_stranger problem.now units.now }
+{
+    'looking: for k in 0..units.len() {
+        let name = units.name(k);
+        if is_stranger(problem, name) {
+            return Some(name);
+        }
+    }
+    None
+}
+
+// The set with the unit of the name, if there is one.
+fn with_named(problem: &Problem, name: &str, set: UnitSet) -> UnitSet
+    requires { length problem.now.units ≤ 128 }
+    ensures named { (u : ℕ) → has result u ≡ (is_name_of problem.now u name.now || has set u) }
+    ensures known { ((u : ℕ) → has set u ≡ true → u < length problem.now.units) → (u : ℕ) → has result u ≡ true → u < length problem.now.units }
+{
+    match problem.unit_named(name) {
+        Some(unit) => set.with(unit),
+        None => set,
+    }
+}
+
+/// The units of the names.
+pub fn units_named(problem: &Problem, units: &UnitNames) -> UnitSet
+    requires { length problem.now.units ≤ 128 }
+    ensures named { has result ≡ units_named problem.now units.now }
+    ensures known { (u : ℕ) → has result u ≡ true → u < length problem.now.units }
+{
+    let mut set = UnitSet::empty();
+    'finding: for k in 0..units.len() {
+        set = with_named(problem, units.name(k), set);
+    }
+    set
+}
+
+/// Says `meets`, or the broken axiom with the name of its least place.
+pub fn say_verdict<K: Sink>(
+    alloc: Global,
+    out: &mut K,
+    problem: &Problem,
+    verdict: Verdict,
+) -> Status
+    ensures { Ends (Tells (VerdictSays problem.now verdict)) (HasRisen (K.faults out.old) (K.faults out.new)) (K.written out.old) (K.written out.new) result }
+{
+    match verdict {
+        Verdict::Meets => say(out, b"meets\n", Status::Done),
+        Verdict::Breaks { axiom, at } => {
+            say_breaks(alloc, out, axiom, place_name(problem, axiom, at))
+        }
+    }
+}
+
+// Judges the units of names that are all known.
+fn say_known<K: Sink>(alloc: Global, out: &mut K, problem: &Problem, units: &UnitNames) -> Status
+    ensures { Ends (Tells (NamesSay units.now problem.now None)) (HasRisen (K.faults out.old) (K.faults out.new)) (K.written out.old) (K.written out.new) result }
+{
+    let Ok(graph) = Graph::of(alloc, problem) else {
+        return say_memory(out);
+    };
+    graph.is_proper();
+    let verdict = graph.judge(units_named(problem, units));
+    say_verdict(alloc, out, problem, verdict)
+}
+
+fn say_judged<K: Sink>(alloc: Global, out: &mut K, problem: &Problem, units: &UnitNames) -> Status
+    ensures { Ends (Tells (AxiomsWork units.now problem.now)) (HasRisen (K.faults out.old) (K.faults out.new)) (K.written out.old) (K.written out.new) result }
+{
+    match first_stranger(problem, units) {
+        Some(name) => say_breaks(alloc, out, Axiom::S3, name),
+        None => say_known(alloc, out, problem, units),
+    }
+}
+
+/// Says whether the named units are a solution structure of the file's problem, or else the first axiom that they break.
+pub fn axioms<F: Shelf, K: Sink>(
+    alloc: Global,
+    file: &str,
+    units: &UnitNames,
+    shelf: &mut F,
+    out: &mut K,
+) -> Status
+    ensures { Ends (Says (OnFile (AxiomsWork units.now) (F.held shelf.old) file.now) (λ other. other ≡ file.now) (record { held = F.held shelf.old; before = F.faults shelf.old; after = F.faults shelf.new }))
+        (HasRisen (K.faults out.old) (K.faults out.new)) (K.written out.old) (K.written out.new) result }
+{
+    match problem_of(alloc, shelf, out, file) {
+        Ok(problem) => say_judged(alloc, out, &problem, units),
+        Err(status) => status,
+    }
+}

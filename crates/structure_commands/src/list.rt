@@ -1,0 +1,169 @@
+//! The command `list`.
+ghost use Rattle.std.specs.Prelude.{◌≡◌, ◌≤◌, ◌<◌, ◌++◌, ◌∷◌, ◌↔◌, [], ℕ, List, Some, IfOk, IfSome, IfNone, OnOk, length, codes};
+ghost use Rattle.number_sets.specs.Sets.{has, IsSet};
+ghost use Rattle.pns_io.specs.Outside.{HasRisen};
+ghost use Rattle.pns_rules.specs.Shape.{shape_of};
+ghost use Rattle.structure_list.specs.Tokens.{token_of};
+ghost use Rattle.structure_list.specs.Rest.{IsToCome};
+ghost use Rattle.endings.specs.Lines.{line};
+ghost use Rattle.command_files.specs.Reading.{OnFile};
+ghost use Rattle.structure_commands.specs.Listing.{ListingWork, RestSays, IsAfter, IsBadToken, structure_line, more_line};
+ghost use Rattle.endings.specs.Ending.{Ends, Says, Tells, Only, OrMemory};
+ghost use Rattle.endings.specs.declared.status.Status.TheVariants.{Done, BadToken};
+
+use command_files::problem_of;
+use endings::Status;
+use endings::line::push_unit_names;
+use endings::say::{say, say_memory, say_of};
+use max_structure::Steps;
+use pgraph::Graph;
+use pns_io::{Shelf, Sink};
+use pns_problem::Problem;
+use std::alloc::{AllocError, Global};
+use std::marker::Brand;
+use std::sync::ledger::{Blank, Ledger};
+use structure_list::{OpenFault, StructureList, print_token, read_token};
+use unit_sets::UnitSet;
+
+// Gives the next structure, with a count of viability tests that nobody reads.
+fn next_counted<L: Ledger>(blank: Blank, list: &mut StructureList<'_>) -> Option<UnitSet>
+    requires { (blank.name ≡ L.name) × (blank.parts ≡ L.parts) × (0 < L.parts) }
+    ensures head { IfSome result (λ r. (xs : List (List ℕ)) → IsToCome list.new xs ↔ IsToCome list.old (r ∷ xs)) }
+    ensures end { IfNone result (IsToCome list.old []) }
+{
+    let mut steps = Steps::<L>::start(blank);
+    list.next(&mut steps)
+}
+
+fn next(list: &mut StructureList<'_>) -> Option<UnitSet>
+    ensures head { IfSome result (λ r. (xs : List (List ℕ)) → IsToCome list.new xs ↔ IsToCome list.old (r ∷ xs)) }
+    ensures end { IfNone result (IsToCome list.old []) }
+{
+    next_counted::<Brand>(Blank::new(1), list)
+}
+
+// Makes the bytes the line of a structure.
+fn write_line(
+    alloc: Global,
+    bytes: &mut Vec<u8>,
+    problem: &Problem,
+    set: UnitSet,
+) -> Result<(), AllocError>
+    requires { length problem.now.units ≤ 128 }
+    ensures { OnOk result (bytes.new.items ≡ line (structure_line problem.now set)) }
+{
+    let token = print_token(alloc, set)?;
+    bytes.clear();
+    bytes.extend_from_slice(token.as_bytes())?;
+    push_unit_names(bytes, problem.units(), set)?;
+    bytes.push(b'\n')?;
+    Ok(())
+}
+
+// Says that more structures follow the last one given.
+fn say_more<K: Sink>(alloc: Global, out: &mut K, last: UnitSet) -> Status
+    ensures { Ends (OrMemory (Only Done (line (more_line last)))) (HasRisen (K.faults out.old) (K.faults out.new)) (K.written out.old) (K.written out.new) result }
+{
+    match print_token(alloc, last) {
+        Ok(token) => say_of(alloc, out, "more ", &token, Status::Done),
+        Err(_) => say_memory(out),
+    }
+}
+
+// Puts the lines of the structures that are to come, at most `count`, and the last line.
+fn say_rest<K: Sink>(
+    alloc: Global,
+    out: &mut K,
+    problem: &Problem,
+    list: &mut StructureList<'_>,
+    count: u64,
+) -> Status
+    requires { length problem.now.units ≤ 128 }
+    ensures { Ends (Tells (RestSays problem.now count list.old)) (HasRisen (K.faults out.old) (K.faults out.new)) (K.written out.old) (K.written out.new) result }
+{
+    let mut bytes = Vec::new(alloc);
+    let mut last = UnitSet::empty();
+    'giving: for given in 0..count {
+        let Some(set) = next(list) else {
+            return say(out, b"end\n", Status::Done);
+        };
+        list.is_one();
+        let Ok(()) = write_line(alloc, &mut bytes, problem, set) else {
+            return say_memory(out);
+        };
+        let Ok(()) = out.put(&bytes) else {
+            return Status::WriteFault;
+        };
+        last = set;
+    }
+    let Some(_) = next(list) else {
+        return say(out, b"end\n", Status::Done);
+    };
+    list.is_one();
+    say_more(alloc, out, last)
+}
+
+// The set of the token, none for `start`. There is no answer where the word is neither.
+fn after_of(word: &str) -> Option<Option<UnitSet>>
+    ensures start { IfSome result (λ after. IfNone after (word.now ≡ codes "start")) }
+    ensures token { IfSome result (λ after. IfSome after (λ s. IsSet 128 s × (word.now ≡ token_of s))) }
+    ensures other { IfNone result ((word.now ≡ codes "start" → ⊥) × ((s : List ℕ) → word.now ≡ token_of s → ⊥)) }
+{
+    if word == "start" {
+        return Some(None);
+    }
+    match read_token(word) {
+        Ok(set) => {
+            set.rises();
+            Some(Some(set))
+        }
+        Err(_) => None,
+    }
+}
+
+fn say_bad_token<K: Sink>(out: &mut K) -> Status
+    ensures { Ends (Only BadToken (line (codes "bad token"))) (HasRisen (K.faults out.old) (K.faults out.new)) (K.written out.old) (K.written out.new) result }
+{
+    say(out, b"bad token\n", Status::BadToken)
+}
+
+fn say_listing<K: Sink>(
+    alloc: Global,
+    out: &mut K,
+    problem: &Problem,
+    after: &str,
+    count: u64,
+) -> Status
+    ensures { Ends (Tells (ListingWork after.now count problem.now)) (HasRisen (K.faults out.old) (K.faults out.new)) (K.written out.old) (K.written out.new) result }
+{
+    let Ok(graph) = Graph::of(alloc, problem) else {
+        return say_memory(out);
+    };
+    graph.is_proper();
+    let Some(after) = after_of(after) else {
+        return say_bad_token(out);
+    };
+    match StructureList::open(alloc, &graph, after) {
+        Ok(mut list) => say_rest(alloc, out, problem, &mut list, count),
+        Err(OpenFault::NotAStructure) => say_bad_token(out),
+        Err(OpenFault::Memory) => say_memory(out),
+    }
+}
+
+/// Lists the structures of the file's problem that stand behind AFTER, at most `count` of them.
+pub fn list<F: Shelf, K: Sink>(
+    alloc: Global,
+    file: &str,
+    after: &str,
+    count: u64,
+    shelf: &mut F,
+    out: &mut K,
+) -> Status
+    ensures { Ends (Says (OnFile (ListingWork after.now count) (F.held shelf.old) file.now) (λ other. other ≡ file.now) (record { held = F.held shelf.old; before = F.faults shelf.old; after = F.faults shelf.new }))
+        (HasRisen (K.faults out.old) (K.faults out.new)) (K.written out.old) (K.written out.new) result }
+{
+    match problem_of(alloc, shelf, out, file) {
+        Ok(problem) => say_listing(alloc, out, &problem, after, count),
+        Err(status) => status,
+    }
+}

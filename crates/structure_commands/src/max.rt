@@ -1,0 +1,88 @@
+//! The command `max`.
+ghost use Rattle.std.specs.Prelude.{◌≡◌, ◌≤◌, ◌<◌, ◌++◌, ℕ, IfOk, length, true};
+ghost use Rattle.number_sets.specs.Sets.{has};
+ghost use Rattle.pns_io.specs.Outside.{HasRisen};
+ghost use Rattle.pns_rules.specs.Shape.{shape_of};
+ghost use Rattle.pns_rules.specs.Structure.{mats};
+ghost use Rattle.pgraph.specs.Tables.{shape};
+ghost use Rattle.endings.specs.Lines.{line};
+ghost use Rattle.command_files.specs.Reading.{OnFile};
+ghost use Rattle.structure_commands.specs.Max.{MaxWork, units_line, materials_line};
+ghost use Rattle.endings.specs.Ending.{Ends, Says, Tells, Only, OrMemory};
+ghost use Rattle.endings.specs.declared.status.Status.TheVariants.{Done};
+
+use command_files::problem_of;
+use endings::Status;
+use endings::line::{push_material_names, push_unit_names};
+use endings::say::{say, say_both, say_memory};
+use max_structure::maximal;
+use pgraph::Graph;
+use pns_io::{Shelf, Sink};
+use pns_problem::Problem;
+use std::alloc::{AllocError, Global};
+use unit_sets::{MatSet, UnitSet};
+
+fn units_line(alloc: Global, problem: &Problem, set: UnitSet) -> Result<Vec<u8>, AllocError>
+    requires { length problem.now.units ≤ 128 }
+    ensures { IfOk result (λ bytes. bytes.items ≡ line (units_line problem.now (has set))) }
+{
+    let mut bytes = b"units".to_vec(alloc)?;
+    push_unit_names(&mut bytes, problem.units(), set)?;
+    bytes.push(b'\n')?;
+    Ok(bytes)
+}
+
+fn materials_line(alloc: Global, problem: &Problem, set: MatSet) -> Result<Vec<u8>, AllocError>
+    requires { length problem.now.materials ≤ 256 }
+    ensures { IfOk result (λ bytes. bytes.items ≡ line (materials_line problem.now (has set))) }
+{
+    let mut bytes = b"materials".to_vec(alloc)?;
+    push_material_names(&mut bytes, problem.materials(), set)?;
+    bytes.push(b'\n')?;
+    Ok(bytes)
+}
+
+// Puts the two lines of a set of units.
+fn say_structure<K: Sink>(
+    alloc: Global,
+    out: &mut K,
+    problem: &Problem,
+    graph: &Graph,
+    set: UnitSet,
+) -> Status
+    requires graph { shape graph.now ≡ shape_of problem.now }
+    requires known { (u : ℕ) → has set u ≡ true → u < (shape graph.now).units }
+    ensures { Ends (OrMemory (Only Done (line (units_line problem.now (has set)) ++ line (materials_line problem.now (mats (shape_of problem.now) (has set)))))) (HasRisen (K.faults out.old) (K.faults out.new)) (K.written out.old) (K.written out.new) result }
+{
+    graph.is_proper();
+    let Ok(units) = units_line(alloc, problem, set) else {
+        return say_memory(out);
+    };
+    let Ok(materials) = materials_line(alloc, problem, graph.materials(set)) else {
+        return say_memory(out);
+    };
+    say_both(out, &units, &materials, Status::Done)
+}
+
+fn say_maximal<K: Sink>(alloc: Global, out: &mut K, problem: &Problem) -> Status
+    ensures { Ends (Tells (MaxWork problem.now)) (HasRisen (K.faults out.old) (K.faults out.new)) (K.written out.old) (K.written out.new) result }
+{
+    let Ok(graph) = Graph::of(alloc, problem) else {
+        return say_memory(out);
+    };
+    match maximal(&graph, UnitSet::empty()) {
+        Some(set) => say_structure(alloc, out, problem, &graph, set),
+        None => say(out, b"none\n", Status::Done),
+    }
+}
+
+/// Says the units and the materials of the maximal structure of the file's problem.
+pub fn max<F: Shelf, K: Sink>(alloc: Global, file: &str, shelf: &mut F, out: &mut K) -> Status
+    ensures { Ends (Says (OnFile MaxWork (F.held shelf.old) file.now) (λ other. other ≡ file.now) (record { held = F.held shelf.old; before = F.faults shelf.old; after = F.faults shelf.new }))
+        (HasRisen (K.faults out.old) (K.faults out.new)) (K.written out.old) (K.written out.new) result }
+{
+    match problem_of(alloc, shelf, out, file) {
+        Ok(problem) => say_maximal(alloc, out, &problem),
+        Err(status) => status,
+    }
+}

@@ -1,7 +1,0 @@
-use Rattle.std.proofs.Common.{◌≡◌, drop}
-use Rattle.studio.specs.Axioms.{first_stranger}
-use Rattle.studio.proofs.axioms.first_stranger.Given as goal
-
--- the names before k are those of units
-abbrev pub invariant-looking : goal.invariant-looking
-invariant-looking l = first_stranger l.problem (drop l.k l.units) ≡ first_stranger l.problem l.units

@@ -1,4 +1,0 @@
-use Rattle.studio.proofs.list.next.Given as goal
-
-abbrev pub ghosts-next_counted : goal.ghosts-next_counted
-ghosts-next_counted a = record { name = a.blank.name; parts = a.blank.parts }

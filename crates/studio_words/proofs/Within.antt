@@ -1,0 +1,91 @@
+-- The numbers of a command are within the ranges of their words.
+use Rattle.std.proofs.Common.{◌≡◌, ◌≤◌, ◌<◌, ◌&&◌, arith, length, ℕ, Bool, true, false, List, [], ◌∷◌, Option, Some, None, IfSome, refl, codes, map, String, Global, string_bytes, option_map}
+use Rattle.std.specs.Prelude.{nat_le, if◌then◌else◌}
+use Rattle.std.specs.Str.{bytes_eq}
+use Rattle.std.proofs.lemmas.Bool.{leb-true}
+use Rattle.text_rules.specs.Amount.{number_of}
+use Rattle.studio_words.specs.Numeral.{is_numeral, number_within}
+use Rattle.studio_words.specs.Command.{Command, Max, Axioms, Flows, Listing, Migrate, Editing, Undoing, Checking, Solving, command_of, on_file, made_by, tried_by, unit_names_of, count_of, seed_of, unit_count_of, years_of, budget_of, is_file_word, AreWithin}
+
+numeral_within : (least most : ℕ) (word : List ℕ) → IfSome (number_within least most word) (λ n. (least ≤ n) × (n ≤ most))
+numeral_within least most word = at (is_numeral word) (nat_le least (number_of word)) (nat_le (number_of word) most) refl refl
+  where
+    at : (a b c : Bool) → nat_le least (number_of word) ≡ b → nat_le (number_of word) most ≡ c → IfSome (if a && b && c then Some (number_of word) else None) (λ n. (least ≤ n) × (n ≤ most))
+    at true true true e f = (leb-true least (number_of word) e, leb-true (number_of word) most f)
+    at true true false e f = tt
+    at true false c e f = tt
+    at false b c e f = tt
+
+either_within : (b : Bool) (x y : Option Command) → IfSome x AreWithin → IfSome y AreWithin → IfSome (if b then x else y) AreWithin
+either_within true x y p q = p
+either_within false x y p q = q
+
+made_within : (number units : Option ℕ) → IfSome units (λ n. (1 ≤ n) × (n ≤ 128)) → IfSome (made_by number units) AreWithin
+made_within None units p = tt
+made_within (Some number) None p = tt
+made_within (Some number) (Some units) p = p
+
+axioms_within : (file : List ℕ) (units : Option (List (List ℕ))) → IfSome (option_map (Axioms file) units) AreWithin
+axioms_within file None = tt
+axioms_within file (Some units) = tt
+
+flows_within : (file : List ℕ) (units : Option (List (List ℕ))) → IfSome (option_map (Flows file) units) AreWithin
+flows_within file None = tt
+flows_within file (Some units) = tt
+
+migrate_within : (file : List ℕ) (years : Option ℕ) → IfSome years (λ n. (1 ≤ n) × (n ≤ 100)) → IfSome (option_map (Migrate file) years) AreWithin
+migrate_within file None p = tt
+migrate_within file (Some years) p = p
+
+solve_within : (file : List ℕ) (budget : Option ℕ) → IfSome budget (λ n. (1 ≤ n) × (n ≤ 1000000)) → IfSome (option_map (Solving file) budget) AreWithin
+solve_within file None p = tt
+solve_within file (Some budget) p = p
+
+tried_within : (number units budget : Option ℕ) → IfSome units (λ n. (1 ≤ n) × (n ≤ 128)) → IfSome budget (λ n. (1 ≤ n) × (n ≤ 1000000)) → IfSome (tried_by number units budget) AreWithin
+tried_within None units budget p q = tt
+tried_within (Some number) None budget p q = tt
+tried_within (Some number) (Some units) None p q = tt
+tried_within (Some number) (Some units) (Some budget) p q = (p, q)
+
+listing_within : (file after : List ℕ) (count : Option ℕ) → IfSome (option_map (Listing file after) count) AreWithin
+listing_within file after None = tt
+listing_within file after (Some count) = tt
+
+on_file_within : (word file second : List ℕ) → IfSome (on_file word file second) AreWithin
+on_file_within word file second =
+    either_within (bytes_eq word (codes "axioms")) (option_map (Axioms file) (unit_names_of second)) _ (axioms_within file (unit_names_of second))
+    (either_within (bytes_eq word (codes "flows")) (option_map (Flows file) (unit_names_of second)) _ (flows_within file (unit_names_of second))
+    (either_within (bytes_eq word (codes "migrate")) (option_map (Migrate file) (years_of second)) _ (migrate_within file (years_of second) (numeral_within 1 100 second))
+    (either_within (bytes_eq word (codes "solve")) (option_map (Solving file) (budget_of second)) _ (solve_within file (budget_of second) (numeral_within 1 1000000 second))
+    (either_within (bytes_eq word (codes "edit") && is_file_word second) (Some (Editing file second)) _ tt
+    (either_within (bytes_eq word (codes "undo") && is_file_word second) (Some (Undoing file second)) _ tt
+    (either_within (bytes_eq word (codes "check") && is_file_word second) (Some (Checking file second)) None tt tt))))))
+
+pub words_within : (words : List (List ℕ)) → IfSome (command_of words) AreWithin
+words_within [] = tt
+words_within (word ∷ []) = tt
+words_within (word ∷ file ∷ []) = either_within (bytes_eq word (codes "max") && is_file_word file) (Some (Max file)) None tt tt
+words_within (word ∷ first ∷ second ∷ []) =
+    either_within (bytes_eq word (codes "make")) (made_by (seed_of first) (unit_count_of second)) _
+    (made_within (seed_of first) (unit_count_of second) (numeral_within 1 128 second))
+    (either_within (is_file_word first) (on_file word first second) None (on_file_within word first second) tt)
+words_within (word ∷ first ∷ second ∷ third ∷ []) =
+    either_within (bytes_eq word (codes "trial")) (tried_by (seed_of first) (unit_count_of second) (budget_of third)) _
+    (tried_within (seed_of first) (unit_count_of second) (budget_of third) (numeral_within 1 128 second) (numeral_within 1 1000000 third))
+    (either_within (bytes_eq word (codes "list") && is_file_word first) (option_map (Listing first second) (count_of third)) None
+    (listing_within first second (count_of third)) tt)
+words_within (a ∷ b ∷ c ∷ d ∷ e ∷ words) = tt
+
+-- fewer than two words, or more than four, have no form
+pub short_form : (words : List (String Global)) → length words < 2 → None ≡ command_of (map string_bytes words)
+short_form [] few = refl
+short_form (word ∷ []) few = refl
+short_form (a ∷ b ∷ words) few = absurd (omega (arith, few))
+
+pub long_form : (words : List (String Global)) → 5 ≤ length words → None ≡ command_of (map string_bytes words)
+long_form [] many = absurd (omega (arith, many))
+long_form (a ∷ []) many = absurd (omega (arith, many))
+long_form (a ∷ b ∷ []) many = absurd (omega (arith, many))
+long_form (a ∷ b ∷ c ∷ []) many = absurd (omega (arith, many))
+long_form (a ∷ b ∷ c ∷ d ∷ []) many = absurd (omega (arith, many))
+long_form (a ∷ b ∷ c ∷ d ∷ e ∷ words) many = refl

@@ -1,0 +1,114 @@
+-- The commands, and the forms of the words that call them.
+use Rattle.std.specs.Prelude.{◌≡◌, ◌≤◌, ◌⊎◌, ◌==◌, ◌&&◌, ℕ, Bool, List, [], ◌∷◌, Option, Some, None, IsSomeAnd, length, codes, not, option_map, if◌then◌else◌}
+use Rattle.std.specs.List.{list_all, slice_split}
+use Rattle.std.specs.Str.{bytes_eq, byte}
+use Rattle.problem_rules.specs.Names.{is_name, has_double}
+use Rattle.studio_words.specs.Numeral.{number_within}
+
+-- a command with its words: FILE, the names of UNITS, AFTER and COUNT, NUMBER and the count of units, YEARS, SCRIPT, TREE, BUDGET
+pub data Command : Type 0 where
+  Max : List ℕ → Command
+  Axioms : List ℕ → List (List ℕ) → Command
+  Flows : List ℕ → List (List ℕ) → Command
+  Listing : List ℕ → List ℕ → ℕ → Command
+  Make : ℕ → ℕ → Command
+  Migrate : List ℕ → ℕ → Command
+  Editing : List ℕ → List ℕ → Command
+  Undoing : List ℕ → List ℕ → Command
+  Checking : List ℕ → List ℕ → Command
+  Solving : List ℕ → ℕ → Command
+  Trial : ℕ → ℕ → ℕ → Command
+
+-- the names of UNITS: none for `-`, else what the commas part, which are names and distinct
+abbrev pub unit_names_of : List ℕ → Option (List (List ℕ))
+unit_names_of word =
+    if bytes_eq word (codes "-") then Some []
+    else if list_all is_name (slice_split (λ c. c == byte ",") word) && not (has_double (slice_split (λ c. c == byte ",") word)) then
+    Some (slice_split (λ c. c == byte ",") word)
+    else None
+
+-- COUNT is from 1 to 1,000,000,000
+abbrev pub count_of : List ℕ → Option ℕ
+count_of = number_within 1 1000000000
+
+-- NUMBER is any number of 64 bits, the count of units from 1 to 128, YEARS from 1 to 100, BUDGET from 1 to 1,000,000
+abbrev pub seed_of : List ℕ → Option ℕ
+seed_of = number_within 0 18446744073709551615
+
+abbrev pub unit_count_of : List ℕ → Option ℕ
+unit_count_of = number_within 1 128
+
+abbrev pub years_of : List ℕ → Option ℕ
+years_of = number_within 1 100
+
+abbrev pub budget_of : List ℕ → Option ℕ
+budget_of = number_within 1 1000000
+
+-- FILE, SCRIPT and TREE are any words but the empty one
+abbrev pub is_file_word : List ℕ → Bool
+is_file_word word = not (length word == 0)
+
+-- a problem is made by two numbers
+abbrev pub made_by : Option ℕ → Option ℕ → Option Command
+made_by (Some number) (Some units) = Some (Make number units)
+made_by number units = None
+
+-- and so is the problem of a trial, with a budget
+abbrev pub tried_by : Option ℕ → Option ℕ → Option ℕ → Option Command
+tried_by (Some number) (Some units) (Some budget) = Some (Trial number units budget)
+tried_by number units budget = None
+
+-- the commands of a file and a second file
+abbrev pub with_file : List ℕ → List ℕ → List ℕ → Option Command
+with_file word file second =
+    if bytes_eq word (codes "edit") && is_file_word second then Some (Editing file second)
+    else if bytes_eq word (codes "undo") && is_file_word second then Some (Undoing file second)
+    else if bytes_eq word (codes "check") && is_file_word second then Some (Checking file second)
+    else None
+
+-- the commands of a file and one more word
+abbrev pub on_file : List ℕ → List ℕ → List ℕ → Option Command
+on_file word file second =
+    if bytes_eq word (codes "axioms") then option_map (Axioms file) (unit_names_of second)
+    else if bytes_eq word (codes "flows") then option_map (Flows file) (unit_names_of second)
+    else if bytes_eq word (codes "migrate") then option_map (Migrate file) (years_of second)
+    else if bytes_eq word (codes "solve") then option_map (Solving file) (budget_of second)
+    else with_file word file second
+
+-- the command that the words are, if they have a form
+abbrev pub command_of : List (List ℕ) → Option Command
+command_of (word ∷ file ∷ []) = if bytes_eq word (codes "max") && is_file_word file then Some (Max file) else None
+command_of (word ∷ first ∷ second ∷ []) =
+    if bytes_eq word (codes "make") then made_by (seed_of first) (unit_count_of second)
+    else if is_file_word first then on_file word first second
+    else None
+command_of (word ∷ first ∷ second ∷ third ∷ []) =
+    if bytes_eq word (codes "trial") then tried_by (seed_of first) (unit_count_of second) (budget_of third)
+    else if bytes_eq word (codes "list") && is_file_word first then option_map (Listing first second) (count_of third)
+    else None
+command_of words = None
+
+-- the words that a form gives as files
+abbrev pub IsFileOf : Command → List ℕ → Type 0
+IsFileOf (Max file) name = name ≡ file
+IsFileOf (Axioms file units) name = name ≡ file
+IsFileOf (Flows file units) name = name ≡ file
+IsFileOf (Listing file after count) name = name ≡ file
+IsFileOf (Make number units) name = ⊥
+IsFileOf (Migrate file years) name = name ≡ file
+IsFileOf (Editing file script) name = (name ≡ file) ⊎ (name ≡ script)
+IsFileOf (Undoing file script) name = (name ≡ file) ⊎ (name ≡ script)
+IsFileOf (Checking file tree) name = (name ≡ file) ⊎ (name ≡ tree)
+IsFileOf (Solving file budget) name = name ≡ file
+IsFileOf (Trial number units budget) name = ⊥
+
+-- the numbers of a command are those that its words may be
+abbrev pub AreWithin : Command → Type 0
+AreWithin (Make number units) = (1 ≤ units) × (units ≤ 128)
+AreWithin (Migrate file years) = (1 ≤ years) × (years ≤ 100)
+AreWithin (Solving file budget) = (1 ≤ budget) × (budget ≤ 1000000)
+AreWithin (Trial number units budget) = ((1 ≤ units) × (units ≤ 128)) × ((1 ≤ budget) × (budget ≤ 1000000))
+AreWithin command = Unit {0}
+
+abbrev pub IsFileWord : List (List ℕ) → List ℕ → Type 0
+IsFileWord words name = IsSomeAnd (command_of words) (λ command. IsFileOf command name)

@@ -1,0 +1,4 @@
+pub mod Command
+pub mod Gathering
+pub mod Numeral
+pub mod View

@@ -1,0 +1,17 @@
+-- A command of the code as the definitions name it.
+use Rattle.studio_words.specs.Command as rules
+use Rattle.studio_words.specs.declared.command.Command.{Command}
+use Rattle.studio_words.specs.declared.command.Command.TheVariants.{Max, Axioms, Flows, Listing, Make, Migrate, Editing, Undoing, Checking, Solving, Trial}
+
+abbrev pub command_view : Command → rules.Command
+command_view (Max file) = rules.Max file.now
+command_view (Axioms file units) = rules.Axioms file.now units
+command_view (Flows file units) = rules.Flows file.now units
+command_view (Listing file after count) = rules.Listing file.now after.now count
+command_view (Make number units) = rules.Make number units
+command_view (Migrate file years) = rules.Migrate file.now years
+command_view (Editing file script) = rules.Editing file.now script.now
+command_view (Undoing file script) = rules.Undoing file.now script.now
+command_view (Checking file tree) = rules.Checking file.now tree.now
+command_view (Solving file budget) = rules.Solving file.now budget
+command_view (Trial number units budget) = rules.Trial number units budget

@@ -1,0 +1,209 @@
+//! The words of a call.
+ghost use Rattle.std.specs.Prelude.{◌≡◌, ◌∷◌, [], IfOk, map, option_map, string_bytes};
+ghost use Rattle.studio_words.specs.Command.{command_of, on_file, with_file, made_by, tried_by, unit_names_of, count_of, seed_of, unit_count_of, years_of, budget_of, Axioms, Flows, Listing, Migrate, Solving};
+ghost use Rattle.studio_words.specs.View.{command_view};
+
+use crate::number::number_within;
+use crate::unit_names::UnitNames;
+use std::alloc::{AllocError, Global};
+
+/// A command with its words.
+#[derive(Drop)]
+pub enum Command<'a> {
+    Max(&'a str),
+    Axioms(&'a str, UnitNames),
+    Flows(&'a str, UnitNames),
+    Listing(&'a str, &'a str, u64),
+    Make(u64, u64),
+    Migrate(&'a str, u64),
+    Editing(&'a str, &'a str),
+    Undoing(&'a str, &'a str),
+    Checking(&'a str, &'a str),
+    Solving(&'a str, u64),
+    Trial(u64, u64, u64),
+}
+
+/// The command that the words are, if they have a form.
+pub fn command_of(alloc: Global, words: &[String]) -> Result<Option<Command<'_>>, AllocError>
+    ensures { IfOk result (λ found. option_map command_view found ≡ command_of (map string_bytes words.now)) }
+{
+    match words {
+        [word, file] => Ok(of_two(word.as_str(), file.as_str())),
+        [word, first, second] => of_three(alloc, word.as_str(), first.as_str(), second.as_str()),
+        [word, first, second, third] => Ok(of_four(
+            word.as_str(),
+            first.as_str(),
+            second.as_str(),
+            third.as_str(),
+        )),
+        _ => Ok(None),
+    }
+}
+
+fn of_two<'a>(word: &str, file: &'a str) -> Option<Command<'a>>
+    ensures { option_map command_view result ≡ command_of (word.now ∷ file.now ∷ []) }
+{
+    if word == "max" && !file.is_empty() {
+        Some(Command::Max(file))
+    } else {
+        None
+    }
+}
+
+fn of_three<'a>(
+    alloc: Global,
+    word: &str,
+    first: &'a str,
+    second: &'a str,
+) -> Result<Option<Command<'a>>, AllocError>
+    ensures { IfOk result (λ found. option_map command_view found ≡ command_of (word.now ∷ first.now ∷ second.now ∷ [])) }
+{
+    if word == "make" {
+        Ok(made_by(first, second))
+    } else if !first.is_empty() {
+        on_file(alloc, word, first, second)
+    } else {
+        Ok(None)
+    }
+}
+
+/// The most operating units of a problem that is made.
+const MOST_UNITS: u64 = 128;
+
+fn unit_count_of(word: &str) -> Option<u64>
+    ensures { result ≡ unit_count_of word.now }
+{
+    number_within(word, 1, MOST_UNITS)
+}
+
+fn seed_of(word: &str) -> Option<u64>
+    ensures { result ≡ seed_of word.now }
+{
+    number_within(word, 0, u64::MAX)
+}
+
+/// The most nodes of a search.
+const MOST_NODES: u64 = 1_000_000;
+
+fn budget_of(word: &str) -> Option<u64>
+    ensures { result ≡ budget_of word.now }
+{
+    number_within(word, 1, MOST_NODES)
+}
+
+fn made_by<'a>(number: &str, units: &str) -> Option<Command<'a>>
+    ensures { option_map command_view result ≡ made_by (seed_of number.now) (unit_count_of units.now) }
+{
+    let number = seed_of(number)?;
+    let units = unit_count_of(units)?;
+    Some(Command::Make(number, units))
+}
+
+fn on_file<'a>(
+    alloc: Global,
+    word: &str,
+    file: &'a str,
+    second: &'a str,
+) -> Result<Option<Command<'a>>, AllocError>
+    ensures { IfOk result (λ found. option_map command_view found ≡ on_file word.now file.now second.now) }
+{
+    if word == "axioms" {
+        axioms_of(alloc, file, second)
+    } else if word == "flows" {
+        flows_of(alloc, file, second)
+    } else if word == "migrate" {
+        Ok(migrate_of(file, second))
+    } else if word == "solve" {
+        Ok(solve_of(file, second))
+    } else {
+        Ok(with_file(word, file, second))
+    }
+}
+
+/// The most years of a payout period.
+const MOST_YEARS: u64 = 100;
+
+fn migrate_of<'a>(file: &'a str, years: &str) -> Option<Command<'a>>
+    ensures { option_map command_view result ≡ option_map (Migrate file.now) (years_of years.now) }
+{
+    let years = number_within(years, 1, MOST_YEARS)?;
+    Some(Command::Migrate(file, years))
+}
+
+fn solve_of<'a>(file: &'a str, budget: &str) -> Option<Command<'a>>
+    ensures { option_map command_view result ≡ option_map (Solving file.now) (budget_of budget.now) }
+{
+    let budget = budget_of(budget)?;
+    Some(Command::Solving(file, budget))
+}
+
+fn tried_by<'a>(number: &str, units: &str, budget: &str) -> Option<Command<'a>>
+    ensures { option_map command_view result ≡ tried_by (seed_of number.now) (unit_count_of units.now) (budget_of budget.now) }
+{
+    let number = seed_of(number)?;
+    let units = unit_count_of(units)?;
+    let budget = budget_of(budget)?;
+    Some(Command::Trial(number, units, budget))
+}
+
+fn with_file<'a>(word: &str, file: &'a str, second: &'a str) -> Option<Command<'a>>
+    ensures { option_map command_view result ≡ with_file word.now file.now second.now }
+{
+    if word == "edit" && !second.is_empty() {
+        Some(Command::Editing(file, second))
+    } else if word == "undo" && !second.is_empty() {
+        Some(Command::Undoing(file, second))
+    } else if word == "check" && !second.is_empty() {
+        Some(Command::Checking(file, second))
+    } else {
+        None
+    }
+}
+
+fn of_four<'a>(word: &str, first: &'a str, second: &'a str, third: &str) -> Option<Command<'a>>
+    ensures { option_map command_view result ≡ command_of (word.now ∷ first.now ∷ second.now ∷ third.now ∷ []) }
+{
+    if word == "trial" {
+        tried_by(first, second, third)
+    } else if word == "list" && !first.is_empty() {
+        listing_of(first, second, third)
+    } else {
+        None
+    }
+}
+
+fn axioms_of<'a>(
+    alloc: Global,
+    file: &'a str,
+    units: &str,
+) -> Result<Option<Command<'a>>, AllocError>
+    ensures { IfOk result (λ found. option_map command_view found ≡ option_map (Axioms file.now) (unit_names_of units.now)) }
+{
+    match UnitNames::read(alloc, units)? {
+        Some(units) => Ok(Some(Command::Axioms(file, units))),
+        None => Ok(None),
+    }
+}
+
+fn flows_of<'a>(
+    alloc: Global,
+    file: &'a str,
+    units: &str,
+) -> Result<Option<Command<'a>>, AllocError>
+    ensures { IfOk result (λ found. option_map command_view found ≡ option_map (Flows file.now) (unit_names_of units.now)) }
+{
+    match UnitNames::read(alloc, units)? {
+        Some(units) => Ok(Some(Command::Flows(file, units))),
+        None => Ok(None),
+    }
+}
+
+/// The most structures that one call lists.
+const MOST_COUNT: u64 = 1_000_000_000;
+
+fn listing_of<'a>(file: &'a str, after: &'a str, count: &str) -> Option<Command<'a>>
+    ensures { option_map command_view result ≡ option_map (Listing file.now after.now) (count_of count.now) }
+{
+    let count = number_within(count, 1, MOST_COUNT)?;
+    Some(Command::Listing(file, after, count))
+}

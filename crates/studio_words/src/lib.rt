@@ -1,0 +1,14 @@
+//! The words of a call, and the command that they are.
+//!
+//! [`command_of`] gives the command exactly where the words have a form. `specs/Command` has the forms, and the ranges of a
+//! command's numbers.
+//!
+//! Modules: `command`, the commands; `unit_names`, the word UNITS; `number`, numbers in words.
+#![tactic(auto)]
+
+mod command;
+mod number;
+mod unit_names;
+
+pub use command::{Command, command_of};
+pub use unit_names::UnitNames;
