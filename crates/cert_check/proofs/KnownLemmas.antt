@@ -1,6 +1,6 @@
 -- The units that are taken in on a walk are units of the graph.
-use Rattle.std.proofs.Common.{◌≡◌, ℕ, ◌<◌, true, List, [], ◌∷◌, ◌++◌, map, refl, inl, inr}
-use Rattle.std.proofs.lemmas.Bool.{or_cases}
+use Rattle.std.proofs.Common.{◌≡◌, ℕ, ◌<◌, ◌==◌, ◌||◌, false, true, List, [], ◌∷◌, ◌++◌, map, refl, subst, inl, inr, eqb-true}
+use Rattle.std.proofs.lemmas.Bool.{or_cases, both_ways}
 use Rattle.number_sets.specs.Sets.{has}
 use Rattle.number_sets.specs.Options.{IsIn}
 use Rattle.number_sets.proofs.SetLemmas.{has_below}
@@ -8,7 +8,8 @@ use Rattle.number_sets.proofs.OptionLists as lists
 use Rattle.pns_rules.specs.Shape.{Shape}
 use Rattle.pns_rules.specs.Nodes.{Node, Step, after, base_makers, free_makers, options, child}
 use Rattle.pns_rules.proofs.OptionLemmas.{makers_apart, base_set, free_set}
-use Rattle.tree_rules.specs.Tree.{End, branch, leaf, StepsPass, after_all, below}
+use Rattle.tree_rules.specs.Ways.{at_material, either, MayBranch}
+use Rattle.tree_rules.specs.Tree.{End, branch, leaf, TreeNode, StepsPass, after_all, EndPasses, below}
 use Rattle.cert_parts.specs.Known.{KnowsInside}
 use Rattle.cert_parts.proofs.NodeLemmas.{known_after}
 use Rattle.cert_check.specs.Subtrees.{AllKnown}
@@ -34,9 +35,20 @@ known_children g n x (t ∷ ts) known among = (
   known_children g n x ts known (λ s i. among s (inr i)),
 )
 
-pub known_below : {L : Type 0} (g : Shape) (n : Node) (e : End L) → KnowsInside g n → AllKnown g (below g n e)
-known_below g n (branch x c) known = known_children g n x (options g n x) known (λ t i. i)
-known_below g n (leaf l) known = tt
+-- the unit goes in, or it goes out
+known_either : (g : Shape) (n : Node) (u : ℕ) → KnowsInside g n → MayBranch g n (either u) → (v : ℕ) → ((has (u ∷ []) v || n.inside v) ≡ true) → v < g.units
+known_either g n u known may v h = elim (or_cases (has (u ∷ []) v) (n.inside v) h) [
+  | inl p ↦ elim (or_cases (u == v) false p) [
+    | inl e ↦ subst (λ (k : ℕ). k < g.units) (eqb-true u v e) may.0
+    | inr q ↦ absurd (both_ways false refl q)
+  ]
+  | inr q ↦ known v q
+]
+
+pub known_below : {L : Type 0} (g : Shape) (P : Node → L → Type 0) (n : Node) (e : End L) (behind : List (TreeNode L)) → KnowsInside g n → EndPasses g P n e behind → AllKnown g (below g n e)
+known_below g P n (branch (at_material x c)) behind known passes = known_children g n x (options g n x) known (λ t i. i)
+known_below g P n (branch (either u)) behind known passes = (known_either g n u known passes.0, known, tt)
+known_below g P n (leaf l) behind known passes = tt
 
 pub known_both : (g : Shape) (ns ms : List Node) → AllKnown g ns → AllKnown g ms → AllKnown g (ns ++ ms)
 known_both g [] ms a b = b

@@ -9,7 +9,7 @@ use Rattle.tree_rules.specs.Leaf.{Leaf, dead, clash, refuted, bounded, untried}
 use Rattle.tree_rules.specs.Accepted.{Tree}
 use Rattle.branch_tree.specs.View.{end_of}
 use Rattle.branch_tree.specs.declared.end.End as ends
-use Rattle.branch_tree.specs.declared.end.End.TheVariants.{Dead, Clash, Refuted, Bound, Branch, Open}
+use Rattle.branch_tree.specs.declared.end.End.TheVariants.{Dead, Clash, Refuted, Bound, Branch, Either, Open}
 use Rattle.cert_check.specs.Visits.{IsVisited}
 
 one_leaf : (a b : Leaf) → leaf a ≡ leaf b → a ≡ b
@@ -28,14 +28,15 @@ pub weaker_fault : {A : Type 0} (P Q : Why → Type 0) (r : Result A Why) → ((
 weaker_fault P Q (Ok x) f h = tt
 weaker_fault P Q (Err why) f h = f why h
 
--- an end that is no branch is a leaf
-pub leaf_of : (e : ends.End) → ((x c : ℕ) → e ≡ Branch x c → ⊥) → (l : Leaf) × (end_of e ≡ leaf l)
-leaf_of (Dead x) h = (dead x, refl)
-leaf_of (Clash x) h = (clash x, refl)
-leaf_of (Refuted ys) h = (refuted ys, refl)
-leaf_of (Bound s) h = (bounded s.d s.ys, refl)
-leaf_of (Branch x c) h = absurd (h x c refl)
-leaf_of Open h = (untried, refl)
+-- an end that does not branch is a leaf
+pub leaf_of : (e : ends.End) → ((x c : ℕ) → e ≡ Branch x c → ⊥) → ((u : ℕ) → e ≡ Either u → ⊥) → (l : Leaf) × (end_of e ≡ leaf l)
+leaf_of (Dead x) h k = (dead x, refl)
+leaf_of (Clash x) h k = (clash x, refl)
+leaf_of (Refuted ys) h k = (refuted ys, refl)
+leaf_of (Bound s) h k = (bounded s.d s.ys, refl)
+leaf_of (Branch x c) h k = absurd (h x c refl)
+leaf_of (Either u) h k = absurd (k u refl)
+leaf_of Open h k = (untried, refl)
 
 module _ (g : Shape) (n m : Node) (t : TreeNode Leaf) (steps : List Step) (is_steps : steps ≡ t.steps) (passes : StepsPass g n steps) (leads : m ≡ after_all g n steps) where
   taken : StepsPass g n t.steps

@@ -17,7 +17,7 @@ use Rattle.cert_check.proofs.EndLemmas.{node_ahead}
 use Rattle.cert_check.proofs.KnownLemmas.{known_after_all, known_below, known_both}
 use Rattle.cert_check.proofs.WalkLemmas.{Leads, leads_on, leads_fault, leads_all}
 
-stack_top : (rest : List Node) (n : Node) → stack_of (rest ++ n ∷ []) ≡ node_of n ∷ stack_of rest
+pub stack_top : (rest : List Node) (n : Node) → stack_of (rest ++ n ∷ []) ≡ node_of n ∷ stack_of rest
 stack_top rest n = ap (λ (ns : List Node). map node_of ns) (reverse-append rest (n ∷ []))
 
 module _ (g : Shape) (P : rules.Node → Leaf → Type 0) (F : rules.Node → Leaf → Why → Type 0) (starts : List rules.Node) (ts : Tree) where
@@ -50,7 +50,7 @@ module _ (g : Shape) (P : rules.Node → Leaf → Type 0) (F : rules.Node → Le
         leads = subst (λ (ns : List rules.Node). Leads g P F starts ts ns (drop (i + 1) ts) (i + 1)) (sym v.children)
             (leads_on g P F starts ts n rest t (drop (i + 1) ts) i o.leads v.steps v.end);
         known = subst (λ (ns : List rules.Node). AllKnown g ns) (sym v.children)
-            (known_both g (below g m t.end) rest (known_below g m t.end (known_after_all g n t.steps o.top_known v.steps)) o.rest_known);
+            (known_both g (below g m t.end) rest (known_below g P m t.end (drop (i + 1) ts) (known_after_all g n t.steps o.top_known v.steps) v.end) o.rest_known);
       }
 
   pub failed : (n : rules.Node) (t : TreeNode Leaf) (rest : List rules.Node) (i : ℕ) (why : Why) → Opened n t rest i → NodeFails g F n t (drop (i + 1) ts) why → IsFirstFault g P F starts ts i why

@@ -2,8 +2,9 @@
 use Rattle.std.proofs.Common.{◌≡◌, ℕ, zero, suc, ◌+◌, List, [], ◌∷◌, ◌++◌, length, refl, sym, ap, ◌∙◌, subst, arith, length-append}
 use Rattle.std.proofs.lemmas.List.{length-map}
 use Rattle.pns_rules.specs.Shape.{Shape}
-use Rattle.pns_rules.specs.Nodes.{Node, options, child}
+use Rattle.pns_rules.specs.Nodes.{Node}
 use Rattle.tree_rules.specs.declared.why.Why.{Why}
+use Rattle.tree_rules.specs.Ways.{width, options_at, child_at}
 use Rattle.tree_rules.specs.Tree.{End, branch, leaf, TreeNode, children, IsForest, skip, roots, StepsPass, after_all, EndPasses, below, Pass}
 use Rattle.tree_rules.specs.Fault.{NodeFails, IsFirstFault}
 
@@ -51,8 +52,9 @@ module _ {L : Type 0} where
     }
 
     below_count : (n : Node) (end : End L) (ms : List Node) (us : List (TreeNode L)) → EndPasses g P n end us → IsForest (children end + length ms) us → length (below g n end) ≡ children end
-    below_count n (branch x c) ms us e f =
-        length-map (options g n x) (child g n x) ∙ (ap (λ (w : List (List ℕ)). length w) (sym e.1) ∙ length-roots c (length ms) (c + length ms) us refl f)
+    below_count n (branch w) ms us e f =
+        length-map (options_at g n w) (child_at g n w)
+        ∙ (ap (λ (ts : List (List ℕ)). length ts) (sym e.1) ∙ length-roots (width w) (length ms) (width w + length ms) us refl f)
     below_count n (leaf l) ms us e f = refl
 
     -- a node that passes

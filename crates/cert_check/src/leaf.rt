@@ -16,7 +16,7 @@ use pns_problem::Problem;
 use tree_rules::Why;
 use unit_sets::Node;
 
-/// Judges the leaf at the node. A branch is no leaf, and is not judged.
+/// Judges the leaf at the node. A branched node is no leaf, and is not judged.
 pub fn judge_leaf(
     problem: &Problem,
     graph: &Graph,
@@ -36,6 +36,6 @@ pub fn judge_leaf(
         End::Refuted(ys) => judge_refutation(problem, graph, node, ys.numbers()),
         End::Bound(scaled) => judge_bound(problem, graph, node, claimed, scaled.d(), scaled.ys()),
         End::Open => judge_open(problem, node, partial),
-        End::Branch { .. } => Ok(()),
+        End::Branch { .. } | End::Either(_) => Ok(()),
     }
 }

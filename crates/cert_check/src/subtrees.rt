@@ -1,22 +1,11 @@
 //! Where subtrees end, so that the children of a node are found without a walk through what lies between them.
 ghost use Rattle.std.specs.Prelude.{◌≡◌, ◌≤◌, length, drop, IfOk, OnOk};
 ghost use Rattle.tree_rules.specs.Tree as trees;
-ghost use Rattle.branch_tree.specs.View.{end_of};
 ghost use Rattle.cert_check.specs.Subtrees.{AreEnds};
 
-use branch_tree::{End, TreeNode};
+use branch_tree::TreeNode;
 use std::alloc::{AllocError, Global};
 use unit_sets::UnitSet;
-
-/// How many subtrees follow a node as its children.
-pub fn child_count(end: &End) -> u32
-    ensures { result ≡ trees.children (end_of end.now) }
-{
-    match end {
-        End::Branch { children, .. } => *children,
-        _ => 0,
-    }
-}
 
 /// Where the list goes on behind some subtrees.
 fn past(nodes: &[TreeNode], ends: &[usize], from: usize, count: u32) -> usize
@@ -46,7 +35,7 @@ pub fn ends_of(alloc: Global, nodes: &[TreeNode]) -> Result<Vec<usize>, AllocErr
     'back: while i > 0 {
         i -= 1;
         let node = &nodes[i];
-        let end = past(nodes, &ends, i + 1, child_count(&node.end));
+        let end = past(nodes, &ends, i + 1, node.end.children());
         ends[i] = end;
     }
     Ok(ends)

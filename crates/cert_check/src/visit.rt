@@ -6,6 +6,7 @@ ghost use Rattle.pns_rules.specs.Structure.{is_needed};
 ghost use Rattle.pns_rules.specs.Nodes.{options, child};
 ghost use Rattle.tree_rules.specs.declared.why.Why.TheVariants as causes;
 ghost use Rattle.tree_rules.specs.Tree as trees;
+ghost use Rattle.tree_rules.specs.Ways.{either, MayBranch, options_at, children_at};
 ghost use Rattle.tree_rules.specs.Fault.{NodeFails};
 ghost use Rattle.tree_rules.specs.Leaf.{LeafPasses, LeafFails};
 ghost use Rattle.pgraph.specs.Tables.{shape};
@@ -19,7 +20,9 @@ use crate::children::push_children;
 use crate::leaf::judge_leaf;
 use crate::subtrees::roots;
 use branch_tree::{End, TreeNode};
-use cert_parts::{CostOver, after_steps, are_all_options};
+use cert_parts::{
+    CostOver, after_steps, are_all_options, are_options_of_unit, with_unit, without_unit,
+};
 use pgraph::Graph;
 use pns_problem::Problem;
 use tree_rules::Why;
@@ -67,6 +70,42 @@ fn visit_branch(
     }
 }
 
+/// Judges a branch in two at the unit, with the two subtrees from a place on as its children, and puts their nodes on the stack,
+/// the one in which the unit goes in on top. `found` is room for their options.
+fn visit_either(
+    graph: &Graph,
+    node: &Node,
+    unit: u32,
+    nodes: &[TreeNode],
+    ends: &[usize],
+    from: usize,
+    found: &mut Vec<UnitSet>,
+    stack: &mut Vec<Node>,
+) -> Result<(), Halt>
+    requires same { length ends.now ≡ length nodes.now }
+    requires within { from ≤ length nodes.now }
+    requires are { AreEnds nodes.now ends.now 0 }
+    ensures may { OnOk result (MayBranch (shape graph.now) (node_of node.now) (either unit)) }
+    ensures options { OnOk result (trees.roots 2 (drop from nodes.now) ≡ options_at (shape graph.now) (node_of node.now) (either unit)) }
+    ensures stack { OnOk result (stack_of stack.new.items ≡ children_at (shape graph.now) (node_of node.now) (either unit) ++ stack_of stack.old.items) }
+    ensures halts { IfErr result (Halts (λ why. (why ≡ causes.Options) × (MayBranch (shape graph.now) (node_of node.now) (either unit) × (trees.roots 2 (drop from nodes.now) ≡ options_at (shape graph.now) (node_of node.now) (either unit)) → ⊥))) }
+{
+    graph.is_proper();
+    let Ok(()) = roots(nodes, ends, from, 2, found) else {
+        return Err(Halt::Memory);
+    };
+    if !are_options_of_unit(graph, node, unit, found) {
+        return Err(Halt::Fails(Why::Options));
+    }
+    let Ok(()) = stack.push(without_unit(node, unit)) else {
+        return Err(Halt::Memory);
+    };
+    let Ok(()) = stack.push(with_unit(node, unit)) else {
+        return Err(Halt::Memory);
+    };
+    Ok(())
+}
+
 /// Judges the item of the tree at its node, and puts the nodes of its children on the stack. The list goes on behind the item
 /// from a place on.
 pub fn visit(
@@ -98,6 +137,9 @@ pub fn visit(
         End::Branch { material, children } => visit_branch(
             graph, &reached, *material, *children, nodes, ends, from, found, stack,
         ),
+        End::Either(unit) => {
+            visit_either(graph, &reached, *unit, nodes, ends, from, found, stack)
+        }
         end => match judge_leaf(problem, graph, &reached, claimed, partial, end) {
             Ok(()) => Ok(()),
             Err(why) => Err(Halt::Fails(why)),

@@ -1,3 +1,4 @@
+pub mod EitherLemmas
 pub mod NodeLemmas
 pub mod RowLemmas
 pub mod SetLemmas

@@ -6,10 +6,11 @@
 //! stands on it fails. No call takes memory.
 //!
 //! Modules: `sets` and `materials` are tests of sets and what a node needs; `steps` which steps are possible; `nodes` the nodes
-//! that steps and options leave; `costs` compares costs; `network` and `leaves` judge claims and leaves.
+//! that steps and options leave; `either` branches in two at one unit; `costs` compares costs; `network` and `leaves` judge claims and leaves.
 #![tactic(auto)]
 
 mod costs;
+mod either;
 mod leaves;
 mod materials;
 mod network;
@@ -18,6 +19,7 @@ mod sets;
 mod steps;
 
 pub use costs::CostOver;
+pub use either::{are_options_of_unit, with_unit, without_unit};
 pub use leaves::{judge_bound, judge_clash, judge_dead, judge_open, judge_refutation};
 pub use materials::{is_dead, is_needed};
 pub use network::judge_network;

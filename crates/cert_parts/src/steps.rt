@@ -11,7 +11,7 @@ use pgraph::Graph;
 use unit_sets::{Node, Step, UnitSet};
 
 /// Whether the unit is one of the graph, neither taken in nor left out.
-fn is_free(graph: &Graph, node: &Node, u: u32) -> bool
+pub fn is_free(graph: &Graph, node: &Node, u: u32) -> bool
     ensures { IsTrue result ↔ ((u < (shape graph.now).units) × (is_free (shape graph.now) (node_of node.now) u ≡ true)) }
 {
     graph.is_proper();

@@ -10,7 +10,7 @@ use Rattle.cert_check.proofs.visit.visit.Goals as goal
 
 pub returns-in-Ok : goal.returns-in-Ok
 returns-in-Ok c =
-    let k = leaf_of c.item.inside.end c.in_default-end.not-Branch in
+    let k = leaf_of c.item.inside.end c.in_default-end.not-Branch c.in_default-end.not-Either in
     let steps_is = c.steps-steps.ensures ∙ ap (λ (t : TreeNode Leaf). t.steps) c.item.view_is in
     record {
       visited = leaf_visited (shape c.args.graph.now) (node_of c.args.node.now) (node_of c.in-Some.reached) c.args.item.now (map step_of c.steps-steps.result.now) steps_is c.in-Some.ensures.possible c.in-Some.ensures.leads
@@ -21,7 +21,7 @@ returns-in-Ok c =
 
 pub returns-in-Err : goal.returns-in-Err
 returns-in-Err c =
-    let k = leaf_of c.item.inside.end c.in_default-end.not-Branch in
+    let k = leaf_of c.item.inside.end c.in_default-end.not-Branch c.in_default-end.not-Either in
     let steps_is = c.steps-steps.ensures ∙ ap (λ (t : TreeNode Leaf). t.steps) c.item.view_is in
     record {
       visited = tt;
