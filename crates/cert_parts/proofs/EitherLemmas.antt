@@ -13,6 +13,9 @@ two_are (x ∷ []) a b e p q = absurd (omega arith)
 two_are (x ∷ y ∷ []) a b e p q = ap (λ w. w ∷ y ∷ []) (sym p) ∙ ap (λ w. a ∷ w ∷ []) (sym q)
 two_are (x ∷ y ∷ z ∷ zs) a b e p q = absurd (omega arith)
 
+pub second_of : (a b x y : List ℕ) → a ∷ b ∷ [] ≡ x ∷ y ∷ [] → b ≡ y
+second_of a b x y e = cc
+
 or_none : (b : Bool) → b ≡ (b || false)
 or_none true = refl
 or_none false = refl
