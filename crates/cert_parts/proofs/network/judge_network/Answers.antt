@@ -19,7 +19,7 @@ returns-in_default-feasible-clause-fails c = λ partial.
     let z = beside c.args.units c.args.sizes.now in
     let structure : IsStructure (shape_of p) s = subst (λ (g : Shape). IsStructure g s) c.requires.graph (c.judge.ensures.meets.0 c.in-Meets.is) in
     let allowed : IsAllowed (shape_of p) s = subst (λ (g : Shape). IsAllowed g s) c.requires.graph c.in_default-clash.ensures in
-    inr (structure, inr (allowed, inl (refl, (λ r. not_both (feasible_steps (net_of p) s z c.args.d) c.in_default-feasible.field-0.at r (simp to_z-of_z at c.in_default-feasible.ensures.past)))))
+    inr (structure, inr (allowed, inl (refl, (λ r. not_both (feasible_steps (net_of p) s z c.args.d) c.in_default-feasible.field-0.at r c.in_default-feasible.ensures.past))))
 
 pub returns-then-not-holds-clause-fails : goal.returns-then-not-holds-clause-fails
 returns-then-not-holds-clause-fails c = λ partial.
@@ -29,7 +29,7 @@ returns-then-not-holds-clause-fails c = λ partial.
     let z = beside c.args.units c.args.sizes.now in
     let structure : IsStructure (shape_of p) s = subst (λ (g : Shape). IsStructure g s) c.requires.graph (c.judge.ensures.meets.0 c.in-Meets.is) in
     let allowed : IsAllowed (shape_of p) s = subst (λ (g : Shape). IsAllowed g s) c.requires.graph c.in_default-clash.ensures in
-    inr (structure, inr (allowed, inr ((simp to_z-of_z at c.in-Ok.ensures.in_range), inl (refl, (λ f. both_ways c.in-Ok.holds c.if-not-holds.true ((simp to_z-of_z at c.in-Ok.ensures.value).1 f))))))
+    inr (structure, inr (allowed, inr (c.in-Ok.ensures.in_range, inl (refl, (λ f. both_ways c.in-Ok.holds c.if-not-holds.true ((simp to_z-of_z at c.in-Ok.ensures.value).1 f))))))
 
 pub returns-in_default-cost_of-clause-fails : goal.returns-in_default-cost_of-clause-fails
 returns-in_default-cost_of-clause-fails c = λ partial.
@@ -44,7 +44,7 @@ returns-in_default-cost_of-clause-fails c = λ partial.
       inr (
         allowed,
         inr (
-          (simp to_z-of_z at c.in-Ok.ensures.in_range),
+          c.in-Ok.ensures.in_range,
           inr (
             (simp to_z-of_z at c.in-Ok.ensures.value).0 c.if-not-holds.false,
             inl (refl, (λ r. not_both (cost_steps (net_of p) s z c.args.d) c.in_default-cost_of.field-0.at r (simp to_z-of_z at c.in_default-cost_of.ensures.past))),
@@ -67,7 +67,7 @@ returns-then-are_same-clause-passes c =
     record {
       structure = structure;
       allowed = allowed;
-      balances = (simp to_z-of_z at c.in-Ok.ensures.in_range);
+      balances = c.in-Ok.ensures.in_range;
       flows = (simp to_z-of_z at c.in-Ok.ensures.value).0 c.if-not-holds.false;
       costs = (simp to_z-of_z at c.in-Ok-cost_of.ensures.in_range);
       cost_is = sym (simp to_z-of_z at c.in-Ok-cost_of.ensures.value) ∙ (sym total ∙ (c.are_same.ensures.0 c.if-are_same.true ∙ claimed));
@@ -89,7 +89,7 @@ returns-else-are_same-clause-fails c = λ partial.
       inr (
         allowed,
         inr (
-          (simp to_z-of_z at c.in-Ok.ensures.in_range),
+          c.in-Ok.ensures.in_range,
           inr (
             (simp to_z-of_z at c.in-Ok.ensures.value).0 c.if-not-holds.false,
             inr (
