@@ -47,7 +47,7 @@ known_either g n u known may v h = elim (or_cases (has (u ∷ []) v) (n.inside v
 
 pub known_below : {L : Type 0} (g : Shape) (P : Node → L → Type 0) (n : Node) (e : End L) (behind : List (TreeNode L)) → KnowsInside g n → EndPasses g P n e behind → AllKnown g (below g n e)
 known_below g P n (branch (at_material x c)) behind known passes = known_children g n x (options g n x) known (λ t i. i)
-known_below g P n (branch (either u)) behind known passes = (known_either g n u known passes.0, known, tt)
+known_below g P n (branch (either u)) behind known passes = (known_either g n u known passes.0, (known, tt))
 known_below g P n (leaf l) behind known passes = tt
 
 pub known_both : (g : Shape) (ns ms : List Node) → AllKnown g ns → AllKnown g ms → AllKnown g (ns ++ ms)

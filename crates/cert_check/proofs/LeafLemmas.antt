@@ -3,7 +3,8 @@ use Rattle.std.proofs.Common.{◌≡◌, ℕ, List, ◌++◌, Result, Ok, Err, O
 use Rattle.pns_rules.specs.Shape.{Shape}
 use Rattle.pns_rules.specs.Nodes.{Node, Step}
 use Rattle.tree_rules.specs.declared.why.Why.{Why}
-use Rattle.tree_rules.specs.Tree.{End, leaf, TreeNode, StepsPass, after_all, below, EndPasses}
+use Rattle.tree_rules.specs.Ways.{Way, width, MayBranch, options_at, children_at}
+use Rattle.tree_rules.specs.Tree.{End, branch, leaf, TreeNode, roots, StepsPass, after_all, below, EndPasses}
 use Rattle.tree_rules.specs.Fault.{EndFails, NodeFails}
 use Rattle.tree_rules.specs.Leaf.{Leaf, dead, clash, refuted, bounded, untried}
 use Rattle.tree_rules.specs.Accepted.{Tree}
@@ -51,6 +52,14 @@ module _ (g : Shape) (n m : Node) (t : TreeNode Leaf) (steps : List Step) (is_st
     end = subst (λ (e : End Leaf). EndPasses g P (after_all g n t.steps) e behind) (sym is) (subst (λ (k : Node). P k l) reached p);
     children = ap (λ (e : End Leaf). below g (after_all g n t.steps) e ++ stack) (sym is);
   }
+
+  pub branch_visited : {A B : Type 0} (P : Node → Leaf → Type 0) (behind : Tree) (before after : List Node) (w : Way) → t.end ≡ branch w → (r : Result A B) → OnOk r (MayBranch g m w) → OnOk r (roots (width w) behind ≡ options_at g m w) → OnOk r (after ≡ children_at g m w ++ before) → OnOk r (IsVisited g P n t behind before after)
+  branch_visited P behind before after w is (Ok x) may options stack = record {
+    steps = taken;
+    end = subst (λ (e : End Leaf). EndPasses g P (after_all g n t.steps) e behind) (sym is) (subst (λ (k : Node). MayBranch g k w × (roots (width w) behind ≡ options_at g k w)) reached (may, options));
+    children = stack ∙ (ap (λ (k : Node). children_at g k w ++ before) reached ∙ ap (λ (e : End Leaf). below g (after_all g n t.steps) e ++ before) (sym is));
+  }
+  branch_visited P behind before after w is (Err e) may options stack = tt
 
   pub leaf_halts : (F : Node → Leaf → Why → Type 0) (behind : Tree) (l : Leaf) (why : Why) → t.end ≡ leaf l → F m l why → NodeFails g F n t behind why
   leaf_halts F behind l why is f =

@@ -13,7 +13,7 @@ back-preserved c =
     let k1 : c.back.i - 1 + 1 ≡ suc (c.back.i - 1) = omega arith in
     let low : c.back.i ≤ length c.args.nodes.now = c.back.invariant.within in
     let lt : c.back.i - 1 < length c.args.nodes.now = omega (arith, c.back-test.true) in
-    let count : c.child_count.result ≡ trees.children c.index-nodes-i.result.end = c.child_count.ensures ∙ ap (λ (t : trees.TreeNode Leaf). trees.children t.end) c.node.view_is in
+    let count : c.children.result ≡ trees.children c.index-nodes-i.result.end = c.children.ensures ∙ ap (λ (t : trees.TreeNode Leaf). trees.children t.end) c.node.view_is in
     let behind = subst (λ (n : ℕ). drop c.past-end.result ts ≡ trees.skip n (drop (c.back.i - 1 + 1) ts)) count c.past-end.ensures.behind in
     record {
       within = omega arith;
