@@ -20,7 +20,7 @@ use Rattle.node_looks.specs.Children.{AreReady}
 use Rattle.abb_search.specs.Growing.{open_count}
 
 pub open_leaf : (e : End Leaf) → is_open e ≡ true → e ≡ leaf untried
-open_leaf (branch x c) h = absurd (true≢false (sym h))
+open_leaf (branch w) h = absurd (true≢false (sym h))
 open_leaf (leaf (dead x)) h = absurd (true≢false (sym h))
 open_leaf (leaf (clash k)) h = absurd (true≢false (sym h))
 open_leaf (leaf (refuted ys)) h = absurd (true≢false (sym h))

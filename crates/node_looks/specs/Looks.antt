@@ -52,7 +52,7 @@ is_bounded_leaf (bounded d ys) = true
 is_bounded_leaf untried = false
 
 abbrev pub is_bounded : End Leaf → Bool
-is_bounded (branch x c) = false
+is_bounded (branch w) = false
 is_bounded (leaf l) = is_bounded_leaf l
 
 -- whether one of the cells ends so

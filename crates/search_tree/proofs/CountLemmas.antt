@@ -2,6 +2,7 @@
 use Rattle.std.proofs.Common.{◌≡◌, ℕ, zero, suc, ◌+◌, ◌<◌, ◌≤◌, ◌==◌, Bool, true, false, cond, List, [], ◌∷◌, ◌++◌, length, refl, sym, ap, ◌∙◌, subst, arith, eq-eqb, ne_eqb, inl, inr}
 use Rattle.std.specs.List.{range_with_len}
 use Rattle.std.proofs.lemmas.Bool.{cases_eq}
+use Rattle.tree_rules.specs.Ways.{width}
 use Rattle.tree_rules.specs.Tree.{End, branch, leaf}
 use Rattle.tree_rules.specs.Leaf.{Leaf}
 use Rattle.search_tree.specs.Cells.{Cell, cell_at, times, numbers_below, children_at, AreBehind, IsParentOf, IsLinked}
@@ -55,7 +56,7 @@ not_below j f (suc c) h =
     rw apart (omega (arith, rest))
 
 root_below : (n i f : ℕ) (e : End Leaf) → AreBehind n i f e → times 0 (numbers_below f e) ≡ 0
-root_below n i f (branch x c) h = not_below 0 f c (let a = h.1 in omega arith)
+root_below n i f (branch w) h = not_below 0 f (width w) (let a = h.1 in omega arith)
 root_below n i f (leaf l) h = refl
 
 -- the root is no child

@@ -5,7 +5,7 @@ use Rattle.std.proofs.lemmas.List.{get_or_append_left, get_or-set_same, get_or-s
 use Rattle.link_lists.specs.Lists.{has, without}
 use Rattle.link_lists.proofs.Cells.{has-here, has-later, has-without}
 use Rattle.frac128.specs.declared.fraction.Frac.{Frac}
-use Rattle.node_pool.specs.Order.{is_above, placed}
+use Rattle.node_pool.specs.Order.{is_at_least, placed}
 use Rattle.node_pool.specs.Pooled.{Pooled, IsShut, IsWithLeaf, with_shut, with_payload}
 use Rattle.node_pool.proofs.Order.{has-placed}
 use Rattle.search_tree.specs.declared.growth.Fresh.{Fresh}
@@ -14,7 +14,7 @@ use Rattle.search_tree.specs.Growth.{is_open, AreOpen, cells_in_turn, values_in_
 
 pub placed_new : (vs : List Frac) (v : Frac) (c : ℕ) (xs : List ℕ) → has (placed vs v c xs) c ≡ true
 placed_new vs v c [] = has-here c []
-placed_new vs v c (x ∷ xs) = by (is_above vs v x) (placed_new vs v c xs)
+placed_new vs v c (x ∷ xs) = by (is_at_least vs v x) (placed_new vs v c xs)
   where
     by : (b : Bool) → has (placed vs v c xs) c ≡ true → has (cond b (c ∷ x ∷ xs) (x ∷ placed vs v c xs)) c ≡ true
     by true h = has-here c (x ∷ xs)
@@ -57,7 +57,7 @@ shut_now p leaf x lt = record {
 -- ---- the open leaves are the cells that end open
 placed_keeps : (vs : List Frac) (v : Frac) (c : ℕ) (xs : List ℕ) (d : ℕ) → has xs d ≡ true → has (placed vs v c xs) d ≡ true
 placed_keeps vs v c [] d h = absurd (both_ways false refl h)
-placed_keeps vs v c (x ∷ xs) d h = by (is_above vs v x) (λ t. placed_keeps vs v c xs d t)
+placed_keeps vs v c (x ∷ xs) d h = by (is_at_least vs v x) (λ t. placed_keeps vs v c xs d t)
   where
     by : (b : Bool) → (has xs d ≡ true → has (placed vs v c xs) d ≡ true) → has (cond b (c ∷ x ∷ xs) (x ∷ placed vs v c xs)) d ≡ true
     by true ih = has-later c d (x ∷ xs) h

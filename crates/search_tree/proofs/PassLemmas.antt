@@ -2,7 +2,8 @@
 use Rattle.std.proofs.Common.{◌≡◌, ℕ, zero, suc, ◌+◌, ◌<◌, ◌≤◌, List, [], ◌∷◌, ◌++◌, length, map, refl, sym, ap, ap₂, ◌∙◌, subst, arith, Some, length-append}
 use Rattle.std.specs.List.{range_with_len, slice_get}
 use Rattle.pns_rules.specs.Shape.{Shape}
-use Rattle.pns_rules.specs.Nodes.{Node, child}
+use Rattle.pns_rules.specs.Nodes.{Node}
+use Rattle.tree_rules.specs.Ways.{Way, width, child_at}
 use Rattle.tree_rules.specs.Tree.{End, branch, leaf, TreeNode, children, skip, roots, StepsPass, after_all, below, Stands, EndPasses, Pass}
 use Rattle.tree_rules.specs.Leaf.{Leaf}
 use Rattle.search_tree.specs.Cells.{Cell, place_of, cell_at, numbers_below, children_at, AreBehind, IsLinked}
@@ -96,15 +97,15 @@ aligned-append g cells [] ms (i ∷ is) js h k = absurd h
 aligned-append g cells (n ∷ ns) ms [] js h k = absurd h
 aligned-append g cells (n ∷ ns) ms (i ∷ is) js h k = (h.0, h.1, aligned-append g cells ns ms is js h.2 k)
 
-aligned_children : (g : Shape) (cells : List Cell) (n : Node) (x f c : ℕ) → f + c ≤ length cells
-    → ((k : ℕ) → k < c → Follows g (child g n x (cell_at cells (f + k)).option) (cell_at cells (f + k)))
-    → Aligned g cells (map (child g n x) (options_of cells (range_with_len f c))) (range_with_len f c)
-aligned_children g cells n x f zero fits h = tt
-aligned_children g cells n x f (suc c) fits h = (
+aligned_children : (g : Shape) (cells : List Cell) (n : Node) (w : Way) (f c : ℕ) → f + c ≤ length cells
+    → ((k : ℕ) → k < c → Follows g (child_at g n w (cell_at cells (f + k)).option) (cell_at cells (f + k)))
+    → Aligned g cells (map (child_at g n w) (options_of cells (range_with_len f c))) (range_with_len f c)
+aligned_children g cells n w f zero fits h = tt
+aligned_children g cells n w f (suc c) fits h = (
   omega (arith, fits),
-  subst (λ j. Follows g (child g n x (cell_at cells j).option) (cell_at cells j)) (none f) (h 0 (omega arith)),
-  aligned_children g cells n x (f + 1) c (omega (arith, fits)) (λ k lt.
-      subst (λ j. Follows g (child g n x (cell_at cells j).option) (cell_at cells j)) (next f k) (h (suc k) (omega (arith, lt)))),
+  subst (λ j. Follows g (child_at g n w (cell_at cells j).option) (cell_at cells j)) (none f) (h 0 (omega arith)),
+  aligned_children g cells n w (f + 1) c (omega (arith, fits)) (λ k lt.
+      subst (λ j. Follows g (child_at g n w (cell_at cells j).option) (cell_at cells j)) (next f k) (h (suc k) (omega (arith, lt)))),
 )
   where
     none : (f : ℕ) → f + 0 ≡ f
@@ -120,9 +121,9 @@ module _ (g : Shape) (P : Node → Leaf → Type 0) (start : Node) (cells : List
     where
       at : (f : ℕ) (e : End Leaf) → AreBehind (length cells) i f e → EndFits g P cells (place_of (cell_at cells i)) f e → Aligned g cells (below g (place_of (cell_at cells i)) e) (numbers_below f e)
       at f (leaf l) behind h = tt
-      at f (branch x c) behind h =
-          subst (λ os. Aligned g cells (map (child g (place_of (cell_at cells i)) x) os) (range_with_len f c)) h.options_are
-          (aligned_children g cells (place_of (cell_at cells i)) x f c behind.2 h.follow)
+      at f (branch w) behind h =
+          subst (λ os. Aligned g cells (map (child_at g (place_of (cell_at cells i)) w) os) (range_with_len f (width w))) h.options_are
+          (aligned_children g cells (place_of (cell_at cells i)) w f (width w) behind.2 h.follow)
 
   aligned_next : (n : Node) (i : ℕ) (ns : List Node) (is : List ℕ) → Aligned g cells (n ∷ ns) (i ∷ is)
       → Aligned g cells (below g (after_all g n (cell_at cells i).steps) (cell_at cells i).end ++ ns) (children_at cells i ++ is)
@@ -151,7 +152,7 @@ module _ (g : Shape) (P : Node → Leaf → Type 0) (start : Node) (cells : List
       plus n = omega arith
 
   end_passes : (n : Node) (f : ℕ) (e : End Leaf) (ts : List (TreeNode Leaf)) → EndFits g P cells n f e → roots (children e) ts ≡ options_of cells (numbers_below f e) → EndPasses g P n e ts
-  end_passes n f (branch x c) ts h same = (h.needed, same ∙ h.options_are)
+  end_passes n f (branch w) ts h same = (h.may, same ∙ h.options_are)
   end_passes n f (leaf l) ts h same = h
 
   pub passes : (ns : List Node) (is order : List ℕ) → Aligned g cells ns is → IsPreorder cells is order → Pass g P ns (tree_of cells order)

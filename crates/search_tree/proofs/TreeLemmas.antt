@@ -2,6 +2,7 @@
 use Rattle.std.proofs.Common.{◌≡◌, ℕ, zero, suc, ◌+◌, ◌<◌, ◌≤◌, List, [], ◌∷◌, ◌++◌, length, refl, sym, ap, ◌∙◌, subst, arith, length-append}
 use Rattle.std.specs.List.{range_with_len, AllByRecursion}
 use Rattle.std.proofs.lemmas.List.FromFn.{length-range_with_len}
+use Rattle.tree_rules.specs.Ways.{width}
 use Rattle.tree_rules.specs.Tree.{End, branch, leaf, children, HasChildren, IsForest, IsTree}
 use Rattle.tree_rules.specs.Leaf.{Leaf}
 use Rattle.search_tree.specs.Cells.{Cell, cell_at, numbers_below, children_at, AreBehind, IsLinked}
@@ -19,7 +20,7 @@ there-range cells f zero h = tt
 there-range cells f (suc c) h = (omega (arith, h), there-range cells (f + 1) c (omega (arith, h)))
 
 below_there : (cells : List Cell) (i f : ℕ) (e : End Leaf) → AreBehind (length cells) i f e → AreThere cells (numbers_below f e)
-below_there cells i f (branch x c) h = there-range cells f c h.2
+below_there cells i f (branch w) h = there-range cells f (width w) h.2
 below_there cells i f (leaf l) h = tt
 
 pub children_there : (cells : List Cell) → IsLinked cells → (i : ℕ) → i < length cells → AreThere cells (children_at cells i)
@@ -27,11 +28,16 @@ children_there cells linked i lt = below_there cells i (cell_at cells i).first (
 
 -- as many numbers as the end has children
 pub count_below : (f : ℕ) (e : End Leaf) → length (numbers_below f e) ≡ children e
-count_below f (branch x c) = length-range_with_len f c
+count_below f (branch w) = length-range_with_len f (width w)
 count_below f (leaf l) = refl
 
+-- and these follow each other
+pub numbers_are : (f : ℕ) (e : End Leaf) → numbers_below f e ≡ range_with_len f (children e)
+numbers_are f (branch w) = refl
+numbers_are f (leaf l) = refl
+
 pub has_children : (n i f : ℕ) (e : End Leaf) → AreBehind n i f e → HasChildren e
-has_children n i f (branch x c) h = h.0
+has_children n i f (branch w) h = h.0
 has_children n i f (leaf l) h = tt
 
 pub forest_of : (cells : List Cell) → IsLinked cells → (is order : List ℕ) → AreThere cells is → IsPreorder cells is order → IsForest (length is) (tree_of cells order)

@@ -5,6 +5,7 @@ use Rattle.std.specs.List.{range_with_len, slice_get}
 use Rattle.std.proofs.lemmas.List.{length-map}
 use Rattle.std.proofs.lemmas.Nat.{pow_pos}
 use Rattle.std.proofs.Math.Pow.{pow_mono}
+use Rattle.tree_rules.specs.Ways.{width}
 use Rattle.tree_rules.specs.Tree.{End, branch, leaf, HasChildren}
 use Rattle.tree_rules.specs.Leaf.{Leaf}
 use Rattle.tree_rules.specs.Accepted.{Tree}
@@ -43,7 +44,8 @@ load-range n f (suc c) h =
 
 load_below : (n i f : ℕ) (e : End Leaf) → AreBehind n i f e → i < n → load n (numbers_below f e) < 2 ^ (n - i)
 load_below n i f (leaf l) h lt = pow_pos (n - i)
-load_below n i f (branch x c) h lt =
+load_below n i f (branch w) h lt =
+    let c : ℕ = width w in
     let a = load-range n f c h.2 in
     let t = twice n i lt in
     let m : 2 ^ (n - f) ≤ 2 ^ (n - suc i) = pow_mono {i = n - f} {j = n - suc i} (let b = h.1 in omega (arith, b)) in

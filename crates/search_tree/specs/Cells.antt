@@ -5,10 +5,11 @@ use Rattle.std.specs.List.{range_with_len}
 use Rattle.pns_rules.specs.Nodes as rules
 use Rattle.pgraph.specs.View.{node_of}
 use Rattle.unit_sets.specs.declared.node.Node.{Node}
+use Rattle.tree_rules.specs.Ways.{width}
 use Rattle.tree_rules.specs.Tree.{End, branch, leaf}
 use Rattle.tree_rules.specs.Leaf.{Leaf, untried}
 
--- a node of the tree: its option, its steps, the node that these leave, the number of its first child where it is a branch, its end,
+-- a node of the tree: its option, its steps, the node that these leave, the number of its first child where it is branched, its end,
 -- and the key under which a search keeps what it works with, where the node is an open leaf
 pub record Cell : Type 0 where
   pub option : List ℕ
@@ -30,7 +31,7 @@ cell_at cells i = get_or cells i no_cell
 
 -- the numbers of the children
 abbrev pub numbers_below : ℕ → End Leaf → List ℕ
-numbers_below first (branch x c) = range_with_len first c
+numbers_below first (branch w) = range_with_len first (width w)
 numbers_below first (leaf l) = []
 
 abbrev pub children_at : List Cell → ℕ → List ℕ
@@ -43,7 +44,7 @@ times j (i ∷ is) = cond (i == j) 1 0 + times j is
 
 -- the children stand behind their parent i, which has some, and are among n cells
 abbrev pub AreBehind : ℕ → ℕ → ℕ → End Leaf → Type 0
-AreBehind n i first (branch x c) = (0 < c) × (i < first) × (first + c ≤ n)
+AreBehind n i first (branch w) = (0 < width w) × (i < first) × (first + width w ≤ n)
 AreBehind n i first (leaf l) = Unit {0}
 
 -- q is the one parent of j, once

@@ -1,10 +1,10 @@
--- The cells of a growing tree at the nodes of the search, each by itself: its steps pass and leave its node, a branch has a child
--- for each option of its material, and P tells which leaves are allowed.
-use Rattle.std.specs.Prelude.{◌≡◌, ℕ, ◌+◌, ◌<◌, true, List, [], length, map}
+-- The cells of a growing tree at the nodes of the search, each by itself: its steps pass and leave its node, a branched one has a
+-- child for each option, and P tells which leaves are allowed.
+use Rattle.std.specs.Prelude.{◌≡◌, ℕ, ◌+◌, ◌<◌, List, [], length, map}
 use Rattle.std.specs.List.{range_with_len}
 use Rattle.pns_rules.specs.Shape.{Shape}
-use Rattle.pns_rules.specs.Structure.{is_needed}
-use Rattle.pns_rules.specs.Nodes.{Node, options, child}
+use Rattle.pns_rules.specs.Nodes.{Node}
+use Rattle.tree_rules.specs.Ways.{Way, width, MayBranch, options_at, child_at}
 use Rattle.tree_rules.specs.Tree.{End, branch, leaf, StepsPass, after_all}
 use Rattle.tree_rules.specs.Leaf.{Leaf}
 use Rattle.search_tree.specs.Cells.{Cell, place_of, cell_at}
@@ -14,14 +14,14 @@ pub record Follows (g : Shape) (start : Node) (c : Cell) : Type 0 where
   pub pass : StepsPass g start c.steps
   pub leave : after_all g start c.steps ≡ place_of c
 
--- a branch of the node at the material x, whose c children begin with the cell `first`
-pub record IsBranch (g : Shape) (cells : List Cell) (n : Node) (first x c : ℕ) : Type 0 where
-  pub needed : is_needed g n.inside x ≡ true
-  pub options_are : map (λ j. (cell_at cells j).option) (range_with_len first c) ≡ options g n x
-  pub follow : (k : ℕ) → k < c → Follows g (child g n x (cell_at cells (first + k)).option) (cell_at cells (first + k))
+-- the node is branched in this way, and its children begin with the cell `first`
+pub record IsBranch (g : Shape) (cells : List Cell) (n : Node) (first : ℕ) (w : Way) : Type 0 where
+  pub may : MayBranch g n w
+  pub options_are : map (λ j. (cell_at cells j).option) (range_with_len first (width w)) ≡ options_at g n w
+  pub follow : (k : ℕ) → k < width w → Follows g (child_at g n w (cell_at cells (first + k)).option) (cell_at cells (first + k))
 
 abbrev pub EndFits : Shape → (Node → Leaf → Type 0) → List Cell → Node → ℕ → End Leaf → Type 0
-EndFits g P cells n first (branch x c) = IsBranch g cells n first x c
+EndFits g P cells n first (branch w) = IsBranch g cells n first w
 EndFits g P cells n first (leaf l) = P n l
 
 pub record Fits (g : Shape) (P : Node → Leaf → Type 0) (start : Node) (cells : List Cell) : Type 0 where

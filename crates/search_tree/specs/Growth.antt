@@ -3,6 +3,7 @@ use Rattle.std.specs.Prelude.{◌≡◌, ℕ, ◌<◌, Bool, true, false, List, 
 use Rattle.link_lists.specs.Lists.{has}
 use Rattle.node_pool.specs.Pooled.{Pooled}
 use Rattle.frac128.specs.declared.fraction.Frac.{Frac}
+use Rattle.tree_rules.specs.Ways.{at_material}
 use Rattle.tree_rules.specs.Tree.{End, branch, leaf}
 use Rattle.tree_rules.specs.Leaf.{Leaf, dead, clash, refuted, bounded, untried}
 use Rattle.search_tree.specs.declared.growth.Fresh.{Fresh}
@@ -17,7 +18,7 @@ is_open_leaf (bounded d ys) = false
 is_open_leaf untried = true
 
 abbrev pub is_open : End Leaf → Bool
-is_open (branch x c) = false
+is_open (branch w) = false
 is_open (leaf l) = is_open_leaf l
 
 -- the open leaves of the pool are the cells that end open
@@ -26,7 +27,7 @@ AreOpen p = (j : ℕ) → j < length p.payloads → has p.leaves j ≡ is_open (
 
 -- the cell as a branch at the material x with `count` children, which begin with `first`
 abbrev pub as_branch : Cell → ℕ → ℕ → ℕ → Cell
-as_branch c first x count = record { option = c.option; steps = c.steps; node = c.node; first = first; end = branch x count; key = c.key }
+as_branch c first x count = record { option = c.option; steps = c.steps; node = c.node; first = first; end = branch (at_material x count); key = c.key }
 
 -- the cells and the values of children of which the last one stands first, in their order
 abbrev pub cells_in_turn : List Fresh → List Cell

@@ -1,6 +1,5 @@
 //! The cells in preorder.
 ghost use Rattle.std.specs.Prelude.{◌≡◌, ◌<◌, ◌+◌, ◌-◌, ◌^◌, [], ◌∷◌, ◌++◌, cond, IfOk, OnOk, length};
-ghost use Rattle.tree_rules.specs.Tree.{HasChildren};
 ghost use Rattle.std.specs.List.{range_with_len};
 ghost use Rattle.branch_tree.specs.View.{end_of};
 ghost use Rattle.search_tree.specs.Cells.{IsLinked, numbers_below};
@@ -66,6 +65,7 @@ fn copy_end(alloc: Global, end: &End) -> Result<End, AllocError>
             material: *material,
             children: *children,
         }),
+        End::Either(unit) => Ok(End::Either(*unit)),
         End::Open => Ok(End::Open),
     }
 }
@@ -99,15 +99,16 @@ fn put_rest(stack: &mut Vec<Run>, run: Run) -> Result<(), AllocError>
 
 /// Puts the numbers of a node's children on top.
 fn put_children(stack: &mut Vec<Run>, cell: &Cell) -> Result<(), AllocError>
-    requires { HasChildren cell.now.end }
     ensures { OnOk result (to_come stack.new.items ≡ numbers_below cell.now.first cell.now.end ++ to_come stack.old.items) }
 {
-    if let End::Branch { children, .. } = cell.end {
-        stack.push(Run {
-            next: cell.first,
-            more: children - 1,
-        })?;
+    let children = cell.end.children();
+    if children == 0 {
+        return Ok(());
     }
+    stack.push(Run {
+        next: cell.first,
+        more: children - 1,
+    })?;
     Ok(())
 }
 
@@ -119,8 +120,7 @@ fn visit(
     stack: &mut Vec<Run>,
     nodes: &mut Vec<TreeNode>,
 ) -> Result<(), AllocError>
-    requires number { run.next < 2 ^ 32 - 1 }
-    requires children { HasChildren cell.now.end }
+    requires { run.next < 2 ^ 32 - 1 }
     ensures stack { OnOk result (to_come stack.new.items ≡ numbers_below cell.now.first cell.now.end ++ (range_with_len (run.next + 1) run.more ++ to_come stack.old.items)) }
     ensures nodes { OnOk result (nodes.new.items ≡ nodes.old.items ++ record { option = cell.now.option; steps = cell.now.steps; end = cell.now.end } ∷ []) }
 {

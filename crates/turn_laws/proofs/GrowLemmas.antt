@@ -7,6 +7,7 @@ use Rattle.problem_rules.specs.Problem.{Problem}
 use Rattle.pns_rules.specs.Shape.{Shape, shape_of}
 use Rattle.pns_rules.specs.Structure.{is_needed}
 use Rattle.pns_rules.specs.Nodes.{Node, child}
+use Rattle.tree_rules.specs.Ways.{at_material, width, child_at}
 use Rattle.flow_rules.specs.Net.{net_of}
 use Rattle.flow_rules.specs.Relaxed.{bound}
 use Rattle.pgraph.specs.View.{node_of}
@@ -78,13 +79,13 @@ end_same : (p : Problem) (claimed fallen : Option CostOver) (old new : List Cell
     → ((j : ℕ) → j < length old → IsSameBase (cell_at old j) (cell_at new j)) → AreBehind (length old) i f e
     → EndFits (shape_of p) (LeafPasses true p claimed) old n f e → EndFits (shape_of p) (LeafPasses true p fallen) new n f e
 end_same p claimed fallen old new n i f (leaf l) h po pn same behind fit = leaf_fallen p claimed fallen n l h po pn fit
-end_same p claimed fallen old new n i f (branch x c) h po pn same behind fit = record {
-  needed = fit.needed;
-  options_are = map_run (λ j. (cell_at new j).option) (λ j. (cell_at old j).option) f c (λ j le lt. (same j (let w = behind.2 in omega (arith, w, lt))).option_is) ∙ fit.options_are;
+end_same p claimed fallen old new n i f (branch w) h po pn same behind fit = record {
+  may = fit.may;
+  options_are = map_run (λ j. (cell_at new j).option) (λ j. (cell_at old j).option) f (width w) (λ j le lt. (same j (let q = behind.2 in omega (arith, q, lt))).option_is) ∙ fit.options_are;
   follow = λ k lt.
-      let b = same (f + k) (let w = behind.2 in omega (arith, w, lt)) in
-      subst (λ o. Follows (shape_of p) (child (shape_of p) n x o) (cell_at new (f + k))) (sym b.option_is)
-      (follows_same (shape_of p) (child (shape_of p) n x (cell_at old (f + k)).option) (cell_at old (f + k)) (cell_at new (f + k)) b (fit.follow k lt));
+      let b = same (f + k) (let q = behind.2 in omega (arith, q, lt)) in
+      subst (λ o. Follows (shape_of p) (child_at (shape_of p) n w o) (cell_at new (f + k))) (sym b.option_is)
+      (follows_same (shape_of p) (child_at (shape_of p) n w (cell_at old (f + k)).option) (cell_at old (f + k)) (cell_at new (f + k)) b (fit.follow k lt));
 }
 
 -- ---- a leaf is branched
@@ -94,16 +95,16 @@ module _ (p : Problem) (start : Node) (claimed fallen : Option CostOver) (old ki
     (children : AreChildren p fallen (place_of (cell_at old at)) x kids) (b : IsBranched old kids new at x) where
   same_base : (j : ℕ) → j < length old → IsSameBase (cell_at old j) (cell_at new j)
   same_base j lt = elim (cases_eq j at) [
-    | inl e ↦ subst (λ i. IsSameBase (cell_at old i) (cell_at new i)) (sym e) (base_ended (cell_at old at) (cell_at new at) (length old) (branch x (length kids)) b.key b.at_is)
+    | inl e ↦ subst (λ i. IsSameBase (cell_at old i) (cell_at new i)) (sym e) (base_ended (cell_at old at) (cell_at new at) (length old) (branch (at_material x (length kids))) b.key b.at_is)
     | inr ne ↦ base_same (cell_at old j) (cell_at new j) (b.others j lt ne)
   ]
 
   abbrev EndFitsNew : Cell → Type 0
   EndFitsNew c = EndFits (shape_of p) (LeafPasses true p fallen) new (place_of c) c.first c.end
 
-  branch_fits : IsBranch (shape_of p) new (place_of (cell_at old at)) (length old) x (length kids)
+  branch_fits : IsBranch (shape_of p) new (place_of (cell_at old at)) (length old) (at_material x (length kids))
   branch_fits = record {
-    needed = needed;
+    may = needed;
     options_are = map_list (λ j. (cell_at new j).option) kids (length old) (λ k lt. ap (λ (c : Cell). c.option) (b.kids_are k lt)) ∙ children.options_are;
     follow = λ k lt. subst (λ (c : Cell). Follows (shape_of p) (child (shape_of p) (place_of (cell_at old at)) x c.option) c) (sym (b.kids_are k lt)) (children.each k lt).follows;
   }

@@ -91,7 +91,7 @@ module _ (p : Problem) (valid : IsValid p) (start : Node) (claim new_claim : Cla
   other_leaf n untried h = h refl
 
   other_end : (n : Node) (e : End Leaf) → EndIsKept p last n e → (e ≡ leaf untried → IsNever (IsDead (shape_of p) n) → IsUnder p v n) → EndIsKept p (Some v) n e
-  other_end n (branch y c) k h = record { reduced = k.reduced; splits = k.splits; reached = reaches_now last refl n k.reached }
+  other_end n (branch w) k h = record { reduced = k.reduced; splits = k.splits; reached = reaches_now last refl n k.reached }
   other_end n (leaf l) k h = other_leaf n l (λ e. h (ap (λ (w : Leaf). leaf w) e))
 
   -- a child is no cheaper than the leaf

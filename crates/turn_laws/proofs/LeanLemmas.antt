@@ -86,10 +86,10 @@ module _ (p : Problem) (start : Node) (claim : Claim) (last : Option CostOver) (
 
   pub kept_is_lean : IsLean p IsUntried (claimed_cost claim) start (tree_of cells order)
   kept_is_lean = record {
-    reduced = λ k x c n s. (end_at k n (branch x c) s).reduced;
-    splits = λ k x c n s. (end_at k n (branch x c) s).splits;
-    of_use = λ k x c n s. of_use last refl n (end_at k n (branch x c) s).reached;
-    in_turn = λ k x c n s j m l t u no_dead. in_turn last refl n m (end_at k n (branch x c) s).reached (open_at m l (end_at j m (leaf l) t) u no_dead);
+    reduced = λ k w n s. (end_at k n (branch w) s).reduced;
+    splits = λ k w n s. (end_at k n (branch w) s).splits;
+    of_use = λ k w n s. of_use last refl n (end_at k n (branch w) s).reached;
+    in_turn = λ k w n s j m l t u no_dead. in_turn last refl n m (end_at k n (branch w) s).reached (open_at m l (end_at j m (leaf l) t) u no_dead);
   }
 
   pub whole_is_accepted : ClaimPasses true p claim → (claim ≡ unknown → ⊥) → ((i : ℕ) → i < length cells → (cell_at cells i).end ≡ leaf untried → ⊥) → IsAccepted p start claim (tree_of cells order)

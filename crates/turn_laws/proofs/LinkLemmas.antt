@@ -2,6 +2,7 @@
 use Rattle.std.proofs.Common.{◌≡◌, ℕ, zero, suc, ◌+◌, ◌-◌, ◌<◌, ◌≤◌, ◌==◌, Bool, true, false, cond, List, [], length, refl, sym, ap, ◌∙◌, subst, arith, inl, inr, ◌⊎◌, eq-eqb, ne_eqb}
 use Rattle.std.specs.List.{range_with_len}
 use Rattle.std.proofs.lemmas.Bool.{cases_eq, cases_lt}
+use Rattle.tree_rules.specs.Ways.{width}
 use Rattle.tree_rules.specs.Tree.{End, branch, leaf}
 use Rattle.tree_rules.specs.Leaf.{Leaf, untried}
 use Rattle.search_tree.specs.Cells.{Cell, cell_at, times, numbers_below, children_at, AreBehind, IsParentOf, IsLinked}
@@ -40,11 +41,11 @@ once_within j f (suc c) h k = elim (cases_eq f j) [
 
 -- ---- ends
 behind_more : (n m i f : ℕ) (e : End Leaf) → n ≤ m → AreBehind n i f e → AreBehind m i f e
-behind_more n m i f (branch x c) h b = let w = b.2 in (b.0, b.1, omega (arith, h, w))
+behind_more n m i f (branch w) h b = let q = b.2 in (b.0, b.1, omega (arith, h, q))
 behind_more n m i f (leaf l) h b = tt
 
 none_past : (n i f j : ℕ) (e : End Leaf) → AreBehind n i f e → n ≤ j → times j (numbers_below f e) ≡ 0
-none_past n i f j (branch x c) b h = let w = b.2 in not_above j f c (omega (arith, h, w))
+none_past n i f j (branch w) b h = let q = b.2 in not_above j f (width w) (omega (arith, h, q))
 none_past n i f j (leaf l) b h = refl
 
 leaf_behind : (n i f : ℕ) (e : End Leaf) (l : Leaf) → e ≡ leaf l → AreBehind n i f e

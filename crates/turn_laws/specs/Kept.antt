@@ -1,10 +1,11 @@
 -- What a search keeps between two turns. One number ties its nodes together: the value of the leaf that was branched last. Each
 -- branch has relaxed flows that cost at most so much, and no open leaf has cheaper ones. Both are said of each node by itself.
-use Rattle.std.specs.Prelude.{ℕ, ◌≤◌, ◌<◌, true, List, length, Option, Some, None}
+use Rattle.std.specs.Prelude.{ℕ, ◌<◌, true, List, length, Option, Some, None}
 use Rattle.problem_rules.specs.Problem.{Problem}
 use Rattle.pns_rules.specs.Shape.{shape_of}
-use Rattle.pns_rules.specs.Nodes.{Node, options}
+use Rattle.pns_rules.specs.Nodes.{Node}
 use Rattle.pns_rules.specs.Ends.{IsSound, IsDead, IsNever, IsReduced}
+use Rattle.tree_rules.specs.Ways.{Way, IsDecision}
 use Rattle.tree_rules.specs.Tree.{End, branch, leaf}
 use Rattle.tree_rules.specs.Leaf.{Leaf, dead, clash, refuted, bounded, untried}
 use Rattle.tree_rules.specs.Claim.{Claim, CostOver, claimed_cost, IsAtMost}
@@ -23,9 +24,9 @@ abbrev pub ReachesLast : Problem → Option CostOver → Node → Type 0
 ReachesLast p None n = ⊥
 ReachesLast p (Some v) n = HasCheaper p n v.cost v.d
 
-pub record BranchIsKept (p : Problem) (last : Option CostOver) (n : Node) (x : ℕ) : Type 0 where
+pub record BranchIsKept (p : Problem) (last : Option CostOver) (n : Node) (w : Way) : Type 0 where
   pub reduced : IsReduced (shape_of p) n
-  pub splits : 2 ≤ length (options (shape_of p) n x)
+  pub splits : IsDecision (shape_of p) n w
   pub reached : ReachesLast p last n
 
 abbrev pub LeafIsKept : Problem → Option CostOver → Node → Leaf → Type 0
@@ -36,7 +37,7 @@ LeafIsKept p last n (bounded d ys) = Unit {0}
 LeafIsKept p last n untried = IsNever (IsDead (shape_of p) n) → IsFromLast p last n
 
 abbrev pub EndIsKept : Problem → Option CostOver → Node → End Leaf → Type 0
-EndIsKept p last n (branch x c) = BranchIsKept p last n x
+EndIsKept p last n (branch w) = BranchIsKept p last n w
 EndIsKept p last n (leaf l) = LeafIsKept p last n l
 
 -- the value is at most what is claimed

@@ -4,6 +4,7 @@ use Rattle.problem_rules.specs.Problem.{Problem}
 use Rattle.pns_rules.specs.Shape.{shape_of}
 use Rattle.pns_rules.specs.Nodes.{Node, options, child}
 use Rattle.pns_rules.specs.Ends.{IsSound, IsDead, IsUndecided, IsNever, IsReduced}
+use Rattle.tree_rules.specs.Ways.{at_material}
 use Rattle.tree_rules.specs.Tree.{End, branch, leaf}
 use Rattle.tree_rules.specs.Leaf.{Leaf, untried, LeafPasses}
 use Rattle.tree_rules.specs.Claim.{CostOver}
@@ -49,7 +50,7 @@ pub record IsBranched (old kids new : List Cell) (at x : ℕ) : Type 0 where
   pub len : length new ≡ length old + length kids
   pub others : (j : ℕ) → j < length old → (j ≡ at → ⊥) → cell_at new j ≡ cell_at old j
   pub key : ℕ
-  pub at_is : cell_at new at ≡ with_end (cell_at old at) (length old) (branch x (length kids)) key
+  pub at_is : cell_at new at ≡ with_end (cell_at old at) (length old) (branch (at_material x (length kids))) key
   pub kids_are : (k : ℕ) → k < length kids → cell_at new (length old + k) ≡ cell_at kids k
 
 -- ---- open leaves are shut

@@ -1,14 +1,13 @@
 use Rattle.std.proofs.Common.{◌≡◌, ◌+◌, ◌<◌, ◌==◌, cond, List, [], ◌∷◌, ◌++◌, length, sym, ap, ◌∙◌, subst, arith, rules}
 use Rattle.std.specs.List.{range_with_len}
 use Rattle.std.proofs.lemmas.Option.{get_or_from_slice_get}
-use Rattle.tree_rules.specs.Tree.{HasChildren}
 use Rattle.tree_rules.specs.Accepted.{Tree}
 use Rattle.search_tree.specs.declared.walk.Run.{Run}
 use Rattle.search_tree.specs.Cells.{Cell, no_cell, cell_at, numbers_below, children_at}
 use Rattle.search_tree.specs.Preorder.{node_at, IsTreeOf}
 use Rattle.search_tree.specs.Runs.{to_come}
 use Rattle.search_tree.proofs.RunLemmas.{to_come-push, come_none}
-use Rattle.search_tree.proofs.WalkLemmas.{IsWalk, load, load_falls, children_some, walk_goes_on, walk_ends}
+use Rattle.search_tree.proofs.WalkLemmas.{IsWalk, load, load_falls, walk_goes_on, walk_ends}
 use Rattle.search_tree.proofs.walk.nodes_in_preorder.Goals as goal
 
 pub payload-cell-requires : goal.payload-cell-requires
@@ -22,8 +21,8 @@ payload-cell-requires c =
     let same = c.is_pool.ensures.payloads in
     omega (arith, there, same)
 
-pub visit-requires-clause-number : goal.visit-requires-clause-number
-visit-requires-clause-number c =
+pub visit-requires : goal.visit-requires
+visit-requires c =
     let cells = c.args.pool.now.payloads in
     let run = c.in-Some.run' in
     let stack = c.pop.new.self.items in
@@ -33,16 +32,6 @@ visit-requires-clause-number c =
     let same = c.is_pool.ensures.payloads in
     let few = c.is_pool.ensures.numbered in
     omega (arith, there, same, few)
-
-pub visit-requires-clause-children : goal.visit-requires-clause-children
-visit-requires-clause-children c =
-    let cells = c.args.pool.now.payloads in
-    let run = c.in-Some.run' in
-    let stack = c.pop.new.self.items in
-    let walk = subst (λ xs. IsWalk cells c.args.wanted xs c.walk.nodes.items c.walk.place) (to_come-push stack run)
-    (subst (λ (xs : List Run). IsWalk cells c.args.wanted (to_come xs) c.walk.nodes.items c.walk.place) c.in-Some.ensures.items c.walk.invariant) in
-    let item : cell_at cells run.next ≡ c.payload-cell.result.now = get_or_from_slice_get cells run.next c.payload-cell.result.now no_cell c.payload-cell.ensures in
-    subst (λ (x : Cell). HasChildren x.end) item (children_some cells c.requires.linked run.next walk.there.0)
 
 pub walk-smaller : goal.walk-smaller
 walk-smaller c =
