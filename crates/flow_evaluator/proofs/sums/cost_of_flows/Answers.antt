@@ -38,7 +38,7 @@ returns-in-Err-clause-past c =
     let split = is_split p n c.requires.sound c.requires.decided in
     let same = units_inside p c.args.node.now c.rises.ensures.rising c.requires.sound split c.split_flows_are_least.ensures.units in
     let fits : SFits w128 c.flow_den.result = search rules in
-    let first : IsFirstPast (feasible_steps (net_of p) n.inside (beside c.args.node.now.inside c.flows.result.now) c.flow_den.result) at = simp to_z-of_z at c.in-Err.ensures.past in
+    let first : IsFirstPast (feasible_steps (net_of p) n.inside (beside c.args.node.now.inside c.flows.result.now) c.flow_den.result) at = c.in-Err.ensures.past in
     record {
       past = c.balance_is_past.ensures (net_of p) n (program_of (net_of p) n) b at refl c.requires.least c.requires.flows
           (c.split_flows_are_least.ensures.decided (net_of p) n split)
