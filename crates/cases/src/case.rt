@@ -8,7 +8,7 @@ use studio::studio;
 const ROOM: u64 = 1_000_000;
 
 /// The part of the output that a case looks at.
-#[derive(Clone, Copy, Debug, PartialEq, Eq)]
+#[derive(Clone, Copy)]
 pub(crate) enum Side {
     /// All of it.
     Whole,

@@ -4,7 +4,7 @@ use crate::fault::{Fault, Stop};
 use std::alloc::{AllocError, Global};
 
 /// A line that writes or changes bytes.
-#[derive(Clone, Copy, Debug)]
+#[derive(Clone, Copy)]
 pub(crate) enum Content<'a> {
     /// The text and a line feed.
     Line(&'a str),

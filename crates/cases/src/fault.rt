@@ -4,7 +4,7 @@ use std::alloc::{AllocError, AllocFailed};
 use std::{fmt, io};
 
 /// What is wrong with a line of a case file.
-#[derive(Clone, Copy, Debug, PartialEq, Eq)]
+#[derive(Clone, Copy)]
 pub(crate) enum Fault {
     /// The line begins with none of the words that it may begin with.
     Unknown,
@@ -43,7 +43,7 @@ impl fmt::Display for Fault {
 }
 
 /// Why no further line is done.
-#[derive(Debug, Drop)]
+#[derive(Drop)]
 pub(crate) enum Stop {
     /// A line has a fault.
     Fault(Fault),

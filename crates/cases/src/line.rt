@@ -5,7 +5,7 @@ use crate::content::Content;
 use crate::fault::Fault;
 
 /// What a line of a case file says.
-#[derive(Clone, Copy, Debug)]
+#[derive(Clone, Copy)]
 pub(crate) enum Line<'a> {
     /// A remark.
     Remark,
