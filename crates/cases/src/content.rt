@@ -91,7 +91,7 @@ fn behind_lines(bytes: &[u8], lines: u64) -> Option<usize> {
     }
     for (place, byte) in bytes.iter().enumerate() {
         if *byte == b'\n' {
-            left -= 1;
+            left = left.saturating_sub(1);
             if left == 0 {
                 return Some(place.saturating_add(1));
             }
