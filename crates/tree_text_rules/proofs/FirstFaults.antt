@@ -20,6 +20,9 @@ firsts =
     (body (codes "unknown" ∷ codes "node" ∷ codes "open" ∷ []) ++ codes "end", (5, BadLine)) ∷
     (body (codes "unknown" ∷ codes "node" ∷ codes "open" ∷ []) ++ codes "node", (5, MoreNodes)) ∷
     (body (codes "unknown" ∷ codes "node" ∷ codes "branch A 2" ∷ codes "node" ∷ codes "open" ∷ []) ++ codes "end", (7, FewerNodes)) ∷
+    (body (codes "unknown" ∷ codes "node" ∷ codes "either U1" ∷ codes "node U1" ∷ codes "open" ∷ codes "end" ∷ []), (7, FewerNodes)) ∷
+    (body (codes "unknown" ∷ codes "node" ∷ codes "either U1" ∷ codes "node U1" ∷ codes "open" ∷ []), (7, BadLine)) ∷
+    (body (codes "unknown" ∷ codes "node" ∷ codes "either U1" ∷ codes "node" ∷ codes "open" ∷ codes "node" ∷ codes "open" ∷ codes "node" ∷ []), (9, MoreNodes)) ∷
     (body (codes "unknown" ∷ codes "node" ∷ codes "open" ∷ codes "end" ∷ []) ++ 32 ∷ [], (6, AfterEnd)) ∷
     (body (codes "unknown" ∷ codes "node" ∷ codes "open" ∷ codes "end" ∷ codes "end" ∷ []), (6, AfterEnd)) ∷
     (body (codes "unknown" ∷ codes "node" ∷ codes "dead Q" ∷ codes "node" ∷ []), (4, UnknownName)) ∷

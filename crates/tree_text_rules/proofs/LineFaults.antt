@@ -40,6 +40,12 @@ parts =
     (codes "branch C -1", BadNumber) ∷
     (codes "branch C 4294967296", BadNumber) ∷
     (codes "branch Q 0", UnknownName) ∷
+    (codes "either", BadLine) ∷
+    (codes "either U3 2", BadLine) ∷
+    (codes "either  U3", BadLine) ∷
+    (codes "Either U3", BadLine) ∷
+    (codes "either U9", UnknownName) ∷
+    (codes "either C", UnknownName) ∷
     (codes "bound", BadLine) ∷
     (codes "bound A", BadNumber) ∷
     (codes "bound 1 -0", BadNumber) ∷
@@ -71,6 +77,32 @@ children =
 children_told : Told (codes "unknown" ∷ codes "node" ∷ codes "branch A 1" ∷ []) (codes "open" ∷ codes "end" ∷ []) 5 children
 unfolding children word_named nodes_taken
 children_told = refl
+
+-- where the line of the second child must come
+seconds : List (List ℕ × TreeKind)
+seconds =
+    (codes "end", FewerNodes) ∷
+    (codes "spent 0 2", FewerNodes) ∷
+    (codes "past 0", FewerNodes) ∷
+    (codes "open", BadLine) ∷
+    (codes "node U9", UnknownName) ∷
+    []
+
+seconds_told : Told (codes "unknown" ∷ codes "node" ∷ codes "either U3" ∷ codes "node U3" ∷ codes "open" ∷ []) (codes "open" ∷ codes "end" ∷ []) 7 seconds
+unfolding seconds word_named nodes_taken
+seconds_told = refl
+
+-- behind the second child
+thirds : List (List ℕ × TreeKind)
+thirds =
+    (codes "node", MoreNodes) ∷
+    (codes "node U9", MoreNodes) ∷
+    (codes "either U1", BadLine) ∷
+    []
+
+thirds_told : Told (codes "unknown" ∷ codes "node" ∷ codes "either U3" ∷ codes "node U3" ∷ codes "open" ∷ codes "node" ∷ codes "open" ∷ []) (codes "open" ∷ codes "end" ∷ []) 9 thirds
+unfolding thirds word_named nodes_taken
+thirds_told = refl
 
 -- where the root's line must come
 roots : List (List ℕ × TreeKind)

@@ -1,4 +1,4 @@
--- The text of a plant of five units: it is spelled as it stands, and it reads as it was.
+-- Texts of a plant of five units: each is spelled as it stands, and it reads as it was.
 use Rattle.std.proofs.Common.{◌≡◌, ◌++◌, ℕ, pos, negsuc, List, [], ◌∷◌, map, codes, refl, Ok, Some, None}
 use Rattle.std.specs.Fmt.{digits}
 use Rattle.pns_rules.specs.Nodes.{raw, rival, starve, loose, sole}
@@ -7,6 +7,7 @@ use Rattle.flow_program.specs.declared.place.Column.TheVariants as columns
 use Rattle.flow_program.specs.declared.place.FlowStep.TheVariants as flows
 use Rattle.flow_program.specs.declared.place.Place.{Place}
 use Rattle.flow_program.specs.declared.place.Place.TheVariants as places
+use Rattle.tree_rules.specs.Ways.{at_material, either}
 use Rattle.tree_rules.specs.Tree.{TreeNode, branch, leaf}
 use Rattle.tree_rules.specs.Leaf.{Leaf, dead, clash, refuted, bounded, untried}
 use Rattle.tree_rules.specs.Claim.{Claim, network, infeasible, unknown}
@@ -29,7 +30,7 @@ bound_leaf option y z = record { option = option; steps = []; end = leaf (bounde
 
 abbrev solved : Tree
 solved =
-    record { option = []; steps = starve 3 ∷ loose (4 ∷ []) ∷ sole 5 2 ∷ []; end = branch 2 3 }
+    record { option = []; steps = starve 3 ∷ loose (4 ∷ []) ∷ sole 5 2 ∷ []; end = branch (at_material 2 3) }
     ∷ bound_leaf (0 ∷ []) 3000000 3000000
     ∷ bound_leaf (1 ∷ []) 4000000 4000000
     ∷ record { option = 0 ∷ 1 ∷ []; steps = []; end = leaf (bounded (pos 1) (pos 0 ∷ pos 0 ∷ pos 3000000 ∷ pos 3000000 ∷ [])) }
@@ -59,10 +60,59 @@ solved_is : IsTextOf solved_text (record { claim = claimed; tree = solved; tail 
 unfolding digits nodes_taken word_named
 solved_is = (refl, refl)
 
+-- a tree that branches in two at U3, at U1 and at U2
+abbrev halves_claim : Claim
+halves_claim = network (record { units = 2 ∷ 3 ∷ []; sizes = pos 20000000 ∷ pos 20000000 ∷ []; d = pos 1; cost = pos 65000000000000000000 })
+
+abbrev halved : List ℕ → ℕ → TreeNode Leaf
+halved option u = record { option = option; steps = []; end = branch (either u) }
+
+abbrev shut_leaf : List ℕ → List ℕ → TreeNode Leaf
+shut_leaf option ys = record { option = option; steps = []; end = leaf (bounded (pos 1) (map pos ys)) }
+
+abbrev halves : Tree
+halves =
+    record { option = []; steps = sole 5 3 ∷ []; end = branch (either 2) }
+    ∷ halved (2 ∷ []) 0
+    ∷ shut_leaf (0 ∷ []) (0 ∷ 0 ∷ 2000000 ∷ 2000000 ∷ [])
+    ∷ halved [] 1
+    ∷ shut_leaf (1 ∷ []) (0 ∷ 0 ∷ 2000000 ∷ 2000000 ∷ [])
+    ∷ shut_leaf [] (0 ∷ 2000000 ∷ 2000000 ∷ [])
+    ∷ shut_leaf [] (0 ∷ 0 ∷ 3100000 ∷ 3100000 ∷ [])
+    ∷ []
+
+abbrev halves_text : List ℕ
+halves_text = body (
+    codes "network U3 U4"
+    ∷ codes "sizes 1 20000000 20000000"
+    ∷ codes "cost 65000000000000000000"
+    ∷ codes "node"
+    ∷ codes "sole P U4"
+    ∷ codes "either U3"
+    ∷ codes "node U3"
+    ∷ codes "either U1"
+    ∷ codes "node U1"
+    ∷ codes "bound 1 0 0 2000000 2000000"
+    ∷ codes "node"
+    ∷ codes "either U2"
+    ∷ codes "node U2"
+    ∷ codes "bound 1 0 0 2000000 2000000"
+    ∷ codes "node"
+    ∷ codes "bound 1 0 2000000 2000000"
+    ∷ codes "node"
+    ∷ codes "bound 1 0 0 3100000 3100000"
+    ∷ codes "end"
+    ∷ []
+    )
+
+halves_are : IsTextOf halves_text (record { claim = halves_claim; tree = halves; tail = whole })
+unfolding digits nodes_taken word_named
+halves_are = (refl, refl)
+
 -- each form of a step, an end and a claim
 abbrev forms : Tree
 forms =
-    record { option = []; steps = raw 0 ∷ rival 1 ∷ starve 0 ∷ loose [] ∷ loose (0 ∷ 4 ∷ []) ∷ []; end = branch 5 5 }
+    record { option = []; steps = raw 0 ∷ rival 1 ∷ starve 0 ∷ loose [] ∷ loose (0 ∷ 4 ∷ []) ∷ []; end = branch (at_material 5 5) }
     ∷ record { option = 0 ∷ []; steps = []; end = leaf (dead 1) }
     ∷ record { option = []; steps = []; end = leaf (clash 0) }
     ∷ record { option = []; steps = []; end = leaf (refuted []) }

@@ -7,6 +7,7 @@ use Rattle.pns_rules.specs.Nodes as nodes
 use Rattle.flow_program.specs.declared.place.Column.{Column}
 use Rattle.flow_program.specs.declared.place.Place.{Place}
 use Rattle.flow_program.specs.declared.place.Place.TheVariants as places
+use Rattle.tree_rules.specs.Ways as ways
 use Rattle.tree_rules.specs.Tree as trees
 use Rattle.tree_rules.specs.Leaf as leaves
 use Rattle.tree_text_rules.specs.Line.{Token, Line, word_of, fields_of, is_formed, file_type}
@@ -62,7 +63,8 @@ end_by p (Some words.Dead) fields = mapped (λ x. trees.leaf (leaves.dead x)) (o
 end_by p (Some words.Clash) fields = mapped (λ k. trees.leaf (leaves.clash k)) (one (exclusion_of p) fields)
 end_by p (Some words.Refuted) fields = mapped (λ ys. trees.leaf (leaves.refuted ys)) (each number_of fields)
 end_by p (Some words.Bound) fields = mapped (λ found. trees.leaf (leaves.bounded found.0 found.1)) (one_and_more number_of number_of fields)
-end_by p (Some words.Branch) fields = mapped (λ found. trees.branch found.0 found.1) (two (material_of p) children_of fields)
+end_by p (Some words.Branch) fields = mapped (λ found. trees.branch (ways.at_material found.0 found.1)) (two (material_of p) children_of fields)
+end_by p (Some words.Either) fields = mapped (λ u. trees.branch (ways.either u)) (one (unit_of p) fields)
 end_by p (Some words.Open) fields = alone (trees.leaf leaves.untried) fields
 end_by p word fields = Err BadLine
 

@@ -13,6 +13,7 @@ use Rattle.flow_program.specs.declared.place.FlowStep.{FlowStep}
 use Rattle.flow_program.specs.declared.place.FlowStep.TheVariants as flows
 use Rattle.flow_program.specs.declared.place.Place.{Place}
 use Rattle.flow_program.specs.declared.place.Place.TheVariants as places
+use Rattle.tree_rules.specs.Ways as ways
 use Rattle.tree_rules.specs.Tree as trees
 use Rattle.tree_rules.specs.Leaf as leaves
 use Rattle.tree_rules.specs.Claim as claims
@@ -45,7 +46,8 @@ end_line p (trees.leaf (leaves.clash k)) = word_text words.Clash ∷ exclusion_n
 end_line p (trees.leaf (leaves.refuted ys)) = word_text words.Refuted ∷ map signed_decimal ys
 end_line p (trees.leaf (leaves.bounded d ys)) = word_text words.Bound ∷ signed_decimal d ∷ map signed_decimal ys
 end_line p (trees.leaf leaves.untried) = word_text words.Open ∷ []
-end_line p (trees.branch x c) = word_text words.Branch ∷ material_name p x ∷ decimal c ∷ []
+end_line p (trees.branch (ways.at_material x c)) = word_text words.Branch ∷ material_name p x ∷ decimal c ∷ []
+end_line p (trees.branch (ways.either u)) = word_text words.Either ∷ unit_name p u ∷ []
 
 abbrev pub option_line : Problem → List ℕ → List Token
 option_line p us = word_text words.Node ∷ map (unit_name p) us

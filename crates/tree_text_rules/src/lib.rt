@@ -50,6 +50,7 @@ pub enum Word {
     Refuted,
     Bound,
     Branch,
+    Either,
     Open,
     Spent,
     Past,
