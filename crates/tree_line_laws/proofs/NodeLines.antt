@@ -1,5 +1,5 @@
 -- The lines of a node, both ways.
-use Rattle.std.proofs.Common.{◌≡◌, Bool, true, ℕ, ℤ, List, [], ◌∷◌, map, decimal, Option, Some, None, Result, Ok, refl, sym, ◌∙◌, ap, ap₂, subst}
+use Rattle.std.proofs.Common.{◌≡◌, ◌<◌, Bool, true, ℕ, ℤ, List, [], ◌∷◌, map, decimal, arith, Option, Some, None, Result, Ok, refl, sym, ◌∙◌, ap, ap₂, subst}
 use Rattle.std.specs.Fmt.{signed_decimal}
 use Rattle.std.proofs.lemmas.List.Elements.{All-cons, All-nil, All-head, All-tail}
 use Rattle.int_rows.specs.Range.{InRange, AllInRange}
@@ -7,6 +7,7 @@ use Rattle.problem_rules.specs.Each.{Each}
 use Rattle.problem_rules.specs.Problem.{Problem}
 use Rattle.problem_rules.specs.WellFormed.{IsWellFormed}
 use Rattle.pns_rules.specs.Nodes as nodes
+use Rattle.tree_rules.specs.Ways as ways
 use Rattle.tree_rules.specs.Tree as trees
 use Rattle.tree_rules.specs.Leaf as leaves
 use Rattle.branch_tree.specs.Known.{IsUnit, IsMaterial, IsExclusion, AreUnits, KnowsStep}
@@ -157,7 +158,8 @@ module _ (p : Problem) (good : IsWellFormed p) where
   end_word (trees.leaf (leaves.refuted ys)) = words.Refuted
   end_word (trees.leaf (leaves.bounded d ys)) = words.Bound
   end_word (trees.leaf leaves.untried) = words.Open
-  end_word (trees.branch x c) = words.Branch
+  end_word (trees.branch (ways.at_material x c)) = words.Branch
+  end_word (trees.branch (ways.either u)) = words.Either
 
   abbrev end_fields : trees.End leaves.Leaf → List Token
   end_fields (trees.leaf (leaves.dead x)) = material_name p x ∷ []
@@ -165,7 +167,8 @@ module _ (p : Problem) (good : IsWellFormed p) where
   end_fields (trees.leaf (leaves.refuted ys)) = map signed_decimal ys
   end_fields (trees.leaf (leaves.bounded d ys)) = signed_decimal d ∷ map signed_decimal ys
   end_fields (trees.leaf leaves.untried) = []
-  end_fields (trees.branch x c) = material_name p x ∷ decimal c ∷ []
+  end_fields (trees.branch (ways.at_material x c)) = material_name p x ∷ decimal c ∷ []
+  end_fields (trees.branch (ways.either u)) = unit_name p u ∷ []
 
   end_is : (e : trees.End leaves.Leaf) → word_text (end_word e) ∷ end_fields e ≡ end_line p e
   end_is (trees.leaf (leaves.dead x)) = refl
@@ -173,7 +176,8 @@ module _ (p : Problem) (good : IsWellFormed p) where
   end_is (trees.leaf (leaves.refuted ys)) = refl
   end_is (trees.leaf (leaves.bounded d ys)) = refl
   end_is (trees.leaf leaves.untried) = refl
-  end_is (trees.branch x c) = refl
+  end_is (trees.branch (ways.at_material x c)) = refl
+  end_is (trees.branch (ways.either u)) = refl
 
   end_tokens : (e : trees.End leaves.Leaf) → FitsEnd p e → Each IsToken (end_fields e)
   end_tokens (trees.leaf (leaves.dead x)) fits = one_material.tokens x fits.known
@@ -181,7 +185,8 @@ module _ (p : Problem) (good : IsWellFormed p) where
   end_tokens (trees.leaf (leaves.refuted ys)) fits = numbers_fields.tokens ys fits.known
   end_tokens (trees.leaf (leaves.bounded d ys)) fits = bounding.tokens (d, ys) (fits.known.0, all_each ys fits.known.1)
   end_tokens (trees.leaf leaves.untried) fits = tt
-  end_tokens (trees.branch x c) fits = branching.tokens (x, c) (fits.known, (fits.some, fits.counted))
+  end_tokens (trees.branch (ways.at_material x c)) fits = branching.tokens (x, c) (fits.known, (fits.some, fits.counted))
+  end_tokens (trees.branch (ways.either u)) fits = one_unit.tokens u fits.known
 
   end_again : (e : trees.End leaves.Leaf) → FitsEnd p e → end_by p (Some (end_word e)) (end_fields e) ≡ Ok e
   end_again (trees.leaf (leaves.dead x)) fits = ap (mapped (λ x. trees.leaf (leaves.dead x))) (one_material.again x fits.known)
@@ -189,7 +194,11 @@ module _ (p : Problem) (good : IsWellFormed p) where
   end_again (trees.leaf (leaves.refuted ys)) fits = ap (mapped (λ ys. trees.leaf (leaves.refuted ys))) (numbers_fields.again ys fits.known)
   end_again (trees.leaf (leaves.bounded d ys)) fits = ap (mapped (λ found. trees.leaf (leaves.bounded found.0 found.1))) (bounding.again (d, ys) (fits.known.0, all_each ys fits.known.1))
   end_again (trees.leaf leaves.untried) fits = refl
-  end_again (trees.branch x c) fits = ap (mapped (λ found. trees.branch found.0 found.1)) (branching.again (x, c) (fits.known, (fits.some, fits.counted)))
+  end_again (trees.branch (ways.at_material x c)) fits = ap (mapped (λ found. trees.branch (ways.at_material found.0 found.1))) (branching.again (x, c) (fits.known, (fits.some, fits.counted)))
+  end_again (trees.branch (ways.either u)) fits = ap (mapped (λ u. trees.branch (ways.either u))) (one_unit.again u fits.known)
+
+  two_children : 0 < 2
+  two_children = omega arith
 
   abbrev SpellsEnd : Option Word → List Token → trees.End leaves.Leaf → Type 0
   SpellsEnd word tokens e = (word ≡ Some (end_word e)) × (tokens ≡ end_fields e) × FitsEnd p e
@@ -205,8 +214,10 @@ module _ (p : Problem) (good : IsWellFormed p) where
       mapped_back (λ found. trees.leaf (leaves.bounded found.0 found.1)) (one_and_more number_of number_of) (λ c. signed_decimal c.0 ∷ map signed_decimal c.1) (λ c. InRange c.0 × Each InRange c.1) bounding (SpellsEnd (Some words.Bound) tokens) tokens
       (λ c is known. (refl, is, record { known = (known.0, each_all c.1 known.1); some = tt; counted = tt })) e f
   end_back (Some words.Branch) tokens e f =
-      mapped_back (λ found. trees.branch found.0 found.1) (two (material_of p) children_of) (λ c. material_name p c.0 ∷ decimal c.1 ∷ []) (λ c. IsMaterial p c.0 × IsSomeCount c.1) branching (SpellsEnd (Some words.Branch) tokens) tokens
+      mapped_back (λ found. trees.branch (ways.at_material found.0 found.1)) (two (material_of p) children_of) (λ c. material_name p c.0 ∷ decimal c.1 ∷ []) (λ c. IsMaterial p c.0 × IsSomeCount c.1) branching (SpellsEnd (Some words.Branch) tokens) tokens
       (λ c is known. (refl, is, record { known = known.0; some = known.1.0; counted = known.1.1 })) e f
+  end_back (Some words.Either) tokens e f =
+      mapped_back (λ u. trees.branch (ways.either u)) (one (unit_of p)) (λ u. unit_name p u ∷ []) (IsUnit p) one_unit (SpellsEnd (Some words.Either) tokens) tokens (λ u is known. (refl, is, record { known = known; some = two_children; counted = tt })) e f
   end_back (Some words.Open) tokens e f =
       let a = alone_ok (trees.leaf leaves.untried) e tokens f in
       subst (λ (x : trees.End leaves.Leaf). SpellsEnd (Some words.Open) tokens x) a.1 (refl, a.0, record { known = tt; some = tt; counted = tt })
@@ -228,7 +239,8 @@ module _ (p : Problem) (good : IsWellFormed p) where
   no_step (trees.leaf (leaves.refuted ys)) tokens = refl
   no_step (trees.leaf (leaves.bounded d ys)) tokens = refl
   no_step (trees.leaf leaves.untried) tokens = refl
-  no_step (trees.branch x c) tokens = refl
+  no_step (trees.branch (ways.at_material x c)) tokens = refl
+  no_step (trees.branch (ways.either u)) tokens = refl
 
   -- the line of an end is no step
   pub end_no_step : (e : trees.End leaves.Leaf) → FitsEnd p e → step_read p (line_of (end_line p e)) ≡ None

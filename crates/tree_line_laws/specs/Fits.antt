@@ -6,6 +6,7 @@ use Rattle.problem_rules.specs.Each.{Each}
 use Rattle.problem_rules.specs.Problem.{Problem}
 use Rattle.flow_program.specs.declared.place.Place.{Place}
 use Rattle.flow_program.specs.declared.place.Place.TheVariants as places
+use Rattle.tree_rules.specs.Ways as ways
 use Rattle.tree_rules.specs.Tree as trees
 use Rattle.tree_rules.specs.Leaf as leaves
 use Rattle.branch_tree.specs.Known.{KnowsEnd, KnowsPlace}
@@ -30,7 +31,8 @@ abbrev pub FitsSizes : ℕ → ℤ × List ℤ → Type 0
 FitsSizes count c = (IsDenominator c.0 × Each InRange c.1) × (length c.1 ≡ count)
 
 abbrev pub CountsEnd : trees.End leaves.Leaf → Type 0
-CountsEnd (trees.branch x c) = IsCount c
+CountsEnd (trees.branch (ways.at_material x c)) = IsCount c
+CountsEnd (trees.branch (ways.either u)) = Unit {0}
 CountsEnd (trees.leaf l) = Unit {0}
 
 pub record FitsEnd (p : Problem) (end : trees.End leaves.Leaf) : Type 0 where
