@@ -14,7 +14,7 @@ use crate::apart::LineParts;
 use crate::cut::next_token;
 use crate::line_fault::LineFault;
 use crate::list::numbers_of;
-use crate::some_tokens::{material_and_children, one_exclusion, one_material};
+use crate::some_tokens::{material_and_children, one_exclusion, one_material, one_unit};
 use branch_tree::{End, Multipliers, Scaled};
 use pns_problem::Problem;
 use std::alloc::Global;
@@ -89,6 +89,18 @@ fn branch(problem: &Problem, fields: Option<&[u8]>) -> Result<End, LineFault>
     }
 }
 
+fn either(problem: &Problem, fields: Option<&[u8]>) -> Result<End, LineFault>
+    ensures ok { IfOk result (λ end. reads.end_by problem.now (Some Word.Either) (tokens_in fields.entry) ≡ Ok (end_of end)) }
+    ensures known { IfOk result (λ end. KnowsEnd problem.now (end_of end)) }
+    ensures whole { IfOk result (λ end. HasChildren (end_of end)) }
+    ensures fault { IfErr result (TellsLine (reads.end_by problem.now (Some Word.Either) (tokens_in fields.entry))) }
+{
+    match one_unit(problem, fields) {
+        Ok(unit) => Ok(End::Either(unit)),
+        Err(kind) => Err(LineFault::Kind(kind)),
+    }
+}
+
 fn open(problem: &Problem, fields: Option<&[u8]>) -> Result<End, LineFault>
     ensures ok { IfOk result (λ end. reads.end_by problem.now (Some Word.Open) (tokens_in fields.entry) ≡ Ok (end_of end)) }
     ensures known { IfOk result (λ end. KnowsEnd problem.now (end_of end)) }
@@ -119,6 +131,7 @@ fn end_fields(
         Some(Word::Refuted) => refuted(alloc, problem, fields),
         Some(Word::Bound) => bound(alloc, problem, fields),
         Some(Word::Branch) => branch(problem, fields),
+        Some(Word::Either) => either(problem, fields),
         Some(Word::Open) => open(problem, fields),
         _ => Err(LineFault::Kind(TreeKind::BadLine)),
     }

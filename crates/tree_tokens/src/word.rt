@@ -41,6 +41,8 @@ pub fn word_named(token: &[u8]) -> Option<Word>
         Some(Word::Bound)
     } else if token == b"branch".as_slice() {
         Some(Word::Branch)
+    } else if token == b"either".as_slice() {
+        Some(Word::Either)
     } else if token == b"open".as_slice() {
         Some(Word::Open)
     } else if token == b"spent".as_slice() {
