@@ -1,6 +1,5 @@
 //! A whole tree.
 ghost use Rattle.std.specs.Prelude.{◌≡◌, ◌<◌, ◌≤◌, ◌+◌, ◌-◌, ◌^◌, [], zero, Ok, Some, IfOk, IfErr, length};
-ghost use Rattle.branch_tree.specs.View.{end_of};
 ghost use Rattle.branch_tree.specs.Known.{AreUnits, KnowsTree};
 ghost use Rattle.tree_rules.specs.Tree as trees;
 ghost use Rattle.tree_text_rules.specs.Read.{nodes_taken, tree_taken};
@@ -12,19 +11,10 @@ use crate::cut::Cut;
 use crate::fault::TreeFault;
 use crate::lines::{option_at, root_at};
 use crate::node::read_node;
-use branch_tree::{End, Tree, TreeNode};
+use branch_tree::{Tree, TreeNode};
 use pns_problem::Problem;
 use std::alloc::Global;
 use unit_sets::UnitSet;
-
-fn child_count(end: &End) -> u32
-    ensures { result ≡ trees.children (end_of end.now) }
-{
-    match end {
-        End::Branch { children, .. } => *children,
-        _ => 0,
-    }
-}
 
 // How many subtrees are to come behind a node, where so many were to come before.
 fn more_subtrees(pending: u64, node: &TreeNode) -> u64
@@ -32,7 +22,7 @@ fn more_subtrees(pending: u64, node: &TreeNode) -> u64
     ensures sum { result ≡ trees.children node.now.end + pending }
     ensures bound { result < pending + 2 ^ 32 }
 {
-    child_count(&node.end) as u64 + pending
+    node.end.children() as u64 + pending
 }
 
 /// The nodes of a tree, from the line behind the root's on, and the cut behind them.
