@@ -14,7 +14,8 @@ pub enum Why {
     Cost,
     /// A step is not possible where it stands.
     Step,
-    /// The material of a branch is not needed, or the options of its children are not all its options in order.
+    /// The material of a branch is not needed, or its unit is taken in or left out; or the options of the children are not all
+    /// that it has, in order.
     Options,
     /// The leaf is open.
     Open,
