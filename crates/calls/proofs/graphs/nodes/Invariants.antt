@@ -1,0 +1,5 @@
+use Rattle.calls.proofs.graphs.nodes.Given as goal
+
+-- the count's ledger is the one that the blank names
+abbrev pub ghosts-is_viable : goal.ghosts-is_viable
+ghosts-is_viable g a = record { name = a.blank.name; parts = a.blank.parts }
