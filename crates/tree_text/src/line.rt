@@ -106,6 +106,10 @@ pub(crate) fn end_line(line: &mut String, problem: &Problem, end: &End) -> Resul
             push_material(line, problem, *material)?;
             push_count(line, *children)
         }
+        End::Either(unit) => {
+            begin(line, "either")?;
+            push_unit(line, problem, *unit)
+        }
         End::Open => begin(line, "open"),
     }
 }
