@@ -1,5 +1,6 @@
 -- Each branch of a whole tree has fewer children than the tree has nodes.
 use Rattle.std.proofs.Common.{◌≤◌, ◌<◌, ◌+◌, ◌^◌, ℕ, zero, suc, [], ◌∷◌, length, arith}
+use Rattle.tree_rules.specs.Ways as ways
 use Rattle.tree_rules.specs.Tree as trees
 use Rattle.tree_rules.specs.Leaf as leaves
 use Rattle.tree_rules.specs.Accepted.{Tree}
@@ -16,7 +17,8 @@ forest_length (suc k) (t ∷ ts) f =
     omega (arith, rest)
 
 counts_end : (end : trees.End leaves.Leaf) → trees.children end < 2 ^ 32 → CountsEnd end
-counts_end (trees.branch x c) few = omega (arith, few)
+counts_end (trees.branch (ways.at_material x c)) few = omega (arith, few)
+counts_end (trees.branch (ways.either u)) few = tt
 counts_end (trees.leaf l) few = tt
 
 forest_counted : (k : ℕ) (ts : Tree) → trees.IsForest k ts → length ts < 2 ^ 32 → CountsTree ts
