@@ -70,7 +70,8 @@ pub(crate) fn column_at(program: &Program, k: usize) -> Column
     column_of(program, &numbers_of(program), k)
 }
 
-/// Puts the column at a place behind the first `count` of a list, where it is not in the basis, and gives their new number.
+/// Puts the column at a place behind the first `count` of a list, where it is not in the basis, and gives their new number. The
+/// rows know how many units and rows the program has, so that its sets are not counted for each column.
 fn put_outside(
     list: &mut [Column],
     count: usize,
@@ -79,6 +80,7 @@ fn put_outside(
     numbers: &Numbers,
     k: usize,
 ) -> usize
+    requires size { IsOfSize (linear_of program.now) rows.now }
     requires place { k < width rows.now }
     requires room { count < length list.old }
     requires numbers { AreNumbers program.now numbers.now.units numbers.now.rows }
@@ -89,7 +91,8 @@ fn put_outside(
     if rows.is_basic(k) {
         return count;
     }
-    list[count] = column_of(program, numbers, k);
+    rows.are_rows();
+    list[count] = named_at(program, numbers, rows.units(), rows.rows(), k);
     count + 1
 }
 
