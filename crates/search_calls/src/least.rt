@@ -119,22 +119,23 @@ fn scale_and_bound(
     alloc: Global,
     problem: &Problem,
     graph: &Graph,
-    node: Node,
+    node: &Node,
 ) -> Option<(i128, i128)>
     requires graph { shape graph.now ≡ shape_of problem.now }
-    requires known { (u : ℕ) → has node.inside u ≡ true → u < (shape graph.now).units }
+    requires known { (u : ℕ) → has node.now.inside u ≡ true → u < (shape graph.now).units }
 {
-    let Ok(program) = Program::of(alloc, problem, graph, node) else {
+    let Ok(program) = Program::of(alloc, problem, graph, *node) else {
         return None;
     };
-    let Some((bench, Ends::Least)) = walked(alloc, &program) else {
+    let (bench, ends) = walked(alloc, &program)?;
+    if ends != Ends::Least {
         return None;
-    };
+    }
     let ys = bench.ys();
     if program.rows().count() as usize != ys.len() {
         return None;
     }
-    match bound_of(problem, graph, node, bench.d(), ys) {
+    match bound_of(problem, graph, *node, bench.d(), ys) {
         Ok(bound) => Some((bench.d(), bound)),
         Err(_) => None,
     }
@@ -149,7 +150,7 @@ fn large(alloc: Global, number: u64, inside: u128) -> Option<(i128, i128)> {
         return None;
     };
     let node = node_at(&graph, inside, 0)?;
-    scale_and_bound(alloc, &problem, &graph, node)
+    scale_and_bound(alloc, &problem, &graph, &node)
 }
 
 fn print_large<R: Print + Alloc<A = Global>>(

@@ -60,8 +60,8 @@ fn end_word(end: &End) -> &'static str {
         End::Clash(_) => "clash",
         End::Refuted(_) => "refuted",
         End::Bound(_) => "bound",
-        End::Branch { .. } => "branch",
         End::Open => "open",
+        _ => "branched",
     }
 }
 

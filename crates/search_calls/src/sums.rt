@@ -302,10 +302,10 @@ const PAST: &[Case] = &[
 /// The number of the node's rows.
 fn row_count(alloc: Global, problem: &Problem, graph: &Graph, node: Node) -> Result<u32, AllocError>
     requires graph { shape graph.now ≡ shape_of problem.now }
-    requires known { (u : ℕ) → has node.inside u ≡ true → u < (shape graph.now).units }
-    ensures { IfOk result (λ n. n ≡ length (rows (net_of problem.now) (node_of node))) }
+    requires known { (u : ℕ) → has node.now.inside u ≡ true → u < (shape graph.now).units }
+    ensures { IfOk result (λ n. n ≡ length (rows (net_of problem.now) (node_of node.now))) }
 {
-    let program = Program::of(alloc, problem, graph, node)?;
+    let program = Program::of(alloc, problem, graph, *node)?;
     Ok(program.rows().count())
 }
 
@@ -313,32 +313,38 @@ fn bounded(
     alloc: Global,
     problem: &Problem,
     graph: &Graph,
-    node: Node,
+    node: &Node,
     d: i128,
     ys: &[i128],
 ) -> Answer
     requires graph { shape graph.now ≡ shape_of problem.now }
-    requires known { (u : ℕ) → has node.inside u ≡ true → u < (shape graph.now).units }
+    requires known { (u : ℕ) → has node.now.inside u ≡ true → u < (shape graph.now).units }
 {
-    match row_count(alloc, problem, graph, node) {
-        Ok(count) if count as usize == ys.len() => match bound_of(problem, graph, node, d, ys) {
-            Ok(value) => Answer::Number(value),
-            Err(PastSum { at }) => Answer::Past(at),
-        },
-        _ => Answer::Unasked,
+    let Ok(count) = row_count(alloc, problem, graph, node) else {
+        return Answer::Unasked;
+    };
+    if count as usize != ys.len() {
+        return Answer::Unasked;
+    }
+    match bound_of(problem, graph, *node, d, ys) {
+        Ok(value) => Answer::Number(value),
+        Err(PastSum { at }) => Answer::Past(at),
     }
 }
 
-fn refuted(alloc: Global, problem: &Problem, graph: &Graph, node: Node, ys: &[i128]) -> Answer
+fn refuted(alloc: Global, problem: &Problem, graph: &Graph, node: &Node, ys: &[i128]) -> Answer
     requires graph { shape graph.now ≡ shape_of problem.now }
-    requires known { (u : ℕ) → has node.inside u ≡ true → u < (shape graph.now).units }
+    requires known { (u : ℕ) → has node.now.inside u ≡ true → u < (shape graph.now).units }
 {
-    match row_count(alloc, problem, graph, node) {
-        Ok(count) if count as usize == ys.len() => match refutes(problem, graph, node, ys) {
-            Ok(answer) => Answer::Judged(answer),
-            Err(PastSum { at }) => Answer::Past(at),
-        },
-        _ => Answer::Unasked,
+    let Ok(count) = row_count(alloc, problem, graph, node) else {
+        return Answer::Unasked;
+    };
+    if count as usize != ys.len() {
+        return Answer::Unasked;
+    }
+    match refutes(problem, graph, *node, ys) {
+        Ok(answer) => Answer::Judged(answer),
+        Err(PastSum { at }) => Answer::Past(at),
     }
 }
 
@@ -368,9 +374,9 @@ fn judged(problem: &Problem, graph: &Graph, set: UnitSet, sizes: &[i128], d: i12
     }
 }
 
-fn answer_at(alloc: Global, problem: &Problem, graph: &Graph, node: Node, sum: Sum) -> Answer
+fn answer_at(alloc: Global, problem: &Problem, graph: &Graph, node: &Node, sum: Sum) -> Answer
     requires graph { shape graph.now ≡ shape_of problem.now }
-    requires known { (u : ℕ) → has node.inside u ≡ true → u < (shape graph.now).units }
+    requires known { (u : ℕ) → has node.now.inside u ≡ true → u < (shape graph.now).units }
 {
     match sum {
         Sum::Bound(d, ys) => bounded(alloc, problem, graph, node, d, ys),
@@ -388,7 +394,7 @@ fn answer_of(alloc: Global, case: &Case) -> Answer {
         return Answer::Unasked;
     };
     match node_at(&graph, case.inside, case.outside) {
-        Some(node) => answer_at(alloc, &problem, &graph, node, case.sum),
+        Some(node) => answer_at(alloc, &problem, &graph, &node, case.sum),
         None => Answer::Unasked,
     }
 }

@@ -107,10 +107,13 @@ fn rest_printed(alloc: Global, problem: &Problem, text: &[u8]) -> Option<MemSink
 }
 
 fn print_same<R: Print>(rt: &R, out: Option<MemSink>, text: &[u8]) -> io::Result<()> {
-    match out {
-        None => println!(rt; "not printed"),
-        Some(out) if out.bytes() == text => println!(rt; "{} bytes, printed as read", text.len()),
-        Some(_) => println!(rt; "{} bytes, printed otherwise", text.len()),
+    let Some(out) = out else {
+        return println!(rt; "not printed");
+    };
+    if out.bytes() == text {
+        println!(rt; "{} bytes, printed as read", text.len())
+    } else {
+        println!(rt; "{} bytes, printed otherwise", text.len())
     }
 }
 

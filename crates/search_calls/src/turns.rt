@@ -207,9 +207,15 @@ fn print_case<R: Print + Alloc<A = Global>>(rt: &R, case: &Case) -> io::Result<(
     if case.budget == 0 {
         return println!(rt; "no budget");
     }
-    let start = leaving_out(&graph, case.outside);
-    let found = search(rt.alloc(), &problem, &graph, start, case.budget);
+    let found = search(
+        rt.alloc(),
+        &problem,
+        &graph,
+        leaving_out(&graph, case.outside),
+        case.budget,
+    );
     print_found(rt, &found)?;
+    let start = leaving_out(&graph, case.outside);
     print_checked(rt, &problem, &graph, &start, found)
 }
 
