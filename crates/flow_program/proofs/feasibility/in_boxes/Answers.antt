@@ -27,10 +27,12 @@ returns-then-not-is_within c =
     let hi' : SFits w128 c.unit.inside.upper = search rules in
     let sz : SFits w128 (get_or c.args.size_at.now c.in-Some.u (pos 0)) = search rules in
     let g = simp to_z-of_z at c.is_within.ensures in
-    let f = c.if-not-is_within.true in
-    (λ (e : false ≡ true). cc, λ w. absurd (not_in_boxes (net_of c.args.problem.now) (entry c.args.size_at.now) c.args.d c.args.set c.units.left c.in-Some.u (kept (λ v. not (c.in-Some.u == v)) c.units.left) (is_next 128 c.units.left c.in-Some.u (kept (λ v. not (c.in-Some.u == v)) c.units.left) c.rises-in-units.ensures (sym c.least.ensures ∙ c.in-Some.is) refl)
-    c.unit.inside.lower c.unit.inside.upper (get_or c.args.size_at.now c.in-Some.u (pos 0)) (ap (λ (x : OperatingUnit). x.lower) (c.unit.view_is ∙ is)) (ap (λ (x : OperatingUnit). x.upper) (c.unit.view_is ∙ is)) refl (simp to_z-of_z at c.units.invariant)
-    (λ q. let t : c.is_within.result ≡ true = g.1 q in cc) w))
+    let f = c.if-not-is_within.true in (
+      λ (e : false ≡ true). cc,
+      λ w. absurd (not_in_boxes (net_of c.args.problem.now) (entry c.args.size_at.now) c.args.d c.args.set c.units.left c.in-Some.u (kept (λ v. not (c.in-Some.u == v)) c.units.left) (is_next 128 c.units.left c.in-Some.u (kept (λ v. not (c.in-Some.u == v)) c.units.left) c.rises-in-units.ensures (sym c.least.ensures ∙ c.in-Some.is) refl)
+          c.unit.inside.lower c.unit.inside.upper (get_or c.args.size_at.now c.in-Some.u (pos 0)) (ap (λ (x : OperatingUnit). x.lower) (c.unit.view_is ∙ is)) (ap (λ (x : OperatingUnit). x.upper) (c.unit.view_is ∙ is)) refl (simp to_z-of_z at c.units.invariant)
+          (λ q. let t : c.is_within.result ≡ true = g.1 q in cc) w),
+    )
 
 pub units-smaller : goal.units-smaller
 units-smaller c =
