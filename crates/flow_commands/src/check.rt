@@ -6,8 +6,9 @@ ghost use Rattle.endings.specs.Lines.{line};
 ghost use Rattle.command_files.specs.Reading.{OnFile};
 ghost use Rattle.command_files.specs.TreeFile.{OnTree};
 ghost use Rattle.flow_commands.specs.Check.{CheckWork, node_line, why_word};
+ghost use Rattle.flow_commands.specs.Best.{AcceptedIsBest, FilesClaimBest};
 ghost use Rattle.endings.specs.Ending.{Ends, Says, Tells, Only, OrMemory};
-ghost use Rattle.endings.specs.declared.status.Status.TheVariants.{Refused};
+ghost use Rattle.endings.specs.declared.status.Status.TheVariants.{Done, Refused};
 
 use branch_tree::{Claim, Tree};
 use cert_check::{Refusal, check_tree};
@@ -18,6 +19,8 @@ use pgraph::Graph;
 use pns_io::{Shelf, Sink};
 use pns_problem::Problem;
 use std::alloc::{AllocError, Global};
+use text_laws::read_is_valid;
+use tree_laws::{accepted_has_flows, accepted_is_optimal};
 use tree_rules::Why;
 
 /// The word by which a cause is told.
@@ -101,6 +104,15 @@ fn say_tree<F: Shelf, K: Sink>(
     }
 }
 
+/// Where `check` accepts, the claim is best: a network that no other undercuts, or that none has flows, and none has.
+pub fn accepted_is_best()
+    ensures { AcceptedIsBest }
+{
+    accepted_is_optimal();
+    accepted_has_flows();
+    read_is_valid();
+}
+
 /// Says whether the tree of the one file proves its claim on the problem of the other.
 pub fn check<F: Shelf, K: Sink>(
     alloc: Global,
@@ -109,9 +121,12 @@ pub fn check<F: Shelf, K: Sink>(
     shelf: &mut F,
     out: &mut K,
 ) -> Status
-    ensures { Ends (Says (OnFile (OnTree CheckWork (F.held shelf.old) tree.now) (F.held shelf.old) file.now) (λ other. (other ≡ file.now) ⊎ (other ≡ tree.now)) (record { held = F.held shelf.old; before = F.faults shelf.old; after = F.faults shelf.new }))
+    ensures ends { Ends (Says (OnFile (OnTree CheckWork (F.held shelf.old) tree.now) (F.held shelf.old) file.now) (λ other. (other ≡ file.now) ⊎ (other ≡ tree.now)) (record { held = F.held shelf.old; before = F.faults shelf.old; after = F.faults shelf.new }))
         (HasRisen (K.faults out.old) (K.faults out.new)) (K.written out.old) (K.written out.new) result }
+    // With status 0 the one file gives a valid problem and the other a claim, which is best.
+    ensures accepted { result ≡ Done → FilesClaimBest (F.held shelf.old) file.now tree.now }
 {
+    accepted_is_best();
     match problem_of(alloc, shelf, out, file) {
         Ok(problem) => say_tree(alloc, &problem, tree, shelf, out),
         Err(status) => status,

@@ -17,6 +17,7 @@ use Rattle.tree_rules.specs.Claim.{Claim}
 use Rattle.tree_rules.specs.Accepted.{Tree}
 use Rattle.command_files.specs.TreeFile.{TreeFault, OnTree, tree_limit}
 use Rattle.flow_commands.specs.Check.{CheckWork}
+use Rattle.flow_commands.specs.Best.{FilesClaimBest, AcceptedIsBest}
 use Rattle.branch_tree.specs.Tail.{Tail, whole, spent, past}
 use Rattle.generator.specs.Generated.{generated}
 use Rattle.searches.specs.Solve.{SolveWork, Holds, status_of, CanFinish}
@@ -301,3 +302,9 @@ module _ (shelves : Shelves) (words : List (List ℕ)) (risen : Type 0) (old new
   finish_ends ReadFault e command is can = ((λ q. cc), (λ q. cc))
   finish_ends s e command is can =
       let told = subst (λ (f : Option Command). AnswersTo shelves.held f s e.1.0) is e.1.1 in command_finished shelves.held command s e.1.0 can told
+
+  -- a claim that `check` accepts is best
+  pub accepted_ends : AcceptedIsBest → (s : Status) → Ends (WordsSay shelves words) risen old new s → (file tree : List ℕ) → command_of words ≡ Some (Checking file tree) → s ≡ Done → FilesClaimBest shelves.held file tree
+  accepted_ends law s e file tree is done =
+      let said = subst (λ (t : Status). Ends (WordsSay shelves words) risen old new t) done e in
+      law shelves.held file tree said.1.0 (subst (λ (f : Option Command). AnswersTo shelves.held f Done said.1.0) is said.1.1)

@@ -6,13 +6,14 @@ ghost use Rattle.studio_words.specs.Command.{command_of, AreWithin, IsFileWord};
 ghost use Rattle.endings.specs.Ending.{Ends, IsOneOf};
 ghost use Rattle.studio.specs.Answers.{CommandSays, WordsSay, IsUndisturbed, IsNotStopped, SearchCanFinish, statuses_of};
 ghost use Rattle.studio_words.specs.View.{command_view};
+ghost use Rattle.flow_commands.specs.Best.{FilesClaimBest};
 
 use edit_commands::edits::{edit, undo};
 use edit_commands::make::make;
 use edit_commands::migrate::migrate;
 use endings::Status;
 use endings::say::{say, say_memory};
-use flow_commands::check::check;
+use flow_commands::check::{accepted_is_best, check};
 use flow_commands::flows::flows;
 use pns_io::{Shelf, Sink};
 use searches::solve::solve;
@@ -85,6 +86,11 @@ pub fn studio<F: Shelf, K: Sink>(
         → IsOneOf (statuses_of command) result }
     // A search comes to its end where its budget is large enough and no number is out of range.
     ensures finishes { (command : rules.Command) → command_of (map string_bytes words.now) ≡ Some command → SearchCanFinish (F.held shelf.old) command → IsNotStopped result }
+    // Where `check` ends with status 0, its files give a valid problem and a claim that is best: the claimed network is an
+    // allowed solution structure with flows of its cost, and none costs less; or none has flows.
+    ensures accepted { (file : List ℕ) (tree : List ℕ) → command_of (map string_bytes words.now) ≡ Some (rules.Checking file tree)
+        → result ≡ Status.Done → FilesClaimBest (F.held shelf.old) file tree }
 {
+    accepted_is_best();
     run(alloc, words, shelf, out)
 }

@@ -6,6 +6,7 @@ use Rattle.endings.specs.Ending.{Shelves, Says}
 use Rattle.endings.specs.declared.status.Status.{Status}
 use Rattle.endings.proofs.Ending.{Ends-map, Ends-from}
 use Rattle.command_files.proofs.Seconds.{on_both-faults, on_both-work}
+use Rattle.flow_commands.proofs.Best.{done_ends}
 use Rattle.flow_commands.proofs.check.check.Goals as goal
 
 pub returns-in-Ok : goal.returns-in-Ok
@@ -16,8 +17,10 @@ returns-in-Ok g c =
     let tree = c.args.tree.now in
     let P : Status → List ℕ → Type 0 = Says (OnTree CheckWork later.held tree c.in-Ok.problem) (λ other. other ≡ tree) later in
     let Q : Status → List ℕ → Type 0 = Says (OnFile (OnTree CheckWork shelves.held tree) shelves.held file) (λ other. (other ≡ file) ⊎ (other ≡ tree)) shelves in
+    let ends =
     Ends-from P Q _ _ _ _ _ _ _ (ap g.K.Sink.faults c.in-Ok.ensures.silent) (ap g.K.Sink.written c.in-Ok.ensures.silent)
-    (on_both-work (TreeSays CheckWork tree) file tree shelves later c.in-Ok.problem c.in-Ok.ensures.problem (c.problem_of.ensures.keeps tree) refl c.problem_of.ensures.later) c.say_tree.ensures
+    (on_both-work (TreeSays CheckWork tree) file tree shelves later c.in-Ok.problem c.in-Ok.ensures.problem (c.problem_of.ensures.keeps tree) refl c.problem_of.ensures.later) c.say_tree.ensures in
+    record { ends = ends; accepted = done_ends c.accepted_is_best.ensures shelves file tree _ _ _ _ ends }
 
 pub returns-in-Err : goal.returns-in-Err
 returns-in-Err g c =
@@ -25,4 +28,5 @@ returns-in-Err g c =
     let file = c.args.file.now in
     let tree = c.args.tree.now in
     let Q : Status → List ℕ → Type 0 = Says (OnFile (OnTree CheckWork shelves.held tree) shelves.held file) (λ other. (other ≡ file) ⊎ (other ≡ tree)) shelves in
-    Ends-map _ Q _ _ _ _ _ (on_both-faults (TreeSays CheckWork tree) file tree shelves) (λ r. r) c.in-Err.ensures.told
+    let ends = Ends-map _ Q _ _ _ _ _ (on_both-faults (TreeSays CheckWork tree) file tree shelves) (λ r. r) c.in-Err.ensures.told in
+    record { ends = ends; accepted = done_ends c.accepted_is_best.ensures shelves file tree _ _ _ _ ends }

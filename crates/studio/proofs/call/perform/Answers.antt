@@ -80,7 +80,7 @@ returns-in-Checking g c =
     let shelves : Shelves = record { held = g.F.Shelf.held c.args.shelf.now; before = g.F.Shelf.faults c.args.shelf.now; after = g.F.Shelf.faults c.check.new.shelf } in
     let Q : Status → List ℕ → Type 0 = CommandSays shelves (command_view c.args.command) in
     Ends-map (CommandSays shelves (Checking c.in-Checking.file.now c.in-Checking.tree.now)) Q _ _ _ _ _
-    (λ s t h. subst (λ (v : Command). CommandSays shelves v s t) (sym (ap command_view c.in-Checking.is)) h) (λ r. r) c.check.ensures
+    (λ s t h. subst (λ (v : Command). CommandSays shelves v s t) (sym (ap command_view c.in-Checking.is)) h) (λ r. r) c.check.ensures.ends
 
 pub solve-requires : goal.solve-requires
 solve-requires g c =

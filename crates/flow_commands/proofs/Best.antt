@@ -1,0 +1,54 @@
+-- A claim whose tree is accepted is best.
+use Rattle.std.proofs.Common.{◌≡◌, ◌⊎◌, false, true, Bool, ℕ, List, Option, inl, inr, subst}
+use Rattle.problem_rules.specs.Problem.{Problem}
+use Rattle.problem_rules.specs.Validity.{IsValid}
+use Rattle.text_laws.specs.Laws.{ReadIsValid}
+use Rattle.tree_rules.specs.Claim.{Claim, network, infeasible, unknown}
+use Rattle.tree_rules.specs.Accepted.{Tree, first_node, IsAccepted}
+use Rattle.tree_laws.specs.Laws.{AcceptedIsOptimal, AcceptedHasFlows}
+use Rattle.command_files.specs.Reading.{OnFile}
+use Rattle.command_files.specs.TreeFile.{OnTree}
+use Rattle.endings.specs.Ending.{Shelves, Ends, Says}
+use Rattle.endings.specs.declared.status.Status.{Status}
+use Rattle.endings.specs.declared.status.Status.TheVariants.{Done}
+use Rattle.flow_commands.specs.Check.{CheckWork}
+use Rattle.flow_commands.specs.Best.{IsBest, FilesClaimBest, AcceptedIsBest}
+
+module _ (optimal : AcceptedIsOptimal) (feasible : AcceptedHasFlows) (read_is_valid : ReadIsValid) where
+  is_best : (p : Problem) → IsValid p → (claim : Claim) (tree : Tree) → IsAccepted p first_node claim tree → IsBest p claim
+  is_best p valid (network w) tree accepted =
+      let has = feasible p first_node w tree accepted in
+      record {
+        structure = has.structure;
+        allowed = has.allowed;
+        flows = has.flows;
+        cost_is = has.cost_is;
+        least = λ s structure allowed z d flows. optimal p valid (network w) tree accepted s structure allowed z d flows;
+      }
+  is_best p valid infeasible tree accepted = λ s structure allowed z d flows. optimal p valid infeasible tree accepted s structure allowed z d flows
+  is_best p valid unknown tree accepted = let e : false ≡ true = accepted.claimed in cc
+
+  pub accepted_is_best : AcceptedIsBest
+  accepted_is_best held file tree lines (bytes, there, inl fault) = absurd fault
+  accepted_is_best held file tree lines (bytes, there, inr (p, given, (text, told, inl fault))) = absurd fault
+  accepted_is_best held file tree lines (bytes, there, inr (p, given, (text, told, inr (claim, nodes, gives, work)))) =
+      let valid : IsValid p = read_is_valid bytes p given.1 in
+      record {
+        problem_text = bytes;
+        problem_held = there;
+        problem = p;
+        gives_problem = given;
+        valid = valid;
+        tree_text = text;
+        tree_held = told;
+        claim = claim;
+        nodes = nodes;
+        gives_tree = gives;
+        best = is_best p valid claim nodes work.0;
+      }
+
+-- what is out with status 0 is such an answer
+pub done_ends : AcceptedIsBest → (shelves : Shelves) (file tree : List ℕ) (risen : Type 0) (old new : Option (List ℕ)) (s : Status) → Ends (Says (OnFile (OnTree CheckWork shelves.held tree) shelves.held file) (λ other. (other ≡ file) ⊎ (other ≡ tree)) shelves) risen old new s → s ≡ Done → FilesClaimBest shelves.held file tree
+done_ends law shelves file tree risen old new s e done =
+    let said = subst (λ (t : Status). Ends (Says (OnFile (OnTree CheckWork shelves.held tree) shelves.held file) (λ other. (other ≡ file) ⊎ (other ≡ tree)) shelves) risen old new t) done e in
+    law shelves.held file tree said.1.0 said.1.1
