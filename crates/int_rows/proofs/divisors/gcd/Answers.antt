@@ -28,5 +28,10 @@ returns-then-y-eq0-clause-greatest c =
 
 pub returns-clause-greatest : goal.returns-clause-greatest
 returns-clause-greatest c =
+    let g_is : to_z w128 c.narrow_gcd-2.result ≡ pos c.narrow_gcd-2.result = to_z_pos w128 c.narrow_gcd-2.result (omega (arith, c.narrow_gcd-2.type_inv)) in
+    rw g_is (simp (to_z-of_z w128 c.args.a c.ranges.a, to_z-of_z w128 c.args.b c.ranges.b) at (c.loop-y.invariant.same _ (IsGcd-from_mod c.loop-y.x c.loop-y.y c.narrow_gcd-2.result c.narrow_gcd-2.ensures)))
+
+pub returns-then-x-le-WIDE-clause-greatest : goal.returns-then-x-le-WIDE-clause-greatest
+returns-then-x-le-WIDE-clause-greatest c =
     let g_is : to_z w128 c.narrow_gcd.result ≡ pos c.narrow_gcd.result = to_z_pos w128 c.narrow_gcd.result (omega (arith, c.narrow_gcd.type_inv)) in
-    rw g_is (simp (to_z-of_z w128 c.args.a c.ranges.a, to_z-of_z w128 c.args.b c.ranges.b) at (c.loop-y.invariant.same _ (IsGcd-from_mod c.loop-y.x c.loop-y.y c.narrow_gcd.result c.narrow_gcd.ensures)))
+    rw g_is (simp (to_z-of_z w128 c.args.a c.ranges.a, to_z-of_z w128 c.args.b c.ranges.b) at (c.loop-y.invariant.same _ c.narrow_gcd.ensures))
