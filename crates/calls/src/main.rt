@@ -1,21 +1,15 @@
-//! Public calls of the lower crates over small tables, with a printed line for each: what no command of `pns` shows.
-//! The file `stdout` beside `src` has the lines that are wanted, worked out by hand.
+//! The program `calls`: public calls on sets, numbers, lists and files over small tables, with a printed line for each: what
+//! no command of `pns` shows. The file `stdout` beside `src` has the lines that are wanted, worked out by hand.
 //!
 //! Modules: `sets` (units, materials, options), `rows` and `fractions` (numbers), `lists` and `pool` (linked lists and open
-//! leaves), `files` (shelves and sinks), `parts` (problems out of parts), `scripts`, `plants` (small plants), `graphs`
-//! (arcs, unions, order, tokens) and `reductions` (extensions of nodes).
+//! leaves), `files` (shelves and sinks).
 #![tactic(auto)]
 
 mod files;
 mod fractions;
-mod graphs;
 mod lists;
-mod parts;
-mod plants;
 mod pool;
-mod reductions;
 mod rows;
-mod scripts;
 mod sets;
 
 use std::alloc::Global;
@@ -40,30 +34,9 @@ fn values(rt: &(impl Print + Alloc<A = Global>)) -> io::Result<()> {
     pool::many(rt)
 }
 
-/// Problems, scripts and graphs.
-fn works(rt: &(impl Print + Alloc<A = Global>)) -> io::Result<()> {
-    parts::faults(rt)?;
-    parts::members(rt)?;
-    parts::texts(rt)?;
-    parts::readings(rt)?;
-    scripts::scripts(rt)?;
-    graphs::arcs(rt)?;
-    graphs::exclusions(rt)?;
-    graphs::unions(rt)?;
-    graphs::nodes(rt)?;
-    graphs::orders(rt)?;
-    graphs::decisions(rt)?;
-    graphs::tokens(rt)?;
-    reductions::nodes(rt)?;
-    reductions::rules(rt)?;
-    reductions::makers_back(rt)?;
-    reductions::makers_led(rt)
-}
-
 fn main(rt: HostRuntime) -> io::Result<()> {
     values(&rt)?;
     files::shelves(&rt)?;
     files::sinks(&rt)?;
-    files::system(&rt)?;
-    works(&rt)
+    files::system(&rt)
 }

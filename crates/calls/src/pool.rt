@@ -54,6 +54,34 @@ fn drain(rt: &(impl Print + Alloc<A = Global>), pool: &mut Pool<u32>) -> io::Res
     println!(rt; "leaves, the least first:{text}")
 }
 
+/// The kin of the root and of its three children.
+fn kin_lines(rt: &impl Print, pool: &Pool<u32>) -> io::Result<()>
+    requires { length pool.now.parents ≡ 4 }
+{
+    let (first, next) = (pool.first_child(0), pool.next_sibling(1));
+    println!(rt; "first child of the root {first:?}, next after it {next:?}")?;
+    let (last, root) = (pool.next_sibling(3), pool.next_sibling(0));
+    let none = pool.first_child(2);
+    println!(rt; "next after the last {last:?}, after the root {root:?}, first child {none:?}")
+}
+
+/// Writes the payload of the second child, and gives it with that of the third.
+fn written(pool: &mut Pool<u32>) -> (u32, u32)
+    requires { length pool.old.parents ≡ 4 }
+{
+    *pool.payload_mut(2) = 5;
+    (*pool.payload(2), *pool.payload(3))
+}
+
+/// The value of the second child, and its payload once it is written.
+fn payload_line(rt: &(impl Print + Alloc<A = Global>), pool: &mut Pool<u32>) -> io::Result<()>
+    requires { length pool.old.parents ≡ 4 }
+{
+    let value = pool.value(2).text(rt.alloc())?;
+    let (own, other) = written(pool);
+    println!(rt; "value of 2 {value}, payload when written {own}, of 3 {other}")
+}
+
 /// Three children of values 75, 86 and 76.
 pub fn three(rt: &(impl Print + Alloc<A = Global>)) -> io::Result<()> {
     let mut pool = rooted(rt.alloc(), 67)?;
@@ -61,15 +89,8 @@ pub fn three(rt: &(impl Print + Alloc<A = Global>)) -> io::Result<()> {
     add_children(&mut pool, &[75, 86, 76])?;
     let (after, least) = (pool.spare(), pool.least());
     println!(rt; "spare {before} and then {after}, least {least:?}")?;
-    let (first, next) = (pool.first_child(0), pool.next_sibling(1));
-    println!(rt; "first child of the root {first:?}, next after it {next:?}")?;
-    let (last, root) = (pool.next_sibling(3), pool.next_sibling(0));
-    let none = pool.first_child(2);
-    println!(rt; "next after the last {last:?}, after the root {root:?}, first child {none:?}")?;
-    let value = pool.value(2).text(rt.alloc())?;
-    *pool.payload_mut(2) = 5;
-    let (own, other) = (*pool.payload(2), *pool.payload(3));
-    println!(rt; "value of 2 {value}, payload when written {own}, of 3 {other}")?;
+    kin_lines(rt, &pool)?;
+    payload_line(rt, &mut pool)?;
     drain(rt, &mut pool)
 }
 

@@ -3,13 +3,13 @@ use Rattle.std.proofs.lemmas.Bool.{or_cases, or_left, both_ways, false_from_ne_t
 use Rattle.frac128.specs.declared.fraction.Frac.{Frac}
 use Rattle.link_lists.specs.Lists.{has}
 use Rattle.link_lists.proofs.Cells.{has-here, has-later}
-use Rattle.node_pool.specs.Order.{is_above, placed}
+use Rattle.node_pool.specs.Order.{is_at_least, placed}
 use Rattle.node_pool.proofs.Order.{has-placed}
 use Rattle.calls.proofs.pool.add_children.Goals as goal
 
 placed_new : (vs : List Frac) (v : Frac) (c : ℕ) (xs : List ℕ) → has (placed vs v c xs) c ≡ true
 placed_new vs v c [] = has-here c []
-placed_new vs v c (x ∷ xs) = by (is_above vs v x) (placed_new vs v c xs)
+placed_new vs v c (x ∷ xs) = by (is_at_least vs v x) (placed_new vs v c xs)
   where
     by : (b : Bool) → has (placed vs v c xs) c ≡ true → has (cond b (c ∷ x ∷ xs) (x ∷ placed vs v c xs)) c ≡ true
     by true ih = has-here c (x ∷ xs)
@@ -17,7 +17,7 @@ placed_new vs v c (x ∷ xs) = by (is_above vs v x) (placed_new vs v c xs)
 
 placed_keeps : (vs : List Frac) (v : Frac) (c : ℕ) (xs : List ℕ) (d : ℕ) → has xs d ≡ true → has (placed vs v c xs) d ≡ true
 placed_keeps vs v c [] d h = absurd (both_ways false refl h)
-placed_keeps vs v c (x ∷ xs) d h = by (is_above vs v x) (λ t. placed_keeps vs v c xs d t)
+placed_keeps vs v c (x ∷ xs) d h = by (is_at_least vs v x) (λ t. placed_keeps vs v c xs d t)
   where
     by : (b : Bool) → (has xs d ≡ true → has (placed vs v c xs) d ≡ true) → has (cond b (c ∷ x ∷ xs) (x ∷ placed vs v c xs)) d ≡ true
     by true ih = has-later c d (x ∷ xs) h

@@ -1,4 +1,4 @@
-use Rattle.calls.proofs.graphs.nodes.Given as goal
+use Rattle.structure_calls.proofs.graphs.nodes.Given as goal
 
 -- the count's ledger is the one that the blank names
 abbrev pub ghosts-is_viable : goal.ghosts-is_viable

@@ -6,7 +6,7 @@ ghost use Rattle.pgraph.specs.View.{node_of};
 ghost use Rattle.neutral_extension.specs.Candidates.{AreMakersOf};
 
 use crate::plants::{EXCLUDING, FIRST, RIVALS, graph_of};
-use crate::sets::unit_text;
+use crate::texts::unit_text;
 use neutral_extension::{Extended, Makers, extend, extend_with};
 use pgraph::Graph;
 use std::alloc::{AllocError, Global};

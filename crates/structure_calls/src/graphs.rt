@@ -2,7 +2,7 @@
 ghost use Rattle.std.specs.Prelude.{◌≡◌, ◌<◌};
 
 use crate::plants::{EXCLUDING, FIRST, RIVALS, graph_of};
-use crate::sets::{material_text, unit_text};
+use crate::texts::{material_text, unit_text};
 use decisions::{Decided, compare_traces};
 use max_structure::{Steps, maximal, viable};
 use pgraph::{Graph, Verdict};
@@ -35,6 +35,7 @@ fn arc_lines(rt: &(impl Print + Alloc<A = Global>), graph: &Graph) -> io::Result
 
 fn need_lines(rt: &(impl Print + Alloc<A = Global>), graph: &Graph) -> io::Result<()> {
     let alloc = rt.alloc();
+    graph.is_proper();
     let inside = UnitSet::empty().with(2);
     if graph.material_count() != 6 || !inside.within(UnitSet::below(graph.unit_count())) {
         return println!(rt; "another graph");
