@@ -171,9 +171,6 @@ pub(crate) fn print_least<R: Print + Alloc<A = Global>>(rt: &R) -> io::Result<()
         print_case(rt, case)?;
     }
     println!(rt; "generated problems of 128 units")?;
-    for number in 0..4 {
-        print_large(rt, "no unit in", number, 0)?;
-        print_large(rt, "64 units in", number, u128::from(u64::MAX))?;
-    }
-    Ok(())
+    print_large(rt, "no unit in", 0, 0)?;
+    print_large(rt, "64 units in", 0, u128::from(u64::MAX))
 }

@@ -209,7 +209,8 @@ pub(crate) fn node_at(graph: &Graph, inside: u128, outside: u128) -> Option<Node
     ensures known { IfSome result (λ n. (u : ℕ) → has n.inside u ≡ true → u < (shape graph.now).units) }
 {
     let inside = UnitSet::from_bits(inside);
-    if !inside.within(UnitSet::below(graph.unit_count())) {
+    let known = inside.within(UnitSet::below(graph.unit_count()));
+    if !known {
         return None;
     }
     Some(Node {
