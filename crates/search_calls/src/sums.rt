@@ -300,7 +300,12 @@ const PAST: &[Case] = &[
 ];
 
 /// The number of the node's rows.
-fn row_count(alloc: Global, problem: &Problem, graph: &Graph, node: &Node) -> Result<u32, AllocError>
+fn row_count(
+    alloc: Global,
+    problem: &Problem,
+    graph: &Graph,
+    node: &Node,
+) -> Result<u32, AllocError>
     requires graph { shape graph.now ≡ shape_of problem.now }
     requires known { (u : ℕ) → has node.now.inside u ≡ true → u < (shape graph.now).units }
     ensures { IfOk result (λ n. n ≡ length (rows (net_of problem.now) (node_of node.now))) }
