@@ -3,7 +3,6 @@ use Rattle.std.specs.Prelude.{◌≡◌, ℕ, ◌<◌, Bool, true, false, List, 
 use Rattle.link_lists.specs.Lists.{has}
 use Rattle.node_pool.specs.Pooled.{Pooled}
 use Rattle.frac128.specs.declared.fraction.Frac.{Frac}
-use Rattle.tree_rules.specs.Ways.{at_material}
 use Rattle.tree_rules.specs.Tree.{End, branch, leaf}
 use Rattle.tree_rules.specs.Leaf.{Leaf, dead, clash, refuted, bounded, untried}
 use Rattle.search_tree.specs.declared.growth.Fresh.{Fresh}
@@ -25,9 +24,9 @@ is_open (leaf l) = is_open_leaf l
 abbrev pub AreOpen : Pooled Cell → Type 0
 AreOpen p = (j : ℕ) → j < length p.payloads → has p.leaves j ≡ is_open (cell_at p.payloads j).end
 
--- the cell as a branch at the material x with `count` children, which begin with `first`
-abbrev pub as_branch : Cell → ℕ → ℕ → ℕ → Cell
-as_branch c first x count = record { option = c.option; steps = c.steps; node = c.node; first = first; end = branch (at_material x count); key = c.key }
+-- the cell with an end whose children begin with `first`
+abbrev pub as_parent : Cell → ℕ → End Leaf → Cell
+as_parent c first e = record { option = c.option; steps = c.steps; node = c.node; first = first; end = e; key = c.key }
 
 -- the cells and the values of children of which the last one stands first, in their order
 abbrev pub cells_in_turn : List Fresh → List Cell

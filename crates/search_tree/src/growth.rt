@@ -1,11 +1,10 @@
 //! How the tree grows.
-ghost use Rattle.std.specs.Prelude.{◌≡◌, ◌<◌, ◌≤◌, ◌+◌, ◌^◌, ◌++◌, ◌∷◌, [], true, false, length, map, slice_set};
+ghost use Rattle.std.specs.Prelude.{◌≡◌, ◌<◌, ◌≤◌, ◌+◌, ◌^◌, ◌++◌, ◌∷◌, [], true, false, length, slice_set};
 ghost use Rattle.link_lists.specs.Lists.{has};
 ghost use Rattle.node_pool.specs.Pooled.{IsShut};
-ghost use Rattle.tree_rules.specs.Tree.{branch};
 ghost use Rattle.branch_tree.specs.View.{end_of};
 ghost use Rattle.search_tree.specs.Cells.{cell_at};
-ghost use Rattle.search_tree.specs.Growth.{as_branch, as_shut, is_open, AreOpen, cells_in_turn, values_in_turn};
+ghost use Rattle.search_tree.specs.Growth.{as_parent, as_shut, is_open, AreOpen, cells_in_turn, values_in_turn};
 
 use crate::cell::Cell;
 use branch_tree::End;
@@ -20,11 +19,11 @@ pub struct Fresh {
 }
 
 impl Cell {
-    /// Makes the node a branch at the material, whose children begin with the node `first`.
-    pub fn make_branch(&mut self, material: u32, first: u32, children: u32)
-        ensures { self.new ≡ as_branch self.old first material children }
+    /// Gives the node an end whose children begin with the node `first`.
+    pub fn make_parent(&mut self, end: End, first: u32)
+        ensures { self.new ≡ as_parent self.old first (end_of end) }
     {
-        self.end = End::Branch { material, children };
+        self.end = end;
         self.first = first;
     }
 
@@ -67,11 +66,12 @@ fn add_child(pool: &mut Pool<Cell>, leaf: u32, fresh: Fresh)
     }
 }
 
-/// Makes an open leaf a branch at the material with so many children, which begin with the node `first`. It takes no memory.
-fn mark_branch(pool: &mut Pool<Cell>, leaf: u32, material: u32, first: u32, children: u32)
+/// Gives an open leaf an end whose children begin with the node `first`. It takes no memory.
+fn mark_branch(pool: &mut Pool<Cell>, leaf: u32, end: End, first: u32)
     requires leaf { has pool.old.leaves leaf ≡ true }
+    requires end { is_open (end_of end) ≡ false }
     requires open { AreOpen pool.old }
-    ensures cells { pool.new.payloads ≡ slice_set pool.old.payloads leaf (as_branch (cell_at pool.old.payloads leaf) first material children) }
+    ensures cells { pool.new.payloads ≡ slice_set pool.old.payloads leaf (as_parent (cell_at pool.old.payloads leaf) first (end_of end)) }
     ensures values { pool.new.values ≡ pool.old.values }
     ensures parent { IsShut pool.new leaf }
     ensures room { pool.new.spare ≡ pool.old.spare }
@@ -79,23 +79,21 @@ fn mark_branch(pool: &mut Pool<Cell>, leaf: u32, material: u32, first: u32, chil
 {
     pool.is_pool();
     pool.shut(leaf);
-    pool.payload_mut(leaf)
-        .make_branch(material, first, children);
+    pool.payload_mut(leaf).make_parent(end, first);
 }
 
-/// Makes an open leaf a branch at the material, and adds its children, the last of which stands first in the list. They begin with
-/// the node `first`. The list is empty then, and no memory is taken.
-pub fn branch(pool: &mut Pool<Cell>, leaf: u32, material: u32, first: u32, kids: &mut Vec<Fresh>)
+/// Branches an open leaf: gives it the end, and adds its children, the last of which stands first in the list. They begin with the
+/// node `first`. The list is empty then, and no memory is taken.
+pub fn branch(pool: &mut Pool<Cell>, leaf: u32, end: End, first: u32, kids: &mut Vec<Fresh>)
     requires leaf { has pool.old.leaves leaf ≡ true }
+    requires end { is_open (end_of end) ≡ false }
     requires open { AreOpen pool.old }
     requires room { length kids.old.items ≤ pool.old.spare }
-    requires few { length kids.old.items < 2 ^ 32 }
-    ensures cells { pool.new.payloads ≡ slice_set pool.old.payloads leaf (as_branch (cell_at pool.old.payloads leaf) first material (length kids.old.items)) ++ cells_in_turn kids.old.items }
+    ensures cells { pool.new.payloads ≡ slice_set pool.old.payloads leaf (as_parent (cell_at pool.old.payloads leaf) first (end_of end)) ++ cells_in_turn kids.old.items }
     ensures values { pool.new.values ≡ pool.old.values ++ values_in_turn kids.old.items }
     ensures open { AreOpen pool.new }
 {
-    let children = kids.len() as u32;
-    mark_branch(pool, leaf, material, first, children);
+    mark_branch(pool, leaf, end, first);
     'kids: while let Some(fresh) = kids.pop() {
         add_child(pool, leaf, fresh);
     }

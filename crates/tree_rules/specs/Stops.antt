@@ -1,10 +1,11 @@
 -- Where a search stops before its end: its budget of nodes is spent, or a number of the simplex method is past the range. `IsOpen`
 -- tells which leaves are open, and each node is taken as its steps leave it.
-use Rattle.std.specs.Prelude.{◌≡◌, ℕ, ◌+◌, ◌<◌, List, [], ◌∷◌, length, Option, None}
+use Rattle.std.specs.Prelude.{◌≡◌, ◌⊎◌, ℕ, ◌+◌, ◌<◌, true, List, [], ◌∷◌, length, Option, None}
 use Rattle.problem_rules.specs.Problem.{Problem}
-use Rattle.pns_rules.specs.Shape.{shape_of}
+use Rattle.pns_rules.specs.Shape.{Shape, shape_of}
+use Rattle.pns_rules.specs.Structure.{is_needed}
 use Rattle.pns_rules.specs.Nodes.{Node, options}
-use Rattle.pns_rules.specs.Ends.{IsReduced, IsUndecided, IsFirst}
+use Rattle.pns_rules.specs.Ends.{IsReduced, IsUndecided}
 use Rattle.tree_rules.specs.Tree.{leaf, TreeNode, Stands}
 use Rattle.tree_rules.specs.Claim.{CostOver}
 use Rattle.tree_rules.specs.Lean.{MayUndercut, IsNoDearer}
@@ -21,16 +22,18 @@ pub record IsPending (p : Problem) (n : Node) : Type 0 where
   pub undecided : (x : ℕ) × IsUndecided (shape_of p) n x
   pub relaxed : MayUndercut p None n
 
--- leaf `next` is branched next, on a material with so many options, and the nodes would then be more than the budget
+-- so many children the next branch has: two at one unit, or three at a material with three options
+abbrev pub IsNextCount : Shape → Node → ℕ → Type 0
+IsNextCount g n count = (count ≡ 2) ⊎ ((count ≡ 3) × ((x : ℕ) × (is_needed g n.inside x ≡ true) × (length (options g n x) ≡ 3)))
+
+-- leaf `next` is branched next, into so many children, and the nodes would then be more than the budget
 pub record IsSpent {L : Type 0} (p : Problem) (IsOpen : L → Type 0) (claimed : Option CostOver) (start : Node) (tree : List (TreeNode L)) (next count budget : ℕ) : Type 0 where
   pub pending : (k : ℕ) (n : Node) → IsOpenAt p IsOpen start tree k n → IsPending p n
   pub node : Node
   pub at_leaf : IsOpenAt p IsOpen start tree next node
   pub of_use : MayUndercut p claimed node
   pub least : (k : ℕ) (n : Node) → IsOpenAt p IsOpen start tree k n → IsNoDearer p node n
-  pub material : ℕ
-  pub first : IsFirst (IsUndecided (shape_of p) node) material
-  pub count_is : count ≡ length (options (shape_of p) node material)
+  pub count_is : IsNextCount (shape_of p) node count
   pub exceeds : budget < length tree + count
 
 -- leaf k is open and reduced, and the simplex method goes past the range at its program. `Past` says so of a node.

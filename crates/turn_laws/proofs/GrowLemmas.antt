@@ -5,9 +5,8 @@ use Rattle.std.proofs.lemmas.Bool.{cases_eq}
 use Rattle.std.proofs.lemmas.Int.{ints}
 use Rattle.problem_rules.specs.Problem.{Problem}
 use Rattle.pns_rules.specs.Shape.{Shape, shape_of}
-use Rattle.pns_rules.specs.Structure.{is_needed}
-use Rattle.pns_rules.specs.Nodes.{Node, child}
-use Rattle.tree_rules.specs.Ways.{at_material, width, child_at}
+use Rattle.pns_rules.specs.Nodes.{Node}
+use Rattle.tree_rules.specs.Ways.{Way, width, MayBranch, child_at}
 use Rattle.flow_rules.specs.Net.{net_of}
 use Rattle.flow_rules.specs.Relaxed.{bound}
 use Rattle.pgraph.specs.View.{node_of}
@@ -89,34 +88,34 @@ end_same p claimed fallen old new n i f (branch w) h po pn same behind fit = rec
 }
 
 -- ---- a leaf is branched
-module _ (p : Problem) (start : Node) (claimed fallen : Option CostOver) (old kids new : List Cell) (at x : ℕ) (linked : IsLinked old) (there : at < length old)
+module _ (p : Problem) (start : Node) (claimed fallen : Option CostOver) (old kids new : List Cell) (at : ℕ) (w : Way) (linked : IsLinked old) (there : at < length old)
     (fits : Fits (shape_of p) (LeafPasses true p claimed) start old) (h : HasFallen claimed fallen) (po : IsPositiveCost claimed) (pn : IsPositiveCost fallen)
-    (needed : is_needed (shape_of p) (place_of (cell_at old at)).inside x ≡ true)
-    (children : AreChildren p fallen (place_of (cell_at old at)) x kids) (b : IsBranched old kids new at x) where
+    (may : MayBranch (shape_of p) (place_of (cell_at old at)) w)
+    (children : AreChildren p fallen (place_of (cell_at old at)) w kids) (b : IsBranched old kids new at w) where
   same_base : (j : ℕ) → j < length old → IsSameBase (cell_at old j) (cell_at new j)
   same_base j lt = elim (cases_eq j at) [
-    | inl e ↦ subst (λ i. IsSameBase (cell_at old i) (cell_at new i)) (sym e) (base_ended (cell_at old at) (cell_at new at) (length old) (branch (at_material x (length kids))) b.key b.at_is)
+    | inl e ↦ subst (λ i. IsSameBase (cell_at old i) (cell_at new i)) (sym e) (base_ended (cell_at old at) (cell_at new at) (length old) (branch w) b.key b.at_is)
     | inr ne ↦ base_same (cell_at old j) (cell_at new j) (b.others j lt ne)
   ]
 
   abbrev EndFitsNew : Cell → Type 0
   EndFitsNew c = EndFits (shape_of p) (LeafPasses true p fallen) new (place_of c) c.first c.end
 
-  branch_fits : IsBranch (shape_of p) new (place_of (cell_at old at)) (length old) (at_material x (length kids))
+  branch_fits : IsBranch (shape_of p) new (place_of (cell_at old at)) (length old) w
   branch_fits = record {
-    may = needed;
-    options_are = map_list (λ j. (cell_at new j).option) kids (length old) (λ k lt. ap (λ (c : Cell). c.option) (b.kids_are k lt)) ∙ children.options_are;
-    follow = λ k lt. subst (λ (c : Cell). Follows (shape_of p) (child (shape_of p) (place_of (cell_at old at)) x c.option) c) (sym (b.kids_are k lt)) (children.each k lt).follows;
+    may = may;
+    options_are = ap (λ n. map (λ j. (cell_at new j).option) (range_with_len (length old) n)) b.wide ∙ (map_list (λ j. (cell_at new j).option) kids (length old) (λ k lt. ap (λ (c : Cell). c.option) (b.kids_are k lt)) ∙ children.options_are);
+    follow = λ k lt. let less : k < length kids = let wide = b.wide in omega (arith, lt, wide) in subst (λ (c : Cell). Follows (shape_of p) (child_at (shape_of p) (place_of (cell_at old at)) w c.option) c) (sym (b.kids_are k less)) (children.each k less).follows;
   }
 
-  kid_fits : (c : Cell) → IsFreshChild p fallen (place_of (cell_at old at)) x c → EndFitsNew c
+  kid_fits : (c : Cell) → IsFreshChild p fallen (place_of (cell_at old at)) w c → EndFitsNew c
   kid_fits c f = subst (λ (e : End Leaf). EndFits (shape_of p) (LeafPasses true p fallen) new (place_of c) c.first e) (sym f.end_is) f.passes
 
   pub branched_fits : Fits (shape_of p) (LeafPasses true p fallen) start new
   branched_fits = record {
     no_option = (same_base 0 linked.some).option_is ∙ fits.no_option;
     root = follows_same (shape_of p) start (cell_at old 0) (cell_at new 0) (same_base 0 linked.some) fits.root;
-    ends = λ j lt. elim (where_is old kids new at x b j lt) [
+    ends = λ j lt. elim (where_is old kids new at w b j lt) [
       | inl e ↦ subst (λ i. EndFitsNew (cell_at new i)) (sym e) (subst (λ (c : Cell). EndFitsNew c) (sym b.at_is) branch_fits)
       | inr other ↦ elim other [
         | inl o ↦ subst (λ (c : Cell). EndFitsNew c) (sym (b.others j o.0 o.1))

@@ -5,18 +5,16 @@ use Rattle.number_sets.specs.Options.{IsIn}
 use Rattle.problem_rules.specs.Problem.{Problem}
 use Rattle.problem_rules.specs.Validity.{IsValid}
 use Rattle.pns_rules.specs.Shape.{Shape, shape_of}
-use Rattle.pns_rules.specs.Nodes.{Node, options, child, IsOption}
+use Rattle.pns_rules.specs.Nodes.{Node}
 use Rattle.pns_rules.specs.Ends.{IsSound, IsDead, IsNever}
-use Rattle.pns_rules.proofs.OptionLemmas.{options_all}
-use Rattle.pns_rules.proofs.ProperLemmas.{proper_if_valid}
+use Rattle.tree_rules.specs.Ways.{Way, at_material, either, options_at, child_at, IsDecision}
 use Rattle.flow_rules.specs.Net.{net_of}
 use Rattle.flow_rules.specs.Relaxed.{relaxed_cost}
 use Rattle.tree_rules.specs.Tree.{End, branch, leaf, after_all}
 use Rattle.tree_rules.specs.Leaf.{Leaf, dead, clash, refuted, bounded, untried}
 use Rattle.tree_rules.specs.Claim.{Claim, CostOver, claimed_cost}
 use Rattle.tree_rules.specs.Lean.{HasCheaper, IsNoDearer}
-use Rattle.search_laws.proofs.NumberLemmas.{decisions_split}
-use Rattle.search_laws.proofs.ValueLemmas.{children_are_dearer}
+use Rattle.search_laws.proofs.ValueLemmas.{ways_are_dearer}
 use Rattle.search_tree.specs.Cells.{Cell, place_of, cell_at}
 use Rattle.turn_laws.specs.Values.{IsPositive, IsNoMore, IsUnder, HasFallen, IsPositiveCost}
 use Rattle.turn_laws.specs.Kept.{IsFromLast, ReachesLast, LeafIsKept, EndIsKept, LastIsBelow, IsKept}
@@ -52,16 +50,21 @@ in_options [] k lt = absurd (omega (arith, lt))
 in_options (c ∷ cs) zero lt = inl refl
 in_options (c ∷ cs) (suc k) lt = inr (in_options cs k (omega (arith, lt)))
 
+-- a way that decides something has two options or more
+some_options : (g : Shape) (n : Node) (w : Way) → IsDecision g n w → 2 ≤ length (options_at g n w)
+some_options g n (at_material x c) d = d
+some_options g n (either u) d = omega arith
+
 -- ---- a leaf is branched
-module _ (p : Problem) (valid : IsValid p) (start : Node) (claim new_claim : Claim) (last : Option CostOver) (v : CostOver) (old kids new : List Cell) (at x : ℕ)
-    (kept : IsKept p start claim last old) (can : CanBranch p old at x v) (least : IsLeastOpen p old at v)
+module _ (p : Problem) (valid : IsValid p) (start : Node) (claim new_claim : Claim) (last : Option CostOver) (v : CostOver) (old kids new : List Cell) (at : ℕ) (w : Way)
+    (kept : IsKept p start claim last old) (can : CanBranch p old at w v) (least : IsLeastOpen p old at v)
     (fallen : HasFallen (claimed_cost claim) (claimed_cost new_claim)) (positive : IsPositiveCost (claimed_cost new_claim)) (below : LastIsBelow (Some v) (claimed_cost new_claim))
-    (children : AreChildren p (claimed_cost new_claim) (place_of (cell_at old at)) x kids) (b : IsBranched old kids new at x) where
+    (children : AreChildren p (claimed_cost new_claim) (place_of (cell_at old at)) w kids) (b : IsBranched old kids new at w) where
   abbrev here : Node
   here = place_of (cell_at old at)
 
-  splits : 2 ≤ length (options (shape_of p) (place_of (cell_at old at)) x)
-  splits = decisions_split (shape_of p) (place_of (cell_at old at)) x can.reduced can.undecided
+  splits : 2 ≤ length (options_at (shape_of p) (place_of (cell_at old at)) w)
+  splits = some_options (shape_of p) (place_of (cell_at old at)) w can.splits
 
   some_kids : 0 < length kids
   some_kids =
@@ -71,17 +74,17 @@ module _ (p : Problem) (valid : IsValid p) (start : Node) (claim new_claim : Cla
       omega (arith, a, e, s)
 
   -- the value branched last is at most this one
-  last_no_more : (w : CostOver) → last ≡ Some w → IsPositive w × IsNoMore w v
-  last_no_more w e =
-      let pw : IsPositive w = subst IsPositiveCost e kept.last_positive in
+  last_no_more : (o : CostOver) → last ≡ Some o → IsPositive o × IsNoMore o v
+  last_no_more o e =
+      let po : IsPositive o = subst IsPositiveCost e kept.last_positive in
       let from : IsNever (IsDead (shape_of p) (place_of (cell_at old at))) → IsFromLast p last (place_of (cell_at old at))
       = subst (λ (f : End Leaf). EndIsKept p last (place_of (cell_at old at)) f) can.is_open (kept.ends at can.there) in
-      let under : IsUnder p w (place_of (cell_at old at)) = subst (λ l. IsFromLast p l (place_of (cell_at old at))) e (from can.reduced.live.no_dead) in
-      (pw, under_reached p (place_of (cell_at old at)) w v pw can.value.positive under can.value.reached)
+      let under : IsUnder p o (place_of (cell_at old at)) = subst (λ l. IsFromLast p l (place_of (cell_at old at))) e (from can.reduced.live.no_dead) in
+      (po, under_reached p (place_of (cell_at old at)) o v po can.value.positive under can.value.reached)
 
   reaches_now : (l : Option CostOver) → last ≡ l → (n : Node) → ReachesLast p l n → HasCheaper p n v.cost v.d
   reaches_now None e n r = absurd r
-  reaches_now (Some w) e n r = let q = last_no_more w e in reached_more p n w v q.0 can.value.positive q.1 r
+  reaches_now (Some o) e n r = let q = last_no_more o e in reached_more p n o v q.0 can.value.positive q.1 r
 
   other_leaf : (n : Node) (l : Leaf) → (l ≡ untried → IsNever (IsDead (shape_of p) n) → IsUnder p v n) → LeafIsKept p (Some v) n l
   other_leaf n (dead y) h = tt
@@ -91,7 +94,7 @@ module _ (p : Problem) (valid : IsValid p) (start : Node) (claim new_claim : Cla
   other_leaf n untried h = h refl
 
   other_end : (n : Node) (e : End Leaf) → EndIsKept p last n e → (e ≡ leaf untried → IsNever (IsDead (shape_of p) n) → IsUnder p v n) → EndIsKept p (Some v) n e
-  other_end n (branch w) k h = record { reduced = k.reduced; splits = k.splits; reached = reaches_now last refl n k.reached }
+  other_end n (branch way) k h = record { reduced = k.reduced; splits = k.splits; reached = reaches_now last refl n k.reached }
   other_end n (leaf l) k h = other_leaf n l (λ e. h (ap (λ (w : Leaf). leaf w) e))
 
   -- a child is no cheaper than the leaf
@@ -101,12 +104,11 @@ module _ (p : Problem) (valid : IsValid p) (start : Node) (claim new_claim : Cla
       let c = cell_at kids k in
       let f = children.each k lt in
       let apart = (kept.sound at can.there).apart in
-      let option : IsOption g (place_of (cell_at old at)) x c.option
-      = (options_all g (place_of (cell_at old at)) x c.option (proper_if_valid p valid) apart).0 (subst (λ os. IsIn c.option os) children.options_are (in_options kids k lt)) in
-      let dead_there : IsNever (IsDead g (after_all g (child g (place_of (cell_at old at)) x c.option) c.steps)) = subst (λ (m : Node). IsNever (IsDead g m)) (sym f.follows.leave) no_dead in
+      let option : IsIn c.option (options_at g (place_of (cell_at old at)) w) = subst (λ os. IsIn c.option os) children.options_are (in_options kids k lt) in
+      let dead_there : IsNever (IsDead g (after_all g (child_at g (place_of (cell_at old at)) w c.option) c.steps)) = subst (λ (m : Node). IsNever (IsDead g m)) (sym f.follows.leave) no_dead in
       subst (λ (m : Node). IsUnder p v m) f.follows.leave
-      (under_dearer p (place_of (cell_at old at)) (after_all g (child g (place_of (cell_at old at)) x c.option) c.steps) v can.value.positive can.value.under
-      (children_are_dearer p valid (place_of (cell_at old at)) x c.option c.steps apart option f.follows.pass dead_there))
+      (under_dearer p (place_of (cell_at old at)) (after_all g (child_at g (place_of (cell_at old at)) w c.option) c.steps) v can.value.positive can.value.under
+      (ways_are_dearer p valid (place_of (cell_at old at)) w c.option c.steps apart can.may option f.follows.pass dead_there))
 
   kid_end : (k : ℕ) → k < length kids → EndIsKept p (Some v) (place_of (cell_at kids k)) (cell_at kids k).end
   kid_end k lt =
@@ -116,20 +118,20 @@ module _ (p : Problem) (valid : IsValid p) (start : Node) (claim new_claim : Cla
   pub branching_is_kept : IsKept p start new_claim (Some v) new
   branching_is_kept = record {
     grown = record {
-      linked = branched_linked old kids new at x b kept.grown.linked can.there can.is_open some_kids (λ k lt. let f = children.each k lt in (f.what, f.end_is));
+      linked = branched_linked old kids new at w b kept.grown.linked can.there can.is_open some_kids (λ k lt. let f = children.each k lt in (f.what, f.end_is));
       fits =
-          branched_fits p start (claimed_cost claim) (claimed_cost new_claim) old kids new at x kept.grown.linked can.there kept.grown.fits fallen kept.claim_positive positive can.undecided.needed children b;
+          branched_fits p start (claimed_cost claim) (claimed_cost new_claim) old kids new at w kept.grown.linked can.there kept.grown.fits fallen kept.claim_positive positive can.may children b;
     };
-    sound = λ j lt. elim (where_is old kids new at x b j lt) [
+    sound = λ j lt. elim (where_is old kids new at w b j lt) [
       | inl e ↦ subst (λ i. IsSound (shape_of p) (place_of (cell_at new i))) (sym e) (subst (λ (c : Cell). IsSound (shape_of p) (place_of c)) (sym b.at_is) (kept.sound at can.there))
       | inr other ↦ elim other [
         | inl o ↦ subst (λ (c : Cell). IsSound (shape_of p) (place_of c)) (sym (b.others j o.0 o.1)) (kept.sound j o.0)
         | inr kid ↦ subst (λ (c : Cell). IsSound (shape_of p) (place_of c)) (sym (ap (λ i. cell_at new i) kid.2 ∙ b.kids_are kid.0 kid.1)) (children.each kid.0 kid.1).sound
       ]
     ];
-    ends = λ j lt. elim (where_is old kids new at x b j lt) [
+    ends = λ j lt. elim (where_is old kids new at w b j lt) [
       | inl e ↦ subst (λ i. EndIsKept p (Some v) (place_of (cell_at new i)) (cell_at new i).end) (sym e)
-          (subst (λ (c : Cell). EndIsKept p (Some v) (place_of c) c.end) (sym b.at_is) (record { reduced = can.reduced; splits = splits; reached = can.value.reached }))
+          (subst (λ (c : Cell). EndIsKept p (Some v) (place_of c) c.end) (sym b.at_is) (record { reduced = can.reduced; splits = can.splits; reached = can.value.reached }))
       | inr other ↦ elim other [
         | inl o ↦ subst (λ (c : Cell). EndIsKept p (Some v) (place_of c) c.end) (sym (b.others j o.0 o.1)) (other_end (place_of (cell_at old j)) (cell_at old j).end (kept.ends j o.0) (least j o.0 o.1))
         | inr kid ↦ subst (λ (c : Cell). EndIsKept p (Some v) (place_of c) c.end) (sym (ap (λ i. cell_at new i) kid.2 ∙ b.kids_are kid.0 kid.1)) (kid_end kid.0 kid.1)

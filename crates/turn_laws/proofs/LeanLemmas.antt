@@ -9,17 +9,18 @@ use Rattle.problem_rules.specs.Problem.{Problem}
 use Rattle.problem_rules.specs.Validity.{IsValid}
 use Rattle.pns_rules.specs.Shape.{shape_of}
 use Rattle.pns_rules.specs.Structure.{IsBetween}
-use Rattle.pns_rules.specs.Nodes.{Node, options}
-use Rattle.pns_rules.specs.Ends.{IsDead, IsNever, IsUndecided, IsFirst}
+use Rattle.pns_rules.specs.Nodes.{Node}
+use Rattle.pns_rules.specs.Ends.{IsDead, IsNever}
 use Rattle.flow_rules.specs.Net.{net_of}
 use Rattle.flow_rules.specs.Flows.{IsFlows, cost}
 use Rattle.flow_rules.specs.Relaxed.{relaxed_cost}
 use Rattle.flow_rules.proofs.DualityLemmas.{flows_are_relaxed, relaxed_costs_less}
+use Rattle.tree_rules.specs.Ways.{Way}
 use Rattle.tree_rules.specs.Tree.{End, branch, leaf, Stands}
 use Rattle.tree_rules.specs.Leaf.{Leaf, untried, IsUntried, LeafPasses}
 use Rattle.tree_rules.specs.Claim.{Claim, unknown, CostOver, claimed_cost, IsAtMost, ClaimPasses}
 use Rattle.tree_rules.specs.Lean.{MayUndercut, HasCheaper, IsNoDearer, IsLean}
-use Rattle.tree_rules.specs.Stops.{IsOpenAt, IsPending, IsSpent}
+use Rattle.tree_rules.specs.Stops.{IsOpenAt, IsPending, IsNextCount, IsSpent}
 use Rattle.tree_rules.specs.Accepted.{IsAccepted}
 use Rattle.tree_laws.proofs.AcceptedLemmas.{partial_is_accepted}
 use Rattle.search_tree.specs.Cells.{Cell, place_of, cell_at}
@@ -116,10 +117,10 @@ module _ (p : Problem) (start : Node) (claim : Claim) (last : Option CostOver) (
   open_cell : (k : ℕ) (n : Node) → IsOpenAt p IsUntried start (tree_of cells order) k n → IsCell cells n (leaf untried)
   open_cell k n o = cell_of k n (leaf untried) (subst (λ (l : Leaf). Stands (shape_of p) (start ∷ []) (tree_of cells order) k n (leaf l)) o.is_open o.stands)
 
-  module _ (at x place count budget : ℕ) (v : CostOver) (stands : slice_get order place ≡ Some at) (can : CanBranch p cells at x v)
-      (first : IsFirst (IsUndecided (shape_of p) (place_of (cell_at cells at))) x) (least : IsLeastOpen p cells at v) (below : LastIsBelow (Some v) (claimed_cost claim))
+  module _ (at place count budget : ℕ) (w : Way) (v : CostOver) (stands : slice_get order place ≡ Some at) (can : CanBranch p cells at w v)
+      (least : IsLeastOpen p cells at v) (below : LastIsBelow (Some v) (claimed_cost claim))
       (pending : (j : ℕ) → j < length cells → (cell_at cells j).end ≡ leaf untried → IsPending p (place_of (cell_at cells j)))
-      (count_is : count ≡ length (options (shape_of p) (place_of (cell_at cells at)) x)) (over : budget < length cells + count) where
+      (count_is : IsNextCount (shape_of p) (place_of (cell_at cells at)) count) (over : budget < length cells + count) where
     pending_at : (n : Node) → IsCell cells n (leaf untried) → IsPending p n
     pending_at n c = subst (λ (m : Node). IsPending p m) c.node_is (pending c.number c.there c.end_is)
 
@@ -136,8 +137,6 @@ module _ (p : Problem) (start : Node) (claim : Claim) (last : Option CostOver) (
       at_leaf = open_stands at place stands can.is_open;
       of_use = undercuts p (claimed_cost claim) (place_of (cell_at cells at)) v can.value.positive kept.claim_positive below can.value.reached;
       least = λ k n o. no_dearer p (place_of (cell_at cells at)) n v can.value.positive can.value.reached (under_at n (open_cell k n o));
-      material = x;
-      first = first;
       count_is = count_is;
       exceeds =
           let a : length (tree_of cells order) ≡ length order = length-map order (node_at cells) in

@@ -2,7 +2,7 @@
 use Rattle.std.proofs.Common.{◌≡◌, ℕ, zero, suc, ◌+◌, ◌-◌, ◌<◌, ◌≤◌, ◌==◌, Bool, true, false, cond, List, [], length, refl, sym, ap, ◌∙◌, subst, arith, inl, inr, ◌⊎◌, eq-eqb, ne_eqb}
 use Rattle.std.specs.List.{range_with_len}
 use Rattle.std.proofs.lemmas.Bool.{cases_eq, cases_lt}
-use Rattle.tree_rules.specs.Ways.{width}
+use Rattle.tree_rules.specs.Ways.{Way, width}
 use Rattle.tree_rules.specs.Tree.{End, branch, leaf}
 use Rattle.tree_rules.specs.Leaf.{Leaf, untried}
 use Rattle.search_tree.specs.Cells.{Cell, cell_at, times, numbers_below, children_at, AreBehind, IsParentOf, IsLinked}
@@ -55,7 +55,7 @@ leaf_below : (f : ℕ) (e : End Leaf) (l : Leaf) → e ≡ leaf l → numbers_be
 leaf_below f e l h = ap (λ (w : End Leaf). numbers_below f w) h
 
 -- ---- a leaf is branched
-module _ (old kids new : List Cell) (at x : ℕ) (b : IsBranched old kids new at x) where
+module _ (old kids new : List Cell) (at : ℕ) (w : Way) (b : IsBranched old kids new at w) where
   -- where a number stands: at the leaf, among the other cells, or among the children
 
   abbrev pub IsKid : ℕ → Type 0
@@ -78,7 +78,7 @@ module _ (old kids new : List Cell) (at x : ℕ) (b : IsBranched old kids new at
     behind : (j : ℕ) → j < length new → AreBehind (length new) j (cell_at new j).first (cell_at new j).end
     behind j lt = elim (where_is j lt) [
       | inl e ↦ subst (λ i. AreBehind (length new) i (cell_at new i).first (cell_at new i).end) (sym e)
-          (subst (λ (c : Cell). AreBehind (length new) at c.first c.end) (sym b.at_is) (some, there, let l = b.len in omega (arith, l)))
+          (subst (λ (c : Cell). AreBehind (length new) at c.first c.end) (sym b.at_is) (subst (λ n. 0 < n) (sym b.wide) some, there, let l = b.len in let wide = b.wide in omega (arith, l, wide)))
       | inr other ↦ elim other [
         | inl o ↦ subst (λ (c : Cell). AreBehind (length new) j c.first c.end) (sym (b.others j o.0 o.1))
             (behind_more (length old) (length new) j (cell_at old j).first (cell_at old j).end (let l = b.len in omega (arith, l)) (linked.behind j o.0))
@@ -91,7 +91,7 @@ module _ (old kids new : List Cell) (at x : ℕ) (b : IsBranched old kids new at
     children_same v lt ne = ap (λ (c : Cell). numbers_below c.first c.end) (b.others v lt ne)
 
     children_here : children_at new at ≡ range_with_len (length old) (length kids)
-    children_here = ap (λ (c : Cell). numbers_below c.first c.end) b.at_is
+    children_here = ap (λ (c : Cell). numbers_below c.first c.end) b.at_is ∙ ap (λ n. range_with_len (length old) n) b.wide
 
     no_children : (v : ℕ) → (kid : IsKid v) → children_at new v ≡ []
     no_children v kid =

@@ -3,16 +3,17 @@ use Rattle.std.proofs.Common.{◌≡◌, ℕ, ◌+◌, ◌<◌, true, List, leng
 use Rattle.std.proofs.lemmas.Bool.{cases_eq}
 use Rattle.std.proofs.lemmas.List.{get_or_append_left, get_or-append-add, get_or-set_same, get_or-set_other, length-set}
 use Rattle.problem_rules.specs.Problem.{Problem}
-use Rattle.tree_rules.specs.Tree.{leaf}
+use Rattle.tree_rules.specs.Ways.{Way, width}
+use Rattle.tree_rules.specs.Tree.{branch, leaf}
 use Rattle.tree_rules.specs.Leaf.{Leaf, untried, LeafPasses}
 use Rattle.tree_rules.specs.Claim.{CostOver}
 use Rattle.search_tree.specs.Cells.{Cell, no_cell, place_of, cell_at}
-use Rattle.search_tree.specs.Growth.{as_branch, as_shut}
+use Rattle.search_tree.specs.Growth.{as_parent, as_shut}
 use Rattle.turn_laws.specs.Turns.{IsBranched, IsShut, AreShut}
 
-module _ (old kids : List Cell) (at x : ℕ) (there : at < length old) where
+module _ (old kids : List Cell) (at : ℕ) (w : Way) (there : at < length old) (wide : width w ≡ length kids) where
   abbrev now : Cell
-  now = as_branch (cell_at old at) (length old) x (length kids)
+  now = as_parent (cell_at old at) (length old) (branch w)
 
   abbrev marked : List Cell
   marked = slice_set old at now
@@ -20,8 +21,9 @@ module _ (old kids : List Cell) (at x : ℕ) (there : at < length old) where
   same_length : length marked ≡ length old
   same_length = length-set old at now
 
-  pub growth_branches : IsBranched old kids (marked ++ kids) at x
+  pub growth_branches : IsBranched old kids (marked ++ kids) at w
   growth_branches = record {
+    wide = wide;
     len = length-append marked kids ∙ ap (λ n. n + length kids) same_length;
     others = λ j lt ne. get_or_append_left marked kids no_cell j (let l = same_length in omega (arith, lt, l)) ∙ get_or-set_other old at j now no_cell ne;
     key = (cell_at old at).key;

@@ -6,18 +6,18 @@ use Rattle.problem_rules.specs.Problem.{Problem}
 use Rattle.problem_rules.specs.Validity.{IsValid}
 use Rattle.pns_rules.specs.Shape.{shape_of}
 use Rattle.pns_rules.specs.Structure.{IsBetween}
-use Rattle.pns_rules.specs.Nodes.{Node, options}
-use Rattle.pns_rules.specs.Ends.{IsUndecided, IsFirst}
+use Rattle.pns_rules.specs.Nodes.{Node}
 use Rattle.flow_rules.specs.Net.{net_of}
 use Rattle.flow_rules.specs.Flows.{IsFlows, cost}
-use Rattle.tree_rules.specs.Tree.{leaf}
+use Rattle.tree_rules.specs.Ways.{Way, width}
+use Rattle.tree_rules.specs.Tree.{branch, leaf}
 use Rattle.tree_rules.specs.Leaf.{Leaf, IsUntried, untried, LeafPasses}
 use Rattle.tree_rules.specs.Claim.{Claim, unknown, CostOver, claimed_cost, ClaimPasses}
 use Rattle.tree_rules.specs.Lean.{IsLean}
-use Rattle.tree_rules.specs.Stops.{IsOpenAt, IsPending, IsSpent}
+use Rattle.tree_rules.specs.Stops.{IsOpenAt, IsPending, IsNextCount, IsSpent}
 use Rattle.tree_rules.specs.Accepted.{IsAccepted}
 use Rattle.search_tree.specs.Cells.{Cell, place_of, cell_at}
-use Rattle.search_tree.specs.Growth.{as_branch, as_shut}
+use Rattle.search_tree.specs.Growth.{as_parent, as_shut}
 use Rattle.search_tree.specs.Preorder.{IsPreorder, tree_of}
 use Rattle.turn_laws.specs.Values.{IsPositive, IsUnder, HasFallen, IsPositiveCost}
 use Rattle.turn_laws.specs.Kept.{LastIsBelow, IsKept}
@@ -28,10 +28,10 @@ use Rattle.turn_laws.specs.Turns.{CanBranch, IsLeastOpen, AreChildren, IsBranche
 -- an open leaf of least value is branched, where its value is at most what is claimed then
 abbrev pub BranchingIsKept : Type 0
 BranchingIsKept =
-    (p : Problem) → IsValid p → (start : Node) (claim new_claim : Claim) (last : Option CostOver) (v : CostOver) (old kids new : List Cell) (at x : ℕ)
-    → IsKept p start claim last old → CanBranch p old at x v → IsLeastOpen p old at v
+    (p : Problem) → IsValid p → (start : Node) (claim new_claim : Claim) (last : Option CostOver) (v : CostOver) (old kids new : List Cell) (at : ℕ) (w : Way)
+    → IsKept p start claim last old → CanBranch p old at w v → IsLeastOpen p old at v
     → HasFallen (claimed_cost claim) (claimed_cost new_claim) → IsPositiveCost (claimed_cost new_claim) → LastIsBelow (Some v) (claimed_cost new_claim)
-    → AreChildren p (claimed_cost new_claim) (place_of (cell_at old at)) x kids → IsBranched old kids new at x → IsKept p start new_claim (Some v) new
+    → AreChildren p (claimed_cost new_claim) (place_of (cell_at old at)) w kids → IsBranched old kids new at w → IsKept p start new_claim (Some v) new
 
 -- open leaves are shut
 abbrev pub ShuttingIsKept : Type 0
@@ -43,8 +43,8 @@ ShuttingIsKept =
 
 abbrev pub GrowthBranches : Type 0
 GrowthBranches =
-    (old kids : List Cell) (at x : ℕ) → at < length old
-    → IsBranched old kids (slice_set old at (as_branch (cell_at old at) (length old) x (length kids)) ++ kids) at x
+    (old kids : List Cell) (at : ℕ) (w : Way) → at < length old → width w ≡ length kids
+    → IsBranched old kids (slice_set old at (as_parent (cell_at old at) (length old) (branch w)) ++ kids) at w
 
 abbrev pub GrowthShuts : Type 0
 GrowthShuts =
@@ -72,15 +72,15 @@ WholeIsAccepted =
     → IsPreorder cells (0 ∷ []) order → ClaimPasses true p claim → (claim ≡ unknown → ⊥)
     → ((i : ℕ) → i < length cells → (cell_at cells i).end ≡ leaf untried → ⊥) → IsAccepted p start claim (tree_of cells order)
 
--- where all open leaves are pending, and the nodes with the options at the least needed material of a least one are more than the
--- budget, the budget is spent
+-- where all open leaves are pending, and the nodes with the children that a least one may have are more than the budget, the
+-- budget is spent
 abbrev pub KeptIsSpent : Type 0
 KeptIsSpent =
-    (p : Problem) (start : Node) (claim : Claim) (last : Option CostOver) (cells : List Cell) (order : List ℕ) (at x place count budget : ℕ) (v : CostOver)
+    (p : Problem) (start : Node) (claim : Claim) (last : Option CostOver) (cells : List Cell) (order : List ℕ) (at place count budget : ℕ) (w : Way) (v : CostOver)
     → IsKept p start claim last cells → IsPreorder cells (0 ∷ []) order → slice_get order place ≡ Some at
-    → CanBranch p cells at x v → IsFirst (IsUndecided (shape_of p) (place_of (cell_at cells at))) x → IsLeastOpen p cells at v → LastIsBelow (Some v) (claimed_cost claim)
+    → CanBranch p cells at w v → IsLeastOpen p cells at v → LastIsBelow (Some v) (claimed_cost claim)
     → ((j : ℕ) → j < length cells → (cell_at cells j).end ≡ leaf untried → IsPending p (place_of (cell_at cells j)))
-    → count ≡ length (options (shape_of p) (place_of (cell_at cells at)) x) → budget < length cells + count
+    → IsNextCount (shape_of p) (place_of (cell_at cells at)) count → budget < length cells + count
     → IsSpent p IsUntried (claimed_cost claim) start (tree_of cells order) place count budget
 
 -- an open leaf stands open at its place

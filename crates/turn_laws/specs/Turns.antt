@@ -2,9 +2,9 @@
 use Rattle.std.specs.Prelude.{◌≡◌, ◌⊎◌, ℕ, ◌+◌, ◌<◌, true, List, length, map, Option}
 use Rattle.problem_rules.specs.Problem.{Problem}
 use Rattle.pns_rules.specs.Shape.{shape_of}
-use Rattle.pns_rules.specs.Nodes.{Node, options, child}
-use Rattle.pns_rules.specs.Ends.{IsSound, IsDead, IsUndecided, IsNever, IsReduced}
-use Rattle.tree_rules.specs.Ways.{at_material}
+use Rattle.pns_rules.specs.Nodes.{Node}
+use Rattle.pns_rules.specs.Ends.{IsSound, IsDead, IsNever, IsReduced}
+use Rattle.tree_rules.specs.Ways.{Way, width, MayBranch, options_at, child_at, IsDecision}
 use Rattle.tree_rules.specs.Tree.{End, branch, leaf}
 use Rattle.tree_rules.specs.Leaf.{Leaf, untried, LeafPasses}
 use Rattle.tree_rules.specs.Claim.{CostOver}
@@ -14,12 +14,13 @@ use Rattle.turn_laws.specs.Values.{IsValueOf, IsUnder}
 
 -- ---- a leaf is branched
 
--- leaf `at` can be branched at the material x: it is reduced, x is still to decide there, and v is its value
-pub record CanBranch (p : Problem) (cells : List Cell) (at x : ℕ) (v : CostOver) : Type 0 where
+-- leaf `at` can be branched in this way: it is reduced, the way decides something there, and v is its value
+pub record CanBranch (p : Problem) (cells : List Cell) (at : ℕ) (w : Way) (v : CostOver) : Type 0 where
   pub there : at < length cells
   pub is_open : (cell_at cells at).end ≡ leaf untried
   pub reduced : IsReduced (shape_of p) (place_of (cell_at cells at))
-  pub undecided : IsUndecided (shape_of p) (place_of (cell_at cells at)) x
+  pub may : MayBranch (shape_of p) (place_of (cell_at cells at)) w
+  pub splits : IsDecision (shape_of p) (place_of (cell_at cells at)) w
   pub value : IsValueOf p (place_of (cell_at cells at)) v
 
 -- no other open leaf has cheaper relaxed flows
@@ -29,28 +30,29 @@ IsLeastOpen p cells at v =
     → IsUnder p v (place_of (cell_at cells j))
 
 -- a child of the node: a leaf that passes at the node to which its steps lead
-pub record IsFreshChild (p : Problem) (claimed : Option CostOver) (n : Node) (x : ℕ) (c : Cell) : Type 0 where
-  pub follows : Follows (shape_of p) (child (shape_of p) n x c.option) c
+pub record IsFreshChild (p : Problem) (claimed : Option CostOver) (n : Node) (w : Way) (c : Cell) : Type 0 where
+  pub follows : Follows (shape_of p) (child_at (shape_of p) n w c.option) c
   pub sound : IsSound (shape_of p) (place_of c)
   pub what : Leaf
   pub end_is : c.end ≡ leaf what
   pub passes : LeafPasses true p claimed (place_of c) what
 
--- the children have all options of the material, in order
-pub record AreChildren (p : Problem) (claimed : Option CostOver) (n : Node) (x : ℕ) (kids : List Cell) : Type 0 where
-  pub options_are : map (λ (c : Cell). c.option) kids ≡ options (shape_of p) n x
-  pub each : (k : ℕ) → k < length kids → IsFreshChild p claimed n x (cell_at kids k)
+-- the children have all options of the way, in order
+pub record AreChildren (p : Problem) (claimed : Option CostOver) (n : Node) (w : Way) (kids : List Cell) : Type 0 where
+  pub options_are : map (λ (c : Cell). c.option) kids ≡ options_at (shape_of p) n w
+  pub each : (k : ℕ) → k < length kids → IsFreshChild p claimed n w (cell_at kids k)
 
 -- the cell with another first child, end and key
 abbrev pub with_end : Cell → ℕ → End Leaf → ℕ → Cell
 with_end c first end key = record { option = c.option; steps = c.steps; node = c.node; first = first; end = end; key = key }
 
--- the children stand behind the other cells, and the leaf is a branch
-pub record IsBranched (old kids new : List Cell) (at x : ℕ) : Type 0 where
+-- the children, as many as the way has, stand behind the other cells, and the leaf is a branch
+pub record IsBranched (old kids new : List Cell) (at : ℕ) (w : Way) : Type 0 where
+  pub wide : width w ≡ length kids
   pub len : length new ≡ length old + length kids
   pub others : (j : ℕ) → j < length old → (j ≡ at → ⊥) → cell_at new j ≡ cell_at old j
   pub key : ℕ
-  pub at_is : cell_at new at ≡ with_end (cell_at old at) (length old) (branch (at_material x (length kids))) key
+  pub at_is : cell_at new at ≡ with_end (cell_at old at) (length old) (branch w) key
   pub kids_are : (k : ℕ) → k < length kids → cell_at new (length old + k) ≡ cell_at kids k
 
 -- ---- open leaves are shut

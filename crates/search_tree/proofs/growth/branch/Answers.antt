@@ -1,8 +1,9 @@
 use Rattle.std.proofs.Common.{List, length, slice_set, ◌++◌, subst}
 use Rattle.frac128.specs.declared.fraction.Frac.{Frac}
+use Rattle.branch_tree.specs.View.{end_of}
 use Rattle.search_tree.specs.declared.growth.Fresh.{Fresh}
 use Rattle.search_tree.specs.Cells.{Cell, cell_at}
-use Rattle.search_tree.specs.Growth.{as_branch, cells_in_turn, values_in_turn}
+use Rattle.search_tree.specs.Growth.{as_parent, cells_in_turn, values_in_turn}
 use Rattle.search_tree.proofs.GrowthLemmas.{IsGrowing, grows}
 use Rattle.search_tree.proofs.growth.branch.Goals as goal
 
@@ -11,7 +12,7 @@ kids-preserved c =
     let p = c.args.pool.now in
     let leaf = c.args.leaf in
     let kids = c.args.kids.now.items in
-    let cells : List Cell = slice_set p.payloads leaf (as_branch (cell_at p.payloads leaf) c.args.first c.args.material (length kids)) ++ cells_in_turn kids in
+    let cells : List Cell = slice_set p.payloads leaf (as_parent (cell_at p.payloads leaf) c.args.first (end_of c.args.end)) ++ cells_in_turn kids in
     let values : List Frac = p.values ++ values_in_turn kids in
     grows cells values leaf c.kids.pool c.add_child.new.pool c.pop.new.self.items c.in-Some.fresh
     (subst (λ (xs : List Fresh). IsGrowing cells values leaf c.kids.pool xs) c.in-Some.ensures.items c.kids.invariant)
