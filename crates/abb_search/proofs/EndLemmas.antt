@@ -3,7 +3,8 @@ use Rattle.std.specs.Prelude.{IfSome, is_some}
 use Rattle.std.proofs.Common.{◌≡◌, ℕ, ◌-◌, ◌<◌, ◌≤◌, Bool, true, false, ◌||◌, List, [], ◌∷◌, length, Option, Some, None, refl, sym, ap, ◌∙◌, subst, arith, suc, ◌^◌, ◌+◌}
 use Rattle.problem_rules.specs.Problem.{Problem}
 use Rattle.pns_rules.specs.Shape.{shape_of}
-use Rattle.pns_rules.specs.Nodes.{Node, options}
+use Rattle.pns_rules.specs.Nodes.{Node}
+use Rattle.tree_rules.specs.Ways.{options_at}
 use Rattle.pgraph.specs.View.{node_of}
 use Rattle.tree_rules.specs.Tree.{End, leaf, Stands}
 use Rattle.unit_sets.specs.declared.node.Node as starts
@@ -20,7 +21,7 @@ use Rattle.search_tree.specs.Fits.{EndFits}
 use Rattle.search_tree.specs.Growth.{AreOpen}
 use Rattle.search_tree.specs.Preorder.{IsPreorder, IsTreeOf, tree_of}
 use Rattle.search_tree.proofs.PassLemmas.{passes, aligned_start, cells_stand}
-use Rattle.search_laws.proofs.SpentLemmas.{spent_is_never}
+use Rattle.search_laws.proofs.SpentLemmas.{never_spent}
 use Rattle.pns_rules.proofs.ProperLemmas.{proper_if_valid}
 use Rattle.problem_rules.specs.Validity.{IsValid}
 use Rattle.number_sets.specs.Sets.{listed}
@@ -93,7 +94,7 @@ module _ (p : Problem) (s : Growing) (t : IsTreeKept p s) (at place : ℕ) (tree
 
   pub spent : (count : ℕ) → IsSpentAt p s at count → IsSpent p IsUntried (claimed_cost (claim_with s.best)) (node_of s.start) tree place count s.budget
   spent count h = subst (λ (w : Tree). IsSpent p IsUntried (claimed_cost (claim_with s.best)) (node_of s.start) w place count s.budget) (sym of.nodes_are)
-      (kept_is_spent p (node_of s.start) (claim_with s.best) t.last s.pool.payloads of.order t.kept of.is_preorder at h.material place count s.budget h.value of.stands h.can h.first h.least h.below h.pending h.count_is h.over)
+      (kept_is_spent p (node_of s.start) (claim_with s.best) t.last s.pool.payloads of.order t.kept of.is_preorder at place count s.budget h.way h.value of.stands h.can h.least h.below h.pending h.count_is h.over)
 
   head_is : (order : List ℕ) → IsPreorder s.pool.payloads (0 ∷ []) order → slice_get order 0 ≡ Some 0
   head_is [] h = absurd h
@@ -108,10 +109,10 @@ module _ (p : Problem) (s : Growing) (t : IsTreeKept p s) (at place : ℕ) (tree
       (cells_stand (shape_of p) (LeafPasses true p (claimed_cost (claim_with s.best))) (node_of s.start) s.pool.payloads t.kept.grown.linked t.kept.grown.fits (node_of s.start ∷ []) (0 ∷ []) of.order
       (aligned_start (shape_of p) (LeafPasses true p (claimed_cost (claim_with s.best))) (node_of s.start) s.pool.payloads t.kept.grown.linked t.kept.grown.fits) of.is_preorder place at of.stands) in
       let now = subst (λ (w : Tree). IsStopped p (node_of s.start) (claim_with s.best) w) of.nodes_are stopped in
-      let most = spent_is_never p (proper_if_valid p valid) true (node_of s.start) (claim_with s.best) all union (tree_of s.pool.payloads of.order) now.partial now.lean
-      (place_of (cell_at s.pool.payloads 0)) (cell_at s.pool.payloads 0).end top (t.kept.sound 0 t.kept.grown.linked.some) place (place_of (cell_at s.pool.payloads at)) there h.can.reduced h.material h.can.undecided in
+      let most = never_spent p (proper_if_valid p valid) true (node_of s.start) (claim_with s.best) all union (tree_of s.pool.payloads of.order) now.partial now.lean
+      (place_of (cell_at s.pool.payloads 0)) (cell_at s.pool.payloads 0).end top (t.kept.sound 0 t.kept.grown.linked.some) place (place_of (cell_at s.pool.payloads at)) there h.can.reduced h.way h.can.may h.can.splits in
       let spent_now = subst (λ (w : Tree). IsSpent p IsUntried (claimed_cost (claim_with s.best)) (node_of s.start) w place count s.budget) of.nodes_are (spent count h) in
-      under_limit s.budget (length (tree_of s.pool.payloads of.order)) count (length (options (shape_of p) (place_of (cell_at s.pool.payloads at)) h.material)) (2 ^ suc (length (listed (shape_of p).units all))) spent_now.exceeds h.count_is most
+      under_limit s.budget (length (tree_of s.pool.payloads of.order)) count (length (options_at (shape_of p) (place_of (cell_at s.pool.payloads at)) h.way)) (2 ^ suc (length (listed (shape_of p).units all))) spent_now.exceeds h.as_many most
     where
       under_limit : (b n c k m : ℕ) → b < n + c → c ≡ k → n + k < m → b < m
       under_limit b n c k m h e l = omega (arith, h, e, l)

@@ -4,12 +4,14 @@ use Rattle.std.specs.Prelude.{MatchOption, is_some}
 use Rattle.std.proofs.lemmas.List.{reverse-append, length-map, length-reverse, reverse-reverse}
 use Rattle.problem_rules.specs.Problem.{Problem}
 use Rattle.pns_rules.specs.Shape.{shape_of}
-use Rattle.pns_rules.specs.Nodes.{Node, options}
+use Rattle.pns_rules.specs.Nodes.{Node}
+use Rattle.tree_rules.specs.Ways.{Way, width, options_at}
+use Rattle.tree_rules.specs.Tree.{branch}
 use Rattle.frac128.specs.declared.fraction.Frac.{Frac}
 use Rattle.turn_laws.specs.Values.{HasFallen}
 use Rattle.node_looks.specs.Looks.{cost_of}
 use Rattle.search_tree.specs.Cells.{Cell, cell_at}
-use Rattle.search_tree.specs.Growth.{AreOpen, as_branch, cells_in_turn, values_in_turn}
+use Rattle.search_tree.specs.Growth.{AreOpen, as_parent, cells_in_turn, values_in_turn}
 use Rattle.search_tree.specs.declared.growth.Fresh.{Fresh}
 use Rattle.node_pool.specs.Pooled.{Pooled, AreSameNodes}
 use Rattle.node_looks.specs.declared.looks.Ready.{Ready}
@@ -40,8 +42,8 @@ values_turned [] = refl
 values_turned (f ∷ fs) = ap (λ (gs : List Fresh). values_in_turn gs) (reverse-append (f ∷ []) fs) ∙ (values_last (reverse fs) f ∙ ap (λ (vs : List Frac). f.value ∷ vs) (values_turned fs))
 
 -- as many children as options
-pub count_seen : (Past : PastPlaces) (p : Problem) (n : Node) (x : ℕ) (c : Children) → AreSeen Past p n x c → length c.kids.items ≡ length (options (shape_of p) n x)
-count_seen Past p n x c s =
+pub count_seen : (Past : PastPlaces) (p : Problem) (n : Node) (w : Way) (c : Children) → AreSeen Past p n w c → length c.kids.items ≡ length (options_at (shape_of p) n w)
+count_seen Past p n w c s =
     sym (length-map c.kids.items (λ (f : Fresh). f.cell))
     ∙ (sym (length-map (cells_of c.kids.items) (λ (d : Cell). d.option)) ∙ ap (λ (os : List (List ℕ)). length os) s.children.options_are)
 
@@ -57,26 +59,26 @@ cells_back fs = ap (λ (gs : List Fresh). cells_in_turn gs) (sym (reverse-revers
 values_back : (fs : List Fresh) → values_in_turn fs ≡ values_of (reverse fs)
 values_back fs = ap (λ (gs : List Fresh). values_in_turn gs) (sym (reverse-reverse fs)) ∙ values_turned (reverse fs)
 
-pub branching : (Past : PastPlaces) (p : Problem) (n : Node) (old new : Growing) (at x : ℕ) (c : Children) (mid : Pooled Cell) (placed : List Fresh) (freed : Slab Ready) (first : ℕ)
-    → AreSeen Past p n x c → AreSameNodes old.pool mid → first ≡ length old.pool.payloads
+pub branching : (Past : PastPlaces) (p : Problem) (n : Node) (old new : Growing) (at : ℕ) (w : Way) (c : Children) (mid : Pooled Cell) (placed : List Fresh) (freed : Slab Ready) (first : ℕ)
+    → AreSeen Past p n w c → width w ≡ length c.kids.items → AreSameNodes old.pool mid → first ≡ length old.pool.payloads
     → Updates old.ready freed (cell_at old.pool.payloads at).key None → ArePlaced c.kids.items (reverse placed) c.ready.items freed new.ready
-    → new.pool.payloads ≡ slice_set mid.payloads at (as_branch (cell_at mid.payloads at) first x (length placed)) ++ cells_in_turn placed
+    → new.pool.payloads ≡ slice_set mid.payloads at (as_parent (cell_at mid.payloads at) first (branch w)) ++ cells_in_turn placed
     → new.pool.values ≡ mid.values ++ values_in_turn placed
     → (new.best ≡ old.best) ⊎ (new.best ≡ c.best) → HasFallen (cost_of old.best) (cost_of new.best) → HasFallen (cost_of c.best) (cost_of new.best)
     → is_some new.best ≡ (is_some old.best || is_some c.best) → length old.pool.payloads + length c.kids.items < 2 ^ 32 - 1 → new.nodes ≡ old.nodes + length c.kids.items → AreOpen new.pool
-    → new.start ≡ old.start → new.budget ≡ old.budget → new.halt ≡ halt_at first c.halt → IsBranching Past p n old new at x
-branching Past p n old new at x c mid placed freed first seen same ef frees are_placed ec ev which fallen fallen_found some_best numbered en ao es eu eh = record {
+    → new.start ≡ old.start → new.budget ≡ old.budget → new.halt ≡ halt_at first c.halt → IsBranching Past p n old new at w
+branching Past p n old new at w c mid placed freed first seen wide same ef frees are_placed ec ev which fallen fallen_found some_best numbered en ao es eu eh = record {
   seen = c;
   are_seen = seen;
   kids = reverse placed;
   freed = freed;
   frees = frees;
   placed = are_placed;
+  wide = wide ∙ many;
   cells = ec
-      ∙ (ap (λ (cs : List Cell). slice_set cs at (as_branch (cell_at cs at) first x (length placed)) ++ cells_in_turn placed) same.payloads
-      ∙ (ap (λ k. slice_set old.pool.payloads at (as_branch (cell_at old.pool.payloads at) first x k) ++ cells_in_turn placed) (sym (length-map (reverse placed) (λ (f : Fresh). f.cell) ∙ length-reverse placed))
-      ∙ (ap (λ k. slice_set old.pool.payloads at (as_branch (cell_at old.pool.payloads at) k x (length (cells_of (reverse placed)))) ++ cells_in_turn placed) ef
-      ∙ ap (λ (cs : List Cell). slice_set old.pool.payloads at (as_branch (cell_at old.pool.payloads at) (length old.pool.payloads) x (length (cells_of (reverse placed)))) ++ cs) (cells_back placed))));
+      ∙ (ap (λ (cs : List Cell). slice_set cs at (as_parent (cell_at cs at) first (branch w)) ++ cells_in_turn placed) same.payloads
+      ∙ (ap (λ k. slice_set old.pool.payloads at (as_parent (cell_at old.pool.payloads at) k (branch w)) ++ cells_in_turn placed) ef
+      ∙ ap (λ (cs : List Cell). slice_set old.pool.payloads at (as_parent (cell_at old.pool.payloads at) (length old.pool.payloads) (branch w)) ++ cs) (cells_back placed)));
   values = ev ∙ (ap (λ (vs : List Frac). vs ++ values_in_turn placed) same.values ∙ ap (λ (vs : List Frac). old.pool.values ++ vs) (values_back placed));
   best = which;
   fallen = fallen;

@@ -9,6 +9,7 @@ use Rattle.problem_rules.specs.Problem.{Problem}
 use Rattle.pns_rules.specs.Shape.{shape_of}
 use Rattle.pns_rules.specs.Nodes.{Node, child}
 use Rattle.frac128.specs.declared.fraction.Frac.{Frac}
+use Rattle.tree_rules.specs.Ways.{Way}
 use Rattle.tree_rules.specs.Tree.{leaf}
 use Rattle.tree_rules.specs.Claim.{CostOver}
 use Rattle.tree_rules.specs.Leaf.{untried}
@@ -131,13 +132,13 @@ module _ (p : Problem) (fs gs : List Fresh) (rs : List (Option Ready)) (before a
       let s = kid_at k lt in
       subst (λ (c : Cell). KnowsCell p c) (sym s.is) (h k (let a = as_many_cells in let b = length-map fs (λ (f : Fresh). f.cell) in omega (arith, lt, a, b)))
 
-  pub children_kept : (claimed : Option CostOver) (n : Node) (x : ℕ) → AreChildren p claimed n x (cells_of fs) → AreChildren p claimed n x (cells_of gs)
-  children_kept claimed n x c = record {
+  pub children_kept : (claimed : Option CostOver) (n : Node) (w : Way) → AreChildren p claimed n w (cells_of fs) → AreChildren p claimed n w (cells_of gs)
+  children_kept claimed n w c = record {
     options_are = options_same fs gs rs before after placed ∙ c.options_are;
     each = λ k lt.
         let s = kid_at k lt in
         let f = c.each k (let a = as_many_cells in omega (arith, lt, a)) in
-        subst (λ (d : Cell). IsFreshChild p claimed n x d) (sym s.is) (record {
+        subst (λ (d : Cell). IsFreshChild p claimed n w d) (sym s.is) (record {
           follows = record { pass = f.follows.pass; leave = f.follows.leave };
           sound = f.sound;
           what = f.what;

@@ -12,9 +12,8 @@ use Rattle.link_lists.specs.Lists.{has, first}
 use Rattle.problem_rules.specs.Problem.{Problem}
 use Rattle.problem_rules.specs.Validity.{IsValid}
 use Rattle.pns_rules.specs.Shape.{shape_of}
-use Rattle.pns_rules.specs.Nodes.{Node, options}
-use Rattle.pns_rules.specs.Ends.{IsSound, IsUndecided, IsFirst}
-use Rattle.pns_rules.proofs.ProperLemmas.{proper_if_valid}
+use Rattle.pns_rules.specs.Nodes.{Node}
+use Rattle.pns_rules.specs.Ends.{IsSound}
 use Rattle.int_rows.specs.Range.{InRange, AllInRange}
 use Rattle.pgraph.specs.View.{node_of}
 use Rattle.frac128.specs.declared.fraction.Frac.{Frac}
@@ -22,18 +21,21 @@ use Rattle.flow_rules.specs.Net.{net_of}
 use Rattle.flow_rules.specs.Relaxed.{relaxed_cost}
 use Rattle.node_pool.specs.Order.{IsRising}
 use Rattle.node_pool.specs.Pooled.{Pooled}
-use Rattle.tree_rules.specs.Tree.{leaf}
+use Rattle.tree_rules.specs.Ways.{width}
+use Rattle.tree_rules.specs.Tree.{branch, leaf}
 use Rattle.tree_rules.specs.Claim as claims
 use Rattle.tree_rules.specs.Claim.{CostOver, claimed_cost, ClaimPasses}
 use Rattle.tree_rules.specs.Leaf.{bounded, untried, LeafPasses}
 use Rattle.tree_rules.specs.Stops.{IsPending}
 use Rattle.search_tree.specs.Cells.{Cell, place_of, cell_at}
 use Rattle.search_tree.specs.declared.growth.Fresh.{Fresh}
-use Rattle.search_tree.specs.Growth.{is_open, AreOpen, as_branch, as_shut}
+use Rattle.search_tree.specs.Growth.{is_open, AreOpen, as_parent, as_shut}
 use Rattle.turn_laws.specs.Values.{IsPositive, IsUnder, IsNoMore, IsValueOf, HasFallen, IsPositiveCost}
 use Rattle.turn_laws.specs.Kept.{LastIsBelow, IsKept}
 use Rattle.turn_laws.specs.Turns.{CanBranch, IsLeastOpen, AreChildren, IsBranched}
-use Rattle.search_laws.proofs.NumberLemmas.{decisions_split}
+use Rattle.branch_choice.specs.declared.choice.Choice.{Choice}
+use Rattle.branch_choice.specs.declared.choice.Choice.TheVariants as choices
+use Rattle.branch_choice.specs.Choices.{IsChoice, way_of, option_count}
 use Rattle.turn_laws.proofs.FractionLemmas.{fraction_trans}
 use Rattle.turn_laws.proofs.GrowLemmas.{leaf_fallen}
 use Rattle.turn_laws.proofs.KeptLemmas.{branching_is_kept, shutting_is_kept}
@@ -47,12 +49,13 @@ use Rattle.node_looks.specs.Children.{claim_with, IsBest, IsImproved, cells_of, 
 use Rattle.node_looks.proofs.BestLemmas.{improved_after, children_after}
 use Rattle.abb_search.specs.declared.growing.Growing.{Growing}
 use Rattle.abb_search.specs.declared.growing.HaltedLeaf.{HaltedLeaf}
-use Rattle.abb_search.specs.Growing.{IsTreeKept, IsGrowing, open_count, material_of, IsBeaten, LeastIsBelow, halt_at, IsHaltedAt, IsBranching, IsAfterBranch, IsShutting, IsSpentAt}
+use Rattle.abb_search.specs.Growing.{IsTreeKept, IsGrowing, open_count, choice_of, IsBeaten, LeastIsBelow, halt_at, IsHaltedAt, IsBranching, IsAfterBranch, IsShutting, IsSpentAt}
 use Rattle.abb_search.proofs.ReadyLemmas.{open_leaf, leaf_open, not_greater, first_has, none_first, count_shut}
 use Rattle.slab.specs.Slab.{Slab, get, Updates}
 use Rattle.abb_search.specs.Hand.{IsAtHand, AreAtHand, with_key, ArePlaced}
 use Rattle.abb_search.proofs.HandLemmas.{hand_freed, hand_more, kids_same, as_many_kids, known_kids, children_kept, bounded_same}
 use Rattle.abb_search.proofs.GrowingLemmas.{count_seen}
+use Rattle.node_looks.proofs.ChoiceLemmas.{may_branch, decides, option_count_is, next_count, undecided_there, end_known}
 use Rattle.abb_search.proofs.KnownLemmas.{AreKnown, known_set, known_more, known_end, bounded_set, bounded_more, open_unbounded}
 
 -- the best network passes, and its scale is above 0
@@ -66,6 +69,11 @@ under_less p n v w pv pw le u z d flows = fraction_trans v.cost v.d w.cost w.d (
 -- what is not less is greater
 dearer : (x y : ℤ) → (x ≤ℤ y → ⊥) → y ≤ℤ x
 dearer x y h = not_greater y x (λ e. h (let l : x <ℤ y = int_ranked y x Greater (sym e) in omega (arith, ints)))
+
+-- a choice gives two children or more
+two_or_more : (m : Choice) → 2 ≤ option_count m
+two_or_more (choices.Material x) = omega arith
+two_or_more (choices.Unit u) = omega arith
 
 -- no leaf is open where none is first
 pub whole : (p : Problem) (s : Growing) → IsGrowing p s → first s.pool.leaves ≡ None → (i : ℕ) → i < length s.pool.payloads → (cell_at s.pool.payloads i).end ≡ leaf untried → ⊥
@@ -107,15 +115,12 @@ module _ (p : Problem) (valid : IsValid p) (s : Growing) (g : IsGrowing p s) (at
       by None e k = absurd k
       by (Some r) e k = record { ready = r; is = e; known = k }
 
-  -- the material that is at hand is to decide
-  pub first_undecided : (m : ℕ) → m ≡ material_of (get s.ready (cell_at s.pool.payloads at).key) → IsUndecided (shape_of p) (place_of (cell_at s.pool.payloads at)) m
-  first_undecided m e = subst (λ x. IsUndecided (shape_of p) (place_of (cell_at s.pool.payloads at)) x) (sym (e ∙ ap (λ (r : Option Ready). material_of r) hand.is)) hand.known.first.0
+  -- how the leaf is branched
+  pub choice_is : (m : Choice) → m ≡ choice_of (get s.ready (cell_at s.pool.payloads at).key) → m ≡ hand.ready.choice
+  choice_is m e = e ∙ ap (λ (r : Option Ready). choice_of r) hand.is
 
-  pub first_known : (m : ℕ) → m ≡ material_of (get s.ready (cell_at s.pool.payloads at).key) → m < length p.materials
-  first_known m e = let u = first_undecided m e in (proper_if_valid p valid).output_known u.some.0 m u.some.2
-
-  pub first_is : (m : ℕ) → m ≡ material_of (get s.ready (cell_at s.pool.payloads at).key) → m ≡ hand.ready.material
-  first_is m e = e ∙ ap (λ (r : Option Ready). material_of r) hand.is
+  pub chosen : (m : Choice) → m ≡ choice_of (get s.ready (cell_at s.pool.payloads at).key) → IsChoice (shape_of p) (place_of (cell_at s.pool.payloads at)) m
+  chosen m e = subst (λ (k : Choice). IsChoice (shape_of p) (place_of (cell_at s.pool.payloads at)) k) (sym (choice_is m e)) hand.known.choice
 
   pub sound_there : IsSound (shape_of p) (place_of (cell_at s.pool.payloads at))
   sound_there = g.tree.kept.sound at there
@@ -160,14 +165,21 @@ module _ (p : Problem) (valid : IsValid p) (s : Growing) (g : IsGrowing p s) (at
       under_less p (place_of (cell_at s.pool.payloads j)) (cost_over at_hand.value) (cost_over o.value) (valued q k).positive u.positive
       (no_less j (g.are_open j lt ∙ leaf_open (cell_at s.pool.payloads j).end e) ne o.value o.value_is) u.under
 
-  can_branch : (q : Ready) → IsReady p (place_of (cell_at s.pool.payloads at)) at_hand.value q → (x : ℕ) → IsUndecided (shape_of p) (place_of (cell_at s.pool.payloads at)) x → CanBranch p s.pool.payloads at x (cost_over at_hand.value)
-  can_branch q k x u = record { there = there; is_open = untried_there; reduced = k.reduced; undecided = u; value = valued q k }
+  can_branch : (q : Ready) → IsReady p (place_of (cell_at s.pool.payloads at)) at_hand.value q → (m : Choice) → IsChoice (shape_of p) (place_of (cell_at s.pool.payloads at)) m → CanBranch p s.pool.payloads at (way_of m) (cost_over at_hand.value)
+  can_branch q k m u = record {
+    there = there;
+    is_open = untried_there;
+    reduced = k.reduced;
+    may = may_branch (shape_of p) (place_of (cell_at s.pool.payloads at)) m u;
+    splits = decides (shape_of p) (place_of (cell_at s.pool.payloads at)) m u;
+    value = valued q k;
+  }
 
   pending : (j : ℕ) → j < length s.pool.payloads → (cell_at s.pool.payloads j).end ≡ leaf untried → IsPending p (place_of (cell_at s.pool.payloads j))
   pending j lt e =
       let o = other j lt e in
       let r = o.known.bound.value.reached in
-      record { reduced = o.known.reduced; undecided = (o.ready.material, o.known.first.0); relaxed = record { sizes = r.sizes; d = r.d; relaxed = r.relaxed; at_most = tt } }
+      record { reduced = o.known.reduced; undecided = undecided_there (shape_of p) (place_of (cell_at s.pool.payloads j)) o.ready.choice o.known.choice; relaxed = record { sizes = r.sizes; d = r.d; relaxed = r.relaxed; at_most = tt } }
 
   -- where the best network is dearer, the value is below it
   pub beaten_at : (q : Ready) → IsReady p (place_of (cell_at s.pool.payloads at)) at_hand.value q → ((v : Frac) → slice_get s.pool.values at ≡ Some v → IsBeaten s.best v) → IsBeaten s.best q.bound.value
@@ -245,25 +257,26 @@ module _ (p : Problem) (valid : IsValid p) (s : Growing) (g : IsGrowing p s) (at
       last_below = not_beaten s.best at_hand.value nb
 
       -- ---- the budget is spent
-      pub spent_here : (count : ℕ) → count ≡ length (options (shape_of p) (place_of (cell_at s.pool.payloads at)) q.material) → s.budget < length s.pool.payloads + count → IsSpentAt p s at count
-      spent_here count ec over = record {
+      pub spent_here : (m : Choice) → IsChoice (shape_of p) (place_of (cell_at s.pool.payloads at)) m → s.budget < length s.pool.payloads + option_count m → IsSpentAt p s at (option_count m)
+      spent_here m u over = record {
         value = cost_over at_hand.value;
-        material = q.material;
-        can = can_branch q k q.material k.first.0;
-        first = k.first;
+        way = way_of m;
+        can = can_branch q k m u;
         least = least q k;
         below = last_below;
         pending = pending;
-        count_is = ec;
+        count_is = next_count (shape_of p) (place_of (cell_at s.pool.payloads at)) m u;
+        as_many = sym (option_count_is (shape_of p) (place_of (cell_at s.pool.payloads at)) m u);
         over = over;
       }
 
       -- ---- the leaf is branched
-      module _ (Past : PastPlaces) (new : Growing) (x : ℕ) (undecided : IsUndecided (shape_of p) (place_of (cell_at s.pool.payloads at)) x)
-          (few : length s.pool.payloads + length (options (shape_of p) (place_of (cell_at s.pool.payloads at)) x) ≤ s.budget)
-          (c : Children) (seen : AreSeen Past p (place_of (cell_at s.pool.payloads at)) x c)
+      module _ (Past : PastPlaces) (new : Growing) (m : Choice) (choice : IsChoice (shape_of p) (place_of (cell_at s.pool.payloads at)) m)
+          (few : length s.pool.payloads + option_count m ≤ s.budget)
+          (c : Children) (seen : AreSeen Past p (place_of (cell_at s.pool.payloads at)) (way_of m) c)
           (gs : List Fresh) (freed : Slab Ready) (frees : Updates s.ready freed (cell_at s.pool.payloads at).key None) (placed : ArePlaced c.kids.items gs c.ready.items freed new.ready)
-          (ec : new.pool.payloads ≡ slice_set s.pool.payloads at (as_branch (cell_at s.pool.payloads at) (length s.pool.payloads) x (length (cells_of gs))) ++ cells_of gs)
+          (wide : width (way_of m) ≡ length (cells_of gs))
+          (ec : new.pool.payloads ≡ slice_set s.pool.payloads at (as_parent (cell_at s.pool.payloads at) (length s.pool.payloads) (branch (way_of m))) ++ cells_of gs)
           (ev : new.pool.values ≡ s.pool.values ++ values_of gs)
           (which : (new.best ≡ s.best) ⊎ (new.best ≡ c.best)) (fallen : HasFallen (cost_of s.best) (cost_of new.best)) (fallen_found : HasFallen (cost_of c.best) (cost_of new.best))
           (some_new : is_some new.best ≡ (is_some s.best || is_some c.best)) (numbered : length s.pool.payloads + length (cells_of gs) < 2 ^ 32 - 1) (ao : AreOpen new.pool) (es : new.start ≡ s.start) (eu : new.budget ≡ s.budget)
@@ -272,25 +285,28 @@ module _ (p : Problem) (valid : IsValid p) (s : Growing) (g : IsGrowing p s) (at
         kids = cells_of gs
 
         abbrev now : Cell
-        now = as_branch (cell_at s.pool.payloads at) (length s.pool.payloads) x (length kids)
+        now = as_parent (cell_at s.pool.payloads at) (length s.pool.payloads) (branch (way_of m))
 
-        branched : IsBranched s.pool.payloads (cells_of gs) new.pool.payloads at x
-        branched = subst (λ (cs : List Cell). IsBranched s.pool.payloads (cells_of gs) cs at x) (sym ec) (growth_branches s.pool.payloads (cells_of gs) at x there)
+        branched : IsBranched s.pool.payloads (cells_of gs) new.pool.payloads at (way_of m)
+        branched = subst (λ (cs : List Cell). IsBranched s.pool.payloads (cells_of gs) cs at (way_of m)) (sym ec) (growth_branches s.pool.payloads (cells_of gs) at (way_of m) there wide)
 
-        kid_count : length (cells_of gs) ≡ length (options (shape_of p) (place_of (cell_at s.pool.payloads at)) x)
-        kid_count = length-map gs (λ (f : Fresh). f.cell) ∙ (as_many_kids c.kids.items gs c.ready.items freed new.ready placed ∙ count_seen Past p (place_of (cell_at s.pool.payloads at)) x c seen)
+        kid_count : length (cells_of gs) ≡ option_count m
+        kid_count =
+            length-map gs (λ (f : Fresh). f.cell)
+            ∙ (as_many_kids c.kids.items gs c.ready.items freed new.ready placed
+            ∙ (count_seen Past p (place_of (cell_at s.pool.payloads at)) (way_of m) c seen ∙ option_count_is (shape_of p) (place_of (cell_at s.pool.payloads at)) m choice))
 
         improved : IsImproved p (place_of (cell_at s.pool.payloads at)) s.best new.best
         improved = improved_after p (place_of (cell_at s.pool.payloads at)) s.best c.best new.best (best_of p s g.tree) seen.found which fallen fallen_found
 
-        children_now : AreChildren p (claimed_cost (claim_with new.best)) (place_of (cell_at s.pool.payloads at)) x (cells_of gs)
-        children_now = children_kept p c.kids.items gs c.ready.items freed new.ready placed (claimed_cost (claim_with new.best)) (place_of (cell_at s.pool.payloads at)) x
-            (children_after p (place_of (cell_at s.pool.payloads at)) s.best c.best new.best (best_of p s g.tree) seen.found which fallen fallen_found x (cells_of c.kids.items) seen.children)
+        children_now : AreChildren p (claimed_cost (claim_with new.best)) (place_of (cell_at s.pool.payloads at)) (way_of m) (cells_of gs)
+        children_now = children_kept p c.kids.items gs c.ready.items freed new.ready placed (claimed_cost (claim_with new.best)) (place_of (cell_at s.pool.payloads at)) (way_of m)
+            (children_after p (place_of (cell_at s.pool.payloads at)) s.best c.best new.best (best_of p s g.tree) seen.found which fallen fallen_found (way_of m) (cells_of c.kids.items) seen.children)
 
         kept_now : IsKept p (node_of s.start) (claim_with new.best) (Some (cost_over at_hand.value)) new.pool.payloads
         kept_now =
-            branching_is_kept p valid (node_of s.start) (claim_with s.best) (claim_with new.best) g.tree.last (cost_over at_hand.value) s.pool.payloads (cells_of gs) new.pool.payloads at x
-            g.tree.kept (can_branch q k x undecided) (least q k) improved.fallen improved.best.positive
+            branching_is_kept p valid (node_of s.start) (claim_with s.best) (claim_with new.best) g.tree.last (cost_over at_hand.value) s.pool.payloads (cells_of gs) new.pool.payloads at (way_of m)
+            g.tree.kept (can_branch q k m choice) (least q k) improved.fallen improved.best.positive
             (improved.below (cost_over at_hand.value) (valued q k).positive (valued q k).under last_below) children_now branched
 
         known_now : AreKnown p new.pool.payloads
@@ -298,11 +314,8 @@ module _ (p : Problem) (valid : IsValid p) (s : Growing) (g : IsGrowing p s) (at
             (known_more p (slice_set s.pool.payloads at now) (cells_of gs)
             (known_set p s.pool.payloads at now g.tree.known there
             (known_end p (cell_at s.pool.payloads at) now (g.tree.known at there) refl refl
-            (material_known undecided)))
+            (end_known p valid (place_of (cell_at s.pool.payloads at)) m choice)))
             (known_kids p c.kids.items gs c.ready.items freed new.ready placed seen.known))
-          where
-            material_known : IsUndecided (shape_of p) (place_of (cell_at s.pool.payloads at)) x → x < length p.materials
-            material_known u = (proper_if_valid p valid).output_known u.some.0 x u.some.2
 
         bounded_now : is_some new.best ≡ has_bounded new.pool.payloads
         bounded_now =
@@ -338,8 +351,8 @@ module _ (p : Problem) (valid : IsValid p) (s : Growing) (g : IsGrowing p s) (at
         pub more_now : length s.pool.payloads < length new.pool.payloads
         more_now = let a = longer in let b = kid_count in let d = two in omega (arith, a, b, d)
           where
-            two : 2 ≤ length (options (shape_of p) (place_of (cell_at s.pool.payloads at)) x)
-            two = decisions_split (shape_of p) (place_of (cell_at s.pool.payloads at)) x k.reduced undecided
+            two : 2 ≤ option_count m
+            two = two_or_more m
 
         pub going_now : (h : Option HaltedAt) → HaltHolds Past p c.kids.items c.ready.items h → IsAfterBranch Past p new (halt_at (length s.pool.payloads) h)
         going_now None h = record { tree = tree_now; are_open = ao; ready = ready_now h }
@@ -356,18 +369,15 @@ module _ (p : Problem) (valid : IsValid p) (s : Growing) (g : IsGrowing p s) (at
             )
 
     -- what was branched goes on with more nodes
-    pub branched_step : LeastIsBelow s → (Past : PastPlaces) (new : Growing) (x : ℕ) (undecided : IsUndecided (shape_of p) (place_of (cell_at s.pool.payloads at)) x)
-        → length s.pool.payloads + length (options (shape_of p) (place_of (cell_at s.pool.payloads at)) x) ≤ s.budget → IsBranching Past p (place_of (cell_at s.pool.payloads at)) s new at x
+    pub branched_step : LeastIsBelow s → (Past : PastPlaces) (new : Growing) (m : Choice) (choice : IsChoice (shape_of p) (place_of (cell_at s.pool.payloads at)) m)
+        → length s.pool.payloads + option_count m ≤ s.budget → IsBranching Past p (place_of (cell_at s.pool.payloads at)) s new at (way_of m)
         → IsAfterBranch Past p new new.halt × (length s.pool.payloads < length new.pool.payloads)
-    branched_step lb Past new x u few b = (
+    branched_step lb Past new m u few b = (
       subst (λ (o : Option HaltedLeaf). IsAfterBranch Past p new o) (sym b.halt)
-          (going_now lb Past new x u few b.seen b.are_seen b.kids b.freed b.frees b.placed b.cells b.values b.best b.fallen b.fallen_found b.some_best b.numbered b.are_open b.start b.budget b.nodes b.seen.halt b.are_seen.halt_holds),
-      more_now lb Past new x u few b.seen b.are_seen b.kids b.freed b.frees b.placed b.cells b.values b.best b.fallen b.fallen_found b.some_best b.numbered b.are_open b.start b.budget b.nodes,
+          (going_now lb Past new m u few b.seen b.are_seen b.kids b.freed b.frees b.placed b.wide b.cells b.values b.best b.fallen b.fallen_found b.some_best b.numbered b.are_open b.start b.budget b.nodes b.seen.halt b.are_seen.halt_holds),
+      more_now lb Past new m u few b.seen b.are_seen b.kids b.freed b.frees b.placed b.wide b.cells b.values b.best b.fallen b.fallen_found b.some_best b.numbered b.are_open b.start b.budget b.nodes,
     )
 
 pub within_budget : (budget l n count k : ℕ) → l ≡ n → count ≡ k → (budget < l + count → ⊥) → n + k ≤ budget
 within_budget budget l n count k el ec h = elim (cases_lt budget (n + k)) [ inl lt ↦ absurd (h (omega (arith, el, ec, lt))) | inr le ↦ omega (arith, le) ]
 
--- the chosen material has no more options than the first
-pub few_options : (budget nodes l count a b : ℕ) → nodes ≡ l → count ≡ a → (budget < nodes + count → ⊥) → b ≤ a → l + b ≤ budget
-few_options budget nodes l count a b el ec h le = let w = within_budget budget nodes l count a el ec h in omega (arith, w, le)

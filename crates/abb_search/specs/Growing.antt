@@ -4,24 +4,26 @@ use Rattle.std.specs.List.{slice_get}
 use Rattle.link_lists.specs.Lists.{first}
 use Rattle.problem_rules.specs.Problem.{Problem}
 use Rattle.pns_rules.specs.Shape.{shape_of}
-use Rattle.pns_rules.specs.Nodes.{Node, options}
-use Rattle.pns_rules.specs.Ends.{IsUndecided, IsFirst}
+use Rattle.pns_rules.specs.Nodes.{Node}
 use Rattle.pgraph.specs.View.{node_of}
 use Rattle.unit_sets.specs.declared.node.Node as starts
 use Rattle.frac128.specs.declared.fraction.Frac.{Frac}
-use Rattle.tree_rules.specs.Tree.{leaf}
+use Rattle.tree_rules.specs.Ways.{Way, width, options_at}
+use Rattle.tree_rules.specs.Tree.{branch, leaf}
 use Rattle.tree_rules.specs.Claim as claims
 use Rattle.tree_rules.specs.Claim.{CostOver, claimed_cost, ClaimPasses}
 use Rattle.tree_rules.specs.Leaf.{untried}
-use Rattle.tree_rules.specs.Stops.{IsPending}
+use Rattle.tree_rules.specs.Stops.{IsPending, IsNextCount}
 use Rattle.search_tree.specs.Cells.{Cell, place_of, cell_at}
-use Rattle.search_tree.specs.Growth.{is_open, AreOpen, as_branch}
+use Rattle.search_tree.specs.Growth.{is_open, AreOpen, as_parent}
 use Rattle.turn_laws.specs.Values.{IsNoMore, HasFallen}
 use Rattle.turn_laws.specs.Kept.{LastIsBelow, IsKept}
 use Rattle.turn_laws.specs.Turns.{CanBranch, IsLeastOpen}
 use Rattle.node_pool.specs.Pooled.{AreSameNodes}
 use Rattle.slab.specs.Slab.{Slab, get, Updates}
 use Rattle.search_tree.specs.declared.growth.Fresh.{Fresh}
+use Rattle.branch_choice.specs.declared.choice.Choice.{Choice}
+use Rattle.branch_choice.specs.declared.choice.Choice.TheVariants as choices
 use Rattle.node_looks.specs.declared.evaluator.Halt.{Halt}
 use Rattle.node_looks.specs.declared.looks.Ready.{Ready}
 use Rattle.node_looks.specs.declared.looks.Looked.{Looked}
@@ -52,10 +54,10 @@ pub record IsGrowing (p : Problem) (s : Growing) : Type 0 where
   pub are_open : AreOpen s.pool
   pub ready : AreAtHand p s.pool.payloads s.pool.values s.ready
 
--- the least material that is to decide at an open leaf
-abbrev pub material_of : Option Ready → ℕ
-material_of None = 0
-material_of (Some r) = r.material
+-- how an open leaf is branched
+abbrev pub choice_of : Option Ready → Choice
+choice_of None = choices.Unit 0
+choice_of (Some r) = r.choice
 
 -- how many leaves are open
 abbrev pub open_count : List Cell → ℕ
@@ -141,16 +143,17 @@ abbrev pub halt_at : ℕ → Option HaltedAt → Option HaltedLeaf
 halt_at first None = None
 halt_at first (Some h) = Some (record { leaf = first + h.at; halt = h.halt })
 
--- leaf `at` is branched at the material x, at the node n, and its children are as they are seen, with keys; the best network is then
+-- leaf `at` is branched in this way, at the node n, and its children are as they are seen, with keys; the best network is then
 -- the cheaper one of the two
-pub record IsBranching (Past : PastPlaces) (p : Problem) (n : Node) (old new : Growing) (at x : ℕ) : Type 0 where
+pub record IsBranching (Past : PastPlaces) (p : Problem) (n : Node) (old new : Growing) (at : ℕ) (w : Way) : Type 0 where
   pub seen : Children
-  pub are_seen : AreSeen Past p n x seen
+  pub are_seen : AreSeen Past p n w seen
   pub kids : List Fresh
   pub freed : Slab Ready
   pub frees : Updates old.ready freed (cell_at old.pool.payloads at).key None
   pub placed : ArePlaced seen.kids.items kids seen.ready.items freed new.ready
-  pub cells : new.pool.payloads ≡ slice_set old.pool.payloads at (as_branch (cell_at old.pool.payloads at) (length old.pool.payloads) x (length (cells_of kids))) ++ cells_of kids
+  pub wide : width w ≡ length (cells_of kids)
+  pub cells : new.pool.payloads ≡ slice_set old.pool.payloads at (as_parent (cell_at old.pool.payloads at) (length old.pool.payloads) (branch w)) ++ cells_of kids
   pub values : new.pool.values ≡ old.pool.values ++ values_of kids
   pub best : (new.best ≡ old.best) ⊎ (new.best ≡ seen.best)
   pub fallen : HasFallen (cost_of old.best) (cost_of new.best)
@@ -193,11 +196,11 @@ pub record IsShutDown (p : Problem) (old new : Growing) : Type 0 where
 -- all open leaves are pending, the leaf is a least one, and the nodes with its children are more than the budget
 pub record IsSpentAt (p : Problem) (s : Growing) (at count : ℕ) : Type 0 where
   pub value : CostOver
-  pub material : ℕ
-  pub can : CanBranch p s.pool.payloads at material value
-  pub first : IsFirst (IsUndecided (shape_of p) (place_of (cell_at s.pool.payloads at))) material
+  pub way : Way
+  pub can : CanBranch p s.pool.payloads at way value
   pub least : IsLeastOpen p s.pool.payloads at value
   pub below : LastIsBelow (Some value) (claimed_cost (claim_with s.best))
   pub pending : (j : ℕ) → j < length s.pool.payloads → (cell_at s.pool.payloads j).end ≡ leaf untried → IsPending p (place_of (cell_at s.pool.payloads j))
-  pub count_is : count ≡ length (options (shape_of p) (place_of (cell_at s.pool.payloads at)) material)
+  pub count_is : IsNextCount (shape_of p) (place_of (cell_at s.pool.payloads at)) count
+  pub as_many : count ≡ length (options_at (shape_of p) (place_of (cell_at s.pool.payloads at)) way)
   pub over : s.budget < length s.pool.payloads + count

@@ -1,22 +1,24 @@
 //! The tree while it grows.
-ghost use Rattle.std.specs.Prelude.{◌≡◌, ◌↔◌, ◌<◌, ◌≤◌, ◌+◌, ◌-◌, ◌^◌, ℕ, true, IsTrue, Some, None, IfOk, OnOk, OnErr, MatchOption, length};
+ghost use Rattle.std.specs.Prelude.{◌≡◌, ◌↔◌, ◌<◌, ◌≤◌, ◌+◌, ◌-◌, ◌^◌, true, IsTrue, Some, None, IfOk, OnOk, OnErr, MatchOption, length};
 ghost use Rattle.std.specs.List.{slice_get};
 ghost use Rattle.slab.specs.Slab.{get};
-ghost use Rattle.number_sets.specs.Sets as sets;
 ghost use Rattle.link_lists.specs.Lists.{has, first};
 ghost use Rattle.frac128.specs.declared.fraction.Frac.{Frac};
 ghost use Rattle.pns_rules.specs.Shape.{shape_of};
-ghost use Rattle.pns_rules.specs.Nodes.{options};
-ghost use Rattle.pns_rules.specs.Ends.{IsSound, IsReduced, IsUndecided};
+ghost use Rattle.pns_rules.specs.Ends.{IsSound, IsReduced};
+ghost use Rattle.tree_rules.specs.Ways.{options_at};
+ghost use Rattle.tree_rules.specs.Tree.{branch};
+ghost use Rattle.branch_tree.specs.View.{end_of};
+ghost use Rattle.branch_choice.specs.Choices.{IsChoice, way_of};
 ghost use Rattle.pgraph.specs.Tables.{shape};
 ghost use Rattle.pgraph.specs.View.{node_of};
 ghost use Rattle.search_tree.specs.Cells.{cell_at};
 ghost use Rattle.search_tree.specs.Growth.{AreOpen};
 ghost use Rattle.neutral_extension.specs.Candidates.{AreMakersOf};
-ghost use Rattle.abb_search.specs.Growing.{IsGrowing, IsBeaten, IsBranching, IsShutting, IsShutDown, IsSame, halt_at, leaf_of, material_of};
+ghost use Rattle.abb_search.specs.Growing.{IsGrowing, IsBeaten, IsBranching, IsShutting, IsShutDown, IsSame, halt_at, leaf_of, choice_of};
 
 use crate::hand::place_all;
-use branch_choice::fewest_options;
+use branch_choice::Choice;
 use branch_tree::{End, Network};
 use frac128::Frac;
 use neutral_extension::Makers;
@@ -110,14 +112,27 @@ fn key_at(pool: &Pool<Cell>, leaf: u32) -> usize
     pool.payload(leaf).key
 }
 
-/// The least material that is to decide at an open leaf.
-pub(crate) fn first_material(growing: &Growing, leaf: u32) -> u32
+/// How an open leaf is branched.
+pub(crate) fn choice_at(growing: &Growing, leaf: u32) -> Choice
     requires { leaf < length growing.now.pool.payloads }
-    ensures { result ≡ material_of (get growing.now.ready (cell_at growing.now.pool.payloads leaf).key) }
+    ensures { result ≡ choice_of (get growing.now.ready (cell_at growing.now.pool.payloads leaf).key) }
 {
     match growing.ready.get(key_at(&growing.pool, leaf)) {
-        None => 0,
-        Some(ready) => ready.material,
+        None => Choice::Unit(0),
+        Some(ready) => ready.choice,
+    }
+}
+
+/// The end of a node that is branched so.
+fn end_with(choice: Choice) -> End
+    ensures { end_of result ≡ branch (way_of choice) }
+{
+    match choice {
+        Choice::Material(material) => End::Branch {
+            material,
+            children: 3,
+        },
+        Choice::Unit(unit) => End::Either(unit),
     }
 }
 
@@ -129,20 +144,7 @@ pub(crate) fn node_at(pool: &Pool<Cell>, leaf: u32) -> Node
     pool.payload(leaf).node
 }
 
-/// Of the materials that are to decide at a node one with the fewest options. `first` is one of them.
-pub(crate) fn chosen(graph: &Graph, node: Node, first: u32) -> u32
-    requires inside { (u : ℕ) → sets.has node.inside u ≡ true → u < (shape graph.now).units }
-    requires first { IsUndecided (shape graph.now) (node_of node) first }
-    ensures undecided { IsUndecided (shape graph.now) (node_of node) result }
-    ensures fewest { length (options (shape graph.now) (node_of node) result) ≤ length (options (shape graph.now) (node_of node) first) }
-{
-    match fewest_options(graph, node) {
-        None => first,
-        Some(choice) => choice.material,
-    }
-}
-
-/// Branches an open leaf at the material. After `Err`, which comes for want of memory alone, the tree is as before.
+/// Branches an open leaf. After `Err`, which comes for want of memory alone, the tree is as before.
 pub(crate) fn branch_leaf<E: Evaluator>(
     alloc: Global,
     evaluator: &mut E,
@@ -152,7 +154,7 @@ pub(crate) fn branch_leaf<E: Evaluator>(
     growing: &mut Growing,
     leaf: u32,
     node: Node,
-    material: u32,
+    choice: Choice,
 ) -> Result<(), AllocError>
     requires graph { shape graph.now ≡ shape_of problem.now }
     requires same { AreMakersOf (shape graph.now) makers.old.makers }
@@ -160,16 +162,15 @@ pub(crate) fn branch_leaf<E: Evaluator>(
     requires open { AreOpen growing.old.pool }
     requires sound { IsSound (shape_of problem.now) (node_of node) }
     requires reduced { IsReduced (shape_of problem.now) (node_of node) }
-    requires undecided { IsUndecided (shape_of problem.now) (node_of node) material }
-    requires known { material < (shape graph.now).materials }
+    requires choice { IsChoice (shape_of problem.now) (node_of node) choice }
     requires counted { growing.old.nodes ≡ length growing.old.pool.payloads }
-    requires few { length growing.old.pool.payloads + length (options (shape_of problem.now) (node_of node) material) < 2 ^ 32 }
-    ensures branching { OnOk result (IsBranching E.past problem.now (node_of node) growing.old growing.new leaf material) }
+    requires few { length growing.old.pool.payloads + length (options_at (shape_of problem.now) (node_of node) (way_of choice)) < 2 ^ 32 }
+    ensures branching { OnOk result (IsBranching E.past problem.now (node_of node) growing.old growing.new leaf (way_of choice)) }
     ensures same { OnErr result (IsSame growing.old growing.new) }
     ensures makers { makers.new.makers ≡ makers.old.makers }
 {
     growing.pool.is_pool();
-    let children = look_at_children(alloc, evaluator, problem, graph, makers, node, material)?;
+    let children = look_at_children(alloc, evaluator, problem, graph, makers, node, choice)?;
     let first = growing.nodes;
     let count = children.kids.len();
     if !has_numbers(first, count) {
@@ -180,7 +181,7 @@ pub(crate) fn branch_leaf<E: Evaluator>(
     growing.ready.reserve(count)?;
     growing.ready.try_remove(key_at(&growing.pool, leaf));
     let mut kids = place_all(children.kids, children.ready, &mut growing.ready, placed);
-    branch(&mut growing.pool, leaf, material, first, &mut kids);
+    branch(&mut growing.pool, leaf, end_with(choice), first, &mut kids);
     growing.nodes = first + count as u32;
     growing.best = cheaper(growing.best.take(), children.best);
     growing.halt = halt_at(first, children.halt);

@@ -1,9 +1,7 @@
 //! A turn of a search.
-ghost use Rattle.std.specs.Prelude.{◌≡◌, ◌<◌, ◌≤◌, Some, None, IfOk, OnErr, length};
+ghost use Rattle.std.specs.Prelude.{◌≡◌, ◌≤◌, None, IfOk, OnErr};
 ghost use Rattle.pns_rules.specs.Shape.{shape_of};
-ghost use Rattle.pns_rules.specs.Nodes.{options};
 ghost use Rattle.pns_rules.specs.Ends.{IsSound};
-ghost use Rattle.search_tree.specs.Cells.{cell_at};
 ghost use Rattle.pgraph.specs.Tables.{shape};
 ghost use Rattle.pgraph.specs.View.{node_of};
 ghost use Rattle.neutral_extension.specs.Candidates.{AreMakersOf};
@@ -13,25 +11,15 @@ ghost use Rattle.abb_search.specs.Searched.{StandsAt};
 
 use crate::found::{past_found, tree_with, whole_found};
 use crate::growing::{
-    Growing, branch_leaf, chosen, first_material, halted_leaf, is_over, node_at, shut_beaten,
+    Growing, branch_leaf, choice_at, halted_leaf, is_over, node_at, shut_beaten,
 };
 use crate::outcome::Found;
 use crate::root::look_at_root;
-use branch_choice::option_count;
 use neutral_extension::Makers;
 use node_looks::Evaluator;
 use pgraph::Graph;
 use pns_problem::Problem;
 use std::alloc::{AllocError, Global};
-
-/// How many options the material has at a leaf.
-fn options_at(graph: &Graph, growing: &Growing, leaf: u32, material: u32) -> u128
-    requires leaf { leaf < length growing.now.pool.payloads }
-    requires known { material < (shape graph.now).materials }
-    ensures { result ≡ length (options (shape graph.now) (node_of (cell_at growing.now.pool.payloads leaf).node) material) }
-{
-    option_count(graph, node_at(&growing.pool, leaf), material)
-}
 
 /// Branches the open leaf of least value, or tells what is found. No leaf halts the search.
 fn go_on<E: Evaluator>(
@@ -57,8 +45,8 @@ fn go_on<E: Evaluator>(
         let whole = tree_with(alloc, growing, 0)?;
         return Ok(Some(whole_found(growing.best.take(), whole.tree)));
     };
-    let first = first_material(growing, leaf);
-    let options = options_at(graph, growing, leaf, first);
+    let choice = choice_at(growing, leaf);
+    let options = u128::from(choice.options());
     if is_over(options, growing.nodes, growing.budget) {
         let stopped = tree_with(alloc, growing, leaf)?;
         return Ok(Some(Found::Spent {
@@ -68,10 +56,9 @@ fn go_on<E: Evaluator>(
             options,
         }));
     }
-    let material = chosen(graph, node_at(&growing.pool, leaf), first);
     let node = node_at(&growing.pool, leaf);
     branch_leaf(
-        alloc, evaluator, problem, graph, makers, growing, leaf, node, material,
+        alloc, evaluator, problem, graph, makers, growing, leaf, node, choice,
     )?;
     shut_beaten(problem, growing);
     Ok(None)

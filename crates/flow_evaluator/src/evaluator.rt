@@ -110,4 +110,8 @@ impl Evaluator for FlowEvaluator {
         self.make_room(alloc, problem)?;
         evaluate_on(alloc, problem, graph, &node, decided, &mut self.bench)
     }
+
+    fn sizes(&self) -> &[i64] {
+        self.bench.sizes()
+    }
 }

@@ -2,6 +2,7 @@
 use Rattle.std.proofs.Common.{◌≡◌, ℕ, ◌⊎◌, List, Option, Some, None, inl, inr, sym, subst}
 use Rattle.problem_rules.specs.Problem.{Problem}
 use Rattle.pns_rules.specs.Nodes.{Node}
+use Rattle.tree_rules.specs.Ways.{Way}
 use Rattle.tree_rules.specs.Claim as claims
 use Rattle.tree_rules.specs.Claim.{CostOver, claimed_cost}
 use Rattle.search_tree.specs.Cells.{Cell, place_of, cell_at}
@@ -14,9 +15,9 @@ use Rattle.node_looks.specs.Children.{claim_with, IsBest, IsImproved}
 use Rattle.node_looks.proofs.ChildLemmas.{cost_is}
 
 -- children that pass where a network is claimed pass where one is claimed that costs no more
-pub children_fallen : (p : Problem) (old new : Option CostOver) (n : Node) (x : ℕ) (kids : List Cell) → HasFallen old new → IsPositiveCost old → IsPositiveCost new
-    → AreChildren p old n x kids → AreChildren p new n x kids
-children_fallen p old new n x kids h po pn c = record {
+pub children_fallen : (p : Problem) (old new : Option CostOver) (n : Node) (w : Way) (kids : List Cell) → HasFallen old new → IsPositiveCost old → IsPositiveCost new
+    → AreChildren p old n w kids → AreChildren p new n w kids
+children_fallen p old new n w kids h po pn c = record {
   options_are = c.options_are;
   each = λ k lt. let f = c.each k lt in record {
     follows = f.follows;
@@ -48,5 +49,5 @@ module _ (p : Problem) (n : Node) (old found new : Option claims.Network) (best 
   pub improved_after : IsImproved p n old new
   improved_after = record { best = new_best; fallen = new_fallen old fallen; below = new_below }
 
-  pub children_after : (x : ℕ) (kids : List Cell) → AreChildren p (claimed_cost (claim_with found)) n x kids → AreChildren p (claimed_cost (claim_with new)) n x kids
-  children_after x kids c = children_fallen p (claimed_cost (claim_with found)) (claimed_cost (claim_with new)) n x kids (new_fallen found fallen_found) improved.best.positive new_best.positive c
+  pub children_after : (way : Way) (kids : List Cell) → AreChildren p (claimed_cost (claim_with found)) n way kids → AreChildren p (claimed_cost (claim_with new)) n way kids
+  children_after way kids c = children_fallen p (claimed_cost (claim_with found)) (claimed_cost (claim_with new)) n way kids (new_fallen found fallen_found) improved.best.positive new_best.positive c

@@ -1,5 +1,5 @@
 -- What a look at one child more adds to what is seen.
-use Rattle.std.proofs.Common.{◌≡◌, ℕ, ◌+◌, ◌<◌, true, false, Bool, List, [], ◌∷◌, ◌++◌, length, map, Option, Some, None, ℤ, ◌*ℤ◌, ◌≤ℤ◌, ◌↔◌, ◌⊎◌, ◌||◌, IsTrue, refl, sym, ap, ap₂, ◌∙◌, subst, arith, inl, inr, length-append, true≢false}
+use Rattle.std.proofs.Common.{Result, Ok, Err, IfOk, ◌≡◌, ℕ, ◌+◌, ◌<◌, true, false, Bool, List, [], ◌∷◌, ◌++◌, length, map, Option, Some, None, ℤ, ◌*ℤ◌, ◌≤ℤ◌, ◌↔◌, ◌⊎◌, ◌||◌, IsTrue, refl, sym, ap, ap₂, ◌∙◌, subst, arith, inl, inr, length-append, true≢false}
 use Rattle.std.specs.Prelude.{is_some}
 use Rattle.std.proofs.lemmas.Int.{ints}
 use Rattle.std.proofs.lemmas.List.{map-append, length-map, get_or_append_left, get_or-append-add}
@@ -8,17 +8,17 @@ use Rattle.number_sets.specs.Options.{IsIn}
 use Rattle.problem_rules.specs.Problem.{Problem}
 use Rattle.problem_rules.specs.Validity.{IsValid}
 use Rattle.pns_rules.specs.Shape.{shape_of}
-use Rattle.pns_rules.specs.Nodes.{Node, options, child, IsOption}
-use Rattle.pns_rules.specs.Ends.{IsSound, IsReduced, IsUndecided, IsDead, IsNever}
-use Rattle.pns_rules.proofs.OptionLemmas.{options_all}
+use Rattle.pns_rules.specs.Nodes.{Node}
+use Rattle.pns_rules.specs.Ends.{IsSound, IsReduced, IsDead, IsNever}
 use Rattle.pns_rules.proofs.ProperLemmas.{proper_if_valid}
 use Rattle.frac128.specs.declared.fraction.Frac.{Frac}
+use Rattle.tree_rules.specs.Ways.{Way, MayBranch, options_at, child_at, IsDecision}
 use Rattle.tree_rules.specs.Tree.{leaf, after_all}
 use Rattle.tree_rules.specs.Claim as claims
 use Rattle.tree_rules.specs.Claim.{CostOver, claimed_cost}
 use Rattle.tree_rules.specs.Leaf.{Leaf, untried, LeafPasses}
-use Rattle.search_laws.proofs.ValueLemmas.{children_are_dearer}
-use Rattle.search_laws.proofs.SoundLemmas.{child_is_sound}
+use Rattle.search_laws.proofs.ValueLemmas.{ways_are_dearer}
+use Rattle.search_laws.proofs.SoundLemmas.{children_are_sound}
 use Rattle.search_tree.specs.Cells.{Cell, no_cell, place_of, cell_at}
 use Rattle.search_tree.specs.Fits.{Follows}
 use Rattle.search_tree.specs.declared.growth.Fresh.{Fresh}
@@ -34,8 +34,7 @@ use Rattle.node_looks.specs.declared.children.HaltedAt.{HaltedAt}
 use Rattle.node_looks.specs.declared.children.Children.{Children}
 use Rattle.node_looks.specs.Evaluated.{PastPlaces}
 use Rattle.node_looks.specs.Looks.{cost_of, is_bounded, has_bounded, KnowsCell, AreFoundAt, IsHalted, IsOpenAs}
-use Rattle.node_looks.specs.Children.{claim_with, IsBest, IsImproved, cells_of, values_of, AreReady, IsChildAs, IsChild, HaltHolds, halt_after, AreSeen}
-use Rattle.node_looks.proofs.OptionWalk.{IsAhead}
+use Rattle.node_looks.specs.Children.{claim_with, IsBest, IsImproved, cells_of, values_of, AreReady, IsChildAs, IsChild, HaltHolds, halt_after, options_in, AreLooked, AreSeen}
 
 pub same_costs : (t : Bool) (a a' b b' c c' d d' : ℤ) → a ≡ a' → b ≡ b' → c ≡ c' → d ≡ d' → (IsTrue t ↔ ((a *ℤ d) ≤ℤ (c *ℤ b))) → IsTrue t ↔ ((a' *ℤ d') ≤ℤ (c' *ℤ b'))
 same_costs t a a' b b' c c' d d' ea eb ec ed h =
@@ -104,31 +103,18 @@ ready_more p (c ∷ cs) (v ∷ vs) [] cs' vs' rs' h k = absurd h
 
 -- ---- one child more
 
--- what is known between two looks
-pub record IsWalking (Past : PastPlaces) (p : Problem) (n : Node) (x : ℕ) (base free : List ℕ) (c : Children) (next : Option (List ℕ)) : Type 0 where
-  pub ahead : IsAhead base free (map (λ (d : Cell). d.option) (cells_of c.kids.items)) next
-  pub each : (k : ℕ) → k < length (cells_of c.kids.items) → IsFreshChild p (claimed_cost (claim_with c.best)) n x (cell_at (cells_of c.kids.items) k)
-  pub found : IsImproved p n None c.best
-  pub bounded : is_some c.best ≡ has_bounded (cells_of c.kids.items)
-  pub known : (k : ℕ) → k < length c.kids.items → KnowsCell p (cell_at (cells_of c.kids.items) k)
-  pub same_length : length c.ready.items ≡ length c.kids.items
-  pub halt_holds : HaltHolds Past p c.kids.items c.ready.items c.halt
+module _ (p : Problem) (valid : IsValid p) (n : Node) (w : Way) (sound : IsSound (shape_of p) n) (reduced : IsReduced (shape_of p) n) (may : MayBranch (shape_of p) n w)
+    (splits : IsDecision (shape_of p) n w) (t : List ℕ) (option : IsIn t (options_at (shape_of p) n w)) where
+  pub sound_child : IsSound (shape_of p) (child_at (shape_of p) n w t)
+  sound_child = children_are_sound (shape_of p) (proper_if_valid p valid) n w t sound reduced may splits option
 
-module _ (p : Problem) (valid : IsValid p) (n : Node) (x : ℕ) (sound : IsSound (shape_of p) n) (reduced : IsReduced (shape_of p) n) (undecided : IsUndecided (shape_of p) n x) (t : List ℕ)
-    (option : IsIn t (options (shape_of p) n x)) where
-  pub is_option : IsOption (shape_of p) n x t
-  is_option = (options_all (shape_of p) n x t (proper_if_valid p valid) sound.apart).0 option
-
-  pub sound_child : IsSound (shape_of p) (child (shape_of p) n x t)
-  sound_child = child_is_sound (shape_of p) n x t sound reduced undecided.needed is_option
-
-  dearer_child : (c : Cell) → Follows (shape_of p) (child (shape_of p) n x t) c → (v : CostOver) → IsPositive v → IsUnder p v n → IsNever (IsDead (shape_of p) (place_of c)) → IsUnder p v (place_of c)
+  dearer_child : (c : Cell) → Follows (shape_of p) (child_at (shape_of p) n w t) c → (v : CostOver) → IsPositive v → IsUnder p v n → IsNever (IsDead (shape_of p) (place_of c)) → IsUnder p v (place_of c)
   dearer_child c f v pv u alive =
       subst (λ (m : Node). IsUnder p v m) f.leave
-      (under_dearer p n (after_all (shape_of p) (child (shape_of p) n x t) c.steps) v pv u
-      (children_are_dearer p valid n x t c.steps sound.apart is_option f.pass (subst (λ (m : Node). IsNever (IsDead (shape_of p) m)) (sym f.leave) alive)))
+      (under_dearer p n (after_all (shape_of p) (child_at (shape_of p) n w t) c.steps) v pv u
+      (ways_are_dearer p valid n w t c.steps sound.apart may option f.pass (subst (λ (m : Node). IsNever (IsDead (shape_of p) m)) (sym f.leave) alive)))
 
-  module _ (Past : PastPlaces) (old new : Children) (l : Looked) (halted : Bool) (ib : IsImproved p n None old.best) (ic : IsChild Past p (child (shape_of p) n x t) t halted l)
+  module _ (Past : PastPlaces) (old new : Children) (l : Looked) (halted : Bool) (ib : IsImproved p n None old.best) (ic : IsChild Past p (child_at (shape_of p) n w t) t halted l)
       (kids : new.kids.items ≡ old.kids.items ++ record { cell = l.cell; value = l.value } ∷ [])
       (which : (new.best ≡ old.best) ⊎ (new.best ≡ l.network)) (fallen : HasFallen (cost_of old.best) (cost_of new.best)) (fallen_found : HasFallen (cost_of l.network) (cost_of new.best))
       (some : is_some new.best ≡ (is_some old.best || is_some l.network)) where
@@ -141,8 +127,8 @@ module _ (p : Problem) (valid : IsValid p) (n : Node) (x : ℕ) (sound : IsSound
     fallen' : HasFallen (claimed_cost (claim_with old.best)) (claimed_cost (claim_with new.best))
     fallen' = subst (λ (a : Option CostOver). HasFallen a (claimed_cost (claim_with new.best))) (cost_is old.best) (subst (λ (a : Option CostOver). HasFallen (cost_of old.best) a) (cost_is new.best) fallen)
 
-    follows' : Follows (shape_of p) (child (shape_of p) n x l.cell.option) l.cell
-    follows' = subst (λ (o : List ℕ). Follows (shape_of p) (child (shape_of p) n x o) l.cell) (sym ic.option_is) ic.follows
+    follows' : Follows (shape_of p) (child_at (shape_of p) n w l.cell.option) l.cell
+    follows' = subst (λ (o : List ℕ). Follows (shape_of p) (child_at (shape_of p) n w o) l.cell) (sym ic.option_is) ic.follows
 
     found_more : IsImproved p n None new.best
     found_more = record {
@@ -165,7 +151,7 @@ module _ (p : Problem) (valid : IsValid p) (n : Node) (x : ℕ) (sound : IsSound
     old_positive : IsPositiveCost (claimed_cost (claim_with old.best))
     old_positive = ib.best.positive
 
-    this_child : IsFreshChild p (claimed_cost (claim_with new.best)) n x l.cell
+    this_child : IsFreshChild p (claimed_cost (claim_with new.best)) n w l.cell
     this_child = record {
       follows = follows';
       sound = ic.sound;
@@ -176,16 +162,16 @@ module _ (p : Problem) (valid : IsValid p) (n : Node) (x : ℕ) (sound : IsSound
           (subst IsPositiveCost (sym (cost_is l.network)) (found_best p (place_of l.cell) l.network ic.found).positive) (subst IsPositiveCost (sym (cost_is new.best)) new_best.positive) ic.passes);
     }
 
-    pub each_more : ((k : ℕ) → k < length (cells_of old.kids.items) → IsFreshChild p (claimed_cost (claim_with old.best)) n x (cell_at (cells_of old.kids.items) k))
-        → (k : ℕ) → k < length (cells_of new.kids.items) → IsFreshChild p (claimed_cost (claim_with new.best)) n x (cell_at (cells_of new.kids.items) k)
+    pub each_more : ((k : ℕ) → k < length (cells_of old.kids.items) → IsFreshChild p (claimed_cost (claim_with old.best)) n w (cell_at (cells_of old.kids.items) k))
+        → (k : ℕ) → k < length (cells_of new.kids.items) → IsFreshChild p (claimed_cost (claim_with new.best)) n w (cell_at (cells_of new.kids.items) k)
     each_more each k lt = elim (cases_eq k (length (cells_of old.kids.items))) [
-      | inl e ↦ subst (λ (c : Cell). IsFreshChild p (claimed_cost (claim_with new.best)) n x c)
+      | inl e ↦ subst (λ (c : Cell). IsFreshChild p (claimed_cost (claim_with new.best)) n w c)
           (sym (ap (λ (cs : List Cell). cell_at cs k) cells_more ∙ (ap (λ i. cell_at (cells_of old.kids.items ++ l.cell ∷ []) i) (e ∙ sym plus_zero) ∙ get_or-append-add (cells_of old.kids.items) (l.cell ∷ []) 0 no_cell))) this_child
       | inr ne ↦
           let count = ap (λ (cs : List Cell). length cs) cells_more ∙ length-append (cells_of old.kids.items) (l.cell ∷ []) in
           let less : k < length (cells_of old.kids.items) = omega (arith, lt, count, ne) in
           let f = each k less in
-          subst (λ (c : Cell). IsFreshChild p (claimed_cost (claim_with new.best)) n x c)
+          subst (λ (c : Cell). IsFreshChild p (claimed_cost (claim_with new.best)) n w c)
           (sym (ap (λ (cs : List Cell). cell_at cs k) cells_more ∙ get_or_append_left (cells_of old.kids.items) (l.cell ∷ []) no_cell k less))
           (record {
             follows = f.follows;
@@ -277,25 +263,22 @@ module _ (p : Problem) (valid : IsValid p) (n : Node) (x : ℕ) (sound : IsSound
         omega (arith, a, b, e)
 
     -- ---- all of it
-    pub walk_more : (base free : List ℕ) (now next : Option (List ℕ)) → IsWalking Past p n x base free old now → IsAhead base free (map (λ (d : Cell). d.option) (cells_of old.kids.items) ++ t ∷ []) next
-        → halted ≡ is_some old.halt → new.ready.items ≡ old.ready.items ++ l.ready ∷ [] → new.halt ≡ halt_after old.halt (length old.kids.items) l.halt → IsWalking Past p n x base free new next
-    walk_more base free now next w ahead e er eh = record {
-      ahead = subst (λ (done : List (List ℕ)). IsAhead base free done next) (sym options_more) ahead;
-      each = each_more w.each;
+    pub looked_more : AreLooked Past p n w old → halted ≡ is_some old.halt → new.ready.items ≡ old.ready.items ++ l.ready ∷ []
+        → new.halt ≡ halt_after old.halt (length old.kids.items) l.halt → AreLooked Past p n w new
+    looked_more a e er eh = record {
+      each = each_more a.each;
       found = found_more;
-      bounded = bounded_more w.bounded;
-      known = known_more w.known;
-      same_length = length_more w.same_length er;
-      halt_holds = halt_more e w.halt_holds er eh;
+      bounded = bounded_more a.bounded;
+      known = known_more a.known;
+      same_length = length_more a.same_length er;
+      halt_holds = halt_more e a.halt_holds er eh;
     }
 
-pub walk_first : (Past : PastPlaces) (p : Problem) (n : Node) (x : ℕ) (base free : List ℕ) (c : Children) (next : Option (List ℕ))
-    → c.kids.items ≡ [] → c.ready.items ≡ [] → c.best ≡ None → c.halt ≡ None → IsAhead base free [] next → IsWalking Past p n x base free c next
-walk_first Past p n x base free c next ek er eb eh ahead = record {
-  ahead = subst (λ (fs : List Fresh). IsAhead base free (map (λ (d : Cell). d.option) (cells_of fs)) next) (sym ek) ahead;
+pub looked_first : (Past : PastPlaces) (p : Problem) (n : Node) (w : Way) (c : Children) → c.kids.items ≡ [] → c.ready.items ≡ [] → c.best ≡ None → c.halt ≡ None → AreLooked Past p n w c
+looked_first Past p n w c ek er eb eh = record {
   each = λ k lt. absurd (let e = ap (λ (fs : List Fresh). length (cells_of fs)) ek in omega (arith, lt, e));
-  found = subst (λ (w : Option claims.Network). IsImproved p n None w) (sym eb) (same_best p n None (record { passes = refl; positive = tt }));
-  bounded = ap (λ (w : Option claims.Network). is_some w) eb ∙ sym (ap (λ (fs : List Fresh). has_bounded (cells_of fs)) ek);
+  found = subst (λ (b : Option claims.Network). IsImproved p n None b) (sym eb) (same_best p n None (record { passes = refl; positive = tt }));
+  bounded = ap (λ (b : Option claims.Network). is_some b) eb ∙ sym (ap (λ (fs : List Fresh). has_bounded (cells_of fs)) ek);
   known = λ k lt. absurd (let e = ap (λ (fs : List Fresh). length fs) ek in omega (arith, lt, e));
   same_length = ap (λ (rs : List (Option Ready)). length rs) er ∙ sym (ap (λ (fs : List Fresh). length fs) ek);
   halt_holds = subst (λ (h : Option HaltedAt). HaltHolds Past p c.kids.items c.ready.items h) (sym eh)
@@ -303,13 +286,36 @@ walk_first Past p n x base free c next ek er eb eh ahead = record {
       (subst (λ (rs : List (Option Ready)). AreReady p [] [] rs) (sym er) tt));
 }
 
-pub walk_ends : (Past : PastPlaces) (p : Problem) (n : Node) (x : ℕ) (base free : List ℕ) (c : Children) → IsWalking Past p n x base free c None
-    → map (λ (d : Cell). d.option) (cells_of c.kids.items) ≡ options (shape_of p) n x → AreSeen Past p n x c
-walk_ends Past p n x base free c w e = record {
-  children = record { options_are = e; each = w.each };
-  found = w.found;
-  bounded = w.bounded;
-  known = w.known;
-  same_length = w.same_length;
-  halt_holds = w.halt_holds;
+pub looked_all : (Past : PastPlaces) (p : Problem) (n : Node) (w : Way) (c : Children) → AreLooked Past p n w c → options_in c ≡ options_at (shape_of p) n w → AreSeen Past p n w c
+looked_all Past p n w c a e = record {
+  children = record { options_are = e; each = a.each };
+  found = a.found;
+  bounded = a.bounded;
+  known = a.known;
+  same_length = a.same_length;
+  halt_holds = a.halt_holds;
 }
+
+-- what a call with one child more answers
+pub looked_after : {A : Type 0} (p : Problem) (valid : IsValid p) (n : Node) (w : Way) (sound : IsSound (shape_of p) n) (reduced : IsReduced (shape_of p) n) (may : MayBranch (shape_of p) n w)
+    (splits : IsDecision (shape_of p) n w) (t : List ℕ) (option : IsIn t (options_at (shape_of p) n w)) (Past : PastPlaces) (old : Children) (l : Looked) (halted : Bool)
+    → AreLooked Past p n w old → IsChild Past p (child_at (shape_of p) n w t) t halted l → halted ≡ is_some old.halt → (r : Result Children A)
+    → IfOk r (λ c. c.kids.items ≡ old.kids.items ++ record { cell = l.cell; value = l.value } ∷ []) → IfOk r (λ c. c.ready.items ≡ old.ready.items ++ l.ready ∷ [])
+    → IfOk r (λ c. (c.best ≡ old.best) ⊎ (c.best ≡ l.network)) → IfOk r (λ c. HasFallen (cost_of old.best) (cost_of c.best)) → IfOk r (λ c. HasFallen (cost_of l.network) (cost_of c.best))
+    → IfOk r (λ c. is_some c.best ≡ (is_some old.best || is_some l.network)) → IfOk r (λ c. c.halt ≡ halt_after old.halt (length old.kids.items) l.halt)
+    → IfOk r (λ c. AreLooked Past p n w c × (options_in c ≡ options_in old ++ t ∷ []))
+looked_after p valid n w sound reduced may splits t option Past old l halted a ic e (Ok c) kids ready which fallen fallen_found some halt = (
+  looked_more p valid n w sound reduced may splits t option Past old c l halted a.found ic kids which fallen fallen_found some a e ready halt,
+  options_more p valid n w sound reduced may splits t option Past old c l halted a.found ic kids which fallen fallen_found some,
+)
+looked_after p valid n w sound reduced may splits t option Past old l halted a ic e (Err x) kids ready which fallen fallen_found some halt = tt
+
+pub is_looked : {A : Type 0} (r : Result Children A) (Past : PastPlaces) (p : Problem) (n : Node) (w : Way) (os : List (List ℕ)) → IfOk r (λ c. AreLooked Past p n w c × (options_in c ≡ os)) → IfOk r (AreLooked Past p n w)
+is_looked (Ok c) Past p n w os h = h.0
+is_looked (Err e) Past p n w os h = tt
+
+-- an option that is still to come is one of all
+pub comes : (done rest : List (List ℕ)) (t : List ℕ) (all : List (List ℕ)) → done ++ t ∷ rest ≡ all → IsIn t all
+comes [] rest t all e = subst (λ ts. IsIn t ts) e (inl refl)
+comes (s ∷ done) rest t [] e = absurd cc
+comes (s ∷ done) rest t (u ∷ all) e = inr (comes done rest t all (let q : (done ++ t ∷ rest) ≡ all = cc in q))

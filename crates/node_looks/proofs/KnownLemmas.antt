@@ -1,17 +1,24 @@
 -- What a look adds to a tree has numbers that the problem knows.
 use Rattle.std.proofs.Common.{ℕ, List, [], ◌∷◌, length}
+use Rattle.number_sets.specs.Sets.{Avoids}
+use Rattle.number_sets.specs.Options.{IsIn}
 use Rattle.number_sets.proofs.SetLemmas.{below_from}
 use Rattle.problem_rules.specs.Each.{Each}
 use Rattle.problem_rules.specs.Problem.{Problem}
 use Rattle.pns_rules.specs.Shape.{IsProper, shape_of}
-use Rattle.pns_rules.specs.Nodes.{Node, Step, raw, rival, starve, loose, sole, IsPossible, IsOption, after}
+use Rattle.pns_rules.specs.Nodes.{Node, Step, raw, rival, starve, loose, sole, IsPossible, after}
 use Rattle.pns_rules.specs.Ends.{IsDead, Leads}
 use Rattle.branch_tree.specs.Known.{AreUnits, IsMaterial, KnowsStep}
+use Rattle.tree_rules.specs.Ways.{Way, MayBranch, options_at}
+use Rattle.tree_laws.proofs.WayLemmas.{choices}
 use Rattle.cert_parts.proofs.StepLemmas.{needed_known}
 use Rattle.neutral_extension.specs.Moves.{HasSet}
 
-pub known_option : (p : Problem) (n : Node) (x : ℕ) (t : List ℕ) → IsOption (shape_of p) n x t → AreUnits p t
-known_option p n x t o = record { rising = o.rising; below = below_from (length p.units) t (λ u h. (o.made_by u h).0) }
+-- the units of an option are units of the problem
+pub known_option : (p : Problem) (n : Node) (w : Way) (t : List ℕ) → IsProper (shape_of p) → Avoids n.inside n.outside → MayBranch (shape_of p) n w → IsIn t (options_at (shape_of p) n w) → AreUnits p t
+known_option p n w t proper apart may i =
+    let o = choices (shape_of p) n w t proper apart may i in
+    record { rising = o.rising; below = below_from (length p.units) t (λ u h. (o.decided u h).0) }
 
 module _ (p : Problem) (proper : IsProper (shape_of p)) where
   -- a dead material is needed

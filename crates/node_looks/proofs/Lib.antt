@@ -1,3 +1,5 @@
+pub mod ChoiceLemmas
+pub mod OptionLemmas
 pub mod BestLemmas
 pub mod ChildLemmas
 pub mod KnownLemmas

@@ -1,10 +1,11 @@
 -- What a search sees of all children of a node, and the cheapest network that it knows then.
 use Rattle.std.specs.Prelude.{◌≡◌, ℕ, ◌<◌, Bool, true, false, List, [], ◌∷◌, length, map, Option, Some, None, is_some}
 use Rattle.problem_rules.specs.Problem.{Problem}
-use Rattle.pns_rules.specs.Shape.{shape_of}
+use Rattle.pns_rules.specs.Shape.{Shape, shape_of}
 use Rattle.pns_rules.specs.Nodes.{Node}
 use Rattle.pns_rules.specs.Ends.{IsSound}
 use Rattle.frac128.specs.declared.fraction.Frac.{Frac}
+use Rattle.tree_rules.specs.Ways.{Way}
 use Rattle.tree_rules.specs.Tree.{leaf}
 use Rattle.tree_rules.specs.Claim as claims
 use Rattle.tree_rules.specs.Claim.{CostOver, claimed_cost, ClaimPasses}
@@ -14,7 +15,9 @@ use Rattle.search_tree.specs.Fits.{Follows}
 use Rattle.search_tree.specs.declared.growth.Fresh.{Fresh}
 use Rattle.turn_laws.specs.Values.{IsPositive, IsUnder, HasFallen, IsPositiveCost}
 use Rattle.turn_laws.specs.Kept.{LastIsBelow}
-use Rattle.turn_laws.specs.Turns.{AreChildren}
+use Rattle.turn_laws.specs.Turns.{IsFreshChild, AreChildren}
+use Rattle.branch_choice.specs.declared.choice.Choice.{Choice}
+use Rattle.branch_choice.specs.declared.choice.Choice.TheVariants.{Material, Unit as AtUnit}
 use Rattle.node_looks.specs.declared.evaluator.Halt.{Halt}
 use Rattle.node_looks.specs.declared.looks.Ready.{Ready}
 use Rattle.node_looks.specs.declared.looks.Looked.{Looked}
@@ -89,12 +92,30 @@ abbrev pub halt_after : Option HaltedAt → ℕ → Option Halt → Option Halte
 halt_after old at None = old
 halt_after old at (Some h) = Some (record { at = at; halt = h })
 
--- the children pass where the cheapest network is claimed that was found among them, and so where a cheaper one is; one was found
+-- the options of the children
+abbrev pub options_in : Children → List (List ℕ)
+options_in c = map (λ (d : Cell). d.option) (cells_of c.kids.items)
+
+-- these children pass where the cheapest network is claimed that was found among them, and so where a cheaper one is; one was found
 -- exactly where a child is a bounded leaf
-pub record AreSeen (Past : PastPlaces) (p : Problem) (n : Node) (x : ℕ) (c : Children) : Type 0 where
-  pub children : AreChildren p (claimed_cost (claim_with c.best)) n x (cells_of c.kids.items)
+pub record AreLooked (Past : PastPlaces) (p : Problem) (n : Node) (w : Way) (c : Children) : Type 0 where
+  pub each : (k : ℕ) → k < length (cells_of c.kids.items) → IsFreshChild p (claimed_cost (claim_with c.best)) n w (cell_at (cells_of c.kids.items) k)
   pub found : IsImproved p n None c.best
   pub bounded : is_some c.best ≡ has_bounded (cells_of c.kids.items)
   pub known : (k : ℕ) → k < length c.kids.items → KnowsCell p (cell_at (cells_of c.kids.items) k)
   pub same_length : length c.ready.items ≡ length c.kids.items
   pub halt_holds : HaltHolds Past p c.kids.items c.ready.items c.halt
+
+-- the same of all children
+pub record AreSeen (Past : PastPlaces) (p : Problem) (n : Node) (w : Way) (c : Children) : Type 0 where
+  pub children : AreChildren p (claimed_cost (claim_with c.best)) n w (cells_of c.kids.items)
+  pub found : IsImproved p n None c.best
+  pub bounded : is_some c.best ≡ has_bounded (cells_of c.kids.items)
+  pub known : (k : ℕ) → k < length c.kids.items → KnowsCell p (cell_at (cells_of c.kids.items) k)
+  pub same_length : length c.ready.items ≡ length c.kids.items
+  pub halt_holds : HaltHolds Past p c.kids.items c.ready.items c.halt
+
+-- the graph has the material, or a unit of this number can be in a set
+abbrev pub IsKnown : Shape → Choice → Type 0
+IsKnown g (Material x) = x < g.materials
+IsKnown g (AtUnit u) = u < 128

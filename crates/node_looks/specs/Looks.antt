@@ -3,7 +3,7 @@ use Rattle.std.specs.Prelude.{◌≡◌, ℕ, pos, ◌≤ℤ◌, Bool, true, fal
 use Rattle.problem_rules.specs.Problem.{Problem}
 use Rattle.pns_rules.specs.Shape.{shape_of}
 use Rattle.pns_rules.specs.Nodes.{Node}
-use Rattle.pns_rules.specs.Ends.{IsSound, IsReduced, IsUndecided, IsFirst, IsDead, IsNever}
+use Rattle.pns_rules.specs.Ends.{IsSound, IsReduced, IsDead, IsNever}
 use Rattle.frac128.specs.declared.fraction.Frac.{Frac}
 use Rattle.tree_rules.specs.Tree.{End, branch, leaf}
 use Rattle.tree_rules.specs.Claim.{Network, CostOver, IsFeasible}
@@ -12,6 +12,7 @@ use Rattle.branch_tree.specs.Known.{KnowsNode, KnowsEnd}
 use Rattle.search_tree.specs.Cells.{Cell, place_of}
 use Rattle.search_tree.specs.Fits.{Follows}
 use Rattle.turn_laws.specs.Values.{IsPositive, IsUnder, IsNoMore}
+use Rattle.branch_choice.specs.Choices.{IsChoice}
 use Rattle.node_looks.specs.declared.evaluator.Halt.{Halt}
 use Rattle.node_looks.specs.declared.looks.Ready.{Ready}
 use Rattle.node_looks.specs.declared.looks.Looked.{Looked}
@@ -19,11 +20,11 @@ use Rattle.node_looks.specs.Evaluated.{PastPlaces, cost_in, IsBoundOf}
 
 -- ---- an open leaf
 
--- the node is reduced, and all that its branching or shutting takes is at hand: the first material that is to decide, and the
--- bound, whose value is the leaf's
+-- the node is reduced, and all that its branching or shutting takes is at hand: how it is branched, and the bound, whose value is
+-- the leaf's
 pub record IsReady (p : Problem) (n : Node) (value : Frac) (r : Ready) : Type 0 where
   pub reduced : IsReduced (shape_of p) n
-  pub first : IsFirst (IsUndecided (shape_of p) n) r.material
+  pub choice : IsChoice (shape_of p) n r.choice
   pub bound : IsBoundOf p n r.bound
   pub value_is : r.bound.value ≡ value
 

@@ -1,21 +1,25 @@
 //! A look at all children of a node.
-ghost use Rattle.std.specs.Prelude.{◌≡◌, ◌⊎◌, ◌↔◌, ◌++◌, ◌∷◌, [], ◌<◌, ◌||◌, IsTrue, true, false, Some, None, is_some, IfOk, OnOk, length};
+ghost use Rattle.std.specs.Prelude.{◌≡◌, ◌⊎◌, ◌↔◌, ◌++◌, ◌∷◌, [], ◌||◌, IsTrue, true, false, Some, None, is_some, IfOk, OnOk, length};
 ghost use Rattle.pns_rules.specs.Shape.{shape_of};
-ghost use Rattle.pns_rules.specs.Ends.{IsSound, IsReduced, IsUndecided};
+ghost use Rattle.number_sets.specs.Options.{IsIn};
+ghost use Rattle.pns_rules.specs.Ends.{IsSound, IsReduced};
+ghost use Rattle.tree_rules.specs.Ways.{options_at};
+ghost use Rattle.branch_choice.specs.Choices.{IsChoice, way_of};
 ghost use Rattle.pgraph.specs.Tables.{shape};
 ghost use Rattle.pgraph.specs.View.{node_of};
 ghost use Rattle.turn_laws.specs.Values.{IsNoMore, HasFallen};
 ghost use Rattle.node_looks.specs.Evaluated.{cost_in};
 ghost use Rattle.node_looks.specs.Looks.{cost_of};
-ghost use Rattle.node_looks.specs.Children.{IsChild, AreSeen, halt_after};
+ghost use Rattle.node_looks.specs.Children.{IsChild, AreLooked, AreSeen, options_in, halt_after};
 ghost use Rattle.branch_tree.specs.Known.{AreUnits};
 ghost use Rattle.neutral_extension.specs.Candidates.{AreMakersOf};
 
 use crate::costs::is_no_more;
 use crate::evaluator::{Evaluator, Halt};
 use crate::looks::{Looked, Ready, look, nothing, open_cell};
+use crate::options::{child_of, options_of};
+use branch_choice::Choice;
 use branch_tree::{Network, Steps};
-use cert_parts::child;
 use neutral_extension::Makers;
 use pgraph::Graph;
 use pns_problem::Problem;
@@ -134,7 +138,40 @@ fn look_or_wait<E: Evaluator>(
     })
 }
 
-/// Looks at all children of a node at the material, in the order of their options. The makers are those of the graph, whichever
+/// Looks at the child of one option more.
+fn look_at_child<E: Evaluator>(
+    alloc: Global,
+    evaluator: &mut E,
+    problem: &Problem,
+    graph: &Graph,
+    makers: &mut Makers,
+    node: &Node,
+    choice: Choice,
+    option: UnitSet,
+    children: Children,
+) -> Result<Children, AllocError>
+    requires graph { shape graph.now ≡ shape_of problem.now }
+    requires same { AreMakersOf (shape graph.now) makers.old.makers }
+    requires sound { IsSound (shape_of problem.now) (node_of node.now) }
+    requires reduced { IsReduced (shape_of problem.now) (node_of node.now) }
+    requires choice { IsChoice (shape_of problem.now) (node_of node.now) choice }
+    requires option { IsIn option (options_at (shape_of problem.now) (node_of node.now) (way_of choice)) }
+    requires looked { AreLooked E.past problem.now (node_of node.now) (way_of choice) children }
+    ensures looked { IfOk result (AreLooked E.past problem.now (node_of node.now) (way_of choice)) }
+    ensures options { IfOk result (λ c. options_in c ≡ options_in children ++ option ∷ []) }
+    ensures makers { makers.new.makers ≡ makers.old.makers }
+{
+    problem.is_valid();
+    graph.is_proper();
+    let start = child_of(graph, node, choice, option);
+    let halted = children.halt.is_some();
+    let looked = look_or_wait(
+        alloc, evaluator, problem, graph, makers, option, start, halted,
+    )?;
+    with_child(children, looked)
+}
+
+/// Looks at all children of a node that a choice gives, in the order of their options. The makers are those of the graph, whichever
 /// units are taken out of them, and stay so. `Err` comes for want of memory alone.
 pub fn look_at_children<E: Evaluator>(
     alloc: Global,
@@ -143,36 +180,29 @@ pub fn look_at_children<E: Evaluator>(
     graph: &Graph,
     makers: &mut Makers,
     node: Node,
-    material: u32,
+    choice: Choice,
 ) -> Result<Children, AllocError>
     requires graph { shape graph.now ≡ shape_of problem.now }
     requires same { AreMakersOf (shape graph.now) makers.old.makers }
     requires sound { IsSound (shape_of problem.now) (node_of node) }
     requires reduced { IsReduced (shape_of problem.now) (node_of node) }
-    requires undecided { IsUndecided (shape_of problem.now) (node_of node) material }
-    requires known { material < (shape graph.now).materials }
-    ensures seen { IfOk result (AreSeen E.past problem.now (node_of node) material) }
+    requires choice { IsChoice (shape_of problem.now) (node_of node) choice }
+    ensures seen { IfOk result (AreSeen E.past problem.now (node_of node) (way_of choice)) }
     ensures makers { makers.new.makers ≡ makers.old.makers }
 {
     problem.is_valid();
-    let (base, free) = graph.options(node, material);
-    base.rises();
-    free.rises();
+    graph.is_proper();
+    let options = options_of(alloc, graph, &node, choice)?;
     let mut children = Children {
         kids: Vec::new(alloc),
         ready: Vec::new(alloc),
         best: None,
         halt: None,
     };
-    let mut next = UnitSet::first_option(base, free);
-    'options: while let Some(option) = next {
-        let start = child(graph, &node, material, option);
-        let halted = children.halt.is_some();
-        let looked = look_or_wait(
-            alloc, evaluator, problem, graph, makers, option, start, halted,
+    'options: for option in &options {
+        children = look_at_child(
+            alloc, evaluator, problem, graph, makers, &node, choice, *option, children,
         )?;
-        children = with_child(children, looked)?;
-        next = option.next_option(base, free);
     }
     Ok(children)
 }

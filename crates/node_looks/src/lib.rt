@@ -7,6 +7,7 @@
 //! - `evaluator`: the trait, and what it tells
 //! - `looks`: a look at a node
 //! - `children`: a look at all children of a node
+//! - `options`: the options of a choice, and the children that they give
 //! - `costs`: costs over their scales, compared
 #![tactic(auto)]
 
@@ -14,6 +15,7 @@ mod children;
 mod costs;
 mod evaluator;
 mod looks;
+mod options;
 
 pub use children::{Children, HaltedAt, cheaper, look_at_children};
 pub use costs::is_no_more;

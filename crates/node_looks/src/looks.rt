@@ -13,6 +13,7 @@ ghost use Rattle.search_tree.specs.Growth.{as_shut};
 ghost use Rattle.node_looks.specs.Looks.{IsLooked, IsSameNode, IsSeen};
 
 use crate::evaluator::{Bound, Evaluation, Evaluator, Halt};
+use branch_choice::{Choice, choose};
 use branch_tree::{End, Network, Steps};
 use frac128::Frac;
 use neutral_extension::{Makers, Stop, extend_with};
@@ -22,10 +23,10 @@ use search_tree::Cell;
 use std::alloc::{AllocError, Global};
 use unit_sets::{Node, UnitSet};
 
-/// What the branching or shutting of an open leaf takes: the least material that is to decide, and the bound.
+/// What the branching or shutting of an open leaf takes: how it is branched, and the bound.
 #[derive(Drop)]
 pub struct Ready {
-    pub material: u32,
+    pub choice: Choice,
     pub bound: Bound,
 }
 
@@ -105,13 +106,16 @@ fn look_closer<E: Evaluator>(
     ensures seen { IfOk result (IsSeen E.past problem.now) }
 {
     match evaluator.evaluate(alloc, problem, graph, cell.node, decided)? {
-        Evaluation::Least(bound) => Ok(Looked {
-            cell,
-            value: bound.value,
-            ready: Some(Ready { material, bound }),
-            network: None,
-            halt: None,
-        }),
+        Evaluation::Least(bound) => {
+            let choice = choose(problem, graph, cell.node, material, evaluator.sizes());
+            Ok(Looked {
+                cell,
+                value: bound.value,
+                ready: Some(Ready { choice, bound }),
+                network: None,
+                halt: None,
+            })
+        }
         Evaluation::Flows(bound, network) => {
             bound.scaled.are_in_range();
             Ok(solved(cell, bound, network))

@@ -12,18 +12,22 @@ use Rattle.search_tree.specs.Cells.{Cell, cell_at}
 use Rattle.node_looks.specs.declared.looks.Ready.{Ready}
 use Rattle.abb_search.proofs.HandLemmas.{as_many_kids, freed_from}
 use Rattle.abb_search.proofs.GrowingLemmas.{count_seen, halts_within, room_within, branching}
+use Rattle.node_looks.proofs.ChoiceLemmas.{option_count_is, width_is}
+use Rattle.branch_choice.specs.Choices.{way_of}
+use Rattle.tree_rules.specs.Ways.{width}
+use Rattle.pns_rules.specs.Shape.{shape_of}
 use Rattle.abb_search.proofs.growing.branch_leaf.Goals as goal
 
 pub overflow_cast-count : goal.overflow_cast-count
 overflow_cast-count g c =
-    let k = count_seen g.E.Evaluator.past c.args.problem.now (node_of c.args.node) c.args.material c.in_ok-children.children c.in_ok-children.ensures.seen in
+    let k = count_seen g.E.Evaluator.past c.args.problem.now (node_of c.args.node) (way_of c.args.choice) c.in_ok-children.children c.in_ok-children.ensures.seen in
     let l : c.len-count.result ≡ length c.in_ok-children.children.kids.items = search rules in
     let few = c.requires.few in
     omega (arith, k, l, few)
 
 pub reserve-requires : goal.reserve-requires
 reserve-requires g c =
-    let k = count_seen g.E.Evaluator.past c.args.problem.now (node_of c.args.node) c.args.material c.in_ok-children.children c.in_ok-children.ensures.seen in
+    let k = count_seen g.E.Evaluator.past c.args.problem.now (node_of c.args.node) (way_of c.args.choice) c.in_ok-children.children c.in_ok-children.ensures.seen in
     let l : c.len-count.result ≡ length c.in_ok-children.children.kids.items = search rules in
     let few = c.requires.few in
     let n = c.is_pool.ensures.payloads in
@@ -31,19 +35,11 @@ reserve-requires g c =
 
 pub halt_at-requires : goal.halt_at-requires
 halt_at-requires g c =
-    let k = count_seen g.E.Evaluator.past c.args.problem.now (node_of c.args.node) c.args.material c.in_ok-children.children c.in_ok-children.ensures.seen in
+    let k = count_seen g.E.Evaluator.past c.args.problem.now (node_of c.args.node) (way_of c.args.choice) c.in_ok-children.children c.in_ok-children.ensures.seen in
     let few = c.requires.few in
     let n = c.requires.counted in
     halts_within g.E.Evaluator.past c.args.problem.now c.in_ok-children.children.kids.items c.in_ok-children.children.ready.items c.args.growing.now.nodes 4294967296 c.in_ok-children.children.halt c.in_ok-children.ensures.seen.halt_holds
     (omega (arith, k, few, n))
-
-pub branch-growing-requires-clause-few : goal.branch-growing-requires-clause-few
-branch-growing-requires-clause-few g c =
-    let k = count_seen g.E.Evaluator.past c.args.problem.now (node_of c.args.node) c.args.material c.in_ok-children.children c.in_ok-children.ensures.seen in
-    let m = as_many_kids c.in_ok-children.children.kids.items (reverse c.place_all-kids.result.items) c.in_ok-children.children.ready.items c.try_remove.new.self c.place_all-kids.new.hand c.place_all-kids.ensures in
-    let r = length-reverse c.place_all-kids.result.items in
-    let few = c.requires.few in
-    omega (arith, k, m, r, few)
 
 pub branch-growing-requires-clause-room : goal.branch-growing-requires-clause-room
 branch-growing-requires-clause-room g c =
@@ -64,6 +60,10 @@ returns-clause-branching g c =
     let key : c.key_at.result ≡ (cell_at c.args.growing.now.pool.payloads c.args.leaf).key = c.key_at.ensures ∙ ap (λ (cs : List Cell). (cell_at cs c.args.leaf).key) c.in_ok-reserve.ensures.nodes.payloads in
     let frees = subst (λ k. Updates c.args.growing.now.ready c.try_remove.new.self k None) key
     (freed_from c.args.growing.now.ready c.reserve-2.new.self c.try_remove.new.self c.key_at.result (ap (λ (s : Slab Ready). s.slots) c.in_ok-reserve-2.ensures.rest_kept) c.try_remove.ensures.updates) in
-    branching g.E.Evaluator.past c.args.problem.now (node_of c.args.node) c.args.growing.now new c.args.leaf c.args.material c.in_ok-children.children c.reserve.new.self c.place_all-kids.result.items c.try_remove.new.self c.args.growing.now.nodes
-    c.in_ok-children.ensures.seen c.in_ok-reserve.ensures.nodes c.requires.counted frees c.place_all-kids.ensures
-    c.branch-growing.ensures.cells c.branch-growing.ensures.values which fallen c.cheaper.ensures.found some n (ap (λ k. c.args.growing.now.nodes + k) l) c.branch-growing.ensures.open refl refl c.halt_at.ensures
+    let count = option_count_is (shape_of c.args.problem.now) (node_of c.args.node) c.args.choice c.requires.choice in
+    let k = count_seen g.E.Evaluator.past c.args.problem.now (node_of c.args.node) (way_of c.args.choice) c.in_ok-children.children c.in_ok-children.ensures.seen in
+    let w = width_is c.args.choice in
+    let wide : width (way_of c.args.choice) ≡ length c.in_ok-children.children.kids.items = omega (arith, count, k, w) in
+    branching g.E.Evaluator.past c.args.problem.now (node_of c.args.node) c.args.growing.now new c.args.leaf (way_of c.args.choice) c.in_ok-children.children c.reserve.new.self c.place_all-kids.result.items c.try_remove.new.self c.args.growing.now.nodes
+    c.in_ok-children.ensures.seen wide c.in_ok-reserve.ensures.nodes c.requires.counted frees c.place_all-kids.ensures
+    cells c.branch-growing.ensures.values which fallen c.cheaper.ensures.found some n (ap (λ k. c.args.growing.now.nodes + k) l) c.branch-growing.ensures.open refl refl c.halt_at.ensures

@@ -1,96 +1,68 @@
-use Rattle.std.proofs.Common.{◌≡◌, ℕ, List, [], ◌++◌, ◌∷◌, Option, Some, None, refl, sym, ap, ap₂, ◌∙◌, subst, map, length, length-append, arith}
-use Rattle.number_sets.specs.Options.{all_options, IsIn}
+use Rattle.std.proofs.Common.{◌≡◌, ◌+◌, ◌<◌, ◌≤◌, ℕ, List, [], ◌∷◌, ◌++◌, None, length, map, drop, get_or, refl, sym, ap, ◌∙◌, subst, arith, append_assoc}
+use Rattle.std.proofs.lemmas.List.{append-nil, drop_all, drop_more}
 use Rattle.pns_rules.specs.Shape.{Shape, shape_of}
-use Rattle.pns_rules.specs.Nodes as rules
-use Rattle.pns_rules.specs.Nodes.{options, child}
-use Rattle.pns_rules.specs.Ends.{IsSound}
+use Rattle.neutral_extension.specs.Candidates.{AreMakersOf}
+use Rattle.pgraph.specs.Tables.{shape}
 use Rattle.pgraph.specs.View.{node_of}
-use Rattle.std.proofs.lemmas.List.{length-map}
+use Rattle.tree_rules.specs.Ways.{options_at}
+use Rattle.branch_choice.specs.Choices.{IsChoice, way_of}
 use Rattle.search_tree.specs.Cells.{Cell}
 use Rattle.search_tree.specs.declared.growth.Fresh.{Fresh}
-use Rattle.node_looks.specs.Children.{cells_of, IsChild}
-use Rattle.node_looks.proofs.OptionWalk.{IsAhead, ahead_first, ahead_next, is_in, is_between, some_left}
-use Rattle.node_looks.proofs.KnownLemmas.{known_option}
-use Rattle.node_looks.proofs.ChildLemmas.{IsWalking, walk_first, walk_more, is_option, sound_child}
+use Rattle.node_looks.specs.Children.{cells_of, options_in}
+use Rattle.node_looks.proofs.ChildLemmas.{looked_first, looked_all, comes}
+use Rattle.node_looks.proofs.OptionLemmas.{choice_known}
 use Rattle.node_looks.proofs.children.look_at_children.Goals as goal
+
+-- before the first child
+none_yet : (fs : List Fresh) → fs ≡ [] → (os : List (List ℕ)) → map (λ (d : Cell). d.option) (cells_of fs) ++ os ≡ os
+none_yet fs e os = ap (λ (gs : List Fresh). map (λ (d : Cell). d.option) (cells_of gs) ++ os) e
+
+-- the next one comes first of what is left
+next_of : (done xs : List (List ℕ)) (i : ℕ) (x : List ℕ) → i < length xs → x ≡ get_or xs i x → done ++ x ∷ drop (i + 1) xs ≡ done ++ drop i xs
+next_of done xs i x lt e = ap (λ r. done ++ r) (ap (λ y. y ∷ drop (i + 1) xs) e ∙ sym (drop_more xs i x lt))
+
+pub options_of-requires : goal.options_of-requires
+options_of-requires g c =
+    choice_known (shape c.args.graph.now) (node_of c.args.node) c.args.choice c.is_proper.ensures.proper c.is_proper.ensures.few_units
+    (subst (λ (s : Shape). IsChoice s (node_of c.args.node) c.args.choice) (sym c.requires.graph) c.requires.choice)
 
 pub options-init : goal.options-init
 options-init g c = record {
-  walking = walk_first g.E.Evaluator.past c.args.problem.now (node_of c.args.node) c.args.material c.options-2.result.0 c.options-2.result.1
-      (record { kids = c.new.result; ready = c.new-2.result; best = None; halt = None }) c.first_option-next.result c.new.ensures.items c.new-2.ensures.items refl refl
-      (ahead_first c.options-2.result.0 c.options-2.result.1 c.rises.ensures c.rises-2.ensures c.options-2.ensures.apart c.first_option-next.result c.first_option-next.ensures.first c.first_option-next.ensures.none);
+  looked = looked_first g.E.Evaluator.past c.args.problem.now (node_of c.args.node) (way_of c.args.choice) (record { kids = c.new.result; ready = c.new-2.result; best = None; halt = None })
+      c.new.ensures.items c.new-2.ensures.items refl refl;
+  done = none_yet (c.new.result.items) c.new.ensures.items c.deref-option-items.result.now
+      ∙ (c.deref-option-items.ensures.value ∙ (c.in_ok-options.ensures ∙ ap (λ (s : Shape). options_at s (node_of c.args.node) (way_of c.args.choice)) c.requires.graph));
   makers = refl;
 }
 
-pub look_or_wait-requires-clause-sound : goal.look_or_wait-requires-clause-sound
-look_or_wait-requires-clause-sound g c =
-    let p = c.args.problem.now in
-    let n = node_of c.args.node in
-    let os : all_options c.options-2.result.0 c.options-2.result.1 ≡ options (shape_of p) n c.args.material
-    = ap₂ (λ (b f : List ℕ). all_options b f) c.options-2.ensures.base c.options-2.ensures.free ∙ ap (λ (s : Shape). options s n c.args.material) c.requires.graph in
-    let ahead : IsAhead c.options-2.result.0 c.options-2.result.1 (map (λ (d : Cell). d.option) (cells_of c.options.children.kids.items)) (Some c.in-Some.option)
-    = subst (λ (o : Option (List ℕ)). IsAhead c.options-2.result.0 c.options-2.result.1 (map (λ (d : Cell). d.option) (cells_of c.options.children.kids.items)) o) c.in-Some.is c.options.invariant.walking.ahead in
-    let here : IsIn c.in-Some.option (options (shape_of p) n c.args.material)
-    = subst (λ (l : List (List ℕ)). IsIn c.in-Some.option l) os
-    (is_in c.options-2.result.0 c.options-2.result.1 c.rises.ensures c.rises-2.ensures c.options-2.ensures.apart (map (λ (d : Cell). d.option) (cells_of c.options.children.kids.items)) c.in-Some.option ahead) in
-    let start : node_of c.child-start.result ≡ child (shape_of p) n c.args.material c.in-Some.option
-    = c.child-start.ensures ∙ ap (λ (s : Shape). child s n c.args.material c.in-Some.option) c.requires.graph in
-    subst (λ (m : rules.Node). IsSound (shape_of p) m) (sym start)
-    (sound_child p c.is_valid.ensures.valid n c.args.material c.requires.sound c.requires.reduced c.requires.undecided c.in-Some.option here)
+pub look_at_child-requires-clause-same : goal.look_at_child-requires-clause-same
+look_at_child-requires-clause-same g c = subst (λ m. AreMakersOf (shape c.args.graph.now) m) (sym c.options.invariant.makers) c.requires.same
 
-pub look_or_wait-requires-clause-option : goal.look_or_wait-requires-clause-option
-look_or_wait-requires-clause-option g c =
-    let p = c.args.problem.now in
-    let n = node_of c.args.node in
-    let os : all_options c.options-2.result.0 c.options-2.result.1 ≡ options (shape_of p) n c.args.material
-    = ap₂ (λ (b f : List ℕ). all_options b f) c.options-2.ensures.base c.options-2.ensures.free ∙ ap (λ (s : Shape). options s n c.args.material) c.requires.graph in
-    let ahead : IsAhead c.options-2.result.0 c.options-2.result.1 (map (λ (d : Cell). d.option) (cells_of c.options.children.kids.items)) (Some c.in-Some.option)
-    = subst (λ (o : Option (List ℕ)). IsAhead c.options-2.result.0 c.options-2.result.1 (map (λ (d : Cell). d.option) (cells_of c.options.children.kids.items)) o) c.in-Some.is c.options.invariant.walking.ahead in
-    let here : IsIn c.in-Some.option (options (shape_of p) n c.args.material)
-    = subst (λ (l : List (List ℕ)). IsIn c.in-Some.option l) os
-    (is_in c.options-2.result.0 c.options-2.result.1 c.rises.ensures c.rises-2.ensures c.options-2.ensures.apart (map (λ (d : Cell). d.option) (cells_of c.options.children.kids.items)) c.in-Some.option ahead) in
-    known_option p n c.args.material c.in-Some.option (is_option p c.is_valid.ensures.valid n c.args.material c.requires.sound c.requires.reduced c.requires.undecided c.in-Some.option here)
+pub look_at_child-requires-clause-option : goal.look_at_child-requires-clause-option
+look_at_child-requires-clause-option g c =
+    comes (options_in c.options.children) (drop (c.options.option-index + 1) c.deref-option-items.result.now) c.option-item.result (options_at (shape_of c.args.problem.now) (node_of c.args.node) (way_of c.args.choice))
+    (next_of (options_in c.options.children) c.deref-option-items.result.now c.options.option-index c.option-item.result c.options-test.true c.option-item.is ∙ c.options.invariant.done)
 
-pub next_option-next-requires-clause-between : goal.next_option-next-requires-clause-between
-next_option-next-requires-clause-between g c =
-    is_between c.options-2.result.0 c.options-2.result.1 c.rises.ensures c.rises-2.ensures c.options-2.ensures.apart (map (λ (d : Cell). d.option) (cells_of c.options.children.kids.items)) c.in-Some.option
-    (subst (λ (o : Option (List ℕ)). IsAhead c.options-2.result.0 c.options-2.result.1 (map (λ (d : Cell). d.option) (cells_of c.options.children.kids.items)) o) c.in-Some.is c.options.invariant.walking.ahead)
+pub look_at_child-requires-clause-looked : goal.look_at_child-requires-clause-looked
+look_at_child-requires-clause-looked g c = c.options.invariant.looked
+
+pub returns-in_err-children-clause-makers : goal.returns-in_err-children-clause-makers
+returns-in_err-children-clause-makers g c = c.look_at_child.ensures.makers ∙ c.options.invariant.makers
 
 pub options-preserved : goal.options-preserved
-options-preserved g c =
-    let p = c.args.problem.now in
-    let n = node_of c.args.node in
-    let done : List (List ℕ) = map (λ (d : Cell). d.option) (cells_of c.options.children.kids.items) in
-    let os : all_options c.options-2.result.0 c.options-2.result.1 ≡ options (shape_of p) n c.args.material
-    = ap₂ (λ (b f : List ℕ). all_options b f) c.options-2.ensures.base c.options-2.ensures.free ∙ ap (λ (s : Shape). options s n c.args.material) c.requires.graph in
-    let ahead : IsAhead c.options-2.result.0 c.options-2.result.1 (map (λ (d : Cell). d.option) (cells_of c.options.children.kids.items)) (Some c.in-Some.option)
-    = subst (λ (o : Option (List ℕ)). IsAhead c.options-2.result.0 c.options-2.result.1 (map (λ (d : Cell). d.option) (cells_of c.options.children.kids.items)) o) c.in-Some.is c.options.invariant.walking.ahead in
-    let here : IsIn c.in-Some.option (options (shape_of p) n c.args.material)
-    = subst (λ (l : List (List ℕ)). IsIn c.in-Some.option l) os
-    (is_in c.options-2.result.0 c.options-2.result.1 c.rises.ensures c.rises-2.ensures c.options-2.ensures.apart (map (λ (d : Cell). d.option) (cells_of c.options.children.kids.items)) c.in-Some.option ahead) in
-    let start : node_of c.child-start.result ≡ child (shape_of p) n c.args.material c.in-Some.option
-    = c.child-start.ensures ∙ ap (λ (s : Shape). child s n c.args.material c.in-Some.option) c.requires.graph in
-    let child_is : IsChild g.E.Evaluator.past p (child (shape_of p) n c.args.material c.in-Some.option) c.in-Some.option c.is_some-halted.result c.in_ok-looked.looked
-    = subst (λ (m : rules.Node). IsChild g.E.Evaluator.past p m c.in-Some.option c.is_some-halted.result c.in_ok-looked.looked) start c.in_ok-looked.ensures.child in
-    let next : IsAhead c.options-2.result.0 c.options-2.result.1 (map (λ (d : Cell). d.option) (cells_of c.options.children.kids.items) ++ c.in-Some.option ∷ []) c.next_option-next.result
-    = ahead_next c.options-2.result.0 c.options-2.result.1 c.rises.ensures c.rises-2.ensures c.options-2.ensures.apart (map (λ (d : Cell). d.option) (cells_of c.options.children.kids.items)) c.in-Some.option c.next_option-next.result
-    ahead c.next_option-next.ensures.next c.next_option-next.ensures.last in
-    let e = c.in_ok-children.ensures in
-    record {
-      walking = walk_more p c.is_valid.ensures.valid n c.args.material c.requires.sound c.requires.reduced c.requires.undecided c.in-Some.option here g.E.Evaluator.past
-          c.options.children c.in_ok-children.children c.in_ok-looked.looked c.is_some-halted.result c.options.invariant.walking.found child_is e.kids e.which e.old e.found e.some
-          c.options-2.result.0 c.options-2.result.1 (Some c.in-Some.option) c.next_option-next.result
-          (subst (λ (o : Option (List ℕ)). IsWalking g.E.Evaluator.past p n c.args.material c.options-2.result.0 c.options-2.result.1 c.options.children o) c.in-Some.is c.options.invariant.walking)
-          next c.is_some-halted.ensures e.ready e.halt;
-      makers = c.in_ok-looked.ensures.makers ∙ c.options.invariant.makers;
-    }
+options-preserved g c = record {
+  looked = c.in_ok-children.ensures.looked;
+  done = ap (λ os. os ++ drop (c.options.option-index + 1) c.deref-option-items.result.now) c.in_ok-children.ensures.options
+      ∙ (append_assoc (options_in c.options.children) (c.option-item.result ∷ []) (drop (c.options.option-index + 1) c.deref-option-items.result.now)
+      ∙ (next_of (options_in c.options.children) c.deref-option-items.result.now c.options.option-index c.option-item.result c.options-test.true c.option-item.is ∙ c.options.invariant.done));
+  makers = c.look_at_child.ensures.makers ∙ c.options.invariant.makers;
+}
 
-pub options-smaller : goal.options-smaller
-options-smaller g c =
-    let done : List (List ℕ) = map (λ (d : Cell). d.option) (cells_of c.options.children.kids.items) in
-    let ahead : IsAhead c.options-2.result.0 c.options-2.result.1 done (Some c.in-Some.option)
-    = subst (λ (o : Option (List ℕ)). IsAhead c.options-2.result.0 c.options-2.result.1 done o) c.in-Some.is c.options.invariant.walking.ahead in
-    let left = some_left c.options-2.result.0 c.options-2.result.1 c.rises.ensures c.rises-2.ensures c.options-2.ensures.apart done c.in-Some.option ahead in
-    let count = length-map (cells_of c.options.children.kids.items) (λ (d : Cell). d.option) ∙ length-map c.options.children.kids.items (λ (f : Fresh). f.cell) in
-    let more = ap (λ (fs : List Fresh). length fs) c.in_ok-children.ensures.kids ∙ length-append c.options.children.kids.items (record { cell = c.in_ok-looked.looked.cell; value = c.in_ok-looked.looked.value } ∷ []) in
-    omega (arith, left, count, more)
+pub returns-clause-seen : goal.returns-clause-seen
+returns-clause-seen g c =
+    looked_all g.E.Evaluator.past c.args.problem.now (node_of c.args.node) (way_of c.args.choice) c.options.children c.options.invariant.looked
+    (sym (append-nil (options_in c.options.children))
+    ∙ (ap (λ os. options_in c.options.children ++ os) (sym (drop_all c.options.option-index c.deref-option-items.result.now c.options-test.false)) ∙ c.options.invariant.done))
+
+pub returns-clause-makers : goal.returns-clause-makers
+returns-clause-makers g c = c.options.invariant.makers

@@ -1,14 +1,14 @@
-use Rattle.std.proofs.Common.{◌≡◌, length, ◌-◌}
-use Rattle.number_sets.specs.Options.{all_options}
+use Rattle.std.proofs.Common.{◌≡◌, ◌++◌, drop}
+use Rattle.pns_rules.specs.Shape.{shape_of}
 use Rattle.pgraph.specs.View.{node_of}
-use Rattle.node_looks.proofs.ChildLemmas.{IsWalking}
+use Rattle.tree_rules.specs.Ways.{options_at}
+use Rattle.branch_choice.specs.Choices.{way_of}
+use Rattle.node_looks.specs.Children.{AreLooked, options_in}
 use Rattle.node_looks.proofs.children.look_at_children.Given as goal
 
 abbrev pub invariant-options : goal.invariant-options
 invariant-options g l = record {
-  walking : IsWalking g.E.Evaluator.past l.problem (node_of l.node) l.material l.base l.free l.children l.next;
+  looked : AreLooked g.E.Evaluator.past l.problem (node_of l.node) (way_of l.choice) l.children;
+  done : options_in l.children ++ drop l.option-index l.option-items ≡ options_at (shape_of l.problem) (node_of l.node) (way_of l.choice);
   makers : l.makers.makers ≡ l.fn.makers.makers;
 }
-
-abbrev pub decreases-options : goal.decreases-options
-decreases-options g l = length (all_options l.base l.free) - length l.children.kids.items

@@ -5,8 +5,8 @@ use Rattle.pns_rules.specs.Nodes.{free_makers}
 use Rattle.pns_rules.specs.Ends.{IsUndecided}
 use Rattle.pgraph.specs.Tables.{shape}
 use Rattle.pgraph.specs.View.{node_of}
-use Rattle.branch_choice.proofs.ChoiceLemmas.{none_free, undecided_from, best_stays, best_changes}
-use Rattle.branch_choice.proofs.choice.look_at.Goals as goal
+use Rattle.branch_choice.proofs.FewestLemmas.{none_free, undecided_from, best_stays, best_changes}
+use Rattle.branch_choice.proofs.fewest.look_at.Goals as goal
 
 pub returns-then-not-is_empty : goal.returns-then-not-is_empty
 returns-then-not-is_empty c =

@@ -1,0 +1,44 @@
+-- What a choice decides, and how many children it gives.
+use Rattle.std.proofs.Common.{◌≡◌, ◌≤◌, ℕ, length, refl, inl, inr, arith}
+use Rattle.problem_rules.specs.Problem.{Problem}
+use Rattle.problem_rules.specs.Validity.{IsValid}
+use Rattle.pns_rules.specs.Shape.{Shape, shape_of}
+use Rattle.pns_rules.specs.Nodes.{Node}
+use Rattle.pns_rules.specs.Ends.{IsUndecided}
+use Rattle.pns_rules.proofs.ProperLemmas.{proper_if_valid}
+use Rattle.tree_rules.specs.Ways.{width, MayBranch, IsDecision, options_at}
+use Rattle.tree_rules.specs.Tree.{branch}
+use Rattle.tree_rules.specs.Stops.{IsNextCount}
+use Rattle.branch_tree.specs.Known.{KnowsEnd}
+use Rattle.branch_choice.specs.declared.choice.Choice.{Choice}
+use Rattle.branch_choice.specs.declared.choice.Choice.TheVariants as choices
+use Rattle.branch_choice.specs.Choices.{IsChoice, way_of, option_count}
+
+pub may_branch : (g : Shape) (n : Node) (c : Choice) → IsChoice g n c → MayBranch g n (way_of c)
+may_branch g n (choices.Material x) h = h.0.needed
+may_branch g n (choices.Unit u) h = (h.known, h.free)
+
+pub decides : (g : Shape) (n : Node) (c : Choice) → IsChoice g n c → IsDecision g n (way_of c)
+decides g n (choices.Material x) h = let three = h.1 in omega (arith, three)
+decides g n (choices.Unit u) h = (h.material, h.needed, h.makes)
+
+pub option_count_is : (g : Shape) (n : Node) (c : Choice) → IsChoice g n c → length (options_at g n (way_of c)) ≡ option_count c
+option_count_is g n (choices.Material x) h = h.1
+option_count_is g n (choices.Unit u) h = refl
+
+pub width_is : (c : Choice) → width (way_of c) ≡ option_count c
+width_is (choices.Material x) = refl
+width_is (choices.Unit u) = refl
+
+pub next_count : (g : Shape) (n : Node) (c : Choice) → IsChoice g n c → IsNextCount g n (option_count c)
+next_count g n (choices.Material x) h = inr (refl, (x, h.0.needed, h.1))
+next_count g n (choices.Unit u) h = inl refl
+
+-- a material is to decide
+pub undecided_there : (g : Shape) (n : Node) (c : Choice) → IsChoice g n c → (x : ℕ) × IsUndecided g n x
+undecided_there g n (choices.Material x) h = (x, h.0)
+undecided_there g n (choices.Unit u) h = (h.material, record { needed = h.needed; some = (u, h.known, h.makes, h.free) })
+
+pub end_known : (p : Problem) → IsValid p → (n : Node) (c : Choice) → IsChoice (shape_of p) n c → KnowsEnd p (branch (way_of c))
+end_known p valid n (choices.Material x) h = (proper_if_valid p valid).output_known h.0.some.0 x h.0.some.2
+end_known p valid n (choices.Unit u) h = h.known
