@@ -1,1 +1,2 @@
+pub mod FewestLemmas
 pub mod ChoiceLemmas

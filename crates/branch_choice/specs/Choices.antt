@@ -1,22 +1,36 @@
--- The material on which a node is branched: of those that are to decide, one with the fewest options.
-use Rattle.std.specs.Prelude.{◌≡◌, ℕ, ◌<◌, ◌≤◌, Option, MatchOption, length}
+-- Where a node is branched so that there is something to decide: at a needed material with three options, or at a unit that goes
+-- in or goes out and makes a needed material.
+use Rattle.std.specs.Prelude.{◌≡◌, ℕ, ◌<◌, true, length}
 use Rattle.pns_rules.specs.Shape.{Shape}
-use Rattle.pns_rules.specs.Nodes.{Node, options}
-use Rattle.pns_rules.specs.Ends.{IsUndecided, IsNever}
+use Rattle.pns_rules.specs.Structure.{is_needed}
+use Rattle.pns_rules.specs.Nodes.{Node, is_free, options}
+use Rattle.pns_rules.specs.Ends.{IsUndecided}
+use Rattle.tree_rules.specs.Ways.{Way, at_material, either, MayBranch, IsDecision, options_at}
 use Rattle.branch_choice.specs.declared.choice.Choice.{Choice}
+use Rattle.branch_choice.specs.declared.choice.Choice.TheVariants as choices
 
--- the material is to decide and has so many options
-pub record IsCounted (g : Shape) (n : Node) (c : Choice) : Type 0 where
-  pub undecided : IsUndecided g n c.material
-  pub count : c.options ≡ length (options g n c.material)
+-- a unit that is neither taken in nor left out and makes a needed material
+pub record IsDecisive (g : Shape) (n : Node) (u : ℕ) : Type 0 where
+  pub material : ℕ
+  pub needed : is_needed g n.inside material ≡ true
+  pub known : u < g.units
+  pub makes : g.makes u material ≡ true
+  pub free : is_free g n u ≡ true
 
--- and no material that is to decide has fewer
-pub record IsFewest (g : Shape) (n : Node) (c : Choice) : Type 0 where
-  pub counted : IsCounted g n c
-  pub fewest : (y : ℕ) → IsUndecided g n y → c.options ≤ length (options g n y)
+abbrev pub IsChoice : Shape → Node → Choice → Type 0
+IsChoice g n (choices.Material x) = IsUndecided g n x × (length (options g n x) ≡ 3)
+IsChoice g n (choices.Unit u) = IsDecisive g n u
 
--- of the materials below `limit` none is to decide, or none that is has fewer options
-abbrev pub IsBestBelow : Shape → Node → ℕ → Option Choice → Type 0
-IsBestBelow g n limit best =
-    MatchOption best ((y : ℕ) → y < limit → IsUndecided g n y → ⊥)
-    (λ c. IsCounted g n c × ((y : ℕ) → y < limit → IsUndecided g n y → c.options ≤ length (options g n y)))
+-- the way of a choice, and how many children it gives
+abbrev pub way_of : Choice → Way
+way_of (choices.Material x) = at_material x 3
+way_of (choices.Unit u) = either u
+
+abbrev pub option_count : Choice → ℕ
+option_count (choices.Material x) = 3
+option_count (choices.Unit u) = 2
+
+abbrev pub ChoicesDecide : Type 0
+ChoicesDecide =
+    (g : Shape) (n : Node) (c : Choice) → IsChoice g n c
+    → MayBranch g n (way_of c) × IsDecision g n (way_of c) × (length (options_at g n (way_of c)) ≡ option_count c)

@@ -1,102 +1,93 @@
-//! How many options a material has, and which material has the fewest.
-ghost use Rattle.std.specs.Prelude.{◌≡◌, ℕ, ◌<◌, ◌≤◌, ◌+◌, ◌^◌, ◌⊎◌, true, Some, MatchOption, length};
+//! The rule by which an open leaf is branched.
+ghost use Rattle.std.specs.Prelude.{◌≡◌, ◌<◌, ℕ, true, length, IfSome, IsTrue};
 ghost use Rattle.number_sets.specs.Sets.{has};
+ghost use Rattle.pns_rules.specs.Shape.{shape_of};
 ghost use Rattle.pns_rules.specs.Structure.{is_needed};
 ghost use Rattle.pns_rules.specs.Nodes.{options};
-ghost use Rattle.pns_rules.specs.Ends.{IsUndecided, IsNever};
+ghost use Rattle.pns_rules.specs.Ends.{IsReduced, IsSound, IsUndecided};
 ghost use Rattle.pgraph.specs.Tables.{shape};
 ghost use Rattle.pgraph.specs.View.{node_of};
-ghost use Rattle.branch_choice.specs.Choices.{IsFewest, IsBestBelow};
+ghost use Rattle.branch_choice.specs.Choices.{IsChoice, option_count};
 
+use crate::candidates::best_unit;
+use crate::dues::Dues;
 use pgraph::Graph;
-use unit_sets::{MatSet, Node};
+use pns_problem::Problem;
+use unit_sets::{MatSet, Node, UnitSet};
 
-/// A material that is to decide, and how many options it has.
+/// Where an open leaf is branched: at a material with three options, or in two at one unit.
 #[derive(Clone, Copy, Debug)]
-pub struct Choice {
-    pub material: u32,
-    pub options: u128,
+pub enum Choice {
+    Material(u32),
+    Unit(u32),
 }
 
-/// How many sets there are of so many numbers.
-fn sets_of(count: u32) -> u128
-    requires { count < 128 }
-    ensures { result ≡ 2 ^ count }
-{
-    1u128 << count
-}
-
-/// How many there are without the empty one.
-fn sets_but_empty(count: u32) -> u128
-    requires { count ≤ 128 }
-    ensures { result + 1 ≡ 2 ^ count }
-{
-    if count == 128 {
-        return u128::MAX;
-    }
-    sets_of(count) - 1
-}
-
-/// How many options the material has at the node.
-pub fn option_count(graph: &Graph, node: Node, x: u32) -> u128
-    requires { x < (shape graph.now).materials }
-    ensures { result ≡ length (options (shape graph.now) (node_of node) x) }
-{
-    search_laws::options_are_counted();
-    let (base, free) = graph.options(node, x);
-    base.rises();
-    free.rises();
-    let count = free.count();
-    if base.is_empty() {
-        return sets_but_empty(count);
-    }
-    sets_of(count)
-}
-
-/// The choice with fewer options, the earlier one where they have as many.
-fn better(best: Option<Choice>, choice: Choice) -> Choice
-    ensures which { (result ≡ choice) ⊎ (best ≡ Some result) }
-    ensures new { result.options ≤ choice.options }
-    ensures old { MatchOption best (result ≡ choice) (λ b. result.options ≤ b.options) }
-{
-    match best {
-        Some(old) if old.options <= choice.options => old,
-        _ => choice,
-    }
-}
-
-/// Makes the best choice that of one material more.
-fn look_at(graph: &Graph, node: &Node, needed: &MatSet, best: &mut Option<Choice>, x: u32)
-    requires needed { has needed.now ≡ is_needed (shape graph.now) (node_of node.now).inside }
-    requires known { x < (shape graph.now).materials }
-    requires best { IsBestBelow (shape graph.now) (node_of node.now) x best.old }
-    ensures { IsBestBelow (shape graph.now) (node_of node.now) (x + 1) best.new }
-{
-    graph.is_proper();
-    let (_base, free) = graph.options(*node, x);
-    if needed.has(x) {
-        if !free.is_empty() {
-            let choice = Choice {
-                material: x,
-                options: option_count(graph, *node, x),
-            };
-            let old = *best;
-            *best = Some(better(old, choice));
+impl Choice {
+    /// How many children the leaf gets.
+    pub fn options(&self) -> u32
+        ensures { result ≡ option_count self.now }
+    {
+        match *self {
+            Choice::Material(_) => 3,
+            Choice::Unit(_) => 2,
         }
     }
 }
 
-/// A needed material with a free maker that has no more options than any other; none where no material is to decide. It looks at
-/// each material once.
-pub fn fewest_options(graph: &Graph, node: Node) -> Option<Choice>
-    requires { (u : ℕ) → has node.inside u ≡ true → u < (shape graph.now).units }
-    ensures { MatchOption result (IsNever (IsUndecided (shape graph.now) (node_of node))) (IsFewest (shape graph.now) (node_of node)) }
+/// Whether no unit that is taken in makes the needed material and just two free ones do: then one of them goes in, or both.
+fn has_three_options(graph: &Graph, node: &Node, x: u32) -> bool
+    requires known { x < (shape graph.now).materials }
+    requires needed { is_needed (shape graph.now) (node_of node.now).inside x ≡ true }
+    ensures undecided { IsTrue result → IsUndecided (shape graph.now) (node_of node.now) x }
+    ensures three { IsTrue result → length (options (shape graph.now) (node_of node.now) x) ≡ 3 }
+{
+    search_laws::options_are_counted();
+    let (base, free) = graph.options(*node, x);
+    base.is_empty() && free.count() == 2
+}
+
+/// The least needed material with three options that two free units make.
+fn least_with_three(graph: &Graph, node: &Node, needed: MatSet) -> Option<u32>
+    requires { has needed ≡ is_needed (shape graph.now) (node_of node.now).inside }
+    ensures undecided { IfSome result (λ x. IsUndecided (shape graph.now) (node_of node.now) x) }
+    ensures three { IfSome result (λ x. length (options (shape graph.now) (node_of node.now) x) ≡ 3) }
 {
     graph.is_proper();
-    let needed = graph.needed(node.inside);
-    let mut best = None;
-    'materials: for x in 0..graph.material_count() {
-        look_at(graph, &node, &needed, &mut best, x);
+    for x in 0..graph.material_count() {
+        if needed.has(x) && has_three_options(graph, node, x) {
+            return Some(x);
+        }
     }
-    best
+    None
+}
+
+/// Whether just two units are neither taken in nor left out.
+fn has_two_free(graph: &Graph, node: &Node) -> bool {
+    graph.is_proper();
+    let units = UnitSet::below(graph.unit_count());
+    units.minus(node.inside).minus(node.outside).count() == 2
+}
+
+/// Where the leaf is branched. Where just two units are free, and both make a needed material that no unit taken in makes, it is
+/// at the least such material. Else it is at the free maker of a needed material that has the greatest score, the least number
+/// of them: a unit of a size above 0 scores what it owes of its fixed cost, and one more; another unit the greatest share that
+/// a needed material owes which it makes and no unit taken in.
+///
+/// `first` is a material that is to decide. `sizes` has the sizes of the units that are not left out, in rising order and in
+/// millionths; an entry that is missing counts as 0.
+pub fn choose(problem: &Problem, graph: &Graph, node: Node, first: u32, sizes: &[i64]) -> Choice
+    requires graph { shape graph.now ≡ shape_of problem.now }
+    requires sound { IsSound (shape_of problem.now) (node_of node) }
+    requires reduced { IsReduced (shape_of problem.now) (node_of node) }
+    requires first { IsUndecided (shape_of problem.now) (node_of node) first }
+    ensures { IsChoice (shape_of problem.now) (node_of node) result }
+{
+    let needed = graph.needed(node.inside);
+    if has_two_free(graph, &node) {
+        if let Some(material) = least_with_three(graph, &node, needed) {
+            return Choice::Material(material);
+        }
+    }
+    let dues = Dues::of(problem, graph, node.outside, sizes);
+    Choice::Unit(best_unit(graph, &node, needed, &dues, first))
 }

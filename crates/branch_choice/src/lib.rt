@@ -1,9 +1,19 @@
-//! The choice of the material on which a node is branched, and how many options a material has.
+//! Where an open leaf of a search is branched: at a material, or in two at one unit.
 //!
-//! A search may branch on any needed material with a maker that is free. Few options keep the tree small, so
-//! [`fewest_options`] takes a material that has no more than any other. Neither call takes memory.
+//! [`choose`] keeps the tree small: it parts a leaf where most fixed cost is not paid yet, by the sizes of the last basis. That
+//! rule is only a guide. What [`choose`] promises is that there is something to decide there ([`choices_decide`]), and that the
+//! children are two or three. No call takes memory.
+//!
+//! Modules: `choice` (the rule), `dues` (what units and materials owe), `candidates` (the unit that owes most), `laws`, and
+//! `fewest` (the material with the fewest options).
 #![tactic(auto)]
 
+mod candidates;
 mod choice;
+mod dues;
+mod fewest;
+mod laws;
 
-pub use choice::{Choice, fewest_options, option_count};
+pub use choice::{Choice, choose};
+pub use fewest::{Fewest, fewest_options, option_count};
+pub use laws::choices_decide;

@@ -1,12 +1,12 @@
-use Rattle.std.proofs.Common.{◌≡◌, ℕ, true, List, [], refl, sym, ap, ◌∙◌, ◌+◌}
+use Rattle.std.proofs.Common.{◌≡◌, true, [], refl, sym, ap, ◌∙◌}
 use Rattle.std.proofs.lemmas.Bool.{false≢true, both_ways}
 use Rattle.pns_rules.specs.Structure.{is_needed}
 use Rattle.pns_rules.specs.Nodes.{free_makers}
 use Rattle.pns_rules.specs.Ends.{IsUndecided}
 use Rattle.pgraph.specs.Tables.{shape}
 use Rattle.pgraph.specs.View.{node_of}
-use Rattle.branch_choice.proofs.ChoiceLemmas.{none_free, undecided_from, best_stays, best_changes}
-use Rattle.branch_choice.proofs.choice.look_at.Goals as goal
+use Rattle.branch_choice.proofs.FewestLemmas.{none_free, undecided_from, best_stays, best_changes}
+use Rattle.branch_choice.proofs.fewest.look_at.Goals as goal
 
 pub returns-then-not-is_empty : goal.returns-then-not-is_empty
 returns-then-not-is_empty c =

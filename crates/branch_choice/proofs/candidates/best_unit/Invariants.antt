@@ -1,0 +1,7 @@
+use Rattle.pgraph.specs.Tables.{shape}
+use Rattle.pgraph.specs.View.{node_of}
+use Rattle.branch_choice.specs.Choices.{IsDecisive}
+use Rattle.branch_choice.proofs.candidates.best_unit.Given as goal
+
+abbrev pub invariant-loop-x : goal.invariant-loop-x
+invariant-loop-x l = IsDecisive (shape l.graph) (node_of l.node) l.best.unit
