@@ -1,7 +1,7 @@
 -- Numbers of options, and which material has the fewest.
-use Rattle.std.proofs.Common.{◌≡◌, ℕ, suc, ◌+◌, ◌^◌, ◌<◌, ◌≤◌, ◌==◌, nat_lt, Bool, true, false, not, ◌&&◌, ◌||◌, List, [], ◌∷◌, length, refl, sym, ap, ◌∙◌, subst, arith, inl, inr, ◌⊎◌, Option, Some, None, MatchOption, eq-eqb, eqb-true, ltb-true, lt-ltb}
+use Rattle.std.proofs.Common.{◌≡◌, ℕ, ◌+◌, ◌<◌, ◌≤◌, ◌==◌, nat_lt, Bool, true, false, not, ◌&&◌, List, [], ◌∷◌, length, refl, sym, ap, ◌∙◌, subst, arith, inl, inr, ◌⊎◌, Option, Some, None, MatchOption, eq-eqb, eqb-true, ltb-true, lt-ltb}
 use Rattle.std.proofs.lemmas.Bool.{or_left, and_parts, and_from, both_ways, false_from_ne_true, cases_eq, or_cases}
-use Rattle.number_sets.specs.Sets.{has, IsSet, Avoids, with_number, listed}
+use Rattle.number_sets.specs.Sets.{has, IsSet, Avoids, with_number}
 use Rattle.number_sets.proofs.SetLemmas.{has-listed, IsRising-with_number, length-with_number, length_below, below_from, has-with_number, has_below}
 use Rattle.pns_rules.specs.Shape.{Shape, IsProper}
 use Rattle.pns_rules.specs.Structure.{is_needed, is_used}

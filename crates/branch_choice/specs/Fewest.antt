@@ -2,7 +2,7 @@
 use Rattle.std.specs.Prelude.{◌≡◌, ℕ, ◌<◌, ◌≤◌, Option, MatchOption, length}
 use Rattle.pns_rules.specs.Shape.{Shape}
 use Rattle.pns_rules.specs.Nodes.{Node, options}
-use Rattle.pns_rules.specs.Ends.{IsUndecided, IsNever}
+use Rattle.pns_rules.specs.Ends.{IsUndecided}
 use Rattle.branch_choice.specs.declared.fewest.Fewest.{Fewest}
 
 -- the material is to decide and has so many options

@@ -10,3 +10,4 @@ pub mod NumberLemmas
 pub mod PastLemmas
 pub mod FlowLawLemmas
 pub mod NameLemmas
+pub mod RoomLemmas

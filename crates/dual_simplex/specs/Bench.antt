@@ -1,5 +1,5 @@
 -- What a bench keeps of the last program that it was given, and what that means.
-use Rattle.std.specs.Prelude.{◌≡◌, ◌+◌, ◌≤◌, ◌≤ℤ◌, pos, ℕ, ℤ, List, length}
+use Rattle.std.specs.Prelude.{◌≡◌, ◌+◌, ◌≤◌, ◌≤ℤ◌, pos, ℕ, ℤ, List, length, All}
 use Rattle.flow_program.specs.declared.place.Column.{Column}
 use Rattle.int_rows.specs.Range.{InRange, AllInRange}
 use Rattle.flow_rules.specs.Program.{Program}
@@ -9,6 +9,7 @@ use Rattle.path_rules.specs.Multipliers.{AreMultipliers, AreRefuting}
 use Rattle.path_rules.specs.ReadFlows.{AreRead}
 use Rattle.tableau_rows.specs.Rows.{Rows, table, basis}
 use Rattle.dual_simplex.specs.Named.{column_named, nonbasic_named}
+use Rattle.dual_simplex.specs.Sizes.{IsSize}
 use Rattle.dual_simplex.specs.Walk.{EndsFeasible, EndsRefuting}
 
 pub record Bench : Type 0 where
@@ -24,13 +25,15 @@ pub record Bench : Type 0 where
   pub flows : List ℤ
   pub flow_den : ℤ
 
--- how many numbers a bench has room for: the columns, of which some are not in the basis, the multipliers and the flows of the
--- greatest program
-pub record HasLists (r : Rows) (nonbasic columns ys flows : ℕ) : Type 0 where
+-- how many numbers a bench has room for: the columns, of which some are not in the basis, the multipliers, the flows and the
+-- rounded sizes of the greatest program
+pub record HasLists (r : Rows) (nonbasic columns ys flows : ℕ) (sizes : List ℤ) : Type 0 where
   pub nonbasic_fit : nonbasic ≤ columns
   pub columns_room : columns ≡ r.most_units + r.most_units + r.most_rows + r.most_rows
   pub ys_room : ys ≡ r.most_rows
   pub flows_room : flows ≡ r.most_units
+  pub sizes_room : length sizes ≡ r.most_units
+  pub sizes_are : All IsSize sizes
 
 -- there is room for programs of so many units and rows
 pub record HasRoom (b : Bench) (units rows : ℕ) : Type 0 where

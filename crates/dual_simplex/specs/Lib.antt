@@ -9,3 +9,4 @@ pub mod PastPlace
 pub mod PastLaws
 pub mod FlowLaws
 pub mod ProgramNames
+pub mod Sizes

@@ -1,11 +1,14 @@
 //! [`Bench`], on which programs are solved one after the other.
-ghost use Rattle.std.specs.Prelude.{◌≡◌, ◌≤◌, ◌<◌, ℕ, length, IfOk, IfErr, OnOk, OnErr};
+ghost use Rattle.std.specs.Prelude.{◌≡◌, ◌≤◌, ◌<◌, ℕ, length, All, IfOk, IfErr, OnOk, OnErr};
+ghost use Rattle.flow_rules.specs.Program.{Program};
 ghost use Rattle.dual_simplex.specs.PastPlace.{IsPastOf, IsPastFlowOf};
 ghost use Rattle.dual_simplex.specs.Bench.{HasRoom, IsLeastOf, AreFlowsOf};
 ghost use Rattle.dual_simplex.specs.Answer.{EndsAs};
+ghost use Rattle.dual_simplex.specs.Sizes.{IsSize};
 
 use crate::ends::{read_multipliers, read_refutation, read_sizes};
 use crate::names::{column_at, entry_place, flow_place, put_nonbasic};
+use crate::sizes::put_sizes;
 use crate::walk::walk;
 use flow_program::{Column, Place, Program};
 use std::alloc::{AllocError, Global};
@@ -31,6 +34,7 @@ pub struct Bench {
     row: Column,
     flows: Vec<i128>,
     flow_den: i128,
+    sizes: Vec<i64>,
 }
 
 impl Model for Bench {
@@ -41,7 +45,7 @@ impl Model for Bench {
 
     ghost view = { λ b. record { rows = b.rows; nonbasic = take b.nonbasic b.columns.items; d = b.d; ys = take b.rows.rows b.ys.items; row = b.row; flows = take b.rows.units b.flows.items; flow_den = b.flow_den } };
 
-    ghost invariant = { λ b. specs.HasLists b.rows b.nonbasic (length b.columns.items) (length b.ys.items) (length b.flows.items) };
+    ghost invariant = { λ b. specs.HasLists b.rows b.nonbasic (length b.columns.items) (length b.ys.items) (length b.flows.items) b.sizes.items };
 }
 
 impl Bench {
@@ -56,6 +60,7 @@ impl Bench {
         let columns = vec![in alloc; Column::Right; most_columns]?;
         let ys = vec![in alloc; 0i128; most_rows]?;
         let flows = vec![in alloc; 0i128; most_units]?;
+        let sizes = vec![in alloc; 0i64; most_units]?;
         let rows = Rows::open(alloc, units, rows)?;
         Ok(Bench {
             rows,
@@ -66,6 +71,7 @@ impl Bench {
             row: Column::Right,
             flows,
             flow_den: 1,
+            sizes,
         })
     }
 
@@ -85,6 +91,7 @@ impl Bench {
             Err(past) => Err(entry_place(program, past)),
             Ok(None) => {
                 self.d = read_multipliers(&self.rows, program, &mut self.ys);
+                put_sizes(&self.rows, program, &mut self.sizes);
                 Ok(Ends::Least)
             }
             Ok(Some(row)) => {
@@ -130,6 +137,15 @@ impl Bench {
     {
         self.rows.are_rows();
         &self.ys[..self.rows.rows()]
+    }
+
+    /// The sizes of the units of the program at the basis that is kept, after `Least`, in whole millionths rounded down.
+    pub fn sizes(&self) -> &[i64]
+        ensures count { (q : Program) → IsLeastOf q self.now → length result.now ≡ length q.units }
+        ensures range { All IsSize result.now }
+    {
+        self.rows.are_rows();
+        &self.sizes[..self.rows.units()]
     }
 
     /// The columns that are not in the basis that is kept, after any `least`, in the order of their places: x, s, t, w.

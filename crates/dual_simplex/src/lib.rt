@@ -11,6 +11,7 @@ mod laws;
 mod names;
 mod numbers;
 mod past_laws;
+mod sizes;
 mod walk;
 
 pub use bench::{Bench, Ends};

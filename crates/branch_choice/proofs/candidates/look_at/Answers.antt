@@ -1,7 +1,6 @@
-use Rattle.std.proofs.Common.{ℕ, List, length, ◌<◌, ◌==◌, not, sym, ap, subst, ◌∙◌, inl, inr}
+use Rattle.std.proofs.Common.{ℕ, List, length, ◌<◌, ◌==◌, not, sym, subst, ◌∙◌, inl, inr}
 use Rattle.number_sets.specs.Sets.{has, IsWithin}
 use Rattle.number_sets.proofs.OptionLemmas.{first_had}
-use Rattle.pns_rules.specs.Nodes.{free_makers}
 use Rattle.pgraph.proofs.ArcLemmas.{first_shorter}
 use Rattle.pgraph.specs.Tables.{shape}
 use Rattle.pgraph.specs.View.{node_of}
@@ -23,8 +22,7 @@ makers-preserved c =
     let left = c.makers.left in
     let here = c.makers.invariant.0 u (first_had left u (sym c.least.ensures ∙ c.in-Some.is)) in
     let rest = subst (λ (xs : List ℕ). IsWithin (has xs) (has left)) (sym c.without-left.ensures) (kept_within (λ v. not (u == v)) left) in
-    let P : Candidate → Type 0 = λ k. IsDecisive g n k.unit in
-    (
+    let P : Candidate → Type 0 = λ k. IsDecisive g n k.unit in (
       λ v h. c.makers.invariant.0 v (rest v h),
       elim c.better-best.ensures [
         | inl e ↦ subst P (sym e) c.makers.invariant.1

@@ -1,8 +1,7 @@
-use Rattle.std.proofs.Common.{◌≡◌, ℕ, suc, ◌+◌, ◌^◌, ◌<◌, ◌≤◌, List, [], length, refl, sym, ap, ◌∙◌, subst, arith}
+use Rattle.std.proofs.Common.{◌≡◌, ℕ, ◌^◌, [], length, refl, sym, ap, ◌∙◌, arith}
 use Rattle.std.proofs.lemmas.Bool.{false≢true}
-use Rattle.number_sets.specs.Sets.{has, IsSet, Avoids}
 use Rattle.number_sets.proofs.SetLemmas.{length_below}
-use Rattle.pns_rules.specs.Nodes.{base_makers, free_makers, options}
+use Rattle.pns_rules.specs.Nodes.{base_makers, free_makers}
 use Rattle.pgraph.specs.Tables.{shape}
 use Rattle.pgraph.specs.View.{node_of}
 use Rattle.branch_choice.proofs.FewestLemmas.{fewer}
