@@ -380,4 +380,3 @@ module _ (p : Problem) (valid : IsValid p) (s : Growing) (g : IsGrowing p s) (at
 
 pub within_budget : (budget l n count k : ℕ) → l ≡ n → count ≡ k → (budget < l + count → ⊥) → n + k ≤ budget
 within_budget budget l n count k el ec h = elim (cases_lt budget (n + k)) [ inl lt ↦ absurd (h (omega (arith, el, ec, lt))) | inr le ↦ omega (arith, le) ]
-

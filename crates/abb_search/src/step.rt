@@ -10,9 +10,7 @@ ghost use Rattle.abb_search.specs.Answers.{StepHolds};
 ghost use Rattle.abb_search.specs.Searched.{StandsAt};
 
 use crate::found::{past_found, tree_with, whole_found};
-use crate::growing::{
-    Growing, branch_leaf, choice_at, halted_leaf, is_over, node_at, shut_beaten,
-};
+use crate::growing::{Growing, branch_leaf, choice_at, halted_leaf, is_over, node_at, shut_beaten};
 use crate::outcome::Found;
 use crate::root::look_at_root;
 use neutral_extension::Makers;
@@ -46,7 +44,7 @@ fn go_on<E: Evaluator>(
         return Ok(Some(whole_found(growing.best.take(), whole.tree)));
     };
     let choice = choice_at(growing, leaf);
-    let options = u128::from(choice.options());
+    let options = choice.options();
     if is_over(options, growing.nodes, growing.budget) {
         let stopped = tree_with(alloc, growing, leaf)?;
         return Ok(Some(Found::Spent {

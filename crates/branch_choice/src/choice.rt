@@ -24,7 +24,7 @@ pub enum Choice {
 
 impl Choice {
     /// How many children the leaf gets.
-    pub fn options(&self) -> u32
+    pub fn options(&self) -> u128
         ensures { result ≡ option_count self.now }
     {
         match *self {

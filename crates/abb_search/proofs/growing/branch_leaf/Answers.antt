@@ -1,4 +1,4 @@
-use Rattle.std.proofs.Common.{◌≡◌, ◌⊎◌, ◌||◌, ◌+◌, ◌<◌, refl, ap, ◌∙◌, subst, arith, length, reverse, rules, List, Option, None}
+use Rattle.std.proofs.Common.{◌≡◌, ◌⊎◌, ◌||◌, ◌+◌, ◌<◌, refl, ap, ◌∙◌, subst, arith, length, reverse, slice_set, ◌++◌, rules, List, Option, None}
 use Rattle.pgraph.specs.View.{node_of}
 use Rattle.std.specs.Prelude.{is_some}
 use Rattle.tree_rules.specs.Claim as claims
@@ -8,6 +8,9 @@ use Rattle.abb_search.specs.declared.growing.Growing.{Growing}
 use Rattle.abb_search.specs.declared.growing.HaltedLeaf.{HaltedLeaf}
 use Rattle.std.proofs.lemmas.List.{length-reverse}
 use Rattle.slab.specs.Slab.{Slab, Updates}
+use Rattle.tree_rules.specs.Tree.{End, branch}
+use Rattle.tree_rules.specs.Leaf.{Leaf}
+use Rattle.search_tree.specs.Growth.{as_parent, cells_in_turn}
 use Rattle.search_tree.specs.Cells.{Cell, cell_at}
 use Rattle.node_looks.specs.declared.looks.Ready.{Ready}
 use Rattle.abb_search.proofs.HandLemmas.{as_many_kids, freed_from}
@@ -64,6 +67,9 @@ returns-clause-branching g c =
     let k = count_seen g.E.Evaluator.past c.args.problem.now (node_of c.args.node) (way_of c.args.choice) c.in_ok-children.children c.in_ok-children.ensures.seen in
     let w = width_is c.args.choice in
     let wide : width (way_of c.args.choice) ≡ length c.in_ok-children.children.kids.items = omega (arith, count, k, w) in
+    let cells : c.branch-growing.new.pool.payloads ≡ slice_set c.reserve.new.self.payloads c.args.leaf (as_parent (cell_at c.reserve.new.self.payloads c.args.leaf) c.args.growing.now.nodes (branch (way_of c.args.choice))) ++ cells_in_turn c.place_all-kids.result.items
+    = subst (λ (e : End Leaf). c.branch-growing.new.pool.payloads ≡ slice_set c.reserve.new.self.payloads c.args.leaf (as_parent (cell_at c.reserve.new.self.payloads c.args.leaf) c.args.growing.now.nodes e) ++ cells_in_turn c.place_all-kids.result.items)
+    c.end_with.ensures c.branch-growing.ensures.cells in
     branching g.E.Evaluator.past c.args.problem.now (node_of c.args.node) c.args.growing.now new c.args.leaf (way_of c.args.choice) c.in_ok-children.children c.reserve.new.self c.place_all-kids.result.items c.try_remove.new.self c.args.growing.now.nodes
     c.in_ok-children.ensures.seen wide c.in_ok-reserve.ensures.nodes c.requires.counted frees c.place_all-kids.ensures
     cells c.branch-growing.ensures.values which fallen c.cheaper.ensures.found some n (ap (λ k. c.args.growing.now.nodes + k) l) c.branch-growing.ensures.open refl refl c.halt_at.ensures

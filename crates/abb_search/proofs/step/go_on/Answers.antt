@@ -47,10 +47,10 @@ returns-then-is_over-clause-holds g c =
     let w = c.in_ok-stopped.stopped in
     let hd = hand c.args.problem.now c.is_valid.ensures.valid c.args.growing.now c.requires.growing c.in-Some.leaf (sym c.least.ensures ∙ c.in-Some.is) c.is_pool.ensures.payloads c.is_pool.ensures.leaves c.is_pool.ensures.rising in
     let choice = chosen c.args.problem.now c.is_valid.ensures.valid c.args.growing.now c.requires.growing c.in-Some.leaf (sym c.least.ensures ∙ c.in-Some.is) c.is_pool.ensures.payloads c.is_pool.ensures.leaves c.is_pool.ensures.rising m c.choice_at-choice.ensures in
-    let over : s.budget < length s.pool.payloads + option_count m = (let o = c.if-is_over.ensures.0 refl in let k = t.counted in let e = c.options.ensures in omega (arith, o, k, e)) in
+    let over : s.budget < length s.pool.payloads + option_count m = (let o = c.if-is_over.ensures.0 refl in let k = t.counted in let e = c.options-options.ensures in omega (arith, o, k, e)) in
     let sp = spent_here c.args.problem.now c.is_valid.ensures.valid c.args.growing.now c.requires.growing c.in-Some.leaf (sym c.least.ensures ∙ c.in-Some.is) c.is_pool.ensures.payloads c.is_pool.ensures.leaves c.is_pool.ensures.rising hd.ready hd.known c.requires.below m choice over in
     let f : Found = Spent s.best w.tree w.place (option_count m) in
-    subst (λ n. IsEnd g.E.Evaluator.past p s new (Spent c.take-then-is_over.result w.tree w.place n)) (sym c.options.ensures)
+    subst (λ n. IsEnd g.E.Evaluator.past p s new (Spent c.take-then-is_over.result w.tree w.place n)) (sym c.options-options.ensures)
     (subst (λ (b : Option claims.Network). IsEnd g.E.Evaluator.past p s new (Spent b w.tree w.place (option_count m))) (sym c.take-then-is_over.ensures.value)
     (ends_with g.E.Evaluator.past p s new f t
     (spent_found p s t c.in-Some.leaf w.place w.tree c.in_ok-stopped.ensures.tree c.in_ok-stopped.ensures.sized c.is_valid.ensures.valid (option_count m) s.budget s.start refl refl sp)
@@ -79,7 +79,7 @@ shut_beaten-requires g c =
     let n = (cell_at s.pool.payloads c.in-Some.leaf).node in
     let m = c.choice_at-choice.result in
     let choice = chosen c.args.problem.now c.is_valid.ensures.valid c.args.growing.now c.requires.growing c.in-Some.leaf (sym c.least.ensures ∙ c.in-Some.is) c.is_pool.ensures.payloads c.is_pool.ensures.leaves c.is_pool.ensures.rising m c.choice_at-choice.ensures in
-    let few = within_budget s.budget s.nodes (length s.pool.payloads) c.options.result (option_count m) c.requires.growing.tree.counted c.options.ensures (λ h. true≢false (sym (c.if-is_over.ensures.1 h))) in
+    let few = within_budget s.budget s.nodes (length s.pool.payloads) c.options-options.result (option_count m) c.requires.growing.tree.counted c.options-options.ensures (λ h. true≢false (sym (c.if-is_over.ensures.1 h))) in
     let hd = hand c.args.problem.now c.is_valid.ensures.valid c.args.growing.now c.requires.growing c.in-Some.leaf (sym c.least.ensures ∙ c.in-Some.is) c.is_pool.ensures.payloads c.is_pool.ensures.leaves c.is_pool.ensures.rising in
     let b : IsBranching g.E.Evaluator.past p (node_of n) s c.branch_leaf.new.growing c.in-Some.leaf (way_of m)
     = subst (λ (k : Node). IsBranching g.E.Evaluator.past p (node_of k) s c.branch_leaf.new.growing c.in-Some.leaf (way_of m)) c.node_at-node.ensures c.in_ok-branch_leaf.ensures.branching in
@@ -93,7 +93,7 @@ returns-clause-holds g c =
     let n = (cell_at s.pool.payloads c.in-Some.leaf).node in
     let m = c.choice_at-choice.result in
     let choice = chosen c.args.problem.now c.is_valid.ensures.valid c.args.growing.now c.requires.growing c.in-Some.leaf (sym c.least.ensures ∙ c.in-Some.is) c.is_pool.ensures.payloads c.is_pool.ensures.leaves c.is_pool.ensures.rising m c.choice_at-choice.ensures in
-    let few = within_budget s.budget s.nodes (length s.pool.payloads) c.options.result (option_count m) c.requires.growing.tree.counted c.options.ensures (λ h. true≢false (sym (c.if-is_over.ensures.1 h))) in
+    let few = within_budget s.budget s.nodes (length s.pool.payloads) c.options-options.result (option_count m) c.requires.growing.tree.counted c.options-options.ensures (λ h. true≢false (sym (c.if-is_over.ensures.1 h))) in
     let hd = hand c.args.problem.now c.is_valid.ensures.valid c.args.growing.now c.requires.growing c.in-Some.leaf (sym c.least.ensures ∙ c.in-Some.is) c.is_pool.ensures.payloads c.is_pool.ensures.leaves c.is_pool.ensures.rising in
     let b : IsBranching g.E.Evaluator.past p (node_of n) s c.branch_leaf.new.growing c.in-Some.leaf (way_of m)
     = subst (λ (k : Node). IsBranching g.E.Evaluator.past p (node_of k) s c.branch_leaf.new.growing c.in-Some.leaf (way_of m)) c.node_at-node.ensures c.in_ok-branch_leaf.ensures.branching in
