@@ -1,11 +1,12 @@
 -- Free makers of needed materials, and what is left of them.
-use Rattle.std.proofs.Common.{◌≡◌, ℕ, nat_lt, Bool, true, ◌&&◌, List, sym, ◌∙◌, ltb-true}
-use Rattle.std.proofs.lemmas.Bool.{and_parts}
+use Rattle.std.proofs.Common.{◌≡◌, ℕ, nat_lt, ◌==◌, Bool, true, not, ◌&&◌, List, [], ◌∷◌, refl, sym, ap, ◌∙◌, eq-eqb, ltb-true, lt-ltb}
+use Rattle.std.proofs.lemmas.Bool.{or_left, and_parts, and_from, both_ways}
 use Rattle.number_sets.specs.Sets.{has, kept, IsWithin}
 use Rattle.number_sets.proofs.SetLemmas.{has-listed, has-kept}
 use Rattle.pns_rules.specs.Shape.{Shape}
 use Rattle.pns_rules.specs.Structure.{is_needed}
 use Rattle.pns_rules.specs.Nodes.{Node, is_free, free_makers}
+use Rattle.pns_rules.specs.Ends.{IsUndecided}
 use Rattle.branch_choice.specs.Choices.{IsDecisive}
 
 pub decisive_from : (g : Shape) (n : Node) (x u : ℕ) → is_needed g n.inside x ≡ true → has (free_makers g n x) u ≡ true → IsDecisive g n u
@@ -17,3 +18,23 @@ decisive_from g n x u needed h =
 -- what is kept is there
 pub kept_within : (t : ℕ → Bool) (xs : List ℕ) → IsWithin (has (kept t xs)) (has xs)
 kept_within t xs u h = (and_parts (has xs u) (t u) (sym (has-kept t xs u) ∙ h)).0
+
+module _ (g : Shape) (n : Node) (x : ℕ) where
+  -- a material without a free maker is not to decide
+  pub none_free : free_makers g n x ≡ [] → IsUndecided g n x → ⊥
+  none_free e u =
+      let k = u.some in
+      both_ways (has (free_makers g n x) k.0) (ap (λ xs. has xs k.0) e)
+      (has-listed g.units (λ v. is_free g n v && g.makes v x) k.0
+      ∙ and_from (nat_lt k.0 g.units) (is_free g n k.0 && g.makes k.0 x) (lt-ltb k.0 g.units k.1) (and_from (is_free g n k.0) (g.makes k.0 x) k.3 k.2))
+
+  pub undecided_from : is_needed g n.inside x ≡ true → (free_makers g n x ≡ [] → ⊥) → IsUndecided g n x
+  undecided_from needed some = at (free_makers g n x) refl
+    where
+      at : (xs : List ℕ) → free_makers g n x ≡ xs → IsUndecided g n x
+      at [] e = absurd (some e)
+      at (u ∷ us) e =
+          let h : has (free_makers g n x) u ≡ true = ap (λ ys. has ys u) e ∙ or_left (u == u) (has us u) (eq-eqb u u refl) in
+          let p = and_parts (nat_lt u g.units) (is_free g n u && g.makes u x) (sym (has-listed g.units (λ v. is_free g n v && g.makes v x) u) ∙ h) in
+          let q = and_parts (is_free g n u) (g.makes u x) p.1 in
+          record { needed = needed; some = (u, ltb-true u g.units p.0, q.1, q.0) }

@@ -1,2 +1,1 @@
-pub mod FewestLemmas
 pub mod ChoiceLemmas

@@ -4,16 +4,13 @@
 //! rule is only a guide. What [`choose`] promises is that there is something to decide there ([`choices_decide`]), and that the
 //! children are two or three. No call takes memory.
 //!
-//! Modules: `choice` (the rule), `dues` (what units and materials owe), `candidates` (the unit that owes most), `laws`, and
-//! `fewest` (the material with the fewest options).
+//! Modules: `choice` (the rule), `dues` (what units and materials owe), `candidates` (the unit that owes most), `laws`.
 #![tactic(auto)]
 
 mod candidates;
 mod choice;
 mod dues;
-mod fewest;
 mod laws;
 
 pub use choice::{Choice, choose};
-pub use fewest::{Fewest, fewest_options, option_count};
 pub use laws::choices_decide;

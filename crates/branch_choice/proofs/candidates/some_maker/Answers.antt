@@ -3,7 +3,7 @@ use Rattle.number_sets.specs.Sets.{has}
 use Rattle.number_sets.proofs.OptionLemmas.{first_had, first_none}
 use Rattle.pgraph.specs.Tables.{shape}
 use Rattle.pgraph.specs.View.{node_of}
-use Rattle.branch_choice.proofs.FewestLemmas.{none_free}
+use Rattle.branch_choice.proofs.ChoiceLemmas.{none_free}
 use Rattle.branch_choice.proofs.ChoiceLemmas.{decisive_from}
 use Rattle.branch_choice.proofs.candidates.some_maker.Goals as goal
 

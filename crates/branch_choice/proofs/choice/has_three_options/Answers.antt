@@ -2,7 +2,7 @@ use Rattle.std.proofs.Common.{◌≡◌, ℕ, ◌^◌, List, [], length, refl, s
 use Rattle.pns_rules.specs.Nodes.{base_makers, free_makers}
 use Rattle.pgraph.specs.Tables.{shape}
 use Rattle.pgraph.specs.View.{node_of}
-use Rattle.branch_choice.proofs.FewestLemmas.{undecided_from}
+use Rattle.branch_choice.proofs.ChoiceLemmas.{undecided_from}
 use Rattle.branch_choice.proofs.choice.has_three_options.Goals as goal
 
 pub returns-then-is_empty-clause-undecided : goal.returns-then-is_empty-clause-undecided
