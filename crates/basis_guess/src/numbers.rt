@@ -1,4 +1,5 @@
 //! The scaled numbers of a problem, and what a node takes of them.
+use crate::ranges::END_BITS;
 use crate::rounding::excess;
 use pns_problem::{Kind, Material, OperatingUnit, Problem, Term};
 use std::alloc::{AllocError, Global};
@@ -64,9 +65,7 @@ struct Scale<'a> {
 
 const MILLION: i128 = 1_000_000;
 
-// Ends and costs of a guess have at most so many bits.
-const END_BITS: u32 = 44;
-
+// The costs of a guess have at most so many bits.
 const COST_BITS: u32 = 61;
 
 /// The quotient by a divisor that should be at least 1.
@@ -166,18 +165,27 @@ fn balance_of(material: &Material, rate_divisor: i64, size_divisor: i128) -> Bal
     }
 }
 
-/// All bits that stand in some end, and all that stand in some cost.
+/// All bits that stand in some end that a guess must not cut off, and all that stand in some cost. A balance may be cut off where
+/// it is large, since few of them come near their upper bounds.
 fn bits_of(columns: &[Column], balances: &[Balance]) -> (u128, u128) {
     let mut ends = 0u128;
     let mut costs = 0u128;
     for column in columns {
-        ends |= column.size.high.unsigned_abs();
+        ends |= column.size.high.unsigned_abs() | least_bits(&column.rates, balances);
         costs |= column.cost.unsigned_abs() | column.sloped_cost.unsigned_abs();
     }
-    for balance in balances {
-        ends |= balance.bounds.high.unsigned_abs();
-    }
     (ends, costs)
+}
+
+/// All bits that stand in the lower bound of some material of a unit.
+fn least_bits(rates: &[Rate], balances: &[Balance]) -> u128 {
+    let mut bits = 0u128;
+    for rate in rates {
+        if let Some(balance) = balances.get(rate.material) {
+            bits |= balance.bounds.low.unsigned_abs();
+        }
+    }
+    bits
 }
 
 impl Numbers {
@@ -213,7 +221,7 @@ impl Numbers {
     }
 
     /// How many bits a guess drops of sizes and balances.
-    pub fn end_shift(&self) -> u32 {
+    pub(crate) fn end_shift(&self) -> u32 {
         self.end_shift
     }
 

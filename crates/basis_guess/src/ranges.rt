@@ -18,6 +18,13 @@ pub(crate) struct Range {
     pub(crate) high: i64,
 }
 
+/// The ends of a guess have at most so many bits.
+pub(crate) const END_BITS: u32 = 44;
+
+const MOST: i64 = (1 << 44) - 1;
+
+const LEAST: i64 = -MOST;
+
 /// A range that has one number.
 const POINT: Range = Range { low: 0, high: 0 };
 
@@ -29,11 +36,16 @@ pub(crate) struct Ranges {
     standings: Vec<Standing>,
 }
 
+/// An end without its last bits, or the nearest that a guess has room for.
+fn cut(end: i128, by: u32) -> i64 {
+    shortened(end, by).min(MOST).max(LEAST)
+}
+
 impl Range {
     fn of(ends: Ends, by: u32) -> Range {
         Range {
-            low: shortened(ends.low, by),
-            high: shortened(ends.high, by),
+            low: cut(ends.low, by),
+            high: cut(ends.high, by),
         }
     }
 

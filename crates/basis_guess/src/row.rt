@@ -102,11 +102,16 @@ impl Row {
             return;
         }
         self.put(pivot.column, 0);
-        let (p, q) = lowest(pivot.den, factor);
-        let bits = mix(p, &self.entries, q, pivot.entries, sums);
         if pivot.is_rounded {
             self.is_rounded = true;
         }
+        // Rounded numbers have seldom a divisor in common.
+        let (p, q) = if self.is_rounded {
+            (pivot.den, factor)
+        } else {
+            lowest(pivot.den, factor)
+        };
+        let bits = mix(p, &self.entries, q, pivot.entries, sums);
         self.take(sums, product(p, self.den), bits);
     }
 
