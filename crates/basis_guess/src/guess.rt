@@ -1,8 +1,9 @@
 //! The tableau.
 use crate::choice::{entering, leaving};
+use crate::cost_row::CostRow;
 use crate::numbers::Numbers;
 use crate::ranges::{Ranges, Variable};
-use crate::rounding::{product, shortened};
+use crate::rounding::shortened;
 use crate::row::{Distance, Pivot, Row};
 use std::alloc::{AllocError, Global};
 use unit_sets::Node;
@@ -26,7 +27,7 @@ pub enum Outcome {
 #[derive(Drop)]
 pub struct Guess {
     rows: Vec<Row>,
-    cost_row: Row,
+    cost_row: CostRow,
     columns: Vec<Column>,
     ranges: Ranges,
     // What the cost row takes a size of 1 of each unit to cost.
@@ -34,6 +35,7 @@ pub struct Guess {
     pivots: u32,
     multipliers: Vec<i64>,
     scale: i64,
+    shift: u32,
     // What a turn works with: the ends of the columns, which of them were passed, the pivot row, and sums.
     ends: Vec<i64>,
     passed: Vec<bool>,
@@ -59,7 +61,7 @@ impl Guess {
         for material in 0..height {
             rows.push(Row::open(alloc, Variable::Balance(material), width)?)?;
         }
-        let cost_row = Row::open(alloc, Variable::Size(0), width)?;
+        let cost_row = CostRow::open(alloc, width)?;
         let columns = vec![in alloc; FIRST; width]?;
         let ranges = Ranges::open(alloc, width, height)?;
         let unit_costs = vec![in alloc; 0i64; width]?;
@@ -77,6 +79,7 @@ impl Guess {
             pivots: STALE,
             multipliers,
             scale: 1,
+            shift: 0,
             ends,
             passed,
             pivot,
@@ -95,7 +98,7 @@ impl Guess {
         for _ in 0..MOST_PIVOTS {
             let noise = self.set_ends();
             let Some((r, distance)) = leaving(&self.rows, &self.ends, &self.ranges, noise) else {
-                self.read_costs();
+                self.read_costs(numbers);
                 return Outcome::Basis;
             };
             let Some(k) = self.enters(r, distance) else {
@@ -114,8 +117,8 @@ impl Guess {
         &self.columns
     }
 
-    /// A multiplier for each material, times `scale`: after `Basis` those of the cost, shortened as the costs are; after `Row`
-    /// those of the row.
+    /// A number for each material: times 2^`shift` over `scale` it is near the multiplier of the cost after `Basis`, of the row after
+    /// `Row`.
     pub fn multipliers(&self) -> &[i64] {
         &self.multipliers
     }
@@ -123,6 +126,11 @@ impl Guess {
     /// The scale of the multipliers, at least 1: after `Row` the greatest of their absolute values.
     pub fn scale(&self) -> i64 {
         self.scale
+    }
+
+    /// How many bits the multipliers have lost; none after `Row`.
+    pub fn shift(&self) -> u32 {
+        self.shift
     }
 
     /// Goes back to the slack basis: each balance by the rates of the units.
@@ -138,10 +146,7 @@ impl Guess {
                 }
             }
         }
-        self.cost_row.clear(Variable::Size(0));
-        for (entry, cost) in self.cost_row.entries.iter_mut().zip(&self.unit_costs) {
-            *entry = *cost;
-        }
+        self.cost_row.start(&self.unit_costs);
         self.pivots = 0;
     }
 
@@ -162,16 +167,15 @@ impl Guess {
     /// Adds so much for each size of the unit to the cost.
     fn change_cost(&mut self, unit: usize, change: i64) {
         let size = Variable::Size(unit);
-        let by = product(self.cost_row.den, change);
         for (k, column) in self.columns.iter().enumerate() {
             if column.variable == size {
-                self.cost_row.add(k, by, &mut self.sums);
+                self.cost_row.add(k, change, &mut self.sums);
                 return;
             }
         }
         for row in self.rows.iter() {
             if row.basic == size {
-                self.cost_row.add_row(by, row, &mut self.sums);
+                self.cost_row.add_row(change, row, &mut self.sums);
                 return;
             }
         }
@@ -238,8 +242,9 @@ impl Guess {
     }
 
     /// Reads the multipliers of the cost row.
-    fn read_costs(&mut self) {
+    fn read_costs(&mut self, numbers: &Numbers) {
         self.scale = self.cost_row.den;
+        self.shift = self.cost_row.shift.saturating_add(numbers.cost_shift());
         put_multipliers(
             &mut self.multipliers,
             &self.columns,
@@ -260,6 +265,7 @@ impl Guess {
             }
         }
         self.scale = 1;
+        self.shift = 0;
         for multiplier in &self.multipliers {
             self.scale = self.scale.max(multiplier.wrapping_abs());
         }

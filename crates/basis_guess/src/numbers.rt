@@ -225,8 +225,8 @@ impl Numbers {
         self.end_shift
     }
 
-    /// How many bits a guess drops of costs, and so of the multipliers of its cost row.
-    pub fn cost_shift(&self) -> u32 {
+    /// How many bits a guess drops of costs.
+    pub(crate) fn cost_shift(&self) -> u32 {
         self.cost_shift
     }
 

@@ -1,12 +1,9 @@
 //! One row of the tableau.
 use crate::ranges::{Ranges, Variable};
-use crate::rounding::{
-    WIDEST, dot, entry, excess, lowest, mix, narrowed, product, rounded, shortened,
-};
+use crate::rounding::{WIDEST, dot, entry, excess, lowest, mix, narrowed, product, rounded};
 use std::alloc::{AllocError, Global};
 
-/// `den` times the basic variable is the sum of the entries times the variables outside the basis; or, in the row of the cost,
-/// `den` times the cost.
+/// `den` times the basic variable is the sum of the entries times the variables outside the basis.
 #[derive(Drop)]
 pub(crate) struct Row {
     pub(crate) basic: Variable,
@@ -33,9 +30,6 @@ pub(crate) struct Distance {
 
 // A rounded row whose `den` has fewer bits is taken at its word.
 const COARSE: i64 = 1 << 40;
-
-// A sum takes so many bits of a factor, so that it has room.
-const FACTOR_BITS: u32 = 62;
 
 impl Row {
     pub(crate) fn open(alloc: Global, basic: Variable, width: usize) -> Result<Row, AllocError> {
@@ -113,35 +107,6 @@ impl Row {
         };
         let bits = mix(p, &self.entries, q, pivot.entries, sums);
         self.take(sums, product(p, self.den), bits);
-    }
-
-    /// Adds to one entry.
-    pub(crate) fn add(&mut self, column: usize, by: i128, sums: &mut [i128]) {
-        let mut bits = 0u128;
-        for (k, (sum, entry)) in sums.iter_mut().zip(&self.entries).enumerate() {
-            *sum = *entry as i128;
-            if k == column {
-                *sum = sum.wrapping_add(by);
-            }
-            bits |= sum.unsigned_abs();
-        }
-        self.take(sums, self.den as i128, bits);
-    }
-
-    /// Adds a multiple of the basic variable of another row, by that row. A multiple of many bits is shortened, and all with it.
-    pub(crate) fn add_row(&mut self, by: i128, other: &Row, sums: &mut [i128]) {
-        let cut = excess(by.unsigned_abs(), FACTOR_BITS);
-        let factor = shortened(by, cut);
-        let mut bits = 0u128;
-        for (sum, (x, y)) in sums.iter_mut().zip(self.entries.iter().zip(&other.entries)) {
-            let own = product(other.den, *x).wrapping_shr(cut);
-            *sum = own.wrapping_add(product(factor, *y));
-            bits |= sum.unsigned_abs();
-        }
-        if cut > 0 || other.is_rounded {
-            self.is_rounded = true;
-        }
-        self.take(sums, product(other.den, self.den).wrapping_shr(cut), bits);
     }
 
     /// How far the basic variable is out of its range where the variables outside the basis have these values. What may be noise
