@@ -1,0 +1,295 @@
+//! The tableau.
+use crate::choice::{entering, leaving};
+use crate::cost_row::CostRow;
+use crate::numbers::Numbers;
+use crate::ranges::{Ranges, Variable};
+use crate::rounding::shortened;
+use crate::row::{Distance, Pivot, Row};
+use std::alloc::{AllocError, Global};
+use unit_sets::Node;
+
+/// A variable outside the basis, and the end at which it stands.
+#[derive(Clone, Copy, Debug)]
+pub struct Column {
+    pub variable: Variable,
+    pub at_high: bool,
+}
+
+/// What a look ends with: a basis that may be that of least flows, a row that may show that there are none, or nothing.
+#[derive(Clone, Copy, Debug, PartialEq, Eq)]
+pub enum Outcome {
+    Basis,
+    Row,
+    Nothing,
+}
+
+/// A tableau over rounded rows, kept from node to node.
+#[derive(Drop)]
+pub struct Guess {
+    rows: Vec<Row>,
+    cost_row: CostRow,
+    columns: Vec<Column>,
+    ranges: Ranges,
+    // What the cost row takes a size of 1 of each unit to cost.
+    unit_costs: Vec<i64>,
+    pivots: u32,
+    multipliers: Vec<i64>,
+    scale: i64,
+    shift: u32,
+    // What a turn works with: the ends of the columns, which of them were passed, the pivot row, and sums.
+    ends: Vec<i64>,
+    passed: Vec<bool>,
+    pivot: Vec<i64>,
+    sums: Vec<i128>,
+}
+
+// A look gives up behind so many pivots, and the tableau starts from the slack basis behind so many.
+const MOST_PIVOTS: u32 = 400;
+
+const STALE: u32 = 100;
+
+const FIRST: Column = Column {
+    variable: Variable::Size(0),
+    at_high: false,
+};
+
+impl Guess {
+    /// Makes room for the nodes of problems with so many units and materials. `Err` comes for want of memory alone.
+    pub fn open(alloc: Global, units: u32, materials: u32) -> Result<Guess, AllocError> {
+        let (width, height) = (units as usize, materials as usize);
+        let mut rows = Vec::new(alloc);
+        for material in 0..height {
+            rows.push(Row::open(alloc, Variable::Balance(material), width)?)?;
+        }
+        let cost_row = CostRow::open(alloc, width)?;
+        let columns = vec![in alloc; FIRST; width]?;
+        let ranges = Ranges::open(alloc, width, height)?;
+        let unit_costs = vec![in alloc; 0i64; width]?;
+        let multipliers = vec![in alloc; 0i64; height]?;
+        let ends = vec![in alloc; 0i64; width]?;
+        let passed = vec![in alloc; false; width]?;
+        let pivot = vec![in alloc; 0i64; width]?;
+        let sums = vec![in alloc; 0i128; width]?;
+        Ok(Guess {
+            rows,
+            cost_row,
+            columns,
+            ranges,
+            unit_costs,
+            pivots: STALE,
+            multipliers,
+            scale: 1,
+            shift: 0,
+            ends,
+            passed,
+            pivot,
+            sums,
+        })
+    }
+
+    /// Looks for a basis of least flows of the node, from the basis that is kept, or `anew` from the slack basis. At most 400 pivots,
+    /// each linear in the number of the tableau's entries; takes no memory.
+    pub fn look(&mut self, numbers: &Numbers, node: &Node, anew: bool) -> Outcome {
+        self.ranges.set(numbers, node);
+        self.set_costs(numbers, node);
+        if anew || self.pivots >= STALE {
+            self.start(numbers);
+        }
+        for _ in 0..MOST_PIVOTS {
+            let noise = self.set_ends();
+            let Some((r, distance)) = leaving(&self.rows, &self.ends, &self.ranges, noise) else {
+                self.read_costs(numbers);
+                return Outcome::Basis;
+            };
+            let Some(k) = self.enters(r, distance) else {
+                self.read_row(r, distance.raise);
+                return Outcome::Row;
+            };
+            self.exchange(r, k, distance.raise);
+            self.pivots = self.pivots.saturating_add(1);
+        }
+        self.pivots = STALE;
+        Outcome::Nothing
+    }
+
+    /// The variables outside the basis.
+    pub fn columns(&self) -> &[Column] {
+        &self.columns
+    }
+
+    /// A number for each material: times 2^`shift` over `scale` it is near the multiplier of the cost after `Basis`, of the row after
+    /// `Row`.
+    pub fn multipliers(&self) -> &[i64] {
+        &self.multipliers
+    }
+
+    /// The scale of the multipliers, at least 1: after `Row` the greatest of their absolute values.
+    pub fn scale(&self) -> i64 {
+        self.scale
+    }
+
+    /// How many bits the multipliers have lost; none after `Row`.
+    pub fn shift(&self) -> u32 {
+        self.shift
+    }
+
+    /// Goes back to the slack basis: each balance by the rates of the units.
+    fn start(&mut self, numbers: &Numbers) {
+        for (material, row) in self.rows.iter_mut().enumerate() {
+            row.clear(Variable::Balance(material));
+        }
+        for (unit, column) in self.columns.iter_mut().enumerate() {
+            column.variable = Variable::Size(unit);
+            for rate in numbers.rates(unit) {
+                if let Some(row) = self.rows.get_mut(rate.material) {
+                    row.put(unit, rate.rate);
+                }
+            }
+        }
+        self.cost_row.start(&self.unit_costs);
+        self.pivots = 0;
+    }
+
+    /// Takes the costs of the node.
+    fn set_costs(&mut self, numbers: &Numbers, node: &Node) {
+        for unit in 0..self.unit_costs.len() {
+            let cost = shortened(numbers.cost(node, unit), numbers.cost_shift());
+            if let Some(kept) = self.unit_costs.get_mut(unit) {
+                let change = cost.wrapping_sub(*kept);
+                *kept = cost;
+                if change != 0 {
+                    self.change_cost(unit, change);
+                }
+            }
+        }
+    }
+
+    /// Adds so much for each size of the unit to the cost.
+    fn change_cost(&mut self, unit: usize, change: i64) {
+        let size = Variable::Size(unit);
+        for (k, column) in self.columns.iter().enumerate() {
+            if column.variable == size {
+                self.cost_row.add(k, change, &mut self.sums);
+                return;
+            }
+        }
+        for row in self.rows.iter() {
+            if row.basic == size {
+                self.cost_row.add_row(change, row, &mut self.sums);
+                return;
+            }
+        }
+    }
+
+    /// Puts each column at the end that its reduced cost asks for. Gives how much noise the rounding of rows can make of these ends.
+    fn set_ends(&mut self) -> i128 {
+        let mut sizes = 0i128;
+        for (end, (column, cost)) in self
+            .ends
+            .iter_mut()
+            .zip(self.columns.iter_mut().zip(&self.cost_row.entries))
+        {
+            if *cost != 0 {
+                column.at_high = *cost < 0;
+            }
+            *end = self.ranges.of(column.variable).end(column.at_high);
+            sizes = sizes.wrapping_add(end.unsigned_abs() as i128);
+        }
+        sizes.wrapping_shl(8)
+    }
+
+    /// The column that enters for the basic variable of a row.
+    fn enters(&mut self, r: usize, distance: Distance) -> Option<usize> {
+        let row = self.rows.get(r)?;
+        entering(
+            &row.entries,
+            &self.cost_row.entries,
+            &mut self.columns,
+            &mut self.passed,
+            &self.ranges,
+            distance,
+        )
+    }
+
+    /// Takes the variable of column k into the basis for that of row r, which goes to the end that it was beyond.
+    fn exchange(&mut self, r: usize, k: usize, raise: bool) {
+        let Some(row) = self.rows.get_mut(r) else {
+            return;
+        };
+        let Some(column) = self.columns.get_mut(k) else {
+            return;
+        };
+        let leaves = row.basic;
+        row.basic = column.variable;
+        column.variable = leaves;
+        column.at_high = !raise;
+        row.turn(k);
+        for (kept, entry) in self.pivot.iter_mut().zip(&row.entries) {
+            *kept = *entry;
+        }
+        let pivot = Pivot {
+            column: k,
+            den: row.den,
+            is_rounded: row.is_rounded,
+            entries: &self.pivot,
+        };
+        for (i, other) in self.rows.iter_mut().enumerate() {
+            if i != r {
+                other.substitute(pivot, &mut self.sums);
+            }
+        }
+        self.cost_row.substitute(pivot, &mut self.sums);
+    }
+
+    /// Reads the multipliers of the cost row.
+    fn read_costs(&mut self, numbers: &Numbers) {
+        self.scale = self.cost_row.den;
+        self.shift = self.cost_row.shift.saturating_add(numbers.cost_shift());
+        put_multipliers(
+            &mut self.multipliers,
+            &self.columns,
+            &self.cost_row.entries,
+            false,
+        );
+    }
+
+    /// Reads the multipliers of a row whose basic variable can't be raised, or can't be lowered.
+    fn read_row(&mut self, r: usize, raise: bool) {
+        let Some(row) = self.rows.get(r) else {
+            return;
+        };
+        put_multipliers(&mut self.multipliers, &self.columns, &row.entries, raise);
+        if let Variable::Balance(material) = row.basic {
+            if let Some(multiplier) = self.multipliers.get_mut(material) {
+                *multiplier = negated_if(!raise, row.den);
+            }
+        }
+        self.scale = 1;
+        self.shift = 0;
+        for multiplier in &self.multipliers {
+            self.scale = self.scale.max(multiplier.wrapping_abs());
+        }
+    }
+}
+
+fn negated_if(negate: bool, number: i64) -> i64 {
+    if negate {
+        number.wrapping_neg()
+    } else {
+        number
+    }
+}
+
+/// Writes the entries of the balances outside the basis, and 0 for the other materials.
+fn put_multipliers(multipliers: &mut [i64], columns: &[Column], entries: &[i64], negate: bool) {
+    for multiplier in multipliers.iter_mut() {
+        *multiplier = 0;
+    }
+    for (column, entry) in columns.iter().zip(entries) {
+        if let Variable::Balance(material) = column.variable {
+            if let Some(multiplier) = multipliers.get_mut(material) {
+                *multiplier = negated_if(negate, *entry);
+            }
+        }
+    }
+}

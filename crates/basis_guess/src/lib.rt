@@ -1,0 +1,27 @@
+//! A guess at the basis of a node's least flows: the dual simplex method with two-sided ranges, over rows of 61-bit numbers that
+//! are rounded where they grow.
+//!
+//! Nothing here is promised but that it is safe, ends, and takes no memory once it is opened. A guess decides nothing: whoever asks
+//! for one solves the basis anew in whole numbers and checks that, or judges the multipliers by the bound that they give.
+//!
+//! [`Numbers`] holds a problem in scaled numbers, made once: the rates of each material over a divisor of them, sizes and balances
+//! over a divisor of all ends, costs over a divisor of all costs. [`Guess`] is a tableau that is kept from node to node. Sizes and
+//! balances are its variables; every end is finite, so each basis is dual feasible once each variable outside it stands at the end
+//! that its reduced cost asks for, and the basis of the last node is a start for the next one.
+//!
+//! Modules: `numbers` (what a problem and a node ask for), `ranges` (the ends, shortened), `rounding` (wide products and what is
+//! kept of them), `row` and `cost_row` (the rows of the tableau), `choice` (who leaves the basis and who enters it), `guess` (the
+//! tableau).
+#![tactic(auto)]
+
+mod choice;
+mod cost_row;
+mod guess;
+mod numbers;
+mod ranges;
+mod rounding;
+mod row;
+
+pub use guess::{Column, Guess, Outcome};
+pub use numbers::{Ends, Numbers, Rate, Standing};
+pub use ranges::Variable;
