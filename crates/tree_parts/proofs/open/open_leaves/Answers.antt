@@ -1,6 +1,6 @@
-use Rattle.std.proofs.Common.{◌≡◌, ◌∷◌, [], true, IfOk, OnOk, IfErr, ap, subst, sym}
+use Rattle.std.proofs.Common.{◌≡◌, ◌∷◌, [], true, IfOk, OnOk, IfErr, subst, sym}
 use Rattle.number_sets.specs.Sets.{has}
-use Rattle.pns_rules.specs.Shape.{Shape, shape_of}
+use Rattle.pns_rules.specs.Shape.{Shape}
 use Rattle.pns_rules.specs.Nodes.{Node}
 use Rattle.pgraph.specs.View.{node_of}
 use Rattle.pgraph.specs.Tables.{shape}
