@@ -6,11 +6,14 @@ ghost use Rattle.tree_rules.specs.Claim as rules;
 ghost use Rattle.tree_rules.specs.Accepted.{first_node, IsPartial, NodeIsFault};
 ghost use Rattle.pgraph.specs.Tables.{shape};
 ghost use Rattle.branch_tree.specs.View.{claim_of};
+ghost use Rattle.cert_parts.specs.Known.{KnowsInside};
 ghost use Rattle.cert_check.specs.declared.refusal.Refusal.TheVariants as refusals;
 ghost use Rattle.part_rules.specs.OpenLeaves.{open_leaves};
 ghost use Rattle.cert_check.specs.OpenLeaves.{leaves_at};
 ghost use Rattle.cert_check.specs.Refusals.{Refuses, IsOkOrMemory, IsRefusalOrMemory};
+ghost use Rattle.tree_parts.specs.Part.{start_of};
 
+use crate::part::Part;
 use branch_tree::{Claim, Tree};
 use cert_check::{OpenLeaf, Refusal, check_from};
 use pgraph::Graph;
@@ -42,4 +45,36 @@ pub fn open_leaves(
         outside: UnitSet::empty(),
     };
     check_from(alloc, problem, graph, &start, true, claim, tree)
+}
+
+/// Judges a part as `open_leaves` judges a tree, from where its run began.
+pub fn check_part(
+    alloc: Global,
+    problem: &Problem,
+    graph: &Graph,
+    part: &Part,
+) -> Result<(), Refusal>
+    requires graph { shape graph.now ≡ shape_of problem.now }
+    requires known { KnowsInside (shape graph.now) (start_of part.now) }
+    requires few { length part.now.tree < 2 ^ 32 }
+    ensures partial { OnOk result (IsPartial problem.now (start_of part.now) part.now.claim part.now.tree) }
+    ensures passes { IsPartial problem.now (start_of part.now) part.now.claim part.now.tree → IsOkOrMemory result }
+    // A refusal names the first fault, and a first fault is named.
+    ensures refused { IfErr result (Refuses true problem.now (start_of part.now) part.now.claim part.now.tree) }
+    ensures names_claim { (why : Why) → rules.ClaimFails true problem.now part.now.claim why → IsRefusalOrMemory (refusals.Claim why) result }
+    ensures names_node { (k : ℕ) (why : Why) → rules.ClaimPasses true problem.now part.now.claim → NodeIsFault true problem.now (start_of part.now) part.now.claim part.now.tree k why → IsRefusalOrMemory (refusals.Node k why) result }
+{
+    let start = part.start();
+    match check_from(
+        alloc,
+        problem,
+        graph,
+        &start,
+        true,
+        part.claim(),
+        part.tree(),
+    ) {
+        Ok(_) => Ok(()),
+        Err(refusal) => Err(refusal),
+    }
 }
