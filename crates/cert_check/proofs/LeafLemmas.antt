@@ -3,15 +3,16 @@ use Rattle.std.proofs.Common.{◌≡◌, ℕ, List, ◌++◌, Result, Ok, Err, O
 use Rattle.pns_rules.specs.Shape.{Shape}
 use Rattle.pns_rules.specs.Nodes.{Node, Step}
 use Rattle.tree_rules.specs.declared.why.Why.{Why}
-use Rattle.tree_rules.specs.Ways.{Way, width, MayBranch, options_at, children_at}
-use Rattle.tree_rules.specs.Tree.{End, branch, leaf, TreeNode, roots, StepsPass, after_all, below, EndPasses}
+use Rattle.tree_rules.specs.Tree.{End, leaf, TreeNode, StepsPass, after_all, below, EndPasses}
 use Rattle.tree_rules.specs.Fault.{EndFails, NodeFails}
 use Rattle.tree_rules.specs.Leaf.{Leaf, dead, clash, refuted, bounded, untried}
 use Rattle.tree_rules.specs.Accepted.{Tree}
 use Rattle.branch_tree.specs.View.{end_of}
 use Rattle.branch_tree.specs.declared.end.End as ends
 use Rattle.branch_tree.specs.declared.end.End.TheVariants.{Dead, Clash, Refuted, Bound, Branch, Either, Open}
-use Rattle.cert_check.specs.Visits.{IsVisited}
+use Rattle.cert_check.specs.declared.visit.Halt.{Halt}
+use Rattle.cert_check.specs.declared.visit.Halt.TheVariants.{Memory, Fails}
+use Rattle.cert_check.specs.Visits.{IsVisited, Halts}
 
 one_leaf : (a b : Leaf) → leaf a ≡ leaf b → a ≡ b
 one_leaf a b e = cc
@@ -43,24 +44,16 @@ module _ (g : Shape) (n m : Node) (t : TreeNode Leaf) (steps : List Step) (is_st
   taken : StepsPass g n t.steps
   taken = subst (λ (ss : List Step). StepsPass g n ss) is_steps passes
 
-  reached : m ≡ after_all g n t.steps
+  pub reached : m ≡ after_all g n t.steps
   reached = leads ∙ ap (λ (ss : List Step). after_all g n ss) is_steps
 
-  pub leaf_visited : (P : Node → Leaf → Type 0) (behind : Tree) (stack : List Node) (l : Leaf) → t.end ≡ leaf l → P m l → IsVisited g P n t behind stack stack
-  leaf_visited P behind stack l is p = record {
+  pub node_visited : (P : Node → Leaf → Type 0) (behind : Tree) (before after : List Node) (e : End Leaf) → e ≡ t.end → EndPasses g P m e behind → after ≡ below g m e ++ before → IsVisited g P n t behind before after
+  node_visited P behind before after e is end children = record {
     steps = taken;
-    end = subst (λ (e : End Leaf). EndPasses g P (after_all g n t.steps) e behind) (sym is) (subst (λ (k : Node). P k l) reached p);
-    children = ap (λ (e : End Leaf). below g (after_all g n t.steps) e ++ stack) (sym is);
+    end = subst (λ (k : Node). EndPasses g P k t.end behind) reached (subst (λ (d : End Leaf). EndPasses g P m d behind) is end);
+    children = children ∙ ap (λ (d : End Leaf). below g m d ++ before) is ∙ ap (λ (k : Node). below g k t.end ++ before) reached;
   }
 
-  pub branch_visited : {A B : Type 0} (P : Node → Leaf → Type 0) (behind : Tree) (before after : List Node) (w : Way) → t.end ≡ branch w → (r : Result A B) → OnOk r (MayBranch g m w) → OnOk r (roots (width w) behind ≡ options_at g m w) → OnOk r (after ≡ children_at g m w ++ before) → OnOk r (IsVisited g P n t behind before after)
-  branch_visited P behind before after w is (Ok x) may options stack = record {
-    steps = taken;
-    end = subst (λ (e : End Leaf). EndPasses g P (after_all g n t.steps) e behind) (sym is) (subst (λ (k : Node). MayBranch g k w × (roots (width w) behind ≡ options_at g k w)) reached (may, options));
-    children = stack ∙ (ap (λ (k : Node). children_at g k w ++ before) reached ∙ ap (λ (e : End Leaf). below g (after_all g n t.steps) e ++ before) (sym is));
-  }
-  branch_visited P behind before after w is (Err e) may options stack = tt
-
-  pub leaf_halts : (F : Node → Leaf → Why → Type 0) (behind : Tree) (l : Leaf) (why : Why) → t.end ≡ leaf l → F m l why → NodeFails g F n t behind why
-  leaf_halts F behind l why is f =
-      inr (taken, subst (λ (e : End Leaf). EndFails g F (after_all g n t.steps) e behind why) (sym is) (subst (λ (k : Node). F k l why) reached f))
+  pub node_halts : (F : Node → Leaf → Why → Type 0) (behind : Tree) (e : End Leaf) → e ≡ t.end → (halt : Halt) → Halts (EndFails g F m e behind) halt → Halts (NodeFails g F n t behind) halt
+  node_halts F behind e is Memory h = tt
+  node_halts F behind e is (Fails why) h = inr (taken, subst (λ (k : Node). EndFails g F k t.end behind why) reached (subst (λ (d : End Leaf). EndFails g F m d behind why) is h))

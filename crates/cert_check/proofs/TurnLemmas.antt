@@ -1,6 +1,6 @@
 -- A turn of the walk: the node on top of the stack is that of the next item.
-use Rattle.std.proofs.Common.{◌≡◌, ℕ, zero, suc, ◌+◌, ◌<◌, List, [], ◌∷◌, ◌++◌, length, map, drop, get_or, refl, sym, ap, ◌∙◌, subst, add-one, arith, ◌≤◌}
-use Rattle.std.proofs.lemmas.List.{reverse-append}
+use Rattle.std.proofs.Common.{◌≡◌, ℕ, zero, suc, ◌+◌, ◌<◌, List, [], ◌∷◌, ◌++◌, length, map, drop, get_or, refl, sym, ap, ◌∙◌, subst, add-one, arith, ◌≤◌, append_assoc}
+use Rattle.std.proofs.lemmas.List.{append-nil, reverse-append}
 use Rattle.pns_rules.specs.Shape.{Shape}
 use Rattle.pns_rules.specs.Nodes as rules
 use Rattle.tree_rules.specs.declared.why.Why.{Why}
@@ -12,6 +12,7 @@ use Rattle.unit_sets.specs.declared.node.Node.{Node}
 use Rattle.pgraph.specs.View.{node_of}
 use Rattle.cert_parts.specs.Known.{KnowsInside}
 use Rattle.cert_check.specs.Subtrees.{stack_of, AllKnown}
+use Rattle.part_rules.specs.OpenLeaves.{OpenAt, open_here, open_leaves}
 use Rattle.cert_check.specs.Visits.{IsVisited}
 use Rattle.cert_check.proofs.EndLemmas.{node_ahead}
 use Rattle.cert_check.proofs.KnownLemmas.{known_after_all, known_below, known_both}
@@ -19,6 +20,16 @@ use Rattle.cert_check.proofs.WalkLemmas.{Leads, leads_on, leads_fault, leads_all
 
 pub stack_top : (rest : List Node) (n : Node) → stack_of (rest ++ n ∷ []) ≡ node_of n ∷ stack_of rest
 stack_top rest n = ap (λ (ns : List Node). map node_of ns) (reverse-append rest (n ∷ []))
+
+all_behind : {X : Type 0} (xs : List X) (i : ℕ) → length xs ≤ i → drop i xs ≡ []
+all_behind [] zero h = refl
+all_behind [] (suc i) h = refl
+all_behind (x ∷ xs) zero h = absurd (omega arith)
+all_behind (x ∷ xs) (suc i) h = all_behind xs i (omega arith)
+
+-- the open leaves that were found before item i, and those that are still to come
+pub record AreFound (g : Shape) (starts : List rules.Node) (ts : Tree) (found : List OpenAt) (stack : List rules.Node) (i : ℕ) : Type 0 where
+  pub all : open_leaves g starts ts 0 ≡ found ++ open_leaves g stack (drop i ts) i
 
 module _ (g : Shape) (P : rules.Node → Leaf → Type 0) (F : rules.Node → Leaf → Why → Type 0) (starts : List rules.Node) (ts : Tree) where
   -- what the walk knows before item i
@@ -56,12 +67,6 @@ module _ (g : Shape) (P : rules.Node → Leaf → Type 0) (F : rules.Node → Le
   pub failed : (n : rules.Node) (t : TreeNode Leaf) (rest : List rules.Node) (i : ℕ) (why : Why) → Opened n t rest i → NodeFails g F n t (drop (i + 1) ts) why → IsFirstFault g P F starts ts i why
   failed n t rest i why o h = leads_fault g P F starts ts n rest t (drop (i + 1) ts) i why o.leads h
 
-  all_behind : {X : Type 0} (xs : List X) (i : ℕ) → length xs ≤ i → drop i xs ≡ []
-  all_behind [] zero h = refl
-  all_behind [] (suc i) h = refl
-  all_behind (x ∷ xs) zero h = absurd (omega arith)
-  all_behind (x ∷ xs) (suc i) h = all_behind xs i (omega arith)
-
   pub all_visited : (stack : List rules.Node) (i : ℕ) → length ts ≤ i → IsAt stack i → Pass g P starts ts
   all_visited stack i le is = leads_all g P F starts ts stack i (subst (λ (us : Tree). Leads g P F starts ts stack us i) (all_behind ts i le) is.leads)
 
@@ -72,3 +77,48 @@ module _ (g : Shape) (P : rules.Node → Leaf → Type 0) (F : rules.Node → Le
       at : (us : Tree) → Leads g P F starts ts [] us i → Pass g P starts ts
       at [] l = leads_all g P F starts ts [] i l
       at (u ∷ us) l = absurd l.forest
+
+-- ---- the open leaves on the way
+
+module _ (g : Shape) (starts : List rules.Node) (ts : Tree) where
+  pub found_none : AreFound g starts ts [] starts 0
+  found_none = record { all = refl }
+
+  -- the item t is visited at the node n
+  pub found_more : (P : rules.Node → Leaf → Type 0) (before after rest : List rules.Node) (n m : rules.Node) (t : TreeNode Leaf) (found more : List OpenAt) (i : ℕ)
+      → before ≡ n ∷ rest → drop i ts ≡ t ∷ drop (i + 1) ts → m ≡ after_all g n t.steps
+      → IsVisited g P n t (drop (i + 1) ts) rest after → more ≡ found ++ open_here i m t.end
+      → AreFound g starts ts found before i → AreFound g starts ts more after (i + 1)
+  found_more P before after rest n m t found more i top here leads v grown is =
+      let us : Tree = drop (i + 1) ts in
+      let k : rules.Node = after_all g n t.steps in
+      record {
+        all =
+            is.all
+            ∙ ap (λ (ns : List rules.Node). found ++ open_leaves g ns (drop i ts) i) top
+            ∙ ap (λ (vs : Tree). found ++ open_leaves g (n ∷ rest) vs i) here
+            ∙ ap (λ (ns : List rules.Node). found ++ (open_here i k t.end ++ open_leaves g ns us (i + 1))) (sym v.children)
+            ∙ ap (λ (j : rules.Node). found ++ (open_here i j t.end ++ open_leaves g after us (i + 1))) (sym leads)
+            ∙ sym (append_assoc found (open_here i m t.end) (open_leaves g after us (i + 1)))
+            ∙ ap (λ (fs : List OpenAt). fs ++ open_leaves g after us (i + 1)) (sym grown);
+      }
+
+  -- the node is taken from the top of the stack, for item i
+  pub found_on : (P : rules.Node → Leaf → Type 0) (stack rest : List Node) (n reached : Node) (t : TreeNode Leaf) (after : List rules.Node) (found more : List OpenAt) (i : ℕ)
+      → i < length ts → t ≡ get_or ts i t → stack ≡ rest ++ n ∷ [] → node_of reached ≡ after_all g (node_of n) t.steps
+      → IsVisited g P (node_of n) t (drop (i + 1) ts) (stack_of rest) after → more ≡ found ++ open_here i (node_of reached) t.end
+      → AreFound g starts ts found (stack_of stack) i → AreFound g starts ts more after (i + 1)
+  found_on P stack rest n reached t after found more i lt e s leads v grown is =
+      found_more P (stack_of stack) after (stack_of rest) (node_of n) (node_of reached) t found more i
+      (ap (λ (w : List Node). stack_of w) s ∙ stack_top rest n) (node_ahead ts i t lt e ∙ ap (λ (k : ℕ). t ∷ drop k ts) (sym (add-one i))) leads v grown is
+
+  none_open : (ns : List rules.Node) (i : ℕ) → open_leaves g ns [] i ≡ []
+  none_open [] i = refl
+  none_open (n ∷ ns) i = refl
+
+  pub found_all : (found : List OpenAt) (stack : List rules.Node) (i : ℕ) → length ts ≤ i → AreFound g starts ts found stack i → found ≡ open_leaves g starts ts 0
+  found_all found stack i le is =
+      sym (is.all ∙ ap (λ (us : Tree). found ++ open_leaves g stack us i) (all_behind ts i le) ∙ ap (λ (fs : List OpenAt). found ++ fs) (none_open stack i) ∙ append-nil found)
+
+  pub found_whole : (found : List OpenAt) (i : ℕ) → AreFound g starts ts found [] i → found ≡ open_leaves g starts ts 0
+  found_whole found i is = sym (is.all ∙ append-nil found)

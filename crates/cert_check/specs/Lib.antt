@@ -1,3 +1,4 @@
+pub mod OpenLeaves
 pub mod Refusals
 pub mod Subtrees
 pub mod Visits

@@ -1,5 +1,5 @@
 //! Claims with their trees.
-ghost use Rattle.std.specs.Prelude.{◌≡◌, ◌<◌, ◌^◌, ℕ, Bool, false, length, OnOk, IfErr};
+ghost use Rattle.std.specs.Prelude.{◌≡◌, ◌<◌, ◌^◌, ◌∷◌, [], ℕ, Bool, false, length, OnOk, IfOk, IfErr};
 ghost use Rattle.pns_rules.specs.Shape.{shape_of};
 ghost use Rattle.pns_rules.specs.Structure.{IsStructure, IsAllowed};
 ghost use Rattle.tree_rules.specs.declared.why.Why.{Why};
@@ -10,10 +10,13 @@ ghost use Rattle.pgraph.specs.Tables.{shape};
 ghost use Rattle.pgraph.specs.View.{node_of};
 ghost use Rattle.branch_tree.specs.View.{claim_of};
 ghost use Rattle.cert_parts.specs.Known.{KnowsInside};
+ghost use Rattle.part_rules.specs.OpenLeaves.{open_leaves};
+ghost use Rattle.cert_check.specs.OpenLeaves.{leaves_at};
 ghost use Rattle.cert_check.specs.declared.refusal.Refusal.TheVariants as refusals;
 ghost use Rattle.cert_check.specs.Refusals.{Refuses, IsOkOrMemory, IsRefusalOrMemory};
 
 use crate::claim::{cost_of_claim, judge_claim};
+use crate::open_leaf::OpenLeaf;
 use crate::refusal::Refusal;
 use crate::walk::walk;
 use branch_tree::{Claim, Tree};
@@ -23,7 +26,8 @@ use std::alloc::Global;
 use tree_laws::{accepted_is_optimal, claim_has_one_fault, tree_has_one_fault};
 use unit_sets::{Node, UnitSet};
 
-/// Judges the claim, and then the tree from the start. In a partial tree leaves may be open, and nothing claimed.
+/// Judges the claim, and then the tree from the start. In a partial tree leaves may be open, and nothing claimed. What is given are
+/// the open leaves in preorder.
 pub fn check_from(
     alloc: Global,
     problem: &Problem,
@@ -32,13 +36,21 @@ pub fn check_from(
     partial: bool,
     claim: &Claim,
     tree: &Tree,
-) -> Result<(), Refusal>
+) -> Result<Vec<OpenLeaf>, Refusal>
     requires graph { shape graph.now ≡ shape_of problem.now }
     requires known { KnowsInside (shape graph.now) (node_of start.now) }
     requires few { length tree.now < 2 ^ 32 }
+    // `Ok` only where the tree proves the claim, and where it does no other answer but want of memory.
     ensures proves { OnOk result (Proves partial problem.now (node_of start.now) (claim_of claim.now) tree.now) }
+    ensures accepts { Proves partial problem.now (node_of start.now) (claim_of claim.now) tree.now → IsOkOrMemory result }
+    ensures leaves { IfOk result (λ v. leaves_at v.items ≡ open_leaves (shape graph.now) (node_of start.now ∷ []) tree.now 0) }
+    // A refusal names the first fault, and a first fault is named.
     ensures refuses { IfErr result (Refuses partial problem.now (node_of start.now) (claim_of claim.now) tree.now) }
+    ensures names_claim { (why : Why) → rules.ClaimFails partial problem.now (claim_of claim.now) why → IsRefusalOrMemory (refusals.Claim why) result }
+    ensures names_node { (k : ℕ) (why : Why) → rules.ClaimPasses partial problem.now (claim_of claim.now) → NodeIsFault partial problem.now (node_of start.now) (claim_of claim.now) tree.now k why → IsRefusalOrMemory (refusals.Node k why) result }
 {
+    claim_has_one_fault();
+    tree_has_one_fault();
     tree.is_tree();
     match judge_claim(problem, graph, claim, partial) {
         Ok(()) => walk(
@@ -78,11 +90,12 @@ pub fn check_tree(
 {
     problem.is_valid();
     accepted_is_optimal();
-    claim_has_one_fault();
-    tree_has_one_fault();
     let start = Node {
         inside: UnitSet::empty(),
         outside: UnitSet::empty(),
     };
-    check_from(alloc, problem, graph, &start, false, claim, tree)
+    match check_from(alloc, problem, graph, &start, false, claim, tree) {
+        Ok(_) => Ok(()),
+        Err(refusal) => Err(refusal),
+    }
 }

@@ -3,20 +3,22 @@
 //!
 //! [`check_tree`] accepts a tree exactly where it proves its claim, and then no allowed solution structure undercuts the claim;
 //! else its refusal names the claim, or the first node in preorder, that fails, and the first line of the table of causes
-//! there. [`check_claim`] judges a claim alone. [`check_from`] is the same from any start, for partial trees too.
+//! there. [`check_claim`] judges a claim alone. [`check_from`] is the same from any start, for partial trees too, and gives the
+//! open leaves, each with its number in preorder and the node that its steps leave.
 //!
 //! A walk holds a list of its own of the nodes that are still to come, and no recursion; a branch looks ahead at the roots of its
 //! children's subtrees, whose ends are found in one pass from the last node on. So a tree of any depth costs its steps, one
 //! judgement for each leaf, and a few numbers for each node.
 //!
 //! Modules: `claim` judges claims, `leaf` leaves; `subtrees` finds where subtrees end and reads the options of children,
-//! `children` puts them on the stack; `visit` is one node, `walk` all, and `check` the calls.
+//! `children` puts them on the stack; `visit` is one node, `walk` all, `open_leaf` what is still open, and `check` the calls.
 #![tactic(auto)]
 
 mod check;
 mod children;
 mod claim;
 mod leaf;
+mod open_leaf;
 mod refusal;
 mod subtrees;
 mod visit;
@@ -24,4 +26,5 @@ mod walk;
 
 pub use check::{check_from, check_tree};
 pub use claim::check_claim;
+pub use open_leaf::OpenLeaf;
 pub use refusal::Refusal;

@@ -1,5 +1,5 @@
 //! The walk over a tree.
-ghost use Rattle.std.specs.Prelude.{◌≡◌, ◌<◌, ◌^◌, ◌∷◌, [], length, OnOk, IfErr};
+ghost use Rattle.std.specs.Prelude.{◌≡◌, ◌<◌, ◌^◌, ◌∷◌, [], length, OnOk, IfOk, IfErr};
 ghost use Rattle.pns_rules.specs.Shape.{shape_of};
 ghost use Rattle.tree_rules.specs.Tree.{IsForest, Pass};
 ghost use Rattle.tree_rules.specs.Leaf.{LeafPasses, LeafFails};
@@ -7,8 +7,11 @@ ghost use Rattle.pgraph.specs.Tables.{shape};
 ghost use Rattle.pgraph.specs.View.{node_of};
 ghost use Rattle.cert_parts.specs.Known.{KnowsInside};
 ghost use Rattle.cert_parts.specs.Shown.{cost_over};
+ghost use Rattle.part_rules.specs.OpenLeaves.{open_leaves};
+ghost use Rattle.cert_check.specs.OpenLeaves.{leaves_at};
 ghost use Rattle.cert_check.specs.Refusals.{NamesFault};
 
+use crate::open_leaf::{OpenLeaf, note_end};
 use crate::refusal::Refusal;
 use crate::subtrees::ends_of;
 use crate::visit::{Halt, visit};
@@ -27,7 +30,7 @@ fn number(i: usize) -> u32
     i as u32
 }
 
-/// Walks the tree in preorder from the node `start`, and stops at the first node that fails.
+/// Walks the tree in preorder from the node `start`, and stops at the first node that fails. What is given are the open leaves.
 pub fn walk(
     alloc: Global,
     problem: &Problem,
@@ -36,12 +39,13 @@ pub fn walk(
     partial: bool,
     start: &Node,
     nodes: &[TreeNode],
-) -> Result<(), Refusal>
+) -> Result<Vec<OpenLeaf>, Refusal>
     requires graph { shape graph.now ≡ shape_of problem.now }
     requires known { KnowsInside (shape graph.now) (node_of start.now) }
     requires forest { IsForest 1 nodes.now }
     requires few { length nodes.now < 2 ^ 32 }
     ensures passes { OnOk result (Pass (shape graph.now) (LeafPasses partial problem.now (cost_over claimed)) (node_of start.now ∷ []) nodes.now) }
+    ensures leaves { IfOk result (λ v. leaves_at v.items ≡ open_leaves (shape graph.now) (node_of start.now ∷ []) nodes.now 0) }
     ensures fault { IfErr result (NamesFault (shape graph.now) (LeafPasses partial problem.now (cost_over claimed)) (LeafFails partial problem.now (cost_over claimed)) (node_of start.now ∷ []) nodes.now) }
 {
     let Ok(ends) = ends_of(alloc, nodes) else {
@@ -49,12 +53,13 @@ pub fn walk(
     };
     let mut found = Vec::new(alloc);
     let mut stack = Vec::new(alloc);
+    let mut leaves = Vec::new(alloc);
     let Ok(()) = stack.push(*start) else {
         return Err(Refusal::Memory);
     };
     'walk: for i in 0..nodes.len() {
         let Some(node) = stack.pop() else {
-            return Ok(());
+            return Ok(leaves);
         };
         let item = &nodes[i];
         match visit(
@@ -70,7 +75,11 @@ pub fn walk(
             &mut found,
             &mut stack,
         ) {
-            Ok(()) => {}
+            Ok(reached) => {
+                let Ok(()) = note_end(&mut leaves, number(i), reached, &item.end) else {
+                    return Err(Refusal::Memory);
+                };
+            }
             Err(Halt::Memory) => return Err(Refusal::Memory),
             Err(Halt::Fails(why)) => {
                 return Err(Refusal::Node {
@@ -80,5 +89,5 @@ pub fn walk(
             }
         }
     }
-    Ok(())
+    Ok(leaves)
 }

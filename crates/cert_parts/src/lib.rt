@@ -18,7 +18,7 @@ mod nodes;
 mod sets;
 mod steps;
 
-pub use costs::CostOver;
+pub use costs::{CostOver, is_reached};
 pub use either::{are_options_of_unit, with_unit, without_unit};
 pub use leaves::{judge_bound, judge_clash, judge_dead, judge_open, judge_refutation};
 pub use materials::{is_dead, is_needed};

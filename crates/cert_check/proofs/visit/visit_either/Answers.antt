@@ -1,4 +1,4 @@
-use Rattle.std.proofs.Common.{◌≡◌, [], ◌∷◌, List, ap, ◌∙◌}
+use Rattle.std.proofs.Common.{[], ◌∷◌, List, ap, ◌∙◌}
 use Rattle.pns_rules.specs.Nodes as rules
 use Rattle.tree_rules.specs.Ways.{either, child_at}
 use Rattle.unit_sets.specs.declared.node.Node.{Node}

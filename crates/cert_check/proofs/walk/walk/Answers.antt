@@ -1,11 +1,14 @@
-use Rattle.std.proofs.Common.{◌∷◌, [], List}
+use Rattle.std.proofs.Common.{◌∷◌, ◌++◌, [], ℕ, List, ap, ap₂, ◌∙◌}
 use Rattle.pns_rules.specs.Nodes as nodes
-use Rattle.tree_rules.specs.Leaf.{LeafPasses, LeafFails}
+use Rattle.tree_rules.specs.Tree.{End, TreeNode}
+use Rattle.tree_rules.specs.Leaf.{Leaf, LeafPasses, LeafFails}
+use Rattle.part_rules.specs.OpenLeaves.{open_here}
 use Rattle.pgraph.specs.Tables.{shape}
 use Rattle.pgraph.specs.View.{node_of}
 use Rattle.cert_parts.specs.Shown.{cost_over}
 use Rattle.cert_check.specs.Subtrees.{stack_of}
-use Rattle.cert_check.proofs.TurnLemmas.{opened, visited, failed}
+use Rattle.cert_check.specs.OpenLeaves.{leaves_at}
+use Rattle.cert_check.proofs.TurnLemmas.{opened, visited, failed, found_on}
 use Rattle.cert_check.proofs.walk.walk.Goals as goal
 
 pub returns-in-Err-Fails-clause-fault : goal.returns-in-Err-Fails-clause-fault
@@ -15,7 +18,7 @@ returns-in-Err-Fails-clause-fault c =
     let fail = LeafFails c.args.partial c.args.problem.now (cost_over c.args.claimed) in
     let starts : List nodes.Node = node_of c.args.start.now ∷ [] in
     let o = opened g pass fail starts c.args.nodes.now c.walk.stack.items c.pop.new.self.items c.in-Some.node c.walk.i c.index-nodes-i.result c.walk-test.true c.index-nodes-i.is c.in-Some.ensures.items c.walk.invariant.at in
-    rw (c.in-Err-Fails.field-0-is, c.number.ensures)
+    rw (c.in-Err-Fails.field-0-is, c.number-in-Err-Fails.ensures)
     (failed g pass fail starts c.args.nodes.now (node_of c.in-Some.node) c.index-nodes-i.result (stack_of c.pop.new.self.items) c.walk.i c.in-Err-Fails.why o (rw c.in-Err-Fails.field-0-is at c.in-Err-Fails.ensures.halts))
 
 pub walk-preserved : goal.walk-preserved
@@ -27,6 +30,10 @@ walk-preserved c =
     let o = opened g pass fail starts c.args.nodes.now c.walk.stack.items c.pop.new.self.items c.in-Some.node c.walk.i c.index-nodes-i.result c.walk-test.true c.index-nodes-i.is c.in-Some.ensures.items c.walk.invariant.at in
     record {
       at = visited g pass fail starts c.args.nodes.now (node_of c.in-Some.node) c.index-nodes-i.result (stack_of c.pop.new.self.items) (stack_of c.visit.new.stack.items) c.walk.i o c.in-Ok-visit.ensures.visited;
+      found = found_on g starts c.args.nodes.now pass c.walk.stack.items c.pop.new.self.items c.in-Some.node c.in-Ok-visit.reached c.index-nodes-i.result (stack_of c.visit.new.stack.items) (leaves_at c.walk.leaves.items) (leaves_at c.note_end.new.leaves.items) c.walk.i
+          c.walk-test.true c.index-nodes-i.is c.in-Some.ensures.items c.in-Ok-visit.ensures.reached c.in-Ok-visit.ensures.visited
+          (c.in-Ok-note_end.ensures ∙ ap₂ (λ (k : ℕ) (e : End Leaf). leaves_at c.walk.leaves.items ++ open_here k (node_of c.in-Ok-visit.reached) e) c.number.ensures (ap (λ (t : TreeNode Leaf). t.end) c.item.view_is))
+          c.walk.invariant.found;
       same = c.walk.invariant.same;
       are = c.walk.invariant.are;
     }

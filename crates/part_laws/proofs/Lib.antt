@@ -1,0 +1,4 @@
+pub mod ClaimLemmas
+pub mod ForestLemmas
+pub mod GraftLemmas
+pub mod OpenLemmas

@@ -1,0 +1,28 @@
+-- The open leaves of a tree: where a search in parts goes on.
+use Rattle.std.specs.Prelude.{◌≡◌, ◌⊎◌, ℕ, ◌+◌, List, [], ◌∷◌, ◌++◌}
+use Rattle.pns_rules.specs.Shape.{Shape}
+use Rattle.pns_rules.specs.Nodes.{Node}
+use Rattle.tree_rules.specs.Tree.{End, leaf, after_all, below}
+use Rattle.tree_rules.specs.Leaf.{Leaf, untried}
+use Rattle.tree_rules.specs.Accepted.{Tree}
+
+-- the number of an open leaf among all nodes in preorder, and the node that its steps leave
+pub record OpenAt : Type 0 where
+  pub number : ℕ
+  pub node : Node
+
+-- the node itself, where it ends in an open leaf
+abbrev pub open_here : ℕ → Node → End Leaf → List OpenAt
+open_here k n (leaf untried) = record { number = k; node = n } ∷ []
+open_here k n end = []
+
+-- of the subtrees of the nodes `ns` the open leaves in preorder, where the first node has number k
+abbrev pub open_leaves : Shape → List Node → Tree → ℕ → List OpenAt
+open_leaves g [] ts k = []
+open_leaves g (n ∷ ns) [] k = []
+open_leaves g (n ∷ ns) (t ∷ ts) k =
+    open_here k (after_all g n t.steps) t.end ++ open_leaves g (below g (after_all g n t.steps) t.end ++ ns) ts (k + 1)
+
+abbrev pub IsAmong : OpenAt → List OpenAt → Type 0
+IsAmong l [] = ⊥
+IsAmong l (m ∷ ms) = (l ≡ m) ⊎ IsAmong l ms

@@ -1,0 +1,3 @@
+pub mod GraftLists
+pub mod MergeLemmas
+pub mod SoundLemmas

@@ -1,0 +1,41 @@
+-- What is answered where a part is put back, from the tree and the part. Each answer but want of memory has its cause, and no two
+-- causes hold together.
+use Rattle.std.specs.Prelude.{◌≡◌, ℕ, true, List, [], ◌∷◌, Result, Ok, Err}
+use Rattle.problem_rules.specs.Problem.{Problem}
+use Rattle.pns_rules.specs.Shape.{shape_of}
+use Rattle.pns_rules.specs.Nodes.{Node}
+use Rattle.tree_rules.specs.Tree.{leaf, Stands}
+use Rattle.tree_rules.specs.Leaf.{untried}
+use Rattle.tree_rules.specs.Claim as rules
+use Rattle.tree_rules.specs.Accepted as trees
+use Rattle.tree_rules.specs.Accepted.{first_node, IsPartial}
+use Rattle.part_rules.specs.Graft.{graft_at, claim_of_both}
+use Rattle.cert_check.specs.declared.refusal.Refusal.{Refusal}
+use Rattle.cert_check.specs.declared.refusal.Refusal.TheVariants as refusals
+use Rattle.cert_check.specs.Refusals.{Refuses}
+use Rattle.branch_tree.specs.View.{claim_of}
+use Rattle.branch_tree.specs.declared.claim.Claim.{Claim}
+use Rattle.tree_parts.specs.declared.merging.MergeFault.{MergeFault}
+use Rattle.tree_parts.specs.declared.merging.MergeFault.TheVariants.{Tree, Part, NoLeaf, Memory}
+use Rattle.tree_parts.specs.Part as parts
+use Rattle.tree_parts.specs.Part.{start_of}
+
+-- leaf k of the tree is open, and its node is that of the part
+abbrev pub IsLeafOf : Problem → trees.Tree → parts.Part → ℕ → Type 0
+IsLeafOf p tree part k = Stands (shape_of p) (first_node ∷ []) tree k (start_of part) (leaf untried)
+
+-- the part stands in the place of the one open leaf whose node is its own, and the claim is that of both
+pub record IsMerged (p : Problem) (claim : rules.Claim) (tree : trees.Tree) (part : parts.Part) (both : rules.Claim) (whole : trees.Tree) : Type 0 where
+  pub place : ℕ
+  pub leaf_is : IsLeafOf p tree part place
+  pub tree_is : whole ≡ graft_at place tree part.tree
+  pub claim_is : both ≡ claim_of_both claim part.claim whole
+  pub partial : IsPartial p first_node both whole
+
+abbrev pub MergeFails : Problem → rules.Claim → trees.Tree → parts.Part → MergeFault → Type 0
+MergeFails p claim tree part (Tree refusal) = Refuses true p first_node claim tree refusal × (refusal ≡ refusals.Memory → ⊥)
+MergeFails p claim tree part (Part refusal) =
+    IsPartial p first_node claim tree × Refuses true p (start_of part) part.claim part.tree refusal × (refusal ≡ refusals.Memory → ⊥)
+MergeFails p claim tree part NoLeaf =
+    IsPartial p first_node claim tree × IsPartial p (start_of part) part.claim part.tree × ((k : ℕ) → IsLeafOf p tree part k → ⊥)
+MergeFails p claim tree part Memory = Unit {0}

@@ -1,0 +1,253 @@
+//! A part that is put back.
+ghost use Rattle.std.specs.Prelude.{◌≡◌, ◌<◌, ◌+◌, ◌-◌, ◌^◌, ◌↔◌, ◌∷◌, ◌<ℤ◌, ◌*ℤ◌, [], ℕ, length, IsTrue, OnOk, IfOk, IfErr, IfSome, IfNone};
+ghost use Rattle.pns_rules.specs.Shape.{shape_of};
+ghost use Rattle.tree_rules.specs.Claim as rules;
+ghost use Rattle.tree_rules.specs.Accepted as trees;
+ghost use Rattle.tree_rules.specs.Accepted.{first_node, IsPartial};
+ghost use Rattle.pgraph.specs.Tables.{shape};
+ghost use Rattle.pgraph.specs.View.{node_of};
+ghost use Rattle.branch_tree.specs.View.{claim_of, end_of};
+ghost use Rattle.cert_parts.specs.Known.{KnowsInside};
+ghost use Rattle.cert_check.specs.OpenLeaves.{leaves_at};
+ghost use Rattle.part_rules.specs.OpenLeaves.{open_leaves, IsAmong};
+ghost use Rattle.part_rules.specs.Graft as grafts;
+ghost use Rattle.tree_parts.specs.Part as parts;
+ghost use Rattle.tree_parts.specs.Part.{start_of};
+ghost use Rattle.tree_parts.specs.Merge.{IsMerged, IsLeafOf, MergeFails};
+
+use crate::copies::{copied_network, grafted, push_copies};
+use crate::open::{check_part, open_leaves};
+use crate::part::Part;
+use branch_tree::{Claim, End, Network, Tree, TreeNode};
+use cert_check::{OpenLeaf, Refusal};
+use cert_parts::{CostOver, is_reached};
+use part_laws::{grafts_are_partial, open_leaves_stand};
+use pgraph::Graph;
+use pns_problem::Problem;
+use std::alloc::{AllocError, Global};
+use unit_sets::Node;
+
+/// Why a part is not put back.
+#[derive(Clone, Copy, Debug, PartialEq, Eq)]
+pub enum MergeFault {
+    /// The tree is refused. Want of memory is no such refusal.
+    Tree(Refusal),
+    /// The tree is not, and the part is.
+    Part(Refusal),
+    /// Neither is refused, and no open leaf of the tree has the part's node.
+    NoLeaf,
+    /// There was no memory.
+    Memory,
+}
+
+/// Whether the nodes are the same.
+fn are_same(a: &Node, b: &Node) -> bool
+    ensures { IsTrue result ↔ (node_of a.now ≡ node_of b.now) }
+{
+    a.inside.rises();
+    a.outside.rises();
+    b.inside.rises();
+    b.outside.rises();
+    a.inside == b.inside && a.outside == b.outside
+}
+
+/// The open leaf at the node, by its number.
+fn leaf_at(leaves: &[OpenLeaf], start: &Node) -> Option<u32>
+    ensures some { IfSome result (λ k. IsAmong (record { number = k; node = node_of start.now }) (leaves_at leaves.now)) }
+    ensures none { IfNone result ((k : ℕ) → IsAmong (record { number = k; node = node_of start.now }) (leaves_at leaves.now) → ⊥) }
+{
+    'looking: for leaf in leaves {
+        if are_same(&leaf.node, start) {
+            return Some(leaf.number);
+        }
+    }
+    None
+}
+
+/// Whether the second network costs less.
+fn is_cheaper(own: &Network, other: &Network) -> bool
+    ensures { IsTrue result ↔ ((other.now.cost *ℤ own.now.d) <ℤ (own.now.cost *ℤ other.now.d)) }
+{
+    own.is_sized();
+    other.is_sized();
+    let claimed = CostOver {
+        cost: own.cost(),
+        d: own.d(),
+    };
+    !is_reached(&claimed, other.cost(), other.d())
+}
+
+fn cheaper(alloc: Global, own: &Network, other: &Network) -> Result<Network, AllocError>
+    ensures { IfOk result (λ w. w ≡ grafts.cheaper own.now other.now) }
+{
+    if is_cheaper(own, other) {
+        copied_network(alloc, other)
+    } else {
+        copied_network(alloc, own)
+    }
+}
+
+fn is_open(end: &End) -> bool
+    ensures { result ≡ grafts.is_open (end_of end.now) }
+{
+    matches!(end, End::Open)
+}
+
+fn has_open(nodes: &[TreeNode]) -> bool
+    ensures { result ≡ grafts.has_open nodes.now }
+{
+    'looking: for node in nodes {
+        if is_open(&node.end) {
+            return true;
+        }
+    }
+    false
+}
+
+/// What the tree and the part claim together.
+fn claim_of_both(
+    alloc: Global,
+    own: &Claim,
+    other: &Claim,
+    nodes: &[TreeNode],
+) -> Result<Claim, AllocError>
+    ensures { IfOk result (λ claim. claim_of claim ≡ grafts.claim_of_both (claim_of own.now) (claim_of other.now) nodes.now) }
+{
+    match (own, other) {
+        (Claim::Network(own), Claim::Network(other)) => {
+            Ok(Claim::Network(cheaper(alloc, own, other)?))
+        }
+        (Claim::Network(network), _) | (_, Claim::Network(network)) => {
+            Ok(Claim::Network(copied_network(alloc, network)?))
+        }
+        _ => {
+            if has_open(nodes) {
+                Ok(Claim::Unknown)
+            } else {
+                Ok(Claim::Infeasible)
+            }
+        }
+    }
+}
+
+/// The nodes of the tree with the part in the place of a node.
+fn graft_at(
+    alloc: Global,
+    at: usize,
+    tree: &[TreeNode],
+    part: &[TreeNode],
+) -> Result<Vec<TreeNode>, AllocError>
+    requires within { at < length tree.now }
+    requires some { 0 < length part.now }
+    ensures { IfOk result (λ nodes. nodes.items ≡ grafts.graft_at at tree.now part.now) }
+{
+    let mut nodes = Vec::new(alloc);
+    push_copies(alloc, &tree[..at], &mut nodes)?;
+    let joined = grafted(alloc, &tree[at], &part[0])?;
+    nodes.push(joined)?;
+    push_copies(alloc, &part[1..], &mut nodes)?;
+    push_copies(alloc, &tree[at + 1..], &mut nodes)?;
+    Ok(nodes)
+}
+
+/// The part in the place of the open leaf, and what both claim.
+fn put_back(
+    alloc: Global,
+    problem: &Problem,
+    claim: &Claim,
+    tree: &Tree,
+    part: &Part,
+    at: u32,
+) -> Result<(Claim, Tree), AllocError>
+    requires { IsLeafOf problem.now tree.now part.now at }
+    ensures tree { IfOk result (λ found. found.1 ≡ grafts.graft_at at tree.now part.now.tree) }
+    ensures claim { IfOk result (λ found. claim_of found.0 ≡ grafts.claim_of_both (claim_of claim.now) part.now.claim found.1) }
+{
+    let _units = problem.units();
+    grafts_are_partial();
+    tree.is_tree();
+    part.tree().is_tree();
+    let nodes = graft_at(alloc, at as usize, tree.nodes(), part.tree().nodes())?;
+    let both = claim_of_both(alloc, claim, part.claim(), &nodes)?;
+    Ok((both, Tree::from_nodes(nodes)))
+}
+
+// The open leaves of the tree, or why it is refused.
+fn leaves_of(
+    alloc: Global,
+    problem: &Problem,
+    graph: &Graph,
+    claim: &Claim,
+    tree: &Tree,
+) -> Result<Vec<OpenLeaf>, MergeFault>
+    requires graph { shape graph.now ≡ shape_of problem.now }
+    requires few { length tree.now < 2 ^ 32 }
+    ensures partial { OnOk result (IsPartial problem.now first_node (claim_of claim.now) tree.now) }
+    ensures leaves { IfOk result (λ v. leaves_at v.items ≡ open_leaves (shape_of problem.now) (first_node ∷ []) tree.now 0) }
+    ensures fault { IfErr result (λ fault. (part : parts.Part) → MergeFails problem.now (claim_of claim.now) tree.now part fault) }
+{
+    match open_leaves(alloc, problem, graph, claim, tree) {
+        Ok(leaves) => Ok(leaves),
+        Err(Refusal::Memory) => Err(MergeFault::Memory),
+        Err(refusal) => Err(MergeFault::Tree(refusal)),
+    }
+}
+
+// Judges the part.
+fn judge_part(
+    alloc: Global,
+    problem: &Problem,
+    graph: &Graph,
+    part: &Part,
+) -> Result<(), MergeFault>
+    requires graph { shape graph.now ≡ shape_of problem.now }
+    requires known { KnowsInside (shape graph.now) (start_of part.now) }
+    requires few { length part.now.tree < 2 ^ 32 }
+    ensures partial { OnOk result (IsPartial problem.now (start_of part.now) part.now.claim part.now.tree) }
+    ensures fault { IfErr result (λ fault. (claim : rules.Claim) (tree : trees.Tree) → IsPartial problem.now first_node claim tree → MergeFails problem.now claim tree part.now fault) }
+{
+    match check_part(alloc, problem, graph, part) {
+        Ok(()) => Ok(()),
+        Err(Refusal::Memory) => Err(MergeFault::Memory),
+        Err(refusal) => Err(MergeFault::Part(refusal)),
+    }
+}
+
+/// Puts the part in the place of the open leaf of the tree whose node is its own: one whole tree, which proves the cheaper claim but
+/// for its open leaves. A fault comes exactly where the tree, then the part, is refused, or no open leaf has the part's node, want of
+/// memory aside.
+pub fn merge(
+    alloc: Global,
+    problem: &Problem,
+    graph: &Graph,
+    claim: &Claim,
+    tree: &Tree,
+    part: &Part,
+) -> Result<(Claim, Tree), MergeFault>
+    requires graph { shape graph.now ≡ shape_of problem.now }
+    requires known { KnowsInside (shape graph.now) (start_of part.now) }
+    requires few { length tree.now + length part.now.tree < 2 ^ 32 - 1 }
+    ensures merged { IfOk result (λ found. IsMerged problem.now (claim_of claim.now) tree.now part.now (claim_of found.0) found.1) }
+    ensures fault { IfErr result (MergeFails problem.now (claim_of claim.now) tree.now part.now) }
+{
+    grafts_are_partial();
+    open_leaves_stand();
+    tree.is_tree();
+    part.tree().is_tree();
+    let leaves = match leaves_of(alloc, problem, graph, claim, tree) {
+        Ok(leaves) => leaves,
+        Err(fault) => return Err(fault),
+    };
+    match judge_part(alloc, problem, graph, part) {
+        Ok(()) => {}
+        Err(fault) => return Err(fault),
+    }
+    let start = part.start();
+    let Some(at) = leaf_at(&leaves, &start) else {
+        return Err(MergeFault::NoLeaf);
+    };
+    match put_back(alloc, problem, claim, tree, part, at) {
+        Ok(found) => Ok(found),
+        Err(_) => Err(MergeFault::Memory),
+    }
+}
