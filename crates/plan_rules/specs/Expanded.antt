@@ -5,7 +5,7 @@
 use Rattle.std.specs.Prelude.{ℕ, suc, ◌+◌, ◌*◌, List, [], ◌∷◌, ◌++◌, map, flat_map, length, codes, decimal, ℤ, pos}
 use Rattle.std.specs.List.{range_with_len}
 use Rattle.problem_rules.specs.Problem.{raw_material, intermediate, Material, Term, OperatingUnit, Problem, material_at, unit_at}
-use Rattle.plan_rules.specs.Plan.{Plan, period_at, price_at, lower_at, upper_at}
+use Rattle.plan_rules.specs.Plan.{Period, Plan, period_at, price_at, lower_at, upper_at}
 
 -- ---- names
 
@@ -14,7 +14,7 @@ numbered letter number = letter ++ decimal number
 
 -- in the period t, from 0
 abbrev pub numbered_in : List ℕ → ℕ → ℕ → List ℕ
-numbered_in letter number t = (letter ++ decimal number) ++ codes "." ++ decimal (suc t)
+numbered_in letter number t = numbered letter number ++ (codes "." ++ decimal (suc t))
 
 -- ---- numbers of materials and units
 
@@ -43,39 +43,49 @@ unlimited = pos 1000000000000000
 abbrev pub site : ℕ → Material
 site i = record { name = numbered (codes "s") i; kind = raw_material; price = pos 0; lower = pos 0; upper = unlimited }
 
-abbrev pub copy : Problem → Plan → ℕ → ℕ → Material
-copy p plan t j = record {
+abbrev pub copy : Problem → Period → ℕ → ℕ → Material
+copy p q t j = record {
   name = numbered_in (codes "m") j t;
   kind = (material_at p j).kind;
-  price = price_at (period_at plan t) j;
-  lower = lower_at (period_at plan t) j;
-  upper = upper_at (period_at plan t) j;
+  price = price_at q j;
+  lower = lower_at q j;
+  upper = upper_at q j;
 }
 
 abbrev pub capacity : ℕ → ℕ → Material
 capacity t i = record { name = numbered_in (codes "c") i t; kind = intermediate; price = pos 0; lower = pos 0; upper = unlimited }
 
-abbrev pub period_materials : Problem → Plan → ℕ → List Material
-period_materials p plan t = map (copy p plan t) (range_with_len 0 (length p.materials)) ++ map (capacity t) (range_with_len 0 (length p.units))
+abbrev pub copies : Problem → Period → ℕ → List Material
+copies p q t = map (copy p q t) (range_with_len 0 (length p.materials))
 
-abbrev pub periods : Plan → List ℕ
-periods plan = range_with_len 0 (length plan.periods)
+abbrev pub capacities : Problem → ℕ → List Material
+capacities p t = map (capacity t) (range_with_len 0 (length p.units))
+
+abbrev pub sites : Problem → List Material
+sites p = map site (range_with_len 0 (length p.units))
+
+-- the plant's materials in a period, and then the capacities of its units
+abbrev pub period_materials : Problem → Plan → ℕ → List Material
+period_materials p plan t = copies p (period_at plan t) t ++ capacities p t
 
 abbrev pub materials_of : Problem → Plan → List Material
-materials_of p plan = map site (range_with_len 0 (length p.units)) ++ flat_map (period_materials p plan) (periods plan)
+materials_of p plan = sites p ++ flat_map (period_materials p plan) (range_with_len 0 (length plan.periods))
 
 -- ---- units
 
 abbrev pub at_rate_one : ℕ → Term
 at_rate_one material = record { material = material; rate = one }
 
--- the unit that builds unit i
-abbrev pub built : Problem → Plan → ℕ → OperatingUnit
-built p plan i = record (unit_at p i) {
+-- the unit that builds unit i for so many periods
+abbrev pub built : Problem → ℕ → ℕ → OperatingUnit
+built p count i = record (unit_at p i) {
   name = numbered (codes "b") i;
   inputs = at_rate_one i ∷ [];
-  outputs = map (λ t. at_rate_one (capacity_of p t i)) (periods plan);
+  outputs = map (λ t. at_rate_one (capacity_of p t i)) (range_with_len 0 count);
 }
+
+abbrev pub built_units : Problem → ℕ → List OperatingUnit
+built_units p count = map (built p count) (range_with_len 0 (length p.units))
 
 -- a side of a unit in a period
 abbrev pub side_in : Problem → ℕ → List Term → List Term
@@ -98,11 +108,11 @@ running p t i = record {
 abbrev pub period_units : Problem → ℕ → List OperatingUnit
 period_units p t = map (running p t) (range_with_len 0 (length p.units))
 
-abbrev pub units_of : Problem → Plan → List OperatingUnit
-units_of p plan = map (built p plan) (range_with_len 0 (length p.units)) ++ flat_map (period_units p) (periods plan)
+abbrev pub units_of : Problem → ℕ → List OperatingUnit
+units_of p count = built_units p count ++ flat_map (period_units p) (range_with_len 0 count)
 
 -- ---- the problem
 
 -- the units that build have the numbers of the units that they build, so each exclusion is kept as it is
 abbrev pub expanded : Problem → Plan → Problem
-expanded p plan = record p { materials = materials_of p plan; units = units_of p plan }
+expanded p plan = record p { materials = materials_of p plan; units = units_of p (length plan.periods) }
