@@ -27,6 +27,12 @@ module _ {X : Type 0} (P : X → Type 0) where
   each_at (x ∷ xs) zero d each lt = each.0
   each_at (x ∷ xs) (suc i) d each lt = each_at xs i d each.1 (omega (arith, lt))
 
+-- an item that stands is the same whatever stands for one that does not
+pub same_default : {X : Type 0} (xs : List X) (i : ℕ) (d e : X) → i < length xs → slice_index_or xs i d ≡ slice_index_or xs i e
+same_default [] i d e lt = absurd (omega (arith, lt))
+same_default (x ∷ xs) zero d e lt = refl
+same_default (x ∷ xs) (suc i) d e lt = same_default xs i d e (omega (arith, lt))
+
 pub length_of_blocks : {X : Type 0} (f : ℕ → List X) (w a n : ℕ) → ((i : ℕ) → length (f i) ≡ w) → length (flat_map f (range_with_len a n)) ≡ n * w
 length_of_blocks f w a zero h = omega arith
 length_of_blocks f w a (suc n) h =
