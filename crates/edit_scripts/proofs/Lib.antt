@@ -6,6 +6,6 @@ mod TermsRead
 mod Whole
 mod TokenCounts
 mod Reading
-mod Clear
-mod ReadIsFormed
+pub mod Clear
+pub mod ReadIsFormed
 mod Printing

@@ -54,7 +54,7 @@ kind_formed (x0 ∷ x1 ∷ []) value e =
     subst (λ (v : List ℕ × Kind). IsName v.0) (judged_same faults read value e) good
 kind_formed (x0 ∷ x1 ∷ x2 ∷ xs) value e = absurd (err_not_ok _ value e)
 
-amount_formed : (fields : List (List ℕ)) (value : List ℕ × ℤ) → amount_read fields ≡ Ok value → IsName value.0 × IsInRange value.1
+pub amount_formed : (fields : List (List ℕ)) (value : List ℕ × ℤ) → amount_read fields ≡ Ok value → IsName value.0 × IsInRange value.1
 amount_formed [] value e = absurd (err_not_ok _ value e)
 amount_formed (x0 ∷ []) value e = absurd (err_not_ok _ value e)
 amount_formed (x0 ∷ x1 ∷ []) value e =
@@ -76,7 +76,7 @@ fixed_formed (x0 ∷ x1 ∷ []) value e =
     subst (λ (v : List ℕ × ℤ). IsName v.0 × IsBound v.1) (judged_same faults read value e) good
 fixed_formed (x0 ∷ x1 ∷ x2 ∷ xs) value e = absurd (err_not_ok _ value e)
 
-bounds_formed : (fields : List (List ℕ)) (value : List ℕ × (ℤ × ℤ)) → bounds_read fields ≡ Ok value → IsName value.0 × AreSignedBounds value.1.0 value.1.1
+pub bounds_formed : (fields : List (List ℕ)) (value : List ℕ × (ℤ × ℤ)) → bounds_read fields ≡ Ok value → IsName value.0 × AreSignedBounds value.1.0 value.1.1
 bounds_formed [] value e = absurd (err_not_ok _ value e)
 bounds_formed (x0 ∷ []) value e = absurd (err_not_ok _ value e)
 bounds_formed (x0 ∷ x1 ∷ []) value e = absurd (err_not_ok _ value e)

@@ -17,7 +17,7 @@ fn without_return(text: &[u8]) -> &[u8]
 }
 
 /// The first line of what is left of a text, and what is left behind it.
-pub(crate) fn cut_line(rest: &[u8]) -> (&[u8], &[u8])
+pub fn cut_line(rest: &[u8]) -> (&[u8], &[u8])
     requires { 0 < length rest.now }
     ensures cut { script_lines rest.now ≡ result.0.now ∷ script_lines result.1.now }
     ensures shorter { length result.1.now < length rest.now }
@@ -31,7 +31,7 @@ pub(crate) fn cut_line(rest: &[u8]) -> (&[u8], &[u8])
 }
 
 /// The tokens of a line, parted by one space.
-pub(crate) fn tokens_of<'a>(alloc: Global, text: &'a [u8]) -> Result<Vec<&'a [u8]>, AllocError>
+pub fn tokens_of<'a>(alloc: Global, text: &'a [u8]) -> Result<Vec<&'a [u8]>, AllocError>
     ensures { IfOk result (λ tokens. texts tokens.items ≡ tokens_of text.now) }
 {
     text.split(|c| *c == b' ').collect(alloc)

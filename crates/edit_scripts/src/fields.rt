@@ -85,7 +85,7 @@ fn amount_from(alloc: Global, name: &[u8], value: &[u8]) -> Result<(String, i64)
 }
 
 /// A name and an amount of either sign.
-pub(crate) fn amount(alloc: Global, fields: &[&[u8]]) -> Result<(String, i64), LineFault>
+pub fn amount(alloc: Global, fields: &[&[u8]]) -> Result<(String, i64), LineFault>
     ensures ok { IfOk result (λ read. amount_read (texts fields.now) ≡ Ok (string_bytes read.0, read.1)) }
     ensures fault { IfErr result (TellsLine (amount_read (texts fields.now))) }
 {
@@ -136,7 +136,7 @@ fn bounds_from(
 }
 
 /// A name, a lower and an upper bound.
-pub(crate) fn bounds(alloc: Global, fields: &[&[u8]]) -> Result<(String, i64, i64), LineFault>
+pub fn bounds(alloc: Global, fields: &[&[u8]]) -> Result<(String, i64, i64), LineFault>
     ensures ok { IfOk result (λ read. bounds_read (texts fields.now) ≡ Ok (string_bytes read.0, (read.1, read.2))) }
     ensures fault { IfErr result (TellsLine (bounds_read (texts fields.now))) }
 {

@@ -3,17 +3,18 @@
 //! A `Script` holds no edit with a fault of form.
 //!
 //! Modules: `edit`, `term`, `script` and `fault` (the values), `cut` (lines and tokens), `token` (what is wrong with one token),
-//! `sides` (the terms of a new unit), `fields` and `insertion` (the forms of lines), `line` (one line), `read`, `print`.
+//! `sides` (the terms of a new unit), `fields` and `insertion` (the forms of lines), `line` (one line), `read`, `print`. Other texts
+//! with the same lines, tokens and amounts are read with `cut`, `fields` and `names`.
 #![tactic(auto)]
 
-mod cut;
+pub mod cut;
 mod edit;
 mod fault;
-mod fields;
+pub mod fields;
 mod insertion;
 mod line;
 mod line_fault;
-mod names;
+pub mod names;
 mod print;
 mod read;
 mod script;
@@ -23,6 +24,7 @@ mod token;
 
 pub use edit::Edit;
 pub use fault::EditFault;
+pub use line_fault::LineFault;
 pub use print::print_script;
 pub use read::read_script;
 pub use script::Script;

@@ -24,7 +24,8 @@ impl<'a> Model for NameSet<'a> {
 }
 
 impl<'a> NameSet<'a> {
-    fn new(alloc: Global) -> NameSet<'a>
+    /// No names.
+    pub fn new(alloc: Global) -> NameSet<'a>
         ensures { result ≡ [] }
     {
         NameSet {
@@ -38,8 +39,8 @@ impl<'a> NameSet<'a> {
         self.names.contains(&name)
     }
 
-    // Whether the name is new.
-    fn add(&mut self, name: &'a [u8]) -> Result<bool, AllocError>
+    /// Adds the name, and tells whether it is new.
+    pub fn add(&mut self, name: &'a [u8]) -> Result<bool, AllocError>
         ensures new { IfOk result (λ is_new. is_new ≡ not (is_among self.old name.now)) }
         ensures added { OnOk result (self.new ≡ with_name self.old name.now) }
     {

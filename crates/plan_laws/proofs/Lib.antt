@@ -1,0 +1,5 @@
+pub mod Lists
+pub mod Names
+pub mod Ranks
+pub mod Terms
+mod Valid

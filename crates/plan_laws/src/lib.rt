@@ -1,0 +1,22 @@
+//! The laws of plans, over their definitions alone: the problem into which a plant and a valid plan are expanded is valid.
+//!
+//! `specs/Laws` states them. Each is the contract of a function that does nothing: a caller's proof has the law behind the call.
+#![tactic(auto)]
+
+ghost use Rattle.plan_laws.specs.Laws.{ExpandedIsValid, PlansAreShort};
+
+use problem_rules::valid_is_well_formed;
+
+/// A valid problem and a plan for it give a valid expanded problem.
+pub fn expanded_is_valid()
+    ensures { ExpandedIsValid }
+{
+    valid_is_well_formed();
+}
+
+/// A plan for a valid problem has at most 256 periods.
+pub fn plans_are_short()
+    ensures { PlansAreShort }
+{
+    valid_is_well_formed();
+}

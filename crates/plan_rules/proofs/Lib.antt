@@ -1,0 +1,4 @@
+mod LineFaults
+mod Plant
+mod Texts
+mod TwoPeriods

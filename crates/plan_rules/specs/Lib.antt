@@ -1,0 +1,6 @@
+pub mod Design
+pub mod Expanded
+pub mod Line
+pub mod Meaning
+pub mod Plan
+pub mod Read
