@@ -10,6 +10,7 @@ use unit_sets::{MatSet, Node, UnitSet};
 
 /// The units of the program, its rows, and the materials that have to be there: the products and those of the units that
 /// are taken in.
+#[derive(Clone, Copy)]
 pub struct NodeSets {
     pub units: UnitSet,
     pub rows: MatSet,

@@ -2,6 +2,7 @@
 -- node makes of a bound or a cost: a material's rates and, together with that of sizes, the ends of its row; sizes; what a size
 -- costs; and fixed costs.
 use Rattle.std.specs.Prelude.{◌≡◌, ℕ, ◌<◌, ℤ, pos, ◌*ℤ◌, ◌≤ℤ◌, true, List, length, slice_index_or, int_div}
+use Rattle.number_sets.specs.Sets.{has}
 use Rattle.pns_rules.specs.Structure.{mats}
 use Rattle.pns_rules.specs.Nodes.{Node}
 use Rattle.flow_rules.specs.Net.{Net}
@@ -36,3 +37,7 @@ pub record AreDivisors (net : Net) (s : Divisors) : Type 0 where
   pub cost : (n : Node) (i : ℕ) → i < net.graph.units → Divides s.costs (unit_cost net n i)
   pub fixed : (n : Node) → Divides s.unit (fixed_cost net n)
   pub worth : Divides s.unit (s.costs *ℤ s.sizes)
+
+-- each of the materials has a divisor
+abbrev pub HasDivisors : Divisors → List ℕ → Type 0
+HasDivisors s materials = (j : ℕ) → has materials j ≡ true → (j < length s.rates) × (pos 1 ≤ℤ rate_divisor s j)

@@ -3,3 +3,4 @@ pub mod Scaled
 pub mod Settled
 pub mod LeastCost
 pub mod Laws
+pub mod Found
