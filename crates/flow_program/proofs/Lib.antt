@@ -1,12 +1,12 @@
 pub mod SizeLemmas
 pub mod WalkLemmas
-mod FeasibleLemmas
-mod NodeSetLemmas
-mod ProgramLemmas
-mod RateLemmas
+pub mod FeasibleLemmas
+pub mod NodeSetLemmas
+pub mod ProgramLemmas
+pub mod RateLemmas
 mod TableLemmas
 mod BoundLemmas
-mod BoundSumLemmas
+pub mod BoundSumLemmas
 mod CostLemmas
 mod CostSumLemmas
-mod QuotientLemmas
+pub mod QuotientLemmas

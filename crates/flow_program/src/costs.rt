@@ -131,7 +131,7 @@ pub(crate) fn slope(fixed: i128, upper: i64) -> i128
 }
 
 /// The fixed costs of the units of a set.
-pub(crate) fn fixed_costs(problem: &Problem, set: UnitSet) -> i128
+pub fn fixed_costs(problem: &Problem, set: UnitSet) -> i128
     requires { (u : ℕ) → has set u ≡ true → u < length problem.now.units }
     ensures value { result ≡ trillion *ℤ total (net_of problem.now).fix set }
     ensures small { unsigned_abs result ≤ 10 ^ 32 }

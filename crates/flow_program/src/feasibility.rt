@@ -43,7 +43,7 @@ fn difference(made: i64, used: i64) -> i64
 }
 
 /// The unit's rate of the material, which its terms are looked through for.
-fn rate_at(problem: &Problem, j: u32, u: u32) -> i64
+pub fn rate_at(problem: &Problem, j: u32, u: u32) -> i64
     requires { u < length problem.now.units }
     ensures { result ≡ rate_of problem.now j u }
 {
@@ -70,7 +70,7 @@ fn goes_on_from(range: Range, number: i128) -> bool
 
 /// Whether the number over `d` is in the range. The floor of the quotient and the remainder tell, so that no end of the range
 /// is multiplied by `d`.
-fn is_within(number: i128, d: i128, range: Range) -> bool
+pub fn is_within(number: i128, d: i128, range: Range) -> bool
     requires { pos 1 ≤ℤ d }
     ensures { IsTrue result ↔ (((range.low *ℤ d) ≤ℤ number) × (number ≤ℤ (range.high *ℤ d))) }
 {
@@ -154,7 +154,7 @@ fn balance_of(
 }
 
 /// The units of the set that make or use the material.
-fn units_with(graph: &Graph, set: UnitSet, j: u32) -> UnitSet
+pub fn units_with(graph: &Graph, set: UnitSet, j: u32) -> UnitSet
     requires { j < (shape graph.now).materials }
     ensures { (u : ℕ) → has result u ≡ (((shape graph.now).makes u j || (shape graph.now).uses u j) && has set u) }
 {

@@ -14,7 +14,7 @@ use pns_problem::Problem;
 use unit_sets::{MatSet, Node};
 
 /// The range of the row of a material.
-pub(crate) fn row_range(problem: &Problem, node: &Node, needed: MatSet, j: u32) -> Range
+pub fn row_range(problem: &Problem, node: &Node, needed: MatSet, j: u32) -> Range
     requires known { j < length problem.now.materials }
     requires needed { AreNeeded (shape_of problem.now) (node_of node.now) needed }
     ensures low { result.low ≡ row_low (net_of problem.now) (node_of node.now) j }
@@ -68,13 +68,14 @@ fn unit_cost(problem: &Problem, node: &Node, u: u32, materials: MatSet, rates: &
 
 /// What a unit of size 1 costs at the node, and the range of its size.
 #[derive(Clone, Copy)]
-pub(crate) struct UnitNumbers {
-    pub(crate) cost: i128,
-    pub(crate) low: i128,
-    pub(crate) high: i128,
+pub struct UnitNumbers {
+    pub cost: i128,
+    pub low: i128,
+    pub high: i128,
 }
 
-pub(crate) fn unit_numbers(
+/// The numbers of a unit at a node, whose materials and rates are handed in.
+pub fn unit_numbers(
     problem: &Problem,
     node: &Node,
     u: u32,

@@ -10,13 +10,15 @@ use unit_sets::{MatSet, Node, UnitSet};
 
 /// The units of the program, its rows, and the materials that have to be there: the products and those of the units that
 /// are taken in.
-pub(crate) struct NodeSets {
-    pub(crate) units: UnitSet,
-    pub(crate) rows: MatSet,
-    pub(crate) needed: MatSet,
+#[derive(Clone, Copy)]
+pub struct NodeSets {
+    pub units: UnitSet,
+    pub rows: MatSet,
+    pub needed: MatSet,
 }
 
-pub(crate) fn sets_of(graph: &Graph, node: &Node) -> NodeSets
+/// The sets of a node's program.
+pub fn sets_of(graph: &Graph, node: &Node) -> NodeSets
     requires { (u : ℕ) → has node.now.inside u ≡ true → u < (shape graph.now).units }
     ensures { AreSetsOf (shape graph.now) (node_of node.now) result.units result.rows result.needed }
 {

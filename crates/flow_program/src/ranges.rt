@@ -7,9 +7,9 @@ use pns_problem::{Kind, Problem};
 
 /// The ends of a range.
 #[derive(Clone, Copy)]
-pub(crate) struct Range {
-    pub(crate) low: i128,
-    pub(crate) high: i128,
+pub struct Range {
+    pub low: i128,
+    pub high: i128,
 }
 
 /// An amount a million times.

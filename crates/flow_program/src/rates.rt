@@ -32,7 +32,7 @@ fn put(rates: &mut [i64], terms: &[Term], used: bool, materials: u32)
 }
 
 /// Writes the rates of the unit at its materials, which are returned; the rest stays.
-pub(crate) fn put_rates(rates: &mut [i64], problem: &Problem, graph: &Graph, u: u32) -> MatSet
+pub fn put_rates(rates: &mut [i64], problem: &Problem, graph: &Graph, u: u32) -> MatSet
     requires size { length rates.old ≡ 256 }
     requires unit { u < length problem.now.units }
     requires graph { shape graph.now ≡ shape_of problem.now }

@@ -6,7 +6,7 @@ ghost use Rattle.flow_rules.specs.Net.{beside};
 use unit_sets::{MatSet, UnitSet};
 
 /// The value that stands beside each material of the set.
-pub(crate) fn by_material(set: MatSet, values: &[i128]) -> [i128; 256]
+pub fn by_material(set: MatSet, values: &[i128]) -> [i128; 256]
     requires { length values.now ≡ length set }
     ensures { (j : ℕ) → has set j ≡ true → slice_index_or result j (pos 0) ≡ beside set values.now j }
 {
@@ -26,7 +26,7 @@ pub(crate) fn by_material(set: MatSet, values: &[i128]) -> [i128; 256]
 }
 
 /// The value that stands beside each unit of the set.
-pub(crate) fn by_unit(set: UnitSet, values: &[i128]) -> [i128; 128]
+pub fn by_unit(set: UnitSet, values: &[i128]) -> [i128; 128]
     requires { length values.now ≡ length set }
     ensures { (i : ℕ) → has set i ≡ true → slice_index_or result i (pos 0) ≡ beside set values.now i }
 {

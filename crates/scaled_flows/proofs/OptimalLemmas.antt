@@ -1,0 +1,219 @@
+-- Scaled sizes as relaxed flows, their cost, and that settled ones cost the least.
+use Rattle.std.proofs.Common.{◌≡◌, ℕ, ◌<◌, true, refl, sym, ap, ◌∙◌, subst, arith, pos, ℤ, ◌+ℤ◌, ◌-ℤ◌, ◌*ℤ◌, ◌≤ℤ◌, ◌<ℤ◌}
+use Rattle.std.specs.Prelude.{int_div}
+use Rattle.std.specs.List.{AllByRecursion}
+use Rattle.std.proofs.lemmas.Int.{ints}
+use Rattle.integer_laws.specs.Total.{total}
+use Rattle.integer_laws.proofs.Ring.{ring_z, V, ◌⊗◌, ◌⊕◌, ring, mul_assoc_z}
+use Rattle.integer_laws.proofs.Order.{mul-le_left, cancel_le}
+use Rattle.integer_laws.proofs.Totals.{total-agree, total-mul}
+use Rattle.pns_rules.specs.Structure.{mats}
+use Rattle.pns_rules.specs.Nodes.{Node}
+use Rattle.tree_rules.specs.Lean.{HasCheaper}
+use Rattle.flow_rules.specs.Net.{Net, net_of}
+use Rattle.flow_rules.specs.Relaxed.{stays, units, rows, row_low, row_high, unit_low, unit_cost, fixed_cost, row_balance, IsRelaxed, relaxed_cost}
+use Rattle.flow_rules.proofs.ListedLemmas.{All-listed}
+use Rattle.scaled_flows.specs.Divisors.{Divisors, rate_divisor, AreDivisors}
+use Rattle.scaled_flows.specs.Scaled.{scaled_rate, size_floor, size_ceiling, row_floor, row_ceiling, scaled_cost, scaled_balance, price, size_costs, value_over}
+use Rattle.scaled_flows.specs.Settled.{IsSettled, AreSettled}
+use Rattle.scaled_flows.specs.LeastCost.{IsLeastCost}
+use Rattle.scaled_flows.specs.Laws.{SettledAreRelaxed, CostIsCounted, SettledAreOptimal}
+use Rattle.scaled_flows.proofs.SignLemmas.{settled_least, optimal_by_signs}
+
+from_one : (a : ℤ) → pos 1 ≤ℤ a → pos 0 <ℤ a
+from_one a h = omega (arith, ints)
+
+not_below : (a : ℤ) → pos 1 ≤ℤ a → pos 0 ≤ℤ a
+not_below a h = omega (arith, ints)
+
+-- ---- one range: x = r q is an end, q the same divided
+scaled_end : (r q d : ℤ) → (r *ℤ q) *ℤ d ≡ r *ℤ (q *ℤ d)
+scaled_end r q d = mul_assoc_z r q d
+
+above : (x r q d z : ℤ) → r *ℤ q ≡ x → pos 0 ≤ℤ r → (q *ℤ d) ≤ℤ z → (x *ℤ d) ≤ℤ (r *ℤ z)
+above x r q d z e p h = subst (λ (w : ℤ). (w *ℤ d) ≤ℤ (r *ℤ z)) e (subst (λ (w : ℤ). w ≤ℤ (r *ℤ z)) (sym (scaled_end r q d)) (mul-le_left r (q *ℤ d) z h p))
+
+below : (x r q d z : ℤ) → r *ℤ q ≡ x → pos 0 ≤ℤ r → z ≤ℤ (q *ℤ d) → (r *ℤ z) ≤ℤ (x *ℤ d)
+below x r q d z e p h = subst (λ (w : ℤ). (r *ℤ z) ≤ℤ (w *ℤ d)) e (subst (λ (w : ℤ). (r *ℤ z) ≤ℤ w) (sym (scaled_end r q d)) (mul-le_left r z (q *ℤ d) h p))
+
+pulled : (r q k : ℤ) → (r *ℤ q) *ℤ k ≡ q *ℤ (r *ℤ k)
+pulled r q k = ring ((V r ⊗ V q) ⊗ V k) (V q ⊗ (V r ⊗ V k)) (omega arith)
+
+-- back: numbers w over k in the range are in the divided range over r k
+above_back : (x r q k w : ℤ) → r *ℤ q ≡ x → (x *ℤ k) ≤ℤ w → (q *ℤ (r *ℤ k)) ≤ℤ w
+above_back x r q k w e h = subst (λ (y : ℤ). y ≤ℤ w) (ap (λ (y : ℤ). y *ℤ k) (sym e) ∙ pulled r q k) h
+
+below_back : (x r q k w : ℤ) → r *ℤ q ≡ x → w ≤ℤ (x *ℤ k) → w ≤ℤ (q *ℤ (r *ℤ k))
+below_back x r q k w e h = subst (λ (y : ℤ). w ≤ℤ y) (ap (λ (y : ℤ). y *ℤ k) (sym e) ∙ pulled r q k) h
+
+-- of a row with the factor g too
+pulled_row : (g r q k : ℤ) → ((g *ℤ r) *ℤ q) *ℤ k ≡ g *ℤ (q *ℤ (r *ℤ k))
+pulled_row g r q k = ring (((V g ⊗ V r) ⊗ V q) ⊗ V k) (V g ⊗ (V q ⊗ (V r ⊗ V k))) (omega arith)
+
+row_above_back : (x g r q k b w : ℤ) → pos 0 <ℤ g → (g *ℤ r) *ℤ q ≡ x → b ≡ g *ℤ w → (x *ℤ k) ≤ℤ b → (q *ℤ (r *ℤ k)) ≤ℤ w
+row_above_back x g r q k b w p e f h =
+    cancel_le g (q *ℤ (r *ℤ k)) w p (subst (λ (y : ℤ). y ≤ℤ (g *ℤ w)) (ap (λ (y : ℤ). y *ℤ k) (sym e) ∙ pulled_row g r q k) (subst (λ (y : ℤ). (x *ℤ k) ≤ℤ y) f h))
+
+row_below_back : (x g r q k b w : ℤ) → pos 0 <ℤ g → (g *ℤ r) *ℤ q ≡ x → b ≡ g *ℤ w → b ≤ℤ (x *ℤ k) → w ≤ℤ (q *ℤ (r *ℤ k))
+row_below_back x g r q k b w p e f h =
+    cancel_le g w (q *ℤ (r *ℤ k)) p (subst (λ (y : ℤ). (g *ℤ w) ≤ℤ y) (ap (λ (y : ℤ). y *ℤ k) (sym e) ∙ pulled_row g r q k) (subst (λ (y : ℤ). y ≤ℤ (x *ℤ k)) f h))
+
+-- ---- terms of sums
+scaled_term : (g q x z : ℤ) → g *ℤ q ≡ x → x *ℤ z ≡ g *ℤ (q *ℤ z)
+scaled_term g q x z e = ap (λ (y : ℤ). y *ℤ z) (sym e) ∙ mul_assoc_z g q z
+
+moved_term : (g r q x z : ℤ) → g *ℤ q ≡ x → x *ℤ (r *ℤ z) ≡ (g *ℤ r) *ℤ (q *ℤ z)
+moved_term g r q x z e = ap (λ (y : ℤ). y *ℤ (r *ℤ z)) (sym e) ∙ ring ((V g ⊗ V q) ⊗ (V r ⊗ V z)) ((V g ⊗ V r) ⊗ (V q ⊗ V z)) (omega arith)
+
+module _ (net : Net) (s : Divisors) (divide : AreDivisors net s) (n : Node) where
+  -- what sizes w leave over of a material is its divisor times what they leave over at scaled rates
+  balance_of : (w : ℕ → ℤ) (j : ℕ) → j < net.graph.materials → row_balance net n w j ≡ rate_divisor s j *ℤ scaled_balance net s n w j
+  balance_of w j l =
+      total-agree (λ i. net.rate j i *ℤ w i) (λ i. rate_divisor s j *ℤ (scaled_rate net s j i *ℤ w i)) (units net n)
+      (All-listed (λ i. net.rate j i *ℤ w i ≡ rate_divisor s j *ℤ (scaled_rate net s j i *ℤ w i)) net.graph.units (stays n)
+      (λ i k h. scaled_term (rate_divisor s j) (scaled_rate net s j i) (net.rate j i) (w i) (divide.rate j i l k)))
+      ∙ total-mul (rate_divisor s j) (λ i. scaled_rate net s j i *ℤ w i) (units net n)
+
+  balance_moved : (z : ℕ → ℤ) (j : ℕ) → j < net.graph.materials → row_balance net n (λ i. s.sizes *ℤ z i) j ≡ (rate_divisor s j *ℤ s.sizes) *ℤ scaled_balance net s n z j
+  balance_moved z j l =
+      total-agree (λ i. net.rate j i *ℤ (s.sizes *ℤ z i)) (λ i. (rate_divisor s j *ℤ s.sizes) *ℤ (scaled_rate net s j i *ℤ z i)) (units net n)
+      (All-listed (λ i. net.rate j i *ℤ (s.sizes *ℤ z i) ≡ (rate_divisor s j *ℤ s.sizes) *ℤ (scaled_rate net s j i *ℤ z i)) net.graph.units (stays n)
+      (λ i k h. moved_term (rate_divisor s j) s.sizes (scaled_rate net s j i) (net.rate j i) (z i) (divide.rate j i l k)))
+      ∙ total-mul (rate_divisor s j *ℤ s.sizes) (λ i. scaled_rate net s j i *ℤ z i) (units net n)
+
+  costs_of : (w : ℕ → ℤ) → total (λ i. unit_cost net n i *ℤ w i) (units net n) ≡ s.costs *ℤ size_costs net s n w
+  costs_of w =
+      total-agree (λ i. unit_cost net n i *ℤ w i) (λ i. s.costs *ℤ (scaled_cost net s n i *ℤ w i)) (units net n)
+      (All-listed (λ i. unit_cost net n i *ℤ w i ≡ s.costs *ℤ (scaled_cost net s n i *ℤ w i)) net.graph.units (stays n)
+      (λ i k h. scaled_term s.costs (scaled_cost net s n i) (unit_cost net n i) (w i) (divide.cost n i k)))
+      ∙ total-mul s.costs (λ i. scaled_cost net s n i *ℤ w i) (units net n)
+
+  costs_moved : (z : ℕ → ℤ) → total (λ i. unit_cost net n i *ℤ (s.sizes *ℤ z i)) (units net n) ≡ (s.costs *ℤ s.sizes) *ℤ size_costs net s n z
+  costs_moved z =
+      total-agree (λ i. unit_cost net n i *ℤ (s.sizes *ℤ z i)) (λ i. (s.costs *ℤ s.sizes) *ℤ (scaled_cost net s n i *ℤ z i)) (units net n)
+      (All-listed (λ i. unit_cost net n i *ℤ (s.sizes *ℤ z i) ≡ (s.costs *ℤ s.sizes) *ℤ (scaled_cost net s n i *ℤ z i)) net.graph.units (stays n)
+      (λ i k h. moved_term s.costs s.sizes (scaled_cost net s n i) (unit_cost net n i) (z i) (divide.cost n i k)))
+      ∙ total-mul (s.costs *ℤ s.sizes) (λ i. scaled_cost net s n i *ℤ z i) (units net n)
+
+  -- ---- the cost of scaled sizes
+  unit_taken : (u k d w c : ℤ) → d *ℤ (u *ℤ k) +ℤ (u *ℤ w) *ℤ c ≡ u *ℤ (k *ℤ d +ℤ w *ℤ c)
+  unit_taken u k d w c = ring (V d ⊗ (V u ⊗ V k) ⊕ (V u ⊗ V w) ⊗ V c) (V u ⊗ (V k ⊗ V d ⊕ V w ⊗ V c)) (omega arith)
+
+  pub cost_counted : (z : ℕ → ℤ) (d : ℤ) → relaxed_cost net n (λ i. s.sizes *ℤ z i) d ≡ s.unit *ℤ value_over net s n z d
+  cost_counted z d =
+      ap (λ (c : ℤ). d *ℤ fixed_cost net n +ℤ c) (costs_moved z)
+      ∙ ap (λ (f : ℤ). d *ℤ f +ℤ (s.costs *ℤ s.sizes) *ℤ size_costs net s n z) (sym (divide.fixed n))
+      ∙ ap (λ (f : ℤ). d *ℤ (s.unit *ℤ int_div (fixed_cost net n) s.unit) +ℤ f *ℤ size_costs net s n z) (sym divide.worth)
+      ∙ unit_taken s.unit (int_div (fixed_cost net n) s.unit) d (int_div (s.costs *ℤ s.sizes) s.unit) (size_costs net s n z)
+
+  -- ---- scaled sizes in their ranges
+  module _ (z : ℕ → ℤ) (d scale : ℤ) (y : ℕ → ℤ) (settled : AreSettled net s n z d scale y) where
+    factor : (j : ℕ) → j < net.graph.materials → pos 0 ≤ℤ (rate_divisor s j *ℤ s.sizes)
+    factor j l = at (rate_divisor s j) s.sizes (divide.rates_positive j l) divide.sizes_positive
+      where
+        at : (a b : ℤ) → pos 1 ≤ℤ a → pos 1 ≤ℤ b → pos 0 ≤ℤ (a *ℤ b)
+        at a b p q = let f : (a *ℤ pos 0) ≤ℤ (a *ℤ b) = mul-le_left a (pos 0) b (not_below b q) (not_below a p) in omega (arith, ints)
+
+    pub settled_relaxed : IsRelaxed net n (λ i. s.sizes *ℤ z i) d
+    settled_relaxed = record {
+      positive = settled.positive;
+      at_least = λ i l h. above (unit_low net n i) s.sizes (size_floor net s n i) d (z i) (divide.size_low n i l) (not_below s.sizes divide.sizes_positive) (settled.sizes i l h).at_least;
+      at_most = λ i l h. below (net.most i) s.sizes (size_ceiling net s i) d (z i) (divide.size_high i l) (not_below s.sizes divide.sizes_positive) (settled.sizes i l h).at_most;
+      low = λ j l h. subst (λ (b : ℤ). (row_low net n j *ℤ d) ≤ℤ b) (sym (balance_moved z j l))
+          (above (row_low net n j) (rate_divisor s j *ℤ s.sizes) (row_floor net s n j) d (scaled_balance net s n z j) (divide.row_low n j l h) (factor j l) (settled.rows j l h).at_least);
+      high = λ j l h. subst (λ (b : ℤ). b ≤ℤ (row_high net n j *ℤ d)) (sym (balance_moved z j l))
+          (below (row_high net n j) (rate_divisor s j *ℤ s.sizes) (row_ceiling net s n j) d (scaled_balance net s n z j) (divide.row_high n j l h) (factor j l) (settled.rows j l h).at_most);
+    }
+
+    -- no relaxed flows w over k cost less for their sizes
+    sizes_cost_least : (w : ℕ → ℤ) (k : ℤ) → IsRelaxed net n w k → ((s.sizes *ℤ k) *ℤ size_costs net s n z) ≤ℤ (d *ℤ size_costs net s n w)
+    sizes_cost_least w k flows =
+        let m = s.sizes *ℤ k in
+        let positive : pos 0 ≤ℤ d = not_below d settled.positive in
+        optimal_by_signs (units net n) (rows net n) (scaled_rate net s) (scaled_cost net s n) z w y scale d m (from_one scale settled.scale_positive)
+        (All-listed (λ i. (m *ℤ (price net s n scale y i *ℤ z i)) ≤ℤ (d *ℤ (price net s n scale y i *ℤ w i))) net.graph.units (stays n)
+        (λ i l h. settled_least (size_floor net s n i) (size_ceiling net s i) d (z i) (price net s n scale y i) (w i) m (settled.sizes i l h) positive
+        (above_back (unit_low net n i) s.sizes (size_floor net s n i) k (w i) (divide.size_low n i l) (flows.at_least i l h))
+        (below_back (net.most i) s.sizes (size_ceiling net s i) k (w i) (divide.size_high i l) (flows.at_most i l h))))
+        (All-listed (λ j. (m *ℤ (y j *ℤ scaled_balance net s n z j)) ≤ℤ (d *ℤ (y j *ℤ scaled_balance net s n w j))) net.graph.materials (mats net.graph (stays n))
+        (λ j l h. settled_least (row_floor net s n j) (row_ceiling net s n j) d (scaled_balance net s n z j) (y j) (scaled_balance net s n w j) m (settled.rows j l h) positive
+        (row_above_back (row_low net n j) (rate_divisor s j) s.sizes (row_floor net s n j) k (row_balance net n w j) (scaled_balance net s n w j) (from_one (rate_divisor s j) (divide.rates_positive j l)) (divide.row_low n j l h) (balance_of w j l) (flows.low j l h))
+        (row_below_back (row_high net n j) (rate_divisor s j) s.sizes (row_ceiling net s n j) k (row_balance net n w j) (scaled_balance net s n w j) (from_one (rate_divisor s j) (divide.rates_positive j l)) (divide.row_high n j l h) (balance_of w j l) (flows.high j l h))))
+
+    -- ---- the value
+    module _ (num den : ℤ) (over : pos 1 ≤ℤ den) (is : num *ℤ d ≡ value_over net s n z d *ℤ den) where
+      crossed : (u v num d den : ℤ) → num *ℤ d ≡ v *ℤ den → (u *ℤ v) *ℤ den ≡ (u *ℤ num) *ℤ d
+      crossed u v num d den e = mul_assoc_z u v den ∙ ap (λ (x : ℤ). u *ℤ x) (sym e) ∙ sym (mul_assoc_z u num d)
+
+      same_le : (a b : ℤ) → a ≡ b → a ≤ℤ b
+      same_le a b e = omega (arith, ints)
+
+      value_reached : (relaxed_cost net n (λ i. s.sizes *ℤ z i) d *ℤ den) ≤ℤ ((s.unit *ℤ num) *ℤ d)
+      value_reached =
+          same_le (relaxed_cost net n (λ i. s.sizes *ℤ z i) d *ℤ den) ((s.unit *ℤ num) *ℤ d)
+          (ap (λ (c : ℤ). c *ℤ den) (cost_counted z d) ∙ crossed s.unit (value_over net s n z d) num d den is)
+
+      value_under : (w : ℕ → ℤ) (k : ℤ) → IsRelaxed net n w k → ((s.unit *ℤ num) *ℤ k) ≤ℤ (relaxed_cost net n w k *ℤ den)
+      value_under w k flows =
+          at s.unit num k d den (value_over net s n z d) (relaxed_cost net n w k) (from_one d settled.positive) (not_below den over) is dear
+        where
+          K' : ℤ
+          K' = int_div (fixed_cost net n) s.unit
+
+          W : ℤ
+          W = int_div (s.costs *ℤ s.sizes) s.unit
+
+          first : (u K d k w c g r : ℤ) → u *ℤ w ≡ g *ℤ r → k *ℤ (u *ℤ (K *ℤ d +ℤ w *ℤ c)) ≡ d *ℤ (k *ℤ (u *ℤ K)) +ℤ g *ℤ ((r *ℤ k) *ℤ c)
+          first u K d k w c g r e =
+              opened k (u *ℤ K) d (u *ℤ w) u K w c refl refl
+              ∙ ap (λ (x : ℤ). d *ℤ (k *ℤ (u *ℤ K)) +ℤ k *ℤ (x *ℤ c)) e
+              ∙ ap (λ (x : ℤ). d *ℤ (k *ℤ (u *ℤ K)) +ℤ x) (ring (V k ⊗ ((V g ⊗ V r) ⊗ V c)) (V g ⊗ ((V r ⊗ V k) ⊗ V c)) (omega arith))
+            where
+              opened : (k a d b u K w c : ℤ) → a ≡ u *ℤ K → b ≡ u *ℤ w → k *ℤ (u *ℤ (K *ℤ d +ℤ w *ℤ c)) ≡ d *ℤ (k *ℤ a) +ℤ k *ℤ (b *ℤ c)
+              opened k a d b u K w c e f =
+                  ap (λ (x : ℤ). k *ℤ x) (sym (unit_taken u K d w c)) ∙ ap (λ (x : ℤ). k *ℤ (d *ℤ x +ℤ (u *ℤ w) *ℤ c)) (sym e)
+                  ∙ ap (λ (x : ℤ). k *ℤ (d *ℤ a +ℤ x *ℤ c)) (sym f)
+                  ∙ ring (V k ⊗ (V d ⊗ V a ⊕ V b ⊗ V c)) (V d ⊗ (V k ⊗ V a) ⊕ V k ⊗ (V b ⊗ V c)) (omega arith)
+
+          second : (d k f g c : ℤ) → d *ℤ (k *ℤ f) +ℤ g *ℤ (d *ℤ c) ≡ d *ℤ (k *ℤ f +ℤ g *ℤ c)
+          second d k f g c = ring (V d ⊗ (V k ⊗ V f) ⊕ V g ⊗ (V d ⊗ V c)) (V d ⊗ (V k ⊗ V f ⊕ V g ⊗ V c)) (omega arith)
+
+          chain : (a b c d e : ℤ) → a ≡ b +ℤ c → c ≤ℤ d → b +ℤ d ≡ e → a ≤ℤ e
+          chain a b c d e p h q = omega (arith, ints)
+
+          -- the value's cost over k is no more than that of the flows over d
+          dear : (k *ℤ (s.unit *ℤ value_over net s n z d)) ≤ℤ (d *ℤ relaxed_cost net n w k)
+          dear =
+              chain (k *ℤ (s.unit *ℤ value_over net s n z d)) (d *ℤ (k *ℤ (s.unit *ℤ K'))) (s.costs *ℤ ((s.sizes *ℤ k) *ℤ size_costs net s n z))
+              (s.costs *ℤ (d *ℤ size_costs net s n w)) (d *ℤ relaxed_cost net n w k)
+              (first s.unit K' d k W (size_costs net s n z) s.costs s.sizes divide.worth)
+              (mul-le_left s.costs ((s.sizes *ℤ k) *ℤ size_costs net s n z) (d *ℤ size_costs net s n w) (sizes_cost_least w k flows) (not_below s.costs divide.costs_positive))
+              (second d k (s.unit *ℤ K') s.costs (size_costs net s n w)
+              ∙ ap (λ (f : ℤ). d *ℤ (k *ℤ f +ℤ s.costs *ℤ size_costs net s n w)) (divide.fixed n)
+              ∙ ap (λ (c : ℤ). d *ℤ (k *ℤ fixed_cost net n +ℤ c)) (sym (costs_of w)))
+
+          at : (u num k d den v c : ℤ) → pos 0 <ℤ d → pos 0 ≤ℤ den → num *ℤ d ≡ v *ℤ den → (k *ℤ (u *ℤ v)) ≤ℤ (d *ℤ c) → ((u *ℤ num) *ℤ k) ≤ℤ (c *ℤ den)
+          at u num k d den v c p q e h =
+              let scaled : (den *ℤ (k *ℤ (u *ℤ v))) ≤ℤ (den *ℤ (d *ℤ c)) = mul-le_left den (k *ℤ (u *ℤ v)) (d *ℤ c) h q in
+              let left : d *ℤ ((u *ℤ num) *ℤ k) ≡ den *ℤ (k *ℤ (u *ℤ v)) = ring (V d ⊗ ((V u ⊗ V num) ⊗ V k)) ((V k ⊗ V u) ⊗ (V num ⊗ V d)) (omega arith)
+              ∙ ap (λ (x : ℤ). (k *ℤ u) *ℤ x) e ∙ ring ((V k ⊗ V u) ⊗ (V v ⊗ V den)) (V den ⊗ (V k ⊗ (V u ⊗ V v))) (omega arith) in
+              let right : den *ℤ (d *ℤ c) ≡ d *ℤ (c *ℤ den) = ring (V den ⊗ (V d ⊗ V c)) (V d ⊗ (V c ⊗ V den)) (omega arith) in
+              cancel_le d ((u *ℤ num) *ℤ k) (c *ℤ den) p (subst (λ (x : ℤ). x ≤ℤ (d *ℤ (c *ℤ den))) (sym left) (subst (λ (x : ℤ). (den *ℤ (k *ℤ (u *ℤ v))) ≤ℤ x) right scaled))
+
+pub settled_are_relaxed : SettledAreRelaxed
+settled_are_relaxed p s divide n z d scale y settled = settled_relaxed (net_of p) s divide n z d scale y settled
+
+pub cost_is_counted : CostIsCounted
+cost_is_counted p s divide n z d = cost_counted (net_of p) s divide n z d
+
+pub settled_are_optimal : SettledAreOptimal
+settled_are_optimal p s divide n z d scale y settled num den over is = record {
+  positive = over;
+  under = λ w k flows. value_under (net_of p) s divide n z d scale y settled num den over is w k flows;
+  reached = record {
+    sizes = λ i. s.sizes *ℤ z i;
+    d = d;
+    relaxed = settled_relaxed (net_of p) s divide n z d scale y settled;
+    at_most = value_reached (net_of p) s divide n z d scale y settled num den over is;
+  };
+}

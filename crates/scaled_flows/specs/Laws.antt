@@ -1,0 +1,28 @@
+-- Laws of scaled flows. Each speaks of every problem and every node, and of any divisors of the problem's numbers.
+use Rattle.std.specs.Prelude.{◌≡◌, ℕ, ℤ, pos, ◌*ℤ◌, ◌≤ℤ◌}
+use Rattle.problem_rules.specs.Problem.{Problem}
+use Rattle.pns_rules.specs.Nodes.{Node}
+use Rattle.flow_rules.specs.Net.{net_of}
+use Rattle.flow_rules.specs.Relaxed.{IsRelaxed, relaxed_cost}
+use Rattle.scaled_flows.specs.Divisors.{Divisors, AreDivisors}
+use Rattle.scaled_flows.specs.Scaled.{value_over}
+use Rattle.scaled_flows.specs.Settled.{AreSettled}
+use Rattle.scaled_flows.specs.LeastCost.{IsLeastCost}
+
+-- scaled sizes over d that are in their ranges, times the divisor of sizes, are relaxed flows of the node
+abbrev pub SettledAreRelaxed : Type 0
+SettledAreRelaxed =
+    (p : Problem) (s : Divisors) → AreDivisors (net_of p) s → (n : Node) (z : ℕ → ℤ) (d scale : ℤ) (y : ℕ → ℤ) → AreSettled (net_of p) s n z d scale y
+    → IsRelaxed (net_of p) n (λ i. s.sizes *ℤ z i) d
+
+-- their cost, counted in the unit of values
+abbrev pub CostIsCounted : Type 0
+CostIsCounted =
+    (p : Problem) (s : Divisors) → AreDivisors (net_of p) s → (n : Node) (z : ℕ → ℤ) (d : ℤ)
+    → relaxed_cost (net_of p) n (λ i. s.sizes *ℤ z i) d ≡ s.unit *ℤ value_over (net_of p) s n z d
+
+-- where signs show that the sizes are optimal, their cost is the least
+abbrev pub SettledAreOptimal : Type 0
+SettledAreOptimal =
+    (p : Problem) (s : Divisors) → AreDivisors (net_of p) s → (n : Node) (z : ℕ → ℤ) (d scale : ℤ) (y : ℕ → ℤ) → AreSettled (net_of p) s n z d scale y
+    → (num den : ℤ) → pos 1 ≤ℤ den → num *ℤ d ≡ value_over (net_of p) s n z d *ℤ den → IsLeastCost p n (s.unit *ℤ num) den

@@ -1,0 +1,23 @@
+-- Sizes and multipliers of which the signs show that the sizes are optimal: each size and each row lies in its range, at an end of
+-- it where a price pulls it there.
+use Rattle.std.specs.Prelude.{◌≡◌, ℕ, ◌<◌, ℤ, pos, ◌*ℤ◌, ◌≤ℤ◌, ◌<ℤ◌, true}
+use Rattle.pns_rules.specs.Structure.{mats}
+use Rattle.pns_rules.specs.Nodes.{Node}
+use Rattle.flow_rules.specs.Net.{Net}
+use Rattle.flow_rules.specs.Relaxed.{stays}
+use Rattle.scaled_flows.specs.Divisors.{Divisors}
+use Rattle.scaled_flows.specs.Scaled.{size_floor, size_ceiling, row_floor, row_ceiling, scaled_balance, price}
+
+-- a number over d is in a range, at the low end where its price is above 0, and at the high end where it is below 0
+pub record IsSettled (low high d number price : ℤ) : Type 0 where
+  pub at_least : (low *ℤ d) ≤ℤ number
+  pub at_most : number ≤ℤ (high *ℤ d)
+  pub at_low : pos 0 <ℤ price → number ≡ low *ℤ d
+  pub at_high : price <ℤ pos 0 → number ≡ high *ℤ d
+
+-- scaled sizes z over d, and multipliers y over their scale
+pub record AreSettled (net : Net) (s : Divisors) (n : Node) (z : ℕ → ℤ) (d scale : ℤ) (y : ℕ → ℤ) : Type 0 where
+  pub positive : pos 1 ≤ℤ d
+  pub scale_positive : pos 1 ≤ℤ scale
+  pub sizes : (i : ℕ) → i < net.graph.units → stays n i ≡ true → IsSettled (size_floor net s n i) (size_ceiling net s i) d (z i) (price net s n scale y i)
+  pub rows : (j : ℕ) → j < net.graph.materials → mats net.graph (stays n) j ≡ true → IsSettled (row_floor net s n j) (row_ceiling net s n j) d (scaled_balance net s n z j) (y j)
