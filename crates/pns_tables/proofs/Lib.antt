@@ -1,0 +1,4 @@
+mod FlowLemmas
+mod RateLemmas
+mod RowLemmas
+mod SizeLemmas

@@ -1,0 +1,96 @@
+//! What a network makes of a material less what it uses of it.
+ghost use Rattle.std.specs.Prelude.{◌≡◌, ◌≢◌, ◌<◌, ◌-ℤ◌, ◌+ℤ◌, ◌*ℤ◌, ℕ, pos, true, length};
+ghost use Rattle.int_rows.specs.Range.{InRange};
+ghost use Rattle.number_sets.specs.Sets.{has};
+ghost use Rattle.problem_rules.specs.Problem.{rate_in, rate_of};
+ghost use Rattle.problem_rules.specs.WellFormed.{IsInRange};
+ghost use Rattle.flow_rules.specs.Net.{net_of};
+ghost use Rattle.flow_rules.specs.Flows.{balance};
+ghost use Rattle.flow_rules.specs.Steps.{AreInRange};
+ghost use Rattle.flow_rules.specs.FeasibleSteps.{units_at, balance_steps};
+ghost use Rattle.tree_rules.specs.Claim.{size_in};
+
+use crate::sizes::size_at;
+use branch_tree::Network;
+use pns_problem::{Problem, Term};
+
+/// The rate of the material among the terms, 0 where it is not there.
+fn rate_among(terms: &[Term], j: u32) -> i64
+    ensures { result ≡ rate_in terms.now j }
+{
+    'looking: for term in terms {
+        if term.material == j {
+            return term.rate;
+        }
+    }
+    0
+}
+
+fn difference(made: i64, used: i64) -> i64
+    requires made { IsInRange made }
+    requires used { IsInRange used }
+    ensures { result ≡ made -ℤ used }
+{
+    made - used
+}
+
+/// The rate at which the unit makes the material, less the rate at which it uses it.
+fn rate_at(problem: &Problem, j: u32, u: u32) -> i64
+    requires { u < length problem.now.units }
+    ensures { result ≡ rate_of problem.now j u }
+{
+    problem.is_valid();
+    let unit = &problem.units()[u as usize];
+    let made = rate_among(&unit.outputs, j);
+    let used = rate_among(&unit.inputs, j);
+    difference(made, used)
+}
+
+fn product(rate: i64, size: i128) -> i128
+    requires { InRange (rate *ℤ size) }
+    ensures { result ≡ rate *ℤ size }
+{
+    rate as i128 * size
+}
+
+fn sum(left: i128, right: i128) -> i128
+    requires { InRange (left +ℤ right) }
+    ensures { result ≡ left +ℤ right }
+{
+    left + right
+}
+
+/// The sum with what a unit of the size moves at the rate.
+fn with_unit(made: i128, rate: i64, size: i128) -> i128
+    requires moved { rate ≢ pos 0 → InRange (rate *ℤ size) }
+    requires total { rate ≢ pos 0 → InRange (made +ℤ rate *ℤ size) }
+    ensures { result ≡ made +ℤ rate *ℤ size }
+{
+    if rate == 0 {
+        made
+    } else {
+        sum(made, product(rate, size))
+    }
+}
+
+/// What the network makes of the material less what it uses of it, in 10^-12 over its `d`. All sums are in range where they were
+/// when its flows were judged.
+pub(crate) fn flow_of(problem: &Problem, network: &Network, j: u32) -> i128
+    requires known { (u : ℕ) → has network.now.units u ≡ true → u < length problem.now.units }
+    requires steps { AreInRange (balance_steps (net_of problem.now) (size_in network.now) j (units_at (net_of problem.now) (has network.now.units) j) (pos 0)) }
+    ensures value { result ≡ balance (net_of problem.now) (has network.now.units) (size_in network.now) j }
+    ensures in_range { InRange result }
+{
+    let set = network.units();
+    set.rises();
+    let mut made = 0;
+    let mut left = set;
+    'units: loop {
+        left.rises();
+        let Some(u) = left.least() else {
+            return made;
+        };
+        made = with_unit(made, rate_at(problem, j, u), size_at(network, u));
+        left = left.without(u);
+    }
+}

@@ -1,0 +1,17 @@
+//! A network as tables of comma-separated fields, which a spreadsheet opens: its units with their sizes and fixed costs, and its
+//! materials with what is left over of each.
+//!
+//! [`unit_table`] and [`material_table`] give the bytes that `specs/Table` says, in the words of `csv` itself. All sums are those by
+//! which the flows of a network are judged, so that none leaves the range where they were.
+//!
+//! Modules: `rows`, records by the writer of `csv`; `sizes` and `flows`, the numbers; `units` and `materials`, the tables.
+#![tactic(auto)]
+
+mod flows;
+mod materials;
+mod rows;
+mod sizes;
+mod units;
+
+pub use materials::material_table;
+pub use units::unit_table;

@@ -1,0 +1,38 @@
+//! The sizes of a network's units.
+ghost use Rattle.std.specs.Prelude.{◌≡◌, IfOk, string_bytes};
+ghost use Rattle.int_rows.specs.Range.{InRange};
+ghost use Rattle.tree_rules.specs.Claim.{size_in};
+ghost use Rattle.pns_tables.specs.Table.{IsQuotient};
+
+use branch_tree::Network;
+use frac128::Frac;
+use std::alloc::{AllocError, Global};
+
+/// The size of a unit, 0 where it is not in the network, in millionths over the network's `d`.
+pub(crate) fn size_at(network: &Network, u: u32) -> i128
+    ensures value { result ≡ size_in network.now u }
+    ensures in_range { InRange result }
+{
+    network.is_sized();
+    let mut left = network.units();
+    'units: for size in network.sizes() {
+        left.rises();
+        let Some(unit) = left.least() else {
+            return 0;
+        };
+        if unit == u {
+            return *size;
+        }
+        left = left.without(unit);
+    }
+    0
+}
+
+/// The text of a number over the network's `d`, in lowest terms.
+pub(crate) fn quotient(alloc: Global, number: i128, network: &Network) -> Result<String, AllocError>
+    requires { InRange number }
+    ensures { IfOk result (λ text. IsQuotient number network.now.d (string_bytes text)) }
+{
+    network.is_sized();
+    Frac::of(number, network.d()).text(alloc)
+}
