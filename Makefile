@@ -1,12 +1,13 @@
 # `make run` prints a least-cost network of the shipped problem with the tree that proves it, `make try` does so without any proof,
-# `make check` proves and tries everything, and `make install PREFIX=DIR` puts the proved program in place as DIR/bin/pns.
+# `make check` proves and tries everything, `make install PREFIX=DIR` puts the proved program in place as DIR/bin/pns, with its manual page, the documents and the
+# completions of bash, zsh and fish, and `make uninstall PREFIX=DIR` takes them away.
 # The first build proves the program and all below it, side by side, which takes minutes; what is proved is kept.
 RT ?= rt
 PREFIX ?= /usr/local
 JOBS ?= $(shell nproc)
 SOURCES := $(shell find crates -name out -prune -o \( -name '*.rt' -o -name '*.antt' \) -print)
 
-.PHONY: run try check install
+.PHONY: run try check install uninstall
 
 run: crates/pns/out/pns
 	cd crates/pns/data && ../out/pns solve a.pns 100
@@ -23,6 +24,20 @@ crates/pns/out/pns: crates.txt $(SOURCES)
 check:
 	$(RT) ci
 
+SHARE := $(DESTDIR)$(PREFIX)/share
+BASH := $(SHARE)/bash-completion/completions
+ZSH := $(SHARE)/zsh/site-functions
+FISH := $(SHARE)/fish/vendor_completions.d
+
 install: crates/pns/out/pns
-	install -d $(DESTDIR)$(PREFIX)/bin
+	install -d $(DESTDIR)$(PREFIX)/bin $(SHARE)/man/man1 $(SHARE)/doc/pns $(BASH) $(ZSH) $(FISH)
 	install -m 755 crates/pns/out/pns $(DESTDIR)$(PREFIX)/bin/pns
+	install -m 644 docs/pns.1 $(SHARE)/man/man1/pns.1
+	install -m 644 README.md $(wildcard docs/*.md) $(SHARE)/doc/pns
+	install -m 644 extras/completions/pns.bash $(BASH)/pns
+	install -m 644 extras/completions/_pns $(ZSH)/_pns
+	install -m 644 extras/completions/pns.fish $(FISH)/pns.fish
+
+uninstall:
+	rm -f $(DESTDIR)$(PREFIX)/bin/pns $(SHARE)/man/man1/pns.1 $(BASH)/pns $(ZSH)/_pns $(FISH)/pns.fish
+	rm -rf $(SHARE)/doc/pns

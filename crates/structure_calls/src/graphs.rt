@@ -1,11 +1,11 @@
 //! What a graph tells of its arcs and exclusions, unions of structures, viable nodes and the order of structures.
 ghost use Rattle.std.specs.Prelude.{◌≡◌, ◌<◌};
 
-use crate::plants::{EXCLUDING, FIRST, RIVALS, graph_of};
-use crate::texts::{material_text, unit_text};
 use decisions::{Decided, compare_traces};
 use max_structure::{Steps, maximal, viable};
 use pgraph::{Graph, Verdict};
+use small_plants::plants::{EXCLUDING, FIRST, RIVALS, graph_of};
+use small_plants::texts::{material_text, unit_text};
 use std::alloc::Global;
 use std::cmp::Ordering;
 use std::io;

@@ -1,7 +1,7 @@
 -- What each command says, from its words and what the shelf holds.
 use Rattle.std.specs.Prelude.{◌≡◌, ◌≤◌, ◌⊎◌, ℕ, List, [], ◌∷◌, Option, Some, None, IsSomeAnd, length, codes}
 use Rattle.pns_io.specs.Outside.{HasRisen}
-use Rattle.studio_words.specs.Command.{Command, Max, Axioms, Flows, Listing, Make, Migrate, Editing, Undoing, Checking, Solving, Trial, command_of, IsFileOf, IsFileWord}
+use Rattle.studio_words.specs.Command.{Command, Max, Axioms, Flows, Listing, Make, Migrate, Editing, Undoing, Checking, Solving, Trial, Telling, command_of, IsFileOf, IsFileWord}
 use Rattle.generator.specs.Generated.{generated}
 use Rattle.problem_rules.specs.Problem.{Problem}
 use Rattle.command_files.specs.Reading.{AreHeld, GivesProblem, OnFile, file_limit}
@@ -18,6 +18,7 @@ use Rattle.flow_commands.specs.Check.{CheckWork}
 use Rattle.searches.specs.Solve.{SolveWork, CanFinish}
 use Rattle.searches.specs.Trial.{TrialWork}
 use Rattle.endings.specs.Ending.{Shelves, Says}
+use Rattle.endings.specs.Lines.{text_of}
 use Rattle.endings.specs.declared.status.Status.{Status}
 use Rattle.endings.specs.declared.status.Status.TheVariants.{Done, Refused, Usage, BadProblem, Past, Spent, Memory, BadToken, BadTree, BadEdit, NotMigrated}
 
@@ -34,6 +35,7 @@ CommandAnswers held (Undoing file script) status lines = OnFile (OnScript UndoWo
 CommandAnswers held (Checking file tree) status lines = OnFile (OnTree CheckWork held tree) held file status lines
 CommandAnswers held (Solving file budget) status lines = OnFile (SolveWork budget) held file status lines
 CommandAnswers held (Trial number units budget) status lines = TrialWork number units budget status lines
+CommandAnswers held (Telling text) status lines = (status ≡ Done) × (text ≡ text_of lines)
 
 -- words without a form are told so
 abbrev pub AnswersTo : (List ℕ → Option (List ℕ)) → Option Command → Status → List (List ℕ) → Type 0
@@ -74,6 +76,7 @@ statuses_of (Undoing file script) = Done ∷ BadEdit ∷ BadProblem ∷ Memory �
 statuses_of (Checking file tree) = Done ∷ Refused ∷ BadProblem ∷ BadTree ∷ Memory ∷ []
 statuses_of (Solving file budget) = Done ∷ Spent ∷ Past ∷ BadProblem ∷ Memory ∷ []
 statuses_of (Trial number units budget) = Done ∷ Spent ∷ Past ∷ Memory ∷ []
+statuses_of (Telling text) = Done ∷ Memory ∷ []
 
 -- nothing stops the search of the command before its end, whatever problem its file gives
 abbrev pub SearchCanFinish : (List ℕ → Option (List ℕ)) → Command → Type 0

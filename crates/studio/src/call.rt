@@ -12,7 +12,7 @@ use edit_commands::edits::{edit, undo};
 use edit_commands::make::make;
 use edit_commands::migrate::migrate;
 use endings::Status;
-use endings::say::{say, say_memory};
+use endings::say::{say, say_memory, say_text};
 use flow_commands::check::{accepted_is_best, check};
 use flow_commands::flows::flows;
 use pns_io::{Shelf, Sink};
@@ -46,6 +46,7 @@ fn perform<F: Shelf, K: Sink>(
         Command::Checking(file, tree) => check(alloc, file, tree, shelf, out),
         Command::Solving(file, budget) => solve(alloc, file, budget, shelf, out),
         Command::Trial(number, units, budget) => trial(alloc, number, units, budget, out),
+        Command::Telling(text) => say_text(out, text, Status::Done),
     }
 }
 

@@ -5,7 +5,10 @@ use Rattle.std.specs.Str.{bytes_eq}
 use Rattle.std.proofs.lemmas.Bool.{leb-true}
 use Rattle.text_rules.specs.Amount.{number_of}
 use Rattle.studio_words.specs.Numeral.{is_numeral, number_within}
-use Rattle.studio_words.specs.Command.{Command, Max, Axioms, Flows, Listing, Migrate, Editing, Undoing, Checking, Solving, command_of, on_file, made_by, tried_by, unit_names_of, count_of, seed_of, unit_count_of, years_of, budget_of, is_file_word, AreWithin}
+use Rattle.help_texts.specs.Lines.{text_of}
+use Rattle.help_texts.specs.Overview.{overview, version}
+use Rattle.help_texts.specs.Pages.{page_of, page_text}
+use Rattle.studio_words.specs.Command.{Command, Max, Axioms, Flows, Listing, Migrate, Editing, Undoing, Checking, Solving, Telling, is_help_word, is_version_word, command_of, on_file, made_by, tried_by, unit_names_of, count_of, seed_of, unit_count_of, years_of, budget_of, is_file_word, AreWithin}
 
 numeral_within : (least most : ℕ) (word : List ℕ) → IfSome (number_within least most word) (λ n. (least ≤ n) × (n ≤ most))
 numeral_within least most word = at (is_numeral word) (nat_le least (number_of word)) (nat_le (number_of word) most) refl refl
@@ -51,6 +54,10 @@ listing_within : (file after : List ℕ) (count : Option ℕ) → IfSome (option
 listing_within file after None = tt
 listing_within file after (Some count) = tt
 
+told_within : (page : Option (List (List ℕ))) → IfSome (option_map Telling (option_map text_of page)) AreWithin
+told_within None = tt
+told_within (Some lines) = (lines, refl)
+
 on_file_within : (word file second : List ℕ) → IfSome (on_file word file second) AreWithin
 on_file_within word file second =
     either_within (bytes_eq word (codes "axioms")) (option_map (Axioms file) (unit_names_of second)) _ (axioms_within file (unit_names_of second))
@@ -63,8 +70,12 @@ on_file_within word file second =
 
 pub words_within : (words : List (List ℕ)) → IfSome (command_of words) AreWithin
 words_within [] = tt
-words_within (word ∷ []) = tt
-words_within (word ∷ file ∷ []) = either_within (bytes_eq word (codes "max") && is_file_word file) (Some (Max file)) None tt tt
+words_within (word ∷ []) =
+    either_within (is_help_word word) (Some (Telling (text_of overview))) _ (overview, refl)
+    (either_within (is_version_word word) (Some (Telling (text_of version))) None (version, refl) tt)
+words_within (word ∷ file ∷ []) =
+    either_within (bytes_eq word (codes "help")) (option_map Telling (page_text file)) _ (told_within (page_of file))
+    (either_within (bytes_eq word (codes "max") && is_file_word file) (Some (Max file)) None tt tt)
 words_within (word ∷ first ∷ second ∷ []) =
     either_within (bytes_eq word (codes "make")) (made_by (seed_of first) (unit_count_of second)) _
     (made_within (seed_of first) (unit_count_of second) (numeral_within 1 128 second))
@@ -76,11 +87,10 @@ words_within (word ∷ first ∷ second ∷ third ∷ []) =
     (listing_within first second (count_of third)) tt)
 words_within (a ∷ b ∷ c ∷ d ∷ e ∷ words) = tt
 
--- fewer than two words, or more than four, have no form
-pub short_form : (words : List (String Global)) → length words < 2 → None ≡ command_of (map string_bytes words)
+-- no word, or more than four, have no form
+pub short_form : (words : List (String Global)) → length words < 1 → None ≡ command_of (map string_bytes words)
 short_form [] few = refl
-short_form (word ∷ []) few = refl
-short_form (a ∷ b ∷ words) few = absurd (omega (arith, few))
+short_form (word ∷ words) few = absurd (omega (arith, few))
 
 pub long_form : (words : List (String Global)) → 5 ≤ length words → None ≡ command_of (map string_bytes words)
 long_form [] many = absurd (omega (arith, many))

@@ -1,11 +1,15 @@
 -- The commands, and the forms of the words that call them.
-use Rattle.std.specs.Prelude.{◌≡◌, ◌≤◌, ◌⊎◌, ◌==◌, ◌&&◌, ℕ, Bool, List, [], ◌∷◌, Option, Some, None, IsSomeAnd, length, codes, not, option_map, if◌then◌else◌}
+use Rattle.std.specs.Prelude.{◌≡◌, ◌≤◌, ◌⊎◌, ◌==◌, ◌&&◌, ◌||◌, ℕ, Bool, List, [], ◌∷◌, Option, Some, None, IsSomeAnd, length, codes, not, option_map, if◌then◌else◌}
 use Rattle.std.specs.List.{list_all, slice_split}
 use Rattle.std.specs.Str.{bytes_eq, byte}
 use Rattle.problem_rules.specs.Names.{is_name, has_double}
+use Rattle.help_texts.specs.Lines.{text_of, IsOfLines}
+use Rattle.help_texts.specs.Overview.{overview, version}
+use Rattle.help_texts.specs.Pages.{page_text}
 use Rattle.studio_words.specs.Numeral.{number_within}
 
--- a command with its words: FILE, the names of UNITS, AFTER and COUNT, NUMBER and the count of units, YEARS, SCRIPT, TREE, BUDGET
+-- a command with its words: FILE, the names of UNITS, AFTER and COUNT, NUMBER and the count of units, YEARS, SCRIPT, TREE, BUDGET;
+-- or the text of the program itself that they ask for
 pub data Command : Type 0 where
   Max : List ℕ → Command
   Axioms : List ℕ → List (List ℕ) → Command
@@ -18,6 +22,7 @@ pub data Command : Type 0 where
   Checking : List ℕ → List ℕ → Command
   Solving : List ℕ → ℕ → Command
   Trial : ℕ → ℕ → ℕ → Command
+  Telling : List ℕ → Command
 
 -- the names of UNITS: none for `-`, else what the commas part, which are names and distinct
 abbrev pub unit_names_of : List ℕ → Option (List (List ℕ))
@@ -75,9 +80,27 @@ on_file word file second =
     else if bytes_eq word (codes "solve") then option_map (Solving file) (budget_of second)
     else with_file word file second
 
+-- help and the version, by any of their spellings
+abbrev pub is_help_word : List ℕ → Bool
+is_help_word word = bytes_eq word (codes "help") || bytes_eq word (codes "--help") || bytes_eq word (codes "-h")
+
+abbrev pub is_version_word : List ℕ → Bool
+is_version_word word = bytes_eq word (codes "version") || bytes_eq word (codes "--version") || bytes_eq word (codes "-V")
+
+-- what a word asks for that stands alone
+abbrev pub alone : List ℕ → Option Command
+alone word =
+    if is_help_word word then Some (Telling (text_of overview))
+    else if is_version_word word then Some (Telling (text_of version))
+    else None
+
 -- the command that the words are, if they have a form
 abbrev pub command_of : List (List ℕ) → Option Command
-command_of (word ∷ file ∷ []) = if bytes_eq word (codes "max") && is_file_word file then Some (Max file) else None
+command_of (word ∷ []) = alone word
+command_of (word ∷ file ∷ []) =
+    if bytes_eq word (codes "help") then option_map Telling (page_text file)
+    else if bytes_eq word (codes "max") && is_file_word file then Some (Max file)
+    else None
 command_of (word ∷ first ∷ second ∷ []) =
     if bytes_eq word (codes "make") then made_by (seed_of first) (unit_count_of second)
     else if is_file_word first then on_file word first second
@@ -101,13 +124,15 @@ IsFileOf (Undoing file script) name = (name ≡ file) ⊎ (name ≡ script)
 IsFileOf (Checking file tree) name = (name ≡ file) ⊎ (name ≡ tree)
 IsFileOf (Solving file budget) name = name ≡ file
 IsFileOf (Trial number units budget) name = ⊥
+IsFileOf (Telling text) name = ⊥
 
--- the numbers of a command are those that its words may be
+-- the numbers of a command are those that its words may be, and a text of the program is one of whole lines
 abbrev pub AreWithin : Command → Type 0
 AreWithin (Make number units) = (1 ≤ units) × (units ≤ 128)
 AreWithin (Migrate file years) = (1 ≤ years) × (years ≤ 100)
 AreWithin (Solving file budget) = (1 ≤ budget) × (budget ≤ 1000000)
 AreWithin (Trial number units budget) = ((1 ≤ units) × (units ≤ 128)) × ((1 ≤ budget) × (budget ≤ 1000000))
+AreWithin (Telling text) = IsOfLines text
 AreWithin command = Unit {0}
 
 abbrev pub IsFileWord : List (List ℕ) → List ℕ → Type 0

@@ -1,10 +1,12 @@
 //! The words of a call.
 ghost use Rattle.std.specs.Prelude.{◌≡◌, ◌∷◌, [], IfOk, map, option_map, string_bytes};
-ghost use Rattle.studio_words.specs.Command.{command_of, on_file, with_file, made_by, tried_by, unit_names_of, count_of, seed_of, unit_count_of, years_of, budget_of, Axioms, Flows, Listing, Migrate, Solving};
+ghost use Rattle.studio_words.specs.Command.{command_of, on_file, with_file, made_by, tried_by, unit_names_of, count_of, seed_of, unit_count_of, years_of, budget_of, alone, Axioms, Flows, Listing, Migrate, Solving, Telling};
+ghost use Rattle.help_texts.specs.Pages.{page_text};
 ghost use Rattle.studio_words.specs.View.{command_view};
 
 use crate::number::number_within;
 use crate::unit_names::UnitNames;
+use help_texts::{overview_text, page_on, version_text};
 use std::alloc::{AllocError, Global};
 
 /// A command with its words.
@@ -21,6 +23,8 @@ pub enum Command<'a> {
     Checking(&'a str, &'a str),
     Solving(&'a str, u64),
     Trial(u64, u64, u64),
+    /// A text of the program itself: help, or the version.
+    Telling(&'static [u8]),
 }
 
 /// The command that the words are, if they have a form.
@@ -28,6 +32,7 @@ pub fn command_of(alloc: Global, words: &[String]) -> Result<Option<Command<'_>>
     ensures { IfOk result (λ found. option_map command_view found ≡ command_of (map string_bytes words.now)) }
 {
     match words {
+        [word] => Ok(alone(word.as_str())),
         [word, file] => Ok(of_two(word.as_str(), file.as_str())),
         [word, first, second] => of_three(alloc, word.as_str(), first.as_str(), second.as_str()),
         [word, first, second, third] => Ok(of_four(
@@ -40,10 +45,31 @@ pub fn command_of(alloc: Global, words: &[String]) -> Result<Option<Command<'_>>
     }
 }
 
+fn alone<'a>(word: &str) -> Option<Command<'a>>
+    ensures { option_map command_view result ≡ alone word.now }
+{
+    if word == "help" || word == "--help" || word == "-h" {
+        Some(Command::Telling(overview_text()))
+    } else if word == "version" || word == "--version" || word == "-V" {
+        Some(Command::Telling(version_text()))
+    } else {
+        None
+    }
+}
+
+fn help_on<'a>(topic: &str) -> Option<Command<'a>>
+    ensures { option_map command_view result ≡ option_map Telling (page_text topic.now) }
+{
+    let page = page_on(topic)?;
+    Some(Command::Telling(page))
+}
+
 fn of_two<'a>(word: &str, file: &'a str) -> Option<Command<'a>>
     ensures { option_map command_view result ≡ command_of (word.now ∷ file.now ∷ []) }
 {
-    if word == "max" && !file.is_empty() {
+    if word == "help" {
+        help_on(file)
+    } else if word == "max" && !file.is_empty() {
         Some(Command::Max(file))
     } else {
         None

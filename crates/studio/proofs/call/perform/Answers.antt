@@ -1,12 +1,14 @@
-use Rattle.std.proofs.Common.{sym, ap, subst, ◌≤◌, ℕ, List}
-use Rattle.studio_words.specs.Command.{Command, Max, Axioms, Flows, Listing, Migrate, Editing, Undoing, Checking, Solving, AreWithin}
+use Rattle.std.proofs.Common.{refl, sym, ap, subst, ◌≤◌, ℕ, List}
+use Rattle.studio_words.specs.Command.{Command, Max, Axioms, Flows, Listing, Migrate, Editing, Undoing, Checking, Solving, Telling, AreWithin}
 use Rattle.studio_words.specs.View.{command_view}
 use Rattle.endings.specs.Ending.{Shelves}
 use Rattle.studio.specs.Answers.{CommandSays}
 use Rattle.edit_commands.specs.Make.{MakeWork}
 use Rattle.searches.specs.Trial.{TrialWork}
 use Rattle.endings.specs.declared.status.Status.{Status}
-use Rattle.endings.proofs.Ending.{Ends-map, Says-told}
+use Rattle.help_texts.specs.Lines.{IsOfLines}
+use Rattle.endings.specs.declared.status.Status.TheVariants.{Done}
+use Rattle.endings.proofs.Ending.{Ends-map, Says-told, only_in}
 use Rattle.studio.proofs.call.perform.Goals as goal
 
 pub returns-in-Max : goal.returns-in-Max
@@ -108,3 +110,14 @@ returns-in-Trial g c =
     (λ s t h. subst (λ (v : Command). CommandSays shelves v s t) (sym (ap command_view c.in-Trial.is))
     (Says-told work work _ shelves (λ s lines h. h) s t h))
     (λ r. r) c.trial.ensures
+
+pub returns-in-Telling : goal.returns-in-Telling
+returns-in-Telling g c =
+    let shelves : Shelves = record { held = g.F.Shelf.held c.args.shelf.now; before = g.F.Shelf.faults c.args.shelf.now; after = g.F.Shelf.faults c.args.shelf.now } in
+    let Q : Status → List ℕ → Type 0 = CommandSays shelves (command_view c.args.command) in
+    let text : List ℕ = c.in-Telling.text.now in
+    let whole : IsOfLines text = subst AreWithin (ap command_view c.in-Telling.is) c.requires in
+    Ends-map _ Q _ _ _ _ _
+    (λ s t h. subst (λ (v : Command). CommandSays shelves v s t) (sym (ap command_view c.in-Telling.is))
+    (only_in (CommandSays shelves (Telling text)) Done text (whole.0, (refl, whole.1), whole.1) s t h))
+    (λ r. r) c.say_text.ensures

@@ -1,11 +1,11 @@
 use Rattle.std.proofs.Common.{length}
 use Rattle.std.proofs.lemmas.Bool.{ltb-true, ltb-false}
 use Rattle.studio_words.proofs.Within.{short_form, long_form}
-use Rattle.studio_words.proofs.command.command_of.Goals.{in_default-via-then-words-lt2, in_default-via-else-words-lt2+else-words-lt3+else-words-lt4+else-words-lt5}
+use Rattle.studio_words.proofs.command.command_of.Goals.{in_default-via-then-words-lt1, in_default-via-else-words-lt1+else-words-lt2+else-words-lt3+else-words-lt4+else-words-lt5}
 use Rattle.studio_words.proofs.command.command_of.Goals as goal
 
 pub returns-in_default : goal.returns-in_default
 returns-in_default c = elim c.in_default.branch [
-  | in_default-via-then-words-lt2 w ↦ short_form c.args.words.now (ltb-true (length c.args.words.now) 2 w.if-words-lt2-1.true)
-  | in_default-via-else-words-lt2+else-words-lt3+else-words-lt4+else-words-lt5 w ↦ long_form c.args.words.now (ltb-false (length c.args.words.now) 5 w.if-words-lt5-1.false)
+  | in_default-via-then-words-lt1 w ↦ short_form c.args.words.now (ltb-true (length c.args.words.now) 1 w.if-words-lt1-1.true)
+  | in_default-via-else-words-lt1+else-words-lt2+else-words-lt3+else-words-lt4+else-words-lt5 w ↦ long_form c.args.words.now (ltb-false (length c.args.words.now) 5 w.if-words-lt5-1.false)
 ]

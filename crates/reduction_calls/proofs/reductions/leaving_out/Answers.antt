@@ -1,7 +1,7 @@
 use Rattle.std.proofs.Common.{ℕ, false, refl, sym, ap, ◌∙◌}
 use Rattle.std.proofs.lemmas.Bool.{both_ways}
 use Rattle.number_sets.specs.Sets.{has}
-use Rattle.structure_calls.proofs.reductions.leaving_out.Goals as goal
+use Rattle.reduction_calls.proofs.reductions.leaving_out.Goals as goal
 
 pub returns-clause-sound : goal.returns-clause-sound
 returns-clause-sound c =

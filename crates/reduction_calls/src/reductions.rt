@@ -5,10 +5,10 @@ ghost use Rattle.pgraph.specs.Tables.{shape};
 ghost use Rattle.pgraph.specs.View.{node_of};
 ghost use Rattle.neutral_extension.specs.Candidates.{AreMakersOf};
 
-use crate::plants::{EXCLUDING, FIRST, RIVALS, graph_of};
-use crate::texts::unit_text;
 use neutral_extension::{Extended, Makers, extend, extend_with};
 use pgraph::Graph;
+use small_plants::plants::{EXCLUDING, FIRST, RIVALS, graph_of};
+use small_plants::texts::unit_text;
 use std::alloc::{AllocError, Global};
 use std::io;
 use unit_sets::{Node, Step, UnitSet};

@@ -4,7 +4,7 @@ use Rattle.number_sets.specs.Sets.{has}
 use Rattle.number_sets.proofs.SetLemmas.{has-meet}
 use Rattle.pns_rules.proofs.StructureLemmas.{is_made-from}
 use Rattle.pgraph.specs.Tables.{shape}
-use Rattle.structure_calls.proofs.reductions.sound_node.Goals as goal
+use Rattle.reduction_calls.proofs.reductions.sound_node.Goals as goal
 
 pub returns : goal.returns
 returns c =

@@ -1,0 +1,28 @@
+-- What the words `help` and `version` tell: the commands on one screen, and which program this is.
+use Rattle.std.specs.Prelude.{ℕ, List, [], ◌∷◌, codes}
+
+unfoldable pub overview : List (List ℕ)
+overview =
+    codes "pns: which units of a plant to build? Exact answers, with proofs (P-graph)." ∷
+    codes "A FILE is a plant, PNS_problem_v1. Texts go to standard output; 0 is success." ∷
+    codes "" ∷
+    codes "  max FILE                       the maximal structure" ∷
+    codes "  axioms FILE UNITS              do these units meet the axioms S1 to S5?" ∷
+    codes "  list FILE AFTER COUNT          those that do; AFTER is start at first" ∷
+    codes "  flows FILE UNITS               the least cost of these units, and their sizes" ∷
+    codes "  solve FILE BUDGET              a network of least cost and its proof: a TREE" ∷
+    codes "  check FILE TREE                does the tree prove what it claims?" ∷
+    codes "  edit FILE SCRIPT               the plant after edits; the way back: undo" ∷
+    codes "  migrate FILE YEARS             the script from yearly costs to investments" ∷
+    codes "  make NUMBER UNITS              a made-up plant; trial solves it" ∷
+    codes "  help COMMAND, help status      the words of a command, what a status asks for" ∷
+    codes "  version                        which program this is" ∷
+    codes "" ∷
+    codes "Begin:  pns solve a.pns 10000 > tree        pns check a.pns tree" ∷
+    []
+
+unfoldable pub version : List (List ℕ)
+version =
+    codes "pns 0.1.0" ∷
+    codes "PNS_problem_v1 PNS_tree_v1 PNS_edits_v1" ∷
+    []

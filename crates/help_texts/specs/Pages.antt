@@ -1,0 +1,31 @@
+-- The page on each topic: a command, by its first word, or the statuses.
+use Rattle.std.specs.Prelude.{ℕ, List, Option, Some, None, codes, option_map, if◌then◌else◌}
+use Rattle.std.specs.Str.{bytes_eq}
+use Rattle.help_texts.specs.Lines.{text_of}
+use Rattle.help_texts.specs.Structures.{max_page, axioms_page, list_page}
+use Rattle.help_texts.specs.Flows.{flows_page, check_page}
+use Rattle.help_texts.specs.Searches.{solve_page, trial_page}
+use Rattle.help_texts.specs.Edits.{edit_page, undo_page, migrate_page, make_page}
+use Rattle.help_texts.specs.Program.{help_page, version_page, status_page}
+
+unfoldable pub page_of : List ℕ → Option (List (List ℕ))
+page_of topic =
+    if bytes_eq topic (codes "max") then Some max_page
+    else if bytes_eq topic (codes "axioms") then Some axioms_page
+    else if bytes_eq topic (codes "list") then Some list_page
+    else if bytes_eq topic (codes "flows") then Some flows_page
+    else if bytes_eq topic (codes "solve") then Some solve_page
+    else if bytes_eq topic (codes "check") then Some check_page
+    else if bytes_eq topic (codes "edit") then Some edit_page
+    else if bytes_eq topic (codes "undo") then Some undo_page
+    else if bytes_eq topic (codes "migrate") then Some migrate_page
+    else if bytes_eq topic (codes "make") then Some make_page
+    else if bytes_eq topic (codes "trial") then Some trial_page
+    else if bytes_eq topic (codes "help") then Some help_page
+    else if bytes_eq topic (codes "version") then Some version_page
+    else if bytes_eq topic (codes "status") then Some status_page
+    else None
+
+-- its text
+abbrev pub page_text : List ℕ → Option (List ℕ)
+page_text topic = option_map text_of (page_of topic)

@@ -1,0 +1,53 @@
+-- The pages on searches.
+use Rattle.std.specs.Prelude.{ℕ, List, [], ◌∷◌, codes}
+
+unfoldable pub solve_page : List (List ℕ)
+solve_page =
+    codes "pns solve FILE BUDGET" ∷
+    codes "Finds an allowed network of least cost in one year and a tree that proves it." ∷
+    codes "Keep the text: check reads it." ∷
+    codes "  FILE    the plant, PNS_problem_v1" ∷
+    codes "  BUDGET  the most nodes of the tree, 1 to 1000000; 10000 is a good try" ∷
+    codes "Prints a tree text. Lines 2 to 4 are the network; sizes and cost as in pns help" ∷
+    codes "flows. Or infeasible: no allowed network meets the bounds." ∷
+    codes "Ends with" ∷
+    codes "  0   The text is out, whole." ∷
+    codes "  4   a tree text that ends with past, nonbasic and place lines: a number on the" ∷
+    codes "      way left the range of 128 bits; the plant need not be wrong. Write rates" ∷
+    codes "      and costs with fewer digits, or bounds and capacities nearer to what can" ∷
+    codes "      come, and call again." ∷
+    codes "  5   a tree text that ends with a line spent: BUDGET was reached. The text" ∷
+    codes "      claims the cheapest network found so far, or unknown, and proves it but" ∷
+    codes "      for its open leaves. Call again with a greater BUDGET." ∷
+    codes "  2, 3, 6, 7, 8, 12, 20: see pns help status" ∷
+    codes "Example" ∷
+    codes "  pns solve a.pns 100 > tree" ∷
+    []
+
+unfoldable pub trial_page : List (List ℕ)
+trial_page =
+    codes "pns trial NUMBER UNITS BUDGET" ∷
+    codes "Makes the plant of pns make NUMBER UNITS, solves it and sums up." ∷
+    codes "  NUMBER  a number, 0 to 18446744073709551615; the same one makes the same plant" ∷
+    codes "  UNITS   how many units, 1 to 128" ∷
+    codes "  BUDGET  the most nodes of the tree, 1 to 1000000; 10000 is a good try" ∷
+    codes "Prints units, maximal (units of the maximal structure), network NAMES, cost N D" ∷
+    codes "(N / D / 10^18), nodes." ∷
+    codes "Ends with" ∷
+    codes "  0   The text is out, whole." ∷
+    codes "  4   a tree text that ends with past, nonbasic and place lines: a number on the" ∷
+    codes "      way left the range of 128 bits; the plant need not be wrong. Write rates" ∷
+    codes "      and costs with fewer digits, or bounds and capacities nearer to what can" ∷
+    codes "      come, and call again." ∷
+    codes "  5   a tree text that ends with a line spent: BUDGET was reached. The text" ∷
+    codes "      claims the cheapest network found so far, or unknown, and proves it but" ∷
+    codes "      for its open leaves. Call again with a greater BUDGET." ∷
+    codes "  2, 7, 8, 20: see pns help status" ∷
+    codes "Example" ∷
+    codes "  pns trial 0 3 100" ∷
+    codes "  units 3" ∷
+    codes "  maximal 3" ∷
+    codes "  network U0 U1" ∷
+    codes "  cost 125000000000000000000 1" ∷
+    codes "  nodes 4" ∷
+    []

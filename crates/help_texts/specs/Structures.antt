@@ -1,0 +1,58 @@
+-- The pages on units and structures.
+use Rattle.std.specs.Prelude.{ℕ, List, [], ◌∷◌, codes}
+
+unfoldable pub max_page : List (List ℕ)
+max_page =
+    codes "pns max FILE" ∷
+    codes "Finds the maximal structure: all units that some network can have. Units that" ∷
+    codes "are missing here can never be built." ∷
+    codes "  FILE  the plant, PNS_problem_v1" ∷
+    codes "Prints units and their names, materials and their names, in file order; or none" ∷
+    codes "where no set of units meets the axioms." ∷
+    codes "Ends with" ∷
+    codes "  0   The text is out, whole." ∷
+    codes "  2, 3, 6, 7, 8, 12, 20: see pns help status" ∷
+    codes "Example" ∷
+    codes "  pns max a.pns" ∷
+    codes "  units U1 U2 U3" ∷
+    codes "  materials A B C P" ∷
+    []
+
+unfoldable pub axioms_page : List (List ℕ)
+axioms_page =
+    codes "pns axioms FILE UNITS" ∷
+    codes "Judges one choice of units by the axioms S1 to S5. Exclusions are not asked." ∷
+    codes "  FILE   the plant, PNS_problem_v1" ∷
+    codes "  UNITS  names parted by commas without spaces, or - for no units" ∷
+    codes "Prints meets." ∷
+    codes "Ends with" ∷
+    codes "  0   The text is out, whole." ∷
+    codes "  1   breaks AXIOM NAME: the first broken axiom. S1: no unit has the product." ∷
+    codes "      S2: the raw material is made, or another material is made by none. S3: no" ∷
+    codes "      such unit. S4: no way from the unit to a product. Change UNITS." ∷
+    codes "  2, 3, 6, 7, 8, 12, 20: see pns help status" ∷
+    codes "Example" ∷
+    codes "  pns axioms a.pns U1,U2" ∷
+    codes "  breaks S1 P" ∷
+    []
+
+unfoldable pub list_page : List (List ℕ)
+list_page =
+    codes "pns list FILE AFTER COUNT" ∷
+    codes "Lists the structures that meet the axioms and the exclusions, in a fixed order." ∷
+    codes "To go on, call again with the last token." ∷
+    codes "  FILE   the plant, PNS_problem_v1" ∷
+    codes "  AFTER  start, or the token of the structure to go on behind" ∷
+    codes "  COUNT  the most lines to print, 1 to 1000000000" ∷
+    codes "Prints a line TOKEN NAMES for each structure; then end, or more TOKEN where" ∷
+    codes "others follow." ∷
+    codes "Ends with" ∷
+    codes "  0   The text is out, whole." ∷
+    codes "  9   bad token: AFTER is neither start nor the token of a structure of this" ∷
+    codes "      plant." ∷
+    codes "  2, 3, 6, 7, 8, 12, 20: see pns help status" ∷
+    codes "Example" ∷
+    codes "  pns list a.pns start 1" ∷
+    codes "  00000000000000000000000000000005 U1 U3" ∷
+    codes "  more 00000000000000000000000000000005" ∷
+    []

@@ -1,0 +1,59 @@
+//! The pages on flows, and proofs that are judged.
+ghost use Rattle.std.specs.Prelude.{◌≡◌};
+ghost use Rattle.help_texts.specs.Lines.{text_of};
+ghost use Rattle.help_texts.specs.Flows.{flows_page, check_page};
+
+/// The page on `flows`.
+#[tactic(auto, unfolding(crate::specs::Flows::flows_page))]
+pub fn flows_page() -> &'static [u8]
+    ensures { result.now ≡ text_of flows_page }
+{
+    b"pns flows FILE UNITS
+Finds the least cost of one choice of units and the sizes that have it.
+Exclusions are not asked.
+  FILE   the plant, PNS_problem_v1
+  UNITS  names parted by commas without spaces, or - for no units
+Prints network NAMES; sizes D Z Z: a size is Z / D / 10^6; cost N: the cost in
+one year is N / D / G / 10^18, G the payout period; bound D Y Y: a proof. Or
+infeasible and a proof, where these units cannot meet the bounds.
+Ends with
+  0   The text is out, whole.
+  1   breaks AXIOM NAME: the units break an axiom; see pns help axioms.
+  4   nonbasic and place lines: a number on the way left the range of 128 bits;
+      the plant need not be wrong. Write rates and costs with fewer digits, or
+      bounds and capacities nearer to what can come, and call again.
+  2, 3, 6, 7, 8, 12, 20: see pns help status
+Example
+  pns flows a.pns U1,U3
+  network U1 U3
+  sizes 1 20000000 20000000
+  cost 75000000000000000000
+  bound 1 0 3000000 3000000
+"
+}
+
+/// The page on `check`.
+#[tactic(auto, unfolding(crate::specs::Flows::check_page))]
+pub fn check_page() -> &'static [u8]
+    ensures { result.now ≡ text_of check_page }
+{
+    b"pns check FILE TREE
+Judges whether a tree proves its claim. It needs nothing of the search and
+trusts nobody.
+  FILE  the plant, PNS_problem_v1
+  TREE  a tree text, as solve prints it
+Prints accepted: the claimed network is one of least cost, or there is none as
+claimed.
+Ends with
+  0   The text is out, whole.
+  1   refused claim WHY, or refused node N WHY: the tree does not prove its
+      claim on this plant. A tree with status 4 or 5 has open leaves and is
+      refused (unknown or open): solve with a greater budget.
+  10  tree line L KIND: line L of TREE has a fault; docs/FORMATS.md lists the
+      kinds. Have the text printed anew.
+  2, 3, 6, 7, 8, 12, 20: see pns help status
+Example
+  pns check a.pns tree
+  accepted
+"
+}

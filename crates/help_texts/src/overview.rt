@@ -1,0 +1,38 @@
+//! The commands on one screen, and which program this is.
+ghost use Rattle.std.specs.Prelude.{◌≡◌};
+ghost use Rattle.help_texts.specs.Lines.{text_of};
+ghost use Rattle.help_texts.specs.Overview.{overview, version};
+
+/// The commands on one screen.
+#[tactic(auto, unfolding(crate::specs::Overview::overview))]
+pub fn overview_text() -> &'static [u8]
+    ensures { result.now ≡ text_of overview }
+{
+    b"pns: which units of a plant to build? Exact answers, with proofs (P-graph).
+A FILE is a plant, PNS_problem_v1. Texts go to standard output; 0 is success.
+
+  max FILE                       the maximal structure
+  axioms FILE UNITS              do these units meet the axioms S1 to S5?
+  list FILE AFTER COUNT          those that do; AFTER is start at first
+  flows FILE UNITS               the least cost of these units, and their sizes
+  solve FILE BUDGET              a network of least cost and its proof: a TREE
+  check FILE TREE                does the tree prove what it claims?
+  edit FILE SCRIPT               the plant after edits; the way back: undo
+  migrate FILE YEARS             the script from yearly costs to investments
+  make NUMBER UNITS              a made-up plant; trial solves it
+  help COMMAND, help status      the words of a command, what a status asks for
+  version                        which program this is
+
+Begin:  pns solve a.pns 10000 > tree        pns check a.pns tree
+"
+}
+
+/// The program, its version, and the formats of its files.
+#[tactic(auto, unfolding(crate::specs::Overview::version))]
+pub fn version_text() -> &'static [u8]
+    ensures { result.now ≡ text_of version }
+{
+    b"pns 0.1.0
+PNS_problem_v1 PNS_tree_v1 PNS_edits_v1
+"
+}

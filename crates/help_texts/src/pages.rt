@@ -1,0 +1,33 @@
+//! The page on each topic.
+ghost use Rattle.std.specs.Prelude.{◌≡◌, option_map};
+ghost use Rattle.help_texts.specs.Pages.{page_text};
+
+use crate::edits::{edit_page, make_page, migrate_page, undo_page};
+use crate::flows::{check_page, flows_page};
+use crate::program::{help_page, status_page, version_page};
+use crate::searches::{solve_page, trial_page};
+use crate::structures::{axioms_page, list_page, max_page};
+
+/// The page on a command, by its first word, or on the statuses.
+#[tactic(auto, unfolding(crate::specs::Pages::page_of))]
+pub fn page_on(topic: &str) -> Option<&'static [u8]>
+    ensures { option_map (λ page. page.now) result ≡ page_text topic.now }
+{
+    match topic {
+        "max" => Some(max_page()),
+        "axioms" => Some(axioms_page()),
+        "list" => Some(list_page()),
+        "flows" => Some(flows_page()),
+        "solve" => Some(solve_page()),
+        "check" => Some(check_page()),
+        "edit" => Some(edit_page()),
+        "undo" => Some(undo_page()),
+        "migrate" => Some(migrate_page()),
+        "make" => Some(make_page()),
+        "trial" => Some(trial_page()),
+        "help" => Some(help_page()),
+        "version" => Some(version_page()),
+        "status" => Some(status_page()),
+        _ => None,
+    }
+}

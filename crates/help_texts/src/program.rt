@@ -1,0 +1,69 @@
+//! The pages on the program itself.
+ghost use Rattle.std.specs.Prelude.{◌≡◌};
+ghost use Rattle.help_texts.specs.Lines.{text_of};
+ghost use Rattle.help_texts.specs.Program.{help_page, version_page, status_page};
+
+/// The page on `help`.
+#[tactic(auto, unfolding(crate::specs::Program::help_page))]
+pub fn help_page() -> &'static [u8]
+    ensures { result.now ≡ text_of help_page }
+{
+    b"pns help
+pns help COMMAND
+Tells the commands, or one of them. --help and -h are help.
+  COMMAND  the first word of a command, or status
+Prints a text of one screen, or of one command.
+Ends with
+  0   The text is out, whole.
+  2, 7, 8, 20: see pns help status
+Example
+  pns help solve
+"
+}
+
+/// The page on `version`.
+#[tactic(auto, unfolding(crate::specs::Program::version_page))]
+pub fn version_page() -> &'static [u8]
+    ensures { result.now ≡ text_of version_page }
+{
+    b"pns version
+Tells which program this is. --version and -V are version.
+Prints pns and its version; the formats that it reads and prints.
+Ends with
+  0   The text is out, whole.
+  2, 7, 8, 20: see pns help status
+Example
+  pns version
+  pns 0.1.0
+  PNS_problem_v1 PNS_tree_v1 PNS_edits_v1
+"
+}
+
+/// The page on statuses, those that all commands share.
+#[tactic(auto, unfolding(crate::specs::Program::status_page))]
+pub fn status_page() -> &'static [u8]
+    ensures { result.now ≡ text_of status_page }
+{
+    b"The status is what the shell shows with: echo $?
+
+  0   the text of the command is out, whole.
+  2   usage: the words have no form of pns help, or a number is beyond its
+      limit. Nothing was read. Compare with pns help COMMAND.
+  3   problem line L KIND: line L of FILE has a fault of this kind, the first
+      one. docs/FORMATS.md lists the kinds. Mend the line and call again. A line
+      behind the last one: no material is a product.
+  6   read fault NAME: this file cannot be read. Look at its path and its
+      rights.
+  7   nothing more: the output took no more, and what is out is only the front
+      of the text. Make room and call again.
+  8   memory: there was not enough. Lines before this one are only the front of
+      the text. Free some, or take a smaller plant or budget.
+  12  too long NAME: the file has more bytes than its limit, 268,435,456 for a
+      TREE and 4,194,304 for the others.
+  20  nothing: a word is not UTF-8.
+
+Of the other statuses each command tells its own: pns help COMMAND. 1 refuses
+what was handed in, 4 and 5 are searches that did not end, 9, 10, 11 and 16 name
+a word or a line that does not fit.
+"
+}

@@ -1,0 +1,63 @@
+//! The pages on searches.
+ghost use Rattle.std.specs.Prelude.{◌≡◌};
+ghost use Rattle.help_texts.specs.Lines.{text_of};
+ghost use Rattle.help_texts.specs.Searches.{solve_page, trial_page};
+
+/// The page on `solve`.
+#[tactic(auto, unfolding(crate::specs::Searches::solve_page))]
+pub fn solve_page() -> &'static [u8]
+    ensures { result.now ≡ text_of solve_page }
+{
+    b"pns solve FILE BUDGET
+Finds an allowed network of least cost in one year and a tree that proves it.
+Keep the text: check reads it.
+  FILE    the plant, PNS_problem_v1
+  BUDGET  the most nodes of the tree, 1 to 1000000; 10000 is a good try
+Prints a tree text. Lines 2 to 4 are the network; sizes and cost as in pns help
+flows. Or infeasible: no allowed network meets the bounds.
+Ends with
+  0   The text is out, whole.
+  4   a tree text that ends with past, nonbasic and place lines: a number on the
+      way left the range of 128 bits; the plant need not be wrong. Write rates
+      and costs with fewer digits, or bounds and capacities nearer to what can
+      come, and call again.
+  5   a tree text that ends with a line spent: BUDGET was reached. The text
+      claims the cheapest network found so far, or unknown, and proves it but
+      for its open leaves. Call again with a greater BUDGET.
+  2, 3, 6, 7, 8, 12, 20: see pns help status
+Example
+  pns solve a.pns 100 > tree
+"
+}
+
+/// The page on `trial`.
+#[tactic(auto, unfolding(crate::specs::Searches::trial_page))]
+pub fn trial_page() -> &'static [u8]
+    ensures { result.now ≡ text_of trial_page }
+{
+    b"pns trial NUMBER UNITS BUDGET
+Makes the plant of pns make NUMBER UNITS, solves it and sums up.
+  NUMBER  a number, 0 to 18446744073709551615; the same one makes the same plant
+  UNITS   how many units, 1 to 128
+  BUDGET  the most nodes of the tree, 1 to 1000000; 10000 is a good try
+Prints units, maximal (units of the maximal structure), network NAMES, cost N D
+(N / D / 10^18), nodes.
+Ends with
+  0   The text is out, whole.
+  4   a tree text that ends with past, nonbasic and place lines: a number on the
+      way left the range of 128 bits; the plant need not be wrong. Write rates
+      and costs with fewer digits, or bounds and capacities nearer to what can
+      come, and call again.
+  5   a tree text that ends with a line spent: BUDGET was reached. The text
+      claims the cheapest network found so far, or unknown, and proves it but
+      for its open leaves. Call again with a greater BUDGET.
+  2, 7, 8, 20: see pns help status
+Example
+  pns trial 0 3 100
+  units 3
+  maximal 3
+  network U0 U1
+  cost 125000000000000000000 1
+  nodes 4
+"
+}

@@ -1,0 +1,72 @@
+//! The pages on units and structures.
+ghost use Rattle.std.specs.Prelude.{◌≡◌};
+ghost use Rattle.help_texts.specs.Lines.{text_of};
+ghost use Rattle.help_texts.specs.Structures.{max_page, axioms_page, list_page};
+
+/// The page on `max`.
+#[tactic(auto, unfolding(crate::specs::Structures::max_page))]
+pub fn max_page() -> &'static [u8]
+    ensures { result.now ≡ text_of max_page }
+{
+    b"pns max FILE
+Finds the maximal structure: all units that some network can have. Units that
+are missing here can never be built.
+  FILE  the plant, PNS_problem_v1
+Prints units and their names, materials and their names, in file order; or none
+where no set of units meets the axioms.
+Ends with
+  0   The text is out, whole.
+  2, 3, 6, 7, 8, 12, 20: see pns help status
+Example
+  pns max a.pns
+  units U1 U2 U3
+  materials A B C P
+"
+}
+
+/// The page on `axioms`.
+#[tactic(auto, unfolding(crate::specs::Structures::axioms_page))]
+pub fn axioms_page() -> &'static [u8]
+    ensures { result.now ≡ text_of axioms_page }
+{
+    b"pns axioms FILE UNITS
+Judges one choice of units by the axioms S1 to S5. Exclusions are not asked.
+  FILE   the plant, PNS_problem_v1
+  UNITS  names parted by commas without spaces, or - for no units
+Prints meets.
+Ends with
+  0   The text is out, whole.
+  1   breaks AXIOM NAME: the first broken axiom. S1: no unit has the product.
+      S2: the raw material is made, or another material is made by none. S3: no
+      such unit. S4: no way from the unit to a product. Change UNITS.
+  2, 3, 6, 7, 8, 12, 20: see pns help status
+Example
+  pns axioms a.pns U1,U2
+  breaks S1 P
+"
+}
+
+/// The page on `list`.
+#[tactic(auto, unfolding(crate::specs::Structures::list_page))]
+pub fn list_page() -> &'static [u8]
+    ensures { result.now ≡ text_of list_page }
+{
+    b"pns list FILE AFTER COUNT
+Lists the structures that meet the axioms and the exclusions, in a fixed order.
+To go on, call again with the last token.
+  FILE   the plant, PNS_problem_v1
+  AFTER  start, or the token of the structure to go on behind
+  COUNT  the most lines to print, 1 to 1000000000
+Prints a line TOKEN NAMES for each structure; then end, or more TOKEN where
+others follow.
+Ends with
+  0   The text is out, whole.
+  9   bad token: AFTER is neither start nor the token of a structure of this
+      plant.
+  2, 3, 6, 7, 8, 12, 20: see pns help status
+Example
+  pns list a.pns start 1
+  00000000000000000000000000000005 U1 U3
+  more 00000000000000000000000000000005
+"
+}

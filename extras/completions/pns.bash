@@ -1,0 +1,27 @@
+# Completes the words of pns in bash: commands, then files. Written by tools/help write.
+_pns() {
+    local word=${COMP_WORDS[COMP_CWORD]} places='' place
+    if [ "$COMP_CWORD" -eq 1 ]; then
+        mapfile -t COMPREPLY < <(compgen -W 'max axioms list flows solve check edit undo migrate make trial help version' -- "$word")
+        return
+    fi
+    case ${COMP_WORDS[1]} in
+        help)
+            [ "$COMP_CWORD" -eq 2 ] && mapfile -t COMPREPLY < <(compgen -W 'max axioms list flows solve check edit undo migrate make trial help version status' -- "$word")
+            return
+            ;;
+        max) places='1' ;;
+        axioms) places='1' ;;
+        list) places='1' ;;
+        flows) places='1' ;;
+        solve) places='1' ;;
+        check) places='1 2' ;;
+        edit) places='1 2' ;;
+        undo) places='1 2' ;;
+        migrate) places='1' ;;
+    esac
+    for place in $places; do
+        [ "$place" -eq $((COMP_CWORD - 1)) ] && mapfile -t COMPREPLY < <(compgen -f -- "$word")
+    done
+}
+complete -o filenames -F _pns pns
