@@ -1,0 +1,52 @@
+//! The network of a claim.
+ghost use Rattle.std.specs.Prelude.{◌≡◌, ◌++◌, IfOk, IfErr, OnOk};
+ghost use Rattle.pns_io.specs.Outside.{HasRisen};
+ghost use Rattle.pns_rules.specs.Shape.{shape_of};
+ghost use Rattle.pgraph.specs.Tables.{shape};
+ghost use Rattle.branch_tree.specs.View.{claim_of};
+ghost use Rattle.refusal_words.specs.Words.{claim_line};
+ghost use Rattle.endings.specs.Lines.{line};
+ghost use Rattle.endings.specs.Ending.{Ends, Tells, Only, OrMemory};
+ghost use Rattle.endings.specs.declared.status.Status.TheVariants.{Refused};
+ghost use Rattle.network_commands.specs.Network.{ClaimRefusal, ClaimsNetwork};
+
+use branch_tree::{Claim, Network};
+use cert_check::check_claim;
+use endings::Status;
+use endings::say::say_of;
+use pgraph::Graph;
+use pns_io::Sink;
+use pns_problem::Problem;
+use refusal_words::why_word;
+use std::alloc::Global;
+use tree_rules::Why;
+
+fn say_refused<K: Sink>(alloc: Global, out: &mut K, why: Why) -> Status
+    ensures { Ends (OrMemory (Only Refused (line (claim_line why)))) (HasRisen (K.faults out.old) (K.faults out.new)) (K.written out.old) (K.written out.new) result }
+{
+    say_of(alloc, out, "refused claim ", why_word(why), Status::Refused)
+}
+
+/// The network of a claim of which each line holds. Where the claim has no network, or a line of it fails, the line that tells why
+/// is out, and the status is that of the call.
+pub fn network_of<K: Sink>(
+    alloc: Global,
+    out: &mut K,
+    problem: &Problem,
+    graph: &Graph,
+    claim: Claim,
+) -> Result<Network, Status>
+    requires { shape graph.now ≡ shape_of problem.now }
+    ensures network { IfOk result (ClaimsNetwork problem.now (claim_of claim)) }
+    ensures silent { OnOk result (out.new ≡ out.old) }
+    ensures told { IfErr result (Ends (Tells (ClaimRefusal problem.now (claim_of claim))) (HasRisen (K.faults out.old) (K.faults out.new)) (K.written out.old) (K.written out.new)) }
+{
+    match check_claim(problem, graph, &claim) {
+        Ok(()) => match claim {
+            Claim::Network(network) => Ok(network),
+            Claim::Infeasible => Err(say_refused(alloc, out, Why::Unknown)),
+            Claim::Unknown => Err(say_refused(alloc, out, Why::Unknown)),
+        },
+        Err(why) => Err(say_refused(alloc, out, why)),
+    }
+}

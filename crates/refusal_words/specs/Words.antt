@@ -1,0 +1,27 @@
+-- The words by which it is told why a claim or a node of a tree is refused.
+use Rattle.std.specs.Prelude.{ℕ, List, ◌∷◌, ◌++◌, codes, decimal}
+use Rattle.tree_rules.specs.declared.why.Why.{Why}
+use Rattle.tree_rules.specs.declared.why.Why.TheVariants.{Unknown, Axiom, Exclusion, Flows, Cost, Step, Options, Open, Dead, Clash, Refuted, Bound, Sum}
+
+-- the word by which a cause is told
+abbrev pub why_word : Why → List ℕ
+why_word Unknown = codes "unknown"
+why_word Axiom = codes "axiom"
+why_word Exclusion = codes "exclusion"
+why_word Flows = codes "flows"
+why_word Cost = codes "cost"
+why_word Step = codes "step"
+why_word Options = codes "options"
+why_word Open = codes "open"
+why_word Dead = codes "dead"
+why_word Clash = codes "clash"
+why_word Refuted = codes "refuted"
+why_word Bound = codes "bound"
+why_word Sum = codes "sum"
+
+abbrev pub claim_line : Why → List ℕ
+claim_line why = codes "refused claim " ++ why_word why
+
+-- nodes are counted from 0 in preorder
+abbrev pub node_line : ℕ → Why → List ℕ
+node_line node why = codes "refused node " ++ decimal node ++ 32 ∷ why_word why

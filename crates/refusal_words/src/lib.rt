@@ -1,0 +1,8 @@
+//! The words by which it is told why a claim, or a node of a tree, is refused.
+//!
+//! `specs/Words` has the word of each cause, and the lines of a refused claim and of a refused node.
+#![tactic(auto)]
+
+mod words;
+
+pub use words::why_word;
