@@ -1,0 +1,28 @@
+use Rattle.std.proofs.Common.{refl, sym, subst, ℕ, List}
+use Rattle.branch_tree.specs.View.{claim_of}
+use Rattle.branch_tree.specs.declared.claim.Claim.{Claim}
+use Rattle.tree_rules.specs.declared.why.Why.TheVariants.{Unknown}
+use Rattle.refusal_words.specs.Words.{claim_line}
+use Rattle.endings.specs.Lines.{line}
+use Rattle.endings.specs.Ending.{Tells, Only, OrMemory}
+use Rattle.endings.specs.declared.status.Status.{Status}
+use Rattle.endings.specs.declared.status.Status.TheVariants.{Refused}
+use Rattle.endings.proofs.Ending.{Ends-map}
+use Rattle.network_commands.specs.Network.{IsRefusedFor, ClaimRefusal}
+use Rattle.network_commands.proofs.Refusals.{refused_for, refusal_told}
+use Rattle.network_commands.proofs.claim.network_of.Goals as goal
+
+pub returns-in-Infeasible-clause-told : goal.returns-in-Infeasible-clause-told
+returns-in-Infeasible-clause-told g c =
+    let p = c.args.problem.now in
+    let Q : Status → List ℕ → Type 0 = Tells (ClaimRefusal p (claim_of c.args.claim)) in
+    Ends-map (OrMemory (Only Refused (line (claim_line Unknown)))) Q _ _ _ _ _
+    (refusal_told p (claim_of c.args.claim) Unknown (subst (λ (k : Claim). IsRefusedFor p (claim_of k) Unknown) (sym c.in-Infeasible.is) refl)) (λ r. r) c.say_refused.ensures
+
+pub returns-in-Err-clause-told : goal.returns-in-Err-clause-told
+returns-in-Err-clause-told g c =
+    let p = c.args.problem.now in
+    let claim = claim_of c.args.claim in
+    let Q : Status → List ℕ → Type 0 = Tells (ClaimRefusal p claim) in
+    Ends-map (OrMemory (Only Refused (line (claim_line c.in-Err.why)))) Q _ _ _ _ _
+    (refusal_told p claim c.in-Err.why (refused_for p claim c.in-Err.why ((c.in-Err.ensures.fails c.in-Err.why).0 refl))) (λ r. r) c.say_refused-in-Err.ensures

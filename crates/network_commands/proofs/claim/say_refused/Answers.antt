@@ -1,0 +1,15 @@
+use Rattle.std.proofs.Common.{◌++◌, ap, ◌∙◌, inl, inr, ℕ, List, codes}
+use Rattle.refusal_words.specs.Words.{claim_line}
+use Rattle.endings.specs.Lines.{line}
+use Rattle.endings.specs.Ending.{Ends, Only, OrMemory}
+use Rattle.endings.specs.declared.status.Status.{Status}
+use Rattle.endings.specs.declared.status.Status.TheVariants.{Refused}
+use Rattle.endings.proofs.Ending.{Ends-map}
+use Rattle.network_commands.proofs.claim.say_refused.Goals as goal
+
+pub returns : goal.returns
+returns g c =
+    let Q : Status → List ℕ → Type 0 = OrMemory (Only Refused (line (claim_line c.args.why))) in
+    Ends-map (OrMemory (Only Refused (line (codes "refused claim " ++ c.why_word.result.now)))) Q _ _ _ _ _
+    (λ s t h. elim h [ inl q ↦ inl (q.0, q.1 ∙ ap (λ (word : List ℕ). line (codes "refused claim " ++ word)) c.why_word.ensures) | inr q ↦ inr q ])
+    (λ r. r) c.say_of.ensures
