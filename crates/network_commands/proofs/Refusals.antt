@@ -1,8 +1,7 @@
 -- A claim that fails is refused for the cause.
-use Rattle.std.proofs.Common.{◌≡◌, ◌++◌, ◌∷◌, [], false, refl, sym, ap, subst, inl, inr, ℕ, List, codes}
+use Rattle.std.proofs.Common.{◌∷◌, [], false, refl, inl, inr, ℕ, List}
 use Rattle.problem_rules.specs.Problem.{Problem}
 use Rattle.tree_rules.specs.declared.why.Why.{Why}
-use Rattle.tree_rules.specs.declared.why.Why.TheVariants.{Unknown}
 use Rattle.tree_rules.specs.Claim.{Claim, network, infeasible, unknown, ClaimFails}
 use Rattle.refusal_words.specs.Words.{claim_line}
 use Rattle.endings.specs.Lines.{line}

@@ -1,7 +1,7 @@
 use Rattle.std.proofs.Common.{◌++◌, ap, ◌∙◌, inl, inr, ℕ, List, codes}
 use Rattle.refusal_words.specs.Words.{claim_line}
 use Rattle.endings.specs.Lines.{line}
-use Rattle.endings.specs.Ending.{Ends, Only, OrMemory}
+use Rattle.endings.specs.Ending.{Only, OrMemory}
 use Rattle.endings.specs.declared.status.Status.{Status}
 use Rattle.endings.specs.declared.status.Status.TheVariants.{Refused}
 use Rattle.endings.proofs.Ending.{Ends-map}
