@@ -5,7 +5,7 @@ use Rattle.edit_rules.specs.Edit.{Edit}
 use Rattle.pgraph.specs.declared.verdict.Verdict.{Verdict}
 use Rattle.pgraph.specs.declared.verdict.Verdict.TheVariants.{Meets, Breaks}
 use Rattle.pns_io.specs.Outside.{HasRisen}
-use Rattle.studio_words.specs.Command.{Command, Max, Axioms, Flows, Listing, Make, Migrate, Editing, Undoing, Checking, Solving, Trial, Telling, command_of, IsFileOf, IsFileWord}
+use Rattle.studio_words.specs.Command.{Command, Max, Axioms, Flows, Listing, Make, Migrate, Editing, Undoing, Checking, Solving, Trial, Telling, command_of, IsFileOf, IsFileWord, Table}
 use Rattle.command_files.specs.Reading.{AreHeld, FileFault, file_limit}
 use Rattle.structure_commands.specs.Max.{MaxWork}
 use Rattle.structure_commands.specs.Listing.{ListingWork}
@@ -13,10 +13,12 @@ use Rattle.edit_commands.specs.Migrate.{MigrateWork}
 use Rattle.flow_commands.specs.Flows.{FlowNamesSay, UnitsSay, FlowsSay}
 use Rattle.command_files.specs.Script.{ScriptFault, OnScript}
 use Rattle.edit_commands.specs.Edits.{EditWork, UndoWork}
-use Rattle.tree_rules.specs.Claim.{Claim}
+use Rattle.tree_rules.specs.Claim.{Claim, Network}
 use Rattle.tree_rules.specs.Accepted.{Tree}
 use Rattle.command_files.specs.TreeFile.{TreeFault, OnTree, tree_limit}
 use Rattle.flow_commands.specs.Check.{CheckWork}
+use Rattle.network_commands.specs.Network.{OnNetwork}
+use Rattle.network_commands.specs.Table.{TableWork}
 use Rattle.flow_commands.specs.Best.{FilesClaimBest, AcceptedIsBest}
 use Rattle.branch_tree.specs.Tail.{Tail, whole, spent, past}
 use Rattle.generator.specs.Generated.{generated}
@@ -88,6 +90,15 @@ check_status p claim tree Done lines h = inl refl
 check_status p claim tree Refused lines h = inr refl
 check_status p claim tree s lines h = absurd h
 
+table_status : (p : Problem) (w : Network) (s : Status) (lines : List (List ℕ)) → TableWork p w s lines → s ≡ Done
+table_status p w Done lines h = refl
+table_status p w s lines h = absurd h
+
+-- a claim is refused, or the work on its network is done
+network_status : (work : Problem → Network → Status → List (List ℕ) → Type 0) → ((p : Problem) (w : Network) (s : Status) (lines : List (List ℕ)) → work p w s lines → s ≡ Done) → (p : Problem) (claim : Claim) (tree : Tree) (s : Status) (lines : List (List ℕ)) → OnNetwork work p claim tree s lines → (s ≡ Done) ⊎ (s ≡ Refused)
+network_status work done p claim tree s lines (inl refusal) = inr refusal.0
+network_status work done p claim tree s lines (inr rest) = inl (done p rest.0 s lines rest.2)
+
 tail_status : (tail : Tail) (s : Status) → s ≡ status_of tail → (s ≡ Done) ⊎ ((s ≡ Spent) ⊎ (s ≡ Past))
 tail_status whole s e = inl e
 tail_status (spent next options) s e = inr (inl e)
@@ -112,12 +123,12 @@ edits_status work held name p s lines done (file, is, inl fault) short = elim (s
 ]
 edits_status work held name p s lines done (file, is, inr rest) short = inl (done rest.0.edits rest.2)
 
-trees_status : (held : List ℕ → Option (List ℕ)) (name : List ℕ) (p : Problem) (s : Status) (lines : List (List ℕ)) → OnTree CheckWork held name p s lines → IsSomeAnd (held name) (λ told. length told ≤ tree_limit) → IsOneOf (Done ∷ Refused ∷ BadProblem ∷ BadTree ∷ Memory ∷ []) s
-trees_status held name p s lines (file, is, inl fault) short = elim (tree_status name p file s lines fault) [
+trees_status : (work : Problem → Claim → Tree → Status → List (List ℕ) → Type 0) → ((p : Problem) (claim : Claim) (tree : Tree) (s : Status) (lines : List (List ℕ)) → work p claim tree s lines → (s ≡ Done) ⊎ (s ≡ Refused)) → (held : List ℕ → Option (List ℕ)) (name : List ℕ) (p : Problem) (s : Status) (lines : List (List ℕ)) → OnTree work held name p s lines → IsSomeAnd (held name) (λ told. length told ≤ tree_limit) → IsOneOf (Done ∷ Refused ∷ BadProblem ∷ BadTree ∷ Memory ∷ []) s
+trees_status work status held name p s lines (file, is, inl fault) short = elim (tree_status name p file s lines fault) [
   | inl q ↦ inr (inr (inr (inl q)))
   | inr q ↦ absurd (within_limit (held name) tree_limit file short is q.1)
 ]
-trees_status held name p s lines (file, is, inr rest) short = elim (check_status p rest.0 rest.1 s lines rest.3) [
+trees_status work status held name p s lines (file, is, inr rest) short = elim (status p rest.0 rest.1 s lines rest.3) [
   | inl q ↦ inl q
   | inr q ↦ inr (inl q)
 ]
@@ -181,7 +192,12 @@ command_status held (Checking name tree) s lines (file, is, inl fault) short = e
   | inl q ↦ inr (inr (inl q))
   | inr q ↦ absurd (within_limit (held name) file_limit file (short name file_limit (inl (refl, refl))) is q.1)
 ]
-command_status held (Checking name tree) s lines (file, is, inr work) short = trees_status held tree work.0 s lines work.2 (short tree tree_limit (inr (refl, refl)))
+command_status held (Checking name tree) s lines (file, is, inr work) short = trees_status CheckWork check_status held tree work.0 s lines work.2 (short tree tree_limit (inr (refl, refl)))
+command_status held (Table name tree) s lines (file, is, inl fault) short = elim (fault_status name file s lines fault) [
+  | inl q ↦ inr (inr (inl q))
+  | inr q ↦ absurd (within_limit (held name) file_limit file (short name file_limit (inl (refl, refl))) is q.1)
+]
+command_status held (Table name tree) s lines (file, is, inr work) short = trees_status (OnNetwork TableWork) (network_status TableWork table_status) held tree work.0 s lines work.2 (short tree tree_limit (inr (refl, refl)))
 command_status held (Solving name budget) s lines (file, is, inl fault) short = elim (fault_status name file s lines fault) [
   | inl q ↦ inr (inr (inr (inl q)))
   | inr q ↦ absurd (within_limit (held name) file_limit file (short name file_limit (refl, refl)) is q.1)
@@ -218,6 +234,9 @@ answer_status held (Undoing name script) lines (file, is, inr (p, given, (bytes,
 answer_status held (Checking name tree) lines (file, is, inl fault) = absurd fault
 answer_status held (Checking name tree) lines (file, is, inr (p, given, (bytes, there, inl fault))) = absurd fault
 answer_status held (Checking name tree) lines (file, is, inr (p, given, (bytes, there, inr rest))) = absurd rest.3
+answer_status held (Table name tree) lines (file, is, inl fault) = absurd fault
+answer_status held (Table name tree) lines (file, is, inr (p, given, (bytes, there, inl fault))) = absurd fault
+answer_status held (Table name tree) lines (file, is, inr (p, given, (bytes, there, inr rest))) = elim (network_status TableWork table_status p rest.0 rest.1 Usage lines rest.3) [ inl q ↦ cc | inr q ↦ cc ]
 answer_status held (Solving name budget) lines (file, is, inl fault) = absurd fault
 answer_status held (Solving name budget) lines (file, is, inr work) = elim (solve_status budget work.0 Usage lines work.2) [ inl q ↦ cc | inr o ↦ elim o [ inl q ↦ cc | inr q ↦ cc ] ]
 answer_status held (Trial number units budget) lines h = elim (search_status budget (generated number units) Usage lines h) [ inl q ↦ cc | inr o ↦ elim o [ inl q ↦ cc | inr q ↦ cc ] ]
@@ -237,6 +256,7 @@ memory_status (Migrate file years) = inr (inr (inr (inl refl)))
 memory_status (Editing file script) = inr (inr (inr (inl refl)))
 memory_status (Undoing file script) = inr (inr (inr (inl refl)))
 memory_status (Checking file tree) = inr (inr (inr (inr (inl refl))))
+memory_status (Table file tree) = inr (inr (inr (inr (inl refl))))
 memory_status (Solving file budget) = inr (inr (inr (inr (inl refl))))
 memory_status (Trial number units budget) = inr (inr (inr (inl refl)))
 memory_status (Telling text) = inr (inl refl)

@@ -20,6 +20,7 @@ pub data Command : Type 0 where
   Editing : List ℕ → List ℕ → Command
   Undoing : List ℕ → List ℕ → Command
   Checking : List ℕ → List ℕ → Command
+  Table : List ℕ → List ℕ → Command
   Solving : List ℕ → ℕ → Command
   Trial : ℕ → ℕ → ℕ → Command
   Telling : List ℕ → Command
@@ -69,6 +70,7 @@ with_file word file second =
     if bytes_eq word (codes "edit") && is_file_word second then Some (Editing file second)
     else if bytes_eq word (codes "undo") && is_file_word second then Some (Undoing file second)
     else if bytes_eq word (codes "check") && is_file_word second then Some (Checking file second)
+    else if bytes_eq word (codes "table") && is_file_word second then Some (Table file second)
     else None
 
 -- the commands of a file and one more word
@@ -122,6 +124,7 @@ IsFileOf (Migrate file years) name = name ≡ file
 IsFileOf (Editing file script) name = (name ≡ file) ⊎ (name ≡ script)
 IsFileOf (Undoing file script) name = (name ≡ file) ⊎ (name ≡ script)
 IsFileOf (Checking file tree) name = (name ≡ file) ⊎ (name ≡ tree)
+IsFileOf (Table file tree) name = (name ≡ file) ⊎ (name ≡ tree)
 IsFileOf (Solving file budget) name = name ≡ file
 IsFileOf (Trial number units budget) name = ⊥
 IsFileOf (Telling text) name = ⊥

@@ -21,6 +21,7 @@ pub enum Command<'a> {
     Editing(&'a str, &'a str),
     Undoing(&'a str, &'a str),
     Checking(&'a str, &'a str),
+    Table(&'a str, &'a str),
     Solving(&'a str, u64),
     Trial(u64, u64, u64),
     /// A text of the program itself: help, or the version.
@@ -181,6 +182,8 @@ fn with_file<'a>(word: &str, file: &'a str, second: &'a str) -> Option<Command<'
         Some(Command::Undoing(file, second))
     } else if word == "check" && !second.is_empty() {
         Some(Command::Checking(file, second))
+    } else if word == "table" && !second.is_empty() {
+        Some(Command::Table(file, second))
     } else {
         None
     }
