@@ -2,12 +2,12 @@
 _pns() {
     local word=${COMP_WORDS[COMP_CWORD]} places='' place
     if [ "$COMP_CWORD" -eq 1 ]; then
-        mapfile -t COMPREPLY < <(compgen -W 'max axioms list flows solve check edit undo migrate make trial help version' -- "$word")
+        mapfile -t COMPREPLY < <(compgen -W 'max axioms list flows solve check table edit undo migrate make trial help version' -- "$word")
         return
     fi
     case ${COMP_WORDS[1]} in
         help)
-            [ "$COMP_CWORD" -eq 2 ] && mapfile -t COMPREPLY < <(compgen -W 'max axioms list flows solve check edit undo migrate make trial help version status' -- "$word")
+            [ "$COMP_CWORD" -eq 2 ] && mapfile -t COMPREPLY < <(compgen -W 'max axioms list flows solve check table edit undo migrate make trial help version status' -- "$word")
             return
             ;;
         max) places='1' ;;
@@ -16,6 +16,7 @@ _pns() {
         flows) places='1' ;;
         solve) places='1' ;;
         check) places='1 2' ;;
+        table) places='1 2' ;;
         edit) places='1 2' ;;
         undo) places='1 2' ;;
         migrate) places='1' ;;

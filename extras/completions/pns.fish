@@ -6,6 +6,7 @@ complete -c pns -n '__fish_use_subcommand' -a list -d 'Lists the structures that
 complete -c pns -n '__fish_use_subcommand' -a flows -d 'Finds the least cost of one choice of units and the sizes that have it'
 complete -c pns -n '__fish_use_subcommand' -a solve -d 'Finds an allowed network of least cost in one year and a tree that proves it'
 complete -c pns -n '__fish_use_subcommand' -a check -d 'Judges whether a tree proves its claim'
+complete -c pns -n '__fish_use_subcommand' -a table -d 'Prints the claimed network as CSV for a spreadsheet'
 complete -c pns -n '__fish_use_subcommand' -a edit -d 'Applies a script of edits to a plant'
 complete -c pns -n '__fish_use_subcommand' -a undo -d 'Writes the script that leads from the edited plant back to FILE'
 complete -c pns -n '__fish_use_subcommand' -a migrate -d 'Writes the script that turns the yearly costs of the units into investments over a payout period'
@@ -13,7 +14,7 @@ complete -c pns -n '__fish_use_subcommand' -a make -d 'Makes a plant out of a nu
 complete -c pns -n '__fish_use_subcommand' -a trial -d 'Makes the plant of pns make NUMBER UNITS, solves it and sums up'
 complete -c pns -n '__fish_use_subcommand' -a help -d 'Tells the commands, or one of them'
 complete -c pns -n '__fish_use_subcommand' -a version -d 'Tells which program this is'
-complete -c pns -n '__fish_seen_subcommand_from help' -a 'max axioms list flows solve check edit undo migrate make trial help version status'
+complete -c pns -n '__fish_seen_subcommand_from help' -a 'max axioms list flows solve check table edit undo migrate make trial help version status'
 complete -c pns -n '__fish_seen_subcommand_from max; and test (count (commandline -opc)) -eq 2' -F
 complete -c pns -n '__fish_seen_subcommand_from axioms; and test (count (commandline -opc)) -eq 2' -F
 complete -c pns -n '__fish_seen_subcommand_from list; and test (count (commandline -opc)) -eq 2' -F
@@ -21,6 +22,8 @@ complete -c pns -n '__fish_seen_subcommand_from flows; and test (count (commandl
 complete -c pns -n '__fish_seen_subcommand_from solve; and test (count (commandline -opc)) -eq 2' -F
 complete -c pns -n '__fish_seen_subcommand_from check; and test (count (commandline -opc)) -eq 2' -F
 complete -c pns -n '__fish_seen_subcommand_from check; and test (count (commandline -opc)) -eq 3' -F
+complete -c pns -n '__fish_seen_subcommand_from table; and test (count (commandline -opc)) -eq 2' -F
+complete -c pns -n '__fish_seen_subcommand_from table; and test (count (commandline -opc)) -eq 3' -F
 complete -c pns -n '__fish_seen_subcommand_from edit; and test (count (commandline -opc)) -eq 2' -F
 complete -c pns -n '__fish_seen_subcommand_from edit; and test (count (commandline -opc)) -eq 3' -F
 complete -c pns -n '__fish_seen_subcommand_from undo; and test (count (commandline -opc)) -eq 2' -F

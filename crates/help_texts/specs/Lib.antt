@@ -4,5 +4,6 @@ pub mod Lines
 pub mod Overview
 pub mod Pages
 pub mod Program
+pub mod Reports
 pub mod Searches
 pub mod Structures

@@ -12,6 +12,7 @@ overview =
     codes "  flows FILE UNITS               the least cost of these units, and their sizes" ∷
     codes "  solve FILE BUDGET              a network of least cost and its proof: a TREE" ∷
     codes "  check FILE TREE                does the tree prove what it claims?" ∷
+    codes "  table FILE TREE                the claimed network as CSV, for a spreadsheet" ∷
     codes "  edit FILE SCRIPT               the plant after edits; the way back: undo" ∷
     codes "  migrate FILE YEARS             the script from yearly costs to investments" ∷
     codes "  make NUMBER UNITS              a made-up plant; trial solves it" ∷
@@ -19,6 +20,7 @@ overview =
     codes "  version                        which program this is" ∷
     codes "" ∷
     codes "Begin:  pns solve a.pns 10000 > tree        pns check a.pns tree" ∷
+    codes "        pns report a.pns tree" ∷
     []
 
 unfoldable pub version : List (List ℕ)

@@ -4,7 +4,7 @@
 //! topics. A new command gets an entry there, a line in `specs/Overview` and a page in the file of its kind, and the same in
 //! the code; `tools/help write` then writes the manual page and the completions anew, and says what does not agree.
 //!
-//! Modules: `overview`; `pages`, the page on each topic; `structures`, `flows`, `searches`, `edits`, `program`, the pages.
+//! Modules: `overview`; `pages`, the page on each topic; `structures`, `flows`, `reports`, `searches`, `edits`, `program`, the pages.
 #![tactic(auto)]
 
 mod edits;
@@ -12,6 +12,7 @@ mod flows;
 mod overview;
 mod pages;
 mod program;
+mod reports;
 mod searches;
 mod structures;
 

@@ -17,6 +17,7 @@ A FILE is a plant, PNS_problem_v1. Texts go to standard output; 0 is success.
   flows FILE UNITS               the least cost of these units, and their sizes
   solve FILE BUDGET              a network of least cost and its proof: a TREE
   check FILE TREE                does the tree prove what it claims?
+  table FILE TREE                the claimed network as CSV, for a spreadsheet
   edit FILE SCRIPT               the plant after edits; the way back: undo
   migrate FILE YEARS             the script from yearly costs to investments
   make NUMBER UNITS              a made-up plant; trial solves it
@@ -24,6 +25,7 @@ A FILE is a plant, PNS_problem_v1. Texts go to standard output; 0 is success.
   version                        which program this is
 
 Begin:  pns solve a.pns 10000 > tree        pns check a.pns tree
+        pns report a.pns tree
 "
 }
 

@@ -5,6 +5,7 @@ ghost use Rattle.help_texts.specs.Pages.{page_text};
 use crate::edits::{edit_page, make_page, migrate_page, undo_page};
 use crate::flows::{check_page, flows_page};
 use crate::program::{help_page, status_page, version_page};
+use crate::reports::table_page;
 use crate::searches::{solve_page, trial_page};
 use crate::structures::{axioms_page, list_page, max_page};
 
@@ -20,6 +21,7 @@ pub fn page_on(topic: &str) -> Option<&'static [u8]>
         "flows" => Some(flows_page()),
         "solve" => Some(solve_page()),
         "check" => Some(check_page()),
+        "table" => Some(table_page()),
         "edit" => Some(edit_page()),
         "undo" => Some(undo_page()),
         "migrate" => Some(migrate_page()),

@@ -1,0 +1,38 @@
+//! The pages on claimed networks as people read them.
+ghost use Rattle.std.specs.Prelude.{◌≡◌};
+ghost use Rattle.help_texts.specs.Lines.{text_of};
+ghost use Rattle.help_texts.specs.Reports.{table_page};
+
+/// The page on `table`.
+#[tactic(auto, unfolding(crate::specs::Reports::table_page))]
+pub fn table_page() -> &'static [u8]
+    ensures { result.now ≡ text_of table_page }
+{
+    b"pns table FILE TREE
+Prints the claimed network as CSV for a spreadsheet. Nothing is proved by this.
+  FILE  the plant, PNS_problem_v1
+  TREE  a tree text, as solve prints it
+Prints unit,size_e6,fix_e6 and a line for each unit; an empty line;
+material,kind,flow_e12 and a line for each material. Sizes are in millionths,
+flows in 10^-12, fractions as N/D.
+Ends with
+  0   The text is out, whole.
+  1   refused claim WHY: the claim has no network (unknown), or its network
+      breaks an axiom (axiom) or an exclusion (exclusion), its sizes are no
+      flows (flows) or its cost is another (cost), or a number is too large
+      (sum). Is FILE the plant that TREE was made for?
+  10  tree line L KIND: line L of TREE has a fault; docs/FORMATS.md lists the
+      kinds. Have the text printed anew.
+  2, 3, 6, 7, 8, 12, 20: see pns help status
+Example
+  pns table a.pns tree
+  unit,size_e6,fix_e6
+  U1,20000000,10000000
+  U3,20000000,5000000
+
+  material,kind,flow_e12
+  A,raw_material,-20000000000000
+  C,intermediate,0
+  P,product,20000000000000
+"
+}
