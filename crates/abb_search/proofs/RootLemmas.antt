@@ -1,7 +1,7 @@
 -- What the tree of a root is, before it is looked at and after.
 use Rattle.std.specs.Prelude.{IfSome, is_some}
 use Rattle.std.specs.List.{slice_get}
-use Rattle.std.proofs.Common.{◌≡◌, ℕ, ◌-◌, ◌<◌, ◌≤◌, Bool, true, false, ◌||◌, List, [], ◌∷◌, length, Option, Some, None, refl, sym, ap, ◌∙◌, subst, arith, ◌^◌, ◌+◌, true≢false}
+use Rattle.std.proofs.Common.{◌≡◌, ◌⊎◌, inl, inr, ℕ, ◌-◌, ◌<◌, ◌≤◌, Bool, true, false, ◌||◌, List, [], ◌∷◌, length, Option, Some, None, refl, sym, ap, ◌∙◌, subst, arith, ◌^◌, ◌+◌, true≢false}
 use Rattle.link_lists.specs.Lists.{has, first}
 use Rattle.problem_rules.specs.Problem.{Problem}
 use Rattle.pns_rules.specs.Shape.{shape_of}
@@ -17,20 +17,22 @@ use Rattle.tree_rules.specs.Leaf.{Leaf, dead, clash, refuted, bounded, untried, 
 use Rattle.search_tree.specs.Cells.{Cell, place_of, cell_at, AreBehind}
 use Rattle.search_tree.specs.Fits.{Follows, EndFits}
 use Rattle.search_tree.specs.Growth.{is_open}
+use Rattle.std.proofs.lemmas.Bool.{or_right}
 use Rattle.turn_laws.specs.Values.{IsPositiveCost}
+use Rattle.turn_laws.proofs.GrowLemmas.{leaf_fallen}
 use Rattle.turn_laws.specs.Kept.{LeafIsKept, EndIsKept, IsKept}
 use Rattle.node_looks.specs.declared.evaluator.Halt.{Halt}
 use Rattle.node_looks.specs.declared.looks.Ready.{Ready}
 use Rattle.node_looks.specs.declared.looks.Looked.{Looked}
 use Rattle.node_looks.specs.Evaluated.{PastPlaces}
-use Rattle.node_looks.specs.Looks.{is_bounded, has_bounded, KnowsCell, IsHalted, IsOpenAs, IsLooked}
+use Rattle.node_looks.specs.Looks.{is_bounded, has_bounded, cost_of, KnowsCell, IsHalted, IsOpenAs, IsLooked}
 use Rattle.node_looks.proofs.ChildLemmas.{cost_is, found_best}
 use Rattle.node_looks.specs.Children.{claim_with, IsBest}
 use Rattle.abb_search.specs.Hand.{AreAtHand, with_key}
 use Rattle.abb_search.proofs.HandLemmas.{IsSameKid, kid_same, hand_more}
 use Rattle.abb_search.specs.declared.growing.Growing.{Growing}
 use Rattle.abb_search.specs.declared.growing.HaltedLeaf.{HaltedLeaf}
-use Rattle.abb_search.specs.Growing.{IsTreeKept, IsGrowing, IsBeaten, LeastIsBelow, open_cell, IsOpenRoot, root_halt, IsLookedRoot, IsHaltedAt, GoesOn, IsGoing}
+use Rattle.abb_search.specs.Growing.{IsTreeKept, IsGrowing, IsAfterBranch, open_cell, IsOpenRoot, root_halt, IsLookedRoot, IsHaltedAt}
 use Rattle.abb_search.proofs.KnownLemmas.{AreKnown, open_unbounded}
 use Rattle.abb_search.proofs.ReadyLemmas.{open_leaf, first_has}
 
@@ -76,15 +78,15 @@ module _ (p : Problem) (start : Node) (claim : claims.Claim) (cell : Cell) (what
 
 -- ---- before the look
 
-pub open_tree : (p : Problem) (start : starts.Node) (budget : ℕ) (s : Growing) → IsOpenRoot start budget s → IsSound (shape_of p) (node_of start) → 1 ≤ budget → IsTreeKept p s
-open_tree p start budget s h sound some = record {
+pub open_tree : (p : Problem) (start : starts.Node) (budget : ℕ) (best : Option claims.Network) (s : Growing) → IsBest p best → IsOpenRoot start budget best s → IsSound (shape_of p) (node_of start) → 1 ≤ budget → IsTreeKept p s
+open_tree p start budget best s b h sound some = record {
   last = None;
   kept = subst (λ (n : starts.Node). IsKept p (node_of n) (claim_with s.best) None s.pool.payloads) (sym h.start_is)
-      (subst (λ (w : Option claims.Network). IsKept p (node_of start) (claim_with w) None s.pool.payloads) (sym h.none)
-      (subst (λ (cs : List Cell). IsKept p (node_of start) claims.unknown None cs) (sym h.cells_are)
-      (leaf_is_kept p (node_of start) claims.unknown (open_cell start) untried refl refl (record { pass = tt; leave = refl }) sound refl tt)));
-  passes = subst (λ (w : Option claims.Network). ClaimPasses true p (claim_with w)) (sym h.none) refl;
-  bounded = ap (λ (w : Option claims.Network). is_some w) h.none ∙ sym (ap (λ (cs : List Cell). has_bounded cs) h.cells_are);
+      (subst (λ (w : Option claims.Network). IsKept p (node_of start) (claim_with w) None s.pool.payloads) (sym h.best_is)
+      (subst (λ (cs : List Cell). IsKept p (node_of start) (claim_with best) None cs) (sym h.cells_are)
+      (leaf_is_kept p (node_of start) (claim_with best) (open_cell start) untried refl refl (record { pass = tt; leave = refl }) sound refl b.positive)));
+  passes = subst (λ (w : Option claims.Network). ClaimPasses true p (claim_with w)) (sym h.best_is) b.passes;
+  bounded = λ k. absurd (true≢false (sym k ∙ ap (λ (cs : List Cell). has_bounded cs) h.cells_are));
   known = subst (λ (cs : List Cell). AreKnown p cs) (sym h.cells_are) (λ i lt. subst (λ j. KnowsCell p (cell_at (open_cell start ∷ []) j)) (let z : 0 ≡ i = omega (arith, lt) in z)
       (record { option = record { rising = tt; below = tt }; steps = tt; end = tt }));
   counted = let a = h.nodes_are in let b = ap (λ (cs : List Cell). length cs) h.cells_are in omega (arith, a, b);
@@ -94,7 +96,7 @@ open_tree p start budget s h sound some = record {
 
 -- ---- after it
 
-module _ (Past : PastPlaces) (p : Problem) (start : starts.Node) (budget : ℕ) (s : Growing) (h : IsLookedRoot Past p start budget s) (some : 1 ≤ budget) where
+module _ (Past : PastPlaces) (p : Problem) (start : starts.Node) (budget : ℕ) (best : Option claims.Network) (given : IsBest p best) (s : Growing) (h : IsLookedRoot Past p start budget best s) (some : 1 ≤ budget) where
   -- the root has the key of what is at hand
   kid : IsSameKid h.looked.cell h.root.cell
   kid = kid_same (record { cell = h.looked.cell; value = h.looked.value }) h.root h.looked.ready h.empty s.ready h.placed
@@ -102,27 +104,38 @@ module _ (Past : PastPlaces) (p : Problem) (start : starts.Node) (budget : ℕ) 
   cells_now : s.pool.payloads ≡ with_key h.looked.cell kid.key ∷ []
   cells_now = h.cells_are ∙ ap (λ (c : Cell). c ∷ []) kid.is
 
-  root_best : IsBest p h.looked.network
-  root_best = found_best p (place_of h.looked.cell) h.looked.network h.is_looked.seen.found
+  found : IsBest p h.looked.network
+  found = found_best p (place_of h.looked.cell) h.looked.network h.is_looked.seen.found
 
-  root_kept : IsKept p (node_of start) (claim_with h.looked.network) None (with_key h.looked.cell kid.key ∷ [])
-  root_kept = leaf_is_kept p (node_of start) (claim_with h.looked.network) (with_key h.looked.cell kid.key) h.is_looked.seen.what h.is_looked.seen.end_is h.is_looked.option_is
+  root_best : IsBest p s.best
+  root_best = elim h.which [
+    | inl e ↦ subst (λ (w : Option claims.Network). IsBest p w) (sym e) given
+    | inr e ↦ subst (λ (w : Option claims.Network). IsBest p w) (sym e) found
+  ]
+
+  root_kept : IsKept p (node_of start) (claim_with s.best) None (with_key h.looked.cell kid.key ∷ [])
+  root_kept = leaf_is_kept p (node_of start) (claim_with s.best) (with_key h.looked.cell kid.key) h.is_looked.seen.what h.is_looked.seen.end_is h.is_looked.option_is
       (record { pass = h.is_looked.follows.pass; leave = h.is_looked.follows.leave }) h.is_looked.sound
-      (subst (λ (o : Option CostOver). LeafPasses true p o (place_of h.looked.cell) h.is_looked.seen.what) (cost_is h.looked.network) h.is_looked.seen.passes) root_best.positive
+      (subst (λ (o : Option CostOver). LeafPasses true p o (place_of h.looked.cell) h.is_looked.seen.what) (cost_is s.best)
+      (leaf_fallen p (cost_of h.looked.network) (cost_of s.best) (place_of h.looked.cell) h.is_looked.seen.what h.fallen_found
+      (subst IsPositiveCost (sym (cost_is h.looked.network)) found.positive) (subst IsPositiveCost (sym (cost_is s.best)) root_best.positive) h.is_looked.seen.passes)) root_best.positive
 
   root_tree : IsTreeKept p s
   root_tree = record {
     last = None;
     kept = subst (λ (n : starts.Node). IsKept p (node_of n) (claim_with s.best) None s.pool.payloads) (sym h.start_is)
-        (subst (λ (w : Option claims.Network). IsKept p (node_of start) (claim_with w) None s.pool.payloads) (sym h.best_is)
-        (subst (λ (cs : List Cell). IsKept p (node_of start) (claim_with h.looked.network) None cs) (sym cells_now) root_kept));
-    passes = subst (λ (w : Option claims.Network). ClaimPasses true p (claim_with w)) (sym h.best_is) root_best.passes;
-    bounded = ap (λ (w : Option claims.Network). is_some w) h.best_is ∙ (h.is_looked.seen.bounded ∙ (or_nothing (is_bounded h.looked.cell.end) ∙ ap (λ (cs : List Cell). has_bounded cs) (sym cells_now)));
+        (subst (λ (cs : List Cell). IsKept p (node_of start) (claim_with s.best) None cs) (sym cells_now) root_kept);
+    passes = root_best.passes;
+    bounded = λ b. h.some_best ∙ or_right (is_some best) (is_some h.looked.network) (h.is_looked.seen.bounded ∙ (or_nothing (is_bounded h.looked.cell.end) ∙ (ap (λ (cs : List Cell). has_bounded cs) (sym cells_now) ∙ b)));
     known = subst (λ (cs : List Cell). AreKnown p cs) (sym cells_now) (λ i lt. subst (λ j. KnowsCell p (cell_at (with_key h.looked.cell kid.key ∷ []) j)) (let z : 0 ≡ i = omega (arith, lt) in z) h.is_looked.known);
     counted = let a = h.nodes_are in let b = ap (λ (cs : List Cell). length cs) cells_now in omega (arith, a, b);
     few = let a = ap (λ (cs : List Cell). length cs) cells_now in let b = h.budget_is in omega (arith, a, b, some);
     numbered = let a = ap (λ (cs : List Cell). length cs) cells_now in omega (arith, a);
   }
+
+  -- the best network's cost is over a number above 0
+  pub root_positive : IsPositiveCost (cost_of s.best)
+  root_positive = subst IsPositiveCost (sym (cost_is s.best)) root_best.positive
 
   nothing_at_hand : AreAtHand p [] [] h.empty
   nothing_at_hand = record { as_many = refl; each = λ j lt e. absurd (omega (arith, lt)); apart = λ i j li lj ei ej q. absurd (omega (arith, li)) }
@@ -140,24 +153,6 @@ module _ (Past : PastPlaces) (p : Problem) (start : starts.Node) (budget : ℕ) 
         )));
   }
 
-  -- a root that is open has no network
-  root_below : LeastIsBelow s
-  root_below at v lt f e b = beaten_none s.best (ap (λ (w : Option claims.Network). is_some w) h.best_is ∙ (h.is_looked.seen.bounded ∙ unbounded)) b
-    where
-      one : length s.pool.payloads ≡ 1
-      one = ap (λ (cs : List Cell). length cs) cells_now
-
-      opens : is_open (cell_at s.pool.payloads 0).end ≡ true
-      opens = let z : at ≡ 0 = (let o = one in omega (arith, lt, o)) in
-          sym (h.are_open 0 (let o = one in omega (arith, o))) ∙ subst (λ j. has s.pool.leaves j ≡ true) z (first_has s.pool.leaves at f)
-
-      unbounded : is_bounded h.looked.cell.end ≡ false
-      unbounded = subst (λ (cs : List Cell). is_bounded (cell_at cs 0).end ≡ false) cells_now (open_unbounded (cell_at s.pool.payloads 0).end (open_leaf (cell_at s.pool.payloads 0).end opens))
-
-      beaten_none : (w : Option claims.Network) → is_some w ≡ false → IsBeaten w v → ⊥
-      beaten_none None n b = b
-      beaten_none (Some w) n b = true≢false n
-
   root_halts : (i : Halt) → h.looked.halt ≡ Some i → IsHaltedAt Past p s 0 i
   root_halts i eh =
       let o = subst (λ (j : Option Halt). IsOpenAs Past p (place_of h.looked.cell) h.is_looked.seen.what h.looked.value h.looked.ready j) eh h.is_looked.seen.open_as in
@@ -167,9 +162,9 @@ module _ (Past : PastPlaces) (p : Problem) (start : starts.Node) (budget : ℕ) 
         halted = subst (λ (cs : List Cell). IsHalted Past p (place_of (cell_at cs 0)) i) (sym cells_now) o.1;
       }
 
-  pub root_goes_on : IsGoing Past p s
-  root_goes_on = subst (λ (o : Option HaltedLeaf). GoesOn Past p s o) (sym h.halt_is) (by h.looked.halt refl)
+  pub root_after : IsAfterBranch Past p s s.halt
+  root_after = subst (λ (o : Option HaltedLeaf). IsAfterBranch Past p s o) (sym h.halt_is) (by h.looked.halt refl)
     where
-      by : (o : Option Halt) → h.looked.halt ≡ o → GoesOn Past p s (root_halt o)
-      by None e = (root_grows e, root_below)
+      by : (o : Option Halt) → h.looked.halt ≡ o → IsAfterBranch Past p s (root_halt o)
+      by None e = root_grows e
       by (Some i) e = (root_tree, root_halts i e)

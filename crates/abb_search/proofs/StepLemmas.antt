@@ -13,7 +13,11 @@ use Rattle.frac128.specs.declared.fraction.Frac.{Frac}
 use Rattle.tree_rules.specs.Tree.{leaf}
 use Rattle.tree_rules.specs.Leaf.{untried}
 use Rattle.tree_rules.specs.Claim as claims
-use Rattle.tree_rules.specs.Claim.{ClaimPasses}
+use Rattle.tree_rules.specs.Claim.{CostOver, ClaimPasses}
+use Rattle.std.proofs.lemmas.Int.{ints}
+use Rattle.turn_laws.specs.Values.{HasFallen, IsPositiveCost}
+use Rattle.turn_laws.proofs.FractionLemmas.{fraction_trans}
+use Rattle.pns_rules.specs.Nodes.{Node}
 use Rattle.tree_rules.specs.Accepted.{Tree}
 use Rattle.node_pool.specs.Pooled.{Pooled}
 use Rattle.search_tree.specs.Cells.{Cell, place_of, cell_at, IsLinked}
@@ -23,18 +27,18 @@ use Rattle.std.proofs.lemmas.List.{length-map}
 use Rattle.search_tree.specs.Growth.{is_open, AreOpen}
 use Rattle.turn_laws.specs.Kept.{IsKept}
 use Rattle.node_looks.specs.declared.evaluator.Halt.{Halt}
-use Rattle.node_looks.specs.Evaluated.{PastPlaces}
-use Rattle.node_looks.specs.Looks.{has_bounded, IsHalted}
+use Rattle.node_looks.specs.Evaluated.{PastPlaces, cost_in}
+use Rattle.node_looks.specs.Looks.{has_bounded, cost_of, IsHalted}
 use Rattle.node_looks.specs.Children.{claim_with}
 use Rattle.abb_search.specs.Hand.{AreAtHand}
 use Rattle.abb_search.proofs.HandLemmas.{hand_same}
 use Rattle.abb_search.specs.declared.outcome.Found.{Found}
-use Rattle.abb_search.specs.declared.outcome.Found.TheVariants.{Solved, Infeasible, Memory}
+use Rattle.abb_search.specs.declared.outcome.Found.TheVariants as founds
 use Rattle.abb_search.specs.declared.growing.Growing.{Growing}
 use Rattle.abb_search.specs.declared.growing.HaltedLeaf.{HaltedLeaf}
 use Rattle.abb_search.specs.Growing.{IsTreeKept, IsGrowing, IsBeaten, LeastIsBelow, leaf_of, IsHaltedAt, GoesOn, IsGoing, IsSame, IsAfterBranch, IsShutDown}
 use Rattle.abb_search.specs.Found.{IsFoundBy, found_with}
-use Rattle.abb_search.specs.Answers.{IsMore, IsEnd, StepHolds}
+use Rattle.abb_search.specs.Answers.{network_in, IsAgainst, IsMore, IsEnd, StepHolds}
 use Rattle.abb_search.specs.Searched.{Searched, IsSameSearch, AreNodesOf, StandsAt, IsSearching}
 use Rattle.abb_search.proofs.KnownLemmas.{AreKnown}
 
@@ -53,37 +57,131 @@ pub none_halted : (o : Option HaltedLeaf) → leaf_of o ≡ None → o ≡ None
 none_halted None h = refl
 none_halted (Some w) h = absurd (let q : Some w.leaf ≡ None = h in cc)
 
-pub never_memory : (best : Option claims.Network) (tree : Tree) → found_with best tree ≡ Memory → ⊥
-never_memory None tree h = let q : Infeasible tree ≡ Memory = h in cc
-never_memory (Some w) tree h = let q : Solved w tree ≡ Memory = h in cc
+-- what is found has the best network
+pub network_found : (best : Option claims.Network) (tree : Tree) → network_in (found_with best tree) ≡ best
+network_found None tree = refl
+network_found (Some w) tree = refl
+
+pub never_memory : (best : Option claims.Network) (tree : Tree) → found_with best tree ≡ founds.Memory → ⊥
+never_memory None tree h = let q : founds.Infeasible tree ≡ founds.Memory = h in cc
+never_memory (Some w) tree h = let q : founds.Solved w tree ≡ founds.Memory = h in cc
 
 -- ---- the search goes on
 
-pub more_after : (Past : PastPlaces) (p : Problem) (s mid new : Growing) → IsAfterBranch Past p mid mid.halt → length s.pool.payloads < length mid.pool.payloads
-    → MatchOption mid.halt (IsShutDown p mid new) (λ h. new ≡ mid) → mid.start ≡ s.start → mid.budget ≡ s.budget → IsMore Past p s new
-more_after Past p s mid new after more shut es eu = by mid.halt refl after shut
+-- the cost of a network that passes is over a number above 0
+passes_positive : (partial : Bool) (p : Problem) (w : Option claims.Network) → ClaimPasses partial p (claim_with w) → IsPositiveCost (cost_of w)
+passes_positive partial p None h = tt
+passes_positive partial p (Some w) h = h.flows.positive
+
+pub tree_positive : (p : Problem) (s : Growing) → IsTreeKept p s → IsPositiveCost (cost_of s.best)
+tree_positive p s t = passes_positive true p s.best t.passes
+
+going_tree : (Past : PastPlaces) (p : Problem) (s : Growing) → IsGoing Past p s → IsTreeKept p s
+going_tree Past p s h = by s.halt h
   where
-    by : (o : Option HaltedLeaf) → mid.halt ≡ o → IsAfterBranch Past p mid o → MatchOption o (IsShutDown p mid new) (λ h. new ≡ mid) → IsMore Past p s new
+    by : (o : Option HaltedLeaf) → GoesOn Past p s o → IsTreeKept p s
+    by None g = g.0.tree
+    by (Some w) g = g.0
+
+going_positive : (Past : PastPlaces) (p : Problem) (s : Growing) → IsGoing Past p s → IsPositiveCost (cost_of s.best)
+going_positive Past p s h = tree_positive p s (going_tree Past p s h)
+
+-- what open leaves that are shut leave as it was
+pub record IsGoingAfter (Past : PastPlaces) (p : Problem) (mid new : Growing) : Type 0 where
+  pub going : IsGoing Past p new
+  pub len : length new.pool.payloads ≡ length mid.pool.payloads
+  pub start : new.start ≡ mid.start
+  pub budget : new.budget ≡ mid.budget
+  pub best : new.best ≡ mid.best
+
+pub going_after : (Past : PastPlaces) (p : Problem) (mid new : Growing) → IsAfterBranch Past p mid mid.halt → MatchOption mid.halt (IsShutDown p mid new) (λ h. new ≡ mid) → IsGoingAfter Past p mid new
+going_after Past p mid new after shut = by mid.halt refl after shut
+  where
+    by : (o : Option HaltedLeaf) → mid.halt ≡ o → IsAfterBranch Past p mid o → MatchOption o (IsShutDown p mid new) (λ h. new ≡ mid) → IsGoingAfter Past p mid new
     by None e a d = record {
       going = subst (λ (o : Option HaltedLeaf). GoesOn Past p new o) (sym (d.halt ∙ e)) (d.growing, d.below);
-      more = subst (λ n. length s.pool.payloads < n) (sym d.len) more;
-      start = d.start ∙ es;
-      budget = d.budget ∙ eu;
+      len = d.len;
+      start = d.start;
+      budget = d.budget;
+      best = d.best;
     }
     by (Some h) e a d = record {
       going = subst (λ (m : Growing). IsGoing Past p m) (sym d) (subst (λ (o : Option HaltedLeaf). GoesOn Past p mid o) (sym e) a);
-      more = subst (λ (m : Growing). length s.pool.payloads < length m.pool.payloads) (sym d) more;
-      start = ap (λ (m : Growing). m.start) d ∙ es;
-      budget = ap (λ (m : Growing). m.budget) d ∙ eu;
+      len = ap (λ (m : Growing). length m.pool.payloads) d;
+      start = ap (λ (m : Growing). m.start) d;
+      budget = ap (λ (m : Growing). m.budget) d;
+      best = ap (λ (m : Growing). m.best) d;
     }
+
+pub more_after : (Past : PastPlaces) (p : Problem) (s mid new : Growing) → IsAfterBranch Past p mid mid.halt → length s.pool.payloads < length mid.pool.payloads → HasFallen (cost_of s.best) (cost_of mid.best)
+    → MatchOption mid.halt (IsShutDown p mid new) (λ h. new ≡ mid) → mid.start ≡ s.start → mid.budget ≡ s.budget → IsMore Past p s new
+more_after Past p s mid new after more fallen shut es eu =
+    let g = going_after Past p mid new after shut in
+    record {
+      going = g.going;
+      more = subst (λ n. length s.pool.payloads < n) (sym g.len) more;
+      fallen = subst (λ (w : Option claims.Network). HasFallen (cost_of s.best) (cost_of w)) (sym g.best) fallen;
+      positive = going_positive Past p new g.going;
+      start = g.start ∙ es;
+      budget = g.budget ∙ eu;
+    }
+
+-- ---- costs that fall
+
+pub fallen_same : (c : Option CostOver) → HasFallen c c
+fallen_same None = tt
+fallen_same (Some v) = omega (arith, ints)
+
+pub fallen_trans : (a b c : Option CostOver) → IsPositiveCost a → IsPositiveCost b → IsPositiveCost c → HasFallen a b → HasFallen b c → HasFallen a c
+fallen_trans None b c pa pb pc h k = tt
+fallen_trans (Some x) None c pa pb pc h k = absurd h
+fallen_trans (Some x) (Some y) None pa pb pc h k = absurd k
+fallen_trans (Some x) (Some y) (Some z) pa pb pc h k = fraction_trans z.cost z.d y.cost y.d x.cost x.d pc pb pa k h
+
+found_positive : (Past : PastPlaces) (p : Problem) (start : Node) (budget : ℕ) (found : Found) → IsFoundBy Past p start budget found → IsPositiveCost (cost_of (network_in found))
+found_positive Past p start budget (founds.Solved w tree) h = h.accepted.claimed.flows.positive
+found_positive Past p start budget (founds.Infeasible tree) h = tt
+found_positive Past p start budget (founds.Spent best tree next options) h = passes_positive true p best h.0.partial.claimed
+found_positive Past p start budget (founds.Past best tree node nonbasic place) h = passes_positive true p best h.0.partial.claimed
+found_positive Past p start budget founds.Memory h = tt
+
+pub against_after : (Past : PastPlaces) (p : Problem) (start : Node) (budget : ℕ) (old mid : Option claims.Network) (found : Found) → IsFoundBy Past p start budget found
+    → IsPositiveCost (cost_of old) → IsPositiveCost (cost_of mid) → HasFallen (cost_of old) (cost_of mid) → IsAgainst mid found → IsAgainst old found
+against_after Past p start budget old mid (founds.Solved w tree) f po pm h k = fallen_trans (cost_of old) (cost_of mid) (Some (cost_in w)) po pm (found_positive Past p start budget (founds.Solved w tree) f) h k
+against_after Past p start budget old mid (founds.Infeasible tree) f po pm h k = fallen_trans (cost_of old) (cost_of mid) None po pm tt h k
+against_after Past p start budget old mid (founds.Spent best tree next options) f po pm h k =
+    fallen_trans (cost_of old) (cost_of mid) (cost_of best) po pm (found_positive Past p start budget (founds.Spent best tree next options) f) h k
+against_after Past p start budget old mid (founds.Past best tree node nonbasic place) f po pm h k =
+    fallen_trans (cost_of old) (cost_of mid) (cost_of best) po pm (found_positive Past p start budget (founds.Past best tree node nonbasic place) f) h k
+against_after Past p start budget old mid founds.Memory f po pm h k = tt
+
+-- an answer with the best network is against it
+pub against_same : (best : Option claims.Network) (found : Found) → network_in found ≡ best → (found ≡ founds.Memory → ⊥) → IsAgainst best found
+against_same best found e never = by found never (subst (λ (w : Option claims.Network). HasFallen (cost_of best) (cost_of w)) (sym e) (fallen_same (cost_of best)))
+  where
+    by : (f : Found) → (f ≡ founds.Memory → ⊥) → HasFallen (cost_of best) (cost_of (network_in f)) → IsAgainst best f
+    by (founds.Solved w tree) n h = h
+    by (founds.Infeasible tree) n h = h
+    by (founds.Spent b tree next options) n h = h
+    by (founds.Past b tree node nonbasic place) n h = h
+    by founds.Memory n h = absurd (n refl)
 
 -- the root is looked at first
 pub step_from : (Past : PastPlaces) (p : Problem) (old root new : Growing) (o : Option Found) → StepHolds Past p root new o
-    → root.start ≡ old.start → root.budget ≡ old.budget → length root.pool.payloads ≡ length old.pool.payloads → StepHolds Past p old new o
-step_from Past p old root new None h es eu el = record { going = h.going; more = subst (λ n. n < length new.pool.payloads) el h.more; start = h.start ∙ es; budget = h.budget ∙ eu }
-step_from Past p old root new (Some found) h es eu el = record {
+    → root.start ≡ old.start → root.budget ≡ old.budget → length root.pool.payloads ≡ length old.pool.payloads
+    → IsPositiveCost (cost_of old.best) → IsPositiveCost (cost_of root.best) → HasFallen (cost_of old.best) (cost_of root.best) → StepHolds Past p old new o
+step_from Past p old root new None h es eu el po pr fallen = record {
+  going = h.going;
+  more = subst (λ n. n < length new.pool.payloads) el h.more;
+  fallen = fallen_trans (cost_of old.best) (cost_of root.best) (cost_of new.best) po pr h.positive fallen h.fallen;
+  positive = h.positive;
+  start = h.start ∙ es;
+  budget = h.budget ∙ eu;
+}
+step_from Past p old root new (Some found) h es eu el po pr fallen = record {
   is_found = subst (λ (n : starts.Node). IsFoundBy Past p (node_of n) old.budget found) es (subst (λ b. IsFoundBy Past p (node_of root.start) b found) eu h.is_found);
   answers = h.answers;
+  against = against_after Past p (node_of root.start) root.budget old.best root.best found h.is_found po pr fallen h.against;
   as_many = h.as_many ∙ el;
   counted = h.counted;
   start = h.start ∙ es;
@@ -100,7 +198,7 @@ module _ (Past : PastPlaces) (p : Problem) (s n : Growing) (e : IsSame s n) wher
         (subst (λ (w : Option claims.Network). IsKept p (node_of n.start) (claim_with w) t.last s.pool.payloads) (sym e.best)
         (subst (λ (m : starts.Node). IsKept p (node_of m) (claim_with s.best) t.last s.pool.payloads) (sym e.start) t.kept));
     passes = subst (λ (w : Option claims.Network). ClaimPasses true p (claim_with w)) (sym e.best) t.passes;
-    bounded = ap (λ (w : Option claims.Network). is_some w) e.best ∙ (t.bounded ∙ ap (λ (cs : List Cell). has_bounded cs) (sym e.pool.payloads));
+    bounded = λ b. ap (λ (w : Option claims.Network). is_some w) e.best ∙ t.bounded (ap (λ (cs : List Cell). has_bounded cs) (sym e.pool.payloads) ∙ b);
     known = subst (λ (cs : List Cell). AreKnown p cs) (sym e.pool.payloads) t.known;
     counted = e.nodes ∙ (t.counted ∙ ap (λ (cs : List Cell). length cs) (sym e.pool.payloads));
     few = let a = ap (λ (cs : List Cell). length cs) e.pool.payloads in let b = e.budget in let c = t.few in omega (arith, a, b, c);
@@ -142,11 +240,12 @@ module _ (Past : PastPlaces) (p : Problem) (s n : Growing) (e : IsSame s n) wher
 
 -- ---- the search ends
 
-pub ends_with : (Past : PastPlaces) (p : Problem) (s new : Growing) (found : Found) → IsTreeKept p s → IsFoundBy Past p (node_of s.start) s.budget found → (found ≡ Memory → ⊥)
+pub ends_with : (Past : PastPlaces) (p : Problem) (s new : Growing) (found : Found) → IsTreeKept p s → IsFoundBy Past p (node_of s.start) s.budget found → (found ≡ founds.Memory → ⊥) → network_in found ≡ s.best
     → new.pool ≡ s.pool → new.nodes ≡ s.nodes → new.start ≡ s.start → new.budget ≡ s.budget → IsEnd Past p s new found
-ends_with Past p s new found t f answers ep en es eu = record {
+ends_with Past p s new found t f answers network ep en es eu = record {
   is_found = f;
   answers = answers;
+  against = against_same s.best found network answers;
   as_many = ap (λ (l : Pooled Cell). length l.payloads) ep;
   counted = en ∙ (t.counted ∙ ap (λ (l : Pooled Cell). length l.payloads) (sym ep));
   start = es;
@@ -157,11 +256,7 @@ ends_with Past p s new found t f answers ep en es eu = record {
 
 pub stands_tree : (Past : PastPlaces) (p : Problem) (s : Growing) (looked : Bool) → StandsAt Past p s looked → IsTreeKept p s
 stands_tree Past p s false h = h.0
-stands_tree Past p s true h = by s.halt h
-  where
-    by : (o : Option HaltedLeaf) → GoesOn Past p s o → IsTreeKept p s
-    by None g = g.0.tree
-    by (Some w) g = g.0
+stands_tree Past p s true h = going_tree Past p s h
 
 pub nodes_of_tree : (cells : List Cell) → IsLinked cells → (at place : ℕ) (tree : Tree) → IsTreeOf cells at tree place → AreNodesOf cells tree
 nodes_of_tree cells linked at place tree of = record {

@@ -2,7 +2,7 @@
 use Rattle.std.specs.Prelude.{is_some}
 use Rattle.std.proofs.Common.{◌≡◌, ◌⊎◌, ◌==◌, ℕ, ◌+◌, ◌-◌, ◌^◌, ◌<◌, ◌≤◌, true, ◌||◌, List, [], ◌∷◌, ◌++◌, length, get_or, slice_set, Option, Some, None, ℤ, ◌*ℤ◌, ◌≤ℤ◌, ◌<ℤ◌, refl, sym, ap, ◌∙◌, subst, arith, inl, inr, Result, Ok, Err, IfOk, OnOk}
 use Rattle.std.specs.List.{slice_get}
-use Rattle.std.proofs.lemmas.Bool.{cases_lt, or_cases, eqb-true}
+use Rattle.std.proofs.lemmas.Bool.{cases_lt, or_cases, or_left, or_right, eqb-true}
 use Rattle.std.proofs.lemmas.Cmp.{int_ranked}
 use Rattle.std.specs.declared.cmp.Ordering.TheVariants.{Greater}
 use Rattle.unit_sets.specs.declared.node.Node as starts
@@ -222,8 +222,7 @@ module _ (p : Problem) (valid : IsValid p) (s : Growing) (g : IsGrowing p s) (at
                 (subst (λ (w : Option claims.Network). IsKept p (node_of new.start) (claim_with w) g.tree.last shut_cells) (sym eb)
                 (subst (λ (n : starts.Node). IsKept p (node_of n) (claim_with s.best) g.tree.last shut_cells) (sym es) shut_kept));
             passes = subst (λ (w : Option claims.Network). ClaimPasses true p (claim_with w)) (sym eb) g.tree.passes;
-            bounded = ap (λ (w : Option claims.Network). is_some w) eb
-                ∙ (some_best s.best beaten ∙ sym (ap (λ (cs : List Cell). has_bounded cs) ec ∙ bounded_set s.pool.payloads at (as_shut (cell_at s.pool.payloads at) (leaf (bounded q.bound.scaled.d q.bound.scaled.ys))) there (open_unbounded (cell_at s.pool.payloads at).end untried_there)));
+            bounded = λ b. ap (λ (w : Option claims.Network). is_some w) eb ∙ some_best s.best beaten;
             known = subst (λ (cs : List Cell). AreKnown p cs) (sym ec)
                 (known_set p s.pool.payloads at (as_shut (cell_at s.pool.payloads at) (leaf (bounded q.bound.scaled.d q.bound.scaled.ys))) g.tree.known there
                 (known_end p (cell_at s.pool.payloads at) (as_shut (cell_at s.pool.payloads at) (leaf (bounded q.bound.scaled.d q.bound.scaled.ys))) (g.tree.known at there) refl refl numbers));
@@ -242,6 +241,7 @@ module _ (p : Problem) (valid : IsValid p) (s : Growing) (g : IsGrowing p s) (at
         len = same_count;
         start = es;
         budget = eu;
+        best = eb;
         halt = eh;
       }
         where
@@ -317,13 +317,20 @@ module _ (p : Problem) (valid : IsValid p) (s : Growing) (g : IsGrowing p s) (at
             (end_known p valid (place_of (cell_at s.pool.payloads at)) m choice)))
             (known_kids p c.kids.items gs c.ready.items freed new.ready placed seen.known))
 
-        bounded_now : is_some new.best ≡ has_bounded new.pool.payloads
-        bounded_now =
-            some_new
-            ∙ (ap (λ b. b || is_some c.best) g.tree.bounded ∙ ap (λ b. has_bounded s.pool.payloads || b) (seen.bounded ∙ sym (bounded_same c.kids.items gs c.ready.items freed new.ready placed)))
-            ∙ sym (ap (λ (cs : List Cell). has_bounded cs) ec
+        bounded_in : has_bounded new.pool.payloads ≡ (has_bounded s.pool.payloads || has_bounded (cells_of gs))
+        bounded_in =
+            ap (λ (cs : List Cell). has_bounded cs) ec
             ∙ (bounded_more (slice_set s.pool.payloads at now) (cells_of gs)
-            ∙ ap (λ b. b || has_bounded (cells_of gs)) (bounded_set s.pool.payloads at now there (open_unbounded (cell_at s.pool.payloads at).end untried_there))))
+            ∙ ap (λ b. b || has_bounded (cells_of gs)) (bounded_set s.pool.payloads at now there (open_unbounded (cell_at s.pool.payloads at).end untried_there)))
+
+        kids_bounded : is_some c.best ≡ has_bounded (cells_of gs)
+        kids_bounded = seen.bounded ∙ sym (bounded_same c.kids.items gs c.ready.items freed new.ready placed)
+
+        bounded_now : has_bounded new.pool.payloads ≡ true → is_some new.best ≡ true
+        bounded_now b = some_new ∙ elim (or_cases (has_bounded s.pool.payloads) (has_bounded (cells_of gs)) (sym bounded_in ∙ b)) [
+          | inl o ↦ or_left (is_some s.best) (is_some c.best) (g.tree.bounded o)
+          | inr k ↦ or_right (is_some s.best) (is_some c.best) (kids_bounded ∙ k)
+        ]
 
         longer : length new.pool.payloads ≡ length s.pool.payloads + length (cells_of gs)
         longer = branched.len

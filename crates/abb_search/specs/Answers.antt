@@ -4,9 +4,11 @@ use Rattle.problem_rules.specs.Problem.{Problem}
 use Rattle.pgraph.specs.View.{node_of}
 use Rattle.tree_rules.specs.Claim as claims
 use Rattle.tree_rules.specs.Accepted.{Tree}
+use Rattle.turn_laws.specs.Values.{HasFallen, IsPositiveCost}
 use Rattle.node_looks.specs.Evaluated.{PastPlaces}
+use Rattle.node_looks.specs.Looks.{cost_of}
 use Rattle.abb_search.specs.declared.outcome.Found.{Found}
-use Rattle.abb_search.specs.declared.outcome.Found.TheVariants.{Past, Memory}
+use Rattle.abb_search.specs.declared.outcome.Found.TheVariants.{Solved, Infeasible, Spent, Past, Memory}
 use Rattle.abb_search.specs.declared.growing.Growing.{Growing}
 use Rattle.abb_search.specs.declared.growing.HaltedLeaf.{HaltedLeaf}
 use Rattle.abb_search.specs.Growing.{IsGoing}
@@ -17,10 +19,25 @@ abbrev pub past_with : Option claims.Network → Option HaltedLeaf → Tree → 
 past_with best None tree place = None
 past_with best (Some h) tree place = Some (Past best tree place h.halt.nonbasic h.halt.place)
 
--- the search goes on with more nodes
+-- the network of an answer
+abbrev pub network_in : Found → Option claims.Network
+network_in (Solved w tree) = Some w
+network_in (Infeasible tree) = None
+network_in (Spent best tree next options) = best
+network_in (Past best tree node nonbasic place) = best
+network_in Memory = None
+
+-- an answer has a network that costs no more than this one, where there is one
+abbrev pub IsAgainst : Option claims.Network → Found → Type 0
+IsAgainst best Memory = Unit {0}
+IsAgainst best found = HasFallen (cost_of best) (cost_of (network_in found))
+
+-- the search goes on with more nodes, and its network is no dearer
 pub record IsMore (Halts : PastPlaces) (p : Problem) (old new : Growing) : Type 0 where
   pub going : IsGoing Halts p new
   pub more : length old.pool.payloads < length new.pool.payloads
+  pub fallen : HasFallen (cost_of old.best) (cost_of new.best)
+  pub positive : IsPositiveCost (cost_of new.best)
   pub start : new.start ≡ old.start
   pub budget : new.budget ≡ old.budget
 
@@ -28,6 +45,7 @@ pub record IsMore (Halts : PastPlaces) (p : Problem) (old new : Growing) : Type 
 pub record IsEnd (Halts : PastPlaces) (p : Problem) (old new : Growing) (found : Found) : Type 0 where
   pub is_found : IsFoundBy Halts p (node_of old.start) old.budget found
   pub answers : found ≡ Memory → ⊥
+  pub against : IsAgainst old.best found
   pub as_many : length new.pool.payloads ≡ length old.pool.payloads
   pub counted : new.nodes ≡ length new.pool.payloads
   pub start : new.start ≡ old.start

@@ -36,13 +36,13 @@ use Rattle.abb_search.specs.Hand.{AreAtHand, IsPlaced, ArePlaced}
 use Rattle.abb_search.specs.declared.growing.Growing.{Growing}
 use Rattle.abb_search.specs.declared.growing.HaltedLeaf.{HaltedLeaf}
 
--- the tree is one that a search keeps, with numbers that the problem knows; the best network passes, and there is one exactly where
--- a leaf is bounded
+-- the tree is one that a search keeps, with numbers that the problem knows; the best network passes, and there is one where a leaf
+-- is bounded
 pub record IsTreeKept (p : Problem) (s : Growing) : Type 0 where
   pub last : Option CostOver
   pub kept : IsKept p (node_of s.start) (claim_with s.best) last s.pool.payloads
   pub passes : ClaimPasses true p (claim_with s.best)
-  pub bounded : is_some s.best ≡ has_bounded s.pool.payloads
+  pub bounded : has_bounded s.pool.payloads ≡ true → is_some s.best ≡ true
   pub known : (i : ℕ) → i < length s.pool.payloads → KnowsCell p (cell_at s.pool.payloads i)
   pub counted : s.nodes ≡ length s.pool.payloads
   pub few : length s.pool.payloads ≤ s.budget
@@ -99,20 +99,20 @@ IsGoing Past p s = GoesOn Past p s s.halt
 abbrev pub open_cell : starts.Node → Cell
 open_cell n = record { option = []; steps = []; node = n; first = 0; end = leaf untried; key = 0 }
 
--- the tree is the open root
-pub record IsOpenRoot (start : starts.Node) (budget : ℕ) (s : Growing) : Type 0 where
+-- the tree is the open root, and this network is to be undercut
+pub record IsOpenRoot (start : starts.Node) (budget : ℕ) (best : Option claims.Network) (s : Growing) : Type 0 where
   pub start_is : s.start ≡ start
   pub budget_is : s.budget ≡ budget
   pub nodes_are : s.nodes ≡ 1
   pub cells_are : s.pool.payloads ≡ open_cell start ∷ []
-  pub none : s.best ≡ None
+  pub best_is : s.best ≡ best
 
 abbrev pub root_halt : Option Halt → Option HaltedLeaf
 root_halt None = None
 root_halt (Some h) = Some (record { leaf = 0; halt = h })
 
--- the tree is the root as it is seen
-pub record IsLookedRoot (Past : PastPlaces) (p : Problem) (start : starts.Node) (budget : ℕ) (s : Growing) : Type 0 where
+-- the tree is the root as it is seen, and the best network is the cheaper one of that to be undercut and that found there
+pub record IsLookedRoot (Past : PastPlaces) (p : Problem) (start : starts.Node) (budget : ℕ) (best : Option claims.Network) (s : Growing) : Type 0 where
   pub looked : Looked
   pub is_looked : IsLooked Past p (node_of start) [] looked
   pub start_is : s.start ≡ start
@@ -123,7 +123,10 @@ pub record IsLookedRoot (Past : PastPlaces) (p : Problem) (start : starts.Node) 
   pub placed : IsPlaced (record { cell = looked.cell; value = looked.value }) root looked.ready empty s.ready
   pub cells_are : s.pool.payloads ≡ root.cell ∷ []
   pub values_are : s.pool.values ≡ root.value ∷ []
-  pub best_is : s.best ≡ looked.network
+  pub which : (s.best ≡ best) ⊎ (s.best ≡ looked.network)
+  pub fallen : HasFallen (cost_of best) (cost_of s.best)
+  pub fallen_found : HasFallen (cost_of looked.network) (cost_of s.best)
+  pub some_best : is_some s.best ≡ (is_some best || is_some looked.network)
   pub halt_is : s.halt ≡ root_halt looked.halt
   pub are_open : AreOpen s.pool
 
@@ -180,6 +183,7 @@ pub record IsShutting (p : Problem) (old new : Growing) : Type 0 where
   pub len : length new.pool.payloads ≡ length old.pool.payloads
   pub start : new.start ≡ old.start
   pub budget : new.budget ≡ old.budget
+  pub best : new.best ≡ old.best
   pub halt : new.halt ≡ old.halt
 
 -- open leaves are shut until none is beaten
@@ -189,6 +193,7 @@ pub record IsShutDown (p : Problem) (old new : Growing) : Type 0 where
   pub len : length new.pool.payloads ≡ length old.pool.payloads
   pub start : new.start ≡ old.start
   pub budget : new.budget ≡ old.budget
+  pub best : new.best ≡ old.best
   pub halt : new.halt ≡ old.halt
 
 -- ---- the budget is spent

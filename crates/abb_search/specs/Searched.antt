@@ -1,5 +1,5 @@
 -- What contracts see of a search, and what a turn does to it.
-use Rattle.std.specs.Prelude.{◌≡◌, ℕ, ◌<◌, ◌≤◌, Bool, true, false, List, [], ◌∷◌, length, Option, None}
+use Rattle.std.specs.Prelude.{◌≡◌, ℕ, ◌<◌, ◌≤◌, Bool, true, false, List, [], ◌∷◌, length, Option}
 use Rattle.problem_rules.specs.Problem.{Problem}
 use Rattle.pns_rules.specs.Shape.{Shape, shape_of}
 use Rattle.pns_rules.specs.Ends.{IsSound}
@@ -10,13 +10,16 @@ use Rattle.tree_rules.specs.Accepted.{Tree}
 use Rattle.search_tree.specs.Cells.{Cell}
 use Rattle.search_tree.specs.Preorder.{IsPreorder, tree_of}
 use Rattle.neutral_extension.specs.Candidates.{AreMakersOf}
+use Rattle.turn_laws.specs.Values.{HasFallen, IsPositiveCost}
 use Rattle.node_looks.specs.Evaluated.{PastPlaces}
+use Rattle.node_looks.specs.Looks.{cost_of}
 use Rattle.abb_search.specs.declared.outcome.Found.{Found}
 use Rattle.abb_search.specs.declared.outcome.Found.TheVariants.{Memory}
 use Rattle.abb_search.specs.declared.growing.Growing.{Growing}
 use Rattle.abb_search.specs.declared.outcome.Turn.{Turn}
 use Rattle.abb_search.specs.declared.outcome.Turn.TheVariants as turns
 use Rattle.abb_search.specs.Found.{IsFoundBy}
+use Rattle.abb_search.specs.Answers.{IsAgainst}
 use Rattle.abb_search.specs.Growing.{open_cell, IsTreeKept, IsGoing}
 
 -- the problem, the node that the search starts from, the most nodes that it may take, its nodes in the order of adding, the
@@ -29,9 +32,9 @@ pub record Searched : Type 0 where
   pub best : Option claims.Network
   pub ended : Bool
 
--- a search before its first turn
-abbrev pub opened : Problem → Node → ℕ → Searched
-opened p start budget = record { problem = p; start = start; budget = budget; cells = open_cell start ∷ []; best = None; ended = false }
+-- a search before its first turn, against a network where one is handed in
+abbrev pub opened : Problem → Node → ℕ → Option claims.Network → Searched
+opened p start budget best = record { problem = p; start = start; budget = budget; cells = open_cell start ∷ []; best = best; ended = false }
 
 -- ---- a turn
 
@@ -41,18 +44,21 @@ pub record IsSameSearch (old new : Searched) : Type 0 where
   pub start : new.start ≡ old.start
   pub budget : new.budget ≡ old.budget
 
--- the search goes on, and its nodes are more
+-- the search goes on, its nodes are more, and its network is no dearer
 pub record GoesOn (old new : Searched) : Type 0 where
   pub same : IsSameSearch old new
   pub more : length old.cells < length new.cells
   pub few : length new.cells ≤ new.budget
   pub goes_on : new.ended ≡ false
+  pub fallen : HasFallen (cost_of old.best) (cost_of new.best)
+  pub positive : IsPositiveCost (cost_of new.best)
 
 -- the search ends with one of the first four answers, and its nodes are as many as before
 pub record HasEnded (Past : PastPlaces) (old new : Searched) (found : Found) : Type 0 where
   pub same : IsSameSearch old new
   pub is_found : IsFoundBy Past old.problem (node_of old.start) old.budget found
   pub answers : found ≡ Memory → ⊥
+  pub against : IsAgainst old.best found
   pub as_many : length new.cells ≡ length old.cells
   pub ended : new.ended ≡ true
 

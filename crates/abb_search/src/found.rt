@@ -20,7 +20,7 @@ pub(crate) struct Placed {
 }
 
 /// A network has a set of units below 128. A call tells a proof so, and does nothing.
-fn is_sized(best: &Option<Network>)
+pub(crate) fn is_sized(best: &Option<Network>)
     ensures { IfSome best.now IsSized }
 {
     if let Some(network) = best {

@@ -24,4 +24,4 @@ mod whole;
 
 pub use outcome::{Found, Turn};
 pub use turns::{SearchWith, search_with};
-pub use whole::{Search, search};
+pub use whole::{Search, search, search_against};

@@ -10,10 +10,10 @@ ghost use Rattle.abb_search.specs.Growing.{root_halt, IsOpenRoot, IsLookedRoot};
 
 use crate::growing::{Growing, HaltedLeaf};
 use crate::hand::place;
-use branch_tree::Steps;
+use branch_tree::{Network, Steps};
 use frac128::Frac;
 use neutral_extension::Makers;
-use node_looks::{Evaluator, Halt, look, open_cell};
+use node_looks::{Evaluator, Halt, cheaper, look, open_cell};
 use node_pool::Pool;
 use pgraph::Graph;
 use pns_problem::Problem;
@@ -61,9 +61,14 @@ fn copy_of(node: &Node) -> Node
     *node
 }
 
-/// The root as an open leaf without steps.
-pub(crate) fn open_root(alloc: Global, start: Node, budget: u32) -> Result<Growing, AllocError>
-    ensures { IfOk result (IsOpenRoot start budget) }
+/// The root as an open leaf without steps, and the network that is to be undercut, if there is one.
+pub(crate) fn open_root(
+    alloc: Global,
+    start: Node,
+    budget: u32,
+    best: Option<Network>,
+) -> Result<Growing, AllocError>
+    ensures { IfOk result (IsOpenRoot start budget best) }
 {
     let root = copy_of(&start);
     let cell = open_cell(UnitSet::empty(), Steps::from_vec(Vec::new(alloc)), root);
@@ -74,7 +79,7 @@ pub(crate) fn open_root(alloc: Global, start: Node, budget: u32) -> Result<Growi
         nodes: 1,
         pool,
         ready: Slab::new(alloc),
-        best: None,
+        best,
         halt: None,
     })
 }
@@ -89,7 +94,7 @@ fn root_halt(halt: Option<Halt>) -> Option<HaltedLeaf>
     }
 }
 
-/// The root after the steps that are possible there.
+/// The root after the steps that are possible there. `best` is the network that is to be undercut, if there is one.
 pub(crate) fn look_at_root<E: Evaluator>(
     alloc: Global,
     evaluator: &mut E,
@@ -98,11 +103,12 @@ pub(crate) fn look_at_root<E: Evaluator>(
     makers: &mut Makers,
     start: Node,
     budget: u32,
+    best: Option<Network>,
 ) -> Result<Growing, AllocError>
     requires graph { shape graph.now ≡ shape_of problem.now }
     requires same { AreMakersOf (shape graph.now) makers.old.makers }
     requires sound { IsSound (shape_of problem.now) (node_of start) }
-    ensures root { IfOk result (IsLookedRoot E.past problem.now start budget) }
+    ensures root { IfOk result (IsLookedRoot E.past problem.now start budget best) }
     ensures makers { makers.new.makers ≡ makers.old.makers }
 {
     let node = copy_of(&start);
@@ -129,7 +135,7 @@ pub(crate) fn look_at_root<E: Evaluator>(
         nodes: 1,
         pool,
         ready,
-        best: looked.network,
+        best: cheaper(best, looked.network),
         halt: root_halt(looked.halt),
     })
 }

@@ -13,6 +13,7 @@ use crate::found::{past_found, tree_with, whole_found};
 use crate::growing::{Growing, branch_leaf, choice_at, halted_leaf, is_over, node_at, shut_beaten};
 use crate::outcome::Found;
 use crate::root::look_at_root;
+use branch_tree::Network;
 use neutral_extension::Makers;
 use node_looks::Evaluator;
 use pgraph::Graph;
@@ -85,6 +86,18 @@ pub(crate) fn step<E: Evaluator>(
     Ok(past_found(growing.best.take(), growing.halt.take(), stopped))
 }
 
+/// A copy of the best network.
+fn copy_of_best(alloc: Global, best: &Option<Network>) -> Result<Option<Network>, AllocError>
+    ensures { IfOk result (λ copy. copy ≡ best.now) }
+{
+    let Some(network) = best else {
+        return Ok(None);
+    };
+    network.is_sized();
+    let sizes = network.sizes().to_vec(alloc)?;
+    Ok(Some(Network::of(network.units(), sizes, network.d(), network.cost())))
+}
+
 /// Takes a search so far that its nodes are more, or to its end; before the first turn the root is not looked at yet. After `Err`, which
 /// comes for want of memory alone, the tree is as before.
 pub(crate) fn take_turn<E: Evaluator>(
@@ -116,7 +129,9 @@ pub(crate) fn take_turn<E: Evaluator>(
         makers,
         growing.start,
         growing.budget,
+        copy_of_best(alloc, &growing.best)?,
     )?;
+    shut_beaten(problem, &mut root);
     let found = step(alloc, evaluator, problem, graph, makers, &mut root)?;
     *growing = root;
     Ok(found)

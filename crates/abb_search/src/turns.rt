@@ -1,15 +1,18 @@
 //! A search that is taken turn by turn, and the loop over its turns.
-ghost use Rattle.std.specs.Prelude.{◌≡◌, ◌≤◌, false, is_some, IfOk, option_copied, length};
+ghost use Rattle.std.specs.Prelude.{◌≡◌, ◌≤◌, true, false, is_some, IfOk, option_copied, length};
 ghost use Rattle.pns_rules.specs.Shape.{shape_of};
 ghost use Rattle.pns_rules.specs.Ends.{IsSound};
 ghost use Rattle.pgraph.specs.Tables.{shape};
 ghost use Rattle.pgraph.specs.View.{node_of};
-ghost use Rattle.node_looks.specs.Looks.{has_bounded};
+ghost use Rattle.turn_laws.specs.Values.{IsPositiveCost};
+ghost use Rattle.node_looks.specs.Looks.{has_bounded, cost_of};
+ghost use Rattle.tree_rules.specs.Claim.{ClaimPasses};
 ghost use Rattle.node_looks.specs.Children.{claim_with};
+ghost use Rattle.abb_search.specs.Answers.{IsAgainst};
 ghost use Rattle.abb_search.specs.Found.{IsStopped, IsFoundBy};
 ghost use Rattle.abb_search.specs.Searched.{opened, TurnHolds, AreNodesOf};
 
-use crate::found::tree_with;
+use crate::found::{is_sized, tree_with};
 use crate::growing::Growing;
 use crate::outcome::{Found, Turn};
 use crate::root::open_root;
@@ -55,7 +58,7 @@ impl<'a, E: Evaluator> Model for SearchWith<'a, E> {
 }
 
 impl<'a, E: Evaluator + Drop> SearchWith<'a, E> {
-    /// A search before its first turn. The graph is that of the problem.
+    /// A search before its first turn, for a network that is cheaper than `best`, where there is one. The graph is that of the problem.
     pub fn open_with(
         alloc: Global,
         evaluator: E,
@@ -63,14 +66,17 @@ impl<'a, E: Evaluator + Drop> SearchWith<'a, E> {
         graph: &'a Graph,
         start: Node,
         budget: u32,
+        best: Option<Network>,
     ) -> Result<SearchWith<'a, E>, AllocError>
         requires graph { shape graph.now ≡ shape_of problem.now }
         requires sound { IsSound (shape_of problem.now) (node_of start) }
         requires some { 1 ≤ budget }
-        ensures { IfOk result (λ s. s ≡ opened problem.now start budget) }
+        requires passes { ClaimPasses true problem.now (claim_with best) }
+        ensures { IfOk result (λ s. s ≡ opened problem.now start budget best) }
     {
         let makers = Makers::open(alloc, graph)?;
-        let growing = open_root(alloc, start, budget)?;
+        is_sized(&best);
+        let growing = open_root(alloc, start, budget, best)?;
         Ok(SearchWith {
             alloc,
             problem,
@@ -124,11 +130,11 @@ impl<'a, E: Evaluator + Drop> SearchWith<'a, E> {
         self.ended
     }
 
-    /// The cheapest network that was found, none exactly where no leaf of the tree is bounded.
+    /// The cheapest network that was found or handed in, none only where no leaf of the tree is bounded.
     pub fn best(&self) -> Option<&Network>
         requires { self.now.ended ≡ false }
         ensures best { option_copied result ≡ self.now.best }
-        ensures bounded { is_some self.now.best ≡ has_bounded self.now.cells }
+        ensures bounded { has_bounded self.now.cells ≡ true → is_some self.now.best ≡ true }
     {
         self.growing.best.as_ref()
     }
@@ -146,8 +152,10 @@ impl<'a, E: Evaluator + Drop> SearchWith<'a, E> {
 
 /// Takes turns until the search ends, or there is no memory.
 pub(crate) fn run<'a, E: Evaluator + Drop>(search: SearchWith<'a, E>) -> Found
-    requires { search.ended ≡ false }
-    ensures { IsFoundBy E.past search.entry.problem (node_of search.entry.start) search.entry.budget result }
+    requires begun { search.ended ≡ false }
+    requires positive { IsPositiveCost (cost_of search.best) }
+    ensures found { IsFoundBy E.past search.entry.problem (node_of search.entry.start) search.entry.budget result }
+    ensures against { IsAgainst search.entry.best result }
 {
     let mut search = search;
     'turns: loop {
@@ -173,7 +181,7 @@ pub fn search_with<E: Evaluator + Drop>(
     requires some { 1 ≤ budget }
     ensures found { IsFoundBy E.past problem.now (node_of start) budget result }
 {
-    match SearchWith::open_with(alloc, evaluator, problem, graph, start, budget) {
+    match SearchWith::open_with(alloc, evaluator, problem, graph, start, budget, None) {
         Ok(search) => run(search),
         Err(_) => Found::Memory,
     }

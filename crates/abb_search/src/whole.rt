@@ -1,14 +1,17 @@
 //! The search that the simplex method bounds.
-ghost use Rattle.std.specs.Prelude.{◌≡◌, ◌≤◌, IfOk};
+ghost use Rattle.std.specs.Prelude.{◌≡◌, ◌≤◌, Some, None, IfOk};
 ghost use Rattle.pns_rules.specs.Shape.{shape_of};
 ghost use Rattle.pns_rules.specs.Ends.{IsSound};
 ghost use Rattle.pgraph.specs.Tables.{shape};
 ghost use Rattle.pgraph.specs.View.{node_of};
+ghost use Rattle.tree_rules.specs.Claim.{IsFeasible};
+ghost use Rattle.abb_search.specs.Answers.{IsAgainst};
 ghost use Rattle.abb_search.specs.Found.{IsFound};
 ghost use Rattle.abb_search.specs.Searched.{opened};
 
 use crate::outcome::Found;
 use crate::turns::{SearchWith, run};
+use branch_tree::Network;
 use flow_evaluator::FlowEvaluator;
 use pgraph::Graph;
 use pns_problem::Problem;
@@ -30,10 +33,38 @@ impl<'a> SearchWith<'a, FlowEvaluator> {
         requires graph { shape graph.now ≡ shape_of problem.now }
         requires sound { IsSound (shape_of problem.now) (node_of start) }
         requires some { 1 ≤ budget }
-        ensures { IfOk result (λ s. s ≡ opened problem.now start budget) }
+        ensures { IfOk result (λ s. s ≡ opened problem.now start budget None) }
     {
         let evaluator = FlowEvaluator::open(alloc, problem)?;
-        SearchWith::open_with(alloc, evaluator, problem, graph, start, budget)
+        SearchWith::open_with(alloc, evaluator, problem, graph, start, budget, None)
+    }
+
+    /// A search before its first turn for a network that is cheaper than the one that is handed in, which passes as a claim. What
+    /// it finds in the end is that network or a cheaper one.
+    pub fn open_against(
+        alloc: Global,
+        problem: &'a Problem,
+        graph: &'a Graph,
+        start: Node,
+        budget: u32,
+        network: Network,
+    ) -> Result<Search<'a>, AllocError>
+        requires graph { shape graph.now ≡ shape_of problem.now }
+        requires sound { IsSound (shape_of problem.now) (node_of start) }
+        requires some { 1 ≤ budget }
+        requires passes { IsFeasible problem.now network }
+        ensures { IfOk result (λ s. s ≡ opened problem.now start budget (Some network)) }
+    {
+        let evaluator = FlowEvaluator::open(alloc, problem)?;
+        SearchWith::open_with(
+            alloc,
+            evaluator,
+            problem,
+            graph,
+            start,
+            budget,
+            Some(network),
+        )
     }
 }
 
@@ -45,6 +76,30 @@ pub fn search(alloc: Global, problem: &Problem, graph: &Graph, start: Node, budg
     ensures found { IsFound problem.now (node_of start) budget result }
 {
     match Search::open(alloc, problem, graph, start, budget) {
+        Ok(search) => run(search),
+        Err(_) => Found::Memory,
+    }
+}
+
+/// Searches the structures of the family of a node for one whose flows are cheaper than those of the network that is handed in, which
+/// passes as a claim: the loop over the turns of a [`Search`] that is opened against it. What is found is that network or a cheaper
+/// one.
+pub fn search_against(
+    alloc: Global,
+    problem: &Problem,
+    graph: &Graph,
+    start: Node,
+    budget: u32,
+    network: Network,
+) -> Found
+    requires graph { shape graph.now ≡ shape_of problem.now }
+    requires sound { IsSound (shape_of problem.now) (node_of start) }
+    requires some { 1 ≤ budget }
+    requires passes { IsFeasible problem.now network }
+    ensures found { IsFound problem.now (node_of start) budget result }
+    ensures against { IsAgainst (Some network) result }
+{
+    match Search::open_against(alloc, problem, graph, start, budget, network) {
         Ok(search) => run(search),
         Err(_) => Found::Memory,
     }

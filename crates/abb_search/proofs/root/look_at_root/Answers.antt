@@ -19,7 +19,10 @@ returns-clause-root g c =
       placed = c.place-root.ensures.placed;
       cells_are = c.in_ok-pool.ensures.cells;
       values_are = c.in_ok-pool.ensures.values;
-      best_is = refl;
+      which = c.cheaper.ensures.which;
+      fallen = c.cheaper.ensures.old;
+      fallen_found = c.cheaper.ensures.found;
+      some_best = c.cheaper.ensures.some;
       halt_is = c.root_halt.ensures;
       are_open = c.in_ok-pool.ensures.open;
     }

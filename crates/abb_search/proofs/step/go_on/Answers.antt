@@ -14,7 +14,7 @@ use Rattle.abb_search.specs.Growing.{IsBranching, IsAfterBranch}
 use Rattle.abb_search.specs.Found.{found_with}
 use Rattle.abb_search.specs.Answers.{IsEnd}
 use Rattle.abb_search.proofs.EndLemmas.{whole_found, spent_found}
-use Rattle.abb_search.proofs.StepLemmas.{ends_with, never_memory, more_after}
+use Rattle.abb_search.proofs.StepLemmas.{ends_with, network_found, never_memory, more_after}
 use Rattle.abb_search.proofs.TurnLemmas.{whole, there, hand, chosen, sound_there, spent_here, branched_step, within_budget}
 use Rattle.abb_search.proofs.step.go_on.Goals as goal
 
@@ -29,7 +29,7 @@ returns-in_default-clause-holds g c =
     subst (λ (f : Found). IsEnd g.E.Evaluator.past p s new f) (sym e)
     (ends_with g.E.Evaluator.past p s new (found_with s.best w.tree) t
     (whole_found p s t 0 w.place w.tree c.in_ok-whole.ensures.tree c.in_ok-whole.ensures.sized g.E.Evaluator.past s.budget s.start refl (whole p s c.requires.growing (sym c.least.ensures ∙ c.in_default.is)))
-    (never_memory s.best w.tree) refl refl refl refl)
+    (never_memory s.best w.tree) (network_found s.best w.tree) refl refl refl refl)
 
 pub choice_at-choice-requires : goal.choice_at-choice-requires
 choice_at-choice-requires g c = there c.args.problem.now c.is_valid.ensures.valid c.args.growing.now c.requires.growing c.in-Some.leaf (sym c.least.ensures ∙ c.in-Some.is) c.is_pool.ensures.payloads c.is_pool.ensures.leaves c.is_pool.ensures.rising
@@ -54,7 +54,7 @@ returns-then-is_over-clause-holds g c =
     (subst (λ (b : Option claims.Network). IsEnd g.E.Evaluator.past p s new (Spent b w.tree w.place (option_count m))) (sym c.take-then-is_over.ensures.value)
     (ends_with g.E.Evaluator.past p s new f t
     (spent_found p s t c.in-Some.leaf w.place w.tree c.in_ok-stopped.ensures.tree c.in_ok-stopped.ensures.sized c.is_valid.ensures.valid (option_count m) s.budget s.start refl refl sp)
-    (λ (q : Spent s.best w.tree w.place (option_count m) ≡ Memory). cc) refl refl refl refl))
+    (λ (q : Spent s.best w.tree w.place (option_count m) ≡ Memory). cc) refl refl refl refl refl))
 
 pub node_at-node-requires : goal.node_at-node-requires
 node_at-node-requires g c = there c.args.problem.now c.is_valid.ensures.valid c.args.growing.now c.requires.growing c.in-Some.leaf (sym c.least.ensures ∙ c.in-Some.is) c.is_pool.ensures.payloads c.is_pool.ensures.leaves c.is_pool.ensures.rising
@@ -98,4 +98,4 @@ returns-clause-holds g c =
     let b : IsBranching g.E.Evaluator.past p (node_of n) s c.branch_leaf.new.growing c.in-Some.leaf (way_of m)
     = subst (λ (k : Node). IsBranching g.E.Evaluator.past p (node_of k) s c.branch_leaf.new.growing c.in-Some.leaf (way_of m)) c.node_at-node.ensures c.in_ok-branch_leaf.ensures.branching in
     let a = branched_step c.args.problem.now c.is_valid.ensures.valid c.args.growing.now c.requires.growing c.in-Some.leaf (sym c.least.ensures ∙ c.in-Some.is) c.is_pool.ensures.payloads c.is_pool.ensures.leaves c.is_pool.ensures.rising hd.ready hd.known c.requires.below g.E.Evaluator.past c.branch_leaf.new.growing m choice few b in
-    more_after g.E.Evaluator.past p s c.branch_leaf.new.growing c.shut_beaten.new.growing a.0 a.1 c.shut_beaten.ensures b.start b.budget
+    more_after g.E.Evaluator.past p s c.branch_leaf.new.growing c.shut_beaten.new.growing a.0 a.1 b.fallen c.shut_beaten.ensures b.start b.budget

@@ -25,4 +25,4 @@ returns-clause-holds g c =
     subst (λ (f : Option Found). StepHolds g.E.Evaluator.past p s new f) (sym e)
     (ends_with g.E.Evaluator.past p s new (found.Past s.best w.tree w.place hb.by.halt.nonbasic hb.by.halt.place) going.0
     (past_found p s going.0 c.in-Some.leaf w.place w.tree c.in_ok-stopped.ensures.tree c.in_ok-stopped.ensures.sized g.E.Evaluator.past hb.by.halt s.start refl at)
-    (λ (q : found.Past s.best w.tree w.place hb.by.halt.nonbasic hb.by.halt.place ≡ found.Memory). cc) refl refl refl refl)
+    (λ (q : found.Past s.best w.tree w.place hb.by.halt.nonbasic hb.by.halt.place ≡ found.Memory). cc) refl refl refl refl refl)
