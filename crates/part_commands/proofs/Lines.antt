@@ -1,0 +1,106 @@
+-- The lines of a listing of open leaves that is put leaf by leaf.
+use Rattle.std.proofs.Common.{◌≡◌, ◌++◌, ◌+◌, ◌<◌, ◌≤◌, ℕ, zero, suc, List, [], ◌∷◌, Option, codes, length, map, take, drop, get_or, refl, sym, ap, subst, ◌∙◌, arith, inr, append_assoc, append-nil, add-one}
+use Rattle.std.specs.Io.KnownBytes.{Appends}
+use Rattle.std.proofs.KnownBytes.{Appends-nil, Appends-trans}
+use Rattle.std.proofs.lemmas.List.{map-append, take-append-drop}
+use Rattle.std.proofs.lemmas.Grind.{flat_map-append}
+use Rattle.std.proofs.Math.Seq.{take-suc, drop-cons}
+use Rattle.pns_io.specs.Outside.{AppendsFront}
+use Rattle.part_rules.specs.OpenLeaves.{OpenAt}
+use Rattle.cert_check.specs.declared.open_leaf.OpenLeaf.{OpenLeaf}
+use Rattle.cert_check.specs.OpenLeaves.{leaf_at, leaves_at}
+use Rattle.part_commands.specs.Split.{part_line, split_lines, LeavesSay}
+use Rattle.endings.specs.Lines.{line, text_of}
+use Rattle.endings.specs.Ending.{Ends, Tells, Only}
+use Rattle.endings.specs.declared.status.Status.{Status}
+use Rattle.endings.specs.declared.status.Status.TheVariants.{Done, WriteFault, Memory}
+use Rattle.endings.proofs.Ending.{Ends-after, only_in}
+
+text_of-push : (ls : List (List ℕ)) (l : List ℕ) → text_of (ls ++ l ∷ []) ≡ text_of ls ++ line l
+text_of-push ls l = flat_map-append line ls (l ∷ []) ∙ ap (λ (t : List ℕ). text_of ls ++ t) (append-nil (line l))
+
+drop-here : {A : Type 0} (xs : List A) (i : ℕ) (x : A) → i < length xs → x ≡ get_or xs i x → drop i xs ≡ x ∷ drop (suc i) xs
+drop-here xs i x h e = drop-cons xs i x h ∙ ap (λ y. y ∷ drop (suc i) xs) (sym e)
+
+module _ (leaves : List OpenLeaf) where
+  -- the lines of the leaves before place i, and those from there on
+  abbrev pub lines_before : ℕ → List (List ℕ)
+  lines_before i = map part_line (leaves_at (take i leaves))
+
+  abbrev pub lines_from : ℕ → List (List ℕ)
+  lines_from i = map part_line (leaves_at (drop i leaves)) ++ codes "end" ∷ []
+
+  cut : (i : ℕ) → split_lines (leaves_at leaves) ≡ lines_before i ++ lines_from i
+  cut i =
+      ap (λ (ls : List OpenLeaf). split_lines (leaves_at ls)) (sym (take-append-drop i leaves))
+      ∙ ap (λ (ls : List OpenAt). split_lines ls) (map-append leaf_at (take i leaves) (drop i leaves))
+      ∙ ap (λ (ls : List (List ℕ)). ls ++ codes "end" ∷ []) (map-append part_line (leaves_at (take i leaves)) (leaves_at (drop i leaves)))
+      ∙ append_assoc (lines_before i) (map part_line (leaves_at (drop i leaves))) (codes "end" ∷ [])
+
+  -- the lines of the leaves before place i are out
+  pub record AreOut (i : ℕ) (old new : Option (List ℕ)) : Type 0 where
+    pub out : Appends old new (text_of (lines_before i))
+
+  pub none_out : (old : Option (List ℕ)) → AreOut 0 old old
+  none_out old = record { out = Appends-nil old }
+
+  module _ (i : ℕ) (old mid : Option (List ℕ)) (is : AreOut i old mid) where
+    pub one_more : (leaf : OpenLeaf) (piece : List ℕ) (new : Option (List ℕ)) → i < length leaves → leaf ≡ get_or leaves i leaf → piece ≡ line (part_line (leaf_at leaf)) → Appends mid new piece → AreOut (i + 1) old new
+    one_more leaf piece new lt here piece_is put =
+        let more : take (i + 1) leaves ≡ take i leaves ++ leaf ∷ [] =
+        ap (λ (k : ℕ). take k leaves) (add-one i) ∙ take-suc leaves i leaf lt ∙ ap (λ (l : OpenLeaf). take i leaves ++ l ∷ []) (sym here) in
+        let lines : lines_before (i + 1) ≡ lines_before i ++ part_line (leaf_at leaf) ∷ [] =
+        ap (λ (ls : List OpenLeaf). map part_line (leaves_at ls)) more
+        ∙ ap (λ (ls : List OpenAt). map part_line ls) (map-append leaf_at (take i leaves) (leaf ∷ []))
+        ∙ map-append part_line (leaves_at (take i leaves)) (leaf_at leaf ∷ []) in
+        record {
+          out = subst (λ (t : List ℕ). Appends old new t)
+              (ap (λ (t : List ℕ). text_of (lines_before i) ++ t) piece_is ∙ sym (text_of-push (lines_before i) (part_line (leaf_at leaf))) ∙ ap text_of (sym lines))
+              (Appends-trans old mid new (text_of (lines_before i)) piece is.out put);
+        }
+
+    module _ (risen' risen : Type 0) (later : risen' → risen) (new : Option (List ℕ)) (status : Status) where
+      -- there is no memory for the next line
+      pub starved : Ends (Only Memory (line (codes "memory"))) risen' mid new status → Ends (Tells (LeavesSay (leaves_at leaves))) risen old new status
+      starved =
+          Ends-after (Only Memory (line (codes "memory"))) (Tells (LeavesSay (leaves_at leaves))) risen' risen old mid new status (text_of (lines_before i)) is.out
+          (only_in (λ s t. Tells (LeavesSay (leaves_at leaves)) s (text_of (lines_before i) ++ t)) Memory (line (codes "memory")) (
+            lines_before i,
+            inr (Done, split_lines (leaves_at leaves), lines_from i, (refl, refl), cut i),
+            refl,
+          )) later
+
+      -- all leaves are told
+      pub ended : length leaves ≤ i → Ends (Only Done (line (codes "end"))) risen' mid new status → Ends (Tells (LeavesSay (leaves_at leaves))) risen old new status
+      ended le =
+          let behind : lines_from i ≡ codes "end" ∷ [] = ap (λ (ls : List OpenLeaf). map part_line (leaves_at ls) ++ codes "end" ∷ []) (none_behind leaves i le) in
+          Ends-after (Only Done (line (codes "end"))) (Tells (LeavesSay (leaves_at leaves))) risen' risen old mid new status (text_of (lines_before i)) is.out
+          (only_in (λ s t. Tells (LeavesSay (leaves_at leaves)) s (text_of (lines_before i) ++ t)) Done (line (codes "end")) (
+            split_lines (leaves_at leaves),
+            (refl, refl),
+            sym (ap text_of (cut i ∙ ap (λ (ls : List (List ℕ)). lines_before i ++ ls) behind) ∙ text_of-push (lines_before i) (codes "end")),
+          )) later
+        where
+          none_behind : {X : Type 0} (xs : List X) (k : ℕ) → length xs ≤ k → drop k xs ≡ []
+          none_behind [] zero h = refl
+          none_behind [] (suc k) h = refl
+          none_behind (x ∷ xs) zero h = absurd (omega arith)
+          none_behind (x ∷ xs) (suc k) h = none_behind xs k (omega arith)
+
+    -- the line of the next leaf is cut off
+    pub stopped : (risen : Type 0) (new : Option (List ℕ)) (leaf : OpenLeaf) (piece : List ℕ) → i < length leaves → leaf ≡ get_or leaves i leaf → risen → piece ≡ line (part_line (leaf_at leaf)) → AppendsFront mid new piece → Ends (Tells (LeavesSay (leaves_at leaves))) risen old new WriteFault
+    stopped risen new leaf piece lt here rose piece_is front =
+        let behind : List (List ℕ) = lines_from (suc i) in
+        let ahead : lines_from i ≡ part_line (leaf_at leaf) ∷ behind = ap (λ (ls : List OpenLeaf). map part_line (leaves_at ls) ++ codes "end" ∷ []) (drop-here leaves i leaf lt here) in
+        let text : text_of (split_lines (leaves_at leaves)) ≡ (text_of (lines_before i) ++ front.0) ++ (front.1 ++ text_of behind) =
+        ap text_of (cut i ∙ ap (λ (ls : List (List ℕ)). lines_before i ++ ls) ahead)
+        ∙ flat_map-append line (lines_before i) (part_line (leaf_at leaf) ∷ behind)
+        ∙ ap (λ (t : List ℕ). text_of (lines_before i) ++ (t ++ text_of behind)) (sym piece_is ∙ front.2)
+        ∙ ap (λ (t : List ℕ). text_of (lines_before i) ++ t) (append_assoc front.0 front.1 (text_of behind))
+        ∙ sym (append_assoc (text_of (lines_before i)) front.0 (front.1 ++ text_of behind)) in (
+          rose,
+          Done,
+          text_of (split_lines (leaves_at leaves)),
+          (split_lines (leaves_at leaves), (refl, refl), refl),
+          (text_of (lines_before i) ++ front.0, front.1 ++ text_of behind, text, Appends-trans old mid new (text_of (lines_before i)) front.0 is.out front.3),
+        )

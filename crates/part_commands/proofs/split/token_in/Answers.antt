@@ -1,0 +1,8 @@
+use Rattle.std.proofs.Common.{IfOk, string_bytes, ◌≡◌, List, ℕ, sym, subst}
+use Rattle.number_sets.proofs.SetLemmas.{listed-is}
+use Rattle.structure_list.specs.Tokens.{token_of}
+use Rattle.part_commands.proofs.split.token_in.Goals as goal
+
+pub returns : goal.returns
+returns c =
+    subst (λ (s : List ℕ). IfOk c.print_token.result (λ text. string_bytes text ≡ token_of s)) (sym (listed-is 128 c.args.set c.rises.ensures)) c.print_token.ensures

@@ -1,0 +1,144 @@
+//! The command `split`.
+ghost use Rattle.std.specs.Prelude.{◌≡◌, ◌<◌, ◌^◌, ◌⊎◌, IfOk, OnOk, length, map, string_bytes};
+ghost use Rattle.number_sets.specs.Sets.{has};
+ghost use Rattle.pns_io.specs.Outside.{HasRisen};
+ghost use Rattle.branch_tree.specs.View.{claim_of};
+ghost use Rattle.cert_check.specs.OpenLeaves.{leaf_at, leaves_at};
+ghost use Rattle.endings.specs.Lines.{line, text_of};
+ghost use Rattle.command_files.specs.Reading.{OnFile};
+ghost use Rattle.command_files.specs.TreeFile.{OnTree};
+ghost use Rattle.part_commands.specs.Split.{SplitWork, LeavesSay, part_line, token_in};
+ghost use Rattle.refusal_words.specs.Words.{node_line};
+ghost use Rattle.endings.specs.Ending.{Ends, Says, Tells, Only, OrMemory};
+ghost use Rattle.endings.specs.declared.status.Status.TheVariants.{Refused};
+
+use branch_tree::{Claim, Tree};
+use cert_check::Refusal;
+use command_files::{problem_of, tree_of};
+use endings::Status;
+use endings::say::{say, say_memory, say_of};
+use pgraph::Graph;
+use pns_io::{Shelf, Sink};
+use pns_problem::Problem;
+use refusal_words::why_word;
+use std::alloc::{AllocError, Global};
+use structure_list::print_token;
+use tree_parts::{OpenLeaf, open_leaves};
+use tree_rules::Why;
+use unit_sets::UnitSet;
+
+fn token_in(alloc: Global, set: UnitSet) -> Result<String, AllocError>
+    ensures { IfOk result (λ text. string_bytes text ≡ token_in (has set)) }
+{
+    set.rises();
+    print_token(alloc, set)
+}
+
+fn part_line(alloc: Global, leaf: &OpenLeaf) -> Result<String, AllocError>
+    ensures { IfOk result (λ text. string_bytes text ≡ line (part_line (leaf_at leaf.now))) }
+{
+    let inside = token_in(alloc, leaf.node.inside)?;
+    let outside = token_in(alloc, leaf.node.outside)?;
+    let number = leaf.number;
+    let mut text = String::from_str(alloc, "part ")?;
+    write!(text, "{number}")?;
+    text.push(' ')?;
+    text.push_str(inside.as_str())?;
+    text.push(' ')?;
+    text.push_str(outside.as_str())?;
+    text.push('\n')?;
+    Ok(text)
+}
+
+/// Puts a line for each open leaf, and the last line.
+fn say_leaves<K: Sink>(alloc: Global, out: &mut K, leaves: &[OpenLeaf]) -> Status
+    ensures { Ends (Tells (LeavesSay (leaves_at leaves.now))) (HasRisen (K.faults out.old) (K.faults out.new)) (K.written out.old) (K.written out.new) result }
+{
+    'telling: for leaf in leaves {
+        let Ok(text) = part_line(alloc, leaf) else {
+            return say_memory(out);
+        };
+        let Ok(()) = out.put(text.as_bytes()) else {
+            return Status::WriteFault;
+        };
+    }
+    say(out, b"end\n", Status::Done)
+}
+
+fn node_line(alloc: Global, node: u32, why: Why) -> Result<String, AllocError>
+    ensures { IfOk result (λ text. string_bytes text ≡ line (node_line node why)) }
+{
+    let mut text = String::from_str(alloc, "refused node ")?;
+    write!(text, "{node}")?;
+    text.push(' ')?;
+    text.push_str(why_word(why))?;
+    text.push('\n')?;
+    Ok(text)
+}
+
+fn say_node<K: Sink>(alloc: Global, out: &mut K, node: u32, why: Why) -> Status
+    ensures { Ends (OrMemory (Only Refused (line (node_line node why)))) (HasRisen (K.faults out.old) (K.faults out.new)) (K.written out.old) (K.written out.new) result }
+{
+    match node_line(alloc, node, why) {
+        Ok(text) => say(out, text.as_bytes(), Status::Refused),
+        Err(_) => say_memory(out),
+    }
+}
+
+/// Says the open leaves of the tree, or else the first line of the claim or the first node that fails.
+fn say_split<K: Sink>(
+    alloc: Global,
+    out: &mut K,
+    problem: &Problem,
+    claim: &Claim,
+    tree: &Tree,
+) -> Status
+    requires few { length tree.now < 2 ^ 32 }
+    ensures { Ends (Tells (SplitWork problem.now (claim_of claim.now) tree.now)) (HasRisen (K.faults out.old) (K.faults out.new)) (K.written out.old) (K.written out.new) result }
+{
+    let Ok(graph) = Graph::of(alloc, problem) else {
+        return say_memory(out);
+    };
+    match open_leaves(alloc, problem, &graph, claim, tree) {
+        Ok(leaves) => say_leaves(alloc, out, &leaves),
+        Err(Refusal::Claim(why)) => {
+            say_of(alloc, out, "refused claim ", why_word(why), Status::Refused)
+        }
+        Err(Refusal::Node { node, why }) => say_node(alloc, out, node, why),
+        Err(Refusal::Memory) => say_memory(out),
+    }
+}
+
+fn say_tree<F: Shelf, K: Sink>(
+    alloc: Global,
+    problem: &Problem,
+    name: &str,
+    shelf: &mut F,
+    out: &mut K,
+) -> Status
+    ensures { Ends (Says (OnTree SplitWork (F.held shelf.old) name.now problem.now) (λ other. other ≡ name.now) (record { held = F.held shelf.old; before = F.faults shelf.old; after = F.faults shelf.new }))
+        (HasRisen (K.faults out.old) (K.faults out.new)) (K.written out.old) (K.written out.new) result }
+{
+    match tree_of(alloc, shelf, out, name, problem) {
+        Ok((claim, tree)) => say_split(alloc, out, problem, &claim, &tree),
+        Err(status) => status,
+    }
+}
+
+/// Says the open leaves of the tree of the one file on the problem of the other, each with the node at which it stands, where the tree
+/// proves its claim but for them.
+pub fn split<F: Shelf, K: Sink>(
+    alloc: Global,
+    file: &str,
+    tree: &str,
+    shelf: &mut F,
+    out: &mut K,
+) -> Status
+    ensures { Ends (Says (OnFile (OnTree SplitWork (F.held shelf.old) tree.now) (F.held shelf.old) file.now) (λ other. (other ≡ file.now) ⊎ (other ≡ tree.now)) (record { held = F.held shelf.old; before = F.faults shelf.old; after = F.faults shelf.new }))
+        (HasRisen (K.faults out.old) (K.faults out.new)) (K.written out.old) (K.written out.new) result }
+{
+    match problem_of(alloc, shelf, out, file) {
+        Ok(problem) => say_tree(alloc, &problem, tree, shelf, out),
+        Err(status) => status,
+    }
+}
