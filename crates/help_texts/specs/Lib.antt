@@ -3,6 +3,7 @@ pub mod Flows
 pub mod Lines
 pub mod Overview
 pub mod Pages
+pub mod Parts
 pub mod Program
 pub mod Reports
 pub mod Searches

@@ -13,6 +13,7 @@ overview =
     codes "  solve FILE BUDGET              a network of least cost and its proof: a TREE" ∷
     codes "  check FILE TREE                does the tree prove what it claims?" ∷
     codes "  table FILE TREE                the claimed network as CSV, for a spreadsheet" ∷
+    codes "  split FILE TREE                the open leaves of a tree that a search left" ∷
     codes "  edit FILE SCRIPT               the plant after edits; the way back: undo" ∷
     codes "  migrate FILE YEARS             the script from yearly costs to investments" ∷
     codes "  make NUMBER UNITS              a made-up plant; trial solves it" ∷

@@ -6,6 +6,7 @@ use Rattle.help_texts.specs.Structures.{max_page, axioms_page, list_page}
 use Rattle.help_texts.specs.Flows.{flows_page, check_page}
 use Rattle.help_texts.specs.Reports.{table_page}
 use Rattle.help_texts.specs.Searches.{solve_page, trial_page}
+use Rattle.help_texts.specs.Parts.{split_page}
 use Rattle.help_texts.specs.Edits.{edit_page, undo_page, migrate_page, make_page}
 use Rattle.help_texts.specs.Program.{help_page, version_page, status_page}
 
@@ -23,6 +24,7 @@ page_of topic =
     else if bytes_eq topic (codes "migrate") then Some migrate_page
     else if bytes_eq topic (codes "make") then Some make_page
     else if bytes_eq topic (codes "trial") then Some trial_page
+    else if bytes_eq topic (codes "split") then Some split_page
     else if bytes_eq topic (codes "help") then Some help_page
     else if bytes_eq topic (codes "version") then Some version_page
     else if bytes_eq topic (codes "status") then Some status_page

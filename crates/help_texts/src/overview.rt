@@ -18,6 +18,7 @@ A FILE is a plant, PNS_problem_v1. Texts go to standard output; 0 is success.
   solve FILE BUDGET              a network of least cost and its proof: a TREE
   check FILE TREE                does the tree prove what it claims?
   table FILE TREE                the claimed network as CSV, for a spreadsheet
+  split FILE TREE                the open leaves of a tree that a search left
   edit FILE SCRIPT               the plant after edits; the way back: undo
   migrate FILE YEARS             the script from yearly costs to investments
   make NUMBER UNITS              a made-up plant; trial solves it

@@ -5,7 +5,7 @@ use Rattle.edit_rules.specs.Edit.{Edit}
 use Rattle.pgraph.specs.declared.verdict.Verdict.{Verdict}
 use Rattle.pgraph.specs.declared.verdict.Verdict.TheVariants.{Meets, Breaks}
 use Rattle.pns_io.specs.Outside.{HasRisen}
-use Rattle.studio_words.specs.Command.{Command, Max, Axioms, Flows, Listing, Make, Migrate, Editing, Undoing, Checking, Solving, Trial, Telling, command_of, IsFileOf, IsFileWord, Table}
+use Rattle.studio_words.specs.Command.{Command, Max, Axioms, Flows, Listing, Make, Migrate, Editing, Undoing, Checking, Solving, Trial, Telling, command_of, IsFileOf, IsFileWord, Table, Splitting}
 use Rattle.command_files.specs.Reading.{AreHeld, FileFault, file_limit}
 use Rattle.structure_commands.specs.Max.{MaxWork}
 use Rattle.structure_commands.specs.Listing.{ListingWork}
@@ -19,6 +19,7 @@ use Rattle.command_files.specs.TreeFile.{TreeFault, OnTree, tree_limit}
 use Rattle.flow_commands.specs.Check.{CheckWork}
 use Rattle.network_commands.specs.Network.{OnNetwork}
 use Rattle.network_commands.specs.Table.{TableWork}
+use Rattle.part_commands.specs.Split.{SplitWork}
 use Rattle.flow_commands.specs.Best.{FilesClaimBest, AcceptedIsBest}
 use Rattle.branch_tree.specs.Tail.{Tail, whole, spent, past}
 use Rattle.generator.specs.Generated.{generated}
@@ -89,6 +90,11 @@ check_status : (p : Problem) (claim : Claim) (tree : Tree) (s : Status) (lines :
 check_status p claim tree Done lines h = inl refl
 check_status p claim tree Refused lines h = inr refl
 check_status p claim tree s lines h = absurd h
+
+split_status : (p : Problem) (claim : Claim) (tree : Tree) (s : Status) (lines : List (List ℕ)) → SplitWork p claim tree s lines → (s ≡ Done) ⊎ (s ≡ Refused)
+split_status p claim tree Done lines h = inl refl
+split_status p claim tree Refused lines h = inr refl
+split_status p claim tree s lines h = absurd h
 
 table_status : (p : Problem) (w : Network) (s : Status) (lines : List (List ℕ)) → TableWork p w s lines → s ≡ Done
 table_status p w Done lines h = refl
@@ -198,6 +204,11 @@ command_status held (Table name tree) s lines (file, is, inl fault) short = elim
   | inr q ↦ absurd (within_limit (held name) file_limit file (short name file_limit (inl (refl, refl))) is q.1)
 ]
 command_status held (Table name tree) s lines (file, is, inr work) short = trees_status (OnNetwork TableWork) (network_status TableWork table_status) held tree work.0 s lines work.2 (short tree tree_limit (inr (refl, refl)))
+command_status held (Splitting name tree) s lines (file, is, inl fault) short = elim (fault_status name file s lines fault) [
+  | inl q ↦ inr (inr (inl q))
+  | inr q ↦ absurd (within_limit (held name) file_limit file (short name file_limit (inl (refl, refl))) is q.1)
+]
+command_status held (Splitting name tree) s lines (file, is, inr work) short = trees_status SplitWork split_status held tree work.0 s lines work.2 (short tree tree_limit (inr (refl, refl)))
 command_status held (Solving name budget) s lines (file, is, inl fault) short = elim (fault_status name file s lines fault) [
   | inl q ↦ inr (inr (inr (inl q)))
   | inr q ↦ absurd (within_limit (held name) file_limit file (short name file_limit (refl, refl)) is q.1)
@@ -237,6 +248,9 @@ answer_status held (Checking name tree) lines (file, is, inr (p, given, (bytes, 
 answer_status held (Table name tree) lines (file, is, inl fault) = absurd fault
 answer_status held (Table name tree) lines (file, is, inr (p, given, (bytes, there, inl fault))) = absurd fault
 answer_status held (Table name tree) lines (file, is, inr (p, given, (bytes, there, inr rest))) = elim (network_status TableWork table_status p rest.0 rest.1 Usage lines rest.3) [ inl q ↦ cc | inr q ↦ cc ]
+answer_status held (Splitting name tree) lines (file, is, inl fault) = absurd fault
+answer_status held (Splitting name tree) lines (file, is, inr (p, given, (bytes, there, inl fault))) = absurd fault
+answer_status held (Splitting name tree) lines (file, is, inr (p, given, (bytes, there, inr rest))) = absurd rest.3
 answer_status held (Solving name budget) lines (file, is, inl fault) = absurd fault
 answer_status held (Solving name budget) lines (file, is, inr work) = elim (solve_status budget work.0 Usage lines work.2) [ inl q ↦ cc | inr o ↦ elim o [ inl q ↦ cc | inr q ↦ cc ] ]
 answer_status held (Trial number units budget) lines h = elim (search_status budget (generated number units) Usage lines h) [ inl q ↦ cc | inr o ↦ elim o [ inl q ↦ cc | inr q ↦ cc ] ]
@@ -257,6 +271,7 @@ memory_status (Editing file script) = inr (inr (inr (inl refl)))
 memory_status (Undoing file script) = inr (inr (inr (inl refl)))
 memory_status (Checking file tree) = inr (inr (inr (inr (inl refl))))
 memory_status (Table file tree) = inr (inr (inr (inr (inl refl))))
+memory_status (Splitting file tree) = inr (inr (inr (inr (inl refl))))
 memory_status (Solving file budget) = inr (inr (inr (inr (inl refl))))
 memory_status (Trial number units budget) = inr (inr (inr (inl refl)))
 memory_status (Telling text) = inr (inl refl)

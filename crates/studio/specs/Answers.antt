@@ -1,7 +1,7 @@
 -- What each command says, from its words and what the shelf holds.
 use Rattle.std.specs.Prelude.{◌≡◌, ◌≤◌, ◌⊎◌, ℕ, List, [], ◌∷◌, Option, Some, None, IsSomeAnd, length, codes}
 use Rattle.pns_io.specs.Outside.{HasRisen}
-use Rattle.studio_words.specs.Command.{Command, Max, Axioms, Flows, Listing, Make, Migrate, Editing, Undoing, Checking, Solving, Trial, Telling, command_of, IsFileOf, IsFileWord, Table}
+use Rattle.studio_words.specs.Command.{Command, Max, Axioms, Flows, Listing, Make, Migrate, Editing, Undoing, Checking, Solving, Trial, Telling, command_of, IsFileOf, IsFileWord, Table, Splitting}
 use Rattle.generator.specs.Generated.{generated}
 use Rattle.problem_rules.specs.Problem.{Problem}
 use Rattle.command_files.specs.Reading.{AreHeld, GivesProblem, OnFile, file_limit}
@@ -17,6 +17,7 @@ use Rattle.command_files.specs.TreeFile.{OnTree, tree_limit}
 use Rattle.flow_commands.specs.Check.{CheckWork}
 use Rattle.network_commands.specs.Network.{OnNetwork}
 use Rattle.network_commands.specs.Table.{TableWork}
+use Rattle.part_commands.specs.Split.{SplitWork}
 use Rattle.searches.specs.Solve.{SolveWork, CanFinish}
 use Rattle.searches.specs.Trial.{TrialWork}
 use Rattle.endings.specs.Ending.{Shelves, Says}
@@ -36,6 +37,7 @@ CommandAnswers held (Editing file script) status lines = OnFile (OnScript EditWo
 CommandAnswers held (Undoing file script) status lines = OnFile (OnScript UndoWork held script) held file status lines
 CommandAnswers held (Checking file tree) status lines = OnFile (OnTree CheckWork held tree) held file status lines
 CommandAnswers held (Table file tree) status lines = OnFile (OnTree (OnNetwork TableWork) held tree) held file status lines
+CommandAnswers held (Splitting file tree) status lines = OnFile (OnTree SplitWork held tree) held file status lines
 CommandAnswers held (Solving file budget) status lines = OnFile (SolveWork budget) held file status lines
 CommandAnswers held (Trial number units budget) status lines = TrialWork number units budget status lines
 CommandAnswers held (Telling text) status lines = (status ≡ Done) × (text ≡ text_of lines)
@@ -59,6 +61,7 @@ WordsSay shelves words = Says (Answers shelves.held words) (IsFileWord words) sh
 abbrev pub IsReadWithin : Command → List ℕ → ℕ → Type 0
 IsReadWithin (Checking file tree) name limit = ((name ≡ file) × (limit ≡ file_limit)) ⊎ ((name ≡ tree) × (limit ≡ tree_limit))
 IsReadWithin (Table file tree) name limit = ((name ≡ file) × (limit ≡ file_limit)) ⊎ ((name ≡ tree) × (limit ≡ tree_limit))
+IsReadWithin (Splitting file tree) name limit = ((name ≡ file) × (limit ≡ file_limit)) ⊎ ((name ≡ tree) × (limit ≡ tree_limit))
 IsReadWithin command name limit = IsFileOf command name × (limit ≡ file_limit)
 
 -- the files of the command are held within their limits, and neither their counts of faults nor that of the sink rise
@@ -79,6 +82,7 @@ statuses_of (Editing file script) = Done ∷ BadEdit ∷ BadProblem ∷ Memory �
 statuses_of (Undoing file script) = Done ∷ BadEdit ∷ BadProblem ∷ Memory ∷ []
 statuses_of (Checking file tree) = Done ∷ Refused ∷ BadProblem ∷ BadTree ∷ Memory ∷ []
 statuses_of (Table file tree) = Done ∷ Refused ∷ BadProblem ∷ BadTree ∷ Memory ∷ []
+statuses_of (Splitting file tree) = Done ∷ Refused ∷ BadProblem ∷ BadTree ∷ Memory ∷ []
 statuses_of (Solving file budget) = Done ∷ Spent ∷ Past ∷ BadProblem ∷ Memory ∷ []
 statuses_of (Trial number units budget) = Done ∷ Spent ∷ Past ∷ Memory ∷ []
 statuses_of (Telling text) = Done ∷ Memory ∷ []

@@ -16,6 +16,7 @@ use endings::say::{say, say_memory, say_text};
 use flow_commands::check::{accepted_is_best, check};
 use flow_commands::flows::flows;
 use network_commands::table::table;
+use part_commands::split::split;
 use pns_io::{Shelf, Sink};
 use searches::solve::solve;
 use searches::trial::trial;
@@ -46,6 +47,7 @@ fn perform<F: Shelf, K: Sink>(
         Command::Undoing(file, script) => undo(alloc, file, script, shelf, out),
         Command::Checking(file, tree) => check(alloc, file, tree, shelf, out),
         Command::Table(file, tree) => table(alloc, file, tree, shelf, out),
+        Command::Splitting(file, tree) => split(alloc, file, tree, shelf, out),
         Command::Solving(file, budget) => solve(alloc, file, budget, shelf, out),
         Command::Trial(number, units, budget) => trial(alloc, number, units, budget, out),
         Command::Telling(text) => say_text(out, text, Status::Done),

@@ -21,6 +21,7 @@ pub data Command : Type 0 where
   Undoing : List ℕ → List ℕ → Command
   Checking : List ℕ → List ℕ → Command
   Table : List ℕ → List ℕ → Command
+  Splitting : List ℕ → List ℕ → Command
   Solving : List ℕ → ℕ → Command
   Trial : ℕ → ℕ → ℕ → Command
   Telling : List ℕ → Command
@@ -71,6 +72,7 @@ with_file word file second =
     else if bytes_eq word (codes "undo") && is_file_word second then Some (Undoing file second)
     else if bytes_eq word (codes "check") && is_file_word second then Some (Checking file second)
     else if bytes_eq word (codes "table") && is_file_word second then Some (Table file second)
+    else if bytes_eq word (codes "split") && is_file_word second then Some (Splitting file second)
     else None
 
 -- the commands of a file and one more word
@@ -125,6 +127,7 @@ IsFileOf (Editing file script) name = (name ≡ file) ⊎ (name ≡ script)
 IsFileOf (Undoing file script) name = (name ≡ file) ⊎ (name ≡ script)
 IsFileOf (Checking file tree) name = (name ≡ file) ⊎ (name ≡ tree)
 IsFileOf (Table file tree) name = (name ≡ file) ⊎ (name ≡ tree)
+IsFileOf (Splitting file tree) name = (name ≡ file) ⊎ (name ≡ tree)
 IsFileOf (Solving file budget) name = name ≡ file
 IsFileOf (Trial number units budget) name = ⊥
 IsFileOf (Telling text) name = ⊥

@@ -22,6 +22,7 @@ pub enum Command<'a> {
     Undoing(&'a str, &'a str),
     Checking(&'a str, &'a str),
     Table(&'a str, &'a str),
+    Splitting(&'a str, &'a str),
     Solving(&'a str, u64),
     Trial(u64, u64, u64),
     /// A text of the program itself: help, or the version.
@@ -184,6 +185,8 @@ fn with_file<'a>(word: &str, file: &'a str, second: &'a str) -> Option<Command<'
         Some(Command::Checking(file, second))
     } else if word == "table" && !second.is_empty() {
         Some(Command::Table(file, second))
+    } else if word == "split" && !second.is_empty() {
+        Some(Command::Splitting(file, second))
     } else {
         None
     }

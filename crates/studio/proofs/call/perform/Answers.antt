@@ -1,5 +1,5 @@
 use Rattle.std.proofs.Common.{refl, sym, ap, subst, ◌≤◌, ℕ, List}
-use Rattle.studio_words.specs.Command.{Command, Max, Axioms, Flows, Listing, Migrate, Editing, Undoing, Checking, Solving, Telling, AreWithin, Table}
+use Rattle.studio_words.specs.Command.{Command, Max, Axioms, Flows, Listing, Migrate, Editing, Undoing, Checking, Solving, Telling, AreWithin, Table, Splitting}
 use Rattle.studio_words.specs.View.{command_view}
 use Rattle.endings.specs.Ending.{Shelves}
 use Rattle.studio.specs.Answers.{CommandSays}
@@ -90,6 +90,13 @@ returns-in-Table g c =
     let Q : Status → List ℕ → Type 0 = CommandSays shelves (command_view c.args.command) in
     Ends-map (CommandSays shelves (Table c.in-Table.file.now c.in-Table.tree.now)) Q _ _ _ _ _
     (λ s t h. subst (λ (v : Command). CommandSays shelves v s t) (sym (ap command_view c.in-Table.is)) h) (λ r. r) c.table.ensures
+
+pub returns-in-Splitting : goal.returns-in-Splitting
+returns-in-Splitting g c =
+    let shelves : Shelves = record { held = g.F.Shelf.held c.args.shelf.now; before = g.F.Shelf.faults c.args.shelf.now; after = g.F.Shelf.faults c.split.new.shelf } in
+    let Q : Status → List ℕ → Type 0 = CommandSays shelves (command_view c.args.command) in
+    Ends-map (CommandSays shelves (Splitting c.in-Splitting.file.now c.in-Splitting.tree.now)) Q _ _ _ _ _
+    (λ s t h. subst (λ (v : Command). CommandSays shelves v s t) (sym (ap command_view c.in-Splitting.is)) h) (λ r. r) c.split.ensures
 
 pub solve-requires : goal.solve-requires
 solve-requires g c =
