@@ -1,0 +1,4 @@
+pub mod Periods
+pub mod Tells
+pub mod View
+pub mod Walk

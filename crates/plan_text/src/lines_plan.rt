@@ -1,0 +1,115 @@
+//! The plan that lines stand for.
+ghost use Rattle.std.specs.Prelude.{◌≡◌, ◌<◌, IfOk, length, map, slice_set};
+ghost use Rattle.edit_rules.specs.Place.{material_place};
+ghost use Rattle.problem_rules.specs.Problem as rules;
+ghost use Rattle.plan_rules.specs.Meaning.{own_period, changed, period_from, periods_of};
+ghost use Rattle.plan_text.specs.View.{entry_of};
+ghost use Rattle.plan_text.specs.Periods.{IsWhole};
+
+use crate::entry::{Entry, Line};
+use crate::meaning::material_place;
+use periods::Period;
+use pns_problem::{Material, Problem};
+use std::alloc::{AllocError, Global};
+
+/// The prices and bounds of materials.
+#[tactic(auto, using(plan_laws::proofs::Lists::taken_more))]
+fn own_numbers(alloc: Global, materials: &[Material]) -> Result<Period, AllocError>
+    ensures { IfOk result (λ q. q ≡ record { prices = map (λ (m : rules.Material). m.price) materials.now; lowers = map (λ (m : rules.Material). m.lower) materials.now; uppers = map (λ (m : rules.Material). m.upper) materials.now }) }
+{
+    let mut prices = Vec::new(alloc);
+    let mut lowers = Vec::new(alloc);
+    let mut uppers = Vec::new(alloc);
+    'copying: for material in materials {
+        prices.push(material.price)?;
+        lowers.push(material.lower)?;
+        uppers.push(material.upper)?;
+    }
+    Ok(Period {
+        prices,
+        lowers,
+        uppers,
+    })
+}
+
+/// The problem's own prices and bounds.
+fn own_period(alloc: Global, problem: &Problem) -> Result<Period, AllocError>
+    ensures own { IfOk result (λ q. q ≡ own_period problem.now) }
+    ensures whole { IfOk result (λ q. IsWhole (length problem.now.materials) q) }
+{
+    own_numbers(alloc, problem.materials())
+}
+
+/// Sets the price of the material of this name in the period. A name that no material has changes nothing.
+#[tactic(auto, using(crate::proofs::Changes::same_prices))]
+fn change_price(problem: &Problem, period: &mut Period, name: &str, value: i64)
+    requires { IsWhole (length problem.now.materials) period.old }
+    ensures { period.new ≡ record period.old { prices = slice_set period.old.prices (material_place problem.now name.now) value } }
+{
+    if let Some(k) = material_place(problem, name) {
+        period.prices[k] = value;
+    }
+}
+
+/// Sets its bounds.
+#[tactic(auto, using(crate::proofs::Changes::same_bounds))]
+fn change_bounds(problem: &Problem, period: &mut Period, name: &str, lower: i64, upper: i64)
+    requires { IsWhole (length problem.now.materials) period.old }
+    ensures { period.new ≡ record period.old { lowers = slice_set period.old.lowers (material_place problem.now name.now) lower; uppers = slice_set period.old.uppers (material_place problem.now name.now) upper } }
+{
+    if let Some(k) = material_place(problem, name) {
+        period.lowers[k] = lower;
+        period.uppers[k] = upper;
+    }
+}
+
+/// Changes the period as a line says.
+fn change(problem: &Problem, period: &mut Period, entry: &Entry)
+    requires { IsWhole (length problem.now.materials) period.old }
+    ensures { period.new ≡ changed problem.now period.old (entry_of entry.now) }
+{
+    match entry {
+        Entry::Begins => {}
+        Entry::Price { material, value } => {
+            change_price(problem, period, material.as_str(), *value)
+        }
+        Entry::Bounds {
+            material,
+            lower,
+            upper,
+        } => change_bounds(problem, period, material.as_str(), *lower, *upper),
+    }
+}
+
+/// A period by the lines behind the one that begins it.
+#[tactic(auto, using(crate::proofs::Periods::period_ends, crate::proofs::Periods::period_goes_on, crate::proofs::Changes::whole_next))]
+fn period_from(alloc: Global, problem: &Problem, lines: &[Line]) -> Result<Period, AllocError>
+    ensures { IfOk result (λ q. q ≡ period_from problem.now (own_period problem.now) lines.now) }
+{
+    let mut period = own_period(alloc, problem)?;
+    'changing: for line in lines {
+        if line.is_begin() {
+            return Ok(period);
+        }
+        change(problem, &mut period, &line.entry);
+    }
+    Ok(period)
+}
+
+/// All periods, each at the line that begins it.
+#[tactic(auto, using(crate::proofs::Periods::one_begins, crate::proofs::Periods::none_begins))]
+pub(crate) fn periods_of(
+    alloc: Global,
+    problem: &Problem,
+    lines: &[Line],
+) -> Result<Vec<Period>, AllocError>
+    ensures { IfOk result (λ v. v.items ≡ periods_of problem.now lines.now) }
+{
+    let mut periods = Vec::new(alloc);
+    'beginning: for (i, line) in lines.iter().enumerate() {
+        if line.is_begin() {
+            periods.push(period_from(alloc, problem, &lines[i + 1..])?)?;
+        }
+    }
+    Ok(periods)
+}

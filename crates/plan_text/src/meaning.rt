@@ -1,0 +1,134 @@
+//! The faults of meaning of lines without a fault of form.
+ghost use Rattle.std.specs.Prelude.{◌≡◌, ◌<◌, ◌≤◌, ◌+◌, ◌-◌, ◌*◌, ◌^◌, true, false, Some, None, IfSome, IfNone, length, int_lt, if◌then◌else◌};
+ghost use Rattle.edit_rules.specs.Place.{has_material, material_place};
+ghost use Rattle.plan_rules.specs.Meaning.{entry_fault, lines_fault, period_count, count_fault, meaning_fault};
+ghost use Rattle.plan_rules.specs.Plan.{is_too_wide};
+ghost use Rattle.plan_text.specs.View.{entry_of};
+
+use crate::entry::{Entry, Line};
+use plan_rules::PlanKind;
+use pns_problem::Problem;
+
+/// The place of the material of this name.
+#[tactic(auto, using(crate::proofs::Places::known_at, crate::proofs::Places::place_at, crate::proofs::Places::within_at, crate::proofs::Places::unknown, crate::proofs::Places::place_past))]
+pub(crate) fn material_place(problem: &Problem, name: &str) -> Option<usize>
+    ensures known { IfSome result (λ k. has_material problem.now name.now ≡ true) }
+    ensures place { IfSome result (λ k. k ≡ material_place problem.now name.now) }
+    ensures within { IfSome result (λ k. k < length problem.now.materials) }
+    ensures none { IfNone result (has_material problem.now name.now ≡ false) }
+    ensures past { IfNone result (length problem.now.materials ≤ material_place problem.now name.now) }
+{
+    match problem.material_named(name) {
+        Some(number) => Some(number as usize),
+        None => None,
+    }
+}
+
+fn name_fault(problem: &Problem, name: &str) -> Option<PlanKind>
+    ensures { result ≡ (if has_material problem.now name.now then None else Some PlanKind.UnknownName) }
+{
+    match material_place(problem, name) {
+        Some(_) => None,
+        None => Some(PlanKind::UnknownName),
+    }
+}
+
+fn bounds_fault(problem: &Problem, name: &str, lower: i64, upper: i64) -> Option<PlanKind>
+    ensures { result ≡ (if has_material problem.now name.now then (if int_lt upper lower then Some PlanKind.LowAboveHigh else None) else Some PlanKind.UnknownName) }
+{
+    match material_place(problem, name) {
+        Some(_) => {
+            if upper < lower {
+                Some(PlanKind::LowAboveHigh)
+            } else {
+                None
+            }
+        }
+        None => Some(PlanKind::UnknownName),
+    }
+}
+
+fn entry_fault(problem: &Problem, entry: &Entry) -> Option<PlanKind>
+    ensures { result ≡ entry_fault problem.now (entry_of entry.now) }
+{
+    match entry {
+        Entry::Begins => None,
+        Entry::Price { material, .. } => name_fault(problem, material.as_str()),
+        Entry::Bounds {
+            material,
+            lower,
+            upper,
+        } => bounds_fault(problem, material.as_str(), *lower, *upper),
+    }
+}
+
+// The first fault of the lines, with its line.
+#[tactic(auto, using(crate::proofs::Periods::fault_here, crate::proofs::Periods::fault_later))]
+fn lines_fault(problem: &Problem, lines: &[Line]) -> Option<(u32, PlanKind)>
+    ensures { result ≡ lines_fault problem.now lines.now }
+{
+    'looking: for line in lines {
+        if let Some(kind) = entry_fault(problem, &line.entry) {
+            return Some((line.number, kind));
+        }
+    }
+    None
+}
+
+#[tactic(auto, using(crate::proofs::Periods::count_here, crate::proofs::Periods::count_later))]
+fn period_count(lines: &[Line]) -> usize
+    ensures value { result ≡ period_count lines.now }
+    ensures few { result ≤ length lines.now }
+{
+    let mut count: usize = 0;
+    'counting: for line in lines {
+        if line.is_begin() {
+            count += 1;
+        }
+    }
+    count
+}
+
+/// Whether the expanded problem would have too many units or materials.
+fn is_too_wide(units: u128, materials: u128, periods: u128) -> bool
+    requires few_units { units ≤ 128 }
+    requires few_materials { materials ≤ 256 }
+    requires few_periods { periods < 2 ^ 64 }
+    ensures { result ≡ is_too_wide units materials periods }
+{
+    128 < units * (periods + 1) || 256 < (materials + units) * periods + units
+}
+
+fn count_fault(problem: &Problem, periods: usize) -> Option<PlanKind>
+    ensures { result ≡ count_fault problem.now periods }
+{
+    problem.is_valid();
+    let units = problem.units().len() as u128;
+    let materials = problem.materials().len() as u128;
+    let count = periods as u128;
+    if count == 0 {
+        Some(PlanKind::NoPeriod)
+    } else if is_too_wide(units, materials, count) {
+        Some(PlanKind::TooWide)
+    } else {
+        None
+    }
+}
+
+/// The first fault of meaning of the lines of a text that has so many lines, with its line.
+pub(crate) fn meaning_fault(
+    problem: &Problem,
+    count: u32,
+    lines: &[Line],
+) -> Option<(u32, PlanKind)>
+    requires { count < 2 ^ 32 - 1 }
+    ensures { result ≡ meaning_fault problem.now count lines.now }
+{
+    if let Some(fault) = lines_fault(problem, lines) {
+        return Some(fault);
+    }
+    match count_fault(problem, period_count(lines)) {
+        Some(kind) => Some((count + 1, kind)),
+        None => None,
+    }
+}

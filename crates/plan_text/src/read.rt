@@ -1,0 +1,167 @@
+//! The lines of a plan's text, or its first fault of form.
+ghost use Rattle.std.specs.Prelude.{◌≡◌, ◌<◌, ◌≤◌, ◌+◌, ◌-◌, ◌∷◌, ◌^◌, ℕ, List, Ok, IfOk, IfErr, OnOk, length};
+ghost use Rattle.script_rules.specs.Line.{script_lines};
+ghost use Rattle.plan_rules.specs.Read.{nothing_seen, lines_read, read_lines};
+ghost use Rattle.plan_text.specs.Tells.{Tells};
+ghost use Rattle.plan_text.specs.View.{entry_of, name_of};
+ghost use Rattle.plan_text.specs.Walk.{refused, read_on, with_said};
+
+use crate::entry::Line;
+use crate::fault::PlanFault;
+use crate::line::{Said, read_line};
+use crate::line_fault::LineFault;
+use crate::seen::Seen;
+use edit_scripts::cut::cut_line;
+use plan_rules::PlanKind;
+use std::alloc::Global;
+
+/// The lines so far, what they say of the present period, and the number of the next line.
+#[derive(Drop)]
+pub(crate) struct Walk<'a> {
+    pub(crate) lines: Vec<Line>,
+    pub(crate) seen: Seen<'a>,
+    pub(crate) number: u32,
+}
+
+impl<'a> Walk<'a> {
+    #[tactic(auto, using(crate::proofs::Reading::front_none))]
+    fn new(alloc: Global) -> Walk<'a>
+        ensures start { (texts : List (List ℕ)) → read_on result texts ≡ lines_read 2 nothing_seen texts }
+        ensures number { result.number ≡ 2 }
+    {
+        Walk {
+            lines: Vec::new(alloc),
+            seen: Seen::new(alloc),
+            number: 2,
+        }
+    }
+
+    // A line with a fault of its own. In front of the first period it is no line of a plan, whatever its fault.
+    fn refuse(&self, kind: PlanKind) -> PlanFault
+        ensures { result ≡ refused self.now kind }
+    {
+        let told = if self.seen.has_started() {
+            kind
+        } else {
+            PlanKind::BadLine
+        };
+        PlanFault::At {
+            line: self.number,
+            kind: told,
+        }
+    }
+
+    // Takes what a line says.
+    #[tactic(auto, using(crate::proofs::Reading::take_entry, crate::proofs::Reading::place_fault))]
+    fn place(&mut self, alloc: Global, said: Said<'a>) -> Result<(), PlanFault>
+        requires few { self.old.number < 2 ^ 32 - 1 }
+        requires named { said.name.now ≡ name_of (entry_of said.entry) }
+        ensures ok { OnOk result ((texts : List (List ℕ)) → read_on self.new texts ≡ with_said self.old (entry_of said.entry.entry) texts) }
+        ensures next { OnOk result (self.new.number ≡ self.old.number + 1) }
+        ensures fault { IfErr result (λ fault. (texts : List (List ℕ)) → Tells (with_said self.old (entry_of said.entry.entry) texts) fault) }
+    {
+        match self.seen.place(alloc, &said.entry, said.name)? {
+            Some(kind) => Err(PlanFault::At {
+                line: self.number,
+                kind,
+            }),
+            None => {
+                self.lines.push(Line {
+                    number: self.number,
+                    entry: said.entry,
+                })?;
+                self.number += 1;
+                Ok(())
+            }
+        }
+    }
+
+    // Takes a line that is not empty.
+    #[tactic(auto, using(crate::proofs::Reading::said_there, crate::proofs::Reading::refused_there))]
+    fn take(&mut self, alloc: Global, text: &'a [u8]) -> Result<(), PlanFault>
+        requires some { 0 < length text.now }
+        requires few { self.old.number < 2 ^ 32 - 1 }
+        ensures ok { OnOk result ((texts : List (List ℕ)) → read_on self.new texts ≡ read_on self.old (text.now ∷ texts)) }
+        ensures next { OnOk result (self.new.number ≡ self.old.number + 1) }
+        ensures fault { IfErr result (λ fault. (texts : List (List ℕ)) → Tells (read_on self.old (text.now ∷ texts)) fault) }
+    {
+        match read_line(alloc, text) {
+            Ok(said) => self.place(alloc, said),
+            Err(LineFault::Kind(kind)) => Err(self.refuse(kind)),
+            Err(LineFault::Memory) => Err(PlanFault::Memory),
+        }
+    }
+
+    // Takes a line.
+    #[tactic(auto, using(crate::proofs::Reading::take_empty))]
+    fn step(&mut self, alloc: Global, text: &'a [u8]) -> Result<(), PlanFault>
+        requires { self.old.number < 2 ^ 32 - 1 }
+        ensures ok { OnOk result ((texts : List (List ℕ)) → read_on self.new texts ≡ read_on self.old (text.now ∷ texts)) }
+        ensures next { OnOk result (self.new.number ≡ self.old.number + 1) }
+        ensures fault { IfErr result (λ fault. (texts : List (List ℕ)) → Tells (read_on self.old (text.now ∷ texts)) fault) }
+    {
+        if text.is_empty() {
+            self.number += 1;
+            return Ok(());
+        }
+        self.take(alloc, text)
+    }
+}
+
+/// Lines, and how many lines the text has, empty ones too.
+#[derive(Drop)]
+pub(crate) struct Lines {
+    pub(crate) lines: Vec<Line>,
+    pub(crate) count: u32,
+}
+
+// All lines of what is left of a text behind its first line.
+fn walk_rest(alloc: Global, bytes: &[u8]) -> Result<Lines, PlanFault>
+    requires { length bytes.now < 2 ^ 32 - 2 }
+    ensures ok { IfOk result (λ read. lines_read 2 nothing_seen (script_lines bytes.now) ≡ Ok read.lines.items) }
+    ensures count { IfOk result (λ read. read.count ≡ length (script_lines bytes.now) + 1) }
+    ensures short { IfOk result (λ read. read.count ≤ length bytes.now + 1) }
+    ensures fault { IfErr result (Tells (lines_read 2 nothing_seen (script_lines bytes.now))) }
+{
+    let mut walk = Walk::new(alloc);
+    let mut rest = bytes;
+    while !rest.is_empty() {
+        let (text, behind) = cut_line(rest);
+        match walk.step(alloc, text) {
+            Ok(()) => {}
+            Err(fault) => return Err(fault),
+        }
+        rest = behind;
+    }
+    Ok(Lines {
+        lines: walk.lines,
+        count: walk.number - 1,
+    })
+}
+
+/// The lines of the text, or its first fault of form: the least line that has one, counted from 1, and of the faults there
+/// the one with the least number.
+#[tactic(auto, using(crate::proofs::Reading::read_typed))]
+pub(crate) fn read_lines(alloc: Global, bytes: &[u8]) -> Result<Lines, PlanFault>
+    requires { length bytes.now < 2 ^ 32 - 1 }
+    ensures ok { IfOk result (λ read. read_lines bytes.now ≡ Ok read.lines.items) }
+    ensures count { IfOk result (λ read. read.count ≡ length (script_lines bytes.now)) }
+    ensures some { IfOk result (λ read. read.count < 2 ^ 32 - 1) }
+    ensures fault { IfErr result (Tells (read_lines bytes.now)) }
+{
+    if bytes.is_empty() {
+        return Err(PlanFault::At {
+            line: 1,
+            kind: PlanKind::FileType,
+        });
+    }
+    let (first, rest) = cut_line(bytes);
+    if first == b"file_type=PNS_plan_v1".as_slice() {
+        walk_rest(alloc, rest)
+    } else {
+        Err(PlanFault::At {
+            line: 1,
+            kind: PlanKind::FileType,
+        })
+    }
+}
