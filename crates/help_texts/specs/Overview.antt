@@ -21,7 +21,7 @@ overview =
     codes "  version                        which program this is" ∷
     codes "" ∷
     codes "Begin:  pns solve a.pns 10000 > tree        pns check a.pns tree" ∷
-    codes "        pns report a.pns tree" ∷
+    codes "        pns table a.pns tree" ∷
     []
 
 unfoldable pub version : List (List ℕ)

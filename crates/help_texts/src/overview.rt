@@ -26,7 +26,7 @@ A FILE is a plant, PNS_problem_v1. Texts go to standard output; 0 is success.
   version                        which program this is
 
 Begin:  pns solve a.pns 10000 > tree        pns check a.pns tree
-        pns report a.pns tree
+        pns table a.pns tree
 "
 }
 
