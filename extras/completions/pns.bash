@@ -2,12 +2,12 @@
 _pns() {
     local word=${COMP_WORDS[COMP_CWORD]} places='' place
     if [ "$COMP_CWORD" -eq 1 ]; then
-        mapfile -t COMPREPLY < <(compgen -W 'max axioms list flows solve check table edit undo migrate make trial split help version' -- "$word")
+        mapfile -t COMPREPLY < <(compgen -W 'max axioms list flows solve check table edit undo migrate expand make trial split help version' -- "$word")
         return
     fi
     case ${COMP_WORDS[1]} in
         help)
-            [ "$COMP_CWORD" -eq 2 ] && mapfile -t COMPREPLY < <(compgen -W 'max axioms list flows solve check table edit undo migrate make trial split help version status' -- "$word")
+            [ "$COMP_CWORD" -eq 2 ] && mapfile -t COMPREPLY < <(compgen -W 'max axioms list flows solve check table edit undo migrate expand make trial split help version status' -- "$word")
             return
             ;;
         max) places='1' ;;
@@ -20,6 +20,7 @@ _pns() {
         edit) places='1 2' ;;
         undo) places='1 2' ;;
         migrate) places='1' ;;
+        expand) places='1 2' ;;
         split) places='1 2' ;;
     esac
     for place in $places; do

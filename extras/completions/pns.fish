@@ -10,12 +10,13 @@ complete -c pns -n '__fish_use_subcommand' -a table -d 'Prints the claimed netwo
 complete -c pns -n '__fish_use_subcommand' -a edit -d 'Applies a script of edits to a plant'
 complete -c pns -n '__fish_use_subcommand' -a undo -d 'Writes the script that leads from the edited plant back to FILE'
 complete -c pns -n '__fish_use_subcommand' -a migrate -d 'Writes the script that turns the yearly costs of the units into investments over a payout period'
+complete -c pns -n '__fish_use_subcommand' -a expand -d 'Writes the plant of a plan of several periods as one ordinary plant, which solve and check read'
 complete -c pns -n '__fish_use_subcommand' -a make -d 'Makes a plant out of a number, to try the program with'
 complete -c pns -n '__fish_use_subcommand' -a trial -d 'Makes the plant of pns make NUMBER UNITS, solves it and sums up'
 complete -c pns -n '__fish_use_subcommand' -a split -d 'Lists the open leaves of a tree that solve left with status 4 or 5, where it proves its claim but for these'
 complete -c pns -n '__fish_use_subcommand' -a help -d 'Tells the commands, or one of them'
 complete -c pns -n '__fish_use_subcommand' -a version -d 'Tells which program this is'
-complete -c pns -n '__fish_seen_subcommand_from help' -a 'max axioms list flows solve check table edit undo migrate make trial split help version status'
+complete -c pns -n '__fish_seen_subcommand_from help' -a 'max axioms list flows solve check table edit undo migrate expand make trial split help version status'
 complete -c pns -n '__fish_seen_subcommand_from max; and test (count (commandline -opc)) -eq 2' -F
 complete -c pns -n '__fish_seen_subcommand_from axioms; and test (count (commandline -opc)) -eq 2' -F
 complete -c pns -n '__fish_seen_subcommand_from list; and test (count (commandline -opc)) -eq 2' -F
@@ -30,5 +31,7 @@ complete -c pns -n '__fish_seen_subcommand_from edit; and test (count (commandli
 complete -c pns -n '__fish_seen_subcommand_from undo; and test (count (commandline -opc)) -eq 2' -F
 complete -c pns -n '__fish_seen_subcommand_from undo; and test (count (commandline -opc)) -eq 3' -F
 complete -c pns -n '__fish_seen_subcommand_from migrate; and test (count (commandline -opc)) -eq 2' -F
+complete -c pns -n '__fish_seen_subcommand_from expand; and test (count (commandline -opc)) -eq 2' -F
+complete -c pns -n '__fish_seen_subcommand_from expand; and test (count (commandline -opc)) -eq 3' -F
 complete -c pns -n '__fish_seen_subcommand_from split; and test (count (commandline -opc)) -eq 2' -F
 complete -c pns -n '__fish_seen_subcommand_from split; and test (count (commandline -opc)) -eq 3' -F

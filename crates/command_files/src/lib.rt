@@ -8,10 +8,12 @@
 #![tactic(auto)]
 
 mod file;
+mod plan_file;
 mod problem_file;
 mod script_file;
 mod tree_file;
 
+pub use plan_file::plan_of;
 pub use problem_file::problem_of;
 pub use script_file::edited_of;
 pub use tree_file::tree_of;

@@ -4,6 +4,7 @@ pub mod Lines
 pub mod Overview
 pub mod Pages
 pub mod Parts
+pub mod Plans
 pub mod Program
 pub mod Reports
 pub mod Searches

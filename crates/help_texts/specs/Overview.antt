@@ -16,6 +16,7 @@ overview =
     codes "  split FILE TREE                the open leaves of a tree that a search left" ∷
     codes "  edit FILE SCRIPT               the plant after edits; the way back: undo" ∷
     codes "  migrate FILE YEARS             the script from yearly costs to investments" ∷
+    codes "  expand FILE PLAN               a plant over several periods, as one plant" ∷
     codes "  make NUMBER UNITS              a made-up plant; trial solves it" ∷
     codes "  help COMMAND, help status      the words of a command, what a status asks for" ∷
     codes "  version                        which program this is" ∷
@@ -27,5 +28,5 @@ overview =
 unfoldable pub version : List (List ℕ)
 version =
     codes "pns 0.1.0" ∷
-    codes "PNS_problem_v1 PNS_tree_v1 PNS_edits_v1" ∷
+    codes "PNS_problem_v1 PNS_tree_v1 PNS_edits_v1 PNS_plan_v1" ∷
     []

@@ -8,6 +8,7 @@ use Rattle.help_texts.specs.Reports.{table_page}
 use Rattle.help_texts.specs.Searches.{solve_page, trial_page}
 use Rattle.help_texts.specs.Parts.{split_page}
 use Rattle.help_texts.specs.Edits.{edit_page, undo_page, migrate_page, make_page}
+use Rattle.help_texts.specs.Plans.{expand_page}
 use Rattle.help_texts.specs.Program.{help_page, version_page, status_page}
 
 unfoldable pub page_of : List ℕ → Option (List (List ℕ))
@@ -22,6 +23,7 @@ page_of topic =
     else if bytes_eq topic (codes "edit") then Some edit_page
     else if bytes_eq topic (codes "undo") then Some undo_page
     else if bytes_eq topic (codes "migrate") then Some migrate_page
+    else if bytes_eq topic (codes "expand") then Some expand_page
     else if bytes_eq topic (codes "make") then Some make_page
     else if bytes_eq topic (codes "trial") then Some trial_page
     else if bytes_eq topic (codes "split") then Some split_page

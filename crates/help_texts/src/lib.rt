@@ -4,7 +4,8 @@
 //! topics. A new command gets an entry there, a line in `specs/Overview` and a page in the file of its kind, and the same in
 //! the code; `tools/help write` then writes the manual page and the completions anew, and says what does not agree.
 //!
-//! Modules: `overview`; `pages`, the page on each topic; `structures`, `flows`, `reports`, `searches`, `parts`, `edits`, `program`, the pages.
+//! Modules: `overview`; `pages`, the page on each topic; `structures`, `flows`, `reports`, `searches`, `parts`, `edits`, `plans`,
+//! `program`, the pages.
 #![tactic(auto)]
 
 mod edits;
@@ -12,6 +13,7 @@ mod flows;
 mod overview;
 mod pages;
 mod parts;
+mod plans;
 mod program;
 mod reports;
 mod searches;

@@ -21,6 +21,7 @@ A FILE is a plant, PNS_problem_v1. Texts go to standard output; 0 is success.
   split FILE TREE                the open leaves of a tree that a search left
   edit FILE SCRIPT               the plant after edits; the way back: undo
   migrate FILE YEARS             the script from yearly costs to investments
+  expand FILE PLAN               a plant over several periods, as one plant
   make NUMBER UNITS              a made-up plant; trial solves it
   help COMMAND, help status      the words of a command, what a status asks for
   version                        which program this is
@@ -36,6 +37,6 @@ pub fn version_text() -> &'static [u8]
     ensures { result.now ≡ text_of version }
 {
     b"pns 0.1.0
-PNS_problem_v1 PNS_tree_v1 PNS_edits_v1
+PNS_problem_v1 PNS_tree_v1 PNS_edits_v1 PNS_plan_v1
 "
 }

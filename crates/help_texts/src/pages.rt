@@ -5,6 +5,7 @@ ghost use Rattle.help_texts.specs.Pages.{page_text};
 use crate::edits::{edit_page, make_page, migrate_page, undo_page};
 use crate::flows::{check_page, flows_page};
 use crate::parts::split_page;
+use crate::plans::expand_page;
 use crate::program::{help_page, status_page, version_page};
 use crate::reports::table_page;
 use crate::searches::{solve_page, trial_page};
@@ -26,6 +27,7 @@ pub fn page_on(topic: &str) -> Option<&'static [u8]>
         "edit" => Some(edit_page()),
         "undo" => Some(undo_page()),
         "migrate" => Some(migrate_page()),
+        "expand" => Some(expand_page()),
         "make" => Some(make_page()),
         "trial" => Some(trial_page()),
         "split" => Some(split_page()),

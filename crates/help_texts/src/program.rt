@@ -35,7 +35,7 @@ Ends with
 Example
   pns version
   pns 0.1.0
-  PNS_problem_v1 PNS_tree_v1 PNS_edits_v1
+  PNS_problem_v1 PNS_tree_v1 PNS_edits_v1 PNS_plan_v1
 "
 }
 
@@ -63,7 +63,7 @@ pub fn status_page() -> &'static [u8]
   20  nothing: a word is not UTF-8.
 
 Of the other statuses each command tells its own: pns help COMMAND. 1 refuses
-what was handed in, 4 and 5 are searches that did not end, 9, 10, 11 and 16 name
-a word or a line that does not fit.
+what was handed in, 4 and 5 are searches that did not end, 9, 10, 11, 16 and 19
+name a word or a line that does not fit.
 "
 }

@@ -5,13 +5,16 @@ use Rattle.edit_rules.specs.Edit.{Edit}
 use Rattle.pgraph.specs.declared.verdict.Verdict.{Verdict}
 use Rattle.pgraph.specs.declared.verdict.Verdict.TheVariants.{Meets, Breaks}
 use Rattle.pns_io.specs.Outside.{HasRisen}
-use Rattle.studio_words.specs.Command.{Command, Max, Axioms, Flows, Listing, Make, Migrate, Editing, Undoing, Checking, Solving, Trial, Telling, command_of, IsFileOf, IsFileWord, Table, Splitting}
+use Rattle.studio_words.specs.Command.{Command, Max, Axioms, Flows, Listing, Make, Migrate, Editing, Undoing, Checking, Solving, Trial, Telling, command_of, IsFileOf, IsFileWord, Table, Splitting, Expanding}
 use Rattle.command_files.specs.Reading.{AreHeld, FileFault, file_limit}
 use Rattle.structure_commands.specs.Max.{MaxWork}
 use Rattle.structure_commands.specs.Listing.{ListingWork}
 use Rattle.edit_commands.specs.Migrate.{MigrateWork}
 use Rattle.flow_commands.specs.Flows.{FlowNamesSay, UnitsSay, FlowsSay}
 use Rattle.command_files.specs.Script.{ScriptFault, OnScript}
+use Rattle.command_files.specs.Plan.{PlanFileFault, OnPlan}
+use Rattle.period_commands.specs.Expand.{ExpandWork}
+use Rattle.plan_rules.specs.Plan.{Plan}
 use Rattle.edit_commands.specs.Edits.{EditWork, UndoWork}
 use Rattle.tree_rules.specs.Claim.{Claim, Network}
 use Rattle.tree_rules.specs.Accepted.{Tree}
@@ -29,7 +32,7 @@ use Rattle.structure_commands.specs.Axioms.{NamesSay, VerdictSays, first_strange
 use Rattle.endings.specs.Ending.{Shelves, Ends, IsOneOf}
 use Rattle.studio.specs.Answers.{AnswersTo, CommandAnswers, WordsSay, IsReadWithin, IsUndisturbed, IsNotStopped, SearchCanFinish, statuses_of}
 use Rattle.endings.specs.declared.status.Status.{Status}
-use Rattle.endings.specs.declared.status.Status.TheVariants.{Done, Refused, Usage, BadProblem, Past, Spent, ReadFault, WriteFault, Memory, TooLong, BadToken, BadTree, BadEdit, NotMigrated}
+use Rattle.endings.specs.declared.status.Status.TheVariants.{Done, Refused, Usage, BadProblem, Past, Spent, ReadFault, WriteFault, Memory, TooLong, BadToken, BadTree, BadEdit, NotMigrated, BadPlan}
 
 -- a file that gives no problem, where it is held within the limit or not
 fault_status : (name file : List ℕ) (s : Status) (lines : List (List ℕ)) → FileFault name file s lines → (s ≡ BadProblem) ⊎ ((s ≡ TooLong) × (file_limit < length file))
@@ -81,6 +84,11 @@ script_status name p file TooLong lines h = inr (refl, h.0)
 script_status name p file BadEdit lines h = inl refl
 script_status name p file s lines h = absurd h
 
+plan_status : (name : List ℕ) (p : Problem) (file : List ℕ) (s : Status) (lines : List (List ℕ)) → PlanFileFault name p file s lines → (s ≡ BadPlan) ⊎ ((s ≡ TooLong) × (file_limit < length file))
+plan_status name p file TooLong lines h = inr (refl, h.0)
+plan_status name p file BadPlan lines h = inl refl
+plan_status name p file s lines h = absurd h
+
 tree_status : (name : List ℕ) (p : Problem) (file : List ℕ) (s : Status) (lines : List (List ℕ)) → TreeFault name p file s lines → (s ≡ BadTree) ⊎ ((s ≡ TooLong) × (tree_limit < length file))
 tree_status name p file TooLong lines h = inr (refl, h.0)
 tree_status name p file BadTree lines h = inl refl
@@ -128,6 +136,13 @@ edits_status work held name p s lines done (file, is, inl fault) short = elim (s
   | inr q ↦ absurd (within_limit (held name) file_limit file short is q.1)
 ]
 edits_status work held name p s lines done (file, is, inr rest) short = inl (done rest.0.edits rest.2)
+
+plans_status : (work : Problem → Plan → Status → List (List ℕ) → Type 0) (held : List ℕ → Option (List ℕ)) (name : List ℕ) (p : Problem) (s : Status) (lines : List (List ℕ)) → ((plan : Plan) → work p plan s lines → s ≡ Done) → OnPlan work held name p s lines → IsSomeAnd (held name) (λ told. length told ≤ file_limit) → (s ≡ Done) ⊎ (s ≡ BadPlan)
+plans_status work held name p s lines done (file, is, inl fault) short = elim (plan_status name p file s lines fault) [
+  | inl q ↦ inr q
+  | inr q ↦ absurd (within_limit (held name) file_limit file short is q.1)
+]
+plans_status work held name p s lines done (file, is, inr rest) short = inl (done rest.0 rest.2)
 
 trees_status : (work : Problem → Claim → Tree → Status → List (List ℕ) → Type 0) → ((p : Problem) (claim : Claim) (tree : Tree) (s : Status) (lines : List (List ℕ)) → work p claim tree s lines → (s ≡ Done) ⊎ (s ≡ Refused)) → (held : List ℕ → Option (List ℕ)) (name : List ℕ) (p : Problem) (s : Status) (lines : List (List ℕ)) → OnTree work held name p s lines → IsSomeAnd (held name) (λ told. length told ≤ tree_limit) → IsOneOf (Done ∷ Refused ∷ BadProblem ∷ BadTree ∷ Memory ∷ []) s
 trees_status work status held name p s lines (file, is, inl fault) short = elim (tree_status name p file s lines fault) [
@@ -194,6 +209,14 @@ command_status held (Undoing name script) s lines (file, is, inr work) short = e
   | inl q ↦ inl q
   | inr q ↦ inr (inl q)
 ]
+command_status held (Expanding name plan) s lines (file, is, inl fault) short = elim (fault_status name file s lines fault) [
+  | inl q ↦ inr (inr (inl q))
+  | inr q ↦ absurd (within_limit (held name) file_limit file (short name file_limit (inl refl, refl)) is q.1)
+]
+command_status held (Expanding name plan) s lines (file, is, inr work) short = elim (plans_status ExpandWork held plan work.0 s lines (λ plan h. h.0) work.2 (short plan file_limit (inr refl, refl))) [
+  | inl q ↦ inl q
+  | inr q ↦ inr (inl q)
+]
 command_status held (Checking name tree) s lines (file, is, inl fault) short = elim (fault_status name file s lines fault) [
   | inl q ↦ inr (inr (inl q))
   | inr q ↦ absurd (within_limit (held name) file_limit file (short name file_limit (inl (refl, refl))) is q.1)
@@ -242,6 +265,9 @@ answer_status held (Editing name script) lines (file, is, inr (p, given, (bytes,
 answer_status held (Undoing name script) lines (file, is, inl fault) = absurd fault
 answer_status held (Undoing name script) lines (file, is, inr (p, given, (bytes, there, inl fault))) = absurd fault
 answer_status held (Undoing name script) lines (file, is, inr (p, given, (bytes, there, inr rest))) = let q : Usage ≡ Done = rest.2.0 in cc
+answer_status held (Expanding name plan) lines (file, is, inl fault) = absurd fault
+answer_status held (Expanding name plan) lines (file, is, inr (p, given, (bytes, there, inl fault))) = absurd fault
+answer_status held (Expanding name plan) lines (file, is, inr (p, given, (bytes, there, inr rest))) = let q : Usage ≡ Done = rest.2.0 in cc
 answer_status held (Checking name tree) lines (file, is, inl fault) = absurd fault
 answer_status held (Checking name tree) lines (file, is, inr (p, given, (bytes, there, inl fault))) = absurd fault
 answer_status held (Checking name tree) lines (file, is, inr (p, given, (bytes, there, inr rest))) = absurd rest.3
@@ -269,6 +295,7 @@ memory_status (Make number units) = inr (inl refl)
 memory_status (Migrate file years) = inr (inr (inr (inl refl)))
 memory_status (Editing file script) = inr (inr (inr (inl refl)))
 memory_status (Undoing file script) = inr (inr (inr (inl refl)))
+memory_status (Expanding file plan) = inr (inr (inr (inl refl)))
 memory_status (Checking file tree) = inr (inr (inr (inr (inl refl))))
 memory_status (Table file tree) = inr (inr (inr (inr (inl refl))))
 memory_status (Splitting file tree) = inr (inr (inr (inr (inl refl))))

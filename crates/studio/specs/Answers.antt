@@ -1,7 +1,7 @@
 -- What each command says, from its words and what the shelf holds.
 use Rattle.std.specs.Prelude.{◌≡◌, ◌≤◌, ◌⊎◌, ℕ, List, [], ◌∷◌, Option, Some, None, IsSomeAnd, length, codes}
 use Rattle.pns_io.specs.Outside.{HasRisen}
-use Rattle.studio_words.specs.Command.{Command, Max, Axioms, Flows, Listing, Make, Migrate, Editing, Undoing, Checking, Solving, Trial, Telling, command_of, IsFileOf, IsFileWord, Table, Splitting}
+use Rattle.studio_words.specs.Command.{Command, Max, Axioms, Flows, Listing, Make, Migrate, Editing, Undoing, Checking, Solving, Trial, Telling, command_of, IsFileOf, IsFileWord, Table, Splitting, Expanding}
 use Rattle.generator.specs.Generated.{generated}
 use Rattle.problem_rules.specs.Problem.{Problem}
 use Rattle.command_files.specs.Reading.{AreHeld, GivesProblem, OnFile, file_limit}
@@ -11,6 +11,8 @@ use Rattle.flow_commands.specs.Flows.{FlowsWork}
 use Rattle.structure_commands.specs.Listing.{ListingWork}
 use Rattle.edit_commands.specs.Make.{MakeWork}
 use Rattle.command_files.specs.Script.{OnScript}
+use Rattle.command_files.specs.Plan.{OnPlan}
+use Rattle.period_commands.specs.Expand.{ExpandWork}
 use Rattle.edit_commands.specs.Migrate.{MigrateWork}
 use Rattle.edit_commands.specs.Edits.{EditWork, UndoWork}
 use Rattle.command_files.specs.TreeFile.{OnTree, tree_limit}
@@ -23,7 +25,7 @@ use Rattle.searches.specs.Trial.{TrialWork}
 use Rattle.endings.specs.Ending.{Shelves, Says}
 use Rattle.endings.specs.Lines.{text_of}
 use Rattle.endings.specs.declared.status.Status.{Status}
-use Rattle.endings.specs.declared.status.Status.TheVariants.{Done, Refused, Usage, BadProblem, Past, Spent, Memory, BadToken, BadTree, BadEdit, NotMigrated}
+use Rattle.endings.specs.declared.status.Status.TheVariants.{Done, Refused, Usage, BadProblem, Past, Spent, Memory, BadToken, BadTree, BadEdit, NotMigrated, BadPlan}
 
 -- the statuses and lines of a command, while neither shelf, sink nor memory fails
 abbrev pub CommandAnswers : (List ℕ → Option (List ℕ)) → Command → Status → List (List ℕ) → Type 0
@@ -38,6 +40,7 @@ CommandAnswers held (Undoing file script) status lines = OnFile (OnScript UndoWo
 CommandAnswers held (Checking file tree) status lines = OnFile (OnTree CheckWork held tree) held file status lines
 CommandAnswers held (Table file tree) status lines = OnFile (OnTree (OnNetwork TableWork) held tree) held file status lines
 CommandAnswers held (Splitting file tree) status lines = OnFile (OnTree SplitWork held tree) held file status lines
+CommandAnswers held (Expanding file plan) status lines = OnFile (OnPlan ExpandWork held plan) held file status lines
 CommandAnswers held (Solving file budget) status lines = OnFile (SolveWork budget) held file status lines
 CommandAnswers held (Trial number units budget) status lines = TrialWork number units budget status lines
 CommandAnswers held (Telling text) status lines = (status ≡ Done) × (text ≡ text_of lines)
@@ -83,6 +86,7 @@ statuses_of (Undoing file script) = Done ∷ BadEdit ∷ BadProblem ∷ Memory �
 statuses_of (Checking file tree) = Done ∷ Refused ∷ BadProblem ∷ BadTree ∷ Memory ∷ []
 statuses_of (Table file tree) = Done ∷ Refused ∷ BadProblem ∷ BadTree ∷ Memory ∷ []
 statuses_of (Splitting file tree) = Done ∷ Refused ∷ BadProblem ∷ BadTree ∷ Memory ∷ []
+statuses_of (Expanding file plan) = Done ∷ BadPlan ∷ BadProblem ∷ Memory ∷ []
 statuses_of (Solving file budget) = Done ∷ Spent ∷ Past ∷ BadProblem ∷ Memory ∷ []
 statuses_of (Trial number units budget) = Done ∷ Spent ∷ Past ∷ Memory ∷ []
 statuses_of (Telling text) = Done ∷ Memory ∷ []

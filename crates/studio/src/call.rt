@@ -17,6 +17,7 @@ use flow_commands::check::{accepted_is_best, check};
 use flow_commands::flows::flows;
 use network_commands::table::table;
 use part_commands::split::split;
+use period_commands::expansion::expand;
 use pns_io::{Shelf, Sink};
 use searches::solve::solve;
 use searches::trial::trial;
@@ -48,6 +49,7 @@ fn perform<F: Shelf, K: Sink>(
         Command::Checking(file, tree) => check(alloc, file, tree, shelf, out),
         Command::Table(file, tree) => table(alloc, file, tree, shelf, out),
         Command::Splitting(file, tree) => split(alloc, file, tree, shelf, out),
+        Command::Expanding(file, plan) => expand(alloc, file, plan, shelf, out),
         Command::Solving(file, budget) => solve(alloc, file, budget, shelf, out),
         Command::Trial(number, units, budget) => trial(alloc, number, units, budget, out),
         Command::Telling(text) => say_text(out, text, Status::Done),

@@ -8,7 +8,7 @@ use Rattle.studio_words.specs.Numeral.{is_numeral, number_within}
 use Rattle.help_texts.specs.Lines.{text_of}
 use Rattle.help_texts.specs.Overview.{overview, version}
 use Rattle.help_texts.specs.Pages.{page_of, page_text}
-use Rattle.studio_words.specs.Command.{Command, Max, Axioms, Flows, Listing, Migrate, Editing, Undoing, Checking, Solving, Telling, is_help_word, is_version_word, command_of, on_file, made_by, tried_by, unit_names_of, count_of, seed_of, unit_count_of, years_of, budget_of, is_file_word, AreWithin, Table, Splitting}
+use Rattle.studio_words.specs.Command.{Command, Max, Axioms, Flows, Listing, Migrate, Editing, Undoing, Checking, Solving, Telling, is_help_word, is_version_word, command_of, on_file, made_by, tried_by, unit_names_of, count_of, seed_of, unit_count_of, years_of, budget_of, is_file_word, AreWithin, Table, Splitting, Expanding}
 
 numeral_within : (least most : ℕ) (word : List ℕ) → IfSome (number_within least most word) (λ n. (least ≤ n) × (n ≤ most))
 numeral_within least most word = at (is_numeral word) (nat_le least (number_of word)) (nat_le (number_of word) most) refl refl
@@ -68,7 +68,8 @@ on_file_within word file second =
     (either_within (bytes_eq word (codes "undo") && is_file_word second) (Some (Undoing file second)) _ tt
     (either_within (bytes_eq word (codes "check") && is_file_word second) (Some (Checking file second)) _ tt
     (either_within (bytes_eq word (codes "table") && is_file_word second) (Some (Table file second)) _ tt
-    (either_within (bytes_eq word (codes "split") && is_file_word second) (Some (Splitting file second)) None tt tt))))))))
+    (either_within (bytes_eq word (codes "split") && is_file_word second) (Some (Splitting file second)) _ tt
+    (either_within (bytes_eq word (codes "expand") && is_file_word second) (Some (Expanding file second)) None tt tt)))))))))
 
 pub words_within : (words : List (List ℕ)) → IfSome (command_of words) AreWithin
 words_within [] = tt

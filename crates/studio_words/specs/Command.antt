@@ -8,7 +8,7 @@ use Rattle.help_texts.specs.Overview.{overview, version}
 use Rattle.help_texts.specs.Pages.{page_text}
 use Rattle.studio_words.specs.Numeral.{number_within}
 
--- a command with its words: FILE, the names of UNITS, AFTER and COUNT, NUMBER and the count of units, YEARS, SCRIPT, TREE, BUDGET;
+-- a command with its words: FILE, the names of UNITS, AFTER and COUNT, NUMBER and the count of units, YEARS, SCRIPT, TREE, PLAN, BUDGET;
 -- or the text of the program itself that they ask for
 pub data Command : Type 0 where
   Max : List ℕ → Command
@@ -22,6 +22,7 @@ pub data Command : Type 0 where
   Checking : List ℕ → List ℕ → Command
   Table : List ℕ → List ℕ → Command
   Splitting : List ℕ → List ℕ → Command
+  Expanding : List ℕ → List ℕ → Command
   Solving : List ℕ → ℕ → Command
   Trial : ℕ → ℕ → ℕ → Command
   Telling : List ℕ → Command
@@ -51,7 +52,7 @@ years_of = number_within 1 100
 abbrev pub budget_of : List ℕ → Option ℕ
 budget_of = number_within 1 1000000
 
--- FILE, SCRIPT and TREE are any words but the empty one
+-- FILE, SCRIPT, TREE and PLAN are any words but the empty one
 abbrev pub is_file_word : List ℕ → Bool
 is_file_word word = not (length word == 0)
 
@@ -73,6 +74,7 @@ with_file word file second =
     else if bytes_eq word (codes "check") && is_file_word second then Some (Checking file second)
     else if bytes_eq word (codes "table") && is_file_word second then Some (Table file second)
     else if bytes_eq word (codes "split") && is_file_word second then Some (Splitting file second)
+    else if bytes_eq word (codes "expand") && is_file_word second then Some (Expanding file second)
     else None
 
 -- the commands of a file and one more word
@@ -128,6 +130,7 @@ IsFileOf (Undoing file script) name = (name ≡ file) ⊎ (name ≡ script)
 IsFileOf (Checking file tree) name = (name ≡ file) ⊎ (name ≡ tree)
 IsFileOf (Table file tree) name = (name ≡ file) ⊎ (name ≡ tree)
 IsFileOf (Splitting file tree) name = (name ≡ file) ⊎ (name ≡ tree)
+IsFileOf (Expanding file plan) name = (name ≡ file) ⊎ (name ≡ plan)
 IsFileOf (Solving file budget) name = name ≡ file
 IsFileOf (Trial number units budget) name = ⊥
 IsFileOf (Telling text) name = ⊥

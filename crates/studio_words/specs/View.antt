@@ -1,7 +1,7 @@
 -- A command of the code as the definitions name it.
 use Rattle.studio_words.specs.Command as rules
 use Rattle.studio_words.specs.declared.command.Command.{Command}
-use Rattle.studio_words.specs.declared.command.Command.TheVariants.{Max, Axioms, Flows, Listing, Make, Migrate, Editing, Undoing, Checking, Solving, Trial, Telling, Table, Splitting}
+use Rattle.studio_words.specs.declared.command.Command.TheVariants.{Max, Axioms, Flows, Listing, Make, Migrate, Editing, Undoing, Checking, Solving, Trial, Telling, Table, Splitting, Expanding}
 
 abbrev pub command_view : Command → rules.Command
 command_view (Max file) = rules.Max file.now
@@ -15,6 +15,7 @@ command_view (Undoing file script) = rules.Undoing file.now script.now
 command_view (Checking file tree) = rules.Checking file.now tree.now
 command_view (Table file tree) = rules.Table file.now tree.now
 command_view (Splitting file tree) = rules.Splitting file.now tree.now
+command_view (Expanding file plan) = rules.Expanding file.now plan.now
 command_view (Solving file budget) = rules.Solving file.now budget
 command_view (Trial number units budget) = rules.Trial number units budget
 command_view (Telling text) = rules.Telling text.now

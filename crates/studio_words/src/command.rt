@@ -23,6 +23,7 @@ pub enum Command<'a> {
     Checking(&'a str, &'a str),
     Table(&'a str, &'a str),
     Splitting(&'a str, &'a str),
+    Expanding(&'a str, &'a str),
     Solving(&'a str, u64),
     Trial(u64, u64, u64),
     /// A text of the program itself: help, or the version.
@@ -187,6 +188,8 @@ fn with_file<'a>(word: &str, file: &'a str, second: &'a str) -> Option<Command<'
         Some(Command::Table(file, second))
     } else if word == "split" && !second.is_empty() {
         Some(Command::Splitting(file, second))
+    } else if word == "expand" && !second.is_empty() {
+        Some(Command::Expanding(file, second))
     } else {
         None
     }

@@ -1,0 +1,87 @@
+//! A plan file: it is read and judged for a problem.
+ghost use Rattle.std.specs.Prelude.{◌≡◌, ℕ, List, IfOk, IfErr, OnOk, string_bytes};
+ghost use Rattle.pns_io.specs.Outside.{HasRisen};
+ghost use Rattle.endings.specs.Lines.{line};
+ghost use Rattle.plan_rules.specs.Plan.{IsPlan};
+ghost use Rattle.command_files.specs.Reading.{AreHeld};
+ghost use Rattle.command_files.specs.Plan.{GivesPlan, PlanFaults, plan_fault_line, plan_kind_word};
+ghost use Rattle.endings.specs.Ending.{Ends, Says, Only, OrMemory};
+ghost use Rattle.endings.specs.declared.status.Status.TheVariants.{BadPlan};
+
+use crate::file::bytes_of;
+use endings::Status;
+use endings::say::{say, say_memory};
+use periods::Plan;
+use plan_text::{PlanFault, PlanKind, read_plan};
+use pns_io::{Shelf, Sink};
+use pns_problem::Problem;
+use std::alloc::{AllocError, Global};
+
+/// The most bytes of a plan file.
+const PLAN_LIMIT: u64 = 4_194_304;
+
+/// The word by which a kind of fault is told.
+fn plan_kind_word(kind: PlanKind) -> &'static str
+    ensures { result.now ≡ plan_kind_word kind }
+{
+    match kind {
+        PlanKind::FileType => "FileType",
+        PlanKind::BadLine => "BadLine",
+        PlanKind::BadName => "BadName",
+        PlanKind::BadNumber => "BadNumber",
+        PlanKind::TooFine => "TooFine",
+        PlanKind::TooLarge => "TooLarge",
+        PlanKind::Sign => "Sign",
+        PlanKind::DoubleLine => "DoubleLine",
+        PlanKind::UnknownName => "UnknownName",
+        PlanKind::LowAboveHigh => "LowAboveHigh",
+        PlanKind::NoPeriod => "NoPeriod",
+        PlanKind::TooWide => "TooWide",
+    }
+}
+
+fn plan_fault_line(alloc: Global, number: u32, kind: PlanKind) -> Result<String, AllocError>
+    ensures { IfOk result (λ text. string_bytes text ≡ line (plan_fault_line number kind)) }
+{
+    let mut text = String::from_str(alloc, "plan line ")?;
+    write!(text, "{number}")?;
+    text.push(' ')?;
+    text.push_str(plan_kind_word(kind))?;
+    text.push('\n')?;
+    Ok(text)
+}
+
+fn say_plan_fault<K: Sink>(alloc: Global, out: &mut K, number: u32, kind: PlanKind) -> Status
+    ensures { Ends (OrMemory (Only BadPlan (line (plan_fault_line number kind)))) (HasRisen (K.faults out.old) (K.faults out.new)) (K.written out.old) (K.written out.new) result }
+{
+    match plan_fault_line(alloc, number, kind) {
+        Ok(text) => say(out, text.as_bytes(), Status::BadPlan),
+        Err(_) => say_memory(out),
+    }
+}
+
+/// Reads the file and judges its text as a plan for the problem. Where that gives no plan the text that tells why is out, and the
+/// status is that of the call.
+pub fn plan_of<F: Shelf, K: Sink>(
+    alloc: Global,
+    shelf: &mut F,
+    out: &mut K,
+    name: &str,
+    problem: &Problem,
+) -> Result<Plan, Status>
+    ensures plan { IfOk result (λ plan. (file : List ℕ) × AreHeld (F.held shelf.old name.now) file × GivesPlan problem.now file plan) }
+    ensures valid { IfOk result (IsPlan problem.now) }
+    ensures silent { OnOk result (out.new ≡ out.old) }
+    ensures told { IfErr result (Ends (Says (PlanFaults (F.held shelf.old) name.now problem.now) (λ other. other ≡ name.now) (record { held = F.held shelf.old; before = F.faults shelf.old; after = F.faults shelf.new }))
+        (HasRisen (K.faults out.old) (K.faults out.new)) (K.written out.old) (K.written out.new)) }
+{
+    let bytes = match bytes_of(alloc, shelf, out, name, PLAN_LIMIT) {
+        Ok(bytes) => bytes,
+        Err(status) => return Err(status),
+    };
+    match read_plan(alloc, problem, &bytes) {
+        Ok(plan) => Ok(plan),
+        Err(PlanFault::At { line, kind }) => Err(say_plan_fault(alloc, out, line, kind)),
+        Err(PlanFault::Memory) => Err(say_memory(out)),
+    }
+}
