@@ -3,20 +3,34 @@ ghost use Rattle.std.specs.Prelude.{◌≡◌, ◌≤◌, List, ℕ, length, IfS
 ghost use Rattle.pns_io.specs.Outside.{HasRisen, ReadsAt, counted};
 
 use crate::{Failed, Shelf};
-use std::io::{Read, Seek, SeekFrom};
+use std::io::{ErrorKind, Read, Seek, SeekFrom};
 use std::marker::Model;
 use std::rt::Files;
 use std::{fs, io};
 
-/// The files of the system, by their paths. What they hold is not told; contracts see the count of the reads that
-/// failed, which is the count of faults of every name and stays at 2^64 - 1.
+/// The most bytes of a name. The system opens no file with a longer one.
+const NAME_ROOM: usize = 4096;
+
+/// A file that is open, its name, and the place behind what was read of it.
 #[derive(Drop)]
-pub struct FileShelf<'a, R> {
-    rt: &'a R,
-    failed: u64,
+struct OpenFile<T: Drop> {
+    file: T,
+    name: [u8; NAME_ROOM],
+    length: usize,
+    at: u64,
 }
 
-impl<'a, R> Model for FileShelf<'a, R> {
+/// The files of the system, by their paths. A file stays open while it is read from its front, piece by piece, so it may be a pipe.
+/// What the files hold is not told; contracts see the count of the reads that failed, which is the count of faults of every name and
+/// stays at 2^64 - 1.
+#[derive(Drop)]
+pub struct FileShelf<'a, R: Files> {
+    rt: &'a R,
+    failed: u64,
+    open: Option<OpenFile<R::File>>,
+}
+
+impl<'a, R: Files> Model for FileShelf<'a, R> {
     ghost use Rattle.std.specs.Prelude.{ℕ};
 
     ghost Value = { ℕ };
@@ -24,22 +38,65 @@ impl<'a, R> Model for FileShelf<'a, R> {
     ghost view = { λ s. s.failed };
 }
 
+impl<T: Read + Seek + Drop> OpenFile<T> {
+    /// The file with its name, from a place on. A pipe can be read from its front alone.
+    fn of(file: T, name: &[u8], at: u64) -> io::Result<OpenFile<T>> {
+        if name.len() > NAME_ROOM {
+            return Err(io::Error::from(ErrorKind::InvalidInput));
+        }
+        let mut file = file;
+        if at > 0 {
+            file.seek(SeekFrom::Start(at))?;
+        }
+        let mut kept = [0; NAME_ROOM];
+        kept[..name.len()].copy_from_slice(name);
+        Ok(OpenFile {
+            file,
+            name: kept,
+            length: name.len(),
+            at,
+        })
+    }
+
+    /// Whether the file has this name, and the place is behind what was read of it.
+    fn stands_at(&self, name: &[u8], at: u64) -> bool {
+        self.at == at && self.name.get(..self.length) == Some(name)
+    }
+
+    fn read(&mut self, into: &mut [u8]) -> io::Result<usize>
+        ensures { IfOk result (λ k. k ≤ length into.new) }
+    {
+        let count = self.file.read(into)?;
+        self.at = self.at.saturating_add(count as u64);
+        Ok(count)
+    }
+}
+
 impl<'a, R: Files> FileShelf<'a, R> {
     /// A shelf of which no read has failed.
     pub fn new(rt: &'a R) -> FileShelf<'a, R>
         ensures { result ≡ 0 }
     {
-        FileShelf { rt, failed: 0 }
+        FileShelf {
+            rt,
+            failed: 0,
+            open: None,
+        }
     }
-}
 
-// Opens the file for each read, so that a shelf holds nothing between two calls.
-fn read_file<R: Files>(rt: &R, name: &str, at: u64, into: &mut [u8]) -> io::Result<usize>
-    ensures { IfOk result (λ k. k ≤ length into.new) }
-{
-    let mut file = fs::open(rt, name)?;
-    file.seek(SeekFrom::Start(at))?;
-    file.read(into)
+    /// Reads on in the file that is open, or opens another. After a failure none is open.
+    fn read_on(&mut self, name: &str, at: u64, into: &mut [u8]) -> io::Result<usize>
+        ensures count { IfOk result (λ k. k ≤ length into.new) }
+        ensures failed { self.new ≡ self.old }
+    {
+        let mut file = match self.open.take() {
+            Some(file) if file.stands_at(name.as_bytes(), at) => file,
+            _ => OpenFile::of(fs::open(self.rt, name)?, name.as_bytes(), at)?,
+        };
+        let count = file.read(into)?;
+        self.open = Some(file);
+        Ok(count)
+    }
 }
 
 impl<'a, R: Files> Shelf for FileShelf<'a, R> {
@@ -55,7 +112,7 @@ impl<'a, R: Files> Shelf for FileShelf<'a, R> {
         ensures cause { OnErr result (HasRisen self.old self.new) }
         ensures later { (other : List ℕ) → self.old ≤ self.new }
     {
-        match read_file(self.rt, name, at, into) {
+        match self.read_on(name, at, into) {
             Ok(count) => Ok(count),
             Err(_) => {
                 self.failed = self.failed.saturating_add(1);
