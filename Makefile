@@ -1,5 +1,5 @@
 # `make run` prints a least-cost network of the shipped problem with the tree that proves it, `make try` does so without any proof,
-# `make check` proves and tries everything, `make install PREFIX=DIR` puts the proved program in place as DIR/bin/pns, with its manual page, the documents and the
+# `make check` proves and tries everything, `make install PREFIX=DIR` puts the proved program in place as DIR/bin/pns, with its manual page, the documents, the plants and the
 # completions of bash, zsh and fish, and `make uninstall PREFIX=DIR` takes them away.
 # The first build proves the program and all below it, side by side, which takes minutes; what is proved is kept.
 RT ?= rt
@@ -33,7 +33,8 @@ install: crates/pns/out/pns
 	install -d $(DESTDIR)$(PREFIX)/bin $(SHARE)/man/man1 $(SHARE)/doc/pns $(BASH) $(ZSH) $(FISH)
 	install -m 755 crates/pns/out/pns $(DESTDIR)$(PREFIX)/bin/pns
 	install -m 644 docs/pns.1 $(SHARE)/man/man1/pns.1
-	install -m 644 README.md $(wildcard docs/*.md) $(SHARE)/doc/pns
+	install -m 644 README.md $(wildcard docs/*.md) crates/pns/data/a.pns $(SHARE)/doc/pns
+	cp -R cases $(SHARE)/doc/pns
 	install -m 644 extras/completions/pns.bash $(BASH)/pns
 	install -m 644 extras/completions/_pns $(ZSH)/_pns
 	install -m 644 extras/completions/pns.fish $(FISH)/pns.fish
