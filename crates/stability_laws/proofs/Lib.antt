@@ -1,0 +1,4 @@
+pub mod LineLemmas
+pub mod ValuedLemmas
+pub mod NetLemmas
+pub mod BestLemmas

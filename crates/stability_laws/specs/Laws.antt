@@ -1,0 +1,46 @@
+-- The laws of values in a spot, each of which a public function of this crate has as its contract.
+use Rattle.std.specs.Prelude.{◌≡◌, ℕ, ℤ, ◌+ℤ◌, ◌*ℤ◌, ◌≤ℤ◌, Bool}
+use Rattle.number_sets.specs.Sets.{has}
+use Rattle.problem_rules.specs.Problem.{Problem}
+use Rattle.problem_rules.specs.Validity.{IsValid}
+use Rattle.pns_rules.specs.Shape.{shape_of}
+use Rattle.flow_rules.specs.Net.{net_of}
+use Rattle.flow_rules.specs.Flows.{cost}
+use Rattle.flow_rules.specs.Steps.{AreInRange}
+use Rattle.flow_rules.specs.CostSteps.{cost_steps}
+use Rattle.tree_rules.specs.Claim.{Network, size_in, IsFeasible}
+use Rattle.stability_rules.specs.declared.spot.Spot.{Spot}
+use Rattle.stability_rules.specs.Spot.{KnowsSpot, value_at, valued, IsAllowedValue}
+use Rattle.stability_rules.specs.Range.{repriced, IsBestAt}
+
+abbrev pub ValuedIsValid : Type 0
+ValuedIsValid = (p : Problem) → IsValid p → (spot : Spot) → KnowsSpot p spot → (v : ℤ) → IsAllowedValue spot v → IsValid (valued p spot v)
+
+abbrev pub ValuedIsSame : Type 0
+ValuedIsSame = (p : Problem) (spot : Spot) → valued p spot (value_at p spot) ≡ p
+
+-- no value changes the P-graph
+abbrev pub ShapeStays : Type 0
+ShapeStays = (p : Problem) (spot : Spot) → KnowsSpot p spot → (v : ℤ) → shape_of (valued p spot v) ≡ shape_of p
+
+-- a network is feasible with each value, at what its flows cost there
+abbrev pub FeasibleStays : Type 0
+FeasibleStays =
+    (p : Problem) (spot : Spot) → KnowsSpot p spot → (w : Network) → IsFeasible p w → (v : ℤ)
+    → AreInRange (cost_steps (net_of (valued p spot v)) (has w.units) (size_in w) w.d) → IsFeasible (valued p spot v) (repriced p spot w v)
+
+-- a number is a straight line in the value
+pub record IsLine (f : ℤ → ℤ) : Type 0 where
+  pub start : ℤ
+  pub slope : ℤ
+  pub is_line : (v : ℤ) → f v ≡ start +ℤ slope *ℤ v
+
+abbrev pub CostIsALine : Type 0
+CostIsALine =
+    (p : Problem) (spot : Spot) → KnowsSpot p spot → (s : ℕ → Bool) (z : ℕ → ℤ) (d : ℤ) → IsLine (λ v. cost (net_of (valued p spot v)) s z d)
+
+-- so a network that is optimal at two values is so at each value between them
+abbrev pub BestBetween : Type 0
+BestBetween =
+    (p : Problem) (spot : Spot) → KnowsSpot p spot → (w : Network) (x y v : ℤ) → IsBestAt p spot w x → IsBestAt p spot w y
+    → x ≤ℤ v → v ≤ℤ y → IsBestAt p spot w v

@@ -1,0 +1,72 @@
+-- The sensitivity range of a price or a cost: the values at which a network, with the flows that it has, is optimal among the
+-- allowed ones.
+use Rattle.std.specs.Prelude.{◌≡◌, ◌⊎◌, ℕ, ◌/◌, ℤ, pos, ◌+ℤ◌, ◌-ℤ◌, ◌*ℤ◌, ◌≤ℤ◌, ◌<ℤ◌, Bool, Option, Some, None}
+use Rattle.number_sets.specs.Sets.{has}
+use Rattle.problem_rules.specs.Problem.{Problem}
+use Rattle.pns_rules.specs.Shape.{shape_of}
+use Rattle.pns_rules.specs.Structure.{IsStructure, IsAllowed}
+use Rattle.flow_rules.specs.Net.{net_of}
+use Rattle.flow_rules.specs.Flows.{cost}
+use Rattle.tree_rules.specs.Claim.{Network, CostOver, size_in, IsFeasible}
+use Rattle.tree_laws.specs.Laws.{CostsEnough}
+use Rattle.stability_rules.specs.declared.spot.Spot.{Spot}
+use Rattle.stability_rules.specs.declared.side.Side.{Side}
+use Rattle.stability_rules.specs.declared.side.Side.TheVariants.{Below, Above}
+use Rattle.stability_rules.specs.Spot.{value_at, valued, least_value, greatest_value, IsAllowedValue, value_on, limit_on}
+
+-- no allowed solution structure costs less, whatever its flows
+abbrev pub IsLeast : Problem → CostOver → Type 0
+IsLeast p much = (s : ℕ → Bool) → IsStructure (shape_of p) s → IsAllowed (shape_of p) s → CostsEnough p (Some much) s
+
+-- what the network's flows cost with this value in the spot
+abbrev pub cost_at : Problem → Spot → Network → ℤ → ℤ
+cost_at p spot w v = cost (net_of (valued p spot v)) (has w.units) (size_in w) w.d
+
+-- the same flows at that cost
+abbrev pub repriced : Problem → Spot → Network → ℤ → Network
+repriced p spot w v = record w { cost = cost_at p spot w v }
+
+-- the network is optimal among the allowed ones with this value in the spot
+abbrev pub IsBestAt : Problem → Spot → Network → ℤ → Type 0
+IsBestAt p spot w v = IsLeast (valued p spot v) (record { cost = cost_at p spot w v; d = w.d })
+
+-- the network n is an allowed one of least cost there, and costs less than w
+pub record IsCheaperAt (p : Problem) (spot : Spot) (w : Network) (v : ℤ) (n : Network) : Type 0 where
+  pub feasible : IsFeasible (valued p spot v) n
+  pub least : IsLeast (valued p spot v) (record { cost = n.cost; d = n.d })
+  pub cheaper : (n.cost *ℤ w.d) <ℤ (cost_at p spot w v *ℤ n.d)
+
+-- ---- the range
+
+-- one step from the end of a range, away from the present value
+abbrev pub beyond : Side → ℤ → ℤ
+beyond Below v = v -ℤ pos 1
+beyond Above v = v +ℤ pos 1
+
+-- a range ends at the limit of the values, or one step before a value at which this network is cheaper
+abbrev pub EndsAt : Problem → Spot → Network → Side → ℤ → Option Network → Type 0
+EndsAt p spot w side end None = end ≡ limit_on side spot
+EndsAt p spot w side end (Some n) = IsAllowedValue spot (beyond side end) × IsCheaperAt p spot w (beyond side end) n
+
+-- the largest interval of allowed values round the present one at which the network is optimal
+pub record IsRange (p : Problem) (spot : Spot) (w : Network) (from to : ℤ) (below above : Option Network) : Type 0 where
+  pub starts : (least_value spot ≤ℤ from) × (from ≤ℤ value_at p spot)
+  pub stops : (value_at p spot ≤ℤ to) × (to ≤ℤ greatest_value)
+  pub best : (v : ℤ) → from ≤ℤ v → v ≤ℤ to → IsBestAt p spot w v
+  pub ends_below : EndsAt p spot w Below from below
+  pub ends_above : EndsAt p spot w Above to above
+
+-- ---- where no range is told
+
+-- a value at which no answer came is not the present one, where the network is optimal; so it is half the way there
+pub record IsHalfProved (p : Problem) (spot : Spot) (w : Network) (v : ℤ) : Type 0 where
+  pub side : Side
+  pub away : ℕ
+  pub value_is : v ≡ value_on side (value_at p spot) away
+  pub far : v ≡ value_at p spot → ⊥
+  pub best_now : IsBestAt p spot w (value_at p spot)
+  pub best_half : IsBestAt p spot w (value_on side (value_at p spot) (away / 2))
+
+-- an answer may be wanting at the present value, and at one that is half proved
+abbrev pub MayWant : Problem → Spot → Network → ℤ → Type 0
+MayWant p spot w v = (v ≡ value_at p spot) ⊎ IsHalfProved p spot w v
