@@ -138,3 +138,28 @@ valued_well p w (Proportional u) h v a = proportional_well p w u v h (in_range v
 
 pub valued_is_valid : (p : Problem) → IsValid p → (spot : Spot) → KnowsSpot p spot → (v : ℤ) → IsAllowedValue spot v → IsValid (valued p spot v)
 valued_is_valid p valid spot known v a = valid_from_well (valued p spot v) (valued_well p (well_from_valid p valid) spot known v a)
+
+-- ---- the present value is allowed
+
+above_low : (v : ℤ) → IsInRange v → neg_ℤ (pos 1000000000000000) ≤ℤ v
+above_low (pos n) h = omega (arith, ints)
+above_low (negsuc n) h = omega (arith, ints)
+
+below_high : (v : ℤ) → IsInRange v → v ≤ℤ pos 1000000000000000
+below_high (pos n) h = omega (arith, ints)
+below_high (negsuc n) h = omega (arith, ints)
+
+above_zero : (v : ℤ) → int_lt v (pos 0) ≡ false → pos 0 ≤ℤ v
+above_zero (pos n) e = omega (arith, ints)
+above_zero (negsuc n) e = cc
+
+pub present_is_allowed : (p : Problem) → IsValid p → (spot : Spot) → KnowsSpot p spot → IsAllowedValue spot (value_at p spot)
+present_is_allowed p valid (Price x) known =
+    let m = Each-at IsGoodMaterial p.materials x no_material known (well_from_valid p valid).good.materials in
+    record { low = above_low (material_at p x).price m.price; high = below_high (material_at p x).price m.price }
+present_is_allowed p valid (Fix u) known =
+    let m = Each-at IsGoodUnit p.units u no_unit known (well_from_valid p valid).good.units in
+    record { low = above_zero (unit_at p u).fix m.fix.not_negative; high = below_high (unit_at p u).fix m.fix.in_range }
+present_is_allowed p valid (Proportional u) known =
+    let m = Each-at IsGoodUnit p.units u no_unit known (well_from_valid p valid).good.units in
+    record { low = above_low (unit_at p u).proportional m.proportional; high = below_high (unit_at p u).proportional m.proportional }

@@ -16,6 +16,11 @@ use Rattle.stability_rules.specs.Range.{repriced, IsBestAt}
 abbrev pub ValuedIsValid : Type 0
 ValuedIsValid = (p : Problem) → IsValid p → (spot : Spot) → KnowsSpot p spot → (v : ℤ) → IsAllowedValue spot v → IsValid (valued p spot v)
 
+-- the present value is an allowed one
+abbrev pub PresentIsAllowed : Type 0
+PresentIsAllowed = (p : Problem) → IsValid p → (spot : Spot) → KnowsSpot p spot → IsAllowedValue spot (value_at p spot)
+
+-- and leaves the problem as it is
 abbrev pub ValuedIsSame : Type 0
 ValuedIsSame = (p : Problem) (spot : Spot) → valued p spot (value_at p spot) ≡ p
 

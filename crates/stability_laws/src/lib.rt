@@ -4,11 +4,16 @@
 //! `specs/Laws` states them. Each is the contract of a function that does nothing: a caller's proof has the law behind the call.
 #![tactic(auto)]
 
-ghost use Rattle.stability_laws.specs.Laws.{ValuedIsValid, ValuedIsSame, ShapeStays, FeasibleStays, CostIsALine, BestBetween};
+ghost use Rattle.stability_laws.specs.Laws.{ValuedIsValid, PresentIsAllowed, ValuedIsSame, ShapeStays, FeasibleStays, CostIsALine, BestBetween};
 
-/// An allowed value in the spot leaves a problem valid, and the present one leaves it as it is.
+/// An allowed value in the spot leaves a problem valid.
 pub fn valued_is_valid()
-    ensures valid { ValuedIsValid }
+    ensures { ValuedIsValid }
+{}
+
+/// The present value is an allowed one, and leaves the problem as it is.
+pub fn present_stays()
+    ensures allowed { PresentIsAllowed }
     ensures same { ValuedIsSame }
 {}
 

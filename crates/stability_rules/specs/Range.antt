@@ -30,11 +30,15 @@ repriced p spot w v = record w { cost = cost_at p spot w v }
 abbrev pub IsBestAt : Problem → Spot → Network → ℤ → Type 0
 IsBestAt p spot w v = IsLeast (valued p spot v) (record { cost = cost_at p spot w v; d = w.d })
 
--- the network n is an allowed one of least cost there, and costs less than w
-pub record IsCheaperAt (p : Problem) (spot : Spot) (w : Network) (v : ℤ) (n : Network) : Type 0 where
-  pub feasible : IsFeasible (valued p spot v) n
-  pub least : IsLeast (valued p spot v) (record { cost = n.cost; d = n.d })
-  pub cheaper : (n.cost *ℤ w.d) <ℤ (cost_at p spot w v *ℤ n.d)
+-- the network n is an allowed one of least cost, and costs less than this much
+pub record IsCheaper (p : Problem) (much : CostOver) (n : Network) : Type 0 where
+  pub feasible : IsFeasible p n
+  pub least : IsLeast p (record { cost = n.cost; d = n.d })
+  pub cheaper : (n.cost *ℤ much.d) <ℤ (much.cost *ℤ n.d)
+
+-- with this value in the spot it costs less than w
+abbrev pub IsCheaperAt : Problem → Spot → Network → ℤ → Network → Type 0
+IsCheaperAt p spot w v n = IsCheaper (valued p spot v) (record { cost = cost_at p spot w v; d = w.d }) n
 
 -- ---- the range
 
