@@ -1,5 +1,6 @@
 -- What a look sees.
-use Rattle.std.proofs.Common.{◌≡◌, ℕ, true, false, List, [], ◌∷◌, Result, Ok, Err, IfOk, Option, Some, None, sym, ap, ◌∙◌, subst}
+use Rattle.std.proofs.Common.{◌≡◌, ℕ, true, false, List, [], ◌∷◌, Result, Ok, Err, IfOk, Option, Some, None, sym, ap, ◌∙◌, subst, arith}
+use Rattle.std.proofs.lemmas.Int.{ints}
 use Rattle.std.specs.Prelude.{is_some}
 use Rattle.int_rows.specs.Range.{InRange, AllInRange}
 use Rattle.problem_rules.specs.Each.{Each}
@@ -29,6 +30,10 @@ use Rattle.node_looks.specs.Evaluated.{PastPlaces, cost_over, cost_in, IsBoundOf
 use Rattle.node_looks.specs.Looks.{is_bounded_leaf, is_bounded, cost_of, IsFoundAt, AreFoundAt, IsOpenAs, IsSameNode, IsSeen, IsLooked}
 use Rattle.node_looks.proofs.KnownLemmas.{known_steps}
 
+-- what a lower bound is over is above 0
+pub low_positive : (b : Bound) → IsPositive (cost_over b.low)
+low_positive b = let h = b.low.positive in omega (arith, ints)
+
 -- a number that no relaxed flows of the node undercut is at most the node's value
 pub under_value : (p : Problem) (n : rules.Node) (v : CostOver) (b : Bound) → IsPositive v → IsUnder p v n → IsBoundOf p n b → IsNoMore v (cost_over b.value)
 under_value p n v b pv u h =
@@ -45,13 +50,13 @@ found_here p n b w alive h k = record {
 
 module _ (Past : PastPlaces) (p : Problem) (cell : Cell) (l : Looked) where
   pub seen_solved : (b : Bound) (w : Network) → l.cell ≡ as_shut cell (leaf (bounded b.scaled.d b.scaled.ys)) → l.network ≡ Some w → l.halt ≡ None
-      → IsNever (IsDead (shape_of p) (place_of cell)) → IsBoundOf p (place_of cell) b → IsNetworkOf p b.value w → InRange b.scaled.d → AllInRange b.scaled.ys → IsSeen Past p l
-  seen_solved b w ec en eh alive h k scale multipliers = record {
+      → IsNever (IsDead (shape_of p) (place_of cell)) → IsBoundOf p (place_of cell) b → IsNetworkOf p b.value w → IsNoMore (cost_in w) (cost_over b.low) → InRange b.scaled.d → AllInRange b.scaled.ys → IsSeen Past p l
+  seen_solved b w ec en eh alive h k reached scale multipliers = record {
     what = bounded b.scaled.d b.scaled.ys;
     end_is = ap (λ (c : Cell). c.end) ec;
     passes = subst (λ (o : Option Network). LeafPasses true p (cost_of o) (place_of l.cell) (bounded b.scaled.d b.scaled.ys)) (sym en)
         (subst (λ (c : Cell). LeafPasses true p (Some (cost_in w)) (place_of c) (bounded b.scaled.d b.scaled.ys)) (sym ec)
-        (leaf_fallen p (Some (cost_over b.value)) (Some (cost_in w)) (place_of cell) (bounded b.scaled.d b.scaled.ys) k.no_more h.value.positive k.positive h.bounded));
+        (leaf_fallen p (Some (cost_over b.low)) (Some (cost_in w)) (place_of cell) (bounded b.scaled.d b.scaled.ys) reached (low_positive b) k.positive h.bounded));
     found = subst (λ (o : Option Network). AreFoundAt p (place_of l.cell) o) (sym en)
         (subst (λ (c : Cell). IsFoundAt p (place_of c) w) (sym ec) (found_here p (place_of cell) b w alive h k));
     bounded = ap (λ (o : Option Network). is_some o) en ∙ sym (ap (λ (c : Cell). is_bounded c.end) ec);

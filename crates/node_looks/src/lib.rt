@@ -1,8 +1,9 @@
 //! What a search sees where it looks at a node.
 //!
 //! [`look`] takes the steps that are possible at a node, and bounds what they leave. The bound is an [`Evaluator`]'s: it tells the
-//! least cost of relaxed flows with multipliers, a network, a refutation, or where a number is past the range. A search stands on
-//! this trait alone, so that nodes can be bounded in more than one way.
+//! least cost of relaxed flows with multipliers for a lower bound of it, a network, a refutation, or where a number is past the
+//! range; and it proves that a node's value reaches a cost, where those multipliers do not. A search stands on this trait alone, so
+//! that nodes can be bounded in more than one way.
 //!
 //! - `evaluator`: the trait, and what it tells
 //! - `looks`: a look at a node
@@ -19,5 +20,5 @@ mod options;
 
 pub use children::{Children, HaltedAt, cheaper, look_at_children};
 pub use costs::is_no_more;
-pub use evaluator::{Bound, Evaluation, Evaluator, Halt};
+pub use evaluator::{Bound, Evaluation, Evaluator, Halt, Proof};
 pub use looks::{Looked, Ready, look, open_cell};

@@ -10,7 +10,7 @@ returns-in-Flows-clause-seen g c =
     let h = rw c.in-Flows.is at c.in_ok-bound.ensures in
     seen_solved g.E.Evaluator.past c.args.problem.now c.args.cell c.solved.result c.in-Flows.bound c.in-Flows.network c.solved.ensures.cell c.solved.ensures.network c.solved.ensures.halt
     c.requires.reduced.live.no_dead
-    (subst (λ (w : Cell). IsBoundOf c.args.problem.now (place_of w) c.in-Flows.bound) c.cell.view_is h.1) h.2 c.are_in_range.ensures.scale c.are_in_range.ensures.multipliers
+    (subst (λ (w : Cell). IsBoundOf c.args.problem.now (place_of w) c.in-Flows.bound) c.cell.view_is h.1) h.2 h.3 c.are_in_range.ensures.scale c.are_in_range.ensures.multipliers
 
 pub returns-in-Refuted-clause-seen : goal.returns-in-Refuted-clause-seen
 returns-in-Refuted-clause-seen g c =
