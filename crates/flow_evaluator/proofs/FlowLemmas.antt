@@ -1,5 +1,5 @@
 -- What the bench keeps of a node, as a search is told it.
-use Rattle.std.proofs.Common.{◌≡◌, ℕ, Bool, true, false, not, ℤ, pos, ◌*ℤ◌, ◌≤ℤ◌, List, [], ◌∷◌, length, refl, sym, ap, ◌∙◌, subst, arith}
+use Rattle.std.proofs.Common.{◌≡◌, ℕ, Bool, true, false, not, ℤ, pos, ◌*ℤ◌, ◌≤ℤ◌, List, [], ◌∷◌, length, Some, refl, sym, ap, ◌∙◌, subst, arith}
 use Rattle.std.specs.Prelude.{◌&&◌}
 use Rattle.std.proofs.lemmas.Int.{ints}
 use Rattle.number_sets.specs.Sets.{has, IsRising}
@@ -14,6 +14,7 @@ use Rattle.pns_rules.specs.Nodes as rules
 use Rattle.pgraph.specs.View.{node_of}
 use Rattle.unit_sets.specs.declared.node.Node.{Node}
 use Rattle.frac128.specs.declared.fraction.Frac.{Frac}
+use Rattle.branch_tree.specs.Scaled.{Scaled}
 use Rattle.flow_rules.specs.Net.{net_of, beside}
 use Rattle.flow_rules.specs.Flows.{IsFlows, cost}
 use Rattle.flow_rules.specs.Program.{Program, program_of}
@@ -22,12 +23,16 @@ use Rattle.flow_rules.specs.Steps.{AreInRange, last_from}
 use Rattle.flow_rules.specs.CostSteps.{cost_steps}
 use Rattle.flow_rules.specs.FeasibleSteps.{feasible_steps}
 use Rattle.end_laws.specs.Ends.{IsSplit}
-use Rattle.tree_rules.specs.Leaf.{IsFormed, multiplier}
-use Rattle.tree_rules.specs.Claim.{Network}
+use Rattle.tree_rules.specs.Leaf.{bounded, IsFormed, IsBounded, multiplier}
+use Rattle.tree_rules.specs.Claim.{Network, CostOver}
 use Rattle.dual_simplex.specs.Bench.{Bench, IsLeastOf, AreFlowsOf}
 use Rattle.dual_simplex.specs.Laws.{ScaleIsPositive, BoundIsReached, BoundIsLeast}
 use Rattle.dual_simplex.specs.FlowLaws.{UnitsAreInside, SplitFlowsAreFlows, SplitFlowsAreLeast}
-use Rattle.node_looks.specs.Evaluated.{IsBoundOf, IsNetworkOf}
+use Rattle.turn_laws.specs.Values.{IsPositive, IsNoMore}
+use Rattle.turn_laws.proofs.FractionLemmas.{fraction_trans}
+use Rattle.turn_laws.proofs.GrowLemmas.{leaf_fallen}
+use Rattle.node_looks.specs.Evaluated.{cost_over, IsBoundOf, IsNetworkOf, IsWorth}
+use Rattle.node_looks.proofs.LookLemmas.{under_value}
 use Rattle.flow_evaluator.proofs.ValueLemmas.{lowest_le, lowest_same, lowest_over}
 
 -- the fraction is the bound that the bench keeps, over its scale
@@ -62,7 +67,7 @@ kept_steps p n old new d ys h =
 module _ (p : Problem) (valid : IsValid p) (n : rules.Node) (b : Bench) (least : IsLeastOf (program_of (net_of p) n) b) where
   -- the value with the multipliers
   pub bound_is : ScaleIsPositive → BoundIsReached → BoundIsLeast → (v : Frac) → IsValueAt p n b v → IsFormed p n b.d b.ys
-      → IsBoundOf p n (record { value = v; scaled = record { d = b.d; ys = b.ys } })
+      → IsBoundOf p n (record { value = v; low = v; scaled = record { d = b.d; ys = b.ys } })
   bound_is scale reached under v low formed = let r = reached p valid n own b refl least in record {
     value = record {
       positive = den;
@@ -74,6 +79,7 @@ module _ (p : Problem) (valid : IsValid p) (n : rules.Node) (b : Bench) (least :
         at_most = no_less _ _ (lowest_same total b.d v.num v.den low positive v.positive r.1 _ r.3);
       };
     };
+    no_more = no_more _ _ refl;
     bounded = record {
       positive = positive;
       each_row = least.count;
@@ -93,6 +99,13 @@ module _ (p : Problem) (valid : IsValid p) (n : rules.Node) (b : Bench) (least :
 
       den : pos 1 ≤ℤ v.den
       den = let h = v.positive in omega (arith, ints)
+
+-- the value of a node, where it is proved, proves each cost that the node is worth
+pub worth_proved : (p : Problem) (n : rules.Node) (cost : CostOver) (v : Frac) (s : Scaled) → IsPositive cost → IsWorth p n cost → IsBoundOf p n (record { value = v; low = v; scaled = s }) → IsBounded p (Some cost) n s.d s.ys
+worth_proved p n cost v s positive w h =
+    let reached : IsNoMore w.value (cost_over v) = under_value p n w.value (record { value = v; low = v; scaled = s }) w.is_value.positive w.is_value.under h in
+    leaf_fallen p (Some (cost_over v)) (Some cost) n (bounded s.d s.ys)
+    (fraction_trans cost.cost cost.d w.value.cost w.value.d v.num v.den positive w.is_value.positive h.value.positive w.no_less reached) h.value.positive positive h.bounded
 
 -- ---- where all is decided
 

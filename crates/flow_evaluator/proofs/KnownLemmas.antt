@@ -16,7 +16,10 @@ use Rattle.tableau_rows.specs.Rows.{basis}
 use Rattle.dual_simplex.specs.Bench.{Bench}
 use Rattle.dual_simplex.specs.Named.{nonbasic_named}
 use Rattle.dual_simplex.specs.ProgramNames.{IsColumnOf, IsRowOf, IsPlaceOf, NonbasicAreOfProgram}
-use Rattle.node_looks.specs.Evaluated.{IsEvaluated}
+use Rattle.tree_rules.specs.Claim.{CostOver}
+use Rattle.node_looks.specs.Evaluated.{IsEvaluated, IsProof}
+use Rattle.node_looks.specs.declared.evaluator.Proof.{Proof}
+use Rattle.node_looks.specs.declared.evaluator.Proof.TheVariants as proofs
 use Rattle.node_looks.specs.declared.evaluator.Evaluation.{Evaluation}
 use Rattle.node_looks.specs.declared.evaluator.Evaluation.TheVariants.{Halted}
 use Rattle.flow_evaluator.specs.Past.{IsPastAt}
@@ -57,3 +60,8 @@ module _ (p : Problem) (n : Node) where
       → IfOk r (λ e. e ≡ Halted (record { nonbasic = columns; place = place })) → (decided : Bool) → IfOk r (IsEvaluated IsPastAt p n decided)
   halted_is columns place (Ok e) h is decided = subst (IsEvaluated IsPastAt p n decided) (sym is) h
   halted_is columns place (Err e) h is decided = tt
+
+  pub unproved_is : {A : Type 0} (columns : List Column) (place : Place) (r : Result Proof A) → IsPastAt p n columns place
+      → IfOk r (λ e. e ≡ proofs.Halted (record { nonbasic = columns; place = place })) → (cost : CostOver) → IfOk r (IsProof IsPastAt p n cost)
+  unproved_is columns place (Ok e) h is cost = subst (IsProof IsPastAt p n cost) (sym is) h
+  unproved_is columns place (Err e) h is cost = tt

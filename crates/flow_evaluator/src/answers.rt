@@ -11,8 +11,11 @@ ghost use Rattle.flow_rules.specs.Program.{program_of};
 ghost use Rattle.flow_rules.specs.Relaxed.{bound};
 ghost use Rattle.tree_rules.specs.Leaf.{IsFormed, multiplier};
 ghost use Rattle.dual_simplex.specs.Bench.{IsLeastOf, IsNoneOf};
-ghost use Rattle.node_looks.specs.Evaluated.{IsEvaluated};
+ghost use Rattle.tree_rules.specs.Claim.{CostOver};
+ghost use Rattle.turn_laws.specs.Values.{IsPositive};
+ghost use Rattle.node_looks.specs.Evaluated.{IsEvaluated, IsWorth, IsProof};
 ghost use Rattle.node_looks.specs.declared.evaluator.Evaluation.TheVariants.{Halted};
+ghost use Rattle.node_looks.specs.declared.evaluator.Proof.TheVariants as proofs;
 ghost use Rattle.flow_evaluator.specs.Past.{IsPastAt};
 
 use crate::sums::{cost_of_flows, form_refutation, value_of};
@@ -23,18 +26,34 @@ use dual_simplex::{
 };
 use flow_program::{Place, Program};
 use frac128::Frac;
-use node_looks::{Bound, Evaluation, Halt};
+use node_looks::{Bound, Evaluation, Halt, Proof};
 use pgraph::Graph;
 use pns_problem::Problem;
 use std::alloc::{AllocError, Global};
 use unit_sets::Node;
 
 /// A place at which a number is past the range, with the columns outside the basis that the bench keeps.
+fn halt_at(alloc: Global, bench: &Bench, place: Place) -> Result<Halt, AllocError>
+    ensures { IfOk result (λ h. h ≡ record { nonbasic = bench.now.nonbasic; place = place }) }
+{
+    let nonbasic = Columns::from_vec(bench.nonbasic().to_vec(alloc)?);
+    Ok(Halt { nonbasic, place })
+}
+
+/// It is told of the node.
 pub(crate) fn halted(alloc: Global, bench: &Bench, place: Place) -> Result<Evaluation, AllocError>
     ensures { IfOk result (λ e. e ≡ Halted (record { nonbasic = bench.now.nonbasic; place = place })) }
 {
-    let nonbasic = Columns::from_vec(bench.nonbasic().to_vec(alloc)?);
-    Ok(Evaluation::Halted(Halt { nonbasic, place }))
+    let halt = halt_at(alloc, bench, place)?;
+    Ok(Evaluation::Halted(halt))
+}
+
+/// It stands in the place of a proof.
+pub(crate) fn unproved(alloc: Global, bench: &Bench, place: Place) -> Result<Proof, AllocError>
+    ensures { IfOk result (λ e. e ≡ proofs.Halted (record { nonbasic = bench.now.nonbasic; place = place })) }
+{
+    let halt = halt_at(alloc, bench, place)?;
+    Ok(Proof::Halted(halt))
 }
 
 /// After `None`: the multipliers of the row that can't be met.
@@ -63,10 +82,14 @@ pub(crate) fn refuted(
 fn bound_at(alloc: Global, value: Frac, bench: &Bench) -> Result<Bound, AllocError>
     requires scale_in_range { InRange bench.now.d }
     requires in_range { AllInRange bench.now.ys }
-    ensures { IfOk result (λ b. b ≡ record { value = value; scaled = record { d = bench.now.d; ys = bench.now.ys } }) }
+    ensures { IfOk result (λ b. b ≡ record { value = value; low = value; scaled = record { d = bench.now.d; ys = bench.now.ys } }) }
 {
     let scaled = Scaled::of(alloc, bench.d(), bench.ys())?;
-    Ok(Bound { value, scaled })
+    Ok(Bound {
+        value,
+        low: value,
+        scaled,
+    })
 }
 
 /// After `read_flows`, where all is decided: the network of the units that are taken in.
@@ -117,6 +140,30 @@ fn with_flows(
             let bound = bound_at(alloc, value, bench)?;
             let network = network_at(alloc, node, bench, cost)?;
             Ok(Evaluation::Flows(bound, network))
+        }
+    }
+}
+
+/// After `Least`: the multipliers, which prove that no relaxed flows cost less than what the node is worth.
+pub(crate) fn proved(
+    alloc: Global,
+    problem: &Problem,
+    graph: &Graph,
+    node: &Node,
+    bench: &Bench,
+) -> Result<Proof, AllocError>
+    requires graph { shape graph.now ≡ shape_of problem.now }
+    requires sound { IsSound (shape_of problem.now) (node_of node.now) }
+    requires least { IsLeastOf (program_of (net_of problem.now) (node_of node.now)) bench.now }
+    ensures { (cost : CostOver) → IsPositive cost → IsWorth problem.now (node_of node.now) cost → IfOk result (IsProof IsPastAt problem.now (node_of node.now) cost) }
+{
+    problem.is_valid();
+    least_is_least();
+    match value_of(problem, graph, node, bench) {
+        Err(place) => unproved(alloc, bench, place),
+        Ok(value) => {
+            let bound = bound_at(alloc, value, bench)?;
+            Ok(Proof::Scaled(bound.scaled))
         }
     }
 }

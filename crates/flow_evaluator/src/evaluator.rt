@@ -1,17 +1,21 @@
 //! [`FlowEvaluator`], which evaluates nodes on one bench.
-ghost use Rattle.std.specs.Prelude.{◌≡◌, true, length, IsTrue, IfOk, OnOk};
+ghost use Rattle.std.specs.Prelude.{◌≡◌, true, length, None, IsTrue, IfOk, OnOk};
 ghost use Rattle.pns_rules.specs.Shape.{shape_of};
 ghost use Rattle.pns_rules.specs.Ends.{IsSound, IsReduced, IsDecided};
 ghost use Rattle.pgraph.specs.Tables.{shape};
 ghost use Rattle.pgraph.specs.View.{node_of};
 ghost use Rattle.dual_simplex.specs.Bench.{HasRoom};
-ghost use Rattle.node_looks.specs.Evaluated.{IsEvaluated};
+ghost use Rattle.tree_rules.specs.Claim.{CostOver};
+ghost use Rattle.tree_rules.specs.Lean.{MayUndercut};
+ghost use Rattle.turn_laws.specs.Values.{IsPositive};
+ghost use Rattle.node_looks.specs.Evaluated.{IsEvaluated, IsWorth, IsProof};
 ghost use Rattle.flow_evaluator.specs.Past.{IsPastAt};
 
-use crate::answers::{bounded, halted, refuted};
-use dual_simplex::{Bench, Ends, entry_is_past, names_are_of_program};
+use crate::answers::{bounded, halted, proved, refuted, unproved};
+use dual_simplex::{Bench, Ends, entry_is_past, names_are_of_program, none_is_refuted};
 use flow_program::Program;
-use node_looks::{Evaluation, Evaluator};
+use flow_rules::refutation;
+use node_looks::{Evaluation, Evaluator, Proof};
 use pgraph::Graph;
 use pns_problem::Problem;
 use std::alloc::{AllocError, Global};
@@ -63,6 +67,36 @@ fn evaluate_on(
     }
 }
 
+/// Walks the path of the program of a node that has relaxed flows, and tells what proves that none cost less than what the node is
+/// worth.
+fn prove_on(
+    alloc: Global,
+    problem: &Problem,
+    graph: &Graph,
+    node: &Node,
+    bench: &mut Bench,
+) -> Result<Proof, AllocError>
+    requires graph { shape graph.now ≡ shape_of problem.now }
+    requires sound { IsSound (shape_of problem.now) (node_of node.now) }
+    requires room { HasRoom bench.old (length problem.now.units) (length problem.now.materials) }
+    requires some { MayUndercut problem.now None (node_of node.now) }
+    ensures units { bench.new.rows.most_units ≡ bench.old.rows.most_units }
+    ensures rows { bench.new.rows.most_rows ≡ bench.old.rows.most_rows }
+    ensures proved { (cost : CostOver) → IsPositive cost → IsWorth problem.now (node_of node.now) cost → IfOk result (IsProof IsPastAt problem.now (node_of node.now) cost) }
+{
+    problem.is_valid();
+    entry_is_past();
+    names_are_of_program();
+    none_is_refuted();
+    refutation();
+    let program = Program::of(alloc, problem, graph, *node)?;
+    match bench.least(&program) {
+        Ok(Ends::Least) => proved(alloc, problem, graph, node, bench),
+        Ok(Ends::None) => unreachable!(),
+        Err(place) => unproved(alloc, bench, place),
+    }
+}
+
 impl FlowEvaluator {
     /// An evaluator with room for the program of each node of the problem. `Err` comes for want of memory alone.
     pub fn open(alloc: Global, problem: &Problem) -> Result<FlowEvaluator, AllocError>
@@ -109,6 +143,19 @@ impl Evaluator for FlowEvaluator {
     ) -> Result<Evaluation, AllocError> {
         self.make_room(alloc, problem)?;
         evaluate_on(alloc, problem, graph, &node, decided, &mut self.bench)
+    }
+
+    fn prove(
+        &mut self,
+        alloc: Global,
+        problem: &Problem,
+        graph: &Graph,
+        node: Node,
+        _cost: i128,
+        _d: i128,
+    ) -> Result<Proof, AllocError> {
+        self.make_room(alloc, problem)?;
+        prove_on(alloc, problem, graph, &node, &mut self.bench)
     }
 
     fn sizes(&self) -> &[i64] {
