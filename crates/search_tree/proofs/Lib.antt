@@ -4,3 +4,4 @@ pub mod PassLemmas
 pub mod RunLemmas
 pub mod TreeLemmas
 pub mod WalkLemmas
+pub mod ShutLemmas

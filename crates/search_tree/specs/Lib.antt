@@ -4,3 +4,4 @@ pub mod Fits
 pub mod Growth
 pub mod Laws
 pub mod Runs
+pub mod Shut

@@ -1,9 +1,10 @@
 //! The cells in preorder.
-ghost use Rattle.std.specs.Prelude.{◌≡◌, ◌<◌, ◌+◌, ◌-◌, ◌^◌, [], ◌∷◌, ◌++◌, cond, IfOk, OnOk, length};
+ghost use Rattle.std.specs.Prelude.{◌≡◌, ◌<◌, ◌+◌, ◌-◌, ◌^◌, [], ◌∷◌, ◌++◌, cond, None, IfOk, OnOk, length, option_copied, slice_index_or};
 ghost use Rattle.std.specs.List.{range_with_len};
 ghost use Rattle.branch_tree.specs.View.{end_of};
 ghost use Rattle.search_tree.specs.Cells.{IsLinked, numbers_below};
 ghost use Rattle.search_tree.specs.Preorder.{IsTreeOf};
+ghost use Rattle.search_tree.specs.Shut.{shut_end, shut_cells};
 ghost use Rattle.search_tree.specs.Runs.{to_come};
 
 use crate::cell::Cell;
@@ -70,11 +71,24 @@ fn copy_end(alloc: Global, end: &End) -> Result<End, AllocError>
     }
 }
 
-fn copy_node(alloc: Global, cell: &Cell) -> Result<TreeNode, AllocError>
-    ensures { IfOk result (λ t. t ≡ record { option = cell.now.option; steps = cell.now.steps; end = cell.now.end }) }
+/// A copy of the node's end; an open leaf is bounded by the multipliers, where there are some.
+fn copy_shut(alloc: Global, cell: &Cell, proof: Option<&Scaled>) -> Result<End, AllocError>
+    ensures { IfOk result (λ e. end_of e ≡ shut_end (option_copied proof.entry) cell.now.end) }
+{
+    if let Some(scaled) = proof {
+        if cell.ends_open() {
+            let copy = copy_scaled(alloc, scaled)?;
+            return Ok(End::Bound(copy));
+        }
+    }
+    copy_end(alloc, &cell.end)
+}
+
+fn copy_node(alloc: Global, cell: &Cell, proof: Option<&Scaled>) -> Result<TreeNode, AllocError>
+    ensures { IfOk result (λ t. t ≡ record { option = cell.now.option; steps = cell.now.steps; end = shut_end (option_copied proof.entry) cell.now.end }) }
 {
     let steps = copy_steps(alloc, &cell.steps)?;
-    let end = copy_end(alloc, &cell.end)?;
+    let end = copy_shut(alloc, cell, proof)?;
     Ok(TreeNode {
         option: cell.option,
         steps,
@@ -116,17 +130,18 @@ fn put_children(stack: &mut Vec<Run>, cell: &Cell) -> Result<(), AllocError>
 fn visit(
     alloc: Global,
     cell: &Cell,
+    proof: Option<&Scaled>,
     run: Run,
     stack: &mut Vec<Run>,
     nodes: &mut Vec<TreeNode>,
 ) -> Result<(), AllocError>
     requires { run.next < 2 ^ 32 - 1 }
     ensures stack { OnOk result (to_come stack.new.items ≡ numbers_below cell.now.first cell.now.end ++ (range_with_len (run.next + 1) run.more ++ to_come stack.old.items)) }
-    ensures nodes { OnOk result (nodes.new.items ≡ nodes.old.items ++ record { option = cell.now.option; steps = cell.now.steps; end = cell.now.end } ∷ []) }
+    ensures nodes { OnOk result (nodes.new.items ≡ nodes.old.items ++ record { option = cell.now.option; steps = cell.now.steps; end = shut_end (option_copied proof.entry) cell.now.end } ∷ []) }
 {
     put_rest(stack, run)?;
     put_children(stack, cell)?;
-    let node = copy_node(alloc, cell)?;
+    let node = copy_node(alloc, cell, proof)?;
     nodes.push(node)?;
     Ok(())
 }
@@ -148,15 +163,27 @@ fn ended(nodes: Vec<TreeNode>, place: usize) -> Preorder
     }
 }
 
-/// The branch tree of the cells, and the place of the cell `wanted` in it. It takes a step for each cell, and no recursion.
+/// The multipliers at a number, where there are some.
+fn proof_at(proofs: &[Option<Scaled>], number: u32) -> Option<&Scaled>
+    ensures { option_copied result ≡ slice_index_or proofs.now number None }
+{
+    match proofs.get(number as usize) {
+        Some(Some(scaled)) => Some(scaled),
+        _ => None,
+    }
+}
+
+/// The branch tree of the cells, and the place of the cell `wanted` in it. An open leaf at whose number multipliers stand is shut
+/// there by these. It takes a step for each cell, and no recursion.
 pub fn nodes_in_preorder(
     alloc: Global,
     pool: &Pool<Cell>,
+    proofs: &[Option<Scaled>],
     wanted: u32,
 ) -> Result<Preorder, AllocError>
     requires linked { IsLinked pool.now.payloads }
     requires wanted { wanted < length pool.now.payloads }
-    ensures { IfOk result (λ t. IsTreeOf pool.now.payloads wanted t.nodes.items t.place) }
+    ensures { IfOk result (λ t. IsTreeOf (shut_cells proofs.now pool.now.payloads) wanted t.nodes.items t.place) }
 {
     pool.is_pool();
     let mut nodes = Vec::new(alloc);
@@ -166,7 +193,8 @@ pub fn nodes_in_preorder(
     'walk: while let Some(run) = stack.pop() {
         let cell = pool.payload(run.next);
         place = place_after(place, run.next == wanted, nodes.len());
-        visit(alloc, cell, run, &mut stack, &mut nodes)?;
+        let proof = proof_at(proofs, run.next);
+        visit(alloc, cell, proof, run, &mut stack, &mut nodes)?;
     }
     Ok(ended(nodes, place))
 }
