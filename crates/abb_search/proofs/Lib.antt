@@ -1,3 +1,4 @@
+pub mod ClosingLemmas
 pub mod EndLemmas
 pub mod GrowingLemmas
 pub mod HandLemmas

@@ -1,4 +1,4 @@
--- What is at hand for the open leaves, and how many there are.
+-- Which leaves are open, and which of them is first.
 use Rattle.std.proofs.Common.{◌≡◌, ℕ, zero, suc, ◌+◌, ◌<◌, ◌≤◌, Bool, true, false, cond, List, [], ◌∷◌, ◌++◌, length, get_or, slice_set, Option, Some, None, ℤ, ◌≤ℤ◌, ◌<ℤ◌, refl, sym, ap, ◌∙◌, subst, arith, true≢false}
 use Rattle.std.specs.List.{slice_get}
 use Rattle.std.specs.Ordering.{int_cmp}
@@ -17,7 +17,6 @@ use Rattle.search_tree.specs.Growth.{is_open}
 use Rattle.node_looks.specs.declared.looks.Ready.{Ready}
 use Rattle.node_looks.specs.Looks.{IsSomeReady}
 use Rattle.node_looks.specs.Children.{AreReady}
-use Rattle.abb_search.specs.Growing.{open_count}
 
 pub open_leaf : (e : End Leaf) → is_open e ≡ true → e ≡ leaf untried
 open_leaf (branch w) h = absurd (true≢false (sym h))
@@ -53,25 +52,3 @@ first_has (x ∷ xs) i h = let q : x ≡ i = cc in subst (λ j. has (x ∷ xs) j
 pub none_first : (xs : List ℕ) → first xs ≡ None → (j : ℕ) → has xs j ≡ true → ⊥
 none_first [] h j k = true≢false (sym k)
 none_first (x ∷ xs) h j k = absurd (let q : Some x ≡ None = h in cc)
-
--- ---- how many leaves are open
-
-pub count_more : (cs ds : List Cell) → open_count (cs ++ ds) ≡ open_count cs + open_count ds
-count_more [] ds = omega arith
-count_more (c ∷ cs) ds = let e = count_more cs ds in omega (arith, e)
-
-pub count_within : (cs : List Cell) → open_count cs ≤ length cs
-count_within [] = omega arith
-count_within (c ∷ cs) = let e = count_within cs in by (is_open c.end) e
-  where
-    by : (b : Bool) → open_count cs ≤ length cs → cond b 1 0 + open_count cs ≤ suc (length cs)
-    by true e = omega (arith, e)
-    by false e = omega (arith, e)
-
-pub count_shut : (cs : List Cell) (j : ℕ) (d : Cell) → j < length cs → is_open (cell_at cs j).end ≡ true → is_open d.end ≡ false → open_count (slice_set cs j d) + 1 ≡ open_count cs
-count_shut [] j d lt o s = absurd (omega (arith, lt))
-count_shut (c ∷ cs) zero d lt o s =
-    let a = ap (λ b. cond b 1 0 + open_count cs) o in
-    let b = ap (λ b. cond b 1 0 + open_count cs) s in
-    omega (arith, a, b)
-count_shut (c ∷ cs) (suc j) d lt o s = let e = count_shut cs j d (omega (arith, lt)) o s in omega (arith, e)

@@ -32,7 +32,7 @@ use Rattle.abb_search.specs.Hand.{AreAtHand, with_key}
 use Rattle.abb_search.proofs.HandLemmas.{IsSameKid, kid_same, hand_more}
 use Rattle.abb_search.specs.declared.growing.Growing.{Growing}
 use Rattle.abb_search.specs.declared.growing.HaltedLeaf.{HaltedLeaf}
-use Rattle.abb_search.specs.Growing.{IsTreeKept, IsGrowing, IsAfterBranch, open_cell, IsOpenRoot, root_halt, IsLookedRoot, IsHaltedAt}
+use Rattle.abb_search.specs.Growing.{IsTreeKept, IsGrowing, GoesOn, open_cell, IsOpenRoot, root_halt, IsLookedRoot, IsHaltedAt}
 use Rattle.abb_search.proofs.KnownLemmas.{AreKnown, open_unbounded}
 use Rattle.abb_search.proofs.ReadyLemmas.{open_leaf, first_has}
 
@@ -162,9 +162,9 @@ module _ (Past : PastPlaces) (p : Problem) (start : starts.Node) (budget : ℕ) 
         halted = subst (λ (cs : List Cell). IsHalted Past p (place_of (cell_at cs 0)) i) (sym cells_now) o.1;
       }
 
-  pub root_after : IsAfterBranch Past p s s.halt
-  root_after = subst (λ (o : Option HaltedLeaf). IsAfterBranch Past p s o) (sym h.halt_is) (by h.looked.halt refl)
+  pub root_after : GoesOn Past p s s.halt
+  root_after = subst (λ (o : Option HaltedLeaf). GoesOn Past p s o) (sym h.halt_is) (by h.looked.halt refl)
     where
-      by : (o : Option Halt) → h.looked.halt ≡ o → IsAfterBranch Past p s (root_halt o)
+      by : (o : Option Halt) → h.looked.halt ≡ o → GoesOn Past p s (root_halt o)
       by None e = root_grows e
       by (Some i) e = (root_tree, root_halts i e)

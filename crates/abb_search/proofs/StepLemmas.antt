@@ -1,8 +1,7 @@
 -- What a turn leads to, from what its parts do.
-use Rattle.std.specs.Prelude.{MatchOption, is_some}
-use Rattle.std.specs.List.{slice_get}
+use Rattle.std.specs.Prelude.{is_some}
 use Rattle.std.proofs.Common.{◌≡◌, ℕ, ◌-◌, ◌^◌, ◌<◌, ◌≤◌, Bool, true, false, List, length, Option, Some, None, refl, sym, ap, ◌∙◌, subst, arith}
-use Rattle.link_lists.specs.Lists.{has, first}
+use Rattle.link_lists.specs.Lists.{has}
 use Rattle.problem_rules.specs.Problem.{Problem}
 use Rattle.pns_rules.specs.Shape.{Shape, shape_of}
 use Rattle.pns_rules.specs.Ends.{IsSound}
@@ -36,7 +35,7 @@ use Rattle.abb_search.specs.declared.outcome.Found.{Found}
 use Rattle.abb_search.specs.declared.outcome.Found.TheVariants as founds
 use Rattle.abb_search.specs.declared.growing.Growing.{Growing}
 use Rattle.abb_search.specs.declared.growing.HaltedLeaf.{HaltedLeaf}
-use Rattle.abb_search.specs.Growing.{IsTreeKept, IsGrowing, IsBeaten, LeastIsBelow, leaf_of, IsHaltedAt, GoesOn, IsGoing, IsSame, IsAfterBranch, IsShutDown}
+use Rattle.abb_search.specs.Growing.{IsTreeKept, IsGrowing, leaf_of, IsHaltedAt, GoesOn, IsGoing, IsSame}
 use Rattle.abb_search.specs.Found.{IsFoundBy, found_with}
 use Rattle.abb_search.specs.Answers.{network_in, IsAgainst, IsMore, IsEnd, StepHolds}
 use Rattle.abb_search.specs.Searched.{Searched, IsSameSearch, AreNodesOf, StandsAt, IsSearching}
@@ -80,51 +79,22 @@ going_tree : (Past : PastPlaces) (p : Problem) (s : Growing) → IsGoing Past p 
 going_tree Past p s h = by s.halt h
   where
     by : (o : Option HaltedLeaf) → GoesOn Past p s o → IsTreeKept p s
-    by None g = g.0.tree
+    by None g = g.tree
     by (Some w) g = g.0
 
 going_positive : (Past : PastPlaces) (p : Problem) (s : Growing) → IsGoing Past p s → IsPositiveCost (cost_of s.best)
 going_positive Past p s h = tree_positive p s (going_tree Past p s h)
 
--- what open leaves that are shut leave as it was
-pub record IsGoingAfter (Past : PastPlaces) (p : Problem) (mid new : Growing) : Type 0 where
-  pub going : IsGoing Past p new
-  pub len : length new.pool.payloads ≡ length mid.pool.payloads
-  pub start : new.start ≡ mid.start
-  pub budget : new.budget ≡ mid.budget
-  pub best : new.best ≡ mid.best
-
-pub going_after : (Past : PastPlaces) (p : Problem) (mid new : Growing) → IsAfterBranch Past p mid mid.halt → MatchOption mid.halt (IsShutDown p mid new) (λ h. new ≡ mid) → IsGoingAfter Past p mid new
-going_after Past p mid new after shut = by mid.halt refl after shut
-  where
-    by : (o : Option HaltedLeaf) → mid.halt ≡ o → IsAfterBranch Past p mid o → MatchOption o (IsShutDown p mid new) (λ h. new ≡ mid) → IsGoingAfter Past p mid new
-    by None e a d = record {
-      going = subst (λ (o : Option HaltedLeaf). GoesOn Past p new o) (sym (d.halt ∙ e)) (d.growing, d.below);
-      len = d.len;
-      start = d.start;
-      budget = d.budget;
-      best = d.best;
-    }
-    by (Some h) e a d = record {
-      going = subst (λ (m : Growing). IsGoing Past p m) (sym d) (subst (λ (o : Option HaltedLeaf). GoesOn Past p mid o) (sym e) a);
-      len = ap (λ (m : Growing). length m.pool.payloads) d;
-      start = ap (λ (m : Growing). m.start) d;
-      budget = ap (λ (m : Growing). m.budget) d;
-      best = ap (λ (m : Growing). m.best) d;
-    }
-
-pub more_after : (Past : PastPlaces) (p : Problem) (s mid new : Growing) → IsAfterBranch Past p mid mid.halt → length s.pool.payloads < length mid.pool.payloads → HasFallen (cost_of s.best) (cost_of mid.best)
-    → MatchOption mid.halt (IsShutDown p mid new) (λ h. new ≡ mid) → mid.start ≡ s.start → mid.budget ≡ s.budget → IsMore Past p s new
-more_after Past p s mid new after more fallen shut es eu =
-    let g = going_after Past p mid new after shut in
-    record {
-      going = g.going;
-      more = subst (λ n. length s.pool.payloads < n) (sym g.len) more;
-      fallen = subst (λ (w : Option claims.Network). HasFallen (cost_of s.best) (cost_of w)) (sym g.best) fallen;
-      positive = going_positive Past p new g.going;
-      start = g.start ∙ es;
-      budget = g.budget ∙ eu;
-    }
+pub more_after : (Past : PastPlaces) (p : Problem) (s new : Growing) → GoesOn Past p new new.halt → length s.pool.payloads < length new.pool.payloads → HasFallen (cost_of s.best) (cost_of new.best)
+    → new.start ≡ s.start → new.budget ≡ s.budget → IsMore Past p s new
+more_after Past p s new going more fallen es eu = record {
+  going = going;
+  more = more;
+  fallen = fallen;
+  positive = going_positive Past p new going;
+  start = es;
+  budget = eu;
+}
 
 -- ---- costs that fall
 
@@ -218,11 +188,6 @@ module _ (Past : PastPlaces) (p : Problem) (s n : Growing) (e : IsSame s n) wher
         (subst (λ (vs : List Frac). AreAtHand p s.pool.payloads vs n.ready) (sym e.pool.values) (hand_same p s.pool.payloads s.pool.values s.ready n.ready e.ready g.ready));
   }
 
-  below_same : LeastIsBelow s → LeastIsBelow n
-  below_same l at v lt f i b =
-      l at v (subst (λ (cs : List Cell). at < length cs) e.pool.payloads lt) (ap (λ (ls : List ℕ). first ls) (sym e.pool.leaves) ∙ f)
-      (ap (λ (vs : List Frac). slice_get vs at) (sym e.pool.values) ∙ i) (subst (λ (w : Option claims.Network). IsBeaten w v) e.best b)
-
   halted_same : (at : ℕ) (h : Halt) → IsHaltedAt Past p s at h → IsHaltedAt Past p n at h
   halted_same at h k = record {
     there = subst (λ (cs : List Cell). at < length cs) (sym e.pool.payloads) k.there;
@@ -231,7 +196,7 @@ module _ (Past : PastPlaces) (p : Problem) (s n : Growing) (e : IsSame s n) wher
   }
 
   goes_same : (o : Option HaltedLeaf) → GoesOn Past p s o → GoesOn Past p n o
-  goes_same None g = (growing_same g.0, below_same g.1)
+  goes_same None g = growing_same g
   goes_same (Some h) g = (tree_same g.0, halted_same h.leaf h.halt g.1)
 
   pub stands_same : (looked : Bool) → StandsAt Past p s looked → StandsAt Past p n looked

@@ -2,7 +2,7 @@
 use Rattle.std.specs.Prelude.{is_some}
 use Rattle.std.proofs.Common.{◌≡◌, ◌⊎◌, ◌==◌, ℕ, ◌+◌, ◌-◌, ◌^◌, ◌<◌, ◌≤◌, true, ◌||◌, List, [], ◌∷◌, ◌++◌, length, get_or, slice_set, Option, Some, None, ℤ, ◌*ℤ◌, ◌≤ℤ◌, ◌<ℤ◌, refl, sym, ap, ◌∙◌, subst, arith, inl, inr, Result, Ok, Err, IfOk, OnOk}
 use Rattle.std.specs.List.{slice_get}
-use Rattle.std.proofs.lemmas.Bool.{cases_lt, or_cases, or_left, or_right, eqb-true}
+use Rattle.std.proofs.lemmas.Bool.{cases_eq, cases_lt, or_cases, or_left, or_right, eqb-true}
 use Rattle.std.proofs.lemmas.Cmp.{int_ranked}
 use Rattle.std.specs.declared.cmp.Ordering.TheVariants.{Greater}
 use Rattle.unit_sets.specs.declared.node.Node as starts
@@ -38,8 +38,8 @@ use Rattle.branch_choice.specs.declared.choice.Choice.TheVariants as choices
 use Rattle.branch_choice.specs.Choices.{IsChoice, way_of, option_count}
 use Rattle.turn_laws.proofs.FractionLemmas.{fraction_trans}
 use Rattle.turn_laws.proofs.GrowLemmas.{leaf_fallen}
-use Rattle.turn_laws.proofs.KeptLemmas.{branching_is_kept, shutting_is_kept}
-use Rattle.turn_laws.proofs.StepLemmas.{growth_branches, growth_shuts}
+use Rattle.turn_laws.proofs.KeptLemmas.{branching_is_kept}
+use Rattle.turn_laws.proofs.StepLemmas.{growth_branches}
 use Rattle.node_looks.specs.declared.looks.Ready.{Ready}
 use Rattle.node_looks.specs.declared.children.HaltedAt.{HaltedAt}
 use Rattle.node_looks.specs.declared.children.Children.{Children}
@@ -49,8 +49,9 @@ use Rattle.node_looks.specs.Children.{claim_with, IsBest, IsImproved, cells_of, 
 use Rattle.node_looks.proofs.BestLemmas.{improved_after, children_after}
 use Rattle.abb_search.specs.declared.growing.Growing.{Growing}
 use Rattle.abb_search.specs.declared.growing.HaltedLeaf.{HaltedLeaf}
-use Rattle.abb_search.specs.Growing.{IsTreeKept, IsGrowing, open_count, choice_of, IsBeaten, LeastIsBelow, halt_at, IsHaltedAt, IsBranching, IsAfterBranch, IsShutting, IsSpentAt}
-use Rattle.abb_search.proofs.ReadyLemmas.{open_leaf, leaf_open, not_greater, first_has, none_first, count_shut}
+use Rattle.abb_search.specs.Growing.{IsTreeKept, IsGrowing, choice_of, IsBeaten, halt_at, IsHaltedAt, IsBranching, GoesOn, IsSpentAt}
+use Rattle.abb_search.specs.Closing.{AreBeaten}
+use Rattle.abb_search.proofs.ReadyLemmas.{open_leaf, leaf_open, not_greater, first_has, none_first}
 use Rattle.slab.specs.Slab.{Slab, get, Updates}
 use Rattle.abb_search.specs.Hand.{IsAtHand, AreAtHand, with_key, ArePlaced}
 use Rattle.abb_search.proofs.HandLemmas.{hand_freed, hand_more, kids_same, as_many_kids, known_kids, children_kept, bounded_same}
@@ -69,6 +70,10 @@ under_less p n v w pv pw le u z d flows = fraction_trans v.cost v.d w.cost w.d (
 -- what is not less is greater
 dearer : (x y : ℤ) → (x ≤ℤ y → ⊥) → y ≤ℤ x
 dearer x y h = not_greater y x (λ e. h (let l : x <ℤ y = int_ranked y x Greater (sym e) in omega (arith, ints)))
+
+-- what a fraction is over is above 0
+pub frac_positive : (v : Frac) → IsPositive (cost_over v)
+frac_positive v = let h = v.positive in omega (arith, ints)
 
 -- a choice gives two children or more
 two_or_more : (m : Choice) → 2 ≤ option_count m
@@ -95,13 +100,6 @@ module _ (p : Problem) (valid : IsValid p) (s : Growing) (g : IsGrowing p s) (at
 
   pub at_hand : IsAtHand p s.pool.payloads s.pool.values s.ready at
   at_hand = g.ready.each at there untried_there
-
-  -- something is at hand
-  pub never_none : (r : Option Ready) → r ≡ get s.ready (cell_at s.pool.payloads at).key → r ≡ None → ⊥
-  never_none r e n = subst (λ (o : Option Ready). IsSomeReady p (place_of (cell_at s.pool.payloads at)) at_hand.value o) (sym e ∙ n) at_hand.some
-
-  pub ready_known : (r : Option Ready) (q : Ready) → r ≡ get s.ready (cell_at s.pool.payloads at).key → r ≡ Some q → IsReady p (place_of (cell_at s.pool.payloads at)) at_hand.value q
-  ready_known r q e n = subst (λ (o : Option Ready). IsSomeReady p (place_of (cell_at s.pool.payloads at)) at_hand.value o) (sym e ∙ n) at_hand.some
 
   pub record IsHand : Type 0 where
     pub ready : Ready
@@ -181,78 +179,44 @@ module _ (p : Problem) (valid : IsValid p) (s : Growing) (g : IsGrowing p s) (at
       let r = o.known.bound.value.reached in
       record { reduced = o.known.reduced; undecided = undecided_there (shape_of p) (place_of (cell_at s.pool.payloads j)) o.ready.choice o.known.choice; relaxed = record { sizes = r.sizes; d = r.d; relaxed = r.relaxed; at_most = tt } }
 
-  -- where the best network is dearer, the value is below it
-  pub beaten_at : (q : Ready) → IsReady p (place_of (cell_at s.pool.payloads at)) at_hand.value q → ((v : Frac) → slice_get s.pool.values at ≡ Some v → IsBeaten s.best v) → IsBeaten s.best q.bound.value
-  beaten_at q k h = subst (λ (v : Frac). IsBeaten s.best v) (sym k.value_is) (h at_hand.value at_hand.value_is)
+  -- the value that the pool has is the one at hand
+  value_here : (v : Frac) → slice_get s.pool.values at ≡ Some v → at_hand.value ≡ v
+  value_here v e = let q : Some at_hand.value ≡ Some v = sym at_hand.value_is ∙ e in cc
+
+  pub none_beats : (v : Frac) → slice_get s.pool.values at ≡ Some v → (IsBeaten s.best v → ⊥) → IsBeaten s.best at_hand.value → ⊥
+  none_beats v e n b = n (subst (λ (u : Frac). IsBeaten s.best u) (value_here v e) b)
+
+  -- where the best network costs no more than the least value, it costs no more than any
+  pub all_beaten : (v : Frac) → slice_get s.pool.values at ≡ Some v → IsBeaten s.best v → (w : claims.Network) × AreBeaten s w
+  all_beaten v e b = by s.best refl b
+    where
+      positive : (w : claims.Network) → s.best ≡ Some w → IsPositive (cost_in w)
+      positive w eb = subst (λ (o : Option claims.Network). IsPositiveCost (claimed_cost (claim_with o))) eb g.tree.kept.claim_positive
+
+      same_value : (j : ℕ) (u : Frac) → j ≡ at → slice_get s.pool.values j ≡ Some u → v ≡ u
+      same_value j u same i = let q : Some v ≡ Some u = sym e ∙ (ap (λ k. slice_get s.pool.values k) (sym same) ∙ i) in cc
+
+      by : (o : Option claims.Network) → s.best ≡ o → IsBeaten o v → (w : claims.Network) × AreBeaten s w
+      by None eb h = absurd h
+      by (Some w) eb h = (
+        w,
+        record {
+          best_is = eb;
+          each = λ j u lt opens i. elim (cases_eq j at) [
+            | inl same ↦ subst (λ (x : Frac). IsNoMore (cost_in w) (cost_over x)) (same_value j u same i) h
+            | inr ne ↦ fraction_trans w.cost w.d v.num v.den u.num u.den (positive w eb) (frac_positive v) (frac_positive u) h
+                (subst (λ (x : Frac). IsNoMore (cost_over x) (cost_over u)) (value_here v e) (no_less j (g.are_open j lt ∙ leaf_open (cell_at s.pool.payloads j).end opens) ne u i))
+          ];
+        },
+      )
 
   not_beaten : (best : Option claims.Network) (v : Frac) → (IsBeaten best v → ⊥) → LastIsBelow (Some (cost_over v)) (claimed_cost (claim_with best))
   not_beaten None v h = tt
   not_beaten (Some w) v h = dearer (w.cost *ℤ v.den) (v.num *ℤ w.d) h
 
   module _ (q : Ready) (k : IsReady p (place_of (cell_at s.pool.payloads at)) at_hand.value q) where
-    -- ---- the leaf is shut
-    module _ (beaten : IsBeaten s.best q.bound.value) (numbers : InRange q.bound.scaled.d × AllInRange q.bound.scaled.ys) where
-      passes_by : (best : Option claims.Network) → IsPositiveCost (claimed_cost (claim_with best)) → IsBeaten best q.bound.value
-          → LeafPasses true p (claimed_cost (claim_with best)) (place_of (cell_at s.pool.payloads at)) (bounded q.bound.scaled.d q.bound.scaled.ys)
-      passes_by None pc b = absurd b
-      passes_by (Some w) pc b =
-          leaf_fallen p (Some (cost_over q.bound.value)) (Some (cost_in w)) (place_of (cell_at s.pool.payloads at)) (bounded q.bound.scaled.d q.bound.scaled.ys) b k.bound.value.positive pc k.bound.bounded
-
-      abbrev shut_cells : List Cell
-      shut_cells = slice_set s.pool.payloads at (as_shut (cell_at s.pool.payloads at) (leaf (bounded q.bound.scaled.d q.bound.scaled.ys)))
-
-      shut_kept : IsKept p (node_of s.start) (claim_with s.best) g.tree.last (slice_set s.pool.payloads at (as_shut (cell_at s.pool.payloads at) (leaf (bounded q.bound.scaled.d q.bound.scaled.ys))))
-      shut_kept =
-          shutting_is_kept p (node_of s.start) (claim_with s.best) g.tree.last s.pool.payloads (slice_set s.pool.payloads at (as_shut (cell_at s.pool.payloads at) (leaf (bounded q.bound.scaled.d q.bound.scaled.ys)))) g.tree.kept
-          (growth_shuts p (claimed_cost (claim_with s.best)) s.pool.payloads at (bounded q.bound.scaled.d q.bound.scaled.ys) there untried_there (λ (e : bounded q.bound.scaled.d q.bound.scaled.ys ≡ untried). cc)
-          (passes_by s.best g.tree.kept.claim_positive beaten))
-
-      some_best : (best : Option claims.Network) → IsBeaten best q.bound.value → is_some best ≡ true
-      some_best None b = absurd b
-      some_best (Some w) b = refl
-
-      pub shut_turn : (new : Growing) → new.start ≡ s.start → new.budget ≡ s.budget → new.nodes ≡ s.nodes → new.best ≡ s.best → new.halt ≡ s.halt
-          → new.pool.payloads ≡ slice_set s.pool.payloads at (as_shut (cell_at s.pool.payloads at) (leaf (bounded q.bound.scaled.d q.bound.scaled.ys)))
-          → new.pool.values ≡ s.pool.values → AreOpen new.pool → Updates s.ready new.ready (cell_at s.pool.payloads at).key None → IsShutting p s new
-      shut_turn new es eu en eb eh ec ev ao frees = record {
-        growing = record {
-          tree = record {
-            last = g.tree.last;
-            kept = subst (λ (cs : List Cell). IsKept p (node_of new.start) (claim_with new.best) g.tree.last cs) (sym ec)
-                (subst (λ (w : Option claims.Network). IsKept p (node_of new.start) (claim_with w) g.tree.last shut_cells) (sym eb)
-                (subst (λ (n : starts.Node). IsKept p (node_of n) (claim_with s.best) g.tree.last shut_cells) (sym es) shut_kept));
-            passes = subst (λ (w : Option claims.Network). ClaimPasses true p (claim_with w)) (sym eb) g.tree.passes;
-            bounded = λ b. ap (λ (w : Option claims.Network). is_some w) eb ∙ some_best s.best beaten;
-            known = subst (λ (cs : List Cell). AreKnown p cs) (sym ec)
-                (known_set p s.pool.payloads at (as_shut (cell_at s.pool.payloads at) (leaf (bounded q.bound.scaled.d q.bound.scaled.ys))) g.tree.known there
-                (known_end p (cell_at s.pool.payloads at) (as_shut (cell_at s.pool.payloads at) (leaf (bounded q.bound.scaled.d q.bound.scaled.ys))) (g.tree.known at there) refl refl numbers));
-            counted = en ∙ (g.tree.counted ∙ sym same_count);
-            few = let a = same_count in let b = g.tree.few in let c = eu in omega (arith, a, b, c);
-            numbered = subst (λ n. n < 2 ^ 32 - 1) (sym same_count) g.tree.numbered;
-          };
-          are_open = ao;
-          ready = subst (λ (vs : List Frac). AreAtHand p new.pool.payloads vs new.ready) (sym ev)
-              (subst (λ (cs : List Cell). AreAtHand p cs s.pool.values new.ready) (sym ec)
-              (hand_freed p s.pool.payloads s.pool.values s.ready new.ready at (as_shut (cell_at s.pool.payloads at) (leaf (bounded q.bound.scaled.d q.bound.scaled.ys))) g.ready there untried_there refl frees));
-        };
-        fewer = let b = ap (λ (cs : List Cell). open_count cs) ec in
-            let c = count_shut s.pool.payloads at (as_shut (cell_at s.pool.payloads at) (leaf (bounded q.bound.scaled.d q.bound.scaled.ys))) there opens refl in
-            omega (arith, b, c);
-        len = same_count;
-        start = es;
-        budget = eu;
-        best = eb;
-        halt = eh;
-      }
-        where
-          same_count : length new.pool.payloads ≡ length s.pool.payloads
-          same_count = ap (λ (cs : List Cell). length cs) ec ∙ length-set s.pool.payloads at (as_shut (cell_at s.pool.payloads at) (leaf (bounded q.bound.scaled.d q.bound.scaled.ys)))
-
     -- ---- no network beats the leaf
-    module _ (lb : LeastIsBelow s) where
-      nb : IsBeaten s.best at_hand.value → ⊥
-      nb b = lb at at_hand.value there is_first at_hand.value_is b
-
+    module _ (nb : IsBeaten s.best at_hand.value → ⊥) where
       last_below : LastIsBelow (Some (cost_over at_hand.value)) (claimed_cost (claim_with s.best))
       last_below = not_beaten s.best at_hand.value nb
 
@@ -361,7 +325,7 @@ module _ (p : Problem) (valid : IsValid p) (s : Growing) (g : IsGrowing p s) (at
             two : 2 ≤ option_count m
             two = two_or_more m
 
-        pub going_now : (h : Option HaltedAt) → HaltHolds Past p c.kids.items c.ready.items h → IsAfterBranch Past p new (halt_at (length s.pool.payloads) h)
+        pub going_now : (h : Option HaltedAt) → HaltHolds Past p c.kids.items c.ready.items h → GoesOn Past p new (halt_at (length s.pool.payloads) h)
         going_now None h = record { tree = tree_now; are_open = ao; ready = ready_now h }
         going_now (Some w) h =
             let lt : w.at < length (cells_of gs) = let a = h.0 in let b = length-map gs (λ (f : Fresh). f.cell) in let d = as_many_kids c.kids.items gs c.ready.items freed new.ready placed in omega (arith, a, b, d) in
@@ -376,13 +340,13 @@ module _ (p : Problem) (valid : IsValid p) (s : Growing) (g : IsGrowing p s) (at
             )
 
     -- what was branched goes on with more nodes
-    pub branched_step : LeastIsBelow s → (Past : PastPlaces) (new : Growing) (m : Choice) (choice : IsChoice (shape_of p) (place_of (cell_at s.pool.payloads at)) m)
+    pub branched_step : (IsBeaten s.best at_hand.value → ⊥) → (Past : PastPlaces) (new : Growing) (m : Choice) (choice : IsChoice (shape_of p) (place_of (cell_at s.pool.payloads at)) m)
         → length s.pool.payloads + option_count m ≤ s.budget → IsBranching Past p (place_of (cell_at s.pool.payloads at)) s new at (way_of m)
-        → IsAfterBranch Past p new new.halt × (length s.pool.payloads < length new.pool.payloads)
-    branched_step lb Past new m u few b = (
-      subst (λ (o : Option HaltedLeaf). IsAfterBranch Past p new o) (sym b.halt)
-          (going_now lb Past new m u few b.seen b.are_seen b.kids b.freed b.frees b.placed b.wide b.cells b.values b.best b.fallen b.fallen_found b.some_best b.numbered b.are_open b.start b.budget b.nodes b.seen.halt b.are_seen.halt_holds),
-      more_now lb Past new m u few b.seen b.are_seen b.kids b.freed b.frees b.placed b.wide b.cells b.values b.best b.fallen b.fallen_found b.some_best b.numbered b.are_open b.start b.budget b.nodes,
+        → GoesOn Past p new new.halt × (length s.pool.payloads < length new.pool.payloads)
+    branched_step nb Past new m u few b = (
+      subst (λ (o : Option HaltedLeaf). GoesOn Past p new o) (sym b.halt)
+          (going_now nb Past new m u few b.seen b.are_seen b.kids b.freed b.frees b.placed b.wide b.cells b.values b.best b.fallen b.fallen_found b.some_best b.numbered b.are_open b.start b.budget b.nodes b.seen.halt b.are_seen.halt_holds),
+      more_now nb Past new m u few b.seen b.are_seen b.kids b.freed b.frees b.placed b.wide b.cells b.values b.best b.fallen b.fallen_found b.some_best b.numbered b.are_open b.start b.budget b.nodes,
     )
 
 pub within_budget : (budget l n count k : ℕ) → l ≡ n → count ≡ k → (budget < l + count → ⊥) → n + k ≤ budget

@@ -1,7 +1,5 @@
 -- What a search keeps between two turns, and what a turn does.
-use Rattle.std.specs.Prelude.{◌≡◌, ◌⊎◌, ℕ, ◌+◌, ◌-◌, ◌^◌, ◌<◌, ◌≤◌, cond, true, ◌||◌, List, [], ◌∷◌, ◌++◌, length, slice_set, Option, Some, None, is_some}
-use Rattle.std.specs.List.{slice_get}
-use Rattle.link_lists.specs.Lists.{first}
+use Rattle.std.specs.Prelude.{◌≡◌, ◌⊎◌, ℕ, ◌+◌, ◌-◌, ◌^◌, ◌<◌, ◌≤◌, true, ◌||◌, List, [], ◌∷◌, ◌++◌, length, slice_set, Option, Some, None, is_some}
 use Rattle.problem_rules.specs.Problem.{Problem}
 use Rattle.pns_rules.specs.Shape.{shape_of}
 use Rattle.pns_rules.specs.Nodes.{Node}
@@ -15,7 +13,7 @@ use Rattle.tree_rules.specs.Claim.{CostOver, claimed_cost, ClaimPasses}
 use Rattle.tree_rules.specs.Leaf.{untried}
 use Rattle.tree_rules.specs.Stops.{IsPending, IsNextCount}
 use Rattle.search_tree.specs.Cells.{Cell, place_of, cell_at}
-use Rattle.search_tree.specs.Growth.{is_open, AreOpen, as_parent}
+use Rattle.search_tree.specs.Growth.{AreOpen, as_parent}
 use Rattle.turn_laws.specs.Values.{IsNoMore, HasFallen}
 use Rattle.turn_laws.specs.Kept.{LastIsBelow, IsKept}
 use Rattle.turn_laws.specs.Turns.{CanBranch, IsLeastOpen}
@@ -59,19 +57,10 @@ abbrev pub choice_of : Option Ready → Choice
 choice_of None = choices.Unit 0
 choice_of (Some r) = r.choice
 
--- how many leaves are open
-abbrev pub open_count : List Cell → ℕ
-open_count [] = 0
-open_count (c ∷ cs) = cond (is_open c.end) 1 0 + open_count cs
-
 -- the network costs no more than the value
 abbrev pub IsBeaten : Option claims.Network → Frac → Type 0
 IsBeaten None value = ⊥
 IsBeaten (Some w) value = IsNoMore (cost_in w) (cost_over value)
-
--- the best network costs more than the least value of an open leaf
-abbrev pub LeastIsBelow : Growing → Type 0
-LeastIsBelow s = (at : ℕ) (v : Frac) → at < length s.pool.payloads → first s.pool.leaves ≡ Some at → slice_get s.pool.values at ≡ Some v → IsBeaten s.best v → ⊥
 
 -- ---- a leaf that halts the search
 
@@ -85,9 +74,9 @@ pub record IsHaltedAt (Past : PastPlaces) (p : Problem) (s : Growing) (at : ℕ)
   pub is_open : (cell_at s.pool.payloads at).end ≡ leaf untried
   pub halted : IsHalted Past p (place_of (cell_at s.pool.payloads at)) h
 
--- between two turns: all is at hand for each open leaf, and none is beaten; or one halts the search
+-- between two turns: all is at hand for each open leaf, or one halts the search
 abbrev pub GoesOn : PastPlaces → Problem → Growing → Option HaltedLeaf → Type 0
-GoesOn Past p s None = IsGrowing p s × LeastIsBelow s
+GoesOn Past p s None = IsGrowing p s
 GoesOn Past p s (Some h) = IsTreeKept p s × IsHaltedAt Past p s h.leaf h.halt
 
 abbrev pub IsGoing : PastPlaces → Problem → Growing → Type 0
@@ -168,33 +157,6 @@ pub record IsBranching (Past : PastPlaces) (p : Problem) (n : Node) (old new : G
   pub start : new.start ≡ old.start
   pub budget : new.budget ≡ old.budget
   pub halt : new.halt ≡ halt_at (length old.pool.payloads) seen.halt
-
--- then all is at hand for each open leaf, or one halts the search
-abbrev pub IsAfterBranch : PastPlaces → Problem → Growing → Option HaltedLeaf → Type 0
-IsAfterBranch Past p s None = IsGrowing p s
-IsAfterBranch Past p s (Some h) = IsTreeKept p s × IsHaltedAt Past p s h.leaf h.halt
-
--- ---- open leaves are shut
-
--- an open leaf is shut
-pub record IsShutting (p : Problem) (old new : Growing) : Type 0 where
-  pub growing : IsGrowing p new
-  pub fewer : open_count new.pool.payloads < open_count old.pool.payloads
-  pub len : length new.pool.payloads ≡ length old.pool.payloads
-  pub start : new.start ≡ old.start
-  pub budget : new.budget ≡ old.budget
-  pub best : new.best ≡ old.best
-  pub halt : new.halt ≡ old.halt
-
--- open leaves are shut until none is beaten
-pub record IsShutDown (p : Problem) (old new : Growing) : Type 0 where
-  pub growing : IsGrowing p new
-  pub below : LeastIsBelow new
-  pub len : length new.pool.payloads ≡ length old.pool.payloads
-  pub start : new.start ≡ old.start
-  pub budget : new.budget ≡ old.budget
-  pub best : new.best ≡ old.best
-  pub halt : new.halt ≡ old.halt
 
 -- ---- the budget is spent
 

@@ -1,4 +1,5 @@
 pub mod Answers
+pub mod Closing
 pub mod Found
 pub mod Growing
 pub mod Hand

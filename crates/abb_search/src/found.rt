@@ -3,12 +3,13 @@ ghost use Rattle.std.specs.Prelude.{◌≡◌, ◌<◌, [], length, IfOk, IfSome
 ghost use Rattle.tree_rules.specs.Claim.{IsSized};
 ghost use Rattle.search_tree.specs.Cells.{IsLinked, cell_at};
 ghost use Rattle.search_tree.specs.Preorder.{IsTreeOf};
+ghost use Rattle.search_tree.specs.Shut.{shut_cells};
 ghost use Rattle.abb_search.specs.Found.{found_with};
 ghost use Rattle.abb_search.specs.Answers.{past_with};
 
 use crate::growing::{Growing, HaltedLeaf};
 use crate::outcome::Found;
-use branch_tree::{Network, Tree};
+use branch_tree::{Network, Scaled, Tree};
 use search_tree::nodes_in_preorder;
 use std::alloc::{AllocError, Global};
 
@@ -28,7 +29,29 @@ pub(crate) fn is_sized(best: &Option<Network>)
     }
 }
 
-/// The tree of the nodes, and where the leaf stands in it.
+/// The tree of the nodes, and where a node stands in it. An open leaf at whose number multipliers stand is shut there by these.
+pub(crate) fn shut_tree(
+    alloc: Global,
+    growing: &Growing,
+    proofs: &[Option<Scaled>],
+    leaf: u32,
+) -> Result<Placed, AllocError>
+    requires linked { IsLinked growing.now.pool.payloads }
+    requires root { (cell_at growing.now.pool.payloads 0).option ≡ [] }
+    requires leaf { leaf < length growing.now.pool.payloads }
+    ensures tree { IfOk result (λ t. IsTreeOf (shut_cells proofs.now growing.now.pool.payloads) leaf t.tree t.place) }
+    ensures sized { IfSome growing.now.best IsSized }
+{
+    search_tree::preorder_is_tree();
+    is_sized(&growing.best);
+    let preorder = nodes_in_preorder(alloc, &growing.pool, proofs, leaf)?;
+    Ok(Placed {
+        tree: Tree::from_nodes(preorder.nodes),
+        place: preorder.place,
+    })
+}
+
+/// The tree of the nodes as they are, and where the leaf stands in it.
 pub(crate) fn tree_with(alloc: Global, growing: &Growing, leaf: u32) -> Result<Placed, AllocError>
     requires linked { IsLinked growing.now.pool.payloads }
     requires root { (cell_at growing.now.pool.payloads 0).option ≡ [] }
@@ -36,13 +59,7 @@ pub(crate) fn tree_with(alloc: Global, growing: &Growing, leaf: u32) -> Result<P
     ensures tree { IfOk result (λ t. IsTreeOf growing.now.pool.payloads leaf t.tree t.place) }
     ensures sized { IfSome growing.now.best IsSized }
 {
-    search_tree::preorder_is_tree();
-    is_sized(&growing.best);
-    let preorder = nodes_in_preorder(alloc, &growing.pool, leaf)?;
-    Ok(Placed {
-        tree: Tree::from_nodes(preorder.nodes),
-        place: preorder.place,
-    })
+    shut_tree(alloc, growing, &[], leaf)
 }
 
 /// What is found where no leaf is open.

@@ -1,9 +1,7 @@
 //! The tree while it grows.
-ghost use Rattle.std.specs.Prelude.{◌≡◌, ◌↔◌, ◌<◌, ◌≤◌, ◌+◌, ◌-◌, ◌^◌, true, IsTrue, Some, None, IfOk, OnOk, OnErr, MatchOption, length};
-ghost use Rattle.std.specs.List.{slice_get};
+ghost use Rattle.std.specs.Prelude.{◌≡◌, ◌↔◌, ◌<◌, ◌≤◌, ◌+◌, ◌-◌, ◌^◌, true, IsTrue, OnOk, OnErr, MatchOption, length};
 ghost use Rattle.slab.specs.Slab.{get};
-ghost use Rattle.link_lists.specs.Lists.{has, first};
-ghost use Rattle.frac128.specs.declared.fraction.Frac.{Frac};
+ghost use Rattle.link_lists.specs.Lists.{has};
 ghost use Rattle.pns_rules.specs.Shape.{shape_of};
 ghost use Rattle.pns_rules.specs.Ends.{IsSound, IsReduced};
 ghost use Rattle.tree_rules.specs.Ways.{options_at};
@@ -15,7 +13,9 @@ ghost use Rattle.pgraph.specs.View.{node_of};
 ghost use Rattle.search_tree.specs.Cells.{cell_at};
 ghost use Rattle.search_tree.specs.Growth.{AreOpen};
 ghost use Rattle.neutral_extension.specs.Candidates.{AreMakersOf};
-ghost use Rattle.abb_search.specs.Growing.{IsGrowing, IsBeaten, IsBranching, IsShutting, IsShutDown, IsSame, halt_at, leaf_of, choice_of};
+ghost use Rattle.turn_laws.specs.Values.{IsNoMore};
+ghost use Rattle.node_looks.specs.Evaluated.{cost_over, cost_in};
+ghost use Rattle.abb_search.specs.Growing.{IsBeaten, IsBranching, IsSame, halt_at, leaf_of, choice_of};
 
 use crate::hand::place_all;
 use branch_choice::Choice;
@@ -26,7 +26,7 @@ use node_looks::{Evaluator, Halt, HaltedAt, Ready, cheaper, is_no_more, look_at_
 use node_pool::Pool;
 use pgraph::Graph;
 use pns_problem::Problem;
-use search_tree::{Cell, branch, shut};
+use search_tree::{Cell, branch};
 use slab::Slab;
 use std::alloc::{AllocError, Global};
 use unit_sets::Node;
@@ -51,16 +51,21 @@ pub(crate) struct Growing {
     pub halt: Option<HaltedLeaf>,
 }
 
+/// Whether the value reaches the network's cost.
+pub(crate) fn reaches(value: &Frac, network: &Network) -> bool
+    ensures { IsTrue result ↔ IsNoMore (cost_in network.now) (cost_over value.now) }
+{
+    network.is_sized();
+    is_no_more(network.cost(), network.d(), value.num, value.den)
+}
+
 /// Whether the network costs no more than the value.
-fn is_beaten(best: &Option<Network>, value: &Frac) -> bool
+pub(crate) fn is_beaten(best: &Option<Network>, value: &Frac) -> bool
     ensures { IsTrue result ↔ IsBeaten best.now value.now }
 {
     match best {
         None => false,
-        Some(network) => {
-            network.is_sized();
-            is_no_more(network.cost(), network.d(), value.num, value.den)
-        }
+        Some(network) => reaches(value, network),
     }
 }
 
@@ -186,39 +191,4 @@ pub(crate) fn branch_leaf<E: Evaluator>(
     growing.best = cheaper(growing.best.take(), children.best);
     growing.halt = halt_at(first, children.halt);
     Ok(())
-}
-
-/// Shuts the first open leaf, whose value the best network does not exceed.
-fn shut_leaf(problem: &Problem, growing: &mut Growing, leaf: u32)
-    requires growing { IsGrowing problem.now growing.old }
-    requires first { first growing.old.pool.leaves ≡ Some leaf }
-    requires beaten { (v : Frac) → slice_get growing.old.pool.values leaf ≡ Some v → IsBeaten growing.old.best v }
-    ensures { IsShutting problem.now growing.old growing.new }
-{
-    problem.is_valid();
-    growing.pool.is_pool();
-    if let Some(ready) = growing.ready.try_remove(key_at(&growing.pool, leaf)) {
-        ready.bound.scaled.are_in_range();
-        shut(&mut growing.pool, leaf, End::Bound(ready.bound.scaled));
-    }
-}
-
-/// Shuts the open leaves whose values the best network does not exceed: where the least one's value is such, all are. It takes no
-/// memory, and does nothing where a leaf halts the search.
-pub(crate) fn shut_beaten(problem: &Problem, growing: &mut Growing)
-    requires { growing.old.halt ≡ None → IsGrowing problem.now growing.old }
-    ensures { MatchOption growing.old.halt (IsShutDown problem.now growing.old growing.new) (λ h. growing.new ≡ growing.old) }
-{
-    growing.pool.is_pool();
-    if growing.halt.is_some() {
-        return;
-    }
-    'leaves: while let Some(leaf) = growing.pool.least() {
-        growing.pool.is_pool();
-        let value = growing.pool.value(leaf);
-        if !is_beaten(&growing.best, &value) {
-            return;
-        }
-        shut_leaf(problem, growing, leaf);
-    }
 }

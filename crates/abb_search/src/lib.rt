@@ -3,7 +3,8 @@
 //! A search is an object: each turn branches an open leaf of least value, so that the nodes are more, or tells the end. After want of
 //! memory all is as before the turn. It stands on an evaluator of nodes.
 //!
-//! - `growing`: the tree while it grows, how a leaf is branched and how leaves are shut
+//! - `growing`: the tree while it grows, and how a leaf is branched
+//! - `closing`: what shuts the open leaves, where the best network costs no more than any of them
 //! - `hand`: what is at hand for the open leaves, each under a key
 //! - `root`: the root, before and after the steps that are possible there
 //! - `outcome`: what a search finds, and what a turn answers
@@ -13,6 +14,7 @@
 //! - `whole`: the same over the simplex method
 #![tactic(auto)]
 
+mod closing;
 mod found;
 mod growing;
 mod hand;

@@ -2,15 +2,18 @@
 ghost use Rattle.std.specs.Prelude.{◌≡◌, ◌≤◌, None, IfOk, OnErr};
 ghost use Rattle.pns_rules.specs.Shape.{shape_of};
 ghost use Rattle.pns_rules.specs.Ends.{IsSound};
+ghost use Rattle.tree_rules.specs.Claim as claims;
 ghost use Rattle.pgraph.specs.Tables.{shape};
 ghost use Rattle.pgraph.specs.View.{node_of};
 ghost use Rattle.neutral_extension.specs.Candidates.{AreMakersOf};
-ghost use Rattle.abb_search.specs.Growing.{IsGrowing, LeastIsBelow, IsGoing, IsSame};
+ghost use Rattle.abb_search.specs.Closing.{AreBeaten};
+ghost use Rattle.abb_search.specs.Growing.{IsGrowing, IsGoing, IsSame};
 ghost use Rattle.abb_search.specs.Answers.{StepHolds};
 ghost use Rattle.abb_search.specs.Searched.{StandsAt};
 
-use crate::found::{past_found, tree_with, whole_found};
-use crate::growing::{Growing, branch_leaf, choice_at, halted_leaf, is_over, node_at, shut_beaten};
+use crate::closing::{Closing, close_all};
+use crate::found::{past_found, shut_tree, tree_with, whole_found};
+use crate::growing::{Growing, branch_leaf, choice_at, halted_leaf, is_beaten, is_over, node_at};
 use crate::outcome::Found;
 use crate::root::look_at_root;
 use branch_tree::Network;
@@ -19,6 +22,36 @@ use node_looks::Evaluator;
 use pgraph::Graph;
 use pns_problem::Problem;
 use std::alloc::{AllocError, Global};
+
+/// Tells what is found where the best network costs no more than any open leaf: all of them are shut, or one of them halts the
+/// search. The nodes stay as they are.
+fn close<E: Evaluator>(
+    alloc: Global,
+    evaluator: &mut E,
+    problem: &Problem,
+    graph: &Graph,
+    growing: &mut Growing,
+) -> Result<Option<Found>, AllocError>
+    requires graph { shape graph.now ≡ shape_of problem.now }
+    requires growing { IsGrowing problem.now growing.old }
+    requires beaten { (w : claims.Network) × AreBeaten growing.old w }
+    ensures holds { IfOk result (StepHolds E.past problem.now growing.old growing.new) }
+    ensures same { OnErr result (IsSame growing.old growing.new) }
+{
+    let Some(network) = &growing.best else {
+        unreachable!();
+    };
+    match close_all(alloc, evaluator, problem, graph, growing, network)? {
+        Closing::Proved(proofs) => {
+            let whole = shut_tree(alloc, growing, &proofs, 0)?;
+            Ok(Some(whole_found(growing.best.take(), whole.tree)))
+        }
+        Closing::Halted(halted) => {
+            let stopped = tree_with(alloc, growing, halted.leaf)?;
+            Ok(past_found(growing.best.take(), Some(halted), stopped))
+        }
+    }
+}
 
 /// Branches the open leaf of least value, or tells what is found. No leaf halts the search.
 fn go_on<E: Evaluator>(
@@ -32,7 +65,6 @@ fn go_on<E: Evaluator>(
     requires graph { shape graph.now ≡ shape_of problem.now }
     requires same { AreMakersOf (shape graph.now) makers.old.makers }
     requires growing { IsGrowing problem.now growing.old }
-    requires below { LeastIsBelow growing.old }
     requires goes_on { growing.old.halt ≡ None }
     ensures holds { IfOk result (StepHolds E.past problem.now growing.old growing.new) }
     ensures same { OnErr result (IsSame growing.old growing.new) }
@@ -44,6 +76,10 @@ fn go_on<E: Evaluator>(
         let whole = tree_with(alloc, growing, 0)?;
         return Ok(Some(whole_found(growing.best.take(), whole.tree)));
     };
+    let value = growing.pool.value(leaf);
+    if is_beaten(&growing.best, &value) {
+        return close(alloc, evaluator, problem, graph, growing);
+    }
     let choice = choice_at(growing, leaf);
     let options = choice.options();
     if is_over(options, growing.nodes, growing.budget) {
@@ -59,7 +95,6 @@ fn go_on<E: Evaluator>(
     branch_leaf(
         alloc, evaluator, problem, graph, makers, growing, leaf, node, choice,
     )?;
-    shut_beaten(problem, growing);
     Ok(None)
 }
 
@@ -131,7 +166,6 @@ pub(crate) fn take_turn<E: Evaluator>(
         growing.budget,
         copy_of_best(alloc, &growing.best)?,
     )?;
-    shut_beaten(problem, &mut root);
     let found = step(alloc, evaluator, problem, graph, makers, &mut root)?;
     *growing = root;
     Ok(found)

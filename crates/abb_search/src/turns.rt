@@ -89,7 +89,7 @@ impl<'a, E: Evaluator + Drop> SearchWith<'a, E> {
         })
     }
 
-    /// Takes the search so far that its nodes are more, or to its end. It takes all its memory before it shuts a leaf.
+    /// Takes the search so far that its nodes are more, or to its end. It takes all its memory before it changes a node.
     pub fn turn(&mut self) -> Turn
         requires { self.old.ended ≡ false }
         ensures { TurnHolds E.past self.old self.new result }

@@ -9,13 +9,13 @@ use Rattle.search_tree.specs.Cells.{cell_at}
 use Rattle.abb_search.specs.declared.outcome.Found.{Found}
 use Rattle.abb_search.specs.declared.outcome.Found.TheVariants.{Spent, Memory}
 use Rattle.abb_search.specs.declared.growing.Growing.{Growing}
-use Rattle.abb_search.specs.declared.growing.HaltedLeaf.{HaltedLeaf}
-use Rattle.abb_search.specs.Growing.{IsBranching, IsAfterBranch}
+use Rattle.abb_search.specs.Growing.{IsBranching}
 use Rattle.abb_search.specs.Found.{found_with}
 use Rattle.abb_search.specs.Answers.{IsEnd}
 use Rattle.abb_search.proofs.EndLemmas.{whole_found, spent_found}
 use Rattle.abb_search.proofs.StepLemmas.{ends_with, network_found, never_memory, more_after}
-use Rattle.abb_search.proofs.TurnLemmas.{whole, there, hand, chosen, sound_there, spent_here, branched_step, within_budget}
+use Rattle.abb_search.proofs.ReadyLemmas.{first_has}
+use Rattle.abb_search.proofs.TurnLemmas.{whole, there, hand, chosen, sound_there, none_beats, all_beaten, spent_here, branched_step, within_budget}
 use Rattle.abb_search.proofs.step.go_on.Goals as goal
 
 pub returns-in_default-clause-holds : goal.returns-in_default-clause-holds
@@ -48,7 +48,7 @@ returns-then-is_over-clause-holds g c =
     let hd = hand c.args.problem.now c.is_valid.ensures.valid c.args.growing.now c.requires.growing c.in-Some.leaf (sym c.least.ensures ∙ c.in-Some.is) c.is_pool.ensures.payloads c.is_pool.ensures.leaves c.is_pool.ensures.rising in
     let choice = chosen c.args.problem.now c.is_valid.ensures.valid c.args.growing.now c.requires.growing c.in-Some.leaf (sym c.least.ensures ∙ c.in-Some.is) c.is_pool.ensures.payloads c.is_pool.ensures.leaves c.is_pool.ensures.rising m c.choice_at-choice.ensures in
     let over : s.budget < length s.pool.payloads + option_count m = (let o = c.if-is_over.ensures.0 refl in let k = t.counted in let e = c.options-options.ensures in omega (arith, o, k, e)) in
-    let sp = spent_here c.args.problem.now c.is_valid.ensures.valid c.args.growing.now c.requires.growing c.in-Some.leaf (sym c.least.ensures ∙ c.in-Some.is) c.is_pool.ensures.payloads c.is_pool.ensures.leaves c.is_pool.ensures.rising hd.ready hd.known c.requires.below m choice over in
+    let sp = spent_here c.args.problem.now c.is_valid.ensures.valid c.args.growing.now c.requires.growing c.in-Some.leaf (sym c.least.ensures ∙ c.in-Some.is) c.is_pool.ensures.payloads c.is_pool.ensures.leaves c.is_pool.ensures.rising hd.ready hd.known (none_beats c.args.problem.now c.is_valid.ensures.valid c.args.growing.now c.requires.growing c.in-Some.leaf (sym c.least.ensures ∙ c.in-Some.is) c.is_pool.ensures.payloads c.is_pool.ensures.leaves c.is_pool.ensures.rising c.value-value.result c.value-value.ensures (λ b. true≢false (sym (c.if-is_beaten.ensures.1 b)))) m choice over in
     let f : Found = Spent s.best w.tree w.place (option_count m) in
     subst (λ n. IsEnd g.E.Evaluator.past p s new (Spent c.take-then-is_over.result w.tree w.place n)) (sym c.options-options.ensures)
     (subst (λ (b : Option claims.Network). IsEnd g.E.Evaluator.past p s new (Spent b w.tree w.place (option_count m))) (sym c.take-then-is_over.ensures.value)
@@ -72,19 +72,13 @@ branch_leaf-requires-clause-choice g c =
     subst (λ (k : Node). IsChoice (shape_of c.args.problem.now) (node_of k) c.choice_at-choice.result) (sym c.node_at-node.ensures)
     (chosen c.args.problem.now c.is_valid.ensures.valid c.args.growing.now c.requires.growing c.in-Some.leaf (sym c.least.ensures ∙ c.in-Some.is) c.is_pool.ensures.payloads c.is_pool.ensures.leaves c.is_pool.ensures.rising c.choice_at-choice.result c.choice_at-choice.ensures)
 
-pub shut_beaten-requires : goal.shut_beaten-requires
-shut_beaten-requires g c =
-    let p = c.args.problem.now in
-    let s = c.args.growing.now in
-    let n = (cell_at s.pool.payloads c.in-Some.leaf).node in
-    let m = c.choice_at-choice.result in
-    let choice = chosen c.args.problem.now c.is_valid.ensures.valid c.args.growing.now c.requires.growing c.in-Some.leaf (sym c.least.ensures ∙ c.in-Some.is) c.is_pool.ensures.payloads c.is_pool.ensures.leaves c.is_pool.ensures.rising m c.choice_at-choice.ensures in
-    let few = within_budget s.budget s.nodes (length s.pool.payloads) c.options-options.result (option_count m) c.requires.growing.tree.counted c.options-options.ensures (λ h. true≢false (sym (c.if-is_over.ensures.1 h))) in
-    let hd = hand c.args.problem.now c.is_valid.ensures.valid c.args.growing.now c.requires.growing c.in-Some.leaf (sym c.least.ensures ∙ c.in-Some.is) c.is_pool.ensures.payloads c.is_pool.ensures.leaves c.is_pool.ensures.rising in
-    let b : IsBranching g.E.Evaluator.past p (node_of n) s c.branch_leaf.new.growing c.in-Some.leaf (way_of m)
-    = subst (λ (k : Node). IsBranching g.E.Evaluator.past p (node_of k) s c.branch_leaf.new.growing c.in-Some.leaf (way_of m)) c.node_at-node.ensures c.in_ok-branch_leaf.ensures.branching in
-    let a = branched_step c.args.problem.now c.is_valid.ensures.valid c.args.growing.now c.requires.growing c.in-Some.leaf (sym c.least.ensures ∙ c.in-Some.is) c.is_pool.ensures.payloads c.is_pool.ensures.leaves c.is_pool.ensures.rising hd.ready hd.known c.requires.below g.E.Evaluator.past c.branch_leaf.new.growing m choice few b in
-    λ e. subst (λ (o : Option HaltedLeaf). IsAfterBranch g.E.Evaluator.past p c.branch_leaf.new.growing o) e a.0
+pub value-value-requires : goal.value-value-requires
+value-value-requires g c = c.is_pool.ensures.leaves c.in-Some.leaf (first_has c.args.growing.now.pool.leaves c.in-Some.leaf (sym c.least.ensures ∙ c.in-Some.is))
+
+pub close-requires-clause-beaten : goal.close-requires-clause-beaten
+close-requires-clause-beaten g c =
+    all_beaten c.args.problem.now c.is_valid.ensures.valid c.args.growing.now c.requires.growing c.in-Some.leaf (sym c.least.ensures ∙ c.in-Some.is) c.is_pool.ensures.payloads c.is_pool.ensures.leaves c.is_pool.ensures.rising
+    c.value-value.result c.value-value.ensures (c.if-is_beaten.ensures.0 refl)
 
 pub returns-clause-holds : goal.returns-clause-holds
 returns-clause-holds g c =
@@ -97,5 +91,5 @@ returns-clause-holds g c =
     let hd = hand c.args.problem.now c.is_valid.ensures.valid c.args.growing.now c.requires.growing c.in-Some.leaf (sym c.least.ensures ∙ c.in-Some.is) c.is_pool.ensures.payloads c.is_pool.ensures.leaves c.is_pool.ensures.rising in
     let b : IsBranching g.E.Evaluator.past p (node_of n) s c.branch_leaf.new.growing c.in-Some.leaf (way_of m)
     = subst (λ (k : Node). IsBranching g.E.Evaluator.past p (node_of k) s c.branch_leaf.new.growing c.in-Some.leaf (way_of m)) c.node_at-node.ensures c.in_ok-branch_leaf.ensures.branching in
-    let a = branched_step c.args.problem.now c.is_valid.ensures.valid c.args.growing.now c.requires.growing c.in-Some.leaf (sym c.least.ensures ∙ c.in-Some.is) c.is_pool.ensures.payloads c.is_pool.ensures.leaves c.is_pool.ensures.rising hd.ready hd.known c.requires.below g.E.Evaluator.past c.branch_leaf.new.growing m choice few b in
-    more_after g.E.Evaluator.past p s c.branch_leaf.new.growing c.shut_beaten.new.growing a.0 a.1 b.fallen c.shut_beaten.ensures b.start b.budget
+    let a = branched_step c.args.problem.now c.is_valid.ensures.valid c.args.growing.now c.requires.growing c.in-Some.leaf (sym c.least.ensures ∙ c.in-Some.is) c.is_pool.ensures.payloads c.is_pool.ensures.leaves c.is_pool.ensures.rising hd.ready hd.known (none_beats c.args.problem.now c.is_valid.ensures.valid c.args.growing.now c.requires.growing c.in-Some.leaf (sym c.least.ensures ∙ c.in-Some.is) c.is_pool.ensures.payloads c.is_pool.ensures.leaves c.is_pool.ensures.rising c.value-value.result c.value-value.ensures (λ b. true≢false (sym (c.if-is_beaten.ensures.1 b)))) g.E.Evaluator.past c.branch_leaf.new.growing m choice few b in
+    more_after g.E.Evaluator.past p s c.branch_leaf.new.growing a.0 a.1 b.fallen b.start b.budget

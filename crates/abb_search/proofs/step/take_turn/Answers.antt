@@ -1,32 +1,21 @@
-use Rattle.std.proofs.Common.{◌≡◌, ◌∙◌, List, length, Option, None, false, sym, ap, subst}
+use Rattle.std.proofs.Common.{◌≡◌, ◌∙◌, List, length, Option, sym, ap, subst}
 use Rattle.search_tree.specs.Cells.{Cell}
 use Rattle.tree_rules.specs.Claim as claims
-use Rattle.turn_laws.specs.Values.{HasFallen, IsPositiveCost}
+use Rattle.turn_laws.specs.Values.{HasFallen}
 use Rattle.node_looks.specs.Looks.{cost_of}
 use Rattle.node_looks.specs.Children.{IsBest}
-use Rattle.abb_search.specs.declared.growing.HaltedLeaf.{HaltedLeaf}
-use Rattle.abb_search.specs.Growing.{IsAfterBranch}
 use Rattle.abb_search.specs.Searched.{StandsAt}
 use Rattle.abb_search.proofs.TurnLemmas.{best_of}
-use Rattle.abb_search.proofs.StepLemmas.{going_after, tree_positive, step_from}
+use Rattle.abb_search.proofs.StepLemmas.{tree_positive, step_from}
 use Rattle.abb_search.proofs.RootLemmas.{root_after, root_positive}
 use Rattle.abb_search.proofs.step.take_turn.Goals as goal
-
-pub shut_beaten-requires : goal.shut_beaten-requires
-shut_beaten-requires g c =
-    let old = c.args.growing.now in
-    let stands = subst (λ b. StandsAt g.E.Evaluator.past c.args.problem.now old b) c.if-looked.false c.requires.stands in
-    let given = subst (λ (w : Option claims.Network). IsBest c.args.problem.now w) (sym c.in_ok-copy_of_best.ensures) (best_of c.args.problem.now old stands.0) in
-    let after = root_after g.E.Evaluator.past c.args.problem.now old.start old.budget c.in_ok-copy_of_best.field-0 given c.in_ok-root.root c.in_ok-root.ensures.root c.requires.some in
-    λ e. subst (λ (o : Option HaltedLeaf). IsAfterBranch g.E.Evaluator.past c.args.problem.now c.in_ok-root.root o) e after
 
 pub step-requires-2-clause-going : goal.step-requires-2-clause-going
 step-requires-2-clause-going g c =
     let old = c.args.growing.now in
     let stands = subst (λ b. StandsAt g.E.Evaluator.past c.args.problem.now old b) c.if-looked.false c.requires.stands in
     let given = subst (λ (w : Option claims.Network). IsBest c.args.problem.now w) (sym c.in_ok-copy_of_best.ensures) (best_of c.args.problem.now old stands.0) in
-    let after = root_after g.E.Evaluator.past c.args.problem.now old.start old.budget c.in_ok-copy_of_best.field-0 given c.in_ok-root.root c.in_ok-root.ensures.root c.requires.some in
-    (going_after g.E.Evaluator.past c.args.problem.now c.in_ok-root.root c.shut_beaten.new.growing after c.shut_beaten.ensures).going
+    root_after g.E.Evaluator.past c.args.problem.now old.start old.budget c.in_ok-copy_of_best.field-0 given c.in_ok-root.root c.in_ok-root.ensures.root c.requires.some
 
 pub returns-clause-holds : goal.returns-clause-holds
 returns-clause-holds g c =
@@ -36,11 +25,7 @@ returns-clause-holds g c =
     let looked = c.in_ok-root.ensures.root in
     let stands = subst (λ b. StandsAt g.E.Evaluator.past p old b) c.if-looked.false c.requires.stands in
     let given = subst (λ (w : Option claims.Network). IsBest p w) (sym c.in_ok-copy_of_best.ensures) (best_of p old stands.0) in
-    let after = root_after g.E.Evaluator.past p old.start old.budget c.in_ok-copy_of_best.field-0 given root looked c.requires.some in
-    let going = going_after g.E.Evaluator.past p root c.shut_beaten.new.growing after c.shut_beaten.ensures in
     let positive = root_positive g.E.Evaluator.past p old.start old.budget c.in_ok-copy_of_best.field-0 given root looked c.requires.some in
     let fallen = subst (λ (w : Option claims.Network). HasFallen (cost_of w) (cost_of root.best)) c.in_ok-copy_of_best.ensures looked.fallen in
-    step_from g.E.Evaluator.past p old c.shut_beaten.new.growing c.step-2.new.growing c.in_ok-found.found c.in_ok-found.ensures.holds
-    (going.start ∙ looked.start_is) (going.budget ∙ looked.budget_is) (going.len ∙ (ap (λ (cs : List Cell). length cs) looked.cells_are ∙ sym stands.1))
-    (tree_positive p old stands.0) (subst (λ (w : Option claims.Network). IsPositiveCost (cost_of w)) (sym going.best) positive)
-    (subst (λ (w : Option claims.Network). HasFallen (cost_of old.best) (cost_of w)) (sym going.best) fallen)
+    step_from g.E.Evaluator.past p old root c.step-2.new.growing c.in_ok-found.found c.in_ok-found.ensures.holds
+    looked.start_is looked.budget_is (ap (λ (cs : List Cell). length cs) looked.cells_are ∙ sym stands.1) (tree_positive p old stands.0) positive fallen

@@ -1,0 +1,15 @@
+use Rattle.std.proofs.Common.{Some, refl, sym, subst}
+use Rattle.pgraph.specs.View.{node_of}
+use Rattle.tree_rules.specs.Leaf.{IsBounded}
+use Rattle.branch_tree.specs.Scaled.{Scaled}
+use Rattle.node_looks.specs.Evaluated.{cost_in}
+use Rattle.abb_search.proofs.ClosingLemmas.{low_proves, is_worth}
+use Rattle.abb_search.proofs.closing.proof_for.Goals as goal
+
+pub returns-then-reaches : goal.returns-then-reaches
+returns-then-reaches g c =
+    subst (λ (m : Scaled). IsBounded c.args.problem.now (Some (cost_in c.args.network.now)) (node_of c.args.node) m.d m.ys) (sym c.in_ok-copy.ensures)
+    (low_proves c.args.problem.now (node_of c.args.node) c.args.bound.now c.args.network.now c.is_sized.ensures.sized.positive c.requires.bound (c.if-reaches.ensures.0 refl))
+
+pub proved_by-requires-clause-worth : goal.proved_by-requires-clause-worth
+proved_by-requires-clause-worth g c = is_worth c.args.problem.now (node_of c.args.node) c.args.bound.now c.args.network.now c.requires.bound c.requires.beaten

@@ -1,0 +1,18 @@
+use Rattle.std.proofs.Common.{sym, ap, ◌∙◌, subst}
+use Rattle.tree_rules.specs.Tree.{IsTree}
+use Rattle.tree_rules.specs.Accepted.{Tree}
+use Rattle.search_tree.specs.Cells.{Cell}
+use Rattle.search_tree.specs.Shut.{shut_cells}
+use Rattle.search_tree.proofs.ShutLemmas.{shut_at, shut_linked}
+use Rattle.abb_search.proofs.found.shut_tree.Goals as goal
+
+pub from_nodes-requires : goal.from_nodes-requires
+from_nodes-requires c =
+    let of = c.in_ok-preorder.ensures in
+    let ms = c.args.proofs.now in
+    let cells = c.args.growing.now.pool.payloads in
+    record {
+      tree = subst (λ (t : Tree). IsTree t) (sym of.nodes_are)
+          (c.preorder_is_tree.ensures.tree (shut_cells ms cells) of.order (shut_linked ms cells c.requires.linked)
+          (ap (λ (d : Cell). d.option) (shut_at ms cells 0 c.requires.linked.some) ∙ c.requires.root) of.is_preorder);
+    }

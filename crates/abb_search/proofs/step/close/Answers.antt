@@ -1,0 +1,61 @@
+use Rattle.std.proofs.Common.{◌≡◌, refl, sym, ap, ◌∙◌, subst, rules, Option, Some, None}
+use Rattle.tree_rules.specs.Claim as claims
+use Rattle.search_tree.specs.Preorder.{IsTreeOf}
+use Rattle.search_tree.specs.Shut.{shut_cells}
+use Rattle.node_looks.specs.Evaluated.{cost_in}
+use Rattle.abb_search.specs.declared.outcome.Found.{Found}
+use Rattle.abb_search.specs.declared.outcome.Found.TheVariants as found
+use Rattle.abb_search.specs.declared.growing.Growing.{Growing}
+use Rattle.abb_search.specs.Growing.{IsHaltedAt}
+use Rattle.abb_search.specs.Closing.{AreBeaten, ShutAll}
+use Rattle.abb_search.specs.Found.{found_with}
+use Rattle.abb_search.specs.Answers.{past_with, IsEnd, StepHolds}
+use Rattle.abb_search.proofs.ClosingLemmas.{closed_found}
+use Rattle.abb_search.proofs.EndLemmas.{past_found}
+use Rattle.abb_search.proofs.StepLemmas.{ends_with, network_found, never_memory}
+use Rattle.abb_search.proofs.step.close.Goals as goal
+
+pub unreachable-requires : goal.unreachable-requires
+unreachable-requires g c = let q : None ≡ Some c.requires.beaten.0 = sym c.in_default.is ∙ c.requires.beaten.1.best_is in cc
+
+pub close_all-requires-clause-beaten : goal.close_all-requires-clause-beaten
+close_all-requires-clause-beaten g c =
+    let q : Some c.requires.beaten.0 ≡ Some c.in-Some.network = sym c.requires.beaten.1.best_is ∙ c.in-Some.is in
+    let e : c.requires.beaten.0 ≡ c.in-Some.network = cc in
+    subst (λ (w : claims.Network). AreBeaten c.args.growing.now w) e c.requires.beaten.1
+
+pub returns-in_ok-whole-in-Proved-clause-holds : goal.returns-in_ok-whole-in-Proved-clause-holds
+returns-in_ok-whole-in-Proved-clause-holds g c =
+    let p = c.args.problem.now in
+    let s = c.args.growing.now in
+    let t = c.requires.growing.tree in
+    let new : Growing = record { start = s.start; budget = s.budget; nodes = s.nodes; pool = s.pool; ready = s.ready; best = c.take.new.self; halt = s.halt } in
+    let w = c.in_ok-whole-in-Proved.whole in
+    let ms = c.in-Proved.proofs.items in
+    let all : ShutAll p s (cost_in c.in-Some.network) ms = rw c.in-Proved.is at c.in_ok-proofs.ensures in
+    let of : IsTreeOf (shut_cells ms s.pool.payloads) 0 w.tree w.place = search rules in
+    let e : c.whole_found.result ≡ found_with s.best w.tree = c.whole_found.ensures ∙ ap (λ (b : Option claims.Network). found_with b w.tree) c.take.ensures.value in
+    subst (λ (f : Found). IsEnd g.E.Evaluator.past p s new f) (sym e)
+    (ends_with g.E.Evaluator.past p s new (found_with s.best w.tree) t
+    (closed_found p s c.requires.growing c.in-Some.network c.in-Some.is ms all w.place w.tree of c.in_ok-whole-in-Proved.ensures.sized g.E.Evaluator.past s.budget)
+    (never_memory s.best w.tree) (network_found s.best w.tree) refl refl refl refl)
+
+pub tree_with-requires-clause-leaf : goal.tree_with-requires-clause-leaf
+tree_with-requires-clause-leaf g c =
+    let at : IsHaltedAt g.E.Evaluator.past c.args.problem.now c.args.growing.now c.in-Halted.halted.leaf c.in-Halted.halted.halt = rw c.in-Halted.is at c.in_ok-proofs.ensures in
+    at.there
+
+pub returns-in_ok-stopped-in-Halted-clause-holds : goal.returns-in_ok-stopped-in-Halted-clause-holds
+returns-in_ok-stopped-in-Halted-clause-holds g c =
+    let p = c.args.problem.now in
+    let s = c.args.growing.now in
+    let w = c.in_ok-stopped-in-Halted.stopped in
+    let h = c.in-Halted.halted in
+    let at : IsHaltedAt g.E.Evaluator.past p s h.leaf h.halt = rw c.in-Halted.is at c.in_ok-proofs.ensures in
+    let new : Growing = record { start = s.start; budget = s.budget; nodes = s.nodes; pool = s.pool; ready = s.ready; best = c.take-in-Halted.new.self; halt = s.halt } in
+    let e : c.past_found.result ≡ past_with s.best (Some h) w.tree w.place
+    = c.past_found.ensures ∙ ap (λ (b : Option claims.Network). past_with b (Some h) w.tree w.place) c.take-in-Halted.ensures.value in
+    subst (λ (f : Option Found). StepHolds g.E.Evaluator.past p s new f) (sym e)
+    (ends_with g.E.Evaluator.past p s new (found.Past s.best w.tree w.place h.halt.nonbasic h.halt.place) c.requires.growing.tree
+    (past_found p s c.requires.growing.tree h.leaf w.place w.tree c.in_ok-stopped-in-Halted.ensures.tree c.in_ok-stopped-in-Halted.ensures.sized g.E.Evaluator.past h.halt s.start refl at)
+    (λ (q : found.Past s.best w.tree w.place h.halt.nonbasic h.halt.place ≡ found.Memory). cc) refl refl refl refl refl)
