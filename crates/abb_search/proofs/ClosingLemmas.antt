@@ -1,26 +1,24 @@
 -- What shuts the open leaves, and the tree in which all of them are shut.
 use Rattle.std.specs.Prelude.{IfSome, is_some, slice_index_or}
-use Rattle.std.proofs.Common.{◌≡◌, ◌⊎◌, ℕ, zero, suc, ◌+◌, ◌-◌, ◌^◌, ◌<◌, ◌≤◌, Bool, true, false, cond, List, [], ◌∷◌, ◌++◌, length, Option, Some, None, Result, Ok, Err, inl, inr, refl, sym, ap, ◌∙◌, subst, arith, length-append}
+use Rattle.std.proofs.Common.{◌≡◌, ◌⊎◌, ℕ, zero, suc, ◌+◌, ◌-◌, ◌^◌, ◌<◌, Bool, true, false, cond, List, [], ◌∷◌, ◌++◌, length, Option, Some, None, Result, Ok, Err, inl, inr, refl, sym, ap, ◌∙◌, subst, arith, length-append}
 use Rattle.std.proofs.lemmas.Bool.{cases_eq}
 use Rattle.slab.specs.Slab.{get}
 use Rattle.problem_rules.specs.Problem.{Problem}
 use Rattle.pns_rules.specs.Nodes.{Node}
 use Rattle.pgraph.specs.View.{node_of}
-use Rattle.unit_sets.specs.declared.node.Node as starts
 use Rattle.frac128.specs.declared.fraction.Frac.{Frac}
 use Rattle.tree_rules.specs.Tree.{End, branch, leaf}
-use Rattle.tree_rules.specs.Leaf.{Leaf, dead, clash, refuted, bounded, untried, IsBounded, LeafPasses}
+use Rattle.tree_rules.specs.Leaf.{Leaf, dead, clash, refuted, bounded, untried, IsBounded}
 use Rattle.tree_rules.specs.Claim as claims
-use Rattle.tree_rules.specs.Claim.{CostOver, claimed_cost, ClaimPasses, IsSized}
+use Rattle.tree_rules.specs.Claim.{CostOver, claimed_cost, IsSized}
 use Rattle.tree_rules.specs.Accepted.{Tree}
 use Rattle.branch_tree.specs.Scaled.{Scaled}
 use Rattle.search_tree.specs.Cells.{Cell, place_of, cell_at}
 use Rattle.search_tree.specs.Growth.{is_open, as_shut}
 use Rattle.search_tree.specs.Preorder.{IsTreeOf}
-use Rattle.search_tree.specs.Shut.{shut_leaf, shut_end, shut_cells}
+use Rattle.search_tree.specs.Shut.{shut_end, shut_cells}
 use Rattle.search_tree.proofs.ShutLemmas.{closed_stays, unproved_stays, proof_of, shut_length, shut_at}
 use Rattle.turn_laws.specs.Values.{IsPositive, IsNoMore}
-use Rattle.turn_laws.specs.Kept.{IsKept}
 use Rattle.turn_laws.specs.Turns.{IsShut, AreShut}
 use Rattle.turn_laws.proofs.GrowLemmas.{leaf_fallen}
 use Rattle.turn_laws.proofs.KeptLemmas.{shutting_is_kept}
@@ -30,7 +28,7 @@ use Rattle.node_looks.specs.declared.evaluator.Proof.{Proof}
 use Rattle.node_looks.specs.declared.evaluator.Proof.TheVariants as proofs
 use Rattle.node_looks.specs.declared.looks.Ready.{Ready}
 use Rattle.node_looks.specs.Evaluated.{PastPlaces, cost_over, cost_in, IsBoundOf, IsWorth, IsProof}
-use Rattle.node_looks.specs.Looks.{has_bounded, KnowsCell, IsReady, IsSomeReady}
+use Rattle.node_looks.specs.Looks.{KnowsCell, IsReady, IsSomeReady}
 use Rattle.node_looks.specs.Children.{claim_with}
 use Rattle.abb_search.specs.declared.growing.Growing.{Growing}
 use Rattle.abb_search.specs.Growing.{IsTreeKept, IsGrowing, IsHaltedAt}

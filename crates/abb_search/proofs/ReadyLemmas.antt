@@ -1,6 +1,5 @@
 -- Which leaves are open, and which of them is first.
-use Rattle.std.proofs.Common.{◌≡◌, ℕ, zero, suc, ◌+◌, ◌<◌, ◌≤◌, Bool, true, false, cond, List, [], ◌∷◌, ◌++◌, length, get_or, slice_set, Option, Some, None, ℤ, ◌≤ℤ◌, ◌<ℤ◌, refl, sym, ap, ◌∙◌, subst, arith, true≢false}
-use Rattle.std.specs.List.{slice_get}
+use Rattle.std.proofs.Common.{◌≡◌, ℕ, ◌<◌, ◌≤◌, true, false, List, [], ◌∷◌, Some, None, ℤ, ◌≤ℤ◌, ◌<ℤ◌, refl, sym, ap, ◌∙◌, subst, arith, true≢false}
 use Rattle.std.specs.Ordering.{int_cmp}
 use Rattle.std.specs.declared.cmp.Ordering.{Ordering}
 use Rattle.std.specs.declared.cmp.Ordering.TheVariants.{Less, Equal, Greater}
@@ -8,15 +7,9 @@ use Rattle.std.proofs.lemmas.Cmp.{int_ranked}
 use Rattle.std.proofs.lemmas.Int.{ints}
 use Rattle.link_lists.specs.Lists.{has, first}
 use Rattle.link_lists.proofs.Cells.{has-here}
-use Rattle.problem_rules.specs.Problem.{Problem}
-use Rattle.frac128.specs.declared.fraction.Frac.{Frac}
 use Rattle.tree_rules.specs.Tree.{End, branch, leaf}
 use Rattle.tree_rules.specs.Leaf.{Leaf, dead, clash, refuted, bounded, untried}
-use Rattle.search_tree.specs.Cells.{Cell, place_of, cell_at}
 use Rattle.search_tree.specs.Growth.{is_open}
-use Rattle.node_looks.specs.declared.looks.Ready.{Ready}
-use Rattle.node_looks.specs.Looks.{IsSomeReady}
-use Rattle.node_looks.specs.Children.{AreReady}
 
 pub open_leaf : (e : End Leaf) → is_open e ≡ true → e ≡ leaf untried
 open_leaf (branch w) h = absurd (true≢false (sym h))

@@ -1,35 +1,33 @@
 -- What a turn does to what a search keeps.
 use Rattle.std.specs.Prelude.{is_some}
-use Rattle.std.proofs.Common.{◌≡◌, ◌⊎◌, ◌==◌, ℕ, ◌+◌, ◌-◌, ◌^◌, ◌<◌, ◌≤◌, true, ◌||◌, List, [], ◌∷◌, ◌++◌, length, get_or, slice_set, Option, Some, None, ℤ, ◌*ℤ◌, ◌≤ℤ◌, ◌<ℤ◌, refl, sym, ap, ◌∙◌, subst, arith, inl, inr, Result, Ok, Err, IfOk, OnOk}
+use Rattle.std.proofs.Common.{◌≡◌, ◌⊎◌, ◌==◌, ℕ, ◌+◌, ◌-◌, ◌^◌, ◌<◌, ◌≤◌, true, ◌||◌, List, [], ◌∷◌, ◌++◌, length, slice_set, Option, Some, None, ℤ, ◌*ℤ◌, ◌≤ℤ◌, ◌<ℤ◌, refl, sym, ap, ◌∙◌, subst, arith, inl, inr}
 use Rattle.std.specs.List.{slice_get}
 use Rattle.std.proofs.lemmas.Bool.{cases_eq, cases_lt, or_cases, or_left, or_right, eqb-true}
 use Rattle.std.proofs.lemmas.Cmp.{int_ranked}
 use Rattle.std.specs.declared.cmp.Ordering.TheVariants.{Greater}
 use Rattle.unit_sets.specs.declared.node.Node as starts
 use Rattle.std.proofs.lemmas.Int.{ints}
-use Rattle.std.proofs.lemmas.List.{length-set, length-map}
+use Rattle.std.proofs.lemmas.List.{length-map}
 use Rattle.link_lists.specs.Lists.{has, first}
 use Rattle.problem_rules.specs.Problem.{Problem}
 use Rattle.problem_rules.specs.Validity.{IsValid}
 use Rattle.pns_rules.specs.Shape.{shape_of}
 use Rattle.pns_rules.specs.Nodes.{Node}
 use Rattle.pns_rules.specs.Ends.{IsSound}
-use Rattle.int_rows.specs.Range.{InRange, AllInRange}
 use Rattle.pgraph.specs.View.{node_of}
 use Rattle.frac128.specs.declared.fraction.Frac.{Frac}
 use Rattle.flow_rules.specs.Net.{net_of}
 use Rattle.flow_rules.specs.Relaxed.{relaxed_cost}
 use Rattle.node_pool.specs.Order.{IsRising}
-use Rattle.node_pool.specs.Pooled.{Pooled}
 use Rattle.tree_rules.specs.Ways.{width}
 use Rattle.tree_rules.specs.Tree.{branch, leaf}
 use Rattle.tree_rules.specs.Claim as claims
-use Rattle.tree_rules.specs.Claim.{CostOver, claimed_cost, ClaimPasses}
-use Rattle.tree_rules.specs.Leaf.{bounded, untried, LeafPasses}
+use Rattle.tree_rules.specs.Claim.{CostOver, claimed_cost}
+use Rattle.tree_rules.specs.Leaf.{bounded, untried}
 use Rattle.tree_rules.specs.Stops.{IsPending}
 use Rattle.search_tree.specs.Cells.{Cell, place_of, cell_at}
 use Rattle.search_tree.specs.declared.growth.Fresh.{Fresh}
-use Rattle.search_tree.specs.Growth.{is_open, AreOpen, as_parent, as_shut}
+use Rattle.search_tree.specs.Growth.{is_open, AreOpen, as_parent}
 use Rattle.turn_laws.specs.Values.{IsPositive, IsUnder, IsNoMore, IsValueOf, HasFallen, IsPositiveCost}
 use Rattle.turn_laws.specs.Kept.{LastIsBelow, IsKept}
 use Rattle.turn_laws.specs.Turns.{CanBranch, IsLeastOpen, AreChildren, IsBranched}
@@ -37,7 +35,6 @@ use Rattle.branch_choice.specs.declared.choice.Choice.{Choice}
 use Rattle.branch_choice.specs.declared.choice.Choice.TheVariants as choices
 use Rattle.branch_choice.specs.Choices.{IsChoice, way_of, option_count}
 use Rattle.turn_laws.proofs.FractionLemmas.{fraction_trans}
-use Rattle.turn_laws.proofs.GrowLemmas.{leaf_fallen}
 use Rattle.turn_laws.proofs.KeptLemmas.{branching_is_kept}
 use Rattle.turn_laws.proofs.StepLemmas.{growth_branches}
 use Rattle.node_looks.specs.declared.looks.Ready.{Ready}
@@ -49,7 +46,7 @@ use Rattle.node_looks.specs.Children.{claim_with, IsBest, IsImproved, cells_of, 
 use Rattle.node_looks.proofs.BestLemmas.{improved_after, children_after}
 use Rattle.abb_search.specs.declared.growing.Growing.{Growing}
 use Rattle.abb_search.specs.declared.growing.HaltedLeaf.{HaltedLeaf}
-use Rattle.abb_search.specs.Growing.{IsTreeKept, IsGrowing, choice_of, IsBeaten, halt_at, IsHaltedAt, IsBranching, GoesOn, IsSpentAt}
+use Rattle.abb_search.specs.Growing.{IsTreeKept, IsGrowing, choice_of, IsBeaten, halt_at, IsBranching, GoesOn, IsSpentAt}
 use Rattle.abb_search.specs.Closing.{AreBeaten}
 use Rattle.abb_search.proofs.ReadyLemmas.{open_leaf, leaf_open, not_greater, first_has, none_first}
 use Rattle.slab.specs.Slab.{Slab, get, Updates}

@@ -18,7 +18,7 @@ use Rattle.turn_laws.specs.Values.{IsNoMore, HasFallen}
 use Rattle.turn_laws.specs.Kept.{LastIsBelow, IsKept}
 use Rattle.turn_laws.specs.Turns.{CanBranch, IsLeastOpen}
 use Rattle.node_pool.specs.Pooled.{AreSameNodes}
-use Rattle.slab.specs.Slab.{Slab, get, Updates}
+use Rattle.slab.specs.Slab.{Slab, Updates}
 use Rattle.search_tree.specs.declared.growth.Fresh.{Fresh}
 use Rattle.branch_choice.specs.declared.choice.Choice.{Choice}
 use Rattle.branch_choice.specs.declared.choice.Choice.TheVariants as choices

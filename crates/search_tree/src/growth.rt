@@ -1,5 +1,5 @@
 //! How the tree grows.
-ghost use Rattle.std.specs.Prelude.{◌≡◌, ◌<◌, ◌≤◌, ◌+◌, ◌^◌, ◌++◌, ◌∷◌, [], true, false, length, slice_set};
+ghost use Rattle.std.specs.Prelude.{◌≡◌, ◌<◌, ◌≤◌, ◌+◌, ◌++◌, ◌∷◌, [], true, false, length, slice_set};
 ghost use Rattle.link_lists.specs.Lists.{has};
 ghost use Rattle.node_pool.specs.Pooled.{IsShut};
 ghost use Rattle.branch_tree.specs.View.{end_of};
@@ -97,19 +97,4 @@ pub fn branch(pool: &mut Pool<Cell>, leaf: u32, end: End, first: u32, kids: &mut
     'kids: while let Some(fresh) = kids.pop() {
         add_child(pool, leaf, fresh);
     }
-}
-
-/// Shuts an open leaf with an end that is not open. It takes no memory.
-pub fn shut(pool: &mut Pool<Cell>, leaf: u32, end: End)
-    requires leaf { has pool.old.leaves leaf ≡ true }
-    requires end { is_open (end_of end) ≡ false }
-    requires open { AreOpen pool.old }
-    ensures cells { pool.new.payloads ≡ slice_set pool.old.payloads leaf (as_shut (cell_at pool.old.payloads leaf) (end_of end)) }
-    ensures values { pool.new.values ≡ pool.old.values }
-    ensures room { pool.new.spare ≡ pool.old.spare }
-    ensures open { AreOpen pool.new }
-{
-    pool.is_pool();
-    pool.shut(leaf);
-    pool.payload_mut(leaf).make_end(end);
 }

@@ -16,6 +16,6 @@ mod laws;
 mod walk;
 
 pub use cell::Cell;
-pub use growth::{Fresh, branch, shut};
+pub use growth::{Fresh, branch};
 pub use laws::{cells_stand, preorder_is_tree, preorder_proves};
 pub use walk::{Preorder, nodes_in_preorder};

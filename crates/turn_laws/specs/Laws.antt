@@ -11,13 +11,13 @@ use Rattle.flow_rules.specs.Net.{net_of}
 use Rattle.flow_rules.specs.Flows.{IsFlows, cost}
 use Rattle.tree_rules.specs.Ways.{Way, width}
 use Rattle.tree_rules.specs.Tree.{branch, leaf}
-use Rattle.tree_rules.specs.Leaf.{Leaf, IsUntried, untried, LeafPasses}
+use Rattle.tree_rules.specs.Leaf.{IsUntried, untried}
 use Rattle.tree_rules.specs.Claim.{Claim, unknown, CostOver, claimed_cost, ClaimPasses}
 use Rattle.tree_rules.specs.Lean.{IsLean}
 use Rattle.tree_rules.specs.Stops.{IsOpenAt, IsPending, IsNextCount, IsSpent}
 use Rattle.tree_rules.specs.Accepted.{IsAccepted}
 use Rattle.search_tree.specs.Cells.{Cell, place_of, cell_at}
-use Rattle.search_tree.specs.Growth.{as_parent, as_shut}
+use Rattle.search_tree.specs.Growth.{as_parent}
 use Rattle.search_tree.specs.Preorder.{IsPreorder, tree_of}
 use Rattle.turn_laws.specs.Values.{IsPositive, IsUnder, HasFallen, IsPositiveCost}
 use Rattle.turn_laws.specs.Kept.{LastIsBelow, IsKept}
@@ -39,17 +39,12 @@ ShuttingIsKept =
     (p : Problem) (start : Node) (claim : Claim) (last : Option CostOver) (old new : List Cell)
     → IsKept p start claim last old → AreShut p (claimed_cost claim) old new → IsKept p start claim last new
 
--- ---- what the calls of `search_tree` do to the cells is such a step
+-- ---- what the call of `search_tree` that branches a leaf does to the cells is such a step
 
 abbrev pub GrowthBranches : Type 0
 GrowthBranches =
     (old kids : List Cell) (at : ℕ) (w : Way) → at < length old → width w ≡ length kids
     → IsBranched old kids (slice_set old at (as_parent (cell_at old at) (length old) (branch w)) ++ kids) at w
-
-abbrev pub GrowthShuts : Type 0
-GrowthShuts =
-    (p : Problem) (claimed : Option CostOver) (old : List Cell) (at : ℕ) (l : Leaf) → at < length old → (cell_at old at).end ≡ leaf untried → (l ≡ untried → ⊥)
-    → LeafPasses true p claimed (place_of (cell_at old at)) l → AreShut p claimed old (slice_set old at (as_shut (cell_at old at) (leaf l)))
 
 -- a network of a node that has no relaxed flows cheaper than v costs at least v
 abbrev pub NetworksCostMore : Type 0

@@ -1,4 +1,4 @@
-ghost use Rattle.turn_laws.specs.Laws.{BranchingIsKept, ShuttingIsKept, NetworksCostMore, GrowthBranches, GrowthShuts};
+ghost use Rattle.turn_laws.specs.Laws.{BranchingIsKept, ShuttingIsKept, NetworksCostMore, GrowthBranches};
 
 /// A turn that branches an open leaf of least value keeps what a search keeps.
 pub fn branching_is_kept()
@@ -15,8 +15,7 @@ pub fn networks_cost_more()
     ensures { NetworksCostMore }
 {}
 
-/// What the calls that branch and shut leaves do to the cells is such a step.
+/// What the call that branches a leaf does to the cells is such a step.
 pub fn growth_is_turn()
-    ensures branches { GrowthBranches }
-    ensures shuts { GrowthShuts }
+    ensures { GrowthBranches }
 {}

@@ -5,7 +5,6 @@ use Rattle.tree_rules.specs.Claim as claims
 use Rattle.turn_laws.specs.Values.{HasFallen}
 use Rattle.node_looks.specs.Looks.{cost_of}
 use Rattle.abb_search.specs.declared.growing.Growing.{Growing}
-use Rattle.abb_search.specs.declared.growing.HaltedLeaf.{HaltedLeaf}
 use Rattle.std.proofs.lemmas.List.{length-reverse}
 use Rattle.slab.specs.Slab.{Slab, Updates}
 use Rattle.tree_rules.specs.Tree.{End, branch}

@@ -1,4 +1,4 @@
-use Rattle.std.proofs.Common.{◌≡◌, ℕ, refl, sym, ap, ◌∙◌, subst, Option, Some}
+use Rattle.std.proofs.Common.{◌≡◌, refl, sym, ap, ◌∙◌, subst, Option, Some}
 use Rattle.tree_rules.specs.Claim as claims
 use Rattle.abb_search.specs.declared.outcome.Found.{Found}
 use Rattle.abb_search.specs.declared.outcome.Found.TheVariants as found

@@ -1,4 +1,4 @@
-use Rattle.std.proofs.Common.{◌≡◌, ◌∙◌, List, length, Option, sym, ap, subst}
+use Rattle.std.proofs.Common.{◌∙◌, List, length, Option, sym, ap, subst}
 use Rattle.search_tree.specs.Cells.{Cell}
 use Rattle.tree_rules.specs.Claim as claims
 use Rattle.turn_laws.specs.Values.{HasFallen}
