@@ -1,0 +1,20 @@
+use Rattle.std.proofs.Common.{refl, sym, ◌∙◌, Some, ◌*ℤ◌}
+use Rattle.std.specs.Ordering.{int_cmp}
+use Rattle.std.proofs.lemmas.Int.{to_z-of_z}
+use Rattle.pgraph.specs.View.{node_of}
+use Rattle.tree_rules.specs.Leaf.{IsBounded}
+use Rattle.certified_bounds.specs.Certified.{cost_over}
+use Rattle.certified_bounds.proofs.FractionLemmas.{from_one, le_from}
+use Rattle.certified_bounds.proofs.BoundLemmas.{reaches_less}
+use Rattle.certified_bounds.proofs.judged.reaches.Goals as goal
+
+pub returns-in-Some : goal.returns-in-Some
+returns-in-Some c =
+    let p = c.args.problem.now in
+    let n = node_of c.args.node.now in
+    let g = c.args.goal in
+    let l = c.in-Some.low in
+    let fits = c.ranges.scale in
+    let h : IsBounded p (Some (cost_over l)) n c.args.scale c.args.multipliers.now = simp to_z-of_z at c.in-Some.ensures in
+    λ t. reaches_less p n c.args.scale c.args.multipliers.now (cost_over g) (cost_over l) (from_one g.den g.positive) (from_one l.den l.positive)
+    (le_from (g.num *ℤ l.den) (l.num *ℤ g.den) (int_cmp (g.num *ℤ l.den) (l.num *ℤ g.den)) refl (sym c.le.ensures ∙ t)) h

@@ -1,0 +1,23 @@
+use Rattle.std.proofs.Common.{◌≡◌, Some, refl, sym, subst}
+use Rattle.pgraph.specs.View.{node_of}
+use Rattle.tree_rules.specs.Leaf.{IsBounded}
+use Rattle.certified_bounds.specs.Certified.{cost_over, IsLeastBound}
+use Rattle.certified_bounds.proofs.FractionLemmas.{from_one}
+use Rattle.certified_bounds.proofs.BoundLemmas.{no_more_than_least}
+use Rattle.certified_bounds.proofs.lows.least.Goals as goal
+
+pub returns : goal.returns
+returns c =
+    let p = c.args.problem.now in
+    let n = node_of c.args.node.now in
+    let v = c.args.value in
+    let l = c.in-Some.low in
+    let ys = c.short_low.new.proposals in
+    let h : IsBounded p (Some (cost_over l.low)) n l.scale ys = c.in-Some.ensures in
+    let same : c.in_ok-bound.bound ≡ record { value = v; low = l.low; scaled = record { d = l.scale; ys = ys } } = c.in_ok-bound.ensures in
+    let whole : IsLeastBound p n (record { value = v; low = l.low; scaled = record { d = l.scale; ys = ys } }) = record {
+      value = c.requires.value;
+      no_more = no_more_than_least c.relaxed_duality.ensures p n l.scale ys (cost_over l.low) v.num v.den (from_one l.low.den l.low.positive) h c.requires.value;
+      bounded = h;
+    } in
+    (refl, subst (IsLeastBound p n) (sym same) whole)

@@ -1,0 +1,173 @@
+//! The calls that value the nodes of a problem.
+ghost use Rattle.std.specs.Prelude.{◌≡◌, ◌≤ℤ◌, pos, true, Some, IsTrue, IfOk, IfSome};
+ghost use Rattle.pns_rules.specs.Shape.{shape_of};
+ghost use Rattle.pns_rules.specs.Ends.{IsSound, IsDecided};
+ghost use Rattle.pgraph.specs.Tables.{shape};
+ghost use Rattle.pgraph.specs.View.{node_of};
+ghost use Rattle.scaled_flows.specs.LeastCost.{IsLeastCost};
+ghost use Rattle.tree_rules.specs.Leaf.{IsBounded};
+ghost use Rattle.certified_bounds.specs.Certified.{IsCertified};
+
+use crate::certified::Certified;
+use crate::flows::flows;
+use crate::judged::as_cost;
+use crate::lows::{least, proving};
+use crate::proposals::{Proposals, Proposed};
+use crate::refutations::refuted;
+use crate::same_problem::is_same_problem;
+use branch_tree::Scaled;
+use frac128::Frac;
+use pgraph::Graph;
+use pns_problem::Problem;
+use scaled_flows::{Scales, least_value};
+use std::alloc::{AllocError, Global};
+use std::marker::Model;
+use unit_sets::Node;
+
+/// Values the nodes of one problem by guesses that are judged exactly. Contracts see the problem.
+#[derive(Drop)]
+pub struct CertifiedBounds {
+    problem: Problem,
+    scales: Scales,
+    proposals: Proposals,
+}
+
+impl Model for CertifiedBounds {
+    ghost use Rattle.problem_rules.specs.Problem as rules;
+    ghost use Rattle.flow_rules.specs.Net.{net_of};
+    ghost use Rattle.scaled_flows.specs.Divisors.{AreDivisors};
+
+    ghost Value = { rules.Problem };
+
+    ghost view = { λ b. b.problem };
+
+    ghost invariant = { λ b. AreDivisors (net_of b.problem) b.scales };
+}
+
+impl CertifiedBounds {
+    /// Makes room for the nodes of the problem. `Err` comes for want of memory alone.
+    pub fn open(alloc: Global, problem: &Problem) -> Result<CertifiedBounds, AllocError>
+        ensures { IfOk result (λ b. b ≡ problem.now) }
+    {
+        let graph = Graph::of(alloc, problem)?;
+        let scales = Scales::of(alloc, problem, &graph)?;
+        let proposals = Proposals::open(alloc, problem, &scales)?;
+        let problem = problem.copy(alloc)?;
+        Ok(CertifiedBounds {
+            problem,
+            scales,
+            proposals,
+        })
+    }
+
+    /// Whether it was opened for this problem. Linear in the size of the problem.
+    pub fn is_for(&self, problem: &Problem) -> bool
+        ensures { IsTrue result → self.now ≡ problem.now }
+    {
+        is_same_problem(&self.problem, problem)
+    }
+
+    /// Tells what the node is worth; `decided` tells whether all is decided there. It takes no memory but for what it hands out, and
+    /// `Err` comes for want of that alone.
+    pub fn look(
+        &mut self,
+        alloc: Global,
+        problem: &Problem,
+        graph: &Graph,
+        node: Node,
+        decided: bool,
+    ) -> Result<Certified, AllocError>
+        requires own { self.old ≡ problem.now }
+        requires graph { shape graph.now ≡ shape_of problem.now }
+        requires sound { IsSound (shape_of problem.now) (node_of node) }
+        requires split { decided ≡ true → IsDecided (shape_of problem.now) (node_of node) }
+        ensures same { self.new ≡ self.old }
+        ensures certified { IfOk result (IsCertified problem.now (node_of node) decided) }
+    {
+        match self.look_once(alloc, problem, graph, &node, decided, decided)? {
+            Certified::Nothing if !decided => {
+                self.look_once(alloc, problem, graph, &node, decided, true)
+            }
+            told => Ok(told),
+        }
+    }
+
+    /// Looks at the node from the last basis, or `anew` from the slack basis.
+    fn look_once(
+        &mut self,
+        alloc: Global,
+        problem: &Problem,
+        graph: &Graph,
+        node: &Node,
+        decided: bool,
+        anew: bool,
+    ) -> Result<Certified, AllocError>
+        requires own { self.old ≡ problem.now }
+        requires graph { shape graph.now ≡ shape_of problem.now }
+        requires sound { IsSound (shape_of problem.now) (node_of node.now) }
+        requires split { decided ≡ true → IsDecided (shape_of problem.now) (node_of node.now) }
+        ensures same { self.new ≡ self.old }
+        ensures certified { IfOk result (IsCertified problem.now (node_of node.now) decided) }
+    {
+        match self.proposals.propose(node, anew) {
+            Proposed::Nothing => Ok(Certified::Nothing),
+            Proposed::Row => refuted(alloc, problem, graph, node, &mut self.proposals),
+            Proposed::Optimum => {
+                let Some(value) = self.value(problem, graph, node) else {
+                    return Ok(Certified::Nothing);
+                };
+                self.proposals.keep_whole_sizes();
+                if decided {
+                    flows(alloc, problem, graph, node, &mut self.proposals, value)
+                } else {
+                    least(alloc, problem, graph, node, &mut self.proposals, value)
+                }
+            }
+        }
+    }
+
+    /// After `Optimum`: the least cost, where what is proposed passes the check.
+    fn value(&self, problem: &Problem, graph: &Graph, node: &Node) -> Option<Frac>
+        requires own { self.now ≡ problem.now }
+        requires graph { shape graph.now ≡ shape_of problem.now }
+        requires sound { IsSound (shape_of problem.now) (node_of node.now) }
+        ensures { IfSome result (λ value. IsLeastCost problem.now (node_of node.now) value.num value.den) }
+    {
+        let guessed = self.proposals.guessed();
+        let value = least_value(problem, graph, &self.scales, *node, &guessed)?;
+        as_cost(&value, self.scales.unit())
+    }
+
+    /// Multipliers that prove that no relaxed flows of the node cost less than the cost over `d`, where they are found. It takes no
+    /// memory but for what it hands out, and `Err` comes for want of that alone.
+    pub fn prove(
+        &mut self,
+        alloc: Global,
+        problem: &Problem,
+        graph: &Graph,
+        node: Node,
+        cost: i128,
+        d: i128,
+    ) -> Result<Option<Scaled>, AllocError>
+        requires graph { shape graph.now ≡ shape_of problem.now }
+        requires sound { IsSound (shape_of problem.now) (node_of node) }
+        requires positive { pos 1 ≤ℤ d }
+        ensures same { self.new ≡ self.old }
+        ensures proved { IfOk result (λ found. IfSome found (λ s. IsBounded problem.now (Some (record { cost = cost; d = d })) (node_of node) s.d s.ys)) }
+    {
+        if cost == i128::MIN {
+            return Ok(None);
+        }
+        let goal = Frac::of(cost, d);
+        match self.proposals.propose(&node, true) {
+            Proposed::Optimum => proving(alloc, problem, graph, &node, &mut self.proposals, goal),
+            _ => Ok(None),
+        }
+    }
+
+    /// The size of each unit that is not left out at the node for which flows were found last, in rising order and in whole
+    /// millionths. A guide for the choice of a branch: nothing rests on it.
+    pub fn sizes(&self) -> &[i64] {
+        self.proposals.whole_sizes()
+    }
+}

@@ -1,0 +1,25 @@
+//! What is told of a node.
+use branch_tree::{Multipliers, Network, Scaled};
+use frac128::Frac;
+
+/// The least cost of relaxed flows, and a bound of it with the multipliers over their scale that prove it: all costs are in 10^-18
+/// of the money unit times the payout period.
+#[derive(Drop)]
+pub struct LeastBound {
+    pub value: Frac,
+    pub low: Frac,
+    pub scaled: Scaled,
+}
+
+/// What is told of a node.
+#[derive(Drop)]
+pub enum Certified {
+    /// The node has relaxed flows, the cheapest of this value.
+    Least(LeastBound),
+    /// All is decided at the node, and the network of its units costs just the value.
+    Flows(LeastBound, Network),
+    /// The node has no relaxed flows.
+    Refuted(Multipliers),
+    /// A check was past the range, or said no.
+    Nothing,
+}

@@ -1,0 +1,138 @@
+//! The checks on which all rests that is told of a node.
+ghost use Rattle.std.specs.Prelude.{◌≡◌, ◌<◌, ◌≤ℤ◌, ◌*ℤ◌, ℕ, pos, true, length, Some, IsTrue, IfSome};
+ghost use Rattle.int_rows.specs.Range.{InRange};
+ghost use Rattle.number_sets.specs.Sets.{has};
+ghost use Rattle.pns_rules.specs.Shape.{shape_of};
+ghost use Rattle.pns_rules.specs.Ends.{IsSound, IsDecided};
+ghost use Rattle.pgraph.specs.Tables.{shape};
+ghost use Rattle.pgraph.specs.View.{node_of};
+ghost use Rattle.flow_rules.specs.Net.{net_of};
+ghost use Rattle.flow_rules.specs.Relaxed.{rows};
+ghost use Rattle.tree_rules.specs.Claim.{IsFeasible};
+ghost use Rattle.tree_rules.specs.Leaf.{IsBounded, IsRefuted};
+ghost use Rattle.certified_bounds.specs.Certified.{cost_over};
+
+use flow_program::{bound_of, cost_of, feasible, refutes, sets_of};
+use flow_rules::sums_are_last;
+use frac128::Frac;
+use pgraph::Graph;
+use pns_problem::Problem;
+use unit_sets::Node;
+
+/// A value that is counted in a unit of costs, as a cost.
+pub(crate) fn as_cost(value: &Frac, unit: i128) -> Option<Frac>
+    requires { pos 1 ≤ℤ unit }
+    ensures { IfSome result (λ cost. cost.num *ℤ value.now.den ≡ (unit *ℤ value.now.num) *ℤ cost.den) }
+{
+    match value.mul(&Frac::of(unit, 1)) {
+        Ok(cost) => Some(cost),
+        Err(_) => None,
+    }
+}
+
+/// How many rows the program of the node has.
+fn row_count(graph: &Graph, node: &Node) -> usize
+    requires { (u : ℕ) → has node.now.inside u ≡ true → u < (shape graph.now).units }
+    ensures { (p : Problem) → shape graph.now ≡ shape_of p → result ≡ length (rows (net_of p) (node_of node.now)) }
+{
+    sets_of(graph, node).rows.count() as usize
+}
+
+/// What the multipliers prove over their scale: no relaxed flows of the node cost less. None where the scale is below 1, where
+/// there is not a multiplier for each row, or where a number of their sum is out of range.
+pub(crate) fn low_of(
+    problem: &Problem,
+    graph: &Graph,
+    node: &Node,
+    scale: i128,
+    multipliers: &[i128],
+) -> Option<Frac>
+    requires graph { shape graph.now ≡ shape_of problem.now }
+    requires known { (u : ℕ) → has node.now.inside u ≡ true → u < (shape graph.now).units }
+    ensures { IfSome result (λ low. IsBounded problem.now (Some (cost_over low)) (node_of node.now) scale multipliers.now) }
+{
+    sums_are_last();
+    let count = multipliers.len();
+    let rows = row_count(graph, node);
+    if scale < 1 || count != rows {
+        return None;
+    }
+    match bound_of(problem, graph, *node, scale, multipliers) {
+        Ok(bound) => Some(Frac::of(bound, scale)),
+        Err(_) => None,
+    }
+}
+
+/// Whether the multipliers prove over their scale that no relaxed flows of the node cost less than the goal. What `low_of` has no
+/// answer for is a no.
+pub(crate) fn reaches(
+    problem: &Problem,
+    graph: &Graph,
+    node: &Node,
+    scale: i128,
+    multipliers: &[i128],
+    goal: Frac,
+) -> bool
+    requires graph { shape graph.now ≡ shape_of problem.now }
+    requires known { (u : ℕ) → has node.now.inside u ≡ true → u < (shape graph.now).units }
+    ensures { IsTrue result → IsBounded problem.now (Some (cost_over goal)) (node_of node.now) scale multipliers.now }
+{
+    match low_of(problem, graph, node, scale, multipliers) {
+        Some(low) => goal <= low,
+        None => false,
+    }
+}
+
+/// Whether the multipliers refute the node. A number of their sum that is out of range is a no.
+pub(crate) fn is_refuted(
+    problem: &Problem,
+    graph: &Graph,
+    node: &Node,
+    multipliers: &[i128],
+) -> bool
+    requires graph { shape graph.now ≡ shape_of problem.now }
+    requires known { (u : ℕ) → has node.now.inside u ≡ true → u < (shape graph.now).units }
+    ensures { IsTrue result → IsRefuted problem.now (node_of node.now) multipliers.now }
+{
+    let count = multipliers.len();
+    let rows = row_count(graph, node);
+    if count != rows {
+        return false;
+    }
+    match refutes(problem, graph, *node, multipliers) {
+        Ok(holds) => holds,
+        Err(_) => false,
+    }
+}
+
+/// The cost over `d` of the network of the units that are taken in where all is decided, if the sizes over `d` are flows for it and no number on the way is out of
+/// range.
+pub(crate) fn cost_of_network(
+    problem: &Problem,
+    graph: &Graph,
+    node: &Node,
+    sizes: &[i128],
+    d: i128,
+) -> Option<i128>
+    requires graph { shape graph.now ≡ shape_of problem.now }
+    requires sound { IsSound (shape_of problem.now) (node_of node.now) }
+    requires decided { IsDecided (shape_of problem.now) (node_of node.now) }
+    ensures positive { IfSome result (λ cost. pos 1 ≤ℤ d) }
+    ensures count { IfSome result (λ cost. length sizes.now ≡ length node.now.inside) }
+    ensures feasible { IfSome result (λ cost. IsFeasible problem.now (record { units = node.now.inside; sizes = sizes.now; d = d; cost = cost })) }
+    ensures in_range { IfSome result InRange }
+{
+    node.inside.rises();
+    sums_are_last();
+    if d < 1 || sizes.len() != node.inside.count() as usize {
+        return None;
+    }
+    match feasible(problem, graph, node.inside, sizes, d) {
+        Ok(true) => {}
+        _ => return None,
+    }
+    match cost_of(problem, graph, node.inside, sizes, d) {
+        Ok(cost) => Some(cost),
+        Err(_) => None,
+    }
+}

@@ -1,0 +1,30 @@
+//! A second way to value a node: guess, solve, and judge exactly.
+//!
+//! [`CertifiedBounds`] is opened for a problem. At a node it guesses a basis of least flows, solves that in whole numbers, and hands
+//! what comes out to exact checks: scaled flows whose prices agree are least, multipliers bound or refute by their own sum, and
+//! sizes are judged as any network's are. What is told of a node rests on these checks alone; where one of them is past the range
+//! or says no, nothing is told, and the node is to be valued in another way.
+//!
+//! Multipliers of a bound are exact where their scale is short, and rounded else: the bound of rounded ones is a little below the
+//! least cost, and still proved.
+//!
+//! Modules: `certified` (what is told of a node), `bounds` (the calls), `lows`, `flows` and `refutations` (what the proposals amount to
+//! once they are judged), `judged` (the checks), `proposals` (guess and solution, of which nothing is promised), `multipliers` (scaled
+//! multipliers in the numbers of the problem), `rounding` (wide quotients), `number_list` (a list of numbers in range), `same_problem`
+//! (whether two problems are the same).
+#![tactic(auto)]
+
+mod bounds;
+mod certified;
+mod flows;
+mod judged;
+mod lows;
+mod multipliers;
+mod number_list;
+mod proposals;
+mod refutations;
+mod rounding;
+mod same_problem;
+
+pub use bounds::CertifiedBounds;
+pub use certified::{Certified, LeastBound};

@@ -1,0 +1,192 @@
+//! What the multipliers that are proposed prove.
+ghost use Rattle.std.specs.Prelude.{◌≡◌, ◌<◌, ◌≤ℤ◌, ℕ, pos, true, false, Some, IfOk, IfSome};
+ghost use Rattle.int_rows.specs.Range.{InRange};
+ghost use Rattle.number_sets.specs.Sets.{has};
+ghost use Rattle.pns_rules.specs.Shape.{shape_of};
+ghost use Rattle.pgraph.specs.Tables.{shape};
+ghost use Rattle.pgraph.specs.View.{node_of};
+ghost use Rattle.scaled_flows.specs.LeastCost.{IsLeastCost};
+ghost use Rattle.tree_rules.specs.Leaf.{IsBounded};
+ghost use Rattle.certified_bounds.specs.Certified.{cost_over, IsCertified};
+
+use crate::certified::{Certified, LeastBound};
+use crate::judged::{low_of, reaches};
+use crate::proposals::Proposals;
+use branch_tree::Scaled;
+use flow_rules::relaxed_duality;
+use frac128::Frac;
+use pgraph::Graph;
+use pns_problem::Problem;
+use std::alloc::{AllocError, Global};
+use unit_sets::Node;
+
+// Exact multipliers are told of where their scale is at most 2^20, and rounded ones over this scale else.
+const SHORT_BITS: u32 = 20;
+
+const SHORT: i128 = 1 << 20;
+
+/// The scale of the multipliers that are listed, and what they prove.
+#[derive(Clone, Copy)]
+pub(crate) struct Low {
+    pub(crate) scale: i128,
+    pub(crate) low: Frac,
+}
+
+/// What the multipliers that are listed prove, where they were written over a scale.
+fn listed_low(
+    problem: &Problem,
+    graph: &Graph,
+    node: &Node,
+    proposals: &Proposals,
+    scale: Option<i128>,
+) -> Option<Low>
+    requires graph { shape graph.now ≡ shape_of problem.now }
+    requires known { (u : ℕ) → has node.now.inside u ≡ true → u < (shape graph.now).units }
+    ensures { IfSome result (λ l. IsBounded problem.now (Some (cost_over l.low)) (node_of node.now) l.scale proposals.now) }
+{
+    let scale = scale?;
+    let low = low_of(problem, graph, node, scale, proposals.list())?;
+    Some(Low { scale, low })
+}
+
+/// What the exact multipliers prove.
+pub(crate) fn exact_low(
+    problem: &Problem,
+    graph: &Graph,
+    node: &Node,
+    proposals: &mut Proposals,
+    most: i128,
+) -> Option<Low>
+    requires graph { shape graph.now ≡ shape_of problem.now }
+    requires known { (u : ℕ) → has node.now.inside u ≡ true → u < (shape graph.now).units }
+    ensures { IfSome result (λ l. IsBounded problem.now (Some (cost_over l.low)) (node_of node.now) l.scale proposals.new) }
+{
+    let scale = proposals.write_exact(most);
+    listed_low(problem, graph, node, proposals, scale)
+}
+
+/// What rounded multipliers prove.
+fn rounded_low(
+    problem: &Problem,
+    graph: &Graph,
+    node: &Node,
+    proposals: &mut Proposals,
+    bits: u32,
+) -> Option<Low>
+    requires graph { shape graph.now ≡ shape_of problem.now }
+    requires known { (u : ℕ) → has node.now.inside u ≡ true → u < (shape graph.now).units }
+    ensures { IfSome result (λ l. IsBounded problem.now (Some (cost_over l.low)) (node_of node.now) l.scale proposals.new) }
+{
+    let scale = proposals.write_rounded(bits);
+    listed_low(problem, graph, node, proposals, scale)
+}
+
+/// What multipliers prove: short exact ones, else rounded ones, else exact ones of any length.
+fn short_low(
+    problem: &Problem,
+    graph: &Graph,
+    node: &Node,
+    proposals: &mut Proposals,
+) -> Option<Low>
+    requires graph { shape graph.now ≡ shape_of problem.now }
+    requires known { (u : ℕ) → has node.now.inside u ≡ true → u < (shape graph.now).units }
+    ensures { IfSome result (λ l. IsBounded problem.now (Some (cost_over l.low)) (node_of node.now) l.scale proposals.new) }
+{
+    if let Some(low) = exact_low(problem, graph, node, proposals, SHORT) {
+        return Some(low);
+    }
+    if let Some(low) = rounded_low(problem, graph, node, proposals, SHORT_BITS) {
+        return Some(low);
+    }
+    exact_low(problem, graph, node, proposals, i128::MAX)
+}
+
+/// The value with the multipliers that are listed, and what these prove.
+pub(crate) fn bound_with(
+    alloc: Global,
+    value: Frac,
+    low: Low,
+    proposals: &Proposals,
+) -> Result<LeastBound, AllocError>
+    requires { InRange low.scale }
+    ensures { IfOk result (λ b. b ≡ record { value = value; low = low.low; scaled = record { d = low.scale; ys = proposals.now } }) }
+{
+    proposals.are_in_range();
+    let scaled = Scaled::of(alloc, low.scale, proposals.list())?;
+    Ok(LeastBound {
+        value,
+        low: low.low,
+        scaled,
+    })
+}
+
+/// After `Optimum`, where not all is decided: the value, and a bound that is proved.
+pub(crate) fn least(
+    alloc: Global,
+    problem: &Problem,
+    graph: &Graph,
+    node: &Node,
+    proposals: &mut Proposals,
+    value: Frac,
+) -> Result<Certified, AllocError>
+    requires graph { shape graph.now ≡ shape_of problem.now }
+    requires known { (u : ℕ) → has node.now.inside u ≡ true → u < (shape graph.now).units }
+    requires value { IsLeastCost problem.now (node_of node.now) value.num value.den }
+    ensures { IfOk result (IsCertified problem.now (node_of node.now) false) }
+{
+    relaxed_duality();
+    let Some(low) = short_low(problem, graph, node, proposals) else {
+        return Ok(Certified::Nothing);
+    };
+    let bound = bound_with(alloc, value, low, proposals)?;
+    Ok(Certified::Least(bound))
+}
+
+/// The listed multipliers over their scale, where they prove the cost over `d`.
+fn reaching(
+    alloc: Global,
+    problem: &Problem,
+    graph: &Graph,
+    node: &Node,
+    proposals: &Proposals,
+    scale: Option<i128>,
+    goal: Frac,
+) -> Result<Option<Scaled>, AllocError>
+    requires graph { shape graph.now ≡ shape_of problem.now }
+    requires known { (u : ℕ) → has node.now.inside u ≡ true → u < (shape graph.now).units }
+    ensures { IfOk result (λ found. IfSome found (λ s. IsBounded problem.now (Some (cost_over goal)) (node_of node.now) s.d s.ys)) }
+{
+    let Some(scale) = scale else {
+        return Ok(None);
+    };
+    if !reaches(problem, graph, node, scale, proposals.list(), goal) {
+        return Ok(None);
+    }
+    proposals.are_in_range();
+    let scaled = Scaled::of(alloc, scale, proposals.list())?;
+    Ok(Some(scaled))
+}
+
+/// After `Optimum`: multipliers that prove the cost, rounded ones over longer and longer scales, and at last the exact ones.
+pub(crate) fn proving(
+    alloc: Global,
+    problem: &Problem,
+    graph: &Graph,
+    node: &Node,
+    proposals: &mut Proposals,
+    goal: Frac,
+) -> Result<Option<Scaled>, AllocError>
+    requires graph { shape graph.now ≡ shape_of problem.now }
+    requires known { (u : ℕ) → has node.now.inside u ≡ true → u < (shape graph.now).units }
+    ensures { IfOk result (λ found. IfSome found (λ s. IsBounded problem.now (Some (cost_over goal)) (node_of node.now) s.d s.ys)) }
+{
+    'scales: for bits in [30u32, 40] {
+        let scale = proposals.write_rounded(bits);
+        match reaching(alloc, problem, graph, node, proposals, scale, goal)? {
+            Some(scaled) => return Ok(Some(scaled)),
+            None => {}
+        }
+    }
+    let scale = proposals.write_exact(i128::MAX);
+    reaching(alloc, problem, graph, node, proposals, scale, goal)
+}

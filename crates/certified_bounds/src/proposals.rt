@@ -1,0 +1,241 @@
+//! What is proposed for a node: a guessed basis, its solution, and what is made of it. Nothing is promised of that but that it is
+//! found safely and in an end, and that lists are in range.
+ghost use Rattle.std.specs.Prelude.{◌≡◌, ◌<◌, ℕ, length};
+ghost use Rattle.int_rows.specs.Range.{AllInRange};
+ghost use Rattle.flow_rules.specs.Net.{net_of};
+ghost use Rattle.scaled_flows.specs.Divisors.{AreDivisors};
+
+use crate::multipliers::ScaledRows;
+use crate::number_list::NumberList;
+use crate::rounding::Ratio;
+use basis_guess::{Guess, Numbers, Outcome, Standing};
+use basis_solve::Solver;
+use int_rows::gcd;
+use pns_problem::Problem;
+use scaled_flows::{Guessed, Scales};
+use std::alloc::{AllocError, Global};
+use std::marker::Model;
+use unit_sets::Node;
+
+/// What is proposed: sizes and multipliers that may be optimal, a row that may show that there are no flows, or nothing.
+#[derive(Clone, Copy, Debug, PartialEq, Eq)]
+pub(crate) enum Proposed {
+    Optimum,
+    Row,
+    Nothing,
+}
+
+/// Room for what is proposed for one node after the other.
+#[derive(Drop)]
+pub(crate) struct Proposals {
+    numbers: Numbers,
+    guess: Guess,
+    solver: Solver,
+    // The divisors: one of each material's rates, that of sizes, and that of costs.
+    rates: Vec<i64>,
+    sizes: i128,
+    costs: i128,
+    // The rows of the node: what it asks of each material, and the divisors of those that it has.
+    standings: Vec<Standing>,
+    row_rates: Vec<i64>,
+    // Scaled multipliers of a row that can't be met.
+    row: NumberList,
+    list: NumberList,
+    whole_sizes: Vec<i64>,
+}
+
+impl Model for Proposals {
+    ghost use Rattle.std.specs.Prelude.{List, ℤ};
+
+    ghost Value = { List ℤ };
+
+    ghost view = { λ p. p.list };
+}
+
+/// The divisor of each material's rates.
+fn rate_divisors(alloc: Global, problem: &Problem, scales: &Scales) -> Result<Vec<i64>, AllocError>
+    requires { AreDivisors (net_of problem.now) scales.now }
+{
+    problem.is_valid();
+    let mut rates = Vec::new(alloc);
+    let materials = problem.materials().len() as u32;
+    'materials: for j in 0..materials {
+        rates.push(scales.rate(j))?;
+    }
+    Ok(rates)
+}
+
+// Multipliers that refute have no scale; they are rounded from a list whose greatest is near this.
+const MILLION: i128 = 1_000_000;
+
+// The greatest size of a unit, in millionths.
+const MOST_SIZE: i128 = 1_000_000_000_000_000;
+
+impl Proposals {
+    /// Makes room for the nodes of the problem. `Err` comes for want of memory alone.
+    pub(crate) fn open(
+        alloc: Global,
+        problem: &Problem,
+        scales: &Scales,
+    ) -> Result<Proposals, AllocError>
+        requires { AreDivisors (net_of problem.now) scales.now }
+    {
+        problem.is_valid();
+        let units = problem.units().len() as u32;
+        let materials = problem.materials().len() as u32;
+        let rates = rate_divisors(alloc, problem, scales)?;
+        let sizes = scales.sizes() as i128;
+        let costs = scales.costs();
+        let numbers = Numbers::of(alloc, problem, &rates, sizes, costs)?;
+        Ok(Proposals {
+            numbers,
+            guess: Guess::open(alloc, units, materials)?,
+            solver: Solver::open(alloc, units, materials)?,
+            rates,
+            sizes,
+            costs,
+            standings: vec![in alloc; Standing::Apart; materials as usize]?,
+            row_rates: Vec::with_capacity(alloc, materials as usize)?,
+            row: NumberList::open(alloc, materials as usize)?,
+            list: NumberList::open(alloc, materials.max(units) as usize)?,
+            whole_sizes: Vec::with_capacity(alloc, units as usize)?,
+        })
+    }
+
+    /// Looks for an optimum of the node's program, from the last basis or `anew`.
+    pub(crate) fn propose(&mut self, node: &Node, anew: bool) -> Proposed {
+        let outcome = self.guess.look(&self.numbers, node, anew);
+        if !self.read_rows(node) {
+            return Proposed::Nothing;
+        }
+        match outcome {
+            Outcome::Basis if self.solver.solve(&self.numbers, self.guess.columns(), node) => {
+                Proposed::Optimum
+            }
+            Outcome::Row if self.read_row() => Proposed::Row,
+            _ => Proposed::Nothing,
+        }
+    }
+
+    /// Reads the divisors of the rows of the node.
+    fn read_rows(&mut self, node: &Node) -> bool {
+        self.numbers.stand(node, &mut self.standings);
+        self.row_rates.clear();
+        for (rate, standing) in self.rates.iter().zip(&self.standings) {
+            if *standing != Standing::Apart && self.row_rates.push(*rate).is_err() {
+                return false;
+            }
+        }
+        true
+    }
+
+    /// Reads the scaled multipliers of a row that can't be met.
+    fn read_row(&mut self) -> bool {
+        self.row.clear();
+        for (multiplier, standing) in self.guess.multipliers().iter().zip(&self.standings) {
+            if *standing != Standing::Apart && !self.row.push(*multiplier as i128) {
+                return false;
+            }
+        }
+        true
+    }
+
+    /// After `Optimum`: the scaled sizes and multipliers.
+    pub(crate) fn guessed(&self) -> Guessed<'_> {
+        Guessed {
+            sizes: self.solver.sizes(),
+            d: self.solver.d(),
+            multipliers: self.solver.multipliers(),
+            scale: self.solver.scale(),
+        }
+    }
+
+    /// The list that was written last, of multipliers or of sizes.
+    pub(crate) fn list(&self) -> &[i128]
+        ensures { result.now ≡ self.now }
+    {
+        self.list.numbers()
+    }
+
+    /// Each number of the list is in range. A call tells a proof so, and does nothing.
+    pub(crate) fn are_in_range(&self)
+        ensures { AllInRange self.now }
+    {
+        self.list.are_in_range();
+    }
+
+    /// After `Optimum`: writes the exact multipliers over their least scale, which it gives, where that is at most so much.
+    pub(crate) fn write_exact(&mut self, most: i128) -> Option<i128> {
+        let rows = ScaledRows {
+            numbers: self.solver.multipliers(),
+            rates: &self.row_rates,
+            scale: self.solver.scale(),
+            costs: self.costs,
+        };
+        let scale = rows.exact_scale(most)?;
+        if rows.write_exact(scale, &mut self.list) {
+            Some(scale)
+        } else {
+            None
+        }
+    }
+
+    /// After `Optimum`: writes whole numbers near 2^bits times the multipliers. Gives that power.
+    pub(crate) fn write_rounded(&mut self, bits: u32) -> Option<i128> {
+        let rows = ScaledRows {
+            numbers: self.solver.multipliers(),
+            rates: &self.row_rates,
+            scale: self.solver.scale(),
+            costs: self.costs,
+        };
+        if rows.write_rounded(bits, &mut self.list) {
+            Some(1i128.wrapping_shl(bits.min(126)))
+        } else {
+            None
+        }
+    }
+
+    /// After `Row`: writes whole numbers near 2^bits times the multipliers that refute.
+    pub(crate) fn write_row(&mut self, bits: u32) -> bool {
+        let rows = ScaledRows {
+            numbers: self.row.numbers(),
+            rates: &self.row_rates,
+            scale: self.guess.scale() as i128,
+            costs: MILLION,
+        };
+        rows.write_rounded(bits, &mut self.list)
+    }
+
+    /// After `Optimum`: writes the sizes in millionths over their least common denominator, which it gives.
+    pub(crate) fn write_sizes(&mut self) -> Option<i128> {
+        let d = self.solver.d();
+        if d < 1 {
+            return None;
+        }
+        let common = gcd(d, self.sizes.max(1)).max(1);
+        let factor = self.sizes.wrapping_div(common);
+        self.list.clear();
+        for size in self.solver.sizes() {
+            if !self.list.push_some(size.checked_mul(factor)) {
+                return None;
+            }
+        }
+        Some(d.wrapping_div(common))
+    }
+
+    /// After `Optimum`: keeps the sizes in whole millionths.
+    pub(crate) fn keep_whole_sizes(&mut self) {
+        let d = self.solver.d();
+        self.whole_sizes.clear();
+        for size in self.solver.sizes() {
+            let whole = Ratio::of_products(*size, self.sizes, d, 1).floor();
+            let kept = whole.min(MOST_SIZE).max(0) as i64;
+            let _is_kept = self.whole_sizes.push(kept).is_ok();
+        }
+    }
+
+    /// The size of each unit of the node for which sizes were kept last, in rising order and in whole millionths.
+    pub(crate) fn whole_sizes(&self) -> &[i64] {
+        &self.whole_sizes
+    }
+}

@@ -1,0 +1,54 @@
+//! Multipliers that refute a node.
+ghost use Rattle.std.specs.Prelude.{◌≡◌, ◌<◌, ℕ, Bool, true, IsTrue, IfOk};
+ghost use Rattle.number_sets.specs.Sets.{has};
+ghost use Rattle.pns_rules.specs.Shape.{shape_of};
+ghost use Rattle.pgraph.specs.Tables.{shape};
+ghost use Rattle.pgraph.specs.View.{node_of};
+ghost use Rattle.tree_rules.specs.Leaf.{IsRefuted};
+ghost use Rattle.certified_bounds.specs.Certified.{IsCertified};
+
+use crate::certified::Certified;
+use crate::judged::is_refuted;
+use crate::proposals::Proposals;
+use branch_tree::Multipliers;
+use pgraph::Graph;
+use pns_problem::Problem;
+use std::alloc::{AllocError, Global};
+use unit_sets::Node;
+
+/// Whether the multipliers of the row that can't be met refute the node, once they are rounded.
+fn is_row_refuted(
+    problem: &Problem,
+    graph: &Graph,
+    node: &Node,
+    proposals: &mut Proposals,
+    bits: u32,
+) -> bool
+    requires graph { shape graph.now ≡ shape_of problem.now }
+    requires known { (u : ℕ) → has node.now.inside u ≡ true → u < (shape graph.now).units }
+    ensures { IsTrue result → IsRefuted problem.now (node_of node.now) proposals.new }
+{
+    proposals.write_row(bits) && is_refuted(problem, graph, node, proposals.list())
+}
+
+/// After `Row`: multipliers that refute the node.
+pub(crate) fn refuted(
+    alloc: Global,
+    problem: &Problem,
+    graph: &Graph,
+    node: &Node,
+    proposals: &mut Proposals,
+) -> Result<Certified, AllocError>
+    requires graph { shape graph.now ≡ shape_of problem.now }
+    requires known { (u : ℕ) → has node.now.inside u ≡ true → u < (shape graph.now).units }
+    ensures { (decided : Bool) → IfOk result (IsCertified problem.now (node_of node.now) decided) }
+{
+    'scales: for bits in [30u32, 20, 40, 10, 50] {
+        if is_row_refuted(problem, graph, node, proposals, bits) {
+            proposals.are_in_range();
+            let ys = proposals.list().to_vec(alloc)?;
+            return Ok(Certified::Refuted(Multipliers::from_vec(ys)));
+        }
+    }
+    Ok(Certified::Nothing)
+}

@@ -1,0 +1,119 @@
+//! Whether two problems are the same.
+ghost use Rattle.std.specs.Prelude.{◌≡◌, IsTrue};
+
+use pns_problem::{Exclusion, Material, OperatingUnit, Problem, Term};
+
+fn is_same_material(a: &Material, b: &Material) -> bool
+    ensures { IsTrue result → a.now ≡ b.now }
+{
+    a.price == b.price
+        && a.lower == b.lower
+        && a.upper == b.upper
+        && a.kind == b.kind
+        && a.name == b.name
+}
+
+fn is_same_term(a: Term, b: Term) -> bool
+    ensures { IsTrue result → a ≡ b }
+{
+    a.material == b.material && a.rate == b.rate
+}
+
+fn are_same_terms(xs: &[Term], ys: &[Term]) -> bool
+    ensures { IsTrue result → xs.now ≡ ys.now }
+{
+    if xs.len() != ys.len() {
+        return false;
+    }
+    'terms: for k in 0..xs.len() {
+        if !is_same_term(xs[k], ys[k]) {
+            return false;
+        }
+    }
+    true
+}
+
+fn has_same_costs(a: &OperatingUnit, b: &OperatingUnit) -> bool
+    ensures fix { IsTrue result → a.now.fix ≡ b.now.fix }
+    ensures proportional { IsTrue result → a.now.proportional ≡ b.now.proportional }
+    ensures investment_fix { IsTrue result → a.now.investment_fix ≡ b.now.investment_fix }
+    ensures investment_proportional { IsTrue result → a.now.investment_proportional ≡ b.now.investment_proportional }
+{
+    a.fix == b.fix
+        && a.proportional == b.proportional
+        && a.investment_fix == b.investment_fix
+        && a.investment_proportional == b.investment_proportional
+}
+
+fn is_same_unit(a: &OperatingUnit, b: &OperatingUnit) -> bool
+    ensures { IsTrue result → a.now ≡ b.now }
+{
+    if !has_same_costs(a, b) {
+        return false;
+    }
+    if !are_same_terms(&a.inputs, &b.inputs) {
+        return false;
+    }
+    if !are_same_terms(&a.outputs, &b.outputs) {
+        return false;
+    }
+    a.lower == b.lower && a.upper == b.upper && a.name == b.name
+}
+
+fn is_same_exclusion(a: &Exclusion, b: &Exclusion) -> bool
+    ensures { IsTrue result → a.now ≡ b.now }
+{
+    a.units == b.units && a.name == b.name
+}
+
+fn are_same_materials(xs: &[Material], ys: &[Material]) -> bool
+    ensures { IsTrue result → xs.now ≡ ys.now }
+{
+    if xs.len() != ys.len() {
+        return false;
+    }
+    'materials: for k in 0..xs.len() {
+        if !is_same_material(&xs[k], &ys[k]) {
+            return false;
+        }
+    }
+    true
+}
+
+fn are_same_units(xs: &[OperatingUnit], ys: &[OperatingUnit]) -> bool
+    ensures { IsTrue result → xs.now ≡ ys.now }
+{
+    if xs.len() != ys.len() {
+        return false;
+    }
+    'units: for k in 0..xs.len() {
+        if !is_same_unit(&xs[k], &ys[k]) {
+            return false;
+        }
+    }
+    true
+}
+
+fn are_same_exclusions(xs: &[Exclusion], ys: &[Exclusion]) -> bool
+    ensures { IsTrue result → xs.now ≡ ys.now }
+{
+    if xs.len() != ys.len() {
+        return false;
+    }
+    'exclusions: for k in 0..xs.len() {
+        if !is_same_exclusion(&xs[k], &ys[k]) {
+            return false;
+        }
+    }
+    true
+}
+
+/// Whether the problems are the same, items and names. Linear in their size.
+pub(crate) fn is_same_problem(a: &Problem, b: &Problem) -> bool
+    ensures { IsTrue result → a.now ≡ b.now }
+{
+    a.payout() == b.payout()
+        && are_same_materials(a.materials(), b.materials())
+        && are_same_units(a.units(), b.units())
+        && are_same_exclusions(a.exclusions(), b.exclusions())
+}
