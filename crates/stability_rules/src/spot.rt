@@ -8,3 +8,11 @@ pub enum Spot {
     /// The proportional cost of the unit of this number.
     Proportional(u32),
 }
+
+/// What is varied.
+#[derive(Clone, Copy, Debug, PartialEq, Eq)]
+pub enum SpotKind {
+    Price,
+    Fix,
+    Proportional,
+}

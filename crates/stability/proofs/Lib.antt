@@ -1,0 +1,4 @@
+pub mod CostLemmas
+pub mod SideLemmas
+pub mod ProbeLemmas
+pub mod RangeLemmas

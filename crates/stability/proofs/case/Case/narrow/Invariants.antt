@@ -1,0 +1,9 @@
+use Rattle.std.proofs.Common.{◌-◌}
+use Rattle.stability.specs.Side.{IsBracket}
+use Rattle.stability.proofs.case.Case.narrow.Given as goal
+
+abbrev pub invariant-narrowing : goal.invariant-narrowing
+invariant-narrowing l = IsBracket l.self l.side l.bracket
+
+abbrev pub decreases-narrowing : goal.decreases-narrowing
+decreases-narrowing l = l.bracket.bad - l.bracket.good

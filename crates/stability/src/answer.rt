@@ -1,0 +1,74 @@
+//! The range.
+ghost use Rattle.std.specs.Prelude.{◌≡◌, ◌≤◌, IfOk, IfErr};
+ghost use Rattle.pns_rules.specs.Shape.{shape_of};
+ghost use Rattle.pgraph.specs.Tables.{shape};
+ghost use Rattle.tree_rules.specs.Claim.{IsFeasible};
+ghost use Rattle.stability_rules.specs.Spot.{KnowsSpot, value_at};
+ghost use Rattle.stability_rules.specs.Range.{IsBestAt, IsRange};
+ghost use Rattle.stability.specs.Refusal.{IsRefusal};
+
+use crate::case::Case;
+use crate::outcome::{Range, RangeFault};
+use branch_tree::Network;
+use pgraph::Graph;
+use pns_problem::Problem;
+use stability_laws::{best_between, present_stays};
+use stability_rules::{Side, Spot};
+use std::alloc::Global;
+
+impl<'a> Case<'a> {
+    /// The range of a network that is optimal now.
+    fn both_sides(&self) -> Result<Range, RangeFault>
+        requires { IsBestAt self.now.problem self.now.spot self.now.network (value_at self.now.problem self.now.spot) }
+        ensures range { IfOk result (λ r. IsRange self.now.problem self.now.spot self.now.network r.from r.to r.below r.above) }
+        ensures refusal { IfErr result (IsRefusal self.now.problem self.now.spot self.now.network self.now.budget) }
+    {
+        best_between();
+        self.is_known();
+        let below = match self.end(Side::Below) {
+            Ok(end) => end,
+            Err(fault) => return Err(fault),
+        };
+        let above = match self.end(Side::Above) {
+            Ok(end) => end,
+            Err(fault) => return Err(fault),
+        };
+        Ok(Range {
+            from: self.value(Side::Below, below.away),
+            to: self.value(Side::Above, above.away),
+            below: below.beyond,
+            above: above.beyond,
+        })
+    }
+}
+
+/// The largest interval of allowed values of the spot, round the present one, at which the network with its flows is optimal among
+/// the allowed ones: prices and proportional costs from -10^15 to 10^15 millionths, fixed costs from 0. The graph is that of the
+/// problem, and the network passes as a claim. Each search has the whole budget of nodes. `NotBest` comes with a network of least cost
+/// that is cheaper now; `Spent` and `Past` as a search stops at their value, which is the present one or far away, and `PastCost`
+/// where the network's cost is past the range at a value far away. At a value far away the network is known to be optimal half the
+/// way there.
+pub fn range(
+    alloc: Global,
+    problem: &Problem,
+    graph: &Graph,
+    network: &Network,
+    spot: Spot,
+    budget: u32,
+) -> Result<Range, RangeFault>
+    requires graph { shape graph.now ≡ shape_of problem.now }
+    requires passes { IsFeasible problem.now network.now }
+    requires known { KnowsSpot problem.now spot }
+    requires some { 1 ≤ budget }
+    ensures range { IfOk result (λ r. IsRange problem.now spot network.now r.from r.to r.below r.above) }
+    ensures refusal { IfErr result (IsRefusal problem.now spot network.now budget) }
+{
+    problem.is_valid();
+    present_stays();
+    let case = Case::of(alloc, problem, graph, network, spot, budget);
+    match case.probe_now() {
+        Ok(None) => case.both_sides(),
+        Ok(Some(cheaper)) => Err(RangeFault::NotBest(cheaper)),
+        Err(fault) => Err(fault),
+    }
+}

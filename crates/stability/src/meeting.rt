@@ -1,0 +1,76 @@
+//! Where the network costs as much as another one, as a guess: nothing is promised of it, and whoever takes it looks there.
+ghost use Rattle.std.specs.Prelude.{◌≡◌, ◌<◌, ℕ, true};
+ghost use Rattle.number_sets.specs.Sets.{has};
+ghost use Rattle.pns_rules.specs.Shape.{shape_of};
+ghost use Rattle.pgraph.specs.Tables.{shape};
+ghost use Rattle.stability_rules.specs.Spot.{value_at, value_on, IsAllowedValue};
+
+use crate::case::Case;
+use crate::costs::cost_in;
+use crate::setting::valued;
+use branch_tree::Network;
+use int_rows::{checked_difference, checked_product, lowest_terms};
+use pgraph::Graph;
+use pns_problem::Problem;
+use stability_laws::structures_stay;
+use stability_rules::Side;
+
+/// How much more the second network costs in the problem than the first, over a common denominator.
+fn lead(problem: &Problem, graph: &Graph, network: &Network, other: &Network) -> Option<i128>
+    requires graph { shape graph.now ≡ shape_of problem.now }
+    requires known { (u : ℕ) → has network.now.units u ≡ true → u < (shape graph.now).units }
+    requires other_known { (u : ℕ) → has other.now.units u ≡ true → u < (shape graph.now).units }
+{
+    network.is_sized();
+    other.is_sized();
+    let (d, other_d) = lowest_terms(network.d(), other.d());
+    let Ok(cost) = cost_in(problem, graph, network) else {
+        return None;
+    };
+    let Ok(other_cost) = cost_in(problem, graph, other) else {
+        return None;
+    };
+    match (
+        checked_product(other_cost, d),
+        checked_product(cost, other_d),
+    ) {
+        (Some(theirs), Some(ours)) => checked_difference(theirs, ours),
+        _ => None,
+    }
+}
+
+/// How often the lead can fall so far before it is below 0.
+fn steps_of(lead: i128, next: i128) -> Option<u64> {
+    let Some(fall) = checked_difference(lead, next) else {
+        return None;
+    };
+    if lead < 0 || fall <= 0 {
+        return None;
+    }
+    let steps = lead / fall;
+    if steps <= 4_000_000_000_000_000 {
+        Some(steps as u64)
+    } else {
+        None
+    }
+}
+
+impl<'a> Case<'a> {
+    /// How far away the other network is still no cheaper, on a side where it is in the end.
+    pub(crate) fn meeting(&self, side: Side, other: &Network) -> Option<u64>
+        requires known { (u : ℕ) → has other.now.units u ≡ true → u < (shape_of self.now.problem).units }
+        requires allowed { IsAllowedValue self.now.spot (value_on side (value_at self.now.problem self.now.spot) 1) }
+    {
+        structures_stay();
+        let Some(now) = lead(self.problem, self.graph, self.network, other) else {
+            return None;
+        };
+        let Ok(near) = valued(self.alloc, self.problem, self.spot, self.value(side, 1)) else {
+            return None;
+        };
+        match lead(&near, self.graph, self.network, other) {
+            Some(next) => steps_of(now, next),
+            None => None,
+        }
+    }
+}

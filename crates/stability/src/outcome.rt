@@ -1,0 +1,44 @@
+//! What the range of a spot is, and why none is told.
+use branch_tree::{Columns, Network, Tree};
+use flow_program::Place;
+
+/// The values of a spot at which a network is optimal, in millionths: each from `from` to `to`. One step below `from` the network
+/// `below` is cheaper, and one step above `to` the network `above`; none where that end is the limit of the values.
+#[derive(Drop)]
+pub struct Range {
+    pub from: i64,
+    pub to: i64,
+    pub below: Option<Network>,
+    pub above: Option<Network>,
+}
+
+/// Why no range is told.
+#[derive(Drop)]
+pub enum RangeFault {
+    /// This network of least cost is cheaper now.
+    NotBest(Network),
+    /// The budget is spent in the search at this value, as with `Found::Spent`.
+    Spent {
+        value: i64,
+        best: Option<Network>,
+        tree: Tree,
+        next: u32,
+        options: u128,
+    },
+    /// A number is past the range in the search at this value, as with `Found::Past`.
+    Past {
+        value: i64,
+        best: Option<Network>,
+        tree: Tree,
+        node: u32,
+        nonbasic: Columns,
+        place: Place,
+    },
+    /// A step of the network's cost is past the range at this value.
+    PastCost {
+        value: i64,
+        at: u32,
+    },
+    /// There is no memory.
+    Memory,
+}

@@ -1,0 +1,199 @@
+//! The end of the range on one side of the present value.
+ghost use Rattle.std.specs.Prelude.{◌≡◌, ◌+◌, ◌-◌, ◌<◌, ◌≤◌, true, false, IfOk, IfErr};
+ghost use Rattle.stability_rules.specs.Spot.{value_at};
+ghost use Rattle.stability_rules.specs.Range.{IsBestAt};
+ghost use Rattle.stability.specs.Refusal.{IsRefusal};
+ghost use Rattle.stability.specs.Side.{IsBracket, IsSettled, IsEnd};
+
+use crate::case::Case;
+use crate::outcome::RangeFault;
+use branch_tree::Network;
+use stability_laws::best_between;
+use stability_rules::Side;
+
+/// What stands at a value: a network that is cheaper there, or no answer.
+#[derive(Drop)]
+pub(crate) enum Beyond {
+    Cheaper(Network),
+    Wanting(RangeFault),
+}
+
+/// So far away the network is optimal, and farther away that stands beyond.
+#[derive(Drop)]
+pub(crate) struct Bracket {
+    good: u64,
+    bad: u64,
+    beyond: Beyond,
+}
+
+/// How far away the range ends, and the network that is cheaper a step beyond; none at the limit of the values.
+#[derive(Drop)]
+pub(crate) struct End {
+    pub(crate) away: u64,
+    pub(crate) beyond: Option<Network>,
+}
+
+/// The number nearest to a guess between two others.
+fn between(guess: u64, low: u64, high: u64) -> u64
+    requires { low + 1 < high }
+    ensures above { low < result }
+    ensures below { result < high }
+{
+    if guess <= low {
+        low + 1
+    } else if guess >= high {
+        high - 1
+    } else {
+        guess
+    }
+}
+
+/// How many binary digits a number has.
+fn digits(number: u64) -> u32
+    ensures { result ≤ 64 }
+{
+    64 - number.leading_zeros()
+}
+
+/// A number in the middle of two others by their lengths, and at most half the greater.
+fn middle(low: u64, high: u64) -> u64 {
+    let shift = (digits(low) + digits(high)) / 2;
+    let half = high / 2;
+    if shift < 63 && (1u64 << shift) < half {
+        1u64 << shift
+    } else {
+        half
+    }
+}
+
+impl Bracket {
+    /// Whether the end of the range is told by it, or that none is told.
+    fn is_settled(&self) -> bool
+        requires { self.now.good < self.now.bad }
+        ensures settled { result ≡ true → IsSettled self.now }
+        ensures open { result ≡ false → self.now.good + 1 < self.now.bad }
+    {
+        match &self.beyond {
+            Beyond::Cheaper(_) => self.bad - self.good == 1,
+            Beyond::Wanting(RangeFault::Memory) => true,
+            Beyond::Wanting(_) => self.bad / 2 <= self.good,
+        }
+    }
+}
+
+impl<'a> Case<'a> {
+    /// Where to look next: where the lines of the two networks meet, or, where no answer came, between by length.
+    fn next(&self, side: Side, bracket: &Bracket) -> u64
+        requires is_bracket { IsBracket self.now side bracket.now }
+        requires open { bracket.now.good + 1 < bracket.now.bad }
+        ensures above { bracket.now.good < result }
+        ensures below { result < bracket.now.bad }
+    {
+        let guess = match &bracket.beyond {
+            Beyond::Cheaper(network) => match self.meeting(side, network) {
+                Some(away) => away,
+                None => middle(bracket.good, bracket.bad),
+            },
+            Beyond::Wanting(_) => middle(bracket.good, bracket.bad),
+        };
+        between(guess, bracket.good, bracket.bad)
+    }
+
+    /// The bracket after one more search.
+    fn narrowed(&self, side: Side, bracket: Bracket) -> Bracket
+        requires is_bracket { IsBracket self.now side bracket }
+        requires open { bracket.good + 1 < bracket.bad }
+        ensures is_bracket { IsBracket self.now side result }
+        ensures narrower { result.bad - result.good < bracket.bad - bracket.good }
+    {
+        let next = self.next(side, &bracket);
+        match self.probe_at(side, next) {
+            Ok(None) => Bracket {
+                good: next,
+                bad: bracket.bad,
+                beyond: bracket.beyond,
+            },
+            Ok(Some(network)) => Bracket {
+                good: bracket.good,
+                bad: next,
+                beyond: Beyond::Cheaper(network),
+            },
+            Err(fault) => Bracket {
+                good: bracket.good,
+                bad: next,
+                beyond: Beyond::Wanting(fault),
+            },
+        }
+    }
+
+    /// What a bracket tells.
+    fn told(&self, side: Side, bracket: Bracket) -> Result<End, RangeFault>
+        requires is_bracket { IsBracket self.now side bracket }
+        requires settled { IsSettled bracket }
+        ensures end { IfOk result (IsEnd self.now side) }
+        ensures refusal { IfErr result (IsRefusal self.now.problem self.now.spot self.now.network self.now.budget) }
+    {
+        best_between();
+        let away = bracket.good;
+        let beyond = bracket.beyond;
+        match beyond {
+            Beyond::Cheaper(network) => Ok(End {
+                away,
+                beyond: Some(network),
+            }),
+            Beyond::Wanting(fault) => Err(fault),
+        }
+    }
+
+    fn narrow(&self, side: Side, bracket: Bracket) -> Result<End, RangeFault>
+        requires { IsBracket self.now side bracket }
+        ensures end { IfOk result (IsEnd self.now side) }
+        ensures refusal { IfErr result (IsRefusal self.now.problem self.now.spot self.now.network self.now.budget) }
+    {
+        let mut bracket = bracket;
+        'narrowing: loop {
+            if bracket.is_settled() {
+                return self.told(side, bracket);
+            }
+            bracket = self.narrowed(side, bracket);
+        }
+    }
+
+    /// The end of the range on this side, where the network is optimal now: the limit of the values is looked at first.
+    pub(crate) fn end(&self, side: Side) -> Result<End, RangeFault>
+        requires { IsBestAt self.now.problem self.now.spot self.now.network (value_at self.now.problem self.now.spot) }
+        ensures end { IfOk result (IsEnd self.now side) }
+        ensures refusal { IfErr result (IsRefusal self.now.problem self.now.spot self.now.network self.now.budget) }
+    {
+        self.is_known();
+        let room = self.room(side);
+        if room == 0 {
+            return Ok(End {
+                away: 0,
+                beyond: None,
+            });
+        }
+        match self.probe_at(side, room) {
+            Ok(None) => Ok(End {
+                away: room,
+                beyond: None,
+            }),
+            Ok(Some(network)) => self.narrow(
+                side,
+                Bracket {
+                    good: 0,
+                    bad: room,
+                    beyond: Beyond::Cheaper(network),
+                },
+            ),
+            Err(fault) => self.narrow(
+                side,
+                Bracket {
+                    good: 0,
+                    bad: room,
+                    beyond: Beyond::Wanting(fault),
+                },
+            ),
+        }
+    }
+}
