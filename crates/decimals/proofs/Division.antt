@@ -1,0 +1,66 @@
+-- A number that is divided by the parts of a product one after another.
+use Rattle.std.proofs.Common.{◌≡◌, ◌<◌, ◌≤◌, ◌+◌, ◌*◌, ◌/◌, ◌%◌, ◌^◌, ◌==◌, ◌&&◌, ℕ, Bool, true, false, refl, sym, ap, ◌∙◌, arith}
+use Rattle.std.specs.Prelude.{ℤ, pos, unsigned_abs, int_lt, Result, Ok, Err, OnOk}
+use Rattle.decimals.specs.Decimal.{rounded_text, decimal_text}
+use Rattle.std.proofs.lemmas.Bool.{eq-eqb, ne_eqb, eqb-true, eqb-false}
+use Rattle.std.proofs.Math.Nat.{div-div-eq-div-mul, add-mul-div_right, mul-div-mul_right, mul-div_cancel, mul-mod_left, le-mul_of_pos_right, one-le-pow}
+use Rattle.std.proofs.Math.Arith.{mod-mul}
+
+-- rounded over a product, as rounded over one part of what is left by the others
+pub rounded_by_parts : (a k h d : ℕ) → 0 < k → 0 < h → 0 < d → (2 * (a * k) + 2 * k * h * d) / (2 * (2 * k * h * d)) ≡ (a / d + h) / (2 * h)
+rounded_by_parts a k h d pk ph pd =
+    let top : 2 * (a * k) + 2 * k * h * d ≡ (a + h * d) * (2 * k) = omega arith in
+    let bottom : 2 * (2 * k * h * d) ≡ (d * (2 * h)) * (2 * k) = omega arith in
+    (λ i. top i / bottom i)
+    ∙ mul-div-mul_right (a + h * d) (d * (2 * h)) (omega arith)
+    ∙ sym (div-div-eq-div-mul (a + h * d) d (2 * h))
+    ∙ ap (λ n. n / (2 * h)) (add-mul-div_right a h pd)
+
+-- a rest of a product is none exactly where neither part leaves one
+pub exact_by_parts : (a k h d : ℕ) → 0 < k → 0 < h → 0 < d → (a * k % (2 * k * h * d) == 0) ≡ (a % d == 0 && (a / d) % (2 * h) == 0)
+exact_by_parts a k h d pk ph pd =
+    let order : 2 * k * h * d ≡ ((2 * h) * d) * k = omega arith in
+    ap (λ n. n == 0)
+    (ap (λ n. a * k % n) order
+    ∙ mod-mul (a * k) (mul_pos (2 * h) d (omega arith) pd) pk
+    ∙ (λ i. (mul-div_cancel a pk i % ((2 * h) * d)) * k + mul-mod_left a k i)
+    ∙ rest (a % ((2 * h) * d)) k
+    ∙ ap (λ n. n * k) (mod-mul a (omega arith) pd))
+    ∙ at ((a / d) % (2 * h)) (a % d) d k pd pk
+  where
+    mul_pos : (x y : ℕ) → 0 < x → 0 < y → 0 < x * y
+    mul_pos x y p q = let l : x ≤ x * y = le-mul_of_pos_right x q in omega (arith, l)
+
+    rest : (x k : ℕ) → x * k + 0 ≡ x * k
+    rest x k = omega arith
+
+    at : (q r d k : ℕ) → 0 < d → 0 < k → ((q * d + r) * k == 0) ≡ (r == 0 && q == 0)
+    at q r d k pd pk = by (r == 0) refl (q == 0) refl
+      where
+        grows : (q * d + r) ≤ (q * d + r) * k
+        grows = le-mul_of_pos_right (q * d + r) pk
+
+        some : q ≤ q * d
+        some = le-mul_of_pos_right q pd
+
+        by : (b : Bool) → (r == 0) ≡ b → (e : Bool) → (q == 0) ≡ e → ((q * d + r) * k == 0) ≡ (b && e)
+        by true f true g =
+            let r0 : r ≡ 0 = eqb-true r 0 f in
+            let q0 : q ≡ 0 = eqb-true q 0 g in
+            eq-eqb ((q * d + r) * k) 0 (rw (r0, q0) (omega arith))
+        by true f false g = ne_eqb ((q * d + r) * k) 0 (λ n. absurd (eqb-false q 0 g (omega (arith, grows, some, n))))
+        by false f e g = ne_eqb ((q * d + r) * k) 0 (λ n. absurd (eqb-false r 0 f (omega (arith, grows, some, n))))
+
+pub power_positive : (k : ℕ) → 0 < 10 ^ k
+power_positive k = let l : 1 ≤ 10 ^ k = one-le-pow k 10 (omega arith) in l
+
+pub quotient_text : (k h : ℕ) (num : ℤ) (d : ℕ) (exact : Bool) (n : ℕ) → 0 < h → 0 < d → exact ≡ (unsigned_abs num % d == 0 && (unsigned_abs num / d) % (2 * h) == 0) → n ≡ (unsigned_abs num / d + h) / (2 * h)
+    → rounded_text k exact (int_lt num (pos 0)) n ≡ decimal_text k num (2 * 10 ^ k * h * d)
+quotient_text k h num d exact n ph pd e f = λ i.
+    rounded_text k ((e ∙ sym (exact_by_parts (unsigned_abs num) (10 ^ k) h d (power_positive k) ph pd)) i) (int_lt num (pos 0))
+    ((f ∙ sym (rounded_by_parts (unsigned_abs num) (10 ^ k) h d (power_positive k) ph pd)) i)
+
+-- what follows of a result
+pub on_ok : {A E : Type 0} (r : Result A E) (P Q : Type 0) → (P → Q) → OnOk r P → OnOk r Q
+on_ok (Ok v) P Q more h = more h
+on_ok (Err e) P Q more h = tt

@@ -1,0 +1,25 @@
+-- A fraction in decimal, with at most so many places behind the point. It is rounded to the nearest number that has these places,
+-- halves away from 0. A `~` stands in front exactly where that is another number, and then a `-` where it is below 0: so a text
+-- without `~` is the fraction, and there is no `-0`. Zeros at the end are not written.
+use Rattle.std.specs.Prelude.{◌==◌, ◌&&◌, ◌+◌, ◌*◌, ◌/◌, ◌%◌, ◌^◌, ◌++◌, ℕ, Bool, not, List, [], ◌∷◌, ℤ, pos, unsigned_abs, int_lt, decimal, if◌then◌else◌}
+use Rattle.text_rules.specs.Printed.{places}
+
+-- so many last places, as a whole number: num / den times 10^k without its sign, rounded
+abbrev pub rounded : ℕ → ℤ → ℕ → ℕ
+rounded k num den = (2 * (unsigned_abs num * 10 ^ k) + den) / (2 * den)
+
+-- whether nothing was rounded
+abbrev pub is_exact : ℕ → ℤ → ℕ → Bool
+is_exact k num den = unsigned_abs num * 10 ^ k % den == 0
+
+-- n over 10^k
+abbrev pub scaled_text : ℕ → ℕ → List ℕ
+scaled_text k n = decimal (n / 10 ^ k) ++ (if n % 10 ^ k == 0 then [] else 46 ∷ places k (n % 10 ^ k))
+
+-- the same with the mark of what was rounded and the sign, of which 0 has none
+abbrev pub rounded_text : ℕ → Bool → Bool → ℕ → List ℕ
+rounded_text k exact negative n = (if exact then [] else 126 ∷ []) ++ (if negative && not (n == 0) then 45 ∷ [] else []) ++ scaled_text k n
+
+-- num over den, which is above 0, with k places
+abbrev pub decimal_text : ℕ → ℤ → ℕ → List ℕ
+decimal_text k num den = rounded_text k (is_exact k num den) (int_lt num (pos 0)) (rounded k num den)
