@@ -1,4 +1,4 @@
-mod FlowLemmas
-mod RateLemmas
+pub mod FlowLemmas
+pub mod RateLemmas
 mod RowLemmas
 mod SizeLemmas

@@ -34,8 +34,8 @@ fn difference(made: i64, used: i64) -> i64
     made - used
 }
 
-/// The rate at which the unit makes the material, less the rate at which it uses it.
-fn rate_at(problem: &Problem, j: u32, u: u32) -> i64
+/// The rate at which the unit makes the material, less the rate at which it uses it, in millionths.
+pub fn rate_at(problem: &Problem, j: u32, u: u32) -> i64
     requires { u < length problem.now.units }
     ensures { result ≡ rate_of problem.now j u }
 {
@@ -75,7 +75,7 @@ fn with_unit(made: i128, rate: i64, size: i128) -> i128
 
 /// What the network makes of the material less what it uses of it, in 10^-12 over its `d`. All sums are in range where they were
 /// when its flows were judged.
-pub(crate) fn flow_of(problem: &Problem, network: &Network, j: u32) -> i128
+pub fn flow_of(problem: &Problem, network: &Network, j: u32) -> i128
     requires known { (u : ℕ) → has network.now.units u ≡ true → u < length problem.now.units }
     requires steps { AreInRange (balance_steps (net_of problem.now) (size_in network.now) j (units_at (net_of problem.now) (has network.now.units) j) (pos 0)) }
     ensures value { result ≡ balance (net_of problem.now) (has network.now.units) (size_in network.now) j }

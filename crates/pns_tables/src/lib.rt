@@ -2,7 +2,8 @@
 //! materials with what is left over of each.
 //!
 //! [`unit_table`] and [`material_table`] give the bytes that `specs/Table` says, in the words of `csv` itself. All sums are those by
-//! which the flows of a network are judged, so that none leaves the range where they were.
+//! which the flows of a network are judged, so that none leaves the range where they were. The numbers of other texts on a network
+//! come from [`size_at`], [`rate_at`] and [`flow_of`] too.
 //!
 //! Modules: `rows`, records by the writer of `csv`; `sizes` and `flows`, the numbers; `units` and `materials`, the tables.
 #![tactic(auto)]
@@ -13,5 +14,7 @@ mod rows;
 mod sizes;
 mod units;
 
+pub use flows::{flow_of, rate_at};
 pub use materials::material_table;
+pub use sizes::size_at;
 pub use units::unit_table;

@@ -9,7 +9,7 @@ use frac128::Frac;
 use std::alloc::{AllocError, Global};
 
 /// The size of a unit, 0 where it is not in the network, in millionths over the network's `d`.
-pub(crate) fn size_at(network: &Network, u: u32) -> i128
+pub fn size_at(network: &Network, u: u32) -> i128
     ensures value { result ≡ size_in network.now u }
     ensures in_range { InRange result }
 {

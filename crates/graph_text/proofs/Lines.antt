@@ -1,0 +1,71 @@
+-- Lines that are appended one after another.
+use Rattle.std.proofs.Common.{◌≡◌, ℕ, Bool, true, false, List, [], ◌∷◌, ◌++◌, map, refl, sym, ap, ◌∙◌, append_assoc, append-nil, codes}
+use Rattle.std.specs.Prelude.{flat_map, if◌then◌else◌, Result, Ok, Err, OnOk}
+use Rattle.pns_problem.specs.Printing.{printed}
+use Rattle.graph_text.specs.Graph.{node_line}
+use Rattle.pns_problem.proofs.PrintingLemmas.{after}
+
+pub printed-append : (xs ys : List (List ℕ)) → printed (xs ++ ys) ≡ printed xs ++ printed ys
+printed-append [] ys = refl
+printed-append (x ∷ xs) ys = ap (λ t. (x ++ 10 ∷ []) ++ t) (printed-append xs ys) ∙ sym (append_assoc (x ++ 10 ∷ []) (printed xs) (printed ys))
+
+-- three pieces and four
+pub after_three : (old t1 t2 t3 x y z : List ℕ) → t1 ≡ old ++ x → t2 ≡ t1 ++ y → t3 ≡ t2 ++ z → t3 ≡ old ++ (x ++ (y ++ z))
+after_three old t1 t2 t3 x y z e f g = after old t1 t3 x (y ++ z) e (after t1 t2 t3 y z f g)
+
+pub after_four : (old t1 t2 t3 t4 x y z v : List ℕ) → t1 ≡ old ++ x → t2 ≡ t1 ++ y → t3 ≡ t2 ++ z → t4 ≡ t3 ++ v → t4 ≡ old ++ (x ++ (y ++ (z ++ v)))
+after_four old t1 t2 t3 t4 x y z v e f g h = after old t1 t4 x (y ++ (z ++ v)) e (after_three t1 t2 t3 t4 y z v f g h)
+
+-- what stands where a test holds
+pub where_true : (b : Bool) (x : List ℕ) → b ≡ true → x ≡ (if b then x else [])
+where_true true x e = refl
+where_true false x e = let f : false ≡ true = e in cc
+
+-- what follows of a result
+pub on_ok : {A E : Type 0} (r : Result A E) (P Q : Type 0) → (P → Q) → OnOk r P → OnOk r Q
+on_ok (Ok v) P Q more h = more h
+on_ok (Err e) P Q more h = tt
+
+-- the lines to come finish the text: one line of them, and some
+pub next_line : (line : ℕ → List ℕ) (left rest : List ℕ) (k : ℕ) (whole text t1 t2 : List ℕ) → left ≡ k ∷ rest → t1 ≡ text ++ line k → t2 ≡ t1 ++ 10 ∷ [] → text ++ printed (map line left) ≡ whole → t2 ++ printed (map line rest) ≡ whole
+next_line line left rest k whole text t1 t2 e f g h =
+    ap (λ (t : List ℕ). t ++ printed (map line rest)) (after text t1 t2 (line k) (10 ∷ []) f g)
+    ∙ append_assoc text (line k ++ 10 ∷ []) (printed (map line rest))
+    ∙ ap (λ (ks : List ℕ). text ++ printed (map line ks)) (sym e) ∙ h
+
+pub next_lines : (lines : ℕ → List (List ℕ)) (left rest : List ℕ) (k : ℕ) (whole text t1 : List ℕ) → left ≡ k ∷ rest → t1 ≡ text ++ printed (lines k) → text ++ printed (flat_map lines left) ≡ whole → t1 ++ printed (flat_map lines rest) ≡ whole
+next_lines lines left rest k whole text t1 e f h =
+    ap (λ (t : List ℕ). t ++ printed (flat_map lines rest)) f
+    ∙ append_assoc text (printed (lines k)) (printed (flat_map lines rest))
+    ∙ ap (λ (t : List ℕ). text ++ t) (sym (printed-append (lines k) (flat_map lines rest)))
+    ∙ ap (λ (ks : List ℕ). text ++ printed (flat_map lines ks)) (sym e) ∙ h
+
+-- all parts of a text
+pub parts_printed : (a b c d e : List (List ℕ)) (old t1 t2 t3 t4 t5 : List ℕ) → t1 ≡ old ++ printed a → t2 ≡ t1 ++ printed b → t3 ≡ t2 ++ printed c → t4 ≡ t3 ++ printed d → t5 ≡ t4 ++ printed e
+    → t5 ≡ old ++ printed (a ++ (b ++ (c ++ (d ++ e))))
+parts_printed a b c d e old t1 t2 t3 t4 t5 pa pb pc pd pe =
+    after old t1 t5 (printed a) (printed b ++ (printed c ++ (printed d ++ printed e))) pa (after_four t1 t2 t3 t4 t5 (printed b) (printed c) (printed d) (printed e) pb pc pd pe)
+    ∙ ap (λ (t : List ℕ). old ++ t) (sym (printed-append a (b ++ (c ++ (d ++ e)))
+    ∙ ap (λ (t : List ℕ). printed a ++ t) (printed-append b (c ++ (d ++ e))
+    ∙ ap (λ (t : List ℕ). printed b ++ t) (printed-append c (d ++ e)
+    ∙ ap (λ (t : List ℕ). printed c ++ t) (printed-append d e)))))
+
+-- a line of three pieces
+pub line_end : (x y z : List ℕ) → x ++ (y ++ (z ++ 10 ∷ [])) ≡ printed ((x ++ (y ++ z)) ∷ [])
+line_end x y z =
+    ap (λ (t : List ℕ). x ++ t) (sym (append_assoc y z (10 ∷ [])))
+    ∙ sym (append_assoc x (y ++ z) (10 ∷ []))
+    ∙ sym (append-nil ((x ++ (y ++ z)) ++ 10 ∷ []))
+
+-- a node from its pieces
+pub node_line_of : (old t1 t2 t3 t4 t5 t6 t7 t8 which name flow look : List ℕ) → t1 ≡ old ++ 32 ∷ 32 ∷ [] → t2 ≡ t1 ++ which → t3 ≡ t2 ++ codes " [label=\"" → t4 ≡ t3 ++ name → t5 ≡ t4 ++ flow
+    → t6 ≡ t5 ++ 34 ∷ 44 ∷ 32 ∷ [] → t7 ≡ t6 ++ look → t8 ≡ t7 ++ 93 ∷ 59 ∷ [] → t8 ≡ old ++ node_line which (name ++ flow) look
+node_line_of old t1 t2 t3 t4 t5 t6 t7 t8 which name flow look e1 e2 e3 e4 e5 e6 e7 e8 =
+    let end : List ℕ = 34 ∷ 44 ∷ 32 ∷ (look ++ 93 ∷ 59 ∷ []) in
+    let opened = codes " [label=\"" in
+    after old t1 t8 (32 ∷ 32 ∷ []) (which ++ (opened ++ (name ++ (flow ++ end)))) e1
+    (after t1 t2 t8 which (opened ++ (name ++ (flow ++ end))) e2
+    (after t2 t3 t8 opened (name ++ (flow ++ end)) e3
+    (after t3 t4 t8 name (flow ++ end) e4
+    (after t4 t5 t8 flow end e5 (after_three t5 t6 t7 t8 (34 ∷ 44 ∷ 32 ∷ []) look (93 ∷ 59 ∷ []) e6 e7 e8)))))
+    ∙ ap (λ (t : List ℕ). old ++ 32 ∷ 32 ∷ (which ++ (opened ++ t))) (sym (append_assoc name flow end))

@@ -1,0 +1,41 @@
+//! Nodes between quotes, and their looks.
+ghost use Rattle.std.specs.Prelude.{◌≡◌, ◌++◌, OnOk, string_bytes};
+ghost use Rattle.pns_problem.specs.Kind.{kind_of};
+ghost use Rattle.graph_text.specs.Graph.{node, shape_words, shade};
+
+use pns_problem::Kind;
+use std::alloc::AllocError;
+
+/// The node of a name of a sort.
+pub(crate) fn push_node(text: &mut String, word: &str, name: &str) -> Result<(), AllocError>
+    ensures { OnOk result (string_bytes text.new ≡ string_bytes text.old ++ node word.now name.now) }
+{
+    text.push('"')?;
+    text.push_str(word)?;
+    text.push(' ')?;
+    text.push_str(name)?;
+    text.push('"')?;
+    Ok(())
+}
+
+/// The shape of a material.
+pub(crate) fn shape(kind: Kind) -> &'static str
+    ensures { result.now ≡ shape_words (kind_of kind) }
+{
+    match kind {
+        Kind::RawMaterial => "shape=invhouse",
+        Kind::Intermediate => "shape=ellipse",
+        Kind::Product => "shape=ellipse, peripheries=2",
+    }
+}
+
+/// The colours of a material that is not drawn with the network.
+pub(crate) fn shade(drawn: bool) -> &'static str
+    ensures { result.now ≡ shade drawn }
+{
+    if drawn {
+        ""
+    } else {
+        ", color=gray75, fontcolor=gray60"
+    }
+}
