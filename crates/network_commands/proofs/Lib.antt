@@ -1,2 +1,3 @@
+mod GraphLines
 mod Refusals
 mod TableLines

@@ -1,2 +1,4 @@
+pub mod Graph
 pub mod Network
 pub mod Table
+pub mod Texts

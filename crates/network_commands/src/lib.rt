@@ -1,12 +1,17 @@
-//! The commands that begin with the claimed network of a tree file: `table`.
+//! The commands that tell a claimed network, and the graph that it lies in: `table` and `graph`.
 //!
-//! Each reads a problem and a tree, of which the claim's lines alone are judged, and its contract says which text is out with which
-//! status. `specs/Network` has what all of them say of a claim that is refused, and a file of `specs` for each has its text.
+//! Each reads a problem, and all but `graph FILE` a tree, of which the claim's lines alone are judged. Its contract says which text is
+//! out with which status. `specs/Network` has what all of them say of a claim that is refused, and a file of `specs` for each has its
+//! text.
 //!
-//! Modules: `claim`, which gives the network of a claim or refuses it; `table`.
+//! Modules: `claim`, which gives the network of a claim or refuses it; `network`, the way from the files to the text of a network;
+//! `table` and `graph`.
 #![tactic(auto)]
 
 mod claim;
+pub mod graph;
+mod network;
 pub mod table;
 
 pub use claim::network_of;
+pub use network::NetworkText;

@@ -4,19 +4,16 @@ ghost use Rattle.pns_io.specs.Outside.{HasRisen};
 ghost use Rattle.pns_rules.specs.Shape.{shape_of};
 ghost use Rattle.pgraph.specs.Tables.{shape};
 ghost use Rattle.tree_rules.specs.Claim.{IsFeasible};
-ghost use Rattle.branch_tree.specs.View.{claim_of};
 ghost use Rattle.endings.specs.Lines.{text_of};
 ghost use Rattle.command_files.specs.Reading.{OnFile};
 ghost use Rattle.command_files.specs.TreeFile.{OnTree};
 ghost use Rattle.network_commands.specs.Network.{OnNetwork};
 ghost use Rattle.network_commands.specs.Table.{AreTables, TableWork};
-ghost use Rattle.endings.specs.Ending.{Ends, Says, Tells};
+ghost use Rattle.endings.specs.Ending.{Ends, Says};
 
-use crate::claim::network_of;
-use branch_tree::{Claim, Network, Tree};
-use command_files::{problem_of, tree_of};
+use crate::network::{NetworkText, say_of_network};
+use branch_tree::Network;
 use endings::Status;
-use endings::say::{say_memory, say_text};
 use pgraph::Graph;
 use pns_io::{Shelf, Sink};
 use pns_problem::Problem;
@@ -24,7 +21,7 @@ use pns_tables::{material_table, unit_table};
 use std::alloc::{AllocError, Global};
 
 /// The two tables, with an empty line between them.
-fn tables(
+pub(crate) fn tables(
     alloc: Global,
     problem: &Problem,
     graph: &Graph,
@@ -42,57 +39,6 @@ fn tables(
     Ok(bytes)
 }
 
-fn say_tables<K: Sink>(
-    alloc: Global,
-    out: &mut K,
-    problem: &Problem,
-    graph: &Graph,
-    network: &Network,
-) -> Status
-    requires graph { shape graph.now ≡ shape_of problem.now }
-    requires feasible { IsFeasible problem.now network.now }
-    ensures { Ends (Tells (TableWork problem.now network.now)) (HasRisen (K.faults out.old) (K.faults out.new)) (K.written out.old) (K.written out.new) result }
-{
-    match tables(alloc, problem, graph, network) {
-        Ok(bytes) => say_text(out, &bytes, Status::Done),
-        Err(_) => say_memory(out),
-    }
-}
-
-fn say_claimed<K: Sink>(
-    alloc: Global,
-    out: &mut K,
-    problem: &Problem,
-    claim: Claim,
-    tree: &Tree,
-) -> Status
-    ensures { Ends (Tells (OnNetwork TableWork problem.now (claim_of claim) tree.now)) (HasRisen (K.faults out.old) (K.faults out.new)) (K.written out.old) (K.written out.new) result }
-{
-    let Ok(graph) = Graph::of(alloc, problem) else {
-        return say_memory(out);
-    };
-    match network_of(alloc, out, problem, &graph, claim) {
-        Ok(network) => say_tables(alloc, out, problem, &graph, &network),
-        Err(status) => status,
-    }
-}
-
-fn say_tree<F: Shelf, K: Sink>(
-    alloc: Global,
-    problem: &Problem,
-    name: &str,
-    shelf: &mut F,
-    out: &mut K,
-) -> Status
-    ensures { Ends (Says (OnTree (OnNetwork TableWork) (F.held shelf.old) name.now problem.now) (λ other. other ≡ name.now) (record { held = F.held shelf.old; before = F.faults shelf.old; after = F.faults shelf.new }))
-        (HasRisen (K.faults out.old) (K.faults out.new)) (K.written out.old) (K.written out.new) result }
-{
-    match tree_of(alloc, shelf, out, name, problem) {
-        Ok((claim, tree)) => say_claimed(alloc, out, problem, claim, &tree),
-        Err(status) => status,
-    }
-}
-
 /// Says the network that the tree of the one file claims on the problem of the other as two tables.
 pub fn table<F: Shelf, K: Sink>(
     alloc: Global,
@@ -104,8 +50,5 @@ pub fn table<F: Shelf, K: Sink>(
     ensures { Ends (Says (OnFile (OnTree (OnNetwork TableWork) (F.held shelf.old) tree.now) (F.held shelf.old) file.now) (λ other. (other ≡ file.now) ⊎ (other ≡ tree.now)) (record { held = F.held shelf.old; before = F.faults shelf.old; after = F.faults shelf.new }))
         (HasRisen (K.faults out.old) (K.faults out.new)) (K.written out.old) (K.written out.new) result }
 {
-    match problem_of(alloc, shelf, out, file) {
-        Ok(problem) => say_tree(alloc, &problem, tree, shelf, out),
-        Err(status) => status,
-    }
+    say_of_network(alloc, NetworkText::Table, file, tree, shelf, out)
 }

@@ -1,19 +1,19 @@
 use Rattle.std.proofs.Common.{◌∙◌, [], refl, inl, ℕ, List, codes}
 use Rattle.endings.specs.Lines.{line}
-use Rattle.network_commands.specs.Table.{TableWork}
+use Rattle.network_commands.specs.Texts.{TextWork}
 use Rattle.endings.specs.Ending.{Tells}
 use Rattle.endings.specs.declared.status.Status.{Status}
 use Rattle.endings.specs.declared.status.Status.TheVariants.{Done, Memory}
 use Rattle.endings.proofs.Ending.{Ends-map, only_in}
-use Rattle.network_commands.proofs.table.say_tables.Goals as goal
+use Rattle.network_commands.proofs.network.say_network.Goals as goal
 
 pub returns-in-Ok : goal.returns-in-Ok
 returns-in-Ok g c =
-    let Q : Status → List ℕ → Type 0 = Tells (TableWork c.args.problem.now c.args.network.now) in
+    let Q : Status → List ℕ → Type 0 = Tells (TextWork c.args.what c.args.problem.now c.args.network.now) in
     let told = c.in-Ok.ensures in
     Ends-map _ Q _ _ _ _ _ (only_in Q Done c.deref.result.now (told.0, told.1, c.deref.ensures.value ∙ told.2)) (λ r. r) c.say_text.ensures
 
 pub returns-in-Err : goal.returns-in-Err
 returns-in-Err g c =
-    let Q : Status → List ℕ → Type 0 = Tells (TableWork c.args.problem.now c.args.network.now) in
+    let Q : Status → List ℕ → Type 0 = Tells (TextWork c.args.what c.args.problem.now c.args.network.now) in
     Ends-map _ Q _ _ _ _ _ (only_in Q Memory (line (codes "memory")) ([], inl refl, refl)) (λ r. r) c.say_memory.ensures

@@ -1,0 +1,28 @@
+use Rattle.std.proofs.Common.{◌≡◌, ◌<◌, ◌∙◌, refl, inl, inr, sym, subst, ℕ, List, Option, length, option_map}
+use Rattle.number_sets.specs.Sets.{has}
+use Rattle.problem_rules.specs.Problem.{Problem}
+use Rattle.pns_rules.specs.Shape.{Shape, shape_of}
+use Rattle.pgraph.specs.Tables.{shape}
+use Rattle.tree_rules.specs.Claim.{Network}
+use Rattle.structure_commands.proofs.Maximal.{maximal_from, none_from}
+use Rattle.graph_text.specs.Graph.{graph_lines, empty_lines}
+use Rattle.network_commands.proofs.GraphLines.{graph_told, empty_told}
+use Rattle.network_commands.proofs.graph.drawn.Goals as goal
+
+pub graph_of-requires-clause-known : goal.graph_of-requires-clause-known
+graph_of-requires-clause-known c u h =
+    (maximal_from (shape c.args.graph.now) (shape_of c.args.problem.now) c.empty.result c.in-Some.units c.requires.graph c.empty.ensures c.in-Some.ensures.union c.in-Some.ensures.structure).structure.s3 u h
+
+pub returns-in-Some : goal.returns-in-Some
+returns-in-Some c =
+    let p = c.args.problem.now in
+    graph_told (λ v. v.items) p (option_map (λ n. n.now) c.args.network) (has c.in-Some.units) c.graph_of.result
+    (maximal_from (shape c.args.graph.now) (shape_of p) c.empty.result c.in-Some.units c.requires.graph c.empty.ensures c.in-Some.ensures.union c.in-Some.ensures.structure)
+    c.graph_of.ensures
+
+pub returns-in-None : goal.returns-in-None
+returns-in-None c =
+    let p = c.args.problem.now in
+    empty_told (λ v. v.items) p (option_map (λ n. n.now) c.args.network) c.empty_graph.result
+    (none_from (shape c.args.graph.now) (shape_of p) c.empty.result c.requires.graph c.empty.ensures c.in-None.ensures.none)
+    c.empty_graph.ensures

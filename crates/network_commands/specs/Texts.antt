@@ -1,0 +1,13 @@
+-- What a command says of a claimed network, by what is asked of it.
+use Rattle.std.specs.Prelude.{ℕ, List}
+use Rattle.problem_rules.specs.Problem.{Problem}
+use Rattle.tree_rules.specs.Claim.{Network}
+use Rattle.endings.specs.declared.status.Status.{Status}
+use Rattle.network_commands.specs.declared.network.NetworkText.{NetworkText}
+use Rattle.network_commands.specs.declared.network.NetworkText.TheVariants as texts
+use Rattle.network_commands.specs.Graph.{NetworkGraphWork}
+use Rattle.network_commands.specs.Table.{TableWork}
+
+abbrev pub TextWork : NetworkText → Problem → Network → Status → List (List ℕ) → Type 0
+TextWork texts.Table = TableWork
+TextWork texts.Graph = NetworkGraphWork

@@ -1,0 +1,99 @@
+//! The command `graph`.
+ghost use Rattle.std.specs.Prelude.{◌≡◌, ◌⊎◌, ℕ, List, Some, None, IfOk, IfSome, option_map, true, length};
+ghost use Rattle.number_sets.specs.Sets.{has};
+ghost use Rattle.pns_io.specs.Outside.{HasRisen};
+ghost use Rattle.pns_rules.specs.Shape.{shape_of};
+ghost use Rattle.pgraph.specs.Tables.{shape};
+ghost use Rattle.tree_rules.specs.Claim.{IsFeasible};
+ghost use Rattle.endings.specs.Lines.{text_of};
+ghost use Rattle.command_files.specs.Reading.{OnFile};
+ghost use Rattle.command_files.specs.TreeFile.{OnTree};
+ghost use Rattle.network_commands.specs.Network.{OnNetwork};
+ghost use Rattle.network_commands.specs.Graph.{AreGraphLines, PlantGraphWork, NetworkGraphWork};
+ghost use Rattle.endings.specs.Ending.{Ends, Says, Tells};
+
+use crate::network::{NetworkText, say_of_network};
+use branch_tree::Network;
+use command_files::problem_of;
+use endings::Status;
+use endings::say::{say_memory, say_text};
+use graph_text::{empty_graph, graph_of};
+use max_structure::maximal;
+use pgraph::Graph;
+use pns_io::{Shelf, Sink};
+use pns_problem::Problem;
+use std::alloc::{AllocError, Global};
+use unit_sets::UnitSet;
+
+/// The graph of the maximal structure, and in it the network, where one is given.
+fn drawn(
+    alloc: Global,
+    problem: &Problem,
+    graph: &Graph,
+    network: Option<&Network>,
+) -> Result<Vec<u8>, AllocError>
+    requires graph { shape graph.now ≡ shape_of problem.now }
+    requires feasible { IfSome network (λ n. IsFeasible problem.now n.now) }
+    ensures { IfOk result (λ bytes. (lines : List (List ℕ)) × AreGraphLines problem.now (option_map (λ n. n.now) network.entry) lines × (bytes.items ≡ text_of lines)) }
+{
+    match maximal(graph, UnitSet::empty()) {
+        Some(units) => graph_of(alloc, problem, graph, network, units),
+        None => empty_graph(alloc),
+    }
+}
+
+/// The graph with the network in it.
+pub(crate) fn network_graph(
+    alloc: Global,
+    problem: &Problem,
+    graph: &Graph,
+    network: &Network,
+) -> Result<Vec<u8>, AllocError>
+    requires graph { shape graph.now ≡ shape_of problem.now }
+    requires feasible { IsFeasible problem.now network.now }
+    ensures { IfOk result (λ bytes. (lines : List (List ℕ)) × AreGraphLines problem.now (Some network.now) lines × (bytes.items ≡ text_of lines)) }
+{
+    drawn(alloc, problem, graph, Some(network))
+}
+
+fn say_plant<K: Sink>(alloc: Global, out: &mut K, problem: &Problem) -> Status
+    ensures { Ends (Tells (PlantGraphWork problem.now)) (HasRisen (K.faults out.old) (K.faults out.new)) (K.written out.old) (K.written out.new) result }
+{
+    let Ok(graph) = Graph::of(alloc, problem) else {
+        return say_memory(out);
+    };
+    match drawn(alloc, problem, &graph, None) {
+        Ok(bytes) => say_text(out, &bytes, Status::Done),
+        Err(_) => say_memory(out),
+    }
+}
+
+/// Says the graph of the maximal structure of the file's problem, for Graphviz.
+pub fn plant_graph<F: Shelf, K: Sink>(
+    alloc: Global,
+    file: &str,
+    shelf: &mut F,
+    out: &mut K,
+) -> Status
+    ensures { Ends (Says (OnFile PlantGraphWork (F.held shelf.old) file.now) (λ other. other ≡ file.now) (record { held = F.held shelf.old; before = F.faults shelf.old; after = F.faults shelf.new }))
+        (HasRisen (K.faults out.old) (K.faults out.new)) (K.written out.old) (K.written out.new) result }
+{
+    match problem_of(alloc, shelf, out, file) {
+        Ok(problem) => say_plant(alloc, out, &problem),
+        Err(status) => status,
+    }
+}
+
+/// Says the same with the network that the tree of the other file claims on the problem.
+pub fn graph<F: Shelf, K: Sink>(
+    alloc: Global,
+    file: &str,
+    tree: &str,
+    shelf: &mut F,
+    out: &mut K,
+) -> Status
+    ensures { Ends (Says (OnFile (OnTree (OnNetwork NetworkGraphWork) (F.held shelf.old) tree.now) (F.held shelf.old) file.now) (λ other. (other ≡ file.now) ⊎ (other ≡ tree.now)) (record { held = F.held shelf.old; before = F.faults shelf.old; after = F.faults shelf.new }))
+        (HasRisen (K.faults out.old) (K.faults out.new)) (K.written out.old) (K.written out.new) result }
+{
+    say_of_network(alloc, NetworkText::Graph, file, tree, shelf, out)
+}

@@ -1,0 +1,125 @@
+//! The text of the network that a tree file claims.
+ghost use Rattle.std.specs.Prelude.{◌≡◌, ◌⊎◌, ℕ, List, IfOk};
+ghost use Rattle.pns_io.specs.Outside.{HasRisen};
+ghost use Rattle.pns_rules.specs.Shape.{shape_of};
+ghost use Rattle.pgraph.specs.Tables.{shape};
+ghost use Rattle.tree_rules.specs.Claim.{IsFeasible};
+ghost use Rattle.branch_tree.specs.View.{claim_of};
+ghost use Rattle.endings.specs.Lines.{text_of};
+ghost use Rattle.command_files.specs.Reading.{OnFile};
+ghost use Rattle.command_files.specs.TreeFile.{OnTree};
+ghost use Rattle.network_commands.specs.Network.{OnNetwork};
+ghost use Rattle.network_commands.specs.Texts.{TextWork};
+ghost use Rattle.endings.specs.declared.status.Status.TheVariants.{Done};
+ghost use Rattle.endings.specs.Ending.{Ends, Says, Tells};
+
+use crate::claim::network_of;
+use crate::graph::network_graph;
+use crate::table::tables;
+use branch_tree::{Claim, Network, Tree};
+use command_files::{problem_of, tree_of};
+use endings::Status;
+use endings::say::{say_memory, say_text};
+use pgraph::Graph;
+use pns_io::{Shelf, Sink};
+use pns_problem::Problem;
+use std::alloc::{AllocError, Global};
+
+/// What is said of a network.
+#[derive(Clone, Copy, Debug, PartialEq, Eq)]
+pub enum NetworkText {
+    /// Its units and its materials as tables for a spreadsheet.
+    Table,
+    /// The graph with the network in it, for Graphviz.
+    Graph,
+}
+
+/// The text, whole.
+fn text_of(
+    alloc: Global,
+    what: NetworkText,
+    problem: &Problem,
+    graph: &Graph,
+    network: &Network,
+) -> Result<Vec<u8>, AllocError>
+    requires graph { shape graph.now ≡ shape_of problem.now }
+    requires feasible { IsFeasible problem.now network.now }
+    ensures { IfOk result (λ bytes. (lines : List (List ℕ)) × TextWork what problem.now network.now Done lines × (bytes.items ≡ text_of lines)) }
+{
+    match what {
+        NetworkText::Table => tables(alloc, problem, graph, network),
+        NetworkText::Graph => network_graph(alloc, problem, graph, network),
+    }
+}
+
+fn say_network<K: Sink>(
+    alloc: Global,
+    what: NetworkText,
+    out: &mut K,
+    problem: &Problem,
+    graph: &Graph,
+    network: &Network,
+) -> Status
+    requires graph { shape graph.now ≡ shape_of problem.now }
+    requires feasible { IsFeasible problem.now network.now }
+    ensures { Ends (Tells (TextWork what problem.now network.now)) (HasRisen (K.faults out.old) (K.faults out.new)) (K.written out.old) (K.written out.new) result }
+{
+    match text_of(alloc, what, problem, graph, network) {
+        Ok(bytes) => say_text(out, &bytes, Status::Done),
+        Err(_) => say_memory(out),
+    }
+}
+
+fn say_claimed<K: Sink>(
+    alloc: Global,
+    what: NetworkText,
+    out: &mut K,
+    problem: &Problem,
+    claim: Claim,
+    tree: &Tree,
+) -> Status
+    ensures { Ends (Tells (OnNetwork (TextWork what) problem.now (claim_of claim) tree.now)) (HasRisen (K.faults out.old) (K.faults out.new)) (K.written out.old) (K.written out.new) result }
+{
+    let Ok(graph) = Graph::of(alloc, problem) else {
+        return say_memory(out);
+    };
+    match network_of(alloc, out, problem, &graph, claim) {
+        Ok(network) => say_network(alloc, what, out, problem, &graph, &network),
+        Err(status) => status,
+    }
+}
+
+fn say_tree<F: Shelf, K: Sink>(
+    alloc: Global,
+    what: NetworkText,
+    problem: &Problem,
+    name: &str,
+    shelf: &mut F,
+    out: &mut K,
+) -> Status
+    ensures { Ends (Says (OnTree (OnNetwork (TextWork what)) (F.held shelf.old) name.now problem.now) (λ other. other ≡ name.now) (record { held = F.held shelf.old; before = F.faults shelf.old; after = F.faults shelf.new }))
+        (HasRisen (K.faults out.old) (K.faults out.new)) (K.written out.old) (K.written out.new) result }
+{
+    match tree_of(alloc, shelf, out, name, problem) {
+        Ok((claim, tree)) => say_claimed(alloc, what, out, problem, claim, &tree),
+        Err(status) => status,
+    }
+}
+
+/// Says what is asked of the network that the tree of the one file claims on the problem of the other.
+pub(crate) fn say_of_network<F: Shelf, K: Sink>(
+    alloc: Global,
+    what: NetworkText,
+    file: &str,
+    tree: &str,
+    shelf: &mut F,
+    out: &mut K,
+) -> Status
+    ensures { Ends (Says (OnFile (OnTree (OnNetwork (TextWork what)) (F.held shelf.old) tree.now) (F.held shelf.old) file.now) (λ other. (other ≡ file.now) ⊎ (other ≡ tree.now)) (record { held = F.held shelf.old; before = F.faults shelf.old; after = F.faults shelf.new }))
+        (HasRisen (K.faults out.old) (K.faults out.new)) (K.written out.old) (K.written out.new) result }
+{
+    match problem_of(alloc, shelf, out, file) {
+        Ok(problem) => say_tree(alloc, what, &problem, tree, shelf, out),
+        Err(status) => status,
+    }
+}
