@@ -1,3 +1,4 @@
 pub mod GraftLists
+pub mod InTurn
 pub mod MergeLemmas
 pub mod SoundLemmas

@@ -17,7 +17,7 @@ mod tail;
 mod text;
 
 pub use claim::read_network;
-pub use cut::Cut;
+pub use cut::{Cut, line_at};
 pub use fault::TreeFault;
 pub use head::read_head;
 pub use node::read_end;
