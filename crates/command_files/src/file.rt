@@ -11,7 +11,7 @@ use std::alloc::Global;
 
 /// The whole of the file, which may hold so many bytes. Where it can't be read, or holds more, the text that tells so is out,
 /// and the status is that of the call.
-pub(crate) fn bytes_of<F: Shelf, K: Sink>(
+pub fn bytes_of<F: Shelf, K: Sink>(
     alloc: Global,
     shelf: &mut F,
     out: &mut K,

@@ -13,7 +13,8 @@ mod problem_file;
 mod script_file;
 mod tree_file;
 
+pub use file::bytes_of;
 pub use plan_file::plan_of;
 pub use problem_file::problem_of;
 pub use script_file::edited_of;
-pub use tree_file::tree_of;
+pub use tree_file::{tree_kind_word, tree_of};

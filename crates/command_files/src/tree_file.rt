@@ -1,6 +1,7 @@
 //! A tree file: it is read and judged by its grammar.
 ghost use Rattle.std.specs.Prelude.{◌≡◌, ◌≤◌, ◌<◌, ◌^◌, ℕ, List, IfOk, IfErr, OnOk, length, string_bytes};
 ghost use Rattle.pns_io.specs.Outside.{HasRisen};
+ghost use Rattle.branch_tree.specs.Known.{KnowsClaim, KnowsTree};
 ghost use Rattle.branch_tree.specs.View.{claim_of};
 ghost use Rattle.endings.specs.Lines.{line};
 ghost use Rattle.command_files.specs.Reading.{AreHeld};
@@ -22,7 +23,7 @@ use tree_text_rules::TreeKind;
 const TREE_LIMIT: u64 = 268_435_456;
 
 /// The word by which a kind of fault is told.
-fn tree_kind_word(kind: TreeKind) -> &'static str
+pub fn tree_kind_word(kind: TreeKind) -> &'static str
     ensures { result.now ≡ tree_kind_word kind }
 {
     match kind {
@@ -69,7 +70,10 @@ pub fn tree_of<F: Shelf, K: Sink>(
 ) -> Result<(Claim, Tree), Status>
     ensures tree { IfOk result (λ found. (file : List ℕ) × AreHeld (F.held shelf.old name.now) file × GivesTree problem.now file (claim_of found.0) found.1) }
     ensures few { IfOk result (λ found. length found.1 < 2 ^ 32) }
+    ensures known { IfOk result (λ found. KnowsClaim problem.now (claim_of found.0) × KnowsTree problem.now found.1) }
     ensures silent { OnOk result (out.new ≡ out.old) }
+    ensures later { (other : List ℕ) → F.faults shelf.old other ≤ F.faults shelf.new other }
+    ensures keeps { (other : List ℕ) → F.held shelf.new other ≡ F.held shelf.old other }
     ensures told { IfErr result (Ends (Says (TreeFaults (F.held shelf.old) name.now problem.now) (λ other. other ≡ name.now) (record { held = F.held shelf.old; before = F.faults shelf.old; after = F.faults shelf.new }))
         (HasRisen (K.faults out.old) (K.faults out.new)) (K.written out.old) (K.written out.new)) }
 {
