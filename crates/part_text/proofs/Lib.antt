@@ -1,0 +1,3 @@
+mod Printed
+mod Reading
+pub mod Tokens

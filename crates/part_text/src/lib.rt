@@ -1,0 +1,15 @@
+//! The text PNS_part_v1 of a part: the node where its run began, by the tokens of the units that are taken in and of those that are
+//! left out, and behind these what a tree text has behind its first line.
+//!
+//! [`print_part`] writes the one text of a part, and [`read_part`] gives the part that a text stands for, or its first fault.
+//! `specs/Spelling` has the text, and `specs/Read` what a text stands for. Modules: `print`; `set`, the sets of units that tokens and
+//! lines stand for; `read`.
+#![tactic(auto)]
+
+mod print;
+mod read;
+mod set;
+
+pub use print::print_part;
+pub use read::read_part;
+pub use set::units_named;

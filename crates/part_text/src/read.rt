@@ -1,0 +1,90 @@
+//! Whole texts.
+ghost use Rattle.std.specs.Prelude.{◌≡◌, ◌≤◌, ◌<◌, ◌-◌, ◌^◌, ◌∷◌, [], ℕ, List, suc, Ok, IfOk, IfErr, codes, length};
+ghost use Rattle.branch_tree.specs.Known.{AreUnits};
+ghost use Rattle.tree_tokens.specs.View.{line_of};
+ghost use Rattle.tree_reading.specs.Place.{IsCut, lines_at};
+ghost use Rattle.tree_parts.specs.Part.{IsApart};
+ghost use Rattle.part_text.specs.Lines.{IsTaken, IsFaultAt};
+ghost use Rattle.part_text.specs.Read.{SetLine, PartReads, is_file_type};
+ghost use Rattle.part_text.specs.Spelling.{KnowsPart};
+ghost use Rattle.part_text.specs.Tells.{TellsPart};
+
+use crate::set::set_line;
+use pns_problem::Problem;
+use std::alloc::Global;
+use tree_parts::Part;
+use tree_reading::{Cut, TreeFault, line_at, read_rest};
+use tree_text_rules::TreeKind;
+use tree_tokens::Line;
+use unit_sets::{Node, UnitSet};
+
+fn is_file_type(line: &Line) -> bool
+    ensures { result ≡ is_file_type (line_of line.now) }
+{
+    line.ended && line.text == b"file_type=PNS_part_v1".as_slice()
+}
+
+// The set of units of the line at the cut, and the cut behind it.
+fn set_at(
+    problem: &Problem,
+    before: UnitSet,
+    word: &[u8],
+    bytes: &[u8],
+    cut: Cut,
+) -> Result<(UnitSet, Cut), TreeFault>
+    requires word { 0 < length word.now }
+    requires cut { IsCut bytes.now cut }
+    requires few { length bytes.now < 2 ^ 32 - 1 }
+    ensures taken { IfOk result (λ found. IsTaken (SetLine problem.now before word.now) (lines_at bytes.now cut) found.0 (lines_at bytes.now found.1)) }
+    ensures cut { IfOk result (λ found. IsCut bytes.now found.1) }
+    ensures number { IfOk result (λ found. found.1.line ≡ suc cut.line) }
+    ensures fault { IfErr result (IsFaultAt (SetLine problem.now before word.now) cut.line (lines_at bytes.now cut)) }
+{
+    let Some((line, behind)) = line_at(bytes, cut) else {
+        return Err(TreeFault::At {
+            line: cut.line,
+            kind: TreeKind::BadLine,
+        });
+    };
+    match set_line(problem, before, word, &line) {
+        Ok(units) => Ok((units, behind)),
+        Err(kind) => Err(TreeFault::At {
+            line: cut.line,
+            kind,
+        }),
+    }
+}
+
+/// The part that a text stands for. `At` comes exactly where the text is not in the grammar, with the least line that has a fault,
+/// counted from 1, and its kind; `Memory` is want of memory. Linear in the bytes.
+pub fn read_part(alloc: Global, problem: &Problem, bytes: &[u8]) -> Result<Part, TreeFault>
+    requires { length bytes.now < 2 ^ 32 - 1 }
+    ensures read { IfOk result (λ part. PartReads problem.now bytes.now (Ok part)) }
+    ensures known { IfOk result (KnowsPart problem.now) }
+    ensures few { IfOk result (λ part. length part.tree ≤ length bytes.now) }
+    ensures fault { IfErr result (TellsPart problem.now bytes.now) }
+{
+    let front = Cut { at: 0, line: 1 };
+    let type_fault = TreeFault::At {
+        line: 1,
+        kind: TreeKind::FileType,
+    };
+    let Some((line, first)) = line_at(bytes, front) else {
+        return Err(type_fault);
+    };
+    if !is_file_type(&line) {
+        return Err(type_fault);
+    }
+    let (inside, second) = match set_at(problem, UnitSet::empty(), b"inside", bytes, first) {
+        Ok(found) => found,
+        Err(fault) => return Err(fault),
+    };
+    let (outside, third) = match set_at(problem, inside, b"outside", bytes, second) {
+        Ok(found) => found,
+        Err(fault) => return Err(fault),
+    };
+    match read_rest(alloc, problem, bytes, third) {
+        Ok((claim, tree, tail)) => Ok(Part::of(Node { inside, outside }, claim, tree, tail)),
+        Err(fault) => Err(fault),
+    }
+}
