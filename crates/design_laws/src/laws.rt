@@ -1,0 +1,39 @@
+//! The laws.
+ghost use Rattle.design_laws.specs.Laws.{FamiliesAreStructures, StructuresAreFamilies, DesignsAreNetworks, NoNetworkIsNoDesign, LeastNetworkIsLeastDesign};
+
+use plan_laws::expanded_is_valid;
+
+/// A solution structure for each period, and the units that build their union, are a solution structure of the expanded problem.
+pub fn families_are_structures()
+    ensures { FamiliesAreStructures }
+{
+    expanded_is_valid();
+}
+
+/// Each solution structure of the expanded problem is such a family.
+pub fn structures_are_families()
+    ensures { StructuresAreFamilies }
+{
+    expanded_is_valid();
+}
+
+/// Each design of a plant over its periods is a network of the expanded problem, at the same cost.
+pub fn designs_are_networks()
+    ensures { DesignsAreNetworks }
+{
+    expanded_is_valid();
+}
+
+/// Where no allowed structure of the expanded problem has flows, the plant has no design over its periods.
+pub fn no_network_is_no_design()
+    ensures { NoNetworkIsNoDesign }
+{
+    expanded_is_valid();
+}
+
+/// A feasible network of the expanded problem stands for a design at its cost; where no network undercuts it, no design does.
+pub fn least_network_is_least_design()
+    ensures { LeastNetworkIsLeastDesign }
+{
+    expanded_is_valid();
+}
