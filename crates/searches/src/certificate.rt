@@ -181,12 +181,7 @@ impl Certificate {
 }
 
 /// Prints what was found.
-pub(crate) fn say_found<K: Sink>(
-    alloc: Global,
-    out: &mut K,
-    problem: &Problem,
-    found: Found,
-) -> Status
+pub fn say_found<K: Sink>(alloc: Global, out: &mut K, problem: &Problem, found: Found) -> Status
     requires { (budget : ℕ) × IsFound problem.now first_node budget found }
     ensures { Ends (Tells (FoundSays problem.now found)) (HasRisen (K.faults out.old) (K.faults out.new)) (K.written out.old) (K.written out.new) result }
 {

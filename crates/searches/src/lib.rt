@@ -4,6 +4,8 @@
 //! a summary in the place of a proved network, for a problem out of numbers. `specs/Solve`, `specs/Summary` and `specs/Trial` say
 //! what the lines are with which status.
 //!
+//! [`search_all`] searches a problem, and [`say_found`] prints what was found, for the commands that search.
+//!
 //! Modules: `certificate`, the text of a claim, a tree and a tail; `solve`, `summary` and `trial`.
 #![tactic(auto)]
 
@@ -12,5 +14,6 @@ pub mod solve;
 mod summary;
 pub mod trial;
 
-pub use solve::say_solved;
+pub use certificate::say_found;
+pub use solve::{say_solved, search_all};
 pub use summary::say_summed;

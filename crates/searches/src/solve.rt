@@ -22,7 +22,7 @@ use tree_laws::accepted_is_optimal;
 use unit_sets::{Node, UnitSet};
 
 /// Searches all structures of the problem.
-pub(crate) fn search_all(alloc: Global, problem: &Problem, graph: &Graph, budget: u64) -> Found
+pub fn search_all(alloc: Global, problem: &Problem, graph: &Graph, budget: u64) -> Found
     requires graph { shape graph.now ≡ shape_of problem.now }
     requires some { 1 ≤ budget }
     requires few { budget ≤ 1000000 }
