@@ -1,0 +1,63 @@
+-- Laws of ranked trees, each of which a public function of this crate has as its contract. Each speaks of every valid problem.
+use Rattle.std.specs.Prelude.{◌≡◌, ℕ, ◌<◌, ℤ, Bool, length, List, [], Option, Some}
+use Rattle.number_sets.specs.Sets.{has}
+use Rattle.problem_rules.specs.Problem.{Problem}
+use Rattle.problem_rules.specs.Validity.{IsValid}
+use Rattle.pns_rules.specs.Shape.{shape_of}
+use Rattle.pns_rules.specs.Structure.{IsStructure, IsAllowed}
+use Rattle.flow_rules.specs.Net.{net_of}
+use Rattle.flow_rules.specs.Flows.{IsFlows}
+use Rattle.tree_rules.specs.Claim.{Network, CostOver}
+use Rattle.tree_rules.specs.Fault.{AreLeafRules}
+use Rattle.tree_laws.specs.Laws.{CostsEnough}
+use Rattle.rank_rules.specs.declared.why.RankWhy.{RankWhy}
+use Rattle.rank_rules.specs.Networks.{cost_of, numbered, IsListed, last_cost, ArePassing}
+use Rattle.rank_rules.specs.Leaf.{LeafPasses, LeafFails}
+use Rattle.rank_rules.specs.Ranked.{Ranking, Proves, IsRanked, NetworkIsFault, NodeIsFault}
+
+-- ---- what a ranked tree proves
+
+-- any flows for the units of a listed network cost at least what it does
+abbrev pub ListedAreLeast : Type 0
+ListedAreLeast =
+    (p : Problem) → IsValid p → (r : Ranking) → IsRanked p r → (k : ℕ) (w : Network) → numbered k r.networks ≡ Some w
+    → CostsEnough p (Some (cost_of w)) (has w.units)
+
+-- where as many networks stand as were asked for, each allowed solution structure that is not listed costs, with any flows, at
+-- least what the last network does
+abbrev pub OthersCostEnough : Type 0
+OthersCostEnough =
+    (p : Problem) → IsValid p → (r : Ranking) → IsRanked p r → length r.networks ≡ r.count
+    → (s : ℕ → Bool) → IsStructure (shape_of p) s → IsAllowed (shape_of p) s → (IsListed r.networks s → ⊥)
+    → CostsEnough p (last_cost r.networks) s
+
+-- where fewer stand, no allowed solution structure that is not listed has flows
+abbrev pub OthersHaveNone : Type 0
+OthersHaveNone =
+    (p : Problem) → IsValid p → (r : Ranking) → IsRanked p r → length r.networks < r.count
+    → (s : ℕ → Bool) → IsStructure (shape_of p) s → IsAllowed (shape_of p) s → (IsListed r.networks s → ⊥)
+    → (z : ℕ → ℤ) (d : ℤ) → IsFlows (net_of p) s z d → ⊥
+
+-- ---- faults
+
+-- networks that pass have no first fault, and the others have one
+abbrev pub PassingNetworksHaveNoFault : Type 0
+PassingNetworksHaveNoFault = (p : Problem) (r : Ranking) (k : ℕ) (why : RankWhy) → ArePassing p [] r.networks → NetworkIsFault p r k why → ⊥
+
+abbrev pub NetworksHaveOneFault : Type 0
+NetworksHaveOneFault = (p : Problem) (r : Ranking) (j k : ℕ) (why other : RankWhy) → NetworkIsFault p r j why → NetworkIsFault p r k other → (j ≡ k) × (why ≡ other)
+
+-- no leaf of a ranked tree passes and fails, and one that fails does so for one cause
+abbrev pub LeavesHaveRules : Type 0
+LeavesHaveRules =
+    (partial : Bool) (p : Problem) (ws : List Network) (undercut : Option CostOver)
+    → AreLeafRules (LeafPasses partial p ws undercut) (LeafFails partial p ws undercut)
+
+-- a tree that passes has no first fault, and the others have one
+abbrev pub PassingTreeHasNoFault : Type 0
+PassingTreeHasNoFault = (partial : Bool) (p : Problem) (r : Ranking) (k : ℕ) (why : RankWhy) → Proves partial p r → NodeIsFault partial p r k why → ⊥
+
+abbrev pub TreeHasOneFault : Type 0
+TreeHasOneFault =
+    (partial : Bool) (p : Problem) (r : Ranking) (j k : ℕ) (why other : RankWhy)
+    → NodeIsFault partial p r j why → NodeIsFault partial p r k other → (j ≡ k) × (why ≡ other)
