@@ -4,15 +4,16 @@ use Rattle.std.proofs.lemmas.List.{append-nil, reverse-append}
 use Rattle.pns_rules.specs.Shape.{Shape}
 use Rattle.pns_rules.specs.Nodes as rules
 use Rattle.tree_rules.specs.declared.why.Why.{Why}
-use Rattle.tree_rules.specs.Tree.{TreeNode, Pass, below, after_all}
+use Rattle.tree_rules.specs.Tree.{End, branch, leaf, TreeNode, Pass, below, after_all}
 use Rattle.tree_rules.specs.Fault.{NodeFails, IsFirstFault}
-use Rattle.tree_rules.specs.Leaf.{Leaf}
+use Rattle.tree_rules.specs.Leaf.{Leaf, dead, clash, refuted, bounded, untried}
 use Rattle.tree_rules.specs.Accepted.{Tree}
 use Rattle.unit_sets.specs.declared.node.Node.{Node}
 use Rattle.pgraph.specs.View.{node_of}
 use Rattle.cert_parts.specs.Known.{KnowsInside}
 use Rattle.cert_check.specs.Subtrees.{stack_of, AllKnown}
 use Rattle.part_rules.specs.OpenLeaves.{OpenAt, open_here, open_leaves}
+use Rattle.cert_check.specs.OpenLeaves.{AllBefore, NoneBefore, AreThoseBefore}
 use Rattle.cert_check.specs.Visits.{IsVisited}
 use Rattle.cert_check.proofs.EndLemmas.{node_ahead}
 use Rattle.cert_check.proofs.KnownLemmas.{known_after_all, known_below, known_both}
@@ -30,6 +31,7 @@ all_behind (x ∷ xs) (suc i) h = all_behind xs i (omega arith)
 -- the open leaves that were found before item i, and those that are still to come
 pub record AreFound (g : Shape) (starts : List rules.Node) (ts : Tree) (found : List OpenAt) (stack : List rules.Node) (i : ℕ) : Type 0 where
   pub all : open_leaves g starts ts 0 ≡ found ++ open_leaves g stack (drop i ts) i
+  pub before : AllBefore i found
 
 module _ (g : Shape) (P : rules.Node → Leaf → Type 0) (F : rules.Node → Leaf → Why → Type 0) (starts : List rules.Node) (ts : Tree) where
   -- what the walk knows before item i
@@ -78,11 +80,51 @@ module _ (g : Shape) (P : rules.Node → Leaf → Type 0) (F : rules.Node → Le
       at [] l = leads_all g P F starts ts [] i l
       at (u ∷ us) l = absurd l.forest
 
+-- ---- the numbers of open leaves
+
+before_more : (i : ℕ) (found : List OpenAt) (m : rules.Node) (e : End Leaf) → AllBefore i found → AllBefore (i + 1) (found ++ open_here i m e)
+before_more i (l ∷ ls) m e h = ((let low : l.number < i = h.0 in let q : l.number < i + 1 = omega arith in q), before_more i ls m e h.1)
+before_more i [] m (branch w) h = tt
+before_more i [] m (leaf (dead x)) h = tt
+before_more i [] m (leaf (clash x)) h = tt
+before_more i [] m (leaf (refuted ys)) h = tt
+before_more i [] m (leaf (bounded d ys)) h = tt
+before_more i [] m (leaf untried) h = ((let q : i < i + 1 = omega arith in q), tt)
+
+none_sooner : (i : ℕ) (ls : List OpenAt) → NoneBefore (i + 1) ls → NoneBefore i ls
+none_sooner i [] h = tt
+none_sooner i (l ∷ ls) h = ((let low : i + 1 ≤ l.number = h.0 in let q : i ≤ l.number = omega arith in q), none_sooner i ls h.1)
+
+here_and_behind : (i : ℕ) (m : rules.Node) (e : End Leaf) (ls : List OpenAt) → NoneBefore (i + 1) ls → NoneBefore i (open_here i m e ++ ls)
+here_and_behind i m (branch w) ls h = none_sooner i ls h
+here_and_behind i m (leaf (dead x)) ls h = none_sooner i ls h
+here_and_behind i m (leaf (clash x)) ls h = none_sooner i ls h
+here_and_behind i m (leaf (refuted ys)) ls h = none_sooner i ls h
+here_and_behind i m (leaf (bounded d ys)) ls h = none_sooner i ls h
+here_and_behind i m (leaf untried) ls h = ((let q : i ≤ i = omega arith in q), none_sooner i ls h)
+
+-- the open leaves of nodes from i on have numbers from i on
+pub none_before : (g : Shape) (ns : List rules.Node) (ts : Tree) (i : ℕ) → NoneBefore i (open_leaves g ns ts i)
+none_before g [] ts i = tt
+none_before g (n ∷ ns) [] i = tt
+none_before g (n ∷ ns) (t ∷ ts) i =
+    here_and_behind i (after_all g n t.steps) t.end (open_leaves g (below g (after_all g n t.steps) t.end ++ ns) ts (i + 1))
+    (none_before g (below g (after_all g n t.steps) t.end ++ ns) ts (i + 1))
+
+-- those that were found before node i
+pub found_before : (g : Shape) (starts : List rules.Node) (ts : Tree) (found : List OpenAt) (stack : List rules.Node) (i : ℕ) → AreFound g starts ts found stack i → AreThoseBefore g starts ts i found
+found_before g starts ts found stack i is = record {
+  others = open_leaves g stack (drop i ts) i;
+  all = is.all;
+  before = is.before;
+  behind = none_before g stack (drop i ts) i;
+}
+
 -- ---- the open leaves on the way
 
 module _ (g : Shape) (starts : List rules.Node) (ts : Tree) where
   pub found_none : AreFound g starts ts [] starts 0
-  found_none = record { all = refl }
+  found_none = record { all = refl; before = tt }
 
   -- the item t is visited at the node n
   pub found_more : (P : rules.Node → Leaf → Type 0) (before after rest : List rules.Node) (n m : rules.Node) (t : TreeNode Leaf) (found more : List OpenAt) (i : ℕ)
@@ -101,6 +143,7 @@ module _ (g : Shape) (starts : List rules.Node) (ts : Tree) where
             ∙ ap (λ (j : rules.Node). found ++ (open_here i j t.end ++ open_leaves g after us (i + 1))) (sym leads)
             ∙ sym (append_assoc found (open_here i m t.end) (open_leaves g after us (i + 1)))
             ∙ ap (λ (fs : List OpenAt). fs ++ open_leaves g after us (i + 1)) (sym grown);
+        before = subst (λ (fs : List OpenAt). AllBefore (i + 1) fs) (sym grown) (before_more i found m t.end is.before);
       }
 
   -- the node is taken from the top of the stack, for item i

@@ -1,8 +1,10 @@
 //! Claims with their trees.
-ghost use Rattle.std.specs.Prelude.{◌≡◌, ◌<◌, ◌^◌, ◌∷◌, [], ℕ, Bool, false, length, OnOk, IfOk, IfErr};
+ghost use Rattle.std.specs.Prelude.{◌≡◌, ◌<◌, ◌^◌, ◌∷◌, [], ℕ, Bool, true, false, length, OnOk, IfOk, IfErr};
 ghost use Rattle.pns_rules.specs.Shape.{shape_of};
 ghost use Rattle.pns_rules.specs.Structure.{IsStructure, IsAllowed};
 ghost use Rattle.tree_rules.specs.declared.why.Why.{Why};
+ghost use Rattle.tree_rules.specs.Tree.{Pass};
+ghost use Rattle.tree_rules.specs.Leaf.{LeafPasses, LeafFails};
 ghost use Rattle.tree_rules.specs.Claim as rules;
 ghost use Rattle.tree_rules.specs.Accepted.{first_node, Proves, IsAccepted, NodeIsFault};
 ghost use Rattle.tree_laws.specs.Laws.{CostsEnough};
@@ -10,16 +12,18 @@ ghost use Rattle.pgraph.specs.Tables.{shape};
 ghost use Rattle.pgraph.specs.View.{node_of};
 ghost use Rattle.branch_tree.specs.View.{claim_of};
 ghost use Rattle.cert_parts.specs.Known.{KnowsInside};
+ghost use Rattle.cert_parts.specs.Shown.{cost_over};
 ghost use Rattle.part_rules.specs.OpenLeaves.{open_leaves};
-ghost use Rattle.cert_check.specs.OpenLeaves.{leaves_at};
+ghost use Rattle.cert_check.specs.OpenLeaves.{leaves_at, AreBefore};
 ghost use Rattle.cert_check.specs.declared.refusal.Refusal.TheVariants as refusals;
-ghost use Rattle.cert_check.specs.Refusals.{Refuses, IsOkOrMemory, IsRefusalOrMemory};
+ghost use Rattle.cert_check.specs.Refusals.{NamesFault, Refuses, IsOkOrMemory, IsRefusalOrMemory};
 
 use crate::claim::{cost_of_claim, judge_claim};
 use crate::open_leaf::OpenLeaf;
 use crate::refusal::Refusal;
-use crate::walk::walk;
+use crate::walk::{Stop, walk, walk_to};
 use branch_tree::{Claim, Tree};
+use cert_parts::CostOver;
 use pgraph::Graph;
 use pns_problem::Problem;
 use std::alloc::Global;
@@ -64,6 +68,28 @@ pub fn check_from(
         ),
         Err(why) => Err(Refusal::Claim(why)),
     }
+}
+
+/// Judges the nodes of the tree in preorder from the start, against the cost that is to be undercut, if there is one. Leaves may be
+/// open. What is given are the open leaves in preorder, and where a node fails those before it.
+pub fn check_nodes(
+    alloc: Global,
+    problem: &Problem,
+    graph: &Graph,
+    start: &Node,
+    undercut: Option<CostOver>,
+    tree: &Tree,
+) -> Result<Vec<OpenLeaf>, Stop>
+    requires graph { shape graph.now ≡ shape_of problem.now }
+    requires known { KnowsInside (shape graph.now) (node_of start.now) }
+    requires few { length tree.now < 2 ^ 32 }
+    ensures passes { OnOk result (Pass (shape graph.now) (LeafPasses true problem.now (cost_over undercut)) (node_of start.now ∷ []) tree.now) }
+    ensures leaves { IfOk result (λ v. leaves_at v.items ≡ open_leaves (shape graph.now) (node_of start.now ∷ []) tree.now 0) }
+    ensures fault { IfErr result (λ stop. NamesFault (shape graph.now) (LeafPasses true problem.now (cost_over undercut)) (LeafFails true problem.now (cost_over undercut)) (node_of start.now ∷ []) tree.now stop.refusal) }
+    ensures before { IfErr result (λ stop. AreBefore (shape graph.now) (node_of start.now ∷ []) tree.now stop.refusal (leaves_at stop.leaves.items)) }
+{
+    tree.is_tree();
+    walk_to(alloc, problem, graph, undercut, true, start, tree.nodes())
 }
 
 /// Judges the claim, and then the nodes of the tree in preorder, at each its steps and then its end.

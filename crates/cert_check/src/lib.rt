@@ -4,7 +4,8 @@
 //! [`check_tree`] accepts a tree exactly where it proves its claim, and then no allowed solution structure undercuts the claim;
 //! else its refusal names the claim, or the first node in preorder, that fails, and the first line of the table of causes
 //! there. [`check_claim`] judges a claim alone. [`check_from`] is the same from any start, for partial trees too, and gives the
-//! open leaves, each with its number in preorder and the node that its steps leave.
+//! open leaves, each with its number in preorder and the node that its steps leave. [`check_nodes`] judges the nodes alone, and gives
+//! the open leaves before a node that fails too, for whoever judges open leaves by further rules.
 //!
 //! A walk holds a list of its own of the nodes that are still to come, and no recursion; a branch looks ahead at the roots of its
 //! children's subtrees, whose ends are found in one pass from the last node on. So a tree of any depth costs its steps, one
@@ -24,7 +25,8 @@ mod subtrees;
 mod visit;
 mod walk;
 
-pub use check::{check_from, check_tree};
+pub use check::{check_from, check_nodes, check_tree};
 pub use claim::check_claim;
 pub use open_leaf::OpenLeaf;
 pub use refusal::Refusal;
+pub use walk::Stop;

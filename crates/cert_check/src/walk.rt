@@ -8,7 +8,7 @@ ghost use Rattle.pgraph.specs.View.{node_of};
 ghost use Rattle.cert_parts.specs.Known.{KnowsInside};
 ghost use Rattle.cert_parts.specs.Shown.{cost_over};
 ghost use Rattle.part_rules.specs.OpenLeaves.{open_leaves};
-ghost use Rattle.cert_check.specs.OpenLeaves.{leaves_at};
+ghost use Rattle.cert_check.specs.OpenLeaves.{leaves_at, AreBefore};
 ghost use Rattle.cert_check.specs.Refusals.{NamesFault};
 
 use crate::open_leaf::{OpenLeaf, note_end};
@@ -22,6 +22,13 @@ use pns_problem::Problem;
 use std::alloc::Global;
 use unit_sets::Node;
 
+/// A walk that stopped before its end: why, and the open leaves that it met before.
+#[derive(Drop)]
+pub struct Stop {
+    pub refusal: Refusal,
+    pub leaves: Vec<OpenLeaf>,
+}
+
 /// The number of a node.
 fn number(i: usize) -> u32
     requires { i < 2 ^ 32 }
@@ -30,8 +37,9 @@ fn number(i: usize) -> u32
     i as u32
 }
 
-/// Walks the tree in preorder from the node `start`, and stops at the first node that fails. What is given are the open leaves.
-pub fn walk(
+/// Walks the tree in preorder from the node `start`, and stops at the first node that fails. What is given are the open leaves, and
+/// where the walk stops those that it met before.
+pub fn walk_to(
     alloc: Global,
     problem: &Problem,
     graph: &Graph,
@@ -39,23 +47,30 @@ pub fn walk(
     partial: bool,
     start: &Node,
     nodes: &[TreeNode],
-) -> Result<Vec<OpenLeaf>, Refusal>
+) -> Result<Vec<OpenLeaf>, Stop>
     requires graph { shape graph.now ≡ shape_of problem.now }
     requires known { KnowsInside (shape graph.now) (node_of start.now) }
     requires forest { IsForest 1 nodes.now }
     requires few { length nodes.now < 2 ^ 32 }
     ensures passes { OnOk result (Pass (shape graph.now) (LeafPasses partial problem.now (cost_over claimed)) (node_of start.now ∷ []) nodes.now) }
     ensures leaves { IfOk result (λ v. leaves_at v.items ≡ open_leaves (shape graph.now) (node_of start.now ∷ []) nodes.now 0) }
-    ensures fault { IfErr result (NamesFault (shape graph.now) (LeafPasses partial problem.now (cost_over claimed)) (LeafFails partial problem.now (cost_over claimed)) (node_of start.now ∷ []) nodes.now) }
+    ensures fault { IfErr result (λ stop. NamesFault (shape graph.now) (LeafPasses partial problem.now (cost_over claimed)) (LeafFails partial problem.now (cost_over claimed)) (node_of start.now ∷ []) nodes.now stop.refusal) }
+    ensures before { IfErr result (λ stop. AreBefore (shape graph.now) (node_of start.now ∷ []) nodes.now stop.refusal (leaves_at stop.leaves.items)) }
 {
+    let mut leaves = Vec::new(alloc);
     let Ok(ends) = ends_of(alloc, nodes) else {
-        return Err(Refusal::Memory);
+        return Err(Stop {
+            refusal: Refusal::Memory,
+            leaves,
+        });
     };
     let mut found = Vec::new(alloc);
     let mut stack = Vec::new(alloc);
-    let mut leaves = Vec::new(alloc);
     let Ok(()) = stack.push(*start) else {
-        return Err(Refusal::Memory);
+        return Err(Stop {
+            refusal: Refusal::Memory,
+            leaves,
+        });
     };
     'walk: for i in 0..nodes.len() {
         let Some(node) = stack.pop() else {
@@ -77,17 +92,50 @@ pub fn walk(
         ) {
             Ok(reached) => {
                 let Ok(()) = note_end(&mut leaves, number(i), reached, &item.end) else {
-                    return Err(Refusal::Memory);
+                    return Err(Stop {
+                        refusal: Refusal::Memory,
+                        leaves,
+                    });
                 };
             }
-            Err(Halt::Memory) => return Err(Refusal::Memory),
+            Err(Halt::Memory) => {
+                return Err(Stop {
+                    refusal: Refusal::Memory,
+                    leaves,
+                });
+            }
             Err(Halt::Fails(why)) => {
-                return Err(Refusal::Node {
+                let refusal = Refusal::Node {
                     node: number(i),
                     why,
-                });
+                };
+                return Err(Stop { refusal, leaves });
             }
         }
     }
     Ok(leaves)
+}
+
+/// The same, and of a walk that stops why alone.
+pub fn walk(
+    alloc: Global,
+    problem: &Problem,
+    graph: &Graph,
+    claimed: Option<CostOver>,
+    partial: bool,
+    start: &Node,
+    nodes: &[TreeNode],
+) -> Result<Vec<OpenLeaf>, Refusal>
+    requires graph { shape graph.now ≡ shape_of problem.now }
+    requires known { KnowsInside (shape graph.now) (node_of start.now) }
+    requires forest { IsForest 1 nodes.now }
+    requires few { length nodes.now < 2 ^ 32 }
+    ensures passes { OnOk result (Pass (shape graph.now) (LeafPasses partial problem.now (cost_over claimed)) (node_of start.now ∷ []) nodes.now) }
+    ensures leaves { IfOk result (λ v. leaves_at v.items ≡ open_leaves (shape graph.now) (node_of start.now ∷ []) nodes.now 0) }
+    ensures fault { IfErr result (NamesFault (shape graph.now) (LeafPasses partial problem.now (cost_over claimed)) (LeafFails partial problem.now (cost_over claimed)) (node_of start.now ∷ []) nodes.now) }
+{
+    match walk_to(alloc, problem, graph, claimed, partial, start, nodes) {
+        Ok(leaves) => Ok(leaves),
+        Err(stop) => Err(stop.refusal),
+    }
 }

@@ -6,7 +6,7 @@ use Rattle.cert_parts.specs.Shown.{cost_over}
 use Rattle.cert_check.specs.Subtrees.{stack_of, AreEnds}
 use Rattle.cert_check.specs.OpenLeaves.{leaves_at}
 use Rattle.cert_check.proofs.TurnLemmas.{IsAt, AreFound}
-use Rattle.cert_check.proofs.walk.walk.Given as goal
+use Rattle.cert_check.proofs.walk.walk_to.Given as goal
 
 abbrev pub invariant-walk : goal.invariant-walk
 invariant-walk l = record {

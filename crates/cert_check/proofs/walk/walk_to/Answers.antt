@@ -8,8 +8,8 @@ use Rattle.pgraph.specs.View.{node_of}
 use Rattle.cert_parts.specs.Shown.{cost_over}
 use Rattle.cert_check.specs.Subtrees.{stack_of}
 use Rattle.cert_check.specs.OpenLeaves.{leaves_at}
-use Rattle.cert_check.proofs.TurnLemmas.{opened, visited, failed, found_on}
-use Rattle.cert_check.proofs.walk.walk.Goals as goal
+use Rattle.cert_check.proofs.TurnLemmas.{opened, visited, failed, found_before, found_on}
+use Rattle.cert_check.proofs.walk.walk_to.Goals as goal
 
 pub returns-in-Err-Fails-clause-fault : goal.returns-in-Err-Fails-clause-fault
 returns-in-Err-Fails-clause-fault c =
@@ -20,6 +20,11 @@ returns-in-Err-Fails-clause-fault c =
     let o = opened g pass fail starts c.args.nodes.now c.walk.stack.items c.pop.new.self.items c.in-Some.node c.walk.i c.index-nodes-i.result c.walk-test.true c.index-nodes-i.is c.in-Some.ensures.items c.walk.invariant.at in
     rw (c.in-Err-Fails.field-0-is, c.number-in-Err-Fails.ensures)
     (failed g pass fail starts c.args.nodes.now (node_of c.in-Some.node) c.index-nodes-i.result (stack_of c.pop.new.self.items) c.walk.i c.in-Err-Fails.why o (rw c.in-Err-Fails.field-0-is at c.in-Err-Fails.ensures.halts))
+
+pub returns-in-Err-Fails-clause-before : goal.returns-in-Err-Fails-clause-before
+returns-in-Err-Fails-clause-before c =
+    rw c.number-in-Err-Fails.ensures
+    (found_before (shape c.args.graph.now) (node_of c.args.start.now ∷ []) c.args.nodes.now (leaves_at c.walk.leaves.items) (stack_of c.walk.stack.items) c.walk.i c.walk.invariant.found)
 
 pub walk-preserved : goal.walk-preserved
 walk-preserved c =
