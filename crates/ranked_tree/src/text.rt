@@ -1,0 +1,98 @@
+//! Whole ranked trees.
+ghost use Rattle.std.specs.Prelude.{◌≡◌, map};
+ghost use Rattle.ranked_tree.specs.Text.{IsCounted};
+ghost use Rattle.ranked_tree.specs.View.{mark_of};
+ghost use Rattle.branch_tree.specs.View.{tail_of};
+
+use crate::mark::Mark;
+use branch_tree::{Network, Tail, Tree};
+use std::marker::Model;
+
+/// So many networks as were asked for, those that were found, best first, and the tree that is to prove that no other is better, with
+/// a mark for each of its open leaves in preorder and the tail that tells where a search stopped. At least one network was asked for,
+/// no more are there, and networks are named by their numbers from 1 on.
+#[derive(Drop)]
+pub struct RankText {
+    count: u32,
+    networks: Vec<Network>,
+    tree: Tree,
+    marks: Vec<Mark>,
+    tail: Tail,
+}
+
+impl Model for RankText {
+    ghost use Rattle.std.specs.Prelude.{map};
+    ghost use Rattle.ranked_tree.specs.Text as specs;
+    ghost use Rattle.ranked_tree.specs.View.{mark_of};
+    ghost use Rattle.branch_tree.specs.View.{tail_of};
+
+    ghost Value = { specs.Text };
+
+    ghost view = { λ t. record { count = t.count; networks = t.networks.items; tree = t.tree; marks = map mark_of t.marks.items; tail = tail_of t.tail } };
+
+    ghost invariant = { λ t. specs.IsCounted t.count t.networks.items (map mark_of t.marks.items) };
+}
+
+impl RankText {
+    /// The ranked tree of these parts.
+    pub fn of(
+        count: u32,
+        networks: Vec<Network>,
+        tree: Tree,
+        marks: Vec<Mark>,
+        tail: Tail,
+    ) -> RankText
+        requires { IsCounted count networks.items (map mark_of marks.items) }
+        ensures { result ≡ record { count = count; networks = networks.items; tree = tree; marks = map mark_of marks.items; tail = tail_of tail } }
+    {
+        RankText {
+            count,
+            networks,
+            tree,
+            marks,
+            tail,
+        }
+    }
+
+    /// How many networks were asked for.
+    pub fn count(&self) -> u32
+        ensures { result ≡ self.now.count }
+    {
+        self.count
+    }
+
+    /// The networks, best first.
+    pub fn networks(&self) -> &[Network]
+        ensures { result.now ≡ self.now.networks }
+    {
+        &self.networks
+    }
+
+    /// The tree, in which a leaf that names a network stands as an open one.
+    pub fn tree(&self) -> &Tree
+        ensures { result.now ≡ self.now.tree }
+    {
+        &self.tree
+    }
+
+    /// What each open leaf of the tree stands for, in preorder.
+    pub fn marks(&self) -> &[Mark]
+        ensures { map mark_of result.now ≡ self.now.marks }
+    {
+        &self.marks
+    }
+
+    /// Where the search stopped.
+    pub fn tail(&self) -> &Tail
+        ensures { tail_of result.now ≡ self.now.tail }
+    {
+        &self.tail
+    }
+
+    /// The counts are kept. A call tells a proof so, and does nothing.
+    pub fn is_counted(&self)
+        ensures { IsCounted self.now.count self.now.networks self.now.marks }
+    {
+        let _count = self.count;
+    }
+}
