@@ -1,6 +1,6 @@
 //! What is proposed for a node: a guessed basis, its solution, and what is made of it. Nothing is promised of that but that it is
 //! found safely and in an end, and that lists are in range.
-ghost use Rattle.std.specs.Prelude.{◌≡◌, ◌<◌, ℕ, length};
+ghost use Rattle.std.specs.Prelude.{◌≡◌};
 ghost use Rattle.int_rows.specs.Range.{AllInRange};
 ghost use Rattle.flow_rules.specs.Net.{net_of};
 ghost use Rattle.scaled_flows.specs.Divisors.{AreDivisors};
@@ -65,7 +65,7 @@ fn rate_divisors(alloc: Global, problem: &Problem, scales: &Scales) -> Result<Ve
     Ok(rates)
 }
 
-// Multipliers that refute have no scale; they are rounded from a list whose greatest is near this.
+// Multipliers that refute may be scaled at will: the greatest scaled one counts as this.
 const MILLION: i128 = 1_000_000;
 
 // The greatest size of a unit, in millionths.

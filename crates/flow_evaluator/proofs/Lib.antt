@@ -1,3 +1,4 @@
 pub mod FlowLemmas
 pub mod KnownLemmas
+pub mod ToldLemmas
 pub mod ValueLemmas

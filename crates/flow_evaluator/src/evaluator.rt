@@ -1,5 +1,5 @@
-//! [`FlowEvaluator`], which evaluates nodes on one bench.
-ghost use Rattle.std.specs.Prelude.{◌≡◌, true, length, None, IsTrue, IfOk, OnOk};
+//! [`FlowEvaluator`], which evaluates nodes in two ways.
+ghost use Rattle.std.specs.Prelude.{◌≡◌, true, length, None, IfOk, IfSome, OnOk};
 ghost use Rattle.pns_rules.specs.Shape.{shape_of};
 ghost use Rattle.pns_rules.specs.Ends.{IsSound, IsReduced, IsDecided};
 ghost use Rattle.pgraph.specs.Tables.{shape};
@@ -12,6 +12,8 @@ ghost use Rattle.node_looks.specs.Evaluated.{IsEvaluated, IsWorth, IsProof};
 ghost use Rattle.flow_evaluator.specs.Past.{IsPastAt};
 
 use crate::answers::{bounded, halted, proved, refuted, unproved};
+use crate::told::evaluation_of;
+use certified_bounds::CertifiedBounds;
 use dual_simplex::{Bench, Ends, entry_is_past, names_are_of_program, none_is_refuted};
 use flow_program::Program;
 use flow_rules::refutation;
@@ -22,22 +24,25 @@ use std::alloc::{AllocError, Global};
 use std::marker::Model;
 use unit_sets::Node;
 
-/// Evaluates node after node by the simplex method, on one bench.
+/// Values node after node: by a guess that is judged exactly, and where that tells nothing, by the path of the node's program.
 #[derive(Drop)]
 pub struct FlowEvaluator {
+    certified: CertifiedBounds,
     bench: Bench,
-    units: u32,
-    rows: u32,
+    // Whether the path of the node that was evaluated last was walked.
+    is_walked: bool,
 }
 
 impl Model for FlowEvaluator {
-    ghost use Rattle.dual_simplex.specs.Bench as specs;
+    ghost use Rattle.std.specs.Prelude.{length};
+    ghost use Rattle.dual_simplex.specs.Bench.{HasRoom};
+    ghost use Rattle.flow_evaluator.specs.Evaluating as specs;
 
-    ghost Value = { specs.Bench };
+    ghost Value = { specs.Evaluating };
 
-    ghost view = { λ e. e.bench };
+    ghost view = { λ e. record { problem = e.certified; bench = e.bench } };
 
-    ghost invariant = { λ e. specs.HasRoom e.bench e.units e.rows };
+    ghost invariant = { λ e. HasRoom e.bench (length e.certified.units) (length e.certified.materials) };
 }
 
 /// Walks the path of the node's program, and tells what its end gives.
@@ -98,33 +103,58 @@ fn prove_on(
 }
 
 impl FlowEvaluator {
-    /// An evaluator with room for the program of each node of the problem. `Err` comes for want of memory alone.
+    /// An evaluator of the nodes of the problem. `Err` comes for want of memory alone.
     pub fn open(alloc: Global, problem: &Problem) -> Result<FlowEvaluator, AllocError>
-        ensures { IfOk result (λ e. HasRoom e (length problem.now.units) (length problem.now.materials)) }
+        ensures { IfOk result (λ e. e.problem ≡ problem.now) }
     {
         problem.is_valid();
+        let certified = CertifiedBounds::open(alloc, problem)?;
         let units = problem.units().len() as u32;
         let rows = problem.materials().len() as u32;
         let bench = Bench::open(alloc, units, rows)?;
-        Ok(FlowEvaluator { bench, units, rows })
+        Ok(FlowEvaluator {
+            certified,
+            bench,
+            is_walked: false,
+        })
     }
 
-    /// Whether there is room for the program of each node of the problem.
-    fn fits(&self, problem: &Problem) -> bool
-        ensures { IsTrue result → HasRoom self.now (length problem.now.units) (length problem.now.materials) }
+    /// Opens it anew where it was opened for another problem.
+    fn make_ready(&mut self, alloc: Global, problem: &Problem) -> Result<(), AllocError>
+        ensures { OnOk result (self.new.problem ≡ problem.now) }
     {
-        problem.units().len() <= self.units as usize
-            && problem.materials().len() <= self.rows as usize
-    }
-
-    /// Opens the bench anew where the problem is larger than those before.
-    fn make_room(&mut self, alloc: Global, problem: &Problem) -> Result<(), AllocError>
-        ensures { OnOk result (HasRoom self.new (length problem.now.units) (length problem.now.materials)) }
-    {
-        if !self.fits(problem) {
+        if !self.certified.is_for(problem) {
             *self = FlowEvaluator::open(alloc, problem)?;
         }
         Ok(())
+    }
+
+    /// There is room for the program of each node of the problem. A call tells a proof so, and does nothing.
+    fn has_room(&self)
+        ensures { HasRoom self.now.bench (length self.now.problem.units) (length self.now.problem.materials) }
+    {
+        let _is_walked = self.is_walked;
+    }
+
+    /// What is told of the node without its path, if anything.
+    fn certify(
+        &mut self,
+        alloc: Global,
+        problem: &Problem,
+        graph: &Graph,
+        node: Node,
+        decided: bool,
+    ) -> Result<Option<Evaluation>, AllocError>
+        requires own { self.old.problem ≡ problem.now }
+        requires graph { shape graph.now ≡ shape_of problem.now }
+        requires sound { IsSound (shape_of problem.now) (node_of node) }
+        requires split { decided ≡ true → IsDecided (shape_of problem.now) (node_of node) }
+        ensures same { self.new ≡ self.old }
+        ensures evaluated { IfOk result (λ found. IfSome found (IsEvaluated IsPastAt problem.now (node_of node) decided)) }
+    {
+        self.is_walked = false;
+        let told = self.certified.look(alloc, problem, graph, node, decided)?;
+        Ok(evaluation_of(told))
     }
 }
 
@@ -141,7 +171,12 @@ impl Evaluator for FlowEvaluator {
         node: Node,
         decided: bool,
     ) -> Result<Evaluation, AllocError> {
-        self.make_room(alloc, problem)?;
+        self.make_ready(alloc, problem)?;
+        if let Some(evaluation) = self.certify(alloc, problem, graph, node, decided)? {
+            return Ok(evaluation);
+        }
+        self.has_room();
+        self.is_walked = true;
         evaluate_on(alloc, problem, graph, &node, decided, &mut self.bench)
     }
 
@@ -151,14 +186,22 @@ impl Evaluator for FlowEvaluator {
         problem: &Problem,
         graph: &Graph,
         node: Node,
-        _cost: i128,
-        _d: i128,
+        cost: i128,
+        d: i128,
     ) -> Result<Proof, AllocError> {
-        self.make_room(alloc, problem)?;
+        self.make_ready(alloc, problem)?;
+        if let Some(scaled) = self.certified.prove(alloc, problem, graph, node, cost, d)? {
+            return Ok(Proof::Scaled(scaled));
+        }
+        self.has_room();
         prove_on(alloc, problem, graph, &node, &mut self.bench)
     }
 
     fn sizes(&self) -> &[i64] {
-        self.bench.sizes()
+        if self.is_walked {
+            self.bench.sizes()
+        } else {
+            self.certified.sizes()
+        }
     }
 }

@@ -1,16 +1,19 @@
-//! The evaluator that a search stands on, by the simplex method.
+//! The evaluator that a search stands on.
 //!
-//! A [`FlowEvaluator`] walks the path of a node's program on one bench, and tells what its last basis gives: the least cost of
-//! relaxed flows with multipliers that prove it, at a decided node a network of that cost, or multipliers that refute the node.
-//! Where a number on the way is past the range it tells the columns outside the basis and the place.
+//! A [`FlowEvaluator`] values a node in two ways. The first is a guess that is judged exactly. Where that tells nothing, the path of
+//! the node's program is walked on one bench by the simplex method, and its last basis tells: the least cost of relaxed flows with
+//! multipliers that prove it, at a decided node a network of that cost, or multipliers that refute the node. Where a number on this
+//! way is past the range it tells the columns outside the basis and the place; so it is the path alone that halts a search.
 //!
 //! - `evaluator`: the evaluator
-//! - `answers`: what the last basis gives
+//! - `told`: what is told without a path, as an evaluation
+//! - `answers`: what the last basis of a path gives
 //! - `sums`: the sums over what the bench keeps, which may leave the range
 #![tactic(auto)]
 
 mod answers;
 mod evaluator;
 mod sums;
+mod told;
 
 pub use evaluator::FlowEvaluator;
