@@ -55,10 +55,15 @@ fn digits(number: u64) -> u32
     64 - number.leading_zeros()
 }
 
-/// A number in the middle of two others by their lengths, and at most half the greater.
-fn middle(low: u64, high: u64) -> u64 {
-    let shift = (digits(low) + digits(high)) / 2;
+/// A number between two others: in the middle by their lengths and at most half the greater, where that is above the lesser.
+fn middle(low: u64, high: u64) -> u64
+    requires { low < high }
+{
     let half = high / 2;
+    if half <= low {
+        return low + (high - low) / 2;
+    }
+    let shift = (digits(low) + digits(high)) / 2;
     if shift < 63 && (1u64 << shift) < half {
         1u64 << shift
     } else {
