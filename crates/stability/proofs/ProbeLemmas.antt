@@ -1,17 +1,14 @@
 -- What a search at one value tells.
-use Rattle.std.proofs.Common.{◌≡◌, ℕ, ◌≤◌, ◌⊎◌, inl, inr, Bool, true, false, ℤ, pos, ◌-ℤ◌, ◌*ℤ◌, ◌≤ℤ◌, ◌<ℤ◌, Option, Some, None, refl, sym, ap, ◌∙◌, subst, arith}
+use Rattle.std.proofs.Common.{◌⊎◌, inl, inr, ℤ, pos, ◌-ℤ◌, ◌*ℤ◌, ◌≤ℤ◌, ◌<ℤ◌, arith}
 use Rattle.std.proofs.lemmas.Int.{ints}
 use Rattle.integer_laws.proofs.Ring.{ring_z}
 use Rattle.integer_laws.proofs.Order.{mul-le_right, cancel_le, sign_cases}
-use Rattle.number_sets.specs.Sets.{has}
 use Rattle.problem_rules.specs.Problem.{Problem}
 use Rattle.problem_rules.specs.Validity.{IsValid}
-use Rattle.pns_rules.specs.Shape.{shape_of}
-use Rattle.pns_rules.specs.Structure.{IsStructure, IsAllowed}
 use Rattle.flow_rules.specs.Net.{net_of}
-use Rattle.flow_rules.specs.Flows.{IsFlows, cost}
-use Rattle.tree_rules.specs.Claim.{Network, network, CostOver, IsFeasible}
-use Rattle.tree_rules.specs.Accepted.{Tree, first_node, IsAccepted}
+use Rattle.flow_rules.specs.Flows.{cost}
+use Rattle.tree_rules.specs.Claim.{Network, network, CostOver}
+use Rattle.tree_rules.specs.Accepted.{Tree, first_node}
 use Rattle.tree_laws.specs.Laws.{AcceptedIsOptimal, AcceptedHasFlows}
 use Rattle.abb_search.specs.Found.{IsProved}
 use Rattle.stability_rules.specs.Range.{IsLeast, IsCheaper}

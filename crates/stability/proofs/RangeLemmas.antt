@@ -1,5 +1,5 @@
 -- The range out of its two ends, and what stands behind a refusal.
-use Rattle.std.proofs.Common.{◌≡◌, ℕ, ◌+◌, ◌/◌, ◌<◌, ◌≤◌, inl, inr, ℤ, pos, ◌+ℤ◌, ◌-ℤ◌, ◌≤ℤ◌, Option, Some, None, refl, sym, ap, ◌∙◌, subst, arith}
+use Rattle.std.proofs.Common.{◌≡◌, ℕ, ◌+◌, ◌/◌, ◌<◌, ◌≤◌, inl, inr, ℤ, pos, ◌+ℤ◌, ◌-ℤ◌, Some, None, refl, sym, ap, ◌∙◌, subst, arith}
 use Rattle.std.proofs.lemmas.Int.{ints}
 use Rattle.problem_rules.specs.Problem.{Problem}
 use Rattle.number_sets.specs.Sets.{has}
@@ -13,7 +13,7 @@ use Rattle.stability_rules.specs.declared.spot.Spot.{Spot}
 use Rattle.stability_rules.specs.declared.side.Side.{Side}
 use Rattle.stability_rules.specs.declared.side.Side.TheVariants.{Below, Above}
 use Rattle.stability_rules.specs.Spot.{KnowsSpot, value_at, valued, IsAllowedValue, value_on, limit_on}
-use Rattle.stability_rules.specs.Range.{IsBestAt, IsCheaper, IsCheaperAt, EndsAt, beyond, IsRange, IsHalfProved, MayWant}
+use Rattle.stability_rules.specs.Range.{IsBestAt, IsCheaper, IsCheaperAt, beyond, IsRange, IsHalfProved, MayWant}
 use Rattle.stability_laws.specs.Laws.{ValuedIsSame, BestBetween}
 use Rattle.stability.specs.Case.{Case}
 use Rattle.stability.specs.Refusal.{IsPastCost, IsSearchStop, IsStopAt, IsRefusal}

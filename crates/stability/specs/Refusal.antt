@@ -10,7 +10,7 @@ use Rattle.tree_rules.specs.Accepted.{first_node}
 use Rattle.abb_search.specs.Found.{IsFound}
 use Rattle.abb_search.specs.declared.outcome.Found.TheVariants as founds
 use Rattle.stability_rules.specs.declared.spot.Spot.{Spot}
-use Rattle.stability_rules.specs.Spot.{value_at, valued, IsAllowedValue}
+use Rattle.stability_rules.specs.Spot.{valued, IsAllowedValue}
 use Rattle.stability_rules.specs.Range.{IsBestAt, IsCheaper, IsCheaperAt, IsHalfProved, MayWant}
 use Rattle.stability.specs.declared.outcome.RangeFault.{RangeFault}
 use Rattle.stability.specs.declared.outcome.RangeFault.TheVariants.{NotBest, Spent, Past, PastCost, Memory}

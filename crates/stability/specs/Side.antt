@@ -5,7 +5,6 @@ use Rattle.stability_rules.specs.Spot.{KnowsSpot, value_at, IsAllowedValue, valu
 use Rattle.stability_rules.specs.Range.{IsBestAt, IsCheaperAt, EndsAt}
 use Rattle.stability.specs.Case.{Case}
 use Rattle.stability.specs.Refusal.{IsStopAt}
-use Rattle.stability.specs.declared.outcome.RangeFault.{RangeFault}
 use Rattle.stability.specs.declared.outcome.RangeFault.TheVariants.{Memory}
 use Rattle.stability.specs.declared.side.Beyond.{Beyond}
 use Rattle.stability.specs.declared.side.Beyond.TheVariants.{Cheaper, Wanting}
