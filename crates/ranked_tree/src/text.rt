@@ -1,5 +1,5 @@
 //! Whole ranked trees.
-ghost use Rattle.std.specs.Prelude.{◌≡◌, map};
+ghost use Rattle.std.specs.Prelude.{◌≡◌, ◌<◌, ◌^◌, length, map};
 ghost use Rattle.ranked_tree.specs.Text.{IsCounted};
 ghost use Rattle.ranked_tree.specs.View.{mark_of};
 ghost use Rattle.branch_tree.specs.View.{tail_of};
@@ -91,7 +91,8 @@ impl RankText {
 
     /// The counts are kept. A call tells a proof so, and does nothing.
     pub fn is_counted(&self)
-        ensures { IsCounted self.now.count self.now.networks self.now.marks }
+        ensures counted { IsCounted self.now.count self.now.networks self.now.marks }
+        ensures few { length self.now.networks < 2 ^ 32 }
     {
         let _count = self.count;
     }

@@ -1,0 +1,72 @@
+-- The open leaves in turn, each with the mark at its place.
+use Rattle.std.proofs.Common.{◌≡◌, ℕ, zero, suc, ◌+◌, ◌<◌, ◌≤◌, false, List, [], ◌∷◌, length, drop, map, get_or, Option, None, refl, sym, ap, ◌∙◌, subst, inl, inr, arith}
+use Rattle.problem_rules.specs.Problem.{Problem}
+use Rattle.pns_rules.specs.Nodes.{Node}
+use Rattle.tree_rules.specs.declared.why.Why.TheVariants as causes
+use Rattle.tree_rules.specs.Claim.{Network, CostOver}
+use Rattle.part_rules.specs.OpenLeaves.{OpenAt}
+use Rattle.rank_rules.specs.declared.why.RankWhy.{RankWhy}
+use Rattle.rank_rules.specs.declared.why.RankWhy.TheVariants.{Plain}
+use Rattle.rank_rules.specs.Leaf.{LeafPasses, LeafFails}
+use Rattle.ranked_tree.specs.Marked.{Mark, marked_leaf, first_mark, other_marks}
+use Rattle.ranked_tree.specs.declared.mark.Mark as code
+use Rattle.ranked_tree.specs.View.{mark_of}
+use Rattle.rank_check.specs.Marks.{MarksPass, MarkFails, IsFirstMark}
+
+ahead_at : {X Y : Type 0} (f : X → Y) (xs : List X) (i : ℕ) (x : X) → i < length xs → x ≡ get_or xs i x → drop i (map f xs) ≡ f x ∷ drop (suc i) (map f xs)
+ahead_at f [] i x h k = absurd (omega arith)
+ahead_at f (z ∷ zs) zero x h k = ap (λ w. f w ∷ map f zs) (sym k)
+ahead_at f (z ∷ zs) (suc i) x h k = ahead_at f zs i x (omega arith) k
+
+pub map_ahead : {X Y : Type 0} (f : X → Y) (xs : List X) (i : ℕ) (x : X) → i < length xs → x ≡ get_or xs i x → drop i (map f xs) ≡ f x ∷ drop (i + 1) (map f xs)
+map_ahead f xs i x lt e = ahead_at f xs i x lt e ∙ ap (λ (k : ℕ). f x ∷ drop k (map f xs)) (let q : suc i ≡ i + 1 = omega arith in q)
+
+pub map_behind : {X Y : Type 0} (f : X → Y) (xs : List X) (i : ℕ) → length xs ≤ i → drop i (map f xs) ≡ []
+map_behind f [] zero h = refl
+map_behind f [] (suc i) h = refl
+map_behind f (x ∷ xs) zero h = absurd (omega arith)
+map_behind f (x ∷ xs) (suc i) h = map_behind f xs i (omega arith)
+
+others_behind : (ms : List Mark) (i : ℕ) → other_marks (drop i ms) ≡ drop (suc i) ms
+others_behind [] zero = refl
+others_behind [] (suc i) = refl
+others_behind (m ∷ ms) zero = refl
+others_behind (m ∷ ms) (suc i) = others_behind ms i
+
+-- the mark at a place, or none behind the last
+pub mark_here : (marks : List code.Mark) (i : ℕ) (m : code.Mark) → i < length marks → m ≡ get_or marks i m → first_mark (drop i (map mark_of marks)) ≡ mark_of m
+mark_here marks i m lt e = ap first_mark (map_ahead mark_of marks i m lt e)
+
+pub mark_none : (marks : List code.Mark) (i : ℕ) → length marks ≤ i → first_mark (drop i (map mark_of marks)) ≡ None
+mark_none marks i le = ap first_mark (map_behind mark_of marks i le)
+
+-- a leaf that is open
+pub open_fails : (p : Problem) (ws : List Network) (undercut : Option CostOver) (n : Node) → MarkFails (LeafFails false p ws undercut) n None (Plain causes.Open)
+open_fails p ws undercut n = (causes.Open, inl (refl, (λ e. absurd cc)), refl)
+
+module _ (p : Problem) (ws : List Network) where
+  -- the leaves before place i pass, and what is still to come decides of the whole
+  pub record AreOn (ls : List OpenAt) (ms : List Mark) (i : ℕ) : Type 0 where
+    pub passes : (undercut : Option CostOver) → MarksPass (LeafPasses false p ws undercut) (drop i ls) (drop i ms) → MarksPass (LeafPasses false p ws undercut) ls ms
+    pub fails : (undercut : Option CostOver) (k : ℕ) (why : RankWhy) → IsFirstMark (LeafPasses false p ws undercut) (LeafFails false p ws undercut) (drop i ls) (drop i ms) k why → IsFirstMark (LeafPasses false p ws undercut) (LeafFails false p ws undercut) ls ms k why
+
+  pub marks_start : (ls : List OpenAt) (ms : List Mark) → AreOn ls ms 0
+  marks_start ls ms = record { passes = λ u h. h; fails = λ u k why h. h }
+
+  pub marks_next : (ls : List OpenAt) (ms : List Mark) (i : ℕ) (l : OpenAt) → drop i ls ≡ l ∷ drop (i + 1) ls → ((undercut : Option CostOver) → LeafPasses false p ws undercut l.node (marked_leaf (first_mark (drop i ms)))) → AreOn ls ms i → AreOn ls ms (i + 1)
+  marks_next ls ms i l here h on =
+      let others : other_marks (drop i ms) ≡ drop (i + 1) ms = others_behind ms i ∙ ap (λ (k : ℕ). drop k ms) (let q : suc i ≡ i + 1 = omega arith in q) in
+      record {
+        passes = λ u rest. on.passes u (subst (λ (xs : List OpenAt). MarksPass (LeafPasses false p ws u) xs (drop i ms)) (sym here)
+            (h u, subst (λ (ns : List Mark). MarksPass (LeafPasses false p ws u) (drop (i + 1) ls) ns) (sym others) rest));
+        fails = λ u k why rest. on.fails u k why (subst (λ (xs : List OpenAt). IsFirstMark (LeafPasses false p ws u) (LeafFails false p ws u) xs (drop i ms) k why) (sym here)
+            (inr (h u, subst (λ (ns : List Mark). IsFirstMark (LeafPasses false p ws u) (LeafFails false p ws u) (drop (i + 1) ls) ns k why) (sym others) rest)));
+      }
+
+  pub mark_off : (ls : List OpenAt) (ms : List Mark) (i : ℕ) (l : OpenAt) (why : RankWhy) → drop i ls ≡ l ∷ drop (i + 1) ls → ((undercut : Option CostOver) → MarkFails (LeafFails false p ws undercut) l.node (first_mark (drop i ms)) why) → AreOn ls ms i
+      → (undercut : Option CostOver) → IsFirstMark (LeafPasses false p ws undercut) (LeafFails false p ws undercut) ls ms l.number why
+  mark_off ls ms i l why here h on u =
+      on.fails u l.number why (subst (λ (xs : List OpenAt). IsFirstMark (LeafPasses false p ws u) (LeafFails false p ws u) xs (drop i ms) l.number why) (sym here) (inl (refl, h u)))
+
+  pub marks_end : (ls : List OpenAt) (ms : List Mark) (i : ℕ) → drop i ls ≡ [] → AreOn ls ms i → (undercut : Option CostOver) → MarksPass (LeafPasses false p ws undercut) ls ms
+  marks_end ls ms i none on u = on.passes u (subst (λ (xs : List OpenAt). MarksPass (LeafPasses false p ws u) xs (drop i ms)) (sym none) tt)

@@ -1,0 +1,40 @@
+-- The open leaves of a tree, each judged by its mark: P tells which leaves pass, F for which cause one fails.
+use Rattle.std.specs.Prelude.{◌≡◌, ◌⊎◌, ℕ, ℤ, pos, ◌≤ℤ◌, List, [], ◌∷◌, Option}
+use Rattle.problem_rules.specs.Problem.{Problem}
+use Rattle.pns_rules.specs.Nodes.{Node}
+use Rattle.tree_rules.specs.declared.why.Why.{Why}
+use Rattle.tree_rules.specs.declared.why.Why.TheVariants.{Bound, Sum}
+use Rattle.tree_rules.specs.Fault.{Fails}
+use Rattle.tree_rules.specs.Tree.{leaf}
+use Rattle.tree_rules.specs.Claim.{Network}
+use Rattle.tree_rules.specs.Leaf.{IsOneEach, IsFormed, Reaches}
+use Rattle.part_rules.specs.OpenLeaves.{OpenAt}
+use Rattle.rank_rules.specs.declared.why.RankWhy.{RankWhy}
+use Rattle.rank_rules.specs.declared.why.RankWhy.TheVariants.{Plain, Named}
+use Rattle.rank_rules.specs.Leaf.{Leaf, IsOnly, named_cost, IsTold}
+use Rattle.ranked_tree.specs.Marked.{Mark, marked_leaf, first_mark, other_marks}
+
+-- each leaf passes as what its mark tells
+abbrev pub MarksPass : (Node → Leaf → Type 0) → List OpenAt → List Mark → Type 0
+MarksPass P [] ms = Unit {0}
+MarksPass P (l ∷ ls) ms = P l.node (marked_leaf (first_mark ms)) × MarksPass P ls (other_marks ms)
+
+-- a leaf fails for a cause that is told so
+abbrev pub MarkFails : (Node → Leaf → Why → Type 0) → Node → Mark → RankWhy → Type 0
+MarkFails F n m why = (cause : Why) × F n (marked_leaf m) cause × IsTold (leaf (marked_leaf m)) cause why
+
+-- a leaf that names the network that was found, or none, fails for a cause that is told so
+abbrev pub NamedFails : Problem → Option Network → Node → ℤ → List ℤ → RankWhy → Type 0
+NamedFails p found n d ys why =
+    (cause : Why)
+    × Fails (IsOnly p found n × (pos 1 ≤ℤ d) × IsOneEach p n ys) Bound
+    (Fails (IsFormed p n d ys) Sum
+    (Fails (Reaches p (named_cost found) n d ys) Bound ⊥ cause) cause) cause
+    × (((cause ≡ Bound) × (why ≡ Named)) ⊎ ((cause ≡ Bound → ⊥) × (why ≡ Plain cause)))
+
+-- the first leaf that fails is that of node k, for the cause
+abbrev pub IsFirstMark : (Node → Leaf → Type 0) → (Node → Leaf → Why → Type 0) → List OpenAt → List Mark → ℕ → RankWhy → Type 0
+IsFirstMark P F [] ms k why = ⊥
+IsFirstMark P F (l ∷ ls) ms k why =
+    ((l.number ≡ k) × MarkFails F l.node (first_mark ms) why)
+    ⊎ (P l.node (marked_leaf (first_mark ms)) × IsFirstMark P F ls (other_marks ms) k why)

@@ -1,0 +1,57 @@
+-- What a refusal says of a ranking. Want of memory says nothing, and is the only answer that another may give way to.
+use Rattle.std.specs.Prelude.{◌≡◌, ◌⊎◌, ℕ, false, true, List, [], ◌∷◌, Result, Ok, Err}
+use Rattle.problem_rules.specs.Problem.{Problem}
+use Rattle.pns_rules.specs.Shape.{shape_of}
+use Rattle.tree_rules.specs.Tree.{Pass}
+use Rattle.tree_rules.specs.Leaf as leaves
+use Rattle.tree_rules.specs.Accepted.{first_node}
+use Rattle.part_rules.specs.OpenLeaves.{OpenAt}
+use Rattle.cert_check.specs.declared.refusal.Refusal as plain
+use Rattle.cert_check.specs.Refusals.{NamesFault}
+use Rattle.rank_rules.specs.declared.why.RankWhy.{RankWhy}
+use Rattle.rank_rules.specs.Leaf.{LeafPasses, LeafFails}
+use Rattle.rank_rules.specs.Networks.{to_undercut, ArePassing}
+use Rattle.rank_rules.specs.Ranked.{Ranking, NetworkIsFault, NodeIsFault}
+use Rattle.ranked_tree.specs.Text.{Text}
+use Rattle.rank_check.specs.Marks.{MarksPass, IsFirstMark}
+use Rattle.rank_check.specs.declared.refusal.RankRefusal.{RankRefusal}
+use Rattle.rank_check.specs.declared.refusal.RankRefusal.TheVariants.{Memory, Network, Node}
+
+-- the tree passes, where leaves may be open
+abbrev pub PlainPasses : Problem → Text → Type 0
+PlainPasses p t = Pass (shape_of p) (leaves.LeafPasses true p (to_undercut t.count t.networks)) (first_node ∷ []) t.tree
+
+-- its first fault, where leaves may be open
+abbrev pub NamesPlainFault : Problem → Text → plain.Refusal → Type 0
+NamesPlainFault p t refusal =
+    NamesFault (shape_of p) (leaves.LeafPasses true p (to_undercut t.count t.networks)) (leaves.LeafFails true p (to_undercut t.count t.networks))
+    (first_node ∷ []) t.tree refusal
+
+-- the open leaves pass by their marks, or the first that fails is that of node k
+abbrev pub OpenPass : Problem → Text → List OpenAt → Type 0
+OpenPass p t found = MarksPass (LeafPasses false p t.networks (to_undercut t.count t.networks)) found t.marks
+
+abbrev pub OpenFails : Problem → Text → List OpenAt → ℕ → RankWhy → Type 0
+OpenFails p t found k why = IsFirstMark (LeafPasses false p t.networks (to_undercut t.count t.networks)) (LeafFails false p t.networks (to_undercut t.count t.networks)) found t.marks k why
+
+-- a node is the first that fails, for the cause
+abbrev pub IsNodeAnswer : Problem → Ranking → RankRefusal → Type 0
+IsNodeAnswer p r Memory = Unit {0}
+IsNodeAnswer p r (Network k why) = ⊥
+IsNodeAnswer p r (Node k why) = NodeIsFault false p r k why
+
+-- a network is the first that fails for the cause; or all pass, and a node is the first that fails for the cause
+abbrev pub Refuses : Problem → Ranking → RankRefusal → Type 0
+Refuses p r Memory = Unit {0}
+Refuses p r (Network k why) = NetworkIsFault p r k why
+Refuses p r (Node k why) = ArePassing p [] r.networks × NodeIsFault false p r k why
+
+-- the answer is Ok, or want of memory
+abbrev pub IsOkOrMemory : {A : Type 0} → Result A RankRefusal → Type 0
+IsOkOrMemory (Ok x) = Unit {0}
+IsOkOrMemory (Err e) = e ≡ Memory
+
+-- the answer is this refusal, or want of memory
+abbrev pub IsRefusalOrMemory : {A : Type 0} → RankRefusal → Result A RankRefusal → Type 0
+IsRefusalOrMemory wanted (Ok x) = ⊥
+IsRefusalOrMemory wanted (Err e) = (e ≡ wanted) ⊎ (e ≡ Memory)
