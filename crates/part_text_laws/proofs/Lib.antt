@@ -1,0 +1,3 @@
+mod SetTokens
+mod Texts
+mod Once
