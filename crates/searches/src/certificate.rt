@@ -28,7 +28,7 @@ use tree_text_laws::spelled_texts_read;
 
 /// What is claimed, the tree, and where the search stopped.
 #[derive(Drop)]
-pub(crate) struct Certificate {
+pub struct Certificate {
     claim: Claim,
     tree: Tree,
     tail: Tail,
@@ -54,7 +54,7 @@ fn claim_with(best: Option<Network>) -> Claim
 }
 
 /// What was found, as it is printed; `None` exactly for want of memory.
-fn certificate_of(found: Found) -> Option<Certificate>
+pub fn certificate_of(found: Found) -> Option<Certificate>
     ensures { result ≡ certificate_of found }
 {
     match found {
@@ -98,7 +98,7 @@ fn certificate_of(found: Found) -> Option<Certificate>
 }
 
 /// The status with which a text of this tail is printed.
-fn status_of(tail: &Tail) -> Status
+pub fn status_of(tail: &Tail) -> Status
     ensures { result ≡ status_of (tail_of tail.now) }
 {
     match tail {
@@ -151,6 +151,15 @@ fn claim_is_kept(claim: &Claim)
 }
 
 impl Certificate {
+    /// The claim, the tree and the tail.
+    pub fn into_parts(self) -> (Claim, Tree, Tail)
+        ensures claim { claim_of result.0 ≡ self.claim }
+        ensures tree { result.1 ≡ self.tree }
+        ensures tail { tail_of result.2 ≡ self.tail }
+    {
+        (self.claim, self.tree, self.tail)
+    }
+
     // The text of a certificate reads as it. A call tells a proof so, and does nothing.
     fn reads_back(&self, problem: &Problem)
         requires claim { KnowsClaim problem.now self.now.claim }
