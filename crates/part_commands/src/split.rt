@@ -76,7 +76,7 @@ fn node_line(alloc: Global, node: u32, why: Why) -> Result<String, AllocError>
     Ok(text)
 }
 
-fn say_node<K: Sink>(alloc: Global, out: &mut K, node: u32, why: Why) -> Status
+pub(crate) fn say_node<K: Sink>(alloc: Global, out: &mut K, node: u32, why: Why) -> Status
     ensures { Ends (OrMemory (Only Refused (line (node_line node why)))) (HasRisen (K.faults out.old) (K.faults out.new)) (K.written out.old) (K.written out.new) result }
 {
     match node_line(alloc, node, why) {

@@ -1,0 +1,92 @@
+-- The files of several parts, one after another.
+use Rattle.std.proofs.Common.{◌≡◌, Bool, ◌≤◌, ◌<◌, ◌+◌, ℕ, suc, List, [], ◌∷◌, ◌++◌, Option, length, take, get_or, refl, sym, ap, ◌∙◌, subst, inl, inr, ◌⊎◌, add-one}
+use Rattle.std.specs.List.{Contains}
+use Rattle.std.proofs.Math.Seq.{take-suc, take-length}
+use Rattle.pns_io.specs.Outside.{HasRisen}
+use Rattle.problem_rules.specs.Problem.{Problem}
+use Rattle.tree_rules.specs.Claim.{Claim}
+use Rattle.tree_rules.specs.Accepted.{Tree}
+use Rattle.tree_parts.specs.Part.{Part}
+use Rattle.command_files.specs.Reading.{AreHeld, FileFaults, GivesProblem, OnFile}
+use Rattle.command_files.specs.TreeFile.{GivesTree, OnTree, TreeFaults, TreeSays}
+use Rattle.part_commands.specs.Merge.{MergeSays, MergeWork}
+use Rattle.part_commands.specs.PartFile.{GivesPart, GiveParts, PartFault, PartFaults, FirstFault, are_several}
+use Rattle.endings.specs.Ending.{Shelves, Says, Tells}
+use Rattle.endings.specs.declared.status.Status.{Status}
+use Rattle.endings.proofs.Ending.{Says-map, Says-told, Says-over, HasRisen-later}
+
+-- ---- parts in order
+
+module _ (held : List ℕ → Option (List ℕ)) (p : Problem) where
+  one_last : (names : List (List ℕ)) (ps : List Part) (name : List ℕ) (part : Part) → GiveParts held p names ps → (file : List ℕ) × AreHeld (held name) file × GivesPart p file part → GiveParts held p (names ++ name ∷ []) (ps ++ part ∷ [])
+  one_last [] [] name part give one = (one, tt)
+  one_last [] (q ∷ qs) name part give one = absurd give
+  one_last (n ∷ ns) [] name part give one = absurd give
+  one_last (n ∷ ns) (q ∷ qs) name part give one = (give.0, one_last ns qs name part give.1 one)
+
+  pub as_many : (names : List (List ℕ)) (ps : List Part) → GiveParts held p names ps → length ps ≡ length names
+  as_many [] [] give = refl
+  as_many [] (q ∷ qs) give = absurd give
+  as_many (n ∷ ns) [] give = absurd give
+  as_many (n ∷ ns) (q ∷ qs) give = ap suc (as_many ns qs give.1)
+
+  -- the files before this place give these parts
+  pub record GiveBefore (names : List (List ℕ)) (i : ℕ) (ps : List Part) : Type 0 where
+    pub give : GiveParts held p (take i names) ps
+
+  pub none_given : (names : List (List ℕ)) → GiveBefore names 0 []
+  none_given names = record { give = tt }
+
+  pub one_given : (names : List (List ℕ)) (i : ℕ) (ps : List Part) (name : List ℕ) (part : Part) → i < length names → name ≡ get_or names i name → GiveBefore names i ps → (file : List ℕ) × AreHeld (held name) file × GivesPart p file part → GiveBefore names (i + 1) (ps ++ part ∷ [])
+  one_given names i ps name part lt here before one =
+      let more : take (i + 1) names ≡ take i names ++ name ∷ [] =
+      ap (λ (k : ℕ). take k names) (add-one i) ∙ take-suc names i name lt ∙ ap (λ (n : List ℕ). take i names ++ n ∷ []) (sym here) in
+      record { give = subst (λ (ns : List (List ℕ)). GiveParts held p ns (ps ++ part ∷ [])) (sym more) (one_last (take i names) ps name part before.give one) }
+
+  pub all_given : (names : List (List ℕ)) (i : ℕ) (ps : List Part) → i ≡ length names → GiveBefore names i ps → GiveParts held p names ps
+  all_given names i ps e before = subst (λ (ns : List (List ℕ)). GiveParts held p ns ps) (ap (λ (k : ℕ). take k names) e ∙ take-length names) before.give
+
+-- ---- what is said, over the shelf as it was left
+
+module _ (names : List (List ℕ)) (p : Problem) (shelves later : Shelves) (keeps : (other : List ℕ) → later.held other ≡ shelves.held other) (after : later.after ≡ shelves.after)
+    (before : (other : List ℕ) → shelves.before other ≤ later.before other) where
+  rises : (other : List ℕ) → HasRisen (later.before other) (later.after other) → HasRisen (shelves.before other) (shelves.after other)
+  rises other rise =
+      HasRisen-later (shelves.before other) (later.before other) (shelves.after other) (before other)
+      (subst (λ (f : List ℕ → ℕ). HasRisen (later.before other) (f other)) after rise)
+
+  same_held : later.held ≡ shelves.held
+  same_held = λ i other. keeps other i
+
+  -- of a file that gives no part
+  pub fault_told : (several : Bool) (place : ℕ) (name : List ℕ) (ps : List Part) → several ≡ are_several names → place < length names → name ≡ get_or names place name → GiveBefore shelves.held p names place ps
+      → (s : Status) (t : List ℕ) → Says (PartFaults several later.held name p) (λ other. other ≡ name) later s t → Says (FirstFault shelves.held names p) (Contains names) shelves s t
+  fault_told several place name ps is lt here given =
+      Says-over (PartFaults several later.held name p) (FirstFault shelves.held names p) (λ other. other ≡ name) (Contains names) later shelves
+      (λ s lines h. record {
+        place = place;
+        name = name;
+        parts = ps;
+        within = lt;
+        name_is = here;
+        before = given.give;
+        fault = (h.0, subst (λ (o : Option (List ℕ)). AreHeld o h.0) (keeps name) h.1, subst (λ (b : Bool). PartFault b name p h.0 s lines) is h.2);
+      })
+      (λ other e. subst (Contains names) (sym e) (place, lt, sym here)) rises
+
+  -- of the work behind TREE
+  pub tree_told : (tree : List ℕ) (claim : Claim) (ts : Tree) → (file : List ℕ) × AreHeld (shelves.held tree) file × GivesTree p file claim ts
+      → (s : Status) (t : List ℕ) → Says (MergeWork later.held names p claim ts) (Contains names) later s t → Says (OnTree (MergeWork shelves.held names) shelves.held tree p) (λ other. (other ≡ tree) ⊎ Contains names other) shelves s t
+  tree_told tree claim ts given =
+      Says-over (MergeWork later.held names p claim ts) (OnTree (MergeWork shelves.held names) shelves.held tree p) (Contains names) (λ other. (other ≡ tree) ⊎ Contains names other) later shelves
+      (λ s lines h. (given.0, given.1, inr (claim, ts, given.2, subst (λ (held : List ℕ → Option (List ℕ)). MergeWork held names p claim ts s lines) same_held h)))
+      (λ other h. inr h) rises
+
+  -- of the work behind FILE
+  pub file_told : (file tree : List ℕ) → (bytes : List ℕ) × AreHeld (shelves.held file) bytes × GivesProblem bytes p
+      → (s : Status) (t : List ℕ) → Says (OnTree (MergeWork later.held names) later.held tree p) (λ other. (other ≡ tree) ⊎ Contains names other) later s t
+      → Says (OnFile (OnTree (MergeWork shelves.held names) shelves.held tree) shelves.held file) (λ other. (other ≡ file) ⊎ ((other ≡ tree) ⊎ Contains names other)) shelves s t
+  file_told file tree given =
+      Says-over (OnTree (MergeWork later.held names) later.held tree p) (OnFile (OnTree (MergeWork shelves.held names) shelves.held tree) shelves.held file) (λ other. (other ≡ tree) ⊎ Contains names other) (λ other. (other ≡ file) ⊎ ((other ≡ tree) ⊎ Contains names other)) later shelves
+      (λ s lines h. (given.0, given.1, inr (p, given.2, subst (λ (held : List ℕ → Option (List ℕ)). OnTree (MergeWork held names) held tree p s lines) same_held h)))
+      (λ other h. inr h) rises

@@ -1,0 +1,38 @@
+use Rattle.std.proofs.Common.{◌≡◌, ◌∷◌, ◌++◌, [], refl, ap, subst, sym, ◌∙◌, inl, ℕ, List, codes}
+use Rattle.refusal_words.specs.Words.{claim_line, node_line}
+use Rattle.part_commands.specs.Merge.{TreeRefused}
+use Rattle.endings.specs.Lines.{line}
+use Rattle.endings.specs.Ending.{Tells}
+use Rattle.endings.specs.declared.status.Status.{Status}
+use Rattle.endings.specs.declared.status.Status.TheVariants.{Refused, NoLeaf, Memory}
+use Rattle.endings.proofs.Ending.{Ends-map, only_in, only_or_memory_in, one_line}
+use Rattle.part_commands.proofs.merge.say_tree_refused.Goals as goal
+
+pub returns-in-Claim : goal.returns-in-Claim
+returns-in-Claim g c =
+    let Q : Status → List ℕ → Type 0 = Tells (TreeRefused c.args.refusal) in
+    let told : List ℕ = claim_line c.in-Claim.why in
+    Ends-map _ Q _ _ _ _ _
+    (only_or_memory_in Q Refused (line (codes "refused claim " ++ c.why_word.result.now)) (
+      told ∷ [],
+      subst (λ x. TreeRefused x Refused (told ∷ [])) (sym c.in-Claim.is) (refl, refl),
+      ap (λ (word : List ℕ). line (codes "refused claim " ++ word)) c.why_word.ensures ∙ one_line told,
+    ) ([], inl refl, refl))
+    (λ r. r) c.say_of.ensures
+
+pub returns-in-Node : goal.returns-in-Node
+returns-in-Node g c =
+    let Q : Status → List ℕ → Type 0 = Tells (TreeRefused c.args.refusal) in
+    let told : List ℕ = node_line c.in-Node.node c.in-Node.why in
+    Ends-map _ Q _ _ _ _ _
+    (only_or_memory_in Q Refused (line told) (
+      told ∷ [],
+      subst (λ x. TreeRefused x Refused (told ∷ [])) (sym c.in-Node.is) (refl, refl),
+      one_line told,
+    ) ([], inl refl, refl))
+    (λ r. r) c.say_node.ensures
+
+pub returns-in-Memory : goal.returns-in-Memory
+returns-in-Memory g c =
+    let Q : Status → List ℕ → Type 0 = Tells (TreeRefused c.args.refusal) in
+    Ends-map _ Q _ _ _ _ _ (only_in Q Memory (line (codes "memory")) ([], inl refl, refl)) (λ r. r) c.say_memory.ensures

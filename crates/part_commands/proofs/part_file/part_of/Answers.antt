@@ -1,0 +1,53 @@
+use Rattle.std.proofs.Common.{◌≡◌, ◌∷◌, [], Ok, Err, refl, sym, ap, subst, inl, List, ℕ, codes}
+use Rattle.tree_parts.specs.Part as parts
+use Rattle.part_text.specs.Read.{PartReads}
+use Rattle.endings.specs.Lines.{line}
+use Rattle.part_commands.specs.PartFile.{PartFault, PartFaults, part_fault_line}
+use Rattle.endings.specs.Ending.{Shelves, Says}
+use Rattle.endings.specs.declared.status.Status.{Status}
+use Rattle.endings.specs.declared.status.Status.TheVariants.{BadTree, Memory}
+use Rattle.endings.proofs.Ending.{Ends-map, Ends-from, only_in, only_or_memory_in, one_line}
+use Rattle.command_files.proofs.Seconds.{long-faults}
+use Rattle.part_commands.proofs.part_file.part_of.Goals as goal
+
+pub returns-in-Err-clause-told : goal.returns-in-Err-clause-told
+returns-in-Err-clause-told g c =
+    let held = g.F.Shelf.held c.args.shelf.now in
+    let shelves : Shelves = record { held = held; before = g.F.Shelf.faults c.args.shelf.now; after = g.F.Shelf.faults c.bytes_of.new.shelf } in
+    let name = c.args.name.now in
+    let p = c.args.problem.now in
+    let Q : Status → List ℕ → Type 0 = Says (PartFaults c.args.several held name p) (λ other. other ≡ name) shelves in
+    Ends-map _ Q _ _ _ _ _ (long-faults (PartFault c.args.several name p) shelves name 268435456 (λ file lines h. h)) (λ r. r) c.in-Err.ensures.told
+
+pub returns-in-Err-At-clause-told : goal.returns-in-Err-At-clause-told
+returns-in-Err-At-clause-told g c =
+    let held = g.F.Shelf.held c.args.shelf.now in
+    let shelves : Shelves = record { held = held; before = g.F.Shelf.faults c.args.shelf.now; after = g.F.Shelf.faults c.bytes_of.new.shelf } in
+    let name = c.args.name.now in
+    let p = c.args.problem.now in
+    let several = c.args.several in
+    let Q : Status → List ℕ → Type 0 = Says (PartFaults several held name p) (λ other. other ≡ name) shelves in
+    let told : PartReads p c.in-Ok.bytes.items (Err (c.in-Err-At.line, c.in-Err-At.kind)) =
+    subst (λ (bytes : List ℕ). PartReads p bytes (Err (c.in-Err-At.line, c.in-Err-At.kind))) c.deref.ensures.value (rw c.in-Err-At.field-0-is at c.in-Err-At.ensures.fault) in
+    Ends-from _ Q _ _ _ _ _ _ _ (ap g.K.Sink.faults c.in-Ok.ensures.silent) (ap g.K.Sink.written c.in-Ok.ensures.silent)
+    (only_or_memory_in Q BadTree (line (part_fault_line several name c.in-Err-At.line c.in-Err-At.kind)) (
+      part_fault_line several name c.in-Err-At.line c.in-Err-At.kind ∷ [],
+      (c.in-Ok.bytes.items, c.in-Ok.ensures.whole, (c.in-Ok.ensures.within, (c.in-Err-At.line, c.in-Err-At.kind, told, refl))),
+      one_line (part_fault_line several name c.in-Err-At.line c.in-Err-At.kind),
+    ) ([], inl refl, refl))
+    c.say_part_fault.ensures
+
+pub returns-clause-told : goal.returns-clause-told
+returns-clause-told g c =
+    let held = g.F.Shelf.held c.args.shelf.now in
+    let shelves : Shelves = record { held = held; before = g.F.Shelf.faults c.args.shelf.now; after = g.F.Shelf.faults c.bytes_of.new.shelf } in
+    let name = c.args.name.now in
+    let p = c.args.problem.now in
+    let Q : Status → List ℕ → Type 0 = Says (PartFaults c.args.several held name p) (λ other. other ≡ name) shelves in
+    Ends-from _ Q _ _ _ _ _ _ _ (ap g.K.Sink.faults c.in-Ok.ensures.silent) (ap g.K.Sink.written c.in-Ok.ensures.silent)
+    (only_in Q Memory (line (codes "memory")) ([], inl refl, refl)) c.say_memory.ensures
+
+pub returns-in-Ok-read_part-clause-part : goal.returns-in-Ok-read_part-clause-part
+returns-in-Ok-read_part-clause-part g c =
+    let p = c.args.problem.now in
+    (c.in-Ok.bytes.items, c.in-Ok.ensures.whole, (c.in-Ok.ensures.within, subst (λ (bytes : List ℕ). PartReads p bytes (Ok c.in-Ok-read_part.part)) c.deref.ensures.value c.in-Ok-read_part.ensures.read))

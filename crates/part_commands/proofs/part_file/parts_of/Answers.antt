@@ -1,0 +1,61 @@
+use Rattle.std.proofs.Common.{◌≡◌, ◌<◌, ◌+◌, ◌∷◌, [], ap, refl, sym, ◌∙◌, subst, ℕ, List, Option, inl, map, length, nat_lt, get_or, arith, string_bytes}
+use Rattle.std.specs.List.{Contains}
+use Rattle.std.proofs.lemmas.List.{length-map, get_or-map}
+use Rattle.problem_rules.specs.Each.{Each}
+use Rattle.text_laws.proofs.Each.{each-append}
+use Rattle.tree_parts.specs.Part.{Part}
+use Rattle.part_text.specs.Spelling.{KnowsPart}
+use Rattle.command_files.specs.Reading.{AreHeld}
+use Rattle.part_commands.specs.PartFile.{FirstFault, GivesPart}
+use Rattle.part_commands.proofs.PartFiles.{GiveBefore, one_given, fault_told}
+use Rattle.endings.specs.Ending.{Shelves, Says}
+use Rattle.endings.specs.declared.status.Status.{Status}
+use Rattle.endings.specs.declared.status.Status.TheVariants.{Memory}
+use Rattle.endings.proofs.Ending.{Ends-from, only_in}
+use Rattle.part_commands.proofs.part_file.parts_of.Goals as goal
+
+pub returns-in_default-clause-told : goal.returns-in_default-clause-told
+returns-in_default-clause-told g c =
+    let shelves : Shelves = record { held = g.F.Shelf.held c.args.shelf.now; before = g.F.Shelf.faults c.args.shelf.now; after = g.F.Shelf.faults c.part_of.new.shelf } in
+    let names = map string_bytes c.args.names.now in
+    let Q : Status → List ℕ → Type 0 = Says (FirstFault shelves.held names c.args.problem.now) (Contains names) shelves in
+    let silent = c.in-Ok.ensures.silent ∙ c.reading.invariant.silent in
+    Ends-from _ Q _ _ _ _ _ _ _ (ap g.K.Sink.faults silent) (ap g.K.Sink.written silent) (only_in Q Memory _ ([], inl refl, refl)) c.say_memory.ensures
+
+pub returns-in-Err-clause-told : goal.returns-in-Err-clause-told
+returns-in-Err-clause-told g c =
+    let shelves : Shelves = record { held = g.F.Shelf.held c.args.shelf.now; before = g.F.Shelf.faults c.args.shelf.now; after = g.F.Shelf.faults c.part_of.new.shelf } in
+    let later : Shelves = record { held = g.F.Shelf.held c.reading.shelf; before = g.F.Shelf.faults c.reading.shelf; after = g.F.Shelf.faults c.part_of.new.shelf } in
+    let list = c.args.names.now in
+    let names = map string_bytes list in
+    let place = c.reading.name-index in
+    let name = c.as_str.result.now in
+    let count = length-map list string_bytes in
+    let lt : place < length names = omega (arith, count, c.reading-test.true) in
+    let here : name ≡ get_or names place name = c.as_str.ensures.value ∙ (ap string_bytes c.name-item.is ∙ sym (get_or-map string_bytes list place c.name-item.result name c.reading-test.true)) in
+    let Q : Status → List ℕ → Type 0 = Says (FirstFault shelves.held names c.args.problem.now) (Contains names) shelves in
+    Ends-from _ Q _ _ _ _ _ _ _ (ap g.K.Sink.faults c.reading.invariant.silent) (ap g.K.Sink.written c.reading.invariant.silent)
+    (fault_told names c.args.problem.now shelves later c.reading.invariant.keeps refl c.reading.invariant.later (nat_lt 1 (length list)) place name c.reading.parts.items (ap (λ (n : ℕ). nat_lt 1 n) (sym count)) lt here c.reading.invariant.given)
+    c.in-Err.ensures.told
+
+pub reading-preserved : goal.reading-preserved
+reading-preserved g c =
+    let held = g.F.Shelf.held c.args.shelf.now in
+    let p = c.args.problem.now in
+    let list = c.args.names.now in
+    let names = map string_bytes list in
+    let place = c.reading.name-index in
+    let name = c.as_str.result.now in
+    let part = c.in-Ok.part in
+    let count = length-map list string_bytes in
+    let lt : place < length names = omega (arith, count, c.reading-test.true) in
+    let here : name ≡ get_or names place name = c.as_str.ensures.value ∙ (ap string_bytes c.name-item.is ∙ sym (get_or-map string_bytes list place c.name-item.result name c.reading-test.true)) in
+    let read = c.in-Ok.ensures.part in
+    let one : (file : List ℕ) × AreHeld (held name) file × GivesPart p file part = (read.0, subst (λ (o : Option (List ℕ)). AreHeld o read.0) (c.reading.invariant.keeps name) read.1, read.2) in
+    record {
+      given = subst (λ (ps : List Part). GiveBefore held p names (place + 1) ps) (sym c.in-Ok-push.ensures.items) (one_given held p names place c.reading.parts.items name part lt here c.reading.invariant.given one);
+      known = subst (λ (ps : List Part). Each (KnowsPart p) ps) (sym c.in-Ok-push.ensures.items) (each-append (KnowsPart p) c.reading.parts.items (part ∷ []) c.reading.invariant.known (c.in-Ok.ensures.known, tt));
+      silent = c.in-Ok.ensures.silent ∙ c.reading.invariant.silent;
+      later = λ other. let a = c.reading.invariant.later other in let b = c.in-Ok.ensures.later other in omega (arith, a, b);
+      keeps = λ other. c.in-Ok.ensures.keeps other ∙ c.reading.invariant.keeps other;
+    }

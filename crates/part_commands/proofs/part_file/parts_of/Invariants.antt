@@ -1,0 +1,15 @@
+use Rattle.std.proofs.Common.{◌≡◌, ◌≤◌, ℕ, List, map, string_bytes}
+use Rattle.problem_rules.specs.Each.{Each}
+use Rattle.part_text.specs.Spelling.{KnowsPart}
+use Rattle.part_commands.proofs.PartFiles.{GiveBefore}
+use Rattle.part_commands.proofs.part_file.parts_of.Given as goal
+
+-- the files before this one give the parts, and nothing is said
+abbrev pub invariant-reading : goal.invariant-reading
+invariant-reading g l = record {
+  given : GiveBefore (g.F.Shelf.held l.fn.shelf) l.problem (map string_bytes l.names) l.name-index l.parts.items;
+  known : Each (KnowsPart l.problem) l.parts.items;
+  silent : l.out ≡ l.fn.out;
+  later : (other : List ℕ) → g.F.Shelf.faults l.fn.shelf other ≤ g.F.Shelf.faults l.shelf other;
+  keeps : (other : List ℕ) → g.F.Shelf.held l.shelf other ≡ g.F.Shelf.held l.fn.shelf other;
+}

@@ -1,0 +1,246 @@
+//! The command `merge`.
+ghost use Rattle.std.specs.Prelude.{◌≡◌, ◌<◌, ◌⊎◌, ◌++◌, List, ℕ, [], IfOk, get_or, length, map, string_bytes};
+ghost use Rattle.std.specs.List.{Contains};
+ghost use Rattle.pns_io.specs.Outside.{HasRisen};
+ghost use Rattle.problem_rules.specs.Each.{Each};
+ghost use Rattle.branch_tree.specs.Known.{KnowsClaim, KnowsTree};
+ghost use Rattle.branch_tree.specs.View.{claim_of};
+ghost use Rattle.branch_tree.specs.Tail.{whole};
+ghost use Rattle.part_text.specs.Spelling.{KnowsPart};
+ghost use Rattle.tree_text_rules.specs.Spelling.{tree_text_lines};
+ghost use Rattle.command_files.specs.Reading.{OnFile};
+ghost use Rattle.command_files.specs.TreeFile.{OnTree};
+ghost use Rattle.part_commands.specs.Merge.{TreeRefused, PartRefused, FaultSays, MergeSays, MergeWork, part_claim_line, part_node_line, no_leaf_line};
+ghost use Rattle.part_commands.specs.PartFile.{are_several};
+ghost use Rattle.refusal_words.specs.Words.{node_line};
+ghost use Rattle.endings.specs.Lines.{line};
+ghost use Rattle.endings.specs.Printed.{OneAnswer};
+ghost use Rattle.endings.specs.Ending.{Ends, Says, Tells, Only, OrMemory};
+ghost use Rattle.endings.specs.declared.status.Status.TheVariants.{Done, Refused, NoLeaf};
+
+use crate::part_file::{parts_of, push_part};
+use crate::split::say_node;
+use branch_tree::{Claim, Tail, Tree};
+use cert_check::Refusal;
+use command_files::{problem_of, tree_of};
+use endings::Status;
+use endings::say::{say, say_memory, say_of, say_printed};
+use pgraph::Graph;
+use pns_io::{Shelf, Sink};
+use pns_problem::Problem;
+use refusal_words::why_word;
+use std::alloc::{AllocError, Global};
+use tree_parts::{MergeFault, Part, merge_all};
+use tree_rules::Why;
+use tree_text::print_tree;
+
+fn part_claim_line(alloc: Global, several: bool, name: &str, why: Why) -> Result<String, AllocError>
+    ensures { IfOk result (λ text. string_bytes text ≡ line (part_claim_line several name.now why)) }
+{
+    let mut text = String::from_str(alloc, "refused ")?;
+    push_part(&mut text, several, name)?;
+    text.push_str(" claim ")?;
+    text.push_str(why_word(why))?;
+    text.push('\n')?;
+    Ok(text)
+}
+
+fn part_node_line(
+    alloc: Global,
+    several: bool,
+    name: &str,
+    node: u32,
+    why: Why,
+) -> Result<String, AllocError>
+    ensures { IfOk result (λ text. string_bytes text ≡ line (part_node_line several name.now node why)) }
+{
+    let mut text = String::from_str(alloc, "refused ")?;
+    push_part(&mut text, several, name)?;
+    text.push_str(" node ")?;
+    write!(text, "{node}")?;
+    text.push(' ')?;
+    text.push_str(why_word(why))?;
+    text.push('\n')?;
+    Ok(text)
+}
+
+fn no_leaf_line(alloc: Global, several: bool, name: &str) -> Result<String, AllocError>
+    ensures { IfOk result (λ text. string_bytes text ≡ line (no_leaf_line several name.now)) }
+{
+    let mut text = String::from_str(alloc, "no leaf")?;
+    if several {
+        text.push(' ')?;
+        text.push_str(name)?;
+    }
+    text.push('\n')?;
+    Ok(text)
+}
+
+// Puts the line that was made, or tells the want of memory for it.
+fn say_line<K: Sink>(out: &mut K, made: Result<String, AllocError>, status: Status) -> Status
+    requires { (status ≡ Refused) ⊎ (status ≡ NoLeaf) }
+    ensures { (told : List ℕ) → IfOk made (λ text. string_bytes text ≡ line told)
+        → Ends (OrMemory (Only status (line told))) (HasRisen (K.faults out.old) (K.faults out.new)) (K.written out.old) (K.written out.new) result }
+{
+    match made {
+        Ok(text) => say(out, text.as_bytes(), status),
+        Err(_) => say_memory(out),
+    }
+}
+
+// Says why the tree is refused.
+fn say_tree_refused<K: Sink>(alloc: Global, out: &mut K, refusal: Refusal) -> Status
+    ensures { Ends (Tells (TreeRefused refusal)) (HasRisen (K.faults out.old) (K.faults out.new)) (K.written out.old) (K.written out.new) result }
+{
+    match refusal {
+        Refusal::Claim(why) => {
+            say_of(alloc, out, "refused claim ", why_word(why), Status::Refused)
+        }
+        Refusal::Node { node, why } => say_node(alloc, out, node, why),
+        Refusal::Memory => say_memory(out),
+    }
+}
+
+// Says why a part is refused.
+fn say_part_refused<K: Sink>(
+    alloc: Global,
+    out: &mut K,
+    several: bool,
+    name: &str,
+    refusal: Refusal,
+) -> Status
+    ensures { Ends (Tells (PartRefused several name.now refusal)) (HasRisen (K.faults out.old) (K.faults out.new)) (K.written out.old) (K.written out.new) result }
+{
+    match refusal {
+        Refusal::Claim(why) => {
+            let made = part_claim_line(alloc, several, name, why);
+            say_line(out, made, Status::Refused)
+        }
+        Refusal::Node { node, why } => {
+            let made = part_node_line(alloc, several, name, node, why);
+            say_line(out, made, Status::Refused)
+        }
+        Refusal::Memory => say_memory(out),
+    }
+}
+
+// Says why a part is not put back.
+fn say_fault<K: Sink>(
+    alloc: Global,
+    out: &mut K,
+    several: bool,
+    name: &str,
+    fault: MergeFault,
+) -> Status
+    ensures { Ends (Tells (FaultSays several name.now fault)) (HasRisen (K.faults out.old) (K.faults out.new)) (K.written out.old) (K.written out.new) result }
+{
+    match fault {
+        MergeFault::Tree(refusal) => say_tree_refused(alloc, out, refusal),
+        MergeFault::Part(refusal) => say_part_refused(alloc, out, several, name, refusal),
+        MergeFault::NoLeaf => {
+            let made = no_leaf_line(alloc, several, name);
+            say_line(out, made, Status::NoLeaf)
+        }
+        MergeFault::Memory => say_memory(out),
+    }
+}
+
+// Prints the tree and what it proves but for its open leaves.
+fn say_tree_text<K: Sink>(
+    alloc: Global,
+    out: &mut K,
+    problem: &Problem,
+    claim: &Claim,
+    tree: &Tree,
+) -> Status
+    requires claim { KnowsClaim problem.now (claim_of claim.now) }
+    requires tree { KnowsTree problem.now tree.now }
+    ensures { Ends (Tells (OneAnswer Done (tree_text_lines problem.now (claim_of claim.now) tree.now whole))) (HasRisen (K.faults out.old) (K.faults out.new)) (K.written out.old) (K.written out.new) result }
+{
+    let printed = print_tree(alloc, problem, claim, tree, &Tail::Whole, out);
+    say_printed(out, printed, Status::Done)
+}
+
+// Puts the parts back in turn and prints what comes of it, or says which is not put back, and why.
+fn say_merged<K: Sink>(
+    alloc: Global,
+    out: &mut K,
+    problem: &Problem,
+    claim: Claim,
+    tree: Tree,
+    names: &[String],
+    parts: &[Part],
+) -> Status
+    requires claim { KnowsClaim problem.now (claim_of claim) }
+    requires tree { KnowsTree problem.now tree }
+    requires parts { Each (KnowsPart problem.now) parts.now }
+    requires count { length parts.now ≡ length names.now }
+    ensures { Ends (Tells (MergeSays (map string_bytes names.now) problem.now (claim_of claim) tree parts.now)) (HasRisen (K.faults out.old) (K.faults out.new)) (K.written out.old) (K.written out.new) result }
+{
+    let Ok(graph) = Graph::of(alloc, problem) else {
+        return say_memory(out);
+    };
+    match merge_all(alloc, problem, &graph, claim, tree, parts) {
+        Ok((both, grown)) => say_tree_text(alloc, out, problem, &both, &grown),
+        Err(stop) => {
+            let name = names[stop.part].as_str();
+            say_fault(alloc, out, 1 < names.len(), name, stop.fault)
+        }
+    }
+}
+
+fn say_parts<F: Shelf, K: Sink>(
+    alloc: Global,
+    problem: &Problem,
+    claim: Claim,
+    tree: Tree,
+    names: &[String],
+    shelf: &mut F,
+    out: &mut K,
+) -> Status
+    requires claim { KnowsClaim problem.now (claim_of claim) }
+    requires tree { KnowsTree problem.now tree }
+    ensures { Ends (Says (MergeWork (F.held shelf.old) (map string_bytes names.now) problem.now (claim_of claim) tree) (Contains (map string_bytes names.now)) (record { held = F.held shelf.old; before = F.faults shelf.old; after = F.faults shelf.new }))
+        (HasRisen (K.faults out.old) (K.faults out.new)) (K.written out.old) (K.written out.new) result }
+{
+    match parts_of(alloc, shelf, out, names, problem) {
+        Ok(parts) => say_merged(alloc, out, problem, claim, tree, names, &parts),
+        Err(status) => status,
+    }
+}
+
+fn say_tree<F: Shelf, K: Sink>(
+    alloc: Global,
+    problem: &Problem,
+    name: &str,
+    names: &[String],
+    shelf: &mut F,
+    out: &mut K,
+) -> Status
+    ensures { Ends (Says (OnTree (MergeWork (F.held shelf.old) (map string_bytes names.now)) (F.held shelf.old) name.now problem.now) (λ other. (other ≡ name.now) ⊎ Contains (map string_bytes names.now) other) (record { held = F.held shelf.old; before = F.faults shelf.old; after = F.faults shelf.new }))
+        (HasRisen (K.faults out.old) (K.faults out.new)) (K.written out.old) (K.written out.new) result }
+{
+    match tree_of(alloc, shelf, out, name, problem) {
+        Ok((claim, tree)) => say_parts(alloc, problem, claim, tree, names, shelf, out),
+        Err(status) => status,
+    }
+}
+
+/// Puts the parts of the other files back in the tree of the one file, in turn, and prints the tree that comes of it with what it
+/// proves but for its open leaves.
+pub fn merge<F: Shelf, K: Sink>(
+    alloc: Global,
+    file: &str,
+    tree: &str,
+    parts: &[String],
+    shelf: &mut F,
+    out: &mut K,
+) -> Status
+    ensures { Ends (Says (OnFile (OnTree (MergeWork (F.held shelf.old) (map string_bytes parts.now)) (F.held shelf.old) tree.now) (F.held shelf.old) file.now) (λ other. (other ≡ file.now) ⊎ ((other ≡ tree.now) ⊎ Contains (map string_bytes parts.now) other)) (record { held = F.held shelf.old; before = F.faults shelf.old; after = F.faults shelf.new }))
+        (HasRisen (K.faults out.old) (K.faults out.new)) (K.written out.old) (K.written out.new) result }
+{
+    match problem_of(alloc, shelf, out, file) {
+        Ok(problem) => say_tree(alloc, &problem, tree, parts, shelf, out),
+        Err(status) => status,
+    }
+}

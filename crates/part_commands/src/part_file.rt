@@ -1,0 +1,133 @@
+//! The files of parts: each is read and judged by its grammar.
+ghost use Rattle.std.specs.Prelude.{◌≡◌, ◌≤◌, ◌++◌, ℕ, List, IfOk, IfErr, OnOk, codes, map, string_bytes};
+ghost use Rattle.std.specs.List.{Contains};
+ghost use Rattle.pns_io.specs.Outside.{HasRisen};
+ghost use Rattle.problem_rules.specs.Each.{Each};
+ghost use Rattle.endings.specs.Lines.{line};
+ghost use Rattle.part_text.specs.Spelling.{KnowsPart};
+ghost use Rattle.command_files.specs.Reading.{AreHeld};
+ghost use Rattle.part_commands.specs.PartFile.{GivesPart, PartFaults, GiveParts, FirstFault, are_several, part_words, part_fault_line};
+ghost use Rattle.endings.specs.Ending.{Ends, Says, Only, OrMemory};
+ghost use Rattle.endings.specs.declared.status.Status.TheVariants.{BadTree};
+
+use command_files::{bytes_of, tree_kind_word};
+use endings::Status;
+use endings::say::{say, say_memory};
+use part_text::read_part;
+use pns_io::{Shelf, Sink};
+use pns_problem::Problem;
+use std::alloc::{AllocError, Global};
+use tree_parts::Part;
+use tree_reading::TreeFault;
+use tree_text_rules::TreeKind;
+
+/// The most bytes of a part file.
+const PART_LIMIT: u64 = 268_435_456;
+
+/// The words by which a line speaks of a part: with the name of its file, where there are several.
+pub(crate) fn push_part(text: &mut String, several: bool, name: &str) -> Result<(), AllocError>
+    ensures { OnOk result (string_bytes text.new ≡ string_bytes text.old ++ part_words several name.now) }
+{
+    text.push_str("part")?;
+    if several {
+        text.push(' ')?;
+        text.push_str(name)?;
+    }
+    Ok(())
+}
+
+fn part_fault_line(
+    alloc: Global,
+    several: bool,
+    name: &str,
+    number: u32,
+    kind: TreeKind,
+) -> Result<String, AllocError>
+    ensures { IfOk result (λ text. string_bytes text ≡ line (part_fault_line several name.now number kind)) }
+{
+    let mut text = String::new(alloc);
+    push_part(&mut text, several, name)?;
+    text.push_str(" line ")?;
+    write!(text, "{number}")?;
+    text.push(' ')?;
+    text.push_str(tree_kind_word(kind))?;
+    text.push('\n')?;
+    Ok(text)
+}
+
+fn say_part_fault<K: Sink>(
+    alloc: Global,
+    out: &mut K,
+    several: bool,
+    name: &str,
+    number: u32,
+    kind: TreeKind,
+) -> Status
+    ensures { Ends (OrMemory (Only BadTree (line (part_fault_line several name.now number kind)))) (HasRisen (K.faults out.old) (K.faults out.new)) (K.written out.old) (K.written out.new) result }
+{
+    match part_fault_line(alloc, several, name, number, kind) {
+        Ok(text) => say(out, text.as_bytes(), Status::BadTree),
+        Err(_) => say_memory(out),
+    }
+}
+
+// Reads the file and judges its text as a part for the problem. Where that gives none the text that tells why is out, and the status
+// is that of the call.
+fn part_of<F: Shelf, K: Sink>(
+    alloc: Global,
+    shelf: &mut F,
+    out: &mut K,
+    several: bool,
+    name: &str,
+    problem: &Problem,
+) -> Result<Part, Status>
+    ensures part { IfOk result (λ part. (file : List ℕ) × AreHeld (F.held shelf.old name.now) file × GivesPart problem.now file part) }
+    ensures known { IfOk result (KnowsPart problem.now) }
+    ensures silent { OnOk result (out.new ≡ out.old) }
+    ensures later { (other : List ℕ) → F.faults shelf.old other ≤ F.faults shelf.new other }
+    ensures keeps { (other : List ℕ) → F.held shelf.new other ≡ F.held shelf.old other }
+    ensures told { IfErr result (Ends (Says (PartFaults several (F.held shelf.old) name.now problem.now) (λ other. other ≡ name.now) (record { held = F.held shelf.old; before = F.faults shelf.old; after = F.faults shelf.new }))
+        (HasRisen (K.faults out.old) (K.faults out.new)) (K.written out.old) (K.written out.new)) }
+{
+    let bytes = match bytes_of(alloc, shelf, out, name, PART_LIMIT) {
+        Ok(bytes) => bytes,
+        Err(status) => return Err(status),
+    };
+    match read_part(alloc, problem, &bytes) {
+        Ok(part) => Ok(part),
+        Err(TreeFault::At { line, kind }) => {
+            Err(say_part_fault(alloc, out, several, name, line, kind))
+        }
+        Err(TreeFault::Memory) => Err(say_memory(out)),
+    }
+}
+
+/// Reads the files and judges the text of each as a part for the problem, in order. Where one gives none the text that tells why is
+/// out, and the status is that of the call.
+pub(crate) fn parts_of<F: Shelf, K: Sink>(
+    alloc: Global,
+    shelf: &mut F,
+    out: &mut K,
+    names: &[String],
+    problem: &Problem,
+) -> Result<Vec<Part>, Status>
+    ensures parts { IfOk result (λ parts. GiveParts (F.held shelf.old) problem.now (map string_bytes names.now) parts.items) }
+    ensures known { IfOk result (λ parts. Each (KnowsPart problem.now) parts.items) }
+    ensures silent { OnOk result (out.new ≡ out.old) }
+    ensures told { IfErr result (Ends (Says (FirstFault (F.held shelf.old) (map string_bytes names.now) problem.now) (Contains (map string_bytes names.now)) (record { held = F.held shelf.old; before = F.faults shelf.old; after = F.faults shelf.new }))
+        (HasRisen (K.faults out.old) (K.faults out.new)) (K.written out.old) (K.written out.new)) }
+{
+    let several = 1 < names.len();
+    let mut parts = Vec::new(alloc);
+    'reading: for name in names {
+        match part_of(alloc, shelf, out, several, name.as_str(), problem) {
+            Ok(part) => {
+                let Ok(()) = parts.push(part) else {
+                    return Err(say_memory(out));
+                };
+            }
+            Err(status) => return Err(status),
+        }
+    }
+    Ok(parts)
+}
