@@ -1,0 +1,9 @@
+use Rattle.endings.specs.Ending.{Tells}
+use Rattle.endings.specs.declared.status.Status.TheVariants.{Memory}
+use Rattle.endings.proofs.Ending.{Ends-map, Tells-memory, only_in}
+use Rattle.period_searches.specs.Periods.{PeriodsWork}
+use Rattle.period_searches.proofs.least.say_least.Goals as goal
+
+pub returns-in-Err : goal.returns-in-Err
+returns-in-Err g c =
+    Ends-map _ _ _ _ _ _ _ (only_in (Tells (PeriodsWork c.args.budget c.args.problem.now c.args.plan.now)) Memory _ (Tells-memory (PeriodsWork c.args.budget c.args.problem.now c.args.plan.now))) (λ r. r) c.say_memory.ensures

@@ -1,0 +1,62 @@
+use Rattle.std.proofs.Common.{◌≡◌, ℕ, List, [], ◌∷◌, refl, codes}
+use Rattle.plan_rules.specs.Plan.{Plan}
+use Rattle.abb_search.specs.declared.outcome.Found.{Found}
+use Rattle.design_rules.specs.Folded.{folded}
+use Rattle.endings.specs.Lines.{text_of}
+use Rattle.endings.specs.Ending.{Tells}
+use Rattle.endings.specs.declared.status.Status.TheVariants.{Done, Memory}
+use Rattle.endings.proofs.Ending.{Ends-map, Tells-map, Tells-memory, only_in, only_or_memory_in}
+use Rattle.searches.specs.Found.{FoundSays}
+use Rattle.period_searches.specs.DesignText.{design_lines}
+use Rattle.period_searches.specs.Periods.{PeriodsWork}
+use Rattle.period_searches.proofs.Searched.{feasible_there, least_text, none_text, stopped_text}
+use Rattle.period_searches.proofs.least.say_searched.Goals as goal
+
+pub returns-in_default : goal.returns-in_default
+returns-in_default g c =
+    Ends-map _ _ _ _ _ _ _ (only_in (Tells (PeriodsWork c.args.budget c.args.problem.now c.args.plan.now)) Memory _ (Tells-memory (PeriodsWork c.args.budget c.args.problem.now c.args.plan.now))) (λ r. r) c.say_memory.ensures
+
+pub network_text-requires-clause-feasible : goal.network_text-requires-clause-feasible
+network_text-requires-clause-feasible g c =
+    feasible_there c.accepted_is_optimal.ensures c.args.budget c.args.problem.now c.args.plan.now c.args.whole.now c.requires.whole c.is_valid.ensures.valid c.is_valid-2.ensures.valid c.requires.plan
+    c.search_all.result c.search_all.ensures c.in-Solved.network c.in-Solved.tree c.in-Solved.is
+
+pub returns-in-Solved : goal.returns-in-Solved
+returns-in-Solved g c =
+    let p = c.args.problem.now in
+    let plan : Plan = c.args.plan.now in
+    let work = PeriodsWork c.args.budget p plan in
+    let lines : List (List ℕ) = design_lines p (folded p plan c.in-Solved.network) in
+    Ends-map _ _ _ _ _ _ _ (only_or_memory_in (Tells work) Done (text_of lines) (
+      lines,
+      least_text c.accepted_is_optimal.ensures c.args.budget p plan c.args.whole.now c.requires.whole c.is_valid.ensures.valid c.is_valid-2.ensures.valid c.requires.plan
+          c.least_network_is_least_design.ensures c.search_all.result c.search_all.ensures c.in-Solved.network c.in-Solved.tree c.in-Solved.is,
+      refl,
+    ) (Tells-memory work)) (λ r. r)
+    (c.say_made.ensures lines c.network_text.ensures)
+
+pub returns-in-Infeasible : goal.returns-in-Infeasible
+returns-in-Infeasible g c =
+    let p = c.args.problem.now in
+    let plan : Plan = c.args.plan.now in
+    let work = PeriodsWork c.args.budget p plan in
+    let lines : List (List ℕ) = codes "infeasible" ∷ [] in
+    Ends-map _ _ _ _ _ _ _ (only_in (Tells work) Done (text_of lines) (
+      lines,
+      none_text c.accepted_is_optimal.ensures c.args.budget p plan c.args.whole.now c.requires.whole c.is_valid.ensures.valid c.is_valid-2.ensures.valid c.requires.plan
+          c.no_network_is_no_design.ensures c.search_all.result c.search_all.ensures c.in-Infeasible.tree c.in-Infeasible.is,
+      refl,
+    )) (λ r. r)
+    c.say.ensures
+
+pub say_found-requires : goal.say_found-requires
+say_found-requires g c = (c.args.budget, c.search_all.ensures)
+
+pub returns : goal.returns
+returns g c =
+    let p = c.args.problem.now in
+    let plan : Plan = c.args.plan.now in
+    let f : Found = c.search_all.result in
+    Ends-map _ _ _ _ _ _ _ (Tells-map (FoundSays c.args.whole.now f) (PeriodsWork c.args.budget p plan)
+    (stopped_text c.accepted_is_optimal.ensures c.args.budget p plan c.args.whole.now c.requires.whole c.is_valid.ensures.valid c.is_valid-2.ensures.valid c.requires.plan
+    f c.search_all.ensures c.in_default-search_all.not-Solved c.in_default-search_all.not-Infeasible)) (λ r. r) c.say_found.ensures

@@ -1,0 +1,2 @@
+pub mod DesignText
+pub mod Periods

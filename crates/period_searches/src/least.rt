@@ -1,0 +1,96 @@
+//! The search of all designs of a plant over its periods.
+ghost use Rattle.std.specs.Prelude.{◌≡◌, ◌≤◌, IfOk};
+ghost use Rattle.pns_io.specs.Outside.{HasRisen};
+ghost use Rattle.plan_rules.specs.Expanded.{expanded};
+ghost use Rattle.plan_rules.specs.Plan.{IsPlan};
+ghost use Rattle.tree_rules.specs.Claim.{IsFeasible};
+ghost use Rattle.design_rules.specs.Folded.{folded};
+ghost use Rattle.endings.specs.Lines.{text_of};
+ghost use Rattle.endings.specs.Ending.{Ends, Tells};
+ghost use Rattle.period_searches.specs.DesignText.{design_lines};
+ghost use Rattle.period_searches.specs.Periods.{PeriodsWork};
+
+use crate::design_text::design_text;
+use abb_search::Found;
+use branch_tree::Network;
+use design_laws::{least_network_is_least_design, no_network_is_no_design};
+use designs::fold;
+use endings::Status;
+use endings::say::{say, say_made, say_memory};
+use periods::{Plan, expand};
+use pgraph::Graph;
+use plan_laws::plans_are_short;
+use pns_io::Sink;
+use pns_problem::Problem;
+use searches::{say_found, search_all};
+use std::alloc::{AllocError, Global};
+use tree_laws::accepted_is_optimal;
+
+/// The text of the design that the network stands for.
+fn network_text(
+    alloc: Global,
+    problem: &Problem,
+    plan: &Plan,
+    network: &Network,
+) -> Result<Vec<u8>, AllocError>
+    requires plan { IsPlan problem.now plan.now }
+    requires feasible { IsFeasible (expanded problem.now plan.now) network.now }
+    ensures { IfOk result (λ text. text.items ≡ text_of (design_lines problem.now (folded problem.now plan.now network.now))) }
+{
+    problem.is_valid();
+    plans_are_short();
+    let design = fold(alloc, problem, plan, network)?;
+    design_text(alloc, problem, &design)
+}
+
+/// Searches the expanded problem, and says what comes of it for the plant.
+fn say_searched<K: Sink>(
+    alloc: Global,
+    out: &mut K,
+    problem: &Problem,
+    plan: &Plan,
+    whole: &Problem,
+    budget: u64,
+) -> Status
+    requires plan { IsPlan problem.now plan.now }
+    requires whole { whole.now ≡ expanded problem.now plan.now }
+    requires some { 1 ≤ budget }
+    requires few { budget ≤ 1000000 }
+    ensures { Ends (Tells (PeriodsWork budget problem.now plan.now)) (HasRisen (K.faults out.old) (K.faults out.new)) (K.written out.old) (K.written out.new) result }
+{
+    let Ok(graph) = Graph::of(alloc, whole) else {
+        return say_memory(out);
+    };
+    problem.is_valid();
+    whole.is_valid();
+    accepted_is_optimal();
+    least_network_is_least_design();
+    no_network_is_no_design();
+    match search_all(alloc, whole, &graph, budget) {
+        Found::Solved { network, .. } => say_made(
+            out,
+            network_text(alloc, problem, plan, &network),
+        ),
+        Found::Infeasible { .. } => say(out, b"infeasible\n", Status::Done),
+        stopped => say_found(alloc, out, whole, stopped),
+    }
+}
+
+/// Says a design of least cost, or that the plant has none; or how far the search of the expanded problem came.
+pub fn say_least<K: Sink>(
+    alloc: Global,
+    out: &mut K,
+    problem: &Problem,
+    plan: &Plan,
+    budget: u64,
+) -> Status
+    requires plan { IsPlan problem.now plan.now }
+    requires some { 1 ≤ budget }
+    requires few { budget ≤ 1000000 }
+    ensures { Ends (Tells (PeriodsWork budget problem.now plan.now)) (HasRisen (K.faults out.old) (K.faults out.new)) (K.written out.old) (K.written out.new) result }
+{
+    match expand(alloc, problem, plan) {
+        Ok(whole) => say_searched(alloc, out, problem, plan, &whole, budget),
+        Err(_) => say_memory(out),
+    }
+}
