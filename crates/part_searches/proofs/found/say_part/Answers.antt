@@ -1,0 +1,18 @@
+use Rattle.std.proofs.Common.{◌≡◌, ◌∙◌, ap}
+use Rattle.searches.specs.Solve.{status_of}
+use Rattle.part_text.specs.Spelling.{part_text_lines}
+use Rattle.endings.specs.Printed.{OneAnswer}
+use Rattle.endings.proofs.Ending.{Ends-map, Tells-map}
+use Rattle.part_searches.proofs.Parts.{is_printing}
+use Rattle.part_searches.proofs.found.say_part.Goals as goal
+
+pub say_printed-requires : goal.say_printed-requires
+say_printed-requires g c = is_printing c.args.part.now.tail c.status_of.result (c.status_of.ensures ∙ ap status_of c.tail.ensures)
+
+pub returns : goal.returns
+returns g c =
+    let lines = part_text_lines c.args.problem.now c.args.part.now in
+    let same : c.status_of.result ≡ status_of c.args.part.now.tail = c.status_of.ensures ∙ ap status_of c.tail.ensures in
+    let out = c.print_part-printed in
+    Ends-map _ _ _ _ _ _ _ (Tells-map (OneAnswer c.status_of.result lines) (OneAnswer (status_of c.args.part.now.tail) lines) (λ s ls h. (h.0 ∙ same, h.1))) (λ r. r)
+    (c.say_printed.ensures lines _ _ out.ensures.later out.ensures.prints)

@@ -1,0 +1,53 @@
+use Rattle.std.proofs.Common.{None, Some, sym, subst, ap, inl, inr, ℕ, List}
+use Rattle.tree_rules.specs.Claim.{Network, IsFeasible}
+use Rattle.branch_tree.specs.View.{claim_of}
+use Rattle.branch_tree.specs.declared.claim.Claim.{Claim}
+use Rattle.branch_tree.specs.declared.claim.Claim.TheVariants as claims
+use Rattle.network_commands.specs.Network.{ClaimRefusal}
+use Rattle.part_searches.specs.Part.{PartSays, ClaimSays}
+use Rattle.part_searches.proofs.Parts.{network_is}
+use Rattle.endings.specs.Ending.{Tells}
+use Rattle.endings.specs.declared.status.Status.{Status}
+use Rattle.endings.proofs.Ending.{Ends-map, Ends-from, Tells-map}
+use Rattle.part_searches.proofs.part.say_claimed.Goals as goal
+
+pub returns-in-Ok : goal.returns-in-Ok
+returns-in-Ok g c =
+    let p = c.args.problem.now in
+    let s = c.args.start.now in
+    let known : Network = c.in-Ok.known in
+    let w : Network = c.in-Network.network in
+    let claimed = c.in-Ok.ensures.network in
+    let all : Claim → Status → List (List ℕ) → Type 0 = λ k. ClaimSays c.args.budget s.inside s.outside p (claim_of k) c.args.tree.now in
+    Ends-from (Tells (PartSays c.args.budget (Some known) s.inside s.outside p)) (Tells (all c.args.claim)) _ _ _ _ _ _ _ (ap g.K.Sink.faults c.in-Ok.ensures.silent) (ap g.K.Sink.written c.in-Ok.ensures.silent)
+    (Tells-map (PartSays c.args.budget (Some known) s.inside s.outside p) (all c.args.claim)
+    (λ status lines h. subst (λ (k : Claim). all k status lines) (sym c.in-Network.is)
+    (inr (network_is (λ (n : Network). IsFeasible p n × PartSays c.args.budget (Some n) s.inside s.outside p status lines) w known claimed.0 (claimed.1, h)))))
+    c.say_against.ensures
+
+pub returns-in-Err : goal.returns-in-Err
+returns-in-Err g c =
+    let p = c.args.problem.now in
+    let s = c.args.start.now in
+    let all : Claim → Status → List (List ℕ) → Type 0 = λ k. ClaimSays c.args.budget s.inside s.outside p (claim_of k) c.args.tree.now in
+    Ends-map _ _ _ _ _ _ _
+    (Tells-map (ClaimRefusal p (claim_of (claims.Network c.in-Network.network))) (all c.args.claim) (λ status lines h. subst (λ (k : Claim). all k status lines) (sym c.in-Network.is) (inl h)))
+    (λ r. r) c.in-Err.ensures.told
+
+pub returns-in-Infeasible : goal.returns-in-Infeasible
+returns-in-Infeasible g c =
+    let p = c.args.problem.now in
+    let s = c.args.start.now in
+    let all : Claim → Status → List (List ℕ) → Type 0 = λ k. ClaimSays c.args.budget s.inside s.outside p (claim_of k) c.args.tree.now in
+    Ends-map _ _ _ _ _ _ _
+    (Tells-map (PartSays c.args.budget None s.inside s.outside p) (all c.args.claim) (λ status lines h. subst (λ (k : Claim). all k status lines) (sym c.in-Infeasible.is) h))
+    (λ r. r) c.say_searched.ensures
+
+pub returns-in-Unknown : goal.returns-in-Unknown
+returns-in-Unknown g c =
+    let p = c.args.problem.now in
+    let s = c.args.start.now in
+    let all : Claim → Status → List (List ℕ) → Type 0 = λ k. ClaimSays c.args.budget s.inside s.outside p (claim_of k) c.args.tree.now in
+    Ends-map _ _ _ _ _ _ _
+    (Tells-map (PartSays c.args.budget None s.inside s.outside p) (all c.args.claim) (λ status lines h. subst (λ (k : Claim). all k status lines) (sym c.in-Unknown.is) h))
+    (λ r. r) c.say_searched-in-Unknown.ensures

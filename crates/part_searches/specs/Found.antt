@@ -1,0 +1,23 @@
+-- The part that a search found, and its text.
+use Rattle.std.specs.Prelude.{◌≡◌, ℕ, List, Option, Some, option_map}
+use Rattle.problem_rules.specs.Problem.{Problem}
+use Rattle.tree_text_rules.specs.Read.{Certificate}
+use Rattle.tree_parts.specs.Part.{Part}
+use Rattle.part_text.specs.Spelling.{part_text_lines}
+use Rattle.abb_search.specs.declared.outcome.Found.{Found}
+use Rattle.searches.specs.Solve.{status_of}
+use Rattle.searches.specs.Found.{certificate_of}
+use Rattle.endings.specs.Printed.{spelled}
+use Rattle.endings.specs.declared.status.Status.{Status}
+
+-- what is claimed, the tree, and where the search stopped, from the node where it began
+abbrev pub part_from : List ℕ → List ℕ → Certificate → Part
+part_from inside outside c = record { inside = inside; outside = outside; claim = c.claim; tree = c.tree; tail = c.tail }
+
+abbrev pub part_of : List ℕ → List ℕ → Found → Option Part
+part_of inside outside found = option_map (part_from inside outside) (certificate_of found)
+
+-- its text, with the status that tells where the search stopped
+abbrev pub FoundSays : Problem → List ℕ → List ℕ → Found → Status → List (List ℕ) → Type 0
+FoundSays p inside outside found status lines =
+    (part : Part) × (part_of inside outside found ≡ Some part) × (status ≡ status_of part.tail) × (lines ≡ spelled (part_text_lines p part))

@@ -1,0 +1,212 @@
+//! The command `part`.
+ghost use Rattle.std.specs.Prelude.{◌≡◌, ◌≤◌, ◌⊎◌, Some, None};
+ghost use Rattle.pns_io.specs.Outside.{HasRisen};
+ghost use Rattle.pns_rules.specs.Shape.{shape_of};
+ghost use Rattle.pns_rules.specs.Ends.{IsSound};
+ghost use Rattle.pgraph.specs.Tables.{shape};
+ghost use Rattle.pgraph.specs.View.{node_of};
+ghost use Rattle.tree_rules.specs.Claim.{IsFeasible};
+ghost use Rattle.branch_tree.specs.View.{claim_of};
+ghost use Rattle.command_files.specs.Reading.{OnFile};
+ghost use Rattle.command_files.specs.TreeFile.{OnTree};
+ghost use Rattle.part_searches.specs.Part.{PartSays, PartWork, ClaimSays, AgainstWork};
+ghost use Rattle.endings.specs.Ending.{Ends, Says, Tells};
+
+use crate::found::say_found;
+use crate::start::start_of;
+use abb_search::{search, search_against};
+use branch_tree::{Claim, Network, Tree};
+use command_files::{problem_of, tree_of};
+use endings::Status;
+use endings::say::{say, say_memory};
+use network_commands::network_of;
+use pgraph::Graph;
+use pns_io::{Shelf, Sink};
+use pns_problem::Problem;
+use std::alloc::Global;
+use unit_sets::Node;
+
+// Searches the structures of the node.
+fn say_searched<K: Sink>(
+    alloc: Global,
+    out: &mut K,
+    problem: &Problem,
+    graph: &Graph,
+    start: &Node,
+    budget: u64,
+) -> Status
+    requires graph { shape graph.now ≡ shape_of problem.now }
+    requires sound { IsSound (shape_of problem.now) (node_of start.now) }
+    requires some { 1 ≤ budget }
+    requires few { budget ≤ 1000000 }
+    ensures { Ends (Tells (PartSays budget None start.now.inside start.now.outside problem.now)) (HasRisen (K.faults out.old) (K.faults out.new)) (K.written out.old) (K.written out.new) result }
+{
+    let found = search(alloc, problem, graph, *start, budget as u32);
+    say_found(alloc, out, problem, start, found)
+}
+
+// Searches them for a network that is cheaper than this one.
+fn say_against<K: Sink>(
+    alloc: Global,
+    out: &mut K,
+    problem: &Problem,
+    graph: &Graph,
+    start: &Node,
+    budget: u64,
+    network: Network,
+) -> Status
+    requires graph { shape graph.now ≡ shape_of problem.now }
+    requires sound { IsSound (shape_of problem.now) (node_of start.now) }
+    requires some { 1 ≤ budget }
+    requires few { budget ≤ 1000000 }
+    requires passes { IsFeasible problem.now network }
+    ensures { Ends (Tells (PartSays budget (Some network) start.now.inside start.now.outside problem.now)) (HasRisen (K.faults out.old) (K.faults out.new)) (K.written out.old) (K.written out.new) result }
+{
+    let found = search_against(alloc, problem, graph, *start, budget as u32, network);
+    say_found(alloc, out, problem, start, found)
+}
+
+// A network is judged by the lines of the claim, and known to the search; another claim is passed over.
+fn say_claimed<K: Sink>(
+    alloc: Global,
+    out: &mut K,
+    problem: &Problem,
+    graph: &Graph,
+    start: &Node,
+    budget: u64,
+    claim: Claim,
+    tree: &Tree,
+) -> Status
+    requires graph { shape graph.now ≡ shape_of problem.now }
+    requires sound { IsSound (shape_of problem.now) (node_of start.now) }
+    requires some { 1 ≤ budget }
+    requires few { budget ≤ 1000000 }
+    ensures { Ends (Tells (ClaimSays budget start.now.inside start.now.outside problem.now (claim_of claim) tree.now)) (HasRisen (K.faults out.old) (K.faults out.new)) (K.written out.old) (K.written out.new) result }
+{
+    match claim {
+        Claim::Network(network) => {
+            match network_of(alloc, out, problem, graph, Claim::Network(network)) {
+                Ok(known) => say_against(alloc, out, problem, graph, start, budget, known),
+                Err(status) => status,
+            }
+        }
+        Claim::Infeasible => say_searched(alloc, out, problem, graph, start, budget),
+        Claim::Unknown => say_searched(alloc, out, problem, graph, start, budget),
+    }
+}
+
+fn say_tree<F: Shelf, K: Sink>(
+    alloc: Global,
+    problem: &Problem,
+    graph: &Graph,
+    start: &Node,
+    budget: u64,
+    name: &str,
+    shelf: &mut F,
+    out: &mut K,
+) -> Status
+    requires graph { shape graph.now ≡ shape_of problem.now }
+    requires sound { IsSound (shape_of problem.now) (node_of start.now) }
+    requires some { 1 ≤ budget }
+    requires few { budget ≤ 1000000 }
+    ensures { Ends (Says (OnTree (ClaimSays budget start.now.inside start.now.outside) (F.held shelf.old) name.now problem.now) (λ other. other ≡ name.now) (record { held = F.held shelf.old; before = F.faults shelf.old; after = F.faults shelf.new }))
+        (HasRisen (K.faults out.old) (K.faults out.new)) (K.written out.old) (K.written out.new) result }
+{
+    match tree_of(alloc, shelf, out, name, problem) {
+        Ok((claim, tree)) => say_claimed(alloc, out, problem, graph, start, budget, claim, &tree),
+        Err(status) => status,
+    }
+}
+
+// The search from the node of the words.
+fn say_from<K: Sink>(
+    alloc: Global,
+    out: &mut K,
+    problem: &Problem,
+    inside: &str,
+    outside: &str,
+    budget: u64,
+) -> Status
+    requires some { 1 ≤ budget }
+    requires few { budget ≤ 1000000 }
+    ensures { Ends (Tells (PartWork budget inside.now outside.now problem.now)) (HasRisen (K.faults out.old) (K.faults out.new)) (K.written out.old) (K.written out.new) result }
+{
+    let Ok(graph) = Graph::of(alloc, problem) else {
+        return say_memory(out);
+    };
+    match start_of(problem, &graph, inside, outside) {
+        Some(start) => say_searched(alloc, out, problem, &graph, &start, budget),
+        None => say(out, b"bad node\n", Status::BadNode),
+    }
+}
+
+// The search from the node of the words, with the network of the tree as its best.
+fn say_from_against<F: Shelf, K: Sink>(
+    alloc: Global,
+    problem: &Problem,
+    inside: &str,
+    outside: &str,
+    budget: u64,
+    tree: &str,
+    shelf: &mut F,
+    out: &mut K,
+) -> Status
+    requires some { 1 ≤ budget }
+    requires few { budget ≤ 1000000 }
+    ensures { Ends (Says (AgainstWork budget (F.held shelf.old) tree.now inside.now outside.now problem.now) (λ other. other ≡ tree.now) (record { held = F.held shelf.old; before = F.faults shelf.old; after = F.faults shelf.new }))
+        (HasRisen (K.faults out.old) (K.faults out.new)) (K.written out.old) (K.written out.new) result }
+{
+    let Ok(graph) = Graph::of(alloc, problem) else {
+        return say_memory(out);
+    };
+    match start_of(problem, &graph, inside, outside) {
+        Some(start) => say_tree(alloc, problem, &graph, &start, budget, tree, shelf, out),
+        None => say(out, b"bad node\n", Status::BadNode),
+    }
+}
+
+/// Says what a search of the structures of a node of the file's problem finds within the budget, as the text of a part. The words are
+/// the tokens of the units that are taken in at the node and of those that are left out.
+pub fn part<F: Shelf, K: Sink>(
+    alloc: Global,
+    file: &str,
+    inside: &str,
+    outside: &str,
+    budget: u64,
+    shelf: &mut F,
+    out: &mut K,
+) -> Status
+    requires some { 1 ≤ budget }
+    requires few { budget ≤ 1000000 }
+    ensures { Ends (Says (OnFile (PartWork budget inside.now outside.now) (F.held shelf.old) file.now) (λ other. other ≡ file.now) (record { held = F.held shelf.old; before = F.faults shelf.old; after = F.faults shelf.new }))
+        (HasRisen (K.faults out.old) (K.faults out.new)) (K.written out.old) (K.written out.new) result }
+{
+    match problem_of(alloc, shelf, out, file) {
+        Ok(problem) => say_from(alloc, out, &problem, inside, outside, budget),
+        Err(status) => status,
+    }
+}
+
+/// The same, where the search begins with the network that the tree of the other file claims as its best; a claim of none is passed over.
+pub fn part_against<F: Shelf, K: Sink>(
+    alloc: Global,
+    file: &str,
+    inside: &str,
+    outside: &str,
+    budget: u64,
+    tree: &str,
+    shelf: &mut F,
+    out: &mut K,
+) -> Status
+    requires some { 1 ≤ budget }
+    requires few { budget ≤ 1000000 }
+    ensures { Ends (Says (OnFile (AgainstWork budget (F.held shelf.old) tree.now inside.now outside.now) (F.held shelf.old) file.now) (λ other. (other ≡ file.now) ⊎ (other ≡ tree.now)) (record { held = F.held shelf.old; before = F.faults shelf.old; after = F.faults shelf.new }))
+        (HasRisen (K.faults out.old) (K.faults out.new)) (K.written out.old) (K.written out.new) result }
+{
+    match problem_of(alloc, shelf, out, file) {
+        Ok(problem) => {
+            say_from_against(alloc, &problem, inside, outside, budget, tree, shelf, out)
+        }
+        Err(status) => status,
+    }
+}
