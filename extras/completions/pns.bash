@@ -2,12 +2,12 @@
 _pns() {
     local word=${COMP_WORDS[COMP_CWORD]} places='' place
     if [ "$COMP_CWORD" -eq 1 ]; then
-        mapfile -t COMPREPLY < <(compgen -W 'max axioms list flows solve check table edit undo migrate expand make trial split help version' -- "$word")
+        mapfile -t COMPREPLY < <(compgen -W 'max axioms list flows solve check table graph edit undo migrate expand periods make trial split part merge help version' -- "$word")
         return
     fi
     case ${COMP_WORDS[1]} in
         help)
-            [ "$COMP_CWORD" -eq 2 ] && mapfile -t COMPREPLY < <(compgen -W 'max axioms list flows solve check table edit undo migrate expand make trial split help version status' -- "$word")
+            [ "$COMP_CWORD" -eq 2 ] && mapfile -t COMPREPLY < <(compgen -W 'max axioms list flows solve check table graph edit undo migrate expand periods make trial split part merge help version status' -- "$word")
             return
             ;;
         max) places='1' ;;
@@ -17,11 +17,15 @@ _pns() {
         solve) places='1' ;;
         check) places='1 2' ;;
         table) places='1 2' ;;
+        graph) places='1 2' ;;
         edit) places='1 2' ;;
         undo) places='1 2' ;;
         migrate) places='1' ;;
         expand) places='1 2' ;;
+        periods) places='1 2' ;;
         split) places='1 2' ;;
+        part) places='1 5' ;;
+        merge) places='1 2 3 4 5 6 7 8 9 10 11 12 13 14 15 16 17 18 19 20 21 22 23 24 25 26 27 28 29 30 31' ;;
     esac
     for place in $places; do
         [ "$place" -eq $((COMP_CWORD - 1)) ] && mapfile -t COMPREPLY < <(compgen -f -- "$word")

@@ -7,16 +7,20 @@ complete -c pns -n '__fish_use_subcommand' -a flows -d 'Finds the least cost of 
 complete -c pns -n '__fish_use_subcommand' -a solve -d 'Finds an allowed network of least cost in one year and a tree that proves it'
 complete -c pns -n '__fish_use_subcommand' -a check -d 'Judges whether a tree proves its claim'
 complete -c pns -n '__fish_use_subcommand' -a table -d 'Prints the claimed network as CSV for a spreadsheet'
+complete -c pns -n '__fish_use_subcommand' -a graph -d 'Prints the maximal structure as a graph for Graphviz, and with TREE the claimed network in it'
 complete -c pns -n '__fish_use_subcommand' -a edit -d 'Applies a script of edits to a plant'
 complete -c pns -n '__fish_use_subcommand' -a undo -d 'Writes the script that leads from the edited plant back to FILE'
 complete -c pns -n '__fish_use_subcommand' -a migrate -d 'Writes the script that turns the yearly costs of the units into investments over a payout period'
 complete -c pns -n '__fish_use_subcommand' -a expand -d 'Writes the plant of a plan of several periods as one ordinary plant, which solve and check read'
+complete -c pns -n '__fish_use_subcommand' -a periods -d 'Finds the units to build once and to run in several periods, at least cost'
 complete -c pns -n '__fish_use_subcommand' -a make -d 'Makes a plant out of a number, to try the program with'
 complete -c pns -n '__fish_use_subcommand' -a trial -d 'Makes the plant of pns make NUMBER UNITS, solves it and sums up'
-complete -c pns -n '__fish_use_subcommand' -a split -d 'Lists the open leaves of a tree that solve left with status 4 or 5, where it proves its claim but for these'
+complete -c pns -n '__fish_use_subcommand' -a split -d 'Lists the open leaves of a tree that solve left with status 4 or 5'
+complete -c pns -n '__fish_use_subcommand' -a part -d 'Searches one open leaf of a tree'
+complete -c pns -n '__fish_use_subcommand' -a merge -d 'Puts searched parts back into their tree'
 complete -c pns -n '__fish_use_subcommand' -a help -d 'Tells the commands, or one of them'
 complete -c pns -n '__fish_use_subcommand' -a version -d 'Tells which program this is'
-complete -c pns -n '__fish_seen_subcommand_from help' -a 'max axioms list flows solve check table edit undo migrate expand make trial split help version status'
+complete -c pns -n '__fish_seen_subcommand_from help' -a 'max axioms list flows solve check table graph edit undo migrate expand periods make trial split part merge help version status'
 complete -c pns -n '__fish_seen_subcommand_from max; and test (count (commandline -opc)) -eq 2' -F
 complete -c pns -n '__fish_seen_subcommand_from axioms; and test (count (commandline -opc)) -eq 2' -F
 complete -c pns -n '__fish_seen_subcommand_from list; and test (count (commandline -opc)) -eq 2' -F
@@ -26,6 +30,8 @@ complete -c pns -n '__fish_seen_subcommand_from check; and test (count (commandl
 complete -c pns -n '__fish_seen_subcommand_from check; and test (count (commandline -opc)) -eq 3' -F
 complete -c pns -n '__fish_seen_subcommand_from table; and test (count (commandline -opc)) -eq 2' -F
 complete -c pns -n '__fish_seen_subcommand_from table; and test (count (commandline -opc)) -eq 3' -F
+complete -c pns -n '__fish_seen_subcommand_from graph; and test (count (commandline -opc)) -eq 2' -F
+complete -c pns -n '__fish_seen_subcommand_from graph; and test (count (commandline -opc)) -eq 3' -F
 complete -c pns -n '__fish_seen_subcommand_from edit; and test (count (commandline -opc)) -eq 2' -F
 complete -c pns -n '__fish_seen_subcommand_from edit; and test (count (commandline -opc)) -eq 3' -F
 complete -c pns -n '__fish_seen_subcommand_from undo; and test (count (commandline -opc)) -eq 2' -F
@@ -33,5 +39,16 @@ complete -c pns -n '__fish_seen_subcommand_from undo; and test (count (commandli
 complete -c pns -n '__fish_seen_subcommand_from migrate; and test (count (commandline -opc)) -eq 2' -F
 complete -c pns -n '__fish_seen_subcommand_from expand; and test (count (commandline -opc)) -eq 2' -F
 complete -c pns -n '__fish_seen_subcommand_from expand; and test (count (commandline -opc)) -eq 3' -F
+complete -c pns -n '__fish_seen_subcommand_from periods; and test (count (commandline -opc)) -eq 2' -F
+complete -c pns -n '__fish_seen_subcommand_from periods; and test (count (commandline -opc)) -eq 3' -F
 complete -c pns -n '__fish_seen_subcommand_from split; and test (count (commandline -opc)) -eq 2' -F
 complete -c pns -n '__fish_seen_subcommand_from split; and test (count (commandline -opc)) -eq 3' -F
+complete -c pns -n '__fish_seen_subcommand_from part; and test (count (commandline -opc)) -eq 2' -F
+complete -c pns -n '__fish_seen_subcommand_from part; and test (count (commandline -opc)) -eq 6' -F
+complete -c pns -n '__fish_seen_subcommand_from merge; and test (count (commandline -opc)) -eq 2' -F
+complete -c pns -n '__fish_seen_subcommand_from merge; and test (count (commandline -opc)) -eq 3' -F
+complete -c pns -n '__fish_seen_subcommand_from merge; and test (count (commandline -opc)) -eq 4' -F
+complete -c pns -n '__fish_seen_subcommand_from merge; and test (count (commandline -opc)) -eq 5' -F
+complete -c pns -n '__fish_seen_subcommand_from merge; and test (count (commandline -opc)) -eq 6' -F
+complete -c pns -n '__fish_seen_subcommand_from merge; and test (count (commandline -opc)) -eq 7' -F
+complete -c pns -n '__fish_seen_subcommand_from merge; and test (count (commandline -opc)) -eq 8' -F

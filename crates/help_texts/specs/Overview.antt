@@ -13,20 +13,21 @@ overview =
     codes "  solve FILE BUDGET              a network of least cost and its proof: a TREE" ∷
     codes "  check FILE TREE                does the tree prove what it claims?" ∷
     codes "  table FILE TREE                the claimed network as CSV, for a spreadsheet" ∷
-    codes "  split FILE TREE                the open leaves of a tree that a search left" ∷
+    codes "  graph FILE, graph FILE TREE    the plant, and the network in it, for Graphviz" ∷
     codes "  edit FILE SCRIPT               the plant after edits; the way back: undo" ∷
     codes "  migrate FILE YEARS             the script from yearly costs to investments" ∷
-    codes "  expand FILE PLAN               a plant over several periods, as one plant" ∷
+    codes "  periods FILE PLAN BUDGET       one design for several periods; see expand" ∷
+    codes "  part FILE INSIDE OUTSIDE BUDGET      a part of a search; see split and merge" ∷
     codes "  make NUMBER UNITS              a made-up plant; trial solves it" ∷
     codes "  help COMMAND, help status      the words of a command, what a status asks for" ∷
     codes "  version                        which program this is" ∷
     codes "" ∷
     codes "Begin:  pns solve a.pns 10000 > tree        pns check a.pns tree" ∷
-    codes "        pns table a.pns tree" ∷
+    codes "        pns table a.pns tree                pns graph a.pns tree > a.dot" ∷
     []
 
 unfoldable pub version : List (List ℕ)
 version =
     codes "pns 0.1.0" ∷
-    codes "PNS_problem_v1 PNS_tree_v1 PNS_edits_v1 PNS_plan_v1" ∷
+    codes "PNS_problem_v1 PNS_tree_v1 PNS_edits_v1 PNS_part_v1 PNS_plan_v1" ∷
     []

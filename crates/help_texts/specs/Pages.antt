@@ -4,11 +4,11 @@ use Rattle.std.specs.Str.{bytes_eq}
 use Rattle.help_texts.specs.Lines.{text_of}
 use Rattle.help_texts.specs.Structures.{max_page, axioms_page, list_page}
 use Rattle.help_texts.specs.Flows.{flows_page, check_page}
-use Rattle.help_texts.specs.Reports.{table_page}
+use Rattle.help_texts.specs.Reports.{table_page, graph_page}
 use Rattle.help_texts.specs.Searches.{solve_page, trial_page}
-use Rattle.help_texts.specs.Parts.{split_page}
+use Rattle.help_texts.specs.Parts.{split_page, part_page, merge_page}
 use Rattle.help_texts.specs.Edits.{edit_page, undo_page, migrate_page, make_page}
-use Rattle.help_texts.specs.Plans.{expand_page}
+use Rattle.help_texts.specs.Plans.{expand_page, periods_page}
 use Rattle.help_texts.specs.Program.{help_page, version_page, status_page}
 
 unfoldable pub page_of : List ℕ → Option (List (List ℕ))
@@ -20,13 +20,17 @@ page_of topic =
     else if bytes_eq topic (codes "solve") then Some solve_page
     else if bytes_eq topic (codes "check") then Some check_page
     else if bytes_eq topic (codes "table") then Some table_page
+    else if bytes_eq topic (codes "graph") then Some graph_page
     else if bytes_eq topic (codes "edit") then Some edit_page
     else if bytes_eq topic (codes "undo") then Some undo_page
     else if bytes_eq topic (codes "migrate") then Some migrate_page
     else if bytes_eq topic (codes "expand") then Some expand_page
+    else if bytes_eq topic (codes "periods") then Some periods_page
     else if bytes_eq topic (codes "make") then Some make_page
     else if bytes_eq topic (codes "trial") then Some trial_page
     else if bytes_eq topic (codes "split") then Some split_page
+    else if bytes_eq topic (codes "part") then Some part_page
+    else if bytes_eq topic (codes "merge") then Some merge_page
     else if bytes_eq topic (codes "help") then Some help_page
     else if bytes_eq topic (codes "version") then Some version_page
     else if bytes_eq topic (codes "status") then Some status_page

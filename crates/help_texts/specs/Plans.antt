@@ -18,3 +18,25 @@ expand_page =
     codes "  printf 'file_type=PNS_plan_v1\\nperiod\\nperiod\\nprice A 5\\n' > plan" ∷
     codes "  pns expand a.pns plan > wide.pns" ∷
     []
+
+unfoldable pub periods_page : List (List ℕ)
+periods_page =
+    codes "pns periods FILE PLAN BUDGET" ∷
+    codes "Finds the units to build once and to run in several periods, at least cost." ∷
+    codes "  FILE    the plant, PNS_problem_v1" ∷
+    codes "  PLAN    a plan text, PNS_plan_v1" ∷
+    codes "  BUDGET  the most nodes of the tree, 1 to 1000000; 10000 is a good try" ∷
+    codes "Prints built NAMES, capacities D C C, cost N (N / D / G / 10^18), and for each" ∷
+    codes "period its units and sizes (X / D / 10^6); or infeasible." ∷
+    codes "Ends with" ∷
+    codes "  0   The text is out, whole." ∷
+    codes "  4   a tree text of the expanded plant: a number on the way left the range of" ∷
+    codes "      128 bits; the plant need not be wrong. Write rates and costs with fewer" ∷
+    codes "      digits, or bounds and capacities nearer to what can come, and call again." ∷
+    codes "  5   a tree text of the expanded plant: BUDGET was reached. It can be split and" ∷
+    codes "      searched in parts. Call again with a greater BUDGET." ∷
+    codes "  19  plan line L KIND: line L of PLAN has a fault. Mend the line." ∷
+    codes "  2, 3, 6, 7, 8, 12, 20: see pns help status" ∷
+    codes "Example" ∷
+    codes "  pns periods a.pns plan 100" ∷
+    []

@@ -30,3 +30,25 @@ table_page =
     codes "  C,intermediate,0" ∷
     codes "  P,product,20000000000000" ∷
     []
+
+unfoldable pub graph_page : List (List ℕ)
+graph_page =
+    codes "pns graph FILE" ∷
+    codes "pns graph FILE TREE" ∷
+    codes "Prints the maximal structure as a graph for Graphviz, and with TREE the claimed" ∷
+    codes "network in it. The program itself draws nothing." ∷
+    codes "  FILE  the plant, PNS_problem_v1" ∷
+    codes "  TREE  a tree text, as solve prints it" ∷
+    codes "Prints DOT text. Raw materials are houses, products have a double line, units" ∷
+    codes "are bars. Arcs show rates that are not 1, and with TREE flows; what is not in" ∷
+    codes "the network is grey, a unit of size 0 has a broken line. Numbers have up to 3" ∷
+    codes "places." ∷
+    codes "Ends with" ∷
+    codes "  0   The text is out, whole." ∷
+    codes "  1   refused claim WHY, with TREE only: as in pns help report." ∷
+    codes "  10  tree line L KIND: line L of TREE has a fault; docs/FORMATS.md lists the" ∷
+    codes "      kinds. Have the text printed anew. With TREE only." ∷
+    codes "  2, 3, 6, 7, 8, 12, 20: see pns help status" ∷
+    codes "Example" ∷
+    codes "  pns graph a.pns tree | dot -Tsvg > a.svg" ∷
+    []

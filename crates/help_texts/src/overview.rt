@@ -18,16 +18,17 @@ A FILE is a plant, PNS_problem_v1. Texts go to standard output; 0 is success.
   solve FILE BUDGET              a network of least cost and its proof: a TREE
   check FILE TREE                does the tree prove what it claims?
   table FILE TREE                the claimed network as CSV, for a spreadsheet
-  split FILE TREE                the open leaves of a tree that a search left
+  graph FILE, graph FILE TREE    the plant, and the network in it, for Graphviz
   edit FILE SCRIPT               the plant after edits; the way back: undo
   migrate FILE YEARS             the script from yearly costs to investments
-  expand FILE PLAN               a plant over several periods, as one plant
+  periods FILE PLAN BUDGET       one design for several periods; see expand
+  part FILE INSIDE OUTSIDE BUDGET      a part of a search; see split and merge
   make NUMBER UNITS              a made-up plant; trial solves it
   help COMMAND, help status      the words of a command, what a status asks for
   version                        which program this is
 
 Begin:  pns solve a.pns 10000 > tree        pns check a.pns tree
-        pns table a.pns tree
+        pns table a.pns tree                pns graph a.pns tree > a.dot
 "
 }
 
@@ -37,6 +38,6 @@ pub fn version_text() -> &'static [u8]
     ensures { result.now ≡ text_of version }
 {
     b"pns 0.1.0
-PNS_problem_v1 PNS_tree_v1 PNS_edits_v1 PNS_plan_v1
+PNS_problem_v1 PNS_tree_v1 PNS_edits_v1 PNS_part_v1 PNS_plan_v1
 "
 }

@@ -4,10 +4,10 @@ ghost use Rattle.help_texts.specs.Pages.{page_text};
 
 use crate::edits::{edit_page, make_page, migrate_page, undo_page};
 use crate::flows::{check_page, flows_page};
-use crate::parts::split_page;
-use crate::plans::expand_page;
+use crate::parts::{merge_page, part_page, split_page};
+use crate::plans::{expand_page, periods_page};
 use crate::program::{help_page, status_page, version_page};
-use crate::reports::table_page;
+use crate::reports::{graph_page, table_page};
 use crate::searches::{solve_page, trial_page};
 use crate::structures::{axioms_page, list_page, max_page};
 
@@ -24,13 +24,17 @@ pub fn page_on(topic: &str) -> Option<&'static [u8]>
         "solve" => Some(solve_page()),
         "check" => Some(check_page()),
         "table" => Some(table_page()),
+        "graph" => Some(graph_page()),
         "edit" => Some(edit_page()),
         "undo" => Some(undo_page()),
         "migrate" => Some(migrate_page()),
         "expand" => Some(expand_page()),
+        "periods" => Some(periods_page()),
         "make" => Some(make_page()),
         "trial" => Some(trial_page()),
         "split" => Some(split_page()),
+        "part" => Some(part_page()),
+        "merge" => Some(merge_page()),
         "help" => Some(help_page()),
         "version" => Some(version_page()),
         "status" => Some(status_page()),

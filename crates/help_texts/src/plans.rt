@@ -1,7 +1,7 @@
 //! The pages on designs for several periods.
 ghost use Rattle.std.specs.Prelude.{◌≡◌};
 ghost use Rattle.help_texts.specs.Lines.{text_of};
-ghost use Rattle.help_texts.specs.Plans.{expand_page};
+ghost use Rattle.help_texts.specs.Plans.{expand_page, periods_page};
 
 /// The page on `expand`.
 #[tactic(auto, unfolding(crate::specs::Plans::expand_page))]
@@ -22,5 +22,31 @@ Ends with
 Example
   printf 'file_type=PNS_plan_v1\\nperiod\\nperiod\\nprice A 5\\n' > plan
   pns expand a.pns plan > wide.pns
+"
+}
+
+/// The page on `periods`.
+#[tactic(auto, unfolding(crate::specs::Plans::periods_page))]
+pub fn periods_page() -> &'static [u8]
+    ensures { result.now ≡ text_of periods_page }
+{
+    b"pns periods FILE PLAN BUDGET
+Finds the units to build once and to run in several periods, at least cost.
+  FILE    the plant, PNS_problem_v1
+  PLAN    a plan text, PNS_plan_v1
+  BUDGET  the most nodes of the tree, 1 to 1000000; 10000 is a good try
+Prints built NAMES, capacities D C C, cost N (N / D / G / 10^18), and for each
+period its units and sizes (X / D / 10^6); or infeasible.
+Ends with
+  0   The text is out, whole.
+  4   a tree text of the expanded plant: a number on the way left the range of
+      128 bits; the plant need not be wrong. Write rates and costs with fewer
+      digits, or bounds and capacities nearer to what can come, and call again.
+  5   a tree text of the expanded plant: BUDGET was reached. It can be split and
+      searched in parts. Call again with a greater BUDGET.
+  19  plan line L KIND: line L of PLAN has a fault. Mend the line.
+  2, 3, 6, 7, 8, 12, 20: see pns help status
+Example
+  pns periods a.pns plan 100
 "
 }

@@ -35,7 +35,7 @@ Ends with
 Example
   pns version
   pns 0.1.0
-  PNS_problem_v1 PNS_tree_v1 PNS_edits_v1 PNS_plan_v1
+  PNS_problem_v1 PNS_tree_v1 PNS_edits_v1 PNS_part_v1 PNS_plan_v1
 "
 }
 
@@ -59,11 +59,11 @@ pub fn status_page() -> &'static [u8]
   8   memory: there was not enough. Lines before this one are only the front of
       the text. Free some, or take a smaller plant or budget.
   12  too long NAME: the file has more bytes than its limit, 268,435,456 for a
-      TREE and 4,194,304 for the others.
+      TREE or PART and 4,194,304 for the others.
   20  nothing: a word is not UTF-8.
 
 Of the other statuses each command tells its own: pns help COMMAND. 1 refuses
-what was handed in, 4 and 5 are searches that did not end, 9, 10, 11, 16 and 19
-name a word or a line that does not fit.
+what was handed in, 4 and 5 are searches that did not end, 9, 10, 11 and 16 to
+19 name a word or a line that does not fit.
 "
 }

@@ -1,7 +1,7 @@
 //! The pages on claimed networks as people read them.
 ghost use Rattle.std.specs.Prelude.{◌≡◌};
 ghost use Rattle.help_texts.specs.Lines.{text_of};
-ghost use Rattle.help_texts.specs.Reports.{table_page};
+ghost use Rattle.help_texts.specs.Reports.{table_page, graph_page};
 
 /// The page on `table`.
 #[tactic(auto, unfolding(crate::specs::Reports::table_page))]
@@ -34,5 +34,31 @@ Example
   A,raw_material,-20000000000000
   C,intermediate,0
   P,product,20000000000000
+"
+}
+
+/// The page on `graph`.
+#[tactic(auto, unfolding(crate::specs::Reports::graph_page))]
+pub fn graph_page() -> &'static [u8]
+    ensures { result.now ≡ text_of graph_page }
+{
+    b"pns graph FILE
+pns graph FILE TREE
+Prints the maximal structure as a graph for Graphviz, and with TREE the claimed
+network in it. The program itself draws nothing.
+  FILE  the plant, PNS_problem_v1
+  TREE  a tree text, as solve prints it
+Prints DOT text. Raw materials are houses, products have a double line, units
+are bars. Arcs show rates that are not 1, and with TREE flows; what is not in
+the network is grey, a unit of size 0 has a broken line. Numbers have up to 3
+places.
+Ends with
+  0   The text is out, whole.
+  1   refused claim WHY, with TREE only: as in pns help report.
+  10  tree line L KIND: line L of TREE has a fault; docs/FORMATS.md lists the
+      kinds. Have the text printed anew. With TREE only.
+  2, 3, 6, 7, 8, 12, 20: see pns help status
+Example
+  pns graph a.pns tree | dot -Tsvg > a.svg
 "
 }
