@@ -1,11 +1,12 @@
 -- The statuses with which a call may end.
-use Rattle.std.proofs.Common.{◌≡◌, ◌⊎◌, ◌<◌, ◌≤◌, ◌∷◌, [], Some, None, IsSomeAnd, refl, inl, inr, List, ℕ, Option, subst, ap, arith, length}
+use Rattle.std.specs.List.{Contains}
+use Rattle.std.proofs.Common.{Bool, sym, ◌≡◌, ◌⊎◌, ◌<◌, ◌≤◌, ◌∷◌, [], Some, None, IsSomeAnd, refl, inl, inr, List, ℕ, Option, subst, ap, arith, length}
 use Rattle.problem_rules.specs.Problem.{Problem}
 use Rattle.edit_rules.specs.Edit.{Edit}
 use Rattle.pgraph.specs.declared.verdict.Verdict.{Verdict}
 use Rattle.pgraph.specs.declared.verdict.Verdict.TheVariants.{Meets, Breaks}
 use Rattle.pns_io.specs.Outside.{HasRisen}
-use Rattle.studio_words.specs.Command.{Command, Max, Axioms, Flows, Listing, Make, Migrate, Editing, Undoing, Checking, Solving, Trial, Telling, command_of, IsFileOf, IsFileWord, Table, Splitting, Expanding}
+use Rattle.studio_words.specs.Command.{Command, Max, Axioms, Flows, Listing, Make, Migrate, Editing, Undoing, Checking, Solving, Trial, Telling, command_of, IsFileOf, IsFileWord, Table, Splitting, Expanding, Drawing, DrawingNetwork, Planning, Parting, PartingAgainst, Merging}
 use Rattle.command_files.specs.Reading.{AreHeld, FileFault, file_limit}
 use Rattle.structure_commands.specs.Max.{MaxWork}
 use Rattle.structure_commands.specs.Listing.{ListingWork}
@@ -22,7 +23,19 @@ use Rattle.command_files.specs.TreeFile.{TreeFault, OnTree, tree_limit}
 use Rattle.flow_commands.specs.Check.{CheckWork}
 use Rattle.network_commands.specs.Network.{OnNetwork}
 use Rattle.network_commands.specs.Table.{TableWork}
+use Rattle.network_commands.specs.Network.{ClaimRefusal}
+use Rattle.network_commands.specs.Graph.{PlantGraphWork, NetworkGraphWork}
 use Rattle.part_commands.specs.Split.{SplitWork}
+use Rattle.part_commands.specs.PartFile.{PartFault, FirstFault, are_several}
+use Rattle.part_commands.specs.Merge.{MergeWork, MergeSays, FaultSays}
+use Rattle.tree_parts.specs.declared.merging.MergeFault.{MergeFault}
+use Rattle.tree_parts.specs.declared.merging.MergeFault.TheVariants as merging
+use Rattle.cert_check.specs.declared.refusal.Refusal.TheVariants as refusals
+use Rattle.part_searches.specs.Found.{FoundSays}
+use Rattle.part_searches.specs.Start.{OnStart}
+use Rattle.part_searches.specs.Part.{PartSays, PartWork, ClaimSays, AgainstWork}
+use Rattle.tree_rules.specs.Claim.{network, infeasible, unknown}
+use Rattle.period_searches.specs.Periods.{PeriodsWork}
 use Rattle.flow_commands.specs.Best.{FilesClaimBest, AcceptedIsBest}
 use Rattle.branch_tree.specs.Tail.{Tail, whole, spent, past}
 use Rattle.generator.specs.Generated.{generated}
@@ -32,7 +45,7 @@ use Rattle.structure_commands.specs.Axioms.{NamesSay, VerdictSays, first_strange
 use Rattle.endings.specs.Ending.{Shelves, Ends, IsOneOf}
 use Rattle.studio.specs.Answers.{AnswersTo, CommandAnswers, WordsSay, IsReadWithin, IsUndisturbed, IsNotStopped, SearchCanFinish, statuses_of}
 use Rattle.endings.specs.declared.status.Status.{Status}
-use Rattle.endings.specs.declared.status.Status.TheVariants.{Done, Refused, Usage, BadProblem, Past, Spent, ReadFault, WriteFault, Memory, TooLong, BadToken, BadTree, BadEdit, NotMigrated, BadPlan}
+use Rattle.endings.specs.declared.status.Status.TheVariants.{Done, Refused, Usage, BadProblem, Past, Spent, ReadFault, WriteFault, Memory, TooLong, BadToken, BadTree, BadEdit, NotMigrated, BadPlan, BadNode, NoLeaf}
 
 -- a file that gives no problem, where it is held within the limit or not
 fault_status : (name file : List ℕ) (s : Status) (lines : List (List ℕ)) → FileFault name file s lines → (s ≡ BadProblem) ⊎ ((s ≡ TooLong) × (file_limit < length file))
@@ -154,6 +167,58 @@ trees_status work status held name p s lines (file, is, inr rest) short = elim (
   | inr q ↦ inr (inl q)
 ]
 
+-- ---- networks drawn and reported
+
+plant_graph_status : (p : Problem) (s : Status) (lines : List (List ℕ)) → PlantGraphWork p s lines → s ≡ Done
+plant_graph_status p Done lines h = refl
+plant_graph_status p s lines h = absurd h
+
+graph_status : (p : Problem) (w : Network) (s : Status) (lines : List (List ℕ)) → NetworkGraphWork p w s lines → s ≡ Done
+graph_status p w Done lines h = refl
+graph_status p w s lines h = absurd h
+
+-- ---- designs
+
+periods_status : (budget : ℕ) (p : Problem) (plan : Plan) (s : Status) (lines : List (List ℕ)) → PeriodsWork budget p plan s lines → (s ≡ Done) ⊎ ((s ≡ Spent) ⊎ (s ≡ Past))
+periods_status budget p plan Done lines h = inl refl
+periods_status budget p plan s lines h = solve_status budget _ s lines h
+
+-- ---- parts
+
+part_status : (budget : ℕ) (known : Option Network) (inside outside : List ℕ) (p : Problem) (s : Status) (lines : List (List ℕ)) → PartSays budget known inside outside p s lines → (s ≡ Done) ⊎ ((s ≡ Spent) ⊎ (s ≡ Past))
+part_status budget known inside outside p s lines h = tail_status h.says.0.tail s h.says.2
+
+claim_status : (budget : ℕ) (inside outside : List ℕ) (p : Problem) (claim : Claim) (tree : Tree) (s : Status) (lines : List (List ℕ)) → ClaimSays budget inside outside p claim tree s lines → (s ≡ Refused) ⊎ ((s ≡ Done) ⊎ ((s ≡ Spent) ⊎ (s ≡ Past)))
+claim_status budget inside outside p (network w) tree s lines (inl refusal) = inl refusal.0
+claim_status budget inside outside p (network w) tree s lines (inr rest) = inr (part_status budget (Some w) inside outside p s lines rest.1)
+claim_status budget inside outside p infeasible tree s lines h = inr (part_status budget None inside outside p s lines h)
+claim_status budget inside outside p unknown tree s lines h = inr (part_status budget None inside outside p s lines h)
+
+-- a part that is not put back
+merge_fault_status : (several : Bool) (name : List ℕ) (fault : MergeFault) (s : Status) (lines : List (List ℕ)) → FaultSays several name fault s lines → (s ≡ Refused) ⊎ (s ≡ NoLeaf)
+merge_fault_status several name (merging.Tree (refusals.Claim why)) s lines h = inl h.0
+merge_fault_status several name (merging.Tree (refusals.Node node why)) s lines h = inl h.0
+merge_fault_status several name (merging.Part (refusals.Claim why)) s lines h = inl h.0
+merge_fault_status several name (merging.Part (refusals.Node node why)) s lines h = inl h.0
+merge_fault_status several name merging.NoLeaf s lines h = inr h.0
+merge_fault_status several name fault s lines h = absurd h
+
+part_file_status : (several : Bool) (name : List ℕ) (p : Problem) (file : List ℕ) (s : Status) (lines : List (List ℕ)) → PartFault several name p file s lines → (s ≡ BadTree) ⊎ ((s ≡ TooLong) × (tree_limit < length file))
+part_file_status several name p file TooLong lines h = inr (refl, h.0)
+part_file_status several name p file BadTree lines h = inl refl
+part_file_status several name p file s lines h = absurd h
+
+merge_status : (held : List ℕ → Option (List ℕ)) (names : List (List ℕ)) (p : Problem) (claim : Claim) (tree : Tree) (s : Status) (lines : List (List ℕ)) → MergeWork held names p claim tree s lines → ((name : List ℕ) → Contains names name → IsSomeAnd (held name) (λ told. length told ≤ tree_limit)) → (s ≡ Done) ⊎ ((s ≡ Refused) ⊎ ((s ≡ NoLeaf) ⊎ (s ≡ BadTree)))
+merge_status held names p claim tree s lines (inl f) short = elim (part_file_status (are_several names) f.name p f.fault.0 s lines f.fault.2) [
+  | inl q ↦ inr (inr (inr q))
+  | inr q ↦ absurd (within_limit (held f.name) tree_limit f.fault.0 (short f.name (f.place, f.within, sym f.name_is)) f.fault.1 q.1)
+]
+merge_status held names p claim tree s lines (inr (ps, give, inl merged)) short = inl merged.done
+merge_status held names p claim tree s lines (inr (ps, give, inr stopped)) short = elim (merge_fault_status (are_several names) _ stopped.fault s lines stopped.says) [
+  | inl q ↦ inr (inl q)
+  | inr q ↦ inr (inr (inl q))
+]
+
 command_status : (held : List ℕ → Option (List ℕ)) (command : Command) (s : Status) (lines : List (List ℕ)) → CommandAnswers held command s lines → ((name : List ℕ) (limit : ℕ) → IsReadWithin command name limit → IsSomeAnd (held name) (λ told. length told ≤ limit)) → IsOneOf (statuses_of command) s
 command_status held (Max name) s lines (file, is, inl fault) short = elim (fault_status name file s lines fault) [
   | inl q ↦ inr (inl q)
@@ -232,6 +297,68 @@ command_status held (Splitting name tree) s lines (file, is, inl fault) short = 
   | inr q ↦ absurd (within_limit (held name) file_limit file (short name file_limit (inl (refl, refl))) is q.1)
 ]
 command_status held (Splitting name tree) s lines (file, is, inr work) short = trees_status SplitWork split_status held tree work.0 s lines work.2 (short tree tree_limit (inr (refl, refl)))
+command_status held (Drawing name) s lines (file, is, inl fault) short = elim (fault_status name file s lines fault) [
+  | inl q ↦ inr (inl q)
+  | inr q ↦ absurd (within_limit (held name) file_limit file (short name file_limit (refl, refl)) is q.1)
+]
+command_status held (Drawing name) s lines (file, is, inr work) short = inl (plant_graph_status work.0 s lines work.2)
+command_status held (DrawingNetwork name tree) s lines (file, is, inl fault) short = elim (fault_status name file s lines fault) [
+  | inl q ↦ inr (inr (inl q))
+  | inr q ↦ absurd (within_limit (held name) file_limit file (short name file_limit (inl (refl, refl))) is q.1)
+]
+command_status held (DrawingNetwork name tree) s lines (file, is, inr work) short = trees_status (OnNetwork NetworkGraphWork) (network_status NetworkGraphWork graph_status) held tree work.0 s lines work.2 (short tree tree_limit (inr (refl, refl)))
+command_status held (Planning name plan budget) s lines (file, is, inl fault) short = elim (fault_status name file s lines fault) [
+  | inl q ↦ inr (inr (inr (inr (inl q))))
+  | inr q ↦ absurd (within_limit (held name) file_limit file (short name file_limit (inl refl, refl)) is q.1)
+]
+command_status held (Planning name plan budget) s lines (file, is, inr (p, given, (bytes, there, inl fault))) short = elim (plan_status plan p bytes s lines fault) [
+  | inl q ↦ inr (inr (inr (inl q)))
+  | inr q ↦ absurd (within_limit (held plan) file_limit bytes (short plan file_limit (inr refl, refl)) there q.1)
+]
+command_status held (Planning name plan budget) s lines (file, is, inr (p, given, (bytes, there, inr rest))) short = elim (periods_status budget p rest.0 s lines rest.2) [
+  | inl q ↦ inl q
+  | inr o ↦ elim o [ inl q ↦ inr (inl q) | inr q ↦ inr (inr (inl q)) ]
+]
+command_status held (Parting name inside outside budget) s lines (file, is, inl fault) short = elim (fault_status name file s lines fault) [
+  | inl q ↦ inr (inr (inr (inr (inl q))))
+  | inr q ↦ absurd (within_limit (held name) file_limit file (short name file_limit (refl, refl)) is q.1)
+]
+command_status held (Parting name inside outside budget) s lines (file, is, inr (p, given, inl bad)) short = inr (inr (inr (inl bad.0)))
+command_status held (Parting name inside outside budget) s lines (file, is, inr (p, given, inr (into, out, start, says))) short = elim (part_status budget None into out p s lines says) [
+  | inl q ↦ inl q
+  | inr o ↦ elim o [ inl q ↦ inr (inl q) | inr q ↦ inr (inr (inl q)) ]
+]
+command_status held (PartingAgainst name inside outside budget tree) s lines (file, is, inl fault) short = elim (fault_status name file s lines fault) [
+  | inl q ↦ inr (inr (inr (inr (inr (inl q)))))
+  | inr q ↦ absurd (within_limit (held name) file_limit file (short name file_limit (inl (refl, refl))) is q.1)
+]
+command_status held (PartingAgainst name inside outside budget tree) s lines (file, is, inr (p, given, inl bad)) short = inr (inr (inr (inr (inl bad.0))))
+command_status held (PartingAgainst name inside outside budget tree) s lines (file, is, inr (p, given, inr (into, out, start, (bytes, there, inl fault)))) short = elim (tree_status tree p bytes s lines fault) [
+  | inl q ↦ inr (inr (inr (inr (inr (inr (inl q))))))
+  | inr q ↦ absurd (within_limit (held tree) tree_limit bytes (short tree tree_limit (inr (refl, refl))) there q.1)
+]
+command_status held (PartingAgainst name inside outside budget tree) s lines (file, is, inr (p, given, inr (into, out, start, (bytes, there, inr rest)))) short = elim (claim_status budget into out p rest.0 rest.1 s lines rest.3) [
+  | inl q ↦ inr (inl q)
+  | inr o ↦ elim o [
+    | inl q ↦ inl q
+    | inr o ↦ elim o [ inl q ↦ inr (inr (inl q)) | inr q ↦ inr (inr (inr (inl q))) ]
+  ]
+]
+command_status held (Merging name tree parts) s lines (file, is, inl fault) short = elim (fault_status name file s lines fault) [
+  | inl q ↦ inr (inr (inr (inl q)))
+  | inr q ↦ absurd (within_limit (held name) file_limit file (short name file_limit (inl (refl, refl))) is q.1)
+]
+command_status held (Merging name tree parts) s lines (file, is, inr (p, given, (bytes, there, inl fault))) short = elim (tree_status tree p bytes s lines fault) [
+  | inl q ↦ inr (inr (inr (inr (inl q))))
+  | inr q ↦ absurd (within_limit (held tree) tree_limit bytes (short tree tree_limit (inr (inl refl, refl))) there q.1)
+]
+command_status held (Merging name tree parts) s lines (file, is, inr (p, given, (bytes, there, inr rest))) short = elim (merge_status held parts p rest.0 rest.1 s lines rest.3 (λ other h. short other tree_limit (inr (inr h, refl)))) [
+  | inl q ↦ inl q
+  | inr o ↦ elim o [
+    | inl q ↦ inr (inl q)
+    | inr o ↦ elim o [ inl q ↦ inr (inr (inl q)) | inr q ↦ inr (inr (inr (inr (inl q)))) ]
+  ]
+]
 command_status held (Solving name budget) s lines (file, is, inl fault) short = elim (fault_status name file s lines fault) [
   | inl q ↦ inr (inr (inr (inl q)))
   | inr q ↦ absurd (within_limit (held name) file_limit file (short name file_limit (refl, refl)) is q.1)
@@ -245,6 +372,12 @@ command_status held (Trial number units budget) s lines h short = elim (search_s
   | inr o ↦ elim o [ inl q ↦ inr (inl q) | inr q ↦ inr (inr (inl q)) ]
 ]
 command_status held (Telling text) s lines h short = inl h.0
+
+-- parts that are put back are never told as words without a form
+usage_of_merge : (held : List ℕ → Option (List ℕ)) (names : List (List ℕ)) (p : Problem) (claim : Claim) (tree : Tree) (lines : List (List ℕ)) → MergeWork held names p claim tree Usage lines → ⊥
+usage_of_merge held names p claim tree lines (inl f) = elim (part_file_status (are_several names) f.name p f.fault.0 Usage lines f.fault.2) [ inl q ↦ cc | inr q ↦ let r : Usage ≡ TooLong = q.0 in cc ]
+usage_of_merge held names p claim tree lines (inr (ps, give, inl merged)) = let q : Usage ≡ Done = merged.done in cc
+usage_of_merge held names p claim tree lines (inr (ps, give, inr stopped)) = elim (merge_fault_status (are_several names) _ stopped.fault Usage lines stopped.says) [ inl q ↦ cc | inr q ↦ cc ]
 
 -- some status of a command, whatever its file holds
 answer_status : (held : List ℕ → Option (List ℕ)) (command : Command) (lines : List (List ℕ)) → CommandAnswers held command Usage lines → ⊥
@@ -277,6 +410,24 @@ answer_status held (Table name tree) lines (file, is, inr (p, given, (bytes, the
 answer_status held (Splitting name tree) lines (file, is, inl fault) = absurd fault
 answer_status held (Splitting name tree) lines (file, is, inr (p, given, (bytes, there, inl fault))) = absurd fault
 answer_status held (Splitting name tree) lines (file, is, inr (p, given, (bytes, there, inr rest))) = absurd rest.3
+answer_status held (Drawing name) lines (file, is, inl fault) = absurd fault
+answer_status held (Drawing name) lines (file, is, inr work) = absurd work.2
+answer_status held (DrawingNetwork name tree) lines (file, is, inl fault) = absurd fault
+answer_status held (DrawingNetwork name tree) lines (file, is, inr (p, given, (bytes, there, inl fault))) = absurd fault
+answer_status held (DrawingNetwork name tree) lines (file, is, inr (p, given, (bytes, there, inr rest))) = elim (network_status NetworkGraphWork graph_status p rest.0 rest.1 Usage lines rest.3) [ inl q ↦ cc | inr q ↦ cc ]
+answer_status held (Planning name plan budget) lines (file, is, inl fault) = absurd fault
+answer_status held (Planning name plan budget) lines (file, is, inr (p, given, (bytes, there, inl fault))) = absurd fault
+answer_status held (Planning name plan budget) lines (file, is, inr (p, given, (bytes, there, inr rest))) = elim (periods_status budget p rest.0 Usage lines rest.2) [ inl q ↦ cc | inr o ↦ elim o [ inl q ↦ cc | inr q ↦ cc ] ]
+answer_status held (Parting name inside outside budget) lines (file, is, inl fault) = absurd fault
+answer_status held (Parting name inside outside budget) lines (file, is, inr (p, given, inl bad)) = let q : Usage ≡ BadNode = bad.0 in cc
+answer_status held (Parting name inside outside budget) lines (file, is, inr (p, given, inr (into, out, start, says))) = elim (part_status budget None into out p Usage lines says) [ inl q ↦ cc | inr o ↦ elim o [ inl q ↦ cc | inr q ↦ cc ] ]
+answer_status held (PartingAgainst name inside outside budget tree) lines (file, is, inl fault) = absurd fault
+answer_status held (PartingAgainst name inside outside budget tree) lines (file, is, inr (p, given, inl bad)) = let q : Usage ≡ BadNode = bad.0 in cc
+answer_status held (PartingAgainst name inside outside budget tree) lines (file, is, inr (p, given, inr (into, out, start, (bytes, there, inl fault)))) = absurd fault
+answer_status held (PartingAgainst name inside outside budget tree) lines (file, is, inr (p, given, inr (into, out, start, (bytes, there, inr rest)))) = elim (claim_status budget into out p rest.0 rest.1 Usage lines rest.3) [ inl q ↦ cc | inr o ↦ elim o [ inl q ↦ cc | inr o ↦ elim o [ inl q ↦ cc | inr q ↦ cc ] ] ]
+answer_status held (Merging name tree parts) lines (file, is, inl fault) = absurd fault
+answer_status held (Merging name tree parts) lines (file, is, inr (p, given, (bytes, there, inl fault))) = absurd fault
+answer_status held (Merging name tree parts) lines (file, is, inr (p, given, (bytes, there, inr rest))) = usage_of_merge held parts p rest.0 rest.1 lines rest.3
 answer_status held (Solving name budget) lines (file, is, inl fault) = absurd fault
 answer_status held (Solving name budget) lines (file, is, inr work) = elim (solve_status budget work.0 Usage lines work.2) [ inl q ↦ cc | inr o ↦ elim o [ inl q ↦ cc | inr q ↦ cc ] ]
 answer_status held (Trial number units budget) lines h = elim (search_status budget (generated number units) Usage lines h) [ inl q ↦ cc | inr o ↦ elim o [ inl q ↦ cc | inr q ↦ cc ] ]
@@ -299,6 +450,12 @@ memory_status (Expanding file plan) = inr (inr (inr (inl refl)))
 memory_status (Checking file tree) = inr (inr (inr (inr (inl refl))))
 memory_status (Table file tree) = inr (inr (inr (inr (inl refl))))
 memory_status (Splitting file tree) = inr (inr (inr (inr (inl refl))))
+memory_status (Drawing file) = inr (inr (inl refl))
+memory_status (DrawingNetwork file tree) = inr (inr (inr (inr (inl refl))))
+memory_status (Planning file plan budget) = inr (inr (inr (inr (inr (inl refl)))))
+memory_status (Parting file inside outside budget) = inr (inr (inr (inr (inr (inl refl)))))
+memory_status (PartingAgainst file inside outside budget tree) = inr (inr (inr (inr (inr (inr (inr (inl refl)))))))
+memory_status (Merging file tree parts) = inr (inr (inr (inr (inr (inl refl)))))
 memory_status (Solving file budget) = inr (inr (inr (inr (inl refl))))
 memory_status (Trial number units budget) = inr (inr (inr (inl refl)))
 memory_status (Telling text) = inr (inl refl)

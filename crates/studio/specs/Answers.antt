@@ -1,7 +1,8 @@
 -- What each command says, from its words and what the shelf holds.
+use Rattle.std.specs.List.{Contains}
 use Rattle.std.specs.Prelude.{◌≡◌, ◌≤◌, ◌⊎◌, ℕ, List, [], ◌∷◌, Option, Some, None, IsSomeAnd, length, codes}
 use Rattle.pns_io.specs.Outside.{HasRisen}
-use Rattle.studio_words.specs.Command.{Command, Max, Axioms, Flows, Listing, Make, Migrate, Editing, Undoing, Checking, Solving, Trial, Telling, command_of, IsFileOf, IsFileWord, Table, Splitting, Expanding}
+use Rattle.studio_words.specs.Command.{Command, Max, Axioms, Flows, Listing, Make, Migrate, Editing, Undoing, Checking, Solving, Trial, Telling, command_of, IsFileOf, IsFileWord, Table, Splitting, Expanding, Drawing, DrawingNetwork, Planning, Parting, PartingAgainst, Merging}
 use Rattle.generator.specs.Generated.{generated}
 use Rattle.problem_rules.specs.Problem.{Problem}
 use Rattle.command_files.specs.Reading.{AreHeld, GivesProblem, OnFile, file_limit}
@@ -19,13 +20,17 @@ use Rattle.command_files.specs.TreeFile.{OnTree, tree_limit}
 use Rattle.flow_commands.specs.Check.{CheckWork}
 use Rattle.network_commands.specs.Network.{OnNetwork}
 use Rattle.network_commands.specs.Table.{TableWork}
+use Rattle.network_commands.specs.Graph.{PlantGraphWork, NetworkGraphWork}
 use Rattle.part_commands.specs.Split.{SplitWork}
+use Rattle.part_commands.specs.Merge.{MergeWork}
+use Rattle.part_searches.specs.Part.{PartWork, AgainstWork}
+use Rattle.period_searches.specs.Periods.{PeriodsWork}
 use Rattle.searches.specs.Solve.{SolveWork, CanFinish}
 use Rattle.searches.specs.Trial.{TrialWork}
 use Rattle.endings.specs.Ending.{Shelves, Says}
 use Rattle.endings.specs.Lines.{text_of}
 use Rattle.endings.specs.declared.status.Status.{Status}
-use Rattle.endings.specs.declared.status.Status.TheVariants.{Done, Refused, Usage, BadProblem, Past, Spent, Memory, BadToken, BadTree, BadEdit, NotMigrated, BadPlan}
+use Rattle.endings.specs.declared.status.Status.TheVariants.{Done, Refused, Usage, BadProblem, Past, Spent, Memory, BadToken, BadTree, BadEdit, NotMigrated, BadPlan, BadNode, NoLeaf}
 
 -- the statuses and lines of a command, while neither shelf, sink nor memory fails
 abbrev pub CommandAnswers : (List ℕ → Option (List ℕ)) → Command → Status → List (List ℕ) → Type 0
@@ -41,6 +46,12 @@ CommandAnswers held (Checking file tree) status lines = OnFile (OnTree CheckWork
 CommandAnswers held (Table file tree) status lines = OnFile (OnTree (OnNetwork TableWork) held tree) held file status lines
 CommandAnswers held (Splitting file tree) status lines = OnFile (OnTree SplitWork held tree) held file status lines
 CommandAnswers held (Expanding file plan) status lines = OnFile (OnPlan ExpandWork held plan) held file status lines
+CommandAnswers held (Drawing file) status lines = OnFile PlantGraphWork held file status lines
+CommandAnswers held (DrawingNetwork file tree) status lines = OnFile (OnTree (OnNetwork NetworkGraphWork) held tree) held file status lines
+CommandAnswers held (Planning file plan budget) status lines = OnFile (OnPlan (PeriodsWork budget) held plan) held file status lines
+CommandAnswers held (Parting file inside outside budget) status lines = OnFile (PartWork budget inside outside) held file status lines
+CommandAnswers held (PartingAgainst file inside outside budget tree) status lines = OnFile (AgainstWork budget held tree inside outside) held file status lines
+CommandAnswers held (Merging file tree parts) status lines = OnFile (OnTree (MergeWork held parts) held tree) held file status lines
 CommandAnswers held (Solving file budget) status lines = OnFile (SolveWork budget) held file status lines
 CommandAnswers held (Trial number units budget) status lines = TrialWork number units budget status lines
 CommandAnswers held (Telling text) status lines = (status ≡ Done) × (text ≡ text_of lines)
@@ -65,6 +76,9 @@ abbrev pub IsReadWithin : Command → List ℕ → ℕ → Type 0
 IsReadWithin (Checking file tree) name limit = ((name ≡ file) × (limit ≡ file_limit)) ⊎ ((name ≡ tree) × (limit ≡ tree_limit))
 IsReadWithin (Table file tree) name limit = ((name ≡ file) × (limit ≡ file_limit)) ⊎ ((name ≡ tree) × (limit ≡ tree_limit))
 IsReadWithin (Splitting file tree) name limit = ((name ≡ file) × (limit ≡ file_limit)) ⊎ ((name ≡ tree) × (limit ≡ tree_limit))
+IsReadWithin (DrawingNetwork file tree) name limit = ((name ≡ file) × (limit ≡ file_limit)) ⊎ ((name ≡ tree) × (limit ≡ tree_limit))
+IsReadWithin (PartingAgainst file inside outside budget tree) name limit = ((name ≡ file) × (limit ≡ file_limit)) ⊎ ((name ≡ tree) × (limit ≡ tree_limit))
+IsReadWithin (Merging file tree parts) name limit = ((name ≡ file) × (limit ≡ file_limit)) ⊎ (((name ≡ tree) ⊎ Contains parts name) × (limit ≡ tree_limit))
 IsReadWithin command name limit = IsFileOf command name × (limit ≡ file_limit)
 
 -- the files of the command are held within their limits, and neither their counts of faults nor that of the sink rise
@@ -87,6 +101,12 @@ statuses_of (Checking file tree) = Done ∷ Refused ∷ BadProblem ∷ BadTree �
 statuses_of (Table file tree) = Done ∷ Refused ∷ BadProblem ∷ BadTree ∷ Memory ∷ []
 statuses_of (Splitting file tree) = Done ∷ Refused ∷ BadProblem ∷ BadTree ∷ Memory ∷ []
 statuses_of (Expanding file plan) = Done ∷ BadPlan ∷ BadProblem ∷ Memory ∷ []
+statuses_of (Drawing file) = Done ∷ BadProblem ∷ Memory ∷ []
+statuses_of (DrawingNetwork file tree) = Done ∷ Refused ∷ BadProblem ∷ BadTree ∷ Memory ∷ []
+statuses_of (Planning file plan budget) = Done ∷ Spent ∷ Past ∷ BadPlan ∷ BadProblem ∷ Memory ∷ []
+statuses_of (Parting file inside outside budget) = Done ∷ Spent ∷ Past ∷ BadNode ∷ BadProblem ∷ Memory ∷ []
+statuses_of (PartingAgainst file inside outside budget tree) = Done ∷ Refused ∷ Spent ∷ Past ∷ BadNode ∷ BadProblem ∷ BadTree ∷ Memory ∷ []
+statuses_of (Merging file tree parts) = Done ∷ Refused ∷ NoLeaf ∷ BadProblem ∷ BadTree ∷ Memory ∷ []
 statuses_of (Solving file budget) = Done ∷ Spent ∷ Past ∷ BadProblem ∷ Memory ∷ []
 statuses_of (Trial number units budget) = Done ∷ Spent ∷ Past ∷ Memory ∷ []
 statuses_of (Telling text) = Done ∷ Memory ∷ []

@@ -15,9 +15,13 @@ use endings::Status;
 use endings::say::{say, say_memory, say_text};
 use flow_commands::check::{accepted_is_best, check};
 use flow_commands::flows::flows;
+use network_commands::graph::{graph, plant_graph};
 use network_commands::table::table;
+use part_commands::merge::merge;
 use part_commands::split::split;
+use part_searches::part::{part, part_against};
 use period_commands::expansion::expand;
+use period_searches::planned::periods;
 use pns_io::{Shelf, Sink};
 use searches::solve::solve;
 use searches::trial::trial;
@@ -50,6 +54,16 @@ fn perform<F: Shelf, K: Sink>(
         Command::Table(file, tree) => table(alloc, file, tree, shelf, out),
         Command::Splitting(file, tree) => split(alloc, file, tree, shelf, out),
         Command::Expanding(file, plan) => expand(alloc, file, plan, shelf, out),
+        Command::Drawing(file) => plant_graph(alloc, file, shelf, out),
+        Command::DrawingNetwork(file, tree) => graph(alloc, file, tree, shelf, out),
+        Command::Planning(file, plan, budget) => periods(alloc, file, plan, budget, shelf, out),
+        Command::Parting(file, inside, outside, budget) => {
+            part(alloc, file, inside, outside, budget, shelf, out)
+        }
+        Command::PartingAgainst(file, inside, outside, budget, tree) => {
+            part_against(alloc, file, inside, outside, budget, tree, shelf, out)
+        }
+        Command::Merging(file, tree, parts) => merge(alloc, file, tree, parts, shelf, out),
         Command::Solving(file, budget) => solve(alloc, file, budget, shelf, out),
         Command::Trial(number, units, budget) => trial(alloc, number, units, budget, out),
         Command::Telling(text) => say_text(out, text, Status::Done),

@@ -4,8 +4,9 @@
 //! its text line by line. Its contract says which text is out with which status, from the words and the bytes that the
 //! shelf holds; each status has its cause, and want of memory alone is free.
 //!
-//! The words are read by `studio_words`; the commands stand in `structure_commands`, `edit_commands`, `flow_commands` and
-//! `searches`, over the files of `command_files`. Modules: `call`, which dispatches; `laws`.
+//! The words are read by `studio_words`; the commands stand in crates of their own, by what they are about: `structure_commands`,
+//! `edit_commands`, `flow_commands`, `network_commands`, `searches`, `part_commands`, `part_searches`, `period_commands`,
+//! `period_searches`, over the files of `command_files`. Modules: `call`, which dispatches; `laws`.
 #![tactic(auto)]
 
 mod call;

@@ -1,6 +1,6 @@
 -- The commands, and the forms of the words that call them.
-use Rattle.std.specs.Prelude.{◌≡◌, ◌≤◌, ◌⊎◌, ◌==◌, ◌&&◌, ◌||◌, ℕ, Bool, List, [], ◌∷◌, Option, Some, None, IsSomeAnd, length, codes, not, option_map, if◌then◌else◌}
-use Rattle.std.specs.List.{list_all, slice_split}
+use Rattle.std.specs.Prelude.{◌≡◌, ◌≤◌, ◌⊎◌, ◌==◌, ◌&&◌, ◌||◌, nat_le, ℕ, Bool, List, [], ◌∷◌, Option, Some, None, IsSomeAnd, length, codes, not, option_map, if◌then◌else◌}
+use Rattle.std.specs.List.{list_all, slice_split, Contains}
 use Rattle.std.specs.Str.{bytes_eq, byte}
 use Rattle.problem_rules.specs.Names.{is_name, has_double}
 use Rattle.help_texts.specs.Lines.{text_of, IsOfLines}
@@ -8,7 +8,8 @@ use Rattle.help_texts.specs.Overview.{overview, version}
 use Rattle.help_texts.specs.Pages.{page_text}
 use Rattle.studio_words.specs.Numeral.{number_within}
 
--- a command with its words: FILE, the names of UNITS, AFTER and COUNT, NUMBER and the count of units, YEARS, SCRIPT, TREE, PLAN, BUDGET;
+-- a command with its words: FILE, the names of UNITS, AFTER and COUNT, NUMBER and the count of units, YEARS, SCRIPT, TREE, PLAN, BUDGET,
+-- INSIDE and OUTSIDE, the parts of a tree;
 -- or the text of the program itself that they ask for
 pub data Command : Type 0 where
   Max : List ℕ → Command
@@ -23,6 +24,12 @@ pub data Command : Type 0 where
   Table : List ℕ → List ℕ → Command
   Splitting : List ℕ → List ℕ → Command
   Expanding : List ℕ → List ℕ → Command
+  Drawing : List ℕ → Command
+  DrawingNetwork : List ℕ → List ℕ → Command
+  Planning : List ℕ → List ℕ → ℕ → Command
+  Parting : List ℕ → List ℕ → List ℕ → ℕ → Command
+  PartingAgainst : List ℕ → List ℕ → List ℕ → ℕ → List ℕ → Command
+  Merging : List ℕ → List ℕ → List (List ℕ) → Command
   Solving : List ℕ → ℕ → Command
   Trial : ℕ → ℕ → ℕ → Command
   Telling : List ℕ → Command
@@ -75,6 +82,7 @@ with_file word file second =
     else if bytes_eq word (codes "table") && is_file_word second then Some (Table file second)
     else if bytes_eq word (codes "split") && is_file_word second then Some (Splitting file second)
     else if bytes_eq word (codes "expand") && is_file_word second then Some (Expanding file second)
+    else if bytes_eq word (codes "graph") && is_file_word second then Some (DrawingNetwork file second)
     else None
 
 -- the commands of a file and one more word
@@ -100,22 +108,48 @@ alone word =
     else if is_version_word word then Some (Telling (text_of version))
     else None
 
--- the command that the words are, if they have a form
-abbrev pub command_of : List (List ℕ) → Option Command
-command_of (word ∷ []) = alone word
-command_of (word ∷ file ∷ []) =
+-- a tree and the parts that are put back into it, at most a hundred
+abbrev pub merging_of : List (List ℕ) → Option Command
+merging_of (word ∷ file ∷ tree ∷ part ∷ parts) =
+    if bytes_eq word (codes "merge") && list_all is_file_word (file ∷ tree ∷ part ∷ parts) && nat_le (length (part ∷ parts)) 100 then
+    Some (Merging file tree (part ∷ parts))
+    else None
+merging_of words = None
+
+-- the forms of the other commands, by the number of their words
+abbrev pub form_of : List (List ℕ) → Option Command
+form_of (word ∷ []) = alone word
+form_of (word ∷ file ∷ []) =
     if bytes_eq word (codes "help") then option_map Telling (page_text file)
     else if bytes_eq word (codes "max") && is_file_word file then Some (Max file)
+    else if bytes_eq word (codes "graph") && is_file_word file then Some (Drawing file)
     else None
-command_of (word ∷ first ∷ second ∷ []) =
+form_of (word ∷ first ∷ second ∷ []) =
     if bytes_eq word (codes "make") then made_by (seed_of first) (unit_count_of second)
     else if is_file_word first then on_file word first second
     else None
-command_of (word ∷ first ∷ second ∷ third ∷ []) =
+form_of (word ∷ first ∷ second ∷ third ∷ []) =
     if bytes_eq word (codes "trial") then tried_by (seed_of first) (unit_count_of second) (budget_of third)
     else if bytes_eq word (codes "list") && is_file_word first then option_map (Listing first second) (count_of third)
+    else if bytes_eq word (codes "periods") && is_file_word first && is_file_word second then option_map (Planning first second) (budget_of third)
     else None
-command_of words = None
+form_of (word ∷ first ∷ second ∷ third ∷ fourth ∷ []) =
+    if bytes_eq word (codes "part") && is_file_word first then option_map (Parting first second third) (budget_of fourth)
+    else None
+form_of (word ∷ first ∷ second ∷ third ∷ fourth ∷ fifth ∷ []) =
+    if bytes_eq word (codes "part") && is_file_word first && is_file_word fifth then
+    option_map (λ budget. PartingAgainst first second third budget fifth) (budget_of fourth)
+    else None
+form_of words = None
+
+-- the first command, or else the second
+abbrev pub or_else : Option Command → Option Command → Option Command
+or_else (Some command) other = Some command
+or_else None other = other
+
+-- the command that the words are, if they have a form
+abbrev pub command_of : List (List ℕ) → Option Command
+command_of words = or_else (merging_of words) (form_of words)
 
 -- the words that a form gives as files
 abbrev pub IsFileOf : Command → List ℕ → Type 0
@@ -131,6 +165,12 @@ IsFileOf (Checking file tree) name = (name ≡ file) ⊎ (name ≡ tree)
 IsFileOf (Table file tree) name = (name ≡ file) ⊎ (name ≡ tree)
 IsFileOf (Splitting file tree) name = (name ≡ file) ⊎ (name ≡ tree)
 IsFileOf (Expanding file plan) name = (name ≡ file) ⊎ (name ≡ plan)
+IsFileOf (Drawing file) name = name ≡ file
+IsFileOf (DrawingNetwork file tree) name = (name ≡ file) ⊎ (name ≡ tree)
+IsFileOf (Planning file plan budget) name = (name ≡ file) ⊎ (name ≡ plan)
+IsFileOf (Parting file inside outside budget) name = name ≡ file
+IsFileOf (PartingAgainst file inside outside budget tree) name = (name ≡ file) ⊎ (name ≡ tree)
+IsFileOf (Merging file tree parts) name = (name ≡ file) ⊎ ((name ≡ tree) ⊎ Contains parts name)
 IsFileOf (Solving file budget) name = name ≡ file
 IsFileOf (Trial number units budget) name = ⊥
 IsFileOf (Telling text) name = ⊥
@@ -140,6 +180,9 @@ abbrev pub AreWithin : Command → Type 0
 AreWithin (Make number units) = (1 ≤ units) × (units ≤ 128)
 AreWithin (Migrate file years) = (1 ≤ years) × (years ≤ 100)
 AreWithin (Solving file budget) = (1 ≤ budget) × (budget ≤ 1000000)
+AreWithin (Planning file plan budget) = (1 ≤ budget) × (budget ≤ 1000000)
+AreWithin (Parting file inside outside budget) = (1 ≤ budget) × (budget ≤ 1000000)
+AreWithin (PartingAgainst file inside outside budget tree) = (1 ≤ budget) × (budget ≤ 1000000)
 AreWithin (Trial number units budget) = ((1 ≤ units) × (units ≤ 128)) × ((1 ≤ budget) × (budget ≤ 1000000))
 AreWithin (Telling text) = IsOfLines text
 AreWithin command = Unit {0}

@@ -1,7 +1,8 @@
 -- A command of the code as the definitions name it.
+use Rattle.std.specs.Prelude.{map, string_bytes}
 use Rattle.studio_words.specs.Command as rules
 use Rattle.studio_words.specs.declared.command.Command.{Command}
-use Rattle.studio_words.specs.declared.command.Command.TheVariants.{Max, Axioms, Flows, Listing, Make, Migrate, Editing, Undoing, Checking, Solving, Trial, Telling, Table, Splitting, Expanding}
+use Rattle.studio_words.specs.declared.command.Command.TheVariants.{Max, Axioms, Flows, Listing, Make, Migrate, Editing, Undoing, Checking, Solving, Trial, Telling, Table, Splitting, Expanding, Drawing, DrawingNetwork, Planning, Parting, PartingAgainst, Merging}
 
 abbrev pub command_view : Command → rules.Command
 command_view (Max file) = rules.Max file.now
@@ -16,6 +17,12 @@ command_view (Checking file tree) = rules.Checking file.now tree.now
 command_view (Table file tree) = rules.Table file.now tree.now
 command_view (Splitting file tree) = rules.Splitting file.now tree.now
 command_view (Expanding file plan) = rules.Expanding file.now plan.now
+command_view (Drawing file) = rules.Drawing file.now
+command_view (DrawingNetwork file tree) = rules.DrawingNetwork file.now tree.now
+command_view (Planning file plan budget) = rules.Planning file.now plan.now budget
+command_view (Parting file inside outside budget) = rules.Parting file.now inside.now outside.now budget
+command_view (PartingAgainst file inside outside budget tree) = rules.PartingAgainst file.now inside.now outside.now budget tree.now
+command_view (Merging file tree parts) = rules.Merging file.now tree.now (map string_bytes parts.now)
 command_view (Solving file budget) = rules.Solving file.now budget
 command_view (Trial number units budget) = rules.Trial number units budget
 command_view (Telling text) = rules.Telling text.now

@@ -1,9 +1,10 @@
 //! The words of a call.
 ghost use Rattle.std.specs.Prelude.{◌≡◌, ◌∷◌, [], IfOk, map, option_map, string_bytes};
-ghost use Rattle.studio_words.specs.Command.{command_of, on_file, with_file, made_by, tried_by, unit_names_of, count_of, seed_of, unit_count_of, years_of, budget_of, alone, Axioms, Flows, Listing, Migrate, Solving, Telling};
+ghost use Rattle.studio_words.specs.Command.{command_of, form_of, on_file, with_file, made_by, tried_by, unit_names_of, count_of, seed_of, unit_count_of, years_of, budget_of, alone, Axioms, Flows, Listing, Migrate, Solving, Planning, Parting, PartingAgainst, Telling};
 ghost use Rattle.help_texts.specs.Pages.{page_text};
 ghost use Rattle.studio_words.specs.View.{command_view};
 
+use crate::merging::merging_of;
 use crate::number::number_within;
 use crate::unit_names::UnitNames;
 use help_texts::{overview_text, page_on, version_text};
@@ -24,6 +25,12 @@ pub enum Command<'a> {
     Table(&'a str, &'a str),
     Splitting(&'a str, &'a str),
     Expanding(&'a str, &'a str),
+    Drawing(&'a str),
+    DrawingNetwork(&'a str, &'a str),
+    Planning(&'a str, &'a str, u64),
+    Parting(&'a str, &'a str, &'a str, u64),
+    PartingAgainst(&'a str, &'a str, &'a str, u64, &'a str),
+    Merging(&'a str, &'a str, &'a [String]),
     Solving(&'a str, u64),
     Trial(u64, u64, u64),
     /// A text of the program itself: help, or the version.
@@ -34,6 +41,15 @@ pub enum Command<'a> {
 pub fn command_of(alloc: Global, words: &[String]) -> Result<Option<Command<'_>>, AllocError>
     ensures { IfOk result (λ found. option_map command_view found ≡ command_of (map string_bytes words.now)) }
 {
+    match merging_of(words) {
+        Some(command) => Ok(Some(command)),
+        None => form_of(alloc, words),
+    }
+}
+
+fn form_of(alloc: Global, words: &[String]) -> Result<Option<Command<'_>>, AllocError>
+    ensures { IfOk result (λ found. option_map command_view found ≡ form_of (map string_bytes words.now)) }
+{
     match words {
         [word] => Ok(alone(word.as_str())),
         [word, file] => Ok(of_two(word.as_str(), file.as_str())),
@@ -43,6 +59,21 @@ pub fn command_of(alloc: Global, words: &[String]) -> Result<Option<Command<'_>>
             first.as_str(),
             second.as_str(),
             third.as_str(),
+        )),
+        [word, first, second, third, fourth] => Ok(of_five(
+            word.as_str(),
+            first.as_str(),
+            second.as_str(),
+            third.as_str(),
+            fourth.as_str(),
+        )),
+        [word, first, second, third, fourth, fifth] => Ok(of_six(
+            word.as_str(),
+            first.as_str(),
+            second.as_str(),
+            third.as_str(),
+            fourth.as_str(),
+            fifth.as_str(),
         )),
         _ => Ok(None),
     }
@@ -68,12 +99,14 @@ fn help_on<'a>(topic: &str) -> Option<Command<'a>>
 }
 
 fn of_two<'a>(word: &str, file: &'a str) -> Option<Command<'a>>
-    ensures { option_map command_view result ≡ command_of (word.now ∷ file.now ∷ []) }
+    ensures { option_map command_view result ≡ form_of (word.now ∷ file.now ∷ []) }
 {
     if word == "help" {
         help_on(file)
     } else if word == "max" && !file.is_empty() {
         Some(Command::Max(file))
+    } else if word == "graph" && !file.is_empty() {
+        Some(Command::Drawing(file))
     } else {
         None
     }
@@ -85,7 +118,7 @@ fn of_three<'a>(
     first: &'a str,
     second: &'a str,
 ) -> Result<Option<Command<'a>>, AllocError>
-    ensures { IfOk result (λ found. option_map command_view found ≡ command_of (word.now ∷ first.now ∷ second.now ∷ [])) }
+    ensures { IfOk result (λ found. option_map command_view found ≡ form_of (word.now ∷ first.now ∷ second.now ∷ [])) }
 {
     if word == "make" {
         Ok(made_by(first, second))
@@ -190,21 +223,90 @@ fn with_file<'a>(word: &str, file: &'a str, second: &'a str) -> Option<Command<'
         Some(Command::Splitting(file, second))
     } else if word == "expand" && !second.is_empty() {
         Some(Command::Expanding(file, second))
+    } else if word == "graph" && !second.is_empty() {
+        Some(Command::DrawingNetwork(file, second))
     } else {
         None
     }
 }
 
 fn of_four<'a>(word: &str, first: &'a str, second: &'a str, third: &str) -> Option<Command<'a>>
-    ensures { option_map command_view result ≡ command_of (word.now ∷ first.now ∷ second.now ∷ third.now ∷ []) }
+    ensures { option_map command_view result ≡ form_of (word.now ∷ first.now ∷ second.now ∷ third.now ∷ []) }
 {
     if word == "trial" {
         tried_by(first, second, third)
     } else if word == "list" && !first.is_empty() {
         listing_of(first, second, third)
+    } else if word == "periods" && !first.is_empty() && !second.is_empty() {
+        planning_of(first, second, third)
     } else {
         None
     }
+}
+
+fn of_five<'a>(
+    word: &str,
+    first: &'a str,
+    second: &'a str,
+    third: &'a str,
+    fourth: &str,
+) -> Option<Command<'a>>
+    ensures { option_map command_view result ≡ form_of (word.now ∷ first.now ∷ second.now ∷ third.now ∷ fourth.now ∷ []) }
+{
+    if word == "part" && !first.is_empty() {
+        parting_of(first, second, third, fourth)
+    } else {
+        None
+    }
+}
+
+fn of_six<'a>(
+    word: &str,
+    first: &'a str,
+    second: &'a str,
+    third: &'a str,
+    fourth: &'a str,
+    fifth: &'a str,
+) -> Option<Command<'a>>
+    ensures { option_map command_view result ≡ form_of (word.now ∷ first.now ∷ second.now ∷ third.now ∷ fourth.now ∷ fifth.now ∷ []) }
+{
+    if word == "part" && !first.is_empty() && !fifth.is_empty() {
+        parting_against(first, second, third, fourth, fifth)
+    } else {
+        None
+    }
+}
+
+fn planning_of<'a>(file: &'a str, plan: &'a str, budget: &str) -> Option<Command<'a>>
+    ensures { option_map command_view result ≡ option_map (Planning file.now plan.now) (budget_of budget.now) }
+{
+    let budget = budget_of(budget)?;
+    Some(Command::Planning(file, plan, budget))
+}
+
+fn parting_of<'a>(
+    file: &'a str,
+    inside: &'a str,
+    outside: &'a str,
+    budget: &str,
+) -> Option<Command<'a>>
+    ensures { option_map command_view result ≡ option_map (Parting file.now inside.now outside.now) (budget_of budget.now) }
+{
+    let budget = budget_of(budget)?;
+    Some(Command::Parting(file, inside, outside, budget))
+}
+
+fn parting_against<'a>(
+    file: &'a str,
+    inside: &'a str,
+    outside: &'a str,
+    budget: &str,
+    tree: &'a str,
+) -> Option<Command<'a>>
+    ensures { option_map command_view result ≡ option_map (λ n. PartingAgainst file.now inside.now outside.now n tree.now) (budget_of budget.now) }
+{
+    let budget = budget_of(budget)?;
+    Some(Command::PartingAgainst(file, inside, outside, budget, tree))
 }
 
 fn axioms_of<'a>(

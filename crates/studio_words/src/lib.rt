@@ -3,10 +3,11 @@
 //! [`command_of`] gives the command exactly where the words have a form. `specs/Command` has the forms, and the ranges of a
 //! command's numbers.
 //!
-//! Modules: `command`, the commands; `unit_names`, the word UNITS; `number`, numbers in words.
+//! Modules: `command`, the commands; `merging`, the words of `merge`; `unit_names`, the word UNITS; `number`, numbers in words.
 #![tactic(auto)]
 
 mod command;
+mod merging;
 mod number;
 mod unit_names;
 

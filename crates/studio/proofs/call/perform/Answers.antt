@@ -1,5 +1,5 @@
-use Rattle.std.proofs.Common.{refl, sym, ap, subst, ◌≤◌, ℕ, List}
-use Rattle.studio_words.specs.Command.{Command, Max, Axioms, Flows, Listing, Migrate, Editing, Undoing, Checking, Solving, Telling, AreWithin, Table, Splitting, Expanding}
+use Rattle.std.proofs.Common.{refl, sym, ap, subst, ◌≤◌, ℕ, List, map, string_bytes}
+use Rattle.studio_words.specs.Command.{Command, Max, Axioms, Flows, Listing, Migrate, Editing, Undoing, Checking, Solving, Telling, AreWithin, Table, Splitting, Expanding, Drawing, DrawingNetwork, Planning, Parting, PartingAgainst, Merging}
 use Rattle.studio_words.specs.View.{command_view}
 use Rattle.endings.specs.Ending.{Shelves}
 use Rattle.studio.specs.Answers.{CommandSays}
@@ -104,6 +104,63 @@ returns-in-Splitting g c =
     let Q : Status → List ℕ → Type 0 = CommandSays shelves (command_view c.args.command) in
     Ends-map (CommandSays shelves (Splitting c.in-Splitting.file.now c.in-Splitting.tree.now)) Q _ _ _ _ _
     (λ s t h. subst (λ (v : Command). CommandSays shelves v s t) (sym (ap command_view c.in-Splitting.is)) h) (λ r. r) c.split.ensures
+
+pub returns-in-Drawing : goal.returns-in-Drawing
+returns-in-Drawing g c =
+    let shelves : Shelves = record { held = g.F.Shelf.held c.args.shelf.now; before = g.F.Shelf.faults c.args.shelf.now; after = g.F.Shelf.faults c.plant_graph.new.shelf } in
+    let Q : Status → List ℕ → Type 0 = CommandSays shelves (command_view c.args.command) in
+    Ends-map (CommandSays shelves (Drawing c.in-Drawing.file.now)) Q _ _ _ _ _
+    (λ s t h. subst (λ (v : Command). CommandSays shelves v s t) (sym (ap command_view c.in-Drawing.is)) h) (λ r. r) c.plant_graph.ensures
+
+pub returns-in-DrawingNetwork : goal.returns-in-DrawingNetwork
+returns-in-DrawingNetwork g c =
+    let shelves : Shelves = record { held = g.F.Shelf.held c.args.shelf.now; before = g.F.Shelf.faults c.args.shelf.now; after = g.F.Shelf.faults c.graph.new.shelf } in
+    let Q : Status → List ℕ → Type 0 = CommandSays shelves (command_view c.args.command) in
+    Ends-map (CommandSays shelves (DrawingNetwork c.in-DrawingNetwork.file.now c.in-DrawingNetwork.tree.now)) Q _ _ _ _ _
+    (λ s t h. subst (λ (v : Command). CommandSays shelves v s t) (sym (ap command_view c.in-DrawingNetwork.is)) h) (λ r. r) c.graph.ensures
+
+pub periods-requires : goal.periods-requires
+periods-requires g c =
+    let within : (1 ≤ c.in-Planning.budget) × (c.in-Planning.budget ≤ 1000000) = subst AreWithin (ap command_view c.in-Planning.is) c.requires in
+    record { some = within.0; few = within.1 }
+
+pub returns-in-Planning : goal.returns-in-Planning
+returns-in-Planning g c =
+    let shelves : Shelves = record { held = g.F.Shelf.held c.args.shelf.now; before = g.F.Shelf.faults c.args.shelf.now; after = g.F.Shelf.faults c.periods.new.shelf } in
+    let Q : Status → List ℕ → Type 0 = CommandSays shelves (command_view c.args.command) in
+    Ends-map (CommandSays shelves (Planning c.in-Planning.file.now c.in-Planning.plan.now c.in-Planning.budget)) Q _ _ _ _ _
+    (λ s t h. subst (λ (v : Command). CommandSays shelves v s t) (sym (ap command_view c.in-Planning.is)) h) (λ r. r) c.periods.ensures
+
+pub part-requires : goal.part-requires
+part-requires g c =
+    let within : (1 ≤ c.in-Parting.budget) × (c.in-Parting.budget ≤ 1000000) = subst AreWithin (ap command_view c.in-Parting.is) c.requires in
+    record { some = within.0; few = within.1 }
+
+pub returns-in-Parting : goal.returns-in-Parting
+returns-in-Parting g c =
+    let shelves : Shelves = record { held = g.F.Shelf.held c.args.shelf.now; before = g.F.Shelf.faults c.args.shelf.now; after = g.F.Shelf.faults c.part.new.shelf } in
+    let Q : Status → List ℕ → Type 0 = CommandSays shelves (command_view c.args.command) in
+    Ends-map (CommandSays shelves (Parting c.in-Parting.file.now c.in-Parting.inside.now c.in-Parting.outside.now c.in-Parting.budget)) Q _ _ _ _ _
+    (λ s t h. subst (λ (v : Command). CommandSays shelves v s t) (sym (ap command_view c.in-Parting.is)) h) (λ r. r) c.part.ensures
+
+pub part_against-requires : goal.part_against-requires
+part_against-requires g c =
+    let within : (1 ≤ c.in-PartingAgainst.budget) × (c.in-PartingAgainst.budget ≤ 1000000) = subst AreWithin (ap command_view c.in-PartingAgainst.is) c.requires in
+    record { some = within.0; few = within.1 }
+
+pub returns-in-PartingAgainst : goal.returns-in-PartingAgainst
+returns-in-PartingAgainst g c =
+    let shelves : Shelves = record { held = g.F.Shelf.held c.args.shelf.now; before = g.F.Shelf.faults c.args.shelf.now; after = g.F.Shelf.faults c.part_against.new.shelf } in
+    let Q : Status → List ℕ → Type 0 = CommandSays shelves (command_view c.args.command) in
+    Ends-map (CommandSays shelves (PartingAgainst c.in-PartingAgainst.file.now c.in-PartingAgainst.inside.now c.in-PartingAgainst.outside.now c.in-PartingAgainst.budget c.in-PartingAgainst.tree.now)) Q _ _ _ _ _
+    (λ s t h. subst (λ (v : Command). CommandSays shelves v s t) (sym (ap command_view c.in-PartingAgainst.is)) h) (λ r. r) c.part_against.ensures
+
+pub returns-in-Merging : goal.returns-in-Merging
+returns-in-Merging g c =
+    let shelves : Shelves = record { held = g.F.Shelf.held c.args.shelf.now; before = g.F.Shelf.faults c.args.shelf.now; after = g.F.Shelf.faults c.merge.new.shelf } in
+    let Q : Status → List ℕ → Type 0 = CommandSays shelves (command_view c.args.command) in
+    Ends-map (CommandSays shelves (Merging c.in-Merging.file.now c.in-Merging.tree.now (map string_bytes c.in-Merging.parts.now))) Q _ _ _ _ _
+    (λ s t h. subst (λ (v : Command). CommandSays shelves v s t) (sym (ap command_view c.in-Merging.is)) h) (λ r. r) c.merge.ensures
 
 pub solve-requires : goal.solve-requires
 solve-requires g c =
