@@ -1,0 +1,109 @@
+-- The numbers of a report: fractions in lowest terms, whose numerator and denominator are of at most 127 bits. A number is none where
+-- one that is formed for it has more.
+use Rattle.std.specs.Prelude.{ℕ, zero, suc, ◌+◌, ◌*◌, ◌/◌, ◌%◌, ◌^◌, ◌==◌, nat_lt, ◌&&◌, Bool, List, [], ◌∷◌, ◌++◌, Option, Some, None, ℤ, pos, ◌+ℤ◌, ◌*ℤ◌, unsigned_abs, int_lt, codes, decimal, if◌then◌else◌}
+use Rattle.text_rules.specs.Amount.{signed}
+use Rattle.decimals.specs.Decimal.{rounded_text}
+
+pub record Fraction : Type 0 where
+  pub num : ℤ
+  pub den : ℤ
+
+abbrev pub Number : Type 0
+Number = Option Fraction
+
+-- the greatest common divisor of two numbers, by at most n steps of Euclid's
+abbrev pub common : ℕ → ℕ → ℕ → ℕ
+common zero a b = a
+common (suc n) a b = if b == 0 then a else common n b (a % b)
+
+-- of which b + 1 are enough
+abbrev pub gcd : ℕ → ℕ → ℕ
+gcd a b = common (b + 1) a b
+
+abbrev pub lowest : ℤ → ℤ → Fraction
+lowest x y = record {
+  num = signed (int_lt x (pos 0)) (unsigned_abs x / gcd (unsigned_abs x) (unsigned_abs y));
+  den = pos (unsigned_abs y / gcd (unsigned_abs x) (unsigned_abs y));
+}
+
+abbrev pub is_in_range : ℤ → Bool
+is_in_range z = nat_lt (unsigned_abs z) (2 ^ 127)
+
+-- the fraction of two numbers that are in range, the second above 0
+abbrev pub of : ℤ → ℤ → Number
+of x y = Some (lowest x y)
+
+abbrev pub nothing : Number
+nothing = of (pos 0) (pos 1)
+
+abbrev pub kept : Fraction → Number
+kept f = if is_in_range f.num && is_in_range f.den then Some f else None
+
+abbrev pub times : Number → Number → Number
+times None y = None
+times (Some x) None = None
+times (Some x) (Some y) = kept (lowest (x.num *ℤ y.num) (x.den *ℤ y.den))
+
+-- Both denominators over their greatest common divisor, by which a sum is formed: the numerators times the part of the other, their
+-- sum, and the one part times the other's denominator. All of these have to be in range.
+abbrev pub parts : Fraction → Fraction → Fraction
+parts x y = lowest x.den y.den
+
+abbrev pub are_in_range : ℤ → ℤ → ℤ → ℤ → Bool
+are_in_range a b c d = is_in_range a && (is_in_range b && (is_in_range c && is_in_range d))
+
+abbrev pub sum_in_range : Fraction → Fraction → Fraction → Bool
+sum_in_range x y part =
+    are_in_range (x.num *ℤ part.den) (y.num *ℤ part.num) (x.num *ℤ part.den +ℤ y.num *ℤ part.num) (part.num *ℤ y.den)
+
+abbrev pub plus : Number → Number → Number
+plus None y = None
+plus (Some x) None = None
+plus (Some x) (Some y) = if sum_in_range x y (parts x y) then Some (lowest (x.num *ℤ y.den +ℤ y.num *ℤ x.den) (x.den *ℤ y.den)) else None
+
+-- the sum over a list, from its first number on
+abbrev pub sum_from : Number → (ℕ → Number) → List ℕ → Number
+sum_from n f [] = n
+sum_from n f (k ∷ ks) = sum_from (plus n (f k)) f ks
+
+abbrev pub sum_of : (ℕ → Number) → List ℕ → Number
+sum_of = sum_from nothing
+
+-- a number, 0 where it is not above 0, and 0 where it is not below 0
+abbrev pub above : Number → Number
+above None = None
+above (Some f) = if int_lt (pos 0) f.num then Some f else nothing
+
+abbrev pub below : Number → Number
+below None = None
+below (Some f) = if int_lt f.num (pos 0) then Some f else nothing
+
+-- ---- in decimal
+
+-- half a number, rounded to the nearest whole number, halves away from 0, without its sign
+abbrev pub half_of : Fraction → ℕ
+half_of f = (unsigned_abs f.num + unsigned_abs f.den) / (2 * unsigned_abs f.den)
+
+-- whether half a number is whole
+abbrev pub is_even : Fraction → Bool
+is_even f = unsigned_abs f.den == 1 && unsigned_abs f.num % 2 == 0
+
+abbrev pub past : List ℕ
+past = codes "past"
+
+-- by the number that is twice its last places
+abbrev pub doubled_text : ℕ → Number → List ℕ
+doubled_text k None = past
+doubled_text k (Some f) = rounded_text k (is_even f) (int_lt f.num (pos 0)) (half_of f)
+
+-- with k places, and `past` where there is none
+abbrev pub number_text : ℕ → Number → List ℕ
+number_text k n = doubled_text k (times n (of (pos (2 * 10 ^ k)) (pos 1)))
+
+-- a share in per cent with one place, from 0 on, by twice its thousandths
+abbrev pub thousandths_text : Number → List ℕ
+thousandths_text None = past
+thousandths_text (Some f) = decimal (half_of f / 10) ++ 46 ∷ (48 + half_of f % 10) ∷ []
+
+abbrev pub share_text : Number → List ℕ
+share_text n = thousandths_text (times n (of (pos 2000) (pos 1)))
