@@ -1,11 +1,12 @@
 //! What a search found, as a text of a claim, a tree and a tail.
-ghost use Rattle.std.specs.Prelude.{◌≡◌, ◌<◌, ◌^◌, ℕ, Ok, length};
+ghost use Rattle.std.specs.Prelude.{◌≡◌, ◌≤◌, ◌<◌, ◌^◌, ℕ, Ok, length};
 ghost use Rattle.pns_io.specs.Outside.{HasRisen};
 ghost use Rattle.branch_tree.specs.Known.{KnowsClaim, KnowsTree, KnowsTail};
 ghost use Rattle.branch_tree.specs.View.{claim_of, tail_of};
 ghost use Rattle.tree_rules.specs.Accepted.{first_node};
 ghost use Rattle.tree_text_rules.specs.Read.{read_text};
-ghost use Rattle.tree_text_rules.specs.Spelling.{tree_text};
+ghost use Rattle.tree_text_rules.specs.Spelling.{tree_text, tree_text_lines};
+ghost use Rattle.tree_text.specs.Prints.{Prints};
 ghost use Rattle.tree_text_laws.specs.Fits.{CountsTail, KeepsClaim};
 ghost use Rattle.tree_line_laws.specs.Fits.{CountsPlace};
 ghost use Rattle.node_looks.specs.Children.{claim_with};
@@ -23,7 +24,7 @@ use pns_io::Sink;
 use pns_problem::Problem;
 use std::alloc::Global;
 use std::marker::Model;
-use tree_text::print_tree;
+use tree_text::{PrintFault, print_tree};
 use tree_text_laws::spelled_texts_read;
 
 /// What is claimed, the tree, and where the search stopped.
@@ -160,8 +161,8 @@ impl Certificate {
         (self.claim, self.tree, self.tail)
     }
 
-    // The text of a certificate reads as it. A call tells a proof so, and does nothing.
-    fn reads_back(&self, problem: &Problem)
+    /// The text of a certificate reads as it. A call tells a proof so, and does nothing.
+    pub fn reads_back(&self, problem: &Problem)
         requires claim { KnowsClaim problem.now self.now.claim }
         requires tree { KnowsTree problem.now self.now.tree }
         requires tail { KnowsTail problem.now self.now.tail }
@@ -175,7 +176,30 @@ impl Certificate {
         spelled_texts_read();
     }
 
-    /// Prints the certificate. The status tells where the search stopped.
+    /// The status with which the certificate is printed.
+    pub fn status(&self) -> Status
+        ensures { result ≡ status_of self.now.tail }
+    {
+        status_of(&self.tail)
+    }
+
+    /// Prints the certificate.
+    pub fn print<K: Sink>(
+        &self,
+        alloc: Global,
+        problem: &Problem,
+        out: &mut K,
+    ) -> Result<(), PrintFault>
+        requires claim { KnowsClaim problem.now self.now.claim }
+        requires tree { KnowsTree problem.now self.now.tree }
+        requires tail { KnowsTail problem.now self.now.tail }
+        ensures prints { Prints (tree_text_lines problem.now self.now.claim self.now.tree self.now.tail) (K.written out.old) (K.written out.new) (K.faults out.old) (K.faults out.new) result }
+        ensures later { K.faults out.old ≤ K.faults out.new }
+    {
+        print_tree(alloc, problem, &self.claim, &self.tree, &self.tail, out)
+    }
+
+    /// Says the certificate. The status tells where the search stopped.
     pub(crate) fn say<K: Sink>(&self, alloc: Global, out: &mut K, problem: &Problem) -> Status
         requires claim { KnowsClaim problem.now self.now.claim }
         requires tree { KnowsTree problem.now self.now.tree }
