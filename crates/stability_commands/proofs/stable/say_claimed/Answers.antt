@@ -1,0 +1,26 @@
+use Rattle.std.proofs.Common.{ap, inl, inr, ℕ, List}
+use Rattle.branch_tree.specs.View.{claim_of}
+use Rattle.network_commands.specs.Network.{OnNetwork, ClaimRefusal}
+use Rattle.stability_commands.specs.Stable.{SpotWork}
+use Rattle.endings.specs.Ending.{Tells}
+use Rattle.endings.specs.declared.status.Status.{Status}
+use Rattle.endings.proofs.Ending.{Ends-map, Ends-from, Tells-map}
+use Rattle.stability_commands.proofs.stable.say_claimed.Goals as goal
+
+pub returns-in-Ok-network_of : goal.returns-in-Ok-network_of
+returns-in-Ok-network_of g c =
+    let p = c.args.problem.now in
+    let claim = claim_of c.args.claim in
+    let w = c.in-Ok-network_of.network in
+    let work = SpotWork c.args.spot c.args.budget in
+    let Q : Status → List ℕ → Type 0 = Tells (OnNetwork work p claim c.args.tree.now) in
+    Ends-from (Tells (work p w)) Q _ _ _ _ _ _ _ (ap g.K.Sink.faults c.in-Ok-network_of.ensures.silent) (ap g.K.Sink.written c.in-Ok-network_of.ensures.silent)
+    (Tells-map (work p w) (OnNetwork work p claim c.args.tree.now) (λ s lines h. inr (w, c.in-Ok-network_of.ensures.network, h))) c.say_range.ensures
+
+pub returns : goal.returns
+returns g c =
+    let p = c.args.problem.now in
+    let claim = claim_of c.args.claim in
+    let work = SpotWork c.args.spot c.args.budget in
+    let Q : Status → List ℕ → Type 0 = Tells (OnNetwork work p claim c.args.tree.now) in
+    Ends-map (Tells (ClaimRefusal p claim)) Q _ _ _ _ _ (Tells-map (ClaimRefusal p claim) (OnNetwork work p claim c.args.tree.now) (λ s lines h. inl h)) (λ r. r) c.in-Err.ensures.told

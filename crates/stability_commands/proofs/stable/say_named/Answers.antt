@@ -1,0 +1,32 @@
+use Rattle.std.proofs.Common.{◌≡◌, ◌∷◌, [], refl, sym, subst, codes, ℕ, List, Option, None, IfSome}
+use Rattle.branch_tree.specs.View.{claim_of}
+use Rattle.stability_rules.specs.declared.spot.Spot.{Spot}
+use Rattle.stability_rules.specs.Spot.{KnowsSpot}
+use Rattle.network_commands.specs.Network.{OnNetwork}
+use Rattle.stability_commands.specs.Stable.{SpotWork, NamedWork}
+use Rattle.endings.specs.Lines.{text_of}
+use Rattle.endings.specs.Ending.{Tells}
+use Rattle.endings.specs.declared.status.Status.{Status}
+use Rattle.endings.specs.declared.status.Status.TheVariants.{UnknownName}
+use Rattle.endings.proofs.Ending.{Ends-map, Tells-map, only_in}
+use Rattle.stability_commands.proofs.stable.say_named.Goals as goal
+
+pub returns-in-Some : goal.returns-in-Some
+returns-in-Some g c =
+    let p = c.args.problem.now in
+    let claim = claim_of c.args.claim in
+    let work = OnNetwork (SpotWork c.in-Some.spot c.args.budget) p claim c.args.tree.now in
+    Ends-map _ _ _ _ _ _ _ (Tells-map work (NamedWork c.args.spot c.args.budget p claim c.args.tree.now)
+    (λ s lines h. subst (λ (spot : Option Spot). NamedWork spot c.args.budget p claim c.args.tree.now s lines) (sym c.in-Some.is) h)) (λ r. r) c.say_claimed.ensures
+
+pub returns-in-None : goal.returns-in-None
+returns-in-None g c =
+    let p = c.args.problem.now in
+    let claim = claim_of c.args.claim in
+    let lines : List (List ℕ) = codes "unknown name" ∷ [] in
+    Ends-map _ _ _ _ _ _ _ (only_in (Tells (NamedWork c.args.spot c.args.budget p claim c.args.tree.now)) UnknownName (text_of lines) (
+      lines,
+      subst (λ (spot : Option Spot). NamedWork spot c.args.budget p claim c.args.tree.now UnknownName lines) (sym c.in-None.is) (refl, refl),
+      refl,
+    )) (λ r. r)
+    c.say.ensures

@@ -1,0 +1,10 @@
+use Rattle.std.proofs.Common.{SFits, rules}
+use Rattle.std.specs.Int.{w64}
+use Rattle.std.proofs.lemmas.Int.{to_z-of_z}
+use Rattle.stability_commands.specs.Stable.{past_cost_lines}
+use Rattle.stability_commands.proofs.stable.say_past_cost.Goals as goal
+
+pub returns : goal.returns
+returns g c =
+    let r : SFits w64 c.args.value = search rules in
+    c.say_printed.ensures (past_cost_lines c.args.value c.args.at) _ _ c.print_past_cost-printed.ensures.later (simp to_z-of_z at c.print_past_cost-printed.ensures.prints)

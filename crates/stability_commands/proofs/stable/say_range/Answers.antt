@@ -1,0 +1,35 @@
+use Rattle.std.proofs.Common.{ℕ, List}
+use Rattle.tree_rules.specs.Claim.{Network}
+use Rattle.tree_text_rules.specs.Line.{Token}
+use Rattle.stability_rules.specs.declared.side.Side.TheVariants.{Below, Above}
+use Rattle.stability_commands.specs.Stable.{range_lines, SpotWork}
+use Rattle.endings.specs.Printed.{OneAnswer}
+use Rattle.endings.specs.declared.status.Status.TheVariants.{Done}
+use Rattle.endings.proofs.Ending.{Ends-map, Tells-map}
+use Rattle.stability_commands.proofs.Told.{knows_beyond, range_told}
+use Rattle.stability_commands.proofs.stable.say_range.Goals as goal
+
+pub print_range-printed-requires-clause-below : goal.print_range-printed-requires-clause-below
+print_range-printed-requires-clause-below g c =
+    let r = c.in-Ok.range in
+    knows_beyond c.structures_stay.ensures.shape c.args.problem.now c.args.spot c.requires.known c.args.network.now Below r.from r.below c.in-Ok.ensures.range.ends_below
+
+pub print_range-printed-requires-clause-above : goal.print_range-printed-requires-clause-above
+print_range-printed-requires-clause-above g c =
+    let r = c.in-Ok.range in
+    knows_beyond c.structures_stay.ensures.shape c.args.problem.now c.args.spot c.requires.known c.args.network.now Above r.to r.above c.in-Ok.ensures.range.ends_above
+
+pub returns-in-Ok : goal.returns-in-Ok
+returns-in-Ok g c =
+    let p = c.args.problem.now in
+    let w : Network = c.args.network.now in
+    let r = c.in-Ok.range in
+    let lines : List (List Token) = range_lines p r.from r.to r.below r.above in
+    Ends-map _ _ _ _ _ _ _ (Tells-map (OneAnswer Done lines) (SpotWork c.args.spot c.args.budget p w) (range_told p c.args.spot w c.args.budget r.from r.to r.below r.above c.in-Ok.ensures.range)) (λ r. r)
+    (c.say_printed.ensures lines _ _ c.print_range-printed.ensures.later c.print_range-printed.ensures.prints)
+
+pub say_refusal-requires-clause-refusal : goal.say_refusal-requires-clause-refusal
+say_refusal-requires-clause-refusal g c = (c.args.network.now, c.args.budget, c.in-Err.ensures.refusal)
+
+pub returns-in-Err : goal.returns-in-Err
+returns-in-Err g c = c.say_refusal.ensures c.args.network.now c.args.budget c.in-Err.ensures.refusal

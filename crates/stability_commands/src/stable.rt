@@ -1,0 +1,280 @@
+//! The command `stable`.
+ghost use Rattle.std.specs.Prelude.{◌≡◌, ◌≤◌, ◌⊎◌, ℕ, IfSome, length};
+ghost use Rattle.number_sets.specs.Sets.{AreBelow};
+ghost use Rattle.pns_io.specs.Outside.{HasRisen};
+ghost use Rattle.pns_rules.specs.Shape.{shape_of};
+ghost use Rattle.pgraph.specs.Tables.{shape};
+ghost use Rattle.tree_rules.specs.Claim.{Network, IsFeasible};
+ghost use Rattle.tree_rules.specs.Accepted.{first_node};
+ghost use Rattle.branch_tree.specs.View.{claim_of};
+ghost use Rattle.abb_search.specs.Found.{IsFound};
+ghost use Rattle.command_files.specs.Reading.{OnFile};
+ghost use Rattle.command_files.specs.TreeFile.{OnTree};
+ghost use Rattle.network_commands.specs.Network.{OnNetwork};
+ghost use Rattle.stability_rules.specs.Spot.{KnowsSpot, IsAllowedValue, valued};
+ghost use Rattle.stability.specs.Refusal.{IsRefusal};
+ghost use Rattle.stability_commands.specs.Stable.{spot_named, not_best_lines, past_cost_lines, SpotWork, NamedWork, StableWork};
+ghost use Rattle.stability_commands.specs.Beyond.{StopSays};
+ghost use Rattle.endings.specs.declared.status.Status.TheVariants.{NotBest, Past};
+ghost use Rattle.endings.specs.Printed.{OneAnswer};
+ghost use Rattle.endings.specs.Ending.{Ends, Says, Tells};
+
+use crate::text::{print_not_best, print_past_cost, print_range, print_stopped};
+use abb_search::Found;
+use branch_tree::{Claim, Network, Tree};
+use command_files::{problem_of, tree_of};
+use endings::Status;
+use endings::say::{say, say_memory, say_printed};
+use network_commands::network_of;
+use pgraph::Graph;
+use pns_io::{Shelf, Sink};
+use pns_problem::Problem;
+use searches::certificate_of;
+use stability::{RangeFault, Spot, range, valued};
+use stability_laws::{structures_stay, valued_is_valid};
+use stability_rules::SpotKind;
+use std::alloc::Global;
+use tree_laws::accepted_is_optimal;
+use tree_text::PrintFault;
+
+/// The spot of this kind and name, none exactly where the problem has no such material or unit.
+fn spot_named(problem: &Problem, kind: SpotKind, name: &str) -> Option<Spot>
+    ensures { result ≡ spot_named problem.now kind name.now }
+{
+    match kind {
+        SpotKind::Price => match problem.material_named(name) {
+            Some(x) => Some(Spot::Price(x)),
+            None => None,
+        },
+        SpotKind::Fix => match problem.unit_named(name) {
+            Some(u) => Some(Spot::Fix(u)),
+            None => None,
+        },
+        SpotKind::Proportional => match problem.unit_named(name) {
+            Some(u) => Some(Spot::Proportional(u)),
+            None => None,
+        },
+    }
+}
+
+/// Says that a network is not the best, and a cheaper one of least cost.
+fn say_not_best<K: Sink>(alloc: Global, out: &mut K, problem: &Problem, cheaper: &Network) -> Status
+    requires { AreBelow (length problem.now.units) cheaper.now.units }
+    ensures { Ends (Tells (OneAnswer NotBest (not_best_lines problem.now cheaper.now))) (HasRisen (K.faults out.old) (K.faults out.new)) (K.written out.old) (K.written out.new) result }
+{
+    match print_not_best(alloc, problem, cheaper, out) {
+        Ok(()) => Status::NotBest,
+        Err(PrintFault::WriteFault) => Status::WriteFault,
+        Err(PrintFault::Memory) => say_memory(out),
+    }
+}
+
+/// Says that the network's cost is past the range at a value.
+fn say_past_cost<K: Sink>(alloc: Global, out: &mut K, value: i64, at: u32) -> Status
+    ensures { Ends (Tells (OneAnswer Past (past_cost_lines value at))) (HasRisen (K.faults out.old) (K.faults out.new)) (K.written out.old) (K.written out.new) result }
+{
+    let printed = print_past_cost(alloc, value, at, out);
+    say_printed(out, printed, Status::Past)
+}
+
+/// Says at which value a search stopped, and how far it came there on the problem with this value in the spot.
+fn say_stopped<K: Sink>(
+    alloc: Global,
+    out: &mut K,
+    problem: &Problem,
+    spot: Spot,
+    value: i64,
+    found: Found,
+) -> Status
+    requires known { KnowsSpot problem.now spot }
+    requires allowed { IsAllowedValue spot value }
+    requires found { (budget : ℕ) × IsFound (valued problem.now spot value) first_node budget found }
+    ensures { Ends (Tells (StopSays (valued problem.now spot value) value found)) (HasRisen (K.faults out.old) (K.faults out.new)) (K.written out.old) (K.written out.new) result }
+{
+    let Ok(other) = valued(alloc, problem, spot, value) else {
+        return say_memory(out);
+    };
+    match certificate_of(found) {
+        Some(certificate) => {
+            certificate.reads_back(&other);
+            let printed = print_stopped(alloc, &other, value, &certificate, out);
+            say_printed(out, printed, certificate.status())
+        }
+        None => say_memory(out),
+    }
+}
+
+/// Says why no range is told.
+fn say_refusal<K: Sink>(
+    alloc: Global,
+    out: &mut K,
+    problem: &Problem,
+    spot: Spot,
+    fault: RangeFault,
+) -> Status
+    requires known { KnowsSpot problem.now spot }
+    requires refusal { (w : Network) × (budget : ℕ) × IsRefusal problem.now spot w budget fault }
+    ensures { (w : Network) (budget : ℕ) → IsRefusal problem.now spot w budget fault
+        → Ends (Tells (SpotWork spot budget problem.now w)) (HasRisen (K.faults out.old) (K.faults out.new)) (K.written out.old) (K.written out.new) result }
+{
+    problem.is_valid();
+    valued_is_valid();
+    accepted_is_optimal();
+    match fault {
+        RangeFault::NotBest(cheaper) => say_not_best(alloc, out, problem, &cheaper),
+        RangeFault::Spent {
+            value,
+            best,
+            tree,
+            next,
+            options,
+        } => {
+            let found = Found::Spent {
+                best,
+                tree,
+                next,
+                options,
+            };
+            say_stopped(alloc, out, problem, spot, value, found)
+        }
+        RangeFault::Past {
+            value,
+            best,
+            tree,
+            node,
+            nonbasic,
+            place,
+        } => {
+            let found = Found::Past {
+                best,
+                tree,
+                node,
+                nonbasic,
+                place,
+            };
+            say_stopped(alloc, out, problem, spot, value, found)
+        }
+        RangeFault::PastCost { value, at } => say_past_cost(alloc, out, value, at),
+        RangeFault::Memory => say_memory(out),
+    }
+}
+
+/// Says the range of a spot for a network, or why none is told.
+fn say_range<K: Sink>(
+    alloc: Global,
+    out: &mut K,
+    problem: &Problem,
+    graph: &Graph,
+    network: &Network,
+    spot: Spot,
+    budget: u64,
+) -> Status
+    requires graph { shape graph.now ≡ shape_of problem.now }
+    requires passes { IsFeasible problem.now network.now }
+    requires known { KnowsSpot problem.now spot }
+    requires some { 1 ≤ budget }
+    requires few { budget ≤ 1000000 }
+    ensures { Ends (Tells (SpotWork spot budget problem.now network.now)) (HasRisen (K.faults out.old) (K.faults out.new)) (K.written out.old) (K.written out.new) result }
+{
+    structures_stay();
+    match range(alloc, problem, graph, network, spot, budget as u32) {
+        Ok(range) => {
+            let printed = print_range(alloc, problem, &range, out);
+            say_printed(out, printed, Status::Done)
+        }
+        Err(fault) => say_refusal(alloc, out, problem, spot, fault),
+    }
+}
+
+/// Says the range for the network of a claim, of which each line is judged.
+fn say_claimed<K: Sink>(
+    alloc: Global,
+    out: &mut K,
+    problem: &Problem,
+    claim: Claim,
+    tree: &Tree,
+    spot: Spot,
+    budget: u64,
+) -> Status
+    requires known { KnowsSpot problem.now spot }
+    requires some { 1 ≤ budget }
+    requires few { budget ≤ 1000000 }
+    ensures { Ends (Tells (OnNetwork (SpotWork spot budget) problem.now (claim_of claim) tree.now)) (HasRisen (K.faults out.old) (K.faults out.new)) (K.written out.old) (K.written out.new) result }
+{
+    let Ok(graph) = Graph::of(alloc, problem) else {
+        return say_memory(out);
+    };
+    match network_of(alloc, out, problem, &graph, claim) {
+        Ok(network) => say_range(alloc, out, problem, &graph, &network, spot, budget),
+        Err(status) => status,
+    }
+}
+
+/// Says the same, or that the name is none of the problem.
+fn say_named<K: Sink>(
+    alloc: Global,
+    out: &mut K,
+    problem: &Problem,
+    claim: Claim,
+    tree: &Tree,
+    spot: Option<Spot>,
+    budget: u64,
+) -> Status
+    requires known { IfSome spot (KnowsSpot problem.now) }
+    requires some { 1 ≤ budget }
+    requires few { budget ≤ 1000000 }
+    ensures { Ends (Tells (NamedWork spot budget problem.now (claim_of claim) tree.now)) (HasRisen (K.faults out.old) (K.faults out.new)) (K.written out.old) (K.written out.new) result }
+{
+    match spot {
+        Some(spot) => say_claimed(alloc, out, problem, claim, tree, spot, budget),
+        None => say(out, b"unknown name\n", Status::UnknownName),
+    }
+}
+
+/// Says the same for the claim of a tree file.
+fn say_tree<F: Shelf, K: Sink>(
+    alloc: Global,
+    problem: &Problem,
+    file: &str,
+    kind: SpotKind,
+    name: &str,
+    budget: u64,
+    shelf: &mut F,
+    out: &mut K,
+) -> Status
+    requires some { 1 ≤ budget }
+    requires few { budget ≤ 1000000 }
+    ensures { Ends (Says (OnTree (StableWork kind name.now budget) (F.held shelf.old) file.now problem.now) (λ other. other ≡ file.now) (record { held = F.held shelf.old; before = F.faults shelf.old; after = F.faults shelf.new }))
+        (HasRisen (K.faults out.old) (K.faults out.new)) (K.written out.old) (K.written out.new) result }
+{
+    match tree_of(alloc, shelf, out, file, problem) {
+        Ok((claim, tree)) => {
+            let spot = spot_named(problem, kind, name);
+            say_named(alloc, out, problem, claim, &tree, spot, budget)
+        }
+        Err(status) => status,
+    }
+}
+
+/// Says how far the price or the cost of this name may move while the network that the tree of the one file claims on the problem of
+/// the other stays optimal among the allowed ones, with a network that is cheaper one step beyond each end.
+pub fn stable<F: Shelf, K: Sink>(
+    alloc: Global,
+    file: &str,
+    tree: &str,
+    kind: SpotKind,
+    name: &str,
+    budget: u64,
+    shelf: &mut F,
+    out: &mut K,
+) -> Status
+    requires some { 1 ≤ budget }
+    requires few { budget ≤ 1000000 }
+    ensures { Ends (Says (OnFile (OnTree (StableWork kind name.now budget) (F.held shelf.old) tree.now) (F.held shelf.old) file.now) (λ other. (other ≡ file.now) ⊎ (other ≡ tree.now)) (record { held = F.held shelf.old; before = F.faults shelf.old; after = F.faults shelf.new }))
+        (HasRisen (K.faults out.old) (K.faults out.new)) (K.written out.old) (K.written out.new) result }
+{
+    match problem_of(alloc, shelf, out, file) {
+        Ok(problem) => say_tree(alloc, &problem, tree, kind, name, budget, shelf, out),
+        Err(status) => status,
+    }
+}
