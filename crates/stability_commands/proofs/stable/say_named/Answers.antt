@@ -1,12 +1,10 @@
-use Rattle.std.proofs.Common.{◌≡◌, ◌∷◌, [], refl, sym, subst, codes, ℕ, List, Option, None, IfSome}
+use Rattle.std.proofs.Common.{◌∷◌, [], refl, sym, subst, codes, ℕ, List, Option}
 use Rattle.branch_tree.specs.View.{claim_of}
 use Rattle.stability_rules.specs.declared.spot.Spot.{Spot}
-use Rattle.stability_rules.specs.Spot.{KnowsSpot}
 use Rattle.network_commands.specs.Network.{OnNetwork}
 use Rattle.stability_commands.specs.Stable.{SpotWork, NamedWork}
 use Rattle.endings.specs.Lines.{text_of}
 use Rattle.endings.specs.Ending.{Tells}
-use Rattle.endings.specs.declared.status.Status.{Status}
 use Rattle.endings.specs.declared.status.Status.TheVariants.{UnknownName}
 use Rattle.endings.proofs.Ending.{Ends-map, Tells-map, only_in}
 use Rattle.stability_commands.proofs.stable.say_named.Goals as goal

@@ -1,4 +1,4 @@
-use Rattle.std.proofs.Common.{ℕ, List}
+use Rattle.std.proofs.Common.{List}
 use Rattle.tree_rules.specs.Claim.{Network}
 use Rattle.tree_text_rules.specs.Line.{Token}
 use Rattle.stability_rules.specs.declared.side.Side.TheVariants.{Below, Above}

@@ -1,10 +1,9 @@
-use Rattle.std.proofs.Common.{◌≡◌, ℕ, length, subst, SFits, rules}
+use Rattle.std.proofs.Common.{length, subst, SFits, rules}
 use Rattle.std.specs.Int.{w64}
 use Rattle.std.proofs.lemmas.Int.{to_z-of_z}
 use Rattle.number_sets.proofs.SetLemmas.{below_from}
 use Rattle.abb_search.specs.declared.outcome.Found.TheVariants as founds
 use Rattle.stability_rules.specs.Spot.{valued}
-use Rattle.stability.specs.declared.outcome.RangeFault.{RangeFault}
 use Rattle.stability.specs.declared.outcome.RangeFault.TheVariants.{NotBest, Spent, Past, PastCost}
 use Rattle.stability.specs.Refusal.{IsRefusal}
 use Rattle.endings.specs.Ending.{Tells}

@@ -1,4 +1,4 @@
-use Rattle.std.proofs.Common.{◌≡◌, ◌∷◌, ◌∙◌, sym, subst, ℕ, List, SFits, rules}
+use Rattle.std.proofs.Common.{◌≡◌, ◌∷◌, ◌∙◌, sym, subst, List, SFits, rules}
 use Rattle.std.specs.Int.{w64}
 use Rattle.std.proofs.lemmas.Int.{to_z-of_z}
 use Rattle.problem_rules.specs.Problem.{Problem}
@@ -7,7 +7,6 @@ use Rattle.tree_text_rules.specs.Read.{Certificate}
 use Rattle.tree_text_rules.specs.Spelling.{tree_text_lines}
 use Rattle.endings.specs.Ending.{Tells}
 use Rattle.endings.specs.Printed.{OneAnswer}
-use Rattle.endings.specs.declared.status.Status.{Status}
 use Rattle.endings.specs.declared.status.Status.TheVariants.{Memory}
 use Rattle.endings.proofs.Ending.{Ends-map, Tells-map, Tells-memory, only_in}
 use Rattle.searches.proofs.FoundTexts.{CanPrint, is_printing}
