@@ -14,6 +14,7 @@ overview =
     codes "  check FILE TREE                does the tree prove what it claims?" ∷
     codes "  table FILE TREE                the claimed network as CSV, for a spreadsheet" ∷
     codes "  graph FILE, graph FILE TREE    the plant, and the network in it, for Graphviz" ∷
+    codes "  stable FILE TREE KIND NAME BUDGET    how far a price or a cost may move" ∷
     codes "  edit FILE SCRIPT               the plant after edits; the way back: undo" ∷
     codes "  migrate FILE YEARS             the script from yearly costs to investments" ∷
     codes "  periods FILE PLAN BUDGET       one design for several periods; see expand" ∷

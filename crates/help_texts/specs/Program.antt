@@ -50,6 +50,6 @@ status_page =
     codes "  20  nothing: a word is not UTF-8." ∷
     codes "" ∷
     codes "Of the other statuses each command tells its own: pns help COMMAND. 1 refuses" ∷
-    codes "what was handed in, 4 and 5 are searches that did not end, 9, 10, 11 and 16 to" ∷
-    codes "19 name a word or a line that does not fit." ∷
+    codes "what was handed in, 4 and 5 are searches that did not end, 9, 10, 11, 13, 14 and" ∷
+    codes "16 to 19 name a word or a line that does not fit." ∷
     []

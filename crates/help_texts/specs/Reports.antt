@@ -52,3 +52,39 @@ graph_page =
     codes "Example" ∷
     codes "  pns graph a.pns tree | dot -Tsvg > a.svg" ∷
     []
+
+unfoldable pub stable_page : List (List ℕ)
+stable_page =
+    codes "pns stable FILE TREE KIND NAME BUDGET" ∷
+    codes "Finds how far one price or cost may move while the claimed network stays one of" ∷
+    codes "least cost." ∷
+    codes "  FILE    the plant, PNS_problem_v1" ∷
+    codes "  TREE    a tree text, as solve prints it" ∷
+    codes "  KIND    price, fix or proportional" ∷
+    codes "  NAME    a material for price, a unit for fix and proportional" ∷
+    codes "  BUDGET  the most nodes of the tree, 1 to 1000000; 10000 is a good try" ∷
+    codes "Prints from V, then below and a network that is cheaper under V, or below limit;" ∷
+    codes "to V, then above in the same way. V is in millionths." ∷
+    codes "Ends with" ∷
+    codes "  0   The text is out, whole." ∷
+    codes "  1   refused claim WHY: the claim has no network (unknown), or its network" ∷
+    codes "      breaks an axiom (axiom) or an exclusion (exclusion), its sizes are no" ∷
+    codes "      flows (flows) or its cost is another (cost), or a number is too large" ∷
+    codes "      (sum). Is FILE the plant that TREE was made for?" ∷
+    codes "  4   at V, then a tree text or a place line: a number on the way left the range" ∷
+    codes "      of 128 bits; the plant need not be wrong. Write rates and costs with fewer" ∷
+    codes "      digits, or bounds and capacities nearer to what can come, and call again." ∷
+    codes "  5   at V, then a tree text: BUDGET was reached. At this value the search did" ∷
+    codes "      not end. Call again with a greater BUDGET." ∷
+    codes "  10  tree line L KIND: line L of TREE has a fault; docs/FORMATS.md lists the" ∷
+    codes "      kinds. Have the text printed anew." ∷
+    codes "  13  not best, then a cheaper network: solve anew." ∷
+    codes "  14  unknown name: NAME is no material (price) or no unit (fix, proportional)." ∷
+    codes "  2, 3, 6, 7, 8, 12, 20: see pns help status" ∷
+    codes "Example" ∷
+    codes "  pns stable a.pns tree fix U2 100" ∷
+    codes "  from 0" ∷
+    codes "  below limit" ∷
+    codes "  to 1000000000000000" ∷
+    codes "  above limit" ∷
+    []

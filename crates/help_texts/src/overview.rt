@@ -19,6 +19,7 @@ A FILE is a plant, PNS_problem_v1. Texts go to standard output; 0 is success.
   check FILE TREE                does the tree prove what it claims?
   table FILE TREE                the claimed network as CSV, for a spreadsheet
   graph FILE, graph FILE TREE    the plant, and the network in it, for Graphviz
+  stable FILE TREE KIND NAME BUDGET    how far a price or a cost may move
   edit FILE SCRIPT               the plant after edits; the way back: undo
   migrate FILE YEARS             the script from yearly costs to investments
   periods FILE PLAN BUDGET       one design for several periods; see expand

@@ -63,7 +63,7 @@ pub fn status_page() -> &'static [u8]
   20  nothing: a word is not UTF-8.
 
 Of the other statuses each command tells its own: pns help COMMAND. 1 refuses
-what was handed in, 4 and 5 are searches that did not end, 9, 10, 11 and 16 to
-19 name a word or a line that does not fit.
+what was handed in, 4 and 5 are searches that did not end, 9, 10, 11, 13, 14 and
+16 to 19 name a word or a line that does not fit.
 "
 }

@@ -1,7 +1,7 @@
 //! The pages on claimed networks as people read them.
 ghost use Rattle.std.specs.Prelude.{◌≡◌};
 ghost use Rattle.help_texts.specs.Lines.{text_of};
-ghost use Rattle.help_texts.specs.Reports.{table_page, graph_page};
+ghost use Rattle.help_texts.specs.Reports.{table_page, graph_page, stable_page};
 
 /// The page on `table`.
 #[tactic(auto, unfolding(crate::specs::Reports::table_page))]
@@ -60,5 +60,45 @@ Ends with
   2, 3, 6, 7, 8, 12, 20: see pns help status
 Example
   pns graph a.pns tree | dot -Tsvg > a.svg
+"
+}
+
+/// The page on `stable`.
+#[tactic(auto, unfolding(crate::specs::Reports::stable_page))]
+pub fn stable_page() -> &'static [u8]
+    ensures { result.now ≡ text_of stable_page }
+{
+    b"pns stable FILE TREE KIND NAME BUDGET
+Finds how far one price or cost may move while the claimed network stays one of
+least cost.
+  FILE    the plant, PNS_problem_v1
+  TREE    a tree text, as solve prints it
+  KIND    price, fix or proportional
+  NAME    a material for price, a unit for fix and proportional
+  BUDGET  the most nodes of the tree, 1 to 1000000; 10000 is a good try
+Prints from V, then below and a network that is cheaper under V, or below limit;
+to V, then above in the same way. V is in millionths.
+Ends with
+  0   The text is out, whole.
+  1   refused claim WHY: the claim has no network (unknown), or its network
+      breaks an axiom (axiom) or an exclusion (exclusion), its sizes are no
+      flows (flows) or its cost is another (cost), or a number is too large
+      (sum). Is FILE the plant that TREE was made for?
+  4   at V, then a tree text or a place line: a number on the way left the range
+      of 128 bits; the plant need not be wrong. Write rates and costs with fewer
+      digits, or bounds and capacities nearer to what can come, and call again.
+  5   at V, then a tree text: BUDGET was reached. At this value the search did
+      not end. Call again with a greater BUDGET.
+  10  tree line L KIND: line L of TREE has a fault; docs/FORMATS.md lists the
+      kinds. Have the text printed anew.
+  13  not best, then a cheaper network: solve anew.
+  14  unknown name: NAME is no material (price) or no unit (fix, proportional).
+  2, 3, 6, 7, 8, 12, 20: see pns help status
+Example
+  pns stable a.pns tree fix U2 100
+  from 0
+  below limit
+  to 1000000000000000
+  above limit
 "
 }
