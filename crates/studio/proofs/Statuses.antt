@@ -6,7 +6,7 @@ use Rattle.edit_rules.specs.Edit.{Edit}
 use Rattle.pgraph.specs.declared.verdict.Verdict.{Verdict}
 use Rattle.pgraph.specs.declared.verdict.Verdict.TheVariants.{Meets, Breaks}
 use Rattle.pns_io.specs.Outside.{HasRisen}
-use Rattle.studio_words.specs.Command.{Command, Max, Axioms, Flows, Listing, Make, Migrate, Editing, Undoing, Checking, Solving, Trial, Telling, command_of, IsFileOf, IsFileWord, Table, Splitting, Expanding, Drawing, DrawingNetwork, Planning, Parting, PartingAgainst, Merging}
+use Rattle.studio_words.specs.Command.{Command, Max, Axioms, Flows, Listing, Make, Migrate, Editing, Undoing, Checking, Solving, Trial, Telling, command_of, IsFileOf, IsFileWord, Table, Splitting, Expanding, Drawing, DrawingNetwork, Ranging, Planning, Parting, PartingAgainst, Merging}
 use Rattle.command_files.specs.Reading.{AreHeld, FileFault, file_limit}
 use Rattle.structure_commands.specs.Max.{MaxWork}
 use Rattle.structure_commands.specs.Listing.{ListingWork}
@@ -36,6 +36,9 @@ use Rattle.part_searches.specs.Start.{OnStart}
 use Rattle.part_searches.specs.Part.{PartSays, PartWork, ClaimSays, AgainstWork}
 use Rattle.tree_rules.specs.Claim.{network, infeasible, unknown}
 use Rattle.period_searches.specs.Periods.{PeriodsWork}
+use Rattle.stability_rules.specs.declared.spot.Spot.{Spot}
+use Rattle.stability_rules.specs.declared.spot.SpotKind.{SpotKind}
+use Rattle.stability_commands.specs.Stable.{spot_named, SpotWork, NamedWork, StableWork}
 use Rattle.flow_commands.specs.Best.{FilesClaimBest, AcceptedIsBest}
 use Rattle.branch_tree.specs.Tail.{Tail, whole, spent, past}
 use Rattle.generator.specs.Generated.{generated}
@@ -45,7 +48,7 @@ use Rattle.structure_commands.specs.Axioms.{NamesSay, VerdictSays, first_strange
 use Rattle.endings.specs.Ending.{Shelves, Ends, IsOneOf}
 use Rattle.studio.specs.Answers.{AnswersTo, CommandAnswers, WordsSay, IsReadWithin, IsUndisturbed, IsNotStopped, SearchCanFinish, statuses_of}
 use Rattle.endings.specs.declared.status.Status.{Status}
-use Rattle.endings.specs.declared.status.Status.TheVariants.{Done, Refused, Usage, BadProblem, Past, Spent, ReadFault, WriteFault, Memory, TooLong, BadToken, BadTree, BadEdit, NotMigrated, BadPlan, BadNode, NoLeaf}
+use Rattle.endings.specs.declared.status.Status.TheVariants.{Done, Refused, Usage, BadProblem, Past, Spent, ReadFault, WriteFault, Memory, TooLong, BadToken, BadTree, BadEdit, NotMigrated, BadPlan, BadNode, NoLeaf, NotBest, UnknownName}
 
 -- a file that gives no problem, where it is held within the limit or not
 fault_status : (name file : List ℕ) (s : Status) (lines : List (List ℕ)) → FileFault name file s lines → (s ≡ BadProblem) ⊎ ((s ≡ TooLong) × (file_limit < length file))
@@ -219,6 +222,20 @@ merge_status held names p claim tree s lines (inr (ps, give, inr stopped)) short
   | inr q ↦ inr (inr (inl q))
 ]
 
+-- ---- ranges
+
+spot_status : (spot : Spot) (budget : ℕ) (p : Problem) (w : Network) (s : Status) (lines : List (List ℕ)) → SpotWork spot budget p w s lines → (s ≡ Done) ⊎ ((s ≡ Spent) ⊎ ((s ≡ Past) ⊎ (s ≡ NotBest)))
+spot_status spot budget p w Done lines h = inl refl
+spot_status spot budget p w Spent lines h = inr (inl refl)
+spot_status spot budget p w Past lines h = inr (inr (inl refl))
+spot_status spot budget p w NotBest lines h = inr (inr (inr refl))
+spot_status spot budget p w s lines h = absurd h
+
+stable_status : (spot : Option Spot) (budget : ℕ) (p : Problem) (claim : Claim) (tree : Tree) (s : Status) (lines : List (List ℕ)) → NamedWork spot budget p claim tree s lines → (s ≡ UnknownName) ⊎ ((s ≡ Refused) ⊎ ((s ≡ Done) ⊎ ((s ≡ Spent) ⊎ ((s ≡ Past) ⊎ (s ≡ NotBest)))))
+stable_status None budget p claim tree s lines h = inl h.0
+stable_status (Some spot) budget p claim tree s lines (inl refusal) = inr (inl refusal.0)
+stable_status (Some spot) budget p claim tree s lines (inr rest) = inr (inr (spot_status spot budget p rest.0 s lines rest.2))
+
 command_status : (held : List ℕ → Option (List ℕ)) (command : Command) (s : Status) (lines : List (List ℕ)) → CommandAnswers held command s lines → ((name : List ℕ) (limit : ℕ) → IsReadWithin command name limit → IsSomeAnd (held name) (λ told. length told ≤ limit)) → IsOneOf (statuses_of command) s
 command_status held (Max name) s lines (file, is, inl fault) short = elim (fault_status name file s lines fault) [
   | inl q ↦ inr (inl q)
@@ -307,6 +324,27 @@ command_status held (DrawingNetwork name tree) s lines (file, is, inl fault) sho
   | inr q ↦ absurd (within_limit (held name) file_limit file (short name file_limit (inl (refl, refl))) is q.1)
 ]
 command_status held (DrawingNetwork name tree) s lines (file, is, inr work) short = trees_status (OnNetwork NetworkGraphWork) (network_status NetworkGraphWork graph_status) held tree work.0 s lines work.2 (short tree tree_limit (inr (refl, refl)))
+command_status held (Ranging name tree kind word budget) s lines (file, is, inl fault) short = elim (fault_status name file s lines fault) [
+  | inl q ↦ inr (inr (inr (inr (inl q))))
+  | inr q ↦ absurd (within_limit (held name) file_limit file (short name file_limit (inl (refl, refl))) is q.1)
+]
+command_status held (Ranging name tree kind word budget) s lines (file, is, inr (p, given, (bytes, there, inl fault))) short = elim (tree_status tree p bytes s lines fault) [
+  | inl q ↦ inr (inr (inr (inr (inr (inl q)))))
+  | inr q ↦ absurd (within_limit (held tree) tree_limit bytes (short tree tree_limit (inr (refl, refl))) there q.1)
+]
+command_status held (Ranging name tree kind word budget) s lines (file, is, inr (p, given, (bytes, there, inr rest))) short = elim (stable_status (spot_named p kind word) budget p rest.0 rest.1 s lines rest.3) [
+  | inl q ↦ inr (inr (inr (inr (inr (inr (inr (inl q)))))))
+  | inr o ↦ elim o [
+    | inl q ↦ inr (inl q)
+    | inr o ↦ elim o [
+      | inl q ↦ inl q
+      | inr o ↦ elim o [
+        | inl q ↦ inr (inr (inl q))
+        | inr o ↦ elim o [ inl q ↦ inr (inr (inr (inl q))) | inr q ↦ inr (inr (inr (inr (inr (inr (inl q)))))) ]
+      ]
+    ]
+  ]
+]
 command_status held (Planning name plan budget) s lines (file, is, inl fault) short = elim (fault_status name file s lines fault) [
   | inl q ↦ inr (inr (inr (inr (inl q))))
   | inr q ↦ absurd (within_limit (held name) file_limit file (short name file_limit (inl refl, refl)) is q.1)
@@ -415,6 +453,9 @@ answer_status held (Drawing name) lines (file, is, inr work) = absurd work.2
 answer_status held (DrawingNetwork name tree) lines (file, is, inl fault) = absurd fault
 answer_status held (DrawingNetwork name tree) lines (file, is, inr (p, given, (bytes, there, inl fault))) = absurd fault
 answer_status held (DrawingNetwork name tree) lines (file, is, inr (p, given, (bytes, there, inr rest))) = elim (network_status NetworkGraphWork graph_status p rest.0 rest.1 Usage lines rest.3) [ inl q ↦ cc | inr q ↦ cc ]
+answer_status held (Ranging name tree kind word budget) lines (file, is, inl fault) = absurd fault
+answer_status held (Ranging name tree kind word budget) lines (file, is, inr (p, given, (bytes, there, inl fault))) = absurd fault
+answer_status held (Ranging name tree kind word budget) lines (file, is, inr (p, given, (bytes, there, inr rest))) = elim (stable_status (spot_named p kind word) budget p rest.0 rest.1 Usage lines rest.3) [ inl q ↦ cc | inr o ↦ elim o [ inl q ↦ cc | inr o ↦ elim o [ inl q ↦ cc | inr o ↦ elim o [ inl q ↦ cc | inr o ↦ elim o [ inl q ↦ cc | inr q ↦ cc ] ] ] ] ]
 answer_status held (Planning name plan budget) lines (file, is, inl fault) = absurd fault
 answer_status held (Planning name plan budget) lines (file, is, inr (p, given, (bytes, there, inl fault))) = absurd fault
 answer_status held (Planning name plan budget) lines (file, is, inr (p, given, (bytes, there, inr rest))) = elim (periods_status budget p rest.0 Usage lines rest.2) [ inl q ↦ cc | inr o ↦ elim o [ inl q ↦ cc | inr q ↦ cc ] ]
@@ -452,6 +493,7 @@ memory_status (Table file tree) = inr (inr (inr (inr (inl refl))))
 memory_status (Splitting file tree) = inr (inr (inr (inr (inl refl))))
 memory_status (Drawing file) = inr (inr (inl refl))
 memory_status (DrawingNetwork file tree) = inr (inr (inr (inr (inl refl))))
+memory_status (Ranging file tree kind name budget) = inr (inr (inr (inr (inr (inr (inr (inr (inl refl))))))))
 memory_status (Planning file plan budget) = inr (inr (inr (inr (inr (inl refl)))))
 memory_status (Parting file inside outside budget) = inr (inr (inr (inr (inr (inl refl)))))
 memory_status (PartingAgainst file inside outside budget tree) = inr (inr (inr (inr (inr (inr (inr (inl refl)))))))

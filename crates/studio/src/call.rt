@@ -25,6 +25,7 @@ use period_searches::planned::periods;
 use pns_io::{Shelf, Sink};
 use searches::solve::solve;
 use searches::trial::trial;
+use stability_commands::stable::stable;
 use std::alloc::Global;
 use structure_commands::axioms::axioms;
 use structure_commands::list::list;
@@ -56,6 +57,9 @@ fn perform<F: Shelf, K: Sink>(
         Command::Expanding(file, plan) => expand(alloc, file, plan, shelf, out),
         Command::Drawing(file) => plant_graph(alloc, file, shelf, out),
         Command::DrawingNetwork(file, tree) => graph(alloc, file, tree, shelf, out),
+        Command::Ranging(file, tree, kind, name, budget) => {
+            stable(alloc, file, tree, kind, name, budget, shelf, out)
+        }
         Command::Planning(file, plan, budget) => periods(alloc, file, plan, budget, shelf, out),
         Command::Parting(file, inside, outside, budget) => {
             part(alloc, file, inside, outside, budget, shelf, out)

@@ -9,7 +9,8 @@ use Rattle.studio_words.specs.Numeral.{is_numeral, number_within}
 use Rattle.help_texts.specs.Lines.{text_of}
 use Rattle.help_texts.specs.Overview.{overview, version}
 use Rattle.help_texts.specs.Pages.{page_of, page_text}
-use Rattle.studio_words.specs.Command.{Command, Max, Axioms, Flows, Listing, Migrate, Editing, Undoing, Checking, Solving, Telling, is_help_word, is_version_word, or_else, merging_of, form_of, command_of, on_file, made_by, tried_by, unit_names_of, count_of, seed_of, unit_count_of, years_of, budget_of, is_file_word, AreWithin, Table, Splitting, Expanding, Drawing, DrawingNetwork, Planning, Parting, PartingAgainst, Merging}
+use Rattle.studio_words.specs.Command.{Command, Max, Axioms, Flows, Listing, Migrate, Editing, Undoing, Checking, Solving, Telling, is_help_word, is_version_word, or_else, merging_of, form_of, command_of, on_file, made_by, tried_by, ranged_by, kind_of, unit_names_of, count_of, seed_of, unit_count_of, years_of, budget_of, is_file_word, AreWithin, Table, Splitting, Expanding, Drawing, DrawingNetwork, Ranging, Planning, Parting, PartingAgainst, Merging}
+use Rattle.stability_rules.specs.declared.spot.SpotKind.{SpotKind}
 
 numeral_within : (least most : ℕ) (word : List ℕ) → IfSome (number_within least most word) (λ n. (least ≤ n) × (n ≤ most))
 numeral_within least most word = at (is_numeral word) (nat_le least (number_of word)) (nat_le (number_of word) most) refl refl
@@ -63,6 +64,11 @@ against_within : (file inside outside tree : List ℕ) (budget : Option ℕ) →
 against_within file inside outside tree None p = tt
 against_within file inside outside tree (Some budget) p = p
 
+ranged_within : (file tree : List ℕ) (kind : Option SpotKind) (name : List ℕ) (budget : Option ℕ) → IfSome budget (λ n. (1 ≤ n) × (n ≤ 1000000)) → IfSome (ranged_by file tree kind name budget) AreWithin
+ranged_within file tree None name budget p = tt
+ranged_within file tree (Some kind) name None p = tt
+ranged_within file tree (Some kind) name (Some budget) p = p
+
 listing_within : (file after : List ℕ) (count : Option ℕ) → IfSome (option_map (Listing file after) count) AreWithin
 listing_within file after None = tt
 listing_within file after (Some count) = tt
@@ -109,8 +115,10 @@ forms_within (word ∷ first ∷ second ∷ third ∷ fourth ∷ []) =
     either_within (bytes_eq word (codes "part") && is_file_word first) (option_map (Parting first second third) (budget_of fourth)) None
     (parting_within first second third (budget_of fourth) (numeral_within 1 1000000 fourth)) tt
 forms_within (word ∷ first ∷ second ∷ third ∷ fourth ∷ fifth ∷ []) =
-    either_within (bytes_eq word (codes "part") && is_file_word first && is_file_word fifth) (option_map (λ n. PartingAgainst first second third n fifth) (budget_of fourth)) None
-    (against_within first second third fifth (budget_of fourth) (numeral_within 1 1000000 fourth)) tt
+    either_within (bytes_eq word (codes "part") && is_file_word first && is_file_word fifth) (option_map (λ n. PartingAgainst first second third n fifth) (budget_of fourth)) _
+    (against_within first second third fifth (budget_of fourth) (numeral_within 1 1000000 fourth))
+    (either_within (bytes_eq word (codes "stable") && is_file_word first && is_file_word second) (ranged_by first second (kind_of third) fourth (budget_of fifth)) None
+    (ranged_within first second (kind_of third) fourth (budget_of fifth) (numeral_within 1 1000000 fifth)) tt)
 forms_within (a ∷ b ∷ c ∷ d ∷ e ∷ f ∷ g ∷ words) = tt
 
 merging_within : (words : List (List ℕ)) → IfSome (merging_of words) AreWithin

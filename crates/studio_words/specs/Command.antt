@@ -6,10 +6,12 @@ use Rattle.problem_rules.specs.Names.{is_name, has_double}
 use Rattle.help_texts.specs.Lines.{text_of, IsOfLines}
 use Rattle.help_texts.specs.Overview.{overview, version}
 use Rattle.help_texts.specs.Pages.{page_text}
+use Rattle.stability_rules.specs.declared.spot.SpotKind.{SpotKind}
+use Rattle.stability_rules.specs.declared.spot.SpotKind.TheVariants as kinds
 use Rattle.studio_words.specs.Numeral.{number_within}
 
 -- a command with its words: FILE, the names of UNITS, AFTER and COUNT, NUMBER and the count of units, YEARS, SCRIPT, TREE, PLAN, BUDGET,
--- INSIDE and OUTSIDE, the parts of a tree;
+-- KIND and NAME, INSIDE and OUTSIDE, the parts of a tree;
 -- or the text of the program itself that they ask for
 pub data Command : Type 0 where
   Max : List ℕ → Command
@@ -26,6 +28,7 @@ pub data Command : Type 0 where
   Expanding : List ℕ → List ℕ → Command
   Drawing : List ℕ → Command
   DrawingNetwork : List ℕ → List ℕ → Command
+  Ranging : List ℕ → List ℕ → SpotKind → List ℕ → ℕ → Command
   Planning : List ℕ → List ℕ → ℕ → Command
   Parting : List ℕ → List ℕ → List ℕ → ℕ → Command
   PartingAgainst : List ℕ → List ℕ → List ℕ → ℕ → List ℕ → Command
@@ -72,6 +75,19 @@ made_by number units = None
 abbrev pub tried_by : Option ℕ → Option ℕ → Option ℕ → Option Command
 tried_by (Some number) (Some units) (Some budget) = Some (Trial number units budget)
 tried_by number units budget = None
+
+-- KIND: what is varied
+abbrev pub kind_of : List ℕ → Option SpotKind
+kind_of kind =
+    if bytes_eq kind (codes "price") then Some kinds.Price
+    else if bytes_eq kind (codes "fix") then Some kinds.Fix
+    else if bytes_eq kind (codes "proportional") then Some kinds.Proportional
+    else None
+
+-- the range of one price or cost is found for a network, within a budget
+abbrev pub ranged_by : List ℕ → List ℕ → Option SpotKind → List ℕ → Option ℕ → Option Command
+ranged_by file tree (Some kind) name (Some budget) = Some (Ranging file tree kind name budget)
+ranged_by file tree kind name budget = None
 
 -- the commands of a file and a second file
 abbrev pub with_file : List ℕ → List ℕ → List ℕ → Option Command
@@ -139,6 +155,8 @@ form_of (word ∷ first ∷ second ∷ third ∷ fourth ∷ []) =
 form_of (word ∷ first ∷ second ∷ third ∷ fourth ∷ fifth ∷ []) =
     if bytes_eq word (codes "part") && is_file_word first && is_file_word fifth then
     option_map (λ budget. PartingAgainst first second third budget fifth) (budget_of fourth)
+    else if bytes_eq word (codes "stable") && is_file_word first && is_file_word second then
+    ranged_by first second (kind_of third) fourth (budget_of fifth)
     else None
 form_of words = None
 
@@ -167,6 +185,7 @@ IsFileOf (Splitting file tree) name = (name ≡ file) ⊎ (name ≡ tree)
 IsFileOf (Expanding file plan) name = (name ≡ file) ⊎ (name ≡ plan)
 IsFileOf (Drawing file) name = name ≡ file
 IsFileOf (DrawingNetwork file tree) name = (name ≡ file) ⊎ (name ≡ tree)
+IsFileOf (Ranging file tree kind word budget) name = (name ≡ file) ⊎ (name ≡ tree)
 IsFileOf (Planning file plan budget) name = (name ≡ file) ⊎ (name ≡ plan)
 IsFileOf (Parting file inside outside budget) name = name ≡ file
 IsFileOf (PartingAgainst file inside outside budget tree) name = (name ≡ file) ⊎ (name ≡ tree)
@@ -180,6 +199,7 @@ abbrev pub AreWithin : Command → Type 0
 AreWithin (Make number units) = (1 ≤ units) × (units ≤ 128)
 AreWithin (Migrate file years) = (1 ≤ years) × (years ≤ 100)
 AreWithin (Solving file budget) = (1 ≤ budget) × (budget ≤ 1000000)
+AreWithin (Ranging file tree kind name budget) = (1 ≤ budget) × (budget ≤ 1000000)
 AreWithin (Planning file plan budget) = (1 ≤ budget) × (budget ≤ 1000000)
 AreWithin (Parting file inside outside budget) = (1 ≤ budget) × (budget ≤ 1000000)
 AreWithin (PartingAgainst file inside outside budget tree) = (1 ≤ budget) × (budget ≤ 1000000)

@@ -1,6 +1,6 @@
 //! The words of a call.
 ghost use Rattle.std.specs.Prelude.{◌≡◌, ◌∷◌, [], IfOk, map, option_map, string_bytes};
-ghost use Rattle.studio_words.specs.Command.{command_of, form_of, on_file, with_file, made_by, tried_by, unit_names_of, count_of, seed_of, unit_count_of, years_of, budget_of, alone, Axioms, Flows, Listing, Migrate, Solving, Planning, Parting, PartingAgainst, Telling};
+ghost use Rattle.studio_words.specs.Command.{command_of, form_of, on_file, with_file, made_by, tried_by, ranged_by, unit_names_of, count_of, seed_of, unit_count_of, years_of, budget_of, kind_of, alone, Axioms, Flows, Listing, Migrate, Solving, Planning, Parting, PartingAgainst, Telling};
 ghost use Rattle.help_texts.specs.Pages.{page_text};
 ghost use Rattle.studio_words.specs.View.{command_view};
 
@@ -8,6 +8,7 @@ use crate::merging::merging_of;
 use crate::number::number_within;
 use crate::unit_names::UnitNames;
 use help_texts::{overview_text, page_on, version_text};
+use stability_rules::SpotKind;
 use std::alloc::{AllocError, Global};
 
 /// A command with its words.
@@ -27,6 +28,7 @@ pub enum Command<'a> {
     Expanding(&'a str, &'a str),
     Drawing(&'a str),
     DrawingNetwork(&'a str, &'a str),
+    Ranging(&'a str, &'a str, SpotKind, &'a str, u64),
     Planning(&'a str, &'a str, u64),
     Parting(&'a str, &'a str, &'a str, u64),
     PartingAgainst(&'a str, &'a str, &'a str, u64, &'a str),
@@ -272,6 +274,8 @@ fn of_six<'a>(
 {
     if word == "part" && !first.is_empty() && !fifth.is_empty() {
         parting_against(first, second, third, fourth, fifth)
+    } else if word == "stable" && !first.is_empty() && !second.is_empty() {
+        ranged_by(first, second, third, fourth, fifth)
     } else {
         None
     }
@@ -307,6 +311,34 @@ fn parting_against<'a>(
 {
     let budget = budget_of(budget)?;
     Some(Command::PartingAgainst(file, inside, outside, budget, tree))
+}
+
+fn kind_of(kind: &str) -> Option<SpotKind>
+    ensures { result ≡ kind_of kind.now }
+{
+    if kind == "price" {
+        Some(SpotKind::Price)
+    } else if kind == "fix" {
+        Some(SpotKind::Fix)
+    } else if kind == "proportional" {
+        Some(SpotKind::Proportional)
+    } else {
+        None
+    }
+}
+
+fn ranged_by<'a>(
+    file: &'a str,
+    tree: &'a str,
+    kind: &str,
+    name: &'a str,
+    budget: &str,
+) -> Option<Command<'a>>
+    ensures { option_map command_view result ≡ ranged_by file.now tree.now (kind_of kind.now) name.now (budget_of budget.now) }
+{
+    let kind = kind_of(kind)?;
+    let budget = budget_of(budget)?;
+    Some(Command::Ranging(file, tree, kind, name, budget))
 }
 
 fn axioms_of<'a>(

@@ -1,5 +1,5 @@
 use Rattle.std.proofs.Common.{refl, sym, ap, subst, ◌≤◌, ℕ, List, map, string_bytes}
-use Rattle.studio_words.specs.Command.{Command, Max, Axioms, Flows, Listing, Migrate, Editing, Undoing, Checking, Solving, Telling, AreWithin, Table, Splitting, Expanding, Drawing, DrawingNetwork, Planning, Parting, PartingAgainst, Merging}
+use Rattle.studio_words.specs.Command.{Command, Max, Axioms, Flows, Listing, Migrate, Editing, Undoing, Checking, Solving, Telling, AreWithin, Table, Splitting, Expanding, Drawing, DrawingNetwork, Ranging, Planning, Parting, PartingAgainst, Merging}
 use Rattle.studio_words.specs.View.{command_view}
 use Rattle.endings.specs.Ending.{Shelves}
 use Rattle.studio.specs.Answers.{CommandSays}
@@ -118,6 +118,18 @@ returns-in-DrawingNetwork g c =
     let Q : Status → List ℕ → Type 0 = CommandSays shelves (command_view c.args.command) in
     Ends-map (CommandSays shelves (DrawingNetwork c.in-DrawingNetwork.file.now c.in-DrawingNetwork.tree.now)) Q _ _ _ _ _
     (λ s t h. subst (λ (v : Command). CommandSays shelves v s t) (sym (ap command_view c.in-DrawingNetwork.is)) h) (λ r. r) c.graph.ensures
+
+pub stable-requires : goal.stable-requires
+stable-requires g c =
+    let within : (1 ≤ c.in-Ranging.budget) × (c.in-Ranging.budget ≤ 1000000) = subst AreWithin (ap command_view c.in-Ranging.is) c.requires in
+    record { some = within.0; few = within.1 }
+
+pub returns-in-Ranging : goal.returns-in-Ranging
+returns-in-Ranging g c =
+    let shelves : Shelves = record { held = g.F.Shelf.held c.args.shelf.now; before = g.F.Shelf.faults c.args.shelf.now; after = g.F.Shelf.faults c.stable.new.shelf } in
+    let Q : Status → List ℕ → Type 0 = CommandSays shelves (command_view c.args.command) in
+    Ends-map (CommandSays shelves (Ranging c.in-Ranging.file.now c.in-Ranging.tree.now c.in-Ranging.kind c.in-Ranging.name.now c.in-Ranging.budget)) Q _ _ _ _ _
+    (λ s t h. subst (λ (v : Command). CommandSays shelves v s t) (sym (ap command_view c.in-Ranging.is)) h) (λ r. r) c.stable.ensures
 
 pub periods-requires : goal.periods-requires
 periods-requires g c =
