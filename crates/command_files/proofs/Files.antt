@@ -1,6 +1,7 @@
 -- What the commands on a file say, from what is said of the file and of its problem.
-use Rattle.std.proofs.Common.{◌≡◌, ◌<◌, ℕ, List, Option, Some, None, length, refl, arith, inl, inr, suc, IfSome, replicate}
+use Rattle.std.proofs.Common.{◌≡◌, ◌<◌, ℕ, List, Some, None, length, refl, arith, inl, inr, suc, replicate}
 use Rattle.std.proofs.lemmas.List.{length-replicate}
+use Rattle.pns_io.specs.Outside.{Told, IfTold}
 use Rattle.problem_rules.specs.Problem.{Problem}
 use Rattle.endings.specs.Ending.{Shelves, Tells, Says}
 use Rattle.endings.specs.declared.status.Status.{Status}
@@ -8,9 +9,10 @@ use Rattle.command_files.specs.Reading.{AreHeld, FileFaults, GivesProblem, OnFil
 use Rattle.endings.proofs.Ending.{Says-map, Says-told}
 
 -- a file that is too long, also where the shelf does not tell
-pub long_file : (held : Option (List ℕ)) (limit : ℕ) → IfSome held (λ file. limit < length file) → (file : List ℕ) × AreHeld held file × (limit < length file)
+pub long_file : (held : Told) (limit : ℕ) → IfTold held (λ file. limit < length file) → (file : List ℕ) × AreHeld held file × (limit < length file)
 long_file None limit h = (replicate (suc limit) 0, tt, omega (arith, length-replicate {A = ℕ} (suc limit) 0))
-long_file (Some file) limit h = (file, refl, h)
+long_file (Some None) limit h = absurd h
+long_file (Some (Some file)) limit h = (file, refl, h)
 
 -- a command on a file says what its file says where that gives no problem
 pub on_file-faults : (work : Problem → Status → List (List ℕ) → Type 0) (shelves : Shelves) (name : List ℕ) (s : Status) (t : List ℕ) → Says (FileFaults shelves.held name) (λ other. other ≡ name) shelves s t → Says (OnFile work shelves.held name) (λ other. other ≡ name) shelves s t

@@ -1,6 +1,6 @@
 -- What the commands on a file and a second file say, from what is said of each.
-use Rattle.std.proofs.Common.{◌≡◌, ◌≤◌, ◌⊎◌, ℕ, List, Option, inl, inr, subst, sym}
-use Rattle.pns_io.specs.Outside.{HasRisen}
+use Rattle.std.proofs.Common.{◌≡◌, ◌≤◌, ◌⊎◌, ℕ, List, inl, inr, subst, sym}
+use Rattle.pns_io.specs.Outside.{HasRisen, Told}
 use Rattle.problem_rules.specs.Problem.{Problem}
 use Rattle.command_files.specs.Reading.{AreHeld, LongFile, IsLong, FileFaults, GivesProblem, OnFile, OnSecond}
 use Rattle.endings.specs.Ending.{Shelves, Says}
@@ -32,7 +32,7 @@ module _ (judged : Problem → List ℕ → Status → List (List ℕ) → Type 
     pub on_both-work : (shelves later : Shelves) (p : Problem) → (bytes : List ℕ) × AreHeld (shelves.held file) bytes × GivesProblem bytes p → later.held name ≡ shelves.held name → later.after ≡ shelves.after → ((other : List ℕ) → shelves.before other ≤ later.before other) → (s : Status) (t : List ℕ) → Says (OnSecond judged later.held name p) (λ other. other ≡ name) later s t → Says (OnFile (OnSecond judged shelves.held name) shelves.held file) (λ other. (other ≡ file) ⊎ (other ≡ name)) shelves s t
     on_both-work shelves later p given held after before =
         Says-over (OnSecond judged later.held name p) (OnFile (OnSecond judged shelves.held name) shelves.held file) (λ other. other ≡ name) (λ other. (other ≡ file) ⊎ (other ≡ name)) later shelves
-        (λ s lines h. (given.0, given.1, inr (p, given.2, (h.0, subst (λ (o : Option (List ℕ)). AreHeld o h.0) held h.1, h.2))))
+        (λ s lines h. (given.0, given.1, inr (p, given.2, (h.0, subst (λ (o : Told). AreHeld o h.0) held h.1, h.2))))
         (λ other e. inr e)
         (λ other rise. HasRisen-later (shelves.before other) (later.before other) (shelves.after other) (before other)
         (subst (λ (f : List ℕ → ℕ). HasRisen (later.before other) (f other)) after rise))

@@ -1,5 +1,6 @@
 -- PLAN is read and judged behind FILE: first its form, then its meaning on the problem.
-use Rattle.std.specs.Prelude.{◌≡◌, ◌≤◌, ◌⊎◌, ◌++◌, ℕ, List, [], ◌∷◌, Option, Ok, Err, length, codes, decimal}
+use Rattle.std.specs.Prelude.{◌≡◌, ◌≤◌, ◌⊎◌, ◌++◌, ℕ, List, [], ◌∷◌, Ok, Err, length, codes, decimal}
+use Rattle.pns_io.specs.Outside.{Told}
 use Rattle.problem_rules.specs.Problem.{Problem}
 use Rattle.plan_rules.specs.Meaning.{read_plan}
 use Rattle.plan_rules.specs.Plan.{Plan}
@@ -39,12 +40,12 @@ abbrev pub GivesPlan : Problem → List ℕ → Plan → Type 0
 GivesPlan p file plan = (length file ≤ file_limit) × (read_plan p file ≡ Ok plan)
 
 -- what reading and judging the named plan says where it gives none for the problem
-abbrev pub PlanFaults : (List ℕ → Option (List ℕ)) → List ℕ → Problem → Status → List (List ℕ) → Type 0
+abbrev pub PlanFaults : (List ℕ → Told) → List ℕ → Problem → Status → List (List ℕ) → Type 0
 PlanFaults held name p status lines = (file : List ℕ) × AreHeld (held name) file × PlanFileFault name p file status lines
 
 -- The status and lines of the work on a problem and its plan: those of a file that gives no plan, else those of the work.
 abbrev pub PlanSays : (Problem → Plan → Status → List (List ℕ) → Type 0) → List ℕ → Problem → List ℕ → Status → List (List ℕ) → Type 0
 PlanSays work name p file status lines = PlanFileFault name p file status lines ⊎ ((plan : Plan) × GivesPlan p file plan × work p plan status lines)
 
-abbrev pub OnPlan : (Problem → Plan → Status → List (List ℕ) → Type 0) → (List ℕ → Option (List ℕ)) → List ℕ → Problem → Status → List (List ℕ) → Type 0
+abbrev pub OnPlan : (Problem → Plan → Status → List (List ℕ) → Type 0) → (List ℕ → Told) → List ℕ → Problem → Status → List (List ℕ) → Type 0
 OnPlan work held name = OnSecond (PlanSays work name) held name

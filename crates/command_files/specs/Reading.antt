@@ -1,5 +1,6 @@
 -- FILE is read and judged, which all commands on a problem share.
-use Rattle.std.specs.Prelude.{◌≡◌, ◌<◌, ◌≤◌, ◌⊎◌, ◌++◌, ℕ, List, [], ◌∷◌, Option, IfSome, Result, Ok, Err, length, codes, decimal}
+use Rattle.std.specs.Prelude.{◌≡◌, ◌<◌, ◌≤◌, ◌⊎◌, ◌++◌, ℕ, List, [], ◌∷◌, Result, Ok, Err, length, codes, decimal}
+use Rattle.pns_io.specs.Outside.{Told, IfTold}
 use Rattle.problem_rules.specs.Problem.{Problem}
 use Rattle.text_rules.specs.declared.TextKind.{TextKind}
 use Rattle.text_rules.specs.declared.TextKind.TheVariants.{FileType, UnknownSection, DoubleSection, BadLine, BadName, UnknownKey, DoubleKey, BadNumber, TooFine, TooLarge, Negative, UnknownKind, ZeroRate, DoubleTerm, BothSides, EmptySide, DoubleMaterial, DoubleUnit, DoubleRates, TooMany, LowAboveHigh, UnknownMaterial, NoRates, NoProduct, DoubleExclusion, DoubleMember, FewMembers, UnknownUnit, BadPayout}
@@ -16,9 +17,9 @@ file_limit = 4194304
 abbrev pub Reads : List ℕ → Result Problem Fault → Type 0
 Reads file outcome = read_text file ≡ outcome
 
--- the bytes are those of the file, where the shelf tells them
-abbrev pub AreHeld : Option (List ℕ) → List ℕ → Type 0
-AreHeld held file = IfSome held (λ told. file ≡ told)
+-- the bytes are those of the file, where the shelf tells them; where it tells that there is no such file no bytes are
+abbrev pub AreHeld : Told → List ℕ → Type 0
+AreHeld held file = IfTold held (λ told. file ≡ told)
 
 -- the word by which a kind of fault is told
 abbrev pub kind_word : TextKind → List ℕ
@@ -59,7 +60,7 @@ fault_line line kind = codes "problem line " ++ decimal line ++ 32 ∷ kind_word
 abbrev pub IsLong : List ℕ → ℕ → List ℕ → List (List ℕ) → Type 0
 IsLong name limit file lines = (limit < length file) × (lines ≡ (codes "too long " ++ name) ∷ [])
 
-abbrev pub LongFile : (List ℕ → Option (List ℕ)) → List ℕ → ℕ → Status → List (List ℕ) → Type 0
+abbrev pub LongFile : (List ℕ → Told) → List ℕ → ℕ → Status → List (List ℕ) → Type 0
 LongFile held name limit status lines = (status ≡ TooLong) × ((file : List ℕ) × AreHeld (held name) file × IsLong name limit file lines)
 
 -- a file that gives no problem: it is above the limit, or its text has a fault, which is told with its line and kind
@@ -74,15 +75,15 @@ abbrev pub GivesProblem : List ℕ → Problem → Type 0
 GivesProblem file p = (length file ≤ file_limit) × Reads file (Ok p)
 
 -- what reading the named file says where it gives no problem
-abbrev pub FileFaults : (List ℕ → Option (List ℕ)) → List ℕ → Status → List (List ℕ) → Type 0
+abbrev pub FileFaults : (List ℕ → Told) → List ℕ → Status → List (List ℕ) → Type 0
 FileFaults held name status lines = (file : List ℕ) × AreHeld (held name) file × FileFault name file status lines
 
 -- The status and lines of a command on the named file: those of a file that gives no problem, else those of its work on
 -- the problem.
-abbrev pub OnFile : (Problem → Status → List (List ℕ) → Type 0) → (List ℕ → Option (List ℕ)) → List ℕ → Status → List (List ℕ) → Type 0
+abbrev pub OnFile : (Problem → Status → List (List ℕ) → Type 0) → (List ℕ → Told) → List ℕ → Status → List (List ℕ) → Type 0
 OnFile work held name status lines =
     (file : List ℕ) × AreHeld (held name) file × (FileFault name file status lines ⊎ ((p : Problem) × GivesProblem file p × work p status lines))
 
 -- The status and lines of a command on a problem and a second file, of whose bytes `judged` speaks.
-abbrev pub OnSecond : (Problem → List ℕ → Status → List (List ℕ) → Type 0) → (List ℕ → Option (List ℕ)) → List ℕ → Problem → Status → List (List ℕ) → Type 0
+abbrev pub OnSecond : (Problem → List ℕ → Status → List (List ℕ) → Type 0) → (List ℕ → Told) → List ℕ → Problem → Status → List (List ℕ) → Type 0
 OnSecond judged held name p status lines = (file : List ℕ) × AreHeld (held name) file × judged p file status lines

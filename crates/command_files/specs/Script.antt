@@ -1,5 +1,6 @@
 -- SCRIPT is read and judged behind FILE: first its form, then its meaning on the problem.
-use Rattle.std.specs.Prelude.{◌≡◌, ◌≤◌, ◌⊎◌, ◌++◌, ℕ, List, [], ◌∷◌, Option, Ok, Err, length, map, codes, decimal}
+use Rattle.std.specs.Prelude.{◌≡◌, ◌≤◌, ◌⊎◌, ◌++◌, ℕ, List, [], ◌∷◌, Ok, Err, length, map, codes, decimal}
+use Rattle.pns_io.specs.Outside.{Told}
 use Rattle.problem_rules.specs.Problem.{Problem}
 use Rattle.edit_rules.specs.Edit.{Edit, Script}
 use Rattle.edit_rules.specs.Formed.{script_of}
@@ -68,7 +69,7 @@ pub record IsEdited (p : Problem) (file : List ℕ) (edited : Problem) (back : S
   pub back_is : back ≡ script_of (undoing p script.edits)
 
 -- what reading and judging the named script says where it gives none for the problem
-abbrev pub ScriptFaults : (List ℕ → Option (List ℕ)) → List ℕ → Problem → Status → List (List ℕ) → Type 0
+abbrev pub ScriptFaults : (List ℕ → Told) → List ℕ → Problem → Status → List (List ℕ) → Type 0
 ScriptFaults held name p status lines = (file : List ℕ) × AreHeld (held name) file × ScriptFault name p file status lines
 
 -- want of memory, or just the fault of the text
@@ -81,5 +82,5 @@ TellsEdits p file (At line kind) = HasEditFault p file line kind
 abbrev pub ScriptSays : (Problem → List Edit → Status → List (List ℕ) → Type 0) → List ℕ → Problem → List ℕ → Status → List (List ℕ) → Type 0
 ScriptSays work name p file status lines = ScriptFault name p file status lines ⊎ ((s : Script) × GivesScript p file s × work p s.edits status lines)
 
-abbrev pub OnScript : (Problem → List Edit → Status → List (List ℕ) → Type 0) → (List ℕ → Option (List ℕ)) → List ℕ → Problem → Status → List (List ℕ) → Type 0
+abbrev pub OnScript : (Problem → List Edit → Status → List (List ℕ) → Type 0) → (List ℕ → Told) → List ℕ → Problem → Status → List (List ℕ) → Type 0
 OnScript work held name = OnSecond (ScriptSays work name) held name

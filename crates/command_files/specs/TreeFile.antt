@@ -1,5 +1,6 @@
 -- TREE is read and judged behind FILE by its grammar: a claim, a tree and a tail.
-use Rattle.std.specs.Prelude.{◌≡◌, ◌≤◌, ◌⊎◌, ◌++◌, ℕ, List, [], ◌∷◌, Option, Ok, Err, length, codes, decimal}
+use Rattle.std.specs.Prelude.{◌≡◌, ◌≤◌, ◌⊎◌, ◌++◌, ℕ, List, [], ◌∷◌, Ok, Err, length, codes, decimal}
+use Rattle.pns_io.specs.Outside.{Told}
 use Rattle.problem_rules.specs.Problem.{Problem}
 use Rattle.tree_rules.specs.Claim.{Claim}
 use Rattle.tree_rules.specs.Accepted.{Tree}
@@ -42,7 +43,7 @@ abbrev pub GivesTree : Problem → List ℕ → Claim → Tree → Type 0
 GivesTree p file claim tree = (length file ≤ tree_limit) × ((tail : Tail) × (read_text p file ≡ Ok (record { claim = claim; tree = tree; tail = tail })))
 
 -- what reading and judging the named tree says where it gives none for the problem
-abbrev pub TreeFaults : (List ℕ → Option (List ℕ)) → List ℕ → Problem → Status → List (List ℕ) → Type 0
+abbrev pub TreeFaults : (List ℕ → Told) → List ℕ → Problem → Status → List (List ℕ) → Type 0
 TreeFaults held name p status lines = (file : List ℕ) × AreHeld (held name) file × TreeFault name p file status lines
 
 -- The status and lines of the work on a problem and the claim and tree of a file: those of a file that gives none, else those of
@@ -51,5 +52,5 @@ abbrev pub TreeSays : (Problem → Claim → Tree → Status → List (List ℕ)
 TreeSays work name p file status lines =
     TreeFault name p file status lines ⊎ ((claim : Claim) × (tree : Tree) × GivesTree p file claim tree × work p claim tree status lines)
 
-abbrev pub OnTree : (Problem → Claim → Tree → Status → List (List ℕ) → Type 0) → (List ℕ → Option (List ℕ)) → List ℕ → Problem → Status → List (List ℕ) → Type 0
+abbrev pub OnTree : (Problem → Claim → Tree → Status → List (List ℕ) → Type 0) → (List ℕ → Told) → List ℕ → Problem → Status → List (List ℕ) → Type 0
 OnTree work held name = OnSecond (TreeSays work name) held name

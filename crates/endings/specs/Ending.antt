@@ -1,14 +1,14 @@
 -- How a call ends: with the whole text of its status, or with a front of such a text where the sink failed.
 use Rattle.std.specs.Prelude.{◌≡◌, ◌⊎◌, ◌++◌, ℕ, List, [], ◌∷◌, Option, codes}
 use Rattle.std.specs.Io.KnownBytes.{Appends}
-use Rattle.pns_io.specs.Outside.{HasRisen, AppendsFront}
+use Rattle.pns_io.specs.Outside.{HasRisen, AppendsFront, Told}
 use Rattle.endings.specs.Lines.{line, text_of}
 use Rattle.endings.specs.declared.status.Status.{Status}
 use Rattle.endings.specs.declared.status.Status.TheVariants.{ReadFault, WriteFault, Memory}
 
 -- the shelf in a call: the bytes of each file where it tells them, and the counts of faults before the call and after it
 pub record Shelves : Type 0 where
-  pub held : List ℕ → Option (List ℕ)
+  pub held : List ℕ → Told
   pub before : List ℕ → ℕ
   pub after : List ℕ → ℕ
 

@@ -1,5 +1,6 @@
 -- What it means that a claim is best, over allowed solution structures and their flows alone: no tree is named here.
-use Rattle.std.specs.Prelude.{◌≡◌, ℕ, ℤ, ◌*ℤ◌, ◌≤ℤ◌, Bool, List, Option}
+use Rattle.std.specs.Prelude.{◌≡◌, ℕ, ℤ, ◌*ℤ◌, ◌≤ℤ◌, Bool, List}
+use Rattle.pns_io.specs.Outside.{Told}
 use Rattle.number_sets.specs.Sets.{has}
 use Rattle.problem_rules.specs.Problem.{Problem}
 use Rattle.problem_rules.specs.Validity.{IsValid}
@@ -40,7 +41,7 @@ IsBest p infeasible = NoneHasFlows p
 IsBest p unknown = ⊥
 
 -- FILE gives a valid problem, TREE a claim with a tree for it, and the claim is best
-pub record FilesClaimBest (held : List ℕ → Option (List ℕ)) (file tree : List ℕ) : Type 0 where
+pub record FilesClaimBest (held : List ℕ → Told) (file tree : List ℕ) : Type 0 where
   pub problem_text : List ℕ
   pub problem_held : AreHeld (held file) problem_text
   pub problem : Problem
@@ -56,5 +57,5 @@ pub record FilesClaimBest (held : List ℕ → Option (List ℕ)) (file tree : L
 -- so it is wherever `check FILE TREE` answers with status 0
 abbrev pub AcceptedIsBest : Type 0
 AcceptedIsBest =
-    (held : List ℕ → Option (List ℕ)) (file tree : List ℕ) (lines : List (List ℕ))
+    (held : List ℕ → Told) (file tree : List ℕ) (lines : List (List ℕ))
     → OnFile (OnTree CheckWork held tree) held file Done lines → FilesClaimBest held file tree

@@ -1,8 +1,8 @@
 -- The files of several parts, one after another.
-use Rattle.std.proofs.Common.{◌≡◌, Bool, ◌≤◌, ◌<◌, ◌+◌, ℕ, suc, List, [], ◌∷◌, ◌++◌, Option, length, take, get_or, refl, sym, ap, ◌∙◌, subst, inl, inr, ◌⊎◌, add-one}
+use Rattle.std.proofs.Common.{◌≡◌, Bool, ◌≤◌, ◌<◌, ◌+◌, ℕ, suc, List, [], ◌∷◌, ◌++◌, length, take, get_or, refl, sym, ap, ◌∙◌, subst, inl, inr, ◌⊎◌, add-one}
 use Rattle.std.specs.List.{Contains}
 use Rattle.std.proofs.Math.Seq.{take-suc, take-length}
-use Rattle.pns_io.specs.Outside.{HasRisen}
+use Rattle.pns_io.specs.Outside.{HasRisen, Told}
 use Rattle.problem_rules.specs.Problem.{Problem}
 use Rattle.tree_rules.specs.Claim.{Claim}
 use Rattle.tree_rules.specs.Accepted.{Tree}
@@ -17,7 +17,7 @@ use Rattle.endings.proofs.Ending.{Says-map, Says-told, Says-over, HasRisen-later
 
 -- ---- parts in order
 
-module _ (held : List ℕ → Option (List ℕ)) (p : Problem) where
+module _ (held : List ℕ → Told) (p : Problem) where
   one_last : (names : List (List ℕ)) (ps : List Part) (name : List ℕ) (part : Part) → GiveParts held p names ps → (file : List ℕ) × AreHeld (held name) file × GivesPart p file part → GiveParts held p (names ++ name ∷ []) (ps ++ part ∷ [])
   one_last [] [] name part give one = (one, tt)
   one_last [] (q ∷ qs) name part give one = absurd give
@@ -70,7 +70,7 @@ module _ (names : List (List ℕ)) (p : Problem) (shelves later : Shelves) (keep
         within = lt;
         name_is = here;
         before = given.give;
-        fault = (h.0, subst (λ (o : Option (List ℕ)). AreHeld o h.0) (keeps name) h.1, subst (λ (b : Bool). PartFault b name p h.0 s lines) is h.2);
+        fault = (h.0, subst (λ (o : Told). AreHeld o h.0) (keeps name) h.1, subst (λ (b : Bool). PartFault b name p h.0 s lines) is h.2);
       })
       (λ other e. subst (Contains names) (sym e) (place, lt, sym here)) rises
 
@@ -79,7 +79,7 @@ module _ (names : List (List ℕ)) (p : Problem) (shelves later : Shelves) (keep
       → (s : Status) (t : List ℕ) → Says (MergeWork later.held names p claim ts) (Contains names) later s t → Says (OnTree (MergeWork shelves.held names) shelves.held tree p) (λ other. (other ≡ tree) ⊎ Contains names other) shelves s t
   tree_told tree claim ts given =
       Says-over (MergeWork later.held names p claim ts) (OnTree (MergeWork shelves.held names) shelves.held tree p) (Contains names) (λ other. (other ≡ tree) ⊎ Contains names other) later shelves
-      (λ s lines h. (given.0, given.1, inr (claim, ts, given.2, subst (λ (held : List ℕ → Option (List ℕ)). MergeWork held names p claim ts s lines) same_held h)))
+      (λ s lines h. (given.0, given.1, inr (claim, ts, given.2, subst (λ (held : List ℕ → Told). MergeWork held names p claim ts s lines) same_held h)))
       (λ other h. inr h) rises
 
   -- of the work behind FILE
@@ -88,5 +88,5 @@ module _ (names : List (List ℕ)) (p : Problem) (shelves later : Shelves) (keep
       → Says (OnFile (OnTree (MergeWork shelves.held names) shelves.held tree) shelves.held file) (λ other. (other ≡ file) ⊎ ((other ≡ tree) ⊎ Contains names other)) shelves s t
   file_told file tree given =
       Says-over (OnTree (MergeWork later.held names) later.held tree p) (OnFile (OnTree (MergeWork shelves.held names) shelves.held tree) shelves.held file) (λ other. (other ≡ tree) ⊎ Contains names other) (λ other. (other ≡ file) ⊎ ((other ≡ tree) ⊎ Contains names other)) later shelves
-      (λ s lines h. (given.0, given.1, inr (p, given.2, subst (λ (held : List ℕ → Option (List ℕ)). OnTree (MergeWork held names) held tree p s lines) same_held h)))
+      (λ s lines h. (given.0, given.1, inr (p, given.2, subst (λ (held : List ℕ → Told). OnTree (MergeWork held names) held tree p s lines) same_held h)))
       (λ other h. inr h) rises

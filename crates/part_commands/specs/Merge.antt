@@ -1,6 +1,7 @@
 -- `merge FILE TREE PART ..`: the parts are put back in turn, each in the place of the open leaf whose node is its own, and the tree that
 -- comes of it is printed with what it proves but for its open leaves. Or else the first part that is not put back is told, with why.
-use Rattle.std.specs.Prelude.{◌≡◌, ◌⊎◌, ◌++◌, ℕ, Bool, true, false, List, [], ◌∷◌, Option, get_or, codes, decimal}
+use Rattle.std.specs.Prelude.{◌≡◌, ◌⊎◌, ◌++◌, ℕ, Bool, true, false, List, [], ◌∷◌, get_or, codes, decimal}
+use Rattle.pns_io.specs.Outside.{Told}
 use Rattle.problem_rules.specs.Problem.{Problem}
 use Rattle.tree_rules.specs.declared.why.Why.{Why}
 use Rattle.tree_rules.specs.Claim as claims
@@ -66,6 +67,6 @@ abbrev pub MergeSays : List (List ℕ) → Problem → claims.Claim → trees.Tr
 MergeSays names p claim tree ps status lines = MergedSays p claim tree ps status lines ⊎ StoppedSays p claim tree names ps status lines
 
 -- the files of the parts are read and judged in order, and then the parts are put back
-abbrev pub MergeWork : (List ℕ → Option (List ℕ)) → List (List ℕ) → Problem → claims.Claim → trees.Tree → Status → List (List ℕ) → Type 0
+abbrev pub MergeWork : (List ℕ → Told) → List (List ℕ) → Problem → claims.Claim → trees.Tree → Status → List (List ℕ) → Type 0
 MergeWork held names p claim tree status lines =
     FirstFault held names p status lines ⊎ ((ps : List parts.Part) × GiveParts held p names ps × MergeSays names p claim tree ps status lines)

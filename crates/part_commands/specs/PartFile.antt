@@ -1,6 +1,7 @@
 -- PART is read and judged behind TREE by its grammar: a node, a claim, a tree and a tail. Where there are several, a line that speaks of
 -- one names its file.
-use Rattle.std.specs.Prelude.{◌≡◌, ◌≤◌, ◌<◌, ◌++◌, ℕ, Bool, true, false, List, [], ◌∷◌, Option, Ok, Err, length, take, get_or, nat_lt, codes, decimal}
+use Rattle.std.specs.Prelude.{◌≡◌, ◌≤◌, ◌<◌, ◌++◌, ℕ, Bool, true, false, List, [], ◌∷◌, Ok, Err, length, take, get_or, nat_lt, codes, decimal}
+use Rattle.pns_io.specs.Outside.{Told}
 use Rattle.problem_rules.specs.Problem.{Problem}
 use Rattle.tree_text_rules.specs.declared.TreeKind.{TreeKind}
 use Rattle.tree_parts.specs.Part.{Part}
@@ -34,17 +35,17 @@ abbrev pub GivesPart : Problem → List ℕ → Part → Type 0
 GivesPart p file part = (length file ≤ tree_limit) × PartReads p file (Ok part)
 
 -- what reading and judging the named part says where it gives none for the problem
-abbrev pub PartFaults : Bool → (List ℕ → Option (List ℕ)) → List ℕ → Problem → Status → List (List ℕ) → Type 0
+abbrev pub PartFaults : Bool → (List ℕ → Told) → List ℕ → Problem → Status → List (List ℕ) → Type 0
 PartFaults several held name p status lines = (file : List ℕ) × AreHeld (held name) file × PartFault several name p file status lines
 
 -- the named files give these parts, in order
-abbrev pub GiveParts : (List ℕ → Option (List ℕ)) → Problem → List (List ℕ) → List Part → Type 0
+abbrev pub GiveParts : (List ℕ → Told) → Problem → List (List ℕ) → List Part → Type 0
 GiveParts held p [] [] = Unit {0}
 GiveParts held p (name ∷ names) (part ∷ parts) = ((file : List ℕ) × AreHeld (held name) file × GivesPart p file part) × GiveParts held p names parts
 GiveParts held p names parts = ⊥
 
 -- the files before the one at this place give parts, and it gives none
-pub record FirstFault (held : List ℕ → Option (List ℕ)) (names : List (List ℕ)) (p : Problem) (status : Status) (lines : List (List ℕ)) : Type 0 where
+pub record FirstFault (held : List ℕ → Told) (names : List (List ℕ)) (p : Problem) (status : Status) (lines : List (List ℕ)) : Type 0 where
   pub place : ℕ
   pub name : List ℕ
   pub parts : List Part

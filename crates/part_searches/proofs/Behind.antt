@@ -1,6 +1,6 @@
 -- What is said of TREE behind FILE, over the shelf as it was left.
-use Rattle.std.proofs.Common.{◌≡◌, ◌≤◌, ◌⊎◌, ℕ, List, Option, inl, inr, subst}
-use Rattle.pns_io.specs.Outside.{HasRisen}
+use Rattle.std.proofs.Common.{◌≡◌, ◌≤◌, ◌⊎◌, ℕ, List, inl, inr, subst}
+use Rattle.pns_io.specs.Outside.{HasRisen, Told}
 use Rattle.problem_rules.specs.Problem.{Problem}
 use Rattle.command_files.specs.Reading.{AreHeld, FileFaults, GivesProblem, OnFile}
 use Rattle.part_searches.specs.Part.{AgainstWork}
@@ -9,7 +9,7 @@ use Rattle.endings.specs.declared.status.Status.{Status}
 use Rattle.endings.proofs.Ending.{Says-map, Says-over, HasRisen-later}
 
 module _ (budget : ℕ) (file tree word other : List ℕ) where
-  abbrev AllSay : (List ℕ → Option (List ℕ)) → Status → List (List ℕ) → Type 0
+  abbrev AllSay : (List ℕ → Told) → Status → List (List ℕ) → Type 0
   AllSay held = OnFile (AgainstWork budget held tree word other) held file
 
   -- a file that gives no problem
@@ -24,7 +24,7 @@ module _ (budget : ℕ) (file tree word other : List ℕ) where
   file_work shelves later p given keeps after before =
       let same : later.held ≡ shelves.held = λ i name. keeps name i in
       Says-over (AgainstWork budget later.held tree word other p) (AllSay shelves.held) (λ name. name ≡ tree) (λ name. (name ≡ file) ⊎ (name ≡ tree)) later shelves
-      (λ s lines h. (given.0, given.1, inr (p, given.2, subst (λ (held : List ℕ → Option (List ℕ)). AgainstWork budget held tree word other p s lines) same h)))
+      (λ s lines h. (given.0, given.1, inr (p, given.2, subst (λ (held : List ℕ → Told). AgainstWork budget held tree word other p s lines) same h)))
       (λ name e. inr e)
       (λ name rise. HasRisen-later (shelves.before name) (later.before name) (shelves.after name) (before name)
       (subst (λ (f : List ℕ → ℕ). HasRisen (later.before name) (f name)) after rise))

@@ -1,6 +1,7 @@
 -- `part FILE INSIDE OUTSIDE BUDGET`: what a search of the structures of a node finds, as the text of a part. `part FILE INSIDE OUTSIDE
 -- BUDGET TREE`: the same, where the search begins with the network of TREE as its best, if TREE claims one.
 use Rattle.std.specs.Prelude.{◌⊎◌, ℕ, List, Option, Some, None}
+use Rattle.pns_io.specs.Outside.{Told}
 use Rattle.number_sets.specs.Sets.{has}
 use Rattle.problem_rules.specs.Problem.{Problem}
 use Rattle.tree_rules.specs.Claim.{Network, Claim, network, infeasible, unknown, IsFeasible}
@@ -37,5 +38,5 @@ ClaimSays budget inside outside p (network w) tree status lines =
 ClaimSays budget inside outside p infeasible tree status lines = PartSays budget None inside outside p status lines
 ClaimSays budget inside outside p unknown tree status lines = PartSays budget None inside outside p status lines
 
-abbrev pub AgainstWork : ℕ → (List ℕ → Option (List ℕ)) → List ℕ → List ℕ → List ℕ → Problem → Status → List (List ℕ) → Type 0
+abbrev pub AgainstWork : ℕ → (List ℕ → Told) → List ℕ → List ℕ → List ℕ → Problem → Status → List (List ℕ) → Type 0
 AgainstWork budget held tree = OnStart (λ inside outside. OnTree (ClaimSays budget inside outside) held tree)

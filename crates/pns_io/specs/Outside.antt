@@ -1,5 +1,5 @@
 -- What a read gives of a file, what a sink has taken, and when a count of faults rose.
-use Rattle.std.specs.Prelude.{◌≡◌, ◌<◌, ◌≤◌, ◌+◌, ◌⊎◌, ◌↔◌, ◌++◌, ℕ, List, Option, length, take, drop, min}
+use Rattle.std.specs.Prelude.{◌≡◌, ◌<◌, ◌≤◌, ◌+◌, ◌⊎◌, ◌↔◌, ◌++◌, ℕ, List, Option, length, take, drop, min, IfSome, IsSomeAnd}
 use Rattle.std.specs.Io.KnownBytes.{Appends}
 
 -- The last value of a count of 64 bits, at which it stays.
@@ -29,3 +29,15 @@ pub record Continues (file old new : List ℕ) (k : ℕ) : Type 0 where
   pub bytes : new ≡ old ++ take k (drop (length old) file)
   pub fits : length old + k ≤ length file ⊎ (k ≡ 0)
   pub end : (k ≡ 0) ↔ (length file ≤ length old)
+
+-- What a shelf tells of a name: nothing, that it holds no such file, or the bytes of its file.
+abbrev pub Told : Type 0
+Told = Option (Option (List ℕ))
+
+-- it holds of the bytes of the file where they are told, of none where there is no such file, and of all where nothing is told
+abbrev pub IfTold : Told → (List ℕ → Type 0) → Type 0
+IfTold told P = IfSome told (λ file. IsSomeAnd file P)
+
+-- the bytes are told, and it holds of them
+abbrev pub IsToldAnd : Told → (List ℕ → Type 0) → Type 0
+IsToldAnd told P = IsSomeAnd told (λ file. IsSomeAnd file P)

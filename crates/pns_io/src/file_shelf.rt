@@ -1,6 +1,6 @@
 //! The files of the system.
-ghost use Rattle.std.specs.Prelude.{◌≡◌, ◌≤◌, List, ℕ, length, IfSome, IfOk, OnOk, OnErr, None};
-ghost use Rattle.pns_io.specs.Outside.{HasRisen, ReadsAt, counted};
+ghost use Rattle.std.specs.Prelude.{◌≡◌, ◌≤◌, List, ℕ, length, IfOk, OnOk, OnErr, None};
+ghost use Rattle.pns_io.specs.Outside.{HasRisen, ReadsAt, IfTold, counted};
 
 use crate::{Failed, Shelf};
 use std::io::{ErrorKind, Read, Seek, SeekFrom};
@@ -106,7 +106,7 @@ impl<'a, R: Files> Shelf for FileShelf<'a, R> {
 
     fn read(&mut self, name: &str, at: u64, into: &mut [u8]) -> Result<usize, Failed>
         ensures count { IfOk result (λ k. k ≤ length into.new) }
-        ensures told { IfOk result (λ k. IfSome None (λ file. ReadsAt file at into.new k)) }
+        ensures told { IfOk result (λ k. IfTold None (λ file. ReadsAt file at into.new k)) }
         ensures ok { OnOk result (self.new ≡ self.old) }
         ensures err { OnErr result (self.new ≡ counted self.old) }
         ensures cause { OnErr result (HasRisen self.old self.new) }

@@ -1,5 +1,5 @@
 //! A shelf in memory, with reads that fail.
-ghost use Rattle.std.specs.Prelude.{◌≡◌, ◌≤◌, ◌-◌, ◌⊎◌, ◌↔◌, List, ℕ, length, min, IfSome, IfOk, OnOk, IsErr, IsNone, OnErr, Contains};
+ghost use Rattle.std.specs.Prelude.{◌≡◌, ◌≤◌, ◌-◌, ◌⊎◌, ◌↔◌, List, ℕ, length, min, Some, IsSomeAnd, IfOk, OnOk, IsErr, IsNone, OnErr, Contains};
 ghost use Rattle.pns_io.specs.Outside.{HasRisen, ReadsAt, counted};
 ghost use Rattle.pns_io.specs.NamedFiles.{file_of, file_views};
 
@@ -47,14 +47,14 @@ impl MemShelf {
 }
 
 impl Shelf for MemShelf {
-    ghost held = { λ shelf name. file_of shelf.files name };
+    ghost held = { λ shelf name. Some (file_of shelf.files name) };
 
     ghost faults = { λ shelf name. shelf.failed };
 
     fn read(&mut self, name: &str, at: u64, into: &mut [u8]) -> Result<usize, Failed>
         ensures count { IfOk result (λ k. k ≤ length into.new) }
-        ensures told { IfOk result (λ k. IfSome (file_of self.old.files name.now) (λ file. ReadsAt file at into.new k)) }
-        ensures whole { IfOk result (λ k. IfSome (file_of self.old.files name.now) (λ file. k ≡ min (length into.new) (length file - at))) }
+        ensures told { IfOk result (λ k. IsSomeAnd (file_of self.old.files name.now) (λ file. ReadsAt file at into.new k)) }
+        ensures whole { IfOk result (λ k. IsSomeAnd (file_of self.old.files name.now) (λ file. k ≡ min (length into.new) (length file - at))) }
         ensures cause { OnErr result (HasRisen self.old.failed self.new.failed) }
         ensures later { (other : List ℕ) → self.old.failed ≤ self.new.failed }
         ensures keeps { (other : List ℕ) → file_of self.new.files other ≡ file_of self.old.files other }

@@ -32,7 +32,7 @@ impl PlainShelf {
 }
 
 impl Shelf for PlainShelf {
-    ghost held = { λ shelf name. Some (file_or_empty shelf name) };
+    ghost held = { λ shelf name. Some (Some (file_or_empty shelf name)) };
 
     ghost faults = { λ shelf name. 0 };
 

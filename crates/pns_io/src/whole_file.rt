@@ -1,6 +1,6 @@
 //! The whole of a file.
-ghost use Rattle.std.specs.Prelude.{◌≡◌, ◌<◌, ◌≤◌, ◌^◌, ◌+◌, List, ℕ, length, vec_len, IfSome, IfOk, IsErrOf};
-ghost use Rattle.pns_io.specs.Outside.{HasRisen, Continues};
+ghost use Rattle.std.specs.Prelude.{◌≡◌, ◌<◌, ◌≤◌, ◌^◌, ◌+◌, List, ℕ, length, vec_len, IfOk, IsErrOf};
+ghost use Rattle.pns_io.specs.Outside.{HasRisen, Continues, IfTold};
 
 use crate::Shelf;
 use std::alloc::Global;
@@ -32,9 +32,9 @@ pub fn read_all<F: Shelf>(
     limit: u64,
 ) -> Result<Vec<u8>, ReadAllFault>
     requires { limit < 2 ^ 32 }
-    ensures whole { IfOk result (λ bytes. IfSome (F.held shelf.old name.now) (λ file. bytes.items ≡ file)) }
+    ensures whole { IfOk result (λ bytes. IfTold (F.held shelf.old name.now) (λ file. bytes.items ≡ file)) }
     ensures within { IfOk result (λ bytes. vec_len bytes ≤ limit) }
-    ensures too_long { IsErrOf result ReadAllFault.TooLong → IfSome (F.held shelf.old name.now) (λ file. limit < length file) }
+    ensures too_long { IsErrOf result ReadAllFault.TooLong → IfTold (F.held shelf.old name.now) (λ file. limit < length file) }
     ensures fault { IsErrOf result ReadAllFault.ReadFault → HasRisen (F.faults shelf.old name.now) (F.faults shelf.new name.now) }
     ensures later { (other : List ℕ) → F.faults shelf.old other ≤ F.faults shelf.new other }
     ensures keeps { (other : List ℕ) → F.held shelf.new other ≡ F.held shelf.old other }
@@ -55,9 +55,9 @@ fn read_through<F: Shelf>(
 ) -> Result<Vec<u8>, ReadAllFault>
     requires small { limit < 2 ^ 32 }
     requires room { 0 < length chunk.old }
-    ensures whole { IfOk result (λ bytes. IfSome (F.held shelf.old name.now) (λ file. bytes.items ≡ file)) }
+    ensures whole { IfOk result (λ bytes. IfTold (F.held shelf.old name.now) (λ file. bytes.items ≡ file)) }
     ensures within { IfOk result (λ bytes. vec_len bytes ≤ limit) }
-    ensures too_long { IsErrOf result ReadAllFault.TooLong → IfSome (F.held shelf.old name.now) (λ file. limit < length file) }
+    ensures too_long { IsErrOf result ReadAllFault.TooLong → IfTold (F.held shelf.old name.now) (λ file. limit < length file) }
     ensures fault { IsErrOf result ReadAllFault.ReadFault → HasRisen (F.faults shelf.old name.now) (F.faults shelf.new name.now) }
     ensures later { (other : List ℕ) → F.faults shelf.old other ≤ F.faults shelf.new other }
     ensures keeps { (other : List ℕ) → F.held shelf.new other ≡ F.held shelf.old other }
@@ -85,7 +85,7 @@ fn read_piece<F: Shelf>(
     requires small { vec_len bytes.old ≤ 2 ^ 32 }
     requires room { 0 < length piece.old }
     ensures grows { IfOk result (λ k. (vec_len bytes.new ≡ vec_len bytes.old + k) × (k ≤ length piece.new)) }
-    ensures told { IfOk result (λ k. IfSome (F.held shelf.old name.now) (λ file. Continues file bytes.old.items bytes.new.items k)) }
+    ensures told { IfOk result (λ k. IfTold (F.held shelf.old name.now) (λ file. Continues file bytes.old.items bytes.new.items k)) }
     ensures no_limit { IsErrOf result ReadAllFault.TooLong → ⊥ }
     ensures fault { IsErrOf result ReadAllFault.ReadFault → HasRisen (F.faults shelf.old name.now) (F.faults shelf.new name.now) }
     ensures later { (other : List ℕ) → F.faults shelf.old other ≤ F.faults shelf.new other }

@@ -1,5 +1,6 @@
 -- What `solve` prints with status 0 is accepted by `check`.
-use Rattle.std.proofs.Common.{◌≡◌, ◌≤◌, ℕ, false, List, Option, Some, Result, Ok, Err, IfSome, length, refl, sym, ◌∙◌, subst, arith, inl, inr}
+use Rattle.std.proofs.Common.{◌≡◌, ◌≤◌, ℕ, false, List, Some, Result, Ok, Err, length, refl, sym, ◌∙◌, subst, arith, inl, inr}
+use Rattle.pns_io.specs.Outside.{Told}
 use Rattle.problem_rules.specs.Problem.{Problem}
 use Rattle.text_rules.specs.Fault.{Fault}
 use Rattle.tree_rules.specs.Claim.{Claim}
@@ -16,8 +17,8 @@ use Rattle.command_files.specs.TreeFile.{TreeSays, tree_limit}
 use Rattle.flow_commands.specs.Check.{CheckWork}
 use Rattle.studio.specs.SolveLaws.{IsAcceptedOrLong, SolvedIsAccepted}
 
-is_held : (held : Option (List ℕ)) (bytes file : List ℕ) → held ≡ Some bytes → AreHeld held file → file ≡ bytes
-is_held held bytes file e is = subst (λ (o : Option (List ℕ)). IfSome o (λ told. file ≡ told)) e is
+is_held : (held : Told) (bytes file : List ℕ) → held ≡ Some (Some bytes) → AreHeld held file → file ≡ bytes
+is_held held bytes file e is = subst (λ (o : Told). AreHeld o file) e is
 
 -- a file that gives a problem has no fault
 no_fault : (name file : List ℕ) (p : Problem) (s : Status) (lines : List (List ℕ)) → GivesProblem file p → FileFault name file s lines → ⊥

@@ -5,7 +5,7 @@ use Rattle.problem_rules.specs.Problem.{Problem}
 use Rattle.edit_rules.specs.Edit.{Edit}
 use Rattle.pgraph.specs.declared.verdict.Verdict.{Verdict}
 use Rattle.pgraph.specs.declared.verdict.Verdict.TheVariants.{Meets, Breaks}
-use Rattle.pns_io.specs.Outside.{HasRisen}
+use Rattle.pns_io.specs.Outside.{HasRisen, Told, IsToldAnd}
 use Rattle.studio_words.specs.Command.{Command, Max, Axioms, Flows, Listing, Make, Migrate, Editing, Undoing, Checking, Solving, Trial, Telling, command_of, IsFileOf, IsFileWord, Table, Splitting, Expanding, Drawing, DrawingNetwork, Ranging, Planning, Parting, PartingAgainst, Merging}
 use Rattle.command_files.specs.Reading.{AreHeld, FileFault, file_limit}
 use Rattle.structure_commands.specs.Max.{MaxWork}
@@ -142,25 +142,26 @@ search_status budget p Done lines h = inl refl
 search_status budget p s lines h = solve_status budget p s lines h
 
 -- the statuses of a command, where its file is within the limit
-within_limit : (held : Option (List ℕ)) (limit : ℕ) (file : List ℕ) → IsSomeAnd held (λ told. length told ≤ limit) → AreHeld held file → limit < length file → ⊥
+within_limit : (held : Told) (limit : ℕ) (file : List ℕ) → IsToldAnd held (λ told. length told ≤ limit) → AreHeld held file → limit < length file → ⊥
 within_limit None limit file h is long = absurd h
-within_limit (Some told) limit file h is long = let same = ap length is in absurd (omega arith)
+within_limit (Some None) limit file h is long = absurd h
+within_limit (Some (Some told)) limit file h is long = let same = ap length is in absurd (omega arith)
 
-edits_status : (work : Problem → List Edit → Status → List (List ℕ) → Type 0) (held : List ℕ → Option (List ℕ)) (name : List ℕ) (p : Problem) (s : Status) (lines : List (List ℕ)) → ((edits : List Edit) → work p edits s lines → s ≡ Done) → OnScript work held name p s lines → IsSomeAnd (held name) (λ told. length told ≤ file_limit) → (s ≡ Done) ⊎ (s ≡ BadEdit)
+edits_status : (work : Problem → List Edit → Status → List (List ℕ) → Type 0) (held : List ℕ → Told) (name : List ℕ) (p : Problem) (s : Status) (lines : List (List ℕ)) → ((edits : List Edit) → work p edits s lines → s ≡ Done) → OnScript work held name p s lines → IsToldAnd (held name) (λ told. length told ≤ file_limit) → (s ≡ Done) ⊎ (s ≡ BadEdit)
 edits_status work held name p s lines done (file, is, inl fault) short = elim (script_status name p file s lines fault) [
   | inl q ↦ inr q
   | inr q ↦ absurd (within_limit (held name) file_limit file short is q.1)
 ]
 edits_status work held name p s lines done (file, is, inr rest) short = inl (done rest.0.edits rest.2)
 
-plans_status : (work : Problem → Plan → Status → List (List ℕ) → Type 0) (held : List ℕ → Option (List ℕ)) (name : List ℕ) (p : Problem) (s : Status) (lines : List (List ℕ)) → ((plan : Plan) → work p plan s lines → s ≡ Done) → OnPlan work held name p s lines → IsSomeAnd (held name) (λ told. length told ≤ file_limit) → (s ≡ Done) ⊎ (s ≡ BadPlan)
+plans_status : (work : Problem → Plan → Status → List (List ℕ) → Type 0) (held : List ℕ → Told) (name : List ℕ) (p : Problem) (s : Status) (lines : List (List ℕ)) → ((plan : Plan) → work p plan s lines → s ≡ Done) → OnPlan work held name p s lines → IsToldAnd (held name) (λ told. length told ≤ file_limit) → (s ≡ Done) ⊎ (s ≡ BadPlan)
 plans_status work held name p s lines done (file, is, inl fault) short = elim (plan_status name p file s lines fault) [
   | inl q ↦ inr q
   | inr q ↦ absurd (within_limit (held name) file_limit file short is q.1)
 ]
 plans_status work held name p s lines done (file, is, inr rest) short = inl (done rest.0 rest.2)
 
-trees_status : (work : Problem → Claim → Tree → Status → List (List ℕ) → Type 0) → ((p : Problem) (claim : Claim) (tree : Tree) (s : Status) (lines : List (List ℕ)) → work p claim tree s lines → (s ≡ Done) ⊎ (s ≡ Refused)) → (held : List ℕ → Option (List ℕ)) (name : List ℕ) (p : Problem) (s : Status) (lines : List (List ℕ)) → OnTree work held name p s lines → IsSomeAnd (held name) (λ told. length told ≤ tree_limit) → IsOneOf (Done ∷ Refused ∷ BadProblem ∷ BadTree ∷ Memory ∷ []) s
+trees_status : (work : Problem → Claim → Tree → Status → List (List ℕ) → Type 0) → ((p : Problem) (claim : Claim) (tree : Tree) (s : Status) (lines : List (List ℕ)) → work p claim tree s lines → (s ≡ Done) ⊎ (s ≡ Refused)) → (held : List ℕ → Told) (name : List ℕ) (p : Problem) (s : Status) (lines : List (List ℕ)) → OnTree work held name p s lines → IsToldAnd (held name) (λ told. length told ≤ tree_limit) → IsOneOf (Done ∷ Refused ∷ BadProblem ∷ BadTree ∷ Memory ∷ []) s
 trees_status work status held name p s lines (file, is, inl fault) short = elim (tree_status name p file s lines fault) [
   | inl q ↦ inr (inr (inr (inl q)))
   | inr q ↦ absurd (within_limit (held name) tree_limit file short is q.1)
@@ -211,7 +212,7 @@ part_file_status several name p file TooLong lines h = inr (refl, h.0)
 part_file_status several name p file BadTree lines h = inl refl
 part_file_status several name p file s lines h = absurd h
 
-merge_status : (held : List ℕ → Option (List ℕ)) (names : List (List ℕ)) (p : Problem) (claim : Claim) (tree : Tree) (s : Status) (lines : List (List ℕ)) → MergeWork held names p claim tree s lines → ((name : List ℕ) → Contains names name → IsSomeAnd (held name) (λ told. length told ≤ tree_limit)) → (s ≡ Done) ⊎ ((s ≡ Refused) ⊎ ((s ≡ NoLeaf) ⊎ (s ≡ BadTree)))
+merge_status : (held : List ℕ → Told) (names : List (List ℕ)) (p : Problem) (claim : Claim) (tree : Tree) (s : Status) (lines : List (List ℕ)) → MergeWork held names p claim tree s lines → ((name : List ℕ) → Contains names name → IsToldAnd (held name) (λ told. length told ≤ tree_limit)) → (s ≡ Done) ⊎ ((s ≡ Refused) ⊎ ((s ≡ NoLeaf) ⊎ (s ≡ BadTree)))
 merge_status held names p claim tree s lines (inl f) short = elim (part_file_status (are_several names) f.name p f.fault.0 s lines f.fault.2) [
   | inl q ↦ inr (inr (inr q))
   | inr q ↦ absurd (within_limit (held f.name) tree_limit f.fault.0 (short f.name (f.place, f.within, sym f.name_is)) f.fault.1 q.1)
@@ -236,7 +237,7 @@ stable_status None budget p claim tree s lines h = inl h.0
 stable_status (Some spot) budget p claim tree s lines (inl refusal) = inr (inl refusal.0)
 stable_status (Some spot) budget p claim tree s lines (inr rest) = inr (inr (spot_status spot budget p rest.0 s lines rest.2))
 
-command_status : (held : List ℕ → Option (List ℕ)) (command : Command) (s : Status) (lines : List (List ℕ)) → CommandAnswers held command s lines → ((name : List ℕ) (limit : ℕ) → IsReadWithin command name limit → IsSomeAnd (held name) (λ told. length told ≤ limit)) → IsOneOf (statuses_of command) s
+command_status : (held : List ℕ → Told) (command : Command) (s : Status) (lines : List (List ℕ)) → CommandAnswers held command s lines → ((name : List ℕ) (limit : ℕ) → IsReadWithin command name limit → IsToldAnd (held name) (λ told. length told ≤ limit)) → IsOneOf (statuses_of command) s
 command_status held (Max name) s lines (file, is, inl fault) short = elim (fault_status name file s lines fault) [
   | inl q ↦ inr (inl q)
   | inr q ↦ absurd (within_limit (held name) file_limit file (short name file_limit (refl, refl)) is q.1)
@@ -412,13 +413,13 @@ command_status held (Trial number units budget) s lines h short = elim (search_s
 command_status held (Telling text) s lines h short = inl h.0
 
 -- parts that are put back are never told as words without a form
-usage_of_merge : (held : List ℕ → Option (List ℕ)) (names : List (List ℕ)) (p : Problem) (claim : Claim) (tree : Tree) (lines : List (List ℕ)) → MergeWork held names p claim tree Usage lines → ⊥
+usage_of_merge : (held : List ℕ → Told) (names : List (List ℕ)) (p : Problem) (claim : Claim) (tree : Tree) (lines : List (List ℕ)) → MergeWork held names p claim tree Usage lines → ⊥
 usage_of_merge held names p claim tree lines (inl f) = elim (part_file_status (are_several names) f.name p f.fault.0 Usage lines f.fault.2) [ inl q ↦ cc | inr q ↦ let r : Usage ≡ TooLong = q.0 in cc ]
 usage_of_merge held names p claim tree lines (inr (ps, give, inl merged)) = let q : Usage ≡ Done = merged.done in cc
 usage_of_merge held names p claim tree lines (inr (ps, give, inr stopped)) = elim (merge_fault_status (are_several names) _ stopped.fault Usage lines stopped.says) [ inl q ↦ cc | inr q ↦ cc ]
 
 -- some status of a command, whatever its file holds
-answer_status : (held : List ℕ → Option (List ℕ)) (command : Command) (lines : List (List ℕ)) → CommandAnswers held command Usage lines → ⊥
+answer_status : (held : List ℕ → Told) (command : Command) (lines : List (List ℕ)) → CommandAnswers held command Usage lines → ⊥
 answer_status held (Max name) lines (file, is, inl fault) = absurd fault
 answer_status held (Max name) lines (file, is, inr work) = absurd work.2
 answer_status held (Axioms name units) lines (file, is, inl fault) = absurd fault
@@ -474,7 +475,7 @@ answer_status held (Solving name budget) lines (file, is, inr work) = elim (solv
 answer_status held (Trial number units budget) lines h = elim (search_status budget (generated number units) Usage lines h) [ inl q ↦ cc | inr o ↦ elim o [ inl q ↦ cc | inr q ↦ cc ] ]
 answer_status held (Telling text) lines h = let q : Usage ≡ Done = h.0 in cc
 
-usage_answers : (held : List ℕ → Option (List ℕ)) (found : Option Command) (lines : List (List ℕ)) → AnswersTo held found Usage lines → found ≡ None
+usage_answers : (held : List ℕ → Told) (found : Option Command) (lines : List (List ℕ)) → AnswersTo held found Usage lines → found ≡ None
 usage_answers held None lines h = refl
 usage_answers held (Some command) lines h = absurd (answer_status held command lines h)
 
@@ -522,7 +523,7 @@ fault_not_stopped name file s lines h = elim (fault_status name file s lines h) 
   | inr q ↦ let q0 = q.0 in ((λ r. cc), (λ r. cc))
 ]
 
-command_finished : (held : List ℕ → Option (List ℕ)) (command : Command) (s : Status) (lines : List (List ℕ)) → SearchCanFinish held command → CommandAnswers held command s lines → IsNotStopped s
+command_finished : (held : List ℕ → Told) (command : Command) (s : Status) (lines : List (List ℕ)) → SearchCanFinish held command → CommandAnswers held command s lines → IsNotStopped s
 command_finished held (Solving name budget) s lines can (file, is, inl fault) = fault_not_stopped name file s lines fault
 command_finished held (Solving name budget) s lines can (file, is, inr work) = finished budget work.0 s lines (can file work.0 is work.1) work.2
 command_finished held (Trial number units budget) s lines can h = search_finished budget (generated number units) s lines can h

@@ -1,7 +1,7 @@
 -- What each command says, from its words and what the shelf holds.
 use Rattle.std.specs.List.{Contains}
-use Rattle.std.specs.Prelude.{◌≡◌, ◌≤◌, ◌⊎◌, ℕ, List, [], ◌∷◌, Option, Some, None, IsSomeAnd, length, codes}
-use Rattle.pns_io.specs.Outside.{HasRisen}
+use Rattle.std.specs.Prelude.{◌≡◌, ◌≤◌, ◌⊎◌, ℕ, List, [], ◌∷◌, Option, Some, None, length, codes}
+use Rattle.pns_io.specs.Outside.{HasRisen, Told, IsToldAnd}
 use Rattle.studio_words.specs.Command.{Command, Max, Axioms, Flows, Listing, Make, Migrate, Editing, Undoing, Checking, Solving, Trial, Telling, command_of, IsFileOf, IsFileWord, Table, Splitting, Expanding, Drawing, DrawingNetwork, Ranging, Planning, Parting, PartingAgainst, Merging}
 use Rattle.generator.specs.Generated.{generated}
 use Rattle.problem_rules.specs.Problem.{Problem}
@@ -34,7 +34,7 @@ use Rattle.endings.specs.declared.status.Status.{Status}
 use Rattle.endings.specs.declared.status.Status.TheVariants.{Done, Refused, Usage, BadProblem, Past, Spent, Memory, BadToken, BadTree, BadEdit, NotMigrated, BadPlan, BadNode, NoLeaf, NotBest, UnknownName}
 
 -- the statuses and lines of a command, while neither shelf, sink nor memory fails
-abbrev pub CommandAnswers : (List ℕ → Option (List ℕ)) → Command → Status → List (List ℕ) → Type 0
+abbrev pub CommandAnswers : (List ℕ → Told) → Command → Status → List (List ℕ) → Type 0
 CommandAnswers held (Max file) status lines = OnFile MaxWork held file status lines
 CommandAnswers held (Axioms file units) status lines = OnFile (AxiomsWork units) held file status lines
 CommandAnswers held (Flows file units) status lines = OnFile (FlowsWork units) held file status lines
@@ -59,11 +59,11 @@ CommandAnswers held (Trial number units budget) status lines = TrialWork number 
 CommandAnswers held (Telling text) status lines = (status ≡ Done) × (text ≡ text_of lines)
 
 -- words without a form are told so
-abbrev pub AnswersTo : (List ℕ → Option (List ℕ)) → Option Command → Status → List (List ℕ) → Type 0
+abbrev pub AnswersTo : (List ℕ → Told) → Option Command → Status → List (List ℕ) → Type 0
 AnswersTo held None status lines = (status ≡ Usage) × (lines ≡ codes "usage" ∷ [])
 AnswersTo held (Some command) status lines = CommandAnswers held command status lines
 
-abbrev pub Answers : (List ℕ → Option (List ℕ)) → List (List ℕ) → Status → List (List ℕ) → Type 0
+abbrev pub Answers : (List ℕ → Told) → List (List ℕ) → Status → List (List ℕ) → Type 0
 Answers held words = AnswersTo held (command_of words)
 
 -- what a command, and what the words, may have out with a status
@@ -86,7 +86,7 @@ IsReadWithin command name limit = IsFileOf command name × (limit ≡ file_limit
 
 -- the files of the command are held within their limits, and neither their counts of faults nor that of the sink rise
 pub record IsUndisturbed (shelves : Shelves) (command : Command) (risen : Type 0) : Type 0 where
-  pub held : (name : List ℕ) (limit : ℕ) → IsReadWithin command name limit → IsSomeAnd (shelves.held name) (λ file. length file ≤ limit)
+  pub held : (name : List ℕ) (limit : ℕ) → IsReadWithin command name limit → IsToldAnd (shelves.held name) (λ file. length file ≤ limit)
   pub read : (name : List ℕ) → IsFileOf command name → HasRisen (shelves.before name) (shelves.after name) → ⊥
   pub written : risen → ⊥
 
@@ -116,7 +116,7 @@ statuses_of (Trial number units budget) = Done ∷ Spent ∷ Past ∷ Memory ∷
 statuses_of (Telling text) = Done ∷ Memory ∷ []
 
 -- nothing stops the search of the command before its end, whatever problem its file gives
-abbrev pub SearchCanFinish : (List ℕ → Option (List ℕ)) → Command → Type 0
+abbrev pub SearchCanFinish : (List ℕ → Told) → Command → Type 0
 SearchCanFinish held (Solving name budget) = (file : List ℕ) (p : Problem) → AreHeld (held name) file → GivesProblem file p → CanFinish budget p
 SearchCanFinish held (Trial number units budget) = CanFinish budget (generated number units)
 SearchCanFinish held command = ⊥

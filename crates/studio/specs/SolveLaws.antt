@@ -1,5 +1,6 @@
 -- A law over what `solve` and `check` print.
-use Rattle.std.specs.Prelude.{◌≡◌, ◌⊎◌, ◌≤◌, ◌<◌, ◌++◌, ℕ, List, [], ◌∷◌, Option, Some, length, codes}
+use Rattle.std.specs.Prelude.{◌≡◌, ◌⊎◌, ◌≤◌, ◌<◌, ◌++◌, ℕ, List, [], ◌∷◌, Some, length, codes}
+use Rattle.pns_io.specs.Outside.{Told}
 use Rattle.endings.specs.Lines.{text_of}
 use Rattle.endings.specs.declared.status.Status.{Status}
 use Rattle.endings.specs.declared.status.Status.TheVariants.{Done, TooLong}
@@ -16,7 +17,7 @@ IsAcceptedOrLong name file status lines =
 -- What `solve` prints with status 0 is accepted by `check` with the same problem file, or it is too long.
 abbrev pub SolvedIsAccepted : Type 0
 SolvedIsAccepted =
-    (held : List ℕ → Option (List ℕ)) (file tree bytes : List ℕ) (budget : ℕ) (solved : List (List ℕ)) → held file ≡ Some bytes
-    → CommandAnswers held (Solving file budget) Done solved → held tree ≡ Some (text_of solved)
+    (held : List ℕ → Told) (file tree bytes : List ℕ) (budget : ℕ) (solved : List (List ℕ)) → held file ≡ Some (Some bytes)
+    → CommandAnswers held (Solving file budget) Done solved → held tree ≡ Some (Some (text_of solved))
     → (status : Status) (checked : List (List ℕ)) → CommandAnswers held (Checking file tree) status checked
     → IsAcceptedOrLong tree (text_of solved) status checked

@@ -1,6 +1,7 @@
-use Rattle.std.proofs.Common.{◌≡◌, ◌<◌, ◌+◌, ◌∷◌, [], ap, refl, sym, ◌∙◌, subst, ℕ, List, Option, inl, map, length, nat_lt, get_or, arith, string_bytes}
+use Rattle.std.proofs.Common.{◌≡◌, ◌<◌, ◌+◌, ◌∷◌, [], ap, refl, sym, ◌∙◌, subst, ℕ, List, inl, map, length, nat_lt, get_or, arith, string_bytes}
 use Rattle.std.specs.List.{Contains}
 use Rattle.std.proofs.lemmas.List.{length-map, get_or-map}
+use Rattle.pns_io.specs.Outside.{Told}
 use Rattle.problem_rules.specs.Each.{Each}
 use Rattle.text_laws.proofs.Each.{each-append}
 use Rattle.tree_parts.specs.Part.{Part}
@@ -51,7 +52,7 @@ reading-preserved g c =
     let lt : place < length names = omega (arith, count, c.reading-test.true) in
     let here : name ≡ get_or names place name = c.as_str.ensures.value ∙ (ap string_bytes c.name-item.is ∙ sym (get_or-map string_bytes list place c.name-item.result name c.reading-test.true)) in
     let read = c.in-Ok.ensures.part in
-    let one : (file : List ℕ) × AreHeld (held name) file × GivesPart p file part = (read.0, subst (λ (o : Option (List ℕ)). AreHeld o read.0) (c.reading.invariant.keeps name) read.1, read.2) in
+    let one : (file : List ℕ) × AreHeld (held name) file × GivesPart p file part = (read.0, subst (λ (o : Told). AreHeld o read.0) (c.reading.invariant.keeps name) read.1, read.2) in
     record {
       given = subst (λ (ps : List Part). GiveBefore held p names (place + 1) ps) (sym c.in-Ok-push.ensures.items) (one_given held p names place c.reading.parts.items name part lt here c.reading.invariant.given one);
       known = subst (λ (ps : List Part). Each (KnowsPart p) ps) (sym c.in-Ok-push.ensures.items) (each-append (KnowsPart p) c.reading.parts.items (part ∷ []) c.reading.invariant.known (c.in-Ok.ensures.known, tt));

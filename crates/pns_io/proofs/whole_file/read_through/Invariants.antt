@@ -1,9 +1,9 @@
-use Rattle.std.proofs.Common.{◌≡◌, ◌≤◌, List, ℕ, length, take, vec_len, IfSome, ◌+◌, ◌-◌}
+use Rattle.std.proofs.Common.{◌≡◌, ◌≤◌, List, ℕ, length, take, vec_len, IfSome, unwrap_or, [], ◌+◌, ◌-◌}
 use Rattle.pns_io.proofs.whole_file.read_through.Given as goal
 
 abbrev pub invariant-loop-bytes : goal.invariant-loop-bytes
 invariant-loop-bytes g l = record {
-  front : IfSome (g.F.Shelf.held l.fn.shelf l.fn.name) (λ file. (l.bytes.items ≡ take (vec_len l.bytes) file) × (vec_len l.bytes ≤ length file));
+  front : IfSome (g.F.Shelf.held l.fn.shelf l.fn.name) (λ file. (l.bytes.items ≡ take (vec_len l.bytes) (unwrap_or file [])) × (vec_len l.bytes ≤ length (unwrap_or file [])));
   within : vec_len l.bytes ≤ l.limit + 1;
   later : (other : List ℕ) → g.F.Shelf.faults l.fn.shelf other ≤ g.F.Shelf.faults l.shelf other;
   keeps : (other : List ℕ) → g.F.Shelf.held l.shelf other ≡ g.F.Shelf.held l.fn.shelf other;
