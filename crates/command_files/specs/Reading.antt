@@ -2,6 +2,7 @@
 use Rattle.std.specs.Prelude.{◌≡◌, ◌<◌, ◌≤◌, ◌⊎◌, ◌++◌, ℕ, List, [], ◌∷◌, Result, Ok, Err, length, codes, decimal}
 use Rattle.pns_io.specs.Outside.{Told, IfTold}
 use Rattle.problem_rules.specs.Problem.{Problem}
+use Rattle.problem_rules.specs.Validity.{IsValid}
 use Rattle.text_rules.specs.declared.TextKind.{TextKind}
 use Rattle.text_rules.specs.declared.TextKind.TheVariants.{FileType, UnknownSection, DoubleSection, BadLine, BadName, UnknownKey, DoubleKey, BadNumber, TooFine, TooLarge, Negative, UnknownKind, ZeroRate, DoubleTerm, BothSides, EmptySide, DoubleMaterial, DoubleUnit, DoubleRates, TooMany, LowAboveHigh, UnknownMaterial, NoRates, NoProduct, DoubleExclusion, DoubleMember, FewMembers, UnknownUnit, BadPayout}
 use Rattle.text_rules.specs.Fault.{Fault}
@@ -70,9 +71,11 @@ FileFault name file BadProblem lines =
     (length file ≤ file_limit) × ((line : ℕ) × (kind : TextKind) × Reads file (Err (line, kind)) × (lines ≡ fault_line line kind ∷ []))
 FileFault name file status lines = ⊥
 
--- a file within the limit, whose text stands for the problem
-abbrev pub GivesProblem : List ℕ → Problem → Type 0
-GivesProblem file p = (length file ≤ file_limit) × Reads file (Ok p)
+-- a file within the limit, whose text stands for the problem, which is valid
+pub record GivesProblem (file : List ℕ) (p : Problem) : Type 0 where
+  pub within : length file ≤ file_limit
+  pub reads : Reads file (Ok p)
+  pub valid : IsValid p
 
 -- what reading the named file says where it gives no problem
 abbrev pub FileFaults : (List ℕ → Told) → List ℕ → Status → List (List ℕ) → Type 0

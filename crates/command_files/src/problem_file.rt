@@ -95,7 +95,10 @@ pub fn problem_of<F: Shelf, K: Sink>(
         Err(status) => return Err(status),
     };
     match read_problem(alloc, &bytes) {
-        Ok(problem) => Ok(problem),
+        Ok(problem) => {
+            problem.is_valid();
+            Ok(problem)
+        }
         Err(TextFault::At { line, kind }) => Err(say_fault(alloc, out, line, kind)),
         Err(TextFault::Memory) => Err(say_memory(out)),
     }

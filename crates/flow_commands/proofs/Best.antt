@@ -2,7 +2,6 @@
 use Rattle.std.proofs.Common.{◌≡◌, ◌⊎◌, false, true, Bool, ℕ, List, Option, inl, inr, subst}
 use Rattle.problem_rules.specs.Problem.{Problem}
 use Rattle.problem_rules.specs.Validity.{IsValid}
-use Rattle.text_laws.specs.Laws.{ReadIsValid}
 use Rattle.tree_rules.specs.Claim.{Claim, network, infeasible, unknown}
 use Rattle.tree_rules.specs.Accepted.{Tree, first_node, IsAccepted}
 use Rattle.tree_laws.specs.Laws.{AcceptedIsOptimal, AcceptedHasFlows}
@@ -14,7 +13,7 @@ use Rattle.endings.specs.declared.status.Status.TheVariants.{Done}
 use Rattle.flow_commands.specs.Check.{CheckWork}
 use Rattle.flow_commands.specs.Best.{IsBest, FilesClaimBest, AcceptedIsBest}
 
-module _ (optimal : AcceptedIsOptimal) (feasible : AcceptedHasFlows) (read_is_valid : ReadIsValid) where
+module _ (optimal : AcceptedIsOptimal) (feasible : AcceptedHasFlows) where
   is_best : (p : Problem) → IsValid p → (claim : Claim) (tree : Tree) → IsAccepted p first_node claim tree → IsBest p claim
   is_best p valid (network w) tree accepted =
       let has = feasible p first_node w tree accepted in
@@ -32,19 +31,18 @@ module _ (optimal : AcceptedIsOptimal) (feasible : AcceptedHasFlows) (read_is_va
   accepted_is_best held file tree lines (bytes, there, inl fault) = absurd fault
   accepted_is_best held file tree lines (bytes, there, inr (p, given, (text, told, inl fault))) = absurd fault
   accepted_is_best held file tree lines (bytes, there, inr (p, given, (text, told, inr (claim, nodes, gives, work)))) =
-      let valid : IsValid p = read_is_valid bytes p given.1 in
       record {
         problem_text = bytes;
         problem_held = there;
         problem = p;
         gives_problem = given;
-        valid = valid;
+        valid = given.valid;
         tree_text = text;
         tree_held = told;
         claim = claim;
         nodes = nodes;
         gives_tree = gives;
-        best = is_best p valid claim nodes work.0;
+        best = is_best p given.valid claim nodes work.0;
       }
 
 -- what is out with status 0 is such an answer

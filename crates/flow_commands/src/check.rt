@@ -19,7 +19,6 @@ use pgraph::Graph;
 use pns_io::{Shelf, Sink};
 use pns_problem::Problem;
 use std::alloc::{AllocError, Global};
-use text_laws::read_is_valid;
 use tree_laws::{accepted_has_flows, accepted_is_optimal};
 use tree_rules::Why;
 
@@ -110,7 +109,6 @@ pub fn accepted_is_best()
 {
     accepted_is_optimal();
     accepted_has_flows();
-    read_is_valid();
 }
 
 /// Says whether the tree of the one file proves its claim on the problem of the other.

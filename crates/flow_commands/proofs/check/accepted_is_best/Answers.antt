@@ -2,4 +2,4 @@ use Rattle.flow_commands.proofs.Best as best
 use Rattle.flow_commands.proofs.check.accepted_is_best.Goals as goal
 
 pub returns : goal.returns
-returns c = best.accepted_is_best c.accepted_is_optimal.ensures c.accepted_has_flows.ensures c.read_is_valid.ensures
+returns c = best.accepted_is_best c.accepted_is_optimal.ensures c.accepted_has_flows.ensures
