@@ -1,6 +1,6 @@
 -- The statuses with which a call may end.
 use Rattle.std.specs.List.{Contains}
-use Rattle.std.proofs.Common.{Bool, sym, ◌≡◌, ◌⊎◌, ◌<◌, ◌≤◌, ◌∷◌, [], Some, None, IsSomeAnd, refl, inl, inr, List, ℕ, Option, subst, ap, arith, length}
+use Rattle.std.proofs.Common.{Bool, sym, ◌∙◌, ◌≡◌, ◌⊎◌, ◌<◌, ◌≤◌, ◌∷◌, [], Some, None, IsSomeAnd, refl, inl, inr, List, ℕ, Option, subst, ap, arith, length}
 use Rattle.problem_rules.specs.Problem.{Problem}
 use Rattle.edit_rules.specs.Edit.{Edit}
 use Rattle.pgraph.specs.declared.verdict.Verdict.{Verdict}
@@ -46,7 +46,7 @@ use Rattle.searches.specs.Solve.{SolveWork, Holds, status_of, CanFinish}
 use Rattle.searches.specs.Summary.{SummaryWork}
 use Rattle.structure_commands.specs.Axioms.{NamesSay, VerdictSays, first_stranger}
 use Rattle.endings.specs.Ending.{Shelves, Ends, IsOneOf}
-use Rattle.studio.specs.Answers.{AnswersTo, CommandAnswers, WordsSay, IsReadWithin, IsUndisturbed, IsNotStopped, SearchCanFinish, statuses_of}
+use Rattle.studio.specs.Answers.{AnswersTo, CommandAnswers, WordsSay, IsReadWithin, IsUndisturbed, IsNotStopped, SearchCanFinish, statuses_of, first_file}
 use Rattle.endings.specs.declared.status.Status.{Status}
 use Rattle.endings.specs.declared.status.Status.TheVariants.{Done, Refused, Usage, BadProblem, Past, Spent, ReadFault, WriteFault, Memory, TooLong, BadToken, BadTree, BadEdit, NotMigrated, BadPlan, BadNode, NoLeaf, NotBest, UnknownName}
 
@@ -529,6 +529,35 @@ command_finished held (Solving name budget) s lines can (file, is, inr work) = f
 command_finished held (Trial number units budget) s lines can h = search_finished budget (generated number units) s lines can h
 command_finished held command s lines can h = absurd can
 
+-- no bytes are those of a file that is told to be missing
+nothing_held : (told : Told) (bytes : List ℕ) → told ≡ Some None → AreHeld told bytes → ⊥
+nothing_held told bytes gone is = subst (λ (o : Told). AreHeld o bytes) gone is
+
+-- so a command that reads it first has no answer
+missing_says : (held : List ℕ → Told) (command : Command) (name : List ℕ) (s : Status) (lines : List (List ℕ)) → first_file command ≡ Some name → held name ≡ Some None → CommandAnswers held command s lines → ⊥
+missing_says held (Make number units) name s lines first gone h = cc
+missing_says held (Trial number units budget) name s lines first gone h = cc
+missing_says held (Telling text) name s lines first gone h = cc
+missing_says held (Max file) name s lines first gone h = let same : file ≡ name = cc in nothing_held (held file) h.0 (ap held same ∙ gone) h.1
+missing_says held (Axioms file units) name s lines first gone h = let same : file ≡ name = cc in nothing_held (held file) h.0 (ap held same ∙ gone) h.1
+missing_says held (Flows file units) name s lines first gone h = let same : file ≡ name = cc in nothing_held (held file) h.0 (ap held same ∙ gone) h.1
+missing_says held (Listing file after count) name s lines first gone h = let same : file ≡ name = cc in nothing_held (held file) h.0 (ap held same ∙ gone) h.1
+missing_says held (Migrate file years) name s lines first gone h = let same : file ≡ name = cc in nothing_held (held file) h.0 (ap held same ∙ gone) h.1
+missing_says held (Editing file script) name s lines first gone h = let same : file ≡ name = cc in nothing_held (held file) h.0 (ap held same ∙ gone) h.1
+missing_says held (Undoing file script) name s lines first gone h = let same : file ≡ name = cc in nothing_held (held file) h.0 (ap held same ∙ gone) h.1
+missing_says held (Checking file tree) name s lines first gone h = let same : file ≡ name = cc in nothing_held (held file) h.0 (ap held same ∙ gone) h.1
+missing_says held (Table file tree) name s lines first gone h = let same : file ≡ name = cc in nothing_held (held file) h.0 (ap held same ∙ gone) h.1
+missing_says held (Splitting file tree) name s lines first gone h = let same : file ≡ name = cc in nothing_held (held file) h.0 (ap held same ∙ gone) h.1
+missing_says held (Expanding file plan) name s lines first gone h = let same : file ≡ name = cc in nothing_held (held file) h.0 (ap held same ∙ gone) h.1
+missing_says held (Drawing file) name s lines first gone h = let same : file ≡ name = cc in nothing_held (held file) h.0 (ap held same ∙ gone) h.1
+missing_says held (DrawingNetwork file tree) name s lines first gone h = let same : file ≡ name = cc in nothing_held (held file) h.0 (ap held same ∙ gone) h.1
+missing_says held (Ranging file tree kind word budget) name s lines first gone h = let same : file ≡ name = cc in nothing_held (held file) h.0 (ap held same ∙ gone) h.1
+missing_says held (Planning file plan budget) name s lines first gone h = let same : file ≡ name = cc in nothing_held (held file) h.0 (ap held same ∙ gone) h.1
+missing_says held (Parting file inside outside budget) name s lines first gone h = let same : file ≡ name = cc in nothing_held (held file) h.0 (ap held same ∙ gone) h.1
+missing_says held (PartingAgainst file inside outside budget tree) name s lines first gone h = let same : file ≡ name = cc in nothing_held (held file) h.0 (ap held same ∙ gone) h.1
+missing_says held (Merging file tree parts) name s lines first gone h = let same : file ≡ name = cc in nothing_held (held file) h.0 (ap held same ∙ gone) h.1
+missing_says held (Solving file budget) name s lines first gone h = let same : file ≡ name = cc in nothing_held (held file) h.0 (ap held same ∙ gone) h.1
+
 module _ (shelves : Shelves) (words : List (List ℕ)) (risen : Type 0) (old new : Option (List ℕ)) where
   pub usage_ends : (s : Status) → Ends (WordsSay shelves words) risen old new s → s ≡ Usage → command_of words ≡ None
   usage_ends s e is =
@@ -573,3 +602,12 @@ module _ (shelves : Shelves) (words : List (List ℕ)) (risen : Type 0) (old new
   accepted_ends law s e file tree is done =
       let said = subst (λ (t : Status). Ends (WordsSay shelves words) risen old new t) done e in
       law shelves.held file tree said.1.0 (subst (λ (f : Option Command). AnswersTo shelves.held f Done said.1.0) is said.1.1)
+
+  -- a command that reads a missing file first says so, unless the sink or memory fails
+  pub missing_ends : (s : Status) → Ends (WordsSay shelves words) risen old new s → (command : Command) (name : List ℕ) → command_of words ≡ Some command → first_file command ≡ Some name → shelves.held name ≡ Some None → IsOneOf (ReadFault ∷ WriteFault ∷ Memory ∷ []) s
+  missing_ends ReadFault e command name is first gone = inl refl
+  missing_ends WriteFault e command name is first gone = inr (inl refl)
+  missing_ends Memory e command name is first gone = inr (inr (inl refl))
+  missing_ends s e command name is first gone =
+      let told = subst (λ (f : Option Command). AnswersTo shelves.held f s e.1.0) is e.1.1 in
+      absurd (missing_says shelves.held command name s e.1.0 first gone told)

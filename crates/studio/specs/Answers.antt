@@ -73,6 +73,31 @@ CommandSays shelves command = Says (CommandAnswers shelves.held command) (IsFile
 abbrev pub WordsSay : Shelves → List (List ℕ) → Status → List ℕ → Type 0
 WordsSay shelves words = Says (Answers shelves.held words) (IsFileWord words) shelves
 
+-- the file that a command reads first, if it reads any
+abbrev pub first_file : Command → Option (List ℕ)
+first_file (Make number units) = None
+first_file (Trial number units budget) = None
+first_file (Telling text) = None
+first_file (Max file) = Some file
+first_file (Axioms file units) = Some file
+first_file (Flows file units) = Some file
+first_file (Listing file after count) = Some file
+first_file (Migrate file years) = Some file
+first_file (Editing file script) = Some file
+first_file (Undoing file script) = Some file
+first_file (Checking file tree) = Some file
+first_file (Table file tree) = Some file
+first_file (Splitting file tree) = Some file
+first_file (Expanding file plan) = Some file
+first_file (Drawing file) = Some file
+first_file (DrawingNetwork file tree) = Some file
+first_file (Ranging file tree kind name budget) = Some file
+first_file (Planning file plan budget) = Some file
+first_file (Parting file inside outside budget) = Some file
+first_file (PartingAgainst file inside outside budget tree) = Some file
+first_file (Merging file tree parts) = Some file
+first_file (Solving file budget) = Some file
+
 -- the command reads the file, which is to hold no more bytes
 abbrev pub IsReadWithin : Command → List ℕ → ℕ → Type 0
 IsReadWithin (Checking file tree) name limit = ((name ≡ file) × (limit ≡ file_limit)) ⊎ ((name ≡ tree) × (limit ≡ tree_limit))

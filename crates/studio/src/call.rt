@@ -4,7 +4,7 @@ ghost use Rattle.pns_io.specs.Outside.{HasRisen};
 ghost use Rattle.studio_words.specs.Command as rules;
 ghost use Rattle.studio_words.specs.Command.{command_of, AreWithin, IsFileWord};
 ghost use Rattle.endings.specs.Ending.{Ends, IsOneOf};
-ghost use Rattle.studio.specs.Answers.{CommandSays, WordsSay, IsUndisturbed, IsNotStopped, SearchCanFinish, statuses_of};
+ghost use Rattle.studio.specs.Answers.{CommandSays, WordsSay, IsUndisturbed, IsNotStopped, SearchCanFinish, first_file, statuses_of};
 ghost use Rattle.studio_words.specs.View.{command_view};
 ghost use Rattle.flow_commands.specs.Best.{FilesClaimBest};
 
@@ -105,6 +105,9 @@ pub fn studio<F: Shelf, K: Sink>(
     // A fault of reading or writing has its count: that of a file of the words, or that of the sink.
     ensures read_fault { result ≡ Status.ReadFault → (name : List ℕ) × IsFileWord (map string_bytes words.now) name × HasRisen (F.faults shelf.old name) (F.faults shelf.new name) }
     ensures write_fault { result ≡ Status.WriteFault → HasRisen (K.faults out.old) (K.faults out.new) }
+    // A command whose first file the shelf tells to be missing says that it could not be read.
+    ensures missing { (command : rules.Command) (name : List ℕ) → command_of (map string_bytes words.now) ≡ Some command → first_file command ≡ Some name
+        → F.held shelf.old name ≡ Some None → IsOneOf (Status.ReadFault ∷ Status.WriteFault ∷ Status.Memory ∷ []) result }
     // Where the command's files are held within the limit and no count rises, nothing but want of memory stops it.
     ensures complete { (command : rules.Command) → command_of (map string_bytes words.now) ≡ Some command
         → IsUndisturbed (record { held = F.held shelf.old; before = F.faults shelf.old; after = F.faults shelf.new }) command (HasRisen (K.faults out.old) (K.faults out.new))
