@@ -18,9 +18,10 @@ use crate::PastSum;
 use crate::costs::fixed_costs;
 use crate::node_numbers::{UnitNumbers, row_range, unit_numbers};
 use crate::node_sets::{NodeSets, sets_of};
+use crate::products::quick_product;
 use crate::rates::put_rates;
 use crate::tables::by_material;
-use int_rows::{checked_difference, checked_product, checked_sum};
+use int_rows::{checked_difference, checked_sum};
 use pgraph::Graph;
 use pns_problem::Problem;
 use unit_sets::{MatSet, Node, UnitSet};
@@ -31,9 +32,9 @@ fn lesser_product(factor: i128, low: i128, high: i128) -> Option<i128>
     ensures { SomeIff result (InRange (least_of factor low high)) (least_of factor low high) }
 {
     if factor < 0 {
-        checked_product(factor, high)
+        quick_product(factor, high)
     } else {
-        checked_product(factor, low)
+        quick_product(factor, low)
     }
 }
 
@@ -81,7 +82,7 @@ fn reduced(
         let Some(j) = left.least() else {
             return Ok((rest, at));
         };
-        let Some(paid) = checked_product(ys[j as usize], rates[j as usize] as i128) else {
+        let Some(paid) = quick_product(ys[j as usize], rates[j as usize] as i128) else {
             return Err(PastSum { at });
         };
         let Some(difference) = checked_difference(rest, paid) else {
@@ -114,7 +115,7 @@ fn with_unit(
     ensures past { IfErr result (λ e. IsFirstPast (column_steps d unit.cost unit.low unit.high (entry ys.now) (entry rates.now) materials sum) (e.at - start)) }
 {
     materials.rises();
-    let Some(cost) = checked_product(d, unit.cost) else {
+    let Some(cost) = quick_product(d, unit.cost) else {
         return Err(PastSum { at: start });
     };
     match reduced(start + 1, cost, materials, rates, ys) {
@@ -235,7 +236,7 @@ pub fn bound_of(
     } = sets_of(graph, &node);
     rows.rises();
     let y_at = by_material(rows, ys);
-    let Some(start) = checked_product(d, fixed_costs(problem, node.inside)) else {
+    let Some(start) = quick_product(d, fixed_costs(problem, node.inside)) else {
         return Err(PastSum { at: 0 });
     };
     match with_rows(start, problem, &node, rows, needed, &y_at) {

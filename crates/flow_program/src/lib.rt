@@ -9,7 +9,7 @@
 //! numbers one unit or row at a time, without memory.
 //!
 //! Modules: `costs`, `ranges` and `rates` read a problem; `node_sets` and `node_numbers` say what a node makes of it; `tables`
-//! finds a value by the number of a material or unit; `bound`, `cost`, `feasibility` and `program` are the calls.
+//! finds a value by the number of a material or unit; `products` multiplies; `bound`, `cost`, `feasibility` and `program` are the calls.
 #![tactic(auto)]
 
 mod bound;
@@ -20,6 +20,7 @@ mod node_numbers;
 mod node_sets;
 mod past_sum;
 mod place;
+mod products;
 mod program;
 mod ranges;
 mod rates;

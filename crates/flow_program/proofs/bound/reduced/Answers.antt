@@ -24,14 +24,14 @@ overflow_add-at c =
     let l = r.0 in
     omega arith
 
-pub returns-in_default-checked_product-clause-past : goal.returns-in_default-checked_product-clause-past
-returns-in_default-checked_product-clause-past c =
+pub returns-in_default-quick_product-clause-past : goal.returns-in_default-quick_product-clause-past
+returns-in_default-quick_product-clause-past c =
     let cost = c.ranges.cost in
     let y : SFits w128 (get_or c.args.ys.now c.in-Some.j (pos 0)) = search rules in
     let q : SFits w64 (get_or c.args.rates.now c.in-Some.j (pos 0)) = search rules in
     let r : SFits w128 (get_or c.args.rates.now c.in-Some.j (pos 0)) = search rules in
     product_past (entry c.args.ys.now) (entry c.args.rates.now) c.args.materials c.args.cost (to_z w128 c.rows.rest-bits) c.args.start c.rows.at c.rows.left c.in-Some.j (kept (λ v. not (c.in-Some.j == v)) c.rows.left) (is_next 256 c.rows.left c.in-Some.j (kept (λ v. not (c.in-Some.j == v)) c.rows.left) c.rises-in-rows.ensures (sym c.least.ensures ∙ c.in-Some.is) refl)
-    (get_or c.args.ys.now c.in-Some.j (pos 0)) (get_or c.args.rates.now c.in-Some.j (pos 0)) refl refl (simp to_z-of_z at c.rows.invariant) (simp to_z-of_z at c.in_default-checked_product.ensures)
+    (get_or c.args.ys.now c.in-Some.j (pos 0)) (get_or c.args.rates.now c.in-Some.j (pos 0)) refl refl (simp to_z-of_z at c.rows.invariant) (simp to_z-of_z at c.in_default-quick_product.ensures)
 
 pub returns-in_default-checked_difference-clause-past : goal.returns-in_default-checked_difference-clause-past
 returns-in_default-checked_difference-clause-past c =
@@ -39,8 +39,8 @@ returns-in_default-checked_difference-clause-past c =
     let y : SFits w128 (get_or c.args.ys.now c.in-Some.j (pos 0)) = search rules in
     let q : SFits w64 (get_or c.args.rates.now c.in-Some.j (pos 0)) = search rules in
     let r : SFits w128 (get_or c.args.rates.now c.in-Some.j (pos 0)) = search rules in
-    let p : SFits w128 c.in-Some-checked_product.paid = search rules in
-    let h = simp to_z-of_z at c.in-Some-checked_product.ensures in
+    let p : SFits w128 c.in-Some-quick_product.paid = search rules in
+    let h = simp to_z-of_z at c.in-Some-quick_product.ensures in
     let n = simp to_z-of_z at c.in_default-checked_difference.ensures in
     difference_past (entry c.args.ys.now) (entry c.args.rates.now) c.args.materials c.args.cost (to_z w128 c.rows.rest-bits) c.args.start c.rows.at c.rows.left c.in-Some.j (kept (λ v. not (c.in-Some.j == v)) c.rows.left) (is_next 256 c.rows.left c.in-Some.j (kept (λ v. not (c.in-Some.j == v)) c.rows.left) c.rises-in-rows.ensures (sym c.least.ensures ∙ c.in-Some.is) refl)
     (get_or c.args.ys.now c.in-Some.j (pos 0)) (get_or c.args.rates.now c.in-Some.j (pos 0)) refl refl (simp to_z-of_z at c.rows.invariant) h.0 (rw (← h.1) n)
@@ -55,9 +55,9 @@ rows-preserved c =
     let y : SFits w128 (get_or c.args.ys.now c.in-Some.j (pos 0)) = search rules in
     let q : SFits w64 (get_or c.args.rates.now c.in-Some.j (pos 0)) = search rules in
     let r : SFits w128 (get_or c.args.rates.now c.in-Some.j (pos 0)) = search rules in
-    let p : SFits w128 c.in-Some-checked_product.paid = search rules in
+    let p : SFits w128 c.in-Some-quick_product.paid = search rules in
     let t : SFits w128 c.in-Some-checked_difference.difference = search rules in
-    let h = simp to_z-of_z at c.in-Some-checked_product.ensures in
+    let h = simp to_z-of_z at c.in-Some-quick_product.ensures in
     let k = simp to_z-of_z at c.in-Some-checked_difference.ensures in
     simp to_z-of_z (reduced_more (entry c.args.ys.now) (entry c.args.rates.now) c.args.materials c.args.cost (to_z w128 c.rows.rest-bits) c.args.start c.rows.at c.rows.left c.in-Some.j c.without-left.result (is_next 256 c.rows.left c.in-Some.j c.without-left.result c.rises-in-rows.ensures (sym c.least.ensures ∙ c.in-Some.is) c.without-left.ensures)
     (get_or c.args.ys.now c.in-Some.j (pos 0)) (get_or c.args.rates.now c.in-Some.j (pos 0)) refl refl (simp to_z-of_z at c.rows.invariant)
