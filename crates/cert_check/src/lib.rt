@@ -1,5 +1,5 @@
-//! The checker of branch trees, which trusts nobody: it shares no code with the search that made a tree, and stands on the
-//! graph, the sums of flows and the definitions of `tree_rules` alone.
+//! The checker of branch trees, which trusts nobody: with the search that made a tree it shares the sets, the graph and the sums of
+//! flows, which are proved by themselves, and stands on these and the definitions of `tree_rules` alone.
 //!
 //! [`check_tree`] accepts a tree exactly where it proves its claim, and then no allowed solution structure undercuts the claim;
 //! else its refusal names the claim, or the first node in preorder, that fails, and the first line of the table of causes

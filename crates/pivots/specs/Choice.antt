@@ -1,5 +1,5 @@
 -- The places of rows at which an entry is below 0, for the rows of a program of their size.
-use Rattle.std.specs.Prelude.{◌≡◌, ℕ, suc, ◌+◌, ◌<◌, ℤ, pos, ◌<ℤ◌, ◌≤ℤ◌, List, slice_index_or}
+use Rattle.std.specs.Prelude.{◌≡◌, ℕ, suc, ◌+◌, ◌<◌, pos, ◌≤ℤ◌}
 use Rattle.path_rules.specs.LinearProgram.{LinearProgram}
 use Rattle.tableau_rows.specs.Rows.{Rows, table}
 
@@ -13,16 +13,6 @@ columns_of r = r.units + r.units + r.rows + r.rows
 
 abbrev pub scale_of : Rows → ℕ
 scale_of r = suc (columns_of r)
-
--- of the first n numbers k is the first below 0
-pub record IsFirstNegative (row : List ℤ) (n k : ℕ) : Type 0 where
-  pub within : k < n
-  pub negative : slice_index_or row k (pos 0) <ℤ pos 0
-  pub before : (i : ℕ) → i < k → pos 0 ≤ℤ slice_index_or row i (pos 0)
-
--- none of the first n is
-abbrev pub HasNoNegative : List ℤ → ℕ → Type 0
-HasNoNegative row n = (i : ℕ) → i < n → pos 0 ≤ℤ slice_index_or row i (pos 0)
 
 -- no entry of the cost row at a column is below 0, so that no pivot of the first kind is left
 abbrev pub IsDualFeasible : Rows → Type 0

@@ -1,33 +1,11 @@
-// Which unit has a pivot of the first kind, and which column leaves the basis at one of the second.
-ghost use Rattle.std.specs.Prelude.{◌≡◌, ◌<◌, ◌≤◌, ◌↔◌, ℕ, true, false, pos, ◌<ℤ◌, ◌≤ℤ◌, length, IfNone, IfSome, IsTrue, slice_index_or};
+//! Which column leaves the basis.
+ghost use Rattle.std.specs.Prelude.{◌≡◌, ◌<◌, true, false, pos, ◌<ℤ◌, ◌≤ℤ◌, IfNone, IfSome, IsTrue};
 ghost use Rattle.path_rules.specs.LinearProgram.{LinearProgram};
 ghost use Rattle.path_rules.specs.Pivots.{IsFeasible, IsLeaving};
-ghost use Rattle.tableau_rows.specs.Rows.{width, row_of, table, basis};
-ghost use Rattle.pivots.specs.Choice.{IsOfSize, columns_of, scale_of, IsFirstNegative, HasNoNegative, IsDualFeasible};
+ghost use Rattle.tableau_rows.specs.Rows.{table, basis};
+ghost use Rattle.pivots.specs.Choice.{IsOfSize, columns_of, IsDualFeasible};
 
 use tableau_rows::Rows;
-
-/// The first of the first n numbers below 0, or `None` exactly where none is.
-fn first_negative(row: &[i128], n: usize) -> Option<usize>
-    requires { n ≤ length row.now }
-    ensures found { IfSome result (λ k. IsFirstNegative row.now n k) }
-    ensures none { IfNone result (HasNoNegative row.now n) }
-{
-    for k in 0..n {
-        if row[k] < 0 {
-            return Some(k);
-        }
-    }
-    None
-}
-
-/// The first unit whose entry in the cost row is below 0, or `None` exactly where there is none.
-pub fn first_unit(rows: &Rows) -> Option<usize>
-    ensures found { IfSome result (λ unit. IsFirstNegative (row_of rows.now (scale_of rows.now)) rows.now.units unit) }
-    ensures none { IfNone result (HasNoNegative (row_of rows.now (scale_of rows.now)) rows.now.units) }
-{
-    first_negative(rows.row(rows.scale_at()), rows.units())
-}
 
 /// Whether the column is in the basis with a value below 0.
 fn is_negative_value(rows: &Rows, column: usize) -> bool

@@ -1,8 +1,7 @@
 //! The choice of a pivot of the dual simplex method: which column leaves the basis and which enters it, as `path_rules` has them.
 //!
-//! While an entry of the cost row is below 0 at a unit, [`first_unit`] finds the first such unit, whose two columns are
-//! exchanged. Behind that [`leaving`] finds the first column of the basis with a value below 0, and [`entering`] the column that
-//! enters for it, by the lexicographic ratio test. No call takes memory, and the comparison refuses no number.
+//! Where no entry of the cost row is below 0, [`leaving`] finds the first column of the basis with a value below 0, and [`entering`]
+//! the column that enters for it, by the lexicographic ratio test. No call takes memory, and the comparison refuses no number.
 //!
 //! Modules: `leaves` and `enters` are the calls; `candidates` and `ratios` compare columns that could enter.
 #![tactic(auto)]
@@ -13,4 +12,4 @@ mod leaves;
 mod ratios;
 
 pub use enters::entering;
-pub use leaves::{first_unit, leaving};
+pub use leaves::leaving;
