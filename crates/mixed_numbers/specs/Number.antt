@@ -1,0 +1,9 @@
+-- A mixed number as a fraction: the numerator over the denominator of what it has beside its whole part.
+use Rattle.std.specs.Prelude.{ℤ, pos, ◌+ℤ◌, ◌*ℤ◌}
+use Rattle.mixed_numbers.specs.declared.number.Mixed.{Mixed}
+
+abbrev pub denominator : Mixed → ℤ
+denominator m = pos m.den
+
+abbrev pub numerator : Mixed → ℤ
+numerator m = m.whole *ℤ pos m.den +ℤ pos m.rest
