@@ -1,13 +1,13 @@
 //! Who leaves the basis, and who enters it.
 use crate::guess::Column;
 use crate::ranges::Ranges;
-use crate::rounding::product;
+use crate::rounding::{Filled, product};
 use crate::row::{Distance, Row};
 
 /// The row whose basic variable is furthest out of its range, and how far that is.
 pub(crate) fn leaving(
     rows: &[Row],
-    ends: &[i64],
+    ends: &[Filled],
     ranges: &Ranges,
     noise: i128,
 ) -> Option<(usize, Distance)> {

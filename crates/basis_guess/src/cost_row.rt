@@ -1,5 +1,7 @@
 //! The row of the cost.
-use crate::rounding::{WIDEST, entry, excess, lowest, mix, narrowed, product, rounded, shortened};
+use crate::rounding::{
+    WIDEST, add_multiple, entry, excess, lowest, mix, narrowed, product, rounded, shortened,
+};
 use crate::row::{Pivot, Row};
 use std::alloc::{AllocError, Global};
 
@@ -72,6 +74,9 @@ impl CostRow {
         } else {
             lowest(pivot.den, factor)
         };
+        if p == 1 && add_multiple(&mut self.entries, q, pivot.filled) {
+            return;
+        }
         let bits = mix(p, &self.entries, q, pivot.entries, sums);
         self.take(sums, product(p, self.den), bits);
     }

@@ -3,7 +3,7 @@ use crate::choice::{entering, leaving};
 use crate::cost_row::CostRow;
 use crate::numbers::Numbers;
 use crate::ranges::{Ranges, Variable};
-use crate::rounding::shortened;
+use crate::rounding::{Filled, list_filled, shortened};
 use crate::row::{Distance, Pivot, Row};
 use std::alloc::{AllocError, Global};
 use unit_sets::Node;
@@ -38,8 +38,10 @@ pub struct Guess {
     shift: u32,
     // What a turn works with: the ends of the columns, which of them were passed, the pivot row, and sums.
     ends: Vec<i64>,
+    filled_ends: Vec<Filled>,
     passed: Vec<bool>,
     pivot: Vec<i64>,
+    filled_pivot: Vec<Filled>,
     sums: Vec<i128>,
 }
 
@@ -69,6 +71,8 @@ impl Guess {
         let ends = vec![in alloc; 0i64; width]?;
         let passed = vec![in alloc; false; width]?;
         let pivot = vec![in alloc; 0i64; width]?;
+        let filled_ends = Vec::with_capacity(alloc, width)?;
+        let filled_pivot = Vec::with_capacity(alloc, width)?;
         let sums = vec![in alloc; 0i128; width]?;
         Ok(Guess {
             rows,
@@ -81,8 +85,10 @@ impl Guess {
             scale: 1,
             shift: 0,
             ends,
+            filled_ends,
             passed,
             pivot,
+            filled_pivot,
             sums,
         })
     }
@@ -97,7 +103,8 @@ impl Guess {
         }
         for _ in 0..MOST_PIVOTS {
             let noise = self.set_ends();
-            let Some((r, distance)) = leaving(&self.rows, &self.ends, &self.ranges, noise) else {
+            let Some((r, distance)) = leaving(&self.rows, &self.filled_ends, &self.ranges, noise)
+            else {
                 self.read_costs(numbers);
                 return Outcome::Basis;
             };
@@ -195,6 +202,7 @@ impl Guess {
             *end = self.ranges.of(column.variable).end(column.at_high);
             sizes = sizes.wrapping_add(end.unsigned_abs() as i128);
         }
+        list_filled(&self.ends, &mut self.filled_ends);
         sizes.wrapping_shl(8)
     }
 
@@ -227,11 +235,13 @@ impl Guess {
         for (kept, entry) in self.pivot.iter_mut().zip(&row.entries) {
             *kept = *entry;
         }
+        list_filled(&self.pivot, &mut self.filled_pivot);
         let pivot = Pivot {
             column: k,
             den: row.den,
             is_rounded: row.is_rounded,
             entries: &self.pivot,
+            filled: &self.filled_pivot,
         };
         for (i, other) in self.rows.iter_mut().enumerate() {
             if i != r {

@@ -66,13 +66,49 @@ pub(crate) fn entry(row: &[i64], at: usize) -> i64 {
     }
 }
 
-/// The sum of the products.
-pub(crate) fn dot(row: &[i64], values: &[i64]) -> i128 {
+/// A number that is not 0, and its place in a row.
+#[derive(Clone, Copy)]
+pub(crate) struct Filled {
+    pub(crate) at: usize,
+    pub(crate) number: i64,
+}
+
+/// Lists the numbers that are not 0. The list should have room for all.
+pub(crate) fn list_filled(numbers: &[i64], filled: &mut Vec<Filled>) {
+    filled.clear();
+    for (at, number) in numbers.iter().enumerate() {
+        if *number != 0 {
+            let number = *number;
+            let _has_room = filled.push(Filled { at, number }).is_ok();
+        }
+    }
+}
+
+/// The sum of the products of a row's entries with the numbers at their places.
+pub(crate) fn dot(row: &[i64], values: &[Filled]) -> i128 {
     let mut sum = 0i128;
-    for (x, y) in row.iter().zip(values) {
-        sum = sum.wrapping_add(product(*x, *y));
+    for value in values {
+        sum = sum.wrapping_add(product(entry(row, value.at), value.number));
     }
     sum
+}
+
+/// Adds q times the other row to a row, unless a sum has more bits than a row's numbers have: then the row stays.
+pub(crate) fn add_multiple(row: &mut [i64], q: i64, other: &[Filled]) -> bool {
+    let mut bits = 0u128;
+    for y in other {
+        let sum = product(q, y.number).wrapping_add(entry(row, y.at) as i128);
+        bits |= sum.unsigned_abs();
+    }
+    if excess(bits, WIDEST) > 0 {
+        return false;
+    }
+    for y in other {
+        if let Some(x) = row.get_mut(y.at) {
+            *x = narrowed(product(q, y.number).wrapping_add(*x as i128));
+        }
+    }
+    true
 }
 
 /// Writes `p * row + q * other` into `sums`, and gives the bits that stand in some sum.

@@ -1,6 +1,8 @@
 //! One row of the tableau.
 use crate::ranges::{Ranges, Variable};
-use crate::rounding::{WIDEST, dot, entry, excess, lowest, mix, narrowed, product, rounded};
+use crate::rounding::{
+    Filled, WIDEST, add_multiple, dot, entry, excess, lowest, mix, narrowed, product, rounded,
+};
 use std::alloc::{AllocError, Global};
 
 /// `den` times the basic variable is the sum of the entries times the variables outside the basis.
@@ -19,6 +21,7 @@ pub(crate) struct Pivot<'a> {
     pub(crate) den: i64,
     pub(crate) is_rounded: bool,
     pub(crate) entries: &'a [i64],
+    pub(crate) filled: &'a [Filled],
 }
 
 /// How far a basic variable is out of its range, times the row's `den`, and whether it has to be raised.
@@ -105,13 +108,21 @@ impl Row {
         } else {
             lowest(pivot.den, factor)
         };
+        if p == 1 && add_multiple(&mut self.entries, q, pivot.filled) {
+            return;
+        }
         let bits = mix(p, &self.entries, q, pivot.entries, sums);
         self.take(sums, product(p, self.den), bits);
     }
 
     /// How far the basic variable is out of its range where the variables outside the basis have these values. What may be noise
     /// does not count.
-    pub(crate) fn distance(&self, ends: &[i64], ranges: &Ranges, noise: i128) -> Option<Distance> {
+    pub(crate) fn distance(
+        &self,
+        ends: &[Filled],
+        ranges: &Ranges,
+        noise: i128,
+    ) -> Option<Distance> {
         let range = ranges.of(self.basic);
         let value = dot(&self.entries, ends);
         let below = product(range.low, self.den).wrapping_sub(value);
