@@ -25,6 +25,12 @@ impl Value {
 
     /// The numerator over a multiple of the denominator.
     pub(crate) fn over(self, d: i128) -> Option<i128> {
+        if self.num == 0 {
+            return Some(0);
+        }
+        if self.den == 1 {
+            return d.checked_mul(self.num);
+        }
         d.wrapping_div(self.den.max(1)).checked_mul(self.num)
     }
 }
@@ -41,7 +47,9 @@ fn common_multiple(d: i128, den: i128) -> Option<i128> {
 pub(crate) fn common_denominator(values: &[Value]) -> Option<i128> {
     let mut d = 1i128;
     for value in values {
-        d = common_multiple(d, value.den)?;
+        if value.den != 1 {
+            d = common_multiple(d, value.den)?;
+        }
     }
     Some(d)
 }
