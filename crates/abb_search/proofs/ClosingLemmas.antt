@@ -6,7 +6,7 @@ use Rattle.slab.specs.Slab.{get}
 use Rattle.problem_rules.specs.Problem.{Problem}
 use Rattle.pns_rules.specs.Nodes.{Node}
 use Rattle.pgraph.specs.View.{node_of}
-use Rattle.frac128.specs.declared.fraction.Frac.{Frac}
+use Rattle.mixed_numbers.specs.declared.number.Mixed.{Mixed}
 use Rattle.tree_rules.specs.Tree.{End, branch, leaf}
 use Rattle.tree_rules.specs.Leaf.{Leaf, dead, clash, refuted, bounded, untried, IsBounded}
 use Rattle.tree_rules.specs.Claim as claims
@@ -37,13 +37,13 @@ use Rattle.abb_search.specs.Found.{found_with, IsFoundBy}
 use Rattle.abb_search.proofs.EndLemmas.{whole_found}
 use Rattle.abb_search.proofs.KnownLemmas.{AreKnown, known_end}
 use Rattle.abb_search.proofs.ReadyLemmas.{open_leaf, leaf_open}
-use Rattle.abb_search.proofs.TurnLemmas.{frac_positive}
+use Rattle.abb_search.proofs.TurnLemmas.{mixed_positive}
 
 -- ---- one node
 
 -- multipliers whose bound reaches the network's cost prove it
 pub low_proves : (p : Problem) (n : Node) (b : Bound) (w : claims.Network) → IsPositive (cost_in w) → IsBoundOf p n b → IsNoMore (cost_in w) (cost_over b.low) → IsBounded p (Some (cost_in w)) n b.scaled.d b.scaled.ys
-low_proves p n b w positive h le = leaf_fallen p (Some (cost_over b.low)) (Some (cost_in w)) n (bounded b.scaled.d b.scaled.ys) le (frac_positive b.low) positive h.bounded
+low_proves p n b w positive h le = leaf_fallen p (Some (cost_over b.low)) (Some (cost_in w)) n (bounded b.scaled.d b.scaled.ys) le (mixed_positive b.low) positive h.bounded
 
 pub is_worth : (p : Problem) (n : Node) (b : Bound) (w : claims.Network) → IsBoundOf p n b → IsNoMore (cost_in w) (cost_over b.value) → IsWorth p n (cost_in w)
 is_worth p n b w h le = record { value = cost_over b.value; is_value = h.value; no_less = le }
@@ -57,7 +57,7 @@ module _ (p : Problem) (s : Growing) (g : IsGrowing p s) (j : ℕ) (lt : j < len
 
   pub record IsKnownHand (w : claims.Network) (q : Ready) : Type 0 where
     pub open_there : (cell_at s.pool.payloads j).end ≡ leaf untried
-    pub value : Frac
+    pub value : Mixed
     pub known : IsReady p (place_of (cell_at s.pool.payloads j)) value q
     pub beaten : IsNoMore (cost_in w) (cost_over q.bound.value)
 
@@ -70,7 +70,7 @@ module _ (p : Problem) (s : Growing) (g : IsGrowing p s) (j : ℕ) (lt : j < len
           let u = open_leaf (cell_at s.pool.payloads j).end eo in
           let a = g.ready.each j lt u in
           let r : IsReady p (place_of (cell_at s.pool.payloads j)) a.value q = subst (λ (o : Option Ready). IsSomeReady p (place_of (cell_at s.pool.payloads j)) a.value o) k a.some in
-          record { open_there = u; value = a.value; known = r; beaten = subst (λ (v : Frac). IsNoMore (cost_in w) (cost_over v)) (sym r.value_is) (b.each j a.value lt u a.value_is) }
+          record { open_there = u; value = a.value; known = r; beaten = subst (λ (v : Mixed). IsNoMore (cost_in w) (cost_over v)) (sym r.value_is) (b.each j a.value lt u a.value_is) }
 
   pub shut_by : (Past : PastPlaces) (w : claims.Network) (q : Ready) → IsKnownHand w q → (proof : Proof) → IsProof Past p (place_of (cell_at s.pool.payloads j)) (cost_in w) proof → IsInRange proof
       → IsShutBy Past p s (cost_in w) j (Some proof)

@@ -8,7 +8,7 @@ use Rattle.tree_rules.specs.Ways.{options_at}
 use Rattle.pgraph.specs.View.{node_of}
 use Rattle.tree_rules.specs.Tree.{End, leaf, Stands}
 use Rattle.unit_sets.specs.declared.node.Node as starts
-use Rattle.frac128.specs.declared.fraction.Frac.{Frac}
+use Rattle.mixed_numbers.specs.declared.number.Mixed.{Mixed}
 use Rattle.pns_rules.specs.Ends.{IsSound}
 use Rattle.tree_rules.specs.Claim as claims
 use Rattle.tree_rules.specs.Claim.{CostOver, claimed_cost, ClaimPasses, IsSized}

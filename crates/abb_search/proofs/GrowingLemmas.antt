@@ -7,7 +7,7 @@ use Rattle.pns_rules.specs.Shape.{shape_of}
 use Rattle.pns_rules.specs.Nodes.{Node}
 use Rattle.tree_rules.specs.Ways.{Way, width, options_at}
 use Rattle.tree_rules.specs.Tree.{branch}
-use Rattle.frac128.specs.declared.fraction.Frac.{Frac}
+use Rattle.mixed_numbers.specs.declared.number.Mixed.{Mixed}
 use Rattle.turn_laws.specs.Values.{HasFallen}
 use Rattle.node_looks.specs.Looks.{cost_of}
 use Rattle.search_tree.specs.Cells.{Cell, cell_at}
@@ -35,11 +35,11 @@ cells_turned (f ∷ fs) = ap (λ (gs : List Fresh). cells_in_turn gs) (reverse-a
 
 values_last : (fs : List Fresh) (f : Fresh) → values_in_turn (fs ++ f ∷ []) ≡ f.value ∷ values_in_turn fs
 values_last [] f = refl
-values_last (g ∷ fs) f = ap (λ (vs : List Frac). vs ++ g.value ∷ []) (values_last fs f)
+values_last (g ∷ fs) f = ap (λ (vs : List Mixed). vs ++ g.value ∷ []) (values_last fs f)
 
 values_turned : (fs : List Fresh) → values_in_turn (reverse fs) ≡ values_of fs
 values_turned [] = refl
-values_turned (f ∷ fs) = ap (λ (gs : List Fresh). values_in_turn gs) (reverse-append (f ∷ []) fs) ∙ (values_last (reverse fs) f ∙ ap (λ (vs : List Frac). f.value ∷ vs) (values_turned fs))
+values_turned (f ∷ fs) = ap (λ (gs : List Fresh). values_in_turn gs) (reverse-append (f ∷ []) fs) ∙ (values_last (reverse fs) f ∙ ap (λ (vs : List Mixed). f.value ∷ vs) (values_turned fs))
 
 -- as many children as options
 pub count_seen : (Past : PastPlaces) (p : Problem) (n : Node) (w : Way) (c : Children) → AreSeen Past p n w c → length c.kids.items ≡ length (options_at (shape_of p) n w)
@@ -79,7 +79,7 @@ branching Past p n old new at w c mid placed freed first seen wide same ef frees
       ∙ (ap (λ (cs : List Cell). slice_set cs at (as_parent (cell_at cs at) first (branch w)) ++ cells_in_turn placed) same.payloads
       ∙ (ap (λ k. slice_set old.pool.payloads at (as_parent (cell_at old.pool.payloads at) k (branch w)) ++ cells_in_turn placed) ef
       ∙ ap (λ (cs : List Cell). slice_set old.pool.payloads at (as_parent (cell_at old.pool.payloads at) (length old.pool.payloads) (branch w)) ++ cs) (cells_back placed)));
-  values = ev ∙ (ap (λ (vs : List Frac). vs ++ values_in_turn placed) same.values ∙ ap (λ (vs : List Frac). old.pool.values ++ vs) (values_back placed));
+  values = ev ∙ (ap (λ (vs : List Mixed). vs ++ values_in_turn placed) same.values ∙ ap (λ (vs : List Mixed). old.pool.values ++ vs) (values_back placed));
   best = which;
   fallen = fallen;
   fallen_found = fallen_found;

@@ -8,7 +8,7 @@ use Rattle.slab.specs.Slab.{Slab, get, Updates}
 use Rattle.problem_rules.specs.Problem.{Problem}
 use Rattle.pns_rules.specs.Shape.{shape_of}
 use Rattle.pns_rules.specs.Nodes.{Node, child}
-use Rattle.frac128.specs.declared.fraction.Frac.{Frac}
+use Rattle.mixed_numbers.specs.declared.number.Mixed.{Mixed}
 use Rattle.tree_rules.specs.Ways.{Way}
 use Rattle.tree_rules.specs.Tree.{leaf}
 use Rattle.tree_rules.specs.Claim.{CostOver}
@@ -29,7 +29,7 @@ some_none o a h k = let q : Some a ≡ None = sym h ∙ k in cc
 
 -- ---- a leaf is shut or branched
 
-module _ (p : Problem) (cs : List Cell) (vs : List Frac) (before after : Slab Ready) (at : ℕ) (d : Cell) (h : AreAtHand p cs vs before) (there : at < length cs) (opens : (cell_at cs at).end ≡ leaf untried)
+module _ (p : Problem) (cs : List Cell) (vs : List Mixed) (before after : Slab Ready) (at : ℕ) (d : Cell) (h : AreAtHand p cs vs before) (there : at < length cs) (opens : (cell_at cs at).end ≡ leaf untried)
     (shut : is_open d.end ≡ false) (frees : Updates before after (cell_at cs at).key None) where
   same : (j : ℕ) → (j ≡ at → ⊥) → cell_at (slice_set cs at d) j ≡ cell_at cs j
   same j ne = get_or-set_other cs at j d no_cell ne
@@ -93,7 +93,7 @@ as_many_kids (f ∷ fs) (g ∷ gs) [] before after h = absurd h
 pub values_same : (fs gs : List Fresh) (rs : List (Option Ready)) (before after : Slab Ready) → ArePlaced fs gs rs before after → values_of gs ≡ values_of fs
 values_same [] [] [] before after h = refl
 values_same (f ∷ fs) (g ∷ gs) (r ∷ rs) before after h =
-    ap (λ (v : Frac). v ∷ values_of gs) (value_same f g r h.0 after h.2) ∙ ap (λ (vs : List Frac). f.value ∷ vs) (values_same fs gs rs before h.0 h.1)
+    ap (λ (v : Mixed). v ∷ values_of gs) (value_same f g r h.0 after h.2) ∙ ap (λ (vs : List Mixed). f.value ∷ vs) (values_same fs gs rs before h.0 h.1)
 values_same [] [] (r ∷ rs) before after h = absurd h
 values_same [] (g ∷ gs) rs before after h = absurd h
 values_same (f ∷ fs) [] rs before after h = absurd h
@@ -163,7 +163,7 @@ kept (f ∷ fs) (g ∷ gs) [] before after h key r e = absurd h
 
 -- under the key of an open child stands what is at hand for it, which was not there before
 pub record IsNewAt (p : Problem) (gs : List Fresh) (before after : Slab Ready) (k : ℕ) : Type 0 where
-  pub value : Frac
+  pub value : Mixed
   pub value_is : slice_get (values_of gs) k ≡ Some value
   pub ready : Ready
   pub ready_is : get after (cell_at (cells_of gs) k).key ≡ Some ready
@@ -231,11 +231,11 @@ new_apart p (f ∷ fs) (g ∷ gs) [] before after h a i j li lj ei ej s = absurd
 
 -- ---- leaves with placed children behind them
 
-ready_some : (p : Problem) (n : Node) (v : Frac) (o : Option Ready) → IsSomeReady p n v o → (r : Ready) × (o ≡ Some r)
+ready_some : (p : Problem) (n : Node) (v : Mixed) (o : Option Ready) → IsSomeReady p n v o → (r : Ready) × (o ≡ Some r)
 ready_some p n v None h = absurd h
 ready_some p n v (Some r) h = (r, refl)
 
-module _ (p : Problem) (cs : List Cell) (vs : List Frac) (before after : Slab Ready) (h : AreAtHand p cs vs before)
+module _ (p : Problem) (cs : List Cell) (vs : List Mixed) (before after : Slab Ready) (h : AreAtHand p cs vs before)
     (fs gs : List Fresh) (rs : List (Option Ready)) (placed : ArePlaced fs gs rs before after) (ready : AreReady p (cells_of fs) (values_of fs) rs) where
   left_same : (j : ℕ) → j < length cs → cell_at (cs ++ cells_of gs) j ≡ cell_at cs j
   left_same j l = get_or_append_left cs (cells_of gs) no_cell j l
@@ -265,7 +265,7 @@ module _ (p : Problem) (cs : List Cell) (vs : List Frac) (before after : Slab Re
             (subst (λ (o : Option Ready). IsSomeReady p (place_of (cell_at cs j)) k.value o) (r.1 ∙ sym (kept fs gs rs before after placed (cell_at cs j).key r.0 r.1)) k.some);
       }
     where
-      get_left : (xs ys : List Frac) (i : ℕ) → i < length xs → slice_get (xs ++ ys) i ≡ slice_get xs i
+      get_left : (xs ys : List Mixed) (i : ℕ) → i < length xs → slice_get (xs ++ ys) i ≡ slice_get xs i
       get_left [] ys i lt = absurd (omega (arith, lt))
       get_left (x ∷ xs) ys zero lt = refl
       get_left (x ∷ xs) ys (suc i) lt = get_left xs ys i (omega (arith, lt))
@@ -281,7 +281,7 @@ module _ (p : Problem) (cs : List Cell) (vs : List Frac) (before after : Slab Re
             (subst (λ (o : Option Ready). IsSomeReady p (place_of (cell_at (cells_of gs) j)) n.value o) (sym n.ready_is) n.some);
       }
     where
-      get_right : (xs ys : List Frac) (i : ℕ) → slice_get (xs ++ ys) (length xs + i) ≡ slice_get ys i
+      get_right : (xs ys : List Mixed) (i : ℕ) → slice_get (xs ++ ys) (length xs + i) ≡ slice_get ys i
       get_right [] ys i = ap (λ k. slice_get ys k) (let z : 0 + i ≡ i = omega arith in z)
       get_right (x ∷ xs) ys i = ap (λ k. slice_get (x ∷ xs ++ ys) k) (let z : suc (length xs) + i ≡ suc (length xs + i) = omega arith in z) ∙ get_right xs ys i
 
@@ -327,7 +327,7 @@ module _ (p : Problem) (cs : List Cell) (vs : List Frac) (before after : Slab Re
 
 -- ---- the slab has room for more
 
-pub hand_same : (p : Problem) (cs : List Cell) (vs : List Frac) (before after : Slab Ready) → after.slots ≡ before.slots → AreAtHand p cs vs before → AreAtHand p cs vs after
+pub hand_same : (p : Problem) (cs : List Cell) (vs : List Mixed) (before after : Slab Ready) → after.slots ≡ before.slots → AreAtHand p cs vs before → AreAtHand p cs vs after
 hand_same p cs vs before after e h = record {
   as_many = h.as_many;
   each = λ j lt o.

@@ -9,7 +9,7 @@ use Rattle.pns_rules.specs.Nodes.{Node}
 use Rattle.pns_rules.specs.Ends.{IsSound}
 use Rattle.pgraph.specs.View.{node_of}
 use Rattle.unit_sets.specs.declared.node.Node as starts
-use Rattle.frac128.specs.declared.fraction.Frac.{Frac}
+use Rattle.mixed_numbers.specs.declared.number.Mixed.{Mixed}
 use Rattle.tree_rules.specs.Tree.{End, leaf}
 use Rattle.tree_rules.specs.Claim as claims
 use Rattle.tree_rules.specs.Claim.{CostOver, claimed_cost, ClaimPasses}
@@ -145,7 +145,7 @@ module _ (Past : PastPlaces) (p : Problem) (start : starts.Node) (budget : ℕ) 
     tree = root_tree;
     are_open = h.are_open;
     ready = subst (λ (cs : List Cell). AreAtHand p cs s.pool.values s.ready) (sym h.cells_are)
-        (subst (λ (vs : List Frac). AreAtHand p (h.root.cell ∷ []) vs s.ready) (sym h.values_are)
+        (subst (λ (vs : List Mixed). AreAtHand p (h.root.cell ∷ []) vs s.ready) (sym h.values_are)
         (hand_more p [] [] h.empty s.ready nothing_at_hand (record { cell = h.looked.cell; value = h.looked.value } ∷ []) (h.root ∷ []) (h.looked.ready ∷ []) (h.empty, refl, h.placed) (
           (λ e. subst (λ (i : Option Halt). IsOpenAs Past p (place_of h.looked.cell) h.is_looked.seen.what h.looked.value h.looked.ready i) eh h.is_looked.seen.open_as
               (let q : leaf h.is_looked.seen.what ≡ leaf untried = sym h.is_looked.seen.end_is ∙ e in cc)),

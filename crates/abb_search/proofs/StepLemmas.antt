@@ -8,7 +8,7 @@ use Rattle.pns_rules.specs.Ends.{IsSound}
 use Rattle.pgraph.specs.View.{node_of}
 use Rattle.neutral_extension.specs.Candidates.{AreMakersOf}
 use Rattle.unit_sets.specs.declared.node.Node as starts
-use Rattle.frac128.specs.declared.fraction.Frac.{Frac}
+use Rattle.mixed_numbers.specs.declared.number.Mixed.{Mixed}
 use Rattle.tree_rules.specs.Tree.{leaf}
 use Rattle.tree_rules.specs.Leaf.{untried}
 use Rattle.tree_rules.specs.Claim as claims
@@ -185,7 +185,7 @@ module _ (Past : PastPlaces) (p : Problem) (s n : Growing) (e : IsSame s n) wher
     tree = tree_same g.tree;
     are_open = open_same g.are_open;
     ready = subst (λ (cs : List Cell). AreAtHand p cs n.pool.values n.ready) (sym e.pool.payloads)
-        (subst (λ (vs : List Frac). AreAtHand p s.pool.payloads vs n.ready) (sym e.pool.values) (hand_same p s.pool.payloads s.pool.values s.ready n.ready e.ready g.ready));
+        (subst (λ (vs : List Mixed). AreAtHand p s.pool.payloads vs n.ready) (sym e.pool.values) (hand_same p s.pool.payloads s.pool.values s.ready n.ready e.ready g.ready));
   }
 
   halted_same : (at : ℕ) (h : Halt) → IsHaltedAt Past p s at h → IsHaltedAt Past p n at h

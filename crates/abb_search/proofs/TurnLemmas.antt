@@ -15,7 +15,9 @@ use Rattle.pns_rules.specs.Shape.{shape_of}
 use Rattle.pns_rules.specs.Nodes.{Node}
 use Rattle.pns_rules.specs.Ends.{IsSound}
 use Rattle.pgraph.specs.View.{node_of}
-use Rattle.frac128.specs.declared.fraction.Frac.{Frac}
+use Rattle.mixed_numbers.specs.declared.number.Mixed.{Mixed}
+use Rattle.mixed_numbers.specs.Number.{numerator, denominator}
+use Rattle.mixed_numbers.specs.OrderLaws.{denominator_positive}
 use Rattle.flow_rules.specs.Net.{net_of}
 use Rattle.flow_rules.specs.Relaxed.{relaxed_cost}
 use Rattle.node_pool.specs.Order.{IsRising}
@@ -69,8 +71,8 @@ dearer : (x y : ℤ) → (x ≤ℤ y → ⊥) → y ≤ℤ x
 dearer x y h = not_greater y x (λ e. h (let l : x <ℤ y = int_ranked y x Greater (sym e) in omega (arith, ints)))
 
 -- what a fraction is over is above 0
-pub frac_positive : (v : Frac) → IsPositive (cost_over v)
-frac_positive v = let h = v.positive in omega (arith, ints)
+pub mixed_positive : (v : Mixed) → IsPositive (cost_over v)
+mixed_positive v = let h = denominator_positive v in omega (arith, ints)
 
 -- a choice gives two children or more
 two_or_more : (m : Choice) → 2 ≤ option_count m
@@ -121,25 +123,25 @@ module _ (p : Problem) (valid : IsValid p) (s : Growing) (g : IsGrowing p s) (at
   sound_there = g.tree.kept.sound at there
 
   -- the leaf is a least one
-  no_less : (j : ℕ) → has s.pool.leaves j ≡ true → (j ≡ at → ⊥) → (w : Frac) → slice_get s.pool.values j ≡ Some w → IsNoMore (cost_over at_hand.value) (cost_over w)
+  no_less : (j : ℕ) → has s.pool.leaves j ≡ true → (j ≡ at → ⊥) → (w : Mixed) → slice_get s.pool.values j ≡ Some w → IsNoMore (cost_over at_hand.value) (cost_over w)
   no_less j h ne w e = by s.pool.leaves is_first rising h
     where
       by : (xs : List ℕ) → first xs ≡ Some at → IsRising s.pool.values xs → has xs j ≡ true → IsNoMore (cost_over at_hand.value) (cost_over w)
       by [] f r k = absurd cc
       by (x ∷ xs) f r k =
           let q : x ≡ at = cc in
-          not_greater (at_hand.value.num *ℤ w.den) (w.num *ℤ at_hand.value.den)
+          not_greater (numerator at_hand.value *ℤ denominator w) (numerator w *ℤ denominator at_hand.value)
           (r.0 j (has_tail x xs k (λ (e : j ≡ x). ne (e ∙ q))) at_hand.value w (subst (λ i. slice_get s.pool.values i ≡ Some at_hand.value) (sym q) at_hand.value_is) e)
         where
           has_tail : (x : ℕ) (xs : List ℕ) → has (x ∷ xs) j ≡ true → (j ≡ x → ⊥) → has xs j ≡ true
           has_tail x xs k ne = elim (or_cases (x == j) (has xs j) k) [ inl e ↦ absurd (ne (sym (eqb-true x j e))) | inr h ↦ h ]
 
   valued : (q : Ready) → IsReady p (place_of (cell_at s.pool.payloads at)) at_hand.value q → IsValueOf p (place_of (cell_at s.pool.payloads at)) (cost_over at_hand.value)
-  valued q k = subst (λ (v : Frac). IsValueOf p (place_of (cell_at s.pool.payloads at)) (cost_over v)) k.value_is k.bound.value
+  valued q k = subst (λ (v : Mixed). IsValueOf p (place_of (cell_at s.pool.payloads at)) (cost_over v)) k.value_is k.bound.value
 
   -- what is known of another open leaf
   record IsOther (j : ℕ) : Type 0 where
-    pub value : Frac
+    pub value : Mixed
     pub value_is : slice_get s.pool.values j ≡ Some value
     pub ready : Ready
     pub known : IsReady p (place_of (cell_at s.pool.payloads j)) value ready
@@ -149,14 +151,14 @@ module _ (p : Problem) (valid : IsValid p) (s : Growing) (g : IsGrowing p s) (at
       let h = g.ready.each j lt e in
       by h.value h.value_is (get s.ready (cell_at s.pool.payloads j).key) h.some
     where
-      by : (v : Frac) → slice_get s.pool.values j ≡ Some v → (r : Option Ready) → IsSomeReady p (place_of (cell_at s.pool.payloads j)) v r → IsOther j
+      by : (v : Mixed) → slice_get s.pool.values j ≡ Some v → (r : Option Ready) → IsSomeReady p (place_of (cell_at s.pool.payloads j)) v r → IsOther j
       by v e None k = absurd k
       by v e (Some r) k = record { value = v; value_is = e; ready = r; known = k }
 
   least : (q : Ready) → IsReady p (place_of (cell_at s.pool.payloads at)) at_hand.value q → IsLeastOpen p s.pool.payloads at (cost_over at_hand.value)
   least q k j lt ne e alive =
       let o = other j lt e in
-      let u : IsValueOf p (place_of (cell_at s.pool.payloads j)) (cost_over o.value) = subst (λ (v : Frac). IsValueOf p (place_of (cell_at s.pool.payloads j)) (cost_over v)) o.known.value_is o.known.bound.value in
+      let u : IsValueOf p (place_of (cell_at s.pool.payloads j)) (cost_over o.value) = subst (λ (v : Mixed). IsValueOf p (place_of (cell_at s.pool.payloads j)) (cost_over v)) o.known.value_is o.known.bound.value in
       under_less p (place_of (cell_at s.pool.payloads j)) (cost_over at_hand.value) (cost_over o.value) (valued q k).positive u.positive
       (no_less j (g.are_open j lt ∙ leaf_open (cell_at s.pool.payloads j).end e) ne o.value o.value_is) u.under
 
@@ -177,20 +179,20 @@ module _ (p : Problem) (valid : IsValid p) (s : Growing) (g : IsGrowing p s) (at
       record { reduced = o.known.reduced; undecided = undecided_there (shape_of p) (place_of (cell_at s.pool.payloads j)) o.ready.choice o.known.choice; relaxed = record { sizes = r.sizes; d = r.d; relaxed = r.relaxed; at_most = tt } }
 
   -- the value that the pool has is the one at hand
-  value_here : (v : Frac) → slice_get s.pool.values at ≡ Some v → at_hand.value ≡ v
+  value_here : (v : Mixed) → slice_get s.pool.values at ≡ Some v → at_hand.value ≡ v
   value_here v e = let q : Some at_hand.value ≡ Some v = sym at_hand.value_is ∙ e in cc
 
-  pub none_beats : (v : Frac) → slice_get s.pool.values at ≡ Some v → (IsBeaten s.best v → ⊥) → IsBeaten s.best at_hand.value → ⊥
-  none_beats v e n b = n (subst (λ (u : Frac). IsBeaten s.best u) (value_here v e) b)
+  pub none_beats : (v : Mixed) → slice_get s.pool.values at ≡ Some v → (IsBeaten s.best v → ⊥) → IsBeaten s.best at_hand.value → ⊥
+  none_beats v e n b = n (subst (λ (u : Mixed). IsBeaten s.best u) (value_here v e) b)
 
   -- where the best network costs no more than the least value, it costs no more than any
-  pub all_beaten : (v : Frac) → slice_get s.pool.values at ≡ Some v → IsBeaten s.best v → (w : claims.Network) × AreBeaten s w
+  pub all_beaten : (v : Mixed) → slice_get s.pool.values at ≡ Some v → IsBeaten s.best v → (w : claims.Network) × AreBeaten s w
   all_beaten v e b = by s.best refl b
     where
       positive : (w : claims.Network) → s.best ≡ Some w → IsPositive (cost_in w)
       positive w eb = subst (λ (o : Option claims.Network). IsPositiveCost (claimed_cost (claim_with o))) eb g.tree.kept.claim_positive
 
-      same_value : (j : ℕ) (u : Frac) → j ≡ at → slice_get s.pool.values j ≡ Some u → v ≡ u
+      same_value : (j : ℕ) (u : Mixed) → j ≡ at → slice_get s.pool.values j ≡ Some u → v ≡ u
       same_value j u same i = let q : Some v ≡ Some u = sym e ∙ (ap (λ k. slice_get s.pool.values k) (sym same) ∙ i) in cc
 
       by : (o : Option claims.Network) → s.best ≡ o → IsBeaten o v → (w : claims.Network) × AreBeaten s w
@@ -200,16 +202,16 @@ module _ (p : Problem) (valid : IsValid p) (s : Growing) (g : IsGrowing p s) (at
         record {
           best_is = eb;
           each = λ j u lt opens i. elim (cases_eq j at) [
-            | inl same ↦ subst (λ (x : Frac). IsNoMore (cost_in w) (cost_over x)) (same_value j u same i) h
-            | inr ne ↦ fraction_trans w.cost w.d v.num v.den u.num u.den (positive w eb) (frac_positive v) (frac_positive u) h
-                (subst (λ (x : Frac). IsNoMore (cost_over x) (cost_over u)) (value_here v e) (no_less j (g.are_open j lt ∙ leaf_open (cell_at s.pool.payloads j).end opens) ne u i))
+            | inl same ↦ subst (λ (x : Mixed). IsNoMore (cost_in w) (cost_over x)) (same_value j u same i) h
+            | inr ne ↦ fraction_trans w.cost w.d (numerator v) (denominator v) (numerator u) (denominator u) (positive w eb) (mixed_positive v) (mixed_positive u) h
+                (subst (λ (x : Mixed). IsNoMore (cost_over x) (cost_over u)) (value_here v e) (no_less j (g.are_open j lt ∙ leaf_open (cell_at s.pool.payloads j).end opens) ne u i))
           ];
         },
       )
 
-  not_beaten : (best : Option claims.Network) (v : Frac) → (IsBeaten best v → ⊥) → LastIsBelow (Some (cost_over v)) (claimed_cost (claim_with best))
+  not_beaten : (best : Option claims.Network) (v : Mixed) → (IsBeaten best v → ⊥) → LastIsBelow (Some (cost_over v)) (claimed_cost (claim_with best))
   not_beaten None v h = tt
-  not_beaten (Some w) v h = dearer (w.cost *ℤ v.den) (v.num *ℤ w.d) h
+  not_beaten (Some w) v h = dearer (w.cost *ℤ denominator v) (numerator v *ℤ w.d) h
 
   module _ (q : Ready) (k : IsReady p (place_of (cell_at s.pool.payloads at)) at_hand.value q) where
     -- ---- no network beats the leaf
@@ -310,7 +312,7 @@ module _ (p : Problem) (valid : IsValid p) (s : Growing) (g : IsGrowing p s) (at
 
         ready_now : AreReady p (cells_of c.kids.items) (values_of c.kids.items) c.ready.items → AreAtHand p new.pool.payloads new.pool.values new.ready
         ready_now h =
-            subst (λ (vs : List Frac). AreAtHand p new.pool.payloads vs new.ready) (sym ev)
+            subst (λ (vs : List Mixed). AreAtHand p new.pool.payloads vs new.ready) (sym ev)
             (subst (λ (cs : List Cell). AreAtHand p cs (s.pool.values ++ values_of gs) new.ready) (sym ec)
             (hand_more p (slice_set s.pool.payloads at now) s.pool.values freed new.ready
             (hand_freed p s.pool.payloads s.pool.values s.ready freed at now g.ready there untried_there refl frees) c.kids.items gs c.ready.items placed h))

@@ -3,7 +3,7 @@ use Rattle.std.specs.Prelude.{◌≡◌, ℕ, ◌<◌, length, cond, List, Optio
 use Rattle.std.specs.List.{slice_get}
 use Rattle.int_rows.specs.Range.{InRange, AllInRange}
 use Rattle.problem_rules.specs.Problem.{Problem}
-use Rattle.frac128.specs.declared.fraction.Frac.{Frac}
+use Rattle.mixed_numbers.specs.declared.number.Mixed.{Mixed}
 use Rattle.tree_rules.specs.Tree.{leaf}
 use Rattle.tree_rules.specs.Claim as claims
 use Rattle.tree_rules.specs.Claim.{CostOver}
@@ -26,7 +26,7 @@ use Rattle.abb_search.specs.Growing.{IsHaltedAt}
 -- the network is the best one, and costs no more than any open leaf's value
 pub record AreBeaten (s : Growing) (w : claims.Network) : Type 0 where
   pub best_is : s.best ≡ Some w
-  pub each : (j : ℕ) (v : Frac) → j < length s.pool.payloads → (cell_at s.pool.payloads j).end ≡ leaf untried → slice_get s.pool.values j ≡ Some v → IsNoMore (cost_in w) (cost_over v)
+  pub each : (j : ℕ) (v : Mixed) → j < length s.pool.payloads → (cell_at s.pool.payloads j).end ≡ leaf untried → slice_get s.pool.values j ≡ Some v → IsNoMore (cost_in w) (cost_over v)
 
 -- what is at hand for a node, where it is an open leaf
 abbrev pub hand_of : Growing → ℕ → Option Ready

@@ -5,7 +5,7 @@ use Rattle.pns_rules.specs.Shape.{shape_of}
 use Rattle.pns_rules.specs.Nodes.{Node}
 use Rattle.pgraph.specs.View.{node_of}
 use Rattle.unit_sets.specs.declared.node.Node as starts
-use Rattle.frac128.specs.declared.fraction.Frac.{Frac}
+use Rattle.mixed_numbers.specs.declared.number.Mixed.{Mixed}
 use Rattle.tree_rules.specs.Ways.{Way, width, options_at}
 use Rattle.tree_rules.specs.Tree.{branch, leaf}
 use Rattle.tree_rules.specs.Claim as claims
@@ -58,7 +58,7 @@ choice_of None = choices.Unit 0
 choice_of (Some r) = r.choice
 
 -- the network costs no more than the value
-abbrev pub IsBeaten : Option claims.Network → Frac → Type 0
+abbrev pub IsBeaten : Option claims.Network → Mixed → Type 0
 IsBeaten None value = ⊥
 IsBeaten (Some w) value = IsNoMore (cost_in w) (cost_over value)
 

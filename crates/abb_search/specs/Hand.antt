@@ -3,7 +3,7 @@ use Rattle.std.specs.Prelude.{◌≡◌, ℕ, ◌<◌, List, [], ◌∷◌, leng
 use Rattle.std.specs.List.{slice_get}
 use Rattle.slab.specs.Slab.{Slab, get, Updates}
 use Rattle.problem_rules.specs.Problem.{Problem}
-use Rattle.frac128.specs.declared.fraction.Frac.{Frac}
+use Rattle.mixed_numbers.specs.declared.number.Mixed.{Mixed}
 use Rattle.tree_rules.specs.Tree.{leaf}
 use Rattle.tree_rules.specs.Leaf.{untried}
 use Rattle.search_tree.specs.Cells.{Cell, place_of, cell_at}
@@ -12,13 +12,13 @@ use Rattle.node_looks.specs.declared.looks.Ready.{Ready}
 use Rattle.node_looks.specs.Looks.{IsSomeReady}
 
 -- leaf j has a value, and under its key stands what its branching or shutting takes
-pub record IsAtHand (p : Problem) (cells : List Cell) (values : List Frac) (hand : Slab Ready) (j : ℕ) : Type 0 where
-  pub value : Frac
+pub record IsAtHand (p : Problem) (cells : List Cell) (values : List Mixed) (hand : Slab Ready) (j : ℕ) : Type 0 where
+  pub value : Mixed
   pub value_is : slice_get values j ≡ Some value
   pub some : IsSomeReady p (place_of (cell_at cells j)) value (get hand (cell_at cells j).key)
 
 -- each node has a value, each open leaf has it at hand, and no two have one key
-pub record AreAtHand (p : Problem) (cells : List Cell) (values : List Frac) (hand : Slab Ready) : Type 0 where
+pub record AreAtHand (p : Problem) (cells : List Cell) (values : List Mixed) (hand : Slab Ready) : Type 0 where
   pub as_many : length values ≡ length cells
   pub each : (j : ℕ) → j < length cells → (cell_at cells j).end ≡ leaf untried → IsAtHand p cells values hand j
   pub apart : (i j : ℕ) → i < length cells → j < length cells → (cell_at cells i).end ≡ leaf untried → (cell_at cells j).end ≡ leaf untried

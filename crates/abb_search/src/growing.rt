@@ -20,9 +20,9 @@ ghost use Rattle.abb_search.specs.Growing.{IsBeaten, IsBranching, IsSame, halt_a
 use crate::hand::place_all;
 use branch_choice::Choice;
 use branch_tree::{End, Network};
-use frac128::Frac;
+use mixed_numbers::Mixed;
 use neutral_extension::Makers;
-use node_looks::{Evaluator, Halt, HaltedAt, Ready, cheaper, is_no_more, look_at_children};
+use node_looks::{Evaluator, Halt, HaltedAt, Ready, cheaper, look_at_children};
 use node_pool::Pool;
 use pgraph::Graph;
 use pns_problem::Problem;
@@ -52,15 +52,15 @@ pub(crate) struct Growing {
 }
 
 /// Whether the value reaches the network's cost.
-pub(crate) fn reaches(value: &Frac, network: &Network) -> bool
+pub(crate) fn reaches(value: &Mixed, network: &Network) -> bool
     ensures { IsTrue result ↔ IsNoMore (cost_in network.now) (cost_over value.now) }
 {
     network.is_sized();
-    is_no_more(network.cost(), network.d(), value.num, value.den)
+    value.is_at_least(network.cost(), network.d())
 }
 
 /// Whether the network costs no more than the value.
-pub(crate) fn is_beaten(best: &Option<Network>, value: &Frac) -> bool
+pub(crate) fn is_beaten(best: &Option<Network>, value: &Mixed) -> bool
     ensures { IsTrue result ↔ IsBeaten best.now value.now }
 {
     match best {

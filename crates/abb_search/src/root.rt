@@ -11,7 +11,7 @@ ghost use Rattle.abb_search.specs.Growing.{root_halt, IsOpenRoot, IsLookedRoot};
 use crate::growing::{Growing, HaltedLeaf};
 use crate::hand::place;
 use branch_tree::{Network, Steps};
-use frac128::Frac;
+use mixed_numbers::Mixed;
 use neutral_extension::Makers;
 use node_looks::{Evaluator, Halt, cheaper, look, open_cell};
 use node_pool::Pool;
@@ -23,7 +23,7 @@ use std::alloc::{AllocError, Global};
 use unit_sets::{Node, UnitSet};
 
 /// Adds the root. It is an open leaf where its cell is one.
-fn add_root(pool: &mut Pool<Cell>, cell: Cell, value: Frac) -> Result<(), AllocError>
+fn add_root(pool: &mut Pool<Cell>, cell: Cell, value: Mixed) -> Result<(), AllocError>
     requires parents { pool.old.parents ≡ [] }
     requires cells { pool.old.payloads ≡ [] }
     requires values { pool.old.values ≡ [] }
@@ -45,7 +45,7 @@ fn add_root(pool: &mut Pool<Cell>, cell: Cell, value: Frac) -> Result<(), AllocE
 }
 
 /// The root alone.
-fn root_pool(alloc: Global, cell: Cell, value: Frac) -> Result<Pool<Cell>, AllocError>
+fn root_pool(alloc: Global, cell: Cell, value: Mixed) -> Result<Pool<Cell>, AllocError>
     ensures cells { IfOk result (λ pool. pool.payloads ≡ cell ∷ []) }
     ensures values { IfOk result (λ pool. pool.values ≡ value ∷ []) }
     ensures open { IfOk result AreOpen }
@@ -72,7 +72,7 @@ pub(crate) fn open_root(
 {
     let root = copy_of(&start);
     let cell = open_cell(UnitSet::empty(), Steps::from_vec(Vec::new(alloc)), root);
-    let pool = root_pool(alloc, cell, Frac::of(0, 1))?;
+    let pool = root_pool(alloc, cell, Mixed::of(0, 1))?;
     Ok(Growing {
         start,
         budget,

@@ -2,13 +2,13 @@
 ghost use Rattle.std.specs.Prelude.{◌≡◌, ◌<◌, ◌≤◌, ◌+◌, ℕ, [], true, length, IfOk};
 ghost use Rattle.link_lists.specs.Lists.{has};
 
-use frac128::Frac;
+use mixed_numbers::Mixed;
 use node_pool::Pool;
 use std::alloc::{AllocError, Global};
 use std::io;
 
-fn whole(value: u32) -> Frac {
-    Frac::of(i128::from(value), 1)
+fn whole(value: u32) -> Mixed {
+    Mixed::of(i128::from(value), 1)
 }
 
 /// A root that is shut, and room for three more nodes.
@@ -73,13 +73,18 @@ fn written(pool: &mut Pool<u32>) -> (u32, u32)
     (*pool.payload(2), *pool.payload(3))
 }
 
-/// The value of the second child, and its payload once it is written.
-fn payload_line(rt: &(impl Print + Alloc<A = Global>), pool: &mut Pool<u32>) -> io::Result<()>
+/// Where the value of the second child lies, and its payload once it is written.
+fn payload_line(rt: &impl Print, pool: &mut Pool<u32>) -> io::Result<()>
     requires { length pool.old.parents ≡ 4 }
 {
-    let value = pool.value(2).text(rt.alloc())?;
+    let (reached, passed) = (
+        pool.value(2).is_at_least(86, 1),
+        pool.value(2).is_at_least(87, 1),
+    );
     let (own, other) = written(pool);
-    println!(rt; "value of 2 {value}, payload when written {own}, of 3 {other}")
+    println!(rt;
+        "value of 2 at least 86 {reached}, at least 87 {passed}, payload when written {own}, of 3 {other}"
+    )
 }
 
 /// Three children of values 75, 86 and 76.

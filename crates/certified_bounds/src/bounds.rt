@@ -4,19 +4,19 @@ ghost use Rattle.pns_rules.specs.Shape.{shape_of};
 ghost use Rattle.pns_rules.specs.Ends.{IsSound, IsDecided};
 ghost use Rattle.pgraph.specs.Tables.{shape};
 ghost use Rattle.pgraph.specs.View.{node_of};
+ghost use Rattle.mixed_numbers.specs.Number.{numerator, denominator};
 ghost use Rattle.scaled_flows.specs.LeastCost.{IsLeastCost};
 ghost use Rattle.tree_rules.specs.Leaf.{IsBounded};
 ghost use Rattle.certified_bounds.specs.Certified.{IsCertified};
 
 use crate::certified::Certified;
 use crate::flows::flows;
-use crate::judged::as_cost;
 use crate::lows::{least, proving};
 use crate::proposals::{Proposals, Proposed};
 use crate::refutations::refuted;
 use crate::same_problem::is_same_problem;
 use branch_tree::Scaled;
-use frac128::Frac;
+use mixed_numbers::Mixed;
 use pgraph::Graph;
 use pns_problem::Problem;
 use scaled_flows::{Scales, least_value};
@@ -127,15 +127,14 @@ impl CertifiedBounds {
     }
 
     /// After `Optimum`: the least cost, where what is proposed passes the check.
-    fn value(&self, problem: &Problem, graph: &Graph, node: &Node) -> Option<Frac>
+    fn value(&self, problem: &Problem, graph: &Graph, node: &Node) -> Option<Mixed>
         requires own { self.now ≡ problem.now }
         requires graph { shape graph.now ≡ shape_of problem.now }
         requires sound { IsSound (shape_of problem.now) (node_of node.now) }
-        ensures { IfSome result (λ value. IsLeastCost problem.now (node_of node.now) value.num value.den) }
+        ensures { IfSome result (λ value. IsLeastCost problem.now (node_of node.now) (numerator value) (denominator value)) }
     {
         let guessed = self.proposals.guessed();
-        let value = least_value(problem, graph, &self.scales, *node, &guessed)?;
-        as_cost(&value, self.scales.unit())
+        least_value(problem, graph, &self.scales, *node, &guessed)
     }
 
     /// Multipliers that prove that no relaxed flows of the node cost less than the cost over `d`, where they are found. It takes no
@@ -155,10 +154,7 @@ impl CertifiedBounds {
         ensures same { self.new ≡ self.old }
         ensures proved { IfOk result (λ found. IfSome found (λ s. IsBounded problem.now (Some (record { cost = cost; d = d })) (node_of node) s.d s.ys)) }
     {
-        if cost == i128::MIN {
-            return Ok(None);
-        }
-        let goal = Frac::of(cost, d);
+        let goal = Mixed::of(cost, d);
         match self.proposals.propose(&node, true) {
             Proposed::Optimum => proving(alloc, problem, graph, &node, &mut self.proposals, goal),
             _ => Ok(None),

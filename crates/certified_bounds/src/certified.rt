@@ -1,13 +1,13 @@
 //! What is told of a node.
 use branch_tree::{Multipliers, Network, Scaled};
-use frac128::Frac;
+use mixed_numbers::Mixed;
 
 /// The least cost of relaxed flows, and a bound of it with the multipliers over their scale that prove it: all costs are in 10^-18
 /// of the money unit times the payout period.
 #[derive(Drop)]
 pub struct LeastBound {
-    pub value: Frac,
-    pub low: Frac,
+    pub value: Mixed,
+    pub low: Mixed,
     pub scaled: Scaled,
 }
 

@@ -1,5 +1,5 @@
 //! The checks on which all rests that is told of a node.
-ghost use Rattle.std.specs.Prelude.{◌≡◌, ◌<◌, ◌≤ℤ◌, ◌*ℤ◌, ℕ, pos, true, length, Some, IsTrue, IfSome};
+ghost use Rattle.std.specs.Prelude.{◌≡◌, ◌<◌, ◌≤ℤ◌, ℕ, pos, true, length, Some, IsTrue, IfSome};
 ghost use Rattle.int_rows.specs.Range.{InRange};
 ghost use Rattle.number_sets.specs.Sets.{has};
 ghost use Rattle.pns_rules.specs.Shape.{shape_of};
@@ -14,21 +14,10 @@ ghost use Rattle.certified_bounds.specs.Certified.{cost_over};
 
 use flow_program::{bound_of, cost_of, feasible, refutes, sets_of};
 use flow_rules::sums_are_last;
-use frac128::Frac;
+use mixed_numbers::Mixed;
 use pgraph::Graph;
 use pns_problem::Problem;
 use unit_sets::Node;
-
-/// A value that is counted in a unit of costs, as a cost.
-pub(crate) fn as_cost(value: &Frac, unit: i128) -> Option<Frac>
-    requires { pos 1 ≤ℤ unit }
-    ensures { IfSome result (λ cost. cost.num *ℤ value.now.den ≡ (unit *ℤ value.now.num) *ℤ cost.den) }
-{
-    match value.mul(&Frac::of(unit, 1)) {
-        Ok(cost) => Some(cost),
-        Err(_) => None,
-    }
-}
 
 /// How many rows the program of the node has.
 fn row_count(graph: &Graph, node: &Node) -> usize
@@ -46,7 +35,7 @@ pub(crate) fn low_of(
     node: &Node,
     scale: i128,
     multipliers: &[i128],
-) -> Option<Frac>
+) -> Option<Mixed>
     requires graph { shape graph.now ≡ shape_of problem.now }
     requires known { (u : ℕ) → has node.now.inside u ≡ true → u < (shape graph.now).units }
     ensures { IfSome result (λ low. IsBounded problem.now (Some (cost_over low)) (node_of node.now) scale multipliers.now) }
@@ -58,7 +47,7 @@ pub(crate) fn low_of(
         return None;
     }
     match bound_of(problem, graph, *node, scale, multipliers) {
-        Ok(bound) => Some(Frac::of(bound, scale)),
+        Ok(bound) => Some(Mixed::of(bound, scale)),
         Err(_) => None,
     }
 }
@@ -71,7 +60,7 @@ pub(crate) fn reaches(
     node: &Node,
     scale: i128,
     multipliers: &[i128],
-    goal: Frac,
+    goal: Mixed,
 ) -> bool
     requires graph { shape graph.now ≡ shape_of problem.now }
     requires known { (u : ℕ) → has node.now.inside u ≡ true → u < (shape graph.now).units }

@@ -5,6 +5,7 @@ ghost use Rattle.number_sets.specs.Sets.{has};
 ghost use Rattle.pns_rules.specs.Shape.{shape_of};
 ghost use Rattle.pgraph.specs.Tables.{shape};
 ghost use Rattle.pgraph.specs.View.{node_of};
+ghost use Rattle.mixed_numbers.specs.Number.{numerator, denominator};
 ghost use Rattle.scaled_flows.specs.LeastCost.{IsLeastCost};
 ghost use Rattle.tree_rules.specs.Leaf.{IsBounded};
 ghost use Rattle.certified_bounds.specs.Certified.{cost_over, IsCertified};
@@ -14,7 +15,7 @@ use crate::judged::{low_of, reaches};
 use crate::proposals::Proposals;
 use branch_tree::Scaled;
 use flow_rules::relaxed_duality;
-use frac128::Frac;
+use mixed_numbers::Mixed;
 use pgraph::Graph;
 use pns_problem::Problem;
 use std::alloc::{AllocError, Global};
@@ -27,9 +28,9 @@ const SHORT: i128 = 1 << 20;
 
 /// The scale of the multipliers that are listed, and what they prove.
 #[derive(Clone, Copy)]
-pub(crate) struct Low {
+struct Low {
     pub(crate) scale: i128,
-    pub(crate) low: Frac,
+    pub(crate) low: Mixed,
 }
 
 /// What the multipliers that are listed prove, where they were written over a scale.
@@ -50,7 +51,7 @@ fn listed_low(
 }
 
 /// What the exact multipliers prove.
-pub(crate) fn exact_low(
+fn exact_low(
     problem: &Problem,
     graph: &Graph,
     node: &Node,
@@ -102,9 +103,9 @@ fn short_low(
 }
 
 /// The value with the multipliers that are listed, and what these prove.
-pub(crate) fn bound_with(
+fn bound_with(
     alloc: Global,
-    value: Frac,
+    value: Mixed,
     low: Low,
     proposals: &Proposals,
 ) -> Result<LeastBound, AllocError>
@@ -127,11 +128,11 @@ pub(crate) fn least(
     graph: &Graph,
     node: &Node,
     proposals: &mut Proposals,
-    value: Frac,
+    value: Mixed,
 ) -> Result<Certified, AllocError>
     requires graph { shape graph.now ≡ shape_of problem.now }
     requires known { (u : ℕ) → has node.now.inside u ≡ true → u < (shape graph.now).units }
-    requires value { IsLeastCost problem.now (node_of node.now) value.num value.den }
+    requires value { IsLeastCost problem.now (node_of node.now) (numerator value) (denominator value) }
     ensures { IfOk result (IsCertified problem.now (node_of node.now) false) }
 {
     relaxed_duality();
@@ -142,7 +143,7 @@ pub(crate) fn least(
     Ok(Certified::Least(bound))
 }
 
-/// The listed multipliers over their scale, where they prove the cost over `d`.
+/// The listed multipliers over their scale, where they prove the goal.
 fn reaching(
     alloc: Global,
     problem: &Problem,
@@ -150,7 +151,7 @@ fn reaching(
     node: &Node,
     proposals: &Proposals,
     scale: Option<i128>,
-    goal: Frac,
+    goal: Mixed,
 ) -> Result<Option<Scaled>, AllocError>
     requires graph { shape graph.now ≡ shape_of problem.now }
     requires known { (u : ℕ) → has node.now.inside u ≡ true → u < (shape graph.now).units }
@@ -167,14 +168,31 @@ fn reaching(
     Ok(Some(scaled))
 }
 
-/// After `Optimum`: multipliers that prove the cost, rounded ones over longer and longer scales, and at last the exact ones.
+/// After `Optimum`: the exact multipliers, where they prove the goal.
+pub(crate) fn exact(
+    alloc: Global,
+    problem: &Problem,
+    graph: &Graph,
+    node: &Node,
+    proposals: &mut Proposals,
+    goal: Mixed,
+) -> Result<Option<Scaled>, AllocError>
+    requires graph { shape graph.now ≡ shape_of problem.now }
+    requires known { (u : ℕ) → has node.now.inside u ≡ true → u < (shape graph.now).units }
+    ensures { IfOk result (λ found. IfSome found (λ s. IsBounded problem.now (Some (cost_over goal)) (node_of node.now) s.d s.ys)) }
+{
+    let scale = proposals.write_exact(i128::MAX);
+    reaching(alloc, problem, graph, node, proposals, scale, goal)
+}
+
+/// After `Optimum`: multipliers that prove the goal, rounded ones over longer and longer scales, and at last the exact ones.
 pub(crate) fn proving(
     alloc: Global,
     problem: &Problem,
     graph: &Graph,
     node: &Node,
     proposals: &mut Proposals,
-    goal: Frac,
+    goal: Mixed,
 ) -> Result<Option<Scaled>, AllocError>
     requires graph { shape graph.now ≡ shape_of problem.now }
     requires known { (u : ℕ) → has node.now.inside u ≡ true → u < (shape graph.now).units }
@@ -187,6 +205,5 @@ pub(crate) fn proving(
             None => {}
         }
     }
-    let scale = proposals.write_exact(i128::MAX);
-    reaching(alloc, problem, graph, node, proposals, scale, goal)
+    exact(alloc, problem, graph, node, proposals, goal)
 }

@@ -4,7 +4,6 @@ use Rattle.std.specs.Prelude.{◌&&◌}
 use Rattle.std.proofs.lemmas.Int.{ints}
 use Rattle.number_sets.specs.Sets.{has, IsRising}
 use Rattle.number_sets.proofs.SetLemmas.{below_from, listed-is}
-use Rattle.int_rows.specs.Lowest.{IsLowest}
 use Rattle.int_rows.specs.Range.{InRange}
 use Rattle.problem_rules.specs.Problem.{Problem}
 use Rattle.problem_rules.specs.Validity.{IsValid}
@@ -13,7 +12,9 @@ use Rattle.pns_rules.specs.Ends.{IsSound, IsDecided}
 use Rattle.pns_rules.specs.Nodes as rules
 use Rattle.pgraph.specs.View.{node_of}
 use Rattle.unit_sets.specs.declared.node.Node.{Node}
-use Rattle.frac128.specs.declared.fraction.Frac.{Frac}
+use Rattle.mixed_numbers.specs.declared.number.Mixed.{Mixed}
+use Rattle.mixed_numbers.specs.Number.{numerator, denominator}
+use Rattle.mixed_numbers.specs.OrderLaws.{denominator_positive}
 use Rattle.branch_tree.specs.Scaled.{Scaled}
 use Rattle.flow_rules.specs.Net.{net_of, beside}
 use Rattle.flow_rules.specs.Flows.{IsFlows, cost}
@@ -33,11 +34,11 @@ use Rattle.turn_laws.proofs.FractionLemmas.{fraction_trans}
 use Rattle.turn_laws.proofs.GrowLemmas.{leaf_fallen}
 use Rattle.node_looks.specs.Evaluated.{cost_over, IsBoundOf, IsNetworkOf, IsWorth}
 use Rattle.node_looks.proofs.LookLemmas.{under_value}
-use Rattle.flow_evaluator.proofs.ValueLemmas.{lowest_le, lowest_same, lowest_over}
+use Rattle.flow_evaluator.proofs.ValueLemmas.{kept_le, kept_same, kept_over}
 
--- the fraction is the bound that the bench keeps, over its scale
-abbrev pub IsValueAt : Problem → rules.Node → Bench → Frac → Type 0
-IsValueAt p n b v = IsLowest (bound (net_of p) n b.d (multiplier p n b.ys)) b.d v.num v.den
+-- the number is the bound that the bench keeps, over its scale
+abbrev pub IsValueAt : Problem → rules.Node → Bench → Mixed → Type 0
+IsValueAt p n b v = (numerator v ≡ bound (net_of p) n b.d (multiplier p n b.ys)) × (denominator v ≡ b.d)
 
 no_more : (a b : ℤ) → a ≡ b → a ≤ℤ b
 no_more a b e = omega (arith, ints)
@@ -55,10 +56,9 @@ pub carried : (P : List ℕ → List ℤ → ℤ → Type 0) (us vs : List ℕ) 
 carried P us vs zs ws d e a b c h = subst (λ (xs : List ℕ). P xs ws e) a (subst (λ (xs : List ℤ). P us xs e) b (subst (λ (x : ℤ). P us zs x) c h))
 
 -- the same multipliers over the same scale
-pub kept_value : (p : Problem) (n : rules.Node) (old new : Bench) (v : Frac) → new.d ≡ old.d → new.ys ≡ old.ys → IsValueAt p n old v → IsValueAt p n new v
+pub kept_value : (p : Problem) (n : rules.Node) (old new : Bench) (v : Mixed) → new.d ≡ old.d → new.ys ≡ old.ys → IsValueAt p n old v → IsValueAt p n new v
 kept_value p n old new v d ys h =
-    subst (λ (e : ℤ). IsLowest (bound (net_of p) n e (multiplier p n new.ys)) e v.num v.den) (sym d)
-    (subst (λ (zs : List ℤ). IsLowest (bound (net_of p) n old.d (multiplier p n zs)) old.d v.num v.den) (sym ys) h)
+    (h.0 ∙ (ap (λ (e : ℤ). bound (net_of p) n e (multiplier p n old.ys)) (sym d) ∙ ap (λ (zs : List ℤ). bound (net_of p) n new.d (multiplier p n zs)) (sym ys)), h.1 ∙ sym d)
 
 pub kept_steps : (p : Problem) (n : rules.Node) (old new : Bench) → new.d ≡ old.d → new.ys ≡ old.ys → IsFormed p n old.d old.ys → IsFormed p n new.d new.ys
 kept_steps p n old new d ys h =
@@ -66,17 +66,17 @@ kept_steps p n old new d ys h =
 
 module _ (p : Problem) (valid : IsValid p) (n : rules.Node) (b : Bench) (least : IsLeastOf (program_of (net_of p) n) b) where
   -- the value with the multipliers
-  pub bound_is : ScaleIsPositive → BoundIsReached → BoundIsLeast → (v : Frac) → IsValueAt p n b v → IsFormed p n b.d b.ys
+  pub bound_is : ScaleIsPositive → BoundIsReached → BoundIsLeast → (v : Mixed) → IsValueAt p n b v → IsFormed p n b.d b.ys
       → IsBoundOf p n (record { value = v; low = v; scaled = record { d = b.d; ys = b.ys } })
   bound_is scale reached under v low formed = let r = reached p valid n own b refl least in record {
     value = record {
       positive = den;
-      under = λ z d relaxed. lowest_le total b.d v.num v.den low positive v.positive d _ (under p valid n own b refl least z d relaxed);
+      under = λ z d relaxed. kept_le total b.d (numerator v) (denominator v) low d _ (under p valid n own b refl least z d relaxed);
       reached = record {
         sizes = r.0;
         d = r.1;
         relaxed = r.2;
-        at_most = no_less _ _ (lowest_same total b.d v.num v.den low positive v.positive r.1 _ r.3);
+        at_most = no_less _ _ (kept_same total b.d (numerator v) (denominator v) low r.1 _ r.3);
       };
     };
     no_more = no_more _ _ refl;
@@ -84,7 +84,7 @@ module _ (p : Problem) (valid : IsValid p) (n : rules.Node) (b : Bench) (least :
       positive = positive;
       each_row = least.count;
       formed = formed;
-      reaches = no_more _ _ (lowest_over total b.d v.num v.den low positive v.positive);
+      reaches = no_more _ _ (kept_over total b.d (numerator v) (denominator v) low);
     };
   }
     where
@@ -97,15 +97,15 @@ module _ (p : Problem) (valid : IsValid p) (n : rules.Node) (b : Bench) (least :
       positive : pos 1 ≤ℤ b.d
       positive = scale p valid n own b refl least
 
-      den : pos 1 ≤ℤ v.den
-      den = let h = v.positive in omega (arith, ints)
+      den : pos 1 ≤ℤ denominator v
+      den = let h = denominator_positive v in omega (arith, ints)
 
 -- the value of a node, where it is proved, proves each cost that the node is worth
-pub worth_proved : (p : Problem) (n : rules.Node) (cost : CostOver) (v : Frac) (s : Scaled) → IsPositive cost → IsWorth p n cost → IsBoundOf p n (record { value = v; low = v; scaled = s }) → IsBounded p (Some cost) n s.d s.ys
+pub worth_proved : (p : Problem) (n : rules.Node) (cost : CostOver) (v : Mixed) (s : Scaled) → IsPositive cost → IsWorth p n cost → IsBoundOf p n (record { value = v; low = v; scaled = s }) → IsBounded p (Some cost) n s.d s.ys
 worth_proved p n cost v s positive w h =
     let reached : IsNoMore w.value (cost_over v) = under_value p n w.value (record { value = v; low = v; scaled = s }) w.is_value.positive w.is_value.under h in
     leaf_fallen p (Some (cost_over v)) (Some cost) n (bounded s.d s.ys)
-    (fraction_trans cost.cost cost.d w.value.cost w.value.d v.num v.den positive w.is_value.positive h.value.positive w.no_less reached) h.value.positive positive h.bounded
+    (fraction_trans cost.cost cost.d w.value.cost w.value.d (numerator v) (denominator v) positive w.is_value.positive h.value.positive w.no_less reached) h.value.positive positive h.bounded
 
 -- ---- where all is decided
 
@@ -132,7 +132,7 @@ module _ (p : Problem) (valid : IsValid p) (node : Node) (b : Bench) (least : Is
     (flows : AreFlowsOf (program_of (net_of p) (node_of node)) b) (sound : IsSound (shape_of p) (node_of node)) (decided : IsDecided (shape_of p) (node_of node))
     (same : units (net_of p) (node_of node) ≡ node.inside) where
   -- the network of the flows that the bench keeps
-  pub network_is : ScaleIsPositive → SplitFlowsAreFlows → SplitFlowsAreLeast → (v : Frac) → IsValueAt p (node_of node) b v
+  pub network_is : ScaleIsPositive → SplitFlowsAreFlows → SplitFlowsAreLeast → (v : Mixed) → IsValueAt p (node_of node) b v
       → (total : ℤ) → total ≡ cost (net_of p) (has node.inside) (beside node.inside b.flows) b.flow_den
       → AreInRange (cost_steps (net_of p) (has node.inside) (beside node.inside b.flows) b.flow_den)
       → AreInRange (feasible_steps (net_of p) (has node.inside) (beside node.inside b.flows) b.flow_den)
@@ -165,5 +165,5 @@ module _ (p : Problem) (valid : IsValid p) (node : Node) (b : Bench) (least : Is
           are_least p valid n own b split refl least flows
           ∙ ap (λ (z : ℤ). b.d *ℤ z) (ap (λ (us : List ℕ). cost (net_of p) (has node.inside) (beside us b.flows) b.flow_den) same ∙ sym total_is)
 
-      equal : v.num *ℤ b.flow_den ≡ total *ℤ v.den
-      equal = lowest_same (bound (net_of p) n b.d (multiplier p n b.ys)) b.d v.num v.den low (scale p valid n own b refl least) v.positive b.flow_den total reached
+      equal : numerator v *ℤ b.flow_den ≡ total *ℤ denominator v
+      equal = kept_same (bound (net_of p) n b.d (multiplier p n b.ys)) b.d (numerator v) (denominator v) low b.flow_den total reached

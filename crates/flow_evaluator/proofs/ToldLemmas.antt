@@ -3,7 +3,8 @@ use Rattle.std.proofs.Common.{◌≡◌, Bool, true, false, ℤ, ◌*ℤ◌, ◌
 use Rattle.std.proofs.lemmas.Int.{ints}
 use Rattle.problem_rules.specs.Problem.{Problem}
 use Rattle.pns_rules.specs.Nodes.{Node}
-use Rattle.frac128.specs.declared.fraction.Frac.{Frac}
+use Rattle.mixed_numbers.specs.declared.number.Mixed.{Mixed}
+use Rattle.mixed_numbers.specs.Number.{numerator, denominator}
 use Rattle.tree_rules.specs.Claim.{Network}
 use Rattle.turn_laws.specs.Values.{IsNoMore}
 use Rattle.certified_bounds.specs.declared.certified.LeastBound.{LeastBound}
@@ -26,12 +27,12 @@ bound_is p n b h = record {
   bounded = h.bounded;
 }
 
-network_is : (p : Problem) (v : Frac) (w : Network) → IsNetworkAt p v w → IsNetworkOf p v w
+network_is : (p : Problem) (v : Mixed) (w : Network) → IsNetworkAt p v w → IsNetworkOf p v w
 network_is p v w h = record {
   feasible = h.feasible;
   positive = h.positive;
-  no_more = no_more_of_same (w.cost *ℤ v.den) (v.num *ℤ w.d) h.costs;
-  no_less = no_more_of_same (v.num *ℤ w.d) (w.cost *ℤ v.den) (sym h.costs);
+  no_more = no_more_of_same (w.cost *ℤ denominator v) (numerator v *ℤ w.d) h.costs;
+  no_less = no_more_of_same (numerator v *ℤ w.d) (w.cost *ℤ denominator v) (sym h.costs);
 }
 
 pub least_is : (p : Problem) (n : Node) (decided : Bool) (told : Certified) (b : LeastBound) (r : Bound) → told ≡ Least b → r ≡ bound_from b → IsCertified p n decided told → (decided ≡ false) × IsBoundOf p n r
@@ -44,7 +45,7 @@ pub flows_are : (p : Problem) (n : Node) (decided : Bool) (told : Certified) (b 
 flows_are p n decided told b w r is same h =
     let k : IsCertified p n decided (Flows b w) = subst (IsCertified p n decided) is h in
     let network : IsNetworkOf p b.value w = network_is p b.value w k.2 in
-    let reached : IsNoMore (cost_in w) (cost_over b.low) = subst (λ (f : Frac). IsNoMore (cost_in w) (cost_over f)) (sym k.3) network.no_more in (
+    let reached : IsNoMore (cost_in w) (cost_over b.low) = subst (λ (f : Mixed). IsNoMore (cost_in w) (cost_over f)) (sym k.3) network.no_more in (
       k.0,
       subst (IsBoundOf p n) (sym same) (bound_is p n b k.1),
       subst (λ (x : Bound). IsNetworkOf p x.value w) (sym same) network,

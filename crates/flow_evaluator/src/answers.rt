@@ -1,6 +1,6 @@
 //! What the last basis of a node's path gives.
 ghost use Rattle.std.specs.Prelude.{◌≡◌, ◌≤ℤ◌, Bool, true, pos, length, IfOk};
-ghost use Rattle.int_rows.specs.Lowest.{IsLowest};
+ghost use Rattle.mixed_numbers.specs.Number.{numerator, denominator};
 ghost use Rattle.int_rows.specs.Range.{InRange, AllInRange};
 ghost use Rattle.pns_rules.specs.Shape.{shape_of};
 ghost use Rattle.pns_rules.specs.Ends.{IsSound, IsDecided};
@@ -25,7 +25,7 @@ use dual_simplex::{
     split_flows_are_least,
 };
 use flow_program::{Place, Program};
-use frac128::Frac;
+use mixed_numbers::Mixed;
 use node_looks::{Bound, Evaluation, Halt, Proof};
 use pgraph::Graph;
 use pns_problem::Problem;
@@ -79,7 +79,7 @@ pub(crate) fn refuted(
 }
 
 /// After `Least`: the value, with the multipliers that prove it.
-fn bound_at(alloc: Global, value: Frac, bench: &Bench) -> Result<Bound, AllocError>
+fn bound_at(alloc: Global, value: Mixed, bench: &Bench) -> Result<Bound, AllocError>
     requires scale_in_range { InRange bench.now.d }
     requires in_range { AllInRange bench.now.ys }
     ensures { IfOk result (λ b. b ≡ record { value = value; low = value; scaled = record { d = bench.now.d; ys = bench.now.ys } }) }
@@ -113,14 +113,14 @@ fn with_flows(
     node: &Node,
     program: &Program,
     bench: &mut Bench,
-    value: Frac,
+    value: Mixed,
 ) -> Result<Evaluation, AllocError>
     requires graph { shape graph.now ≡ shape_of problem.now }
     requires sound { IsSound (shape_of problem.now) (node_of node.now) }
     requires decided { IsDecided (shape_of problem.now) (node_of node.now) }
     requires program { program.now ≡ program_of (net_of problem.now) (node_of node.now) }
     requires least { IsLeastOf program.now bench.old }
-    requires value { IsLowest (bound (net_of problem.now) (node_of node.now) bench.old.d (multiplier problem.now (node_of node.now) bench.old.ys)) bench.old.d value.num value.den }
+    requires value { (numerator value ≡ bound (net_of problem.now) (node_of node.now) bench.old.d (multiplier problem.now (node_of node.now) bench.old.ys)) × (denominator value ≡ bench.old.d) }
     requires formed { IsFormed problem.now (node_of node.now) bench.old.d bench.old.ys }
     ensures rows { bench.new.rows ≡ bench.old.rows }
     ensures evaluated { IfOk result (IsEvaluated IsPastAt problem.now (node_of node.now) true) }

@@ -2,7 +2,7 @@
 ghost use Rattle.std.specs.Prelude.{◌≡◌, pos, true, IfOk, IfErr, OnOk};
 ghost use Rattle.number_sets.specs.Sets.{has};
 ghost use Rattle.int_rows.specs.Range.{InRange};
-ghost use Rattle.int_rows.specs.Lowest.{IsLowest};
+ghost use Rattle.mixed_numbers.specs.Number.{numerator, denominator};
 ghost use Rattle.pns_rules.specs.Shape.{shape_of};
 ghost use Rattle.pns_rules.specs.Ends.{IsSound, IsDecided};
 ghost use Rattle.pgraph.specs.Tables.{shape};
@@ -24,7 +24,7 @@ use dual_simplex::{
 };
 use flow_program::{Place, bound_of, cost_of, feasible, refutes};
 use flow_rules::sums_are_last;
-use frac128::Frac;
+use mixed_numbers::Mixed;
 use pgraph::Graph;
 use pns_problem::Problem;
 use unit_sets::Node;
@@ -35,11 +35,11 @@ pub(crate) fn value_of(
     graph: &Graph,
     node: &Node,
     bench: &Bench,
-) -> Result<Frac, Place>
+) -> Result<Mixed, Place>
     requires graph { shape graph.now ≡ shape_of problem.now }
     requires sound { IsSound (shape_of problem.now) (node_of node.now) }
     requires least { IsLeastOf (program_of (net_of problem.now) (node_of node.now)) bench.now }
-    ensures value { IfOk result (λ v. IsLowest (bound (net_of problem.now) (node_of node.now) bench.now.d (multiplier problem.now (node_of node.now) bench.now.ys)) bench.now.d v.num v.den) }
+    ensures value { IfOk result (λ v. (numerator v ≡ bound (net_of problem.now) (node_of node.now) bench.now.d (multiplier problem.now (node_of node.now) bench.now.ys)) × (denominator v ≡ bench.now.d)) }
     ensures formed { OnOk result (IsFormed problem.now (node_of node.now) bench.now.d bench.now.ys) }
     ensures past { IfErr result (IsPastAt problem.now (node_of node.now) bench.now.nonbasic) }
 {
@@ -50,7 +50,7 @@ pub(crate) fn value_of(
     sums_are_last();
     match bound_of(problem, graph, *node, bench.d(), bench.ys()) {
         Err(past) => Err(Place::Bound { at: past.at }),
-        Ok(bound) => Ok(Frac::of(bound, bench.d())),
+        Ok(bound) => Ok(Mixed::of(bound, bench.d())),
     }
 }
 

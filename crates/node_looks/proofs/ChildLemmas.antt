@@ -11,7 +11,7 @@ use Rattle.pns_rules.specs.Shape.{shape_of}
 use Rattle.pns_rules.specs.Nodes.{Node}
 use Rattle.pns_rules.specs.Ends.{IsSound, IsReduced, IsDead, IsNever}
 use Rattle.pns_rules.proofs.ProperLemmas.{proper_if_valid}
-use Rattle.frac128.specs.declared.fraction.Frac.{Frac}
+use Rattle.mixed_numbers.specs.declared.number.Mixed.{Mixed}
 use Rattle.tree_rules.specs.Ways.{Way, MayBranch, options_at, child_at, IsDecision}
 use Rattle.tree_rules.specs.Tree.{leaf, after_all}
 use Rattle.tree_rules.specs.Claim as claims
@@ -92,7 +92,7 @@ or_false false = refl
 
 -- ---- what is at hand
 
-pub ready_more : (p : Problem) (cs : List Cell) (vs : List Frac) (rs : List (Option Ready)) (cs' : List Cell) (vs' : List Frac) (rs' : List (Option Ready))
+pub ready_more : (p : Problem) (cs : List Cell) (vs : List Mixed) (rs : List (Option Ready)) (cs' : List Cell) (vs' : List Mixed) (rs' : List (Option Ready))
     → AreReady p cs vs rs → AreReady p cs' vs' rs' → AreReady p (cs ++ cs') (vs ++ vs') (rs ++ rs')
 ready_more p [] [] [] cs' vs' rs' h k = k
 ready_more p (c ∷ cs) (v ∷ vs) (r ∷ rs) cs' vs' rs' h k = (h.0, ready_more p cs vs rs cs' vs' rs' h.1 k)
@@ -239,7 +239,7 @@ module _ (p : Problem) (valid : IsValid p) (n : Node) (w : Way) (sound : IsSound
     is_ready o er h =
         subst (λ (rs : List (Option Ready)). AreReady p (cells_of new.kids.items) (values_of new.kids.items) rs) (sym er)
         (subst (λ (cs : List Cell). AreReady p cs (values_of new.kids.items) (old.ready.items ++ l.ready ∷ [])) (sym cells_more)
-        (subst (λ (vs : List Frac). AreReady p (cells_of old.kids.items ++ l.cell ∷ []) vs (old.ready.items ++ l.ready ∷ [])) (sym values_more)
+        (subst (λ (vs : List Mixed). AreReady p (cells_of old.kids.items ++ l.cell ∷ []) vs (old.ready.items ++ l.ready ∷ [])) (sym values_more)
         (ready_more p (cells_of old.kids.items) (values_of old.kids.items) old.ready.items (l.cell ∷ []) (l.value ∷ []) (l.ready ∷ []) h
         ((λ e. o (let q : leaf ic.what ≡ leaf untried = sym ic.end_is ∙ e in cc)), tt))))
 

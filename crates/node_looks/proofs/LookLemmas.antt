@@ -23,6 +23,7 @@ use Rattle.search_tree.specs.Growth.{as_shut}
 use Rattle.turn_laws.specs.Values.{IsPositive, IsUnder, IsNoMore}
 use Rattle.turn_laws.proofs.FractionLemmas.{fraction_trans}
 use Rattle.turn_laws.proofs.GrowLemmas.{leaf_fallen}
+use Rattle.mixed_numbers.specs.Number.{numerator, denominator}
 use Rattle.node_looks.specs.declared.evaluator.Bound.{Bound}
 use Rattle.node_looks.specs.declared.evaluator.Halt.{Halt}
 use Rattle.node_looks.specs.declared.looks.Looked.{Looked}
@@ -38,14 +39,14 @@ low_positive b = let h = b.low.positive in omega (arith, ints)
 pub under_value : (p : Problem) (n : rules.Node) (v : CostOver) (b : Bound) → IsPositive v → IsUnder p v n → IsBoundOf p n b → IsNoMore v (cost_over b.value)
 under_value p n v b pv u h =
     let r = h.value.reached in
-    fraction_trans v.cost v.d (relaxed_cost (net_of p) n r.sizes r.d) r.d b.value.num b.value.den pv r.relaxed.positive h.value.positive (u r.sizes r.d r.relaxed) r.at_most
+    fraction_trans v.cost v.d (relaxed_cost (net_of p) n r.sizes r.d) r.d (numerator b.value) (denominator b.value) pv r.relaxed.positive h.value.positive (u r.sizes r.d r.relaxed) r.at_most
 
 found_here : (p : Problem) (n : rules.Node) (b : Bound) (w : Network) → IsNever (IsDead (shape_of p) n) → IsBoundOf p n b → IsNetworkOf p b.value w → IsFoundAt p n w
 found_here p n b w alive h k = record {
   alive = alive;
   feasible = k.feasible;
   positive = k.positive;
-  no_less = λ v pv u. fraction_trans v.cost v.d b.value.num b.value.den w.cost w.d pv h.value.positive k.positive (under_value p n v b pv u h) k.no_less;
+  no_less = λ v pv u. fraction_trans v.cost v.d (numerator b.value) (denominator b.value) w.cost w.d pv h.value.positive k.positive (under_value p n v b pv u h) k.no_less;
 }
 
 module _ (Past : PastPlaces) (p : Problem) (cell : Cell) (l : Looked) where

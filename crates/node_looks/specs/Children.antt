@@ -4,7 +4,7 @@ use Rattle.problem_rules.specs.Problem.{Problem}
 use Rattle.pns_rules.specs.Shape.{Shape, shape_of}
 use Rattle.pns_rules.specs.Nodes.{Node}
 use Rattle.pns_rules.specs.Ends.{IsSound}
-use Rattle.frac128.specs.declared.fraction.Frac.{Frac}
+use Rattle.mixed_numbers.specs.declared.number.Mixed.{Mixed}
 use Rattle.tree_rules.specs.Ways.{Way}
 use Rattle.tree_rules.specs.Tree.{leaf}
 use Rattle.tree_rules.specs.Claim as claims
@@ -50,10 +50,10 @@ pub record IsImproved (p : Problem) (n : Node) (old new : Option claims.Network)
 abbrev pub cells_of : List Fresh → List Cell
 cells_of fs = map (λ (f : Fresh). f.cell) fs
 
-abbrev pub values_of : List Fresh → List Frac
+abbrev pub values_of : List Fresh → List Mixed
 values_of fs = map (λ (f : Fresh). f.value) fs
 
-abbrev pub AreReady : Problem → List Cell → List Frac → List (Option Ready) → Type 0
+abbrev pub AreReady : Problem → List Cell → List Mixed → List (Option Ready) → Type 0
 AreReady p [] [] [] = Unit {0}
 AreReady p (c ∷ cs) (v ∷ vs) (r ∷ rs) = (c.end ≡ leaf untried → IsSomeReady p (place_of c) v r) × AreReady p cs vs rs
 AreReady p [] [] (r ∷ rs) = ⊥
@@ -64,7 +64,7 @@ AreReady p (c ∷ cs) (v ∷ vs) [] = ⊥
 -- ---- a child
 
 -- no child is looked at behind one that halts the search
-abbrev pub IsChildAs : PastPlaces → Problem → Node → Leaf → Frac → Option Ready → Option Halt → Bool → Type 0
+abbrev pub IsChildAs : PastPlaces → Problem → Node → Leaf → Mixed → Option Ready → Option Halt → Bool → Type 0
 IsChildAs Past p n what value ready halt false = IsOpenAs Past p n what value ready halt
 IsChildAs Past p n what value ready halt true = halt ≡ None
 

@@ -3,7 +3,8 @@
 use Rattle.std.specs.Prelude.{◌≡◌, pos, ◌≤ℤ◌, Bool, true, false, List, Some}
 use Rattle.problem_rules.specs.Problem.{Problem}
 use Rattle.pns_rules.specs.Nodes.{Node}
-use Rattle.frac128.specs.declared.fraction.Frac.{Frac}
+use Rattle.mixed_numbers.specs.declared.number.Mixed.{Mixed}
+use Rattle.mixed_numbers.specs.Number.{numerator, denominator}
 use Rattle.flow_program.specs.declared.place.Column.{Column}
 use Rattle.flow_program.specs.declared.place.Place.{Place}
 use Rattle.tree_rules.specs.Claim.{Network, CostOver, IsFeasible}
@@ -19,9 +20,9 @@ use Rattle.node_looks.specs.declared.evaluator.Proof.TheVariants as proofs
 abbrev pub PastPlaces : Type 1
 PastPlaces = Problem → Node → List Column → Place → Type 0
 
--- a fraction as a cost
-abbrev pub cost_over : Frac → CostOver
-cost_over f = record { cost = f.num; d = f.den }
+-- a mixed number as a cost
+abbrev pub cost_over : Mixed → CostOver
+cost_over m = record { cost = numerator m; d = denominator m }
 
 -- the cost of a network
 abbrev pub cost_in : Network → CostOver
@@ -34,7 +35,7 @@ pub record IsBoundOf (p : Problem) (n : Node) (b : Bound) : Type 0 where
   pub bounded : IsBounded p (Some (cost_over b.low)) n b.scaled.d b.scaled.ys
 
 -- the network has flows, and its cost is the value
-pub record IsNetworkOf (p : Problem) (value : Frac) (w : Network) : Type 0 where
+pub record IsNetworkOf (p : Problem) (value : Mixed) (w : Network) : Type 0 where
   pub feasible : IsFeasible p w
   pub positive : pos 1 ≤ℤ w.d
   pub no_more : IsNoMore (cost_in w) (cost_over value)

@@ -4,7 +4,7 @@ use Rattle.problem_rules.specs.Problem.{Problem}
 use Rattle.pns_rules.specs.Shape.{shape_of}
 use Rattle.pns_rules.specs.Nodes.{Node}
 use Rattle.pns_rules.specs.Ends.{IsSound, IsReduced, IsDead, IsNever}
-use Rattle.frac128.specs.declared.fraction.Frac.{Frac}
+use Rattle.mixed_numbers.specs.declared.number.Mixed.{Mixed}
 use Rattle.tree_rules.specs.Tree.{End, branch, leaf}
 use Rattle.tree_rules.specs.Claim.{Network, CostOver, IsFeasible}
 use Rattle.tree_rules.specs.Leaf.{Leaf, dead, clash, refuted, bounded, untried, LeafPasses}
@@ -22,13 +22,13 @@ use Rattle.node_looks.specs.Evaluated.{PastPlaces, cost_in, IsBoundOf}
 
 -- the node is reduced, and all that its branching or shutting takes is at hand: how it is branched, and the bound, whose value is
 -- the leaf's
-pub record IsReady (p : Problem) (n : Node) (value : Frac) (r : Ready) : Type 0 where
+pub record IsReady (p : Problem) (n : Node) (value : Mixed) (r : Ready) : Type 0 where
   pub reduced : IsReduced (shape_of p) n
   pub choice : IsChoice (shape_of p) n r.choice
   pub bound : IsBoundOf p n r.bound
   pub value_is : r.bound.value ≡ value
 
-abbrev pub IsSomeReady : Problem → Node → Frac → Option Ready → Type 0
+abbrev pub IsSomeReady : Problem → Node → Mixed → Option Ready → Type 0
 IsSomeReady p n value None = ⊥
 IsSomeReady p n value (Some r) = IsReady p n value r
 
@@ -38,7 +38,7 @@ pub record IsHalted (Past : PastPlaces) (p : Problem) (n : Node) (h : Halt) : Ty
   pub past : Past p n h.nonbasic h.place
 
 -- an open leaf is ready, but for one that halts the search
-abbrev pub IsOpenAs : PastPlaces → Problem → Node → Leaf → Frac → Option Ready → Option Halt → Type 0
+abbrev pub IsOpenAs : PastPlaces → Problem → Node → Leaf → Mixed → Option Ready → Option Halt → Type 0
 IsOpenAs Past p n what value ready None = what ≡ untried → IsSomeReady p n value ready
 IsOpenAs Past p n what value ready (Some h) = (what ≡ untried) × IsHalted Past p n h
 

@@ -8,7 +8,7 @@ ghost use Rattle.node_looks.specs.Evaluated.{PastPlaces, IsEvaluated, IsWorth, I
 
 use branch_tree::{Columns, Multipliers, Network, Scaled};
 use flow_program::Place;
-use frac128::Frac;
+use mixed_numbers::Mixed;
 use pgraph::Graph;
 use pns_problem::Problem;
 use std::alloc::{AllocError, Global};
@@ -17,8 +17,8 @@ use unit_sets::Node;
 /// The least cost of relaxed flows, and multipliers over their scale, which prove that no relaxed flows cost less than `low`.
 #[derive(Drop)]
 pub struct Bound {
-    pub value: Frac,
-    pub low: Frac,
+    pub value: Mixed,
+    pub low: Mixed,
     pub scaled: Scaled,
 }
 

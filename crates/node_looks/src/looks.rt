@@ -15,7 +15,7 @@ ghost use Rattle.node_looks.specs.Looks.{IsLooked, IsSameNode, IsSeen};
 use crate::evaluator::{Bound, Evaluation, Evaluator, Halt};
 use branch_choice::{Choice, choose};
 use branch_tree::{End, Network, Steps};
-use frac128::Frac;
+use mixed_numbers::Mixed;
 use neutral_extension::{Makers, Stop, extend_with};
 use pgraph::Graph;
 use pns_problem::Problem;
@@ -36,7 +36,7 @@ pub struct Looked {
     /// The node after its steps, with its end.
     pub cell: Cell,
     /// The value of an open leaf.
-    pub value: Frac,
+    pub value: Mixed,
     /// What is at hand for an open leaf.
     pub ready: Option<Ready>,
     /// The network that was found here.
@@ -46,8 +46,8 @@ pub struct Looked {
 }
 
 /// No cost.
-pub(crate) fn nothing() -> Frac {
-    Frac::of(0, 1)
+pub(crate) fn nothing() -> Mixed {
+    Mixed::of(0, 1)
 }
 
 /// A closed leaf.

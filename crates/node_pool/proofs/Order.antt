@@ -5,9 +5,9 @@ use Rattle.std.specs.List.{slice_get, find}
 use Rattle.std.specs.Ordering.{is_le, ordering_reverse}
 use Rattle.std.specs.declared.cmp.Ordering.{Ordering}
 use Rattle.std.specs.declared.cmp.Ordering.TheVariants.{Less, Equal, Greater}
-use Rattle.frac128.specs.declared.fraction.Frac.{Frac}
-use Rattle.frac128.specs.Order.{fraction_cmp}
-use Rattle.frac128.specs.OrderLaws.{fraction_cmp_total}
+use Rattle.mixed_numbers.specs.declared.number.Mixed.{Mixed}
+use Rattle.mixed_numbers.specs.Order.{mixed_cmp}
+use Rattle.mixed_numbers.specs.OrderLaws.{mixed_cmp_total}
 use Rattle.link_lists.specs.Lists.{has, without, inserted}
 use Rattle.link_lists.proofs.Cells.{has-here, has-later, has-without}
 use Rattle.std.proofs.lemmas.Bool.{and_parts}
@@ -26,47 +26,47 @@ not_greater_le Less h = refl
 not_greater_le Equal h = refl
 not_greater_le Greater h = absurd (h refl)
 
-less_at_most : (u v w : Frac) → fraction_cmp u v ≡ Less → (fraction_cmp v w ≡ Greater → ⊥) → fraction_cmp u w ≡ Less
-less_at_most u v w l fits = by (fraction_cmp v w) refl
+less_at_most : (u v w : Mixed) → mixed_cmp u v ≡ Less → (mixed_cmp v w ≡ Greater → ⊥) → mixed_cmp u w ≡ Less
+less_at_most u v w l fits = by (mixed_cmp v w) refl
   where
-    by : (o : Ordering) → fraction_cmp v w ≡ o → fraction_cmp u w ≡ Less
-    by Less e = fraction_cmp_total.trans u v w l e
+    by : (o : Ordering) → mixed_cmp v w ≡ o → mixed_cmp u w ≡ Less
+    by Less e = mixed_cmp_total.trans u v w l e
     by Greater e = absurd (fits e)
     by Equal e =
-        let back : fraction_cmp v u ≡ Greater = fraction_cmp_total.antisymm v u ∙ ap ordering_reverse l in
-        let same : fraction_cmp w u ≡ Greater = sym (fraction_cmp_total.congr v w u e) ∙ back in
-        fraction_cmp_total.antisymm u w ∙ ap ordering_reverse same
+        let back : mixed_cmp v u ≡ Greater = mixed_cmp_total.antisymm v u ∙ ap ordering_reverse l in
+        let same : mixed_cmp w u ≡ Greater = sym (mixed_cmp_total.congr v w u e) ∙ back in
+        mixed_cmp_total.antisymm u w ∙ ap ordering_reverse same
 
-le_at_most : (u v w : Frac) → is_le (fraction_cmp u v) ≡ true → (fraction_cmp v w ≡ Greater → ⊥) → is_le (fraction_cmp u w) ≡ true
-le_at_most u v w l fits = by (fraction_cmp u v) refl
+le_at_most : (u v w : Mixed) → is_le (mixed_cmp u v) ≡ true → (mixed_cmp v w ≡ Greater → ⊥) → is_le (mixed_cmp u w) ≡ true
+le_at_most u v w l fits = by (mixed_cmp u v) refl
   where
-    by : (o : Ordering) → fraction_cmp u v ≡ o → is_le (fraction_cmp u w) ≡ true
+    by : (o : Ordering) → mixed_cmp u v ≡ o → is_le (mixed_cmp u w) ≡ true
     by Less e = ap is_le (less_at_most u v w e fits)
-    by Equal e = ap is_le (fraction_cmp_total.congr u v w e) ∙ not_greater_le (fraction_cmp v w) fits
-    by Greater e = absurd (le_not_greater (fraction_cmp u v) l e)
+    by Equal e = ap is_le (mixed_cmp_total.congr u v w e) ∙ not_greater_le (mixed_cmp v w) fits
+    by Greater e = absurd (le_not_greater (mixed_cmp u v) l e)
 
 -- ---- the values that are there
 
-slice_get_at : (vs : List Frac) (c : ℕ) → c < length vs → (v : Frac) × (slice_get vs c ≡ Some v)
+slice_get_at : (vs : List Mixed) (c : ℕ) → c < length vs → (v : Mixed) × (slice_get vs c ≡ Some v)
 slice_get_at [] c lt = absurd (omega arith)
 slice_get_at (v ∷ vs) zero lt = (v, refl)
 slice_get_at (v ∷ vs) (suc c) lt = slice_get_at vs c (omega arith)
 
-slice_get_push : (vs : List Frac) (v : Frac) (c : ℕ) → c < length vs → slice_get (vs ++ v ∷ []) c ≡ slice_get vs c
+slice_get_push : (vs : List Mixed) (v : Mixed) (c : ℕ) → c < length vs → slice_get (vs ++ v ∷ []) c ≡ slice_get vs c
 slice_get_push [] v c lt = absurd (omega arith)
 slice_get_push (w ∷ vs) v zero lt = refl
 slice_get_push (w ∷ vs) v (suc c) lt = slice_get_push vs v c (omega arith)
 
-slice_get_new : (vs : List Frac) (v : Frac) → slice_get (vs ++ v ∷ []) (length vs) ≡ Some v
+slice_get_new : (vs : List Mixed) (v : Mixed) → slice_get (vs ++ v ∷ []) (length vs) ≡ Some v
 slice_get_new [] v = refl
 slice_get_new (w ∷ vs) v = slice_get_new vs v
 
-at_least_by : (vs : List Frac) (v w : Frac) (c : ℕ) → slice_get vs c ≡ Some w → is_at_least vs v c ≡ is_le (fraction_cmp v w)
+at_least_by : (vs : List Mixed) (v w : Mixed) (c : ℕ) → slice_get vs c ≡ Some w → is_at_least vs v c ≡ is_le (mixed_cmp v w)
 at_least_by vs v w c e = ap (at_most v) e
 
 -- ---- what is behind a leaf that has at least the value
 
-pub stays_at_least : (vs : List Frac) (v : Frac) (xs : List ℕ) → ((c : ℕ) → has xs c ≡ true → c < length vs) → IsRising vs xs → StaysTrue (is_at_least vs v) xs
+pub stays_at_least : (vs : List Mixed) (v : Mixed) (xs : List ℕ) → ((c : ℕ) → has xs c ≡ true → c < length vs) → IsRising vs xs → StaysTrue (is_at_least vs v) xs
 stays_at_least vs v [] known r = tt
 stays_at_least vs v (x ∷ xs) known r = (
   λ high y hy.
@@ -86,7 +86,7 @@ found_true t (x ∷ xs) c e = by (t x) refl (λ q. found_true t xs c q)
     by true q ih = let s : x ≡ c = let u = sym (ap (λ b. cond b (Some x) (find t xs)) q) ∙ e in cc in ap t (sym s) ∙ q
     by false q ih = ih (sym (ap (λ b. cond b (Some x) (find t xs)) q) ∙ e)
 
-pub placed_by : (vs : List Frac) (v : Frac) (c : ℕ) (xs : List ℕ) (o : Option ℕ) → o ≡ find (is_at_least vs v) xs → put_before c o xs ≡ placed vs v c xs
+pub placed_by : (vs : List Mixed) (v : Mixed) (c : ℕ) (xs : List ℕ) (o : Option ℕ) → o ≡ find (is_at_least vs v) xs → put_before c o xs ≡ placed vs v c xs
 placed_by vs v c [] None e = refl
 placed_by vs v c [] (Some b) e = cc
 placed_by vs v c (x ∷ xs) o e = by (is_at_least vs v x) refl (λ p q. placed_by vs v c xs p q)
@@ -105,7 +105,7 @@ placed_by vs v c (x ∷ xs) o e = by (is_at_least vs v x) refl (λ p q. placed_b
             differ : (b : ℕ) → Some b ≡ find (is_at_least vs v) xs → x ≡ b → ⊥
             differ b f s = both_ways (is_at_least vs v x) q (ap (is_at_least vs v) s ∙ found_true (is_at_least vs v) xs b (sym f))
 
-pub has-placed : (vs : List Frac) (v : Frac) (c : ℕ) (xs : List ℕ) (d : ℕ) → has (placed vs v c xs) d ≡ true → (d ≡ c) ⊎ (has xs d ≡ true)
+pub has-placed : (vs : List Mixed) (v : Mixed) (c : ℕ) (xs : List ℕ) (d : ℕ) → has (placed vs v c xs) d ≡ true → (d ≡ c) ⊎ (has xs d ≡ true)
 has-placed vs v c [] d h = elim (or_cases (c == d) false h) [ inl s ↦ inl (sym (eqb-true c d s)) | inr t ↦ inr t ]
 has-placed vs v c (x ∷ xs) d h = by (is_at_least vs v x) h (λ q. has-placed vs v c xs d q)
   where
@@ -117,29 +117,29 @@ has-placed vs v c (x ∷ xs) d h = by (is_at_least vs v x) h (λ q. has-placed v
     ]
 
 -- the order of old leaves, and with the new one
-at_most_more : (vs : List Frac) (v : Frac) (x y : ℕ) → x < length vs → y < length vs → IsAtMost vs x y → IsAtMost (vs ++ v ∷ []) x y
+at_most_more : (vs : List Mixed) (v : Mixed) (x y : ℕ) → x < length vs → y < length vs → IsAtMost vs x y → IsAtMost (vs ++ v ∷ []) x y
 at_most_more vs v x y lx ly h a b ea eb = h a b (sym (slice_get_push vs v x lx) ∙ ea) (sym (slice_get_push vs v y ly) ∙ eb)
 
-new_at_most : (vs : List Frac) (v : Frac) (y : ℕ) → y < length vs → is_at_least vs v y ≡ true → IsAtMost (vs ++ v ∷ []) (length vs) y
+new_at_most : (vs : List Mixed) (v : Mixed) (y : ℕ) → y < length vs → is_at_least vs v y ≡ true → IsAtMost (vs ++ v ∷ []) (length vs) y
 new_at_most vs v y ly high a b ea eb g =
     let s : v ≡ a = let e : Some v ≡ Some a = sym (slice_get_new vs v) ∙ ea in cc in
-    le_not_greater (fraction_cmp v b) (sym (at_least_by vs v b y (sym (slice_get_push vs v y ly) ∙ eb)) ∙ high) (ap (λ (w : Frac). fraction_cmp w b) s ∙ g)
+    le_not_greater (mixed_cmp v b) (sym (at_least_by vs v b y (sym (slice_get_push vs v y ly) ∙ eb)) ∙ high) (ap (λ (w : Mixed). mixed_cmp w b) s ∙ g)
 
-at_most_new : (vs : List Frac) (v : Frac) (x : ℕ) → x < length vs → is_at_least vs v x ≡ false → IsAtMost (vs ++ v ∷ []) x (length vs)
+at_most_new : (vs : List Mixed) (v : Mixed) (x : ℕ) → x < length vs → is_at_least vs v x ≡ false → IsAtMost (vs ++ v ∷ []) x (length vs)
 at_most_new vs v x lx low a b ea eb g =
     let s : v ≡ b = let e : Some v ≡ Some b = sym (slice_get_new vs v) ∙ eb in cc in
-    let back : fraction_cmp b a ≡ Less = fraction_cmp_total.antisymm b a ∙ ap ordering_reverse g in
-    let l : is_le (fraction_cmp v a) ≡ true = ap (λ (w : Frac). is_le (fraction_cmp w a)) s ∙ ap is_le back in
+    let back : mixed_cmp b a ≡ Less = mixed_cmp_total.antisymm b a ∙ ap ordering_reverse g in
+    let l : is_le (mixed_cmp v a) ≡ true = ap (λ (w : Mixed). is_le (mixed_cmp w a)) s ∙ ap is_le back in
     both_ways (is_at_least vs v x) low (at_least_by vs v a x (sym (slice_get_push vs v x lx) ∙ ea) ∙ l)
 
-rising_more : (vs : List Frac) (v : Frac) (xs : List ℕ) → ((c : ℕ) → has xs c ≡ true → c < length vs) → IsRising vs xs → IsRising (vs ++ v ∷ []) xs
+rising_more : (vs : List Mixed) (v : Mixed) (xs : List ℕ) → ((c : ℕ) → has xs c ≡ true → c < length vs) → IsRising vs xs → IsRising (vs ++ v ∷ []) xs
 rising_more vs v [] known r = tt
 rising_more vs v (x ∷ xs) known r = (
   λ y hy. at_most_more vs v x y (known x (has-here x xs)) (known y (has-later x y xs hy)) (r.0 y hy),
   rising_more vs v xs (λ c h. known c (has-later x c xs h)) r.1,
 )
 
-pub rising_placed : (vs : List Frac) (v : Frac) (xs : List ℕ) → ((c : ℕ) → has xs c ≡ true → c < length vs) → IsRising vs xs → IsRising (vs ++ v ∷ []) (placed vs v (length vs) xs)
+pub rising_placed : (vs : List Mixed) (v : Mixed) (xs : List ℕ) → ((c : ℕ) → has xs c ≡ true → c < length vs) → IsRising vs xs → IsRising (vs ++ v ∷ []) (placed vs v (length vs) xs)
 rising_placed vs v [] known r = (λ y h. absurd (both_ways false refl h), tt)
 rising_placed vs v (x ∷ xs) known r = by (is_at_least vs v x) refl (rising_placed vs v xs (λ c h. known c (has-later x c xs h)) r.1)
   where
@@ -164,7 +164,7 @@ rising_placed vs v (x ∷ xs) known r = by (is_at_least vs v x) refl (rising_pla
 pub has-less : (c : ℕ) (xs : List ℕ) (d : ℕ) → has (without c xs) d ≡ true → has xs d ≡ true
 has-less c xs d h = (and_parts (has xs d) (not (c == d)) (sym (has-without c xs d) ∙ h)).0
 
-pub rising_without : (vs : List Frac) (c : ℕ) (xs : List ℕ) → IsRising vs xs → IsRising vs (without c xs)
+pub rising_without : (vs : List Mixed) (c : ℕ) (xs : List ℕ) → IsRising vs xs → IsRising vs (without c xs)
 rising_without vs c [] r = tt
 rising_without vs c (x ∷ xs) r = by (not (c == x)) (rising_without vs c xs r.1)
   where

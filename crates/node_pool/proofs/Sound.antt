@@ -1,14 +1,14 @@
 -- The parts of a pool fit together after each call.
 use Rattle.std.proofs.Common.{◌≡◌, ℕ, ◌+◌, ◌<◌, ◌≤◌, Bool, true, false, List, [], ◌∷◌, ◌++◌, length, Option, refl, sym, ap, ◌∙◌, subst, inl, inr, ◌^◌, length-append, arith}
 use Rattle.std.specs.List.{find}
-use Rattle.frac128.specs.declared.fraction.Frac.{Frac}
+use Rattle.mixed_numbers.specs.declared.number.Mixed.{Mixed}
 use Rattle.link_lists.specs.Lists.{has, without}
 use Rattle.node_pool.specs.Tree.{Branches, with_node}
 use Rattle.node_pool.specs.Order.{OpenLeaves, is_at_least, placed, put_before, IsRising}
 use Rattle.node_pool.specs.Sound.{IsSound}
 use Rattle.node_pool.proofs.Order.{placed_by, has-placed, rising_placed, rising_without, has-less}
 
-pub sound_shut : (t : Branches) (vs : List Frac) (vr pl pr : ℕ) (o : OpenLeaves) (id : ℕ) → IsSound t vs vr pl pr o → IsSound t vs vr pl pr (record { leaves = without id o.leaves; room = o.room })
+pub sound_shut : (t : Branches) (vs : List Mixed) (vr pl pr : ℕ) (o : OpenLeaves) (id : ℕ) → IsSound t vs vr pl pr o → IsSound t vs vr pl pr (record { leaves = without id o.leaves; room = o.room })
 sound_shut t vs vr pl pr o id h = record {
   some_values = h.some_values;
   some_payloads = h.some_payloads;
@@ -22,7 +22,7 @@ sound_shut t vs vr pl pr o id h = record {
 }
 
 -- more room in the vectors alone
-pub sound_roomy : (t t' : Branches) (vs vs' : List Frac) (vr vr' pl pl' pr pr' : ℕ) (o : OpenLeaves) → IsSound t vs vr pl pr o → t'.parents ≡ t.parents → t.room ≤ t'.room → vs' ≡ vs → vr ≤ vr' → pl' ≡ pl → pr ≤ pr' → IsSound t' vs' vr' pl' pr' o
+pub sound_roomy : (t t' : Branches) (vs vs' : List Mixed) (vr vr' pl pl' pr pr' : ℕ) (o : OpenLeaves) → IsSound t vs vr pl pr o → t'.parents ≡ t.parents → t.room ≤ t'.room → vs' ≡ vs → vr ≤ vr' → pl' ≡ pl → pr ≤ pr' → IsSound t' vs' vr' pl' pr' o
 sound_roomy t t' vs vs' vr vr' pl pl' pr pr' o h et lt ev lv ep lp =
     let n : length t'.parents ≡ length t.parents = ap length et in record {
       some_values = ap length ev ∙ (h.some_values ∙ sym n);
@@ -37,7 +37,7 @@ sound_roomy t t' vs vs' vr vr' pl pl' pr pr' o h et lt ev lv ep lp =
     }
 
 -- and more cells for leaves
-pub sound_grown : (t : Branches) (vs : List Frac) (vr pl pr : ℕ) (o : OpenLeaves) (more : ℕ) → IsSound t vs vr pl pr o → o.room + more < 2 ^ 32 → o.room + more ≤ t.room → o.room + more ≤ vr → o.room + more ≤ pr → IsSound t vs vr pl pr (record { leaves = o.leaves; room = o.room + more })
+pub sound_grown : (t : Branches) (vs : List Mixed) (vr pl pr : ℕ) (o : OpenLeaves) (more : ℕ) → IsSound t vs vr pl pr o → o.room + more < 2 ^ 32 → o.room + more ≤ t.room → o.room + more ≤ vr → o.room + more ≤ pr → IsSound t vs vr pl pr (record { leaves = o.leaves; room = o.room + more })
 sound_grown t vs vr pl pr o more h small a b d = record {
   some_values = h.some_values;
   some_payloads = h.some_payloads;
@@ -51,7 +51,7 @@ sound_grown t vs vr pl pr o more h small a b d = record {
 }
 
 -- one node more
-module _ (t : Branches) (vs : List Frac) (vr pl pr : ℕ) (o : OpenLeaves) (p : Option ℕ) (v : Frac) (before : Option ℕ) (h : IsSound t vs vr pl pr o) (room : length t.parents < o.room) (e : before ≡ find (is_at_least vs v) o.leaves) where
+module _ (t : Branches) (vs : List Mixed) (vr pl pr : ℕ) (o : OpenLeaves) (p : Option ℕ) (v : Mixed) (before : Option ℕ) (h : IsSound t vs vr pl pr o) (room : length t.parents < o.room) (e : before ≡ find (is_at_least vs v) o.leaves) where
   pub leaves_added : put_before (length t.parents) before o.leaves ≡ placed vs v (length t.parents) o.leaves
   leaves_added = placed_by vs v (length t.parents) o.leaves before e
 

@@ -3,30 +3,30 @@ use Rattle.std.specs.Prelude.{◌≡◌, ℕ, Bool, true, false, cond, List, [],
 use Rattle.std.specs.List.{slice_get}
 use Rattle.std.specs.Ordering.{is_le}
 use Rattle.std.specs.declared.cmp.Ordering.TheVariants.{Greater}
-use Rattle.frac128.specs.declared.fraction.Frac.{Frac}
-use Rattle.frac128.specs.Order.{fraction_cmp}
+use Rattle.mixed_numbers.specs.declared.number.Mixed.{Mixed}
+use Rattle.mixed_numbers.specs.Order.{mixed_cmp}
 use Rattle.link_lists.specs.Lists.{has, inserted}
 
 -- the other value is there, and v is at most that
-abbrev pub at_most : Frac → Option Frac → Bool
+abbrev pub at_most : Mixed → Option Mixed → Bool
 at_most v None = false
-at_most v (Some w) = is_le (fraction_cmp v w)
+at_most v (Some w) = is_le (mixed_cmp v w)
 
 -- leaf c has at least the value v, where the values are vs
-abbrev pub is_at_least : List Frac → Frac → ℕ → Bool
+abbrev pub is_at_least : List Mixed → Mixed → ℕ → Bool
 is_at_least vs v c = at_most v (slice_get vs c)
 
 -- the leaves with the leaf c of value v: before the first that has at least this value, so before all of the same value
-abbrev pub placed : List Frac → Frac → ℕ → List ℕ → List ℕ
+abbrev pub placed : List Mixed → Mixed → ℕ → List ℕ → List ℕ
 placed vs v c [] = c ∷ []
 placed vs v c (x ∷ xs) = cond (is_at_least vs v x) (c ∷ x ∷ xs) (x ∷ placed vs v c xs)
 
 -- the value of x is at most that of y
-abbrev pub IsAtMost : List Frac → ℕ → ℕ → Type 0
-IsAtMost vs x y = (v w : Frac) → slice_get vs x ≡ Some v → slice_get vs y ≡ Some w → fraction_cmp v w ≡ Greater → ⊥
+abbrev pub IsAtMost : List Mixed → ℕ → ℕ → Type 0
+IsAtMost vs x y = (v w : Mixed) → slice_get vs x ≡ Some v → slice_get vs y ≡ Some w → mixed_cmp v w ≡ Greater → ⊥
 
 -- no leaf has a greater value than one behind it
-abbrev pub IsRising : List Frac → List ℕ → Type 0
+abbrev pub IsRising : List Mixed → List ℕ → Type 0
 IsRising vs [] = Unit {0}
 IsRising vs (x ∷ xs) = ((y : ℕ) → has xs y ≡ true → IsAtMost vs x y) × IsRising vs xs
 

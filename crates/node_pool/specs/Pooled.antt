@@ -1,13 +1,13 @@
 -- A pool of nodes: what contracts see.
 use Rattle.std.specs.Prelude.{◌≡◌, ℕ, ◌<◌, false, List, [], ◌∷◌, ◌++◌, length, slice_set, Option, Some, None}
-use Rattle.frac128.specs.declared.fraction.Frac.{Frac}
+use Rattle.mixed_numbers.specs.declared.number.Mixed.{Mixed}
 use Rattle.link_lists.specs.Lists.{has, without}
 use Rattle.node_pool.specs.Order.{placed}
 
 -- the parents, values and payloads of the nodes by their numbers, the open leaves by rising value, and so many adds that cannot fail
 pub record Pooled (T : Type 0) : Type 0 where
   pub parents : List (Option ℕ)
-  pub values : List Frac
+  pub values : List Mixed
   pub payloads : List T
   pub leaves : List ℕ
   pub spare : ℕ
@@ -31,7 +31,7 @@ module _ {T : Type 0} where
     pub leaves : new.leaves ≡ old.leaves
 
   -- one node more, an open leaf
-  pub record IsWithLeaf (old : Pooled T) (parent : Option ℕ) (value : Frac) (payload : T) (new : Pooled T) : Type 0 where
+  pub record IsWithLeaf (old : Pooled T) (parent : Option ℕ) (value : Mixed) (payload : T) (new : Pooled T) : Type 0 where
     pub parents : new.parents ≡ old.parents ++ parent ∷ []
     pub values : new.values ≡ old.values ++ value ∷ []
     pub payloads : new.payloads ≡ old.payloads ++ payload ∷ []

@@ -5,7 +5,7 @@
 //! are the leaves' numbers, well mixed, so that n leaves hang some 2 log n deep. Ways end after 256 steps, far more than such trees
 //! are deep (57 levels for 2 million leaves).
 
-use frac128::Frac;
+use mixed_numbers::Mixed;
 use std::alloc::{AllocError, Global};
 use std::cmp::Ordering;
 
@@ -46,7 +46,7 @@ fn rank(leaf: u32) -> u32 {
 }
 
 /// Whether the leaf comes before the other: its value is less, or the same and it is the newer one.
-fn comes_before(values: &Vec<Frac>, leaf: u32, other: u32) -> bool {
+fn comes_before(values: &Vec<Mixed>, leaf: u32, other: u32) -> bool {
     let (Some(value), Some(than)) = (values.get(leaf as usize), values.get(other as usize)) else {
         return false;
     };
@@ -101,7 +101,7 @@ impl Guide {
     }
 
     /// The last leaf whose value is below this one.
-    pub fn last_below(&self, values: &Vec<Frac>, value: &Frac) -> Option<u32> {
+    pub fn last_below(&self, values: &Vec<Mixed>, value: &Mixed) -> Option<u32> {
         let mut last = None;
         let mut next = self.root;
         for _ in 0..MOST_STEPS {
@@ -124,7 +124,7 @@ impl Guide {
     }
 
     /// The place of a leaf below all leaves of higher rank.
-    fn place_of(&self, values: &Vec<Frac>, leaf: u32) -> Place {
+    fn place_of(&self, values: &Vec<Mixed>, leaf: u32) -> Place {
         let mut place = Place::Root;
         for _ in 0..MOST_STEPS {
             match self.at(place) {
@@ -142,7 +142,7 @@ impl Guide {
     }
 
     /// Parts what hung at the leaf's place into the leaves before it and those behind it, and hangs both below it.
-    fn part(&mut self, values: &Vec<Frac>, leaf: u32, below: Option<u32>) {
+    fn part(&mut self, values: &Vec<Mixed>, leaf: u32, below: Option<u32>) {
         let mut before = Place::Before(leaf);
         let mut behind = Place::Behind(leaf);
         let mut rest = below;
@@ -166,7 +166,7 @@ impl Guide {
     }
 
     /// Adds a leaf.
-    pub fn put(&mut self, values: &Vec<Frac>, leaf: u32) {
+    pub fn put(&mut self, values: &Vec<Mixed>, leaf: u32) {
         let place = self.place_of(values, leaf);
         let below = self.at(place);
         self.hang(place, Some(leaf));
@@ -196,7 +196,7 @@ impl Guide {
     }
 
     /// Takes a leaf out.
-    pub fn take(&mut self, values: &Vec<Frac>, leaf: u32) {
+    pub fn take(&mut self, values: &Vec<Mixed>, leaf: u32) {
         let mut place = Place::Root;
         for _ in 0..MOST_STEPS {
             match self.at(place) {

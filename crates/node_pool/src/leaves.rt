@@ -2,13 +2,13 @@
 
 ghost use Rattle.std.specs.Prelude.{◌≡◌, [], ℕ, true, false, Some, ◌<◌, ◌+◌, ◌^◌, length, slice_set, IfOk, OnErr};
 ghost use Rattle.std.specs.List.{find};
-ghost use Rattle.frac128.specs.Order.{fraction_cmp};
+ghost use Rattle.mixed_numbers.specs.Order.{mixed_cmp};
 ghost use Rattle.link_lists.specs.Lists.{first, has, row, without, IsListed};
 ghost use Rattle.node_pool.specs.Order.{OpenLeaves, is_at_least, put_before, IsRising};
 
 use crate::guide::Guide;
-use frac128::Frac;
 use link_lists::Lists;
+use mixed_numbers::Mixed;
 use std::alloc::{AllocError, Global};
 use std::marker::Model;
 
@@ -37,7 +37,7 @@ impl Model for Leaves {
 }
 
 /// Whether the leaf has at least the value `value`.
-fn is_at_least(values: &Vec<Frac>, value: &Frac, leaf: u32) -> bool
+fn is_at_least(values: &Vec<Mixed>, value: &Mixed, leaf: u32) -> bool
     requires { leaf < length values.now.items }
     ensures { result ≡ is_at_least values.now.items value.now leaf }
 {
@@ -45,7 +45,7 @@ fn is_at_least(values: &Vec<Frac>, value: &Frac, leaf: u32) -> bool
 }
 
 /// From a leaf of less value on to the first one that has at least this one.
-fn on_to_first(lists: &Lists, values: &Vec<Frac>, value: &Frac, leaf: u32) -> Option<u32>
+fn on_to_first(lists: &Lists, values: &Vec<Mixed>, value: &Mixed, leaf: u32) -> Option<u32>
     requires listed { has (row lists.now.lists 0) leaf ≡ true }
     requires lower { is_at_least values.now.items value.now leaf ≡ false }
     requires known { (c : ℕ) → has (row lists.now.lists 0) c ≡ true → c < length values.now.items }
@@ -108,7 +108,7 @@ impl Leaves {
     }
 
     /// A leaf of less value, as close as the guide leads to the first one that has at least this one.
-    fn near(&self, values: &Vec<Frac>, value: &Frac) -> Option<u32>
+    fn near(&self, values: &Vec<Mixed>, value: &Mixed) -> Option<u32>
         requires known { (c : ℕ) → has self.now.leaves c ≡ true → c < length values.now.items }
         ensures listed { (leaf : ℕ) → result ≡ Some leaf → has self.now.leaves leaf ≡ true }
         ensures lower { (leaf : ℕ) → result ≡ Some leaf → is_at_least values.now.items value.now leaf ≡ false }
@@ -123,7 +123,7 @@ impl Leaves {
     }
 
     /// The first leaf that has at least this value.
-    pub fn first_at_least(&self, values: &Vec<Frac>, value: &Frac) -> Option<u32>
+    pub fn first_at_least(&self, values: &Vec<Mixed>, value: &Mixed) -> Option<u32>
         requires known { (c : ℕ) → has self.now.leaves c ≡ true → c < length values.now.items }
         requires rising { IsRising values.now.items self.now.leaves }
         ensures { result ≡ find (is_at_least values.now.items value.now) self.now.leaves }
@@ -134,7 +134,7 @@ impl Leaves {
         }
     }
 
-    fn first_from_front(&self, values: &Vec<Frac>, value: &Frac) -> Option<u32>
+    fn first_from_front(&self, values: &Vec<Mixed>, value: &Mixed) -> Option<u32>
         requires known { (c : ℕ) → has self.now.leaves c ≡ true → c < length values.now.items }
         requires rising { IsRising values.now.items self.now.leaves }
         ensures { result ≡ find (is_at_least values.now.items value.now) self.now.leaves }
@@ -148,7 +148,7 @@ impl Leaves {
     }
 
     /// Puts a leaf just before another, or at the end.
-    pub fn put(&mut self, values: &Vec<Frac>, leaf: u32, before: Option<u32>)
+    pub fn put(&mut self, values: &Vec<Mixed>, leaf: u32, before: Option<u32>)
         requires leaf { leaf < self.old.room }
         requires free { has self.old.leaves leaf ≡ false }
         requires before { (b : ℕ) → before ≡ Some b → has self.old.leaves b ≡ true }
@@ -163,7 +163,7 @@ impl Leaves {
     }
 
     /// Takes a leaf out.
-    pub fn take(&mut self, values: &Vec<Frac>, leaf: u32)
+    pub fn take(&mut self, values: &Vec<Mixed>, leaf: u32)
         requires { has self.old.leaves leaf ≡ true }
         ensures { self.new ≡ record { leaves = without leaf self.old.leaves; room = self.old.room } }
     {

@@ -10,7 +10,7 @@ ghost use Rattle.node_pool.specs.Pooled.{Pooled, IsParent, IsShut, AreSameNodes,
 
 use crate::leaves::Leaves;
 use crate::tree::Tree;
-use frac128::Frac;
+use mixed_numbers::Mixed;
 use std::alloc::{AllocError, Global};
 use std::marker::Model;
 
@@ -19,7 +19,7 @@ use std::marker::Model;
 #[derive(Drop)]
 pub struct Pool<T> {
     tree: Tree,
-    values: Vec<Frac>,
+    values: Vec<Mixed>,
     payloads: Vec<T>,
     leaves: Leaves,
 }
@@ -93,7 +93,7 @@ impl<T> Pool<T> {
     }
 
     /// The value that the node was added with.
-    pub fn value(&self, id: u32) -> Frac
+    pub fn value(&self, id: u32) -> Mixed
         requires { id < length self.now.parents }
         ensures { slice_get self.now.values id ≡ Some result }
     {
@@ -151,7 +151,7 @@ impl<T> Pool<T> {
         self.reserve(count.max(8).min(u32::MAX - count))
     }
 
-    fn add_within(&mut self, parent: Option<u32>, value: Frac, payload: T) -> u32
+    fn add_within(&mut self, parent: Option<u32>, value: Mixed, payload: T) -> u32
         requires parent { IsParent self.old parent }
         requires spare { 0 < self.old.spare }
         ensures id { result ≡ length self.old.parents }
@@ -171,7 +171,7 @@ impl<T> Pool<T> {
     /// each other has one that is shut. `Err` hands the payload back for want of memory. It cannot come where `spare` is above 0.
     ///
     /// The leaf's place is sought in a balanced tree of the open leaves, so an add takes time with the logarithm of their number.
-    pub fn add(&mut self, parent: Option<u32>, value: Frac, payload: T) -> Result<u32, T>
+    pub fn add(&mut self, parent: Option<u32>, value: Mixed, payload: T) -> Result<u32, T>
         requires parent { IsParent self.old parent }
         requires few { length self.old.parents < 2 ^ 32 - 1 }
         ensures id { IfOk result (λ id. id ≡ length self.old.parents) }

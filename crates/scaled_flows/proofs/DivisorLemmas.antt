@@ -126,31 +126,23 @@ module _ (net : Net) (s : Divisors) (taken free : Node)
   low_of_units : (g : ℤ) (n : Node) (i : ℕ) → pos 1 ≤ℤ g → i < net.graph.units → Divides g (unit_low net taken i) → Divides g (unit_low net n i)
   low_of_units g n i p l h = divides_either g (n.inside i) (net.least i) p (subst (λ (b : Bool). Divides g (cond b (net.least i) (pos 0))) (all_inside i l) h)
 
-  fixed_of_units : (g : ℤ) (n : Node) → pos 1 ≤ℤ g → ((i : ℕ) → i < net.graph.units → Divides g (trillion *ℤ net.fix i)) → Divides g (fixed_cost net n)
-  fixed_of_units g n p h =
-      subst (Divides g) (total-mul trillion net.fix (units_of net n.inside))
-      (divides_sum g p (λ i. trillion *ℤ net.fix i) (units_of net n.inside) (All-listed (λ i. Divides g (trillion *ℤ net.fix i)) net.graph.units n.inside (λ i l e. h i l)))
-
   -- what divides the numbers of these two nodes divides those of all
   pub divisors_from :
       length s.rates ≡ net.graph.materials
       → ((j : ℕ) → j < net.graph.materials → pos 1 ≤ℤ rate_divisor s j)
-      → pos 1 ≤ℤ s.sizes → pos 1 ≤ℤ s.costs → pos 1 ≤ℤ s.unit
+      → pos 1 ≤ℤ s.sizes → pos 1 ≤ℤ s.costs
       → ((j i : ℕ) → j < net.graph.materials → i < net.graph.units → unsigned_abs (rate_divisor s j) ∣ unsigned_abs (net.rate j i))
       → ((j : ℕ) → j < net.graph.materials → (unsigned_abs (rate_divisor s j) ∣ unsigned_abs (row_low net taken j)) × (unsigned_abs (rate_divisor s j) ∣ unsigned_abs (row_high net taken j)))
       → ((j : ℕ) → j < net.graph.materials → mats net.graph (stays taken) j ≡ true
       → (unsigned_abs s.sizes ∣ unsigned_abs (int_div (row_low net taken j) (rate_divisor s j))) × (unsigned_abs s.sizes ∣ unsigned_abs (int_div (row_high net taken j) (rate_divisor s j))))
       → ((i : ℕ) → i < net.graph.units → (unsigned_abs s.sizes ∣ unsigned_abs (unit_low net taken i)) × (unsigned_abs s.sizes ∣ unsigned_abs (net.most i)))
       → ((i : ℕ) → i < net.graph.units → (unsigned_abs s.costs ∣ unsigned_abs (unit_cost net taken i)) × (unsigned_abs s.costs ∣ unsigned_abs (unit_cost net free i)))
-      → ((i : ℕ) → i < net.graph.units → unsigned_abs s.unit ∣ unsigned_abs (trillion *ℤ net.fix i))
-      → unsigned_abs s.unit ∣ unsigned_abs (s.costs *ℤ s.sizes)
       → AreDivisors net s
-  divisors_from count rates_positive sizes_positive costs_positive unit_positive rates ends rows sizes costs fixed worth = record {
+  divisors_from count rates_positive sizes_positive costs_positive rates ends rows sizes costs = record {
     count = count;
     rates_positive = rates_positive;
     sizes_positive = sizes_positive;
     costs_positive = costs_positive;
-    unit_positive = unit_positive;
     rate = λ j i l k. divides_abs (rate_divisor s j) (net.rate j i) (rates_positive j l) (rates j i l k);
     size_low = λ n i l. low_of_units s.sizes n i sizes_positive l (divides_abs s.sizes (unit_low net taken i) sizes_positive (sizes i l).0);
     size_high = λ i l. divides_abs s.sizes (net.most i) sizes_positive (sizes i l).1;
@@ -161,6 +153,4 @@ module _ (net : Net) (s : Divisors) (taken free : Node)
         (divides_both (rate_divisor s j) s.sizes (row_high net taken j) (rates_positive j l) sizes_positive (divides_abs (rate_divisor s j) (row_high net taken j) (rates_positive j l) (ends j l).1)
         (divides_abs s.sizes (int_div (row_high net taken j) (rate_divisor s j)) sizes_positive (rows j l (row_of_all n j h)).1));
     cost = λ n i l. cost_of_either s.costs n i l (divides_abs s.costs (unit_cost net taken i) costs_positive (costs i l).0) (divides_abs s.costs (unit_cost net free i) costs_positive (costs i l).1);
-    fixed = λ n. fixed_of_units s.unit n unit_positive (λ i l. divides_abs s.unit (trillion *ℤ net.fix i) unit_positive (fixed i l));
-    worth = divides_abs s.unit (s.costs *ℤ s.sizes) unit_positive worth;
   }

@@ -13,7 +13,7 @@ use Rattle.int_rows.specs.Range.{InRange}
 use Rattle.number_sets.specs.Sets.{has, IsWithin}
 use Rattle.pns_rules.specs.Nodes.{Node}
 use Rattle.problem_rules.specs.Problem.{Problem, OperatingUnit, rate_of}
-use Rattle.flow_rules.specs.Net.{Net, trillion}
+use Rattle.flow_rules.specs.Net.{Net}
 use Rattle.flow_rules.specs.Relaxed.{row_low, row_high, unit_low, unit_cost}
 use Rattle.flow_program.proofs.WalkLemmas.{IsNext, rest_within, passed}
 use Rattle.scaled_flows.specs.Found.{AreRateDivisors, AreUnitDivisors, DividesRow}
@@ -59,37 +59,28 @@ rates_more net t rates g k p d lo hi h = record {
 }
 
 -- ---- the numbers of units
-pub units_more : (net : Net) (t f : Node) (s c x s' c' x' : ℤ) (k : ℕ) → unsigned_abs s' ∣ unsigned_abs s → unsigned_abs c' ∣ unsigned_abs c → unsigned_abs x' ∣ unsigned_abs x
+pub units_more : (net : Net) (t f : Node) (s c s' c' : ℤ) (k : ℕ) → unsigned_abs s' ∣ unsigned_abs s → unsigned_abs c' ∣ unsigned_abs c
     → unsigned_abs s' ∣ unsigned_abs (unit_low net t k) → unsigned_abs s' ∣ unsigned_abs (net.most k) → unsigned_abs c' ∣ unsigned_abs (unit_cost net t k) → unsigned_abs c' ∣ unsigned_abs (unit_cost net f k)
-    → unsigned_abs x' ∣ unsigned_abs (trillion *ℤ net.fix k) → AreUnitDivisors net t f s c x k → AreUnitDivisors net t f s' c' x' (k + 1)
-units_more net t f s c x s' c' x' k ds dc dx lo hi ct cf fx h = record {
+    → AreUnitDivisors net t f s c k → AreUnitDivisors net t f s' c' (k + 1)
+units_more net t f s c s' c' k ds dc lo hi ct cf h = record {
   low = divides_more (unit_low net t) s' s k ds lo h.low;
   high = divides_more net.most s' s k ds hi h.high;
   taken_cost = divides_more (unit_cost net t) c' c k dc ct h.taken_cost;
   free_cost = divides_more (unit_cost net f) c' c k dc cf h.free_cost;
-  fixed_cost = divides_more (λ i. trillion *ℤ net.fix i) x' x k dx fx h.fixed_cost;
 }
 
--- with all three in range
-pub record IsUnitsSoFar (net : Net) (t f : Node) (s c x : ℤ) (k : ℕ) : Type 0 where
-  pub found : AreUnitDivisors net t f s c x k
+-- with both in range
+pub record IsUnitsSoFar (net : Net) (t f : Node) (s c : ℤ) (k : ℕ) : Type 0 where
+  pub found : AreUnitDivisors net t f s c k
   pub sizes_in_range : InRange s
   pub costs_in_range : InRange c
-  pub fixed_in_range : InRange x
 
-pub units_begin : (net : Net) (t f : Node) → IsUnitsSoFar net t f (pos 0) (pos 0) (pos 0) 0
+pub units_begin : (net : Net) (t f : Node) → IsUnitsSoFar net t f (pos 0) (pos 0) 0
 units_begin net t f = record {
-  found = record { low = λ i l. absurd (omega arith); high = λ i l. absurd (omega arith); taken_cost = λ i l. absurd (omega arith); free_cost = λ i l. absurd (omega arith); fixed_cost = λ i l. absurd (omega arith) };
+  found = record { low = λ i l. absurd (omega arith); high = λ i l. absurd (omega arith); taken_cost = λ i l. absurd (omega arith); free_cost = λ i l. absurd (omega arith) };
   sizes_in_range = omega (arith, ints);
   costs_in_range = omega (arith, ints);
-  fixed_in_range = omega (arith, ints);
 }
-
-alone : (t f : ℤ) → t *ℤ (f +ℤ pos 0) ≡ t *ℤ f
-alone t f = let e : f +ℤ pos 0 ≡ f = omega (arith, ints) in ap (λ (v : ℤ). t *ℤ v) e
-
-pub fixed_alone : (net : Net) (u : ℕ) → trillion *ℤ (net.fix u +ℤ pos 0) ≡ trillion *ℤ net.fix u
-fixed_alone net u = alone trillion (net.fix u)
 
 -- ---- the ends of rows
 pub quotient_small : (x g q : ℤ) → pos 1 ≤ℤ g → g *ℤ q ≡ x → InRange x → InRange q

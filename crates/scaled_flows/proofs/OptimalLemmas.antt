@@ -1,10 +1,9 @@
 -- Scaled sizes as relaxed flows, their cost, and that settled ones cost the least.
 use Rattle.std.proofs.Common.{◌≡◌, ℕ, ◌<◌, true, refl, sym, ap, ◌∙◌, subst, arith, pos, ℤ, ◌+ℤ◌, ◌-ℤ◌, ◌*ℤ◌, ◌≤ℤ◌, ◌<ℤ◌}
-use Rattle.std.specs.Prelude.{int_div}
 use Rattle.std.specs.List.{AllByRecursion}
 use Rattle.std.proofs.lemmas.Int.{ints}
 use Rattle.integer_laws.specs.Total.{total}
-use Rattle.integer_laws.proofs.Ring.{ring_z, V, ◌⊗◌, ◌⊕◌, ring, mul_assoc_z}
+use Rattle.integer_laws.proofs.Ring.{ring_z, V, ◌⊗◌, ◌⊕◌, ring, mul_assoc_z, mul_comm_z}
 use Rattle.integer_laws.proofs.Order.{mul-le_left, cancel_le}
 use Rattle.integer_laws.proofs.Totals.{total-agree, total-mul}
 use Rattle.pns_rules.specs.Structure.{mats}
@@ -96,15 +95,10 @@ module _ (net : Net) (s : Divisors) (divide : AreDivisors net s) (n : Node) wher
       ∙ total-mul (s.costs *ℤ s.sizes) (λ i. scaled_cost net s n i *ℤ z i) (units net n)
 
   -- ---- the cost of scaled sizes
-  unit_taken : (u k d w c : ℤ) → d *ℤ (u *ℤ k) +ℤ (u *ℤ w) *ℤ c ≡ u *ℤ (k *ℤ d +ℤ w *ℤ c)
-  unit_taken u k d w c = ring (V d ⊗ (V u ⊗ V k) ⊕ (V u ⊗ V w) ⊗ V c) (V u ⊗ (V k ⊗ V d ⊕ V w ⊗ V c)) (omega arith)
-
-  pub cost_counted : (z : ℕ → ℤ) (d : ℤ) → relaxed_cost net n (λ i. s.sizes *ℤ z i) d ≡ s.unit *ℤ value_over net s n z d
+  pub cost_counted : (z : ℕ → ℤ) (d : ℤ) → relaxed_cost net n (λ i. s.sizes *ℤ z i) d ≡ value_over net s n z d
   cost_counted z d =
       ap (λ (c : ℤ). d *ℤ fixed_cost net n +ℤ c) (costs_moved z)
-      ∙ ap (λ (f : ℤ). d *ℤ f +ℤ (s.costs *ℤ s.sizes) *ℤ size_costs net s n z) (sym (divide.fixed n))
-      ∙ ap (λ (f : ℤ). d *ℤ (s.unit *ℤ int_div (fixed_cost net n) s.unit) +ℤ f *ℤ size_costs net s n z) (sym divide.worth)
-      ∙ unit_taken s.unit (int_div (fixed_cost net n) s.unit) d (int_div (s.costs *ℤ s.sizes) s.unit) (size_costs net s n z)
+      ∙ ap (λ (f : ℤ). f +ℤ (s.costs *ℤ s.sizes) *ℤ size_costs net s n z) (mul_comm_z d (fixed_cost net n))
 
   -- ---- scaled sizes in their ranges
   module _ (z : ℕ → ℤ) (d scale : ℤ) (y : ℕ → ℤ) (settled : AreSettled net s n z d scale y) where
@@ -141,64 +135,29 @@ module _ (net : Net) (s : Divisors) (divide : AreDivisors net s) (n : Node) wher
         (row_below_back (row_high net n j) (rate_divisor s j) s.sizes (row_ceiling net s n j) k (row_balance net n w j) (scaled_balance net s n w j) (from_one (rate_divisor s j) (divide.rates_positive j l)) (divide.row_high n j l h) (balance_of w j l) (flows.high j l h))))
 
     -- ---- the value
-    module _ (num den : ℤ) (over : pos 1 ≤ℤ den) (is : num *ℤ d ≡ value_over net s n z d *ℤ den) where
-      crossed : (u v num d den : ℤ) → num *ℤ d ≡ v *ℤ den → (u *ℤ v) *ℤ den ≡ (u *ℤ num) *ℤ d
-      crossed u v num d den e = mul_assoc_z u v den ∙ ap (λ (x : ℤ). u *ℤ x) (sym e) ∙ sym (mul_assoc_z u num d)
+    same_le : (a b : ℤ) → a ≡ b → a ≤ℤ b
+    same_le a b e = omega (arith, ints)
 
-      same_le : (a b : ℤ) → a ≡ b → a ≤ℤ b
-      same_le a b e = omega (arith, ints)
+    value_reached : (relaxed_cost net n (λ i. s.sizes *ℤ z i) d *ℤ d) ≤ℤ (value_over net s n z d *ℤ d)
+    value_reached = same_le (relaxed_cost net n (λ i. s.sizes *ℤ z i) d *ℤ d) (value_over net s n z d *ℤ d) (ap (λ (c : ℤ). c *ℤ d) (cost_counted z d))
 
-      value_reached : (relaxed_cost net n (λ i. s.sizes *ℤ z i) d *ℤ den) ≤ℤ ((s.unit *ℤ num) *ℤ d)
-      value_reached =
-          same_le (relaxed_cost net n (λ i. s.sizes *ℤ z i) d *ℤ den) ((s.unit *ℤ num) *ℤ d)
-          (ap (λ (c : ℤ). c *ℤ den) (cost_counted z d) ∙ crossed s.unit (value_over net s n z d) num d den is)
+    -- the value's cost over k is no more than that of the flows over d
+    value_under : (w : ℕ → ℤ) (k : ℤ) → IsRelaxed net n w k → (value_over net s n z d *ℤ k) ≤ℤ (relaxed_cost net n w k *ℤ d)
+    value_under w k flows =
+        chain (value_over net s n z d *ℤ k) (d *ℤ (k *ℤ fixed_cost net n)) (s.costs *ℤ ((s.sizes *ℤ k) *ℤ size_costs net s n z))
+        (s.costs *ℤ (d *ℤ size_costs net s n w)) (relaxed_cost net n w k *ℤ d)
+        (first (fixed_cost net n) d k (size_costs net s n z) s.costs s.sizes)
+        (mul-le_left s.costs ((s.sizes *ℤ k) *ℤ size_costs net s n z) (d *ℤ size_costs net s n w) (sizes_cost_least w k flows) (not_below s.costs divide.costs_positive))
+        (second d k (fixed_cost net n) s.costs (size_costs net s n w) ∙ ap (λ (c : ℤ). (k *ℤ fixed_cost net n +ℤ c) *ℤ d) (sym (costs_of w)))
+      where
+        first : (f d k c g r : ℤ) → (f *ℤ d +ℤ (g *ℤ r) *ℤ c) *ℤ k ≡ d *ℤ (k *ℤ f) +ℤ g *ℤ ((r *ℤ k) *ℤ c)
+        first f d k c g r = ring ((V f ⊗ V d ⊕ (V g ⊗ V r) ⊗ V c) ⊗ V k) (V d ⊗ (V k ⊗ V f) ⊕ V g ⊗ ((V r ⊗ V k) ⊗ V c)) (omega arith)
 
-      value_under : (w : ℕ → ℤ) (k : ℤ) → IsRelaxed net n w k → ((s.unit *ℤ num) *ℤ k) ≤ℤ (relaxed_cost net n w k *ℤ den)
-      value_under w k flows =
-          at s.unit num k d den (value_over net s n z d) (relaxed_cost net n w k) (from_one d settled.positive) (not_below den over) is dear
-        where
-          K' : ℤ
-          K' = int_div (fixed_cost net n) s.unit
+        second : (d k f g c : ℤ) → d *ℤ (k *ℤ f) +ℤ g *ℤ (d *ℤ c) ≡ (k *ℤ f +ℤ g *ℤ c) *ℤ d
+        second d k f g c = ring (V d ⊗ (V k ⊗ V f) ⊕ V g ⊗ (V d ⊗ V c)) ((V k ⊗ V f ⊕ V g ⊗ V c) ⊗ V d) (omega arith)
 
-          W : ℤ
-          W = int_div (s.costs *ℤ s.sizes) s.unit
-
-          first : (u K d k w c g r : ℤ) → u *ℤ w ≡ g *ℤ r → k *ℤ (u *ℤ (K *ℤ d +ℤ w *ℤ c)) ≡ d *ℤ (k *ℤ (u *ℤ K)) +ℤ g *ℤ ((r *ℤ k) *ℤ c)
-          first u K d k w c g r e =
-              opened k (u *ℤ K) d (u *ℤ w) u K w c refl refl
-              ∙ ap (λ (x : ℤ). d *ℤ (k *ℤ (u *ℤ K)) +ℤ k *ℤ (x *ℤ c)) e
-              ∙ ap (λ (x : ℤ). d *ℤ (k *ℤ (u *ℤ K)) +ℤ x) (ring (V k ⊗ ((V g ⊗ V r) ⊗ V c)) (V g ⊗ ((V r ⊗ V k) ⊗ V c)) (omega arith))
-            where
-              opened : (k a d b u K w c : ℤ) → a ≡ u *ℤ K → b ≡ u *ℤ w → k *ℤ (u *ℤ (K *ℤ d +ℤ w *ℤ c)) ≡ d *ℤ (k *ℤ a) +ℤ k *ℤ (b *ℤ c)
-              opened k a d b u K w c e f =
-                  ap (λ (x : ℤ). k *ℤ x) (sym (unit_taken u K d w c)) ∙ ap (λ (x : ℤ). k *ℤ (d *ℤ x +ℤ (u *ℤ w) *ℤ c)) (sym e)
-                  ∙ ap (λ (x : ℤ). k *ℤ (d *ℤ a +ℤ x *ℤ c)) (sym f)
-                  ∙ ring (V k ⊗ (V d ⊗ V a ⊕ V b ⊗ V c)) (V d ⊗ (V k ⊗ V a) ⊕ V k ⊗ (V b ⊗ V c)) (omega arith)
-
-          second : (d k f g c : ℤ) → d *ℤ (k *ℤ f) +ℤ g *ℤ (d *ℤ c) ≡ d *ℤ (k *ℤ f +ℤ g *ℤ c)
-          second d k f g c = ring (V d ⊗ (V k ⊗ V f) ⊕ V g ⊗ (V d ⊗ V c)) (V d ⊗ (V k ⊗ V f ⊕ V g ⊗ V c)) (omega arith)
-
-          chain : (a b c d e : ℤ) → a ≡ b +ℤ c → c ≤ℤ d → b +ℤ d ≡ e → a ≤ℤ e
-          chain a b c d e p h q = omega (arith, ints)
-
-          -- the value's cost over k is no more than that of the flows over d
-          dear : (k *ℤ (s.unit *ℤ value_over net s n z d)) ≤ℤ (d *ℤ relaxed_cost net n w k)
-          dear =
-              chain (k *ℤ (s.unit *ℤ value_over net s n z d)) (d *ℤ (k *ℤ (s.unit *ℤ K'))) (s.costs *ℤ ((s.sizes *ℤ k) *ℤ size_costs net s n z))
-              (s.costs *ℤ (d *ℤ size_costs net s n w)) (d *ℤ relaxed_cost net n w k)
-              (first s.unit K' d k W (size_costs net s n z) s.costs s.sizes divide.worth)
-              (mul-le_left s.costs ((s.sizes *ℤ k) *ℤ size_costs net s n z) (d *ℤ size_costs net s n w) (sizes_cost_least w k flows) (not_below s.costs divide.costs_positive))
-              (second d k (s.unit *ℤ K') s.costs (size_costs net s n w)
-              ∙ ap (λ (f : ℤ). d *ℤ (k *ℤ f +ℤ s.costs *ℤ size_costs net s n w)) (divide.fixed n)
-              ∙ ap (λ (c : ℤ). d *ℤ (k *ℤ fixed_cost net n +ℤ c)) (sym (costs_of w)))
-
-          at : (u num k d den v c : ℤ) → pos 0 <ℤ d → pos 0 ≤ℤ den → num *ℤ d ≡ v *ℤ den → (k *ℤ (u *ℤ v)) ≤ℤ (d *ℤ c) → ((u *ℤ num) *ℤ k) ≤ℤ (c *ℤ den)
-          at u num k d den v c p q e h =
-              let scaled : (den *ℤ (k *ℤ (u *ℤ v))) ≤ℤ (den *ℤ (d *ℤ c)) = mul-le_left den (k *ℤ (u *ℤ v)) (d *ℤ c) h q in
-              let left : d *ℤ ((u *ℤ num) *ℤ k) ≡ den *ℤ (k *ℤ (u *ℤ v)) = ring (V d ⊗ ((V u ⊗ V num) ⊗ V k)) ((V k ⊗ V u) ⊗ (V num ⊗ V d)) (omega arith)
-              ∙ ap (λ (x : ℤ). (k *ℤ u) *ℤ x) e ∙ ring ((V k ⊗ V u) ⊗ (V v ⊗ V den)) (V den ⊗ (V k ⊗ (V u ⊗ V v))) (omega arith) in
-              let right : den *ℤ (d *ℤ c) ≡ d *ℤ (c *ℤ den) = ring (V den ⊗ (V d ⊗ V c)) (V d ⊗ (V c ⊗ V den)) (omega arith) in
-              cancel_le d ((u *ℤ num) *ℤ k) (c *ℤ den) p (subst (λ (x : ℤ). x ≤ℤ (d *ℤ (c *ℤ den))) (sym left) (subst (λ (x : ℤ). (den *ℤ (k *ℤ (u *ℤ v))) ≤ℤ x) right scaled))
+        chain : (a b c d e : ℤ) → a ≡ b +ℤ c → c ≤ℤ d → b +ℤ d ≡ e → a ≤ℤ e
+        chain a b c d e p h q = omega (arith, ints)
 
 pub settled_are_relaxed : SettledAreRelaxed
 settled_are_relaxed p s divide n z d scale y settled = settled_relaxed (net_of p) s divide n z d scale y settled
@@ -207,13 +166,13 @@ pub cost_is_counted : CostIsCounted
 cost_is_counted p s divide n z d = cost_counted (net_of p) s divide n z d
 
 pub settled_are_optimal : SettledAreOptimal
-settled_are_optimal p s divide n z d scale y settled num den over is = record {
-  positive = over;
-  under = λ w k flows. value_under (net_of p) s divide n z d scale y settled num den over is w k flows;
+settled_are_optimal p s divide n z d scale y settled = record {
+  positive = settled.positive;
+  under = value_under (net_of p) s divide n z d scale y settled;
   reached = record {
     sizes = λ i. s.sizes *ℤ z i;
     d = d;
     relaxed = settled_relaxed (net_of p) s divide n z d scale y settled;
-    at_most = value_reached (net_of p) s divide n z d scale y settled num den over is;
+    at_most = value_reached (net_of p) s divide n z d scale y settled;
   };
 }

@@ -25,7 +25,7 @@ use Rattle.flow_program.specs.Entry.{entry}
 use Rattle.flow_program.specs.Rates.{AreRates}
 use Rattle.flow_program.proofs.BoundSumLemmas.{materials_are_rows}
 use Rattle.scaled_flows.specs.Divisors.{Divisors, Divides, rate_divisor, AreDivisors, HasDivisors}
-use Rattle.scaled_flows.specs.Scaled.{scaled_rate, size_floor, size_ceiling, row_floor, row_ceiling, scaled_balance, price, size_costs}
+use Rattle.scaled_flows.specs.Scaled.{scaled_rate, size_floor, size_ceiling, row_floor, row_ceiling, scaled_balance, price, size_costs, value_over}
 use Rattle.scaled_flows.specs.Settled.{IsSettled, AreSettled}
 use Rattle.scaled_flows.specs.LeastCost.{IsLeastCost}
 use Rattle.scaled_flows.proofs.OptimalLemmas.{settled_are_optimal}
@@ -34,6 +34,10 @@ use Rattle.scaled_flows.proofs.OptimalLemmas.{settled_are_optimal}
 pub some_weaker : {T : Type 0} (o : Option T) (P Q : T → Type 0) → ((x : T) → P x → Q x) → IfSome o P → IfSome o Q
 some_weaker None P Q f h = tt
 some_weaker (Some x) P Q f h = f x h
+
+pub both_some : {T : Type 0} (o : Option T) (P Q : T → Type 0) → IfSome o P → IfSome o Q → IfSome o (λ x. P x × Q x)
+both_some None P Q h k = tt
+both_some (Some x) P Q h k = (h, k)
 
 pub some_of : (o : Option ℤ) (P : Type 0) (v : ℤ) (Q : ℤ → Type 0) → ((x : ℤ) → x ≡ v → Q x) → SomeIff o P v → IfSome o Q
 some_of None P v Q f h = tt
@@ -111,14 +115,15 @@ module _ (p : Problem) (s : Divisors) (divide : AreDivisors (net_of p) s) (n : N
   pub least_from : (unit_list row_list : List ℕ) → unit_list ≡ units (net_of p) n → row_list ≡ rows (net_of p) n → (z : ℕ → ℤ) (d scale : ℤ) (y : ℕ → ℤ) → pos 1 ≤ℤ d → pos 1 ≤ℤ scale
       → ((j : ℕ) → has row_list j ≡ true → IsSettled (row_floor (net_of p) s n j) (row_ceiling (net_of p) s n j) d (scaled_balance (net_of p) s n z j) (y j))
       → ((i : ℕ) → has unit_list i ≡ true → IsSettled (size_floor (net_of p) s n i) (size_ceiling (net_of p) s i) d (z i) (price (net_of p) s n scale y i))
-      → (fixed worth costs : ℤ) → fixed ≡ int_div (fixed_cost (net_of p) n) s.unit → worth ≡ int_div (s.costs *ℤ s.sizes) s.unit → costs ≡ size_costs (net_of p) s n z
-      → (num den : ℤ) → pos 0 <ℤ den → num *ℤ d ≡ (fixed *ℤ d +ℤ worth *ℤ costs) *ℤ den → IsLeastCost p n (s.unit *ℤ num) den
+      → (fixed worth costs : ℤ) → fixed ≡ fixed_cost (net_of p) n → worth ≡ s.costs *ℤ s.sizes → costs ≡ size_costs (net_of p) s n z
+      → (num den : ℤ) → num ≡ fixed *ℤ d +ℤ worth *ℤ costs → den ≡ d → IsLeastCost p n num den
   least_from unit_list row_list us rs z d scale y dp sp row_settled unit_settled fixed worth costs f w c num den over is =
-      settled_are_optimal p s divide n z d scale y
+      subst (λ (v : ℤ). IsLeastCost p n v den) (sym (over ∙ (λ k. f k *ℤ d +ℤ w k *ℤ c k)))
+      (subst (λ (v : ℤ). IsLeastCost p n (value_over (net_of p) s n z d) v) (sym is)
+      (settled_are_optimal p s divide n z d scale y
       (record {
         positive = dp;
         scale_positive = sp;
         sizes = λ i l h. unit_settled i (listed_has (net_of p).graph.units (stays n) unit_list us i l h);
         rows = λ j l h. row_settled j (listed_has (net_of p).graph.materials (mats (net_of p).graph (stays n)) row_list rs j l h);
-      })
-      num den (omega (arith, ints)) (is ∙ (λ k. (f k *ℤ d +ℤ w k *ℤ c k) *ℤ den))
+      })))

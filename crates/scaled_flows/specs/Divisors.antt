@@ -1,20 +1,18 @@
 -- Common divisors of the numbers of a problem's flow programs. They are the same at each node, so each of them divides what any
--- node makes of a bound or a cost: a material's rates and, together with that of sizes, the ends of its row; sizes; what a size
--- costs; and fixed costs.
+-- node makes of a bound or a cost: a material's rates and, together with that of sizes, the ends of its row; sizes; and what a size
+-- costs.
 use Rattle.std.specs.Prelude.{◌≡◌, ℕ, ◌<◌, ℤ, pos, ◌*ℤ◌, ◌≤ℤ◌, true, List, length, slice_index_or, int_div}
 use Rattle.number_sets.specs.Sets.{has}
 use Rattle.pns_rules.specs.Structure.{mats}
 use Rattle.pns_rules.specs.Nodes.{Node}
 use Rattle.flow_rules.specs.Net.{Net}
-use Rattle.flow_rules.specs.Relaxed.{stays, row_low, row_high, unit_low, unit_cost, fixed_cost}
+use Rattle.flow_rules.specs.Relaxed.{stays, row_low, row_high, unit_low, unit_cost}
 
 pub record Divisors : Type 0 where
   -- one of each material
   pub rates : List ℤ
   pub sizes : ℤ
   pub costs : ℤ
-  -- of fixed costs, and of the divisors of costs and sizes multiplied: values are counted in it
-  pub unit : ℤ
 
 abbrev pub rate_divisor : Divisors → ℕ → ℤ
 rate_divisor s j = slice_index_or s.rates j (pos 0)
@@ -28,15 +26,12 @@ pub record AreDivisors (net : Net) (s : Divisors) : Type 0 where
   pub rates_positive : (j : ℕ) → j < net.graph.materials → pos 1 ≤ℤ rate_divisor s j
   pub sizes_positive : pos 1 ≤ℤ s.sizes
   pub costs_positive : pos 1 ≤ℤ s.costs
-  pub unit_positive : pos 1 ≤ℤ s.unit
   pub rate : (j i : ℕ) → j < net.graph.materials → i < net.graph.units → Divides (rate_divisor s j) (net.rate j i)
   pub size_low : (n : Node) (i : ℕ) → i < net.graph.units → Divides s.sizes (unit_low net n i)
   pub size_high : (i : ℕ) → i < net.graph.units → Divides s.sizes (net.most i)
   pub row_low : (n : Node) (j : ℕ) → j < net.graph.materials → mats net.graph (stays n) j ≡ true → Divides (rate_divisor s j *ℤ s.sizes) (row_low net n j)
   pub row_high : (n : Node) (j : ℕ) → j < net.graph.materials → mats net.graph (stays n) j ≡ true → Divides (rate_divisor s j *ℤ s.sizes) (row_high net n j)
   pub cost : (n : Node) (i : ℕ) → i < net.graph.units → Divides s.costs (unit_cost net n i)
-  pub fixed : (n : Node) → Divides s.unit (fixed_cost net n)
-  pub worth : Divides s.unit (s.costs *ℤ s.sizes)
 
 -- each of the materials has a divisor
 abbrev pub HasDivisors : Divisors → List ℕ → Type 0

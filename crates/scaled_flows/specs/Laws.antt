@@ -15,14 +15,14 @@ SettledAreRelaxed =
     (p : Problem) (s : Divisors) → AreDivisors (net_of p) s → (n : Node) (z : ℕ → ℤ) (d scale : ℤ) (y : ℕ → ℤ) → AreSettled (net_of p) s n z d scale y
     → IsRelaxed (net_of p) n (λ i. s.sizes *ℤ z i) d
 
--- their cost, counted in the unit of values
+-- what they cost
 abbrev pub CostIsCounted : Type 0
 CostIsCounted =
     (p : Problem) (s : Divisors) → AreDivisors (net_of p) s → (n : Node) (z : ℕ → ℤ) (d : ℤ)
-    → relaxed_cost (net_of p) n (λ i. s.sizes *ℤ z i) d ≡ s.unit *ℤ value_over (net_of p) s n z d
+    → relaxed_cost (net_of p) n (λ i. s.sizes *ℤ z i) d ≡ value_over (net_of p) s n z d
 
 -- where signs show that the sizes are optimal, their cost is the least
 abbrev pub SettledAreOptimal : Type 0
 SettledAreOptimal =
     (p : Problem) (s : Divisors) → AreDivisors (net_of p) s → (n : Node) (z : ℕ → ℤ) (d scale : ℤ) (y : ℕ → ℤ) → AreSettled (net_of p) s n z d scale y
-    → (num den : ℤ) → pos 1 ≤ℤ den → num *ℤ d ≡ value_over (net_of p) s n z d *ℤ den → IsLeastCost p n (s.unit *ℤ num) den
+    → IsLeastCost p n (value_over (net_of p) s n z d) d

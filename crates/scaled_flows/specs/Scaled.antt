@@ -38,6 +38,6 @@ price net s n scale y i = scale *ℤ scaled_cost net s n i -ℤ total (λ j. y j
 abbrev pub size_costs : Net → Divisors → Node → (ℕ → ℤ) → ℤ
 size_costs net s n z = total (λ i. scaled_cost net s n i *ℤ z i) (units net n)
 
--- the relaxed cost of scaled sizes over d, counted in the unit of values
+-- the relaxed cost of scaled sizes over d
 abbrev pub value_over : Net → Divisors → Node → (ℕ → ℤ) → ℤ → ℤ
-value_over net s n z d = int_div (fixed_cost net n) s.unit *ℤ d +ℤ int_div (s.costs *ℤ s.sizes) s.unit *ℤ size_costs net s n z
+value_over net s n z d = fixed_cost net n *ℤ d +ℤ (s.costs *ℤ s.sizes) *ℤ size_costs net s n z

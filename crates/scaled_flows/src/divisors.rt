@@ -8,18 +8,18 @@ ghost use Rattle.problem_rules.specs.Problem.{rate_of};
 ghost use Rattle.pns_rules.specs.Shape.{shape_of};
 ghost use Rattle.pgraph.specs.Tables.{shape};
 ghost use Rattle.pgraph.specs.View.{node_of};
-ghost use Rattle.flow_rules.specs.Net.{net_of, trillion};
+ghost use Rattle.flow_rules.specs.Net.{net_of};
 ghost use Rattle.flow_rules.specs.Relaxed.{row_low, row_high, unit_low, unit_cost};
 ghost use Rattle.flow_program.specs.NodeSets.{AreNeeded};
 ghost use Rattle.scaled_flows.specs.Found.{AreRateDivisors, AreUnitDivisors, DividesRow};
 
 use crate::settled::scaled;
-use flow_program::{fixed_costs, put_rates, rate_at, row_range, unit_numbers};
+use flow_program::{put_rates, rate_at, row_range, unit_numbers};
 use int_rows::{checked_product, gcd};
 use pgraph::Graph;
 use pns_problem::Problem;
 use std::alloc::{AllocError, Global};
-use unit_sets::{MatSet, Node, UnitSet};
+use unit_sets::{MatSet, Node};
 
 /// The greatest common divisor of three numbers.
 fn with_both(common: i128, first: i128, second: i128) -> i128
@@ -94,16 +94,13 @@ pub(crate) fn rate_divisors(
     Ok(rates)
 }
 
-/// Common divisors of the numbers of all units: of their sizes, of what a size of 1 costs, and of their fixed costs. Each is 0
-/// where all of these are.
+/// Common divisors of the numbers of all units: of their sizes, and of what a size of 1 costs. Each is 0 where all of these are.
 #[derive(Clone, Copy)]
 pub(crate) struct UnitDivisors {
     pub(crate) sizes: i128,
     pub(crate) costs: i128,
-    pub(crate) fixed: i128,
     ghost sizes_in_range: { InRange sizes },
     ghost costs_in_range: { InRange costs },
-    ghost fixed_in_range: { InRange fixed },
 }
 
 /// The divisors with those of one more unit.
@@ -119,23 +116,19 @@ fn with_unit(
     requires graph { shape graph.now ≡ shape_of problem.now }
     ensures sizes { unsigned_abs result.sizes ∣ unsigned_abs common.sizes }
     ensures costs { unsigned_abs result.costs ∣ unsigned_abs common.costs }
-    ensures fixed { unsigned_abs result.fixed ∣ unsigned_abs common.fixed }
     ensures low { unsigned_abs result.sizes ∣ unsigned_abs (unit_low (net_of problem.now) (node_of taken.now) u) }
     ensures high { unsigned_abs result.sizes ∣ unsigned_abs ((net_of problem.now).most u) }
     ensures taken_cost { unsigned_abs result.costs ∣ unsigned_abs (unit_cost (net_of problem.now) (node_of taken.now) u) }
     ensures free_cost { unsigned_abs result.costs ∣ unsigned_abs (unit_cost (net_of problem.now) (node_of free.now) u) }
-    ensures fixed_cost { unsigned_abs result.fixed ∣ unsigned_abs (trillion *ℤ (net_of problem.now).fix u) }
 {
     graph.is_proper();
     let mut rates = [0; 256];
     let materials = put_rates(&mut rates, problem, graph, u);
     let kept = unit_numbers(problem, taken, u, materials, &rates);
     let loose = unit_numbers(problem, free, u, materials, &rates);
-    let fixed = fixed_costs(problem, UnitSet::empty().with(u));
     UnitDivisors {
         sizes: with_both(common.sizes, kept.low, kept.high),
         costs: with_both(common.costs, kept.cost, loose.cost),
-        fixed: gcd(common.fixed, fixed),
     }
 }
 
@@ -147,14 +140,10 @@ pub(crate) fn unit_divisors(
     free: &Node,
 ) -> UnitDivisors
     requires graph { shape graph.now ≡ shape_of problem.now }
-    ensures { AreUnitDivisors (net_of problem.now) (node_of taken.now) (node_of free.now) result.sizes result.costs result.fixed (length problem.now.units) }
+    ensures { AreUnitDivisors (net_of problem.now) (node_of taken.now) (node_of free.now) result.sizes result.costs (length problem.now.units) }
 {
     problem.is_valid();
-    let mut common = UnitDivisors {
-        sizes: 0,
-        costs: 0,
-        fixed: 0,
-    };
+    let mut common = UnitDivisors { sizes: 0, costs: 0 };
     let units = problem.units().len() as u32;
     'units: for u in 0..units {
         common = with_unit(common, problem, graph, taken, free, u);
@@ -204,22 +193,3 @@ pub(crate) fn cost_divisor(costs: i128, sizes: i64) -> i128
         None => 1,
     }
 }
-
-/// The unit of values. Where it is above 10^18 only its factors 2 and 5 are kept, so that a cost in other units is soon
-/// counted in it.
-pub(crate) fn value_unit(fixed: i128, costs: i128, sizes: i64) -> i128
-    requires fixed_in_range { InRange fixed }
-    requires in_range { InRange (costs *ℤ sizes) }
-    ensures positive { pos 1 ≤ℤ result }
-    ensures fixed { unsigned_abs result ∣ unsigned_abs fixed }
-    ensures worth { unsigned_abs result ∣ unsigned_abs (costs *ℤ sizes) }
-{
-    let unit = gcd(fixed, costs * sizes as i128);
-    if unit > MOST_UNIT {
-        at_least_one(gcd(unit, MOST_UNIT))
-    } else {
-        at_least_one(unit)
-    }
-}
-
-const MOST_UNIT: i128 = 1_000_000_000_000_000_000;

@@ -5,9 +5,7 @@ ghost use Rattle.pgraph.specs.Tables.{shape};
 ghost use Rattle.flow_rules.specs.Net.{net_of};
 ghost use Rattle.scaled_flows.specs.Divisors.{rate_divisor, AreDivisors};
 
-use crate::divisors::{
-    cost_divisor, narrowed, rate_divisors, unit_divisors, value_unit, with_rows,
-};
+use crate::divisors::{cost_divisor, narrowed, rate_divisors, unit_divisors, with_rows};
 use flow_program::sets_of;
 use pgraph::Graph;
 use pns_problem::Problem;
@@ -21,7 +19,6 @@ pub struct Scales {
     rates: Vec<i64>,
     sizes: i64,
     costs: i128,
-    unit: i128,
 }
 
 impl Model for Scales {
@@ -29,7 +26,7 @@ impl Model for Scales {
 
     ghost Value = { divisors.Divisors };
 
-    ghost view = { λ s. record { rates = s.rates.items; sizes = s.sizes; costs = s.costs; unit = s.unit } };
+    ghost view = { λ s. record { rates = s.rates.items; sizes = s.sizes; costs = s.costs } };
 }
 
 impl Scales {
@@ -59,12 +56,10 @@ impl Scales {
             &rates,
         ));
         let costs = cost_divisor(units.costs, sizes);
-        let unit = value_unit(units.fixed, costs, sizes);
         Ok(Scales {
             rates,
             sizes,
             costs,
-            unit,
         })
     }
 
@@ -88,12 +83,5 @@ impl Scales {
         ensures { result ≡ self.now.costs }
     {
         self.costs
-    }
-
-    /// The unit in which values are counted, in the measure of costs.
-    pub fn unit(&self) -> i128
-        ensures { result ≡ self.now.unit }
-    {
-        self.unit
     }
 }

@@ -4,7 +4,7 @@ use Rattle.std.proofs.lemmas.Bool.{and_parts, and_from, both_ways, cases_eq, fal
 use Rattle.std.proofs.lemmas.List.{get_or_append_left, get_or-set_same, get_or-set_other, length-set}
 use Rattle.link_lists.specs.Lists.{has, without}
 use Rattle.link_lists.proofs.Cells.{has-here, has-later, has-without}
-use Rattle.frac128.specs.declared.fraction.Frac.{Frac}
+use Rattle.mixed_numbers.specs.declared.number.Mixed.{Mixed}
 use Rattle.node_pool.specs.Order.{is_at_least, placed}
 use Rattle.node_pool.specs.Pooled.{Pooled, IsShut, IsWithLeaf, with_shut, with_payload}
 use Rattle.node_pool.proofs.Order.{has-placed}
@@ -12,7 +12,7 @@ use Rattle.search_tree.specs.declared.growth.Fresh.{Fresh}
 use Rattle.search_tree.specs.Cells.{Cell, no_cell, cell_at}
 use Rattle.search_tree.specs.Growth.{is_open, AreOpen, cells_in_turn, values_in_turn}
 
-pub placed_new : (vs : List Frac) (v : Frac) (c : ℕ) (xs : List ℕ) → has (placed vs v c xs) c ≡ true
+pub placed_new : (vs : List Mixed) (v : Mixed) (c : ℕ) (xs : List ℕ) → has (placed vs v c xs) c ≡ true
 placed_new vs v c [] = has-here c []
 placed_new vs v c (x ∷ xs) = by (is_at_least vs v x) (placed_new vs v c xs)
   where
@@ -25,7 +25,7 @@ without_parts c xs j h =
     let p = and_parts (has xs j) (not (c == j)) (sym (has-without c xs j) ∙ h) in
     (p.0, λ e. both_ways (c == j) (not-true (c == j) p.1) (eq-eqb c j (sym e)))
 
-module _ (old new : Pooled Cell) (leaf : ℕ) (v : Frac) (x : Cell) (added : IsWithLeaf old (Some leaf) v x new) where
+module _ (old new : Pooled Cell) (leaf : ℕ) (v : Mixed) (x : Cell) (added : IsWithLeaf old (Some leaf) v x new) where
   pub new_leaf : has new.leaves (length old.parents) ≡ true
   new_leaf = ap (λ xs. has xs (length old.parents)) added.leaves ∙ placed_new old.values v (length old.parents) old.leaves
 
@@ -55,7 +55,7 @@ shut_now p leaf x lt = record {
 }
 
 -- ---- the open leaves are the cells that end open
-placed_keeps : (vs : List Frac) (v : Frac) (c : ℕ) (xs : List ℕ) (d : ℕ) → has xs d ≡ true → has (placed vs v c xs) d ≡ true
+placed_keeps : (vs : List Mixed) (v : Mixed) (c : ℕ) (xs : List ℕ) (d : ℕ) → has xs d ≡ true → has (placed vs v c xs) d ≡ true
 placed_keeps vs v c [] d h = absurd (both_ways false refl h)
 placed_keeps vs v c (x ∷ xs) d h = by (is_at_least vs v x) (λ t. placed_keeps vs v c xs d t)
   where
@@ -77,7 +77,7 @@ cell-new : (cells : List Cell) (x : Cell) → cell_at (cells ++ x ∷ []) (lengt
 cell-new [] x = refl
 cell-new (c ∷ cs) x = cell-new cs x
 
-module _ (old new : Pooled Cell) (leaf : ℕ) (v : Frac) (x : Cell) (added : IsWithLeaf old (Some leaf) v x new) (same : length old.payloads ≡ length old.parents) (were : AreOpen old) where
+module _ (old new : Pooled Cell) (leaf : ℕ) (v : Mixed) (x : Cell) (added : IsWithLeaf old (Some leaf) v x new) (same : length old.payloads ≡ length old.parents) (were : AreOpen old) where
   keeps_old : (j : ℕ) → j < length old.payloads → has new.leaves j ≡ has old.leaves j
   keeps_old j lt = together (has new.leaves j) (has old.leaves j)
       (λ h. elim (has-placed old.values v (length old.parents) old.leaves j (sym (ap (λ xs. has xs j) added.leaves) ∙ h)) [ inl e ↦ absurd (omega (arith, lt, e, same)) | inr o ↦ o ])
@@ -130,25 +130,25 @@ cells-push (k ∷ ks) f = ap (λ (cs : List Cell). cs ++ k.cell ∷ []) (cells-p
 
 pub values-push : (kids : List Fresh) (f : Fresh) → values_in_turn (kids ++ f ∷ []) ≡ f.value ∷ values_in_turn kids
 values-push [] f = refl
-values-push (k ∷ ks) f = ap (λ (vs : List Frac). vs ++ k.value ∷ []) (values-push ks f)
+values-push (k ∷ ks) f = ap (λ (vs : List Mixed). vs ++ k.value ∷ []) (values-push ks f)
 
 -- what is to come finishes the pool
-pub record IsGrowing (cells : List Cell) (values : List Frac) (leaf : ℕ) (p : Pooled Cell) (kids : List Fresh) : Type 0 where
+pub record IsGrowing (cells : List Cell) (values : List Mixed) (leaf : ℕ) (p : Pooled Cell) (kids : List Fresh) : Type 0 where
   pub cells_are : p.payloads ++ cells_in_turn kids ≡ cells
   pub values_are : p.values ++ values_in_turn kids ≡ values
   pub parent : IsShut p leaf
   pub opens : AreOpen p
   pub room : length kids ≤ p.spare
 
-pub grows : (cells : List Cell) (values : List Frac) (leaf : ℕ) (p q : Pooled Cell) (kids : List Fresh) (f : Fresh) → IsGrowing cells values leaf p (kids ++ f ∷ [])
+pub grows : (cells : List Cell) (values : List Mixed) (leaf : ℕ) (p q : Pooled Cell) (kids : List Fresh) (f : Fresh) → IsGrowing cells values leaf p (kids ++ f ∷ [])
     → q.payloads ≡ p.payloads ++ f.cell ∷ [] → q.values ≡ p.values ++ f.value ∷ [] → IsShut q leaf → AreOpen q → p.spare ≤ q.spare + 1 → IsGrowing cells values leaf q kids
 grows cells values leaf p q kids f g pc pv s now room = record {
   cells_are =
       ap (λ (cs : List Cell). cs ++ cells_in_turn kids) pc
       ∙ (append_assoc p.payloads (f.cell ∷ []) (cells_in_turn kids) ∙ (sym (ap (λ (cs : List Cell). p.payloads ++ cs) (cells-push kids f)) ∙ g.cells_are));
   values_are =
-      ap (λ (vs : List Frac). vs ++ values_in_turn kids) pv
-      ∙ (append_assoc p.values (f.value ∷ []) (values_in_turn kids) ∙ (sym (ap (λ (vs : List Frac). p.values ++ vs) (values-push kids f)) ∙ g.values_are));
+      ap (λ (vs : List Mixed). vs ++ values_in_turn kids) pv
+      ∙ (append_assoc p.values (f.value ∷ []) (values_in_turn kids) ∙ (sym (ap (λ (vs : List Mixed). p.values ++ vs) (values-push kids f)) ∙ g.values_are));
   parent = s;
   opens = now;
   room = let l = length-append kids (f ∷ []) in let r = g.room in omega (arith, l, r, room);

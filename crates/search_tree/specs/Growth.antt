@@ -2,7 +2,7 @@
 use Rattle.std.specs.Prelude.{◌≡◌, ℕ, ◌<◌, Bool, true, false, List, [], ◌∷◌, ◌++◌, length}
 use Rattle.link_lists.specs.Lists.{has}
 use Rattle.node_pool.specs.Pooled.{Pooled}
-use Rattle.frac128.specs.declared.fraction.Frac.{Frac}
+use Rattle.mixed_numbers.specs.declared.number.Mixed.{Mixed}
 use Rattle.tree_rules.specs.Tree.{End, branch, leaf}
 use Rattle.tree_rules.specs.Leaf.{Leaf, dead, clash, refuted, bounded, untried}
 use Rattle.search_tree.specs.declared.growth.Fresh.{Fresh}
@@ -33,7 +33,7 @@ abbrev pub cells_in_turn : List Fresh → List Cell
 cells_in_turn [] = []
 cells_in_turn (f ∷ fs) = cells_in_turn fs ++ f.cell ∷ []
 
-abbrev pub values_in_turn : List Fresh → List Frac
+abbrev pub values_in_turn : List Fresh → List Mixed
 values_in_turn [] = []
 values_in_turn (f ∷ fs) = values_in_turn fs ++ f.value ∷ []
 

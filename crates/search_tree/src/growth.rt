@@ -8,14 +8,14 @@ ghost use Rattle.search_tree.specs.Growth.{as_parent, as_shut, is_open, AreOpen,
 
 use crate::cell::Cell;
 use branch_tree::End;
-use frac128::Frac;
+use mixed_numbers::Mixed;
 use node_pool::Pool;
 
 /// A child that stands ready, with its value.
 #[derive(Drop)]
 pub struct Fresh {
     pub cell: Cell,
-    pub value: Frac,
+    pub value: Mixed,
 }
 
 impl Cell {

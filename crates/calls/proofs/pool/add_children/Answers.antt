@@ -1,13 +1,13 @@
 use Rattle.std.proofs.Common.{◌≡◌, ◌==◌, ◌∷◌, [], ℕ, List, Bool, Some, true, false, cond, length, refl, ap, ◌∙◌, inl, inr, length-append, arith}
 use Rattle.std.proofs.lemmas.Bool.{or_cases, or_left, both_ways, false_from_ne_true, cases_eq}
-use Rattle.frac128.specs.declared.fraction.Frac.{Frac}
+use Rattle.mixed_numbers.specs.declared.number.Mixed.{Mixed}
 use Rattle.link_lists.specs.Lists.{has}
 use Rattle.link_lists.proofs.Cells.{has-here, has-later}
 use Rattle.node_pool.specs.Order.{is_at_least, placed}
 use Rattle.node_pool.proofs.Order.{has-placed}
 use Rattle.calls.proofs.pool.add_children.Goals as goal
 
-placed_new : (vs : List Frac) (v : Frac) (c : ℕ) (xs : List ℕ) → has (placed vs v c xs) c ≡ true
+placed_new : (vs : List Mixed) (v : Mixed) (c : ℕ) (xs : List ℕ) → has (placed vs v c xs) c ≡ true
 placed_new vs v c [] = has-here c []
 placed_new vs v c (x ∷ xs) = by (is_at_least vs v x) (placed_new vs v c xs)
   where
@@ -15,7 +15,7 @@ placed_new vs v c (x ∷ xs) = by (is_at_least vs v x) (placed_new vs v c xs)
     by true ih = has-here c (x ∷ xs)
     by false ih = has-later x c (placed vs v c xs) ih
 
-placed_keeps : (vs : List Frac) (v : Frac) (c : ℕ) (xs : List ℕ) (d : ℕ) → has xs d ≡ true → has (placed vs v c xs) d ≡ true
+placed_keeps : (vs : List Mixed) (v : Mixed) (c : ℕ) (xs : List ℕ) (d : ℕ) → has xs d ≡ true → has (placed vs v c xs) d ≡ true
 placed_keeps vs v c [] d h = absurd (both_ways false refl h)
 placed_keeps vs v c (x ∷ xs) d h = by (is_at_least vs v x) (λ t. placed_keeps vs v c xs d t)
   where

@@ -1,12 +1,18 @@
-use Rattle.std.proofs.Common.{◌≡◌, ◌∙◌, true, List, ℤ, pos, ◌≤ℤ◌, sym, ap, subst, rules, SFits}
+use Rattle.std.proofs.Common.{◌≡◌, ◌∙◌, true, List, ℤ, pos, ◌≤ℤ◌, ◌*ℤ◌, Bool, false, not, refl, sym, ap, subst, rules, SFits}
 use Rattle.std.specs.Int.{w128}
 use Rattle.std.proofs.lemmas.Int.{to_z-of_z}
-use Rattle.int_rows.specs.Lowest.{IsLowest}
+use Rattle.std.specs.Ordering.{int_cmp, is_eq}
+use Rattle.mixed_numbers.specs.Number.{numerator, denominator}
 use Rattle.int_rows.proofs.RangeLemmas.{fits_from_range}
 use Rattle.tree_rules.specs.Claim.{IsFeasible}
 use Rattle.certified_bounds.specs.Certified.{IsNetworkAt}
+use Rattle.certified_bounds.proofs.FractionLemmas.{equal_from}
 use Rattle.certified_bounds.proofs.BoundLemmas.{network_of, same_cost}
 use Rattle.certified_bounds.proofs.flows.network_at.Goals as goal
+
+not_false : (b : Bool) → not b ≡ false → b ≡ true
+not_false true h = refl
+not_false false h = absurd (let e : true ≡ false = h in cc)
 
 pub returns : goal.returns
 returns c =
@@ -20,14 +26,18 @@ returns c =
     let fits_cost : SFits w128 cost = fits_from_range _ c.in-Some-cost_of_network.ensures.in_range in
     let listed : c.in_ok-sizes.sizes.items ≡ c.list-2.result.now = search rules in
     let kept : c.in_ok-sizes.sizes.items ≡ zs = listed ∙ c.list-2.ensures ∙ sym c.list.ensures in
-    let low : IsLowest cost d c.of-found.result.num c.of-found.result.den = simp to_z-of_z at c.of-found.ensures.value in
-    let t : c.is_same_cost.result ≡ true = search rules in
+    let found = c.of-found.result in
+    let top : numerator found ≡ cost = simp to_z-of_z at c.of-found.ensures.numerator in
+    let den : denominator found ≡ d = simp to_z-of_z at c.of-found.ensures.denominator in
+    let t : c.ne.result ≡ false = search rules in
+    let same : is_eq (int_cmp (numerator found *ℤ denominator v) (numerator v *ℤ denominator found)) ≡ true = not_false _ (sym c.ne.ensures ∙ t) in
+    let equal = equal_from (numerator found *ℤ denominator v) (numerator v *ℤ denominator found) (int_cmp (numerator found *ℤ denominator v) (numerator v *ℤ denominator found)) refl same in
     let feasible : IsFeasible p (network_of us d cost zs) = simp to_z-of_z at c.in-Some-cost_of_network.ensures.feasible in
     let positive : pos 1 ≤ℤ d = simp to_z-of_z at c.in-Some-cost_of_network.ensures.positive in
     let of_is : c.of.result ≡ network_of us d cost c.in_ok-sizes.sizes.items = simp to_z-of_z at c.of.ensures in
     let whole : IsNetworkAt p v (network_of us d cost zs) = record {
       feasible = feasible;
       positive = positive;
-      costs = same_cost cost d c.of-found.result v low (c.is_same_cost.ensures t);
+      costs = same_cost cost d found v top den equal;
     } in
     subst (IsNetworkAt p v) (sym (of_is ∙ ap (λ (ys : List ℤ). network_of us d cost ys) kept)) whole

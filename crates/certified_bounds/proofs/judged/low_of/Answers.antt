@@ -1,7 +1,7 @@
 use Rattle.std.proofs.Common.{◌≡◌, length, arith, sym, ◌∙◌, subst, pos, ◌≤ℤ◌, rules, SFits}
 use Rattle.std.specs.Int.{w128}
 use Rattle.std.proofs.lemmas.Int.{ints, to_z-of_z}
-use Rattle.int_rows.specs.Lowest.{IsLowest}
+use Rattle.mixed_numbers.specs.Number.{numerator, denominator}
 use Rattle.int_rows.specs.Range.{InRange}
 use Rattle.int_rows.proofs.RangeLemmas.{fits_from_range}
 use Rattle.pgraph.specs.View.{node_of}
@@ -18,20 +18,6 @@ bound_of-requires-clause-multipliers c =
     let e : c.row_count-rows.result ≡ length (rows (net_of c.args.problem.now) (node_of c.args.node.now)) = c.row_count-rows.ensures c.args.problem.now c.requires.graph in
     omega arith
 
-pub of-requires-clause-num_in_range : goal.of-requires-clause-num_in_range
-of-requires-clause-num_in_range c =
-    let p = c.args.problem.now in
-    let n = node_of c.args.node.now in
-    let d = c.args.scale in
-    let fits = c.ranges.scale in
-    let y = multiplier p n c.args.multipliers.now in
-    let steps : AreInRange (bound_steps (net_of p) n d y) = simp to_z-of_z at c.in-Ok.ensures.in_range in
-    let value : c.in-Ok.bound ≡ bound (net_of p) n d y = simp to_z-of_z at c.in-Ok.ensures.value in
-    let range : InRange c.in-Ok.bound =
-    subst InRange (c.sums_are_last.ensures.bound p n d y ∙ sym value) (last_in_range (pos 0) (bound_steps (net_of p) n d y) (search rules) steps) in
-    let fits_bound : SFits w128 c.in-Ok.bound = fits_from_range _ range in
-    simp to_z-of_z range
-
 pub returns-in-Ok : goal.returns-in-Ok
 returns-in-Ok c =
     let p = c.args.problem.now in
@@ -44,7 +30,8 @@ returns-in-Ok c =
     let range : InRange c.in-Ok.bound =
     subst InRange (c.sums_are_last.ensures.bound p n d y ∙ sym value) (last_in_range (pos 0) (bound_steps (net_of p) n d y) (search rules) steps) in
     let fits_bound : SFits w128 c.in-Ok.bound = fits_from_range _ range in
-    let low : IsLowest c.in-Ok.bound d c.of.result.num c.of.result.den = simp to_z-of_z at c.of.ensures.value in
+    let top : numerator c.of.result ≡ c.in-Ok.bound = simp to_z-of_z at c.of.ensures.numerator in
+    let den : denominator c.of.result ≡ d = simp to_z-of_z at c.of.ensures.denominator in
     let e : c.row_count-rows.result ≡ length (rows (net_of p) n) = c.row_count-rows.ensures p c.requires.graph in
     let positive : pos 1 ≤ℤ d = omega (arith, ints) in
-    bounded_is p n d c.args.multipliers.now c.in-Ok.bound c.of.result positive (omega arith) steps value low
+    bounded_is p n d c.args.multipliers.now c.in-Ok.bound c.of.result positive (omega arith) steps value top den

@@ -3,8 +3,9 @@ use Rattle.std.specs.Ordering.{int_cmp}
 use Rattle.std.proofs.lemmas.Int.{to_z-of_z}
 use Rattle.pgraph.specs.View.{node_of}
 use Rattle.tree_rules.specs.Leaf.{IsBounded}
+use Rattle.mixed_numbers.specs.Number.{numerator, denominator}
 use Rattle.certified_bounds.specs.Certified.{cost_over}
-use Rattle.certified_bounds.proofs.FractionLemmas.{from_one, le_from}
+use Rattle.certified_bounds.proofs.FractionLemmas.{over_one, le_from}
 use Rattle.certified_bounds.proofs.BoundLemmas.{reaches_less}
 use Rattle.certified_bounds.proofs.judged.reaches.Goals as goal
 
@@ -16,5 +17,5 @@ returns-in-Some c =
     let l = c.in-Some.low in
     let fits = c.ranges.scale in
     let h : IsBounded p (Some (cost_over l)) n c.args.scale c.args.multipliers.now = simp to_z-of_z at c.in-Some.ensures in
-    λ t. reaches_less p n c.args.scale c.args.multipliers.now (cost_over g) (cost_over l) (from_one g.den g.positive) (from_one l.den l.positive)
-    (le_from (g.num *ℤ l.den) (l.num *ℤ g.den) (int_cmp (g.num *ℤ l.den) (l.num *ℤ g.den)) refl (sym c.le.ensures ∙ t)) h
+    λ t. reaches_less p n c.args.scale c.args.multipliers.now (cost_over g) (cost_over l) (over_one g) (over_one l)
+    (le_from (numerator g *ℤ denominator l) (numerator l *ℤ denominator g) (int_cmp (numerator g *ℤ denominator l) (numerator l *ℤ denominator g)) refl (sym c.le.ensures ∙ t)) h

@@ -1,8 +1,9 @@
 use Rattle.std.proofs.Common.{◌≡◌, Some, refl, sym, subst}
 use Rattle.pgraph.specs.View.{node_of}
 use Rattle.tree_rules.specs.Leaf.{IsBounded}
+use Rattle.mixed_numbers.specs.Number.{numerator, denominator}
 use Rattle.certified_bounds.specs.Certified.{cost_over, IsLeastBound}
-use Rattle.certified_bounds.proofs.FractionLemmas.{from_one}
+use Rattle.certified_bounds.proofs.FractionLemmas.{over_one}
 use Rattle.certified_bounds.proofs.BoundLemmas.{no_more_than_least}
 use Rattle.certified_bounds.proofs.lows.least.Goals as goal
 
@@ -17,7 +18,7 @@ returns c =
     let same : c.in_ok-bound.bound ≡ record { value = v; low = l.low; scaled = record { d = l.scale; ys = ys } } = c.in_ok-bound.ensures in
     let whole : IsLeastBound p n (record { value = v; low = l.low; scaled = record { d = l.scale; ys = ys } }) = record {
       value = c.requires.value;
-      no_more = no_more_than_least c.relaxed_duality.ensures p n l.scale ys (cost_over l.low) v.num v.den (from_one l.low.den l.low.positive) h c.requires.value;
+      no_more = no_more_than_least c.relaxed_duality.ensures p n l.scale ys (cost_over l.low) (numerator v) (denominator v) (over_one l.low) h c.requires.value;
       bounded = h;
     } in
     (refl, subst (IsLeastBound p n) (sym same) whole)

@@ -1,7 +1,7 @@
 use Rattle.std.proofs.Common.{◌≡◌, ℤ, pos, ◌≤ℤ◌, ◌<ℤ◌, List, refl, sym, ap, ◌∙◌, subst, arith, rules, SFits, to_z, of_z}
 use Rattle.std.specs.Int.{w128}
 use Rattle.std.proofs.lemmas.Int.{ints, to_z-of_z}
-use Rattle.int_rows.specs.Lowest.{IsLowest}
+use Rattle.mixed_numbers.specs.Number.{numerator, denominator}
 use Rattle.int_rows.specs.Range.{InRange}
 use Rattle.int_rows.proofs.RangeLemmas.{fits_from_range}
 use Rattle.pgraph.specs.View.{node_of}
@@ -15,30 +15,15 @@ use Rattle.flow_evaluator.proofs.FlowLemmas.{last_in_range}
 use Rattle.flow_evaluator.proofs.KnownLemmas.{kept_known}
 use Rattle.flow_evaluator.proofs.sums.value_of.Goals as goal
 
-pub of-requires-clause-num_in_range : goal.of-requires-clause-num_in_range
-of-requires-clause-num_in_range c =
-    let p = c.args.problem.now in
-    let n = node_of c.args.node.now in
-    let d = c.d.result in
-    let y = multiplier p n c.ys.result.now in
-    let fits : SFits w128 c.d.result = search rules in
-    let steps : AreInRange (bound_steps (net_of p) n d y) = simp to_z-of_z at c.in-Ok.ensures.in_range in
-    let value : c.in-Ok.bound ≡ bound (net_of p) n d y = simp to_z-of_z at c.in-Ok.ensures.value in
-    let range : InRange c.in-Ok.bound =
-    subst InRange (c.sums_are_last.ensures.bound p n d y ∙ sym value) (last_in_range (pos 0) (bound_steps (net_of p) n d y) (search rules) steps) in
-    let fits_bound : SFits w128 c.in-Ok.bound = fits_from_range _ range in
-    simp to_z-of_z range
-
-pub of-requires-clause-positive : goal.of-requires-clause-positive
-of-requires-clause-positive c =
+pub of-requires : goal.of-requires
+of-requires c =
     let p = c.args.problem.now in
     let n = node_of c.args.node.now in
     let b = c.args.bench.now in
     let scale : pos 1 ≤ℤ b.d = c.least_is_least.ensures.scale p c.is_valid.ensures.valid n (program_of (net_of p) n) b refl c.requires.least in
-    let above : pos 0 <ℤ b.d = omega (arith, ints) in
     let fits : SFits w128 c.d-in-Ok.result = search rules in
-    let positive : pos 0 <ℤ c.d-in-Ok.result = subst (λ (z : ℤ). pos 0 <ℤ z) (sym c.d-in-Ok.ensures) above in
-    simp to_z-of_z positive
+    let one : pos 1 ≤ℤ c.d-in-Ok.result = subst (λ (z : ℤ). pos 1 ≤ℤ z) (sym c.d-in-Ok.ensures) scale in
+    simp to_z-of_z one
 
 pub returns-in-Err-clause-past : goal.returns-in-Err-clause-past
 returns-in-Err-clause-past c =
@@ -72,10 +57,10 @@ returns-in-Ok-clause-value c =
     subst InRange (c.sums_are_last.ensures.bound p n c.d.result (multiplier p n c.ys.result.now) ∙ sym value)
     (last_in_range (pos 0) (bound_steps (net_of p) n c.d.result (multiplier p n c.ys.result.now)) (search rules) steps) in
     let fits_bound : SFits w128 c.in-Ok.bound = fits_from_range _ range in
-    let low : IsLowest c.in-Ok.bound c.d-in-Ok.result c.of.result.num c.of.result.den = simp to_z-of_z at c.of.ensures.value in
     let total : c.in-Ok.bound ≡ bound (net_of p) n b.d (multiplier p n b.ys) =
     value
     ∙ (ap (λ (d : ℤ). bound (net_of p) n d (multiplier p n c.ys.result.now)) c.d.ensures
     ∙ ap (λ (ys : List ℤ). bound (net_of p) n b.d (multiplier p n ys)) c.ys.ensures) in
-    subst (λ (x : ℤ). IsLowest x b.d c.of.result.num c.of.result.den) total
-    (subst (λ (d : ℤ). IsLowest c.in-Ok.bound d c.of.result.num c.of.result.den) c.d-in-Ok.ensures low)
+    let top : numerator c.of.result ≡ c.in-Ok.bound = simp to_z-of_z at c.of.ensures.numerator in
+    let scale : denominator c.of.result ≡ c.d-in-Ok.result = simp to_z-of_z at c.of.ensures.denominator in
+    (top ∙ total, scale ∙ c.d-in-Ok.ensures)

@@ -2,21 +2,11 @@ use Rattle.std.proofs.Common.{◌≡◌, ◌<◌, ◌≤◌, List, ℕ, ℤ, ◌
 use Rattle.std.specs.Prelude.{unsigned_abs}
 use Rattle.std.specs.Int.{w128, ◌∣◌}
 use Rattle.std.proofs.lemmas.Int.{to_z-of_z}
-use Rattle.integer_laws.specs.Total.{total}
-use Rattle.number_sets.specs.Sets.{with_number}
 use Rattle.pns_rules.specs.Shape.{Shape, shape_of}
 use Rattle.pgraph.specs.Tables.{shape}
 use Rattle.pgraph.specs.View.{node_of}
 use Rattle.flow_rules.specs.Net.{net_of, trillion}
-use Rattle.scaled_flows.proofs.FoundLemmas.{fixed_alone}
 use Rattle.scaled_flows.proofs.divisors.with_unit.Goals as goal
-
-pub with-requires : goal.with-requires
-with-requires c =
-    let few = c.is_proper.ensures.few_units in
-    let known = c.requires.known in
-    let same : (shape c.args.graph.now).units ≡ length c.args.problem.now.units = ap (λ (g : Shape). g.units) c.requires.graph in
-    omega arith
 
 pub returns-clause-sizes : goal.returns-clause-sizes
 returns-clause-sizes c =
@@ -24,13 +14,10 @@ returns-clause-sizes c =
     let hi : SFits w128 c.unit_numbers-kept.result.high = search rules in
     let co : SFits w128 c.unit_numbers-kept.result.cost = search rules in
     let fr : SFits w128 c.unit_numbers-loose.result.cost = search rules in
-    let fx : SFits w128 c.fixed_costs-fixed.result = search rules in
     let s : SFits w128 c.args.common.sizes = search rules in
     let k : SFits w128 c.args.common.costs = search rules in
-    let f : SFits w128 c.args.common.fixed = search rules in
     let x : SFits w128 c.with_both.result = search rules in
     let y : SFits w128 c.with_both-2.result = search rules in
-    let z : SFits w128 c.gcd.result = search rules in
     let h = simp to_z-of_z at c.with_both.ensures.common in
     simp to_z-of_z h
 
@@ -40,31 +27,12 @@ returns-clause-costs c =
     let hi : SFits w128 c.unit_numbers-kept.result.high = search rules in
     let co : SFits w128 c.unit_numbers-kept.result.cost = search rules in
     let fr : SFits w128 c.unit_numbers-loose.result.cost = search rules in
-    let fx : SFits w128 c.fixed_costs-fixed.result = search rules in
     let s : SFits w128 c.args.common.sizes = search rules in
     let k : SFits w128 c.args.common.costs = search rules in
-    let f : SFits w128 c.args.common.fixed = search rules in
     let x : SFits w128 c.with_both.result = search rules in
     let y : SFits w128 c.with_both-2.result = search rules in
-    let z : SFits w128 c.gcd.result = search rules in
     let h = simp to_z-of_z at c.with_both-2.ensures.common in
     simp to_z-of_z h
-
-pub returns-clause-fixed : goal.returns-clause-fixed
-returns-clause-fixed c =
-    let lo : SFits w128 c.unit_numbers-kept.result.low = search rules in
-    let hi : SFits w128 c.unit_numbers-kept.result.high = search rules in
-    let co : SFits w128 c.unit_numbers-kept.result.cost = search rules in
-    let fr : SFits w128 c.unit_numbers-loose.result.cost = search rules in
-    let fx : SFits w128 c.fixed_costs-fixed.result = search rules in
-    let s : SFits w128 c.args.common.sizes = search rules in
-    let k : SFits w128 c.args.common.costs = search rules in
-    let f : SFits w128 c.args.common.fixed = search rules in
-    let x : SFits w128 c.with_both.result = search rules in
-    let y : SFits w128 c.with_both-2.result = search rules in
-    let z : SFits w128 c.gcd.result = search rules in
-    let h = simp to_z-of_z at c.gcd.ensures.greatest in
-    simp to_z-of_z (h.0)
 
 pub returns-clause-low : goal.returns-clause-low
 returns-clause-low c =
@@ -72,13 +40,10 @@ returns-clause-low c =
     let hi : SFits w128 c.unit_numbers-kept.result.high = search rules in
     let co : SFits w128 c.unit_numbers-kept.result.cost = search rules in
     let fr : SFits w128 c.unit_numbers-loose.result.cost = search rules in
-    let fx : SFits w128 c.fixed_costs-fixed.result = search rules in
     let s : SFits w128 c.args.common.sizes = search rules in
     let k : SFits w128 c.args.common.costs = search rules in
-    let f : SFits w128 c.args.common.fixed = search rules in
     let x : SFits w128 c.with_both.result = search rules in
     let y : SFits w128 c.with_both-2.result = search rules in
-    let z : SFits w128 c.gcd.result = search rules in
     let h = simp to_z-of_z at c.with_both.ensures.first in
     simp to_z-of_z (subst (λ (v : ℤ). unsigned_abs c.with_both.result ∣ unsigned_abs v) c.unit_numbers-kept.ensures.low h)
 
@@ -88,13 +53,10 @@ returns-clause-high c =
     let hi : SFits w128 c.unit_numbers-kept.result.high = search rules in
     let co : SFits w128 c.unit_numbers-kept.result.cost = search rules in
     let fr : SFits w128 c.unit_numbers-loose.result.cost = search rules in
-    let fx : SFits w128 c.fixed_costs-fixed.result = search rules in
     let s : SFits w128 c.args.common.sizes = search rules in
     let k : SFits w128 c.args.common.costs = search rules in
-    let f : SFits w128 c.args.common.fixed = search rules in
     let x : SFits w128 c.with_both.result = search rules in
     let y : SFits w128 c.with_both-2.result = search rules in
-    let z : SFits w128 c.gcd.result = search rules in
     let h = simp to_z-of_z at c.with_both.ensures.second in
     simp to_z-of_z (subst (λ (v : ℤ). unsigned_abs c.with_both.result ∣ unsigned_abs v) c.unit_numbers-kept.ensures.high h)
 
@@ -104,13 +66,10 @@ returns-clause-taken_cost c =
     let hi : SFits w128 c.unit_numbers-kept.result.high = search rules in
     let co : SFits w128 c.unit_numbers-kept.result.cost = search rules in
     let fr : SFits w128 c.unit_numbers-loose.result.cost = search rules in
-    let fx : SFits w128 c.fixed_costs-fixed.result = search rules in
     let s : SFits w128 c.args.common.sizes = search rules in
     let k : SFits w128 c.args.common.costs = search rules in
-    let f : SFits w128 c.args.common.fixed = search rules in
     let x : SFits w128 c.with_both.result = search rules in
     let y : SFits w128 c.with_both-2.result = search rules in
-    let z : SFits w128 c.gcd.result = search rules in
     let h = simp to_z-of_z at c.with_both-2.ensures.first in
     simp to_z-of_z (subst (λ (v : ℤ). unsigned_abs c.with_both-2.result ∣ unsigned_abs v) c.unit_numbers-kept.ensures.cost h)
 
@@ -120,29 +79,9 @@ returns-clause-free_cost c =
     let hi : SFits w128 c.unit_numbers-kept.result.high = search rules in
     let co : SFits w128 c.unit_numbers-kept.result.cost = search rules in
     let fr : SFits w128 c.unit_numbers-loose.result.cost = search rules in
-    let fx : SFits w128 c.fixed_costs-fixed.result = search rules in
     let s : SFits w128 c.args.common.sizes = search rules in
     let k : SFits w128 c.args.common.costs = search rules in
-    let f : SFits w128 c.args.common.fixed = search rules in
     let x : SFits w128 c.with_both.result = search rules in
     let y : SFits w128 c.with_both-2.result = search rules in
-    let z : SFits w128 c.gcd.result = search rules in
     let h = simp to_z-of_z at c.with_both-2.ensures.second in
     simp to_z-of_z (subst (λ (v : ℤ). unsigned_abs c.with_both-2.result ∣ unsigned_abs v) c.unit_numbers-loose.ensures.cost h)
-
-pub returns-clause-fixed_cost : goal.returns-clause-fixed_cost
-returns-clause-fixed_cost c =
-    let lo : SFits w128 c.unit_numbers-kept.result.low = search rules in
-    let hi : SFits w128 c.unit_numbers-kept.result.high = search rules in
-    let co : SFits w128 c.unit_numbers-kept.result.cost = search rules in
-    let fr : SFits w128 c.unit_numbers-loose.result.cost = search rules in
-    let fx : SFits w128 c.fixed_costs-fixed.result = search rules in
-    let s : SFits w128 c.args.common.sizes = search rules in
-    let k : SFits w128 c.args.common.costs = search rules in
-    let f : SFits w128 c.args.common.fixed = search rules in
-    let x : SFits w128 c.with_both.result = search rules in
-    let y : SFits w128 c.with_both-2.result = search rules in
-    let z : SFits w128 c.gcd.result = search rules in
-    let h = simp to_z-of_z at c.gcd.ensures.greatest in
-    simp to_z-of_z (subst (λ (v : ℤ). unsigned_abs c.gcd.result ∣ unsigned_abs v)
-    (c.fixed_costs-fixed.ensures.value ∙ ap (λ (xs : List ℕ). trillion *ℤ total (net_of c.args.problem.now).fix xs) (c.with.ensures ∙ ap (λ (xs : List ℕ). with_number c.args.u xs) c.empty.ensures) ∙ fixed_alone (net_of c.args.problem.now) c.args.u) h.1)

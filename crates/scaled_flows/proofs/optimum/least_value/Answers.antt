@@ -12,7 +12,8 @@ use Rattle.flow_rules.specs.Net.{net_of, trillion}
 use Rattle.flow_rules.specs.Relaxed.{stays, units, rows, fixed_cost}
 use Rattle.flow_program.specs.Entry.{entry}
 use Rattle.flow_program.proofs.NodeSetLemmas.{set_listed}
-use Rattle.scaled_flows.proofs.ProgramLemmas.{some_weaker, least_from}
+use Rattle.mixed_numbers.specs.Number.{numerator, denominator}
+use Rattle.scaled_flows.proofs.ProgramLemmas.{some_weaker, both_some, least_from}
 use Rattle.scaled_flows.proofs.optimum.least_value.Goals as goal
 
 pub returns : goal.returns
@@ -25,14 +26,11 @@ returns c =
     let us : c.sets_of-sets.result.units ≡ units (net_of p) n = c.sets_of-sets.ensures.units_are ∙ ap (λ (g : Shape). listed g.units (stays n)) c.requires.graph in
     let rs : c.sets_of-sets.result.rows ≡ rows (net_of p) n = c.sets_of-sets.ensures.rows_are ∙ ap (λ (g : Shape). listed g.materials (mats g (stays n))) c.requires.graph in
     let known : (u : ℕ) → has c.args.node.inside u ≡ true → u < length p.units = subst (λ (g : Shape). (u : ℕ) → has c.args.node.inside u ≡ true → u < g.units) c.requires.graph c.requires.known in
-    let fx : SFits w128 c.fixed_costs.result = search rules in
-    let un : SFits w128 c.unit.result = search rules in
-    let ff : SFits w128 c.scaled-fixed.result = search rules in
+    let fx : SFits w128 c.fixed_costs-fixed.result = search rules in
     let wo : SFits w128 c.in_ok-worth_of.field-0 = search rules in
     let co : SFits w128 c.in_ok-costs.costs = search rules in
-    let fixed : c.fixed_costs.result ≡ fixed_cost (net_of p) n
-    = c.fixed_costs.ensures.value ∙ ap (λ (xs : List ℕ). trillion *ℤ total (net_of p).fix xs) (sym (set_listed (length p.units) c.args.node.inside c.rises.ensures known)) in
-    let f = simp to_z-of_z at c.scaled-fixed.ensures in
+    let fixed : c.fixed_costs-fixed.result ≡ fixed_cost (net_of p) n
+    = c.fixed_costs-fixed.ensures.value ∙ ap (λ (xs : List ℕ). trillion *ℤ total (net_of p).fix xs) (sym (set_listed (length p.units) c.args.node.inside c.rises.ensures known)) in
     let t : c.are_rows_settled.result ≡ true = search rules in
     let row_settled = simp to_z-of_z at (c.are_rows_settled.ensures t) in
     let unit_settled = simp to_z-of_z at c.in_ok-costs.ensures.settled in
@@ -40,7 +38,7 @@ returns c =
     let sp = simp to_z-of_z at c.if-scale-lt1.false in
     let d1 : pos 1 ≤ℤ c.args.guessed.now.d = omega (arith, ints) in
     let s1 : pos 1 ≤ℤ c.args.guessed.now.scale = omega (arith, ints) in
-    some_weaker c.value_of.result _ _
+    some_weaker c.of_sum.result _ _
     (λ v k. least_from p s c.requires.scales n c.sets_of-sets.result.units c.sets_of-sets.result.rows us rs (entry c.by_unit-size_at.result) c.args.guessed.now.d c.args.guessed.now.scale (entry c.by_material-y_at.result) d1 s1 row_settled unit_settled
-    c.scaled-fixed.result c.in_ok-worth_of.field-0 c.in_ok-costs.costs (f ∙ (λ i. int_div (fixed i) (c.unit.ensures i))) c.in_ok-worth_of.ensures.value c.in_ok-costs.ensures.cost v.num v.den v.positive k)
-    (simp to_z-of_z at c.value_of.ensures)
+    c.fixed_costs-fixed.result c.in_ok-worth_of.field-0 c.in_ok-costs.costs fixed c.in_ok-worth_of.ensures.value c.in_ok-costs.ensures.cost (numerator v) (denominator v) k.0 k.1)
+    (both_some c.of_sum.result _ _ (simp to_z-of_z at c.of_sum.ensures.numerator) (simp to_z-of_z at c.of_sum.ensures.denominator))

@@ -1,5 +1,5 @@
 use Rattle.std.proofs.Common.{List, length, slice_set, ◌++◌, subst}
-use Rattle.frac128.specs.declared.fraction.Frac.{Frac}
+use Rattle.mixed_numbers.specs.declared.number.Mixed.{Mixed}
 use Rattle.branch_tree.specs.View.{end_of}
 use Rattle.search_tree.specs.declared.growth.Fresh.{Fresh}
 use Rattle.search_tree.specs.Cells.{Cell, cell_at}
@@ -13,7 +13,7 @@ kids-preserved c =
     let leaf = c.args.leaf in
     let kids = c.args.kids.now.items in
     let cells : List Cell = slice_set p.payloads leaf (as_parent (cell_at p.payloads leaf) c.args.first (end_of c.args.end)) ++ cells_in_turn kids in
-    let values : List Frac = p.values ++ values_in_turn kids in
+    let values : List Mixed = p.values ++ values_in_turn kids in
     grows cells values leaf c.kids.pool c.add_child.new.pool c.pop.new.self.items c.in-Some.fresh
     (subst (λ (xs : List Fresh). IsGrowing cells values leaf c.kids.pool xs) c.in-Some.ensures.items c.kids.invariant)
     c.add_child.ensures.cells c.add_child.ensures.values c.add_child.ensures.parent c.add_child.ensures.open c.add_child.ensures.room

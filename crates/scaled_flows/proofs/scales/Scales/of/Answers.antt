@@ -50,22 +50,16 @@ returns c =
     let w0 : SFits w128 c.with_rows.result = search rules in
     let us : SFits w128 c.unit_divisors-units.result.sizes = search rules in
     let uc : SFits w128 c.unit_divisors-units.result.costs = search rules in
-    let uf : SFits w128 c.unit_divisors-units.result.fixed = search rules in
     let cd : SFits w128 c.cost_divisor-costs.result = search rules in
-    let vu : SFits w128 c.value_unit-unit.result = search rules in
     let found = c.in_ok-rates.ensures in
     let of_units = c.unit_divisors-units.ensures in
     let nd = simp to_z-of_z at c.narrowed-sizes.ensures.divides in
     let wc = simp to_z-of_z at c.with_rows.ensures.common in
     let cc' = simp to_z-of_z at c.cost_divisor-costs.ensures.divides in
-    let vf = simp to_z-of_z at c.value_unit-unit.ensures.fixed in
-    let vw = simp to_z-of_z at c.value_unit-unit.ensures.worth in
     let sizes_all = through c.narrowed-sizes.result c.with_rows.result c.unit_divisors-units.result.sizes nd wc in
-    simp to_z-of_z (divisors_from (net_of p) (record { rates = c.in_ok-rates.rates.items; sizes = c.narrowed-sizes.result; costs = c.cost_divisor-costs.result; unit = c.value_unit-unit.result }) taken free all none none
-    found.count found.positive c.narrowed-sizes.ensures.positive c.cost_divisor-costs.ensures.positive c.value_unit-unit.ensures.positive
+    simp to_z-of_z (divisors_from (net_of p) (record { rates = c.in_ok-rates.rates.items; sizes = c.narrowed-sizes.result; costs = c.cost_divisor-costs.result }) taken free all none none
+    found.count found.positive c.narrowed-sizes.ensures.positive c.cost_divisor-costs.ensures.positive
     found.divides (λ j l. (found.low j l, found.high j l))
     (λ j l h. let e = subst (λ (xs : List ℤ). DividesRow (net_of p) taken xs c.with_rows.result j) c.deref.ensures.value (c.with_rows.ensures.rows j (is_row j l h)) in (through c.narrowed-sizes.result c.with_rows.result (int_div (row_low (net_of p) taken j) (get_or c.in_ok-rates.rates.items j (pos 0))) nd e.0, through c.narrowed-sizes.result c.with_rows.result (int_div (row_high (net_of p) taken j) (get_or c.in_ok-rates.rates.items j (pos 0))) nd e.1))
     (λ i l. (through c.narrowed-sizes.result c.unit_divisors-units.result.sizes (unit_low (net_of p) taken i) sizes_all (of_units.low i l), through c.narrowed-sizes.result c.unit_divisors-units.result.sizes ((net_of p).most i) sizes_all (of_units.high i l)))
-    (λ i l. (through c.cost_divisor-costs.result c.unit_divisors-units.result.costs (unit_cost (net_of p) taken i) cc' (of_units.taken_cost i l), through c.cost_divisor-costs.result c.unit_divisors-units.result.costs (unit_cost (net_of p) free i) cc' (of_units.free_cost i l)))
-    (λ i l. through c.value_unit-unit.result c.unit_divisors-units.result.fixed (trillion *ℤ (net_of p).fix i) vf (of_units.fixed_cost i l))
-    vw)
+    (λ i l. (through c.cost_divisor-costs.result c.unit_divisors-units.result.costs (unit_cost (net_of p) taken i) cc' (of_units.taken_cost i l), through c.cost_divisor-costs.result c.unit_divisors-units.result.costs (unit_cost (net_of p) free i) cc' (of_units.free_cost i l))))
