@@ -2,3 +2,4 @@ pub mod ClaimLemmas
 pub mod ForestLemmas
 pub mod GraftLemmas
 pub mod OpenLemmas
+pub mod SpliceLemmas

@@ -1,3 +1,4 @@
 pub mod Merge
 pub mod Part
 pub mod Several
+pub mod Waiting

@@ -1,20 +1,16 @@
 -- What is answered where a part is put back, from the tree and the part. Each answer but want of memory has its cause, and no two
 -- causes hold together.
-use Rattle.std.specs.Prelude.{◌≡◌, ℕ, true, List, [], ◌∷◌, Result, Ok, Err}
+use Rattle.std.specs.Prelude.{◌≡◌, ℕ, true, [], ◌∷◌}
 use Rattle.problem_rules.specs.Problem.{Problem}
 use Rattle.pns_rules.specs.Shape.{shape_of}
-use Rattle.pns_rules.specs.Nodes.{Node}
 use Rattle.tree_rules.specs.Tree.{leaf, Stands}
 use Rattle.tree_rules.specs.Leaf.{untried}
 use Rattle.tree_rules.specs.Claim as rules
 use Rattle.tree_rules.specs.Accepted as trees
 use Rattle.tree_rules.specs.Accepted.{first_node, IsPartial}
 use Rattle.part_rules.specs.Graft.{graft_at, claim_of_both}
-use Rattle.cert_check.specs.declared.refusal.Refusal.{Refusal}
 use Rattle.cert_check.specs.declared.refusal.Refusal.TheVariants as refusals
 use Rattle.cert_check.specs.Refusals.{Refuses}
-use Rattle.branch_tree.specs.View.{claim_of}
-use Rattle.branch_tree.specs.declared.claim.Claim.{Claim}
 use Rattle.tree_parts.specs.declared.merging.MergeFault.{MergeFault}
 use Rattle.tree_parts.specs.declared.merging.MergeFault.TheVariants.{Tree, Part, NoLeaf, Memory}
 use Rattle.tree_parts.specs.Part as parts

@@ -4,7 +4,8 @@
 //! a search in parts goes on. [`is_sound`] tells from which nodes a search may begin. [`check_part`] judges what a run from such a
 //! node found, and [`merge`] puts it in the place of the open leaf; [`merge_all`] puts several back in turn.
 //!
-//! Modules: `sound`, `open`; `part`, what a run found; `copies` of nodes and networks; `merging`, `several`.
+//! Modules: `sound`, `open`; `part`, what a run found; `copies` of nodes and networks; `merging`; `waiting`, parts that wait for their
+//! places, `splicing`, which puts them there in one pass, and `several`.
 #![tactic(auto)]
 
 mod copies;
@@ -13,6 +14,8 @@ mod open;
 mod part;
 mod several;
 mod sound;
+mod splicing;
+mod waiting;
 
 pub use cert_check::OpenLeaf;
 pub use merging::{MergeFault, merge};

@@ -52,7 +52,7 @@ fn are_same(a: &Node, b: &Node) -> bool
 }
 
 /// The open leaf at the node, by its number.
-fn leaf_at(leaves: &[OpenLeaf], start: &Node) -> Option<u32>
+pub(crate) fn leaf_at(leaves: &[OpenLeaf], start: &Node) -> Option<u32>
     ensures some { IfSome result (λ k. IsAmong (record { number = k; node = node_of start.now }) (leaves_at leaves.now)) }
     ensures none { IfNone result ((k : ℕ) → IsAmong (record { number = k; node = node_of start.now }) (leaves_at leaves.now) → ⊥) }
 {
@@ -93,7 +93,7 @@ fn is_open(end: &End) -> bool
     matches!(end, End::Open)
 }
 
-fn has_open(nodes: &[TreeNode]) -> bool
+pub(crate) fn has_open(nodes: &[TreeNode]) -> bool
     ensures { result ≡ grafts.has_open nodes.now }
 {
     'looking: for node in nodes {
@@ -102,6 +102,21 @@ fn has_open(nodes: &[TreeNode]) -> bool
         }
     }
     false
+}
+
+/// The cheaper network, the first where none is cheaper.
+pub(crate) fn cheaper_of(
+    alloc: Global,
+    own: Network,
+    other: &Network,
+) -> Result<Network, AllocError>
+    ensures { IfOk result (λ w. w ≡ grafts.cheaper own other.now) }
+{
+    if is_cheaper(&own, other) {
+        copied_network(alloc, other)
+    } else {
+        Ok(own)
+    }
 }
 
 /// What the tree and the part claim together.
@@ -173,7 +188,7 @@ fn put_back(
 }
 
 // The open leaves of the tree, or why it is refused.
-fn leaves_of(
+pub(crate) fn leaves_of(
     alloc: Global,
     problem: &Problem,
     graph: &Graph,
@@ -194,7 +209,7 @@ fn leaves_of(
 }
 
 // Judges the part.
-fn judge_part(
+pub(crate) fn judge_part(
     alloc: Global,
     problem: &Problem,
     graph: &Graph,

@@ -1,4 +1,4 @@
-use Rattle.std.proofs.Common.{◌≡◌, ◌∙◌, ◌∷◌, [], ℕ, List, ap, sym, subst}
+use Rattle.std.proofs.Common.{◌≡◌, ◌∙◌, ◌∷◌, [], List, ap, sym, subst}
 use Rattle.number_sets.specs.Sets.{has}
 use Rattle.pns_rules.specs.Shape.{shape_of}
 use Rattle.pns_rules.specs.Nodes.{Node}
@@ -8,7 +8,7 @@ use Rattle.tree_rules.specs.Claim.{Claim}
 use Rattle.tree_rules.specs.Accepted.{Tree, first_node, IsPartial}
 use Rattle.branch_tree.specs.View.{claim_of}
 use Rattle.part_rules.specs.OpenLeaves.{OpenAt, open_leaves, IsAmong}
-use Rattle.part_rules.specs.Graft.{graft_at, claim_of_both}
+use Rattle.part_rules.specs.Graft.{claim_of_both}
 use Rattle.cert_check.specs.declared.open_leaf.OpenLeaf.{OpenLeaf}
 use Rattle.cert_check.specs.OpenLeaves.{leaves_at}
 use Rattle.tree_parts.specs.Part.{start_of}

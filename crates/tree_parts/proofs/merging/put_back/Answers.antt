@@ -1,6 +1,5 @@
-use Rattle.std.proofs.Common.{◌∙◌, ◌∷◌, [], ◌<◌, List, ap₂, length, sym, subst}
+use Rattle.std.proofs.Common.{◌∙◌, ◌∷◌, [], ◌<◌, ap₂, length, sym, subst}
 use Rattle.pns_rules.specs.Shape.{shape_of}
-use Rattle.pns_rules.specs.Nodes.{Node}
 use Rattle.tree_rules.specs.Tree.{IsTree}
 use Rattle.tree_rules.specs.Accepted.{Tree, first_node}
 use Rattle.part_rules.specs.Graft.{graft_at}

@@ -1,7 +1,11 @@
+use Rattle.std.proofs.Common.{◌-◌, length}
 use Rattle.branch_tree.specs.View.{claim_of}
-use Rattle.tree_parts.proofs.InTurn.{AreBack}
+use Rattle.tree_parts.proofs.InTurn.{AreSoFar}
 use Rattle.tree_parts.proofs.several.merge_all.Given as goal
 
--- the parts before this one are put back
+-- the parts before this place are put back
 abbrev pub invariant-merging : goal.invariant-merging
-invariant-merging l = AreBack l.problem (claim_of l.fn.claim) l.fn.tree l.parts l.at (claim_of l.both) l.whole
+invariant-merging l = AreSoFar l.problem (claim_of l.fn.claim) l.fn.tree l.parts l.at (claim_of l.both) l.whole
+
+abbrev pub decreases-merging : goal.decreases-merging
+decreases-merging l = length l.parts - l.at
