@@ -30,7 +30,7 @@ price_in p (Price x) v j = p.payout *ℤ cond (x == j) v (material_at p j).price
 price_in p (Fix u) v j = (net_of p).price j
 price_in p (Proportional u) v j = (net_of p).price j
 
-abbrev fix_in : Problem → Spot → ℤ → ℕ → ℤ
+abbrev pub fix_in : Problem → Spot → ℤ → ℕ → ℤ
 fix_in p (Price x) v k = (net_of p).fix k
 fix_in p (Fix u) v k = p.payout *ℤ cond (u == k) v (unit_at p k).fix +ℤ (unit_at p k).investment_fix
 fix_in p (Proportional u) v k = (net_of p).fix k
@@ -40,7 +40,7 @@ proportional_in p (Price x) v k = (net_of p).proportional k
 proportional_in p (Fix u) v k = (net_of p).proportional k
 proportional_in p (Proportional u) v k = p.payout *ℤ cond (u == k) v (unit_at p k).proportional +ℤ (unit_at p k).investment_proportional
 
-abbrev net_in : Problem → Spot → ℤ → Net
+abbrev pub net_in : Problem → Spot → ℤ → Net
 net_in p spot v = at_costs (net_of p) (price_in p spot v) (fix_in p spot v) (proportional_in p spot v)
 
 pub net_valued : (p : Problem) (spot : Spot) → KnowsSpot p spot → (v : ℤ) → net_of (valued p spot v) ≡ net_in p spot v

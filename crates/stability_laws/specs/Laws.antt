@@ -4,14 +4,17 @@ use Rattle.number_sets.specs.Sets.{has}
 use Rattle.problem_rules.specs.Problem.{Problem}
 use Rattle.problem_rules.specs.Validity.{IsValid}
 use Rattle.pns_rules.specs.Shape.{shape_of}
+use Rattle.pns_rules.specs.Structure.{IsStructure}
 use Rattle.flow_rules.specs.Net.{net_of}
-use Rattle.flow_rules.specs.Flows.{cost}
+use Rattle.flow_rules.specs.Flows.{IsFlows, cost}
 use Rattle.flow_rules.specs.Steps.{AreInRange}
 use Rattle.flow_rules.specs.CostSteps.{cost_steps}
 use Rattle.tree_rules.specs.Claim.{Network, size_in, IsFeasible}
 use Rattle.stability_rules.specs.declared.spot.Spot.{Spot}
-use Rattle.stability_rules.specs.Spot.{KnowsSpot, value_at, valued, IsAllowedValue}
-use Rattle.stability_rules.specs.Range.{repriced, IsBestAt}
+use Rattle.stability_rules.specs.declared.side.Side.{Side}
+use Rattle.stability_rules.specs.Spot.{KnowsSpot, value_at, valued, IsAllowedValue, value_on}
+use Rattle.stability_rules.specs.Range.{cost_at, repriced, IsBestAt}
+use Rattle.stability_rules.specs.Rise.{least_rise}
 
 abbrev pub ValuedIsValid : Type 0
 ValuedIsValid = (p : Problem) → IsValid p → (spot : Spot) → KnowsSpot p spot → (v : ℤ) → IsAllowedValue spot v → IsValid (valued p spot v)
@@ -49,3 +52,17 @@ abbrev pub BestBetween : Type 0
 BestBetween =
     (p : Problem) (spot : Spot) → KnowsSpot p spot → (w : Network) (x y v : ℤ) → IsBestAt p spot w x → IsBestAt p spot w y
     → x ≤ℤ v → v ≤ℤ y → IsBestAt p spot w v
+
+-- one step farther away the flows of no structure cost less than the least rise more
+abbrev pub RisesEnough : Type 0
+RisesEnough =
+    (p : Problem) → IsValid p → (spot : Spot) → KnowsSpot p spot
+    → (s : ℕ → Bool) → IsStructure (shape_of p) s → (z : ℕ → ℤ) (d : ℤ) → IsFlows (net_of p) s z d → (side : Side) (v : ℤ)
+    → (cost (net_of (valued p spot v)) s z d +ℤ least_rise p spot side *ℤ d) ≤ℤ cost (net_of (valued p spot (value_on side v 1))) s z d
+
+-- so a network that is optimal now, and costs just so much more one step away, is optimal on this side however far away
+abbrev pub BestAway : Type 0
+BestAway =
+    (p : Problem) → IsValid p → (spot : Spot) → KnowsSpot p spot → (w : Network) → IsFeasible p w → IsBestAt p spot w (value_at p spot) → (side : Side)
+    → cost_at p spot w (value_on side (value_at p spot) 1) ≡ w.cost +ℤ least_rise p spot side *ℤ w.d
+    → (away : ℕ) → IsBestAt p spot w (value_on side (value_at p spot) away)

@@ -1,10 +1,10 @@
-//! Laws of sensitivity ranges: what a value in a spot leaves as it is, that the cost of flows is a straight line in it, and that a
-//! network that is optimal at two values is optimal between them.
+//! Laws of sensitivity ranges: what a value in a spot leaves as it is, that the cost of flows is a straight line in it, that a
+//! network that is optimal at two values is optimal between them, and that one whose cost rises as little as any can stays optimal.
 //!
 //! `specs/Laws` states them. Each is the contract of a function that does nothing: a caller's proof has the law behind the call.
 #![tactic(auto)]
 
-ghost use Rattle.stability_laws.specs.Laws.{ValuedIsValid, PresentIsAllowed, ValuedIsSame, ShapeStays, FeasibleStays, CostIsALine, BestBetween};
+ghost use Rattle.stability_laws.specs.Laws.{ValuedIsValid, PresentIsAllowed, ValuedIsSame, ShapeStays, FeasibleStays, CostIsALine, BestBetween, RisesEnough, BestAway};
 
 /// An allowed value in the spot leaves a problem valid.
 pub fn valued_is_valid()
@@ -28,4 +28,11 @@ pub fn structures_stay()
 pub fn best_between()
     ensures line { CostIsALine }
     ensures between { BestBetween }
+{}
+
+/// One step away from a value the cost of each structure's flows rises by at least `least_rise`, over their `d`; a network that is
+/// optimal now and whose cost rises by no more on a side is optimal at each value there.
+pub fn best_away()
+    ensures rises { RisesEnough }
+    ensures away { BestAway }
 {}

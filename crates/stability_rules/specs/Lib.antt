@@ -1,2 +1,3 @@
 pub mod Spot
 pub mod Range
+pub mod Rise
