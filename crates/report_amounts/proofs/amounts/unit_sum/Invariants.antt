@@ -1,0 +1,15 @@
+use Rattle.std.proofs.Common.{◌≡◌, length}
+use Rattle.number_sets.specs.Sets.{has, IsWithin}
+use Rattle.report_text.specs.Number.{sum_from}
+use Rattle.report_amounts.specs.Amounts.{amount, unit_sum}
+use Rattle.report_amounts.proofs.amounts.unit_sum.Given as goal
+
+-- the units to come finish the sum
+abbrev pub invariant-units : goal.invariant-units
+invariant-units l = record {
+  within : IsWithin (has l.left) (has l.fn.network.units);
+  sum : sum_from l.sum (amount l.fn.what l.fn.problem l.fn.network) l.left ≡ unit_sum l.fn.what l.fn.problem l.fn.network;
+}
+
+abbrev pub decreases-units : goal.decreases-units
+decreases-units l = length l.left

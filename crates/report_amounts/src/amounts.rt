@@ -1,0 +1,197 @@
+//! The numbers of a network's units, and their sums.
+ghost use Rattle.std.specs.Prelude.{◌≡◌, ◌<◌, ◌<ℤ◌, ℕ, pos, true, length};
+ghost use Rattle.int_rows.specs.Range.{InRange};
+ghost use Rattle.number_sets.specs.Sets.{has};
+ghost use Rattle.problem_rules.specs.Problem.{unit_at};
+ghost use Rattle.flow_rules.specs.Net.{million};
+ghost use Rattle.report_text.specs.Number.{sum_of};
+ghost use Rattle.report_amounts.specs.Amounts.{quotient, sized, size, fixed, proportional, once, investment, unit_total, made_rate, used_rate, made_by, used_by, amount, unit_sum};
+
+use branch_tree::Network;
+use pns_problem::{OperatingUnit, Problem};
+use pns_tables::{rate_at, size_at};
+use report_text::Number;
+
+/// A number of a unit of a network, for one year.
+#[derive(Clone, Copy, Debug, PartialEq, Eq)]
+pub enum UnitAmount {
+    /// The fixed cost.
+    Fixed,
+    /// The proportional cost at its size.
+    Proportional,
+    /// The part of the investment.
+    Investment,
+    /// All three costs.
+    Total,
+    /// The investment, paid once.
+    Once,
+    /// What it makes of a material.
+    Made(u32),
+    /// What it uses of a material.
+    Used(u32),
+}
+
+pub fn unit_of(problem: &Problem, u: u32) -> &OperatingUnit
+    requires { u < length problem.now.units }
+    ensures { result.now ≡ unit_at problem.now u }
+{
+    &problem.units()[u as usize]
+}
+
+/// num / den.
+#[tactic(auto, unfolding(crate::specs::Amounts::quotient))]
+pub(crate) fn quotient(num: i128, den: i128) -> Number
+    requires num_in_range { InRange num }
+    requires den_in_range { InRange den }
+    requires positive { pos 0 <ℤ den }
+    ensures { result ≡ quotient num den }
+{
+    Number::of(num, den)
+}
+
+/// The claimed number of the unit over the network's `d`, times num / den.
+fn sized(network: &Network, u: u32, num: i128, den: i128) -> Number
+    requires num_in_range { InRange num }
+    requires den_in_range { InRange den }
+    requires positive { pos 0 <ℤ den }
+    ensures { result ≡ sized network.now u num den }
+{
+    network.is_sized();
+    let size = quotient(size_at(network, u), network.d());
+    size.times(&quotient(num, den))
+}
+
+/// The size of the unit.
+pub fn size(network: &Network, u: u32) -> Number
+    ensures { result ≡ size network.now u }
+{
+    sized(network, u, 1, 1_000_000)
+}
+
+/// The share of a bound above 0, in millionths, that the size of the unit is.
+pub fn share_of(network: &Network, u: u32, upper: i64) -> Number
+    requires { pos 0 <ℤ upper }
+    ensures { result ≡ sized network.now u (pos 1) upper }
+{
+    sized(network, u, 1, i128::from(upper))
+}
+
+/// A number of millionths.
+fn millionths(value: i64) -> Number
+    ensures { result ≡ quotient value million }
+{
+    quotient(i128::from(value), 1_000_000)
+}
+
+fn fixed(problem: &Problem, u: u32) -> Number
+    requires { u < length problem.now.units }
+    ensures { result ≡ fixed problem.now u }
+{
+    millionths(unit_of(problem, u).fix)
+}
+
+fn proportional(problem: &Problem, network: &Network, u: u32) -> Number
+    requires { u < length problem.now.units }
+    ensures { result ≡ proportional problem.now network.now u }
+{
+    let rate = i128::from(unit_of(problem, u).proportional);
+    sized(network, u, rate, 1_000_000_000_000)
+}
+
+fn once(problem: &Problem, network: &Network, u: u32) -> Number
+    requires { u < length problem.now.units }
+    ensures { result ≡ once problem.now network.now u }
+{
+    let unit = unit_of(problem, u);
+    let rate = i128::from(unit.investment_proportional);
+    let part = sized(network, u, rate, 1_000_000_000_000);
+    millionths(unit.investment_fix).plus(&part)
+}
+
+/// 1 over the payout period.
+fn year(problem: &Problem) -> Number
+    ensures { result ≡ quotient (pos 1) problem.now.payout }
+{
+    problem.is_valid();
+    quotient(1, i128::from(problem.payout()))
+}
+
+fn investment(problem: &Problem, network: &Network, u: u32) -> Number
+    requires { u < length problem.now.units }
+    ensures { result ≡ investment problem.now network.now u }
+{
+    once(problem, network, u).times(&year(problem))
+}
+
+fn unit_total(problem: &Problem, network: &Network, u: u32) -> Number
+    requires { u < length problem.now.units }
+    ensures { result ≡ unit_total problem.now network.now u }
+{
+    let yearly = fixed(problem, u).plus(&proportional(problem, network, u));
+    yearly.plus(&investment(problem, network, u))
+}
+
+/// The rate where it is above 0, else 0.
+fn made_rate(rate: i64) -> i128
+    ensures value { result ≡ made_rate rate }
+    ensures in_range { InRange result }
+{
+    if rate < 0 { 0 } else { i128::from(rate) }
+}
+
+/// The rate without its sign where it is below 0, else 0.
+fn used_rate(rate: i64) -> i128
+    ensures value { result ≡ used_rate rate }
+    ensures in_range { InRange result }
+{
+    if rate < 0 { -i128::from(rate) } else { 0 }
+}
+
+fn made_by(problem: &Problem, network: &Network, j: u32, u: u32) -> Number
+    requires { u < length problem.now.units }
+    ensures { result ≡ made_by problem.now network.now j u }
+{
+    let rate = made_rate(rate_at(problem, j, u));
+    sized(network, u, rate, 1_000_000_000_000)
+}
+
+fn used_by(problem: &Problem, network: &Network, j: u32, u: u32) -> Number
+    requires { u < length problem.now.units }
+    ensures { result ≡ used_by problem.now network.now j u }
+{
+    let rate = used_rate(rate_at(problem, j, u));
+    sized(network, u, rate, 1_000_000_000_000)
+}
+
+/// The number of the unit.
+pub fn amount(what: UnitAmount, problem: &Problem, network: &Network, u: u32) -> Number
+    requires { u < length problem.now.units }
+    ensures { result ≡ amount what problem.now network.now u }
+{
+    match what {
+        UnitAmount::Fixed => fixed(problem, u),
+        UnitAmount::Proportional => proportional(problem, network, u),
+        UnitAmount::Investment => investment(problem, network, u),
+        UnitAmount::Total => unit_total(problem, network, u),
+        UnitAmount::Once => once(problem, network, u),
+        UnitAmount::Made(j) => made_by(problem, network, j, u),
+        UnitAmount::Used(j) => used_by(problem, network, j, u),
+    }
+}
+
+/// The sum of the number over the network's units.
+pub fn unit_sum(what: UnitAmount, problem: &Problem, network: &Network) -> Number
+    requires { (u : ℕ) → has network.now.units u ≡ true → u < length problem.now.units }
+    ensures { result ≡ unit_sum what problem.now network.now }
+{
+    let mut sum = Number::nothing();
+    let mut left = network.units();
+    'units: loop {
+        left.rises();
+        let Some(u) = left.least() else {
+            return sum;
+        };
+        sum = sum.plus(&amount(what, problem, network, u));
+        left = left.without(u);
+    }
+}

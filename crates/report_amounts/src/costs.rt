@@ -1,0 +1,128 @@
+//! The numbers of a network's materials, and the sums of their costs.
+ghost use Rattle.std.specs.Prelude.{◌≡◌, ◌<◌, ◌<ℤ◌, ℕ, pos, neg_ℤ, true, length};
+ghost use Rattle.int_rows.specs.Range.{InRange};
+ghost use Rattle.number_sets.specs.Sets.{has};
+ghost use Rattle.problem_rules.specs.Problem.{material_at};
+ghost use Rattle.pns_rules.specs.Shape.{shape_of};
+ghost use Rattle.pgraph.specs.Tables.{shape};
+ghost use Rattle.flow_rules.specs.Net.{net_of, materials_of};
+ghost use Rattle.flow_rules.specs.Flows.{balance};
+ghost use Rattle.tree_rules.specs.Claim.{IsFeasible, size_in};
+ghost use Rattle.report_amounts.specs.Amounts.{flowing, net, cost, part_of, cost_sum};
+
+use crate::amounts::quotient;
+use branch_tree::Network;
+use pgraph::Graph;
+use pns_problem::{Material, Problem};
+use pns_tables::flow_of;
+use report_text::Number;
+use unit_sets::MatSet;
+
+/// What is taken of a cost.
+#[derive(Clone, Copy, Debug, PartialEq, Eq)]
+pub enum Part {
+    /// All of it.
+    All,
+    /// What is above 0.
+    Costs,
+    /// What is below 0.
+    Incomes,
+}
+
+/// The materials of the network.
+pub fn materials_in(problem: &Problem, graph: &Graph, network: &Network) -> MatSet
+    requires graph { shape graph.now ≡ shape_of problem.now }
+    requires known { (u : ℕ) → has network.now.units u ≡ true → u < length problem.now.units }
+    ensures { result ≡ materials_of (net_of problem.now) (has network.now.units) }
+{
+    graph.is_proper();
+    let materials = graph.materials(network.units());
+    materials.rises();
+    materials
+}
+
+pub fn material_of(problem: &Problem, j: u32) -> &Material
+    requires { j < length problem.now.materials }
+    ensures { result.now ≡ material_at problem.now j }
+{
+    &problem.materials()[j as usize]
+}
+
+/// What the network makes of a material of its own less what it uses of it, in 10^-12 over its `d`.
+pub fn flow_at(problem: &Problem, network: &Network, j: u32) -> i128
+    requires feasible { IsFeasible problem.now network.now }
+    requires material { has (materials_of (net_of problem.now) (has network.now.units)) j ≡ true }
+    ensures value { result ≡ balance (net_of problem.now) (has network.now.units) (size_in network.now) j }
+    ensures in_range { InRange result }
+{
+    flow_of(problem, network, j)
+}
+
+/// That times num / den.
+fn flowing(problem: &Problem, network: &Network, j: u32, num: i128, den: i128) -> Number
+    requires feasible { IsFeasible problem.now network.now }
+    requires material { has (materials_of (net_of problem.now) (has network.now.units)) j ≡ true }
+    requires num_in_range { InRange num }
+    requires den_in_range { InRange den }
+    requires positive { pos 0 <ℤ den }
+    ensures { result ≡ flowing problem.now network.now j num den }
+{
+    network.is_sized();
+    let flow = quotient(flow_at(problem, network, j), network.d());
+    flow.times(&quotient(num, den))
+}
+
+/// What is left over of the material, or below 0 what is bought of it.
+pub fn net(problem: &Problem, network: &Network, j: u32) -> Number
+    requires feasible { IsFeasible problem.now network.now }
+    requires material { has (materials_of (net_of problem.now) (has network.now.units)) j ≡ true }
+    ensures { result ≡ net problem.now network.now j }
+{
+    flowing(problem, network, j, 1, 1_000_000_000_000)
+}
+
+fn turned(price: i64) -> i128
+    ensures value { result ≡ neg_ℤ price }
+    ensures in_range { InRange result }
+{
+    -i128::from(price)
+}
+
+/// What the material costs, or below 0 what it brings in.
+pub fn cost(problem: &Problem, network: &Network, j: u32) -> Number
+    requires feasible { IsFeasible problem.now network.now }
+    requires material { has (materials_of (net_of problem.now) (has network.now.units)) j ≡ true }
+    requires known { j < length problem.now.materials }
+    ensures { result ≡ cost problem.now network.now j }
+{
+    let price = turned(material_of(problem, j).price);
+    flowing(problem, network, j, price, 1_000_000_000_000_000_000)
+}
+
+fn part_of(part: Part, cost: Number) -> Number
+    ensures { result ≡ part_of part cost }
+{
+    match part {
+        Part::All => cost,
+        Part::Costs => cost.above(),
+        Part::Incomes => cost.below(),
+    }
+}
+
+/// The sum of the costs, or of these parts of them, over the network's materials.
+pub fn cost_sum(part: Part, problem: &Problem, graph: &Graph, network: &Network) -> Number
+    requires graph { shape graph.now ≡ shape_of problem.now }
+    requires feasible { IsFeasible problem.now network.now }
+    ensures { result ≡ cost_sum part problem.now network.now }
+{
+    let mut sum = Number::nothing();
+    let mut left = materials_in(problem, graph, network);
+    'materials: loop {
+        left.rises();
+        let Some(j) = left.least() else {
+            return sum;
+        };
+        sum = sum.plus(&part_of(part, cost(problem, network, j)));
+        left = left.without(j);
+    }
+}

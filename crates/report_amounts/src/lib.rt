@@ -1,0 +1,13 @@
+//! The numbers of a claimed network for one year: costs of its units, flows and costs of its materials, and their sums.
+//!
+//! `specs/Amounts` has each number as a fraction, formed before any rounding. One for which a number past 127 bits would be formed is
+//! past, and so is each sum over it.
+//!
+//! Modules: `amounts`, the numbers of units and their sums; `costs`, those of materials.
+#![tactic(auto)]
+
+mod amounts;
+mod costs;
+
+pub use amounts::{UnitAmount, amount, share_of, size, unit_of, unit_sum};
+pub use costs::{Part, cost, cost_sum, flow_at, material_of, materials_in, net};
