@@ -1,0 +1,35 @@
+use Rattle.std.proofs.Common.{◌++◌, ◌∷◌, [], ◌∙◌, ap, codes, ℕ, List}
+use Rattle.report_amounts.specs.declared.amounts.UnitAmount.TheVariants.{Fixed, Proportional, Investment}
+use Rattle.report_amounts.specs.declared.costs.Part.TheVariants.{Costs, Incomes}
+use Rattle.report_amounts.specs.Amounts.{unit_sum, cost_sum}
+use Rattle.report_tables.specs.Report.{money_row, total_row, money_rows}
+use Rattle.report_tables.proofs.Pieces.{after_six, row_of}
+use Rattle.report_tables.proofs.money.money_rows.Goals as goal
+
+pub unit_money-requires : goal.unit_money-requires
+unit_money-requires c = c.requires.feasible.structure.s3
+
+pub unit_money-requires-2 : goal.unit_money-requires-2
+unit_money-requires-2 c = c.requires.feasible.structure.s3
+
+pub unit_money-requires-3 : goal.unit_money-requires-3
+unit_money-requires-3 c = c.requires.feasible.structure.s3
+
+pub returns : goal.returns
+returns c =
+    let p = c.args.problem.now in
+    let w = c.args.network.now in
+    row_of c.new-rows.result.items c.push-6.new.self.items (money_rows p w) c.new-rows.ensures.items
+    (after_six c.new-rows.result.items c.push.new.self.items c.push-2.new.self.items c.push-3.new.self.items c.push-4.new.self.items c.push-5.new.self.items c.push-6.new.self.items
+    (money_row (codes "fixed costs") (unit_sum Fixed p w) ∷ [])
+    (money_row (codes "proportional costs") (unit_sum Proportional p w) ∷ [])
+    (money_row (codes "investment costs") (unit_sum Investment p w) ∷ [])
+    (money_row (codes "material costs") (cost_sum Costs p w) ∷ [])
+    (money_row (codes "material incomes") (cost_sum Incomes p w) ∷ [])
+    (total_row p w ∷ [])
+    (c.in_ok-push.ensures.items ∙ ap (λ (row : List (List ℕ)). c.new-rows.result.items ++ row ∷ []) c.in_ok-unit_money.ensures)
+    (c.in_ok-push-2.ensures.items ∙ ap (λ (row : List (List ℕ)). c.push.new.self.items ++ row ∷ []) c.in_ok-unit_money-2.ensures)
+    (c.in_ok-push-3.ensures.items ∙ ap (λ (row : List (List ℕ)). c.push-2.new.self.items ++ row ∷ []) c.in_ok-unit_money-3.ensures)
+    (c.in_ok-push-4.ensures.items ∙ ap (λ (row : List (List ℕ)). c.push-3.new.self.items ++ row ∷ []) c.in_ok-material_money.ensures)
+    (c.in_ok-push-5.ensures.items ∙ ap (λ (row : List (List ℕ)). c.push-4.new.self.items ++ row ∷ []) c.in_ok-material_money-2.ensures)
+    (c.in_ok-push-6.ensures.items ∙ ap (λ (row : List (List ℕ)). c.push-5.new.self.items ++ row ∷ []) c.in_ok-total_row.ensures))

@@ -1,0 +1,178 @@
+-- The report of a claimed network: a head, three tables and a foot, parted by empty lines.
+use Rattle.std.specs.Prelude.{ℕ, ◌*◌, Bool, false, not, List, [], ◌∷◌, ◌++◌, map, flat_map, length, ℤ, pos, neg_ℤ, ◌*ℤ◌, cond, unsigned_abs, int_lt, codes, decimal, if◌then◌else◌}
+use Rattle.std.specs.Ordering.{int_eq}
+use Rattle.number_sets.specs.Sets.{has, listed}
+use Rattle.problem_rules.specs.Problem.{Problem, unit_at, material_at, is_raw_material}
+use Rattle.text_rules.specs.Canonical.{kind_word}
+use Rattle.text_rules.specs.Printed.{amount_bytes}
+use Rattle.flow_rules.specs.Net.{net_of, materials_of, million}
+use Rattle.flow_rules.specs.Flows.{balance}
+use Rattle.tree_rules.specs.Claim.{Network, size_in}
+use Rattle.decimals.specs.Decimal.{decimal_text}
+use Rattle.aligned_tables.specs.declared.column.Sort.{Sort}
+use Rattle.aligned_tables.specs.declared.column.Sort.TheVariants.{Words, Numbers}
+use Rattle.aligned_tables.specs.Aligned.{table_lines}
+use Rattle.report_text.specs.Number.{Number, number_text, share_text}
+use Rattle.report_amounts.specs.declared.amounts.UnitAmount.TheVariants.{Fixed, Proportional, Investment, Total, Once, Made, Used}
+use Rattle.report_amounts.specs.declared.costs.Part.TheVariants.{All, Costs, Incomes}
+use Rattle.report_amounts.specs.Amounts.{size, share, amount, unit_sum, net, cost, cost_sum}
+
+-- ---- head
+
+-- a count behind words
+abbrev pub counted : List ℕ → ℕ → List ℕ
+counted words n = words ++ decimal n
+
+abbrev pub network_line : Problem → Network → List ℕ
+network_line p w =
+    counted (codes "Claimed network: ") (length w.units) ++ (counted (codes " of ") (length p.units)
+    ++ (counted (codes " units, ") (length (materials_of (net_of p) (has w.units))) ++ (counted (codes " of ") (length p.materials)
+    ++ counted (codes " materials, payout period ") (unsigned_abs p.payout))))
+
+abbrev pub head_lines : Problem → Network → List (List ℕ)
+head_lines p w = network_line p w ∷ codes "Money is for one year: costs are above 0, incomes below. A number after ~ is rounded." ∷ [] ∷ []
+
+-- ---- cells
+
+-- with 9 places
+unfoldable pub number_cell : Number → List ℕ
+number_cell n = number_text 9 n
+
+-- of the upper bound, where that is above 0
+abbrev pub share_cell : Problem → Network → ℕ → List ℕ
+share_cell p w i = if int_lt (pos 0) (unit_at p i).upper then share_text (share p w i) else 45 ∷ []
+
+-- where a number over d is at one of its bounds: both are one, or it is at the upper one, or at a lower one that is not 0; else whether it is idle
+unfoldable pub idle_words : Bool → List ℕ
+idle_words idle = if idle then codes "idle" else codes "-"
+
+unfoldable pub least_words : Bool → ℤ → ℤ → ℤ → List ℕ
+least_words idle lower z d = if int_eq lower (pos 0) then idle_words idle else if int_eq z (lower *ℤ d) then codes "min" else idle_words idle
+
+unfoldable pub most_words : Bool → ℤ → ℤ → ℤ → ℤ → List ℕ
+most_words idle lower upper z d = if int_eq z (upper *ℤ d) then codes "max" else least_words idle lower z d
+
+unfoldable pub limit_words : Bool → ℤ → ℤ → ℤ → ℤ → List ℕ
+limit_words idle lower upper z d = if int_eq lower upper then codes "fixed" else most_words idle lower upper z d
+
+-- of a unit its size, of a material what is left over of it, or of a raw material what is bought
+abbrev pub unit_limit : Problem → Network → ℕ → List ℕ
+unit_limit p w i = limit_words (int_eq (size_in w i) (pos 0)) (unit_at p i).lower (unit_at p i).upper (size_in w i) w.d
+
+abbrev pub bought_or_left : Bool → ℤ → ℤ
+bought_or_left raw z = if raw then neg_ℤ z else z
+
+abbrev pub material_limit : Problem → Network → ℕ → List ℕ
+material_limit p w j =
+    limit_words false (million *ℤ (material_at p j).lower) (million *ℤ (material_at p j).upper)
+    (bought_or_left (is_raw_material (material_at p j).kind) (balance (net_of p) (has w.units) (size_in w) j)) w.d
+
+-- the lines of a table and an empty one
+unfoldable pub table_and_gap : List Sort → List (List ℕ) → List (List (List ℕ)) → List (List ℕ)
+table_and_gap sorts heading rows = table_lines sorts heading rows ++ [] ∷ []
+
+-- ---- units
+
+abbrev pub unit_heading : List (List ℕ)
+unit_heading = codes "unit" ∷ codes "size" ∷ codes "share %" ∷ codes "limit" ∷ codes "fixed" ∷ codes "proportional" ∷ codes "investment" ∷ codes "total" ∷ []
+
+abbrev pub unit_sorts : List Sort
+unit_sorts = Words ∷ Numbers ∷ Numbers ∷ Words ∷ Numbers ∷ Numbers ∷ Numbers ∷ Numbers ∷ []
+
+abbrev pub unit_row : Problem → Network → ℕ → List (List ℕ)
+unit_row p w i =
+    (unit_at p i).name ∷ number_cell (size w i) ∷ share_cell p w i ∷ unit_limit p w i ∷ number_cell (amount Fixed p w i)
+    ∷ number_cell (amount Proportional p w i) ∷ number_cell (amount Investment p w i) ∷ number_cell (amount Total p w i) ∷ []
+
+abbrev pub all_units_row : Problem → Network → List (List ℕ)
+all_units_row p w =
+    codes "all units" ∷ [] ∷ [] ∷ [] ∷ number_cell (unit_sum Fixed p w)
+    ∷ number_cell (unit_sum Proportional p w) ∷ number_cell (unit_sum Investment p w) ∷ number_cell (unit_sum Total p w) ∷ []
+
+abbrev pub unit_rows : Problem → Network → List (List (List ℕ))
+unit_rows p w = map (unit_row p w) w.units ++ all_units_row p w ∷ []
+
+abbrev pub unit_lines : Problem → Network → List (List ℕ)
+unit_lines p w = table_and_gap unit_sorts unit_heading (unit_rows p w)
+
+-- ---- materials
+
+abbrev pub material_heading : List (List ℕ)
+material_heading = codes "material" ∷ codes "kind" ∷ codes "made" ∷ codes "used" ∷ codes "net" ∷ codes "limit" ∷ codes "price" ∷ codes "cost" ∷ []
+
+abbrev pub material_sorts : List Sort
+material_sorts = Words ∷ Words ∷ Numbers ∷ Numbers ∷ Numbers ∷ Words ∷ Numbers ∷ Numbers ∷ []
+
+abbrev pub material_row : Problem → Network → ℕ → List (List ℕ)
+material_row p w j =
+    (material_at p j).name ∷ kind_word (material_at p j).kind ∷ number_cell (unit_sum (Made j) p w) ∷ number_cell (unit_sum (Used j) p w)
+    ∷ number_cell (net p w j) ∷ material_limit p w j ∷ amount_bytes (material_at p j).price ∷ number_cell (cost p w j) ∷ []
+
+abbrev pub all_materials_row : Problem → Network → List (List ℕ)
+all_materials_row p w = codes "all materials" ∷ [] ∷ [] ∷ [] ∷ [] ∷ [] ∷ [] ∷ number_cell (cost_sum All p w) ∷ []
+
+abbrev pub material_rows : Problem → Network → List (List (List ℕ))
+material_rows p w = map (material_row p w) (materials_of (net_of p) (has w.units)) ++ all_materials_row p w ∷ []
+
+abbrev pub material_lines : Problem → Network → List (List ℕ)
+material_lines p w = table_and_gap material_sorts material_heading (material_rows p w)
+
+-- ---- money
+
+abbrev pub money_heading : List (List ℕ)
+money_heading = codes "in one year" ∷ codes "money" ∷ []
+
+abbrev pub money_sorts : List Sort
+money_sorts = Words ∷ Numbers ∷ []
+
+abbrev pub money_row : List ℕ → Number → List (List ℕ)
+money_row words n = words ∷ number_cell n ∷ []
+
+-- the claimed cost over d and the payout period is in 10^-18
+unfoldable pub total_cell : Problem → Network → List ℕ
+total_cell p w = decimal_text 9 w.cost (1000000000000000000 * unsigned_abs p.payout * unsigned_abs w.d)
+
+abbrev pub total_words : ℤ → List ℕ
+total_words cost = if int_lt cost (pos 0) then codes "total (an income)" else codes "total (a cost)"
+
+abbrev pub total_row : Problem → Network → List (List ℕ)
+total_row p w = total_words w.cost ∷ total_cell p w ∷ []
+
+abbrev pub money_rows : Problem → Network → List (List (List ℕ))
+money_rows p w =
+    money_row (codes "fixed costs") (unit_sum Fixed p w) ∷ money_row (codes "proportional costs") (unit_sum Proportional p w)
+    ∷ money_row (codes "investment costs") (unit_sum Investment p w) ∷ money_row (codes "material costs") (cost_sum Costs p w)
+    ∷ money_row (codes "material incomes") (cost_sum Incomes p w) ∷ total_row p w ∷ []
+
+abbrev pub money_lines : Problem → Network → List (List ℕ)
+money_lines p w = table_and_gap money_sorts money_heading (money_rows p w)
+
+-- ---- foot
+
+abbrev pub once_line : Problem → Network → List ℕ
+once_line p w = codes "Investment, paid once: " ++ number_cell (unit_sum Once p w)
+
+-- the units of the problem that are not in the network
+abbrev pub left_out : Problem → Network → List ℕ
+left_out p w = listed (length p.units) (λ i. not (has w.units i))
+
+abbrev pub name_behind : Problem → ℕ → List ℕ
+name_behind p i = 32 ∷ (unit_at p i).name
+
+abbrev pub names_or_none : Problem → List ℕ → List ℕ
+names_or_none p [] = codes " none"
+names_or_none p (i ∷ is) = flat_map (name_behind p) (i ∷ is)
+
+abbrev pub left_out_line : Problem → Network → List ℕ
+left_out_line p w = codes "Units left out:" ++ names_or_none p (left_out p w)
+
+abbrev pub last_line : List ℕ
+last_line = codes "This is a claim, and no proof of it: pns check FILE TREE accepts it only where the tree proves it."
+
+abbrev pub foot_lines : Problem → Network → List (List ℕ)
+foot_lines p w = once_line p w ∷ left_out_line p w ∷ last_line ∷ []
+
+-- ---- all
+
+abbrev pub report_lines : Problem → Network → List (List ℕ)
+report_lines p w = head_lines p w ++ (unit_lines p w ++ (material_lines p w ++ (money_lines p w ++ foot_lines p w)))

@@ -1,0 +1,31 @@
+//! One cell more in a row.
+ghost use Rattle.std.specs.Prelude.{◌≡◌, ◌++◌, ◌∷◌, [], IfOk, OnOk, string_bytes};
+ghost use Rattle.report_tables.specs.Report.{number_cell};
+
+use aligned_tables::Row;
+use report_text::Number;
+use std::alloc::{AllocError, Global};
+
+pub(crate) fn push_words(alloc: Global, row: &mut Row, words: &str) -> Result<(), AllocError>
+    ensures { OnOk result (row.new ≡ row.old ++ words.now ∷ []) }
+{
+    let mut cell = String::new(alloc);
+    cell.push_str(words)?;
+    row.push(cell)
+}
+
+/// Appends the number with 9 places, or `past`.
+#[tactic(auto, unfolding(crate::specs::Report::number_cell))]
+pub(crate) fn push_9_places(text: &mut String, number: &Number) -> Result<(), AllocError>
+    ensures { OnOk result (string_bytes text.new ≡ string_bytes text.old ++ number_cell number.now) }
+{
+    number.push(text, 9, 1_000_000_000)
+}
+
+pub(crate) fn push_number(alloc: Global, row: &mut Row, number: &Number) -> Result<(), AllocError>
+    ensures { OnOk result (row.new ≡ row.old ++ number_cell number.now ∷ []) }
+{
+    let mut cell = String::new(alloc);
+    push_9_places(&mut cell, number)?;
+    row.push(cell)
+}

@@ -1,0 +1,94 @@
+//! The lines behind the tables.
+ghost use Rattle.std.specs.Prelude.{◌≡◌, ◌<◌, ◌++◌, ◌∷◌, [], ℕ, true, OnOk, flat_map, length, string_bytes};
+ghost use Rattle.number_sets.specs.Sets.{has};
+ghost use Rattle.pns_problem.specs.Printing.{printed};
+ghost use Rattle.report_tables.specs.Report.{once_line, left_out, name_behind, names_or_none, left_out_line, last_line, foot_lines};
+
+use crate::cells::push_9_places;
+use crate::names::{unit_count, unit_name};
+use branch_tree::Network;
+use pns_problem::Problem;
+use report_amounts::{UnitAmount, unit_sum};
+use std::alloc::AllocError;
+use unit_sets::UnitSet;
+
+fn push_once(text: &mut String, problem: &Problem, network: &Network) -> Result<(), AllocError>
+    requires { (u : ℕ) → has network.now.units u ≡ true → u < length problem.now.units }
+    ensures { OnOk result (string_bytes text.new ≡ string_bytes text.old ++ once_line problem.now network.now) }
+{
+    text.push_str("Investment, paid once: ")?;
+    push_9_places(text, &unit_sum(UnitAmount::Once, problem, network))?;
+    Ok(())
+}
+
+/// The units of the problem that are not in the network.
+fn left_out(problem: &Problem, network: &Network) -> UnitSet
+    ensures { result ≡ left_out problem.now network.now }
+{
+    let all = UnitSet::below(unit_count(problem));
+    all.rises();
+    all.minus(network.units())
+}
+
+fn push_names(text: &mut String, problem: &Problem, units: UnitSet) -> Result<(), AllocError>
+    ensures { OnOk result (string_bytes text.new ≡ string_bytes text.old ++ flat_map (name_behind problem.now) units) }
+{
+    let mut left = units;
+    'units: loop {
+        left.rises();
+        let Some(u) = left.least() else {
+            return Ok(());
+        };
+        text.push(' ')?;
+        text.push_str(unit_name(problem, u))?;
+        left = left.without(u);
+    }
+}
+
+fn push_names_or_none(
+    text: &mut String,
+    problem: &Problem,
+    units: UnitSet,
+) -> Result<(), AllocError>
+    ensures { OnOk result (string_bytes text.new ≡ string_bytes text.old ++ names_or_none problem.now units) }
+{
+    if units.is_empty() {
+        text.push_str(" none")
+    } else {
+        push_names(text, problem, units)
+    }
+}
+
+fn push_left_out(text: &mut String, problem: &Problem, network: &Network) -> Result<(), AllocError>
+    ensures { OnOk result (string_bytes text.new ≡ string_bytes text.old ++ left_out_line problem.now network.now) }
+{
+    text.push_str("Units left out:")?;
+    push_names_or_none(text, problem, left_out(problem, network))?;
+    Ok(())
+}
+
+fn push_last(text: &mut String) -> Result<(), AllocError>
+    ensures { OnOk result (string_bytes text.new ≡ string_bytes text.old ++ last_line) }
+{
+    text.push_str(
+        "This is a claim, and no proof of it: pns check FILE TREE accepts it only where the tree proves it.",
+    )
+}
+
+/// Appends the foot.
+pub(crate) fn push_foot(
+    text: &mut String,
+    problem: &Problem,
+    network: &Network,
+) -> Result<(), AllocError>
+    requires { (u : ℕ) → has network.now.units u ≡ true → u < length problem.now.units }
+    ensures { OnOk result (string_bytes text.new ≡ string_bytes text.old ++ printed (foot_lines problem.now network.now)) }
+{
+    push_once(text, problem, network)?;
+    text.push('\n')?;
+    push_left_out(text, problem, network)?;
+    text.push('\n')?;
+    push_last(text)?;
+    text.push('\n')?;
+    Ok(())
+}

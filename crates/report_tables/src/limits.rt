@@ -1,0 +1,64 @@
+//! Where a number is at one of its bounds.
+ghost use Rattle.std.specs.Prelude.{◌≡◌, ◌*ℤ◌, ℕ};
+ghost use Rattle.std.specs.Ordering.{int_eq};
+ghost use Rattle.int_rows.specs.Range.{InRange};
+ghost use Rattle.report_tables.specs.Report.{idle_words, least_words, most_words, limit_words};
+
+use int_rows::checked_product;
+
+/// Whether z over d is the bound. Where the product is out of range it is not z.
+fn is_at(z: i128, bound: i128, d: i128) -> bool
+    requires { InRange z }
+    ensures { result ≡ int_eq z (bound *ℤ d) }
+{
+    match checked_product(bound, d) {
+        Some(product) => product == z,
+        None => false,
+    }
+}
+
+#[tactic(auto, unfolding(crate::specs::Report::idle_words))]
+fn idle_words(idle: bool) -> &'static str
+    ensures { result.now ≡ idle_words idle }
+{
+    if idle { "idle" } else { "-" }
+}
+
+#[tactic(auto, unfolding(crate::specs::Report::least_words))]
+fn least_words(idle: bool, lower: i128, z: i128, d: i128) -> &'static str
+    requires { InRange z }
+    ensures { result.now ≡ least_words idle lower z d }
+{
+    if lower == 0 {
+        idle_words(idle)
+    } else if is_at(z, lower, d) {
+        "min"
+    } else {
+        idle_words(idle)
+    }
+}
+
+#[tactic(auto, unfolding(crate::specs::Report::most_words))]
+fn most_words(idle: bool, lower: i128, upper: i128, z: i128, d: i128) -> &'static str
+    requires { InRange z }
+    ensures { result.now ≡ most_words idle lower upper z d }
+{
+    if is_at(z, upper, d) {
+        "max"
+    } else {
+        least_words(idle, lower, z, d)
+    }
+}
+
+/// At which of its bounds z over d is, in a word.
+#[tactic(auto, unfolding(crate::specs::Report::limit_words))]
+pub(crate) fn limit_words(idle: bool, lower: i128, upper: i128, z: i128, d: i128) -> &'static str
+    requires { InRange z }
+    ensures { result.now ≡ limit_words idle lower upper z d }
+{
+    if lower == upper {
+        "fixed"
+    } else {
+        most_words(idle, lower, upper, z, d)
+    }
+}

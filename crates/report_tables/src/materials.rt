@@ -1,0 +1,222 @@
+//! The table of materials.
+ghost use Rattle.std.specs.Prelude.{◌≡◌, ◌<◌, ◌++◌, ◌∷◌, [], ◌*ℤ◌, ℕ, true, IfOk, OnOk, map, length, string_bytes};
+ghost use Rattle.int_rows.specs.Range.{InRange};
+ghost use Rattle.number_sets.specs.Sets.{has};
+ghost use Rattle.problem_rules.specs.Problem.{material_at, is_raw_material};
+ghost use Rattle.pns_problem.specs.Kind.{kind_of};
+ghost use Rattle.pns_problem.specs.Printing.{printed};
+ghost use Rattle.pns_rules.specs.Shape.{shape_of};
+ghost use Rattle.pgraph.specs.Tables.{shape};
+ghost use Rattle.text_rules.specs.Canonical.{kind_word};
+ghost use Rattle.text_rules.specs.Printed.{amount_bytes};
+ghost use Rattle.flow_rules.specs.Net.{net_of, materials_of, million};
+ghost use Rattle.tree_rules.specs.Claim.{IsFeasible};
+ghost use Rattle.report_amounts.specs.declared.amounts.UnitAmount.TheVariants.{Made, Used};
+ghost use Rattle.report_amounts.specs.declared.costs.Part.TheVariants.{All};
+ghost use Rattle.report_amounts.specs.Amounts.{unit_sum, net, cost, cost_sum};
+ghost use Rattle.report_tables.specs.Report.{number_cell, bought_or_left, material_limit, material_heading, material_row, all_materials_row, material_rows, material_lines};
+
+use crate::cells::{push_number, push_words};
+use crate::limits::limit_words;
+use crate::names::material_name;
+use crate::tables::push_table_and_gap;
+use aligned_tables::{Row, Sort};
+use branch_tree::Network;
+use pgraph::Graph;
+use pns_problem::{Kind, Problem, amount_text};
+use report_amounts::{
+    Part, UnitAmount, cost, cost_sum, flow_at, material_of, materials_in, net, unit_sum,
+};
+use std::alloc::{AllocError, Global};
+
+fn heading(alloc: Global) -> Result<Row, AllocError>
+    ensures { IfOk result (λ row. row ≡ material_heading) }
+{
+    let mut row = Row::new(alloc);
+    push_words(alloc, &mut row, "material")?;
+    push_words(alloc, &mut row, "kind")?;
+    push_words(alloc, &mut row, "made")?;
+    push_words(alloc, &mut row, "used")?;
+    push_words(alloc, &mut row, "net")?;
+    push_words(alloc, &mut row, "limit")?;
+    push_words(alloc, &mut row, "price")?;
+    push_words(alloc, &mut row, "cost")?;
+    Ok(row)
+}
+
+/// The word of a kind, as in the problem text.
+fn kind_word(kind: Kind) -> &'static str
+    ensures { result.now ≡ kind_word (kind_of kind) }
+{
+    match kind {
+        Kind::RawMaterial => "raw_material",
+        Kind::Intermediate => "intermediate",
+        Kind::Product => "product",
+    }
+}
+
+fn push_kind(alloc: Global, row: &mut Row, problem: &Problem, j: u32) -> Result<(), AllocError>
+    requires { j < length problem.now.materials }
+    ensures { OnOk result (row.new ≡ row.old ++ kind_word (material_at problem.now j).kind ∷ []) }
+{
+    push_words(alloc, row, kind_word(material_of(problem, j).kind))?;
+    Ok(())
+}
+
+fn bought_or_left(kind: Kind, flow: i128) -> i128
+    requires { InRange flow }
+    ensures value { result ≡ bought_or_left (is_raw_material (kind_of kind)) flow }
+    ensures in_range { InRange result }
+{
+    match kind {
+        Kind::RawMaterial => -flow,
+        Kind::Intermediate | Kind::Product => flow,
+    }
+}
+
+fn times_million(bound: i64) -> i128
+    ensures { result ≡ million *ℤ bound }
+{
+    1_000_000 * i128::from(bound)
+}
+
+fn limit(problem: &Problem, network: &Network, j: u32) -> &'static str
+    requires feasible { IsFeasible problem.now network.now }
+    requires material { has (materials_of (net_of problem.now) (has network.now.units)) j ≡ true }
+    requires known { j < length problem.now.materials }
+    ensures { result.now ≡ material_limit problem.now network.now j }
+{
+    let material = material_of(problem, j);
+    limit_words(
+        false,
+        times_million(material.lower),
+        times_million(material.upper),
+        bought_or_left(material.kind, flow_at(problem, network, j)),
+        network.d(),
+    )
+}
+
+fn push_price(alloc: Global, row: &mut Row, problem: &Problem, j: u32) -> Result<(), AllocError>
+    requires { j < length problem.now.materials }
+    ensures { OnOk result (row.new ≡ row.old ++ amount_bytes (material_at problem.now j).price ∷ []) }
+{
+    let price = amount_text(alloc, material_of(problem, j).price)?;
+    row.push(price)
+}
+
+/// What is made, what is used, and what is left over of a material.
+fn push_flows(
+    alloc: Global,
+    row: &mut Row,
+    problem: &Problem,
+    network: &Network,
+    j: u32,
+) -> Result<(), AllocError>
+    requires feasible { IsFeasible problem.now network.now }
+    requires material { has (materials_of (net_of problem.now) (has network.now.units)) j ≡ true }
+    ensures { OnOk result (row.new ≡ row.old ++ number_cell (unit_sum (Made j) problem.now network.now) ∷ number_cell (unit_sum (Used j) problem.now network.now)
+        ∷ number_cell (net problem.now network.now j) ∷ []) }
+{
+    push_number(alloc, row, &unit_sum(UnitAmount::Made(j), problem, network))?;
+    push_number(alloc, row, &unit_sum(UnitAmount::Used(j), problem, network))?;
+    push_number(alloc, row, &net(problem, network, j))?;
+    Ok(())
+}
+
+fn material_row(
+    alloc: Global,
+    problem: &Problem,
+    network: &Network,
+    j: u32,
+) -> Result<Row, AllocError>
+    requires feasible { IsFeasible problem.now network.now }
+    requires material { has (materials_of (net_of problem.now) (has network.now.units)) j ≡ true }
+    requires known { j < length problem.now.materials }
+    ensures { IfOk result (λ row. row ≡ material_row problem.now network.now j) }
+{
+    let mut row = Row::new(alloc);
+    push_words(alloc, &mut row, material_name(problem, j))?;
+    push_kind(alloc, &mut row, problem, j)?;
+    push_flows(alloc, &mut row, problem, network, j)?;
+    push_words(alloc, &mut row, limit(problem, network, j))?;
+    push_price(alloc, &mut row, problem, j)?;
+    push_number(alloc, &mut row, &cost(problem, network, j))?;
+    Ok(row)
+}
+
+fn all_materials_row(
+    alloc: Global,
+    problem: &Problem,
+    graph: &Graph,
+    network: &Network,
+) -> Result<Row, AllocError>
+    requires graph { shape graph.now ≡ shape_of problem.now }
+    requires feasible { IsFeasible problem.now network.now }
+    ensures { IfOk result (λ row. row ≡ all_materials_row problem.now network.now) }
+{
+    let mut row = Row::new(alloc);
+    push_words(alloc, &mut row, "all materials")?;
+    push_words(alloc, &mut row, "")?;
+    push_words(alloc, &mut row, "")?;
+    push_words(alloc, &mut row, "")?;
+    push_words(alloc, &mut row, "")?;
+    push_words(alloc, &mut row, "")?;
+    push_words(alloc, &mut row, "")?;
+    push_number(
+        alloc,
+        &mut row,
+        &cost_sum(Part::All, problem, graph, network),
+    )?;
+    Ok(row)
+}
+
+fn material_rows(
+    alloc: Global,
+    problem: &Problem,
+    graph: &Graph,
+    network: &Network,
+) -> Result<Vec<Row>, AllocError>
+    requires graph { shape graph.now ≡ shape_of problem.now }
+    requires feasible { IsFeasible problem.now network.now }
+    ensures { IfOk result (λ rows. rows.items ≡ map (material_row problem.now network.now) (materials_of (net_of problem.now) (has network.now.units))) }
+{
+    let mut rows = Vec::new(alloc);
+    let mut left = materials_in(problem, graph, network);
+    'materials: loop {
+        left.rises();
+        let Some(j) = left.least() else {
+            return Ok(rows);
+        };
+        rows.push(material_row(alloc, problem, network, j)?)?;
+        left = left.without(j);
+    }
+}
+
+/// Appends the table of materials and an empty line.
+pub(crate) fn push_materials(
+    alloc: Global,
+    text: &mut String,
+    problem: &Problem,
+    graph: &Graph,
+    network: &Network,
+) -> Result<(), AllocError>
+    requires graph { shape graph.now ≡ shape_of problem.now }
+    requires feasible { IsFeasible problem.now network.now }
+    ensures { OnOk result (string_bytes text.new ≡ string_bytes text.old ++ printed (material_lines problem.now network.now)) }
+{
+    let heading = heading(alloc)?;
+    let mut rows = material_rows(alloc, problem, graph, network)?;
+    rows.push(all_materials_row(alloc, problem, graph, network)?)?;
+    let sorts = [
+        Sort::Words,
+        Sort::Words,
+        Sort::Numbers,
+        Sort::Numbers,
+        Sort::Numbers,
+        Sort::Words,
+        Sort::Numbers,
+        Sort::Numbers,
+    ];
+    push_table_and_gap(alloc, text, &sorts, &heading, &rows)?;
+    Ok(())
+}

@@ -1,0 +1,165 @@
+//! The table of money.
+ghost use Rattle.std.specs.Prelude.{◌≡◌, ◌<◌, ◌++◌, ◌∷◌, [], ℕ, true, IfOk, OnOk, length, string_bytes};
+ghost use Rattle.number_sets.specs.Sets.{has};
+ghost use Rattle.pns_problem.specs.Printing.{printed};
+ghost use Rattle.pns_rules.specs.Shape.{shape_of};
+ghost use Rattle.pgraph.specs.Tables.{shape};
+ghost use Rattle.tree_rules.specs.Claim.{IsFeasible};
+ghost use Rattle.report_amounts.specs.declared.amounts.UnitAmount.TheVariants.{Fixed, Proportional, Investment};
+ghost use Rattle.report_amounts.specs.declared.costs.Part.TheVariants.{Costs, Incomes};
+ghost use Rattle.report_amounts.specs.Amounts.{unit_sum, cost_sum};
+ghost use Rattle.report_tables.specs.Report.{money_heading, money_row, total_cell, total_words, total_row, money_rows, money_lines};
+
+use crate::cells::{push_number, push_words};
+use crate::tables::push_table_and_gap;
+use aligned_tables::{Row, Sort};
+use branch_tree::Network;
+use decimals::push_quotient;
+use pgraph::Graph;
+use pns_problem::Problem;
+use report_amounts::{Part, UnitAmount, cost_sum, unit_sum};
+use report_text::Number;
+use std::alloc::{AllocError, Global};
+
+fn heading(alloc: Global) -> Result<Row, AllocError>
+    ensures { IfOk result (λ row. row ≡ money_heading) }
+{
+    let mut row = Row::new(alloc);
+    push_words(alloc, &mut row, "in one year")?;
+    push_words(alloc, &mut row, "money")?;
+    Ok(row)
+}
+
+fn money_row(alloc: Global, words: &str, number: &Number) -> Result<Row, AllocError>
+    ensures { IfOk result (λ row. row ≡ money_row words.now number.now) }
+{
+    let mut row = Row::new(alloc);
+    push_words(alloc, &mut row, words)?;
+    push_number(alloc, &mut row, number)?;
+    Ok(row)
+}
+
+fn unit_money(
+    alloc: Global,
+    words: &str,
+    what: UnitAmount,
+    problem: &Problem,
+    network: &Network,
+) -> Result<Row, AllocError>
+    requires { (u : ℕ) → has network.now.units u ≡ true → u < length problem.now.units }
+    ensures { IfOk result (λ row. row ≡ money_row words.now (unit_sum what problem.now network.now)) }
+{
+    money_row(alloc, words, &unit_sum(what, problem, network))
+}
+
+fn material_money(
+    alloc: Global,
+    words: &str,
+    part: Part,
+    problem: &Problem,
+    graph: &Graph,
+    network: &Network,
+) -> Result<Row, AllocError>
+    requires graph { shape graph.now ≡ shape_of problem.now }
+    requires feasible { IsFeasible problem.now network.now }
+    ensures { IfOk result (λ row. row ≡ money_row words.now (cost_sum part problem.now network.now)) }
+{
+    money_row(alloc, words, &cost_sum(part, problem, graph, network))
+}
+
+/// The claimed cost in one year, with 9 places.
+#[tactic(auto, unfolding(crate::specs::Report::total_cell))]
+fn push_total(text: &mut String, problem: &Problem, network: &Network) -> Result<(), AllocError>
+    ensures { OnOk result (string_bytes text.new ≡ string_bytes text.old ++ total_cell problem.now network.now) }
+{
+    problem.is_valid();
+    network.is_sized();
+    let half = 500_000_000 * problem.payout().unsigned_abs();
+    push_quotient(text, 9, 1_000_000_000, half, network.cost(), network.d())
+}
+
+fn total_words(cost: i128) -> &'static str
+    ensures { result.now ≡ total_words cost }
+{
+    if cost < 0 {
+        "total (an income)"
+    } else {
+        "total (a cost)"
+    }
+}
+
+fn total_row(alloc: Global, problem: &Problem, network: &Network) -> Result<Row, AllocError>
+    ensures { IfOk result (λ row. row ≡ total_row problem.now network.now) }
+{
+    let mut row = Row::new(alloc);
+    push_words(alloc, &mut row, total_words(network.cost()))?;
+    let mut cell = String::new(alloc);
+    push_total(&mut cell, problem, network)?;
+    row.push(cell)?;
+    Ok(row)
+}
+
+fn money_rows(
+    alloc: Global,
+    problem: &Problem,
+    graph: &Graph,
+    network: &Network,
+) -> Result<Vec<Row>, AllocError>
+    requires graph { shape graph.now ≡ shape_of problem.now }
+    requires feasible { IsFeasible problem.now network.now }
+    ensures { IfOk result (λ rows. rows.items ≡ money_rows problem.now network.now) }
+{
+    let mut rows = Vec::new(alloc);
+    rows.push(unit_money(alloc, "fixed costs", UnitAmount::Fixed, problem, network)?)?;
+    rows.push(unit_money(
+        alloc,
+        "proportional costs",
+        UnitAmount::Proportional,
+        problem,
+        network,
+    )?)?;
+    rows.push(unit_money(
+        alloc,
+        "investment costs",
+        UnitAmount::Investment,
+        problem,
+        network,
+    )?)?;
+    rows.push(material_money(
+        alloc,
+        "material costs",
+        Part::Costs,
+        problem,
+        graph,
+        network,
+    )?)?;
+    rows.push(material_money(
+        alloc,
+        "material incomes",
+        Part::Incomes,
+        problem,
+        graph,
+        network,
+    )?)?;
+    rows.push(total_row(alloc, problem, network)?)?;
+    Ok(rows)
+}
+
+/// Appends the table of money and an empty line.
+pub(crate) fn push_money(
+    alloc: Global,
+    text: &mut String,
+    problem: &Problem,
+    graph: &Graph,
+    network: &Network,
+) -> Result<(), AllocError>
+    requires graph { shape graph.now ≡ shape_of problem.now }
+    requires feasible { IsFeasible problem.now network.now }
+    ensures { OnOk result (string_bytes text.new ≡ string_bytes text.old ++ printed (money_lines problem.now network.now)) }
+{
+    let heading = heading(alloc)?;
+    let rows = money_rows(alloc, problem, graph, network)?;
+    let sorts = [Sort::Words, Sort::Numbers];
+    push_table_and_gap(alloc, text, &sorts, &heading, &rows)?;
+    Ok(())
+}

@@ -1,0 +1,191 @@
+//! The table of units.
+ghost use Rattle.std.specs.Prelude.{◌≡◌, ◌<◌, ◌++◌, ◌∷◌, [], ℕ, true, IfOk, OnOk, map, length, string_bytes};
+ghost use Rattle.number_sets.specs.Sets.{has};
+ghost use Rattle.pns_problem.specs.Printing.{printed};
+ghost use Rattle.report_tables.specs.Report.{share_cell, unit_limit, number_cell, unit_heading, unit_row, all_units_row, unit_rows, unit_lines};
+ghost use Rattle.report_amounts.specs.Amounts.{size, amount, unit_sum};
+ghost use Rattle.report_amounts.specs.declared.amounts.UnitAmount.TheVariants.{Fixed, Proportional, Investment, Total};
+ghost use Rattle.problem_rules.specs.Problem.{unit_at};
+
+use crate::cells::{push_number, push_words};
+use crate::limits::limit_words;
+use crate::names::unit_name;
+use crate::tables::push_table_and_gap;
+use aligned_tables::{Row, Sort};
+use branch_tree::Network;
+use pns_problem::Problem;
+use pns_tables::size_at;
+use report_amounts::{UnitAmount, amount, share_of, size, unit_of, unit_sum};
+use std::alloc::{AllocError, Global};
+
+fn heading(alloc: Global) -> Result<Row, AllocError>
+    ensures { IfOk result (λ row. row ≡ unit_heading) }
+{
+    let mut row = Row::new(alloc);
+    push_words(alloc, &mut row, "unit")?;
+    push_words(alloc, &mut row, "size")?;
+    push_words(alloc, &mut row, "share %")?;
+    push_words(alloc, &mut row, "limit")?;
+    push_words(alloc, &mut row, "fixed")?;
+    push_words(alloc, &mut row, "proportional")?;
+    push_words(alloc, &mut row, "investment")?;
+    push_words(alloc, &mut row, "total")?;
+    Ok(row)
+}
+
+/// The share of the upper bound, or `-` where that is 0.
+fn push_share(
+    alloc: Global,
+    row: &mut Row,
+    problem: &Problem,
+    network: &Network,
+    u: u32,
+) -> Result<(), AllocError>
+    requires { u < length problem.now.units }
+    ensures { OnOk result (row.new ≡ row.old ++ share_cell problem.now network.now u ∷ []) }
+{
+    let upper = unit_of(problem, u).upper;
+    if upper <= 0 {
+        return push_words(alloc, row, "-");
+    }
+    let mut cell = String::new(alloc);
+    share_of(network, u, upper).push_share(&mut cell)?;
+    row.push(cell)
+}
+
+fn limit(problem: &Problem, network: &Network, u: u32) -> &'static str
+    requires { u < length problem.now.units }
+    ensures { result.now ≡ unit_limit problem.now network.now u }
+{
+    let unit = unit_of(problem, u);
+    let size = size_at(network, u);
+    limit_words(
+        size == 0,
+        i128::from(unit.lower),
+        i128::from(unit.upper),
+        size,
+        network.d(),
+    )
+}
+
+/// The four costs of a unit.
+fn push_costs(
+    alloc: Global,
+    row: &mut Row,
+    problem: &Problem,
+    network: &Network,
+    u: u32,
+) -> Result<(), AllocError>
+    requires { u < length problem.now.units }
+    ensures { OnOk result (row.new ≡ row.old ++ number_cell (amount Fixed problem.now network.now u) ∷ number_cell (amount Proportional problem.now network.now u)
+        ∷ number_cell (amount Investment problem.now network.now u) ∷ number_cell (amount Total problem.now network.now u) ∷ []) }
+{
+    push_number(alloc, row, &amount(UnitAmount::Fixed, problem, network, u))?;
+    push_number(
+        alloc,
+        row,
+        &amount(UnitAmount::Proportional, problem, network, u),
+    )?;
+    push_number(
+        alloc,
+        row,
+        &amount(UnitAmount::Investment, problem, network, u),
+    )?;
+    push_number(alloc, row, &amount(UnitAmount::Total, problem, network, u))?;
+    Ok(())
+}
+
+fn unit_row(alloc: Global, problem: &Problem, network: &Network, u: u32) -> Result<Row, AllocError>
+    requires { u < length problem.now.units }
+    ensures { IfOk result (λ row. row ≡ unit_row problem.now network.now u) }
+{
+    let mut row = Row::new(alloc);
+    push_words(alloc, &mut row, unit_name(problem, u))?;
+    push_number(alloc, &mut row, &size(network, u))?;
+    push_share(alloc, &mut row, problem, network, u)?;
+    push_words(alloc, &mut row, limit(problem, network, u))?;
+    push_costs(alloc, &mut row, problem, network, u)?;
+    Ok(row)
+}
+
+/// The sums of the four costs.
+fn push_sums(
+    alloc: Global,
+    row: &mut Row,
+    problem: &Problem,
+    network: &Network,
+) -> Result<(), AllocError>
+    requires { (u : ℕ) → has network.now.units u ≡ true → u < length problem.now.units }
+    ensures { OnOk result (row.new ≡ row.old ++ number_cell (unit_sum Fixed problem.now network.now) ∷ number_cell (unit_sum Proportional problem.now network.now)
+        ∷ number_cell (unit_sum Investment problem.now network.now) ∷ number_cell (unit_sum Total problem.now network.now) ∷ []) }
+{
+    push_number(alloc, row, &unit_sum(UnitAmount::Fixed, problem, network))?;
+    push_number(
+        alloc,
+        row,
+        &unit_sum(UnitAmount::Proportional, problem, network),
+    )?;
+    push_number(
+        alloc,
+        row,
+        &unit_sum(UnitAmount::Investment, problem, network),
+    )?;
+    push_number(alloc, row, &unit_sum(UnitAmount::Total, problem, network))?;
+    Ok(())
+}
+
+fn all_units_row(alloc: Global, problem: &Problem, network: &Network) -> Result<Row, AllocError>
+    requires { (u : ℕ) → has network.now.units u ≡ true → u < length problem.now.units }
+    ensures { IfOk result (λ row. row ≡ all_units_row problem.now network.now) }
+{
+    let mut row = Row::new(alloc);
+    push_words(alloc, &mut row, "all units")?;
+    push_words(alloc, &mut row, "")?;
+    push_words(alloc, &mut row, "")?;
+    push_words(alloc, &mut row, "")?;
+    push_sums(alloc, &mut row, problem, network)?;
+    Ok(row)
+}
+
+fn unit_rows(alloc: Global, problem: &Problem, network: &Network) -> Result<Vec<Row>, AllocError>
+    requires { (u : ℕ) → has network.now.units u ≡ true → u < length problem.now.units }
+    ensures { IfOk result (λ rows. rows.items ≡ map (unit_row problem.now network.now) network.now.units) }
+{
+    let mut rows = Vec::new(alloc);
+    let mut left = network.units();
+    'units: loop {
+        left.rises();
+        let Some(u) = left.least() else {
+            return Ok(rows);
+        };
+        rows.push(unit_row(alloc, problem, network, u)?)?;
+        left = left.without(u);
+    }
+}
+
+/// Appends the table of units and an empty line.
+pub(crate) fn push_units(
+    alloc: Global,
+    text: &mut String,
+    problem: &Problem,
+    network: &Network,
+) -> Result<(), AllocError>
+    requires { (u : ℕ) → has network.now.units u ≡ true → u < length problem.now.units }
+    ensures { OnOk result (string_bytes text.new ≡ string_bytes text.old ++ printed (unit_lines problem.now network.now)) }
+{
+    let heading = heading(alloc)?;
+    let mut rows = unit_rows(alloc, problem, network)?;
+    rows.push(all_units_row(alloc, problem, network)?)?;
+    let sorts = [
+        Sort::Words,
+        Sort::Numbers,
+        Sort::Numbers,
+        Sort::Words,
+        Sort::Numbers,
+        Sort::Numbers,
+        Sort::Numbers,
+        Sort::Numbers,
+    ];
+    push_table_and_gap(alloc, text, &sorts, &heading, &rows)?;
+    Ok(())
+}
