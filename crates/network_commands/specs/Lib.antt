@@ -1,4 +1,5 @@
 pub mod Graph
 pub mod Network
+pub mod Report
 pub mod Table
 pub mod Texts

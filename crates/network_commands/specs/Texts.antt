@@ -6,8 +6,10 @@ use Rattle.endings.specs.declared.status.Status.{Status}
 use Rattle.network_commands.specs.declared.network.NetworkText.{NetworkText}
 use Rattle.network_commands.specs.declared.network.NetworkText.TheVariants as texts
 use Rattle.network_commands.specs.Graph.{NetworkGraphWork}
+use Rattle.network_commands.specs.Report.{ReportWork}
 use Rattle.network_commands.specs.Table.{TableWork}
 
 abbrev pub TextWork : NetworkText → Problem → Network → Status → List (List ℕ) → Type 0
 TextWork texts.Table = TableWork
 TextWork texts.Graph = NetworkGraphWork
+TextWork texts.Report = ReportWork

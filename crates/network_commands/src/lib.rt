@@ -1,16 +1,17 @@
-//! The commands that tell a claimed network, and the graph that it lies in: `table` and `graph`.
+//! The commands that tell a claimed network, and the graph that it lies in: `table`, `graph` and `report`.
 //!
 //! Each reads a problem, and all but `graph FILE` a tree, of which the claim's lines alone are judged. Its contract says which text is
 //! out with which status. `specs/Network` has what all of them say of a claim that is refused, and a file of `specs` for each has its
 //! text.
 //!
 //! Modules: `claim`, which gives the network of a claim or refuses it; `network`, the way from the files to the text of a network;
-//! `table` and `graph`.
+//! `table`, `graph` and `report`.
 #![tactic(auto)]
 
 mod claim;
 pub mod graph;
 mod network;
+pub mod report;
 pub mod table;
 
 pub use claim::network_of;

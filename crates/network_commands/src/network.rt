@@ -15,6 +15,7 @@ ghost use Rattle.endings.specs.Ending.{Ends, Says, Tells};
 
 use crate::claim::network_of;
 use crate::graph::network_graph;
+use crate::report::network_report;
 use crate::table::tables;
 use branch_tree::{Claim, Network, Tree};
 use command_files::{problem_of, tree_of};
@@ -32,6 +33,8 @@ pub enum NetworkText {
     Table,
     /// The graph with the network in it, for Graphviz.
     Graph,
+    /// Its units, its materials and its money in tables for people.
+    Report,
 }
 
 /// The text, whole.
@@ -49,6 +52,7 @@ fn text_of(
     match what {
         NetworkText::Table => tables(alloc, problem, graph, network),
         NetworkText::Graph => network_graph(alloc, problem, graph, network),
+        NetworkText::Report => network_report(alloc, problem, graph, network),
     }
 }
 

@@ -1,0 +1,50 @@
+//! The command `report`.
+ghost use Rattle.std.specs.Prelude.{◌≡◌, ◌⊎◌, ℕ, List, IfOk};
+ghost use Rattle.pns_io.specs.Outside.{HasRisen};
+ghost use Rattle.pns_rules.specs.Shape.{shape_of};
+ghost use Rattle.pgraph.specs.Tables.{shape};
+ghost use Rattle.tree_rules.specs.Claim.{IsFeasible};
+ghost use Rattle.report_tables.specs.Report.{report_lines};
+ghost use Rattle.endings.specs.Lines.{text_of};
+ghost use Rattle.command_files.specs.Reading.{OnFile};
+ghost use Rattle.command_files.specs.TreeFile.{OnTree};
+ghost use Rattle.network_commands.specs.Network.{OnNetwork};
+ghost use Rattle.network_commands.specs.Report.{ReportWork};
+ghost use Rattle.endings.specs.Ending.{Ends, Says};
+
+use crate::network::{NetworkText, say_of_network};
+use branch_tree::Network;
+use endings::Status;
+use pgraph::Graph;
+use pns_io::{Shelf, Sink};
+use pns_problem::Problem;
+use report_tables::report_of;
+use std::alloc::{AllocError, Global};
+
+/// The tables of the network for people.
+pub(crate) fn network_report(
+    alloc: Global,
+    problem: &Problem,
+    graph: &Graph,
+    network: &Network,
+) -> Result<Vec<u8>, AllocError>
+    requires graph { shape graph.now ≡ shape_of problem.now }
+    requires feasible { IsFeasible problem.now network.now }
+    ensures { IfOk result (λ bytes. (lines : List (List ℕ)) × (lines ≡ report_lines problem.now network.now) × (bytes.items ≡ text_of lines)) }
+{
+    report_of(alloc, problem, graph, network)
+}
+
+/// Says the network that the tree of the one file claims on the problem of the other in tables for people.
+pub fn report<F: Shelf, K: Sink>(
+    alloc: Global,
+    file: &str,
+    tree: &str,
+    shelf: &mut F,
+    out: &mut K,
+) -> Status
+    ensures { Ends (Says (OnFile (OnTree (OnNetwork ReportWork) (F.held shelf.old) tree.now) (F.held shelf.old) file.now) (λ other. (other ≡ file.now) ⊎ (other ≡ tree.now)) (record { held = F.held shelf.old; before = F.faults shelf.old; after = F.faults shelf.new }))
+        (HasRisen (K.faults out.old) (K.faults out.new)) (K.written out.old) (K.written out.new) result }
+{
+    say_of_network(alloc, NetworkText::Report, file, tree, shelf, out)
+}
