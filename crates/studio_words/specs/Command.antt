@@ -28,6 +28,7 @@ pub data Command : Type 0 where
   Expanding : List ℕ → List ℕ → Command
   Drawing : List ℕ → Command
   DrawingNetwork : List ℕ → List ℕ → Command
+  Reporting : List ℕ → List ℕ → Command
   Ranging : List ℕ → List ℕ → SpotKind → List ℕ → ℕ → Command
   Planning : List ℕ → List ℕ → ℕ → Command
   Parting : List ℕ → List ℕ → List ℕ → ℕ → Command
@@ -99,6 +100,7 @@ with_file word file second =
     else if bytes_eq word (codes "split") && is_file_word second then Some (Splitting file second)
     else if bytes_eq word (codes "expand") && is_file_word second then Some (Expanding file second)
     else if bytes_eq word (codes "graph") && is_file_word second then Some (DrawingNetwork file second)
+    else if bytes_eq word (codes "report") && is_file_word second then Some (Reporting file second)
     else None
 
 -- the commands of a file and one more word
@@ -185,6 +187,7 @@ IsFileOf (Splitting file tree) name = (name ≡ file) ⊎ (name ≡ tree)
 IsFileOf (Expanding file plan) name = (name ≡ file) ⊎ (name ≡ plan)
 IsFileOf (Drawing file) name = name ≡ file
 IsFileOf (DrawingNetwork file tree) name = (name ≡ file) ⊎ (name ≡ tree)
+IsFileOf (Reporting file tree) name = (name ≡ file) ⊎ (name ≡ tree)
 IsFileOf (Ranging file tree kind word budget) name = (name ≡ file) ⊎ (name ≡ tree)
 IsFileOf (Planning file plan budget) name = (name ≡ file) ⊎ (name ≡ plan)
 IsFileOf (Parting file inside outside budget) name = name ≡ file

@@ -2,7 +2,7 @@
 use Rattle.std.specs.Prelude.{map, string_bytes}
 use Rattle.studio_words.specs.Command as rules
 use Rattle.studio_words.specs.declared.command.Command.{Command}
-use Rattle.studio_words.specs.declared.command.Command.TheVariants.{Max, Axioms, Flows, Listing, Make, Migrate, Editing, Undoing, Checking, Solving, Trial, Telling, Table, Splitting, Expanding, Drawing, DrawingNetwork, Ranging, Planning, Parting, PartingAgainst, Merging}
+use Rattle.studio_words.specs.declared.command.Command.TheVariants.{Max, Axioms, Flows, Listing, Make, Migrate, Editing, Undoing, Checking, Solving, Trial, Telling, Table, Splitting, Expanding, Drawing, DrawingNetwork, Reporting, Ranging, Planning, Parting, PartingAgainst, Merging}
 
 abbrev pub command_view : Command → rules.Command
 command_view (Max file) = rules.Max file.now
@@ -19,6 +19,7 @@ command_view (Splitting file tree) = rules.Splitting file.now tree.now
 command_view (Expanding file plan) = rules.Expanding file.now plan.now
 command_view (Drawing file) = rules.Drawing file.now
 command_view (DrawingNetwork file tree) = rules.DrawingNetwork file.now tree.now
+command_view (Reporting file tree) = rules.Reporting file.now tree.now
 command_view (Ranging file tree kind name budget) = rules.Ranging file.now tree.now kind name.now budget
 command_view (Planning file plan budget) = rules.Planning file.now plan.now budget
 command_view (Parting file inside outside budget) = rules.Parting file.now inside.now outside.now budget

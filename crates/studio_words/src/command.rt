@@ -28,6 +28,7 @@ pub enum Command<'a> {
     Expanding(&'a str, &'a str),
     Drawing(&'a str),
     DrawingNetwork(&'a str, &'a str),
+    Reporting(&'a str, &'a str),
     Ranging(&'a str, &'a str, SpotKind, &'a str, u64),
     Planning(&'a str, &'a str, u64),
     Parting(&'a str, &'a str, &'a str, u64),
@@ -227,6 +228,8 @@ fn with_file<'a>(word: &str, file: &'a str, second: &'a str) -> Option<Command<'
         Some(Command::Expanding(file, second))
     } else if word == "graph" && !second.is_empty() {
         Some(Command::DrawingNetwork(file, second))
+    } else if word == "report" && !second.is_empty() {
+        Some(Command::Reporting(file, second))
     } else {
         None
     }
