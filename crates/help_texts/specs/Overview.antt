@@ -12,7 +12,7 @@ overview =
     codes "  flows FILE UNITS               the least cost of these units, and their sizes" ∷
     codes "  solve FILE BUDGET              a network of least cost and its proof: a TREE" ∷
     codes "  check FILE TREE                does the tree prove what it claims?" ∷
-    codes "  table FILE TREE                the claimed network as CSV, for a spreadsheet" ∷
+    codes "  report FILE TREE               the claimed network in tables; as CSV: table" ∷
     codes "  graph FILE, graph FILE TREE    the plant, and the network in it, for Graphviz" ∷
     codes "  stable FILE TREE KIND NAME BUDGET    how far a price or a cost may move" ∷
     codes "  edit FILE SCRIPT               the plant after edits; the way back: undo" ∷
@@ -24,7 +24,7 @@ overview =
     codes "  version                        which program this is" ∷
     codes "" ∷
     codes "Begin:  pns solve a.pns 10000 > tree        pns check a.pns tree" ∷
-    codes "        pns table a.pns tree                pns graph a.pns tree > a.dot" ∷
+    codes "        pns report a.pns tree               pns graph a.pns tree > a.dot" ∷
     []
 
 unfoldable pub version : List (List ℕ)

@@ -4,7 +4,7 @@ use Rattle.std.specs.Str.{bytes_eq}
 use Rattle.help_texts.specs.Lines.{text_of}
 use Rattle.help_texts.specs.Structures.{max_page, axioms_page, list_page}
 use Rattle.help_texts.specs.Flows.{flows_page, check_page}
-use Rattle.help_texts.specs.Reports.{table_page, graph_page, stable_page}
+use Rattle.help_texts.specs.Reports.{table_page, report_page, graph_page, stable_page}
 use Rattle.help_texts.specs.Searches.{solve_page, trial_page}
 use Rattle.help_texts.specs.Parts.{split_page, part_page, merge_page}
 use Rattle.help_texts.specs.Edits.{edit_page, undo_page, migrate_page, make_page}
@@ -20,6 +20,7 @@ page_of topic =
     else if bytes_eq topic (codes "solve") then Some solve_page
     else if bytes_eq topic (codes "check") then Some check_page
     else if bytes_eq topic (codes "table") then Some table_page
+    else if bytes_eq topic (codes "report") then Some report_page
     else if bytes_eq topic (codes "graph") then Some graph_page
     else if bytes_eq topic (codes "stable") then Some stable_page
     else if bytes_eq topic (codes "edit") then Some edit_page

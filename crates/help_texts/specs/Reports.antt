@@ -31,6 +31,29 @@ table_page =
     codes "  P,product,20000000000000" ∷
     []
 
+unfoldable pub report_page : List (List ℕ)
+report_page =
+    codes "pns report FILE TREE" ∷
+    codes "Prints the claimed network for people: units, materials and money in one year." ∷
+    codes "Nothing is proved by this; pns check does." ∷
+    codes "  FILE  the plant, PNS_problem_v1" ∷
+    codes "  TREE  a tree text, as solve prints it" ∷
+    codes "Prints a table of units, one of materials, one of sums. Costs are above 0," ∷
+    codes "incomes below. A number behind ~ is rounded. limit tells where an amount is at a" ∷
+    codes "bound: max, min, fixed (both) or idle (built, but of size 0)." ∷
+    codes "Ends with" ∷
+    codes "  0   The text is out, whole." ∷
+    codes "  1   refused claim WHY: the claim has no network (unknown), or its network" ∷
+    codes "      breaks an axiom (axiom) or an exclusion (exclusion), its sizes are no" ∷
+    codes "      flows (flows) or its cost is another (cost), or a number is too large" ∷
+    codes "      (sum). Is FILE the plant that TREE was made for?" ∷
+    codes "  10  tree line L KIND: line L of TREE has a fault; docs/FORMATS.md lists the" ∷
+    codes "      kinds. Have the text printed anew." ∷
+    codes "  2, 3, 6, 7, 8, 12, 20: see pns help status" ∷
+    codes "Example" ∷
+    codes "  pns report a.pns tree" ∷
+    []
+
 unfoldable pub graph_page : List (List ℕ)
 graph_page =
     codes "pns graph FILE" ∷

@@ -17,7 +17,7 @@ A FILE is a plant, PNS_problem_v1. Texts go to standard output; 0 is success.
   flows FILE UNITS               the least cost of these units, and their sizes
   solve FILE BUDGET              a network of least cost and its proof: a TREE
   check FILE TREE                does the tree prove what it claims?
-  table FILE TREE                the claimed network as CSV, for a spreadsheet
+  report FILE TREE               the claimed network in tables; as CSV: table
   graph FILE, graph FILE TREE    the plant, and the network in it, for Graphviz
   stable FILE TREE KIND NAME BUDGET    how far a price or a cost may move
   edit FILE SCRIPT               the plant after edits; the way back: undo
@@ -29,7 +29,7 @@ A FILE is a plant, PNS_problem_v1. Texts go to standard output; 0 is success.
   version                        which program this is
 
 Begin:  pns solve a.pns 10000 > tree        pns check a.pns tree
-        pns table a.pns tree                pns graph a.pns tree > a.dot
+        pns report a.pns tree               pns graph a.pns tree > a.dot
 "
 }
 

@@ -7,7 +7,7 @@ use crate::flows::{check_page, flows_page};
 use crate::parts::{merge_page, part_page, split_page};
 use crate::plans::{expand_page, periods_page};
 use crate::program::{help_page, status_page, version_page};
-use crate::reports::{graph_page, stable_page, table_page};
+use crate::reports::{graph_page, report_page, stable_page, table_page};
 use crate::searches::{solve_page, trial_page};
 use crate::structures::{axioms_page, list_page, max_page};
 
@@ -24,6 +24,7 @@ pub fn page_on(topic: &str) -> Option<&'static [u8]>
         "solve" => Some(solve_page()),
         "check" => Some(check_page()),
         "table" => Some(table_page()),
+        "report" => Some(report_page()),
         "graph" => Some(graph_page()),
         "stable" => Some(stable_page()),
         "edit" => Some(edit_page()),

@@ -1,7 +1,7 @@
 //! The pages on claimed networks as people read them.
 ghost use Rattle.std.specs.Prelude.{◌≡◌};
 ghost use Rattle.help_texts.specs.Lines.{text_of};
-ghost use Rattle.help_texts.specs.Reports.{table_page, graph_page, stable_page};
+ghost use Rattle.help_texts.specs.Reports.{table_page, report_page, graph_page, stable_page};
 
 /// The page on `table`.
 #[tactic(auto, unfolding(crate::specs::Reports::table_page))]
@@ -34,6 +34,33 @@ Example
   A,raw_material,-20000000000000
   C,intermediate,0
   P,product,20000000000000
+"
+}
+
+/// The page on `report`.
+#[tactic(auto, unfolding(crate::specs::Reports::report_page))]
+pub fn report_page() -> &'static [u8]
+    ensures { result.now ≡ text_of report_page }
+{
+    b"pns report FILE TREE
+Prints the claimed network for people: units, materials and money in one year.
+Nothing is proved by this; pns check does.
+  FILE  the plant, PNS_problem_v1
+  TREE  a tree text, as solve prints it
+Prints a table of units, one of materials, one of sums. Costs are above 0,
+incomes below. A number behind ~ is rounded. limit tells where an amount is at a
+bound: max, min, fixed (both) or idle (built, but of size 0).
+Ends with
+  0   The text is out, whole.
+  1   refused claim WHY: the claim has no network (unknown), or its network
+      breaks an axiom (axiom) or an exclusion (exclusion), its sizes are no
+      flows (flows) or its cost is another (cost), or a number is too large
+      (sum). Is FILE the plant that TREE was made for?
+  10  tree line L KIND: line L of TREE has a fault; docs/FORMATS.md lists the
+      kinds. Have the text printed anew.
+  2, 3, 6, 7, 8, 12, 20: see pns help status
+Example
+  pns report a.pns tree
 "
 }
 
