@@ -6,7 +6,7 @@ use Rattle.edit_rules.specs.Edit.{Edit}
 use Rattle.pgraph.specs.declared.verdict.Verdict.{Verdict}
 use Rattle.pgraph.specs.declared.verdict.Verdict.TheVariants.{Meets, Breaks}
 use Rattle.pns_io.specs.Outside.{HasRisen, Told, IsToldAnd}
-use Rattle.studio_words.specs.Command.{Command, Max, Axioms, Flows, Listing, Make, Migrate, Editing, Undoing, Checking, Solving, Trial, Telling, command_of, IsFileOf, IsFileWord, Table, Splitting, Expanding, Drawing, DrawingNetwork, Ranging, Planning, Parting, PartingAgainst, Merging}
+use Rattle.studio_words.specs.Command.{Command, Max, Axioms, Flows, Listing, Make, Migrate, Editing, Undoing, Checking, Solving, Trial, Telling, command_of, IsFileOf, IsFileWord, Table, Splitting, Expanding, Drawing, DrawingNetwork, Reporting, Ranging, Planning, Parting, PartingAgainst, Merging}
 use Rattle.command_files.specs.Reading.{AreHeld, FileFault, file_limit}
 use Rattle.structure_commands.specs.Max.{MaxWork}
 use Rattle.structure_commands.specs.Listing.{ListingWork}
@@ -24,6 +24,7 @@ use Rattle.flow_commands.specs.Check.{CheckWork}
 use Rattle.network_commands.specs.Network.{OnNetwork}
 use Rattle.network_commands.specs.Table.{TableWork}
 use Rattle.network_commands.specs.Network.{ClaimRefusal}
+use Rattle.network_commands.specs.Report.{ReportWork}
 use Rattle.network_commands.specs.Graph.{PlantGraphWork, NetworkGraphWork}
 use Rattle.part_commands.specs.Split.{SplitWork}
 use Rattle.part_commands.specs.PartFile.{PartFault, FirstFault, are_several}
@@ -123,6 +124,10 @@ split_status p claim tree s lines h = absurd h
 table_status : (p : Problem) (w : Network) (s : Status) (lines : List (List ℕ)) → TableWork p w s lines → s ≡ Done
 table_status p w Done lines h = refl
 table_status p w s lines h = absurd h
+
+report_status : (p : Problem) (w : Network) (s : Status) (lines : List (List ℕ)) → ReportWork p w s lines → s ≡ Done
+report_status p w Done lines h = refl
+report_status p w s lines h = absurd h
 
 -- a claim is refused, or the work on its network is done
 network_status : (work : Problem → Network → Status → List (List ℕ) → Type 0) → ((p : Problem) (w : Network) (s : Status) (lines : List (List ℕ)) → work p w s lines → s ≡ Done) → (p : Problem) (claim : Claim) (tree : Tree) (s : Status) (lines : List (List ℕ)) → OnNetwork work p claim tree s lines → (s ≡ Done) ⊎ (s ≡ Refused)
@@ -310,6 +315,11 @@ command_status held (Table name tree) s lines (file, is, inl fault) short = elim
   | inr q ↦ absurd (within_limit (held name) file_limit file (short name file_limit (inl (refl, refl))) is q.1)
 ]
 command_status held (Table name tree) s lines (file, is, inr work) short = trees_status (OnNetwork TableWork) (network_status TableWork table_status) held tree work.0 s lines work.2 (short tree tree_limit (inr (refl, refl)))
+command_status held (Reporting name tree) s lines (file, is, inl fault) short = elim (fault_status name file s lines fault) [
+  | inl q ↦ inr (inr (inl q))
+  | inr q ↦ absurd (within_limit (held name) file_limit file (short name file_limit (inl (refl, refl))) is q.1)
+]
+command_status held (Reporting name tree) s lines (file, is, inr work) short = trees_status (OnNetwork ReportWork) (network_status ReportWork report_status) held tree work.0 s lines work.2 (short tree tree_limit (inr (refl, refl)))
 command_status held (Splitting name tree) s lines (file, is, inl fault) short = elim (fault_status name file s lines fault) [
   | inl q ↦ inr (inr (inl q))
   | inr q ↦ absurd (within_limit (held name) file_limit file (short name file_limit (inl (refl, refl))) is q.1)
@@ -446,6 +456,9 @@ answer_status held (Checking name tree) lines (file, is, inr (p, given, (bytes, 
 answer_status held (Table name tree) lines (file, is, inl fault) = absurd fault
 answer_status held (Table name tree) lines (file, is, inr (p, given, (bytes, there, inl fault))) = absurd fault
 answer_status held (Table name tree) lines (file, is, inr (p, given, (bytes, there, inr rest))) = elim (network_status TableWork table_status p rest.0 rest.1 Usage lines rest.3) [ inl q ↦ cc | inr q ↦ cc ]
+answer_status held (Reporting name tree) lines (file, is, inl fault) = absurd fault
+answer_status held (Reporting name tree) lines (file, is, inr (p, given, (bytes, there, inl fault))) = absurd fault
+answer_status held (Reporting name tree) lines (file, is, inr (p, given, (bytes, there, inr rest))) = elim (network_status ReportWork report_status p rest.0 rest.1 Usage lines rest.3) [ inl q ↦ cc | inr q ↦ cc ]
 answer_status held (Splitting name tree) lines (file, is, inl fault) = absurd fault
 answer_status held (Splitting name tree) lines (file, is, inr (p, given, (bytes, there, inl fault))) = absurd fault
 answer_status held (Splitting name tree) lines (file, is, inr (p, given, (bytes, there, inr rest))) = absurd rest.3
@@ -491,6 +504,7 @@ memory_status (Undoing file script) = inr (inr (inr (inl refl)))
 memory_status (Expanding file plan) = inr (inr (inr (inl refl)))
 memory_status (Checking file tree) = inr (inr (inr (inr (inl refl))))
 memory_status (Table file tree) = inr (inr (inr (inr (inl refl))))
+memory_status (Reporting file tree) = inr (inr (inr (inr (inl refl))))
 memory_status (Splitting file tree) = inr (inr (inr (inr (inl refl))))
 memory_status (Drawing file) = inr (inr (inl refl))
 memory_status (DrawingNetwork file tree) = inr (inr (inr (inr (inl refl))))
@@ -547,6 +561,7 @@ missing_says held (Editing file script) name s lines first gone h = let same : f
 missing_says held (Undoing file script) name s lines first gone h = let same : file ≡ name = cc in nothing_held (held file) h.0 (ap held same ∙ gone) h.1
 missing_says held (Checking file tree) name s lines first gone h = let same : file ≡ name = cc in nothing_held (held file) h.0 (ap held same ∙ gone) h.1
 missing_says held (Table file tree) name s lines first gone h = let same : file ≡ name = cc in nothing_held (held file) h.0 (ap held same ∙ gone) h.1
+missing_says held (Reporting file tree) name s lines first gone h = let same : file ≡ name = cc in nothing_held (held file) h.0 (ap held same ∙ gone) h.1
 missing_says held (Splitting file tree) name s lines first gone h = let same : file ≡ name = cc in nothing_held (held file) h.0 (ap held same ∙ gone) h.1
 missing_says held (Expanding file plan) name s lines first gone h = let same : file ≡ name = cc in nothing_held (held file) h.0 (ap held same ∙ gone) h.1
 missing_says held (Drawing file) name s lines first gone h = let same : file ≡ name = cc in nothing_held (held file) h.0 (ap held same ∙ gone) h.1

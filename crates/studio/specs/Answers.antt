@@ -2,7 +2,7 @@
 use Rattle.std.specs.List.{Contains}
 use Rattle.std.specs.Prelude.{◌≡◌, ◌≤◌, ◌⊎◌, ℕ, List, [], ◌∷◌, Option, Some, None, length, codes}
 use Rattle.pns_io.specs.Outside.{HasRisen, Told, IsToldAnd}
-use Rattle.studio_words.specs.Command.{Command, Max, Axioms, Flows, Listing, Make, Migrate, Editing, Undoing, Checking, Solving, Trial, Telling, command_of, IsFileOf, IsFileWord, Table, Splitting, Expanding, Drawing, DrawingNetwork, Ranging, Planning, Parting, PartingAgainst, Merging}
+use Rattle.studio_words.specs.Command.{Command, Max, Axioms, Flows, Listing, Make, Migrate, Editing, Undoing, Checking, Solving, Trial, Telling, command_of, IsFileOf, IsFileWord, Table, Splitting, Expanding, Drawing, DrawingNetwork, Reporting, Ranging, Planning, Parting, PartingAgainst, Merging}
 use Rattle.generator.specs.Generated.{generated}
 use Rattle.problem_rules.specs.Problem.{Problem}
 use Rattle.command_files.specs.Reading.{AreHeld, GivesProblem, OnFile, file_limit}
@@ -20,6 +20,7 @@ use Rattle.command_files.specs.TreeFile.{OnTree, tree_limit}
 use Rattle.flow_commands.specs.Check.{CheckWork}
 use Rattle.network_commands.specs.Network.{OnNetwork}
 use Rattle.network_commands.specs.Table.{TableWork}
+use Rattle.network_commands.specs.Report.{ReportWork}
 use Rattle.network_commands.specs.Graph.{PlantGraphWork, NetworkGraphWork}
 use Rattle.part_commands.specs.Split.{SplitWork}
 use Rattle.part_commands.specs.Merge.{MergeWork}
@@ -49,6 +50,7 @@ CommandAnswers held (Splitting file tree) status lines = OnFile (OnTree SplitWor
 CommandAnswers held (Expanding file plan) status lines = OnFile (OnPlan ExpandWork held plan) held file status lines
 CommandAnswers held (Drawing file) status lines = OnFile PlantGraphWork held file status lines
 CommandAnswers held (DrawingNetwork file tree) status lines = OnFile (OnTree (OnNetwork NetworkGraphWork) held tree) held file status lines
+CommandAnswers held (Reporting file tree) status lines = OnFile (OnTree (OnNetwork ReportWork) held tree) held file status lines
 CommandAnswers held (Ranging file tree kind name budget) status lines = OnFile (OnTree (StableWork kind name budget) held tree) held file status lines
 CommandAnswers held (Planning file plan budget) status lines = OnFile (OnPlan (PeriodsWork budget) held plan) held file status lines
 CommandAnswers held (Parting file inside outside budget) status lines = OnFile (PartWork budget inside outside) held file status lines
@@ -91,6 +93,7 @@ first_file (Splitting file tree) = Some file
 first_file (Expanding file plan) = Some file
 first_file (Drawing file) = Some file
 first_file (DrawingNetwork file tree) = Some file
+first_file (Reporting file tree) = Some file
 first_file (Ranging file tree kind name budget) = Some file
 first_file (Planning file plan budget) = Some file
 first_file (Parting file inside outside budget) = Some file
@@ -104,6 +107,7 @@ IsReadWithin (Checking file tree) name limit = ((name ≡ file) × (limit ≡ fi
 IsReadWithin (Table file tree) name limit = ((name ≡ file) × (limit ≡ file_limit)) ⊎ ((name ≡ tree) × (limit ≡ tree_limit))
 IsReadWithin (Splitting file tree) name limit = ((name ≡ file) × (limit ≡ file_limit)) ⊎ ((name ≡ tree) × (limit ≡ tree_limit))
 IsReadWithin (DrawingNetwork file tree) name limit = ((name ≡ file) × (limit ≡ file_limit)) ⊎ ((name ≡ tree) × (limit ≡ tree_limit))
+IsReadWithin (Reporting file tree) name limit = ((name ≡ file) × (limit ≡ file_limit)) ⊎ ((name ≡ tree) × (limit ≡ tree_limit))
 IsReadWithin (Ranging file tree kind word budget) name limit = ((name ≡ file) × (limit ≡ file_limit)) ⊎ ((name ≡ tree) × (limit ≡ tree_limit))
 IsReadWithin (PartingAgainst file inside outside budget tree) name limit = ((name ≡ file) × (limit ≡ file_limit)) ⊎ ((name ≡ tree) × (limit ≡ tree_limit))
 IsReadWithin (Merging file tree parts) name limit = ((name ≡ file) × (limit ≡ file_limit)) ⊎ (((name ≡ tree) ⊎ Contains parts name) × (limit ≡ tree_limit))
@@ -131,6 +135,7 @@ statuses_of (Splitting file tree) = Done ∷ Refused ∷ BadProblem ∷ BadTree 
 statuses_of (Expanding file plan) = Done ∷ BadPlan ∷ BadProblem ∷ Memory ∷ []
 statuses_of (Drawing file) = Done ∷ BadProblem ∷ Memory ∷ []
 statuses_of (DrawingNetwork file tree) = Done ∷ Refused ∷ BadProblem ∷ BadTree ∷ Memory ∷ []
+statuses_of (Reporting file tree) = Done ∷ Refused ∷ BadProblem ∷ BadTree ∷ Memory ∷ []
 statuses_of (Ranging file tree kind name budget) = Done ∷ Refused ∷ Spent ∷ Past ∷ BadProblem ∷ BadTree ∷ NotBest ∷ UnknownName ∷ Memory ∷ []
 statuses_of (Planning file plan budget) = Done ∷ Spent ∷ Past ∷ BadPlan ∷ BadProblem ∷ Memory ∷ []
 statuses_of (Parting file inside outside budget) = Done ∷ Spent ∷ Past ∷ BadNode ∷ BadProblem ∷ Memory ∷ []

@@ -16,6 +16,7 @@ use endings::say::{say, say_memory, say_text};
 use flow_commands::check::{accepted_is_best, check};
 use flow_commands::flows::flows;
 use network_commands::graph::{graph, plant_graph};
+use network_commands::report::report;
 use network_commands::table::table;
 use part_commands::merge::merge;
 use part_commands::split::split;
@@ -53,6 +54,7 @@ fn perform<F: Shelf, K: Sink>(
         Command::Undoing(file, script) => undo(alloc, file, script, shelf, out),
         Command::Checking(file, tree) => check(alloc, file, tree, shelf, out),
         Command::Table(file, tree) => table(alloc, file, tree, shelf, out),
+        Command::Reporting(file, tree) => report(alloc, file, tree, shelf, out),
         Command::Splitting(file, tree) => split(alloc, file, tree, shelf, out),
         Command::Expanding(file, plan) => expand(alloc, file, plan, shelf, out),
         Command::Drawing(file) => plant_graph(alloc, file, shelf, out),
