@@ -314,6 +314,10 @@ pub is_looked : {A : Type 0} (r : Result Children A) (Past : PastPlaces) (p : Pr
 is_looked (Ok c) Past p n w os h = h.0
 is_looked (Err e) Past p n w os h = tt
 
+pub has_options : {A : Type 0} (r : Result Children A) (Past : PastPlaces) (p : Problem) (n : Node) (w : Way) (os : List (List ℕ)) → IfOk r (λ c. AreLooked Past p n w c × (options_in c ≡ os)) → IfOk r (λ c. options_in c ≡ os)
+has_options (Ok c) Past p n w os h = h.1
+has_options (Err e) Past p n w os h = tt
+
 -- an option that is still to come is one of all
 pub comes : (done rest : List (List ℕ)) (t : List ℕ) (all : List (List ℕ)) → done ++ t ∷ rest ≡ all → IsIn t all
 comes [] rest t all e = subst (λ ts. IsIn t ts) e (inl refl)

@@ -5,3 +5,4 @@ pub mod ChildLemmas
 pub mod KnownLemmas
 pub mod LookLemmas
 pub mod OptionWalk
+pub mod SolvedLemmas

@@ -9,7 +9,7 @@ use Rattle.pns_rules.specs.Shape.{Shape, IsProper, shape_of}
 use Rattle.branch_tree.specs.Known.{AreUnits, KnowsStep, KnowsLeaf, KnowsEnd}
 use Rattle.pns_rules.specs.Nodes as rules
 use Rattle.pns_rules.specs.Nodes.{after}
-use Rattle.pns_rules.specs.Ends.{IsSound, IsDead, IsNever, Leads, Stop}
+use Rattle.pns_rules.specs.Ends.{IsSound, IsDecided, Leads, Stop}
 use Rattle.pgraph.specs.View.{node_of}
 use Rattle.unit_sets.specs.declared.node.Node.{Node}
 use Rattle.tree_rules.specs.Tree.{leaf, StepsPass, after_all}
@@ -24,16 +24,17 @@ use Rattle.turn_laws.specs.Values.{IsPositive, IsUnder, IsNoMore}
 use Rattle.turn_laws.proofs.FractionLemmas.{fraction_trans}
 use Rattle.turn_laws.proofs.GrowLemmas.{leaf_fallen}
 use Rattle.mixed_numbers.specs.Number.{numerator, denominator}
+use Rattle.mixed_numbers.specs.OrderLaws.{denominator_positive}
 use Rattle.node_looks.specs.declared.evaluator.Bound.{Bound}
 use Rattle.node_looks.specs.declared.evaluator.Halt.{Halt}
 use Rattle.node_looks.specs.declared.looks.Looked.{Looked}
-use Rattle.node_looks.specs.Evaluated.{PastPlaces, cost_over, cost_in, IsBoundOf, IsNetworkOf}
+use Rattle.node_looks.specs.Evaluated.{PastPlaces, cost_over, cost_in, IsBoundOf, IsNetworkOf, HasUnits}
 use Rattle.node_looks.specs.Looks.{is_bounded_leaf, is_bounded, cost_of, IsFoundAt, AreFoundAt, IsOpenAs, IsSameNode, IsSeen, IsLooked}
 use Rattle.node_looks.proofs.KnownLemmas.{known_steps}
 
 -- what a lower bound is over is above 0
 pub low_positive : (b : Bound) → IsPositive (cost_over b.low)
-low_positive b = let h = b.low.positive in omega (arith, ints)
+low_positive b = let h = denominator_positive b.low in omega (arith, ints)
 
 -- a number that no relaxed flows of the node undercut is at most the node's value
 pub under_value : (p : Problem) (n : rules.Node) (v : CostOver) (b : Bound) → IsPositive v → IsUnder p v n → IsBoundOf p n b → IsNoMore v (cost_over b.value)
@@ -41,9 +42,11 @@ under_value p n v b pv u h =
     let r = h.value.reached in
     fraction_trans v.cost v.d (relaxed_cost (net_of p) n r.sizes r.d) r.d (numerator b.value) (denominator b.value) pv r.relaxed.positive h.value.positive (u r.sizes r.d r.relaxed) r.at_most
 
-found_here : (p : Problem) (n : rules.Node) (b : Bound) (w : Network) → IsNever (IsDead (shape_of p) n) → IsBoundOf p n b → IsNetworkOf p b.value w → IsFoundAt p n w
-found_here p n b w alive h k = record {
-  alive = alive;
+found_here : (p : Problem) (n : rules.Node) (b : Bound) (w : Network) → IsDecided (shape_of p) n → IsBoundOf p n b → IsNetworkOf p b.value w → HasUnits n w → IsFoundAt p n w
+found_here p n b w decided h k units = record {
+  alive = decided.reduced.live.no_dead;
+  none_free = decided.none_free;
+  units = units;
   feasible = k.feasible;
   positive = k.positive;
   no_less = λ v pv u. fraction_trans v.cost v.d (numerator b.value) (denominator b.value) w.cost w.d pv h.value.positive k.positive (under_value p n v b pv u h) k.no_less;
@@ -51,15 +54,15 @@ found_here p n b w alive h k = record {
 
 module _ (Past : PastPlaces) (p : Problem) (cell : Cell) (l : Looked) where
   pub seen_solved : (b : Bound) (w : Network) → l.cell ≡ as_shut cell (leaf (bounded b.scaled.d b.scaled.ys)) → l.network ≡ Some w → l.halt ≡ None
-      → IsNever (IsDead (shape_of p) (place_of cell)) → IsBoundOf p (place_of cell) b → IsNetworkOf p b.value w → IsNoMore (cost_in w) (cost_over b.low) → InRange b.scaled.d → AllInRange b.scaled.ys → IsSeen Past p l
-  seen_solved b w ec en eh alive h k reached scale multipliers = record {
+      → IsDecided (shape_of p) (place_of cell) → IsBoundOf p (place_of cell) b → IsNetworkOf p b.value w → IsNoMore (cost_in w) (cost_over b.low) → HasUnits (place_of cell) w → InRange b.scaled.d → AllInRange b.scaled.ys → IsSeen Past p l
+  seen_solved b w ec en eh decided h k reached units scale multipliers = record {
     what = bounded b.scaled.d b.scaled.ys;
     end_is = ap (λ (c : Cell). c.end) ec;
     passes = subst (λ (o : Option Network). LeafPasses true p (cost_of o) (place_of l.cell) (bounded b.scaled.d b.scaled.ys)) (sym en)
         (subst (λ (c : Cell). LeafPasses true p (Some (cost_in w)) (place_of c) (bounded b.scaled.d b.scaled.ys)) (sym ec)
         (leaf_fallen p (Some (cost_over b.low)) (Some (cost_in w)) (place_of cell) (bounded b.scaled.d b.scaled.ys) reached (low_positive b) k.positive h.bounded));
     found = subst (λ (o : Option Network). AreFoundAt p (place_of l.cell) o) (sym en)
-        (subst (λ (c : Cell). IsFoundAt p (place_of c) w) (sym ec) (found_here p (place_of cell) b w alive h k));
+        (subst (λ (c : Cell). IsFoundAt p (place_of c) w) (sym ec) (found_here p (place_of cell) b w decided h k units));
     bounded = ap (λ (o : Option Network). is_some o) en ∙ sym (ap (λ (c : Cell). is_bounded c.end) ec);
     end_known = subst (λ (c : Cell). KnowsEnd p c.end) (sym ec) (scale, multipliers);
     open_as = subst (λ (o : Option Halt). IsOpenAs Past p (place_of l.cell) (bounded b.scaled.d b.scaled.ys) l.value l.ready o) (sym eh) (λ e. absurd (let q : bounded b.scaled.d b.scaled.ys ≡ untried = e in cc));

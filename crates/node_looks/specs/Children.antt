@@ -1,5 +1,5 @@
 -- What a search sees of all children of a node, and the cheapest network that it knows then.
-use Rattle.std.specs.Prelude.{◌≡◌, ℕ, ◌<◌, Bool, true, false, List, [], ◌∷◌, length, map, Option, Some, None, is_some}
+use Rattle.std.specs.Prelude.{◌≡◌, ℕ, ℤ, ◌<◌, Bool, true, false, List, [], ◌∷◌, length, map, Option, Some, None, is_some}
 use Rattle.problem_rules.specs.Problem.{Problem}
 use Rattle.pns_rules.specs.Shape.{Shape, shape_of}
 use Rattle.pns_rules.specs.Nodes.{Node}
@@ -9,7 +9,7 @@ use Rattle.tree_rules.specs.Ways.{Way}
 use Rattle.tree_rules.specs.Tree.{leaf}
 use Rattle.tree_rules.specs.Claim as claims
 use Rattle.tree_rules.specs.Claim.{CostOver, claimed_cost, ClaimPasses}
-use Rattle.tree_rules.specs.Leaf.{Leaf, untried, LeafPasses}
+use Rattle.tree_rules.specs.Leaf.{Leaf, bounded, untried, LeafPasses, IsBounded}
 use Rattle.search_tree.specs.Cells.{Cell, place_of, cell_at}
 use Rattle.search_tree.specs.Fits.{Follows}
 use Rattle.search_tree.specs.declared.growth.Fresh.{Fresh}
@@ -23,8 +23,8 @@ use Rattle.node_looks.specs.declared.looks.Ready.{Ready}
 use Rattle.node_looks.specs.declared.looks.Looked.{Looked}
 use Rattle.node_looks.specs.declared.children.HaltedAt.{HaltedAt}
 use Rattle.node_looks.specs.declared.children.Children.{Children}
-use Rattle.node_looks.specs.Evaluated.{PastPlaces}
-use Rattle.node_looks.specs.Looks.{cost_of, is_bounded, has_bounded, KnowsCell, AreFoundAt, IsSomeReady, IsHalted, IsOpenAs}
+use Rattle.node_looks.specs.Evaluated.{PastPlaces, cost_in}
+use Rattle.node_looks.specs.Looks.{cost_of, is_bounded, has_bounded, KnowsCell, IsFoundAt, AreFoundAt, IsSomeReady, IsHalted, IsOpenAs}
 
 -- ---- the cheapest network
 
@@ -114,6 +114,28 @@ pub record AreSeen (Past : PastPlaces) (p : Problem) (n : Node) (w : Way) (c : C
   pub known : (k : ℕ) → k < length c.kids.items → KnowsCell p (cell_at (cells_of c.kids.items) k)
   pub same_length : length c.ready.items ≡ length c.kids.items
   pub halt_holds : HaltHolds Past p c.kids.items c.ready.items c.halt
+
+-- ---- the network of each leaf
+
+-- the cell is a leaf at which the network was found, and bounded by its cost
+pub record IsSolvedAs (p : Problem) (c : Cell) (w : claims.Network) : Type 0 where
+  pub d : ℤ
+  pub ys : List ℤ
+  pub end_is : c.end ≡ leaf (bounded d ys)
+  pub found : IsFoundAt p (place_of c) w
+  pub bounded : IsBounded p (Some (cost_in w)) (place_of c) d ys
+
+-- the cell is such a leaf, or not bounded
+abbrev pub IsSolvedBy : Problem → Cell → Option claims.Network → Type 0
+IsSolvedBy p c None = is_bounded c.end ≡ false
+IsSolvedBy p c (Some w) = IsSolvedAs p c w
+
+-- there is a network for each cell that is bounded, and for no other
+abbrev pub AreSolvedBy : Problem → List Cell → List (Option claims.Network) → Type 0
+AreSolvedBy p [] [] = Unit {0}
+AreSolvedBy p [] (w ∷ ws) = ⊥
+AreSolvedBy p (c ∷ cs) [] = ⊥
+AreSolvedBy p (c ∷ cs) (w ∷ ws) = IsSolvedBy p c w × AreSolvedBy p cs ws
 
 -- the graph has the material, or a unit of this number can be in a set
 abbrev pub IsKnown : Shape → Choice → Type 0

@@ -1,6 +1,7 @@
 -- What a search is told of a node that no step changes any more: the least cost of its relaxed flows with multipliers that prove a
 -- lower bound of it, a network of that cost, multipliers that refute it, or the place where a number is past the range.
-use Rattle.std.specs.Prelude.{◌≡◌, pos, ◌≤ℤ◌, Bool, true, false, List, Some}
+use Rattle.std.specs.Prelude.{◌≡◌, ℕ, pos, ◌≤ℤ◌, Bool, true, false, List, Some}
+use Rattle.number_sets.specs.Sets.{has}
 use Rattle.problem_rules.specs.Problem.{Problem}
 use Rattle.pns_rules.specs.Nodes.{Node}
 use Rattle.mixed_numbers.specs.declared.number.Mixed.{Mixed}
@@ -41,10 +42,14 @@ pub record IsNetworkOf (p : Problem) (value : Mixed) (w : Network) : Type 0 wher
   pub no_more : IsNoMore (cost_in w) (cost_over value)
   pub no_less : IsNoMore (cost_over value) (cost_in w)
 
+-- the units that are taken in at the node are those of the network
+abbrev pub HasUnits : Node → Network → Type 0
+HasUnits n w = (u : ℕ) → n.inside u ≡ has w.units u
+
 -- of a node at which all is decided the network is told, whose cost the multipliers prove, of others the least cost
 abbrev pub IsEvaluated : PastPlaces → Problem → Node → Bool → Evaluation → Type 0
 IsEvaluated Past p n decided (Least b) = (decided ≡ false) × IsBoundOf p n b
-IsEvaluated Past p n decided (Flows b w) = (decided ≡ true) × IsBoundOf p n b × IsNetworkOf p b.value w × IsNoMore (cost_in w) (cost_over b.low)
+IsEvaluated Past p n decided (Flows b w) = (decided ≡ true) × IsBoundOf p n b × IsNetworkOf p b.value w × IsNoMore (cost_in w) (cost_over b.low) × HasUnits n w
 IsEvaluated Past p n decided (Refuted ys) = IsRefuted p n ys
 IsEvaluated Past p n decided (Halted h) = Past p n h.nonbasic h.place
 

@@ -1,8 +1,8 @@
 -- What a search sees where it looks at a node: the steps that are possible, the node that they leave, and its end.
-use Rattle.std.specs.Prelude.{◌≡◌, ℕ, pos, ◌≤ℤ◌, Bool, true, false, ◌||◌, List, [], ◌∷◌, Option, Some, None, is_some}
+use Rattle.std.specs.Prelude.{◌≡◌, ℕ, ◌<◌, pos, ◌≤ℤ◌, Bool, true, false, ◌||◌, List, [], ◌∷◌, Option, Some, None, is_some}
 use Rattle.problem_rules.specs.Problem.{Problem}
 use Rattle.pns_rules.specs.Shape.{shape_of}
-use Rattle.pns_rules.specs.Nodes.{Node}
+use Rattle.pns_rules.specs.Nodes.{Node, is_free}
 use Rattle.pns_rules.specs.Ends.{IsSound, IsReduced, IsDead, IsNever}
 use Rattle.mixed_numbers.specs.declared.number.Mixed.{Mixed}
 use Rattle.tree_rules.specs.Tree.{End, branch, leaf}
@@ -16,7 +16,7 @@ use Rattle.branch_choice.specs.Choices.{IsChoice}
 use Rattle.node_looks.specs.declared.evaluator.Halt.{Halt}
 use Rattle.node_looks.specs.declared.looks.Ready.{Ready}
 use Rattle.node_looks.specs.declared.looks.Looked.{Looked}
-use Rattle.node_looks.specs.Evaluated.{PastPlaces, cost_in, IsBoundOf}
+use Rattle.node_looks.specs.Evaluated.{PastPlaces, cost_in, IsBoundOf, HasUnits}
 
 -- ---- an open leaf
 
@@ -71,10 +71,12 @@ abbrev pub cost_of : Option Network → Option CostOver
 cost_of None = None
 cost_of (Some w) = Some (cost_in w)
 
--- no needed material of the node is dead; the network has flows, and costs no less than any number that no relaxed flows of the
--- node undercut
+-- no needed material of the node is dead, no unit is free there, and those taken in are the network's; the network has flows, and
+-- costs no less than any number that no relaxed flows of the node undercut
 pub record IsFoundAt (p : Problem) (n : Node) (w : Network) : Type 0 where
   pub alive : IsNever (IsDead (shape_of p) n)
+  pub none_free : (u : ℕ) → u < (shape_of p).units → is_free (shape_of p) n u ≡ false
+  pub units : HasUnits n w
   pub feasible : IsFeasible p w
   pub positive : pos 1 ≤ℤ w.d
   pub no_less : (v : CostOver) → IsPositive v → IsUnder p v n → IsNoMore v (cost_in w)

@@ -1,5 +1,5 @@
 //! A look at all children of a node.
-ghost use Rattle.std.specs.Prelude.{◌≡◌, ◌⊎◌, ◌↔◌, ◌++◌, ◌∷◌, [], ◌||◌, IsTrue, true, false, Some, None, is_some, IfOk, OnOk, length};
+ghost use Rattle.std.specs.Prelude.{◌≡◌, ◌⊎◌, ◌↔◌, ◌++◌, ◌∷◌, [], ◌||◌, cond, IsTrue, true, false, Some, None, is_some, IfOk, OnOk, length};
 ghost use Rattle.pns_rules.specs.Shape.{shape_of};
 ghost use Rattle.number_sets.specs.Options.{IsIn};
 ghost use Rattle.pns_rules.specs.Ends.{IsSound, IsReduced};
@@ -10,7 +10,7 @@ ghost use Rattle.pgraph.specs.View.{node_of};
 ghost use Rattle.turn_laws.specs.Values.{IsNoMore, HasFallen};
 ghost use Rattle.node_looks.specs.Evaluated.{cost_in};
 ghost use Rattle.node_looks.specs.Looks.{cost_of};
-ghost use Rattle.node_looks.specs.Children.{IsChild, AreLooked, AreSeen, options_in, halt_after};
+ghost use Rattle.node_looks.specs.Children.{IsChild, AreLooked, AreSeen, AreSolvedBy, cells_of, options_in, halt_after};
 ghost use Rattle.branch_tree.specs.Known.{AreUnits};
 ghost use Rattle.neutral_extension.specs.Candidates.{AreMakersOf};
 
@@ -35,17 +35,19 @@ pub struct HaltedAt {
 }
 
 /// The children of a node in the order of their options, with what is at hand for each; the cheapest network that was found among
-/// them; and the first child that halts the search. Those behind it are not looked at.
+/// them; the network that was found at each, where all are asked for; and the first child that halts the search. Those behind it are
+/// not looked at.
 #[derive(Drop)]
 pub struct Children {
     pub kids: Vec<Fresh>,
     pub ready: Vec<Option<Ready>>,
     pub best: Option<Network>,
+    pub networks: Vec<Option<Network>>,
     pub halt: Option<HaltedAt>,
 }
 
 /// Whether the first network costs no more than the second.
-fn costs_no_more(a: &Network, b: &Network) -> bool
+pub fn costs_no_more(a: &Network, b: &Network) -> bool
     ensures { IsTrue result ↔ IsNoMore (cost_in a.now) (cost_in b.now) }
 {
     a.is_sized();
@@ -82,16 +84,56 @@ fn halted_after(old: Option<HaltedAt>, at: usize, halt: Option<Halt>) -> Option<
     }
 }
 
+/// A copy of a network.
+pub fn copy_of_network(
+    alloc: Global,
+    network: &Option<Network>,
+) -> Result<Option<Network>, AllocError>
+    ensures { IfOk result (λ copy. copy ≡ network.now) }
+{
+    let Some(network) = network else {
+        return Ok(None);
+    };
+    network.is_sized();
+    let sizes = network.sizes().to_vec(alloc)?;
+    Ok(Some(Network::of(network.units(), sizes, network.d(), network.cost())))
+}
+
+/// The networks with a copy of one more, where all are asked for.
+fn with_network(
+    alloc: Global,
+    networks: Vec<Option<Network>>,
+    network: &Option<Network>,
+    all: bool,
+) -> Result<Vec<Option<Network>>, AllocError>
+    ensures { IfOk result (λ ws. ws.items ≡ cond all (networks.items ++ network.now ∷ []) networks.items) }
+{
+    if !all {
+        return Ok(networks);
+    }
+    let mut networks = networks;
+    let copy = copy_of_network(alloc, network)?;
+    networks.push(copy)?;
+    Ok(networks)
+}
+
 /// The children with one more.
-fn with_child(children: Children, looked: Looked) -> Result<Children, AllocError>
+fn with_child(
+    alloc: Global,
+    children: Children,
+    looked: Looked,
+    all: bool,
+) -> Result<Children, AllocError>
     ensures kids { IfOk result (λ c. c.kids.items ≡ children.kids.items ++ record { cell = looked.cell; value = looked.value } ∷ []) }
     ensures ready { IfOk result (λ c. c.ready.items ≡ children.ready.items ++ looked.ready ∷ []) }
     ensures which { IfOk result (λ c. (c.best ≡ children.best) ⊎ (c.best ≡ looked.network)) }
     ensures old { IfOk result (λ c. HasFallen (cost_of children.best) (cost_of c.best)) }
     ensures found { IfOk result (λ c. HasFallen (cost_of looked.network) (cost_of c.best)) }
     ensures some { IfOk result (λ c. is_some c.best ≡ (is_some children.best || is_some looked.network)) }
+    ensures networks { IfOk result (λ c. c.networks.items ≡ cond all (children.networks.items ++ looked.network ∷ []) children.networks.items) }
     ensures halt { IfOk result (λ c. c.halt ≡ halt_after children.halt (length children.kids.items) looked.halt) }
 {
+    let networks = with_network(alloc, children.networks, &looked.network, all)?;
     let mut kids = children.kids;
     let mut ready = children.ready;
     let at = kids.len();
@@ -104,6 +146,7 @@ fn with_child(children: Children, looked: Looked) -> Result<Children, AllocError
         kids,
         ready,
         best: cheaper(children.best, looked.network),
+        networks,
         halt: halted_after(children.halt, at, looked.halt),
     })
 }
@@ -149,6 +192,7 @@ fn look_at_child<E: Evaluator>(
     choice: Choice,
     option: UnitSet,
     children: Children,
+    all: bool,
 ) -> Result<Children, AllocError>
     requires graph { shape graph.now ≡ shape_of problem.now }
     requires same { AreMakersOf (shape graph.now) makers.old.makers }
@@ -157,7 +201,9 @@ fn look_at_child<E: Evaluator>(
     requires choice { IsChoice (shape_of problem.now) (node_of node.now) choice }
     requires option { IsIn option (options_at (shape_of problem.now) (node_of node.now) (way_of choice)) }
     requires looked { AreLooked E.past problem.now (node_of node.now) (way_of choice) children }
+    requires solved { all ≡ true → AreSolvedBy problem.now (cells_of children.kids.items) children.networks.items }
     ensures looked { IfOk result (AreLooked E.past problem.now (node_of node.now) (way_of choice)) }
+    ensures solved { IfOk result (λ c. all ≡ true → AreSolvedBy problem.now (cells_of c.kids.items) c.networks.items) }
     ensures options { IfOk result (λ c. options_in c ≡ options_in children ++ option ∷ []) }
     ensures makers { makers.new.makers ≡ makers.old.makers }
 {
@@ -168,10 +214,11 @@ fn look_at_child<E: Evaluator>(
     let looked = look_or_wait(
         alloc, evaluator, problem, graph, makers, option, start, halted,
     )?;
-    with_child(children, looked)
+    with_child(alloc, children, looked, all)
 }
 
-/// Looks at all children of a node that a choice gives, in the order of their options. The makers are those of the graph, whichever
+/// Looks at all children of a node that a choice gives, in the order of their options, and copies each network where `all` are asked
+/// for. The makers are those of the graph, whichever
 /// units are taken out of them, and stay so. `Err` comes for want of memory alone.
 pub fn look_at_children<E: Evaluator>(
     alloc: Global,
@@ -181,6 +228,7 @@ pub fn look_at_children<E: Evaluator>(
     makers: &mut Makers,
     node: Node,
     choice: Choice,
+    all: bool,
 ) -> Result<Children, AllocError>
     requires graph { shape graph.now ≡ shape_of problem.now }
     requires same { AreMakersOf (shape graph.now) makers.old.makers }
@@ -188,6 +236,7 @@ pub fn look_at_children<E: Evaluator>(
     requires reduced { IsReduced (shape_of problem.now) (node_of node) }
     requires choice { IsChoice (shape_of problem.now) (node_of node) choice }
     ensures seen { IfOk result (AreSeen E.past problem.now (node_of node) (way_of choice)) }
+    ensures solved { IfOk result (λ c. all ≡ true → AreSolvedBy problem.now (cells_of c.kids.items) c.networks.items) }
     ensures makers { makers.new.makers ≡ makers.old.makers }
 {
     problem.is_valid();
@@ -197,11 +246,12 @@ pub fn look_at_children<E: Evaluator>(
         kids: Vec::new(alloc),
         ready: Vec::new(alloc),
         best: None,
+        networks: Vec::new(alloc),
         halt: None,
     };
     'options: for option in &options {
         children = look_at_child(
-            alloc, evaluator, problem, graph, makers, &node, choice, *option, children,
+            alloc, evaluator, problem, graph, makers, &node, choice, *option, children, all,
         )?;
     }
     Ok(children)

@@ -18,7 +18,7 @@ mod evaluator;
 mod looks;
 mod options;
 
-pub use children::{Children, HaltedAt, cheaper, look_at_children};
+pub use children::{Children, HaltedAt, cheaper, copy_of_network, costs_no_more, look_at_children};
 pub use costs::is_no_more;
 pub use evaluator::{Bound, Evaluation, Evaluator, Halt, Proof};
 pub use looks::{Looked, Ready, look, open_cell};

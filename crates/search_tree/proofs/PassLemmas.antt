@@ -7,7 +7,7 @@ use Rattle.tree_rules.specs.Ways.{Way, width, child_at}
 use Rattle.tree_rules.specs.Tree.{End, branch, leaf, TreeNode, children, skip, roots, StepsPass, after_all, below, Stands, EndPasses, Pass}
 use Rattle.tree_rules.specs.Leaf.{Leaf}
 use Rattle.search_tree.specs.Cells.{Cell, place_of, cell_at, numbers_below, children_at, AreBehind, IsLinked}
-use Rattle.search_tree.specs.Preorder.{IsPreorder, tree_of}
+use Rattle.search_tree.specs.Preorder.{IsPreorder, tree_of, told_end, told_tree}
 use Rattle.search_tree.specs.Fits.{Follows, EndFits, Fits}
 use Rattle.search_tree.specs.Laws.{IsCell}
 use Rattle.search_tree.proofs.TreeLemmas.{count_below}
@@ -19,11 +19,11 @@ from_none n = omega arith
 from_next : (n m : ℕ) → suc n + m ≡ suc (n + m)
 from_next n m = omega arith
 
-skip-none : (b : ℕ) → skip {L = Leaf} b [] ≡ []
+skip-none : {L : Type 0} (b : ℕ) → skip {L = L} b [] ≡ []
 skip-none zero = refl
 skip-none (suc b) = refl
 
-skip-add : (ts : List (TreeNode Leaf)) (a b : ℕ) → skip (a + b) ts ≡ skip b (skip a ts)
+skip-add : {L : Type 0} (ts : List (TreeNode L)) (a b : ℕ) → skip (a + b) ts ≡ skip b (skip a ts)
 skip-add ts zero b = ap (λ n. skip n ts) (from_none b)
 skip-add [] (suc a) b = skip-none (suc a + b) ∙ sym (skip-none b)
 skip-add (t ∷ ts) (suc a) b = ap (λ n. skip n (t ∷ ts)) (from_next a b) ∙ ap (λ n. skip n ts) (group (children t.end) a b) ∙ skip-add ts (children t.end + a) b
@@ -31,13 +31,13 @@ skip-add (t ∷ ts) (suc a) b = ap (λ n. skip n (t ∷ ts)) (from_next a b) ∙
     group : (x y z : ℕ) → x + (y + z) ≡ (x + y) + z
     group x y z = omega arith
 
-roots-none : (b : ℕ) → roots {L = Leaf} b [] ≡ []
-roots-none zero = refl
-roots-none (suc b) = refl
+roots-none : (L : Type 0) (b : ℕ) → roots {L = L} b [] ≡ []
+roots-none L zero = refl
+roots-none L (suc b) = refl
 
-roots-add : (a b : ℕ) (ts : List (TreeNode Leaf)) → roots (a + b) ts ≡ roots a ts ++ roots b (skip a ts)
+roots-add : {L : Type 0} (a b : ℕ) (ts : List (TreeNode L)) → roots (a + b) ts ≡ roots a ts ++ roots b (skip a ts)
 roots-add zero b ts = ap (λ n. roots n ts) (from_none b)
-roots-add (suc a) b [] = roots-none (suc a + b) ∙ sym (roots-none b)
+roots-add (suc a) b [] = roots-none _ (suc a + b) ∙ sym (roots-none _ b)
 roots-add (suc a) b (t ∷ ts) =
     ap (λ n. roots n (t ∷ ts)) (from_next a b)
     ∙ ap (λ os. t.option ∷ os) (roots-add a b (skip 1 (t ∷ ts)) ∙ ap (λ us. roots a (skip 1 (t ∷ ts)) ++ roots b us) (sym (ap (λ n. skip n (t ∷ ts)) (one a) ∙ skip-add (t ∷ ts) 1 a)))
@@ -67,13 +67,13 @@ length-options_of : (cells : List Cell) (is : List ℕ) → length (options_of c
 length-options_of cells [] = refl
 length-options_of cells (i ∷ is) = ap suc (length-options_of cells is)
 
-roots-most : (a : ℕ) (ts : List (TreeNode Leaf)) → length (roots a ts) ≤ a
+roots-most : {L : Type 0} (a : ℕ) (ts : List (TreeNode L)) → length (roots a ts) ≤ a
 roots-most zero ts = omega arith
 roots-most (suc a) [] = omega arith
 roots-most (suc a) (t ∷ ts) = let h = roots-most a (skip 1 (t ∷ ts)) in omega (arith, h)
 
 -- where all roots are known, the first and the others are
-split_roots : (cells : List Cell) (c m : ℕ) (ts : List (TreeNode Leaf)) (cs is : List ℕ) → length cs ≡ c → length is ≡ m → roots (c + m) ts ≡ options_of cells cs ++ options_of cells is
+split_roots : {L : Type 0} (cells : List Cell) (c m : ℕ) (ts : List (TreeNode L)) (cs is : List ℕ) → length cs ≡ c → length is ≡ m → roots (c + m) ts ≡ options_of cells cs ++ options_of cells is
     → (roots c ts ≡ options_of cells cs) × (roots m (skip c ts) ≡ options_of cells is)
 split_roots cells c m ts cs is lc lm h =
     let e = sym (roots-add c m ts) ∙ h in
@@ -114,6 +114,18 @@ aligned_children g cells n w f (suc c) fits h = (
     next : (f k : ℕ) → f + suc k ≡ f + 1 + k
     next f k = omega arith
 
+-- ---- leaves that are told as they are
+abbrev as_it_is : ℕ → Leaf → Leaf
+as_it_is i l = l
+
+same_end : (e : End Leaf) → told_end (λ (l : Leaf). l) e ≡ e
+same_end (branch w) = refl
+same_end (leaf l) = refl
+
+told_same : (cells : List Cell) (order : List ℕ) → told_tree as_it_is cells order ≡ tree_of cells order
+told_same cells [] = refl
+told_same cells (i ∷ is) = ap₂ (λ (e : End Leaf) ts. record { option = (cell_at cells i).option; steps = (cell_at cells i).steps; end = e } ∷ ts) (same_end (cell_at cells i).end) (told_same cells is)
+
 module _ (g : Shape) (P : Node → Leaf → Type 0) (start : Node) (cells : List Cell) (linked : IsLinked cells) (fits : Fits g P start cells) where
   -- the nodes below a cell are those of its children
   aligned_below : (i : ℕ) → i < length cells → Aligned g cells (below g (place_of (cell_at cells i)) (cell_at cells i).end) (children_at cells i)
@@ -131,69 +143,111 @@ module _ (g : Shape) (P : Node → Leaf → Type 0) (start : Node) (cells : List
       aligned-append g cells (below g (after_all g n (cell_at cells i).steps) (cell_at cells i).end) ns (children_at cells i) is
       (subst (λ m. Aligned g cells (below g m (cell_at cells i).end) (children_at cells i)) (sym a.1.leave) (aligned_below i a.0)) a.2
 
-  -- the roots of the subtrees have the options of the cells
-  next_roots : (i : ℕ) (is ks : List ℕ) → roots (length (children_at cells i ++ is)) (tree_of cells ks) ≡ options_of cells (children_at cells i ++ is)
-      → (roots (children (cell_at cells i).end) (tree_of cells ks) ≡ options_of cells (children_at cells i)) × (roots (length is) (skip (children (cell_at cells i).end) (tree_of cells ks)) ≡ options_of cells is)
-  next_roots i is ks h =
-      let count = count_below (cell_at cells i).first (cell_at cells i).end in
-      split_roots cells (children (cell_at cells i).end) (length is) (tree_of cells ks) (children_at cells i) is count refl
-      (ap (λ n. roots n (tree_of cells ks)) (ap (λ n. n + length is) (sym count) ∙ sym (length-append (children_at cells i) is)) ∙ (h ∙ options_of-append cells (children_at cells i) is))
-
-  roots_are : (is order : List ℕ) → IsPreorder cells is order → roots (length is) (tree_of cells order) ≡ options_of cells is
-  roots_are [] [] p = refl
-  roots_are [] (k ∷ ks) p = absurd p
-  roots_are (i ∷ is) [] p = absurd p
-  roots_are (i ∷ is) (k ∷ ks) p =
-      let h = next_roots i is ks (roots_are (children_at cells i ++ is) ks p.1) in
-      subst (λ j. (cell_at cells j).option ∷ roots (length is) (skip (children (cell_at cells j).end + 0) (tree_of cells ks)) ≡ (cell_at cells i).option ∷ options_of cells is) (sym p.0)
-      (ap (λ os. (cell_at cells i).option ∷ os) (ap (λ n. roots (length is) (skip n (tree_of cells ks))) (plus (children (cell_at cells i).end)) ∙ h.1))
-    where
-      plus : (n : ℕ) → n + 0 ≡ n
-      plus n = omega arith
-
-  end_passes : (n : Node) (f : ℕ) (e : End Leaf) (ts : List (TreeNode Leaf)) → EndFits g P cells n f e → roots (children e) ts ≡ options_of cells (numbers_below f e) → EndPasses g P n e ts
-  end_passes n f (branch w) ts h same = (h.may, same ∙ h.options_are)
-  end_passes n f (leaf l) ts h same = h
-
-  pub passes : (ns : List Node) (is order : List ℕ) → Aligned g cells ns is → IsPreorder cells is order → Pass g P ns (tree_of cells order)
-  passes [] [] [] a p = tt
-  passes [] [] (k ∷ ks) a p = absurd p
-  passes [] (i ∷ is) order a p = absurd a
-  passes (n ∷ ns) [] order a p = absurd a
-  passes (n ∷ ns) (i ∷ is) [] a p = absurd p
-  passes (n ∷ ns) (i ∷ is) (k ∷ ks) a p =
-      let h = next_roots i is ks (roots_are (children_at cells i ++ is) ks p.1) in
-      subst (λ j. StepsPass g n (cell_at cells j).steps × EndPasses g P (after_all g n (cell_at cells j).steps) (cell_at cells j).end (tree_of cells ks) × Pass g P (below g (after_all g n (cell_at cells j).steps) (cell_at cells j).end ++ ns) (tree_of cells ks)) (sym p.0) (
-        a.1.pass,
-        subst (λ (m : Node). EndPasses g P m (cell_at cells i).end (tree_of cells ks)) (sym a.1.leave)
-            (end_passes (place_of (cell_at cells i)) (cell_at cells i).first (cell_at cells i).end (tree_of cells ks) (fits.ends i a.0) h.0),
-        passes (below g (after_all g n (cell_at cells i).steps) (cell_at cells i).end ++ ns) (children_at cells i ++ is) ks (aligned_next n i ns is a) p.1,
-      )
-
-  pub nodes_are_cells : (ns : List Node) (is order : List ℕ) → Aligned g cells ns is → IsPreorder cells is order → (k : ℕ) (m : Node) (e : End Leaf) → Stands g ns (tree_of cells order) k m e → IsCell cells m e
-  nodes_are_cells [] is order a p k m e s = absurd s
-  nodes_are_cells (n ∷ ns) [] order a p k m e s = absurd a
-  nodes_are_cells (n ∷ ns) (i ∷ is) [] a p k m e s = absurd p
-  nodes_are_cells (n ∷ ns) (i ∷ is) (j ∷ js) a p zero m e s =
-      let h = subst (λ v. (after_all g n (cell_at cells v).steps ≡ m) × ((cell_at cells v).end ≡ e)) p.0 s in
-      record { number = i; there = a.0; node_is = sym a.1.leave ∙ h.0; end_is = h.1 }
-  nodes_are_cells (n ∷ ns) (i ∷ is) (j ∷ js) a p (suc k) m e s =
-      nodes_are_cells (below g (after_all g n (cell_at cells i).steps) (cell_at cells i).end ++ ns) (children_at cells i ++ is) js (aligned_next n i ns is a) p.1 k m e
-      (subst (λ v. Stands g (below g (after_all g n (cell_at cells v).steps) (cell_at cells v).end ++ ns) (tree_of cells js) k m e) p.0 s)
-
-  pub cells_stand : (ns : List Node) (is order : List ℕ) → Aligned g cells ns is → IsPreorder cells is order → (k v : ℕ) → slice_get order k ≡ Some v → Stands g ns (tree_of cells order) k (place_of (cell_at cells v)) (cell_at cells v).end
-  cells_stand [] [] [] a p k v h = cc
-  cells_stand [] [] (j ∷ js) a p k v h = absurd p
-  cells_stand [] (i ∷ is) order a p k v h = absurd a
-  cells_stand (n ∷ ns) [] order a p k v h = absurd a
-  cells_stand (n ∷ ns) (i ∷ is) [] a p k v h = absurd p
-  cells_stand (n ∷ ns) (i ∷ is) (j ∷ js) a p zero v h =
-      let e : j ≡ v = cc in
-      subst (λ w. (after_all g n (cell_at cells j).steps ≡ place_of (cell_at cells w)) × ((cell_at cells j).end ≡ (cell_at cells w).end)) e
-      (subst (λ w. after_all g n (cell_at cells w).steps ≡ place_of (cell_at cells w)) (sym p.0) a.1.leave, refl)
-  cells_stand (n ∷ ns) (i ∷ is) (j ∷ js) a p (suc k) v h =
-      subst (λ w. Stands g (below g (after_all g n (cell_at cells w).steps) (cell_at cells w).end ++ ns) (tree_of cells js) k (place_of (cell_at cells v)) (cell_at cells v).end) (sym p.0)
-      (cells_stand (below g (after_all g n (cell_at cells i).steps) (cell_at cells i).end ++ ns) (children_at cells i ++ is) js (aligned_next n i ns is a) p.1 k v h)
-
   pub aligned_start : Aligned g cells (start ∷ []) (0 ∷ [])
   aligned_start = (linked.some, fits.root, tt)
+
+  -- ---- where f tells the leaf of each number, and Q holds of it
+  module _ {L : Type 0} (f : ℕ → Leaf → L) where
+    told_children : (i : ℕ) (e : End Leaf) → children (told_end (f i) e) ≡ children e
+    told_children i (branch w) = refl
+    told_children i (leaf l) = refl
+
+    told_below : (n : Node) (i : ℕ) (e : End Leaf) → below g n (told_end (f i) e) ≡ below g n e
+    told_below n i (branch w) = refl
+    told_below n i (leaf l) = refl
+
+    -- the roots of the subtrees have the options of the cells
+    next_roots : (i : ℕ) (is ks : List ℕ) → roots (length (children_at cells i ++ is)) (told_tree f cells ks) ≡ options_of cells (children_at cells i ++ is)
+        → (roots (children (told_end (f i) (cell_at cells i).end)) (told_tree f cells ks) ≡ options_of cells (children_at cells i)) × (roots (length is) (skip (children (told_end (f i) (cell_at cells i).end)) (told_tree f cells ks)) ≡ options_of cells is)
+    next_roots i is ks h =
+        let count : length (children_at cells i) ≡ children (told_end (f i) (cell_at cells i).end) = count_below (cell_at cells i).first (cell_at cells i).end ∙ sym (told_children i (cell_at cells i).end) in
+        split_roots cells (children (told_end (f i) (cell_at cells i).end)) (length is) (told_tree f cells ks) (children_at cells i) is count refl
+        (ap (λ n. roots n (told_tree f cells ks)) (ap (λ n. n + length is) (sym count) ∙ sym (length-append (children_at cells i) is)) ∙ (h ∙ options_of-append cells (children_at cells i) is))
+
+    roots_are : (is order : List ℕ) → IsPreorder cells is order → roots (length is) (told_tree f cells order) ≡ options_of cells is
+    roots_are [] [] p = refl
+    roots_are [] (k ∷ ks) p = absurd p
+    roots_are (i ∷ is) [] p = absurd p
+    roots_are (i ∷ is) (k ∷ ks) p =
+        let h = next_roots i is ks (roots_are (children_at cells i ++ is) ks p.1) in
+        subst (λ j. (cell_at cells j).option ∷ roots (length is) (skip (children (told_end (f j) (cell_at cells j).end) + 0) (told_tree f cells ks)) ≡ (cell_at cells i).option ∷ options_of cells is) (sym p.0)
+        (ap (λ os. (cell_at cells i).option ∷ os) (ap (λ n. roots (length is) (skip n (told_tree f cells ks))) (plus (children (told_end (f i) (cell_at cells i).end))) ∙ h.1))
+      where
+        plus : (n : ℕ) → n + 0 ≡ n
+        plus n = omega arith
+
+    told_next : (n : Node) (i : ℕ) (ns : List Node) (is : List ℕ) → Aligned g cells (n ∷ ns) (i ∷ is)
+        → Aligned g cells (below g (after_all g n (cell_at cells i).steps) (told_end (f i) (cell_at cells i).end) ++ ns) (children_at cells i ++ is)
+    told_next n i ns is a =
+        subst (λ (ms : List Node). Aligned g cells (ms ++ ns) (children_at cells i ++ is)) (sym (told_below (after_all g n (cell_at cells i).steps) i (cell_at cells i).end)) (aligned_next n i ns is a)
+
+    module _ (Q : Node → L → Type 0) (told : (i : ℕ) → i < length cells → (l : Leaf) → (cell_at cells i).end ≡ leaf l → Q (place_of (cell_at cells i)) (f i l)) where
+      end_passes : (i : ℕ) → i < length cells → (d : ℕ) (e : End Leaf) (ts : List (TreeNode L)) → (cell_at cells i).end ≡ e → EndFits g P cells (place_of (cell_at cells i)) d e
+          → roots (children (told_end (f i) e)) ts ≡ options_of cells (numbers_below d e) → EndPasses g Q (place_of (cell_at cells i)) (told_end (f i) e) ts
+      end_passes i lt d (branch w) ts is h same = (h.may, same ∙ h.options_are)
+      end_passes i lt d (leaf l) ts is h same = told i lt l is
+
+      pub told_passes : (ns : List Node) (is order : List ℕ) → Aligned g cells ns is → IsPreorder cells is order → Pass g Q ns (told_tree f cells order)
+      told_passes [] [] [] a p = tt
+      told_passes [] [] (k ∷ ks) a p = absurd p
+      told_passes [] (i ∷ is) order a p = absurd a
+      told_passes (n ∷ ns) [] order a p = absurd a
+      told_passes (n ∷ ns) (i ∷ is) [] a p = absurd p
+      told_passes (n ∷ ns) (i ∷ is) (k ∷ ks) a p =
+          let h = next_roots i is ks (roots_are (children_at cells i ++ is) ks p.1) in
+          subst (λ j. StepsPass g n (cell_at cells j).steps × EndPasses g Q (after_all g n (cell_at cells j).steps) (told_end (f j) (cell_at cells j).end) (told_tree f cells ks) × Pass g Q (below g (after_all g n (cell_at cells j).steps) (told_end (f j) (cell_at cells j).end) ++ ns) (told_tree f cells ks)) (sym p.0) (
+            a.1.pass,
+            subst (λ (m : Node). EndPasses g Q m (told_end (f i) (cell_at cells i).end) (told_tree f cells ks)) (sym a.1.leave)
+                (end_passes i a.0 (cell_at cells i).first (cell_at cells i).end (told_tree f cells ks) refl (fits.ends i a.0) h.0),
+            told_passes (below g (after_all g n (cell_at cells i).steps) (told_end (f i) (cell_at cells i).end) ++ ns) (children_at cells i ++ is) ks (told_next n i ns is a) p.1,
+          )
+
+    -- a node with its end is that of a cell whose leaf is told so
+    pub record IsToldCell (n : Node) (e : End L) : Type 0 where
+      pub number : ℕ
+      pub there : number < length cells
+      pub node_is : place_of (cell_at cells number) ≡ n
+      pub end_is : told_end (f number) (cell_at cells number).end ≡ e
+
+    pub nodes_are_told : (ns : List Node) (is order : List ℕ) → Aligned g cells ns is → IsPreorder cells is order → (k : ℕ) (m : Node) (e : End L) → Stands g ns (told_tree f cells order) k m e → IsToldCell m e
+    nodes_are_told [] is order a p k m e s = absurd s
+    nodes_are_told (n ∷ ns) [] order a p k m e s = absurd a
+    nodes_are_told (n ∷ ns) (i ∷ is) [] a p k m e s = absurd p
+    nodes_are_told (n ∷ ns) (i ∷ is) (j ∷ js) a p zero m e s =
+        let h = subst (λ v. (after_all g n (cell_at cells v).steps ≡ m) × (told_end (f v) (cell_at cells v).end ≡ e)) p.0 s in
+        record { number = i; there = a.0; node_is = sym a.1.leave ∙ h.0; end_is = h.1 }
+    nodes_are_told (n ∷ ns) (i ∷ is) (j ∷ js) a p (suc k) m e s =
+        nodes_are_told (below g (after_all g n (cell_at cells i).steps) (told_end (f i) (cell_at cells i).end) ++ ns) (children_at cells i ++ is) js (told_next n i ns is a) p.1 k m e
+        (subst (λ v. Stands g (below g (after_all g n (cell_at cells v).steps) (told_end (f v) (cell_at cells v).end) ++ ns) (told_tree f cells js) k m e) p.0 s)
+
+    pub told_cells_stand : (ns : List Node) (is order : List ℕ) → Aligned g cells ns is → IsPreorder cells is order → (k v : ℕ) → slice_get order k ≡ Some v
+        → Stands g ns (told_tree f cells order) k (place_of (cell_at cells v)) (told_end (f v) (cell_at cells v).end)
+    told_cells_stand [] [] [] a p k v h = cc
+    told_cells_stand [] [] (j ∷ js) a p k v h = absurd p
+    told_cells_stand [] (i ∷ is) order a p k v h = absurd a
+    told_cells_stand (n ∷ ns) [] order a p k v h = absurd a
+    told_cells_stand (n ∷ ns) (i ∷ is) [] a p k v h = absurd p
+    told_cells_stand (n ∷ ns) (i ∷ is) (j ∷ js) a p zero v h =
+        let e : j ≡ v = cc in
+        subst (λ w. (after_all g n (cell_at cells j).steps ≡ place_of (cell_at cells w)) × (told_end (f j) (cell_at cells j).end ≡ told_end (f w) (cell_at cells w).end)) e
+        (subst (λ w. after_all g n (cell_at cells w).steps ≡ place_of (cell_at cells w)) (sym p.0) a.1.leave, refl)
+    told_cells_stand (n ∷ ns) (i ∷ is) (j ∷ js) a p (suc k) v h =
+        subst (λ w. Stands g (below g (after_all g n (cell_at cells w).steps) (told_end (f w) (cell_at cells w).end) ++ ns) (told_tree f cells js) k (place_of (cell_at cells v)) (told_end (f v) (cell_at cells v).end)) (sym p.0)
+        (told_cells_stand (below g (after_all g n (cell_at cells i).steps) (told_end (f i) (cell_at cells i).end) ++ ns) (children_at cells i ++ is) js (told_next n i ns is a) p.1 k v h)
+
+  -- ---- the leaves as they are
+  pub passes : (ns : List Node) (is order : List ℕ) → Aligned g cells ns is → IsPreorder cells is order → Pass g P ns (tree_of cells order)
+  passes ns is order a p = subst (λ (t : List (TreeNode Leaf)). Pass g P ns t) (told_same cells order) (told_passes as_it_is P (λ i lt l e. leaf_passes i lt l e) ns is order a p)
+    where
+      leaf_passes : (i : ℕ) → i < length cells → (l : Leaf) → (cell_at cells i).end ≡ leaf l → P (place_of (cell_at cells i)) l
+      leaf_passes i lt l e = subst (λ (d : End Leaf). EndFits g P cells (place_of (cell_at cells i)) (cell_at cells i).first d) e (fits.ends i lt)
+
+  pub nodes_are_cells : (ns : List Node) (is order : List ℕ) → Aligned g cells ns is → IsPreorder cells is order → (k : ℕ) (m : Node) (e : End Leaf) → Stands g ns (tree_of cells order) k m e → IsCell cells m e
+  nodes_are_cells ns is order a p k m e s =
+      let c = nodes_are_told as_it_is ns is order a p k m e (subst (λ (t : List (TreeNode Leaf)). Stands g ns t k m e) (sym (told_same cells order)) s) in
+      record { number = c.number; there = c.there; node_is = c.node_is; end_is = sym (same_end (cell_at cells c.number).end) ∙ c.end_is }
+
+  pub cells_stand : (ns : List Node) (is order : List ℕ) → Aligned g cells ns is → IsPreorder cells is order → (k v : ℕ) → slice_get order k ≡ Some v → Stands g ns (tree_of cells order) k (place_of (cell_at cells v)) (cell_at cells v).end
+  cells_stand ns is order a p k v h =
+      subst (λ (t : List (TreeNode Leaf)). Stands g ns t k (place_of (cell_at cells v)) (cell_at cells v).end) (told_same cells order)
+      (subst (λ (e : End Leaf). Stands g ns (told_tree as_it_is cells order) k (place_of (cell_at cells v)) e) (same_end (cell_at cells v).end) (told_cells_stand as_it_is ns is order a p k v h))

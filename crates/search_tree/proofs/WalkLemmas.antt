@@ -11,7 +11,7 @@ use Rattle.tree_rules.specs.Leaf.{Leaf}
 use Rattle.tree_rules.specs.Accepted.{Tree}
 use Rattle.tree_laws.proofs.CountLemmas.{double}
 use Rattle.search_tree.specs.Cells.{Cell, cell_at, times, numbers_below, children_at, AreBehind, IsLinked}
-use Rattle.search_tree.specs.Preorder.{IsPreorder, node_at, tree_of, IsTreeOf}
+use Rattle.search_tree.specs.Preorder.{IsPreorder, node_at, tree_of, IsTreeIn}
 use Rattle.search_tree.proofs.TreeLemmas.{AreThere, there-append, children_there, has_children}
 use Rattle.search_tree.proofs.CountLemmas.{one_if, times-append, once, preorder_has_all}
 
@@ -77,57 +77,55 @@ get-within (w ∷ ws) zero x h = omega arith
 get-within (w ∷ ws) (suc k) x h = let r = get-within ws k x h in omega (arith, r)
 
 -- ---- the invariant
-pub record IsWalk (cells : List Cell) (wanted : ℕ) (waiting : List ℕ) (nodes : Tree) (place : ℕ) : Type 0 where
-  pub order : List ℕ
+pub record IsWalk (cells : List Cell) (wanted : ℕ) (waiting order : List ℕ) (nodes : Tree) (place : ℕ) : Type 0 where
   pub nodes_are : nodes ≡ tree_of cells order
   pub there : AreThere cells waiting
   pub finishes : (rest : List ℕ) → IsPreorder cells waiting rest → IsPreorder cells (0 ∷ []) (order ++ rest)
   pub seen : (slice_get order place ≡ Some wanted) ⊎ (times wanted order ≡ 0)
 
-pub walk_starts : (cells : List Cell) → IsLinked cells → (wanted : ℕ) → IsWalk cells wanted (0 ∷ []) [] 0
-walk_starts cells linked wanted = record { order = []; nodes_are = refl; there = (linked.some, tt); finishes = λ rest h. h; seen = inr refl }
+pub walk_starts : (cells : List Cell) → IsLinked cells → (wanted : ℕ) → IsWalk cells wanted (0 ∷ []) [] [] 0
+walk_starts cells linked wanted = record { nodes_are = refl; there = (linked.some, tt); finishes = λ rest h. h; seen = inr refl }
 
 tree_of-push : (cells : List Cell) (order : List ℕ) (i : ℕ) → tree_of cells (order ++ i ∷ []) ≡ tree_of cells order ++ node_at cells i ∷ []
 tree_of-push cells [] i = refl
 tree_of-push cells (k ∷ ks) i = ap (λ ts. node_at cells k ∷ ts) (tree_of-push cells ks i)
 
-pub walk_goes_on : (cells : List Cell) → IsLinked cells → (wanted i : ℕ) (is : List ℕ) (nodes : Tree) (place : ℕ) → IsWalk cells wanted (i ∷ is) nodes place
-    → IsWalk cells wanted (children_at cells i ++ is) (nodes ++ node_at cells i ∷ []) (cond (i == wanted) (length nodes) place)
-walk_goes_on cells linked wanted i is nodes place w = record {
-  order = w.order ++ i ∷ [];
-  nodes_are = ap (λ (ts : Tree). ts ++ node_at cells i ∷ []) w.nodes_are ∙ sym (tree_of-push cells w.order i);
+pub walk_goes_on : (cells : List Cell) → IsLinked cells → (wanted i : ℕ) (is order : List ℕ) (nodes : Tree) (place : ℕ) → IsWalk cells wanted (i ∷ is) order nodes place
+    → IsWalk cells wanted (children_at cells i ++ is) (order ++ i ∷ []) (nodes ++ node_at cells i ∷ []) (cond (i == wanted) (length nodes) place)
+walk_goes_on cells linked wanted i is order nodes place w = record {
+  nodes_are = ap (λ (ts : Tree). ts ++ node_at cells i ∷ []) w.nodes_are ∙ sym (tree_of-push cells order i);
   there = there-append cells (children_at cells i) is (children_there cells linked i w.there.0) w.there.1;
-  finishes = λ rest h. subst (λ xs. IsPreorder cells (0 ∷ []) xs) (sym (append_assoc w.order (i ∷ []) rest)) (w.finishes (i ∷ rest) (refl, h));
+  finishes = λ rest h. subst (λ xs. IsPreorder cells (0 ∷ []) xs) (sym (append_assoc order (i ∷ []) rest)) (w.finishes (i ∷ rest) (refl, h));
   seen = at (i == wanted) refl w.seen;
 }
   where
-    count : length nodes ≡ length w.order
-    count = ap (λ (ts : Tree). length ts) w.nodes_are ∙ length-map w.order (node_at cells)
+    count : length nodes ≡ length order
+    count = ap (λ (ts : Tree). length ts) w.nodes_are ∙ length-map order (node_at cells)
 
-    at : (b : Bool) → (i == wanted) ≡ b → (slice_get w.order place ≡ Some wanted) ⊎ (times wanted w.order ≡ 0)
-        → (slice_get (w.order ++ i ∷ []) (cond b (length nodes) place) ≡ Some wanted) ⊎ (times wanted (w.order ++ i ∷ []) ≡ 0)
-    at true e s = inl (ap (λ k. slice_get (w.order ++ i ∷ []) k) count ∙ (get-seam w.order i [] ∙ ap Some (eqb-true i wanted e)))
-    at false e (inl s) = inl (get-append w.order (i ∷ []) place wanted s)
+    at : (b : Bool) → (i == wanted) ≡ b → (slice_get order place ≡ Some wanted) ⊎ (times wanted order ≡ 0)
+        → (slice_get (order ++ i ∷ []) (cond b (length nodes) place) ≡ Some wanted) ⊎ (times wanted (order ++ i ∷ []) ≡ 0)
+    at true e s = inl (ap (λ k. slice_get (order ++ i ∷ []) k) count ∙ (get-seam order i [] ∙ ap Some (eqb-true i wanted e)))
+    at false e (inl s) = inl (get-append order (i ∷ []) place wanted s)
     at false e (inr none) =
-        let a = times-append wanted w.order (i ∷ []) in
+        let a = times-append wanted order (i ∷ []) in
         let b : one_if (i == wanted) ≡ 0 = ap one_if e in
         inr (omega (arith, a, b, none))
 
-pub walk_ends : (cells : List Cell) → IsLinked cells → (wanted : ℕ) → wanted < length cells → (nodes : Tree) (place : ℕ) → IsWalk cells wanted [] nodes place
-    → IsTreeOf cells wanted nodes place × (place < length cells)
-walk_ends cells linked wanted lt nodes place w =
+pub walk_ends : (cells : List Cell) → IsLinked cells → (wanted : ℕ) → wanted < length cells → (order : List ℕ) (nodes : Tree) (place : ℕ) → IsWalk cells wanted [] order nodes place
+    → IsTreeIn cells wanted order nodes place × (place < length cells)
+walk_ends cells linked wanted lt order nodes place w =
     let s = at w.seen in (
-      record { order = w.order; is_preorder = preorder; nodes_are = w.nodes_are; stands = s },
-      (let a = get-within w.order place wanted s in let b = preorder_has_all cells w.order linked preorder in omega (arith, a, b)),
+      record { is_preorder = preorder; nodes_are = w.nodes_are; stands = s },
+      (let a = get-within order place wanted s in let b = preorder_has_all cells order linked preorder in omega (arith, a, b)),
     )
   where
     none : (xs : List ℕ) → xs ++ [] ≡ xs
     none [] = refl
     none (x ∷ xs) = ap (λ ys. x ∷ ys) (none xs)
 
-    preorder : IsPreorder cells (0 ∷ []) w.order
-    preorder = subst (λ xs. IsPreorder cells (0 ∷ []) xs) (none w.order) (w.finishes [] tt)
+    preorder : IsPreorder cells (0 ∷ []) order
+    preorder = subst (λ xs. IsPreorder cells (0 ∷ []) xs) (none order) (w.finishes [] tt)
 
-    at : (slice_get w.order place ≡ Some wanted) ⊎ (times wanted w.order ≡ 0) → slice_get w.order place ≡ Some wanted
+    at : (slice_get order place ≡ Some wanted) ⊎ (times wanted order ≡ 0) → slice_get order place ≡ Some wanted
     at (inl s) = s
-    at (inr gone) = absurd (let one = once cells linked w.order preorder (suc wanted) wanted (omega arith) lt in omega (arith, one, gone))
+    at (inr gone) = absurd (let one = once cells linked order preorder (suc wanted) wanted (omega arith) lt in omega (arith, one, gone))

@@ -3,7 +3,7 @@ ghost use Rattle.std.specs.Prelude.{◌≡◌, ◌<◌, ◌+◌, ◌-◌, ◌^�
 ghost use Rattle.std.specs.List.{range_with_len};
 ghost use Rattle.branch_tree.specs.View.{end_of};
 ghost use Rattle.search_tree.specs.Cells.{IsLinked, numbers_below};
-ghost use Rattle.search_tree.specs.Preorder.{IsTreeOf};
+ghost use Rattle.search_tree.specs.Preorder.{IsTreeIn};
 ghost use Rattle.search_tree.specs.Shut.{shut_end, shut_cells};
 ghost use Rattle.search_tree.specs.Runs.{to_come};
 
@@ -19,10 +19,11 @@ struct Run {
     more: u32,
 }
 
-/// Nodes in preorder, and the place of one of them.
+/// Nodes in preorder, the numbers of their cells, and the place of one of them.
 #[derive(Drop)]
 pub struct Preorder {
     pub nodes: Vec<TreeNode>,
+    pub order: Vec<u32>,
     pub place: u32,
 }
 
@@ -133,15 +134,18 @@ fn visit(
     proof: Option<&Scaled>,
     run: Run,
     stack: &mut Vec<Run>,
+    order: &mut Vec<u32>,
     nodes: &mut Vec<TreeNode>,
 ) -> Result<(), AllocError>
     requires { run.next < 2 ^ 32 - 1 }
+    ensures order { OnOk result (order.new.items ≡ order.old.items ++ run.next ∷ []) }
     ensures stack { OnOk result (to_come stack.new.items ≡ numbers_below cell.now.first cell.now.end ++ (range_with_len (run.next + 1) run.more ++ to_come stack.old.items)) }
     ensures nodes { OnOk result (nodes.new.items ≡ nodes.old.items ++ record { option = cell.now.option; steps = cell.now.steps; end = shut_end (option_copied proof.entry) cell.now.end } ∷ []) }
 {
     put_rest(stack, run)?;
     put_children(stack, cell)?;
     let node = copy_node(alloc, cell, proof)?;
+    order.push(run.next)?;
     nodes.push(node)?;
     Ok(())
 }
@@ -152,13 +156,15 @@ fn place_after(place: usize, here: bool, now: usize) -> usize
     if here { now } else { place }
 }
 
-fn ended(nodes: Vec<TreeNode>, place: usize) -> Preorder
+fn ended(nodes: Vec<TreeNode>, order: Vec<u32>, place: usize) -> Preorder
     requires { place < 2 ^ 32 }
     ensures nodes { result.nodes ≡ nodes }
+    ensures order { result.order ≡ order }
     ensures place { result.place ≡ place }
 {
     Preorder {
         nodes,
+        order,
         place: place as u32,
     }
 }
@@ -183,10 +189,11 @@ pub fn nodes_in_preorder(
 ) -> Result<Preorder, AllocError>
     requires linked { IsLinked pool.now.payloads }
     requires wanted { wanted < length pool.now.payloads }
-    ensures { IfOk result (λ t. IsTreeOf (shut_cells proofs.now pool.now.payloads) wanted t.nodes.items t.place) }
+    ensures { IfOk result (λ t. IsTreeIn (shut_cells proofs.now pool.now.payloads) wanted t.order.items t.nodes.items t.place) }
 {
     pool.is_pool();
     let mut nodes = Vec::new(alloc);
+    let mut order = Vec::new(alloc);
     let mut place = 0;
     let mut stack = Vec::new(alloc);
     stack.push(Run { next: 0, more: 0 })?;
@@ -194,7 +201,7 @@ pub fn nodes_in_preorder(
         let cell = pool.payload(run.next);
         place = place_after(place, run.next == wanted, nodes.len());
         let proof = proof_at(proofs, run.next);
-        visit(alloc, cell, proof, run, &mut stack, &mut nodes)?;
+        visit(alloc, cell, proof, run, &mut stack, &mut order, &mut nodes)?;
     }
-    Ok(ended(nodes, place))
+    Ok(ended(nodes, order, place))
 }

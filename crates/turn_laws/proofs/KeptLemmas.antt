@@ -17,7 +17,7 @@ use Rattle.tree_rules.specs.Lean.{HasCheaper, IsNoDearer}
 use Rattle.search_laws.proofs.ValueLemmas.{ways_are_dearer}
 use Rattle.search_tree.specs.Cells.{Cell, place_of, cell_at}
 use Rattle.turn_laws.specs.Values.{IsPositive, IsNoMore, IsUnder, HasFallen, IsPositiveCost}
-use Rattle.turn_laws.specs.Kept.{IsFromLast, ReachesLast, LeafIsKept, EndIsKept, LastIsBelow, IsKept}
+use Rattle.turn_laws.specs.Kept.{IsFromLast, ReachesLast, LeafIsKept, EndIsKept, LastIsBelow, IsKeptFor}
 use Rattle.turn_laws.specs.Turns.{CanBranch, IsLeastOpen, AreChildren, IsBranched, AreShut}
 use Rattle.turn_laws.proofs.FractionLemmas.{fraction_trans}
 use Rattle.turn_laws.proofs.GrowLemmas.{branched_fits, shut_fits, shut_linked}
@@ -56,9 +56,9 @@ some_options g n (at_material x c) d = d
 some_options g n (either u) d = omega arith
 
 -- ---- a leaf is branched
-module _ (p : Problem) (valid : IsValid p) (start : Node) (claim new_claim : Claim) (last : Option CostOver) (v : CostOver) (old kids new : List Cell) (at : ℕ) (w : Way)
-    (kept : IsKept p start claim last old) (can : CanBranch p old at w v) (least : IsLeastOpen p old at v)
-    (fallen : HasFallen (claimed_cost claim) (claimed_cost new_claim)) (positive : IsPositiveCost (claimed_cost new_claim)) (below : LastIsBelow (Some v) (claimed_cost new_claim))
+module _ (p : Problem) (valid : IsValid p) (start : Node) (claim new_claim : Claim) (undercut new_undercut last : Option CostOver) (v : CostOver) (old kids new : List Cell) (at : ℕ) (w : Way)
+    (kept : IsKeptFor p start claim undercut last old) (can : CanBranch p old at w v) (least : IsLeastOpen p old at v)
+    (fallen : HasFallen (claimed_cost claim) (claimed_cost new_claim)) (positive : IsPositiveCost (claimed_cost new_claim)) (undercut_positive : IsPositiveCost new_undercut) (below : LastIsBelow (Some v) new_undercut)
     (children : AreChildren p (claimed_cost new_claim) (place_of (cell_at old at)) w kids) (b : IsBranched old kids new at w) where
   abbrev here : Node
   here = place_of (cell_at old at)
@@ -115,7 +115,7 @@ module _ (p : Problem) (valid : IsValid p) (start : Node) (claim new_claim : Cla
       let f = children.each k lt in
       subst (λ (e : End Leaf). EndIsKept p (Some v) (place_of (cell_at kids k)) e) (sym f.end_is) (other_leaf (place_of (cell_at kids k)) f.what (λ e no_dead. kid_under k lt no_dead))
 
-  pub branching_is_kept : IsKept p start new_claim (Some v) new
+  pub branching_is_kept : IsKeptFor p start new_claim new_undercut (Some v) new
   branching_is_kept = record {
     grown = record {
       linked = branched_linked old kids new at w b kept.grown.linked can.there can.is_open some_kids (λ k lt. let f = children.each k lt in (f.what, f.end_is));
@@ -139,6 +139,7 @@ module _ (p : Problem) (valid : IsValid p) (start : Node) (claim new_claim : Cla
     ];
     last_positive = can.value.positive;
     claim_positive = positive;
+    undercut_positive = undercut_positive;
     below = below;
   }
 
@@ -150,8 +151,8 @@ shut_leaf p last n (refuted ys) h = tt
 shut_leaf p last n (bounded d ys) h = tt
 shut_leaf p last n untried h = absurd (h refl)
 
-pub shutting_is_kept : (p : Problem) (start : Node) (claim : Claim) (last : Option CostOver) (old new : List Cell) → IsKept p start claim last old → AreShut p (claimed_cost claim) old new → IsKept p start claim last new
-shutting_is_kept p start claim last old new kept s = record {
+pub shutting_is_kept : (p : Problem) (start : Node) (claim : Claim) (undercut last : Option CostOver) (old new : List Cell) → IsKeptFor p start claim undercut last old → AreShut p (claimed_cost claim) old new → IsKeptFor p start claim undercut last new
+shutting_is_kept p start claim undercut last old new kept s = record {
   grown = record {
     linked = shut_linked p start (claimed_cost claim) old new kept.grown.linked kept.grown.fits kept.claim_positive s;
     fits = shut_fits p start (claimed_cost claim) old new kept.grown.linked kept.grown.fits kept.claim_positive s;
@@ -166,5 +167,6 @@ shutting_is_kept p start claim last old new kept s = record {
   ];
   last_positive = kept.last_positive;
   claim_positive = kept.claim_positive;
+  undercut_positive = kept.undercut_positive;
   below = kept.below;
 }

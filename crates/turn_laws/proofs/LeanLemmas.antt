@@ -29,7 +29,7 @@ use Rattle.search_tree.specs.Laws.{IsCell}
 use Rattle.search_tree.proofs.CountLemmas.{preorder_has_all}
 use Rattle.search_tree.proofs.PassLemmas.{passes, nodes_are_cells, cells_stand, aligned_start}
 use Rattle.turn_laws.specs.Values.{IsPositive, IsUnder, IsPositiveCost}
-use Rattle.turn_laws.specs.Kept.{IsFromLast, ReachesLast, LeafIsKept, EndIsKept, LastIsBelow, IsKept}
+use Rattle.turn_laws.specs.Kept.{IsFromLast, ReachesLast, LeafIsKept, EndIsKept, LastIsBelow, IsKeptFor}
 use Rattle.turn_laws.specs.Turns.{CanBranch, IsLeastOpen}
 use Rattle.turn_laws.proofs.FractionLemmas.{fraction_trans}
 
@@ -62,7 +62,7 @@ networks_cost_more p valid v n pv under s between z d flows =
     let b = mul-le_right (relaxed_cost (net_of p) n z d) (cost (net_of p) s z d) v.d (relaxed_costs_less p valid n s between z d flows) (let q = pv in omega (arith, ints)) in
     omega (arith, ints, a, b)
 
-module _ (p : Problem) (start : Node) (claim : Claim) (last : Option CostOver) (cells : List Cell) (order : List ℕ) (kept : IsKept p start claim last cells) (preorder : IsPreorder cells (0 ∷ []) order) where
+module _ (p : Problem) (start : Node) (claim : Claim) (undercut last : Option CostOver) (cells : List Cell) (order : List ℕ) (kept : IsKeptFor p start claim undercut last cells) (preorder : IsPreorder cells (0 ∷ []) order) where
   cell_of : (k : ℕ) (n : Node) (e : End Leaf) → Stands (shape_of p) (start ∷ []) (tree_of cells order) k n e → IsCell cells n e
   cell_of k n e s =
       nodes_are_cells (shape_of p) (LeafPasses true p (claimed_cost claim)) start cells kept.grown.linked kept.grown.fits (start ∷ []) (0 ∷ []) order
@@ -76,16 +76,16 @@ module _ (p : Problem) (start : Node) (claim : Claim) (last : Option CostOver) (
   open_at : (m : Node) (l : Leaf) → LeafIsKept p last m l → IsUntried l → IsNever (IsDead (shape_of p) m) → IsFromLast p last m
   open_at m l k e = subst (λ (w : Leaf). LeafIsKept p last m w) e k
 
-  of_use : (l : Option CostOver) → l ≡ last → (n : Node) → ReachesLast p l n → MayUndercut p (claimed_cost claim) n
+  of_use : (l : Option CostOver) → l ≡ last → (n : Node) → ReachesLast p l n → MayUndercut p undercut n
   of_use None e n r = absurd r
   of_use (Some w) e n r =
-      undercuts p (claimed_cost claim) n w (subst IsPositiveCost (sym e) kept.last_positive) kept.claim_positive (subst (λ (o : Option CostOver). LastIsBelow o (claimed_cost claim)) (sym e) kept.below) r
+      undercuts p undercut n w (subst IsPositiveCost (sym e) kept.last_positive) kept.undercut_positive (subst (λ (o : Option CostOver). LastIsBelow o undercut) (sym e) kept.below) r
 
   in_turn : (l : Option CostOver) → l ≡ last → (n m : Node) → ReachesLast p l n → IsFromLast p l m → IsNoDearer p n m
   in_turn None e n m r f = absurd r
   in_turn (Some w) e n m r f = no_dearer p n m w (subst IsPositiveCost (sym e) kept.last_positive) r f
 
-  pub kept_is_lean : IsLean p IsUntried (claimed_cost claim) start (tree_of cells order)
+  pub kept_is_lean : IsLean p IsUntried undercut start (tree_of cells order)
   kept_is_lean = record {
     reduced = λ k w n s. (end_at k n (branch w) s).reduced;
     splits = λ k w n s. (end_at k n (branch w) s).splits;
@@ -118,7 +118,7 @@ module _ (p : Problem) (start : Node) (claim : Claim) (last : Option CostOver) (
   open_cell k n o = cell_of k n (leaf untried) (subst (λ (l : Leaf). Stands (shape_of p) (start ∷ []) (tree_of cells order) k n (leaf l)) o.is_open o.stands)
 
   module _ (at place count budget : ℕ) (w : Way) (v : CostOver) (stands : slice_get order place ≡ Some at) (can : CanBranch p cells at w v)
-      (least : IsLeastOpen p cells at v) (below : LastIsBelow (Some v) (claimed_cost claim))
+      (least : IsLeastOpen p cells at v) (below : LastIsBelow (Some v) undercut)
       (pending : (j : ℕ) → j < length cells → (cell_at cells j).end ≡ leaf untried → IsPending p (place_of (cell_at cells j)))
       (count_is : IsNextCount (shape_of p) (place_of (cell_at cells at)) count) (over : budget < length cells + count) where
     pending_at : (n : Node) → IsCell cells n (leaf untried) → IsPending p n
@@ -130,12 +130,12 @@ module _ (p : Problem) (start : Node) (claim : Claim) (last : Option CostOver) (
       | inr ne ↦ least c.number c.there ne c.end_is (pending c.number c.there c.end_is).reduced.live.no_dead
     ])
 
-    pub kept_is_spent : IsSpent p IsUntried (claimed_cost claim) start (tree_of cells order) place count budget
+    pub kept_is_spent : IsSpent p IsUntried undercut start (tree_of cells order) place count budget
     kept_is_spent = record {
       pending = λ k n o. pending_at n (open_cell k n o);
       node = place_of (cell_at cells at);
       at_leaf = open_stands at place stands can.is_open;
-      of_use = undercuts p (claimed_cost claim) (place_of (cell_at cells at)) v can.value.positive kept.claim_positive below can.value.reached;
+      of_use = undercuts p undercut (place_of (cell_at cells at)) v can.value.positive kept.undercut_positive below can.value.reached;
       least = λ k n o. no_dearer p (place_of (cell_at cells at)) n v can.value.positive can.value.reached (under_at n (open_cell k n o));
       count_is = count_is;
       exceeds =

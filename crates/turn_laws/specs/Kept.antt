@@ -45,11 +45,16 @@ abbrev pub LastIsBelow : Option CostOver → Option CostOver → Type 0
 LastIsBelow None claimed = Unit {0}
 LastIsBelow (Some v) claimed = IsAtMost claimed v.cost v.d
 
--- the search from `start` with this claim, in which a leaf of the value `last` was branched last
-pub record IsKept (p : Problem) (start : Node) (claim : Claim) (last : Option CostOver) (cells : List Cell) : Type 0 where
+-- the search from `start` with this claim, in which a leaf of the value `last` was branched last, for networks that undercut a cost
+pub record IsKeptFor (p : Problem) (start : Node) (claim : Claim) (undercut last : Option CostOver) (cells : List Cell) : Type 0 where
   pub grown : IsGrown true p start claim cells
   pub sound : (i : ℕ) → i < length cells → IsSound (shape_of p) (place_of (cell_at cells i))
   pub ends : (i : ℕ) → i < length cells → EndIsKept p last (place_of (cell_at cells i)) (cell_at cells i).end
   pub last_positive : IsPositiveCost last
   pub claim_positive : IsPositiveCost (claimed_cost claim)
-  pub below : LastIsBelow last (claimed_cost claim)
+  pub undercut_positive : IsPositiveCost undercut
+  pub below : LastIsBelow last undercut
+
+-- what is to be undercut is what is claimed
+abbrev pub IsKept : Problem → Node → Claim → Option CostOver → List Cell → Type 0
+IsKept p start claim last cells = IsKeptFor p start claim (claimed_cost claim) last cells

@@ -20,24 +20,24 @@ use Rattle.search_tree.specs.Cells.{Cell, place_of, cell_at}
 use Rattle.search_tree.specs.Growth.{as_parent}
 use Rattle.search_tree.specs.Preorder.{IsPreorder, tree_of}
 use Rattle.turn_laws.specs.Values.{IsPositive, IsUnder, HasFallen, IsPositiveCost}
-use Rattle.turn_laws.specs.Kept.{LastIsBelow, IsKept}
+use Rattle.turn_laws.specs.Kept.{LastIsBelow, IsKeptFor}
 use Rattle.turn_laws.specs.Turns.{CanBranch, IsLeastOpen, AreChildren, IsBranched, AreShut}
 
 -- ---- what a turn keeps
 
--- an open leaf of least value is branched, where its value is at most what is claimed then
+-- an open leaf of least value is branched, where its value is at most what is to be undercut then
 abbrev pub BranchingIsKept : Type 0
 BranchingIsKept =
-    (p : Problem) → IsValid p → (start : Node) (claim new_claim : Claim) (last : Option CostOver) (v : CostOver) (old kids new : List Cell) (at : ℕ) (w : Way)
-    → IsKept p start claim last old → CanBranch p old at w v → IsLeastOpen p old at v
-    → HasFallen (claimed_cost claim) (claimed_cost new_claim) → IsPositiveCost (claimed_cost new_claim) → LastIsBelow (Some v) (claimed_cost new_claim)
-    → AreChildren p (claimed_cost new_claim) (place_of (cell_at old at)) w kids → IsBranched old kids new at w → IsKept p start new_claim (Some v) new
+    (p : Problem) → IsValid p → (start : Node) (claim new_claim : Claim) (undercut new_undercut last : Option CostOver) (v : CostOver) (old kids new : List Cell) (at : ℕ) (w : Way)
+    → IsKeptFor p start claim undercut last old → CanBranch p old at w v → IsLeastOpen p old at v
+    → HasFallen (claimed_cost claim) (claimed_cost new_claim) → IsPositiveCost (claimed_cost new_claim) → IsPositiveCost new_undercut → LastIsBelow (Some v) new_undercut
+    → AreChildren p (claimed_cost new_claim) (place_of (cell_at old at)) w kids → IsBranched old kids new at w → IsKeptFor p start new_claim new_undercut (Some v) new
 
 -- open leaves are shut
 abbrev pub ShuttingIsKept : Type 0
 ShuttingIsKept =
-    (p : Problem) (start : Node) (claim : Claim) (last : Option CostOver) (old new : List Cell)
-    → IsKept p start claim last old → AreShut p (claimed_cost claim) old new → IsKept p start claim last new
+    (p : Problem) (start : Node) (claim : Claim) (undercut last : Option CostOver) (old new : List Cell)
+    → IsKeptFor p start claim undercut last old → AreShut p (claimed_cost claim) old new → IsKeptFor p start claim undercut last new
 
 -- ---- what the call of `search_tree` that branches a leaf does to the cells is such a step
 
@@ -57,13 +57,13 @@ NetworksCostMore =
 -- the tree is lean
 abbrev pub KeptIsLean : Type 0
 KeptIsLean =
-    (p : Problem) (start : Node) (claim : Claim) (last : Option CostOver) (cells : List Cell) (order : List ℕ) → IsKept p start claim last cells
-    → IsPreorder cells (0 ∷ []) order → IsLean p IsUntried (claimed_cost claim) start (tree_of cells order)
+    (p : Problem) (start : Node) (claim : Claim) (undercut last : Option CostOver) (cells : List Cell) (order : List ℕ) → IsKeptFor p start claim undercut last cells
+    → IsPreorder cells (0 ∷ []) order → IsLean p IsUntried undercut start (tree_of cells order)
 
 -- where no leaf is open, and something is claimed that passes, the tree is accepted
 abbrev pub WholeIsAccepted : Type 0
 WholeIsAccepted =
-    (p : Problem) (start : Node) (claim : Claim) (last : Option CostOver) (cells : List Cell) (order : List ℕ) → IsKept p start claim last cells
+    (p : Problem) (start : Node) (claim : Claim) (undercut last : Option CostOver) (cells : List Cell) (order : List ℕ) → IsKeptFor p start claim undercut last cells
     → IsPreorder cells (0 ∷ []) order → ClaimPasses true p claim → (claim ≡ unknown → ⊥)
     → ((i : ℕ) → i < length cells → (cell_at cells i).end ≡ leaf untried → ⊥) → IsAccepted p start claim (tree_of cells order)
 
@@ -71,16 +71,16 @@ WholeIsAccepted =
 -- budget is spent
 abbrev pub KeptIsSpent : Type 0
 KeptIsSpent =
-    (p : Problem) (start : Node) (claim : Claim) (last : Option CostOver) (cells : List Cell) (order : List ℕ) (at place count budget : ℕ) (w : Way) (v : CostOver)
-    → IsKept p start claim last cells → IsPreorder cells (0 ∷ []) order → slice_get order place ≡ Some at
-    → CanBranch p cells at w v → IsLeastOpen p cells at v → LastIsBelow (Some v) (claimed_cost claim)
+    (p : Problem) (start : Node) (claim : Claim) (undercut last : Option CostOver) (cells : List Cell) (order : List ℕ) (at place count budget : ℕ) (w : Way) (v : CostOver)
+    → IsKeptFor p start claim undercut last cells → IsPreorder cells (0 ∷ []) order → slice_get order place ≡ Some at
+    → CanBranch p cells at w v → IsLeastOpen p cells at v → LastIsBelow (Some v) undercut
     → ((j : ℕ) → j < length cells → (cell_at cells j).end ≡ leaf untried → IsPending p (place_of (cell_at cells j)))
     → IsNextCount (shape_of p) (place_of (cell_at cells at)) count → budget < length cells + count
-    → IsSpent p IsUntried (claimed_cost claim) start (tree_of cells order) place count budget
+    → IsSpent p IsUntried undercut start (tree_of cells order) place count budget
 
 -- an open leaf stands open at its place
 abbrev pub OpenCellsStand : Type 0
 OpenCellsStand =
-    (p : Problem) (start : Node) (claim : Claim) (last : Option CostOver) (cells : List Cell) (order : List ℕ) (at place : ℕ)
-    → IsKept p start claim last cells → IsPreorder cells (0 ∷ []) order → slice_get order place ≡ Some at
+    (p : Problem) (start : Node) (claim : Claim) (undercut last : Option CostOver) (cells : List Cell) (order : List ℕ) (at place : ℕ)
+    → IsKeptFor p start claim undercut last cells → IsPreorder cells (0 ∷ []) order → slice_get order place ≡ Some at
     → (cell_at cells at).end ≡ leaf untried → IsOpenAt p IsUntried start (tree_of cells order) place (place_of (cell_at cells at))

@@ -9,8 +9,9 @@ use Rattle.tree_rules.specs.Ways.{child_at}
 use Rattle.branch_choice.specs.Choices.{IsChoice, way_of}
 use Rattle.node_looks.specs.Children.{IsChild, options_in}
 use Rattle.node_looks.proofs.ChoiceLemmas.{may_branch, decides}
-use Rattle.node_looks.proofs.ChildLemmas.{sound_child, looked_after, is_looked}
+use Rattle.node_looks.proofs.ChildLemmas.{sound_child, looked_after, is_looked, has_options}
 use Rattle.node_looks.proofs.KnownLemmas.{known_option}
+use Rattle.node_looks.proofs.SolvedLemmas.{solved_by, solved_after}
 use Rattle.node_looks.proofs.OptionLemmas.{choice_known}
 use Rattle.node_looks.proofs.children.look_at_child.Goals as goal
 
@@ -48,3 +49,25 @@ returns-clause-looked g c =
     (looked_after p c.is_valid.ensures.valid n (way_of c.args.choice) c.requires.sound c.requires.reduced (may_branch (shape_of p) n c.args.choice c.requires.choice)
     (decides (shape_of p) n c.args.choice c.requires.choice) c.args.option c.requires.option g.E.Evaluator.past c.args.children c.in_ok-looked.looked c.is_some-halted.result c.requires.looked child_is c.is_some-halted.ensures
     c.with_child.result e.kids e.ready e.which e.old e.found e.some e.halt)
+
+pub returns-clause-options : goal.returns-clause-options
+returns-clause-options g c =
+    let p = c.args.problem.now in
+    let n = node_of c.args.node.now in
+    let start : node_of c.child_of-start.result ≡ child_at (shape_of p) n (way_of c.args.choice) c.args.option
+    = c.child_of-start.ensures ∙ ap (λ (s : Shape). child_at s n (way_of c.args.choice) c.args.option) c.requires.graph in
+    let child_is : IsChild g.E.Evaluator.past p (child_at (shape_of p) n (way_of c.args.choice) c.args.option) c.args.option c.is_some-halted.result c.in_ok-looked.looked
+    = subst (λ (m : rules.Node). IsChild g.E.Evaluator.past p m c.args.option c.is_some-halted.result c.in_ok-looked.looked) start c.in_ok-looked.ensures.child in
+    let e = c.with_child.ensures in
+    has_options c.with_child.result g.E.Evaluator.past p n (way_of c.args.choice) (options_in c.args.children ++ c.args.option ∷ [])
+    (looked_after p c.is_valid.ensures.valid n (way_of c.args.choice) c.requires.sound c.requires.reduced (may_branch (shape_of p) n c.args.choice c.requires.choice)
+    (decides (shape_of p) n c.args.choice c.requires.choice) c.args.option c.requires.option g.E.Evaluator.past c.args.children c.in_ok-looked.looked c.is_some-halted.result c.requires.looked child_is c.is_some-halted.ensures
+    c.with_child.result e.kids e.ready e.which e.old e.found e.some e.halt)
+
+pub returns-clause-solved : goal.returns-clause-solved
+returns-clause-solved g c =
+    let l = c.in_ok-looked.looked in
+    let k = c.in_ok-looked.ensures.child in
+    let e = c.with_child.ensures in
+    solved_after c.args.problem.now c.args.children l c.args.all c.with_child.result c.requires.solved
+    (solved_by c.args.problem.now l.cell l.network k.what k.end_is k.passes k.found k.bounded) e.kids e.networks

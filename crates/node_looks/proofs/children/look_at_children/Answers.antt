@@ -10,6 +10,7 @@ use Rattle.search_tree.specs.Cells.{Cell}
 use Rattle.search_tree.specs.declared.growth.Fresh.{Fresh}
 use Rattle.node_looks.specs.Children.{cells_of, options_in}
 use Rattle.node_looks.proofs.ChildLemmas.{looked_first, looked_all, comes}
+use Rattle.node_looks.proofs.SolvedLemmas.{solved_first}
 use Rattle.node_looks.proofs.OptionLemmas.{choice_known}
 use Rattle.node_looks.proofs.children.look_at_children.Goals as goal
 
@@ -28,10 +29,11 @@ options_of-requires g c =
 
 pub options-init : goal.options-init
 options-init g c = record {
-  looked = looked_first g.E.Evaluator.past c.args.problem.now (node_of c.args.node) (way_of c.args.choice) (record { kids = c.new.result; ready = c.new-2.result; best = None; halt = None })
+  looked = looked_first g.E.Evaluator.past c.args.problem.now (node_of c.args.node) (way_of c.args.choice) (record { kids = c.new.result; ready = c.new-2.result; best = None; networks = c.new-3.result; halt = None })
       c.new.ensures.items c.new-2.ensures.items refl refl;
   done = none_yet (c.new.result.items) c.new.ensures.items c.deref-option-items.result.now
       ∙ (c.deref-option-items.ensures.value ∙ (c.in_ok-options.ensures ∙ ap (λ (s : Shape). options_at s (node_of c.args.node) (way_of c.args.choice)) c.requires.graph));
+  solved = λ e. solved_first c.args.problem.now c.new.result.items c.new-3.result.items c.new.ensures.items c.new-3.ensures.items;
   makers = refl;
 }
 
@@ -52,6 +54,7 @@ returns-in_err-children-clause-makers g c = c.look_at_child.ensures.makers ∙ c
 pub options-preserved : goal.options-preserved
 options-preserved g c = record {
   looked = c.in_ok-children.ensures.looked;
+  solved = c.in_ok-children.ensures.solved;
   done = ap (λ os. os ++ drop (c.options.option-index + 1) c.deref-option-items.result.now) c.in_ok-children.ensures.options
       ∙ (append_assoc (options_in c.options.children) (c.option-item.result ∷ []) (drop (c.options.option-index + 1) c.deref-option-items.result.now)
       ∙ (next_of (options_in c.options.children) c.deref-option-items.result.now c.options.option-index c.option-item.result c.options-test.true c.option-item.is ∙ c.options.invariant.done));
@@ -66,3 +69,9 @@ returns-clause-seen g c =
 
 pub returns-clause-makers : goal.returns-clause-makers
 returns-clause-makers g c = c.options.invariant.makers
+
+pub look_at_child-requires-clause-solved : goal.look_at_child-requires-clause-solved
+look_at_child-requires-clause-solved g c = c.options.invariant.solved
+
+pub returns-clause-solved : goal.returns-clause-solved
+returns-clause-solved g c = c.options.invariant.solved

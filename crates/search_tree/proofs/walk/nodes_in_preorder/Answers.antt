@@ -1,4 +1,4 @@
-use Rattle.std.proofs.Common.{◌≡◌, ◌+◌, ◌<◌, ◌==◌, cond, List, [], ◌∷◌, ◌++◌, length, Option, sym, ap, ◌∙◌, subst, arith, rules}
+use Rattle.std.proofs.Common.{◌≡◌, ℕ, ◌+◌, ◌<◌, ◌==◌, cond, List, [], ◌∷◌, ◌++◌, length, Option, sym, ap, ◌∙◌, subst, arith, rules}
 use Rattle.std.specs.Prelude.{option_copied}
 use Rattle.std.specs.List.{range_with_len}
 use Rattle.std.proofs.lemmas.Option.{get_or_from_slice_get}
@@ -7,7 +7,7 @@ use Rattle.search_tree.specs.declared.walk.Run.{Run}
 use Rattle.search_tree.specs.Cells.{Cell, no_cell, cell_at, numbers_below, children_at}
 use Rattle.branch_tree.specs.Scaled.{Scaled}
 use Rattle.search_tree.specs.Growth.{as_shut}
-use Rattle.search_tree.specs.Preorder.{node_at, IsTreeOf}
+use Rattle.search_tree.specs.Preorder.{node_at, IsTreeIn}
 use Rattle.search_tree.specs.Shut.{shut_end, shut_cells}
 use Rattle.search_tree.specs.Runs.{to_come}
 use Rattle.search_tree.proofs.RunLemmas.{to_come-push, come_none}
@@ -20,8 +20,9 @@ walk-init c =
     let cells = shut_cells c.args.proofs.now c.args.pool.now.payloads in
     let first : Run = record { next = 0; more = 0 } in
     let stack : c.push.new.self.items ≡ first ∷ [] = c.in_ok-push.ensures.items ∙ ap (λ (rs : List Run). rs ++ first ∷ []) c.new-stack.ensures.items in
-    subst (λ (rs : List Run). IsWalk cells c.args.wanted (to_come rs) c.new-nodes.result.items 0) (sym stack)
-    (subst (λ (ts : Tree). IsWalk cells c.args.wanted (0 ∷ []) ts 0) (sym c.new-nodes.ensures.items) (walk_starts cells (shut_linked c.args.proofs.now c.args.pool.now.payloads c.requires.linked) c.args.wanted))
+    subst (λ (rs : List Run). IsWalk cells c.args.wanted (to_come rs) c.new-order.result.items c.new-nodes.result.items 0) (sym stack)
+    (subst (λ (ks : List ℕ). IsWalk cells c.args.wanted (0 ∷ []) ks c.new-nodes.result.items 0) (sym c.new-order.ensures.items)
+    (subst (λ (ts : Tree). IsWalk cells c.args.wanted (0 ∷ []) [] ts 0) (sym c.new-nodes.ensures.items) (walk_starts cells (shut_linked c.args.proofs.now c.args.pool.now.payloads c.requires.linked) c.args.wanted)))
 
 pub payload-cell-requires : goal.payload-cell-requires
 payload-cell-requires c =
@@ -31,8 +32,8 @@ payload-cell-requires c =
     let many : length cells ≡ length old_cells = shut_length c.args.proofs.now old_cells in
     let run = c.in-Some.run' in
     let stack = c.pop.new.self.items in
-    let walk = subst (λ xs. IsWalk cells c.args.wanted xs c.walk.nodes.items c.walk.place) (to_come-push stack run)
-    (subst (λ (xs : List Run). IsWalk cells c.args.wanted (to_come xs) c.walk.nodes.items c.walk.place) c.in-Some.ensures.items c.walk.invariant) in
+    let walk = subst (λ xs. IsWalk cells c.args.wanted xs c.walk.order.items c.walk.nodes.items c.walk.place) (to_come-push stack run)
+    (subst (λ (xs : List Run). IsWalk cells c.args.wanted (to_come xs) c.walk.order.items c.walk.nodes.items c.walk.place) c.in-Some.ensures.items c.walk.invariant) in
     let there : run.next < length cells = walk.there.0 in
     let same = c.is_pool.ensures.payloads in
     omega (arith, there, same, many)
@@ -45,8 +46,8 @@ visit-requires c =
     let many : length cells ≡ length old_cells = shut_length c.args.proofs.now old_cells in
     let run = c.in-Some.run' in
     let stack = c.pop.new.self.items in
-    let walk = subst (λ xs. IsWalk cells c.args.wanted xs c.walk.nodes.items c.walk.place) (to_come-push stack run)
-    (subst (λ (xs : List Run). IsWalk cells c.args.wanted (to_come xs) c.walk.nodes.items c.walk.place) c.in-Some.ensures.items c.walk.invariant) in
+    let walk = subst (λ xs. IsWalk cells c.args.wanted xs c.walk.order.items c.walk.nodes.items c.walk.place) (to_come-push stack run)
+    (subst (λ (xs : List Run). IsWalk cells c.args.wanted (to_come xs) c.walk.order.items c.walk.nodes.items c.walk.place) c.in-Some.ensures.items c.walk.invariant) in
     let there : run.next < length cells = walk.there.0 in
     let same = c.is_pool.ensures.payloads in
     let few = c.is_pool.ensures.numbered in
@@ -62,8 +63,8 @@ walk-smaller c =
     let stack = c.pop.new.self.items in
     let rest = range_with_len (run.next + 1) run.more ++ to_come stack in
     let old : to_come c.walk.stack.items ≡ run.next ∷ rest = ap to_come c.in-Some.ensures.items ∙ to_come-push stack run in
-    let walk : IsWalk cells c.args.wanted (run.next ∷ rest) c.walk.nodes.items c.walk.place
-    = subst (λ xs. IsWalk cells c.args.wanted xs c.walk.nodes.items c.walk.place) old c.walk.invariant in
+    let walk : IsWalk cells c.args.wanted (run.next ∷ rest) c.walk.order.items c.walk.nodes.items c.walk.place
+    = subst (λ xs. IsWalk cells c.args.wanted xs c.walk.order.items c.walk.nodes.items c.walk.place) old c.walk.invariant in
     let item : cell_at old_cells run.next ≡ c.payload-cell.result.now = get_or_from_slice_get old_cells run.next c.payload-cell.result.now no_cell c.payload-cell.ensures in
     let there : run.next < length old_cells = let t = walk.there.0 in omega (arith, t, many) in
     let shut : cell_at cells run.next ≡ as_shut (cell_at old_cells run.next) (shut_end (proof_of c.args.proofs.now run.next) (cell_at old_cells run.next).end) = shut_at c.args.proofs.now old_cells run.next there in
@@ -83,8 +84,8 @@ walk-preserved c =
     let stack = c.pop.new.self.items in
     let rest = range_with_len (run.next + 1) run.more ++ to_come stack in
     let old : to_come c.walk.stack.items ≡ run.next ∷ rest = ap to_come c.in-Some.ensures.items ∙ to_come-push stack run in
-    let walk : IsWalk cells c.args.wanted (run.next ∷ rest) c.walk.nodes.items c.walk.place
-    = subst (λ xs. IsWalk cells c.args.wanted xs c.walk.nodes.items c.walk.place) old c.walk.invariant in
+    let walk : IsWalk cells c.args.wanted (run.next ∷ rest) c.walk.order.items c.walk.nodes.items c.walk.place
+    = subst (λ xs. IsWalk cells c.args.wanted xs c.walk.order.items c.walk.nodes.items c.walk.place) old c.walk.invariant in
     let item : cell_at old_cells run.next ≡ c.payload-cell.result.now = get_or_from_slice_get old_cells run.next c.payload-cell.result.now no_cell c.payload-cell.ensures in
     let there : run.next < length old_cells = let t = walk.there.0 in omega (arith, t, many) in
     let shut : cell_at cells run.next ≡ as_shut (cell_at old_cells run.next) (shut_end (proof_of c.args.proofs.now run.next) (cell_at old_cells run.next).end) = shut_at c.args.proofs.now old_cells run.next there in
@@ -99,10 +100,11 @@ walk-preserved c =
     let count : c.len.result ≡ length c.walk.nodes.items = let a = c.len.ensures in search rules in
     let place : c.place_after-place.result ≡ cond (run.next == c.args.wanted) (length c.walk.nodes.items) c.walk.place
     = c.place_after-place.ensures ∙ ap (λ n. cond (run.next == c.args.wanted) n c.walk.place) count in
-    subst (λ xs. IsWalk cells c.args.wanted xs c.visit.new.nodes.items c.place_after-place.result) (sym new)
-    (subst (λ (ts : Tree). IsWalk cells c.args.wanted (children_at cells run.next ++ rest) ts c.place_after-place.result) (sym nodes)
-    (subst (λ k. IsWalk cells c.args.wanted (children_at cells run.next ++ rest) (c.walk.nodes.items ++ node_at cells run.next ∷ []) k) (sym place)
-    (walk_goes_on cells linked c.args.wanted run.next rest c.walk.nodes.items c.walk.place walk)))
+    subst (λ xs. IsWalk cells c.args.wanted xs c.visit.new.order.items c.visit.new.nodes.items c.place_after-place.result) (sym new)
+    (subst (λ (ks : List ℕ). IsWalk cells c.args.wanted (children_at cells run.next ++ rest) ks c.visit.new.nodes.items c.place_after-place.result) (sym c.in_ok-visit.ensures.order)
+    (subst (λ (ts : Tree). IsWalk cells c.args.wanted (children_at cells run.next ++ rest) (c.walk.order.items ++ run.next ∷ []) ts c.place_after-place.result) (sym nodes)
+    (subst (λ k. IsWalk cells c.args.wanted (children_at cells run.next ++ rest) (c.walk.order.items ++ run.next ∷ []) (c.walk.nodes.items ++ node_at cells run.next ∷ []) k) (sym place)
+    (walk_goes_on cells linked c.args.wanted run.next rest c.walk.order.items c.walk.nodes.items c.walk.place walk))))
 
 pub ended-requires : goal.ended-requires
 ended-requires c =
@@ -112,8 +114,8 @@ ended-requires c =
     let many : length cells ≡ length old_cells = shut_length c.args.proofs.now old_cells in
     let none : length c.walk.stack.items ≡ 0 = let h = c.in_default.ensures.cases.0 in search rules in
     let e : to_come c.walk.stack.items ≡ [] = come_none c.walk.stack.items none in
-    let walk = subst (λ xs. IsWalk cells c.args.wanted xs c.walk.nodes.items c.walk.place) e c.walk.invariant in
-    let r = walk_ends cells linked c.args.wanted (let w = c.requires.wanted in omega (arith, w, many)) c.walk.nodes.items c.walk.place walk in
+    let walk = subst (λ xs. IsWalk cells c.args.wanted xs c.walk.order.items c.walk.nodes.items c.walk.place) e c.walk.invariant in
+    let r = walk_ends cells linked c.args.wanted (let w = c.requires.wanted in omega (arith, w, many)) c.walk.order.items c.walk.nodes.items c.walk.place walk in
     let within = r.1 in
     let same = c.is_pool.ensures.payloads in
     let few = c.is_pool.ensures.numbered in
@@ -127,7 +129,8 @@ returns c =
     let many : length cells ≡ length old_cells = shut_length c.args.proofs.now old_cells in
     let none : length c.walk.stack.items ≡ 0 = let h = c.in_default.ensures.cases.0 in search rules in
     let e : to_come c.walk.stack.items ≡ [] = come_none c.walk.stack.items none in
-    let walk = subst (λ xs. IsWalk cells c.args.wanted xs c.walk.nodes.items c.walk.place) e c.walk.invariant in
-    let r = walk_ends cells linked c.args.wanted (let w = c.requires.wanted in omega (arith, w, many)) c.walk.nodes.items c.walk.place walk in
-    subst (λ k. IsTreeOf cells c.args.wanted c.ended.result.nodes.items k) (sym c.ended.ensures.place)
-    (subst (λ v. IsTreeOf cells c.args.wanted v.items c.walk.place) (sym c.ended.ensures.nodes) r.0)
+    let walk = subst (λ xs. IsWalk cells c.args.wanted xs c.walk.order.items c.walk.nodes.items c.walk.place) e c.walk.invariant in
+    let r = walk_ends cells linked c.args.wanted (let w = c.requires.wanted in omega (arith, w, many)) c.walk.order.items c.walk.nodes.items c.walk.place walk in
+    subst (λ k. IsTreeIn cells c.args.wanted c.ended.result.order.items c.ended.result.nodes.items k) (sym c.ended.ensures.place)
+    (subst (λ v. IsTreeIn cells c.args.wanted v.items c.ended.result.nodes.items c.walk.place) (sym c.ended.ensures.order)
+    (subst (λ v. IsTreeIn cells c.args.wanted c.walk.order.items v.items c.walk.place) (sym c.ended.ensures.nodes) r.0))
