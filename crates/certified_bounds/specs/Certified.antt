@@ -1,6 +1,7 @@
 -- What is told of a node by the second way: the least cost of its relaxed flows with a bound that multipliers prove, a network of
 -- that cost, multipliers that refute the node, or nothing.
-use Rattle.std.specs.Prelude.{◌≡◌, pos, ◌≤ℤ◌, ◌*ℤ◌, Bool, true, false, Some}
+use Rattle.std.specs.Prelude.{◌≡◌, ℕ, pos, ◌≤ℤ◌, ◌*ℤ◌, Bool, true, false, Some}
+use Rattle.number_sets.specs.Sets.{has}
 use Rattle.problem_rules.specs.Problem.{Problem}
 use Rattle.pns_rules.specs.Nodes.{Node}
 use Rattle.mixed_numbers.specs.declared.number.Mixed.{Mixed}
@@ -29,9 +30,13 @@ pub record IsNetworkAt (p : Problem) (value : Mixed) (w : Network) : Type 0 wher
   pub positive : pos 1 ≤ℤ w.d
   pub costs : w.cost *ℤ denominator value ≡ numerator value *ℤ w.d
 
+-- the units that are taken in at the node are those of the network
+abbrev pub HasUnits : Node → Network → Type 0
+HasUnits n w = (u : ℕ) → n.inside u ≡ has w.units u
+
 -- of a node at which all is decided a network is told, of others the least cost; nothing may be told of each
 abbrev pub IsCertified : Problem → Node → Bool → Certified → Type 0
 IsCertified p n decided (Least b) = (decided ≡ false) × IsLeastBound p n b
-IsCertified p n decided (Flows b w) = (decided ≡ true) × IsLeastBound p n b × IsNetworkAt p b.value w × (b.low ≡ b.value)
+IsCertified p n decided (Flows b w) = (decided ≡ true) × IsLeastBound p n b × IsNetworkAt p b.value w × (b.low ≡ b.value) × HasUnits n w
 IsCertified p n decided (Refuted ys) = IsRefuted p n ys
 IsCertified p n decided Nothing = Unit {0}

@@ -31,7 +31,8 @@ fn network_at(
     requires graph { shape graph.now ≡ shape_of problem.now }
     requires sound { IsSound (shape_of problem.now) (node_of node.now) }
     requires decided { IsDecided (shape_of problem.now) (node_of node.now) }
-    ensures { IfOk result (λ found. IfSome found (IsNetworkAt problem.now value)) }
+    ensures found { IfOk result (λ found. IfSome found (IsNetworkAt problem.now value)) }
+    ensures units { IfOk result (λ found. IfSome found (λ w. w.units ≡ node.now.inside)) }
 {
     let Some(d) = proposals.write_sizes() else {
         return Ok(None);

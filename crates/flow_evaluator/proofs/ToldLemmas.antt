@@ -12,7 +12,7 @@ use Rattle.certified_bounds.specs.declared.certified.Certified.{Certified}
 use Rattle.certified_bounds.specs.declared.certified.Certified.TheVariants.{Least, Flows}
 use Rattle.certified_bounds.specs.Certified.{IsCertified, IsLeastBound, IsNetworkAt}
 use Rattle.node_looks.specs.declared.evaluator.Bound.{Bound}
-use Rattle.node_looks.specs.Evaluated.{cost_over, cost_in, IsBoundOf, IsNetworkOf}
+use Rattle.node_looks.specs.Evaluated.{cost_over, cost_in, IsBoundOf, IsNetworkOf, HasUnits}
 
 abbrev pub bound_from : LeastBound → Bound
 bound_from b = record { value = b.value; low = b.low; scaled = b.scaled }
@@ -41,7 +41,7 @@ least_is p n decided told b r is same h =
     (k.0, subst (IsBoundOf p n) (sym same) (bound_is p n b k.1))
 
 pub flows_are : (p : Problem) (n : Node) (decided : Bool) (told : Certified) (b : LeastBound) (w : Network) (r : Bound) → told ≡ Flows b w → r ≡ bound_from b → IsCertified p n decided told
-    → (decided ≡ true) × IsBoundOf p n r × IsNetworkOf p r.value w × IsNoMore (cost_in w) (cost_over r.low)
+    → (decided ≡ true) × IsBoundOf p n r × IsNetworkOf p r.value w × IsNoMore (cost_in w) (cost_over r.low) × HasUnits n w
 flows_are p n decided told b w r is same h =
     let k : IsCertified p n decided (Flows b w) = subst (IsCertified p n decided) is h in
     let network : IsNetworkOf p b.value w = network_is p b.value w k.2 in
@@ -50,4 +50,5 @@ flows_are p n decided told b w r is same h =
       subst (IsBoundOf p n) (sym same) (bound_is p n b k.1),
       subst (λ (x : Bound). IsNetworkOf p x.value w) (sym same) network,
       subst (λ (x : Bound). IsNoMore (cost_in w) (cost_over x.low)) (sym same) reached,
+      k.4,
     )

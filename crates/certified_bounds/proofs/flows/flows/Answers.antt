@@ -1,4 +1,5 @@
-use Rattle.std.proofs.Common.{◌≡◌, Some, ◌*ℤ◌, refl, subst}
+use Rattle.std.proofs.Common.{◌≡◌, Some, ◌*ℤ◌, refl, sym, ap, subst}
+use Rattle.number_sets.specs.Sets.{has}
 use Rattle.pgraph.specs.View.{node_of}
 use Rattle.tree_rules.specs.Leaf.{IsBounded}
 use Rattle.mixed_numbers.specs.Number.{numerator, denominator}
@@ -13,7 +14,8 @@ returns-in-Some-2 c =
     let v = c.args.value in
     let s = c.in-Some.scaled in
     let h : IsBounded p (Some (cost_over v)) n s.d s.ys = rw c.in-Some.is at c.in_ok-scaled.ensures in
-    let network : IsNetworkAt p v c.in-Some-2.network = rw c.in-Some-2.is at c.in_ok-network.ensures in (
+    let network : IsNetworkAt p v c.in-Some-2.network = rw c.in-Some-2.is at c.in_ok-network.ensures.found in
+    let units : c.in-Some-2.network.units ≡ c.args.node.now.inside = rw c.in-Some-2.is at c.in_ok-network.ensures.units in (
       refl,
       record {
         value = c.requires.value;
@@ -22,4 +24,5 @@ returns-in-Some-2 c =
       },
       network,
       refl,
+      λ u. ap (λ us. has us u) (sym units),
     )

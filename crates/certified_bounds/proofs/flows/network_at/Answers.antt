@@ -4,7 +4,7 @@ use Rattle.std.proofs.lemmas.Int.{to_z-of_z}
 use Rattle.std.specs.Ordering.{int_cmp, is_eq}
 use Rattle.mixed_numbers.specs.Number.{numerator, denominator}
 use Rattle.int_rows.proofs.RangeLemmas.{fits_from_range}
-use Rattle.tree_rules.specs.Claim.{IsFeasible}
+use Rattle.tree_rules.specs.Claim.{Network, IsFeasible}
 use Rattle.certified_bounds.specs.Certified.{IsNetworkAt}
 use Rattle.certified_bounds.proofs.FractionLemmas.{equal_from}
 use Rattle.certified_bounds.proofs.BoundLemmas.{network_of, same_cost}
@@ -14,8 +14,8 @@ not_false : (b : Bool) → not b ≡ false → b ≡ true
 not_false true h = refl
 not_false false h = absurd (let e : true ≡ false = h in cc)
 
-pub returns : goal.returns
-returns c =
+pub returns-clause-found : goal.returns-clause-found
+returns-clause-found c =
     let p = c.args.problem.now in
     let us = c.args.node.now.inside in
     let v = c.args.value in
@@ -41,3 +41,6 @@ returns c =
       costs = same_cost cost d found v top den equal;
     } in
     subst (IsNetworkAt p v) (sym (of_is ∙ ap (λ (ys : List ℤ). network_of us d cost ys) kept)) whole
+
+pub returns-clause-units : goal.returns-clause-units
+returns-clause-units c = ap (λ (w : Network). w.units) c.of.ensures

@@ -11,7 +11,7 @@ use Rattle.tree_rules.specs.Leaf.{IsFormed}
 use Rattle.node_looks.specs.declared.evaluator.Bound.{Bound}
 use Rattle.tree_rules.specs.Claim.{Network}
 use Rattle.turn_laws.specs.Values.{IsNoMore}
-use Rattle.node_looks.specs.Evaluated.{cost_over, cost_in, IsBoundOf, IsNetworkOf}
+use Rattle.node_looks.specs.Evaluated.{cost_over, cost_in, IsBoundOf, IsNetworkOf, HasUnits}
 use Rattle.flow_evaluator.specs.Past.{IsPastAt}
 use Rattle.flow_evaluator.proofs.FlowLemmas.{IsValueAt, bound_is, network_with, network_is, kept_value, kept_steps, is_split, units_inside}
 use Rattle.flow_evaluator.proofs.KnownLemmas.{place_known, kept_known, halted_is}
@@ -73,4 +73,5 @@ returns-in_ok-network-in-Ok-clause-evaluated c =
       subst (λ (x : Bound). IsNetworkOf p x.value c.in_ok-network-in-Ok.network) (sym bound_same) (subst (IsNetworkOf p v) (sym network_same) network),
       subst (λ (x : Bound). IsNoMore (cost_in c.in_ok-network-in-Ok.network) (cost_over x.low)) (sym bound_same)
           (subst (λ (w : Network). IsNoMore (cost_in w) (cost_over v)) (sym network_same) network.no_more),
+      subst (λ (w : Network). HasUnits n w) (sym network_same) (λ u. refl),
     )
