@@ -31,7 +31,7 @@ use Rattle.node_looks.specs.Evaluated.{PastPlaces, cost_over, cost_in, IsBoundOf
 use Rattle.node_looks.specs.Looks.{KnowsCell, IsReady, IsSomeReady}
 use Rattle.node_looks.specs.Children.{claim_with}
 use Rattle.abb_search.specs.declared.growing.Growing.{Growing}
-use Rattle.abb_search.specs.Growing.{IsTreeKept, IsGrowing, IsHaltedAt}
+use Rattle.abb_search.specs.Growing.{IsTreeKept, IsGrowing, IsGrowingFor, IsHaltedAt}
 use Rattle.abb_search.specs.Closing.{AreBeaten, ShutsLeaf, IsShutBy, ShutAll, IsInRange, hand_of, scaled_in}
 use Rattle.abb_search.specs.Found.{found_with, IsFoundBy}
 use Rattle.abb_search.proofs.EndLemmas.{whole_found}
@@ -48,7 +48,7 @@ low_proves p n b w positive h le = leaf_fallen p (Some (cost_over b.low)) (Some 
 pub is_worth : (p : Problem) (n : Node) (b : Bound) (w : claims.Network) → IsBoundOf p n b → IsNoMore (cost_in w) (cost_over b.value) → IsWorth p n (cost_in w)
 is_worth p n b w h le = record { value = cost_over b.value; is_value = h.value; no_less = le }
 
-module _ (p : Problem) (s : Growing) (g : IsGrowing p s) (j : ℕ) (lt : j < length s.pool.payloads) where
+module _ {undercut : Option CostOver} (p : Problem) (s : Growing) (g : IsGrowingFor p undercut s) (j : ℕ) (lt : j < length s.pool.payloads) where
   pub hand_none : hand_of s j ≡ None → (cell_at s.pool.payloads j).end ≡ leaf untried → ⊥
   hand_none h e =
       let a = g.ready.each j lt e in
@@ -217,7 +217,7 @@ module _ (p : Problem) (s : Growing) (g : IsGrowing p s) (w : claims.Network) (b
   closed_tree : IsTreeKept p closed
   closed_tree = record {
     last = g.tree.last;
-    kept = shutting_is_kept p (node_of s.start) (claim_with s.best) g.tree.last s.pool.payloads (shut_cells ms s.pool.payloads) g.tree.kept are_shut;
+    kept = shutting_is_kept p (node_of s.start) (claim_with s.best) (claimed_cost (claim_with s.best)) g.tree.last s.pool.payloads (shut_cells ms s.pool.payloads) g.tree.kept are_shut;
     passes = g.tree.passes;
     bounded = λ b. ap (λ (o : Option claims.Network). is_some o) best_is;
     known = known_shut;

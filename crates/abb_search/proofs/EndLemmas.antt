@@ -48,6 +48,7 @@ as_infeasible p start last cells k = record {
   ends = k.ends;
   last_positive = k.last_positive;
   claim_positive = k.claim_positive;
+  undercut_positive = k.undercut_positive;
   below = k.below;
 }
 
@@ -61,8 +62,8 @@ module _ (p : Problem) (s : Growing) (t : IsTreeKept p s) (at place : ℕ) (tree
   proved : (claim : claims.Claim) → KnowsClaim p claim → IsKept p (node_of s.start) claim t.last s.pool.payloads → ClaimPasses true p claim → (claim ≡ claims.unknown → ⊥)
       → ((i : ℕ) → i < length s.pool.payloads → (cell_at s.pool.payloads i).end ≡ leaf untried → ⊥) → IsProved p (node_of s.start) claim tree
   proved claim claim_known kept passing known shut = subst (λ (w : Tree). IsProved p (node_of s.start) claim w) (sym of.nodes_are) (record {
-    accepted = whole_is_accepted p (node_of s.start) claim t.last s.pool.payloads of.order kept of.is_preorder passing known shut;
-    lean = kept_is_lean p (node_of s.start) claim t.last s.pool.payloads of.order kept of.is_preorder;
+    accepted = whole_is_accepted p (node_of s.start) claim (claimed_cost claim) t.last s.pool.payloads of.order kept of.is_preorder passing known shut;
+    lean = kept_is_lean p (node_of s.start) claim (claimed_cost claim) t.last s.pool.payloads of.order kept of.is_preorder;
     of_claim = claim_known;
     of_tree = tree_known;
     few = few_in_tree;
@@ -86,7 +87,7 @@ module _ (p : Problem) (s : Growing) (t : IsTreeKept p s) (at place : ℕ) (tree
           passes (shape_of p) (LeafPasses true p (claimed_cost (claim_with s.best))) (node_of s.start) s.pool.payloads t.kept.grown.linked t.kept.grown.fits (node_of s.start ∷ []) (0 ∷ []) of.order
           (aligned_start (shape_of p) (LeafPasses true p (claimed_cost (claim_with s.best))) (node_of s.start) s.pool.payloads t.kept.grown.linked t.kept.grown.fits) of.is_preorder;
     };
-    lean = kept_is_lean p (node_of s.start) (claim_with s.best) t.last s.pool.payloads of.order t.kept of.is_preorder;
+    lean = kept_is_lean p (node_of s.start) (claim_with s.best) (claimed_cost (claim_with s.best)) t.last s.pool.payloads of.order t.kept of.is_preorder;
     of_claim = knows_claim p s.best t.passes sized;
     of_tree = tree_known;
     few = few_in_tree;
@@ -94,7 +95,7 @@ module _ (p : Problem) (s : Growing) (t : IsTreeKept p s) (at place : ℕ) (tree
 
   pub spent : (count : ℕ) → IsSpentAt p s at count → IsSpent p IsUntried (claimed_cost (claim_with s.best)) (node_of s.start) tree place count s.budget
   spent count h = subst (λ (w : Tree). IsSpent p IsUntried (claimed_cost (claim_with s.best)) (node_of s.start) w place count s.budget) (sym of.nodes_are)
-      (kept_is_spent p (node_of s.start) (claim_with s.best) t.last s.pool.payloads of.order t.kept of.is_preorder at place count s.budget h.way h.value of.stands h.can h.least h.below h.pending h.count_is h.over)
+      (kept_is_spent p (node_of s.start) (claim_with s.best) (claimed_cost (claim_with s.best)) t.last s.pool.payloads of.order t.kept of.is_preorder at place count s.budget h.way h.value of.stands h.can h.least h.below h.pending h.count_is h.over)
 
   head_is : (order : List ℕ) → IsPreorder s.pool.payloads (0 ∷ []) order → slice_get order 0 ≡ Some 0
   head_is [] h = absurd h
@@ -120,7 +121,7 @@ module _ (p : Problem) (s : Growing) (t : IsTreeKept p s) (at place : ℕ) (tree
   pub past : (Past : PastPlaces) (h : Halt) → IsHaltedAt Past p s at h → IsPast p IsUntried (node_of s.start) tree (λ n. Past p n h.nonbasic h.place) place
   past Past h k = subst (λ (w : Tree). IsPast p IsUntried (node_of s.start) w (λ n. Past p n h.nonbasic h.place) place) (sym of.nodes_are) (record {
     node = place_of (cell_at s.pool.payloads at);
-    at_leaf = open_stands p (node_of s.start) (claim_with s.best) t.last s.pool.payloads of.order t.kept of.is_preorder at place of.stands k.is_open;
+    at_leaf = open_stands p (node_of s.start) (claim_with s.best) (claimed_cost (claim_with s.best)) t.last s.pool.payloads of.order t.kept of.is_preorder at place of.stands k.is_open;
     reduced = k.halted.reduced;
     past = k.halted.past;
   })

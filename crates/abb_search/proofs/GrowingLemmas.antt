@@ -1,7 +1,7 @@
 -- What a look at all children does to the nodes, where a leaf is branched.
-use Rattle.std.proofs.Common.{◌≡◌, ◌⊎◌, ℕ, ◌+◌, ◌-◌, ◌^◌, ◌<◌, ◌≤◌, max, ◌||◌, subst, List, [], ◌∷◌, ◌++◌, length, reverse, slice_set, Option, Some, None, refl, sym, ap, ◌∙◌, arith}
+use Rattle.std.proofs.Common.{◌≡◌, ◌⊎◌, ℕ, zero, suc, drop, ◌+◌, ◌-◌, ◌^◌, ◌<◌, ◌≤◌, max, ◌||◌, subst, List, [], ◌∷◌, ◌++◌, length, reverse, slice_set, Option, Some, None, refl, sym, ap, ◌∙◌, arith}
 use Rattle.std.specs.Prelude.{MatchOption, is_some}
-use Rattle.std.proofs.lemmas.List.{reverse-append, length-map, length-reverse, reverse-reverse}
+use Rattle.std.proofs.lemmas.List.{reverse-append, length-set, length-map, length-reverse, reverse-reverse}
 use Rattle.problem_rules.specs.Problem.{Problem}
 use Rattle.pns_rules.specs.Shape.{shape_of}
 use Rattle.pns_rules.specs.Nodes.{Node}
@@ -10,6 +10,7 @@ use Rattle.tree_rules.specs.Tree.{branch}
 use Rattle.mixed_numbers.specs.declared.number.Mixed.{Mixed}
 use Rattle.turn_laws.specs.Values.{HasFallen}
 use Rattle.node_looks.specs.Looks.{cost_of}
+use Rattle.tree_rules.specs.Claim as claims
 use Rattle.search_tree.specs.Cells.{Cell, cell_at}
 use Rattle.search_tree.specs.Growth.{AreOpen, as_parent, cells_in_turn, values_in_turn}
 use Rattle.search_tree.specs.declared.growth.Fresh.{Fresh}
@@ -18,11 +19,11 @@ use Rattle.node_looks.specs.declared.looks.Ready.{Ready}
 use Rattle.node_looks.specs.declared.children.HaltedAt.{HaltedAt}
 use Rattle.node_looks.specs.declared.children.Children.{Children}
 use Rattle.node_looks.specs.Evaluated.{PastPlaces}
-use Rattle.node_looks.specs.Children.{cells_of, values_of, HaltHolds, AreSeen}
+use Rattle.node_looks.specs.Children.{cells_of, values_of, HaltHolds, AreSeen, AreSolvedBy}
 use Rattle.abb_search.specs.declared.growing.Growing.{Growing}
 use Rattle.slab.specs.Slab.{Slab, Updates}
 use Rattle.abb_search.specs.Hand.{ArePlaced}
-use Rattle.abb_search.proofs.HandLemmas.{as_many_kids}
+use Rattle.abb_search.proofs.HandLemmas.{as_many_kids, solved_placed}
 use Rattle.abb_search.specs.Growing.{halt_at, IsBranching}
 
 cells_last : (fs : List Fresh) (f : Fresh) → cells_in_turn (fs ++ f ∷ []) ≡ f.cell ∷ cells_in_turn fs
@@ -98,3 +99,21 @@ branching Past p n old new at w c mid placed freed first seen wide same ef frees
 -- there is room for as many as were reserved
 pub room_within : (spare old count n : ℕ) → spare ≡ max old count → n ≡ count → n ≤ spare
 room_within spare old count n e m = omega (arith, e, m)
+
+-- ---- the networks of the children
+
+drop-length : {X : Type 0} (n : ℕ) (xs ys : List X) → n ≡ length xs → drop n (xs ++ ys) ≡ ys
+drop-length zero [] ys e = refl
+drop-length zero (x ∷ xs) ys e = absurd (omega (arith, e))
+drop-length (suc n) [] ys e = absurd (omega (arith, e))
+drop-length (suc n) (x ∷ xs) ys e = drop-length n xs ys (omega (arith, e))
+
+-- the children stand behind the other cells
+pub solved_behind : (p : Problem) (old mid news : List Cell) (at : ℕ) (now : Cell) (kids placed : List Fresh) (rs : List (Option Ready)) (before after : Slab Ready) (ws : List (Option claims.Network))
+    → mid ≡ old → news ≡ slice_set mid at now ++ cells_in_turn placed → ArePlaced kids (reverse placed) rs before after → AreSolvedBy p (cells_of kids) ws
+    → AreSolvedBy p (drop (length old) news) ws
+solved_behind p old mid news at now kids placed rs before after ws em en h s =
+    let many : length old ≡ length (slice_set mid at now) = ap (λ (cs : List Cell). length cs) (sym em) ∙ sym (length-set mid at now) in
+    let behind : drop (length old) news ≡ cells_of (reverse placed)
+    = ap (λ (cs : List Cell). drop (length old) cs) en ∙ (drop-length (length old) (slice_set mid at now) (cells_in_turn placed) many ∙ cells_back placed) in
+    subst (λ (cs : List Cell). AreSolvedBy p cs ws) (sym behind) (solved_placed p kids (reverse placed) rs before after ws h s)

@@ -11,6 +11,7 @@ use Rattle.pns_rules.specs.Nodes.{Node, child}
 use Rattle.mixed_numbers.specs.declared.number.Mixed.{Mixed}
 use Rattle.tree_rules.specs.Ways.{Way}
 use Rattle.tree_rules.specs.Tree.{leaf}
+use Rattle.tree_rules.specs.Claim as claims
 use Rattle.tree_rules.specs.Claim.{CostOver}
 use Rattle.tree_rules.specs.Leaf.{untried}
 use Rattle.search_tree.specs.Cells.{Cell, no_cell, place_of, cell_at}
@@ -20,7 +21,7 @@ use Rattle.search_tree.specs.declared.growth.Fresh.{Fresh}
 use Rattle.turn_laws.specs.Turns.{IsFreshChild, AreChildren}
 use Rattle.node_looks.specs.declared.looks.Ready.{Ready}
 use Rattle.node_looks.specs.Looks.{is_bounded, has_bounded, KnowsCell, IsSomeReady}
-use Rattle.node_looks.specs.Children.{cells_of, values_of, AreReady}
+use Rattle.node_looks.specs.Children.{cells_of, values_of, AreReady, IsSolvedBy, AreSolvedBy}
 use Rattle.abb_search.specs.Hand.{IsAtHand, AreAtHand, with_key, IsKeyed, IsPlaced, ArePlaced}
 use Rattle.abb_search.proofs.ReadyLemmas.{not_untried}
 
@@ -386,3 +387,23 @@ placing_ends kids ready before left rs now placed h e =
 -- what is freed after room was made
 pub freed_from : (old mid freed : Slab Ready) (key : ℕ) → mid.slots ≡ old.slots → Updates mid freed key None → Updates old freed key None
 freed_from old mid freed key e u = record { changed = u.changed; others = λ o ne. u.others o ne ∙ ap (λ (slots : List (Option Ready)). slice_index_or slots o None) e }
+
+-- ---- the networks of children that are placed
+
+solved_key : (p : Problem) (c : Cell) (key : ℕ) (w : Option claims.Network) → IsSolvedBy p c w → IsSolvedBy p (with_key c key) w
+solved_key p c key None h = h
+solved_key p c key (Some w) h = record { d = h.d; ys = h.ys; end_is = h.end_is; found = h.found; bounded = h.bounded }
+
+pub solved_one : (p : Problem) (f g : Fresh) (r : Option Ready) (before after : Slab Ready) (w : Option claims.Network) → IsPlaced f g r before after → IsSolvedBy p f.cell w → IsSolvedBy p g.cell w
+solved_one p f g None before after w h s = subst (λ (k : Fresh). IsSolvedBy p k.cell w) (sym h.0) s
+solved_one p f g (Some r) before after w h s = subst (λ (k : Fresh). IsSolvedBy p k.cell w) (sym h.new_is) (solved_key p f.cell h.key w s)
+
+pub solved_placed : (p : Problem) (fs gs : List Fresh) (rs : List (Option Ready)) (before after : Slab Ready) (ws : List (Option claims.Network)) → ArePlaced fs gs rs before after
+    → AreSolvedBy p (cells_of fs) ws → AreSolvedBy p (cells_of gs) ws
+solved_placed p [] [] [] before after ws h s = s
+solved_placed p [] [] (r ∷ rs) before after ws h s = absurd h
+solved_placed p [] (g ∷ gs) rs before after ws h s = absurd h
+solved_placed p (f ∷ fs) [] rs before after ws h s = absurd h
+solved_placed p (f ∷ fs) (g ∷ gs) [] before after ws h s = absurd h
+solved_placed p (f ∷ fs) (g ∷ gs) (r ∷ rs) before after [] h s = absurd s
+solved_placed p (f ∷ fs) (g ∷ gs) (r ∷ rs) before after (w ∷ ws) h s = (solved_one p f g r h.0 after w h.2 s.0, solved_placed p fs gs rs before h.0 ws h.1 s.1)

@@ -73,6 +73,7 @@ module _ (p : Problem) (start : Node) (claim : claims.Claim) (cell : Cell) (what
         (subst (λ (e : End Leaf). EndIsKept p None (place_of cell) e) (sym end_is) (leaf_kept p (place_of cell) what));
     last_positive = tt;
     claim_positive = positive;
+    undercut_positive = positive;
     below = tt;
   }
 
@@ -168,3 +169,11 @@ module _ (Past : PastPlaces) (p : Problem) (start : starts.Node) (budget : ℕ) 
       by : (o : Option Halt) → h.looked.halt ≡ o → GoesOn Past p s (root_halt o)
       by None e = root_grows e
       by (Some i) e = (root_tree, root_halts i e)
+
+-- the best network is the one that was found, where none was to be undercut
+pub best_is_found : (best new found : Option claims.Network) → best ≡ None → (new ≡ best) ⊎ (new ≡ found) → is_some new ≡ (is_some best || is_some found) → new ≡ found
+best_is_found best new None none which some = elim which [ inl e ↦ e ∙ none | inr e ↦ e ]
+best_is_found best new (Some w) none which some = elim which [
+  | inl e ↦ absurd (true≢false (sym (ap (λ (o : Option claims.Network). is_some o || true) none) ∙ (sym some ∙ ap (λ (o : Option claims.Network). is_some o) (e ∙ none))))
+  | inr e ↦ e
+]

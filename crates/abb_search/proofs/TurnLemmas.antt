@@ -31,7 +31,7 @@ use Rattle.search_tree.specs.Cells.{Cell, place_of, cell_at}
 use Rattle.search_tree.specs.declared.growth.Fresh.{Fresh}
 use Rattle.search_tree.specs.Growth.{is_open, AreOpen, as_parent}
 use Rattle.turn_laws.specs.Values.{IsPositive, IsUnder, IsNoMore, IsValueOf, HasFallen, IsPositiveCost}
-use Rattle.turn_laws.specs.Kept.{LastIsBelow, IsKept}
+use Rattle.turn_laws.specs.Kept.{LastIsBelow, IsKeptFor}
 use Rattle.turn_laws.specs.Turns.{CanBranch, IsLeastOpen, AreChildren, IsBranched}
 use Rattle.branch_choice.specs.declared.choice.Choice.{Choice}
 use Rattle.branch_choice.specs.declared.choice.Choice.TheVariants as choices
@@ -48,7 +48,7 @@ use Rattle.node_looks.specs.Children.{claim_with, IsBest, IsImproved, cells_of, 
 use Rattle.node_looks.proofs.BestLemmas.{improved_after, children_after}
 use Rattle.abb_search.specs.declared.growing.Growing.{Growing}
 use Rattle.abb_search.specs.declared.growing.HaltedLeaf.{HaltedLeaf}
-use Rattle.abb_search.specs.Growing.{IsTreeKept, IsGrowing, choice_of, IsBeaten, halt_at, IsBranching, GoesOn, IsSpentAt}
+use Rattle.abb_search.specs.Growing.{IsTreeKeptFor, IsGrowingFor, choice_of, IsBeaten, halt_at, IsBranching, GoesOn, GoesOnFor, IsSpentAt}
 use Rattle.abb_search.specs.Closing.{AreBeaten}
 use Rattle.abb_search.proofs.ReadyLemmas.{open_leaf, leaf_open, not_greater, first_has, none_first}
 use Rattle.slab.specs.Slab.{Slab, get, Updates}
@@ -59,7 +59,7 @@ use Rattle.node_looks.proofs.ChoiceLemmas.{may_branch, decides, option_count_is,
 use Rattle.abb_search.proofs.KnownLemmas.{AreKnown, known_set, known_more, known_end, bounded_set, bounded_more, open_unbounded}
 
 -- the best network passes, and its scale is above 0
-pub best_of : (p : Problem) (s : Growing) → IsTreeKept p s → IsBest p s.best
+pub best_of : {undercut : Option CostOver} (p : Problem) (s : Growing) → IsTreeKeptFor p undercut s → IsBest p s.best
 best_of p s t = record { passes = t.passes; positive = t.kept.claim_positive }
 
 -- what is under a node stays under it where it is less
@@ -67,7 +67,7 @@ under_less : (p : Problem) (n : Node) (v w : CostOver) → IsPositive v → IsPo
 under_less p n v w pv pw le u z d flows = fraction_trans v.cost v.d w.cost w.d (relaxed_cost (net_of p) n z d) d pv pw flows.positive le (u z d flows)
 
 -- what is not less is greater
-dearer : (x y : ℤ) → (x ≤ℤ y → ⊥) → y ≤ℤ x
+pub dearer : (x y : ℤ) → (x ≤ℤ y → ⊥) → y ≤ℤ x
 dearer x y h = not_greater y x (λ e. h (let l : x <ℤ y = int_ranked y x Greater (sym e) in omega (arith, ints)))
 
 -- what a fraction is over is above 0
@@ -80,10 +80,10 @@ two_or_more (choices.Material x) = omega arith
 two_or_more (choices.Unit u) = omega arith
 
 -- no leaf is open where none is first
-pub whole : (p : Problem) (s : Growing) → IsGrowing p s → first s.pool.leaves ≡ None → (i : ℕ) → i < length s.pool.payloads → (cell_at s.pool.payloads i).end ≡ leaf untried → ⊥
+pub whole : {undercut : Option CostOver} (p : Problem) (s : Growing) → IsGrowingFor p undercut s → first s.pool.leaves ≡ None → (i : ℕ) → i < length s.pool.payloads → (cell_at s.pool.payloads i).end ≡ leaf untried → ⊥
 whole p s g e i lt h = none_first s.pool.leaves e i (g.are_open i lt ∙ leaf_open (cell_at s.pool.payloads i).end h)
 
-module _ (p : Problem) (valid : IsValid p) (s : Growing) (g : IsGrowing p s) (at : ℕ) (is_first : first s.pool.leaves ≡ Some at)
+module _ {undercut : Option CostOver} (p : Problem) (valid : IsValid p) (s : Growing) (g : IsGrowingFor p undercut s) (at : ℕ) (is_first : first s.pool.leaves ≡ Some at)
     (same_parents : length s.pool.payloads ≡ length s.pool.parents) (below : (id : ℕ) → has s.pool.leaves id ≡ true → id < length s.pool.parents) (rising : IsRising s.pool.values s.pool.leaves) where
   pub is_leaf : has s.pool.leaves at ≡ true
   is_leaf = first_has s.pool.leaves at is_first
@@ -185,29 +185,29 @@ module _ (p : Problem) (valid : IsValid p) (s : Growing) (g : IsGrowing p s) (at
   pub none_beats : (v : Mixed) → slice_get s.pool.values at ≡ Some v → (IsBeaten s.best v → ⊥) → IsBeaten s.best at_hand.value → ⊥
   none_beats v e n b = n (subst (λ (u : Mixed). IsBeaten s.best u) (value_here v e) b)
 
-  -- where the best network costs no more than the least value, it costs no more than any
-  pub all_beaten : (v : Mixed) → slice_get s.pool.values at ≡ Some v → IsBeaten s.best v → (w : claims.Network) × AreBeaten s w
+  same_value : (v : Mixed) → slice_get s.pool.values at ≡ Some v → (j : ℕ) (u : Mixed) → j ≡ at → slice_get s.pool.values j ≡ Some u → v ≡ u
+  same_value v e j u same i = let q : Some v ≡ Some u = sym e ∙ (ap (λ k. slice_get s.pool.values k) (sym same) ∙ i) in cc
+
+  -- where a network costs no more than the least value, it costs no more than any
+  pub beaten_by : (v : Mixed) → slice_get s.pool.values at ≡ Some v → (w : claims.Network) → IsPositive (cost_in w) → IsNoMore (cost_in w) (cost_over v) → AreBeaten s w
+  beaten_by v e w positive h = record {
+    each = λ j u lt opens i. elim (cases_eq j at) [
+      | inl same ↦ subst (λ (x : Mixed). IsNoMore (cost_in w) (cost_over x)) (same_value v e j u same i) h
+      | inr ne ↦ fraction_trans w.cost w.d (numerator v) (denominator v) (numerator u) (denominator u) positive (mixed_positive v) (mixed_positive u) h
+          (subst (λ (x : Mixed). IsNoMore (cost_over x) (cost_over u)) (value_here v e) (no_less j (g.are_open j lt ∙ leaf_open (cell_at s.pool.payloads j).end opens) ne u i))
+    ];
+  }
+
+  -- so it is with the best network
+  pub all_beaten : (v : Mixed) → slice_get s.pool.values at ≡ Some v → IsBeaten s.best v → (w : claims.Network) × (s.best ≡ Some w) × AreBeaten s w
   all_beaten v e b = by s.best refl b
     where
       positive : (w : claims.Network) → s.best ≡ Some w → IsPositive (cost_in w)
       positive w eb = subst (λ (o : Option claims.Network). IsPositiveCost (claimed_cost (claim_with o))) eb g.tree.kept.claim_positive
 
-      same_value : (j : ℕ) (u : Mixed) → j ≡ at → slice_get s.pool.values j ≡ Some u → v ≡ u
-      same_value j u same i = let q : Some v ≡ Some u = sym e ∙ (ap (λ k. slice_get s.pool.values k) (sym same) ∙ i) in cc
-
-      by : (o : Option claims.Network) → s.best ≡ o → IsBeaten o v → (w : claims.Network) × AreBeaten s w
+      by : (o : Option claims.Network) → s.best ≡ o → IsBeaten o v → (w : claims.Network) × (s.best ≡ Some w) × AreBeaten s w
       by None eb h = absurd h
-      by (Some w) eb h = (
-        w,
-        record {
-          best_is = eb;
-          each = λ j u lt opens i. elim (cases_eq j at) [
-            | inl same ↦ subst (λ (x : Mixed). IsNoMore (cost_in w) (cost_over x)) (same_value j u same i) h
-            | inr ne ↦ fraction_trans w.cost w.d (numerator v) (denominator v) (numerator u) (denominator u) (positive w eb) (mixed_positive v) (mixed_positive u) h
-                (subst (λ (x : Mixed). IsNoMore (cost_over x) (cost_over u)) (value_here v e) (no_less j (g.are_open j lt ∙ leaf_open (cell_at s.pool.payloads j).end opens) ne u i))
-          ];
-        },
-      )
+      by (Some w) eb h = (w, eb, beaten_by v e w (positive w eb) h)
 
   not_beaten : (best : Option claims.Network) (v : Mixed) → (IsBeaten best v → ⊥) → LastIsBelow (Some (cost_over v)) (claimed_cost (claim_with best))
   not_beaten None v h = tt
@@ -233,7 +233,8 @@ module _ (p : Problem) (valid : IsValid p) (s : Growing) (g : IsGrowing p s) (at
         over = over;
       }
 
-      -- ---- the leaf is branched
+    -- ---- the leaf is branched, for networks that undercut a cost which is no less than its value
+    module _ (new_undercut : Option CostOver) (new_positive : IsPositiveCost new_undercut) (new_below : LastIsBelow (Some (cost_over at_hand.value)) new_undercut) where
       module _ (Past : PastPlaces) (new : Growing) (m : Choice) (choice : IsChoice (shape_of p) (place_of (cell_at s.pool.payloads at)) m)
           (few : length s.pool.payloads + option_count m ≤ s.budget)
           (c : Children) (seen : AreSeen Past p (place_of (cell_at s.pool.payloads at)) (way_of m) c)
@@ -266,11 +267,10 @@ module _ (p : Problem) (valid : IsValid p) (s : Growing) (g : IsGrowing p s) (at
         children_now = children_kept p c.kids.items gs c.ready.items freed new.ready placed (claimed_cost (claim_with new.best)) (place_of (cell_at s.pool.payloads at)) (way_of m)
             (children_after p (place_of (cell_at s.pool.payloads at)) s.best c.best new.best (best_of p s g.tree) seen.found which fallen fallen_found (way_of m) (cells_of c.kids.items) seen.children)
 
-        kept_now : IsKept p (node_of s.start) (claim_with new.best) (Some (cost_over at_hand.value)) new.pool.payloads
+        kept_now : IsKeptFor p (node_of s.start) (claim_with new.best) new_undercut (Some (cost_over at_hand.value)) new.pool.payloads
         kept_now =
-            branching_is_kept p valid (node_of s.start) (claim_with s.best) (claim_with new.best) g.tree.last (cost_over at_hand.value) s.pool.payloads (cells_of gs) new.pool.payloads at (way_of m)
-            g.tree.kept (can_branch q k m choice) (least q k) improved.fallen improved.best.positive
-            (improved.below (cost_over at_hand.value) (valued q k).positive (valued q k).under last_below) children_now branched
+            branching_is_kept p valid (node_of s.start) (claim_with s.best) (claim_with new.best) undercut new_undercut g.tree.last (cost_over at_hand.value) s.pool.payloads (cells_of gs) new.pool.payloads at (way_of m)
+            g.tree.kept (can_branch q k m choice) (least q k) improved.fallen improved.best.positive new_positive new_below children_now branched
 
         known_now : AreKnown p new.pool.payloads
         known_now = subst (λ (cs : List Cell). AreKnown p cs) (sym ec)
@@ -298,10 +298,10 @@ module _ (p : Problem) (valid : IsValid p) (s : Growing) (g : IsGrowing p s) (at
         longer : length new.pool.payloads ≡ length s.pool.payloads + length (cells_of gs)
         longer = branched.len
 
-        tree_now : IsTreeKept p new
+        tree_now : IsTreeKeptFor p new_undercut new
         tree_now = record {
           last = Some (cost_over at_hand.value);
-          kept = subst (λ (n : starts.Node). IsKept p (node_of n) (claim_with new.best) (Some (cost_over at_hand.value)) new.pool.payloads) (sym es) kept_now;
+          kept = subst (λ (n : starts.Node). IsKeptFor p (node_of n) (claim_with new.best) new_undercut (Some (cost_over at_hand.value)) new.pool.payloads) (sym es) kept_now;
           passes = improved.best.passes;
           bounded = bounded_now;
           known = known_now;
@@ -324,7 +324,7 @@ module _ (p : Problem) (valid : IsValid p) (s : Growing) (g : IsGrowing p s) (at
             two : 2 ≤ option_count m
             two = two_or_more m
 
-        pub going_now : (h : Option HaltedAt) → HaltHolds Past p c.kids.items c.ready.items h → GoesOn Past p new (halt_at (length s.pool.payloads) h)
+        pub going_now : (h : Option HaltedAt) → HaltHolds Past p c.kids.items c.ready.items h → GoesOnFor Past p new_undercut new (halt_at (length s.pool.payloads) h)
         going_now None h = record { tree = tree_now; are_open = ao; ready = ready_now h }
         going_now (Some w) h =
             let lt : w.at < length (cells_of gs) = let a = h.0 in let b = length-map gs (λ (f : Fresh). f.cell) in let d = as_many_kids c.kids.items gs c.ready.items freed new.ready placed in omega (arith, a, b, d) in
@@ -339,14 +339,22 @@ module _ (p : Problem) (valid : IsValid p) (s : Growing) (g : IsGrowing p s) (at
             )
 
     -- what was branched goes on with more nodes
+    pub branched_for : (new_undercut : Option CostOver) → IsPositiveCost new_undercut → LastIsBelow (Some (cost_over at_hand.value)) new_undercut → (Past : PastPlaces) (new : Growing) (m : Choice) (choice : IsChoice (shape_of p) (place_of (cell_at s.pool.payloads at)) m)
+        → length s.pool.payloads + option_count m ≤ s.budget → IsBranching Past p (place_of (cell_at s.pool.payloads at)) s new at (way_of m)
+        → GoesOnFor Past p new_undercut new new.halt × (length s.pool.payloads < length new.pool.payloads)
+    branched_for u positive below_u Past new m choice few b = (
+      subst (λ (o : Option HaltedLeaf). GoesOnFor Past p u new o) (sym b.halt)
+          (going_now u positive below_u Past new m choice few b.seen b.are_seen b.kids b.freed b.frees b.placed b.wide b.cells b.values b.best b.fallen b.fallen_found b.some_best b.numbered b.are_open b.start b.budget b.nodes b.seen.halt b.are_seen.halt_holds),
+      more_now u positive below_u Past new m choice few b.seen b.are_seen b.kids b.freed b.frees b.placed b.wide b.cells b.values b.best b.fallen b.fallen_found b.some_best b.numbered b.are_open b.start b.budget b.nodes,
+    )
+
+    -- so it does where the best network is to be undercut, which does not beat the leaf
     pub branched_step : (IsBeaten s.best at_hand.value → ⊥) → (Past : PastPlaces) (new : Growing) (m : Choice) (choice : IsChoice (shape_of p) (place_of (cell_at s.pool.payloads at)) m)
         → length s.pool.payloads + option_count m ≤ s.budget → IsBranching Past p (place_of (cell_at s.pool.payloads at)) s new at (way_of m)
         → GoesOn Past p new new.halt × (length s.pool.payloads < length new.pool.payloads)
-    branched_step nb Past new m u few b = (
-      subst (λ (o : Option HaltedLeaf). GoesOn Past p new o) (sym b.halt)
-          (going_now nb Past new m u few b.seen b.are_seen b.kids b.freed b.frees b.placed b.wide b.cells b.values b.best b.fallen b.fallen_found b.some_best b.numbered b.are_open b.start b.budget b.nodes b.seen.halt b.are_seen.halt_holds),
-      more_now nb Past new m u few b.seen b.are_seen b.kids b.freed b.frees b.placed b.wide b.cells b.values b.best b.fallen b.fallen_found b.some_best b.numbered b.are_open b.start b.budget b.nodes,
-    )
+    branched_step nb Past new m u few b =
+        let i = improved_after p (place_of (cell_at s.pool.payloads at)) s.best b.seen.best new.best (best_of p s g.tree) b.are_seen.found b.best b.fallen b.fallen_found in
+        branched_for (claimed_cost (claim_with new.best)) i.best.positive (i.below (cost_over at_hand.value) (valued q k).positive (valued q k).under (last_below nb)) Past new m u few b
 
 pub within_budget : (budget l n count k : ℕ) → l ≡ n → count ≡ k → (budget < l + count → ⊥) → n + k ≤ budget
 within_budget budget l n count k el ec h = elim (cases_lt budget (n + k)) [ inl lt ↦ absurd (h (omega (arith, el, ec, lt))) | inr le ↦ omega (arith, le) ]

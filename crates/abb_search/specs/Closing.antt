@@ -1,4 +1,4 @@
--- What shuts the open leaves, where the best network costs no more than any of them.
+-- What shuts the open leaves, where a network costs no more than any of them.
 use Rattle.std.specs.Prelude.{◌≡◌, ℕ, ◌<◌, length, cond, List, Option, Some, None, Result, Ok, Err, slice_index_or}
 use Rattle.std.specs.List.{slice_get}
 use Rattle.int_rows.specs.Range.{InRange, AllInRange}
@@ -23,9 +23,8 @@ use Rattle.abb_search.specs.declared.closing.Closing.{Closing}
 use Rattle.abb_search.specs.declared.closing.Closing.TheVariants.{Proved, Halted}
 use Rattle.abb_search.specs.Growing.{IsHaltedAt}
 
--- the network is the best one, and costs no more than any open leaf's value
+-- the network costs no more than any open leaf's value
 pub record AreBeaten (s : Growing) (w : claims.Network) : Type 0 where
-  pub best_is : s.best ≡ Some w
   pub each : (j : ℕ) (v : Mixed) → j < length s.pool.payloads → (cell_at s.pool.payloads j).end ≡ leaf untried → slice_get s.pool.values j ≡ Some v → IsNoMore (cost_in w) (cost_over v)
 
 -- what is at hand for a node, where it is an open leaf

@@ -15,7 +15,7 @@ use Rattle.tree_rules.specs.Stops.{IsPending, IsNextCount}
 use Rattle.search_tree.specs.Cells.{Cell, place_of, cell_at}
 use Rattle.search_tree.specs.Growth.{AreOpen, as_parent}
 use Rattle.turn_laws.specs.Values.{IsNoMore, HasFallen}
-use Rattle.turn_laws.specs.Kept.{LastIsBelow, IsKept}
+use Rattle.turn_laws.specs.Kept.{LastIsBelow, IsKeptFor}
 use Rattle.turn_laws.specs.Turns.{CanBranch, IsLeastOpen}
 use Rattle.node_pool.specs.Pooled.{AreSameNodes}
 use Rattle.slab.specs.Slab.{Slab, Updates}
@@ -34,11 +34,11 @@ use Rattle.abb_search.specs.Hand.{AreAtHand, IsPlaced, ArePlaced}
 use Rattle.abb_search.specs.declared.growing.Growing.{Growing}
 use Rattle.abb_search.specs.declared.growing.HaltedLeaf.{HaltedLeaf}
 
--- the tree is one that a search keeps, with numbers that the problem knows; the best network passes, and there is one where a leaf
--- is bounded
-pub record IsTreeKept (p : Problem) (s : Growing) : Type 0 where
+-- the tree is one that a search keeps for networks that undercut a cost, with numbers that the problem knows; the best network
+-- passes, and there is one where a leaf is bounded
+pub record IsTreeKeptFor (p : Problem) (undercut : Option CostOver) (s : Growing) : Type 0 where
   pub last : Option CostOver
-  pub kept : IsKept p (node_of s.start) (claim_with s.best) last s.pool.payloads
+  pub kept : IsKeptFor p (node_of s.start) (claim_with s.best) undercut last s.pool.payloads
   pub passes : ClaimPasses true p (claim_with s.best)
   pub bounded : has_bounded s.pool.payloads ≡ true → is_some s.best ≡ true
   pub known : (i : ℕ) → i < length s.pool.payloads → KnowsCell p (cell_at s.pool.payloads i)
@@ -47,10 +47,17 @@ pub record IsTreeKept (p : Problem) (s : Growing) : Type 0 where
   pub numbered : length s.pool.payloads < 2 ^ 32 - 1
 
 -- and all is at hand for each open leaf
-pub record IsGrowing (p : Problem) (s : Growing) : Type 0 where
-  pub tree : IsTreeKept p s
+pub record IsGrowingFor (p : Problem) (undercut : Option CostOver) (s : Growing) : Type 0 where
+  pub tree : IsTreeKeptFor p undercut s
   pub are_open : AreOpen s.pool
   pub ready : AreAtHand p s.pool.payloads s.pool.values s.ready
+
+-- the best network is to be undercut
+abbrev pub IsTreeKept : Problem → Growing → Type 0
+IsTreeKept p s = IsTreeKeptFor p (claimed_cost (claim_with s.best)) s
+
+abbrev pub IsGrowing : Problem → Growing → Type 0
+IsGrowing p s = IsGrowingFor p (claimed_cost (claim_with s.best)) s
 
 -- how an open leaf is branched
 abbrev pub choice_of : Option Ready → Choice
@@ -75,9 +82,12 @@ pub record IsHaltedAt (Past : PastPlaces) (p : Problem) (s : Growing) (at : ℕ)
   pub halted : IsHalted Past p (place_of (cell_at s.pool.payloads at)) h
 
 -- between two turns: all is at hand for each open leaf, or one halts the search
+abbrev pub GoesOnFor : PastPlaces → Problem → Option CostOver → Growing → Option HaltedLeaf → Type 0
+GoesOnFor Past p undercut s None = IsGrowingFor p undercut s
+GoesOnFor Past p undercut s (Some h) = IsTreeKeptFor p undercut s × IsHaltedAt Past p s h.leaf h.halt
+
 abbrev pub GoesOn : PastPlaces → Problem → Growing → Option HaltedLeaf → Type 0
-GoesOn Past p s None = IsGrowing p s
-GoesOn Past p s (Some h) = IsTreeKept p s × IsHaltedAt Past p s h.leaf h.halt
+GoesOn Past p s h = GoesOnFor Past p (claimed_cost (claim_with s.best)) s h
 
 abbrev pub IsGoing : PastPlaces → Problem → Growing → Type 0
 IsGoing Past p s = GoesOn Past p s s.halt

@@ -1,12 +1,13 @@
-//! What shuts the open leaves, where the best network costs no more than any of them.
-ghost use Rattle.std.specs.Prelude.{◌≡◌, ◌<◌, length, IfOk, option_copied};
+//! What shuts the open leaves, where a network costs no more than any of them.
+ghost use Rattle.std.specs.Prelude.{◌≡◌, ◌<◌, length, IfOk, Option, option_copied};
 ghost use Rattle.pns_rules.specs.Shape.{shape_of};
 ghost use Rattle.pns_rules.specs.Ends.{IsSound, IsReduced};
 ghost use Rattle.pgraph.specs.Tables.{shape};
 ghost use Rattle.pgraph.specs.View.{node_of};
+ghost use Rattle.tree_rules.specs.Claim.{CostOver};
 ghost use Rattle.turn_laws.specs.Values.{IsNoMore};
 ghost use Rattle.node_looks.specs.Evaluated.{cost_over, cost_in, IsBoundOf, IsWorth, IsProof};
-ghost use Rattle.abb_search.specs.Growing.{IsGrowing};
+ghost use Rattle.abb_search.specs.Growing.{IsGrowingFor};
 ghost use Rattle.abb_search.specs.Closing.{AreBeaten, IsShutBy, AreShutBy, IsInRange, hand_of, scaled_in};
 
 use crate::growing::{Growing, HaltedLeaf, node_at, reaches};
@@ -19,7 +20,7 @@ use unit_sets::Node;
 
 /// What shuts the open leaves.
 #[derive(Drop)]
-pub(crate) enum Closing {
+pub enum Closing {
     /// Multipliers for each open leaf, by its number.
     Proved(Vec<Option<Scaled>>),
     /// A number is past the range at an open leaf.
@@ -113,7 +114,7 @@ fn proof_at<E: Evaluator>(
     leaf: u32,
 ) -> Result<Option<Proof>, AllocError>
     requires graph { shape graph.now ≡ shape_of problem.now }
-    requires growing { IsGrowing problem.now growing.now }
+    requires growing { (undercut : Option CostOver) × IsGrowingFor problem.now undercut growing.now }
     requires beaten { AreBeaten growing.now network.now }
     requires leaf { leaf < length growing.now.pool.payloads }
     ensures { IfOk result (IsShutBy E.past problem.now growing.now (cost_in network.now) leaf) }
@@ -149,7 +150,7 @@ fn scaled_in(proof: Option<Proof>) -> Result<Option<Scaled>, Halt>
 }
 
 /// What shuts each open leaf; or the first of them at which a number is past the range. `Err` comes for want of memory alone.
-pub(crate) fn close_all<E: Evaluator>(
+pub fn close_all<E: Evaluator>(
     alloc: Global,
     evaluator: &mut E,
     problem: &Problem,
@@ -158,7 +159,7 @@ pub(crate) fn close_all<E: Evaluator>(
     network: &Network,
 ) -> Result<Closing, AllocError>
     requires graph { shape graph.now ≡ shape_of problem.now }
-    requires growing { IsGrowing problem.now growing.now }
+    requires growing { (undercut : Option CostOver) × IsGrowingFor problem.now undercut growing.now }
     requires beaten { AreBeaten growing.now network.now }
     ensures { IfOk result (AreShutBy E.past problem.now growing.now (cost_in network.now)) }
 {

@@ -1,5 +1,5 @@
 //! The tree while it grows.
-ghost use Rattle.std.specs.Prelude.{◌≡◌, ◌↔◌, ◌<◌, ◌≤◌, ◌+◌, ◌-◌, ◌^◌, true, IsTrue, OnOk, OnErr, MatchOption, length};
+ghost use Rattle.std.specs.Prelude.{◌≡◌, ◌↔◌, ◌<◌, ◌≤◌, ◌+◌, ◌-◌, ◌^◌, true, IsTrue, IfOk, OnOk, OnErr, MatchOption, drop, length};
 ghost use Rattle.slab.specs.Slab.{get};
 ghost use Rattle.link_lists.specs.Lists.{has};
 ghost use Rattle.pns_rules.specs.Shape.{shape_of};
@@ -14,6 +14,7 @@ ghost use Rattle.search_tree.specs.Cells.{cell_at};
 ghost use Rattle.search_tree.specs.Growth.{AreOpen};
 ghost use Rattle.neutral_extension.specs.Candidates.{AreMakersOf};
 ghost use Rattle.turn_laws.specs.Values.{IsNoMore};
+ghost use Rattle.node_looks.specs.Children.{AreSolvedBy};
 ghost use Rattle.node_looks.specs.Evaluated.{cost_over, cost_in};
 ghost use Rattle.abb_search.specs.Growing.{IsBeaten, IsBranching, IsSame, halt_at, leaf_of, choice_of};
 
@@ -33,7 +34,7 @@ use unit_sets::Node;
 
 /// An open leaf at which a number is past the range.
 #[derive(Drop)]
-pub(crate) struct HaltedLeaf {
+pub struct HaltedLeaf {
     pub leaf: u32,
     pub halt: Halt,
 }
@@ -41,7 +42,7 @@ pub(crate) struct HaltedLeaf {
 /// A search: where it starts, how many nodes it may take, its nodes, what is at hand for each that is an open leaf, the cheapest
 /// network that it found, and the leaf that halts it.
 #[derive(Drop)]
-pub(crate) struct Growing {
+pub struct Growing {
     pub start: Node,
     pub budget: u32,
     pub nodes: u32,
@@ -52,7 +53,7 @@ pub(crate) struct Growing {
 }
 
 /// Whether the value reaches the network's cost.
-pub(crate) fn reaches(value: &Mixed, network: &Network) -> bool
+pub fn reaches(value: &Mixed, network: &Network) -> bool
     ensures { IsTrue result ↔ IsNoMore (cost_in network.now) (cost_over value.now) }
 {
     network.is_sized();
@@ -70,7 +71,7 @@ pub(crate) fn is_beaten(best: &Option<Network>, value: &Mixed) -> bool
 }
 
 /// Whether so many nodes more are above the budget.
-pub(crate) fn is_over(count: u128, nodes: u32, budget: u32) -> bool
+pub fn is_over(count: u128, nodes: u32, budget: u32) -> bool
     requires { nodes ≤ budget }
     ensures { IsTrue result ↔ (budget < nodes + count) }
 {
@@ -99,7 +100,7 @@ fn halt_at(first: u32, halt: Option<HaltedAt>) -> Option<HaltedLeaf>
 }
 
 /// The number of the leaf that halts the search.
-pub(crate) fn halted_leaf(halt: &Option<HaltedLeaf>) -> Option<u32>
+pub fn halted_leaf(halt: &Option<HaltedLeaf>) -> Option<u32>
     ensures { result ≡ leaf_of halt.now }
 {
     match halt {
@@ -118,7 +119,7 @@ fn key_at(pool: &Pool<Cell>, leaf: u32) -> usize
 }
 
 /// How an open leaf is branched.
-pub(crate) fn choice_at(growing: &Growing, leaf: u32) -> Choice
+pub fn choice_at(growing: &Growing, leaf: u32) -> Choice
     requires { leaf < length growing.now.pool.payloads }
     ensures { result ≡ choice_of (get growing.now.ready (cell_at growing.now.pool.payloads leaf).key) }
 {
@@ -141,7 +142,7 @@ fn end_with(choice: Choice) -> End
     }
 }
 
-pub(crate) fn node_at(pool: &Pool<Cell>, leaf: u32) -> Node
+pub fn node_at(pool: &Pool<Cell>, leaf: u32) -> Node
     requires { leaf < length pool.now.payloads }
     ensures { result ≡ (cell_at pool.now.payloads leaf).node }
 {
@@ -149,8 +150,9 @@ pub(crate) fn node_at(pool: &Pool<Cell>, leaf: u32) -> Node
     pool.payload(leaf).node
 }
 
-/// Branches an open leaf. After `Err`, which comes for want of memory alone, the tree is as before.
-pub(crate) fn branch_leaf<E: Evaluator>(
+/// Branches an open leaf. The answer is the network that was found at each child, where `all` are asked for. After `Err`, which comes
+/// for want of memory alone, the tree is as before.
+pub fn branch_leaf<E: Evaluator>(
     alloc: Global,
     evaluator: &mut E,
     problem: &Problem,
@@ -160,7 +162,8 @@ pub(crate) fn branch_leaf<E: Evaluator>(
     leaf: u32,
     node: Node,
     choice: Choice,
-) -> Result<(), AllocError>
+    all: bool,
+) -> Result<Vec<Option<Network>>, AllocError>
     requires graph { shape graph.now ≡ shape_of problem.now }
     requires same { AreMakersOf (shape graph.now) makers.old.makers }
     requires leaf { has growing.old.pool.leaves leaf ≡ true }
@@ -171,11 +174,12 @@ pub(crate) fn branch_leaf<E: Evaluator>(
     requires counted { growing.old.nodes ≡ length growing.old.pool.payloads }
     requires few { length growing.old.pool.payloads + length (options_at (shape_of problem.now) (node_of node) (way_of choice)) < 2 ^ 32 }
     ensures branching { OnOk result (IsBranching E.past problem.now (node_of node) growing.old growing.new leaf (way_of choice)) }
+    ensures solved { IfOk result (λ ws. all ≡ true → AreSolvedBy problem.now (drop (length growing.old.pool.payloads) growing.new.pool.payloads) ws.items) }
     ensures same { OnErr result (IsSame growing.old growing.new) }
     ensures makers { makers.new.makers ≡ makers.old.makers }
 {
     growing.pool.is_pool();
-    let children = look_at_children(alloc, evaluator, problem, graph, makers, node, choice)?;
+    let children = look_at_children(alloc, evaluator, problem, graph, makers, node, choice, all)?;
     let first = growing.nodes;
     let count = children.kids.len();
     if !has_numbers(first, count) {
@@ -190,5 +194,5 @@ pub(crate) fn branch_leaf<E: Evaluator>(
     growing.nodes = first + count as u32;
     growing.best = cheaper(growing.best.take(), children.best);
     growing.halt = halt_at(first, children.halt);
-    Ok(())
+    Ok(children.networks)
 }

@@ -24,6 +24,11 @@ mod step;
 mod turns;
 mod whole;
 
+pub use closing::{Closing, close_all};
+pub use growing::{
+    Growing, HaltedLeaf, branch_leaf, choice_at, halted_leaf, is_over, node_at, reaches,
+};
 pub use outcome::{Found, Turn};
+pub use root::look_at_root;
 pub use turns::{SearchWith, search_with};
 pub use whole::{Search, search, search_against};

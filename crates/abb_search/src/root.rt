@@ -6,6 +6,7 @@ ghost use Rattle.pgraph.specs.Tables.{shape};
 ghost use Rattle.pgraph.specs.View.{node_of};
 ghost use Rattle.search_tree.specs.Growth.{AreOpen};
 ghost use Rattle.neutral_extension.specs.Candidates.{AreMakersOf};
+ghost use Rattle.node_looks.specs.Children.{AreSolvedBy};
 ghost use Rattle.abb_search.specs.Growing.{root_halt, IsOpenRoot, IsLookedRoot};
 
 use crate::growing::{Growing, HaltedLeaf};
@@ -95,7 +96,7 @@ fn root_halt(halt: Option<Halt>) -> Option<HaltedLeaf>
 }
 
 /// The root after the steps that are possible there. `best` is the network that is to be undercut, if there is one.
-pub(crate) fn look_at_root<E: Evaluator>(
+pub fn look_at_root<E: Evaluator>(
     alloc: Global,
     evaluator: &mut E,
     problem: &Problem,
@@ -109,6 +110,7 @@ pub(crate) fn look_at_root<E: Evaluator>(
     requires same { AreMakersOf (shape graph.now) makers.old.makers }
     requires sound { IsSound (shape_of problem.now) (node_of start) }
     ensures root { IfOk result (IsLookedRoot E.past problem.now start budget best) }
+    ensures solved { IfOk result (λ s. best ≡ None → AreSolvedBy problem.now s.pool.payloads (s.best ∷ [])) }
     ensures makers { makers.new.makers ≡ makers.old.makers }
 {
     let node = copy_of(&start);

@@ -1,5 +1,5 @@
 //! A turn of a search.
-ghost use Rattle.std.specs.Prelude.{◌≡◌, ◌≤◌, None, IfOk, OnErr};
+ghost use Rattle.std.specs.Prelude.{◌≡◌, ◌≤◌, Some, None, IfOk, OnErr};
 ghost use Rattle.pns_rules.specs.Shape.{shape_of};
 ghost use Rattle.pns_rules.specs.Ends.{IsSound};
 ghost use Rattle.tree_rules.specs.Claim as claims;
@@ -16,9 +16,8 @@ use crate::found::{past_found, shut_tree, tree_with, whole_found};
 use crate::growing::{Growing, branch_leaf, choice_at, halted_leaf, is_beaten, is_over, node_at};
 use crate::outcome::Found;
 use crate::root::look_at_root;
-use branch_tree::Network;
 use neutral_extension::Makers;
-use node_looks::Evaluator;
+use node_looks::{Evaluator, copy_of_network};
 use pgraph::Graph;
 use pns_problem::Problem;
 use std::alloc::{AllocError, Global};
@@ -34,7 +33,7 @@ fn close<E: Evaluator>(
 ) -> Result<Option<Found>, AllocError>
     requires graph { shape graph.now ≡ shape_of problem.now }
     requires growing { IsGrowing problem.now growing.old }
-    requires beaten { (w : claims.Network) × AreBeaten growing.old w }
+    requires beaten { (w : claims.Network) × (growing.old.best ≡ Some w) × AreBeaten growing.old w }
     ensures holds { IfOk result (StepHolds E.past problem.now growing.old growing.new) }
     ensures same { OnErr result (IsSame growing.old growing.new) }
 {
@@ -93,7 +92,7 @@ fn go_on<E: Evaluator>(
     }
     let node = node_at(&growing.pool, leaf);
     branch_leaf(
-        alloc, evaluator, problem, graph, makers, growing, leaf, node, choice,
+        alloc, evaluator, problem, graph, makers, growing, leaf, node, choice, false,
     )?;
     Ok(None)
 }
@@ -119,18 +118,6 @@ pub(crate) fn step<E: Evaluator>(
     };
     let stopped = tree_with(alloc, growing, leaf)?;
     Ok(past_found(growing.best.take(), growing.halt.take(), stopped))
-}
-
-/// A copy of the best network.
-fn copy_of_best(alloc: Global, best: &Option<Network>) -> Result<Option<Network>, AllocError>
-    ensures { IfOk result (λ copy. copy ≡ best.now) }
-{
-    let Some(network) = best else {
-        return Ok(None);
-    };
-    network.is_sized();
-    let sizes = network.sizes().to_vec(alloc)?;
-    Ok(Some(Network::of(network.units(), sizes, network.d(), network.cost())))
 }
 
 /// Takes a search so far that its nodes are more, or to its end; before the first turn the root is not looked at yet. After `Err`, which
@@ -164,7 +151,7 @@ pub(crate) fn take_turn<E: Evaluator>(
         makers,
         growing.start,
         growing.budget,
-        copy_of_best(alloc, &growing.best)?,
+        copy_of_network(alloc, &growing.best)?,
     )?;
     let found = step(alloc, evaluator, problem, graph, makers, &mut root)?;
     *growing = root;

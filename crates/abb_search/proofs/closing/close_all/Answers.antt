@@ -7,7 +7,7 @@ pub leaves-init : goal.leaves-init
 leaves-init g c = below_first c.args.problem.now c.args.growing.now (cost_in c.args.network.now) c.new-proofs.result.items c.new-proofs.ensures.items
 
 pub proof_at-requires-clause-leaf : goal.proof_at-requires-clause-leaf
-proof_at-requires-clause-leaf g c = let t = c.leaves-test.true in let n = c.requires.growing.tree.counted in omega (arith, t, n)
+proof_at-requires-clause-leaf g c = let t = c.leaves-test.true in let n = c.requires.growing.1.tree.counted in omega (arith, t, n)
 
 pub returns-in-Err : goal.returns-in-Err
 returns-in-Err g c =
@@ -20,4 +20,4 @@ leaves-preserved g c =
     c.in_ok-push-in-Ok.ensures.items
 
 pub returns : goal.returns
-returns g c = λ j lt. c.leaves.invariant.1 j (let t = c.leaves-test.false in let n = c.requires.growing.tree.counted in omega (arith, lt, t, n))
+returns g c = λ j lt. c.leaves.invariant.1 j (let t = c.leaves-test.false in let n = c.requires.growing.1.tree.counted in omega (arith, lt, t, n))

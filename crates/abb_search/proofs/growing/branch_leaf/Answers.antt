@@ -9,11 +9,12 @@ use Rattle.std.proofs.lemmas.List.{length-reverse}
 use Rattle.slab.specs.Slab.{Slab, Updates}
 use Rattle.tree_rules.specs.Tree.{End, branch}
 use Rattle.tree_rules.specs.Leaf.{Leaf}
+use Rattle.branch_tree.specs.View.{end_of}
 use Rattle.search_tree.specs.Growth.{as_parent, cells_in_turn}
 use Rattle.search_tree.specs.Cells.{Cell, cell_at}
 use Rattle.node_looks.specs.declared.looks.Ready.{Ready}
 use Rattle.abb_search.proofs.HandLemmas.{as_many_kids, freed_from}
-use Rattle.abb_search.proofs.GrowingLemmas.{count_seen, halts_within, room_within, branching}
+use Rattle.abb_search.proofs.GrowingLemmas.{count_seen, halts_within, room_within, branching, solved_behind}
 use Rattle.node_looks.proofs.ChoiceLemmas.{option_count_is, width_is}
 use Rattle.branch_choice.specs.Choices.{way_of}
 use Rattle.tree_rules.specs.Ways.{width}
@@ -72,3 +73,10 @@ returns-clause-branching g c =
     branching g.E.Evaluator.past c.args.problem.now (node_of c.args.node) c.args.growing.now new c.args.leaf (way_of c.args.choice) c.in_ok-children.children c.reserve.new.self c.place_all-kids.result.items c.try_remove.new.self c.args.growing.now.nodes
     c.in_ok-children.ensures.seen wide c.in_ok-reserve.ensures.nodes c.requires.counted frees c.place_all-kids.ensures
     cells c.branch-growing.ensures.values which fallen c.cheaper.ensures.found some n (ap (λ k. c.args.growing.now.nodes + k) l) c.branch-growing.ensures.open refl refl c.halt_at.ensures
+
+pub returns-clause-solved : goal.returns-clause-solved
+returns-clause-solved g c = λ all.
+    solved_behind c.args.problem.now c.args.growing.now.pool.payloads c.reserve.new.self.payloads c.branch-growing.new.pool.payloads c.args.leaf
+    (as_parent (cell_at c.reserve.new.self.payloads c.args.leaf) c.args.growing.now.nodes (end_of c.end_with.result))
+    c.in_ok-children.children.kids.items c.place_all-kids.result.items c.in_ok-children.children.ready.items c.try_remove.new.self c.place_all-kids.new.hand c.in_ok-children.children.networks.items
+    c.in_ok-reserve.ensures.nodes.payloads c.branch-growing.ensures.cells c.place_all-kids.ensures (c.in_ok-children.ensures.solved all)

@@ -1,7 +1,13 @@
-use Rattle.std.proofs.Common.{ℕ, List, [], refl, subst}
+use Rattle.std.proofs.Common.{ℕ, List, [], ◌∷◌, Option, refl, sym, subst}
 use Rattle.unit_sets.specs.declared.node.Node as starts
 use Rattle.pgraph.specs.View.{node_of}
+use Rattle.tree_rules.specs.Claim as claims
+use Rattle.search_tree.specs.Cells.{Cell}
 use Rattle.node_looks.specs.Looks.{IsLooked}
+use Rattle.node_looks.specs.Children.{AreSolvedBy}
+use Rattle.node_looks.proofs.SolvedLemmas.{solved_by}
+use Rattle.abb_search.proofs.HandLemmas.{solved_one}
+use Rattle.abb_search.proofs.RootLemmas.{best_is_found}
 use Rattle.abb_search.proofs.root.look_at_root.Goals as goal
 
 pub returns-clause-root : goal.returns-clause-root
@@ -26,3 +32,14 @@ returns-clause-root g c =
       halt_is = c.root_halt.ensures;
       are_open = c.in_ok-pool.ensures.open;
     }
+
+pub returns-clause-solved : goal.returns-clause-solved
+returns-clause-solved g c = λ none.
+    let p = c.args.problem.now in
+    let l = c.in_ok-looked.looked in
+    let seen = c.in_ok-looked.ensures.looked.seen in
+    let root = solved_one p (record { cell = l.cell; value = l.value }) c.place-root.result l.ready c.reserve.new.self c.place-root.new.hand l.network c.place-root.ensures.placed
+    (solved_by p l.cell l.network seen.what seen.end_is seen.passes seen.found seen.bounded) in
+    let best = best_is_found c.args.best c.cheaper.result l.network none c.cheaper.ensures.which c.cheaper.ensures.some in
+    subst (λ (cs : List Cell). AreSolvedBy p cs (c.cheaper.result ∷ [])) (sym c.in_ok-pool.ensures.cells)
+    (subst (λ (w : Option claims.Network). AreSolvedBy p (c.place-root.result.cell ∷ []) (w ∷ [])) (sym best) (root, tt))

@@ -2,6 +2,8 @@ use Rattle.std.proofs.Common.{◌≡◌, refl, sym, ap, ◌∙◌, subst, rules,
 use Rattle.tree_rules.specs.Claim as claims
 use Rattle.search_tree.specs.Preorder.{IsTreeOf}
 use Rattle.search_tree.specs.Shut.{shut_cells}
+use Rattle.tree_rules.specs.Claim.{claimed_cost}
+use Rattle.node_looks.specs.Children.{claim_with}
 use Rattle.node_looks.specs.Evaluated.{cost_in}
 use Rattle.abb_search.specs.declared.outcome.Found.{Found}
 use Rattle.abb_search.specs.declared.outcome.Found.TheVariants as found
@@ -16,13 +18,13 @@ use Rattle.abb_search.proofs.StepLemmas.{ends_with, network_found, never_memory}
 use Rattle.abb_search.proofs.step.close.Goals as goal
 
 pub unreachable-requires : goal.unreachable-requires
-unreachable-requires g c = let q : None ≡ Some c.requires.beaten.0 = sym c.in_default.is ∙ c.requires.beaten.1.best_is in cc
+unreachable-requires g c = let q : None ≡ Some c.requires.beaten.0 = sym c.in_default.is ∙ c.requires.beaten.1 in cc
 
 pub close_all-requires-clause-beaten : goal.close_all-requires-clause-beaten
 close_all-requires-clause-beaten g c =
-    let q : Some c.requires.beaten.0 ≡ Some c.in-Some.network = sym c.requires.beaten.1.best_is ∙ c.in-Some.is in
+    let q : Some c.requires.beaten.0 ≡ Some c.in-Some.network = sym c.requires.beaten.1 ∙ c.in-Some.is in
     let e : c.requires.beaten.0 ≡ c.in-Some.network = cc in
-    subst (λ (w : claims.Network). AreBeaten c.args.growing.now w) e c.requires.beaten.1
+    subst (λ (w : claims.Network). AreBeaten c.args.growing.now w) e c.requires.beaten.2
 
 pub returns-in_ok-whole-in-Proved-clause-holds : goal.returns-in_ok-whole-in-Proved-clause-holds
 returns-in_ok-whole-in-Proved-clause-holds g c =
@@ -59,3 +61,6 @@ returns-in_ok-stopped-in-Halted-clause-holds g c =
     (ends_with g.E.Evaluator.past p s new (found.Past s.best w.tree w.place h.halt.nonbasic h.halt.place) c.requires.growing.tree
     (past_found p s c.requires.growing.tree h.leaf w.place w.tree c.in_ok-stopped-in-Halted.ensures.tree c.in_ok-stopped-in-Halted.ensures.sized g.E.Evaluator.past h.halt s.start refl at)
     (λ (q : found.Past s.best w.tree w.place h.halt.nonbasic h.halt.place ≡ found.Memory). cc) refl refl refl refl refl)
+
+pub close_all-requires-clause-growing : goal.close_all-requires-clause-growing
+close_all-requires-clause-growing g c = (claimed_cost (claim_with c.args.growing.now.best), c.requires.growing)
