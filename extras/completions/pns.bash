@@ -2,12 +2,12 @@
 _pns() {
     local word=${COMP_WORDS[COMP_CWORD]} places='' place
     if [ "$COMP_CWORD" -eq 1 ]; then
-        mapfile -t COMPREPLY < <(compgen -W 'max axioms list flows solve check table graph stable edit undo migrate expand periods make trial split part merge help version' -- "$word")
+        mapfile -t COMPREPLY < <(compgen -W 'max axioms list flows solve check table report graph stable edit undo migrate expand periods make trial split part merge help version' -- "$word")
         return
     fi
     case ${COMP_WORDS[1]} in
         help)
-            [ "$COMP_CWORD" -eq 2 ] && mapfile -t COMPREPLY < <(compgen -W 'max axioms list flows solve check table graph stable edit undo migrate expand periods make trial split part merge help version status' -- "$word")
+            [ "$COMP_CWORD" -eq 2 ] && mapfile -t COMPREPLY < <(compgen -W 'max axioms list flows solve check table report graph stable edit undo migrate expand periods make trial split part merge help version status' -- "$word")
             return
             ;;
         max) places='1' ;;
@@ -17,6 +17,7 @@ _pns() {
         solve) places='1' ;;
         check) places='1 2' ;;
         table) places='1 2' ;;
+        report) places='1 2' ;;
         graph) places='1 2' ;;
         stable) places='1 2' ;;
         edit) places='1 2' ;;

@@ -7,6 +7,7 @@ complete -c pns -n '__fish_use_subcommand' -a flows -d 'Finds the least cost of 
 complete -c pns -n '__fish_use_subcommand' -a solve -d 'Finds an allowed network of least cost in one year and a tree that proves it'
 complete -c pns -n '__fish_use_subcommand' -a check -d 'Judges whether a tree proves its claim'
 complete -c pns -n '__fish_use_subcommand' -a table -d 'Prints the claimed network as CSV for a spreadsheet'
+complete -c pns -n '__fish_use_subcommand' -a report -d 'Prints the claimed network for people'
 complete -c pns -n '__fish_use_subcommand' -a graph -d 'Prints the maximal structure as a graph for Graphviz, and with TREE the claimed network in it'
 complete -c pns -n '__fish_use_subcommand' -a stable -d 'Finds how far one price or cost may move while the claimed network stays one of least cost'
 complete -c pns -n '__fish_use_subcommand' -a edit -d 'Applies a script of edits to a plant'
@@ -21,7 +22,7 @@ complete -c pns -n '__fish_use_subcommand' -a part -d 'Searches one open leaf of
 complete -c pns -n '__fish_use_subcommand' -a merge -d 'Puts searched parts back into their tree'
 complete -c pns -n '__fish_use_subcommand' -a help -d 'Tells the commands, or one of them'
 complete -c pns -n '__fish_use_subcommand' -a version -d 'Tells which program this is'
-complete -c pns -n '__fish_seen_subcommand_from help' -a 'max axioms list flows solve check table graph stable edit undo migrate expand periods make trial split part merge help version status'
+complete -c pns -n '__fish_seen_subcommand_from help' -a 'max axioms list flows solve check table report graph stable edit undo migrate expand periods make trial split part merge help version status'
 complete -c pns -n '__fish_seen_subcommand_from max; and test (count (commandline -opc)) -eq 2' -F
 complete -c pns -n '__fish_seen_subcommand_from axioms; and test (count (commandline -opc)) -eq 2' -F
 complete -c pns -n '__fish_seen_subcommand_from list; and test (count (commandline -opc)) -eq 2' -F
@@ -31,6 +32,8 @@ complete -c pns -n '__fish_seen_subcommand_from check; and test (count (commandl
 complete -c pns -n '__fish_seen_subcommand_from check; and test (count (commandline -opc)) -eq 3' -F
 complete -c pns -n '__fish_seen_subcommand_from table; and test (count (commandline -opc)) -eq 2' -F
 complete -c pns -n '__fish_seen_subcommand_from table; and test (count (commandline -opc)) -eq 3' -F
+complete -c pns -n '__fish_seen_subcommand_from report; and test (count (commandline -opc)) -eq 2' -F
+complete -c pns -n '__fish_seen_subcommand_from report; and test (count (commandline -opc)) -eq 3' -F
 complete -c pns -n '__fish_seen_subcommand_from graph; and test (count (commandline -opc)) -eq 2' -F
 complete -c pns -n '__fish_seen_subcommand_from graph; and test (count (commandline -opc)) -eq 3' -F
 complete -c pns -n '__fish_seen_subcommand_from stable; and test (count (commandline -opc)) -eq 2' -F
