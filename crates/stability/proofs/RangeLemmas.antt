@@ -1,7 +1,8 @@
 -- The range out of its two ends, and what stands behind a refusal.
-use Rattle.std.proofs.Common.{◌≡◌, ℕ, ◌+◌, ◌/◌, ◌<◌, ◌≤◌, inl, inr, ℤ, pos, ◌+ℤ◌, ◌-ℤ◌, Some, None, refl, sym, ap, ◌∙◌, subst, arith}
+use Rattle.std.proofs.Common.{◌≡◌, ℕ, ◌+◌, ◌/◌, ◌<◌, ◌≤◌, inl, inr, ℤ, pos, ◌+ℤ◌, ◌-ℤ◌, ◌*ℤ◌, Some, None, refl, sym, ap, ◌∙◌, subst, arith}
 use Rattle.std.proofs.lemmas.Int.{ints}
 use Rattle.problem_rules.specs.Problem.{Problem}
+use Rattle.problem_rules.specs.Validity.{IsValid}
 use Rattle.number_sets.specs.Sets.{has}
 use Rattle.flow_rules.specs.Net.{net_of}
 use Rattle.flow_rules.specs.Flows.{cost}
@@ -13,8 +14,9 @@ use Rattle.stability_rules.specs.declared.spot.Spot.{Spot}
 use Rattle.stability_rules.specs.declared.side.Side.{Side}
 use Rattle.stability_rules.specs.declared.side.Side.TheVariants.{Below, Above}
 use Rattle.stability_rules.specs.Spot.{KnowsSpot, value_at, valued, IsAllowedValue, value_on, limit_on}
-use Rattle.stability_rules.specs.Range.{IsBestAt, IsCheaper, IsCheaperAt, beyond, IsRange, IsHalfProved, MayWant}
-use Rattle.stability_laws.specs.Laws.{ValuedIsSame, BestBetween}
+use Rattle.stability_rules.specs.Range.{cost_at, IsBestAt, IsCheaper, IsCheaperAt, beyond, IsRange, IsHalfProved, MayWant}
+use Rattle.stability_rules.specs.Rise.{least_rise}
+use Rattle.stability_laws.specs.Laws.{ValuedIsSame, BestBetween, BestAway}
 use Rattle.stability.specs.Case.{Case}
 use Rattle.stability.specs.Refusal.{IsPastCost, IsSearchStop, IsStopAt, IsRefusal}
 use Rattle.stability.specs.Side.{there, IsBeyond, IsBracket, IsSettledAs, IsEnd}
@@ -126,6 +128,17 @@ end_here c side room none allowed limit best =
       best = subst (λ (v : ℤ). IsBestAt c.problem c.spot c.network v) at best;
       ends = ap (λ (k : ℕ). there c side k) (sym none) ∙ limit;
     }
+
+-- a network whose cost rises as little as any can is optimal up to the limit
+pub end_far : BestAway → (c : Case) → IsValid c.problem → IsFeasible c.problem c.network → KnowsSpot c.problem c.spot → (side : Side) (room : ℕ)
+    → IsAllowedValue c.spot (value_at c.problem c.spot) → there c side room ≡ limit_on side c.spot → IsBestAt c.problem c.spot c.network (value_at c.problem c.spot)
+    → cost_at c.problem c.spot c.network (there c side 1) ≡ c.network.cost +ℤ least_rise c.problem c.spot side *ℤ c.network.d
+    → IsEnd c side (record { away = room; beyond = None })
+end_far away c valid feasible known side room allowed limit best little = record {
+  allowed = limit_allowed c.spot side (value_at c.problem c.spot) room allowed limit;
+  best = away c.problem valid c.spot known c.network feasible best side little room;
+  ends = limit;
+}
 
 pub first_bracket : (c : Case) (side : Side) (room : ℕ) (b : Beyond) → (room ≡ 0 → ⊥) → KnowsSpot c.problem c.spot → IsAllowedValue c.spot (value_at c.problem c.spot)
     → there c side room ≡ limit_on side c.spot → IsBestAt c.problem c.spot c.network (value_at c.problem c.spot) → IsBeyond c (there c side room) b

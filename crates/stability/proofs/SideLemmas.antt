@@ -40,3 +40,12 @@ one_beyond Above present a = omega (arith, ints)
 pub not_present : (side : Side) (present : ℤ) (a : ℕ) → 0 < a → value_on side present a ≡ present → ⊥
 not_present Below present a some e = absurd (omega (arith, ints))
 not_present Above present a some e = absurd (omega (arith, ints))
+
+pub one_within : (room : ℕ) → (room ≡ 0 → ⊥) → 1 ≤ room
+one_within room some = omega (arith, some)
+
+-- one step away is allowed where there is room
+pub step_allowed : (spot : Spot) (side : Side) (present : ℤ) (room : ℕ) → (room ≡ 0 → ⊥) → IsAllowedValue spot present → value_on side present room ≡ limit_on side spot
+    → IsAllowedValue spot (value_on side present 1)
+step_allowed spot side present room some now limit =
+    nearer_allowed spot side present 1 room now (limit_allowed spot side present room now limit) (one_within room some)

@@ -1,5 +1,6 @@
 //! A network and a spot of a problem, and the values on both sides of the present one.
 ghost use Rattle.std.specs.Prelude.{◌≡◌, ◌≤◌};
+ghost use Rattle.problem_rules.specs.Validity.{IsValid};
 ghost use Rattle.pns_rules.specs.Shape.{shape_of};
 ghost use Rattle.pgraph.specs.Tables.{shape};
 ghost use Rattle.tree_rules.specs.Claim.{IsFeasible};
@@ -83,13 +84,15 @@ impl<'a> Case<'a> {
         }
     }
 
-    /// The spot is one of the problem, its value is allowed, and the network passes as a claim. A call tells a proof so, and does nothing.
+    /// The problem is valid, the spot is one of it, its value is allowed, and the network passes as a claim. A call tells a proof so, and
+    /// does nothing.
     pub(crate) fn is_known(&self)
+        ensures valid { IsValid self.now.problem }
         ensures known { KnowsSpot self.now.problem self.now.spot }
         ensures allowed { IsAllowedValue self.now.spot (value_at self.now.problem self.now.spot) }
         ensures feasible { IsFeasible self.now.problem self.now.network }
     {
-        let _present = self.present;
+        self.problem.is_valid();
     }
 
     /// The present value.

@@ -8,7 +8,7 @@ ghost use Rattle.stability.specs.Side.{IsBracket, IsSettled, IsEnd};
 use crate::case::Case;
 use crate::outcome::RangeFault;
 use branch_tree::Network;
-use stability_laws::best_between;
+use stability_laws::{best_away, best_between};
 use stability_rules::Side;
 
 /// What stands at a value: a network that is cheaper there, or no answer.
@@ -71,6 +71,21 @@ fn middle(low: u64, high: u64) -> u64
     }
 }
 
+/// A number between two others on the way out from the lesser: four times it, or half the greater.
+fn outwards(low: u64, high: u64) -> u64
+    requires { low < high }
+{
+    if low == 0 && high > 65_536 {
+        65_536
+    } else if low == 0 {
+        middle(low, high)
+    } else if low < high / 4 {
+        low * 4
+    } else {
+        high / 2
+    }
+}
+
 impl Bracket {
     /// Whether the end of the range is told by it, or that none is told.
     fn is_settled(&self) -> bool
@@ -87,7 +102,8 @@ impl Bracket {
 }
 
 impl<'a> Case<'a> {
-    /// Where to look next: where the lines of the two networks meet, or, where no answer came, between by length.
+    /// Where to look next: where the lines of the two networks meet; on the way out, where a budget was spent, which costs all of it;
+    /// or, where a number was past the range, between by length.
     fn next(&self, side: Side, bracket: &Bracket) -> u64
         requires is_bracket { IsBracket self.now side bracket.now }
         requires open { bracket.now.good + 1 < bracket.now.bad }
@@ -99,6 +115,7 @@ impl<'a> Case<'a> {
                 Some(away) => away,
                 None => middle(bracket.good, bracket.bad),
             },
+            Beyond::Wanting(RangeFault::Spent { .. }) => outwards(bracket.good, bracket.bad),
             Beyond::Wanting(_) => middle(bracket.good, bracket.bad),
         };
         between(guess, bracket.good, bracket.bad)
@@ -164,17 +181,25 @@ impl<'a> Case<'a> {
         }
     }
 
-    /// The end of the range on this side, where the network is optimal now: the limit of the values is looked at first.
+    /// The end of the range on this side, where the network is optimal now: where its cost rises as little as any can the range goes to
+    /// the limit of the values, and else the limit is looked at first.
     pub(crate) fn end(&self, side: Side) -> Result<End, RangeFault>
         requires { IsBestAt self.now.problem self.now.spot self.now.network (value_at self.now.problem self.now.spot) }
         ensures end { IfOk result (IsEnd self.now side) }
         ensures refusal { IfErr result (IsRefusal self.now.problem self.now.spot self.now.network self.now.budget) }
     {
+        best_away();
         self.is_known();
         let room = self.room(side);
         if room == 0 {
             return Ok(End {
                 away: 0,
+                beyond: None,
+            });
+        }
+        if self.rises_least(side) {
+            return Ok(End {
+                away: room,
                 beyond: None,
             });
         }

@@ -1,9 +1,21 @@
 use Rattle.stability.specs.declared.side.Beyond.TheVariants.{Cheaper, Wanting}
-use Rattle.stability.proofs.RangeLemmas.{end_here, first_bracket}
+use Rattle.stability_rules.specs.Spot.{value_at}
+use Rattle.stability.proofs.SideLemmas.{step_allowed}
+use Rattle.stability.proofs.RangeLemmas.{end_here, end_far, first_bracket}
 use Rattle.stability.proofs.case.Case.end.Goals as goal
 
 pub returns-then-room-eq0-clause-end : goal.returns-then-room-eq0-clause-end
 returns-then-room-eq0-clause-end c = end_here c.args.self.now c.args.side c.room-room.result c.if-room-eq0.true c.is_known.ensures.allowed c.room-room.ensures c.requires
+
+pub rises_least-requires : goal.rises_least-requires
+rises_least-requires c =
+    let k = c.args.self.now in
+    step_allowed k.spot c.args.side (value_at k.problem k.spot) c.room-room.result c.if-room-eq0.false c.is_known.ensures.allowed c.room-room.ensures
+
+pub returns-then-rises_least-clause-end : goal.returns-then-rises_least-clause-end
+returns-then-rises_least-clause-end c =
+    end_far c.best_away.ensures.away c.args.self.now c.is_known.ensures.valid c.is_known.ensures.feasible c.is_known.ensures.known c.args.side c.room-room.result c.is_known.ensures.allowed
+    c.room-room.ensures c.requires (c.rises_least.ensures c.if-rises_least.true)
 
 pub narrow-requires : goal.narrow-requires
 narrow-requires c =

@@ -1,0 +1,178 @@
+//! Whether the network's cost rises on a side as little as that of any structure can: then no search is needed there.
+ghost use Rattle.std.specs.Prelude.{◌≡◌, ◌≤◌, ◌<◌, ◌^◌, ◌*ℤ◌, ◌+ℤ◌, neg_ℤ, true, length, unsigned_abs, IfSome};
+ghost use Rattle.problem_rules.specs.Problem.{unit_at};
+ghost use Rattle.problem_rules.specs.WellFormed.{IsInRange};
+ghost use Rattle.flow_rules.specs.Net.{million};
+ghost use Rattle.stability_rules.specs.declared.side.Side.TheVariants.{Below, Above};
+ghost use Rattle.stability_rules.specs.Spot.{KnowsSpot, value_at, valued, value_on, IsAllowedValue};
+ghost use Rattle.stability_rules.specs.Range.{cost_at};
+ghost use Rattle.stability_rules.specs.Rise.{least_left, most_left, least_rise};
+
+use crate::case::Case;
+use crate::costs::cost_in;
+use crate::setting::valued;
+use int_rows::{checked_product, checked_sum};
+use pns_problem::{Kind, Problem};
+use stability_laws::structures_stay;
+use stability_rules::{Side, Spot};
+
+/// An amount with the other sign.
+fn negated(amount: i64) -> i64
+    requires { IsInRange amount }
+    ensures value { result ≡ neg_ℤ amount }
+    ensures in_range { IsInRange result }
+{
+    -amount
+}
+
+/// The least that a structure's flows leave over of a material, below 0 where it is bought.
+fn least_left(problem: &Problem, x: u32) -> i64
+    requires { x < length problem.now.materials }
+    ensures value { result ≡ least_left problem.now x }
+    ensures in_range { IsInRange result }
+{
+    problem.is_valid();
+    let material = &problem.materials()[x as usize];
+    match material.kind {
+        Kind::RawMaterial => negated(material.upper),
+        Kind::Intermediate => 0,
+        Kind::Product => material.lower,
+    }
+}
+
+/// The most that a structure's flows leave over of a material.
+fn most_left(problem: &Problem, x: u32) -> i64
+    requires { x < length problem.now.materials }
+    ensures value { result ≡ most_left problem.now x }
+    ensures in_range { IsInRange result }
+{
+    problem.is_valid();
+    let material = &problem.materials()[x as usize];
+    match material.kind {
+        Kind::RawMaterial => 0,
+        Kind::Intermediate => material.upper,
+        Kind::Product => material.upper,
+    }
+}
+
+/// The greatest size of a unit.
+fn most_of(problem: &Problem, u: u32) -> i64
+    requires { u < length problem.now.units }
+    ensures value { result ≡ (unit_at problem.now u).upper }
+    ensures in_range { IsInRange result }
+{
+    problem.is_valid();
+    let unit = &problem.units()[u as usize];
+    unit.upper
+}
+
+/// An amount a million times.
+fn millionfold(amount: i64) -> i128
+    requires { IsInRange amount }
+    ensures value { result ≡ million *ℤ amount }
+    ensures small { unsigned_abs result ≤ 10 ^ 21 }
+{
+    1_000_000 * amount as i128
+}
+
+/// An amount a million times, with the other sign.
+fn negated_millionfold(amount: i64) -> i128
+    requires { IsInRange amount }
+    ensures value { result ≡ neg_ℤ (million *ℤ amount) }
+    ensures small { unsigned_abs result ≤ 10 ^ 21 }
+{
+    -millionfold(amount)
+}
+
+/// So much in each year of the payout period.
+fn over_years(problem: &Problem, much: i128) -> i128
+    requires { unsigned_abs much ≤ 10 ^ 21 }
+    ensures { result ≡ problem.now.payout *ℤ much }
+{
+    problem.is_valid();
+    problem.payout() as i128 * much
+}
+
+/// By how little a structure's cost can rise where the value is one less, over its `d`.
+fn least_rise_below(problem: &Problem, spot: Spot) -> i128
+    requires { KnowsSpot problem.now spot }
+    ensures { result ≡ least_rise problem.now spot Below }
+{
+    match spot {
+        Spot::Price(x) => over_years(problem, millionfold(least_left(problem, x))),
+        Spot::Fix(_) => over_years(problem, -1_000_000_000_000),
+        Spot::Proportional(u) => over_years(problem, negated_millionfold(most_of(problem, u))),
+    }
+}
+
+/// By how little it can rise where the value is one more.
+fn least_rise_above(problem: &Problem, spot: Spot) -> i128
+    requires { KnowsSpot problem.now spot }
+    ensures { result ≡ least_rise problem.now spot Above }
+{
+    match spot {
+        Spot::Price(x) => over_years(problem, negated_millionfold(most_left(problem, x))),
+        Spot::Fix(_) => 0,
+        Spot::Proportional(_) => 0,
+    }
+}
+
+fn least_rise(problem: &Problem, spot: Spot, side: Side) -> i128
+    requires { KnowsSpot problem.now spot }
+    ensures { result ≡ least_rise problem.now spot side }
+{
+    match side {
+        Side::Below => least_rise_below(problem, spot),
+        Side::Above => least_rise_above(problem, spot),
+    }
+}
+
+impl<'a> Case<'a> {
+    /// What the network costs one step away if its cost rises as little as that of any structure can.
+    fn least_cost(&self, side: Side) -> Option<i128>
+        ensures { IfSome result (λ least. least ≡ self.now.network.cost +ℤ least_rise self.now.problem self.now.spot side *ℤ self.now.network.d) }
+    {
+        self.is_known();
+        self.network.is_sized();
+        let rise = least_rise(self.problem, self.spot, side);
+        let Some(more) = checked_product(rise, self.network.d()) else {
+            return None;
+        };
+        checked_sum(self.network.cost(), more)
+    }
+
+    /// What the network costs in the problem with this value in the spot.
+    fn cost_with(&self, problem: &Problem, value: i64) -> Option<i128>
+        requires { problem.now ≡ valued self.now.problem self.now.spot value }
+        ensures { IfSome result (λ cost. cost ≡ cost_at self.now.problem self.now.spot self.now.network value) }
+    {
+        structures_stay();
+        match cost_in(problem, self.graph, self.network) {
+            Ok(cost) => Some(cost),
+            Err(_) => None,
+        }
+    }
+
+    /// What the network costs one step away.
+    fn cost_near(&self, side: Side) -> Option<i128>
+        requires { IsAllowedValue self.now.spot (value_on side (value_at self.now.problem self.now.spot) 1) }
+        ensures { IfSome result (λ cost. cost ≡ cost_at self.now.problem self.now.spot self.now.network (value_on side (value_at self.now.problem self.now.spot) 1)) }
+    {
+        let value = self.value(side, 1);
+        let Ok(near) = valued(self.alloc, self.problem, self.spot, value) else {
+            return None;
+        };
+        self.cost_with(&near, value)
+    }
+
+    /// Whether the network costs as little more one step away as any structure can.
+    pub(crate) fn rises_least(&self, side: Side) -> bool
+        requires { IsAllowedValue self.now.spot (value_on side (value_at self.now.problem self.now.spot) 1) }
+        ensures { result ≡ true → cost_at self.now.problem self.now.spot self.now.network (value_on side (value_at self.now.problem self.now.spot) 1) ≡ self.now.network.cost +ℤ least_rise self.now.problem self.now.spot side *ℤ self.now.network.d }
+    {
+        match (self.cost_near(side), self.least_cost(side)) {
+            (Some(cost), Some(least)) => cost == least,
+            _ => false,
+        }
+    }
+}
