@@ -1,0 +1,51 @@
+use Rattle.std.proofs.Common.{◌≡◌, ◌-◌, ◌∷◌, [], List, length, sym, ap, subst, arith}
+use Rattle.std.proofs.lemmas.List.{length-append}
+use Rattle.problem_rules.specs.Each.{Each}
+use Rattle.tree_rules.specs.Claim.{Network}
+use Rattle.tree_reading.specs.Place.{lines_at}
+use Rattle.tree_reading.specs.Taken.{taken}
+use Rattle.rank_text.specs.Known.{KnowsNetwork}
+use Rattle.rank_text.specs.Read.{networks_taken}
+use Rattle.rank_text.proofs.Together.{with_networks, network_on, network_bad, network_later, networks_whole, each_last}
+use Rattle.rank_text.proofs.networks.read_networks.Goals as goal
+
+pub returns-in-Err-clause-fault : goal.returns-in-Err-clause-fault
+returns-in-Err-clause-fault c =
+    let p = c.args.problem.now in
+    let bytes = c.args.bytes.now in
+    network_bad p (networks_taken p c.args.count c.args.cut.line (lines_at bytes c.args.cut)) c.reading.networks.items c.reading.left c.reading.at.line (lines_at bytes c.reading.at)
+    c.reading.invariant.leads c.reading-test.true c.in-Err.fault c.in-Err.ensures.fault
+
+pub reading-preserved : goal.reading-preserved
+reading-preserved c =
+    let p = c.args.problem.now in
+    let bytes = c.args.bytes.now in
+    let whole = networks_taken p c.args.count c.args.cut.line (lines_at bytes c.args.cut) in
+    let ws = c.reading.networks.items in
+    let w = c.in-Ok.found.0 in
+    let behind = c.in-Ok.found.1 in
+    let items = c.in_ok-push.ensures.items in
+    let some = c.reading-test.true in
+    let long = ap (λ (vs : List Network). length vs) items in
+    let pushed = length-append ws (w ∷ []) in
+    let count = c.reading.invariant.count in
+    let before = c.reading.invariant.later in
+    let after = network_later p c.reading.at.line (lines_at bytes c.reading.at) (taken w bytes behind) c.in-Ok.ensures.read in
+    let reached = c.reading.invariant.reached.later in
+    let later = c.in-Ok.ensures.behind.later in
+    record {
+      leads = subst (λ (vs : List Network). with_networks vs (networks_taken p (c.reading.left - 1) behind.line (lines_at bytes behind)) ≡ whole) (sym items)
+          (network_on p whole ws c.reading.left c.reading.at.line (lines_at bytes c.reading.at) c.reading.invariant.leads some w behind.line (lines_at bytes behind) c.in-Ok.ensures.read);
+      later = omega (arith, before, after);
+      reached = record { is_cut = c.in-Ok.ensures.behind.is_cut; later = omega (arith, reached, later) };
+      count = omega (arith, long, pushed, count, some);
+      known = subst (λ (vs : List Network). Each (KnowsNetwork p) vs) (sym items) (each_last (KnowsNetwork p) ws w c.reading.invariant.known c.in-Ok.ensures.known);
+    }
+
+pub returns-clause-ok : goal.returns-clause-ok
+returns-clause-ok c =
+    let p = c.args.problem.now in
+    let bytes = c.args.bytes.now in
+    let none = c.reading-test.false in
+    networks_whole p (networks_taken p c.args.count c.args.cut.line (lines_at bytes c.args.cut)) c.reading.networks.items c.reading.left c.reading.at.line (lines_at bytes c.reading.at)
+    c.reading.invariant.leads (omega (arith, none))

@@ -1,0 +1,18 @@
+use Rattle.std.proofs.Common.{◌++◌, List, ap, flat_map}
+use Rattle.tree_rules.specs.Claim.{Network}
+use Rattle.tree_text_rules.specs.Spelling.{network_lines}
+use Rattle.rank_text.specs.Spelling.{grown_lines}
+use Rattle.rank_text.proofs.Printed.{two_printed, part_failed, printed_as}
+use Rattle.rank_text.proofs.print.put_found.Goals as goal
+
+pub returns-in-Ok-clause-prints : goal.returns-in-Ok-clause-prints
+returns-in-Ok-clause-prints g c =
+    printed_as _ _ _ _ _ _ _
+    (ap (λ (ws : List Network). flat_map (network_lines c.args.problem.now) ws ++ grown_lines c.args.problem.now c.args.text.now) c.networks.ensures)
+    (two_printed _ _ _ _ _ _ _ _ _ c.put_networks.ensures.later c.in-Ok.ensures.prints c.put_grown.ensures.prints)
+
+pub returns-in-Err-clause-prints : goal.returns-in-Err-clause-prints
+returns-in-Err-clause-prints g c =
+    printed_as _ _ _ _ _ _ _
+    (ap (λ (ws : List Network). flat_map (network_lines c.args.problem.now) ws ++ grown_lines c.args.problem.now c.args.text.now) c.networks.ensures)
+    (part_failed _ _ _ _ _ _ c.in-Err.fault c.in-Err.ensures.prints)

@@ -1,0 +1,13 @@
+use Rattle.std.proofs.Common.{◌≤◌, drop, flat_map}
+use Rattle.problem_rules.specs.Each.{Each}
+use Rattle.tree_text_rules.specs.Spelling.{network_lines}
+use Rattle.rank_text.proofs.Printed.{ArePrinted}
+use Rattle.rank_text.specs.Known.{KnowsNetwork}
+use Rattle.rank_text.proofs.print.put_networks.Given as goal
+
+abbrev pub invariant-printing : goal.invariant-printing
+invariant-printing g l = record {
+  known : Each (KnowsNetwork l.problem) (drop l.network-index l.networks);
+  printed : ArePrinted (flat_map (network_lines l.problem) l.networks) (flat_map (network_lines l.problem) (drop l.network-index l.networks)) (g.K.Sink.written l.fn.out) (g.K.Sink.written l.out);
+  later : g.K.Sink.faults l.fn.out ≤ g.K.Sink.faults l.out;
+}

@@ -1,0 +1,4 @@
+pub mod Known
+pub mod Opened
+pub mod Read
+pub mod Spelling

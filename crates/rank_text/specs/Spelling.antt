@@ -1,0 +1,52 @@
+-- The one text of a ranking, as lines of tokens: how many networks were asked for and how many are there, three lines for each, and
+-- then the lines of a tree text behind its claim, where the end of a leaf that names a network is a line of its own.
+use Rattle.std.specs.Prelude.{ℕ, List, [], ◌∷◌, ◌++◌, length, map, flat_map, codes, decimal}
+use Rattle.std.specs.Fmt.{signed_decimal}
+use Rattle.problem_rules.specs.Problem.{Problem}
+use Rattle.tree_rules.specs.Tree.{TreeNode, End, branch, leaf}
+use Rattle.tree_text_rules.specs.Line.{Token}
+use Rattle.tree_text_rules.specs.Spelling as trees
+use Rattle.rank_rules.specs.Leaf.{Leaf, plain, named}
+use Rattle.rank_rules.specs.Ranked.{Tree}
+use Rattle.ranked_tree.specs.Text.{Text}
+use Rattle.ranked_tree.specs.Marked.{marked}
+
+-- the whole first line of a text
+abbrev pub file_type : Token
+file_type = codes "file_type=PNS_rank_v1"
+
+-- the first words of lines that no tree text has
+abbrev pub count_word : Token
+count_word = codes "count"
+
+abbrev pub networks_word : Token
+networks_word = codes "networks"
+
+abbrev pub named_word : Token
+named_word = codes "named"
+
+abbrev pub end_line : Problem → End Leaf → List Token
+end_line p (branch w) = trees.end_line p (branch w)
+end_line p (leaf (plain l)) = trees.end_line p (leaf l)
+end_line p (leaf (named k d ys)) = named_word ∷ decimal k ∷ signed_decimal d ∷ map signed_decimal ys
+
+abbrev pub node_lines : Problem → TreeNode Leaf → List (List Token)
+node_lines p t = trees.head_lines p t.option t.steps ++ end_line p t.end ∷ []
+
+abbrev pub tree_lines : Problem → Tree → List (List Token)
+tree_lines p tree = flat_map (node_lines p) tree
+
+-- the tree and the tail
+abbrev pub grown_lines : Problem → Text → List (List Token)
+grown_lines p t = tree_lines p (marked t.marks t.tree) ++ trees.tail_lines p t.tail
+
+abbrev pub rank_text_lines : Problem → Text → List (List Token)
+rank_text_lines p t =
+    (file_type ∷ [])
+    ∷ (count_word ∷ decimal t.count ∷ [])
+    ∷ (networks_word ∷ decimal (length t.networks) ∷ [])
+    ∷ (flat_map (trees.network_lines p) t.networks ++ grown_lines p t)
+
+-- the one text of a ranking
+abbrev pub rank_text : Problem → Text → List ℕ
+rank_text p t = trees.text_of (rank_text_lines p t)

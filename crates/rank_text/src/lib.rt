@@ -1,0 +1,23 @@
+//! The text PNS_rank_v1 of a ranking: the networks, best first, and the tree that proves that no other is better.
+//!
+//! [`print_rank`] writes the one text of a ranked tree, and [`read_rank`] gives the ranked tree that a text stands for, or its first
+//! fault. A leaf that names a network has a line of its own, `named K D Y ..`; all other lines are those of a tree text, printed and read
+//! by the crates of that text. `specs/Spelling` has the text, `specs/Opened` the lines of open leaves, and `specs/Read` what a text stands
+//! for.
+//!
+//! Modules: `line`, lines that no tree text has; `print`; `cut`, tokens of a line; `front`, the first three lines; `networks`; `mark`, the
+//! line of an open leaf; `opening`, a tree text made of the lines of tree and tail, with `open` for each line that names a network, and the
+//! marks beside it; `read`.
+#![tactic(auto)]
+
+mod cut;
+mod front;
+mod line;
+mod mark;
+mod networks;
+mod opening;
+mod print;
+mod read;
+
+pub use print::print_rank;
+pub use read::read_rank;

@@ -1,0 +1,46 @@
+//! The networks of a text.
+ghost use Rattle.std.specs.Prelude.{◌≡◌, ◌≤◌, ◌<◌, ◌-◌, ◌^◌, Ok, IfOk, IfErr, length};
+ghost use Rattle.problem_rules.specs.Each.{Each};
+ghost use Rattle.tree_reading.specs.Place.{IsCut, IsReached, lines_at};
+ghost use Rattle.tree_reading.specs.Taken.{taken};
+ghost use Rattle.tree_reading.specs.Tells.{Tells};
+ghost use Rattle.rank_text.specs.Known.{KnowsNetwork};
+ghost use Rattle.rank_text.specs.Read.{networks_taken};
+
+use branch_tree::Network;
+use pns_problem::Problem;
+use std::alloc::Global;
+use tree_reading::{Cut, TreeFault, read_network};
+
+/// So many networks, the first of which has its first line at the cut, and the cut behind them. `At` comes exactly at the first fault
+/// of their lines, `Memory` is want of memory. Nothing is reserved by the promised number.
+pub fn read_networks(
+    alloc: Global,
+    problem: &Problem,
+    count: u32,
+    bytes: &[u8],
+    cut: Cut,
+) -> Result<(Vec<Network>, Cut), TreeFault>
+    requires cut { IsCut bytes.now cut }
+    requires few { length bytes.now < 2 ^ 32 - 1 }
+    ensures ok { IfOk result (λ found. networks_taken problem.now count cut.line (lines_at bytes.now cut) ≡ Ok (taken found.0.items bytes.now found.1)) }
+    ensures later { IfOk result (λ found. cut.line ≤ found.1.line) }
+    ensures reached { IfOk result (λ found. IsReached bytes.now cut found.1) }
+    ensures count { IfOk result (λ found. length found.0.items ≡ count) }
+    ensures known { IfOk result (λ found. Each (KnowsNetwork problem.now) found.0.items) }
+    ensures fault { IfErr result (Tells (networks_taken problem.now count cut.line (lines_at bytes.now cut))) }
+{
+    let mut networks = Vec::new(alloc);
+    let mut left = count;
+    let mut at = cut;
+    'reading: while left > 0 {
+        let (network, behind) = match read_network(alloc, problem, bytes, at) {
+            Err(fault) => return Err(fault),
+            Ok(found) => found,
+        };
+        networks.push(network)?;
+        at = behind;
+        left -= 1;
+    }
+    Ok((networks, at))
+}
