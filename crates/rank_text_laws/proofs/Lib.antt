@@ -1,0 +1,6 @@
+mod Lines
+mod OpenLines
+mod Parts
+mod Shapes
+mod Texts
+mod Tokens
