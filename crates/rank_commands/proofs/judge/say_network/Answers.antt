@@ -1,0 +1,15 @@
+use Rattle.std.proofs.Common.{◌≡◌, ◌∙◌, inl, ℕ, List}
+use Rattle.rank_words.specs.Words.{network_line}
+use Rattle.endings.specs.Lines.{line}
+use Rattle.endings.specs.Ending.{Only, OrMemory}
+use Rattle.endings.specs.declared.status.Status.{Status}
+use Rattle.endings.specs.declared.status.Status.TheVariants.{Refused}
+use Rattle.endings.proofs.Ending.{Ends-map}
+use Rattle.rank_commands.proofs.judge.say_network.Goals as goal
+
+pub returns-in-Ok : goal.returns-in-Ok
+returns-in-Ok g c =
+    let told : List ℕ = line (network_line c.args.number c.args.why) in
+    let Q : Status → List ℕ → Type 0 = OrMemory (Only Refused told) in
+    let text : c.as_bytes.result.now ≡ told = c.as_bytes.ensures.value ∙ c.in-Ok.ensures in
+    Ends-map (Only Refused c.as_bytes.result.now) Q _ _ _ _ _ (λ s t said. inl (said.0, said.1 ∙ text)) (λ r. r) c.say.ensures

@@ -1,0 +1,123 @@
+//! The command `rankcheck`.
+ghost use Rattle.std.specs.Prelude.{◌≡◌, ◌<◌, ◌^◌, ◌⊎◌, IfOk, length, string_bytes};
+ghost use Rattle.pns_io.specs.Outside.{HasRisen};
+ghost use Rattle.endings.specs.Lines.{line};
+ghost use Rattle.rank_words.specs.Words.{network_line, rank_node_line};
+ghost use Rattle.command_files.specs.Reading.{OnFile};
+ghost use Rattle.rank_commands.specs.Rankcheck.{RankcheckWork, OnRank, FilesListBest, AcceptedAreBest};
+ghost use Rattle.endings.specs.Ending.{Ends, Says, Tells, Only, OrMemory};
+ghost use Rattle.endings.specs.declared.status.Status.TheVariants.{Done, Refused};
+
+use crate::rank_file::rank_of;
+use command_files::problem_of;
+use endings::Status;
+use endings::say::{say, say_memory};
+use pgraph::Graph;
+use pns_io::{Shelf, Sink};
+use pns_problem::Problem;
+use rank_check::{RankRefusal, check_rank};
+use rank_laws::{listed_are_least, others_are_no_better};
+use rank_rules::RankWhy;
+use rank_words::rank_why_word;
+use ranked_tree::RankText;
+use std::alloc::{AllocError, Global};
+
+fn network_line(alloc: Global, number: u32, why: RankWhy) -> Result<String, AllocError>
+    ensures { IfOk result (λ text. string_bytes text ≡ line (network_line number why)) }
+{
+    let mut text = String::from_str(alloc, "refused network ")?;
+    write!(text, "{number}")?;
+    text.push(' ')?;
+    text.push_str(rank_why_word(why))?;
+    text.push('\n')?;
+    Ok(text)
+}
+
+fn node_line(alloc: Global, node: u32, why: RankWhy) -> Result<String, AllocError>
+    ensures { IfOk result (λ text. string_bytes text ≡ line (rank_node_line node why)) }
+{
+    let mut text = String::from_str(alloc, "refused node ")?;
+    write!(text, "{node}")?;
+    text.push(' ')?;
+    text.push_str(rank_why_word(why))?;
+    text.push('\n')?;
+    Ok(text)
+}
+
+fn say_network<K: Sink>(alloc: Global, out: &mut K, number: u32, why: RankWhy) -> Status
+    ensures { Ends (OrMemory (Only Refused (line (network_line number why)))) (HasRisen (K.faults out.old) (K.faults out.new)) (K.written out.old) (K.written out.new) result }
+{
+    match network_line(alloc, number, why) {
+        Ok(text) => say(out, text.as_bytes(), Status::Refused),
+        Err(_) => say_memory(out),
+    }
+}
+
+fn say_node<K: Sink>(alloc: Global, out: &mut K, node: u32, why: RankWhy) -> Status
+    ensures { Ends (OrMemory (Only Refused (line (rank_node_line node why)))) (HasRisen (K.faults out.old) (K.faults out.new)) (K.written out.old) (K.written out.new) result }
+{
+    match node_line(alloc, node, why) {
+        Ok(text) => say(out, text.as_bytes(), Status::Refused),
+        Err(_) => say_memory(out),
+    }
+}
+
+/// Says whether the tree proves the ranking, or else the first network or the first node that fails.
+fn say_checked<K: Sink>(alloc: Global, out: &mut K, problem: &Problem, text: &RankText) -> Status
+    requires few { length text.now.tree < 2 ^ 32 }
+    ensures { Ends (Tells (RankcheckWork problem.now text.now)) (HasRisen (K.faults out.old) (K.faults out.new)) (K.written out.old) (K.written out.new) result }
+{
+    let Ok(graph) = Graph::of(alloc, problem) else {
+        return say_memory(out);
+    };
+    match check_rank(alloc, problem, &graph, text) {
+        Ok(()) => say(out, b"accepted\n", Status::Done),
+        Err(RankRefusal::Network { number, why }) => say_network(alloc, out, number, why),
+        Err(RankRefusal::Node { node, why }) => say_node(alloc, out, node, why),
+        Err(RankRefusal::Memory) => say_memory(out),
+    }
+}
+
+fn say_rank<F: Shelf, K: Sink>(
+    alloc: Global,
+    problem: &Problem,
+    name: &str,
+    shelf: &mut F,
+    out: &mut K,
+) -> Status
+    ensures { Ends (Says (OnRank (F.held shelf.old) name.now problem.now) (λ other. other ≡ name.now) (record { held = F.held shelf.old; before = F.faults shelf.old; after = F.faults shelf.new }))
+        (HasRisen (K.faults out.old) (K.faults out.new)) (K.written out.old) (K.written out.new) result }
+{
+    match rank_of(alloc, shelf, out, name, problem) {
+        Ok(text) => say_checked(alloc, out, problem, &text),
+        Err(status) => status,
+    }
+}
+
+/// Where `rankcheck` accepts, the networks are the best.
+pub fn accepted_are_best()
+    ensures { AcceptedAreBest }
+{
+    listed_are_least();
+    others_are_no_better();
+}
+
+/// Says whether the tree of the ranking of the one file proves it on the problem of the other.
+pub fn rankcheck<F: Shelf, K: Sink>(
+    alloc: Global,
+    file: &str,
+    rank: &str,
+    shelf: &mut F,
+    out: &mut K,
+) -> Status
+    ensures ends { Ends (Says (OnFile (OnRank (F.held shelf.old) rank.now) (F.held shelf.old) file.now) (λ other. (other ≡ file.now) ⊎ (other ≡ rank.now)) (record { held = F.held shelf.old; before = F.faults shelf.old; after = F.faults shelf.new }))
+        (HasRisen (K.faults out.old) (K.faults out.new)) (K.written out.old) (K.written out.new) result }
+    // With status 0 the one file gives a valid problem and the other networks, which are the best.
+    ensures accepted { result ≡ Done → FilesListBest (F.held shelf.old) file.now rank.now }
+{
+    accepted_are_best();
+    match problem_of(alloc, shelf, out, file) {
+        Ok(problem) => say_rank(alloc, &problem, rank, shelf, out),
+        Err(status) => status,
+    }
+}

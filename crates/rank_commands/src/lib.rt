@@ -1,0 +1,12 @@
+//! The commands on the best networks and the tree that proves them: `rankcheck`.
+//!
+//! It reads the problem of a file and the ranking of another, and its contract says which text is out with which status.
+//! `specs/Rankcheck` has what is said.
+//!
+//! Modules: `rank_file`, the ranking of a file; `judge`, whether the tree of a ranking proves it.
+#![tactic(auto)]
+
+mod judge;
+mod rank_file;
+
+pub use judge::{accepted_are_best, rankcheck};

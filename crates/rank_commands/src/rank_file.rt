@@ -1,0 +1,73 @@
+//! A file that has a ranking: it is read and judged by its grammar.
+ghost use Rattle.std.specs.Prelude.{◌≡◌, ◌≤◌, ◌<◌, ◌^◌, ℕ, List, IfOk, IfErr, OnOk, length, string_bytes};
+ghost use Rattle.pns_io.specs.Outside.{HasRisen};
+ghost use Rattle.endings.specs.Lines.{line};
+ghost use Rattle.rank_text.specs.Known.{KnowsText};
+ghost use Rattle.command_files.specs.Reading.{AreHeld};
+ghost use Rattle.command_files.specs.TreeFile.{tree_fault_line};
+ghost use Rattle.rank_commands.specs.Rankcheck.{GivesRanking, RankFaults};
+ghost use Rattle.endings.specs.Ending.{Ends, Says, Only, OrMemory};
+ghost use Rattle.endings.specs.declared.status.Status.TheVariants.{BadTree};
+
+use command_files::{bytes_of, tree_kind_word};
+use endings::Status;
+use endings::say::{say, say_memory};
+use pns_io::{Shelf, Sink};
+use pns_problem::Problem;
+use rank_text::read_rank;
+use ranked_tree::RankText;
+use std::alloc::{AllocError, Global};
+use tree_reading::TreeFault;
+use tree_text_rules::TreeKind;
+
+/// The most bytes of a file that has a ranking.
+const RANK_LIMIT: u64 = 268_435_456;
+
+fn fault_line(alloc: Global, number: u32, kind: TreeKind) -> Result<String, AllocError>
+    ensures { IfOk result (λ text. string_bytes text ≡ line (tree_fault_line number kind)) }
+{
+    let mut text = String::from_str(alloc, "tree line ")?;
+    write!(text, "{number}")?;
+    text.push(' ')?;
+    text.push_str(tree_kind_word(kind))?;
+    text.push('\n')?;
+    Ok(text)
+}
+
+fn say_fault<K: Sink>(alloc: Global, out: &mut K, number: u32, kind: TreeKind) -> Status
+    ensures { Ends (OrMemory (Only BadTree (line (tree_fault_line number kind)))) (HasRisen (K.faults out.old) (K.faults out.new)) (K.written out.old) (K.written out.new) result }
+{
+    match fault_line(alloc, number, kind) {
+        Ok(text) => say(out, text.as_bytes(), Status::BadTree),
+        Err(_) => say_memory(out),
+    }
+}
+
+/// Reads the file and judges its text as a ranking for the problem. Where that gives none the text that tells why is out, and the
+/// status is that of the call.
+pub(crate) fn rank_of<F: Shelf, K: Sink>(
+    alloc: Global,
+    shelf: &mut F,
+    out: &mut K,
+    name: &str,
+    problem: &Problem,
+) -> Result<RankText, Status>
+    ensures ranking { IfOk result (λ t. (file : List ℕ) × AreHeld (F.held shelf.old name.now) file × GivesRanking problem.now file t) }
+    ensures few { IfOk result (λ t. length t.tree < 2 ^ 32) }
+    ensures known { IfOk result (KnowsText problem.now) }
+    ensures silent { OnOk result (out.new ≡ out.old) }
+    ensures later { (other : List ℕ) → F.faults shelf.old other ≤ F.faults shelf.new other }
+    ensures keeps { (other : List ℕ) → F.held shelf.new other ≡ F.held shelf.old other }
+    ensures told { IfErr result (Ends (Says (RankFaults (F.held shelf.old) name.now problem.now) (λ other. other ≡ name.now) (record { held = F.held shelf.old; before = F.faults shelf.old; after = F.faults shelf.new }))
+        (HasRisen (K.faults out.old) (K.faults out.new)) (K.written out.old) (K.written out.new)) }
+{
+    let bytes = match bytes_of(alloc, shelf, out, name, RANK_LIMIT) {
+        Ok(bytes) => bytes,
+        Err(status) => return Err(status),
+    };
+    match read_rank(alloc, problem, &bytes) {
+        Ok(text) => Ok(text),
+        Err(TreeFault::At { line, kind }) => Err(say_fault(alloc, out, line, kind)),
+        Err(TreeFault::Memory) => Err(say_memory(out)),
+    }
+}
