@@ -30,10 +30,11 @@ ZSH := $(SHARE)/zsh/site-functions
 FISH := $(SHARE)/fish/vendor_completions.d
 
 install: crates/pns/out/pns
-	install -d $(DESTDIR)$(PREFIX)/bin $(SHARE)/man/man1 $(SHARE)/doc/pns $(BASH) $(ZSH) $(FISH)
+	install -d $(DESTDIR)$(PREFIX)/bin $(SHARE)/man/man1 $(SHARE)/doc/pns/docs $(BASH) $(ZSH) $(FISH)
 	install -m 755 crates/pns/out/pns $(DESTDIR)$(PREFIX)/bin/pns
 	install -m 644 docs/pns.1 $(SHARE)/man/man1/pns.1
-	install -m 644 README.md $(wildcard docs/*.md) crates/pns/data/a.pns $(SHARE)/doc/pns
+	install -m 644 README.md crates/pns/data/a.pns $(SHARE)/doc/pns
+	install -m 644 $(wildcard docs/*.md) $(SHARE)/doc/pns/docs
 	cp -R cases $(SHARE)/doc/pns
 	install -m 644 extras/completions/pns.bash $(BASH)/pns
 	install -m 644 extras/completions/_pns $(ZSH)/_pns
