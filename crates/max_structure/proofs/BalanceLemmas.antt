@@ -1,10 +1,10 @@
 -- A turn of the balance: what goes, what stays, and where the second axiom can still be broken.
-use Rattle.std.proofs.Common.{◌≡◌, ◌≢◌, ℕ, ◌+◌, ◌*◌, ◌<◌, ◌≤◌, ◌==◌, Bool, true, false, not, cond, ◌&&◌, ◌||◌, List, [], ◌∷◌, length, Option, Some, refl, sym, ap, ◌∙◌, subst, inl, inr, ◌⊎◌, ◌↔◌, IsTrue, arith, eq-eqb, ne_eqb}
-use Rattle.std.proofs.lemmas.Bool.{or_cases, or_left, or_right, and_parts, and_from, both_ways, cases_eq, cases_Bool, true_from_ne_false, false_from_ne_true, not-true}
-use Rattle.number_sets.specs.Sets.{has, first, kept, union, meet, minus, IsWithin, IsRising, IsSet, Avoids}
+use Rattle.std.proofs.Common.{◌≡◌, ℕ, ◌+◌, ◌*◌, ◌<◌, ◌==◌, Bool, true, false, not, cond, ◌&&◌, ◌||◌, List, [], ◌∷◌, length, refl, sym, ap, ◌∙◌, subst, inl, inr, ◌↔◌, arith, eq-eqb, ne_eqb}
+use Rattle.std.proofs.lemmas.Bool.{or_cases, or_left, or_right, and_parts, and_from, both_ways, true_from_ne_false, false_from_ne_true, not-true}
+use Rattle.number_sets.specs.Sets.{has, kept, union, meet, minus, IsWithin, IsSet, Avoids}
 use Rattle.number_sets.proofs.SetLemmas.{has-minus, has-meet, has-union, has-kept, length-less, length_below, same_sets, same_tests}
 use Rattle.pns_rules.specs.Shape.{Shape, IsProper}
-use Rattle.pns_rules.specs.Structure.{is_made, is_used, mats, Meets}
+use Rattle.pns_rules.specs.Structure.{is_made, is_used, Meets}
 use Rattle.pns_rules.proofs.StructureLemmas.{is_made-from, is_made-some, is_made-within, is_used-from, is_used-some, mats-within}
 use Rattle.pgraph.specs.Breaks.{BreaksS2}
 use Rattle.max_structure.specs.Balance.{is_to_blame}
@@ -16,19 +16,19 @@ module _ (g : Shape) where
       let made = is_made-from g o u x (h.s3 u e) e p in
       both_ways (is_made g o x) ((h.s2 x (h.graph x (or_right (is_used g o x) (is_made g o x) made))).1 r) made
 
-  makes_what_it_uses : (m o : ℕ → Bool) → Meets g m o → (u x : ℕ) → o u ≡ true → g.uses u x ≡ true → g.raw x ≡ false → is_made g o x ≡ true
+  pub makes_what_it_uses : (m o : ℕ → Bool) → Meets g m o → (u x : ℕ) → o u ≡ true → g.uses u x ≡ true → g.raw x ≡ false → is_made g o x ≡ true
   makes_what_it_uses m o h u x e p r =
       let used = is_used-from g o u x (h.s3 u e) e p in
       true_from_ne_false (is_made g o x) (λ q. both_ways (g.raw x) r ((h.s2 x (h.graph x (or_left (is_used g o x) (is_made g o x) used))).0 q))
 
   -- where the second axiom is broken a raw material is made, and another is used and not made
-  broken_raw : (o : ℕ → Bool) (x : ℕ) → BreaksS2 g o x → g.raw x ≡ true → is_made g o x ≡ true
+  pub broken_raw : (o : ℕ → Bool) (x : ℕ) → BreaksS2 g o x → g.raw x ≡ true → is_made g o x ≡ true
   broken_raw o x b r = true_from_ne_false (is_made g o x) (λ q. b.1 (λ e. r, λ e. q))
 
-  broken_other : (o : ℕ → Bool) (x : ℕ) → BreaksS2 g o x → g.raw x ≡ false → is_made g o x ≡ false
+  pub broken_other : (o : ℕ → Bool) (x : ℕ) → BreaksS2 g o x → g.raw x ≡ false → is_made g o x ≡ false
   broken_other o x b r = false_from_ne_true (is_made g o x) (λ q. b.1 (λ e. absurd (both_ways (is_made g o x) e q), λ e. absurd (both_ways (g.raw x) r e)))
 
-  broken_used : (o : ℕ → Bool) (x : ℕ) → BreaksS2 g o x → g.raw x ≡ false → is_used g o x ≡ true
+  pub broken_used : (o : ℕ → Bool) (x : ℕ) → BreaksS2 g o x → g.raw x ≡ false → is_used g o x ≡ true
   broken_used o x b r = elim (or_cases (is_used g o x) (is_made g o x) b.0) [
     | inl used ↦ used
     | inr made ↦ absurd (both_ways (is_made g o x) (broken_other o x b r) made)
@@ -104,7 +104,7 @@ unbroken_settles g set x no_break rest is c =
 module _ (g : Shape) (left gone next waiting made more : List ℕ) (x : ℕ)
     (next_is : next ≡ minus left gone) (gone_in : IsWithin (has gone) (has left))
     (made_is : has made ≡ is_made g (has gone)) (more_is : more ≡ union (kept (λ v. not (x == v)) waiting) made) where
-  next_has : (u : ℕ) → has next u ≡ (has left u && not (has gone u))
+  pub next_has : (u : ℕ) → has next u ≡ (has left u && not (has gone u))
   next_has u = ap (λ xs. has xs u) next_is ∙ has-minus left gone u
 
   pub next_within : IsWithin (has next) (has left)
@@ -113,7 +113,7 @@ module _ (g : Shape) (left gone next waiting made more : List ℕ) (x : ℕ)
   pub next_keeps : (o : ℕ → Bool) → IsWithin o (has left) → Avoids o (has gone) → IsWithin o (has next)
   next_keeps o w a u e = next_has u ∙ and_from (has left u) (not (has gone u)) (w u e) (ap not (false_from_ne_true (has gone u) (a u e)))
 
-  more_has : (y : ℕ) → has more y ≡ ((has waiting y && not (x == y)) || is_made g (has gone) y)
+  pub more_has : (y : ℕ) → has more y ≡ ((has waiting y && not (x == y)) || is_made g (has gone) y)
   more_has y =
       ap (λ xs. has xs y) more_is
       ∙ (has-union (kept (λ v. not (x == v)) waiting) made y
@@ -121,7 +121,7 @@ module _ (g : Shape) (left gone next waiting made more : List ℕ) (x : ℕ)
       ∙ ap (λ b. (has waiting y && not (x == y)) || b) (ap (λ t. t y) made_is)))
 
   -- a material that no unit which goes makes has the makers that it had
-  same_makers : (y : ℕ) → is_made g (has gone) y ≡ false → is_made g (has left) y ≡ is_made g (has next) y
+  pub same_makers : (y : ℕ) → is_made g (has gone) y ≡ false → is_made g (has left) y ≡ is_made g (has next) y
   same_makers y none = same_tests (is_made g (has left) y) (is_made g (has next) y)
       (λ e.
       let k = is_made-some g (has left) y e in
@@ -143,6 +143,17 @@ module _ (g : Shape) (left gone next waiting made more : List ℕ) (x : ℕ)
       at true e = or_right (has waiting y && not (x == y)) (is_made g (has gone) y) e
       at false e = or_left (has waiting y && not (x == y)) (is_made g (has gone) y)
           (and_from (has waiting y) (not (x == y)) (covers y (was_broken y e b)) (ap not (ne_eqb x y (λ q. settles (subst (λ z. BreaksS2 g (has next) z) (sym q) b)))))
+
+  -- what has lost its last maker is looked at, where that was so before and x has one
+  pub more_lost : (y : ℕ) → (is_made g (has left) y ≡ false → has waiting y ≡ true) → (x ≡ y → is_made g (has left) x ≡ true) → is_made g (has next) y ≡ false → has more y ≡ true
+  more_lost y had made_at unmade = more_has y ∙ at (is_made g (has gone) y) refl
+    where
+      at : (made : Bool) → is_made g (has gone) y ≡ made → ((has waiting y && not (x == y)) || is_made g (has gone) y) ≡ true
+      at true e = or_right (has waiting y && not (x == y)) (is_made g (has gone) y) e
+      at false e =
+          let was : is_made g (has left) y ≡ false = same_makers y e ∙ unmade in
+          or_left (has waiting y && not (x == y)) (is_made g (has gone) y)
+          (and_from (has waiting y) (not (x == y)) (had was) (ap not (ne_eqb x y (λ q. both_ways (is_made g (has left) y) was (subst (λ z. is_made g (has left) z ≡ true) q (made_at q))))))
 
   pub more_known : IsProper g → ((y : ℕ) → has waiting y ≡ true → y < g.materials) → (y : ℕ) → has more y ≡ true → y < g.materials
   more_known proper known y e = elim (or_cases (has waiting y && not (x == y)) (is_made g (has gone) y) (sym (more_has y) ∙ e)) [

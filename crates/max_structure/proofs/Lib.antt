@@ -1,2 +1,3 @@
 pub mod BalanceLemmas
+pub mod LeavingLemmas
 pub mod UnionLemmas

@@ -4,7 +4,7 @@ ghost use Rattle.std.specs.Prelude.{◌≡◌, ◌<◌, ◌+◌};
 use std::marker::Model;
 use std::sync::ledger::{Blank, Book, Ledger, Share};
 
-/// How many viability tests were made, in a ledger of the caller's. It takes no bytes, and only `viable` changes it.
+/// How many viability tests were made, in a ledger of the caller's. It takes no bytes, and only `viable` and `left_out` change it.
 #[derive(Drop)]
 pub struct Steps<L: Ledger> {
     book: Book<L>,

@@ -1,5 +1,5 @@
-use Rattle.std.proofs.Common.{◌≡◌, ◌∙◌, ◌<◌, ◌≤◌, ◌==◌, not, ap, sym, length, arith}
-use Rattle.number_sets.specs.Sets.{has, kept, union}
+use Rattle.std.proofs.Common.{◌∙◌, ap, sym, arith}
+use Rattle.number_sets.specs.Sets.{has, union}
 use Rattle.number_sets.proofs.OptionLemmas.{first_had}
 use Rattle.number_sets.proofs.SetLemmas.{has-minus}
 use Rattle.pgraph.specs.Tables.{shape}

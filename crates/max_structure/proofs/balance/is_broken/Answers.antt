@@ -1,7 +1,6 @@
-use Rattle.std.proofs.Common.{◌≡◌, ◌∙◌, ◌↔◌, ◌&&◌, Bool, not, true, false, sym, ap, subst}
+use Rattle.std.proofs.Common.{◌≡◌, ◌∙◌, ◌↔◌, not, true, false, sym, ap, subst}
 use Rattle.std.proofs.lemmas.Bool.{both_ways}
 use Rattle.number_sets.specs.Sets.{has}
-use Rattle.pns_rules.specs.Structure.{is_used}
 use Rattle.pgraph.specs.Tables.{shape}
 use Rattle.pgraph.specs.Breaks.{BreaksS2}
 use Rattle.max_structure.proofs.BalanceLemmas.{broken_if_raw, broken_if_unmade, unbroken_if_made}

@@ -1,8 +1,5 @@
-use Rattle.std.proofs.Common.{◌≡◌, ◌∙◌, false, refl, sym}
-use Rattle.std.proofs.lemmas.Bool.{both_ways}
-use Rattle.number_sets.specs.Sets.{has}
 use Rattle.pgraph.specs.Tables.{shape}
-use Rattle.max_structure.proofs.BalanceLemmas.{gone_within, gone_keeps, gone_settles, unbroken_settles}
+use Rattle.max_structure.proofs.BalanceLemmas.{gone_within, gone_keeps, gone_settles}
 use Rattle.max_structure.proofs.balance.to_leave_out.Goals as goal
 
 pub returns-then-is_broken : goal.returns-then-is_broken
