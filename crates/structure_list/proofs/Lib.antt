@@ -1,5 +1,6 @@
 pub mod DigitLemmas
-pub mod FamilyLemmas
+pub mod FollowLemmas
+pub mod StackLemmas
 pub mod StartLemmas
-pub mod StepLemmas
+pub mod TightLemmas
 pub mod TokenLemmas

@@ -1,3 +1,6 @@
 pub mod Family
 pub mod Rest
+pub mod Stack
+pub mod Start
+pub mod Tight
 pub mod Tokens

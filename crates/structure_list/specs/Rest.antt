@@ -1,12 +1,11 @@
 -- What contracts see of a listing that is under way: what is still to come is the listing after the structure given last.
-use Rattle.std.specs.Prelude.{ℕ, List, Option, IfSome}
+use Rattle.std.specs.Prelude.{ℕ, List, Option}
 use Rattle.number_sets.specs.Sets.{has}
 use Rattle.pns_rules.specs.Shape.{Shape}
-use Rattle.pns_rules.specs.Structure.{IsStructure}
-use Rattle.pns_rules.specs.Listing.{IsListing}
+use Rattle.pns_rules.specs.Listing.{IsLater, IsListed, IsListing}
 use Rattle.pgraph.specs.Tables.{Tables, shape}
 use Rattle.decisions.specs.declared.position.Position.{Position}
-use Rattle.structure_list.specs.Family.{StartsAt}
+use Rattle.structure_list.specs.Stack.{InStack, IsStack}
 
 pub record Rest : Type 0 where
   pub graph : Tables
@@ -16,7 +15,8 @@ pub record Rest : Type 0 where
 abbrev pub IsToCome : Rest → List (List ℕ) → Type 0
 IsToCome r xs = IsListing (shape r.graph) r.last xs
 
--- what a list that is under way keeps
-pub record IsUnderWay (g : Shape) (start : Option Position) (last : Option (List ℕ)) : Type 0 where
-  pub starts : StartsAt g start
-  pub last_meets : IfSome last (λ s. IsStructure g (has s))
+-- what a list that is under way keeps: the structures of its positions are those that are listed
+pub record IsUnderWay (g : Shape) (ps : List Position) (last : Option (List ℕ)) : Type 0 where
+  pub stack : IsStack g ps
+  pub has_all : (s : List ℕ) → IsListed g last s → InStack g ps (has s)
+  pub no_more : (s : List ℕ) → InStack g ps (has s) → IsLater g last (has s)

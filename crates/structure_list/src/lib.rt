@@ -10,7 +10,9 @@
 
 mod list;
 mod search;
+mod stack;
 mod token;
+mod turns;
 
 pub use list::{OpenFault, StructureList};
 pub use token::{BadForm, print_token, read_token};

@@ -3,10 +3,10 @@ ghost use Rattle.std.specs.Prelude.{◌≡◌, ◌+◌, ◌*◌, ◌<◌, ◌≤
 ghost use Rattle.number_sets.specs.Sets.{has, IsRising};
 ghost use Rattle.pns_rules.specs.Structure.{IsStructure, IsUnion};
 ghost use Rattle.pgraph.specs.Tables.{shape};
-ghost use Rattle.structure_list.specs.Rest.{Rest, IsToCome};
+ghost use Rattle.structure_list.specs.Rest.{Rest, IsToCome, IsUnderWay};
 
-use crate::search::{next_structure, start};
-use decisions::Position;
+use crate::search::{next_structure, stack_after};
+use crate::stack::Stack;
 use max_structure::Steps;
 use pgraph::{Graph, Verdict};
 use std::alloc::{AllocError, Global};
@@ -31,7 +31,7 @@ pub enum OpenFault {
 #[derive(Drop)]
 pub struct StructureList<'a> {
     graph: &'a Graph,
-    start: Option<Position>,
+    stack: Stack,
     last: Option<UnitSet>,
 }
 
@@ -43,7 +43,7 @@ impl<'a> Model for StructureList<'a> {
 
     ghost view = { λ l. record { graph = l.graph.now; last = l.last } };
 
-    ghost invariant = { λ l. IsUnderWay (shape l.graph.now) l.start l.last };
+    ghost invariant = { λ l. IsUnderWay (shape l.graph.now) l.stack l.last };
 }
 
 impl<'a> StructureList<'a> {
@@ -63,11 +63,15 @@ impl<'a> StructureList<'a> {
                 return Err(OpenFault::NotAStructure);
             }
         }
-        Ok(StructureList {
-            graph,
-            start: start(graph),
-            last: after,
-        })
+        let stack = stack_after(graph, &after);
+        Ok(StructureList::new(graph, stack, after))
+    }
+
+    fn new(graph: &'a Graph, stack: Stack, last: Option<UnitSet>) -> StructureList<'a>
+        requires { IsUnderWay (shape graph.now) stack last }
+        ensures { result ≡ record { graph = graph.now; last = last } }
+    {
+        StructureList { graph, stack, last }
     }
 
     /// Gives the next structure, and leaves those after it, so that the list is the one that `open` gives at this
@@ -80,9 +84,10 @@ impl<'a> StructureList<'a> {
         ensures stays { IfNone result (self.new ≡ self.old) }
         ensures few_tests { (shape self.old.graph).exclusions ≡ 0 → (m : List ℕ) → IsRising m → IsUnion (shape self.old.graph) (λ _. false) (has m) → steps.new ≤ steps.old + 2 * length m }
     {
-        let Some(set) = next_structure(self.graph, self.start, self.last, steps) else {
+        let Some(set) = next_structure(self.graph, &mut self.stack, steps) else {
             return None;
         };
+        set.rises();
         self.last = Some(set);
         Some(set)
     }

@@ -1,129 +1,137 @@
 //! The search for the next allowed structure.
-ghost use Rattle.std.specs.Prelude.{◌≡◌, ◌+◌, ◌*◌, ◌<◌, ◌≤◌, ◌↔◌, ℕ, Bool, List, false, length, IsTrue, IfSome, IfNone};
+ghost use Rattle.std.specs.Prelude.{◌≡◌, ◌+◌, ◌<◌, ◌≤◌, ◌++◌, ◌∷◌, ◌↔◌, [], ℕ, List, false, length, IsTrue, IfSome, IfNone};
 ghost use Rattle.number_sets.specs.Sets.{has, IsRising};
 ghost use Rattle.pns_rules.specs.Structure.{IsStructure, IsAllowed, IsUnion};
 ghost use Rattle.pgraph.specs.Tables.{shape};
-ghost use Rattle.decisions.specs.Position.{IsPosition, IsWithinNode, free_count};
-ghost use Rattle.structure_list.specs.Family.{IsPromising, IsFirstIn, IsNextIn, IsFoundIn, StartsAt, IsHead, next_cost};
+ghost use Rattle.decisions.specs.Position.{IsTurn, free_count, IsWithinNode};
+ghost use Rattle.structure_list.specs.Rest.{IsUnderWay};
+ghost use Rattle.structure_list.specs.Stack.{IsStack, Finds, weight};
+ghost use Rattle.structure_list.specs.Start.{StartsAt, IsStart};
 
+use crate::stack::Stack;
+use crate::turns::{leaving, leaving_counted, taking};
 use decisions::Position;
-use max_structure::{Steps, maximal, viable};
+use max_structure::{Steps, maximal};
 use pgraph::Graph;
 use std::sync::ledger::Ledger;
-use unit_sets::{Node, UnitSet};
+use unit_sets::UnitSet;
 
 /// The position at which the units outside the maximal structure are left out. `None` exactly where there is no structure.
-pub(crate) fn start(graph: &Graph) -> Option<Position>
+fn start(graph: &Graph) -> Option<Position>
     ensures { StartsAt (shape graph.now) result }
 {
     let Some(most) = maximal(graph, UnitSet::empty()) else {
         return None;
     };
     graph.is_proper();
+    most.rises();
     let others = UnitSet::below(graph.unit_count()).minus(most);
     Some(Position::start(graph, others))
 }
 
-/// The first allowed structure of all, or after `last`.
-pub(crate) fn next_structure<L: Ledger>(
-    graph: &Graph,
-    start: Option<Position>,
-    last: Option<UnitSet>,
-    steps: &mut Steps<L>,
-) -> Option<UnitSet>
-    requires start { StartsAt (shape graph.now) start }
-    requires last { IfSome last (λ s. IsStructure (shape graph.now) (has s)) }
-    ensures head { IsHead (shape graph.now) last result }
-    ensures few_tests { (shape graph.now).exclusions ≡ 0 → (m : List ℕ) → IsRising m → IsUnion (shape graph.now) (λ _. false) (has m) → steps.new ≤ steps.old + 2 * length m }
+/// The turns not taken on the way to a structure, or the position of all structures.
+pub(crate) fn stack_after(graph: &Graph, after: &Option<UnitSet>) -> Stack
+    requires { IfSome after.now (λ s. IsStructure (shape graph.now) (has s)) }
+    ensures { IsUnderWay (shape graph.now) result after.now }
 {
-    let Some(position) = start else {
-        return None;
+    let Some(position) = start(graph) else {
+        return Stack::new(Position::start(graph, UnitSet::empty()));
     };
-    let Some(set) = found_in(graph, &position, last, steps) else {
-        return None;
-    };
-    set.rises();
-    Some(set)
+    let mut stack = Stack::new(position);
+    match after {
+        None => stack.push(&position),
+        Some(set) => follow(graph, &mut stack, &position, *set),
+    }
+    stack
 }
 
-/// The first allowed structure of the position's node, or the first after `last`.
-fn found_in<L: Ledger>(
-    graph: &Graph,
-    position: &Position,
-    last: Option<UnitSet>,
-    steps: &mut Steps<L>,
-) -> Option<UnitSet>
-    requires position { IsPosition (shape graph.now) position.now }
-    requires promising { IsPromising (shape graph.now) position.now.decided.node }
-    requires last { IfSome last (λ s. IsWithinNode (shape graph.now) position.now.decided.node (has s)) }
-    ensures found { IsFoundIn (shape graph.now) position.now.decided.node last result }
-    ensures few_tests { (shape graph.now).exclusions ≡ 0 → steps.new ≤ steps.old + 2 * free_count (shape graph.now) position.now.decided.node }
-{
-    match last {
-        None => first_in(graph, position, steps),
-        Some(set) => next_in(graph, position, set, steps),
-    }
-}
-
-/// The first allowed structure of the position's node.
-fn first_in<L: Ledger>(graph: &Graph, position: &Position, steps: &mut Steps<L>) -> Option<UnitSet>
-    requires position { IsPosition (shape graph.now) position.now }
-    requires promising { IsPromising (shape graph.now) position.now.decided.node }
-    ensures found { IsFirstIn (shape graph.now) position.now.decided.node result }
-    ensures few_tests { (shape graph.now).exclusions ≡ 0 → steps.new ≤ steps.old + free_count (shape graph.now) position.now.decided.node }
-{
-    let Some(turn) = position.turn(graph) else {
-        return Some(position.decided.node.inside);
-    };
-    let left = turn.leaving(graph);
-    if has_some(graph, &left, steps) {
-        if let Some(set) = first_in(graph, &left, steps) {
-            return Some(set);
-        }
-        // Only an exclusion brings the search here.
-        let taken = turn.taking(graph);
-        if !is_promising(graph, &taken, steps) {
-            return None;
-        }
-        return first_in(graph, &taken, steps);
-    }
-    // Some structure is left, and none is without the unit: so one has it, and no test is needed.
-    let taken = turn.taking(graph);
-    if !is_allowed(graph, &taken) {
-        return None;
-    }
-    first_in(graph, &taken, steps)
-}
-
-/// The first allowed structure of the position's node after the set.
-fn next_in<L: Ledger>(
-    graph: &Graph,
-    position: &Position,
-    set: UnitSet,
-    steps: &mut Steps<L>,
-) -> Option<UnitSet>
-    requires position { IsPosition (shape graph.now) position.now }
-    requires within { IsWithinNode (shape graph.now) position.now.decided.node (has set) }
-    ensures found { IsNextIn (shape graph.now) position.now.decided.node (has set) result }
-    ensures few_tests { (shape graph.now).exclusions ≡ 0 → steps.new ≤ steps.old + next_cost result (free_count (shape graph.now) position.now.decided.node) }
+/// Follows the turns of the structure, and puts the position at which a unit is taken in on the stack where the structure has
+/// it not.
+fn follow(graph: &Graph, stack: &mut Stack, position: &Position, set: UnitSet)
+    requires none { stack.old ≡ [] }
+    requires start { IsStart (shape graph.now) position.now }
+    requires structure { IsStructure (shape graph.now) (has set) }
+    ensures { IsUnderWay (shape graph.now) stack.new (Some set) }
 {
     graph.is_proper();
-    let Some(turn) = position.turn(graph) else {
-        return None;
-    };
-    if set.has(turn.unit) {
-        let taken = turn.taking(graph);
-        return next_in(graph, &taken, set, steps);
+    let mut here = *position;
+    'follow: loop {
+        let Some(turn) = here.turn(graph) else {
+            return;
+        };
+        if set.has(turn.unit) {
+            here = taking(graph, &turn);
+        } else {
+            let Some(left) = leaving(graph, &turn) else {
+                return;
+            };
+            let taken = taking(graph, &turn);
+            stack.push(&taken);
+            here = left;
+        }
     }
-    let left = turn.leaving(graph);
-    if let Some(next) = next_in(graph, &left, set, steps) {
-        return Some(next);
+}
+
+/// The first allowed structure of the positions of the stack, which is then left with the others.
+pub(crate) fn next_structure<L: Ledger>(
+    graph: &Graph,
+    stack: &mut Stack,
+    steps: &mut Steps<L>,
+) -> Option<UnitSet>
+    requires stack { IsStack (shape graph.now) stack.old }
+    ensures stack { IsStack (shape graph.now) stack.new }
+    ensures finds { Finds (shape graph.now) stack.old result stack.new }
+    ensures end { IfNone result (stack.new ≡ []) }
+    ensures few_tests { (shape graph.now).exclusions ≡ 0 → (m : List ℕ) → IsRising m → IsUnion (shape graph.now) (λ _. false) (has m) → steps.new ≤ steps.old + length m }
+{
+    'pop: loop {
+        let Some(position) = stack.pop() else {
+            return None;
+        };
+        if is_allowed(graph, &position) {
+            if let Some(set) = first_in(graph, stack, &position, steps) {
+                return Some(set);
+            }
+        }
     }
-    let taken = turn.taking(graph);
-    if !is_promising(graph, &taken, steps) {
-        return None;
+}
+
+/// The first allowed structure of the position, which goes with the turns not taken on the stack.
+fn first_in<L: Ledger>(
+    graph: &Graph,
+    stack: &mut Stack,
+    position: &Position,
+    steps: &mut Steps<L>,
+) -> Option<UnitSet>
+    requires stack { IsStack (shape graph.now) (stack.old ++ position.now ∷ []) }
+    requires allowed { IsAllowed (shape graph.now) (has position.now.decided.node.inside) }
+    ensures stack { IsStack (shape graph.now) stack.new }
+    ensures finds { Finds (shape graph.now) (stack.old ++ position.now ∷ []) result stack.new }
+    ensures smaller { IfNone result (weight (shape graph.now) stack.new < weight (shape graph.now) (stack.old ++ position.now ∷ [])) }
+    ensures surely { IfNone result ((shape graph.now).exclusions ≡ 0 → ⊥) }
+    ensures few_tests { (shape graph.now).exclusions ≡ 0 → steps.new ≤ steps.old + free_count (shape graph.now) position.now.decided.node }
+{
+    graph.is_proper();
+    let mut here = *position;
+    'descend: loop {
+        let Some(turn) = here.turn(graph) else {
+            return Some(here.decided.node.inside);
+        };
+        let taken = taking(graph, &turn);
+        match leaving_counted(graph, &turn, steps) {
+            Some(left) => {
+                stack.push(&taken);
+                here = left;
+            }
+            None => {
+                // Each structure that is left has the unit.
+                if !is_allowed(graph, &taken) {
+                    return None;
+                }
+                here = taken;
+            }
+        }
     }
-    first_in(graph, &taken, steps)
 }
 
 /// Whether no exclusion has two of the units that are taken in.
@@ -134,25 +142,4 @@ fn is_allowed(graph: &Graph, position: &Position) -> bool
         None => true,
         Some(_) => false,
     }
-}
-
-/// Whether some structure, allowed or not, is left at the position. It counts one step.
-fn has_some<L: Ledger>(graph: &Graph, position: &Position, steps: &mut Steps<L>) -> bool
-    ensures some { IsTrue result ↔ ((o : ℕ → Bool) × IsWithinNode (shape graph.now) position.now.decided.node o) }
-    ensures counted { steps.new ≡ steps.old + 1 }
-{
-    let Node { inside, outside } = position.decided.node;
-    viable(graph, inside, outside, steps)
-}
-
-/// Whether some structure is left at the position, and the units that are taken in may stand together. An exclusion that
-/// has two of them is seen before any test is made.
-fn is_promising<L: Ledger>(graph: &Graph, position: &Position, steps: &mut Steps<L>) -> bool
-    ensures promising { IsTrue result ↔ IsPromising (shape graph.now) position.now.decided.node }
-    ensures counted { steps.new ≤ steps.old + 1 }
-{
-    if !is_allowed(graph, position) {
-        return false;
-    }
-    has_some(graph, position, steps)
 }

@@ -1,29 +1,34 @@
-use Rattle.std.proofs.Common.{subst, Option}
+use Rattle.std.proofs.Common.{◌≡◌, ◌<◌, sym, subst, arith}
+use Rattle.std.proofs.lemmas.Bool.{both_ways}
 use Rattle.pgraph.specs.Tables.{shape}
-use Rattle.decisions.specs.declared.position.Position.{Position}
-use Rattle.structure_list.specs.Family.{StartsAt}
-use Rattle.structure_list.proofs.StartLemmas.{no_head, last_within, head_none, head_some}
+use Rattle.structure_list.specs.Stack.{IsStack, HaveSame, weight}
+use Rattle.structure_list.proofs.StackLemmas.{front_stack, front_less, same_then, dropped_same, few_at}
 use Rattle.structure_list.proofs.search.next_structure.Goals as goal
 
-pub returns-in_default-clause-head : goal.returns-in_default-clause-head
-returns-in_default-clause-head g c =
-    let P = λ (o : Option Position). StartsAt (shape c.args.graph.now) o in
-    no_head (shape c.args.graph.now) c.args.last (subst P c.in_default.is c.requires.start)
+pub first_in-requires-clause-allowed : goal.first_in-requires-clause-allowed
+first_in-requires-clause-allowed g c = c.is_allowed.ensures.0 c.if-is_allowed.true
 
-pub found_in-requires-clause-last : goal.found_in-requires-clause-last
-found_in-requires-clause-last g c =
-    let P = λ (o : Option Position). StartsAt (shape c.args.graph.now) o in
-    let start = subst P c.in-Some.is c.requires.start in
-    last_within (shape c.args.graph.now) c.in-Some.position.decided.node start.has_all c.args.last c.requires.last
+pub returns-in-Some-first_in-clause-few_tests : goal.returns-in-Some-first_in-clause-few_tests
+returns-in-Some-first_in-clause-few_tests g c = λ none m up is.
+    let st = subst (λ k. IsStack (shape c.args.graph.now) k) c.in-Some.ensures.top c.pop.invariant.stack in
+    let few = few_at (shape c.args.graph.now) c.pop-in-pop.new.self c.in-Some.position st m up is in
+    let steps = c.in-Some-first_in.ensures.few_tests none in
+    let before = c.pop.invariant.no_step none in
+    omega (arith, few, steps, before)
 
-pub returns-in_default-found_in-clause-head : goal.returns-in_default-found_in-clause-head
-returns-in_default-found_in-clause-head g c =
-    let P = λ (o : Option Position). StartsAt (shape c.args.graph.now) o in
-    let start = subst P c.in-Some.is c.requires.start in
-    head_none (shape c.args.graph.now) c.in-Some.position.decided.node start.has_all c.args.last c.in_default-found_in.ensures.found
+pub pop-smaller : goal.pop-smaller
+pop-smaller g c =
+    subst (λ k. weight (shape c.args.graph.now) c.pop-in-pop.new.self < weight (shape c.args.graph.now) k) (sym c.in-Some.ensures.top)
+    (front_less (shape c.args.graph.now) c.pop-in-pop.new.self c.in-Some.position)
 
-pub returns-clause-head : goal.returns-clause-head
-returns-clause-head g c =
-    let P = λ (o : Option Position). StartsAt (shape c.args.graph.now) o in
-    let start = subst P c.in-Some.is c.requires.start in
-    head_some (shape c.args.graph.now) c.in-Some.position.decided.node start.has_all c.args.last c.in-Some-found_in.set c.rises.ensures.rising c.in-Some-found_in.ensures.found
+pub pop-preserved : goal.pop-preserved
+pop-preserved g c =
+    let s = shape c.args.graph.now in
+    let new = c.pop-in-pop.new.self in
+    record {
+      stack = front_stack s new c.in-Some.position (subst (λ k. IsStack s k) c.in-Some.ensures.top c.pop.invariant.stack);
+      same = same_then s c.args.stack.now c.pop.stack new c.pop.invariant.same
+          (subst (λ k. HaveSame s k new) (sym c.in-Some.ensures.top)
+          (dropped_same s new c.in-Some.position (λ p. both_ways c.is_allowed.result c.if-is_allowed.false (c.is_allowed.ensures.1 p))));
+      no_step = c.pop.invariant.no_step;
+    }
