@@ -32,6 +32,75 @@ pub record IsGiven (p : Problem) (start now : Rest) (many : ℕ) (old new : Opti
   pub last_is : last ≡ last_of given
   pub out : Appends old new (text_of (map (structure_line p) given))
 
+-- the structures that were given are the first of the listing; the lines of the first of these are out, and the others wait
+pub record IsGathered (p : Problem) (start now : Rest) (many : ℕ) (old mid : Option (List ℕ)) (bytes last : List ℕ) : Type 0 where
+  pub out_are : List (List ℕ)
+  pub waiting : List (List ℕ)
+  pub many_is : length (out_are ++ waiting) ≡ many
+  pub rest : (xs : List (List ℕ)) → IsToCome now xs ↔ IsToCome start ((out_are ++ waiting) ++ xs)
+  pub last_is : last ≡ last_of (out_are ++ waiting)
+  pub out : Appends old mid (text_of (map (structure_line p) out_are))
+  pub bytes_are : bytes ≡ text_of (map (structure_line p) waiting)
+
+pub none_gathered : (p : Problem) (start : Rest) (old : Option (List ℕ)) (bytes last : List ℕ) → bytes ≡ [] → last ≡ [] → IsGathered p start start 0 old old bytes last
+none_gathered p start old bytes last none e = record {
+  out_are = [];
+  waiting = [];
+  many_is = refl;
+  rest = λ xs. (λ h. h, λ h. h);
+  last_is = e;
+  out = Appends-nil old;
+  bytes_are = none;
+}
+
+module _ (p : Problem) (start now : Rest) (many : ℕ) (old mid : Option (List ℕ)) (bytes last : List ℕ) (g : IsGathered p start now many old mid bytes last) where
+  abbrev f : List ℕ → List ℕ
+  f = structure_line p
+
+  abbrev given : List (List ℕ)
+  given = g.out_are ++ g.waiting
+
+  -- one more line waits
+  pub gather_one : (after : Rest) (more r : List ℕ) → ((xs : List (List ℕ)) → IsToCome after xs ↔ IsToCome now (r ∷ xs)) → more ≡ bytes ++ line (f r) → IsGathered p start after (many + 1) old mid more r
+  gather_one after more r head more_is =
+      let all : g.out_are ++ (g.waiting ++ r ∷ []) ≡ given ++ r ∷ [] = sym (append_assoc g.out_are g.waiting (r ∷ [])) in
+      record {
+        out_are = g.out_are;
+        waiting = g.waiting ++ r ∷ [];
+        many_is = ap length all ∙ (let long = length-append given (r ∷ []) in let e = g.many_is in omega (arith, long, e));
+        rest = λ xs.
+            let there : (g.out_are ++ (g.waiting ++ r ∷ [])) ++ xs ≡ given ++ (r ∷ xs) = ap (λ ss. ss ++ xs) all ∙ append_assoc given (r ∷ []) xs in (
+              λ h. subst (IsToCome start) (sym there) ((g.rest (r ∷ xs)).0 ((head xs).0 h)),
+              λ h. (head xs).1 ((g.rest (r ∷ xs)).1 (subst (IsToCome start) there h)),
+            );
+        last_is = sym (ap last_of all ∙ last_of-push given r);
+        out = g.out;
+        bytes_are = more_is ∙ (ap (λ t. t ++ line (f r)) g.bytes_are ∙ (sym (text_of-push (map f g.waiting) (f r)) ∙ ap text_of (sym (map-append f g.waiting (r ∷ [])))));
+      }
+
+  -- those that wait are put
+  out_then : (new : Option (List ℕ)) → Appends mid new bytes → Appends old new (text_of (map f given))
+  out_then new put =
+      subst (λ t. Appends old new t)
+      (ap (λ t. text_of (map f g.out_are) ++ t) g.bytes_are ∙ (sym (flat_map-append line (map f g.out_are) (map f g.waiting)) ∙ ap text_of (sym (map-append f g.out_are g.waiting))))
+      (Appends-trans old mid new (text_of (map f g.out_are)) bytes g.out put)
+
+  pub given_then : (new : Option (List ℕ)) → Appends mid new bytes → IsGiven p start now many old new last
+  given_then new put = record { given = given; many_is = g.many_is; rest = g.rest; last_is = g.last_is; out = out_then new put }
+
+  pub gathered_then : (new : Option (List ℕ)) (none : List ℕ) → Appends mid new bytes → none ≡ [] → IsGathered p start now many old new none last
+  gathered_then new none put none_is =
+      let all : given ++ [] ≡ given = append-nil given in
+      record {
+        out_are = given;
+        waiting = [];
+        many_is = ap length all ∙ g.many_is;
+        rest = λ xs. subst (λ ss. IsToCome now xs ↔ IsToCome start (ss ++ xs)) (sym all) (g.rest xs);
+        last_is = g.last_is ∙ ap last_of (sym all);
+        out = out_then new put;
+        bytes_are = none_is;
+      }
+
 pub none_given : (p : Problem) (start : Rest) (old : Option (List ℕ)) (last : List ℕ) → last ≡ [] → IsGiven p start start 0 old old last
 none_given p start old last e = record {
   given = [];
@@ -156,3 +225,36 @@ module _ (p : Problem) where
             (ap (λ t. text_of (map f g.given) ++ t) piece_is ∙ (sym (text_of-push (map f g.given) (f r)) ∙ ap text_of (sym (map-append f g.given (r ∷ [])))))
             (Appends-trans old mid new (text_of (map f g.given)) piece g.out put);
       }
+
+module _ (p : Problem) (count : ℕ) (start now : Rest) (many : ℕ) (old mid : Option (List ℕ)) (bytes last : List ℕ) (g : IsGathered p start now many old mid bytes last) (le : many ≤ count) where
+  -- there is no memory for the next line, and those that wait are not put
+  pub starved_waiting : (risen' risen : Type 0) (later : risen' → risen) (new : Option (List ℕ)) (status : Status) (xs : List (List ℕ)) → IsToCome now xs → Ends (Only Memory (line (codes "memory"))) risen' mid new status → Ends (Tells (RestSays p count start)) risen old new status
+  starved_waiting risen' risen later new status xs is =
+      let short = length-append g.out_are g.waiting in
+      let e = g.many_is in
+      Ends-after (Only Memory (line (codes "memory"))) (Tells (RestSays p count start)) risen' risen old mid new status (text_of (map (structure_line p) g.out_are)) g.out
+      (only_in (λ s t. Tells (RestSays p count start) s (text_of (map (structure_line p) g.out_are) ++ t)) Memory (line (codes "memory"))
+      (memory_behind p count start g.out_are (g.waiting ++ xs) (omega (arith, short, e, le)) (subst (IsToCome start) (append_assoc g.out_are g.waiting xs) ((g.rest xs).0 is)))) later
+
+  -- the lines that wait are cut off
+  pub stopped_waiting : (risen : Type 0) (new : Option (List ℕ)) (xs : List (List ℕ)) → risen → IsToCome now xs → AppendsFront mid new bytes → Ends (Tells (RestSays p count start)) risen old new WriteFault
+  stopped_waiting risen new xs rose is front =
+      let f : List ℕ → List ℕ = structure_line p in
+      let given : List (List ℕ) = g.out_are ++ g.waiting in
+      let all : List (List ℕ) = given ++ xs in
+      let n : ℕ = count - many in
+      let behind : List (List ℕ) = map f (take n xs) ++ last_line count all ∷ [] in
+      let cut : listing_lines p count all ≡ map f given ++ behind = lines_cut p given xs count n (let e = g.many_is in omega (arith, e, le)) in
+      let text : text_of (listing_lines p count all) ≡ (text_of (map f g.out_are) ++ front.0) ++ (front.1 ++ text_of behind) =
+      ap text_of cut
+      ∙ (flat_map-append line (map f given) behind
+      ∙ (ap (λ t. t ++ text_of behind) (ap text_of (map-append f g.out_are g.waiting) ∙ (flat_map-append line (map f g.out_are) (map f g.waiting) ∙ ap (λ t. text_of (map f g.out_are) ++ t) (sym g.bytes_are ∙ front.2)))
+      ∙ (append_assoc (text_of (map f g.out_are)) (front.0 ++ front.1) (text_of behind)
+      ∙ (ap (λ t. text_of (map f g.out_are) ++ t) (append_assoc front.0 front.1 (text_of behind))
+      ∙ sym (append_assoc (text_of (map f g.out_are)) front.0 (front.1 ++ text_of behind)))))) in (
+        rose,
+        Done,
+        text_of (listing_lines p count all),
+        (listing_lines p count all, (refl, (all, (g.rest xs).0 is, refl)), refl),
+        (text_of (map f g.out_are) ++ front.0, front.1 ++ text_of behind, text, Appends-trans old mid new (text_of (map f g.out_are)) front.0 g.out front.3),
+      )

@@ -1,7 +1,8 @@
 //! The command `list`.
-ghost use Rattle.std.specs.Prelude.{◌≡◌, ◌≤◌, ◌<◌, ◌++◌, ◌∷◌, ◌↔◌, [], ℕ, List, Some, IfOk, IfSome, IfNone, OnOk, length, codes};
+ghost use Rattle.std.specs.Prelude.{◌≡◌, ◌≤◌, ◌<◌, ◌++◌, ◌∷◌, ◌↔◌, [], ℕ, List, Some, IfOk, IfSome, IfNone, OnOk, OnErr, length, codes};
 ghost use Rattle.number_sets.specs.Sets.{has, IsSet};
-ghost use Rattle.pns_io.specs.Outside.{HasRisen};
+ghost use Rattle.std.specs.Io.KnownBytes.{Appends};
+ghost use Rattle.pns_io.specs.Outside.{HasRisen, AppendsFront};
 ghost use Rattle.pns_rules.specs.Shape.{shape_of};
 ghost use Rattle.structure_list.specs.Tokens.{token_of};
 ghost use Rattle.structure_list.specs.Rest.{IsToCome};
@@ -17,7 +18,7 @@ use endings::line::push_unit_names;
 use endings::say::{say, say_memory, say_of};
 use max_structure::Steps;
 use pgraph::Graph;
-use pns_io::{Shelf, Sink};
+use pns_io::{Failed, Shelf, Sink};
 use pns_problem::Problem;
 use std::alloc::{AllocError, Global};
 use std::marker::Brand;
@@ -42,18 +43,17 @@ fn next(list: &mut StructureList<'_>) -> Option<UnitSet>
     next_counted::<Brand>(Blank::new(1), list)
 }
 
-// Makes the bytes the line of a structure.
-fn write_line(
+// Appends the line of a structure.
+fn push_line(
     alloc: Global,
     bytes: &mut Vec<u8>,
     problem: &Problem,
     set: UnitSet,
 ) -> Result<(), AllocError>
     requires { length problem.now.units ≤ 128 }
-    ensures { OnOk result (bytes.new.items ≡ line (structure_line problem.now set)) }
+    ensures { OnOk result (bytes.new.items ≡ bytes.old.items ++ line (structure_line problem.now set)) }
 {
     let token = print_token(alloc, set)?;
-    bytes.clear();
     bytes.extend_from_slice(token.as_bytes())?;
     push_unit_names(bytes, problem.units(), set)?;
     bytes.push(b'\n')?;
@@ -70,7 +70,23 @@ fn say_more<K: Sink>(alloc: Global, out: &mut K, last: UnitSet) -> Status
     }
 }
 
-// Puts the lines of the structures that are to come, at most `count`, and the last line.
+// Puts the lines that wait, and leaves none.
+fn put_waiting<K: Sink>(out: &mut K, bytes: &mut Vec<u8>) -> Result<(), Failed>
+    ensures ok { OnOk result (Appends (K.written out.old) (K.written out.new) bytes.old.items) }
+    ensures none { OnOk result (bytes.new.items ≡ []) }
+    ensures err { OnErr result (AppendsFront (K.written out.old) (K.written out.new) bytes.old.items) }
+    ensures cause { OnErr result (HasRisen (K.faults out.old) (K.faults out.new)) }
+    ensures later { K.faults out.old ≤ K.faults out.new }
+{
+    if !bytes.is_empty() {
+        out.put(bytes)?;
+        bytes.clear();
+    }
+    Ok(())
+}
+
+// Puts the lines of the structures that are to come, at most `count`, and the last line. The first line is put at once, and
+// then at most two, four, eight and so on together, until they have 8 KiB.
 fn say_rest<K: Sink>(
     alloc: Global,
     out: &mut K,
@@ -83,19 +99,33 @@ fn say_rest<K: Sink>(
 {
     let mut bytes = Vec::new(alloc);
     let mut last = UnitSet::empty();
+    let mut together = 1u64;
+    let mut room = 1u64;
     'giving: for given in 0..count {
         let Some(set) = next(list) else {
+            let Ok(()) = put_waiting(out, &mut bytes) else {
+                return Status::WriteFault;
+            };
             return say(out, b"end\n", Status::Done);
         };
         list.is_one();
-        let Ok(()) = write_line(alloc, &mut bytes, problem, set) else {
+        let Ok(()) = push_line(alloc, &mut bytes, problem, set) else {
             return say_memory(out);
         };
-        let Ok(()) = out.put(&bytes) else {
-            return Status::WriteFault;
-        };
         last = set;
+        room = room.saturating_sub(1);
+        if room == 0 || bytes.len() >= 8192 {
+            let Ok(()) = put_waiting(out, &mut bytes) else {
+                return Status::WriteFault;
+            };
+            together = together.saturating_mul(2);
+            room = together;
+        }
     }
+    list.is_one();
+    let Ok(()) = put_waiting(out, &mut bytes) else {
+        return Status::WriteFault;
+    };
     let Some(_) = next(list) else {
         return say(out, b"end\n", Status::Done);
     };
