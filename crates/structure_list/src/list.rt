@@ -21,7 +21,7 @@ pub enum OpenFault {
     /// The set has a unit that the problem has not, or breaks an axiom.
     #[error("the set is no solution structure of this problem")]
     NotAStructure,
-    /// There is no memory left. A listing holds a few sets, so it never comes today.
+    /// There is no memory left. A listing has its room in itself, so it never comes today.
     #[error("out of memory")]
     Memory,
 }

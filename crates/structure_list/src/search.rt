@@ -65,8 +65,8 @@ fn follow(graph: &Graph, stack: &mut Stack, position: &Position, set: UnitSet)
             let Some(left) = leaving(graph, &turn) else {
                 return;
             };
-            let taken = taking(graph, &turn);
-            stack.push(&taken);
+            let other = taking(graph, &turn);
+            stack.push(&other);
             here = left;
         }
     }

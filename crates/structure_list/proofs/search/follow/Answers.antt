@@ -38,18 +38,18 @@ returns-in_default-leaving c =
     (subst (λ n. IsWithinNode (shape c.args.graph.now) n (has c.args.set)) (sym c.in-Some.ensures.node) c.follow.invariant.within)
     (sym c.has.ensures ∙ c.if-has.false))
 
-pub taking-taken-requires-clause-tight : goal.taking-taken-requires-clause-tight
-taking-taken-requires-clause-tight c =
+pub taking-other-requires-clause-tight : goal.taking-other-requires-clause-tight
+taking-other-requires-clause-tight c =
     tight_here (shape c.args.graph.now) c.in-Some.turn.position.decided.node c.follow.here.decided.node c.in-Some.ensures.node
     (top_tight (shape c.args.graph.now) c.follow.stack c.follow.here c.follow.invariant.stack)
 
 pub push-requires : goal.push-requires
 push-requires c =
     is_room (shape c.args.graph.now) c.follow.stack c.follow.here c.in-Some.turn c.in-Some.ensures.turn c.in-Some.ensures.node
-    c.taking-taken.result c.taking-taken.ensures.side c.follow.invariant.stack
+    c.taking-other.result c.taking-other.ensures.side c.follow.invariant.stack
 
 pub follow-preserved : goal.follow-preserved
 follow-preserved c =
     subst (λ k. IsFollowing (shape c.args.graph.now) (has c.args.set) k c.in-Some-leaving.left) (sym c.push.ensures)
     (follow_out (shape c.args.graph.now) (has c.args.set) c.follow.stack c.follow.here c.in-Some.turn c.in-Some.ensures.turn c.in-Some.ensures.node
-    c.taking-taken.result c.taking-taken.ensures.side c.follow.invariant c.in-Some-leaving.left c.in-Some-leaving.ensures.side (sym c.has.ensures ∙ c.if-has.false))
+    c.taking-other.result c.taking-other.ensures.side c.follow.invariant c.in-Some-leaving.left c.in-Some-leaving.ensures.side (sym c.has.ensures ∙ c.if-has.false))
