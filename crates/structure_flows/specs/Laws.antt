@@ -5,7 +5,8 @@ use Rattle.number_sets.specs.Sets.{has, IsSet}
 use Rattle.problem_rules.specs.Problem.{Problem}
 use Rattle.problem_rules.specs.Validity.{IsValid}
 use Rattle.pns_rules.specs.Shape.{shape_of}
-use Rattle.pns_rules.specs.Structure.{IsStructure}
+use Rattle.pns_rules.specs.Structure.{IsStructure, IsAllowed}
+use Rattle.pns_rules.specs.Ends.{IsSound, IsDecided}
 use Rattle.flow_rules.specs.Net.{net_of, beside}
 use Rattle.flow_rules.specs.Relaxed.{units, Refutes}
 use Rattle.tree_rules.specs.Claim.{Network}
@@ -28,3 +29,9 @@ abbrev pub NodeIsDecided : Type 0
 NodeIsDecided =
     (p : Problem) (us : List ℕ) → IsSet (length p.units) us
     → ((i : ℕ) → i < length p.units → (decided p us).outside i ≡ not ((decided p us).inside i)) × (units (net_of p) (decided p us) ≡ us)
+
+-- the node of an allowed solution structure is sound, and one where all is decided
+abbrev pub AllowedIsDecided : Type 0
+AllowedIsDecided =
+    (p : Problem) → IsValid p → (us : List ℕ) → IsStructure (shape_of p) (has us) → IsAllowed (shape_of p) (has us)
+    → IsSound (shape_of p) (decided p us) × IsDecided (shape_of p) (decided p us)

@@ -1,7 +1,8 @@
 // Laws of the flows of a solution structure.
-ghost use Rattle.structure_flows.specs.Laws.{ProvedIsLeast, RefutedHasNone, NodeIsDecided};
+ghost use Rattle.structure_flows.specs.Laws.{ProvedIsLeast, RefutedHasNone, NodeIsDecided, AllowedIsDecided};
 
 use flow_rules::{refutation, weak_duality};
+use pns_rules::valid_is_proper;
 
 /// Flows whose cost is the bound of multipliers cost the least of all, and where multipliers refute there are none.
 pub fn multipliers_prove()
@@ -16,3 +17,10 @@ pub fn multipliers_prove()
 pub fn node_is_decided()
     ensures { NodeIsDecided }
 {}
+
+/// The node of an allowed solution structure is sound, no step is possible there, and all is decided.
+pub fn allowed_is_decided()
+    ensures { AllowedIsDecided }
+{
+    valid_is_proper();
+}

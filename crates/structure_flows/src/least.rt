@@ -12,10 +12,11 @@ ghost use Rattle.dual_simplex.specs.Bench.{IsLeastOf, IsNoneOf};
 ghost use Rattle.dual_simplex.specs.PastLaws.{IsPastHere};
 ghost use Rattle.structure_flows.specs.Flows.{decided};
 ghost use Rattle.structure_flows.specs.Answers.{AnswersFor};
-ghost use Rattle.pgraph.specs.View.{node_of};
 
 use crate::answer::StructureFlows;
+use crate::certified::certified;
 use crate::laws::{multipliers_prove, node_is_decided};
+use crate::nodes::node_of;
 use branch_tree::{Columns, Multipliers, Network, Scaled};
 use dual_simplex::{
     Bench, Ends, cost_is_past, entry_is_past, flow_is_past, least_is_least, none_is_refuted,
@@ -26,20 +27,7 @@ use flow_rules::sums_are_last;
 use pgraph::Graph;
 use pns_problem::Problem;
 use std::alloc::{AllocError, Global};
-use unit_sets::{Node, UnitSet};
-
-/// The node at which the units are taken in and all others left out.
-fn node_of(problem: &Problem, set: UnitSet) -> Node
-    requires { length problem.now.units < 129 }
-    ensures node { node_of result ≡ decided problem.now set }
-    ensures inside { result.inside ≡ set }
-{
-    let all = UnitSet::below(problem.units().len() as u32);
-    Node {
-        inside: set,
-        outside: all.minus(set),
-    }
-}
+use unit_sets::UnitSet;
 
 fn past(
     alloc: Global,
@@ -130,8 +118,8 @@ fn least(
     }
 }
 
-/// The flows of a solution structure, allowed or not.
-pub fn flows_of(
+/// What the path of the set's program gives.
+fn walked(
     alloc: Global,
     problem: &Problem,
     graph: &Graph,
@@ -156,5 +144,29 @@ pub fn flows_of(
         Ok(Ends::Least) => least(alloc, problem, graph, set, &program, &mut bench),
         Ok(Ends::None) => refuted(alloc, problem, set, &program, &bench),
         Err(place) => past(alloc, problem, set, &bench, place),
+    }
+}
+
+/// The flows of a solution structure, allowed or not: what the path of its program gives, and where a number on the path is out of
+/// range, what is certified without it.
+pub fn flows_of(
+    alloc: Global,
+    problem: &Problem,
+    graph: &Graph,
+    set: UnitSet,
+) -> Result<StructureFlows, AllocError>
+    requires graph { shape graph.now ≡ shape_of problem.now }
+    requires known { (u : ℕ) → has set u ≡ true → u < length problem.now.units }
+    requires structure { IsStructure (shape_of problem.now) (has set) }
+    ensures { IfOk result (AnswersFor problem.now set) }
+{
+    match walked(alloc, problem, graph, set)? {
+        StructureFlows::Past { nonbasic, place } => {
+            match certified(alloc, problem, graph, set)? {
+                Some(flows) => Ok(flows),
+                None => Ok(StructureFlows::Past { nonbasic, place }),
+            }
+        }
+        told => Ok(told),
     }
 }

@@ -6,9 +6,11 @@
 #![tactic(auto)]
 
 mod answer;
+mod certified;
 mod laws;
 mod least;
+mod nodes;
 
 pub use answer::StructureFlows;
-pub use laws::{multipliers_prove, node_is_decided};
+pub use laws::{allowed_is_decided, multipliers_prove, node_is_decided};
 pub use least::flows_of;

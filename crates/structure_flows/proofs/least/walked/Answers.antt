@@ -5,7 +5,7 @@ use Rattle.branch_tree.specs.Known.{KnowsPlace}
 use Rattle.dual_simplex.specs.PastPlace.{IsPastOf}
 use Rattle.structure_flows.specs.Flows.{decided}
 use Rattle.structure_flows.proofs.KnownLemmas.{entry_known}
-use Rattle.structure_flows.proofs.least.flows_of.Goals as goal
+use Rattle.structure_flows.proofs.least.walked.Goals as goal
 
 pub open-requires-clause-units : goal.open-requires-clause-units
 open-requires-clause-units c =

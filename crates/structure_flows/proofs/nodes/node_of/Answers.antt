@@ -4,7 +4,7 @@ use Rattle.std.proofs.Math.Path.{fun_ext}
 use Rattle.number_sets.specs.Sets.{has}
 use Rattle.number_sets.proofs.SetLemmas.{has-minus}
 use Rattle.pns_rules.specs.Nodes.{Node}
-use Rattle.structure_flows.proofs.least.node_of.Goals as goal
+use Rattle.structure_flows.proofs.nodes.node_of.Goals as goal
 
 pub returns-clause-node : goal.returns-clause-node
 returns-clause-node c =

@@ -1,0 +1,85 @@
+// The flows of an allowed set of units, without the path of its program.
+ghost use Rattle.std.specs.Prelude.{◌≡◌, ◌<◌, ℕ, length, true, IfOk, IfSome};
+ghost use Rattle.number_sets.specs.Sets.{has};
+ghost use Rattle.pns_rules.specs.Shape.{shape_of};
+ghost use Rattle.pns_rules.specs.Structure.{IsStructure};
+ghost use Rattle.pgraph.specs.Tables.{shape};
+ghost use Rattle.tree_rules.specs.Leaf.{IsRefuted};
+ghost use Rattle.certified_bounds.specs.Certified.{IsLeastBound, IsNetworkAt, HasUnits, IsCertified};
+ghost use Rattle.structure_flows.specs.Flows.{decided};
+ghost use Rattle.structure_flows.specs.Answers.{AnswersFor};
+
+use crate::answer::StructureFlows;
+use crate::laws::{allowed_is_decided, multipliers_prove};
+use crate::nodes::node_of;
+use branch_tree::{Multipliers, Network};
+use certified_bounds::{Certified, CertifiedBounds, LeastBound};
+use flow_rules::weak_duality;
+use pgraph::Graph;
+use pns_problem::Problem;
+use std::alloc::{AllocError, Global};
+use unit_sets::UnitSet;
+
+/// The network with the multipliers of its bound, which is its cost.
+fn least(problem: &Problem, set: UnitSet, bound: LeastBound, network: Network) -> StructureFlows
+    requires bound { IsLeastBound problem.now (decided problem.now set) bound }
+    requires network { IsNetworkAt problem.now bound.value network }
+    requires exact { bound.low ≡ bound.value }
+    requires units { HasUnits (decided problem.now set) network }
+    ensures { AnswersFor problem.now set result }
+{
+    problem.is_valid();
+    multipliers_prove();
+    weak_duality();
+    set.rises();
+    network.is_sized();
+    let bound = bound.scaled;
+    bound.are_in_range();
+    StructureFlows::Least { network, bound }
+}
+
+fn refuted(problem: &Problem, set: UnitSet, ys: Multipliers) -> StructureFlows
+    requires structure { IsStructure (shape_of problem.now) (has set) }
+    requires refuted { IsRefuted problem.now (decided problem.now set) ys }
+    ensures { AnswersFor problem.now set result }
+{
+    problem.is_valid();
+    multipliers_prove();
+    StructureFlows::Refuted { ys }
+}
+
+/// What is told of the node of the set, if anything.
+fn told(problem: &Problem, set: UnitSet, certified: Certified) -> Option<StructureFlows>
+    requires structure { IsStructure (shape_of problem.now) (has set) }
+    requires certified { IsCertified problem.now (decided problem.now set) true certified }
+    ensures { IfSome result (AnswersFor problem.now set) }
+{
+    match certified {
+        Certified::Flows(bound, network) => Some(least(problem, set, bound, network)),
+        Certified::Refuted(ys) => Some(refuted(problem, set, ys)),
+        Certified::Least(_) | Certified::Nothing => None,
+    }
+}
+
+/// What is certified of the flows of the set, if anything. Only a set that is allowed is asked for, since a network that is certified is allowed.
+pub(crate) fn certified(
+    alloc: Global,
+    problem: &Problem,
+    graph: &Graph,
+    set: UnitSet,
+) -> Result<Option<StructureFlows>, AllocError>
+    requires graph { shape graph.now ≡ shape_of problem.now }
+    requires known { (u : ℕ) → has set u ≡ true → u < length problem.now.units }
+    requires structure { IsStructure (shape_of problem.now) (has set) }
+    ensures { IfOk result (λ found. IfSome found (AnswersFor problem.now set)) }
+{
+    problem.is_valid();
+    allowed_is_decided();
+    if let Some(_) = graph.clash(set) {
+        return Ok(None);
+    }
+    let node = node_of(problem, set);
+    let mut bounds = CertifiedBounds::open(alloc, problem)?;
+    let certified = bounds.look(alloc, problem, graph, node, true)?;
+    Ok(told(problem, set, certified))
+}
