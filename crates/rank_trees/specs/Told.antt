@@ -1,0 +1,71 @@
+-- What is told of a search for the best networks: the networks with a ranked tree, whole, or as far as the search came.
+use Rattle.std.specs.Prelude.{◌≡◌, ◌⊎◌, ℕ, ◌+◌, ◌-◌, ◌^◌, ◌<◌, Bool, List, length, Option, Some}
+use Rattle.problem_rules.specs.Each.{Each}
+use Rattle.problem_rules.specs.Problem.{Problem}
+use Rattle.pns_rules.specs.Shape.{shape_of}
+use Rattle.tree_rules.specs.Ways.{Way, options_at}
+use Rattle.tree_rules.specs.Tree.{leaf}
+use Rattle.tree_rules.specs.Claim.{Network, CostOver}
+use Rattle.tree_rules.specs.Leaf.{untried}
+use Rattle.tree_rules.specs.Lean.{IsLean}
+use Rattle.tree_rules.specs.Stops.{IsPending, IsNextCount, IsSpent}
+use Rattle.tree_rules.specs.Accepted.{Tree, first_node}
+use Rattle.rank_rules.specs.Leaf.{Leaf, plain}
+use Rattle.rank_rules.specs.Networks.{to_undercut}
+use Rattle.rank_rules.specs.Ranked.{Proves}
+use Rattle.branch_tree.specs.Scaled.{Scaled}
+use Rattle.branch_tree.specs.Known.{KnowsTree}
+use Rattle.ranked_tree.specs.Marked.{Mark, marked}
+use Rattle.ranked_tree.specs.Text.{IsCounted}
+use Rattle.rank_text.specs.Known.{KnowsNetwork}
+use Rattle.search_tree.specs.Cells.{place_of, cell_at}
+use Rattle.turn_laws.specs.Kept.{LastIsBelow}
+use Rattle.turn_laws.specs.Turns.{CanBranch, IsLeastOpen}
+use Rattle.abb_search.specs.declared.growing.Growing.{Growing}
+use Rattle.abb_search.specs.Closing.{ShutAll}
+use Rattle.abb_search.specs.Found.{IsBelowLimit}
+use Rattle.found_networks.specs.Found.{FoundAt, undercut_by}
+
+-- an open leaf of a ranked tree
+abbrev pub IsOpenLeaf : Leaf → Type 0
+IsOpenLeaf l = l ≡ plain untried
+
+-- ---- what is told
+
+-- so many networks were asked for, and these with the tree and its marks are a ranked tree, whole or partial, and lean. All numbers are
+-- the problem's.
+pub record IsTelling (partial : Bool) (p : Problem) (count : ℕ) (ws : List Network) (tree : Tree) (marks : List Mark) : Type 0 where
+  pub proves : Proves partial p (record { count = count; networks = ws; tree = marked marks tree })
+  pub lean : IsLean p IsOpenLeaf (to_undercut count ws) first_node (marked marks tree)
+  pub counted : IsCounted count ws marks
+  pub of_networks : Each (KnowsNetwork p) ws
+  pub of_tree : KnowsTree p tree
+  pub few : length tree < 2 ^ 32 - 1
+
+-- the leaf at the place is branched next, into so many children, for which the budget does not last
+pub record IsSpentTelling (p : Problem) (count : ℕ) (ws : List Network) (tree : Tree) (marks : List Mark) (place options budget : ℕ) : Type 0 where
+  pub spent : IsSpent p IsOpenLeaf (to_undercut count ws) first_node (marked marks tree) place options budget
+  pub below_limit : IsBelowLimit p budget
+
+-- ---- where it is told
+
+-- no leaf is open
+abbrev pub NoneIsOpen : Growing → Type 0
+NoneIsOpen s = (j : ℕ) → j < length s.pool.payloads → (cell_at s.pool.payloads j).end ≡ leaf untried → ⊥
+
+-- or the multipliers shut all open leaves against the last of as many networks as are asked for
+abbrev pub AreShutAgainst : Problem → Growing → Option CostOver → List (Option Scaled) → Type 0
+AreShutAgainst p s undercut proofs = NoneIsOpen s ⊎ ((cost : CostOver) × (undercut ≡ Some cost) × ShutAll p s cost proofs)
+
+-- all open leaves are pending, the leaf is a least one, which may undercut the cost, and the nodes with its children are more than the
+-- budget
+pub record IsSpentFor (p : Problem) (undercut : Option CostOver) (s : Growing) (at options : ℕ) : Type 0 where
+  pub value : CostOver
+  pub way : Way
+  pub can : CanBranch p s.pool.payloads at way value
+  pub least : IsLeastOpen p s.pool.payloads at value
+  pub below : LastIsBelow (Some value) undercut
+  pub pending : (j : ℕ) → j < length s.pool.payloads → (cell_at s.pool.payloads j).end ≡ leaf untried → IsPending p (place_of (cell_at s.pool.payloads j))
+  pub count_is : IsNextCount (shape_of p) (place_of (cell_at s.pool.payloads at)) options
+  pub as_many : options ≡ length (options_at (shape_of p) (place_of (cell_at s.pool.payloads at)) way)
+  pub over : s.budget < length s.pool.payloads + options
