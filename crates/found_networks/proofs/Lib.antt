@@ -1,0 +1,3 @@
+pub mod BestLemmas
+pub mod CostLemmas
+pub mod PlaceLemmas

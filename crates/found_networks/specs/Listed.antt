@@ -47,8 +47,12 @@ pub record IsAdded (old new : Listed) (f : FoundAt) : Type 0 where
   pub count_is : new.count ≡ old.count
   pub new_is : new.found ≡ take old.count (before ++ f ∷ after)
 
+-- so it is where there is one
+abbrev pub IsSomeAdded : Listed → Listed → ℕ → Option Network → Type 0
+IsSomeAdded old new leaf None = new ≡ old
+IsSomeAdded old new leaf (Some w) = IsAdded old new (record { network = w; leaf = leaf })
+
 -- the networks are added in turn, the first at the leaf of this number, the next at the leaf behind it
 abbrev pub AreAdded : Listed → Listed → ℕ → List (Option Network) → Type 0
 AreAdded old new first [] = new ≡ old
-AreAdded old new first (None ∷ ws) = AreAdded old new (suc first) ws
-AreAdded old new first (Some w ∷ ws) = (mid : Listed) × IsAdded old mid (record { network = w; leaf = first }) × AreAdded mid new (suc first) ws
+AreAdded old new first (w ∷ ws) = (mid : Listed) × IsSomeAdded old mid first w × AreAdded mid new (suc first) ws

@@ -2,7 +2,7 @@
 ghost use Rattle.std.specs.Prelude.{◌≡◌, ◌≤◌, ◌+◌, ◌<◌, ◌^◌, [], length, take, drop, OnOk, OnErr, option_copied};
 ghost use Rattle.node_looks.specs.Looks.{cost_of};
 ghost use Rattle.found_networks.specs.Found.{undercut_by};
-ghost use Rattle.found_networks.specs.Listed.{IsListed, IsAdded, AreAdded, AreNoDearer, AreDearer};
+ghost use Rattle.found_networks.specs.Listed.{IsListed, IsAdded, IsSomeAdded, AreAdded, AreNoDearer, AreDearer};
 
 use branch_tree::Network;
 use node_looks::costs_no_more;
@@ -119,6 +119,16 @@ impl FoundNetworks {
         Ok(())
     }
 
+    /// Adds a network that was found at a leaf, where there is one.
+    fn add_some(&mut self, network: Option<Network>, leaf: u32) -> Result<(), AllocError>
+        ensures { OnOk result (IsSomeAdded self.old self.new leaf network) }
+    {
+        match network {
+            None => Ok(()),
+            Some(network) => self.add(network, leaf),
+        }
+    }
+
     /// Adds in turn the networks that were found at the leaves of the numbers from `first` on. `Err` comes for want of memory alone.
     pub fn add_all(&mut self, networks: Vec<Option<Network>>, first: u32) -> Result<(), AllocError>
         requires { first + length networks.items < 2 ^ 32 }
@@ -126,9 +136,7 @@ impl FoundNetworks {
     {
         let mut leaf = first;
         'networks: for network in networks {
-            if let Some(network) = network {
-                self.add(network, leaf)?;
-            }
+            self.add_some(network, leaf)?;
             leaf += 1;
         }
         Ok(())

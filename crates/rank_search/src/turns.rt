@@ -1,28 +1,153 @@
 //! The turns of a search for the best networks, and the loop over them.
-ghost use Rattle.std.specs.Prelude.{◌≡◌, ◌≤◌};
+ghost use Rattle.std.specs.Prelude.{◌≡◌, ◌≤◌, IfOk, Some, option_copied, length};
 ghost use Rattle.pns_rules.specs.Shape.{shape_of};
 ghost use Rattle.pgraph.specs.Tables.{shape};
-ghost use Rattle.rank_search.specs.Ranked.{IsRankedBy};
+ghost use Rattle.neutral_extension.specs.Candidates.{AreMakersOf};
+ghost use Rattle.tree_rules.specs.Claim.{CostOver};
+ghost use Rattle.node_looks.specs.Evaluated.{cost_in};
+ghost use Rattle.abb_search.specs.Closing.{AreBeaten};
+ghost use Rattle.abb_search.specs.Growing.{IsGrowingFor};
+ghost use Rattle.found_networks.specs.Found.{undercut_by};
+ghost use Rattle.rank_search.specs.Turns.{IsRanking, IsBeating, EndsWith, IsRankEnd, TurnHolds};
 
-use crate::outcome::Ranked;
+use abb_search::{
+    Closing, Growing, HaltedLeaf, branch_leaf, choice_at, close_all, is_over, node_at, reaches,
+};
+use branch_tree::{Network, Scaled};
+use found_networks::FoundNetworks;
+use mixed_numbers::Mixed;
+use neutral_extension::Makers;
 use node_looks::Evaluator;
 use pgraph::Graph;
 use pns_problem::Problem;
-use std::alloc::Global;
+use std::alloc::{AllocError, Global};
 
-/// Searches all structures of the problem for so many networks whose flows are cheapest, within a budget of nodes.
-pub fn rank_with<E: Evaluator + Drop>(
+/// How a search ends.
+#[derive(Drop)]
+pub(crate) enum Ending {
+    /// No leaf is open, or these multipliers shut each that is, by its number.
+    Whole(Vec<Option<Scaled>>),
+    /// The leaf would be branched next, into too many children.
+    Spent { leaf: u32, options: u128 },
+    /// A number is past the range at an open leaf.
+    Past(HaltedLeaf),
+}
+
+/// The network that is to be undercut, where it costs no more than the value.
+fn beating<'a>(found: &'a FoundNetworks, value: &Mixed) -> Option<&'a Network>
+    ensures { IsBeating found.now value.now (option_copied result) }
+{
+    let network = found.to_beat()?;
+    if reaches(value, network) {
+        Some(network)
+    } else {
+        None
+    }
+}
+
+/// Tells how the search ends where the network that is to be undercut costs no more than any open leaf.
+fn close<E: Evaluator>(
     alloc: Global,
-    evaluator: E,
+    evaluator: &mut E,
     problem: &Problem,
     graph: &Graph,
-    count: u32,
-    budget: u32,
-) -> Ranked
+    growing: &Growing,
+    found: &FoundNetworks,
+    network: &Network,
+) -> Result<Ending, AllocError>
     requires graph { shape graph.now ≡ shape_of problem.now }
-    requires asked { 1 ≤ count }
-    requires some { 1 ≤ budget }
-    ensures { IsRankedBy E.past problem.now count budget result }
+    requires growing { (undercut : Option CostOver) × IsGrowingFor problem.now undercut growing.now }
+    requires last { undercut_by found.now.count found.now.found ≡ Some (cost_in network.now) }
+    requires beaten { AreBeaten growing.now network.now }
+    ensures { IfOk result (EndsWith E.past problem.now growing.now found.now) }
 {
-    Ranked::Memory
+    match close_all(alloc, evaluator, problem, graph, growing, network)? {
+        Closing::Proved(proofs) => Ok(Ending::Whole(proofs)),
+        Closing::Halted(halted) => Ok(Ending::Past(halted)),
+    }
+}
+
+/// Branches the open leaf of least value and adds what is found at its children, or tells how the search ends. No leaf halts it.
+fn go_on<E: Evaluator>(
+    alloc: Global,
+    evaluator: &mut E,
+    problem: &Problem,
+    graph: &Graph,
+    makers: &mut Makers,
+    growing: &mut Growing,
+    found: &mut FoundNetworks,
+) -> Result<Option<Ending>, AllocError>
+    requires graph { shape graph.now ≡ shape_of problem.now }
+    requires same { AreMakersOf (shape graph.now) makers.old.makers }
+    requires ranking { IsRanking E.past problem.now growing.old.budget growing.old found.old }
+    requires goes_on { growing.old.halt ≡ None }
+    ensures holds { IfOk result (TurnHolds E.past problem.now growing.old.budget growing.old growing.new found.new) }
+    ensures makers { makers.new.makers ≡ makers.old.makers }
+{
+    problem.is_valid();
+    growing.pool.is_pool();
+    let Some(leaf) = growing.pool.least() else {
+        return Ok(Some(Ending::Whole(Vec::new(alloc))));
+    };
+    let value = growing.pool.value(leaf);
+    if let Some(network) = beating(found, &value) {
+        let ending = close(alloc, evaluator, problem, graph, growing, found, network)?;
+        return Ok(Some(ending));
+    }
+    let choice = choice_at(growing, leaf);
+    let options = choice.options();
+    if is_over(options, growing.nodes, growing.budget) {
+        return Ok(Some(Ending::Spent { leaf, options }));
+    }
+    let node = node_at(&growing.pool, leaf);
+    let first = growing.nodes;
+    let networks = branch_leaf(
+        alloc, evaluator, problem, graph, makers, growing, leaf, node, choice, true,
+    )?;
+    found.add_all(networks, first)?;
+    Ok(None)
+}
+
+/// Makes the nodes more, or tells how the search ends.
+fn turn<E: Evaluator>(
+    alloc: Global,
+    evaluator: &mut E,
+    problem: &Problem,
+    graph: &Graph,
+    makers: &mut Makers,
+    growing: &mut Growing,
+    found: &mut FoundNetworks,
+) -> Result<Option<Ending>, AllocError>
+    requires graph { shape graph.now ≡ shape_of problem.now }
+    requires same { AreMakersOf (shape graph.now) makers.old.makers }
+    requires ranking { IsRanking E.past problem.now growing.old.budget growing.old found.old }
+    ensures holds { IfOk result (TurnHolds E.past problem.now growing.old.budget growing.old growing.new found.new) }
+    ensures makers { makers.new.makers ≡ makers.old.makers }
+{
+    match growing.halt.take() {
+        Some(halted) => Ok(Some(Ending::Past(halted))),
+        None => go_on(alloc, evaluator, problem, graph, makers, growing, found),
+    }
+}
+
+/// Takes turns until the search ends.
+pub(crate) fn run<E: Evaluator>(
+    alloc: Global,
+    evaluator: &mut E,
+    problem: &Problem,
+    graph: &Graph,
+    makers: &mut Makers,
+    growing: &mut Growing,
+    found: &mut FoundNetworks,
+) -> Result<Ending, AllocError>
+    requires graph { shape graph.now ≡ shape_of problem.now }
+    requires same { AreMakersOf (shape graph.now) makers.old.makers }
+    requires ranking { IsRanking E.past problem.now growing.old.budget growing.old found.old }
+    ensures { IfOk result (IsRankEnd E.past problem.now growing.old.budget growing.new found.new) }
+{
+    'turns: loop {
+        if let Some(ending) = turn(alloc, evaluator, problem, graph, makers, growing, found)? {
+            return Ok(ending);
+        }
+    }
 }

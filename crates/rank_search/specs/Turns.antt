@@ -1,0 +1,59 @@
+-- What a search for the best networks keeps between two turns, and how it ends.
+use Rattle.std.specs.Prelude.{◌≡◌, ◌⊎◌, ℕ, ◌<◌, List, length, Option, Some, None}
+use Rattle.problem_rules.specs.Problem.{Problem}
+use Rattle.pgraph.specs.View.{node_of}
+use Rattle.tree_rules.specs.Claim.{Network, CostOver}
+use Rattle.tree_rules.specs.Accepted.{first_node}
+use Rattle.branch_tree.specs.Scaled.{Scaled}
+use Rattle.mixed_numbers.specs.declared.number.Mixed.{Mixed}
+use Rattle.turn_laws.specs.Values.{IsNoMore}
+use Rattle.turn_laws.specs.Kept.{LastIsBelow}
+use Rattle.node_looks.specs.Evaluated.{PastPlaces, cost_over, cost_in}
+use Rattle.abb_search.specs.declared.growing.Growing.{Growing}
+use Rattle.abb_search.specs.Growing.{IsTreeKeptFor, GoesOnFor, IsHaltedAt}
+use Rattle.found_networks.specs.Found.{AreBest, undercut_by}
+use Rattle.found_networks.specs.Listed.{Listed}
+use Rattle.rank_trees.specs.Told.{AreShutAgainst, IsSpentFor}
+use Rattle.rank_search.specs.declared.turns.Ending.{Ending}
+use Rattle.rank_search.specs.declared.turns.Ending.TheVariants as endings
+
+-- the search starts where nothing is decided, and has this budget; its tree is kept for networks that undercut the last one of the list,
+-- where as many stand as are asked for; and the list has the best networks that were found
+pub record IsRankTree (p : Problem) (budget : ℕ) (s : Growing) (l : Listed) : Type 0 where
+  pub start : node_of s.start ≡ first_node
+  pub budget_is : s.budget ≡ budget
+  pub kept : IsTreeKeptFor p (undercut_by l.count l.found) s
+  pub best : AreBest p l.count s.pool.payloads l.found
+
+-- and all is at hand for each open leaf, or one halts the search
+pub record IsRanking (Past : PastPlaces) (p : Problem) (budget : ℕ) (s : Growing) (l : Listed) : Type 0 where
+  pub start : node_of s.start ≡ first_node
+  pub budget_is : s.budget ≡ budget
+  pub going : GoesOnFor Past p (undercut_by l.count l.found) s s.halt
+  pub best : AreBest p l.count s.pool.payloads l.found
+
+-- the network is the one to be undercut, and costs no more than the value; or the value is below what is to be undercut
+abbrev pub IsBeating : Listed → Mixed → Option Network → Type 0
+IsBeating l value None = LastIsBelow (Some (cost_over value)) (undercut_by l.count l.found)
+IsBeating l value (Some w) = (undercut_by l.count l.found ≡ Some (cost_in w)) × IsNoMore (cost_in w) (cost_over value)
+
+-- how the search ends
+abbrev pub EndsWith : PastPlaces → Problem → Growing → Listed → Ending → Type 0
+EndsWith Past p s l (endings.Whole proofs) = AreShutAgainst p s (undercut_by l.count l.found) proofs.items
+EndsWith Past p s l (endings.Spent at options) = (at < length s.pool.payloads) × IsSpentFor p (undercut_by l.count l.found) s at options
+EndsWith Past p s l (endings.Past h) = IsHaltedAt Past p s h.leaf h.halt
+
+-- the search ends so
+pub record IsRankEnd (Past : PastPlaces) (p : Problem) (budget : ℕ) (s : Growing) (l : Listed) (ending : Ending) : Type 0 where
+  pub tree : IsRankTree p budget s l
+  pub ends : EndsWith Past p s l ending
+
+-- it goes on with more nodes
+pub record IsMore (Past : PastPlaces) (p : Problem) (budget : ℕ) (old new : Growing) (l : Listed) : Type 0 where
+  pub ranking : IsRanking Past p budget new l
+  pub more : length old.pool.payloads < length new.pool.payloads
+
+-- what a turn answers
+abbrev pub TurnHolds : PastPlaces → Problem → ℕ → Growing → Growing → Listed → Option Ending → Type 0
+TurnHolds Past p budget old new l None = IsMore Past p budget old new l
+TurnHolds Past p budget old new l (Some ending) = IsRankEnd Past p budget new l ending

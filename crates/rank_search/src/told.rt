@@ -1,0 +1,62 @@
+//! What is told of a search that has ended.
+ghost use Rattle.std.specs.Prelude.{◌≡◌, IfOk, map};
+ghost use Rattle.branch_tree.specs.View.{tail_of};
+ghost use Rattle.ranked_tree.specs.View.{mark_of};
+ghost use Rattle.ranked_tree.specs.Text.{IsCounted};
+ghost use Rattle.rank_search.specs.Ranked.{IsRankedBy};
+ghost use Rattle.rank_search.specs.Turns.{IsRankEnd};
+
+use crate::outcome::Ranked;
+use crate::turns::Ending;
+use abb_search::Growing;
+use branch_tree::Tail;
+use found_networks::FoundNetworks;
+use node_looks::Evaluator;
+use pns_problem::Problem;
+use rank_trees::{Told, tell_stopped, tell_whole};
+use ranked_tree::RankText;
+use std::alloc::{AllocError, Global};
+
+/// What is told, with where the search stopped.
+fn text_of(count: u32, told: Told, tail: Tail) -> RankText
+    requires { IsCounted count told.networks.items (map mark_of told.marks.items) }
+    ensures { result ≡ record { count = count; networks = told.networks.items; tree = told.tree; marks = map mark_of told.marks.items; tail = tail_of tail } }
+{
+    RankText::of(count, told.networks, told.tree, told.marks, tail)
+}
+
+/// What is found where the search ends so.
+pub(crate) fn ranked_by<E: Evaluator>(
+    alloc: Global,
+    _evaluator: &E,
+    problem: &Problem,
+    growing: &Growing,
+    found: FoundNetworks,
+    ending: Ending,
+) -> Result<Ranked, AllocError>
+    requires { IsRankEnd E.past problem.now growing.now.budget growing.now found ending }
+    ensures { IfOk result (IsRankedBy E.past problem.now found.count growing.now.budget) }
+{
+    let count = found.count();
+    match ending {
+        Ending::Whole(proofs) => {
+            let told = tell_whole(alloc, problem, growing, found, &proofs)?;
+            Ok(Ranked::Whole(text_of(count, told, Tail::Whole)))
+        }
+        Ending::Spent { leaf, options } => {
+            let told = tell_stopped(alloc, problem, growing, found, leaf)?;
+            let next = told.place;
+            Ok(Ranked::Spent(text_of(count, told, Tail::Spent { next, options })))
+        }
+        Ending::Past(halted) => {
+            let told = tell_stopped(alloc, problem, growing, found, halted.leaf)?;
+            let node = told.place;
+            let tail = Tail::Past {
+                node,
+                nonbasic: halted.halt.nonbasic,
+                place: halted.halt.place,
+            };
+            Ok(Ranked::Past(text_of(count, told, tail)))
+        }
+    }
+}
