@@ -302,12 +302,12 @@ all_more p (c ∷ cs) (w ∷ ws) cells l m listed b s a =
     }
 
 -- the scales of networks that are found at leaves are above 0
-pub all_scaled : (p : Problem) (kids : List Cell) (ws : List (Option Network)) → AreSolvedBy p kids ws → AreScaledAll ws
-all_scaled p [] [] s = tt
-all_scaled p [] (w ∷ ws) s = absurd s
-all_scaled p (c ∷ cs) [] s = absurd s
-all_scaled p (c ∷ cs) (None ∷ ws) s = all_scaled p cs ws s.1
-all_scaled p (c ∷ cs) (Some w ∷ ws) s = (s.0.found.positive, all_scaled p cs ws s.1)
+pub found_scaled : (p : Problem) (kids : List Cell) (ws : List (Option Network)) → AreSolvedBy p kids ws → AreScaledAll ws
+found_scaled p [] [] s = tt
+found_scaled p [] (w ∷ ws) s = absurd s
+found_scaled p (c ∷ cs) [] s = absurd s
+found_scaled p (c ∷ cs) (None ∷ ws) s = found_scaled p cs ws s.1
+found_scaled p (c ∷ cs) (Some w ∷ ws) s = (s.0.found.positive, found_scaled p cs ws s.1)
 
 -- there are none before the first cell
 pub no_cells : (p : Problem) (count : ℕ) → AreBest p count [] []
@@ -323,10 +323,10 @@ no_cells p count = record {
 
 pub as_branch : (p : Problem) (count : ℕ) (cells : List Cell) (fs : List FoundAt) (at : ℕ) (now : Cell) → AreBest p count cells fs → at < length cells → (cell_at cells at).end ≡ leaf untried
     → is_bounded now.end ≡ false → AreBest p count (slice_set cells at now) fs
-as_branch p count cells fs at now b there open none = record {
+as_branch p count cells fs at now b there was_open none = record {
   there = λ k f e.
       let h = b.there k f e in
-      let same = get_or-set_other cells at f.leaf now no_cell (λ (q : f.leaf ≡ at). let r : leaf (bounded h.d h.ys) ≡ leaf untried = sym h.end_is ∙ (ap (λ i. (cell_at cells i).end) q ∙ open) in cc) in
+      let same = get_or-set_other cells at f.leaf now no_cell (λ (q : f.leaf ≡ at). let r : leaf (bounded h.d h.ys) ≡ leaf untried = sym h.end_is ∙ (ap (λ i. (cell_at cells i).end) q ∙ was_open) in cc) in
       record {
         there = let a = h.there in let n = length-set cells at now in omega (arith, a, n);
         d = h.d;

@@ -1,6 +1,7 @@
 -- What the last one of the best networks costs, where one more is added.
 use Rattle.std.proofs.Common.{◌≡◌, ◌==◌, ℕ, zero, suc, ◌+◌, ◌-◌, ◌<◌, ◌≤◌, pos, ℤ, ◌*ℤ◌, ◌≤ℤ◌, ◌<ℤ◌, Bool, true, false, cond, List, [], ◌∷◌, ◌++◌, length, take, Option, Some, None, inl, inr, refl, sym, ap, ◌∙◌, subst, arith, length-append}
-use Rattle.std.proofs.lemmas.Bool.{cases_lt}
+use Rattle.std.specs.List.{slice_get}
+use Rattle.std.proofs.lemmas.Bool.{cases_lt, eq-eqb}
 use Rattle.std.proofs.lemmas.Int.{ints}
 use Rattle.std.proofs.lemmas.List.{length-map}
 use Rattle.tree_rules.specs.Claim.{Network, CostOver}
@@ -19,6 +20,22 @@ pub last_positive : (fs : List FoundAt) → AreScaled fs → IsPositiveCost (las
 last_positive [] s = tt
 last_positive (f ∷ []) s = s.0
 last_positive (f ∷ g ∷ gs) s = last_positive (g ∷ gs) s.1
+
+length_networks : (fs : List FoundAt) → length (networks_of fs) ≡ length fs
+length_networks fs = length-map fs (λ (f : FoundAt). f.network)
+
+last_at : (fs : List FoundAt) (k : ℕ) (f : FoundAt) → length fs ≡ suc k → slice_get fs k ≡ Some f → Some (cost_of f.network) ≡ last_cost (networks_of fs)
+last_at [] k f e h = absurd (omega (arith, e))
+last_at (g ∷ []) zero f e h = let q : Some g ≡ Some f = h in let r : f ≡ g = cc in ap (λ (u : FoundAt). Some (cost_of u.network)) r
+last_at (g ∷ []) (suc k) f e h = absurd (omega (arith, e))
+last_at (g ∷ u ∷ us) zero f e h = absurd (omega (arith, e))
+last_at (g ∷ u ∷ us) (suc k) f e h = last_at (u ∷ us) k f (omega (arith, e)) h
+
+-- the last one is to be undercut, where as many stand as are asked for
+pub last_undercut : (l : Listed) → IsListed l → l.count ≤ length l.found → (k : ℕ) (f : FoundAt) → length l.found ≡ suc k → slice_get l.found k ≡ Some f → Some (cost_of f.network) ≡ undercut_by l.count l.found
+last_undercut l h full k f e is =
+    last_at l.found k f e is
+    ∙ sym (ap (λ b. cond b (last_cost (networks_of l.found)) None) (eq-eqb (length (networks_of l.found)) l.count (let n = length_networks l.found in let few = h.few in omega (arith, n, few, full))))
 
 -- what is to be undercut is over a number above 0
 pub undercut_positive : (l : Listed) → IsListed l → IsPositiveCost (undercut_by l.count l.found)

@@ -10,7 +10,7 @@ use Rattle.tree_rules.specs.Claim.{Network}
 use Rattle.turn_laws.proofs.FractionLemmas.{fraction_trans}
 use Rattle.rank_rules.specs.Networks.{IsNoCheaper}
 use Rattle.found_networks.specs.Found.{FoundAt, AreRising}
-use Rattle.found_networks.specs.Listed.{Listed, AreScaled, IsListed, IsDearer, AreNoDearer, AreDearer, IsAdded}
+use Rattle.found_networks.specs.Listed.{Listed, AreScaled, IsListed, IsDearer, AreNoDearer, AreDearer, IsAdded, IsSomeAdded, AreAdded}
 
 -- ---- tests of numbers
 
@@ -184,3 +184,18 @@ listed_more old new f l p a = record {
   scaled = subst (λ (fs : List FoundAt). AreScaled fs) (sym a.new_is) (scaled_taken old.count (a.before ++ f ∷ a.after)
       (scaled_between a.before a.after f p (subst (λ (fs : List FoundAt). AreScaled fs) a.old_is l.scaled)));
 }
+
+-- one more is added in turn
+pub added_last : (old mid new : Listed) (first : ℕ) (ws : List (Option Network)) (w : Option Network) → AreAdded old mid first ws → IsSomeAdded mid new (first + length ws) w → AreAdded old new first (ws ++ w ∷ [])
+added_last old mid new first [] w h a = (
+  new,
+  subst (λ (l : Listed). IsSomeAdded l new first w) h (subst (λ k. IsSomeAdded mid new k w) (none first) a),
+  refl,
+)
+  where
+    none : (n : ℕ) → n + 0 ≡ n
+    none n = omega arith
+added_last old mid new first (x ∷ ws) w h a = (h.0, h.1, added_last h.0 mid new (suc first) ws w h.2 (subst (λ k. IsSomeAdded mid new k w) (next first (length ws)) a))
+  where
+    next : (n k : ℕ) → n + suc k ≡ suc n + k
+    next n k = omega arith

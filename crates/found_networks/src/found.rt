@@ -99,6 +99,7 @@ impl FoundNetworks {
         ensures low { AreNoDearer (take result self.now.found) network.now }
         ensures high { AreDearer (drop result self.now.found) network.now }
     {
+        network.is_sized();
         self.found
             .partition_point(|other| costs_no_more(&other.network, network))
     }
@@ -109,6 +110,7 @@ impl FoundNetworks {
         ensures added { OnOk result (IsAdded self.old self.new (record { network = network; leaf = leaf })) }
         ensures same { OnErr result (self.new ≡ self.old) }
     {
+        network.is_sized();
         let at = self.place_for(&network);
         let count = self.count as usize;
         if at >= count {

@@ -49,11 +49,11 @@ pub record IsRankEnd (Past : PastPlaces) (p : Problem) (budget : ℕ) (s : Growi
   pub ends : EndsWith Past p s l ending
 
 -- it goes on with more nodes
-pub record IsMore (Past : PastPlaces) (p : Problem) (budget : ℕ) (old new : Growing) (l : Listed) : Type 0 where
-  pub ranking : IsRanking Past p budget new l
-  pub more : length old.pool.payloads < length new.pool.payloads
+pub record IsMore (Past : PastPlaces) (p : Problem) (budget nodes : ℕ) (s : Growing) (l : Listed) : Type 0 where
+  pub ranking : IsRanking Past p budget s l
+  pub more : nodes < length s.pool.payloads
 
--- what a turn answers
-abbrev pub TurnHolds : PastPlaces → Problem → ℕ → Growing → Growing → Listed → Option Ending → Type 0
-TurnHolds Past p budget old new l None = IsMore Past p budget old new l
-TurnHolds Past p budget old new l (Some ending) = IsRankEnd Past p budget new l ending
+-- what a turn leads to, where there were so many nodes before it
+abbrev pub TurnHolds : PastPlaces → Problem → ℕ → ℕ → Growing → Listed → Option Ending → Type 0
+TurnHolds Past p budget nodes s l None = IsMore Past p budget nodes s l
+TurnHolds Past p budget nodes s l (Some ending) = IsRankEnd Past p budget s l ending

@@ -1,5 +1,5 @@
 //! The turns of a search for the best networks, and the loop over them.
-ghost use Rattle.std.specs.Prelude.{◌≡◌, ◌≤◌, IfOk, Some, option_copied, length};
+ghost use Rattle.std.specs.Prelude.{◌≡◌, IfOk, Some, None, option_copied, length};
 ghost use Rattle.pns_rules.specs.Shape.{shape_of};
 ghost use Rattle.pgraph.specs.Tables.{shape};
 ghost use Rattle.neutral_extension.specs.Candidates.{AreMakersOf};
@@ -81,11 +81,12 @@ fn go_on<E: Evaluator>(
     requires same { AreMakersOf (shape graph.now) makers.old.makers }
     requires ranking { IsRanking E.past problem.now growing.old.budget growing.old found.old }
     requires goes_on { growing.old.halt ≡ None }
-    ensures holds { IfOk result (TurnHolds E.past problem.now growing.old.budget growing.old growing.new found.new) }
+    ensures holds { IfOk result (TurnHolds E.past problem.now growing.old.budget (length growing.old.pool.payloads) growing.new found.new) }
     ensures makers { makers.new.makers ≡ makers.old.makers }
 {
     problem.is_valid();
     growing.pool.is_pool();
+    found.is_listed();
     let Some(leaf) = growing.pool.least() else {
         return Ok(Some(Ending::Whole(Vec::new(alloc))));
     };
@@ -121,7 +122,7 @@ fn turn<E: Evaluator>(
     requires graph { shape graph.now ≡ shape_of problem.now }
     requires same { AreMakersOf (shape graph.now) makers.old.makers }
     requires ranking { IsRanking E.past problem.now growing.old.budget growing.old found.old }
-    ensures holds { IfOk result (TurnHolds E.past problem.now growing.old.budget growing.old growing.new found.new) }
+    ensures holds { IfOk result (TurnHolds E.past problem.now growing.old.budget (length growing.old.pool.payloads) growing.new found.new) }
     ensures makers { makers.new.makers ≡ makers.old.makers }
 {
     match growing.halt.take() {

@@ -1,0 +1,159 @@
+-- A leaf is branched, and what is found at its children is added.
+use Rattle.std.specs.Prelude.{drop}
+use Rattle.std.proofs.Common.{◌≡◌, ◌⊎◌, ℕ, zero, suc, ◌+◌, ◌-◌, ◌^◌, ◌<◌, ◌≤◌, true, false, List, [], ◌∷◌, ◌++◌, length, map, slice_set, Option, Some, None, inl, inr, refl, sym, ap, ◌∙◌, subst, arith, length-append}
+use Rattle.std.specs.List.{slice_get}
+use Rattle.std.proofs.lemmas.List.{length-set}
+use Rattle.number_sets.specs.Options.{IsIn}
+use Rattle.link_lists.specs.Lists.{has, first}
+use Rattle.node_pool.specs.Order.{IsRising}
+use Rattle.problem_rules.specs.Problem.{Problem}
+use Rattle.problem_rules.specs.Validity.{IsValid}
+use Rattle.pns_rules.specs.Shape.{shape_of}
+use Rattle.pns_rules.specs.Nodes.{Node}
+use Rattle.pns_rules.specs.Ends.{IsSound, IsDead, IsNever}
+use Rattle.pgraph.specs.View.{node_of}
+use Rattle.unit_sets.specs.declared.node.Node as starts
+use Rattle.mixed_numbers.specs.declared.number.Mixed.{Mixed}
+use Rattle.tree_rules.specs.Ways.{Way, MayBranch, options_at, child_at}
+use Rattle.tree_rules.specs.Tree.{branch, leaf, after_all}
+use Rattle.tree_rules.specs.Claim.{Network, CostOver, claimed_cost}
+use Rattle.tree_rules.specs.Accepted.{first_node}
+use Rattle.search_laws.proofs.ValueLemmas.{ways_are_dearer}
+use Rattle.search_tree.specs.Cells.{Cell, place_of, cell_at}
+use Rattle.search_tree.specs.Fits.{Follows}
+use Rattle.search_tree.specs.Growth.{as_parent}
+use Rattle.turn_laws.specs.Values.{IsPositive, IsUnder}
+use Rattle.turn_laws.specs.Kept.{LastIsBelow}
+use Rattle.turn_laws.specs.Turns.{IsFreshChild, AreChildren}
+use Rattle.turn_laws.proofs.KeptLemmas.{under_dearer}
+use Rattle.branch_choice.specs.declared.choice.Choice.{Choice}
+use Rattle.branch_choice.specs.Choices.{IsChoice, way_of, option_count}
+use Rattle.node_looks.specs.Evaluated.{PastPlaces, cost_over}
+use Rattle.node_looks.specs.Children.{claim_with, AreSolvedBy, cells_of}
+use Rattle.node_looks.proofs.ChildLemmas.{comes}
+use Rattle.node_looks.proofs.ChoiceLemmas.{may_branch}
+use Rattle.abb_search.specs.declared.growing.Growing.{Growing}
+use Rattle.abb_search.specs.Growing.{IsGrowingFor, GoesOnFor, IsBranching}
+use Rattle.abb_search.proofs.HandLemmas.{children_kept}
+use Rattle.abb_search.proofs.TurnLemmas.{there, untried_there, at_hand, hand, sound_there, branched_for}
+use Rattle.found_networks.specs.Found.{AreBest, undercut_by}
+use Rattle.found_networks.specs.Listed.{Listed, IsListed, AreAdded}
+use Rattle.found_networks.proofs.CostLemmas.{AreAbove, undercut_positive, all_above}
+use Rattle.found_networks.proofs.BestLemmas.{AreBestNow, all_more, found_scaled, as_branch}
+use Rattle.rank_search.specs.Turns.{IsRanking, IsMore}
+use Rattle.rank_search.proofs.LeafLemmas.{valued, at_hand_is}
+
+-- ---- the children of a node are no cheaper than it
+
+module _ (p : Problem) (valid : IsValid p) (n : Node) (w : Way) (sound : IsSound (shape_of p) n) (may : MayBranch (shape_of p) n w) (v : CostOver) (positive : IsPositive v) (under : IsUnder p v n) where
+  -- a child's steps lead from an option of the way
+  record IsBelow (c : Cell) : Type 0 where
+    pub follows : Follows (shape_of p) (child_at (shape_of p) n w c.option) c
+    pub option : IsIn c.option (options_at (shape_of p) n w)
+
+  under_child : (c : Cell) → IsBelow c → IsNever (IsDead (shape_of p) (place_of c)) → IsUnder p v (place_of c)
+  under_child c b alive =
+      subst (λ (m : Node). IsUnder p v m) b.follows.leave
+      (under_dearer p n (after_all (shape_of p) (child_at (shape_of p) n w c.option) c.steps) v positive under
+      (ways_are_dearer p valid n w c.option c.steps sound.apart may b.option b.follows.pass (subst (λ (m : Node). IsNever (IsDead (shape_of p) m)) (sym b.follows.leave) alive)))
+
+  above : (kids : List Cell) (ws : List (Option Network)) → ((k : ℕ) → k < length kids → IsBelow (cell_at kids k)) → AreSolvedBy p kids ws → AreAbove v ws
+  above [] [] each s = tt
+  above [] (x ∷ ws) each s = absurd s
+  above (c ∷ cs) [] each s = absurd s
+  above (c ∷ cs) (None ∷ ws) each s = above cs ws (λ k lt. each (suc k) (omega (arith, lt))) s.1
+  above (c ∷ cs) (Some x ∷ ws) each s = (
+    s.0.found.no_less v positive (under_child c (each 0 (omega arith)) s.0.found.alive),
+    above cs ws (λ k lt. each (suc k) (omega (arith, lt))) s.1,
+  )
+
+  in_options : (kids done : List Cell) (all : List (List ℕ)) → map (λ (c : Cell). c.option) done ++ map (λ (c : Cell). c.option) kids ≡ all → (k : ℕ) → k < length kids → IsIn (cell_at kids k).option all
+  in_options [] done all e k lt = absurd (omega (arith, lt))
+  in_options (c ∷ cs) done all e zero lt = comes (map (λ (d : Cell). d.option) done) (map (λ (d : Cell). d.option) cs) c.option all e
+  in_options (c ∷ cs) done all e (suc k) lt = in_options cs (done ++ c ∷ []) all (shift done ∙ e) k (omega (arith, lt))
+    where
+      shift : (ds : List Cell) → map (λ (d : Cell). d.option) (ds ++ c ∷ []) ++ map (λ (d : Cell). d.option) cs ≡ map (λ (d : Cell). d.option) ds ++ c.option ∷ map (λ (d : Cell). d.option) cs
+      shift [] = refl
+      shift (d ∷ ds) = ap (λ os. d.option ∷ os) (shift ds)
+
+  -- what is found at children costs at least a number that no relaxed flows of the node undercut
+  pub found_above : (claimed : Option CostOver) (kids : List Cell) (ws : List (Option Network)) → AreChildren p claimed n w kids → AreSolvedBy p kids ws → AreAbove v ws
+  found_above claimed kids ws children s = above kids ws (λ k lt. record {
+    follows = (children.each k lt).follows;
+    option = in_options kids [] (options_at (shape_of p) n w) children.options_are k lt;
+  }) s
+
+-- ---- the search after it
+
+drop-length : {X : Type 0} (xs ys : List X) → drop (length xs) (xs ++ ys) ≡ ys
+drop-length [] ys = refl
+drop-length (x ∷ xs) ys = drop-length xs ys
+
+as_many : (p : Problem) (kids : List Cell) (ws : List (Option Network)) → AreSolvedBy p kids ws → length ws ≡ length kids
+as_many p [] [] s = refl
+as_many p [] (w ∷ ws) s = absurd s
+as_many p (c ∷ cs) [] s = absurd s
+as_many p (c ∷ cs) (w ∷ ws) s = let e = as_many p cs ws s.1 in omega (arith, e)
+
+-- the networks are those of the children
+behind : (Past : PastPlaces) (p : Problem) (n : Node) (s new : Growing) (at : ℕ) (w : Way) (b : IsBranching Past p n s new at w) (ws : List (Option Network))
+    → AreSolvedBy p (drop (length s.pool.payloads) new.pool.payloads) ws → AreSolvedBy p (cells_of b.kids) ws
+behind Past p n s new at w b ws h = subst (λ (cs : List Cell). AreSolvedBy p cs ws) (ap (λ (cs : List Cell). drop (length s.pool.payloads) cs) b.cells ∙ dropped) h
+  where
+    now : Cell
+    now = as_parent (cell_at s.pool.payloads at) (length s.pool.payloads) (branch w)
+
+    dropped : drop (length s.pool.payloads) (slice_set s.pool.payloads at (as_parent (cell_at s.pool.payloads at) (length s.pool.payloads) (branch w)) ++ cells_of b.kids) ≡ cells_of b.kids
+    dropped = subst (λ k. drop k (slice_set s.pool.payloads at now ++ cells_of b.kids) ≡ cells_of b.kids) (length-set s.pool.payloads at now) (drop-length (slice_set s.pool.payloads at now) (cells_of b.kids))
+
+-- the leaves of all networks have numbers
+pub numbers_fit : (Past : PastPlaces) (p : Problem) (n : Node) (s new : Growing) (at nodes : ℕ) (w : Way) (b : IsBranching Past p n s new at w) (ws : List (Option Network))
+    → AreSolvedBy p (drop (length s.pool.payloads) new.pool.payloads) ws → nodes ≡ length s.pool.payloads → nodes + length ws < 2 ^ 32
+numbers_fit Past p n s new at nodes w b ws h e =
+    let k = as_many p (cells_of b.kids) ws (behind Past p n s new at w b ws h) in
+    let few = b.numbered in
+    omega (arith, k, few, e)
+
+module _ (Past : PastPlaces) (p : Problem) (valid : IsValid p) (budget : ℕ) (s : Growing) (l : Listed) (listed : IsListed l) (r : IsRanking Past p budget s l) (g : IsGrowingFor p (undercut_by l.count l.found) s)
+    (at : ℕ) (is_first : first s.pool.leaves ≡ Some at) (same_parents : length s.pool.payloads ≡ length s.pool.parents) (below : (id : ℕ) → has s.pool.leaves id ≡ true → id < length s.pool.parents)
+    (rising : IsRising s.pool.values s.pool.leaves) (v : Mixed) (value_is : slice_get s.pool.values at ≡ Some v) (under : LastIsBelow (Some (cost_over v)) (undercut_by l.count l.found)) where
+  module _ (new : Growing) (m : Choice) (choice : IsChoice (shape_of p) (place_of (cell_at s.pool.payloads at)) m) (few : length s.pool.payloads + option_count m ≤ s.budget)
+      (b : IsBranching Past p (place_of (cell_at s.pool.payloads at)) s new at (way_of m)) (ws : List (Option Network)) (solved : AreSolvedBy p (drop (length s.pool.payloads) new.pool.payloads) ws)
+      (k : Listed) (added : AreAdded l k (length s.pool.payloads) ws) where
+    kids_solved : AreSolvedBy p (cells_of b.kids) ws
+    kids_solved = behind Past p (place_of (cell_at s.pool.payloads at)) s new at (way_of m) b ws solved
+
+    parent_best : AreBest p l.count (slice_set s.pool.payloads at (as_parent (cell_at s.pool.payloads at) (length s.pool.payloads) (branch (way_of m)))) l.found
+    parent_best = as_branch p l.count s.pool.payloads l.found at (as_parent (cell_at s.pool.payloads at) (length s.pool.payloads) (branch (way_of m))) r.best
+        (there p valid s g at is_first same_parents below rising) (untried_there p valid s g at is_first same_parents below rising) refl
+
+    best_now : AreBestNow p (slice_set s.pool.payloads at (as_parent (cell_at s.pool.payloads at) (length s.pool.payloads) (branch (way_of m))) ++ cells_of b.kids) l k
+    best_now = all_more p (cells_of b.kids) ws (slice_set s.pool.payloads at (as_parent (cell_at s.pool.payloads at) (length s.pool.payloads) (branch (way_of m)))) l k listed parent_best kids_solved
+        (subst (λ n. AreAdded l k n ws) (sym (length-set s.pool.payloads at (as_parent (cell_at s.pool.payloads at) (length s.pool.payloads) (branch (way_of m))))) added)
+
+    leaf_value : IsUnder p (cost_over v) (place_of (cell_at s.pool.payloads at)) × IsPositive (cost_over v)
+    leaf_value = let u = valued p valid s g at is_first same_parents below rising v value_is in (u.under, u.positive)
+
+    kids_above : AreAbove (cost_over v) ws
+    kids_above = found_above p valid (place_of (cell_at s.pool.payloads at)) (way_of m) (sound_there p valid s g at is_first same_parents below rising) (may_branch (shape_of p) (place_of (cell_at s.pool.payloads at)) m choice)
+        (cost_over v) leaf_value.1 leaf_value.0 (claimed_cost (claim_with b.seen.best)) (cells_of b.kids) ws
+        (children_kept p b.seen.kids.items b.kids b.seen.ready.items b.freed new.ready b.placed (claimed_cost (claim_with b.seen.best)) (place_of (cell_at s.pool.payloads at)) (way_of m) b.are_seen.children) kids_solved
+
+    still_below : LastIsBelow (Some (cost_over v)) (undercut_by k.count k.found)
+    still_below = all_above (cost_over v) leaf_value.1 ws l k (length s.pool.payloads) listed (found_scaled p (cells_of b.kids) ws kids_solved) added kids_above under
+
+    pub grown : IsMore Past p budget (length s.pool.payloads) new k
+    grown =
+        let hd = hand p valid s g at is_first same_parents below rising in
+        let a = branched_for p valid s g at is_first same_parents below rising hd.ready hd.known (undercut_by k.count k.found) (undercut_positive k best_now.listed)
+        (subst (λ (u : Mixed). LastIsBelow (Some (cost_over u)) (undercut_by k.count k.found)) (sym (at_hand_is p valid s g at is_first same_parents below rising v value_is)) still_below)
+        Past new m choice few b in
+        record {
+          ranking = record {
+            start = ap node_of b.start ∙ r.start;
+            budget_is = b.budget ∙ r.budget_is;
+            going = a.0;
+            best = subst (λ (cs : List Cell). AreBest p k.count cs k.found) (sym b.cells) best_now.best;
+          };
+          more = a.1;
+        }
