@@ -1,5 +1,5 @@
 -- A tree whose named leaves stand open, with its marks, is the ranked tree that these leaves name networks in.
-use Rattle.std.proofs.Common.{◌≡◌, ℕ, zero, suc, ◌+◌, ◌<◌, ◌≤◌, List, [], ◌∷◌, ◌++◌, length, take, slice_set, Option, Some, None, refl, sym, ap, ap₂, ◌∙◌, subst, arith}
+use Rattle.std.proofs.Common.{◌≡◌, ℕ, zero, suc, ◌+◌, ◌<◌, ◌≤◌, List, [], ◌∷◌, ◌++◌, length, map, take, slice_set, Option, Some, None, refl, sym, ap, ap₂, ◌∙◌, subst, arith}
 use Rattle.std.specs.List.{slice_get}
 use Rattle.problem_rules.specs.Each.{Each}
 use Rattle.problem_rules.specs.Problem.{Problem}
@@ -10,9 +10,11 @@ use Rattle.rank_rules.specs.Leaf as ranks
 use Rattle.rank_rules.specs.Ranked as ranked
 use Rattle.branch_tree.specs.Known.{KnowsEnd, KnowsNode, KnowsTree}
 use Rattle.ranked_tree.specs.Marked.{Mark, marked, marked_end, marks_behind}
+use Rattle.ranked_tree.specs.declared.mark.Mark as code
+use Rattle.ranked_tree.specs.View.{mark_of}
 use Rattle.ranked_tree.specs.Text.{AreNumbered}
 use Rattle.search_tree.specs.Preorder.{told_end}
-use Rattle.rank_trees.specs.Naming.{Names, opened_end, opened_node, opened, marks_at, marks_in}
+use Rattle.rank_trees.specs.Naming.{Names, opened_end, opened_node, opened, marks_at, marks_in, marks_of}
 use Rattle.rank_trees.proofs.NameLemmas.{IsCountedName}
 
 -- ---- what a leaf with a name is told as
@@ -178,3 +180,26 @@ marks_next (m ∷ ms) (u ∷ us) (suc i) n t hn ht =
     together : (xs ys zs : List Mark) → (xs ++ ys) ++ zs ≡ xs ++ (ys ++ zs)
     together [] ys zs = refl
     together (x ∷ xs) ys zs = ap (λ (ks : List Mark). x ∷ ks) (together xs ys zs)
+
+-- the marks of the code, and one more
+pub marks_pushed : (ms : List code.Mark) (m : code.Mark) → map mark_of (ms ++ m ∷ []) ≡ map mark_of ms ++ marks_of (Some m)
+marks_pushed [] m = refl
+marks_pushed (x ∷ xs) m = ap (λ (ks : List Mark). mark_of x ∷ ks) (marks_pushed xs m)
+
+pub marks_stay : (ms : List code.Mark) → map mark_of ms ≡ map mark_of ms ++ marks_of None
+marks_stay [] = refl
+marks_stay (x ∷ xs) = ap (λ (ks : List Mark). mark_of x ∷ ks) (marks_stay xs)
+
+next : (n : ℕ) → suc n ≡ n + 1
+next n = omega arith
+
+-- what becomes of the nodes and the marks where the next node is taken
+pub take_next : (ns : Names) (ts now : Tree) (ks : List Mark) (i : ℕ) (n : Option ℕ) (t u : TreeNode Leaf) (r : List Mark)
+    → slice_get ns i ≡ Some n → now ≡ opened (take i ns) ts → slice_get now i ≡ Some t → u ≡ opened_node n t → r ≡ marks_at n t.end → ks ≡ marks_in (take i ns) ts
+    → (slice_set now i u ≡ opened (take (i + 1) ns) ts) × (ks ++ r ≡ marks_in (take (i + 1) ns) ts)
+take_next ns ts now ks i n t u r hn is ht ut rt kt =
+    let there : slice_get (opened (take i ns) ts) i ≡ Some t = subst (λ (us : Tree). slice_get us i ≡ Some t) is ht in
+    (
+      ap₂ (λ (us : Tree) (w : TreeNode Leaf). slice_set us i w) is ut ∙ (opened_next ns ts i n t hn there ∙ ap (λ (j : ℕ). opened (take j ns) ts) (next i)),
+      ap₂ (λ (xs ys : List Mark). xs ++ ys) kt rt ∙ (marks_next ns ts i n t hn there ∙ ap (λ (j : ℕ). marks_in (take j ns) ts) (next i)),
+    )

@@ -1,6 +1,6 @@
 -- How a search's tree is told as a ranked one: a bounded leaf at which one of the networks was found names that network, and stands in
 -- the ordinary tree as an open leaf with a mark.
-use Rattle.std.specs.Prelude.{◌≡◌, ℕ, zero, suc, ◌<◌, List, [], ◌∷◌, ◌++◌, map, length, slice_set, get_or, Option, Some, None}
+use Rattle.std.specs.Prelude.{◌≡◌, ℕ, suc, ◌<◌, List, [], ◌∷◌, ◌++◌, map, length, slice_set, replicate, get_or, Option, Some, None}
 use Rattle.std.specs.List.{slice_get}
 use Rattle.tree_rules.specs.Tree.{End, branch, leaf, TreeNode}
 use Rattle.tree_rules.specs.Leaf.{Leaf, dead, clash, refuted, bounded, untried}
@@ -25,18 +25,13 @@ abbrev pub AreWithin : ℕ → List FoundAt → Type 0
 AreWithin n [] = Unit {0}
 AreWithin n (f ∷ fs) = (f.leaf < n) × AreWithin n fs
 
--- no name for so many leaves
-abbrev pub no_names : ℕ → Names
-no_names zero = []
-no_names (suc n) = None ∷ no_names n
-
 -- the networks of the list are numbered from k on
 abbrev pub names_with : Names → ℕ → List FoundAt → Names
 names_with names k [] = names
 names_with names k (f ∷ fs) = names_with (slice_set names f.leaf (Some k)) (suc k) fs
 
 abbrev pub names_of : ℕ → List FoundAt → Names
-names_of n fs = names_with (no_names n) 1 fs
+names_of n fs = names_with (replicate n None) 1 fs
 
 abbrev pub name_at : Names → ℕ → Option ℕ
 name_at names i = get_or names i None

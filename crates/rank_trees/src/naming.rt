@@ -41,6 +41,15 @@ fn names_of(alloc: Global, found: &[FoundAt], nodes: usize) -> Result<Vec<Option
     Ok(names)
 }
 
+fn name_at(names: &[Option<u32>], number: u32) -> Option<u32>
+    ensures { result ≡ name_at names.now number }
+{
+    match names.get(number as usize) {
+        Some(name) => *name,
+        None => None,
+    }
+}
+
 /// The mark of a node whose leaf has this name. A bounded leaf that has one stands open then.
 fn take_mark(node: &mut TreeNode, name: Option<u32>) -> Option<Mark>
     ensures node { node.new ≡ opened_node name node.old }
@@ -72,7 +81,7 @@ fn take_marks(
 {
     let mut marks = Vec::new(alloc);
     'naming: for (at, number) in order.iter().enumerate() {
-        let name = names.get(*number as usize).copied().flatten();
+        let name = name_at(names, *number);
         if let Some(mark) = take_mark(&mut nodes[at], name) {
             marks.push(mark)?;
         }
