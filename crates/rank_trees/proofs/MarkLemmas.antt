@@ -1,5 +1,5 @@
 -- A tree whose named leaves stand open, with its marks, is the ranked tree that these leaves name networks in.
-use Rattle.std.proofs.Common.{◌≡◌, ℕ, zero, suc, ◌+◌, ◌<◌, ◌≤◌, List, [], ◌∷◌, ◌++◌, length, map, take, slice_set, Option, Some, None, refl, sym, ap, ap₂, ◌∙◌, subst, arith}
+use Rattle.std.proofs.Common.{◌≡◌, ℕ, zero, suc, ◌+◌, ◌<◌, ◌≤◌, List, [], ◌∷◌, ◌++◌, length, map, take, drop, slice_set, Option, Some, None, refl, sym, ap, ap₂, ◌∙◌, subst, arith}
 use Rattle.std.specs.List.{slice_get}
 use Rattle.problem_rules.specs.Each.{Each}
 use Rattle.problem_rules.specs.Problem.{Problem}
@@ -203,3 +203,12 @@ take_next ns ts now ks i n t u r hn is ht ut rt kt =
       ap₂ (λ (us : Tree) (w : TreeNode Leaf). slice_set us i w) is ut ∙ (opened_next ns ts i n t hn there ∙ ap (λ (j : ℕ). opened (take j ns) ts) (next i)),
       ap₂ (λ (xs ys : List Mark). xs ++ ys) kt rt ∙ (marks_next ns ts i n t hn there ∙ ap (λ (j : ℕ). marks_in (take j ns) ts) (next i)),
     )
+
+-- a list that was written over whole
+pub written_over : {X : Type 0} (xs ys : List X) (n : ℕ) → length xs ≡ length ys → n ≡ length ys → take n (xs ++ drop (length xs) ys) ≡ xs
+written_over {X} [] [] n l h = subst (λ (k : ℕ). take {A = X} k [] ≡ []) (sym h) refl
+written_over {X} [] (y ∷ ys) n l h = absurd (omega (arith, l))
+written_over {X} (x ∷ xs) [] n l h = absurd (omega (arith, l))
+written_over {X} (x ∷ xs) (y ∷ ys) n l h =
+    subst (λ (k : ℕ). take {A = X} k (x ∷ (xs ++ drop (length xs) ys)) ≡ x ∷ xs) (sym h)
+    (ap (λ (ws : List X). x ∷ ws) (written_over xs ys (length ys) (omega (arith, l)) refl))
