@@ -47,7 +47,7 @@ module _ {undercut : Option CostOver} (p : Problem) (valid : IsValid p) (s : Gro
   record IsKnown (j : ℕ) : Type 0 where
     pub ready : Ready
     pub value : Mixed
-    pub value_is : slice_get s.pool.values j ≡ Some value
+    pub stands : slice_get s.pool.values j ≡ Some value
     pub known : IsReady p (place_of (cell_at s.pool.payloads j)) value ready
 
   known : (j : ℕ) → j < length s.pool.payloads → (cell_at s.pool.payloads j).end ≡ leaf untried → IsKnown j
@@ -57,7 +57,7 @@ module _ {undercut : Option CostOver} (p : Problem) (valid : IsValid p) (s : Gro
     where
       by : (u : Mixed) → slice_get s.pool.values j ≡ Some u → (r : Option Ready) → IsSomeReady p (place_of (cell_at s.pool.payloads j)) u r → IsKnown j
       by u q None k = absurd k
-      by u q (Some r) k = record { ready = r; value = u; value_is = q; known = k }
+      by u q (Some r) k = record { ready = r; value = u; stands = q; known = k }
 
   known_value : (j : ℕ) (k : IsKnown j) → IsValueOf p (place_of (cell_at s.pool.payloads j)) (cost_over k.value)
   known_value j k = subst (λ (u : Mixed). IsValueOf p (place_of (cell_at s.pool.payloads j)) (cost_over u)) k.known.value_is k.known.bound.value
@@ -66,7 +66,7 @@ module _ {undercut : Option CostOver} (p : Problem) (valid : IsValid p) (s : Gro
   taken = known at (there p valid s g at is_first same_parents below rising) open_here
 
   taken_is : taken.value ≡ v
-  taken_is = let q : Some taken.value ≡ Some v = sym taken.value_is ∙ value_is in cc
+  taken_is = let q : Some taken.value ≡ Some v = sym taken.stands ∙ value_is in cc
 
   -- its value is v
   pub valued : IsValueOf p here (cost_over v)
@@ -81,7 +81,7 @@ module _ {undercut : Option CostOver} (p : Problem) (valid : IsValid p) (s : Gro
       let k = known j lt e in
       let u = known_value j k in
       fraction_trans (numerator v) (denominator v) (numerator k.value) (denominator k.value) (relaxed_cost (net_of p) (place_of (cell_at s.pool.payloads j)) z d) d (mixed_positive v) (mixed_positive k.value) flows.positive
-      (all_more.each j k.value lt e k.value_is) (u.under z d flows)
+      (all_more.each j k.value lt e k.stands) (u.under z d flows)
 
   can_branch : (m : Choice) → IsChoice (shape_of p) here m → CanBranch p s.pool.payloads at (way_of m) (cost_over v)
   can_branch m u = record {

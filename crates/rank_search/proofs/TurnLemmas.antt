@@ -45,12 +45,12 @@ module _ (Past : PastPlaces) (p : Problem) (budget : ℕ) (s : Growing) (l : Lis
   pub ends : (ending : Ending) → EndsWith Past p s l ending → IsRankEnd Past p budget s l ending
   ends ending h = record { tree = tree_of; ends = h }
 
--- the search without the leaf that halts it
-abbrev pub resumed : Growing → Growing
-resumed s = record { start = s.start; budget = s.budget; nodes = s.nodes; pool = s.pool; ready = s.ready; best = s.best; halt = None }
+-- the search with another leaf that halts it, or none
+abbrev pub resumed : Growing → Option HaltedLeaf → Growing
+resumed s halt = record { start = s.start; budget = s.budget; nodes = s.nodes; pool = s.pool; ready = s.ready; best = s.best; halt = halt }
 
-module _ (p : Problem) (undercut : Option CostOver) (s : Growing) where
-  tree_resumed : IsTreeKeptFor p undercut s → IsTreeKeptFor p undercut (resumed s)
+module _ (p : Problem) (undercut : Option CostOver) (s : Growing) (halt : Option HaltedLeaf) where
+  tree_resumed : IsTreeKeptFor p undercut s → IsTreeKeptFor p undercut (resumed s halt)
   tree_resumed t = record {
     last = t.last;
     kept = t.kept;
@@ -62,22 +62,23 @@ module _ (p : Problem) (undercut : Option CostOver) (s : Growing) where
     numbered = t.numbered;
   }
 
-  growing_resumed : IsGrowingFor p undercut s → IsGrowingFor p undercut (resumed s)
+  growing_resumed : IsGrowingFor p undercut s → IsGrowingFor p undercut (resumed s halt)
   growing_resumed g = record { tree = tree_resumed g.tree; are_open = g.are_open; ready = g.ready }
 
-pub ranking_resumed : (Past : PastPlaces) (p : Problem) (budget : ℕ) (s : Growing) (l : Listed) → IsRanking Past p budget s l → s.halt ≡ None → IsRanking Past p budget (resumed s) l
-ranking_resumed Past p budget s l r e = record {
+pub ranking_resumed : (Past : PastPlaces) (p : Problem) (budget : ℕ) (s : Growing) (l : Listed) (halt : Option HaltedLeaf) → halt ≡ None → IsRanking Past p budget s l → s.halt ≡ None → IsRanking Past p budget (resumed s halt) l
+ranking_resumed Past p budget s l halt none r e = record {
   start = r.start;
   budget_is = r.budget_is;
-  going = growing_resumed p (undercut_by l.count l.found) s (growing_of Past p budget s l r e);
+  going = subst (λ (o : Option HaltedLeaf). GoesOnFor Past p (undercut_by l.count l.found) (resumed s halt) o) (sym none) (growing_resumed p (undercut_by l.count l.found) s halt (growing_of Past p budget s l r e));
   best = r.best;
 }
 
 -- the leaf halts the search
-pub halted : (Past : PastPlaces) (p : Problem) (budget : ℕ) (s : Growing) (l : Listed) (h : HaltedLeaf) → IsRanking Past p budget s l → s.halt ≡ Some h → IsRankEnd Past p budget (resumed s) l (endings.Past h)
-halted Past p budget s l h r e =
+pub halted : (Past : PastPlaces) (p : Problem) (budget : ℕ) (s : Growing) (l : Listed) (h : HaltedLeaf) (halt : Option HaltedLeaf) → IsRanking Past p budget s l → s.halt ≡ Some h
+    → IsRankEnd Past p budget (resumed s halt) l (endings.Past h)
+halted Past p budget s l h halt r e =
     let g = subst (λ (o : Option HaltedLeaf). GoesOnFor Past p (undercut_by l.count l.found) s o) e r.going in
     record {
-      tree = record { start = r.start; budget_is = r.budget_is; kept = tree_resumed p (undercut_by l.count l.found) s g.0; best = r.best };
+      tree = record { start = r.start; budget_is = r.budget_is; kept = tree_resumed p (undercut_by l.count l.found) s halt g.0; best = r.best };
       ends = record { there = g.1.there; is_open = g.1.is_open; halted = g.1.halted };
     }

@@ -1,5 +1,5 @@
 //! The turns of a search for the best networks, and the loop over them.
-ghost use Rattle.std.specs.Prelude.{◌≡◌, IfOk, Some, None, option_copied, length};
+ghost use Rattle.std.specs.Prelude.{◌≡◌, IfOk, Option, Some, None, option_copied, length};
 ghost use Rattle.pns_rules.specs.Shape.{shape_of};
 ghost use Rattle.pgraph.specs.Tables.{shape};
 ghost use Rattle.neutral_extension.specs.Candidates.{AreMakersOf};

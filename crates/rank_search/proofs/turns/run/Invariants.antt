@@ -1,0 +1,12 @@
+use Rattle.std.proofs.Common.{◌≡◌, ◌-◌, length}
+use Rattle.rank_search.specs.Turns.{IsRanking}
+use Rattle.rank_search.proofs.turns.run.Given as goal
+
+abbrev pub invariant-turns : goal.invariant-turns
+invariant-turns g l = record {
+  ranking : IsRanking g.E.Evaluator.past l.problem l.fn.growing.budget l.growing l.found;
+  makers : l.makers.makers ≡ l.fn.makers.makers;
+}
+
+abbrev pub decreases-turns : goal.decreases-turns
+decreases-turns g l = l.growing.budget - length l.growing.pool.payloads
