@@ -198,8 +198,7 @@ pub take_next : (ns : Names) (ts now : Tree) (ks : List Mark) (i : ℕ) (n : Opt
     → slice_get ns i ≡ Some n → now ≡ opened (take i ns) ts → slice_get now i ≡ Some t → u ≡ opened_node n t → r ≡ marks_at n t.end → ks ≡ marks_in (take i ns) ts
     → (slice_set now i u ≡ opened (take (i + 1) ns) ts) × (ks ++ r ≡ marks_in (take (i + 1) ns) ts)
 take_next ns ts now ks i n t u r hn is ht ut rt kt =
-    let there : slice_get (opened (take i ns) ts) i ≡ Some t = subst (λ (us : Tree). slice_get us i ≡ Some t) is ht in
-    (
+    let there : slice_get (opened (take i ns) ts) i ≡ Some t = subst (λ (us : Tree). slice_get us i ≡ Some t) is ht in (
       ap₂ (λ (us : Tree) (w : TreeNode Leaf). slice_set us i w) is ut ∙ (opened_next ns ts i n t hn there ∙ ap (λ (j : ℕ). opened (take j ns) ts) (next i)),
       ap₂ (λ (xs ys : List Mark). xs ++ ys) kt rt ∙ (marks_next ns ts i n t hn there ∙ ap (λ (j : ℕ). marks_in (take j ns) ts) (next i)),
     )

@@ -1,6 +1,6 @@
 -- What is told of a search: the tree, with its networks and marks, is ranked, lean, and spent where the search is.
-use Rattle.std.specs.Prelude.{get_or}
-use Rattle.std.proofs.Common.{◌≡◌, ℕ, suc, ◌+◌, ◌-◌, ◌^◌, ◌<◌, ◌≤◌, Bool, true, false, List, [], ◌∷◌, length, Option, Some, None, refl, sym, ap, ap₂, ◌∙◌, subst, arith}
+use Rattle.std.specs.Prelude.{IfOk}
+use Rattle.std.proofs.Common.{◌≡◌, ℕ, suc, ◌+◌, ◌-◌, ◌^◌, ◌<◌, ◌≤◌, Bool, true, false, List, [], ◌∷◌, length, Option, Some, None, Result, Ok, Err, refl, sym, ap, ap₂, ◌∙◌, subst, arith}
 use Rattle.std.specs.List.{slice_get}
 use Rattle.std.proofs.lemmas.List.{length-map}
 use Rattle.number_sets.specs.Sets.{listed}
@@ -221,3 +221,9 @@ module _ (p : Problem) (valid : IsValid p) (count : ℕ) (s : Growing) (fs : Lis
 
       pub spent_telling : IsSpentTelling p count (networks_of fs) tree marks place options s.budget
       spent_telling = record { spent = spent; below_limit = below_limit }
+
+-- ---- three facts of what is answered
+
+pub with_three : {T E : Type 0} {A B C G : T → Type 0} (r : Result T E) → ((t : T) → A t → B t → C t → G t) → IfOk r A → IfOk r B → IfOk r C → IfOk r G
+with_three (Ok t) f a b c = f t a b c
+with_three (Err e) f a b c = tt

@@ -18,8 +18,8 @@ from_nodes-requires c =
     let names = c.in_ok-names.names.items in
     let order = c.in_ok-preorder.preorder.order.items in
     let plain : IsTree nodes = subst (λ (t : Tree). IsTree t) (sym of.nodes_are)
-        (c.preorder_is_tree.ensures.tree (shut_cells ms cells) order (shut_linked ms cells c.requires.linked)
-        (ap (λ (d : Cell). d.option) (shut_at ms cells 0 c.requires.linked.some) ∙ c.requires.root) of.is_preorder) in
+    (c.preorder_is_tree.ensures.tree (shut_cells ms cells) order (shut_linked ms cells c.requires.linked)
+    (ap (λ (d : Cell). d.option) (shut_at ms cells 0 c.requires.linked.some) ∙ c.requires.root) of.is_preorder) in
     let made : c.take_marks.new.nodes ≡ opened (names_at names order) nodes
     = c.in_ok-marks.ensures.nodes
     ∙ ap₂ (λ (ns : Names) (ts : Tree). opened ns ts) (ap₂ (λ (ns : Names) (is : List ℕ). names_at ns is) c.deref-2.ensures.value c.deref.ensures.value) c.deref_mut.ensures.value in
