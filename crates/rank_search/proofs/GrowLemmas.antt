@@ -95,6 +95,12 @@ as_many p [] (w ∷ ws) s = absurd s
 as_many p (c ∷ cs) [] s = absurd s
 as_many p (c ∷ cs) (w ∷ ws) s = let e = as_many p cs ws s.1 in omega (arith, e)
 
+-- as many are asked for
+pub same_count : (l m : Listed) (first : ℕ) (ws : List (Option Network)) → AreAdded l m first ws → m.count ≡ l.count
+same_count l m first [] e = ap (λ (k : Listed). k.count) e
+same_count l m first (None ∷ ws) a = same_count a.0 m (suc first) ws a.2 ∙ ap (λ (k : Listed). k.count) a.1
+same_count l m first (Some w ∷ ws) a = same_count a.0 m (suc first) ws a.2 ∙ a.1.count_is
+
 -- the networks are those of the children
 behind : (Past : PastPlaces) (p : Problem) (n : Node) (s new : Growing) (at : ℕ) (w : Way) (b : IsBranching Past p n s new at w) (ws : List (Option Network))
     → AreSolvedBy p (drop (length s.pool.payloads) new.pool.payloads) ws → AreSolvedBy p (cells_of b.kids) ws

@@ -1,5 +1,5 @@
 //! The turns of a search for the best networks, and the loop over them.
-ghost use Rattle.std.specs.Prelude.{◌≡◌, IfOk, Option, Some, None, option_copied, length};
+ghost use Rattle.std.specs.Prelude.{◌≡◌, IfOk, OnOk, Option, Some, None, option_copied, length};
 ghost use Rattle.pns_rules.specs.Shape.{shape_of};
 ghost use Rattle.pgraph.specs.Tables.{shape};
 ghost use Rattle.neutral_extension.specs.Candidates.{AreMakersOf};
@@ -82,6 +82,7 @@ fn go_on<E: Evaluator>(
     requires ranking { IsRanking E.past problem.now growing.old.budget growing.old found.old }
     requires goes_on { growing.old.halt ≡ None }
     ensures holds { IfOk result (TurnHolds E.past problem.now growing.old.budget (length growing.old.pool.payloads) growing.new found.new) }
+    ensures count { OnOk result (found.new.count ≡ found.old.count) }
     ensures makers { makers.new.makers ≡ makers.old.makers }
 {
     problem.is_valid();
@@ -123,6 +124,7 @@ fn turn<E: Evaluator>(
     requires same { AreMakersOf (shape graph.now) makers.old.makers }
     requires ranking { IsRanking E.past problem.now growing.old.budget growing.old found.old }
     ensures holds { IfOk result (TurnHolds E.past problem.now growing.old.budget (length growing.old.pool.payloads) growing.new found.new) }
+    ensures count { OnOk result (found.new.count ≡ found.old.count) }
     ensures makers { makers.new.makers ≡ makers.old.makers }
 {
     match growing.halt.take() {
@@ -144,7 +146,8 @@ pub(crate) fn run<E: Evaluator>(
     requires graph { shape graph.now ≡ shape_of problem.now }
     requires same { AreMakersOf (shape graph.now) makers.old.makers }
     requires ranking { IsRanking E.past problem.now growing.old.budget growing.old found.old }
-    ensures { IfOk result (IsRankEnd E.past problem.now growing.old.budget growing.new found.new) }
+    ensures ends { IfOk result (IsRankEnd E.past problem.now growing.old.budget growing.new found.new) }
+    ensures count { OnOk result (found.new.count ≡ found.old.count) }
 {
     'turns: loop {
         if let Some(ending) = turn(alloc, evaluator, problem, graph, makers, growing, found)? {

@@ -1,13 +1,40 @@
-use Rattle.std.proofs.Common.{◌≡◌, ℕ, refl, sym, ap, ◌∙◌, subst, map}
-use Rattle.ranked_tree.specs.Text.{Text, IsCounted}
+use Rattle.std.proofs.Common.{◌≡◌, ℕ, List, Option, sym, subst, map}
+use Rattle.branch_tree.specs.Scaled.{Scaled}
+use Rattle.found_networks.specs.Found.{undercut_by}
+use Rattle.ranked_tree.specs.Text.{Text}
 use Rattle.ranked_tree.specs.View.{mark_of}
+use Rattle.rank_trees.specs.Told.{AreShutAgainst}
 use Rattle.rank_search.specs.declared.outcome.Ranked.TheVariants as ranks
 use Rattle.rank_search.specs.declared.turns.Ending.{Ending}
-use Rattle.rank_search.specs.declared.turns.Ending.TheVariants as endings
 use Rattle.rank_search.specs.Turns.{EndsWith}
 use Rattle.rank_search.specs.Ranked.{IsRankedBy}
-use Rattle.rank_search.proofs.ToldLemmas.{whole_ranked, spent_ranked, past_ranked}
+use Rattle.rank_search.proofs.ToldLemmas.{spent_ranked, past_ranked}
 use Rattle.rank_search.proofs.told.ranked_by.Goals as goal
 
 pub tell_whole-requires-clause-shut : goal.tell_whole-requires-clause-shut
-tell_whole-requires-clause-shut g c = subst (λ (e : Ending). EndsWith g.E.Evaluator.past c.args.problem.now c.args.growing.now c.args.found e) c.in-Whole.is c.requires.ends
+tell_whole-requires-clause-shut g c =
+    let found = c.args.found in
+    subst (λ (ms : List (Option Scaled)). AreShutAgainst c.args.problem.now c.args.growing.now (undercut_by found.count found.found) ms) (sym c.deref.ensures.value)
+    (subst (λ (e : Ending). EndsWith g.E.Evaluator.past c.args.problem.now c.args.growing.now found e) c.in-Whole.is c.requires.ends)
+
+pub returns-in_ok-told-in-Spent : goal.returns-in_ok-told-in-Spent
+returns-in_ok-told-in-Spent g c =
+    let p = c.args.problem.now in
+    let s = c.args.growing.now in
+    let found = c.args.found in
+    let told = c.in_ok-told-in-Spent.told in
+    let ends = subst (λ (e : Ending). EndsWith g.E.Evaluator.past p s found e) c.in-Spent.is c.requires.ends in
+    subst (λ (t : Text). IsRankedBy g.E.Evaluator.past p found.count s.budget (ranks.Spent t)) (sym c.text_of-in-Spent.ensures)
+    (spent_ranked g.E.Evaluator.past p c.count-count.result found.count s.budget c.count-count.ensures told.networks.items told.tree (map mark_of told.marks.items) told.place c.in-Spent.options
+    c.in_ok-told-in-Spent.ensures.tells (c.in_ok-told-in-Spent.ensures.spent c.in-Spent.options ends.1))
+
+pub returns-in_ok-told-in-Past : goal.returns-in_ok-told-in-Past
+returns-in_ok-told-in-Past g c =
+    let p = c.args.problem.now in
+    let s = c.args.growing.now in
+    let found = c.args.found in
+    let told = c.in_ok-told-in-Past.told in
+    let ends = subst (λ (e : Ending). EndsWith g.E.Evaluator.past p s found e) c.in-Past.is c.requires.ends in
+    subst (λ (t : Text). IsRankedBy g.E.Evaluator.past p found.count s.budget (ranks.Past t)) (sym c.text_of-in-Past.ensures)
+    (past_ranked g.E.Evaluator.past p c.count-count.result found.count s.budget c.count-count.ensures told.networks.items told.tree (map mark_of told.marks.items) told.place s c.in-Past.halted
+    c.in_ok-told-in-Past.ensures.tells ends c.in_ok-told-in-Past.ensures.open)

@@ -17,7 +17,7 @@ use Rattle.found_networks.proofs.CostLemmas.{undercut_positive}
 use Rattle.rank_search.specs.Turns.{IsBeating, IsRankEnd}
 use Rattle.rank_search.proofs.TurnLemmas.{growing_of, ends}
 use Rattle.rank_search.proofs.LeafLemmas.{spent_for}
-use Rattle.rank_search.proofs.GrowLemmas.{numbers_fit, grown}
+use Rattle.rank_search.proofs.GrowLemmas.{same_count, numbers_fit, grown}
 use Rattle.rank_search.proofs.turns.go_on.Goals as goal
 
 pub returns-in_default-clause-holds : goal.returns-in_default-clause-holds
@@ -123,3 +123,6 @@ returns-clause-holds g c =
     let added : AreAdded l c.add_all.new.self (length s.pool.payloads) c.in_ok-networks.networks.items = subst (λ n. AreAdded l c.add_all.new.self n c.in_ok-networks.networks.items) gr.tree.counted c.in_ok-add_all.ensures in
     grown g.E.Evaluator.past p c.is_valid.ensures.valid s.budget s l c.is_listed.ensures c.requires.ranking gr at first c.is_pool.ensures.payloads c.is_pool.ensures.leaves c.is_pool.ensures.rising
     c.value-value.result c.value-value.ensures under new m choice few b c.in_ok-networks.networks.items (c.in_ok-networks.ensures.solved refl) c.add_all.new.self added
+
+pub returns-clause-count : goal.returns-clause-count
+returns-clause-count g c = same_count c.args.found.now c.add_all.new.self c.args.growing.now.nodes c.in_ok-networks.networks.items c.in_ok-add_all.ensures

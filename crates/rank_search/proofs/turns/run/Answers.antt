@@ -14,11 +14,14 @@ turn-requires-clause-ranking g c =
     let r = c.turns.invariant.ranking in
     subst (λ b. IsRanking g.E.Evaluator.past c.args.problem.now b c.turns.growing c.turns.found) (sym r.budget_is) r
 
-pub returns-in-Some : goal.returns-in-Some
-returns-in-Some g c =
+pub returns-in-Some-clause-ends : goal.returns-in-Some-clause-ends
+returns-in-Some-clause-ends g c =
     let holds : TurnHolds g.E.Evaluator.past c.args.problem.now c.turns.growing.budget (length c.turns.growing.pool.payloads) c.turn.new.growing c.turn.new.found (Some c.in-Some.ending)
     = subst (λ (o : Option Ending). TurnHolds g.E.Evaluator.past c.args.problem.now c.turns.growing.budget (length c.turns.growing.pool.payloads) c.turn.new.growing c.turn.new.found o) c.in-Some.is c.in_ok-ending.ensures.holds in
     subst (λ b. IsRankEnd g.E.Evaluator.past c.args.problem.now b c.turn.new.growing c.turn.new.found c.in-Some.ending) c.turns.invariant.ranking.budget_is holds
+
+pub returns-in-Some-clause-count : goal.returns-in-Some-clause-count
+returns-in-Some-clause-count g c = c.in_ok-ending.ensures.count ∙ c.turns.invariant.count
 
 pub turns-preserved : goal.turns-preserved
 turns-preserved g c =
@@ -27,6 +30,7 @@ turns-preserved g c =
     record {
       ranking = subst (λ b. IsRanking g.E.Evaluator.past c.args.problem.now b c.turn.new.growing c.turn.new.found) c.turns.invariant.ranking.budget_is more.ranking;
       makers = c.turn.ensures.makers ∙ c.turns.invariant.makers;
+      count = c.in_ok-ending.ensures.count ∙ c.turns.invariant.count;
     }
 
 pub turns-smaller : goal.turns-smaller

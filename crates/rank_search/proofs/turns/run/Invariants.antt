@@ -6,6 +6,7 @@ abbrev pub invariant-turns : goal.invariant-turns
 invariant-turns g l = record {
   ranking : IsRanking g.E.Evaluator.past l.problem l.fn.growing.budget l.growing l.found;
   makers : l.makers.makers ≡ l.fn.makers.makers;
+  count : l.found.count ≡ l.fn.found.count;
 }
 
 abbrev pub decreases-turns : goal.decreases-turns
