@@ -2,12 +2,12 @@
 _pns() {
     local word=${COMP_WORDS[COMP_CWORD]} places='' place
     if [ "$COMP_CWORD" -eq 1 ]; then
-        mapfile -t COMPREPLY < <(compgen -W 'max axioms list flows solve check table report graph stable edit undo migrate expand periods make trial split part merge help version' -- "$word")
+        mapfile -t COMPREPLY < <(compgen -W 'max axioms list flows solve check table report graph stable edit undo migrate expand periods make trial rankcheck split part merge help version' -- "$word")
         return
     fi
     case ${COMP_WORDS[1]} in
         help)
-            [ "$COMP_CWORD" -eq 2 ] && mapfile -t COMPREPLY < <(compgen -W 'max axioms list flows solve check table report graph stable edit undo migrate expand periods make trial split part merge help version status' -- "$word")
+            [ "$COMP_CWORD" -eq 2 ] && mapfile -t COMPREPLY < <(compgen -W 'max axioms list flows solve check table report graph stable edit undo migrate expand periods make trial rankcheck split part merge help version status' -- "$word")
             return
             ;;
         max) places='1' ;;
@@ -25,6 +25,7 @@ _pns() {
         migrate) places='1' ;;
         expand) places='1 2' ;;
         periods) places='1 2' ;;
+        rankcheck) places='1 2' ;;
         split) places='1 2' ;;
         part) places='1 5' ;;
         merge) places='1 2 3 4 5 6 7 8 9 10 11 12 13 14 15 16 17 18 19 20 21 22 23 24 25 26 27 28 29 30 31' ;;

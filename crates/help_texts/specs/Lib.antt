@@ -6,6 +6,7 @@ pub mod Pages
 pub mod Parts
 pub mod Plans
 pub mod Program
+pub mod Ranks
 pub mod Reports
 pub mod Searches
 pub mod Structures

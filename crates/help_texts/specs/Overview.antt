@@ -14,6 +14,7 @@ overview =
     codes "  check FILE TREE                does the tree prove what it claims?" ∷
     codes "  report FILE TREE               the claimed network in tables; as CSV: table" ∷
     codes "  graph FILE, graph FILE TREE    the plant, and the network in it, for Graphviz" ∷
+    codes "  rankcheck FILE RANK            does the tree prove that these are the best?" ∷
     codes "  stable FILE TREE KIND NAME BUDGET    how far a price or a cost may move" ∷
     codes "  edit FILE SCRIPT               the plant after edits; the way back: undo" ∷
     codes "  migrate FILE YEARS             the script from yearly costs to investments" ∷
@@ -30,5 +31,5 @@ overview =
 unfoldable pub version : List (List ℕ)
 version =
     codes "pns 0.1.0" ∷
-    codes "PNS_problem_v1 PNS_tree_v1 PNS_edits_v1 PNS_part_v1 PNS_plan_v1" ∷
+    codes "PNS_problem_v1 PNS_tree_v1 PNS_edits_v1 PNS_rank_v1 PNS_part_v1 PNS_plan_v1" ∷
     []

@@ -26,7 +26,7 @@ version_page =
     codes "Example" ∷
     codes "  pns version" ∷
     codes "  pns 0.1.0" ∷
-    codes "  PNS_problem_v1 PNS_tree_v1 PNS_edits_v1 PNS_part_v1 PNS_plan_v1" ∷
+    codes "  PNS_problem_v1 PNS_tree_v1 PNS_edits_v1 PNS_rank_v1 PNS_part_v1 PNS_plan_v1" ∷
     []
 
 unfoldable pub status_page : List (List ℕ)
@@ -46,7 +46,7 @@ status_page =
     codes "  8   memory: there was not enough. Lines before this one are only the front of" ∷
     codes "      the text. Free some, or take a smaller plant or budget." ∷
     codes "  12  too long NAME: the file has more bytes than its limit, 268,435,456 for a" ∷
-    codes "      TREE or PART and 4,194,304 for the others." ∷
+    codes "      TREE, RANK or PART and 4,194,304 for the others." ∷
     codes "  20  nothing: a word is not UTF-8." ∷
     codes "" ∷
     codes "Of the other statuses each command tells its own: pns help COMMAND. 1 refuses" ∷

@@ -5,7 +5,7 @@ unfoldable pub solve_page : List (List ℕ)
 solve_page =
     codes "pns solve FILE BUDGET" ∷
     codes "Finds an allowed network of least cost in one year and a tree that proves it." ∷
-    codes "Keep the text: check, graph, table and stable read it." ∷
+    codes "Keep the text: check, report, graph, table and stable read it." ∷
     codes "  FILE    the plant, PNS_problem_v1" ∷
     codes "  BUDGET  the most nodes of the tree, 1 to 1000000; 10000 is a good try" ∷
     codes "Prints a tree text. Lines 2 to 4 are the network; sizes and cost as in pns help" ∷

@@ -4,8 +4,8 @@
 //! topics. A new command gets an entry there, a line in `specs/Overview` and a page in the file of its kind, and the same in
 //! the code; `tools/help write` then writes the manual page and the completions anew, and says what does not agree.
 //!
-//! Modules: `overview`; `pages`, the page on each topic; `structures`, `flows`, `reports`, `searches`, `parts`, `edits`, `plans`,
-//! `program`, the pages.
+//! Modules: `overview`; `pages`, the page on each topic; `structures`, `flows`, `reports`, `searches`, `ranks`, `parts`, `edits`,
+//! `plans`, `program`, the pages.
 #![tactic(auto)]
 
 mod edits;
@@ -15,6 +15,7 @@ mod pages;
 mod parts;
 mod plans;
 mod program;
+mod ranks;
 mod reports;
 mod searches;
 mod structures;

@@ -19,6 +19,7 @@ A FILE is a plant, PNS_problem_v1. Texts go to standard output; 0 is success.
   check FILE TREE                does the tree prove what it claims?
   report FILE TREE               the claimed network in tables; as CSV: table
   graph FILE, graph FILE TREE    the plant, and the network in it, for Graphviz
+  rankcheck FILE RANK            does the tree prove that these are the best?
   stable FILE TREE KIND NAME BUDGET    how far a price or a cost may move
   edit FILE SCRIPT               the plant after edits; the way back: undo
   migrate FILE YEARS             the script from yearly costs to investments
@@ -39,6 +40,6 @@ pub fn version_text() -> &'static [u8]
     ensures { result.now ≡ text_of version }
 {
     b"pns 0.1.0
-PNS_problem_v1 PNS_tree_v1 PNS_edits_v1 PNS_part_v1 PNS_plan_v1
+PNS_problem_v1 PNS_tree_v1 PNS_edits_v1 PNS_rank_v1 PNS_part_v1 PNS_plan_v1
 "
 }

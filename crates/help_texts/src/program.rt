@@ -35,7 +35,7 @@ Ends with
 Example
   pns version
   pns 0.1.0
-  PNS_problem_v1 PNS_tree_v1 PNS_edits_v1 PNS_part_v1 PNS_plan_v1
+  PNS_problem_v1 PNS_tree_v1 PNS_edits_v1 PNS_rank_v1 PNS_part_v1 PNS_plan_v1
 "
 }
 
@@ -59,7 +59,7 @@ pub fn status_page() -> &'static [u8]
   8   memory: there was not enough. Lines before this one are only the front of
       the text. Free some, or take a smaller plant or budget.
   12  too long NAME: the file has more bytes than its limit, 268,435,456 for a
-      TREE or PART and 4,194,304 for the others.
+      TREE, RANK or PART and 4,194,304 for the others.
   20  nothing: a word is not UTF-8.
 
 Of the other statuses each command tells its own: pns help COMMAND. 1 refuses

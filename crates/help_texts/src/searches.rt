@@ -10,7 +10,7 @@ pub fn solve_page() -> &'static [u8]
 {
     b"pns solve FILE BUDGET
 Finds an allowed network of least cost in one year and a tree that proves it.
-Keep the text: check, graph, table and stable read it.
+Keep the text: check, report, graph, table and stable read it.
   FILE    the plant, PNS_problem_v1
   BUDGET  the most nodes of the tree, 1 to 1000000; 10000 is a good try
 Prints a tree text. Lines 2 to 4 are the network; sizes and cost as in pns help

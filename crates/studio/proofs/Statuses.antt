@@ -6,7 +6,7 @@ use Rattle.edit_rules.specs.Edit.{Edit}
 use Rattle.pgraph.specs.declared.verdict.Verdict.{Verdict}
 use Rattle.pgraph.specs.declared.verdict.Verdict.TheVariants.{Meets, Breaks}
 use Rattle.pns_io.specs.Outside.{HasRisen, Told, IsToldAnd}
-use Rattle.studio_words.specs.Command.{Command, Max, Axioms, Flows, Listing, Make, Migrate, Editing, Undoing, Checking, Solving, Trial, Telling, command_of, IsFileOf, IsFileWord, Table, Splitting, Expanding, Drawing, DrawingNetwork, Reporting, Ranging, Planning, Parting, PartingAgainst, Merging}
+use Rattle.studio_words.specs.Command.{Command, Max, Axioms, Flows, Listing, Make, Migrate, Editing, Undoing, Checking, RankChecking, Solving, Trial, Telling, command_of, IsFileOf, IsFileWord, Table, Splitting, Expanding, Drawing, DrawingNetwork, Reporting, Ranging, Planning, Parting, PartingAgainst, Merging}
 use Rattle.command_files.specs.Reading.{AreHeld, FileFault, file_limit}
 use Rattle.structure_commands.specs.Max.{MaxWork}
 use Rattle.structure_commands.specs.Listing.{ListingWork}
@@ -21,6 +21,8 @@ use Rattle.tree_rules.specs.Claim.{Claim, Network}
 use Rattle.tree_rules.specs.Accepted.{Tree}
 use Rattle.command_files.specs.TreeFile.{TreeFault, OnTree, tree_limit}
 use Rattle.flow_commands.specs.Check.{CheckWork}
+use Rattle.ranked_tree.specs.Text.{Text}
+use Rattle.rank_commands.specs.Rankcheck.{RankFault, RankcheckWork, FilesListBest, AcceptedAreBest}
 use Rattle.network_commands.specs.Network.{OnNetwork}
 use Rattle.network_commands.specs.Table.{TableWork}
 use Rattle.network_commands.specs.Network.{ClaimRefusal}
@@ -115,6 +117,16 @@ check_status : (p : Problem) (claim : Claim) (tree : Tree) (s : Status) (lines :
 check_status p claim tree Done lines h = inl refl
 check_status p claim tree Refused lines h = inr refl
 check_status p claim tree s lines h = absurd h
+
+rank_file_status : (name : List ℕ) (p : Problem) (file : List ℕ) (s : Status) (lines : List (List ℕ)) → RankFault name p file s lines → (s ≡ BadTree) ⊎ ((s ≡ TooLong) × (tree_limit < length file))
+rank_file_status name p file TooLong lines h = inr (refl, h.0)
+rank_file_status name p file BadTree lines h = inl refl
+rank_file_status name p file s lines h = absurd h
+
+rankcheck_status : (p : Problem) (t : Text) (s : Status) (lines : List (List ℕ)) → RankcheckWork p t s lines → (s ≡ Done) ⊎ (s ≡ Refused)
+rankcheck_status p t Done lines h = inl refl
+rankcheck_status p t Refused lines h = inr refl
+rankcheck_status p t s lines h = absurd h
 
 split_status : (p : Problem) (claim : Claim) (tree : Tree) (s : Status) (lines : List (List ℕ)) → SplitWork p claim tree s lines → (s ≡ Done) ⊎ (s ≡ Refused)
 split_status p claim tree Done lines h = inl refl
@@ -310,6 +322,18 @@ command_status held (Checking name tree) s lines (file, is, inl fault) short = e
   | inr q ↦ absurd (within_limit (held name) file_limit file (short name file_limit (inl (refl, refl))) is q.1)
 ]
 command_status held (Checking name tree) s lines (file, is, inr work) short = trees_status CheckWork check_status held tree work.0 s lines work.2 (short tree tree_limit (inr (refl, refl)))
+command_status held (RankChecking name rank) s lines (file, is, inl fault) short = elim (fault_status name file s lines fault) [
+  | inl q ↦ inr (inr (inl q))
+  | inr q ↦ absurd (within_limit (held name) file_limit file (short name file_limit (inl (refl, refl))) is q.1)
+]
+command_status held (RankChecking name rank) s lines (file, is, inr (p, given, (bytes, there, inl fault))) short = elim (rank_file_status rank p bytes s lines fault) [
+  | inl q ↦ inr (inr (inr (inl q)))
+  | inr q ↦ absurd (within_limit (held rank) tree_limit bytes (short rank tree_limit (inr (refl, refl))) there q.1)
+]
+command_status held (RankChecking name rank) s lines (file, is, inr (p, given, (bytes, there, inr (t, gives, work)))) short = elim (rankcheck_status p t s lines work) [
+  | inl q ↦ inl q
+  | inr q ↦ inr (inl q)
+]
 command_status held (Table name tree) s lines (file, is, inl fault) short = elim (fault_status name file s lines fault) [
   | inl q ↦ inr (inr (inl q))
   | inr q ↦ absurd (within_limit (held name) file_limit file (short name file_limit (inl (refl, refl))) is q.1)
@@ -453,6 +477,9 @@ answer_status held (Expanding name plan) lines (file, is, inr (p, given, (bytes,
 answer_status held (Checking name tree) lines (file, is, inl fault) = absurd fault
 answer_status held (Checking name tree) lines (file, is, inr (p, given, (bytes, there, inl fault))) = absurd fault
 answer_status held (Checking name tree) lines (file, is, inr (p, given, (bytes, there, inr rest))) = absurd rest.3
+answer_status held (RankChecking name rank) lines (file, is, inl fault) = absurd fault
+answer_status held (RankChecking name rank) lines (file, is, inr (p, given, (bytes, there, inl fault))) = absurd fault
+answer_status held (RankChecking name rank) lines (file, is, inr (p, given, (bytes, there, inr (t, gives, work)))) = absurd work
 answer_status held (Table name tree) lines (file, is, inl fault) = absurd fault
 answer_status held (Table name tree) lines (file, is, inr (p, given, (bytes, there, inl fault))) = absurd fault
 answer_status held (Table name tree) lines (file, is, inr (p, given, (bytes, there, inr rest))) = elim (network_status TableWork table_status p rest.0 rest.1 Usage lines rest.3) [ inl q ↦ cc | inr q ↦ cc ]
@@ -503,6 +530,7 @@ memory_status (Editing file script) = inr (inr (inr (inl refl)))
 memory_status (Undoing file script) = inr (inr (inr (inl refl)))
 memory_status (Expanding file plan) = inr (inr (inr (inl refl)))
 memory_status (Checking file tree) = inr (inr (inr (inr (inl refl))))
+memory_status (RankChecking file rank) = inr (inr (inr (inr (inl refl))))
 memory_status (Table file tree) = inr (inr (inr (inr (inl refl))))
 memory_status (Reporting file tree) = inr (inr (inr (inr (inl refl))))
 memory_status (Splitting file tree) = inr (inr (inr (inr (inl refl))))
@@ -560,6 +588,7 @@ missing_says held (Migrate file years) name s lines first gone h = let same : fi
 missing_says held (Editing file script) name s lines first gone h = let same : file ≡ name = cc in nothing_held (held file) h.0 (ap held same ∙ gone) h.1
 missing_says held (Undoing file script) name s lines first gone h = let same : file ≡ name = cc in nothing_held (held file) h.0 (ap held same ∙ gone) h.1
 missing_says held (Checking file tree) name s lines first gone h = let same : file ≡ name = cc in nothing_held (held file) h.0 (ap held same ∙ gone) h.1
+missing_says held (RankChecking file rank) name s lines first gone h = let same : file ≡ name = cc in nothing_held (held file) h.0 (ap held same ∙ gone) h.1
 missing_says held (Table file tree) name s lines first gone h = let same : file ≡ name = cc in nothing_held (held file) h.0 (ap held same ∙ gone) h.1
 missing_says held (Reporting file tree) name s lines first gone h = let same : file ≡ name = cc in nothing_held (held file) h.0 (ap held same ∙ gone) h.1
 missing_says held (Splitting file tree) name s lines first gone h = let same : file ≡ name = cc in nothing_held (held file) h.0 (ap held same ∙ gone) h.1
@@ -617,6 +646,12 @@ module _ (shelves : Shelves) (words : List (List ℕ)) (risen : Type 0) (old new
   accepted_ends law s e file tree is done =
       let said = subst (λ (t : Status). Ends (WordsSay shelves words) risen old new t) done e in
       law shelves.held file tree said.1.0 (subst (λ (f : Option Command). AnswersTo shelves.held f Done said.1.0) is said.1.1)
+
+  -- the networks of a ranking that `rankcheck` accepts are the best
+  pub ranked_ends : AcceptedAreBest → (s : Status) → Ends (WordsSay shelves words) risen old new s → (file rank : List ℕ) → command_of words ≡ Some (RankChecking file rank) → s ≡ Done → FilesListBest shelves.held file rank
+  ranked_ends law s e file rank is done =
+      let said = subst (λ (t : Status). Ends (WordsSay shelves words) risen old new t) done e in
+      law shelves.held file rank said.1.0 (subst (λ (f : Option Command). AnswersTo shelves.held f Done said.1.0) is said.1.1)
 
   -- a command that reads a missing file first says so, unless the sink or memory fails
   pub missing_ends : (s : Status) → Ends (WordsSay shelves words) risen old new s → (command : Command) (name : List ℕ) → command_of words ≡ Some command → first_file command ≡ Some name → shelves.held name ≡ Some None → IsOneOf (ReadFault ∷ WriteFault ∷ Memory ∷ []) s

@@ -2,7 +2,7 @@
 use Rattle.std.specs.List.{Contains}
 use Rattle.std.specs.Prelude.{◌≡◌, ◌≤◌, ◌⊎◌, ℕ, List, [], ◌∷◌, Option, Some, None, length, codes}
 use Rattle.pns_io.specs.Outside.{HasRisen, Told, IsToldAnd}
-use Rattle.studio_words.specs.Command.{Command, Max, Axioms, Flows, Listing, Make, Migrate, Editing, Undoing, Checking, Solving, Trial, Telling, command_of, IsFileOf, IsFileWord, Table, Splitting, Expanding, Drawing, DrawingNetwork, Reporting, Ranging, Planning, Parting, PartingAgainst, Merging}
+use Rattle.studio_words.specs.Command.{Command, Max, Axioms, Flows, Listing, Make, Migrate, Editing, Undoing, Checking, RankChecking, Solving, Trial, Telling, command_of, IsFileOf, IsFileWord, Table, Splitting, Expanding, Drawing, DrawingNetwork, Reporting, Ranging, Planning, Parting, PartingAgainst, Merging}
 use Rattle.generator.specs.Generated.{generated}
 use Rattle.problem_rules.specs.Problem.{Problem}
 use Rattle.command_files.specs.Reading.{AreHeld, GivesProblem, OnFile, file_limit}
@@ -18,6 +18,7 @@ use Rattle.edit_commands.specs.Migrate.{MigrateWork}
 use Rattle.edit_commands.specs.Edits.{EditWork, UndoWork}
 use Rattle.command_files.specs.TreeFile.{OnTree, tree_limit}
 use Rattle.flow_commands.specs.Check.{CheckWork}
+use Rattle.rank_commands.specs.Rankcheck.{OnRank}
 use Rattle.network_commands.specs.Network.{OnNetwork}
 use Rattle.network_commands.specs.Table.{TableWork}
 use Rattle.network_commands.specs.Report.{ReportWork}
@@ -45,6 +46,7 @@ CommandAnswers held (Migrate file years) status lines = OnFile (MigrateWork year
 CommandAnswers held (Editing file script) status lines = OnFile (OnScript EditWork held script) held file status lines
 CommandAnswers held (Undoing file script) status lines = OnFile (OnScript UndoWork held script) held file status lines
 CommandAnswers held (Checking file tree) status lines = OnFile (OnTree CheckWork held tree) held file status lines
+CommandAnswers held (RankChecking file rank) status lines = OnFile (OnRank held rank) held file status lines
 CommandAnswers held (Table file tree) status lines = OnFile (OnTree (OnNetwork TableWork) held tree) held file status lines
 CommandAnswers held (Splitting file tree) status lines = OnFile (OnTree SplitWork held tree) held file status lines
 CommandAnswers held (Expanding file plan) status lines = OnFile (OnPlan ExpandWork held plan) held file status lines
@@ -88,6 +90,7 @@ first_file (Migrate file years) = Some file
 first_file (Editing file script) = Some file
 first_file (Undoing file script) = Some file
 first_file (Checking file tree) = Some file
+first_file (RankChecking file rank) = Some file
 first_file (Table file tree) = Some file
 first_file (Splitting file tree) = Some file
 first_file (Expanding file plan) = Some file
@@ -104,6 +107,7 @@ first_file (Solving file budget) = Some file
 -- the command reads the file, which is to hold no more bytes
 abbrev pub IsReadWithin : Command → List ℕ → ℕ → Type 0
 IsReadWithin (Checking file tree) name limit = ((name ≡ file) × (limit ≡ file_limit)) ⊎ ((name ≡ tree) × (limit ≡ tree_limit))
+IsReadWithin (RankChecking file rank) name limit = ((name ≡ file) × (limit ≡ file_limit)) ⊎ ((name ≡ rank) × (limit ≡ tree_limit))
 IsReadWithin (Table file tree) name limit = ((name ≡ file) × (limit ≡ file_limit)) ⊎ ((name ≡ tree) × (limit ≡ tree_limit))
 IsReadWithin (Splitting file tree) name limit = ((name ≡ file) × (limit ≡ file_limit)) ⊎ ((name ≡ tree) × (limit ≡ tree_limit))
 IsReadWithin (DrawingNetwork file tree) name limit = ((name ≡ file) × (limit ≡ file_limit)) ⊎ ((name ≡ tree) × (limit ≡ tree_limit))
@@ -130,6 +134,7 @@ statuses_of (Migrate file years) = Done ∷ NotMigrated ∷ BadProblem ∷ Memor
 statuses_of (Editing file script) = Done ∷ BadEdit ∷ BadProblem ∷ Memory ∷ []
 statuses_of (Undoing file script) = Done ∷ BadEdit ∷ BadProblem ∷ Memory ∷ []
 statuses_of (Checking file tree) = Done ∷ Refused ∷ BadProblem ∷ BadTree ∷ Memory ∷ []
+statuses_of (RankChecking file rank) = Done ∷ Refused ∷ BadProblem ∷ BadTree ∷ Memory ∷ []
 statuses_of (Table file tree) = Done ∷ Refused ∷ BadProblem ∷ BadTree ∷ Memory ∷ []
 statuses_of (Splitting file tree) = Done ∷ Refused ∷ BadProblem ∷ BadTree ∷ Memory ∷ []
 statuses_of (Expanding file plan) = Done ∷ BadPlan ∷ BadProblem ∷ Memory ∷ []

@@ -7,6 +7,7 @@ ghost use Rattle.endings.specs.Ending.{Ends, IsOneOf};
 ghost use Rattle.studio.specs.Answers.{CommandSays, WordsSay, IsUndisturbed, IsNotStopped, SearchCanFinish, first_file, statuses_of};
 ghost use Rattle.studio_words.specs.View.{command_view};
 ghost use Rattle.flow_commands.specs.Best.{FilesClaimBest};
+ghost use Rattle.rank_commands.specs.Rankcheck.{FilesListBest};
 
 use edit_commands::edits::{edit, undo};
 use edit_commands::make::make;
@@ -24,6 +25,7 @@ use part_searches::part::{part, part_against};
 use period_commands::expansion::expand;
 use period_searches::planned::periods;
 use pns_io::{Shelf, Sink};
+use rank_commands::{accepted_are_best, rankcheck};
 use searches::solve::solve;
 use searches::trial::trial;
 use stability_commands::stable::stable;
@@ -53,6 +55,7 @@ fn perform<F: Shelf, K: Sink>(
         Command::Editing(file, script) => edit(alloc, file, script, shelf, out),
         Command::Undoing(file, script) => undo(alloc, file, script, shelf, out),
         Command::Checking(file, tree) => check(alloc, file, tree, shelf, out),
+        Command::RankChecking(file, rank) => rankcheck(alloc, file, rank, shelf, out),
         Command::Table(file, tree) => table(alloc, file, tree, shelf, out),
         Command::Reporting(file, tree) => report(alloc, file, tree, shelf, out),
         Command::Splitting(file, tree) => split(alloc, file, tree, shelf, out),
@@ -120,7 +123,13 @@ pub fn studio<F: Shelf, K: Sink>(
     // allowed solution structure with flows of its cost, and none costs less; or none has flows.
     ensures accepted { (file : List ℕ) (tree : List ℕ) → command_of (map string_bytes words.now) ≡ Some (rules.Checking file tree)
         → result ≡ Status.Done → FilesClaimBest (F.held shelf.old) file tree }
+    // Where `rankcheck` ends with status 0, its files give a valid problem and a ranking that is right: no flows for the units of a listed
+    // network cost less than it, and no other allowed solution structure costs less than the last one, or none has flows where fewer
+    // are listed than were asked for.
+    ensures ranked { (file : List ℕ) (rank : List ℕ) → command_of (map string_bytes words.now) ≡ Some (rules.RankChecking file rank)
+        → result ≡ Status.Done → FilesListBest (F.held shelf.old) file rank }
 {
     accepted_is_best();
+    accepted_are_best();
     run(alloc, words, shelf, out)
 }

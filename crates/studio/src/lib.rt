@@ -5,8 +5,8 @@
 //! shelf holds; each status has its cause, and want of memory alone is free.
 //!
 //! The words are read by `studio_words`; the commands stand in crates of their own, by what they are about: `structure_commands`,
-//! `edit_commands`, `flow_commands`, `network_commands`, `searches`, `part_commands`, `part_searches`, `period_commands`,
-//! `period_searches` and `stability_commands`, over the files of `command_files`. Modules: `call`, which dispatches; `laws`.
+//! `edit_commands`, `flow_commands`, `network_commands`, `rank_commands`, `searches`, `part_commands`, `part_searches`,
+//! `period_commands`, `period_searches` and `stability_commands`, over the files of `command_files`. Modules: `call`, which dispatches; `laws`.
 #![tactic(auto)]
 
 mod call;

@@ -9,7 +9,7 @@ use Rattle.studio_words.specs.Numeral.{is_numeral, number_within}
 use Rattle.help_texts.specs.Lines.{text_of}
 use Rattle.help_texts.specs.Overview.{overview, version}
 use Rattle.help_texts.specs.Pages.{page_of, page_text}
-use Rattle.studio_words.specs.Command.{Command, Max, Axioms, Flows, Listing, Migrate, Editing, Undoing, Checking, Solving, Telling, is_help_word, is_version_word, or_else, merging_of, form_of, command_of, on_file, made_by, tried_by, ranged_by, kind_of, unit_names_of, count_of, seed_of, unit_count_of, years_of, budget_of, is_file_word, AreWithin, Table, Splitting, Expanding, Drawing, DrawingNetwork, Reporting, Ranging, Planning, Parting, PartingAgainst, Merging}
+use Rattle.studio_words.specs.Command.{Command, Max, Axioms, Flows, Listing, Migrate, Editing, Undoing, Checking, RankChecking, Solving, Telling, is_help_word, is_version_word, or_else, merging_of, form_of, command_of, on_file, made_by, tried_by, ranged_by, kind_of, unit_names_of, count_of, seed_of, unit_count_of, years_of, budget_of, is_file_word, AreWithin, Table, Splitting, Expanding, Drawing, DrawingNetwork, Reporting, Ranging, Planning, Parting, PartingAgainst, Merging}
 use Rattle.stability_rules.specs.declared.spot.SpotKind.{SpotKind}
 
 numeral_within : (least most : ℕ) (word : List ℕ) → IfSome (number_within least most word) (λ n. (least ≤ n) × (n ≤ most))
@@ -86,11 +86,12 @@ on_file_within word file second =
     (either_within (bytes_eq word (codes "edit") && is_file_word second) (Some (Editing file second)) _ tt
     (either_within (bytes_eq word (codes "undo") && is_file_word second) (Some (Undoing file second)) _ tt
     (either_within (bytes_eq word (codes "check") && is_file_word second) (Some (Checking file second)) _ tt
+    (either_within (bytes_eq word (codes "rankcheck") && is_file_word second) (Some (RankChecking file second)) _ tt
     (either_within (bytes_eq word (codes "table") && is_file_word second) (Some (Table file second)) _ tt
     (either_within (bytes_eq word (codes "split") && is_file_word second) (Some (Splitting file second)) _ tt
     (either_within (bytes_eq word (codes "expand") && is_file_word second) (Some (Expanding file second)) _ tt
     (either_within (bytes_eq word (codes "graph") && is_file_word second) (Some (DrawingNetwork file second)) _ tt
-    (either_within (bytes_eq word (codes "report") && is_file_word second) (Some (Reporting file second)) None tt tt)))))))))))
+    (either_within (bytes_eq word (codes "report") && is_file_word second) (Some (Reporting file second)) None tt tt))))))))))))
 
 forms_within : (words : List (List ℕ)) → IfSome (form_of words) AreWithin
 forms_within [] = tt

@@ -10,7 +10,7 @@ use Rattle.stability_rules.specs.declared.spot.SpotKind.{SpotKind}
 use Rattle.stability_rules.specs.declared.spot.SpotKind.TheVariants as kinds
 use Rattle.studio_words.specs.Numeral.{number_within}
 
--- a command with its words: FILE, the names of UNITS, AFTER and COUNT, NUMBER and the count of units, YEARS, SCRIPT, TREE, PLAN, BUDGET,
+-- a command with its words: FILE, the names of UNITS, AFTER and COUNT, NUMBER and the count of units, YEARS, SCRIPT, TREE, RANK, PLAN, BUDGET,
 -- KIND and NAME, INSIDE and OUTSIDE, the parts of a tree;
 -- or the text of the program itself that they ask for
 pub data Command : Type 0 where
@@ -23,6 +23,7 @@ pub data Command : Type 0 where
   Editing : List ℕ → List ℕ → Command
   Undoing : List ℕ → List ℕ → Command
   Checking : List ℕ → List ℕ → Command
+  RankChecking : List ℕ → List ℕ → Command
   Table : List ℕ → List ℕ → Command
   Splitting : List ℕ → List ℕ → Command
   Expanding : List ℕ → List ℕ → Command
@@ -63,7 +64,7 @@ years_of = number_within 1 100
 abbrev pub budget_of : List ℕ → Option ℕ
 budget_of = number_within 1 1000000
 
--- FILE, SCRIPT, TREE and PLAN are any words but the empty one
+-- FILE, SCRIPT, TREE, RANK and PLAN are any words but the empty one
 abbrev pub is_file_word : List ℕ → Bool
 is_file_word word = not (length word == 0)
 
@@ -96,6 +97,7 @@ with_file word file second =
     if bytes_eq word (codes "edit") && is_file_word second then Some (Editing file second)
     else if bytes_eq word (codes "undo") && is_file_word second then Some (Undoing file second)
     else if bytes_eq word (codes "check") && is_file_word second then Some (Checking file second)
+    else if bytes_eq word (codes "rankcheck") && is_file_word second then Some (RankChecking file second)
     else if bytes_eq word (codes "table") && is_file_word second then Some (Table file second)
     else if bytes_eq word (codes "split") && is_file_word second then Some (Splitting file second)
     else if bytes_eq word (codes "expand") && is_file_word second then Some (Expanding file second)
@@ -182,6 +184,7 @@ IsFileOf (Migrate file years) name = name ≡ file
 IsFileOf (Editing file script) name = (name ≡ file) ⊎ (name ≡ script)
 IsFileOf (Undoing file script) name = (name ≡ file) ⊎ (name ≡ script)
 IsFileOf (Checking file tree) name = (name ≡ file) ⊎ (name ≡ tree)
+IsFileOf (RankChecking file rank) name = (name ≡ file) ⊎ (name ≡ rank)
 IsFileOf (Table file tree) name = (name ≡ file) ⊎ (name ≡ tree)
 IsFileOf (Splitting file tree) name = (name ≡ file) ⊎ (name ≡ tree)
 IsFileOf (Expanding file plan) name = (name ≡ file) ⊎ (name ≡ plan)

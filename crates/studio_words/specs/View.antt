@@ -2,7 +2,7 @@
 use Rattle.std.specs.Prelude.{map, string_bytes}
 use Rattle.studio_words.specs.Command as rules
 use Rattle.studio_words.specs.declared.command.Command.{Command}
-use Rattle.studio_words.specs.declared.command.Command.TheVariants.{Max, Axioms, Flows, Listing, Make, Migrate, Editing, Undoing, Checking, Solving, Trial, Telling, Table, Splitting, Expanding, Drawing, DrawingNetwork, Reporting, Ranging, Planning, Parting, PartingAgainst, Merging}
+use Rattle.studio_words.specs.declared.command.Command.TheVariants.{Max, Axioms, Flows, Listing, Make, Migrate, Editing, Undoing, Checking, RankChecking, Solving, Trial, Telling, Table, Splitting, Expanding, Drawing, DrawingNetwork, Reporting, Ranging, Planning, Parting, PartingAgainst, Merging}
 
 abbrev pub command_view : Command → rules.Command
 command_view (Max file) = rules.Max file.now
@@ -14,6 +14,7 @@ command_view (Migrate file years) = rules.Migrate file.now years
 command_view (Editing file script) = rules.Editing file.now script.now
 command_view (Undoing file script) = rules.Undoing file.now script.now
 command_view (Checking file tree) = rules.Checking file.now tree.now
+command_view (RankChecking file rank) = rules.RankChecking file.now rank.now
 command_view (Table file tree) = rules.Table file.now tree.now
 command_view (Splitting file tree) = rules.Splitting file.now tree.now
 command_view (Expanding file plan) = rules.Expanding file.now plan.now

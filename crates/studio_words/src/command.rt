@@ -23,6 +23,7 @@ pub enum Command<'a> {
     Editing(&'a str, &'a str),
     Undoing(&'a str, &'a str),
     Checking(&'a str, &'a str),
+    RankChecking(&'a str, &'a str),
     Table(&'a str, &'a str),
     Splitting(&'a str, &'a str),
     Expanding(&'a str, &'a str),
@@ -220,6 +221,8 @@ fn with_file<'a>(word: &str, file: &'a str, second: &'a str) -> Option<Command<'
         Some(Command::Undoing(file, second))
     } else if word == "check" && !second.is_empty() {
         Some(Command::Checking(file, second))
+    } else if word == "rankcheck" && !second.is_empty() {
+        Some(Command::RankChecking(file, second))
     } else if word == "table" && !second.is_empty() {
         Some(Command::Table(file, second))
     } else if word == "split" && !second.is_empty() {

@@ -1,7 +1,7 @@
 use Rattle.std.proofs.Common.{map, string_bytes}
 use Rattle.pns_io.specs.Outside.{HasRisen}
 use Rattle.endings.specs.Ending.{Shelves}
-use Rattle.studio.proofs.Statuses.{usage_ends, no_form_ends, read_fault_ends, write_fault_ends, complete_ends, finish_ends, accepted_ends, missing_ends}
+use Rattle.studio.proofs.Statuses.{usage_ends, no_form_ends, read_fault_ends, write_fault_ends, complete_ends, finish_ends, accepted_ends, ranked_ends, missing_ends}
 use Rattle.studio.proofs.call.studio.Goals as goal
 
 pub returns : goal.returns
@@ -21,4 +21,5 @@ returns g c =
       complete = complete_ends shelves words risen old new c.run.result c.run.ensures;
       finishes = finish_ends shelves words risen old new c.run.result c.run.ensures;
       accepted = accepted_ends shelves words risen old new c.accepted_is_best.ensures c.run.result c.run.ensures;
+      ranked = ranked_ends shelves words risen old new c.accepted_are_best.ensures c.run.result c.run.ensures;
     }
