@@ -2,12 +2,12 @@
 _pns() {
     local word=${COMP_WORDS[COMP_CWORD]} places='' place
     if [ "$COMP_CWORD" -eq 1 ]; then
-        mapfile -t COMPREPLY < <(compgen -W 'max axioms list flows solve check table report graph stable edit undo migrate expand periods make trial rankcheck split part merge help version' -- "$word")
+        mapfile -t COMPREPLY < <(compgen -W 'max axioms list flows solve check table report graph stable edit undo migrate expand periods make trial rank rankcheck split part merge help version' -- "$word")
         return
     fi
     case ${COMP_WORDS[1]} in
         help)
-            [ "$COMP_CWORD" -eq 2 ] && mapfile -t COMPREPLY < <(compgen -W 'max axioms list flows solve check table report graph stable edit undo migrate expand periods make trial rankcheck split part merge help version status' -- "$word")
+            [ "$COMP_CWORD" -eq 2 ] && mapfile -t COMPREPLY < <(compgen -W 'max axioms list flows solve check table report graph stable edit undo migrate expand periods make trial rank rankcheck split part merge help version status' -- "$word")
             return
             ;;
         max) places='1' ;;
@@ -25,6 +25,7 @@ _pns() {
         migrate) places='1' ;;
         expand) places='1 2' ;;
         periods) places='1 2' ;;
+        rank) places='1' ;;
         rankcheck) places='1 2' ;;
         split) places='1 2' ;;
         part) places='1 5' ;;

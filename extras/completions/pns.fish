@@ -17,13 +17,14 @@ complete -c pns -n '__fish_use_subcommand' -a expand -d 'Writes the plant of a p
 complete -c pns -n '__fish_use_subcommand' -a periods -d 'Finds the units to build once and to run in several periods, at least cost'
 complete -c pns -n '__fish_use_subcommand' -a make -d 'Makes a plant out of a number, to try the program with'
 complete -c pns -n '__fish_use_subcommand' -a trial -d 'Makes the plant of pns make NUMBER UNITS, solves it and sums up'
+complete -c pns -n '__fish_use_subcommand' -a rank -d 'Finds the N allowed structures of least cost, each at its own least cost, and a tree that proves it'
 complete -c pns -n '__fish_use_subcommand' -a rankcheck -d 'Judges whether a rank text proves its ranking'
 complete -c pns -n '__fish_use_subcommand' -a split -d 'Lists the open leaves of a tree that solve left with status 4 or 5'
 complete -c pns -n '__fish_use_subcommand' -a part -d 'Searches one open leaf of a tree'
 complete -c pns -n '__fish_use_subcommand' -a merge -d 'Puts searched parts back into their tree'
 complete -c pns -n '__fish_use_subcommand' -a help -d 'Tells the commands, or one of them'
 complete -c pns -n '__fish_use_subcommand' -a version -d 'Tells which program this is'
-complete -c pns -n '__fish_seen_subcommand_from help' -a 'max axioms list flows solve check table report graph stable edit undo migrate expand periods make trial rankcheck split part merge help version status'
+complete -c pns -n '__fish_seen_subcommand_from help' -a 'max axioms list flows solve check table report graph stable edit undo migrate expand periods make trial rank rankcheck split part merge help version status'
 complete -c pns -n '__fish_seen_subcommand_from max; and test (count (commandline -opc)) -eq 2' -F
 complete -c pns -n '__fish_seen_subcommand_from axioms; and test (count (commandline -opc)) -eq 2' -F
 complete -c pns -n '__fish_seen_subcommand_from list; and test (count (commandline -opc)) -eq 2' -F
@@ -48,6 +49,7 @@ complete -c pns -n '__fish_seen_subcommand_from expand; and test (count (command
 complete -c pns -n '__fish_seen_subcommand_from expand; and test (count (commandline -opc)) -eq 3' -F
 complete -c pns -n '__fish_seen_subcommand_from periods; and test (count (commandline -opc)) -eq 2' -F
 complete -c pns -n '__fish_seen_subcommand_from periods; and test (count (commandline -opc)) -eq 3' -F
+complete -c pns -n '__fish_seen_subcommand_from rank; and test (count (commandline -opc)) -eq 2' -F
 complete -c pns -n '__fish_seen_subcommand_from rankcheck; and test (count (commandline -opc)) -eq 2' -F
 complete -c pns -n '__fish_seen_subcommand_from rankcheck; and test (count (commandline -opc)) -eq 3' -F
 complete -c pns -n '__fish_seen_subcommand_from split; and test (count (commandline -opc)) -eq 2' -F

@@ -14,7 +14,7 @@ overview =
     codes "  check FILE TREE                does the tree prove what it claims?" ∷
     codes "  report FILE TREE               the claimed network in tables; as CSV: table" ∷
     codes "  graph FILE, graph FILE TREE    the plant, and the network in it, for Graphviz" ∷
-    codes "  rankcheck FILE RANK            does the tree prove that these are the best?" ∷
+    codes "  rank FILE N BUDGET             the N best networks, a RANK; see rankcheck" ∷
     codes "  stable FILE TREE KIND NAME BUDGET    how far a price or a cost may move" ∷
     codes "  edit FILE SCRIPT               the plant after edits; the way back: undo" ∷
     codes "  migrate FILE YEARS             the script from yearly costs to investments" ∷

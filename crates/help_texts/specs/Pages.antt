@@ -6,7 +6,7 @@ use Rattle.help_texts.specs.Structures.{max_page, axioms_page, list_page}
 use Rattle.help_texts.specs.Flows.{flows_page, check_page}
 use Rattle.help_texts.specs.Reports.{table_page, report_page, graph_page, stable_page}
 use Rattle.help_texts.specs.Searches.{solve_page, trial_page}
-use Rattle.help_texts.specs.Ranks.{rankcheck_page}
+use Rattle.help_texts.specs.Ranks.{rank_page, rankcheck_page}
 use Rattle.help_texts.specs.Parts.{split_page, part_page, merge_page}
 use Rattle.help_texts.specs.Edits.{edit_page, undo_page, migrate_page, make_page}
 use Rattle.help_texts.specs.Plans.{expand_page, periods_page}
@@ -31,6 +31,7 @@ page_of topic =
     else if bytes_eq topic (codes "periods") then Some periods_page
     else if bytes_eq topic (codes "make") then Some make_page
     else if bytes_eq topic (codes "trial") then Some trial_page
+    else if bytes_eq topic (codes "rank") then Some rank_page
     else if bytes_eq topic (codes "rankcheck") then Some rankcheck_page
     else if bytes_eq topic (codes "split") then Some split_page
     else if bytes_eq topic (codes "part") then Some part_page

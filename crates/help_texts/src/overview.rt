@@ -19,7 +19,7 @@ A FILE is a plant, PNS_problem_v1. Texts go to standard output; 0 is success.
   check FILE TREE                does the tree prove what it claims?
   report FILE TREE               the claimed network in tables; as CSV: table
   graph FILE, graph FILE TREE    the plant, and the network in it, for Graphviz
-  rankcheck FILE RANK            does the tree prove that these are the best?
+  rank FILE N BUDGET             the N best networks, a RANK; see rankcheck
   stable FILE TREE KIND NAME BUDGET    how far a price or a cost may move
   edit FILE SCRIPT               the plant after edits; the way back: undo
   migrate FILE YEARS             the script from yearly costs to investments

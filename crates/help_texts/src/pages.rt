@@ -7,7 +7,7 @@ use crate::flows::{check_page, flows_page};
 use crate::parts::{merge_page, part_page, split_page};
 use crate::plans::{expand_page, periods_page};
 use crate::program::{help_page, status_page, version_page};
-use crate::ranks::rankcheck_page;
+use crate::ranks::{rank_page, rankcheck_page};
 use crate::reports::{graph_page, report_page, stable_page, table_page};
 use crate::searches::{solve_page, trial_page};
 use crate::structures::{axioms_page, list_page, max_page};
@@ -35,6 +35,7 @@ pub fn page_on(topic: &str) -> Option<&'static [u8]>
         "periods" => Some(periods_page()),
         "make" => Some(make_page()),
         "trial" => Some(trial_page()),
+        "rank" => Some(rank_page()),
         "rankcheck" => Some(rankcheck_page()),
         "split" => Some(split_page()),
         "part" => Some(part_page()),

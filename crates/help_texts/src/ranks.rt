@@ -1,7 +1,34 @@
 //! The pages on the best networks.
 ghost use Rattle.std.specs.Prelude.{◌≡◌};
 ghost use Rattle.help_texts.specs.Lines.{text_of};
-ghost use Rattle.help_texts.specs.Ranks.{rankcheck_page};
+ghost use Rattle.help_texts.specs.Ranks.{rank_page, rankcheck_page};
+
+/// The page on `rank`.
+#[tactic(auto, unfolding(crate::specs::Ranks::rank_page))]
+pub fn rank_page() -> &'static [u8]
+    ensures { result.now ≡ text_of rank_page }
+{
+    b"pns rank FILE N BUDGET
+Finds the N allowed structures of least cost, each at its own least cost, and a
+tree that proves it.
+  FILE    the plant, PNS_problem_v1
+  N       how many networks, 1 to 1000
+  BUDGET  the most nodes of the tree, 1 to 1000000; 10000 is a good try
+Prints a rank text: count N, networks K, three lines for each network from the
+cheapest on, then the tree. K is less than N only where there are no more.
+Ends with
+  0   The text is out, whole.
+  4   a rank text that ends with past, nonbasic and place lines: a number on the
+      way left the range of 128 bits; the plant need not be wrong. Write rates
+      and costs with fewer digits, or bounds and capacities nearer to what can
+      come, and call again.
+  5   a rank text that ends with a line spent: BUDGET was reached. The text has
+      the networks found so far. Call again with a greater BUDGET.
+  2, 3, 6, 7, 8, 12, 20: see pns help status
+Example
+  pns rank a.pns 2 100 > ranked
+"
+}
 
 /// The page on `rankcheck`.
 #[tactic(auto, unfolding(crate::specs::Ranks::rankcheck_page))]

@@ -12,7 +12,7 @@ use Rattle.endings.specs.declared.status.Status.TheVariants.{Done}
 use Rattle.rank_commands.specs.Rankcheck.{OnRank, AreBest, FilesListBest, AcceptedAreBest}
 
 module _ (listed : ListedAreLeast) (full : OthersCostEnough) (fewer : OthersHaveNone) where
-  are_best : (p : Problem) → IsValid p → (t : Text) → IsRanked p (ranking_of t) → AreBest p t.count t.networks
+  pub are_best : (p : Problem) → IsValid p → (t : Text) → IsRanked p (ranking_of t) → AreBest p t.count t.networks
   are_best p valid t ranked =
       record {
         pass = ranked.listed;

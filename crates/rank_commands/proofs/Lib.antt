@@ -1,1 +1,1 @@
-mod Best
+pub mod Best

@@ -17,17 +17,17 @@ use Rattle.command_files.specs.TreeFile.{TreeSays, tree_limit}
 use Rattle.flow_commands.specs.Check.{CheckWork}
 use Rattle.studio.specs.SolveLaws.{IsAcceptedOrLong, SolvedIsAccepted}
 
-is_held : (held : Told) (bytes file : List ℕ) → held ≡ Some (Some bytes) → AreHeld held file → file ≡ bytes
+pub is_held : (held : Told) (bytes file : List ℕ) → held ≡ Some (Some bytes) → AreHeld held file → file ≡ bytes
 is_held held bytes file e is = subst (λ (o : Told). AreHeld o file) e is
 
 -- a file that gives a problem has no fault
-no_fault : (name file : List ℕ) (p : Problem) (s : Status) (lines : List (List ℕ)) → GivesProblem file p → FileFault name file s lines → ⊥
+pub no_fault : (name file : List ℕ) (p : Problem) (s : Status) (lines : List (List ℕ)) → GivesProblem file p → FileFault name file s lines → ⊥
 no_fault name file p TooLong lines given fault = let a = given.within in let b = fault.0 in absurd (omega (arith, a, b))
 no_fault name file p BadProblem lines given fault = let e : ◌≡◌ {A = Result Problem Fault} (Ok p) (Err (fault.1.0, fault.1.1)) = sym given.reads ∙ fault.1.2 in cc
 no_fault name file p s lines given fault = absurd fault
 
 -- and gives no other
-one_problem : (file : List ℕ) (p q : Problem) → GivesProblem file p → GivesProblem file q → q ≡ p
+pub one_problem : (file : List ℕ) (p q : Problem) → GivesProblem file p → GivesProblem file q → q ≡ p
 one_problem file p q given other = let e : Ok q ≡ Ok p = sym other.reads ∙ given.reads in cc
 
 -- the certificate of a text with status 0

@@ -6,7 +6,7 @@ use Rattle.edit_rules.specs.Edit.{Edit}
 use Rattle.pgraph.specs.declared.verdict.Verdict.{Verdict}
 use Rattle.pgraph.specs.declared.verdict.Verdict.TheVariants.{Meets, Breaks}
 use Rattle.pns_io.specs.Outside.{HasRisen, Told, IsToldAnd}
-use Rattle.studio_words.specs.Command.{Command, Max, Axioms, Flows, Listing, Make, Migrate, Editing, Undoing, Checking, RankChecking, Solving, Trial, Telling, command_of, IsFileOf, IsFileWord, Table, Splitting, Expanding, Drawing, DrawingNetwork, Reporting, Ranging, Planning, Parting, PartingAgainst, Merging}
+use Rattle.studio_words.specs.Command.{Command, Max, Axioms, Flows, Listing, Make, Migrate, Editing, Undoing, Checking, RankChecking, Solving, Ranking, Trial, Telling, command_of, IsFileOf, IsFileWord, Table, Splitting, Expanding, Drawing, DrawingNetwork, Reporting, Ranging, Planning, Parting, PartingAgainst, Merging}
 use Rattle.command_files.specs.Reading.{AreHeld, FileFault, file_limit}
 use Rattle.structure_commands.specs.Max.{MaxWork}
 use Rattle.structure_commands.specs.Listing.{ListingWork}
@@ -22,6 +22,8 @@ use Rattle.tree_rules.specs.Accepted.{Tree}
 use Rattle.command_files.specs.TreeFile.{TreeFault, OnTree, tree_limit}
 use Rattle.flow_commands.specs.Check.{CheckWork}
 use Rattle.ranked_tree.specs.Text.{Text}
+use Rattle.rank_searches.specs.Rank as rankings
+use Rattle.rank_searches.specs.Rank.{RankWork}
 use Rattle.rank_commands.specs.Rankcheck.{RankFault, RankcheckWork, FilesListBest, AcceptedAreBest}
 use Rattle.network_commands.specs.Network.{OnNetwork}
 use Rattle.network_commands.specs.Table.{TableWork}
@@ -153,6 +155,9 @@ tail_status (past node nonbasic place) s e = inr (inr e)
 
 solve_status : (budget : ℕ) (p : Problem) (s : Status) (lines : List (List ℕ)) → SolveWork budget p s lines → (s ≡ Done) ⊎ ((s ≡ Spent) ⊎ (s ≡ Past))
 solve_status budget p s lines h = tail_status h.0.tail s h.1
+
+rank_status : (count budget : ℕ) (p : Problem) (s : Status) (lines : List (List ℕ)) → RankWork count budget p s lines → (s ≡ Done) ⊎ ((s ≡ Spent) ⊎ (s ≡ Past))
+rank_status count budget p s lines h = tail_status h.0.tail s h.1
 
 search_status : (budget : ℕ) (p : Problem) (s : Status) (lines : List (List ℕ)) → SummaryWork budget p s lines → (s ≡ Done) ⊎ ((s ≡ Spent) ⊎ (s ≡ Past))
 search_status budget p Done lines h = inl refl
@@ -440,6 +445,14 @@ command_status held (Solving name budget) s lines (file, is, inr work) short = e
   | inl q ↦ inl q
   | inr o ↦ elim o [ inl q ↦ inr (inl q) | inr q ↦ inr (inr (inl q)) ]
 ]
+command_status held (Ranking name count budget) s lines (file, is, inl fault) short = elim (fault_status name file s lines fault) [
+  | inl q ↦ inr (inr (inr (inl q)))
+  | inr q ↦ absurd (within_limit (held name) file_limit file (short name file_limit (refl, refl)) is q.1)
+]
+command_status held (Ranking name count budget) s lines (file, is, inr work) short = elim (rank_status count budget work.0 s lines work.2) [
+  | inl q ↦ inl q
+  | inr o ↦ elim o [ inl q ↦ inr (inl q) | inr q ↦ inr (inr (inl q)) ]
+]
 command_status held (Trial number units budget) s lines h short = elim (search_status budget (generated number units) s lines h) [
   | inl q ↦ inl q
   | inr o ↦ elim o [ inl q ↦ inr (inl q) | inr q ↦ inr (inr (inl q)) ]
@@ -512,6 +525,8 @@ answer_status held (Merging name tree parts) lines (file, is, inr (p, given, (by
 answer_status held (Merging name tree parts) lines (file, is, inr (p, given, (bytes, there, inr rest))) = usage_of_merge held parts p rest.0 rest.1 lines rest.3
 answer_status held (Solving name budget) lines (file, is, inl fault) = absurd fault
 answer_status held (Solving name budget) lines (file, is, inr work) = elim (solve_status budget work.0 Usage lines work.2) [ inl q ↦ cc | inr o ↦ elim o [ inl q ↦ cc | inr q ↦ cc ] ]
+answer_status held (Ranking name count budget) lines (file, is, inl fault) = absurd fault
+answer_status held (Ranking name count budget) lines (file, is, inr work) = elim (rank_status count budget work.0 Usage lines work.2) [ inl q ↦ cc | inr o ↦ elim o [ inl q ↦ cc | inr q ↦ cc ] ]
 answer_status held (Trial number units budget) lines h = elim (search_status budget (generated number units) Usage lines h) [ inl q ↦ cc | inr o ↦ elim o [ inl q ↦ cc | inr q ↦ cc ] ]
 answer_status held (Telling text) lines h = let q : Usage ≡ Done = h.0 in cc
 
@@ -542,6 +557,7 @@ memory_status (Parting file inside outside budget) = inr (inr (inr (inr (inr (in
 memory_status (PartingAgainst file inside outside budget tree) = inr (inr (inr (inr (inr (inr (inr (inl refl)))))))
 memory_status (Merging file tree parts) = inr (inr (inr (inr (inr (inl refl)))))
 memory_status (Solving file budget) = inr (inr (inr (inr (inl refl))))
+memory_status (Ranking file count budget) = inr (inr (inr (inr (inl refl))))
 memory_status (Trial number units budget) = inr (inr (inr (inl refl)))
 memory_status (Telling text) = inr (inl refl)
 
@@ -551,6 +567,14 @@ finished : (budget : ℕ) (p : Problem) (s : Status) (lines : List (List ℕ)) �
 finished budget p s lines can (c, e, holds, text) = at c.tail e holds
   where
     at : (tail : Tail) → s ≡ status_of tail → Holds budget p c.claim c.tree tail → IsNotStopped s
+    at whole e holds = ((λ q. cc), (λ q. cc))
+    at (spent next options) e holds = absurd (can.enough holds.2)
+    at (past node nonbasic place) e holds = let h = holds.1 in absurd (can.in_range h.node nonbasic place h.reduced h.past.past)
+
+rank_finished : (count budget : ℕ) (p : Problem) (s : Status) (lines : List (List ℕ)) → CanFinish budget p → RankWork count budget p s lines → IsNotStopped s
+rank_finished count budget p s lines can (t, e, holds, text) = at t.tail e holds
+  where
+    at : (tail : Tail) → s ≡ status_of tail → rankings.Holds count budget p t tail → IsNotStopped s
     at whole e holds = ((λ q. cc), (λ q. cc))
     at (spent next options) e holds = absurd (can.enough holds.2)
     at (past node nonbasic place) e holds = let h = holds.1 in absurd (can.in_range h.node nonbasic place h.reduced h.past.past)
@@ -568,6 +592,8 @@ fault_not_stopped name file s lines h = elim (fault_status name file s lines h) 
 command_finished : (held : List ℕ → Told) (command : Command) (s : Status) (lines : List (List ℕ)) → SearchCanFinish held command → CommandAnswers held command s lines → IsNotStopped s
 command_finished held (Solving name budget) s lines can (file, is, inl fault) = fault_not_stopped name file s lines fault
 command_finished held (Solving name budget) s lines can (file, is, inr work) = finished budget work.0 s lines (can file work.0 is work.1) work.2
+command_finished held (Ranking name count budget) s lines can (file, is, inl fault) = fault_not_stopped name file s lines fault
+command_finished held (Ranking name count budget) s lines can (file, is, inr work) = rank_finished count budget work.0 s lines (can file work.0 is work.1) work.2
 command_finished held (Trial number units budget) s lines can h = search_finished budget (generated number units) s lines can h
 command_finished held command s lines can h = absurd can
 
@@ -600,6 +626,7 @@ missing_says held (Planning file plan budget) name s lines first gone h = let sa
 missing_says held (Parting file inside outside budget) name s lines first gone h = let same : file ≡ name = cc in nothing_held (held file) h.0 (ap held same ∙ gone) h.1
 missing_says held (PartingAgainst file inside outside budget tree) name s lines first gone h = let same : file ≡ name = cc in nothing_held (held file) h.0 (ap held same ∙ gone) h.1
 missing_says held (Merging file tree parts) name s lines first gone h = let same : file ≡ name = cc in nothing_held (held file) h.0 (ap held same ∙ gone) h.1
+missing_says held (Ranking file count budget) name s lines first gone h = let same : file ≡ name = cc in nothing_held (held file) h.0 (ap held same ∙ gone) h.1
 missing_says held (Solving file budget) name s lines first gone h = let same : file ≡ name = cc in nothing_held (held file) h.0 (ap held same ∙ gone) h.1
 
 module _ (shelves : Shelves) (words : List (List ℕ)) (risen : Type 0) (old new : Option (List ℕ)) where

@@ -2,7 +2,7 @@
 use Rattle.std.specs.List.{Contains}
 use Rattle.std.specs.Prelude.{◌≡◌, ◌≤◌, ◌⊎◌, ℕ, List, [], ◌∷◌, Option, Some, None, length, codes}
 use Rattle.pns_io.specs.Outside.{HasRisen, Told, IsToldAnd}
-use Rattle.studio_words.specs.Command.{Command, Max, Axioms, Flows, Listing, Make, Migrate, Editing, Undoing, Checking, RankChecking, Solving, Trial, Telling, command_of, IsFileOf, IsFileWord, Table, Splitting, Expanding, Drawing, DrawingNetwork, Reporting, Ranging, Planning, Parting, PartingAgainst, Merging}
+use Rattle.studio_words.specs.Command.{Command, Max, Axioms, Flows, Listing, Make, Migrate, Editing, Undoing, Checking, RankChecking, Solving, Ranking, Trial, Telling, command_of, IsFileOf, IsFileWord, Table, Splitting, Expanding, Drawing, DrawingNetwork, Reporting, Ranging, Planning, Parting, PartingAgainst, Merging}
 use Rattle.generator.specs.Generated.{generated}
 use Rattle.problem_rules.specs.Problem.{Problem}
 use Rattle.command_files.specs.Reading.{AreHeld, GivesProblem, OnFile, file_limit}
@@ -19,6 +19,7 @@ use Rattle.edit_commands.specs.Edits.{EditWork, UndoWork}
 use Rattle.command_files.specs.TreeFile.{OnTree, tree_limit}
 use Rattle.flow_commands.specs.Check.{CheckWork}
 use Rattle.rank_commands.specs.Rankcheck.{OnRank}
+use Rattle.rank_searches.specs.Rank.{RankWork}
 use Rattle.network_commands.specs.Network.{OnNetwork}
 use Rattle.network_commands.specs.Table.{TableWork}
 use Rattle.network_commands.specs.Report.{ReportWork}
@@ -59,6 +60,7 @@ CommandAnswers held (Parting file inside outside budget) status lines = OnFile (
 CommandAnswers held (PartingAgainst file inside outside budget tree) status lines = OnFile (AgainstWork budget held tree inside outside) held file status lines
 CommandAnswers held (Merging file tree parts) status lines = OnFile (OnTree (MergeWork held parts) held tree) held file status lines
 CommandAnswers held (Solving file budget) status lines = OnFile (SolveWork budget) held file status lines
+CommandAnswers held (Ranking file count budget) status lines = OnFile (RankWork count budget) held file status lines
 CommandAnswers held (Trial number units budget) status lines = TrialWork number units budget status lines
 CommandAnswers held (Telling text) status lines = (status ≡ Done) × (text ≡ text_of lines)
 
@@ -103,6 +105,7 @@ first_file (Parting file inside outside budget) = Some file
 first_file (PartingAgainst file inside outside budget tree) = Some file
 first_file (Merging file tree parts) = Some file
 first_file (Solving file budget) = Some file
+first_file (Ranking file count budget) = Some file
 
 -- the command reads the file, which is to hold no more bytes
 abbrev pub IsReadWithin : Command → List ℕ → ℕ → Type 0
@@ -147,12 +150,14 @@ statuses_of (Parting file inside outside budget) = Done ∷ Spent ∷ Past ∷ B
 statuses_of (PartingAgainst file inside outside budget tree) = Done ∷ Refused ∷ Spent ∷ Past ∷ BadNode ∷ BadProblem ∷ BadTree ∷ Memory ∷ []
 statuses_of (Merging file tree parts) = Done ∷ Refused ∷ NoLeaf ∷ BadProblem ∷ BadTree ∷ Memory ∷ []
 statuses_of (Solving file budget) = Done ∷ Spent ∷ Past ∷ BadProblem ∷ Memory ∷ []
+statuses_of (Ranking file count budget) = Done ∷ Spent ∷ Past ∷ BadProblem ∷ Memory ∷ []
 statuses_of (Trial number units budget) = Done ∷ Spent ∷ Past ∷ Memory ∷ []
 statuses_of (Telling text) = Done ∷ Memory ∷ []
 
 -- nothing stops the search of the command before its end, whatever problem its file gives
 abbrev pub SearchCanFinish : (List ℕ → Told) → Command → Type 0
 SearchCanFinish held (Solving name budget) = (file : List ℕ) (p : Problem) → AreHeld (held name) file → GivesProblem file p → CanFinish budget p
+SearchCanFinish held (Ranking name count budget) = (file : List ℕ) (p : Problem) → AreHeld (held name) file → GivesProblem file p → CanFinish budget p
 SearchCanFinish held (Trial number units budget) = CanFinish budget (generated number units)
 SearchCanFinish held command = ⊥
 

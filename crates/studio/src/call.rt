@@ -26,6 +26,7 @@ use period_commands::expansion::expand;
 use period_searches::planned::periods;
 use pns_io::{Shelf, Sink};
 use rank_commands::{accepted_are_best, rankcheck};
+use rank_searches::rank;
 use searches::solve::solve;
 use searches::trial::trial;
 use stability_commands::stable::stable;
@@ -74,6 +75,7 @@ fn perform<F: Shelf, K: Sink>(
         }
         Command::Merging(file, tree, parts) => merge(alloc, file, tree, parts, shelf, out),
         Command::Solving(file, budget) => solve(alloc, file, budget, shelf, out),
+        Command::Ranking(file, count, budget) => rank(alloc, file, count, budget, shelf, out),
         Command::Trial(number, units, budget) => trial(alloc, number, units, budget, out),
         Command::Telling(text) => say_text(out, text, Status::Done),
     }

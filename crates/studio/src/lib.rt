@@ -5,8 +5,8 @@
 //! shelf holds; each status has its cause, and want of memory alone is free.
 //!
 //! The words are read by `studio_words`; the commands stand in crates of their own, by what they are about: `structure_commands`,
-//! `edit_commands`, `flow_commands`, `network_commands`, `rank_commands`, `searches`, `part_commands`, `part_searches`,
-//! `period_commands`, `period_searches` and `stability_commands`, over the files of `command_files`. Modules: `call`, which dispatches; `laws`.
+//! `edit_commands`, `flow_commands`, `network_commands`, `rank_commands`, `searches`, `rank_searches`, `part_commands`,
+//! `part_searches`, `period_commands`, `period_searches` and `stability_commands`, over the files of `command_files`. Modules: `call`, which dispatches; `laws`.
 #![tactic(auto)]
 
 mod call;
@@ -14,4 +14,4 @@ mod laws;
 
 pub use call::studio;
 pub use endings::Status;
-pub use laws::{parts_join, solved_is_accepted};
+pub use laws::{parts_join, ranked_is_accepted, solved_is_accepted};

@@ -9,7 +9,7 @@ use Rattle.studio_words.specs.Numeral.{is_numeral, number_within}
 use Rattle.help_texts.specs.Lines.{text_of}
 use Rattle.help_texts.specs.Overview.{overview, version}
 use Rattle.help_texts.specs.Pages.{page_of, page_text}
-use Rattle.studio_words.specs.Command.{Command, Max, Axioms, Flows, Listing, Migrate, Editing, Undoing, Checking, RankChecking, Solving, Telling, is_help_word, is_version_word, or_else, merging_of, form_of, command_of, on_file, made_by, tried_by, ranged_by, kind_of, unit_names_of, count_of, seed_of, unit_count_of, years_of, budget_of, is_file_word, AreWithin, Table, Splitting, Expanding, Drawing, DrawingNetwork, Reporting, Ranging, Planning, Parting, PartingAgainst, Merging}
+use Rattle.studio_words.specs.Command.{Command, Max, Axioms, Flows, Listing, Migrate, Editing, Undoing, Checking, RankChecking, Solving, Ranking, Telling, is_help_word, is_version_word, or_else, merging_of, form_of, command_of, on_file, made_by, tried_by, ranged_by, ranked_by, kind_of, unit_names_of, count_of, seed_of, unit_count_of, years_of, rank_count_of, budget_of, is_file_word, AreWithin, Table, Splitting, Expanding, Drawing, DrawingNetwork, Reporting, Ranging, Planning, Parting, PartingAgainst, Merging}
 use Rattle.stability_rules.specs.declared.spot.SpotKind.{SpotKind}
 
 numeral_within : (least most : ℕ) (word : List ℕ) → IfSome (number_within least most word) (λ n. (least ≤ n) × (n ≤ most))
@@ -69,6 +69,11 @@ ranged_within file tree None name budget p = tt
 ranged_within file tree (Some kind) name None p = tt
 ranged_within file tree (Some kind) name (Some budget) p = p
 
+ranked_within : (file : List ℕ) (count budget : Option ℕ) → IfSome count (λ n. (1 ≤ n) × (n ≤ 1000)) → IfSome budget (λ n. (1 ≤ n) × (n ≤ 1000000)) → IfSome (ranked_by file count budget) AreWithin
+ranked_within file None budget p q = tt
+ranked_within file (Some count) None p q = tt
+ranked_within file (Some count) (Some budget) p q = (p, q)
+
 listing_within : (file after : List ℕ) (count : Option ℕ) → IfSome (option_map (Listing file after) count) AreWithin
 listing_within file after None = tt
 listing_within file after (Some count) = tt
@@ -111,8 +116,10 @@ forms_within (word ∷ first ∷ second ∷ third ∷ []) =
     (tried_within (seed_of first) (unit_count_of second) (budget_of third) (numeral_within 1 128 second) (numeral_within 1 1000000 third))
     (either_within (bytes_eq word (codes "list") && is_file_word first) (option_map (Listing first second) (count_of third)) _
     (listing_within first second (count_of third))
-    (either_within (bytes_eq word (codes "periods") && is_file_word first && is_file_word second) (option_map (Planning first second) (budget_of third)) None
-    (planning_within first second (budget_of third) (numeral_within 1 1000000 third)) tt))
+    (either_within (bytes_eq word (codes "periods") && is_file_word first && is_file_word second) (option_map (Planning first second) (budget_of third)) _
+    (planning_within first second (budget_of third) (numeral_within 1 1000000 third))
+    (either_within (bytes_eq word (codes "rank") && is_file_word first) (ranked_by first (rank_count_of second) (budget_of third)) None
+    (ranked_within first (rank_count_of second) (budget_of third) (numeral_within 1 1000 second) (numeral_within 1 1000000 third)) tt)))
 forms_within (word ∷ first ∷ second ∷ third ∷ fourth ∷ []) =
     either_within (bytes_eq word (codes "part") && is_file_word first) (option_map (Parting first second third) (budget_of fourth)) None
     (parting_within first second third (budget_of fourth) (numeral_within 1 1000000 fourth)) tt

@@ -10,7 +10,7 @@ use Rattle.stability_rules.specs.declared.spot.SpotKind.{SpotKind}
 use Rattle.stability_rules.specs.declared.spot.SpotKind.TheVariants as kinds
 use Rattle.studio_words.specs.Numeral.{number_within}
 
--- a command with its words: FILE, the names of UNITS, AFTER and COUNT, NUMBER and the count of units, YEARS, SCRIPT, TREE, RANK, PLAN, BUDGET,
+-- a command with its words: FILE, the names of UNITS, AFTER and COUNT, NUMBER and the count of units, YEARS, SCRIPT, TREE, RANK, PLAN, N, BUDGET,
 -- KIND and NAME, INSIDE and OUTSIDE, the parts of a tree;
 -- or the text of the program itself that they ask for
 pub data Command : Type 0 where
@@ -36,6 +36,7 @@ pub data Command : Type 0 where
   PartingAgainst : List ℕ → List ℕ → List ℕ → ℕ → List ℕ → Command
   Merging : List ℕ → List ℕ → List (List ℕ) → Command
   Solving : List ℕ → ℕ → Command
+  Ranking : List ℕ → ℕ → ℕ → Command
   Trial : ℕ → ℕ → ℕ → Command
   Telling : List ℕ → Command
 
@@ -51,7 +52,7 @@ unit_names_of word =
 abbrev pub count_of : List ℕ → Option ℕ
 count_of = number_within 1 1000000000
 
--- NUMBER is any number of 64 bits, the count of units from 1 to 128, YEARS from 1 to 100, BUDGET from 1 to 1,000,000
+-- NUMBER is any number of 64 bits, the count of units from 1 to 128, YEARS from 1 to 100, N from 1 to 1,000, BUDGET from 1 to 1,000,000
 abbrev pub seed_of : List ℕ → Option ℕ
 seed_of = number_within 0 18446744073709551615
 
@@ -60,6 +61,9 @@ unit_count_of = number_within 1 128
 
 abbrev pub years_of : List ℕ → Option ℕ
 years_of = number_within 1 100
+
+abbrev pub rank_count_of : List ℕ → Option ℕ
+rank_count_of = number_within 1 1000
 
 abbrev pub budget_of : List ℕ → Option ℕ
 budget_of = number_within 1 1000000
@@ -77,6 +81,11 @@ made_by number units = None
 abbrev pub tried_by : Option ℕ → Option ℕ → Option ℕ → Option Command
 tried_by (Some number) (Some units) (Some budget) = Some (Trial number units budget)
 tried_by number units budget = None
+
+-- the best networks of a file are ranked, so many of them, within a budget
+abbrev pub ranked_by : List ℕ → Option ℕ → Option ℕ → Option Command
+ranked_by file (Some count) (Some budget) = Some (Ranking file count budget)
+ranked_by file count budget = None
 
 -- KIND: what is varied
 abbrev pub kind_of : List ℕ → Option SpotKind
@@ -152,6 +161,7 @@ form_of (word ∷ first ∷ second ∷ third ∷ []) =
     if bytes_eq word (codes "trial") then tried_by (seed_of first) (unit_count_of second) (budget_of third)
     else if bytes_eq word (codes "list") && is_file_word first then option_map (Listing first second) (count_of third)
     else if bytes_eq word (codes "periods") && is_file_word first && is_file_word second then option_map (Planning first second) (budget_of third)
+    else if bytes_eq word (codes "rank") && is_file_word first then ranked_by first (rank_count_of second) (budget_of third)
     else None
 form_of (word ∷ first ∷ second ∷ third ∷ fourth ∷ []) =
     if bytes_eq word (codes "part") && is_file_word first then option_map (Parting first second third) (budget_of fourth)
@@ -197,6 +207,7 @@ IsFileOf (Parting file inside outside budget) name = name ≡ file
 IsFileOf (PartingAgainst file inside outside budget tree) name = (name ≡ file) ⊎ (name ≡ tree)
 IsFileOf (Merging file tree parts) name = (name ≡ file) ⊎ ((name ≡ tree) ⊎ Contains parts name)
 IsFileOf (Solving file budget) name = name ≡ file
+IsFileOf (Ranking file count budget) name = name ≡ file
 IsFileOf (Trial number units budget) name = ⊥
 IsFileOf (Telling text) name = ⊥
 
@@ -209,6 +220,7 @@ AreWithin (Ranging file tree kind name budget) = (1 ≤ budget) × (budget ≤ 1
 AreWithin (Planning file plan budget) = (1 ≤ budget) × (budget ≤ 1000000)
 AreWithin (Parting file inside outside budget) = (1 ≤ budget) × (budget ≤ 1000000)
 AreWithin (PartingAgainst file inside outside budget tree) = (1 ≤ budget) × (budget ≤ 1000000)
+AreWithin (Ranking file count budget) = ((1 ≤ count) × (count ≤ 1000)) × ((1 ≤ budget) × (budget ≤ 1000000))
 AreWithin (Trial number units budget) = ((1 ≤ units) × (units ≤ 128)) × ((1 ≤ budget) × (budget ≤ 1000000))
 AreWithin (Telling text) = IsOfLines text
 AreWithin command = Unit {0}

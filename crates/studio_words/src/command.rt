@@ -1,6 +1,6 @@
 //! The words of a call.
 ghost use Rattle.std.specs.Prelude.{◌≡◌, ◌∷◌, [], IfOk, map, option_map, string_bytes};
-ghost use Rattle.studio_words.specs.Command.{command_of, form_of, on_file, with_file, made_by, tried_by, ranged_by, unit_names_of, count_of, seed_of, unit_count_of, years_of, budget_of, kind_of, alone, Axioms, Flows, Listing, Migrate, Solving, Planning, Parting, PartingAgainst, Telling};
+ghost use Rattle.studio_words.specs.Command.{command_of, form_of, on_file, with_file, made_by, tried_by, ranged_by, ranked_by, unit_names_of, count_of, seed_of, unit_count_of, years_of, rank_count_of, budget_of, kind_of, alone, Axioms, Flows, Listing, Migrate, Solving, Planning, Parting, PartingAgainst, Telling};
 ghost use Rattle.help_texts.specs.Pages.{page_text};
 ghost use Rattle.studio_words.specs.View.{command_view};
 
@@ -36,6 +36,7 @@ pub enum Command<'a> {
     PartingAgainst(&'a str, &'a str, &'a str, u64, &'a str),
     Merging(&'a str, &'a str, &'a [String]),
     Solving(&'a str, u64),
+    Ranking(&'a str, u64, u64),
     Trial(u64, u64, u64),
     /// A text of the program itself: help, or the version.
     Telling(&'static [u8]),
@@ -247,6 +248,8 @@ fn of_four<'a>(word: &str, first: &'a str, second: &'a str, third: &str) -> Opti
         listing_of(first, second, third)
     } else if word == "periods" && !first.is_empty() && !second.is_empty() {
         planning_of(first, second, third)
+    } else if word == "rank" && !first.is_empty() {
+        ranked_by(first, second, third)
     } else {
         None
     }
@@ -292,6 +295,23 @@ fn planning_of<'a>(file: &'a str, plan: &'a str, budget: &str) -> Option<Command
 {
     let budget = budget_of(budget)?;
     Some(Command::Planning(file, plan, budget))
+}
+
+/// The most networks that one call ranks.
+const MOST_RANKED: u64 = 1_000;
+
+fn rank_count_of(word: &str) -> Option<u64>
+    ensures { result ≡ rank_count_of word.now }
+{
+    number_within(word, 1, MOST_RANKED)
+}
+
+fn ranked_by<'a>(file: &'a str, count: &str, budget: &str) -> Option<Command<'a>>
+    ensures { option_map command_view result ≡ ranked_by file.now (rank_count_of count.now) (budget_of budget.now) }
+{
+    let count = rank_count_of(count)?;
+    let budget = budget_of(budget)?;
+    Some(Command::Ranking(file, count, budget))
 }
 
 fn parting_of<'a>(

@@ -1,5 +1,5 @@
 use Rattle.std.proofs.Common.{refl, sym, ap, subst, ◌≤◌, ℕ, List, map, string_bytes}
-use Rattle.studio_words.specs.Command.{Command, Max, Axioms, Flows, Listing, Migrate, Editing, Undoing, Checking, RankChecking, Solving, Telling, AreWithin, Table, Splitting, Expanding, Drawing, DrawingNetwork, Reporting, Ranging, Planning, Parting, PartingAgainst, Merging}
+use Rattle.studio_words.specs.Command.{Command, Max, Axioms, Flows, Listing, Migrate, Editing, Undoing, Checking, RankChecking, Solving, Ranking, Telling, AreWithin, Table, Splitting, Expanding, Drawing, DrawingNetwork, Reporting, Ranging, Planning, Parting, PartingAgainst, Merging}
 use Rattle.studio_words.specs.View.{command_view}
 use Rattle.endings.specs.Ending.{Shelves}
 use Rattle.studio.specs.Answers.{CommandSays}
@@ -199,6 +199,18 @@ returns-in-Solving g c =
     let Q : Status → List ℕ → Type 0 = CommandSays shelves (command_view c.args.command) in
     Ends-map (CommandSays shelves (Solving c.in-Solving.file.now c.in-Solving.budget)) Q _ _ _ _ _
     (λ s t h. subst (λ (v : Command). CommandSays shelves v s t) (sym (ap command_view c.in-Solving.is)) h) (λ r. r) c.solve.ensures
+
+pub rank-requires : goal.rank-requires
+rank-requires g c =
+    let within : ((1 ≤ c.in-Ranking.count) × (c.in-Ranking.count ≤ 1000)) × ((1 ≤ c.in-Ranking.budget) × (c.in-Ranking.budget ≤ 1000000)) = subst AreWithin (ap command_view c.in-Ranking.is) c.requires in
+    record { asked = within.0.0; within = within.0.1; some = within.1.0; few = within.1.1 }
+
+pub returns-in-Ranking : goal.returns-in-Ranking
+returns-in-Ranking g c =
+    let shelves : Shelves = record { held = g.F.Shelf.held c.args.shelf.now; before = g.F.Shelf.faults c.args.shelf.now; after = g.F.Shelf.faults c.rank.new.shelf } in
+    let Q : Status → List ℕ → Type 0 = CommandSays shelves (command_view c.args.command) in
+    Ends-map (CommandSays shelves (Ranking c.in-Ranking.file.now c.in-Ranking.count c.in-Ranking.budget)) Q _ _ _ _ _
+    (λ s t h. subst (λ (v : Command). CommandSays shelves v s t) (sym (ap command_view c.in-Ranking.is)) h) (λ r. r) c.rank.ensures
 
 pub trial-requires : goal.trial-requires
 trial-requires g c =

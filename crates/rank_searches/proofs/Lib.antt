@@ -1,0 +1,3 @@
+mod Ahead
+mod Marks
+pub mod Rankings

@@ -1,0 +1,24 @@
+use Rattle.std.proofs.Common.{◌≡◌, ap, ℕ, List}
+use Rattle.problem_rules.specs.Problem.{Problem}
+use Rattle.rank_searches.specs.Rank.{RankWork}
+use Rattle.command_files.specs.Reading.{OnFile}
+use Rattle.endings.specs.Ending.{Shelves, Says, Tells}
+use Rattle.endings.specs.declared.status.Status.{Status}
+use Rattle.endings.proofs.Ending.{Ends-map, Ends-from}
+use Rattle.command_files.proofs.Files.{on_file-faults, on_file-work}
+use Rattle.rank_searches.proofs.command.rank.Goals as goal
+
+pub returns-in-Ok : goal.returns-in-Ok
+returns-in-Ok g c =
+    let shelves : Shelves = record { held = g.F.Shelf.held c.args.shelf.now; before = g.F.Shelf.faults c.args.shelf.now; after = g.F.Shelf.faults c.problem_of.new.shelf } in
+    let work : Problem → Status → List (List ℕ) → Type 0 = RankWork c.args.count c.args.budget in
+    let Q : Status → List ℕ → Type 0 = Says (OnFile work shelves.held c.args.file.now) (λ other. other ≡ c.args.file.now) shelves in
+    Ends-from (Tells (work c.in-Ok.problem)) Q _ _ _ _ _ _ _ (ap g.K.Sink.faults c.in-Ok.ensures.silent) (ap g.K.Sink.written c.in-Ok.ensures.silent)
+    (on_file-work work shelves c.args.file.now c.in-Ok.problem c.in-Ok.ensures.problem) c.say_ranked.ensures
+
+pub returns-in-Err : goal.returns-in-Err
+returns-in-Err g c =
+    let shelves : Shelves = record { held = g.F.Shelf.held c.args.shelf.now; before = g.F.Shelf.faults c.args.shelf.now; after = g.F.Shelf.faults c.problem_of.new.shelf } in
+    let work : Problem → Status → List (List ℕ) → Type 0 = RankWork c.args.count c.args.budget in
+    let Q : Status → List ℕ → Type 0 = Says (OnFile work shelves.held c.args.file.now) (λ other. other ≡ c.args.file.now) shelves in
+    Ends-map _ Q _ _ _ _ _ (on_file-faults work shelves c.args.file.now) (λ r. r) c.in-Err.ensures.told

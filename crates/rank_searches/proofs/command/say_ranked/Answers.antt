@@ -1,0 +1,22 @@
+use Rattle.endings.specs.Ending.{Tells}
+use Rattle.endings.specs.declared.status.Status.TheVariants.{Memory}
+use Rattle.endings.proofs.Ending.{Ends-map, Tells-map, Tells-memory, only_in}
+use Rattle.rank_searches.specs.Found.{FoundSays}
+use Rattle.rank_searches.specs.Rank.{RankWork}
+use Rattle.rank_searches.proofs.Rankings.{found_works}
+use Rattle.rank_searches.proofs.command.say_ranked.Goals as goal
+
+pub say_found-requires : goal.say_found-requires
+say_found-requires g c = (c.args.count, c.args.budget, c.rank-ranked.ensures)
+
+pub returns-in_default : goal.returns-in_default
+returns-in_default g c =
+    let work = RankWork c.args.count c.args.budget c.args.problem.now in
+    Ends-map _ _ _ _ _ _ _ (only_in (Tells work) Memory _ (Tells-memory work)) (λ r. r) c.say_memory.ensures
+
+pub returns : goal.returns
+returns g c =
+    let p = c.args.problem.now in
+    let r = c.rank-ranked.result in
+    Ends-map _ _ _ _ _ _ _ (Tells-map (FoundSays p r) (RankWork c.args.count c.args.budget p)
+    (found_works c.listed_are_least.ensures c.others_are_no_better.ensures.full c.others_are_no_better.ensures.fewer p c.is_valid.ensures.valid c.args.count c.args.budget r c.rank-ranked.ensures)) (λ r. r) c.say_found.ensures

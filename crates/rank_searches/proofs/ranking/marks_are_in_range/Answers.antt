@@ -1,0 +1,10 @@
+use Rattle.std.proofs.Common.{List, map, sym, subst}
+use Rattle.problem_rules.specs.Each.{Each}
+use Rattle.ranked_tree.specs.declared.mark.Mark.{Mark}
+use Rattle.ranked_tree.specs.View.{mark_of}
+use Rattle.rank_searches.specs.Normal.{IsMarkInRange}
+use Rattle.rank_searches.proofs.Ahead.{item_ahead}
+use Rattle.rank_searches.proofs.ranking.marks_are_in_range.Goals as goal
+
+pub marks-preserved : goal.marks-preserved
+marks-preserved c = λ rest. c.marks.invariant (subst (λ (ms : List Mark). Each IsMarkInRange (map mark_of ms)) (sym (item_ahead c.args.marks.now c.marks.mark-index c.mark-item.result c.marks-test.true c.mark-item.is)) (c.mark_is_in_range.ensures, rest))

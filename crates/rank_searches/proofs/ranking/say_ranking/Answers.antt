@@ -1,0 +1,22 @@
+use Rattle.std.proofs.Common.{◌≡◌, ◌∙◌, ap}
+use Rattle.searches.specs.Solve.{status_of}
+use Rattle.searches.proofs.FoundTexts.{is_printing}
+use Rattle.rank_text.specs.Spelling.{rank_text_lines}
+use Rattle.endings.specs.Printed.{OneAnswer}
+use Rattle.endings.proofs.Ending.{Ends-map, Tells-map}
+use Rattle.rank_searches.specs.Found.{RankingSays}
+use Rattle.rank_searches.proofs.Rankings.{says}
+use Rattle.rank_searches.proofs.ranking.say_ranking.Goals as goal
+
+pub say_printed-requires : goal.say_printed-requires
+say_printed-requires g c = is_printing c.args.text.now.tail c.status_of.result (c.status_of.ensures ∙ ap status_of c.tail.ensures)
+
+pub returns : goal.returns
+returns g c =
+    let p = c.args.problem.now in
+    let t = c.args.text.now in
+    let lines = rank_text_lines p t in
+    let same : c.status_of.result ≡ status_of t.tail = c.status_of.ensures ∙ ap status_of c.tail.ensures in
+    let out = c.print_rank-printed in
+    Ends-map _ _ _ _ _ _ _ (Tells-map (OneAnswer c.status_of.result lines) (RankingSays p t) (says p t c.status_of.result same c.reads_back.ensures)) (λ r. r)
+    (c.say_printed.ensures lines _ _ out.ensures.later out.ensures.prints)

@@ -1,0 +1,24 @@
+-- The text of what a search for the best networks found, for the proof of the command.
+use Rattle.std.specs.Prelude.{◌≡◌, ℕ, List, Option, Some, None}
+use Rattle.problem_rules.specs.Problem.{Problem}
+use Rattle.ranked_tree.specs.Text.{Text}
+use Rattle.rank_search.specs.declared.outcome.Ranked.{Ranked}
+use Rattle.rank_search.specs.declared.outcome.Ranked.TheVariants.{Whole, Spent, Past, Memory}
+use Rattle.searches.specs.Solve.{status_of}
+use Rattle.rank_searches.specs.Normal.{normal}
+use Rattle.rank_searches.specs.Rank.{AreTextOf}
+use Rattle.endings.specs.declared.status.Status.{Status}
+
+-- the ranking that is found
+abbrev pub ranking_found : Ranked → Option Text
+ranking_found (Whole t) = Some t
+ranking_found (Spent t) = Some t
+ranking_found (Past t) = Some t
+ranking_found Memory = None
+
+-- its lines with the status of its tail
+abbrev pub RankingSays : Problem → Text → Status → List (List ℕ) → Type 0
+RankingSays p t status lines = (status ≡ status_of t.tail) × AreTextOf p (normal t) lines
+
+abbrev pub FoundSays : Problem → Ranked → Status → List (List ℕ) → Type 0
+FoundSays p ranked status lines = (t : Text) × (ranking_found ranked ≡ Some t) × RankingSays p t status lines

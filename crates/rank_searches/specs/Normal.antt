@@ -1,0 +1,30 @@
+-- A ranking with just one mark for each open leaf, as its text has it. Marks beyond the last open leaf, and a missing one, which stands for
+-- an open leaf, make no difference to the ranked tree.
+use Rattle.std.specs.Prelude.{◌≤◌, ℕ, List, [], ◌∷◌, Some, None}
+use Rattle.int_rows.specs.Range.{InRange, AllInRange}
+use Rattle.tree_rules.specs.Tree.{TreeNode, End, branch, leaf}
+use Rattle.tree_rules.specs.Leaf.{Leaf, dead, clash, refuted, bounded, untried}
+use Rattle.tree_rules.specs.Accepted.{Tree}
+use Rattle.ranked_tree.specs.Marked.{Mark, first_mark, marks_behind}
+use Rattle.ranked_tree.specs.Text.{Text}
+
+-- the mark of an open leaf before those of the nodes behind it
+abbrev pub with_mark : List Mark → End Leaf → List Mark → List Mark
+with_mark ms (branch w) behind = behind
+with_mark ms (leaf (dead x)) behind = behind
+with_mark ms (leaf (clash k)) behind = behind
+with_mark ms (leaf (refuted ys)) behind = behind
+with_mark ms (leaf (bounded d ys)) behind = behind
+with_mark ms (leaf untried) behind = first_mark ms ∷ behind
+
+abbrev pub marks_for : Tree → List Mark → List Mark
+marks_for [] ms = []
+marks_for (t ∷ ts) ms = with_mark ms t.end (marks_for ts (marks_behind ms t.end))
+
+abbrev pub normal : Text → Text
+normal t = record { count = t.count; networks = t.networks; tree = t.tree; marks = marks_for t.tree t.marks; tail = t.tail }
+
+-- the numbers of a mark are those of the code's types
+abbrev pub IsMarkInRange : Mark → Type 0
+IsMarkInRange None = Unit {0}
+IsMarkInRange (Some m) = (m.network ≤ 4294967295) × InRange m.d × AllInRange m.ys

@@ -1,0 +1,62 @@
+//! The command `rank`.
+ghost use Rattle.std.specs.Prelude.{◌≡◌, ◌≤◌};
+ghost use Rattle.pns_io.specs.Outside.{HasRisen};
+ghost use Rattle.rank_searches.specs.Rank.{RankWork};
+ghost use Rattle.command_files.specs.Reading.{OnFile};
+ghost use Rattle.endings.specs.Ending.{Ends, Says, Tells};
+
+use crate::ranking::say_found;
+use command_files::problem_of;
+use endings::Status;
+use endings::say::say_memory;
+use pgraph::Graph;
+use pns_io::{Shelf, Sink};
+use pns_problem::Problem;
+use rank_laws::{listed_are_least, others_are_no_better};
+use std::alloc::Global;
+
+// Says the best networks of the problem with the tree that proves it, or how far the search came.
+fn say_ranked<K: Sink>(
+    alloc: Global,
+    out: &mut K,
+    problem: &Problem,
+    count: u64,
+    budget: u64,
+) -> Status
+    requires asked { 1 ≤ count }
+    requires within { count ≤ 1000 }
+    requires some { 1 ≤ budget }
+    requires few { budget ≤ 1000000 }
+    ensures { Ends (Tells (RankWork count budget problem.now)) (HasRisen (K.faults out.old) (K.faults out.new)) (K.written out.old) (K.written out.new) result }
+{
+    let Ok(graph) = Graph::of(alloc, problem) else {
+        return say_memory(out);
+    };
+    problem.is_valid();
+    listed_are_least();
+    others_are_no_better();
+    let ranked = rank_search::rank(alloc, problem, &graph, count as u32, budget as u32);
+    say_found(alloc, out, problem, ranked)
+}
+
+/// Says the best networks of the file's problem, as many as are asked for, with the tree that proves it, or how far the search came.
+pub fn rank<F: Shelf, K: Sink>(
+    alloc: Global,
+    file: &str,
+    count: u64,
+    budget: u64,
+    shelf: &mut F,
+    out: &mut K,
+) -> Status
+    requires asked { 1 ≤ count }
+    requires within { count ≤ 1000 }
+    requires some { 1 ≤ budget }
+    requires few { budget ≤ 1000000 }
+    ensures { Ends (Says (OnFile (RankWork count budget) (F.held shelf.old) file.now) (λ other. other ≡ file.now) (record { held = F.held shelf.old; before = F.faults shelf.old; after = F.faults shelf.new }))
+        (HasRisen (K.faults out.old) (K.faults out.new)) (K.written out.old) (K.written out.new) result }
+{
+    match problem_of(alloc, shelf, out, file) {
+        Ok(problem) => say_ranked(alloc, out, &problem, count, budget),
+        Err(status) => status,
+    }
+}

@@ -1,0 +1,154 @@
+//! The text of what a search for the best networks found.
+ghost use Rattle.std.specs.Prelude.{◌≡◌, ◌<◌, ◌^◌, ℕ, Ok, length, map};
+ghost use Rattle.pns_io.specs.Outside.{HasRisen};
+ghost use Rattle.problem_rules.specs.Each.{Each};
+ghost use Rattle.branch_tree.specs.Sized.{IsKept};
+ghost use Rattle.branch_tree.specs.View.{tail_of};
+ghost use Rattle.tree_line_laws.specs.Fits.{CountsPlace};
+ghost use Rattle.tree_text_laws.specs.Fits.{CountsTail};
+ghost use Rattle.ranked_tree.specs.View.{mark_of};
+ghost use Rattle.rank_text.specs.Known.{KnowsText};
+ghost use Rattle.rank_text.specs.Read.{read_text};
+ghost use Rattle.rank_text.specs.Spelling.{rank_text};
+ghost use Rattle.rank_search.specs.Ranked.{IsRankedTo};
+ghost use Rattle.rank_searches.specs.Normal.{normal, IsMarkInRange};
+ghost use Rattle.rank_searches.specs.Found.{ranking_found, RankingSays, FoundSays};
+ghost use Rattle.endings.specs.Ending.{Ends, Tells};
+
+use branch_tree::{Network, Tail};
+use endings::Status;
+use endings::say::{say_memory, say_printed};
+use flow_program::Place;
+use pns_io::Sink;
+use pns_problem::Problem;
+use rank_search::Ranked;
+use rank_text::print_rank;
+use rank_text_laws::spelled_ranks_read;
+use ranked_tree::{Mark, RankText};
+use searches::status_of;
+use std::alloc::Global;
+
+/// The ranking that was found; `None` exactly for want of memory.
+fn ranking_found(ranked: Ranked) -> Option<RankText>
+    ensures { result ≡ ranking_found ranked }
+{
+    match ranked {
+        Ranked::Whole(text) => Some(text),
+        Ranked::Spent(text) => Some(text),
+        Ranked::Past(text) => Some(text),
+        Ranked::Memory => None,
+    }
+}
+
+// Networks are sized, and their numbers are in range. A call tells a proof so, and changes nothing.
+fn networks_are_kept(networks: &[Network])
+    ensures { Each IsKept networks.now }
+{
+    'networks: for network in networks {
+        network.is_sized();
+    }
+}
+
+// The numbers of a mark are in range. A call tells a proof so, and does nothing.
+fn mark_is_in_range(mark: &Mark)
+    ensures { IsMarkInRange (mark_of mark.now) }
+{
+    match mark {
+        Mark::Open => {}
+        Mark::Named { network, scaled } => {
+            let _network = *network;
+            scaled.are_in_range();
+        }
+    }
+}
+
+// So are those of all marks.
+fn marks_are_in_range(marks: &[Mark])
+    ensures { Each IsMarkInRange (map mark_of marks.now) }
+{
+    'marks: for mark in marks {
+        mark_is_in_range(mark);
+    }
+}
+
+// The step of a place is a number that a line can hold. A call tells a proof so, and does nothing.
+fn place_is_counted(place: &Place)
+    ensures { CountsPlace place.now }
+{
+    match place {
+        Place::Entry { .. } | Place::Flow { .. } => {}
+        Place::Cost { at }
+        | Place::FlowSum { at }
+        | Place::Bound { at }
+        | Place::Refute { at, .. } => {
+            let _at = *at;
+        }
+    }
+}
+
+// So are the numbers of a tail.
+fn tail_is_counted(tail: &Tail)
+    ensures { CountsTail (tail_of tail.now) }
+{
+    match tail {
+        Tail::Whole => {}
+        Tail::Spent { next, options } => {
+            let _next = *next;
+            let _options = *options;
+        }
+        Tail::Past { node, place, .. } => {
+            let _node = *node;
+            place_is_counted(place);
+        }
+    }
+}
+
+// The count of a ranking is a number that a line can hold. A call tells a proof so, and does nothing.
+fn count_is_held(text: &RankText)
+    ensures { text.now.count < 2 ^ 32 }
+{
+    let _count = text.count();
+}
+
+/// The text of a ranking reads as it, with just one mark for each open leaf. A call tells a proof so, and changes nothing.
+fn reads_back(problem: &Problem, text: &RankText)
+    requires known { KnowsText problem.now text.now }
+    requires few { length text.now.tree < 2 ^ 32 }
+    ensures { read_text problem.now (rank_text problem.now (normal text.now)) ≡ Ok (normal text.now) }
+{
+    problem.is_valid();
+    text.is_counted();
+    text.tree().is_tree();
+    count_is_held(text);
+    networks_are_kept(text.networks());
+    marks_are_in_range(text.marks());
+    tail_is_counted(text.tail());
+    spelled_ranks_read();
+}
+
+/// Prints the ranking. The status tells where the search stopped.
+fn say_ranking<K: Sink>(alloc: Global, out: &mut K, problem: &Problem, text: &RankText) -> Status
+    requires known { KnowsText problem.now text.now }
+    requires few { length text.now.tree < 2 ^ 32 }
+    ensures { Ends (Tells (RankingSays problem.now text.now)) (HasRisen (K.faults out.old) (K.faults out.new)) (K.written out.old) (K.written out.new) result }
+{
+    reads_back(problem, text);
+    let printed = print_rank(alloc, problem, text, out);
+    say_printed(out, printed, status_of(text.tail()))
+}
+
+/// Prints what was found.
+pub(crate) fn say_found<K: Sink>(
+    alloc: Global,
+    out: &mut K,
+    problem: &Problem,
+    ranked: Ranked,
+) -> Status
+    requires { (count : ℕ) × (budget : ℕ) × IsRankedTo problem.now count budget ranked }
+    ensures { Ends (Tells (FoundSays problem.now ranked)) (HasRisen (K.faults out.old) (K.faults out.new)) (K.written out.old) (K.written out.new) result }
+{
+    match ranking_found(ranked) {
+        Some(text) => say_ranking(alloc, out, problem, &text),
+        None => say_memory(out),
+    }
+}

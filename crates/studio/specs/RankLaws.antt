@@ -1,0 +1,17 @@
+-- A law over what `rank` and `rankcheck` print.
+use Rattle.std.specs.Prelude.{◌≡◌, ℕ, List, Some}
+use Rattle.pns_io.specs.Outside.{Told}
+use Rattle.endings.specs.Lines.{text_of}
+use Rattle.endings.specs.declared.status.Status.{Status}
+use Rattle.endings.specs.declared.status.Status.TheVariants.{Done}
+use Rattle.studio_words.specs.Command.{Ranking, RankChecking}
+use Rattle.studio.specs.Answers.{CommandAnswers}
+use Rattle.studio.specs.SolveLaws.{IsAcceptedOrLong}
+
+-- What `rank` prints with status 0 is accepted by `rankcheck` with the same problem file, or it is too long.
+abbrev pub RankedIsAccepted : Type 0
+RankedIsAccepted =
+    (held : List ℕ → Told) (file rank bytes : List ℕ) (count budget : ℕ) (ranked : List (List ℕ)) → held file ≡ Some (Some bytes)
+    → CommandAnswers held (Ranking file count budget) Done ranked → held rank ≡ Some (Some (text_of ranked))
+    → (status : Status) (checked : List (List ℕ)) → CommandAnswers held (RankChecking file rank) status checked
+    → IsAcceptedOrLong rank (text_of ranked) status checked
