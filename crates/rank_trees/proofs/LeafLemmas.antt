@@ -1,30 +1,29 @@
 -- Each leaf passes as it is told: one that names a network names the one of its node, and another one is bounded by the last network,
 -- where it is bounded.
-use Rattle.std.specs.Prelude.{slice_index_or}
-use Rattle.std.proofs.Common.{◌≡◌, ℕ, zero, suc, ◌+◌, ◌<◌, ◌==◌, ℤ, Bool, true, false, cond, List, [], ◌∷◌, length, Option, Some, None, refl, sym, ap, ◌∙◌, subst, arith, inl, inr, eq-eqb}
+use Rattle.std.proofs.Common.{◌≡◌, ℕ, zero, suc, ◌+◌, ◌<◌, ℤ, Bool, true, false, cond, List, [], ◌∷◌, length, Option, Some, None, refl, sym, ap, ◌∙◌, subst, arith, inl, inr, eq-eqb}
 use Rattle.std.specs.List.{slice_get}
 use Rattle.std.proofs.lemmas.List.{length-map}
 use Rattle.int_rows.specs.Range.{InRange, AllInRange}
 use Rattle.problem_rules.specs.Problem.{Problem}
 use Rattle.pns_rules.specs.Shape.{shape_of}
 use Rattle.pns_rules.specs.Nodes.{Node}
-use Rattle.tree_rules.specs.Tree.{End, branch, leaf}
+use Rattle.tree_rules.specs.Tree.{End, leaf}
 use Rattle.tree_rules.specs.Leaf as leaves
 use Rattle.tree_rules.specs.Leaf.{Leaf, dead, clash, refuted, bounded, untried, IsBounded}
 use Rattle.tree_rules.specs.Claim.{Network, CostOver}
 use Rattle.branch_tree.specs.Scaled.{Scaled}
 use Rattle.rank_rules.specs.Leaf as ranks
-use Rattle.rank_rules.specs.Networks.{numbered, network_at, last_cost, to_undercut}
+use Rattle.rank_rules.specs.Networks.{numbered, network_at, last_cost}
 use Rattle.search_tree.specs.Cells.{Cell, place_of, cell_at}
 use Rattle.search_tree.specs.Fits.{EndFits, Fits}
 use Rattle.search_tree.specs.Shut.{shut_leaf}
 use Rattle.search_tree.proofs.ShutLemmas.{proof_of}
 use Rattle.abb_search.specs.declared.growing.Growing.{Growing}
-use Rattle.abb_search.specs.Closing.{ShutsLeaf, ShutAll}
+use Rattle.abb_search.specs.Closing.{ShutsLeaf}
 use Rattle.found_networks.specs.Found.{FoundAt, networks_of, undercut_by, IsOfLeaf, IsFoundThere, AreBest}
-use Rattle.rank_trees.specs.Naming.{name_at, names_of}
+use Rattle.rank_trees.specs.Naming.{names_of}
 use Rattle.rank_trees.specs.Told.{AreShutAgainst}
-use Rattle.rank_trees.proofs.NameLemmas.{IsNameOf, name_is}
+use Rattle.rank_trees.proofs.NameLemmas.{name_is}
 use Rattle.rank_trees.proofs.MarkLemmas.{named_leaf}
 use Rattle.rank_trees.proofs.OrderLemmas.{leaf_told}
 

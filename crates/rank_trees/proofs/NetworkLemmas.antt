@@ -1,6 +1,6 @@
 -- The networks pass as a list: no two have the same units, where no two were found at one leaf, since a structure is in the family of one
 -- leaf alone.
-use Rattle.std.proofs.Common.{◌≡◌, ◌⊎◌, ℕ, suc, ◌<◌, Bool, true, List, [], ◌∷◌, length, Option, Some, refl, sym, ap, ◌∙◌, subst, inl, inr}
+use Rattle.std.proofs.Common.{◌≡◌, ℕ, suc, ◌<◌, Bool, true, List, [], ◌∷◌, length, Some, refl, sym, ap, ◌∙◌, subst, inl, inr}
 use Rattle.std.specs.List.{slice_get}
 use Rattle.number_sets.specs.Sets.{has}
 use Rattle.number_sets.proofs.SetLemmas.{below_from}
@@ -14,10 +14,10 @@ use Rattle.pns_rules.specs.Ends.{IsSound}
 use Rattle.tree_rules.specs.Tree.{leaf, Stands}
 use Rattle.tree_rules.specs.Claim as claims
 use Rattle.tree_rules.specs.Claim.{claimed_cost, ClaimPasses, IsSized}
-use Rattle.tree_rules.specs.Leaf.{Leaf, bounded, LeafPasses}
+use Rattle.tree_rules.specs.Leaf.{bounded, LeafPasses}
 use Rattle.tree_rules.specs.Accepted.{Proves}
 use Rattle.tree_laws.proofs.AcceptedLemmas.{leaves_are_apart}
-use Rattle.rank_rules.specs.Networks.{RisesFrom, IsNewTo, ArePassing, IsNoCheaper}
+use Rattle.rank_rules.specs.Networks.{RisesFrom, IsNewTo, ArePassing}
 use Rattle.rank_text.specs.Known.{KnowsNetwork}
 use Rattle.search_tree.specs.Cells.{Cell, place_of, cell_at}
 use Rattle.search_tree.specs.Preorder.{IsPreorder, tree_of}

@@ -1,6 +1,6 @@
 -- The cells of which open leaves are shut stand in the order of the others, each once; and the tree of such cells, with names, is the
 -- tree of the others, whose leaves are told so by their numbers.
-use Rattle.std.proofs.Common.{◌≡◌, ℕ, zero, suc, ◌+◌, ◌<◌, ◌==◌, List, [], ◌∷◌, ◌++◌, length, map, Option, Some, None, refl, sym, ap, ap₂, ◌∙◌, subst, arith, inl, inr, ne_eqb}
+use Rattle.std.proofs.Common.{◌≡◌, ℕ, suc, ◌+◌, ◌<◌, List, [], ◌∷◌, ◌++◌, length, Option, Some, refl, sym, ap, ap₂, subst, arith, inl, inr, ne_eqb}
 use Rattle.std.specs.List.{slice_get}
 use Rattle.std.proofs.lemmas.Bool.{cases_eq}
 use Rattle.problem_rules.specs.Each.{Each}
@@ -10,7 +10,6 @@ use Rattle.rank_rules.specs.Leaf as ranks
 use Rattle.rank_rules.specs.Ranked as ranked
 use Rattle.branch_tree.specs.Scaled.{Scaled}
 use Rattle.search_tree.specs.Cells.{Cell, cell_at, times, children_at, IsLinked}
-use Rattle.search_tree.specs.Growth.{as_shut}
 use Rattle.search_tree.specs.Preorder.{IsPreorder, node_at, tree_of, told_end, told_at, told_tree}
 use Rattle.search_tree.specs.Shut.{shut_leaf, shut_end, shut_cells}
 use Rattle.search_tree.proofs.CountLemmas.{once}

@@ -1,10 +1,9 @@
 -- What is told of a search: the tree, with its networks and marks, is ranked, lean, and spent where the search is.
 use Rattle.std.specs.Prelude.{IfOk}
-use Rattle.std.proofs.Common.{◌≡◌, ℕ, suc, ◌+◌, ◌-◌, ◌^◌, ◌<◌, ◌≤◌, Bool, true, false, List, [], ◌∷◌, length, Option, Some, None, Result, Ok, Err, refl, sym, ap, ap₂, ◌∙◌, subst, arith}
+use Rattle.std.proofs.Common.{◌≡◌, ℕ, suc, ◌+◌, ◌-◌, ◌^◌, ◌<◌, ◌≤◌, Bool, true, List, [], ◌∷◌, length, Option, Some, None, Result, Ok, Err, refl, sym, ap, ap₂, ◌∙◌, subst, arith}
 use Rattle.std.specs.List.{slice_get}
 use Rattle.std.proofs.lemmas.List.{length-map}
 use Rattle.number_sets.specs.Sets.{listed}
-use Rattle.int_rows.specs.Range.{InRange, AllInRange}
 use Rattle.problem_rules.specs.Each.{Each}
 use Rattle.problem_rules.specs.Problem.{Problem}
 use Rattle.problem_rules.specs.Validity.{IsValid}
@@ -12,7 +11,7 @@ use Rattle.pns_rules.specs.Shape.{shape_of}
 use Rattle.pns_rules.specs.Nodes.{Node}
 use Rattle.pns_rules.proofs.ProperLemmas.{proper_if_valid}
 use Rattle.pgraph.specs.View.{node_of}
-use Rattle.tree_rules.specs.Ways.{Way, options_at}
+use Rattle.tree_rules.specs.Ways.{options_at}
 use Rattle.tree_rules.specs.Tree.{End, branch, leaf, Pass, Stands}
 use Rattle.tree_rules.specs.Leaf as leaves
 use Rattle.tree_rules.specs.Leaf.{Leaf, dead, clash, refuted, bounded, untried, IsUntried}
@@ -21,13 +20,12 @@ use Rattle.tree_rules.specs.Lean.{IsLean}
 use Rattle.tree_rules.specs.Stops.{IsOpenAt, IsSpent}
 use Rattle.tree_rules.specs.Accepted.{Tree, first_node}
 use Rattle.rank_rules.specs.Leaf as ranks
-use Rattle.rank_rules.specs.Networks.{to_undercut, ArePassing}
+use Rattle.rank_rules.specs.Networks.{ArePassing}
 use Rattle.rank_rules.specs.Ranked as ranked
 use Rattle.branch_tree.specs.Scaled.{Scaled}
 use Rattle.branch_tree.specs.Known.{KnowsEnd, KnowsTree}
 use Rattle.ranked_tree.specs.Marked.{Mark, marked}
 use Rattle.ranked_tree.specs.Text.{AreNumbered}
-use Rattle.rank_text.specs.Known.{KnowsNetwork}
 use Rattle.search_tree.specs.Cells.{Cell, place_of, cell_at, IsLinked}
 use Rattle.search_tree.specs.Growth.{as_shut}
 use Rattle.search_tree.specs.Preorder.{IsPreorder, node_at, tree_of, told_tree}
@@ -42,7 +40,7 @@ use Rattle.abb_search.specs.Growing.{IsTreeKeptFor}
 use Rattle.abb_search.specs.Found.{IsBelowLimit}
 use Rattle.abb_search.proofs.KnownLemmas.{AreKnown, known_end, knows_tree, few_nodes}
 use Rattle.found_networks.specs.Found.{FoundAt, networks_of, undercut_by, AreBest}
-use Rattle.rank_trees.specs.Naming.{Names, name_at, names_at, names_of, opened, marks_in, IsNamedTree}
+use Rattle.rank_trees.specs.Naming.{Names, name_at, names_at, names_of, IsNamedTree}
 use Rattle.rank_trees.specs.Told.{IsOpenLeaf, IsTelling, IsSpentTelling, IsSpentFor}
 use Rattle.rank_trees.proofs.FewLemmas.{few_with_next}
 use Rattle.rank_trees.proofs.LeafLemmas.{ClosesAt, Closes, leaf_passes, still_open, told_open}
@@ -68,7 +66,6 @@ module _ (p : Problem) (partial : Bool) (undercut : Option CostOver) (cells : Li
   known_shut : AreKnown p (shut_cells ms cells)
   known_shut j lt =
       let there : j < length cells = let e = shut_length ms cells in omega (arith, lt, e) in
-      let c : Cell = cell_at cells j in
       subst (λ (d : Cell). KnowsCell p d) (sym (shut_at ms cells j there))
       (known_end p (cell_at cells j) (as_shut (cell_at cells j) (shut_end (proof_of ms j) (cell_at cells j).end)) (known j there) refl refl
       (knows_shut p partial undercut (place_of (cell_at cells j)) (proof_of ms j) (cell_at cells j).end (known j there).end (closes j there)))
@@ -96,16 +93,10 @@ module _ (p : Problem) (valid : IsValid p) (count : ℕ) (s : Growing) (fs : Lis
 
   marked_tree : marked marks tree ≡ told_tree told s.pool.payloads of.order
   marked_tree =
-      let ns : Names = names_at names of.order in
-      let ts : Tree = tree_of (shut_cells ms cells) of.order in
       let a : length (names_at names of.order) ≡ length of.order = length-names_at names of.order in
       let b : length (tree_of (shut_cells ms cells) of.order) ≡ length of.order = length-map of.order (node_at (shut_cells ms cells)) in
       ap₂ (λ (ks : List Mark) (us : Tree). marked ks us) of.marks_are of.tree_is
       ∙ (marked_is (names_at names of.order) (tree_of (shut_cells ms cells) of.order) (a ∙ sym b) ∙ named_is_told names ms cells linked of.order preorder)
-
-  -- the tree of the cells
-  abbrev plain : Tree
-  plain = tree_of s.pool.payloads of.order
 
   lean_plain : IsLean p IsUntried (undercut_by count fs) (node_of s.start) (tree_of s.pool.payloads of.order)
   lean_plain = kept_is_lean p (node_of s.start) (claim_with s.best) (undercut_by count fs) t.last s.pool.payloads of.order t.kept preorder

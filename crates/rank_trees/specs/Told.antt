@@ -24,7 +24,6 @@ use Rattle.turn_laws.specs.Turns.{CanBranch, IsLeastOpen}
 use Rattle.abb_search.specs.declared.growing.Growing.{Growing}
 use Rattle.abb_search.specs.Closing.{ShutAll}
 use Rattle.abb_search.specs.Found.{IsBelowLimit}
-use Rattle.found_networks.specs.Found.{FoundAt, undercut_by}
 
 -- an open leaf of a ranked tree
 abbrev pub IsOpenLeaf : Leaf → Type 0

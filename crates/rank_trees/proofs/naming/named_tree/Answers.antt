@@ -1,6 +1,5 @@
-use Rattle.std.proofs.Common.{◌≡◌, ℕ, List, length, take, drop, ◌++◌, refl, sym, ap, ap₂, ◌∙◌, subst, arith}
-use Rattle.tree_rules.specs.Tree.{IsTree, TreeNode}
-use Rattle.tree_rules.specs.Leaf.{Leaf}
+use Rattle.std.proofs.Common.{◌≡◌, ℕ, List, length, take, drop, ◌++◌, sym, ap, ap₂, ◌∙◌, subst, arith}
+use Rattle.tree_rules.specs.Tree.{IsTree}
 use Rattle.tree_rules.specs.Accepted.{Tree}
 use Rattle.search_tree.specs.Cells.{Cell}
 use Rattle.search_tree.specs.Shut.{shut_cells}

@@ -1,9 +1,9 @@
 use Rattle.std.specs.List.{slice_get}
-use Rattle.std.proofs.Common.{◌≡◌, ◌<◌, ◌+◌, ℕ, List, [], ◌∷◌, length, drop, replicate, slice_set, Option, Some, None, refl, sym, ap, ◌∙◌, subst, arith, inl, inr}
+use Rattle.std.proofs.Common.{◌≡◌, ◌+◌, ℕ, length, replicate, Some, None, refl, sym, ap, ◌∙◌, subst, arith, inl, inr}
 use Rattle.std.proofs.lemmas.Bool.{cases_eq}
 use Rattle.std.proofs.lemmas.List.{length-set}
 use Rattle.std.proofs.lemmas.Option.{slice_get_within}
-use Rattle.tree_rules.specs.Claim.{Network, IsSized}
+use Rattle.tree_rules.specs.Claim.{IsSized}
 use Rattle.found_networks.specs.Found.{FoundAt}
 use Rattle.rank_trees.specs.Naming.{Names, names_with, names_of}
 use Rattle.rank_trees.proofs.NameLemmas.{no-length, names_next, within_next, each_sized, item_there, same_item, no_number}

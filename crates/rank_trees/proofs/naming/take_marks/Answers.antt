@@ -1,11 +1,9 @@
 use Rattle.std.specs.Prelude.{get_or}
-use Rattle.std.proofs.Common.{◌≡◌, ◌<◌, ◌+◌, ◌++◌, ℕ, List, [], ◌∷◌, length, map, take, Option, Some, None, refl, sym, ap, ◌∙◌, subst, arith}
+use Rattle.std.proofs.Common.{◌≡◌, ◌<◌, ◌++◌, ℕ, List, length, map, Option, Some, sym, ap, ◌∙◌, arith}
 use Rattle.std.specs.List.{slice_get}
-use Rattle.ranked_tree.specs.Marked.{Mark}
 use Rattle.ranked_tree.specs.declared.mark.Mark as code
 use Rattle.ranked_tree.specs.View.{mark_of}
-use Rattle.tree_rules.specs.Accepted.{Tree}
-use Rattle.rank_trees.specs.Naming.{Names, name_at, names_at, opened, marks_in, marks_of}
+use Rattle.rank_trees.specs.Naming.{names_at, marks_of}
 use Rattle.rank_trees.proofs.NameLemmas.{name_there, got}
 use Rattle.rank_trees.proofs.MarkLemmas.{take_next, marks_pushed, marks_stay}
 use Rattle.rank_trees.proofs.naming.take_marks.Goals as goal
