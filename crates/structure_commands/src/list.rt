@@ -4,7 +4,7 @@ ghost use Rattle.number_sets.specs.Sets.{has, IsSet};
 ghost use Rattle.std.specs.Io.KnownBytes.{Appends};
 ghost use Rattle.pns_io.specs.Outside.{HasRisen, AppendsFront};
 ghost use Rattle.pns_rules.specs.Shape.{shape_of};
-ghost use Rattle.structure_list.specs.Tokens.{token_of};
+ghost use Rattle.structure_list.specs.Tokens.{digit, token_of};
 ghost use Rattle.structure_list.specs.Rest.{IsToCome};
 ghost use Rattle.endings.specs.Lines.{line};
 ghost use Rattle.command_files.specs.Reading.{OnFile};
@@ -43,18 +43,31 @@ fn next(list: &mut StructureList<'_>) -> Option<UnitSet>
     next_counted::<Brand>(Blank::new(1), list)
 }
 
+// The byte of a hexadecimal digit.
+fn digit_of(d: u8) -> u8
+    requires { d < 16 }
+    ensures { result ≡ digit d }
+{
+    if d < 10 { b'0' + d } else { b'a' - 10 + d }
+}
+
+// Appends the token of the set.
+fn push_token(bytes: &mut Vec<u8>, set: UnitSet) -> Result<(), AllocError>
+    ensures { OnOk result (bytes.new.items ≡ bytes.old.items ++ token_of set) }
+{
+    let bits = set.bits();
+    for i in 0..32u32 {
+        bytes.push(digit_of(((bits >> (124 - 4 * i)) % 16) as u8))?;
+    }
+    Ok(())
+}
+
 // Appends the line of a structure.
-fn push_line(
-    alloc: Global,
-    bytes: &mut Vec<u8>,
-    problem: &Problem,
-    set: UnitSet,
-) -> Result<(), AllocError>
+fn push_line(bytes: &mut Vec<u8>, problem: &Problem, set: UnitSet) -> Result<(), AllocError>
     requires { length problem.now.units ≤ 128 }
     ensures { OnOk result (bytes.new.items ≡ bytes.old.items ++ line (structure_line problem.now set)) }
 {
-    let token = print_token(alloc, set)?;
-    bytes.extend_from_slice(token.as_bytes())?;
+    push_token(bytes, set)?;
     push_unit_names(bytes, problem.units(), set)?;
     bytes.push(b'\n')?;
     Ok(())
@@ -109,7 +122,7 @@ fn say_rest<K: Sink>(
             return say(out, b"end\n", Status::Done);
         };
         list.is_one();
-        let Ok(()) = push_line(alloc, &mut bytes, problem, set) else {
+        let Ok(()) = push_line(&mut bytes, problem, set) else {
             return say_memory(out);
         };
         last = set;
