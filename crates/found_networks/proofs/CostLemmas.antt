@@ -1,5 +1,5 @@
 -- What the last one of the best networks costs, where one more is added.
-use Rattle.std.proofs.Common.{◌≡◌, ◌==◌, ℕ, zero, suc, ◌+◌, ◌-◌, ◌<◌, ◌≤◌, pos, ℤ, ◌*ℤ◌, ◌≤ℤ◌, ◌<ℤ◌, Bool, true, false, cond, List, [], ◌∷◌, ◌++◌, length, take, Option, Some, None, inl, inr, refl, sym, ap, ◌∙◌, subst, arith, length-append}
+use Rattle.std.proofs.Common.{◌≡◌, ◌==◌, ℕ, zero, suc, ◌<◌, ◌≤◌, pos, ◌≤ℤ◌, Bool, true, false, cond, List, [], ◌∷◌, ◌++◌, length, take, Option, Some, None, inl, inr, refl, sym, ap, ◌∙◌, subst, arith, length-append}
 use Rattle.std.specs.List.{slice_get}
 use Rattle.std.proofs.lemmas.Bool.{cases_lt, eq-eqb}
 use Rattle.std.proofs.lemmas.Int.{ints}
@@ -11,7 +11,7 @@ use Rattle.turn_laws.specs.Kept.{LastIsBelow}
 use Rattle.turn_laws.proofs.FractionLemmas.{fraction_trans}
 use Rattle.node_looks.specs.Evaluated.{cost_in}
 use Rattle.found_networks.specs.Found.{FoundAt, networks_of, undercut_by, AreRising}
-use Rattle.found_networks.specs.Listed.{Listed, AreScaled, IsListed, IsDearer, AreNoDearer, AreDearer, IsAdded, IsSomeAdded, AreAdded}
+use Rattle.found_networks.specs.Listed.{Listed, AreScaled, IsListed, AreDearer, IsAdded, AreAdded}
 use Rattle.found_networks.proofs.PlaceLemmas.{take_all, append_none, length_taken, rising_between, scaled_between, listed_more}
 
 -- ---- the cost that is to be undercut

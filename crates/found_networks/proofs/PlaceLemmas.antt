@@ -1,16 +1,16 @@
 -- Where a network goes in a list that rises in cost, and what the list is then.
 use Rattle.std.specs.Prelude.{slice_index_or, int_le, drop, IsTrue, ◌↔◌}
-use Rattle.std.proofs.Common.{◌≡◌, ◌⊎◌, ℕ, zero, suc, ◌+◌, ◌-◌, ◌<◌, ◌≤◌, pos, ℤ, ◌*ℤ◌, ◌≤ℤ◌, ◌<ℤ◌, Bool, true, false, List, [], ◌∷◌, ◌++◌, length, take, Option, Some, None, inl, inr, refl, sym, ap, ap₂, ◌∙◌, subst, arith, T}
+use Rattle.std.proofs.Common.{◌≡◌, ℕ, zero, suc, ◌+◌, ◌<◌, ◌≤◌, pos, ℤ, ◌*ℤ◌, ◌≤ℤ◌, ◌<ℤ◌, Bool, true, false, List, [], ◌∷◌, ◌++◌, length, take, Option, refl, sym, ap, ◌∙◌, subst, arith, T}
 use Rattle.std.specs.Int.Signed.{le_z, le_z_yes}
 use Rattle.std.specs.List.{AllWithin}
-use Rattle.std.specs.List.Sorted.{IsPartitionedBy, IsPartitionPoint}
+use Rattle.std.specs.List.Sorted.{IsPartitionedBy}
 use Rattle.std.proofs.lemmas.Float.{T_from_true}
 use Rattle.std.proofs.lemmas.Int.{ints, by_lt_z}
 use Rattle.tree_rules.specs.Claim.{Network}
 use Rattle.turn_laws.proofs.FractionLemmas.{fraction_trans}
 use Rattle.rank_rules.specs.Networks.{IsNoCheaper}
 use Rattle.found_networks.specs.Found.{FoundAt, AreRising}
-use Rattle.found_networks.specs.Listed.{Listed, AreScaled, IsListed, IsDearer, AreNoDearer, AreDearer, IsAdded, IsSomeAdded, AreAdded}
+use Rattle.found_networks.specs.Listed.{Listed, AreScaled, IsListed, AreNoDearer, AreDearer, IsAdded, IsSomeAdded, AreAdded}
 
 -- ---- tests of numbers
 

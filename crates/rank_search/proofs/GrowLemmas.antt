@@ -1,6 +1,6 @@
 -- A leaf is branched, and what is found at its children is added.
 use Rattle.std.specs.Prelude.{drop}
-use Rattle.std.proofs.Common.{◌≡◌, ◌⊎◌, ℕ, zero, suc, ◌+◌, ◌-◌, ◌^◌, ◌<◌, ◌≤◌, true, false, List, [], ◌∷◌, ◌++◌, length, map, slice_set, Option, Some, None, inl, inr, refl, sym, ap, ◌∙◌, subst, arith, length-append}
+use Rattle.std.proofs.Common.{◌≡◌, ℕ, zero, suc, ◌+◌, ◌^◌, ◌<◌, ◌≤◌, true, List, [], ◌∷◌, ◌++◌, length, map, slice_set, Option, Some, None, refl, sym, ap, ◌∙◌, subst, arith}
 use Rattle.std.specs.List.{slice_get}
 use Rattle.std.proofs.lemmas.List.{length-set}
 use Rattle.number_sets.specs.Options.{IsIn}
@@ -12,19 +12,17 @@ use Rattle.pns_rules.specs.Shape.{shape_of}
 use Rattle.pns_rules.specs.Nodes.{Node}
 use Rattle.pns_rules.specs.Ends.{IsSound, IsDead, IsNever}
 use Rattle.pgraph.specs.View.{node_of}
-use Rattle.unit_sets.specs.declared.node.Node as starts
 use Rattle.mixed_numbers.specs.declared.number.Mixed.{Mixed}
 use Rattle.tree_rules.specs.Ways.{Way, MayBranch, options_at, child_at}
-use Rattle.tree_rules.specs.Tree.{branch, leaf, after_all}
+use Rattle.tree_rules.specs.Tree.{branch, after_all}
 use Rattle.tree_rules.specs.Claim.{Network, CostOver, claimed_cost}
-use Rattle.tree_rules.specs.Accepted.{first_node}
 use Rattle.search_laws.proofs.ValueLemmas.{ways_are_dearer}
 use Rattle.search_tree.specs.Cells.{Cell, place_of, cell_at}
 use Rattle.search_tree.specs.Fits.{Follows}
 use Rattle.search_tree.specs.Growth.{as_parent}
 use Rattle.turn_laws.specs.Values.{IsPositive, IsUnder}
 use Rattle.turn_laws.specs.Kept.{LastIsBelow}
-use Rattle.turn_laws.specs.Turns.{IsFreshChild, AreChildren}
+use Rattle.turn_laws.specs.Turns.{AreChildren}
 use Rattle.turn_laws.proofs.KeptLemmas.{under_dearer}
 use Rattle.branch_choice.specs.declared.choice.Choice.{Choice}
 use Rattle.branch_choice.specs.Choices.{IsChoice, way_of, option_count}
@@ -33,9 +31,9 @@ use Rattle.node_looks.specs.Children.{claim_with, AreSolvedBy, cells_of}
 use Rattle.node_looks.proofs.ChildLemmas.{comes}
 use Rattle.node_looks.proofs.ChoiceLemmas.{may_branch}
 use Rattle.abb_search.specs.declared.growing.Growing.{Growing}
-use Rattle.abb_search.specs.Growing.{IsGrowingFor, GoesOnFor, IsBranching}
+use Rattle.abb_search.specs.Growing.{IsGrowingFor, IsBranching}
 use Rattle.abb_search.proofs.HandLemmas.{children_kept}
-use Rattle.abb_search.proofs.TurnLemmas.{there, untried_there, at_hand, hand, sound_there, branched_for}
+use Rattle.abb_search.proofs.TurnLemmas.{there, untried_there, hand, sound_there, branched_for}
 use Rattle.found_networks.specs.Found.{AreBest, undercut_by}
 use Rattle.found_networks.specs.Listed.{Listed, IsListed, AreAdded}
 use Rattle.found_networks.proofs.CostLemmas.{AreAbove, undercut_positive, all_above}

@@ -1,5 +1,5 @@
 -- The open leaf of least value that a search takes next.
-use Rattle.std.proofs.Common.{◌≡◌, ℕ, ◌+◌, ◌<◌, ◌≤◌, true, List, [], length, Option, Some, None, ℤ, ◌*ℤ◌, ◌≤ℤ◌, refl, sym, ap, ◌∙◌, subst, arith}
+use Rattle.std.proofs.Common.{◌≡◌, ℕ, ◌+◌, ◌<◌, true, [], length, Option, Some, None, sym, ◌∙◌, subst, arith}
 use Rattle.std.specs.List.{slice_get}
 use Rattle.std.proofs.lemmas.Int.{ints}
 use Rattle.link_lists.specs.Lists.{has, first}
@@ -14,24 +14,24 @@ use Rattle.flow_rules.specs.Relaxed.{relaxed_cost}
 use Rattle.mixed_numbers.specs.declared.number.Mixed.{Mixed}
 use Rattle.mixed_numbers.specs.Number.{numerator, denominator}
 use Rattle.tree_rules.specs.Tree.{leaf}
-use Rattle.tree_rules.specs.Claim.{Network, CostOver}
+use Rattle.tree_rules.specs.Claim.{CostOver}
 use Rattle.tree_rules.specs.Leaf.{untried}
 use Rattle.tree_rules.specs.Stops.{IsPending}
 use Rattle.search_tree.specs.Cells.{place_of, cell_at}
-use Rattle.turn_laws.specs.Values.{IsPositive, IsNoMore, IsUnder, IsValueOf}
+use Rattle.turn_laws.specs.Values.{IsValueOf}
 use Rattle.turn_laws.specs.Kept.{LastIsBelow}
 use Rattle.turn_laws.specs.Turns.{CanBranch, IsLeastOpen}
 use Rattle.turn_laws.proofs.FractionLemmas.{fraction_trans}
 use Rattle.branch_choice.specs.declared.choice.Choice.{Choice}
 use Rattle.branch_choice.specs.Choices.{IsChoice, way_of, option_count}
 use Rattle.node_looks.specs.declared.looks.Ready.{Ready}
-use Rattle.node_looks.specs.Evaluated.{cost_over, cost_in}
+use Rattle.node_looks.specs.Evaluated.{cost_over}
 use Rattle.node_looks.specs.Looks.{IsReady, IsSomeReady}
 use Rattle.node_looks.proofs.ChoiceLemmas.{may_branch, decides, option_count_is, next_count, undecided_there}
 use Rattle.abb_search.specs.declared.growing.Growing.{Growing}
 use Rattle.abb_search.specs.Growing.{IsGrowingFor}
 use Rattle.abb_search.specs.Closing.{AreBeaten}
-use Rattle.abb_search.proofs.TurnLemmas.{mixed_positive, there, untried_there, at_hand, hand, beaten_by}
+use Rattle.abb_search.proofs.TurnLemmas.{mixed_positive, there, untried_there, at_hand, beaten_by}
 use Rattle.rank_trees.specs.Told.{IsSpentFor}
 
 module _ {undercut : Option CostOver} (p : Problem) (valid : IsValid p) (s : Growing) (g : IsGrowingFor p undercut s) (at : ℕ) (is_first : first s.pool.leaves ≡ Some at)

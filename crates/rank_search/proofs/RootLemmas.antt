@@ -1,14 +1,14 @@
 -- A search that has looked at the root alone.
-use Rattle.std.proofs.Common.{◌≡◌, ℕ, zero, suc, ◌<◌, ◌≤◌, true, List, [], ◌∷◌, ◌++◌, length, Option, Some, None, refl, sym, ap, ◌∙◌, subst, arith}
+use Rattle.std.proofs.Common.{◌≡◌, ℕ, ◌<◌, ◌≤◌, List, [], ◌∷◌, length, Option, Some, None, refl, sym, ap, ◌∙◌, subst, arith}
 use Rattle.problem_rules.specs.Problem.{Problem}
-use Rattle.pns_rules.specs.Shape.{Shape, shape_of}
+use Rattle.pns_rules.specs.Shape.{Shape}
 use Rattle.pns_rules.specs.Nodes.{Node}
 use Rattle.pns_rules.specs.Ends.{IsSound}
 use Rattle.pgraph.specs.View.{node_of}
 use Rattle.unit_sets.specs.declared.node.Node as starts
 use Rattle.tree_rules.specs.Tree.{End, leaf}
 use Rattle.tree_rules.specs.Leaf.{Leaf, dead, clash, refuted, bounded, untried}
-use Rattle.tree_rules.specs.Claim.{Network, CostOver}
+use Rattle.tree_rules.specs.Claim.{CostOver}
 use Rattle.tree_rules.specs.Accepted.{first_node}
 use Rattle.search_tree.specs.Cells.{Cell, place_of, cell_at}
 use Rattle.turn_laws.specs.Values.{IsPositiveCost}

@@ -1,5 +1,5 @@
 -- What is found where the search ends so, from what is told of it.
-use Rattle.std.proofs.Common.{◌≡◌, ℕ, ◌<◌, true, false, List, length, refl}
+use Rattle.std.proofs.Common.{◌≡◌, ℕ, true, false, List, refl}
 use Rattle.problem_rules.specs.Problem.{Problem}
 use Rattle.tree_rules.specs.Tree.{leaf}
 use Rattle.tree_rules.specs.Leaf.{untried}
@@ -14,7 +14,7 @@ use Rattle.abb_search.specs.declared.growing.HaltedLeaf.{HaltedLeaf}
 use Rattle.abb_search.specs.Growing.{IsHaltedAt}
 use Rattle.ranked_tree.specs.Marked.{Mark, marked}
 use Rattle.rank_trees.specs.Told.{IsOpenLeaf, IsTelling, IsSpentTelling}
-use Rattle.rank_search.specs.Ranked.{IsRankingFor, IsSpentRank, IsPastRank, IsRankedBy}
+use Rattle.rank_search.specs.Ranked.{IsRankedBy}
 use Rattle.rank_search.specs.declared.outcome.Ranked.TheVariants.{Whole, Spent, Past}
 
 module _ (Halts : PastPlaces) (p : Problem) (asked count budget : ℕ) (same : asked ≡ count) (ws : List Network) (tree : Tree) (marks : List Mark) where

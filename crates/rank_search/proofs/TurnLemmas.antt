@@ -1,5 +1,5 @@
 -- What a turn starts from, and how the search ends.
-use Rattle.std.proofs.Common.{◌≡◌, ◌⊎◌, ℕ, ◌-◌, ◌<◌, ◌≤◌, true, List, [], length, Option, Some, None, ℤ, ◌*ℤ◌, ◌≤ℤ◌, inl, inr, refl, sym, ap, ◌∙◌, subst, arith}
+use Rattle.std.proofs.Common.{◌≡◌, ℕ, Option, Some, None, ◌*ℤ◌, sym, subst}
 use Rattle.problem_rules.specs.Problem.{Problem}
 use Rattle.mixed_numbers.specs.declared.number.Mixed.{Mixed}
 use Rattle.mixed_numbers.specs.Number.{numerator, denominator}
@@ -7,17 +7,15 @@ use Rattle.tree_rules.specs.Claim.{Network, CostOver}
 use Rattle.turn_laws.specs.Values.{IsNoMore}
 use Rattle.turn_laws.specs.Kept.{LastIsBelow}
 use Rattle.node_looks.specs.Evaluated.{PastPlaces, cost_over, cost_in}
-use Rattle.node_looks.specs.Looks.{cost_of}
 use Rattle.abb_search.specs.declared.growing.Growing.{Growing}
 use Rattle.abb_search.specs.declared.growing.HaltedLeaf.{HaltedLeaf}
-use Rattle.abb_search.specs.declared.closing.Closing.{Closing}
-use Rattle.abb_search.specs.Growing.{IsTreeKeptFor, IsGrowingFor, IsHaltedAt, GoesOnFor}
+use Rattle.abb_search.specs.Growing.{IsTreeKeptFor, IsGrowingFor, GoesOnFor}
 use Rattle.abb_search.proofs.TurnLemmas.{dearer}
 use Rattle.found_networks.specs.Found.{undercut_by}
 use Rattle.found_networks.specs.Listed.{Listed}
 use Rattle.rank_search.specs.declared.turns.Ending.{Ending}
 use Rattle.rank_search.specs.declared.turns.Ending.TheVariants as endings
-use Rattle.rank_search.specs.Turns.{IsRankTree, IsRanking, IsBeating, EndsWith, IsRankEnd}
+use Rattle.rank_search.specs.Turns.{IsRankTree, IsRanking, EndsWith, IsRankEnd}
 
 -- a network that does not cost at most the value costs at least it
 pub not_beaten : (l : Listed) (v : Mixed) (w : Network) → undercut_by l.count l.found ≡ Some (cost_in w) → (IsNoMore (cost_in w) (cost_over v) → ⊥) → LastIsBelow (Some (cost_over v)) (undercut_by l.count l.found)

@@ -1,10 +1,9 @@
 -- What a search for the best networks keeps between two turns, and how it ends.
-use Rattle.std.specs.Prelude.{◌≡◌, ◌⊎◌, ℕ, ◌<◌, List, length, Option, Some, None}
+use Rattle.std.specs.Prelude.{◌≡◌, ℕ, ◌<◌, length, Option, Some, None}
 use Rattle.problem_rules.specs.Problem.{Problem}
 use Rattle.pgraph.specs.View.{node_of}
-use Rattle.tree_rules.specs.Claim.{Network, CostOver}
+use Rattle.tree_rules.specs.Claim.{Network}
 use Rattle.tree_rules.specs.Accepted.{first_node}
-use Rattle.branch_tree.specs.Scaled.{Scaled}
 use Rattle.mixed_numbers.specs.declared.number.Mixed.{Mixed}
 use Rattle.turn_laws.specs.Values.{IsNoMore}
 use Rattle.turn_laws.specs.Kept.{LastIsBelow}

@@ -1,4 +1,4 @@
-use Rattle.std.proofs.Common.{◌≡◌, ℕ, List, Option, sym, subst, map}
+use Rattle.std.proofs.Common.{List, Option, sym, subst, map}
 use Rattle.branch_tree.specs.Scaled.{Scaled}
 use Rattle.found_networks.specs.Found.{undercut_by}
 use Rattle.ranked_tree.specs.Text.{Text}

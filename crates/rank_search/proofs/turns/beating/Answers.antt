@@ -1,5 +1,5 @@
-use Rattle.std.proofs.Common.{◌≡◌, ◌∙◌, true≢false, refl, sym}
-use Rattle.rank_search.proofs.TurnLemmas.{not_beaten, none_beats}
+use Rattle.std.proofs.Common.{true≢false, sym}
+use Rattle.rank_search.proofs.TurnLemmas.{not_beaten}
 use Rattle.rank_search.proofs.turns.beating.Goals as goal
 
 pub returns-else-reaches : goal.returns-else-reaches

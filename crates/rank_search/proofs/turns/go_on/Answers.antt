@@ -1,4 +1,4 @@
-use Rattle.std.proofs.Common.{◌≡◌, ◌+◌, ◌<◌, length, true≢false, inl, inr, refl, sym, ap, ◌∙◌, subst, arith, rules, Option, Some, None}
+use Rattle.std.proofs.Common.{◌+◌, ◌<◌, length, true≢false, inl, refl, sym, ◌∙◌, subst, arith, Some, None}
 use Rattle.pns_rules.specs.Shape.{shape_of}
 use Rattle.pns_rules.specs.Ends.{IsSound, IsReduced}
 use Rattle.pgraph.specs.View.{node_of}
@@ -10,7 +10,6 @@ use Rattle.abb_search.proofs.ReadyLemmas.{first_has}
 use Rattle.abb_search.proofs.TurnLemmas.{whole, there, hand, chosen, sound_there, beaten_by, within_budget}
 use Rattle.found_networks.specs.Listed.{AreAdded}
 use Rattle.rank_search.specs.declared.turns.Ending.TheVariants as endings
-use Rattle.tree_rules.specs.Claim.{Network}
 use Rattle.turn_laws.specs.Values.{IsPositiveCost}
 use Rattle.found_networks.specs.Found.{undercut_by}
 use Rattle.found_networks.proofs.CostLemmas.{undercut_positive}

@@ -1,4 +1,4 @@
-use Rattle.std.proofs.Common.{◌≡◌, ◌∙◌, ℕ, List, length, Option, Some, None, sym, ap, subst, arith}
+use Rattle.std.proofs.Common.{◌∙◌, ℕ, List, length, Option, Some, None, sym, subst, arith}
 use Rattle.pgraph.specs.Tables.{shape}
 use Rattle.neutral_extension.specs.Candidates.{AreMakersOf}
 use Rattle.rank_search.specs.declared.turns.Ending.{Ending}

@@ -1,6 +1,4 @@
-use Rattle.std.proofs.Common.{◌≡◌, ◌∙◌, Option, Some, None, sym, subst}
-use Rattle.abb_search.specs.declared.growing.HaltedLeaf.{HaltedLeaf}
-use Rattle.rank_search.specs.Turns.{TurnHolds}
+use Rattle.std.proofs.Common.{◌∙◌, sym}
 use Rattle.rank_search.proofs.TurnLemmas.{ranking_resumed, halted}
 use Rattle.rank_search.proofs.turns.turn.Goals as goal
 

@@ -1,5 +1,5 @@
 use Rattle.std.specs.Prelude.{drop}
-use Rattle.std.proofs.Common.{◌≡◌, ◌++◌, ◌∷◌, List, take, sym, ap, ◌∙◌, subst, refl, rules}
+use Rattle.std.proofs.Common.{◌≡◌, ◌++◌, ◌∷◌, List, take, sym, ap, subst, refl, rules}
 use Rattle.found_networks.specs.Found.{FoundAt}
 use Rattle.found_networks.specs.Listed.{Listed, AreNoDearer, AreDearer}
 use Rattle.found_networks.proofs.PlaceLemmas.{added, listed_more}

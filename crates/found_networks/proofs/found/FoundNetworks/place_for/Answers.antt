@@ -1,6 +1,5 @@
 use Rattle.std.specs.Prelude.{drop}
-use Rattle.std.proofs.Common.{◌≡◌, ◌≤◌, true, false, List, length, take, sym, ap, ◌∙◌, subst, rules}
-use Rattle.std.specs.List.Sorted.{IsPartitionPoint}
+use Rattle.std.proofs.Common.{List, take, sym, ap, ◌∙◌, subst, rules}
 use Rattle.std.proofs.lemmas.List.Sorted.{IsPartitionPoint-from_clause}
 use Rattle.found_networks.specs.Found.{FoundAt, AreRising}
 use Rattle.found_networks.specs.Listed.{Listed, AreScaled, AreNoDearer, AreDearer}
