@@ -1,5 +1,5 @@
 -- The text of a listing that is given one structure after another.
-use Rattle.std.proofs.Common.{◌≡◌, ◌++◌, ◌+◌, ◌-◌, ◌<◌, ◌≤◌, ◌↔◌, ℕ, suc, List, [], ◌∷◌, Option, codes, length, map, take, refl, sym, ap, subst, ◌∙◌, arith, inr, append_assoc, append-nil, cond}
+use Rattle.std.proofs.Common.{◌≡◌, ◌++◌, ◌+◌, ◌-◌, ◌≤◌, ◌↔◌, ℕ, List, [], ◌∷◌, Option, codes, length, map, take, refl, sym, ap, subst, ◌∙◌, arith, inr, append_assoc, append-nil, cond}
 use Rattle.std.specs.Io.KnownBytes.{Appends}
 use Rattle.std.proofs.KnownBytes.{Appends-nil, Appends-trans}
 use Rattle.std.proofs.lemmas.List.{map-append, length-append, take_all}
@@ -101,15 +101,6 @@ module _ (p : Problem) (start now : Rest) (many : ℕ) (old mid : Option (List �
         bytes_are = none_is;
       }
 
-pub none_given : (p : Problem) (start : Rest) (old : Option (List ℕ)) (last : List ℕ) → last ≡ [] → IsGiven p start start 0 old old last
-none_given p start old last e = record {
-  given = [];
-  many_is = refl;
-  rest = λ xs. (λ h. h, λ h. h);
-  last_is = e;
-  out = Appends-nil old;
-}
-
 module _ (p : Problem) where
   -- the lines of the structures given stand first, those of n more behind them
   pub lines_cut : (given xs : List (List ℕ)) (count n : ℕ) → count ≡ length given + n → listing_lines p count (given ++ xs) ≡ map (structure_line p) given ++ (map (structure_line p) (take n xs) ++ last_line count (given ++ xs) ∷ [])
@@ -171,13 +162,6 @@ module _ (p : Problem) where
             (only_in (λ s t. Tells (RestSays p count start) s (text_of (map (structure_line p) g.given) ++ t)) Done (line (codes "end"))
             (whole_behind g.given (g.given ++ []) (codes "end") ((g.rest []).0 none) (lines_end g.given count le_given))) later
 
-        -- there is no memory for the next line
-        pub starved : (xs : List (List ℕ)) → IsToCome now xs → Ends (Only Memory (line (codes "memory"))) risen' mid new status → Ends (Tells (RestSays p count start)) risen old new status
-        starved xs is =
-            Ends-after (Only Memory (line (codes "memory"))) (Tells (RestSays p count start)) risen' risen old mid new status (text_of (map (structure_line p) g.given)) g.out
-            (only_in (λ s t. Tells (RestSays p count start) s (text_of (map (structure_line p) g.given) ++ t)) Memory (line (codes "memory"))
-            (memory_behind g.given xs le_given ((g.rest xs).0 is))) later
-
         -- all that are wanted are given, and another is to come
         pub continued : many ≡ count → (r : List ℕ) (xs : List (List ℕ)) → IsToCome now (r ∷ xs) → Ends (OrMemory (Only Done (line (more_line last)))) risen' mid new status → Ends (Tells (RestSays p count start)) risen old new status
         continued all r xs is =
@@ -186,45 +170,6 @@ module _ (p : Problem) where
             (subst (λ l. Tells (RestSays p count start) Done (text_of (map (structure_line p) g.given) ++ line (more_line l))) (sym g.last_is)
             (whole_behind g.given (g.given ++ r ∷ xs) (more_line (last_of g.given)) ((g.rest (r ∷ xs)).0 is) (lines_more g.given r xs count (g.many_is ∙ all))))
             (memory_behind g.given (r ∷ xs) le_given ((g.rest (r ∷ xs)).0 is))) later
-
-      -- the line of the next structure is cut off
-      pub stopped : (risen : Type 0) (new : Option (List ℕ)) (r : List ℕ) (xs : List (List ℕ)) (piece : List ℕ) → many < count → risen → IsToCome now (r ∷ xs) → piece ≡ line (structure_line p r) → AppendsFront mid new piece → Ends (Tells (RestSays p count start)) risen old new WriteFault
-      stopped risen new r xs piece less rose is piece_is front =
-          let f : List ℕ → List ℕ = structure_line p in
-          let all : List (List ℕ) = g.given ++ r ∷ xs in
-          let n : ℕ = count - suc many in
-          let behind : List (List ℕ) = map f (take n xs) ++ last_line count all ∷ [] in
-          let cut : listing_lines p count all ≡ map f g.given ++ (f r ∷ behind) =
-          lines_cut g.given (r ∷ xs) count (suc n) (let e = g.many_is in omega (arith, e, less)) in
-          let text : text_of (listing_lines p count all) ≡ (text_of (map f g.given) ++ front.0) ++ (front.1 ++ text_of behind) =
-          ap text_of cut
-          ∙ (flat_map-append line (map f g.given) (f r ∷ behind)
-          ∙ (ap (λ t. text_of (map f g.given) ++ (t ++ text_of behind)) (sym piece_is ∙ front.2)
-          ∙ (ap (λ t. text_of (map f g.given) ++ t) (append_assoc front.0 front.1 (text_of behind))
-          ∙ sym (append_assoc (text_of (map f g.given)) front.0 (front.1 ++ text_of behind))))) in (
-            rose,
-            Done,
-            text_of (listing_lines p count all),
-            (listing_lines p count all, (refl, (all, (g.rest (r ∷ xs)).0 is, refl)), refl),
-            (text_of (map f g.given) ++ front.0, front.1 ++ text_of behind, text, Appends-trans old mid new (text_of (map f g.given)) front.0 g.out front.3),
-          )
-
-      -- one more is given
-      pub one_more : (after : Rest) (new : Option (List ℕ)) (r : List ℕ) (piece : List ℕ) → ((xs : List (List ℕ)) → IsToCome after xs ↔ IsToCome now (r ∷ xs)) → piece ≡ line (structure_line p r) → Appends mid new piece → IsGiven p start after (many + 1) old new r
-      one_more after new r piece head piece_is put = record {
-        given = g.given ++ r ∷ [];
-        many_is = let long = length-append g.given (r ∷ []) in let e = g.many_is in omega (arith, long, e);
-        rest = λ xs. (
-          λ h. subst (IsToCome start) (sym (append_assoc g.given (r ∷ []) xs)) ((g.rest (r ∷ xs)).0 ((head xs).0 h)),
-          λ h. (head xs).1 ((g.rest (r ∷ xs)).1 (subst (IsToCome start) (append_assoc g.given (r ∷ []) xs) h)),
-        );
-        last_is = sym (last_of-push g.given r);
-        out =
-            let f : List ℕ → List ℕ = structure_line p in
-            subst (λ t. Appends old new t)
-            (ap (λ t. text_of (map f g.given) ++ t) piece_is ∙ (sym (text_of-push (map f g.given) (f r)) ∙ ap text_of (sym (map-append f g.given (r ∷ [])))))
-            (Appends-trans old mid new (text_of (map f g.given)) piece g.out put);
-      }
 
 module _ (p : Problem) (count : ℕ) (start now : Rest) (many : ℕ) (old mid : Option (List ℕ)) (bytes last : List ℕ) (g : IsGathered p start now many old mid bytes last) (le : many ≤ count) where
   -- there is no memory for the next line, and those that wait are not put

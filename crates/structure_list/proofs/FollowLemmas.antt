@@ -1,12 +1,11 @@
 -- The turns of a structure are followed, and the turns not taken hold what stands behind it.
-use Rattle.std.proofs.Common.{◌≡◌, ℕ, Bool, true, false, List, [], ◌∷◌, ◌++◌, sym, ap, ◌∙◌, subst, inl, inr, ◌⊎◌, Some}
+use Rattle.std.proofs.Common.{◌≡◌, ℕ, Bool, true, false, List, [], ◌∷◌, ◌++◌, sym, ◌∙◌, subst, inl, inr, Some}
 use Rattle.std.proofs.lemmas.Bool.{cases_Bool}
 use Rattle.number_sets.specs.Sets.{has}
 use Rattle.pns_rules.specs.Shape.{Shape}
 use Rattle.pns_rules.specs.Structure.{IsStructure, IsAllowed}
 use Rattle.pns_rules.specs.Trace.{IsBefore}
 use Rattle.pns_rules.proofs.OrderLemmas.{before_apart, before_not_after}
-use Rattle.unit_sets.specs.declared.node.Node.{Node}
 use Rattle.decisions.specs.declared.position.Position.{Position}
 use Rattle.decisions.specs.declared.turn.Turn.{Turn}
 use Rattle.decisions.specs.Position.{IsTurn, IsSettled, IsWithinNode}

@@ -1,6 +1,5 @@
 -- A stack with a position more on top, and what becomes of it at a turn there.
-use Rattle.std.proofs.Common.{◌≡◌, ℕ, suc, zero, ◌+◌, ◌*◌, ◌^◌, ◌<◌, ◌≤◌, Bool, true, false, List, [], ◌∷◌, ◌++◌, length, refl, sym, ap, ◌∙◌, subst, add-one, inl, inr, ◌⊎◌, ◌↔◌, arith, Option, Some, None}
-use Rattle.std.specs.List.{sum_by}
+use Rattle.std.proofs.Common.{◌≡◌, ℕ, suc, zero, ◌+◌, ◌*◌, ◌^◌, ◌<◌, ◌≤◌, Bool, true, false, List, [], ◌∷◌, ◌++◌, length, sym, ap, ◌∙◌, subst, add-one, inl, inr, ◌⊎◌, arith, Option, Some, None}
 use Rattle.std.proofs.lemmas.Bool.{cases_Bool}
 use Rattle.std.proofs.lemmas.List.{length_push}
 use Rattle.std.proofs.lemmas.List.Sums.{sum_by_push}
@@ -10,7 +9,6 @@ use Rattle.number_sets.specs.Sets.{has, IsRising}
 use Rattle.pns_rules.specs.Shape.{Shape, IsProper}
 use Rattle.pns_rules.specs.Structure.{IsAllowed, IsUnion}
 use Rattle.pns_rules.specs.Trace.{IsBefore}
-use Rattle.pns_rules.proofs.OrderLemmas.{before_apart}
 use Rattle.unit_sets.specs.declared.node.Node.{Node}
 use Rattle.decisions.specs.declared.position.Position.{Position}
 use Rattle.decisions.specs.declared.turn.Turn.{Turn}
@@ -18,7 +16,7 @@ use Rattle.decisions.specs.Position.{IsPosition, IsTurn, IsSettled, IsWithinNode
 use Rattle.decisions.proofs.TurnLemmas.{turn_apart}
 use Rattle.structure_list.specs.Family.{IsOf}
 use Rattle.structure_list.specs.Tight.{IsTight, IsSide, IsForced}
-use Rattle.structure_list.specs.Stack.{InStack, IsPlaced, ArePlaced, IsStack, IsCut, HaveSame, Finds, weight}
+use Rattle.structure_list.specs.Stack.{InStack, ArePlaced, IsStack, IsCut, HaveSame, Finds, weight}
 use Rattle.structure_list.proofs.TightLemmas.{settled_is}
 
 -- ---- one position more

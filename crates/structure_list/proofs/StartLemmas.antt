@@ -1,21 +1,20 @@
 -- From the maximal structure to the position where the search starts, and from there to the listing.
-use Rattle.std.proofs.Common.{◌≡◌, ℕ, ◌+◌, ◌≤◌, nat_lt, Bool, true, false, not, ◌&&◌, ◌||◌, List, [], ◌∷◌, ◌++◌, length, refl, sym, ap, ap₂, ◌∙◌, subst, inl, inr, ◌⊎◌, ◌↔◌, arith, lt-ltb, Option, Some, None}
+use Rattle.std.proofs.Common.{◌≡◌, ℕ, ◌≤◌, nat_lt, Bool, true, false, not, ◌&&◌, ◌||◌, List, [], ◌∷◌, length, refl, sym, ap, ◌∙◌, subst, inl, inr, ◌↔◌, arith, lt-ltb, Option, Some, None}
 use Rattle.std.proofs.lemmas.Bool.{both_ways, and_parts, and_from, not-true, or_parts, true_from_ne_false, false_from_ne_true}
 use Rattle.number_sets.specs.Sets.{has, listed, IsRising, IsSet, minus}
 use Rattle.number_sets.proofs.SetLemmas.{has-minus, has-listed, IsRising-listed, length-within, length_below, same_tests}
 use Rattle.pns_rules.specs.Shape.{Shape, IsProper}
-use Rattle.pns_rules.specs.Structure.{IsStructure, IsAllowed, IsBetween, InFamily, IsUnion, is_needed, mats}
+use Rattle.pns_rules.specs.Structure.{IsStructure, IsAllowed, IsUnion, is_needed, mats}
 use Rattle.pns_rules.specs.Trace.{IsBefore}
-use Rattle.pns_rules.specs.Listing.{IsLater, IsListed, IsListing}
+use Rattle.pns_rules.specs.Listing.{IsLater, IsListing}
 use Rattle.pns_rules.proofs.ListingLemmas.{goes_on, goes_back}
 use Rattle.pns_rules.proofs.OrderLemmas.{same_set, before_apart, before_trans}
 use Rattle.pgraph.specs.Tables.{Tables, shape}
-use Rattle.unit_sets.specs.declared.node.Node.{Node}
 use Rattle.max_structure.specs.Rest.{IsKept}
 use Rattle.decisions.specs.Position.{IsPosition, IsWithinNode, free_count}
 use Rattle.decisions.specs.declared.position.Position.{Position}
 use Rattle.structure_list.specs.Rest.{Rest, IsToCome, IsUnderWay}
-use Rattle.structure_list.specs.Family.{IsOf, IsUpTo, IsNextListed, IsHead}
+use Rattle.structure_list.specs.Family.{IsHead}
 use Rattle.structure_list.specs.Tight.{kept_units, IsTight}
 use Rattle.structure_list.specs.Start.{IsStart}
 use Rattle.structure_list.specs.Stack.{InStack, IsStack, IsCut, HaveSame}

@@ -1,6 +1,6 @@
 -- A turn at a node whose kept units are balanced, without the unit and with it.
-use Rattle.std.proofs.Common.{◌≡◌, ◌≢◌, ℕ, ◌<◌, ◌==◌, nat_lt, Bool, true, false, not, ◌&&◌, ◌||◌, List, [], ◌∷◌, refl, sym, ap, ap₂, ◌∙◌, subst, inl, inr, ◌↔◌, Option, Some, None, lt-ltb, ltb-true}
-use Rattle.std.proofs.lemmas.Bool.{and_parts, and_from, both_ways, cases_Bool, or_cases, or_left, or_right, or_parts, true_from_ne_false, false_from_ne_true, not-true}
+use Rattle.std.proofs.Common.{◌≡◌, ℕ, ◌<◌, nat_lt, Bool, true, false, not, ◌&&◌, ◌||◌, List, [], ◌∷◌, refl, sym, ap, ap₂, ◌∙◌, subst, inl, inr, ◌↔◌, Option, Some, None, lt-ltb, ltb-true}
+use Rattle.std.proofs.lemmas.Bool.{and_parts, and_from, both_ways, or_cases, or_left, or_right, or_parts, true_from_ne_false, false_from_ne_true, not-true}
 use Rattle.number_sets.specs.Sets.{has, with_number, union, minus, IsWithin}
 use Rattle.number_sets.proofs.SetLemmas.{has-minus, has-union, same_tests}
 use Rattle.pns_rules.specs.Shape.{Shape, IsProper}
@@ -11,7 +11,7 @@ use Rattle.pns_rules.proofs.StructureLemmas.{is_made-from, is_made-some, is_used
 use Rattle.pns_rules.proofs.TraceLemmas.{least_some}
 use Rattle.pns_rules.proofs.PathLemmas.{found_in, found_leads, path_found}
 use Rattle.pns_rules.proofs.OrderLemmas.{same_set}
-use Rattle.pgraph.specs.Breaks.{BreaksS1, BreaksS2}
+use Rattle.pgraph.specs.Breaks.{BreaksS1}
 use Rattle.unit_sets.specs.declared.node.Node.{Node}
 use Rattle.max_structure.specs.Rest.{HasAll, IsKept, IsRest, HasNoRest}
 use Rattle.max_structure.proofs.BalanceLemmas.{broken_if_unmade, makes_what_it_uses}

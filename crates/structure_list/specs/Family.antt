@@ -1,8 +1,8 @@
 -- The allowed solution structures that contain the units taken in and avoid those left out, and the head of the listing.
-use Rattle.std.specs.Prelude.{◌≡◌, ℕ, ◌≤◌, Bool, false, List, length, ◌⊎◌, Option, Some, None}
-use Rattle.number_sets.specs.Sets.{has, IsRising}
+use Rattle.std.specs.Prelude.{◌≡◌, ℕ, Bool, List, ◌⊎◌, Option, Some, None}
+use Rattle.number_sets.specs.Sets.{has}
 use Rattle.pns_rules.specs.Shape.{Shape}
-use Rattle.pns_rules.specs.Structure.{IsStructure, InFamily, IsUnion}
+use Rattle.pns_rules.specs.Structure.{InFamily}
 use Rattle.pns_rules.specs.Trace.{IsBefore}
 use Rattle.pns_rules.specs.Listing.{IsListed}
 use Rattle.unit_sets.specs.declared.node.Node.{Node}

@@ -1,5 +1,5 @@
 -- The positions that are still to be searched, the first to be searched last: at each the turns that were not taken.
-use Rattle.std.specs.Prelude.{◌≡◌, ℕ, suc, ◌+◌, ◌^◌, ◌<◌, ◌≤◌, Bool, false, List, [], ◌∷◌, ◌⊎◌, length, ◌↔◌, Option, Some, None}
+use Rattle.std.specs.Prelude.{◌≡◌, ℕ, suc, ◌+◌, ◌^◌, ◌≤◌, Bool, false, List, [], ◌∷◌, ◌⊎◌, length, ◌↔◌, Option, Some, None}
 use Rattle.std.specs.List.{sum_by}
 use Rattle.number_sets.specs.Sets.{has, IsRising}
 use Rattle.pns_rules.specs.Shape.{Shape}

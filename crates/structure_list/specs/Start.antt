@@ -1,5 +1,5 @@
 -- Where the search begins.
-use Rattle.std.specs.Prelude.{◌≡◌, ℕ, ◌≤◌, Bool, false, List, length, Option, Some, None}
+use Rattle.std.specs.Prelude.{ℕ, ◌≤◌, Bool, false, List, length, Option, Some, None}
 use Rattle.number_sets.specs.Sets.{has, IsRising}
 use Rattle.pns_rules.specs.Shape.{Shape}
 use Rattle.pns_rules.specs.Structure.{IsStructure, IsUnion}

@@ -1,4 +1,4 @@
-use Rattle.std.proofs.Common.{◌≡◌, ◌≤◌, ◌+◌, ◌∷◌, [], ◌∙◌, arith}
+use Rattle.std.proofs.Common.{◌≡◌, ◌≤◌, ◌+◌, ◌∷◌, [], arith}
 use Rattle.endings.proofs.Ending.{HasRisen-later}
 use Rattle.structure_commands.proofs.Listings.{ended, continued, none_gathered, gather_one, given_then, gathered_then, starved_waiting, stopped_waiting}
 use Rattle.structure_commands.proofs.list.say_rest.Goals.{then-room-eq0+in-Ok-put_waiting, else-room-eq0+else-len-ge8192}
