@@ -1,5 +1,5 @@
 -- Free makers of needed materials, and what is left of them.
-use Rattle.std.proofs.Common.{◌≡◌, ℕ, nat_lt, ◌==◌, Bool, true, not, ◌&&◌, List, [], ◌∷◌, refl, sym, ap, ◌∙◌, eq-eqb, ltb-true, lt-ltb}
+use Rattle.std.proofs.Common.{◌≡◌, ℕ, nat_lt, ◌==◌, Bool, true, ◌&&◌, List, [], ◌∷◌, refl, sym, ap, ◌∙◌, eq-eqb, ltb-true, lt-ltb}
 use Rattle.std.proofs.lemmas.Bool.{or_left, and_parts, and_from, both_ways}
 use Rattle.number_sets.specs.Sets.{has, kept, IsWithin}
 use Rattle.number_sets.proofs.SetLemmas.{has-listed, has-kept}

@@ -4,15 +4,18 @@ ghost use Rattle.std.specs.Prelude.{◌≡◌, ◌<◌, ℕ, length};
 ghost use Rattle.pns_rules.specs.Shape.{shape_of};
 ghost use Rattle.pgraph.specs.Tables.{shape};
 
+use crate::paths::leading;
 use pgraph::Graph;
 use pns_problem::{OperatingUnit, Problem};
-use unit_sets::UnitSet;
+use unit_sets::{Node, UnitSet};
 
 /// What each unit owes, and which units have a size above 0.
 #[derive(Clone, Copy)]
 pub(crate) struct Dues {
     unpaid: [i128; 128],
     used: UnitSet,
+    // The units that lead on from units in use without a path to a product, where they were looked for.
+    leading: UnitSet,
 }
 
 /// What a unit of a size owes: its fixed cost over the payout period less what the slope of a free unit pays at this size, in
@@ -39,6 +42,7 @@ impl Dues {
         let mut dues = Dues {
             unpaid: [0; 128],
             used: UnitSet::empty(),
+            leading: UnitSet::empty(),
         };
         let mut rest = sizes.iter();
         for u in 0..graph.unit_count() {
@@ -51,6 +55,20 @@ impl Dues {
             }
         }
         dues
+    }
+
+    /// Whether the unit owes something.
+    pub(crate) fn owes(&self, u: u32) -> bool
+        requires { u < 128 }
+    {
+        self.unpaid[u as usize] > 0
+    }
+
+    /// Looks for the units that lead on from units in use without a path to a product. They score more than all that owe nothing.
+    pub(crate) fn find_leading(&mut self, problem: &Problem, graph: &Graph, node: &Node)
+        requires { shape graph.now ≡ shape_of problem.now }
+    {
+        self.leading = leading(problem, graph, node, self.used);
     }
 
     /// What a material owes that is needed and not made yet: the least that one of its makers owes, over the splits that it takes
@@ -74,7 +92,9 @@ impl Dues {
     pub(crate) fn score(&self, u: u32, owed: i128) -> i128
         requires { u < 128 }
     {
-        if self.used.has(u) {
+        if self.leading.has(u) {
+            2
+        } else if self.used.has(u) {
             self.unpaid[u as usize].saturating_add(1)
         } else {
             owed

@@ -4,13 +4,15 @@
 //! rule is only a guide. What [`choose`] promises is that there is something to decide there ([`choices_decide`]), and that the
 //! children are two or three. No call takes memory.
 //!
-//! Modules: `choice` (the rule), `dues` (what units and materials owe), `candidates` (the unit that owes most), `laws`.
+//! Modules: `choice` (the rule), `dues` (what units and materials owe), `candidates` (the unit that owes most), `paths` (units in use that lead to no
+//! product), `laws`.
 #![tactic(auto)]
 
 mod candidates;
 mod choice;
 mod dues;
 mod laws;
+mod paths;
 
 pub use choice::{Choice, choose};
 pub use laws::choices_decide;
