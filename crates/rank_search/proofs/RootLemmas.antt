@@ -1,5 +1,5 @@
 -- A search that has looked at the root alone.
-use Rattle.std.proofs.Common.{◌≡◌, ℕ, ◌<◌, ◌≤◌, List, [], ◌∷◌, length, Option, Some, None, refl, sym, ap, ◌∙◌, subst, arith}
+use Rattle.std.proofs.Common.{◌≡◌, ℕ, ◌<◌, ◌≤◌, List, [], ◌∷◌, ◌++◌, length, Option, Some, None, refl, sym, ap, ◌∙◌, subst, arith}
 use Rattle.problem_rules.specs.Problem.{Problem}
 use Rattle.pns_rules.specs.Shape.{Shape}
 use Rattle.pns_rules.specs.Nodes.{Node}
@@ -8,7 +8,7 @@ use Rattle.pgraph.specs.View.{node_of}
 use Rattle.unit_sets.specs.declared.node.Node as starts
 use Rattle.tree_rules.specs.Tree.{End, leaf}
 use Rattle.tree_rules.specs.Leaf.{Leaf, dead, clash, refuted, bounded, untried}
-use Rattle.tree_rules.specs.Claim.{CostOver}
+use Rattle.tree_rules.specs.Claim.{Network, CostOver}
 use Rattle.tree_rules.specs.Accepted.{first_node}
 use Rattle.search_tree.specs.Cells.{Cell, place_of, cell_at}
 use Rattle.turn_laws.specs.Values.{IsPositiveCost}
@@ -90,3 +90,10 @@ module _ (Past : PastPlaces) (p : Problem) (start : starts.Node) (budget : ℕ) 
 
     pub same_count : m.count ≡ l.count
     same_count = best_now.count_is
+
+-- a list of the one network that was found, if there is one
+pub one_network : (items before : List (Option Network)) (copy best : Option Network) → items ≡ before ++ copy ∷ [] → before ≡ [] → copy ≡ best → items ≡ best ∷ []
+one_network items before copy best pushed none same = pushed ∙ (ap (λ (ws : List (Option Network)). ws ++ copy ∷ []) none ∙ ap (λ (w : Option Network). w ∷ []) same)
+
+pub added_one : (k l m : Listed) (items : List (Option Network)) (best : Option Network) → k ≡ l → items ≡ best ∷ [] → AreAdded k m 0 items → AreAdded l m 0 (best ∷ [])
+added_one k l m items best same one a = subst (λ (ws : List (Option Network)). AreAdded l m 0 ws) one (subst (λ (i : Listed). AreAdded i m 0 items) same a)

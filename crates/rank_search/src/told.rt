@@ -28,7 +28,6 @@ fn text_of(count: u32, told: Told, tail: Tail) -> RankText
 /// What is found where the search ends so.
 pub(crate) fn ranked_by<E: Evaluator>(
     alloc: Global,
-    _evaluator: &E,
     problem: &Problem,
     growing: &Growing,
     found: FoundNetworks,

@@ -85,7 +85,7 @@ fn ranked<E: Evaluator>(
         &mut growing,
         &mut found,
     )?;
-    ranked_by(alloc, evaluator, problem, &growing, found, ending)
+    ranked_by::<E>(alloc, problem, &growing, found, ending)
 }
 
 /// Searches all structures of the problem for so many networks whose flows are cheapest, within a budget of nodes. The graph is that of

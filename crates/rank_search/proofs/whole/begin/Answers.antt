@@ -1,13 +1,12 @@
-use Rattle.std.proofs.Common.{◌≡◌, ◌∷◌, [], ◌++◌, List, Option, refl, sym, ap, ◌∙◌, subst, arith}
+use Rattle.std.proofs.Common.{◌≡◌, [], refl, sym, subst, arith}
 use Rattle.number_sets.specs.Sets.{has}
 use Rattle.pns_rules.specs.Shape.{shape_of}
 use Rattle.pns_rules.specs.Nodes.{Node}
 use Rattle.pns_rules.specs.Ends.{IsSound}
 use Rattle.pgraph.specs.View.{node_of}
-use Rattle.tree_rules.specs.Claim.{Network}
 use Rattle.tree_rules.specs.Accepted.{first_node}
-use Rattle.found_networks.specs.Listed.{Listed, IsListed, AreAdded}
-use Rattle.rank_search.proofs.RootLemmas.{first_is_sound, begun, same_count}
+use Rattle.found_networks.specs.Listed.{Listed, IsListed}
+use Rattle.rank_search.proofs.RootLemmas.{first_is_sound, one_network, added_one, begun, same_count}
 use Rattle.rank_search.proofs.whole.begin.Goals as goal
 
 pub look_at_root-requires-clause-sound : goal.look_at_root-requires-clause-sound
@@ -21,8 +20,8 @@ returns-clause-ranking g c =
     let s = c.in_ok-growing.growing in
     let l : Listed = record { count = c.args.count; found = [] } in
     let listed : IsListed l = record { asked = c.requires.asked; few = omega arith; rising = tt; scaled = tt } in
-    let networks = c.in_ok-push.ensures.items ∙ (ap (λ (ws : List (Option Network)). ws ++ c.in_ok-copy_of_network.field-0 ∷ []) c.new-networks.ensures.items ∙ ap (λ (w : Option Network). w ∷ []) c.in_ok-copy_of_network.ensures) in
-    let added : AreAdded l c.add_all.new.self 0 (s.best ∷ []) = subst (λ (ws : List (Option Network)). AreAdded l c.add_all.new.self 0 ws) networks (subst (λ (k : Listed). AreAdded k c.add_all.new.self 0 c.push.new.self.items) c.new-found.ensures c.in_ok-add_all.ensures) in
+    let networks = one_network c.push.new.self.items c.new-networks.result.items c.in_ok-copy_of_network.field-0 s.best c.in_ok-push.ensures.items c.new-networks.ensures.items c.in_ok-copy_of_network.ensures in
+    let added = added_one c.new-found.result l c.add_all.new.self c.push.new.self.items s.best c.new-found.ensures networks c.in_ok-add_all.ensures in
     begun g.E.Evaluator.past c.args.problem.now (record { inside = c.empty.result; outside = c.empty-2.result }) c.args.budget s c.in_ok-growing.ensures.root c.requires.some
     l c.add_all.new.self listed refl (c.in_ok-growing.ensures.solved refl) added start
 
@@ -31,7 +30,7 @@ returns-clause-count g c =
     let s = c.in_ok-growing.growing in
     let l : Listed = record { count = c.args.count; found = [] } in
     let listed : IsListed l = record { asked = c.requires.asked; few = omega arith; rising = tt; scaled = tt } in
-    let networks = c.in_ok-push.ensures.items ∙ (ap (λ (ws : List (Option Network)). ws ++ c.in_ok-copy_of_network.field-0 ∷ []) c.new-networks.ensures.items ∙ ap (λ (w : Option Network). w ∷ []) c.in_ok-copy_of_network.ensures) in
-    let added : AreAdded l c.add_all.new.self 0 (s.best ∷ []) = subst (λ (ws : List (Option Network)). AreAdded l c.add_all.new.self 0 ws) networks (subst (λ (k : Listed). AreAdded k c.add_all.new.self 0 c.push.new.self.items) c.new-found.ensures c.in_ok-add_all.ensures) in
+    let networks = one_network c.push.new.self.items c.new-networks.result.items c.in_ok-copy_of_network.field-0 s.best c.in_ok-push.ensures.items c.new-networks.ensures.items c.in_ok-copy_of_network.ensures in
+    let added = added_one c.new-found.result l c.add_all.new.self c.push.new.self.items s.best c.new-found.ensures networks c.in_ok-add_all.ensures in
     same_count g.E.Evaluator.past c.args.problem.now (record { inside = c.empty.result; outside = c.empty-2.result }) c.args.budget s c.in_ok-growing.ensures.root c.requires.some
     l c.add_all.new.self listed refl (c.in_ok-growing.ensures.solved refl) added
