@@ -22,16 +22,16 @@ use Rattle.turn_laws.specs.Values.{IsPositive, IsNoMore}
 use Rattle.turn_laws.specs.Turns.{IsShut, AreShut}
 use Rattle.turn_laws.proofs.GrowLemmas.{leaf_fallen}
 use Rattle.turn_laws.proofs.KeptLemmas.{shutting_is_kept}
-use Rattle.node_looks.specs.declared.evaluator.Bound.{Bound}
-use Rattle.node_looks.specs.declared.evaluator.Halt.{Halt}
-use Rattle.node_looks.specs.declared.evaluator.Proof.{Proof}
-use Rattle.node_looks.specs.declared.evaluator.Proof.TheVariants as proofs
-use Rattle.node_looks.specs.declared.looks.Ready.{Ready}
-use Rattle.node_looks.specs.Evaluated.{PastPlaces, cost_over, cost_in, IsBoundOf, IsWorth, IsProof}
-use Rattle.node_looks.specs.Looks.{KnowsCell, IsReady, IsSomeReady}
-use Rattle.node_looks.specs.Children.{claim_with}
+use Rattle.node_evaluation.specs.declared.evaluator.Bound.{Bound}
+use Rattle.node_evaluation.specs.declared.evaluator.PastStop.{PastStop}
+use Rattle.node_evaluation.specs.declared.evaluator.Proof.{Proof}
+use Rattle.node_evaluation.specs.declared.evaluator.Proof.TheVariants as proofs
+use Rattle.node_evaluation.specs.declared.looks.Ready.{Ready}
+use Rattle.node_evaluation.specs.Evaluated.{PastPlaces, cost_over, cost_in, IsBoundOf, IsWorth, IsProof}
+use Rattle.node_evaluation.specs.Looks.{KnowsCell, IsReady, IsSomeReady}
+use Rattle.node_evaluation.specs.Children.{claim_with}
 use Rattle.abb_search.specs.declared.growing.Growing.{Growing}
-use Rattle.abb_search.specs.Growing.{IsTreeKept, IsGrowing, IsGrowingFor, IsHaltedAt}
+use Rattle.abb_search.specs.Growing.{IsTreeKept, IsGrowing, IsGrowingFor, IsStoppedAt}
 use Rattle.abb_search.specs.Closing.{AreBeaten, ShutsLeaf, IsShutBy, ShutAll, IsInRange, hand_of, scaled_in}
 use Rattle.abb_search.specs.Found.{found_with, IsFoundBy}
 use Rattle.abb_search.proofs.EndLemmas.{whole_found}
@@ -75,35 +75,35 @@ module _ {undercut : Option CostOver} (p : Problem) (s : Growing) (g : IsGrowing
   pub shut_by : (Past : PastPlaces) (w : claims.Network) (q : Ready) → IsKnownHand w q → (proof : Proof) → IsProof Past p (place_of (cell_at s.pool.payloads j)) (cost_in w) proof → IsInRange proof
       → IsShutBy Past p s (cost_in w) j (Some proof)
   shut_by Past w q k (proofs.Scaled m) h r = record { bounded = h; scale = r.0; multipliers = r.1 }
-  shut_by Past w q k (proofs.Halted x) h r = record { there = lt; is_open = k.open_there; halted = record { reduced = k.known.reduced; past = h } }
+  shut_by Past w q k (proofs.Stopped x) h r = record { there = lt; is_open = k.open_there; stopped = record { reduced = k.known.reduced; past = h } }
 
 -- ---- node after node
 
-abbrev pub fine : Option Scaled → Result (Option Scaled) Halt
+abbrev pub fine : Option Scaled → Result (Option Scaled) PastStop
 fine m = Ok m
 
-abbrev pub failed : Halt → Result (Option Scaled) Halt
+abbrev pub failed : PastStop → Result (Option Scaled) PastStop
 failed x = Err x
 
 fine_is : (m k : Option Scaled) → fine m ≡ fine k → m ≡ k
 fine_is m k h = cc
 
-failed_is : (x y : Halt) → failed x ≡ failed y → x ≡ y
+failed_is : (x y : PastStop) → failed x ≡ failed y → x ≡ y
 failed_is x y h = cc
 
-never_both : (m : Option Scaled) (x : Halt) → fine m ≡ failed x → ⊥
+never_both : (m : Option Scaled) (x : PastStop) → fine m ≡ failed x → ⊥
 never_both m x h = cc
 
 pub shut_ok : (Past : PastPlaces) (p : Problem) (s : Growing) (cost : CostOver) (j : ℕ) (o : Option Proof) (m : Option Scaled) → IsShutBy Past p s cost j o → scaled_in o ≡ fine m
     → ShutsLeaf p cost (cell_at s.pool.payloads j) m
 shut_ok Past p s cost j None m h e = subst (λ (k : Option Scaled). ShutsLeaf p cost (cell_at s.pool.payloads j) k) (fine_is None m e) h
 shut_ok Past p s cost j (Some (proofs.Scaled n)) m h e = subst (λ (k : Option Scaled). ShutsLeaf p cost (cell_at s.pool.payloads j) k) (fine_is (Some n) m e) h
-shut_ok Past p s cost j (Some (proofs.Halted x)) m h e = absurd (never_both m x (sym e))
+shut_ok Past p s cost j (Some (proofs.Stopped x)) m h e = absurd (never_both m x (sym e))
 
-pub shut_err : (Past : PastPlaces) (p : Problem) (s : Growing) (cost : CostOver) (j : ℕ) (o : Option Proof) (x : Halt) → IsShutBy Past p s cost j o → scaled_in o ≡ failed x → IsHaltedAt Past p s j x
+pub shut_err : (Past : PastPlaces) (p : Problem) (s : Growing) (cost : CostOver) (j : ℕ) (o : Option Proof) (x : PastStop) → IsShutBy Past p s cost j o → scaled_in o ≡ failed x → IsStoppedAt Past p s j x
 shut_err Past p s cost j None x h e = absurd (never_both None x e)
 shut_err Past p s cost j (Some (proofs.Scaled n)) x h e = absurd (never_both (Some n) x e)
-shut_err Past p s cost j (Some (proofs.Halted y)) x h e = subst (λ (z : Halt). IsHaltedAt Past p s j z) (failed_is y x e) h
+shut_err Past p s cost j (Some (proofs.Stopped y)) x h e = subst (λ (z : PastStop). IsStoppedAt Past p s j z) (failed_is y x e) h
 
 push_left : (ms : List (Option Scaled)) (m : Option Scaled) (j : ℕ) → j < length ms → slice_index_or (ms ++ m ∷ []) j None ≡ slice_index_or ms j None
 push_left [] m j lt = absurd (omega (arith, lt))
@@ -211,7 +211,7 @@ module _ (p : Problem) (s : Growing) (g : IsGrowing p s) (w : claims.Network) (b
     pool = record { parents = s.pool.parents; values = s.pool.values; payloads = shut_cells ms s.pool.payloads; leaves = s.pool.leaves; spare = s.pool.spare };
     ready = s.ready;
     best = s.best;
-    halt = s.halt;
+    stop = s.stop;
   }
 
   closed_tree : IsTreeKept p closed

@@ -28,15 +28,15 @@ use Rattle.number_sets.specs.Sets.{listed}
 use Rattle.std.specs.List.{slice_get}
 use Rattle.turn_laws.specs.Kept.{LeafIsKept, EndIsKept, IsKept}
 use Rattle.turn_laws.proofs.LeanLemmas.{kept_is_lean, whole_is_accepted, open_stands, kept_is_spent}
-use Rattle.node_looks.specs.declared.evaluator.Halt.{Halt}
-use Rattle.node_looks.specs.declared.looks.Ready.{Ready}
-use Rattle.node_looks.specs.declared.looks.Looked.{Looked}
-use Rattle.node_looks.specs.Evaluated.{PastPlaces}
-use Rattle.node_looks.specs.Looks.{is_bounded, has_bounded, KnowsCell, IsHalted, IsOpenAs, IsLooked}
-use Rattle.node_looks.proofs.ChildLemmas.{cost_is, found_best}
-use Rattle.node_looks.specs.Children.{claim_with, IsBest, AreReady}
+use Rattle.node_evaluation.specs.declared.evaluator.PastStop.{PastStop}
+use Rattle.node_evaluation.specs.declared.looks.Ready.{Ready}
+use Rattle.node_evaluation.specs.declared.looks.Looked.{Looked}
+use Rattle.node_evaluation.specs.Evaluated.{PastPlaces}
+use Rattle.node_evaluation.specs.Looks.{is_bounded, has_bounded, KnowsCell, IsStop, IsOpenAs, IsLooked}
+use Rattle.node_evaluation.proofs.ChildLemmas.{cost_is, found_best}
+use Rattle.node_evaluation.specs.Children.{claim_with, IsBest, AreReady}
 use Rattle.abb_search.specs.declared.growing.Growing.{Growing}
-use Rattle.abb_search.specs.Growing.{IsTreeKept, IsGrowing, IsSpentAt, IsHaltedAt}
+use Rattle.abb_search.specs.Growing.{IsTreeKept, IsGrowing, IsSpentAt, IsStoppedAt}
 use Rattle.abb_search.proofs.KnownLemmas.{AreKnown, knows_tree, few_nodes, knows_claim}
 use Rattle.abb_search.specs.Found.{IsProved, IsStopped, IsBelowLimit, found_with, IsFoundBy}
 
@@ -118,12 +118,12 @@ module _ (p : Problem) (s : Growing) (t : IsTreeKept p s) (at place : ℕ) (tree
       under_limit : (b n c k m : ℕ) → b < n + c → c ≡ k → n + k < m → b < m
       under_limit b n c k m h e l = omega (arith, h, e, l)
 
-  pub past : (Past : PastPlaces) (h : Halt) → IsHaltedAt Past p s at h → IsPast p IsUntried (node_of s.start) tree (λ n. Past p n h.nonbasic h.place) place
+  pub past : (Past : PastPlaces) (h : PastStop) → IsStoppedAt Past p s at h → IsPast p IsUntried (node_of s.start) tree (λ n. Past p n h.nonbasic h.place) place
   past Past h k = subst (λ (w : Tree). IsPast p IsUntried (node_of s.start) w (λ n. Past p n h.nonbasic h.place) place) (sym of.nodes_are) (record {
     node = place_of (cell_at s.pool.payloads at);
     at_leaf = open_stands p (node_of s.start) (claim_with s.best) (claimed_cost (claim_with s.best)) t.last s.pool.payloads of.order t.kept of.is_preorder at place of.stands k.is_open;
-    reduced = k.halted.reduced;
-    past = k.halted.past;
+    reduced = k.stopped.reduced;
+    past = k.stopped.past;
   })
 
   pub whole_found : (Past : PastPlaces) (budget : ℕ) (start : starts.Node) → s.start ≡ start
@@ -140,7 +140,7 @@ module _ (p : Problem) (s : Growing) (t : IsTreeKept p s) (at place : ℕ) (tree
       subst (λ (n : starts.Node). IsStopped p (node_of n) (claim_with s.best) tree × IsSpent p IsUntried (claimed_cost (claim_with s.best)) (node_of n) tree place count budget × IsBelowLimit p budget) es
       (stopped, subst (λ b. IsSpent p IsUntried (claimed_cost (claim_with s.best)) (node_of s.start) tree place count b) eu (spent count h), subst (λ b. IsBelowLimit p b) eu (below_limit valid count h))
 
-  pub past_found : (Past : PastPlaces) (h : Halt) (start : starts.Node) → s.start ≡ start → IsHaltedAt Past p s at h
+  pub past_found : (Past : PastPlaces) (h : PastStop) (start : starts.Node) → s.start ≡ start → IsStoppedAt Past p s at h
       → IsStopped p (node_of start) (claim_with s.best) tree × IsPast p IsUntried (node_of start) tree (λ n. Past p n h.nonbasic h.place) place
   past_found Past h start es k =
       subst (λ (n : starts.Node). IsStopped p (node_of n) (claim_with s.best) tree × IsPast p IsUntried (node_of n) tree (λ n. Past p n h.nonbasic h.place) place) es (stopped, past Past h k)

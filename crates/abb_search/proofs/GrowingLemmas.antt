@@ -9,22 +9,22 @@ use Rattle.tree_rules.specs.Ways.{Way, width, options_at}
 use Rattle.tree_rules.specs.Tree.{branch}
 use Rattle.mixed_numbers.specs.declared.number.Mixed.{Mixed}
 use Rattle.turn_laws.specs.Values.{HasFallen}
-use Rattle.node_looks.specs.Looks.{cost_of}
+use Rattle.node_evaluation.specs.Looks.{cost_of}
 use Rattle.tree_rules.specs.Claim as claims
 use Rattle.search_tree.specs.Cells.{Cell, cell_at}
 use Rattle.search_tree.specs.Growth.{AreOpen, as_parent, cells_in_turn, values_in_turn}
 use Rattle.search_tree.specs.declared.growth.Fresh.{Fresh}
 use Rattle.node_pool.specs.Pooled.{Pooled, AreSameNodes}
-use Rattle.node_looks.specs.declared.looks.Ready.{Ready}
-use Rattle.node_looks.specs.declared.children.HaltedAt.{HaltedAt}
-use Rattle.node_looks.specs.declared.children.Children.{Children}
-use Rattle.node_looks.specs.Evaluated.{PastPlaces}
-use Rattle.node_looks.specs.Children.{cells_of, values_of, HaltHolds, AreSeen, AreSolvedBy}
+use Rattle.node_evaluation.specs.declared.looks.Ready.{Ready}
+use Rattle.node_evaluation.specs.declared.children.StoppedAt.{StoppedAt}
+use Rattle.node_evaluation.specs.declared.children.Children.{Children}
+use Rattle.node_evaluation.specs.Evaluated.{PastPlaces}
+use Rattle.node_evaluation.specs.Children.{cells_of, values_of, StopHolds, AreSeen, AreSolvedBy}
 use Rattle.abb_search.specs.declared.growing.Growing.{Growing}
 use Rattle.slab.specs.Slab.{Slab, Updates}
 use Rattle.abb_search.specs.Hand.{ArePlaced}
-use Rattle.abb_search.proofs.HandLemmas.{as_many_kids, solved_placed}
-use Rattle.abb_search.specs.Growing.{halt_at, IsBranching}
+use Rattle.abb_search.proofs.HandLemmas.{as_many_children, solved_placed}
+use Rattle.abb_search.specs.Growing.{stop_at, IsBranching}
 
 cells_last : (fs : List Fresh) (f : Fresh) → cells_in_turn (fs ++ f ∷ []) ≡ f.cell ∷ cells_in_turn fs
 cells_last [] f = refl
@@ -43,15 +43,15 @@ values_turned [] = refl
 values_turned (f ∷ fs) = ap (λ (gs : List Fresh). values_in_turn gs) (reverse-append (f ∷ []) fs) ∙ (values_last (reverse fs) f ∙ ap (λ (vs : List Mixed). f.value ∷ vs) (values_turned fs))
 
 -- as many children as options
-pub count_seen : (Past : PastPlaces) (p : Problem) (n : Node) (w : Way) (c : Children) → AreSeen Past p n w c → length c.kids.items ≡ length (options_at (shape_of p) n w)
+pub count_seen : (Past : PastPlaces) (p : Problem) (n : Node) (w : Way) (c : Children) → AreSeen Past p n w c → length c.nodes.items ≡ length (options_at (shape_of p) n w)
 count_seen Past p n w c s =
-    sym (length-map c.kids.items (λ (f : Fresh). f.cell))
-    ∙ (sym (length-map (cells_of c.kids.items) (λ (d : Cell). d.option)) ∙ ap (λ (os : List (List ℕ)). length os) s.children.options_are)
+    sym (length-map c.nodes.items (λ (f : Fresh). f.cell))
+    ∙ (sym (length-map (cells_of c.nodes.items) (λ (d : Cell). d.option)) ∙ ap (λ (os : List (List ℕ)). length os) s.children.options_are)
 
-pub halts_within : (Past : PastPlaces) (p : Problem) (kids : List Fresh) (ready : List (Option Ready)) (first limit : ℕ) (h : Option HaltedAt) → HaltHolds Past p kids ready h → first + length kids < limit
+pub stops_within : (Past : PastPlaces) (p : Problem) (children : List Fresh) (ready : List (Option Ready)) (first limit : ℕ) (h : Option StoppedAt) → StopHolds Past p children ready h → first + length children < limit
     → MatchOption h Unit (λ w. first + w.at < limit)
-halts_within Past p kids ready first limit None h lt = tt
-halts_within Past p kids ready first limit (Some w) h lt = let k = h.0 in omega (arith, k, lt)
+stops_within Past p children ready first limit None h lt = tt
+stops_within Past p children ready first limit (Some w) h lt = let k = h.0 in omega (arith, k, lt)
 
 -- where the last child stands first
 cells_back : (fs : List Fresh) → cells_in_turn fs ≡ cells_of (reverse fs)
@@ -61,17 +61,17 @@ values_back : (fs : List Fresh) → values_in_turn fs ≡ values_of (reverse fs)
 values_back fs = ap (λ (gs : List Fresh). values_in_turn gs) (sym (reverse-reverse fs)) ∙ values_turned (reverse fs)
 
 pub branching : (Past : PastPlaces) (p : Problem) (n : Node) (old new : Growing) (at : ℕ) (w : Way) (c : Children) (mid : Pooled Cell) (placed : List Fresh) (freed : Slab Ready) (first : ℕ)
-    → AreSeen Past p n w c → width w ≡ length c.kids.items → AreSameNodes old.pool mid → first ≡ length old.pool.payloads
-    → Updates old.ready freed (cell_at old.pool.payloads at).key None → ArePlaced c.kids.items (reverse placed) c.ready.items freed new.ready
+    → AreSeen Past p n w c → width w ≡ length c.nodes.items → AreSameNodes old.pool mid → first ≡ length old.pool.payloads
+    → Updates old.ready freed (cell_at old.pool.payloads at).key None → ArePlaced c.nodes.items (reverse placed) c.ready.items freed new.ready
     → new.pool.payloads ≡ slice_set mid.payloads at (as_parent (cell_at mid.payloads at) first (branch w)) ++ cells_in_turn placed
     → new.pool.values ≡ mid.values ++ values_in_turn placed
     → (new.best ≡ old.best) ⊎ (new.best ≡ c.best) → HasFallen (cost_of old.best) (cost_of new.best) → HasFallen (cost_of c.best) (cost_of new.best)
-    → is_some new.best ≡ (is_some old.best || is_some c.best) → length old.pool.payloads + length c.kids.items < 2 ^ 32 - 1 → new.nodes ≡ old.nodes + length c.kids.items → AreOpen new.pool
-    → new.start ≡ old.start → new.budget ≡ old.budget → new.halt ≡ halt_at first c.halt → IsBranching Past p n old new at w
+    → is_some new.best ≡ (is_some old.best || is_some c.best) → length old.pool.payloads + length c.nodes.items < 2 ^ 32 - 1 → new.nodes ≡ old.nodes + length c.nodes.items → AreOpen new.pool
+    → new.start ≡ old.start → new.budget ≡ old.budget → new.stop ≡ stop_at first c.stop → IsBranching Past p n old new at w
 branching Past p n old new at w c mid placed freed first seen wide same ef frees are_placed ec ev which fallen fallen_found some_best numbered en ao es eu eh = record {
   seen = c;
   are_seen = seen;
-  kids = reverse placed;
+  children = reverse placed;
   freed = freed;
   frees = frees;
   placed = are_placed;
@@ -90,11 +90,11 @@ branching Past p n old new at w c mid placed freed first seen wide same ef frees
   are_open = ao;
   start = es;
   budget = eu;
-  halt = eh ∙ ap (λ k. halt_at k c.halt) ef;
+  stop = eh ∙ ap (λ k. stop_at k c.stop) ef;
 }
   where
-    many : length c.kids.items ≡ length (cells_of (reverse placed))
-    many = sym (length-map (reverse placed) (λ (f : Fresh). f.cell) ∙ as_many_kids c.kids.items (reverse placed) c.ready.items freed new.ready are_placed)
+    many : length c.nodes.items ≡ length (cells_of (reverse placed))
+    many = sym (length-map (reverse placed) (λ (f : Fresh). f.cell) ∙ as_many_children c.nodes.items (reverse placed) c.ready.items freed new.ready are_placed)
 
 -- there is room for as many as were reserved
 pub room_within : (spare old count n : ℕ) → spare ≡ max old count → n ≡ count → n ≤ spare
@@ -109,11 +109,11 @@ drop-length (suc n) [] ys e = absurd (omega (arith, e))
 drop-length (suc n) (x ∷ xs) ys e = drop-length n xs ys (omega (arith, e))
 
 -- the children stand behind the other cells
-pub solved_behind : (p : Problem) (old mid news : List Cell) (at : ℕ) (now : Cell) (kids placed : List Fresh) (rs : List (Option Ready)) (before after : Slab Ready) (ws : List (Option claims.Network))
-    → mid ≡ old → news ≡ slice_set mid at now ++ cells_in_turn placed → ArePlaced kids (reverse placed) rs before after → AreSolvedBy p (cells_of kids) ws
+pub solved_behind : (p : Problem) (old mid news : List Cell) (at : ℕ) (now : Cell) (children placed : List Fresh) (rs : List (Option Ready)) (before after : Slab Ready) (ws : List (Option claims.Network))
+    → mid ≡ old → news ≡ slice_set mid at now ++ cells_in_turn placed → ArePlaced children (reverse placed) rs before after → AreSolvedBy p (cells_of children) ws
     → AreSolvedBy p (drop (length old) news) ws
-solved_behind p old mid news at now kids placed rs before after ws em en h s =
+solved_behind p old mid news at now children placed rs before after ws em en h s =
     let many : length old ≡ length (slice_set mid at now) = ap (λ (cs : List Cell). length cs) (sym em) ∙ sym (length-set mid at now) in
     let behind : drop (length old) news ≡ cells_of (reverse placed)
     = ap (λ (cs : List Cell). drop (length old) cs) en ∙ (drop-length (length old) (slice_set mid at now) (cells_in_turn placed) many ∙ cells_back placed) in
-    subst (λ (cs : List Cell). AreSolvedBy p cs ws) (sym behind) (solved_placed p kids (reverse placed) rs before after ws h s)
+    subst (λ (cs : List Cell). AreSolvedBy p cs ws) (sym behind) (solved_placed p children (reverse placed) rs before after ws h s)

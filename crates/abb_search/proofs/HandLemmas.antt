@@ -19,9 +19,9 @@ use Rattle.search_tree.specs.Fits.{Follows}
 use Rattle.search_tree.specs.Growth.{is_open}
 use Rattle.search_tree.specs.declared.growth.Fresh.{Fresh}
 use Rattle.turn_laws.specs.Turns.{IsFreshChild, AreChildren}
-use Rattle.node_looks.specs.declared.looks.Ready.{Ready}
-use Rattle.node_looks.specs.Looks.{is_bounded, has_bounded, KnowsCell, IsSomeReady}
-use Rattle.node_looks.specs.Children.{cells_of, values_of, AreReady, IsSolvedBy, AreSolvedBy}
+use Rattle.node_evaluation.specs.declared.looks.Ready.{Ready}
+use Rattle.node_evaluation.specs.Looks.{is_bounded, has_bounded, KnowsCell, IsSomeReady}
+use Rattle.node_evaluation.specs.Children.{cells_of, values_of, AreReady, IsSolvedBy, AreSolvedBy}
 use Rattle.abb_search.specs.Hand.{IsAtHand, AreAtHand, with_key, IsKeyed, IsPlaced, ArePlaced}
 use Rattle.abb_search.proofs.ReadyLemmas.{not_untried}
 
@@ -62,34 +62,34 @@ module _ (p : Problem) (cs : List Cell) (vs : List Mixed) (before after : Slab R
 
 -- ---- what is placed is the same but for its key
 
-pub record IsSameKid (old new : Cell) : Type 0 where
+pub record IsSameChild (old new : Cell) : Type 0 where
   pub key : ℕ
   pub is : new ≡ with_key old key
 
-pub kid_same : (f g : Fresh) (r : Option Ready) (before after : Slab Ready) → IsPlaced f g r before after → IsSameKid f.cell g.cell
-kid_same f g None before after h = record { key = f.cell.key; is = ap (λ (w : Fresh). w.cell) h.0 }
-kid_same f g (Some r) before after h = record { key = h.key; is = ap (λ (w : Fresh). w.cell) h.new_is }
+pub child_same : (f g : Fresh) (r : Option Ready) (before after : Slab Ready) → IsPlaced f g r before after → IsSameChild f.cell g.cell
+child_same f g None before after h = record { key = f.cell.key; is = ap (λ (w : Fresh). w.cell) h.0 }
+child_same f g (Some r) before after h = record { key = h.key; is = ap (λ (w : Fresh). w.cell) h.new_is }
 
 pub value_same : (f g : Fresh) (r : Option Ready) (before after : Slab Ready) → IsPlaced f g r before after → g.value ≡ f.value
 value_same f g None before after h = ap (λ (w : Fresh). w.value) h.0
 value_same f g (Some r) before after h = ap (λ (w : Fresh). w.value) h.new_is
 
-pub kids_same : (fs gs : List Fresh) (rs : List (Option Ready)) (before after : Slab Ready) → ArePlaced fs gs rs before after → (k : ℕ) → k < length gs → IsSameKid (cell_at (cells_of fs) k) (cell_at (cells_of gs) k)
-kids_same [] [] [] before after h k lt = absurd (omega (arith, lt))
-kids_same (f ∷ fs) (g ∷ gs) (r ∷ rs) before after h zero lt = kid_same f g r h.0 after h.2
-kids_same (f ∷ fs) (g ∷ gs) (r ∷ rs) before after h (suc k) lt = kids_same fs gs rs before h.0 h.1 k (omega (arith, lt))
-kids_same [] [] (r ∷ rs) before after h k lt = absurd h
-kids_same [] (g ∷ gs) rs before after h k lt = absurd h
-kids_same (f ∷ fs) [] rs before after h k lt = absurd h
-kids_same (f ∷ fs) (g ∷ gs) [] before after h k lt = absurd h
+pub children_same : (fs gs : List Fresh) (rs : List (Option Ready)) (before after : Slab Ready) → ArePlaced fs gs rs before after → (k : ℕ) → k < length gs → IsSameChild (cell_at (cells_of fs) k) (cell_at (cells_of gs) k)
+children_same [] [] [] before after h k lt = absurd (omega (arith, lt))
+children_same (f ∷ fs) (g ∷ gs) (r ∷ rs) before after h zero lt = child_same f g r h.0 after h.2
+children_same (f ∷ fs) (g ∷ gs) (r ∷ rs) before after h (suc k) lt = children_same fs gs rs before h.0 h.1 k (omega (arith, lt))
+children_same [] [] (r ∷ rs) before after h k lt = absurd h
+children_same [] (g ∷ gs) rs before after h k lt = absurd h
+children_same (f ∷ fs) [] rs before after h k lt = absurd h
+children_same (f ∷ fs) (g ∷ gs) [] before after h k lt = absurd h
 
-pub as_many_kids : (fs gs : List Fresh) (rs : List (Option Ready)) (before after : Slab Ready) → ArePlaced fs gs rs before after → length gs ≡ length fs
-as_many_kids [] [] [] before after h = refl
-as_many_kids (f ∷ fs) (g ∷ gs) (r ∷ rs) before after h = ap suc (as_many_kids fs gs rs before h.0 h.1)
-as_many_kids [] [] (r ∷ rs) before after h = absurd h
-as_many_kids [] (g ∷ gs) rs before after h = absurd h
-as_many_kids (f ∷ fs) [] rs before after h = absurd h
-as_many_kids (f ∷ fs) (g ∷ gs) [] before after h = absurd h
+pub as_many_children : (fs gs : List Fresh) (rs : List (Option Ready)) (before after : Slab Ready) → ArePlaced fs gs rs before after → length gs ≡ length fs
+as_many_children [] [] [] before after h = refl
+as_many_children (f ∷ fs) (g ∷ gs) (r ∷ rs) before after h = ap suc (as_many_children fs gs rs before h.0 h.1)
+as_many_children [] [] (r ∷ rs) before after h = absurd h
+as_many_children [] (g ∷ gs) rs before after h = absurd h
+as_many_children (f ∷ fs) [] rs before after h = absurd h
+as_many_children (f ∷ fs) (g ∷ gs) [] before after h = absurd h
 
 pub values_same : (fs gs : List Fresh) (rs : List (Option Ready)) (before after : Slab Ready) → ArePlaced fs gs rs before after → values_of gs ≡ values_of fs
 values_same [] [] [] before after h = refl
@@ -104,7 +104,7 @@ pub options_same : (fs gs : List Fresh) (rs : List (Option Ready)) (before after
     → map (λ (c : Cell). c.option) (cells_of gs) ≡ map (λ (c : Cell). c.option) (cells_of fs)
 options_same [] [] [] before after h = refl
 options_same (f ∷ fs) (g ∷ gs) (r ∷ rs) before after h =
-    ap (λ (o : List ℕ). o ∷ map (λ (c : Cell). c.option) (cells_of gs)) (ap (λ (c : Cell). c.option) (kid_same f g r h.0 after h.2).is)
+    ap (λ (o : List ℕ). o ∷ map (λ (c : Cell). c.option) (cells_of gs)) (ap (λ (c : Cell). c.option) (child_same f g r h.0 after h.2).is)
     ∙ ap (λ (os : List (List ℕ)). f.cell.option ∷ os) (options_same fs gs rs before h.0 h.1)
 options_same [] [] (r ∷ rs) before after h = absurd h
 options_same [] (g ∷ gs) rs before after h = absurd h
@@ -114,7 +114,7 @@ options_same (f ∷ fs) (g ∷ gs) [] before after h = absurd h
 pub bounded_same : (fs gs : List Fresh) (rs : List (Option Ready)) (before after : Slab Ready) → ArePlaced fs gs rs before after → has_bounded (cells_of gs) ≡ has_bounded (cells_of fs)
 bounded_same [] [] [] before after h = refl
 bounded_same (f ∷ fs) (g ∷ gs) (r ∷ rs) before after h =
-    ap (λ b. b || has_bounded (cells_of gs)) (ap (λ (c : Cell). is_bounded c.end) (kid_same f g r h.0 after h.2).is)
+    ap (λ b. b || has_bounded (cells_of gs)) (ap (λ (c : Cell). is_bounded c.end) (child_same f g r h.0 after h.2).is)
     ∙ ap (λ b. is_bounded f.cell.end || b) (bounded_same fs gs rs before h.0 h.1)
 bounded_same [] [] (r ∷ rs) before after h = absurd h
 bounded_same [] (g ∷ gs) rs before after h = absurd h
@@ -123,21 +123,21 @@ bounded_same (f ∷ fs) (g ∷ gs) [] before after h = absurd h
 
 module _ (p : Problem) (fs gs : List Fresh) (rs : List (Option Ready)) (before after : Slab Ready) (placed : ArePlaced fs gs rs before after) where
   as_many_cells : length (cells_of gs) ≡ length (cells_of fs)
-  as_many_cells = length-map gs (λ (f : Fresh). f.cell) ∙ (as_many_kids fs gs rs before after placed ∙ sym (length-map fs (λ (f : Fresh). f.cell)))
+  as_many_cells = length-map gs (λ (f : Fresh). f.cell) ∙ (as_many_children fs gs rs before after placed ∙ sym (length-map fs (λ (f : Fresh). f.cell)))
 
-  kid_at : (k : ℕ) → k < length (cells_of gs) → IsSameKid (cell_at (cells_of fs) k) (cell_at (cells_of gs) k)
-  kid_at k lt = kids_same fs gs rs before after placed k (let a = length-map gs (λ (f : Fresh). f.cell) in omega (arith, lt, a))
+  child_at : (k : ℕ) → k < length (cells_of gs) → IsSameChild (cell_at (cells_of fs) k) (cell_at (cells_of gs) k)
+  child_at k lt = children_same fs gs rs before after placed k (let a = length-map gs (λ (f : Fresh). f.cell) in omega (arith, lt, a))
 
-  pub known_kids : ((k : ℕ) → k < length fs → KnowsCell p (cell_at (cells_of fs) k)) → (k : ℕ) → k < length (cells_of gs) → KnowsCell p (cell_at (cells_of gs) k)
-  known_kids h k lt =
-      let s = kid_at k lt in
+  pub known_children : ((k : ℕ) → k < length fs → KnowsCell p (cell_at (cells_of fs) k)) → (k : ℕ) → k < length (cells_of gs) → KnowsCell p (cell_at (cells_of gs) k)
+  known_children h k lt =
+      let s = child_at k lt in
       subst (λ (c : Cell). KnowsCell p c) (sym s.is) (h k (let a = as_many_cells in let b = length-map fs (λ (f : Fresh). f.cell) in omega (arith, lt, a, b)))
 
   pub children_kept : (claimed : Option CostOver) (n : Node) (w : Way) → AreChildren p claimed n w (cells_of fs) → AreChildren p claimed n w (cells_of gs)
   children_kept claimed n w c = record {
     options_are = options_same fs gs rs before after placed ∙ c.options_are;
     each = λ k lt.
-        let s = kid_at k lt in
+        let s = child_at k lt in
         let f = c.each k (let a = as_many_cells in omega (arith, lt, a)) in
         subst (λ (d : Cell). IsFreshChild p claimed n w d) (sym s.is) (record {
           follows = record { pass = f.follows.pass; leave = f.follows.leave };
@@ -343,41 +343,41 @@ hand_same p cs vs before after e h = record {
 
 -- ---- while children are placed
 
-pub record ArePlacing (kids : List Fresh) (ready : List (Option Ready)) (before : Slab Ready) (left : List Fresh) (ready_left : List (Option Ready)) (now : Slab Ready) (placed : List Fresh) : Type 0 where
+pub record ArePlacing (children : List Fresh) (ready : List (Option Ready)) (before : Slab Ready) (left : List Fresh) (ready_left : List (Option Ready)) (now : Slab Ready) (placed : List Fresh) : Type 0 where
   pub done : List Fresh
   pub ready_done : List (Option Ready)
-  pub kids_are : kids ≡ left ++ done
+  pub children_are : children ≡ left ++ done
   pub ready_are : ready ≡ ready_left ++ ready_done
   pub as_many : length ready_left ≡ length left
   pub are_placed : ArePlaced done (reverse placed) ready_done before now
 
-pub placing_starts : (kids : List Fresh) (ready : List (Option Ready)) (before : Slab Ready) (placed : List Fresh) → placed ≡ [] → length ready ≡ length kids → ArePlacing kids ready before kids ready before placed
-placing_starts kids ready before placed e m = record {
+pub placing_starts : (children : List Fresh) (ready : List (Option Ready)) (before : Slab Ready) (placed : List Fresh) → placed ≡ [] → length ready ≡ length children → ArePlacing children ready before children ready before placed
+placing_starts children ready before placed e m = record {
   done = [];
   ready_done = [];
-  kids_are = sym (append-nil kids);
+  children_are = sym (append-nil children);
   ready_are = sym (append-nil ready);
   as_many = m;
   are_placed = subst (λ (gs : List Fresh). ArePlaced [] (reverse gs) [] before before) (sym e) refl;
 }
 
-pub placing_goes_on : (kids : List Fresh) (ready : List (Option Ready)) (before : Slab Ready) (left left' : List Fresh) (rs rs' : List (Option Ready)) (now after : Slab Ready) (placed placed' : List Fresh)
-    (f g : Fresh) (r : Option Ready) → ArePlacing kids ready before left rs now placed → left ≡ left' ++ f ∷ [] → rs ≡ rs' ++ r ∷ [] → placed' ≡ placed ++ g ∷ [] → IsPlaced f g r now after
-    → ArePlacing kids ready before left' rs' after placed'
-placing_goes_on kids ready before left left' rs rs' now after placed placed' f g r h el er ep is_placed = record {
+pub placing_goes_on : (children : List Fresh) (ready : List (Option Ready)) (before : Slab Ready) (left left' : List Fresh) (rs rs' : List (Option Ready)) (now after : Slab Ready) (placed placed' : List Fresh)
+    (f g : Fresh) (r : Option Ready) → ArePlacing children ready before left rs now placed → left ≡ left' ++ f ∷ [] → rs ≡ rs' ++ r ∷ [] → placed' ≡ placed ++ g ∷ [] → IsPlaced f g r now after
+    → ArePlacing children ready before left' rs' after placed'
+placing_goes_on children ready before left left' rs rs' now after placed placed' f g r h el er ep is_placed = record {
   done = f ∷ h.done;
   ready_done = r ∷ h.ready_done;
-  kids_are = h.kids_are ∙ (ap (λ (fs : List Fresh). fs ++ h.done) el ∙ append_assoc left' (f ∷ []) h.done);
+  children_are = h.children_are ∙ (ap (λ (fs : List Fresh). fs ++ h.done) el ∙ append_assoc left' (f ∷ []) h.done);
   ready_are = h.ready_are ∙ (ap (λ (qs : List (Option Ready)). qs ++ h.ready_done) er ∙ append_assoc rs' (r ∷ []) h.ready_done);
   as_many = let a = ap (λ (fs : List Fresh). length fs) el in let b = ap (λ (qs : List (Option Ready)). length qs) er in
       let c = length-append left' (f ∷ []) in let d = length-append rs' (r ∷ []) in let e = h.as_many in omega (arith, a, b, c, d, e);
   are_placed = subst (λ (gs : List Fresh). ArePlaced (f ∷ h.done) gs (r ∷ h.ready_done) before after) (sym (ap (λ (gs : List Fresh). reverse gs) ep ∙ reverse-append placed (g ∷ []))) (now, h.are_placed, is_placed);
 }
 
-pub placing_ends : (kids : List Fresh) (ready : List (Option Ready)) (before : Slab Ready) (left : List Fresh) (rs : List (Option Ready)) (now : Slab Ready) (placed : List Fresh)
-    → ArePlacing kids ready before left rs now placed → left ≡ [] → ArePlaced kids (reverse placed) ready before now
-placing_ends kids ready before left rs now placed h e =
-    subst (λ (fs : List Fresh). ArePlaced fs (reverse placed) ready before now) (sym (h.kids_are ∙ ap (λ (fs : List Fresh). fs ++ h.done) e))
+pub placing_ends : (children : List Fresh) (ready : List (Option Ready)) (before : Slab Ready) (left : List Fresh) (rs : List (Option Ready)) (now : Slab Ready) (placed : List Fresh)
+    → ArePlacing children ready before left rs now placed → left ≡ [] → ArePlaced children (reverse placed) ready before now
+placing_ends children ready before left rs now placed h e =
+    subst (λ (fs : List Fresh). ArePlaced fs (reverse placed) ready before now) (sym (h.children_are ∙ ap (λ (fs : List Fresh). fs ++ h.done) e))
     (subst (λ (qs : List (Option Ready)). ArePlaced h.done (reverse placed) qs before now) (sym (h.ready_are ∙ ap (λ (qs : List (Option Ready)). qs ++ h.ready_done) (nothing rs (h.as_many ∙ ap (λ (fs : List Fresh). length fs) e)))) h.are_placed)
   where
     nothing : (qs : List (Option Ready)) → length qs ≡ 0 → qs ≡ []

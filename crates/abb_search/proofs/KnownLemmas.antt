@@ -17,8 +17,8 @@ use Rattle.search_tree.specs.Cells.{Cell, no_cell, cell_at, children_at, IsLinke
 use Rattle.search_tree.specs.Preorder.{IsPreorder, tree_of, node_at}
 use Rattle.search_tree.proofs.CountLemmas.{preorder_has_all}
 use Rattle.search_tree.proofs.TreeLemmas.{AreThere, there-append, children_there}
-use Rattle.node_looks.specs.Looks.{is_bounded, has_bounded, KnowsCell}
-use Rattle.node_looks.specs.Children.{claim_with}
+use Rattle.node_evaluation.specs.Looks.{is_bounded, has_bounded, KnowsCell}
+use Rattle.node_evaluation.specs.Children.{claim_with}
 
 -- ---- cells that are known
 

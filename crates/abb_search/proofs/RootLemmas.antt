@@ -21,18 +21,18 @@ use Rattle.std.proofs.lemmas.Bool.{or_right}
 use Rattle.turn_laws.specs.Values.{IsPositiveCost}
 use Rattle.turn_laws.proofs.GrowLemmas.{leaf_fallen}
 use Rattle.turn_laws.specs.Kept.{LeafIsKept, EndIsKept, IsKept}
-use Rattle.node_looks.specs.declared.evaluator.Halt.{Halt}
-use Rattle.node_looks.specs.declared.looks.Ready.{Ready}
-use Rattle.node_looks.specs.declared.looks.Looked.{Looked}
-use Rattle.node_looks.specs.Evaluated.{PastPlaces}
-use Rattle.node_looks.specs.Looks.{is_bounded, has_bounded, cost_of, KnowsCell, IsHalted, IsOpenAs, IsLooked}
-use Rattle.node_looks.proofs.ChildLemmas.{cost_is, found_best}
-use Rattle.node_looks.specs.Children.{claim_with, IsBest}
+use Rattle.node_evaluation.specs.declared.evaluator.PastStop.{PastStop}
+use Rattle.node_evaluation.specs.declared.looks.Ready.{Ready}
+use Rattle.node_evaluation.specs.declared.looks.Looked.{Looked}
+use Rattle.node_evaluation.specs.Evaluated.{PastPlaces}
+use Rattle.node_evaluation.specs.Looks.{is_bounded, has_bounded, cost_of, KnowsCell, IsStop, IsOpenAs, IsLooked}
+use Rattle.node_evaluation.proofs.ChildLemmas.{cost_is, found_best}
+use Rattle.node_evaluation.specs.Children.{claim_with, IsBest}
 use Rattle.abb_search.specs.Hand.{AreAtHand, with_key}
-use Rattle.abb_search.proofs.HandLemmas.{IsSameKid, kid_same, hand_more}
+use Rattle.abb_search.proofs.HandLemmas.{IsSameChild, child_same, hand_more}
 use Rattle.abb_search.specs.declared.growing.Growing.{Growing}
-use Rattle.abb_search.specs.declared.growing.HaltedLeaf.{HaltedLeaf}
-use Rattle.abb_search.specs.Growing.{IsTreeKept, IsGrowing, GoesOn, open_cell, IsOpenRoot, root_halt, IsLookedRoot, IsHaltedAt}
+use Rattle.abb_search.specs.declared.growing.StoppedLeaf.{StoppedLeaf}
+use Rattle.abb_search.specs.Growing.{IsTreeKept, IsGrowing, GoesOn, open_cell, IsOpenRoot, root_stop, IsLookedRoot, IsStoppedAt}
 use Rattle.abb_search.proofs.KnownLemmas.{AreKnown, open_unbounded}
 use Rattle.abb_search.proofs.ReadyLemmas.{open_leaf, first_has}
 
@@ -99,11 +99,11 @@ open_tree p start budget best s b h sound some = record {
 
 module _ (Past : PastPlaces) (p : Problem) (start : starts.Node) (budget : ℕ) (best : Option claims.Network) (given : IsBest p best) (s : Growing) (h : IsLookedRoot Past p start budget best s) (some : 1 ≤ budget) where
   -- the root has the key of what is at hand
-  kid : IsSameKid h.looked.cell h.root.cell
-  kid = kid_same (record { cell = h.looked.cell; value = h.looked.value }) h.root h.looked.ready h.empty s.ready h.placed
+  child : IsSameChild h.looked.cell h.root.cell
+  child = child_same (record { cell = h.looked.cell; value = h.looked.value }) h.root h.looked.ready h.empty s.ready h.placed
 
-  cells_now : s.pool.payloads ≡ with_key h.looked.cell kid.key ∷ []
-  cells_now = h.cells_are ∙ ap (λ (c : Cell). c ∷ []) kid.is
+  cells_now : s.pool.payloads ≡ with_key h.looked.cell child.key ∷ []
+  cells_now = h.cells_are ∙ ap (λ (c : Cell). c ∷ []) child.is
 
   found : IsBest p h.looked.network
   found = found_best p (place_of h.looked.cell) h.looked.network h.is_looked.seen.found
@@ -114,8 +114,8 @@ module _ (Past : PastPlaces) (p : Problem) (start : starts.Node) (budget : ℕ) 
     | inr e ↦ subst (λ (w : Option claims.Network). IsBest p w) (sym e) found
   ]
 
-  root_kept : IsKept p (node_of start) (claim_with s.best) None (with_key h.looked.cell kid.key ∷ [])
-  root_kept = leaf_is_kept p (node_of start) (claim_with s.best) (with_key h.looked.cell kid.key) h.is_looked.seen.what h.is_looked.seen.end_is h.is_looked.option_is
+  root_kept : IsKept p (node_of start) (claim_with s.best) None (with_key h.looked.cell child.key ∷ [])
+  root_kept = leaf_is_kept p (node_of start) (claim_with s.best) (with_key h.looked.cell child.key) h.is_looked.seen.what h.is_looked.seen.end_is h.is_looked.option_is
       (record { pass = h.is_looked.follows.pass; leave = h.is_looked.follows.leave }) h.is_looked.sound
       (subst (λ (o : Option CostOver). LeafPasses true p o (place_of h.looked.cell) h.is_looked.seen.what) (cost_is s.best)
       (leaf_fallen p (cost_of h.looked.network) (cost_of s.best) (place_of h.looked.cell) h.is_looked.seen.what h.fallen_found
@@ -128,7 +128,7 @@ module _ (Past : PastPlaces) (p : Problem) (start : starts.Node) (budget : ℕ) 
         (subst (λ (cs : List Cell). IsKept p (node_of start) (claim_with s.best) None cs) (sym cells_now) root_kept);
     passes = root_best.passes;
     bounded = λ b. h.some_best ∙ or_right (is_some best) (is_some h.looked.network) (h.is_looked.seen.bounded ∙ (or_nothing (is_bounded h.looked.cell.end) ∙ (ap (λ (cs : List Cell). has_bounded cs) (sym cells_now) ∙ b)));
-    known = subst (λ (cs : List Cell). AreKnown p cs) (sym cells_now) (λ i lt. subst (λ j. KnowsCell p (cell_at (with_key h.looked.cell kid.key ∷ []) j)) (let z : 0 ≡ i = omega (arith, lt) in z) h.is_looked.known);
+    known = subst (λ (cs : List Cell). AreKnown p cs) (sym cells_now) (λ i lt. subst (λ j. KnowsCell p (cell_at (with_key h.looked.cell child.key ∷ []) j)) (let z : 0 ≡ i = omega (arith, lt) in z) h.is_looked.known);
     counted = let a = h.nodes_are in let b = ap (λ (cs : List Cell). length cs) cells_now in omega (arith, a, b);
     few = let a = ap (λ (cs : List Cell). length cs) cells_now in let b = h.budget_is in omega (arith, a, b, some);
     numbered = let a = ap (λ (cs : List Cell). length cs) cells_now in omega (arith, a);
@@ -141,34 +141,34 @@ module _ (Past : PastPlaces) (p : Problem) (start : starts.Node) (budget : ℕ) 
   nothing_at_hand : AreAtHand p [] [] h.empty
   nothing_at_hand = record { as_many = refl; each = λ j lt e. absurd (omega (arith, lt)); apart = λ i j li lj ei ej q. absurd (omega (arith, li)) }
 
-  root_grows : h.looked.halt ≡ None → IsGrowing p s
+  root_grows : h.looked.stop ≡ None → IsGrowing p s
   root_grows eh = record {
     tree = root_tree;
     are_open = h.are_open;
     ready = subst (λ (cs : List Cell). AreAtHand p cs s.pool.values s.ready) (sym h.cells_are)
         (subst (λ (vs : List Mixed). AreAtHand p (h.root.cell ∷ []) vs s.ready) (sym h.values_are)
         (hand_more p [] [] h.empty s.ready nothing_at_hand (record { cell = h.looked.cell; value = h.looked.value } ∷ []) (h.root ∷ []) (h.looked.ready ∷ []) (h.empty, refl, h.placed) (
-          (λ e. subst (λ (i : Option Halt). IsOpenAs Past p (place_of h.looked.cell) h.is_looked.seen.what h.looked.value h.looked.ready i) eh h.is_looked.seen.open_as
+          (λ e. subst (λ (i : Option PastStop). IsOpenAs Past p (place_of h.looked.cell) h.is_looked.seen.what h.looked.value h.looked.ready i) eh h.is_looked.seen.open_as
               (let q : leaf h.is_looked.seen.what ≡ leaf untried = sym h.is_looked.seen.end_is ∙ e in cc)),
           tt,
         )));
   }
 
-  root_halts : (i : Halt) → h.looked.halt ≡ Some i → IsHaltedAt Past p s 0 i
-  root_halts i eh =
-      let o = subst (λ (j : Option Halt). IsOpenAs Past p (place_of h.looked.cell) h.is_looked.seen.what h.looked.value h.looked.ready j) eh h.is_looked.seen.open_as in
+  root_stops : (i : PastStop) → h.looked.stop ≡ Some i → IsStoppedAt Past p s 0 i
+  root_stops i eh =
+      let o = subst (λ (j : Option PastStop). IsOpenAs Past p (place_of h.looked.cell) h.is_looked.seen.what h.looked.value h.looked.ready j) eh h.is_looked.seen.open_as in
       record {
         there = let a = ap (λ (cs : List Cell). length cs) cells_now in omega (arith, a);
         is_open = subst (λ (cs : List Cell). (cell_at cs 0).end ≡ leaf untried) (sym cells_now) (h.is_looked.seen.end_is ∙ ap (λ (w : Leaf). leaf w) o.0);
-        halted = subst (λ (cs : List Cell). IsHalted Past p (place_of (cell_at cs 0)) i) (sym cells_now) o.1;
+        stopped = subst (λ (cs : List Cell). IsStop Past p (place_of (cell_at cs 0)) i) (sym cells_now) o.1;
       }
 
-  pub root_after : GoesOn Past p s s.halt
-  root_after = subst (λ (o : Option HaltedLeaf). GoesOn Past p s o) (sym h.halt_is) (by h.looked.halt refl)
+  pub root_after : GoesOn Past p s s.stop
+  root_after = subst (λ (o : Option StoppedLeaf). GoesOn Past p s o) (sym h.stop_is) (by h.looked.stop refl)
     where
-      by : (o : Option Halt) → h.looked.halt ≡ o → GoesOn Past p s (root_halt o)
+      by : (o : Option PastStop) → h.looked.stop ≡ o → GoesOn Past p s (root_stop o)
       by None e = root_grows e
-      by (Some i) e = (root_tree, root_halts i e)
+      by (Some i) e = (root_tree, root_stops i e)
 
 -- the best network is the one that was found, where none was to be undercut
 pub best_is_found : (best new found : Option claims.Network) → best ≡ None → (new ≡ best) ⊎ (new ≡ found) → is_some new ≡ (is_some best || is_some found) → new ≡ found

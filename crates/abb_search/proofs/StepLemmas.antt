@@ -25,36 +25,36 @@ use Rattle.search_tree.proofs.CountLemmas.{preorder_has_all}
 use Rattle.std.proofs.lemmas.List.{length-map}
 use Rattle.search_tree.specs.Growth.{is_open, AreOpen}
 use Rattle.turn_laws.specs.Kept.{IsKept}
-use Rattle.node_looks.specs.declared.evaluator.Halt.{Halt}
-use Rattle.node_looks.specs.Evaluated.{PastPlaces, cost_in}
-use Rattle.node_looks.specs.Looks.{has_bounded, cost_of, IsHalted}
-use Rattle.node_looks.specs.Children.{claim_with}
+use Rattle.node_evaluation.specs.declared.evaluator.PastStop.{PastStop}
+use Rattle.node_evaluation.specs.Evaluated.{PastPlaces, cost_in}
+use Rattle.node_evaluation.specs.Looks.{has_bounded, cost_of, IsStop}
+use Rattle.node_evaluation.specs.Children.{claim_with}
 use Rattle.abb_search.specs.Hand.{AreAtHand}
 use Rattle.abb_search.proofs.HandLemmas.{hand_same}
 use Rattle.abb_search.specs.declared.outcome.Found.{Found}
 use Rattle.abb_search.specs.declared.outcome.Found.TheVariants as founds
 use Rattle.abb_search.specs.declared.growing.Growing.{Growing}
-use Rattle.abb_search.specs.declared.growing.HaltedLeaf.{HaltedLeaf}
-use Rattle.abb_search.specs.Growing.{IsTreeKept, IsGrowing, leaf_of, IsHaltedAt, GoesOn, IsGoing, IsSame}
+use Rattle.abb_search.specs.declared.growing.StoppedLeaf.{StoppedLeaf}
+use Rattle.abb_search.specs.Growing.{IsTreeKept, IsGrowing, leaf_of, IsStoppedAt, GoesOn, IsGoing, IsSame}
 use Rattle.abb_search.specs.Found.{IsFoundBy, found_with}
 use Rattle.abb_search.specs.Answers.{network_in, IsAgainst, IsMore, IsEnd, StepHolds}
 use Rattle.abb_search.specs.Searched.{Searched, IsSameSearch, AreNodesOf, StandsAt, IsSearching}
 use Rattle.abb_search.proofs.KnownLemmas.{AreKnown}
 
--- ---- a leaf that halts the search
+-- ---- a leaf that stops the search
 
-pub record IsHaltedBy (o : Option HaltedLeaf) (at : ℕ) : Type 0 where
-  pub by : HaltedLeaf
+pub record IsStopBy (o : Option StoppedLeaf) (at : ℕ) : Type 0 where
+  pub by : StoppedLeaf
   pub is : o ≡ Some by
   pub at_is : by.leaf ≡ at
 
-pub halted_by : (o : Option HaltedLeaf) (at : ℕ) → leaf_of o ≡ Some at → IsHaltedBy o at
-halted_by None at h = absurd (let q : None ≡ Some at = h in cc)
-halted_by (Some w) at h = record { by = w; is = refl; at_is = (let q : Some w.leaf ≡ Some at = h in cc) }
+pub stopped_by : (o : Option StoppedLeaf) (at : ℕ) → leaf_of o ≡ Some at → IsStopBy o at
+stopped_by None at h = absurd (let q : None ≡ Some at = h in cc)
+stopped_by (Some w) at h = record { by = w; is = refl; at_is = (let q : Some w.leaf ≡ Some at = h in cc) }
 
-pub none_halted : (o : Option HaltedLeaf) → leaf_of o ≡ None → o ≡ None
-none_halted None h = refl
-none_halted (Some w) h = absurd (let q : Some w.leaf ≡ None = h in cc)
+pub none_stopped : (o : Option StoppedLeaf) → leaf_of o ≡ None → o ≡ None
+none_stopped None h = refl
+none_stopped (Some w) h = absurd (let q : Some w.leaf ≡ None = h in cc)
 
 -- what is found has the best network
 pub network_found : (best : Option claims.Network) (tree : Tree) → network_in (found_with best tree) ≡ best
@@ -76,16 +76,16 @@ pub tree_positive : (p : Problem) (s : Growing) → IsTreeKept p s → IsPositiv
 tree_positive p s t = passes_positive true p s.best t.passes
 
 going_tree : (Past : PastPlaces) (p : Problem) (s : Growing) → IsGoing Past p s → IsTreeKept p s
-going_tree Past p s h = by s.halt h
+going_tree Past p s h = by s.stop h
   where
-    by : (o : Option HaltedLeaf) → GoesOn Past p s o → IsTreeKept p s
+    by : (o : Option StoppedLeaf) → GoesOn Past p s o → IsTreeKept p s
     by None g = g.tree
     by (Some w) g = g.0
 
 going_positive : (Past : PastPlaces) (p : Problem) (s : Growing) → IsGoing Past p s → IsPositiveCost (cost_of s.best)
 going_positive Past p s h = tree_positive p s (going_tree Past p s h)
 
-pub more_after : (Past : PastPlaces) (p : Problem) (s new : Growing) → GoesOn Past p new new.halt → length s.pool.payloads < length new.pool.payloads → HasFallen (cost_of s.best) (cost_of new.best)
+pub more_after : (Past : PastPlaces) (p : Problem) (s new : Growing) → GoesOn Past p new new.stop → length s.pool.payloads < length new.pool.payloads → HasFallen (cost_of s.best) (cost_of new.best)
     → new.start ≡ s.start → new.budget ≡ s.budget → IsMore Past p s new
 more_after Past p s new going more fallen es eu = record {
   going = going;
@@ -188,20 +188,20 @@ module _ (Past : PastPlaces) (p : Problem) (s n : Growing) (e : IsSame s n) wher
         (subst (λ (vs : List Mixed). AreAtHand p s.pool.payloads vs n.ready) (sym e.pool.values) (hand_same p s.pool.payloads s.pool.values s.ready n.ready e.ready g.ready));
   }
 
-  halted_same : (at : ℕ) (h : Halt) → IsHaltedAt Past p s at h → IsHaltedAt Past p n at h
-  halted_same at h k = record {
+  stopped_same : (at : ℕ) (h : PastStop) → IsStoppedAt Past p s at h → IsStoppedAt Past p n at h
+  stopped_same at h k = record {
     there = subst (λ (cs : List Cell). at < length cs) (sym e.pool.payloads) k.there;
     is_open = subst (λ (cs : List Cell). (cell_at cs at).end ≡ leaf untried) (sym e.pool.payloads) k.is_open;
-    halted = subst (λ (cs : List Cell). IsHalted Past p (place_of (cell_at cs at)) h) (sym e.pool.payloads) k.halted;
+    stopped = subst (λ (cs : List Cell). IsStop Past p (place_of (cell_at cs at)) h) (sym e.pool.payloads) k.stopped;
   }
 
-  goes_same : (o : Option HaltedLeaf) → GoesOn Past p s o → GoesOn Past p n o
+  goes_same : (o : Option StoppedLeaf) → GoesOn Past p s o → GoesOn Past p n o
   goes_same None g = growing_same g
-  goes_same (Some h) g = (tree_same g.0, halted_same h.leaf h.halt g.1)
+  goes_same (Some h) g = (tree_same g.0, stopped_same h.leaf h.stop g.1)
 
   pub stands_same : (looked : Bool) → StandsAt Past p s looked → StandsAt Past p n looked
   stands_same false h = (tree_same h.0, ap (λ (cs : List Cell). length cs) e.pool.payloads ∙ h.1)
-  stands_same true h = subst (λ (o : Option HaltedLeaf). GoesOn Past p n o) (sym e.halt) (goes_same s.halt h)
+  stands_same true h = subst (λ (o : Option StoppedLeaf). GoesOn Past p n o) (sym e.stop) (goes_same s.stop h)
 
 -- ---- the search ends
 

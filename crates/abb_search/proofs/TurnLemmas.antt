@@ -39,23 +39,23 @@ use Rattle.branch_choice.specs.Choices.{IsChoice, way_of, option_count}
 use Rattle.turn_laws.proofs.FractionLemmas.{fraction_trans}
 use Rattle.turn_laws.proofs.KeptLemmas.{branching_is_kept}
 use Rattle.turn_laws.proofs.StepLemmas.{growth_branches}
-use Rattle.node_looks.specs.declared.looks.Ready.{Ready}
-use Rattle.node_looks.specs.declared.children.HaltedAt.{HaltedAt}
-use Rattle.node_looks.specs.declared.children.Children.{Children}
-use Rattle.node_looks.specs.Evaluated.{PastPlaces, cost_over, cost_in}
-use Rattle.node_looks.specs.Looks.{has_bounded, cost_of, IsReady, IsSomeReady, IsHalted}
-use Rattle.node_looks.specs.Children.{claim_with, IsBest, IsImproved, cells_of, values_of, AreReady, HaltHolds, AreSeen}
-use Rattle.node_looks.proofs.BestLemmas.{improved_after, children_after}
+use Rattle.node_evaluation.specs.declared.looks.Ready.{Ready}
+use Rattle.node_evaluation.specs.declared.children.StoppedAt.{StoppedAt}
+use Rattle.node_evaluation.specs.declared.children.Children.{Children}
+use Rattle.node_evaluation.specs.Evaluated.{PastPlaces, cost_over, cost_in}
+use Rattle.node_evaluation.specs.Looks.{has_bounded, cost_of, IsReady, IsSomeReady, IsStop}
+use Rattle.node_evaluation.specs.Children.{claim_with, IsBest, IsImproved, cells_of, values_of, AreReady, StopHolds, AreSeen}
+use Rattle.node_evaluation.proofs.BestLemmas.{improved_after, children_after}
 use Rattle.abb_search.specs.declared.growing.Growing.{Growing}
-use Rattle.abb_search.specs.declared.growing.HaltedLeaf.{HaltedLeaf}
-use Rattle.abb_search.specs.Growing.{IsTreeKeptFor, IsGrowingFor, choice_of, IsBeaten, halt_at, IsBranching, GoesOn, GoesOnFor, IsSpentAt}
+use Rattle.abb_search.specs.declared.growing.StoppedLeaf.{StoppedLeaf}
+use Rattle.abb_search.specs.Growing.{IsTreeKeptFor, IsGrowingFor, choice_of, IsBeaten, stop_at, IsBranching, GoesOn, GoesOnFor, IsSpentAt}
 use Rattle.abb_search.specs.Closing.{AreBeaten}
 use Rattle.abb_search.proofs.ReadyLemmas.{open_leaf, leaf_open, not_greater, first_has, none_first}
 use Rattle.slab.specs.Slab.{Slab, get, Updates}
 use Rattle.abb_search.specs.Hand.{IsAtHand, AreAtHand, with_key, ArePlaced}
-use Rattle.abb_search.proofs.HandLemmas.{hand_freed, hand_more, kids_same, as_many_kids, known_kids, children_kept, bounded_same}
+use Rattle.abb_search.proofs.HandLemmas.{hand_freed, hand_more, children_same, as_many_children, known_children, children_kept, bounded_same}
 use Rattle.abb_search.proofs.GrowingLemmas.{count_seen}
-use Rattle.node_looks.proofs.ChoiceLemmas.{may_branch, decides, option_count_is, next_count, undecided_there, end_known}
+use Rattle.node_evaluation.proofs.ChoiceLemmas.{may_branch, decides, option_count_is, next_count, undecided_there, end_known}
 use Rattle.abb_search.proofs.KnownLemmas.{AreKnown, known_set, known_more, known_end, bounded_set, bounded_more, open_unbounded}
 
 -- the best network passes, and its scale is above 0
@@ -238,15 +238,15 @@ module _ {undercut : Option CostOver} (p : Problem) (valid : IsValid p) (s : Gro
       module _ (Past : PastPlaces) (new : Growing) (m : Choice) (choice : IsChoice (shape_of p) (place_of (cell_at s.pool.payloads at)) m)
           (few : length s.pool.payloads + option_count m ≤ s.budget)
           (c : Children) (seen : AreSeen Past p (place_of (cell_at s.pool.payloads at)) (way_of m) c)
-          (gs : List Fresh) (freed : Slab Ready) (frees : Updates s.ready freed (cell_at s.pool.payloads at).key None) (placed : ArePlaced c.kids.items gs c.ready.items freed new.ready)
+          (gs : List Fresh) (freed : Slab Ready) (frees : Updates s.ready freed (cell_at s.pool.payloads at).key None) (placed : ArePlaced c.nodes.items gs c.ready.items freed new.ready)
           (wide : width (way_of m) ≡ length (cells_of gs))
           (ec : new.pool.payloads ≡ slice_set s.pool.payloads at (as_parent (cell_at s.pool.payloads at) (length s.pool.payloads) (branch (way_of m))) ++ cells_of gs)
           (ev : new.pool.values ≡ s.pool.values ++ values_of gs)
           (which : (new.best ≡ s.best) ⊎ (new.best ≡ c.best)) (fallen : HasFallen (cost_of s.best) (cost_of new.best)) (fallen_found : HasFallen (cost_of c.best) (cost_of new.best))
           (some_new : is_some new.best ≡ (is_some s.best || is_some c.best)) (numbered : length s.pool.payloads + length (cells_of gs) < 2 ^ 32 - 1) (ao : AreOpen new.pool) (es : new.start ≡ s.start) (eu : new.budget ≡ s.budget)
           (en : new.nodes ≡ s.nodes + length (cells_of gs)) where
-        abbrev kids : List Cell
-        kids = cells_of gs
+        abbrev children : List Cell
+        children = cells_of gs
 
         abbrev now : Cell
         now = as_parent (cell_at s.pool.payloads at) (length s.pool.payloads) (branch (way_of m))
@@ -254,18 +254,18 @@ module _ {undercut : Option CostOver} (p : Problem) (valid : IsValid p) (s : Gro
         branched : IsBranched s.pool.payloads (cells_of gs) new.pool.payloads at (way_of m)
         branched = subst (λ (cs : List Cell). IsBranched s.pool.payloads (cells_of gs) cs at (way_of m)) (sym ec) (growth_branches s.pool.payloads (cells_of gs) at (way_of m) there wide)
 
-        kid_count : length (cells_of gs) ≡ option_count m
-        kid_count =
+        child_count : length (cells_of gs) ≡ option_count m
+        child_count =
             length-map gs (λ (f : Fresh). f.cell)
-            ∙ (as_many_kids c.kids.items gs c.ready.items freed new.ready placed
+            ∙ (as_many_children c.nodes.items gs c.ready.items freed new.ready placed
             ∙ (count_seen Past p (place_of (cell_at s.pool.payloads at)) (way_of m) c seen ∙ option_count_is (shape_of p) (place_of (cell_at s.pool.payloads at)) m choice))
 
         improved : IsImproved p (place_of (cell_at s.pool.payloads at)) s.best new.best
         improved = improved_after p (place_of (cell_at s.pool.payloads at)) s.best c.best new.best (best_of p s g.tree) seen.found which fallen fallen_found
 
         children_now : AreChildren p (claimed_cost (claim_with new.best)) (place_of (cell_at s.pool.payloads at)) (way_of m) (cells_of gs)
-        children_now = children_kept p c.kids.items gs c.ready.items freed new.ready placed (claimed_cost (claim_with new.best)) (place_of (cell_at s.pool.payloads at)) (way_of m)
-            (children_after p (place_of (cell_at s.pool.payloads at)) s.best c.best new.best (best_of p s g.tree) seen.found which fallen fallen_found (way_of m) (cells_of c.kids.items) seen.children)
+        children_now = children_kept p c.nodes.items gs c.ready.items freed new.ready placed (claimed_cost (claim_with new.best)) (place_of (cell_at s.pool.payloads at)) (way_of m)
+            (children_after p (place_of (cell_at s.pool.payloads at)) s.best c.best new.best (best_of p s g.tree) seen.found which fallen fallen_found (way_of m) (cells_of c.nodes.items) seen.children)
 
         kept_now : IsKeptFor p (node_of s.start) (claim_with new.best) new_undercut (Some (cost_over at_hand.value)) new.pool.payloads
         kept_now =
@@ -278,7 +278,7 @@ module _ {undercut : Option CostOver} (p : Problem) (valid : IsValid p) (s : Gro
             (known_set p s.pool.payloads at now g.tree.known there
             (known_end p (cell_at s.pool.payloads at) now (g.tree.known at there) refl refl
             (end_known p valid (place_of (cell_at s.pool.payloads at)) m choice)))
-            (known_kids p c.kids.items gs c.ready.items freed new.ready placed seen.known))
+            (known_children p c.nodes.items gs c.ready.items freed new.ready placed seen.known))
 
         bounded_in : has_bounded new.pool.payloads ≡ (has_bounded s.pool.payloads || has_bounded (cells_of gs))
         bounded_in =
@@ -286,13 +286,13 @@ module _ {undercut : Option CostOver} (p : Problem) (valid : IsValid p) (s : Gro
             ∙ (bounded_more (slice_set s.pool.payloads at now) (cells_of gs)
             ∙ ap (λ b. b || has_bounded (cells_of gs)) (bounded_set s.pool.payloads at now there (open_unbounded (cell_at s.pool.payloads at).end untried_there)))
 
-        kids_bounded : is_some c.best ≡ has_bounded (cells_of gs)
-        kids_bounded = seen.bounded ∙ sym (bounded_same c.kids.items gs c.ready.items freed new.ready placed)
+        children_bounded : is_some c.best ≡ has_bounded (cells_of gs)
+        children_bounded = seen.bounded ∙ sym (bounded_same c.nodes.items gs c.ready.items freed new.ready placed)
 
         bounded_now : has_bounded new.pool.payloads ≡ true → is_some new.best ≡ true
         bounded_now b = some_new ∙ elim (or_cases (has_bounded s.pool.payloads) (has_bounded (cells_of gs)) (sym bounded_in ∙ b)) [
           | inl o ↦ or_left (is_some s.best) (is_some c.best) (g.tree.bounded o)
-          | inr k ↦ or_right (is_some s.best) (is_some c.best) (kids_bounded ∙ k)
+          | inr k ↦ or_right (is_some s.best) (is_some c.best) (children_bounded ∙ k)
         ]
 
         longer : length new.pool.payloads ≡ length s.pool.payloads + length (cells_of gs)
@@ -306,52 +306,52 @@ module _ {undercut : Option CostOver} (p : Problem) (valid : IsValid p) (s : Gro
           bounded = bounded_now;
           known = known_now;
           counted = let a = longer in let b = en in let c = g.tree.counted in omega (arith, a, b, c);
-          few = let a = longer in let b = kid_count in let d = few in let e = eu in omega (arith, a, b, d, e);
+          few = let a = longer in let b = child_count in let d = few in let e = eu in omega (arith, a, b, d, e);
           numbered = subst (λ n. n < 2 ^ 32 - 1) (sym longer) numbered;
         }
 
-        ready_now : AreReady p (cells_of c.kids.items) (values_of c.kids.items) c.ready.items → AreAtHand p new.pool.payloads new.pool.values new.ready
+        ready_now : AreReady p (cells_of c.nodes.items) (values_of c.nodes.items) c.ready.items → AreAtHand p new.pool.payloads new.pool.values new.ready
         ready_now h =
             subst (λ (vs : List Mixed). AreAtHand p new.pool.payloads vs new.ready) (sym ev)
             (subst (λ (cs : List Cell). AreAtHand p cs (s.pool.values ++ values_of gs) new.ready) (sym ec)
             (hand_more p (slice_set s.pool.payloads at now) s.pool.values freed new.ready
-            (hand_freed p s.pool.payloads s.pool.values s.ready freed at now g.ready there untried_there refl frees) c.kids.items gs c.ready.items placed h))
+            (hand_freed p s.pool.payloads s.pool.values s.ready freed at now g.ready there untried_there refl frees) c.nodes.items gs c.ready.items placed h))
 
         -- a leaf has at least two options
         pub more_now : length s.pool.payloads < length new.pool.payloads
-        more_now = let a = longer in let b = kid_count in let d = two in omega (arith, a, b, d)
+        more_now = let a = longer in let b = child_count in let d = two in omega (arith, a, b, d)
           where
             two : 2 ≤ option_count m
             two = two_or_more m
 
-        pub going_now : (h : Option HaltedAt) → HaltHolds Past p c.kids.items c.ready.items h → GoesOnFor Past p new_undercut new (halt_at (length s.pool.payloads) h)
+        pub going_now : (h : Option StoppedAt) → StopHolds Past p c.nodes.items c.ready.items h → GoesOnFor Past p new_undercut new (stop_at (length s.pool.payloads) h)
         going_now None h = record { tree = tree_now; are_open = ao; ready = ready_now h }
         going_now (Some w) h =
-            let lt : w.at < length (cells_of gs) = let a = h.0 in let b = length-map gs (λ (f : Fresh). f.cell) in let d = as_many_kids c.kids.items gs c.ready.items freed new.ready placed in omega (arith, a, b, d) in
-            let kid = kids_same c.kids.items gs c.ready.items freed new.ready placed w.at (let a = h.0 in let d = as_many_kids c.kids.items gs c.ready.items freed new.ready placed in omega (arith, a, d)) in
-            let here : cell_at new.pool.payloads (length s.pool.payloads + w.at) ≡ with_key (cell_at (cells_of c.kids.items) w.at) kid.key = branched.kids_are w.at lt ∙ kid.is in (
+            let lt : w.at < length (cells_of gs) = let a = h.0 in let b = length-map gs (λ (f : Fresh). f.cell) in let d = as_many_children c.nodes.items gs c.ready.items freed new.ready placed in omega (arith, a, b, d) in
+            let child = children_same c.nodes.items gs c.ready.items freed new.ready placed w.at (let a = h.0 in let d = as_many_children c.nodes.items gs c.ready.items freed new.ready placed in omega (arith, a, d)) in
+            let here : cell_at new.pool.payloads (length s.pool.payloads + w.at) ≡ with_key (cell_at (cells_of c.nodes.items) w.at) child.key = branched.children_are w.at lt ∙ child.is in (
               tree_now,
               record {
                 there = let a = longer in omega (arith, a, lt);
                 is_open = subst (λ (d : Cell). d.end ≡ leaf untried) (sym here) h.1;
-                halted = subst (λ (d : Cell). IsHalted Past p (place_of d) w.halt) (sym here) h.2;
+                stopped = subst (λ (d : Cell). IsStop Past p (place_of d) w.stop) (sym here) h.2;
               },
             )
 
     -- what was branched goes on with more nodes
     pub branched_for : (new_undercut : Option CostOver) → IsPositiveCost new_undercut → LastIsBelow (Some (cost_over at_hand.value)) new_undercut → (Past : PastPlaces) (new : Growing) (m : Choice) (choice : IsChoice (shape_of p) (place_of (cell_at s.pool.payloads at)) m)
         → length s.pool.payloads + option_count m ≤ s.budget → IsBranching Past p (place_of (cell_at s.pool.payloads at)) s new at (way_of m)
-        → GoesOnFor Past p new_undercut new new.halt × (length s.pool.payloads < length new.pool.payloads)
+        → GoesOnFor Past p new_undercut new new.stop × (length s.pool.payloads < length new.pool.payloads)
     branched_for u positive below_u Past new m choice few b = (
-      subst (λ (o : Option HaltedLeaf). GoesOnFor Past p u new o) (sym b.halt)
-          (going_now u positive below_u Past new m choice few b.seen b.are_seen b.kids b.freed b.frees b.placed b.wide b.cells b.values b.best b.fallen b.fallen_found b.some_best b.numbered b.are_open b.start b.budget b.nodes b.seen.halt b.are_seen.halt_holds),
-      more_now u positive below_u Past new m choice few b.seen b.are_seen b.kids b.freed b.frees b.placed b.wide b.cells b.values b.best b.fallen b.fallen_found b.some_best b.numbered b.are_open b.start b.budget b.nodes,
+      subst (λ (o : Option StoppedLeaf). GoesOnFor Past p u new o) (sym b.stop)
+          (going_now u positive below_u Past new m choice few b.seen b.are_seen b.children b.freed b.frees b.placed b.wide b.cells b.values b.best b.fallen b.fallen_found b.some_best b.numbered b.are_open b.start b.budget b.nodes b.seen.stop b.are_seen.stop_holds),
+      more_now u positive below_u Past new m choice few b.seen b.are_seen b.children b.freed b.frees b.placed b.wide b.cells b.values b.best b.fallen b.fallen_found b.some_best b.numbered b.are_open b.start b.budget b.nodes,
     )
 
     -- so it does where the best network is to be undercut, which does not beat the leaf
     pub branched_step : (IsBeaten s.best at_hand.value → ⊥) → (Past : PastPlaces) (new : Growing) (m : Choice) (choice : IsChoice (shape_of p) (place_of (cell_at s.pool.payloads at)) m)
         → length s.pool.payloads + option_count m ≤ s.budget → IsBranching Past p (place_of (cell_at s.pool.payloads at)) s new at (way_of m)
-        → GoesOn Past p new new.halt × (length s.pool.payloads < length new.pool.payloads)
+        → GoesOn Past p new new.stop × (length s.pool.payloads < length new.pool.payloads)
     branched_step nb Past new m u few b =
         let i = improved_after p (place_of (cell_at s.pool.payloads at)) s.best b.seen.best new.best (best_of p s g.tree) b.are_seen.found b.best b.fallen b.fallen_found in
         branched_for (claimed_cost (claim_with new.best)) i.best.positive (i.below (cost_over at_hand.value) (valued q k).positive (valued q k).under (last_below nb)) Past new m u few b

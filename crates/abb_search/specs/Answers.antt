@@ -5,19 +5,19 @@ use Rattle.pgraph.specs.View.{node_of}
 use Rattle.tree_rules.specs.Claim as claims
 use Rattle.tree_rules.specs.Accepted.{Tree}
 use Rattle.turn_laws.specs.Values.{HasFallen, IsPositiveCost}
-use Rattle.node_looks.specs.Evaluated.{PastPlaces}
-use Rattle.node_looks.specs.Looks.{cost_of}
+use Rattle.node_evaluation.specs.Evaluated.{PastPlaces}
+use Rattle.node_evaluation.specs.Looks.{cost_of}
 use Rattle.abb_search.specs.declared.outcome.Found.{Found}
 use Rattle.abb_search.specs.declared.outcome.Found.TheVariants.{Solved, Infeasible, Spent, Past, Memory}
 use Rattle.abb_search.specs.declared.growing.Growing.{Growing}
-use Rattle.abb_search.specs.declared.growing.HaltedLeaf.{HaltedLeaf}
+use Rattle.abb_search.specs.declared.growing.StoppedLeaf.{StoppedLeaf}
 use Rattle.abb_search.specs.Growing.{IsGoing}
 use Rattle.abb_search.specs.Found.{IsFoundBy}
 
--- what is found where a leaf halts the search
-abbrev pub past_with : Option claims.Network → Option HaltedLeaf → Tree → ℕ → Option Found
+-- what is found where a leaf stops the search
+abbrev pub past_with : Option claims.Network → Option StoppedLeaf → Tree → ℕ → Option Found
 past_with best None tree place = None
-past_with best (Some h) tree place = Some (Past best tree place h.halt.nonbasic h.halt.place)
+past_with best (Some h) tree place = Some (Past best tree place h.stop.nonbasic h.stop.place)
 
 -- the network of an answer
 abbrev pub network_in : Found → Option claims.Network
@@ -33,8 +33,8 @@ IsAgainst best Memory = Unit {0}
 IsAgainst best found = HasFallen (cost_of best) (cost_of (network_in found))
 
 -- the search goes on with more nodes, and its network is no dearer
-pub record IsMore (Halts : PastPlaces) (p : Problem) (old new : Growing) : Type 0 where
-  pub going : IsGoing Halts p new
+pub record IsMore (Stops : PastPlaces) (p : Problem) (old new : Growing) : Type 0 where
+  pub going : IsGoing Stops p new
   pub more : length old.pool.payloads < length new.pool.payloads
   pub fallen : HasFallen (cost_of old.best) (cost_of new.best)
   pub positive : IsPositiveCost (cost_of new.best)
@@ -42,8 +42,8 @@ pub record IsMore (Halts : PastPlaces) (p : Problem) (old new : Growing) : Type 
   pub budget : new.budget ≡ old.budget
 
 -- or it ends, with the nodes that there are
-pub record IsEnd (Halts : PastPlaces) (p : Problem) (old new : Growing) (found : Found) : Type 0 where
-  pub is_found : IsFoundBy Halts p (node_of old.start) old.budget found
+pub record IsEnd (Stops : PastPlaces) (p : Problem) (old new : Growing) (found : Found) : Type 0 where
+  pub is_found : IsFoundBy Stops p (node_of old.start) old.budget found
   pub answers : found ≡ Memory → ⊥
   pub against : IsAgainst old.best found
   pub as_many : length new.pool.payloads ≡ length old.pool.payloads
@@ -52,5 +52,5 @@ pub record IsEnd (Halts : PastPlaces) (p : Problem) (old new : Growing) (found :
   pub budget : new.budget ≡ old.budget
 
 abbrev pub StepHolds : PastPlaces → Problem → Growing → Growing → Option Found → Type 0
-StepHolds Halts p old new None = IsMore Halts p old new
-StepHolds Halts p old new (Some found) = IsEnd Halts p old new found
+StepHolds Stops p old new None = IsMore Stops p old new
+StepHolds Stops p old new (Some found) = IsEnd Stops p old new found

@@ -13,15 +13,15 @@ use Rattle.search_tree.specs.Cells.{Cell, place_of, cell_at}
 use Rattle.turn_laws.specs.Values.{IsNoMore}
 use Rattle.search_tree.specs.Growth.{is_open}
 use Rattle.slab.specs.Slab.{get}
-use Rattle.node_looks.specs.declared.evaluator.Halt.{Halt}
-use Rattle.node_looks.specs.declared.looks.Ready.{Ready}
-use Rattle.node_looks.specs.declared.evaluator.Proof.{Proof}
-use Rattle.node_looks.specs.declared.evaluator.Proof.TheVariants as proofs
-use Rattle.node_looks.specs.Evaluated.{PastPlaces, cost_over, cost_in}
+use Rattle.node_evaluation.specs.declared.evaluator.PastStop.{PastStop}
+use Rattle.node_evaluation.specs.declared.looks.Ready.{Ready}
+use Rattle.node_evaluation.specs.declared.evaluator.Proof.{Proof}
+use Rattle.node_evaluation.specs.declared.evaluator.Proof.TheVariants as proofs
+use Rattle.node_evaluation.specs.Evaluated.{PastPlaces, cost_over, cost_in}
 use Rattle.abb_search.specs.declared.growing.Growing.{Growing}
 use Rattle.abb_search.specs.declared.closing.Closing.{Closing}
-use Rattle.abb_search.specs.declared.closing.Closing.TheVariants.{Proved, Halted}
-use Rattle.abb_search.specs.Growing.{IsHaltedAt}
+use Rattle.abb_search.specs.declared.closing.Closing.TheVariants.{Proved, Stopped}
+use Rattle.abb_search.specs.Growing.{IsStoppedAt}
 
 -- the network costs no more than any open leaf's value
 pub record AreBeaten (s : Growing) (w : claims.Network) : Type 0 where
@@ -45,21 +45,21 @@ ShutsLeaf p cost c (Some m) = ProvesLeaf p cost c m
 abbrev pub IsShutBy : PastPlaces → Problem → Growing → CostOver → ℕ → Option Proof → Type 0
 IsShutBy Past p s cost j None = ShutsLeaf p cost (cell_at s.pool.payloads j) None
 IsShutBy Past p s cost j (Some (proofs.Scaled m)) = ShutsLeaf p cost (cell_at s.pool.payloads j) (Some m)
-IsShutBy Past p s cost j (Some (proofs.Halted h)) = IsHaltedAt Past p s j h
+IsShutBy Past p s cost j (Some (proofs.Stopped h)) = IsStoppedAt Past p s j h
 
 -- the multipliers, or where a number is past the range
-abbrev pub scaled_in : Option Proof → Result (Option Scaled) Halt
+abbrev pub scaled_in : Option Proof → Result (Option Scaled) PastStop
 scaled_in None = Ok None
 scaled_in (Some (proofs.Scaled m)) = Ok (Some m)
-scaled_in (Some (proofs.Halted h)) = Err h
+scaled_in (Some (proofs.Stopped h)) = Err h
 
 abbrev pub ShutAll : Problem → Growing → CostOver → List (Option Scaled) → Type 0
 ShutAll p s cost ms = (j : ℕ) → j < length s.pool.payloads → ShutsLeaf p cost (cell_at s.pool.payloads j) (slice_index_or ms j None)
 
 abbrev pub AreShutBy : PastPlaces → Problem → Growing → CostOver → Closing → Type 0
 AreShutBy Past p s cost (Proved ms) = ShutAll p s cost ms.items
-AreShutBy Past p s cost (Halted h) = IsHaltedAt Past p s h.leaf h.halt
+AreShutBy Past p s cost (Stopped h) = IsStoppedAt Past p s h.leaf h.stop
 
 abbrev pub IsInRange : Proof → Type 0
 IsInRange (proofs.Scaled m) = InRange m.d × AllInRange m.ys
-IsInRange (proofs.Halted h) = Unit {0}
+IsInRange (proofs.Stopped h) = Unit {0}

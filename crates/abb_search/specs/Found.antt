@@ -12,8 +12,8 @@ use Rattle.tree_rules.specs.Lean.{IsLean}
 use Rattle.tree_rules.specs.Accepted.{Tree, IsAccepted, IsPartial}
 use Rattle.tree_rules.specs.Stops.{IsSpent, IsPast}
 use Rattle.branch_tree.specs.Known.{KnowsClaim, KnowsTree}
-use Rattle.node_looks.specs.Evaluated.{PastPlaces}
-use Rattle.node_looks.specs.Children.{claim_with}
+use Rattle.node_evaluation.specs.Evaluated.{PastPlaces}
+use Rattle.node_evaluation.specs.Children.{claim_with}
 use Rattle.flow_evaluator.specs.Past.{IsPastAt}
 use Rattle.abb_search.specs.declared.outcome.Found.{Found}
 use Rattle.abb_search.specs.declared.outcome.Found.TheVariants.{Solved, Infeasible, Spent, Past, Memory}
@@ -43,15 +43,15 @@ abbrev pub found_with : Option claims.Network → Tree → Found
 found_with None tree = Infeasible tree
 found_with (Some w) tree = Solved w tree
 
--- `Halts` tells at which places an evaluator of nodes goes past the range
+-- `Stops` tells at which places an evaluator of nodes goes past the range
 abbrev pub IsFoundBy : PastPlaces → Problem → Node → ℕ → Found → Type 0
-IsFoundBy Halts p start budget (Solved w tree) = IsProved p start (claims.network w) tree
-IsFoundBy Halts p start budget (Infeasible tree) = IsProved p start claims.infeasible tree
-IsFoundBy Halts p start budget (Spent best tree next options) =
+IsFoundBy Stops p start budget (Solved w tree) = IsProved p start (claims.network w) tree
+IsFoundBy Stops p start budget (Infeasible tree) = IsProved p start claims.infeasible tree
+IsFoundBy Stops p start budget (Spent best tree next options) =
     IsStopped p start (claim_with best) tree × IsSpent p IsUntried (claimed_cost (claim_with best)) start tree next options budget × IsBelowLimit p budget
-IsFoundBy Halts p start budget (Past best tree node nonbasic place) =
-    IsStopped p start (claim_with best) tree × IsPast p IsUntried start tree (λ n. Halts p n nonbasic place) node
-IsFoundBy Halts p start budget Memory = Unit {0}
+IsFoundBy Stops p start budget (Past best tree node nonbasic place) =
+    IsStopped p start (claim_with best) tree × IsPast p IsUntried start tree (λ n. Stops p n nonbasic place) node
+IsFoundBy Stops p start budget Memory = Unit {0}
 
 -- what a search finds that the simplex method bounds
 abbrev pub IsFound : Problem → Node → ℕ → Found → Type 0

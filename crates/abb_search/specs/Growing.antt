@@ -22,17 +22,17 @@ use Rattle.slab.specs.Slab.{Slab, Updates}
 use Rattle.search_tree.specs.declared.growth.Fresh.{Fresh}
 use Rattle.branch_choice.specs.declared.choice.Choice.{Choice}
 use Rattle.branch_choice.specs.declared.choice.Choice.TheVariants as choices
-use Rattle.node_looks.specs.declared.evaluator.Halt.{Halt}
-use Rattle.node_looks.specs.declared.looks.Ready.{Ready}
-use Rattle.node_looks.specs.declared.looks.Looked.{Looked}
-use Rattle.node_looks.specs.declared.children.HaltedAt.{HaltedAt}
-use Rattle.node_looks.specs.declared.children.Children.{Children}
-use Rattle.node_looks.specs.Evaluated.{PastPlaces, cost_over, cost_in}
-use Rattle.node_looks.specs.Looks.{has_bounded, KnowsCell, cost_of, IsHalted, IsLooked}
-use Rattle.node_looks.specs.Children.{claim_with, cells_of, values_of, AreSeen}
+use Rattle.node_evaluation.specs.declared.evaluator.PastStop.{PastStop}
+use Rattle.node_evaluation.specs.declared.looks.Ready.{Ready}
+use Rattle.node_evaluation.specs.declared.looks.Looked.{Looked}
+use Rattle.node_evaluation.specs.declared.children.StoppedAt.{StoppedAt}
+use Rattle.node_evaluation.specs.declared.children.Children.{Children}
+use Rattle.node_evaluation.specs.Evaluated.{PastPlaces, cost_over, cost_in}
+use Rattle.node_evaluation.specs.Looks.{has_bounded, KnowsCell, cost_of, IsStop, IsLooked}
+use Rattle.node_evaluation.specs.Children.{claim_with, cells_of, values_of, AreSeen}
 use Rattle.abb_search.specs.Hand.{AreAtHand, IsPlaced, ArePlaced}
 use Rattle.abb_search.specs.declared.growing.Growing.{Growing}
-use Rattle.abb_search.specs.declared.growing.HaltedLeaf.{HaltedLeaf}
+use Rattle.abb_search.specs.declared.growing.StoppedLeaf.{StoppedLeaf}
 
 -- the tree is one that a search keeps for networks that undercut a cost, with numbers that the problem knows; the best network
 -- passes, and there is one where a leaf is bounded
@@ -69,28 +69,28 @@ abbrev pub IsBeaten : Option claims.Network → Mixed → Type 0
 IsBeaten None value = ⊥
 IsBeaten (Some w) value = IsNoMore (cost_in w) (cost_over value)
 
--- ---- a leaf that halts the search
+-- ---- a leaf that stops the search
 
-abbrev pub leaf_of : Option HaltedLeaf → Option ℕ
+abbrev pub leaf_of : Option StoppedLeaf → Option ℕ
 leaf_of None = None
 leaf_of (Some h) = Some h.leaf
 
--- the leaf is open and halts the search
-pub record IsHaltedAt (Past : PastPlaces) (p : Problem) (s : Growing) (at : ℕ) (h : Halt) : Type 0 where
+-- the leaf is open and stops the search
+pub record IsStoppedAt (Past : PastPlaces) (p : Problem) (s : Growing) (at : ℕ) (h : PastStop) : Type 0 where
   pub there : at < length s.pool.payloads
   pub is_open : (cell_at s.pool.payloads at).end ≡ leaf untried
-  pub halted : IsHalted Past p (place_of (cell_at s.pool.payloads at)) h
+  pub stopped : IsStop Past p (place_of (cell_at s.pool.payloads at)) h
 
--- between two turns: all is at hand for each open leaf, or one halts the search
-abbrev pub GoesOnFor : PastPlaces → Problem → Option CostOver → Growing → Option HaltedLeaf → Type 0
+-- between two turns: all is at hand for each open leaf, or one stops the search
+abbrev pub GoesOnFor : PastPlaces → Problem → Option CostOver → Growing → Option StoppedLeaf → Type 0
 GoesOnFor Past p undercut s None = IsGrowingFor p undercut s
-GoesOnFor Past p undercut s (Some h) = IsTreeKeptFor p undercut s × IsHaltedAt Past p s h.leaf h.halt
+GoesOnFor Past p undercut s (Some h) = IsTreeKeptFor p undercut s × IsStoppedAt Past p s h.leaf h.stop
 
-abbrev pub GoesOn : PastPlaces → Problem → Growing → Option HaltedLeaf → Type 0
+abbrev pub GoesOn : PastPlaces → Problem → Growing → Option StoppedLeaf → Type 0
 GoesOn Past p s h = GoesOnFor Past p (claimed_cost (claim_with s.best)) s h
 
 abbrev pub IsGoing : PastPlaces → Problem → Growing → Type 0
-IsGoing Past p s = GoesOn Past p s s.halt
+IsGoing Past p s = GoesOn Past p s s.stop
 
 -- ---- the root
 
@@ -106,9 +106,9 @@ pub record IsOpenRoot (start : starts.Node) (budget : ℕ) (best : Option claims
   pub cells_are : s.pool.payloads ≡ open_cell start ∷ []
   pub best_is : s.best ≡ best
 
-abbrev pub root_halt : Option Halt → Option HaltedLeaf
-root_halt None = None
-root_halt (Some h) = Some (record { leaf = 0; halt = h })
+abbrev pub root_stop : Option PastStop → Option StoppedLeaf
+root_stop None = None
+root_stop (Some h) = Some (record { leaf = 0; stop = h })
 
 -- the tree is the root as it is seen, and the best network is the cheaper one of that to be undercut and that found there
 pub record IsLookedRoot (Past : PastPlaces) (p : Problem) (start : starts.Node) (budget : ℕ) (best : Option claims.Network) (s : Growing) : Type 0 where
@@ -126,7 +126,7 @@ pub record IsLookedRoot (Past : PastPlaces) (p : Problem) (start : starts.Node) 
   pub fallen : HasFallen (cost_of best) (cost_of s.best)
   pub fallen_found : HasFallen (cost_of looked.network) (cost_of s.best)
   pub some_best : is_some s.best ≡ (is_some best || is_some looked.network)
-  pub halt_is : s.halt ≡ root_halt looked.halt
+  pub stop_is : s.stop ≡ root_stop looked.stop
   pub are_open : AreOpen s.pool
 
 -- ---- a leaf is branched
@@ -139,34 +139,34 @@ pub record IsSame (old new : Growing) : Type 0 where
   pub pool : AreSameNodes old.pool new.pool
   pub ready : new.ready.slots ≡ old.ready.slots
   pub best : new.best ≡ old.best
-  pub halt : new.halt ≡ old.halt
+  pub stop : new.stop ≡ old.stop
 
-abbrev pub halt_at : ℕ → Option HaltedAt → Option HaltedLeaf
-halt_at first None = None
-halt_at first (Some h) = Some (record { leaf = first + h.at; halt = h.halt })
+abbrev pub stop_at : ℕ → Option StoppedAt → Option StoppedLeaf
+stop_at first None = None
+stop_at first (Some h) = Some (record { leaf = first + h.at; stop = h.stop })
 
 -- leaf `at` is branched in this way, at the node n, and its children are as they are seen, with keys; the best network is then
 -- the cheaper one of the two
 pub record IsBranching (Past : PastPlaces) (p : Problem) (n : Node) (old new : Growing) (at : ℕ) (w : Way) : Type 0 where
   pub seen : Children
   pub are_seen : AreSeen Past p n w seen
-  pub kids : List Fresh
+  pub children : List Fresh
   pub freed : Slab Ready
   pub frees : Updates old.ready freed (cell_at old.pool.payloads at).key None
-  pub placed : ArePlaced seen.kids.items kids seen.ready.items freed new.ready
-  pub wide : width w ≡ length (cells_of kids)
-  pub cells : new.pool.payloads ≡ slice_set old.pool.payloads at (as_parent (cell_at old.pool.payloads at) (length old.pool.payloads) (branch w)) ++ cells_of kids
-  pub values : new.pool.values ≡ old.pool.values ++ values_of kids
+  pub placed : ArePlaced seen.nodes.items children seen.ready.items freed new.ready
+  pub wide : width w ≡ length (cells_of children)
+  pub cells : new.pool.payloads ≡ slice_set old.pool.payloads at (as_parent (cell_at old.pool.payloads at) (length old.pool.payloads) (branch w)) ++ cells_of children
+  pub values : new.pool.values ≡ old.pool.values ++ values_of children
   pub best : (new.best ≡ old.best) ⊎ (new.best ≡ seen.best)
   pub fallen : HasFallen (cost_of old.best) (cost_of new.best)
   pub fallen_found : HasFallen (cost_of seen.best) (cost_of new.best)
   pub some_best : is_some new.best ≡ (is_some old.best || is_some seen.best)
-  pub nodes : new.nodes ≡ old.nodes + length (cells_of kids)
-  pub numbered : length old.pool.payloads + length (cells_of kids) < 2 ^ 32 - 1
+  pub nodes : new.nodes ≡ old.nodes + length (cells_of children)
+  pub numbered : length old.pool.payloads + length (cells_of children) < 2 ^ 32 - 1
   pub are_open : AreOpen new.pool
   pub start : new.start ≡ old.start
   pub budget : new.budget ≡ old.budget
-  pub halt : new.halt ≡ halt_at (length old.pool.payloads) seen.halt
+  pub stop : new.stop ≡ stop_at (length old.pool.payloads) seen.stop
 
 -- ---- the budget is spent
 

@@ -8,8 +8,8 @@ use Rattle.tree_rules.specs.Tree.{leaf}
 use Rattle.tree_rules.specs.Leaf.{untried}
 use Rattle.search_tree.specs.Cells.{Cell, place_of, cell_at}
 use Rattle.search_tree.specs.declared.growth.Fresh.{Fresh}
-use Rattle.node_looks.specs.declared.looks.Ready.{Ready}
-use Rattle.node_looks.specs.Looks.{IsSomeReady}
+use Rattle.node_evaluation.specs.declared.looks.Ready.{Ready}
+use Rattle.node_evaluation.specs.Looks.{IsSomeReady}
 
 -- leaf j has a value, and under its key stands what its branching or shutting takes
 pub record IsAtHand (p : Problem) (cells : List Cell) (values : List Mixed) (hand : Slab Ready) (j : ℕ) : Type 0 where

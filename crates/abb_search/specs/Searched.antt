@@ -11,8 +11,8 @@ use Rattle.search_tree.specs.Cells.{Cell}
 use Rattle.search_tree.specs.Preorder.{IsPreorder, tree_of}
 use Rattle.neutral_extension.specs.Candidates.{AreMakersOf}
 use Rattle.turn_laws.specs.Values.{HasFallen, IsPositiveCost}
-use Rattle.node_looks.specs.Evaluated.{PastPlaces}
-use Rattle.node_looks.specs.Looks.{cost_of}
+use Rattle.node_evaluation.specs.Evaluated.{PastPlaces}
+use Rattle.node_evaluation.specs.Looks.{cost_of}
 use Rattle.abb_search.specs.declared.outcome.Found.{Found}
 use Rattle.abb_search.specs.declared.outcome.Found.TheVariants.{Memory}
 use Rattle.abb_search.specs.declared.growing.Growing.{Growing}

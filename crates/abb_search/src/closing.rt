@@ -6,13 +6,13 @@ ghost use Rattle.pgraph.specs.Tables.{shape};
 ghost use Rattle.pgraph.specs.View.{node_of};
 ghost use Rattle.tree_rules.specs.Claim.{CostOver};
 ghost use Rattle.turn_laws.specs.Values.{IsNoMore};
-ghost use Rattle.node_looks.specs.Evaluated.{cost_over, cost_in, IsBoundOf, IsWorth, IsProof};
+ghost use Rattle.node_evaluation.specs.Evaluated.{cost_over, cost_in, IsBoundOf, IsWorth, IsProof};
 ghost use Rattle.abb_search.specs.Growing.{IsGrowingFor};
 ghost use Rattle.abb_search.specs.Closing.{AreBeaten, IsShutBy, AreShutBy, IsInRange, hand_of, scaled_in};
 
-use crate::growing::{Growing, HaltedLeaf, node_at, reaches};
+use crate::growing::{Growing, StoppedLeaf, node_at, reaches};
 use branch_tree::{Network, Scaled};
-use node_looks::{Bound, Evaluator, Halt, Proof, Ready};
+use node_evaluation::{Bound, Evaluator, PastStop, Proof, Ready};
 use pgraph::Graph;
 use pns_problem::Problem;
 use std::alloc::{AllocError, Global};
@@ -24,7 +24,7 @@ pub enum Closing {
     /// Multipliers for each open leaf, by its number.
     Proved(Vec<Option<Scaled>>),
     /// A number is past the range at an open leaf.
-    Halted(HaltedLeaf),
+    Stopped(StoppedLeaf),
 }
 
 // The numbers of multipliers are in range. A call tells a proof so, and does nothing.
@@ -33,7 +33,7 @@ fn is_in_range(proof: &Proof)
 {
     match proof {
         Proof::Scaled(scaled) => scaled.are_in_range(),
-        Proof::Halted(_) => {}
+        Proof::Stopped(_) => {}
     }
 }
 
@@ -139,13 +139,13 @@ fn proof_at<E: Evaluator>(
 }
 
 /// The multipliers, if there are any, or where a number is past the range.
-fn scaled_in(proof: Option<Proof>) -> Result<Option<Scaled>, Halt>
+fn scaled_in(proof: Option<Proof>) -> Result<Option<Scaled>, PastStop>
     ensures { result ≡ scaled_in proof }
 {
     match proof {
         None => Ok(None),
         Some(Proof::Scaled(scaled)) => Ok(Some(scaled)),
-        Some(Proof::Halted(halt)) => Err(halt),
+        Some(Proof::Stopped(stop)) => Err(stop),
     }
 }
 
@@ -168,7 +168,7 @@ pub fn close_all<E: Evaluator>(
         let proof = proof_at(alloc, evaluator, problem, graph, growing, network, leaf)?;
         match scaled_in(proof) {
             Ok(scaled) => proofs.push(scaled)?,
-            Err(halt) => return Ok(Closing::Halted(HaltedLeaf { leaf, halt })),
+            Err(stop) => return Ok(Closing::Stopped(StoppedLeaf { leaf, stop })),
         }
     }
     Ok(Closing::Proved(proofs))

@@ -7,7 +7,7 @@ ghost use Rattle.search_tree.specs.Shut.{shut_cells};
 ghost use Rattle.abb_search.specs.Found.{found_with};
 ghost use Rattle.abb_search.specs.Answers.{past_with};
 
-use crate::growing::{Growing, HaltedLeaf};
+use crate::growing::{Growing, StoppedLeaf};
 use crate::outcome::Found;
 use branch_tree::{Network, Scaled, Tree};
 use search_tree::nodes_in_preorder;
@@ -72,22 +72,22 @@ pub(crate) fn whole_found(best: Option<Network>, tree: Tree) -> Found
     }
 }
 
-/// What is found where a leaf halts the search, which stands at this place of the tree.
+/// What is found where a leaf stops the search, which stands at this place of the tree.
 pub(crate) fn past_found(
     best: Option<Network>,
-    halt: Option<HaltedLeaf>,
-    stopped: Placed,
+    stop: Option<StoppedLeaf>,
+    placed: Placed,
 ) -> Option<Found>
-    ensures { result ≡ past_with best halt stopped.tree stopped.place }
+    ensures { result ≡ past_with best stop placed.tree placed.place }
 {
-    match halt {
+    match stop {
         None => None,
-        Some(halted) => Some(Found::Past {
+        Some(stopped) => Some(Found::Past {
             best,
-            tree: stopped.tree,
-            node: stopped.place,
-            nonbasic: halted.halt.nonbasic,
-            place: halted.halt.place,
+            tree: placed.tree,
+            node: placed.place,
+            nonbasic: stopped.stop.nonbasic,
+            place: stopped.stop.place,
         }),
     }
 }

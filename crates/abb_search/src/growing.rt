@@ -14,16 +14,16 @@ ghost use Rattle.search_tree.specs.Cells.{cell_at};
 ghost use Rattle.search_tree.specs.Growth.{AreOpen};
 ghost use Rattle.neutral_extension.specs.Candidates.{AreMakersOf};
 ghost use Rattle.turn_laws.specs.Values.{IsNoMore};
-ghost use Rattle.node_looks.specs.Children.{AreSolvedBy};
-ghost use Rattle.node_looks.specs.Evaluated.{cost_over, cost_in};
-ghost use Rattle.abb_search.specs.Growing.{IsBeaten, IsBranching, IsSame, halt_at, leaf_of, choice_of};
+ghost use Rattle.node_evaluation.specs.Children.{AreSolvedBy};
+ghost use Rattle.node_evaluation.specs.Evaluated.{cost_over, cost_in};
+ghost use Rattle.abb_search.specs.Growing.{IsBeaten, IsBranching, IsSame, stop_at, leaf_of, choice_of};
 
 use crate::hand::place_all;
 use branch_choice::Choice;
 use branch_tree::{End, Network};
 use mixed_numbers::Mixed;
 use neutral_extension::Makers;
-use node_looks::{Evaluator, Halt, HaltedAt, Ready, cheaper, look_at_children};
+use node_evaluation::{Evaluator, PastStop, Ready, StoppedAt, cheaper, look_at_children};
 use node_pool::Pool;
 use pgraph::Graph;
 use pns_problem::Problem;
@@ -34,13 +34,13 @@ use unit_sets::Node;
 
 /// An open leaf at which a number is past the range.
 #[derive(Drop)]
-pub struct HaltedLeaf {
+pub struct StoppedLeaf {
     pub leaf: u32,
-    pub halt: Halt,
+    pub stop: PastStop,
 }
 
 /// A search: where it starts, how many nodes it may take, its nodes, what is at hand for each that is an open leaf, the cheapest
-/// network that it found, and the leaf that halts it.
+/// network that it found, and the leaf that stops it.
 #[derive(Drop)]
 pub struct Growing {
     pub start: Node,
@@ -49,7 +49,7 @@ pub struct Growing {
     pub pool: Pool<Cell>,
     pub ready: Slab<Ready>,
     pub best: Option<Network>,
-    pub halt: Option<HaltedLeaf>,
+    pub stop: Option<StoppedLeaf>,
 }
 
 /// Whether the value reaches the network's cost.
@@ -85,27 +85,27 @@ fn has_numbers(nodes: u32, more: usize) -> bool
     more < (u32::MAX - nodes) as usize
 }
 
-/// The leaf that halts the search, where the children begin with the node `first`.
-fn halt_at(first: u32, halt: Option<HaltedAt>) -> Option<HaltedLeaf>
-    requires { MatchOption halt Unit (λ h. first + h.at < 2 ^ 32) }
-    ensures { result ≡ halt_at first halt }
+/// The leaf that stops the search, where the children begin with the node `first`.
+fn stop_at(first: u32, stop: Option<StoppedAt>) -> Option<StoppedLeaf>
+    requires { MatchOption stop Unit (λ h. first + h.at < 2 ^ 32) }
+    ensures { result ≡ stop_at first stop }
 {
-    match halt {
+    match stop {
         None => None,
-        Some(halted) => Some(HaltedLeaf {
-            leaf: first + halted.at as u32,
-            halt: halted.halt,
+        Some(stopped) => Some(StoppedLeaf {
+            leaf: first + stopped.at as u32,
+            stop: stopped.stop,
         }),
     }
 }
 
-/// The number of the leaf that halts the search.
-pub fn halted_leaf(halt: &Option<HaltedLeaf>) -> Option<u32>
-    ensures { result ≡ leaf_of halt.now }
+/// The number of the leaf that stops the search.
+pub fn stopped_leaf(stop: &Option<StoppedLeaf>) -> Option<u32>
+    ensures { result ≡ leaf_of stop.now }
 {
-    match halt {
+    match stop {
         None => None,
-        Some(halted) => Some(halted.leaf),
+        Some(stopped) => Some(stopped.leaf),
     }
 }
 
@@ -181,7 +181,7 @@ pub fn branch_leaf<E: Evaluator>(
     growing.pool.is_pool();
     let children = look_at_children(alloc, evaluator, problem, graph, makers, node, choice, all)?;
     let first = growing.nodes;
-    let count = children.kids.len();
+    let count = children.nodes.len();
     if !has_numbers(first, count) {
         return Err(AllocError);
     }
@@ -189,10 +189,10 @@ pub fn branch_leaf<E: Evaluator>(
     growing.pool.reserve(count as u32)?;
     growing.ready.reserve(count)?;
     growing.ready.try_remove(key_at(&growing.pool, leaf));
-    let mut kids = place_all(children.kids, children.ready, &mut growing.ready, placed);
-    branch(&mut growing.pool, leaf, end_with(choice), first, &mut kids);
+    let mut nodes = place_all(children.nodes, children.ready, &mut growing.ready, placed);
+    branch(&mut growing.pool, leaf, end_with(choice), first, &mut nodes);
     growing.nodes = first + count as u32;
     growing.best = cheaper(growing.best.take(), children.best);
-    growing.halt = halt_at(first, children.halt);
+    growing.stop = stop_at(first, children.stop);
     Ok(children.networks)
 }

@@ -3,7 +3,7 @@ ghost use Rattle.std.specs.Prelude.{◌≡◌, ◌<◌, ◌≤◌, ◌+◌, [], 
 ghost use Rattle.slab.specs.Slab.{slab_len, HasRoomFor};
 ghost use Rattle.abb_search.specs.Hand.{IsPlaced, ArePlaced};
 
-use node_looks::Ready;
+use node_evaluation::Ready;
 use search_tree::Fresh;
 use slab::Slab;
 
@@ -39,21 +39,21 @@ pub(crate) fn place(fresh: Fresh, ready: Option<Ready>, hand: &mut Slab<Ready>) 
 /// Does so for each child, the last one first, and gives the children in that order. It takes no memory where `placed`, which is empty,
 /// and the slab have room for them.
 pub(crate) fn place_all(
-    kids: Vec<Fresh>,
+    children: Vec<Fresh>,
     ready: Vec<Option<Ready>>,
     hand: &mut Slab<Ready>,
     placed: Vec<Fresh>,
 ) -> Vec<Fresh>
-    requires as_many { length ready.items ≡ length kids.items }
-    requires room { HasRoomFor hand.old (length kids.items) }
+    requires as_many { length ready.items ≡ length children.items }
+    requires room { HasRoomFor hand.old (length children.items) }
     requires empty { placed.items ≡ [] }
-    requires space { length kids.items ≤ vec_capacity placed }
-    ensures { ArePlaced kids.items (reverse result.items) ready.items hand.old hand.new }
+    requires space { length children.items ≤ vec_capacity placed }
+    ensures { ArePlaced children.items (reverse result.items) ready.items hand.old hand.new }
 {
-    let mut kids = kids;
+    let mut children = children;
     let mut ready = ready;
     let mut placed = placed;
-    'kids: while let Some(fresh) = kids.pop() {
+    'children: while let Some(fresh) = children.pop() {
         let at_hand = take_last(&mut ready);
         placed.push_reserved(place(fresh, at_hand, hand));
     }

@@ -26,7 +26,7 @@ mod whole;
 
 pub use closing::{Closing, close_all};
 pub use growing::{
-    Growing, HaltedLeaf, branch_leaf, choice_at, halted_leaf, is_over, node_at, reaches,
+    Growing, StoppedLeaf, branch_leaf, choice_at, is_over, node_at, reaches, stopped_leaf,
 };
 pub use outcome::{Found, Turn};
 pub use root::look_at_root;

@@ -6,15 +6,15 @@ ghost use Rattle.pgraph.specs.Tables.{shape};
 ghost use Rattle.pgraph.specs.View.{node_of};
 ghost use Rattle.search_tree.specs.Growth.{AreOpen};
 ghost use Rattle.neutral_extension.specs.Candidates.{AreMakersOf};
-ghost use Rattle.node_looks.specs.Children.{AreSolvedBy};
-ghost use Rattle.abb_search.specs.Growing.{root_halt, IsOpenRoot, IsLookedRoot};
+ghost use Rattle.node_evaluation.specs.Children.{AreSolvedBy};
+ghost use Rattle.abb_search.specs.Growing.{root_stop, IsOpenRoot, IsLookedRoot};
 
-use crate::growing::{Growing, HaltedLeaf};
+use crate::growing::{Growing, StoppedLeaf};
 use crate::hand::place;
 use branch_tree::{Network, Steps};
 use mixed_numbers::Mixed;
 use neutral_extension::Makers;
-use node_looks::{Evaluator, Halt, cheaper, look, open_cell};
+use node_evaluation::{Evaluator, PastStop, cheaper, look, open_cell};
 use node_pool::Pool;
 use pgraph::Graph;
 use pns_problem::Problem;
@@ -81,17 +81,17 @@ pub(crate) fn open_root(
         pool,
         ready: Slab::new(alloc),
         best,
-        halt: None,
+        stop: None,
     })
 }
 
 /// The root is the first node.
-fn root_halt(halt: Option<Halt>) -> Option<HaltedLeaf>
-    ensures { result ≡ root_halt halt }
+fn root_stop(stop: Option<PastStop>) -> Option<StoppedLeaf>
+    ensures { result ≡ root_stop stop }
 {
-    match halt {
+    match stop {
         None => None,
-        Some(halt) => Some(HaltedLeaf { leaf: 0, halt }),
+        Some(stop) => Some(StoppedLeaf { leaf: 0, stop }),
     }
 }
 
@@ -138,6 +138,6 @@ pub fn look_at_root<E: Evaluator>(
         pool,
         ready,
         best: cheaper(best, looked.network),
-        halt: root_halt(looked.halt),
+        stop: root_stop(looked.stop),
     })
 }

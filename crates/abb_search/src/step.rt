@@ -13,16 +13,16 @@ ghost use Rattle.abb_search.specs.Searched.{StandsAt};
 
 use crate::closing::{Closing, close_all};
 use crate::found::{past_found, shut_tree, tree_with, whole_found};
-use crate::growing::{Growing, branch_leaf, choice_at, halted_leaf, is_beaten, is_over, node_at};
+use crate::growing::{Growing, branch_leaf, choice_at, is_beaten, is_over, node_at, stopped_leaf};
 use crate::outcome::Found;
 use crate::root::look_at_root;
 use neutral_extension::Makers;
-use node_looks::{Evaluator, copy_of_network};
+use node_evaluation::{Evaluator, copy_of_network};
 use pgraph::Graph;
 use pns_problem::Problem;
 use std::alloc::{AllocError, Global};
 
-/// Tells what is found where the best network costs no more than any open leaf: all of them are shut, or one of them halts the
+/// Tells what is found where the best network costs no more than any open leaf: all of them are shut, or one of them stops the
 /// search. The nodes stay as they are.
 fn close<E: Evaluator>(
     alloc: Global,
@@ -45,14 +45,14 @@ fn close<E: Evaluator>(
             let whole = shut_tree(alloc, growing, &proofs, 0)?;
             Ok(Some(whole_found(growing.best.take(), whole.tree)))
         }
-        Closing::Halted(halted) => {
-            let stopped = tree_with(alloc, growing, halted.leaf)?;
-            Ok(past_found(growing.best.take(), Some(halted), stopped))
+        Closing::Stopped(stopped) => {
+            let placed = tree_with(alloc, growing, stopped.leaf)?;
+            Ok(past_found(growing.best.take(), Some(stopped), placed))
         }
     }
 }
 
-/// Branches the open leaf of least value, or tells what is found. No leaf halts the search.
+/// Branches the open leaf of least value, or tells what is found. No leaf stops the search.
 fn go_on<E: Evaluator>(
     alloc: Global,
     evaluator: &mut E,
@@ -64,7 +64,7 @@ fn go_on<E: Evaluator>(
     requires graph { shape graph.now ≡ shape_of problem.now }
     requires same { AreMakersOf (shape graph.now) makers.old.makers }
     requires growing { IsGrowing problem.now growing.old }
-    requires goes_on { growing.old.halt ≡ None }
+    requires goes_on { growing.old.stop ≡ None }
     ensures holds { IfOk result (StepHolds E.past problem.now growing.old growing.new) }
     ensures same { OnErr result (IsSame growing.old growing.new) }
     ensures makers { makers.new.makers ≡ makers.old.makers }
@@ -82,11 +82,11 @@ fn go_on<E: Evaluator>(
     let choice = choice_at(growing, leaf);
     let options = choice.options();
     if is_over(options, growing.nodes, growing.budget) {
-        let stopped = tree_with(alloc, growing, leaf)?;
+        let placed = tree_with(alloc, growing, leaf)?;
         return Ok(Some(Found::Spent {
             best: growing.best.take(),
-            tree: stopped.tree,
-            next: stopped.place,
+            tree: placed.tree,
+            next: placed.place,
             options,
         }));
     }
@@ -113,11 +113,11 @@ pub(crate) fn step<E: Evaluator>(
     ensures same { OnErr result (IsSame growing.old growing.new) }
     ensures makers { makers.new.makers ≡ makers.old.makers }
 {
-    let Some(leaf) = halted_leaf(&growing.halt) else {
+    let Some(leaf) = stopped_leaf(&growing.stop) else {
         return go_on(alloc, evaluator, problem, graph, makers, growing);
     };
-    let stopped = tree_with(alloc, growing, leaf)?;
-    Ok(past_found(growing.best.take(), growing.halt.take(), stopped))
+    let placed = tree_with(alloc, growing, leaf)?;
+    Ok(past_found(growing.best.take(), growing.stop.take(), placed))
 }
 
 /// Takes a search so far that its nodes are more, or to its end; before the first turn the root is not looked at yet. After `Err`, which

@@ -32,8 +32,8 @@ use Rattle.dual_simplex.specs.FlowLaws.{UnitsAreInside, SplitFlowsAreFlows, Spli
 use Rattle.turn_laws.specs.Values.{IsPositive, IsNoMore}
 use Rattle.turn_laws.proofs.FractionLemmas.{fraction_trans}
 use Rattle.turn_laws.proofs.GrowLemmas.{leaf_fallen}
-use Rattle.node_looks.specs.Evaluated.{cost_over, IsBoundOf, IsNetworkOf, IsWorth}
-use Rattle.node_looks.proofs.LookLemmas.{under_value}
+use Rattle.node_evaluation.specs.Evaluated.{cost_over, IsBoundOf, IsNetworkOf, IsWorth}
+use Rattle.node_evaluation.proofs.LookLemmas.{under_value}
 use Rattle.flow_evaluator.proofs.ValueLemmas.{kept_le, kept_same, kept_over}
 
 -- the number is the bound that the bench keeps, over its scale

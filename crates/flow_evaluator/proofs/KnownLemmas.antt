@@ -17,11 +17,11 @@ use Rattle.dual_simplex.specs.Bench.{Bench}
 use Rattle.dual_simplex.specs.Named.{nonbasic_named}
 use Rattle.dual_simplex.specs.ProgramNames.{IsColumnOf, IsRowOf, IsPlaceOf, NonbasicAreOfProgram}
 use Rattle.tree_rules.specs.Claim.{CostOver}
-use Rattle.node_looks.specs.Evaluated.{IsEvaluated, IsProof}
-use Rattle.node_looks.specs.declared.evaluator.Proof.{Proof}
-use Rattle.node_looks.specs.declared.evaluator.Proof.TheVariants as proofs
-use Rattle.node_looks.specs.declared.evaluator.Evaluation.{Evaluation}
-use Rattle.node_looks.specs.declared.evaluator.Evaluation.TheVariants.{Halted}
+use Rattle.node_evaluation.specs.Evaluated.{IsEvaluated, IsProof}
+use Rattle.node_evaluation.specs.declared.evaluator.Proof.{Proof}
+use Rattle.node_evaluation.specs.declared.evaluator.Proof.TheVariants as proofs
+use Rattle.node_evaluation.specs.declared.evaluator.Evaluation.{Evaluation}
+use Rattle.node_evaluation.specs.declared.evaluator.Evaluation.TheVariants.{Stopped}
 use Rattle.flow_evaluator.specs.Past.{IsPastAt}
 
 module _ (p : Problem) (n : Node) where
@@ -56,12 +56,12 @@ module _ (p : Problem) (n : Node) where
   pub kept_known : (b : Bench) → NonbasicAreOfProgram → b.nonbasic ≡ nonbasic_named own (basis b.rows) → Each (KnowsColumn p) b.nonbasic
   kept_known b law same = subst (Each (KnowsColumn p)) (sym same) (columns_known (nonbasic_named own (basis b.rows)) (law own (basis b.rows)))
 
-  pub halted_is : {A : Type 0} (columns : List Column) (place : Place) (r : Result Evaluation A) → IsPastAt p n columns place
-      → IfOk r (λ e. e ≡ Halted (record { nonbasic = columns; place = place })) → (decided : Bool) → IfOk r (IsEvaluated IsPastAt p n decided)
-  halted_is columns place (Ok e) h is decided = subst (IsEvaluated IsPastAt p n decided) (sym is) h
-  halted_is columns place (Err e) h is decided = tt
+  pub stopped_is : {A : Type 0} (columns : List Column) (place : Place) (r : Result Evaluation A) → IsPastAt p n columns place
+      → IfOk r (λ e. e ≡ Stopped (record { nonbasic = columns; place = place })) → (decided : Bool) → IfOk r (IsEvaluated IsPastAt p n decided)
+  stopped_is columns place (Ok e) h is decided = subst (IsEvaluated IsPastAt p n decided) (sym is) h
+  stopped_is columns place (Err e) h is decided = tt
 
   pub unproved_is : {A : Type 0} (columns : List Column) (place : Place) (r : Result Proof A) → IsPastAt p n columns place
-      → IfOk r (λ e. e ≡ proofs.Halted (record { nonbasic = columns; place = place })) → (cost : CostOver) → IfOk r (IsProof IsPastAt p n cost)
+      → IfOk r (λ e. e ≡ proofs.Stopped (record { nonbasic = columns; place = place })) → (cost : CostOver) → IfOk r (IsProof IsPastAt p n cost)
   unproved_is columns place (Ok e) h is cost = subst (IsProof IsPastAt p n cost) (sym is) h
   unproved_is columns place (Err e) h is cost = tt

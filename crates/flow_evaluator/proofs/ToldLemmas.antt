@@ -11,8 +11,8 @@ use Rattle.certified_bounds.specs.declared.certified.LeastBound.{LeastBound}
 use Rattle.certified_bounds.specs.declared.certified.Certified.{Certified}
 use Rattle.certified_bounds.specs.declared.certified.Certified.TheVariants.{Least, Flows}
 use Rattle.certified_bounds.specs.Certified.{IsCertified, IsLeastBound, IsNetworkAt}
-use Rattle.node_looks.specs.declared.evaluator.Bound.{Bound}
-use Rattle.node_looks.specs.Evaluated.{cost_over, cost_in, IsBoundOf, IsNetworkOf, HasUnits}
+use Rattle.node_evaluation.specs.declared.evaluator.Bound.{Bound}
+use Rattle.node_evaluation.specs.Evaluated.{cost_over, cost_in, IsBoundOf, IsNetworkOf, HasUnits}
 
 abbrev pub bound_from : LeastBound → Bound
 bound_from b = record { value = b.value; low = b.low; scaled = b.scaled }

@@ -13,9 +13,9 @@ ghost use Rattle.tree_rules.specs.Leaf.{IsFormed, multiplier};
 ghost use Rattle.dual_simplex.specs.Bench.{IsLeastOf, IsNoneOf};
 ghost use Rattle.tree_rules.specs.Claim.{CostOver};
 ghost use Rattle.turn_laws.specs.Values.{IsPositive};
-ghost use Rattle.node_looks.specs.Evaluated.{IsEvaluated, IsWorth, IsProof};
-ghost use Rattle.node_looks.specs.declared.evaluator.Evaluation.TheVariants.{Halted};
-ghost use Rattle.node_looks.specs.declared.evaluator.Proof.TheVariants as proofs;
+ghost use Rattle.node_evaluation.specs.Evaluated.{IsEvaluated, IsWorth, IsProof};
+ghost use Rattle.node_evaluation.specs.declared.evaluator.Evaluation.TheVariants.{Stopped};
+ghost use Rattle.node_evaluation.specs.declared.evaluator.Proof.TheVariants as proofs;
 ghost use Rattle.flow_evaluator.specs.Past.{IsPastAt};
 
 use crate::sums::{cost_of_flows, form_refutation, value_of};
@@ -26,34 +26,34 @@ use dual_simplex::{
 };
 use flow_program::{Place, Program};
 use mixed_numbers::Mixed;
-use node_looks::{Bound, Evaluation, Halt, Proof};
+use node_evaluation::{Bound, Evaluation, PastStop, Proof};
 use pgraph::Graph;
 use pns_problem::Problem;
 use std::alloc::{AllocError, Global};
 use unit_sets::Node;
 
 /// A place at which a number is past the range, with the columns outside the basis that the bench keeps.
-fn halt_at(alloc: Global, bench: &Bench, place: Place) -> Result<Halt, AllocError>
+fn stop_at(alloc: Global, bench: &Bench, place: Place) -> Result<PastStop, AllocError>
     ensures { IfOk result (λ h. h ≡ record { nonbasic = bench.now.nonbasic; place = place }) }
 {
     let nonbasic = Columns::from_vec(bench.nonbasic().to_vec(alloc)?);
-    Ok(Halt { nonbasic, place })
+    Ok(PastStop { nonbasic, place })
 }
 
 /// It is told of the node.
-pub(crate) fn halted(alloc: Global, bench: &Bench, place: Place) -> Result<Evaluation, AllocError>
-    ensures { IfOk result (λ e. e ≡ Halted (record { nonbasic = bench.now.nonbasic; place = place })) }
+pub(crate) fn stopped(alloc: Global, bench: &Bench, place: Place) -> Result<Evaluation, AllocError>
+    ensures { IfOk result (λ e. e ≡ Stopped (record { nonbasic = bench.now.nonbasic; place = place })) }
 {
-    let halt = halt_at(alloc, bench, place)?;
-    Ok(Evaluation::Halted(halt))
+    let stop = stop_at(alloc, bench, place)?;
+    Ok(Evaluation::Stopped(stop))
 }
 
 /// It stands in the place of a proof.
 pub(crate) fn unproved(alloc: Global, bench: &Bench, place: Place) -> Result<Proof, AllocError>
-    ensures { IfOk result (λ e. e ≡ proofs.Halted (record { nonbasic = bench.now.nonbasic; place = place })) }
+    ensures { IfOk result (λ e. e ≡ proofs.Stopped (record { nonbasic = bench.now.nonbasic; place = place })) }
 {
-    let halt = halt_at(alloc, bench, place)?;
-    Ok(Proof::Halted(halt))
+    let stop = stop_at(alloc, bench, place)?;
+    Ok(Proof::Stopped(stop))
 }
 
 /// After `None`: the multipliers of the row that can't be met.
@@ -72,7 +72,7 @@ pub(crate) fn refuted(
     problem.is_valid();
     none_is_refuted();
     if let Err(place) = form_refutation(problem, graph, node, bench) {
-        return halted(alloc, bench, place);
+        return stopped(alloc, bench, place);
     }
     let ys = bench.ys().to_vec(alloc)?;
     Ok(Evaluation::Refuted(Multipliers::from_vec(ys)))
@@ -132,10 +132,10 @@ fn with_flows(
     flow_is_past();
     names_are_of_program();
     if let Err(place) = bench.read_flows(program) {
-        return halted(alloc, bench, place);
+        return stopped(alloc, bench, place);
     }
     match cost_of_flows(problem, graph, node, bench) {
-        Err(place) => halted(alloc, bench, place),
+        Err(place) => stopped(alloc, bench, place),
         Ok(cost) => {
             let bound = bound_at(alloc, value, bench)?;
             let network = network_at(alloc, node, bench, cost)?;
@@ -189,7 +189,7 @@ pub(crate) fn bounded(
     problem.is_valid();
     least_is_least();
     match value_of(problem, graph, node, bench) {
-        Err(place) => halted(alloc, bench, place),
+        Err(place) => stopped(alloc, bench, place),
         Ok(value) => {
             if decided {
                 with_flows(alloc, problem, graph, node, program, bench, value)

@@ -8,16 +8,16 @@ ghost use Rattle.dual_simplex.specs.Bench.{HasRoom};
 ghost use Rattle.tree_rules.specs.Claim.{CostOver};
 ghost use Rattle.tree_rules.specs.Lean.{MayUndercut};
 ghost use Rattle.turn_laws.specs.Values.{IsPositive};
-ghost use Rattle.node_looks.specs.Evaluated.{IsEvaluated, IsWorth, IsProof};
+ghost use Rattle.node_evaluation.specs.Evaluated.{IsEvaluated, IsWorth, IsProof};
 ghost use Rattle.flow_evaluator.specs.Past.{IsPastAt};
 
-use crate::answers::{bounded, halted, proved, refuted, unproved};
+use crate::answers::{bounded, proved, refuted, stopped, unproved};
 use crate::told::evaluation_of;
 use certified_bounds::CertifiedBounds;
 use dual_simplex::{Bench, Ends, entry_is_past, names_are_of_program, none_is_refuted};
 use flow_program::Program;
 use flow_rules::refutation;
-use node_looks::{Evaluation, Evaluator, Proof};
+use node_evaluation::{Evaluation, Evaluator, Proof};
 use pgraph::Graph;
 use pns_problem::Problem;
 use std::alloc::{AllocError, Global};
@@ -68,7 +68,7 @@ fn evaluate_on(
     match bench.least(&program) {
         Ok(Ends::Least) => bounded(alloc, problem, graph, node, decided, &program, bench),
         Ok(Ends::None) => refuted(alloc, problem, graph, node, bench),
-        Err(place) => halted(alloc, bench, place),
+        Err(place) => stopped(alloc, bench, place),
     }
 }
 

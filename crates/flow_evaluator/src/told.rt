@@ -3,11 +3,11 @@ ghost use Rattle.std.specs.Prelude.{◌≡◌, Bool, IfSome};
 ghost use Rattle.problem_rules.specs.Problem.{Problem};
 ghost use Rattle.pns_rules.specs.Nodes.{Node};
 ghost use Rattle.certified_bounds.specs.Certified.{IsCertified};
-ghost use Rattle.node_looks.specs.Evaluated.{IsEvaluated};
+ghost use Rattle.node_evaluation.specs.Evaluated.{IsEvaluated};
 ghost use Rattle.flow_evaluator.specs.Past.{IsPastAt};
 
 use certified_bounds::{Certified, LeastBound};
-use node_looks::{Bound, Evaluation};
+use node_evaluation::{Bound, Evaluation};
 
 fn bound_of(least: LeastBound) -> Bound
     ensures { result ≡ record { value = least.value; low = least.low; scaled = least.scaled } }

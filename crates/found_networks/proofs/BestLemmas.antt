@@ -12,8 +12,8 @@ use Rattle.rank_rules.specs.Networks.{cost_of, last_cost}
 use Rattle.search_tree.specs.Cells.{Cell, no_cell, place_of, cell_at}
 use Rattle.turn_laws.specs.Values.{HasFallen}
 use Rattle.turn_laws.proofs.GrowLemmas.{leaf_fallen}
-use Rattle.node_looks.specs.Looks.{is_bounded, IsFoundAt}
-use Rattle.node_looks.specs.Children.{IsSolvedAs, IsSolvedBy, AreSolvedBy}
+use Rattle.node_evaluation.specs.Looks.{is_bounded, IsFoundAt}
+use Rattle.node_evaluation.specs.Children.{IsSolvedAs, IsSolvedBy, AreSolvedBy}
 use Rattle.found_networks.specs.Found.{FoundAt, networks_of, IsOfLeaf, AreApart, AreRising, IsFoundThere, IsListedOrBeaten, AreBest}
 use Rattle.found_networks.specs.Listed.{Listed, AreScaled, IsListed, IsAdded, IsSomeAdded, AreAdded}
 use Rattle.found_networks.proofs.PlaceLemmas.{no_cheaper_trans, rising_between, scaled_between, listed_more}
@@ -278,8 +278,8 @@ module _ (p : Problem) (cells : List Cell) (c : Cell) where
 
 -- ---- all children
 
-pub all_more : (p : Problem) (kids : List Cell) (ws : List (Option Network)) (cells : List Cell) (l m : Listed) → IsListed l → AreBest p l.count cells l.found → AreSolvedBy p kids ws
-    → AreAdded l m (length cells) ws → AreBestNow p (cells ++ kids) l m
+pub all_more : (p : Problem) (children : List Cell) (ws : List (Option Network)) (cells : List Cell) (l m : Listed) → IsListed l → AreBest p l.count cells l.found → AreSolvedBy p children ws
+    → AreAdded l m (length cells) ws → AreBestNow p (cells ++ children) l m
 all_more p [] [] cells l m listed b s e = record {
   best = subst (λ (k : Listed). AreBest p k.count (cells ++ []) k.found) (sym e) (subst (λ (cs : List Cell). AreBest p l.count cs l.found) (nothing cells) b);
   listed = subst IsListed (sym e) listed;
@@ -301,7 +301,7 @@ all_more p (c ∷ cs) (w ∷ ws) cells l m listed b s a =
     }
 
 -- the scales of networks that are found at leaves are above 0
-pub found_scaled : (p : Problem) (kids : List Cell) (ws : List (Option Network)) → AreSolvedBy p kids ws → AreScaledAll ws
+pub found_scaled : (p : Problem) (children : List Cell) (ws : List (Option Network)) → AreSolvedBy p children ws → AreScaledAll ws
 found_scaled p [] [] s = tt
 found_scaled p [] (w ∷ ws) s = absurd s
 found_scaled p (c ∷ cs) [] s = absurd s

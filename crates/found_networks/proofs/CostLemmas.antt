@@ -9,7 +9,7 @@ use Rattle.rank_rules.specs.Networks.{cost_of, last_cost}
 use Rattle.turn_laws.specs.Values.{IsPositive, IsNoMore, HasFallen, IsPositiveCost}
 use Rattle.turn_laws.specs.Kept.{LastIsBelow}
 use Rattle.turn_laws.proofs.FractionLemmas.{fraction_trans}
-use Rattle.node_looks.specs.Evaluated.{cost_in}
+use Rattle.node_evaluation.specs.Evaluated.{cost_in}
 use Rattle.found_networks.specs.Found.{FoundAt, networks_of, undercut_by, AreRising}
 use Rattle.found_networks.specs.Listed.{Listed, AreScaled, IsListed, AreDearer, IsAdded, AreAdded}
 use Rattle.found_networks.proofs.PlaceLemmas.{take_all, append_none, length_taken, rising_between, scaled_between, listed_more}

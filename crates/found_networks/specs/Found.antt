@@ -8,7 +8,7 @@ use Rattle.tree_rules.specs.Claim.{Network, CostOver}
 use Rattle.tree_rules.specs.Leaf.{bounded, IsBounded}
 use Rattle.rank_rules.specs.Networks.{cost_of, last_cost, to_undercut, IsNoCheaper}
 use Rattle.search_tree.specs.Cells.{Cell, place_of, cell_at}
-use Rattle.node_looks.specs.Looks.{IsFoundAt}
+use Rattle.node_evaluation.specs.Looks.{IsFoundAt}
 
 -- a network, and the number of the leaf at which it was found
 pub record FoundAt : Type 0 where

@@ -1,11 +1,11 @@
 //! The networks that were found, best first.
 ghost use Rattle.std.specs.Prelude.{◌≡◌, ◌≤◌, ◌+◌, ◌<◌, ◌^◌, [], length, take, drop, OnOk, OnErr, option_copied};
-ghost use Rattle.node_looks.specs.Looks.{cost_of};
+ghost use Rattle.node_evaluation.specs.Looks.{cost_of};
 ghost use Rattle.found_networks.specs.Found.{undercut_by};
 ghost use Rattle.found_networks.specs.Listed.{IsListed, IsAdded, IsSomeAdded, AreAdded, AreNoDearer, AreDearer};
 
 use branch_tree::Network;
-use node_looks::costs_no_more;
+use node_evaluation::costs_no_more;
 use std::alloc::{AllocError, Global};
 use std::marker::Model;
 

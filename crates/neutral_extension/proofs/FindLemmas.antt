@@ -11,7 +11,7 @@ use Rattle.pns_rules.proofs.StructureLemmas.{is_made-from, is_made-some, is_used
 use Rattle.pgraph.specs.Rivals.{IsRival}
 use Rattle.pgraph.specs.View.{node_of}
 use Rattle.pgraph.proofs.PathLemmas.{first_is}
-use Rattle.neutral_extension.specs.Standing.{IsOnlyMaker}
+use Rattle.neutral_extension.specs.OpenLeaf.{IsOnlyMaker}
 use Rattle.neutral_extension.specs.Tests.{is_open, MakesRaw, IsLooseSet}
 use Rattle.neutral_extension.proofs.EndLemmas.{free_from, free_parts, remains_from, remains_parts}
 

@@ -10,7 +10,7 @@ use Rattle.link_lists.proofs.Cells as laws
 use Rattle.pns_rules.specs.Shape.{Shape, IsProper}
 use Rattle.neutral_extension.specs.Candidates.{makers_at, AreMakersOf}
 use Rattle.neutral_extension.specs.Cells.{cell_at, full_from, full_rows, unit_cells, out_cells, makes_in, out_units, units_from, refilled, makers_of, IsKept, IsOrdered, IsOut, AreInBands}
-use Rattle.neutral_extension.specs.Standing.{is_empty, is_single}
+use Rattle.neutral_extension.specs.OpenLeaf.{is_empty, is_single}
 use Rattle.neutral_extension.proofs.OutLemmas.{cells_has, out_cells_push, cells_more, cells_same, cells_none, back_one, out_units_push, row_left, cell_listed, length_out, room_left, row_full, length_full, has-map_to, once_cells, apart_out}
 
 length_taken : (k : ℕ) (xs : List ℕ) → k ≤ length xs → length (take k xs) ≡ k

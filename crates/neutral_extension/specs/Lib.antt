@@ -1,5 +1,5 @@
 pub mod Candidates
 pub mod Cells
 pub mod Moves
-pub mod Standing
+pub mod OpenLeaf
 pub mod Tests

@@ -9,7 +9,7 @@ ghost use Rattle.neutral_extension.specs.Moves.{Extends, stop_of};
 
 use crate::end::Extended;
 use crate::makers::Makers;
-use crate::standing::{stand, stand_after, take_out_all};
+use crate::open_leaf::{leaf_after, leaf_at, take_out_all};
 use crate::turn::{Move, next_move};
 use pgraph::Graph;
 use std::alloc::{AllocError, Global};
@@ -31,17 +31,17 @@ fn extend_from(
 {
     graph.is_proper();
     let mut steps = Vec::new(alloc);
-    let mut standing = stand(graph, makers, node);
+    let mut leaf = leaf_at(graph, makers, node);
     let mut leading = UnitSet::empty();
     'steps: loop {
-        match next_move(graph, makers, &standing, &mut leading) {
+        match next_move(graph, makers, &leaf, &mut leading) {
             Move::Take(step) => {
-                standing = stand_after(graph, makers, &standing, &step);
+                leaf = leaf_after(graph, makers, &leaf, &step);
                 steps.push(step)?;
             }
             Move::End(end) => {
                 return Ok(Extended {
-                    node: standing.node,
+                    node: leaf.node,
                     steps,
                     end,
                 });

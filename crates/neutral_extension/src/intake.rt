@@ -3,7 +3,7 @@ ghost use Rattle.std.specs.Prelude.{◌≡◌, ◌<◌, ℕ, true};
 ghost use Rattle.number_sets.specs.Sets.{has, IsWithin};
 ghost use Rattle.pns_rules.specs.Structure.{is_made, is_used};
 ghost use Rattle.pgraph.specs.Tables.{shape};
-ghost use Rattle.neutral_extension.specs.Standing.{IsIntake};
+ghost use Rattle.neutral_extension.specs.OpenLeaf.{IsIntake};
 
 use pgraph::Graph;
 use unit_sets::{MatSet, UnitSet};

@@ -5,7 +5,7 @@ ghost use Rattle.pgraph.specs.Tables.{shape};
 ghost use Rattle.neutral_extension.specs.Candidates.{led, AreMakersOf};
 
 use crate::makers::Makers;
-use crate::standing::take_out_all;
+use crate::open_leaf::take_out_all;
 use pgraph::Graph;
 use unit_sets::UnitSet;
 

@@ -16,7 +16,7 @@
 //! - `sets`: the units outside a node's second set, and the free ones
 //! - `intake`: what the units taken in need, use, make and exclude
 //! - `scarce`: materials of which no maker is left, or one
-//! - `standing`: a node with these, and what a step makes of them
+//! - `open_leaf`: a node with these, and what a step makes of them
 //! - `materials`: dead, starved and undecided materials
 //! - `units`: units that go out or in by a step
 //! - `turn`: which step comes at a node, and what it does
@@ -29,9 +29,9 @@ mod intake;
 mod lead;
 mod makers;
 mod materials;
+mod open_leaf;
 mod scarce;
 mod sets;
-mod standing;
 mod turn;
 mod units;
 

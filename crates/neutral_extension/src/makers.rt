@@ -6,7 +6,7 @@ ghost use Rattle.link_lists.specs.Lists.{Rows, row, IsListed};
 ghost use Rattle.pgraph.specs.Tables.{shape};
 ghost use Rattle.neutral_extension.specs.Candidates.{left, AreMakersOf};
 ghost use Rattle.neutral_extension.specs.Cells.{cell_at, unit_cells, out_cells, full_rows, AreInBands, AreFrom, IsFilled, IsOut};
-ghost use Rattle.neutral_extension.specs.Standing.{is_empty, is_single};
+ghost use Rattle.neutral_extension.specs.OpenLeaf.{is_empty, is_single};
 
 use link_lists::Lists;
 use pgraph::Graph;

@@ -5,44 +5,44 @@ ghost use Rattle.pns_rules.specs.Nodes.{starve, IsPossible};
 ghost use Rattle.pns_rules.specs.Ends.{IsSound, IsDead, IsUndecided, IsFirst, IsNever};
 ghost use Rattle.pgraph.specs.Tables.{shape};
 ghost use Rattle.pgraph.specs.View.{node_of};
-ghost use Rattle.neutral_extension.specs.Standing.{Stands};
+ghost use Rattle.neutral_extension.specs.OpenLeaf.{Stands};
 
+use crate::open_leaf::OpenLeaf;
 use crate::sets::free_units;
-use crate::standing::Standing;
 use pgraph::Graph;
 
 /// The least needed material of which every maker is left out.
-pub fn dead_material(graph: &Graph, standing: &Standing) -> Option<u32>
-    requires { Stands (shape graph.now) standing.now }
-    ensures { MatchOption result (IsNever (IsDead (shape graph.now) (node_of standing.now.node))) (IsFirst (IsDead (shape graph.now) (node_of standing.now.node))) }
+pub fn dead_material(graph: &Graph, leaf: &OpenLeaf) -> Option<u32>
+    requires { Stands (shape graph.now) leaf.now }
+    ensures { MatchOption result (IsNever (IsDead (shape graph.now) (node_of leaf.now.node))) (IsFirst (IsDead (shape graph.now) (node_of leaf.now.node))) }
 {
     graph.is_proper();
-    let dead = standing.intake.needed.meet(standing.scarce.unmade);
+    let dead = leaf.intake.needed.meet(leaf.scarce.unmade);
     dead.rises();
     dead.least()
 }
 
 /// The least material that is not raw, of which every maker is left out and some consumer is not, none of these taken in.
-pub fn starved_material(graph: &Graph, standing: &Standing) -> Option<u32>
-    requires sound { IsSound (shape graph.now) (node_of standing.now.node) }
-    requires stands { Stands (shape graph.now) standing.now }
-    ensures { MatchOption result (IsNever (λ x. IsPossible (shape graph.now) (node_of standing.now.node) (starve x))) (IsFirst (λ x. IsPossible (shape graph.now) (node_of standing.now.node) (starve x))) }
+pub fn starved_material(graph: &Graph, leaf: &OpenLeaf) -> Option<u32>
+    requires sound { IsSound (shape graph.now) (node_of leaf.now.node) }
+    requires stands { Stands (shape graph.now) leaf.now }
+    ensures { MatchOption result (IsNever (λ x. IsPossible (shape graph.now) (node_of leaf.now.node) (starve x))) (IsFirst (λ x. IsPossible (shape graph.now) (node_of leaf.now.node) (starve x))) }
 {
     graph.is_proper();
-    let unused = standing.used.minus(standing.intake.used);
-    let starved = unused.meet(standing.scarce.unmade).minus(graph.raws());
+    let unused = leaf.used.minus(leaf.intake.used);
+    let starved = unused.meet(leaf.scarce.unmade).minus(graph.raws());
     starved.rises();
     starved.least()
 }
 
 /// The least needed material with a maker that is free.
-pub fn undecided_material(graph: &Graph, standing: &Standing) -> Option<u32>
-    requires { Stands (shape graph.now) standing.now }
-    ensures { MatchOption result (IsNever (IsUndecided (shape graph.now) (node_of standing.now.node))) (IsFirst (IsUndecided (shape graph.now) (node_of standing.now.node))) }
+pub fn undecided_material(graph: &Graph, leaf: &OpenLeaf) -> Option<u32>
+    requires { Stands (shape graph.now) leaf.now }
+    ensures { MatchOption result (IsNever (IsUndecided (shape graph.now) (node_of leaf.now.node))) (IsFirst (IsUndecided (shape graph.now) (node_of leaf.now.node))) }
 {
     graph.is_proper();
-    let free = free_units(graph, &standing.node);
-    let undecided = standing.intake.needed.meet(graph.made(free));
+    let free = free_units(graph, &leaf.node);
+    let undecided = leaf.intake.needed.meet(graph.made(free));
     undecided.rises();
     undecided.least()
 }

@@ -4,7 +4,7 @@ ghost use Rattle.number_sets.specs.Sets.{has};
 ghost use Rattle.pns_rules.specs.Structure.{is_made, is_used};
 ghost use Rattle.pgraph.specs.Tables.{shape};
 ghost use Rattle.neutral_extension.specs.Candidates.{left};
-ghost use Rattle.neutral_extension.specs.Standing.{IsTold, IsCounted, is_empty, is_single};
+ghost use Rattle.neutral_extension.specs.OpenLeaf.{IsTold, IsCounted, is_empty, is_single};
 
 use crate::makers::Makers;
 use pgraph::Graph;

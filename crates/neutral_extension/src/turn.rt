@@ -6,12 +6,12 @@ ghost use Rattle.pns_rules.specs.Ends.{IsSound};
 ghost use Rattle.pgraph.specs.Tables.{shape};
 ghost use Rattle.pgraph.specs.View.{node_of, step_of};
 ghost use Rattle.neutral_extension.specs.Moves.{IsMove, IsListedMove};
-ghost use Rattle.neutral_extension.specs.Standing.{Stands, Follows, AllLead};
+ghost use Rattle.neutral_extension.specs.OpenLeaf.{Stands, Follows, AllLead};
 
 use crate::end::Stop;
 use crate::makers::Makers;
 use crate::materials::{dead_material, starved_material, undecided_material};
-use crate::standing::Standing;
+use crate::open_leaf::OpenLeaf;
 use crate::units::{loose_units, raw_unit, rival_unit, sole_step};
 use pgraph::Graph;
 use unit_sets::{Node, Step, UnitSet};
@@ -24,39 +24,39 @@ pub enum Move {
 }
 
 /// What comes at the node. `leading` keeps from turn to turn which units lead to a product.
-pub fn next_move(graph: &Graph, makers: &Makers, standing: &Standing, leading: &mut UnitSet) -> Move
-    requires sound { IsSound (shape graph.now) (node_of standing.now.node) }
-    requires stands { Stands (shape graph.now) standing.now }
-    requires follows { Follows (shape graph.now) makers.now standing.now }
+pub fn next_move(graph: &Graph, makers: &Makers, leaf: &OpenLeaf, leading: &mut UnitSet) -> Move
+    requires sound { IsSound (shape graph.now) (node_of leaf.now.node) }
+    requires stands { Stands (shape graph.now) leaf.now }
+    requires follows { Follows (shape graph.now) makers.now leaf.now }
     requires leading { AllLead (shape graph.now) (has leading.old) }
-    ensures comes { IsMove (shape graph.now) (node_of standing.now.node) result }
+    ensures comes { IsMove (shape graph.now) (node_of leaf.now.node) result }
     ensures set { IsListedMove (shape graph.now) result }
     ensures leading { AllLead (shape graph.now) (has leading.new) }
 {
-    if let Some(x) = dead_material(graph, standing) {
+    if let Some(x) = dead_material(graph, leaf) {
         return Move::End(Stop::Dead(x));
     }
-    if let Some(k) = standing.intake.clash {
+    if let Some(k) = leaf.intake.clash {
         return Move::End(Stop::Clash(k));
     }
-    if let Some(u) = raw_unit(graph, standing) {
+    if let Some(u) = raw_unit(graph, leaf) {
         return Move::Take(Step::Raw(u));
     }
-    if let Some(u) = rival_unit(graph, standing) {
+    if let Some(u) = rival_unit(graph, leaf) {
         return Move::Take(Step::Rival(u));
     }
-    if let Some(x) = starved_material(graph, standing) {
+    if let Some(x) = starved_material(graph, leaf) {
         return Move::Take(Step::Starve(x));
     }
-    let loose = loose_units(graph, &standing.node, leading);
+    let loose = loose_units(graph, &leaf.node, leading);
     loose.rises();
     if !loose.is_empty() {
         return Move::Take(Step::Loose(loose));
     }
-    if let Some((material, unit)) = sole_step(graph, makers, standing) {
+    if let Some((material, unit)) = sole_step(graph, makers, leaf) {
         return Move::Take(Step::Sole { material, unit });
     }
-    match undecided_material(graph, standing) {
+    match undecided_material(graph, leaf) {
         Some(x) => Move::End(Stop::Branch(x)),
         None => Move::End(Stop::Decided),
     }

@@ -6,12 +6,12 @@ ghost use Rattle.pns_rules.specs.Structure.{HasPath};
 ghost use Rattle.pns_rules.specs.Ends.{IsSound, IsFirst, IsNever};
 ghost use Rattle.pgraph.specs.Tables.{shape};
 ghost use Rattle.pgraph.specs.View.{node_of};
-ghost use Rattle.neutral_extension.specs.Standing.{Stands, Follows, AllLead};
+ghost use Rattle.neutral_extension.specs.OpenLeaf.{Stands, Follows, AllLead};
 ghost use Rattle.neutral_extension.specs.Tests.{MakesRaw, IsLooseSet};
 
 use crate::makers::Makers;
+use crate::open_leaf::OpenLeaf;
 use crate::sets::{free_units, remaining_units};
-use crate::standing::Standing;
 use pgraph::Graph;
 use unit_sets::{Node, UnitSet};
 
@@ -31,21 +31,21 @@ pub fn raw_makers(graph: &Graph) -> UnitSet
 }
 
 /// The least free unit that makes a raw material.
-pub fn raw_unit(graph: &Graph, standing: &Standing) -> Option<u32>
-    requires { Stands (shape graph.now) standing.now }
-    ensures { MatchOption result (IsNever (λ u. IsPossible (shape graph.now) (node_of standing.now.node) (raw u))) (IsFirst (λ u. IsPossible (shape graph.now) (node_of standing.now.node) (raw u))) }
+pub fn raw_unit(graph: &Graph, leaf: &OpenLeaf) -> Option<u32>
+    requires { Stands (shape graph.now) leaf.now }
+    ensures { MatchOption result (IsNever (λ u. IsPossible (shape graph.now) (node_of leaf.now.node) (raw u))) (IsFirst (λ u. IsPossible (shape graph.now) (node_of leaf.now.node) (raw u))) }
 {
-    let found = free_units(graph, &standing.node).meet(standing.raw_makers);
+    let found = free_units(graph, &leaf.node).meet(leaf.raw_makers);
     found.rises();
     found.least()
 }
 
 /// The least free unit that shares an exclusion with a unit taken in.
-pub fn rival_unit(graph: &Graph, standing: &Standing) -> Option<u32>
-    requires { Stands (shape graph.now) standing.now }
-    ensures { MatchOption result (IsNever (λ u. IsPossible (shape graph.now) (node_of standing.now.node) (rival u))) (IsFirst (λ u. IsPossible (shape graph.now) (node_of standing.now.node) (rival u))) }
+pub fn rival_unit(graph: &Graph, leaf: &OpenLeaf) -> Option<u32>
+    requires { Stands (shape graph.now) leaf.now }
+    ensures { MatchOption result (IsNever (λ u. IsPossible (shape graph.now) (node_of leaf.now.node) (rival u))) (IsFirst (λ u. IsPossible (shape graph.now) (node_of leaf.now.node) (rival u))) }
 {
-    let found = free_units(graph, &standing.node).meet(standing.intake.rivals);
+    let found = free_units(graph, &leaf.node).meet(leaf.intake.rivals);
     found.rises();
     found.least()
 }
@@ -76,15 +76,15 @@ pub fn loose_units(graph: &Graph, node: &Node, leading: &mut UnitSet) -> UnitSet
 }
 
 /// The least material with a `sole` step, and its unit: the one that its list of makers still has.
-pub fn sole_step(graph: &Graph, makers: &Makers, standing: &Standing) -> Option<(u32, u32)>
-    requires sound { IsSound (shape graph.now) (node_of standing.now.node) }
-    requires stands { Stands (shape graph.now) standing.now }
-    requires follows { Follows (shape graph.now) makers.now standing.now }
-    ensures { MatchOption result ((x u : ℕ) → IsPossible (shape graph.now) (node_of standing.now.node) (sole x u) → ⊥) (λ p. IsPossible (shape graph.now) (node_of standing.now.node) (sole p.0 p.1) × ((y v : ℕ) → y < p.0 → IsPossible (shape graph.now) (node_of standing.now.node) (sole y v) → ⊥)) }
+pub fn sole_step(graph: &Graph, makers: &Makers, leaf: &OpenLeaf) -> Option<(u32, u32)>
+    requires sound { IsSound (shape graph.now) (node_of leaf.now.node) }
+    requires stands { Stands (shape graph.now) leaf.now }
+    requires follows { Follows (shape graph.now) makers.now leaf.now }
+    ensures { MatchOption result ((x u : ℕ) → IsPossible (shape graph.now) (node_of leaf.now.node) (sole x u) → ⊥) (λ p. IsPossible (shape graph.now) (node_of leaf.now.node) (sole p.0 p.1) × ((y v : ℕ) → y < p.0 → IsPossible (shape graph.now) (node_of leaf.now.node) (sole y v) → ⊥)) }
 {
     graph.is_proper();
-    let single = standing.intake.needed.meet(standing.scarce.single);
-    let undecided = single.minus(standing.intake.made);
+    let single = leaf.intake.needed.meet(leaf.scarce.single);
+    let undecided = single.minus(leaf.intake.made);
     undecided.rises();
     let Some(x) = undecided.least() else {
         return None;

@@ -79,14 +79,14 @@ module _ (ps : List (Option ℕ)) (q : ℕ) (old new : List Kin) (h : IsLinked p
   abbrev more : List (Option ℕ)
   more = ps ++ Some q ∷ []
 
-  abbrev kids : List ℕ
-  kids = children ps q
+  abbrev siblings : List ℕ
+  siblings = children ps q
 
   last_is : last_at old q ≡ last (children ps q)
   last_is = h.last q
 
   new_out : has (children ps q) (length ps) ≡ false
-  new_out = false_from_ne_true (has kids (length ps)) (λ t. let lt = parent_below ps q (length ps) (child_parent ps q (length ps) t) in omega arith)
+  new_out = false_from_ne_true (has siblings (length ps)) (λ t. let lt = parent_below ps q (length ps) (child_parent ps q (length ps) t) in omega arith)
 
   others : (i : ℕ) → (i ≡ q → ⊥) → children (ps ++ Some q ∷ []) i ≡ children ps i
   others i ne = children_other ps (Some q) i (ne_eqb q i (λ e. ne (sym e)))
@@ -96,17 +96,17 @@ module _ (ps : List (Option ℕ)) (q : ℕ) (old new : List Kin) (h : IsLinked p
     where
       by : (o : Option ℕ) → last_at old q ≡ o → first_with o (first_at old) q (length ps) i ≡ first (children more i)
       by None e = elim (cases_eq i q) [
-        | inl s ↦ with-same (first_at old) q (Some (length ps)) i s ∙ sym (ap (λ k. first (children more k)) s ∙ ap first (children_push ps q ∙ ap (λ xs. xs ++ length ps ∷ []) (last_none kids (sym last_is ∙ e))))
+        | inl s ↦ with-same (first_at old) q (Some (length ps)) i s ∙ sym (ap (λ k. first (children more k)) s ∙ ap first (children_push ps q ∙ ap (λ xs. xs ++ length ps ∷ []) (last_none siblings (sym last_is ∙ e))))
         | inr ne ↦ with-other (first_at old) q (Some (length ps)) i ne ∙ (h.first i ∙ sym (ap first (others i ne)))
       ]
       by (Some l) e = elim (cases_eq i q) [
-        | inl s ↦ h.first i ∙ (ap (λ k. first (children ps k)) s ∙ sym (ap (λ k. first (children more k)) s ∙ (ap first (children_push ps q) ∙ first_push kids l (length ps) (sym last_is ∙ e))))
+        | inl s ↦ h.first i ∙ (ap (λ k. first (children ps k)) s ∙ sym (ap (λ k. first (children more k)) s ∙ (ap first (children_push ps q) ∙ first_push siblings l (length ps) (sym last_is ∙ e))))
         | inr ne ↦ h.first i ∙ sym (ap first (others i ne))
       ]
 
   last_more : (i : ℕ) → last_at new i ≡ last (children (ps ++ Some q ∷ []) i)
   last_more i = ap (λ f. f i) a.last ∙ elim (cases_eq i q) [
-    | inl s ↦ with-same (last_at old) q (Some (length ps)) i s ∙ sym (ap (λ k. last (children more k)) s ∙ (ap last (children_push ps q) ∙ last_push None kids (length ps)))
+    | inl s ↦ with-same (last_at old) q (Some (length ps)) i s ∙ sym (ap (λ k. last (children more k)) s ∙ (ap last (children_push ps q) ∙ last_push None siblings (length ps)))
     | inr ne ↦ with-other (last_at old) q (Some (length ps)) i ne ∙ (h.last i ∙ sym (ap last (others i ne)))
   ]
 
@@ -123,40 +123,40 @@ module _ (ps : List (Option ℕ)) (q : ℕ) (old new : List Kin) (h : IsLinked p
 
   -- a node past the old ones has no sibling
   next_past : (i : ℕ) → length ps ≤ i → next_at new i ≡ None
-  next_past i le = next_old i (λ l e s. let lt = parent_below ps q l (child_parent ps q l (last_has kids l e)) in omega arith) ∙ (h.next i ∙ ap (next_child ps i) (get_or_past ps i None le))
+  next_past i le = next_old i (λ l e s. let lt = parent_below ps q l (child_parent ps q l (last_has siblings l e)) in omega arith) ∙ (h.next i ∙ ap (next_child ps i) (get_or_past ps i None le))
 
-  next_kid : (i : ℕ) → has (children ps q) i ≡ true → next_at new i ≡ following i (children ps q ++ length ps ∷ [])
-  next_kid i there = by (last (children ps q)) refl
+  next_sibling : (i : ℕ) → has (children ps q) i ≡ true → next_at new i ≡ following i (children ps q ++ length ps ∷ [])
+  next_sibling i there = by (last (children ps q)) refl
     where
       was : next_at old i ≡ following i (children ps q)
       was = h.next i ∙ ap (next_child ps i) (child_parent ps q i there)
 
       by : (o : Option ℕ) → last (children ps q) ≡ o → next_at new i ≡ following i (children ps q ++ length ps ∷ [])
-      by None e = absurd (both_ways (has kids i) (ap (λ xs. has xs i) (last_none kids e)) there)
+      by None e = absurd (both_ways (has siblings i) (ap (λ xs. has xs i) (last_none siblings e)) there)
       by (Some l) e = elim (cases_eq i l) [
-        | inl s ↦ ap (next_at new) s ∙ (next_last l e ∙ sym (ap (λ k. following k (kids ++ length ps ∷ [])) s ∙ following_at_last kids l (length ps) (IsOnce_children ps q) e))
+        | inl s ↦ ap (next_at new) s ∙ (next_last l e ∙ sym (ap (λ k. following k (siblings ++ length ps ∷ [])) s ∙ following_at_last siblings l (length ps) (IsOnce_children ps q) e))
         | inr ne ↦
             next_old i (λ m em s. ne (s ∙ (let t : Some m ≡ Some l = sym em ∙ e in let u : m ≡ l = cc in u)))
-            ∙ (was ∙ sym (following_within kids l (length ps) i e there ne))
+            ∙ (was ∙ sym (following_within siblings l (length ps) i e there ne))
       ]
 
   next_more : (i : ℕ) → next_at new i ≡ sibling_after (ps ++ Some q ∷ []) i
   next_more i = elim (cases_lt i (length ps)) [
     | inl lt ↦ by (parent_of ps i) refl ∙ sym (ap (next_child more i) (parent_before ps (Some q) i lt))
     | inr le ↦ next_past i le ∙ sym (elim (cases_eq i (length ps)) [
-      | inl s ↦ ap (next_child more i) (ap (parent_of more) s ∙ parent_new ps (Some q)) ∙ (ap (following i) (children_push ps q) ∙ (ap (λ k. following k (kids ++ length ps ∷ [])) s ∙ following_new kids (length ps) new_out))
+      | inl s ↦ ap (next_child more i) (ap (parent_of more) s ∙ parent_new ps (Some q)) ∙ (ap (following i) (children_push ps q) ∙ (ap (λ k. following k (siblings ++ length ps ∷ [])) s ∙ following_new siblings (length ps) new_out))
       | inr ne ↦ ap (next_child more i) (parent_past ps (Some q) i (omega arith))
     ])
   ]
     where
       -- the last child of q has the parent q
       apart : (o : Option ℕ) → parent_of ps i ≡ o → (o ≡ Some q → ⊥) → (l : ℕ) → last (children ps q) ≡ Some l → i ≡ l → ⊥
-      apart o e ne l el s = ne (sym e ∙ (ap (parent_of ps) s ∙ child_parent ps q l (last_has kids l el)))
+      apart o e ne l el s = ne (sym e ∙ (ap (parent_of ps) s ∙ child_parent ps q l (last_has siblings l el)))
 
       by : (o : Option ℕ) → parent_of ps i ≡ o → next_at new i ≡ next_child (ps ++ Some q ∷ []) i o
       by None e = next_old i (apart None e (λ t. cc)) ∙ (h.next i ∙ ap (next_child ps i) e)
       by (Some r) e = elim (cases_eq r q) [
-        | inl s ↦ next_kid i (parent_child ps q i (e ∙ ap Some s)) ∙ sym (ap (λ k. following i (children more k)) s ∙ ap (following i) (children_push ps q))
+        | inl s ↦ next_sibling i (parent_child ps q i (e ∙ ap Some s)) ∙ sym (ap (λ k. following i (children more k)) s ∙ ap (following i) (children_push ps q))
         | inr ne ↦ next_old i (apart (Some r) e (λ t. ne cc)) ∙ (h.next i ∙ (ap (next_child ps i) e ∙ sym (ap (following i) (others r ne))))
       ]
 

@@ -6,7 +6,7 @@ ghost use Rattle.mixed_numbers.specs.Order.{mixed_cmp};
 ghost use Rattle.link_lists.specs.Lists.{first, has, row, without, IsListed};
 ghost use Rattle.node_pool.specs.Order.{OpenLeaves, is_at_least, put_before, IsRising};
 
-use crate::guide::Guide;
+use crate::index::Index;
 use link_lists::Lists;
 use mixed_numbers::Mixed;
 use std::alloc::{AllocError, Global};
@@ -20,7 +20,7 @@ pub struct Leaves {
     room: u32,
     // Of each node whether it is an open leaf.
     marks: Vec<bool>,
-    guide: Guide,
+    index: Index,
 }
 
 impl Model for Leaves {
@@ -79,7 +79,7 @@ impl Leaves {
             lists: Lists::open(alloc, 1, room)?,
             room,
             marks: vec![in alloc; false; room as usize]?,
-            guide: Guide::with_room(alloc, room)?,
+            index: Index::with_room(alloc, room)?,
         })
     }
 
@@ -88,7 +88,7 @@ impl Leaves {
         ensures more { IfOk result (λ _. self.new ≡ record { leaves = self.old.leaves; room = self.old.room + more }) }
         ensures same { OnErr result (self.new ≡ self.old) }
     {
-        self.guide.grow(self.room + more)?;
+        self.index.grow(self.room + more)?;
         self.marks.resize((self.room + more) as usize, false)?;
         self.lists.grow(more)?;
         self.room += more;
@@ -107,13 +107,13 @@ impl Leaves {
         self.lists.first(0)
     }
 
-    /// A leaf of less value, as close as the guide leads to the first one that has at least this one.
+    /// A leaf of less value, as close as the index leads to the first one that has at least this one.
     fn near(&self, values: &Vec<Mixed>, value: &Mixed) -> Option<u32>
         requires known { (c : ℕ) → has self.now.leaves c ≡ true → c < length values.now.items }
         ensures listed { (leaf : ℕ) → result ≡ Some leaf → has self.now.leaves leaf ≡ true }
         ensures lower { (leaf : ℕ) → result ≡ Some leaf → is_at_least values.now.items value.now leaf ≡ false }
     {
-        let leaf = self.guide.last_below(values, value)?;
+        let leaf = self.index.last_below(values, value)?;
         if self.marks.get(leaf as usize).copied() != Some(true)
             || is_at_least(values, value, leaf)
         {
@@ -159,7 +159,7 @@ impl Leaves {
             Some(before) => self.lists.insert_before(leaf, before),
         }
         mark(&mut self.marks, leaf, true);
-        self.guide.put(values, leaf);
+        self.index.put(values, leaf);
     }
 
     /// Takes a leaf out.
@@ -169,6 +169,6 @@ impl Leaves {
     {
         self.lists.take(leaf);
         mark(&mut self.marks, leaf, false);
-        self.guide.take(values, leaf);
+        self.index.take(values, leaf);
     }
 }

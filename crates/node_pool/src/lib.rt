@@ -8,10 +8,10 @@
 //! - `pool`: `Pool` and its calls
 //! - `tree`: the nodes by first child and next sibling
 //! - `leaves`: the open leaves as one linked list
-//! - `guide`: a search tree of the open leaves, which leads to a place in that list
+//! - `index`: a search tree of the open leaves, which leads to a place in that list
 #![tactic(auto)]
 
-mod guide;
+mod index;
 mod leaves;
 pub mod pool;
 mod tree;

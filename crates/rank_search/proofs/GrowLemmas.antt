@@ -26,10 +26,10 @@ use Rattle.turn_laws.specs.Turns.{AreChildren}
 use Rattle.turn_laws.proofs.KeptLemmas.{under_dearer}
 use Rattle.branch_choice.specs.declared.choice.Choice.{Choice}
 use Rattle.branch_choice.specs.Choices.{IsChoice, way_of, option_count}
-use Rattle.node_looks.specs.Evaluated.{PastPlaces, cost_over}
-use Rattle.node_looks.specs.Children.{claim_with, AreSolvedBy, cells_of}
-use Rattle.node_looks.proofs.ChildLemmas.{comes}
-use Rattle.node_looks.proofs.ChoiceLemmas.{may_branch}
+use Rattle.node_evaluation.specs.Evaluated.{PastPlaces, cost_over}
+use Rattle.node_evaluation.specs.Children.{claim_with, AreSolvedBy, cells_of}
+use Rattle.node_evaluation.proofs.ChildLemmas.{comes}
+use Rattle.node_evaluation.proofs.ChoiceLemmas.{may_branch}
 use Rattle.abb_search.specs.declared.growing.Growing.{Growing}
 use Rattle.abb_search.specs.Growing.{IsGrowingFor, IsBranching}
 use Rattle.abb_search.proofs.HandLemmas.{children_kept}
@@ -55,7 +55,7 @@ module _ (p : Problem) (valid : IsValid p) (n : Node) (w : Way) (sound : IsSound
       (under_dearer p n (after_all (shape_of p) (child_at (shape_of p) n w c.option) c.steps) v positive under
       (ways_are_dearer p valid n w c.option c.steps sound.apart may b.option b.follows.pass (subst (λ (m : Node). IsNever (IsDead (shape_of p) m)) (sym b.follows.leave) alive)))
 
-  above : (kids : List Cell) (ws : List (Option Network)) → ((k : ℕ) → k < length kids → IsBelow (cell_at kids k)) → AreSolvedBy p kids ws → AreAbove v ws
+  above : (children : List Cell) (ws : List (Option Network)) → ((k : ℕ) → k < length children → IsBelow (cell_at children k)) → AreSolvedBy p children ws → AreAbove v ws
   above [] [] each s = tt
   above [] (x ∷ ws) each s = absurd s
   above (c ∷ cs) [] each s = absurd s
@@ -65,7 +65,7 @@ module _ (p : Problem) (valid : IsValid p) (n : Node) (w : Way) (sound : IsSound
     above cs ws (λ k lt. each (suc k) (omega (arith, lt))) s.1,
   )
 
-  in_options : (kids done : List Cell) (all : List (List ℕ)) → map (λ (c : Cell). c.option) done ++ map (λ (c : Cell). c.option) kids ≡ all → (k : ℕ) → k < length kids → IsIn (cell_at kids k).option all
+  in_options : (children done : List Cell) (all : List (List ℕ)) → map (λ (c : Cell). c.option) done ++ map (λ (c : Cell). c.option) children ≡ all → (k : ℕ) → k < length children → IsIn (cell_at children k).option all
   in_options [] done all e k lt = absurd (omega (arith, lt))
   in_options (c ∷ cs) done all e zero lt = comes (map (λ (d : Cell). d.option) done) (map (λ (d : Cell). d.option) cs) c.option all e
   in_options (c ∷ cs) done all e (suc k) lt = in_options cs (done ++ c ∷ []) all (shift done ∙ e) k (omega (arith, lt))
@@ -75,10 +75,10 @@ module _ (p : Problem) (valid : IsValid p) (n : Node) (w : Way) (sound : IsSound
       shift (d ∷ ds) = ap (λ os. d.option ∷ os) (shift ds)
 
   -- what is found at children costs at least a number that no relaxed flows of the node undercut
-  pub found_above : (claimed : Option CostOver) (kids : List Cell) (ws : List (Option Network)) → AreChildren p claimed n w kids → AreSolvedBy p kids ws → AreAbove v ws
-  found_above claimed kids ws children s = above kids ws (λ k lt. record {
-    follows = (children.each k lt).follows;
-    option = in_options kids [] (options_at (shape_of p) n w) children.options_are k lt;
+  pub found_above : (claimed : Option CostOver) (children : List Cell) (ws : List (Option Network)) → AreChildren p claimed n w children → AreSolvedBy p children ws → AreAbove v ws
+  found_above claimed children ws are_children s = above children ws (λ k lt. record {
+    follows = (are_children.each k lt).follows;
+    option = in_options children [] (options_at (shape_of p) n w) are_children.options_are k lt;
   }) s
 
 -- ---- the search after it
@@ -87,7 +87,7 @@ drop-length : {X : Type 0} (xs ys : List X) → drop (length xs) (xs ++ ys) ≡ 
 drop-length [] ys = refl
 drop-length (x ∷ xs) ys = drop-length xs ys
 
-as_many : (p : Problem) (kids : List Cell) (ws : List (Option Network)) → AreSolvedBy p kids ws → length ws ≡ length kids
+as_many : (p : Problem) (children : List Cell) (ws : List (Option Network)) → AreSolvedBy p children ws → length ws ≡ length children
 as_many p [] [] s = refl
 as_many p [] (w ∷ ws) s = absurd s
 as_many p (c ∷ cs) [] s = absurd s
@@ -101,20 +101,20 @@ same_count l m first (Some w ∷ ws) a = same_count a.0 m (suc first) ws a.2 ∙
 
 -- the networks are those of the children
 behind : (Past : PastPlaces) (p : Problem) (n : Node) (s new : Growing) (at : ℕ) (w : Way) (b : IsBranching Past p n s new at w) (ws : List (Option Network))
-    → AreSolvedBy p (drop (length s.pool.payloads) new.pool.payloads) ws → AreSolvedBy p (cells_of b.kids) ws
+    → AreSolvedBy p (drop (length s.pool.payloads) new.pool.payloads) ws → AreSolvedBy p (cells_of b.children) ws
 behind Past p n s new at w b ws h = subst (λ (cs : List Cell). AreSolvedBy p cs ws) (ap (λ (cs : List Cell). drop (length s.pool.payloads) cs) b.cells ∙ dropped) h
   where
     now : Cell
     now = as_parent (cell_at s.pool.payloads at) (length s.pool.payloads) (branch w)
 
-    dropped : drop (length s.pool.payloads) (slice_set s.pool.payloads at (as_parent (cell_at s.pool.payloads at) (length s.pool.payloads) (branch w)) ++ cells_of b.kids) ≡ cells_of b.kids
-    dropped = subst (λ k. drop k (slice_set s.pool.payloads at now ++ cells_of b.kids) ≡ cells_of b.kids) (length-set s.pool.payloads at now) (drop-length (slice_set s.pool.payloads at now) (cells_of b.kids))
+    dropped : drop (length s.pool.payloads) (slice_set s.pool.payloads at (as_parent (cell_at s.pool.payloads at) (length s.pool.payloads) (branch w)) ++ cells_of b.children) ≡ cells_of b.children
+    dropped = subst (λ k. drop k (slice_set s.pool.payloads at now ++ cells_of b.children) ≡ cells_of b.children) (length-set s.pool.payloads at now) (drop-length (slice_set s.pool.payloads at now) (cells_of b.children))
 
 -- the leaves of all networks have numbers
 pub numbers_fit : (Past : PastPlaces) (p : Problem) (n : Node) (s new : Growing) (at nodes : ℕ) (w : Way) (b : IsBranching Past p n s new at w) (ws : List (Option Network))
     → AreSolvedBy p (drop (length s.pool.payloads) new.pool.payloads) ws → nodes ≡ length s.pool.payloads → nodes + length ws < 2 ^ 32
 numbers_fit Past p n s new at nodes w b ws h e =
-    let k = as_many p (cells_of b.kids) ws (behind Past p n s new at w b ws h) in
+    let k = as_many p (cells_of b.children) ws (behind Past p n s new at w b ws h) in
     let few = b.numbered in
     omega (arith, k, few, e)
 
@@ -124,27 +124,27 @@ module _ (Past : PastPlaces) (p : Problem) (valid : IsValid p) (budget : ℕ) (s
   module _ (new : Growing) (m : Choice) (choice : IsChoice (shape_of p) (place_of (cell_at s.pool.payloads at)) m) (few : length s.pool.payloads + option_count m ≤ s.budget)
       (b : IsBranching Past p (place_of (cell_at s.pool.payloads at)) s new at (way_of m)) (ws : List (Option Network)) (solved : AreSolvedBy p (drop (length s.pool.payloads) new.pool.payloads) ws)
       (k : Listed) (added : AreAdded l k (length s.pool.payloads) ws) where
-    kids_solved : AreSolvedBy p (cells_of b.kids) ws
-    kids_solved = behind Past p (place_of (cell_at s.pool.payloads at)) s new at (way_of m) b ws solved
+    children_solved : AreSolvedBy p (cells_of b.children) ws
+    children_solved = behind Past p (place_of (cell_at s.pool.payloads at)) s new at (way_of m) b ws solved
 
     parent_best : AreBest p l.count (slice_set s.pool.payloads at (as_parent (cell_at s.pool.payloads at) (length s.pool.payloads) (branch (way_of m)))) l.found
     parent_best = as_branch p l.count s.pool.payloads l.found at (as_parent (cell_at s.pool.payloads at) (length s.pool.payloads) (branch (way_of m))) r.best
         (there p valid s g at is_first same_parents below rising) (untried_there p valid s g at is_first same_parents below rising) refl
 
-    best_now : AreBestNow p (slice_set s.pool.payloads at (as_parent (cell_at s.pool.payloads at) (length s.pool.payloads) (branch (way_of m))) ++ cells_of b.kids) l k
-    best_now = all_more p (cells_of b.kids) ws (slice_set s.pool.payloads at (as_parent (cell_at s.pool.payloads at) (length s.pool.payloads) (branch (way_of m)))) l k listed parent_best kids_solved
+    best_now : AreBestNow p (slice_set s.pool.payloads at (as_parent (cell_at s.pool.payloads at) (length s.pool.payloads) (branch (way_of m))) ++ cells_of b.children) l k
+    best_now = all_more p (cells_of b.children) ws (slice_set s.pool.payloads at (as_parent (cell_at s.pool.payloads at) (length s.pool.payloads) (branch (way_of m)))) l k listed parent_best children_solved
         (subst (λ n. AreAdded l k n ws) (sym (length-set s.pool.payloads at (as_parent (cell_at s.pool.payloads at) (length s.pool.payloads) (branch (way_of m))))) added)
 
     leaf_value : IsUnder p (cost_over v) (place_of (cell_at s.pool.payloads at)) × IsPositive (cost_over v)
     leaf_value = let u = valued p valid s g at is_first same_parents below rising v value_is in (u.under, u.positive)
 
-    kids_above : AreAbove (cost_over v) ws
-    kids_above = found_above p valid (place_of (cell_at s.pool.payloads at)) (way_of m) (sound_there p valid s g at is_first same_parents below rising) (may_branch (shape_of p) (place_of (cell_at s.pool.payloads at)) m choice)
-        (cost_over v) leaf_value.1 leaf_value.0 (claimed_cost (claim_with b.seen.best)) (cells_of b.kids) ws
-        (children_kept p b.seen.kids.items b.kids b.seen.ready.items b.freed new.ready b.placed (claimed_cost (claim_with b.seen.best)) (place_of (cell_at s.pool.payloads at)) (way_of m) b.are_seen.children) kids_solved
+    children_above : AreAbove (cost_over v) ws
+    children_above = found_above p valid (place_of (cell_at s.pool.payloads at)) (way_of m) (sound_there p valid s g at is_first same_parents below rising) (may_branch (shape_of p) (place_of (cell_at s.pool.payloads at)) m choice)
+        (cost_over v) leaf_value.1 leaf_value.0 (claimed_cost (claim_with b.seen.best)) (cells_of b.children) ws
+        (children_kept p b.seen.nodes.items b.children b.seen.ready.items b.freed new.ready b.placed (claimed_cost (claim_with b.seen.best)) (place_of (cell_at s.pool.payloads at)) (way_of m) b.are_seen.children) children_solved
 
     still_below : LastIsBelow (Some (cost_over v)) (undercut_by k.count k.found)
-    still_below = all_above (cost_over v) leaf_value.1 ws l k (length s.pool.payloads) listed (found_scaled p (cells_of b.kids) ws kids_solved) added kids_above under
+    still_below = all_above (cost_over v) leaf_value.1 ws l k (length s.pool.payloads) listed (found_scaled p (cells_of b.children) ws children_solved) added children_above under
 
     pub grown : IsMore Past p budget (length s.pool.payloads) new k
     grown =

@@ -24,10 +24,10 @@ use Rattle.turn_laws.specs.Turns.{CanBranch, IsLeastOpen}
 use Rattle.turn_laws.proofs.FractionLemmas.{fraction_trans}
 use Rattle.branch_choice.specs.declared.choice.Choice.{Choice}
 use Rattle.branch_choice.specs.Choices.{IsChoice, way_of, option_count}
-use Rattle.node_looks.specs.declared.looks.Ready.{Ready}
-use Rattle.node_looks.specs.Evaluated.{cost_over}
-use Rattle.node_looks.specs.Looks.{IsReady, IsSomeReady}
-use Rattle.node_looks.proofs.ChoiceLemmas.{may_branch, decides, option_count_is, next_count, undecided_there}
+use Rattle.node_evaluation.specs.declared.looks.Ready.{Ready}
+use Rattle.node_evaluation.specs.Evaluated.{cost_over}
+use Rattle.node_evaluation.specs.Looks.{IsReady, IsSomeReady}
+use Rattle.node_evaluation.proofs.ChoiceLemmas.{may_branch, decides, option_count_is, next_count, undecided_there}
 use Rattle.abb_search.specs.declared.growing.Growing.{Growing}
 use Rattle.abb_search.specs.Growing.{IsGrowingFor}
 use Rattle.abb_search.specs.Closing.{AreBeaten}

@@ -13,12 +13,12 @@ use Rattle.tree_rules.specs.Accepted.{first_node}
 use Rattle.search_tree.specs.Cells.{Cell, place_of, cell_at}
 use Rattle.turn_laws.specs.Values.{IsPositiveCost}
 use Rattle.turn_laws.specs.Kept.{LeafIsKept, EndIsKept}
-use Rattle.node_looks.specs.Evaluated.{PastPlaces}
-use Rattle.node_looks.specs.Children.{AreSolvedBy}
+use Rattle.node_evaluation.specs.Evaluated.{PastPlaces}
+use Rattle.node_evaluation.specs.Children.{AreSolvedBy}
 use Rattle.abb_search.specs.declared.growing.Growing.{Growing}
-use Rattle.abb_search.specs.declared.growing.HaltedLeaf.{HaltedLeaf}
+use Rattle.abb_search.specs.declared.growing.StoppedLeaf.{StoppedLeaf}
 use Rattle.abb_search.specs.Growing.{IsTreeKept, IsTreeKeptFor, GoesOn, GoesOnFor, IsLookedRoot}
-use Rattle.abb_search.proofs.HandLemmas.{kid_same}
+use Rattle.abb_search.proofs.HandLemmas.{child_same}
 use Rattle.abb_search.proofs.RootLemmas.{root_after}
 use Rattle.found_networks.specs.Found.{FoundAt, AreBest, undercut_by}
 use Rattle.found_networks.specs.Listed.{Listed, IsListed, AreAdded}
@@ -41,8 +41,8 @@ leaf_kept p n untried = λ alive. tt
 module _ (Past : PastPlaces) (p : Problem) (start : starts.Node) (budget : ℕ) (s : Growing) (h : IsLookedRoot Past p start budget None s) (some : 1 ≤ budget) where
   end_is : h.root.cell.end ≡ leaf h.is_looked.seen.what
   end_is =
-      let kid = kid_same (record { cell = h.looked.cell; value = h.looked.value }) h.root h.looked.ready h.empty s.ready h.placed in
-      ap (λ (c : Cell). c.end) kid.is ∙ h.is_looked.seen.end_is
+      let child = child_same (record { cell = h.looked.cell; value = h.looked.value }) h.root h.looked.ready h.empty s.ready h.placed in
+      ap (λ (c : Cell). c.end) child.is ∙ h.is_looked.seen.end_is
 
   one_leaf : (i : ℕ) → i < length s.pool.payloads → EndIsKept p None (place_of (cell_at s.pool.payloads i)) (cell_at s.pool.payloads i).end
   one_leaf i lt =
@@ -72,7 +72,7 @@ module _ (Past : PastPlaces) (p : Problem) (start : starts.Node) (budget : ℕ) 
     numbered = t.numbered;
   }
 
-  goes_for : (undercut : Option CostOver) → IsPositiveCost undercut → (o : Option HaltedLeaf) → GoesOn Past p s o → GoesOnFor Past p undercut s o
+  goes_for : (undercut : Option CostOver) → IsPositiveCost undercut → (o : Option StoppedLeaf) → GoesOn Past p s o → GoesOnFor Past p undercut s o
   goes_for undercut positive None g = record { tree = tree_for undercut positive g.tree; are_open = g.are_open; ready = g.ready }
   goes_for undercut positive (Some i) g = (tree_for undercut positive g.0, g.1)
 
@@ -84,7 +84,7 @@ module _ (Past : PastPlaces) (p : Problem) (start : starts.Node) (budget : ℕ) 
     begun first = record {
       start = ap node_of h.start_is ∙ first;
       budget_is = h.budget_is;
-      going = goes_for (undercut_by m.count m.found) (undercut_positive m best_now.listed) s.halt (root_after Past p start budget None (record { passes = refl; positive = tt }) s h some);
+      going = goes_for (undercut_by m.count m.found) (undercut_positive m best_now.listed) s.stop (root_after Past p start budget None (record { passes = refl; positive = tt }) s h some);
       best = best_now.best;
     }
 

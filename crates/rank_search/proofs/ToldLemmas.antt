@@ -8,36 +8,36 @@ use Rattle.tree_rules.specs.Accepted.{Tree, first_node}
 use Rattle.tree_rules.specs.Stops.{IsOpenAt}
 use Rattle.branch_tree.specs.Tail.{whole, spent, past}
 use Rattle.search_tree.specs.Cells.{place_of, cell_at}
-use Rattle.node_looks.specs.Evaluated.{PastPlaces}
+use Rattle.node_evaluation.specs.Evaluated.{PastPlaces}
 use Rattle.abb_search.specs.declared.growing.Growing.{Growing}
-use Rattle.abb_search.specs.declared.growing.HaltedLeaf.{HaltedLeaf}
-use Rattle.abb_search.specs.Growing.{IsHaltedAt}
+use Rattle.abb_search.specs.declared.growing.StoppedLeaf.{StoppedLeaf}
+use Rattle.abb_search.specs.Growing.{IsStoppedAt}
 use Rattle.ranked_tree.specs.Marked.{Mark, marked}
 use Rattle.rank_trees.specs.Told.{IsOpenLeaf, IsTelling, IsSpentTelling}
 use Rattle.rank_search.specs.Ranked.{IsRankedBy}
 use Rattle.rank_search.specs.declared.outcome.Ranked.TheVariants.{Whole, Spent, Past}
 
-module _ (Halts : PastPlaces) (p : Problem) (asked count budget : ℕ) (same : asked ≡ count) (ws : List Network) (tree : Tree) (marks : List Mark) where
-  pub whole_ranked : IsTelling false p count ws tree marks → IsRankedBy Halts p count budget (Whole (record { count = asked; networks = ws; tree = tree; marks = marks; tail = whole }))
+module _ (Stops : PastPlaces) (p : Problem) (asked count budget : ℕ) (same : asked ≡ count) (ws : List Network) (tree : Tree) (marks : List Mark) where
+  pub whole_ranked : IsTelling false p count ws tree marks → IsRankedBy Stops p count budget (Whole (record { count = asked; networks = ws; tree = tree; marks = marks; tail = whole }))
   whole_ranked t = (refl, record { count_is = same; tells = t })
 
   pub spent_ranked : (place options : ℕ) → IsTelling true p count ws tree marks → IsSpentTelling p count ws tree marks place options budget
-      → IsRankedBy Halts p count budget (Spent (record { count = asked; networks = ws; tree = tree; marks = marks; tail = spent place options }))
+      → IsRankedBy Stops p count budget (Spent (record { count = asked; networks = ws; tree = tree; marks = marks; tail = spent place options }))
   spent_ranked place options t s = record { ranking = record { count_is = same; tells = t }; next = place; options = options; tail_is = refl; is_spent = s }
 
-  pub past_ranked : (place : ℕ) (s : Growing) (h : HaltedLeaf) → IsTelling true p count ws tree marks → IsHaltedAt Halts p s h.leaf h.halt
+  pub past_ranked : (place : ℕ) (s : Growing) (h : StoppedLeaf) → IsTelling true p count ws tree marks → IsStoppedAt Stops p s h.leaf h.stop
       → ((cell_at s.pool.payloads h.leaf).end ≡ leaf untried → IsOpenAt p IsOpenLeaf first_node (marked marks tree) place (place_of (cell_at s.pool.payloads h.leaf)))
-      → IsRankedBy Halts p count budget (Past (record { count = asked; networks = ws; tree = tree; marks = marks; tail = past place h.halt.nonbasic h.halt.place }))
-  past_ranked place s h t halted stands = record {
+      → IsRankedBy Stops p count budget (Past (record { count = asked; networks = ws; tree = tree; marks = marks; tail = past place h.stop.nonbasic h.stop.place }))
+  past_ranked place s h t stopped stands = record {
     ranking = record { count_is = same; tells = t };
     node = place;
-    nonbasic = h.halt.nonbasic;
-    place = h.halt.place;
+    nonbasic = h.stop.nonbasic;
+    place = h.stop.place;
     tail_is = refl;
     is_past = record {
       node = place_of (cell_at s.pool.payloads h.leaf);
-      at_leaf = stands halted.is_open;
-      reduced = halted.halted.reduced;
-      past = halted.halted.past;
+      at_leaf = stands stopped.is_open;
+      reduced = stopped.stopped.reduced;
+      past = stopped.stopped.past;
     };
   }

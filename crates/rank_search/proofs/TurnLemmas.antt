@@ -6,9 +6,9 @@ use Rattle.mixed_numbers.specs.Number.{numerator, denominator}
 use Rattle.tree_rules.specs.Claim.{Network, CostOver}
 use Rattle.turn_laws.specs.Values.{IsNoMore}
 use Rattle.turn_laws.specs.Kept.{LastIsBelow}
-use Rattle.node_looks.specs.Evaluated.{PastPlaces, cost_over, cost_in}
+use Rattle.node_evaluation.specs.Evaluated.{PastPlaces, cost_over, cost_in}
 use Rattle.abb_search.specs.declared.growing.Growing.{Growing}
-use Rattle.abb_search.specs.declared.growing.HaltedLeaf.{HaltedLeaf}
+use Rattle.abb_search.specs.declared.growing.StoppedLeaf.{StoppedLeaf}
 use Rattle.abb_search.specs.Growing.{IsTreeKeptFor, IsGrowingFor, GoesOnFor}
 use Rattle.abb_search.proofs.TurnLemmas.{dearer}
 use Rattle.found_networks.specs.Found.{undercut_by}
@@ -26,16 +26,16 @@ pub none_beats : (l : Listed) (v : Mixed) → None ≡ undercut_by l.count l.fou
 none_beats l v e = subst (λ (c : Option CostOver). LastIsBelow (Some (cost_over v)) c) e tt
 
 module _ (Past : PastPlaces) (p : Problem) (budget : ℕ) (s : Growing) (l : Listed) (r : IsRanking Past p budget s l) where
-  -- no leaf halts the search
-  pub growing_of : s.halt ≡ None → IsGrowingFor p (undercut_by l.count l.found) s
-  growing_of e = subst (λ (o : Option HaltedLeaf). GoesOnFor Past p (undercut_by l.count l.found) s o) e r.going
+  -- no leaf stops the search
+  pub growing_of : s.stop ≡ None → IsGrowingFor p (undercut_by l.count l.found) s
+  growing_of e = subst (λ (o : Option StoppedLeaf). GoesOnFor Past p (undercut_by l.count l.found) s o) e r.going
 
-  kept_by : (o : Option HaltedLeaf) → GoesOnFor Past p (undercut_by l.count l.found) s o → IsTreeKeptFor p (undercut_by l.count l.found) s
+  kept_by : (o : Option StoppedLeaf) → GoesOnFor Past p (undercut_by l.count l.found) s o → IsTreeKeptFor p (undercut_by l.count l.found) s
   kept_by None g = g.tree
   kept_by (Some h) g = g.0
 
   pub kept_of : IsTreeKeptFor p (undercut_by l.count l.found) s
-  kept_of = kept_by s.halt r.going
+  kept_of = kept_by s.stop r.going
 
   pub tree_of : IsRankTree p budget s l
   tree_of = record { start = r.start; budget_is = r.budget_is; kept = kept_of; best = r.best }
@@ -43,12 +43,12 @@ module _ (Past : PastPlaces) (p : Problem) (budget : ℕ) (s : Growing) (l : Lis
   pub ends : (ending : Ending) → EndsWith Past p s l ending → IsRankEnd Past p budget s l ending
   ends ending h = record { tree = tree_of; ends = h }
 
--- the search with another leaf that halts it, or none
-abbrev pub resumed : Growing → Option HaltedLeaf → Growing
-resumed s halt = record { start = s.start; budget = s.budget; nodes = s.nodes; pool = s.pool; ready = s.ready; best = s.best; halt = halt }
+-- the search with another leaf that stops it, or none
+abbrev pub resumed : Growing → Option StoppedLeaf → Growing
+resumed s stop = record { start = s.start; budget = s.budget; nodes = s.nodes; pool = s.pool; ready = s.ready; best = s.best; stop = stop }
 
-module _ (p : Problem) (undercut : Option CostOver) (s : Growing) (halt : Option HaltedLeaf) where
-  tree_resumed : IsTreeKeptFor p undercut s → IsTreeKeptFor p undercut (resumed s halt)
+module _ (p : Problem) (undercut : Option CostOver) (s : Growing) (stop : Option StoppedLeaf) where
+  tree_resumed : IsTreeKeptFor p undercut s → IsTreeKeptFor p undercut (resumed s stop)
   tree_resumed t = record {
     last = t.last;
     kept = t.kept;
@@ -60,23 +60,23 @@ module _ (p : Problem) (undercut : Option CostOver) (s : Growing) (halt : Option
     numbered = t.numbered;
   }
 
-  growing_resumed : IsGrowingFor p undercut s → IsGrowingFor p undercut (resumed s halt)
+  growing_resumed : IsGrowingFor p undercut s → IsGrowingFor p undercut (resumed s stop)
   growing_resumed g = record { tree = tree_resumed g.tree; are_open = g.are_open; ready = g.ready }
 
-pub ranking_resumed : (Past : PastPlaces) (p : Problem) (budget : ℕ) (s : Growing) (l : Listed) (halt : Option HaltedLeaf) → halt ≡ None → IsRanking Past p budget s l → s.halt ≡ None → IsRanking Past p budget (resumed s halt) l
-ranking_resumed Past p budget s l halt none r e = record {
+pub ranking_resumed : (Past : PastPlaces) (p : Problem) (budget : ℕ) (s : Growing) (l : Listed) (stop : Option StoppedLeaf) → stop ≡ None → IsRanking Past p budget s l → s.stop ≡ None → IsRanking Past p budget (resumed s stop) l
+ranking_resumed Past p budget s l stop none r e = record {
   start = r.start;
   budget_is = r.budget_is;
-  going = subst (λ (o : Option HaltedLeaf). GoesOnFor Past p (undercut_by l.count l.found) (resumed s halt) o) (sym none) (growing_resumed p (undercut_by l.count l.found) s halt (growing_of Past p budget s l r e));
+  going = subst (λ (o : Option StoppedLeaf). GoesOnFor Past p (undercut_by l.count l.found) (resumed s stop) o) (sym none) (growing_resumed p (undercut_by l.count l.found) s stop (growing_of Past p budget s l r e));
   best = r.best;
 }
 
--- the leaf halts the search
-pub halted : (Past : PastPlaces) (p : Problem) (budget : ℕ) (s : Growing) (l : Listed) (h : HaltedLeaf) (halt : Option HaltedLeaf) → IsRanking Past p budget s l → s.halt ≡ Some h
-    → IsRankEnd Past p budget (resumed s halt) l (endings.Past h)
-halted Past p budget s l h halt r e =
-    let g = subst (λ (o : Option HaltedLeaf). GoesOnFor Past p (undercut_by l.count l.found) s o) e r.going in
+-- the leaf stops the search
+pub stopped : (Past : PastPlaces) (p : Problem) (budget : ℕ) (s : Growing) (l : Listed) (h : StoppedLeaf) (stop : Option StoppedLeaf) → IsRanking Past p budget s l → s.stop ≡ Some h
+    → IsRankEnd Past p budget (resumed s stop) l (endings.Past h)
+stopped Past p budget s l h stop r e =
+    let g = subst (λ (o : Option StoppedLeaf). GoesOnFor Past p (undercut_by l.count l.found) s o) e r.going in
     record {
-      tree = record { start = r.start; budget_is = r.budget_is; kept = tree_resumed p (undercut_by l.count l.found) s halt g.0; best = r.best };
-      ends = record { there = g.1.there; is_open = g.1.is_open; halted = g.1.halted };
+      tree = record { start = r.start; budget_is = r.budget_is; kept = tree_resumed p (undercut_by l.count l.found) s stop g.0; best = r.best };
+      ends = record { there = g.1.there; is_open = g.1.is_open; stopped = g.1.stopped };
     }

@@ -6,7 +6,7 @@ use Rattle.flow_program.specs.declared.place.Place.{Place}
 use Rattle.tree_rules.specs.Accepted.{first_node}
 use Rattle.tree_rules.specs.Stops.{IsPast}
 use Rattle.branch_tree.specs.Tail.{whole, spent, past}
-use Rattle.node_looks.specs.Evaluated.{PastPlaces}
+use Rattle.node_evaluation.specs.Evaluated.{PastPlaces}
 use Rattle.flow_evaluator.specs.Past.{IsPastAt}
 use Rattle.ranked_tree.specs.Marked.{marked}
 use Rattle.ranked_tree.specs.Text.{Text}
@@ -29,20 +29,20 @@ pub record IsSpentRank (p : Problem) (count budget : ℕ) (t : Text) : Type 0 wh
   pub is_spent : IsSpentTelling p count t.networks t.tree t.marks next options budget
 
 -- a number is past the range at an open leaf
-pub record IsPastRank (Halts : PastPlaces) (p : Problem) (count : ℕ) (t : Text) : Type 0 where
+pub record IsPastRank (Stops : PastPlaces) (p : Problem) (count : ℕ) (t : Text) : Type 0 where
   pub ranking : IsRankingFor true p count t
   pub node : ℕ
   pub nonbasic : List Column
   pub place : Place
   pub tail_is : t.tail ≡ past node nonbasic place
-  pub is_past : IsPast p IsOpenLeaf first_node (marked t.marks t.tree) (λ n. Halts p n nonbasic place) node
+  pub is_past : IsPast p IsOpenLeaf first_node (marked t.marks t.tree) (λ n. Stops p n nonbasic place) node
 
--- `Halts` tells at which places an evaluator of nodes goes past the range
+-- `Stops` tells at which places an evaluator of nodes goes past the range
 abbrev pub IsRankedBy : PastPlaces → Problem → ℕ → ℕ → Ranked → Type 0
-IsRankedBy Halts p count budget (Whole t) = (t.tail ≡ whole) × IsRankingFor false p count t
-IsRankedBy Halts p count budget (Spent t) = IsSpentRank p count budget t
-IsRankedBy Halts p count budget (Past t) = IsPastRank Halts p count t
-IsRankedBy Halts p count budget Memory = Unit {0}
+IsRankedBy Stops p count budget (Whole t) = (t.tail ≡ whole) × IsRankingFor false p count t
+IsRankedBy Stops p count budget (Spent t) = IsSpentRank p count budget t
+IsRankedBy Stops p count budget (Past t) = IsPastRank Stops p count t
+IsRankedBy Stops p count budget Memory = Unit {0}
 
 -- what a search ranks that the simplex method bounds
 abbrev pub IsRankedTo : Problem → ℕ → ℕ → Ranked → Type 0

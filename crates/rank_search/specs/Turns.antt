@@ -7,9 +7,9 @@ use Rattle.tree_rules.specs.Accepted.{first_node}
 use Rattle.mixed_numbers.specs.declared.number.Mixed.{Mixed}
 use Rattle.turn_laws.specs.Values.{IsNoMore}
 use Rattle.turn_laws.specs.Kept.{LastIsBelow}
-use Rattle.node_looks.specs.Evaluated.{PastPlaces, cost_over, cost_in}
+use Rattle.node_evaluation.specs.Evaluated.{PastPlaces, cost_over, cost_in}
 use Rattle.abb_search.specs.declared.growing.Growing.{Growing}
-use Rattle.abb_search.specs.Growing.{IsTreeKeptFor, GoesOnFor, IsHaltedAt}
+use Rattle.abb_search.specs.Growing.{IsTreeKeptFor, GoesOnFor, IsStoppedAt}
 use Rattle.found_networks.specs.Found.{AreBest, undercut_by}
 use Rattle.found_networks.specs.Listed.{Listed}
 use Rattle.rank_trees.specs.Told.{AreShutAgainst, IsSpentFor}
@@ -24,11 +24,11 @@ pub record IsRankTree (p : Problem) (budget : ℕ) (s : Growing) (l : Listed) : 
   pub kept : IsTreeKeptFor p (undercut_by l.count l.found) s
   pub best : AreBest p l.count s.pool.payloads l.found
 
--- and all is at hand for each open leaf, or one halts the search
+-- and all is at hand for each open leaf, or one stops the search
 pub record IsRanking (Past : PastPlaces) (p : Problem) (budget : ℕ) (s : Growing) (l : Listed) : Type 0 where
   pub start : node_of s.start ≡ first_node
   pub budget_is : s.budget ≡ budget
-  pub going : GoesOnFor Past p (undercut_by l.count l.found) s s.halt
+  pub going : GoesOnFor Past p (undercut_by l.count l.found) s s.stop
   pub best : AreBest p l.count s.pool.payloads l.found
 
 -- the network is the one to be undercut, and costs no more than the value; or the value is below what is to be undercut
@@ -40,7 +40,7 @@ IsBeating l value (Some w) = (undercut_by l.count l.found ≡ Some (cost_in w)) 
 abbrev pub EndsWith : PastPlaces → Problem → Growing → Listed → Ending → Type 0
 EndsWith Past p s l (endings.Whole proofs) = AreShutAgainst p s (undercut_by l.count l.found) proofs.items
 EndsWith Past p s l (endings.Spent at options) = (at < length s.pool.payloads) × IsSpentFor p (undercut_by l.count l.found) s at options
-EndsWith Past p s l (endings.Past h) = IsHaltedAt Past p s h.leaf h.halt
+EndsWith Past p s l (endings.Past h) = IsStoppedAt Past p s h.leaf h.stop
 
 -- the search ends so
 pub record IsRankEnd (Past : PastPlaces) (p : Problem) (budget : ℕ) (s : Growing) (l : Listed) (ending : Ending) : Type 0 where

@@ -11,7 +11,7 @@ use crate::turns::Ending;
 use abb_search::Growing;
 use branch_tree::Tail;
 use found_networks::FoundNetworks;
-use node_looks::Evaluator;
+use node_evaluation::Evaluator;
 use pns_problem::Problem;
 use rank_trees::{Told, tell_stopped, tell_whole};
 use ranked_tree::RankText;
@@ -47,13 +47,13 @@ pub(crate) fn ranked_by<E: Evaluator>(
             let next = told.place;
             Ok(Ranked::Spent(text_of(count, told, Tail::Spent { next, options })))
         }
-        Ending::Past(halted) => {
-            let told = tell_stopped(alloc, problem, growing, found, halted.leaf)?;
+        Ending::Past(stopped) => {
+            let told = tell_stopped(alloc, problem, growing, found, stopped.leaf)?;
             let node = told.place;
             let tail = Tail::Past {
                 node,
-                nonbasic: halted.halt.nonbasic,
-                place: halted.halt.place,
+                nonbasic: stopped.stop.nonbasic,
+                place: stopped.stop.place,
             };
             Ok(Ranked::Past(text_of(count, told, tail)))
         }

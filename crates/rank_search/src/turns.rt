@@ -4,20 +4,20 @@ ghost use Rattle.pns_rules.specs.Shape.{shape_of};
 ghost use Rattle.pgraph.specs.Tables.{shape};
 ghost use Rattle.neutral_extension.specs.Candidates.{AreMakersOf};
 ghost use Rattle.tree_rules.specs.Claim.{CostOver};
-ghost use Rattle.node_looks.specs.Evaluated.{cost_in};
+ghost use Rattle.node_evaluation.specs.Evaluated.{cost_in};
 ghost use Rattle.abb_search.specs.Closing.{AreBeaten};
 ghost use Rattle.abb_search.specs.Growing.{IsGrowingFor};
 ghost use Rattle.found_networks.specs.Found.{undercut_by};
 ghost use Rattle.rank_search.specs.Turns.{IsRanking, IsBeating, EndsWith, IsRankEnd, TurnHolds};
 
 use abb_search::{
-    Closing, Growing, HaltedLeaf, branch_leaf, choice_at, close_all, is_over, node_at, reaches,
+    Closing, Growing, StoppedLeaf, branch_leaf, choice_at, close_all, is_over, node_at, reaches,
 };
 use branch_tree::{Network, Scaled};
 use found_networks::FoundNetworks;
 use mixed_numbers::Mixed;
 use neutral_extension::Makers;
-use node_looks::Evaluator;
+use node_evaluation::Evaluator;
 use pgraph::Graph;
 use pns_problem::Problem;
 use std::alloc::{AllocError, Global};
@@ -30,7 +30,7 @@ pub(crate) enum Ending {
     /// The leaf would be branched next, into too many children.
     Spent { leaf: u32, options: u128 },
     /// A number is past the range at an open leaf.
-    Past(HaltedLeaf),
+    Past(StoppedLeaf),
 }
 
 /// The network that is to be undercut, where it costs no more than the value.
@@ -63,11 +63,11 @@ fn close<E: Evaluator>(
 {
     match close_all(alloc, evaluator, problem, graph, growing, network)? {
         Closing::Proved(proofs) => Ok(Ending::Whole(proofs)),
-        Closing::Halted(halted) => Ok(Ending::Past(halted)),
+        Closing::Stopped(stopped) => Ok(Ending::Past(stopped)),
     }
 }
 
-/// Branches the open leaf of least value and adds what is found at its children, or tells how the search ends. No leaf halts it.
+/// Branches the open leaf of least value and adds what is found at its children, or tells how the search ends. No leaf stops it.
 fn go_on<E: Evaluator>(
     alloc: Global,
     evaluator: &mut E,
@@ -80,7 +80,7 @@ fn go_on<E: Evaluator>(
     requires graph { shape graph.now ≡ shape_of problem.now }
     requires same { AreMakersOf (shape graph.now) makers.old.makers }
     requires ranking { IsRanking E.past problem.now growing.old.budget growing.old found.old }
-    requires goes_on { growing.old.halt ≡ None }
+    requires goes_on { growing.old.stop ≡ None }
     ensures holds { IfOk result (TurnHolds E.past problem.now growing.old.budget (length growing.old.pool.payloads) growing.new found.new) }
     ensures count { OnOk result (found.new.count ≡ found.old.count) }
     ensures makers { makers.new.makers ≡ makers.old.makers }
@@ -127,8 +127,8 @@ fn turn<E: Evaluator>(
     ensures count { OnOk result (found.new.count ≡ found.old.count) }
     ensures makers { makers.new.makers ≡ makers.old.makers }
 {
-    match growing.halt.take() {
-        Some(halted) => Ok(Some(Ending::Past(halted))),
+    match growing.stop.take() {
+        Some(stopped) => Ok(Some(Ending::Past(stopped))),
         None => go_on(alloc, evaluator, problem, graph, makers, growing, found),
     }
 }

@@ -13,7 +13,7 @@ use abb_search::{Growing, look_at_root};
 use flow_evaluator::FlowEvaluator;
 use found_networks::FoundNetworks;
 use neutral_extension::Makers;
-use node_looks::{Evaluator, copy_of_network};
+use node_evaluation::{Evaluator, copy_of_network};
 use pgraph::Graph;
 use pns_problem::Problem;
 use std::alloc::{AllocError, Global};

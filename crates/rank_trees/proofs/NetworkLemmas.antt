@@ -23,7 +23,7 @@ use Rattle.search_tree.specs.Cells.{Cell, place_of, cell_at}
 use Rattle.search_tree.specs.Preorder.{IsPreorder, tree_of}
 use Rattle.search_tree.specs.Laws.{IsGrown}
 use Rattle.search_tree.proofs.PassLemmas.{passes, cells_stand, aligned_start}
-use Rattle.node_looks.specs.Looks.{IsFoundAt}
+use Rattle.node_evaluation.specs.Looks.{IsFoundAt}
 use Rattle.found_networks.specs.Found.{FoundAt, networks_of, IsOfLeaf, AreApart, AreRising, IsFoundThere}
 use Rattle.rank_trees.proofs.OrderLemmas.{stands_in}
 

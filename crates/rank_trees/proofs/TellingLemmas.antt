@@ -33,8 +33,8 @@ use Rattle.search_tree.specs.Shut.{shut_leaf, shut_end, shut_cells}
 use Rattle.search_tree.proofs.PassLemmas.{passes, cells_stand, told_passes, aligned_start}
 use Rattle.search_tree.proofs.ShutLemmas.{proof_of, shut_at, shut_length, shut_linked}
 use Rattle.turn_laws.proofs.LeanLemmas.{kept_is_lean, kept_is_spent}
-use Rattle.node_looks.specs.Children.{claim_with}
-use Rattle.node_looks.specs.Looks.{KnowsCell}
+use Rattle.node_evaluation.specs.Children.{claim_with}
+use Rattle.node_evaluation.specs.Looks.{KnowsCell}
 use Rattle.abb_search.specs.declared.growing.Growing.{Growing}
 use Rattle.abb_search.specs.Growing.{IsTreeKeptFor}
 use Rattle.abb_search.specs.Found.{IsBelowLimit}

@@ -124,32 +124,32 @@ open_shut p leaf x were closed j lt = elim (cases_eq j leaf) [
     less = let e = length-set p.payloads leaf x in omega (arith, lt, e)
 
 -- ---- children in turn
-pub cells-push : (kids : List Fresh) (f : Fresh) → cells_in_turn (kids ++ f ∷ []) ≡ f.cell ∷ cells_in_turn kids
+pub cells-push : (children : List Fresh) (f : Fresh) → cells_in_turn (children ++ f ∷ []) ≡ f.cell ∷ cells_in_turn children
 cells-push [] f = refl
 cells-push (k ∷ ks) f = ap (λ (cs : List Cell). cs ++ k.cell ∷ []) (cells-push ks f)
 
-pub values-push : (kids : List Fresh) (f : Fresh) → values_in_turn (kids ++ f ∷ []) ≡ f.value ∷ values_in_turn kids
+pub values-push : (children : List Fresh) (f : Fresh) → values_in_turn (children ++ f ∷ []) ≡ f.value ∷ values_in_turn children
 values-push [] f = refl
 values-push (k ∷ ks) f = ap (λ (vs : List Mixed). vs ++ k.value ∷ []) (values-push ks f)
 
 -- what is to come finishes the pool
-pub record IsGrowing (cells : List Cell) (values : List Mixed) (leaf : ℕ) (p : Pooled Cell) (kids : List Fresh) : Type 0 where
-  pub cells_are : p.payloads ++ cells_in_turn kids ≡ cells
-  pub values_are : p.values ++ values_in_turn kids ≡ values
+pub record IsGrowing (cells : List Cell) (values : List Mixed) (leaf : ℕ) (p : Pooled Cell) (children : List Fresh) : Type 0 where
+  pub cells_are : p.payloads ++ cells_in_turn children ≡ cells
+  pub values_are : p.values ++ values_in_turn children ≡ values
   pub parent : IsShut p leaf
   pub opens : AreOpen p
-  pub room : length kids ≤ p.spare
+  pub room : length children ≤ p.spare
 
-pub grows : (cells : List Cell) (values : List Mixed) (leaf : ℕ) (p q : Pooled Cell) (kids : List Fresh) (f : Fresh) → IsGrowing cells values leaf p (kids ++ f ∷ [])
-    → q.payloads ≡ p.payloads ++ f.cell ∷ [] → q.values ≡ p.values ++ f.value ∷ [] → IsShut q leaf → AreOpen q → p.spare ≤ q.spare + 1 → IsGrowing cells values leaf q kids
-grows cells values leaf p q kids f g pc pv s now room = record {
+pub grows : (cells : List Cell) (values : List Mixed) (leaf : ℕ) (p q : Pooled Cell) (children : List Fresh) (f : Fresh) → IsGrowing cells values leaf p (children ++ f ∷ [])
+    → q.payloads ≡ p.payloads ++ f.cell ∷ [] → q.values ≡ p.values ++ f.value ∷ [] → IsShut q leaf → AreOpen q → p.spare ≤ q.spare + 1 → IsGrowing cells values leaf q children
+grows cells values leaf p q children f g pc pv s now room = record {
   cells_are =
-      ap (λ (cs : List Cell). cs ++ cells_in_turn kids) pc
-      ∙ (append_assoc p.payloads (f.cell ∷ []) (cells_in_turn kids) ∙ (sym (ap (λ (cs : List Cell). p.payloads ++ cs) (cells-push kids f)) ∙ g.cells_are));
+      ap (λ (cs : List Cell). cs ++ cells_in_turn children) pc
+      ∙ (append_assoc p.payloads (f.cell ∷ []) (cells_in_turn children) ∙ (sym (ap (λ (cs : List Cell). p.payloads ++ cs) (cells-push children f)) ∙ g.cells_are));
   values_are =
-      ap (λ (vs : List Mixed). vs ++ values_in_turn kids) pv
-      ∙ (append_assoc p.values (f.value ∷ []) (values_in_turn kids) ∙ (sym (ap (λ (vs : List Mixed). p.values ++ vs) (values-push kids f)) ∙ g.values_are));
+      ap (λ (vs : List Mixed). vs ++ values_in_turn children) pv
+      ∙ (append_assoc p.values (f.value ∷ []) (values_in_turn children) ∙ (sym (ap (λ (vs : List Mixed). p.values ++ vs) (values-push children f)) ∙ g.values_are));
   parent = s;
   opens = now;
-  room = let l = length-append kids (f ∷ []) in let r = g.room in omega (arith, l, r, room);
+  room = let l = length-append children (f ∷ []) in let r = g.room in omega (arith, l, r, room);
 }

@@ -84,17 +84,17 @@ fn mark_branch(pool: &mut Pool<Cell>, leaf: u32, end: End, first: u32)
 
 /// Branches an open leaf: gives it the end, and adds its children, the last of which stands first in the list. They begin with the
 /// node `first`. The list is empty then, and no memory is taken.
-pub fn branch(pool: &mut Pool<Cell>, leaf: u32, end: End, first: u32, kids: &mut Vec<Fresh>)
+pub fn branch(pool: &mut Pool<Cell>, leaf: u32, end: End, first: u32, children: &mut Vec<Fresh>)
     requires leaf { has pool.old.leaves leaf ≡ true }
     requires end { is_open (end_of end) ≡ false }
     requires open { AreOpen pool.old }
-    requires room { length kids.old.items ≤ pool.old.spare }
-    ensures cells { pool.new.payloads ≡ slice_set pool.old.payloads leaf (as_parent (cell_at pool.old.payloads leaf) first (end_of end)) ++ cells_in_turn kids.old.items }
-    ensures values { pool.new.values ≡ pool.old.values ++ values_in_turn kids.old.items }
+    requires room { length children.old.items ≤ pool.old.spare }
+    ensures cells { pool.new.payloads ≡ slice_set pool.old.payloads leaf (as_parent (cell_at pool.old.payloads leaf) first (end_of end)) ++ cells_in_turn children.old.items }
+    ensures values { pool.new.values ≡ pool.old.values ++ values_in_turn children.old.items }
     ensures open { AreOpen pool.new }
 {
     mark_branch(pool, leaf, end, first);
-    'kids: while let Some(fresh) = kids.pop() {
+    'children: while let Some(fresh) = children.pop() {
         add_child(pool, leaf, fresh);
     }
 }

@@ -12,7 +12,7 @@ use Rattle.branch_tree.specs.Known.{KnowsClaim, KnowsTree, KnowsTail}
 use Rattle.branch_tree.specs.Tail as tails
 use Rattle.tree_text_rules.specs.Read.{Certificate, read_text}
 use Rattle.tree_text_rules.specs.Spelling.{tree_text, tree_text_lines}
-use Rattle.node_looks.specs.Children.{claim_with}
+use Rattle.node_evaluation.specs.Children.{claim_with}
 use Rattle.abb_search.specs.declared.outcome.Found.{Found}
 use Rattle.abb_search.specs.declared.outcome.Found.TheVariants as found
 use Rattle.abb_search.specs.Found.{IsFound, IsProved}

@@ -4,7 +4,7 @@ use Rattle.problem_rules.specs.Problem.{Problem}
 use Rattle.tree_rules.specs.Claim as claims
 use Rattle.branch_tree.specs.Tail as tails
 use Rattle.tree_text_rules.specs.Read.{Certificate}
-use Rattle.node_looks.specs.Children.{claim_with}
+use Rattle.node_evaluation.specs.Children.{claim_with}
 use Rattle.abb_search.specs.declared.outcome.Found.{Found}
 use Rattle.abb_search.specs.declared.outcome.Found.TheVariants.{Solved, Infeasible, Spent, Past, Memory}
 use Rattle.searches.specs.Solve.{AreTextOf, status_of}

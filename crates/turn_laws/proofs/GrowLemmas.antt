@@ -88,10 +88,10 @@ end_same p claimed fallen old new n i f (branch w) h po pn same behind fit = rec
 }
 
 -- ---- a leaf is branched
-module _ (p : Problem) (start : Node) (claimed fallen : Option CostOver) (old kids new : List Cell) (at : ℕ) (w : Way) (linked : IsLinked old) (there : at < length old)
+module _ (p : Problem) (start : Node) (claimed fallen : Option CostOver) (old children new : List Cell) (at : ℕ) (w : Way) (linked : IsLinked old) (there : at < length old)
     (fits : Fits (shape_of p) (LeafPasses true p claimed) start old) (h : HasFallen claimed fallen) (po : IsPositiveCost claimed) (pn : IsPositiveCost fallen)
     (may : MayBranch (shape_of p) (place_of (cell_at old at)) w)
-    (children : AreChildren p fallen (place_of (cell_at old at)) w kids) (b : IsBranched old kids new at w) where
+    (are_children : AreChildren p fallen (place_of (cell_at old at)) w children) (b : IsBranched old children new at w) where
   same_base : (j : ℕ) → j < length old → IsSameBase (cell_at old j) (cell_at new j)
   same_base j lt = elim (cases_eq j at) [
     | inl e ↦ subst (λ i. IsSameBase (cell_at old i) (cell_at new i)) (sym e) (base_ended (cell_at old at) (cell_at new at) (length old) (branch w) b.key b.at_is)
@@ -104,23 +104,23 @@ module _ (p : Problem) (start : Node) (claimed fallen : Option CostOver) (old ki
   branch_fits : IsBranch (shape_of p) new (place_of (cell_at old at)) (length old) w
   branch_fits = record {
     may = may;
-    options_are = ap (λ n. map (λ j. (cell_at new j).option) (range_with_len (length old) n)) b.wide ∙ (map_list (λ j. (cell_at new j).option) kids (length old) (λ k lt. ap (λ (c : Cell). c.option) (b.kids_are k lt)) ∙ children.options_are);
-    follow = λ k lt. let less : k < length kids = let wide = b.wide in omega (arith, lt, wide) in subst (λ (c : Cell). Follows (shape_of p) (child_at (shape_of p) (place_of (cell_at old at)) w c.option) c) (sym (b.kids_are k less)) (children.each k less).follows;
+    options_are = ap (λ n. map (λ j. (cell_at new j).option) (range_with_len (length old) n)) b.wide ∙ (map_list (λ j. (cell_at new j).option) children (length old) (λ k lt. ap (λ (c : Cell). c.option) (b.children_are k lt)) ∙ are_children.options_are);
+    follow = λ k lt. let less : k < length children = let wide = b.wide in omega (arith, lt, wide) in subst (λ (c : Cell). Follows (shape_of p) (child_at (shape_of p) (place_of (cell_at old at)) w c.option) c) (sym (b.children_are k less)) (are_children.each k less).follows;
   }
 
-  kid_fits : (c : Cell) → IsFreshChild p fallen (place_of (cell_at old at)) w c → EndFitsNew c
-  kid_fits c f = subst (λ (e : End Leaf). EndFits (shape_of p) (LeafPasses true p fallen) new (place_of c) c.first e) (sym f.end_is) f.passes
+  child_fits : (c : Cell) → IsFreshChild p fallen (place_of (cell_at old at)) w c → EndFitsNew c
+  child_fits c f = subst (λ (e : End Leaf). EndFits (shape_of p) (LeafPasses true p fallen) new (place_of c) c.first e) (sym f.end_is) f.passes
 
   pub branched_fits : Fits (shape_of p) (LeafPasses true p fallen) start new
   branched_fits = record {
     no_option = (same_base 0 linked.some).option_is ∙ fits.no_option;
     root = follows_same (shape_of p) start (cell_at old 0) (cell_at new 0) (same_base 0 linked.some) fits.root;
-    ends = λ j lt. elim (where_is old kids new at w b j lt) [
+    ends = λ j lt. elim (where_is old children new at w b j lt) [
       | inl e ↦ subst (λ i. EndFitsNew (cell_at new i)) (sym e) (subst (λ (c : Cell). EndFitsNew c) (sym b.at_is) branch_fits)
       | inr other ↦ elim other [
         | inl o ↦ subst (λ (c : Cell). EndFitsNew c) (sym (b.others j o.0 o.1))
             (end_same p claimed fallen old new (place_of (cell_at old j)) j (cell_at old j).first (cell_at old j).end h po pn same_base (linked.behind j o.0) (fits.ends j o.0))
-        | inr kid ↦ subst (λ (c : Cell). EndFitsNew c) (sym (ap (λ i. cell_at new i) kid.2 ∙ b.kids_are kid.0 kid.1)) (kid_fits (cell_at kids kid.0) (children.each kid.0 kid.1))
+        | inr child ↦ subst (λ (c : Cell). EndFitsNew c) (sym (ap (λ i. cell_at new i) child.2 ∙ b.children_are child.0 child.1)) (child_fits (cell_at children child.0) (are_children.each child.0 child.1))
       ]
     ];
   }

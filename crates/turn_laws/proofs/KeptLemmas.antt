@@ -56,20 +56,20 @@ some_options g n (at_material x c) d = d
 some_options g n (either u) d = omega arith
 
 -- ---- a leaf is branched
-module _ (p : Problem) (valid : IsValid p) (start : Node) (claim new_claim : Claim) (undercut new_undercut last : Option CostOver) (v : CostOver) (old kids new : List Cell) (at : ℕ) (w : Way)
+module _ (p : Problem) (valid : IsValid p) (start : Node) (claim new_claim : Claim) (undercut new_undercut last : Option CostOver) (v : CostOver) (old children new : List Cell) (at : ℕ) (w : Way)
     (kept : IsKeptFor p start claim undercut last old) (can : CanBranch p old at w v) (least : IsLeastOpen p old at v)
     (fallen : HasFallen (claimed_cost claim) (claimed_cost new_claim)) (positive : IsPositiveCost (claimed_cost new_claim)) (undercut_positive : IsPositiveCost new_undercut) (below : LastIsBelow (Some v) new_undercut)
-    (children : AreChildren p (claimed_cost new_claim) (place_of (cell_at old at)) w kids) (b : IsBranched old kids new at w) where
+    (are_children : AreChildren p (claimed_cost new_claim) (place_of (cell_at old at)) w children) (b : IsBranched old children new at w) where
   abbrev here : Node
   here = place_of (cell_at old at)
 
   splits : 2 ≤ length (options_at (shape_of p) (place_of (cell_at old at)) w)
   splits = some_options (shape_of p) (place_of (cell_at old at)) w can.splits
 
-  some_kids : 0 < length kids
-  some_kids =
-      let a : length (map (λ (c : Cell). c.option) kids) ≡ length kids = length-map kids (λ (c : Cell). c.option) in
-      let e = ap (λ os. length os) children.options_are in
+  some_children : 0 < length children
+  some_children =
+      let a : length (map (λ (c : Cell). c.option) children) ≡ length children = length-map children (λ (c : Cell). c.option) in
+      let e = ap (λ os. length os) are_children.options_are in
       let s = splits in
       omega (arith, a, e, s)
 
@@ -98,43 +98,43 @@ module _ (p : Problem) (valid : IsValid p) (start : Node) (claim new_claim : Cla
   other_end n (leaf l) k h = other_leaf n l (λ e. h (ap (λ (w : Leaf). leaf w) e))
 
   -- a child is no cheaper than the leaf
-  kid_under : (k : ℕ) → k < length kids → IsNever (IsDead (shape_of p) (place_of (cell_at kids k))) → IsUnder p v (place_of (cell_at kids k))
-  kid_under k lt no_dead =
+  child_under : (k : ℕ) → k < length children → IsNever (IsDead (shape_of p) (place_of (cell_at children k))) → IsUnder p v (place_of (cell_at children k))
+  child_under k lt no_dead =
       let g : Shape = shape_of p in
-      let c = cell_at kids k in
-      let f = children.each k lt in
+      let c = cell_at children k in
+      let f = are_children.each k lt in
       let apart = (kept.sound at can.there).apart in
-      let option : IsIn c.option (options_at g (place_of (cell_at old at)) w) = subst (λ os. IsIn c.option os) children.options_are (in_options kids k lt) in
+      let option : IsIn c.option (options_at g (place_of (cell_at old at)) w) = subst (λ os. IsIn c.option os) are_children.options_are (in_options children k lt) in
       let dead_there : IsNever (IsDead g (after_all g (child_at g (place_of (cell_at old at)) w c.option) c.steps)) = subst (λ (m : Node). IsNever (IsDead g m)) (sym f.follows.leave) no_dead in
       subst (λ (m : Node). IsUnder p v m) f.follows.leave
       (under_dearer p (place_of (cell_at old at)) (after_all g (child_at g (place_of (cell_at old at)) w c.option) c.steps) v can.value.positive can.value.under
       (ways_are_dearer p valid (place_of (cell_at old at)) w c.option c.steps apart can.may option f.follows.pass dead_there))
 
-  kid_end : (k : ℕ) → k < length kids → EndIsKept p (Some v) (place_of (cell_at kids k)) (cell_at kids k).end
-  kid_end k lt =
-      let f = children.each k lt in
-      subst (λ (e : End Leaf). EndIsKept p (Some v) (place_of (cell_at kids k)) e) (sym f.end_is) (other_leaf (place_of (cell_at kids k)) f.what (λ e no_dead. kid_under k lt no_dead))
+  child_end : (k : ℕ) → k < length children → EndIsKept p (Some v) (place_of (cell_at children k)) (cell_at children k).end
+  child_end k lt =
+      let f = are_children.each k lt in
+      subst (λ (e : End Leaf). EndIsKept p (Some v) (place_of (cell_at children k)) e) (sym f.end_is) (other_leaf (place_of (cell_at children k)) f.what (λ e no_dead. child_under k lt no_dead))
 
   pub branching_is_kept : IsKeptFor p start new_claim new_undercut (Some v) new
   branching_is_kept = record {
     grown = record {
-      linked = branched_linked old kids new at w b kept.grown.linked can.there can.is_open some_kids (λ k lt. let f = children.each k lt in (f.what, f.end_is));
+      linked = branched_linked old children new at w b kept.grown.linked can.there can.is_open some_children (λ k lt. let f = are_children.each k lt in (f.what, f.end_is));
       fits =
-          branched_fits p start (claimed_cost claim) (claimed_cost new_claim) old kids new at w kept.grown.linked can.there kept.grown.fits fallen kept.claim_positive positive can.may children b;
+          branched_fits p start (claimed_cost claim) (claimed_cost new_claim) old children new at w kept.grown.linked can.there kept.grown.fits fallen kept.claim_positive positive can.may are_children b;
     };
-    sound = λ j lt. elim (where_is old kids new at w b j lt) [
+    sound = λ j lt. elim (where_is old children new at w b j lt) [
       | inl e ↦ subst (λ i. IsSound (shape_of p) (place_of (cell_at new i))) (sym e) (subst (λ (c : Cell). IsSound (shape_of p) (place_of c)) (sym b.at_is) (kept.sound at can.there))
       | inr other ↦ elim other [
         | inl o ↦ subst (λ (c : Cell). IsSound (shape_of p) (place_of c)) (sym (b.others j o.0 o.1)) (kept.sound j o.0)
-        | inr kid ↦ subst (λ (c : Cell). IsSound (shape_of p) (place_of c)) (sym (ap (λ i. cell_at new i) kid.2 ∙ b.kids_are kid.0 kid.1)) (children.each kid.0 kid.1).sound
+        | inr child ↦ subst (λ (c : Cell). IsSound (shape_of p) (place_of c)) (sym (ap (λ i. cell_at new i) child.2 ∙ b.children_are child.0 child.1)) (are_children.each child.0 child.1).sound
       ]
     ];
-    ends = λ j lt. elim (where_is old kids new at w b j lt) [
+    ends = λ j lt. elim (where_is old children new at w b j lt) [
       | inl e ↦ subst (λ i. EndIsKept p (Some v) (place_of (cell_at new i)) (cell_at new i).end) (sym e)
           (subst (λ (c : Cell). EndIsKept p (Some v) (place_of c) c.end) (sym b.at_is) (record { reduced = can.reduced; splits = can.splits; reached = can.value.reached }))
       | inr other ↦ elim other [
         | inl o ↦ subst (λ (c : Cell). EndIsKept p (Some v) (place_of c) c.end) (sym (b.others j o.0 o.1)) (other_end (place_of (cell_at old j)) (cell_at old j).end (kept.ends j o.0) (least j o.0 o.1))
-        | inr kid ↦ subst (λ (c : Cell). EndIsKept p (Some v) (place_of c) c.end) (sym (ap (λ i. cell_at new i) kid.2 ∙ b.kids_are kid.0 kid.1)) (kid_end kid.0 kid.1)
+        | inr child ↦ subst (λ (c : Cell). EndIsKept p (Some v) (place_of c) c.end) (sym (ap (λ i. cell_at new i) child.2 ∙ b.children_are child.0 child.1)) (child_end child.0 child.1)
       ]
     ];
     last_positive = can.value.positive;

@@ -55,13 +55,13 @@ leaf_below : (f : ℕ) (e : End Leaf) (l : Leaf) → e ≡ leaf l → numbers_be
 leaf_below f e l h = ap (λ (w : End Leaf). numbers_below f w) h
 
 -- ---- a leaf is branched
-module _ (old kids new : List Cell) (at : ℕ) (w : Way) (b : IsBranched old kids new at w) where
+module _ (old children new : List Cell) (at : ℕ) (w : Way) (b : IsBranched old children new at w) where
   -- where a number stands: at the leaf, among the other cells, or among the children
 
-  abbrev pub IsKid : ℕ → Type 0
-  IsKid j = (k : ℕ) × (k < length kids) × (j ≡ length old + k)
+  abbrev pub IsFreshAt : ℕ → Type 0
+  IsFreshAt j = (k : ℕ) × (k < length children) × (j ≡ length old + k)
 
-  pub where_is : (j : ℕ) → j < length new → (j ≡ at) ⊎ (((j < length old) × (j ≡ at → ⊥)) ⊎ IsKid j)
+  pub where_is : (j : ℕ) → j < length new → (j ≡ at) ⊎ (((j < length old) × (j ≡ at → ⊥)) ⊎ IsFreshAt j)
   where_is j lt = elim (cases_eq j at) [
     | inl e ↦ inl e
     | inr ne ↦ elim (cases_lt j (length old)) [
@@ -70,10 +70,10 @@ module _ (old kids new : List Cell) (at : ℕ) (w : Way) (b : IsBranched old kid
     ]
   ]
 
-  module _ (linked : IsLinked old) (there : at < length old) (is_open : (cell_at old at).end ≡ leaf untried) (some : 0 < length kids)
-      (leaves : (k : ℕ) → k < length kids → (l : Leaf) × ((cell_at kids k).end ≡ leaf l)) where
-    kid_is : (j : ℕ) (k : ℕ) → k < length kids → j ≡ length old + k → cell_at new j ≡ cell_at kids k
-    kid_is j k lt e = ap (λ i. cell_at new i) e ∙ b.kids_are k lt
+  module _ (linked : IsLinked old) (there : at < length old) (is_open : (cell_at old at).end ≡ leaf untried) (some : 0 < length children)
+      (leaves : (k : ℕ) → k < length children → (l : Leaf) × ((cell_at children k).end ≡ leaf l)) where
+    child_is : (j : ℕ) (k : ℕ) → k < length children → j ≡ length old + k → cell_at new j ≡ cell_at children k
+    child_is j k lt e = ap (λ i. cell_at new i) e ∙ b.children_are k lt
 
     behind : (j : ℕ) → j < length new → AreBehind (length new) j (cell_at new j).first (cell_at new j).end
     behind j lt = elim (where_is j lt) [
@@ -82,21 +82,21 @@ module _ (old kids new : List Cell) (at : ℕ) (w : Way) (b : IsBranched old kid
       | inr other ↦ elim other [
         | inl o ↦ subst (λ (c : Cell). AreBehind (length new) j c.first c.end) (sym (b.others j o.0 o.1))
             (behind_more (length old) (length new) j (cell_at old j).first (cell_at old j).end (let l = b.len in omega (arith, l)) (linked.behind j o.0))
-        | inr kid ↦ subst (λ (c : Cell). AreBehind (length new) j c.first c.end) (sym (kid_is j kid.0 kid.1 kid.2))
-            (let l = leaves kid.0 kid.1 in leaf_behind (length new) j (cell_at kids kid.0).first (cell_at kids kid.0).end l.0 l.1)
+        | inr child ↦ subst (λ (c : Cell). AreBehind (length new) j c.first c.end) (sym (child_is j child.0 child.1 child.2))
+            (let l = leaves child.0 child.1 in leaf_behind (length new) j (cell_at children child.0).first (cell_at children child.0).end l.0 l.1)
       ]
     ]
 
     children_same : (v : ℕ) → v < length old → (v ≡ at → ⊥) → children_at new v ≡ children_at old v
     children_same v lt ne = ap (λ (c : Cell). numbers_below c.first c.end) (b.others v lt ne)
 
-    children_here : children_at new at ≡ range_with_len (length old) (length kids)
+    children_here : children_at new at ≡ range_with_len (length old) (length children)
     children_here = ap (λ (c : Cell). numbers_below c.first c.end) b.at_is ∙ ap (λ n. range_with_len (length old) n) b.wide
 
-    no_children : (v : ℕ) → (kid : IsKid v) → children_at new v ≡ []
-    no_children v kid =
-        let l = leaves kid.0 kid.1 in
-        ap (λ (c : Cell). numbers_below c.first c.end) (kid_is v kid.0 kid.1 kid.2) ∙ leaf_below (cell_at kids kid.0).first (cell_at kids kid.0).end l.0 l.1
+    no_children : (v : ℕ) → (child : IsFreshAt v) → children_at new v ≡ []
+    no_children v child =
+        let l = leaves child.0 child.1 in
+        ap (λ (c : Cell). numbers_below c.first c.end) (child_is v child.0 child.1 child.2) ∙ leaf_below (cell_at children child.0).first (cell_at children child.0).end l.0 l.1
 
     apart : (v q : ℕ) → (v ≡ q → ⊥) → one_if (v == q) ≡ 0
     apart v q ne = ap one_if (ne_eqb v q ne)
@@ -105,29 +105,29 @@ module _ (old kids new : List Cell) (at : ℕ) (w : Way) (b : IsBranched old kid
     old_parent : (j q : ℕ) → j < length old → IsParentOf old q j → IsParentOf new q j
     old_parent j q lt parent = record { before = parent.before; once = λ v less. at_cell v (where_is v less) }
       where
-        at_cell : (v : ℕ) → (v ≡ at) ⊎ (((v < length old) × (v ≡ at → ⊥)) ⊎ IsKid v) → times j (children_at new v) ≡ one_if (v == q)
+        at_cell : (v : ℕ) → (v ≡ at) ⊎ (((v < length old) × (v ≡ at → ⊥)) ⊎ IsFreshAt v) → times j (children_at new v) ≡ one_if (v == q)
         at_cell v (inl e) =
             let was : times j (children_at old at) ≡ one_if (at == q) = parent.once at there in
             let none : times j (children_at old at) ≡ 0 = ap (times j) (leaf_below (cell_at old at).first (cell_at old at).end untried is_open) in
-            let now : times j (children_at new at) ≡ 0 = ap (times j) children_here ∙ not_below j (length old) (length kids) lt in
+            let now : times j (children_at new at) ≡ 0 = ap (times j) children_here ∙ not_below j (length old) (length children) lt in
             subst (λ i. times j (children_at new i) ≡ one_if (i == q)) (sym e) (now ∙ (sym none ∙ was))
         at_cell v (inr (inl o)) = ap (times j) (children_same v o.0 o.1) ∙ parent.once v o.0
-        at_cell v (inr (inr kid)) =
-            ap (times j) (no_children v kid) ∙ sym (apart v q (λ e. let a = parent.before in let c = kid.2 in omega (arith, a, c, e, lt)))
+        at_cell v (inr (inr child)) =
+            ap (times j) (no_children v child) ∙ sym (apart v q (λ e. let a = parent.before in let c = child.2 in omega (arith, a, c, e, lt)))
 
     -- a child has the leaf as its parent
     new_parent : (j : ℕ) → length old ≤ j → j < length new → IsParentOf new at j
     new_parent j le lt = record { before = omega (arith, there, le); once = λ v less. at_cell v (where_is v less) }
       where
-        at_cell : (v : ℕ) → (v ≡ at) ⊎ (((v < length old) × (v ≡ at → ⊥)) ⊎ IsKid v) → times j (children_at new v) ≡ one_if (v == at)
+        at_cell : (v : ℕ) → (v ≡ at) ⊎ (((v < length old) × (v ≡ at → ⊥)) ⊎ IsFreshAt v) → times j (children_at new v) ≡ one_if (v == at)
         at_cell v (inl e) =
-            let now : times j (children_at new at) ≡ 1 = ap (times j) children_here ∙ once_within j (length old) (length kids) le (let l = b.len in omega (arith, l, lt)) in
+            let now : times j (children_at new at) ≡ 1 = ap (times j) children_here ∙ once_within j (length old) (length children) le (let l = b.len in omega (arith, l, lt)) in
             let same : one_if (at == at) ≡ 1 = ap one_if (eq-eqb at at refl) in
             subst (λ i. times j (children_at new i) ≡ one_if (i == at)) (sym e) (now ∙ sym same)
         at_cell v (inr (inl o)) =
             ap (times j) (children_same v o.0 o.1) ∙ (none_past (length old) v (cell_at old v).first j (cell_at old v).end (linked.behind v o.0) le ∙ sym (apart v at o.1))
-        at_cell v (inr (inr kid)) =
-            ap (times j) (no_children v kid) ∙ sym (apart v at (λ e. let c = kid.2 in omega (arith, there, c, e)))
+        at_cell v (inr (inr child)) =
+            ap (times j) (no_children v child) ∙ sym (apart v at (λ e. let c = child.2 in omega (arith, there, c, e)))
 
     pub branched_linked : IsLinked new
     branched_linked = record {

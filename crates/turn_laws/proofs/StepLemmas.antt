@@ -7,7 +7,7 @@ use Rattle.search_tree.specs.Cells.{Cell, no_cell, cell_at}
 use Rattle.search_tree.specs.Growth.{as_parent}
 use Rattle.turn_laws.specs.Turns.{IsBranched}
 
-module _ (old kids : List Cell) (at : ℕ) (w : Way) (there : at < length old) (wide : width w ≡ length kids) where
+module _ (old children : List Cell) (at : ℕ) (w : Way) (there : at < length old) (wide : width w ≡ length children) where
   abbrev now : Cell
   now = as_parent (cell_at old at) (length old) (branch w)
 
@@ -17,12 +17,12 @@ module _ (old kids : List Cell) (at : ℕ) (w : Way) (there : at < length old) (
   same_length : length marked ≡ length old
   same_length = length-set old at now
 
-  pub growth_branches : IsBranched old kids (marked ++ kids) at w
+  pub growth_branches : IsBranched old children (marked ++ children) at w
   growth_branches = record {
     wide = wide;
-    len = length-append marked kids ∙ ap (λ n. n + length kids) same_length;
-    others = λ j lt ne. get_or_append_left marked kids no_cell j (let l = same_length in omega (arith, lt, l)) ∙ get_or-set_other old at j now no_cell ne;
+    len = length-append marked children ∙ ap (λ n. n + length children) same_length;
+    others = λ j lt ne. get_or_append_left marked children no_cell j (let l = same_length in omega (arith, lt, l)) ∙ get_or-set_other old at j now no_cell ne;
     key = (cell_at old at).key;
-    at_is = get_or_append_left marked kids no_cell at (let l = same_length in omega (arith, there, l)) ∙ get_or-set_same old at now no_cell there;
-    kids_are = λ k lt. ap (λ n. cell_at (marked ++ kids) (n + k)) (sym same_length) ∙ get_or-append-add marked kids k no_cell;
+    at_is = get_or_append_left marked children no_cell at (let l = same_length in omega (arith, there, l)) ∙ get_or-set_same old at now no_cell there;
+    children_are = λ k lt. ap (λ n. cell_at (marked ++ children) (n + k)) (sym same_length) ∙ get_or-append-add marked children k no_cell;
   }

@@ -28,10 +28,10 @@ use Rattle.turn_laws.specs.Turns.{CanBranch, IsLeastOpen, AreChildren, IsBranche
 -- an open leaf of least value is branched, where its value is at most what is to be undercut then
 abbrev pub BranchingIsKept : Type 0
 BranchingIsKept =
-    (p : Problem) → IsValid p → (start : Node) (claim new_claim : Claim) (undercut new_undercut last : Option CostOver) (v : CostOver) (old kids new : List Cell) (at : ℕ) (w : Way)
+    (p : Problem) → IsValid p → (start : Node) (claim new_claim : Claim) (undercut new_undercut last : Option CostOver) (v : CostOver) (old children new : List Cell) (at : ℕ) (w : Way)
     → IsKeptFor p start claim undercut last old → CanBranch p old at w v → IsLeastOpen p old at v
     → HasFallen (claimed_cost claim) (claimed_cost new_claim) → IsPositiveCost (claimed_cost new_claim) → IsPositiveCost new_undercut → LastIsBelow (Some v) new_undercut
-    → AreChildren p (claimed_cost new_claim) (place_of (cell_at old at)) w kids → IsBranched old kids new at w → IsKeptFor p start new_claim new_undercut (Some v) new
+    → AreChildren p (claimed_cost new_claim) (place_of (cell_at old at)) w children → IsBranched old children new at w → IsKeptFor p start new_claim new_undercut (Some v) new
 
 -- open leaves are shut
 abbrev pub ShuttingIsKept : Type 0
@@ -43,8 +43,8 @@ ShuttingIsKept =
 
 abbrev pub GrowthBranches : Type 0
 GrowthBranches =
-    (old kids : List Cell) (at : ℕ) (w : Way) → at < length old → width w ≡ length kids
-    → IsBranched old kids (slice_set old at (as_parent (cell_at old at) (length old) (branch w)) ++ kids) at w
+    (old children : List Cell) (at : ℕ) (w : Way) → at < length old → width w ≡ length children
+    → IsBranched old children (slice_set old at (as_parent (cell_at old at) (length old) (branch w)) ++ children) at w
 
 -- a network of a node that has no relaxed flows cheaper than v costs at least v
 abbrev pub NetworksCostMore : Type 0

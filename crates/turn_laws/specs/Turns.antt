@@ -38,22 +38,22 @@ pub record IsFreshChild (p : Problem) (claimed : Option CostOver) (n : Node) (w 
   pub passes : LeafPasses true p claimed (place_of c) what
 
 -- the children have all options of the way, in order
-pub record AreChildren (p : Problem) (claimed : Option CostOver) (n : Node) (w : Way) (kids : List Cell) : Type 0 where
-  pub options_are : map (λ (c : Cell). c.option) kids ≡ options_at (shape_of p) n w
-  pub each : (k : ℕ) → k < length kids → IsFreshChild p claimed n w (cell_at kids k)
+pub record AreChildren (p : Problem) (claimed : Option CostOver) (n : Node) (w : Way) (children : List Cell) : Type 0 where
+  pub options_are : map (λ (c : Cell). c.option) children ≡ options_at (shape_of p) n w
+  pub each : (k : ℕ) → k < length children → IsFreshChild p claimed n w (cell_at children k)
 
 -- the cell with another first child, end and key
 abbrev pub with_end : Cell → ℕ → End Leaf → ℕ → Cell
 with_end c first end key = record { option = c.option; steps = c.steps; node = c.node; first = first; end = end; key = key }
 
 -- the children, as many as the way has, stand behind the other cells, and the leaf is a branch
-pub record IsBranched (old kids new : List Cell) (at : ℕ) (w : Way) : Type 0 where
-  pub wide : width w ≡ length kids
-  pub len : length new ≡ length old + length kids
+pub record IsBranched (old children new : List Cell) (at : ℕ) (w : Way) : Type 0 where
+  pub wide : width w ≡ length children
+  pub len : length new ≡ length old + length children
   pub others : (j : ℕ) → j < length old → (j ≡ at → ⊥) → cell_at new j ≡ cell_at old j
   pub key : ℕ
   pub at_is : cell_at new at ≡ with_end (cell_at old at) (length old) (branch w) key
-  pub kids_are : (k : ℕ) → k < length kids → cell_at new (length old + k) ≡ cell_at kids k
+  pub children_are : (k : ℕ) → k < length children → cell_at new (length old + k) ≡ cell_at children k
 
 -- ---- open leaves are shut
 

@@ -1,5 +1,5 @@
 use Rattle.std.proofs.Common.{sym, ◌∙◌, arith}
-use Rattle.node_looks.specs.Evaluated.{cost_in}
+use Rattle.node_evaluation.specs.Evaluated.{cost_in}
 use Rattle.abb_search.proofs.ClosingLemmas.{shut_ok, shut_err, below_first, below_next}
 use Rattle.abb_search.proofs.closing.close_all.Goals as goal
 
@@ -11,7 +11,7 @@ proof_at-requires-clause-leaf g c = let t = c.leaves-test.true in let n = c.requ
 
 pub returns-in-Err : goal.returns-in-Err
 returns-in-Err g c =
-    shut_err g.E.Evaluator.past c.args.problem.now c.args.growing.now (cost_in c.args.network.now) c.leaves.leaf c.in_ok-proof.proof c.in-Err.halt c.in_ok-proof.ensures (sym c.scaled_in.ensures ∙ c.in-Err.is)
+    shut_err g.E.Evaluator.past c.args.problem.now c.args.growing.now (cost_in c.args.network.now) c.leaves.leaf c.in_ok-proof.proof c.in-Err.stop c.in_ok-proof.ensures (sym c.scaled_in.ensures ∙ c.in-Err.is)
 
 pub leaves-preserved : goal.leaves-preserved
 leaves-preserved g c =

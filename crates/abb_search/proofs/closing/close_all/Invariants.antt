@@ -1,4 +1,4 @@
-use Rattle.node_looks.specs.Evaluated.{cost_in}
+use Rattle.node_evaluation.specs.Evaluated.{cost_in}
 use Rattle.abb_search.proofs.ClosingLemmas.{AreShutBelow}
 use Rattle.abb_search.proofs.closing.close_all.Given as goal
 

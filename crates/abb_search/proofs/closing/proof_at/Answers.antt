@@ -4,7 +4,7 @@ use Rattle.pns_rules.specs.Shape.{shape_of}
 use Rattle.pns_rules.specs.Ends.{IsSound, IsReduced}
 use Rattle.pgraph.specs.View.{node_of}
 use Rattle.unit_sets.specs.declared.node.Node.{Node}
-use Rattle.node_looks.specs.Evaluated.{cost_in, IsBoundOf, IsProof}
+use Rattle.node_evaluation.specs.Evaluated.{cost_in, IsBoundOf, IsProof}
 use Rattle.abb_search.proofs.ClosingLemmas.{hand_none, hand_some, shut_by}
 use Rattle.abb_search.proofs.closing.proof_at.Goals as goal
 

@@ -2,7 +2,7 @@ use Rattle.std.proofs.Common.{ℤ, IfOk, sym, subst, rules, SFits}
 use Rattle.std.specs.Int.{w128}
 use Rattle.std.proofs.lemmas.Int.{to_z-of_z}
 use Rattle.pgraph.specs.View.{node_of}
-use Rattle.node_looks.specs.Evaluated.{IsWorth, IsProof}
+use Rattle.node_evaluation.specs.Evaluated.{IsWorth, IsProof}
 use Rattle.abb_search.proofs.closing.proved_by.Goals as goal
 
 pub prove-requires-clause-worth : goal.prove-requires-clause-worth

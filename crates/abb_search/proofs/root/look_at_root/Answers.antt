@@ -3,9 +3,9 @@ use Rattle.unit_sets.specs.declared.node.Node as starts
 use Rattle.pgraph.specs.View.{node_of}
 use Rattle.tree_rules.specs.Claim as claims
 use Rattle.search_tree.specs.Cells.{Cell}
-use Rattle.node_looks.specs.Looks.{IsLooked}
-use Rattle.node_looks.specs.Children.{AreSolvedBy}
-use Rattle.node_looks.proofs.SolvedLemmas.{solved_by}
+use Rattle.node_evaluation.specs.Looks.{IsLooked}
+use Rattle.node_evaluation.specs.Children.{AreSolvedBy}
+use Rattle.node_evaluation.proofs.SolvedLemmas.{solved_by}
 use Rattle.abb_search.proofs.HandLemmas.{solved_one}
 use Rattle.abb_search.proofs.RootLemmas.{best_is_found}
 use Rattle.abb_search.proofs.root.look_at_root.Goals as goal
@@ -29,7 +29,7 @@ returns-clause-root g c =
       fallen = c.cheaper.ensures.old;
       fallen_found = c.cheaper.ensures.found;
       some_best = c.cheaper.ensures.some;
-      halt_is = c.root_halt.ensures;
+      stop_is = c.root_stop.ensures;
       are_open = c.in_ok-pool.ensures.open;
     }
 

@@ -3,12 +3,12 @@ use Rattle.tree_rules.specs.Claim as claims
 use Rattle.search_tree.specs.Preorder.{IsTreeOf}
 use Rattle.search_tree.specs.Shut.{shut_cells}
 use Rattle.tree_rules.specs.Claim.{claimed_cost}
-use Rattle.node_looks.specs.Children.{claim_with}
-use Rattle.node_looks.specs.Evaluated.{cost_in}
+use Rattle.node_evaluation.specs.Children.{claim_with}
+use Rattle.node_evaluation.specs.Evaluated.{cost_in}
 use Rattle.abb_search.specs.declared.outcome.Found.{Found}
 use Rattle.abb_search.specs.declared.outcome.Found.TheVariants as found
 use Rattle.abb_search.specs.declared.growing.Growing.{Growing}
-use Rattle.abb_search.specs.Growing.{IsHaltedAt}
+use Rattle.abb_search.specs.Growing.{IsStoppedAt}
 use Rattle.abb_search.specs.Closing.{AreBeaten, ShutAll}
 use Rattle.abb_search.specs.Found.{found_with}
 use Rattle.abb_search.specs.Answers.{past_with, IsEnd, StepHolds}
@@ -31,7 +31,7 @@ returns-in_ok-whole-in-Proved-clause-holds g c =
     let p = c.args.problem.now in
     let s = c.args.growing.now in
     let t = c.requires.growing.tree in
-    let new : Growing = record { start = s.start; budget = s.budget; nodes = s.nodes; pool = s.pool; ready = s.ready; best = c.take.new.self; halt = s.halt } in
+    let new : Growing = record { start = s.start; budget = s.budget; nodes = s.nodes; pool = s.pool; ready = s.ready; best = c.take.new.self; stop = s.stop } in
     let w = c.in_ok-whole-in-Proved.whole in
     let ms = c.in-Proved.proofs.items in
     let all : ShutAll p s (cost_in c.in-Some.network) ms = rw c.in-Proved.is at c.in_ok-proofs.ensures in
@@ -44,23 +44,23 @@ returns-in_ok-whole-in-Proved-clause-holds g c =
 
 pub tree_with-requires-clause-leaf : goal.tree_with-requires-clause-leaf
 tree_with-requires-clause-leaf g c =
-    let at : IsHaltedAt g.E.Evaluator.past c.args.problem.now c.args.growing.now c.in-Halted.halted.leaf c.in-Halted.halted.halt = rw c.in-Halted.is at c.in_ok-proofs.ensures in
+    let at : IsStoppedAt g.E.Evaluator.past c.args.problem.now c.args.growing.now c.in-Stopped.stopped.leaf c.in-Stopped.stopped.stop = rw c.in-Stopped.is at c.in_ok-proofs.ensures in
     at.there
 
-pub returns-in_ok-stopped-in-Halted-clause-holds : goal.returns-in_ok-stopped-in-Halted-clause-holds
-returns-in_ok-stopped-in-Halted-clause-holds g c =
+pub returns-in_ok-placed-in-Stopped-clause-holds : goal.returns-in_ok-placed-in-Stopped-clause-holds
+returns-in_ok-placed-in-Stopped-clause-holds g c =
     let p = c.args.problem.now in
     let s = c.args.growing.now in
-    let w = c.in_ok-stopped-in-Halted.stopped in
-    let h = c.in-Halted.halted in
-    let at : IsHaltedAt g.E.Evaluator.past p s h.leaf h.halt = rw c.in-Halted.is at c.in_ok-proofs.ensures in
-    let new : Growing = record { start = s.start; budget = s.budget; nodes = s.nodes; pool = s.pool; ready = s.ready; best = c.take-in-Halted.new.self; halt = s.halt } in
+    let w = c.in_ok-placed-in-Stopped.placed in
+    let h = c.in-Stopped.stopped in
+    let at : IsStoppedAt g.E.Evaluator.past p s h.leaf h.stop = rw c.in-Stopped.is at c.in_ok-proofs.ensures in
+    let new : Growing = record { start = s.start; budget = s.budget; nodes = s.nodes; pool = s.pool; ready = s.ready; best = c.take-in-Stopped.new.self; stop = s.stop } in
     let e : c.past_found.result ≡ past_with s.best (Some h) w.tree w.place
-    = c.past_found.ensures ∙ ap (λ (b : Option claims.Network). past_with b (Some h) w.tree w.place) c.take-in-Halted.ensures.value in
+    = c.past_found.ensures ∙ ap (λ (b : Option claims.Network). past_with b (Some h) w.tree w.place) c.take-in-Stopped.ensures.value in
     subst (λ (f : Option Found). StepHolds g.E.Evaluator.past p s new f) (sym e)
-    (ends_with g.E.Evaluator.past p s new (found.Past s.best w.tree w.place h.halt.nonbasic h.halt.place) c.requires.growing.tree
-    (past_found p s c.requires.growing.tree h.leaf w.place w.tree c.in_ok-stopped-in-Halted.ensures.tree c.in_ok-stopped-in-Halted.ensures.sized g.E.Evaluator.past h.halt s.start refl at)
-    (λ (q : found.Past s.best w.tree w.place h.halt.nonbasic h.halt.place ≡ found.Memory). cc) refl refl refl refl refl)
+    (ends_with g.E.Evaluator.past p s new (found.Past s.best w.tree w.place h.stop.nonbasic h.stop.place) c.requires.growing.tree
+    (past_found p s c.requires.growing.tree h.leaf w.place w.tree c.in_ok-placed-in-Stopped.ensures.tree c.in_ok-placed-in-Stopped.ensures.sized g.E.Evaluator.past h.stop s.start refl at)
+    (λ (q : found.Past s.best w.tree w.place h.stop.nonbasic h.stop.place ≡ found.Memory). cc) refl refl refl refl refl)
 
 pub close_all-requires-clause-growing : goal.close_all-requires-clause-growing
 close_all-requires-clause-growing g c = (claimed_cost (claim_with c.args.growing.now.best), c.requires.growing)

@@ -23,7 +23,7 @@ returns-in_default-clause-holds g c =
     let p = c.args.problem.now in
     let s = c.args.growing.now in
     let t = c.requires.growing.tree in
-    let new : Growing = record { start = s.start; budget = s.budget; nodes = s.nodes; pool = s.pool; ready = s.ready; best = c.take.new.self; halt = s.halt } in
+    let new : Growing = record { start = s.start; budget = s.budget; nodes = s.nodes; pool = s.pool; ready = s.ready; best = c.take.new.self; stop = s.stop } in
     let w = c.in_ok-whole.whole in
     let e : c.whole_found.result ≡ found_with s.best w.tree = c.whole_found.ensures ∙ ap (λ (b : Option claims.Network). found_with b w.tree) c.take.ensures.value in
     subst (λ (f : Found). IsEnd g.E.Evaluator.past p s new f) (sym e)
@@ -43,8 +43,8 @@ returns-then-is_over-clause-holds g c =
     let s = c.args.growing.now in
     let t = c.requires.growing.tree in
     let m = c.choice_at-choice.result in
-    let new : Growing = record { start = s.start; budget = s.budget; nodes = s.nodes; pool = s.pool; ready = s.ready; best = c.take-then-is_over.new.self; halt = s.halt } in
-    let w = c.in_ok-stopped.stopped in
+    let new : Growing = record { start = s.start; budget = s.budget; nodes = s.nodes; pool = s.pool; ready = s.ready; best = c.take-then-is_over.new.self; stop = s.stop } in
+    let w = c.in_ok-placed.placed in
     let hd = hand c.args.problem.now c.is_valid.ensures.valid c.args.growing.now c.requires.growing c.in-Some.leaf (sym c.least.ensures ∙ c.in-Some.is) c.is_pool.ensures.payloads c.is_pool.ensures.leaves c.is_pool.ensures.rising in
     let choice = chosen c.args.problem.now c.is_valid.ensures.valid c.args.growing.now c.requires.growing c.in-Some.leaf (sym c.least.ensures ∙ c.in-Some.is) c.is_pool.ensures.payloads c.is_pool.ensures.leaves c.is_pool.ensures.rising m c.choice_at-choice.ensures in
     let over : s.budget < length s.pool.payloads + option_count m = (let o = c.if-is_over.ensures.0 refl in let k = t.counted in let e = c.options-options.ensures in omega (arith, o, k, e)) in
@@ -53,7 +53,7 @@ returns-then-is_over-clause-holds g c =
     subst (λ n. IsEnd g.E.Evaluator.past p s new (Spent c.take-then-is_over.result w.tree w.place n)) (sym c.options-options.ensures)
     (subst (λ (b : Option claims.Network). IsEnd g.E.Evaluator.past p s new (Spent b w.tree w.place (option_count m))) (sym c.take-then-is_over.ensures.value)
     (ends_with g.E.Evaluator.past p s new f t
-    (spent_found p s t c.in-Some.leaf w.place w.tree c.in_ok-stopped.ensures.tree c.in_ok-stopped.ensures.sized c.is_valid.ensures.valid (option_count m) s.budget s.start refl refl sp)
+    (spent_found p s t c.in-Some.leaf w.place w.tree c.in_ok-placed.ensures.tree c.in_ok-placed.ensures.sized c.is_valid.ensures.valid (option_count m) s.budget s.start refl refl sp)
     (λ (q : Spent s.best w.tree w.place (option_count m) ≡ Memory). cc) refl refl refl refl refl))
 
 pub node_at-node-requires : goal.node_at-node-requires

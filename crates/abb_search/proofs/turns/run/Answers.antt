@@ -1,7 +1,7 @@
 use Rattle.std.proofs.Common.{◌≡◌, false}
 use Rattle.abb_search.proofs.StepLemmas.{same_search, fallen_trans, against_after}
 use Rattle.abb_search.proofs.turns.run.Goals as goal
-use Rattle.node_looks.specs.Looks.{cost_of}
+use Rattle.node_evaluation.specs.Looks.{cost_of}
 use Rattle.pgraph.specs.View.{node_of}
 
 pub turns-preserved : goal.turns-preserved

@@ -1,6 +1,6 @@
 use Rattle.std.proofs.Common.{◌≡◌, ◌-◌, false, length}
 use Rattle.turn_laws.specs.Values.{HasFallen, IsPositiveCost}
-use Rattle.node_looks.specs.Looks.{cost_of}
+use Rattle.node_evaluation.specs.Looks.{cost_of}
 use Rattle.abb_search.specs.Searched.{IsSameSearch}
 use Rattle.abb_search.proofs.turns.run.Given as goal
 

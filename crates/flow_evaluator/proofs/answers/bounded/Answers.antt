@@ -3,14 +3,14 @@ use Rattle.pgraph.specs.View.{node_of}
 use Rattle.flow_rules.specs.Net.{net_of}
 use Rattle.flow_rules.specs.Program.{Program, program_of}
 use Rattle.dual_simplex.specs.Bench.{IsLeastOf}
-use Rattle.node_looks.specs.Evaluated.{IsBoundOf}
+use Rattle.node_evaluation.specs.Evaluated.{IsBoundOf}
 use Rattle.flow_evaluator.proofs.FlowLemmas.{bound_is}
-use Rattle.flow_evaluator.proofs.KnownLemmas.{halted_is}
+use Rattle.flow_evaluator.proofs.KnownLemmas.{stopped_is}
 use Rattle.flow_evaluator.proofs.answers.bounded.Goals as goal
 
 pub returns-in-Err-clause-evaluated : goal.returns-in-Err-clause-evaluated
 returns-in-Err-clause-evaluated c =
-    halted_is c.args.problem.now (node_of c.args.node.now) c.args.bench.now.nonbasic c.in-Err.place c.halted.result c.in-Err.ensures.past c.halted.ensures c.args.decided
+    stopped_is c.args.problem.now (node_of c.args.node.now) c.args.bench.now.nonbasic c.in-Err.place c.stopped.result c.in-Err.ensures.past c.stopped.ensures c.args.decided
 
 pub returns-in_ok-bound-in-Ok-clause-evaluated : goal.returns-in_ok-bound-in-Ok-clause-evaluated
 returns-in_ok-bound-in-Ok-clause-evaluated c =

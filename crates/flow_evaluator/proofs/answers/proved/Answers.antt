@@ -1,7 +1,7 @@
 use Rattle.std.proofs.Common.{◌≡◌, Some, sym, subst}
 use Rattle.pgraph.specs.View.{node_of}
 use Rattle.tree_rules.specs.Leaf.{IsBounded}
-use Rattle.node_looks.specs.declared.evaluator.Bound.{Bound}
+use Rattle.node_evaluation.specs.declared.evaluator.Bound.{Bound}
 use Rattle.flow_evaluator.proofs.FlowLemmas.{bound_is, worth_proved}
 use Rattle.flow_evaluator.proofs.KnownLemmas.{unproved_is}
 use Rattle.flow_evaluator.proofs.answers.proved.Goals as goal

@@ -3,12 +3,12 @@ use Rattle.pgraph.specs.View.{node_of}
 use Rattle.flow_rules.specs.Net.{net_of}
 use Rattle.flow_rules.specs.Program.{program_of}
 use Rattle.tree_rules.specs.Leaf.{IsRefuted}
-use Rattle.flow_evaluator.proofs.KnownLemmas.{halted_is}
+use Rattle.flow_evaluator.proofs.KnownLemmas.{stopped_is}
 use Rattle.flow_evaluator.proofs.answers.refuted.Goals as goal
 
 pub returns-in-Err : goal.returns-in-Err
 returns-in-Err c =
-    halted_is c.args.problem.now (node_of c.args.node.now) c.args.bench.now.nonbasic c.in-Err.place c.halted.result c.in-Err.ensures.past c.halted.ensures
+    stopped_is c.args.problem.now (node_of c.args.node.now) c.args.bench.now.nonbasic c.in-Err.place c.stopped.result c.in-Err.ensures.past c.stopped.ensures
 
 pub returns : goal.returns
 returns c =

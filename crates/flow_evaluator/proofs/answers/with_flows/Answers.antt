@@ -8,13 +8,13 @@ use Rattle.flow_rules.specs.Program.{Program, program_of}
 use Rattle.dual_simplex.specs.Bench.{IsLeastOf, AreFlowsOf}
 use Rattle.dual_simplex.specs.PastPlace.{IsPastFlowOf}
 use Rattle.tree_rules.specs.Leaf.{IsFormed}
-use Rattle.node_looks.specs.declared.evaluator.Bound.{Bound}
+use Rattle.node_evaluation.specs.declared.evaluator.Bound.{Bound}
 use Rattle.tree_rules.specs.Claim.{Network}
 use Rattle.turn_laws.specs.Values.{IsNoMore}
-use Rattle.node_looks.specs.Evaluated.{cost_over, cost_in, IsBoundOf, IsNetworkOf, HasUnits}
+use Rattle.node_evaluation.specs.Evaluated.{cost_over, cost_in, IsBoundOf, IsNetworkOf, HasUnits}
 use Rattle.flow_evaluator.specs.Past.{IsPastAt}
 use Rattle.flow_evaluator.proofs.FlowLemmas.{IsValueAt, bound_is, network_with, network_is, kept_value, kept_steps, is_split, units_inside}
-use Rattle.flow_evaluator.proofs.KnownLemmas.{place_known, kept_known, halted_is}
+use Rattle.flow_evaluator.proofs.KnownLemmas.{place_known, kept_known, stopped_is}
 use Rattle.flow_evaluator.proofs.answers.with_flows.Goals as goal
 
 pub returns-in-Err-clause-evaluated : goal.returns-in-Err-clause-evaluated
@@ -31,12 +31,12 @@ returns-in-Err-clause-evaluated c =
       columns = kept_known p n b c.names_are_of_program.ensures.nonbasic least.nonbasic_are;
       known = place_known p n place (c.names_are_of_program.ensures.flows own b place flow);
     } in
-    halted_is p n b.nonbasic place c.halted.result past c.halted.ensures true
+    stopped_is p n b.nonbasic place c.stopped.result past c.stopped.ensures true
 
 pub returns-in-Err-cost_of_flows-clause-evaluated : goal.returns-in-Err-cost_of_flows-clause-evaluated
 returns-in-Err-cost_of_flows-clause-evaluated c =
-    halted_is c.args.problem.now (node_of c.args.node.now) c.read_flows.new.self.nonbasic c.in-Err-cost_of_flows.place c.halted-in-Err-cost_of_flows.result
-    c.in-Err-cost_of_flows.ensures.past c.halted-in-Err-cost_of_flows.ensures true
+    stopped_is c.args.problem.now (node_of c.args.node.now) c.read_flows.new.self.nonbasic c.in-Err-cost_of_flows.place c.stopped-in-Err-cost_of_flows.result
+    c.in-Err-cost_of_flows.ensures.past c.stopped-in-Err-cost_of_flows.ensures true
 
 pub network_at-requires-clause-one_size : goal.network_at-requires-clause-one_size
 network_at-requires-clause-one_size c =

@@ -8,7 +8,7 @@ use Rattle.flow_rules.specs.Relaxed.{stays, units, rows}
 use Rattle.dual_simplex.specs.Bench.{HasRoom}
 use Rattle.dual_simplex.specs.PastPlace.{IsPastOf}
 use Rattle.flow_evaluator.specs.Past.{IsPastAt}
-use Rattle.flow_evaluator.proofs.KnownLemmas.{place_known, kept_known, halted_is}
+use Rattle.flow_evaluator.proofs.KnownLemmas.{place_known, kept_known, stopped_is}
 use Rattle.flow_evaluator.proofs.evaluator.evaluate_on.Goals as goal
 
 pub least-requires : goal.least-requires
@@ -37,7 +37,7 @@ returns-clause-evaluated c =
       columns = kept_known p n b c.names_are_of_program.ensures.nonbasic at.nonbasic_are;
       known = place_known p n place (c.names_are_of_program.ensures.entries own b place at);
     } in
-    halted_is p n b.nonbasic place c.halted.result past c.halted.ensures c.args.decided
+    stopped_is p n b.nonbasic place c.stopped.result past c.stopped.ensures c.args.decided
 
 pub returns-in-Ok-None-clause-evaluated : goal.returns-in-Ok-None-clause-evaluated
 returns-in-Ok-None-clause-evaluated c = c.refuted.ensures c.args.decided

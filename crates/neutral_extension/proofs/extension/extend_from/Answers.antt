@@ -19,18 +19,18 @@ append_group (x ∷ xs) ys zs = ap (λ ws. x ∷ ws) (append_group xs ys zs)
 pub steps-smaller : goal.steps-smaller
 steps-smaller c =
     let g = shape c.args.graph.now in
-    let d = node_of c.steps.standing.node in
-    subst (λ e. length (listed g.units (is_free g e)) < length (listed g.units (is_free g d))) (sym c.stand_after-standing.ensures.node)
+    let d = node_of c.steps.leaf.node in
+    subst (λ e. length (listed g.units (is_free g e)) < length (listed g.units (is_free g d))) (sym c.leaf_after-leaf.ensures.node)
     (free_falls g d (step_of c.in-Take.step) c.in-Take.ensures.comes.possible)
 
 pub steps-preserved : goal.steps-preserved
 steps-preserved c =
     let g = shape c.args.graph.now in
-    let d = node_of c.steps.standing.node in
+    let d = node_of c.steps.leaf.node in
     let s = step_of c.in-Take.step in
     let inv = c.steps.invariant in
-    let is = c.stand_after-standing.ensures in
-    let gone = minus c.stand_after-standing.result.node.outside c.steps.standing.node.outside in
+    let is = c.leaf_after-leaf.ensures in
+    let gone = minus c.leaf_after-leaf.result.node.outside c.steps.leaf.node.outside in
     let items : map step_of c.push.new.self.items ≡ map step_of c.steps.steps.items ++ s ∷ [] = ap (map step_of) c.in_ok-push-in-Take.ensures.items ∙ map-append step_of c.steps.steps.items (c.in-Take.step ∷ []) in
     record {
       path = subst (λ e. Leads g (node_of c.args.node) (map step_of c.push.new.self.items) e) (sym is.node)
@@ -52,7 +52,7 @@ pub returns-in-End-clause-extends : goal.returns-in-End-clause-extends
 returns-in-End-clause-extends c = record {
   leads = c.steps.invariant.path;
   sound = c.steps.invariant.sound;
-  same_family = leads_family (shape c.args.graph.now) (node_of c.args.node) (node_of c.steps.standing.node) (map step_of c.steps.steps.items) c.is_proper.ensures.proper c.steps.invariant.path;
+  same_family = leads_family (shape c.args.graph.now) (node_of c.args.node) (node_of c.steps.leaf.node) (map step_of c.steps.steps.items) c.is_proper.ensures.proper c.steps.invariant.path;
   ends = c.in-End.ensures.comes;
   sets = c.steps.invariant.sets;
 }

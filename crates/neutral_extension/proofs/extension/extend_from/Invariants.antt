@@ -7,15 +7,15 @@ use Rattle.pns_rules.specs.Nodes.{is_free}
 use Rattle.neutral_extension.specs.Candidates.{IsFront}
 use Rattle.problem_rules.specs.Each.{Each}
 use Rattle.neutral_extension.specs.Moves.{HasSet}
-use Rattle.neutral_extension.specs.Standing.{Stands, Follows, AllLead}
+use Rattle.neutral_extension.specs.OpenLeaf.{Stands, Follows, AllLead}
 use Rattle.neutral_extension.proofs.extension.extend_from.Given as goal
 
 abbrev pub invariant-steps : goal.invariant-steps
 invariant-steps l = record {
-  path : Leads (shape l.graph) (node_of l.fn.node) (map step_of l.steps.items) (node_of l.standing.node);
-  sound : IsSound (shape l.graph) (node_of l.standing.node);
-  stands : Stands (shape l.graph) l.standing;
-  follows : Follows (shape l.graph) l.makers l.standing;
+  path : Leads (shape l.graph) (node_of l.fn.node) (map step_of l.steps.items) (node_of l.leaf.node);
+  sound : IsSound (shape l.graph) (node_of l.leaf.node);
+  stands : Stands (shape l.graph) l.leaf;
+  follows : Follows (shape l.graph) l.makers l.leaf;
   leading : AllLead (shape l.graph) (has l.leading);
   makers : l.makers.makers ≡ l.fn.makers.makers;
   front : IsFront l.fn.makers.taken l.makers.taken;
@@ -23,4 +23,4 @@ invariant-steps l = record {
 }
 
 abbrev pub decreases-steps : goal.decreases-steps
-decreases-steps l = length (listed (shape l.graph).units (is_free (shape l.graph) (node_of l.standing.node)))
+decreases-steps l = length (listed (shape l.graph).units (is_free (shape l.graph) (node_of l.leaf.node)))

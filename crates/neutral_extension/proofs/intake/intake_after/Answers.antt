@@ -1,7 +1,7 @@
 use Rattle.std.proofs.Common.{ℕ, Bool, subst}
 use Rattle.pgraph.specs.Tables.{shape}
-use Rattle.neutral_extension.specs.Standing.{IsIntake}
-use Rattle.neutral_extension.proofs.StandingLemmas.{none_more, more_within, used_more, made_more}
+use Rattle.neutral_extension.specs.OpenLeaf.{IsIntake}
+use Rattle.neutral_extension.proofs.LeafLemmas.{none_more, more_within, used_more, made_more}
 use Rattle.neutral_extension.proofs.intake.intake_after.Goals as goal
 
 pub returns-then-is_empty : goal.returns-then-is_empty

@@ -1,6 +1,6 @@
 use Rattle.pgraph.specs.Tables.{shape}
 use Rattle.number_sets.specs.Sets.{has}
-use Rattle.neutral_extension.proofs.StandingLemmas.{needed_is}
+use Rattle.neutral_extension.proofs.LeafLemmas.{needed_is}
 use Rattle.neutral_extension.proofs.intake.intake_with.Goals as goal
 
 pub returns : goal.returns

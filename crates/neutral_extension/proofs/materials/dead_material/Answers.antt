@@ -8,7 +8,7 @@ use Rattle.neutral_extension.proofs.materials.dead_material.Goals as goal
 pub returns : goal.returns
 returns c =
     let g = shape c.args.graph.now in
-    let d = node_of c.args.standing.now.node in
+    let d = node_of c.args.leaf.now.node in
     let P = IsDead g d in
     subst (λ o. MatchOption o (IsNever P) (IsFirst P)) (sym c.least.ensures)
-    (dead_found g d c.meet-dead.result c.args.standing.now.intake.needed c.args.standing.now.scarce.unmade c.meet-dead.ensures c.requires.intake.needed c.requires.unmade c.is_proper.ensures.proper c.rises.ensures.rising)
+    (dead_found g d c.meet-dead.result c.args.leaf.now.intake.needed c.args.leaf.now.scarce.unmade c.meet-dead.ensures c.requires.intake.needed c.requires.unmade c.is_proper.ensures.proper c.rises.ensures.rising)

@@ -8,7 +8,7 @@ use Rattle.neutral_extension.proofs.materials.undecided_material.Goals as goal
 pub returns : goal.returns
 returns c =
     let g = shape c.args.graph.now in
-    let d = node_of c.args.standing.now.node in
+    let d = node_of c.args.leaf.now.node in
     let P = IsUndecided g d in
     subst (λ o. MatchOption o (IsNever P) (IsFirst P)) (sym c.least.ensures)
-    (undecided_found g d c.meet-undecided.result c.args.standing.now.intake.needed c.made.result c.free_units-free.result c.meet-undecided.ensures c.requires.intake.needed c.made.ensures c.free_units-free.ensures.is c.rises.ensures.rising)
+    (undecided_found g d c.meet-undecided.result c.args.leaf.now.intake.needed c.made.result c.free_units-free.result c.meet-undecided.ensures c.requires.intake.needed c.made.ensures c.free_units-free.ensures.is c.rises.ensures.rising)

@@ -7,8 +7,8 @@ use Rattle.pns_rules.proofs.StructureLemmas.{is_made-some}
 use Rattle.pgraph.specs.Tables.{shape}
 use Rattle.pgraph.proofs.ArcLemmas.{first_shorter}
 use Rattle.neutral_extension.specs.Candidates.{left}
-use Rattle.neutral_extension.specs.Standing.{IsCounted, is_empty, is_single}
-use Rattle.neutral_extension.proofs.StandingLemmas.{told_more, below_is}
+use Rattle.neutral_extension.specs.OpenLeaf.{IsCounted, is_empty, is_single}
+use Rattle.neutral_extension.proofs.LeafLemmas.{told_more, below_is}
 use Rattle.neutral_extension.proofs.scarce.scarce_after.Goals as goal
 
 pub outputs-init : goal.outputs-init

@@ -1,7 +1,7 @@
 use Rattle.std.proofs.Common.{◌≡◌, ◌<◌, ℕ, true, length}
 use Rattle.number_sets.specs.Sets.{has}
 use Rattle.pgraph.specs.Tables.{shape}
-use Rattle.neutral_extension.specs.Standing.{IsCounted}
+use Rattle.neutral_extension.specs.OpenLeaf.{IsCounted}
 use Rattle.neutral_extension.proofs.scarce.scarce_after.Given as goal
 
 abbrev pub invariant-outputs : goal.invariant-outputs

@@ -7,8 +7,8 @@ use Rattle.pns_rules.specs.Structure.{is_used}
 use Rattle.pns_rules.proofs.StructureLemmas.{is_used-some}
 use Rattle.pgraph.specs.Tables.{shape}
 use Rattle.pgraph.proofs.ArcLemmas.{first_shorter}
-use Rattle.neutral_extension.specs.Standing.{IsTold}
-use Rattle.neutral_extension.proofs.StandingLemmas.{told_more}
+use Rattle.neutral_extension.specs.OpenLeaf.{IsTold}
+use Rattle.neutral_extension.proofs.LeafLemmas.{told_more}
 use Rattle.neutral_extension.proofs.scarce.used_after.Goals as goal
 
 pub inputs-init : goal.inputs-init

@@ -2,7 +2,7 @@ use Rattle.std.proofs.Common.{◌≡◌, ◌<◌, ℕ, true, length}
 use Rattle.number_sets.specs.Sets.{has}
 use Rattle.pns_rules.specs.Structure.{is_used}
 use Rattle.pgraph.specs.Tables.{shape}
-use Rattle.neutral_extension.specs.Standing.{IsTold}
+use Rattle.neutral_extension.specs.OpenLeaf.{IsTold}
 use Rattle.neutral_extension.proofs.scarce.used_after.Given as goal
 
 abbrev pub invariant-inputs : goal.invariant-inputs

@@ -1,4 +1,4 @@
-use Rattle.neutral_extension.proofs.StandingLemmas.{with_is, without_is}
+use Rattle.neutral_extension.proofs.LeafLemmas.{with_is, without_is}
 use Rattle.neutral_extension.proofs.scarce.with_exactly.Goals as goal
 
 pub returns-then-belongs : goal.returns-then-belongs

@@ -2,7 +2,7 @@ use Rattle.number_sets.specs.Sets.{has}
 use Rattle.pgraph.specs.Tables.{shape}
 use Rattle.pgraph.specs.View.{node_of}
 use Rattle.neutral_extension.proofs.FindLemmas.{loose_is}
-use Rattle.neutral_extension.proofs.StandingLemmas.{reaching_leads}
+use Rattle.neutral_extension.proofs.LeafLemmas.{reaching_leads}
 use Rattle.neutral_extension.proofs.units.loose_units.Goals as goal
 
 pub returns-clause-loose : goal.returns-clause-loose

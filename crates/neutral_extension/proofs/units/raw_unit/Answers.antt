@@ -9,7 +9,7 @@ use Rattle.neutral_extension.proofs.units.raw_unit.Goals as goal
 pub returns : goal.returns
 returns c =
     let g = shape c.args.graph.now in
-    let d = node_of c.args.standing.now.node in
+    let d = node_of c.args.leaf.now.node in
     let P = λ (u : ℕ). IsPossible g d (raw u) in
     subst (λ o. MatchOption o (IsNever P) (IsFirst P)) (sym c.least.ensures)
-    (raw_found g d c.meet-found.result c.free_units.result c.args.standing.now.raw_makers c.meet-found.ensures c.free_units.ensures.is c.requires.raw_makers c.rises.ensures.rising)
+    (raw_found g d c.meet-found.result c.free_units.result c.args.leaf.now.raw_makers c.meet-found.ensures c.free_units.ensures.is c.requires.raw_makers c.rises.ensures.rising)

@@ -4,20 +4,20 @@ use Rattle.number_sets.specs.Sets.{has}
 use Rattle.number_sets.proofs.OptionLemmas.{first_had, first_none}
 use Rattle.pgraph.specs.Tables.{shape}
 use Rattle.pgraph.specs.View.{node_of}
-use Rattle.neutral_extension.specs.Standing.{IsOnlyMaker}
+use Rattle.neutral_extension.specs.OpenLeaf.{IsOnlyMaker}
 use Rattle.neutral_extension.proofs.FindLemmas.{before_first, sole_known, sole_alone, sole_to, sole_from}
-use Rattle.neutral_extension.proofs.StandingLemmas.{first_alone, first_there}
+use Rattle.neutral_extension.proofs.LeafLemmas.{first_alone, first_there}
 use Rattle.neutral_extension.proofs.units.sole_step.Goals as goal
 
 pub returns-in_default : goal.returns-in_default
 returns-in_default c = λ x u p.
-    let s = c.args.standing.now in
+    let s = c.args.leaf.now in
     both_ways false refl (sym (ap (λ xs. has xs x) (first_none c.minus-undecided.result (sym c.least.ensures ∙ c.in_default.is)))
     ∙ sole_from (shape c.args.graph.now) (node_of s.node) c.requires.sound.apart c.is_proper.ensures.proper c.minus-undecided.result c.meet-single.result s.intake.needed s.scarce.single s.intake.made c.meet-single.ensures c.minus-undecided.ensures c.requires.stands.intake.needed c.requires.stands.single c.requires.stands.intake.made x u p)
 
 pub first-requires : goal.first-requires
 first-requires c =
-    let s = c.args.standing.now in
+    let s = c.args.leaf.now in
     let x = c.in-Some.x in
     let lt = sole_known (shape c.args.graph.now) (node_of s.node) c.requires.sound.apart c.is_proper.ensures.proper c.minus-undecided.result c.meet-single.result s.intake.needed s.scarce.single s.intake.made c.meet-single.ensures c.minus-undecided.ensures c.requires.stands.intake.needed c.requires.stands.single c.requires.stands.intake.made x (first_had c.minus-undecided.result x (sym c.least.ensures ∙ c.in-Some.is)) in
     let count = c.requires.follows.same.count in
@@ -25,7 +25,7 @@ first-requires c =
 
 pub returns-in-Some-first : goal.returns-in-Some-first
 returns-in-Some-first c =
-    let s = c.args.standing.now in
+    let s = c.args.leaf.now in
     let g = shape c.args.graph.now in
     let d = node_of s.node in
     let x = c.in-Some.x in
@@ -39,7 +39,7 @@ returns-in-Some-first c =
 
 pub returns-in-None : goal.returns-in-None
 returns-in-None c = λ y v p.
-    let s = c.args.standing.now in
+    let s = c.args.leaf.now in
     let g = shape c.args.graph.now in
     let d = node_of s.node in
     let x = c.in-Some.x in

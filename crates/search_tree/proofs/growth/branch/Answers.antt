@@ -7,13 +7,13 @@ use Rattle.search_tree.specs.Growth.{as_parent, cells_in_turn, values_in_turn}
 use Rattle.search_tree.proofs.GrowthLemmas.{IsGrowing, grows}
 use Rattle.search_tree.proofs.growth.branch.Goals as goal
 
-pub kids-preserved : goal.kids-preserved
-kids-preserved c =
+pub children-preserved : goal.children-preserved
+children-preserved c =
     let p = c.args.pool.now in
     let leaf = c.args.leaf in
-    let kids = c.args.kids.now.items in
-    let cells : List Cell = slice_set p.payloads leaf (as_parent (cell_at p.payloads leaf) c.args.first (end_of c.args.end)) ++ cells_in_turn kids in
-    let values : List Mixed = p.values ++ values_in_turn kids in
-    grows cells values leaf c.kids.pool c.add_child.new.pool c.pop.new.self.items c.in-Some.fresh
-    (subst (λ (xs : List Fresh). IsGrowing cells values leaf c.kids.pool xs) c.in-Some.ensures.items c.kids.invariant)
+    let children = c.args.children.now.items in
+    let cells : List Cell = slice_set p.payloads leaf (as_parent (cell_at p.payloads leaf) c.args.first (end_of c.args.end)) ++ cells_in_turn children in
+    let values : List Mixed = p.values ++ values_in_turn children in
+    grows cells values leaf c.children.pool c.add_child.new.pool c.pop.new.self.items c.in-Some.fresh
+    (subst (λ (xs : List Fresh). IsGrowing cells values leaf c.children.pool xs) c.in-Some.ensures.items c.children.invariant)
     c.add_child.ensures.cells c.add_child.ensures.values c.add_child.ensures.parent c.add_child.ensures.open c.add_child.ensures.room

@@ -1,6 +1,6 @@
 use Rattle.std.proofs.Common.{◌≡◌, false, ap, ◌∙◌, subst}
 use Rattle.pgraph.specs.View.{node_of}
-use Rattle.node_looks.specs.Children.{claim_with}
+use Rattle.node_evaluation.specs.Children.{claim_with}
 use Rattle.abb_search.specs.Found.{IsStopped}
 use Rattle.abb_search.specs.Searched.{Searched, AreNodesOf}
 use Rattle.abb_search.proofs.EndLemmas.{stopped}

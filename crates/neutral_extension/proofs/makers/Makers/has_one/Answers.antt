@@ -4,7 +4,7 @@ use Rattle.link_lists.specs.Lists.{row}
 use Rattle.link_lists.specs.Lists as cells
 use Rattle.neutral_extension.specs.Candidates.{Candidates, makers_at, left}
 use Rattle.neutral_extension.specs.Cells.{makers_of}
-use Rattle.neutral_extension.specs.Standing.{is_single}
+use Rattle.neutral_extension.specs.OpenLeaf.{is_single}
 use Rattle.neutral_extension.proofs.KeptLemmas.{count_lists, row_is, one_cell, one_alone, not_one, lacks_from}
 use Rattle.neutral_extension.proofs.makers.Makers.has_one.Goals as goal
 

@@ -1,0 +1,53 @@
+-- The cheapest network after the children of a node: the one that was known, or the one that was found among them.
+use Rattle.std.proofs.Common.{◌≡◌, ℕ, ◌⊎◌, List, Option, Some, None, inl, inr, sym, subst}
+use Rattle.problem_rules.specs.Problem.{Problem}
+use Rattle.pns_rules.specs.Nodes.{Node}
+use Rattle.tree_rules.specs.Ways.{Way}
+use Rattle.tree_rules.specs.Claim as claims
+use Rattle.tree_rules.specs.Claim.{CostOver, claimed_cost}
+use Rattle.search_tree.specs.Cells.{Cell, place_of, cell_at}
+use Rattle.turn_laws.specs.Values.{IsPositive, IsUnder, HasFallen, IsPositiveCost}
+use Rattle.turn_laws.specs.Kept.{LastIsBelow}
+use Rattle.turn_laws.specs.Turns.{AreChildren}
+use Rattle.turn_laws.proofs.GrowLemmas.{leaf_fallen}
+use Rattle.node_evaluation.specs.Looks.{cost_of}
+use Rattle.node_evaluation.specs.Children.{claim_with, IsBest, IsImproved}
+use Rattle.node_evaluation.proofs.ChildLemmas.{cost_is}
+
+-- children that pass where a network is claimed pass where one is claimed that costs no more
+pub children_fallen : (p : Problem) (old new : Option CostOver) (n : Node) (w : Way) (children : List Cell) → HasFallen old new → IsPositiveCost old → IsPositiveCost new
+    → AreChildren p old n w children → AreChildren p new n w children
+children_fallen p old new n w children h po pn c = record {
+  options_are = c.options_are;
+  each = λ k lt. let f = c.each k lt in record {
+    follows = f.follows;
+    sound = f.sound;
+    what = f.what;
+    end_is = f.end_is;
+    passes = leaf_fallen p old new (place_of (cell_at children k)) f.what h po pn f.passes;
+  };
+}
+
+-- what `cheaper` answers for the network that was known and the one that was found
+module _ (p : Problem) (n : Node) (old found new : Option claims.Network) (best : IsBest p old) (improved : IsImproved p n None found)
+    (which : (new ≡ old) ⊎ (new ≡ found)) (fallen : HasFallen (cost_of old) (cost_of new)) (fallen_found : HasFallen (cost_of found) (cost_of new)) where
+  new_best : IsBest p new
+  new_best = elim which [
+    | inl e ↦ subst (λ (w : Option claims.Network). IsBest p w) (sym e) best
+    | inr e ↦ subst (λ (w : Option claims.Network). IsBest p w) (sym e) improved.best
+  ]
+
+  new_fallen : (w : Option claims.Network) → HasFallen (cost_of w) (cost_of new) → HasFallen (claimed_cost (claim_with w)) (claimed_cost (claim_with new))
+  new_fallen w h = subst (λ (a : Option CostOver). HasFallen a (claimed_cost (claim_with new))) (cost_is w) (subst (λ (a : Option CostOver). HasFallen (cost_of w) a) (cost_is new) h)
+
+  new_below : (v : CostOver) → IsPositive v → IsUnder p v n → LastIsBelow (Some v) (claimed_cost (claim_with old)) → LastIsBelow (Some v) (claimed_cost (claim_with new))
+  new_below v pv u l = elim which [
+    | inl e ↦ subst (λ (w : Option claims.Network). LastIsBelow (Some v) (claimed_cost (claim_with w))) (sym e) l
+    | inr e ↦ subst (λ (w : Option claims.Network). LastIsBelow (Some v) (claimed_cost (claim_with w))) (sym e) (improved.below v pv u tt)
+  ]
+
+  pub improved_after : IsImproved p n old new
+  improved_after = record { best = new_best; fallen = new_fallen old fallen; below = new_below }
+
+  pub children_after : (way : Way) (children : List Cell) → AreChildren p (claimed_cost (claim_with found)) n way children → AreChildren p (claimed_cost (claim_with new)) n way children
+  children_after way children c = children_fallen p (claimed_cost (claim_with found)) (claimed_cost (claim_with new)) n way children (new_fallen found fallen_found) improved.best.positive new_best.positive c

@@ -1,0 +1,129 @@
+-- What a look sees.
+use Rattle.std.proofs.Common.{◌≡◌, ℕ, true, false, List, [], ◌∷◌, Result, Ok, Err, IfOk, Option, Some, None, sym, ap, ◌∙◌, subst, arith}
+use Rattle.std.proofs.lemmas.Int.{ints}
+use Rattle.std.specs.Prelude.{is_some}
+use Rattle.int_rows.specs.Range.{InRange, AllInRange}
+use Rattle.problem_rules.specs.Each.{Each}
+use Rattle.problem_rules.specs.Problem.{Problem}
+use Rattle.pns_rules.specs.Shape.{Shape, IsProper, shape_of}
+use Rattle.branch_tree.specs.Known.{AreUnits, KnowsStep, KnowsLeaf, KnowsEnd}
+use Rattle.pns_rules.specs.Nodes as rules
+use Rattle.pns_rules.specs.Nodes.{after}
+use Rattle.pns_rules.specs.Ends.{IsSound, IsDecided, Leads, Stop}
+use Rattle.pgraph.specs.View.{node_of}
+use Rattle.unit_sets.specs.declared.node.Node.{Node}
+use Rattle.tree_rules.specs.Tree.{leaf, StepsPass, after_all}
+use Rattle.tree_rules.specs.Claim.{Network, CostOver}
+use Rattle.tree_rules.specs.Leaf.{Leaf, bounded, untried, LeafPasses}
+use Rattle.flow_rules.specs.Net.{net_of}
+use Rattle.flow_rules.specs.Relaxed.{relaxed_cost}
+use Rattle.neutral_extension.specs.Moves.{Extends}
+use Rattle.search_tree.specs.Cells.{Cell, place_of}
+use Rattle.search_tree.specs.Growth.{as_shut}
+use Rattle.turn_laws.specs.Values.{IsPositive, IsUnder, IsNoMore}
+use Rattle.turn_laws.proofs.FractionLemmas.{fraction_trans}
+use Rattle.turn_laws.proofs.GrowLemmas.{leaf_fallen}
+use Rattle.mixed_numbers.specs.Number.{numerator, denominator}
+use Rattle.mixed_numbers.specs.OrderLaws.{denominator_positive}
+use Rattle.node_evaluation.specs.declared.evaluator.Bound.{Bound}
+use Rattle.node_evaluation.specs.declared.evaluator.PastStop.{PastStop}
+use Rattle.node_evaluation.specs.declared.looks.Looked.{Looked}
+use Rattle.node_evaluation.specs.Evaluated.{PastPlaces, cost_over, cost_in, IsBoundOf, IsNetworkOf, HasUnits}
+use Rattle.node_evaluation.specs.Looks.{is_bounded_leaf, is_bounded, cost_of, IsFoundAt, AreFoundAt, IsOpenAs, IsSameNode, IsSeen, IsLooked}
+use Rattle.node_evaluation.proofs.KnownLemmas.{known_steps}
+
+-- what a lower bound is over is above 0
+pub low_positive : (b : Bound) → IsPositive (cost_over b.low)
+low_positive b = let h = denominator_positive b.low in omega (arith, ints)
+
+-- a number that no relaxed flows of the node undercut is at most the node's value
+pub under_value : (p : Problem) (n : rules.Node) (v : CostOver) (b : Bound) → IsPositive v → IsUnder p v n → IsBoundOf p n b → IsNoMore v (cost_over b.value)
+under_value p n v b pv u h =
+    let r = h.value.reached in
+    fraction_trans v.cost v.d (relaxed_cost (net_of p) n r.sizes r.d) r.d (numerator b.value) (denominator b.value) pv r.relaxed.positive h.value.positive (u r.sizes r.d r.relaxed) r.at_most
+
+found_here : (p : Problem) (n : rules.Node) (b : Bound) (w : Network) → IsDecided (shape_of p) n → IsBoundOf p n b → IsNetworkOf p b.value w → HasUnits n w → IsFoundAt p n w
+found_here p n b w decided h k units = record {
+  alive = decided.reduced.live.no_dead;
+  none_free = decided.none_free;
+  units = units;
+  feasible = k.feasible;
+  positive = k.positive;
+  no_less = λ v pv u. fraction_trans v.cost v.d (numerator b.value) (denominator b.value) w.cost w.d pv h.value.positive k.positive (under_value p n v b pv u h) k.no_less;
+}
+
+module _ (Past : PastPlaces) (p : Problem) (cell : Cell) (l : Looked) where
+  pub seen_solved : (b : Bound) (w : Network) → l.cell ≡ as_shut cell (leaf (bounded b.scaled.d b.scaled.ys)) → l.network ≡ Some w → l.stop ≡ None
+      → IsDecided (shape_of p) (place_of cell) → IsBoundOf p (place_of cell) b → IsNetworkOf p b.value w → IsNoMore (cost_in w) (cost_over b.low) → HasUnits (place_of cell) w → InRange b.scaled.d → AllInRange b.scaled.ys → IsSeen Past p l
+  seen_solved b w ec en eh decided h k reached units scale multipliers = record {
+    what = bounded b.scaled.d b.scaled.ys;
+    end_is = ap (λ (c : Cell). c.end) ec;
+    passes = subst (λ (o : Option Network). LeafPasses true p (cost_of o) (place_of l.cell) (bounded b.scaled.d b.scaled.ys)) (sym en)
+        (subst (λ (c : Cell). LeafPasses true p (Some (cost_in w)) (place_of c) (bounded b.scaled.d b.scaled.ys)) (sym ec)
+        (leaf_fallen p (Some (cost_over b.low)) (Some (cost_in w)) (place_of cell) (bounded b.scaled.d b.scaled.ys) reached (low_positive b) k.positive h.bounded));
+    found = subst (λ (o : Option Network). AreFoundAt p (place_of l.cell) o) (sym en)
+        (subst (λ (c : Cell). IsFoundAt p (place_of c) w) (sym ec) (found_here p (place_of cell) b w decided h k units));
+    bounded = ap (λ (o : Option Network). is_some o) en ∙ sym (ap (λ (c : Cell). is_bounded c.end) ec);
+    end_known = subst (λ (c : Cell). KnowsEnd p c.end) (sym ec) (scale, multipliers);
+    open_as = subst (λ (o : Option PastStop). IsOpenAs Past p (place_of l.cell) (bounded b.scaled.d b.scaled.ys) l.value l.ready o) (sym eh) (λ e. absurd (let q : bounded b.scaled.d b.scaled.ys ≡ untried = e in cc));
+  }
+
+  pub seen_closed : (what : Leaf) → l.cell ≡ as_shut cell (leaf what) → l.network ≡ None → l.stop ≡ None → (what ≡ untried → ⊥) → is_bounded_leaf what ≡ false
+      → LeafPasses true p None (place_of cell) what → KnowsLeaf p what → IsSeen Past p l
+  seen_closed what ec en eh shut unbounded passes known = record {
+    what = what;
+    end_is = ap (λ (c : Cell). c.end) ec;
+    passes = subst (λ (o : Option Network). LeafPasses true p (cost_of o) (place_of l.cell) what) (sym en)
+        (subst (λ (c : Cell). LeafPasses true p None (place_of c) what) (sym ec) passes);
+    found = subst (λ (o : Option Network). AreFoundAt p (place_of l.cell) o) (sym en) tt;
+    bounded = ap (λ (o : Option Network). is_some o) en ∙ sym (ap (λ (c : Cell). is_bounded c.end) ec ∙ unbounded);
+    open_as = subst (λ (o : Option PastStop). IsOpenAs Past p (place_of l.cell) what l.value l.ready o) (sym eh) (λ e. absurd (shut e));
+    end_known = subst (λ (c : Cell). KnowsEnd p c.end) (sym ec) known;
+  }
+
+leads_pass : (g : Shape) (n : rules.Node) (ss : List rules.Step) (m : rules.Node) → Leads g n ss m → StepsPass g n ss × (after_all g n ss ≡ m)
+leads_pass g n [] m h = (tt, h)
+leads_pass g n (s ∷ ss) m h = let r = leads_pass g (after g n s) ss m h.1 in ((h.0.possible, r.0), r.1)
+
+pub moved : (g h : Shape) → g ≡ h → (start : rules.Node) (list : List rules.Step) (n : rules.Node) (stop : Stop) → Extends g start list n stop → Extends h start list n stop
+moved g h e start list n stop x = subst (λ (k : Shape). Extends k start list n stop) e x
+
+module _ (Past : PastPlaces) (p : Problem) (g : Shape) (same : g ≡ shape_of p) (start : rules.Node) (option : List ℕ) (list steps : List rules.Step) (node : Node) (stop : Stop) (cell : Cell)
+    (proper : IsProper (shape_of p)) (option_known : AreUnits p option) (steps_are : steps ≡ list) (cell_is : cell ≡ record { option = option; steps = steps; node = node; first = 0; end = leaf untried; key = 0 }) (extends : Extends g start list (node_of node) stop) where
+  pub there : Extends (shape_of p) start list (node_of node) stop
+  there = subst (λ (h : Shape). Extends h start list (node_of node) stop) same extends
+
+  pub node_is : cell.node ≡ node
+  node_is = ap (λ (c : Cell). c.node) cell_is
+
+  pub looked : (l : Looked) → IsSameNode cell l.cell → IsSeen Past p l → IsLooked Past p start option l
+  looked l k seen = record {
+    option_is = k.option ∙ ap (λ (c : Cell). c.option) cell_is;
+    follows = record {
+      pass = subst (λ (ss : List rules.Step). StepsPass (shape_of p) start ss) (sym all) r.0;
+      leave = subst (λ (ss : List rules.Step). after_all (shape_of p) start ss ≡ place_of l.cell) (sym all) (r.1 ∙ ap (λ (m : Node). node_of m) (sym (k.node ∙ node_is)));
+    };
+    sound = subst (λ (m : Node). IsSound (shape_of p) (node_of m)) (sym (k.node ∙ node_is)) there.sound;
+    seen = seen;
+    known = record {
+      option = subst (λ (o : List ℕ). AreUnits p o) (sym (k.option ∙ ap (λ (c : Cell). c.option) cell_is)) option_known;
+      steps = subst (λ (ss : List rules.Step). Each (KnowsStep p) ss) (sym all) (known_steps p proper start list (node_of node) there.leads there.sets);
+      end = seen.end_known;
+    };
+  }
+    where
+      all : l.cell.steps ≡ list
+      all = k.steps ∙ (ap (λ (c : Cell). c.steps) cell_is ∙ steps_are)
+
+      r : StepsPass (shape_of p) start list × (after_all (shape_of p) start list ≡ node_of node)
+      r = leads_pass (shape_of p) start list (node_of node) there.leads
+
+  pub looked_ok : {A : Type 0} (r : Result Looked A) → IfOk r (λ l. IsSameNode cell l.cell) → IfOk r (IsSeen Past p) → IfOk r (IsLooked Past p start option)
+  looked_ok (Ok l) k seen = looked l k seen
+  looked_ok (Err e) k seen = tt
+
+  pub looked_closed : (l : Looked) (what : Leaf) → l.cell ≡ as_shut cell (leaf what) → l.network ≡ None → l.stop ≡ None → (what ≡ untried → ⊥) → is_bounded_leaf what ≡ false
+      → LeafPasses true p None (node_of node) what → KnowsLeaf p what → IsLooked Past p start option l
+  looked_closed l what ec en eh shut unbounded passes known =
+      looked l (record { option = ap (λ (c : Cell). c.option) ec; steps = ap (λ (c : Cell). c.steps) ec; node = ap (λ (c : Cell). c.node) ec })
+      (seen_closed Past p cell l what ec en eh shut unbounded (subst (λ (m : Node). LeafPasses true p None (node_of m) what) (sym node_is) passes) known)

@@ -1,0 +1,73 @@
+use Rattle.std.proofs.Common.{◌≡◌, ℕ, List, ◌++◌, ◌∷◌, [], sym, ap, ◌∙◌, subst}
+use Rattle.pns_rules.specs.Shape.{Shape, shape_of}
+use Rattle.pns_rules.specs.Nodes as rules
+use Rattle.pns_rules.specs.Ends.{IsSound}
+use Rattle.pns_rules.proofs.ProperLemmas.{proper_if_valid}
+use Rattle.pgraph.specs.Tables.{shape}
+use Rattle.pgraph.specs.View.{node_of}
+use Rattle.tree_rules.specs.Ways.{child_at}
+use Rattle.branch_choice.specs.Choices.{IsChoice, way_of}
+use Rattle.node_evaluation.specs.Children.{IsChild, options_in}
+use Rattle.node_evaluation.proofs.ChoiceLemmas.{may_branch, decides}
+use Rattle.node_evaluation.proofs.ChildLemmas.{sound_child, looked_after, is_looked, has_options}
+use Rattle.node_evaluation.proofs.KnownLemmas.{known_option}
+use Rattle.node_evaluation.proofs.SolvedLemmas.{solved_by, solved_after}
+use Rattle.node_evaluation.proofs.OptionLemmas.{choice_known}
+use Rattle.node_evaluation.proofs.children.look_at_child.Goals as goal
+
+pub child_of-start-requires : goal.child_of-start-requires
+child_of-start-requires g c =
+    choice_known (shape c.args.graph.now) (node_of c.args.node.now) c.args.choice c.is_proper.ensures.proper c.is_proper.ensures.few_units
+    (subst (λ (s : Shape). IsChoice s (node_of c.args.node.now) c.args.choice) (sym c.requires.graph) c.requires.choice)
+
+pub look_or_wait-requires-clause-sound : goal.look_or_wait-requires-clause-sound
+look_or_wait-requires-clause-sound g c =
+    let p = c.args.problem.now in
+    let n = node_of c.args.node.now in
+    let start : node_of c.child_of-start.result ≡ child_at (shape_of p) n (way_of c.args.choice) c.args.option
+    = c.child_of-start.ensures ∙ ap (λ (s : Shape). child_at s n (way_of c.args.choice) c.args.option) c.requires.graph in
+    subst (λ (m : rules.Node). IsSound (shape_of p) m) (sym start)
+    (sound_child p c.is_valid.ensures.valid n (way_of c.args.choice) c.requires.sound c.requires.reduced (may_branch (shape_of p) n c.args.choice c.requires.choice)
+    (decides (shape_of p) n c.args.choice c.requires.choice) c.args.option c.requires.option)
+
+pub look_or_wait-requires-clause-option : goal.look_or_wait-requires-clause-option
+look_or_wait-requires-clause-option g c =
+    let p = c.args.problem.now in
+    let n = node_of c.args.node.now in
+    known_option p n (way_of c.args.choice) c.args.option (proper_if_valid p c.is_valid.ensures.valid) c.requires.sound.apart (may_branch (shape_of p) n c.args.choice c.requires.choice) c.requires.option
+
+pub returns-clause-looked : goal.returns-clause-looked
+returns-clause-looked g c =
+    let p = c.args.problem.now in
+    let n = node_of c.args.node.now in
+    let start : node_of c.child_of-start.result ≡ child_at (shape_of p) n (way_of c.args.choice) c.args.option
+    = c.child_of-start.ensures ∙ ap (λ (s : Shape). child_at s n (way_of c.args.choice) c.args.option) c.requires.graph in
+    let child_is : IsChild g.E.Evaluator.past p (child_at (shape_of p) n (way_of c.args.choice) c.args.option) c.args.option c.is_some-stopped.result c.in_ok-looked.looked
+    = subst (λ (m : rules.Node). IsChild g.E.Evaluator.past p m c.args.option c.is_some-stopped.result c.in_ok-looked.looked) start c.in_ok-looked.ensures.child in
+    let e = c.with_child.ensures in
+    is_looked c.with_child.result g.E.Evaluator.past p n (way_of c.args.choice) (options_in c.args.children ++ c.args.option ∷ [])
+    (looked_after p c.is_valid.ensures.valid n (way_of c.args.choice) c.requires.sound c.requires.reduced (may_branch (shape_of p) n c.args.choice c.requires.choice)
+    (decides (shape_of p) n c.args.choice c.requires.choice) c.args.option c.requires.option g.E.Evaluator.past c.args.children c.in_ok-looked.looked c.is_some-stopped.result c.requires.looked child_is c.is_some-stopped.ensures
+    c.with_child.result e.nodes e.ready e.which e.old e.found e.some e.stop)
+
+pub returns-clause-options : goal.returns-clause-options
+returns-clause-options g c =
+    let p = c.args.problem.now in
+    let n = node_of c.args.node.now in
+    let start : node_of c.child_of-start.result ≡ child_at (shape_of p) n (way_of c.args.choice) c.args.option
+    = c.child_of-start.ensures ∙ ap (λ (s : Shape). child_at s n (way_of c.args.choice) c.args.option) c.requires.graph in
+    let child_is : IsChild g.E.Evaluator.past p (child_at (shape_of p) n (way_of c.args.choice) c.args.option) c.args.option c.is_some-stopped.result c.in_ok-looked.looked
+    = subst (λ (m : rules.Node). IsChild g.E.Evaluator.past p m c.args.option c.is_some-stopped.result c.in_ok-looked.looked) start c.in_ok-looked.ensures.child in
+    let e = c.with_child.ensures in
+    has_options c.with_child.result g.E.Evaluator.past p n (way_of c.args.choice) (options_in c.args.children ++ c.args.option ∷ [])
+    (looked_after p c.is_valid.ensures.valid n (way_of c.args.choice) c.requires.sound c.requires.reduced (may_branch (shape_of p) n c.args.choice c.requires.choice)
+    (decides (shape_of p) n c.args.choice c.requires.choice) c.args.option c.requires.option g.E.Evaluator.past c.args.children c.in_ok-looked.looked c.is_some-stopped.result c.requires.looked child_is c.is_some-stopped.ensures
+    c.with_child.result e.nodes e.ready e.which e.old e.found e.some e.stop)
+
+pub returns-clause-solved : goal.returns-clause-solved
+returns-clause-solved g c =
+    let l = c.in_ok-looked.looked in
+    let k = c.in_ok-looked.ensures.child in
+    let e = c.with_child.ensures in
+    solved_after c.args.problem.now c.args.children l c.args.all c.with_child.result c.requires.solved
+    (solved_by c.args.problem.now l.cell l.network k.what k.end_is k.passes k.found k.bounded) e.nodes e.networks

@@ -1,0 +1,15 @@
+use Rattle.std.proofs.Common.{◌≡◌, ◌++◌, true, drop}
+use Rattle.pns_rules.specs.Shape.{shape_of}
+use Rattle.pgraph.specs.View.{node_of}
+use Rattle.tree_rules.specs.Ways.{options_at}
+use Rattle.branch_choice.specs.Choices.{way_of}
+use Rattle.node_evaluation.specs.Children.{AreLooked, AreSolvedBy, cells_of, options_in}
+use Rattle.node_evaluation.proofs.children.look_at_children.Given as goal
+
+abbrev pub invariant-options : goal.invariant-options
+invariant-options g l = record {
+  looked : AreLooked g.E.Evaluator.past l.problem (node_of l.node) (way_of l.choice) l.children;
+  solved : l.all ≡ true → AreSolvedBy l.problem (cells_of l.children.nodes.items) l.children.networks.items;
+  done : options_in l.children ++ drop l.option-index l.option-items ≡ options_at (shape_of l.problem) (node_of l.node) (way_of l.choice);
+  makers : l.makers.makers ≡ l.fn.makers.makers;
+}

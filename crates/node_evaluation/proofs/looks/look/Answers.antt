@@ -1,0 +1,55 @@
+use Rattle.std.proofs.Common.{◌≡◌, map, refl, sym, ap, subst}
+use Rattle.pns_rules.specs.Shape.{shape_of}
+use Rattle.pns_rules.specs.Ends.{IsUndecided, IsFirst, EndsAt, dead, clash, branch}
+use Rattle.pgraph.specs.Tables.{shape}
+use Rattle.search_tree.specs.Cells.{Cell}
+use Rattle.neutral_extension.specs.declared.end.Stop.{Stop}
+use Rattle.pgraph.specs.View.{node_of, step_of}
+use Rattle.unit_sets.specs.declared.node.Node.{Node}
+use Rattle.tree_rules.specs.Leaf as leaves
+use Rattle.neutral_extension.specs.Moves.{stop_of}
+use Rattle.pns_rules.proofs.ProperLemmas.{proper_if_valid}
+use Rattle.node_evaluation.proofs.KnownLemmas.{known_dead}
+use Rattle.node_evaluation.proofs.LookLemmas.{moved, looked_ok, looked_closed}
+use Rattle.node_evaluation.proofs.looks.look.Goals as goal
+
+pub look_closer-requires-in-Branch-clause-first : goal.look_closer-requires-in-Branch-clause-first
+look_closer-requires-in-Branch-clause-first g c =
+    let x = c.in_ok-extended.extended in
+    let p = c.args.problem.now in
+    let ends : EndsAt (shape_of p) (node_of x.node) (stop_of x.end) = (moved (shape c.args.graph.now) (shape_of p) c.requires.graph (node_of c.args.start) (map step_of x.steps.items) (node_of x.node) (stop_of x.end) c.in_ok-extended.ensures.extends).ends in
+    let first : EndsAt (shape_of p) (node_of x.node) (branch c.in-Branch.material) = subst (λ (s : Stop). EndsAt (shape_of p) (node_of x.node) (stop_of s)) c.in-Branch.is ends in
+    λ no. subst (λ (m : Node). IsFirst (IsUndecided (shape_of p) (node_of m)) c.in-Branch.material) (sym (ap (λ (d : Cell). d.node) c.open_cell-cell.ensures)) first.1
+
+pub returns-in-Dead-clause-looked : goal.returns-in-Dead-clause-looked
+returns-in-Dead-clause-looked g c =
+    let x = c.in_ok-extended.extended in
+    let p = c.args.problem.now in
+    let ends : EndsAt (shape_of p) (node_of x.node) (stop_of x.end) = (moved (shape c.args.graph.now) (shape_of p) c.requires.graph (node_of c.args.start) (map step_of x.steps.items) (node_of x.node) (stop_of x.end) c.in_ok-extended.ensures.extends).ends in
+    let end : EndsAt (shape_of p) (node_of x.node) (dead c.in-Dead.material) = subst (λ (s : Stop). EndsAt (shape_of p) (node_of x.node) (stop_of s)) c.in-Dead.is ends in
+    looked_closed g.E.Evaluator.past p (shape c.args.graph.now) c.requires.graph (node_of c.args.start) c.args.option (map step_of x.steps.items) c.from_vec.result x.node (stop_of x.end)
+    c.open_cell-cell.result (proper_if_valid c.args.problem.now c.is_valid.ensures.valid) c.requires.option c.from_vec.ensures c.open_cell-cell.ensures c.in_ok-extended.ensures.extends c.closed.result (leaves.dead c.in-Dead.material)
+    c.closed.ensures.cell c.closed.ensures.network c.closed.ensures.stop (λ (e : leaves.dead c.in-Dead.material ≡ leaves.untried). cc) refl end.0
+    (known_dead p (proper_if_valid p c.is_valid.ensures.valid) (node_of x.node) c.in-Dead.material end.0)
+
+pub returns-in-Clash-clause-looked : goal.returns-in-Clash-clause-looked
+returns-in-Clash-clause-looked g c =
+    let x = c.in_ok-extended.extended in
+    let p = c.args.problem.now in
+    let ends : EndsAt (shape_of p) (node_of x.node) (stop_of x.end) = (moved (shape c.args.graph.now) (shape_of p) c.requires.graph (node_of c.args.start) (map step_of x.steps.items) (node_of x.node) (stop_of x.end) c.in_ok-extended.ensures.extends).ends in
+    let end : EndsAt (shape_of p) (node_of x.node) (clash c.in-Clash.exclusion) = subst (λ (s : Stop). EndsAt (shape_of p) (node_of x.node) (stop_of s)) c.in-Clash.is ends in
+    looked_closed g.E.Evaluator.past p (shape c.args.graph.now) c.requires.graph (node_of c.args.start) c.args.option (map step_of x.steps.items) c.from_vec.result x.node (stop_of x.end)
+    c.open_cell-cell.result (proper_if_valid c.args.problem.now c.is_valid.ensures.valid) c.requires.option c.from_vec.ensures c.open_cell-cell.ensures c.in_ok-extended.ensures.extends c.closed-in-Clash.result (leaves.clash c.in-Clash.exclusion)
+    c.closed-in-Clash.ensures.cell c.closed-in-Clash.ensures.network c.closed-in-Clash.ensures.stop (λ (e : leaves.clash c.in-Clash.exclusion ≡ leaves.untried). cc) refl end.1.0 end.1.0.known
+
+pub returns-in-Decided-clause-looked : goal.returns-in-Decided-clause-looked
+returns-in-Decided-clause-looked g c =
+    let x = c.in_ok-extended.extended in
+    looked_ok g.E.Evaluator.past c.args.problem.now (shape c.args.graph.now) c.requires.graph (node_of c.args.start) c.args.option (map step_of x.steps.items) c.from_vec.result x.node (stop_of x.end)
+    c.open_cell-cell.result (proper_if_valid c.args.problem.now c.is_valid.ensures.valid) c.requires.option c.from_vec.ensures c.open_cell-cell.ensures c.in_ok-extended.ensures.extends c.look_closer.result c.look_closer.ensures.same c.look_closer.ensures.seen
+
+pub returns-in-Branch-clause-looked : goal.returns-in-Branch-clause-looked
+returns-in-Branch-clause-looked g c =
+    let x = c.in_ok-extended.extended in
+    looked_ok g.E.Evaluator.past c.args.problem.now (shape c.args.graph.now) c.requires.graph (node_of c.args.start) c.args.option (map step_of x.steps.items) c.from_vec.result x.node (stop_of x.end)
+    c.open_cell-cell.result (proper_if_valid c.args.problem.now c.is_valid.ensures.valid) c.requires.option c.from_vec.ensures c.open_cell-cell.ensures c.in_ok-extended.ensures.extends c.look_closer-in-Branch.result c.look_closer-in-Branch.ensures.same c.look_closer-in-Branch.ensures.seen

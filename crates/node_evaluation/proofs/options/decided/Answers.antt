@@ -1,0 +1,12 @@
+use Rattle.std.proofs.Common.{◌≡◌, ℕ, Bool, sym, ap, subst}
+use Rattle.number_sets.specs.Sets.{has}
+use Rattle.pgraph.specs.Tables.{shape}
+use Rattle.tree_rules.specs.Ways.{decides}
+use Rattle.branch_choice.specs.declared.choice.Choice.{Choice}
+use Rattle.branch_choice.specs.Choices.{way_of}
+use Rattle.node_evaluation.proofs.options.decided.Goals as goal
+
+pub returns-in-Material : goal.returns-in-Material
+returns-in-Material c =
+    subst (λ (m : Choice). has c.producers.result ≡ decides (shape c.args.graph.now) (way_of m)) (sym c.in-Material.is)
+    (λ k v. ap (λ (f : ℕ → Bool). f v) c.producers.ensures k)

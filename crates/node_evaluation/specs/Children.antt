@@ -1,0 +1,143 @@
+-- What a search sees of all children of a node, and the cheapest network that it knows then.
+use Rattle.std.specs.Prelude.{◌≡◌, ℕ, ℤ, ◌<◌, Bool, true, false, List, [], ◌∷◌, length, map, Option, Some, None, is_some}
+use Rattle.problem_rules.specs.Problem.{Problem}
+use Rattle.pns_rules.specs.Shape.{Shape, shape_of}
+use Rattle.pns_rules.specs.Nodes.{Node}
+use Rattle.pns_rules.specs.Ends.{IsSound}
+use Rattle.mixed_numbers.specs.declared.number.Mixed.{Mixed}
+use Rattle.tree_rules.specs.Ways.{Way}
+use Rattle.tree_rules.specs.Tree.{leaf}
+use Rattle.tree_rules.specs.Claim as claims
+use Rattle.tree_rules.specs.Claim.{CostOver, claimed_cost, ClaimPasses}
+use Rattle.tree_rules.specs.Leaf.{Leaf, bounded, untried, LeafPasses, IsBounded}
+use Rattle.search_tree.specs.Cells.{Cell, place_of, cell_at}
+use Rattle.search_tree.specs.Fits.{Follows}
+use Rattle.search_tree.specs.declared.growth.Fresh.{Fresh}
+use Rattle.turn_laws.specs.Values.{IsPositive, IsUnder, HasFallen, IsPositiveCost}
+use Rattle.turn_laws.specs.Kept.{LastIsBelow}
+use Rattle.turn_laws.specs.Turns.{IsFreshChild, AreChildren}
+use Rattle.branch_choice.specs.declared.choice.Choice.{Choice}
+use Rattle.branch_choice.specs.declared.choice.Choice.TheVariants.{Material, Unit as AtUnit}
+use Rattle.node_evaluation.specs.declared.evaluator.PastStop.{PastStop}
+use Rattle.node_evaluation.specs.declared.looks.Ready.{Ready}
+use Rattle.node_evaluation.specs.declared.looks.Looked.{Looked}
+use Rattle.node_evaluation.specs.declared.children.StoppedAt.{StoppedAt}
+use Rattle.node_evaluation.specs.declared.children.Children.{Children}
+use Rattle.node_evaluation.specs.Evaluated.{PastPlaces, cost_in}
+use Rattle.node_evaluation.specs.Looks.{cost_of, is_bounded, has_bounded, KnowsCell, IsFoundAt, AreFoundAt, IsSomeReady, IsStop, IsOpenAs}
+
+-- ---- the cheapest network
+
+-- the claim of the best network, nothing where there is none
+abbrev pub claim_with : Option claims.Network → claims.Claim
+claim_with (Some w) = claims.network w
+claim_with None = claims.unknown
+
+-- the network passes, and its cost is over a number above 0
+pub record IsBest (p : Problem) (best : Option claims.Network) : Type 0 where
+  pub passes : ClaimPasses true p (claim_with best)
+  pub positive : IsPositiveCost (claimed_cost (claim_with best))
+
+-- a network of nodes below n: it costs no more than the old one, and no less than any number that no relaxed flows of n undercut,
+-- where the old one did not
+pub record IsImproved (p : Problem) (n : Node) (old new : Option claims.Network) : Type 0 where
+  pub best : IsBest p new
+  pub fallen : HasFallen (claimed_cost (claim_with old)) (claimed_cost (claim_with new))
+  pub below : (v : CostOver) → IsPositive v → IsUnder p v n → LastIsBelow (Some v) (claimed_cost (claim_with old)) → LastIsBelow (Some v) (claimed_cost (claim_with new))
+
+-- ---- cells with their values, and what is at hand for those that are open
+
+abbrev pub cells_of : List Fresh → List Cell
+cells_of fs = map (λ (f : Fresh). f.cell) fs
+
+abbrev pub values_of : List Fresh → List Mixed
+values_of fs = map (λ (f : Fresh). f.value) fs
+
+abbrev pub AreReady : Problem → List Cell → List Mixed → List (Option Ready) → Type 0
+AreReady p [] [] [] = Unit {0}
+AreReady p (c ∷ cs) (v ∷ vs) (r ∷ rs) = (c.end ≡ leaf untried → IsSomeReady p (place_of c) v r) × AreReady p cs vs rs
+AreReady p [] [] (r ∷ rs) = ⊥
+AreReady p [] (v ∷ vs) rs = ⊥
+AreReady p (c ∷ cs) [] rs = ⊥
+AreReady p (c ∷ cs) (v ∷ vs) [] = ⊥
+
+-- ---- a child
+
+-- no child is looked at behind one that stops the search
+abbrev pub IsChildAs : PastPlaces → Problem → Node → Leaf → Mixed → Option Ready → Option PastStop → Bool → Type 0
+IsChildAs Past p n what value ready stop false = IsOpenAs Past p n what value ready stop
+IsChildAs Past p n what value ready stop true = stop ≡ None
+
+pub record IsChild (Past : PastPlaces) (p : Problem) (start : Node) (option : List ℕ) (stopped : Bool) (l : Looked) : Type 0 where
+  pub option_is : l.cell.option ≡ option
+  pub follows : Follows (shape_of p) start l.cell
+  pub sound : IsSound (shape_of p) (place_of l.cell)
+  pub what : Leaf
+  pub end_is : l.cell.end ≡ leaf what
+  pub passes : LeafPasses true p (cost_of l.network) (place_of l.cell) what
+  pub found : AreFoundAt p (place_of l.cell) l.network
+  pub bounded : is_some l.network ≡ is_bounded l.cell.end
+  pub known : KnowsCell p l.cell
+  pub open_as : IsChildAs Past p (place_of l.cell) what l.value l.ready l.stop stopped
+
+-- ---- all children
+
+-- all open children are ready, or one stops the search
+abbrev pub StopHolds : PastPlaces → Problem → List Fresh → List (Option Ready) → Option StoppedAt → Type 0
+StopHolds Past p nodes ready None = AreReady p (cells_of nodes) (values_of nodes) ready
+StopHolds Past p nodes ready (Some h) =
+    (h.at < length nodes) × ((cell_at (cells_of nodes) h.at).end ≡ leaf untried) × IsStop Past p (place_of (cell_at (cells_of nodes) h.at)) h.stop
+
+abbrev pub stop_after : Option StoppedAt → ℕ → Option PastStop → Option StoppedAt
+stop_after old at None = old
+stop_after old at (Some h) = Some (record { at = at; stop = h })
+
+-- the options of the children
+abbrev pub options_in : Children → List (List ℕ)
+options_in c = map (λ (d : Cell). d.option) (cells_of c.nodes.items)
+
+-- these children pass where the cheapest network is claimed that was found among them, and so where a cheaper one is; one was found
+-- exactly where a child is a bounded leaf
+pub record AreLooked (Past : PastPlaces) (p : Problem) (n : Node) (w : Way) (c : Children) : Type 0 where
+  pub each : (k : ℕ) → k < length (cells_of c.nodes.items) → IsFreshChild p (claimed_cost (claim_with c.best)) n w (cell_at (cells_of c.nodes.items) k)
+  pub found : IsImproved p n None c.best
+  pub bounded : is_some c.best ≡ has_bounded (cells_of c.nodes.items)
+  pub known : (k : ℕ) → k < length c.nodes.items → KnowsCell p (cell_at (cells_of c.nodes.items) k)
+  pub same_length : length c.ready.items ≡ length c.nodes.items
+  pub stop_holds : StopHolds Past p c.nodes.items c.ready.items c.stop
+
+-- the same of all children
+pub record AreSeen (Past : PastPlaces) (p : Problem) (n : Node) (w : Way) (c : Children) : Type 0 where
+  pub children : AreChildren p (claimed_cost (claim_with c.best)) n w (cells_of c.nodes.items)
+  pub found : IsImproved p n None c.best
+  pub bounded : is_some c.best ≡ has_bounded (cells_of c.nodes.items)
+  pub known : (k : ℕ) → k < length c.nodes.items → KnowsCell p (cell_at (cells_of c.nodes.items) k)
+  pub same_length : length c.ready.items ≡ length c.nodes.items
+  pub stop_holds : StopHolds Past p c.nodes.items c.ready.items c.stop
+
+-- ---- the network of each leaf
+
+-- the cell is a leaf at which the network was found, and bounded by its cost
+pub record IsSolvedAs (p : Problem) (c : Cell) (w : claims.Network) : Type 0 where
+  pub d : ℤ
+  pub ys : List ℤ
+  pub end_is : c.end ≡ leaf (bounded d ys)
+  pub found : IsFoundAt p (place_of c) w
+  pub bounded : IsBounded p (Some (cost_in w)) (place_of c) d ys
+
+-- the cell is such a leaf, or not bounded
+abbrev pub IsSolvedBy : Problem → Cell → Option claims.Network → Type 0
+IsSolvedBy p c None = is_bounded c.end ≡ false
+IsSolvedBy p c (Some w) = IsSolvedAs p c w
+
+-- there is a network for each cell that is bounded, and for no other
+abbrev pub AreSolvedBy : Problem → List Cell → List (Option claims.Network) → Type 0
+AreSolvedBy p [] [] = Unit {0}
+AreSolvedBy p [] (w ∷ ws) = ⊥
+AreSolvedBy p (c ∷ cs) [] = ⊥
+AreSolvedBy p (c ∷ cs) (w ∷ ws) = IsSolvedBy p c w × AreSolvedBy p cs ws
+
+-- the graph has the material, or a unit of this number can be in a set
+abbrev pub IsKnown : Shape → Choice → Type 0
+IsKnown g (Material x) = x < g.materials
+IsKnown g (AtUnit u) = u < 128

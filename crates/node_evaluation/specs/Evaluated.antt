@@ -1,0 +1,67 @@
+-- What a search is told of a node that no step changes any more: the least cost of its relaxed flows with multipliers that prove a
+-- lower bound of it, a network of that cost, multipliers that refute it, or the place where a number is past the range.
+use Rattle.std.specs.Prelude.{◌≡◌, ℕ, pos, ◌≤ℤ◌, Bool, true, false, List, Some}
+use Rattle.number_sets.specs.Sets.{has}
+use Rattle.problem_rules.specs.Problem.{Problem}
+use Rattle.pns_rules.specs.Nodes.{Node}
+use Rattle.mixed_numbers.specs.declared.number.Mixed.{Mixed}
+use Rattle.mixed_numbers.specs.Number.{numerator, denominator}
+use Rattle.flow_program.specs.declared.place.Column.{Column}
+use Rattle.flow_program.specs.declared.place.Place.{Place}
+use Rattle.tree_rules.specs.Claim.{Network, CostOver, IsFeasible}
+use Rattle.tree_rules.specs.Leaf.{IsRefuted, IsBounded}
+use Rattle.turn_laws.specs.Values.{IsValueOf, IsNoMore}
+use Rattle.node_evaluation.specs.declared.evaluator.Bound.{Bound}
+use Rattle.node_evaluation.specs.declared.evaluator.Evaluation.{Evaluation}
+use Rattle.node_evaluation.specs.declared.evaluator.Evaluation.TheVariants.{Least, Flows, Refuted, Stopped}
+use Rattle.node_evaluation.specs.declared.evaluator.Proof.{Proof}
+use Rattle.node_evaluation.specs.declared.evaluator.Proof.TheVariants as proofs
+
+-- what is said of a node, the columns outside a basis, and a place where the basis leads past the range
+abbrev pub PastPlaces : Type 1
+PastPlaces = Problem → Node → List Column → Place → Type 0
+
+-- a mixed number as a cost
+abbrev pub cost_over : Mixed → CostOver
+cost_over m = record { cost = numerator m; d = denominator m }
+
+-- the cost of a network
+abbrev pub cost_in : Network → CostOver
+cost_in w = record { cost = w.cost; d = w.d }
+
+-- the value is the least cost of relaxed flows of the node, and the multipliers prove that none is less than `low`, which is no more
+pub record IsBoundOf (p : Problem) (n : Node) (b : Bound) : Type 0 where
+  pub value : IsValueOf p n (cost_over b.value)
+  pub no_more : IsNoMore (cost_over b.low) (cost_over b.value)
+  pub bounded : IsBounded p (Some (cost_over b.low)) n b.scaled.d b.scaled.ys
+
+-- the network has flows, and its cost is the value
+pub record IsNetworkOf (p : Problem) (value : Mixed) (w : Network) : Type 0 where
+  pub feasible : IsFeasible p w
+  pub positive : pos 1 ≤ℤ w.d
+  pub no_more : IsNoMore (cost_in w) (cost_over value)
+  pub no_less : IsNoMore (cost_over value) (cost_in w)
+
+-- the units that are taken in at the node are those of the network
+abbrev pub HasUnits : Node → Network → Type 0
+HasUnits n w = (u : ℕ) → n.inside u ≡ has w.units u
+
+-- of a node at which all is decided the network is told, whose cost the multipliers prove, of others the least cost
+abbrev pub IsEvaluated : PastPlaces → Problem → Node → Bool → Evaluation → Type 0
+IsEvaluated Past p n decided (Least b) = (decided ≡ false) × IsBoundOf p n b
+IsEvaluated Past p n decided (Flows b w) = (decided ≡ true) × IsBoundOf p n b × IsNetworkOf p b.value w × IsNoMore (cost_in w) (cost_over b.low) × HasUnits n w
+IsEvaluated Past p n decided (Refuted ys) = IsRefuted p n ys
+IsEvaluated Past p n decided (Stopped h) = Past p n h.nonbasic h.place
+
+-- ---- a cost that a node's value reaches
+
+-- the node's least cost of relaxed flows is no less than this cost
+pub record IsWorth (p : Problem) (n : Node) (cost : CostOver) : Type 0 where
+  pub value : CostOver
+  pub is_value : IsValueOf p n value
+  pub no_less : IsNoMore cost value
+
+-- multipliers that prove that no relaxed flows of the node cost less, or the place where a number is past the range
+abbrev pub IsProof : PastPlaces → Problem → Node → CostOver → Proof → Type 0
+IsProof Past p n cost (proofs.Scaled s) = IsBounded p (Some cost) n s.d s.ys
+IsProof Past p n cost (proofs.Stopped h) = Past p n h.nonbasic h.place

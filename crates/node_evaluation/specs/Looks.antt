@@ -1,0 +1,111 @@
+-- What a search sees where it looks at a node: the steps that are possible, the node that they leave, and its end.
+use Rattle.std.specs.Prelude.{◌≡◌, ℕ, ◌<◌, pos, ◌≤ℤ◌, Bool, true, false, ◌||◌, List, [], ◌∷◌, Option, Some, None, is_some}
+use Rattle.problem_rules.specs.Problem.{Problem}
+use Rattle.pns_rules.specs.Shape.{shape_of}
+use Rattle.pns_rules.specs.Nodes.{Node, is_free}
+use Rattle.pns_rules.specs.Ends.{IsSound, IsReduced, IsDead, IsNever}
+use Rattle.mixed_numbers.specs.declared.number.Mixed.{Mixed}
+use Rattle.tree_rules.specs.Tree.{End, branch, leaf}
+use Rattle.tree_rules.specs.Claim.{Network, CostOver, IsFeasible}
+use Rattle.tree_rules.specs.Leaf.{Leaf, dead, clash, refuted, bounded, untried, LeafPasses}
+use Rattle.branch_tree.specs.Known.{KnowsNode, KnowsEnd}
+use Rattle.search_tree.specs.Cells.{Cell, place_of}
+use Rattle.search_tree.specs.Fits.{Follows}
+use Rattle.turn_laws.specs.Values.{IsPositive, IsUnder, IsNoMore}
+use Rattle.branch_choice.specs.Choices.{IsChoice}
+use Rattle.node_evaluation.specs.declared.evaluator.PastStop.{PastStop}
+use Rattle.node_evaluation.specs.declared.looks.Ready.{Ready}
+use Rattle.node_evaluation.specs.declared.looks.Looked.{Looked}
+use Rattle.node_evaluation.specs.Evaluated.{PastPlaces, cost_in, IsBoundOf, HasUnits}
+
+-- ---- an open leaf
+
+-- the node is reduced, and all that its branching or shutting takes is at hand: how it is branched, and the bound, whose value is
+-- the leaf's
+pub record IsReady (p : Problem) (n : Node) (value : Mixed) (r : Ready) : Type 0 where
+  pub reduced : IsReduced (shape_of p) n
+  pub choice : IsChoice (shape_of p) n r.choice
+  pub bound : IsBoundOf p n r.bound
+  pub value_is : r.bound.value ≡ value
+
+abbrev pub IsSomeReady : Problem → Node → Mixed → Option Ready → Type 0
+IsSomeReady p n value None = ⊥
+IsSomeReady p n value (Some r) = IsReady p n value r
+
+-- the node is reduced, and a number of its program is past the range
+pub record IsStop (Past : PastPlaces) (p : Problem) (n : Node) (h : PastStop) : Type 0 where
+  pub reduced : IsReduced (shape_of p) n
+  pub past : Past p n h.nonbasic h.place
+
+-- an open leaf is ready, but for one that stops the search
+abbrev pub IsOpenAs : PastPlaces → Problem → Node → Leaf → Mixed → Option Ready → Option PastStop → Type 0
+IsOpenAs Past p n what value ready None = what ≡ untried → IsSomeReady p n value ready
+IsOpenAs Past p n what value ready (Some h) = (what ≡ untried) × IsStop Past p n h
+
+-- ---- what a cell ends with
+
+-- whether the end is a leaf that multipliers bound
+abbrev pub is_bounded_leaf : Leaf → Bool
+is_bounded_leaf (dead x) = false
+is_bounded_leaf (clash k) = false
+is_bounded_leaf (refuted ys) = false
+is_bounded_leaf (bounded d ys) = true
+is_bounded_leaf untried = false
+
+abbrev pub is_bounded : End Leaf → Bool
+is_bounded (branch w) = false
+is_bounded (leaf l) = is_bounded_leaf l
+
+-- whether one of the cells ends so
+abbrev pub has_bounded : List Cell → Bool
+has_bounded [] = false
+has_bounded (c ∷ cs) = is_bounded c.end || has_bounded cs
+
+-- the numbers of the cell's option, steps and end are below the problem's counts, or in range
+abbrev pub KnowsCell : Problem → Cell → Type 0
+KnowsCell p c = KnowsNode p (record { option = c.option; steps = c.steps; end = c.end })
+
+-- ---- a network
+
+abbrev pub cost_of : Option Network → Option CostOver
+cost_of None = None
+cost_of (Some w) = Some (cost_in w)
+
+-- no needed material of the node is dead, no unit is free there, and those taken in are the network's; the network has flows, and
+-- costs no less than any number that no relaxed flows of the node undercut
+pub record IsFoundAt (p : Problem) (n : Node) (w : Network) : Type 0 where
+  pub alive : IsNever (IsDead (shape_of p) n)
+  pub none_free : (u : ℕ) → u < (shape_of p).units → is_free (shape_of p) n u ≡ false
+  pub units : HasUnits n w
+  pub feasible : IsFeasible p w
+  pub positive : pos 1 ≤ℤ w.d
+  pub no_less : (v : CostOver) → IsPositive v → IsUnder p v n → IsNoMore v (cost_in w)
+
+abbrev pub AreFoundAt : Problem → Node → Option Network → Type 0
+AreFoundAt p n None = Unit {0}
+AreFoundAt p n (Some w) = IsFoundAt p n w
+
+-- ---- the look
+
+-- the cell with another end
+pub record IsSameNode (c d : Cell) : Type 0 where
+  pub option : d.option ≡ c.option
+  pub steps : d.steps ≡ c.steps
+  pub node : d.node ≡ c.node
+
+-- the cell is a leaf, which passes where the network is claimed that was found, and is bounded exactly where one was
+pub record IsSeen (Past : PastPlaces) (p : Problem) (l : Looked) : Type 0 where
+  pub what : Leaf
+  pub end_is : l.cell.end ≡ leaf what
+  pub passes : LeafPasses true p (cost_of l.network) (place_of l.cell) what
+  pub found : AreFoundAt p (place_of l.cell) l.network
+  pub bounded : is_some l.network ≡ is_bounded l.cell.end
+  pub open_as : IsOpenAs Past p (place_of l.cell) what l.value l.ready l.stop
+  pub end_known : KnowsEnd p l.cell.end
+
+pub record IsLooked (Past : PastPlaces) (p : Problem) (start : Node) (option : List ℕ) (l : Looked) : Type 0 where
+  pub option_is : l.cell.option ≡ option
+  pub follows : Follows (shape_of p) start l.cell
+  pub sound : IsSound (shape_of p) (place_of l.cell)
+  pub seen : IsSeen Past p l
+  pub known : KnowsCell p l.cell

@@ -1,0 +1,258 @@
+//! A look at all children of a node.
+ghost use Rattle.std.specs.Prelude.{◌≡◌, ◌⊎◌, ◌↔◌, ◌++◌, ◌∷◌, [], ◌||◌, cond, IsTrue, true, false, Some, None, is_some, IfOk, OnOk, length};
+ghost use Rattle.pns_rules.specs.Shape.{shape_of};
+ghost use Rattle.number_sets.specs.Options.{IsIn};
+ghost use Rattle.pns_rules.specs.Ends.{IsSound, IsReduced};
+ghost use Rattle.tree_rules.specs.Ways.{options_at};
+ghost use Rattle.branch_choice.specs.Choices.{IsChoice, way_of};
+ghost use Rattle.pgraph.specs.Tables.{shape};
+ghost use Rattle.pgraph.specs.View.{node_of};
+ghost use Rattle.turn_laws.specs.Values.{IsNoMore, HasFallen};
+ghost use Rattle.node_evaluation.specs.Evaluated.{cost_in};
+ghost use Rattle.node_evaluation.specs.Looks.{cost_of};
+ghost use Rattle.node_evaluation.specs.Children.{IsChild, AreLooked, AreSeen, AreSolvedBy, cells_of, options_in, stop_after};
+ghost use Rattle.branch_tree.specs.Known.{AreUnits};
+ghost use Rattle.neutral_extension.specs.Candidates.{AreMakersOf};
+
+use crate::costs::is_no_more;
+use crate::evaluator::{Evaluator, PastStop};
+use crate::looks::{Looked, Ready, look, nothing, open_cell};
+use crate::options::{child_of, options_of};
+use branch_choice::Choice;
+use branch_tree::{Network, Steps};
+use neutral_extension::Makers;
+use pgraph::Graph;
+use pns_problem::Problem;
+use search_tree::Fresh;
+use std::alloc::{AllocError, Global};
+use unit_sets::{Node, UnitSet};
+
+/// A child by its number among the children, and why it stops the search.
+#[derive(Drop)]
+pub struct StoppedAt {
+    pub at: usize,
+    pub stop: PastStop,
+}
+
+/// The children of a node in the order of their options, with what is at hand for each; the cheapest network that was found among
+/// them; the network that was found at each, where all are asked for; and the first child that stops the search. Those behind it are
+/// not looked at.
+#[derive(Drop)]
+pub struct Children {
+    pub nodes: Vec<Fresh>,
+    pub ready: Vec<Option<Ready>>,
+    pub best: Option<Network>,
+    pub networks: Vec<Option<Network>>,
+    pub stop: Option<StoppedAt>,
+}
+
+/// Whether the first network costs no more than the second.
+pub fn costs_no_more(a: &Network, b: &Network) -> bool
+    ensures { IsTrue result ↔ IsNoMore (cost_in a.now) (cost_in b.now) }
+{
+    a.is_sized();
+    b.is_sized();
+    is_no_more(a.cost(), a.d(), b.cost(), b.d())
+}
+
+/// The cheaper network, the old one where they cost the same.
+pub fn cheaper(old: Option<Network>, found: Option<Network>) -> Option<Network>
+    ensures which { (result ≡ old) ⊎ (result ≡ found) }
+    ensures old { HasFallen (cost_of old) (cost_of result) }
+    ensures found { HasFallen (cost_of found) (cost_of result) }
+    ensures some { is_some result ≡ (is_some old || is_some found) }
+{
+    let Some(new) = found else {
+        return old;
+    };
+    let Some(best) = old else {
+        return Some(new);
+    };
+    if costs_no_more(&best, &new) {
+        Some(best)
+    } else {
+        Some(new)
+    }
+}
+
+fn stopped_after(old: Option<StoppedAt>, at: usize, stop: Option<PastStop>) -> Option<StoppedAt>
+    ensures { result ≡ stop_after old at stop }
+{
+    match stop {
+        None => old,
+        Some(stop) => Some(StoppedAt { at, stop }),
+    }
+}
+
+/// A copy of a network.
+pub fn copy_of_network(
+    alloc: Global,
+    network: &Option<Network>,
+) -> Result<Option<Network>, AllocError>
+    ensures { IfOk result (λ copy. copy ≡ network.now) }
+{
+    let Some(network) = network else {
+        return Ok(None);
+    };
+    network.is_sized();
+    let sizes = network.sizes().to_vec(alloc)?;
+    Ok(Some(Network::of(network.units(), sizes, network.d(), network.cost())))
+}
+
+/// The networks with a copy of one more, where all are asked for.
+fn with_network(
+    alloc: Global,
+    networks: Vec<Option<Network>>,
+    network: &Option<Network>,
+    all: bool,
+) -> Result<Vec<Option<Network>>, AllocError>
+    ensures { IfOk result (λ ws. ws.items ≡ cond all (networks.items ++ network.now ∷ []) networks.items) }
+{
+    if !all {
+        return Ok(networks);
+    }
+    let mut networks = networks;
+    let copy = copy_of_network(alloc, network)?;
+    networks.push(copy)?;
+    Ok(networks)
+}
+
+/// The children with one more.
+fn with_child(
+    alloc: Global,
+    children: Children,
+    looked: Looked,
+    all: bool,
+) -> Result<Children, AllocError>
+    ensures nodes { IfOk result (λ c. c.nodes.items ≡ children.nodes.items ++ record { cell = looked.cell; value = looked.value } ∷ []) }
+    ensures ready { IfOk result (λ c. c.ready.items ≡ children.ready.items ++ looked.ready ∷ []) }
+    ensures which { IfOk result (λ c. (c.best ≡ children.best) ⊎ (c.best ≡ looked.network)) }
+    ensures old { IfOk result (λ c. HasFallen (cost_of children.best) (cost_of c.best)) }
+    ensures found { IfOk result (λ c. HasFallen (cost_of looked.network) (cost_of c.best)) }
+    ensures some { IfOk result (λ c. is_some c.best ≡ (is_some children.best || is_some looked.network)) }
+    ensures networks { IfOk result (λ c. c.networks.items ≡ cond all (children.networks.items ++ looked.network ∷ []) children.networks.items) }
+    ensures stop { IfOk result (λ c. c.stop ≡ stop_after children.stop (length children.nodes.items) looked.stop) }
+{
+    let networks = with_network(alloc, children.networks, &looked.network, all)?;
+    let mut nodes = children.nodes;
+    let mut ready = children.ready;
+    let at = nodes.len();
+    nodes.push(Fresh {
+        cell: looked.cell,
+        value: looked.value,
+    })?;
+    ready.push(looked.ready)?;
+    Ok(Children {
+        nodes,
+        ready,
+        best: cheaper(children.best, looked.network),
+        networks,
+        stop: stopped_after(children.stop, at, looked.stop),
+    })
+}
+
+/// Looks at a child, or leaves it open where another stops the search.
+fn look_or_wait<E: Evaluator>(
+    alloc: Global,
+    evaluator: &mut E,
+    problem: &Problem,
+    graph: &Graph,
+    makers: &mut Makers,
+    option: UnitSet,
+    start: Node,
+    stopped: bool,
+) -> Result<Looked, AllocError>
+    requires graph { shape graph.now ≡ shape_of problem.now }
+    requires same { AreMakersOf (shape graph.now) makers.old.makers }
+    requires sound { IsSound (shape_of problem.now) (node_of start) }
+    requires option { AreUnits problem.now option }
+    ensures child { IfOk result (IsChild E.past problem.now (node_of start) option stopped) }
+    ensures makers { makers.new.makers ≡ makers.old.makers }
+{
+    if !stopped {
+        return look(alloc, evaluator, problem, graph, makers, option, start);
+    }
+    Ok(Looked {
+        cell: open_cell(option, Steps::from_vec(Vec::new(alloc)), start),
+        value: nothing(),
+        ready: None,
+        network: None,
+        stop: None,
+    })
+}
+
+/// Looks at the child of one option more.
+fn look_at_child<E: Evaluator>(
+    alloc: Global,
+    evaluator: &mut E,
+    problem: &Problem,
+    graph: &Graph,
+    makers: &mut Makers,
+    node: &Node,
+    choice: Choice,
+    option: UnitSet,
+    children: Children,
+    all: bool,
+) -> Result<Children, AllocError>
+    requires graph { shape graph.now ≡ shape_of problem.now }
+    requires same { AreMakersOf (shape graph.now) makers.old.makers }
+    requires sound { IsSound (shape_of problem.now) (node_of node.now) }
+    requires reduced { IsReduced (shape_of problem.now) (node_of node.now) }
+    requires choice { IsChoice (shape_of problem.now) (node_of node.now) choice }
+    requires option { IsIn option (options_at (shape_of problem.now) (node_of node.now) (way_of choice)) }
+    requires looked { AreLooked E.past problem.now (node_of node.now) (way_of choice) children }
+    requires solved { all ≡ true → AreSolvedBy problem.now (cells_of children.nodes.items) children.networks.items }
+    ensures looked { IfOk result (AreLooked E.past problem.now (node_of node.now) (way_of choice)) }
+    ensures solved { IfOk result (λ c. all ≡ true → AreSolvedBy problem.now (cells_of c.nodes.items) c.networks.items) }
+    ensures options { IfOk result (λ c. options_in c ≡ options_in children ++ option ∷ []) }
+    ensures makers { makers.new.makers ≡ makers.old.makers }
+{
+    problem.is_valid();
+    graph.is_proper();
+    let start = child_of(graph, node, choice, option);
+    let stopped = children.stop.is_some();
+    let looked = look_or_wait(
+        alloc, evaluator, problem, graph, makers, option, start, stopped,
+    )?;
+    with_child(alloc, children, looked, all)
+}
+
+/// Looks at all children of a node that a choice gives, in the order of their options, and copies each network where `all` are asked
+/// for. The makers are those of the graph, whichever
+/// units are taken out of them, and stay so. `Err` comes for want of memory alone.
+pub fn look_at_children<E: Evaluator>(
+    alloc: Global,
+    evaluator: &mut E,
+    problem: &Problem,
+    graph: &Graph,
+    makers: &mut Makers,
+    node: Node,
+    choice: Choice,
+    all: bool,
+) -> Result<Children, AllocError>
+    requires graph { shape graph.now ≡ shape_of problem.now }
+    requires same { AreMakersOf (shape graph.now) makers.old.makers }
+    requires sound { IsSound (shape_of problem.now) (node_of node) }
+    requires reduced { IsReduced (shape_of problem.now) (node_of node) }
+    requires choice { IsChoice (shape_of problem.now) (node_of node) choice }
+    ensures seen { IfOk result (AreSeen E.past problem.now (node_of node) (way_of choice)) }
+    ensures solved { IfOk result (λ c. all ≡ true → AreSolvedBy problem.now (cells_of c.nodes.items) c.networks.items) }
+    ensures makers { makers.new.makers ≡ makers.old.makers }
+{
+    problem.is_valid();
+    graph.is_proper();
+    let options = options_of(alloc, graph, &node, choice)?;
+    let mut children = Children {
+        nodes: Vec::new(alloc),
+        ready: Vec::new(alloc),
+        best: None,
+        networks: Vec::new(alloc),
+        stop: None,
+    };
+    'options: for option in &options {
+        children = look_at_child(
+            alloc, evaluator, problem, graph, makers, &node, choice, *option, children, all,
+        )?;
+    }
+    Ok(children)
+}

@@ -1,0 +1,94 @@
+//! How a search comes to know the value of a node.
+ghost use Rattle.std.specs.Prelude.{◌≡◌, pos, ◌≤ℤ◌, true, IfOk};
+ghost use Rattle.pns_rules.specs.Shape.{shape_of};
+ghost use Rattle.pns_rules.specs.Ends.{IsSound, IsReduced, IsDecided};
+ghost use Rattle.pgraph.specs.Tables.{shape};
+ghost use Rattle.pgraph.specs.View.{node_of};
+ghost use Rattle.node_evaluation.specs.Evaluated.{PastPlaces, IsEvaluated, IsWorth, IsProof};
+
+use branch_tree::{Columns, Multipliers, Network, Scaled};
+use flow_program::Place;
+use mixed_numbers::Mixed;
+use pgraph::Graph;
+use pns_problem::Problem;
+use std::alloc::{AllocError, Global};
+use unit_sets::Node;
+
+/// The least cost of relaxed flows, and multipliers over their scale, which prove that no relaxed flows cost less than `low`.
+#[derive(Drop)]
+pub struct Bound {
+    pub value: Mixed,
+    pub low: Mixed,
+    pub scaled: Scaled,
+}
+
+/// The columns outside a basis, and the place where a number is past the range.
+#[derive(Drop)]
+pub struct PastStop {
+    pub nonbasic: Columns,
+    pub place: Place,
+}
+
+/// What is told of a node.
+#[derive(Drop)]
+pub enum Evaluation {
+    /// The node has relaxed flows, the cheapest of this value.
+    Least(Bound),
+    /// All is decided at the node, and the network of its units costs just the value, which `low` reaches.
+    Flows(Bound, Network),
+    /// The node has no relaxed flows.
+    Refuted(Multipliers),
+    /// A number is past the range.
+    Stopped(PastStop),
+}
+
+/// What is told of a node that is worth no less than a cost.
+#[derive(Drop)]
+pub enum Proof {
+    /// Multipliers over their scale that prove so.
+    Scaled(Scaled),
+    /// A number is past the range.
+    Stopped(PastStop),
+}
+
+/// Tells what a node is worth.
+pub trait Evaluator {
+    ghost past: { PastPlaces };
+
+    /// Evaluates a node that no step changes any more; `decided` tells whether all is decided there.
+    fn evaluate(
+        &mut self,
+        alloc: Global,
+        problem: &Problem,
+        graph: &Graph,
+        node: Node,
+        decided: bool,
+    ) -> Result<Evaluation, AllocError>
+        requires graph { shape graph.now ≡ shape_of problem.now }
+        requires sound { IsSound (shape_of problem.now) (node_of node) }
+        requires reduced { IsReduced (shape_of problem.now) (node_of node) }
+        requires split { decided ≡ true → IsDecided (shape_of problem.now) (node_of node) }
+        ensures { IfOk result (IsEvaluated past problem.now (node_of node) decided) };
+
+    /// Proves that no relaxed flows of a node, which no step changes any more and which has some, cost less than `cost` over `d`, in
+    /// 10^-18 of the money unit. `Err` comes for want of memory alone.
+    fn prove(
+        &mut self,
+        alloc: Global,
+        problem: &Problem,
+        graph: &Graph,
+        node: Node,
+        cost: i128,
+        d: i128,
+    ) -> Result<Proof, AllocError>
+        requires graph { shape graph.now ≡ shape_of problem.now }
+        requires sound { IsSound (shape_of problem.now) (node_of node) }
+        requires reduced { IsReduced (shape_of problem.now) (node_of node) }
+        requires positive { pos 1 ≤ℤ d }
+        requires worth { IsWorth problem.now (node_of node) (record { cost = cost; d = d }) }
+        ensures { IfOk result (IsProof past problem.now (node_of node) (record { cost = cost; d = d })) };
+
+    /// The size of each unit that is not left out at the node evaluated last, in rising order and in whole millionths, where least
+    /// flows were found. A guide for the choice of a branch: nothing rests on it.
+    fn sizes(&self) -> &[i64];
+}

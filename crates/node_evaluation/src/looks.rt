@@ -1,0 +1,181 @@
+//! A look at a node.
+ghost use Rattle.std.specs.Prelude.{◌≡◌, true, false, Some, None, IfOk};
+ghost use Rattle.pns_rules.specs.Shape.{shape_of};
+ghost use Rattle.pns_rules.specs.Ends.{IsSound, IsReduced, IsDecided, IsUndecided, IsFirst};
+ghost use Rattle.pgraph.specs.Tables.{shape};
+ghost use Rattle.pgraph.specs.View.{node_of};
+ghost use Rattle.tree_rules.specs.Tree.{leaf};
+ghost use Rattle.tree_rules.specs.Leaf.{untried, bounded};
+ghost use Rattle.branch_tree.specs.View.{end_of};
+ghost use Rattle.branch_tree.specs.Known.{AreUnits};
+ghost use Rattle.neutral_extension.specs.Candidates.{AreMakersOf};
+ghost use Rattle.search_tree.specs.Growth.{as_shut};
+ghost use Rattle.node_evaluation.specs.Looks.{IsLooked, IsSameNode, IsSeen};
+
+use crate::evaluator::{Bound, Evaluation, Evaluator, PastStop};
+use branch_choice::{Choice, choose};
+use branch_tree::{End, Network, Steps};
+use mixed_numbers::Mixed;
+use neutral_extension::{Makers, Stop, extend_with};
+use pgraph::Graph;
+use pns_problem::Problem;
+use search_tree::Cell;
+use std::alloc::{AllocError, Global};
+use unit_sets::{Node, UnitSet};
+
+/// What the branching or shutting of an open leaf takes: how it is branched, and the bound.
+#[derive(Drop)]
+pub struct Ready {
+    pub choice: Choice,
+    pub bound: Bound,
+}
+
+/// What is seen at a node.
+#[derive(Drop)]
+pub struct Looked {
+    /// The node after its steps, with its end.
+    pub cell: Cell,
+    /// The value of an open leaf.
+    pub value: Mixed,
+    /// What is at hand for an open leaf.
+    pub ready: Option<Ready>,
+    /// The network that was found here.
+    pub network: Option<Network>,
+    /// Where a number is past the range.
+    pub stop: Option<PastStop>,
+}
+
+/// No cost.
+pub(crate) fn nothing() -> Mixed {
+    Mixed::of(0, 1)
+}
+
+/// A closed leaf.
+fn closed(cell: Cell, end: End) -> Looked
+    ensures cell { result.cell ≡ as_shut cell (end_of end) }
+    ensures ready { result.ready ≡ None }
+    ensures network { result.network ≡ None }
+    ensures stop { result.stop ≡ None }
+{
+    let mut cell = cell;
+    cell.make_end(end);
+    Looked {
+        cell,
+        value: nothing(),
+        ready: None,
+        network: None,
+        stop: None,
+    }
+}
+
+/// A leaf at which a network was found.
+fn solved(cell: Cell, bound: Bound, network: Network) -> Looked
+    ensures cell { result.cell ≡ as_shut cell (leaf (bounded bound.scaled.d bound.scaled.ys)) }
+    ensures network { result.network ≡ Some network }
+    ensures stop { result.stop ≡ None }
+{
+    let mut cell = cell;
+    let value = bound.value;
+    cell.make_end(End::Bound(bound.scaled));
+    Looked {
+        cell,
+        value,
+        ready: None,
+        network: Some(network),
+        stop: None,
+    }
+}
+
+/// Evaluates the node of an open cell.
+fn look_closer<E: Evaluator>(
+    alloc: Global,
+    evaluator: &mut E,
+    problem: &Problem,
+    graph: &Graph,
+    cell: Cell,
+    material: u32,
+    decided: bool,
+) -> Result<Looked, AllocError>
+    requires graph { shape graph.now ≡ shape_of problem.now }
+    requires sound { IsSound (shape_of problem.now) (node_of cell.node) }
+    requires reduced { IsReduced (shape_of problem.now) (node_of cell.node) }
+    requires split { decided ≡ true → IsDecided (shape_of problem.now) (node_of cell.node) }
+    requires first { decided ≡ false → IsFirst (IsUndecided (shape_of problem.now) (node_of cell.node)) material }
+    requires open { cell.end ≡ leaf untried }
+    ensures same { IfOk result (λ l. IsSameNode cell l.cell) }
+    ensures seen { IfOk result (IsSeen E.past problem.now) }
+{
+    match evaluator.evaluate(alloc, problem, graph, cell.node, decided)? {
+        Evaluation::Least(bound) => {
+            let choice = choose(problem, graph, cell.node, material, evaluator.sizes());
+            Ok(Looked {
+                cell,
+                value: bound.value,
+                ready: Some(Ready { choice, bound }),
+                network: None,
+                stop: None,
+            })
+        }
+        Evaluation::Flows(bound, network) => {
+            bound.scaled.are_in_range();
+            Ok(solved(cell, bound, network))
+        }
+        Evaluation::Refuted(ys) => {
+            ys.are_in_range();
+            Ok(closed(cell, End::Refuted(ys)))
+        }
+        Evaluation::Stopped(stop) => Ok(Looked {
+            cell,
+            value: nothing(),
+            ready: None,
+            network: None,
+            stop: Some(stop),
+        }),
+    }
+}
+
+/// An open leaf at the node.
+pub fn open_cell(option: UnitSet, steps: Steps, node: Node) -> Cell
+    ensures { result ≡ record { option = option; steps = steps; node = node; first = 0; end = leaf untried; key = 0 } }
+{
+    Cell {
+        option,
+        steps,
+        node,
+        first: 0,
+        end: End::Open,
+        key: 0,
+    }
+}
+
+/// Takes the steps that are possible at a node, and tells what they leave. The makers are those of the graph, whichever units are
+/// taken out of them, and stay so. `Err` comes for want of memory alone.
+pub fn look<E: Evaluator>(
+    alloc: Global,
+    evaluator: &mut E,
+    problem: &Problem,
+    graph: &Graph,
+    makers: &mut Makers,
+    option: UnitSet,
+    start: Node,
+) -> Result<Looked, AllocError>
+    requires graph { shape graph.now ≡ shape_of problem.now }
+    requires same { AreMakersOf (shape graph.now) makers.old.makers }
+    requires sound { IsSound (shape_of problem.now) (node_of start) }
+    requires option { AreUnits problem.now option }
+    ensures looked { IfOk result (IsLooked E.past problem.now (node_of start) option) }
+    ensures makers { makers.new.makers ≡ makers.old.makers }
+{
+    problem.is_valid();
+    makers.lead_to(graph, start.outside);
+    let extended = extend_with(alloc, graph, makers, start)?;
+    let cell = open_cell(option, Steps::from_vec(extended.steps), extended.node);
+    match extended.end {
+        Stop::Dead(material) => Ok(closed(cell, End::Dead(material))),
+        Stop::Clash(exclusion) => Ok(closed(cell, End::Clash(exclusion))),
+        Stop::Decided => look_closer(alloc, evaluator, problem, graph, cell, 0, true),
+        Stop::Branch(material) => {
+            look_closer(alloc, evaluator, problem, graph, cell, material, false)
+        }
+    }
+}
