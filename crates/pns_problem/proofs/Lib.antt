@@ -5,4 +5,5 @@ pub mod MemoryLemmas
 pub mod NameLemmas
 pub mod Printed
 pub mod PrintingLemmas
+pub mod SettingLemmas
 pub mod WorkedTexts

@@ -1,6 +1,7 @@
 //! A process synthesis problem that is valid by its type. `Problem::build` judges parts and tells their first fault, with
-//! the item that has it; a problem that was built keeps its names by number, is read by reference, gives its parts back
-//! as a copy, and prints its one canonical text. Amounts are whole millionths of the file's unit.
+//! the item that has it; a problem that was built keeps its names by number, is read by reference, takes another price or
+//! yearly cost in place, gives its parts back as a copy, and prints its one canonical text. Amounts are whole millionths
+//! of the file's unit.
 //!
 //! Contracts see materials, units, exclusions, parts and problems as the records of `problem_rules`, and names as lists of
 //! bytes. Modules: `material`, `term`, `unit`, `exclusion` (the items, each with its tests), `name` and `name_table`,

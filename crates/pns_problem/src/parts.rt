@@ -1,5 +1,6 @@
 //! The parts from which a problem is built.
-ghost use Rattle.std.specs.Prelude.{◌≡◌, IfOk};
+ghost use Rattle.std.specs.Prelude.{◌≡◌, ◌<◌, IfOk, length, slice_set};
+ghost use Rattle.problem_rules.specs.Problem.{material_at, unit_at};
 
 use crate::exclusion::{Exclusion, copy_exclusions};
 use crate::material::{Material, copy_materials};
@@ -37,5 +38,32 @@ impl Parts {
             exclusions,
             payout: self.payout,
         })
+    }
+
+    /// Writes the price of a material.
+    pub(crate) fn set_price(&mut self, x: u32, price: i64)
+        requires { x < length self.old.materials }
+        ensures { self.new ≡ record self.old { materials = slice_set self.old.materials x (record (material_at self.old x) { price = price }) } }
+    {
+        let material = &mut self.materials[x as usize];
+        material.price = price;
+    }
+
+    /// Writes the yearly fixed cost of a unit.
+    pub(crate) fn set_fix(&mut self, u: u32, fix: i64)
+        requires { u < length self.old.units }
+        ensures { self.new ≡ record self.old { units = slice_set self.old.units u (record (unit_at self.old u) { fix = fix }) } }
+    {
+        let unit = &mut self.units[u as usize];
+        unit.fix = fix;
+    }
+
+    /// Writes the yearly cost of a unit for each unit of size.
+    pub(crate) fn set_proportional(&mut self, u: u32, proportional: i64)
+        requires { u < length self.old.units }
+        ensures { self.new ≡ record self.old { units = slice_set self.old.units u (record (unit_at self.old u) { proportional = proportional }) } }
+    {
+        let unit = &mut self.units[u as usize];
+        unit.proportional = proportional;
     }
 }

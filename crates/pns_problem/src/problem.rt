@@ -1,8 +1,8 @@
 //! A valid problem, with its names by number.
-ghost use Rattle.std.specs.Prelude.{◌≡◌, true, IfOk, IfErr, OnOk};
+ghost use Rattle.std.specs.Prelude.{◌≡◌, ◌<◌, true, IfOk, IfErr, OnOk, length, slice_set};
 ghost use Rattle.std.specs.List.{position};
 ghost use Rattle.std.specs.Str.{bytes_eq};
-ghost use Rattle.problem_rules.specs.Problem.{material_names, unit_names};
+ghost use Rattle.problem_rules.specs.Problem.{material_at, unit_at, material_names, unit_names};
 ghost use Rattle.problem_rules.specs.Validity.{fault_of, IsValid};
 ghost use Rattle.pns_problem.specs.Fault.{Tells, is_memory};
 ghost use Rattle.problem_rules.specs.WellFormed.{IsWellFormed};
@@ -107,6 +107,36 @@ impl Problem {
         ensures { result ≡ position (λ word. bytes_eq word name.now) (unit_names self.now.units) }
     {
         self.units.number_of(name)
+    }
+
+    /// Sets the price of a material, in millionths of money a unit. The problem has to be valid with it; nothing else of it
+    /// changes, and no memory is taken.
+    pub fn set_price(&mut self, x: u32, price: i64)
+        requires known { x < length self.old.materials }
+        requires valid { IsValid (record self.old { materials = slice_set self.old.materials x (record (material_at self.old x) { price = price }) }) }
+        ensures { self.new ≡ record self.old { materials = slice_set self.old.materials x (record (material_at self.old x) { price = price }) } }
+    {
+        self.parts.set_price(x, price);
+    }
+
+    /// Sets the fixed cost of a unit, in millionths of money a year. The problem has to be valid with it; nothing else of it
+    /// changes, and no memory is taken.
+    pub fn set_fix(&mut self, u: u32, fix: i64)
+        requires known { u < length self.old.units }
+        requires valid { IsValid (record self.old { units = slice_set self.old.units u (record (unit_at self.old u) { fix = fix }) }) }
+        ensures { self.new ≡ record self.old { units = slice_set self.old.units u (record (unit_at self.old u) { fix = fix }) } }
+    {
+        self.parts.set_fix(u, fix);
+    }
+
+    /// Sets the cost of a unit for each unit of size, in millionths of money a year. The problem has to be valid with it;
+    /// nothing else of it changes, and no memory is taken.
+    pub fn set_proportional(&mut self, u: u32, proportional: i64)
+        requires known { u < length self.old.units }
+        requires valid { IsValid (record self.old { units = slice_set self.old.units u (record (unit_at self.old u) { proportional = proportional }) }) }
+        ensures { self.new ≡ record self.old { units = slice_set self.old.units u (record (unit_at self.old u) { proportional = proportional }) } }
+    {
+        self.parts.set_proportional(u, proportional);
     }
 
     /// A copy of the parts, from which `build` makes an equal problem, want of memory aside.
