@@ -2,8 +2,9 @@
 //! that are made of them.
 //!
 //! Contracts see a [`UnitSet`] and a [`MatSet`] as the rising list of its numbers: `with`, `without`, `has`, `union`,
-//! `meet`, `minus`, `within`, `count` and `least` are those of the lists, two sets are equal exactly where their lists
-//! are, and `first_option` and `next_option` walk the sets between a base and the base with free units in numeric order.
+//! `meet`, `minus`, `within`, `count` and `least` are those of the lists, `take_least` takes the first number of the list,
+//! two sets are equal exactly where their lists are, and `first_option` and `next_option` walk the sets between a base and
+//! the base with free units in numeric order.
 //! No call refuses, and none takes memory.
 #![tactic(auto)]
 

@@ -1,4 +1,4 @@
-ghost use Rattle.std.specs.Prelude.{◌≡◌, ◌<◌, ◌==◌, ◌↔◌, List, [], length, not, IsTrue};
+ghost use Rattle.std.specs.Prelude.{◌≡◌, ◌<◌, ◌==◌, ◌↔◌, List, [], ◌∷◌, length, not, IsTrue, IfSome, MatchOption};
 ghost use Rattle.number_sets.specs.Sets.{has, first, with_number, kept, union, meet, minus, IsWithin, IsSet};
 ghost use Rattle.unit_sets.specs.Halves.{halves, IsHalves};
 
@@ -147,6 +147,22 @@ impl MatSet {
                 None => None,
             },
         }
+    }
+
+    /// Takes the least number out of the set and gives it. `None` exactly for the empty set, which stays as it is.
+    ///
+    /// A caller's proof is told as well what `rises` tells of the set as it was, and so of the numbers that are left.
+    pub fn take_least(&mut self) -> Option<u32>
+        ensures taken { MatchOption result ((self.old ≡ []) × (self.new ≡ [])) (λ x. self.old ≡ x ∷ self.new) }
+        ensures below { IfSome result (λ x. x < 256) }
+        ensures rises { IsSet 256 self.old }
+        ensures left { IsSet 256 self.new }
+    {
+        if let Some(x) = self.low.take_least() {
+            return Some(x);
+        }
+        let x = self.high.take_least()?;
+        Some(x + 128)
     }
 
     /// Whether the set has no number.

@@ -1,4 +1,4 @@
-ghost use Rattle.std.specs.Prelude.{◌≡◌, ◌<◌, ◌≤◌, ◌==◌, ◌↔◌, ℕ, List, [], length, nat_lt, not, IsTrue, IfSome, IfNone};
+ghost use Rattle.std.specs.Prelude.{◌≡◌, ◌<◌, ◌≤◌, ◌==◌, ◌↔◌, ℕ, List, [], ◌∷◌, length, nat_lt, not, IsTrue, IfSome, IfNone, MatchOption};
 ghost use Rattle.number_sets.specs.Sets.{has, first, with_number, kept, union, meet, minus, mask_of, IsWithin, Avoids, IsSet};
 ghost use Rattle.number_sets.specs.Options.{IsBetween, IsFirstOption, IsNextOption, IsLastOption};
 
@@ -160,6 +160,23 @@ impl UnitSet {
         } else {
             Some(self.bits.trailing_zeros())
         }
+    }
+
+    /// Takes the least number out of the set and gives it. `None` exactly for the empty set, which stays as it is.
+    ///
+    /// A caller's proof is told as well what `rises` tells of the set as it was, and so of the numbers that are left.
+    pub fn take_least(&mut self) -> Option<u32>
+        ensures taken { MatchOption result ((self.old ≡ []) × (self.new ≡ [])) (λ u. self.old ≡ u ∷ self.new) }
+        ensures below { IfSome result (λ u. u < 128) }
+        ensures rises { IsSet 128 self.old }
+        ensures left { IsSet 128 self.new }
+    {
+        let bits = self.bits;
+        if bits == 0 {
+            return None;
+        }
+        self.bits = bits & (bits - 1);
+        Some(bits.trailing_zeros())
     }
 
     /// Whether the set has no number.
