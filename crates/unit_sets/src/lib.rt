@@ -10,10 +10,12 @@
 
 mod mat_set;
 mod node;
+mod numbers;
 mod step;
 mod unit_set;
 
 pub use mat_set::MatSet;
 pub use node::Node;
+pub use numbers::{MatNumbers, UnitNumbers};
 pub use step::Step;
 pub use unit_set::UnitSet;
