@@ -1,6 +1,6 @@
 -- What is kept of a node, from step to step.
 use Rattle.std.proofs.Common.{◌≡◌, ℕ, ◌+◌, ◌<◌, ◌==◌, nat_lt, Bool, true, false, cond, not, ◌&&◌, ◌||◌, List, [], ◌∷◌, ◌++◌, ◌↔◌, Some, None, refl, sym, ap, ap₂, ◌∙◌, subst, inl, inr, eqb-true, lt-ltb, eq-eqb, ne_eqb, arith}
-use Rattle.std.proofs.lemmas.Bool.{or_cases, or_left, or_right, and_from, and_parts, both_ways, false_from_ne_true, true_from_ne_false, not-true, cases_Bool, cases_eq}
+use Rattle.std.proofs.lemmas.Bool.{or_cases, or_left, or_right, or_from, and_from, and_parts, both_ways, false_from_ne_true, true_from_ne_false, not-true, cases_Bool, cases_eq}
 use Rattle.number_sets.specs.Sets.{has, first, kept, minus, union, with_number, IsRising, IsWithin}
 use Rattle.number_sets.proofs.SetLemmas.{has-minus, has-union, has-kept, has-append, has-with_number, same_tests, IsRising-kept}
 use Rattle.pns_rules.specs.Shape.{Shape, IsProper}
@@ -86,13 +86,20 @@ without_is x y b set new f e = ap (λ xs. has xs y) e ∙ (has-kept (λ v. not (
 
 -- ---- what is told of all but some numbers, told of one more
 
-pub told_more : (todo xs ys : List ℕ) (test : ℕ → Bool) (x : ℕ) (b : Bool) → IsTold (has todo) test xs → b ≡ test x → ((y : ℕ) → has ys y ≡ cond (x == y) b (has xs y)) → IsTold (has (kept (λ v. not (x == v)) todo)) test ys
-told_more todo xs ys test x b told here is y gone = elim (cases_eq x y) [
+-- the number with which a list begins is in it
+pub head_had : (xs : List ℕ) (x : ℕ) (rest : List ℕ) → xs ≡ x ∷ rest → has xs x ≡ true
+head_had xs x rest e = ap (λ (ys : List ℕ). has ys x) e ∙ or_left (x == x) (has rest x) (eq-eqb x x refl)
+
+-- and so is a number of the others
+pub rest_had : (xs : List ℕ) (x : ℕ) (rest : List ℕ) (y : ℕ) → xs ≡ x ∷ rest → has rest y ≡ true → has xs y ≡ true
+rest_had xs x rest y e h = ap (λ (ys : List ℕ). has ys y) e ∙ or_right (x == y) (has rest y) h
+
+pub told_more : (rest xs ys : List ℕ) (test : ℕ → Bool) (x : ℕ) (b : Bool) → IsTold (has (x ∷ rest)) test xs → b ≡ test x → ((y : ℕ) → has ys y ≡ cond (x == y) b (has xs y)) → IsTold (has rest) test ys
+told_more rest xs ys test x b told here is y gone = elim (cases_eq x y) [
   | inl e ↦ is y ∙ (ap (λ c. cond c b (has xs y)) (eq-eqb x y e) ∙ (here ∙ ap test e))
   | inr ne ↦
       let apart = ne_eqb x y ne in
-      is y ∙ (ap (λ c. cond c b (has xs y)) apart
-      ∙ told y (false_from_ne_true (has todo y) (λ h. both_ways (has (kept (λ v. not (x == v)) todo) y) gone (has-kept (λ v. not (x == v)) todo y ∙ and_from (has todo y) (not (x == y)) h (ap not apart)))))
+      is y ∙ (ap (λ c. cond c b (has xs y)) apart ∙ told y (or_from (x == y) (has rest y) apart gone))
 ]
 
 pub told_all : (todo xs : List ℕ) (test : ℕ → Bool) → todo ≡ [] → IsTold (has todo) test xs → (x : ℕ) → has xs x ≡ test x

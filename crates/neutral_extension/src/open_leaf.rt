@@ -37,14 +37,8 @@ pub fn take_out_all(makers: &mut Makers, graph: &Graph, set: UnitSet)
     requires fresh { (u : ℕ) → has set u ≡ true → has makers.old.taken u ≡ false }
     ensures { makers.new ≡ record { makers = makers.old.makers; taken = makers.old.taken ++ set } }
 {
-    let mut left = set;
-    'take: loop {
-        left.rises();
-        let Some(u) = left.least() else {
-            return;
-        };
+    for u in set {
         makers.take_out(graph, u);
-        left = left.without(u);
     }
 }
 

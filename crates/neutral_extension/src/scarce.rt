@@ -63,15 +63,10 @@ pub fn scarce_after(graph: &Graph, makers: &Makers, scarce: &Scarce, gone: UnitS
 {
     graph.is_proper();
     let mut scarce = *scarce;
-    let mut touched = graph.made(gone);
-    'outputs: loop {
-        touched.rises();
-        let Some(x) = touched.least() else {
-            return scarce;
-        };
+    for x in graph.made(gone) {
         scarce = counted_at(makers, &scarce, x);
-        touched = touched.without(x);
     }
+    scarce
 }
 
 /// What the units of `rest` use, where some units are gone from it: it looks at what these use, and at nothing else.
@@ -82,13 +77,8 @@ pub fn used_after(graph: &Graph, used: MatSet, rest: UnitSet, gone: UnitSet) -> 
 {
     graph.is_proper();
     let mut used = used;
-    let mut touched = graph.used(gone);
-    'inputs: loop {
-        touched.rises();
-        let Some(x) = touched.least() else {
-            return used;
-        };
+    for x in graph.used(gone) {
         used = with_exactly(used, x, graph.is_used(rest, x));
-        touched = touched.without(x);
     }
+    used
 }

@@ -1,36 +1,41 @@
-use Rattle.std.proofs.Common.{◌≡◌, ◌<◌, ◌==◌, ℕ, false, not, ◌||◌, List, [], ◌∷◌, ◌++◌, length, refl, sym, ap, ◌∙◌, subst, arith}
-use Rattle.std.proofs.lemmas.Bool.{and_parts, or_from, not-true}
-use Rattle.number_sets.specs.Sets.{has}
-use Rattle.number_sets.proofs.SetLemmas.{has-kept, has-append}
+use Rattle.std.proofs.Common.{◌≡◌, ◌==◌, ℕ, true, false, ◌||◌, List, [], ◌∷◌, ◌++◌, refl, sym, ap, ◌∙◌, subst, arith, eq-eqb, ne_eqb}
+use Rattle.std.proofs.lemmas.Bool.{both_ways, or_from, or_left, or_right}
+use Rattle.number_sets.specs.Sets.{has, IsSet}
+use Rattle.number_sets.proofs.SetLemmas.{below_not_had, has-append}
 use Rattle.neutral_extension.specs.Candidates.{Candidates}
-use Rattle.neutral_extension.proofs.KeptLemmas.{first_of_rising}
 use Rattle.neutral_extension.proofs.open_leaf.take_out_all.Goals as goal
 
 group : (xs : List ℕ) (u : ℕ) (ys : List ℕ) → (xs ++ u ∷ []) ++ ys ≡ xs ++ u ∷ ys
 group [] u ys = refl
 group (x ∷ xs) u ys = ap (λ zs. x ∷ zs) (group xs u ys)
 
-pub take-smaller : goal.take-smaller
-take-smaller c =
-    let head = first_of_rising c.take.left c.in-Some.u c.rises.ensures.rising (sym c.least.ensures ∙ c.in-Some.is) in
-    let e = ap length head in
-    subst (λ xs. length xs < length c.take.left) (sym c.without-left.ensures) (omega arith)
+pub take_out-requires-clause-unit : goal.take_out-requires-clause-unit
+take_out-requires-clause-unit c = (subst (IsSet 128) c.in-Some.ensures.steps c.loop-u.invariant.is_set).below.0
 
-pub take-preserved : goal.take-preserved
-take-preserved c =
+pub take_out-requires-clause-fresh : goal.take_out-requires-clause-fresh
+take_out-requires-clause-fresh c =
     let u = c.in-Some.u in
-    let inv = c.take.invariant in
+    c.loop-u.invariant.fresh u (ap (λ (xs : List ℕ). has xs u) c.in-Some.ensures.steps ∙ or_left (u == u) (has c.next.new.self u) (eq-eqb u u refl))
+
+pub loop-u-preserved : goal.loop-u-preserved
+loop-u-preserved c =
+    let u = c.in-Some.u in
+    let left = c.next.new.self in
+    let inv = c.loop-u.invariant in
     let is = c.take_out.ensures in
-    let head = first_of_rising c.take.left u c.rises.ensures.rising (sym c.least.ensures ∙ c.in-Some.is) in
+    let head = c.in-Some.ensures.steps in
+    let before = subst (IsSet 128) head inv.is_set in
     record {
       makers = ap (λ (k : Candidates). k.makers) is ∙ inv.makers;
-      taken = ap (λ (k : Candidates). k.taken ++ c.without-left.result) is
-          ∙ (group c.take.makers.taken u c.without-left.result
-          ∙ (ap (λ ys. c.take.makers.taken ++ u ∷ ys) c.without-left.ensures
-          ∙ (ap (λ ys. c.take.makers.taken ++ ys) (sym head) ∙ inv.taken)));
+      taken = ap (λ (k : Candidates). k.taken ++ left) is
+          ∙ (group c.loop-u.makers.taken u left
+          ∙ (ap (λ (ys : List ℕ). c.loop-u.makers.taken ++ ys) (sym head) ∙ inv.taken));
+      is_set = record { rising = before.rising.1; below = before.below.1 };
       fresh = λ v h.
-          let p = and_parts (has c.take.left v) (not (u == v)) (sym (has-kept (λ w. not (u == w)) c.take.left v) ∙ (sym (ap (λ xs. has xs v) c.without-left.ensures) ∙ h)) in
+          let apart = ne_eqb u v (λ e. both_ways (has left u) (below_not_had u u left (omega arith) before.rising.0) (subst (λ w. has left w ≡ true) (sym e) h)) in
           ap (λ (k : Candidates). has k.taken v) is
-          ∙ (has-append c.take.makers.taken (u ∷ []) v
-          ∙ or_from (has c.take.makers.taken v) ((u == v) || false) (inv.fresh v p.0) (or_from (u == v) false (not-true (u == v) p.1) refl));
+          ∙ (has-append c.loop-u.makers.taken (u ∷ []) v
+          ∙ or_from (has c.loop-u.makers.taken v) ((u == v) || false)
+          (inv.fresh v (ap (λ (xs : List ℕ). has xs v) head ∙ or_right (u == v) (has left v) h))
+          (or_from (u == v) false apart refl));
     }

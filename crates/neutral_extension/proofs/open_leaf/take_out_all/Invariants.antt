@@ -1,13 +1,11 @@
-use Rattle.std.proofs.Common.{◌≡◌, ℕ, true, false, ◌++◌, length}
-use Rattle.number_sets.specs.Sets.{has}
+use Rattle.std.proofs.Common.{◌≡◌, ℕ, true, false, ◌++◌}
+use Rattle.number_sets.specs.Sets.{has, IsSet}
 use Rattle.neutral_extension.proofs.open_leaf.take_out_all.Given as goal
 
-abbrev pub invariant-take : goal.invariant-take
-invariant-take l = record {
+abbrev pub invariant-loop-u : goal.invariant-loop-u
+invariant-loop-u l = record {
   makers : l.makers.makers ≡ l.fn.makers.makers;
-  taken : l.makers.taken ++ l.left ≡ l.fn.makers.taken ++ l.fn.set;
-  fresh : (u : ℕ) → has l.left u ≡ true → has l.makers.taken u ≡ false;
+  taken : l.makers.taken ++ l.u-iterator ≡ l.fn.makers.taken ++ l.fn.set;
+  is_set : IsSet 128 l.u-iterator;
+  fresh : (u : ℕ) → has l.u-iterator u ≡ true → has l.makers.taken u ≡ false;
 }
-
-abbrev pub decreases-take : goal.decreases-take
-decreases-take l = length l.left

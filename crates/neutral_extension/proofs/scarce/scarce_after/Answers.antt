@@ -1,49 +1,50 @@
-use Rattle.std.proofs.Common.{◌<◌, ◌==◌, ℕ, Bool, not, ◌&&◌, nat_lt, List, length, sym, ap, ◌∙◌, subst, arith}
-use Rattle.std.proofs.lemmas.Bool.{and_parts}
+use Rattle.std.proofs.Common.{ℕ, Bool, ◌&&◌, nat_lt, ◌∷◌, List, sym, ap, ◌∙◌, subst, arith}
 use Rattle.number_sets.specs.Sets.{has}
-use Rattle.number_sets.proofs.SetLemmas.{has-kept}
-use Rattle.number_sets.proofs.OptionLemmas.{first_had}
 use Rattle.pns_rules.proofs.StructureLemmas.{is_made-some}
 use Rattle.pgraph.specs.Tables.{shape}
-use Rattle.pgraph.proofs.ArcLemmas.{first_shorter}
 use Rattle.neutral_extension.specs.Candidates.{left}
 use Rattle.neutral_extension.specs.OpenLeaf.{IsCounted, is_empty, is_single}
-use Rattle.neutral_extension.proofs.LeafLemmas.{told_more, below_is}
+use Rattle.neutral_extension.proofs.LeafLemmas.{told_more, below_is, head_had, rest_had}
 use Rattle.neutral_extension.proofs.scarce.scarce_after.Goals as goal
 
-pub outputs-init : goal.outputs-init
-outputs-init c =
+pub loop-x-init : goal.loop-x-init
+loop-x-init c =
     let g = shape c.args.graph.now in
+    let made = ap (λ (xs : List ℕ). has xs) c.into_iter-x-iterator.ensures.into_iter_gives.0 ∙ c.made-x-items.ensures in
     record {
       known = λ x h.
-          let k = is_made-some g (has c.args.gone) x (sym (ap (λ (f : ℕ → Bool). f x) c.made-touched.ensures) ∙ h) in
+          let k = is_made-some g (has c.args.gone) x (sym (ap (λ (f : ℕ → Bool). f x) made) ∙ h) in
           c.is_proper.ensures.proper.output_known k.0 x k.3;
-      counted = subst (λ (b : ℕ → Bool). IsCounted c.args.makers.now g.materials b c.args.scarce.now) (sym c.made-touched.ensures) c.requires.others;
+      counted = subst (λ (b : ℕ → Bool). IsCounted c.args.makers.now g.materials b c.args.scarce.now) (sym made) c.requires.others;
     }
 
 pub counted_at-scarce-requires-clause-material : goal.counted_at-scarce-requires-clause-material
 counted_at-scarce-requires-clause-material c =
-    let lt = c.outputs.invariant.known c.in-Some.x (first_had c.outputs.touched c.in-Some.x (sym c.least.ensures ∙ c.in-Some.is)) in
+    let lt = c.loop-x.invariant.known c.in-Some.x (head_had c.loop-x.x-iterator c.in-Some.x c.next.new.self c.in-Some.ensures.steps) in
     let all = c.requires.all in
     omega arith
 
-pub outputs-smaller : goal.outputs-smaller
-outputs-smaller c =
-    subst (λ (xs : List ℕ). length xs < length c.outputs.touched) (sym c.without-touched.ensures)
-    (first_shorter c.outputs.touched c.in-Some.x (sym c.least.ensures ∙ c.in-Some.is))
+pub counted_at-scarce-requires-clause-few : goal.counted_at-scarce-requires-clause-few
+counted_at-scarce-requires-clause-few c =
+    let lt = c.loop-x.invariant.known c.in-Some.x (head_had c.loop-x.x-iterator c.in-Some.x c.next.new.self c.in-Some.ensures.steps) in
+    let few = c.is_proper.ensures.few_materials in
+    omega arith
 
-pub outputs-preserved : goal.outputs-preserved
-outputs-preserved c =
+pub loop-x-preserved : goal.loop-x-preserved
+loop-x-preserved c =
     let x = c.in-Some.x in
     let k = c.args.makers.now in
     let n = (shape c.args.graph.now).materials in
-    let inv = c.outputs.invariant in
-    let lt = inv.known x (first_had c.outputs.touched x (sym c.least.ensures ∙ c.in-Some.is)) in
+    let inv = c.loop-x.invariant in
+    let rest = c.next.new.self in
+    let head = c.in-Some.ensures.steps in
+    let lt = inv.known x (head_had c.loop-x.x-iterator x rest head) in
+    let before = subst (λ (xs : List ℕ). IsCounted k n (has xs) c.loop-x.scarce) head inv.counted in
     let new = c.counted_at-scarce.result in
     record {
-      known = λ y h. inv.known y (and_parts (has c.outputs.touched y) (not (x == y)) (sym (has-kept (λ v. not (x == v)) c.outputs.touched y) ∙ (sym (ap (λ xs. has xs y) c.without-touched.ensures) ∙ h))).0;
-      counted = subst (λ (xs : List ℕ). IsCounted k n (has xs) new) (sym c.without-touched.ensures) (record {
-        unmade = told_more c.outputs.touched c.outputs.scarce.unmade new.unmade (λ y. nat_lt y n && is_empty (left k y)) x (is_empty (left k x)) inv.counted.unmade (below_is n x (is_empty (left k x)) lt) c.counted_at-scarce.ensures.unmade;
-        single = told_more c.outputs.touched c.outputs.scarce.single new.single (λ y. nat_lt y n && is_single (left k y)) x (is_single (left k x)) inv.counted.single (below_is n x (is_single (left k x)) lt) c.counted_at-scarce.ensures.single;
-      });
+      known = λ y h. inv.known y (rest_had c.loop-x.x-iterator x rest y head h);
+      counted = record {
+        unmade = told_more rest c.loop-x.scarce.unmade new.unmade (λ y. nat_lt y n && is_empty (left k y)) x (is_empty (left k x)) before.unmade (below_is n x (is_empty (left k x)) lt) c.counted_at-scarce.ensures.unmade;
+        single = told_more rest c.loop-x.scarce.single new.single (λ y. nat_lt y n && is_single (left k y)) x (is_single (left k x)) before.single (below_is n x (is_single (left k x)) lt) c.counted_at-scarce.ensures.single;
+      };
     }

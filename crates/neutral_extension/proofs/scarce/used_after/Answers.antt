@@ -1,41 +1,41 @@
-use Rattle.std.proofs.Common.{◌<◌, ◌==◌, ℕ, Bool, not, List, length, sym, ap, ◌∙◌, subst}
-use Rattle.std.proofs.lemmas.Bool.{and_parts}
+use Rattle.std.proofs.Common.{ℕ, Bool, ◌∷◌, List, sym, ap, ◌∙◌, subst, arith}
 use Rattle.number_sets.specs.Sets.{has}
-use Rattle.number_sets.proofs.SetLemmas.{has-kept}
-use Rattle.number_sets.proofs.OptionLemmas.{first_had}
 use Rattle.pns_rules.specs.Structure.{is_used}
 use Rattle.pns_rules.proofs.StructureLemmas.{is_used-some}
 use Rattle.pgraph.specs.Tables.{shape}
-use Rattle.pgraph.proofs.ArcLemmas.{first_shorter}
 use Rattle.neutral_extension.specs.OpenLeaf.{IsTold}
-use Rattle.neutral_extension.proofs.LeafLemmas.{told_more}
+use Rattle.neutral_extension.proofs.LeafLemmas.{told_more, head_had, rest_had}
 use Rattle.neutral_extension.proofs.scarce.used_after.Goals as goal
 
-pub inputs-init : goal.inputs-init
-inputs-init c =
+pub loop-x-init : goal.loop-x-init
+loop-x-init c =
     let g = shape c.args.graph.now in
+    let used = ap (λ (xs : List ℕ). has xs) c.into_iter-x-iterator.ensures.into_iter_gives.0 ∙ c.used-x-items.ensures in
     record {
       known = λ x h.
-          let k = is_used-some g (has c.args.gone) x (sym (ap (λ (f : ℕ → Bool). f x) c.used-touched.ensures) ∙ h) in
+          let k = is_used-some g (has c.args.gone) x (sym (ap (λ (f : ℕ → Bool). f x) used) ∙ h) in
           c.is_proper.ensures.proper.input_known k.0 x k.3;
-      told = subst (λ (b : ℕ → Bool). IsTold b (is_used g (has c.args.rest)) c.args.used) (sym c.used-touched.ensures) c.requires.others;
+      told = subst (λ (b : ℕ → Bool). IsTold b (is_used g (has c.args.rest)) c.args.used) (sym used) c.requires.others;
     }
 
 pub is_used-requires : goal.is_used-requires
-is_used-requires c = c.inputs.invariant.known c.in-Some.x (first_had c.inputs.touched c.in-Some.x (sym c.least.ensures ∙ c.in-Some.is))
+is_used-requires c = c.loop-x.invariant.known c.in-Some.x (head_had c.loop-x.x-iterator c.in-Some.x c.next.new.self c.in-Some.ensures.steps)
 
-pub inputs-smaller : goal.inputs-smaller
-inputs-smaller c =
-    subst (λ (xs : List ℕ). length xs < length c.inputs.touched) (sym c.without-touched.ensures)
-    (first_shorter c.inputs.touched c.in-Some.x (sym c.least.ensures ∙ c.in-Some.is))
+pub with_exactly-used-requires : goal.with_exactly-used-requires
+with_exactly-used-requires c =
+    let lt = c.loop-x.invariant.known c.in-Some.x (head_had c.loop-x.x-iterator c.in-Some.x c.next.new.self c.in-Some.ensures.steps) in
+    let few = c.is_proper.ensures.few_materials in
+    omega arith
 
-pub inputs-preserved : goal.inputs-preserved
-inputs-preserved c =
+pub loop-x-preserved : goal.loop-x-preserved
+loop-x-preserved c =
     let x = c.in-Some.x in
     let g = shape c.args.graph.now in
-    let inv = c.inputs.invariant in
+    let inv = c.loop-x.invariant in
+    let rest = c.next.new.self in
+    let head = c.in-Some.ensures.steps in
     record {
-      known = λ y h. inv.known y (and_parts (has c.inputs.touched y) (not (x == y)) (sym (has-kept (λ v. not (x == v)) c.inputs.touched y) ∙ (sym (ap (λ xs. has xs y) c.without-touched.ensures) ∙ h))).0;
-      told = subst (λ (xs : List ℕ). IsTold (has xs) (is_used g (has c.args.rest)) c.with_exactly-used.result) (sym c.without-touched.ensures)
-          (told_more c.inputs.touched c.inputs.used c.with_exactly-used.result (is_used g (has c.args.rest)) x c.is_used.result inv.told c.is_used.ensures c.with_exactly-used.ensures);
+      known = λ y h. inv.known y (rest_had c.loop-x.x-iterator x rest y head h);
+      told = told_more rest c.loop-x.used c.with_exactly-used.result (is_used g (has c.args.rest)) x c.is_used.result
+          (subst (λ (xs : List ℕ). IsTold (has xs) (is_used g (has c.args.rest)) c.loop-x.used) head inv.told) c.is_used.ensures c.with_exactly-used.ensures;
     }
