@@ -1,3 +1,4 @@
 pub mod Ending
 pub mod Put
 pub mod Printing
+pub mod Names

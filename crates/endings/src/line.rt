@@ -25,12 +25,10 @@ pub fn push_unit_names(
     requires { length units.now ≤ 128 }
     ensures { OnOk result (bytes.new.items ≡ bytes.old.items ++ spaced_names (names_in (has set) 0 (unit_names units.now))) }
 {
-    let mut number: u32 = 0;
-    'naming: for unit in units {
-        if set.has(number) {
+    for u in set {
+        if let Some(unit) = units.get(u as usize) {
             push_name(bytes, &unit.name)?;
         }
-        number += 1;
     }
     Ok(())
 }
@@ -44,12 +42,10 @@ pub fn push_material_names(
     requires { length materials.now ≤ 256 }
     ensures { OnOk result (bytes.new.items ≡ bytes.old.items ++ spaced_names (names_in (has set) 0 (material_names materials.now))) }
 {
-    let mut number: u32 = 0;
-    'naming: for material in materials {
-        if set.has(number) {
+    for x in set {
+        if let Some(material) = materials.get(x as usize) {
             push_name(bytes, &material.name)?;
         }
-        number += 1;
     }
     Ok(())
 }
