@@ -71,11 +71,13 @@ case $step in
         tail -n 1 "$folder/answer" | grep -q '^accepted$'
         exit $?
     fi
-    [ "$round" -gt 1 ] && [ "$budget" -eq "$most" ] && cmp -s "$folder/before" "$folder/open" && fail 'no open leaf can be branched with this BUDGET' 4
+    last=$(cat "$folder/budget" 2> /dev/null || echo 0)
+    echo "$budget" > "$folder/budget"
+    [ "$last" -eq "$most" ] && cmp -s "$folder/before" "$folder/open" && fail 'no open leaf can be branched with this BUDGET' 4
     count=$(wc -l < "$folder/list")
     array=$(sbatch --parsable -J pns-part -o "$folder/log/part-$round-%a" --array="1-$count%$(least "$jobs" "$count")" $words \
         "$self" --task "$self" "$file" "$most" "$folder" "$budget") || fail 'sbatch'
-    next_round $((round + 1)) "$(least $((budget * 2)) "$most")" "$array" || fail 'sbatch'
+    next_round $((round + 1)) "$(least $((budget * 8)) "$most")" "$array" || fail 'sbatch'
     exit 0
     ;;
 esac
@@ -108,5 +110,5 @@ esac
 [ -f "$file" ] || fail "no file $file" 2
 mkdir -p "$folder/parts" "$folder/log" || fail "no folder $folder"
 folder=$(realpath "$folder")
-rm -f "$folder"/parts/*.new.* "$folder/open" "$folder/answer"
-next_round 1 "$(least 2000 "$most")"
+rm -f "$folder"/parts/*.new.* "$folder/open" "$folder/answer" "$folder/budget"
+next_round 1 "$(least 500 "$most")"
