@@ -1,9 +1,9 @@
 -- What a look at one child more adds to what is seen.
-use Rattle.std.proofs.Common.{Result, Ok, Err, IfOk, ◌≡◌, ℕ, ◌+◌, ◌<◌, true, false, Bool, List, [], ◌∷◌, ◌++◌, length, map, Option, Some, None, ℤ, ◌*ℤ◌, ◌≤ℤ◌, ◌↔◌, ◌⊎◌, ◌||◌, IsTrue, refl, sym, ap, ap₂, ◌∙◌, subst, arith, inl, inr, length-append, true≢false}
+use Rattle.std.proofs.Common.{◌≡◌, ℕ, ◌+◌, ◌<◌, true, false, Bool, List, [], ◌∷◌, ◌++◌, length, map, Option, Some, None, ℤ, ◌*ℤ◌, ◌≤ℤ◌, ◌↔◌, ◌⊎◌, ◌||◌, IsTrue, refl, sym, ap, ◌∙◌, subst, arith, inl, inr, length-append, true≢false}
 use Rattle.std.specs.Prelude.{is_some}
 use Rattle.std.proofs.lemmas.Int.{ints}
 use Rattle.std.proofs.lemmas.List.{map-append, length-map, get_or_append_left, get_or-append-add}
-use Rattle.std.proofs.lemmas.Bool.{cases_eq}
+use Rattle.std.proofs.lemmas.Bool.{cases_eq, or_cases, or_left, or_right}
 use Rattle.number_sets.specs.Options.{IsIn}
 use Rattle.problem_rules.specs.Problem.{Problem}
 use Rattle.problem_rules.specs.Validity.{IsValid}
@@ -108,7 +108,7 @@ module _ (p : Problem) (valid : IsValid p) (n : Node) (w : Way) (sound : IsSound
   pub sound_child : IsSound (shape_of p) (child_at (shape_of p) n w t)
   sound_child = children_are_sound (shape_of p) (proper_if_valid p valid) n w t sound reduced may splits option
 
-  dearer_child : (c : Cell) → Follows (shape_of p) (child_at (shape_of p) n w t) c → (v : CostOver) → IsPositive v → IsUnder p v n → IsNever (IsDead (shape_of p) (place_of c)) → IsUnder p v (place_of c)
+  pub dearer_child : (c : Cell) → Follows (shape_of p) (child_at (shape_of p) n w t) c → (v : CostOver) → IsPositive v → IsUnder p v n → IsNever (IsDead (shape_of p) (place_of c)) → IsUnder p v (place_of c)
   dearer_child c f v pv u alive =
       subst (λ (m : Node). IsUnder p v m) f.leave
       (under_dearer p n (after_all (shape_of p) (child_at (shape_of p) n w t) c.steps) v pv u
@@ -198,11 +198,17 @@ module _ (p : Problem) (valid : IsValid p) (n : Node) (w : Way) (sound : IsSound
     longer = ap (λ (fs : List Fresh). length fs) nodes ∙ length-append old.nodes.items (fresh ∷ [])
 
     -- ---- its end and its numbers
-    bounded_more : is_some old.best ≡ has_bounded (cells_of old.nodes.items) → is_some new.best ≡ has_bounded (cells_of new.nodes.items)
-    bounded_more e =
-        some
-        ∙ (ap₂ (λ a b. a || b) e (ic.bounded ∙ sym (or_false (is_bounded l.cell.end)))
-        ∙ sym (ap (λ (cs : List Cell). has_bounded cs) cells_more ∙ has_bounded-append (cells_of old.nodes.items) (l.cell ∷ [])))
+    bounded_parts : has_bounded (cells_of new.nodes.items) ≡ (has_bounded (cells_of old.nodes.items) || is_bounded l.cell.end)
+    bounded_parts =
+        ap (λ (cs : List Cell). has_bounded cs) cells_more
+        ∙ (has_bounded-append (cells_of old.nodes.items) (l.cell ∷ [])
+        ∙ ap (λ b. has_bounded (cells_of old.nodes.items) || b) (or_false (is_bounded l.cell.end)))
+
+    bounded_more : (has_bounded (cells_of old.nodes.items) ≡ true → is_some old.best ≡ true) → has_bounded (cells_of new.nodes.items) ≡ true → is_some new.best ≡ true
+    bounded_more e b = some ∙ elim (or_cases (has_bounded (cells_of old.nodes.items)) (is_bounded l.cell.end) (sym bounded_parts ∙ b)) [
+      | inl o ↦ or_left (is_some old.best) (is_some l.network) (e o)
+      | inr k ↦ or_right (is_some old.best) (is_some l.network) (ic.bounded ∙ k)
+    ]
 
     known_more : ((k : ℕ) → k < length old.nodes.items → KnowsCell p (cell_at (cells_of old.nodes.items) k)) → (k : ℕ) → k < length new.nodes.items → KnowsCell p (cell_at (cells_of new.nodes.items) k)
     known_more known k lt = elim (cases_eq k (length old.nodes.items)) [
@@ -278,7 +284,7 @@ pub looked_first : (Past : PastPlaces) (p : Problem) (n : Node) (w : Way) (c : C
 looked_first Past p n w c ek er eb eh = record {
   each = λ k lt. absurd (let e = ap (λ (fs : List Fresh). length (cells_of fs)) ek in omega (arith, lt, e));
   found = subst (λ (b : Option claims.Network). IsImproved p n None b) (sym eb) (same_best p n None (record { passes = refl; positive = tt }));
-  bounded = ap (λ (b : Option claims.Network). is_some b) eb ∙ sym (ap (λ (fs : List Fresh). has_bounded (cells_of fs)) ek);
+  bounded = λ b. absurd (true≢false (sym b ∙ ap (λ (fs : List Fresh). has_bounded (cells_of fs)) ek));
   known = λ k lt. absurd (let e = ap (λ (fs : List Fresh). length fs) ek in omega (arith, lt, e));
   same_length = ap (λ (rs : List (Option Ready)). length rs) er ∙ sym (ap (λ (fs : List Fresh). length fs) ek);
   stop_holds = subst (λ (h : Option StoppedAt). StopHolds Past p c.nodes.items c.ready.items h) (sym eh)
@@ -297,26 +303,17 @@ looked_all Past p n w c a e = record {
 }
 
 -- what a call with one child more answers
-pub looked_after : {A : Type 0} (p : Problem) (valid : IsValid p) (n : Node) (w : Way) (sound : IsSound (shape_of p) n) (reduced : IsReduced (shape_of p) n) (may : MayBranch (shape_of p) n w)
-    (splits : IsDecision (shape_of p) n w) (t : List ℕ) (option : IsIn t (options_at (shape_of p) n w)) (Past : PastPlaces) (old : Children) (l : Looked) (stopped : Bool)
-    → AreLooked Past p n w old → IsChild Past p (child_at (shape_of p) n w t) t stopped l → stopped ≡ is_some old.stop → (r : Result Children A)
-    → IfOk r (λ c. c.nodes.items ≡ old.nodes.items ++ record { cell = l.cell; value = l.value } ∷ []) → IfOk r (λ c. c.ready.items ≡ old.ready.items ++ l.ready ∷ [])
-    → IfOk r (λ c. (c.best ≡ old.best) ⊎ (c.best ≡ l.network)) → IfOk r (λ c. HasFallen (cost_of old.best) (cost_of c.best)) → IfOk r (λ c. HasFallen (cost_of l.network) (cost_of c.best))
-    → IfOk r (λ c. is_some c.best ≡ (is_some old.best || is_some l.network)) → IfOk r (λ c. c.stop ≡ stop_after old.stop (length old.nodes.items) l.stop)
-    → IfOk r (λ c. AreLooked Past p n w c × (options_in c ≡ options_in old ++ t ∷ []))
-looked_after p valid n w sound reduced may splits t option Past old l stopped a ic e (Ok c) nodes ready which fallen fallen_found some stop = (
-  looked_more p valid n w sound reduced may splits t option Past old c l stopped a.found ic nodes which fallen fallen_found some a e ready stop,
-  options_more p valid n w sound reduced may splits t option Past old c l stopped a.found ic nodes which fallen fallen_found some,
+pub looked_after : (p : Problem) (valid : IsValid p) (n : Node) (w : Way) (sound : IsSound (shape_of p) n) (reduced : IsReduced (shape_of p) n) (may : MayBranch (shape_of p) n w)
+    (splits : IsDecision (shape_of p) n w) (t : List ℕ) (option : IsIn t (options_at (shape_of p) n w)) (Past : PastPlaces) (old new : Children) (l : Looked) (stopped : Bool)
+    → AreLooked Past p n w old → IsChild Past p (child_at (shape_of p) n w t) t stopped l → stopped ≡ is_some old.stop
+    → new.nodes.items ≡ old.nodes.items ++ record { cell = l.cell; value = l.value } ∷ [] → new.ready.items ≡ old.ready.items ++ l.ready ∷ []
+    → (new.best ≡ old.best) ⊎ (new.best ≡ l.network) → HasFallen (cost_of old.best) (cost_of new.best) → HasFallen (cost_of l.network) (cost_of new.best)
+    → is_some new.best ≡ (is_some old.best || is_some l.network) → new.stop ≡ stop_after old.stop (length old.nodes.items) l.stop
+    → AreLooked Past p n w new × (options_in new ≡ options_in old ++ t ∷ [])
+looked_after p valid n w sound reduced may splits t option Past old new l stopped a ic e nodes ready which fallen fallen_found some stop = (
+  looked_more p valid n w sound reduced may splits t option Past old new l stopped a.found ic nodes which fallen fallen_found some a e ready stop,
+  options_more p valid n w sound reduced may splits t option Past old new l stopped a.found ic nodes which fallen fallen_found some,
 )
-looked_after p valid n w sound reduced may splits t option Past old l stopped a ic e (Err x) nodes ready which fallen fallen_found some stop = tt
-
-pub is_looked : {A : Type 0} (r : Result Children A) (Past : PastPlaces) (p : Problem) (n : Node) (w : Way) (os : List (List ℕ)) → IfOk r (λ c. AreLooked Past p n w c × (options_in c ≡ os)) → IfOk r (AreLooked Past p n w)
-is_looked (Ok c) Past p n w os h = h.0
-is_looked (Err e) Past p n w os h = tt
-
-pub has_options : {A : Type 0} (r : Result Children A) (Past : PastPlaces) (p : Problem) (n : Node) (w : Way) (os : List (List ℕ)) → IfOk r (λ c. AreLooked Past p n w c × (options_in c ≡ os)) → IfOk r (λ c. options_in c ≡ os)
-has_options (Ok c) Past p n w os h = h.1
-has_options (Err e) Past p n w os h = tt
 
 -- an option that is still to come is one of all
 pub comes : (done rest : List (List ℕ)) (t : List ℕ) (all : List (List ℕ)) → done ++ t ∷ rest ≡ all → IsIn t all

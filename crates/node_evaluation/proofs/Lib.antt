@@ -2,6 +2,7 @@ pub mod ChoiceLemmas
 pub mod OptionLemmas
 pub mod BestLemmas
 pub mod ChildLemmas
+pub mod HandLemmas
 pub mod KnownLemmas
 pub mod LookLemmas
 pub mod OptionWalk

@@ -1,9 +1,9 @@
 -- The network of each leaf among children.
-use Rattle.std.proofs.Common.{Result, Ok, Err, IfOk, ◌≡◌, Bool, true, false, cond, List, [], ◌∷◌, ◌++◌, map, Option, Some, None, refl, sym, ap, ◌∙◌, subst, true≢false}
+use Rattle.std.proofs.Common.{◌≡◌, Bool, true, cond, List, [], ◌∷◌, ◌++◌, Option, Some, None, sym, ap, ◌∙◌, subst, true≢false}
 use Rattle.std.specs.Prelude.{is_some}
 use Rattle.std.proofs.lemmas.List.{map-append}
 use Rattle.problem_rules.specs.Problem.{Problem}
-use Rattle.tree_rules.specs.Tree.{End, branch, leaf}
+use Rattle.tree_rules.specs.Tree.{End, leaf}
 use Rattle.tree_rules.specs.Claim as claims
 use Rattle.tree_rules.specs.Leaf.{Leaf, dead, clash, refuted, bounded, untried, LeafPasses}
 use Rattle.search_tree.specs.Cells.{Cell, place_of}
@@ -11,7 +11,7 @@ use Rattle.search_tree.specs.declared.growth.Fresh.{Fresh}
 use Rattle.node_evaluation.specs.declared.looks.Looked.{Looked}
 use Rattle.node_evaluation.specs.declared.children.Children.{Children}
 use Rattle.node_evaluation.specs.Looks.{cost_of, is_bounded, AreFoundAt}
-use Rattle.node_evaluation.specs.Children.{cells_of, IsSolvedAs, IsSolvedBy, AreSolvedBy}
+use Rattle.node_evaluation.specs.Children.{cells_of, IsSolvedBy, AreSolvedBy}
 
 -- a leaf that passes for its network is solved by it
 pub solved_by : (p : Problem) (c : Cell) (w : Option claims.Network) (what : Leaf) → c.end ≡ leaf what → LeafPasses true p (cost_of w) (place_of c) what → AreFoundAt p (place_of c) w
@@ -42,13 +42,12 @@ solved_more p old new l all e ek en h k =
     (subst (λ (cs : List Cell). AreSolvedBy p cs (old.networks.items ++ l.network ∷ [])) (sym cells)
     (solved-append p (cells_of old.nodes.items) (l.cell ∷ []) old.networks.items (l.network ∷ []) h (k, tt)))
 
-pub solved_after : {A : Type 0} (p : Problem) (old : Children) (l : Looked) (all : Bool) (r : Result Children A)
+pub solved_after : (p : Problem) (old new : Children) (l : Looked) (all : Bool)
     → (all ≡ true → AreSolvedBy p (cells_of old.nodes.items) old.networks.items) → IsSolvedBy p l.cell l.network
-    → IfOk r (λ c. c.nodes.items ≡ old.nodes.items ++ record { cell = l.cell; value = l.value } ∷ [])
-    → IfOk r (λ c. c.networks.items ≡ cond all (old.networks.items ++ l.network ∷ []) old.networks.items)
-    → IfOk r (λ c. all ≡ true → AreSolvedBy p (cells_of c.nodes.items) c.networks.items)
-solved_after p old l all (Ok c) h k ek en = λ e. solved_more p old c l all e ek en (h e) k
-solved_after p old l all (Err x) h k ek en = tt
+    → new.nodes.items ≡ old.nodes.items ++ record { cell = l.cell; value = l.value } ∷ []
+    → new.networks.items ≡ cond all (old.networks.items ++ l.network ∷ []) old.networks.items
+    → all ≡ true → AreSolvedBy p (cells_of new.nodes.items) new.networks.items
+solved_after p old new l all h k ek en e = solved_more p old new l all e ek en (h e) k
 
 -- before the first child
 pub solved_first : (p : Problem) (fs : List Fresh) (ws : List (Option claims.Network)) → fs ≡ [] → ws ≡ [] → AreSolvedBy p (cells_of fs) ws

@@ -96,12 +96,19 @@ stop_after old at (Some h) = Some (record { at = at; stop = h })
 abbrev pub options_in : Children → List (List ℕ)
 options_in c = map (λ (d : Cell). d.option) (cells_of c.nodes.items)
 
+-- all but the cheapest network stays
+pub record IsSameBut (old new : Children) : Type 0 where
+  pub nodes : new.nodes.items ≡ old.nodes.items
+  pub ready : new.ready.items ≡ old.ready.items
+  pub networks : new.networks.items ≡ old.networks.items
+  pub stop : new.stop ≡ old.stop
+
 -- these children pass where the cheapest network is claimed that was found among them, and so where a cheaper one is; one was found
--- exactly where a child is a bounded leaf
+-- where a child is a bounded leaf
 pub record AreLooked (Past : PastPlaces) (p : Problem) (n : Node) (w : Way) (c : Children) : Type 0 where
   pub each : (k : ℕ) → k < length (cells_of c.nodes.items) → IsFreshChild p (claimed_cost (claim_with c.best)) n w (cell_at (cells_of c.nodes.items) k)
   pub found : IsImproved p n None c.best
-  pub bounded : is_some c.best ≡ has_bounded (cells_of c.nodes.items)
+  pub bounded : has_bounded (cells_of c.nodes.items) ≡ true → is_some c.best ≡ true
   pub known : (k : ℕ) → k < length c.nodes.items → KnowsCell p (cell_at (cells_of c.nodes.items) k)
   pub same_length : length c.ready.items ≡ length c.nodes.items
   pub stop_holds : StopHolds Past p c.nodes.items c.ready.items c.stop
@@ -110,7 +117,7 @@ pub record AreLooked (Past : PastPlaces) (p : Problem) (n : Node) (w : Way) (c :
 pub record AreSeen (Past : PastPlaces) (p : Problem) (n : Node) (w : Way) (c : Children) : Type 0 where
   pub children : AreChildren p (claimed_cost (claim_with c.best)) n w (cells_of c.nodes.items)
   pub found : IsImproved p n None c.best
-  pub bounded : is_some c.best ≡ has_bounded (cells_of c.nodes.items)
+  pub bounded : has_bounded (cells_of c.nodes.items) ≡ true → is_some c.best ≡ true
   pub known : (k : ℕ) → k < length c.nodes.items → KnowsCell p (cell_at (cells_of c.nodes.items) k)
   pub same_length : length c.ready.items ≡ length c.nodes.items
   pub stop_holds : StopHolds Past p c.nodes.items c.ready.items c.stop

@@ -65,3 +65,12 @@ pub record IsWorth (p : Problem) (n : Node) (cost : CostOver) : Type 0 where
 abbrev pub IsProof : PastPlaces → Problem → Node → CostOver → Proof → Type 0
 IsProof Past p n cost (proofs.Scaled s) = IsBounded p (Some cost) n s.d s.ys
 IsProof Past p n cost (proofs.Stopped h) = Past p n h.nonbasic h.place
+
+-- ---- a network at hand
+
+-- the network has flows; it has all units that are taken in at the node, and none that is left out
+pub record IsAtHand (p : Problem) (n : Node) (w : Network) : Type 0 where
+  pub feasible : IsFeasible p w
+  pub positive : pos 1 ≤ℤ w.d
+  pub inside : (u : ℕ) → n.inside u ≡ true → has w.units u ≡ true
+  pub outside : (u : ℕ) → n.outside u ≡ true → has w.units u ≡ false

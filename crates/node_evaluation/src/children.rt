@@ -1,5 +1,5 @@
 //! A look at all children of a node.
-ghost use Rattle.std.specs.Prelude.{◌≡◌, ◌⊎◌, ◌↔◌, ◌++◌, ◌∷◌, [], ◌||◌, cond, IsTrue, true, false, Some, None, is_some, IfOk, OnOk, length};
+ghost use Rattle.std.specs.Prelude.{◌≡◌, ◌⊎◌, ◌↔◌, ◌++◌, ◌∷◌, [], ◌||◌, cond, IsTrue, true, false, Some, None, is_some, IfOk, IfSome, OnOk, length};
 ghost use Rattle.pns_rules.specs.Shape.{shape_of};
 ghost use Rattle.number_sets.specs.Options.{IsIn};
 ghost use Rattle.pns_rules.specs.Ends.{IsSound, IsReduced};
@@ -8,9 +8,10 @@ ghost use Rattle.branch_choice.specs.Choices.{IsChoice, way_of};
 ghost use Rattle.pgraph.specs.Tables.{shape};
 ghost use Rattle.pgraph.specs.View.{node_of};
 ghost use Rattle.turn_laws.specs.Values.{IsNoMore, HasFallen};
-ghost use Rattle.node_evaluation.specs.Evaluated.{cost_in};
+ghost use Rattle.search_tree.specs.Cells.{place_of};
+ghost use Rattle.node_evaluation.specs.Evaluated.{cost_in, IsAtHand};
 ghost use Rattle.node_evaluation.specs.Looks.{cost_of};
-ghost use Rattle.node_evaluation.specs.Children.{IsChild, AreLooked, AreSeen, AreSolvedBy, cells_of, options_in, stop_after};
+ghost use Rattle.node_evaluation.specs.Children.{IsChild, IsSameBut, AreLooked, AreSeen, AreSolvedBy, cells_of, options_in, stop_after};
 ghost use Rattle.branch_tree.specs.Known.{AreUnits};
 ghost use Rattle.neutral_extension.specs.Candidates.{AreMakersOf};
 
@@ -181,6 +182,37 @@ fn look_or_wait<E: Evaluator>(
     })
 }
 
+/// The same children, with a network at hand where it is cheaper than the best.
+fn with_best(children: Children, at_hand: Option<Network>) -> Children
+    ensures same { IsSameBut children result }
+    ensures which { (result.best ≡ children.best) ⊎ (result.best ≡ at_hand) }
+    ensures old { HasFallen (cost_of children.best) (cost_of result.best) }
+    ensures some { is_some result.best ≡ (is_some children.best || is_some at_hand) }
+{
+    let mut children = children;
+    children.best = cheaper(children.best.take(), at_hand);
+    children
+}
+
+/// The network at hand at a child, where it is a leaf that stays open. None is asked for where the networks of all leaves are.
+fn network_at_hand<E: Evaluator>(
+    alloc: Global,
+    evaluator: &mut E,
+    problem: &Problem,
+    graph: &Graph,
+    looked: &Looked,
+    all: bool,
+) -> Result<Option<Network>, AllocError>
+    requires graph { shape graph.now ≡ shape_of problem.now }
+    requires sound { IsSound (shape_of problem.now) (place_of looked.now.cell) }
+    ensures { IfOk result (λ found. IfSome found (IsAtHand problem.now (place_of looked.now.cell))) }
+{
+    if all || looked.ready.is_none() {
+        return Ok(None);
+    }
+    evaluator.network_at_hand(alloc, problem, graph, looked.cell.node)
+}
+
 /// Looks at the child of one option more.
 fn look_at_child<E: Evaluator>(
     alloc: Global,
@@ -214,7 +246,9 @@ fn look_at_child<E: Evaluator>(
     let looked = look_or_wait(
         alloc, evaluator, problem, graph, makers, option, start, stopped,
     )?;
-    with_child(alloc, children, looked, all)
+    let at_hand = network_at_hand(alloc, evaluator, problem, graph, &looked, all)?;
+    let more = with_child(alloc, children, looked, all)?;
+    Ok(with_best(more, at_hand))
 }
 
 /// Looks at all children of a node that a choice gives, in the order of their options, and copies each network where `all` are asked

@@ -1,10 +1,10 @@
 //! How a search comes to know the value of a node.
-ghost use Rattle.std.specs.Prelude.{◌≡◌, pos, ◌≤ℤ◌, true, IfOk};
+ghost use Rattle.std.specs.Prelude.{◌≡◌, pos, ◌≤ℤ◌, true, IfOk, IfSome};
 ghost use Rattle.pns_rules.specs.Shape.{shape_of};
 ghost use Rattle.pns_rules.specs.Ends.{IsSound, IsReduced, IsDecided};
 ghost use Rattle.pgraph.specs.Tables.{shape};
 ghost use Rattle.pgraph.specs.View.{node_of};
-ghost use Rattle.node_evaluation.specs.Evaluated.{PastPlaces, IsEvaluated, IsWorth, IsProof};
+ghost use Rattle.node_evaluation.specs.Evaluated.{PastPlaces, IsEvaluated, IsWorth, IsProof, IsAtHand};
 
 use branch_tree::{Columns, Multipliers, Network, Scaled};
 use flow_program::Place;
@@ -87,6 +87,19 @@ pub trait Evaluator {
         requires positive { pos 1 ≤ℤ d }
         requires worth { IsWorth problem.now (node_of node) (record { cost = cost; d = d }) }
         ensures { IfOk result (IsProof past problem.now (node_of node) (record { cost = cost; d = d })) };
+
+    /// A network of the units that are taken in at a node and of others that are not left out there, where one is at hand: it is asked
+    /// for where least relaxed flows of the node were told last. `None` says nothing, and `Err` comes for want of memory alone.
+    fn network_at_hand(
+        &mut self,
+        alloc: Global,
+        problem: &Problem,
+        graph: &Graph,
+        node: Node,
+    ) -> Result<Option<Network>, AllocError>
+        requires graph { shape graph.now ≡ shape_of problem.now }
+        requires sound { IsSound (shape_of problem.now) (node_of node) }
+        ensures { IfOk result (λ found. IfSome found (IsAtHand problem.now (node_of node))) };
 
     /// The size of each unit that is not left out at the node evaluated last, in rising order and in whole millionths, where least
     /// flows were found. A guide for the choice of a branch: nothing rests on it.

@@ -1,4 +1,4 @@
-use Rattle.std.proofs.Common.{◌≡◌, ℕ, List, ◌++◌, ◌∷◌, [], sym, ap, ◌∙◌, subst}
+use Rattle.std.proofs.Common.{◌≡◌, sym, ap, ◌∙◌, subst}
 use Rattle.pns_rules.specs.Shape.{Shape, shape_of}
 use Rattle.pns_rules.specs.Nodes as rules
 use Rattle.pns_rules.specs.Ends.{IsSound}
@@ -7,9 +7,10 @@ use Rattle.pgraph.specs.Tables.{shape}
 use Rattle.pgraph.specs.View.{node_of}
 use Rattle.tree_rules.specs.Ways.{child_at}
 use Rattle.branch_choice.specs.Choices.{IsChoice, way_of}
-use Rattle.node_evaluation.specs.Children.{IsChild, options_in}
+use Rattle.node_evaluation.specs.Children.{IsChild}
 use Rattle.node_evaluation.proofs.ChoiceLemmas.{may_branch, decides}
-use Rattle.node_evaluation.proofs.ChildLemmas.{sound_child, looked_after, is_looked, has_options}
+use Rattle.node_evaluation.proofs.ChildLemmas.{sound_child}
+use Rattle.node_evaluation.proofs.HandLemmas.{looked_then, options_then}
 use Rattle.node_evaluation.proofs.KnownLemmas.{known_option}
 use Rattle.node_evaluation.proofs.SolvedLemmas.{solved_by, solved_after}
 use Rattle.node_evaluation.proofs.OptionLemmas.{choice_known}
@@ -36,6 +37,9 @@ look_or_wait-requires-clause-option g c =
     let n = node_of c.args.node.now in
     known_option p n (way_of c.args.choice) c.args.option (proper_if_valid p c.is_valid.ensures.valid) c.requires.sound.apart (may_branch (shape_of p) n c.args.choice c.requires.choice) c.requires.option
 
+pub network_at_hand-requires-clause-sound : goal.network_at_hand-requires-clause-sound
+network_at_hand-requires-clause-sound g c = c.in_ok-looked.ensures.child.sound
+
 pub returns-clause-looked : goal.returns-clause-looked
 returns-clause-looked g c =
     let p = c.args.problem.now in
@@ -44,11 +48,11 @@ returns-clause-looked g c =
     = c.child_of-start.ensures ∙ ap (λ (s : Shape). child_at s n (way_of c.args.choice) c.args.option) c.requires.graph in
     let child_is : IsChild g.E.Evaluator.past p (child_at (shape_of p) n (way_of c.args.choice) c.args.option) c.args.option c.is_some-stopped.result c.in_ok-looked.looked
     = subst (λ (m : rules.Node). IsChild g.E.Evaluator.past p m c.args.option c.is_some-stopped.result c.in_ok-looked.looked) start c.in_ok-looked.ensures.child in
-    let e = c.with_child.ensures in
-    is_looked c.with_child.result g.E.Evaluator.past p n (way_of c.args.choice) (options_in c.args.children ++ c.args.option ∷ [])
-    (looked_after p c.is_valid.ensures.valid n (way_of c.args.choice) c.requires.sound c.requires.reduced (may_branch (shape_of p) n c.args.choice c.requires.choice)
-    (decides (shape_of p) n c.args.choice c.requires.choice) c.args.option c.requires.option g.E.Evaluator.past c.args.children c.in_ok-looked.looked c.is_some-stopped.result c.requires.looked child_is c.is_some-stopped.ensures
-    c.with_child.result e.nodes e.ready e.which e.old e.found e.some e.stop)
+    let e = c.in_ok-more.ensures in
+    let b = c.with_best.ensures in
+    looked_then p c.is_valid.ensures.valid n (way_of c.args.choice) c.requires.sound c.requires.reduced (may_branch (shape_of p) n c.args.choice c.requires.choice)
+    (decides (shape_of p) n c.args.choice c.requires.choice) c.args.option c.requires.option g.E.Evaluator.past c.args.children c.in_ok-more.more c.with_best.result c.in_ok-looked.looked c.is_some-stopped.result
+    c.requires.looked child_is c.is_some-stopped.ensures e.nodes e.ready e.which e.old e.found e.some e.stop c.in_ok-at_hand.at_hand c.in_ok-at_hand.ensures b.same b.which b.old b.some
 
 pub returns-clause-options : goal.returns-clause-options
 returns-clause-options g c =
@@ -58,16 +62,16 @@ returns-clause-options g c =
     = c.child_of-start.ensures ∙ ap (λ (s : Shape). child_at s n (way_of c.args.choice) c.args.option) c.requires.graph in
     let child_is : IsChild g.E.Evaluator.past p (child_at (shape_of p) n (way_of c.args.choice) c.args.option) c.args.option c.is_some-stopped.result c.in_ok-looked.looked
     = subst (λ (m : rules.Node). IsChild g.E.Evaluator.past p m c.args.option c.is_some-stopped.result c.in_ok-looked.looked) start c.in_ok-looked.ensures.child in
-    let e = c.with_child.ensures in
-    has_options c.with_child.result g.E.Evaluator.past p n (way_of c.args.choice) (options_in c.args.children ++ c.args.option ∷ [])
-    (looked_after p c.is_valid.ensures.valid n (way_of c.args.choice) c.requires.sound c.requires.reduced (may_branch (shape_of p) n c.args.choice c.requires.choice)
-    (decides (shape_of p) n c.args.choice c.requires.choice) c.args.option c.requires.option g.E.Evaluator.past c.args.children c.in_ok-looked.looked c.is_some-stopped.result c.requires.looked child_is c.is_some-stopped.ensures
-    c.with_child.result e.nodes e.ready e.which e.old e.found e.some e.stop)
+    let e = c.in_ok-more.ensures in
+    options_then p c.is_valid.ensures.valid n (way_of c.args.choice) c.requires.sound c.requires.reduced (may_branch (shape_of p) n c.args.choice c.requires.choice)
+    (decides (shape_of p) n c.args.choice c.requires.choice) c.args.option c.requires.option g.E.Evaluator.past c.args.children c.in_ok-more.more c.with_best.result c.in_ok-looked.looked c.is_some-stopped.result
+    c.requires.looked child_is c.is_some-stopped.ensures e.nodes e.ready e.which e.old e.found e.some e.stop c.in_ok-at_hand.at_hand c.in_ok-at_hand.ensures c.with_best.ensures.same
 
 pub returns-clause-solved : goal.returns-clause-solved
 returns-clause-solved g c =
     let l = c.in_ok-looked.looked in
     let k = c.in_ok-looked.ensures.child in
-    let e = c.with_child.ensures in
-    solved_after c.args.problem.now c.args.children l c.args.all c.with_child.result c.requires.solved
-    (solved_by c.args.problem.now l.cell l.network k.what k.end_is k.passes k.found k.bounded) e.nodes e.networks
+    let e = c.in_ok-more.ensures in
+    let same = c.with_best.ensures.same in
+    solved_after c.args.problem.now c.args.children c.with_best.result l c.args.all c.requires.solved
+    (solved_by c.args.problem.now l.cell l.network k.what k.end_is k.passes k.found k.bounded) (same.nodes ∙ e.nodes) (same.networks ∙ e.networks)
