@@ -286,13 +286,13 @@ module _ {undercut : Option CostOver} (p : Problem) (valid : IsValid p) (s : Gro
             ∙ (bounded_more (slice_set s.pool.payloads at now) (cells_of gs)
             ∙ ap (λ b. b || has_bounded (cells_of gs)) (bounded_set s.pool.payloads at now there (open_unbounded (cell_at s.pool.payloads at).end untried_there)))
 
-        children_bounded : is_some c.best ≡ has_bounded (cells_of gs)
-        children_bounded = seen.bounded ∙ sym (bounded_same c.nodes.items gs c.ready.items freed new.ready placed)
+        children_bounded : has_bounded (cells_of gs) ≡ true → is_some c.best ≡ true
+        children_bounded k = seen.bounded (sym (bounded_same c.nodes.items gs c.ready.items freed new.ready placed) ∙ k)
 
         bounded_now : has_bounded new.pool.payloads ≡ true → is_some new.best ≡ true
         bounded_now b = some_new ∙ elim (or_cases (has_bounded s.pool.payloads) (has_bounded (cells_of gs)) (sym bounded_in ∙ b)) [
           | inl o ↦ or_left (is_some s.best) (is_some c.best) (g.tree.bounded o)
-          | inr k ↦ or_right (is_some s.best) (is_some c.best) (children_bounded ∙ k)
+          | inr k ↦ or_right (is_some s.best) (is_some c.best) (children_bounded k)
         ]
 
         longer : length new.pool.payloads ≡ length s.pool.payloads + length (cells_of gs)

@@ -1,4 +1,5 @@
 pub mod FlowLemmas
+pub mod HandLemmas
 pub mod KnownLemmas
 pub mod ToldLemmas
 pub mod ValueLemmas

@@ -1,6 +1,8 @@
 //! [`FlowEvaluator`], which evaluates nodes in two ways.
 ghost use Rattle.std.specs.Prelude.{◌≡◌, true, length, None, IfOk, IfSome, OnOk};
+ghost use Rattle.number_sets.specs.Sets.{has};
 ghost use Rattle.pns_rules.specs.Shape.{shape_of};
+ghost use Rattle.pns_rules.specs.Structure.{InFamily};
 ghost use Rattle.pns_rules.specs.Ends.{IsSound, IsReduced, IsDecided};
 ghost use Rattle.pgraph.specs.Tables.{shape};
 ghost use Rattle.pgraph.specs.View.{node_of};
@@ -8,12 +10,15 @@ ghost use Rattle.dual_simplex.specs.Bench.{HasRoom};
 ghost use Rattle.tree_rules.specs.Claim.{CostOver};
 ghost use Rattle.tree_rules.specs.Lean.{MayUndercut};
 ghost use Rattle.turn_laws.specs.Values.{IsPositive};
-ghost use Rattle.node_evaluation.specs.Evaluated.{IsEvaluated, IsWorth, IsProof};
+ghost use Rattle.node_evaluation.specs.Evaluated.{IsEvaluated, IsWorth, IsProof, IsAtHand};
 ghost use Rattle.flow_evaluator.specs.Past.{IsPastAt};
 
 use crate::answers::{bounded, proved, refuted, stopped, unproved};
+use crate::at_hand::{running_units, structure_with};
 use crate::told::evaluation_of;
-use certified_bounds::CertifiedBounds;
+use crate::tries::Tries;
+use branch_tree::Network;
+use certified_bounds::{Certified, CertifiedBounds};
 use dual_simplex::{Bench, Ends, entry_is_past, names_are_of_program, none_is_refuted};
 use flow_program::Program;
 use flow_rules::refutation;
@@ -22,7 +27,8 @@ use pgraph::Graph;
 use pns_problem::Problem;
 use std::alloc::{AllocError, Global};
 use std::marker::Model;
-use unit_sets::Node;
+use structure_flows::{allowed_is_decided, node_of};
+use unit_sets::{Node, UnitSet};
 
 /// Values node after node: by a guess that is judged exactly, and where that tells nothing, by the path of the node's program.
 #[derive(Drop)]
@@ -31,6 +37,7 @@ pub struct FlowEvaluator {
     bench: Bench,
     // Whether the path of the node that was evaluated last was walked.
     is_walked: bool,
+    tries: Tries,
 }
 
 impl Model for FlowEvaluator {
@@ -116,6 +123,7 @@ impl FlowEvaluator {
             certified,
             bench,
             is_walked: false,
+            tries: Tries::none(),
         })
     }
 
@@ -127,6 +135,54 @@ impl FlowEvaluator {
             *self = FlowEvaluator::open(alloc, problem)?;
         }
         Ok(())
+    }
+
+    /// The structure of the node's family whose flows are to be tried: one whose free units owe nothing, so that its flows cost what the
+    /// node is worth; and until a network was told, and then at one node in 32, any.
+    fn structure_to_try(&self, problem: &Problem, graph: &Graph, node: &Node) -> Option<UnitSet>
+        requires graph { shape graph.now ≡ shape_of problem.now }
+        requires sound { IsSound (shape_of problem.now) (node_of node.now) }
+        ensures { IfSome result (λ s. InFamily (shape_of problem.now) (has node.now.inside) (has node.now.outside) (has s)) }
+    {
+        let running = running_units(problem, graph, node, self.sizes());
+        if running.units.meet(running.owing).is_empty() {
+            if let Some(set) = structure_with(graph, node, running.units, running.owing) {
+                return Some(set);
+            }
+        }
+        if self.tries.has_network() && !self.tries.is_turn() {
+            return None;
+        }
+        structure_with(graph, node, running.units, UnitSet::empty())
+    }
+
+    /// The least flows of a structure of the node's family, where they are certified.
+    fn network_of(
+        &mut self,
+        alloc: Global,
+        problem: &Problem,
+        graph: &Graph,
+        node: &Node,
+        set: UnitSet,
+    ) -> Result<Option<Network>, AllocError>
+        requires own { self.old.problem ≡ problem.now }
+        requires graph { shape graph.now ≡ shape_of problem.now }
+        requires family { InFamily (shape_of problem.now) (has node.now.inside) (has node.now.outside) (has set) }
+        ensures { IfOk result (λ found. IfSome found (IsAtHand problem.now (node_of node.now))) }
+    {
+        problem.is_valid();
+        allowed_is_decided();
+        let decided = node_of(problem, set);
+        match self.certified.look(alloc, problem, graph, decided, true)? {
+            Certified::Flows(bound, network) => {
+                self.tries.keep_cost(bound.value);
+                Ok(Some(network))
+            }
+            _ => {
+                self.tries.keep_vain();
+                Ok(None)
+            }
+        }
     }
 
     /// There is room for the program of each node of the problem. A call tells a proof so, and does nothing.
@@ -173,11 +229,14 @@ impl Evaluator for FlowEvaluator {
     ) -> Result<Evaluation, AllocError> {
         self.make_ready(alloc, problem)?;
         if let Some(evaluation) = self.certify(alloc, problem, graph, node, decided)? {
+            self.tries.keep(&evaluation);
             return Ok(evaluation);
         }
         self.has_room();
         self.is_walked = true;
-        evaluate_on(alloc, problem, graph, &node, decided, &mut self.bench)
+        let evaluation = evaluate_on(alloc, problem, graph, &node, decided, &mut self.bench)?;
+        self.tries.keep(&evaluation);
+        Ok(evaluation)
     }
 
     fn prove(
@@ -195,6 +254,23 @@ impl Evaluator for FlowEvaluator {
         }
         self.has_room();
         prove_on(alloc, problem, graph, &node, &mut self.bench)
+    }
+
+    fn network_at_hand(
+        &mut self,
+        alloc: Global,
+        problem: &Problem,
+        graph: &Graph,
+        node: Node,
+    ) -> Result<Option<Network>, AllocError> {
+        if !self.tries.is_due() {
+            return Ok(None);
+        }
+        let Some(set) = self.structure_to_try(problem, graph, &node) else {
+            return Ok(None);
+        };
+        self.make_ready(alloc, problem)?;
+        self.network_of(alloc, problem, graph, &node, set)
     }
 
     fn sizes(&self) -> &[i64] {

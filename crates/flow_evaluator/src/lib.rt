@@ -9,11 +9,15 @@
 //! - `told`: what is told without a path, as an evaluation
 //! - `answers`: what the last basis of a path gives
 //! - `sums`: the sums over what the bench keeps, which may leave the range
+//! - `at_hand`: a solution structure at hand at a node
+//! - `tries`: when its flows are tried
 #![tactic(auto)]
 
 mod answers;
+mod at_hand;
 mod evaluator;
 mod sums;
 mod told;
+mod tries;
 
 pub use evaluator::FlowEvaluator;

@@ -14,3 +14,4 @@ mod nodes;
 pub use answer::StructureFlows;
 pub use laws::{allowed_is_decided, multipliers_prove, node_is_decided};
 pub use least::flows_of;
+pub use nodes::node_of;

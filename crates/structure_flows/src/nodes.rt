@@ -7,7 +7,7 @@ use pns_problem::Problem;
 use unit_sets::{Node, UnitSet};
 
 /// The node at which the units are taken in and all others left out.
-pub(crate) fn node_of(problem: &Problem, set: UnitSet) -> Node
+pub fn node_of(problem: &Problem, set: UnitSet) -> Node
     requires { length problem.now.units < 129 }
     ensures node { node_of result ≡ decided problem.now set }
     ensures inside { result.inside ≡ set }

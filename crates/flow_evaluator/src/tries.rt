@@ -1,0 +1,82 @@
+//! When the flows of a structure at hand are tried. It saves time, and nothing is promised of it.
+use mixed_numbers::Mixed;
+use node_evaluation::Evaluation;
+
+/// What was told so far: what the node is worth that was evaluated last, the least cost of a network, and how many structures were tried
+/// in vain since a network was told.
+#[derive(Clone, Copy)]
+pub(crate) struct Tries {
+    value: Mixed,
+    least: Option<Mixed>,
+    vain: u32,
+    // How many leaves are still passed over.
+    passed: u32,
+    // How many nodes were evaluated.
+    nodes: u32,
+}
+
+impl Tries {
+    /// Before anything is told.
+    pub(crate) fn none() -> Tries {
+        Tries {
+            value: Mixed::of(0, 1),
+            least: None,
+            vain: 0,
+            passed: 0,
+            nodes: 0,
+        }
+    }
+
+    /// Keeps what is told of a node.
+    pub(crate) fn keep(&mut self, evaluation: &Evaluation) {
+        self.nodes = self.nodes.wrapping_add(1);
+        match evaluation {
+            Evaluation::Least(bound) => self.value = bound.value,
+            Evaluation::Flows(bound, _) => self.keep_cost(bound.value),
+            Evaluation::Refuted(_) | Evaluation::Stopped(_) => {}
+        }
+    }
+
+    /// Keeps the cost of a network that is told.
+    pub(crate) fn keep_cost(&mut self, cost: Mixed) {
+        if self.is_cheaper(cost) {
+            self.least = Some(cost);
+        }
+        self.vain = 0;
+        self.passed = 0;
+    }
+
+    /// After a structure was tried in vain, as many leaves are passed over as were tried in vain one after the other.
+    pub(crate) fn keep_vain(&mut self) {
+        self.vain = self.vain.saturating_add(1);
+        self.passed = self.vain;
+    }
+
+    /// Whether a network was told.
+    pub(crate) fn has_network(&self) -> bool {
+        self.least.is_some()
+    }
+
+    /// Whether it is the turn of a node at which any structure is tried: of one in 32.
+    pub(crate) fn is_turn(&self) -> bool {
+        self.nodes % 32 == 0
+    }
+
+    fn is_cheaper(&self, cost: Mixed) -> bool {
+        match self.least {
+            None => true,
+            Some(least) => cost < least,
+        }
+    }
+
+    /// Whether a structure of the node that was evaluated last is to be tried: its network may be the cheapest that was told, and the
+    /// leaf is not passed over.
+    pub(crate) fn is_due(&mut self) -> bool {
+        if !self.is_cheaper(self.value) {
+            return false;
+        }
+        let is_due = self.passed == 0 || self.is_turn();
+        self.passed = self.passed.saturating_sub(1);
+        is_due
+    }
+}
