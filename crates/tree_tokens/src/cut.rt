@@ -1,5 +1,5 @@
 //! Lines of a text, and tokens of a line.
-ghost use Rattle.std.specs.Prelude.{◌≡◌, ◌<◌, ◌≤◌, ◌∷◌, [], IfSome, IfNone, length, drop};
+ghost use Rattle.std.specs.Prelude.{◌≡◌, ◌<◌, ◌≤◌, ◌∷◌, [], IfSome, IfNone, length, drop, count_by};
 ghost use Rattle.std.specs.List.{slice_split, list_all};
 ghost use Rattle.tree_text_rules.specs.Line.{lines_of, is_space, has_bytes};
 ghost use Rattle.tree_tokens.specs.View.{line_of, tokens_in};
@@ -57,6 +57,23 @@ pub fn next_token(rest: Option<&[u8]>) -> Option<(&[u8], Option<&[u8]>)>
     match rest {
         None => None,
         Some(text) => Some(first_token(text)),
+    }
+}
+
+fn spaces_in(text: &[u8]) -> usize
+    ensures within { result ≤ length text.now }
+    ensures count { result ≡ count_by is_space text.now }
+{
+    text.iter().filter(|c| **c == b' ').count()
+}
+
+/// How many tokens what is left of a line has.
+pub fn token_count(rest: Option<&[u8]>) -> usize
+    ensures { result ≡ length (tokens_in rest.entry) }
+{
+    match rest {
+        None => 0,
+        Some(text) => spaces_in(text) + 1,
     }
 }
 

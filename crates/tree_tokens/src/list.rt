@@ -6,7 +6,7 @@ ghost use Rattle.tree_tokens.specs.Joined.{so_far, joined};
 ghost use Rattle.tree_tokens.specs.Tells.{TellsLine};
 ghost use Rattle.tree_tokens.specs.View.{tokens_in};
 
-use crate::cut::first_token;
+use crate::cut::{first_token, token_count};
 use crate::fault_order::{lesser, lesser_of};
 use crate::line_fault::LineFault;
 use crate::number::number_of;
@@ -35,13 +35,13 @@ fn take_number(
     }
 }
 
-/// The numbers of what is left of a line.
+/// The numbers of what is left of a line, in a list that has room for just so many.
 pub fn numbers_of(alloc: Global, fields: Option<&[u8]>) -> Result<Vec<i128>, LineFault>
     ensures ok { IfOk result (λ v. rules.each rules.number_of (tokens_in fields.entry) ≡ Ok v.items) }
     ensures range { IfOk result (λ v. AllInRange v.items) }
     ensures fault { IfErr result (TellsLine (rules.each rules.number_of (tokens_in fields.entry))) }
 {
-    let mut numbers = Vec::new(alloc);
+    let mut numbers = Vec::with_capacity(alloc, token_count(fields))?;
     let mut fault = None;
     let mut rest = fields;
     'reading: while let Some(left) = rest {
