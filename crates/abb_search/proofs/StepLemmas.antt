@@ -28,7 +28,8 @@ use Rattle.turn_laws.specs.Kept.{IsKept}
 use Rattle.node_evaluation.specs.declared.evaluator.PastStop.{PastStop}
 use Rattle.node_evaluation.specs.Evaluated.{PastPlaces, cost_in}
 use Rattle.node_evaluation.specs.Looks.{has_bounded, cost_of, IsStop}
-use Rattle.node_evaluation.specs.Children.{claim_with}
+use Rattle.node_evaluation.specs.Children.{claim_with, IsBest}
+use Rattle.node_evaluation.proofs.ChildLemmas.{cost_is}
 use Rattle.abb_search.specs.Hand.{AreAtHand}
 use Rattle.abb_search.proofs.HandLemmas.{hand_same}
 use Rattle.abb_search.specs.declared.outcome.Found.{Found}
@@ -68,9 +69,12 @@ never_memory (Some w) tree h = let q : founds.Solved w tree ≡ founds.Memory = 
 -- ---- the search goes on
 
 -- the cost of a network that passes is over a number above 0
-passes_positive : (partial : Bool) (p : Problem) (w : Option claims.Network) → ClaimPasses partial p (claim_with w) → IsPositiveCost (cost_of w)
+pub passes_positive : (partial : Bool) (p : Problem) (w : Option claims.Network) → ClaimPasses partial p (claim_with w) → IsPositiveCost (cost_of w)
 passes_positive partial p None h = tt
 passes_positive partial p (Some w) h = h.flows.positive
+
+pub best_passes : (p : Problem) (w : Option claims.Network) → ClaimPasses true p (claim_with w) → IsBest p w
+best_passes p w h = record { passes = h; positive = subst IsPositiveCost (cost_is w) (passes_positive true p w h) }
 
 pub tree_positive : (p : Problem) (s : Growing) → IsTreeKept p s → IsPositiveCost (cost_of s.best)
 tree_positive p s t = passes_positive true p s.best t.passes
@@ -82,7 +86,7 @@ going_tree Past p s h = by s.stop h
     by None g = g.tree
     by (Some w) g = g.0
 
-going_positive : (Past : PastPlaces) (p : Problem) (s : Growing) → IsGoing Past p s → IsPositiveCost (cost_of s.best)
+pub going_positive : (Past : PastPlaces) (p : Problem) (s : Growing) → IsGoing Past p s → IsPositiveCost (cost_of s.best)
 going_positive Past p s h = tree_positive p s (going_tree Past p s h)
 
 pub more_after : (Past : PastPlaces) (p : Problem) (s new : Growing) → GoesOn Past p new new.stop → length s.pool.payloads < length new.pool.payloads → HasFallen (cost_of s.best) (cost_of new.best)

@@ -10,7 +10,8 @@
 //! - `outcome`: what a search finds, and what a turn answers
 //! - `found`: the tree that shows what is found
 //! - `step`: a turn over the tree
-//! - `turns`: the object over any evaluator, and the loop over its turns
+//! - `turns`: the object over any evaluator
+//! - `workspace`: what searches over one P-graph have in common, and the loop over the turns of a search
 //! - `whole`: the same over the simplex method
 #![tactic(auto)]
 
@@ -23,6 +24,7 @@ mod root;
 mod step;
 mod turns;
 mod whole;
+mod workspace;
 
 pub use closing::{Closing, close_all};
 pub use growing::{
@@ -30,5 +32,6 @@ pub use growing::{
 };
 pub use outcome::{Found, Turn};
 pub use root::look_at_root;
-pub use turns::{SearchWith, search_with};
-pub use whole::{Search, search, search_against};
+pub use turns::SearchWith;
+pub use whole::{Search, Workspace, search, search_against};
+pub use workspace::WorkspaceWith;

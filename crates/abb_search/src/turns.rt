@@ -1,20 +1,18 @@
-//! A search that is taken turn by turn, and the loop over its turns.
+//! A search that is taken turn by turn.
 ghost use Rattle.std.specs.Prelude.{◌≡◌, ◌≤◌, true, false, is_some, IfOk, option_copied, length};
 ghost use Rattle.pns_rules.specs.Shape.{shape_of};
 ghost use Rattle.pns_rules.specs.Ends.{IsSound};
 ghost use Rattle.pgraph.specs.Tables.{shape};
 ghost use Rattle.pgraph.specs.View.{node_of};
-ghost use Rattle.turn_laws.specs.Values.{IsPositiveCost};
-ghost use Rattle.node_evaluation.specs.Looks.{has_bounded, cost_of};
+ghost use Rattle.node_evaluation.specs.Looks.{has_bounded};
 ghost use Rattle.tree_rules.specs.Claim.{ClaimPasses};
 ghost use Rattle.node_evaluation.specs.Children.{claim_with};
-ghost use Rattle.abb_search.specs.Answers.{IsAgainst};
-ghost use Rattle.abb_search.specs.Found.{IsStopped, IsFoundBy};
+ghost use Rattle.abb_search.specs.Found.{IsStopped};
 ghost use Rattle.abb_search.specs.Searched.{opened, TurnHolds, AreNodesOf};
 
 use crate::found::{is_sized, tree_with};
 use crate::growing::Growing;
-use crate::outcome::{Found, Turn};
+use crate::outcome::Turn;
 use crate::root::open_root;
 use crate::step::take_turn;
 use branch_tree::{Network, Tree};
@@ -147,42 +145,5 @@ impl<'a, E: Evaluator + Drop> SearchWith<'a, E> {
     {
         let placed = tree_with(alloc, &self.growing, 0)?;
         Ok(placed.tree)
-    }
-}
-
-/// Takes turns until the search ends, or there is no memory.
-pub(crate) fn run<'a, E: Evaluator + Drop>(search: SearchWith<'a, E>) -> Found
-    requires begun { search.ended ≡ false }
-    requires positive { IsPositiveCost (cost_of search.best) }
-    ensures found { IsFoundBy E.past search.entry.problem (node_of search.entry.start) search.entry.budget result }
-    ensures against { IsAgainst search.entry.best result }
-{
-    let mut search = search;
-    'turns: loop {
-        match search.turn() {
-            Turn::More => {}
-            Turn::Ended(found) => return found,
-            Turn::Memory => return Found::Memory,
-        }
-    }
-}
-
-/// Searches the structures of the family of a node for one whose flows are cheapest.
-pub fn search_with<E: Evaluator + Drop>(
-    alloc: Global,
-    evaluator: E,
-    problem: &Problem,
-    graph: &Graph,
-    start: Node,
-    budget: u32,
-) -> Found
-    requires graph { shape graph.now ≡ shape_of problem.now }
-    requires sound { IsSound (shape_of problem.now) (node_of start) }
-    requires some { 1 ≤ budget }
-    ensures found { IsFoundBy E.past problem.now (node_of start) budget result }
-{
-    match SearchWith::open_with(alloc, evaluator, problem, graph, start, budget, None) {
-        Ok(search) => run(search),
-        Err(_) => Found::Memory,
     }
 }

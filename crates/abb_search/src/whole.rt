@@ -5,12 +5,14 @@ ghost use Rattle.pns_rules.specs.Ends.{IsSound};
 ghost use Rattle.pgraph.specs.Tables.{shape};
 ghost use Rattle.pgraph.specs.View.{node_of};
 ghost use Rattle.tree_rules.specs.Claim.{IsFeasible};
+ghost use Rattle.neutral_extension.specs.Candidates.{AreMakersOf};
 ghost use Rattle.abb_search.specs.Answers.{IsAgainst};
 ghost use Rattle.abb_search.specs.Found.{IsFound};
 ghost use Rattle.abb_search.specs.Searched.{opened};
 
 use crate::outcome::Found;
-use crate::turns::{SearchWith, run};
+use crate::turns::SearchWith;
+use crate::workspace::WorkspaceWith;
 use branch_tree::Network;
 use flow_evaluator::FlowEvaluator;
 use pgraph::Graph;
@@ -20,6 +22,9 @@ use unit_sets::Node;
 
 /// A search whose nodes are bounded by the simplex method.
 pub type Search<'a> = SearchWith<'a, FlowEvaluator>;
+
+/// A workspace of such searches.
+pub type Workspace = WorkspaceWith<FlowEvaluator>;
 
 impl<'a> SearchWith<'a, FlowEvaluator> {
     /// A search before its first turn, whose nodes are bounded by the simplex method. The graph is that of the problem.
@@ -68,22 +73,31 @@ impl<'a> SearchWith<'a, FlowEvaluator> {
     }
 }
 
-/// Searches the structures of the family of a node for one whose flows are cheapest: the loop over the turns of a [`Search`].
+impl WorkspaceWith<FlowEvaluator> {
+    /// A workspace of the problem's P-graph, whose nodes are bounded by the simplex method. `Err` comes for want of memory alone.
+    pub fn open(alloc: Global, problem: &Problem, graph: &Graph) -> Result<Workspace, AllocError>
+        ensures { IfOk result (AreMakersOf (shape graph.now)) }
+    {
+        let evaluator = FlowEvaluator::open(alloc, problem)?;
+        WorkspaceWith::of(alloc, evaluator, graph)
+    }
+}
+
+/// Searches the structures of the family of a node for one whose flows are cheapest: what the turns of a [`Search`] find.
 pub fn search(alloc: Global, problem: &Problem, graph: &Graph, start: Node, budget: u32) -> Found
     requires graph { shape graph.now ≡ shape_of problem.now }
     requires sound { IsSound (shape_of problem.now) (node_of start) }
     requires some { 1 ≤ budget }
     ensures found { IsFound problem.now (node_of start) budget result }
 {
-    match Search::open(alloc, problem, graph, start, budget) {
-        Ok(search) => run(search),
+    match Workspace::open(alloc, problem, graph) {
+        Ok(mut workspace) => workspace.search(alloc, problem, graph, start, budget, None),
         Err(_) => Found::Memory,
     }
 }
 
 /// Searches the structures of the family of a node for one whose flows are cheaper than those of the network that is handed in, which
-/// passes as a claim: the loop over the turns of a [`Search`] that is opened against it. What is found is that network or a cheaper
-/// one.
+/// passes as a claim: what the turns of a [`Search`] find that is opened against it. What is found is that network or a cheaper one.
 pub fn search_against(
     alloc: Global,
     problem: &Problem,
@@ -99,8 +113,10 @@ pub fn search_against(
     ensures found { IsFound problem.now (node_of start) budget result }
     ensures against { IsAgainst (Some network) result }
 {
-    match Search::open_against(alloc, problem, graph, start, budget, network) {
-        Ok(search) => run(search),
+    match Workspace::open(alloc, problem, graph) {
+        Ok(mut workspace) => {
+            workspace.search(alloc, problem, graph, start, budget, Some(network))
+        }
         Err(_) => Found::Memory,
     }
 }

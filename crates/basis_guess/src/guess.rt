@@ -119,6 +119,14 @@ impl Guess {
         Outcome::Nothing
     }
 
+    /// Forgets the basis that is kept, as is due where the numbers of another problem come: the next look begins as the first one did.
+    pub fn forget(&mut self) {
+        self.pivots = STALE;
+        for column in self.columns.iter_mut() {
+            column.at_high = false;
+        }
+    }
+
     /// The variables outside the basis.
     pub fn columns(&self) -> &[Column] {
         &self.columns

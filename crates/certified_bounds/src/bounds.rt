@@ -1,5 +1,5 @@
 //! The calls that value the nodes of a problem.
-ghost use Rattle.std.specs.Prelude.{◌≡◌, ◌≤ℤ◌, pos, true, Some, IsTrue, IfOk, IfSome};
+ghost use Rattle.std.specs.Prelude.{◌≡◌, ◌≤ℤ◌, pos, true, length, Some, IsTrue, IfOk, IfSome, OnOk, OnErr};
 ghost use Rattle.pns_rules.specs.Shape.{shape_of};
 ghost use Rattle.pns_rules.specs.Ends.{IsSound, IsDecided};
 ghost use Rattle.pgraph.specs.Tables.{shape};
@@ -24,7 +24,7 @@ use std::alloc::{AllocError, Global};
 use std::marker::Model;
 use unit_sets::Node;
 
-/// Values the nodes of one problem by guesses that are judged exactly. Contracts see the problem.
+/// Values the nodes of a problem by guesses that are judged exactly. Contracts see the problem.
 #[derive(Drop)]
 pub struct CertifiedBounds {
     problem: Problem,
@@ -60,11 +60,41 @@ impl CertifiedBounds {
         })
     }
 
-    /// Whether it was opened for this problem. Linear in the size of the problem.
+    /// Whether it is for the nodes of this problem. Linear in the size of the problem.
     pub fn is_for(&self, problem: &Problem) -> bool
         ensures { IsTrue result → self.now ≡ problem.now }
     {
         is_same_problem(&self.problem, problem)
+    }
+
+    /// Whether the problem has as many units and materials as that for whose nodes it is.
+    pub fn has_room_for(&self, problem: &Problem) -> bool
+        ensures units { IsTrue result → length self.now.units ≡ length problem.now.units }
+        ensures materials { IsTrue result → length self.now.materials ≡ length problem.now.materials }
+    {
+        self.problem.units().len() == problem.units().len()
+            && self.problem.materials().len() == problem.materials().len()
+    }
+
+    /// Goes over to the nodes of another problem, which it has room for. `Err` comes for want of memory alone.
+    pub fn go_over(
+        &mut self,
+        alloc: Global,
+        problem: &Problem,
+        graph: &Graph,
+    ) -> Result<(), AllocError>
+        requires graph { shape graph.now ≡ shape_of problem.now }
+        requires units { length self.old.units ≡ length problem.now.units }
+        requires materials { length self.old.materials ≡ length problem.now.materials }
+        ensures own { OnOk result (self.new ≡ problem.now) }
+        ensures same { OnErr result (self.new ≡ self.old) }
+    {
+        let scales = Scales::of(alloc, problem, graph)?;
+        let copy = problem.copy(alloc)?;
+        self.proposals.go_over(alloc, problem, &scales)?;
+        self.problem = copy;
+        self.scales = scales;
+        Ok(())
     }
 
     /// Tells what the node is worth; `decided` tells whether all is decided there. It takes no memory but for what it hands out, and

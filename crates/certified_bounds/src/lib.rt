@@ -1,6 +1,6 @@
 //! A second way to value a node: guess, solve, and judge exactly.
 //!
-//! [`CertifiedBounds`] is opened for a problem. At a node it guesses a basis of least flows, solves that in whole numbers, and hands
+//! [`CertifiedBounds`] is opened for a problem, and goes over to another of the same size without taking its room anew. At a node it guesses a basis of least flows, solves that in whole numbers, and hands
 //! what comes out to exact checks: scaled flows whose prices agree are least, multipliers bound or refute by their own sum, and
 //! sizes are judged as any network's are. What is told of a node rests on these checks alone; where one of them is past the range
 //! or says no, nothing is told, and the node is to be valued in another way.

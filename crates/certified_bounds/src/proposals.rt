@@ -25,20 +25,25 @@ pub(crate) enum Proposed {
     Nothing,
 }
 
-/// Room for what is proposed for one node after the other.
+/// A problem in scaled numbers, with the divisors: one of each material's rates, that of sizes, and that of costs.
 #[derive(Drop)]
-pub(crate) struct Proposals {
+struct ScaledProblem {
     numbers: Numbers,
-    guess: Guess,
-    solver: Solver,
-    // The divisors: one of each material's rates, that of sizes, and that of costs.
     rates: Vec<i64>,
     sizes: i128,
     costs: i128,
+}
+
+/// Room for what is proposed for one node after the other.
+#[derive(Drop)]
+pub(crate) struct Proposals {
+    scaled: ScaledProblem,
+    guess: Guess,
+    solver: Solver,
     // The rows of the node: what it asks of each material, and the divisors of those that it has.
     standings: Vec<Standing>,
     row_rates: Vec<i64>,
-    // Scaled multipliers of a row that can't be met.
+    // ScaledProblem multipliers of a row that can't be met.
     row: NumberList,
     list: NumberList,
     whole_sizes: Vec<i64>,
@@ -65,6 +70,23 @@ fn rate_divisors(alloc: Global, problem: &Problem, scales: &Scales) -> Result<Ve
     Ok(rates)
 }
 
+impl ScaledProblem {
+    fn of(alloc: Global, problem: &Problem, scales: &Scales) -> Result<ScaledProblem, AllocError>
+        requires { AreDivisors (net_of problem.now) scales.now }
+    {
+        let rates = rate_divisors(alloc, problem, scales)?;
+        let sizes = scales.sizes() as i128;
+        let costs = scales.costs();
+        let numbers = Numbers::of(alloc, problem, &rates, sizes, costs)?;
+        Ok(ScaledProblem {
+            numbers,
+            rates,
+            sizes,
+            costs,
+        })
+    }
+}
+
 // Multipliers that refute may be scaled at will: the greatest scaled one counts as this.
 const MILLION: i128 = 1_000_000;
 
@@ -83,17 +105,10 @@ impl Proposals {
         problem.is_valid();
         let units = problem.units().len() as u32;
         let materials = problem.materials().len() as u32;
-        let rates = rate_divisors(alloc, problem, scales)?;
-        let sizes = scales.sizes() as i128;
-        let costs = scales.costs();
-        let numbers = Numbers::of(alloc, problem, &rates, sizes, costs)?;
         Ok(Proposals {
-            numbers,
+            scaled: ScaledProblem::of(alloc, problem, scales)?,
             guess: Guess::open(alloc, units, materials)?,
             solver: Solver::open(alloc, units, materials)?,
-            rates,
-            sizes,
-            costs,
             standings: vec![in alloc; Standing::Apart; materials as usize]?,
             row_rates: Vec::with_capacity(alloc, materials as usize)?,
             row: NumberList::open(alloc, materials as usize)?,
@@ -102,14 +117,31 @@ impl Proposals {
         })
     }
 
+    /// Goes over to the nodes of another problem with as many units and materials. `Err` comes for want of memory alone.
+    pub(crate) fn go_over(
+        &mut self,
+        alloc: Global,
+        problem: &Problem,
+        scales: &Scales,
+    ) -> Result<(), AllocError>
+        requires { AreDivisors (net_of problem.now) scales.now }
+    {
+        self.scaled = ScaledProblem::of(alloc, problem, scales)?;
+        self.guess.forget();
+        Ok(())
+    }
+
     /// Looks for an optimum of the node's program, from the last basis or `anew`.
     pub(crate) fn propose(&mut self, node: &Node, anew: bool) -> Proposed {
-        let outcome = self.guess.look(&self.numbers, node, anew);
+        let outcome = self.guess.look(&self.scaled.numbers, node, anew);
         if !self.read_rows(node) {
             return Proposed::Nothing;
         }
         match outcome {
-            Outcome::Basis if self.solver.solve(&self.numbers, self.guess.columns(), node) => {
+            Outcome::Basis
+                if self
+                    .solver
+                    .solve(&self.scaled.numbers, self.guess.columns(), node) => {
                 Proposed::Optimum
             }
             Outcome::Row if self.read_row() => Proposed::Row,
@@ -119,9 +151,9 @@ impl Proposals {
 
     /// Reads the divisors of the rows of the node.
     fn read_rows(&mut self, node: &Node) -> bool {
-        self.numbers.stand(node, &mut self.standings);
+        self.scaled.numbers.stand(node, &mut self.standings);
         self.row_rates.clear();
-        for (rate, standing) in self.rates.iter().zip(&self.standings) {
+        for (rate, standing) in self.scaled.rates.iter().zip(&self.standings) {
             if *standing != Standing::Apart && self.row_rates.push(*rate).is_err() {
                 return false;
             }
@@ -170,7 +202,7 @@ impl Proposals {
             numbers: self.solver.multipliers(),
             rates: &self.row_rates,
             scale: self.solver.scale(),
-            costs: self.costs,
+            costs: self.scaled.costs,
         };
         let scale = rows.exact_scale(most)?;
         if rows.write_exact(scale, &mut self.list) {
@@ -186,7 +218,7 @@ impl Proposals {
             numbers: self.solver.multipliers(),
             rates: &self.row_rates,
             scale: self.solver.scale(),
-            costs: self.costs,
+            costs: self.scaled.costs,
         };
         if rows.write_rounded(bits, &mut self.list) {
             Some(1i128.wrapping_shl(bits.min(126)))
@@ -212,8 +244,8 @@ impl Proposals {
         if d < 1 {
             return None;
         }
-        let common = gcd(d, self.sizes.max(1)).max(1);
-        let factor = self.sizes.wrapping_div(common);
+        let common = gcd(d, self.scaled.sizes.max(1)).max(1);
+        let factor = self.scaled.sizes.wrapping_div(common);
         self.list.clear();
         for size in self.solver.sizes() {
             if !self.list.push_some(size.checked_mul(factor)) {
@@ -228,7 +260,7 @@ impl Proposals {
         let d = self.solver.d();
         self.whole_sizes.clear();
         for size in self.solver.sizes() {
-            let whole = Ratio::of_products(*size, self.sizes, d, 1).floor();
+            let whole = Ratio::of_products(*size, self.scaled.sizes, d, 1).floor();
             let kept = whole.min(MOST_SIZE).max(0) as i64;
             let _is_kept = self.whole_sizes.push(kept).is_ok();
         }

@@ -127,13 +127,24 @@ impl FlowEvaluator {
         })
     }
 
-    /// Opens it anew where it was opened for another problem.
-    fn make_ready(&mut self, alloc: Global, problem: &Problem) -> Result<(), AllocError>
+    /// Makes it ready for the nodes of the problem, where it was for those of another one.
+    fn make_ready(
+        &mut self,
+        alloc: Global,
+        problem: &Problem,
+        graph: &Graph,
+    ) -> Result<(), AllocError>
+        requires graph { shape graph.now ≡ shape_of problem.now }
         ensures { OnOk result (self.new.problem ≡ problem.now) }
     {
-        if !self.certified.is_for(problem) {
-            *self = FlowEvaluator::open(alloc, problem)?;
+        if self.certified.is_for(problem) {
+            return Ok(());
         }
+        self.tries = Tries::none();
+        if self.certified.has_room_for(problem) {
+            return self.certified.go_over(alloc, problem, graph);
+        }
+        *self = FlowEvaluator::open(alloc, problem)?;
         Ok(())
     }
 
@@ -227,7 +238,7 @@ impl Evaluator for FlowEvaluator {
         node: Node,
         decided: bool,
     ) -> Result<Evaluation, AllocError> {
-        self.make_ready(alloc, problem)?;
+        self.make_ready(alloc, problem, graph)?;
         if let Some(evaluation) = self.certify(alloc, problem, graph, node, decided)? {
             self.tries.keep(&evaluation);
             return Ok(evaluation);
@@ -248,7 +259,7 @@ impl Evaluator for FlowEvaluator {
         cost: i128,
         d: i128,
     ) -> Result<Proof, AllocError> {
-        self.make_ready(alloc, problem)?;
+        self.make_ready(alloc, problem, graph)?;
         if let Some(scaled) = self.certified.prove(alloc, problem, graph, node, cost, d)? {
             return Ok(Proof::Scaled(scaled));
         }
@@ -269,7 +280,7 @@ impl Evaluator for FlowEvaluator {
         let Some(set) = self.structure_to_try(problem, graph, &node) else {
             return Ok(None);
         };
-        self.make_ready(alloc, problem)?;
+        self.make_ready(alloc, problem, graph)?;
         self.network_of(alloc, problem, graph, &node, set)
     }
 
