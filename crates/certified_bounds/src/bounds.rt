@@ -18,7 +18,7 @@ use crate::same_problem::is_same_problem;
 use branch_tree::Scaled;
 use mixed_numbers::Mixed;
 use pgraph::Graph;
-use pns_problem::Problem;
+use pns_problem::{Parts, Problem};
 use scaled_flows::{Scales, least_value};
 use std::alloc::{AllocError, Global};
 use std::marker::Model;
@@ -27,7 +27,7 @@ use unit_sets::Node;
 /// Values the nodes of a problem by guesses that are judged exactly. Contracts see the problem.
 #[derive(Drop)]
 pub struct CertifiedBounds {
-    problem: Problem,
+    parts: Parts,
     scales: Scales,
     proposals: Proposals,
 }
@@ -39,9 +39,9 @@ impl Model for CertifiedBounds {
 
     ghost Value = { rules.Problem };
 
-    ghost view = { λ b. b.problem };
+    ghost view = { λ b. b.parts };
 
-    ghost invariant = { λ b. AreDivisors (net_of b.problem) b.scales };
+    ghost invariant = { λ b. AreDivisors (net_of b.parts) b.scales };
 }
 
 impl CertifiedBounds {
@@ -52,9 +52,9 @@ impl CertifiedBounds {
         let graph = Graph::of(alloc, problem)?;
         let scales = Scales::of(alloc, problem, &graph)?;
         let proposals = Proposals::open(alloc, problem, &scales)?;
-        let problem = problem.copy(alloc)?;
+        let parts = problem.parts(alloc)?;
         Ok(CertifiedBounds {
-            problem,
+            parts,
             scales,
             proposals,
         })
@@ -64,7 +64,7 @@ impl CertifiedBounds {
     pub fn is_for(&self, problem: &Problem) -> bool
         ensures { IsTrue result → self.now ≡ problem.now }
     {
-        is_same_problem(&self.problem, problem)
+        is_same_problem(&self.parts, problem)
     }
 
     /// Whether the problem has as many units and materials as that for whose nodes it is.
@@ -72,8 +72,8 @@ impl CertifiedBounds {
         ensures units { IsTrue result → length self.now.units ≡ length problem.now.units }
         ensures materials { IsTrue result → length self.now.materials ≡ length problem.now.materials }
     {
-        self.problem.units().len() == problem.units().len()
-            && self.problem.materials().len() == problem.materials().len()
+        self.parts.units.len() == problem.units().len()
+            && self.parts.materials.len() == problem.materials().len()
     }
 
     /// Goes over to the nodes of another problem, which it has room for. `Err` comes for want of memory alone.
@@ -90,9 +90,9 @@ impl CertifiedBounds {
         ensures same { OnErr result (self.new ≡ self.old) }
     {
         let scales = Scales::of(alloc, problem, graph)?;
-        let copy = problem.copy(alloc)?;
+        let parts = problem.parts(alloc)?;
         self.proposals.go_over(alloc, problem, &scales)?;
-        self.problem = copy;
+        self.parts = parts;
         self.scales = scales;
         Ok(())
     }

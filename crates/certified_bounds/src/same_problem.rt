@@ -1,7 +1,7 @@
-//! Whether two problems are the same.
+//! Whether a problem has the same parts.
 ghost use Rattle.std.specs.Prelude.{◌≡◌, IsTrue};
 
-use pns_problem::{Exclusion, Material, OperatingUnit, Problem, Term};
+use pns_problem::{Exclusion, Material, OperatingUnit, Parts, Problem, Term};
 
 fn is_same_material(a: &Material, b: &Material) -> bool
     ensures { IsTrue result → a.now ≡ b.now }
@@ -108,12 +108,12 @@ fn are_same_exclusions(xs: &[Exclusion], ys: &[Exclusion]) -> bool
     true
 }
 
-/// Whether the problems are the same, items and names. Linear in their size.
-pub(crate) fn is_same_problem(a: &Problem, b: &Problem) -> bool
-    ensures { IsTrue result → a.now ≡ b.now }
+/// Whether these are the parts of the problem, items and names. Linear in their size.
+pub(crate) fn is_same_problem(parts: &Parts, problem: &Problem) -> bool
+    ensures { IsTrue result → parts.now ≡ problem.now }
 {
-    a.payout() == b.payout()
-        && are_same_materials(a.materials(), b.materials())
-        && are_same_units(a.units(), b.units())
-        && are_same_exclusions(a.exclusions(), b.exclusions())
+    parts.payout == problem.payout()
+        && are_same_materials(&parts.materials, problem.materials())
+        && are_same_units(&parts.units, problem.units())
+        && are_same_exclusions(&parts.exclusions, problem.exclusions())
 }
