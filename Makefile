@@ -4,7 +4,6 @@
 # The first build proves the program and all below it, side by side, which takes minutes; what is proved is kept.
 RT ?= rt
 PREFIX ?= /usr/local
-JOBS ?= $(shell nproc)
 SOURCES := $(shell find crates -name out -prune -o \( -name '*.rt' -o -name '*.antt' \) -print)
 
 .PHONY: run try check install uninstall
@@ -16,10 +15,8 @@ try:
 	@echo 'Nothing is proved of this run: it is a first look.'
 	cd crates/pns && $(RT) try -- solve data/a.pns 100
 
-# The program ends with the status of its call, so rt's own run of it is on the shipped problem.
 crates/pns/out/pns: crates.txt $(SOURCES)
-	cd crates/pns && $(RT) all check --jobs $(JOBS)
-	cd crates/pns && $(RT) run -- max data/a.pns
+	RT=$(RT) tools/build
 
 check:
 	$(RT) ci
