@@ -14,7 +14,7 @@ use Rattle.dual_simplex.specs.Bench.{IsLeastOf, IsNoneOf, AreFlowsOf}
 use Rattle.std.specs.Prelude.{ℤ, pos, ◌<ℤ◌, ◌≤ℤ◌}
 use Rattle.path_rules.specs.LinearProgram.{LinearProgram}
 use Rattle.path_rules.specs.Columns.{scale_at}
-use Rattle.path_laws.proofs.LawLemmas.{basis_is_of_columns}
+use Rattle.path_laws.proofs.PathLawLemmas.{basis_is_of_columns}
 use Rattle.tableau_rows.specs.Rows.{Rows, table, basis}
 use Rattle.pivots.specs.Choice.{columns_of, scale_of}
 use Rattle.flow_reading.specs.Dual.{IsNotNegative}

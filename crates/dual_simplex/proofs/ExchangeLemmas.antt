@@ -18,7 +18,7 @@ use Rattle.path_rules.specs.Tableau.{IsTableau, IsPrimitive}
 use Rattle.path_rules.specs.Pivots.{HasPivot, IsCombined}
 use Rattle.path_rules.specs.Path.{Fits, IsPastEntry}
 use Rattle.path_laws.specs.Phases.{IsExchange}
-use Rattle.range_laws.proofs.RowLemmas.{rows_are_combined, rows_are_primitive}
+use Rattle.path_laws.proofs.RowLemmas.{rows_are_combined, rows_are_primitive}
 use Rattle.tableau_rows.specs.Rows.{Rows, width, row_of, table, basis, AreRows}
 use Rattle.tableau_rows.specs.Exchange.{IsStepped, IsPastStep, IsExchanged}
 use Rattle.pivots.specs.Choice.{IsOfSize}

@@ -11,8 +11,8 @@ use Rattle.path_rules.specs.Pivots.{IsFirstKind, first_kind}
 use Rattle.path_rules.specs.Path.{Fits, IsPastEntry, Reaches}
 use Rattle.path_rules.specs.Places.{IsPastPivot, at_first}
 use Rattle.path_laws.specs.Phases.{IsFirstPhase, IsExchange}
-use Rattle.path_laws.proofs.LawLemmas.{basis_is_of_columns, first_phase_pivots, first_phase_goes_on, first_phase_ends, exchange_goes_on}
-use Rattle.range_laws.proofs.ProgramLemmas.{program_fits}
+use Rattle.path_laws.proofs.PathLawLemmas.{basis_is_of_columns, first_phase_pivots, first_phase_goes_on, first_phase_ends, exchange_goes_on}
+use Rattle.path_laws.proofs.RangeProgramLemmas.{program_fits}
 use Rattle.tableau_rows.specs.Rows.{Rows, width, row_of, table, basis, AreRows}
 use Rattle.tableau_rows.specs.Exchange.{IsExchanged, IsPastRow, IsSameSize}
 use Rattle.pivots.specs.Choice.{IsOfSize, scale_of}

@@ -6,8 +6,8 @@ use Rattle.flow_rules.specs.Program.{Program, program_of}
 use Rattle.flow_rules.specs.Relaxed.{stays, units}
 use Rattle.path_rules.specs.LinearProgram.{linear_of}
 use Rattle.path_rules.specs.ReadFlows.{AreRead}
-use Rattle.end_laws.proofs.EndLemmas as law
-use Rattle.end_laws.proofs.SplitLemmas as split
+use Rattle.path_laws.proofs.EndLemmas as law
+use Rattle.path_laws.proofs.SplitLemmas as split
 use Rattle.tableau_rows.specs.Rows.{table, basis}
 use Rattle.dual_simplex.specs.Bench.{Bench, AreFlowsOf}
 use Rattle.dual_simplex.specs.FlowLaws.{FlowsAreRelaxed, FlowsAreLeast, UnitsAreInside, SplitIsDecided, SplitFlowsAreFlows, SplitFlowsAreLeast}

@@ -3,12 +3,12 @@ use Rattle.std.proofs.Common.{◌≡◌, subst}
 use Rattle.pns_rules.specs.Nodes.{Node}
 use Rattle.flow_rules.specs.Net.{Net, net_of}
 use Rattle.flow_rules.specs.Program.{Program, program_of}
-use Rattle.end_laws.specs.Ends as ends
-use Rattle.end_laws.proofs.EndLemmas as law
+use Rattle.path_laws.specs.Ends as ends
+use Rattle.path_laws.proofs.EndLemmas as law
 use Rattle.tableau_rows.specs.Rows.{table, basis}
 use Rattle.dual_simplex.specs.Bench.{Bench, IsLeastOf, IsNoneOf}
 use Rattle.dual_simplex.specs.Laws.{ScaleIsPositive, BoundIsReached, BoundIsLeast, NoneIsRefuted, FeasibleIsLast, RefutingIsLast, PastIsLast}
-use Rattle.path_laws.proofs.LawLemmas as path
+use Rattle.path_laws.proofs.PathLawLemmas as path
 
 pub ends_least : (net : Net) (n : Node) (q : Program) (b : Bench) → q ≡ program_of net n → IsLeastOf q b → ends.EndsLeast net n (basis b.rows) (table b.rows) b.d b.ys
 ends_least net n q b e h =

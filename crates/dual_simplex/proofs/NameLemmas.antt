@@ -8,7 +8,7 @@ use Rattle.flow_rules.specs.Program.{Program}
 use Rattle.flow_program.specs.declared.place.Column.TheVariants.{Right, Scale}
 use Rattle.path_rules.specs.LinearProgram.{linear_of}
 use Rattle.path_rules.specs.Columns.{columns, scale_at}
-use Rattle.end_laws.proofs.PlaceLemmas.{has_at}
+use Rattle.path_laws.proofs.PlaceLemmas.{has_at}
 use Rattle.dual_simplex.specs.Named.{column_named}
 use Rattle.dual_simplex.specs.ProgramNames.{IsColumnOf, IsRowOf, IsPlaceOf, NonbasicAreOfProgram, ColumnsAreOfProgram, RowIsOfProgram, EntriesAreOfProgram, FlowsAreOfProgram}
 

@@ -5,7 +5,7 @@ use Rattle.std.proofs.lemmas.Int.{ints}
 use Rattle.std.proofs.lemmas.Bool.{cases_eq}
 use Rattle.std.proofs.lemmas.List.Elements.{All-take, All-drop}
 use Rattle.std.proofs.Math.ListN.{get_or-map}
-use Rattle.tableau_laws.proofs.BoolLemmas.{bool_cases}
+use Rattle.path_laws.proofs.BoolLemmas.{bool_cases}
 use Rattle.int_rows.specs.declared.combination.Which.{Which}
 use Rattle.int_rows.specs.Range.{InRange, AllInRange}
 use Rattle.path_rules.specs.LinearProgram.{LinearProgram}
@@ -16,8 +16,8 @@ use Rattle.path_rules.specs.Pivots.{IsLeaving, IsEntering, second_kind}
 use Rattle.path_rules.specs.Path.{IsPastEntry}
 use Rattle.path_rules.specs.Places.{at_second}
 use Rattle.path_laws.specs.Phases.{IsExchange}
-use Rattle.path_laws.proofs.LawLemmas.{basis_is_of_columns, exchange_goes_on, costs_are_not_negative, vectors_keep_rising, values_rise_by_pivots, rank_rises_too}
-use Rattle.range_laws.proofs.WithinLemmas.{values_are_within}
+use Rattle.path_laws.proofs.PathLawLemmas.{basis_is_of_columns, exchange_goes_on, costs_are_not_negative, vectors_keep_rising, values_rise_by_pivots, rank_rises_too}
+use Rattle.path_laws.proofs.WithinLemmas.{values_are_within}
 use Rattle.tableau_rows.specs.Rows.{Rows, width, row_of, table, basis, AreRows}
 use Rattle.tableau_rows.specs.Exchange.{IsExchanged, IsPastRow, IsSameSize}
 use Rattle.pivots.specs.Choice.{IsOfSize, columns_of, IsDualFeasible}

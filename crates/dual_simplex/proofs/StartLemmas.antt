@@ -6,8 +6,8 @@ use Rattle.path_rules.specs.Columns.{Basis, start, s_at, t_at, w_at, x_at}
 use Rattle.path_rules.specs.Tableau.{IsTableau}
 use Rattle.path_rules.specs.Start.{IsStart}
 use Rattle.path_laws.specs.Phases.{IsFirstPhase, IsOut}
-use Rattle.path_laws.proofs.LawLemmas.{start_is_first_phase}
-use Rattle.tableau_laws.proofs.LawLemmas.{start_is_tableau}
+use Rattle.path_laws.proofs.PathLawLemmas.{start_is_first_phase}
+use Rattle.path_laws.proofs.TableauLawLemmas.{start_is_tableau}
 use Rattle.tableau_rows.specs.Rows.{Rows, table, basis}
 use Rattle.pivots.specs.Choice.{IsOfSize}
 use Rattle.dual_simplex.specs.Walk.{IsInFirst}

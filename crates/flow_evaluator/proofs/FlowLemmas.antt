@@ -23,7 +23,7 @@ use Rattle.flow_rules.specs.Relaxed.{bound, units}
 use Rattle.flow_rules.specs.Steps.{AreInRange, last_from}
 use Rattle.flow_rules.specs.CostSteps.{cost_steps}
 use Rattle.flow_rules.specs.FeasibleSteps.{feasible_steps}
-use Rattle.end_laws.specs.Ends.{IsSplit}
+use Rattle.path_laws.specs.Ends.{IsSplit}
 use Rattle.tree_rules.specs.Leaf.{bounded, IsFormed, IsBounded, multiplier}
 use Rattle.tree_rules.specs.Claim.{Network, CostOver}
 use Rattle.dual_simplex.specs.Bench.{Bench, IsLeastOf, AreFlowsOf}

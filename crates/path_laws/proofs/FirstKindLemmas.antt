@@ -13,11 +13,11 @@ use Rattle.path_rules.specs.Start.{one_at}
 use Rattle.path_rules.specs.Start.{IsStart}
 use Rattle.path_rules.specs.Tableau.{IsTableau, IsPrimitive}
 use Rattle.integer_laws.proofs.Ring.{one-mul_z}
-use Rattle.tableau_laws.proofs.StartBasisLemmas.{start-has}
-use Rattle.tableau_laws.proofs.UniqueLemmas.{same_factor}
+use Rattle.path_laws.proofs.StartBasisLemmas.{start-has}
+use Rattle.path_laws.proofs.UniqueLemmas.{same_factor}
 use Rattle.path_laws.specs.Phases.{IsBoxRow, IsIn, IsOut, IsFirstPhase}
 use Rattle.path_rules.specs.Vectors.{gain}
-use Rattle.tableau_laws.proofs.StartLemmas.{one-same, one-other}
+use Rattle.path_laws.proofs.StartLemmas.{one-same, one-other}
 
 zero_or : (z : ℤ) → pos 0 ≤ℤ z → (pos 0 <ℤ z) ⊎ (z ≡ pos 0)
 zero_or (pos zero) h = inr refl

@@ -11,7 +11,7 @@ use Rattle.path_rules.specs.Tableau.{IsTableau}
 use Rattle.path_rules.specs.Pivots.{HasPivot, IsFeasible, IsRefuting}
 use Rattle.path_rules.specs.Path.{Follows, Reaches, IsLast}
 use Rattle.path_rules.specs.Places.{IsPastPivot}
-use Rattle.tableau_laws.proofs.UniqueLemmas.{row_unique}
+use Rattle.path_laws.proofs.UniqueLemmas.{row_unique}
 use Rattle.path_laws.proofs.OnePathLemmas.{Agree, feasible_last, refuting_last, past_is_last}
 use Rattle.path_laws.proofs.PathLemmas.{IsSound, reaches_sound, reaches_same}
 

@@ -11,8 +11,8 @@ use Rattle.path_rules.specs.Path.{Follows, IsPastEntry}
 use Rattle.path_rules.specs.Pivots.{HasPivot, first_kind, second_kind, IsFirstKind, IsLeaving, IsEntering, IsFeasible, IsRefuting}
 use Rattle.path_rules.specs.Tableau.{IsTableau, IsIndependent}
 use Rattle.path_rules.specs.Vectors.{gain}
-use Rattle.tableau_laws.proofs.BoolLemmas.{bool_cases}
-use Rattle.tableau_laws.proofs.UniqueLemmas.{row_unique}
+use Rattle.path_laws.proofs.BoolLemmas.{bool_cases}
+use Rattle.path_laws.proofs.UniqueLemmas.{row_unique}
 use Rattle.path_rules.specs.Places.{IsPastPivot, at_first, at_second}
 use Rattle.int_rows.specs.declared.combination.Which.{Which}
 use Rattle.int_rows.specs.Combined.{past_of}

@@ -8,9 +8,9 @@ use Rattle.path_rules.specs.Columns.{Basis, Has, columns, right_at, scale_at, st
 use Rattle.path_rules.specs.LinearProgram.{LinearProgram}
 use Rattle.path_rules.specs.Path.{Follows, Reaches}
 use Rattle.path_rules.specs.Tableau.{IsIndependent}
-use Rattle.tableau_laws.proofs.CombinationLemmas.{exchange_independent}
-use Rattle.tableau_laws.proofs.PivotLemmas.{exchanged-out, exchanged-in, exchanged-other, turn_of}
-use Rattle.tableau_laws.proofs.StartBasisLemmas.{start-has, start_independent}
+use Rattle.path_laws.proofs.CombinationLemmas.{exchange_independent}
+use Rattle.path_laws.proofs.PivotLemmas.{exchanged-out, exchanged-in, exchanged-other, turn_of}
+use Rattle.path_laws.proofs.StartBasisLemmas.{start-has, start_independent}
 
 -- what each basis of the path keeps
 pub record IsSound (p : LinearProgram) (b : Basis) : Type 0 where

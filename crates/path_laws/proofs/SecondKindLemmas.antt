@@ -13,7 +13,7 @@ use Rattle.path_rules.specs.Path.{Reaches}
 use Rattle.path_rules.specs.Pivots.{IsPivoted, HasPivot, first_kind, second_kind, IsFirstKind, IsLeaving, IsEntering}
 use Rattle.path_rules.specs.Tableau.{IsTableau, IsRowOf}
 use Rattle.path_rules.specs.Vectors.{gain}
-use Rattle.tableau_laws.proofs.BoolLemmas.{bool_cases}
+use Rattle.path_laws.proofs.BoolLemmas.{bool_cases}
 
 module _ (p : LinearProgram) (n : ℕ) (b b' : Basis) (T T' : ℕ → ℕ → ℤ) (l e : ℕ) (reached : Reaches p n b) (tableau : IsTableau p b T) (rising : VectorsRise p b T) (lv : IsLeaving p b T l) (en : IsEntering p b T l e) (v : IsPivoted b b' T T' l e (λ k. neg_ℤ (T l k))) where
   abbrev P : ℕ → ℤ

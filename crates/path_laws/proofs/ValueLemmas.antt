@@ -15,7 +15,7 @@ use Rattle.path_rules.specs.Lexicographic.{IsRising}
 use Rattle.path_rules.specs.Pivots.{IsPivoted}
 use Rattle.path_rules.specs.Rank.{digit, rank, IsWithin}
 use Rattle.path_rules.specs.Vectors.{gain, value_top, value_bottom}
-use Rattle.tableau_laws.proofs.BoolLemmas.{bool_cases}
+use Rattle.path_laws.proofs.BoolLemmas.{bool_cases}
 
 pub top-basic : (b : Basis) (T : ℕ → ℕ → ℤ) (s r k : ℕ) → Has b k → value_top b T s r (suc k) ≡ T k r
 top-basic b T s r k h = rw h

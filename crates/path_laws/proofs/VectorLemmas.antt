@@ -5,7 +5,7 @@ use Rattle.std.proofs.lemmas.Int.{ints}
 use Rattle.std.proofs.lemmas.Bool.Decides.{eqb_tells}
 use Rattle.integer_laws.proofs.Order.{mul_pos, sign_cases}
 use Rattle.integer_laws.proofs.Ring.{V, ◌⊕◌, ◌⊖◌, ◌⊗◌, Neg, ring, read_equal, mul-zero_z}
-use Rattle.tableau_laws.proofs.BoolLemmas.{bool_cases}
+use Rattle.path_laws.proofs.BoolLemmas.{bool_cases}
 use Rattle.path_laws.proofs.RisingLemmas.{rising_scaled, rising_sum₀, rising_times, rising_of}
 use Rattle.path_rules.specs.Columns.{Basis, Has}
 use Rattle.path_rules.specs.Lexicographic.{IsBefore, IsRising}

@@ -1,2 +1,7 @@
-pub mod Laws
+pub mod TableauLaws
+pub mod PathLaws
 pub mod Phases
+pub mod PhaseLaws
+pub mod RangeLaws
+pub mod Ends
+pub mod EndLaws

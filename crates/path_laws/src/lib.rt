@@ -1,48 +1,18 @@
-//! Laws of the path of the dual simplex method: it is one path with one last basis, and no number of pivots is too many,
-//! because the list of the values rises. There is no code here: each law is the contract of a function without a body, which
-//! a proof elsewhere calls to have it. `specs/Laws` states them, and `specs/Phases` what holds along the path.
+//! Laws of bases, tableaux and the path of the dual simplex method over `path_rules`. There is no code here: each law is the contract
+//! of a function without a body, which a proof elsewhere calls to have it, and `specs/` states them.
+//!
+//! Modules: `tableaux` has the rows of a basis, `paths` that the path is one and that its numbers of pivots are bounded, `phases` that no
+//! basis stands twice on it, `ranges` which numbers can leave the range, and `ends` what is read off at its end.
 #![tactic(auto)]
 
-ghost use Rattle.path_laws.specs.Laws.{TableauIsOne, NextIsOne, PathIsOne, LastIsOne, BasisIsOfColumns, FeasibleIsLast, RefutingIsLast, PastIsLast, StartIsFirstPhase, FirstPhaseSkips, FirstPhasePivots, FirstPhaseGoesOn, FirstPhaseEnds, ExchangeReaches, CostsAreNotNegative, VectorsKeepRising, ValuesRiseByPivots, RankRises, ColumnsAreOrdered, ColumnsDiffer};
+mod ends;
+mod paths;
+mod phases;
+mod ranges;
+mod tableaux;
 
-/// A basis of the path has one tableau and one next basis at most, so that the path is one and has one last basis.
-pub fn path_is_one()
-    ensures tableau { TableauIsOne }
-    ensures next { NextIsOne }
-    ensures path { PathIsOne }
-    ensures last { LastIsOne }
-    ensures columns { BasisIsOfColumns }
-{}
-
-/// A basis with least flows, one with a row that can't be met, and one at whose pivot a number is out of range, is the last of
-/// the path; the first two have no pivot.
-pub fn ends_are_last()
-    ensures feasible { FeasibleIsLast }
-    ensures refuting { RefutingIsLast }
-    ensures past { PastIsLast }
-{}
-
-/// While pivots of the first kind are left, one unit after the other is done; once all are, the vectors rise.
-pub fn first_phase()
-    ensures start { StartIsFirstPhase }
-    ensures skips { FirstPhaseSkips }
-    ensures pivots { FirstPhasePivots }
-    ensures goes_on { FirstPhaseGoesOn }
-    ensures ends { FirstPhaseEnds }
-{}
-
-/// A pivot leads on along the path; where the vectors rise it is of the second kind, and after it the vectors rise, the list of
-/// the values has risen, and so has its rank.
-pub fn second_phase()
-    ensures reaches { ExchangeReaches }
-    ensures costs { CostsAreNotNegative }
-    ensures vectors { VectorsKeepRising }
-    ensures values { ValuesRiseByPivots }
-    ensures rank { RankRises }
-{}
-
-/// The order by which the column that enters is chosen is an order, and no two columns are level in it.
-pub fn columns_are_ordered()
-    ensures order { ColumnsAreOrdered }
-    ensures level { ColumnsDiffer }
-{}
+pub use ends::{least_flows, read_flows, row_refutes, split_nodes};
+pub use paths::{columns_are_ordered, ends_are_last, first_phase, path_is_one, second_phase};
+pub use phases::{first_unit_has_pivot, no_basis_twice, path_is_complete};
+pub use ranges::{first_kind_fits, rows_are_combined, values_are_within};
+pub use tableaux::{pivots_keep_tableaux, start_is_tableau, tableau_is_one};

@@ -2,7 +2,7 @@
 use Rattle.std.proofs.Common.{◌≡◌, ◌≢◌, ℕ, suc, ◌+◌, ◌<◌, inl, inr, ℤ, pos, ◌<ℤ◌, ◌≤ℤ◌, neg_ℤ, sym, subst, arith}
 use Rattle.std.proofs.lemmas.Int.{ints}
 use Rattle.std.proofs.lemmas.Bool.Decides.{eqb_tells}
-use Rattle.path_laws.specs.Laws.{ColumnsAreOrdered}
+use Rattle.path_laws.specs.PathLaws.{ColumnsAreOrdered}
 use Rattle.tableau_rows.specs.Rows.{Rows, table}
 use Rattle.pivots.specs.Choice.{columns_of}
 use Rattle.pivots.specs.Candidates.{vector, ComesBefore, IsLeastBelow, IsBestBelow}

@@ -14,7 +14,7 @@ use Rattle.path_rules.specs.LinearProgram.{linear_of}
 use Rattle.path_rules.specs.Columns.{Basis, scale_at}
 use Rattle.path_rules.specs.Places as path
 use Rattle.path_rules.specs.ReadFlows.{FlowStep}
-use Rattle.end_laws.proofs.PlaceLemmas.{has_at}
+use Rattle.path_laws.proofs.PlaceLemmas.{has_at}
 use Rattle.branch_tree.specs.Known.{IsUnit, IsMaterial, KnowsColumn, KnowsRow, KnowsPlace}
 use Rattle.dual_simplex.specs.Named.{unit_named, row_named, named_at, column_named, nonbasic_named, place_named}
 

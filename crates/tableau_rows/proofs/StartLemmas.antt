@@ -5,8 +5,8 @@ use Rattle.std.proofs.lemmas.Bool.Decides.{eqb_tells, leb_tells}
 use Rattle.path_rules.specs.LinearProgram.{LinearProgram}
 use Rattle.path_rules.specs.Columns.{Has, x_at, s_at, t_at, w_at, right_at, scale_at, start}
 use Rattle.path_rules.specs.Start.{one_at, IsStart}
-use Rattle.phase_laws.proofs.StartTableauLemmas.{start_rows, x_entry, right_entry, start_exists}
-use Rattle.tableau_laws.proofs.StartBasisLemmas.{start-has}
+use Rattle.path_laws.proofs.StartTableauLemmas.{start_rows, x_entry, right_entry, start_exists}
+use Rattle.path_laws.proofs.StartBasisLemmas.{start-has}
 use Rattle.std.specs.List.{AllWithin}
 use Rattle.std.proofs.lemmas.Bool.{cases_eq}
 use Rattle.std.proofs.lemmas.List.{get_or-set_same, get_or-set_other, length-set}

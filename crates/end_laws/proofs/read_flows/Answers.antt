@@ -1,8 +1,0 @@
-use Rattle.end_laws.proofs.EndLemmas as law
-use Rattle.end_laws.proofs.read_flows.Goals as goal
-
-pub returns-clause-relaxed : goal.returns-clause-relaxed
-returns-clause-relaxed c = law.read_flows_are_relaxed
-
-pub returns-clause-least : goal.returns-clause-least
-returns-clause-least c = law.read_flows_are_least

@@ -1,8 +1,0 @@
-use Rattle.end_laws.proofs.SplitLemmas as law
-use Rattle.end_laws.proofs.split_nodes.Goals as goal
-
-pub returns-clause-flows : goal.returns-clause-flows
-returns-clause-flows c = law.relaxed_are_flows
-
-pub returns-clause-cost : goal.returns-clause-cost
-returns-clause-cost c = law.relaxed_cost_is_cost

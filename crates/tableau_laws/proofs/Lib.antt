@@ -1,9 +1,0 @@
-pub mod BoolLemmas
-pub mod CombinationLemmas
-pub mod KeptLemmas
-pub mod SolutionLemmas
-pub mod StartBasisLemmas
-pub mod StartLemmas
-pub mod UniqueLemmas
-pub mod PivotLemmas
-pub mod LawLemmas
