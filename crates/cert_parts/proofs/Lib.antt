@@ -3,3 +3,4 @@ pub mod NodeLemmas
 pub mod RowLemmas
 pub mod SetLemmas
 pub mod StepLemmas
+pub mod WalkLemmas

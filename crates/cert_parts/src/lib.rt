@@ -6,7 +6,8 @@
 //! stands on it fails. No call takes memory.
 //!
 //! Modules: `sets` and `materials` are tests of sets and what a node needs; `steps` which steps are possible; `nodes` the nodes
-//! that steps and options leave; `either` branches in two at one unit; `costs` compares costs; `network` and `leaves` judge claims and leaves.
+//! that steps and options leave, `options` whether given sets are all options of a material: they can be as many as 2^128, so their list is walked
+//! and never made; `either` branches in two at one unit; `costs` compares costs; `network` and `leaves` judge claims and leaves.
 #![tactic(auto)]
 
 mod costs;
@@ -15,6 +16,7 @@ mod leaves;
 mod materials;
 mod network;
 mod nodes;
+mod options;
 mod sets;
 mod steps;
 

@@ -9,8 +9,8 @@ ghost use Rattle.pgraph.specs.View.{node_of, step_of};
 ghost use Rattle.cert_parts.specs.Known.{KnowsInside};
 
 use crate::materials::is_needed;
+use crate::options::are_options;
 use crate::steps::is_possible;
-use option_lists::are_options;
 use pgraph::Graph;
 use unit_sets::{Node, Step, UnitSet};
 

@@ -10,3 +10,11 @@ pub mod Soundness
 pub mod SoundLemmas
 pub mod UndoLemmas
 pub mod ValidLemmas
+mod EditsRead
+mod ScriptLines
+mod SidesRead
+mod Tokens
+mod TokensRead
+pub mod MigrationFlowLemmas
+pub mod MigrationFormLemmas
+pub mod MigrationUnitLemmas

@@ -1,3 +1,6 @@
 mod Printed
 mod Reading
 pub mod Tokens
+mod SetTokens
+mod Texts
+mod Once

@@ -1,2 +1,3 @@
 pub mod DesignText
 pub mod Periods
+pub mod Expand

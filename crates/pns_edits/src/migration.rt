@@ -10,13 +10,13 @@ ghost use Rattle.edit_rules.specs.Inverse.{costs_no_investment};
 ghost use Rattle.edit_rules.specs.Migration.{has_payout, costs_nothing_yearly, migrates_out_of_range, out_of_range_at, unit_migration, migration};
 ghost use Rattle.edit_rules.specs.Script.{applied, CanApply};
 ghost use Rattle.edit_scripts.specs.View.{edit_of};
-ghost use Rattle.migration_laws.specs.Laws.{IsMigrated};
+ghost use Rattle.edit_laws.specs.MigrationLaws.{IsMigrated};
 ghost use Rattle.pns_edits.specs.Migrate.{TellsMigration};
 ghost use Rattle.pns_edits.specs.Terms.{AreYearlyInRange, AreAllYearlyInRange};
 
 use crate::unit::costs_no_investment;
+use edit_laws::{migration_keeps_flows, migrations_apply, migrations_are_formed};
 use edit_scripts::{Edit, Script};
-use migration_laws::{migration_keeps_flows, migrations_apply, migrations_are_formed};
 use pns_problem::{OperatingUnit, Problem};
 use std::alloc::{AllocError, AllocFailed, Global};
 

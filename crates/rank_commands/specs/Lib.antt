@@ -1,1 +1,2 @@
 pub mod Rankcheck
+pub mod Words

@@ -16,7 +16,7 @@ use Rattle.rank_rules.specs.Ranked.{Ranking, IsRanked, NetworkIsFault, NodeIsFau
 use Rattle.ranked_tree.specs.Text.{Text, ranking_of}
 use Rattle.tree_text_rules.specs.declared.TreeKind.{TreeKind}
 use Rattle.rank_text.specs.Read.{read_text}
-use Rattle.rank_words.specs.Words.{network_line, rank_node_line}
+use Rattle.rank_commands.specs.Words.{network_line, rank_node_line}
 use Rattle.command_files.specs.Reading.{AreHeld, GivesProblem, IsLong, OnFile, OnSecond}
 use Rattle.command_files.specs.TreeFile.{tree_limit, tree_fault_line}
 use Rattle.endings.specs.declared.status.Status.{Status}

@@ -2,13 +2,14 @@
 ghost use Rattle.std.specs.Prelude.{◌≡◌, ◌<◌, ◌^◌, ◌⊎◌, IfOk, length, string_bytes};
 ghost use Rattle.pns_io.specs.Outside.{HasRisen};
 ghost use Rattle.endings.specs.Lines.{line};
-ghost use Rattle.rank_words.specs.Words.{network_line, rank_node_line};
+ghost use Rattle.rank_commands.specs.Words.{network_line, rank_node_line};
 ghost use Rattle.command_files.specs.Reading.{OnFile};
 ghost use Rattle.rank_commands.specs.Rankcheck.{RankcheckWork, OnRank, FilesListBest, AcceptedAreBest};
 ghost use Rattle.endings.specs.Ending.{Ends, Says, Tells, Only, OrMemory};
 ghost use Rattle.endings.specs.declared.status.Status.TheVariants.{Done, Refused};
 
 use crate::rank_file::rank_of;
+use crate::words::rank_why_word;
 use command_files::problem_of;
 use endings::Status;
 use endings::say::{say, say_memory};
@@ -18,7 +19,6 @@ use pns_problem::Problem;
 use rank_check::{RankRefusal, check_rank};
 use rank_laws::{listed_are_least, others_are_no_better};
 use rank_rules::RankWhy;
-use rank_words::rank_why_word;
 use ranked_tree::RankText;
 use std::alloc::{AllocError, Global};
 

@@ -34,10 +34,10 @@ use Rattle.abb_search.specs.declared.growing.Growing.{Growing}
 use Rattle.abb_search.specs.Growing.{IsGrowingFor, IsBranching}
 use Rattle.abb_search.proofs.HandLemmas.{children_kept}
 use Rattle.abb_search.proofs.TurnLemmas.{there, untried_there, hand, sound_there, branched_for}
-use Rattle.found_networks.specs.Found.{AreBest, undercut_by}
-use Rattle.found_networks.specs.Listed.{Listed, IsListed, AreAdded}
-use Rattle.found_networks.proofs.CostLemmas.{AreAbove, undercut_positive, all_above}
-use Rattle.found_networks.proofs.BestLemmas.{AreBestNow, all_more, found_scaled, as_branch}
+use Rattle.rank_search.specs.Found.{AreBest, undercut_by}
+use Rattle.rank_search.specs.Listed.{Listed, IsListed, AreAdded}
+use Rattle.rank_search.proofs.CostLemmas.{AreAbove, undercut_positive, all_above}
+use Rattle.rank_search.proofs.BestLemmas.{AreBestNow, all_more, found_scaled, as_branch}
 use Rattle.rank_search.specs.Turns.{IsRanking, IsMore}
 use Rattle.rank_search.proofs.LeafLemmas.{valued, at_hand_is}
 

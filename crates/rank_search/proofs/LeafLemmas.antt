@@ -32,7 +32,7 @@ use Rattle.abb_search.specs.declared.growing.Growing.{Growing}
 use Rattle.abb_search.specs.Growing.{IsGrowingFor}
 use Rattle.abb_search.specs.Closing.{AreBeaten}
 use Rattle.abb_search.proofs.TurnLemmas.{mixed_positive, there, untried_there, at_hand, beaten_by}
-use Rattle.rank_trees.specs.Told.{IsSpentFor}
+use Rattle.rank_search.specs.Told.{IsSpentFor}
 
 module _ {undercut : Option CostOver} (p : Problem) (valid : IsValid p) (s : Growing) (g : IsGrowingFor p undercut s) (at : ℕ) (is_first : first s.pool.leaves ≡ Some at)
     (same_parents : length s.pool.payloads ≡ length s.pool.parents) (below : (id : ℕ) → has s.pool.leaves id ≡ true → id < length s.pool.parents) (rising : IsRising s.pool.values s.pool.leaves)

@@ -3,3 +3,14 @@ pub mod LeafLemmas
 pub mod RootLemmas
 pub mod ToldLemmas
 pub mod TurnLemmas
+pub mod BestLemmas
+pub mod CostLemmas
+pub mod PlaceLemmas
+pub mod FewLemmas
+pub mod NamedLeafLemmas
+pub mod MarkLemmas
+pub mod NameLemmas
+pub mod NetworkLemmas
+pub mod OrderLemmas
+pub mod TellingLemmas
+pub mod ToldTreeLemmas

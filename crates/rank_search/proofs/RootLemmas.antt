@@ -20,10 +20,10 @@ use Rattle.abb_search.specs.declared.growing.StoppedLeaf.{StoppedLeaf}
 use Rattle.abb_search.specs.Growing.{IsTreeKept, IsTreeKeptFor, GoesOn, GoesOnFor, IsLookedRoot}
 use Rattle.abb_search.proofs.HandLemmas.{child_same}
 use Rattle.abb_search.proofs.RootLemmas.{root_after}
-use Rattle.found_networks.specs.Found.{FoundAt, AreBest, undercut_by}
-use Rattle.found_networks.specs.Listed.{Listed, IsListed, AreAdded}
-use Rattle.found_networks.proofs.CostLemmas.{undercut_positive}
-use Rattle.found_networks.proofs.BestLemmas.{AreBestNow, all_more, no_cells}
+use Rattle.rank_search.specs.Found.{FoundAt, AreBest, undercut_by}
+use Rattle.rank_search.specs.Listed.{Listed, IsListed, AreAdded}
+use Rattle.rank_search.proofs.CostLemmas.{undercut_positive}
+use Rattle.rank_search.proofs.BestLemmas.{AreBestNow, all_more, no_cells}
 use Rattle.rank_search.specs.Turns.{IsRanking}
 
 -- nothing is decided at the first node

@@ -13,7 +13,7 @@ use Rattle.abb_search.specs.declared.growing.Growing.{Growing}
 use Rattle.abb_search.specs.declared.growing.StoppedLeaf.{StoppedLeaf}
 use Rattle.abb_search.specs.Growing.{IsStoppedAt}
 use Rattle.ranked_tree.specs.Marked.{Mark, marked}
-use Rattle.rank_trees.specs.Told.{IsOpenLeaf, IsTelling, IsSpentTelling}
+use Rattle.rank_search.specs.Told.{IsOpenLeaf, IsTelling, IsSpentTelling}
 use Rattle.rank_search.specs.Ranked.{IsRankedBy}
 use Rattle.rank_search.specs.declared.outcome.Ranked.TheVariants.{Whole, Spent, Past}
 

@@ -11,8 +11,8 @@ use Rattle.abb_search.specs.declared.growing.Growing.{Growing}
 use Rattle.abb_search.specs.declared.growing.StoppedLeaf.{StoppedLeaf}
 use Rattle.abb_search.specs.Growing.{IsTreeKeptFor, IsGrowingFor, GoesOnFor}
 use Rattle.abb_search.proofs.TurnLemmas.{dearer}
-use Rattle.found_networks.specs.Found.{undercut_by}
-use Rattle.found_networks.specs.Listed.{Listed}
+use Rattle.rank_search.specs.Found.{undercut_by}
+use Rattle.rank_search.specs.Listed.{Listed}
 use Rattle.rank_search.specs.declared.turns.Ending.{Ending}
 use Rattle.rank_search.specs.declared.turns.Ending.TheVariants as endings
 use Rattle.rank_search.specs.Turns.{IsRankTree, IsRanking, EndsWith, IsRankEnd}

@@ -1,2 +1,6 @@
 pub mod Ranked
 pub mod Turns
+pub mod Found
+pub mod Listed
+pub mod Naming
+pub mod Told

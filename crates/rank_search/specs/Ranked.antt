@@ -10,7 +10,7 @@ use Rattle.node_evaluation.specs.Evaluated.{PastPlaces}
 use Rattle.flow_evaluator.specs.Past.{IsPastAt}
 use Rattle.ranked_tree.specs.Marked.{marked}
 use Rattle.ranked_tree.specs.Text.{Text}
-use Rattle.rank_trees.specs.Told.{IsOpenLeaf, IsTelling, IsSpentTelling}
+use Rattle.rank_search.specs.Told.{IsOpenLeaf, IsTelling, IsSpentTelling}
 use Rattle.rank_search.specs.declared.outcome.Ranked.{Ranked}
 use Rattle.rank_search.specs.declared.outcome.Ranked.TheVariants.{Whole, Spent, Past, Memory}
 

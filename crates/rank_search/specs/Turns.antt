@@ -10,9 +10,9 @@ use Rattle.turn_laws.specs.Kept.{LastIsBelow}
 use Rattle.node_evaluation.specs.Evaluated.{PastPlaces, cost_over, cost_in}
 use Rattle.abb_search.specs.declared.growing.Growing.{Growing}
 use Rattle.abb_search.specs.Growing.{IsTreeKeptFor, GoesOnFor, IsStoppedAt}
-use Rattle.found_networks.specs.Found.{AreBest, undercut_by}
-use Rattle.found_networks.specs.Listed.{Listed}
-use Rattle.rank_trees.specs.Told.{AreShutAgainst, IsSpentFor}
+use Rattle.rank_search.specs.Found.{AreBest, undercut_by}
+use Rattle.rank_search.specs.Listed.{Listed}
+use Rattle.rank_search.specs.Told.{AreShutAgainst, IsSpentFor}
 use Rattle.rank_search.specs.declared.turns.Ending.{Ending}
 use Rattle.rank_search.specs.declared.turns.Ending.TheVariants as endings
 

@@ -6,14 +6,14 @@ ghost use Rattle.ranked_tree.specs.Text.{IsCounted};
 ghost use Rattle.rank_search.specs.Ranked.{IsRankedBy};
 ghost use Rattle.rank_search.specs.Turns.{IsRankEnd};
 
+use crate::found::FoundNetworks;
 use crate::outcome::Ranked;
+use crate::telling::{Told, tell_stopped, tell_whole};
 use crate::turns::Ending;
 use abb_search::Growing;
 use branch_tree::Tail;
-use found_networks::FoundNetworks;
 use node_evaluation::Evaluator;
 use pns_problem::Problem;
-use rank_trees::{Told, tell_stopped, tell_whole};
 use ranked_tree::RankText;
 use std::alloc::{AllocError, Global};
 

@@ -7,14 +7,14 @@ ghost use Rattle.tree_rules.specs.Claim.{CostOver};
 ghost use Rattle.node_evaluation.specs.Evaluated.{cost_in};
 ghost use Rattle.abb_search.specs.Closing.{AreBeaten};
 ghost use Rattle.abb_search.specs.Growing.{IsGrowingFor};
-ghost use Rattle.found_networks.specs.Found.{undercut_by};
+ghost use Rattle.rank_search.specs.Found.{undercut_by};
 ghost use Rattle.rank_search.specs.Turns.{IsRanking, IsBeating, EndsWith, IsRankEnd, TurnHolds};
 
+use crate::found::FoundNetworks;
 use abb_search::{
     Closing, Growing, StoppedLeaf, branch_leaf, choice_at, close_all, is_over, node_at, reaches,
 };
 use branch_tree::{Network, Scaled};
-use found_networks::FoundNetworks;
 use mixed_numbers::Mixed;
 use neutral_extension::Makers;
 use node_evaluation::Evaluator;

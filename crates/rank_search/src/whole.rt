@@ -6,12 +6,12 @@ ghost use Rattle.neutral_extension.specs.Candidates.{AreMakersOf};
 ghost use Rattle.rank_search.specs.Ranked.{IsRankedBy, IsRankedTo};
 ghost use Rattle.rank_search.specs.Turns.{IsRanking};
 
+use crate::found::FoundNetworks;
 use crate::outcome::Ranked;
 use crate::told::ranked_by;
 use crate::turns::run;
 use abb_search::{Growing, look_at_root};
 use flow_evaluator::FlowEvaluator;
-use found_networks::FoundNetworks;
 use neutral_extension::Makers;
 use node_evaluation::{Evaluator, copy_of_network};
 use pgraph::Graph;

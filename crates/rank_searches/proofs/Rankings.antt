@@ -23,8 +23,8 @@ use Rattle.tree_text_laws.specs.Fits.{FitsNetwork, CountsTail}
 use Rattle.rank_text.specs.Known.{KnowsNetwork, KnowsText}
 use Rattle.rank_text.specs.Read.{read_text}
 use Rattle.rank_text.specs.Spelling.{rank_text, rank_text_lines, file_type, count_word, networks_word, tree_lines}
-use Rattle.rank_text_laws.specs.Fits.{Fits}
-use Rattle.rank_trees.specs.Told.{IsOpenLeaf}
+use Rattle.rank_text.specs.Fits.{Fits}
+use Rattle.rank_search.specs.Told.{IsOpenLeaf}
 use Rattle.rank_search.specs.declared.outcome.Ranked.{Ranked}
 use Rattle.rank_search.specs.declared.outcome.Ranked.TheVariants as found
 use Rattle.rank_search.specs.Ranked.{IsRankingFor, IsRankedTo}

@@ -12,7 +12,7 @@ use Rattle.ranked_tree.specs.Marked.{marked}
 use Rattle.ranked_tree.specs.Text.{Text, ranking_of}
 use Rattle.rank_text.specs.Read.{read_text}
 use Rattle.rank_text.specs.Spelling.{rank_text_lines}
-use Rattle.rank_trees.specs.Told.{IsOpenLeaf}
+use Rattle.rank_search.specs.Told.{IsOpenLeaf}
 use Rattle.rank_commands.specs.Rankcheck.{AreBest}
 use Rattle.flow_evaluator.specs.Past.{IsPastAt}
 use Rattle.abb_search.specs.Found.{IsBelowLimit}

@@ -4,3 +4,9 @@ pub mod OpenBytes
 mod Printed
 mod Printing
 mod Together
+mod Lines
+mod OpenLines
+mod Parts
+mod Shapes
+mod Texts
+mod Tokens

@@ -9,7 +9,7 @@ use Rattle.text_rules.specs.Canonical.{joined}
 use Rattle.text_laws.proofs.Cuts.{split_at, split_none}
 use Rattle.tree_text_rules.specs.Line.{Token, Line, is_feed, lines_from, lines_of, tokens_of, word_text}
 use Rattle.tree_text_rules.specs.declared.Word.TheVariants.{Open, Unknown}
-use Rattle.tree_line_laws.proofs.Pieces.{joined_split}
+use Rattle.tree_text_laws.proofs.Pieces.{joined_split}
 use Rattle.rank_text.specs.Opened.{is_first, begins_by, opened, unknown_line, line_bytes}
 use Rattle.rank_text.specs.Spelling.{named_word}
 

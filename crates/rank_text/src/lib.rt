@@ -5,6 +5,9 @@
 //! by the crates of that text. `specs/Spelling` has the text, `specs/Opened` the lines of open leaves, and `specs/Read` what a text stands
 //! for.
 //!
+//! The text of a ranking reads as the ranking, and what a text stands for has no other text: [`laws`] has both (`specs/Laws`) as contracts of
+//! functions that do nothing.
+//!
 //! Modules: `line`, lines that no tree text has; `print`; `cut`, tokens of a line; `front`, the first three lines; `networks`; `mark`, the
 //! line of an open leaf; `opening`, a tree text made of the lines of tree and tail, with `open` for each line that names a network, and the
 //! marks beside it; `read`.
@@ -12,6 +15,7 @@
 
 mod cut;
 mod front;
+pub mod laws;
 mod line;
 mod mark;
 mod networks;
@@ -19,5 +23,6 @@ mod opening;
 mod print;
 mod read;
 
+pub use laws::{read_ranks_are_spelled, spelled_ranks_read};
 pub use print::print_rank;
 pub use read::read_rank;

@@ -1,2 +1,3 @@
 pub mod Known
 mod Sums
+mod Fractions

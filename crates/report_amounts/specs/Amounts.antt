@@ -7,7 +7,7 @@ use Rattle.problem_rules.specs.Problem.{Problem, unit_at, material_at, rate_of}
 use Rattle.flow_rules.specs.Net.{net_of, materials_of, million, trillion}
 use Rattle.flow_rules.specs.Flows.{balance}
 use Rattle.tree_rules.specs.Claim.{Network, size_in}
-use Rattle.report_text.specs.Number.{Number, of, times, plus, above, below, sum_of}
+use Rattle.report_amounts.specs.Number.{Number, of, times, plus, above, below, sum_of}
 use Rattle.report_amounts.specs.declared.amounts.UnitAmount.{UnitAmount}
 use Rattle.report_amounts.specs.declared.amounts.UnitAmount.TheVariants.{Fixed, Proportional, Investment, Total, Once, Made, Used}
 use Rattle.report_amounts.specs.declared.costs.Part.{Part}

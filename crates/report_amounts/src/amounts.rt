@@ -4,13 +4,13 @@ ghost use Rattle.int_rows.specs.Range.{InRange};
 ghost use Rattle.number_sets.specs.Sets.{has};
 ghost use Rattle.problem_rules.specs.Problem.{unit_at};
 ghost use Rattle.flow_rules.specs.Net.{million};
-ghost use Rattle.report_text.specs.Number.{sum_of};
+ghost use Rattle.report_amounts.specs.Number.{sum_of};
 ghost use Rattle.report_amounts.specs.Amounts.{quotient, sized, size, fixed, proportional, once, investment, unit_total, made_rate, used_rate, made_by, used_by, amount, unit_sum};
 
+use crate::number::Number;
 use branch_tree::Network;
 use pns_problem::{OperatingUnit, Problem};
 use pns_tables::{rate_at, size_at};
-use report_text::Number;
 
 /// A number of a unit of a network, for one year.
 #[derive(Clone, Copy, Debug, PartialEq, Eq)]

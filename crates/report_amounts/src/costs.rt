@@ -11,11 +11,11 @@ ghost use Rattle.tree_rules.specs.Claim.{IsFeasible, size_in};
 ghost use Rattle.report_amounts.specs.Amounts.{flowing, net, cost, part_of, cost_sum};
 
 use crate::amounts::quotient;
+use crate::number::Number;
 use branch_tree::Network;
 use pgraph::Graph;
 use pns_problem::{Material, Problem};
 use pns_tables::flow_of;
-use report_text::Number;
 use unit_sets::MatSet;
 
 /// What is taken of a cost.

@@ -3,11 +3,16 @@
 //! `specs/Amounts` has each number as a fraction, formed before any rounding. One for which a number past 127 bits would be formed is
 //! past, and so is each sum over it.
 //!
-//! Modules: `amounts`, the numbers of units and their sums; `costs`, those of materials.
+//! Numbers are fractions in lowest terms whose numerator and denominator are of at most 127 bits; `specs/Number` has how they are formed and
+//! printed, with so many places or as a share in per cent.
+//!
+//! Modules: `number`, such fractions; `amounts`, the numbers of units and their sums; `costs`, those of materials.
 #![tactic(auto)]
 
 mod amounts;
 mod costs;
+mod number;
 
 pub use amounts::{UnitAmount, amount, share_of, size, unit_of, unit_sum};
 pub use costs::{Part, cost, cost_sum, flow_at, material_of, materials_in, net};
+pub use number::Number;

@@ -1,3 +1,4 @@
 mod Bounds
 mod LeftOut
 mod Pieces
+mod Walk

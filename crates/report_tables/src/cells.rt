@@ -2,8 +2,8 @@
 ghost use Rattle.std.specs.Prelude.{◌≡◌, ◌++◌, ◌∷◌, [], IfOk, OnOk, string_bytes};
 ghost use Rattle.report_tables.specs.Report.{number_cell};
 
-use aligned_tables::Row;
-use report_text::Number;
+use crate::row::Row;
+use report_amounts::Number;
 use std::alloc::{AllocError, Global};
 
 pub(crate) fn push_words(alloc: Global, row: &mut Row, words: &str) -> Result<(), AllocError>

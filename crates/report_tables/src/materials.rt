@@ -17,10 +17,11 @@ ghost use Rattle.report_amounts.specs.Amounts.{unit_sum, net, cost, cost_sum};
 ghost use Rattle.report_tables.specs.Report.{number_cell, bought_or_left, material_limit, material_heading, material_row, all_materials_row, material_rows, material_lines};
 
 use crate::cells::{push_number, push_words};
+use crate::column::Sort;
 use crate::limits::limit_words;
 use crate::names::material_name;
+use crate::row::Row;
 use crate::tables::push_table_and_gap;
-use aligned_tables::{Row, Sort};
 use branch_tree::Network;
 use pgraph::Graph;
 use pns_problem::{Kind, Problem, amount_text};

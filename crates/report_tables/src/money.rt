@@ -11,14 +11,14 @@ ghost use Rattle.report_amounts.specs.Amounts.{unit_sum, cost_sum};
 ghost use Rattle.report_tables.specs.Report.{money_heading, money_row, total_cell, total_words, total_row, money_rows, money_lines};
 
 use crate::cells::{push_number, push_words};
+use crate::column::Sort;
+use crate::row::Row;
 use crate::tables::push_table_and_gap;
-use aligned_tables::{Row, Sort};
 use branch_tree::Network;
 use decimals::push_quotient;
 use pgraph::Graph;
 use pns_problem::Problem;
-use report_amounts::{Part, UnitAmount, cost_sum, unit_sum};
-use report_text::Number;
+use report_amounts::{Number, Part, UnitAmount, cost_sum, unit_sum};
 use std::alloc::{AllocError, Global};
 
 fn heading(alloc: Global) -> Result<Row, AllocError>

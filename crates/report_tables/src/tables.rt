@@ -3,7 +3,9 @@ ghost use Rattle.std.specs.Prelude.{◌≡◌, ◌++◌, OnOk, string_bytes};
 ghost use Rattle.pns_problem.specs.Printing.{printed};
 ghost use Rattle.report_tables.specs.Report.{table_and_gap};
 
-use aligned_tables::{Row, Sort, push_table};
+use crate::column::Sort;
+use crate::row::Row;
+use crate::table::push_table;
 use std::alloc::{AllocError, Global};
 
 /// Appends the lines of a table with columns of these sorts, and an empty line.

@@ -8,10 +8,11 @@ ghost use Rattle.report_amounts.specs.declared.amounts.UnitAmount.TheVariants.{F
 ghost use Rattle.problem_rules.specs.Problem.{unit_at};
 
 use crate::cells::{push_number, push_words};
+use crate::column::Sort;
 use crate::limits::limit_words;
 use crate::names::unit_name;
+use crate::row::Row;
 use crate::tables::push_table_and_gap;
-use aligned_tables::{Row, Sort};
 use branch_tree::Network;
 use pns_problem::Problem;
 use pns_tables::size_at;

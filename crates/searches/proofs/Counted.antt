@@ -4,7 +4,7 @@ use Rattle.tree_rules.specs.Ways as ways
 use Rattle.tree_rules.specs.Tree as trees
 use Rattle.tree_rules.specs.Leaf as leaves
 use Rattle.tree_rules.specs.Accepted.{Tree}
-use Rattle.tree_line_laws.specs.Fits.{CountsEnd}
+use Rattle.tree_text_laws.specs.LineFits.{CountsEnd}
 use Rattle.tree_text_laws.specs.Fits.{CountsTree}
 
 -- a subtree has a node at least

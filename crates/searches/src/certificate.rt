@@ -8,7 +8,7 @@ ghost use Rattle.tree_text_rules.specs.Read.{read_text};
 ghost use Rattle.tree_text_rules.specs.Spelling.{tree_text, tree_text_lines};
 ghost use Rattle.tree_text.specs.Prints.{Prints};
 ghost use Rattle.tree_text_laws.specs.Fits.{CountsTail, KeepsClaim};
-ghost use Rattle.tree_line_laws.specs.Fits.{CountsPlace};
+ghost use Rattle.tree_text_laws.specs.LineFits.{CountsPlace};
 ghost use Rattle.node_evaluation.specs.Children.{claim_with};
 ghost use Rattle.abb_search.specs.Found.{IsFound};
 ghost use Rattle.endings.specs.Ending.{Ends, Tells};

@@ -14,7 +14,7 @@ use Rattle.edit_commands.specs.Migrate.{MigrateWork}
 use Rattle.flow_commands.specs.Flows.{FlowNamesSay, UnitsSay, FlowsSay}
 use Rattle.command_files.specs.Script.{ScriptFault, OnScript}
 use Rattle.command_files.specs.Plan.{PlanFileFault, OnPlan}
-use Rattle.period_commands.specs.Expand.{ExpandWork}
+use Rattle.period_searches.specs.Expand.{ExpandWork}
 use Rattle.plan_rules.specs.Plan.{Plan}
 use Rattle.edit_commands.specs.Edits.{EditWork, UndoWork}
 use Rattle.tree_rules.specs.Claim.{Claim, Network}

@@ -13,7 +13,7 @@ use Rattle.structure_commands.specs.Listing.{ListingWork}
 use Rattle.edit_commands.specs.Make.{MakeWork}
 use Rattle.command_files.specs.Script.{OnScript}
 use Rattle.command_files.specs.Plan.{OnPlan}
-use Rattle.period_commands.specs.Expand.{ExpandWork}
+use Rattle.period_searches.specs.Expand.{ExpandWork}
 use Rattle.edit_commands.specs.Migrate.{MigrateWork}
 use Rattle.edit_commands.specs.Edits.{EditWork, UndoWork}
 use Rattle.command_files.specs.TreeFile.{OnTree, tree_limit}

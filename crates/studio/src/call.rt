@@ -22,7 +22,7 @@ use network_commands::table::table;
 use part_commands::merge::merge;
 use part_commands::split::split;
 use part_searches::part::{part, part_against};
-use period_commands::expansion::expand;
+use period_searches::expansion::expand;
 use period_searches::planned::periods;
 use pns_io::{Shelf, Sink};
 use rank_commands::{accepted_are_best, rankcheck};

@@ -6,7 +6,7 @@
 //!
 //! The words are read by `studio_words`; the commands stand in crates of their own, by what they are about: `structure_commands`,
 //! `edit_commands`, `flow_commands`, `network_commands`, `rank_commands`, `searches`, `rank_searches`, `part_commands`,
-//! `part_searches`, `period_commands`, `period_searches` and `stability_commands`, over the files of `command_files`. Modules: `call`, which dispatches; `laws`.
+//! `part_searches`, `period_searches` and `stability_commands`, over the files of `command_files`. Modules: `call`, which dispatches; `laws`.
 #![tactic(auto)]
 
 mod call;

@@ -14,12 +14,12 @@ use Rattle.tree_text_rules.specs.LineRead.{Opening, network, infeasible, unknown
 use Rattle.tree_text_rules.specs.Read.{Fault, Taken, first_line, then_read, sizes_taken, network_taken, claim_behind, claim_taken}
 use Rattle.tree_text_rules.specs.Spelling.{unit_name, network_lines, claim_lines}
 use Rattle.tree_text_rules.specs.declared.Word.TheVariants as words
-use Rattle.tree_line_laws.specs.Fits.{FitsSizes}
+use Rattle.tree_text_laws.specs.LineFits.{FitsSizes}
 use Rattle.tree_text_laws.specs.Fits.{KeepsClaim}
-use Rattle.tree_line_laws.proofs.ClaimLines.{opening_line, FitsOpening, opening_lines, network_line, sizes_line, cost_line}
-use Rattle.tree_line_laws.proofs.NodeLines.{all_each, each_all}
+use Rattle.tree_text_laws.proofs.ClaimLines.{opening_line, FitsOpening, opening_lines, network_line, sizes_line, cost_line}
+use Rattle.tree_text_laws.proofs.NodeLines.{all_each, each_all}
 use Rattle.tree_text_laws.proofs.Parts.{good, good_is, then_ok, first_back, first_again}
-use Rattle.tree_line_laws.specs.Codes.{line_of, IsToken}
+use Rattle.tree_text_laws.specs.Codes.{line_of, IsToken}
 
 abbrev sizes_text : ℤ × List ℤ → List Token
 sizes_text c = word_text words.Sizes ∷ signed_decimal c.0 ∷ map signed_decimal c.1

@@ -13,12 +13,12 @@ use Rattle.tree_text_rules.specs.LineRead.{step_read, option_read, end_line_read
 use Rattle.tree_text_rules.specs.Read.{Fault, Taken, Head, with_step, on_line, steps_taken, head_taken, end_taken}
 use Rattle.tree_text_rules.specs.Spelling.{step_line, option_line, end_line, head_lines}
 use Rattle.tree_text_rules.specs.declared.TreeKind.{TreeKind}
-use Rattle.tree_line_laws.specs.Fits.{FitsEnd}
+use Rattle.tree_text_laws.specs.LineFits.{FitsEnd}
 use Rattle.tree_text_laws.specs.Fits.{FitsHead}
 use Rattle.tree_text_laws.specs.Laws.{IsHeadOf}
-use Rattle.tree_line_laws.specs.Codes.{line_of}
+use Rattle.tree_text_laws.specs.Codes.{line_of}
 use Rattle.tree_text_laws.specs.Lines.{lines_said, BeginsNoStep}
-use Rattle.tree_line_laws.proofs.NodeLines.{step_back, step_again, end_lines, option_lines}
+use Rattle.tree_text_laws.proofs.NodeLines.{step_back, step_again, end_lines, option_lines}
 use Rattle.tree_text_laws.proofs.Parts.{good, good_is, on_line_ok, first_back, first_again}
 
 module _ (p : Problem) (formed : IsWellFormed p) where

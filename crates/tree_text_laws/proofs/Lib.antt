@@ -5,3 +5,13 @@ mod Parts
 mod Tails
 mod Takings
 mod WholeText
+pub mod ClaimLines
+pub mod Codes
+mod Columns
+pub mod Decimals
+mod Names
+pub mod NodeLines
+pub mod Pieces
+mod Places
+pub mod Said
+pub mod TailLines

@@ -15,11 +15,11 @@ use Rattle.tree_text_rules.specs.LineRead.{step_read, end_line_read, option_read
 use Rattle.tree_text_rules.specs.Read.{Fault, Taken, Head, with_step, with_end, with_node, on_line, nodes_taken, tree_taken}
 use Rattle.tree_text_rules.specs.Spelling.{step_line, end_line, option_line, node_lines, tree_lines}
 use Rattle.tree_text_rules.specs.declared.TreeKind.{TreeKind}
-use Rattle.tree_line_laws.specs.Fits.{CountsEnd, FitsEnd}
+use Rattle.tree_text_laws.specs.LineFits.{CountsEnd, FitsEnd}
 use Rattle.tree_text_laws.specs.Fits.{CountsTree, FitsTree}
-use Rattle.tree_line_laws.proofs.NodeLines.{step_back, step_again, step_line_tokens, end_lines, end_no_step, option_lines, root_back, root_again}
+use Rattle.tree_text_laws.proofs.NodeLines.{step_back, step_again, step_line_tokens, end_lines, end_no_step, option_lines, root_back, root_again}
 use Rattle.tree_text_laws.proofs.Parts.{good_is, on_line_ok}
-use Rattle.tree_line_laws.specs.Codes.{line_of, IsToken}
+use Rattle.tree_text_laws.specs.Codes.{line_of, IsToken}
 
 abbrev TreeNode : Type 0
 TreeNode = trees.TreeNode leaves.Leaf

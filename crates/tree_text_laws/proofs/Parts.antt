@@ -3,7 +3,7 @@ use Rattle.std.proofs.Common.{◌≡◌, ℕ, List, [], ◌∷◌, Result, Ok, E
 use Rattle.tree_text_rules.specs.Line.{Token, Line}
 use Rattle.tree_text_rules.specs.Read.{Fault, Taken, on_line, first_line, then_read}
 use Rattle.tree_text_rules.specs.declared.TreeKind.{TreeKind}
-use Rattle.tree_line_laws.specs.Codes.{line_of, IsLineCode}
+use Rattle.tree_text_laws.specs.Codes.{line_of, IsLineCode}
 
 abbrev pub good : {A : Type 0} → A → Result A Fault
 good a = Ok a

@@ -12,11 +12,11 @@ use Rattle.tree_text_rules.specs.LineRead.{TailOpening, whole, spent, past, tail
 use Rattle.tree_text_rules.specs.Read.{first_line, nothing_behind, close_taken, past_taken, tail_behind, tail_taken}
 use Rattle.tree_text_rules.specs.Spelling.{column_text, place_fields, end_lines, tail_lines}
 use Rattle.tree_text_rules.specs.declared.Word.TheVariants as words
-use Rattle.tree_line_laws.specs.Fits.{FitsPlace}
+use Rattle.tree_text_laws.specs.LineFits.{FitsPlace}
 use Rattle.tree_text_laws.specs.Fits.{FitsTail}
 use Rattle.tree_text_laws.proofs.Parts.{good_is, first_back, first_again}
-use Rattle.tree_line_laws.specs.Codes.{line_of, IsToken}
-use Rattle.tree_line_laws.proofs.TailLines.{tail_line, FitsTailOpening, tail_lines_of, close_line, nonbasic_line, place_line}
+use Rattle.tree_text_laws.specs.Codes.{line_of, IsToken}
+use Rattle.tree_text_laws.proofs.TailLines.{tail_line, FitsTailOpening, tail_lines_of, close_line, nonbasic_line, place_line}
 
 -- ---- the last line
 

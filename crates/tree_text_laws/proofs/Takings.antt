@@ -9,7 +9,7 @@ use Rattle.tree_rules.specs.Accepted.{Tree}
 use Rattle.tree_text_rules.specs.Line.{Token, Line}
 use Rattle.tree_text_rules.specs.Read.{Fault, Taken, network_taken, claim_taken, end_taken, tree_taken, tail_taken, rest_taken}
 use Rattle.tree_text_rules.specs.Spelling.{step_line, end_line, node_lines, network_lines, claim_lines, tree_lines, tail_lines, rest_lines}
-use Rattle.tree_line_laws.specs.Fits.{FitsEnd}
+use Rattle.tree_text_laws.specs.LineFits.{FitsEnd}
 use Rattle.tree_text_laws.specs.Fits.{FitsNetwork, FitsClaim, FitsTree, FitsTail, Fits}
 use Rattle.tree_text_laws.specs.Lines.{lines_said, TakesJust, ReadsJust}
 use Rattle.tree_text_laws.proofs.Claims.{network_back, network_again, claim_back, claim_again, behind_claim}

@@ -9,7 +9,7 @@ use Rattle.branch_tree.specs.Known.{AreUnits, KnowsClaim, KnowsStep, KnowsTree, 
 use Rattle.branch_tree.specs.Sized.{IsKept}
 use Rattle.branch_tree.specs.Tail as tails
 use Rattle.tree_text_rules.specs.Read.{Certificate, Head}
-use Rattle.tree_line_laws.specs.Fits.{IsCount, IsOptionCount, CountsEnd, CountsPlace}
+use Rattle.tree_text_laws.specs.LineFits.{IsCount, IsOptionCount, CountsEnd, CountsPlace}
 
 abbrev pub CountsTree : Tree → Type 0
 CountsTree tree = Each (λ t. CountsEnd t.end) tree

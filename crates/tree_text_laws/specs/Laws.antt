@@ -5,7 +5,7 @@ use Rattle.problem_rules.specs.Validity.{IsValid}
 use Rattle.tree_text_rules.specs.Line.{Line}
 use Rattle.tree_text_rules.specs.Read.{Taken, Certificate, Head, network_taken, claim_taken, head_taken, end_taken, tree_taken, tail_taken, rest_taken, read_text}
 use Rattle.tree_text_rules.specs.Spelling.{network_lines, claim_lines, head_lines, end_line, tree_lines, tail_lines, rest_lines, tree_text}
-use Rattle.tree_line_laws.specs.Fits.{FitsEnd}
+use Rattle.tree_text_laws.specs.LineFits.{FitsEnd}
 use Rattle.tree_text_laws.specs.Fits.{FitsNetwork, FitsClaim, FitsHead, FitsTree, FitsTail, Fits}
 use Rattle.tree_text_laws.specs.Lines.{lines_said, TakesJust, ReadsJust, BeginsNoStep}
 

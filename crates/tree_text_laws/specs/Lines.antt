@@ -4,7 +4,7 @@ use Rattle.problem_rules.specs.Problem.{Problem}
 use Rattle.tree_text_rules.specs.Line.{Token, Line}
 use Rattle.tree_text_rules.specs.LineRead.{step_read}
 use Rattle.tree_text_rules.specs.Read.{Fault, Taken}
-use Rattle.tree_line_laws.specs.Codes.{line_of}
+use Rattle.tree_text_laws.specs.Codes.{line_of}
 
 abbrev pub lines_said : List (List Token) → List Line
 lines_said lines = map line_of lines

@@ -2,14 +2,22 @@
 //! what a text stands for has no other text. The same holds of the parts: networks, claims, a node's line with its steps, ends,
 //! trees, tails, and all lines but the first.
 //!
+//! Of the lines: a text has one list of lines and those have one text; and each number, name, column and place, and each line of a node, a
+//! network and a tail, is read from its one spelling.
+//!
 //! `specs/` states them: `Fits` (what a text can hold), `Lines` (readings that take the lines of a value and no others) and
-//! `Laws`. Each is the contract of a function of [`laws`] that does nothing: a caller's proof has the law behind the call.
+//! `Laws`; `Codes` (values and their one spelling), `LineFits` (what a line can hold) and `LineLaws`. Each is the contract of a function of [`laws`] or [`line_laws`] that does nothing: a caller's proof has the law behind the call.
 #![tactic(auto)]
 
 pub mod laws;
+pub mod line_laws;
 
 pub use laws::{
     claims_are_taken, ends_are_taken, networks_are_taken, read_heads_are_spelled,
     read_texts_are_spelled, rests_are_read, spelled_heads_read, spelled_texts_read, tails_are_read,
     texts_tell, trees_are_taken,
+};
+pub use line_laws::{
+    columns_are_read, lines_have_one_text, names_are_read, network_lines_are_read,
+    node_lines_are_read, numbers_are_read, tail_lines_are_read, texts_have_lines,
 };

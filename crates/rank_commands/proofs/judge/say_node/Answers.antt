@@ -1,5 +1,5 @@
 use Rattle.std.proofs.Common.{◌≡◌, ◌∙◌, inl, ℕ, List}
-use Rattle.rank_words.specs.Words.{rank_node_line}
+use Rattle.rank_commands.specs.Words.{rank_node_line}
 use Rattle.endings.specs.Lines.{line}
 use Rattle.endings.specs.Ending.{Only, OrMemory}
 use Rattle.endings.specs.declared.status.Status.{Status}

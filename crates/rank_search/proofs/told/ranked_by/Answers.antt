@@ -1,9 +1,9 @@
 use Rattle.std.proofs.Common.{List, Option, sym, subst, map}
 use Rattle.branch_tree.specs.Scaled.{Scaled}
-use Rattle.found_networks.specs.Found.{undercut_by}
+use Rattle.rank_search.specs.Found.{undercut_by}
 use Rattle.ranked_tree.specs.Text.{Text}
 use Rattle.ranked_tree.specs.View.{mark_of}
-use Rattle.rank_trees.specs.Told.{AreShutAgainst}
+use Rattle.rank_search.specs.Told.{AreShutAgainst}
 use Rattle.rank_search.specs.declared.outcome.Ranked.TheVariants as ranks
 use Rattle.rank_search.specs.declared.turns.Ending.{Ending}
 use Rattle.rank_search.specs.Turns.{EndsWith}

@@ -8,11 +8,11 @@ use Rattle.search_tree.specs.Cells.{cell_at}
 use Rattle.abb_search.specs.Growing.{IsBranching}
 use Rattle.abb_search.proofs.ReadyLemmas.{first_has}
 use Rattle.abb_search.proofs.TurnLemmas.{whole, there, hand, chosen, sound_there, beaten_by, within_budget}
-use Rattle.found_networks.specs.Listed.{AreAdded}
+use Rattle.rank_search.specs.Listed.{AreAdded}
 use Rattle.rank_search.specs.declared.turns.Ending.TheVariants as endings
 use Rattle.turn_laws.specs.Values.{IsPositiveCost}
-use Rattle.found_networks.specs.Found.{undercut_by}
-use Rattle.found_networks.proofs.CostLemmas.{undercut_positive}
+use Rattle.rank_search.specs.Found.{undercut_by}
+use Rattle.rank_search.proofs.CostLemmas.{undercut_positive}
 use Rattle.rank_search.specs.Turns.{IsBeating, IsRankEnd}
 use Rattle.rank_search.proofs.TurnLemmas.{growing_of, ends}
 use Rattle.rank_search.proofs.LeafLemmas.{spent_for}

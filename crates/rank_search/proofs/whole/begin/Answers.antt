@@ -5,7 +5,7 @@ use Rattle.pns_rules.specs.Nodes.{Node}
 use Rattle.pns_rules.specs.Ends.{IsSound}
 use Rattle.pgraph.specs.View.{node_of}
 use Rattle.tree_rules.specs.Accepted.{first_node}
-use Rattle.found_networks.specs.Listed.{Listed, IsListed}
+use Rattle.rank_search.specs.Listed.{Listed, IsListed}
 use Rattle.rank_search.proofs.RootLemmas.{first_is_sound, one_network, added_one, begun, same_count}
 use Rattle.rank_search.proofs.whole.begin.Goals as goal
 

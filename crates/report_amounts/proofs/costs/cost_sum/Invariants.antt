@@ -1,7 +1,7 @@
 use Rattle.std.proofs.Common.{◌≡◌, length}
 use Rattle.number_sets.specs.Sets.{has, IsWithin}
 use Rattle.flow_rules.specs.Net.{net_of, materials_of}
-use Rattle.report_text.specs.Number.{sum_from}
+use Rattle.report_amounts.specs.Number.{sum_from}
 use Rattle.report_amounts.specs.Amounts.{cost, part_of, cost_sum}
 use Rattle.report_amounts.proofs.costs.cost_sum.Given as goal
 

@@ -1,5 +1,5 @@
 use Rattle.std.proofs.Common.{◌++◌, ◌∷◌, [], ◌∙◌, ap, codes}
-use Rattle.report_text.specs.Number.{Number}
+use Rattle.report_amounts.specs.Number.{Number}
 use Rattle.report_amounts.specs.declared.costs.Part.TheVariants.{All}
 use Rattle.report_amounts.specs.Amounts.{cost_sum}
 use Rattle.report_tables.specs.Report.{number_cell, all_materials_row}

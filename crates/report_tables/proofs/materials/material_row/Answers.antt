@@ -2,7 +2,7 @@ use Rattle.std.proofs.Common.{◌++◌, ◌∷◌, [], ◌∙◌, ap, ℕ, List}
 use Rattle.problem_rules.specs.Problem.{material_at}
 use Rattle.text_rules.specs.Canonical.{kind_word}
 use Rattle.text_rules.specs.Printed.{amount_bytes}
-use Rattle.report_text.specs.Number.{Number}
+use Rattle.report_amounts.specs.Number.{Number}
 use Rattle.report_amounts.specs.declared.amounts.UnitAmount.TheVariants.{Made, Used}
 use Rattle.report_amounts.specs.Amounts.{unit_sum, net, cost}
 use Rattle.report_tables.specs.Report.{number_cell, material_limit, material_row}

@@ -1,5 +1,5 @@
 use Rattle.std.proofs.Common.{◌++◌, ◌∷◌, [], ◌∙◌, ap}
-use Rattle.report_text.specs.Number.{Number}
+use Rattle.report_amounts.specs.Number.{Number}
 use Rattle.report_amounts.specs.declared.amounts.UnitAmount.TheVariants.{Fixed, Proportional, Investment, Total}
 use Rattle.report_amounts.specs.Amounts.{unit_sum}
 use Rattle.report_tables.specs.Report.{number_cell}

@@ -1,6 +1,6 @@
 use Rattle.std.proofs.Common.{◌++◌, ◌∷◌, [], ◌∙◌, ap, ℕ, List}
 use Rattle.problem_rules.specs.Problem.{unit_at}
-use Rattle.report_text.specs.Number.{Number}
+use Rattle.report_amounts.specs.Number.{Number}
 use Rattle.report_amounts.specs.declared.amounts.UnitAmount.TheVariants.{Fixed, Proportional, Investment, Total}
 use Rattle.report_amounts.specs.Amounts.{size, amount}
 use Rattle.report_tables.specs.Report.{number_cell, share_cell, unit_limit, unit_row}

@@ -1,7 +1,0 @@
-use Rattle.std.proofs.Common.{◌≡◌, ◌++◌, drop}
-use Rattle.aligned_tables.specs.Aligned.{columns_from}
-use Rattle.aligned_tables.proofs.column.columns_of.Given as goal
-
--- the columns to come complete them
-abbrev pub invariant-columns : goal.invariant-columns
-invariant-columns l = l.columns.items ++ columns_from l.k (drop l.k l.sorts) l.heading l.rows ≡ columns_from 0 l.sorts l.heading l.rows

@@ -1,6 +1,0 @@
-use Rattle.std.proofs.Common.{◌≡◌, drop}
-use Rattle.aligned_tables.specs.Aligned.{widest}
-use Rattle.aligned_tables.proofs.column.widest.Given as goal
-
-abbrev pub invariant-rows : goal.invariant-rows
-invariant-rows l = widest l.measure l.k l.best (drop l.row-index l.rows) ≡ widest l.measure l.k l.least l.rows

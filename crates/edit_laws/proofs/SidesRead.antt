@@ -1,0 +1,149 @@
+-- The printed sides of a unit are found again.
+use Rattle.std.proofs.Common.{◌≡◌, ◌<◌, ◌==◌, Bool, true, false, not, ℕ, Option, Some, None, List, [], ◌∷◌, ◌++◌, length, map, codes, bytes_eq, ℤ, pos, negsuc, int_lt, unsigned_abs, refl, sym, ◌∙◌, ap, arith, length-append, if◌then◌else◌}
+use Rattle.std.specs.List.{list_all, list_any, slice_split}
+use Rattle.std.proofs.lemmas.Bool.{and_parts, and_left, or_from, cond_both, ne_eqb, eqb-true, true≢false}
+use Rattle.std.proofs.lemmas.List.{length-map}
+use Rattle.problem_rules.specs.Each.{Each}
+use Rattle.problem_rules.specs.Names.{continues_name, is_among, has_double}
+use Rattle.text_rules.specs.Fault.{millionths}
+use Rattle.text_rules.specs.Field.{terms_of}
+use Rattle.text_rules.specs.Printed.{amount_bytes}
+use Rattle.text_rules.specs.Canonical.{joined}
+use Rattle.text_laws.proofs.Cuts.{not_mark, none-append, split_at, split_none}
+use Rattle.text_laws.proofs.Each.{each-append, each-to, none_from_each}
+use Rattle.edit_rules.specs.Edit.{NamedTerm}
+use Rattle.edit_rules.specs.Formed.{IsFormedTerm, IsFormedSide, AreFormedSides, term_names}
+use Rattle.script_rules.specs.declared.EditKind.{EditKind}
+use Rattle.script_rules.specs.declared.EditKind.TheVariants as kinds
+use Rattle.script_rules.specs.Fault.{lesser, name_fault, rate_fault}
+use Rattle.script_rules.specs.Printed.{term_tokens, side_tokens}
+use Rattle.script_rules.specs.Term.{Pair, pair_of, with_pair, pairs_of, both, both_sides, is_arrow, sides_of, term_fault, terms_fault, materials_of, are_bad_sides, sides_fault, term_read}
+use Rattle.edit_laws.proofs.Tokens.{IsWord, IsToken, word_token, name_word, amount_word, split_joined}
+use Rattle.edit_laws.proofs.TokensRead.{name_none, rate_none, millionths_back, unless_true}
+
+abbrev is_plus : List ℕ → Bool
+is_plus token = bytes_eq token (codes "+")
+
+word_no_plus : (text : List ℕ) → IsWord text → is_plus text ≡ false
+word_no_plus [] is = refl
+word_no_plus (c ∷ cs) is =
+    let first = and_parts (continues_name c) (list_all continues_name cs) is.all in
+    and_left (c == 43) (bytes_eq cs []) (not_mark continues_name 43 c refl first.0)
+
+word_no_arrow : (text : List ℕ) → IsWord text → is_arrow text ≡ false
+word_no_arrow [] is = refl
+word_no_arrow (c ∷ cs) is =
+    let first = and_parts (continues_name c) (list_all continues_name cs) is.all in
+    and_left (c == 61) (bytes_eq cs (62 ∷ [])) (not_mark continues_name 61 c refl first.0)
+
+-- what stands for the rate of a term
+abbrev rate_text : NamedTerm → List ℕ
+rate_text t = if unsigned_abs t.rate == 1000000 then codes "1" else amount_bytes t.rate
+
+abbrev pub pair_at : NamedTerm → Pair
+pair_at t = (rate_text t, t.name)
+
+term_pair : (t : NamedTerm) → pair_of (term_tokens t) ≡ Some (pair_at t)
+term_pair t = by (unsigned_abs t.rate == 1000000) where
+  by : (b : Bool) → pair_of (if b then t.name ∷ [] else amount_bytes t.rate ∷ t.name ∷ []) ≡ Some ((if b then codes "1" else amount_bytes t.rate), t.name)
+  by true = refl
+  by false = refl
+
+term_words : (t : NamedTerm) → IsFormedTerm t → Each IsWord (term_tokens t)
+term_words t is =
+    let name : IsWord t.name = name_word t.name is.named in
+    cond_both (unsigned_abs t.rate == 1000000) (t.name ∷ []) (amount_bytes t.rate ∷ t.name ∷ []) (λ ts. Each IsWord ts) (λ e. (name, tt)) (λ e. (amount_word t.rate is.in_range, (name, tt)))
+
+term_some : (t : NamedTerm) → 0 < length (term_tokens t)
+term_some t = cond_both (unsigned_abs t.rate == 1000000) (t.name ∷ []) (amount_bytes t.rate ∷ t.name ∷ []) (λ ts. 0 < length ts) (λ e. omega arith) (λ e. omega arith)
+
+terms_none : (q : List ℕ → Bool) → ((t : List ℕ) → IsWord t → q t ≡ false) → (terms : List NamedTerm) → Each IsFormedTerm terms → Each (λ piece. list_any q piece ≡ false) (map term_tokens terms)
+terms_none q says [] each = tt
+terms_none q says (t ∷ terms) each = (none_from_each q (term_tokens t) (each-to IsWord (λ w. q w ≡ false) says (term_tokens t) (term_words t each.0)), terms_none q says terms each.1)
+
+joined_without : (q : List ℕ → Bool) (pieces : List (List (List ℕ))) → q (codes "+") ≡ false → Each (λ piece. list_any q piece ≡ false) pieces → list_any q (joined (codes "+") pieces) ≡ false
+joined_without q [] off each = refl
+joined_without q (piece ∷ []) off each = each.0
+joined_without q (piece ∷ next ∷ pieces) off each =
+    none-append q piece (codes "+" ∷ joined (codes "+") (next ∷ pieces)) each.0 (or_from (q (codes "+")) (list_any q (joined (codes "+") (next ∷ pieces))) off (joined_without q (next ∷ pieces) off each.1))
+
+joined_some : (piece : List (List ℕ)) (pieces : List (List (List ℕ))) → 0 < length piece → 0 < length (joined (codes "+") (piece ∷ pieces))
+joined_some piece [] some = some
+joined_some piece (next ∷ pieces) some = omega (arith, some, length-append piece (codes "+" ∷ joined (codes "+") (next ∷ pieces)))
+
+terms_split : (tokens : List (List ℕ)) → 0 < length tokens → terms_of tokens ≡ slice_split is_plus tokens
+terms_split [] some = absurd (omega arith)
+terms_split (token ∷ tokens) some = refl
+
+side_terms : (terms : List NamedTerm) → IsFormedSide terms → terms_of (side_tokens terms) ≡ map term_tokens terms
+side_terms [] is = absurd (omega (arith, is.some))
+side_terms (t ∷ terms) is =
+    let none = terms_none is_plus word_no_plus (t ∷ terms) is.terms_formed in
+    terms_split (side_tokens (t ∷ terms)) (joined_some (term_tokens t) (map term_tokens terms) (term_some t))
+    ∙ split_joined is_plus (codes "+") (term_tokens t) (map term_tokens terms) refl none.0 none.1
+
+pairs_back : (terms : List NamedTerm) → pairs_of (map term_tokens terms) ≡ Some (map pair_at terms)
+pairs_back [] = refl
+pairs_back (t ∷ terms) = ap (λ (p : Option Pair). with_pair p (pairs_of (map term_tokens terms))) (term_pair t) ∙ ap (with_pair (Some (pair_at t))) (pairs_back terms)
+
+side_pairs : (terms : List NamedTerm) → IsFormedSide terms → pairs_of (terms_of (side_tokens terms)) ≡ Some (map pair_at terms)
+side_pairs terms is = ap pairs_of (side_terms terms is) ∙ pairs_back terms
+
+side_no_arrow : (terms : List NamedTerm) → Each IsFormedTerm terms → list_any is_arrow (side_tokens terms) ≡ false
+side_no_arrow terms each = joined_without is_arrow (map term_tokens terms) refl (terms_none is_arrow word_no_arrow terms each)
+
+pub sides_back : (ins outs : List NamedTerm) → AreFormedSides ins outs → sides_of (side_tokens ins ++ codes "=>" ∷ side_tokens outs) ≡ Some (map pair_at ins, map pair_at outs)
+sides_back ins outs is =
+    ap both_sides (split_at is_arrow (side_tokens ins) (codes "=>") (side_tokens outs) (side_no_arrow ins is.inputs_formed.terms_formed) refl)
+    ∙ ap (λ (rest : List (List (List ℕ))). both_sides (side_tokens ins ∷ rest)) (split_none is_arrow (side_tokens outs) (side_no_arrow outs is.outputs_formed.terms_formed))
+    ∙ ap (λ (found : Option (List Pair)). both found (pairs_of (terms_of (side_tokens outs)))) (side_pairs ins is.inputs_formed)
+    ∙ ap (both (Some (map pair_at ins))) (side_pairs outs is.outputs_formed)
+
+-- a rate of 1 is the only one of its size above 0
+rate_one : (z : ℤ) → int_lt (pos 0) z ≡ true → unsigned_abs z ≡ 1000000 → pos 1000000 ≡ z
+rate_one (pos n) above e = ap pos (sym e)
+rate_one (negsuc n) above e = absurd (true≢false (sym above))
+
+term_back : (t : NamedTerm) → IsFormedTerm t → term_read (pair_at t) ≡ t
+term_back t is = ap (λ (z : ℤ). record { name = t.name; rate = z }) (by (unsigned_abs t.rate == 1000000) refl) where
+  by : (b : Bool) → (unsigned_abs t.rate == 1000000) ≡ b → millionths (if b then codes "1" else amount_bytes t.rate) ≡ t.rate
+  by true e = rate_one t.rate is.positive (eqb-true (unsigned_abs t.rate) 1000000 e)
+  by false e = millionths_back t.rate is.in_range
+
+pub terms_back : (terms : List NamedTerm) → Each IsFormedTerm terms → map term_read (map pair_at terms) ≡ terms
+terms_back [] each = refl
+terms_back (t ∷ terms) each = ap (λ (u : NamedTerm). u ∷ map term_read (map pair_at terms)) (term_back t each.0) ∙ ap (λ (ts : List NamedTerm). t ∷ ts) (terms_back terms each.1)
+
+term_none : (t : NamedTerm) → IsFormedTerm t → term_fault (pair_at t) ≡ None
+term_none t is =
+    ap (λ (k : Option EditKind). lesser k (name_fault t.name))
+    (cond_both (unsigned_abs t.rate == 1000000) (codes "1") (amount_bytes t.rate) (λ (text : List ℕ). rate_fault text ≡ None) (λ e. refl) (λ e. rate_none t.rate is.in_range is.positive))
+    ∙ name_none t.name is.named
+
+pub terms_clear : (terms : List NamedTerm) → Each IsFormedTerm terms → terms_fault (map pair_at terms) ≡ None
+terms_clear [] each = refl
+terms_clear (t ∷ terms) each = ap (λ (k : Option EditKind). lesser k (terms_fault (map pair_at terms))) (term_none t each.0) ∙ terms_clear terms each.1
+
+materials_same : (terms : List NamedTerm) → materials_of (map pair_at terms) ≡ term_names terms
+materials_same [] = refl
+materials_same (t ∷ terms) = ap (λ (names : List (List ℕ)). t.name ∷ names) (materials_same terms)
+
+side_some : (terms : List NamedTerm) → 0 < length terms → (length (map pair_at terms) == 0) ≡ false
+side_some terms some = ne_eqb (length (map pair_at terms)) 0 (λ e. omega (arith, e, some, length-map terms pair_at))
+
+pub sides_clear : (ins outs : List NamedTerm) → AreFormedSides ins outs → sides_fault (map pair_at ins) (map pair_at outs) ≡ None
+sides_clear ins outs is =
+    let left = materials_same ins in
+    let right = materials_same outs in
+    let good : are_bad_sides (map pair_at ins) (map pair_at outs) ≡ false =
+    or_from _ _ (or_from _ _ (or_from _ _ (or_from _ _ (side_some ins is.inputs_formed.some) (side_some outs is.outputs_formed.some))
+    (ap has_double left ∙ is.inputs_formed.once)) (ap has_double right ∙ is.outputs_formed.once))
+    (ap (λ (names : List (List ℕ)). list_any (is_among names) (materials_of (map pair_at ins))) right ∙ ap (list_any (is_among (term_names outs))) left ∙ is.apart) in
+    unless_true (not (are_bad_sides (map pair_at ins) (map pair_at outs))) kinds.BadTerms (ap not good)
+
+-- the tokens of a side are tokens
+pub side_each : (terms : List NamedTerm) → Each IsFormedTerm terms → Each IsToken (side_tokens terms)
+side_each [] each = tt
+side_each (t ∷ []) each = each-to IsWord IsToken word_token (term_tokens t) (term_words t each.0)
+side_each (t ∷ next ∷ terms) each =
+    each-append IsToken (term_tokens t) (codes "+" ∷ side_tokens (next ∷ terms)) (each-to IsWord IsToken word_token (term_tokens t) (term_words t each.0)) (refl, side_each (next ∷ terms) each.1)

@@ -1,3 +1,0 @@
-pub mod BestLemmas
-pub mod CostLemmas
-pub mod PlaceLemmas

@@ -1,5 +1,0 @@
-use Rattle.option_lists.proofs.WalkLemmas.{Expects}
-use Rattle.option_lists.proofs.options.are_options.Given as goal
-
-abbrev pub invariant-each : goal.invariant-each
-invariant-each l = Expects l.base l.free l.found l.i l.expected

@@ -1,3 +1,0 @@
-mod SetTokens
-mod Texts
-mod Once

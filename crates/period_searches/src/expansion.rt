@@ -1,0 +1,60 @@
+//! The command `expand`.
+ghost use Rattle.std.specs.Prelude.{◌≡◌, ◌⊎◌, IfOk};
+ghost use Rattle.pns_io.specs.Outside.{HasRisen};
+ghost use Rattle.text_rules.specs.Canonical.{canonical};
+ghost use Rattle.plan_rules.specs.Expanded.{expanded};
+ghost use Rattle.plan_rules.specs.Plan.{IsPlan};
+ghost use Rattle.command_files.specs.Reading.{OnFile};
+ghost use Rattle.command_files.specs.Plan.{OnPlan};
+ghost use Rattle.period_searches.specs.Expand.{ExpandWork};
+ghost use Rattle.endings.specs.Ending.{Ends, Says};
+
+use command_files::{plan_of, problem_of};
+use endings::Status;
+use endings::say::say_made;
+use periods::Plan;
+use pns_io::{Shelf, Sink};
+use pns_problem::Problem;
+use std::alloc::{AllocError, Global};
+
+/// The canonical text of the expanded problem.
+fn expanded_text(alloc: Global, problem: &Problem, plan: &Plan) -> Result<Vec<u8>, AllocError>
+    requires { IsPlan problem.now plan.now }
+    ensures { IfOk result (λ text. text.items ≡ canonical (expanded problem.now plan.now)) }
+{
+    let whole = periods::expand(alloc, problem, plan)?;
+    whole.canonical_text(alloc)
+}
+
+fn say_expanded<F: Shelf, K: Sink>(
+    alloc: Global,
+    problem: &Problem,
+    plan: &str,
+    shelf: &mut F,
+    out: &mut K,
+) -> Status
+    ensures { Ends (Says (OnPlan ExpandWork (F.held shelf.old) plan.now problem.now) (λ other. other ≡ plan.now) (record { held = F.held shelf.old; before = F.faults shelf.old; after = F.faults shelf.new }))
+        (HasRisen (K.faults out.old) (K.faults out.new)) (K.written out.old) (K.written out.new) result }
+{
+    match plan_of(alloc, shelf, out, plan, problem) {
+        Ok(plan) => say_made(out, expanded_text(alloc, problem, &plan)),
+        Err(status) => status,
+    }
+}
+
+/// Puts the canonical text of the file's problem and the plan's periods as one ordinary problem.
+pub fn expand<F: Shelf, K: Sink>(
+    alloc: Global,
+    file: &str,
+    plan: &str,
+    shelf: &mut F,
+    out: &mut K,
+) -> Status
+    ensures { Ends (Says (OnFile (OnPlan ExpandWork (F.held shelf.old) plan.now) (F.held shelf.old) file.now) (λ other. (other ≡ file.now) ⊎ (other ≡ plan.now)) (record { held = F.held shelf.old; before = F.faults shelf.old; after = F.faults shelf.new }))
+        (HasRisen (K.faults out.old) (K.faults out.new)) (K.written out.old) (K.written out.new) result }
+{
+    match problem_of(alloc, shelf, out, file) {
+        Ok(problem) => say_expanded(alloc, &problem, plan, shelf, out),
+        Err(status) => status,
+    }
+}

@@ -1,0 +1,17 @@
+//! The words of causes.
+ghost use Rattle.std.specs.Prelude.{◌≡◌};
+ghost use Rattle.rank_commands.specs.Words.{rank_why_word};
+
+use rank_rules::RankWhy;
+use refusal_words::why_word;
+
+/// The word by which a cause is told.
+pub fn rank_why_word(why: RankWhy) -> &'static str
+    ensures { result.now ≡ rank_why_word why }
+{
+    match why {
+        RankWhy::Plain(cause) => why_word(cause),
+        RankWhy::Order => "order",
+        RankWhy::Named => "named",
+    }
+}

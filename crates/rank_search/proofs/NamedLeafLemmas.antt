@@ -1,0 +1,155 @@
+-- Each leaf passes as it is told: one that names a network names the one of its node, and another one is bounded by the last network,
+-- where it is bounded.
+use Rattle.std.proofs.Common.{◌≡◌, ℕ, zero, suc, ◌+◌, ◌<◌, ℤ, Bool, true, false, cond, List, [], ◌∷◌, length, Option, Some, None, refl, sym, ap, ◌∙◌, subst, arith, inl, inr, eq-eqb}
+use Rattle.std.specs.List.{slice_get}
+use Rattle.std.proofs.lemmas.List.{length-map}
+use Rattle.int_rows.specs.Range.{InRange, AllInRange}
+use Rattle.problem_rules.specs.Problem.{Problem}
+use Rattle.pns_rules.specs.Shape.{shape_of}
+use Rattle.pns_rules.specs.Nodes.{Node}
+use Rattle.tree_rules.specs.Tree.{End, leaf}
+use Rattle.tree_rules.specs.Leaf as leaves
+use Rattle.tree_rules.specs.Leaf.{Leaf, dead, clash, refuted, bounded, untried, IsBounded}
+use Rattle.tree_rules.specs.Claim.{Network, CostOver}
+use Rattle.branch_tree.specs.Scaled.{Scaled}
+use Rattle.rank_rules.specs.Leaf as ranks
+use Rattle.rank_rules.specs.Networks.{numbered, network_at, last_cost}
+use Rattle.search_tree.specs.Cells.{Cell, place_of, cell_at}
+use Rattle.search_tree.specs.Fits.{EndFits, Fits}
+use Rattle.search_tree.specs.Shut.{shut_leaf}
+use Rattle.search_tree.proofs.ShutLemmas.{proof_of}
+use Rattle.abb_search.specs.declared.growing.Growing.{Growing}
+use Rattle.abb_search.specs.Closing.{ShutsLeaf}
+use Rattle.rank_search.specs.Found.{FoundAt, networks_of, undercut_by, IsOfLeaf, IsFoundThere, AreBest}
+use Rattle.rank_search.specs.Naming.{names_of}
+use Rattle.rank_search.specs.Told.{AreShutAgainst}
+use Rattle.rank_search.proofs.NameLemmas.{name_is}
+use Rattle.rank_search.proofs.MarkLemmas.{named_leaf}
+use Rattle.rank_search.proofs.OrderLemmas.{leaf_told}
+
+-- ---- open leaves
+
+-- an open leaf stays open in a partial tree, or multipliers in range bound it
+abbrev pub ClosesAt : Bool → Problem → Option CostOver → Node → Option Scaled → Type 0
+ClosesAt partial p undercut n None = partial ≡ true
+ClosesAt partial p undercut n (Some m) = IsBounded p undercut n m.d m.ys × InRange m.d × AllInRange m.ys
+
+abbrev pub Closes : Bool → Problem → Option CostOver → List Cell → List (Option Scaled) → Type 0
+Closes partial p undercut cells ms = (j : ℕ) → j < length cells → (cell_at cells j).end ≡ leaf untried → ClosesAt partial p undercut (place_of (cell_at cells j)) (proof_of ms j)
+
+shuts_one : (p : Problem) (undercut : Option CostOver) (cost : CostOver) (c : Cell) (m : Option Scaled) → undercut ≡ Some cost → c.end ≡ leaf untried → ShutsLeaf p cost c m → ClosesAt false p undercut (place_of c) m
+shuts_one p undercut cost c None e is h = absurd (h is)
+shuts_one p undercut cost c (Some m) e is h = (subst (λ (o : Option CostOver). IsBounded p o (place_of c) m.d m.ys) (sym e) h.bounded, h.scale, h.multipliers)
+
+pub shut_closes : (p : Problem) (s : Growing) (undercut : Option CostOver) (ms : List (Option Scaled)) → AreShutAgainst p s undercut ms → Closes false p undercut s.pool.payloads ms
+shut_closes p s undercut ms h j lt is = elim h [
+  | inl none ↦ absurd (none j lt is)
+  | inr all ↦ shuts_one p undercut all.0 (cell_at s.pool.payloads j) (proof_of ms j) all.1 is (all.2 j lt)
+]
+
+pub stays_open : (p : Problem) (undercut : Option CostOver) (cells : List Cell) → Closes true p undercut cells []
+stays_open p undercut cells j lt is = refl
+
+-- ---- a leaf without a name
+
+plain_passes : (partial : Bool) (p : Problem) (claimed undercut : Option CostOver) (n : Node) (l : Leaf) (m : Option Scaled) → leaves.LeafPasses true p claimed n l
+    → ((d : ℤ) (ys : List ℤ) → l ≡ bounded d ys → IsBounded p undercut n d ys) → (l ≡ untried → ClosesAt partial p undercut n m)
+    → leaves.LeafPasses partial p undercut n (shut_leaf m l)
+plain_passes partial p claimed undercut n (dead x) None h b o = h
+plain_passes partial p claimed undercut n (dead x) (Some m) h b o = h
+plain_passes partial p claimed undercut n (clash k) None h b o = h
+plain_passes partial p claimed undercut n (clash k) (Some m) h b o = h
+plain_passes partial p claimed undercut n (refuted ys) None h b o = h
+plain_passes partial p claimed undercut n (refuted ys) (Some m) h b o = h
+plain_passes partial p claimed undercut n (bounded d ys) None h b o = b d ys refl
+plain_passes partial p claimed undercut n (bounded d ys) (Some m) h b o = b d ys refl
+plain_passes partial p claimed undercut n untried None h b o = o refl
+plain_passes partial p claimed undercut n untried (Some m) h b o = (o refl).0
+
+bounded_stays : (m : Option Scaled) (d : ℤ) (ys : List ℤ) → shut_leaf m (bounded d ys) ≡ bounded d ys
+bounded_stays None d ys = refl
+bounded_stays (Some m) d ys = refl
+
+-- ---- an open leaf is told as open where it was open
+
+shut_open : (m : Option Scaled) (l : Leaf) → shut_leaf m l ≡ untried → l ≡ untried
+shut_open None l h = h
+shut_open (Some m) (dead x) h = let q : dead x ≡ untried = h in cc
+shut_open (Some m) (clash k) h = let q : clash k ≡ untried = h in cc
+shut_open (Some m) (refuted ys) h = let q : refuted ys ≡ untried = h in cc
+shut_open (Some m) (bounded d ys) h = let q : bounded d ys ≡ untried = h in cc
+shut_open (Some m) untried h = refl
+
+plain_is : (l k : Leaf) → ranks.plain l ≡ ranks.plain k → l ≡ k
+plain_is l k h = cc
+
+named_open : (n : Option ℕ) (l : Leaf) → named_leaf n l ≡ ranks.plain untried → l ≡ untried
+named_open None l h = plain_is l untried h
+named_open (Some k) (dead x) h = plain_is (dead x) untried h
+named_open (Some k) (clash x) h = plain_is (clash x) untried h
+named_open (Some k) (refuted ys) h = plain_is (refuted ys) untried h
+named_open (Some k) (bounded d ys) h = let q : ranks.named k d ys ≡ ranks.plain untried = h in cc
+named_open (Some k) untried h = refl
+
+pub still_open : (n : Option ℕ) (m : Option Scaled) (l : Leaf) → named_leaf n (shut_leaf m l) ≡ ranks.plain untried → l ≡ untried
+still_open n m l h = shut_open m l (named_open n (shut_leaf m l) h)
+
+-- without multipliers an open leaf is told as open
+pub told_open : (n : Option ℕ) → named_leaf n (shut_leaf None untried) ≡ ranks.plain untried
+told_open None = refl
+told_open (Some k) = refl
+
+-- ---- the networks by their numbers
+
+network_there : (fs : List FoundAt) (at : ℕ) (f : FoundAt) → slice_get fs at ≡ Some f → network_at at (networks_of fs) ≡ Some f.network
+network_there [] at f h = cc
+network_there (g ∷ gs) zero f h = let e : g ≡ f = cc in ap (λ (o : FoundAt). Some o.network) e
+network_there (g ∷ gs) (suc at) f h = network_there gs at f h
+
+one_more : (at : ℕ) → 1 + at ≡ suc at
+one_more at = omega arith
+
+numbered_there : (fs : List FoundAt) (at : ℕ) (f : FoundAt) → slice_get fs at ≡ Some f → numbered (1 + at) (networks_of fs) ≡ Some f.network
+numbered_there fs at f h = ap (λ (k : ℕ). numbered k (networks_of fs)) (one_more at) ∙ network_there fs at f h
+
+undercut_is : (count : ℕ) (fs : List FoundAt) → length fs ≡ count → undercut_by count fs ≡ last_cost (networks_of fs)
+undercut_is count fs h =
+    let l : length (networks_of fs) ≡ count = length-map fs (λ (f : FoundAt). f.network) ∙ h in
+    ap (λ (b : Bool). cond b (last_cost (networks_of fs)) None) (eq-eqb (length (networks_of fs)) count l)
+
+end_inj : (l k : Leaf) → leaf l ≡ leaf k → l ≡ k
+end_inj l k h = cc
+
+-- ---- a leaf as it is told
+
+module _ (partial : Bool) (p : Problem) (count : ℕ) (start : Node) (claimed : Option CostOver) (cells : List Cell) (fits : Fits (shape_of p) (leaves.LeafPasses true p claimed) start cells)
+    (fs : List FoundAt) (best : AreBest p count cells fs) (ms : List (Option Scaled)) (closes : Closes partial p (undercut_by count fs) cells ms) where
+  abbrev Holds : ℕ → Option ℕ → Leaf → Type 0
+  Holds i name l = ranks.LeafPasses partial p (networks_of fs) (undercut_by count fs) (place_of (cell_at cells i)) (named_leaf name (shut_leaf (proof_of ms i) l))
+
+  without_name : (i : ℕ) → i < length cells → (IsOfLeaf i fs → ⊥) → (l : Leaf) → (cell_at cells i).end ≡ leaf l → Holds i None l
+  without_name i lt none l e =
+      plain_passes partial p claimed (undercut_by count fs) (place_of (cell_at cells i)) l (proof_of ms i)
+      (subst (λ (d : End Leaf). EndFits (shape_of p) (leaves.LeafPasses true p claimed) cells (place_of (cell_at cells i)) (cell_at cells i).first d) e (fits.ends i lt))
+      (λ d ys q. elim (best.leaves i lt d ys (e ∙ ap (λ (k : Leaf). leaf k) q)) [
+        | inl o ↦ absurd (none o)
+        | inr h ↦ subst (λ (o : Option CostOver). IsBounded p o (place_of (cell_at cells i)) d ys) (sym (undercut_is count fs h.0)) h.1
+      ])
+      (λ q. closes i lt (e ∙ ap (λ (k : Leaf). leaf k) q))
+
+  with_name : (at : ℕ) (f : FoundAt) → slice_get fs at ≡ Some f → (l : Leaf) → (cell_at cells f.leaf).end ≡ leaf l → Holds f.leaf (Some (1 + at)) l
+  with_name at f there l e =
+      let h : IsFoundThere p cells f = best.there at f there in
+      let is : l ≡ bounded h.d h.ys = end_inj l (bounded h.d h.ys) (sym e ∙ h.end_is) in
+      subst (λ (k : Leaf). Holds f.leaf (Some (1 + at)) k) (sym is)
+      (subst (λ (k : Leaf). ranks.LeafPasses partial p (networks_of fs) (undercut_by count fs) (place_of (cell_at cells f.leaf)) (named_leaf (Some (1 + at)) k)) (sym (bounded_stays (proof_of ms f.leaf) h.d h.ys))
+      (subst (λ (o : Option Network). ranks.IsNamed p o (place_of (cell_at cells f.leaf)) h.d h.ys) (sym (numbered_there fs at f there))
+      (record { only = (h.found.none_free, h.found.units); bounded = h.bound })))
+
+  pub leaf_passes : (i : ℕ) → i < length cells → (l : Leaf) → (cell_at cells i).end ≡ leaf l
+      → ranks.LeafPasses partial p (networks_of fs) (undercut_by count fs) (place_of (cell_at cells i)) (leaf_told (names_of (length cells) fs) ms i l)
+  leaf_passes i lt l e = elim (name_is (length cells) fs i lt) [
+    | inl h ↦ subst (λ (n : Option ℕ). Holds i n l) (sym h.name_is)
+        (subst (λ (j : ℕ). (k : Leaf) → (cell_at cells j).end ≡ leaf k → Holds j (Some (1 + h.at)) k) h.of_leaf (with_name h.at h.one h.there) l e)
+    | inr h ↦ subst (λ (n : Option ℕ). Holds i n l) (sym h.1) (without_name i lt h.0 l e)
+  ]

@@ -1,0 +1,220 @@
+-- What is told of a search: the tree, with its networks and marks, is ranked, lean, and spent where the search is.
+use Rattle.std.specs.Prelude.{IfOk}
+use Rattle.std.proofs.Common.{◌≡◌, ℕ, suc, ◌+◌, ◌-◌, ◌^◌, ◌<◌, ◌≤◌, Bool, true, List, [], ◌∷◌, length, Option, Some, None, Result, Ok, Err, refl, sym, ap, ap₂, ◌∙◌, subst, arith}
+use Rattle.std.specs.List.{slice_get}
+use Rattle.std.proofs.lemmas.List.{length-map}
+use Rattle.number_sets.specs.Sets.{listed}
+use Rattle.problem_rules.specs.Each.{Each}
+use Rattle.problem_rules.specs.Problem.{Problem}
+use Rattle.problem_rules.specs.Validity.{IsValid}
+use Rattle.pns_rules.specs.Shape.{shape_of}
+use Rattle.pns_rules.specs.Nodes.{Node}
+use Rattle.pns_rules.proofs.ProperLemmas.{proper_if_valid}
+use Rattle.pgraph.specs.View.{node_of}
+use Rattle.tree_rules.specs.Ways.{options_at}
+use Rattle.tree_rules.specs.Tree.{End, branch, leaf, Pass, Stands}
+use Rattle.tree_rules.specs.Leaf as leaves
+use Rattle.tree_rules.specs.Leaf.{Leaf, dead, clash, refuted, bounded, untried, IsUntried}
+use Rattle.tree_rules.specs.Claim.{CostOver, claimed_cost, IsSized}
+use Rattle.tree_rules.specs.Lean.{IsLean}
+use Rattle.tree_rules.specs.Stops.{IsOpenAt, IsSpent}
+use Rattle.tree_rules.specs.Accepted.{Tree, first_node}
+use Rattle.rank_rules.specs.Leaf as ranks
+use Rattle.rank_rules.specs.Networks.{ArePassing}
+use Rattle.rank_rules.specs.Ranked as ranked
+use Rattle.branch_tree.specs.Scaled.{Scaled}
+use Rattle.branch_tree.specs.Known.{KnowsEnd, KnowsTree}
+use Rattle.ranked_tree.specs.Marked.{Mark, marked}
+use Rattle.ranked_tree.specs.Text.{AreNumbered}
+use Rattle.search_tree.specs.Cells.{Cell, place_of, cell_at, IsLinked}
+use Rattle.search_tree.specs.Growth.{as_shut}
+use Rattle.search_tree.specs.Preorder.{IsPreorder, node_at, tree_of, told_tree}
+use Rattle.search_tree.specs.Shut.{shut_leaf, shut_end, shut_cells}
+use Rattle.search_tree.proofs.PassLemmas.{passes, cells_stand, told_passes, aligned_start}
+use Rattle.search_tree.proofs.ShutLemmas.{proof_of, shut_at, shut_length, shut_linked}
+use Rattle.turn_laws.proofs.LeanLemmas.{kept_is_lean, kept_is_spent}
+use Rattle.node_evaluation.specs.Children.{claim_with}
+use Rattle.node_evaluation.specs.Looks.{KnowsCell}
+use Rattle.abb_search.specs.declared.growing.Growing.{Growing}
+use Rattle.abb_search.specs.Growing.{IsTreeKeptFor}
+use Rattle.abb_search.specs.Found.{IsBelowLimit}
+use Rattle.abb_search.proofs.KnownLemmas.{AreKnown, known_end, knows_tree, few_nodes}
+use Rattle.rank_search.specs.Found.{FoundAt, networks_of, undercut_by, AreBest}
+use Rattle.rank_search.specs.Naming.{Names, name_at, names_at, names_of, IsNamedTree}
+use Rattle.rank_search.specs.Told.{IsOpenLeaf, IsTelling, IsSpentTelling, IsSpentFor}
+use Rattle.rank_search.proofs.FewLemmas.{few_with_next}
+use Rattle.rank_search.proofs.NamedLeafLemmas.{ClosesAt, Closes, leaf_passes, still_open, told_open}
+use Rattle.rank_search.proofs.MarkLemmas.{named_leaf, marked_is, length-opened, opened_known, marks_numbered}
+use Rattle.rank_search.proofs.NameLemmas.{IsCountedName, counted_name}
+use Rattle.rank_search.proofs.NetworkLemmas.{each_there, knows_networks, networks_pass}
+use Rattle.rank_search.proofs.OrderLemmas.{leaf_told, shut_order, named_is_told, length-names_at, each_name}
+use Rattle.rank_search.proofs.ToldTreeLemmas.{one_node, told_is_lean, told_stands, told_is_spent}
+
+-- ---- numbers are known
+
+knows_shut : (p : Problem) (partial : Bool) (undercut : Option CostOver) (n : Node) (m : Option Scaled) (e : End Leaf) → KnowsEnd p e → (e ≡ leaf untried → ClosesAt partial p undercut n m) → KnowsEnd p (shut_end m e)
+knows_shut p partial undercut n None (branch w) k h = k
+knows_shut p partial undercut n None (leaf l) k h = k
+knows_shut p partial undercut n (Some m) (branch w) k h = k
+knows_shut p partial undercut n (Some m) (leaf (dead x)) k h = k
+knows_shut p partial undercut n (Some m) (leaf (clash x)) k h = k
+knows_shut p partial undercut n (Some m) (leaf (refuted ys)) k h = k
+knows_shut p partial undercut n (Some m) (leaf (bounded d ys)) k h = k
+knows_shut p partial undercut n (Some m) (leaf untried) k h = let c = h refl in (c.1, c.2)
+
+module _ (p : Problem) (partial : Bool) (undercut : Option CostOver) (cells : List Cell) (known : AreKnown p cells) (ms : List (Option Scaled)) (closes : Closes partial p undercut cells ms) where
+  known_shut : AreKnown p (shut_cells ms cells)
+  known_shut j lt =
+      let there : j < length cells = let e = shut_length ms cells in omega (arith, lt, e) in
+      subst (λ (d : Cell). KnowsCell p d) (sym (shut_at ms cells j there))
+      (known_end p (cell_at cells j) (as_shut (cell_at cells j) (shut_end (proof_of ms j) (cell_at cells j).end)) (known j there) refl refl
+      (knows_shut p partial undercut (place_of (cell_at cells j)) (proof_of ms j) (cell_at cells j).end (known j there).end (closes j there)))
+
+head_is : (cells : List Cell) (order : List ℕ) → IsPreorder cells (0 ∷ []) order → slice_get order 0 ≡ Some 0
+head_is cells [] h = absurd h
+head_is cells (k ∷ ks) h = ap (λ (i : ℕ). Some i) h.0
+
+module _ (p : Problem) (valid : IsValid p) (count : ℕ) (s : Growing) (fs : List FoundAt) (t : IsTreeKeptFor p (undercut_by count fs) s) (first : node_of s.start ≡ first_node) (best : AreBest p count s.pool.payloads fs)
+    (ms : List (Option Scaled)) (wanted place : ℕ) (tree : Tree) (marks : List Mark) (of : IsNamedTree s.pool.payloads fs ms wanted tree marks place) where
+  abbrev cells : List Cell
+  cells = s.pool.payloads
+
+  abbrev names : Names
+  names = names_of (length s.pool.payloads) fs
+
+  abbrev told : ℕ → Leaf → ranks.Leaf
+  told = leaf_told (names_of (length s.pool.payloads) fs) ms
+
+  linked : IsLinked s.pool.payloads
+  linked = t.kept.grown.linked
+
+  preorder : IsPreorder s.pool.payloads (0 ∷ []) of.order
+  preorder = shut_order names ms cells linked of.order of.is_preorder
+
+  marked_tree : marked marks tree ≡ told_tree told s.pool.payloads of.order
+  marked_tree =
+      let a : length (names_at names of.order) ≡ length of.order = length-names_at names of.order in
+      let b : length (tree_of (shut_cells ms cells) of.order) ≡ length of.order = length-map of.order (node_at (shut_cells ms cells)) in
+      ap₂ (λ (ks : List Mark) (us : Tree). marked ks us) of.marks_are of.tree_is
+      ∙ (marked_is (names_at names of.order) (tree_of (shut_cells ms cells) of.order) (a ∙ sym b) ∙ named_is_told names ms cells linked of.order preorder)
+
+  lean_plain : IsLean p IsUntried (undercut_by count fs) (node_of s.start) (tree_of s.pool.payloads of.order)
+  lean_plain = kept_is_lean p (node_of s.start) (claim_with s.best) (undercut_by count fs) t.last s.pool.payloads of.order t.kept preorder
+
+  still : (i : ℕ) (l : Leaf) → IsOpenLeaf (told i l) → l ≡ untried
+  still i l o = still_open (name_at names i) (proof_of ms i) l o
+
+  lean : IsLean p IsOpenLeaf (undercut_by count fs) first_node (marked marks tree)
+  lean = subst (λ (n : Node). IsLean p IsOpenLeaf (undercut_by count fs) n (marked marks tree)) first
+      (subst (λ (w : ranked.Tree). IsLean p IsOpenLeaf (undercut_by count fs) (node_of s.start) w) (sym marked_tree)
+      (told_is_lean p (leaves.LeafPasses true p (claimed_cost (claim_with s.best))) (node_of s.start) s.pool.payloads linked t.kept.grown.fits of.order preorder told IsOpenLeaf still (undercut_by count fs) lean_plain))
+
+  stands_plain : (k v : ℕ) → slice_get of.order k ≡ Some v → Stands (shape_of p) (node_of s.start ∷ []) (tree_of s.pool.payloads of.order) k (place_of (cell_at s.pool.payloads v)) (cell_at s.pool.payloads v).end
+  stands_plain k v h =
+      cells_stand (shape_of p) (leaves.LeafPasses true p (claimed_cost (claim_with s.best))) (node_of s.start) s.pool.payloads linked t.kept.grown.fits (node_of s.start ∷ []) (0 ∷ []) of.order
+      (aligned_start (shape_of p) (leaves.LeafPasses true p (claimed_cost (claim_with s.best))) (node_of s.start) s.pool.payloads linked t.kept.grown.fits) preorder k v h
+
+  passes_plain : Pass (shape_of p) (leaves.LeafPasses true p (claimed_cost (claim_with s.best))) (node_of s.start ∷ []) (tree_of s.pool.payloads of.order)
+  passes_plain =
+      passes (shape_of p) (leaves.LeafPasses true p (claimed_cost (claim_with s.best))) (node_of s.start) s.pool.payloads linked t.kept.grown.fits (node_of s.start ∷ []) (0 ∷ []) of.order
+      (aligned_start (shape_of p) (leaves.LeafPasses true p (claimed_cost (claim_with s.best))) (node_of s.start) s.pool.payloads linked t.kept.grown.fits) preorder
+
+  -- ---- it proves what is told
+  module _ (partial : Bool) (closes : Closes partial p (undercut_by count fs) s.pool.payloads ms) (sized : Each IsSized (networks_of fs)) (asked : 1 ≤ count) where
+    passes_told : Pass (shape_of p) (ranks.LeafPasses partial p (networks_of fs) (undercut_by count fs)) (node_of s.start ∷ []) (told_tree told s.pool.payloads of.order)
+    passes_told =
+        told_passes (shape_of p) (leaves.LeafPasses true p (claimed_cost (claim_with s.best))) (node_of s.start) s.pool.payloads linked t.kept.grown.fits told
+        (ranks.LeafPasses partial p (networks_of fs) (undercut_by count fs))
+        (leaf_passes partial p count (node_of s.start) (claimed_cost (claim_with s.best)) s.pool.payloads t.kept.grown.fits fs best ms closes)
+        (node_of s.start ∷ []) (0 ∷ []) of.order (aligned_start (shape_of p) (leaves.LeafPasses true p (claimed_cost (claim_with s.best))) (node_of s.start) s.pool.payloads linked t.kept.grown.fits) preorder
+
+    passes_marked : Pass (shape_of p) (ranks.LeafPasses partial p (networks_of fs) (undercut_by count fs)) (first_node ∷ []) (marked marks tree)
+    passes_marked = subst (λ (n : Node). Pass (shape_of p) (ranks.LeafPasses partial p (networks_of fs) (undercut_by count fs)) (n ∷ []) (marked marks tree)) first
+        (subst (λ (w : ranked.Tree). Pass (shape_of p) (ranks.LeafPasses partial p (networks_of fs) (undercut_by count fs)) (node_of s.start ∷ []) w) (sym marked_tree) passes_told)
+
+    passing : ArePassing p [] (networks_of fs)
+    passing =
+        networks_pass p s.pool.payloads valid (node_of s.start) (claim_with s.best) t.kept.grown t.passes t.kept.sound of.order preorder fs
+        (each_there p s.pool.payloads fs best.there) best.apart best.rising
+
+    known_cells : AreKnown p (shut_cells ms s.pool.payloads)
+    known_cells = known_shut p partial (undercut_by count fs) s.pool.payloads t.known ms closes
+
+    known_tree : KnowsTree p tree
+    known_tree = subst (λ (w : Tree). KnowsTree p w) (sym of.tree_is)
+        (opened_known p (names_at names of.order) (tree_of (shut_cells ms cells) of.order)
+        (knows_tree p (shut_cells ms cells) (shut_linked ms cells linked) known_cells of.order of.is_preorder))
+
+    few : length tree < 2 ^ 32 - 1
+    few =
+        let a : length tree ≡ length (tree_of (shut_cells ms cells) of.order) = ap (λ (w : Tree). length w) of.tree_is ∙ length-opened (names_at names of.order) (tree_of (shut_cells ms cells) of.order) in
+        let shut : length (shut_cells ms cells) < 2 ^ 32 - 1 = subst (λ n. n < 2 ^ 32 - 1) (sym (shut_length ms cells)) t.numbered in
+        subst (λ n. n < 2 ^ 32 - 1) (sym a) (few_nodes p (shut_cells ms cells) (shut_linked ms cells linked) known_cells of.order of.is_preorder shut)
+
+    pub is_telling : IsTelling partial p count (networks_of fs) tree marks
+    is_telling = record {
+      proves = record { listed = passing; passes = passes_marked };
+      lean = lean;
+      counted = record {
+        asked = asked;
+        within = let e : length (networks_of fs) ≡ length fs = length-map fs (λ (f : FoundAt). f.network) in let b = best.few in omega (arith, e, b);
+        numbered = subst (λ (ks : List Mark). AreNumbered ks) (sym of.marks_are)
+            (marks_numbered (names_at names of.order) (tree_of (shut_cells ms cells) of.order) (each_name IsCountedName names (counted_name (length s.pool.payloads) fs) of.order));
+      };
+      of_networks = knows_networks p s.pool.payloads fs (each_there p s.pool.payloads fs best.there) sized;
+      of_tree = known_tree;
+      few = few;
+    }
+
+  -- ---- an open leaf that no multipliers shut
+  module _ (there : wanted < length s.pool.payloads) (unshut : proof_of ms wanted ≡ None) where
+    stands_told : (cell_at s.pool.payloads wanted).end ≡ leaf untried → IsOpenAt p IsOpenLeaf (node_of s.start) (told_tree told s.pool.payloads of.order) place (place_of (cell_at s.pool.payloads wanted))
+    stands_told is =
+        told_stands p (leaves.LeafPasses true p (claimed_cost (claim_with s.best))) (node_of s.start) s.pool.payloads linked t.kept.grown.fits of.order preorder told IsOpenLeaf still
+        wanted place there of.stands is
+        (subst (λ (m : Option Scaled). IsOpenLeaf (named_leaf (name_at names wanted) (shut_leaf m untried))) (sym unshut) (told_open (name_at names wanted)))
+
+    pub stands_open : (cell_at s.pool.payloads wanted).end ≡ leaf untried → IsOpenAt p IsOpenLeaf first_node (marked marks tree) place (place_of (cell_at s.pool.payloads wanted))
+    stands_open is = subst (λ (n : Node). IsOpenAt p IsOpenLeaf n (marked marks tree) place (place_of (cell_at s.pool.payloads wanted))) first
+        (subst (λ (w : ranked.Tree). IsOpenAt p IsOpenLeaf (node_of s.start) w place (place_of (cell_at s.pool.payloads wanted))) (sym marked_tree) (stands_told is))
+
+    module _ (options : ℕ) (h : IsSpentFor p (undercut_by count fs) s wanted options) where
+      spent_plain : IsSpent p IsUntried (undercut_by count fs) (node_of s.start) (tree_of s.pool.payloads of.order) place options s.budget
+      spent_plain =
+          kept_is_spent p (node_of s.start) (claim_with s.best) (undercut_by count fs) t.last s.pool.payloads of.order t.kept preorder wanted place options s.budget h.way h.value of.stands h.can h.least h.below h.pending h.count_is h.over
+
+      -- the leaf's node, whichever it is called
+      same_leaf : (n : Node) → IsOpenAt p IsUntried (node_of s.start) (tree_of s.pool.payloads of.order) place n
+          → IsOpenAt p IsOpenLeaf (node_of s.start) (told_tree told s.pool.payloads of.order) place n
+      same_leaf n o =
+          subst (λ (m : Node). IsOpenAt p IsOpenLeaf (node_of s.start) (told_tree told s.pool.payloads of.order) place m)
+          (one_node (shape_of p) (node_of s.start ∷ []) (tree_of s.pool.payloads of.order) place (place_of (cell_at s.pool.payloads wanted)) n (cell_at s.pool.payloads wanted).end (leaf o.what) (stands_plain place wanted of.stands) o.stands)
+          (stands_told h.can.is_open)
+
+      spent : IsSpent p IsOpenLeaf (undercut_by count fs) first_node (marked marks tree) place options s.budget
+      spent = subst (λ (n : Node). IsSpent p IsOpenLeaf (undercut_by count fs) n (marked marks tree) place options s.budget) first
+          (subst (λ (w : ranked.Tree). IsSpent p IsOpenLeaf (undercut_by count fs) (node_of s.start) w place options s.budget) (sym marked_tree)
+          (told_is_spent p (leaves.LeafPasses true p (claimed_cost (claim_with s.best))) (node_of s.start) s.pool.payloads linked t.kept.grown.fits of.order preorder told IsOpenLeaf still
+          (undercut_by count fs) place options s.budget spent_plain same_leaf))
+
+      below_limit : IsBelowLimit p s.budget
+      below_limit = λ all union.
+          let leaf_there : Stands (shape_of p) (node_of s.start ∷ []) (tree_of s.pool.payloads of.order) place (place_of (cell_at s.pool.payloads wanted)) (leaf untried)
+          = subst (λ (e : End Leaf). Stands (shape_of p) (node_of s.start ∷ []) (tree_of s.pool.payloads of.order) place (place_of (cell_at s.pool.payloads wanted)) e) h.can.is_open (stands_plain place wanted of.stands) in
+          let most = few_with_next (shape_of p) (proper_if_valid p valid) all union (leaves.LeafPasses true p (claimed_cost (claim_with s.best))) (node_of s.start) (tree_of s.pool.payloads of.order) passes_plain
+          lean_plain.reduced lean_plain.splits (place_of (cell_at s.pool.payloads 0)) (cell_at s.pool.payloads 0).end (stands_plain 0 0 (head_is s.pool.payloads of.order preorder)) (t.kept.sound 0 linked.some)
+          place (place_of (cell_at s.pool.payloads wanted)) untried leaf_there h.can.reduced h.way h.can.may h.can.splits in
+          under_limit s.budget (length (tree_of s.pool.payloads of.order)) options (length (options_at (shape_of p) (place_of (cell_at s.pool.payloads wanted)) h.way)) (2 ^ suc (length (listed (shape_of p).units all)))
+          spent_plain.exceeds h.as_many most
+        where
+          under_limit : (b n c k m : ℕ) → b < n + c → c ≡ k → n + k < m → b < m
+          under_limit b n c k m h e l = omega (arith, h, e, l)
+
+      pub spent_telling : IsSpentTelling p count (networks_of fs) tree marks place options s.budget
+      spent_telling = record { spent = spent; below_limit = below_limit }
+
+-- ---- three facts of what is answered
+
+pub with_three : {T E : Type 0} {A B C G : T → Type 0} (r : Result T E) → ((t : T) → A t → B t → C t → G t) → IfOk r A → IfOk r B → IfOk r C → IfOk r G
+with_three (Ok t) f a b c = f t a b c
+with_three (Err e) f a b c = tt

@@ -1,0 +1,124 @@
+-- What stands in a tree whose leaves are told in another way stands in the tree of the cells, at some place.
+use Rattle.std.proofs.Common.{◌≡◌, ℕ, zero, suc, ◌<◌, List, [], ◌∷◌, ◌++◌, length, Option, Some, refl, sym, ap, ◌∙◌, subst, arith}
+use Rattle.std.specs.List.{slice_get}
+use Rattle.std.proofs.lemmas.List.{length-map}
+use Rattle.problem_rules.specs.Problem.{Problem}
+use Rattle.pns_rules.specs.Shape.{Shape, shape_of}
+use Rattle.pns_rules.specs.Nodes.{Node}
+use Rattle.tree_rules.specs.Ways.{Way}
+use Rattle.tree_rules.specs.Tree.{End, branch, leaf, TreeNode, after_all, below, Stands}
+use Rattle.tree_rules.specs.Leaf.{Leaf, untried, IsUntried}
+use Rattle.tree_rules.specs.Claim.{CostOver}
+use Rattle.tree_rules.specs.Lean.{IsLean}
+use Rattle.tree_rules.specs.Stops.{IsOpenAt, IsSpent}
+use Rattle.search_tree.specs.Cells.{Cell, place_of, cell_at, IsLinked}
+use Rattle.search_tree.specs.Fits.{Fits}
+use Rattle.search_tree.specs.Preorder.{IsPreorder, node_at, tree_of, told_end, told_at, told_tree}
+use Rattle.search_tree.proofs.PassLemmas.{nodes_are_told, told_cells_stand, cells_stand, aligned_start}
+use Rattle.rank_search.proofs.OrderLemmas.{stands_in}
+
+-- at one place stands one node
+pub one_node : {L : Type 0} (g : Shape) (ns : List Node) (ts : List (TreeNode L)) (k : ℕ) (n m : Node) (e d : End L) → Stands g ns ts k n e → Stands g ns ts k m d → n ≡ m
+one_node g [] ts k n m e d h i = absurd h
+one_node g (o ∷ os) [] k n m e d h i = absurd h
+one_node g (o ∷ os) (t ∷ ts) zero n m e d h i = sym h.0 ∙ i.0
+one_node g (o ∷ os) (t ∷ ts) (suc k) n m e d h i = one_node g (below g (after_all g o t.steps) t.end ++ os) ts k n m e d h i
+
+module _ {L : Type 0} (f : Leaf → L) where
+  told_branch : (e : End Leaf) (w : Way) → told_end f e ≡ branch w → e ≡ branch w
+  told_branch (branch v) w h = let q : v ≡ w = cc in ap (λ (u : Way). branch u) q
+  told_branch (leaf l) w h = cc
+
+  record IsToldAs (e : End Leaf) (l : L) : Type 0 where
+    pub was : Leaf
+    pub end_is : e ≡ leaf was
+    pub told : f was ≡ l
+
+  told_leaf : (e : End Leaf) (l : L) → told_end f e ≡ leaf l → IsToldAs e l
+  told_leaf (branch v) l h = cc
+  told_leaf (leaf k) l h = record { was = k; end_is = refl; told = cc }
+
+module _ (p : Problem) (P : Node → Leaf → Type 0) (start : Node) (cells : List Cell) (linked : IsLinked cells) (fits : Fits (shape_of p) P start cells) (order : List ℕ) (preorder : IsPreorder cells (0 ∷ []) order) {L : Type 0} (f : ℕ → Leaf → L) where
+  record StandsPlain (n : Node) (e : End L) : Type 0 where
+    pub place : ℕ
+    pub number : ℕ
+    pub there : number < length cells
+    pub stands : Stands (shape_of p) (start ∷ []) (tree_of cells order) place n (cell_at cells number).end
+    pub told : told_end (f number) (cell_at cells number).end ≡ e
+
+  plain : (k : ℕ) (n : Node) (e : End L) → Stands (shape_of p) (start ∷ []) (told_tree f cells order) k n e → StandsPlain n e
+  plain k n e s =
+      let c = nodes_are_told (shape_of p) P start cells linked fits f (start ∷ []) (0 ∷ []) order (aligned_start (shape_of p) P start cells linked fits) preorder k n e s in
+      let w = stands_in cells order linked preorder c.number c.there in
+      record {
+        place = w.place;
+        number = c.number;
+        there = c.there;
+        stands = subst (λ (m : Node). Stands (shape_of p) (start ∷ []) (tree_of cells order) w.place m (cell_at cells c.number).end) c.node_is
+            (cells_stand (shape_of p) P start cells linked fits (start ∷ []) (0 ∷ []) order (aligned_start (shape_of p) P start cells linked fits) preorder w.place c.number w.is);
+        told = c.end_is;
+      }
+
+  -- a branch is a branch there
+  record IsBranchThere (n : Node) (w : Way) : Type 0 where
+    pub place : ℕ
+    pub stands : Stands (shape_of p) (start ∷ []) (tree_of cells order) place n (branch w)
+
+  branch_there : (k : ℕ) (n : Node) (w : Way) → Stands (shape_of p) (start ∷ []) (told_tree f cells order) k n (branch w) → IsBranchThere n w
+  branch_there k n w s =
+      let c = plain k n (branch w) s in
+      record { place = c.place; stands = subst (λ (e : End Leaf). Stands (shape_of p) (start ∷ []) (tree_of cells order) c.place n e) (told_branch (f c.number) (cell_at cells c.number).end w c.told) c.stands }
+
+  -- ---- where only open leaves are told as open
+  module _ (IsOpen : L → Type 0) (still : (i : ℕ) (l : Leaf) → IsOpen (f i l) → l ≡ untried) where
+    record IsOpenThere (n : Node) : Type 0 where
+      pub place : ℕ
+      pub stands : Stands (shape_of p) (start ∷ []) (tree_of cells order) place n (leaf untried)
+
+    open_there : (k : ℕ) (n : Node) (l : L) → Stands (shape_of p) (start ∷ []) (told_tree f cells order) k n (leaf l) → IsOpen l → IsOpenThere n
+    open_there k n l s o =
+        let c = plain k n (leaf l) s in
+        let t = told_leaf (f c.number) (cell_at cells c.number).end l c.told in
+        let was : t.was ≡ untried = still c.number t.was (subst IsOpen (sym t.told) o) in
+        record {
+          place = c.place;
+          stands = subst (λ (e : End Leaf). Stands (shape_of p) (start ∷ []) (tree_of cells order) c.place n e) (t.end_is ∙ ap (λ (w : Leaf). leaf w) was) c.stands;
+        }
+
+    pub told_is_lean : (undercut : Option CostOver) → IsLean p IsUntried undercut start (tree_of cells order) → IsLean p IsOpen undercut start (told_tree f cells order)
+    told_is_lean undercut lean = record {
+      reduced = λ k w n s. let b = branch_there k n w s in lean.reduced b.place w n b.stands;
+      splits = λ k w n s. let b = branch_there k n w s in lean.splits b.place w n b.stands;
+      of_use = λ k w n s. let b = branch_there k n w s in lean.of_use b.place w n b.stands;
+      in_turn = λ k w n s j m l t o no_dead.
+          let b = branch_there k n w s in
+          let q = open_there j m l t o in
+          lean.in_turn b.place w n b.stands q.place m untried q.stands refl no_dead;
+    }
+
+    -- an open leaf that is told as open stands at its place
+    module _ (at place : ℕ) (there : at < length cells) (stands : slice_get order place ≡ Some at) where
+      pub told_stands : (cell_at cells at).end ≡ leaf untried → IsOpen (f at untried) → IsOpenAt p IsOpen start (told_tree f cells order) place (place_of (cell_at cells at))
+      told_stands is o = record {
+        what = f at untried;
+        stands = subst (λ (e : End Leaf). Stands (shape_of p) (start ∷ []) (told_tree f cells order) place (place_of (cell_at cells at)) (told_end (f at) e)) is
+            (told_cells_stand (shape_of p) P start cells linked fits f (start ∷ []) (0 ∷ []) order (aligned_start (shape_of p) P start cells linked fits) preorder place at stands);
+        is_open = o;
+      }
+
+    pub told_is_spent : (undercut : Option CostOver) (place count budget : ℕ) → IsSpent p IsUntried undercut start (tree_of cells order) place count budget
+        → ((n : Node) → IsOpenAt p IsUntried start (tree_of cells order) place n → IsOpenAt p IsOpen start (told_tree f cells order) place n)
+        → IsSpent p IsOpen undercut start (told_tree f cells order) place count budget
+    told_is_spent undercut place count budget h there = record {
+      pending = λ k n o. let q = open_there k n o.what o.stands o.is_open in h.pending q.place n (record { what = untried; stands = q.stands; is_open = refl });
+      node = h.node;
+      at_leaf = there h.node h.at_leaf;
+      of_use = h.of_use;
+      least = λ k n o. let q = open_there k n o.what o.stands o.is_open in h.least q.place n (record { what = untried; stands = q.stands; is_open = refl });
+      count_is = h.count_is;
+      exceeds =
+          let a : length (tree_of cells order) ≡ length order = length-map order (node_at cells) in
+          let b : length (told_tree f cells order) ≡ length order = length-map order (told_at f cells) in
+          let e = h.exceeds in
+          omega (arith, a, b, e);
+    }

@@ -1,0 +1,95 @@
+-- How a search's tree is told as a ranked one: a bounded leaf at which one of the networks was found names that network, and stands in
+-- the ordinary tree as an open leaf with a mark.
+use Rattle.std.specs.Prelude.{◌≡◌, ℕ, suc, ◌<◌, List, [], ◌∷◌, ◌++◌, map, length, slice_set, replicate, get_or, Option, Some, None}
+use Rattle.std.specs.List.{slice_get}
+use Rattle.tree_rules.specs.Tree.{End, branch, leaf, TreeNode}
+use Rattle.tree_rules.specs.Leaf.{Leaf, dead, clash, refuted, bounded, untried}
+use Rattle.tree_rules.specs.Accepted.{Tree}
+use Rattle.ranked_tree.specs.Marked.{Mark}
+use Rattle.ranked_tree.specs.declared.mark.Mark as marks
+use Rattle.ranked_tree.specs.View.{mark_of}
+use Rattle.branch_tree.specs.Scaled.{Scaled}
+use Rattle.search_tree.specs.Cells.{Cell}
+use Rattle.search_tree.specs.Preorder.{IsPreorder, tree_of}
+use Rattle.search_tree.specs.Shut.{shut_cells}
+use Rattle.rank_search.specs.Found.{FoundAt}
+
+-- ---- names
+
+-- for each leaf by its number the network that was found there, by its number, counted from 1
+abbrev pub Names : Type 0
+Names = List (Option ℕ)
+
+-- the networks were found at leaves below this number
+abbrev pub AreWithin : ℕ → List FoundAt → Type 0
+AreWithin n [] = Unit {0}
+AreWithin n (f ∷ fs) = (f.leaf < n) × AreWithin n fs
+
+-- the networks of the list are numbered from k on
+abbrev pub names_with : Names → ℕ → List FoundAt → Names
+names_with names k [] = names
+names_with names k (f ∷ fs) = names_with (slice_set names f.leaf (Some k)) (suc k) fs
+
+abbrev pub names_of : ℕ → List FoundAt → Names
+names_of n fs = names_with (replicate n None) 1 fs
+
+abbrev pub name_at : Names → ℕ → Option ℕ
+name_at names i = get_or names i None
+
+-- the names of the cells of these numbers
+abbrev pub names_at : Names → List ℕ → Names
+names_at names order = map (name_at names) order
+
+-- ---- ends with a name
+
+-- a bounded leaf that has a name stands open
+abbrev pub opened_end : Option ℕ → End Leaf → End Leaf
+opened_end None e = e
+opened_end (Some k) (branch w) = branch w
+opened_end (Some k) (leaf (dead x)) = leaf (dead x)
+opened_end (Some k) (leaf (clash x)) = leaf (clash x)
+opened_end (Some k) (leaf (refuted ys)) = leaf (refuted ys)
+opened_end (Some k) (leaf (bounded d ys)) = leaf untried
+opened_end (Some k) (leaf untried) = leaf untried
+
+-- and has a mark that tells its network and its multipliers. An open leaf is marked as open, and no other end has a mark.
+abbrev pub marks_at : Option ℕ → End Leaf → List Mark
+marks_at name (branch w) = []
+marks_at name (leaf (dead x)) = []
+marks_at name (leaf (clash x)) = []
+marks_at name (leaf (refuted ys)) = []
+marks_at None (leaf (bounded d ys)) = []
+marks_at (Some k) (leaf (bounded d ys)) = Some (record { network = k; d = d; ys = ys }) ∷ []
+marks_at name (leaf untried) = None ∷ []
+
+abbrev pub opened_node : Option ℕ → TreeNode Leaf → TreeNode Leaf
+opened_node name t = record { option = t.option; steps = t.steps; end = opened_end name t.end }
+
+-- ---- trees with names
+
+-- the tree, whose nodes have these names in order
+abbrev pub opened : Names → Tree → Tree
+opened [] ts = ts
+opened (n ∷ ns) [] = []
+opened (n ∷ ns) (t ∷ ts) = opened_node n t ∷ opened ns ts
+
+abbrev pub marks_in : Names → Tree → List Mark
+marks_in [] ts = []
+marks_in (n ∷ ns) [] = []
+marks_in (n ∷ ns) (t ∷ ts) = marks_at n t.end ++ marks_in ns ts
+
+-- the mark of the code that an end may have
+abbrev pub marks_of : Option marks.Mark → List Mark
+marks_of None = []
+marks_of (Some m) = mark_of m ∷ []
+
+-- ---- what a walk over the cells finds
+
+-- the nodes are those of all cells in preorder, whose open leaves are shut by the multipliers, and their named leaves stand open with
+-- these marks; the cell `wanted` is the node `place` there
+pub record IsNamedTree (cells : List Cell) (fs : List FoundAt) (proofs : List (Option Scaled)) (wanted : ℕ) (tree : Tree) (marks : List Mark) (place : ℕ) : Type 0 where
+  pub order : List ℕ
+  pub is_preorder : IsPreorder (shut_cells proofs cells) (0 ∷ []) order
+  pub stands : slice_get order place ≡ Some wanted
+  pub tree_is : tree ≡ opened (names_at (names_of (length cells) fs) order) (tree_of (shut_cells proofs cells) order)
+  pub marks_are : marks ≡ marks_in (names_at (names_of (length cells) fs) order) (tree_of (shut_cells proofs cells) order)

@@ -1,0 +1,146 @@
+//! The networks that were found, best first.
+ghost use Rattle.std.specs.Prelude.{◌≡◌, ◌≤◌, ◌+◌, ◌<◌, ◌^◌, [], length, take, drop, OnOk, OnErr, option_copied};
+ghost use Rattle.node_evaluation.specs.Looks.{cost_of};
+ghost use Rattle.rank_search.specs.Found.{undercut_by};
+ghost use Rattle.rank_search.specs.Listed.{IsListed, IsAdded, IsSomeAdded, AreAdded, AreNoDearer, AreDearer};
+
+use branch_tree::Network;
+use node_evaluation::costs_no_more;
+use std::alloc::{AllocError, Global};
+use std::marker::Model;
+
+/// A network, and the number of the leaf at which it was found.
+#[derive(Drop)]
+pub struct FoundAt {
+    pub network: Network,
+    pub leaf: u32,
+}
+
+impl Model for FoundAt {
+    ghost use Rattle.rank_search.specs.Found as specs;
+
+    ghost Value = { specs.FoundAt };
+
+    ghost view = { λ f. record { network = f.network; leaf = f.leaf } };
+}
+
+/// The best of the networks that were found, best first, of those that cost the same the earlier one first, and at most as many as are
+/// asked for.
+#[derive(Drop)]
+pub struct FoundNetworks {
+    count: u32,
+    found: Vec<FoundAt>,
+}
+
+impl Model for FoundNetworks {
+    ghost use Rattle.rank_search.specs.Listed.{Listed, IsListed};
+
+    ghost Value = { Listed };
+
+    ghost view = { λ l. record { count = l.count; found = l.found.items } };
+
+    ghost invariant = { λ l. IsListed (record { count = l.count; found = l.found.items }) };
+}
+
+impl FoundNetworks {
+    /// None yet, where so many are asked for, at least one.
+    pub fn new(alloc: Global, count: u32) -> FoundNetworks
+        requires { 1 ≤ count }
+        ensures { result ≡ record { count = count; found = [] } }
+    {
+        FoundNetworks {
+            count,
+            found: Vec::new(alloc),
+        }
+    }
+
+    /// How many are asked for.
+    pub fn count(&self) -> u32
+        ensures { result ≡ self.now.count }
+    {
+        self.count
+    }
+
+    /// Those that stand, best first.
+    pub fn found(&self) -> &[FoundAt]
+        ensures { result.now ≡ self.now.found }
+    {
+        &self.found
+    }
+
+    /// Those that stand, best first.
+    pub fn into_found(self) -> Vec<FoundAt>
+        ensures { result.items ≡ self.found }
+    {
+        self.found
+    }
+
+    /// The network that is to be undercut: the last one, where as many stand as are asked for.
+    pub fn to_beat(&self) -> Option<&Network>
+        ensures { cost_of (option_copied result) ≡ undercut_by self.now.count self.now.found }
+    {
+        if self.found.len() < self.count as usize {
+            return None;
+        }
+        let last = self.found.last()?;
+        Some(&last.network)
+    }
+
+    /// At least one is asked for, no more stand, and they rise in cost. A call tells a proof so, and does nothing.
+    pub fn is_listed(&self)
+        ensures { IsListed self.now }
+    {
+        let _count = self.count;
+    }
+
+    /// The place of a network behind all that cost no more.
+    fn place_for(&self, network: &Network) -> usize
+        ensures within { result ≤ length self.now.found }
+        ensures low { AreNoDearer (take result self.now.found) network.now }
+        ensures high { AreDearer (drop result self.now.found) network.now }
+    {
+        network.is_sized();
+        self.found
+            .partition_point(|other| costs_no_more(&other.network, network))
+    }
+
+    /// Adds a network that was found at a leaf, behind those that cost no more. Where more than are asked for would stand, the last one
+    /// falls out. After `Err`, which comes for want of memory alone, all is as before.
+    pub fn add(&mut self, network: Network, leaf: u32) -> Result<(), AllocError>
+        ensures added { OnOk result (IsAdded self.old self.new (record { network = network; leaf = leaf })) }
+        ensures same { OnErr result (self.new ≡ self.old) }
+    {
+        network.is_sized();
+        let at = self.place_for(&network);
+        let count = self.count as usize;
+        if at >= count {
+            return Ok(());
+        }
+        self.found.insert(at, FoundAt { network, leaf })?;
+        self.found.truncate(count);
+        Ok(())
+    }
+
+    /// Adds a network that was found at a leaf, where there is one.
+    fn add_some(&mut self, network: Option<Network>, leaf: u32) -> Result<(), AllocError>
+        ensures { OnOk result (IsSomeAdded self.old self.new leaf network) }
+    {
+        match network {
+            None => Ok(()),
+            Some(network) => self.add(network, leaf),
+        }
+    }
+
+    /// Adds in turn the networks that were found at the leaves of the numbers from `first` on. `Err` comes for want of memory alone.
+    pub fn add_all(&mut self, networks: Vec<Option<Network>>, first: u32) -> Result<(), AllocError>
+        requires { first + length networks.items < 2 ^ 32 }
+        ensures { OnOk result (AreAdded self.old self.new first networks.items) }
+    {
+        let mut leaf = first;
+        'networks: for network in networks {
+            self.add_some(network, leaf)?;
+            leaf += 1;
+        }
+        Ok(())
+    }
+}

@@ -1,0 +1,121 @@
+//! Leaves that name networks.
+ghost use Rattle.std.specs.Prelude.{◌≡◌, ◌<◌, ◌^◌, ◌++◌, ◌∷◌, [], map, length, IfOk, OnOk};
+ghost use Rattle.problem_rules.specs.Each.{Each};
+ghost use Rattle.tree_rules.specs.Claim.{IsSized};
+ghost use Rattle.tree_rules.specs.Tree.{IsTree};
+ghost use Rattle.ranked_tree.specs.View.{mark_of};
+ghost use Rattle.search_tree.specs.Cells.{IsLinked, cell_at};
+ghost use Rattle.rank_search.specs.Found.{networks_of};
+ghost use Rattle.rank_search.specs.Naming.{AreWithin, IsNamedTree, names_of, name_at, names_at, opened, opened_node, marks_in, marks_at, marks_of};
+
+use crate::found::FoundAt;
+use branch_tree::{End, Scaled, Tree, TreeNode};
+use node_pool::Pool;
+use ranked_tree::Mark;
+use search_tree::{Cell, nodes_in_preorder};
+use std::alloc::{AllocError, Global};
+use std::mem;
+
+/// A tree with the marks of its open leaves in preorder, and the place of one of its nodes.
+#[derive(Drop)]
+pub(crate) struct NamedTree {
+    pub tree: Tree,
+    pub marks: Vec<Mark>,
+    pub place: u32,
+}
+
+/// For each of so many nodes the network that was found there, by its number, counted from 1. The networks are sized.
+fn names_of(alloc: Global, found: &[FoundAt], nodes: usize) -> Result<Vec<Option<u32>>, AllocError>
+    requires within { AreWithin nodes found.now }
+    requires few { length found.now < 2 ^ 32 }
+    ensures names { IfOk result (λ names. names.items ≡ names_of nodes found.now) }
+    ensures sized { IfOk result (λ names. Each IsSized (networks_of found.now)) }
+{
+    let mut names = vec![in alloc; None; nodes]?;
+    let mut number = 0;
+    'naming: for one in found {
+        one.network.is_sized();
+        number += 1;
+        names[one.leaf as usize] = Some(number);
+    }
+    Ok(names)
+}
+
+fn name_at(names: &[Option<u32>], number: u32) -> Option<u32>
+    ensures { result ≡ name_at names.now number }
+{
+    match names.get(number as usize) {
+        Some(name) => *name,
+        None => None,
+    }
+}
+
+/// The mark of a node whose leaf has this name. A bounded leaf that has one stands open then.
+fn take_mark(node: &mut TreeNode, name: Option<u32>) -> Option<Mark>
+    ensures node { node.new ≡ opened_node name node.old }
+    ensures mark { marks_of result ≡ marks_at name node.old.end }
+{
+    if let End::Open = node.end {
+        return Some(Mark::Open);
+    }
+    let network = name?;
+    match mem::replace(&mut node.end, End::Open) {
+        End::Bound(scaled) => Some(Mark::Named { network, scaled }),
+        other => {
+            node.end = other;
+            None
+        }
+    }
+}
+
+/// The marks of all nodes in order, where `order` has the numbers of their leaves. Those that have a name stand open then.
+fn take_marks(
+    alloc: Global,
+    nodes: &mut [TreeNode],
+    order: &[u32],
+    names: &[Option<u32>],
+) -> Result<Vec<Mark>, AllocError>
+    requires as_many { length nodes.old ≡ length order.now }
+    ensures nodes { IfOk result (λ marks. nodes.new ≡ opened (names_at names.now order.now) nodes.old) }
+    ensures marks { IfOk result (λ marks. map mark_of marks.items ≡ marks_in (names_at names.now order.now) nodes.old) }
+{
+    let mut marks = Vec::new(alloc);
+    'naming: for (at, number) in order.iter().enumerate() {
+        let name = name_at(names, *number);
+        if let Some(mark) = take_mark(&mut nodes[at], name) {
+            marks.push(mark)?;
+        }
+    }
+    Ok(marks)
+}
+
+/// The tree of the nodes, with the leaves at which networks were found named by these, and where a node stands in it. An open leaf at
+/// whose number multipliers stand is shut there by these.
+pub(crate) fn named_tree(
+    alloc: Global,
+    pool: &Pool<Cell>,
+    found: &[FoundAt],
+    proofs: &[Option<Scaled>],
+    leaf: u32,
+    nodes: u32,
+) -> Result<NamedTree, AllocError>
+    requires linked { IsLinked pool.now.payloads }
+    requires root { (cell_at pool.now.payloads 0).option ≡ [] }
+    requires leaf { leaf < length pool.now.payloads }
+    requires counted { nodes ≡ length pool.now.payloads }
+    requires within { AreWithin nodes found.now }
+    requires few { length found.now < 2 ^ 32 }
+    ensures tree { IfOk result (λ t. IsNamedTree pool.now.payloads found.now proofs.now leaf t.tree (map mark_of t.marks.items) t.place) }
+    ensures sized { IfOk result (λ t. Each IsSized (networks_of found.now)) }
+{
+    search_tree::preorder_is_tree();
+    let names = names_of(alloc, found, nodes as usize)?;
+    let preorder = nodes_in_preorder(alloc, pool, proofs, leaf)?;
+    let mut told = preorder.nodes;
+    let marks = take_marks(alloc, &mut told, &preorder.order, &names)?;
+    Ok(NamedTree {
+        tree: Tree::from_nodes(told),
+        marks,
+        place: preorder.place,
+    })
+}

@@ -1,0 +1,131 @@
+//! What is told.
+ghost use Rattle.std.specs.Prelude.{◌≡◌, ◌<◌, ◌≤◌, ◌^◌, ℕ, true, false, [], map, length, IfOk};
+ghost use Rattle.problem_rules.specs.Each.{Each};
+ghost use Rattle.tree_rules.specs.Claim.{IsSized};
+ghost use Rattle.tree_rules.specs.Tree as trees;
+ghost use Rattle.tree_rules.specs.Leaf.{untried};
+ghost use Rattle.tree_rules.specs.Accepted.{first_node};
+ghost use Rattle.tree_rules.specs.Stops.{IsOpenAt};
+ghost use Rattle.pgraph.specs.View.{node_of};
+ghost use Rattle.ranked_tree.specs.Marked.{marked};
+ghost use Rattle.ranked_tree.specs.View.{mark_of};
+ghost use Rattle.search_tree.specs.Cells.{place_of, cell_at, IsLinked};
+ghost use Rattle.abb_search.specs.Growing.{IsTreeKeptFor};
+ghost use Rattle.rank_search.specs.Found.{AreBest, networks_of, undercut_by};
+ghost use Rattle.rank_search.specs.Naming.{AreWithin, IsNamedTree};
+ghost use Rattle.rank_search.specs.Told.{IsOpenLeaf, IsTelling, IsSpentTelling, IsSpentFor, AreShutAgainst};
+
+use crate::found::FoundNetworks;
+use crate::naming::named_tree;
+use abb_search::Growing;
+use branch_tree::{Network, Scaled, Tree};
+use pns_problem::Problem;
+use ranked_tree::Mark;
+use std::alloc::{AllocError, Global};
+
+/// The networks, best first, the tree with the marks of its open leaves in preorder, and the place of one of its nodes.
+#[derive(Drop)]
+pub struct Told {
+    pub networks: Vec<Network>,
+    pub tree: Tree,
+    pub marks: Vec<Mark>,
+    pub place: u32,
+}
+
+/// The networks without the leaves at which they were found.
+fn into_networks(alloc: Global, found: FoundNetworks) -> Result<Vec<Network>, AllocError>
+    ensures { IfOk result (λ ws. ws.items ≡ networks_of found.found) }
+{
+    found
+        .into_found()
+        .into_iter()
+        .map(|one| one.network)
+        .collect(alloc)
+}
+
+/// At least one network is asked for, and those that stand have numbers. A call tells a proof so, and does nothing.
+fn are_numbered(found: &FoundNetworks)
+    ensures asked { 1 ≤ found.now.count }
+    ensures few { length found.now.found < 2 ^ 32 }
+{
+    found.is_listed();
+    let _count = found.count();
+}
+
+/// The networks with the tree in which the leaves name them, and where a leaf stands in it.
+fn tell(
+    alloc: Global,
+    growing: &Growing,
+    found: FoundNetworks,
+    proofs: &[Option<Scaled>],
+    leaf: u32,
+) -> Result<Told, AllocError>
+    requires linked { IsLinked growing.now.pool.payloads }
+    requires root { (cell_at growing.now.pool.payloads 0).option ≡ [] }
+    requires leaf { leaf < length growing.now.pool.payloads }
+    requires counted { growing.now.nodes ≡ length growing.now.pool.payloads }
+    requires within { AreWithin growing.now.nodes found.found }
+    ensures asked { 1 ≤ found.count }
+    ensures networks { IfOk result (λ t. t.networks.items ≡ networks_of found.found) }
+    ensures tree { IfOk result (λ t. IsNamedTree growing.now.pool.payloads found.found proofs.now leaf t.tree (map mark_of t.marks.items) t.place) }
+    ensures sized { IfOk result (λ t. Each IsSized (networks_of found.found)) }
+{
+    are_numbered(&found);
+    let named = named_tree(
+        alloc,
+        &growing.pool,
+        found.found(),
+        proofs,
+        leaf,
+        growing.nodes,
+    )?;
+    let networks = into_networks(alloc, found)?;
+    Ok(Told {
+        networks,
+        tree: named.tree,
+        marks: named.marks,
+        place: named.place,
+    })
+}
+
+/// Tells of a search that is at its end: no leaf is open, or the multipliers shut each that is. The place is that of the root.
+pub fn tell_whole(
+    alloc: Global,
+    problem: &Problem,
+    growing: &Growing,
+    found: FoundNetworks,
+    proofs: &[Option<Scaled>],
+) -> Result<Told, AllocError>
+    requires kept { IsTreeKeptFor problem.now (undercut_by found.count found.found) growing.now }
+    requires start { node_of growing.now.start ≡ first_node }
+    requires best { AreBest problem.now found.count growing.now.pool.payloads found.found }
+    requires shut { AreShutAgainst problem.now growing.now (undercut_by found.count found.found) proofs.now }
+    ensures networks { IfOk result (λ t. t.networks.items ≡ networks_of found.found) }
+    ensures tells { IfOk result (λ t. IsTelling false problem.now found.count t.networks.items t.tree (map mark_of t.marks.items)) }
+{
+    problem.is_valid();
+    tell(alloc, growing, found, proofs, 0)
+}
+
+/// Tells of a search that stops before its end, and where a leaf stands in its tree.
+pub fn tell_stopped(
+    alloc: Global,
+    problem: &Problem,
+    growing: &Growing,
+    found: FoundNetworks,
+    leaf: u32,
+) -> Result<Told, AllocError>
+    requires kept { IsTreeKeptFor problem.now (undercut_by found.count found.found) growing.now }
+    requires start { node_of growing.now.start ≡ first_node }
+    requires best { AreBest problem.now found.count growing.now.pool.payloads found.found }
+    requires leaf { leaf < length growing.now.pool.payloads }
+    ensures networks { IfOk result (λ t. t.networks.items ≡ networks_of found.found) }
+    ensures tells { IfOk result (λ t. IsTelling true problem.now found.count t.networks.items t.tree (map mark_of t.marks.items)) }
+    ensures open { IfOk result (λ t. (cell_at growing.now.pool.payloads leaf).end ≡ trees.leaf untried
+        → IsOpenAt problem.now IsOpenLeaf first_node (marked (map mark_of t.marks.items) t.tree) t.place (place_of (cell_at growing.now.pool.payloads leaf))) }
+    ensures spent { IfOk result (λ t. (options : ℕ) → IsSpentFor problem.now (undercut_by found.count found.found) growing.now leaf options
+        → IsSpentTelling problem.now found.count t.networks.items t.tree (map mark_of t.marks.items) t.place options growing.now.budget) }
+{
+    problem.is_valid();
+    tell(alloc, growing, found, &[], leaf)
+}

@@ -1,0 +1,39 @@
+-- What the text of a ranking can hold: networks, a tree and a tail that a tree text can hold, and for each open leaf of the tree one mark,
+-- with numbers in range.
+use Rattle.std.specs.Prelude.{◌≡◌, ◌≤◌, ◌+◌, ℕ, [], ◌∷◌, length, Some, None}
+use Rattle.int_rows.specs.Range.{InRange, AllInRange}
+use Rattle.problem_rules.specs.Each.{Each}
+use Rattle.problem_rules.specs.Problem.{Problem}
+use Rattle.tree_rules.specs.Tree as trees
+use Rattle.tree_rules.specs.Leaf as leaves
+use Rattle.tree_rules.specs.Accepted.{Tree}
+use Rattle.tree_text_laws.specs.LineFits.{IsSomeCount}
+use Rattle.tree_text_laws.specs.Fits.{FitsNetwork, FitsTree, FitsTail}
+use Rattle.ranked_tree.specs.Marked.{Mark}
+use Rattle.ranked_tree.specs.Text.{Text}
+
+-- how many open leaves there are
+abbrev pub opens_at : trees.End leaves.Leaf → ℕ
+opens_at (trees.branch w) = 0
+opens_at (trees.leaf (leaves.dead x)) = 0
+opens_at (trees.leaf (leaves.clash k)) = 0
+opens_at (trees.leaf (leaves.refuted ys)) = 0
+opens_at (trees.leaf (leaves.bounded d ys)) = 0
+opens_at (trees.leaf leaves.untried) = 1
+
+abbrev pub opens : Tree → ℕ
+opens [] = 0
+opens (t ∷ ts) = opens_at t.end + opens ts
+
+abbrev pub FitsMark : Mark → Type 0
+FitsMark None = Unit {0}
+FitsMark (Some m) = IsSomeCount m.network × InRange m.d × AllInRange m.ys
+
+pub record Fits (p : Problem) (t : Text) : Type 0 where
+  pub count : IsSomeCount t.count
+  pub within : length t.networks ≤ t.count
+  pub networks : Each (FitsNetwork p) t.networks
+  pub tree : FitsTree p t.tree
+  pub marks : Each FitsMark t.marks
+  pub marked : length t.marks ≡ opens t.tree
+  pub tail : FitsTail p t.tail

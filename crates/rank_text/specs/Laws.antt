@@ -1,0 +1,20 @@
+-- The laws of the text of rankings, each of which a public function of this crate has as its contract.
+use Rattle.std.specs.Prelude.{◌≡◌, ℕ, List, Ok}
+use Rattle.problem_rules.specs.Problem.{Problem}
+use Rattle.problem_rules.specs.Validity.{IsValid}
+use Rattle.ranked_tree.specs.Text.{Text}
+use Rattle.rank_text.specs.Read.{read_text}
+use Rattle.rank_text.specs.Spelling.{rank_text}
+use Rattle.rank_text.specs.Fits.{Fits}
+
+-- The text of a ranking that fits a valid problem has no fault, and stands for the ranking.
+abbrev pub SpelledRanksRead : Type 0
+SpelledRanksRead = (p : Problem) → IsValid p → (t : Text) → Fits p t → read_text p (rank_text p t) ≡ Ok t
+
+-- A text without a fault is the one text of what it stands for, which fits the problem.
+pub record IsSpelled (p : Problem) (bytes : List ℕ) (t : Text) : Type 0 where
+  pub text : bytes ≡ rank_text p t
+  pub fits : Fits p t
+
+abbrev pub ReadRanksAreSpelled : Type 0
+ReadRanksAreSpelled = (p : Problem) → IsValid p → (bytes : List ℕ) (t : Text) → read_text p bytes ≡ Ok t → IsSpelled p bytes t

@@ -1,6 +1,0 @@
-mod Lines
-mod OpenLines
-mod Parts
-mod Shapes
-mod Texts
-mod Tokens

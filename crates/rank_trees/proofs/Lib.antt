@@ -1,8 +1,0 @@
-pub mod FewLemmas
-pub mod LeafLemmas
-pub mod MarkLemmas
-pub mod NameLemmas
-pub mod NetworkLemmas
-pub mod OrderLemmas
-pub mod TellingLemmas
-pub mod ToldLemmas

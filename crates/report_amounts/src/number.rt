@@ -1,0 +1,221 @@
+//! Fractions that may be past.
+ghost use Rattle.std.specs.Prelude.{◌≡◌, ◌++◌, ◌∷◌, [], ◌<ℤ◌, ◌*ℤ◌, ◌^◌, ◌*◌, ◌+◌, ◌/◌, ◌%◌, None, Some, pos, decimal, OnOk, string_bytes};
+ghost use Rattle.int_rows.specs.Range.{InRange};
+ghost use Rattle.report_amounts.specs.Number.{of, nothing, lowest, kept, times, plus, above, below, half_of, is_even, doubled_text, number_text, thousandths_text, share_text};
+
+use decimals::push_rounded;
+use frac128::Frac;
+use std::alloc::AllocError;
+use std::marker::Model;
+
+/// A fraction, or none where a number that was formed for it is past.
+#[derive(Drop)]
+pub struct Number {
+    fraction: Option<Frac>,
+}
+
+impl Model for Number {
+    ghost use Rattle.std.specs.Prelude.{option_map};
+    ghost use Rattle.report_amounts.specs.Number as rules;
+
+    ghost Value = { rules.Number };
+
+    ghost view = { λ n. option_map (λ f. record { num = f.num; den = f.den }) n.fraction };
+}
+
+impl Number {
+    /// num / den, where den is at least 1.
+    pub fn of(num: i128, den: i128) -> Number
+        requires num_in_range { InRange num }
+        requires den_in_range { InRange den }
+        requires positive { pos 0 <ℤ den }
+        ensures { result ≡ of num den }
+    {
+        Number {
+            fraction: Some(Frac::of(num, den)),
+        }
+    }
+
+    /// 0.
+    pub fn nothing() -> Number
+        ensures { result ≡ nothing }
+    {
+        Number::of(0, 1)
+    }
+
+    fn past() -> Number
+        ensures { result ≡ None }
+    {
+        Number { fraction: None }
+    }
+
+    /// The product.
+    pub fn times(&self, other: &Number) -> Number
+        ensures { result ≡ times self.now other.now }
+    {
+        match self.fraction {
+            None => Number::past(),
+            Some(left) => match other.fraction {
+                None => Number::past(),
+                Some(right) => product(&left, &right),
+            },
+        }
+    }
+
+    /// The sum.
+    pub fn plus(&self, other: &Number) -> Number
+        ensures { result ≡ plus self.now other.now }
+    {
+        match self.fraction {
+            None => Number::past(),
+            Some(left) => match other.fraction {
+                None => Number::past(),
+                Some(right) => sum(&left, &right),
+            },
+        }
+    }
+
+    /// The number itself where it is above 0, else 0.
+    pub fn above(self) -> Number
+        ensures { result ≡ above self }
+    {
+        match self.fraction {
+            None => Number::past(),
+            Some(fraction) => part_above(&fraction),
+        }
+    }
+
+    /// The number itself where it is below 0, else 0.
+    pub fn below(self) -> Number
+        ensures { result ≡ below self }
+    {
+        match self.fraction {
+            None => Number::past(),
+            Some(fraction) => part_below(&fraction),
+        }
+    }
+
+    fn push_doubled(&self, text: &mut String, places: u32, scale: u64) -> Result<(), AllocError>
+        requires { scale ≡ 10 ^ places }
+        ensures { OnOk result (string_bytes text.new ≡ string_bytes text.old ++ doubled_text places self.now) }
+    {
+        match self.fraction {
+            None => text.push_str("past"),
+            Some(fraction) => push_fraction(text, places, scale, &fraction),
+        }
+    }
+
+    /// Appends the number with so many places, where the scale is the power of ten of the places, or `past`.
+    pub fn push(&self, text: &mut String, places: u32, scale: u64) -> Result<(), AllocError>
+        requires { scale ≡ 10 ^ places }
+        ensures { OnOk result (string_bytes text.new ≡ string_bytes text.old ++ number_text places self.now) }
+    {
+        let doubled = self.times(&Number::of(2 * i128::from(scale), 1));
+        doubled.push_doubled(text, places, scale)
+    }
+
+    fn push_thousandths(&self, text: &mut String) -> Result<(), AllocError>
+        ensures { OnOk result (string_bytes text.new ≡ string_bytes text.old ++ thousandths_text self.now) }
+    {
+        match self.fraction {
+            None => text.push_str("past"),
+            Some(fraction) => push_tenths(text, half_of(&fraction)),
+        }
+    }
+
+    /// Appends the share in per cent, or `past`.
+    pub fn push_share(&self, text: &mut String) -> Result<(), AllocError>
+        ensures { OnOk result (string_bytes text.new ≡ string_bytes text.old ++ share_text self.now) }
+    {
+        let doubled = self.times(&Number::of(2000, 1));
+        doubled.push_thousandths(text)
+    }
+}
+
+fn product(left: &Frac, right: &Frac) -> Number
+    ensures { result ≡ kept (lowest (left.now.num *ℤ right.now.num) (left.now.den *ℤ right.now.den)) }
+{
+    match left.mul(right) {
+        Ok(product) => Number {
+            fraction: Some(product),
+        },
+        Err(_) => Number::past(),
+    }
+}
+
+fn sum(left: &Frac, right: &Frac) -> Number
+    ensures { result ≡ plus (Some (record { num = left.now.num; den = left.now.den })) (Some (record { num = right.now.num; den = right.now.den })) }
+{
+    match left.add(right) {
+        Ok(sum) => Number {
+            fraction: Some(sum),
+        },
+        Err(_) => Number::past(),
+    }
+}
+
+fn part_above(fraction: &Frac) -> Number
+    ensures { result ≡ above (Some (record { num = fraction.now.num; den = fraction.now.den })) }
+{
+    if fraction.num() > 0 {
+        Number {
+            fraction: Some(*fraction),
+        }
+    } else {
+        Number::nothing()
+    }
+}
+
+fn part_below(fraction: &Frac) -> Number
+    ensures { result ≡ below (Some (record { num = fraction.now.num; den = fraction.now.den })) }
+{
+    if fraction.num() < 0 {
+        Number {
+            fraction: Some(*fraction),
+        }
+    } else {
+        Number::nothing()
+    }
+}
+
+/// Half of it, rounded, without its sign.
+fn half_of(fraction: &Frac) -> u128
+    ensures { result ≡ half_of (record { num = fraction.now.num; den = fraction.now.den }) }
+{
+    let den = fraction.den().unsigned_abs();
+    (fraction.num().unsigned_abs() + den) / (2 * den)
+}
+
+fn is_even(fraction: &Frac) -> bool
+    ensures { result ≡ is_even (record { num = fraction.now.num; den = fraction.now.den }) }
+{
+    let num = fraction.num().unsigned_abs();
+    let den = fraction.den().unsigned_abs();
+    den == 1 && num % 2 == 0
+}
+
+fn push_fraction(
+    text: &mut String,
+    places: u32,
+    scale: u64,
+    fraction: &Frac,
+) -> Result<(), AllocError>
+    requires { scale ≡ 10 ^ places }
+    ensures { OnOk result (string_bytes text.new ≡ string_bytes text.old ++ doubled_text places (Some (record { num = fraction.now.num; den = fraction.now.den }))) }
+{
+    let exact = is_even(fraction);
+    let negative = fraction.num() < 0;
+    push_rounded(text, places, scale, exact, negative, half_of(fraction))
+}
+
+/// Tenths with their one place.
+fn push_tenths(text: &mut String, tenths: u128) -> Result<(), AllocError>
+    ensures { OnOk result (string_bytes text.new ≡ string_bytes text.old ++ (decimal (tenths / 10) ++ 46 ∷ (48 + tenths % 10) ∷ [])) }
+{
+    let whole = tenths / 10;
+    let rest = (tenths % 10) as u8;
+    write!(text, "{whole}")?;
+    text.push('.')?;
+    text.push((b'0' + rest) as char)?;
+    Ok(())
+}

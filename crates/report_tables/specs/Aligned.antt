@@ -1,0 +1,86 @@
+-- Rows of cells as lines whose columns stand under each other. A column of words stands to the left. In a column of numbers the points
+-- stand under each other: what stands before a point is as wide as the widest such text of the column, and so is what stands from the
+-- point on, and all is as wide as the heading at least. Columns are parted by two spaces, and no line ends with a space.
+use Rattle.std.specs.Prelude.{ℕ, ◌+◌, ◌-◌, ◌==◌, nat_lt, Bool, true, false, List, [], ◌∷◌, ◌++◌, map, length, replicate, slice_index_or, if◌then◌else◌}
+use Rattle.std.specs.List.{position_or_len}
+use Rattle.report_tables.specs.declared.column.Sort.{Sort}
+use Rattle.report_tables.specs.declared.column.Sort.TheVariants.{Words, Numbers}
+use Rattle.report_tables.specs.declared.column.Measure.{Measure}
+use Rattle.report_tables.specs.declared.column.Measure.TheVariants.{Whole, Front, Back}
+
+abbrev pub spaces : ℕ → List ℕ
+spaces n = replicate n 32
+
+-- a cell of a row, empty where it has none there
+abbrev pub cell_at : ℕ → List (List ℕ) → List ℕ
+cell_at k row = slice_index_or row k []
+
+-- how much stands before the point
+abbrev pub front_of : List ℕ → ℕ
+front_of cell = position_or_len (λ c. c == 46) cell
+
+abbrev pub measured : Measure → List ℕ → ℕ
+measured Whole cell = length cell
+measured Front cell = front_of cell
+measured Back cell = length cell - front_of cell
+
+abbrev pub greater : ℕ → ℕ → ℕ
+greater m n = if nat_lt m n then n else m
+
+-- the greatest measure of the cells in column k, n at least
+abbrev pub widest : Measure → ℕ → ℕ → List (List (List ℕ)) → ℕ
+widest m k n [] = n
+widest m k n (row ∷ rows) = widest m k (greater n (measured m (cell_at k row))) rows
+
+-- What stands in a column and how wide it is: before the point, from the point on, and what is left of the heading's width. A column
+-- of words is all before the point.
+pub record Column : Type 0 where
+  pub sort : Sort
+  pub front : ℕ
+  pub back : ℕ
+  pub room : ℕ
+
+abbrev pub column_at : Sort → ℕ → List (List ℕ) → List (List (List ℕ)) → Column
+column_at Words k heading rows = record { sort = Words; front = widest Whole k (length (cell_at k heading)) rows; back = 0; room = 0 }
+column_at Numbers k heading rows = record {
+  sort = Numbers;
+  front = widest Front k 0 rows;
+  back = widest Back k 0 rows;
+  room = length (cell_at k heading) - widest Front k 0 rows - widest Back k 0 rows;
+}
+
+abbrev pub columns_from : ℕ → List Sort → List (List ℕ) → List (List (List ℕ)) → List Column
+columns_from k [] heading rows = []
+columns_from k (s ∷ ss) heading rows = column_at s k heading rows ∷ columns_from (k + 1) ss heading rows
+
+abbrev pub by_sort : {A : Type 0} → Sort → A → A → A
+by_sort Words x y = x
+by_sort Numbers x y = y
+
+-- the spaces before a number or its heading, which stands to the right, and those behind a word, its heading or a number
+abbrev pub before : Bool → Column → List ℕ → List ℕ
+before true c cell = by_sort c.sort [] (spaces (c.front - length cell) ++ spaces (c.back - (length cell - c.front)))
+before false c cell = by_sort c.sort [] (spaces c.room ++ spaces (c.front - front_of cell))
+
+abbrev pub behind : Bool → Column → List ℕ → List ℕ
+behind true c cell = by_sort c.sort (spaces (c.front - length cell)) []
+behind false c cell = by_sort c.sort (spaces (c.front - length cell)) (spaces (c.back - (length cell - front_of cell)))
+
+-- a cell behind its gap; of an empty cell nothing is written, and the gap stays
+abbrev pub shown : List ℕ → List ℕ → List ℕ
+shown gap cell = if length cell == 0 then [] else gap ++ cell
+
+abbrev pub gap_left : List ℕ → List ℕ → List ℕ
+gap_left gap cell = if length cell == 0 then gap else []
+
+-- the cells from column k on behind a gap, as headings or not
+abbrev pub line_text : Bool → ℕ → List ℕ → List Column → List (List ℕ) → List ℕ
+line_text heading k gap [] row = []
+line_text heading k gap (c ∷ cs) row =
+    shown (gap ++ before heading c (cell_at k row)) (cell_at k row)
+    ++ line_text heading (k + 1) (gap_left (gap ++ before heading c (cell_at k row)) (cell_at k row) ++ (behind heading c (cell_at k row) ++ 32 ∷ 32 ∷ [])) cs row
+
+-- a table: its headings and its rows
+abbrev pub table_lines : List Sort → List (List ℕ) → List (List (List ℕ)) → List (List ℕ)
+table_lines sorts heading rows =
+    line_text true 0 [] (columns_from 0 sorts heading rows) heading ∷ map (line_text false 0 [] (columns_from 0 sorts heading rows)) rows

@@ -1,0 +1,116 @@
+//! How wide columns are.
+ghost use Rattle.std.specs.Prelude.{◌≡◌, ◌++◌, ◌∷◌, [], IfOk, length};
+ghost use Rattle.report_tables.specs.Aligned.{cell_at, measured, greater, widest, column_at, columns_from};
+
+use crate::row::Row;
+use std::alloc::{AllocError, Global};
+use std::marker::Model;
+use text_lines::line::place_of;
+
+/// What stands in a column.
+#[derive(Clone, Copy, Debug, PartialEq, Eq)]
+pub enum Sort {
+    /// Words, to the left.
+    Words,
+    /// Numbers, whose points stand under each other.
+    Numbers,
+}
+
+/// What is measured of a cell, in bytes.
+#[derive(Clone, Copy, Debug, PartialEq, Eq)]
+pub enum Measure {
+    /// All of it.
+    Whole,
+    /// What stands before its point.
+    Front,
+    /// What stands from its point on.
+    Back,
+}
+
+/// A column and how wide it is, in bytes.
+#[derive(Drop)]
+pub(crate) struct Column {
+    pub(crate) sort: Sort,
+    pub(crate) front: usize,
+    pub(crate) back: usize,
+    pub(crate) room: usize,
+}
+
+impl Model for Column {
+    ghost use Rattle.report_tables.specs.Aligned as rules;
+
+    ghost Value = { rules.Column };
+
+    ghost view = { λ c. record { sort = c.sort; front = c.front; back = c.back; room = c.room } };
+}
+
+pub(crate) fn measured(measure: Measure, cell: &str) -> usize
+    ensures { result ≡ measured measure cell.now }
+{
+    let bytes = cell.as_bytes();
+    match measure {
+        Measure::Whole => bytes.len(),
+        Measure::Front => place_of(b'.', bytes),
+        Measure::Back => bytes.len() - place_of(b'.', bytes),
+    }
+}
+
+fn greater(left: usize, right: usize) -> usize
+    ensures { result ≡ greater left right }
+{
+    if left < right { right } else { left }
+}
+
+/// The greatest measure of the cells in column k, at least the given one.
+fn widest(measure: Measure, k: usize, least: usize, rows: &[Row]) -> usize
+    ensures { result ≡ widest measure k least rows.now }
+{
+    let mut best = least;
+    'rows: for row in rows {
+        best = greater(best, measured(measure, row.cell(k)));
+    }
+    best
+}
+
+/// Column k.
+fn column_at(sort: Sort, k: usize, heading: &Row, rows: &[Row]) -> Column
+    ensures { result ≡ column_at sort k heading.now rows.now }
+{
+    let own = measured(Measure::Whole, heading.cell(k));
+    match sort {
+        Sort::Words => Column {
+            sort: Sort::Words,
+            front: widest(Measure::Whole, k, own, rows),
+            back: 0,
+            room: 0,
+        },
+        Sort::Numbers => {
+            let front = widest(Measure::Front, k, 0, rows);
+            let back = widest(Measure::Back, k, 0, rows);
+            let room = own.saturating_sub(front).saturating_sub(back);
+            Column {
+                sort: Sort::Numbers,
+                front,
+                back,
+                room,
+            }
+        }
+    }
+}
+
+/// The columns of a table.
+pub(crate) fn columns_of(
+    alloc: Global,
+    sorts: &[Sort],
+    heading: &Row,
+    rows: &[Row],
+) -> Result<Vec<Column>, AllocError>
+    ensures { IfOk result (λ columns. columns.items ≡ columns_from 0 sorts.now heading.now rows.now) }
+{
+    let mut columns = Vec::new(alloc);
+    'columns: for k in 0..sorts.len() {
+        let column = column_at(sorts[k], k, heading, rows);
+        columns.push(column)?;
+    }
+    Ok(columns)
+}

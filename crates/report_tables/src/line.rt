@@ -1,0 +1,138 @@
+//! A row as a line.
+ghost use Rattle.std.specs.Prelude.{◌≡◌, ◌++◌, ◌∷◌, [], true, false, OnOk, string_bytes};
+ghost use Rattle.report_tables.specs.Aligned.{spaces, shown, gap_left, before, behind, line_text};
+
+use crate::column::{Column, Measure, Sort, measured};
+use crate::row::Row;
+use std::alloc::{AllocError, Global};
+
+fn push_spaces(text: &mut String, count: usize) -> Result<(), AllocError>
+    ensures { OnOk result (string_bytes text.new ≡ string_bytes text.old ++ spaces count) }
+{
+    let mut left = count;
+    'spaces: while left > 0 {
+        text.push(' ')?;
+        left -= 1;
+    }
+    Ok(())
+}
+
+/// Appends a cell behind the gap, which is then empty; of an empty cell nothing.
+fn push_shown(text: &mut String, gap: &mut String, cell: &str) -> Result<(), AllocError>
+    ensures text { OnOk result (string_bytes text.new ≡ string_bytes text.old ++ shown (string_bytes gap.old) cell.now) }
+    ensures gap { OnOk result (string_bytes gap.new ≡ gap_left (string_bytes gap.old) cell.now) }
+{
+    if cell.is_empty() {
+        return Ok(());
+    }
+    text.push_str(gap)?;
+    text.push_str(cell)?;
+    gap.clear();
+    Ok(())
+}
+
+fn push_before_heading(gap: &mut String, column: &Column, cell: &str) -> Result<(), AllocError>
+    ensures { OnOk result (string_bytes gap.new ≡ string_bytes gap.old ++ before true column.now cell.now) }
+{
+    match column.sort {
+        Sort::Words => Ok(()),
+        Sort::Numbers => {
+            let whole = measured(Measure::Whole, cell);
+            push_spaces(gap, column.front.saturating_sub(whole))?;
+            let beyond = whole.saturating_sub(column.front);
+            push_spaces(gap, column.back.saturating_sub(beyond))
+        }
+    }
+}
+
+fn push_before_cell(gap: &mut String, column: &Column, cell: &str) -> Result<(), AllocError>
+    ensures { OnOk result (string_bytes gap.new ≡ string_bytes gap.old ++ before false column.now cell.now) }
+{
+    match column.sort {
+        Sort::Words => Ok(()),
+        Sort::Numbers => {
+            push_spaces(gap, column.room)?;
+            let front = measured(Measure::Front, cell);
+            push_spaces(gap, column.front.saturating_sub(front))
+        }
+    }
+}
+
+fn push_before(
+    gap: &mut String,
+    heading: bool,
+    column: &Column,
+    cell: &str,
+) -> Result<(), AllocError>
+    ensures { OnOk result (string_bytes gap.new ≡ string_bytes gap.old ++ before heading column.now cell.now) }
+{
+    if heading {
+        push_before_heading(gap, column, cell)
+    } else {
+        push_before_cell(gap, column, cell)
+    }
+}
+
+fn push_behind_heading(gap: &mut String, column: &Column, cell: &str) -> Result<(), AllocError>
+    ensures { OnOk result (string_bytes gap.new ≡ string_bytes gap.old ++ behind true column.now cell.now) }
+{
+    match column.sort {
+        Sort::Words => {
+            let whole = measured(Measure::Whole, cell);
+            push_spaces(gap, column.front.saturating_sub(whole))
+        }
+        Sort::Numbers => Ok(()),
+    }
+}
+
+fn push_behind_cell(gap: &mut String, column: &Column, cell: &str) -> Result<(), AllocError>
+    ensures { OnOk result (string_bytes gap.new ≡ string_bytes gap.old ++ behind false column.now cell.now) }
+{
+    match column.sort {
+        Sort::Words => {
+            let whole = measured(Measure::Whole, cell);
+            push_spaces(gap, column.front.saturating_sub(whole))
+        }
+        Sort::Numbers => {
+            let back = measured(Measure::Back, cell);
+            push_spaces(gap, column.back.saturating_sub(back))
+        }
+    }
+}
+
+fn push_behind(
+    gap: &mut String,
+    heading: bool,
+    column: &Column,
+    cell: &str,
+) -> Result<(), AllocError>
+    ensures { OnOk result (string_bytes gap.new ≡ string_bytes gap.old ++ behind heading column.now cell.now) }
+{
+    if heading {
+        push_behind_heading(gap, column, cell)
+    } else {
+        push_behind_cell(gap, column, cell)
+    }
+}
+
+/// Appends a row, of headings or of others.
+pub(crate) fn push_line(
+    alloc: Global,
+    text: &mut String,
+    heading: bool,
+    columns: &[Column],
+    row: &Row,
+) -> Result<(), AllocError>
+    ensures { OnOk result (string_bytes text.new ≡ string_bytes text.old ++ line_text heading 0 [] columns.now row.now) }
+{
+    let mut gap = String::new(alloc);
+    'columns: for k in 0..columns.len() {
+        let column = &columns[k];
+        let cell = row.cell(k);
+        push_before(&mut gap, heading, column, cell)?;
+        push_shown(text, &mut gap, cell)?;
+        push_behind(&mut gap, heading, column, cell)?;
+        gap.push_str("  ")?;
+    }
+    Ok(())
+}

@@ -1,0 +1,49 @@
+//! A row of cells.
+ghost use Rattle.std.specs.Prelude.{◌≡◌, ◌++◌, ◌∷◌, [], OnOk, string_bytes};
+ghost use Rattle.report_tables.specs.Aligned.{cell_at};
+
+use std::alloc::{AllocError, Global};
+use std::marker::Model;
+
+/// The cells of a row, from the left.
+#[derive(Drop)]
+pub struct Row {
+    cells: Vec<String>,
+}
+
+impl Model for Row {
+    ghost use Rattle.std.specs.Prelude.{ℕ, List, map, string_bytes};
+
+    ghost Value = { List (List ℕ) };
+
+    ghost view = { λ r. map string_bytes r.cells.items };
+}
+
+impl Row {
+    /// A row without cells.
+    pub fn new(alloc: Global) -> Row
+        ensures { result ≡ [] }
+    {
+        Row {
+            cells: Vec::new(alloc),
+        }
+    }
+
+    /// Appends a cell.
+    pub fn push(&mut self, cell: String) -> Result<(), AllocError>
+        ensures { OnOk result (self.new ≡ self.old ++ string_bytes cell ∷ []) }
+    {
+        self.cells.push(cell)?;
+        Ok(())
+    }
+
+    /// The cell in column k, empty where there is none.
+    pub(crate) fn cell(&self, k: usize) -> &str
+        ensures { result.now ≡ cell_at k self.now }
+    {
+        match self.cells.get(k) {
+            Some(cell) => cell.as_str(),
+            None => "",
+        }
+    }
+}

@@ -1,5 +1,0 @@
-mod EditsRead
-mod Lines
-mod SidesRead
-mod Tokens
-mod TokensRead

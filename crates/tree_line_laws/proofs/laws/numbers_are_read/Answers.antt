@@ -1,5 +1,0 @@
-use Rattle.tree_line_laws.proofs.Decimals.{number_code, denominator_code, counts, children, option_counts}
-use Rattle.tree_line_laws.proofs.laws.numbers_are_read.Goals as goal
-
-pub returns : goal.returns
-returns c = record { numbers = number_code; denominators = denominator_code; counts = counts; children = children; options = option_counts }

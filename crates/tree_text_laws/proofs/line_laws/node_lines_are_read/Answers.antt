@@ -1,0 +1,11 @@
+use Rattle.tree_text_laws.proofs.NodeLines.{root_lines, option_lines, step_back, step_again, end_lines}
+use Rattle.tree_text_laws.proofs.line_laws.node_lines_are_read.Goals as goal
+
+pub returns : goal.returns
+returns c = λ p valid. let formed = (c.valid_is_well_formed.ensures p).0 valid in record {
+  root = root_lines p formed;
+  options = option_lines p formed;
+  step_back = step_back p formed;
+  step_again = step_again p formed;
+  ends = end_lines p formed;
+}

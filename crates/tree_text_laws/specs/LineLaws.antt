@@ -1,0 +1,87 @@
+-- The laws of tokens and lines, each of which a public function of this crate has as its contract.
+use Rattle.std.specs.Prelude.{◌≡◌, ℕ, List, [], ◌∷◌, map, decimal, Some, Ok}
+use Rattle.std.specs.Fmt.{signed_decimal}
+use Rattle.int_rows.specs.Range.{InRange}
+use Rattle.problem_rules.specs.Each.{Each}
+use Rattle.problem_rules.specs.Problem.{Problem}
+use Rattle.problem_rules.specs.Validity.{IsValid}
+use Rattle.pns_rules.specs.Nodes.{Step}
+use Rattle.branch_tree.specs.Known.{IsUnit, IsMaterial, IsExclusion, AreUnits, KnowsStep, KnowsColumn, KnowsRow}
+use Rattle.tree_text_rules.specs.Line.{Token, Line, lines_of, word_text}
+use Rattle.tree_text_rules.specs.LineRead.{step_read, end_line_read, option_read, root_read, network_line_read, sizes_read, cost_read, nonbasic_read, place_read, close_read}
+use Rattle.tree_text_rules.specs.Spelling.{unit_name, material_name, exclusion_name, step_line, end_line, option_line, column_text, row_text, which_text, flow_text, place_fields, text_of}
+use Rattle.tree_text_rules.specs.Token.{unit_of, material_of, exclusion_of, number_of, denominator_of, count_of, children_of, options_of, column_of, row_of, which_of, flow_of}
+use Rattle.tree_text_rules.specs.declared.Word.TheVariants as words
+use Rattle.tree_text_laws.specs.Codes.{IsToken, line_of, IsCode, IsLineCode}
+use Rattle.tree_text_laws.specs.LineFits.{IsCount, IsSomeCount, IsOptionCount, IsDenominator, FitsSizes, FitsEnd, FitsPlace}
+
+-- any value fits
+abbrev pub Any : {A : Type 0} → A → Type 0
+Any a = Unit {0}
+
+-- ---- lines
+
+-- the text of lines of tokens has these lines
+abbrev pub TextsHaveLines : Type 0
+TextsHaveLines = (lines : List (List Token)) → Each (Each IsToken) lines → lines_of (text_of lines) ≡ map line_of lines
+
+-- and no other text has them
+abbrev pub LinesHaveOneText : Type 0
+LinesHaveOneText = (bytes : List ℕ) (lines : List (List Token)) → lines_of bytes ≡ map line_of lines → bytes ≡ text_of lines
+
+-- ---- tokens
+
+-- numbers within the ranges of their places
+pub record NumbersAreRead : Type 0 where
+  pub numbers : IsCode number_of signed_decimal InRange
+  pub denominators : IsCode denominator_of signed_decimal IsDenominator
+  pub counts : IsCode count_of decimal IsCount
+  pub children : IsCode children_of decimal IsSomeCount
+  pub options : IsCode options_of decimal IsOptionCount
+
+pub record ReadsNames (p : Problem) : Type 0 where
+  pub units : IsCode (unit_of p) (unit_name p) (IsUnit p)
+  pub materials : IsCode (material_of p) (material_name p) (IsMaterial p)
+  pub exclusions : IsCode (exclusion_of p) (exclusion_name p) (IsExclusion p)
+
+abbrev pub NamesAreRead : Type 0
+NamesAreRead = (p : Problem) → IsValid p → ReadsNames p
+
+-- columns, rows, and which number of an entry or of a flow
+pub record ReadsColumns (p : Problem) : Type 0 where
+  pub columns : IsCode (column_of p) (column_text p) (KnowsColumn p)
+  pub rows : IsCode (row_of p) (row_text p) (KnowsRow p)
+  pub entry_numbers : IsCode which_of which_text Any
+  pub flow_steps : IsCode flow_of flow_text Any
+
+abbrev pub ColumnsAreRead : Type 0
+ColumnsAreRead = (p : Problem) → IsValid p → ReadsColumns p
+
+-- ---- the lines of nodes, claims and tails
+
+pub record ReadsNodeLines (p : Problem) : Type 0 where
+  pub root : IsLineCode root_read (option_line p) (λ us. us ≡ [])
+  pub options : IsLineCode (option_read p) (option_line p) (AreUnits p)
+  pub step_back : (line : Line) (s : Step) → step_read p line ≡ Some (Ok s) → (line ≡ line_of (step_line p s)) × KnowsStep p s
+  pub step_again : (s : Step) → KnowsStep p s → step_read p (line_of (step_line p s)) ≡ Some (Ok s)
+  pub ends : IsLineCode (end_line_read p) (end_line p) (FitsEnd p)
+
+abbrev pub NodeLinesAreRead : Type 0
+NodeLinesAreRead = (p : Problem) → IsValid p → ReadsNodeLines p
+
+pub record ReadsNetworkLines (p : Problem) : Type 0 where
+  pub units : IsLineCode (network_line_read p) (λ us. word_text words.Network ∷ map (unit_name p) us) (AreUnits p)
+  pub sizes : (count : ℕ) → IsLineCode (sizes_read count) (λ c. word_text words.Sizes ∷ signed_decimal c.0 ∷ map signed_decimal c.1) (FitsSizes count)
+  pub cost : IsLineCode cost_read (λ z. word_text words.Cost ∷ signed_decimal z ∷ []) InRange
+
+abbrev pub NetworkLinesAreRead : Type 0
+NetworkLinesAreRead = (p : Problem) → IsValid p → ReadsNetworkLines p
+
+-- the lines of a tail behind its first
+pub record ReadsTailLines (p : Problem) : Type 0 where
+  pub nonbasic : IsLineCode (nonbasic_read p) (λ cs. word_text words.Nonbasic ∷ map (column_text p) cs) (Each (KnowsColumn p))
+  pub place : IsLineCode (place_read p) (λ place. word_text words.Place ∷ place_fields p place) (FitsPlace p)
+  pub end : IsLineCode close_read (λ u. word_text words.End ∷ []) Any
+
+abbrev pub TailLinesAreRead : Type 0
+TailLinesAreRead = (p : Problem) → IsValid p → ReadsTailLines p

@@ -1,0 +1,55 @@
+//! The laws. Each function does nothing when it runs; a call tells a proof its law.
+ghost use Rattle.tree_text_laws.specs.LineLaws.{TextsHaveLines, LinesHaveOneText, NumbersAreRead, NamesAreRead};
+ghost use Rattle.tree_text_laws.specs.LineLaws.{ColumnsAreRead, NodeLinesAreRead, NetworkLinesAreRead, TailLinesAreRead};
+
+use problem_rules::valid_is_well_formed;
+
+/// The text of lines of tokens has these lines.
+pub fn texts_have_lines()
+    ensures { TextsHaveLines }
+{}
+
+/// No other text has them.
+pub fn lines_have_one_text()
+    ensures { LinesHaveOneText }
+{}
+
+/// Numbers within their ranges are read from what is printed of them, and from no other text.
+pub fn numbers_are_read()
+    ensures { NumbersAreRead }
+{}
+
+/// Units, materials and exclusions of a valid problem are read from their names, and from no other text.
+pub fn names_are_read()
+    ensures { NamesAreRead }
+{
+    valid_is_well_formed();
+}
+
+/// So are columns, rows, and which number of an entry or of a flow.
+pub fn columns_are_read()
+    ensures { ColumnsAreRead }
+{
+    valid_is_well_formed();
+}
+
+/// A node's line, each of its steps, and its end are read from their one line.
+pub fn node_lines_are_read()
+    ensures { NodeLinesAreRead }
+{
+    valid_is_well_formed();
+}
+
+/// So are the three lines of a network.
+pub fn network_lines_are_read()
+    ensures { NetworkLinesAreRead }
+{
+    valid_is_well_formed();
+}
+
+/// So are the lines of a tail behind its first.
+pub fn tail_lines_are_read()
+    ensures { TailLinesAreRead }
+{
+    valid_is_well_formed();
+}
