@@ -71,8 +71,10 @@ fn has_two_free(graph: &Graph, node: &Node) -> bool {
 /// Where the leaf is branched. Where just two units are free, and both make a needed material that no unit taken in makes, it is
 /// at the least such material. Else it is at the free maker of a needed material that has the greatest score, the least number
 /// of them. A unit of a size above 0 scores what it owes of its fixed cost, and one more; another unit the greatest share that
-/// a needed material owes which it makes and no unit taken in. Where that unit owes nothing itself, units that lead on from units in
-/// use without a path to a product come before all that score less than 2.
+/// a needed material owes which it makes and no unit taken in. A free unit without a fixed cost owes what the only unit left owes that
+/// makes a material it uses, where that one is free too; in use it scores the whole fixed cost of that one in the ratio of their sizes.
+/// Where the unit of the greatest score owes nothing, units that lead on from units in use without a path to a product come before all
+/// that score less than 2.
 ///
 /// `first` is a material that is to decide. `sizes` has the sizes of the units that are not left out, in rising order and in
 /// millionths; an entry that is missing counts as 0.
@@ -90,7 +92,7 @@ pub fn choose(problem: &Problem, graph: &Graph, node: Node, first: u32, sizes: &
         }
     }
     graph.is_proper();
-    let mut dues = Dues::of(problem, graph, node.outside, sizes);
+    let mut dues = Dues::of(problem, graph, &node, sizes);
     let unit = best_unit(graph, &node, needed, &dues, first);
     if dues.owes(unit) {
         return Choice::Unit(unit);

@@ -9,59 +9,141 @@ use pgraph::Graph;
 use pns_problem::{OperatingUnit, Problem};
 use unit_sets::{Node, UnitSet};
 
+/// What is known of a unit: its fixed cost, what it owes of it, and its size, all 0 where it is left out.
+#[derive(Clone, Copy)]
+struct Due {
+    fixed: i128,
+    unpaid: i128,
+    size: i64,
+    // What it scores where it has a size above 0.
+    share: i128,
+}
+
+const NOTHING: Due = Due {
+    fixed: 0,
+    unpaid: 0,
+    size: 0,
+    share: 0,
+};
+
 /// What each unit owes, and which units have a size above 0.
 #[derive(Clone, Copy)]
 pub(crate) struct Dues {
-    unpaid: [i128; 128],
+    dues: [Due; 128],
     used: UnitSet,
     // The units that lead on from units in use without a path to a product, where they were looked for.
     leading: UnitSet,
 }
 
-/// What a unit of a size owes: its fixed cost over the payout period less what the slope of a free unit pays at this size, in
-/// 10^-12 of the money unit.
-fn unpaid(unit: &OperatingUnit, payout: i64, size: i64) -> i128 {
+/// The fixed cost of a unit over the payout period, in 10^-12 of the money unit.
+fn fixed_of(unit: &OperatingUnit, payout: i64) -> i128 {
     let yearly = (unit.fix as i128).saturating_mul(payout as i128);
     let once = unit.investment_fix as i128;
-    let fixed = yearly.saturating_add(once).saturating_mul(1_000_000);
-    if unit.upper < 1 {
-        return fixed;
+    yearly.saturating_add(once).saturating_mul(1_000_000)
+}
+
+/// What a unit of a size owes: its fixed cost less what the slope of a free unit pays at this size.
+fn due_of(unit: &OperatingUnit, payout: i64, size: i64) -> Due {
+    let fixed = fixed_of(unit, payout);
+    let paid = if unit.upper < 1 {
+        0
+    } else {
+        let slope = fixed / unit.upper as i128;
+        slope.saturating_mul(size.clamp(0, unit.upper) as i128)
+    };
+    let unpaid = fixed.saturating_sub(paid);
+    Due {
+        fixed,
+        unpaid,
+        size,
+        share: unpaid,
     }
-    let slope = fixed / unit.upper as i128;
-    let size = size.clamp(0, unit.upper);
-    fixed.saturating_sub(slope.saturating_mul(size as i128))
+}
+
+/// What a unit without a fixed cost owes that stands behind this maker, and what it scores in use: the whole fixed cost of the maker, in
+/// the ratio of their sizes.
+fn passed(due: Due, maker: Due) -> Due {
+    let share = if maker.size < 1 {
+        0
+    } else {
+        maker.fixed.saturating_mul(due.size as i128) / maker.size as i128
+    };
+    Due {
+        fixed: due.fixed,
+        unpaid: due.unpaid.max(maker.unpaid),
+        size: due.size,
+        share: due.share.max(share),
+    }
 }
 
 impl Dues {
     /// What the units owe where those that are not left out have these sizes, in rising order.
-    pub(crate) fn of(problem: &Problem, graph: &Graph, outside: UnitSet, sizes: &[i64]) -> Dues
+    pub(crate) fn of(problem: &Problem, graph: &Graph, node: &Node, sizes: &[i64]) -> Dues
         requires { shape graph.now ≡ shape_of problem.now }
     {
         graph.is_proper();
         let (units, payout) = (problem.units(), problem.payout());
         let mut dues = Dues {
-            unpaid: [0; 128],
+            dues: [NOTHING; 128],
             used: UnitSet::empty(),
             leading: UnitSet::empty(),
         };
+        let mut costless = UnitSet::empty();
         let mut rest = sizes.iter();
         for u in 0..graph.unit_count() {
-            if !outside.has(u) {
+            if !node.outside.has(u) {
                 let size = rest.next().copied().unwrap_or(0);
-                dues.unpaid[u as usize] = unpaid(&units[u as usize], payout, size);
+                let due = due_of(&units[u as usize], payout, size);
+                dues.dues[u as usize] = due;
                 if size > 0 {
                     dues.used = dues.used.with(u);
                 }
+                if due.fixed < 1 {
+                    costless = costless.with(u);
+                }
             }
         }
+        let users = costless.minus(node.inside);
+        if !users.is_empty() {
+            dues.pass_on(graph, node, users);
+        }
         dues
+    }
+
+    /// Lets each of the users, free units without a fixed cost, owe what the one unit owes that is left to make a material which they
+    /// use, where this unit is free too.
+    fn pass_on(&mut self, graph: &Graph, node: &Node, users: UnitSet) {
+        graph.is_proper();
+        for x in 0..graph.material_count() {
+            let makers = graph.producers(x).minus(node.outside);
+            if makers.count() == 1 && makers.meet(node.inside).is_empty() {
+                makers.rises();
+                if let Some(maker) = makers.least() {
+                    let due = self.dues[maker as usize];
+                    self.pass(due, graph.consumers(x).meet(users));
+                }
+            }
+        }
+    }
+
+    /// Lets the units owe what their maker does.
+    fn pass(&mut self, maker: Due, set: UnitSet) {
+        let mut left = set;
+        'users: loop {
+            left.rises();
+            let Some(u) = left.least() else {
+                return;
+            };
+            self.dues[u as usize] = passed(self.dues[u as usize], maker);
+            left = left.without(u);
+        }
     }
 
     /// Whether the unit owes something.
     pub(crate) fn owes(&self, u: u32) -> bool
         requires { u < 128 }
     {
-        self.unpaid[u as usize] > 0
+        self.dues[u as usize].unpaid > 0
     }
 
     /// Looks for the units that lead on from units in use without a path to a product. They score more than all that owe nothing.
@@ -81,7 +163,7 @@ impl Dues {
             let Some(u) = left.least() else {
                 break;
             };
-            least = least.min(self.unpaid[u as usize]);
+            least = least.min(self.dues[u as usize].unpaid);
             left = left.without(u);
         }
         let splits = makers.count().max(2) - 1;
@@ -95,7 +177,7 @@ impl Dues {
         if self.leading.has(u) {
             2
         } else if self.used.has(u) {
-            self.unpaid[u as usize].saturating_add(1)
+            self.dues[u as usize].share.saturating_add(1)
         } else {
             owed
         }
