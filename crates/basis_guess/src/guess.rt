@@ -45,7 +45,8 @@ pub struct Guess {
     sums: Vec<i128>,
 }
 
-// A look gives up behind so many pivots, and the tableau starts from the slack basis behind so many.
+// A look gives up behind so many pivots, and the tableau starts from the slack basis again behind so many, those of the look that
+// started from it not counted: on a large problem that look alone takes more.
 const MOST_PIVOTS: u32 = 400;
 
 const STALE: u32 = 100;
@@ -98,7 +99,8 @@ impl Guess {
     pub fn look(&mut self, numbers: &Numbers, node: &Node, anew: bool) -> Outcome {
         self.ranges.set(numbers, node);
         self.set_costs(numbers, node);
-        if anew || self.pivots >= STALE {
+        let is_fresh = anew || self.pivots >= STALE;
+        if is_fresh {
             self.start(numbers);
         }
         for _ in 0..MOST_PIVOTS {
@@ -113,7 +115,9 @@ impl Guess {
                 return Outcome::Row;
             };
             self.exchange(r, k, distance.raise);
-            self.pivots = self.pivots.saturating_add(1);
+            if !is_fresh {
+                self.pivots = self.pivots.saturating_add(1);
+            }
         }
         self.pivots = STALE;
         Outcome::Nothing
