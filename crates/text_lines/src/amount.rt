@@ -1,9 +1,9 @@
 //! Numbers, in millionths.
-ghost use Rattle.std.specs.Prelude.{◌≡◌, ◌≤◌, ◌<◌, ◌+◌, ◌*◌, ◌^◌, [], false, true, length, count_by, IfNone, IfSome, ◌-◌, if◌then◌else◌};
+ghost use Rattle.std.specs.Prelude.{◌≡◌, ◌≤◌, ◌<◌, ◌+◌, ◌*◌, ◌^◌, [], false, true, length, take, count_by, IfNone, IfSome, ◌-◌, if◌then◌else◌};
 ghost use Rattle.std.specs.Bool.{OnTrue};
 ghost use Rattle.std.specs.List.{list_all, list_any, position_or_len, after_first};
 ghost use Rattle.std.specs.Char.{is_ascii_digit};
-ghost use Rattle.text_rules.specs.Amount.{is_point, is_digit_or_point, is_sign, is_exponent_mark, has_minus, without_sign, number_of, mantissa, exponent, is_mantissa, is_exponent, is_number, tens_for, tens_against, scaled, scaled_by, amount_of};
+ghost use Rattle.text_rules.specs.Amount.{is_point, is_digit_or_point, is_sign, is_exponent_mark, has_minus, without_sign, number_from, number_of, mantissa, exponent, is_mantissa, is_exponent, is_number, tens_for, tens_against, scaled, scaled_by, with_sign, amount_of};
 
 use crate::line::place_of;
 use text_rules::TextKind;
@@ -59,6 +59,51 @@ fn number_of(text: &[u8]) -> u128
         }
     }
     number
+}
+
+// The number that the digits in front spell behind those of the start, and how many they are. They end at another byte, or
+// where the number is long.
+fn digits_in_front(start: u64, text: &[u8]) -> (u64, usize)
+    requires { start ≤ 10 ^ 15 + 9 }
+    ensures within { result.1 ≤ length text.now }
+    ensures digits { list_all is_ascii_digit (take result.1 text.now) ≡ true }
+    ensures value { result.0 ≡ number_from start (take result.1 text.now) }
+    ensures bound { result.0 ≤ 10 ^ 15 + 9 }
+{
+    let mut number = start;
+    for (i, c) in text.iter().enumerate() {
+        if !c.is_ascii_digit() || number > 100_000_000_000_000 {
+            return (number, i);
+        }
+        number = 10 * number + (*c - b'0') as u64;
+    }
+    (number, text.len())
+}
+
+// The number that the digits spell and how many stand behind the point, where the text is digits and at most a point, of
+// which at most six digits stand behind it, and the number is short. None says nothing.
+fn plain_number(text: &[u8]) -> Option<(u64, u64)>
+    ensures bound { IfSome result (λ n. n.0 ≤ 10 ^ 15 + 9) }
+    ensures few { IfSome result (λ n. n.1 ≤ 6) }
+    ensures value { IfSome result (λ n. amount_of text.now ≡ with_sign false (scaled_by n.0 (6 - n.1) 0)) }
+{
+    let (front, at) = digits_in_front(0, text);
+    if at == text.len() {
+        return if 1 <= at && at <= 30 {
+            Some((front, 0))
+        } else {
+            None
+        };
+    }
+    if text[at] != b'.' || text.len() < 2 || text.len() > 31 {
+        return None;
+    }
+    let behind = &text[at + 1..];
+    let (number, places) = digits_in_front(front, behind);
+    if places < behind.len() || places > 6 {
+        return None;
+    }
+    Some((number, places as u64))
 }
 
 // The number times so many tens.
@@ -241,6 +286,9 @@ fn magnitude(mantissa: &[u8], exponent: &[u8]) -> Result<u64, TextKind>
 pub fn read_amount(text: &[u8]) -> Result<i64, TextKind>
     ensures { result ≡ amount_of text.now }
 {
+    if let Some((number, places)) = plain_number(text) {
+        return Ok(grown(number as u128, 6 - places)? as i64);
+    }
     let mantissa = mantissa(text);
     let exponent = match exponent(text) {
         Some(part) => {
