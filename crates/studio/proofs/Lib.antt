@@ -1,3 +1,4 @@
 pub mod Statuses
 pub mod Accepted
 mod RankAccepted
+pub mod Causes

@@ -61,7 +61,7 @@ fault_status name file TooLong lines h = inr (refl, h.0)
 fault_status name file BadProblem lines h = inl refl
 fault_status name file s lines h = absurd h
 
-max_status : (p : Problem) (s : Status) (lines : List (List ℕ)) → MaxWork p s lines → s ≡ Done
+pub max_status : (p : Problem) (s : Status) (lines : List (List ℕ)) → MaxWork p s lines → s ≡ Done
 max_status p Done lines h = refl
 max_status p s lines h = absurd h
 
@@ -69,7 +69,7 @@ verdict_status : (p : Problem) (v : Verdict) (s : Status) (lines : List (List �
 verdict_status p Meets s lines h = inl h.0
 verdict_status p (Breaks broken at) s lines h = inr h.0
 
-names_status : (names : List (List ℕ)) (p : Problem) (o : Option (List ℕ)) (s : Status) (lines : List (List ℕ)) → NamesSay names p o s lines → (s ≡ Done) ⊎ (s ≡ Refused)
+pub names_status : (names : List (List ℕ)) (p : Problem) (o : Option (List ℕ)) (s : Status) (lines : List (List ℕ)) → NamesSay names p o s lines → (s ≡ Done) ⊎ (s ≡ Refused)
 names_status names p (Some stranger) s lines h = inr h.0
 names_status names p None s lines h = verdict_status p h.0 s lines h.2
 
@@ -86,7 +86,7 @@ units_status : (names : List (List ℕ)) (p : Problem) (v : Verdict) (s : Status
 units_status names p Meets s lines h = three (flows_say_status p h.0 s lines h.3)
 units_status names p (Breaks broken at) s lines h = inr (inl h.0)
 
-flows_status : (names : List (List ℕ)) (p : Problem) (o : Option (List ℕ)) (s : Status) (lines : List (List ℕ)) → FlowNamesSay names p o s lines → (s ≡ Done) ⊎ ((s ≡ Refused) ⊎ (s ≡ Past))
+pub flows_status : (names : List (List ℕ)) (p : Problem) (o : Option (List ℕ)) (s : Status) (lines : List (List ℕ)) → FlowNamesSay names p o s lines → (s ≡ Done) ⊎ ((s ≡ Refused) ⊎ (s ≡ Past))
 flows_status names p (Some stranger) s lines h = inr (inl h.0)
 flows_status names p None s lines h = units_status names p h.0 s lines h.2
 
@@ -115,7 +115,7 @@ tree_status name p file TooLong lines h = inr (refl, h.0)
 tree_status name p file BadTree lines h = inl refl
 tree_status name p file s lines h = absurd h
 
-check_status : (p : Problem) (claim : Claim) (tree : Tree) (s : Status) (lines : List (List ℕ)) → CheckWork p claim tree s lines → (s ≡ Done) ⊎ (s ≡ Refused)
+pub check_status : (p : Problem) (claim : Claim) (tree : Tree) (s : Status) (lines : List (List ℕ)) → CheckWork p claim tree s lines → (s ≡ Done) ⊎ (s ≡ Refused)
 check_status p claim tree Done lines h = inl refl
 check_status p claim tree Refused lines h = inr refl
 check_status p claim tree s lines h = absurd h
@@ -125,26 +125,26 @@ rank_file_status name p file TooLong lines h = inr (refl, h.0)
 rank_file_status name p file BadTree lines h = inl refl
 rank_file_status name p file s lines h = absurd h
 
-rankcheck_status : (p : Problem) (t : Text) (s : Status) (lines : List (List ℕ)) → RankcheckWork p t s lines → (s ≡ Done) ⊎ (s ≡ Refused)
+pub rankcheck_status : (p : Problem) (t : Text) (s : Status) (lines : List (List ℕ)) → RankcheckWork p t s lines → (s ≡ Done) ⊎ (s ≡ Refused)
 rankcheck_status p t Done lines h = inl refl
 rankcheck_status p t Refused lines h = inr refl
 rankcheck_status p t s lines h = absurd h
 
-split_status : (p : Problem) (claim : Claim) (tree : Tree) (s : Status) (lines : List (List ℕ)) → SplitWork p claim tree s lines → (s ≡ Done) ⊎ (s ≡ Refused)
+pub split_status : (p : Problem) (claim : Claim) (tree : Tree) (s : Status) (lines : List (List ℕ)) → SplitWork p claim tree s lines → (s ≡ Done) ⊎ (s ≡ Refused)
 split_status p claim tree Done lines h = inl refl
 split_status p claim tree Refused lines h = inr refl
 split_status p claim tree s lines h = absurd h
 
-table_status : (p : Problem) (w : Network) (s : Status) (lines : List (List ℕ)) → TableWork p w s lines → s ≡ Done
+pub table_status : (p : Problem) (w : Network) (s : Status) (lines : List (List ℕ)) → TableWork p w s lines → s ≡ Done
 table_status p w Done lines h = refl
 table_status p w s lines h = absurd h
 
-report_status : (p : Problem) (w : Network) (s : Status) (lines : List (List ℕ)) → ReportWork p w s lines → s ≡ Done
+pub report_status : (p : Problem) (w : Network) (s : Status) (lines : List (List ℕ)) → ReportWork p w s lines → s ≡ Done
 report_status p w Done lines h = refl
 report_status p w s lines h = absurd h
 
 -- a claim is refused, or the work on its network is done
-network_status : (work : Problem → Network → Status → List (List ℕ) → Type 0) → ((p : Problem) (w : Network) (s : Status) (lines : List (List ℕ)) → work p w s lines → s ≡ Done) → (p : Problem) (claim : Claim) (tree : Tree) (s : Status) (lines : List (List ℕ)) → OnNetwork work p claim tree s lines → (s ≡ Done) ⊎ (s ≡ Refused)
+pub network_status : (work : Problem → Network → Status → List (List ℕ) → Type 0) → ((p : Problem) (w : Network) (s : Status) (lines : List (List ℕ)) → work p w s lines → s ≡ Done) → (p : Problem) (claim : Claim) (tree : Tree) (s : Status) (lines : List (List ℕ)) → OnNetwork work p claim tree s lines → (s ≡ Done) ⊎ (s ≡ Refused)
 network_status work done p claim tree s lines (inl refusal) = inr refusal.0
 network_status work done p claim tree s lines (inr rest) = inl (done p rest.0 s lines rest.2)
 
@@ -153,13 +153,13 @@ tail_status whole s e = inl e
 tail_status (spent next options) s e = inr (inl e)
 tail_status (past node nonbasic place) s e = inr (inr e)
 
-solve_status : (budget : ℕ) (p : Problem) (s : Status) (lines : List (List ℕ)) → SolveWork budget p s lines → (s ≡ Done) ⊎ ((s ≡ Spent) ⊎ (s ≡ Past))
+pub solve_status : (budget : ℕ) (p : Problem) (s : Status) (lines : List (List ℕ)) → SolveWork budget p s lines → (s ≡ Done) ⊎ ((s ≡ Spent) ⊎ (s ≡ Past))
 solve_status budget p s lines h = tail_status h.0.tail s h.1
 
-rank_status : (count budget : ℕ) (p : Problem) (s : Status) (lines : List (List ℕ)) → RankWork count budget p s lines → (s ≡ Done) ⊎ ((s ≡ Spent) ⊎ (s ≡ Past))
+pub rank_status : (count budget : ℕ) (p : Problem) (s : Status) (lines : List (List ℕ)) → RankWork count budget p s lines → (s ≡ Done) ⊎ ((s ≡ Spent) ⊎ (s ≡ Past))
 rank_status count budget p s lines h = tail_status h.0.tail s h.1
 
-search_status : (budget : ℕ) (p : Problem) (s : Status) (lines : List (List ℕ)) → SummaryWork budget p s lines → (s ≡ Done) ⊎ ((s ≡ Spent) ⊎ (s ≡ Past))
+pub search_status : (budget : ℕ) (p : Problem) (s : Status) (lines : List (List ℕ)) → SummaryWork budget p s lines → (s ≡ Done) ⊎ ((s ≡ Spent) ⊎ (s ≡ Past))
 search_status budget p Done lines h = inl refl
 search_status budget p s lines h = solve_status budget p s lines h
 
@@ -195,33 +195,33 @@ trees_status work status held name p s lines (file, is, inr rest) short = elim (
 
 -- ---- networks drawn and reported
 
-plant_graph_status : (p : Problem) (s : Status) (lines : List (List ℕ)) → PlantGraphWork p s lines → s ≡ Done
+pub plant_graph_status : (p : Problem) (s : Status) (lines : List (List ℕ)) → PlantGraphWork p s lines → s ≡ Done
 plant_graph_status p Done lines h = refl
 plant_graph_status p s lines h = absurd h
 
-graph_status : (p : Problem) (w : Network) (s : Status) (lines : List (List ℕ)) → NetworkGraphWork p w s lines → s ≡ Done
+pub graph_status : (p : Problem) (w : Network) (s : Status) (lines : List (List ℕ)) → NetworkGraphWork p w s lines → s ≡ Done
 graph_status p w Done lines h = refl
 graph_status p w s lines h = absurd h
 
 -- ---- designs
 
-periods_status : (budget : ℕ) (p : Problem) (plan : Plan) (s : Status) (lines : List (List ℕ)) → PeriodsWork budget p plan s lines → (s ≡ Done) ⊎ ((s ≡ Spent) ⊎ (s ≡ Past))
+pub periods_status : (budget : ℕ) (p : Problem) (plan : Plan) (s : Status) (lines : List (List ℕ)) → PeriodsWork budget p plan s lines → (s ≡ Done) ⊎ ((s ≡ Spent) ⊎ (s ≡ Past))
 periods_status budget p plan Done lines h = inl refl
 periods_status budget p plan s lines h = solve_status budget _ s lines h
 
 -- ---- parts
 
-part_status : (budget : ℕ) (known : Option Network) (inside outside : List ℕ) (p : Problem) (s : Status) (lines : List (List ℕ)) → PartSays budget known inside outside p s lines → (s ≡ Done) ⊎ ((s ≡ Spent) ⊎ (s ≡ Past))
+pub part_status : (budget : ℕ) (known : Option Network) (inside outside : List ℕ) (p : Problem) (s : Status) (lines : List (List ℕ)) → PartSays budget known inside outside p s lines → (s ≡ Done) ⊎ ((s ≡ Spent) ⊎ (s ≡ Past))
 part_status budget known inside outside p s lines h = tail_status h.says.0.tail s h.says.2
 
-claim_status : (budget : ℕ) (inside outside : List ℕ) (p : Problem) (claim : Claim) (tree : Tree) (s : Status) (lines : List (List ℕ)) → ClaimSays budget inside outside p claim tree s lines → (s ≡ Refused) ⊎ ((s ≡ Done) ⊎ ((s ≡ Spent) ⊎ (s ≡ Past)))
+pub claim_status : (budget : ℕ) (inside outside : List ℕ) (p : Problem) (claim : Claim) (tree : Tree) (s : Status) (lines : List (List ℕ)) → ClaimSays budget inside outside p claim tree s lines → (s ≡ Refused) ⊎ ((s ≡ Done) ⊎ ((s ≡ Spent) ⊎ (s ≡ Past)))
 claim_status budget inside outside p (network w) tree s lines (inl refusal) = inl refusal.0
 claim_status budget inside outside p (network w) tree s lines (inr rest) = inr (part_status budget (Some w) inside outside p s lines rest.1)
 claim_status budget inside outside p infeasible tree s lines h = inr (part_status budget None inside outside p s lines h)
 claim_status budget inside outside p unknown tree s lines h = inr (part_status budget None inside outside p s lines h)
 
 -- a part that is not put back
-merge_fault_status : (several : Bool) (name : List ℕ) (fault : MergeFault) (s : Status) (lines : List (List ℕ)) → FaultSays several name fault s lines → (s ≡ Refused) ⊎ (s ≡ NoLeaf)
+pub merge_fault_status : (several : Bool) (name : List ℕ) (fault : MergeFault) (s : Status) (lines : List (List ℕ)) → FaultSays several name fault s lines → (s ≡ Refused) ⊎ (s ≡ NoLeaf)
 merge_fault_status several name (merging.Tree (refusals.Claim why)) s lines h = inl h.0
 merge_fault_status several name (merging.Tree (refusals.Node node why)) s lines h = inl h.0
 merge_fault_status several name (merging.Part (refusals.Claim why)) s lines h = inl h.0
@@ -247,7 +247,7 @@ merge_status held names p claim tree s lines (inr (ps, give, inr stopped)) short
 
 -- ---- ranges
 
-spot_status : (spot : Spot) (budget : ℕ) (p : Problem) (w : Network) (s : Status) (lines : List (List ℕ)) → SpotWork spot budget p w s lines → (s ≡ Done) ⊎ ((s ≡ Spent) ⊎ ((s ≡ Past) ⊎ (s ≡ NotBest)))
+pub spot_status : (spot : Spot) (budget : ℕ) (p : Problem) (w : Network) (s : Status) (lines : List (List ℕ)) → SpotWork spot budget p w s lines → (s ≡ Done) ⊎ ((s ≡ Spent) ⊎ ((s ≡ Past) ⊎ (s ≡ NotBest)))
 spot_status spot budget p w Done lines h = inl refl
 spot_status spot budget p w Spent lines h = inr (inl refl)
 spot_status spot budget p w Past lines h = inr (inr (inl refl))

@@ -5,6 +5,7 @@ ghost use Rattle.studio_words.specs.Command as rules;
 ghost use Rattle.studio_words.specs.Command.{command_of, AreWithin, IsFileWord};
 ghost use Rattle.endings.specs.Ending.{Ends, IsOneOf};
 ghost use Rattle.studio.specs.Answers.{CommandSays, WordsSay, IsUndisturbed, IsNotStopped, SearchCanFinish, first_file, statuses_of};
+ghost use Rattle.studio.specs.Causes.{EndsExactly};
 ghost use Rattle.studio_words.specs.View.{command_view};
 ghost use Rattle.flow_commands.specs.Best.{FilesClaimBest};
 ghost use Rattle.rank_commands.specs.Rankcheck.{FilesListBest};
@@ -22,6 +23,7 @@ use network_commands::table::table;
 use part_commands::merge::merge;
 use part_commands::split::split;
 use part_searches::part::{part, part_against};
+use part_text::parts_are_read_once;
 use period_searches::expansion::expand;
 use period_searches::planned::periods;
 use pns_io::{Shelf, Sink};
@@ -115,6 +117,10 @@ pub fn studio<F: Shelf, K: Sink>(
     // A command whose first file the shelf tells to be missing says that it could not be read.
     ensures missing { (command : rules.Command) (name : List ℕ) → command_of (map string_bytes words.now) ≡ Some command → first_file command ≡ Some name
         → F.held shelf.old name ≡ Some None → IsOneOf (Status.ReadFault ∷ Status.WriteFault ∷ Status.Memory ∷ []) result }
+    // A status that tells of the words and the files comes exactly where its cause holds: a file above its limit, the first fault of its
+    // text, a bad token, an unknown name, words of no sound node, or a problem that is not migrated. It yields to the faults of reading,
+    // of the sink and of memory.
+    ensures exact { (command : rules.Command) → command_of (map string_bytes words.now) ≡ Some command → EndsExactly (F.held shelf.old) command result }
     // Where the command's files are held within the limit and no count rises, nothing but want of memory stops it.
     ensures complete { (command : rules.Command) → command_of (map string_bytes words.now) ≡ Some command
         → IsUndisturbed (record { held = F.held shelf.old; before = F.faults shelf.old; after = F.faults shelf.new }) command (HasRisen (K.faults out.old) (K.faults out.new))
@@ -133,5 +139,6 @@ pub fn studio<F: Shelf, K: Sink>(
 {
     accepted_is_best();
     accepted_are_best();
+    parts_are_read_once();
     run(alloc, words, shelf, out)
 }

@@ -2,6 +2,7 @@ use Rattle.std.proofs.Common.{map, string_bytes}
 use Rattle.pns_io.specs.Outside.{HasRisen}
 use Rattle.endings.specs.Ending.{Shelves}
 use Rattle.studio.proofs.Statuses.{usage_ends, no_form_ends, read_fault_ends, write_fault_ends, complete_ends, finish_ends, accepted_ends, ranked_ends, missing_ends}
+use Rattle.studio.proofs.Causes.{exact_ends}
 use Rattle.studio.proofs.call.studio.Goals as goal
 
 pub returns : goal.returns
@@ -18,6 +19,7 @@ returns g c =
       read_fault = read_fault_ends shelves words risen old new c.run.result c.run.ensures;
       write_fault = write_fault_ends shelves words risen old new c.run.result c.run.ensures;
       missing = missing_ends shelves words risen old new c.run.result c.run.ensures;
+      exact = exact_ends c.parts_are_read_once.ensures shelves words risen old new c.run.result c.run.ensures;
       complete = complete_ends shelves words risen old new c.run.result c.run.ensures;
       finishes = finish_ends shelves words risen old new c.run.result c.run.ensures;
       accepted = accepted_ends shelves words risen old new c.accepted_is_best.ensures c.run.result c.run.ensures;
