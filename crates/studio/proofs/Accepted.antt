@@ -43,7 +43,7 @@ module _ (no_claim_fault : PassingClaimHasNoFault) (no_tree_fault : PassingTreeH
   checked p claim tree name file Refused lines short accepted (inr (passes, (node, why, fails, told))) = absurd (no_tree_fault false p first_node claim tree node why accepted fails)
   checked p claim tree name file s lines short accepted work = absurd work
 
-  read : (p : Problem) (c : trees.Certificate) (name file : List ℕ) (s : Status) (lines : List (List ℕ)) → trees.read_text p file ≡ Ok c → IsAccepted p first_node c.claim c.tree → TreeSays CheckWork name p file s lines → IsAcceptedOrLong name file s lines
+  pub read : (p : Problem) (c : trees.Certificate) (name file : List ℕ) (s : Status) (lines : List (List ℕ)) → trees.read_text p file ≡ Ok c → IsAccepted p first_node c.claim c.tree → TreeSays CheckWork name p file s lines → IsAcceptedOrLong name file s lines
   read p c name file TooLong lines reads accepted (inl fault) = inr (fault.0, refl, fault.1)
   read p c name file BadTree lines reads accepted (inl fault) = let e : ◌≡◌ {A = Result trees.Certificate trees.Fault} (Ok c) (Err (fault.1.0, fault.1.1)) = sym reads ∙ fault.1.2 in cc
   read p c name file s lines reads accepted (inl fault) = absurd fault

@@ -250,12 +250,12 @@ module _ (held : List ℕ → Told) (name : List ℕ) (p : Problem) where
 
 -- ---- TREE, and what lies behind it whatever it claims
 
-tree_cause : (name : List ℕ) (p : Problem) (file : List ℕ) (s : Status) (lines : List (List ℕ)) → TreeFault name p file s lines → FileCause tree_limit BadTree (HasTreeFault p) file s
+pub tree_cause : (name : List ℕ) (p : Problem) (file : List ℕ) (s : Status) (lines : List (List ℕ)) → TreeFault name p file s lines → FileCause tree_limit BadTree (HasTreeFault p) file s
 tree_cause name p file TooLong lines h = inl (refl, h.0)
 tree_cause name p file BadTree lines h = inr (refl, h.0, (h.1.0, h.1.1, h.1.2))
 tree_cause name p file s lines h = absurd h
 
-not_bad_tree : (p : Problem) (file : List ℕ) (claim : Claim) (tree : Tree) (s : Status) → GivesTree p file claim tree → FileCause tree_limit BadTree (HasTreeFault p) file s → ⊥
+pub not_bad_tree : (p : Problem) (file : List ℕ) (claim : Claim) (tree : Tree) (s : Status) → GivesTree p file claim tree → FileCause tree_limit BadTree (HasTreeFault p) file s → ⊥
 not_bad_tree p file claim tree s given (inl h) = let a = given.0 in let b = h.1 in absurd (omega (arith, a, b))
 not_bad_tree p file claim tree s given (inr h) =
     let e : ◌≡◌ {A = Result trees.Certificate trees.Fault} (Ok (record { claim = claim; tree = tree; tail = given.1.0 })) (Err (h.2.0, h.2.1)) = sym given.1.1 ∙ h.2.2 in cc

@@ -14,4 +14,7 @@ mod laws;
 
 pub use call::studio;
 pub use endings::Status;
-pub use laws::{parts_join, ranked_is_accepted, solved_is_accepted};
+pub use laws::{
+    check_accepts_merged, check_accepts_solved, listings_join, parts_join,
+    rankcheck_accepts_ranked, ranked_is_accepted, solved_is_accepted,
+};

@@ -1,0 +1,93 @@
+-- Laws over calls of `studio` one after another, on shelves that keep the files: what one call put out another accepts, or goes on from.
+use Rattle.std.specs.Prelude.{◌≡◌, ◌⊎◌, ◌≤◌, ◌<◌, ◌+◌, ◌++◌, ℕ, List, [], ◌∷◌, Option, Some, length, codes}
+use Rattle.std.specs.Io.KnownBytes.{Appends}
+use Rattle.pns_io.specs.Outside.{HasRisen}
+use Rattle.command_files.specs.TreeFile.{tree_limit}
+use Rattle.studio_words.specs.Command.{Command, Listing, Checking, RankChecking, Solving, Ranking, Splitting, Merging, command_of}
+use Rattle.endings.specs.Lines.{line, text_of}
+use Rattle.endings.specs.Ending.{Shelves, Ends, IsOneOf}
+use Rattle.endings.specs.declared.status.Status.{Status}
+use Rattle.endings.specs.declared.status.Status.TheVariants.{Done, ReadFault, WriteFault, Memory, TooLong}
+use Rattle.studio.specs.Answers.{WordsSay}
+
+-- A call: its words, the shelf with the counts of its faults before and after, the same of the sink with what it tells to be out, and the
+-- status with which the call ended.
+pub record Call : Type 0 where
+  pub words : List (List ℕ)
+  pub shelves : Shelves
+  pub faults_before : ℕ
+  pub faults_after : ℕ
+  pub out_before : Option (List ℕ)
+  pub out_after : Option (List ℕ)
+  pub status : Status
+
+-- what the clause `ends` of `studio` says
+abbrev pub IsCall : Call → Type 0
+IsCall c = Ends (WordsSay c.shelves c.words) (HasRisen c.faults_before c.faults_after) c.out_before c.out_after c.status
+
+-- a call of the command
+pub record Calls (c : Call) (command : Command) : Type 0 where
+  pub call : IsCall c
+  pub form : command_of c.words ≡ Some command
+
+-- it ended with status 0, and the sink tells that it put out just the text
+pub record Puts (c : Call) (text : List ℕ) : Type 0 where
+  pub done : c.status ≡ Done
+  pub front : List ℕ
+  pub before : c.out_before ≡ Some front
+  pub after : c.out_after ≡ Some (front ++ text)
+
+-- the shelf of a call tells that the file holds the bytes, and those of two calls that it holds the same
+abbrev pub Holds : Call → List ℕ → List ℕ → Type 0
+Holds c name bytes = c.shelves.held name ≡ Some (Some bytes)
+
+abbrev pub Keep : Call → Call → List ℕ → Type 0
+Keep c d name = (bytes : List ℕ) × Holds c name bytes × Holds d name bytes
+
+-- it ended with the status and the text, or with a fault of reading, of the sink or of memory
+abbrev pub EndsWith : Call → Status → List ℕ → Type 0
+EndsWith c status text = (c.status ≡ status) × Appends c.out_before c.out_after text
+
+abbrev pub HasFailed : Call → Type 0
+HasFailed c = IsOneOf (ReadFault ∷ WriteFault ∷ Memory ∷ []) c.status
+
+-- it accepted the text of the named file, or told that it is above the limit of trees
+abbrev pub Accepts : Call → List ℕ → List ℕ → Type 0
+Accepts c name text =
+    ((length text ≤ tree_limit) × EndsWith c Done (line (codes "accepted")))
+    ⊎ ((tree_limit < length text) × EndsWith c TooLong (line (codes "too long " ++ name)))
+
+-- What `solve` put out and is kept as TREE, `check` accepts with the same problem file.
+abbrev pub CheckAcceptsSolved : Type 0
+CheckAcceptsSolved =
+    (solving checking : Call) (file tree : List ℕ) (budget : ℕ) (text : List ℕ)
+    → Calls solving (Solving file budget) → Puts solving text
+    → Calls checking (Checking file tree) → Keep solving checking file → Holds checking tree text
+    → Accepts checking tree text ⊎ HasFailed checking
+
+-- What `rank` put out and is kept as RANK, `rankcheck` accepts with the same problem file.
+abbrev pub RankcheckAcceptsRanked : Type 0
+RankcheckAcceptsRanked =
+    (ranking checking : Call) (file rank : List ℕ) (count budget : ℕ) (text : List ℕ)
+    → Calls ranking (Ranking file count budget) → Puts ranking text
+    → Calls checking (RankChecking file rank) → Keep ranking checking file → Holds checking rank text
+    → Accepts checking rank text ⊎ HasFailed checking
+
+-- What `merge` put out and is kept as TREE, where `split` finds no open leaf in it, `check` accepts with the same problem file.
+abbrev pub CheckAcceptsMerged : Type 0
+CheckAcceptsMerged =
+    (merging splitting checking : Call) (file tree merged part : List ℕ) (parts : List (List ℕ)) (text : List ℕ)
+    → Calls merging (Merging file tree (part ∷ parts)) → Puts merging text
+    → Calls splitting (Splitting file merged) → Puts splitting (line (codes "end")) → Keep merging splitting file → Holds splitting merged text
+    → Calls checking (Checking file merged) → Keep merging checking file → Holds checking merged text
+    → Accepts checking merged text ⊎ HasFailed checking
+
+-- What `list` put out for `m` structures, the second call behind the token of its last line, joins to what it puts out for all: the text
+-- of the second call stands in the place of the line `more`.
+abbrev pub ListingsJoin : Type 0
+ListingsJoin =
+    (first second whole : Call) (file after token : List ℕ) (m n : ℕ) (lines : List (List ℕ)) (rest : List ℕ) → 0 < m → 0 < n
+    → Calls first (Listing file after m) → Puts first (text_of (lines ++ (codes "more " ++ token) ∷ []))
+    → Calls second (Listing file token n) → Puts second rest → Keep first second file
+    → Calls whole (Listing file after (m + n)) → Keep first whole file
+    → EndsWith whole Done (text_of lines ++ rest) ⊎ HasFailed whole
