@@ -111,4 +111,4 @@ esac
 mkdir -p "$folder/parts" "$folder/log" || fail "no folder $folder"
 folder=$(realpath "$folder")
 rm -f "$folder"/parts/*.new.* "$folder/open" "$folder/answer" "$folder/budget"
-next_round 1 "$(least 500 "$most")"
+next_round 1 "$(least 16000 "$most")"
