@@ -1,4 +1,5 @@
 pub mod CostLemmas
+pub mod DeskLemmas
 pub mod SideLemmas
 pub mod ProbeLemmas
 pub mod RangeLemmas

@@ -1,3 +1,4 @@
 pub mod Case
+pub mod Desk
 pub mod Refusal
 pub mod Side

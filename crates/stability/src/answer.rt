@@ -5,9 +5,11 @@ ghost use Rattle.pgraph.specs.Tables.{shape};
 ghost use Rattle.tree_rules.specs.Claim.{IsFeasible};
 ghost use Rattle.stability_rules.specs.Spot.{KnowsSpot, value_at};
 ghost use Rattle.stability_rules.specs.Range.{IsBestAt, IsRange};
+ghost use Rattle.stability.specs.Desk.{IsDesk};
 ghost use Rattle.stability.specs.Refusal.{IsRefusal};
 
 use crate::case::Case;
+use crate::desk::Desk;
 use crate::outcome::{Range, RangeFault};
 use branch_tree::Network;
 use pgraph::Graph;
@@ -18,18 +20,19 @@ use std::alloc::Global;
 
 impl<'a> Case<'a> {
     /// The range of a network that is optimal now.
-    fn both_sides(&self) -> Result<Range, RangeFault>
-        requires { IsBestAt self.now.problem self.now.spot self.now.network (value_at self.now.problem self.now.spot) }
+    fn both_sides(&self, desk: &mut Desk) -> Result<Range, RangeFault>
+        requires desk { IsDesk self.now desk.old }
+        requires best { IsBestAt self.now.problem self.now.spot self.now.network (value_at self.now.problem self.now.spot) }
         ensures range { IfOk result (λ r. IsRange self.now.problem self.now.spot self.now.network r.from r.to r.below r.above) }
         ensures refusal { IfErr result (IsRefusal self.now.problem self.now.spot self.now.network self.now.budget) }
     {
         best_between();
         self.is_known();
-        let below = match self.end(Side::Below) {
+        let below = match self.end(desk, Side::Below) {
             Ok(end) => end,
             Err(fault) => return Err(fault),
         };
-        let above = match self.end(Side::Above) {
+        let above = match self.end(desk, Side::Above) {
             Ok(end) => end,
             Err(fault) => return Err(fault),
         };
@@ -39,6 +42,22 @@ impl<'a> Case<'a> {
             below: below.beyond,
             above: above.beyond,
         })
+    }
+
+    /// The range, or why none is told, over a desk with the present value.
+    fn range(&self, desk: &mut Desk) -> Result<Range, RangeFault>
+        requires problem { desk.old.problem ≡ self.now.problem }
+        requires desk { IsDesk self.now desk.old }
+        ensures range { IfOk result (λ r. IsRange self.now.problem self.now.spot self.now.network r.from r.to r.below r.above) }
+        ensures refusal { IfErr result (IsRefusal self.now.problem self.now.spot self.now.network self.now.budget) }
+    {
+        self.is_known();
+        present_stays();
+        match self.probe_now(desk) {
+            Ok(None) => self.both_sides(desk),
+            Ok(Some(cheaper)) => Err(RangeFault::NotBest(cheaper)),
+            Err(fault) => Err(fault),
+        }
     }
 }
 
@@ -63,12 +82,9 @@ pub fn range(
     ensures range { IfOk result (λ r. IsRange problem.now spot network.now r.from r.to r.below r.above) }
     ensures refusal { IfErr result (IsRefusal problem.now spot network.now budget) }
 {
-    problem.is_valid();
-    present_stays();
     let case = Case::of(alloc, problem, graph, network, spot, budget);
-    match case.probe_now() {
-        Ok(None) => case.both_sides(),
-        Ok(Some(cheaper)) => Err(RangeFault::NotBest(cheaper)),
-        Err(fault) => Err(fault),
-    }
+    let Ok(mut desk) = Desk::of(&case) else {
+        return Err(RangeFault::Memory);
+    };
+    case.range(&mut desk)
 }

@@ -4,10 +4,11 @@ ghost use Rattle.number_sets.specs.Sets.{has};
 ghost use Rattle.pns_rules.specs.Shape.{shape_of};
 ghost use Rattle.pgraph.specs.Tables.{shape};
 ghost use Rattle.stability_rules.specs.Spot.{value_at, value_on, IsAllowedValue};
+ghost use Rattle.stability.specs.Desk.{IsDesk};
 
 use crate::case::Case;
 use crate::costs::cost_in;
-use crate::setting::valued;
+use crate::desk::Desk;
 use branch_tree::Network;
 use int_rows::{checked_difference, checked_product, lowest_terms};
 use pgraph::Graph;
@@ -57,18 +58,18 @@ fn steps_of(lead: i128, next: i128) -> Option<u64> {
 
 impl<'a> Case<'a> {
     /// How far away the other network is still no cheaper, on a side where it is in the end.
-    pub(crate) fn meeting(&self, side: Side, other: &Network) -> Option<u64>
+    pub(crate) fn meeting(&self, desk: &mut Desk, side: Side, other: &Network) -> Option<u64>
+        requires desk { IsDesk self.now desk.old }
         requires known { (u : ℕ) → has other.now.units u ≡ true → u < (shape_of self.now.problem).units }
         requires allowed { IsAllowedValue self.now.spot (value_on side (value_at self.now.problem self.now.spot) 1) }
+        ensures { IsDesk self.now desk.new }
     {
         structures_stay();
         let Some(now) = lead(self.problem, self.graph, self.network, other) else {
             return None;
         };
-        let Ok(near) = valued(self.alloc, self.problem, self.spot, self.value(side, 1)) else {
-            return None;
-        };
-        match lead(&near, self.graph, self.network, other) {
+        desk.set(self, self.value(side, 1));
+        match lead(desk.problem(), self.graph, self.network, other) {
             Some(next) => steps_of(now, next),
             None => None,
         }

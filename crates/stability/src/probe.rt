@@ -1,50 +1,25 @@
 //! A search at one value: is the network optimal there, or another one cheaper?
 ghost use Rattle.std.specs.Prelude.{◌≡◌, ◌≤◌, ◌≤ℤ◌, ◌<ℤ◌, ◌*ℤ◌, ◌↔◌, pos, IsTrue, IfOk, IfErr, Some};
 ghost use Rattle.pns_rules.specs.Shape.{shape_of};
-ghost use Rattle.pgraph.specs.Tables.{shape};
-ghost use Rattle.tree_rules.specs.Accepted.{first_node};
+ghost use Rattle.neutral_extension.specs.Candidates.{AreMakersOf};
 ghost use Rattle.tree_rules.specs.Claim.{IsFeasible};
-ghost use Rattle.abb_search.specs.Found.{IsFound};
-ghost use Rattle.abb_search.specs.Answers.{IsAgainst};
 ghost use Rattle.stability_rules.specs.Spot.{value_at, valued, value_on, IsAllowedValue};
 ghost use Rattle.stability_rules.specs.Range.{repriced};
+ghost use Rattle.stability.specs.Desk.{IsDesk};
 ghost use Rattle.stability.specs.Refusal.{IsProbed, IsSearchStop, IsStopAt};
 
 use crate::case::Case;
 use crate::costs::{at_cost, cost_in};
+use crate::desk::Desk;
 use crate::outcome::RangeFault;
-use crate::setting::valued;
-use abb_search::{Found, search_against};
+use abb_search::Found;
 use branch_tree::Network;
 use cert_parts::{CostOver, is_reached};
-use pgraph::Graph;
 use pns_problem::Problem;
 use stability_laws::{present_stays, structures_stay};
 use stability_rules::Side;
-use std::alloc::{AllocError, Global};
+use std::alloc::AllocError;
 use tree_laws::{accepted_has_flows, accepted_is_optimal};
-use unit_sets::{Node, UnitSet};
-
-/// Searches all structures of the problem for a network that is cheaper than this one.
-fn search_all(
-    alloc: Global,
-    problem: &Problem,
-    graph: &Graph,
-    budget: u32,
-    network: Network,
-) -> Found
-    requires graph { shape graph.now ≡ shape_of problem.now }
-    requires some { 1 ≤ budget }
-    requires passes { IsFeasible problem.now network }
-    ensures found { IsFound problem.now first_node budget result }
-    ensures against { IsAgainst (Some network) result }
-{
-    let start = Node {
-        inside: UnitSet::empty(),
-        outside: UnitSet::empty(),
-    };
-    search_against(alloc, problem, graph, start, budget, network)
-}
 
 /// Whether the network costs less than this much.
 fn is_cheaper(much: &CostOver, network: &Network) -> bool
@@ -75,25 +50,27 @@ impl<'a> Case<'a> {
     /// Searches the problem with this value in the spot for a network that is cheaper than that of the case.
     fn search(
         &self,
-        problem: &Problem,
+        desk: &mut Desk,
         value: i64,
         network: Network,
     ) -> Result<Option<Network>, RangeFault>
-        requires problem { problem.now ≡ valued self.now.problem self.now.spot value }
+        requires problem { desk.old.problem ≡ valued self.now.problem self.now.spot value }
+        requires own { AreMakersOf (shape_of self.now.problem) desk.old.makers }
         requires network { network ≡ repriced self.now.problem self.now.spot self.now.network value }
         requires passes { IsFeasible (valued self.now.problem self.now.spot value) network }
         ensures probed { IfOk result (IsProbed self.now.problem self.now.spot self.now.network value) }
         ensures stopped { IfErr result (IsSearchStop self.now.problem self.now.spot self.now.budget value) }
+        ensures same { desk.new ≡ desk.old }
     {
         structures_stay();
         accepted_is_optimal();
         accepted_has_flows();
-        problem.is_valid();
+        desk.problem().is_valid();
         let much = CostOver {
             cost: network.cost(),
             d: network.d(),
         };
-        match search_all(self.alloc, problem, self.graph, self.budget, network) {
+        match desk.search(self.alloc, self.graph, self.budget, network) {
             Found::Solved { network, tree: _ } => {
                 if is_cheaper(&much, &network) {
                     Ok(Some(network))
@@ -140,39 +117,49 @@ impl<'a> Case<'a> {
     }
 
     /// A network of least cost that is cheaper now, if there is one.
-    pub(crate) fn probe_now(&self) -> Result<Option<Network>, RangeFault>
+    pub(crate) fn probe_now(&self, desk: &mut Desk) -> Result<Option<Network>, RangeFault>
+        requires problem { desk.old.problem ≡ self.now.problem }
+        requires desk { IsDesk self.now desk.old }
         ensures probed { IfOk result (IsProbed self.now.problem self.now.spot self.now.network (value_at self.now.problem self.now.spot)) }
         ensures stopped { IfErr result (IsSearchStop self.now.problem self.now.spot self.now.budget (value_at self.now.problem self.now.spot)) }
+        ensures desk { IsDesk self.now desk.new }
     {
         self.is_known();
         present_stays();
         match self.same_network() {
-            Ok(network) => self.search(self.problem, self.value_now(), network),
+            Ok(network) => self.search(desk, self.value_now(), network),
             Err(_) => Err(RangeFault::Memory),
         }
     }
 
     /// A network of least cost that is cheaper with this value in the spot, if there is one.
-    pub(crate) fn probe(&self, value: i64) -> Result<Option<Network>, RangeFault>
-        requires { IsAllowedValue self.now.spot value }
+    pub(crate) fn probe(&self, desk: &mut Desk, value: i64) -> Result<Option<Network>, RangeFault>
+        requires desk { IsDesk self.now desk.old }
+        requires allowed { IsAllowedValue self.now.spot value }
         ensures probed { IfOk result (IsProbed self.now.problem self.now.spot self.now.network value) }
         ensures stopped { IfErr result (IsStopAt self.now.problem self.now.spot self.now.network self.now.budget value) }
+        ensures desk { IsDesk self.now desk.new }
     {
-        let Ok(problem) = valued(self.alloc, self.problem, self.spot, value) else {
-            return Err(RangeFault::Memory);
-        };
-        match self.network_in(&problem, value) {
-            Ok(network) => self.search(&problem, value, network),
+        desk.set(self, value);
+        match self.network_in(desk.problem(), value) {
+            Ok(network) => self.search(desk, value, network),
             Err(fault) => Err(fault),
         }
     }
 
     /// The same so far away from the present value.
-    pub(crate) fn probe_at(&self, side: Side, away: u64) -> Result<Option<Network>, RangeFault>
-        requires { IsAllowedValue self.now.spot (value_on side (value_at self.now.problem self.now.spot) away) }
+    pub(crate) fn probe_at(
+        &self,
+        desk: &mut Desk,
+        side: Side,
+        away: u64,
+    ) -> Result<Option<Network>, RangeFault>
+        requires desk { IsDesk self.now desk.old }
+        requires allowed { IsAllowedValue self.now.spot (value_on side (value_at self.now.problem self.now.spot) away) }
         ensures probed { IfOk result (IsProbed self.now.problem self.now.spot self.now.network (value_on side (value_at self.now.problem self.now.spot) away)) }
         ensures stopped { IfErr result (IsStopAt self.now.problem self.now.spot self.now.network self.now.budget (value_on side (value_at self.now.problem self.now.spot) away)) }
+        ensures desk { IsDesk self.now desk.new }
     {
-        self.probe(self.value(side, away))
+        self.probe(desk, self.value(side, away))
     }
 }

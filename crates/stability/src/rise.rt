@@ -7,10 +7,11 @@ ghost use Rattle.stability_rules.specs.declared.side.Side.TheVariants.{Below, Ab
 ghost use Rattle.stability_rules.specs.Spot.{KnowsSpot, value_at, valued, value_on, IsAllowedValue};
 ghost use Rattle.stability_rules.specs.Range.{cost_at};
 ghost use Rattle.stability_rules.specs.Rise.{least_left, most_left, least_rise};
+ghost use Rattle.stability.specs.Desk.{IsDesk};
 
 use crate::case::Case;
 use crate::costs::cost_in;
-use crate::setting::valued;
+use crate::desk::Desk;
 use int_rows::{checked_product, checked_sum};
 use pns_problem::{Kind, Problem};
 use stability_laws::structures_stay;
@@ -154,23 +155,25 @@ impl<'a> Case<'a> {
     }
 
     /// What the network costs one step away.
-    fn cost_near(&self, side: Side) -> Option<i128>
-        requires { IsAllowedValue self.now.spot (value_on side (value_at self.now.problem self.now.spot) 1) }
-        ensures { IfSome result (λ cost. cost ≡ cost_at self.now.problem self.now.spot self.now.network (value_on side (value_at self.now.problem self.now.spot) 1)) }
+    fn cost_near(&self, desk: &mut Desk, side: Side) -> Option<i128>
+        requires desk { IsDesk self.now desk.old }
+        requires allowed { IsAllowedValue self.now.spot (value_on side (value_at self.now.problem self.now.spot) 1) }
+        ensures cost { IfSome result (λ cost. cost ≡ cost_at self.now.problem self.now.spot self.now.network (value_on side (value_at self.now.problem self.now.spot) 1)) }
+        ensures desk { IsDesk self.now desk.new }
     {
         let value = self.value(side, 1);
-        let Ok(near) = valued(self.alloc, self.problem, self.spot, value) else {
-            return None;
-        };
-        self.cost_with(&near, value)
+        desk.set(self, value);
+        self.cost_with(desk.problem(), value)
     }
 
     /// Whether the network costs as little more one step away as any structure can.
-    pub(crate) fn rises_least(&self, side: Side) -> bool
-        requires { IsAllowedValue self.now.spot (value_on side (value_at self.now.problem self.now.spot) 1) }
-        ensures { result ≡ true → cost_at self.now.problem self.now.spot self.now.network (value_on side (value_at self.now.problem self.now.spot) 1) ≡ self.now.network.cost +ℤ least_rise self.now.problem self.now.spot side *ℤ self.now.network.d }
+    pub(crate) fn rises_least(&self, desk: &mut Desk, side: Side) -> bool
+        requires desk { IsDesk self.now desk.old }
+        requires allowed { IsAllowedValue self.now.spot (value_on side (value_at self.now.problem self.now.spot) 1) }
+        ensures least { result ≡ true → cost_at self.now.problem self.now.spot self.now.network (value_on side (value_at self.now.problem self.now.spot) 1) ≡ self.now.network.cost +ℤ least_rise self.now.problem self.now.spot side *ℤ self.now.network.d }
+        ensures desk { IsDesk self.now desk.new }
     {
-        match (self.cost_near(side), self.least_cost(side)) {
+        match (self.cost_near(desk, side), self.least_cost(side)) {
             (Some(cost), Some(least)) => cost == least,
             _ => false,
         }

@@ -2,10 +2,12 @@
 ghost use Rattle.std.specs.Prelude.{◌≡◌, ◌+◌, ◌-◌, ◌<◌, ◌≤◌, true, false, IfOk, IfErr};
 ghost use Rattle.stability_rules.specs.Spot.{value_at};
 ghost use Rattle.stability_rules.specs.Range.{IsBestAt};
+ghost use Rattle.stability.specs.Desk.{IsDesk};
 ghost use Rattle.stability.specs.Refusal.{IsRefusal};
 ghost use Rattle.stability.specs.Side.{IsBracket, IsSettled, IsEnd};
 
 use crate::case::Case;
+use crate::desk::Desk;
 use crate::outcome::RangeFault;
 use branch_tree::Network;
 use stability_laws::{best_away, best_between};
@@ -102,34 +104,48 @@ impl Bracket {
 }
 
 impl<'a> Case<'a> {
-    /// Where to look next: where the lines of the two networks meet; on the way out, where a budget was spent, which costs all of it;
-    /// or, where a number was past the range, between by length.
-    fn next(&self, side: Side, bracket: &Bracket) -> u64
+    /// A guess where to look next: where the lines of the two networks meet; on the way out, where a budget was spent, which costs all of
+    /// it; or, where a number was past the range, between by length.
+    fn guess(&self, desk: &mut Desk, side: Side, bracket: &Bracket) -> u64
+        requires desk { IsDesk self.now desk.old }
         requires is_bracket { IsBracket self.now side bracket.now }
         requires open { bracket.now.good + 1 < bracket.now.bad }
-        ensures above { bracket.now.good < result }
-        ensures below { result < bracket.now.bad }
+        ensures { IsDesk self.now desk.new }
     {
-        let guess = match &bracket.beyond {
-            Beyond::Cheaper(network) => match self.meeting(side, network) {
+        match &bracket.beyond {
+            Beyond::Cheaper(network) => match self.meeting(desk, side, network) {
                 Some(away) => away,
                 None => middle(bracket.good, bracket.bad),
             },
             Beyond::Wanting(RangeFault::Spent { .. }) => outwards(bracket.good, bracket.bad),
             Beyond::Wanting(_) => middle(bracket.good, bracket.bad),
-        };
+        }
+    }
+
+    /// Where to look next.
+    fn next(&self, desk: &mut Desk, side: Side, bracket: &Bracket) -> u64
+        requires desk { IsDesk self.now desk.old }
+        requires is_bracket { IsBracket self.now side bracket.now }
+        requires open { bracket.now.good + 1 < bracket.now.bad }
+        ensures above { bracket.now.good < result }
+        ensures below { result < bracket.now.bad }
+        ensures desk { IsDesk self.now desk.new }
+    {
+        let guess = self.guess(desk, side, bracket);
         between(guess, bracket.good, bracket.bad)
     }
 
     /// The bracket after one more search.
-    fn narrowed(&self, side: Side, bracket: Bracket) -> Bracket
+    fn narrowed(&self, desk: &mut Desk, side: Side, bracket: Bracket) -> Bracket
+        requires desk { IsDesk self.now desk.old }
         requires is_bracket { IsBracket self.now side bracket }
         requires open { bracket.good + 1 < bracket.bad }
         ensures is_bracket { IsBracket self.now side result }
         ensures narrower { result.bad - result.good < bracket.bad - bracket.good }
+        ensures desk { IsDesk self.now desk.new }
     {
-        let next = self.next(side, &bracket);
-        match self.probe_at(side, next) {
+        let next = self.next(desk, side, &bracket);
+        match self.probe_at(desk, side, next) {
             Ok(None) => Bracket {
                 good: next,
                 bad: bracket.bad,
@@ -167,26 +183,30 @@ impl<'a> Case<'a> {
         }
     }
 
-    fn narrow(&self, side: Side, bracket: Bracket) -> Result<End, RangeFault>
-        requires { IsBracket self.now side bracket }
+    fn narrow(&self, desk: &mut Desk, side: Side, bracket: Bracket) -> Result<End, RangeFault>
+        requires desk { IsDesk self.now desk.old }
+        requires is_bracket { IsBracket self.now side bracket }
         ensures end { IfOk result (IsEnd self.now side) }
         ensures refusal { IfErr result (IsRefusal self.now.problem self.now.spot self.now.network self.now.budget) }
+        ensures desk { IsDesk self.now desk.new }
     {
         let mut bracket = bracket;
         'narrowing: loop {
             if bracket.is_settled() {
                 return self.told(side, bracket);
             }
-            bracket = self.narrowed(side, bracket);
+            bracket = self.narrowed(desk, side, bracket);
         }
     }
 
     /// The end of the range on this side, where the network is optimal now: where its cost rises as little as any can the range goes to
     /// the limit of the values, and else the limit is looked at first.
-    pub(crate) fn end(&self, side: Side) -> Result<End, RangeFault>
-        requires { IsBestAt self.now.problem self.now.spot self.now.network (value_at self.now.problem self.now.spot) }
+    pub(crate) fn end(&self, desk: &mut Desk, side: Side) -> Result<End, RangeFault>
+        requires desk { IsDesk self.now desk.old }
+        requires best { IsBestAt self.now.problem self.now.spot self.now.network (value_at self.now.problem self.now.spot) }
         ensures end { IfOk result (IsEnd self.now side) }
         ensures refusal { IfErr result (IsRefusal self.now.problem self.now.spot self.now.network self.now.budget) }
+        ensures desk { IsDesk self.now desk.new }
     {
         best_away();
         self.is_known();
@@ -197,18 +217,19 @@ impl<'a> Case<'a> {
                 beyond: None,
             });
         }
-        if self.rises_least(side) {
+        if self.rises_least(desk, side) {
             return Ok(End {
                 away: room,
                 beyond: None,
             });
         }
-        match self.probe_at(side, room) {
+        match self.probe_at(desk, side, room) {
             Ok(None) => Ok(End {
                 away: room,
                 beyond: None,
             }),
             Ok(Some(network)) => self.narrow(
+                desk,
                 side,
                 Bracket {
                     good: 0,
@@ -217,6 +238,7 @@ impl<'a> Case<'a> {
                 },
             ),
             Err(fault) => self.narrow(
+                desk,
                 side,
                 Bracket {
                     good: 0,

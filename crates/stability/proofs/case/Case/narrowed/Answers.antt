@@ -3,8 +3,8 @@ use Rattle.stability_rules.specs.Spot.{value_at}
 use Rattle.stability.proofs.SideLemmas.{nearer_allowed}
 use Rattle.stability.proofs.case.Case.narrowed.Goals as goal
 
-pub probe_at-requires : goal.probe_at-requires
-probe_at-requires c =
+pub probe_at-requires-clause-allowed : goal.probe_at-requires-clause-allowed
+probe_at-requires-clause-allowed c =
     let k = c.args.self.now in
     let h = c.requires.is_bracket in
     nearer_allowed k.spot c.args.side (value_at k.problem k.spot) c.next-next.result c.args.bracket.bad h.now_allowed h.allowed (omega arith)

@@ -2,6 +2,7 @@ use Rattle.std.proofs.Common.{◌≡◌, ◌≤ℤ◌, ◌<ℤ◌, ◌*ℤ◌, r
 use Rattle.std.specs.Int.{w128}
 use Rattle.std.proofs.lemmas.Int.{to_z-of_z}
 use Rattle.problem_rules.specs.Problem.{Problem}
+use Rattle.problem_rules.specs.Validity.{IsValid}
 use Rattle.tree_rules.specs.Claim.{Network, CostOver}
 use Rattle.stability_rules.specs.Spot.{valued}
 use Rattle.stability_rules.specs.Range.{cost_at, IsLeast, IsCheaper}
@@ -19,7 +20,7 @@ returns-then-is_cheaper-clause-probed c =
     let less : (n.cost *ℤ much.d) <ℤ (much.cost *ℤ n.d) = simp to_z-of_z at (c.if-is_cheaper.ensures.0 refl) in
     subst (λ (m : CostOver). IsCheaper (valued k.problem k.spot c.args.value) m n) much_is
     (subst (λ (q : Problem). IsCheaper q much n) c.requires.problem
-    (cheaper_found c.accepted_is_optimal.ensures c.accepted_has_flows.ensures c.args.problem.now c.is_valid.ensures.valid much n c.in-Solved.tree c.in-Solved.ensures.found less))
+    (cheaper_found c.accepted_is_optimal.ensures c.accepted_has_flows.ensures c.args.desk.now.problem (subst IsValid c.problem.ensures c.is_valid.ensures.valid) much n c.in-Solved.tree c.in-Solved.ensures.found less))
 
 pub returns-in-Solved-clause-probed : goal.returns-in-Solved-clause-probed
 returns-in-Solved-clause-probed c =
@@ -33,4 +34,4 @@ returns-in-Solved-clause-probed c =
     let positive : pos 1 ≤ℤ much.d = subst (λ (d : ℤ). pos 1 ≤ℤ d) (sym c.d.ensures) c.requires.passes.flows.positive in
     subst (λ (m : CostOver). IsLeast (valued k.problem k.spot c.args.value) m) much_is
     (subst (λ (q : Problem). IsLeast q much) c.requires.problem
-    (best_found c.accepted_is_optimal.ensures c.accepted_has_flows.ensures c.args.problem.now c.is_valid.ensures.valid much n c.in-Solved.tree positive c.in-Solved.ensures.found not_less))
+    (best_found c.accepted_is_optimal.ensures c.accepted_has_flows.ensures c.args.desk.now.problem (subst IsValid c.problem.ensures c.is_valid.ensures.valid) much n c.in-Solved.tree positive c.in-Solved.ensures.found not_less))

@@ -4,9 +4,11 @@ use Rattle.pns_rules.specs.Nodes.{Node}
 use Rattle.pgraph.specs.View.{node_of}
 use Rattle.tree_rules.specs.Accepted.{first_node}
 use Rattle.abb_search.specs.Found.{IsFound}
-use Rattle.stability.proofs.probe.search_all.Goals as goal
+use Rattle.stability.specs.Desk.{Desk}
+use Rattle.stability.proofs.desk.Desk.search.Goals as goal
 
 pub returns-clause-found : goal.returns-clause-found
 returns-clause-found c =
     let start : node_of (record { inside = c.empty.result; outside = c.empty-2.result }) ≡ first_node = λ i. record { inside = has (c.empty.ensures i); outside = has (c.empty-2.ensures i) } in
-    subst (λ (n : Node). IsFound c.args.problem.now n c.args.budget c.search_against.result) start c.search_against.ensures.found
+    subst (λ (d : Desk). IsFound d.problem first_node c.args.budget c.search.result) c.self.view_is
+    (subst (λ (n : Node). IsFound c.self.inside.problem n c.args.budget c.search.result) start c.search.ensures.found)

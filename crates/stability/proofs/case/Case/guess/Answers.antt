@@ -1,7 +1,7 @@
 use Rattle.std.proofs.Common.{arith}
 use Rattle.stability_rules.specs.Spot.{value_at}
 use Rattle.stability.proofs.SideLemmas.{nearer_allowed}
-use Rattle.stability.proofs.case.Case.next.Goals as goal
+use Rattle.stability.proofs.case.Case.guess.Goals as goal
 
 pub meeting-requires-clause-allowed : goal.meeting-requires-clause-allowed
 meeting-requires-clause-allowed c =

@@ -1,0 +1,94 @@
+//! The problem of a case with one value after the other in the spot, and what searches over it have in common.
+ghost use Rattle.std.specs.Prelude.{◌≡◌, ◌≤◌, IfOk, Some};
+ghost use Rattle.pns_rules.specs.Shape.{shape_of};
+ghost use Rattle.pgraph.specs.Tables.{shape};
+ghost use Rattle.neutral_extension.specs.Candidates.{AreMakersOf};
+ghost use Rattle.tree_rules.specs.Accepted.{first_node};
+ghost use Rattle.tree_rules.specs.Claim.{IsFeasible};
+ghost use Rattle.abb_search.specs.Found.{IsFound};
+ghost use Rattle.abb_search.specs.Answers.{IsAgainst};
+ghost use Rattle.stability_rules.specs.Spot.{valued, IsAllowedValue};
+ghost use Rattle.stability.specs.Desk.{IsDesk};
+
+use crate::case::Case;
+use crate::setting::set;
+use abb_search::{Found, Workspace};
+use branch_tree::Network;
+use pgraph::Graph;
+use pns_problem::Problem;
+use stability_laws::{present_stays, valued_is_valid};
+use std::alloc::{AllocError, Global};
+use std::marker::Model;
+use unit_sets::{Node, UnitSet};
+
+/// A copy of a case's problem, of which the spot alone is set from value to value, with what its searches keep.
+#[derive(Drop)]
+pub(crate) struct Desk {
+    problem: Problem,
+    workspace: Workspace,
+}
+
+impl Model for Desk {
+    ghost use Rattle.stability.specs.Desk as desks;
+
+    ghost Value = { desks.Desk };
+
+    ghost view = { λ d. record { problem = d.problem; makers = d.workspace } };
+}
+
+impl Desk {
+    /// A desk with the present value. `Err` comes for want of memory alone.
+    pub(crate) fn of(case: &Case) -> Result<Desk, AllocError>
+        ensures problem { IfOk result (λ d. d.problem ≡ case.now.problem) }
+        ensures desk { IfOk result (IsDesk case.now) }
+    {
+        present_stays();
+        let problem = case.problem.copy(case.alloc)?;
+        let workspace = Workspace::open(case.alloc, &problem, case.graph)?;
+        Ok(Desk { problem, workspace })
+    }
+
+    /// The case's problem with the value that was set last.
+    pub(crate) fn problem(&self) -> &Problem
+        ensures { result.now ≡ self.now.problem }
+    {
+        &self.problem
+    }
+
+    /// Sets the value in the spot. It takes no memory.
+    pub(crate) fn set(&mut self, case: &Case, value: i64)
+        requires desk { IsDesk case.now self.old }
+        requires allowed { IsAllowedValue case.now.spot value }
+        ensures problem { self.new.problem ≡ valued case.now.problem case.now.spot value }
+        ensures own { AreMakersOf (shape_of case.now.problem) self.new.makers }
+        ensures desk { IsDesk case.now self.new }
+    {
+        case.is_known();
+        valued_is_valid();
+        set(&mut self.problem, case.spot, value);
+    }
+
+    /// Searches all structures of the problem for a network that is cheaper than this one.
+    pub(crate) fn search(
+        &mut self,
+        alloc: Global,
+        graph: &Graph,
+        budget: u32,
+        network: Network,
+    ) -> Found
+        requires graph { shape graph.now ≡ shape_of self.old.problem }
+        requires own { AreMakersOf (shape graph.now) self.old.makers }
+        requires some { 1 ≤ budget }
+        requires passes { IsFeasible self.old.problem network }
+        ensures found { IsFound self.old.problem first_node budget result }
+        ensures against { IsAgainst (Some network) result }
+        ensures same { self.new ≡ self.old }
+    {
+        let start = Node {
+            inside: UnitSet::empty(),
+            outside: UnitSet::empty(),
+        };
+        self.workspace
+            .search(alloc, &self.problem, graph, start, budget, Some(network))
+    }
+}
