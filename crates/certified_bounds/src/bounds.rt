@@ -10,6 +10,7 @@ ghost use Rattle.tree_rules.specs.Leaf.{IsBounded};
 ghost use Rattle.certified_bounds.specs.Certified.{IsCertified};
 
 use crate::certified::Certified;
+use crate::change::{change_to, make_change};
 use crate::flows::flows;
 use crate::lows::{least, proving};
 use crate::proposals::{Proposals, Proposed};
@@ -76,7 +77,8 @@ impl CertifiedBounds {
             && self.parts.materials.len() == problem.materials().len()
     }
 
-    /// Goes over to the nodes of another problem, which it has room for. `Err` comes for want of memory alone.
+    /// Goes over to the nodes of another problem, which it has room for. Where that differs in one price or in the costs of one unit, no
+    /// name is copied. `Err` comes for want of memory alone.
     pub fn go_over(
         &mut self,
         alloc: Global,
@@ -90,9 +92,17 @@ impl CertifiedBounds {
         ensures same { OnErr result (self.new ≡ self.old) }
     {
         let scales = Scales::of(alloc, problem, graph)?;
-        let parts = problem.parts(alloc)?;
-        self.proposals.go_over(alloc, problem, &scales)?;
-        self.parts = parts;
+        match change_to(&self.parts, problem) {
+            Some(change) => {
+                self.proposals.go_over(alloc, problem, &scales)?;
+                make_change(&mut self.parts, problem, change);
+            }
+            None => {
+                let parts = problem.parts(alloc)?;
+                self.proposals.go_over(alloc, problem, &scales)?;
+                self.parts = parts;
+            }
+        }
         self.scales = scales;
         Ok(())
     }

@@ -11,11 +11,12 @@
 //! Modules: `certified` (what is told of a node), `bounds` (the calls), `lows`, `flows` and `refutations` (what the proposals amount to
 //! once they are judged), `judged` (the checks), `proposals` (guess and solution, of which nothing is promised), `multipliers` (scaled
 //! multipliers in the numbers of the problem), `rounding` (wide quotients), `number_list` (a list of numbers in range), `same_problem`
-//! (whether two problems are the same).
+//! (whether two problems are the same), `change` (one price, or the costs of one unit, that are not).
 #![tactic(auto)]
 
 mod bounds;
 mod certified;
+mod change;
 mod flows;
 mod judged;
 mod lows;

@@ -1,16 +1,20 @@
 //! Whether a problem has the same parts.
 ghost use Rattle.std.specs.Prelude.{◌≡◌, IsTrue};
+ghost use Rattle.certified_bounds.specs.Change.{priced_as, costed_as};
 
 use pns_problem::{Exclusion, Material, OperatingUnit, Parts, Problem, Term};
+
+/// Whether the materials are the same but for their prices.
+pub(crate) fn is_same_but_price(a: &Material, b: &Material) -> bool
+    ensures { IsTrue result → priced_as a.now b.now ≡ b.now }
+{
+    a.lower == b.lower && a.upper == b.upper && a.kind == b.kind && a.name == b.name
+}
 
 fn is_same_material(a: &Material, b: &Material) -> bool
     ensures { IsTrue result → a.now ≡ b.now }
 {
-    a.price == b.price
-        && a.lower == b.lower
-        && a.upper == b.upper
-        && a.kind == b.kind
-        && a.name == b.name
+    a.price == b.price && is_same_but_price(a, b)
 }
 
 fn is_same_term(a: Term, b: Term) -> bool
@@ -33,31 +37,27 @@ fn are_same_terms(xs: &[Term], ys: &[Term]) -> bool
     true
 }
 
-fn has_same_costs(a: &OperatingUnit, b: &OperatingUnit) -> bool
-    ensures fix { IsTrue result → a.now.fix ≡ b.now.fix }
-    ensures proportional { IsTrue result → a.now.proportional ≡ b.now.proportional }
-    ensures investment_fix { IsTrue result → a.now.investment_fix ≡ b.now.investment_fix }
-    ensures investment_proportional { IsTrue result → a.now.investment_proportional ≡ b.now.investment_proportional }
+/// Whether the units are the same but for their fixed and proportional costs.
+pub(crate) fn is_same_but_costs(a: &OperatingUnit, b: &OperatingUnit) -> bool
+    ensures { IsTrue result → costed_as a.now b.now ≡ b.now }
 {
-    a.fix == b.fix
-        && a.proportional == b.proportional
-        && a.investment_fix == b.investment_fix
-        && a.investment_proportional == b.investment_proportional
-}
-
-fn is_same_unit(a: &OperatingUnit, b: &OperatingUnit) -> bool
-    ensures { IsTrue result → a.now ≡ b.now }
-{
-    if !has_same_costs(a, b) {
-        return false;
-    }
     if !are_same_terms(&a.inputs, &b.inputs) {
         return false;
     }
     if !are_same_terms(&a.outputs, &b.outputs) {
         return false;
     }
-    a.lower == b.lower && a.upper == b.upper && a.name == b.name
+    a.lower == b.lower
+        && a.upper == b.upper
+        && a.investment_fix == b.investment_fix
+        && a.investment_proportional == b.investment_proportional
+        && a.name == b.name
+}
+
+fn is_same_unit(a: &OperatingUnit, b: &OperatingUnit) -> bool
+    ensures { IsTrue result → a.now ≡ b.now }
+{
+    a.fix == b.fix && a.proportional == b.proportional && is_same_but_costs(a, b)
 }
 
 fn is_same_exclusion(a: &Exclusion, b: &Exclusion) -> bool
@@ -66,7 +66,7 @@ fn is_same_exclusion(a: &Exclusion, b: &Exclusion) -> bool
     a.units == b.units && a.name == b.name
 }
 
-fn are_same_materials(xs: &[Material], ys: &[Material]) -> bool
+pub(crate) fn are_same_materials(xs: &[Material], ys: &[Material]) -> bool
     ensures { IsTrue result → xs.now ≡ ys.now }
 {
     if xs.len() != ys.len() {
@@ -80,7 +80,7 @@ fn are_same_materials(xs: &[Material], ys: &[Material]) -> bool
     true
 }
 
-fn are_same_units(xs: &[OperatingUnit], ys: &[OperatingUnit]) -> bool
+pub(crate) fn are_same_units(xs: &[OperatingUnit], ys: &[OperatingUnit]) -> bool
     ensures { IsTrue result → xs.now ≡ ys.now }
 {
     if xs.len() != ys.len() {
@@ -94,7 +94,7 @@ fn are_same_units(xs: &[OperatingUnit], ys: &[OperatingUnit]) -> bool
     true
 }
 
-fn are_same_exclusions(xs: &[Exclusion], ys: &[Exclusion]) -> bool
+pub(crate) fn are_same_exclusions(xs: &[Exclusion], ys: &[Exclusion]) -> bool
     ensures { IsTrue result → xs.now ≡ ys.now }
 {
     if xs.len() != ys.len() {
