@@ -1,9 +1,9 @@
 -- Arcs that are joined one by one, and the materials of a set of units.
-use Rattle.std.proofs.Common.{◌≡◌, ◌≢◌, ℕ, zero, suc, ◌+◌, ◌<◌, ◌≤◌, ◌==◌, nat_lt, Bool, true, false, not, cond, ◌&&◌, ◌||◌, List, [], ◌∷◌, ◌++◌, length, get_or, set, take, Some, None, refl, sym, ap, ◌∙◌, subst, inl, inr, ◌⊎◌, arith, eq-eqb, ne_eqb}
+use Rattle.std.proofs.Common.{◌≡◌, ◌≢◌, ℕ, zero, suc, ◌+◌, ◌<◌, ◌≤◌, ◌==◌, nat_lt, Bool, true, false, not, cond, ◌&&◌, ◌||◌, List, [], ◌∷◌, ◌++◌, length, get_or, set, take, Some, refl, sym, ap, ◌∙◌, subst, inl, inr, ◌⊎◌, arith, eq-eqb, ne_eqb}
 use Rattle.std.proofs.lemmas.Bool.{or_left, or_right, or_cases, and_parts, and_from, both_ways, cases_eq, cases_lt, lt-ltb, le-ltb, eqb-false, false_from_ne_true}
 use Rattle.std.proofs.lemmas.List.{get_or_default, get_or_past, take_more, get_or-set_same, get_or-set_other, get_or_read}
 use Rattle.number_sets.specs.Sets.{has, first, with_number, kept, union, meet, IsWithin}
-use Rattle.number_sets.proofs.SetLemmas.{has-with_number, has-kept, has-union, has-meet, any_below-from, any_below-some, same_tests}
+use Rattle.number_sets.proofs.SetLemmas.{has-with_number, has-union, has-meet, any_below-from, any_below-some, same_tests}
 use Rattle.problem_rules.specs.Problem.{Term, OperatingUnit, no_unit, terms_have}
 use Rattle.pgraph.specs.declared.arcs.Side.{Side}
 use Rattle.pgraph.specs.declared.arcs.Side.TheVariants.{Inputs, Outputs}
@@ -172,19 +172,24 @@ pub record IsGathered (a : Arcs) (set left found : ℕ → Bool) : Type 0 where
   pub sound : (x : ℕ) → found x ≡ true → joins_some a set x ≡ true
   pub complete : (u x : ℕ) → set u ≡ true → left u ≡ false → joins a u x ≡ true → found x ≡ true
 
-module _ (a : Arcs) (is : IsArcs a) (set : ℕ → Bool) (left : List ℕ) (found materials : List ℕ) (u : ℕ) (before : IsGathered a set (has left) (has found)) (here : has left u ≡ true) (materials_is : has materials ≡ joins a u) where
-  pub gathered_more : IsGathered a set (has (kept (λ v. not (u == v)) left)) (has (union found materials))
+pub head_in_set : (a : Arcs) (set : ℕ → Bool) (left rest : List ℕ) (found : ℕ → Bool) (u : ℕ) → IsGathered a set (has left) found → left ≡ u ∷ rest → set u ≡ true
+head_in_set a set left rest found u before head = before.within u (ap (λ xs. has xs u) head ∙ or_left (u == u) (has rest u) (eq-eqb u u refl))
+
+module _ (a : Arcs) (is : IsArcs a) (set : ℕ → Bool) (left rest found materials : List ℕ) (u : ℕ) (before : IsGathered a set (has left) (has found)) (head : left ≡ u ∷ rest) (materials_is : has materials ≡ joins a u) where
+  in_left : (v : ℕ) → has left v ≡ ((u == v) || has rest v)
+  in_left v = ap (λ xs. has xs v) head
+
+  pub gathered_more : IsGathered a set (has rest) (has (union found materials))
   gathered_more = record {
-    within = λ v e. before.within v (and_parts (has left v) (not (u == v)) (sym (has-kept (λ w. not (u == w)) left v) ∙ e)).0;
+    within = λ v e. before.within v (in_left v ∙ or_right (u == v) (has rest v) e);
     sound = λ x e. elim (or_cases (has found x) (has materials x) (sym (has-union found materials x) ∙ e)) [
       | inl p ↦ before.sound x p
-      | inr q ↦ joins_some-from a is set u x (before.within u here) (sym (ap (λ t. t x) materials_is) ∙ q)
+      | inr q ↦ joins_some-from a is set u x (head_in_set a set left rest (has found) u before head) (sym (ap (λ t. t x) materials_is) ∙ q)
     ];
     complete = λ v x e gone j.
         has-union found materials x ∙ elim (cases_eq u v) [
           | inl q ↦ or_right (has found x) (has materials x) (ap (λ t. t x) materials_is ∙ subst (λ w. joins a w x ≡ true) (sym q) j)
-          | inr ne ↦ or_left (has found x) (has materials x) (before.complete v x e (false_from_ne_true (has left v) (λ p.
-              both_ways (has (kept (λ w. not (u == w)) left) v) gone (has-kept (λ w. not (u == w)) left v ∙ and_from (has left v) (not (u == v)) p (ap not (ne_eqb u v ne))))) j)
+          | inr ne ↦ or_left (has found x) (has materials x) (before.complete v x e (in_left v ∙ (ap (λ b. b || has rest v) (ne_eqb u v ne) ∙ gone)) j)
         ];
   }
 

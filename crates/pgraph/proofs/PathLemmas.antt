@@ -1,7 +1,7 @@
 -- The units that lead to a product, found back from the products.
-use Rattle.std.proofs.Common.{◌≡◌, ℕ, suc, ◌+◌, ◌<◌, ◌≤◌, ◌==◌, Bool, true, false, not, ◌&&◌, ◌||◌, List, [], ◌∷◌, length, Some, None, ◌↔◌, refl, sym, ap, ◌∙◌, subst, inl, inr, arith, eqb-true, ne_eqb}
+use Rattle.std.proofs.Common.{◌≡◌, ℕ, ◌<◌, ◌==◌, Bool, true, false, not, ◌&&◌, ◌||◌, List, [], ◌∷◌, Some, None, ◌↔◌, refl, sym, ap, ◌∙◌, subst, inl, inr, arith, eqb-true, ne_eqb}
 use Rattle.std.proofs.lemmas.Bool.{or_cases, or_left, or_right, or_from, and_parts, and_from, both_ways, true_from_ne_false, not-true}
-use Rattle.number_sets.specs.Sets.{has, first, with_number, union, meet, minus, IsWithin, IsBelowAll, IsRising, AreBelow, IsSet}
+use Rattle.number_sets.specs.Sets.{has, first, with_number, union, meet, minus, IsWithin, IsRising}
 use Rattle.number_sets.proofs.SetLemmas.{has-with_number, has-union, has-meet, has-minus, below_not_had}
 use Rattle.pns_rules.specs.Shape.{Shape, IsProper}
 use Rattle.pns_rules.specs.Structure.{is_used, IsPath, HasPath}

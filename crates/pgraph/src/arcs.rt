@@ -160,14 +160,9 @@ impl Arcs {
     {
         self.is_arcs();
         let mut found = MatSet::empty();
-        let mut left = set;
-        'units: loop {
-            left.rises();
-            let Some(u) = left.least() else {
-                return found;
-            };
+        for u in set {
             found = found.union(self.materials(u));
-            left = left.without(u);
         }
+        found
     }
 }
