@@ -35,18 +35,24 @@ pub record IsNext (n : ℕ) (left : List ℕ) (x : ℕ) (rest : List ℕ) : Type
   pub below : x < n
   pub above : IsBelowAll x rest
 
-pub is_next : (n : ℕ) (left : List ℕ) (x : ℕ) (rest : List ℕ) → IsSet n left → first left ≡ Some x → rest ≡ kept (λ v. not (x == v)) left → IsNext n left x rest
-is_next n left x rest h e f =
-    let is : left ≡ x ∷ rest = walk_next left x h.rising e ∙ ap (λ ys. x ∷ ys) (sym f) in
+pub next_of : (n : ℕ) (left : List ℕ) (x : ℕ) (rest : List ℕ) → IsSet n left → left ≡ x ∷ rest → IsNext n left x rest
+next_of n left x rest h is =
     let rising = subst IsRising is h.rising in
     let below = subst (AreBelow n) is h.below in
     record { is = is; set = record { rising = rising.1; below = below.1 }; below = below.0; above = rising.0 }
+
+pub is_next : (n : ℕ) (left : List ℕ) (x : ℕ) (rest : List ℕ) → IsSet n left → first left ≡ Some x → rest ≡ kept (λ v. not (x == v)) left → IsNext n left x rest
+is_next n left x rest h e f =
+    next_of n left x rest h (walk_next left x h.rising e ∙ ap (λ ys. x ∷ ys) (sym f))
 
 pub shorter : (n : ℕ) (left : List ℕ) (x : ℕ) (rest : List ℕ) → IsNext n left x rest → length rest < length left
 shorter n left x rest h = rw (h.is) (omega arith)
 
 pub has_next : (n : ℕ) (left : List ℕ) (x : ℕ) (rest : List ℕ) → IsNext n left x rest → has left x ≡ true
 has_next n left x rest h = rw (h.is) (has-first x rest)
+
+pub head_had : (left : List ℕ) (x : ℕ) (rest : List ℕ) → left ≡ x ∷ rest → has left x ≡ true
+head_had left x rest is = rw is (has-first x rest)
 
 pub rest_within : (n : ℕ) (left : List ℕ) (x : ℕ) (rest : List ℕ) → IsNext n left x rest → IsWithin (has rest) (has left)
 rest_within n left x rest h u e = rw (h.is) (has-rest x u rest e)

@@ -73,15 +73,9 @@ fn reduced(
     ensures from_start { IfErr result (λ e. start ≤ e.at) }
     ensures past { IfErr result (λ e. IsFirstPast (reduced_steps (entry ys.now) (entry rates.now) materials cost) (e.at - start)) }
 {
-    materials.rises();
     let mut rest = cost;
     let mut at = start;
-    let mut left = materials;
-    'rows: loop {
-        left.rises();
-        let Some(j) = left.least() else {
-            return Ok((rest, at));
-        };
+    for j in materials {
         let Some(paid) = quick_product(ys[j as usize], rates[j as usize] as i128) else {
             return Err(PastSum { at });
         };
@@ -90,8 +84,8 @@ fn reduced(
         };
         rest = difference;
         at += 2;
-        left = left.without(j);
     }
+    Ok((rest, at))
 }
 
 /// The sum with the part of one unit, and the number of the step that comes next.
@@ -145,23 +139,17 @@ fn with_rows(
     ensures past { IfErr result (λ e. IsFirstPast (rows_steps (net_of problem.now) (node_of node.now) (entry ys.now) rows sum) (e.at - 1)) }
 {
     problem.is_valid();
-    rows.rises();
     let mut total = sum;
     let mut at = 1;
-    let mut left = rows;
-    'rows: loop {
-        left.rises();
-        let Some(j) = left.least() else {
-            return Ok(total);
-        };
+    for j in rows {
         let range = row_range(problem, node, needed, j);
         match with_least(at, total, ys[j as usize], range.low, range.high) {
             Err(past) => return Err(past),
             Ok(next) => total = next,
         }
         at += 2;
-        left = left.without(j);
     }
+    Ok(total)
 }
 
 /// The sum with the parts of the units.
@@ -185,16 +173,10 @@ fn with_units(
     ensures past { IfErr result (λ e. IsFirstPast (units_steps (net_of problem.now) (node_of node.now) d (entry ys.now) set sum) (e.at - start)) }
 {
     problem.is_valid();
-    set.rises();
     let mut rates = [0; 256];
     let mut total = sum;
     let mut at = start;
-    let mut left = set;
-    'units: loop {
-        left.rises();
-        let Some(u) = left.least() else {
-            return Ok(total);
-        };
+    for u in set {
         let materials = put_rates(&mut rates, problem, graph, u);
         materials.rises();
         let unit = unit_numbers(problem, node, u, materials, &rates);
@@ -205,8 +187,8 @@ fn with_units(
                 at = next_at;
             }
         }
-        left = left.without(u);
     }
+    Ok(total)
 }
 
 /// The bound of a node for the multiplier `d` of the cost and one multiplier for each row in rising order, in the measure

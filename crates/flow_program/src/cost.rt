@@ -64,18 +64,12 @@ pub fn cost_of(
     ensures in_range { OnOk result (AreInRange (cost_steps (net_of problem.now) (has set) (beside set sizes.now) d)) }
     ensures past { IfErr result (λ e. IsFirstPast (cost_steps (net_of problem.now) (has set) (beside set sizes.now) d) e.at) }
 {
-    set.rises();
     graph.is_proper();
     let size_at = by_unit(set, sizes);
     let mut rates = [0; 256];
     let mut sum = 0;
     let mut at = 0;
-    let mut left = set;
-    'units: loop {
-        left.rises();
-        let Some(u) = left.least() else {
-            return Ok(sum);
-        };
+    for u in set {
         let materials = put_rates(&mut rates, problem, graph, u);
         let each = size_cost(problem, u, materials, &rates);
         let fixed = trillionfold(fixed_cost(problem, u));
@@ -84,6 +78,6 @@ pub fn cost_of(
             Ok(total) => sum = total,
         }
         at += 4;
-        left = left.without(u);
     }
+    Ok(sum)
 }

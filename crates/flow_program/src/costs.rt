@@ -104,17 +104,11 @@ pub(crate) fn size_cost(problem: &Problem, u: u32, materials: MatSet, rates: &[i
     ensures value { result ≡ size_cost (net_of problem.now) u }
     ensures small { unsigned_abs result ≤ 10 ^ 35 }
 {
-    materials.rises();
     let mut cost = millionfold(proportional_cost(problem, u));
-    let mut left = materials;
-    'materials: loop {
-        left.rises();
-        let Some(j) = left.least() else {
-            return cost;
-        };
+    for j in materials {
         cost -= worth(problem, j, rates[j as usize]);
-        left = left.without(j);
     }
+    cost
 }
 
 /// The slope by which a free unit pays for its fixed cost.
@@ -136,15 +130,9 @@ pub fn fixed_costs(problem: &Problem, set: UnitSet) -> i128
     ensures value { result ≡ trillion *ℤ total (net_of problem.now).fix set }
     ensures small { unsigned_abs result ≤ 10 ^ 32 }
 {
-    set.rises();
     let mut sum = 0;
-    let mut left = set;
-    'units: loop {
-        left.rises();
-        let Some(u) = left.least() else {
-            return trillionfold(sum);
-        };
+    for u in set {
         sum += fixed_cost(problem, u);
-        left = left.without(u);
     }
+    trillionfold(sum)
 }

@@ -95,13 +95,7 @@ fn in_boxes(problem: &Problem, set: UnitSet, d: i128, size_at: &[i128]) -> bool
     requires positive { pos 1 ≤ℤ d }
     ensures { IsTrue result ↔ AreInBoxes (net_of problem.now) (entry size_at.now) d set }
 {
-    set.rises();
-    let mut left = set;
-    'units: loop {
-        left.rises();
-        let Some(u) = left.least() else {
-            return true;
-        };
+    for u in set {
         let unit = &problem.units()[u as usize];
         let bounds = Range {
             low: unit.lower as i128,
@@ -110,8 +104,8 @@ fn in_boxes(problem: &Problem, set: UnitSet, d: i128, size_at: &[i128]) -> bool
         if !is_within(size_at[u as usize], d, bounds) {
             return false;
         }
-        left = left.without(u);
     }
+    true
 }
 
 /// What the units make of the material less what they use, and the number of the step that comes next.
@@ -131,15 +125,9 @@ fn balance_of(
     ensures from_start { IfErr result (λ e. start ≤ e.at) }
     ensures past { IfErr result (λ e. IsFirstPast (balance_steps (net_of problem.now) (entry size_at.now) j units (pos 0)) (e.at - start)) }
 {
-    units.rises();
     let mut sum = 0;
     let mut at = start;
-    let mut left = units;
-    'units: loop {
-        left.rises();
-        let Some(u) = left.least() else {
-            return Ok((sum, at));
-        };
+    for u in units {
         let rate = rate_at(problem, j, u);
         let Some(moved) = checked_product(rate as i128, size_at[u as usize]) else {
             return Err(PastSum { at });
@@ -149,8 +137,8 @@ fn balance_of(
         };
         sum = next;
         at += 2;
-        left = left.without(u);
     }
+    Ok((sum, at))
 }
 
 /// The units of the set that make or use the material.
@@ -180,15 +168,9 @@ fn in_ranges(
     ensures past { IfErr result (λ e. IsFirstPast (materials_steps (net_of problem.now) (has set) (entry size_at.now) materials) e.at) }
 {
     problem.is_valid();
-    materials.rises();
     let mut hold = true;
     let mut at = 0;
-    let mut left = materials;
-    'materials: loop {
-        left.rises();
-        let Some(j) = left.least() else {
-            return Ok(hold);
-        };
+    for j in materials {
         let material = &problem.materials()[j as usize];
         let range = range_of(problem, j, material.lower);
         let units = units_with(graph, set, j);
@@ -200,8 +182,8 @@ fn in_ranges(
                 at = next_at;
             }
         }
-        left = left.without(j);
     }
+    Ok(hold)
 }
 
 /// Whether the sizes, in millionths over `d`, that stand beside the units of the set in rising order are flows for it: each

@@ -86,15 +86,10 @@ fn push_rates(
     requires { length rates.now ≡ 256 }
     ensures { OnOk result (list.new.items ≡ list.old.items ++ map (rate_beside materials rates.now) rows) }
 {
-    let mut left = rows;
-    'rows: loop {
-        left.rises();
-        let Some(j) = left.least() else {
-            return Ok(());
-        };
+    for j in rows {
         list.push(rate_in_row(materials, rates, j))?;
-        left = left.without(j);
     }
+    Ok(())
 }
 
 fn columns_of(
@@ -117,25 +112,20 @@ fn columns_of(
     let mut highs = Vec::new(alloc);
     let mut rates = Vec::new(alloc);
     let mut rate_at = [0; 256];
-    let mut left = units;
-    'units: loop {
-        left.rises();
-        let Some(u) = left.least() else {
-            return Ok(Columns {
-                costs,
-                lows,
-                highs,
-                rates,
-            });
-        };
+    for u in units {
         let materials = put_rates(&mut rate_at, problem, graph, u);
         let unit = unit_numbers(problem, node, u, materials, &rate_at);
         costs.push(unit.cost)?;
         lows.push(unit.low)?;
         highs.push(unit.high)?;
         push_rates(&mut rates, rows, materials, &rate_at)?;
-        left = left.without(u);
     }
+    Ok(Columns {
+        costs,
+        lows,
+        highs,
+        rates,
+    })
 }
 
 fn bands_of(
@@ -152,17 +142,12 @@ fn bands_of(
 {
     let mut floors = Vec::new(alloc);
     let mut ceilings = Vec::new(alloc);
-    let mut left = rows;
-    'rows: loop {
-        left.rises();
-        let Some(j) = left.least() else {
-            return Ok(Bands { floors, ceilings });
-        };
+    for j in rows {
         let range = row_range(problem, node, needed, j);
         floors.push(range.low)?;
         ceilings.push(range.high)?;
-        left = left.without(j);
     }
+    Ok(Bands { floors, ceilings })
 }
 
 impl Program {

@@ -10,19 +10,13 @@ pub fn by_material(set: MatSet, values: &[i128]) -> [i128; 256]
     requires { length values.now ≡ length set }
     ensures { (j : ℕ) → has set j ≡ true → slice_index_or result j (pos 0) ≡ beside set values.now j }
 {
-    set.rises();
     let mut table = [0; 256];
-    let mut left = set;
     let mut place = 0;
-    'materials: loop {
-        left.rises();
-        let Some(j) = left.least() else {
-            return table;
-        };
+    for j in set {
         table[j as usize] = values[place];
         place += 1;
-        left = left.without(j);
     }
+    table
 }
 
 /// The value that stands beside each unit of the set.
@@ -30,17 +24,11 @@ pub fn by_unit(set: UnitSet, values: &[i128]) -> [i128; 128]
     requires { length values.now ≡ length set }
     ensures { (i : ℕ) → has set i ≡ true → slice_index_or result i (pos 0) ≡ beside set values.now i }
 {
-    set.rises();
     let mut table = [0; 128];
-    let mut left = set;
     let mut place = 0;
-    'units: loop {
-        left.rises();
-        let Some(i) = left.least() else {
-            return table;
-        };
+    for i in set {
         table[i as usize] = values[place];
         place += 1;
-        left = left.without(i);
     }
+    table
 }

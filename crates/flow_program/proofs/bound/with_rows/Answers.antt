@@ -6,7 +6,7 @@ use Rattle.number_sets.proofs.SetLemmas.{length_below}
 use Rattle.pgraph.specs.View.{node_of}
 use Rattle.flow_rules.specs.Net.{net_of}
 use Rattle.flow_program.specs.Entry.{entry}
-use Rattle.flow_program.proofs.WalkLemmas.{is_next, shorter, next_had, next_below}
+use Rattle.flow_program.proofs.WalkLemmas.{next_of, head_had, is_next, shorter, next_had, next_below}
 use Rattle.flow_program.proofs.ProgramLemmas.{range_formed}
 use Rattle.flow_program.proofs.BoundSumLemmas.{row_sum_room, row_past, row_sum_more}
 use Rattle.flow_program.proofs.bound.with_rows.Goals as goal
@@ -15,26 +15,23 @@ pub with_least-requires-clause-ordered : goal.with_least-requires-clause-ordered
 with_least-requires-clause-ordered c =
     let lo : SFits w128 c.row_range-range.result.low = search rules in
     let hi : SFits w128 c.row_range-range.result.high = search rules in
-    let known = c.requires.known c.in-Some.j (c.rows.invariant.within c.in-Some.j (next_had 256 c.rows.left c.in-Some.j c.rises-in-rows.ensures (sym c.least.ensures ∙ c.in-Some.is))) in
+    let known = c.requires.known c.in-Some.j (c.loop-j.invariant.so_far.within c.in-Some.j (head_had c.loop-j.j-iterator c.in-Some.j c.next.new.self c.in-Some.ensures.steps)) in
     let formed = range_formed c.args.problem.now c.is_valid.ensures.well_formed (node_of c.args.node.now) c.in-Some.j known in
     simp to_z-of_z (rw (c.row_range-range.ensures.low, c.row_range-range.ensures.high) formed.2)
 
 pub with_least-requires-clause-room : goal.with_least-requires-clause-room
 with_least-requires-clause-room c =
     let sum = c.ranges.sum in
-    let few = length_below 256 c.args.rows c.rises.ensures.rising c.rises.ensures.below in
-    let r = row_sum_room (net_of c.args.problem.now) (node_of c.args.node.now) (entry c.args.ys.now) c.args.rows c.args.sum (to_z w128 c.rows.total-bits) c.rows.at c.rows.left few (simp to_z-of_z at c.rows.invariant) in
+    let few = length_below 256 c.args.rows c.into_iter-j-iterator.ensures.into_iter_gives.1.rising c.into_iter-j-iterator.ensures.into_iter_gives.1.below in
+    let r = row_sum_room (net_of c.args.problem.now) (node_of c.args.node.now) (entry c.args.ys.now) c.args.rows c.args.sum (to_z w128 c.loop-j.total-bits) c.loop-j.at c.loop-j.j-iterator few (simp to_z-of_z at c.loop-j.invariant.so_far) in
     omega arith
 
 pub overflow_add-at : goal.overflow_add-at
 overflow_add-at c =
     let sum = c.ranges.sum in
-    let few = length_below 256 c.args.rows c.rises.ensures.rising c.rises.ensures.below in
-    let r = row_sum_room (net_of c.args.problem.now) (node_of c.args.node.now) (entry c.args.ys.now) c.args.rows c.args.sum (to_z w128 c.rows.total-bits) c.rows.at c.rows.left few (simp to_z-of_z at c.rows.invariant) in
+    let few = length_below 256 c.args.rows c.into_iter-j-iterator.ensures.into_iter_gives.1.rising c.into_iter-j-iterator.ensures.into_iter_gives.1.below in
+    let r = row_sum_room (net_of c.args.problem.now) (node_of c.args.node.now) (entry c.args.ys.now) c.args.rows c.args.sum (to_z w128 c.loop-j.total-bits) c.loop-j.at c.loop-j.j-iterator few (simp to_z-of_z at c.loop-j.invariant.so_far) in
     omega arith
-
-pub without-left-requires : goal.without-left-requires
-without-left-requires c = next_below 256 c.rows.left c.in-Some.j c.rises-in-rows.ensures (sym c.least.ensures ∙ c.in-Some.is)
 
 pub returns-in-Err-clause-past : goal.returns-in-Err-clause-past
 returns-in-Err-clause-past c =
@@ -42,21 +39,19 @@ returns-in-Err-clause-past c =
     let y : SFits w128 (get_or c.args.ys.now c.in-Some.j (pos 0)) = search rules in
     let lo : SFits w128 c.row_range-range.result.low = search rules in
     let hi : SFits w128 c.row_range-range.result.high = search rules in
-    row_past (net_of c.args.problem.now) (node_of c.args.node.now) (entry c.args.ys.now) c.args.rows c.args.sum (to_z w128 c.rows.total-bits) c.rows.at c.rows.left c.in-Some.j (kept (λ v. not (c.in-Some.j == v)) c.rows.left) (is_next 256 c.rows.left c.in-Some.j (kept (λ v. not (c.in-Some.j == v)) c.rows.left) c.rises-in-rows.ensures (sym c.least.ensures ∙ c.in-Some.is) refl)
-    (get_or c.args.ys.now c.in-Some.j (pos 0)) c.row_range-range.result.low c.row_range-range.result.high refl c.row_range-range.ensures.low c.row_range-range.ensures.high (simp to_z-of_z at c.rows.invariant)
+    row_past (net_of c.args.problem.now) (node_of c.args.node.now) (entry c.args.ys.now) c.args.rows c.args.sum (to_z w128 c.loop-j.total-bits) c.loop-j.at c.loop-j.j-iterator c.in-Some.j c.next.new.self (next_of 256 c.loop-j.j-iterator c.in-Some.j c.next.new.self c.loop-j.invariant.is_set c.in-Some.ensures.steps)
+    (get_or c.args.ys.now c.in-Some.j (pos 0)) c.row_range-range.result.low c.row_range-range.result.high refl c.row_range-range.ensures.low c.row_range-range.ensures.high (simp to_z-of_z at c.loop-j.invariant.so_far)
     c.in-Err.past.at c.in-Err.ensures.from_start (simp to_z-of_z at c.in-Err.ensures.past)
 
-pub rows-smaller : goal.rows-smaller
-rows-smaller c = shorter 256 c.rows.left c.in-Some.j c.without-left.result
-    (is_next 256 c.rows.left c.in-Some.j c.without-left.result c.rises-in-rows.ensures (sym c.least.ensures ∙ c.in-Some.is) c.without-left.ensures)
-
-pub rows-preserved : goal.rows-preserved
-rows-preserved c =
-    let sum = c.ranges.sum in
-    let y : SFits w128 (get_or c.args.ys.now c.in-Some.j (pos 0)) = search rules in
-    let lo : SFits w128 c.row_range-range.result.low = search rules in
-    let hi : SFits w128 c.row_range-range.result.high = search rules in
-    let t : SFits w128 c.in-Ok.next = search rules in
-    simp to_z-of_z (row_sum_more (net_of c.args.problem.now) (node_of c.args.node.now) (entry c.args.ys.now) c.args.rows c.args.sum (to_z w128 c.rows.total-bits) c.rows.at c.rows.left c.in-Some.j c.without-left.result (is_next 256 c.rows.left c.in-Some.j c.without-left.result c.rises-in-rows.ensures (sym c.least.ensures ∙ c.in-Some.is) c.without-left.ensures)
-    (get_or c.args.ys.now c.in-Some.j (pos 0)) c.row_range-range.result.low c.row_range-range.result.high refl c.row_range-range.ensures.low c.row_range-range.ensures.high (simp to_z-of_z at c.rows.invariant)
-    c.in-Ok.next (simp to_z-of_z at c.in-Ok.ensures.value) (simp to_z-of_z at c.in-Ok.ensures.in_range))
+pub loop-j-preserved : goal.loop-j-preserved
+loop-j-preserved c = record {
+  is_set = (next_of 256 c.loop-j.j-iterator c.in-Some.j c.next.new.self c.loop-j.invariant.is_set c.in-Some.ensures.steps).set;
+  so_far = let sum = c.ranges.sum in
+      let y : SFits w128 (get_or c.args.ys.now c.in-Some.j (pos 0)) = search rules in
+      let lo : SFits w128 c.row_range-range.result.low = search rules in
+      let hi : SFits w128 c.row_range-range.result.high = search rules in
+      let t : SFits w128 c.in-Ok.next = search rules in
+      simp to_z-of_z (row_sum_more (net_of c.args.problem.now) (node_of c.args.node.now) (entry c.args.ys.now) c.args.rows c.args.sum (to_z w128 c.loop-j.total-bits) c.loop-j.at c.loop-j.j-iterator c.in-Some.j c.next.new.self (next_of 256 c.loop-j.j-iterator c.in-Some.j c.next.new.self c.loop-j.invariant.is_set c.in-Some.ensures.steps)
+      (get_or c.args.ys.now c.in-Some.j (pos 0)) c.row_range-range.result.low c.row_range-range.result.high refl c.row_range-range.ensures.low c.row_range-range.ensures.high (simp to_z-of_z at c.loop-j.invariant.so_far)
+      c.in-Ok.next (simp to_z-of_z at c.in-Ok.ensures.value) (simp to_z-of_z at c.in-Ok.ensures.in_range));
+}

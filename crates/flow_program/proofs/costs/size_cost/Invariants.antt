@@ -1,9 +1,10 @@
+use Rattle.number_sets.specs.Sets.{IsSet}
 use Rattle.std.proofs.Common.{length}
 use Rattle.flow_program.proofs.CostLemmas.{IsCostSoFar}
 use Rattle.flow_program.proofs.costs.size_cost.Given as goal
 
-abbrev pub invariant-materials : goal.invariant-materials
-invariant-materials l = IsCostSoFar l.fn.problem l.fn.u l.fn.materials l.cost l.left
-
-abbrev pub decreases-materials : goal.decreases-materials
-decreases-materials l = length l.left
+abbrev pub invariant-loop-j : goal.invariant-loop-j
+invariant-loop-j l = record {
+  is_set : IsSet 256 l.j-iterator;
+  so_far : IsCostSoFar l.fn.problem l.fn.u l.fn.materials l.cost l.j-iterator;
+}

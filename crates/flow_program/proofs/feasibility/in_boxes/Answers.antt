@@ -6,21 +6,18 @@ use Rattle.problem_rules.specs.Problem.{OperatingUnit, unit_at}
 use Rattle.flow_rules.specs.Net.{net_of}
 use Rattle.flow_program.specs.Entry.{entry}
 use Rattle.flow_program.proofs.RateLemmas.{unit_read}
-use Rattle.flow_program.proofs.WalkLemmas.{is_next, shorter, next_had, next_below}
+use Rattle.flow_program.proofs.WalkLemmas.{next_of, head_had, is_next, shorter, next_had, next_below}
 use Rattle.flow_program.proofs.FeasibleLemmas.{not_in_boxes, boxes_more}
 use Rattle.flow_program.proofs.feasibility.in_boxes.Goals as goal
 
 pub bounds-units-u : goal.bounds-units-u
 bounds-units-u c =
-    subst (λ (us : List OperatingUnit). c.in-Some.u < length us) (sym c.units-in-units.ensures) (c.requires.known c.in-Some.u (c.units.invariant.within c.in-Some.u (next_had 128 c.units.left c.in-Some.u c.rises-in-units.ensures (sym c.least.ensures ∙ c.in-Some.is))))
-
-pub without-left-requires : goal.without-left-requires
-without-left-requires c = next_below 128 c.units.left c.in-Some.u c.rises-in-units.ensures (sym c.least.ensures ∙ c.in-Some.is)
+    subst (λ (us : List OperatingUnit). c.in-Some.u < length us) (sym c.units.ensures) (c.requires.known c.in-Some.u (c.loop-u.invariant.so_far.within c.in-Some.u (head_had c.loop-u.u-iterator c.in-Some.u c.next.new.self c.in-Some.ensures.steps)))
 
 pub returns-then-not-is_within : goal.returns-then-not-is_within
 returns-then-not-is_within c =
     let d = c.ranges.d in
-    let is : c.index-units-u.result ≡ unit_at c.args.problem.now c.in-Some.u = unit_read c.args.problem.now c.units-in-units.result.now c.in-Some.u c.index-units-u.result c.units-in-units.ensures (c.requires.known c.in-Some.u (c.units.invariant.within c.in-Some.u (next_had 128 c.units.left c.in-Some.u c.rises-in-units.ensures (sym c.least.ensures ∙ c.in-Some.is)))) c.index-units-u.is in
+    let is : c.index-units-u.result ≡ unit_at c.args.problem.now c.in-Some.u = unit_read c.args.problem.now c.units.result.now c.in-Some.u c.index-units-u.result c.units.ensures (c.requires.known c.in-Some.u (c.loop-u.invariant.so_far.within c.in-Some.u (head_had c.loop-u.u-iterator c.in-Some.u c.next.new.self c.in-Some.ensures.steps))) c.index-units-u.is in
     let lo : SFits w64 c.unit.inside.lower = search rules in
     let hi : SFits w64 c.unit.inside.upper = search rules in
     let lo' : SFits w128 c.unit.inside.lower = search rules in
@@ -29,28 +26,25 @@ returns-then-not-is_within c =
     let g = simp to_z-of_z at c.is_within.ensures in
     let f = c.if-not-is_within.true in (
       λ (e : false ≡ true). cc,
-      λ w. absurd (not_in_boxes (net_of c.args.problem.now) (entry c.args.size_at.now) c.args.d c.args.set c.units.left c.in-Some.u (kept (λ v. not (c.in-Some.u == v)) c.units.left) (is_next 128 c.units.left c.in-Some.u (kept (λ v. not (c.in-Some.u == v)) c.units.left) c.rises-in-units.ensures (sym c.least.ensures ∙ c.in-Some.is) refl)
-          c.unit.inside.lower c.unit.inside.upper (get_or c.args.size_at.now c.in-Some.u (pos 0)) (ap (λ (x : OperatingUnit). x.lower) (c.unit.view_is ∙ is)) (ap (λ (x : OperatingUnit). x.upper) (c.unit.view_is ∙ is)) refl (simp to_z-of_z at c.units.invariant)
+      λ w. absurd (not_in_boxes (net_of c.args.problem.now) (entry c.args.size_at.now) c.args.d c.args.set c.loop-u.u-iterator c.in-Some.u c.next.new.self (next_of 128 c.loop-u.u-iterator c.in-Some.u c.next.new.self c.loop-u.invariant.is_set c.in-Some.ensures.steps)
+          c.unit.inside.lower c.unit.inside.upper (get_or c.args.size_at.now c.in-Some.u (pos 0)) (ap (λ (x : OperatingUnit). x.lower) (c.unit.view_is ∙ is)) (ap (λ (x : OperatingUnit). x.upper) (c.unit.view_is ∙ is)) refl (simp to_z-of_z at c.loop-u.invariant.so_far)
           (λ q. let t : c.is_within.result ≡ true = g.1 q in cc) w),
     )
 
-pub units-smaller : goal.units-smaller
-units-smaller c =
-    shorter 128 c.units.left c.in-Some.u c.without-left.result
-    (is_next 128 c.units.left c.in-Some.u c.without-left.result c.rises-in-units.ensures (sym c.least.ensures ∙ c.in-Some.is) c.without-left.ensures)
-
-pub units-preserved : goal.units-preserved
-units-preserved c =
-    let d = c.ranges.d in
-    let is : c.index-units-u.result ≡ unit_at c.args.problem.now c.in-Some.u = unit_read c.args.problem.now c.units-in-units.result.now c.in-Some.u c.index-units-u.result c.units-in-units.ensures (c.requires.known c.in-Some.u (c.units.invariant.within c.in-Some.u (next_had 128 c.units.left c.in-Some.u c.rises-in-units.ensures (sym c.least.ensures ∙ c.in-Some.is)))) c.index-units-u.is in
-    let lo : SFits w64 c.unit.inside.lower = search rules in
-    let hi : SFits w64 c.unit.inside.upper = search rules in
-    let lo' : SFits w128 c.unit.inside.lower = search rules in
-    let hi' : SFits w128 c.unit.inside.upper = search rules in
-    let sz : SFits w128 (get_or c.args.size_at.now c.in-Some.u (pos 0)) = search rules in
-    let g = simp to_z-of_z at c.is_within.ensures in
-    let f = c.if-not-is_within.false in
-    let t : c.is_within.result ≡ true = search rules in
-    simp to_z-of_z (boxes_more (net_of c.args.problem.now) (entry c.args.size_at.now) c.args.d c.args.set c.units.left c.in-Some.u c.without-left.result (is_next 128 c.units.left c.in-Some.u c.without-left.result c.rises-in-units.ensures (sym c.least.ensures ∙ c.in-Some.is) c.without-left.ensures)
-    c.unit.inside.lower c.unit.inside.upper (get_or c.args.size_at.now c.in-Some.u (pos 0)) (ap (λ (x : OperatingUnit). x.lower) (c.unit.view_is ∙ is)) (ap (λ (x : OperatingUnit). x.upper) (c.unit.view_is ∙ is)) refl (simp to_z-of_z at c.units.invariant)
-    (g.0 t))
+pub loop-u-preserved : goal.loop-u-preserved
+loop-u-preserved c = record {
+  is_set = (next_of 128 c.loop-u.u-iterator c.in-Some.u c.next.new.self c.loop-u.invariant.is_set c.in-Some.ensures.steps).set;
+  so_far = let d = c.ranges.d in
+      let is : c.index-units-u.result ≡ unit_at c.args.problem.now c.in-Some.u = unit_read c.args.problem.now c.units.result.now c.in-Some.u c.index-units-u.result c.units.ensures (c.requires.known c.in-Some.u (c.loop-u.invariant.so_far.within c.in-Some.u (head_had c.loop-u.u-iterator c.in-Some.u c.next.new.self c.in-Some.ensures.steps))) c.index-units-u.is in
+      let lo : SFits w64 c.unit.inside.lower = search rules in
+      let hi : SFits w64 c.unit.inside.upper = search rules in
+      let lo' : SFits w128 c.unit.inside.lower = search rules in
+      let hi' : SFits w128 c.unit.inside.upper = search rules in
+      let sz : SFits w128 (get_or c.args.size_at.now c.in-Some.u (pos 0)) = search rules in
+      let g = simp to_z-of_z at c.is_within.ensures in
+      let f = c.if-not-is_within.false in
+      let t : c.is_within.result ≡ true = search rules in
+      simp to_z-of_z (boxes_more (net_of c.args.problem.now) (entry c.args.size_at.now) c.args.d c.args.set c.loop-u.u-iterator c.in-Some.u c.next.new.self (next_of 128 c.loop-u.u-iterator c.in-Some.u c.next.new.self c.loop-u.invariant.is_set c.in-Some.ensures.steps)
+      c.unit.inside.lower c.unit.inside.upper (get_or c.args.size_at.now c.in-Some.u (pos 0)) (ap (λ (x : OperatingUnit). x.lower) (c.unit.view_is ∙ is)) (ap (λ (x : OperatingUnit). x.upper) (c.unit.view_is ∙ is)) refl (simp to_z-of_z at c.loop-u.invariant.so_far)
+      (g.0 t));
+}

@@ -1,3 +1,4 @@
+use Rattle.number_sets.specs.Sets.{IsSet}
 use Rattle.std.proofs.Common.{length}
 use Rattle.number_sets.specs.Sets.{has}
 use Rattle.flow_rules.specs.Net.{net_of}
@@ -5,8 +6,8 @@ use Rattle.flow_program.specs.Entry.{entry}
 use Rattle.flow_program.proofs.FeasibleLemmas.{IsRangesSoFar}
 use Rattle.flow_program.proofs.feasibility.in_ranges.Given as goal
 
-abbrev pub invariant-materials : goal.invariant-materials
-invariant-materials l = IsRangesSoFar (net_of l.fn.problem) (has l.fn.set) (entry l.fn.size_at) l.fn.d l.fn.materials l.hold l.at l.left
-
-abbrev pub decreases-materials : goal.decreases-materials
-decreases-materials l = length l.left
+abbrev pub invariant-loop-j : goal.invariant-loop-j
+invariant-loop-j l = record {
+  is_set : IsSet 256 l.j-iterator;
+  so_far : IsRangesSoFar (net_of l.fn.problem) (has l.fn.set) (entry l.fn.size_at) l.fn.d l.fn.materials l.hold l.at l.j-iterator;
+}

@@ -1,18 +1,15 @@
 use Rattle.std.proofs.Common.{◌∙◌, sym, SFits, rules, get_or, pos, refl}
 use Rattle.std.specs.Int.{w128}
 use Rattle.std.proofs.lemmas.Int.{to_z-of_z}
-use Rattle.flow_program.proofs.WalkLemmas.{IsNext, is_next, shorter}
+use Rattle.flow_program.proofs.WalkLemmas.{next_of, head_had, IsNext, is_next, shorter}
 use Rattle.flow_program.proofs.TableLemmas.{tabled_more}
 use Rattle.flow_program.proofs.tables.by_material.Goals as goal
 
-pub materials-smaller : goal.materials-smaller
-materials-smaller c =
-    shorter 256 c.materials.left c.in-Some.j c.without-left.result
-    (is_next 256 c.materials.left c.in-Some.j c.without-left.result c.rises-in-materials.ensures (sym c.least.ensures ∙ c.in-Some.is) c.without-left.ensures)
-
-pub materials-preserved : goal.materials-preserved
-materials-preserved c =
-    let next : IsNext 256 c.materials.left c.in-Some.j c.without-left.result
-    = is_next 256 c.materials.left c.in-Some.j c.without-left.result c.rises-in-materials.ensures (sym c.least.ensures ∙ c.in-Some.is) c.without-left.ensures in
-    let v : SFits w128 (get_or c.args.values.now c.materials.place (pos 0)) = search rules in
-    simp to_z-of_z (tabled_more 256 c.args.set c.args.values.now c.materials.table c.materials.left c.materials.place c.in-Some.j c.without-left.result (get_or c.args.values.now c.materials.place (pos 0)) c.rises.ensures c.requires next refl c.materials.invariant)
+pub loop-j-preserved : goal.loop-j-preserved
+loop-j-preserved c = record {
+  is_set = (next_of 256 c.loop-j.j-iterator c.in-Some.j c.next.new.self c.loop-j.invariant.is_set c.in-Some.ensures.steps).set;
+  so_far = let next : IsNext 256 c.loop-j.j-iterator c.in-Some.j c.next.new.self
+      = next_of 256 c.loop-j.j-iterator c.in-Some.j c.next.new.self c.loop-j.invariant.is_set c.in-Some.ensures.steps in
+      let v : SFits w128 (get_or c.args.values.now c.loop-j.place (pos 0)) = search rules in
+      simp to_z-of_z (tabled_more 256 c.args.set c.args.values.now c.loop-j.table c.loop-j.j-iterator c.loop-j.place c.in-Some.j c.next.new.self (get_or c.args.values.now c.loop-j.place (pos 0)) c.into_iter-j-iterator.ensures.into_iter_gives.1 c.requires next refl c.loop-j.invariant.so_far);
+}

@@ -1,9 +1,10 @@
+use Rattle.number_sets.specs.Sets.{IsSet}
 use Rattle.std.proofs.Common.{length}
 use Rattle.flow_program.proofs.TableLemmas.{IsTabled}
 use Rattle.flow_program.proofs.tables.by_material.Given as goal
 
-abbrev pub invariant-materials : goal.invariant-materials
-invariant-materials l = IsTabled 256 l.fn.set l.values l.table l.left l.place
-
-abbrev pub decreases-materials : goal.decreases-materials
-decreases-materials l = length l.left
+abbrev pub invariant-loop-j : goal.invariant-loop-j
+invariant-loop-j l = record {
+  is_set : IsSet 256 l.j-iterator;
+  so_far : IsTabled 256 l.fn.set l.values l.table l.j-iterator l.place;
+}

@@ -1,18 +1,15 @@
 use Rattle.std.proofs.Common.{◌∙◌, sym, SFits, rules, get_or, pos, refl}
 use Rattle.std.specs.Int.{w128}
 use Rattle.std.proofs.lemmas.Int.{to_z-of_z}
-use Rattle.flow_program.proofs.WalkLemmas.{IsNext, is_next, shorter}
+use Rattle.flow_program.proofs.WalkLemmas.{next_of, head_had, IsNext, is_next, shorter}
 use Rattle.flow_program.proofs.TableLemmas.{tabled_more}
 use Rattle.flow_program.proofs.tables.by_unit.Goals as goal
 
-pub units-smaller : goal.units-smaller
-units-smaller c =
-    shorter 128 c.units.left c.in-Some.i c.without-left.result
-    (is_next 128 c.units.left c.in-Some.i c.without-left.result c.rises-in-units.ensures (sym c.least.ensures ∙ c.in-Some.is) c.without-left.ensures)
-
-pub units-preserved : goal.units-preserved
-units-preserved c =
-    let next : IsNext 128 c.units.left c.in-Some.i c.without-left.result
-    = is_next 128 c.units.left c.in-Some.i c.without-left.result c.rises-in-units.ensures (sym c.least.ensures ∙ c.in-Some.is) c.without-left.ensures in
-    let v : SFits w128 (get_or c.args.values.now c.units.place (pos 0)) = search rules in
-    simp to_z-of_z (tabled_more 128 c.args.set c.args.values.now c.units.table c.units.left c.units.place c.in-Some.i c.without-left.result (get_or c.args.values.now c.units.place (pos 0)) c.rises.ensures c.requires next refl c.units.invariant)
+pub loop-i-preserved : goal.loop-i-preserved
+loop-i-preserved c = record {
+  is_set = (next_of 128 c.loop-i.i-iterator c.in-Some.i c.next.new.self c.loop-i.invariant.is_set c.in-Some.ensures.steps).set;
+  so_far = let next : IsNext 128 c.loop-i.i-iterator c.in-Some.i c.next.new.self
+      = next_of 128 c.loop-i.i-iterator c.in-Some.i c.next.new.self c.loop-i.invariant.is_set c.in-Some.ensures.steps in
+      let v : SFits w128 (get_or c.args.values.now c.loop-i.place (pos 0)) = search rules in
+      simp to_z-of_z (tabled_more 128 c.args.set c.args.values.now c.loop-i.table c.loop-i.i-iterator c.loop-i.place c.in-Some.i c.next.new.self (get_or c.args.values.now c.loop-i.place (pos 0)) c.into_iter-i-iterator.ensures.into_iter_gives.1 c.requires next refl c.loop-i.invariant.so_far);
+}
