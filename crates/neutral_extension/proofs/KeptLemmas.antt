@@ -2,7 +2,7 @@
 use Rattle.std.proofs.Common.{◌≡◌, ℕ, zero, suc, ◌+◌, ◌-◌, ◌*◌, ◌<◌, ◌≤◌, ◌==◌, Bool, true, false, cond, not, ◌||◌, List, [], ◌∷◌, ◌++◌, length, map, take, Option, Some, None, is_some, slice_index_or, slice_set, refl, sym, ap, ap₂, ◌∙◌, subst, inl, inr, eqb-true, eq-eqb, ne_eqb, arith}
 use Rattle.std.proofs.lemmas.Bool.{or_cases, or_left, or_right, or_from, or_parts, both_ways, false_from_ne_true, cases_eq, cases_lt}
 use Rattle.std.proofs.lemmas.List.{length-append, get_or_push, get_or_append_left, get_or_past, get_or-replicate, length-replicate, take_more, take_more_set, length-set, ext_get_or}
-use Rattle.number_sets.specs.Sets.{has, kept, first, IsSet, IsRising, IsBelowAll}
+use Rattle.number_sets.specs.Sets.{has, kept, first, IsSet, IsRising}
 use Rattle.number_sets.proofs.SetLemmas.{has-append, has_below}
 use Rattle.link_lists.specs.Lists.{Rows, row, pushed, unlinked, relinked, with_pushed, opened, IsOnce, IsListed, IsTop, IsFree, AreApart}
 use Rattle.link_lists.specs.Lists as cells
@@ -184,33 +184,16 @@ once_apart (x ∷ xs) ys c o h =
     (ne_eqb x c (λ e. both_ways (cells.has (xs ++ ys) x) o.0 (laws.has-append xs ys x ∙ or_right (cells.has xs x) (cells.has ys x) (subst (λ v. cells.has ys v ≡ true) (sym e) h))))
     (once_apart xs ys c o.1 h)
 
-pub first_of_rising : (us : List ℕ) (u : ℕ) → IsRising us → first us ≡ Some u → us ≡ u ∷ kept (λ v. not (u == v)) us
-first_of_rising [] u r e = cc
-first_of_rising (w ∷ us) u r e =
-    let same : w ≡ u = cc in
-    subst (λ z. w ∷ us ≡ z ∷ kept (λ v. not (z == v)) (w ∷ us)) same
-    (ap (λ ys. w ∷ ys) (sym (ap (λ b. cond (not b) (w ∷ kept (λ v. not (w == v)) us) (kept (λ v. not (w == v)) us)) (eq-eqb w w refl) ∙ all us r.0)))
-  where
-    all : (ys : List ℕ) → IsBelowAll w ys → kept (λ v. not (w == v)) ys ≡ ys
-    all [] b = refl
-    all (y ∷ ys) b =
-        let ne : w ≡ y → ⊥ = λ q. let lt : w < y = b.0 in omega arith in
-        ap (λ t. cond (not t) (y ∷ kept (λ v. not (w == v)) ys) (kept (λ v. not (w == v)) ys)) (ne_eqb w y ne) ∙ ap (λ zs. y ∷ zs) (all ys b.1)
-
-pub first_empty : (us : List ℕ) → first us ≡ None → us ≡ []
-first_empty [] e = refl
-first_empty (w ∷ us) e = cc
-
-module _ (old now : Rows) (x u : ℕ) (set left : List ℕ) (rising : IsRising set) (lt : x < length old.lists) (bands : AreInBands old.lists)
+module _ (old now : Rows) (x u : ℕ) (set left rest : List ℕ) (rising : IsRising set) (lt : x < length old.lists) (bands : AreInBands old.lists)
     (count : length now.lists ≡ length old.lists)
     (here : row now.lists x ++ map (cell_at x) left ≡ map (cell_at x) set)
     (others : (y : ℕ) → (y ≡ x → ⊥) → row now.lists y ≡ row old.lists y)
-    (few : u < 128) (head : left ≡ u ∷ kept (λ v. not (u == v)) left) where
+    (few : u < 128) (head : left ≡ u ∷ rest) where
   pub fill_free : IsFree now.lists (cell_at x u)
   fill_free y = elim (cases_eq y x) [
     | inl e ↦ subst (λ k. cells.has (row now.lists k) (cell_at x u) ≡ false) (sym e)
         (once_apart (row now.lists x) (map (cell_at x) left) (cell_at x u) (subst IsOnce (sym here) (once_cells x set rising))
-        (ap (λ us. cells.has (map (cell_at x) us) (cell_at x u)) head ∙ or_left (cell_at x u == cell_at x u) (cells.has (map (cell_at x) (kept (λ v. not (u == v)) left)) (cell_at x u)) (eq-eqb (cell_at x u) (cell_at x u) refl)))
+        (ap (λ us. cells.has (map (cell_at x) us) (cell_at x u)) head ∙ or_left (cell_at x u == cell_at x u) (cells.has (map (cell_at x) rest) (cell_at x u)) (eq-eqb (cell_at x u) (cell_at x u) refl)))
     | inr ne ↦ false_from_ne_true (cells.has (row now.lists y) (cell_at x u)) (λ h.
         let b = bands y (cell_at x u) (sym (ap (λ xs. cells.has xs (cell_at x u)) (others y ne)) ∙ h) in
         let lo : y * 128 ≤ x * 128 + u = b.0 in
@@ -218,10 +201,10 @@ module _ (old now : Rows) (x u : ℕ) (set left : List ℕ) (rising : IsRising s
         ne (omega arith))
   ]
 
-  pub fill_here : row (pushed now.lists x (cell_at x u)) x ++ map (cell_at x) (kept (λ v. not (u == v)) left) ≡ map (cell_at x) set
+  pub fill_here : row (pushed now.lists x (cell_at x u)) x ++ map (cell_at x) rest ≡ map (cell_at x) set
   fill_here =
-      ap (λ xs. xs ++ map (cell_at x) (kept (λ v. not (u == v)) left)) (laws.row-pushed now.lists x (cell_at x u) (omega arith))
-      ∙ (group (row now.lists x) (cell_at x u) (map (cell_at x) (kept (λ v. not (u == v)) left))
+      ap (λ xs. xs ++ map (cell_at x) rest) (laws.row-pushed now.lists x (cell_at x u) (omega arith))
+      ∙ (group (row now.lists x) (cell_at x u) (map (cell_at x) rest)
       ∙ (ap (λ us. row now.lists x ++ map (cell_at x) us) (sym head) ∙ here))
     where
       group : (xs : List ℕ) (c : ℕ) (ys : List ℕ) → (xs ++ c ∷ []) ++ ys ≡ xs ++ c ∷ ys
@@ -230,9 +213,6 @@ module _ (old now : Rows) (x u : ℕ) (set left : List ℕ) (rising : IsRising s
 
   pub fill_others : (y : ℕ) → (y ≡ x → ⊥) → row (pushed now.lists x (cell_at x u)) y ≡ row old.lists y
   fill_others y ne = laws.row-pushed_other now.lists x y (cell_at x u) ne ∙ others y ne
-
-  pub fill_less : length (kept (λ v. not (u == v)) left) < length left
-  fill_less = let e = ap length head in omega arith
 
 -- ---- the lists as they are opened
 

@@ -3,7 +3,7 @@ use Rattle.std.proofs.Common.{◌≡◌, ℕ, zero, suc, ◌+◌, ◌-◌, ◌*�
 use Rattle.std.proofs.lemmas.Bool.{or_cases, or_left, or_right, and_from, and_parts, both_ways, false_from_ne_true, not-true, cases_eq, cases_lt}
 use Rattle.std.proofs.lemmas.List.{length-map}
 use Rattle.std.specs.List.{filter}
-use Rattle.number_sets.specs.Sets.{has, kept, first, IsSet, IsRising}
+use Rattle.number_sets.specs.Sets.{has, kept, first, IsSet, IsRising, IsBelowAll}
 use Rattle.number_sets.proofs.SetLemmas.{has-kept, same_tests, has_below, below_not_had}
 use Rattle.link_lists.specs.Lists.{Rows, row, without, unlinked, relinked, IsOnce, IsListed, IsTop, AreApart}
 use Rattle.link_lists.specs.Lists as cells
@@ -288,6 +288,19 @@ from_all makes u xs e x = ap (λ (f : ℕ → Bool). f x) e ∙ (all (makes u x)
     all true = refl
     all false = refl
 
+first_of_rising : (us : List ℕ) (u : ℕ) → IsRising us → first us ≡ Some u → us ≡ u ∷ kept (λ v. not (u == v)) us
+first_of_rising [] u r e = cc
+first_of_rising (w ∷ us) u r e =
+    let same : w ≡ u = cc in
+    subst (λ z. w ∷ us ≡ z ∷ kept (λ v. not (z == v)) (w ∷ us)) same
+    (ap (λ ys. w ∷ ys) (sym (ap (λ b. cond (not b) (w ∷ kept (λ v. not (w == v)) us) (kept (λ v. not (w == v)) us)) (eq-eqb w w refl) ∙ all us r.0)))
+  where
+    all : (ys : List ℕ) → IsBelowAll w ys → kept (λ v. not (w == v)) ys ≡ ys
+    all [] b = refl
+    all (y ∷ ys) b =
+        let ne : w ≡ y → ⊥ = λ q. let lt : w < y = b.0 in omega arith in
+        ap (λ t. cond (not t) (y ∷ kept (λ v. not (w == v)) ys) (kept (λ v. not (w == v)) ys)) (ne_eqb w y ne) ∙ ap (λ zs. y ∷ zs) (all ys b.1)
+
 module _ (makes : ℕ → ℕ → Bool) (u n : ℕ) (xs : List ℕ) (is : AreFrom makes u n xs) where
   had : (y : ℕ) → n ≤ y → makes u y ≡ true → has xs y ≡ true
   had y le m = is y ∙ and_from (makes u y) (not (nat_lt y n)) m (ap not (false_from_ne_true (nat_lt y n) (λ t. let lt = ltb-true y n t in omega arith)))
@@ -323,3 +336,9 @@ module _ (makes : ℕ → ℕ → Bool) (u n : ℕ) (xs : List ℕ) (is : AreFro
         let ge = not_below (x + 1) y (not-true (nat_lt y (x + 1)) p.1) in
         let low = (parts x (first_had xs x head)).1 in
         and_from (has xs y) (not (x == y)) (had y (omega arith) p.0) (ap not (ne_eqb x y (λ e. omega arith))))
+
+    pub from_rest : (rest : List ℕ) → xs ≡ x ∷ rest → AreFrom makes u (x + 1) rest
+    from_rest rest e =
+        let same : x ∷ kept (λ v. not (x == v)) xs ≡ x ∷ rest = sym (first_of_rising xs x rising head) ∙ e in
+        let tails : kept (λ v. not (x == v)) xs ≡ rest = cc in
+        subst (λ ys. AreFrom makes u (x + 1) ys) tails from_more

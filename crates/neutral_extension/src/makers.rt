@@ -55,14 +55,8 @@ fn unlink_cells(lists: &mut Lists, graph: &Graph, u: u32)
     ensures { lists.new ≡ out_cells lists.old (unit_cells (shape graph.now).makes u (shape graph.now).materials) }
 {
     graph.is_proper();
-    let mut outputs = outputs_of(graph, u);
-    'outputs: loop {
-        outputs.rises();
-        let Some(x) = outputs.least() else {
-            return;
-        };
+    for x in outputs_of(graph, u) {
         lists.unlink(x * 128 + u);
-        outputs = outputs.without(x);
     }
 }
 
@@ -100,15 +94,8 @@ fn fill(lists: &mut Lists, x: u32, set: UnitSet)
     requires bands { AreInBands lists.old.lists }
     ensures { IsFilled lists.old lists.new x set }
 {
-    set.rises();
-    let mut rest = set;
-    'fill: loop {
-        rest.rises();
-        let Some(u) = rest.least() else {
-            return;
-        };
+    for u in set {
         lists.push_back(x, x * 128 + u);
-        rest = rest.without(u);
     }
 }
 

@@ -1,43 +1,34 @@
-use Rattle.std.proofs.Common.{◌<◌, ℕ, List, ◌++◌, map, length, sym, ap, ◌∙◌, subst}
-use Rattle.number_sets.specs.Sets.{AreBelow}
-use Rattle.link_lists.specs.Lists.{Rows, row, pushed}
+use Rattle.std.proofs.Common.{◌∙◌, ◌++◌, map, length, ap, subst}
+use Rattle.number_sets.specs.Sets.{IsSet}
+use Rattle.link_lists.specs.Lists.{Rows, row}
 use Rattle.link_lists.proofs.Cells.{length-pushed}
 use Rattle.neutral_extension.specs.Cells.{cell_at}
-use Rattle.neutral_extension.proofs.KeptLemmas.{first_of_rising, fill_free, fill_here, fill_others, fill_less}
+use Rattle.neutral_extension.proofs.KeptLemmas.{fill_free, fill_here, fill_others}
 use Rattle.neutral_extension.proofs.makers.fill.Goals as goal
 
 pub push_back-requires-clause-free : goal.push_back-requires-clause-free
 push_back-requires-clause-free c =
     let x = c.args.x in
     let u = c.in-Some.u in
-    let inv = c.fill.invariant in
-    let head = first_of_rising c.fill.rest u c.rises-in-fill.ensures.rising (sym c.least.ensures ∙ c.in-Some.is) in
-    let few : u < 128 = (subst (AreBelow 128) head c.rises-in-fill.ensures.below).0 in
-    fill_free c.args.lists.now c.fill.lists x u c.args.set c.fill.rest c.rises.ensures.rising c.requires.list.0 c.requires.bands inv.count inv.here inv.others few head
+    let inv = c.loop-u.invariant in
+    let head = c.in-Some.ensures.steps in
+    let before = subst (IsSet 128) head inv.is_set in
+    fill_free c.args.lists.now c.loop-u.lists x u c.args.set c.loop-u.u-iterator c.next.new.self c.into_iter-u-iterator.ensures.into_iter_gives.1.rising c.requires.list.0 c.requires.bands inv.count inv.here inv.others before.below.0 head
 
-pub fill-smaller : goal.fill-smaller
-fill-smaller c =
+pub loop-u-preserved : goal.loop-u-preserved
+loop-u-preserved c =
     let x = c.args.x in
     let u = c.in-Some.u in
-    let inv = c.fill.invariant in
-    let head = first_of_rising c.fill.rest u c.rises-in-fill.ensures.rising (sym c.least.ensures ∙ c.in-Some.is) in
-    let few : u < 128 = (subst (AreBelow 128) head c.rises-in-fill.ensures.below).0 in
-    subst (λ (xs : List ℕ). length xs < length c.fill.rest) (sym c.without-rest.ensures) (fill_less c.args.lists.now c.fill.lists x u c.args.set c.fill.rest c.rises.ensures.rising c.requires.list.0 c.requires.bands inv.count inv.here inv.others few head)
-
-pub fill-preserved : goal.fill-preserved
-fill-preserved c =
-    let x = c.args.x in
-    let u = c.in-Some.u in
-    let inv = c.fill.invariant in
-    let head = first_of_rising c.fill.rest u c.rises-in-fill.ensures.rising (sym c.least.ensures ∙ c.in-Some.is) in
-    let few : u < 128 = (subst (AreBelow 128) head c.rises-in-fill.ensures.below).0 in
+    let inv = c.loop-u.invariant in
+    let head = c.in-Some.ensures.steps in
+    let before = subst (IsSet 128) head inv.is_set in
     let is = c.push_back.ensures in
     record {
+      is_set = record { rising = before.rising.1; below = before.below.1 };
       cells = ap (λ (r : Rows). r.cells) is ∙ inv.cells;
-      count = ap (λ (r : Rows). length r.lists) is ∙ (length-pushed c.fill.lists.lists x (cell_at x u) ∙ inv.count);
+      count = ap (λ (r : Rows). length r.lists) is ∙ (length-pushed c.loop-u.lists.lists x (cell_at x u) ∙ inv.count);
       stack = ap (λ (r : Rows). r.stack) is ∙ inv.stack;
-      here = ap (λ (r : Rows). row r.lists x ++ map (cell_at x) c.without-rest.result) is
-          ∙ (ap (λ xs. row (pushed c.fill.lists.lists x (cell_at x u)) x ++ map (cell_at x) xs) c.without-rest.ensures
-          ∙ fill_here c.args.lists.now c.fill.lists x u c.args.set c.fill.rest c.rises.ensures.rising c.requires.list.0 c.requires.bands inv.count inv.here inv.others few head);
-      others = λ y ne. ap (λ (r : Rows). row r.lists y) is ∙ fill_others c.args.lists.now c.fill.lists x u c.args.set c.fill.rest c.rises.ensures.rising c.requires.list.0 c.requires.bands inv.count inv.here inv.others few head y ne;
+      here = ap (λ (r : Rows). row r.lists x ++ map (cell_at x) c.next.new.self) is
+          ∙ fill_here c.args.lists.now c.loop-u.lists x u c.args.set c.loop-u.u-iterator c.next.new.self c.into_iter-u-iterator.ensures.into_iter_gives.1.rising c.requires.list.0 c.requires.bands inv.count inv.here inv.others before.below.0 head;
+      others = λ y ne. ap (λ (r : Rows). row r.lists y) is ∙ fill_others c.args.lists.now c.loop-u.lists x u c.args.set c.loop-u.u-iterator c.next.new.self c.into_iter-u-iterator.ensures.into_iter_gives.1.rising c.requires.list.0 c.requires.bands inv.count inv.here inv.others before.below.0 head y ne;
     }

@@ -1,4 +1,4 @@
-use Rattle.std.proofs.Common.{ℕ, Bool, ◌&&◌, nat_lt, ◌∷◌, List, sym, ap, ◌∙◌, subst, arith}
+use Rattle.std.proofs.Common.{ℕ, Bool, ◌&&◌, nat_lt, List, sym, ap, ◌∙◌, subst, arith}
 use Rattle.number_sets.specs.Sets.{has}
 use Rattle.pns_rules.proofs.StructureLemmas.{is_made-some}
 use Rattle.pgraph.specs.Tables.{shape}
