@@ -13,9 +13,10 @@ use crate::names::{material_name, unit_name};
 use crate::nodes::push_node;
 use crate::numbers::push_flow;
 use branch_tree::Network;
+use flow_program::rate_at;
 use pns_problem::{Problem, Term, amount_text};
 use pns_rules::valid_is_proper;
-use pns_tables::{rate_at, size_at};
+use pns_tables::size_at;
 use std::alloc::{AllocError, Global};
 
 /// The rate of an arc, where it is not 1.

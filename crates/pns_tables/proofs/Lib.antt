@@ -1,4 +1,4 @@
 pub mod FlowLemmas
-pub mod RateLemmas
+pub mod ReadLemmas
 mod RowLemmas
 mod SizeLemmas

@@ -1,9 +1,7 @@
 //! What a network makes of a material less what it uses of it.
-ghost use Rattle.std.specs.Prelude.{◌≡◌, ◌≢◌, ◌<◌, ◌-ℤ◌, ◌+ℤ◌, ◌*ℤ◌, ℕ, pos, true, length};
+ghost use Rattle.std.specs.Prelude.{◌≡◌, ◌≢◌, ◌<◌, ◌+ℤ◌, ◌*ℤ◌, ℕ, pos, true, length};
 ghost use Rattle.int_rows.specs.Range.{InRange};
 ghost use Rattle.number_sets.specs.Sets.{has};
-ghost use Rattle.problem_rules.specs.Problem.{rate_in, rate_of};
-ghost use Rattle.problem_rules.specs.WellFormed.{IsInRange};
 ghost use Rattle.flow_rules.specs.Net.{net_of};
 ghost use Rattle.flow_rules.specs.Flows.{balance};
 ghost use Rattle.flow_rules.specs.Steps.{AreInRange};
@@ -12,39 +10,8 @@ ghost use Rattle.tree_rules.specs.Claim.{size_in};
 
 use crate::sizes::size_at;
 use branch_tree::Network;
-use pns_problem::{Problem, Term};
-
-/// The rate of the material among the terms, 0 where it is not there.
-fn rate_among(terms: &[Term], j: u32) -> i64
-    ensures { result ≡ rate_in terms.now j }
-{
-    'looking: for term in terms {
-        if term.material == j {
-            return term.rate;
-        }
-    }
-    0
-}
-
-fn difference(made: i64, used: i64) -> i64
-    requires made { IsInRange made }
-    requires used { IsInRange used }
-    ensures { result ≡ made -ℤ used }
-{
-    made - used
-}
-
-/// The rate at which the unit makes the material, less the rate at which it uses it, in millionths.
-pub fn rate_at(problem: &Problem, j: u32, u: u32) -> i64
-    requires { u < length problem.now.units }
-    ensures { result ≡ rate_of problem.now j u }
-{
-    problem.is_valid();
-    let unit = &problem.units()[u as usize];
-    let made = rate_among(&unit.outputs, j);
-    let used = rate_among(&unit.inputs, j);
-    difference(made, used)
-}
+use flow_program::rate_at;
+use pns_problem::Problem;
 
 fn product(rate: i64, size: i128) -> i128
     requires { InRange (rate *ℤ size) }

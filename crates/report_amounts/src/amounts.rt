@@ -9,8 +9,9 @@ ghost use Rattle.report_amounts.specs.Amounts.{quotient, sized, size, fixed, pro
 
 use crate::number::Number;
 use branch_tree::Network;
+use flow_program::rate_at;
 use pns_problem::{OperatingUnit, Problem};
-use pns_tables::{rate_at, size_at};
+use pns_tables::size_at;
 
 /// A number of a unit of a network, for one year.
 #[derive(Clone, Copy, Debug, PartialEq, Eq)]

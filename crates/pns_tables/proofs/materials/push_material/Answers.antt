@@ -11,7 +11,7 @@ use Rattle.pns_tables.specs.Table.{IsQuotient}
 use Rattle.pns_tables.specs.Written.{HasWritten}
 use Rattle.pns_tables.proofs.RowLemmas.{on_ok}
 use Rattle.problem_rules.specs.Problem.{Material, material_at}
-use Rattle.pns_tables.proofs.RateLemmas.{material_read}
+use Rattle.pns_tables.proofs.ReadLemmas.{material_read}
 use Rattle.pns_tables.proofs.materials.push_material.Goals as goal
 
 pub returns : goal.returns

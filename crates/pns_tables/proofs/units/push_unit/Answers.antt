@@ -7,7 +7,7 @@ use Rattle.csv.specs.Writing.{default_writer, row_text}
 use Rattle.tree_rules.specs.Claim.{size_in}
 use Rattle.pns_tables.specs.Table.{IsQuotient}
 use Rattle.pns_tables.specs.Written.{HasWritten}
-use Rattle.pns_tables.proofs.RateLemmas.{unit_read}
+use Rattle.pns_tables.proofs.ReadLemmas.{unit_read}
 use Rattle.pns_tables.proofs.RowLemmas.{on_ok}
 use Rattle.pns_tables.proofs.units.push_unit.Goals as goal
 
