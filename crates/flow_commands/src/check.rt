@@ -1,14 +1,12 @@
 //! The command `check`.
-ghost use Rattle.std.specs.Prelude.{◌≡◌, ◌<◌, ◌^◌, ◌⊎◌, IfOk, length, string_bytes};
+ghost use Rattle.std.specs.Prelude.{◌≡◌, ◌<◌, ◌^◌, ◌⊎◌, length};
 ghost use Rattle.pns_io.specs.Outside.{HasRisen};
 ghost use Rattle.branch_tree.specs.View.{claim_of};
-ghost use Rattle.endings.specs.Lines.{line};
 ghost use Rattle.command_files.specs.Reading.{OnFile};
 ghost use Rattle.command_files.specs.TreeFile.{OnTree};
-ghost use Rattle.flow_commands.specs.Check.{CheckWork, node_line, why_word};
+ghost use Rattle.flow_commands.specs.Check.{CheckWork};
 ghost use Rattle.flow_commands.specs.Best.{AcceptedIsBest, FilesClaimBest};
-ghost use Rattle.endings.specs.Ending.{Ends, Says, Tells, Only, OrMemory};
-ghost use Rattle.endings.specs.declared.status.Status.TheVariants.{Done, Refused};
+ghost use Rattle.endings.specs.Ending.{Ends, Says, Tells};
 
 use branch_tree::{Claim, Tree};
 use cert_check::{Refusal, check_tree};
@@ -18,50 +16,9 @@ use endings::say::{say, say_memory, say_of};
 use pgraph::Graph;
 use pns_io::{Shelf, Sink};
 use pns_problem::Problem;
-use std::alloc::{AllocError, Global};
+use refusal_words::{say_node, why_word};
+use std::alloc::Global;
 use tree_laws::{accepted_has_flows, accepted_is_optimal};
-use tree_rules::Why;
-
-/// The word by which a cause is told.
-fn why_word(why: Why) -> &'static str
-    ensures { result.now ≡ why_word why }
-{
-    match why {
-        Why::Unknown => "unknown",
-        Why::Axiom => "axiom",
-        Why::Exclusion => "exclusion",
-        Why::Flows => "flows",
-        Why::Cost => "cost",
-        Why::Step => "step",
-        Why::Options => "options",
-        Why::Open => "open",
-        Why::Dead => "dead",
-        Why::Clash => "clash",
-        Why::Refuted => "refuted",
-        Why::Bound => "bound",
-        Why::Sum => "sum",
-    }
-}
-
-fn node_line(alloc: Global, node: u32, why: Why) -> Result<String, AllocError>
-    ensures { IfOk result (λ text. string_bytes text ≡ line (node_line node why)) }
-{
-    let mut text = String::from_str(alloc, "refused node ")?;
-    write!(text, "{node}")?;
-    text.push(' ')?;
-    text.push_str(why_word(why))?;
-    text.push('\n')?;
-    Ok(text)
-}
-
-fn say_node<K: Sink>(alloc: Global, out: &mut K, node: u32, why: Why) -> Status
-    ensures { Ends (OrMemory (Only Refused (line (node_line node why)))) (HasRisen (K.faults out.old) (K.faults out.new)) (K.written out.old) (K.written out.new) result }
-{
-    match node_line(alloc, node, why) {
-        Ok(text) => say(out, text.as_bytes(), Status::Refused),
-        Err(_) => say_memory(out),
-    }
-}
 
 /// Says whether the tree proves the claim, or else the first line of the claim or the first node that fails.
 fn say_checked<K: Sink>(

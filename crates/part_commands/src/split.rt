@@ -8,9 +8,7 @@ ghost use Rattle.endings.specs.Lines.{line, text_of};
 ghost use Rattle.command_files.specs.Reading.{OnFile};
 ghost use Rattle.command_files.specs.TreeFile.{OnTree};
 ghost use Rattle.part_commands.specs.Split.{SplitWork, LeavesSay, part_line, token_in};
-ghost use Rattle.refusal_words.specs.Words.{node_line};
-ghost use Rattle.endings.specs.Ending.{Ends, Says, Tells, Only, OrMemory};
-ghost use Rattle.endings.specs.declared.status.Status.TheVariants.{Refused};
+ghost use Rattle.endings.specs.Ending.{Ends, Says, Tells};
 
 use branch_tree::{Claim, Tree};
 use cert_check::Refusal;
@@ -20,11 +18,10 @@ use endings::say::{say, say_memory, say_of};
 use pgraph::Graph;
 use pns_io::{Shelf, Sink};
 use pns_problem::Problem;
-use refusal_words::why_word;
+use refusal_words::{say_node, why_word};
 use std::alloc::{AllocError, Global};
 use structure_list::print_token;
 use tree_parts::{OpenLeaf, open_leaves};
-use tree_rules::Why;
 use unit_sets::UnitSet;
 
 fn token_in(alloc: Global, set: UnitSet) -> Result<String, AllocError>
@@ -63,26 +60,6 @@ fn say_leaves<K: Sink>(alloc: Global, out: &mut K, leaves: &[OpenLeaf]) -> Statu
         };
     }
     say(out, b"end\n", Status::Done)
-}
-
-fn node_line(alloc: Global, node: u32, why: Why) -> Result<String, AllocError>
-    ensures { IfOk result (λ text. string_bytes text ≡ line (node_line node why)) }
-{
-    let mut text = String::from_str(alloc, "refused node ")?;
-    write!(text, "{node}")?;
-    text.push(' ')?;
-    text.push_str(why_word(why))?;
-    text.push('\n')?;
-    Ok(text)
-}
-
-pub(crate) fn say_node<K: Sink>(alloc: Global, out: &mut K, node: u32, why: Why) -> Status
-    ensures { Ends (OrMemory (Only Refused (line (node_line node why)))) (HasRisen (K.faults out.old) (K.faults out.new)) (K.written out.old) (K.written out.new) result }
-{
-    match node_line(alloc, node, why) {
-        Ok(text) => say(out, text.as_bytes(), Status::Refused),
-        Err(_) => say_memory(out),
-    }
 }
 
 /// Says the open leaves of the tree, or else the first line of the claim or the first node that fails.

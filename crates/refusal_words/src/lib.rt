@@ -1,8 +1,8 @@
 //! The words by which it is told why a claim, or a node of a tree, is refused.
 //!
-//! `specs/Words` has the word of each cause, and the lines of a refused claim and of a refused node.
+//! `specs/Words` has the word of each cause, and the lines of a refused claim and of a refused node; `say_node` says the latter.
 #![tactic(auto)]
 
 mod words;
 
-pub use words::why_word;
+pub use words::{say_node, why_word};

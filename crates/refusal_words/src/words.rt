@@ -1,7 +1,15 @@
-//! The words of causes.
-ghost use Rattle.std.specs.Prelude.{◌≡◌};
-ghost use Rattle.refusal_words.specs.Words.{why_word};
+//! The words of causes, and the line of a node that is refused.
+ghost use Rattle.std.specs.Prelude.{◌≡◌, IfOk, string_bytes};
+ghost use Rattle.pns_io.specs.Outside.{HasRisen};
+ghost use Rattle.endings.specs.Lines.{line};
+ghost use Rattle.endings.specs.Ending.{Ends, Only, OrMemory};
+ghost use Rattle.endings.specs.declared.status.Status.TheVariants.{Refused};
+ghost use Rattle.refusal_words.specs.Words.{why_word, node_line};
 
+use endings::Status;
+use endings::say::{say, say_memory};
+use pns_io::Sink;
+use std::alloc::{AllocError, Global};
 use tree_rules::Why;
 
 /// The word by which a cause is told.
@@ -22,5 +30,26 @@ pub fn why_word(why: Why) -> &'static str
         Why::Refuted => "refuted",
         Why::Bound => "bound",
         Why::Sum => "sum",
+    }
+}
+
+fn node_line(alloc: Global, node: u32, why: Why) -> Result<String, AllocError>
+    ensures { IfOk result (λ text. string_bytes text ≡ line (node_line node why)) }
+{
+    let mut text = String::from_str(alloc, "refused node ")?;
+    write!(text, "{node}")?;
+    text.push(' ')?;
+    text.push_str(why_word(why))?;
+    text.push('\n')?;
+    Ok(text)
+}
+
+/// Says that the node, counted from 0 in preorder, is refused, and why.
+pub fn say_node<K: Sink>(alloc: Global, out: &mut K, node: u32, why: Why) -> Status
+    ensures { Ends (OrMemory (Only Refused (line (node_line node why)))) (HasRisen (K.faults out.old) (K.faults out.new)) (K.written out.old) (K.written out.new) result }
+{
+    match node_line(alloc, node, why) {
+        Ok(text) => say(out, text.as_bytes(), Status::Refused),
+        Err(_) => say_memory(out),
     }
 }

@@ -3,7 +3,8 @@ use Rattle.branch_tree.specs.View.{claim_of}
 use Rattle.tree_rules.specs.Claim.{ClaimPasses, ClaimFails}
 use Rattle.tree_rules.specs.Accepted.{first_node, NodeIsFault}
 use Rattle.endings.specs.Lines.{line}
-use Rattle.flow_commands.specs.Check.{CheckWork, claim_line, node_line}
+use Rattle.refusal_words.specs.Words.{claim_line, node_line}
+use Rattle.flow_commands.specs.Check.{CheckWork}
 use Rattle.endings.specs.Ending.{Tells}
 use Rattle.endings.specs.declared.status.Status.{Status}
 use Rattle.endings.specs.declared.status.Status.TheVariants.{Done, Refused, Memory}
