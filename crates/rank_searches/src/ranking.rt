@@ -3,9 +3,6 @@ ghost use Rattle.std.specs.Prelude.{◌≡◌, ◌<◌, ◌^◌, ℕ, Ok, length
 ghost use Rattle.pns_io.specs.Outside.{HasRisen};
 ghost use Rattle.problem_rules.specs.Each.{Each};
 ghost use Rattle.branch_tree.specs.Sized.{IsKept};
-ghost use Rattle.branch_tree.specs.View.{tail_of};
-ghost use Rattle.tree_text_laws.specs.LineFits.{CountsPlace};
-ghost use Rattle.tree_text_laws.specs.Fits.{CountsTail};
 ghost use Rattle.ranked_tree.specs.View.{mark_of};
 ghost use Rattle.rank_text.specs.Known.{KnowsText};
 ghost use Rattle.rank_text.specs.Read.{read_text};
@@ -15,16 +12,15 @@ ghost use Rattle.rank_searches.specs.Normal.{normal, IsMarkInRange};
 ghost use Rattle.rank_searches.specs.Found.{ranking_found, RankingSays, FoundSays};
 ghost use Rattle.endings.specs.Ending.{Ends, Tells};
 
-use branch_tree::{Network, Tail};
+use branch_tree::Network;
 use endings::Status;
 use endings::say::{say_memory, say_printed};
-use flow_program::Place;
 use pns_io::Sink;
 use pns_problem::Problem;
 use rank_search::Ranked;
 use rank_text::{print_rank, spelled_ranks_read};
 use ranked_tree::{Mark, RankText};
-use searches::status_of;
+use searches::{status_of, tail_is_counted};
 use std::alloc::Global;
 
 /// The ranking that was found; `None` exactly for want of memory.
@@ -67,38 +63,6 @@ fn marks_are_in_range(marks: &[Mark])
 {
     'marks: for mark in marks {
         mark_is_in_range(mark);
-    }
-}
-
-// The step of a place is a number that a line can hold. A call tells a proof so, and does nothing.
-fn place_is_counted(place: &Place)
-    ensures { CountsPlace place.now }
-{
-    match place {
-        Place::Entry { .. } | Place::Flow { .. } => {}
-        Place::Cost { at }
-        | Place::FlowSum { at }
-        | Place::Bound { at }
-        | Place::Refute { at, .. } => {
-            let _at = *at;
-        }
-    }
-}
-
-// So are the numbers of a tail.
-fn tail_is_counted(tail: &Tail)
-    ensures { CountsTail (tail_of tail.now) }
-{
-    match tail {
-        Tail::Whole => {}
-        Tail::Spent { next, options } => {
-            let _next = *next;
-            let _options = *options;
-        }
-        Tail::Past { node, place, .. } => {
-            let _node = *node;
-            place_is_counted(place);
-        }
     }
 }
 

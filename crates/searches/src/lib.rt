@@ -14,6 +14,6 @@ pub mod solve;
 mod summary;
 pub mod trial;
 
-pub use certificate::{Certificate, certificate_of, say_found, status_of};
+pub use certificate::{Certificate, certificate_of, say_found, status_of, tail_is_counted};
 pub use solve::{say_solved, search_all};
 pub use summary::say_summed;
