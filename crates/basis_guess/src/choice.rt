@@ -1,20 +1,17 @@
 //! Who leaves the basis, and who enters it.
 use crate::guess::Column;
+use crate::line::Line;
 use crate::ranges::Ranges;
-use crate::rounding::{Filled, product};
+use crate::rounding::product;
 use crate::row::{Distance, Row};
+use unit_sets::UnitSet;
 
 /// The row whose basic variable is furthest out of its range, and how far that is.
-pub(crate) fn leaving(
-    rows: &[Row],
-    ends: &[Filled],
-    ranges: &Ranges,
-    noise: i128,
-) -> Option<(usize, Distance)> {
+pub(crate) fn leaving(rows: &[Row], ranges: &Ranges, noise: i128) -> Option<(usize, Distance)> {
     let mut furthest = None;
     let mut most = -1i128;
     for (r, row) in rows.iter().enumerate() {
-        if let Some(distance) = row.distance(ends, ranges, noise) {
+        if let Some(distance) = row.distance(ranges, noise) {
             let share = distance.amount.wrapping_div(row.den.max(1) as i128);
             if share > most {
                 most = share;
@@ -28,7 +25,7 @@ pub(crate) fn leaving(
 /// A column that could enter, with the sizes of its entries in the cost row and in the row that is left.
 #[derive(Clone, Copy)]
 struct Candidate {
-    column: usize,
+    column: u32,
     cost: u64,
     entry: u64,
 }
@@ -48,32 +45,29 @@ fn helps(column: Column, entry: i64, raise: bool, ranges: &Ranges) -> bool {
     ranges.of(column.variable).width() > 0
 }
 
-/// The column whose reduced cost comes to 0 first, among those that help and were not passed.
-fn first_column(
-    row: &[i64],
-    costs: &[i64],
-    columns: &[Column],
-    passed: &[bool],
-    ranges: &Ranges,
-    raise: bool,
-) -> Option<usize> {
-    let mut best = None;
-    for (k, ((entry, cost), (column, is_passed))) in row
-        .iter()
-        .zip(costs)
-        .zip(columns.iter().zip(passed))
-        .enumerate()
-    {
-        if !*is_passed && helps(*column, *entry, raise, ranges) {
-            best = earlier(
-                best,
-                Candidate {
-                    column: k,
-                    cost: cost.unsigned_abs(),
-                    entry: entry.unsigned_abs(),
-                },
-            );
+/// The columns that help.
+fn helping(row: &Line, columns: &[Column], ranges: &Ranges, raise: bool) -> UnitSet {
+    let mut found = row.filled();
+    for k in row.filled() {
+        if let Some(column) = columns.get(k as usize) {
+            if k < 128 && !helps(*column, row.at(k as usize), raise, ranges) {
+                found = found.without(k);
+            }
         }
+    }
+    found
+}
+
+/// The column whose reduced cost comes to 0 first, among these.
+fn first_column(row: &Line, costs: &Line, among: UnitSet) -> Option<u32> {
+    let mut best = None;
+    for column in among {
+        let next = Candidate {
+            column,
+            cost: costs.at(column as usize).unsigned_abs(),
+            entry: row.at(column as usize).unsigned_abs(),
+        };
+        best = earlier(best, next);
     }
     match best {
         Some(first) => Some(first.column),
@@ -88,38 +82,34 @@ fn earlier(best: Option<Candidate>, next: Candidate) -> Option<Candidate> {
     }
 }
 
-/// How far the column moves the row when its variable goes to its other end.
-fn reach(row: &[i64], k: usize, column: Column, ranges: &Ranges) -> i128 {
-    match row.get(k) {
-        Some(entry) => product(*entry, ranges.of(column.variable).width()).wrapping_abs(),
-        None => 0,
-    }
+/// How far a column with this entry moves the row when its variable goes to its other end.
+fn reach(entry: i64, column: Column, ranges: &Ranges) -> i128 {
+    product(entry, ranges.of(column.variable).width()).wrapping_abs()
 }
 
 /// The column that enters for the basic variable of the row. Each one that comes before it is passed, and goes to its other end:
 /// the row stays out of its range all the same. `None` where all have been passed.
 pub(crate) fn entering(
-    row: &[i64],
-    costs: &[i64],
+    row: &Line,
+    costs: &Line,
     columns: &mut [Column],
-    passed: &mut [bool],
     ranges: &Ranges,
     distance: Distance,
 ) -> Option<usize> {
-    for mark in passed.iter_mut() {
-        *mark = false;
-    }
+    let mut left = helping(row, columns, ranges, distance.raise);
     let mut amount = distance.amount;
     for _ in 0..columns.len() {
-        let k = first_column(row, costs, columns, passed, ranges, distance.raise)?;
+        let first = first_column(row, costs, left)?;
+        let k = first as usize;
         let column = columns.get_mut(k)?;
-        amount = amount.wrapping_sub(reach(row, k, *column, ranges));
+        amount = amount.wrapping_sub(reach(row.at(k), *column, ranges));
         if amount <= 0 {
             return Some(k);
         }
         column.at_high = !column.at_high;
-        let mark = passed.get_mut(k)?;
-        *mark = true;
+        if first < 128 {
+            left = left.without(first);
+        }
     }
     None
 }

@@ -1,12 +1,13 @@
 //! The tableau.
 use crate::choice::{entering, leaving};
 use crate::cost_row::CostRow;
+use crate::line::Line;
 use crate::numbers::Numbers;
 use crate::ranges::{Ranges, Variable};
-use crate::rounding::{Filled, list_filled, shortened};
+use crate::rounding::shortened;
 use crate::row::{Distance, Pivot, Row};
 use std::alloc::{AllocError, Global};
-use unit_sets::Node;
+use unit_sets::{Node, UnitSet};
 
 /// A variable outside the basis, and the end at which it stands.
 #[derive(Clone, Copy, Debug)]
@@ -36,12 +37,9 @@ pub struct Guess {
     multipliers: Vec<i64>,
     scale: i64,
     shift: u32,
-    // What a turn works with: the ends of the columns, which of them were passed, the pivot row, and sums.
-    ends: Vec<i64>,
-    filled_ends: Vec<Filled>,
-    passed: Vec<bool>,
-    pivot: Vec<i64>,
-    filled_pivot: Vec<Filled>,
+    // What a turn works with: the ends of the columns, the pivot row, and sums.
+    ends: Line,
+    pivot: Line,
     sums: Vec<i128>,
 }
 
@@ -69,11 +67,8 @@ impl Guess {
         let ranges = Ranges::open(alloc, width, height)?;
         let unit_costs = vec![in alloc; 0i64; width]?;
         let multipliers = vec![in alloc; 0i64; height]?;
-        let ends = vec![in alloc; 0i64; width]?;
-        let passed = vec![in alloc; false; width]?;
-        let pivot = vec![in alloc; 0i64; width]?;
-        let filled_ends = Vec::with_capacity(alloc, width)?;
-        let filled_pivot = Vec::with_capacity(alloc, width)?;
+        let ends = Line::open(alloc, width)?;
+        let pivot = Line::open(alloc, width)?;
         let sums = vec![in alloc; 0i128; width]?;
         Ok(Guess {
             rows,
@@ -86,10 +81,7 @@ impl Guess {
             scale: 1,
             shift: 0,
             ends,
-            filled_ends,
-            passed,
             pivot,
-            filled_pivot,
             sums,
         })
     }
@@ -105,8 +97,7 @@ impl Guess {
         }
         for _ in 0..MOST_PIVOTS {
             let noise = self.set_ends();
-            let Some((r, distance)) = leaving(&self.rows, &self.filled_ends, &self.ranges, noise)
-            else {
+            let Some((r, distance)) = leaving(&self.rows, &self.ranges, noise) else {
                 self.read_costs(numbers);
                 return Outcome::Basis;
             };
@@ -200,21 +191,32 @@ impl Guess {
         }
     }
 
-    /// Puts each column at the end that its reduced cost asks for. Gives how much noise the rounding of rows can make of these ends.
+    /// Puts each column at the end that its reduced cost asks for, and gives each row its value. Gives how much noise the rounding of
+    /// rows can make of these ends.
     fn set_ends(&mut self) -> i128 {
         let mut sizes = 0i128;
-        for (end, (column, cost)) in self
-            .ends
+        let mut moved = UnitSet::empty();
+        for (k, (column, cost)) in self
+            .columns
             .iter_mut()
-            .zip(self.columns.iter_mut().zip(&self.cost_row.entries))
+            .zip(self.cost_row.line.numbers())
+            .enumerate()
         {
             if *cost != 0 {
                 column.at_high = *cost < 0;
             }
-            *end = self.ranges.of(column.variable).end(column.at_high);
+            let end = self.ranges.of(column.variable).end(column.at_high);
             sizes = sizes.wrapping_add(end.unsigned_abs() as i128);
+            if end != self.ends.at(k) {
+                self.ends.put(k, end);
+                if k < 128 {
+                    moved = moved.with(k as u32);
+                }
+            }
         }
-        list_filled(&self.ends, &mut self.filled_ends);
+        for row in self.rows.iter_mut() {
+            row.set_value(&self.ends, moved);
+        }
         sizes.wrapping_shl(8)
     }
 
@@ -222,10 +224,9 @@ impl Guess {
     fn enters(&mut self, r: usize, distance: Distance) -> Option<usize> {
         let row = self.rows.get(r)?;
         entering(
-            &row.entries,
-            &self.cost_row.entries,
+            &row.line,
+            &self.cost_row.line,
             &mut self.columns,
-            &mut self.passed,
             &self.ranges,
             distance,
         )
@@ -244,16 +245,12 @@ impl Guess {
         column.variable = leaves;
         column.at_high = !raise;
         row.turn(k);
-        for (kept, entry) in self.pivot.iter_mut().zip(&row.entries) {
-            *kept = *entry;
-        }
-        list_filled(&self.pivot, &mut self.filled_pivot);
+        self.pivot.copy(&row.line);
         let pivot = Pivot {
             column: k,
             den: row.den,
             is_rounded: row.is_rounded,
-            entries: &self.pivot,
-            filled: &self.filled_pivot,
+            line: &self.pivot,
         };
         for (i, other) in self.rows.iter_mut().enumerate() {
             if i != r {
@@ -270,7 +267,7 @@ impl Guess {
         put_multipliers(
             &mut self.multipliers,
             &self.columns,
-            &self.cost_row.entries,
+            self.cost_row.line.numbers(),
             false,
         );
     }
@@ -280,7 +277,12 @@ impl Guess {
         let Some(row) = self.rows.get(r) else {
             return;
         };
-        put_multipliers(&mut self.multipliers, &self.columns, &row.entries, raise);
+        put_multipliers(
+            &mut self.multipliers,
+            &self.columns,
+            row.line.numbers(),
+            raise,
+        );
         if let Variable::Balance(material) = row.basic {
             if let Some(multiplier) = self.multipliers.get_mut(material) {
                 *multiplier = negated_if(!raise, row.den);

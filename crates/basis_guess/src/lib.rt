@@ -10,13 +10,14 @@
 //! that its reduced cost asks for, and the basis of the last node is a start for the next one.
 //!
 //! Modules: `numbers` (what a problem and a node ask for), `ranges` (the ends, shortened), `rounding` (wide products and what is
-//! kept of them), `row` and `cost_row` (the rows of the tableau), `choice` (who leaves the basis and who enters it), `guess` (the
+//! kept of them), `line` (the numbers of a row), `row` and `cost_row` (the rows of the tableau), `choice` (who leaves the basis and who enters it), `guess` (the
 //! tableau).
 #![tactic(auto)]
 
 mod choice;
 mod cost_row;
 mod guess;
+mod line;
 mod numbers;
 mod ranges;
 mod rounding;

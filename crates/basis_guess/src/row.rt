@@ -1,9 +1,9 @@
 //! One row of the tableau.
+use crate::line::Line;
 use crate::ranges::{Ranges, Variable};
-use crate::rounding::{
-    Filled, WIDEST, add_multiple, dot, entry, excess, lowest, mix, narrowed, product, rounded,
-};
+use crate::rounding::{WIDEST, excess, lowest, narrowed, product};
 use std::alloc::{AllocError, Global};
+use unit_sets::UnitSet;
 
 /// `den` times the basic variable is the sum of the entries times the variables outside the basis.
 #[derive(Drop)]
@@ -11,7 +11,10 @@ pub(crate) struct Row {
     pub(crate) basic: Variable,
     pub(crate) den: i64,
     pub(crate) is_rounded: bool,
-    pub(crate) entries: Vec<i64>,
+    pub(crate) line: Line,
+    // `den` times the basic variable, where the variables outside the basis stood last, unless the row has changed since.
+    value: i128,
+    has_changed: bool,
 }
 
 /// The row that is solved for the variable of a column, and that column.
@@ -20,8 +23,7 @@ pub(crate) struct Pivot<'a> {
     pub(crate) column: usize,
     pub(crate) den: i64,
     pub(crate) is_rounded: bool,
-    pub(crate) entries: &'a [i64],
-    pub(crate) filled: &'a [Filled],
+    pub(crate) line: &'a Line,
 }
 
 /// How far a basic variable is out of its range, times the row's `den`, and whether it has to be raised.
@@ -36,12 +38,14 @@ const COARSE: i64 = 1 << 40;
 
 impl Row {
     pub(crate) fn open(alloc: Global, basic: Variable, width: usize) -> Result<Row, AllocError> {
-        let entries = vec![in alloc; 0i64; width]?;
+        let line = Line::open(alloc, width)?;
         Ok(Row {
             basic,
             den: 1,
             is_rounded: false,
-            entries,
+            line,
+            value: 0,
+            has_changed: true,
         })
     }
 
@@ -50,41 +54,32 @@ impl Row {
         self.basic = basic;
         self.den = 1;
         self.is_rounded = false;
-        for entry in self.entries.iter_mut() {
-            *entry = 0;
-        }
+        self.line.clear();
+        self.has_changed = true;
     }
 
     pub(crate) fn put(&mut self, column: usize, value: i64) {
-        if let Some(entry) = self.entries.get_mut(column) {
-            *entry = value;
-        }
+        self.line.put(column, value);
+        self.has_changed = true;
     }
 
-    /// Takes the sums for its entries, all shortened alike where one has more bits than a row's numbers have.
-    pub(crate) fn take(&mut self, sums: &[i128], den: i128, bits: u128) {
+    /// Takes the sums of these columns for its entries, all shortened alike where one has more bits than a row's numbers have.
+    fn take(&mut self, sums: &[i128], columns: UnitSet, den: i128, bits: u128) {
         let by = excess(bits | den.unsigned_abs(), WIDEST);
+        self.line.take(sums, columns, by);
         if by == 0 {
-            for (entry, sum) in self.entries.iter_mut().zip(sums) {
-                *entry = narrowed(*sum);
-            }
             self.den = narrowed(den);
-            return;
+        } else {
+            self.den = narrowed(den.wrapping_shr(by)).max(1);
+            self.is_rounded = true;
         }
-        for (entry, sum) in self.entries.iter_mut().zip(sums) {
-            *entry = rounded(*sum, by);
-        }
-        self.den = narrowed(den.wrapping_shr(by)).max(1);
-        self.is_rounded = true;
     }
 
     /// Solves the row for the variable of the column, which becomes basic.
     pub(crate) fn turn(&mut self, column: usize) {
-        let size = entry(&self.entries, column);
+        let size = self.line.at(column);
         if size > 0 {
-            for entry in self.entries.iter_mut() {
-                *entry = entry.wrapping_neg();
-            }
+            self.line.negate();
             self.put(column, self.den);
         } else {
             self.put(column, self.den.wrapping_neg());
@@ -94,7 +89,7 @@ impl Row {
 
     /// Puts the pivot row in place of its variable.
     pub(crate) fn substitute(&mut self, pivot: Pivot, sums: &mut [i128]) {
-        let factor = entry(&self.entries, pivot.column);
+        let factor = self.line.at(pivot.column);
         if factor == 0 {
             return;
         }
@@ -108,25 +103,27 @@ impl Row {
         } else {
             lowest(pivot.den, factor)
         };
-        if p == 1 && add_multiple(&mut self.entries, q, pivot.filled) {
+        if p == 1 && self.line.add_multiple(q, pivot.line) {
             return;
         }
-        let bits = mix(p, &self.entries, q, pivot.entries, sums);
-        self.take(sums, product(p, self.den), bits);
+        let bits = self.line.mix(p, q, pivot.line, sums);
+        let columns = self.line.filled().union(pivot.line.filled());
+        self.take(sums, columns, product(p, self.den), bits);
     }
 
-    /// How far the basic variable is out of its range where the variables outside the basis have these values. What may be noise
-    /// does not count.
-    pub(crate) fn distance(
-        &self,
-        ends: &[Filled],
-        ranges: &Ranges,
-        noise: i128,
-    ) -> Option<Distance> {
+    /// Forms the value of the basic variable anew where the row has changed, or the end of a column that moved it.
+    pub(crate) fn set_value(&mut self, ends: &Line, moved: UnitSet) {
+        if self.has_changed || !self.line.filled().meet(moved).is_empty() {
+            self.value = self.line.dot(ends);
+            self.has_changed = false;
+        }
+    }
+
+    /// How far the basic variable is out of its range. What may be noise does not count.
+    pub(crate) fn distance(&self, ranges: &Ranges, noise: i128) -> Option<Distance> {
         let range = ranges.of(self.basic);
-        let value = dot(&self.entries, ends);
-        let below = product(range.low, self.den).wrapping_sub(value);
-        let above = value.wrapping_sub(product(range.high, self.den));
+        let below = product(range.low, self.den).wrapping_sub(self.value);
+        let above = self.value.wrapping_sub(product(range.high, self.den));
         let most = if self.is_rounded && self.den >= COARSE {
             noise
         } else {
