@@ -2,6 +2,7 @@
 use crate::equation::Equation;
 use crate::fractions::Value;
 use std::alloc::{AllocError, Global};
+use std::mem::swap;
 
 /// The first `size` equations count, in as many unknowns.
 #[derive(Drop)]
@@ -36,14 +37,6 @@ impl System {
         self.order.clear();
         for equation in self.equations.iter_mut().take(size) {
             equation.clear();
-            for _ in 0..size {
-                if !equation.push(0) {
-                    return false;
-                }
-            }
-            if !equation.push(0) {
-                return false;
-            }
         }
         size <= self.equations.len()
     }
@@ -57,15 +50,8 @@ impl System {
 
     /// Adds the product to the right side.
     pub(crate) fn add_right(&mut self, r: usize, factor: i64, amount: i128) -> bool {
-        let right = self.size;
-        let Some(equation) = self.equations.get_mut(r) else {
-            return false;
-        };
-        let Some(product) = amount.checked_mul(factor as i128) else {
-            return false;
-        };
-        match equation.entry(right).checked_add(product) {
-            Some(sum) => equation.put(right, sum),
+        match self.equations.get_mut(r) {
+            Some(equation) => equation.add_right(factor, amount),
             None => false,
         }
     }
@@ -113,36 +99,47 @@ impl System {
         let Some(equation) = self.equations.get(r) else {
             return false;
         };
-        match equation.unknown() {
+        match equation.solved() {
             Some(unknown) => self.eliminate(r, unknown, true),
             None => false,
         }
     }
 
     /// Takes the unknown out of the other equations, of those that are left or of all.
-    fn eliminate(&mut self, r: usize, unknown: usize, all: bool) -> bool {
-        let Some(solved) = self.equations.get(r) else {
-            return false;
-        };
-        if !self.pivot.copy(solved, unknown) {
+    fn eliminate(&mut self, r: usize, unknown: u32, all: bool) -> bool {
+        if unknown >= 128 || !self.swap_pivot(r) {
             return false;
         }
         for (i, equation) in self.equations.iter_mut().enumerate().take(self.size) {
-            let counts = i != r && (all || equation.unknown().is_none());
-            if counts && !equation.eliminate(&self.pivot, unknown) {
+            let counts = i != r && (all || equation.solved().is_none());
+            if counts
+                && equation.unknowns().has(unknown)
+                && !equation.eliminate(&self.pivot, unknown)
+            {
                 return false;
             }
         }
-        true
+        self.swap_pivot(r)
+    }
+
+    /// Puts the equation in the place of the pivot, and the pivot in its place.
+    fn swap_pivot(&mut self, r: usize) -> bool {
+        match self.equations.get_mut(r) {
+            Some(equation) => {
+                swap(&mut self.pivot, equation);
+                true
+            }
+            None => false,
+        }
     }
 
     /// The equation with the fewest unknowns, of those that are left.
     fn next_equation(&self) -> Option<usize> {
         let mut next = None;
-        let mut fewest = usize::MAX;
+        let mut fewest = u32::MAX;
         for (r, equation) in self.equations.iter().enumerate().take(self.size) {
-            if equation.unknown().is_none() && equation.filled() < fewest {
-                fewest = equation.filled();
+            if equation.solved().is_none() && equation.count() < fewest {
+                fewest = equation.count();
                 next = Some(r);
             }
         }
@@ -150,27 +147,25 @@ impl System {
     }
 
     /// The unknown of the equation that stands in the fewest others, of those that are left.
-    fn next_unknown(&self, r: usize) -> Option<usize> {
+    fn next_unknown(&self, r: usize) -> Option<u32> {
         let equation = self.equations.get(r)?;
         let mut next = None;
         let mut fewest = usize::MAX;
-        for (unknown, coefficient) in equation.entries().iter().enumerate().take(self.size) {
-            if *coefficient != 0 {
-                let count = self.count_of(unknown);
-                if count < fewest {
-                    fewest = count;
-                    next = Some(unknown);
-                }
+        for unknown in equation.unknowns() {
+            let count = self.count_of(unknown);
+            if count < fewest {
+                fewest = count;
+                next = Some(unknown);
             }
         }
         next
     }
 
     /// How many of the equations that are left have the unknown.
-    fn count_of(&self, unknown: usize) -> usize {
+    fn count_of(&self, unknown: u32) -> usize {
         let mut count = 0usize;
         for equation in self.equations.iter().take(self.size) {
-            if equation.unknown().is_none() && equation.entry(unknown) != 0 {
+            if unknown < 128 && equation.solved().is_none() && equation.unknowns().has(unknown) {
                 count = count.wrapping_add(1);
             }
         }
@@ -180,10 +175,7 @@ impl System {
     /// The unknown that the equation was solved for, and its value.
     pub(crate) fn value(&self, r: usize) -> Option<(usize, Value)> {
         let equation = self.equations.get(r)?;
-        let unknown = equation.unknown()?;
-        Some((
-            unknown,
-            Value::of(equation.right(), equation.entry(unknown)),
-        ))
+        let unknown = equation.solved()?;
+        Some((unknown as usize, equation.value(unknown)))
     }
 }
