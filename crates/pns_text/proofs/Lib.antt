@@ -1,12 +1,16 @@
+pub mod Counts
+pub mod CutLines
 pub mod Finding
 pub mod FormKinds
 pub mod KeptLines
 pub mod MeaningLaw
 pub mod NamesBefore
 pub mod Naming
+pub mod NoFault
 pub mod RateKinds
 pub mod RatesKinds
 pub mod ReadLaw
 pub mod SidesRead
 pub mod WalkLaw
+pub mod WalkNames
 pub mod Walking

@@ -1,12 +1,15 @@
 -- Names in a table, and names that come once.
-use Rattle.std.proofs.Common.{◌≡◌, ℕ, ◌+◌, Bool, true, false, cond, not, nat_lt, ◌||◌, Option, Some, None, List, [], ◌∷◌, ◌++◌, refl, sym, ap, ◌∙◌, if◌then◌else◌, append_assoc, append-nil}
+use Rattle.std.proofs.Common.{◌≡◌, ◌<◌, ◌&&◌, zero, suc, length, nat_le, slice_index, arith, ℕ, ◌+◌, Bool, true, false, cond, not, nat_lt, ◌||◌, Option, Some, None, List, [], ◌∷◌, ◌++◌, refl, sym, ap, ◌∙◌, if◌then◌else◌, append_assoc, append-nil}
 use Rattle.std.specs.Borrow.{Bor}
-use Rattle.std.specs.Str.{bytes_eq}
-use Rattle.std.specs.List.{list_any, position, position_or_len}
+use Rattle.std.specs.Str.{bytes_eq, IsUtf8, IsAscii}
+use Rattle.std.specs.List.{list_all, list_any, position, position_or_len}
+use Rattle.std.proofs.lemmas.Bool.{and_parts}
+use Rattle.std.proofs.lemmas.Bool.Decides.{nat_tests}
+use Rattle.std.proofs.lemmas.Str.{IsUtf8-from_ascii}
 use Rattle.std.proofs.lemmas.List.{length-map, map-append}
 use Rattle.std.proofs.lemmas.List.Folds.{list_any-append}
 use Rattle.std.proofs.lemmas.Cmp.{nat_list_eq_equiv}
-use Rattle.problem_rules.specs.Names.{is_among, has_double}
+use Rattle.problem_rules.specs.Names.{is_name, begins_name, continues_name, is_among, has_double}
 use Rattle.text_lines.specs.View.{texts}
 use Rattle.pns_text.specs.Once.{with_name, once}
 
@@ -99,3 +102,17 @@ none_again (name ∷ names) = none_again names
 pub once-all : (names : List (List ℕ)) → once_from [] names ≡ once names
 unfolding again
 once-all names = once_all [] names ∙ ap (λ (b : Bool). if (b || has_double names) then None else Some names) (none_again names)
+
+low : (c : ℕ) → continues_name c ≡ true → c < 128
+low c h = grind (arith, nat_tests)
+
+all_low : (text : List ℕ) → list_all continues_name text ≡ true → IsAscii text
+all_low [] h i = omega arith
+all_low (c ∷ cs) h zero = low c (and_parts (continues_name c) (list_all continues_name cs) h).0
+all_low (c ∷ cs) h (suc i) = all_low cs (and_parts (continues_name c) (list_all continues_name cs) h).1 i
+
+-- a name is ASCII
+pub name_utf8 : (text : List ℕ) → is_name text ≡ true → IsUtf8 text
+name_utf8 text h =
+    let front = nat_le 1 (length text) && nat_le (length text) 64 && begins_name (slice_index text 0) in
+    IsUtf8-from_ascii text (all_low text (and_parts front (list_all continues_name text) h).1)

@@ -8,8 +8,9 @@ use Rattle.text_rules.specs.Fault.{form_fault, parts_of, first_of}
 use Rattle.text_rules.specs.Value.{stands_in, meaning_kinds, meaning_fault, problem_of, read_lines, read_text}
 use Rattle.pns_text.specs.Fault.{Tells}
 use Rattle.pns_text.specs.Kept.{lines_apart}
-use Rattle.pns_text.specs.Settings.{settings_of}
-use Rattle.pns_text.specs.Meaning.{first_meaning}
+use Rattle.pns_text.specs.Settings.{Settings, settings_of}
+use Rattle.pns_text.specs.Meaning.{Names, first_meaning}
+use Rattle.pns_text.specs.Value.{problem_from}
 use Rattle.pns_text.specs.Reading.{names_all, has_product, with_product, or_first, meaning_at}
 use Rattle.pns_text.specs.Walk.{Walk, matters, walk_start, walk}
 use Rattle.pns_text.specs.declared.fault.TextFault.{TextFault}
@@ -70,3 +71,13 @@ read_is bytes = read_all (lines_of bytes)
 pub walk_tells : (fault : TextFault) (bytes : List ℕ) → Tells (walk (lines_of bytes)) fault → Tells (read_text bytes) fault
 walk_tells Memory bytes told = tt
 walk_tells (At line kind) bytes told = read_is bytes ∙ ap readings told
+
+-- the meaning of lines where no kind of meaning stands
+pub meaning_none : (lines : List Placed) (number : ℕ) (s : Settings) (names : Names) (parts : Problem) → s ≡ settings_of (lines_apart lines) → names ≡ names_all lines → None ≡ first_meaning s names lines → parts ≡ problem_from lines
+    → meaning_at lines number ≡ with_product number parts
+meaning_none lines number s names parts set named none is =
+    ap (λ (o : Option rules.Fault). or_first o (with_product number (problem_from lines))) (sym (none ∙ (λ i. first_meaning (set i) (named i) lines)))
+    ∙ ap (with_product number) (sym is)
+
+pub with_one : (p : Problem) (number : ℕ) → has_product p.materials ≡ true → with_product number p ≡ Ok p
+with_one p number e = ap (λ (b : Bool). if b then Ok p else Err (number, NoProduct)) e

@@ -1,11 +1,12 @@
 -- Items of a line of materials or of units, and the kinds that stand at them.
-use Rattle.std.specs.Prelude.{◌&&◌, ℕ, Bool, false, List, map, filter, not, pos, int_lt}
+use Rattle.std.specs.Prelude.{◌≡◌, ◌&&◌, ℕ, ℤ, Bool, false, List, Result, map, filter, not, pos, int_lt}
+use Rattle.std.specs.List.{list_any}
 use Rattle.std.specs.Str.{bytes_eq}
 use Rattle.problem_rules.specs.Names.{is_among}
 use Rattle.text_rules.specs.declared.TextKind.{TextKind}
 use Rattle.text_rules.specs.declared.TextKind.TheVariants.{BadNumber, TooFine, TooLarge, Negative}
 use Rattle.text_rules.specs.Amount.{amount_of}
-use Rattle.text_rules.specs.Field.{has_key, key_of, keyed, is_keyed, kind_words, material_type}
+use Rattle.text_rules.specs.Field.{is_equals, has_key, key_of, keyed, is_keyed, kind_words, material_type}
 use Rattle.text_rules.specs.Fault.{is_bad, is_too_fine, is_too_large, millionths, may_be_negative}
 
 -- the key of an item, and its value
@@ -14,6 +15,14 @@ field_key item = (keyed item).0
 
 abbrev pub field_value : List ℕ → List ℕ
 field_value item = (keyed item).1
+
+-- an item cut at its first equals sign, with the number that its value spells
+pub record IsCut (text : List ℕ) (has : Bool) (is_word : Bool) (front : List ℕ) (behind : List ℕ) (number : Result ℤ TextKind) : Type 0 where
+  pub has_key : has ≡ list_any is_equals text
+  pub kind_word : is_word ≡ is_among kind_words text
+  pub key : front ≡ key_of text
+  pub value : behind ≡ field_value text
+  pub amount : number ≡ amount_of (field_value text)
 
 -- an item whose value is a number
 abbrev pub has_number : List ℕ → Bool

@@ -1,3 +1,4 @@
+pub mod Cut
 pub mod DefaultLine
 pub mod ExclusionLine
 pub mod Fault

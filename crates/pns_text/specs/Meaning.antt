@@ -26,28 +26,44 @@ abbrev pub is_unit_turned : Settings → List (List ℕ × List ℕ) → Bool
 is_unit_turned s fields =
     int_lt (number_at (codes "capacity_upper_bound") fields s.capacity_upper) (number_at (codes "capacity_lower_bound") fields s.capacity_lower)
 
+-- the kind at a material of these fields
+abbrev pub material_kind : Settings → List (List ℕ × List ℕ) → Option TextKind
+material_kind s fields = if is_material_turned s fields then Some LowAboveHigh else None
+
 abbrev pub material_meaning : Settings → List ℕ → Option TextKind
-material_meaning s text = if is_material_turned s (fields_at text) then Some LowAboveHigh else None
+material_meaning s text = material_kind s (fields_at text)
+
+-- at a unit of this name and these fields
+abbrev pub unit_kind : Settings → Names → List ℕ → List (List ℕ × List ℕ) → Option TextKind
+unit_kind s names name fields =
+    if is_unit_turned s fields then Some LowAboveHigh
+    else if is_among names.rates name then None else Some NoRates
 
 abbrev pub unit_meaning : Settings → Names → List ℕ → Option TextKind
-unit_meaning s names text =
-    if is_unit_turned s (fields_at text) then Some LowAboveHigh
-    else if is_among names.rates (head_of text) then None else Some NoRates
+unit_meaning s names text = unit_kind s names (head_of text) (fields_at text)
 
 -- some term is of a material that has no line
 abbrev pub has_unknown : List (List ℕ) → List (List (List (List ℕ))) → Bool
 has_unknown materials sides = list_any (λ term. not (is_among materials (material_of term))) (flat_map (λ side. side) sides)
 
+-- at a line of rates of a unit of this name
+abbrev pub rates_kind : Settings → Names → List ℕ → Bool → Option TextKind
+rates_kind s names name unknown =
+    if not (is_among names.units name) && is_unit_turned s [] then Some LowAboveHigh
+    else if unknown then Some UnknownMaterial else None
+
 abbrev pub rates_meaning : Settings → Names → List ℕ → Option TextKind
-rates_meaning s names text =
-    if not (is_among names.units (head_of text)) && is_unit_turned s [] then Some LowAboveHigh
-    else if has_unknown names.materials (sides_of text) then Some UnknownMaterial else None
+rates_meaning s names text = rates_kind s names (head_of text) (has_unknown names.materials (sides_of text))
 
 abbrev pub is_unit : Names → List ℕ → Bool
 is_unit names item = is_among names.units item || is_among names.rates item
 
+-- at an exclusion of these members
+abbrev pub exclusion_kind : Names → List (List ℕ) → Option TextKind
+exclusion_kind names members = if list_any (λ item. not (is_unit names item)) members then Some UnknownUnit else None
+
 abbrev pub exclusion_meaning : Names → List ℕ → Option TextKind
-exclusion_meaning names text = if list_any (λ item. not (is_unit names item)) (items_of text) then Some UnknownUnit else None
+exclusion_meaning names text = exclusion_kind names (items_of text)
 
 abbrev pub entry_meaning : Settings → Names → Section → List ℕ → Option TextKind
 entry_meaning s names Preamble text = None

@@ -22,10 +22,15 @@ term_from names term = record {
   rate = millionths term.0;
 }
 
--- the terms on both sides of a line of rates
+-- the terms on both sides of a line of rates, as pairs
+abbrev pub pairs_at : List ℕ → List Pair × List Pair
+pairs_at text = (map pair_of (slice_index_or (sides_of text) 0 []), map pair_of (slice_index_or (sides_of text) 1 []))
+
+abbrev pub both_from : List (List ℕ) → List Pair × List Pair → List Term × List Term
+both_from names both = (map (term_from names) both.0, map (term_from names) both.1)
+
 abbrev pub sides_from : List (List ℕ) → List ℕ → List Term × List Term
-sides_from names text =
-    (map (term_from names) (map pair_of (slice_index_or (sides_of text) 0 [])), map (term_from names) (map pair_of (slice_index_or (sides_of text) 1 [])))
+sides_from names text = both_from names (pairs_at text)
 
 -- those of the line of rates that has the name
 abbrev pub sides_or : List (List ℕ) → Option Placed → List Term × List Term
@@ -58,8 +63,12 @@ units_from s names lines =
 abbrev pub unit_names_from : List Placed → List (List ℕ)
 unit_names_from lines = heads_at OperatingUnits lines ++ map (λ (line : Placed). head_of line.text) (bare_lines (heads_at OperatingUnits lines) lines)
 
+-- the exclusion of this name with these members
+abbrev pub exclusion_named : List (List ℕ) → List ℕ → List (List ℕ) → Exclusion
+exclusion_named units name members = record { name = name; units = numbers_among members 0 units }
+
 abbrev pub exclusion_from : List (List ℕ) → List ℕ → Exclusion
-exclusion_from units text = record { name = head_of text; units = numbers_among (items_of text) 0 units }
+exclusion_from units text = exclusion_named units (head_of text) (items_of text)
 
 abbrev pub exclusions_from : List (List ℕ) → List Placed → List Exclusion
 exclusions_from units lines = map (λ (line : Placed). exclusion_from units line.text) (lines_at Exclusions lines)

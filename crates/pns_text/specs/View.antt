@@ -1,5 +1,4 @@
 -- Lines, and what was seen, as the definitions have them.
-use Rattle.std.specs.Prelude.{map}
 use Rattle.text_rules.specs.Line as line
 use Rattle.text_lines.specs.View.{texts}
 use Rattle.pns_text.specs.Seen as seen
@@ -20,15 +19,15 @@ abbrev pub seen_view : Seen → seen.Seen
 seen_view s = record {
   headers = texts s.headers.items;
   keys = texts s.keys.items;
-  materials = texts s.materials.items;
-  units = texts s.units.items;
-  rates = texts s.rates.items;
-  exclusions = texts s.exclusions.items;
-  unit_names = texts s.unit_names.items;
+  materials = s.names.materials;
+  units = s.names.units;
+  rates = s.names.rates;
+  exclusions = s.exclusions;
+  unit_names = s.unit_names;
 }
 
 abbrev pub walk_view : Walk → walk.Walk
-walk_view w = record { seen = seen_view w.seen; kept = map placed_view w.kept.items; number = w.number; section = w.section }
+walk_view w = record { seen = seen_view w.seen; kept = w.kept.items; number = w.number; section = w.section }
 
 abbrev pub settings_view : Settings → settings.Settings
 settings_view s = record {

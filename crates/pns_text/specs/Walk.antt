@@ -1,5 +1,5 @@
 -- The walk over the lines of a text, which ends at the first fault of form or keeps the lines that matter.
-use Rattle.std.specs.Prelude.{◌==◌, ◌+◌, ◌&&◌, ◌++◌, ℕ, Bool, true, false, List, [], ◌∷◌, length, not, Option, Some, None, Result, Ok, Err, if◌then◌else◌}
+use Rattle.std.specs.Prelude.{◌≡◌, ◌≤◌, ◌==◌, ◌+◌, ◌&&◌, ◌++◌, ℕ, Bool, true, false, List, [], ◌∷◌, length, not, Option, Some, None, Result, Ok, Err, if◌then◌else◌}
 use Rattle.std.specs.Str.{bytes_eq}
 use Rattle.text_rules.specs.declared.TextKind.{TextKind}
 use Rattle.text_rules.specs.declared.TextKind.TheVariants.{FileType}
@@ -7,6 +7,7 @@ use Rattle.text_rules.specs.declared.Section.{Section}
 use Rattle.text_rules.specs.declared.Section.TheVariants.{Preamble, MeasurementUnits, Defaults, Materials, OperatingUnits, Rates, Exclusions}
 use Rattle.text_rules.specs.Line.{Placed, section_after, is_header}
 use Rattle.text_rules.specs.Fault.{Fault, file_type}
+use Rattle.pns_text.specs.Kept.{heads_at}
 use Rattle.pns_text.specs.Seen.{Seen, seen_none, seen_after, line_fault}
 
 -- the sections whose lines have a meaning
@@ -66,3 +67,10 @@ walk_from w (text ∷ texts) = elim (step w text) [ Ok next ↦ walk_from next t
 abbrev pub walk : List (List ℕ) → Result Walk Fault
 walk [] = Err (1, FileType)
 walk (first ∷ texts) = if bytes_eq first file_type then walk_from walk_start texts else Err (1, FileType)
+
+-- what was seen are the names of the lines that were kept, of which there are no more than lines
+pub record HasNames (w : Walk) : Type 0 where
+  pub materials : w.seen.materials ≡ heads_at Materials w.kept
+  pub units : w.seen.units ≡ heads_at OperatingUnits w.kept
+  pub rates : w.seen.rates ≡ heads_at Rates w.kept
+  pub counted : length w.kept + 2 ≤ w.number

@@ -2,7 +2,7 @@
 use std::alloc::{AllocError, AllocFailed};
 use text_rules::TextKind;
 
-/// The first fault of a text, or want of memory.
+/// The first fault of a text, or want of memory and nothing else.
 #[derive(Clone, Copy, Debug, PartialEq, Eq)]
 pub enum TextFault {
     /// The kind of fault, and the line at which it stands, counted from 1.

@@ -1,21 +1,197 @@
-//! What stands at the items of a line.
-ghost use Rattle.std.specs.Prelude.{◌≡◌, ◌==◌, length};
+//! The items of a line, each cut once, and what stands at them.
+ghost use Rattle.std.specs.Prelude.{◌≡◌, ◌==◌, IfOk, length, option_map};
 ghost use Rattle.std.specs.List.{list_any};
 ghost use Rattle.problem_rules.specs.Names.{is_among, has_double};
-ghost use Rattle.text_rules.specs.Field.{material_keys, unit_keys};
-ghost use Rattle.text_rules.specs.Fault.{may_be_negative};
+ghost use Rattle.text_rules.specs.Amount.{amount_of};
+ghost use Rattle.text_rules.specs.Field.{has_key, key_of, is_keyed, kind_words, items_of, material_keys, unit_keys};
+ghost use Rattle.text_rules.specs.Fault.{millionths, may_be_negative};
+ghost use Rattle.text_rules.specs.Value.{value_at};
 ghost use Rattle.text_lines.specs.View.{texts};
-ghost use Rattle.pns_text.specs.Item.{has_number, number_stands, value_stands, item_stands, has_unknown_key, keys_in};
+ghost use Rattle.pns_text.specs.Item.{field_key, field_value, has_number, number_stands, value_stands, item_stands, has_unknown_key, keys_in};
+ghost use Rattle.pns_text.specs.Kept.{item_fields};
 
+use std::alloc::{AllocError, Global};
+use std::marker::Model;
 use text_lines::amount::read_amount;
-use text_lines::field::{field_key, field_value, has_key, is_keyed, key_of};
+use text_lines::field;
 use text_rules::TextKind;
 
-// An item whose value is a number.
-fn has_number(item: &[u8]) -> bool
-    ensures { result ≡ has_number item.now }
+/// An item of a line, cut at its first equals sign, with the number that its value spells. Contracts see its text.
+#[derive(Drop)]
+pub struct Item<'a> {
+    text: &'a [u8],
+    has_key: bool,
+    is_kind_word: bool,
+    key: &'a [u8],
+    value: &'a [u8],
+    amount: Result<i64, TextKind>,
+}
+
+impl<'a> Model for Item<'a> {
+    ghost use Rattle.std.specs.Prelude.{ℕ, List};
+    ghost use Rattle.pns_text.specs.Item.{IsCut};
+
+    ghost Value = { List ℕ };
+
+    ghost view = { λ item. item.text.now };
+
+    ghost invariant = { λ item. IsCut item.text.now item.has_key item.is_kind_word item.key.now item.value.now item.amount };
+}
+
+impl<'a> Item<'a> {
+    /// The item of this text.
+    pub(crate) fn of(text: &'a [u8]) -> Item<'a>
+        ensures { result ≡ text.now }
+    {
+        let value = field::field_value(text);
+        Item {
+            text,
+            has_key: field::has_key(text),
+            is_kind_word: field::is_kind_word(text),
+            key: field::key_of(text),
+            value,
+            amount: read_amount(value),
+        }
+    }
+
+    /// Whether nothing stands in the item.
+    pub(crate) fn is_empty(&self) -> bool
+        ensures { result ≡ (length self.now == 0) }
+    {
+        self.text.is_empty()
+    }
+
+    /// Whether the item has a key, that is an equals sign.
+    pub(crate) fn has_key(&self) -> bool
+        ensures { result ≡ has_key self.now }
+    {
+        self.has_key
+    }
+
+    /// What stands before the first equals sign.
+    pub(crate) fn key(&self) -> &'a [u8]
+        ensures { result.now ≡ key_of self.now }
+    {
+        self.key
+    }
+
+    /// Whether the item is a kind word.
+    pub(crate) fn is_kind_word(&self) -> bool
+        ensures { result ≡ is_among kind_words self.now }
+    {
+        self.is_kind_word
+    }
+
+    /// Whether the item has a key or is a kind word.
+    pub(crate) fn is_keyed(&self) -> bool
+        ensures { result ≡ is_keyed self.now }
+    {
+        self.has_key() || self.is_kind_word()
+    }
+
+    /// The key; that of a kind word is the key of the default that it stands for.
+    pub(crate) fn field_key(&self) -> &'a [u8]
+        ensures { result.now ≡ field_key self.now }
+    {
+        if self.is_kind_word() {
+            b"material_type".as_slice()
+        } else {
+            self.key()
+        }
+    }
+
+    /// The value; that of a kind word is the word.
+    pub(crate) fn value(&self) -> &'a [u8]
+        ensures { result.now ≡ field_value self.now }
+    {
+        self.value
+    }
+
+    /// The number that the value spells, in millionths, or why it spells none.
+    pub(crate) fn amount(&self) -> Result<i64, TextKind>
+        ensures { result ≡ amount_of (field_value self.now) }
+    {
+        self.amount
+    }
+
+    /// The number that the value spells, which is 0 where it spells none.
+    pub(crate) fn number(&self) -> i64
+        ensures { result ≡ millionths (field_value self.now) }
+    {
+        match self.amount() {
+            Ok(amount) => amount,
+            Err(_) => 0,
+        }
+    }
+
+    // An item whose value is a number.
+    fn has_number(&self) -> bool
+        ensures { result ≡ has_number self.now }
+    {
+        self.is_keyed() && self.field_key() != b"material_type".as_slice()
+    }
+
+    // Whether the kind stands at the value, whatever the key.
+    fn number_stands(&self, kind: TextKind) -> bool
+        ensures { result ≡ number_stands kind (field_value self.now) }
+    {
+        match kind {
+            TextKind::BadNumber => matches!(self.amount(), Err(TextKind::BadNumber)),
+            TextKind::TooFine => matches!(self.amount(), Err(TextKind::TooFine)),
+            TextKind::TooLarge => matches!(self.amount(), Err(TextKind::TooLarge)),
+            TextKind::Negative => self.number() < 0,
+            _ => false,
+        }
+    }
+
+    // Whether the kind stands at the value, by its key.
+    fn value_stands(&self, kind: TextKind) -> bool
+        ensures { result ≡ value_stands kind (field_key self.now) (field_value self.now) }
+    {
+        match kind {
+            TextKind::Negative => {
+                self.number_stands(TextKind::Negative) && !may_be_negative(self.field_key())
+            }
+            _ => self.number_stands(kind),
+        }
+    }
+
+    fn item_stands(&self, kind: TextKind) -> bool
+        ensures { result ≡ item_stands kind self.now }
+    {
+        self.has_number() && self.value_stands(kind)
+    }
+}
+
+// The items of these texts.
+fn cut<'a>(alloc: Global, parts: &[&'a [u8]]) -> Result<Vec<Item<'a>>, AllocError>
+    ensures { IfOk result (λ items. items.items ≡ texts parts.now) }
 {
-    is_keyed(item) && field_key(item) != b"material_type".as_slice()
+    let mut items = Vec::new(alloc);
+    for part in parts {
+        items.push(Item::of(*part))?;
+    }
+    Ok(items)
+}
+
+/// What stands between the commas behind the colon; none where there is no colon.
+pub(crate) fn items_of<'a>(alloc: Global, text: &'a [u8]) -> Result<Vec<Item<'a>>, AllocError>
+    ensures { IfOk result (λ items. items.items ≡ items_of text.now) }
+{
+    let parts = field::items_of(alloc, text)?;
+    cut(alloc, &parts)
+}
+
+/// The first item of this key.
+pub(crate) fn field_at<'b, 'a>(items: &'b [Item<'a>], key: &[u8]) -> Option<&'b Item<'a>>
+    ensures { option_map (λ item. field_value item.now) result ≡ value_at key.now (item_fields items.now) }
+{
+    for item in items {
+        if item.is_keyed() && item.field_key() == key {
+            return Some(item);
+        }
+    }
+    None
 }
 
 /// Whether the kind stands at the number, whatever its key.
@@ -63,18 +239,12 @@ pub(crate) fn value_stands(kind: TextKind, key: &[u8], value: &[u8]) -> bool
     }
 }
 
-fn item_stands(kind: TextKind, item: &[u8]) -> bool
-    ensures { result ≡ item_stands kind item.now }
-{
-    has_number(item) && value_stands(kind, field_key(item), field_value(item))
-}
-
 /// Whether the kind stands at the value of an item.
-pub(crate) fn some_item_stands(kind: TextKind, items: &[&[u8]]) -> bool
-    ensures { result ≡ list_any (item_stands kind) (texts items.now) }
+pub(crate) fn some_item_stands(kind: TextKind, items: &[Item<'_>]) -> bool
+    ensures { result ≡ list_any (item_stands kind) items.now }
 {
     for item in items {
-        if item_stands(kind, *item) {
+        if item.item_stands(kind) {
             return true;
         }
     }
@@ -82,8 +252,8 @@ pub(crate) fn some_item_stands(kind: TextKind, items: &[&[u8]]) -> bool
 }
 
 /// Whether an item is empty.
-pub(crate) fn some_empty(items: &[&[u8]]) -> bool
-    ensures { result ≡ list_any (λ item. length item == 0) (texts items.now) }
+pub(crate) fn some_empty(items: &[Item<'_>]) -> bool
+    ensures { result ≡ list_any (λ item. length item == 0) items.now }
 {
     for item in items {
         if item.is_empty() {
@@ -95,22 +265,22 @@ pub(crate) fn some_empty(items: &[&[u8]]) -> bool
 
 /// Whether a key comes twice. It looks behind each item that has a key, of which a line without unknown keys has few
 /// before the second of a pair.
-pub(crate) fn some_double_key(items: &[&[u8]]) -> bool
-    ensures { result ≡ has_double (keys_in (texts items.now)) }
+pub(crate) fn some_double_key(items: &[Item<'_>]) -> bool
+    ensures { result ≡ has_double (keys_in items.now) }
 {
     for i in 0..items.len() {
-        if is_keyed(items[i]) && has_field(&items[i + 1..], field_key(items[i])) {
+        if items[i].is_keyed() && has_field(&items[i + 1..], items[i].field_key()) {
             return true;
         }
     }
     false
 }
 
-fn has_field(items: &[&[u8]], key: &[u8]) -> bool
-    ensures { result ≡ is_among (keys_in (texts items.now)) key.now }
+fn has_field(items: &[Item<'_>], key: &[u8]) -> bool
+    ensures { result ≡ is_among (keys_in items.now) key.now }
 {
     for item in items {
-        if is_keyed(*item) && field_key(*item) == key {
+        if item.is_keyed() && item.field_key() == key {
             return true;
         }
     }
@@ -137,11 +307,11 @@ fn is_unit_key(key: &[u8]) -> bool
 }
 
 /// Whether an item has a key that is none of a material's.
-pub(crate) fn some_unknown_material_key(items: &[&[u8]]) -> bool
-    ensures { result ≡ list_any (has_unknown_key material_keys) (texts items.now) }
+pub(crate) fn some_unknown_material_key(items: &[Item<'_>]) -> bool
+    ensures { result ≡ list_any (has_unknown_key material_keys) items.now }
 {
     for item in items {
-        if has_key(*item) && !is_material_key(key_of(*item)) {
+        if item.has_key() && !is_material_key(item.key()) {
             return true;
         }
     }
@@ -149,11 +319,11 @@ pub(crate) fn some_unknown_material_key(items: &[&[u8]]) -> bool
 }
 
 /// Whether an item has a key that is none of a unit's.
-pub(crate) fn some_unknown_unit_key(items: &[&[u8]]) -> bool
-    ensures { result ≡ list_any (has_unknown_key unit_keys) (texts items.now) }
+pub(crate) fn some_unknown_unit_key(items: &[Item<'_>]) -> bool
+    ensures { result ≡ list_any (has_unknown_key unit_keys) items.now }
 {
     for item in items {
-        if has_key(*item) && !is_unit_key(key_of(*item)) {
+        if item.has_key() && !is_unit_key(item.key()) {
             return true;
         }
     }

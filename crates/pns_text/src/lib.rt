@@ -2,10 +2,12 @@
 //! line and kind; `read_amount` gives one number in millionths.
 //!
 //! One pass goes over the bytes, judges the form of each line by what was seen before it (`walk`, `seen`, and a module for
-//! the lines of each section), and keeps the lines that have a meaning, borrowed from the text. The second pass judges the
-//! meaning of these, with defaults filled in (`meaning`), and makes the parts of the problem (`value`).
+//! the lines of each section), and keeps the lines that have a meaning, each cut once (`cut`, `item`), borrowed from the
+//! text. The second pass judges the meaning of these, with defaults filled in (`meaning`), and makes the parts of the
+//! problem (`value`). A kept line is well formed by its type, so that the second pass has no fault of form to answer.
 #![tactic(auto)]
 
+mod cut;
 mod default_line;
 mod exclusion_line;
 mod fault;

@@ -1,24 +1,27 @@
 //! The form of a line of materials.
-ghost use Rattle.std.specs.Prelude.{◌≡◌, IfOk};
+ghost use Rattle.std.specs.Prelude.{◌≡◌, None, IfOk, IfErr, OnOk};
 ghost use Rattle.std.specs.List.{list_any};
 ghost use Rattle.text_rules.specs.Line.{head_of};
 ghost use Rattle.text_rules.specs.Field.{items_of};
-ghost use Rattle.text_lines.specs.View.{texts};
+ghost use Rattle.pns_text.specs.Fault.{TellsKind};
 ghost use Rattle.pns_text.specs.Item.{is_unknown_kind};
 ghost use Rattle.pns_text.specs.MaterialLine.{material_fault};
 
-use crate::item::{some_double_key, some_empty, some_item_stands, some_unknown_material_key};
-use std::alloc::{AllocError, Global};
-use text_lines::field::{has_key, is_kind_word, items_of};
+use crate::fault::TextFault;
+use crate::item::{
+    Item, items_of, some_double_key, some_empty, some_item_stands, some_unknown_material_key,
+};
+use crate::name_set::NameSet;
+use std::alloc::Global;
 use text_lines::line::head_of;
-use text_lines::name::{is_among, is_name};
+use text_lines::name::is_name;
 use text_rules::TextKind;
 
-fn some_unknown_kind(items: &[&[u8]]) -> bool
-    ensures { result ≡ list_any is_unknown_kind (texts items.now) }
+fn some_unknown_kind(items: &[Item<'_>]) -> bool
+    ensures { result ≡ list_any is_unknown_kind items.now }
 {
     for item in items {
-        if !has_key(*item) && !is_kind_word(*item) {
+        if !item.has_key() && !item.is_kind_word() {
             return true;
         }
     }
@@ -26,8 +29,8 @@ fn some_unknown_kind(items: &[&[u8]]) -> bool
 }
 
 // The kind of form at the line of this name and these items, behind lines of these names.
-fn material_kind(names: &[&[u8]], name: &[u8], items: &[&[u8]]) -> Option<TextKind>
-    ensures { result ≡ material_fault (texts names.now) name.now (texts items.now) }
+fn material_kind(names: &NameSet<'_>, name: &[u8], items: &[Item<'_>]) -> Option<TextKind>
+    ensures { result ≡ material_fault names.now name.now items.now }
 {
     if some_empty(items) {
         return Some(TextKind::BadLine);
@@ -56,7 +59,7 @@ fn material_kind(names: &[&[u8]], name: &[u8], items: &[&[u8]]) -> Option<TextKi
     if some_unknown_kind(items) {
         return Some(TextKind::UnknownKind);
     }
-    if is_among(names, name) {
+    if names.has(name) {
         return Some(TextKind::DoubleMaterial);
     }
     if names.len() >= 256 {
@@ -65,14 +68,20 @@ fn material_kind(names: &[&[u8]], name: &[u8], items: &[&[u8]]) -> Option<TextKi
     None
 }
 
-/// The kind of form at a line of materials, behind lines of these names.
-pub(crate) fn material_fault(
+/// The items of the line of materials that has the number, behind lines of these names.
+pub(crate) fn material_items<'a>(
     alloc: Global,
-    names: &[&[u8]],
-    text: &[u8],
-) -> Result<Option<TextKind>, AllocError>
-    ensures { IfOk result (λ kind. kind ≡ material_fault (texts names.now) (head_of text.now) (items_of text.now)) }
+    names: &NameSet<'_>,
+    number: u32,
+    text: &'a [u8],
+) -> Result<Vec<Item<'a>>, TextFault>
+    ensures items { IfOk result (λ items. items.items ≡ items_of text.now) }
+    ensures none { OnOk result (material_fault names.now (head_of text.now) (items_of text.now) ≡ None) }
+    ensures fault { IfErr result (TellsKind number (material_fault names.now (head_of text.now) (items_of text.now))) }
 {
     let items = items_of(alloc, text)?;
-    Ok(material_kind(names, head_of(text), &items))
+    match material_kind(names, head_of(text), &items) {
+        Some(kind) => Err(TextFault::At { line: number, kind }),
+        None => Ok(items),
+    }
 }

@@ -1,5 +1,5 @@
 //! Names, each once, found by a look-up.
-ghost use Rattle.std.specs.Prelude.{◌≡◌, IfOk, not, OnOk, [], Option, option_map};
+ghost use Rattle.std.specs.Prelude.{◌≡◌, ◌++◌, ◌∷◌, IfOk, not, OnOk, [], Option, option_map, false, length};
 ghost use Rattle.std.specs.List.{position};
 ghost use Rattle.std.specs.Str.{bytes_eq};
 ghost use Rattle.problem_rules.specs.Names.{is_among};
@@ -34,19 +34,35 @@ impl<'a> NameSet<'a> {
         }
     }
 
+    pub(crate) fn len(&self) -> usize
+        ensures { result ≡ length self.now }
+    {
+        self.names.len()
+    }
+
     pub(crate) fn has(&self, name: &[u8]) -> bool
         ensures { result ≡ is_among self.now name.now }
     {
         self.names.contains(&name)
     }
 
-    // Whether the name is new.
+    /// Adds a name that is new or not, and tells which.
     pub(crate) fn add(&mut self, name: &'a [u8]) -> Result<bool, AllocError>
         ensures new { IfOk result (λ is_new. is_new ≡ not (is_among self.old name.now)) }
         ensures added { OnOk result (self.new ≡ with_name self.old name.now) }
     {
         let (_, is_new) = self.names.insert_full(name)?;
         Ok(is_new)
+    }
+
+    /// Adds a name that is new.
+    #[tactic(auto, using(crate::proofs::NoFault::with_new))]
+    pub(crate) fn push(&mut self, name: &'a [u8]) -> Result<(), AllocError>
+        requires { is_among self.old name.now ≡ false }
+        ensures { OnOk result (self.new ≡ self.old ++ name.now ∷ []) }
+    {
+        self.add(name)?;
+        Ok(())
     }
 
     pub(crate) fn number_of(&self, name: &[u8]) -> Option<usize>

@@ -1,20 +1,22 @@
 //! The form of a line of rates.
-ghost use Rattle.std.specs.Prelude.{◌≡◌, ◌++◌, [], Some, IfOk, not};
+ghost use Rattle.std.specs.Prelude.{◌≡◌, ◌++◌, [], Some, None, IfOk, IfErr, OnOk, not};
 ghost use Rattle.std.specs.List.{list_any};
 ghost use Rattle.problem_rules.specs.Names.{is_name, is_among};
 ghost use Rattle.text_rules.specs.Line.{head_of};
 ghost use Rattle.text_rules.specs.Field.{sides_of};
 ghost use Rattle.text_lines.specs.View.{texts};
-ghost use Rattle.text_lines.specs.Terms.{term_view, terms_view, sides_view};
+ghost use Rattle.text_lines.specs.Terms.{term_view, terms_view, sides_view, sides_read};
+ghost use Rattle.pns_text.specs.Fault.{TellsKind};
 ghost use Rattle.pns_text.specs.RatesLine.{names_of, rate_stands, is_faulty, doubled, term_fault, whole_fault, sides_fault, rates_fault};
 
+use crate::fault::TextFault;
 use crate::item::number_stands;
 use crate::name_set::{NameSet, once};
 use crate::unit_line::is_beyond;
 use std::alloc::{AllocError, Global};
 use text_lines::amount::read_amount;
 use text_lines::line::{has_colon, head_of};
-use text_lines::name::{is_among, is_name};
+use text_lines::name::is_name;
 use text_lines::term::{Sides, Term, sides_of};
 use text_rules::TextKind;
 
@@ -172,13 +174,18 @@ fn term_kind(name: &[u8], sides: &Sides<'_>) -> Option<TextKind>
 }
 
 // The kind that stands at the whole line, behind the terms.
-fn unit_kind(names: &[&[u8]], seen: &[&[u8]], name: &[u8], sides: &Sides<'_>) -> Option<TextKind>
-    ensures { result ≡ whole_fault (texts names.now) (texts seen.now) name.now (sides_view sides.now).0 (sides_view sides.now).1 }
+fn unit_kind(
+    names: &NameSet<'_>,
+    seen: &NameSet<'_>,
+    name: &[u8],
+    sides: &Sides<'_>,
+) -> Option<TextKind>
+    ensures { result ≡ whole_fault names.now seen.now name.now (sides_view sides.now).0 (sides_view sides.now).1 }
 {
     if sides.inputs.is_empty() || sides.outputs.is_empty() {
         return Some(TextKind::EmptySide);
     }
-    if is_among(names, name) {
+    if names.has(name) {
         return Some(TextKind::DoubleRates);
     }
     if is_beyond(seen, name) {
@@ -189,12 +196,12 @@ fn unit_kind(names: &[&[u8]], seen: &[&[u8]], name: &[u8], sides: &Sides<'_>) ->
 
 fn sides_kind<'a>(
     alloc: Global,
-    names: &[&[u8]],
-    seen: &[&[u8]],
+    names: &NameSet<'_>,
+    seen: &NameSet<'_>,
     name: &[u8],
     sides: &Sides<'a>,
 ) -> Result<Option<TextKind>, AllocError>
-    ensures { IfOk result (λ kind. kind ≡ sides_fault (texts names.now) (texts seen.now) name.now (Some (sides_view sides.now))) }
+    ensures { IfOk result (λ kind. kind ≡ sides_fault names.now seen.now name.now (Some (sides_view sides.now))) }
 {
     if let Some(kind) = term_kind(name, sides) {
         return Ok(Some(kind));
@@ -205,20 +212,32 @@ fn sides_kind<'a>(
     Ok(unit_kind(names, seen, name, sides))
 }
 
-/// The kind of form at a line of rates, behind lines of rates of these names; `seen` are all names of units.
-pub(crate) fn rates_fault(
+/// The sides of the line of rates that has the number, behind lines of rates of these names; `seen` are all names of units.
+pub(crate) fn rates_sides<'a>(
     alloc: Global,
-    names: &[&[u8]],
-    seen: &[&[u8]],
-    text: &[u8],
-) -> Result<Option<TextKind>, AllocError>
-    ensures { IfOk result (λ kind. kind ≡ rates_fault (texts names.now) (texts seen.now) (head_of text.now) text.now (sides_of text.now)) }
+    names: &NameSet<'_>,
+    seen: &NameSet<'_>,
+    number: u32,
+    text: &'a [u8],
+) -> Result<Sides<'a>, TextFault>
+    ensures sides { IfOk result (λ sides. Some (sides_view sides) ≡ sides_read (sides_of text.now)) }
+    ensures none { OnOk result (rates_fault names.now seen.now (head_of text.now) text.now (sides_of text.now) ≡ None) }
+    ensures fault { IfErr result (TellsKind number (rates_fault names.now seen.now (head_of text.now) text.now (sides_of text.now))) }
 {
     if !has_colon(text) {
-        return Ok(Some(TextKind::BadLine));
+        return Err(TextFault::At {
+            line: number,
+            kind: TextKind::BadLine,
+        });
     }
     match sides_of(alloc, text)? {
-        Some(sides) => sides_kind(alloc, names, seen, head_of(text), &sides),
-        None => Ok(Some(TextKind::BadLine)),
+        Some(sides) => match sides_kind(alloc, names, seen, head_of(text), &sides)? {
+            Some(kind) => Err(TextFault::At { line: number, kind }),
+            None => Ok(sides),
+        },
+        None => Err(TextFault::At {
+            line: number,
+            kind: TextKind::BadLine,
+        }),
     }
 }

@@ -1,18 +1,21 @@
 //! The reader of a whole text.
-ghost use Rattle.std.specs.Prelude.{◌≡◌, ◌<◌, ◌-◌, ◌^◌, Ok, IfOk, IfErr, length, map};
+ghost use Rattle.std.specs.Prelude.{◌≡◌, true, ◌<◌, ◌-◌, ◌^◌, Ok, IfOk, IfErr, length};
+ghost use Rattle.problem_rules.specs.Problem as rules;
+ghost use Rattle.problem_rules.specs.Validity.{IsValid};
 ghost use Rattle.text_rules.specs.Value.{read_text};
 ghost use Rattle.pns_text.specs.Fault.{Tells};
-ghost use Rattle.pns_text.specs.Reading.{has_product, with_product, meaning_at};
-ghost use Rattle.pns_text.specs.View.{placed_view};
+ghost use Rattle.pns_text.specs.View.{names_view};
+ghost use Rattle.pns_text.specs.Reading.{has_product, with_product, names_all, meaning_at};
 
+use crate::cut::Kept;
 use crate::fault::TextFault;
 use crate::meaning::{Names, first_meaning};
-use crate::seen::Placed;
 use crate::settings::settings_of;
 use crate::value::parts_of;
 use crate::walk::walk_text;
 use pns_problem::{Kind, Material, Parts, Problem};
 use std::alloc::Global;
+use text_laws::read_is_valid;
 use text_rules::TextKind;
 
 fn has_product(materials: &[Material]) -> bool
@@ -26,9 +29,9 @@ fn has_product(materials: &[Material]) -> bool
     false
 }
 
-// The problem of these parts, where they have a product. The parts of a text without a fault are valid, so that only want
-// of memory can refuse them.
+// The problem of these parts, where they have a product. With one they are valid, so that only want of memory refuses them.
 fn with_product(alloc: Global, number: u32, parts: Parts) -> Result<Problem, TextFault>
+    requires { has_product parts.materials ≡ true → IsValid parts }
     ensures ok { IfOk result (λ p. with_product number parts ≡ Ok p) }
     ensures fault { IfErr result (Tells (with_product number parts)) }
 {
@@ -40,21 +43,33 @@ fn with_product(alloc: Global, number: u32, parts: Parts) -> Result<Problem, Tex
     }
     match Problem::build(alloc, parts) {
         Ok(problem) => Ok(problem),
-        Err(_) => Err(TextFault::Memory),
+        Err(fault) => {
+            if !fault.is_memory() {
+                unreachable!()
+            }
+            Err(TextFault::Memory)
+        }
     }
 }
 
-// The problem of these lines, or their first fault of meaning; the line behind the last one has the number.
-fn read_meaning(alloc: Global, lines: &[Placed<'_>], number: u32) -> Result<Problem, TextFault>
-    ensures ok { IfOk result (λ p. meaning_at (map placed_view lines.now) number ≡ Ok p) }
-    ensures fault { IfErr result (Tells (meaning_at (map placed_view lines.now) number)) }
+// The problem of these lines of these names, or their first fault of meaning; the line behind the last one has the number.
+fn read_meaning(
+    alloc: Global,
+    names: &Names<'_>,
+    lines: &[Kept<'_>],
+    number: u32,
+) -> Result<Problem, TextFault>
+    requires names { names_view names.now ≡ names_all lines.now }
+    requires few { length lines.now < 2 ^ 32 }
+    requires valid { (p : rules.Problem) → meaning_at lines.now number ≡ Ok p → IsValid p }
+    ensures ok { IfOk result (λ p. meaning_at lines.now number ≡ Ok p) }
+    ensures fault { IfErr result (Tells (meaning_at lines.now number)) }
 {
     let settings = settings_of(lines);
-    let names = Names::of(alloc, lines)?;
-    match first_meaning(alloc, &settings, &names, lines)? {
+    match first_meaning(&settings, names, lines) {
         Some((line, kind)) => Err(TextFault::At { line, kind }),
         None => {
-            let parts = parts_of(alloc, &settings, &names, lines)?;
+            let parts = parts_of(alloc, &settings, names, lines)?;
             with_product(alloc, number, parts)
         }
     }
@@ -62,14 +77,16 @@ fn read_meaning(alloc: Global, lines: &[Placed<'_>], number: u32) -> Result<Prob
 
 /// The problem that the text stands for. `At` comes exactly where the text has a fault, with the line of its first fault,
 /// counted from 1, and the kind: faults of form in the whole text come before faults of meaning, and of each group the
-/// least line is told, and on one line the first kind. `Memory` is want of memory, at any moment. Linear in the text.
+/// least line is told, and on one line the first kind. `Memory` comes for want of memory alone, at any moment. Linear in
+/// the text.
 pub fn read_problem(alloc: Global, bytes: &[u8]) -> Result<Problem, TextFault>
     requires { length bytes.now < 2 ^ 32 - 1 }
     ensures read { IfOk result (λ p. read_text bytes.now ≡ Ok p) }
     ensures fault { IfErr result (Tells (read_text bytes.now)) }
 {
+    read_is_valid();
     match walk_text(alloc, bytes) {
-        Ok(walk) => read_meaning(alloc, &walk.kept, walk.number),
+        Ok(walk) => read_meaning(alloc, &walk.seen.names, &walk.kept, walk.number),
         Err(fault) => Err(fault),
     }
 }

@@ -1,5 +1,5 @@
 //! The defaults, and the values of materials and units by them.
-ghost use Rattle.std.specs.Prelude.{◌≡◌, ◌/◌, codes, option_map, map, pos, unsigned_abs};
+ghost use Rattle.std.specs.Prelude.{◌≡◌, ◌/◌, codes, option_map, pos, unsigned_abs};
 ghost use Rattle.text_rules.specs.Fault.{millionths};
 ghost use Rattle.text_rules.specs.Value.{value_at, kind_of};
 ghost use Rattle.problem_rules.specs.Problem.{intermediate};
@@ -7,12 +7,13 @@ ghost use Rattle.pns_problem.specs.Kind as kinds;
 ghost use Rattle.text_lines.specs.View.{texts};
 ghost use Rattle.pns_text.specs.Kept.{lines_apart, item_fields};
 ghost use Rattle.pns_text.specs.Settings.{settings_of, payout_from, default_fields, default_number, number_at, kind_or};
-ghost use Rattle.pns_text.specs.View.{placed_view, settings_view};
+ghost use Rattle.pns_text.specs.View.{settings_view};
 
-use crate::seen::Placed;
+use crate::cut::Kept;
+use crate::item::{Item, field_at};
 use pns_problem::Kind;
 use text_lines::amount::read_amount;
-use text_lines::field::{field_key, field_value, is_keyed, key_of, value_of};
+use text_lines::field::{key_of, value_of};
 use text_rules::Section;
 
 /// What holds of materials and units whose lines say nothing else. Prices, bounds and costs are in millionths.
@@ -54,20 +55,20 @@ fn kind_named(word: &[u8]) -> Kind
 }
 
 // The value of the default of this key.
-fn default_at<'a>(lines: &[Placed<'a>], key: &[u8]) -> Option<&'a [u8]>
-    ensures { option_map (λ value. value.now) result ≡ value_at key.now (default_fields (lines_apart (map placed_view lines.now))) }
+fn default_at<'a>(lines: &[Kept<'a>], key: &[u8]) -> Option<&'a [u8]>
+    ensures { option_map (λ value. value.now) result ≡ value_at key.now (default_fields (lines_apart lines.now)) }
 {
     for line in lines {
-        if line.is_at(Section::Defaults) && key_of(line.text) == key {
-            return Some(value_of(line.text));
+        if line.is_at(Section::Defaults) && key_of(line.text()) == key {
+            return Some(value_of(line.text()));
         }
     }
     None
 }
 
 // The number of the default of this key, or else the table's own.
-fn default_number(lines: &[Placed<'_>], key: &[u8], built_in: i64) -> i64
-    ensures { result ≡ default_number (lines_apart (map placed_view lines.now)) key.now built_in }
+fn default_number(lines: &[Kept<'_>], key: &[u8], built_in: i64) -> i64
+    ensures { result ≡ default_number (lines_apart lines.now) key.now built_in }
 {
     match default_at(lines, key) {
         Some(text) => number_of(text),
@@ -75,31 +76,29 @@ fn default_number(lines: &[Placed<'_>], key: &[u8], built_in: i64) -> i64
     }
 }
 
-// The value of the first item of this key.
-fn value_at<'a>(items: &[&'a [u8]], key: &[u8]) -> Option<&'a [u8]>
-    ensures { option_map (λ value. value.now) result ≡ value_at key.now (item_fields (texts items.now)) }
-{
-    for item in items {
-        if is_keyed(*item) && field_key(*item) == key {
-            return Some(field_value(*item));
-        }
-    }
-    None
-}
-
 // The number of the first item of this key, or else the default.
-fn number_at(items: &[&[u8]], key: &[u8], default: i64) -> i64
-    ensures { result ≡ number_at key.now (item_fields (texts items.now)) default }
+fn number_at(items: &[Item<'_>], key: &[u8], default: i64) -> i64
+    ensures { result ≡ number_at key.now (item_fields items.now) default }
 {
-    match value_at(items, key) {
-        Some(text) => number_of(text),
+    match field_at(items, key) {
+        Some(item) => item.number(),
         None => default,
     }
 }
 
+// The value of the first item of this key.
+fn value_at<'a>(items: &[Item<'a>], key: &[u8]) -> Option<&'a [u8]>
+    ensures { option_map (λ value. value.now) result ≡ value_at key.now (item_fields items.now) }
+{
+    match field_at(items, key) {
+        Some(item) => Some(item.value()),
+        None => None,
+    }
+}
+
 /// The kind of a material by its items, or else the default.
-pub(crate) fn kind_at(items: &[&[u8]], default: Kind) -> Kind
-    ensures { kinds.kind_of result ≡ kind_or (value_at (codes "material_type") (item_fields (texts items.now))) (kinds.kind_of default) }
+pub(crate) fn kind_at(items: &[Item<'_>], default: Kind) -> Kind
+    ensures { kinds.kind_of result ≡ kind_or (value_at (codes "material_type") (item_fields items.now)) (kinds.kind_of default) }
 {
     match value_at(items, b"material_type".as_slice()) {
         Some(word) => kind_named(word),
@@ -108,8 +107,8 @@ pub(crate) fn kind_at(items: &[&[u8]], default: Kind) -> Kind
 }
 
 // The kind of materials whose lines have no kind word.
-fn default_kind(lines: &[Placed<'_>]) -> Kind
-    ensures { kinds.kind_of result ≡ kind_or (value_at (codes "material_type") (default_fields (lines_apart (map placed_view lines.now)))) intermediate }
+fn default_kind(lines: &[Kept<'_>]) -> Kind
+    ensures { kinds.kind_of result ≡ kind_or (value_at (codes "material_type") (default_fields (lines_apart lines.now))) intermediate }
 {
     match default_at(lines, b"material_type".as_slice()) {
         Some(word) => kind_named(word),
@@ -141,8 +140,8 @@ const OPERATING_UNIT_INVESTMENT_PROPORTIONAL_COST: &[u8] =
     b"operating_unit_investment_proportional_cost";
 
 /// The settings that the lines of defaults give.
-pub(crate) fn settings_of(lines: &[Placed<'_>]) -> Settings
-    ensures { settings_view result ≡ settings_of (lines_apart (map placed_view lines.now)) }
+pub(crate) fn settings_of(lines: &[Kept<'_>]) -> Settings
+    ensures { settings_view result ≡ settings_of (lines_apart lines.now) }
 {
     Settings {
         kind: default_kind(lines),
@@ -191,72 +190,72 @@ fn millions(amount: i64) -> i64
 }
 
 /// The payout period in whole years.
-pub(crate) fn payout_of(lines: &[Placed<'_>]) -> i64
-    ensures { result ≡ payout_from (lines_apart (map placed_view lines.now)) }
+pub(crate) fn payout_of(lines: &[Kept<'_>]) -> i64
+    ensures { result ≡ payout_from (lines_apart lines.now) }
 {
     let amount = default_number(lines, PAYOUT_PERIOD, 1_000_000);
     millions(amount)
 }
 
 /// The price of a material with these items, or else the default.
-pub(crate) fn price_at(items: &[&[u8]], default: i64) -> i64
-    ensures { result ≡ number_at (codes "price") (item_fields (texts items.now)) default }
+pub(crate) fn price_at(items: &[Item<'_>], default: i64) -> i64
+    ensures { result ≡ number_at (codes "price") (item_fields items.now) default }
 {
     number_at(items, PRICE, default)
 }
 
 /// The lower bound of a material with these items, or else the default.
-pub(crate) fn flow_lower_at(items: &[&[u8]], default: i64) -> i64
-    ensures { result ≡ number_at (codes "flow_rate_lower_bound") (item_fields (texts items.now)) default }
+pub(crate) fn flow_lower_at(items: &[Item<'_>], default: i64) -> i64
+    ensures { result ≡ number_at (codes "flow_rate_lower_bound") (item_fields items.now) default }
 {
     number_at(items, FLOW_RATE_LOWER_BOUND, default)
 }
 
 /// The upper bound of a material with these items, or else the default.
-pub(crate) fn flow_upper_at(items: &[&[u8]], default: i64) -> i64
-    ensures { result ≡ number_at (codes "flow_rate_upper_bound") (item_fields (texts items.now)) default }
+pub(crate) fn flow_upper_at(items: &[Item<'_>], default: i64) -> i64
+    ensures { result ≡ number_at (codes "flow_rate_upper_bound") (item_fields items.now) default }
 {
     number_at(items, FLOW_RATE_UPPER_BOUND, default)
 }
 
 /// The lower bound of a unit with these items, or else the default.
-pub(crate) fn capacity_lower_at(items: &[&[u8]], default: i64) -> i64
-    ensures { result ≡ number_at (codes "capacity_lower_bound") (item_fields (texts items.now)) default }
+pub(crate) fn capacity_lower_at(items: &[Item<'_>], default: i64) -> i64
+    ensures { result ≡ number_at (codes "capacity_lower_bound") (item_fields items.now) default }
 {
     number_at(items, CAPACITY_LOWER_BOUND, default)
 }
 
 /// The upper bound of a unit with these items, or else the default.
-pub(crate) fn capacity_upper_at(items: &[&[u8]], default: i64) -> i64
-    ensures { result ≡ number_at (codes "capacity_upper_bound") (item_fields (texts items.now)) default }
+pub(crate) fn capacity_upper_at(items: &[Item<'_>], default: i64) -> i64
+    ensures { result ≡ number_at (codes "capacity_upper_bound") (item_fields items.now) default }
 {
     number_at(items, CAPACITY_UPPER_BOUND, default)
 }
 
 /// The fixed cost of a unit with these items, or else the default.
-pub(crate) fn fix_at(items: &[&[u8]], default: i64) -> i64
-    ensures { result ≡ number_at (codes "fix_cost") (item_fields (texts items.now)) default }
+pub(crate) fn fix_at(items: &[Item<'_>], default: i64) -> i64
+    ensures { result ≡ number_at (codes "fix_cost") (item_fields items.now) default }
 {
     number_at(items, FIX_COST, default)
 }
 
 /// The proportional cost of a unit with these items, or else the default.
-pub(crate) fn proportional_at(items: &[&[u8]], default: i64) -> i64
-    ensures { result ≡ number_at (codes "proportional_cost") (item_fields (texts items.now)) default }
+pub(crate) fn proportional_at(items: &[Item<'_>], default: i64) -> i64
+    ensures { result ≡ number_at (codes "proportional_cost") (item_fields items.now) default }
 {
     number_at(items, PROPORTIONAL_COST, default)
 }
 
 /// The fixed investment cost of a unit with these items, or else the default.
-pub(crate) fn investment_fix_at(items: &[&[u8]], default: i64) -> i64
-    ensures { result ≡ number_at (codes "investment_fix_cost") (item_fields (texts items.now)) default }
+pub(crate) fn investment_fix_at(items: &[Item<'_>], default: i64) -> i64
+    ensures { result ≡ number_at (codes "investment_fix_cost") (item_fields items.now) default }
 {
     number_at(items, INVESTMENT_FIX_COST, default)
 }
 
 /// The proportional investment cost of a unit with these items, or else the default.
-pub(crate) fn investment_proportional_at(items: &[&[u8]], default: i64) -> i64
-    ensures { result ≡ number_at (codes "investment_proportional_cost") (item_fields (texts items.now)) default }
+pub(crate) fn investment_proportional_at(items: &[Item<'_>], default: i64) -> i64
+    ensures { result ≡ number_at (codes "investment_proportional_cost") (item_fields items.now) default }
 {
     number_at(items, INVESTMENT_PROPORTIONAL_COST, default)
 }
@@ -265,8 +264,8 @@ impl Settings {
     ghost use Rattle.pns_text.specs.Meaning.{is_material_turned, is_unit_turned};
 
     /// Whether the lower bound of a material with these items is above its upper bound.
-    pub(crate) fn is_material_turned(&self, items: &[&[u8]]) -> bool
-        ensures { result ≡ is_material_turned (settings_view self.now) (item_fields (texts items.now)) }
+    pub(crate) fn is_material_turned(&self, items: &[Item<'_>]) -> bool
+        ensures { result ≡ is_material_turned (settings_view self.now) (item_fields items.now) }
     {
         let upper = flow_upper_at(items, self.flow_upper);
         let lower = flow_lower_at(items, self.flow_lower);
@@ -274,8 +273,8 @@ impl Settings {
     }
 
     /// Whether the lower bound of a unit with these items is above its upper bound.
-    pub(crate) fn is_unit_turned(&self, items: &[&[u8]]) -> bool
-        ensures { result ≡ is_unit_turned (settings_view self.now) (item_fields (texts items.now)) }
+    pub(crate) fn is_unit_turned(&self, items: &[Item<'_>]) -> bool
+        ensures { result ≡ is_unit_turned (settings_view self.now) (item_fields items.now) }
     {
         let upper = capacity_upper_at(items, self.capacity_upper);
         let lower = capacity_lower_at(items, self.capacity_lower);

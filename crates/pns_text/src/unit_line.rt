@@ -1,23 +1,24 @@
 //! The form of a line of operating units.
-ghost use Rattle.std.specs.Prelude.{◌≡◌, IfOk, not};
+ghost use Rattle.std.specs.Prelude.{◌≡◌, None, IfOk, IfErr, OnOk, not};
 ghost use Rattle.std.specs.List.{list_any};
 ghost use Rattle.text_rules.specs.Line.{head_of};
 ghost use Rattle.text_rules.specs.Field.{items_of, has_key};
-ghost use Rattle.text_lines.specs.View.{texts};
+ghost use Rattle.pns_text.specs.Fault.{TellsKind};
 ghost use Rattle.pns_text.specs.UnitLine.{unit_fault, is_beyond};
 
-use crate::item::{some_double_key, some_item_stands, some_unknown_unit_key};
-use std::alloc::{AllocError, Global};
-use text_lines::field::{has_key, items_of};
+use crate::fault::TextFault;
+use crate::item::{Item, items_of, some_double_key, some_item_stands, some_unknown_unit_key};
+use crate::name_set::NameSet;
+use std::alloc::Global;
 use text_lines::line::head_of;
-use text_lines::name::{is_among, is_name};
+use text_lines::name::is_name;
 use text_rules::TextKind;
 
-fn some_without_key(items: &[&[u8]]) -> bool
-    ensures { result ≡ list_any (λ item. not (has_key item)) (texts items.now) }
+fn some_without_key(items: &[Item<'_>]) -> bool
+    ensures { result ≡ list_any (λ item. not (has_key item)) items.now }
 {
     for item in items {
-        if !has_key(*item) {
+        if !item.has_key() {
             return true;
         }
     }
@@ -25,15 +26,20 @@ fn some_without_key(items: &[&[u8]]) -> bool
 }
 
 /// Whether the name is that of a unit beyond the greatest number of them, where these names of units were seen.
-pub(crate) fn is_beyond(seen: &[&[u8]], name: &[u8]) -> bool
-    ensures { result ≡ is_beyond (texts seen.now) name.now }
+pub(crate) fn is_beyond(seen: &NameSet<'_>, name: &[u8]) -> bool
+    ensures { result ≡ is_beyond seen.now name.now }
 {
-    !is_among(seen, name) && seen.len() >= 128
+    !seen.has(name) && seen.len() >= 128
 }
 
 // The kind of form at the line of this name and these items, behind lines of units of these names.
-fn unit_kind(names: &[&[u8]], seen: &[&[u8]], name: &[u8], items: &[&[u8]]) -> Option<TextKind>
-    ensures { result ≡ unit_fault (texts names.now) (texts seen.now) name.now (texts items.now) }
+fn unit_kind(
+    names: &NameSet<'_>,
+    seen: &NameSet<'_>,
+    name: &[u8],
+    items: &[Item<'_>],
+) -> Option<TextKind>
+    ensures { result ≡ unit_fault names.now seen.now name.now items.now }
 {
     if some_without_key(items) {
         return Some(TextKind::BadLine);
@@ -59,7 +65,7 @@ fn unit_kind(names: &[&[u8]], seen: &[&[u8]], name: &[u8], items: &[&[u8]]) -> O
     if some_item_stands(TextKind::Negative, items) {
         return Some(TextKind::Negative);
     }
-    if is_among(names, name) {
+    if names.has(name) {
         return Some(TextKind::DoubleUnit);
     }
     if is_beyond(seen, name) {
@@ -68,15 +74,22 @@ fn unit_kind(names: &[&[u8]], seen: &[&[u8]], name: &[u8], items: &[&[u8]]) -> O
     None
 }
 
-/// The kind of form at a line of operating units, behind lines of units of these names; `seen` are all names of units.
-pub(crate) fn unit_fault(
+/// The items of the line of operating units that has the number, behind lines of units of these names; `seen` are all names
+/// of units.
+pub(crate) fn unit_items<'a>(
     alloc: Global,
-    names: &[&[u8]],
-    seen: &[&[u8]],
-    text: &[u8],
-) -> Result<Option<TextKind>, AllocError>
-    ensures { IfOk result (λ kind. kind ≡ unit_fault (texts names.now) (texts seen.now) (head_of text.now) (items_of text.now)) }
+    names: &NameSet<'_>,
+    seen: &NameSet<'_>,
+    number: u32,
+    text: &'a [u8],
+) -> Result<Vec<Item<'a>>, TextFault>
+    ensures items { IfOk result (λ items. items.items ≡ items_of text.now) }
+    ensures none { OnOk result (unit_fault names.now seen.now (head_of text.now) (items_of text.now) ≡ None) }
+    ensures fault { IfErr result (TellsKind number (unit_fault names.now seen.now (head_of text.now) (items_of text.now))) }
 {
     let items = items_of(alloc, text)?;
-    Ok(unit_kind(names, seen, head_of(text), &items))
+    match unit_kind(names, seen, head_of(text), &items) {
+        Some(kind) => Err(TextFault::At { line: number, kind }),
+        None => Ok(items),
+    }
 }

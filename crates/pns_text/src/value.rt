@@ -1,19 +1,20 @@
 //! The parts of the problem that lines without a fault stand for.
-ghost use Rattle.std.specs.Prelude.{◌≡◌, ◌++◌, ◌&&◌, IfOk, OnOk, map, not, option_map, find, position, unwrap_or, string_bytes};
-ghost use Rattle.problem_rules.specs.Names.{is_among};
+ghost use Rattle.std.specs.Prelude.{◌≡◌, ◌<◌, ◌^◌, length, ◌++◌, ◌&&◌, false, IfOk, OnOk, map, not, option_map, true, IfSome, is_some, find, position, unwrap_or, string_bytes};
+ghost use Rattle.problem_rules.specs.Names.{is_name, is_among, has_double};
 ghost use Rattle.std.specs.Str.{bytes_eq};
 ghost use Rattle.text_rules.specs.Line.{head_of};
 ghost use Rattle.text_rules.specs.Value.{numbers_among};
 ghost use Rattle.text_lines.specs.View.{texts};
-ghost use Rattle.text_lines.specs.Terms.{term_view, terms_view};
-ghost use Rattle.pns_text.specs.Kept.{is_at, lines_at, heads_at, fields_at, lines_apart, item_fields};
+ghost use Rattle.text_lines.specs.Terms.{term_view, terms_view, sides_view};
+ghost use Rattle.pns_text.specs.Kept.{is_at, lines_at, heads_at, lines_apart, item_fields};
 ghost use Rattle.pns_text.specs.Settings.{settings_of, material_from, unit_from};
-ghost use Rattle.pns_text.specs.Value.{materials_from, term_from, sides_from, sides_named, listed_unit, bare_unit, bare_lines, units_from, unit_names_from, exclusion_from, exclusions_from, problem_from};
-ghost use Rattle.pns_text.specs.View.{placed_view, settings_view};
+ghost use Rattle.pns_text.specs.Value.{materials_from, term_from, pairs_at, both_from, sides_named, listed_unit, bare_unit, bare_lines, units_from, unit_names_from, exclusion_named, exclusions_from, problem_from};
+ghost use Rattle.pns_text.specs.View.{settings_view};
 
+use crate::cut::Kept;
+use crate::item::Item;
 use crate::meaning::{Names, heads_at};
 use crate::name_set::{NameSet, once};
-use crate::seen::Placed;
 use crate::settings::{
     Settings, capacity_lower_at, capacity_upper_at, fix_at, flow_lower_at, flow_upper_at,
     investment_fix_at, investment_proportional_at, kind_at, number_of, payout_of, price_at,
@@ -22,70 +23,74 @@ use crate::settings::{
 use pns_problem::{Exclusion, Material, OperatingUnit, Parts, Term};
 use std::alloc::{AllocError, Global};
 use std::str;
-use text_lines::field::items_of;
-use text_lines::line::head_of;
 use text_lines::term;
 use text_rules::Section;
 
-// The name as a string. A name is ASCII; a text that is not UTF-8 has a fault of form and does not come here.
+// The name as a string: a name is ASCII, and so UTF-8.
+#[tactic(auto, using(crate::proofs::Naming::name_utf8))]
 fn name_string(alloc: Global, name: &[u8]) -> Result<String, AllocError>
+    requires { is_name name.now ≡ true }
     ensures { IfOk result (λ s. string_bytes s ≡ name.now) }
 {
     match str::from_utf8(name) {
         Ok(text) => String::from_str(alloc, text),
-        Err(_) => Err(AllocError),
+        Err(_) => unreachable!(),
     }
 }
 
-fn material(alloc: Global, settings: &Settings, text: &[u8]) -> Result<Material, AllocError>
-    ensures { IfOk result (λ m. m ≡ material_from (settings_view settings.now) (head_of text.now) (fields_at text.now)) }
+// The material of this name with these items.
+fn material(
+    alloc: Global,
+    settings: &Settings,
+    name: &[u8],
+    items: &[Item<'_>],
+) -> Result<Material, AllocError>
+    requires { is_name name.now ≡ true }
+    ensures { IfOk result (λ m. m ≡ material_from (settings_view settings.now) name.now (item_fields items.now)) }
 {
-    let items = items_of(alloc, text)?;
-    let name = name_string(alloc, head_of(text))?;
+    let name = name_string(alloc, name)?;
     Ok(Material {
         name,
-        kind: kind_at(&items, settings.kind),
-        price: price_at(&items, settings.price),
-        lower: flow_lower_at(&items, settings.flow_lower),
-        upper: flow_upper_at(&items, settings.flow_upper),
+        kind: kind_at(items, settings.kind),
+        price: price_at(items, settings.price),
+        lower: flow_lower_at(items, settings.flow_lower),
+        upper: flow_upper_at(items, settings.flow_upper),
     })
 }
 
 fn materials(
     alloc: Global,
     settings: &Settings,
-    lines: &[Placed<'_>],
+    lines: &[Kept<'_>],
 ) -> Result<Vec<Material>, AllocError>
-    ensures { IfOk result (λ materials. materials.items ≡ materials_from (settings_view settings.now) (map placed_view lines.now)) }
+    ensures { IfOk result (λ materials. materials.items ≡ materials_from (settings_view settings.now) lines.now) }
 {
     let mut materials = Vec::new(alloc);
     for line in lines {
-        if line.is_at(Section::Materials) {
-            materials.push(material(alloc, settings, line.text)?)?;
+        if let Some(items) = line.material_items() {
+            materials.push(material(alloc, settings, line.head(), items)?)?;
         }
     }
     Ok(materials)
 }
 
 // The number of the name, which is 0 where it is no name.
-fn number_named(names: &NameSet<'_>, name: &[u8]) -> Result<u32, AllocError>
-    ensures { IfOk result (λ number. number ≡ unwrap_or (position (λ word. bytes_eq word name.now) names.now) 0) }
+#[tactic(auto, using(crate::proofs::Counts::position_few))]
+fn number_named(names: &NameSet<'_>, name: &[u8]) -> u32
+    requires { length names.now < 2 ^ 32 }
+    ensures { result ≡ unwrap_or (position (λ word. bytes_eq word name.now) names.now) 0 }
 {
-    let number = names.number_of(name).unwrap_or(0);
-    match u32::try_from(number) {
-        Ok(number) => Ok(number),
-        Err(_) => Err(AllocError),
-    }
+    names.number_of(name).unwrap_or(0) as u32
 }
 
-fn term(names: &NameSet<'_>, term: &term::Term<'_>) -> Result<Term, AllocError>
-    ensures { IfOk result (λ t. t ≡ term_from names.now (term_view term.now)) }
+fn term(names: &NameSet<'_>, term: &term::Term<'_>) -> Term
+    requires { length names.now < 2 ^ 32 }
+    ensures { result ≡ term_from names.now (term_view term.now) }
 {
-    let material = number_named(names, term.name)?;
-    Ok(Term {
-        material,
+    Term {
+        material: number_named(names, term.name),
         rate: number_of(term.number),
-    })
+    }
 }
 
 fn terms(
@@ -93,56 +98,57 @@ fn terms(
     names: &NameSet<'_>,
     terms: &[term::Term<'_>],
 ) -> Result<Vec<Term>, AllocError>
+    requires { length names.now < 2 ^ 32 }
     ensures { IfOk result (λ all. all.items ≡ map (term_from names.now) (terms_view terms.now)) }
 {
     let mut all = Vec::new(alloc);
     for one in terms {
-        let one = term(names, one)?;
+        let one = term(names, one);
         all.push(one)?;
     }
     Ok(all)
 }
 
-// The terms on both sides of a line of rates. One whose sides have not their form does not come here.
-fn sides_of_text(
+// The terms on both sides of a line of rates.
+fn both_terms(
     alloc: Global,
     names: &NameSet<'_>,
-    text: &[u8],
+    sides: &term::Sides<'_>,
 ) -> Result<(Vec<Term>, Vec<Term>), AllocError>
-    ensures { IfOk result (λ sides. (sides.0.items, sides.1.items) ≡ sides_from names.now text.now) }
+    requires { length names.now < 2 ^ 32 }
+    ensures { IfOk result (λ both. (both.0.items, both.1.items) ≡ both_from names.now (sides_view sides.now)) }
 {
-    match term::sides_of(alloc, text)? {
-        Some(sides) => {
-            let inputs = terms(alloc, names, &sides.inputs)?;
-            let outputs = terms(alloc, names, &sides.outputs)?;
-            Ok((inputs, outputs))
-        }
-        None => Err(AllocError),
-    }
+    let inputs = terms(alloc, names, &sides.inputs)?;
+    let outputs = terms(alloc, names, &sides.outputs)?;
+    Ok((inputs, outputs))
 }
 
-// The line of rates of this name.
-fn rates_named<'a>(lines: &[Placed<'a>], name: &[u8]) -> Option<&'a [u8]>
-    ensures { option_map (λ text. text.now) result ≡ option_map (λ line. line.text) (find (λ line. bytes_eq (head_of line.text) name.now) (lines_at Section.Rates (map placed_view lines.now))) }
+// The sides of the line of rates of this name.
+fn rates_named<'b, 'a>(lines: &'b [Kept<'a>], name: &[u8]) -> Option<&'b term::Sides<'a>>
+    ensures { option_map (λ sides. sides_view sides.now) result ≡ option_map (λ line. pairs_at line.text) (find (λ line. bytes_eq (head_of line.text) name.now) (lines_at Section.Rates lines.now)) }
 {
     for line in lines {
-        if line.is_at(Section::Rates) && head_of(line.text) == name {
-            return Some(line.text);
+        if let Some(sides) = line.sides() {
+            if line.head() == name {
+                return Some(sides);
+            }
         }
     }
     None
 }
 
+#[tactic(auto, using(crate::proofs::CutLines::sides_found, crate::proofs::CutLines::sides_missing))]
 fn sides_named(
     alloc: Global,
     names: &NameSet<'_>,
-    lines: &[Placed<'_>],
+    lines: &[Kept<'_>],
     name: &[u8],
 ) -> Result<(Vec<Term>, Vec<Term>), AllocError>
-    ensures { IfOk result (λ sides. (sides.0.items, sides.1.items) ≡ sides_named names.now (map placed_view lines.now) name.now) }
+    requires { length names.now < 2 ^ 32 }
+    ensures { IfOk result (λ sides. (sides.0.items, sides.1.items) ≡ sides_named names.now lines.now name.now) }
 {
     match rates_named(lines, name) {
-        Some(text) => sides_of_text(alloc, names, text),
+        Some(sides) => both_terms(alloc, names, sides),
         None => Ok((Vec::new(alloc), Vec::new(alloc))),
     }
 }
@@ -152,12 +158,14 @@ fn unit(
     alloc: Global,
     settings: &Settings,
     names: &NameSet<'_>,
-    lines: &[Placed<'_>],
+    lines: &[Kept<'_>],
     name: &[u8],
-    items: &[&[u8]],
+    items: &[Item<'_>],
 ) -> Result<OperatingUnit, AllocError>
-    ensures { IfOk result (λ u. u ≡ unit_from (settings_view settings.now) name.now (item_fields (texts items.now))
-        (sides_named names.now (map placed_view lines.now) name.now).0 (sides_named names.now (map placed_view lines.now) name.now).1) }
+    requires named { is_name name.now ≡ true }
+    requires few { length names.now < 2 ^ 32 }
+    ensures { IfOk result (λ u. u ≡ unit_from (settings_view settings.now) name.now (item_fields items.now)
+        (sides_named names.now lines.now name.now).0 (sides_named names.now lines.now name.now).1) }
 {
     let (inputs, outputs) = sides_named(alloc, names, lines, name)?;
     let name = name_string(alloc, name)?;
@@ -177,73 +185,53 @@ fn unit(
     })
 }
 
-fn listed_unit(
-    alloc: Global,
-    settings: &Settings,
-    names: &NameSet<'_>,
-    lines: &[Placed<'_>],
-    text: &[u8],
-) -> Result<OperatingUnit, AllocError>
-    ensures { IfOk result (λ u. u ≡ listed_unit (settings_view settings.now) names.now (map placed_view lines.now) text.now) }
-{
-    let items = items_of(alloc, text)?;
-    unit(alloc, settings, names, lines, head_of(text), &items)
-}
-
 fn listed_units(
     alloc: Global,
     settings: &Settings,
     names: &NameSet<'_>,
-    lines: &[Placed<'_>],
+    lines: &[Kept<'_>],
 ) -> Result<Vec<OperatingUnit>, AllocError>
-    ensures { IfOk result (λ units. units.items ≡ map (λ line. listed_unit (settings_view settings.now) names.now (map placed_view lines.now) line.text) (lines_at Section.OperatingUnits (map placed_view lines.now))) }
+    requires { length names.now < 2 ^ 32 }
+    ensures { IfOk result (λ units. units.items ≡ map (λ line. listed_unit (settings_view settings.now) names.now lines.now line.text) (lines_at Section.OperatingUnits lines.now)) }
 {
     let mut units = Vec::new(alloc);
     for line in lines {
-        if line.is_at(Section::OperatingUnits) {
-            units.push(listed_unit(alloc, settings, names, lines, line.text)?)?;
+        if let Some(items) = line.unit_items() {
+            units.push(unit(alloc, settings, names, lines, line.head(), items)?)?;
         }
     }
     Ok(units)
 }
 
-// Whether the line is one of rates, of a unit without a line of its own.
-fn is_bare(units: &NameSet<'_>, line: &Placed<'_>) -> bool
-    ensures { result ≡ (is_at Section.Rates (placed_view line.now) && not (is_among units.now (head_of line.now.text.now))) }
+// The name, where the line is one of rates, of a unit without a line of its own.
+fn bare_name<'a>(units: &NameSet<'_>, line: &Kept<'a>) -> Option<&'a [u8]>
+    ensures some { IfSome result (λ name. name.now ≡ head_of line.now.text) }
+    ensures named { IfSome result (λ name. is_name name.now ≡ true) }
+    ensures at { is_some result ≡ (is_at Section.Rates line.now && not (is_among units.now (head_of line.now.text))) }
 {
-    line.is_at(Section::Rates) && !units.has(head_of(line.text))
-}
-
-// The lines of rates of units without a line of their own.
-fn bare_lines<'a>(
-    alloc: Global,
-    units: &NameSet<'_>,
-    lines: &[Placed<'a>],
-) -> Result<Vec<&'a [u8]>, AllocError>
-    ensures { IfOk result (λ bare. texts bare.items ≡ map (λ line. line.text) (bare_lines units.now (map placed_view lines.now))) }
-{
-    let mut bare = Vec::new(alloc);
-    for line in lines {
-        if is_bare(units, line) {
-            bare.push(line.text)?;
-        }
+    line.sides()?;
+    let name = line.head();
+    if units.has(name) {
+        return None;
     }
-    Ok(bare)
+    Some(name)
 }
 
-// Adds the units of these lines of rates.
+// Adds the units of the lines of rates of units without a line of their own.
 fn push_bare_units(
     alloc: Global,
     settings: &Settings,
-    names: &NameSet<'_>,
-    lines: &[Placed<'_>],
-    bare: &[&[u8]],
+    names: &Names<'_>,
+    lines: &[Kept<'_>],
     units: &mut Vec<OperatingUnit>,
 ) -> Result<(), AllocError>
-    ensures { OnOk result (units.new.items ≡ units.old.items ++ map (bare_unit (settings_view settings.now) names.now (map placed_view lines.now)) (texts bare.now)) }
+    requires { length names.now.materials < 2 ^ 32 }
+    ensures { OnOk result (units.new.items ≡ units.old.items ++ map (λ line. bare_unit (settings_view settings.now) names.now.materials lines.now line.text) (bare_lines names.now.units lines.now)) }
 {
-    for text in bare {
-        units.push(unit(alloc, settings, names, lines, head_of(*text), &[])?)?;
+    for line in lines {
+        if let Some(name) = bare_name(&names.units, line) {
+            units.push(unit(alloc, settings, &names.materials, lines, name, &[])?)?;
+        }
     }
     Ok(())
 }
@@ -252,23 +240,35 @@ fn units(
     alloc: Global,
     settings: &Settings,
     names: &Names<'_>,
-    lines: &[Placed<'_>],
+    lines: &[Kept<'_>],
 ) -> Result<Vec<OperatingUnit>, AllocError>
-    requires { names.now.units ≡ heads_at Section.OperatingUnits (map placed_view lines.now) }
-    ensures { IfOk result (λ units. units.items ≡ units_from (settings_view settings.now) names.now.materials (map placed_view lines.now)) }
+    requires units { names.now.units ≡ heads_at Section.OperatingUnits lines.now }
+    requires few { length names.now.materials < 2 ^ 32 }
+    ensures { IfOk result (λ units. units.items ≡ units_from (settings_view settings.now) names.now.materials lines.now) }
 {
     let mut units = listed_units(alloc, settings, &names.materials, lines)?;
-    let bare = bare_lines(alloc, &names.units, lines)?;
-    push_bare_units(alloc, settings, &names.materials, lines, &bare, &mut units)?;
+    push_bare_units(alloc, settings, names, lines, &mut units)?;
     Ok(units)
 }
 
-// Adds the names of these lines.
-fn push_heads<'a>(names: &mut Vec<&'a [u8]>, lines: &[&'a [u8]]) -> Result<(), AllocError>
-    ensures { OnOk result (texts names.new.items ≡ texts names.old.items ++ map head_of (texts lines.now)) }
+fn is_bare(units: &NameSet<'_>, line: &Kept<'_>) -> bool
+    ensures { result ≡ (is_at Section.Rates line.now && not (is_among units.now (head_of line.now.text))) }
 {
-    for text in lines {
-        names.push(head_of(*text))?;
+    bare_name(units, line).is_some()
+}
+
+// Adds the names of the units without a line of their own.
+fn push_bare_names<'a>(
+    all: &mut Vec<&'a [u8]>,
+    units: &NameSet<'_>,
+    lines: &[Kept<'a>],
+) -> Result<(), AllocError>
+    ensures { OnOk result (texts all.new.items ≡ texts all.old.items ++ map (λ line. head_of line.text) (bare_lines units.now lines.now)) }
+{
+    for line in lines {
+        if is_bare(units, line) {
+            all.push(line.head())?;
+        }
     }
     Ok(())
 }
@@ -277,14 +277,13 @@ fn push_heads<'a>(names: &mut Vec<&'a [u8]>, lines: &[&'a [u8]]) -> Result<(), A
 fn unit_names<'a>(
     alloc: Global,
     names: &Names<'a>,
-    lines: &[Placed<'a>],
+    lines: &[Kept<'a>],
 ) -> Result<Vec<&'a [u8]>, AllocError>
-    requires { names.now.units ≡ heads_at Section.OperatingUnits (map placed_view lines.now) }
-    ensures { IfOk result (λ all. texts all.items ≡ unit_names_from (map placed_view lines.now)) }
+    requires { names.now.units ≡ heads_at Section.OperatingUnits lines.now }
+    ensures { IfOk result (λ all. texts all.items ≡ unit_names_from lines.now) }
 {
     let mut all = heads_at(alloc, Section::OperatingUnits, lines)?;
-    let bare = bare_lines(alloc, &names.units, lines)?;
-    push_heads(&mut all, &bare)?;
+    push_bare_names(&mut all, &names.units, lines)?;
     Ok(all)
 }
 
@@ -294,66 +293,77 @@ fn numbers_among(
     among: &NameSet<'_>,
     units: &[&[u8]],
 ) -> Result<Vec<u32>, AllocError>
+    requires { length units.now < 2 ^ 32 }
     ensures { IfOk result (λ members. members.items ≡ numbers_among among.now 0 (texts units.now)) }
 {
     let mut members = Vec::new(alloc);
     for (number, name) in units.iter().enumerate() {
         if among.has(*name) {
-            match u32::try_from(number) {
-                Ok(number) => members.push(number)?,
-                Err(_) => return Err(AllocError),
-            }
+            members.push(number as u32)?;
         }
     }
     Ok(members)
 }
 
-// The numbers of the units that are among the items. A line with an item twice does not come here.
-fn members(alloc: Global, units: &[&[u8]], items: &[&[u8]]) -> Result<Vec<u32>, AllocError>
-    ensures { IfOk result (λ members. members.items ≡ numbers_among (texts items.now) 0 (texts units.now)) }
+// The numbers of the units that are among the members, which come once.
+fn numbers_of(alloc: Global, units: &[&[u8]], members: &[&[u8]]) -> Result<Vec<u32>, AllocError>
+    requires once { has_double (texts members.now) ≡ false }
+    requires few { length units.now < 2 ^ 32 }
+    ensures { IfOk result (λ numbers. numbers.items ≡ numbers_among (texts members.now) 0 (texts units.now)) }
 {
-    match once(alloc, items)? {
+    match once(alloc, members)? {
         Some(among) => numbers_among(alloc, &among, units),
-        None => Err(AllocError),
+        None => unreachable!(),
     }
 }
 
-fn exclusion(alloc: Global, units: &[&[u8]], text: &[u8]) -> Result<Exclusion, AllocError>
-    ensures { IfOk result (λ x. x ≡ exclusion_from (texts units.now) text.now) }
+// The exclusion of this name with these members.
+fn exclusion(
+    alloc: Global,
+    units: &[&[u8]],
+    name: &[u8],
+    members: &[&[u8]],
+) -> Result<Exclusion, AllocError>
+    requires named { is_name name.now ≡ true }
+    requires once { has_double (texts members.now) ≡ false }
+    requires few { length units.now < 2 ^ 32 }
+    ensures { IfOk result (λ x. x ≡ exclusion_named (texts units.now) name.now (texts members.now)) }
 {
-    let items = items_of(alloc, text)?;
-    let units = members(alloc, units, &items)?;
-    let name = name_string(alloc, head_of(text))?;
+    let units = numbers_of(alloc, units, members)?;
+    let name = name_string(alloc, name)?;
     Ok(Exclusion { name, units })
 }
 
 fn exclusions(
     alloc: Global,
     units: &[&[u8]],
-    lines: &[Placed<'_>],
+    lines: &[Kept<'_>],
 ) -> Result<Vec<Exclusion>, AllocError>
-    ensures { IfOk result (λ exclusions. exclusions.items ≡ exclusions_from (texts units.now) (map placed_view lines.now)) }
+    requires { length units.now < 2 ^ 32 }
+    ensures { IfOk result (λ exclusions. exclusions.items ≡ exclusions_from (texts units.now) lines.now) }
 {
     let mut exclusions = Vec::new(alloc);
     for line in lines {
-        if line.is_at(Section::Exclusions) {
-            exclusions.push(exclusion(alloc, units, line.text)?)?;
+        if let Some(members) = line.members() {
+            exclusions.push(exclusion(alloc, units, line.head(), members)?)?;
         }
     }
     Ok(exclusions)
 }
 
 /// The parts of the problem.
+#[tactic(auto, using(crate::proofs::Counts::heads_few, crate::proofs::Counts::units_few))]
 pub(crate) fn parts_of(
     alloc: Global,
     settings: &Settings,
     names: &Names<'_>,
-    lines: &[Placed<'_>],
+    lines: &[Kept<'_>],
 ) -> Result<Parts, AllocError>
-    requires settings { settings_view settings.now ≡ settings_of (lines_apart (map placed_view lines.now)) }
-    requires materials { names.now.materials ≡ heads_at Section.Materials (map placed_view lines.now) }
-    requires units { names.now.units ≡ heads_at Section.OperatingUnits (map placed_view lines.now) }
-    ensures { IfOk result (λ parts. parts ≡ problem_from (map placed_view lines.now)) }
+    requires settings { settings_view settings.now ≡ settings_of (lines_apart lines.now) }
+    requires materials { names.now.materials ≡ heads_at Section.Materials lines.now }
+    requires units { names.now.units ≡ heads_at Section.OperatingUnits lines.now }
+    requires few { length lines.now < 2 ^ 32 }
+    ensures { IfOk result (λ parts. parts ≡ problem_from lines.now) }
 {
     let materials = materials(alloc, settings, lines)?;
     let units = units(alloc, settings, names, lines)?;

@@ -1,45 +1,27 @@
 //! The walk over the lines of a text, which judges their form and keeps those that have a meaning.
-ghost use Rattle.std.specs.Prelude.{◌≡◌, ◌<◌, ◌+◌, ◌-◌, ◌^◌, Ok, IfOk, IfErr, OnOk, length, map};
+ghost use Rattle.std.specs.Prelude.{◌≡◌, ◌<◌, ◌+◌, ◌-◌, ◌^◌, Ok, IfOk, IfErr, OnOk, length};
 ghost use Rattle.text_rules.specs.Line.{lines_of};
 ghost use Rattle.text_lines.specs.Lines.{lines_from};
+ghost use Rattle.pns_text.specs.Cut.{Keeps};
 ghost use Rattle.pns_text.specs.Fault.{Tells};
 ghost use Rattle.pns_text.specs.View.{placed_view, walk_view};
-ghost use Rattle.pns_text.specs.Walk.{is_meant, matters, walk_start, kept_after, placed_at, take_line, step, walk_from, walk};
+ghost use Rattle.pns_text.specs.Walk.{walk_start, kept_after, placed_at, take_line, step, walk_from, walk, HasNames};
 
+use crate::cut::{Cut, Kept};
 use crate::fault::TextFault;
 use crate::seen::{Placed, Seen};
 use std::alloc::{AllocError, Global};
-use text_lines::line::{cut_line, without_mark};
+use text_lines::line::{cut_line, head_of, without_mark};
 use text_lines::section::{is_header, section_after};
 use text_rules::{Section, TextKind};
 
 /// The lines that matter so far, what was seen, and the number and the section of the next line.
-#[derive(Debug, Drop)]
+#[derive(Drop)]
 pub struct Walk<'a> {
     pub seen: Seen<'a>,
-    pub kept: Vec<Placed<'a>>,
+    pub kept: Vec<Kept<'a>>,
     pub number: u32,
     pub section: Section,
-}
-
-fn is_meant(section: Section) -> bool
-    ensures { result ≡ is_meant section }
-{
-    match section {
-        Section::Preamble => false,
-        Section::MeasurementUnits => false,
-        Section::Defaults => true,
-        Section::Materials => true,
-        Section::OperatingUnits => true,
-        Section::Rates => true,
-        Section::Exclusions => true,
-    }
-}
-
-fn matters(line: &Placed<'_>) -> bool
-    ensures { result ≡ matters (placed_view line.now) }
-{
-    !line.header && is_meant(line.section)
 }
 
 fn placed<'a>(number: u32, section: Section, text: &'a [u8]) -> Placed<'a>
@@ -72,17 +54,9 @@ impl<'a> Walk<'a> {
         ensures next { OnOk result (self.new.number ≡ self.old.number + 1) }
         ensures fault { IfErr result (Tells (take_line (walk_view self.old) (placed_view line.now))) }
     {
-        match self.seen.line_fault(alloc, line)? {
-            Some(kind) => {
-                return Err(TextFault::At {
-                    line: line.number,
-                    kind,
-                });
-            }
-            None => {}
-        }
+        let cut = self.seen.cut(alloc, line)?;
         self.seen.note(line)?;
-        keep(&mut self.kept, line)?;
+        keep(&mut self.kept, line, cut)?;
         self.section = line.section;
         self.number += 1;
         Ok(())
@@ -104,12 +78,23 @@ impl<'a> Walk<'a> {
     }
 }
 
-// Keeps a line that matters.
-fn keep<'a>(kept: &mut Vec<Placed<'a>>, line: &Placed<'a>) -> Result<(), AllocError>
-    ensures { OnOk result (map placed_view kept.new.items ≡ kept_after (map placed_view kept.old.items) (placed_view line.now)) }
+// Keeps a line that matters, with what was cut of it.
+#[tactic(auto, using(crate::proofs::CutLines::line_kept, crate::proofs::CutLines::none_kept))]
+fn keep<'a>(
+    kept: &mut Vec<Kept<'a>>,
+    line: &Placed<'a>,
+    cut: Option<Cut<'a>>,
+) -> Result<(), AllocError>
+    requires { Keeps (placed_view line.now) cut }
+    ensures { OnOk result (kept.new.items ≡ kept_after kept.old.items (placed_view line.now)) }
 {
-    if matters(line) {
-        kept.push(*line)?;
+    if let Some(cut) = cut {
+        kept.push(Kept {
+            number: line.number,
+            text: line.text,
+            head: head_of(line.text),
+            cut,
+        })?;
     }
     Ok(())
 }
@@ -124,16 +109,21 @@ fn walk_rest<'a>(alloc: Global, bytes: &'a [u8]) -> Result<Walk<'a>, TextFault>
     let mut rest = bytes;
     while !rest.is_empty() {
         let (text, behind) = cut_line(rest);
-        walk.step(alloc, text)?;
+        match walk.step(alloc, text) {
+            Ok(()) => {}
+            Err(fault) => return Err(fault),
+        }
         rest = behind;
     }
     Ok(walk)
 }
 
-/// The lines of the text that have a meaning, or its first fault of form.
+/// The lines of the text that have a meaning, each cut once, and the names of materials, units and lines of rates, or the
+/// first fault of form.
 pub(crate) fn walk_text<'a>(alloc: Global, bytes: &'a [u8]) -> Result<Walk<'a>, TextFault>
     requires { length bytes.now < 2 ^ 32 - 1 }
     ensures ok { IfOk result (λ w. walk (lines_of bytes.now) ≡ Ok (walk_view w)) }
+    ensures names { IfOk result (λ w. HasNames (walk_view w)) }
     ensures fault { IfErr result (Tells (walk (lines_of bytes.now))) }
 {
     let bytes = without_mark(bytes);

@@ -1,8 +1,7 @@
 use Rattle.std.proofs.Common.{◌≡◌, drop}
 use Rattle.problem_rules.specs.Names.{is_among}
 use Rattle.pns_text.specs.Item.{keys_in}
-use Rattle.text_lines.specs.View.{texts}
 use Rattle.pns_text.proofs.item.has_field.Given as goal
 
 abbrev pub invariant-loop-item : goal.invariant-loop-item
-invariant-loop-item l = is_among (keys_in (texts (drop l.item-index l.items))) l.key ≡ is_among (keys_in (texts l.items)) l.key
+invariant-loop-item l = is_among (keys_in (drop l.item-index l.items)) l.key ≡ is_among (keys_in l.items) l.key

@@ -2,8 +2,7 @@ use Rattle.std.proofs.Common.{◌≡◌, drop}
 use Rattle.std.specs.List.{list_any}
 use Rattle.text_rules.specs.Field.{unit_keys}
 use Rattle.pns_text.specs.Item.{has_unknown_key}
-use Rattle.text_lines.specs.View.{texts}
 use Rattle.pns_text.proofs.item.some_unknown_unit_key.Given as goal
 
 abbrev pub invariant-loop-item : goal.invariant-loop-item
-invariant-loop-item l = list_any (has_unknown_key unit_keys) (texts (drop l.item-index l.items)) ≡ list_any (has_unknown_key unit_keys) (texts l.items)
+invariant-loop-item l = list_any (has_unknown_key unit_keys) (drop l.item-index l.items) ≡ list_any (has_unknown_key unit_keys) l.items

@@ -1,8 +1,7 @@
 use Rattle.std.proofs.Common.{◌≡◌, drop, not}
 use Rattle.std.specs.List.{list_any}
 use Rattle.text_rules.specs.Field.{has_key}
-use Rattle.text_lines.specs.View.{texts}
 use Rattle.pns_text.proofs.unit_line.some_without_key.Given as goal
 
 abbrev pub invariant-loop-item : goal.invariant-loop-item
-invariant-loop-item l = list_any (λ item. not (has_key item)) (texts (drop l.item-index l.items)) ≡ list_any (λ item. not (has_key item)) (texts l.items)
+invariant-loop-item l = list_any (λ item. not (has_key item)) (drop l.item-index l.items) ≡ list_any (λ item. not (has_key item)) l.items

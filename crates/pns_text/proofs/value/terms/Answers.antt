@@ -10,6 +10,6 @@ pub loop-one-preserved : goal.loop-one-preserved
 loop-one-preserved c =
     let none : Term = record { number = record { ref_ptr = (0, 0); now = [] }; name = record { ref_ptr = (0, 0); now = [] } } in
     c.in_ok-push.ensures.items
-    ∙ ap (λ (done : List rules.Term). done ++ c.in_ok-one.one ∷ []) c.loop-one.invariant
-    ∙ ap (λ (last : rules.Term). map (term_from c.args.names.now) (terms_view (take c.loop-one.one-index c.args.terms.now)) ++ last ∷ []) c.in_ok-one.ensures
+    ∙ ap (λ (done : List rules.Term). done ++ c.term-one.result ∷ []) c.loop-one.invariant
+    ∙ ap (λ (last : rules.Term). map (term_from c.args.names.now) (terms_view (take c.loop-one.one-index c.args.terms.now)) ++ last ∷ []) c.term-one.ensures
     ∙ sym (maps_more (term_from c.args.names.now) term_view c.args.terms.now c.loop-one.one-index none c.loop-one-test.true)

@@ -1,0 +1,77 @@
+-- What is read of a line that was cut is what the grammar reads of its text.
+use Rattle.std.proofs.Common.{◌≡◌, ◌||◌, ◌++◌, Bool, true, false, not, ℕ, List, [], ◌∷◌, option_map, Option, Some, None, if◌then◌else◌, refl, sym, ◌∙◌, ap}
+use Rattle.std.specs.List.{list_any}
+use Rattle.problem_rules.specs.Names.{is_among}
+use Rattle.text_rules.specs.declared.TextKind.{TextKind}
+use Rattle.text_rules.specs.declared.Section.{Section}
+use Rattle.text_rules.specs.declared.Section.TheVariants.{Defaults, Materials, OperatingUnits, Rates, Exclusions}
+use Rattle.text_rules.specs.Line.{Placed, head_of}
+use Rattle.text_rules.specs.Field.{sides_of}
+use Rattle.text_lines.specs.View.{texts}
+use Rattle.text_lines.specs.Terms.{Pair, sides_view, sides_read}
+use Rattle.text_lines.specs.declared.term.Sides.{Sides}
+use Rattle.pns_text.specs.Kept.{item_fields}
+use Rattle.pns_text.specs.Settings.{Settings}
+use Rattle.pns_text.specs.Meaning.{Names, material_kind, unit_kind, rates_kind, exclusion_kind, line_meaning}
+use Rattle.pns_text.specs.RatesLine.{names_of}
+use Rattle.pns_text.specs.Value.{pairs_at, both_from, sides_or}
+use Rattle.pns_text.specs.Walk.{kept_after}
+use Rattle.pns_text.specs.Cut.{section_of, IsCutOf, IsCutAt, line_cut}
+use Rattle.pns_text.specs.declared.cut.Cut.{Cut}
+use Rattle.pns_text.specs.declared.cut.Cut.TheVariants.{Default, Material, OperatingUnit, Flows, Exclusion}
+use Rattle.pns_text.proofs.SidesRead.{sides_are, any_of_both}
+
+-- the sides of a line of rates
+pub sides_cut : (text : List ℕ) (found : List Pair × List Pair) → Some found ≡ sides_read (sides_of text) → found ≡ pairs_at text
+sides_cut text found e = sides_are (sides_of text) found e
+
+pub sides_found : (names : List (List ℕ)) (line : Option Placed) (found : List Pair × List Pair) → Some found ≡ option_map (λ (line : Placed). pairs_at line.text) line → both_from names found ≡ sides_or names line
+sides_found names None found e = cc
+sides_found names (Some line) found e = ap (both_from names) (found_is found (pairs_at line.text) e) where
+  found_is : (xs ys : List Pair × List Pair) → Some xs ≡ Some ys → xs ≡ ys
+  found_is xs ys e = cc
+
+pub sides_missing : (names : List (List ℕ)) (line : Option Placed) → None ≡ option_map (λ (line : Placed). pairs_at line.text) line → ([], []) ≡ sides_or names line
+sides_missing names None e = refl
+sides_missing names (Some line) e = cc
+
+-- the kind of meaning at a line, by what was cut of it
+abbrev pub cut_meaning : Settings → Names → List ℕ → Cut → Option TextKind
+cut_meaning s names text Default = None
+cut_meaning s names text (Material items) = material_kind s (item_fields items.items)
+cut_meaning s names text (OperatingUnit items) = unit_kind s names (head_of text) (item_fields items.items)
+cut_meaning s names text (Flows sides) = rates_kind s names (head_of text) (list_any (λ name. not (is_among names.materials name)) (names_of (sides_view sides).0) || list_any (λ name. not (is_among names.materials name)) (names_of (sides_view sides).1))
+cut_meaning s names text (Exclusion members) = exclusion_kind names (texts members.items)
+
+pub meaning_cut : (s : Settings) (names : Names) (number : ℕ) (text : List ℕ) (cut : Cut) → IsCutOf text cut → cut_meaning s names text cut ≡ line_meaning s names (line_cut number text cut)
+meaning_cut s names number text Default is = refl
+meaning_cut s names number text (Material items) is = ap (λ (all : List (List ℕ)). material_kind s (item_fields all)) is
+meaning_cut s names number text (OperatingUnit items) is = ap (λ (all : List (List ℕ)). unit_kind s names (head_of text) (item_fields all)) is
+meaning_cut s names number text (Flows sides) is = ap (rates_kind s names (head_of text)) (any_of_both (λ name. not (is_among names.materials name)) (sides_of text) (sides_view sides) is)
+meaning_cut s names number text (Exclusion members) is = ap (exclusion_kind names) is.0
+
+-- a line that matters is kept, with its number and its text
+one_kept : (cut : Cut) (kept : List Placed) (number : ℕ) (section : Section) (header : Bool) (text : List ℕ) → section_of cut ≡ section → header ≡ false
+    → kept ++ line_cut number text cut ∷ [] ≡ kept_after kept (record { number = number; section = section; header = header; text = text })
+one_kept Default kept number Defaults false text s h = refl
+one_kept (Material items) kept number Materials false text s h = refl
+one_kept (OperatingUnit items) kept number OperatingUnits false text s h = refl
+one_kept (Flows sides) kept number Rates false text s h = refl
+one_kept (Exclusion members) kept number Exclusions false text s h = refl
+one_kept cut kept number section header text s h = cc
+
+pub line_kept : (line : Placed) (cut : Cut) (kept : List Placed) → IsCutAt line cut → kept ++ line_cut line.number line.text cut ∷ [] ≡ kept_after kept line
+line_kept line cut kept is = one_kept cut kept line.number line.section line.header line.text is.section is.header
+
+pub none_kept : (b : Bool) (line : Placed) (kept : List Placed) → b ≡ false → kept ≡ (if b then kept ++ line ∷ [] else kept)
+none_kept true line kept e = cc
+none_kept false line kept e = refl
+
+-- at a line of rates
+pub flows_meaning : (s : Settings) (names : Names) (number : ℕ) (text name : List ℕ) (cut : Cut) (sides : Sides) (line : Placed) → cut ≡ Flows sides → name ≡ head_of text → IsCutOf text cut → line_cut number text cut ≡ line
+    → rates_kind s names name (list_any (λ name. not (is_among names.materials name)) (names_of (sides_view sides).0) || list_any (λ name. not (is_among names.materials name)) (names_of (sides_view sides).1)) ≡ line_meaning s names line
+flows_meaning s names number text name cut sides line e head is at =
+    ap (λ (name : List ℕ). rates_kind s names name (list_any (λ name. not (is_among names.materials name)) (names_of (sides_view sides).0) || list_any (λ name. not (is_among names.materials name)) (names_of (sides_view sides).1))) head
+    ∙ sym (ap (cut_meaning s names text) e)
+    ∙ meaning_cut s names number text cut is
+    ∙ ap (line_meaning s names) at

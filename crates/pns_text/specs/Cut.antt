@@ -1,0 +1,52 @@
+-- Lines that a walk keeps, each cut once: what was cut of a line is what the grammar takes it apart into.
+use Rattle.std.specs.Prelude.{◌≡◌, ℕ, true, false, List, Option, Some, None}
+use Rattle.problem_rules.specs.Names.{is_name, has_double}
+use Rattle.text_rules.specs.declared.Section.{Section}
+use Rattle.text_rules.specs.declared.Section.TheVariants.{Defaults, Materials, OperatingUnits, Rates, Exclusions}
+use Rattle.text_rules.specs.Line.{Placed, head_of}
+use Rattle.text_rules.specs.Field.{items_of, sides_of}
+use Rattle.text_lines.specs.View.{texts}
+use Rattle.text_lines.specs.Terms.{sides_view, sides_read}
+use Rattle.pns_text.specs.Walk.{matters}
+use Rattle.pns_text.specs.declared.cut.Cut.{Cut}
+use Rattle.pns_text.specs.declared.cut.Cut.TheVariants.{Default, Material, OperatingUnit, Flows, Exclusion}
+
+abbrev pub section_of : Cut → Section
+section_of Default = Defaults
+section_of (Material items) = Materials
+section_of (OperatingUnit items) = OperatingUnits
+section_of (Flows sides) = Rates
+section_of (Exclusion members) = Exclusions
+
+-- what was cut of the text: a line of rates has two sides, and no member of an exclusion comes twice
+abbrev pub IsCutOf : List ℕ → Cut → Type 0
+IsCutOf text Default = Unit {0}
+IsCutOf text (Material items) = items.items ≡ items_of text
+IsCutOf text (OperatingUnit items) = items.items ≡ items_of text
+IsCutOf text (Flows sides) = Some (sides_view sides) ≡ sides_read (sides_of text)
+IsCutOf text (Exclusion members) = (texts members.items ≡ items_of text) × (has_double (items_of text) ≡ false)
+
+-- all but a default begin with a name
+abbrev pub IsNamed : List ℕ → Cut → Type 0
+IsNamed text Default = Unit {0}
+IsNamed text cut = is_name (head_of text) ≡ true
+
+pub record IsKept (text : List ℕ) (name : List ℕ) (cut : Cut) : Type 0 where
+  pub head : name ≡ head_of text
+  pub named : IsNamed text cut
+  pub parts : IsCutOf text cut
+
+-- the line of this number and text
+abbrev pub line_cut : ℕ → List ℕ → Cut → Placed
+line_cut number text cut = record { number = number; section = section_of cut; header = false; text = text }
+
+-- what is kept of a line: it was cut where it matters
+pub record IsCutAt (line : Placed) (cut : Cut) : Type 0 where
+  pub section : section_of cut ≡ line.section
+  pub header : line.header ≡ false
+  pub named : IsNamed line.text cut
+  pub parts : IsCutOf line.text cut
+
+abbrev pub Keeps : Placed → Option Cut → Type 0
+Keeps line None = matters line ≡ false
+Keeps line (Some cut) = IsCutAt line cut

@@ -1,0 +1,147 @@
+//! Lines that a walk keeps, each cut once.
+use crate::item::Item;
+use std::marker::Model;
+use text_lines::term::Sides;
+use text_rules::Section;
+
+/// What stands in a line without a fault of form, behind its name.
+#[derive(Drop)]
+pub enum Cut<'a> {
+    /// In a line of defaults nothing is cut.
+    Default,
+    /// The items of a material.
+    Material(Vec<Item<'a>>),
+    /// The items of an operating unit.
+    OperatingUnit(Vec<Item<'a>>),
+    /// The terms on both sides of a line of rates.
+    Flows(Sides<'a>),
+    /// The members of an exclusion, each once.
+    Exclusion(Vec<&'a [u8]>),
+}
+
+impl<'a> Cut<'a> {
+    ghost use Rattle.std.specs.Prelude.{◌≡◌};
+    ghost use Rattle.pns_text.specs.Cut.{section_of};
+
+    /// The section of such a line.
+    pub(crate) fn section(&self) -> Section
+        ensures { result ≡ section_of self.now }
+    {
+        match self {
+            Cut::Default => Section::Defaults,
+            Cut::Material(_) => Section::Materials,
+            Cut::OperatingUnit(_) => Section::OperatingUnits,
+            Cut::Flows(_) => Section::Rates,
+            Cut::Exclusion(_) => Section::Exclusions,
+        }
+    }
+}
+
+/// A line that a walk keeps: it has a meaning, and no fault of form. Contracts see it as the placed line that it was cut of.
+#[derive(Drop)]
+pub struct Kept<'a> {
+    pub(crate) number: u32,
+    pub(crate) text: &'a [u8],
+    pub(crate) head: &'a [u8],
+    pub(crate) cut: Cut<'a>,
+}
+
+impl<'a> Model for Kept<'a> {
+    ghost use Rattle.text_rules.specs.Line.{Placed};
+    ghost use Rattle.pns_text.specs.Cut.{IsKept, line_cut};
+
+    ghost Value = { Placed };
+
+    ghost view = { λ line. line_cut line.number line.text.now line.cut };
+
+    ghost invariant = { λ line. IsKept line.text.now line.head.now line.cut };
+}
+
+impl<'a> Kept<'a> {
+    ghost use Rattle.std.specs.Prelude.{◌≡◌, false, true, IfSome, is_some};
+    ghost use Rattle.problem_rules.specs.Names.{is_name, has_double};
+    ghost use Rattle.text_rules.specs.Field.{items_of};
+    ghost use Rattle.text_lines.specs.View.{texts};
+    ghost use Rattle.text_lines.specs.Terms.{sides_view};
+    ghost use Rattle.pns_text.specs.Value.{pairs_at};
+    ghost use Rattle.text_rules.specs.Line.{head_of};
+    ghost use Rattle.pns_text.specs.Kept.{is_at};
+
+    /// Whether the line stands in the section.
+    pub(crate) fn is_at(&self, section: Section) -> bool
+        ensures { result ≡ is_at section self.now }
+    {
+        self.cut.section() == section
+    }
+
+    /// The number of the line, counted from 1.
+    pub(crate) fn number(&self) -> u32
+        ensures { result ≡ self.now.number }
+    {
+        self.number
+    }
+
+    /// The whole line.
+    pub(crate) fn text(&self) -> &'a [u8]
+        ensures { result.now ≡ self.now.text }
+    {
+        self.text
+    }
+
+    /// The name in front of the colon.
+    pub(crate) fn head(&self) -> &'a [u8]
+        ensures { result.now ≡ head_of self.now.text }
+    {
+        self.head
+    }
+
+    /// The items, where it is a line of materials.
+    pub(crate) fn material_items(&self) -> Option<&[Item<'a>]>
+        ensures some { IfSome result (λ items. items.now ≡ items_of self.now.text) }
+        ensures named { IfSome result (λ _. is_name (head_of self.now.text) ≡ true) }
+        ensures at { is_some result ≡ is_at Section.Materials self.now }
+    {
+        match &self.cut {
+            Cut::Material(items) => Some(items),
+            _ => None,
+        }
+    }
+
+    /// The items, where it is a line of operating units.
+    pub(crate) fn unit_items(&self) -> Option<&[Item<'a>]>
+        ensures some { IfSome result (λ items. items.now ≡ items_of self.now.text) }
+        ensures named { IfSome result (λ _. is_name (head_of self.now.text) ≡ true) }
+        ensures at { is_some result ≡ is_at Section.OperatingUnits self.now }
+    {
+        match &self.cut {
+            Cut::OperatingUnit(items) => Some(items),
+            _ => None,
+        }
+    }
+
+    /// The sides, where it is a line of rates.
+    #[tactic(auto, using(crate::proofs::CutLines::sides_cut))]
+    pub(crate) fn sides(&self) -> Option<&Sides<'a>>
+        ensures some { IfSome result (λ sides. sides_view sides.now ≡ pairs_at self.now.text) }
+        ensures named { IfSome result (λ _. is_name (head_of self.now.text) ≡ true) }
+        ensures at { is_some result ≡ is_at Section.Rates self.now }
+    {
+        match &self.cut {
+            Cut::Flows(sides) => Some(sides),
+            _ => None,
+        }
+    }
+
+    /// The members, each once, where it is an exclusion.
+    pub(crate) fn members(&self) -> Option<&[&'a [u8]]>
+        ensures some { IfSome result (λ members. texts members.now ≡ items_of self.now.text) }
+        ensures once { IfSome result (λ members. has_double (texts members.now) ≡ false) }
+        ensures named { IfSome result (λ _. is_name (head_of self.now.text) ≡ true) }
+        ensures at { is_some result ≡ is_at Section.Exclusions self.now }
+    {
+        match &self.cut {
+            Cut::Exclusion(members) => Some(members),
+            _ => None,
+        }
+    }
+}
