@@ -7,6 +7,7 @@ pub mod MeaningLaw
 pub mod NamesBefore
 pub mod Naming
 pub mod NoFault
+pub mod Places
 pub mod RateKinds
 pub mod RatesKinds
 pub mod ReadLaw

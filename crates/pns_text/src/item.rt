@@ -3,7 +3,7 @@ ghost use Rattle.std.specs.Prelude.{◌≡◌, ◌==◌, IfOk, length, option_ma
 ghost use Rattle.std.specs.List.{list_any};
 ghost use Rattle.problem_rules.specs.Names.{is_among, has_double};
 ghost use Rattle.text_rules.specs.Amount.{amount_of};
-ghost use Rattle.text_rules.specs.Field.{has_key, key_of, is_keyed, kind_words, items_of, material_keys, unit_keys};
+ghost use Rattle.text_rules.specs.Field.{has_key, key_of, value_of, is_keyed, kind_words, items_of, material_keys, unit_keys};
 ghost use Rattle.text_rules.specs.Fault.{millionths, may_be_negative};
 ghost use Rattle.text_rules.specs.Value.{value_at};
 ghost use Rattle.text_lines.specs.View.{texts};
@@ -13,7 +13,8 @@ ghost use Rattle.pns_text.specs.Kept.{item_fields};
 use std::alloc::{AllocError, Global};
 use std::marker::Model;
 use text_lines::amount::read_amount;
-use text_lines::field;
+use text_lines::field::{self, is_kind_word};
+use text_lines::line::{place_of, trim};
 use text_rules::TextKind;
 
 /// An item of a line, cut at its first equals sign, with the number that its value spells. Contracts see its text.
@@ -38,17 +39,41 @@ impl<'a> Model for Item<'a> {
     ghost invariant = { λ item. IsCut item.text.now item.has_key item.is_kind_word item.key.now item.value.now item.amount };
 }
 
+// Whether a text has an equals sign, and what stands before and behind the first.
+#[tactic(auto, using(crate::proofs::Places::has_place, crate::proofs::Places::no_place))]
+fn parted(text: &[u8]) -> (bool, &[u8], &[u8])
+    ensures has { result.0 ≡ has_key text.now }
+    ensures key { result.1.now ≡ key_of text.now }
+    ensures value { result.2.now ≡ value_of text.now }
+{
+    let at = place_of(b'=', text);
+    if at < text.len() {
+        (true, trim(&text[..at]), trim(&text[at + 1..]))
+    } else {
+        (false, trim(&text[..at]), trim(&[]))
+    }
+}
+
+// The value of an item; that of a kind word is the word.
+fn value_or_word<'a>(text: &'a [u8], behind: &'a [u8]) -> &'a [u8]
+    requires { behind.now ≡ value_of text.now }
+    ensures { result.now ≡ field_value text.now }
+{
+    if is_kind_word(text) { text } else { behind }
+}
+
 impl<'a> Item<'a> {
     /// The item of this text.
     pub(crate) fn of(text: &'a [u8]) -> Item<'a>
         ensures { result ≡ text.now }
     {
-        let value = field::field_value(text);
+        let (has_key, key, behind) = parted(text);
+        let value = value_or_word(text, behind);
         Item {
             text,
-            has_key: field::has_key(text),
-            is_kind_word: field::is_kind_word(text),
-            key: field::key_of(text),
+            has_key,
+            is_kind_word: is_kind_word(text),
+            key,
             value,
             amount: read_amount(value),
         }
