@@ -2,6 +2,7 @@ pub mod Counts
 pub mod CutLines
 pub mod Finding
 pub mod FormKinds
+pub mod ItemLines
 pub mod KeptLines
 pub mod MeaningLaw
 pub mod NamesBefore

@@ -1,12 +1,11 @@
 //! The items of a line, each cut once, and what stands at them.
-ghost use Rattle.std.specs.Prelude.{◌≡◌, ◌==◌, IfOk, length, option_map};
+ghost use Rattle.std.specs.Prelude.{◌≡◌, ◌==◌, ◌<◌, ◌+◌, IfOk, drop, length, option_map};
 ghost use Rattle.std.specs.List.{list_any};
 ghost use Rattle.problem_rules.specs.Names.{is_among, has_double};
 ghost use Rattle.text_rules.specs.Amount.{amount_of};
 ghost use Rattle.text_rules.specs.Field.{has_key, key_of, value_of, is_keyed, kind_words, items_of, material_keys, unit_keys};
 ghost use Rattle.text_rules.specs.Fault.{millionths, may_be_negative};
 ghost use Rattle.text_rules.specs.Value.{value_at};
-ghost use Rattle.text_lines.specs.View.{texts};
 ghost use Rattle.pns_text.specs.Item.{field_key, field_value, has_number, number_stands, value_stands, item_stands, has_unknown_key, keys_in};
 ghost use Rattle.pns_text.specs.Kept.{item_fields};
 
@@ -14,7 +13,7 @@ use std::alloc::{AllocError, Global};
 use std::marker::Model;
 use text_lines::amount::read_amount;
 use text_lines::field::{self, is_kind_word};
-use text_lines::line::{place_of, trim};
+use text_lines::line::{has_colon, place_of, tail_of, trim};
 use text_rules::TextKind;
 
 /// An item of a line, cut at its first equals sign, with the number that its value spells. Contracts see its text.
@@ -188,23 +187,32 @@ impl<'a> Item<'a> {
     }
 }
 
-// The items of these texts.
-fn cut<'a>(alloc: Global, parts: &[&'a [u8]]) -> Result<Vec<Item<'a>>, AllocError>
-    ensures { IfOk result (λ items. items.items ≡ texts parts.now) }
+// What stands behind the byte at this place.
+fn behind(text: &[u8], at: usize) -> &[u8]
+    requires { at < length text.now }
+    ensures { result.now ≡ drop (at + 1) text.now }
 {
-    let mut items = Vec::new(alloc);
-    for part in parts {
-        items.push(Item::of(*part))?;
-    }
-    Ok(items)
+    &text[at + 1..]
 }
 
-/// What stands between the commas behind the colon; none where there is no colon.
+/// What stands between the commas behind the colon; none where there is no colon. The line is cut in one pass.
+#[tactic(auto, using(crate::proofs::ItemLines::items_more, crate::proofs::ItemLines::items_last))]
 pub(crate) fn items_of<'a>(alloc: Global, text: &'a [u8]) -> Result<Vec<Item<'a>>, AllocError>
     ensures { IfOk result (λ items. items.items ≡ items_of text.now) }
 {
-    let parts = field::items_of(alloc, text)?;
-    cut(alloc, &parts)
+    let mut items = Vec::new(alloc);
+    if !has_colon(text) {
+        return Ok(items);
+    }
+    let mut rest = tail_of(text);
+    loop {
+        let at = place_of(b',', rest);
+        items.push(Item::of(trim(&rest[..at])))?;
+        if at >= rest.len() {
+            return Ok(items);
+        }
+        rest = behind(rest, at);
+    }
 }
 
 /// The first item of this key.
