@@ -1,23 +1,20 @@
 -- Divisors of a problem's numbers, from the node where all units are taken in and the one where all are free.
-use Rattle.std.proofs.Common.{◌≡◌, ℕ, ◌<◌, Bool, true, false, not, ◌||◌, ◌&&◌, cond, List, [], ◌∷◌, length, get_or, refl, sym, ap, ◌∙◌, subst, arith, pos, ℤ, neg_ℤ, ◌+ℤ◌, ◌*ℤ◌, ◌≤ℤ◌, ◌<ℤ◌}
+use Rattle.std.proofs.Common.{◌≡◌, ℕ, ◌<◌, Bool, true, false, not, ◌||◌, ◌&&◌, cond, List, [], ◌∷◌, length, refl, sym, ap, ◌∙◌, subst, arith, pos, ℤ, neg_ℤ, ◌+ℤ◌, ◌*ℤ◌, ◌≤ℤ◌, ◌<ℤ◌}
 use Rattle.std.specs.Prelude.{int_div, unsigned_abs}
 use Rattle.std.specs.Int.{◌∣◌}
 use Rattle.std.specs.List.{AllByRecursion}
 use Rattle.std.proofs.lemmas.Int.{ints}
-use Rattle.std.proofs.lemmas.Nat.Gcd.{dvd_trans}
 use Rattle.integer_laws.specs.Total.{total}
-use Rattle.integer_laws.proofs.Ring.{mul_comm_z, mul_assoc_z, mul-add_z, mul-zero_z, V, ◌⊗◌, Neg, ring}
+use Rattle.integer_laws.proofs.Ring.{mul_comm_z, mul_assoc_z, mul-add_z, mul-zero_z}
 use Rattle.integer_laws.proofs.LowestTerms.{part_divides}
-use Rattle.integer_laws.proofs.Totals.{total-mul}
 use Rattle.int_rows.proofs.Division.{quotient_exact}
 use Rattle.number_sets.specs.Sets.{any_below}
 use Rattle.number_sets.proofs.SetLemmas.{any_below-some, any_below-from}
 use Rattle.pns_rules.specs.Shape.{Shape}
 use Rattle.pns_rules.specs.Structure.{mats, is_used, is_made}
 use Rattle.pns_rules.specs.Nodes.{Node}
-use Rattle.flow_rules.specs.Net.{Net, million, trillion, size_cost, units_of}
-use Rattle.flow_rules.specs.Relaxed.{stays, row_low, row_high, unit_low, unit_cost, fixed_cost, slope}
-use Rattle.flow_rules.proofs.ListedLemmas.{All-listed}
+use Rattle.flow_rules.specs.Net.{Net, million, size_cost}
+use Rattle.flow_rules.specs.Relaxed.{stays, row_low, row_high, unit_low, unit_cost, slope}
 use Rattle.scaled_flows.specs.Divisors.{Divisors, Divides, rate_divisor, AreDivisors}
 use Rattle.scaled_flows.proofs.SettledLemmas.{product_positive}
 

@@ -1,21 +1,18 @@
 -- Scaled sizes as relaxed flows, their cost, and that settled ones cost the least.
-use Rattle.std.proofs.Common.{◌≡◌, ℕ, ◌<◌, true, refl, sym, ap, ◌∙◌, subst, arith, pos, ℤ, ◌+ℤ◌, ◌-ℤ◌, ◌*ℤ◌, ◌≤ℤ◌, ◌<ℤ◌}
-use Rattle.std.specs.List.{AllByRecursion}
+use Rattle.std.proofs.Common.{◌≡◌, ℕ, ◌<◌, sym, ap, ◌∙◌, subst, arith, pos, ℤ, ◌+ℤ◌, ◌*ℤ◌, ◌≤ℤ◌, ◌<ℤ◌}
 use Rattle.std.proofs.lemmas.Int.{ints}
 use Rattle.integer_laws.specs.Total.{total}
-use Rattle.integer_laws.proofs.Ring.{ring_z, V, ◌⊗◌, ◌⊕◌, ring, mul_assoc_z, mul_comm_z}
+use Rattle.integer_laws.proofs.Ring.{V, ◌⊗◌, ◌⊕◌, ring, mul_assoc_z, mul_comm_z}
 use Rattle.integer_laws.proofs.Order.{mul-le_left, cancel_le}
 use Rattle.integer_laws.proofs.Totals.{total-agree, total-mul}
 use Rattle.pns_rules.specs.Structure.{mats}
 use Rattle.pns_rules.specs.Nodes.{Node}
-use Rattle.tree_rules.specs.Lean.{HasCheaper}
 use Rattle.flow_rules.specs.Net.{Net, net_of}
 use Rattle.flow_rules.specs.Relaxed.{stays, units, rows, row_low, row_high, unit_low, unit_cost, fixed_cost, row_balance, IsRelaxed, relaxed_cost}
 use Rattle.flow_rules.proofs.ListedLemmas.{All-listed}
 use Rattle.scaled_flows.specs.Divisors.{Divisors, rate_divisor, AreDivisors}
 use Rattle.scaled_flows.specs.Scaled.{scaled_rate, size_floor, size_ceiling, row_floor, row_ceiling, scaled_cost, scaled_balance, price, size_costs, value_over}
-use Rattle.scaled_flows.specs.Settled.{IsSettled, AreSettled}
-use Rattle.scaled_flows.specs.LeastCost.{IsLeastCost}
+use Rattle.scaled_flows.specs.Settled.{AreSettled}
 use Rattle.scaled_flows.specs.Laws.{SettledAreRelaxed, CostIsCounted, SettledAreOptimal}
 use Rattle.scaled_flows.proofs.SignLemmas.{settled_least, optimal_by_signs}
 

@@ -1,6 +1,6 @@
 -- Sums over the units of a row and over the materials of a unit are those over the whole program, and the check as a whole.
-use Rattle.std.proofs.Common.{◌≡◌, ℕ, ◌<◌, Bool, true, false, not, ◌&&◌, cond, List, length, Option, Some, None, refl, sym, ap, ◌∙◌, subst, arith, pos, ℤ, ◌+ℤ◌, ◌-ℤ◌, ◌*ℤ◌, ◌≤ℤ◌, ◌<ℤ◌}
-use Rattle.std.specs.Prelude.{int_div, nat_lt, IfSome, SomeIff}
+use Rattle.std.proofs.Common.{◌≡◌, ℕ, ◌<◌, Bool, true, false, not, ◌&&◌, cond, List, length, Option, Some, None, refl, sym, ap, ◌∙◌, subst, arith, pos, ℤ, ◌+ℤ◌, ◌-ℤ◌, ◌*ℤ◌, ◌≤ℤ◌}
+use Rattle.std.specs.Prelude.{int_div, IfSome, SomeIff}
 use Rattle.std.specs.Ordering.{int_eq}
 use Rattle.std.proofs.lemmas.Int.{ints}
 use Rattle.std.proofs.lemmas.Bool.{lt-ltb}
@@ -10,7 +10,7 @@ use Rattle.integer_laws.proofs.Ring.{mul_comm_z, mul-zero_z}
 use Rattle.integer_laws.proofs.Totals.{total-agree}
 use Rattle.number_sets.specs.Sets.{has, listed, IsSet}
 use Rattle.number_sets.proofs.SetLemmas.{has-listed}
-use Rattle.problem_rules.specs.Problem.{Problem, rate_of}
+use Rattle.problem_rules.specs.Problem.{Problem}
 use Rattle.problem_rules.specs.WellFormed.{IsWellFormed}
 use Rattle.pns_rules.specs.Structure.{mats}
 use Rattle.pns_rules.specs.Nodes.{Node}
@@ -26,7 +26,7 @@ use Rattle.flow_program.specs.Rates.{AreRates}
 use Rattle.flow_program.proofs.BoundSumLemmas.{materials_are_rows}
 use Rattle.scaled_flows.specs.Divisors.{Divisors, Divides, rate_divisor, AreDivisors, HasDivisors}
 use Rattle.scaled_flows.specs.Scaled.{scaled_rate, size_floor, size_ceiling, row_floor, row_ceiling, scaled_balance, price, size_costs, value_over}
-use Rattle.scaled_flows.specs.Settled.{IsSettled, AreSettled}
+use Rattle.scaled_flows.specs.Settled.{IsSettled}
 use Rattle.scaled_flows.specs.LeastCost.{IsLeastCost}
 use Rattle.scaled_flows.proofs.OptimalLemmas.{settled_are_optimal}
 

@@ -1,8 +1,8 @@
 -- When a number over d is settled, and ranges divided.
-use Rattle.std.proofs.Common.{◌≡◌, ◌↔◌, refl, sym, ap, ◌∙◌, subst, arith, pos, ℤ, ◌*ℤ◌, ◌≤ℤ◌, ◌<ℤ◌}
+use Rattle.std.proofs.Common.{◌≡◌, ◌↔◌, sym, subst, arith, pos, ℤ, ◌*ℤ◌, ◌≤ℤ◌, ◌<ℤ◌}
 use Rattle.std.specs.Prelude.{int_div}
 use Rattle.std.proofs.lemmas.Int.{ints}
-use Rattle.integer_laws.proofs.Order.{mul-le_right, mul-le_left, cancel_le}
+use Rattle.integer_laws.proofs.Order.{mul-le_right, cancel_le}
 use Rattle.scaled_flows.specs.Divisors.{Divides}
 use Rattle.scaled_flows.specs.Settled.{IsSettled}
 

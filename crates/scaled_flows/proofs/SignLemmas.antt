@@ -1,9 +1,9 @@
 -- Optimality by the signs of prices, over any lists of columns and rows.
-use Rattle.std.proofs.Common.{◌≡◌, inl, inr, sym, ap, ◌∙◌, arith, pos, ℤ, ◌+ℤ◌, ◌-ℤ◌, ◌*ℤ◌, ◌≤ℤ◌, ◌<ℤ◌, List}
+use Rattle.std.proofs.Common.{◌≡◌, inl, inr, ap, ◌∙◌, arith, pos, ℤ, ◌+ℤ◌, ◌-ℤ◌, ◌*ℤ◌, ◌≤ℤ◌, ◌<ℤ◌, List}
 use Rattle.std.specs.List.{AllByRecursion}
-use Rattle.std.proofs.lemmas.Int.{ints, by_lt_z}
+use Rattle.std.proofs.lemmas.Int.{ints}
 use Rattle.integer_laws.specs.Total.{total}
-use Rattle.integer_laws.proofs.Ring.{ring_z, V, ◌⊗◌, ◌⊕◌, ring, mul_comm_z, mul-zero_z}
+use Rattle.integer_laws.proofs.Ring.{ring_z, V, ◌⊗◌, ring, mul_comm_z, mul-zero_z}
 use Rattle.integer_laws.proofs.Order.{sign_cases, zero_cases, mul_nonneg, mul-le_left, mul-le_left_neg, cancel_le}
 use Rattle.integer_laws.proofs.Totals.{total-le, total-mul}
 use Rattle.integer_laws.proofs.Duality.{reduced_costs}

@@ -1,10 +1,10 @@
 -- Walks over a set that add up, and what has been found of the numbers that were passed.
-use Rattle.std.proofs.Common.{◌≡◌, ℕ, Bool, true, false, List, [], ◌∷◌, refl, sym, ap, ◌∙◌, subst, arith, pos, ℤ, ◌+ℤ◌, ◌-ℤ◌, ◌*ℤ◌}
+use Rattle.std.proofs.Common.{◌≡◌, ℕ, Bool, true, false, List, [], refl, sym, ap, ◌∙◌, arith, pos, ℤ, ◌+ℤ◌, ◌-ℤ◌}
 use Rattle.std.proofs.lemmas.Int.{ints}
 use Rattle.int_rows.specs.Range.{InRange}
 use Rattle.integer_laws.specs.Total.{total}
 use Rattle.number_sets.specs.Sets.{has, IsWithin}
-use Rattle.flow_program.proofs.WalkLemmas.{IsNext, rest_within, passed, has_next}
+use Rattle.flow_program.proofs.WalkLemmas.{IsNext, rest_within, passed}
 
 -- what `left` adds is still to be added to the sum
 pub record IsSumSoFar (f : ℕ → ℤ) (whole : List ℕ) (sum : ℤ) (left : List ℕ) : Type 0 where

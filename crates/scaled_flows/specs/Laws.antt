@@ -1,5 +1,5 @@
 -- Laws of scaled flows. Each speaks of every problem and every node, and of any divisors of the problem's numbers.
-use Rattle.std.specs.Prelude.{◌≡◌, ℕ, ℤ, pos, ◌*ℤ◌, ◌≤ℤ◌}
+use Rattle.std.specs.Prelude.{◌≡◌, ℕ, ℤ, ◌*ℤ◌}
 use Rattle.problem_rules.specs.Problem.{Problem}
 use Rattle.pns_rules.specs.Nodes.{Node}
 use Rattle.flow_rules.specs.Net.{net_of}

@@ -168,17 +168,12 @@ pub(crate) fn with_rows(
     ensures rows { (j : ℕ) → has rows j ≡ true → DividesRow (net_of problem.now) (node_of taken.now) rates.now result j }
 {
     let mut all = common;
-    let mut left = rows;
-    'rows: loop {
-        left.rises();
-        let Some(j) = left.least() else {
-            return all;
-        };
+    for j in rows {
         let range = row_range(problem, taken, needed, j);
         let divisor = rates[j as usize] as i128;
         all = with_both(all, scaled(range.low, divisor), scaled(range.high, divisor));
-        left = left.without(j);
     }
+    all
 }
 
 /// The divisor of costs, or 1 where it and that of sizes make a product out of range.

@@ -34,19 +34,13 @@ fn balance_of(
     requires positive { pos 1 ≤ℤ divisor }
     ensures { IfSome result (λ b. b ≡ total (λ i. int_div (rate_of problem.now j i) divisor *ℤ entry size_at.now i) units) }
 {
-    units.rises();
     let mut sum = 0;
-    let mut left = units;
-    'units: loop {
-        left.rises();
-        let Some(u) = left.least() else {
-            return Some(sum);
-        };
+    for u in units {
         let rate = scaled_rate(rate_at(problem, j, u), divisor);
         let moved = checked_product(rate, size_at[u as usize])?;
         sum = checked_sum(sum, moved)?;
-        left = left.without(u);
     }
+    Some(sum)
 }
 
 /// The divisor of the ends of a row.
@@ -94,14 +88,7 @@ pub(crate) fn are_rows_settled(
     ensures { IsTrue result → (j : ℕ) → has sets.now.rows j ≡ true → IsSettled (row_floor (net_of problem.now) scales.now (node_of node.now) j) (row_ceiling (net_of problem.now) scales.now (node_of node.now) j) d (scaled_balance (net_of problem.now) scales.now (node_of node.now) (entry size_at.now) j) (entry y_at.now j) }
 {
     problem.is_valid();
-    sets.units.rises();
-    sets.rows.rises();
-    let mut left = sets.rows;
-    'rows: loop {
-        left.rises();
-        let Some(j) = left.least() else {
-            return true;
-        };
+    for j in sets.rows {
         let divisor = scales.rate(j);
         let range = row_range(problem, node, sets.needed, j);
         let range = scaled_range(range, row_divisor(divisor, scales.sizes()));
@@ -113,6 +100,6 @@ pub(crate) fn are_rows_settled(
         if !is_settled(balance, d, range, y_at[j as usize]) {
             return false;
         }
-        left = left.without(j);
     }
+    true
 }

@@ -34,19 +34,13 @@ fn price_of(
     requires all_ys { length y_at.now ≡ 256 }
     ensures { IfSome result (λ e. e ≡ cost -ℤ total (λ j. entry y_at.now j *ℤ int_div (entry rates.now j) (rate_divisor scales.now j)) materials) }
 {
-    materials.rises();
     let mut rest = cost;
-    let mut left = materials;
-    'materials: loop {
-        left.rises();
-        let Some(j) = left.least() else {
-            return Some(rest);
-        };
+    for j in materials {
         let rate = scaled_rate(rates[j as usize], scales.rate(j));
         let paid = checked_product(y_at[j as usize], rate)?;
         rest = checked_difference(rest, paid)?;
-        left = left.without(j);
     }
+    Some(rest)
 }
 
 /// The numbers of a unit, scaled.
@@ -123,16 +117,10 @@ pub(crate) fn settled_costs(
     ensures in_range { IfSome result (λ c. InRange c) }
 {
     problem.is_valid();
-    set.rises();
     let (sizes, costs) = (scales.sizes(), scales.costs());
     let mut rates = [0; 256];
     let mut sum = 0;
-    let mut left = set;
-    'units: loop {
-        left.rises();
-        let Some(u) = left.least() else {
-            return Some(sum);
-        };
+    for u in set {
         let materials = put_rates(&mut rates, problem, graph, u);
         materials.rises();
         let unit = scaled_unit(
@@ -143,6 +131,6 @@ pub(crate) fn settled_costs(
         let size = size_at[u as usize];
         let cost = settled_cost(unit, size, d, scale, scales, materials, &rates, y_at)?;
         sum = checked_sum(sum, cost)?;
-        left = left.without(u);
     }
+    Some(sum)
 }

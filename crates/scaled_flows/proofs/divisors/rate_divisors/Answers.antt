@@ -1,4 +1,4 @@
-use Rattle.std.proofs.Common.{◌≡◌, ℕ, ◌++◌, ◌∷◌, [], List, ℤ, sym, subst, rules, SFits, ◌+◌}
+use Rattle.std.proofs.Common.{List, ℤ, sym, subst, rules, SFits, ◌+◌}
 use Rattle.std.specs.Int.{w64}
 use Rattle.std.proofs.lemmas.Int.{to_z-of_z}
 use Rattle.pgraph.specs.View.{node_of}

@@ -1,6 +1,3 @@
-use Rattle.std.proofs.Common.{rules, SFits}
-use Rattle.std.specs.Int.{w128}
-use Rattle.std.proofs.lemmas.Int.{to_z-of_z}
 use Rattle.pgraph.specs.View.{node_of}
 use Rattle.flow_rules.specs.Net.{net_of}
 use Rattle.scaled_flows.proofs.FoundLemmas.{units_begin, units_more}

@@ -1,11 +1,11 @@
-use Rattle.std.proofs.Common.{length}
+use Rattle.number_sets.specs.Sets.{IsSet}
 use Rattle.pgraph.specs.View.{node_of}
 use Rattle.flow_rules.specs.Net.{net_of}
 use Rattle.scaled_flows.proofs.FoundLemmas.{IsRowsDivisor}
 use Rattle.scaled_flows.proofs.divisors.with_rows.Given as goal
 
-abbrev pub invariant-rows : goal.invariant-rows
-invariant-rows l = IsRowsDivisor (net_of l.fn.problem) (node_of l.fn.taken) l.fn.rates l.fn.rows l.fn.common l.all l.left
-
-abbrev pub decreases-rows : goal.decreases-rows
-decreases-rows l = length l.left
+abbrev pub invariant-loop-j : goal.invariant-loop-j
+invariant-loop-j l = record {
+  is_set : IsSet 256 l.j-iterator;
+  so_far : IsRowsDivisor (net_of l.fn.problem) (node_of l.fn.taken) l.fn.rates l.fn.rows l.fn.common l.all l.j-iterator;
+}

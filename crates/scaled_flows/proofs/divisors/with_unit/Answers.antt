@@ -1,11 +1,7 @@
-use Rattle.std.proofs.Common.{◌≡◌, ◌<◌, ◌≤◌, List, ℕ, ℤ, ◌∙◌, ap, subst, rules, SFits, arith, length, ◌+ℤ◌, ◌*ℤ◌, pos}
+use Rattle.std.proofs.Common.{ℤ, subst, rules, SFits}
 use Rattle.std.specs.Prelude.{unsigned_abs}
 use Rattle.std.specs.Int.{w128, ◌∣◌}
 use Rattle.std.proofs.lemmas.Int.{to_z-of_z}
-use Rattle.pns_rules.specs.Shape.{Shape, shape_of}
-use Rattle.pgraph.specs.Tables.{shape}
-use Rattle.pgraph.specs.View.{node_of}
-use Rattle.flow_rules.specs.Net.{net_of, trillion}
 use Rattle.scaled_flows.proofs.divisors.with_unit.Goals as goal
 
 pub returns-clause-sizes : goal.returns-clause-sizes

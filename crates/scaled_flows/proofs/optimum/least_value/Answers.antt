@@ -1,12 +1,10 @@
-use Rattle.std.proofs.Common.{◌≡◌, ◌∙◌, ◌<◌, ℕ, List, true, length, sym, ap, subst, rules, SFits, arith, pos, ℤ, ◌*ℤ◌, ◌≤ℤ◌}
-use Rattle.std.specs.Prelude.{int_div}
+use Rattle.std.proofs.Common.{◌≡◌, ◌∙◌, ◌<◌, ℕ, List, true, length, sym, ap, subst, rules, SFits, arith, pos, ◌*ℤ◌, ◌≤ℤ◌}
 use Rattle.std.specs.Int.{w128}
 use Rattle.std.proofs.lemmas.Int.{to_z-of_z, ints}
 use Rattle.integer_laws.specs.Total.{total}
 use Rattle.number_sets.specs.Sets.{has, listed}
-use Rattle.pns_rules.specs.Shape.{Shape, shape_of}
+use Rattle.pns_rules.specs.Shape.{Shape}
 use Rattle.pns_rules.specs.Structure.{mats}
-use Rattle.pgraph.specs.Tables.{shape}
 use Rattle.pgraph.specs.View.{node_of}
 use Rattle.flow_rules.specs.Net.{net_of, trillion}
 use Rattle.flow_rules.specs.Relaxed.{stays, units, rows, fixed_cost}

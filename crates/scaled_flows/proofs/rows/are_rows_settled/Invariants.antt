@@ -1,4 +1,4 @@
-use Rattle.std.proofs.Common.{length}
+use Rattle.number_sets.specs.Sets.{IsSet}
 use Rattle.pgraph.specs.View.{node_of}
 use Rattle.flow_rules.specs.Net.{net_of}
 use Rattle.flow_program.specs.Entry.{entry}
@@ -7,10 +7,9 @@ use Rattle.scaled_flows.specs.Settled.{IsSettled}
 use Rattle.scaled_flows.proofs.SumLemmas.{IsKnownSoFar}
 use Rattle.scaled_flows.proofs.rows.are_rows_settled.Given as goal
 
-abbrev pub invariant-rows : goal.invariant-rows
-invariant-rows l =
-    IsKnownSoFar (λ j. IsSettled (row_floor (net_of l.fn.problem) l.fn.scales (node_of l.fn.node) j) (row_ceiling (net_of l.fn.problem) l.fn.scales (node_of l.fn.node) j) l.fn.d
-    (scaled_balance (net_of l.fn.problem) l.fn.scales (node_of l.fn.node) (entry l.fn.size_at) j) (entry l.fn.y_at j)) l.fn.sets.rows l.left
-
-abbrev pub decreases-rows : goal.decreases-rows
-decreases-rows l = length l.left
+abbrev pub invariant-loop-j : goal.invariant-loop-j
+invariant-loop-j l = record {
+  is_set : IsSet 256 l.j-iterator;
+  so_far : IsKnownSoFar (λ j. IsSettled (row_floor (net_of l.fn.problem) l.fn.scales (node_of l.fn.node) j) (row_ceiling (net_of l.fn.problem) l.fn.scales (node_of l.fn.node) j) l.fn.d
+      (scaled_balance (net_of l.fn.problem) l.fn.scales (node_of l.fn.node) (entry l.fn.size_at) j) (entry l.fn.y_at j)) l.fn.sets.rows l.j-iterator;
+}

@@ -1,11 +1,10 @@
-use Rattle.std.proofs.Common.{◌≡◌, ◌∙◌, refl, sym, ap, SFits, rules, true, ℤ, ◌-ℤ◌, ◌*ℤ◌}
+use Rattle.std.proofs.Common.{◌≡◌, ◌∙◌, refl, ap, SFits, rules, true, ℤ, ◌-ℤ◌, ◌*ℤ◌}
 use Rattle.std.specs.Prelude.{int_div}
 use Rattle.std.specs.Int.{w128}
 use Rattle.std.proofs.lemmas.Int.{to_z-of_z}
 use Rattle.integer_laws.specs.Total.{total}
 use Rattle.flow_program.specs.Entry.{entry}
 use Rattle.scaled_flows.specs.Divisors.{rate_divisor}
-use Rattle.scaled_flows.specs.Settled.{IsSettled}
 use Rattle.scaled_flows.proofs.ProgramLemmas.{some_of, settled_same}
 use Rattle.scaled_flows.proofs.units.settled_cost.Goals as goal
 

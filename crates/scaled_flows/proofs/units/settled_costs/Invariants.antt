@@ -1,4 +1,5 @@
-use Rattle.std.proofs.Common.{length, ◌*ℤ◌}
+use Rattle.number_sets.specs.Sets.{IsSet}
+use Rattle.std.proofs.Common.{◌*ℤ◌}
 use Rattle.pgraph.specs.View.{node_of}
 use Rattle.flow_rules.specs.Net.{net_of}
 use Rattle.flow_program.specs.Entry.{entry}
@@ -7,11 +8,10 @@ use Rattle.scaled_flows.specs.Settled.{IsSettled}
 use Rattle.scaled_flows.proofs.SumLemmas.{IsCostSoFar}
 use Rattle.scaled_flows.proofs.units.settled_costs.Given as goal
 
-abbrev pub invariant-units : goal.invariant-units
-invariant-units l =
-    IsCostSoFar (λ i. IsSettled (size_floor (net_of l.fn.problem) l.fn.scales (node_of l.fn.node) i) (size_ceiling (net_of l.fn.problem) l.fn.scales i) l.fn.d
-    (entry l.fn.size_at i) (price (net_of l.fn.problem) l.fn.scales (node_of l.fn.node) l.fn.scale (entry l.fn.y_at) i))
-    (λ i. scaled_cost (net_of l.fn.problem) l.fn.scales (node_of l.fn.node) i *ℤ entry l.fn.size_at i) l.fn.set l.sum l.left
-
-abbrev pub decreases-units : goal.decreases-units
-decreases-units l = length l.left
+abbrev pub invariant-loop-u : goal.invariant-loop-u
+invariant-loop-u l = record {
+  is_set : IsSet 128 l.u-iterator;
+  so_far : IsCostSoFar (λ i. IsSettled (size_floor (net_of l.fn.problem) l.fn.scales (node_of l.fn.node) i) (size_ceiling (net_of l.fn.problem) l.fn.scales i) l.fn.d
+      (entry l.fn.size_at i) (price (net_of l.fn.problem) l.fn.scales (node_of l.fn.node) l.fn.scale (entry l.fn.y_at) i))
+      (λ i. scaled_cost (net_of l.fn.problem) l.fn.scales (node_of l.fn.node) i *ℤ entry l.fn.size_at i) l.fn.set l.sum l.u-iterator;
+}

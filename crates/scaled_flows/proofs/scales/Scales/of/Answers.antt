@@ -1,5 +1,5 @@
-use Rattle.std.proofs.Common.{◌≡◌, ◌∙◌, ◌<◌, ℕ, List, Bool, true, false, length, sym, ap, subst, rules, SFits, get_or, ◌||◌, ◌&&◌, arith, pos, ℤ, ◌*ℤ◌}
-use Rattle.std.specs.Prelude.{nat_lt, unsigned_abs, int_div}
+use Rattle.std.proofs.Common.{◌≡◌, ◌∙◌, ◌<◌, ℕ, List, true, false, length, ap, subst, rules, SFits, get_or, ◌&&◌, pos, ℤ}
+use Rattle.std.specs.Prelude.{nat_lt, int_div}
 use Rattle.std.specs.Int.{w64, w128}
 use Rattle.std.proofs.lemmas.Int.{to_z-of_z}
 use Rattle.std.proofs.lemmas.Bool.{lt-ltb}
@@ -9,11 +9,10 @@ use Rattle.pns_rules.specs.Shape.{Shape, shape_of}
 use Rattle.pns_rules.specs.Structure.{mats}
 use Rattle.pns_rules.specs.Nodes as rules_of
 use Rattle.pgraph.specs.Tables.{shape}
-use Rattle.flow_rules.specs.Net.{net_of, trillion}
+use Rattle.flow_rules.specs.Net.{net_of}
 use Rattle.flow_rules.specs.Relaxed.{stays, row_low, row_high, unit_low, unit_cost}
 use Rattle.flow_program.specs.NodeSets.{AreNeeded}
 use Rattle.flow_program.proofs.NodeSetLemmas.{listed_had}
-use Rattle.scaled_flows.specs.Divisors.{Divisors}
 use Rattle.scaled_flows.specs.Found.{DividesRow}
 use Rattle.scaled_flows.proofs.FoundLemmas.{through}
 use Rattle.scaled_flows.proofs.DivisorLemmas.{divisors_from}
