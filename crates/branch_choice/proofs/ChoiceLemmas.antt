@@ -1,12 +1,13 @@
 -- Free makers of needed materials, and what is left of them.
-use Rattle.std.proofs.Common.{◌≡◌, ℕ, nat_lt, ◌==◌, Bool, true, ◌&&◌, List, [], ◌∷◌, refl, sym, ap, ◌∙◌, eq-eqb, ltb-true, lt-ltb}
-use Rattle.std.proofs.lemmas.Bool.{or_left, and_parts, and_from, both_ways}
-use Rattle.number_sets.specs.Sets.{has, kept, IsWithin}
-use Rattle.number_sets.proofs.SetLemmas.{has-listed, has-kept}
-use Rattle.pns_rules.specs.Shape.{Shape}
-use Rattle.pns_rules.specs.Structure.{is_needed}
+use Rattle.std.proofs.Common.{◌≡◌, ℕ, ◌<◌, nat_lt, ◌==◌, Bool, true, not, ◌&&◌, List, [], ◌∷◌, refl, sym, ap, ◌∙◌, inl, inr, eq-eqb, ltb-true, lt-ltb}
+use Rattle.std.proofs.lemmas.Bool.{or_left, or_right, or_cases, and_parts, and_from, both_ways}
+use Rattle.number_sets.specs.Sets.{has, IsWithin}
+use Rattle.number_sets.proofs.SetLemmas.{has-listed}
+use Rattle.pns_rules.specs.Shape.{Shape, IsProper}
+use Rattle.pns_rules.specs.Structure.{is_needed, is_used}
 use Rattle.pns_rules.specs.Nodes.{Node, is_free, free_makers}
 use Rattle.pns_rules.specs.Ends.{IsUndecided}
+use Rattle.pns_rules.proofs.StructureLemmas.{is_used-some}
 use Rattle.branch_choice.specs.Choices.{IsDecisive}
 
 pub decisive_from : (g : Shape) (n : Node) (x u : ℕ) → is_needed g n.inside x ≡ true → has (free_makers g n x) u ≡ true → IsDecisive g n u
@@ -15,9 +16,19 @@ decisive_from g n x u needed h =
     let q = and_parts (is_free g n u) (g.makes u x) p.1 in
     record { material = x; needed = needed; known = ltb-true u g.units p.0; makes = q.1; free = q.0 }
 
--- what is kept is there
-pub kept_within : (t : ℕ → Bool) (xs : List ℕ) → IsWithin (has (kept t xs)) (has xs)
-kept_within t xs u h = (and_parts (has xs u) (t u) (sym (has-kept t xs u) ∙ h)).0
+-- the first number of a list and those behind it are in what the list is within
+pub within_first : (s : ℕ → Bool) (xs : List ℕ) (x : ℕ) (rest : List ℕ) → IsWithin (has xs) s → xs ≡ x ∷ rest → s x ≡ true
+within_first s xs x rest h e = h x (ap (λ ys. has ys x) e ∙ or_left (x == x) (has rest x) (eq-eqb x x refl))
+
+pub within_rest : (s : ℕ → Bool) (xs : List ℕ) (x : ℕ) (rest : List ℕ) → IsWithin (has xs) s → xs ≡ x ∷ rest → IsWithin (has rest) s
+within_rest s xs x rest h e u r = h u (ap (λ ys. has ys u) e ∙ or_right (x == u) (has rest u) r)
+
+-- a needed material is one of the graph's
+pub needed_known : (g : Shape) (o : ℕ → Bool) (x : ℕ) → IsProper g → is_needed g o x ≡ true → x < g.materials
+needed_known g o x proper e = elim (or_cases (g.product x) (not (g.raw x) && is_used g o x) e) [
+  | inl p ↦ proper.product_known x p
+  | inr q ↦ let k = is_used-some g o x (and_parts (not (g.raw x)) (is_used g o x) q).1 in proper.input_known k.0 x k.3
+]
 
 module _ (g : Shape) (n : Node) (x : ℕ) where
   -- a material without a free maker is not to decide

@@ -53,16 +53,11 @@ fn look_at(graph: &Graph, node: &Node, dues: &Dues, best: Candidate, x: u32) -> 
     let (base, free) = graph.options(*node, x);
     let owed = if base.is_empty() { dues.owed(free) } else { 0 };
     let mut best = best;
-    let mut left = free;
-    'makers: loop {
-        left.rises();
-        let Some(unit) = left.least() else {
-            return best;
-        };
+    for unit in free {
         let score = dues.score(unit, owed);
         best = better(best, Candidate { unit, score });
-        left = left.without(unit);
     }
+    best
 }
 
 /// The free maker of a needed material that has the greatest score, the least number of them. `first` has such a maker.
@@ -76,10 +71,8 @@ pub(crate) fn best_unit(graph: &Graph, node: &Node, needed: MatSet, dues: &Dues,
         unit: some_maker(graph, node, first),
         score: i128::MIN,
     };
-    for x in 0..graph.material_count() {
-        if needed.has(x) {
-            best = look_at(graph, node, dues, best, x);
-        }
+    for x in needed {
+        best = look_at(graph, node, dues, best, x);
     }
     best.unit
 }

@@ -53,8 +53,8 @@ fn least_with_three(graph: &Graph, node: &Node, needed: MatSet) -> Option<u32>
     ensures three { IfSome result (λ x. length (options (shape graph.now) (node_of node.now) x) ≡ 3) }
 {
     graph.is_proper();
-    for x in 0..graph.material_count() {
-        if needed.has(x) && has_three_options(graph, node, x) {
+    for x in needed {
+        if has_three_options(graph, node, x) {
             return Some(x);
         }
     }

@@ -128,14 +128,8 @@ impl Dues {
 
     /// Lets the units owe what their maker does.
     fn pass(&mut self, maker: Due, set: UnitSet) {
-        let mut left = set;
-        'users: loop {
-            left.rises();
-            let Some(u) = left.least() else {
-                return;
-            };
+        for u in set {
             self.dues[u as usize] = passed(self.dues[u as usize], maker);
-            left = left.without(u);
         }
     }
 
@@ -157,14 +151,8 @@ impl Dues {
     /// to have one of them.
     pub(crate) fn owed(&self, makers: UnitSet) -> i128 {
         let mut least = i128::MAX;
-        let mut left = makers;
-        'makers: loop {
-            left.rises();
-            let Some(u) = left.least() else {
-                break;
-            };
+        for u in makers {
             least = least.min(self.dues[u as usize].unpaid);
-            left = left.without(u);
         }
         let splits = makers.count().max(2) - 1;
         least / splits as i128

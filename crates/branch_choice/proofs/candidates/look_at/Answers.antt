@@ -1,31 +1,31 @@
-use Rattle.std.proofs.Common.{ℕ, List, length, ◌<◌, ◌==◌, not, sym, subst, ◌∙◌, inl, inr}
-use Rattle.number_sets.specs.Sets.{has, IsWithin}
-use Rattle.number_sets.proofs.OptionLemmas.{first_had}
-use Rattle.pgraph.proofs.ArcLemmas.{first_shorter}
+use Rattle.std.proofs.Common.{sym, subst, inl, inr}
+use Rattle.number_sets.specs.Sets.{has, IsSet}
+use Rattle.pns_rules.specs.Nodes.{free_makers}
 use Rattle.pgraph.specs.Tables.{shape}
 use Rattle.pgraph.specs.View.{node_of}
 use Rattle.branch_choice.specs.Choices.{IsDecisive}
 use Rattle.branch_choice.specs.declared.candidates.Candidate.{Candidate}
-use Rattle.branch_choice.proofs.ChoiceLemmas.{decisive_from, kept_within}
+use Rattle.branch_choice.proofs.ChoiceLemmas.{decisive_from, within_first, within_rest}
 use Rattle.branch_choice.proofs.candidates.look_at.Goals as goal
 
-pub makers-smaller : goal.makers-smaller
-makers-smaller c =
-    subst (λ (xs : List ℕ). length xs < length c.makers.left) (sym c.without-left.ensures)
-    (first_shorter c.makers.left c.in-Some.unit (sym c.least.ensures ∙ c.in-Some.is))
+pub score-score-requires : goal.score-score-requires
+score-score-requires c = (subst (IsSet 128) c.in-Some.ensures.steps c.loop-unit.invariant.is_set).below.0
 
-pub makers-preserved : goal.makers-preserved
-makers-preserved c =
+pub loop-unit-preserved : goal.loop-unit-preserved
+loop-unit-preserved c =
     let g = shape c.args.graph.now in
     let n = node_of c.args.node.now in
     let u = c.in-Some.unit in
-    let left = c.makers.left in
-    let here = c.makers.invariant.0 u (first_had left u (sym c.least.ensures ∙ c.in-Some.is)) in
-    let rest = subst (λ (xs : List ℕ). IsWithin (has xs) (has left)) (sym c.without-left.ensures) (kept_within (λ v. not (u == v)) left) in
-    let P : Candidate → Type 0 = λ k. IsDecisive g n k.unit in (
-      λ v h. c.makers.invariant.0 v (rest v h),
-      elim c.better-best.ensures [
-        | inl e ↦ subst P (sym e) c.makers.invariant.1
+    let left = c.loop-unit.unit-iterator in
+    let inv = c.loop-unit.invariant in
+    let before = subst (IsSet 128) c.in-Some.ensures.steps inv.is_set in
+    let here = within_first (has (free_makers g n c.args.x)) left u c.next.new.self inv.within c.in-Some.ensures.steps in
+    let P : Candidate → Type 0 = λ k. IsDecisive g n k.unit in
+    record {
+      is_set = record { rising = before.rising.1; below = before.below.1 };
+      within = within_rest (has (free_makers g n c.args.x)) left u c.next.new.self inv.within c.in-Some.ensures.steps;
+      decisive = elim c.better-best.ensures [
+        | inl e ↦ subst P (sym e) inv.decisive
         | inr e ↦ subst P (sym e) (decisive_from g n c.args.x u c.requires.needed here)
-      ],
-    )
+      ];
+    }

@@ -1,8 +1,11 @@
-use Rattle.std.proofs.Common.{ℕ, List, length, ◌<◌, sym, subst, ◌∙◌}
-use Rattle.pgraph.proofs.ArcLemmas.{first_shorter}
+use Rattle.std.proofs.Common.{subst}
+use Rattle.number_sets.specs.Sets.{IsSet}
 use Rattle.branch_choice.proofs.dues.Dues.pass.Goals as goal
 
-pub users-smaller : goal.users-smaller
-users-smaller c =
-    subst (λ (xs : List ℕ). length xs < length c.users.left) (sym c.without-left.ensures)
-    (first_shorter c.users.left c.in-Some.u (sym c.least.ensures ∙ c.in-Some.is))
+pub bounds-self-u : goal.bounds-self-u
+bounds-self-u c = (subst (IsSet 128) c.in-Some.ensures.steps c.loop-u.invariant).below.0
+
+pub loop-u-preserved : goal.loop-u-preserved
+loop-u-preserved c =
+    let before = subst (IsSet 128) c.in-Some.ensures.steps c.loop-u.invariant in
+    record { rising = before.rising.1; below = before.below.1 }

@@ -1,5 +1,5 @@
-use Rattle.std.proofs.Common.{length}
+use Rattle.number_sets.specs.Sets.{IsSet}
 use Rattle.branch_choice.proofs.dues.Dues.pass.Given as goal
 
-abbrev pub decreases-users : goal.decreases-users
-decreases-users l = length l.left
+abbrev pub invariant-loop-u : goal.invariant-loop-u
+invariant-loop-u l = IsSet 128 l.u-iterator
