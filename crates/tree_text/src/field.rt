@@ -123,13 +123,8 @@ pub(crate) fn push_units(
     requires { AreUnits problem.now units }
     ensures { OnOk result (string_bytes line.new ≡ appended (string_bytes line.old) (map (unit_name problem.now) units)) }
 {
-    let mut left = units;
-    'naming: loop {
-        left.rises();
-        let Some(unit) = left.least() else {
-            return Ok(());
-        };
+    for unit in units {
         push_unit(line, problem, unit)?;
-        left = left.without(unit);
     }
+    Ok(())
 }
