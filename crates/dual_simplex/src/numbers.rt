@@ -16,38 +16,26 @@ fn unit_table(set: UnitSet) -> [u32; 128]
     ensures size { length result ≡ 128 }
     ensures table { IsTableOf set result }
 {
-    set.rises();
     let mut table = [0; 128];
-    let mut left = set;
     let mut place = 0;
-    'units: loop {
-        left.rises();
-        let Some(unit) = left.least() else {
-            return table;
-        };
+    for unit in set {
         table[place] = unit;
         place += 1;
-        left = left.without(unit);
     }
+    table
 }
 
 fn row_table(set: MatSet) -> [u32; 256]
     ensures size { length result ≡ 256 }
     ensures table { IsTableOf set result }
 {
-    set.rises();
     let mut table = [0; 256];
-    let mut left = set;
     let mut place = 0;
-    'rows: loop {
-        left.rises();
-        let Some(material) = left.least() else {
-            return table;
-        };
+    for material in set {
         table[place] = material;
         place += 1;
-        left = left.without(material);
     }
+    table
 }
 
 /// The numbers of a program.

@@ -1,16 +1,14 @@
-use Rattle.std.proofs.Common.{◌∙◌, sym, arith}
-use Rattle.flow_program.proofs.WalkLemmas.{IsNext, is_next, shorter}
-use Rattle.number_sets.specs.Sets.{kept}
-use Rattle.std.proofs.Common.{not, ◌==◌, refl}
+use Rattle.std.proofs.Common.{arith}
+use Rattle.flow_program.proofs.WalkLemmas.{next_of, IsNext}
 use Rattle.dual_simplex.proofs.NumberLemmas.{place_below, filled_more}
 use Rattle.dual_simplex.proofs.numbers.row_table.Goals as goal
 
 pub bounds-table-place : goal.bounds-table-place
 bounds-table-place c =
     let x = c.in-Some.material in
-    let left = c.rows.left in
-    let next = is_next 256 left x (kept (λ v. not (x == v)) left) c.rises-in-rows.ensures (sym c.least.ensures ∙ c.in-Some.is) refl in
-    place_below 256 c.args.set c.rows.table left c.rows.place x (kept (λ v. not (x == v)) left) c.rises.ensures next c.rows.invariant
+    let left = c.loop-material.material-iterator in
+    let next = next_of 256 c.loop-material.material-iterator c.in-Some.material c.next.new.self c.loop-material.invariant.is_set c.in-Some.ensures.steps in
+    place_below 256 c.args.set c.loop-material.table left c.loop-material.place x c.next.new.self c.into_iter-material-iterator.ensures.into_iter_gives.1 next c.loop-material.invariant.so_far
 
 pub offset_bounds-table-place : goal.offset_bounds-table-place
 offset_bounds-table-place c = let l = bounds-table-place c in omega (arith, l)
@@ -18,13 +16,10 @@ offset_bounds-table-place c = let l = bounds-table-place c in omega (arith, l)
 pub overflow_add-place : goal.overflow_add-place
 overflow_add-place c = let l = bounds-table-place c in omega (arith, l)
 
-pub rows-smaller : goal.rows-smaller
-rows-smaller c =
-    shorter 256 c.rows.left c.in-Some.material c.without-left.result
-    (is_next 256 c.rows.left c.in-Some.material c.without-left.result c.rises-in-rows.ensures (sym c.least.ensures ∙ c.in-Some.is) c.without-left.ensures)
-
-pub rows-preserved : goal.rows-preserved
-rows-preserved c =
-    let next : IsNext 256 c.rows.left c.in-Some.material c.without-left.result
-    = is_next 256 c.rows.left c.in-Some.material c.without-left.result c.rises-in-rows.ensures (sym c.least.ensures ∙ c.in-Some.is) c.without-left.ensures in
-    filled_more 256 c.args.set c.rows.table c.rows.left c.rows.place c.in-Some.material c.without-left.result c.rises.ensures next c.rows.invariant
+pub loop-material-preserved : goal.loop-material-preserved
+loop-material-preserved c = record {
+  is_set = (next_of 256 c.loop-material.material-iterator c.in-Some.material c.next.new.self c.loop-material.invariant.is_set c.in-Some.ensures.steps).set;
+  so_far = let next : IsNext 256 c.loop-material.material-iterator c.in-Some.material c.next.new.self
+      = next_of 256 c.loop-material.material-iterator c.in-Some.material c.next.new.self c.loop-material.invariant.is_set c.in-Some.ensures.steps in
+      filled_more 256 c.args.set c.loop-material.table c.loop-material.material-iterator c.loop-material.place c.in-Some.material c.next.new.self c.into_iter-material-iterator.ensures.into_iter_gives.1 next c.loop-material.invariant.so_far;
+}

@@ -1,9 +1,9 @@
-use Rattle.std.proofs.Common.{length}
+use Rattle.number_sets.specs.Sets.{IsSet}
 use Rattle.dual_simplex.proofs.NumberLemmas.{IsFilled}
 use Rattle.dual_simplex.proofs.numbers.row_table.Given as goal
 
-abbrev pub invariant-rows : goal.invariant-rows
-invariant-rows l = IsFilled 256 l.fn.set l.table l.left l.place
-
-abbrev pub decreases-rows : goal.decreases-rows
-decreases-rows l = length l.left
+abbrev pub invariant-loop-material : goal.invariant-loop-material
+invariant-loop-material l = record {
+  is_set : IsSet 256 l.material-iterator;
+  so_far : IsFilled 256 l.fn.set l.table l.material-iterator l.place;
+}

@@ -1,16 +1,14 @@
-use Rattle.std.proofs.Common.{◌∙◌, sym, arith}
-use Rattle.flow_program.proofs.WalkLemmas.{IsNext, is_next, shorter}
-use Rattle.number_sets.specs.Sets.{kept}
-use Rattle.std.proofs.Common.{not, ◌==◌, refl}
+use Rattle.std.proofs.Common.{arith}
+use Rattle.flow_program.proofs.WalkLemmas.{next_of, IsNext}
 use Rattle.dual_simplex.proofs.NumberLemmas.{place_below, filled_more}
 use Rattle.dual_simplex.proofs.numbers.unit_table.Goals as goal
 
 pub bounds-table-place : goal.bounds-table-place
 bounds-table-place c =
     let x = c.in-Some.unit in
-    let left = c.units.left in
-    let next = is_next 128 left x (kept (λ v. not (x == v)) left) c.rises-in-units.ensures (sym c.least.ensures ∙ c.in-Some.is) refl in
-    place_below 128 c.args.set c.units.table left c.units.place x (kept (λ v. not (x == v)) left) c.rises.ensures next c.units.invariant
+    let left = c.loop-unit.unit-iterator in
+    let next = next_of 128 c.loop-unit.unit-iterator c.in-Some.unit c.next.new.self c.loop-unit.invariant.is_set c.in-Some.ensures.steps in
+    place_below 128 c.args.set c.loop-unit.table left c.loop-unit.place x c.next.new.self c.into_iter-unit-iterator.ensures.into_iter_gives.1 next c.loop-unit.invariant.so_far
 
 pub offset_bounds-table-place : goal.offset_bounds-table-place
 offset_bounds-table-place c = let l = bounds-table-place c in omega (arith, l)
@@ -18,13 +16,10 @@ offset_bounds-table-place c = let l = bounds-table-place c in omega (arith, l)
 pub overflow_add-place : goal.overflow_add-place
 overflow_add-place c = let l = bounds-table-place c in omega (arith, l)
 
-pub units-smaller : goal.units-smaller
-units-smaller c =
-    shorter 128 c.units.left c.in-Some.unit c.without-left.result
-    (is_next 128 c.units.left c.in-Some.unit c.without-left.result c.rises-in-units.ensures (sym c.least.ensures ∙ c.in-Some.is) c.without-left.ensures)
-
-pub units-preserved : goal.units-preserved
-units-preserved c =
-    let next : IsNext 128 c.units.left c.in-Some.unit c.without-left.result
-    = is_next 128 c.units.left c.in-Some.unit c.without-left.result c.rises-in-units.ensures (sym c.least.ensures ∙ c.in-Some.is) c.without-left.ensures in
-    filled_more 128 c.args.set c.units.table c.units.left c.units.place c.in-Some.unit c.without-left.result c.rises.ensures next c.units.invariant
+pub loop-unit-preserved : goal.loop-unit-preserved
+loop-unit-preserved c = record {
+  is_set = (next_of 128 c.loop-unit.unit-iterator c.in-Some.unit c.next.new.self c.loop-unit.invariant.is_set c.in-Some.ensures.steps).set;
+  so_far = let next : IsNext 128 c.loop-unit.unit-iterator c.in-Some.unit c.next.new.self
+      = next_of 128 c.loop-unit.unit-iterator c.in-Some.unit c.next.new.self c.loop-unit.invariant.is_set c.in-Some.ensures.steps in
+      filled_more 128 c.args.set c.loop-unit.table c.loop-unit.unit-iterator c.loop-unit.place c.in-Some.unit c.next.new.self c.into_iter-unit-iterator.ensures.into_iter_gives.1 next c.loop-unit.invariant.so_far;
+}

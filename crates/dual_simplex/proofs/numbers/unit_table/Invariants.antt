@@ -1,9 +1,9 @@
-use Rattle.std.proofs.Common.{length}
+use Rattle.number_sets.specs.Sets.{IsSet}
 use Rattle.dual_simplex.proofs.NumberLemmas.{IsFilled}
 use Rattle.dual_simplex.proofs.numbers.unit_table.Given as goal
 
-abbrev pub invariant-units : goal.invariant-units
-invariant-units l = IsFilled 128 l.fn.set l.table l.left l.place
-
-abbrev pub decreases-units : goal.decreases-units
-decreases-units l = length l.left
+abbrev pub invariant-loop-unit : goal.invariant-loop-unit
+invariant-loop-unit l = record {
+  is_set : IsSet 128 l.unit-iterator;
+  so_far : IsFilled 128 l.fn.set l.table l.unit-iterator l.place;
+}
