@@ -48,7 +48,7 @@ use Rattle.node_evaluation.specs.Children.{claim_with, IsBest, IsImproved, cells
 use Rattle.node_evaluation.proofs.BestLemmas.{improved_after, children_after}
 use Rattle.abb_search.specs.declared.growing.Growing.{Growing}
 use Rattle.abb_search.specs.declared.growing.StoppedLeaf.{StoppedLeaf}
-use Rattle.abb_search.specs.Growing.{IsTreeKeptFor, IsGrowingFor, choice_of, IsBeaten, stop_at, IsBranching, GoesOn, GoesOnFor, IsSpentAt}
+use Rattle.abb_search.specs.Growing.{IsTreeKeptFor, IsGrowingFor, IsLeastLeaf, MayUndercut, choice_of, IsBeaten, stop_at, IsBranching, GoesOn, GoesOnFor, IsSpentAt}
 use Rattle.abb_search.specs.Closing.{AreBeaten}
 use Rattle.abb_search.proofs.ReadyLemmas.{open_leaf, leaf_open, not_greater, first_has, none_first}
 use Rattle.slab.specs.Slab.{Slab, get, Updates}
@@ -83,11 +83,40 @@ two_or_more (choices.Unit u) = omega arith
 pub whole : {undercut : Option CostOver} (p : Problem) (s : Growing) → IsGrowingFor p undercut s → first s.pool.leaves ≡ None → (i : ℕ) → i < length s.pool.payloads → (cell_at s.pool.payloads i).end ≡ leaf untried → ⊥
 whole p s g e i lt h = none_first s.pool.leaves e i (g.are_open i lt ∙ leaf_open (cell_at s.pool.payloads i).end h)
 
-module _ {undercut : Option CostOver} (p : Problem) (valid : IsValid p) (s : Growing) (g : IsGrowingFor p undercut s) (at : ℕ) (is_first : first s.pool.leaves ≡ Some at)
-    (same_parents : length s.pool.payloads ≡ length s.pool.parents) (below : (id : ℕ) → has s.pool.leaves id ≡ true → id < length s.pool.parents) (rising : IsRising s.pool.values s.pool.leaves) where
-  pub is_leaf : has s.pool.leaves at ≡ true
-  is_leaf = first_has s.pool.leaves at is_first
+-- the first leaf is a least one
+pub first_is_least : (s : Growing) (at : ℕ) → first s.pool.leaves ≡ Some at → IsRising s.pool.values s.pool.leaves → IsLeastLeaf s at
+first_is_least s at is_first rising v e j h ne w k = by s.pool.leaves is_first rising h
+  where
+    by : (xs : List ℕ) → first xs ≡ Some at → IsRising s.pool.values xs → has xs j ≡ true → IsNoMore (cost_over v) (cost_over w)
+    by [] f r m = absurd cc
+    by (x ∷ xs) f r m =
+        let q : x ≡ at = cc in
+        not_greater (numerator v *ℤ denominator w) (numerator w *ℤ denominator v)
+        (r.0 j (has_tail x xs m (λ (e : j ≡ x). ne (e ∙ q))) v w (subst (λ i. slice_get s.pool.values i ≡ Some v) (sym q) e) k)
+      where
+        has_tail : (x : ℕ) (xs : List ℕ) → has (x ∷ xs) j ≡ true → (j ≡ x → ⊥) → has xs j ≡ true
+        has_tail x xs m ne = elim (or_cases (x == j) (has xs j) m) [ inl e ↦ absurd (ne (sym (eqb-true x j e))) | inr h ↦ h ]
 
+-- a network that does not beat the value costs no less
+pub not_beaten : (best : Option claims.Network) (v : Mixed) → (IsBeaten best v → ⊥) → LastIsBelow (Some (cost_over v)) (claimed_cost (claim_with best))
+not_beaten None v h = tt
+not_beaten (Some w) v h = dearer (w.cost *ℤ denominator v) (numerator v *ℤ w.d) h
+
+-- an open leaf is in the pool's list
+pub stopped_leaf : {undercut : Option CostOver} (p : Problem) (s : Growing) → IsGrowingFor p undercut s → (at : ℕ) → at < length s.pool.payloads → (cell_at s.pool.payloads at).end ≡ leaf untried → has s.pool.leaves at ≡ true
+stopped_leaf p s g at there opens = g.are_open at there ∙ leaf_open (cell_at s.pool.payloads at).end opens
+
+-- a beaten leaf whose value is at most the network's cost is a least one
+pub tied_is_least : {undercut : Option CostOver} (p : Problem) (s : Growing) (g : IsGrowingFor p undercut s) (same_parents : length s.pool.payloads ≡ length s.pool.parents)
+    (below : (id : ℕ) → has s.pool.leaves id ≡ true → id < length s.pool.parents) (w : claims.Network) → s.best ≡ Some w → IsPositive (cost_in w) → AreBeaten s w → (at : ℕ) → MayUndercut s at → IsLeastLeaf s at
+tied_is_least p s g same_parents below w is positive beaten at may v e j h ne x ex =
+    let lt : j < length s.pool.payloads = (let l = below j h in let q = same_parents in omega (arith, l, q)) in
+    let open_j = open_leaf (cell_at s.pool.payloads j).end (sym (g.are_open j lt) ∙ h) in
+    let tied : IsNoMore (cost_over v) (cost_in w) = subst (λ (o : Option claims.Network). LastIsBelow (Some (cost_over v)) (claimed_cost (claim_with o))) is (may v e) in
+    fraction_trans (numerator v) (denominator v) w.cost w.d (numerator x) (denominator x) (mixed_positive v) positive (mixed_positive x) tied (beaten.each j x lt open_j ex)
+
+module _ {undercut : Option CostOver} (p : Problem) (valid : IsValid p) (s : Growing) (g : IsGrowingFor p undercut s) (at : ℕ) (is_leaf : has s.pool.leaves at ≡ true)
+    (same_parents : length s.pool.payloads ≡ length s.pool.parents) (below : (id : ℕ) → has s.pool.leaves id ≡ true → id < length s.pool.parents) (is_least : IsLeastLeaf s at) where
   pub there : at < length s.pool.payloads
   there = let l = below at is_leaf in let e = same_parents in omega (arith, l, e)
 
@@ -124,17 +153,7 @@ module _ {undercut : Option CostOver} (p : Problem) (valid : IsValid p) (s : Gro
 
   -- the leaf is a least one
   no_less : (j : ℕ) → has s.pool.leaves j ≡ true → (j ≡ at → ⊥) → (w : Mixed) → slice_get s.pool.values j ≡ Some w → IsNoMore (cost_over at_hand.value) (cost_over w)
-  no_less j h ne w e = by s.pool.leaves is_first rising h
-    where
-      by : (xs : List ℕ) → first xs ≡ Some at → IsRising s.pool.values xs → has xs j ≡ true → IsNoMore (cost_over at_hand.value) (cost_over w)
-      by [] f r k = absurd cc
-      by (x ∷ xs) f r k =
-          let q : x ≡ at = cc in
-          not_greater (numerator at_hand.value *ℤ denominator w) (numerator w *ℤ denominator at_hand.value)
-          (r.0 j (has_tail x xs k (λ (e : j ≡ x). ne (e ∙ q))) at_hand.value w (subst (λ i. slice_get s.pool.values i ≡ Some at_hand.value) (sym q) at_hand.value_is) e)
-        where
-          has_tail : (x : ℕ) (xs : List ℕ) → has (x ∷ xs) j ≡ true → (j ≡ x → ⊥) → has xs j ≡ true
-          has_tail x xs k ne = elim (or_cases (x == j) (has xs j) k) [ inl e ↦ absurd (ne (sym (eqb-true x j e))) | inr h ↦ h ]
+  no_less = is_least at_hand.value at_hand.value_is
 
   valued : (q : Ready) → IsReady p (place_of (cell_at s.pool.payloads at)) at_hand.value q → IsValueOf p (place_of (cell_at s.pool.payloads at)) (cost_over at_hand.value)
   valued q k = subst (λ (v : Mixed). IsValueOf p (place_of (cell_at s.pool.payloads at)) (cost_over v)) k.value_is k.bound.value
@@ -182,9 +201,6 @@ module _ {undercut : Option CostOver} (p : Problem) (valid : IsValid p) (s : Gro
   value_here : (v : Mixed) → slice_get s.pool.values at ≡ Some v → at_hand.value ≡ v
   value_here v e = let q : Some at_hand.value ≡ Some v = sym at_hand.value_is ∙ e in cc
 
-  pub none_beats : (v : Mixed) → slice_get s.pool.values at ≡ Some v → (IsBeaten s.best v → ⊥) → IsBeaten s.best at_hand.value → ⊥
-  none_beats v e n b = n (subst (λ (u : Mixed). IsBeaten s.best u) (value_here v e) b)
-
   same_value : (v : Mixed) → slice_get s.pool.values at ≡ Some v → (j : ℕ) (u : Mixed) → j ≡ at → slice_get s.pool.values j ≡ Some u → v ≡ u
   same_value v e j u same i = let q : Some v ≡ Some u = sym e ∙ (ap (λ k. slice_get s.pool.values k) (sym same) ∙ i) in cc
 
@@ -209,15 +225,11 @@ module _ {undercut : Option CostOver} (p : Problem) (valid : IsValid p) (s : Gro
       by None eb h = absurd h
       by (Some w) eb h = (w, eb, beaten_by v e w (positive w eb) h)
 
-  not_beaten : (best : Option claims.Network) (v : Mixed) → (IsBeaten best v → ⊥) → LastIsBelow (Some (cost_over v)) (claimed_cost (claim_with best))
-  not_beaten None v h = tt
-  not_beaten (Some w) v h = dearer (w.cost *ℤ denominator v) (numerator v *ℤ w.d) h
-
   module _ (q : Ready) (k : IsReady p (place_of (cell_at s.pool.payloads at)) at_hand.value q) where
-    -- ---- no network beats the leaf
-    module _ (nb : IsBeaten s.best at_hand.value → ⊥) where
+    -- ---- the leaf's value is at most the best network's cost
+    module _ (may : MayUndercut s at) where
       last_below : LastIsBelow (Some (cost_over at_hand.value)) (claimed_cost (claim_with s.best))
-      last_below = not_beaten s.best at_hand.value nb
+      last_below = may at_hand.value at_hand.value_is
 
       -- ---- the budget is spent
       pub spent_here : (m : Choice) → IsChoice (shape_of p) (place_of (cell_at s.pool.payloads at)) m → s.budget < length s.pool.payloads + option_count m → IsSpentAt p s at (option_count m)
@@ -348,13 +360,13 @@ module _ {undercut : Option CostOver} (p : Problem) (valid : IsValid p) (s : Gro
       more_now u positive below_u Past new m choice few b.seen b.are_seen b.children b.freed b.frees b.placed b.wide b.cells b.values b.best b.fallen b.fallen_found b.some_best b.numbered b.are_open b.start b.budget b.nodes,
     )
 
-    -- so it does where the best network is to be undercut, which does not beat the leaf
-    pub branched_step : (IsBeaten s.best at_hand.value → ⊥) → (Past : PastPlaces) (new : Growing) (m : Choice) (choice : IsChoice (shape_of p) (place_of (cell_at s.pool.payloads at)) m)
+    -- so it does where the best network is to be undercut, which costs no less than the leaf's value
+    pub branched_step : MayUndercut s at → (Past : PastPlaces) (new : Growing) (m : Choice) (choice : IsChoice (shape_of p) (place_of (cell_at s.pool.payloads at)) m)
         → length s.pool.payloads + option_count m ≤ s.budget → IsBranching Past p (place_of (cell_at s.pool.payloads at)) s new at (way_of m)
         → GoesOn Past p new new.stop × (length s.pool.payloads < length new.pool.payloads)
-    branched_step nb Past new m u few b =
+    branched_step may Past new m u few b =
         let i = improved_after p (place_of (cell_at s.pool.payloads at)) s.best b.seen.best new.best (best_of p s g.tree) b.are_seen.found b.best b.fallen b.fallen_found in
-        branched_for (claimed_cost (claim_with new.best)) i.best.positive (i.below (cost_over at_hand.value) (valued q k).positive (valued q k).under (last_below nb)) Past new m u few b
+        branched_for (claimed_cost (claim_with new.best)) i.best.positive (i.below (cost_over at_hand.value) (valued q k).positive (valued q k).under (last_below may)) Past new m u few b
 
 pub within_budget : (budget l n count k : ℕ) → l ≡ n → count ≡ k → (budget < l + count → ⊥) → n + k ≤ budget
 within_budget budget l n count k el ec h = elim (cases_lt budget (n + k)) [ inl lt ↦ absurd (h (omega (arith, el, ec, lt))) | inr le ↦ omega (arith, le) ]

@@ -1,5 +1,7 @@
 -- What a search keeps between two turns, and what a turn does.
 use Rattle.std.specs.Prelude.{◌≡◌, ◌⊎◌, ℕ, ◌+◌, ◌-◌, ◌^◌, ◌<◌, ◌≤◌, true, ◌||◌, List, [], ◌∷◌, ◌++◌, length, slice_set, Option, Some, None, is_some}
+use Rattle.std.specs.List.{slice_get}
+use Rattle.link_lists.specs.Lists.{has}
 use Rattle.problem_rules.specs.Problem.{Problem}
 use Rattle.pns_rules.specs.Shape.{shape_of}
 use Rattle.pns_rules.specs.Nodes.{Node}
@@ -68,6 +70,16 @@ choice_of (Some r) = r.choice
 abbrev pub IsBeaten : Option claims.Network → Mixed → Type 0
 IsBeaten None value = ⊥
 IsBeaten (Some w) value = IsNoMore (cost_in w) (cost_over value)
+
+-- no open leaf has a lesser value than this one
+abbrev pub IsLeastLeaf : Growing → ℕ → Type 0
+IsLeastLeaf s at =
+    (v : Mixed) → slice_get s.pool.values at ≡ Some v → (j : ℕ) → has s.pool.leaves j ≡ true → (j ≡ at → ⊥) → (w : Mixed) → slice_get s.pool.values j ≡ Some w
+    → IsNoMore (cost_over v) (cost_over w)
+
+-- its value is at most the best network's cost
+abbrev pub MayUndercut : Growing → ℕ → Type 0
+MayUndercut s at = (v : Mixed) → slice_get s.pool.values at ≡ Some v → LastIsBelow (Some (cost_over v)) (claimed_cost (claim_with s.best))
 
 -- ---- a leaf that stops the search
 

@@ -1,5 +1,6 @@
 //! The tree while it grows.
-ghost use Rattle.std.specs.Prelude.{◌≡◌, ◌↔◌, ◌<◌, ◌≤◌, ◌+◌, ◌-◌, ◌^◌, true, IsTrue, IfOk, OnOk, OnErr, MatchOption, drop, length};
+ghost use Rattle.std.specs.Prelude.{◌≡◌, ◌↔◌, ◌<◌, ◌≤◌, ◌+◌, ◌-◌, ◌^◌, ◌*ℤ◌, ◌≤ℤ◌, pos, true, IsTrue, IfOk, OnOk, OnErr, MatchOption, drop, length};
+ghost use Rattle.mixed_numbers.specs.Number.{numerator, denominator};
 ghost use Rattle.slab.specs.Slab.{get};
 ghost use Rattle.link_lists.specs.Lists.{has};
 ghost use Rattle.pns_rules.specs.Shape.{shape_of};
@@ -16,7 +17,7 @@ ghost use Rattle.neutral_extension.specs.Candidates.{AreMakersOf};
 ghost use Rattle.turn_laws.specs.Values.{IsNoMore};
 ghost use Rattle.node_evaluation.specs.Children.{AreSolvedBy};
 ghost use Rattle.node_evaluation.specs.Evaluated.{cost_over, cost_in};
-ghost use Rattle.abb_search.specs.Growing.{IsBeaten, IsBranching, IsSame, stop_at, leaf_of, choice_of};
+ghost use Rattle.abb_search.specs.Growing.{IsBeaten, IsBranching, IsSame, MayUndercut, stop_at, leaf_of, choice_of};
 
 use crate::hand::place_all;
 use branch_choice::Choice;
@@ -60,6 +61,22 @@ pub fn reaches(value: &Mixed, network: &Network) -> bool
     value.is_at_least(network.cost(), network.d())
 }
 
+/// Whether the value is at most num / den.
+fn is_at_most(value: &Mixed, num: i128, den: i128) -> bool
+    requires { pos 1 ≤ℤ den }
+    ensures { IsTrue result ↔ ((numerator value.now *ℤ den) ≤ℤ (num *ℤ denominator value.now)) }
+{
+    value.cmp(&Mixed::of(num, den)).is_le()
+}
+
+/// Whether the value is at most the network's cost.
+fn is_within(value: &Mixed, network: &Network) -> bool
+    ensures { IsTrue result ↔ IsNoMore (cost_over value.now) (cost_in network.now) }
+{
+    network.is_sized();
+    is_at_most(value, network.cost(), network.d())
+}
+
 /// Whether the network costs no more than the value.
 pub(crate) fn is_beaten(best: &Option<Network>, value: &Mixed) -> bool
     ensures { IsTrue result ↔ IsBeaten best.now value.now }
@@ -67,6 +84,19 @@ pub(crate) fn is_beaten(best: &Option<Network>, value: &Mixed) -> bool
     match best {
         None => false,
         Some(network) => reaches(value, network),
+    }
+}
+
+/// Whether an open leaf's value is at most the best network's cost.
+pub(crate) fn may_undercut(growing: &Growing, leaf: u32) -> bool
+    requires { has growing.now.pool.leaves leaf ≡ true }
+    ensures { IsTrue result → MayUndercut growing.now leaf }
+{
+    growing.pool.is_pool();
+    let value = growing.pool.value(leaf);
+    match &growing.best {
+        None => true,
+        Some(network) => is_within(&value, network),
     }
 }
 

@@ -1,5 +1,6 @@
 //! A turn of a search.
-ghost use Rattle.std.specs.Prelude.{◌≡◌, ◌≤◌, Some, None, IfOk, OnErr};
+ghost use Rattle.std.specs.Prelude.{◌≡◌, ◌≤◌, true, Some, None, IfOk, OnErr};
+ghost use Rattle.link_lists.specs.Lists.{has};
 ghost use Rattle.pns_rules.specs.Shape.{shape_of};
 ghost use Rattle.pns_rules.specs.Ends.{IsSound};
 ghost use Rattle.tree_rules.specs.Claim as claims;
@@ -7,13 +8,15 @@ ghost use Rattle.pgraph.specs.Tables.{shape};
 ghost use Rattle.pgraph.specs.View.{node_of};
 ghost use Rattle.neutral_extension.specs.Candidates.{AreMakersOf};
 ghost use Rattle.abb_search.specs.Closing.{AreBeaten};
-ghost use Rattle.abb_search.specs.Growing.{IsGrowing, IsGoing, IsSame};
+ghost use Rattle.abb_search.specs.Growing.{IsGrowing, IsGoing, IsSame, IsLeastLeaf, MayUndercut};
 ghost use Rattle.abb_search.specs.Answers.{StepHolds};
 ghost use Rattle.abb_search.specs.Searched.{StandsAt};
 
 use crate::closing::{Closing, close_all};
 use crate::found::{past_found, shut_tree, tree_with, whole_found};
-use crate::growing::{Growing, branch_leaf, choice_at, is_beaten, is_over, node_at, stopped_leaf};
+use crate::growing::{
+    Growing, branch_leaf, choice_at, is_beaten, is_over, may_undercut, node_at, stopped_leaf,
+};
 use crate::outcome::Found;
 use crate::root::look_at_root;
 use neutral_extension::Makers;
@@ -22,21 +25,65 @@ use pgraph::Graph;
 use pns_problem::Problem;
 use std::alloc::{AllocError, Global};
 
-/// Tells what is found where the best network costs no more than any open leaf: all of them are shut, or one of them stops the
-/// search. The nodes stay as they are.
+/// Branches an open leaf of least value, which is at most the best network's cost, or tells that the budget is spent.
+fn branch_least<E: Evaluator>(
+    alloc: Global,
+    evaluator: &mut E,
+    problem: &Problem,
+    graph: &Graph,
+    makers: &mut Makers,
+    growing: &mut Growing,
+    leaf: u32,
+) -> Result<Option<Found>, AllocError>
+    requires graph { shape graph.now ≡ shape_of problem.now }
+    requires same { AreMakersOf (shape graph.now) makers.old.makers }
+    requires growing { IsGrowing problem.now growing.old }
+    requires leaf { has growing.old.pool.leaves leaf ≡ true }
+    requires least { IsLeastLeaf growing.old leaf }
+    requires below { MayUndercut growing.old leaf }
+    ensures holds { IfOk result (StepHolds E.past problem.now growing.old growing.new) }
+    ensures same { OnErr result (IsSame growing.old growing.new) }
+    ensures makers { makers.new.makers ≡ makers.old.makers }
+{
+    problem.is_valid();
+    growing.pool.is_pool();
+    let choice = choice_at(growing, leaf);
+    let options = choice.options();
+    if is_over(options, growing.nodes, growing.budget) {
+        let placed = tree_with(alloc, growing, leaf)?;
+        return Ok(Some(Found::Spent {
+            best: growing.best.take(),
+            tree: placed.tree,
+            next: placed.place,
+            options,
+        }));
+    }
+    let node = node_at(&growing.pool, leaf);
+    branch_leaf(
+        alloc, evaluator, problem, graph, makers, growing, leaf, node, choice, false,
+    )?;
+    Ok(None)
+}
+
+/// Goes on where the best network costs no more than any open leaf: all of them are shut. A leaf that can't be, since a number is past
+/// the range, is branched where its value is just the network's cost, and else it stops the search.
 fn close<E: Evaluator>(
     alloc: Global,
     evaluator: &mut E,
     problem: &Problem,
     graph: &Graph,
+    makers: &mut Makers,
     growing: &mut Growing,
 ) -> Result<Option<Found>, AllocError>
     requires graph { shape graph.now ≡ shape_of problem.now }
+    requires same { AreMakersOf (shape graph.now) makers.old.makers }
     requires growing { IsGrowing problem.now growing.old }
     requires beaten { (w : claims.Network) × (growing.old.best ≡ Some w) × AreBeaten growing.old w }
     ensures holds { IfOk result (StepHolds E.past problem.now growing.old growing.new) }
     ensures same { OnErr result (IsSame growing.old growing.new) }
+    ensures makers { makers.new.makers ≡ makers.old.makers }
 {
+    growing.pool.is_pool();
     let Some(network) = &growing.best else {
         unreachable!();
     };
@@ -46,7 +93,11 @@ fn close<E: Evaluator>(
             Ok(Some(whole_found(growing.best.take(), whole.tree)))
         }
         Closing::Stopped(stopped) => {
-            let placed = tree_with(alloc, growing, stopped.leaf)?;
+            let leaf = stopped.leaf;
+            if may_undercut(growing, leaf) {
+                return branch_least(alloc, evaluator, problem, graph, makers, growing, leaf);
+            }
+            let placed = tree_with(alloc, growing, leaf)?;
             Ok(past_found(growing.best.take(), Some(stopped), placed))
         }
     }
@@ -77,24 +128,9 @@ fn go_on<E: Evaluator>(
     };
     let value = growing.pool.value(leaf);
     if is_beaten(&growing.best, &value) {
-        return close(alloc, evaluator, problem, graph, growing);
+        return close(alloc, evaluator, problem, graph, makers, growing);
     }
-    let choice = choice_at(growing, leaf);
-    let options = choice.options();
-    if is_over(options, growing.nodes, growing.budget) {
-        let placed = tree_with(alloc, growing, leaf)?;
-        return Ok(Some(Found::Spent {
-            best: growing.best.take(),
-            tree: placed.tree,
-            next: placed.place,
-            options,
-        }));
-    }
-    let node = node_at(&growing.pool, leaf);
-    branch_leaf(
-        alloc, evaluator, problem, graph, makers, growing, leaf, node, choice, false,
-    )?;
-    Ok(None)
+    branch_least(alloc, evaluator, problem, graph, makers, growing, leaf)
 }
 
 /// Makes the nodes more, or tells what is found. After `Err`, which comes for want of memory alone, the tree is as before.

@@ -4,8 +4,7 @@ use Rattle.std.proofs.Common.{◌≡◌, ℕ, zero, suc, ◌+◌, ◌^◌, ◌<�
 use Rattle.std.specs.List.{slice_get}
 use Rattle.std.proofs.lemmas.List.{length-set}
 use Rattle.number_sets.specs.Options.{IsIn}
-use Rattle.link_lists.specs.Lists.{has, first}
-use Rattle.node_pool.specs.Order.{IsRising}
+use Rattle.link_lists.specs.Lists.{has}
 use Rattle.problem_rules.specs.Problem.{Problem}
 use Rattle.problem_rules.specs.Validity.{IsValid}
 use Rattle.pns_rules.specs.Shape.{shape_of}
@@ -31,7 +30,7 @@ use Rattle.node_evaluation.specs.Children.{claim_with, AreSolvedBy, cells_of}
 use Rattle.node_evaluation.proofs.ChildLemmas.{comes}
 use Rattle.node_evaluation.proofs.ChoiceLemmas.{may_branch}
 use Rattle.abb_search.specs.declared.growing.Growing.{Growing}
-use Rattle.abb_search.specs.Growing.{IsGrowingFor, IsBranching}
+use Rattle.abb_search.specs.Growing.{IsGrowingFor, IsLeastLeaf, IsBranching}
 use Rattle.abb_search.proofs.HandLemmas.{children_kept}
 use Rattle.abb_search.proofs.TurnLemmas.{there, untried_there, hand, sound_there, branched_for}
 use Rattle.rank_search.specs.Found.{AreBest, undercut_by}
@@ -119,8 +118,8 @@ numbers_fit Past p n s new at nodes w b ws h e =
     omega (arith, k, few, e)
 
 module _ (Past : PastPlaces) (p : Problem) (valid : IsValid p) (budget : ℕ) (s : Growing) (l : Listed) (listed : IsListed l) (r : IsRanking Past p budget s l) (g : IsGrowingFor p (undercut_by l.count l.found) s)
-    (at : ℕ) (is_first : first s.pool.leaves ≡ Some at) (same_parents : length s.pool.payloads ≡ length s.pool.parents) (below : (id : ℕ) → has s.pool.leaves id ≡ true → id < length s.pool.parents)
-    (rising : IsRising s.pool.values s.pool.leaves) (v : Mixed) (value_is : slice_get s.pool.values at ≡ Some v) (under : LastIsBelow (Some (cost_over v)) (undercut_by l.count l.found)) where
+    (at : ℕ) (is_leaf : has s.pool.leaves at ≡ true) (same_parents : length s.pool.payloads ≡ length s.pool.parents) (below : (id : ℕ) → has s.pool.leaves id ≡ true → id < length s.pool.parents)
+    (is_least : IsLeastLeaf s at) (v : Mixed) (value_is : slice_get s.pool.values at ≡ Some v) (under : LastIsBelow (Some (cost_over v)) (undercut_by l.count l.found)) where
   module _ (new : Growing) (m : Choice) (choice : IsChoice (shape_of p) (place_of (cell_at s.pool.payloads at)) m) (few : length s.pool.payloads + option_count m ≤ s.budget)
       (b : IsBranching Past p (place_of (cell_at s.pool.payloads at)) s new at (way_of m)) (ws : List (Option Network)) (solved : AreSolvedBy p (drop (length s.pool.payloads) new.pool.payloads) ws)
       (k : Listed) (added : AreAdded l k (length s.pool.payloads) ws) where
@@ -129,17 +128,17 @@ module _ (Past : PastPlaces) (p : Problem) (valid : IsValid p) (budget : ℕ) (s
 
     parent_best : AreBest p l.count (slice_set s.pool.payloads at (as_parent (cell_at s.pool.payloads at) (length s.pool.payloads) (branch (way_of m)))) l.found
     parent_best = as_branch p l.count s.pool.payloads l.found at (as_parent (cell_at s.pool.payloads at) (length s.pool.payloads) (branch (way_of m))) r.best
-        (there p valid s g at is_first same_parents below rising) (untried_there p valid s g at is_first same_parents below rising) refl
+        (there p valid s g at is_leaf same_parents below is_least) (untried_there p valid s g at is_leaf same_parents below is_least) refl
 
     best_now : AreBestNow p (slice_set s.pool.payloads at (as_parent (cell_at s.pool.payloads at) (length s.pool.payloads) (branch (way_of m))) ++ cells_of b.children) l k
     best_now = all_more p (cells_of b.children) ws (slice_set s.pool.payloads at (as_parent (cell_at s.pool.payloads at) (length s.pool.payloads) (branch (way_of m)))) l k listed parent_best children_solved
         (subst (λ n. AreAdded l k n ws) (sym (length-set s.pool.payloads at (as_parent (cell_at s.pool.payloads at) (length s.pool.payloads) (branch (way_of m))))) added)
 
     leaf_value : IsUnder p (cost_over v) (place_of (cell_at s.pool.payloads at)) × IsPositive (cost_over v)
-    leaf_value = let u = valued p valid s g at is_first same_parents below rising v value_is in (u.under, u.positive)
+    leaf_value = let u = valued p valid s g at is_leaf same_parents below is_least v value_is in (u.under, u.positive)
 
     children_above : AreAbove (cost_over v) ws
-    children_above = found_above p valid (place_of (cell_at s.pool.payloads at)) (way_of m) (sound_there p valid s g at is_first same_parents below rising) (may_branch (shape_of p) (place_of (cell_at s.pool.payloads at)) m choice)
+    children_above = found_above p valid (place_of (cell_at s.pool.payloads at)) (way_of m) (sound_there p valid s g at is_leaf same_parents below is_least) (may_branch (shape_of p) (place_of (cell_at s.pool.payloads at)) m choice)
         (cost_over v) leaf_value.1 leaf_value.0 (claimed_cost (claim_with b.seen.best)) (cells_of b.children) ws
         (children_kept p b.seen.nodes.items b.children b.seen.ready.items b.freed new.ready b.placed (claimed_cost (claim_with b.seen.best)) (place_of (cell_at s.pool.payloads at)) (way_of m) b.are_seen.children) children_solved
 
@@ -148,9 +147,9 @@ module _ (Past : PastPlaces) (p : Problem) (valid : IsValid p) (budget : ℕ) (s
 
     pub grown : IsMore Past p budget (length s.pool.payloads) new k
     grown =
-        let hd = hand p valid s g at is_first same_parents below rising in
-        let a = branched_for p valid s g at is_first same_parents below rising hd.ready hd.known (undercut_by k.count k.found) (undercut_positive k best_now.listed)
-        (subst (λ (u : Mixed). LastIsBelow (Some (cost_over u)) (undercut_by k.count k.found)) (sym (at_hand_is p valid s g at is_first same_parents below rising v value_is)) still_below)
+        let hd = hand p valid s g at is_leaf same_parents below is_least in
+        let a = branched_for p valid s g at is_leaf same_parents below is_least hd.ready hd.known (undercut_by k.count k.found) (undercut_positive k best_now.listed)
+        (subst (λ (u : Mixed). LastIsBelow (Some (cost_over u)) (undercut_by k.count k.found)) (sym (at_hand_is p valid s g at is_leaf same_parents below is_least v value_is)) still_below)
         Past new m choice few b in
         record {
           ranking = record {

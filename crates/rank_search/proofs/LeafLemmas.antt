@@ -2,8 +2,7 @@
 use Rattle.std.proofs.Common.{◌≡◌, ℕ, ◌+◌, ◌<◌, true, [], length, Option, Some, None, sym, ◌∙◌, subst, arith}
 use Rattle.std.specs.List.{slice_get}
 use Rattle.std.proofs.lemmas.Int.{ints}
-use Rattle.link_lists.specs.Lists.{has, first}
-use Rattle.node_pool.specs.Order.{IsRising}
+use Rattle.link_lists.specs.Lists.{has}
 use Rattle.slab.specs.Slab.{get}
 use Rattle.problem_rules.specs.Problem.{Problem}
 use Rattle.problem_rules.specs.Validity.{IsValid}
@@ -29,19 +28,19 @@ use Rattle.node_evaluation.specs.Evaluated.{cost_over}
 use Rattle.node_evaluation.specs.Looks.{IsReady, IsSomeReady}
 use Rattle.node_evaluation.proofs.ChoiceLemmas.{may_branch, decides, option_count_is, next_count, undecided_there}
 use Rattle.abb_search.specs.declared.growing.Growing.{Growing}
-use Rattle.abb_search.specs.Growing.{IsGrowingFor}
+use Rattle.abb_search.specs.Growing.{IsGrowingFor, IsLeastLeaf}
 use Rattle.abb_search.specs.Closing.{AreBeaten}
 use Rattle.abb_search.proofs.TurnLemmas.{mixed_positive, there, untried_there, at_hand, beaten_by}
 use Rattle.rank_search.specs.Told.{IsSpentFor}
 
-module _ {undercut : Option CostOver} (p : Problem) (valid : IsValid p) (s : Growing) (g : IsGrowingFor p undercut s) (at : ℕ) (is_first : first s.pool.leaves ≡ Some at)
-    (same_parents : length s.pool.payloads ≡ length s.pool.parents) (below : (id : ℕ) → has s.pool.leaves id ≡ true → id < length s.pool.parents) (rising : IsRising s.pool.values s.pool.leaves)
+module _ {undercut : Option CostOver} (p : Problem) (valid : IsValid p) (s : Growing) (g : IsGrowingFor p undercut s) (at : ℕ) (is_leaf : has s.pool.leaves at ≡ true)
+    (same_parents : length s.pool.payloads ≡ length s.pool.parents) (below : (id : ℕ) → has s.pool.leaves id ≡ true → id < length s.pool.parents) (is_least : IsLeastLeaf s at)
     (v : Mixed) (value_is : slice_get s.pool.values at ≡ Some v) where
   abbrev here : Node
   here = place_of (cell_at s.pool.payloads at)
 
   open_here : (cell_at s.pool.payloads at).end ≡ leaf untried
-  open_here = untried_there p valid s g at is_first same_parents below rising
+  open_here = untried_there p valid s g at is_leaf same_parents below is_least
 
   -- what is known of an open leaf
   record IsKnown (j : ℕ) : Type 0 where
@@ -63,7 +62,7 @@ module _ {undercut : Option CostOver} (p : Problem) (valid : IsValid p) (s : Gro
   known_value j k = subst (λ (u : Mixed). IsValueOf p (place_of (cell_at s.pool.payloads j)) (cost_over u)) k.known.value_is k.known.bound.value
 
   taken : IsKnown at
-  taken = known at (there p valid s g at is_first same_parents below rising) open_here
+  taken = known at (there p valid s g at is_leaf same_parents below is_least) open_here
 
   taken_is : taken.value ≡ v
   taken_is = let q : Some taken.value ≡ Some v = sym taken.stands ∙ value_is in cc
@@ -74,7 +73,7 @@ module _ {undercut : Option CostOver} (p : Problem) (valid : IsValid p) (s : Gro
 
   -- no other open leaf has less
   all_more : AreBeaten s (record { units = []; sizes = []; d = denominator v; cost = numerator v })
-  all_more = beaten_by p valid s g at is_first same_parents below rising v value_is (record { units = []; sizes = []; d = denominator v; cost = numerator v }) (mixed_positive v) (omega (arith, ints))
+  all_more = beaten_by p valid s g at is_leaf same_parents below is_least v value_is (record { units = []; sizes = []; d = denominator v; cost = numerator v }) (mixed_positive v) (omega (arith, ints))
 
   least : IsLeastOpen p s.pool.payloads at (cost_over v)
   least j lt ne e alive z d flows =
@@ -85,7 +84,7 @@ module _ {undercut : Option CostOver} (p : Problem) (valid : IsValid p) (s : Gro
 
   can_branch : (m : Choice) → IsChoice (shape_of p) here m → CanBranch p s.pool.payloads at (way_of m) (cost_over v)
   can_branch m u = record {
-    there = there p valid s g at is_first same_parents below rising;
+    there = there p valid s g at is_leaf same_parents below is_least;
     is_open = open_here;
     reduced = taken.known.reduced;
     may = may_branch (shape_of p) here m u;
@@ -118,5 +117,5 @@ module _ {undercut : Option CostOver} (p : Problem) (valid : IsValid p) (s : Gro
   }
 
   -- the same value stands at hand
-  pub at_hand_is : (at_hand p valid s g at is_first same_parents below rising).value ≡ v
-  at_hand_is = let h = at_hand p valid s g at is_first same_parents below rising in let q : Some h.value ≡ Some v = sym h.value_is ∙ value_is in cc
+  pub at_hand_is : (at_hand p valid s g at is_leaf same_parents below is_least).value ≡ v
+  at_hand_is = let h = at_hand p valid s g at is_leaf same_parents below is_least in let q : Some h.value ≡ Some v = sym h.value_is ∙ value_is in cc

@@ -14,7 +14,9 @@ use Rattle.abb_search.specs.Found.{found_with}
 use Rattle.abb_search.specs.Answers.{past_with, IsEnd, StepHolds}
 use Rattle.abb_search.proofs.ClosingLemmas.{closed_found}
 use Rattle.abb_search.proofs.EndLemmas.{past_found}
+use Rattle.turn_laws.specs.Values.{IsPositiveCost}
 use Rattle.abb_search.proofs.StepLemmas.{ends_with, network_found, never_memory}
+use Rattle.abb_search.proofs.TurnLemmas.{stopped_leaf, tied_is_least}
 use Rattle.abb_search.proofs.step.close.Goals as goal
 
 pub unreachable-requires : goal.unreachable-requires
@@ -64,3 +66,25 @@ returns-in_ok-placed-in-Stopped-clause-holds g c =
 
 pub close_all-requires-clause-growing : goal.close_all-requires-clause-growing
 close_all-requires-clause-growing g c = (claimed_cost (claim_with c.args.growing.now.best), c.requires.growing)
+
+pub may_undercut-requires : goal.may_undercut-requires
+may_undercut-requires g c =
+    let at : IsStoppedAt g.E.Evaluator.past c.args.problem.now c.args.growing.now c.in-Stopped.stopped.leaf c.in-Stopped.stopped.stop = rw c.in-Stopped.is at c.in_ok-proofs.ensures in
+    stopped_leaf c.args.problem.now c.args.growing.now c.requires.growing c.in-Stopped.stopped.leaf at.there at.is_open
+
+pub branch_least-requires-clause-leaf : goal.branch_least-requires-clause-leaf
+branch_least-requires-clause-leaf g c =
+    let at : IsStoppedAt g.E.Evaluator.past c.args.problem.now c.args.growing.now c.in-Stopped.stopped.leaf c.in-Stopped.stopped.stop = rw c.in-Stopped.is at c.in_ok-proofs.ensures in
+    stopped_leaf c.args.problem.now c.args.growing.now c.requires.growing c.in-Stopped.stopped.leaf at.there at.is_open
+
+pub branch_least-requires-clause-least : goal.branch_least-requires-clause-least
+branch_least-requires-clause-least g c =
+    let q : Some c.requires.beaten.0 ≡ Some c.in-Some.network = sym c.requires.beaten.1 ∙ c.in-Some.is in
+    let e : c.requires.beaten.0 ≡ c.in-Some.network = cc in
+    let beaten = subst (λ (w : claims.Network). AreBeaten c.args.growing.now w) e c.requires.beaten.2 in
+    let positive = subst (λ (o : Option claims.Network). IsPositiveCost (claimed_cost (claim_with o))) c.in-Some.is c.requires.growing.tree.kept.claim_positive in
+    tied_is_least c.args.problem.now c.args.growing.now c.requires.growing c.is_pool.ensures.payloads c.is_pool.ensures.leaves c.in-Some.network c.in-Some.is positive beaten
+    c.in-Stopped.stopped.leaf (c.if-may_undercut.ensures refl)
+
+pub branch_least-requires-clause-below : goal.branch_least-requires-clause-below
+branch_least-requires-clause-below g c = c.if-may_undercut.ensures refl
