@@ -88,8 +88,7 @@ fn least_with(graph: &Graph, in_use: UnitSet, left_out: UnitSet) -> Option<UnitS
 {
     let mut gone = left_out;
     let mut set = greatest_with(graph, in_use, gone)?;
-    let mut spare = set.minus(in_use);
-    'units: while let Some(u) = spare.take_least() {
+    for u in set.minus(in_use) {
         let more = gone.with(u);
         if let Some(rest) = greatest_with(graph, in_use, more) {
             gone = more;
