@@ -140,14 +140,9 @@ pub(crate) fn push_materials(
     requires feasible { IfSome network (λ n. IsFeasible problem.now n.now) }
     ensures { OnOk result (string_bytes text.new ≡ string_bytes text.old ++ printed (map (material_line problem.now (option_map (λ n. n.now) network.entry)) materials)) }
 {
-    let mut left = materials;
-    'materials: loop {
-        left.rises();
-        let Some(j) = left.least() else {
-            return Ok(());
-        };
+    for j in materials {
         push_material(text, problem, graph, network, j)?;
         text.push('\n')?;
-        left = left.without(j);
     }
+    Ok(())
 }

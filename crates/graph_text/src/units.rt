@@ -96,13 +96,8 @@ pub(crate) fn push_units(
     requires feasible { IfSome network (λ n. IsFeasible problem.now n.now) }
     ensures { OnOk result (string_bytes text.new ≡ string_bytes text.old ++ printed (flat_map (unit_lines problem.now (option_map (λ n. n.now) network.entry)) units)) }
 {
-    let mut left = units;
-    'units: loop {
-        left.rises();
-        let Some(u) = left.least() else {
-            return Ok(());
-        };
+    for u in units {
         push_unit_lines(alloc, text, problem, network, u)?;
-        left = left.without(u);
     }
+    Ok(())
 }

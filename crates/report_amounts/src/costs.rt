@@ -116,13 +116,8 @@ pub fn cost_sum(part: Part, problem: &Problem, graph: &Graph, network: &Network)
     ensures { result ≡ cost_sum part problem.now network.now }
 {
     let mut sum = Number::nothing();
-    let mut left = materials_in(problem, graph, network);
-    'materials: loop {
-        left.rises();
-        let Some(j) = left.least() else {
-            return sum;
-        };
+    for j in materials_in(problem, graph, network) {
         sum = sum.plus(&part_of(part, cost(problem, network, j)));
-        left = left.without(j);
     }
+    sum
 }

@@ -33,16 +33,11 @@ fn left_out(problem: &Problem, network: &Network) -> UnitSet
 fn push_names(text: &mut String, problem: &Problem, units: UnitSet) -> Result<(), AllocError>
     ensures { OnOk result (string_bytes text.new ≡ string_bytes text.old ++ flat_map (name_behind problem.now) units) }
 {
-    let mut left = units;
-    'units: loop {
-        left.rises();
-        let Some(u) = left.least() else {
-            return Ok(());
-        };
+    for u in units {
         text.push(' ')?;
         text.push_str(unit_name(problem, u))?;
-        left = left.without(u);
     }
+    Ok(())
 }
 
 fn push_names_or_none(
