@@ -7,6 +7,7 @@ ghost use Rattle.command_files.specs.TreeFile.{OnTree};
 ghost use Rattle.flow_commands.specs.Check.{CheckWork};
 ghost use Rattle.flow_commands.specs.Best.{AcceptedIsBest, FilesClaimBest};
 ghost use Rattle.endings.specs.Ending.{Ends, Says, Tells};
+ghost use Rattle.endings.specs.declared.status.Status.TheVariants.{Done};
 
 use branch_tree::{Claim, Tree};
 use cert_check::{Refusal, check_tree};
