@@ -5,7 +5,7 @@ use Rattle.std.specs.Ordering.{is_le}
 use Rattle.std.specs.declared.cmp.Ordering.TheVariants.{Greater}
 use Rattle.mixed_numbers.specs.declared.number.Mixed.{Mixed}
 use Rattle.mixed_numbers.specs.Order.{mixed_cmp}
-use Rattle.link_lists.specs.Lists.{has, inserted}
+use Rattle.link_lists.specs.Lists.{first, has, inserted}
 
 -- the other value is there, and v is at most that
 abbrev pub at_most : Mixed → Option Mixed → Bool
@@ -29,6 +29,11 @@ IsAtMost vs x y = (v w : Mixed) → slice_get vs x ≡ Some v → slice_get vs y
 abbrev pub IsRising : List Mixed → List ℕ → Type 0
 IsRising vs [] = Unit {0}
 IsRising vs (x ∷ xs) = ((y : ℕ) → has xs y ≡ true → IsAtMost vs x y) × IsRising vs xs
+
+-- the leaf behind the first one
+abbrev pub second : List ℕ → Option ℕ
+second [] = None
+second (x ∷ xs) = first xs
 
 -- the leaves, and how many nodes can be leaves without more memory
 pub record OpenLeaves : Type 0 where

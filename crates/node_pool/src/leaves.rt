@@ -4,7 +4,7 @@ ghost use Rattle.std.specs.Prelude.{◌≡◌, [], ℕ, true, false, Some, ◌<�
 ghost use Rattle.std.specs.List.{find};
 ghost use Rattle.mixed_numbers.specs.Order.{mixed_cmp};
 ghost use Rattle.link_lists.specs.Lists.{first, has, row, without, IsListed};
-ghost use Rattle.node_pool.specs.Order.{OpenLeaves, is_at_least, put_before, IsRising};
+ghost use Rattle.node_pool.specs.Order.{OpenLeaves, is_at_least, put_before, second, IsRising};
 
 use crate::index::Index;
 use link_lists::Lists;
@@ -105,6 +105,13 @@ impl Leaves {
         ensures { result ≡ first self.now.leaves }
     {
         self.lists.first(0)
+    }
+
+    /// The leaf behind the first one.
+    pub fn second(&self) -> Option<u32>
+        ensures { result ≡ second self.now.leaves }
+    {
+        self.lists.next(self.lists.first(0)?)
     }
 
     /// A leaf of less value, as close as the index leads to the first one that has at least this one.

@@ -5,7 +5,7 @@ ghost use Rattle.std.specs.List.{slice_get};
 ghost use Rattle.std.specs.Borrow.{sem};
 ghost use Rattle.link_lists.specs.Lists.{first, has};
 ghost use Rattle.node_pool.specs.Tree.{children, sibling_after, AreAfterParents};
-ghost use Rattle.node_pool.specs.Order.{placed, IsRising};
+ghost use Rattle.node_pool.specs.Order.{placed, second, IsRising};
 ghost use Rattle.node_pool.specs.Pooled.{Pooled, IsParent, IsShut, AreSameNodes, IsWithLeaf, with_shut};
 
 use crate::leaves::Leaves;
@@ -74,6 +74,13 @@ impl<T> Pool<T> {
         ensures { result ≡ first self.now.leaves }
     {
         self.leaves.first()
+    }
+
+    /// The open leaf behind that of least value in the order of the open leaves, and none where no other leaf is open.
+    pub fn next_least(&self) -> Option<u32>
+        ensures { result ≡ second self.now.leaves }
+    {
+        self.leaves.second()
     }
 
     /// The node's first child, and none where it has none.
