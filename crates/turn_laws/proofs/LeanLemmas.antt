@@ -18,8 +18,8 @@ use Rattle.flow_rules.proofs.DualityLemmas.{flows_are_relaxed, relaxed_costs_les
 use Rattle.tree_rules.specs.Ways.{Way}
 use Rattle.tree_rules.specs.Tree.{End, branch, leaf, Stands}
 use Rattle.tree_rules.specs.Leaf.{Leaf, untried, IsUntried, LeafPasses}
-use Rattle.tree_rules.specs.Claim.{Claim, unknown, CostOver, claimed_cost, IsAtMost, ClaimPasses}
-use Rattle.tree_rules.specs.Lean.{MayUndercut, HasCheaper, IsNoDearer, IsLean}
+use Rattle.tree_rules.specs.Claim.{Claim, unknown, CostOver, claimed_cost, ClaimPasses}
+use Rattle.tree_rules.specs.Lean.{MayUndercut, IsNoDearer, IsLean}
 use Rattle.tree_rules.specs.Stops.{IsOpenAt, IsPending, IsNextCount, IsSpent}
 use Rattle.tree_rules.specs.Accepted.{IsAccepted}
 use Rattle.tree_laws.proofs.AcceptedLemmas.{partial_is_accepted}
@@ -28,32 +28,10 @@ use Rattle.search_tree.specs.Preorder.{IsPreorder, node_at, tree_of}
 use Rattle.search_tree.specs.Laws.{IsCell}
 use Rattle.search_tree.proofs.CountLemmas.{preorder_has_all}
 use Rattle.search_tree.proofs.PassLemmas.{passes, nodes_are_cells, cells_stand, aligned_start}
-use Rattle.turn_laws.specs.Values.{IsPositive, IsUnder, IsPositiveCost}
-use Rattle.turn_laws.specs.Kept.{IsFromLast, ReachesLast, LeafIsKept, EndIsKept, LastIsBelow, IsKeptFor}
+use Rattle.turn_laws.specs.Values.{IsPositive, IsUnder}
+use Rattle.turn_laws.specs.Kept.{IsFromLast, ReachesLast, LeafIsKept, EndIsKept, LastIsOfUse, IsKeptFor}
 use Rattle.turn_laws.specs.Turns.{CanBranch, IsLeastOpen}
-use Rattle.turn_laws.proofs.FractionLemmas.{fraction_trans}
-
--- what reaches a value that is at most what is claimed may undercut it
-undercuts : (p : Problem) (claimed : Option CostOver) (n : Node) (w : CostOver) → IsPositive w → IsPositiveCost claimed → IsAtMost claimed w.cost w.d → HasCheaper p n w.cost w.d → MayUndercut p claimed n
-undercuts p claimed n w pw pc below h = record {
-  sizes = h.sizes;
-  d = h.d;
-  relaxed = h.relaxed;
-  at_most = at claimed pc below;
-}
-  where
-    at : (c : Option CostOver) → IsPositiveCost c → IsAtMost c w.cost w.d → IsAtMost c (relaxed_cost (net_of p) n h.sizes h.d) h.d
-    at None pc below = tt
-    at (Some b) pc below = fraction_trans (relaxed_cost (net_of p) n h.sizes h.d) h.d w.cost w.d b.cost b.d h.relaxed.positive pw pc h.at_most below
-
--- what reaches a value is no dearer than what that value is under
-no_dearer : (p : Problem) (n m : Node) (w : CostOver) → IsPositive w → HasCheaper p n w.cost w.d → IsUnder p w m → IsNoDearer p n m
-no_dearer p n m w pw h under z d flows = record {
-  sizes = h.sizes;
-  d = h.d;
-  relaxed = h.relaxed;
-  at_most = fraction_trans (relaxed_cost (net_of p) n h.sizes h.d) h.d w.cost w.d (relaxed_cost (net_of p) m z d) d h.relaxed.positive pw flows.positive h.at_most (under z d flows);
-}
+use Rattle.turn_laws.proofs.OrderLemmas.{no_dearer_self, no_dearer_trans, no_dearer_may}
 
 pub networks_cost_more : (p : Problem) → IsValid p → (v : CostOver) (n : Node) → IsPositive v → IsUnder p v n → (s : ℕ → Bool) → IsBetween (shape_of p) n.inside n.outside s
     → (z : ℕ → ℤ) (d : ℤ) → IsFlows (net_of p) s z d → (v.cost *ℤ d) ≤ℤ (cost (net_of p) s z d *ℤ v.d)
@@ -62,7 +40,7 @@ networks_cost_more p valid v n pv under s between z d flows =
     let b = mul-le_right (relaxed_cost (net_of p) n z d) (cost (net_of p) s z d) v.d (relaxed_costs_less p valid n s between z d flows) (let q = pv in omega (arith, ints)) in
     omega (arith, ints, a, b)
 
-module _ (p : Problem) (start : Node) (claim : Claim) (undercut last : Option CostOver) (cells : List Cell) (order : List ℕ) (kept : IsKeptFor p start claim undercut last cells) (preorder : IsPreorder cells (0 ∷ []) order) where
+module _ (p : Problem) (start : Node) (claim : Claim) (undercut : Option CostOver) (last : Option Node) (cells : List Cell) (order : List ℕ) (kept : IsKeptFor p start claim undercut last cells) (preorder : IsPreorder cells (0 ∷ []) order) where
   cell_of : (k : ℕ) (n : Node) (e : End Leaf) → Stands (shape_of p) (start ∷ []) (tree_of cells order) k n e → IsCell cells n e
   cell_of k n e s =
       nodes_are_cells (shape_of p) (LeafPasses true p (claimed_cost claim)) start cells kept.grown.linked kept.grown.fits (start ∷ []) (0 ∷ []) order
@@ -76,14 +54,13 @@ module _ (p : Problem) (start : Node) (claim : Claim) (undercut last : Option Co
   open_at : (m : Node) (l : Leaf) → LeafIsKept p last m l → IsUntried l → IsNever (IsDead (shape_of p) m) → IsFromLast p last m
   open_at m l k e = subst (λ (w : Leaf). LeafIsKept p last m w) e k
 
-  of_use : (l : Option CostOver) → l ≡ last → (n : Node) → ReachesLast p l n → MayUndercut p undercut n
+  of_use : (l : Option Node) → l ≡ last → (n : Node) → ReachesLast p l n → MayUndercut p undercut n
   of_use None e n r = absurd r
-  of_use (Some w) e n r =
-      undercuts p undercut n w (subst IsPositiveCost (sym e) kept.last_positive) kept.undercut_positive (subst (λ (o : Option CostOver). LastIsBelow o undercut) (sym e) kept.below) r
+  of_use (Some w) e n r = no_dearer_may p undercut n w kept.undercut_positive r (subst (λ (o : Option Node). LastIsOfUse p undercut o) (sym e) kept.of_use)
 
-  in_turn : (l : Option CostOver) → l ≡ last → (n m : Node) → ReachesLast p l n → IsFromLast p l m → IsNoDearer p n m
+  in_turn : (l : Option Node) → l ≡ last → (n m : Node) → ReachesLast p l n → IsFromLast p l m → IsNoDearer p n m
   in_turn None e n m r f = absurd r
-  in_turn (Some w) e n m r f = no_dearer p n m w (subst IsPositiveCost (sym e) kept.last_positive) r f
+  in_turn (Some w) e n m r f = no_dearer_trans p n w m r f
 
   pub kept_is_lean : IsLean p IsUntried undercut start (tree_of cells order)
   kept_is_lean = record {
@@ -117,16 +94,19 @@ module _ (p : Problem) (start : Node) (claim : Claim) (undercut last : Option Co
   open_cell : (k : ℕ) (n : Node) → IsOpenAt p IsUntried start (tree_of cells order) k n → IsCell cells n (leaf untried)
   open_cell k n o = cell_of k n (leaf untried) (subst (λ (l : Leaf). Stands (shape_of p) (start ∷ []) (tree_of cells order) k n (leaf l)) o.is_open o.stands)
 
-  module _ (at place count budget : ℕ) (w : Way) (v : CostOver) (stands : slice_get order place ≡ Some at) (can : CanBranch p cells at w v)
-      (least : IsLeastOpen p cells at v) (below : LastIsBelow (Some v) undercut)
+  module _ (at place count budget : ℕ) (w : Way) (stands : slice_get order place ≡ Some at) (can : CanBranch p cells at w)
+      (least : IsLeastOpen p cells at) (of_use_here : MayUndercut p undercut (place_of (cell_at cells at)))
       (pending : (j : ℕ) → j < length cells → (cell_at cells j).end ≡ leaf untried → IsPending p (place_of (cell_at cells j)))
       (count_is : IsNextCount (shape_of p) (place_of (cell_at cells at)) count) (over : budget < length cells + count) where
     pending_at : (n : Node) → IsCell cells n (leaf untried) → IsPending p n
     pending_at n c = subst (λ (m : Node). IsPending p m) c.node_is (pending c.number c.there c.end_is)
 
-    under_at : (n : Node) → IsCell cells n (leaf untried) → IsUnder p v n
-    under_at n c = subst (λ (m : Node). IsUnder p v m) c.node_is (elim (cases_eq c.number at) [
-      | inl e ↦ subst (λ i. IsUnder p v (place_of (cell_at cells i))) (sym e) can.value.under
+    abbrev here : Node
+    here = place_of (cell_at cells at)
+
+    dearer_at : (n : Node) → IsCell cells n (leaf untried) → IsNoDearer p here n
+    dearer_at n c = subst (λ (m : Node). IsNoDearer p here m) c.node_is (elim (cases_eq c.number at) [
+      | inl e ↦ subst (λ i. IsNoDearer p here (place_of (cell_at cells i))) (sym e) (no_dearer_self p here)
       | inr ne ↦ least c.number c.there ne c.end_is (pending c.number c.there c.end_is).reduced.live.no_dead
     ])
 
@@ -135,8 +115,8 @@ module _ (p : Problem) (start : Node) (claim : Claim) (undercut last : Option Co
       pending = λ k n o. pending_at n (open_cell k n o);
       node = place_of (cell_at cells at);
       at_leaf = open_stands at place stands can.is_open;
-      of_use = undercuts p undercut (place_of (cell_at cells at)) v can.value.positive kept.undercut_positive below can.value.reached;
-      least = λ k n o. no_dearer p (place_of (cell_at cells at)) n v can.value.positive can.value.reached (under_at n (open_cell k n o));
+      of_use = of_use_here;
+      least = λ k n o. dearer_at n (open_cell k n o);
       count_is = count_is;
       exceeds =
           let a : length (tree_of cells order) ≡ length order = length-map order (node_at cells) in

@@ -3,4 +3,5 @@ pub mod GrowLemmas
 pub mod KeptLemmas
 pub mod LeanLemmas
 pub mod LinkLemmas
+pub mod OrderLemmas
 pub mod StepLemmas

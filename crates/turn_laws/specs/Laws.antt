@@ -12,31 +12,32 @@ use Rattle.flow_rules.specs.Flows.{IsFlows, cost}
 use Rattle.tree_rules.specs.Ways.{Way, width}
 use Rattle.tree_rules.specs.Tree.{branch, leaf}
 use Rattle.tree_rules.specs.Leaf.{IsUntried, untried}
-use Rattle.tree_rules.specs.Claim.{Claim, unknown, CostOver, claimed_cost, ClaimPasses}
-use Rattle.tree_rules.specs.Lean.{IsLean}
+use Rattle.tree_rules.specs.Claim.{Claim, unknown, CostOver, claimed_cost, IsAtMost, ClaimPasses}
+use Rattle.tree_rules.specs.Lean.{MayUndercut, HasCheaper, IsNoDearer, IsLean}
 use Rattle.tree_rules.specs.Stops.{IsOpenAt, IsPending, IsNextCount, IsSpent}
 use Rattle.tree_rules.specs.Accepted.{IsAccepted}
 use Rattle.search_tree.specs.Cells.{Cell, place_of, cell_at}
 use Rattle.search_tree.specs.Growth.{as_parent}
 use Rattle.search_tree.specs.Preorder.{IsPreorder, tree_of}
 use Rattle.turn_laws.specs.Values.{IsPositive, IsUnder, HasFallen, IsPositiveCost}
-use Rattle.turn_laws.specs.Kept.{LastIsBelow, IsKeptFor}
+use Rattle.turn_laws.specs.Kept.{IsKeptFor}
 use Rattle.turn_laws.specs.Turns.{CanBranch, IsLeastOpen, AreChildren, IsBranched, AreShut}
 
 -- ---- what a turn keeps
 
--- an open leaf of least value is branched, where its value is at most what is to be undercut then
+-- an open leaf is branched that is no dearer than any other, where it may undercut what is to be undercut then
 abbrev pub BranchingIsKept : Type 0
 BranchingIsKept =
-    (p : Problem) → IsValid p → (start : Node) (claim new_claim : Claim) (undercut new_undercut last : Option CostOver) (v : CostOver) (old children new : List Cell) (at : ℕ) (w : Way)
-    → IsKeptFor p start claim undercut last old → CanBranch p old at w v → IsLeastOpen p old at v
-    → HasFallen (claimed_cost claim) (claimed_cost new_claim) → IsPositiveCost (claimed_cost new_claim) → IsPositiveCost new_undercut → LastIsBelow (Some v) new_undercut
-    → AreChildren p (claimed_cost new_claim) (place_of (cell_at old at)) w children → IsBranched old children new at w → IsKeptFor p start new_claim new_undercut (Some v) new
+    (p : Problem) → IsValid p → (start : Node) (claim new_claim : Claim) (undercut new_undercut : Option CostOver) (last : Option Node) (old children new : List Cell) (at : ℕ) (w : Way)
+    → IsKeptFor p start claim undercut last old → CanBranch p old at w → IsLeastOpen p old at
+    → HasFallen (claimed_cost claim) (claimed_cost new_claim) → IsPositiveCost (claimed_cost new_claim) → IsPositiveCost new_undercut → MayUndercut p new_undercut (place_of (cell_at old at))
+    → AreChildren p (claimed_cost new_claim) (place_of (cell_at old at)) w children → IsBranched old children new at w
+    → IsKeptFor p start new_claim new_undercut (Some (place_of (cell_at old at))) new
 
 -- open leaves are shut
 abbrev pub ShuttingIsKept : Type 0
 ShuttingIsKept =
-    (p : Problem) (start : Node) (claim : Claim) (undercut last : Option CostOver) (old new : List Cell)
+    (p : Problem) (start : Node) (claim : Claim) (undercut : Option CostOver) (last : Option Node) (old new : List Cell)
     → IsKeptFor p start claim undercut last old → AreShut p (claimed_cost claim) old new → IsKeptFor p start claim undercut last new
 
 -- ---- what the call of `search_tree` that branches a leaf does to the cells is such a step
@@ -45,6 +46,18 @@ abbrev pub GrowthBranches : Type 0
 GrowthBranches =
     (old children : List Cell) (at : ℕ) (w : Way) → at < length old → width w ≡ length children
     → IsBranched old children (slice_set old at (as_parent (cell_at old at) (length old) (branch w)) ++ children) at w
+
+-- ---- how costs tell that a leaf may be branched
+
+-- a node that has relaxed flows of at most v is no dearer than one that has none below v
+abbrev pub ReachedIsNoDearer : Type 0
+ReachedIsNoDearer = (p : Problem) (n m : Node) (v : CostOver) → IsPositive v → HasCheaper p n v.cost v.d → IsUnder p v m → IsNoDearer p n m
+
+-- a node that has relaxed flows of at most v may undercut a cost that v is at most
+abbrev pub ReachedMayUndercut : Type 0
+ReachedMayUndercut =
+    (p : Problem) (undercut : Option CostOver) (n : Node) (v : CostOver) → IsPositive v → IsPositiveCost undercut → IsAtMost undercut v.cost v.d → HasCheaper p n v.cost v.d
+    → MayUndercut p undercut n
 
 -- a network of a node that has no relaxed flows cheaper than v costs at least v
 abbrev pub NetworksCostMore : Type 0
@@ -57,13 +70,13 @@ NetworksCostMore =
 -- the tree is lean
 abbrev pub KeptIsLean : Type 0
 KeptIsLean =
-    (p : Problem) (start : Node) (claim : Claim) (undercut last : Option CostOver) (cells : List Cell) (order : List ℕ) → IsKeptFor p start claim undercut last cells
+    (p : Problem) (start : Node) (claim : Claim) (undercut : Option CostOver) (last : Option Node) (cells : List Cell) (order : List ℕ) → IsKeptFor p start claim undercut last cells
     → IsPreorder cells (0 ∷ []) order → IsLean p IsUntried undercut start (tree_of cells order)
 
 -- where no leaf is open, and something is claimed that passes, the tree is accepted
 abbrev pub WholeIsAccepted : Type 0
 WholeIsAccepted =
-    (p : Problem) (start : Node) (claim : Claim) (undercut last : Option CostOver) (cells : List Cell) (order : List ℕ) → IsKeptFor p start claim undercut last cells
+    (p : Problem) (start : Node) (claim : Claim) (undercut : Option CostOver) (last : Option Node) (cells : List Cell) (order : List ℕ) → IsKeptFor p start claim undercut last cells
     → IsPreorder cells (0 ∷ []) order → ClaimPasses true p claim → (claim ≡ unknown → ⊥)
     → ((i : ℕ) → i < length cells → (cell_at cells i).end ≡ leaf untried → ⊥) → IsAccepted p start claim (tree_of cells order)
 
@@ -71,9 +84,9 @@ WholeIsAccepted =
 -- budget is spent
 abbrev pub KeptIsSpent : Type 0
 KeptIsSpent =
-    (p : Problem) (start : Node) (claim : Claim) (undercut last : Option CostOver) (cells : List Cell) (order : List ℕ) (at place count budget : ℕ) (w : Way) (v : CostOver)
+    (p : Problem) (start : Node) (claim : Claim) (undercut : Option CostOver) (last : Option Node) (cells : List Cell) (order : List ℕ) (at place count budget : ℕ) (w : Way)
     → IsKeptFor p start claim undercut last cells → IsPreorder cells (0 ∷ []) order → slice_get order place ≡ Some at
-    → CanBranch p cells at w v → IsLeastOpen p cells at v → LastIsBelow (Some v) undercut
+    → CanBranch p cells at w → IsLeastOpen p cells at → MayUndercut p undercut (place_of (cell_at cells at))
     → ((j : ℕ) → j < length cells → (cell_at cells j).end ≡ leaf untried → IsPending p (place_of (cell_at cells j)))
     → IsNextCount (shape_of p) (place_of (cell_at cells at)) count → budget < length cells + count
     → IsSpent p IsUntried undercut start (tree_of cells order) place count budget
@@ -81,6 +94,6 @@ KeptIsSpent =
 -- an open leaf stands open at its place
 abbrev pub OpenCellsStand : Type 0
 OpenCellsStand =
-    (p : Problem) (start : Node) (claim : Claim) (undercut last : Option CostOver) (cells : List Cell) (order : List ℕ) (at place : ℕ)
+    (p : Problem) (start : Node) (claim : Claim) (undercut : Option CostOver) (last : Option Node) (cells : List Cell) (order : List ℕ) (at place : ℕ)
     → IsKeptFor p start claim undercut last cells → IsPreorder cells (0 ∷ []) order → slice_get order place ≡ Some at
     → (cell_at cells at).end ≡ leaf untried → IsOpenAt p IsUntried start (tree_of cells order) place (place_of (cell_at cells at))

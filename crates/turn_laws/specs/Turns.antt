@@ -8,26 +8,25 @@ use Rattle.tree_rules.specs.Ways.{Way, width, MayBranch, options_at, child_at, I
 use Rattle.tree_rules.specs.Tree.{End, branch, leaf}
 use Rattle.tree_rules.specs.Leaf.{Leaf, untried, LeafPasses}
 use Rattle.tree_rules.specs.Claim.{CostOver}
+use Rattle.tree_rules.specs.Lean.{IsNoDearer}
 use Rattle.search_tree.specs.Cells.{Cell, place_of, cell_at}
 use Rattle.search_tree.specs.Fits.{Follows}
-use Rattle.turn_laws.specs.Values.{IsValueOf, IsUnder}
 
 -- ---- a leaf is branched
 
--- leaf `at` can be branched in this way: it is reduced, the way decides something there, and v is its value
-pub record CanBranch (p : Problem) (cells : List Cell) (at : ℕ) (w : Way) (v : CostOver) : Type 0 where
+-- leaf `at` can be branched in this way: it is reduced, and the way decides something there
+pub record CanBranch (p : Problem) (cells : List Cell) (at : ℕ) (w : Way) : Type 0 where
   pub there : at < length cells
   pub is_open : (cell_at cells at).end ≡ leaf untried
   pub reduced : IsReduced (shape_of p) (place_of (cell_at cells at))
   pub may : MayBranch (shape_of p) (place_of (cell_at cells at)) w
   pub splits : IsDecision (shape_of p) (place_of (cell_at cells at)) w
-  pub value : IsValueOf p (place_of (cell_at cells at)) v
 
--- no other open leaf has cheaper relaxed flows
-abbrev pub IsLeastOpen : Problem → List Cell → ℕ → CostOver → Type 0
-IsLeastOpen p cells at v =
+-- the leaf is no dearer than any other open leaf
+abbrev pub IsLeastOpen : Problem → List Cell → ℕ → Type 0
+IsLeastOpen p cells at =
     (j : ℕ) → j < length cells → (j ≡ at → ⊥) → (cell_at cells j).end ≡ leaf untried → IsNever (IsDead (shape_of p) (place_of (cell_at cells j)))
-    → IsUnder p v (place_of (cell_at cells j))
+    → IsNoDearer p (place_of (cell_at cells at)) (place_of (cell_at cells j))
 
 -- a child of the node: a leaf that passes at the node to which its steps lead
 pub record IsFreshChild (p : Problem) (claimed : Option CostOver) (n : Node) (w : Way) (c : Cell) : Type 0 where

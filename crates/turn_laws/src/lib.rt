@@ -10,4 +10,7 @@ mod trees;
 mod turns;
 
 pub use trees::{kept_is_lean, kept_is_spent, open_cells_stand, whole_is_accepted};
-pub use turns::{branching_is_kept, growth_is_turn, networks_cost_more, shutting_is_kept};
+pub use turns::{
+    branching_is_kept, growth_is_turn, networks_cost_more, reached_is_no_dearer,
+    reached_may_undercut, shutting_is_kept,
+};
