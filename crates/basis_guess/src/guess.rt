@@ -90,6 +90,18 @@ impl Guess {
     /// each linear in the number of the tableau's entries; takes no memory.
     pub fn look(&mut self, numbers: &Numbers, node: &Node, anew: bool) -> Outcome {
         self.ranges.set(numbers, node);
+        self.search(numbers, node, anew)
+    }
+
+    /// Looks for a basis of least flows of the node, from the slack basis, whose sizes may be rounded: in numbers that are finer by
+    /// as many bits as `numbers.fineness()` tells, and with rows that keep a little off the ends of their ranges. As `look` else.
+    pub fn look_inside(&mut self, numbers: &Numbers, node: &Node) -> Outcome {
+        self.ranges.set_inside(numbers, node);
+        self.search(numbers, node, true)
+    }
+
+    /// Looks for a basis of least flows in the ranges that were taken last.
+    fn search(&mut self, numbers: &Numbers, node: &Node, anew: bool) -> Outcome {
         self.set_costs(numbers, node);
         let is_fresh = anew || self.pivots >= STALE;
         if is_fresh {
@@ -141,6 +153,30 @@ impl Guess {
     /// How many bits the multipliers have lost; none after `Row`.
     pub fn shift(&self) -> u32 {
         self.shift
+    }
+
+    /// The ranges that were taken last.
+    pub(crate) fn ranges(&self) -> &Ranges {
+        &self.ranges
+    }
+
+    /// After `Basis`: writes the whole number of its range that is nearest to the size of each unit.
+    pub(crate) fn round_sizes(&self, sizes: &mut [i64]) {
+        for (k, column) in self.columns.iter().enumerate() {
+            self.put_size(sizes, column.variable, self.ends.at(k));
+        }
+        for row in self.rows.iter() {
+            self.put_size(sizes, row.basic, row.nearest());
+        }
+    }
+
+    /// Writes the number of its range that is nearest to this one, if the variable is a size.
+    fn put_size(&self, sizes: &mut [i64], variable: Variable, number: i64) {
+        if let Variable::Size(unit) = variable {
+            if let Some(size) = sizes.get_mut(unit) {
+                *size = self.ranges.of(variable).nearest(number);
+            }
+        }
     }
 
     /// Goes back to the slack basis: each balance by the rates of the units.

@@ -9,9 +9,12 @@
 //! balances are its variables; every end is finite, so each basis is dual feasible once each variable outside it stands at the end
 //! that its reduced cost asks for, and the basis of the last node is a start for the next one.
 //!
+//! A least basis has sizes with long numbers. [`Guess::look_inside`] looks for one whose rows keep a little off the ends of their
+//! ranges, and [`ShortSizes`] rounds its sizes: flows that cost a little more than the least, in short numbers.
+//!
 //! Modules: `numbers` (what a problem and a node ask for), `ranges` (the ends, shortened), `rounding` (wide products and what is
 //! kept of them), `line` (the numbers of a row), `row` and `cost_row` (the rows of the tableau), `choice` (who leaves the basis and who enters it), `guess` (the
-//! tableau).
+//! tableau), `short_sizes` (sizes that are rounded).
 #![tactic(auto)]
 
 mod choice;
@@ -22,7 +25,9 @@ mod numbers;
 mod ranges;
 mod rounding;
 mod row;
+mod short_sizes;
 
 pub use guess::{Column, Guess, Outcome};
 pub use numbers::{Ends, Numbers, Rate, Standing};
 pub use ranges::Variable;
+pub use short_sizes::ShortSizes;

@@ -1,5 +1,5 @@
 //! The scaled numbers of a problem, and what a node takes of them.
-use crate::ranges::END_BITS;
+use crate::ranges::{END_BITS, FINE_BITS};
 use crate::rounding::excess;
 use pns_problem::{Kind, Material, OperatingUnit, Problem, Term};
 use std::alloc::{AllocError, Global};
@@ -38,12 +38,14 @@ struct Column {
     sloped_cost: i128,
 }
 
-/// What is known of a material: the bounds of what it leaves over, or, where it is raw, of what is used of it.
+/// What is known of a material: the bounds of what it leaves over, or, where it is raw, of what is used of it; and how much all
+/// units make and use of it at most.
 #[derive(Clone, Copy)]
 struct Balance {
     bounds: Ends,
     raw: bool,
     product: bool,
+    reach: i128,
 }
 
 /// A problem's scaled numbers: what a unit and what a material has, by their numbers.
@@ -52,6 +54,7 @@ pub struct Numbers {
     columns: Vec<Column>,
     balances: Vec<Balance>,
     end_shift: u32,
+    fineness: u32,
     cost_shift: u32,
 }
 
@@ -67,6 +70,9 @@ const MILLION: i128 = 1_000_000;
 
 // The costs of a guess have at most so many bits.
 const COST_BITS: u32 = 61;
+
+// A guess adds at most so many bits to sizes that are to be rounded.
+const FINEST: u32 = 34;
 
 /// The quotient by a divisor that should be at least 1.
 fn over(number: i128, divisor: i128) -> i128 {
@@ -162,7 +168,29 @@ fn balance_of(material: &Material, rate_divisor: i64, size_divisor: i128) -> Bal
         },
         raw: material.kind == Kind::RawMaterial,
         product: material.kind == Kind::Product,
+        reach: 0,
     }
+}
+
+/// Adds what each unit makes and uses at most.
+fn add_reaches(columns: &[Column], balances: &mut [Balance]) {
+    for column in columns {
+        for rate in &column.rates {
+            if let Some(balance) = balances.get_mut(rate.material) {
+                let most = column.size.high.wrapping_mul(rate.rate as i128);
+                balance.reach = balance.reach.wrapping_add(most.wrapping_abs());
+            }
+        }
+    }
+}
+
+/// All bits that stand in some balance that units can have and bounds allow.
+fn reach_bits(balances: &[Balance]) -> u128 {
+    let mut bits = 0u128;
+    for balance in balances {
+        bits |= balance.reach.min(balance.bounds.high).unsigned_abs();
+    }
+    bits
 }
 
 /// All bits that stand in some end that a guess must not cut off, and all that stand in some cost. A balance may be cut off where
@@ -211,11 +239,14 @@ impl Numbers {
         for (material, divisor) in problem.materials().iter().zip(rate_divisors) {
             balances.push(balance_of(material, *divisor, size_divisor))?;
         }
+        add_reaches(&columns, &mut balances);
         let (ends, costs) = bits_of(&columns, &balances);
+        let longest = excess(ends | reach_bits(&balances), 0);
         Ok(Numbers {
             columns,
             balances,
             end_shift: excess(ends, END_BITS),
+            fineness: FINE_BITS.saturating_sub(longest).min(FINEST),
             cost_shift: excess(costs, COST_BITS),
         })
     }
@@ -223,6 +254,11 @@ impl Numbers {
     /// How many bits a guess drops of sizes and balances.
     pub(crate) fn end_shift(&self) -> u32 {
         self.end_shift
+    }
+
+    /// How many bits a guess adds to sizes and balances that are to be rounded.
+    pub fn fineness(&self) -> u32 {
+        self.fineness
     }
 
     /// How many bits a guess drops of costs.
@@ -279,6 +315,18 @@ impl Numbers {
         }
     }
 
+    /// Writes the sum of the absolute rates of the units that are not left out at the node, for each material.
+    pub(crate) fn sum_rates(&self, node: &Node, sums: &mut [i64]) {
+        for sum in sums.iter_mut() {
+            *sum = 0;
+        }
+        for (unit, column) in self.columns.iter().enumerate() {
+            if !is_in(node.outside, unit) {
+                add_rates(&column.rates, sums);
+            }
+        }
+    }
+
     /// Writes what the node asks of each material.
     pub fn stand(&self, node: &Node, standings: &mut [Standing]) {
         for standing in standings.iter_mut() {
@@ -308,6 +356,15 @@ fn stand_unit(rates: &[Rate], unit: usize, node: &Node, standings: &mut [Standin
             } else if *standing == Standing::Apart {
                 *standing = Standing::Free;
             }
+        }
+    }
+}
+
+/// Adds the absolute rates of one unit.
+fn add_rates(rates: &[Rate], sums: &mut [i64]) {
+    for rate in rates {
+        if let Some(sum) = sums.get_mut(rate.material) {
+            *sum = sum.wrapping_add(rate.rate.wrapping_abs());
         }
     }
 }

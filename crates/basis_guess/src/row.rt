@@ -119,6 +119,13 @@ impl Row {
         }
     }
 
+    /// The whole number that is nearest to the basic variable, as its value was formed last.
+    pub(crate) fn nearest(&self) -> i64 {
+        let half = self.den.wrapping_shr(1) as i128;
+        let raised = self.value.wrapping_add(half);
+        narrowed(raised.wrapping_div(self.den.max(1) as i128))
+    }
+
     /// How far the basic variable is out of its range. What may be noise does not count.
     pub(crate) fn distance(&self, ranges: &Ranges, noise: i128) -> Option<Distance> {
         let range = ranges.of(self.basic);

@@ -1,18 +1,20 @@
 -- Scaled sizes as relaxed flows, their cost, and that settled ones cost the least.
-use Rattle.std.proofs.Common.{◌≡◌, ℕ, ◌<◌, sym, ap, ◌∙◌, subst, arith, pos, ℤ, ◌+ℤ◌, ◌*ℤ◌, ◌≤ℤ◌, ◌<ℤ◌}
+use Rattle.std.proofs.Common.{◌≡◌, ℕ, ◌<◌, true, sym, ap, ◌∙◌, subst, arith, pos, ℤ, ◌+ℤ◌, ◌*ℤ◌, ◌≤ℤ◌, ◌<ℤ◌}
 use Rattle.std.proofs.lemmas.Int.{ints}
 use Rattle.integer_laws.specs.Total.{total}
 use Rattle.integer_laws.proofs.Ring.{V, ◌⊗◌, ◌⊕◌, ring, mul_assoc_z, mul_comm_z}
 use Rattle.integer_laws.proofs.Order.{mul-le_left, cancel_le}
 use Rattle.integer_laws.proofs.Totals.{total-agree, total-mul}
+use Rattle.problem_rules.specs.Problem.{Problem}
 use Rattle.pns_rules.specs.Structure.{mats}
 use Rattle.pns_rules.specs.Nodes.{Node}
 use Rattle.flow_rules.specs.Net.{Net, net_of}
 use Rattle.flow_rules.specs.Relaxed.{stays, units, rows, row_low, row_high, unit_low, unit_cost, fixed_cost, row_balance, IsRelaxed, relaxed_cost}
 use Rattle.flow_rules.proofs.ListedLemmas.{All-listed}
+use Rattle.tree_rules.specs.Lean.{HasCheaper}
 use Rattle.scaled_flows.specs.Divisors.{Divisors, rate_divisor, AreDivisors}
 use Rattle.scaled_flows.specs.Scaled.{scaled_rate, size_floor, size_ceiling, row_floor, row_ceiling, scaled_cost, scaled_balance, price, size_costs, value_over}
-use Rattle.scaled_flows.specs.Settled.{AreSettled}
+use Rattle.scaled_flows.specs.Settled.{IsSettled, AreSettled}
 use Rattle.scaled_flows.specs.Laws.{SettledAreRelaxed, CostIsCounted, SettledAreOptimal}
 use Rattle.scaled_flows.proofs.SignLemmas.{settled_least, optimal_by_signs}
 
@@ -97,24 +99,37 @@ module _ (net : Net) (s : Divisors) (divide : AreDivisors net s) (n : Node) wher
       ap (λ (c : ℤ). d *ℤ fixed_cost net n +ℤ c) (costs_moved z)
       ∙ ap (λ (f : ℤ). f +ℤ (s.costs *ℤ s.sizes) *ℤ size_costs net s n z) (mul_comm_z d (fixed_cost net n))
 
-  -- ---- scaled sizes in their ranges
-  module _ (z : ℕ → ℤ) (d scale : ℤ) (y : ℕ → ℤ) (settled : AreSettled net s n z d scale y) where
+  -- ---- scaled sizes in their ranges, whatever the prices of sizes and rows
+  module _ (z : ℕ → ℤ) (d : ℤ) (e y : ℕ → ℤ) (positive : pos 1 ≤ℤ d)
+      (size_within : (i : ℕ) → i < net.graph.units → stays n i ≡ true → IsSettled (size_floor net s n i) (size_ceiling net s i) d (z i) (e i))
+      (row_within : (j : ℕ) → j < net.graph.materials → mats net.graph (stays n) j ≡ true → IsSettled (row_floor net s n j) (row_ceiling net s n j) d (scaled_balance net s n z j) (y j)) where
     factor : (j : ℕ) → j < net.graph.materials → pos 0 ≤ℤ (rate_divisor s j *ℤ s.sizes)
     factor j l = at (rate_divisor s j) s.sizes (divide.rates_positive j l) divide.sizes_positive
       where
         at : (a b : ℤ) → pos 1 ≤ℤ a → pos 1 ≤ℤ b → pos 0 ≤ℤ (a *ℤ b)
         at a b p q = let f : (a *ℤ pos 0) ≤ℤ (a *ℤ b) = mul-le_left a (pos 0) b (not_below b q) (not_below a p) in omega (arith, ints)
 
-    pub settled_relaxed : IsRelaxed net n (λ i. s.sizes *ℤ z i) d
-    settled_relaxed = record {
-      positive = settled.positive;
-      at_least = λ i l h. above (unit_low net n i) s.sizes (size_floor net s n i) d (z i) (divide.size_low n i l) (not_below s.sizes divide.sizes_positive) (settled.sizes i l h).at_least;
-      at_most = λ i l h. below (net.most i) s.sizes (size_ceiling net s i) d (z i) (divide.size_high i l) (not_below s.sizes divide.sizes_positive) (settled.sizes i l h).at_most;
+    pub within_relaxed : IsRelaxed net n (λ i. s.sizes *ℤ z i) d
+    within_relaxed = record {
+      positive = positive;
+      at_least = λ i l h. above (unit_low net n i) s.sizes (size_floor net s n i) d (z i) (divide.size_low n i l) (not_below s.sizes divide.sizes_positive) (size_within i l h).at_least;
+      at_most = λ i l h. below (net.most i) s.sizes (size_ceiling net s i) d (z i) (divide.size_high i l) (not_below s.sizes divide.sizes_positive) (size_within i l h).at_most;
       low = λ j l h. subst (λ (b : ℤ). (row_low net n j *ℤ d) ≤ℤ b) (sym (balance_moved z j l))
-          (above (row_low net n j) (rate_divisor s j *ℤ s.sizes) (row_floor net s n j) d (scaled_balance net s n z j) (divide.row_low n j l h) (factor j l) (settled.rows j l h).at_least);
+          (above (row_low net n j) (rate_divisor s j *ℤ s.sizes) (row_floor net s n j) d (scaled_balance net s n z j) (divide.row_low n j l h) (factor j l) (row_within j l h).at_least);
       high = λ j l h. subst (λ (b : ℤ). b ≤ℤ (row_high net n j *ℤ d)) (sym (balance_moved z j l))
-          (below (row_high net n j) (rate_divisor s j *ℤ s.sizes) (row_ceiling net s n j) d (scaled_balance net s n z j) (divide.row_high n j l h) (factor j l) (settled.rows j l h).at_most);
+          (below (row_high net n j) (rate_divisor s j *ℤ s.sizes) (row_ceiling net s n j) d (scaled_balance net s n z j) (divide.row_high n j l h) (factor j l) (row_within j l h).at_most);
     }
+
+  same_le : (a b : ℤ) → a ≡ b → a ≤ℤ b
+  same_le a b e = omega (arith, ints)
+
+  value_reached : (z : ℕ → ℤ) (d : ℤ) → (relaxed_cost net n (λ i. s.sizes *ℤ z i) d *ℤ d) ≤ℤ (value_over net s n z d *ℤ d)
+  value_reached z d = same_le (relaxed_cost net n (λ i. s.sizes *ℤ z i) d *ℤ d) (value_over net s n z d *ℤ d) (ap (λ (c : ℤ). c *ℤ d) (cost_counted z d))
+
+  -- ---- settled sizes
+  module _ (z : ℕ → ℤ) (d scale : ℤ) (y : ℕ → ℤ) (settled : AreSettled net s n z d scale y) where
+    pub settled_relaxed : IsRelaxed net n (λ i. s.sizes *ℤ z i) d
+    settled_relaxed = within_relaxed z d (price net s n scale y) y settled.positive settled.sizes settled.rows
 
     -- no relaxed flows w over k cost less for their sizes
     sizes_cost_least : (w : ℕ → ℤ) (k : ℤ) → IsRelaxed net n w k → ((s.sizes *ℤ k) *ℤ size_costs net s n z) ≤ℤ (d *ℤ size_costs net s n w)
@@ -132,12 +147,6 @@ module _ (net : Net) (s : Divisors) (divide : AreDivisors net s) (n : Node) wher
         (row_below_back (row_high net n j) (rate_divisor s j) s.sizes (row_ceiling net s n j) k (row_balance net n w j) (scaled_balance net s n w j) (from_one (rate_divisor s j) (divide.rates_positive j l)) (divide.row_high n j l h) (balance_of w j l) (flows.high j l h))))
 
     -- ---- the value
-    same_le : (a b : ℤ) → a ≡ b → a ≤ℤ b
-    same_le a b e = omega (arith, ints)
-
-    value_reached : (relaxed_cost net n (λ i. s.sizes *ℤ z i) d *ℤ d) ≤ℤ (value_over net s n z d *ℤ d)
-    value_reached = same_le (relaxed_cost net n (λ i. s.sizes *ℤ z i) d *ℤ d) (value_over net s n z d *ℤ d) (ap (λ (c : ℤ). c *ℤ d) (cost_counted z d))
-
     -- the value's cost over k is no more than that of the flows over d
     value_under : (w : ℕ → ℤ) (k : ℤ) → IsRelaxed net n w k → (value_over net s n z d *ℤ k) ≤ℤ (relaxed_cost net n w k *ℤ d)
     value_under w k flows =
@@ -170,6 +179,18 @@ settled_are_optimal p s divide n z d scale y settled = record {
     sizes = λ i. s.sizes *ℤ z i;
     d = d;
     relaxed = settled_relaxed (net_of p) s divide n z d scale y settled;
-    at_most = value_reached (net_of p) s divide n z d scale y settled;
+    at_most = value_reached (net_of p) s divide n z d;
   };
+}
+
+-- sizes in their ranges are relaxed flows that cost the value
+pub within_reached : (p : Problem) (s : Divisors) → AreDivisors (net_of p) s → (n : Node) (z : ℕ → ℤ) (d : ℤ) (e y : ℕ → ℤ) → pos 1 ≤ℤ d
+    → ((i : ℕ) → i < (net_of p).graph.units → stays n i ≡ true → IsSettled (size_floor (net_of p) s n i) (size_ceiling (net_of p) s i) d (z i) (e i))
+    → ((j : ℕ) → j < (net_of p).graph.materials → mats (net_of p).graph (stays n) j ≡ true → IsSettled (row_floor (net_of p) s n j) (row_ceiling (net_of p) s n j) d (scaled_balance (net_of p) s n z j) (y j))
+    → HasCheaper p n (value_over (net_of p) s n z d) d
+within_reached p s divide n z d e y positive sizes_within rows_within = record {
+  sizes = λ i. s.sizes *ℤ z i;
+  d = d;
+  relaxed = within_relaxed (net_of p) s divide n z d e y positive sizes_within rows_within;
+  at_most = value_reached (net_of p) s divide n z d;
 }

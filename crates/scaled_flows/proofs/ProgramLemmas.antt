@@ -24,11 +24,12 @@ use Rattle.flow_rules.proofs.ZeroLemmas.{zero_from}
 use Rattle.flow_program.specs.Entry.{entry}
 use Rattle.flow_program.specs.Rates.{AreRates}
 use Rattle.flow_program.proofs.BoundSumLemmas.{materials_are_rows}
+use Rattle.tree_rules.specs.Lean.{HasCheaper}
 use Rattle.scaled_flows.specs.Divisors.{Divisors, Divides, rate_divisor, AreDivisors, HasDivisors}
 use Rattle.scaled_flows.specs.Scaled.{scaled_rate, size_floor, size_ceiling, row_floor, row_ceiling, scaled_balance, price, size_costs, value_over}
 use Rattle.scaled_flows.specs.Settled.{IsSettled}
 use Rattle.scaled_flows.specs.LeastCost.{IsLeastCost}
-use Rattle.scaled_flows.proofs.OptimalLemmas.{settled_are_optimal}
+use Rattle.scaled_flows.proofs.OptimalLemmas.{settled_are_optimal, within_reached}
 
 -- ---- what is known of an answer
 pub some_weaker : {T : Type 0} (o : Option T) (P Q : T → Type 0) → ((x : T) → P x → Q x) → IfSome o P → IfSome o Q
@@ -112,18 +113,35 @@ module _ (p : Problem) (s : Divisors) (divide : AreDivisors (net_of p) s) (n : N
   listed_has m t set e i l h = ap (λ (xs : List ℕ). has xs i) e ∙ has-listed m t i ∙ (λ k. lt-ltb i m l k && h k)
 
   -- ---- the check as a whole
+  -- a fixed cost and a worth of the sizes make the value of the sizes
+  value_from : (Q : ℤ → ℤ → Type 0) (z : ℕ → ℤ) (d fixed worth costs : ℤ) → fixed ≡ fixed_cost (net_of p) n → worth ≡ s.costs *ℤ s.sizes → costs ≡ size_costs (net_of p) s n z
+      → (num den : ℤ) → num ≡ fixed *ℤ d +ℤ worth *ℤ costs → den ≡ d → Q (value_over (net_of p) s n z d) d → Q num den
+  value_from Q z d fixed worth costs f w c num den over is q =
+      subst (λ (v : ℤ). Q v den) (sym (over ∙ (λ k. f k *ℤ d +ℤ w k *ℤ c k)))
+      (subst (λ (v : ℤ). Q (value_over (net_of p) s n z d) v) (sym is) q)
+
   pub least_from : (unit_list row_list : List ℕ) → unit_list ≡ units (net_of p) n → row_list ≡ rows (net_of p) n → (z : ℕ → ℤ) (d scale : ℤ) (y : ℕ → ℤ) → pos 1 ≤ℤ d → pos 1 ≤ℤ scale
       → ((j : ℕ) → has row_list j ≡ true → IsSettled (row_floor (net_of p) s n j) (row_ceiling (net_of p) s n j) d (scaled_balance (net_of p) s n z j) (y j))
       → ((i : ℕ) → has unit_list i ≡ true → IsSettled (size_floor (net_of p) s n i) (size_ceiling (net_of p) s i) d (z i) (price (net_of p) s n scale y i))
       → (fixed worth costs : ℤ) → fixed ≡ fixed_cost (net_of p) n → worth ≡ s.costs *ℤ s.sizes → costs ≡ size_costs (net_of p) s n z
       → (num den : ℤ) → num ≡ fixed *ℤ d +ℤ worth *ℤ costs → den ≡ d → IsLeastCost p n num den
   least_from unit_list row_list us rs z d scale y dp sp row_settled unit_settled fixed worth costs f w c num den over is =
-      subst (λ (v : ℤ). IsLeastCost p n v den) (sym (over ∙ (λ k. f k *ℤ d +ℤ w k *ℤ c k)))
-      (subst (λ (v : ℤ). IsLeastCost p n (value_over (net_of p) s n z d) v) (sym is)
+      value_from (IsLeastCost p n) z d fixed worth costs f w c num den over is
       (settled_are_optimal p s divide n z d scale y
       (record {
         positive = dp;
         scale_positive = sp;
         sizes = λ i l h. unit_settled i (listed_has (net_of p).graph.units (stays n) unit_list us i l h);
         rows = λ j l h. row_settled j (listed_has (net_of p).graph.materials (mats (net_of p).graph (stays n)) row_list rs j l h);
-      })))
+      }))
+
+  pub reached_from : (unit_list row_list : List ℕ) → unit_list ≡ units (net_of p) n → row_list ≡ rows (net_of p) n → (z : ℕ → ℤ) (d scale : ℤ) (y : ℕ → ℤ) → pos 1 ≤ℤ d
+      → ((j : ℕ) → has row_list j ≡ true → IsSettled (row_floor (net_of p) s n j) (row_ceiling (net_of p) s n j) d (scaled_balance (net_of p) s n z j) (y j))
+      → ((i : ℕ) → has unit_list i ≡ true → IsSettled (size_floor (net_of p) s n i) (size_ceiling (net_of p) s i) d (z i) (price (net_of p) s n scale y i))
+      → (fixed worth costs : ℤ) → fixed ≡ fixed_cost (net_of p) n → worth ≡ s.costs *ℤ s.sizes → costs ≡ size_costs (net_of p) s n z
+      → (num den : ℤ) → num ≡ fixed *ℤ d +ℤ worth *ℤ costs → den ≡ d → HasCheaper p n num den
+  reached_from unit_list row_list us rs z d scale y dp row_settled unit_settled fixed worth costs f w c num den over is =
+      value_from (HasCheaper p n) z d fixed worth costs f w c num den over is
+      (within_reached p s divide n z d (price (net_of p) s n scale y) y dp
+      (λ i l h. unit_settled i (listed_has (net_of p).graph.units (stays n) unit_list us i l h))
+      (λ j l h. row_settled j (listed_has (net_of p).graph.materials (mats (net_of p).graph (stays n)) row_list rs j l h)))

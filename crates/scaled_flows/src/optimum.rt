@@ -29,7 +29,7 @@ pub struct Guessed<'a> {
 }
 
 /// What a scaled cost of 1 of a scaled size of 1 is worth, in 10^-18 of the money unit times the payout period.
-fn worth_of(scales: &Scales) -> Option<i128>
+pub(crate) fn worth_of(scales: &Scales) -> Option<i128>
     requires costs { pos 1 ≤ℤ scales.now.costs }
     requires sizes { pos 1 ≤ℤ scales.now.sizes }
     ensures value { IfSome result (λ w. w ≡ scales.now.costs *ℤ scales.now.sizes) }
