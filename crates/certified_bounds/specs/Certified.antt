@@ -1,5 +1,5 @@
 -- What is told of a node by the second way: the least cost of its relaxed flows with a bound that multipliers prove, a network of
--- that cost, multipliers that refute the node, or nothing.
+-- that cost, multipliers that refute the node, or nothing; and two costs between which the least lies.
 use Rattle.std.specs.Prelude.{◌≡◌, ℕ, pos, ◌≤ℤ◌, ◌*ℤ◌, Bool, true, false, Some}
 use Rattle.number_sets.specs.Sets.{has}
 use Rattle.problem_rules.specs.Problem.{Problem}
@@ -9,7 +9,9 @@ use Rattle.mixed_numbers.specs.Number.{numerator, denominator}
 use Rattle.scaled_flows.specs.LeastCost.{IsLeastCost}
 use Rattle.tree_rules.specs.Claim.{Network, CostOver, IsFeasible}
 use Rattle.tree_rules.specs.Leaf.{IsRefuted, IsBounded}
+use Rattle.tree_rules.specs.Lean.{HasCheaper}
 use Rattle.certified_bounds.specs.declared.certified.LeastBound.{LeastBound}
+use Rattle.certified_bounds.specs.declared.certified.Between.{Between}
 use Rattle.certified_bounds.specs.declared.certified.Certified.{Certified}
 use Rattle.certified_bounds.specs.declared.certified.Certified.TheVariants.{Least, Flows, Refuted, Nothing}
 
@@ -23,6 +25,11 @@ pub record IsLeastBound (p : Problem) (n : Node) (b : LeastBound) : Type 0 where
   pub value : IsLeastCost p n (numerator b.value) (denominator b.value)
   pub no_more : (numerator b.low *ℤ denominator b.value) ≤ℤ (numerator b.value *ℤ denominator b.low)
   pub bounded : IsBounded p (Some (cost_over b.low)) n b.scaled.d b.scaled.ys
+
+-- the multipliers prove that no relaxed flows of the node cost less than `low`, and some cost at most `reached`
+pub record IsBetween (p : Problem) (n : Node) (b : Between) : Type 0 where
+  pub bounded : IsBounded p (Some (cost_over b.low)) n b.scaled.d b.scaled.ys
+  pub reached : HasCheaper p n (numerator b.reached) (denominator b.reached)
 
 -- the network has flows, and its cost is the value
 pub record IsNetworkAt (p : Problem) (value : Mixed) (w : Network) : Type 0 where

@@ -7,12 +7,13 @@ ghost use Rattle.pgraph.specs.View.{node_of};
 ghost use Rattle.mixed_numbers.specs.Number.{numerator, denominator};
 ghost use Rattle.scaled_flows.specs.LeastCost.{IsLeastCost};
 ghost use Rattle.tree_rules.specs.Leaf.{IsBounded};
-ghost use Rattle.certified_bounds.specs.Certified.{IsCertified};
+ghost use Rattle.tree_rules.specs.Lean.{HasCheaper};
+ghost use Rattle.certified_bounds.specs.Certified.{IsBetween, IsCertified};
 
-use crate::certified::Certified;
+use crate::certified::{Between, Certified};
 use crate::change::{change_to, make_change};
 use crate::flows::flows;
-use crate::lows::{least, proving};
+use crate::lows::{least, low_to, proving};
 use crate::proposals::{Proposals, Proposed};
 use crate::refutations::refuted;
 use crate::same_problem::is_same_problem;
@@ -20,7 +21,7 @@ use branch_tree::Scaled;
 use mixed_numbers::Mixed;
 use pgraph::Graph;
 use pns_problem::{Parts, Problem};
-use scaled_flows::{Scales, least_value};
+use scaled_flows::{Scales, cost_of_sizes, least_value};
 use std::alloc::{AllocError, Global};
 use std::marker::Model;
 use unit_sets::Node;
@@ -175,6 +176,45 @@ impl CertifiedBounds {
     {
         let guessed = self.proposals.guessed();
         least_value(problem, graph, &self.scales, *node, &guessed)
+    }
+
+    /// Two costs between which the least cost of relaxed flows of the node lies, where they are found. It takes no memory but for what it
+    /// hands out, and `Err` comes for want of that alone.
+    pub fn between(
+        &mut self,
+        alloc: Global,
+        problem: &Problem,
+        graph: &Graph,
+        node: Node,
+    ) -> Result<Option<Between>, AllocError>
+        requires own { self.old ≡ problem.now }
+        requires graph { shape graph.now ≡ shape_of problem.now }
+        requires sound { IsSound (shape_of problem.now) (node_of node) }
+        ensures same { self.new ≡ self.old }
+        ensures between { IfOk result (λ found. IfSome found (IsBetween problem.now (node_of node))) }
+    {
+        if !self.proposals.propose_inside(&node) {
+            return Ok(None);
+        }
+        let Some(d) = self.proposals.write_short(&node) else {
+            return Ok(None);
+        };
+        let Some(reached) = self.reached(problem, graph, &node, d) else {
+            return Ok(None);
+        };
+        self.proposals.keep_short_sizes(d);
+        low_to(alloc, problem, graph, &node, &mut self.proposals, reached)
+    }
+
+    /// After `write_short`: what these sizes over `d` cost, where they pass the check.
+    fn reached(&self, problem: &Problem, graph: &Graph, node: &Node, d: i128) -> Option<Mixed>
+        requires own { self.now ≡ problem.now }
+        requires graph { shape graph.now ≡ shape_of problem.now }
+        requires sound { IsSound (shape_of problem.now) (node_of node.now) }
+        ensures { IfSome result (λ cost. HasCheaper problem.now (node_of node.now) (numerator cost) (denominator cost)) }
+    {
+        let sizes = self.proposals.list();
+        cost_of_sizes(problem, graph, &self.scales, *node, sizes, d)
     }
 
     /// Multipliers that prove that no relaxed flows of the node cost less than the cost over `d`, where they are found. It takes no

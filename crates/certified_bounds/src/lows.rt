@@ -8,9 +8,10 @@ ghost use Rattle.pgraph.specs.View.{node_of};
 ghost use Rattle.mixed_numbers.specs.Number.{numerator, denominator};
 ghost use Rattle.scaled_flows.specs.LeastCost.{IsLeastCost};
 ghost use Rattle.tree_rules.specs.Leaf.{IsBounded};
-ghost use Rattle.certified_bounds.specs.Certified.{cost_over, IsCertified};
+ghost use Rattle.tree_rules.specs.Lean.{HasCheaper};
+ghost use Rattle.certified_bounds.specs.Certified.{cost_over, IsBetween, IsCertified};
 
-use crate::certified::{Certified, LeastBound};
+use crate::certified::{Between, Certified, LeastBound};
 use crate::judged::{low_of, reaches};
 use crate::proposals::Proposals;
 use branch_tree::Scaled;
@@ -206,4 +207,45 @@ pub(crate) fn proving(
         }
     }
     exact(alloc, problem, graph, node, proposals, goal)
+}
+
+/// After `propose_inside`: what rounded multipliers prove, over the longest of three scales at which no number is out of range.
+fn near_low(problem: &Problem, graph: &Graph, node: &Node, proposals: &mut Proposals) -> Option<Low>
+    requires graph { shape graph.now ≡ shape_of problem.now }
+    requires known { (u : ℕ) → has node.now.inside u ≡ true → u < (shape graph.now).units }
+    ensures { IfSome result (λ l. IsBounded problem.now (Some (cost_over l.low)) (node_of node.now) l.scale proposals.new) }
+{
+    'scales: for bits in [30u32, 20, 10] {
+        let scale = proposals.write_near(bits);
+        if let Some(low) = listed_low(problem, graph, node, proposals, scale) {
+            return Some(low);
+        }
+    }
+    None
+}
+
+/// After `propose_inside`: what some flows cost, and what rounded multipliers prove.
+pub(crate) fn low_to(
+    alloc: Global,
+    problem: &Problem,
+    graph: &Graph,
+    node: &Node,
+    proposals: &mut Proposals,
+    reached: Mixed,
+) -> Result<Option<Between>, AllocError>
+    requires graph { shape graph.now ≡ shape_of problem.now }
+    requires known { (u : ℕ) → has node.now.inside u ≡ true → u < (shape graph.now).units }
+    requires reached { HasCheaper problem.now (node_of node.now) (numerator reached) (denominator reached) }
+    ensures { IfOk result (λ found. IfSome found (IsBetween problem.now (node_of node.now))) }
+{
+    let Some(low) = near_low(problem, graph, node, proposals) else {
+        return Ok(None);
+    };
+    proposals.are_in_range();
+    let scaled = Scaled::of(alloc, low.scale, proposals.list())?;
+    Ok(Some(Between {
+        low: low.low,
+        scaled,
+        reached,
+    }))
 }

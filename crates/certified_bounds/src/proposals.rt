@@ -8,7 +8,7 @@ ghost use Rattle.scaled_flows.specs.Divisors.{AreDivisors};
 use crate::multipliers::ScaledRows;
 use crate::number_list::NumberList;
 use crate::rounding::Ratio;
-use basis_guess::{Guess, Numbers, Outcome, Standing};
+use basis_guess::{Guess, Numbers, Outcome, ShortSizes, Standing};
 use basis_solve::Solver;
 use int_rows::gcd;
 use pns_problem::Problem;
@@ -40,10 +40,11 @@ pub(crate) struct Proposals {
     scaled: ScaledProblem,
     guess: Guess,
     solver: Solver,
+    short: ShortSizes,
     // The rows of the node: what it asks of each material, and the divisors of those that it has.
     standings: Vec<Standing>,
     row_rates: Vec<i64>,
-    // ScaledProblem multipliers of a row that can't be met.
+    // Scaled multipliers of a row that can't be met, or of the cost.
     row: NumberList,
     list: NumberList,
     whole_sizes: Vec<i64>,
@@ -93,6 +94,24 @@ const MILLION: i128 = 1_000_000;
 // The greatest size of a unit, in millionths.
 const MOST_SIZE: i128 = 1_000_000_000_000_000;
 
+// So many bits behind a multiplier of the cost have room.
+const ROOM: u32 = 64;
+
+/// Whether the unit is left out at the node.
+fn is_left_out(node: &Node, unit: usize) -> bool {
+    unit < 128 && node.outside.has(unit as u32)
+}
+
+/// Writes scaled sizes over `d` in whole millionths.
+fn keep_whole(whole_sizes: &mut Vec<i64>, sizes: &[i128], scale: i128, d: i128) {
+    whole_sizes.clear();
+    for size in sizes {
+        let whole = Ratio::of_products(*size, scale, d, 1).floor();
+        let kept = whole.min(MOST_SIZE).max(0) as i64;
+        let _is_kept = whole_sizes.push(kept).is_ok();
+    }
+}
+
 impl Proposals {
     /// Makes room for the nodes of the problem. `Err` comes for want of memory alone.
     pub(crate) fn open(
@@ -109,6 +128,7 @@ impl Proposals {
             scaled: ScaledProblem::of(alloc, problem, scales)?,
             guess: Guess::open(alloc, units, materials)?,
             solver: Solver::open(alloc, units, materials)?,
+            short: ShortSizes::open(alloc, units, materials)?,
             standings: vec![in alloc; Standing::Apart; materials as usize]?,
             row_rates: Vec::with_capacity(alloc, materials as usize)?,
             row: NumberList::open(alloc, materials as usize)?,
@@ -166,6 +186,31 @@ impl Proposals {
         self.row.clear();
         for (multiplier, standing) in self.guess.multipliers().iter().zip(&self.standings) {
             if *standing != Standing::Apart && !self.row.push(*multiplier as i128) {
+                return false;
+            }
+        }
+        true
+    }
+
+    /// Looks for flows of the node in short numbers that cost little more than the least, and for multipliers that prove little less.
+    pub(crate) fn propose_inside(&mut self, node: &Node) -> bool {
+        let outcome = self.guess.look_inside(&self.scaled.numbers, node);
+        outcome == Outcome::Basis
+            && self.read_rows(node)
+            && self.read_costs()
+            && self.short.take(&self.guess, &self.scaled.numbers)
+    }
+
+    /// Reads the scaled multipliers of the cost.
+    fn read_costs(&mut self) -> bool {
+        let by = self.guess.shift();
+        if by > ROOM {
+            return false;
+        }
+        self.row.clear();
+        for (multiplier, standing) in self.guess.multipliers().iter().zip(&self.standings) {
+            let whole = (*multiplier as i128).wrapping_shl(by);
+            if *standing != Standing::Apart && !self.row.push(whole) {
                 return false;
             }
         }
@@ -238,6 +283,38 @@ impl Proposals {
         rows.write_rounded(bits, &mut self.list)
     }
 
+    /// After `propose_inside`: writes whole numbers near 2^bits times the multipliers of the cost. Gives that power.
+    pub(crate) fn write_near(&mut self, bits: u32) -> Option<i128> {
+        let rows = ScaledRows {
+            numbers: self.row.numbers(),
+            rates: &self.row_rates,
+            scale: self.guess.scale() as i128,
+            costs: self.scaled.costs,
+        };
+        if rows.write_rounded(bits, &mut self.list) {
+            Some(1i128.wrapping_shl(bits.min(126)))
+        } else {
+            None
+        }
+    }
+
+    /// After `propose_inside`: writes the scaled sizes over their denominator, which it gives.
+    pub(crate) fn write_short(&mut self, node: &Node) -> Option<i128> {
+        self.list.clear();
+        for (unit, size) in self.short.sizes().iter().enumerate() {
+            if !is_left_out(node, unit) && !self.list.push(*size) {
+                return None;
+            }
+        }
+        Some(self.short.d())
+    }
+
+    /// After `write_short`: keeps these sizes over `d` in whole millionths.
+    pub(crate) fn keep_short_sizes(&mut self, d: i128) {
+        let sizes = self.list.numbers();
+        keep_whole(&mut self.whole_sizes, sizes, self.scaled.sizes, d);
+    }
+
     /// After `Optimum`: writes the sizes in millionths over their least common denominator, which it gives.
     pub(crate) fn write_sizes(&mut self) -> Option<i128> {
         let d = self.solver.d();
@@ -257,13 +334,13 @@ impl Proposals {
 
     /// After `Optimum`: keeps the sizes in whole millionths.
     pub(crate) fn keep_whole_sizes(&mut self) {
-        let d = self.solver.d();
-        self.whole_sizes.clear();
-        for size in self.solver.sizes() {
-            let whole = Ratio::of_products(*size, self.scaled.sizes, d, 1).floor();
-            let kept = whole.min(MOST_SIZE).max(0) as i64;
-            let _is_kept = self.whole_sizes.push(kept).is_ok();
-        }
+        let sizes = self.solver.sizes();
+        keep_whole(
+            &mut self.whole_sizes,
+            sizes,
+            self.scaled.sizes,
+            self.solver.d(),
+        );
     }
 
     /// The size of each unit of the node for which sizes were kept last, in rising order and in whole millionths.
