@@ -7,6 +7,7 @@ use Rattle.problem_rules.specs.Problem.{Problem}
 use Rattle.pns_rules.specs.Nodes.{Node}
 use Rattle.pgraph.specs.View.{node_of}
 use Rattle.mixed_numbers.specs.declared.number.Mixed.{Mixed}
+use Rattle.mixed_numbers.specs.Number.{numerator, denominator}
 use Rattle.tree_rules.specs.Tree.{End, branch, leaf}
 use Rattle.tree_rules.specs.Leaf.{Leaf, dead, clash, refuted, bounded, untried, IsBounded}
 use Rattle.tree_rules.specs.Claim as claims
@@ -22,6 +23,7 @@ use Rattle.turn_laws.specs.Values.{IsPositive, IsNoMore}
 use Rattle.turn_laws.specs.Turns.{IsShut, AreShut}
 use Rattle.turn_laws.proofs.GrowLemmas.{leaf_fallen}
 use Rattle.turn_laws.proofs.KeptLemmas.{shutting_is_kept}
+use Rattle.turn_laws.proofs.OrderLemmas.{under_less, reached_any}
 use Rattle.node_evaluation.specs.declared.evaluator.Bound.{Bound}
 use Rattle.node_evaluation.specs.declared.evaluator.PastStop.{PastStop}
 use Rattle.node_evaluation.specs.declared.evaluator.Proof.{Proof}
@@ -31,34 +33,37 @@ use Rattle.node_evaluation.specs.Evaluated.{PastPlaces, cost_over, cost_in, IsBo
 use Rattle.node_evaluation.specs.Looks.{KnowsCell, IsReady, IsSomeReady}
 use Rattle.node_evaluation.specs.Children.{claim_with}
 use Rattle.abb_search.specs.declared.growing.Growing.{Growing}
-use Rattle.abb_search.specs.Growing.{IsTreeKept, IsGrowing, IsGrowingFor, IsStoppedAt}
+use Rattle.abb_search.specs.Growing.{IsTreeKept, IsGrowing, IsGrowingFor, IsStoppedAt, reached_by}
 use Rattle.abb_search.specs.Closing.{AreBeaten, ShutsLeaf, IsShutBy, ShutAll, IsInRange, hand_of, scaled_in}
 use Rattle.abb_search.specs.Found.{found_with, IsFoundBy}
 use Rattle.abb_search.proofs.EndLemmas.{whole_found}
 use Rattle.abb_search.proofs.KnownLemmas.{AreKnown, known_end}
 use Rattle.abb_search.proofs.ReadyLemmas.{open_leaf, leaf_open}
-use Rattle.abb_search.proofs.TurnLemmas.{mixed_positive}
+use Rattle.abb_search.proofs.WorthLemmas.{mixed_positive, worth_under, worth_reached}
 
 -- ---- one node
 
 -- multipliers whose bound reaches the network's cost prove it
-pub low_proves : (p : Problem) (n : Node) (b : Bound) (w : claims.Network) → IsPositive (cost_in w) → IsBoundOf p n b → IsNoMore (cost_in w) (cost_over b.low) → IsBounded p (Some (cost_in w)) n b.scaled.d b.scaled.ys
+pub low_proves : {Past : PastPlaces} (p : Problem) (n : Node) (b : Bound) (w : claims.Network) → IsPositive (cost_in w) → IsBoundOf Past p n b → IsNoMore (cost_in w) (cost_over b.low) → IsBounded p (Some (cost_in w)) n b.scaled.d b.scaled.ys
 low_proves p n b w positive h le = leaf_fallen p (Some (cost_over b.low)) (Some (cost_in w)) n (bounded b.scaled.d b.scaled.ys) le (mixed_positive b.low) positive h.bounded
 
-pub is_worth : (p : Problem) (n : Node) (b : Bound) (w : claims.Network) → IsBoundOf p n b → IsNoMore (cost_in w) (cost_over b.value) → IsWorth p n (cost_in w)
-is_worth p n b w h le = record { value = cost_over b.value; is_value = h.value; no_less = le }
+pub is_worth : {Past : PastPlaces} (p : Problem) (n : Node) (b : Bound) (w : claims.Network) → IsPositive (cost_in w) → IsBoundOf Past p n b → IsNoMore (cost_in w) (cost_over b.value) → IsWorth p n (cost_in w)
+is_worth {Past} p n b w positive h le = record {
+  some = reached_any p n (numerator (reached_by b.value b.interval)) (denominator (reached_by b.value b.interval)) (worth_reached Past p n b.value b.interval h.value);
+  under = under_less p n (cost_in w) (cost_over b.value) positive (mixed_positive b.value) le (worth_under Past p n b.value b.interval h.value);
+}
 
-module _ {undercut : Option CostOver} (p : Problem) (s : Growing) (g : IsGrowingFor p undercut s) (j : ℕ) (lt : j < length s.pool.payloads) where
+module _ {Past : PastPlaces} {undercut : Option CostOver} (p : Problem) (s : Growing) (g : IsGrowingFor Past p undercut s) (j : ℕ) (lt : j < length s.pool.payloads) where
   pub hand_none : hand_of s j ≡ None → (cell_at s.pool.payloads j).end ≡ leaf untried → ⊥
   hand_none h e =
       let a = g.ready.each j lt e in
       let n : get s.ready (cell_at s.pool.payloads j).key ≡ None = subst (λ b. cond b (get s.ready (cell_at s.pool.payloads j).key) None ≡ None) (leaf_open (cell_at s.pool.payloads j).end e) h in
-      subst (λ (r : Option Ready). IsSomeReady p (place_of (cell_at s.pool.payloads j)) a.value r) n a.some
+      subst (λ (r : Option Ready). IsSomeReady Past p (place_of (cell_at s.pool.payloads j)) a.value r) n a.some
 
   pub record IsKnownHand (w : claims.Network) (q : Ready) : Type 0 where
     pub open_there : (cell_at s.pool.payloads j).end ≡ leaf untried
     pub value : Mixed
-    pub known : IsReady p (place_of (cell_at s.pool.payloads j)) value q
+    pub known : IsReady Past p (place_of (cell_at s.pool.payloads j)) value q
     pub beaten : IsNoMore (cost_in w) (cost_over q.bound.value)
 
   pub hand_some : (w : claims.Network) → AreBeaten s w → (q : Ready) → hand_of s j ≡ Some q → IsKnownHand w q
@@ -69,13 +74,13 @@ module _ {undercut : Option CostOver} (p : Problem) (s : Growing) (g : IsGrowing
       by true eo k =
           let u = open_leaf (cell_at s.pool.payloads j).end eo in
           let a = g.ready.each j lt u in
-          let r : IsReady p (place_of (cell_at s.pool.payloads j)) a.value q = subst (λ (o : Option Ready). IsSomeReady p (place_of (cell_at s.pool.payloads j)) a.value o) k a.some in
+          let r : IsReady Past p (place_of (cell_at s.pool.payloads j)) a.value q = subst (λ (o : Option Ready). IsSomeReady Past p (place_of (cell_at s.pool.payloads j)) a.value o) k a.some in
           record { open_there = u; value = a.value; known = r; beaten = subst (λ (v : Mixed). IsNoMore (cost_in w) (cost_over v)) (sym r.value_is) (b.each j a.value lt u a.value_is) }
 
-  pub shut_by : (Past : PastPlaces) (w : claims.Network) (q : Ready) → IsKnownHand w q → (proof : Proof) → IsProof Past p (place_of (cell_at s.pool.payloads j)) (cost_in w) proof → IsInRange proof
+  pub shut_by : (w : claims.Network) (q : Ready) → IsKnownHand w q → (proof : Proof) → IsProof Past p (place_of (cell_at s.pool.payloads j)) (cost_in w) proof → IsInRange proof
       → IsShutBy Past p s (cost_in w) j (Some proof)
-  shut_by Past w q k (proofs.Scaled m) h r = record { bounded = h; scale = r.0; multipliers = r.1 }
-  shut_by Past w q k (proofs.Stopped x) h r = record { there = lt; is_open = k.open_there; stopped = record { reduced = k.known.reduced; past = h } }
+  shut_by w q k (proofs.Scaled m) h r = record { bounded = h; scale = r.0; multipliers = r.1 }
+  shut_by w q k (proofs.Stopped x) h r = record { there = lt; is_open = k.open_there; stopped = record { reduced = k.known.reduced; past = h } }
 
 -- ---- node after node
 
@@ -144,7 +149,7 @@ no_open m (leaf (refuted ys)) h = let q : leaf (refuted ys) ≡ leaf untried = h
 no_open m (leaf (bounded d ys)) h = let q : leaf (bounded d ys) ≡ leaf untried = h in cc
 no_open m (leaf untried) h = let q : leaf (bounded m.d m.ys) ≡ leaf untried = h in cc
 
-module _ (p : Problem) (s : Growing) (g : IsGrowing p s) (w : claims.Network) (best_is : s.best ≡ Some w) (ms : List (Option Scaled)) (all : ShutAll p s (cost_in w) ms) where
+module _ {Past : PastPlaces} (p : Problem) (s : Growing) (g : IsGrowing Past p s) (w : claims.Network) (best_is : s.best ≡ Some w) (ms : List (Option Scaled)) (all : ShutAll p s (cost_in w) ms) where
   claimed_is : claimed_cost (claim_with s.best) ≡ Some (cost_in w)
   claimed_is = ap (λ (o : Option claims.Network). claimed_cost (claim_with o)) best_is
 
@@ -226,6 +231,6 @@ module _ (p : Problem) (s : Growing) (g : IsGrowing p s) (w : claims.Network) (b
     numbered = subst (λ n. n < 2 ^ 32 - 1) (sym (shut_length ms s.pool.payloads)) g.tree.numbered;
   }
 
-  pub closed_found : (place : ℕ) (tree : Tree) → IsTreeOf (shut_cells ms s.pool.payloads) 0 tree place → IfSome s.best IsSized → (Past : PastPlaces) (budget : ℕ)
+  pub closed_found : (place : ℕ) (tree : Tree) → IsTreeOf (shut_cells ms s.pool.payloads) 0 tree place → IfSome s.best IsSized → (budget : ℕ)
       → IsFoundBy Past p (node_of s.start) budget (found_with s.best tree)
-  closed_found place tree of sized Past budget = whole_found p closed closed_tree 0 place tree of sized Past budget s.start refl none_open
+  closed_found place tree of sized budget = whole_found p closed closed_tree 0 place tree of sized Past budget s.start refl none_open

@@ -1,6 +1,6 @@
 -- What the tree is where a search ends, and what the root is.
-use Rattle.std.specs.Prelude.{IfSome, is_some}
-use Rattle.std.proofs.Common.{◌≡◌, ℕ, ◌-◌, ◌<◌, ◌≤◌, Bool, true, false, ◌||◌, List, [], ◌∷◌, length, Option, Some, None, refl, sym, ap, ◌∙◌, subst, arith, suc, ◌^◌, ◌+◌}
+use Rattle.std.specs.Prelude.{IfSome}
+use Rattle.std.proofs.Common.{◌≡◌, ℕ, ◌-◌, ◌<◌, true, List, [], ◌∷◌, length, Option, Some, None, refl, sym, ap, subst, arith, suc, ◌^◌, ◌+◌}
 use Rattle.problem_rules.specs.Problem.{Problem}
 use Rattle.pns_rules.specs.Shape.{shape_of}
 use Rattle.pns_rules.specs.Nodes.{Node}
@@ -8,17 +8,13 @@ use Rattle.tree_rules.specs.Ways.{options_at}
 use Rattle.pgraph.specs.View.{node_of}
 use Rattle.tree_rules.specs.Tree.{End, leaf, Stands}
 use Rattle.unit_sets.specs.declared.node.Node as starts
-use Rattle.mixed_numbers.specs.declared.number.Mixed.{Mixed}
-use Rattle.pns_rules.specs.Ends.{IsSound}
 use Rattle.tree_rules.specs.Claim as claims
 use Rattle.tree_rules.specs.Claim.{CostOver, claimed_cost, ClaimPasses, IsSized}
 use Rattle.branch_tree.specs.Known.{KnowsTree, KnowsClaim}
-use Rattle.tree_rules.specs.Leaf.{Leaf, dead, clash, refuted, bounded, IsUntried, untried, LeafPasses}
+use Rattle.tree_rules.specs.Leaf.{Leaf, IsUntried, untried, LeafPasses}
 use Rattle.tree_rules.specs.Accepted.{Tree}
 use Rattle.tree_rules.specs.Stops.{IsSpent, IsPast}
-use Rattle.search_tree.specs.Cells.{Cell, place_of, cell_at, AreBehind}
-use Rattle.search_tree.specs.Fits.{EndFits}
-use Rattle.search_tree.specs.Growth.{AreOpen}
+use Rattle.search_tree.specs.Cells.{Cell, place_of, cell_at}
 use Rattle.search_tree.specs.Preorder.{IsPreorder, IsTreeOf, tree_of}
 use Rattle.search_tree.proofs.PassLemmas.{passes, aligned_start, cells_stand}
 use Rattle.search_laws.proofs.SpentLemmas.{never_spent}
@@ -26,30 +22,25 @@ use Rattle.pns_rules.proofs.ProperLemmas.{proper_if_valid}
 use Rattle.problem_rules.specs.Validity.{IsValid}
 use Rattle.number_sets.specs.Sets.{listed}
 use Rattle.std.specs.List.{slice_get}
-use Rattle.turn_laws.specs.Kept.{LeafIsKept, EndIsKept, IsKept}
+use Rattle.turn_laws.specs.Kept.{IsKept}
 use Rattle.turn_laws.proofs.LeanLemmas.{kept_is_lean, whole_is_accepted, open_stands, kept_is_spent}
 use Rattle.node_evaluation.specs.declared.evaluator.PastStop.{PastStop}
-use Rattle.node_evaluation.specs.declared.looks.Ready.{Ready}
-use Rattle.node_evaluation.specs.declared.looks.Looked.{Looked}
 use Rattle.node_evaluation.specs.Evaluated.{PastPlaces}
-use Rattle.node_evaluation.specs.Looks.{is_bounded, has_bounded, KnowsCell, IsStop, IsOpenAs, IsLooked}
-use Rattle.node_evaluation.proofs.ChildLemmas.{cost_is, found_best}
-use Rattle.node_evaluation.specs.Children.{claim_with, IsBest, AreReady}
+use Rattle.node_evaluation.specs.Children.{claim_with}
 use Rattle.abb_search.specs.declared.growing.Growing.{Growing}
-use Rattle.abb_search.specs.Growing.{IsTreeKept, IsGrowing, IsSpentAt, IsStoppedAt}
-use Rattle.abb_search.proofs.KnownLemmas.{AreKnown, knows_tree, few_nodes, knows_claim}
+use Rattle.abb_search.specs.Growing.{IsTreeKept, IsSpentAt, IsStoppedAt}
+use Rattle.abb_search.proofs.KnownLemmas.{knows_tree, few_nodes, knows_claim}
 use Rattle.abb_search.specs.Found.{IsProved, IsStopped, IsBelowLimit, found_with, IsFoundBy}
 
 -- nothing claimed has no cost, as none has where no network is
-as_infeasible : (p : Problem) (start : Node) (last : Option CostOver) (cells : List Cell) → IsKept p start claims.unknown last cells → IsKept p start claims.infeasible last cells
+as_infeasible : (p : Problem) (start : Node) (last : Option Node) (cells : List Cell) → IsKept p start claims.unknown last cells → IsKept p start claims.infeasible last cells
 as_infeasible p start last cells k = record {
   grown = record { linked = k.grown.linked; fits = k.grown.fits };
   sound = k.sound;
   ends = k.ends;
-  last_positive = k.last_positive;
   claim_positive = k.claim_positive;
   undercut_positive = k.undercut_positive;
-  below = k.below;
+  of_use = k.of_use;
 }
 
 module _ (p : Problem) (s : Growing) (t : IsTreeKept p s) (at place : ℕ) (tree : Tree) (of : IsTreeOf s.pool.payloads at tree place) (sized : IfSome s.best IsSized) where
@@ -95,7 +86,7 @@ module _ (p : Problem) (s : Growing) (t : IsTreeKept p s) (at place : ℕ) (tree
 
   pub spent : (count : ℕ) → IsSpentAt p s at count → IsSpent p IsUntried (claimed_cost (claim_with s.best)) (node_of s.start) tree place count s.budget
   spent count h = subst (λ (w : Tree). IsSpent p IsUntried (claimed_cost (claim_with s.best)) (node_of s.start) w place count s.budget) (sym of.nodes_are)
-      (kept_is_spent p (node_of s.start) (claim_with s.best) (claimed_cost (claim_with s.best)) t.last s.pool.payloads of.order t.kept of.is_preorder at place count s.budget h.way h.value of.stands h.can h.least h.below h.pending h.count_is h.over)
+      (kept_is_spent p (node_of s.start) (claim_with s.best) (claimed_cost (claim_with s.best)) t.last s.pool.payloads of.order t.kept of.is_preorder at place count s.budget h.way of.stands h.can h.least h.of_use h.pending h.count_is h.over)
 
   head_is : (order : List ℕ) → IsPreorder s.pool.payloads (0 ∷ []) order → slice_get order 0 ≡ Some 0
   head_is [] h = absurd h

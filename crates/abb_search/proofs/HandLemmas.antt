@@ -2,12 +2,11 @@
 use Rattle.std.proofs.Common.{◌≡◌, ℕ, zero, suc, ◌+◌, ◌-◌, ◌<◌, false, ◌||◌, List, [], ◌∷◌, ◌++◌, length, map, slice_set, Option, Some, None, refl, sym, ap, ◌∙◌, subst, arith, inl, inr, length-append, reverse}
 use Rattle.std.specs.Prelude.{slice_index_or}
 use Rattle.std.specs.List.{slice_get}
-use Rattle.std.proofs.lemmas.Bool.{cases_eq, cases_lt}
+use Rattle.std.proofs.lemmas.Bool.{cases_lt}
 use Rattle.std.proofs.lemmas.List.{get_or_append_left, get_or-append-add, get_or-set_same, get_or-set_other, length-set, length-map, append_assoc, append-nil, reverse-append}
 use Rattle.slab.specs.Slab.{Slab, get, Updates}
 use Rattle.problem_rules.specs.Problem.{Problem}
-use Rattle.pns_rules.specs.Shape.{shape_of}
-use Rattle.pns_rules.specs.Nodes.{Node, child}
+use Rattle.pns_rules.specs.Nodes.{Node}
 use Rattle.mixed_numbers.specs.declared.number.Mixed.{Mixed}
 use Rattle.tree_rules.specs.Ways.{Way}
 use Rattle.tree_rules.specs.Tree.{leaf}
@@ -15,14 +14,14 @@ use Rattle.tree_rules.specs.Claim as claims
 use Rattle.tree_rules.specs.Claim.{CostOver}
 use Rattle.tree_rules.specs.Leaf.{untried}
 use Rattle.search_tree.specs.Cells.{Cell, no_cell, place_of, cell_at}
-use Rattle.search_tree.specs.Fits.{Follows}
 use Rattle.search_tree.specs.Growth.{is_open}
 use Rattle.search_tree.specs.declared.growth.Fresh.{Fresh}
 use Rattle.turn_laws.specs.Turns.{IsFreshChild, AreChildren}
 use Rattle.node_evaluation.specs.declared.looks.Ready.{Ready}
+use Rattle.node_evaluation.specs.Evaluated.{PastPlaces}
 use Rattle.node_evaluation.specs.Looks.{is_bounded, has_bounded, KnowsCell, IsSomeReady}
 use Rattle.node_evaluation.specs.Children.{cells_of, values_of, AreReady, IsSolvedBy, AreSolvedBy}
-use Rattle.abb_search.specs.Hand.{IsAtHand, AreAtHand, with_key, IsKeyed, IsPlaced, ArePlaced}
+use Rattle.abb_search.specs.Hand.{IsAtHand, AreAtHand, with_key, IsPlaced, ArePlaced}
 use Rattle.abb_search.proofs.ReadyLemmas.{not_untried}
 
 some_none : {A : Type 0} (o : Option A) (a : A) → o ≡ Some a → o ≡ None → ⊥
@@ -30,7 +29,7 @@ some_none o a h k = let q : Some a ≡ None = sym h ∙ k in cc
 
 -- ---- a leaf is shut or branched
 
-module _ (p : Problem) (cs : List Cell) (vs : List Mixed) (before after : Slab Ready) (at : ℕ) (d : Cell) (h : AreAtHand p cs vs before) (there : at < length cs) (opens : (cell_at cs at).end ≡ leaf untried)
+module _ (Past : PastPlaces) (p : Problem) (cs : List Cell) (vs : List Mixed) (before after : Slab Ready) (at : ℕ) (d : Cell) (h : AreAtHand Past p cs vs before) (there : at < length cs) (opens : (cell_at cs at).end ≡ leaf untried)
     (shut : is_open d.end ≡ false) (frees : Updates before after (cell_at cs at).key None) where
   same : (j : ℕ) → (j ≡ at → ⊥) → cell_at (slice_set cs at d) j ≡ cell_at cs j
   same j ne = get_or-set_other cs at j d no_cell ne
@@ -38,7 +37,7 @@ module _ (p : Problem) (cs : List Cell) (vs : List Mixed) (before after : Slab R
   other : (j : ℕ) → (cell_at (slice_set cs at d) j).end ≡ leaf untried → j ≡ at → ⊥
   other j e q = not_untried d.end shut (subst (λ (c : Cell). c.end ≡ leaf untried) (ap (λ i. cell_at (slice_set cs at d) i) q ∙ get_or-set_same cs at d no_cell there) e)
 
-  pub hand_freed : AreAtHand p (slice_set cs at d) vs after
+  pub hand_freed : AreAtHand Past p (slice_set cs at d) vs after
   hand_freed = record {
     as_many = h.as_many ∙ sym (length-set cs at d);
     each = λ j lt e.
@@ -49,8 +48,8 @@ module _ (p : Problem) (cs : List Cell) (vs : List Mixed) (before after : Slab R
         record {
           value = k.value;
           value_is = k.value_is;
-          some = subst (λ (c : Cell). IsSomeReady p (place_of c) k.value (get after c.key)) (sym (same j ne))
-              (subst (λ (r : Option Ready). IsSomeReady p (place_of (cell_at cs j)) k.value r) (sym (frees.others (cell_at cs j).key (λ q. ne (h.apart j at l there o opens q)))) k.some);
+          some = subst (λ (c : Cell). IsSomeReady Past p (place_of c) k.value (get after c.key)) (sym (same j ne))
+              (subst (λ (r : Option Ready). IsSomeReady Past p (place_of (cell_at cs j)) k.value r) (sym (frees.others (cell_at cs j).key (λ q. ne (h.apart j at l there o opens q)))) k.some);
         };
     apart = λ i j li lj ei ej q.
         let ni = other i ei in
@@ -163,37 +162,37 @@ kept (f ∷ fs) [] rs before after h key r e = absurd h
 kept (f ∷ fs) (g ∷ gs) [] before after h key r e = absurd h
 
 -- under the key of an open child stands what is at hand for it, which was not there before
-pub record IsNewAt (p : Problem) (gs : List Fresh) (before after : Slab Ready) (k : ℕ) : Type 0 where
+pub record IsNewAt (Past : PastPlaces) (p : Problem) (gs : List Fresh) (before after : Slab Ready) (k : ℕ) : Type 0 where
   pub value : Mixed
   pub value_is : slice_get (values_of gs) k ≡ Some value
   pub ready : Ready
   pub ready_is : get after (cell_at (cells_of gs) k).key ≡ Some ready
-  pub some : IsSomeReady p (place_of (cell_at (cells_of gs) k)) value (Some ready)
+  pub some : IsSomeReady Past p (place_of (cell_at (cells_of gs) k)) value (Some ready)
   pub was_vacant : get before (cell_at (cells_of gs) k).key ≡ None
 
 vacant_before : (o : Option Ready) → ((r : Ready) → o ≡ Some r → ⊥) → o ≡ None
 vacant_before None h = refl
 vacant_before (Some r) h = absurd (h r refl)
 
-pub new_at : (p : Problem) (fs gs : List Fresh) (rs : List (Option Ready)) (before after : Slab Ready) → ArePlaced fs gs rs before after → AreReady p (cells_of fs) (values_of fs) rs
-    → (k : ℕ) → k < length gs → (cell_at (cells_of gs) k).end ≡ leaf untried → IsNewAt p gs before after k
-new_at p [] [] [] before after h a k lt e = absurd (omega (arith, lt))
-new_at p (f ∷ fs) (g ∷ gs) (None ∷ rs) before after h a zero lt e = absurd (a.0 (subst (λ (w : Fresh). w.cell.end ≡ leaf untried) h.2.0 e))
-new_at p (f ∷ fs) (g ∷ gs) (Some q ∷ rs) before after h a zero lt e =
+pub new_at : (Past : PastPlaces) (p : Problem) (fs gs : List Fresh) (rs : List (Option Ready)) (before after : Slab Ready) → ArePlaced fs gs rs before after → AreReady Past p (cells_of fs) (values_of fs) rs
+    → (k : ℕ) → k < length gs → (cell_at (cells_of gs) k).end ≡ leaf untried → IsNewAt Past p gs before after k
+new_at Past p [] [] [] before after h a k lt e = absurd (omega (arith, lt))
+new_at Past p (f ∷ fs) (g ∷ gs) (None ∷ rs) before after h a zero lt e = absurd (a.0 (subst (λ (w : Fresh). w.cell.end ≡ leaf untried) h.2.0 e))
+new_at Past p (f ∷ fs) (g ∷ gs) (Some q ∷ rs) before after h a zero lt e =
     let key_is : g.cell.key ≡ h.2.key = ap (λ (w : Fresh). w.cell.key) h.2.new_is in
     record {
       value = g.value;
       value_is = refl;
       ready = q;
       ready_is = ap (λ i. get after i) key_is ∙ h.2.updates.changed;
-      some = subst (λ (w : Fresh). IsSomeReady p (place_of w.cell) w.value (Some q)) (sym h.2.new_is) (a.0 (subst (λ (w : Fresh). w.cell.end ≡ leaf untried) h.2.new_is e));
+      some = subst (λ (w : Fresh). IsSomeReady Past p (place_of w.cell) w.value (Some q)) (sym h.2.new_is) (a.0 (subst (λ (w : Fresh). w.cell.end ≡ leaf untried) h.2.new_is e));
       was_vacant = ap (λ i. get before i) key_is ∙ vacant_before (get before h.2.key) (λ r b. some_none (get h.0 h.2.key) r (kept fs gs rs before h.0 h.1 h.2.key r b) h.2.was_vacant);
     }
-new_at p (f ∷ fs) (g ∷ gs) (None ∷ rs) before after h a (suc k) lt e =
-    let n = new_at p fs gs rs before h.0 h.1 a.1 k (omega (arith, lt)) e in
+new_at Past p (f ∷ fs) (g ∷ gs) (None ∷ rs) before after h a (suc k) lt e =
+    let n = new_at Past p fs gs rs before h.0 h.1 a.1 k (omega (arith, lt)) e in
     record { value = n.value; value_is = n.value_is; ready = n.ready; ready_is = ap (λ (s : Slab Ready). get s (cell_at (cells_of gs) k).key) h.2.1 ∙ n.ready_is; some = n.some; was_vacant = n.was_vacant }
-new_at p (f ∷ fs) (g ∷ gs) (Some q ∷ rs) before after h a (suc k) lt e =
-    let n = new_at p fs gs rs before h.0 h.1 a.1 k (omega (arith, lt)) e in
+new_at Past p (f ∷ fs) (g ∷ gs) (Some q ∷ rs) before after h a (suc k) lt e =
+    let n = new_at Past p fs gs rs before h.0 h.1 a.1 k (omega (arith, lt)) e in
     let key = (cell_at (cells_of gs) k).key in
     record {
       value = n.value;
@@ -203,41 +202,41 @@ new_at p (f ∷ fs) (g ∷ gs) (Some q ∷ rs) before after h a (suc k) lt e =
       some = n.some;
       was_vacant = n.was_vacant;
     }
-new_at p [] [] (q ∷ rs) before after h a k lt e = absurd h
-new_at p [] (g ∷ gs) rs before after h a k lt e = absurd h
-new_at p (f ∷ fs) [] rs before after h a k lt e = absurd h
-new_at p (f ∷ fs) (g ∷ gs) [] before after h a k lt e = absurd h
+new_at Past p [] [] (q ∷ rs) before after h a k lt e = absurd h
+new_at Past p [] (g ∷ gs) rs before after h a k lt e = absurd h
+new_at Past p (f ∷ fs) [] rs before after h a k lt e = absurd h
+new_at Past p (f ∷ fs) (g ∷ gs) [] before after h a k lt e = absurd h
 
 -- the first child's key differs from those behind it
-first_apart : (p : Problem) (f g : Fresh) (fs gs : List Fresh) (r : Option Ready) (rs : List (Option Ready)) (before after : Slab Ready) → ArePlaced (f ∷ fs) (g ∷ gs) (r ∷ rs) before after
-    → AreReady p (cells_of (f ∷ fs)) (values_of (f ∷ fs)) (r ∷ rs) → g.cell.end ≡ leaf untried → (k : ℕ) → k < length gs → (cell_at (cells_of gs) k).end ≡ leaf untried
+first_apart : (Past : PastPlaces) (p : Problem) (f g : Fresh) (fs gs : List Fresh) (r : Option Ready) (rs : List (Option Ready)) (before after : Slab Ready) → ArePlaced (f ∷ fs) (g ∷ gs) (r ∷ rs) before after
+    → AreReady Past p (cells_of (f ∷ fs)) (values_of (f ∷ fs)) (r ∷ rs) → g.cell.end ≡ leaf untried → (k : ℕ) → k < length gs → (cell_at (cells_of gs) k).end ≡ leaf untried
     → g.cell.key ≡ (cell_at (cells_of gs) k).key → ⊥
-first_apart p f g fs gs None rs before after h a e k lt ek q = a.0 (subst (λ (w : Fresh). w.cell.end ≡ leaf untried) h.2.0 e)
-first_apart p f g fs gs (Some w) rs before after h a e k lt ek q =
-    let n = new_at p fs gs rs before h.0 h.1 a.1 k lt ek in
+first_apart Past p f g fs gs None rs before after h a e k lt ek q = a.0 (subst (λ (w : Fresh). w.cell.end ≡ leaf untried) h.2.0 e)
+first_apart Past p f g fs gs (Some w) rs before after h a e k lt ek q =
+    let n = new_at Past p fs gs rs before h.0 h.1 a.1 k lt ek in
     some_none (get h.0 (cell_at (cells_of gs) k).key) n.ready n.ready_is (ap (λ i. get h.0 i) (sym q ∙ ap (λ (v : Fresh). v.cell.key) h.2.new_is) ∙ h.2.was_vacant)
 
-pub new_apart : (p : Problem) (fs gs : List Fresh) (rs : List (Option Ready)) (before after : Slab Ready) → ArePlaced fs gs rs before after → AreReady p (cells_of fs) (values_of fs) rs
+pub new_apart : (Past : PastPlaces) (p : Problem) (fs gs : List Fresh) (rs : List (Option Ready)) (before after : Slab Ready) → ArePlaced fs gs rs before after → AreReady Past p (cells_of fs) (values_of fs) rs
     → (i j : ℕ) → i < length gs → j < length gs → (cell_at (cells_of gs) i).end ≡ leaf untried → (cell_at (cells_of gs) j).end ≡ leaf untried
     → (cell_at (cells_of gs) i).key ≡ (cell_at (cells_of gs) j).key → i ≡ j
-new_apart p [] [] [] before after h a i j li lj ei ej q = absurd (omega (arith, li))
-new_apart p (f ∷ fs) (g ∷ gs) (r ∷ rs) before after h a zero zero li lj ei ej q = refl
-new_apart p (f ∷ fs) (g ∷ gs) (r ∷ rs) before after h a zero (suc j) li lj ei ej q = absurd (first_apart p f g fs gs r rs before after h a ei j (omega (arith, lj)) ej q)
-new_apart p (f ∷ fs) (g ∷ gs) (r ∷ rs) before after h a (suc i) zero li lj ei ej q = absurd (first_apart p f g fs gs r rs before after h a ej i (omega (arith, li)) ei (sym q))
-new_apart p (f ∷ fs) (g ∷ gs) (r ∷ rs) before after h a (suc i) (suc j) li lj ei ej q = ap suc (new_apart p fs gs rs before h.0 h.1 a.1 i j (omega (arith, li)) (omega (arith, lj)) ei ej q)
-new_apart p [] [] (q ∷ rs) before after h a i j li lj ei ej s = absurd h
-new_apart p [] (g ∷ gs) rs before after h a i j li lj ei ej s = absurd h
-new_apart p (f ∷ fs) [] rs before after h a i j li lj ei ej s = absurd h
-new_apart p (f ∷ fs) (g ∷ gs) [] before after h a i j li lj ei ej s = absurd h
+new_apart Past p [] [] [] before after h a i j li lj ei ej q = absurd (omega (arith, li))
+new_apart Past p (f ∷ fs) (g ∷ gs) (r ∷ rs) before after h a zero zero li lj ei ej q = refl
+new_apart Past p (f ∷ fs) (g ∷ gs) (r ∷ rs) before after h a zero (suc j) li lj ei ej q = absurd (first_apart Past p f g fs gs r rs before after h a ei j (omega (arith, lj)) ej q)
+new_apart Past p (f ∷ fs) (g ∷ gs) (r ∷ rs) before after h a (suc i) zero li lj ei ej q = absurd (first_apart Past p f g fs gs r rs before after h a ej i (omega (arith, li)) ei (sym q))
+new_apart Past p (f ∷ fs) (g ∷ gs) (r ∷ rs) before after h a (suc i) (suc j) li lj ei ej q = ap suc (new_apart Past p fs gs rs before h.0 h.1 a.1 i j (omega (arith, li)) (omega (arith, lj)) ei ej q)
+new_apart Past p [] [] (q ∷ rs) before after h a i j li lj ei ej s = absurd h
+new_apart Past p [] (g ∷ gs) rs before after h a i j li lj ei ej s = absurd h
+new_apart Past p (f ∷ fs) [] rs before after h a i j li lj ei ej s = absurd h
+new_apart Past p (f ∷ fs) (g ∷ gs) [] before after h a i j li lj ei ej s = absurd h
 
 -- ---- leaves with placed children behind them
 
-ready_some : (p : Problem) (n : Node) (v : Mixed) (o : Option Ready) → IsSomeReady p n v o → (r : Ready) × (o ≡ Some r)
-ready_some p n v None h = absurd h
-ready_some p n v (Some r) h = (r, refl)
+ready_some : (Past : PastPlaces) (p : Problem) (n : Node) (v : Mixed) (o : Option Ready) → IsSomeReady Past p n v o → (r : Ready) × (o ≡ Some r)
+ready_some Past p n v None h = absurd h
+ready_some Past p n v (Some r) h = (r, refl)
 
-module _ (p : Problem) (cs : List Cell) (vs : List Mixed) (before after : Slab Ready) (h : AreAtHand p cs vs before)
-    (fs gs : List Fresh) (rs : List (Option Ready)) (placed : ArePlaced fs gs rs before after) (ready : AreReady p (cells_of fs) (values_of fs) rs) where
+module _ (Past : PastPlaces) (p : Problem) (cs : List Cell) (vs : List Mixed) (before after : Slab Ready) (h : AreAtHand Past p cs vs before)
+    (fs gs : List Fresh) (rs : List (Option Ready)) (placed : ArePlaced fs gs rs before after) (ready : AreReady Past p (cells_of fs) (values_of fs) rs) where
   left_same : (j : ℕ) → j < length cs → cell_at (cs ++ cells_of gs) j ≡ cell_at cs j
   left_same j l = get_or_append_left cs (cells_of gs) no_cell j l
 
@@ -251,19 +250,19 @@ module _ (p : Problem) (cs : List Cell) (vs : List Mixed) (before after : Slab R
   left_right : (i j : ℕ) → i < length cs → j < length gs → (cell_at cs i).end ≡ leaf untried → (cell_at (cells_of gs) j).end ≡ leaf untried → (cell_at cs i).key ≡ (cell_at (cells_of gs) j).key → ⊥
   left_right i j li lj ei ej q =
       let k = h.each i li ei in
-      let r = ready_some p (place_of (cell_at cs i)) k.value (get before (cell_at cs i).key) k.some in
-      let n = new_at p fs gs rs before after placed ready j lj ej in
+      let r = ready_some Past p (place_of (cell_at cs i)) k.value (get before (cell_at cs i).key) k.some in
+      let n = new_at Past p fs gs rs before after placed ready j lj ej in
       some_none (get before (cell_at cs i).key) r.0 r.1 (ap (λ x. get before x) q ∙ n.was_vacant)
 
-  each_left : (j : ℕ) → j < length cs → (cell_at cs j).end ≡ leaf untried → IsAtHand p (cs ++ cells_of gs) (vs ++ values_of gs) after j
+  each_left : (j : ℕ) → j < length cs → (cell_at cs j).end ≡ leaf untried → IsAtHand Past p (cs ++ cells_of gs) (vs ++ values_of gs) after j
   each_left j l e =
       let k = h.each j l e in
-      let r = ready_some p (place_of (cell_at cs j)) k.value (get before (cell_at cs j).key) k.some in
+      let r = ready_some Past p (place_of (cell_at cs j)) k.value (get before (cell_at cs j).key) k.some in
       record {
         value = k.value;
         value_is = get_left vs (values_of gs) j (let a = h.as_many in omega (arith, l, a)) ∙ k.value_is;
-        some = subst (λ (c : Cell). IsSomeReady p (place_of c) k.value (get after c.key)) (sym (left_same j l))
-            (subst (λ (o : Option Ready). IsSomeReady p (place_of (cell_at cs j)) k.value o) (r.1 ∙ sym (kept fs gs rs before after placed (cell_at cs j).key r.0 r.1)) k.some);
+        some = subst (λ (c : Cell). IsSomeReady Past p (place_of c) k.value (get after c.key)) (sym (left_same j l))
+            (subst (λ (o : Option Ready). IsSomeReady Past p (place_of (cell_at cs j)) k.value o) (r.1 ∙ sym (kept fs gs rs before after placed (cell_at cs j).key r.0 r.1)) k.some);
       }
     where
       get_left : (xs ys : List Mixed) (i : ℕ) → i < length xs → slice_get (xs ++ ys) i ≡ slice_get xs i
@@ -271,22 +270,22 @@ module _ (p : Problem) (cs : List Cell) (vs : List Mixed) (before after : Slab R
       get_left (x ∷ xs) ys zero lt = refl
       get_left (x ∷ xs) ys (suc i) lt = get_left xs ys i (omega (arith, lt))
 
-  each_right : (j : ℕ) → j < length gs → (cell_at (cells_of gs) j).end ≡ leaf untried → IsAtHand p (cs ++ cells_of gs) (vs ++ values_of gs) after (length cs + j)
+  each_right : (j : ℕ) → j < length gs → (cell_at (cells_of gs) j).end ≡ leaf untried → IsAtHand Past p (cs ++ cells_of gs) (vs ++ values_of gs) after (length cs + j)
   each_right j l e =
-      let n = new_at p fs gs rs before after placed ready j l e in
+      let n = new_at Past p fs gs rs before after placed ready j l e in
       let c : cell_at (cs ++ cells_of gs) (length cs + j) ≡ cell_at (cells_of gs) j = get_or-append-add cs (cells_of gs) j no_cell in
       record {
         value = n.value;
         value_is = ap (λ i. slice_get (vs ++ values_of gs) (i + j)) (sym h.as_many) ∙ (get_right vs (values_of gs) j ∙ n.value_is);
-        some = subst (λ (d : Cell). IsSomeReady p (place_of d) n.value (get after d.key)) (sym c)
-            (subst (λ (o : Option Ready). IsSomeReady p (place_of (cell_at (cells_of gs) j)) n.value o) (sym n.ready_is) n.some);
+        some = subst (λ (d : Cell). IsSomeReady Past p (place_of d) n.value (get after d.key)) (sym c)
+            (subst (λ (o : Option Ready). IsSomeReady Past p (place_of (cell_at (cells_of gs) j)) n.value o) (sym n.ready_is) n.some);
       }
     where
       get_right : (xs ys : List Mixed) (i : ℕ) → slice_get (xs ++ ys) (length xs + i) ≡ slice_get ys i
       get_right [] ys i = ap (λ k. slice_get ys k) (let z : 0 + i ≡ i = omega arith in z)
       get_right (x ∷ xs) ys i = ap (λ k. slice_get (x ∷ xs ++ ys) k) (let z : suc (length xs) + i ≡ suc (length xs + i) = omega arith in z) ∙ get_right xs ys i
 
-  pub hand_more : AreAtHand p (cs ++ cells_of gs) (vs ++ values_of gs) after
+  pub hand_more : AreAtHand Past p (cs ++ cells_of gs) (vs ++ values_of gs) after
   hand_more = record {
     as_many = let a = length-append vs (values_of gs) in let b = length-append cs (cells_of gs) in let c = h.as_many in
         let d = length-map gs (λ (f : Fresh). f.cell) in let e = length-map gs (λ (f : Fresh). f.value) in omega (arith, a, b, c, d, e);
@@ -295,7 +294,7 @@ module _ (p : Problem) (cs : List Cell) (vs : List Mixed) (before after : Slab R
       | inr le ↦
           let l : length cs < suc j = omega (arith, le) in
           let z : length cs + (j - length cs) ≡ j = omega (arith, le) in
-          subst (λ i. IsAtHand p (cs ++ cells_of gs) (vs ++ values_of gs) after i) z
+          subst (λ i. IsAtHand Past p (cs ++ cells_of gs) (vs ++ values_of gs) after i) z
           (each_right (j - length cs) (right_below j lt l) (subst (λ (c : Cell). c.end ≡ leaf untried) (right_same j l) e))
     ];
     apart = apart_now;
@@ -319,7 +318,7 @@ module _ (p : Problem) (cs : List Cell) (vs : List Mixed) (before after : Slab R
                   (ap (λ (c : Cell). c.key) (sym (left_same j bj)) ∙ (sym q ∙ ap (λ (c : Cell). c.key) (right_same i s))))
               | inr lej ↦
                   let r : length cs < suc j = omega (arith, lej) in
-                  let e = new_apart p fs gs rs before after placed ready (i - length cs) (j - length cs) (right_below i li s) (right_below j lj r)
+                  let e = new_apart Past p fs gs rs before after placed ready (i - length cs) (j - length cs) (right_below i li s) (right_below j lj r)
                   (subst (λ (c : Cell). c.end ≡ leaf untried) (right_same i s) ei) (subst (λ (c : Cell). c.end ≡ leaf untried) (right_same j r) ej)
                   (ap (λ (c : Cell). c.key) (sym (right_same i s)) ∙ (q ∙ ap (λ (c : Cell). c.key) (right_same j r))) in
                   omega (arith, e, lei, lej)
@@ -328,15 +327,15 @@ module _ (p : Problem) (cs : List Cell) (vs : List Mixed) (before after : Slab R
 
 -- ---- the slab has room for more
 
-pub hand_same : (p : Problem) (cs : List Cell) (vs : List Mixed) (before after : Slab Ready) → after.slots ≡ before.slots → AreAtHand p cs vs before → AreAtHand p cs vs after
-hand_same p cs vs before after e h = record {
+pub hand_same : (Past : PastPlaces) (p : Problem) (cs : List Cell) (vs : List Mixed) (before after : Slab Ready) → after.slots ≡ before.slots → AreAtHand Past p cs vs before → AreAtHand Past p cs vs after
+hand_same Past p cs vs before after e h = record {
   as_many = h.as_many;
   each = λ j lt o.
       let k = h.each j lt o in
       record {
         value = k.value;
         value_is = k.value_is;
-        some = subst (λ (r : Option Ready). IsSomeReady p (place_of (cell_at cs j)) k.value r) (sym (ap (λ (slots : List (Option Ready)). slice_index_or slots (cell_at cs j).key None) e)) k.some;
+        some = subst (λ (r : Option Ready). IsSomeReady Past p (place_of (cell_at cs j)) k.value r) (sym (ap (λ (slots : List (Option Ready)). slice_index_or slots (cell_at cs j).key None) e)) k.some;
       };
   apart = h.apart;
 }

@@ -7,3 +7,4 @@ pub mod ReadyLemmas
 pub mod RootLemmas
 pub mod StepLemmas
 pub mod TurnLemmas
+pub mod WorthLemmas

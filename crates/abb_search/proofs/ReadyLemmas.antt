@@ -1,5 +1,5 @@
 -- Which leaves are open, and which of them is first.
-use Rattle.std.proofs.Common.{◌≡◌, ℕ, ◌<◌, ◌≤◌, true, false, List, [], ◌∷◌, Some, None, ℤ, ◌≤ℤ◌, ◌<ℤ◌, refl, sym, ap, ◌∙◌, subst, arith, true≢false}
+use Rattle.std.proofs.Common.{◌≡◌, ◌==◌, ℕ, true, false, List, [], ◌∷◌, Some, None, ℤ, ◌≤ℤ◌, ◌<ℤ◌, refl, sym, ap, ◌∙◌, subst, arith, true≢false}
 use Rattle.std.specs.Ordering.{int_cmp}
 use Rattle.std.specs.declared.cmp.Ordering.{Ordering}
 use Rattle.std.specs.declared.cmp.Ordering.TheVariants.{Less, Equal, Greater}
@@ -7,6 +7,8 @@ use Rattle.std.proofs.lemmas.Cmp.{int_ranked}
 use Rattle.std.proofs.lemmas.Int.{ints}
 use Rattle.link_lists.specs.Lists.{has, first}
 use Rattle.link_lists.proofs.Cells.{has-here}
+use Rattle.node_pool.specs.Order.{second}
+use Rattle.std.proofs.lemmas.Bool.{or_right}
 use Rattle.tree_rules.specs.Tree.{End, branch, leaf}
 use Rattle.tree_rules.specs.Leaf.{Leaf, dead, clash, refuted, bounded, untried}
 use Rattle.search_tree.specs.Growth.{is_open}
@@ -41,6 +43,10 @@ first_has (x ∷ xs) i h = let q : x ≡ i = cc in subst (λ j. has (x ∷ xs) j
   where
     has_head : (x : ℕ) (xs : List ℕ) → has (x ∷ xs) x ≡ true
     has_head x xs = has-here x xs
+
+pub second_has : (xs : List ℕ) (i : ℕ) → second xs ≡ Some i → has xs i ≡ true
+second_has [] i h = absurd (let q : None ≡ Some i = h in cc)
+second_has (x ∷ xs) i h = or_right (x == i) (has xs i) (first_has xs i h)
 
 pub none_first : (xs : List ℕ) → first xs ≡ None → (j : ℕ) → has xs j ≡ true → ⊥
 none_first [] h j k = true≢false (sym k)

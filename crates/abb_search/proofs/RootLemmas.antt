@@ -1,8 +1,6 @@
 -- What the tree of a root is, before it is looked at and after.
-use Rattle.std.specs.Prelude.{IfSome, is_some}
-use Rattle.std.specs.List.{slice_get}
-use Rattle.std.proofs.Common.{◌≡◌, ◌⊎◌, inl, inr, ℕ, ◌-◌, ◌<◌, ◌≤◌, Bool, true, false, ◌||◌, List, [], ◌∷◌, length, Option, Some, None, refl, sym, ap, ◌∙◌, subst, arith, ◌^◌, ◌+◌, true≢false}
-use Rattle.link_lists.specs.Lists.{has, first}
+use Rattle.std.specs.Prelude.{is_some}
+use Rattle.std.proofs.Common.{◌≡◌, ◌⊎◌, inl, inr, ℕ, ◌≤◌, Bool, true, false, ◌||◌, List, [], ◌∷◌, length, Option, Some, None, refl, sym, ap, ◌∙◌, subst, arith, true≢false}
 use Rattle.problem_rules.specs.Problem.{Problem}
 use Rattle.pns_rules.specs.Shape.{shape_of}
 use Rattle.pns_rules.specs.Nodes.{Node}
@@ -16,16 +14,13 @@ use Rattle.tree_rules.specs.Claim.{CostOver, claimed_cost, ClaimPasses}
 use Rattle.tree_rules.specs.Leaf.{Leaf, dead, clash, refuted, bounded, untried, LeafPasses}
 use Rattle.search_tree.specs.Cells.{Cell, place_of, cell_at, AreBehind}
 use Rattle.search_tree.specs.Fits.{Follows, EndFits}
-use Rattle.search_tree.specs.Growth.{is_open}
 use Rattle.std.proofs.lemmas.Bool.{or_right}
 use Rattle.turn_laws.specs.Values.{IsPositiveCost}
 use Rattle.turn_laws.proofs.GrowLemmas.{leaf_fallen}
 use Rattle.turn_laws.specs.Kept.{LeafIsKept, EndIsKept, IsKept}
 use Rattle.node_evaluation.specs.declared.evaluator.PastStop.{PastStop}
-use Rattle.node_evaluation.specs.declared.looks.Ready.{Ready}
-use Rattle.node_evaluation.specs.declared.looks.Looked.{Looked}
 use Rattle.node_evaluation.specs.Evaluated.{PastPlaces}
-use Rattle.node_evaluation.specs.Looks.{is_bounded, has_bounded, cost_of, KnowsCell, IsStop, IsOpenAs, IsLooked}
+use Rattle.node_evaluation.specs.Looks.{is_bounded, has_bounded, cost_of, KnowsCell, IsStop, IsOpenAs}
 use Rattle.node_evaluation.proofs.ChildLemmas.{cost_is, found_best}
 use Rattle.node_evaluation.specs.Children.{claim_with, IsBest}
 use Rattle.abb_search.specs.Hand.{AreAtHand, with_key}
@@ -33,8 +28,7 @@ use Rattle.abb_search.proofs.HandLemmas.{IsSameChild, child_same, hand_more}
 use Rattle.abb_search.specs.declared.growing.Growing.{Growing}
 use Rattle.abb_search.specs.declared.growing.StoppedLeaf.{StoppedLeaf}
 use Rattle.abb_search.specs.Growing.{IsTreeKept, IsGrowing, GoesOn, open_cell, IsOpenRoot, root_stop, IsLookedRoot, IsStoppedAt}
-use Rattle.abb_search.proofs.KnownLemmas.{AreKnown, open_unbounded}
-use Rattle.abb_search.proofs.ReadyLemmas.{open_leaf, first_has}
+use Rattle.abb_search.proofs.KnownLemmas.{AreKnown}
 
 or_nothing : (b : Bool) → b ≡ (b || false)
 or_nothing true = refl
@@ -71,10 +65,9 @@ module _ (p : Problem) (start : Node) (claim : claims.Claim) (cell : Cell) (what
     sound = λ i lt. let z : i ≡ 0 = omega (arith, lt) in subst (λ j. IsSound (shape_of p) (place_of (cell_at (cell ∷ []) j))) (sym z) sound;
     ends = λ i lt. let z : i ≡ 0 = omega (arith, lt) in subst (λ j. EndIsKept p None (place_of (cell_at (cell ∷ []) j)) (cell_at (cell ∷ []) j).end) (sym z)
         (subst (λ (e : End Leaf). EndIsKept p None (place_of cell) e) (sym end_is) (leaf_kept p (place_of cell) what));
-    last_positive = tt;
     claim_positive = positive;
     undercut_positive = positive;
-    below = tt;
+    of_use = tt;
   }
 
 -- ---- before the look
@@ -138,16 +131,16 @@ module _ (Past : PastPlaces) (p : Problem) (start : starts.Node) (budget : ℕ) 
   pub root_positive : IsPositiveCost (cost_of s.best)
   root_positive = subst IsPositiveCost (sym (cost_is s.best)) root_best.positive
 
-  nothing_at_hand : AreAtHand p [] [] h.empty
+  nothing_at_hand : AreAtHand Past p [] [] h.empty
   nothing_at_hand = record { as_many = refl; each = λ j lt e. absurd (omega (arith, lt)); apart = λ i j li lj ei ej q. absurd (omega (arith, li)) }
 
-  root_grows : h.looked.stop ≡ None → IsGrowing p s
+  root_grows : h.looked.stop ≡ None → IsGrowing Past p s
   root_grows eh = record {
     tree = root_tree;
     are_open = h.are_open;
-    ready = subst (λ (cs : List Cell). AreAtHand p cs s.pool.values s.ready) (sym h.cells_are)
-        (subst (λ (vs : List Mixed). AreAtHand p (h.root.cell ∷ []) vs s.ready) (sym h.values_are)
-        (hand_more p [] [] h.empty s.ready nothing_at_hand (record { cell = h.looked.cell; value = h.looked.value } ∷ []) (h.root ∷ []) (h.looked.ready ∷ []) (h.empty, refl, h.placed) (
+    ready = subst (λ (cs : List Cell). AreAtHand Past p cs s.pool.values s.ready) (sym h.cells_are)
+        (subst (λ (vs : List Mixed). AreAtHand Past p (h.root.cell ∷ []) vs s.ready) (sym h.values_are)
+        (hand_more Past p [] [] h.empty s.ready nothing_at_hand (record { cell = h.looked.cell; value = h.looked.value } ∷ []) (h.root ∷ []) (h.looked.ready ∷ []) (h.empty, refl, h.placed) (
           (λ e. subst (λ (i : Option PastStop). IsOpenAs Past p (place_of h.looked.cell) h.is_looked.seen.what h.looked.value h.looked.ready i) eh h.is_looked.seen.open_as
               (let q : leaf h.is_looked.seen.what ≡ leaf untried = sym h.is_looked.seen.end_is ∙ e in cc)),
           tt,

@@ -24,7 +24,7 @@ use Rattle.search_tree.specs.Preorder.{IsTreeOf, node_at}
 use Rattle.search_tree.proofs.CountLemmas.{preorder_has_all}
 use Rattle.std.proofs.lemmas.List.{length-map}
 use Rattle.search_tree.specs.Growth.{is_open, AreOpen}
-use Rattle.turn_laws.specs.Kept.{IsKept}
+use Rattle.turn_laws.specs.Kept.{IsKept, IsKeptFor}
 use Rattle.node_evaluation.specs.declared.evaluator.PastStop.{PastStop}
 use Rattle.node_evaluation.specs.Evaluated.{PastPlaces, cost_in}
 use Rattle.node_evaluation.specs.Looks.{has_bounded, cost_of, IsStop}
@@ -36,7 +36,7 @@ use Rattle.abb_search.specs.declared.outcome.Found.{Found}
 use Rattle.abb_search.specs.declared.outcome.Found.TheVariants as founds
 use Rattle.abb_search.specs.declared.growing.Growing.{Growing}
 use Rattle.abb_search.specs.declared.growing.StoppedLeaf.{StoppedLeaf}
-use Rattle.abb_search.specs.Growing.{IsTreeKept, IsGrowing, leaf_of, IsStoppedAt, GoesOn, IsGoing, IsSame}
+use Rattle.abb_search.specs.Growing.{IsTreeKept, IsTreeKeptFor, IsGrowing, leaf_of, IsStoppedAt, GoesOn, IsGoing, IsSame, IsSameButHand}
 use Rattle.abb_search.specs.Found.{IsFoundBy, found_with}
 use Rattle.abb_search.specs.Answers.{network_in, IsAgainst, IsMore, IsEnd, StepHolds}
 use Rattle.abb_search.specs.Searched.{Searched, IsSameSearch, AreNodesOf, StandsAt, IsSearching}
@@ -184,12 +184,12 @@ module _ (Past : PastPlaces) (p : Problem) (s n : Growing) (e : IsSame s n) wher
       ap (λ (ls : List ℕ). has ls j) e.pool.leaves
       ∙ (a j (subst (λ (cs : List Cell). j < length cs) e.pool.payloads lt) ∙ ap (λ (cs : List Cell). is_open (cell_at cs j).end) (sym e.pool.payloads))
 
-  growing_same : IsGrowing p s → IsGrowing p n
+  growing_same : IsGrowing Past p s → IsGrowing Past p n
   growing_same g = record {
     tree = tree_same g.tree;
     are_open = open_same g.are_open;
-    ready = subst (λ (cs : List Cell). AreAtHand p cs n.pool.values n.ready) (sym e.pool.payloads)
-        (subst (λ (vs : List Mixed). AreAtHand p s.pool.payloads vs n.ready) (sym e.pool.values) (hand_same p s.pool.payloads s.pool.values s.ready n.ready e.ready g.ready));
+    ready = subst (λ (cs : List Cell). AreAtHand Past p cs n.pool.values n.ready) (sym e.pool.payloads)
+        (subst (λ (vs : List Mixed). AreAtHand Past p s.pool.payloads vs n.ready) (sym e.pool.values) (hand_same Past p s.pool.payloads s.pool.values s.ready n.ready e.ready g.ready));
   }
 
   stopped_same : (at : ℕ) (h : PastStop) → IsStoppedAt Past p s at h → IsStoppedAt Past p n at h
@@ -206,6 +206,21 @@ module _ (Past : PastPlaces) (p : Problem) (s n : Growing) (e : IsSame s n) wher
   pub stands_same : (looked : Bool) → StandsAt Past p s looked → StandsAt Past p n looked
   stands_same false h = (tree_same h.0, ap (λ (cs : List Cell). length cs) e.pool.payloads ∙ h.1)
   stands_same true h = subst (λ (o : Option StoppedLeaf). GoesOn Past p n o) (sym e.stop) (goes_same s.stop h)
+
+-- only what is at hand changed
+pub kept_but_hand : (p : Problem) (undercut : Option CostOver) (s n : Growing) → IsSameButHand s n → IsTreeKeptFor p undercut s → IsTreeKeptFor p undercut n
+kept_but_hand p undercut s n e t = record {
+  last = t.last;
+  kept = subst (λ (l : Pooled Cell). IsKeptFor p (node_of n.start) (claim_with n.best) undercut t.last l.payloads) (sym e.pool)
+      (subst (λ (w : Option claims.Network). IsKeptFor p (node_of n.start) (claim_with w) undercut t.last s.pool.payloads) (sym e.best)
+      (subst (λ (m : starts.Node). IsKeptFor p (node_of m) (claim_with s.best) undercut t.last s.pool.payloads) (sym e.start) t.kept));
+  passes = subst (λ (w : Option claims.Network). ClaimPasses true p (claim_with w)) (sym e.best) t.passes;
+  bounded = λ b. ap (λ (w : Option claims.Network). is_some w) e.best ∙ t.bounded (ap (λ (l : Pooled Cell). has_bounded l.payloads) (sym e.pool) ∙ b);
+  known = subst (λ (l : Pooled Cell). AreKnown p l.payloads) (sym e.pool) t.known;
+  counted = e.nodes ∙ (t.counted ∙ ap (λ (l : Pooled Cell). length l.payloads) (sym e.pool));
+  few = let a = ap (λ (l : Pooled Cell). length l.payloads) e.pool in let b = e.budget in let c = t.few in omega (arith, a, b, c);
+  numbered = subst (λ (l : Pooled Cell). length l.payloads < 2 ^ 32 - 1) (sym e.pool) t.numbered;
+}
 
 -- ---- the search ends
 

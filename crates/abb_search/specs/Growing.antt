@@ -8,22 +8,26 @@ use Rattle.pns_rules.specs.Nodes.{Node}
 use Rattle.pgraph.specs.View.{node_of}
 use Rattle.unit_sets.specs.declared.node.Node as starts
 use Rattle.mixed_numbers.specs.declared.number.Mixed.{Mixed}
+use Rattle.mixed_numbers.specs.Number.{numerator, denominator}
 use Rattle.tree_rules.specs.Ways.{Way, width, options_at}
 use Rattle.tree_rules.specs.Tree.{branch, leaf}
 use Rattle.tree_rules.specs.Claim as claims
-use Rattle.tree_rules.specs.Claim.{CostOver, claimed_cost, ClaimPasses}
+use Rattle.tree_rules.specs.Claim.{CostOver, claimed_cost, IsAtMost, ClaimPasses}
 use Rattle.tree_rules.specs.Leaf.{untried}
+use Rattle.tree_rules.specs.Lean as lean
 use Rattle.tree_rules.specs.Stops.{IsPending, IsNextCount}
 use Rattle.search_tree.specs.Cells.{Cell, place_of, cell_at}
 use Rattle.search_tree.specs.Growth.{AreOpen, as_parent}
 use Rattle.turn_laws.specs.Values.{IsNoMore, HasFallen}
-use Rattle.turn_laws.specs.Kept.{LastIsBelow, IsKeptFor}
+use Rattle.turn_laws.specs.Kept.{IsKeptFor}
 use Rattle.turn_laws.specs.Turns.{CanBranch, IsLeastOpen}
 use Rattle.node_pool.specs.Pooled.{AreSameNodes}
-use Rattle.slab.specs.Slab.{Slab, Updates}
+use Rattle.node_pool.specs.Order.{second}
+use Rattle.slab.specs.Slab.{Slab, get, Updates}
 use Rattle.search_tree.specs.declared.growth.Fresh.{Fresh}
 use Rattle.branch_choice.specs.declared.choice.Choice.{Choice}
 use Rattle.branch_choice.specs.declared.choice.Choice.TheVariants as choices
+use Rattle.node_evaluation.specs.declared.evaluator.Interval.{Interval}
 use Rattle.node_evaluation.specs.declared.evaluator.PastStop.{PastStop}
 use Rattle.node_evaluation.specs.declared.looks.Ready.{Ready}
 use Rattle.node_evaluation.specs.declared.looks.Looked.{Looked}
@@ -39,7 +43,7 @@ use Rattle.abb_search.specs.declared.growing.StoppedLeaf.{StoppedLeaf}
 -- the tree is one that a search keeps for networks that undercut a cost, with numbers that the problem knows; the best network
 -- passes, and there is one where a leaf is bounded
 pub record IsTreeKeptFor (p : Problem) (undercut : Option CostOver) (s : Growing) : Type 0 where
-  pub last : Option CostOver
+  pub last : Option Node
   pub kept : IsKeptFor p (node_of s.start) (claim_with s.best) undercut last s.pool.payloads
   pub passes : ClaimPasses true p (claim_with s.best)
   pub bounded : has_bounded s.pool.payloads ≡ true → is_some s.best ≡ true
@@ -49,17 +53,17 @@ pub record IsTreeKeptFor (p : Problem) (undercut : Option CostOver) (s : Growing
   pub numbered : length s.pool.payloads < 2 ^ 32 - 1
 
 -- and all is at hand for each open leaf
-pub record IsGrowingFor (p : Problem) (undercut : Option CostOver) (s : Growing) : Type 0 where
+pub record IsGrowingFor (Past : PastPlaces) (p : Problem) (undercut : Option CostOver) (s : Growing) : Type 0 where
   pub tree : IsTreeKeptFor p undercut s
   pub are_open : AreOpen s.pool
-  pub ready : AreAtHand p s.pool.payloads s.pool.values s.ready
+  pub ready : AreAtHand Past p s.pool.payloads s.pool.values s.ready
 
 -- the best network is to be undercut
 abbrev pub IsTreeKept : Problem → Growing → Type 0
 IsTreeKept p s = IsTreeKeptFor p (claimed_cost (claim_with s.best)) s
 
-abbrev pub IsGrowing : Problem → Growing → Type 0
-IsGrowing p s = IsGrowingFor p (claimed_cost (claim_with s.best)) s
+abbrev pub IsGrowing : PastPlaces → Problem → Growing → Type 0
+IsGrowing Past p s = IsGrowingFor Past p (claimed_cost (claim_with s.best)) s
 
 -- how an open leaf is branched
 abbrev pub choice_of : Option Ready → Choice
@@ -72,16 +76,66 @@ IsBeaten None value = ⊥
 IsBeaten (Some w) value = IsNoMore (cost_in w) (cost_over value)
 
 -- no open leaf has a lesser value than this one
-abbrev pub IsLeastLeaf : Growing → ℕ → Type 0
-IsLeastLeaf s at =
+abbrev pub HasLeastValue : Growing → ℕ → Type 0
+HasLeastValue s at =
     (v : Mixed) → slice_get s.pool.values at ≡ Some v → (j : ℕ) → has s.pool.leaves j ≡ true → (j ≡ at → ⊥) → (w : Mixed) → slice_get s.pool.values j ≡ Some w
     → IsNoMore (cost_over v) (cost_over w)
 
--- its value is at most the best network's cost
+-- ---- which leaf may be branched
+
+-- what is at hand under the leaf's key
+abbrev pub ready_at : Growing → ℕ → Option Ready
+ready_at s at = get s.ready (cell_at s.pool.payloads at).key
+
+-- the interval that its least cost lies in, where this is past the range
+abbrev pub interval_of : Option Ready → Option Interval
+interval_of None = None
+interval_of (Some r) = r.bound.interval
+
+pub record HasInterval (s : Growing) (at : ℕ) : Type 0 where
+  pub interval : Interval
+  pub is : interval_of (ready_at s at) ≡ Some interval
+
+-- what some relaxed flows cost at most: the value, or what the interval reaches
+abbrev pub reached_by : Mixed → Option Interval → Mixed
+reached_by value None = value
+reached_by value (Some r) = r.reached
+
+pub record IsReachedAt (s : Growing) (at : ℕ) (reached : Mixed) : Type 0 where
+  pub value : Mixed
+  pub value_is : slice_get s.pool.values at ≡ Some value
+  pub reached_is : reached ≡ reached_by value (interval_of (ready_at s at))
+
+-- some relaxed flows of the leaf cost at most any other open leaf's value
+abbrev pub IsLeastLeaf : Growing → ℕ → Type 0
+IsLeastLeaf s at =
+    (v : Mixed) → slice_get s.pool.values at ≡ Some v → (j : ℕ) → has s.pool.leaves j ≡ true → (j ≡ at → ⊥) → (w : Mixed) → slice_get s.pool.values j ≡ Some w
+    → IsNoMore (cost_over (reached_by v (interval_of (ready_at s at)))) (cost_over w)
+
+-- the interval reaches more than the value of the leaf behind it in the order of the open leaves
+pub record IsHeldUp (s : Growing) (at : ℕ) : Type 0 where
+  pub behind : ℕ
+  pub is_behind : second s.pool.leaves ≡ Some behind
+  pub value : Mixed
+  pub value_is : slice_get s.pool.values behind ≡ Some value
+  pub reaches_more : IsNoMore (cost_over (reached_by value (interval_of (ready_at s at)))) (cost_over value) → ⊥
+
+-- some cost at most as much as this
+abbrev pub LeafUndercuts : Growing → Option CostOver → ℕ → Type 0
+LeafUndercuts s undercut at =
+    (v : Mixed) → slice_get s.pool.values at ≡ Some v
+    → IsAtMost undercut (numerator (reached_by v (interval_of (ready_at s at)))) (denominator (reached_by v (interval_of (ready_at s at))))
+
+-- some cost at most as much as the best network
 abbrev pub MayUndercut : Growing → ℕ → Type 0
-MayUndercut s at = (v : Mixed) → slice_get s.pool.values at ≡ Some v → LastIsBelow (Some (cost_over v)) (claimed_cost (claim_with s.best))
+MayUndercut s at = LeafUndercuts s (claimed_cost (claim_with s.best)) at
 
 -- ---- a leaf that stops the search
+
+-- where the path of a leaf stops that may not be branched, since its least cost is past the range
+abbrev pub interval_stop : ℕ → Option Interval → Option StoppedLeaf
+interval_stop at None = None
+interval_stop at (Some r) = Some (record { leaf = at; stop = r.stop })
 
 abbrev pub leaf_of : Option StoppedLeaf → Option ℕ
 leaf_of None = None
@@ -95,7 +149,7 @@ pub record IsStoppedAt (Past : PastPlaces) (p : Problem) (s : Growing) (at : ℕ
 
 -- between two turns: all is at hand for each open leaf, or one stops the search
 abbrev pub GoesOnFor : PastPlaces → Problem → Option CostOver → Growing → Option StoppedLeaf → Type 0
-GoesOnFor Past p undercut s None = IsGrowingFor p undercut s
+GoesOnFor Past p undercut s None = IsGrowingFor Past p undercut s
 GoesOnFor Past p undercut s (Some h) = IsTreeKeptFor p undercut s × IsStoppedAt Past p s h.leaf h.stop
 
 abbrev pub GoesOn : PastPlaces → Problem → Growing → Option StoppedLeaf → Type 0
@@ -153,6 +207,15 @@ pub record IsSame (old new : Growing) : Type 0 where
   pub best : new.best ≡ old.best
   pub stop : new.stop ≡ old.stop
 
+-- all but what is at hand for the open leaves is as before
+pub record IsSameButHand (old new : Growing) : Type 0 where
+  pub start : new.start ≡ old.start
+  pub budget : new.budget ≡ old.budget
+  pub nodes : new.nodes ≡ old.nodes
+  pub pool : new.pool ≡ old.pool
+  pub best : new.best ≡ old.best
+  pub stop : new.stop ≡ old.stop
+
 abbrev pub stop_at : ℕ → Option StoppedAt → Option StoppedLeaf
 stop_at first None = None
 stop_at first (Some h) = Some (record { leaf = first + h.at; stop = h.stop })
@@ -182,13 +245,13 @@ pub record IsBranching (Past : PastPlaces) (p : Problem) (n : Node) (old new : G
 
 -- ---- the budget is spent
 
--- all open leaves are pending, the leaf is a least one, and the nodes with its children are more than the budget
+-- all open leaves are pending, the leaf is no dearer than any of them and may undercut the best network, and the nodes with its
+-- children are more than the budget
 pub record IsSpentAt (p : Problem) (s : Growing) (at count : ℕ) : Type 0 where
-  pub value : CostOver
   pub way : Way
-  pub can : CanBranch p s.pool.payloads at way value
-  pub least : IsLeastOpen p s.pool.payloads at value
-  pub below : LastIsBelow (Some value) (claimed_cost (claim_with s.best))
+  pub can : CanBranch p s.pool.payloads at way
+  pub least : IsLeastOpen p s.pool.payloads at
+  pub of_use : lean.MayUndercut p (claimed_cost (claim_with s.best)) (place_of (cell_at s.pool.payloads at))
   pub pending : (j : ℕ) → j < length s.pool.payloads → (cell_at s.pool.payloads j).end ≡ leaf untried → IsPending p (place_of (cell_at s.pool.payloads j))
   pub count_is : IsNextCount (shape_of p) (place_of (cell_at s.pool.payloads at)) count
   pub as_many : count ≡ length (options_at (shape_of p) (place_of (cell_at s.pool.payloads at)) way)

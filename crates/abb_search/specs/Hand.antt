@@ -9,18 +9,19 @@ use Rattle.tree_rules.specs.Leaf.{untried}
 use Rattle.search_tree.specs.Cells.{Cell, place_of, cell_at}
 use Rattle.search_tree.specs.declared.growth.Fresh.{Fresh}
 use Rattle.node_evaluation.specs.declared.looks.Ready.{Ready}
+use Rattle.node_evaluation.specs.Evaluated.{PastPlaces}
 use Rattle.node_evaluation.specs.Looks.{IsSomeReady}
 
 -- leaf j has a value, and under its key stands what its branching or shutting takes
-pub record IsAtHand (p : Problem) (cells : List Cell) (values : List Mixed) (hand : Slab Ready) (j : ℕ) : Type 0 where
+pub record IsAtHand (Past : PastPlaces) (p : Problem) (cells : List Cell) (values : List Mixed) (hand : Slab Ready) (j : ℕ) : Type 0 where
   pub value : Mixed
   pub value_is : slice_get values j ≡ Some value
-  pub some : IsSomeReady p (place_of (cell_at cells j)) value (get hand (cell_at cells j).key)
+  pub some : IsSomeReady Past p (place_of (cell_at cells j)) value (get hand (cell_at cells j).key)
 
 -- each node has a value, each open leaf has it at hand, and no two have one key
-pub record AreAtHand (p : Problem) (cells : List Cell) (values : List Mixed) (hand : Slab Ready) : Type 0 where
+pub record AreAtHand (Past : PastPlaces) (p : Problem) (cells : List Cell) (values : List Mixed) (hand : Slab Ready) : Type 0 where
   pub as_many : length values ≡ length cells
-  pub each : (j : ℕ) → j < length cells → (cell_at cells j).end ≡ leaf untried → IsAtHand p cells values hand j
+  pub each : (j : ℕ) → j < length cells → (cell_at cells j).end ≡ leaf untried → IsAtHand Past p cells values hand j
   pub apart : (i j : ℕ) → i < length cells → j < length cells → (cell_at cells i).end ≡ leaf untried → (cell_at cells j).end ≡ leaf untried
       → (cell_at cells i).key ≡ (cell_at cells j).key → i ≡ j
 

@@ -77,7 +77,7 @@ fn proof_for<E: Evaluator>(
     requires graph { shape graph.now ≡ shape_of problem.now }
     requires sound { IsSound (shape_of problem.now) (node_of node) }
     requires reduced { IsReduced (shape_of problem.now) (node_of node) }
-    requires bound { IsBoundOf problem.now (node_of node) bound.now }
+    requires bound { IsBoundOf E.past problem.now (node_of node) bound.now }
     requires beaten { IsNoMore (cost_in network.now) (cost_over bound.now.value) }
     ensures { IfOk result (IsProof E.past problem.now (node_of node) (cost_in network.now)) }
 {
@@ -114,7 +114,7 @@ fn proof_at<E: Evaluator>(
     leaf: u32,
 ) -> Result<Option<Proof>, AllocError>
     requires graph { shape graph.now ≡ shape_of problem.now }
-    requires growing { (undercut : Option CostOver) × IsGrowingFor problem.now undercut growing.now }
+    requires growing { (undercut : Option CostOver) × IsGrowingFor E.past problem.now undercut growing.now }
     requires beaten { AreBeaten growing.now network.now }
     requires leaf { leaf < length growing.now.pool.payloads }
     ensures { IfOk result (IsShutBy E.past problem.now growing.now (cost_in network.now) leaf) }
@@ -159,7 +159,7 @@ pub fn close_all<E: Evaluator>(
     network: &Network,
 ) -> Result<Closing, AllocError>
     requires graph { shape graph.now ≡ shape_of problem.now }
-    requires growing { (undercut : Option CostOver) × IsGrowingFor problem.now undercut growing.now }
+    requires growing { (undercut : Option CostOver) × IsGrowingFor E.past problem.now undercut growing.now }
     requires beaten { AreBeaten growing.now network.now }
     ensures { IfOk result (AreShutBy E.past problem.now growing.now (cost_in network.now)) }
 {

@@ -1,8 +1,8 @@
 //! The tree while it grows.
-ghost use Rattle.std.specs.Prelude.{◌≡◌, ◌↔◌, ◌<◌, ◌≤◌, ◌+◌, ◌-◌, ◌^◌, ◌*ℤ◌, ◌≤ℤ◌, pos, true, IsTrue, IfOk, OnOk, OnErr, MatchOption, drop, length};
+ghost use Rattle.std.specs.Prelude.{◌≡◌, ◌↔◌, ◌<◌, ◌≤◌, ◌+◌, ◌-◌, ◌^◌, ◌*ℤ◌, ◌≤ℤ◌, pos, true, false, Some, IsTrue, IfOk, OnOk, OnErr, MatchOption, drop, length, option_copied};
 ghost use Rattle.mixed_numbers.specs.Number.{numerator, denominator};
 ghost use Rattle.slab.specs.Slab.{get};
-ghost use Rattle.link_lists.specs.Lists.{has};
+ghost use Rattle.link_lists.specs.Lists.{first, has};
 ghost use Rattle.pns_rules.specs.Shape.{shape_of};
 ghost use Rattle.pns_rules.specs.Ends.{IsSound, IsReduced};
 ghost use Rattle.tree_rules.specs.Ways.{options_at};
@@ -17,14 +17,14 @@ ghost use Rattle.neutral_extension.specs.Candidates.{AreMakersOf};
 ghost use Rattle.turn_laws.specs.Values.{IsNoMore};
 ghost use Rattle.node_evaluation.specs.Children.{AreSolvedBy};
 ghost use Rattle.node_evaluation.specs.Evaluated.{cost_over, cost_in};
-ghost use Rattle.abb_search.specs.Growing.{IsBeaten, IsBranching, IsSame, MayUndercut, stop_at, leaf_of, choice_of};
+ghost use Rattle.abb_search.specs.Growing.{IsBeaten, IsBranching, IsSame, IsSameButHand, HasInterval, IsReachedAt, IsLeastLeaf, IsHeldUp, MayUndercut, ready_at, interval_of, interval_stop, stop_at, leaf_of, choice_of};
 
 use crate::hand::place_all;
 use branch_choice::Choice;
 use branch_tree::{End, Network};
 use mixed_numbers::Mixed;
 use neutral_extension::Makers;
-use node_evaluation::{Evaluator, PastStop, Ready, StoppedAt, cheaper, look_at_children};
+use node_evaluation::{Evaluator, Interval, PastStop, Ready, StoppedAt, cheaper, look_at_children};
 use node_pool::Pool;
 use pgraph::Graph;
 use pns_problem::Problem;
@@ -69,8 +69,15 @@ fn is_at_most(value: &Mixed, num: i128, den: i128) -> bool
     value.cmp(&Mixed::of(num, den)).is_le()
 }
 
+/// Whether the value is at most the other.
+fn is_no_more(value: &Mixed, other: &Mixed) -> bool
+    ensures { IsTrue result ↔ IsNoMore (cost_over value.now) (cost_over other.now) }
+{
+    value.cmp(other).is_le()
+}
+
 /// Whether the value is at most the network's cost.
-fn is_within(value: &Mixed, network: &Network) -> bool
+pub fn is_within(value: &Mixed, network: &Network) -> bool
     ensures { IsTrue result ↔ IsNoMore (cost_over value.now) (cost_in network.now) }
 {
     network.is_sized();
@@ -84,19 +91,6 @@ pub(crate) fn is_beaten(best: &Option<Network>, value: &Mixed) -> bool
     match best {
         None => false,
         Some(network) => reaches(value, network),
-    }
-}
-
-/// Whether an open leaf's value is at most the best network's cost.
-pub(crate) fn may_undercut(growing: &Growing, leaf: u32) -> bool
-    requires { has growing.now.pool.leaves leaf ≡ true }
-    ensures { IsTrue result → MayUndercut growing.now leaf }
-{
-    growing.pool.is_pool();
-    let value = growing.pool.value(leaf);
-    match &growing.best {
-        None => true,
-        Some(network) => is_within(&value, network),
     }
 }
 
@@ -146,6 +140,87 @@ fn key_at(pool: &Pool<Cell>, leaf: u32) -> usize
 {
     pool.is_pool();
     pool.payload(leaf).key
+}
+
+/// The interval that the least cost of an open leaf lies in, where this is past the range.
+fn interval_at(growing: &Growing, leaf: u32) -> Option<&Interval>
+    requires { leaf < length growing.now.pool.payloads }
+    ensures { option_copied result ≡ interval_of (ready_at growing.now leaf) }
+{
+    let ready = growing.ready.get(key_at(&growing.pool, leaf))?;
+    ready.bound.interval.as_ref()
+}
+
+/// What some relaxed flows of an open leaf cost at most: its value, or what the interval reaches.
+pub fn reached_at(growing: &Growing, leaf: u32) -> Mixed
+    requires { leaf < length growing.now.pool.payloads }
+    ensures { IsReachedAt growing.now leaf result }
+{
+    growing.pool.is_pool();
+    let value = growing.pool.value(leaf);
+    match interval_at(growing, leaf) {
+        None => value,
+        Some(interval) => interval.reached,
+    }
+}
+
+/// Whether the open leaf of least value has relaxed flows that cost at most any other open leaf's value: it has, but where its least
+/// cost is past the range.
+pub fn leads(growing: &Growing, leaf: u32) -> bool
+    requires { first growing.now.pool.leaves ≡ Some leaf }
+    ensures least { result ≡ true → IsLeastLeaf growing.now leaf }
+    ensures interval { result ≡ false → HasInterval growing.now leaf }
+    ensures held_up { result ≡ false → IsHeldUp growing.now leaf }
+{
+    growing.pool.is_pool();
+    let Some(interval) = interval_at(growing, leaf) else {
+        return true;
+    };
+    match growing.pool.next_least() {
+        None => true,
+        Some(next) => is_no_more(&interval.reached, &growing.pool.value(next)),
+    }
+}
+
+/// Whether an open leaf has relaxed flows that cost at most as much as the best network.
+pub(crate) fn may_undercut(growing: &Growing, leaf: u32) -> bool
+    requires { leaf < length growing.now.pool.payloads }
+    ensures { IsTrue result ↔ MayUndercut growing.now leaf }
+{
+    growing.pool.is_pool();
+    let reached = reached_at(growing, leaf);
+    match &growing.best {
+        None => true,
+        Some(network) => is_within(&reached, network),
+    }
+}
+
+/// Where the path of a leaf stops, where its least cost is past the range.
+fn stop_in(leaf: u32, interval: Option<Interval>) -> Option<StoppedLeaf>
+    ensures { result ≡ interval_stop leaf interval }
+{
+    match interval {
+        None => None,
+        Some(interval) => Some(StoppedLeaf {
+            leaf,
+            stop: interval.stop,
+        }),
+    }
+}
+
+/// Takes out where the path of an open leaf stops, where its least cost is past the range. What is at hand for it is then gone.
+pub fn take_stop(growing: &mut Growing, leaf: u32) -> Option<StoppedLeaf>
+    requires { leaf < length growing.old.pool.payloads }
+    ensures stop { result ≡ interval_stop leaf (interval_of (ready_at growing.old leaf)) }
+    ensures rest { IsSameButHand growing.old growing.new }
+{
+    match growing.ready.try_remove(key_at(&growing.pool, leaf)) {
+        None => None,
+        Some(ready) => {
+            let bound = ready.bound;
+            stop_in(leaf, bound.interval)
+        }
+    }
 }
 
 /// How an open leaf is branched.

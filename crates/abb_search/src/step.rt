@@ -15,7 +15,8 @@ ghost use Rattle.abb_search.specs.Searched.{StandsAt};
 use crate::closing::{Closing, close_all};
 use crate::found::{past_found, shut_tree, tree_with, whole_found};
 use crate::growing::{
-    Growing, branch_leaf, choice_at, is_beaten, is_over, may_undercut, node_at, stopped_leaf,
+    Growing, branch_leaf, choice_at, is_beaten, is_over, leads, may_undercut, node_at,
+    stopped_leaf, take_stop,
 };
 use crate::outcome::Found;
 use crate::root::look_at_root;
@@ -25,7 +26,7 @@ use pgraph::Graph;
 use pns_problem::Problem;
 use std::alloc::{AllocError, Global};
 
-/// Branches an open leaf of least value, which is at most the best network's cost, or tells that the budget is spent.
+/// Branches an open leaf that is no dearer than any other, and may undercut the best network, or tells that the budget is spent.
 fn branch_least<E: Evaluator>(
     alloc: Global,
     evaluator: &mut E,
@@ -37,7 +38,7 @@ fn branch_least<E: Evaluator>(
 ) -> Result<Option<Found>, AllocError>
     requires graph { shape graph.now ≡ shape_of problem.now }
     requires same { AreMakersOf (shape graph.now) makers.old.makers }
-    requires growing { IsGrowing problem.now growing.old }
+    requires growing { IsGrowing E.past problem.now growing.old }
     requires leaf { has growing.old.pool.leaves leaf ≡ true }
     requires least { IsLeastLeaf growing.old leaf }
     requires below { MayUndercut growing.old leaf }
@@ -66,7 +67,7 @@ fn branch_least<E: Evaluator>(
 }
 
 /// Goes on where the best network costs no more than any open leaf: all of them are shut. A leaf that can't be, since a number is past
-/// the range, is branched where its value is just the network's cost, and else it stops the search.
+/// the range, is branched where it has relaxed flows that cost just as much as the network, and else it stops the search.
 fn close<E: Evaluator>(
     alloc: Global,
     evaluator: &mut E,
@@ -77,7 +78,7 @@ fn close<E: Evaluator>(
 ) -> Result<Option<Found>, AllocError>
     requires graph { shape graph.now ≡ shape_of problem.now }
     requires same { AreMakersOf (shape graph.now) makers.old.makers }
-    requires growing { IsGrowing problem.now growing.old }
+    requires growing { IsGrowing E.past problem.now growing.old }
     requires beaten { (w : claims.Network) × (growing.old.best ≡ Some w) × AreBeaten growing.old w }
     ensures holds { IfOk result (StepHolds E.past problem.now growing.old growing.new) }
     ensures same { OnErr result (IsSame growing.old growing.new) }
@@ -103,7 +104,8 @@ fn close<E: Evaluator>(
     }
 }
 
-/// Branches the open leaf of least value, or tells what is found. No leaf stops the search.
+/// Branches the open leaf of least value, or tells what is found. No leaf stops the search but where that may not be branched, since
+/// its least cost is past the range.
 fn go_on<E: Evaluator>(
     alloc: Global,
     evaluator: &mut E,
@@ -114,7 +116,7 @@ fn go_on<E: Evaluator>(
 ) -> Result<Option<Found>, AllocError>
     requires graph { shape graph.now ≡ shape_of problem.now }
     requires same { AreMakersOf (shape graph.now) makers.old.makers }
-    requires growing { IsGrowing problem.now growing.old }
+    requires growing { IsGrowing E.past problem.now growing.old }
     requires goes_on { growing.old.stop ≡ None }
     ensures holds { IfOk result (StepHolds E.past problem.now growing.old growing.new) }
     ensures same { OnErr result (IsSame growing.old growing.new) }
@@ -130,7 +132,12 @@ fn go_on<E: Evaluator>(
     if is_beaten(&growing.best, &value) {
         return close(alloc, evaluator, problem, graph, makers, growing);
     }
-    branch_least(alloc, evaluator, problem, graph, makers, growing, leaf)
+    if leads(growing, leaf) && may_undercut(growing, leaf) {
+        return branch_least(alloc, evaluator, problem, graph, makers, growing, leaf);
+    }
+    let placed = tree_with(alloc, growing, leaf)?;
+    let stop = take_stop(growing, leaf);
+    Ok(past_found(growing.best.take(), stop, placed))
 }
 
 /// Makes the nodes more, or tells what is found. After `Err`, which comes for want of memory alone, the tree is as before.

@@ -1,5 +1,5 @@
 -- What the bench keeps of a node, as a search is told it.
-use Rattle.std.proofs.Common.{◌≡◌, ℕ, Bool, true, false, not, ℤ, pos, ◌*ℤ◌, ◌≤ℤ◌, List, [], ◌∷◌, length, Some, refl, sym, ap, ◌∙◌, subst, arith}
+use Rattle.std.proofs.Common.{◌≡◌, ℕ, Bool, true, false, not, ℤ, pos, ◌*ℤ◌, ◌≤ℤ◌, List, [], ◌∷◌, length, Some, None, refl, sym, ap, ◌∙◌, subst, arith}
 use Rattle.std.specs.Prelude.{◌&&◌}
 use Rattle.std.proofs.lemmas.Int.{ints}
 use Rattle.number_sets.specs.Sets.{has, IsRising}
@@ -29,11 +29,11 @@ use Rattle.tree_rules.specs.Claim.{Network, CostOver}
 use Rattle.dual_simplex.specs.Bench.{Bench, IsLeastOf, AreFlowsOf}
 use Rattle.dual_simplex.specs.Laws.{ScaleIsPositive, BoundIsReached, BoundIsLeast}
 use Rattle.dual_simplex.specs.FlowLaws.{UnitsAreInside, SplitFlowsAreFlows, SplitFlowsAreLeast}
-use Rattle.turn_laws.specs.Values.{IsPositive, IsNoMore}
-use Rattle.turn_laws.proofs.FractionLemmas.{fraction_trans}
+use Rattle.turn_laws.specs.Values.{IsPositive}
 use Rattle.turn_laws.proofs.GrowLemmas.{leaf_fallen}
 use Rattle.node_evaluation.specs.Evaluated.{cost_over, IsBoundOf, IsNetworkOf, IsWorth}
 use Rattle.node_evaluation.proofs.LookLemmas.{under_value}
+use Rattle.flow_evaluator.specs.Past.{IsPastAt}
 use Rattle.flow_evaluator.proofs.ValueLemmas.{kept_le, kept_same, kept_over}
 
 -- the number is the bound that the bench keeps, over its scale
@@ -67,7 +67,7 @@ kept_steps p n old new d ys h =
 module _ (p : Problem) (valid : IsValid p) (n : rules.Node) (b : Bench) (least : IsLeastOf (program_of (net_of p) n) b) where
   -- the value with the multipliers
   pub bound_is : ScaleIsPositive → BoundIsReached → BoundIsLeast → (v : Mixed) → IsValueAt p n b v → IsFormed p n b.d b.ys
-      → IsBoundOf p n (record { value = v; low = v; scaled = record { d = b.d; ys = b.ys } })
+      → IsBoundOf IsPastAt p n (record { value = v; low = v; scaled = record { d = b.d; ys = b.ys }; interval = None })
   bound_is scale reached under v low formed = let r = reached p valid n own b refl least in record {
     value = record {
       positive = den;
@@ -101,11 +101,9 @@ module _ (p : Problem) (valid : IsValid p) (n : rules.Node) (b : Bench) (least :
       den = let h = denominator_positive v in omega (arith, ints)
 
 -- the value of a node, where it is proved, proves each cost that the node is worth
-pub worth_proved : (p : Problem) (n : rules.Node) (cost : CostOver) (v : Mixed) (s : Scaled) → IsPositive cost → IsWorth p n cost → IsBoundOf p n (record { value = v; low = v; scaled = s }) → IsBounded p (Some cost) n s.d s.ys
+pub worth_proved : (p : Problem) (n : rules.Node) (cost : CostOver) (v : Mixed) (s : Scaled) → IsPositive cost → IsWorth p n cost → IsBoundOf IsPastAt p n (record { value = v; low = v; scaled = s; interval = None }) → IsBounded p (Some cost) n s.d s.ys
 worth_proved p n cost v s positive w h =
-    let reached : IsNoMore w.value (cost_over v) = under_value p n w.value (record { value = v; low = v; scaled = s }) w.is_value.positive w.is_value.under h in
-    leaf_fallen p (Some (cost_over v)) (Some cost) n (bounded s.d s.ys)
-    (fraction_trans cost.cost cost.d w.value.cost w.value.d (numerator v) (denominator v) positive w.is_value.positive h.value.positive w.no_less reached) h.value.positive positive h.bounded
+    leaf_fallen p (Some (cost_over v)) (Some cost) n (bounded s.d s.ys) (under_value p n cost v positive w.under h.value) h.value.positive positive h.bounded
 
 -- ---- where all is decided
 

@@ -1,5 +1,5 @@
 -- A structure at hand, and the network of it.
-use Rattle.std.proofs.Common.{◌≡◌, ◌⊎◌, ℕ, ◌<◌, ◌==◌, Bool, true, not, ◌&&◌, nat_lt, List, sym, ap, ◌∙◌, inl, inr, arith, true≢false, Option, Some, None}
+use Rattle.std.proofs.Common.{◌≡◌, ◌⊎◌, ℕ, ◌<◌, ◌==◌, Bool, true, not, nat_lt, List, sym, ap, ◌∙◌, inl, inr, arith, true≢false, Option, Some, None}
 use Rattle.std.proofs.lemmas.Bool.{or_cases, or_right, and_parts, false_from_ne_true, not-true}
 use Rattle.std.proofs.lemmas.Bool.Decides.{nat_tests}
 use Rattle.std.specs.Prelude.{IfSome}

@@ -12,7 +12,7 @@ use Rattle.flow_program.specs.declared.place.Column.TheVariants.{X, S, T, W, Rig
 use Rattle.flow_program.specs.declared.place.Place.{Place}
 use Rattle.flow_program.specs.declared.place.Place.TheVariants.{Entry, Flow, Cost, FlowSum, Bound, Refute}
 use Rattle.branch_tree.specs.Known.{KnowsColumn, KnowsRow, KnowsPlace}
-use Rattle.tableau_rows.specs.Rows.{basis}
+use Rattle.dual_simplex.specs.Rows.{basis}
 use Rattle.dual_simplex.specs.Bench.{Bench}
 use Rattle.dual_simplex.specs.Named.{nonbasic_named}
 use Rattle.dual_simplex.specs.ProgramNames.{IsColumnOf, IsRowOf, IsPlaceOf, NonbasicAreOfProgram}

@@ -1,26 +1,35 @@
 -- What is told of a node without its path, as a search is told it.
-use Rattle.std.proofs.Common.{◌≡◌, Bool, true, false, ℤ, ◌*ℤ◌, ◌≤ℤ◌, sym, subst, arith}
+use Rattle.std.proofs.Common.{◌≡◌, Bool, true, false, Some, None, refl, List, ℤ, pos, ◌*ℤ◌, ◌≤ℤ◌, sym, subst, arith}
 use Rattle.std.proofs.lemmas.Int.{ints}
 use Rattle.problem_rules.specs.Problem.{Problem}
 use Rattle.pns_rules.specs.Nodes.{Node}
 use Rattle.mixed_numbers.specs.declared.number.Mixed.{Mixed}
 use Rattle.mixed_numbers.specs.Number.{numerator, denominator}
-use Rattle.tree_rules.specs.Claim.{Network}
-use Rattle.turn_laws.specs.Values.{IsNoMore}
+use Rattle.mixed_numbers.specs.OrderLaws.{denominator_positive}
+use Rattle.flow_rules.specs.Net.{net_of}
+use Rattle.flow_rules.specs.Relaxed.{relaxed_cost, bound}
+use Rattle.flow_rules.specs.Laws.{RelaxedDuality}
+use Rattle.tree_rules.specs.Claim.{Network, CostOver}
+use Rattle.tree_rules.specs.Leaf.{IsBounded, multiplier}
+use Rattle.turn_laws.specs.Values.{IsPositive, IsUnder, IsNoMore}
+use Rattle.turn_laws.proofs.FractionLemmas.{fraction_trans}
+use Rattle.certified_bounds.specs.declared.certified.Between.{Between}
 use Rattle.certified_bounds.specs.declared.certified.LeastBound.{LeastBound}
 use Rattle.certified_bounds.specs.declared.certified.Certified.{Certified}
 use Rattle.certified_bounds.specs.declared.certified.Certified.TheVariants.{Least, Flows}
-use Rattle.certified_bounds.specs.Certified.{IsCertified, IsLeastBound, IsNetworkAt}
+use Rattle.certified_bounds.specs.Certified.{IsCertified, IsBetween, IsLeastBound, IsNetworkAt}
+use Rattle.node_evaluation.specs.declared.evaluator.PastStop.{PastStop}
 use Rattle.node_evaluation.specs.declared.evaluator.Bound.{Bound}
 use Rattle.node_evaluation.specs.Evaluated.{cost_over, cost_in, IsBoundOf, IsNetworkOf, HasUnits}
+use Rattle.flow_evaluator.specs.Past.{IsPastAt}
 
 abbrev pub bound_from : LeastBound → Bound
-bound_from b = record { value = b.value; low = b.low; scaled = b.scaled }
+bound_from b = record { value = b.value; low = b.low; scaled = b.scaled; interval = None }
 
 no_more_of_same : (a b : ℤ) → a ≡ b → a ≤ℤ b
 no_more_of_same a b e = omega (arith, ints)
 
-bound_is : (p : Problem) (n : Node) (b : LeastBound) → IsLeastBound p n b → IsBoundOf p n (bound_from b)
+bound_is : (p : Problem) (n : Node) (b : LeastBound) → IsLeastBound p n b → IsBoundOf IsPastAt p n (bound_from b)
 bound_is p n b h = record {
   value = record { positive = h.value.positive; under = h.value.under; reached = h.value.reached };
   no_more = h.no_more;
@@ -35,20 +44,46 @@ network_is p v w h = record {
   no_less = no_more_of_same (numerator v *ℤ w.d) (w.cost *ℤ denominator v) (sym h.costs);
 }
 
-pub least_is : (p : Problem) (n : Node) (decided : Bool) (told : Certified) (b : LeastBound) (r : Bound) → told ≡ Least b → r ≡ bound_from b → IsCertified p n decided told → (decided ≡ false) × IsBoundOf p n r
+pub least_is : (p : Problem) (n : Node) (decided : Bool) (told : Certified) (b : LeastBound) (r : Bound) → told ≡ Least b → r ≡ bound_from b → IsCertified p n decided told → (decided ≡ false) × IsBoundOf IsPastAt p n r
 least_is p n decided told b r is same h =
     let k : IsCertified p n decided (Least b) = subst (IsCertified p n decided) is h in
-    (k.0, subst (IsBoundOf p n) (sym same) (bound_is p n b k.1))
+    (k.0, subst (IsBoundOf IsPastAt p n) (sym same) (bound_is p n b k.1))
 
 pub flows_are : (p : Problem) (n : Node) (decided : Bool) (told : Certified) (b : LeastBound) (w : Network) (r : Bound) → told ≡ Flows b w → r ≡ bound_from b → IsCertified p n decided told
-    → (decided ≡ true) × IsBoundOf p n r × IsNetworkOf p r.value w × IsNoMore (cost_in w) (cost_over r.low) × HasUnits n w
+    → (decided ≡ true) × (r.interval ≡ None) × IsBoundOf IsPastAt p n r × IsNetworkOf p r.value w × IsNoMore (cost_in w) (cost_over r.low) × HasUnits n w
 flows_are p n decided told b w r is same h =
     let k : IsCertified p n decided (Flows b w) = subst (IsCertified p n decided) is h in
     let network : IsNetworkOf p b.value w = network_is p b.value w k.2 in
     let reached : IsNoMore (cost_in w) (cost_over b.low) = subst (λ (f : Mixed). IsNoMore (cost_in w) (cost_over f)) (sym k.3) network.no_more in (
       k.0,
-      subst (IsBoundOf p n) (sym same) (bound_is p n b k.1),
+      subst (λ (x : Bound). x.interval ≡ None) (sym same) refl,
+      subst (IsBoundOf IsPastAt p n) (sym same) (bound_is p n b k.1),
       subst (λ (x : Bound). IsNetworkOf p x.value w) (sym same) network,
       subst (λ (x : Bound). IsNoMore (cost_in w) (cost_over x.low)) (sym same) reached,
       k.4,
     )
+
+-- ---- two costs between which the least cost lies
+
+-- no relaxed flows cost less than what multipliers prove
+bounded_under : RelaxedDuality → (p : Problem) (n : Node) (cost : CostOver) (scale : ℤ) (ys : List ℤ) → IsPositive cost → IsBounded p (Some cost) n scale ys → IsUnder p cost n
+bounded_under duality p n cost scale ys positive h z d flows =
+    let scaled = h.positive in
+    let dual : (d *ℤ bound (net_of p) n scale (multiplier p n ys)) ≤ℤ (scale *ℤ relaxed_cost (net_of p) n z d) = duality p n z d flows scale (omega (arith, ints)) (multiplier p n ys) in
+    let turned : (bound (net_of p) n scale (multiplier p n ys) *ℤ d) ≤ℤ (relaxed_cost (net_of p) n z d *ℤ scale) = omega (arith, ints) in
+    fraction_trans cost.cost cost.d (bound (net_of p) n scale (multiplier p n ys)) scale (relaxed_cost (net_of p) n z d) d positive h.positive flows.positive h.reaches turned
+
+abbrev pub bound_with : Between → PastStop → Bound
+bound_with b stop = record { value = b.low; low = b.low; scaled = b.scaled; interval = Some (record { reached = b.reached; stop = stop }) }
+
+pub between_is : RelaxedDuality → (p : Problem) (n : Node) (b : Between) (stop : PastStop) (r : Bound) → r ≡ bound_with b stop → IsBetween p n b → IsPastAt p n stop.nonbasic stop.place → IsBoundOf IsPastAt p n r
+between_is duality p n b stop r same h past =
+    subst (IsBoundOf IsPastAt p n) (sym same)
+    (record {
+      value = (bounded_under duality p n (cost_over b.low) b.scaled.d b.scaled.ys positive h.bounded, h.reached, past);
+      no_more = no_more_of_same (numerator b.low *ℤ denominator b.low) (numerator b.low *ℤ denominator b.low) refl;
+      bounded = h.bounded;
+    })
+  where
+    positive : pos 1 ≤ℤ denominator b.low
+    positive = let d = denominator_positive b.low in omega (arith, ints)

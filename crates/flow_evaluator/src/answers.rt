@@ -1,5 +1,5 @@
 //! What the last basis of a node's path gives.
-ghost use Rattle.std.specs.Prelude.{◌≡◌, ◌≤ℤ◌, Bool, true, pos, length, IfOk};
+ghost use Rattle.std.specs.Prelude.{◌≡◌, ◌≤ℤ◌, Bool, true, pos, length, None, IfOk};
 ghost use Rattle.mixed_numbers.specs.Number.{numerator, denominator};
 ghost use Rattle.int_rows.specs.Range.{InRange, AllInRange};
 ghost use Rattle.pns_rules.specs.Shape.{shape_of};
@@ -82,13 +82,14 @@ pub(crate) fn refuted(
 fn bound_at(alloc: Global, value: Mixed, bench: &Bench) -> Result<Bound, AllocError>
     requires scale_in_range { InRange bench.now.d }
     requires in_range { AllInRange bench.now.ys }
-    ensures { IfOk result (λ b. b ≡ record { value = value; low = value; scaled = record { d = bench.now.d; ys = bench.now.ys } }) }
+    ensures { IfOk result (λ b. b ≡ record { value = value; low = value; scaled = record { d = bench.now.d; ys = bench.now.ys }; interval = None }) }
 {
     let scaled = Scaled::of(alloc, bench.d(), bench.ys())?;
     Ok(Bound {
         value,
         low: value,
         scaled,
+        interval: None,
     })
 }
 

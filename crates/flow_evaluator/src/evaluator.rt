@@ -15,13 +15,13 @@ ghost use Rattle.flow_evaluator.specs.Past.{IsPastAt};
 
 use crate::answers::{bounded, proved, refuted, stopped, unproved};
 use crate::at_hand::{running_units, structure_with};
-use crate::told::evaluation_of;
+use crate::told::{bound_between, evaluation_of};
 use crate::tries::Tries;
 use branch_tree::Network;
 use certified_bounds::{Certified, CertifiedBounds};
 use dual_simplex::{Bench, Ends, entry_is_past, names_are_of_program, none_is_refuted};
 use flow_program::Program;
-use flow_rules::refutation;
+use flow_rules::{refutation, relaxed_duality};
 use node_evaluation::{Evaluation, Evaluator, Proof};
 use pgraph::Graph;
 use pns_problem::Problem;
@@ -30,7 +30,8 @@ use std::marker::Model;
 use structure_flows::{allowed_is_decided, node_of};
 use unit_sets::{Node, UnitSet};
 
-/// Values node after node: by a guess that is judged exactly, and where that tells nothing, by the path of the node's program.
+/// Values node after node: by a guess that is judged exactly, and where that tells nothing, by the path of the node's program; and where
+/// that stops, by two costs between which the least cost lies.
 #[derive(Drop)]
 pub struct FlowEvaluator {
     certified: CertifiedBounds,
@@ -223,6 +224,41 @@ impl FlowEvaluator {
         let told = self.certified.look(alloc, problem, graph, node, decided)?;
         Ok(evaluation_of(told))
     }
+
+    /// What the path of a node tells; where it stops and not all is decided, two costs between which the least cost lies, if they are
+    /// found.
+    fn with_between(
+        &mut self,
+        alloc: Global,
+        problem: &Problem,
+        graph: &Graph,
+        node: Node,
+        decided: bool,
+        told: Evaluation,
+    ) -> Result<Evaluation, AllocError>
+        requires own { self.old.problem ≡ problem.now }
+        requires graph { shape graph.now ≡ shape_of problem.now }
+        requires sound { IsSound (shape_of problem.now) (node_of node) }
+        requires told { IsEvaluated IsPastAt problem.now (node_of node) decided told }
+        ensures { IfOk result (IsEvaluated IsPastAt problem.now (node_of node) decided) }
+    {
+        if decided {
+            return Ok(told);
+        }
+        relaxed_duality();
+        match told {
+            Evaluation::Stopped(stop) => {
+                match self.certified.between(alloc, problem, graph, node)? {
+                    Some(between) => {
+                        self.is_walked = false;
+                        Ok(Evaluation::Least(bound_between(between, stop)))
+                    }
+                    None => Ok(Evaluation::Stopped(stop)),
+                }
+            }
+            other => Ok(other),
+        }
+    }
 }
 
 impl Evaluator for FlowEvaluator {
@@ -245,7 +281,8 @@ impl Evaluator for FlowEvaluator {
         }
         self.has_room();
         self.is_walked = true;
-        let evaluation = evaluate_on(alloc, problem, graph, &node, decided, &mut self.bench)?;
+        let told = evaluate_on(alloc, problem, graph, &node, decided, &mut self.bench)?;
+        let evaluation = self.with_between(alloc, problem, graph, node, decided, told)?;
         self.tries.keep(&evaluation);
         Ok(evaluation)
     }

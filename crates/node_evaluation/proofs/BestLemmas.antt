@@ -6,10 +6,11 @@ use Rattle.tree_rules.specs.Ways.{Way}
 use Rattle.tree_rules.specs.Claim as claims
 use Rattle.tree_rules.specs.Claim.{CostOver, claimed_cost}
 use Rattle.search_tree.specs.Cells.{Cell, place_of, cell_at}
-use Rattle.turn_laws.specs.Values.{IsPositive, IsUnder, HasFallen, IsPositiveCost}
-use Rattle.turn_laws.specs.Kept.{LastIsBelow}
+use Rattle.tree_rules.specs.Lean.{MayUndercut}
+use Rattle.turn_laws.specs.Values.{HasFallen, IsPositiveCost}
 use Rattle.turn_laws.specs.Turns.{AreChildren}
 use Rattle.turn_laws.proofs.GrowLemmas.{leaf_fallen}
+use Rattle.turn_laws.proofs.OrderLemmas.{may_any}
 use Rattle.node_evaluation.specs.Looks.{cost_of}
 use Rattle.node_evaluation.specs.Children.{claim_with, IsBest, IsImproved}
 use Rattle.node_evaluation.proofs.ChildLemmas.{cost_is}
@@ -40,10 +41,10 @@ module _ (p : Problem) (n : Node) (old found new : Option claims.Network) (best 
   new_fallen : (w : Option claims.Network) → HasFallen (cost_of w) (cost_of new) → HasFallen (claimed_cost (claim_with w)) (claimed_cost (claim_with new))
   new_fallen w h = subst (λ (a : Option CostOver). HasFallen a (claimed_cost (claim_with new))) (cost_is w) (subst (λ (a : Option CostOver). HasFallen (cost_of w) a) (cost_is new) h)
 
-  new_below : (v : CostOver) → IsPositive v → IsUnder p v n → LastIsBelow (Some v) (claimed_cost (claim_with old)) → LastIsBelow (Some v) (claimed_cost (claim_with new))
-  new_below v pv u l = elim which [
-    | inl e ↦ subst (λ (w : Option claims.Network). LastIsBelow (Some v) (claimed_cost (claim_with w))) (sym e) l
-    | inr e ↦ subst (λ (w : Option claims.Network). LastIsBelow (Some v) (claimed_cost (claim_with w))) (sym e) (improved.below v pv u tt)
+  new_below : MayUndercut p (claimed_cost (claim_with old)) n → MayUndercut p (claimed_cost (claim_with new)) n
+  new_below u = elim which [
+    | inl e ↦ subst (λ (w : Option claims.Network). MayUndercut p (claimed_cost (claim_with w)) n) (sym e) u
+    | inr e ↦ subst (λ (w : Option claims.Network). MayUndercut p (claimed_cost (claim_with w)) n) (sym e) (improved.below (may_any p (claimed_cost (claim_with old)) n u))
   ]
 
   pub improved_after : IsImproved p n old new

@@ -17,22 +17,22 @@ use Rattle.tree_rules.specs.Tree.{leaf, after_all}
 use Rattle.tree_rules.specs.Claim as claims
 use Rattle.tree_rules.specs.Claim.{CostOver, claimed_cost}
 use Rattle.tree_rules.specs.Leaf.{Leaf, untried, LeafPasses}
+use Rattle.tree_rules.specs.Lean.{MayUndercut, IsNoDearer}
 use Rattle.search_laws.proofs.ValueLemmas.{ways_are_dearer}
 use Rattle.search_laws.proofs.SoundLemmas.{children_are_sound}
 use Rattle.search_tree.specs.Cells.{Cell, no_cell, place_of, cell_at}
 use Rattle.search_tree.specs.Fits.{Follows}
 use Rattle.search_tree.specs.declared.growth.Fresh.{Fresh}
-use Rattle.turn_laws.specs.Values.{IsPositive, IsUnder, HasFallen, IsPositiveCost}
-use Rattle.turn_laws.specs.Kept.{LastIsBelow}
+use Rattle.turn_laws.specs.Values.{HasFallen, IsPositiveCost}
 use Rattle.turn_laws.specs.Turns.{IsFreshChild}
 use Rattle.turn_laws.proofs.GrowLemmas.{leaf_fallen}
-use Rattle.turn_laws.proofs.KeptLemmas.{under_dearer}
+use Rattle.turn_laws.proofs.OrderLemmas.{reached_dearer, reached_may_undercut, may_any}
 use Rattle.node_evaluation.specs.declared.evaluator.PastStop.{PastStop}
 use Rattle.node_evaluation.specs.declared.looks.Ready.{Ready}
 use Rattle.node_evaluation.specs.declared.looks.Looked.{Looked}
 use Rattle.node_evaluation.specs.declared.children.StoppedAt.{StoppedAt}
 use Rattle.node_evaluation.specs.declared.children.Children.{Children}
-use Rattle.node_evaluation.specs.Evaluated.{PastPlaces}
+use Rattle.node_evaluation.specs.Evaluated.{PastPlaces, cost_in}
 use Rattle.node_evaluation.specs.Looks.{cost_of, is_bounded, has_bounded, KnowsCell, AreFoundAt, IsStop, IsOpenAs}
 use Rattle.node_evaluation.specs.Children.{claim_with, IsBest, IsImproved, cells_of, values_of, AreReady, IsChildAs, IsChild, StopHolds, stop_after, options_in, AreLooked, AreSeen}
 
@@ -54,27 +54,28 @@ fallen_same None = tt
 fallen_same (Some v) = omega (arith, ints)
 
 pub same_best : (p : Problem) (n : Node) (best : Option claims.Network) → IsBest p best → IsImproved p n best best
-same_best p n best b = record { best = b; fallen = fallen_same (claimed_cost (claim_with best)); below = λ v pv u l. l }
+same_best p n best b = record { best = b; fallen = fallen_same (claimed_cost (claim_with best)); below = λ u. u }
 
 pub found_best : (p : Problem) (n : Node) (w : Option claims.Network) → AreFoundAt p n w → IsBest p w
 found_best p n None f = record { passes = refl; positive = tt }
 found_best p n (Some w) f = record { passes = f.feasible; positive = f.positive }
 
-found_below : (p : Problem) (n : Node) (w : Option claims.Network) → AreFoundAt p n w → (v : CostOver) → IsPositive v → (IsNever (IsDead (shape_of p) n) → IsUnder p v n)
-    → LastIsBelow (Some v) (claimed_cost (claim_with w))
-found_below p n None f v pv u = tt
-found_below p n (Some w) f v pv u = f.no_less v pv (u f.alive)
+-- a node that is no dearer than one at which a network was found may undercut this
+found_below : (p : Problem) (n m : Node) (w : Option claims.Network) → AreFoundAt p m w → (IsNever (IsDead (shape_of p) m) → IsNoDearer p n m) → MayUndercut p None n
+    → MayUndercut p (claimed_cost (claim_with w)) n
+found_below p n m None f dearer u = u
+found_below p n m (Some w) f dearer u =
+    reached_may_undercut p (Some (cost_in w)) n (cost_in w) f.positive f.positive (omega (arith, ints)) (reached_dearer p n m (cost_in w) f.positive (dearer f.alive) f.reached)
 
 is_best : (p : Problem) (n : Node) (old found new : Option claims.Network) → IsBest p old → AreFoundAt p n found → (new ≡ old) ⊎ (new ≡ found) → IsBest p new
 is_best p n old found new b f (inl e) = subst (λ (w : Option claims.Network). IsBest p w) (sym e) b
 is_best p n old found new b f (inr e) = subst (λ (w : Option claims.Network). IsBest p w) (sym e) (found_best p n found f)
 
 last_below : (p : Problem) (n m : Node) (first old found new : Option claims.Network) → IsImproved p n first old → AreFoundAt p m found → (new ≡ old) ⊎ (new ≡ found)
-    → ((v : CostOver) → IsPositive v → IsUnder p v n → IsNever (IsDead (shape_of p) m) → IsUnder p v m)
-    → (v : CostOver) → IsPositive v → IsUnder p v n → LastIsBelow (Some v) (claimed_cost (claim_with first)) → LastIsBelow (Some v) (claimed_cost (claim_with new))
-last_below p n m first old found new i f (inl e) dearer v pv u l = subst (λ (w : Option claims.Network). LastIsBelow (Some v) (claimed_cost (claim_with w))) (sym e) (i.below v pv u l)
-last_below p n m first old found new i f (inr e) dearer v pv u l =
-    subst (λ (w : Option claims.Network). LastIsBelow (Some v) (claimed_cost (claim_with w))) (sym e) (found_below p m found f v pv (dearer v pv u))
+    → (IsNever (IsDead (shape_of p) m) → IsNoDearer p n m) → MayUndercut p (claimed_cost (claim_with first)) n → MayUndercut p (claimed_cost (claim_with new)) n
+last_below p n m first old found new i f (inl e) dearer u = subst (λ (w : Option claims.Network). MayUndercut p (claimed_cost (claim_with w)) n) (sym e) (i.below u)
+last_below p n m first old found new i f (inr e) dearer u =
+    subst (λ (w : Option claims.Network). MayUndercut p (claimed_cost (claim_with w)) n) (sym e) (found_below p n m found f dearer (may_any p (claimed_cost (claim_with first)) n u))
 
 -- ---- bounded leaves
 
@@ -92,14 +93,14 @@ or_false false = refl
 
 -- ---- what is at hand
 
-pub ready_more : (p : Problem) (cs : List Cell) (vs : List Mixed) (rs : List (Option Ready)) (cs' : List Cell) (vs' : List Mixed) (rs' : List (Option Ready))
-    → AreReady p cs vs rs → AreReady p cs' vs' rs' → AreReady p (cs ++ cs') (vs ++ vs') (rs ++ rs')
-ready_more p [] [] [] cs' vs' rs' h k = k
-ready_more p (c ∷ cs) (v ∷ vs) (r ∷ rs) cs' vs' rs' h k = (h.0, ready_more p cs vs rs cs' vs' rs' h.1 k)
-ready_more p [] [] (r ∷ rs) cs' vs' rs' h k = absurd h
-ready_more p [] (v ∷ vs) rs cs' vs' rs' h k = absurd h
-ready_more p (c ∷ cs) [] rs cs' vs' rs' h k = absurd h
-ready_more p (c ∷ cs) (v ∷ vs) [] cs' vs' rs' h k = absurd h
+pub ready_more : (Past : PastPlaces) (p : Problem) (cs : List Cell) (vs : List Mixed) (rs : List (Option Ready)) (cs' : List Cell) (vs' : List Mixed) (rs' : List (Option Ready))
+    → AreReady Past p cs vs rs → AreReady Past p cs' vs' rs' → AreReady Past p (cs ++ cs') (vs ++ vs') (rs ++ rs')
+ready_more Past p [] [] [] cs' vs' rs' h k = k
+ready_more Past p (c ∷ cs) (v ∷ vs) (r ∷ rs) cs' vs' rs' h k = (h.0, ready_more Past p cs vs rs cs' vs' rs' h.1 k)
+ready_more Past p [] [] (r ∷ rs) cs' vs' rs' h k = absurd h
+ready_more Past p [] (v ∷ vs) rs cs' vs' rs' h k = absurd h
+ready_more Past p (c ∷ cs) [] rs cs' vs' rs' h k = absurd h
+ready_more Past p (c ∷ cs) (v ∷ vs) [] cs' vs' rs' h k = absurd h
 
 -- ---- one child more
 
@@ -108,11 +109,10 @@ module _ (p : Problem) (valid : IsValid p) (n : Node) (w : Way) (sound : IsSound
   pub sound_child : IsSound (shape_of p) (child_at (shape_of p) n w t)
   sound_child = children_are_sound (shape_of p) (proper_if_valid p valid) n w t sound reduced may splits option
 
-  pub dearer_child : (c : Cell) → Follows (shape_of p) (child_at (shape_of p) n w t) c → (v : CostOver) → IsPositive v → IsUnder p v n → IsNever (IsDead (shape_of p) (place_of c)) → IsUnder p v (place_of c)
-  dearer_child c f v pv u alive =
-      subst (λ (m : Node). IsUnder p v m) f.leave
-      (under_dearer p n (after_all (shape_of p) (child_at (shape_of p) n w t) c.steps) v pv u
-      (ways_are_dearer p valid n w t c.steps sound.apart may option f.pass (subst (λ (m : Node). IsNever (IsDead (shape_of p) m)) (sym f.leave) alive)))
+  pub dearer_child : (c : Cell) → Follows (shape_of p) (child_at (shape_of p) n w t) c → IsNever (IsDead (shape_of p) (place_of c)) → IsNoDearer p n (place_of c)
+  dearer_child c f alive =
+      subst (λ (m : Node). IsNoDearer p n m) f.leave
+      (ways_are_dearer p valid n w t c.steps sound.apart may option f.pass (subst (λ (m : Node). IsNever (IsDead (shape_of p) m)) (sym f.leave) alive))
 
   module _ (Past : PastPlaces) (old new : Children) (l : Looked) (stopped : Bool) (ib : IsImproved p n None old.best) (ic : IsChild Past p (child_at (shape_of p) n w t) t stopped l)
       (nodes : new.nodes.items ≡ old.nodes.items ++ record { cell = l.cell; value = l.value } ∷ [])
@@ -243,10 +243,10 @@ module _ (p : Problem) (valid : IsValid p) (n : Node) (w : Way) (sound : IsSound
     is_ready : IsOpenAs Past p (place_of l.cell) ic.what l.value l.ready None → new.ready.items ≡ old.ready.items ++ l.ready ∷ []
         → StopHolds Past p old.nodes.items old.ready.items None → StopHolds Past p new.nodes.items new.ready.items None
     is_ready o er h =
-        subst (λ (rs : List (Option Ready)). AreReady p (cells_of new.nodes.items) (values_of new.nodes.items) rs) (sym er)
-        (subst (λ (cs : List Cell). AreReady p cs (values_of new.nodes.items) (old.ready.items ++ l.ready ∷ [])) (sym cells_more)
-        (subst (λ (vs : List Mixed). AreReady p (cells_of old.nodes.items ++ l.cell ∷ []) vs (old.ready.items ++ l.ready ∷ [])) (sym values_more)
-        (ready_more p (cells_of old.nodes.items) (values_of old.nodes.items) old.ready.items (l.cell ∷ []) (l.value ∷ []) (l.ready ∷ []) h
+        subst (λ (rs : List (Option Ready)). AreReady Past p (cells_of new.nodes.items) (values_of new.nodes.items) rs) (sym er)
+        (subst (λ (cs : List Cell). AreReady Past p cs (values_of new.nodes.items) (old.ready.items ++ l.ready ∷ [])) (sym cells_more)
+        (subst (λ (vs : List Mixed). AreReady Past p (cells_of old.nodes.items ++ l.cell ∷ []) vs (old.ready.items ++ l.ready ∷ [])) (sym values_more)
+        (ready_more Past p (cells_of old.nodes.items) (values_of old.nodes.items) old.ready.items (l.cell ∷ []) (l.value ∷ []) (l.ready ∷ []) h
         ((λ e. o (let q : leaf ic.what ≡ leaf untried = sym ic.end_is ∙ e in cc)), tt))))
 
     stop_by : (oh : Option StoppedAt) (lh : Option PastStop) (b : Bool) → b ≡ is_some oh → StopHolds Past p old.nodes.items old.ready.items oh → IsChildAs Past p (place_of l.cell) ic.what l.value l.ready lh b
@@ -288,8 +288,8 @@ looked_first Past p n w c ek er eb eh = record {
   known = λ k lt. absurd (let e = ap (λ (fs : List Fresh). length fs) ek in omega (arith, lt, e));
   same_length = ap (λ (rs : List (Option Ready)). length rs) er ∙ sym (ap (λ (fs : List Fresh). length fs) ek);
   stop_holds = subst (λ (h : Option StoppedAt). StopHolds Past p c.nodes.items c.ready.items h) (sym eh)
-      (subst (λ (fs : List Fresh). AreReady p (cells_of fs) (values_of fs) c.ready.items) (sym ek)
-      (subst (λ (rs : List (Option Ready)). AreReady p [] [] rs) (sym er) tt));
+      (subst (λ (fs : List Fresh). AreReady Past p (cells_of fs) (values_of fs) c.ready.items) (sym ek)
+      (subst (λ (rs : List (Option Ready)). AreReady Past p [] [] rs) (sym er) tt));
 }
 
 pub looked_all : (Past : PastPlaces) (p : Problem) (n : Node) (w : Way) (c : Children) → AreLooked Past p n w c → options_in c ≡ options_at (shape_of p) n w → AreSeen Past p n w c

@@ -1,7 +1,13 @@
 -- A network at hand at a child.
-use Rattle.std.proofs.Common.{◌≡◌, ◌⊎◌, ◌||◌, ℕ, ◌<◌, ℤ, ◌*ℤ◌, ◌≤ℤ◌, Bool, List, [], ◌∷◌, ◌++◌, length, map, Option, Some, None, refl, sym, ap, ◌∙◌, subst, inl, inr, true≢false}
+use Rattle.std.proofs.Common.{◌≡◌, ◌⊎◌, ◌||◌, ℕ, ◌<◌, ℤ, ◌*ℤ◌, ◌≤ℤ◌, Bool, List, [], ◌∷◌, ◌++◌, length, map, Option, Some, None, refl, sym, ap, ◌∙◌, subst, arith, inl, inr, true≢false}
 use Rattle.std.specs.Prelude.{is_some, IfSome}
 use Rattle.std.proofs.lemmas.Bool.{or_left}
+use Rattle.std.proofs.lemmas.Int.{ints}
+use Rattle.integer_laws.proofs.Order.{mul-le_right}
+use Rattle.flow_rules.specs.Net.{net_of}
+use Rattle.flow_rules.specs.Flows.{cost}
+use Rattle.flow_rules.specs.Relaxed.{relaxed_cost}
+use Rattle.flow_rules.proofs.DualityLemmas.{flows_are_relaxed, relaxed_costs_less}
 use Rattle.number_sets.specs.Sets.{has}
 use Rattle.number_sets.specs.Options.{IsIn}
 use Rattle.problem_rules.specs.Problem.{Problem}
@@ -15,12 +21,13 @@ use Rattle.pns_rules.proofs.StepLemmas.{dead_are_empty}
 use Rattle.tree_rules.specs.Ways.{Way, MayBranch, options_at, child_at, IsDecision}
 use Rattle.tree_rules.specs.Claim as claims
 use Rattle.tree_rules.specs.Claim.{CostOver, claimed_cost, size_in}
+use Rattle.tree_rules.specs.Lean.{HasCheaper, IsNoDearer}
 use Rattle.search_tree.specs.Cells.{Cell, place_of, cell_at}
 use Rattle.search_tree.specs.declared.growth.Fresh.{Fresh}
-use Rattle.turn_laws.specs.Values.{IsPositive, IsUnder, IsNoMore, HasFallen}
+use Rattle.turn_laws.specs.Values.{HasFallen}
 use Rattle.turn_laws.specs.Turns.{IsFreshChild}
 use Rattle.turn_laws.proofs.GrowLemmas.{leaf_fallen}
-use Rattle.turn_laws.proofs.LeanLemmas.{networks_cost_more}
+use Rattle.turn_laws.proofs.OrderLemmas.{reached_dearer, reached_may_undercut}
 use Rattle.node_evaluation.specs.declared.looks.Ready.{Ready}
 use Rattle.node_evaluation.specs.declared.looks.Looked.{Looked}
 use Rattle.node_evaluation.specs.declared.children.StoppedAt.{StoppedAt}
@@ -38,20 +45,26 @@ module _ (p : Problem) (valid : IsValid p) (m : Node) (w : claims.Network) (h : 
   alive : IsNever (IsDead (shape_of p) m)
   alive x d = dead_are_empty (shape_of p) m x (has w.units) (proper_if_valid p valid) d (record { between = is_between; allowed = h.feasible.allowed })
 
-  -- so it costs no less than any number that no relaxed flows of the node undercut
-  no_less : (v : CostOver) → IsPositive v → IsUnder p v m → IsNoMore v (cost_in w)
-  no_less v pv u =
-      subst (λ (c : ℤ). (v.cost *ℤ w.d) ≤ℤ (c *ℤ v.d)) h.feasible.cost_is
-      (networks_cost_more p valid v m pv u (has w.units) is_between (size_in w) w.d h.feasible.flows)
+  -- so its flows are relaxed flows of the node, which cost no more
+  reached : HasCheaper p m w.cost w.d
+  reached = record {
+    sizes = size_in w;
+    d = w.d;
+    relaxed = flows_are_relaxed p valid m (has w.units) is_between (size_in w) w.d h.feasible.flows;
+    at_most = subst (λ (c : ℤ). (relaxed_cost (net_of p) m (size_in w) w.d *ℤ w.d) ≤ℤ (c *ℤ w.d)) h.feasible.cost_is
+        (mul-le_right (relaxed_cost (net_of p) m (size_in w) w.d) (cost (net_of p) (has w.units) (size_in w) w.d) w.d
+        (relaxed_costs_less p valid m (has w.units) is_between (size_in w) w.d h.feasible.flows) (let q = h.positive in omega (arith, ints)));
+  }
 
 -- a network at hand below a node is one that may be claimed there
 pub at_hand_improves : (p : Problem) → IsValid p → (n m : Node) (found : Option claims.Network) → IfSome found (IsAtHand p m)
-    → ((v : CostOver) → IsPositive v → IsUnder p v n → IsNever (IsDead (shape_of p) m) → IsUnder p v m) → IsImproved p n None found
-at_hand_improves p valid n m None h dearer = record { best = record { passes = refl; positive = tt }; fallen = tt; below = λ v pv u l. tt }
+    → (IsNever (IsDead (shape_of p) m) → IsNoDearer p n m) → IsImproved p n None found
+at_hand_improves p valid n m None h dearer = record { best = record { passes = refl; positive = tt }; fallen = tt; below = λ u. u }
 at_hand_improves p valid n m (Some w) h dearer = record {
   best = record { passes = h.feasible; positive = h.positive };
   fallen = tt;
-  below = λ v pv u l. no_less p valid m w h v pv (dearer v pv u (alive p valid m w h));
+  below = λ u. reached_may_undercut p (Some (cost_in w)) n (cost_in w) h.positive h.positive (omega (arith, ints))
+      (reached_dearer p n m (cost_in w) h.positive (dearer (alive p valid m w h)) (reached p valid m w h));
 }
 
 -- children that are seen stay so where a network is at hand

@@ -15,20 +15,19 @@ use Rattle.unit_sets.specs.declared.node.Node.{Node}
 use Rattle.tree_rules.specs.Tree.{leaf, StepsPass, after_all}
 use Rattle.tree_rules.specs.Claim.{Network, CostOver}
 use Rattle.tree_rules.specs.Leaf.{Leaf, bounded, untried, LeafPasses}
-use Rattle.flow_rules.specs.Net.{net_of}
-use Rattle.flow_rules.specs.Relaxed.{relaxed_cost}
 use Rattle.neutral_extension.specs.Moves.{Extends}
 use Rattle.search_tree.specs.Cells.{Cell, place_of}
 use Rattle.search_tree.specs.Growth.{as_shut}
-use Rattle.turn_laws.specs.Values.{IsPositive, IsUnder, IsNoMore}
-use Rattle.turn_laws.proofs.FractionLemmas.{fraction_trans}
+use Rattle.turn_laws.specs.Values.{IsPositive, IsUnder, IsNoMore, IsValueOf}
 use Rattle.turn_laws.proofs.GrowLemmas.{leaf_fallen}
-use Rattle.mixed_numbers.specs.Number.{numerator, denominator}
+use Rattle.turn_laws.proofs.OrderLemmas.{under_reached, reached_more}
+use Rattle.mixed_numbers.specs.declared.number.Mixed.{Mixed}
 use Rattle.mixed_numbers.specs.OrderLaws.{denominator_positive}
 use Rattle.node_evaluation.specs.declared.evaluator.Bound.{Bound}
+use Rattle.node_evaluation.specs.declared.evaluator.Interval.{Interval}
 use Rattle.node_evaluation.specs.declared.evaluator.PastStop.{PastStop}
 use Rattle.node_evaluation.specs.declared.looks.Looked.{Looked}
-use Rattle.node_evaluation.specs.Evaluated.{PastPlaces, cost_over, cost_in, IsBoundOf, IsNetworkOf, HasUnits}
+use Rattle.node_evaluation.specs.Evaluated.{PastPlaces, cost_over, cost_in, IsWorthAs, IsBoundOf, IsNetworkOf, HasUnits}
 use Rattle.node_evaluation.specs.Looks.{is_bounded_leaf, is_bounded, cost_of, IsFoundAt, AreFoundAt, IsOpenAs, IsSameNode, IsSeen, IsLooked}
 use Rattle.node_evaluation.proofs.KnownLemmas.{known_steps}
 
@@ -37,32 +36,34 @@ pub low_positive : (b : Bound) → IsPositive (cost_over b.low)
 low_positive b = let h = denominator_positive b.low in omega (arith, ints)
 
 -- a number that no relaxed flows of the node undercut is at most the node's value
-pub under_value : (p : Problem) (n : rules.Node) (v : CostOver) (b : Bound) → IsPositive v → IsUnder p v n → IsBoundOf p n b → IsNoMore v (cost_over b.value)
-under_value p n v b pv u h =
-    let r = h.value.reached in
-    fraction_trans v.cost v.d (relaxed_cost (net_of p) n r.sizes r.d) r.d (numerator b.value) (denominator b.value) pv r.relaxed.positive h.value.positive (u r.sizes r.d r.relaxed) r.at_most
+pub under_value : (p : Problem) (n : rules.Node) (v : CostOver) (value : Mixed) → IsPositive v → IsUnder p v n → IsValueOf p n (cost_over value) → IsNoMore v (cost_over value)
+under_value p n v value pv u h = under_reached p n v (cost_over value) pv h.positive u h.reached
 
-found_here : (p : Problem) (n : rules.Node) (b : Bound) (w : Network) → IsDecided (shape_of p) n → IsBoundOf p n b → IsNetworkOf p b.value w → HasUnits n w → IsFoundAt p n w
-found_here p n b w decided h k units = record {
+-- where no interval is known, the value is the least cost
+pub exact_value : (Past : PastPlaces) (p : Problem) (n : rules.Node) (b : Bound) → b.interval ≡ None → IsBoundOf Past p n b → IsValueOf p n (cost_over b.value)
+exact_value Past p n b e h = subst (λ (r : Option Interval). IsWorthAs Past p n b.value r) e h.value
+
+found_here : (p : Problem) (n : rules.Node) (value : Mixed) (w : Network) → IsDecided (shape_of p) n → IsValueOf p n (cost_over value) → IsNetworkOf p value w → HasUnits n w → IsFoundAt p n w
+found_here p n value w decided h k units = record {
   alive = decided.reduced.live.no_dead;
   none_free = decided.none_free;
   units = units;
   feasible = k.feasible;
   positive = k.positive;
-  no_less = λ v pv u. fraction_trans v.cost v.d (numerator b.value) (denominator b.value) w.cost w.d pv h.value.positive k.positive (under_value p n v b pv u h) k.no_less;
+  reached = reached_more p n (cost_over value) (cost_in w) h.positive k.positive k.no_less h.reached;
 }
 
 module _ (Past : PastPlaces) (p : Problem) (cell : Cell) (l : Looked) where
   pub seen_solved : (b : Bound) (w : Network) → l.cell ≡ as_shut cell (leaf (bounded b.scaled.d b.scaled.ys)) → l.network ≡ Some w → l.stop ≡ None
-      → IsDecided (shape_of p) (place_of cell) → IsBoundOf p (place_of cell) b → IsNetworkOf p b.value w → IsNoMore (cost_in w) (cost_over b.low) → HasUnits (place_of cell) w → InRange b.scaled.d → AllInRange b.scaled.ys → IsSeen Past p l
-  seen_solved b w ec en eh decided h k reached units scale multipliers = record {
+      → IsDecided (shape_of p) (place_of cell) → b.interval ≡ None → IsBoundOf Past p (place_of cell) b → IsNetworkOf p b.value w → IsNoMore (cost_in w) (cost_over b.low) → HasUnits (place_of cell) w → InRange b.scaled.d → AllInRange b.scaled.ys → IsSeen Past p l
+  seen_solved b w ec en eh decided exact h k reached units scale multipliers = record {
     what = bounded b.scaled.d b.scaled.ys;
     end_is = ap (λ (c : Cell). c.end) ec;
     passes = subst (λ (o : Option Network). LeafPasses true p (cost_of o) (place_of l.cell) (bounded b.scaled.d b.scaled.ys)) (sym en)
         (subst (λ (c : Cell). LeafPasses true p (Some (cost_in w)) (place_of c) (bounded b.scaled.d b.scaled.ys)) (sym ec)
         (leaf_fallen p (Some (cost_over b.low)) (Some (cost_in w)) (place_of cell) (bounded b.scaled.d b.scaled.ys) reached (low_positive b) k.positive h.bounded));
     found = subst (λ (o : Option Network). AreFoundAt p (place_of l.cell) o) (sym en)
-        (subst (λ (c : Cell). IsFoundAt p (place_of c) w) (sym ec) (found_here p (place_of cell) b w decided h k units));
+        (subst (λ (c : Cell). IsFoundAt p (place_of c) w) (sym ec) (found_here p (place_of cell) b.value w decided (exact_value Past p (place_of cell) b exact h) k units));
     bounded = ap (λ (o : Option Network). is_some o) en ∙ sym (ap (λ (c : Cell). is_bounded c.end) ec);
     end_known = subst (λ (c : Cell). KnowsEnd p c.end) (sym ec) (scale, multipliers);
     open_as = subst (λ (o : Option PastStop). IsOpenAs Past p (place_of l.cell) (bounded b.scaled.d b.scaled.ys) l.value l.ready o) (sym eh) (λ e. absurd (let q : bounded b.scaled.d b.scaled.ys ≡ untried = e in cc));

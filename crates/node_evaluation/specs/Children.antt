@@ -10,11 +10,11 @@ use Rattle.tree_rules.specs.Tree.{leaf}
 use Rattle.tree_rules.specs.Claim as claims
 use Rattle.tree_rules.specs.Claim.{CostOver, claimed_cost, ClaimPasses}
 use Rattle.tree_rules.specs.Leaf.{Leaf, bounded, untried, LeafPasses, IsBounded}
+use Rattle.tree_rules.specs.Lean.{MayUndercut}
 use Rattle.search_tree.specs.Cells.{Cell, place_of, cell_at}
 use Rattle.search_tree.specs.Fits.{Follows}
 use Rattle.search_tree.specs.declared.growth.Fresh.{Fresh}
-use Rattle.turn_laws.specs.Values.{IsPositive, IsUnder, HasFallen, IsPositiveCost}
-use Rattle.turn_laws.specs.Kept.{LastIsBelow}
+use Rattle.turn_laws.specs.Values.{HasFallen, IsPositiveCost}
 use Rattle.turn_laws.specs.Turns.{IsFreshChild, AreChildren}
 use Rattle.branch_choice.specs.declared.choice.Choice.{Choice}
 use Rattle.branch_choice.specs.declared.choice.Choice.TheVariants.{Material, Unit as AtUnit}
@@ -38,12 +38,11 @@ pub record IsBest (p : Problem) (best : Option claims.Network) : Type 0 where
   pub passes : ClaimPasses true p (claim_with best)
   pub positive : IsPositiveCost (claimed_cost (claim_with best))
 
--- a network of nodes below n: it costs no more than the old one, and no less than any number that no relaxed flows of n undercut,
--- where the old one did not
+-- a network of nodes below n: it costs no more than the old one, and n may undercut it, where it may undercut the old one
 pub record IsImproved (p : Problem) (n : Node) (old new : Option claims.Network) : Type 0 where
   pub best : IsBest p new
   pub fallen : HasFallen (claimed_cost (claim_with old)) (claimed_cost (claim_with new))
-  pub below : (v : CostOver) → IsPositive v → IsUnder p v n → LastIsBelow (Some v) (claimed_cost (claim_with old)) → LastIsBelow (Some v) (claimed_cost (claim_with new))
+  pub below : MayUndercut p (claimed_cost (claim_with old)) n → MayUndercut p (claimed_cost (claim_with new)) n
 
 -- ---- cells with their values, and what is at hand for those that are open
 
@@ -53,13 +52,13 @@ cells_of fs = map (λ (f : Fresh). f.cell) fs
 abbrev pub values_of : List Fresh → List Mixed
 values_of fs = map (λ (f : Fresh). f.value) fs
 
-abbrev pub AreReady : Problem → List Cell → List Mixed → List (Option Ready) → Type 0
-AreReady p [] [] [] = Unit {0}
-AreReady p (c ∷ cs) (v ∷ vs) (r ∷ rs) = (c.end ≡ leaf untried → IsSomeReady p (place_of c) v r) × AreReady p cs vs rs
-AreReady p [] [] (r ∷ rs) = ⊥
-AreReady p [] (v ∷ vs) rs = ⊥
-AreReady p (c ∷ cs) [] rs = ⊥
-AreReady p (c ∷ cs) (v ∷ vs) [] = ⊥
+abbrev pub AreReady : PastPlaces → Problem → List Cell → List Mixed → List (Option Ready) → Type 0
+AreReady Past p [] [] [] = Unit {0}
+AreReady Past p (c ∷ cs) (v ∷ vs) (r ∷ rs) = (c.end ≡ leaf untried → IsSomeReady Past p (place_of c) v r) × AreReady Past p cs vs rs
+AreReady Past p [] [] (r ∷ rs) = ⊥
+AreReady Past p [] (v ∷ vs) rs = ⊥
+AreReady Past p (c ∷ cs) [] rs = ⊥
+AreReady Past p (c ∷ cs) (v ∷ vs) [] = ⊥
 
 -- ---- a child
 
@@ -84,7 +83,7 @@ pub record IsChild (Past : PastPlaces) (p : Problem) (start : Node) (option : Li
 
 -- all open children are ready, or one stops the search
 abbrev pub StopHolds : PastPlaces → Problem → List Fresh → List (Option Ready) → Option StoppedAt → Type 0
-StopHolds Past p nodes ready None = AreReady p (cells_of nodes) (values_of nodes) ready
+StopHolds Past p nodes ready None = AreReady Past p (cells_of nodes) (values_of nodes) ready
 StopHolds Past p nodes ready (Some h) =
     (h.at < length nodes) × ((cell_at (cells_of nodes) h.at).end ≡ leaf untried) × IsStop Past p (place_of (cell_at (cells_of nodes) h.at)) h.stop
 

@@ -1,6 +1,7 @@
--- What a search is told of a node that no step changes any more: the least cost of its relaxed flows with multipliers that prove a
--- lower bound of it, a network of that cost, multipliers that refute it, or the place where a number is past the range.
-use Rattle.std.specs.Prelude.{◌≡◌, ℕ, pos, ◌≤ℤ◌, Bool, true, false, List, Some}
+-- What a search is told of a node that no step changes any more: the least cost of its relaxed flows, or two costs between which it
+-- lies, with multipliers that prove a lower bound of it, a network of that cost, multipliers that refute it, or the place where a number
+-- is past the range.
+use Rattle.std.specs.Prelude.{◌≡◌, ℕ, pos, ◌≤ℤ◌, Bool, true, false, List, Option, Some, None}
 use Rattle.number_sets.specs.Sets.{has}
 use Rattle.problem_rules.specs.Problem.{Problem}
 use Rattle.pns_rules.specs.Nodes.{Node}
@@ -10,7 +11,9 @@ use Rattle.flow_program.specs.declared.place.Column.{Column}
 use Rattle.flow_program.specs.declared.place.Place.{Place}
 use Rattle.tree_rules.specs.Claim.{Network, CostOver, IsFeasible}
 use Rattle.tree_rules.specs.Leaf.{IsRefuted, IsBounded}
-use Rattle.turn_laws.specs.Values.{IsValueOf, IsNoMore}
+use Rattle.tree_rules.specs.Lean.{MayUndercut, HasCheaper}
+use Rattle.turn_laws.specs.Values.{IsValueOf, IsUnder, IsNoMore}
+use Rattle.node_evaluation.specs.declared.evaluator.Interval.{Interval}
 use Rattle.node_evaluation.specs.declared.evaluator.Bound.{Bound}
 use Rattle.node_evaluation.specs.declared.evaluator.Evaluation.{Evaluation}
 use Rattle.node_evaluation.specs.declared.evaluator.Evaluation.TheVariants.{Least, Flows, Refuted, Stopped}
@@ -29,9 +32,15 @@ cost_over m = record { cost = numerator m; d = denominator m }
 abbrev pub cost_in : Network → CostOver
 cost_in w = record { cost = w.cost; d = w.d }
 
--- the value is the least cost of relaxed flows of the node, and the multipliers prove that none is less than `low`, which is no more
-pub record IsBoundOf (p : Problem) (n : Node) (b : Bound) : Type 0 where
-  pub value : IsValueOf p n (cost_over b.value)
+-- the value is the least cost of relaxed flows of the node; where an interval is known, no relaxed flows cost less, some cost at most
+-- what the interval reaches, and a number of the node's program is past the range
+abbrev pub IsWorthAs : PastPlaces → Problem → Node → Mixed → Option Interval → Type 0
+IsWorthAs Past p n value None = IsValueOf p n (cost_over value)
+IsWorthAs Past p n value (Some r) = IsUnder p (cost_over value) n × HasCheaper p n (numerator r.reached) (denominator r.reached) × Past p n r.stop.nonbasic r.stop.place
+
+-- the node is worth the value, and the multipliers prove that no relaxed flows cost less than `low`, which is no more
+pub record IsBoundOf (Past : PastPlaces) (p : Problem) (n : Node) (b : Bound) : Type 0 where
+  pub value : IsWorthAs Past p n b.value b.interval
   pub no_more : IsNoMore (cost_over b.low) (cost_over b.value)
   pub bounded : IsBounded p (Some (cost_over b.low)) n b.scaled.d b.scaled.ys
 
@@ -46,20 +55,19 @@ pub record IsNetworkOf (p : Problem) (value : Mixed) (w : Network) : Type 0 wher
 abbrev pub HasUnits : Node → Network → Type 0
 HasUnits n w = (u : ℕ) → n.inside u ≡ has w.units u
 
--- of a node at which all is decided the network is told, whose cost the multipliers prove, of others the least cost
+-- of a node at which all is decided the network is told, whose cost the multipliers prove, of others what they are worth
 abbrev pub IsEvaluated : PastPlaces → Problem → Node → Bool → Evaluation → Type 0
-IsEvaluated Past p n decided (Least b) = (decided ≡ false) × IsBoundOf p n b
-IsEvaluated Past p n decided (Flows b w) = (decided ≡ true) × IsBoundOf p n b × IsNetworkOf p b.value w × IsNoMore (cost_in w) (cost_over b.low) × HasUnits n w
+IsEvaluated Past p n decided (Least b) = (decided ≡ false) × IsBoundOf Past p n b
+IsEvaluated Past p n decided (Flows b w) = (decided ≡ true) × (b.interval ≡ None) × IsBoundOf Past p n b × IsNetworkOf p b.value w × IsNoMore (cost_in w) (cost_over b.low) × HasUnits n w
 IsEvaluated Past p n decided (Refuted ys) = IsRefuted p n ys
 IsEvaluated Past p n decided (Stopped h) = Past p n h.nonbasic h.place
 
--- ---- a cost that a node's value reaches
+-- ---- a cost that no relaxed flows of a node undercut
 
--- the node's least cost of relaxed flows is no less than this cost
+-- the node has relaxed flows, and none that cost less
 pub record IsWorth (p : Problem) (n : Node) (cost : CostOver) : Type 0 where
-  pub value : CostOver
-  pub is_value : IsValueOf p n value
-  pub no_less : IsNoMore cost value
+  pub some : MayUndercut p None n
+  pub under : IsUnder p cost n
 
 -- multipliers that prove that no relaxed flows of the node cost less, or the place where a number is past the range
 abbrev pub IsProof : PastPlaces → Problem → Node → CostOver → Proof → Type 0

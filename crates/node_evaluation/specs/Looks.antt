@@ -8,10 +8,10 @@ use Rattle.mixed_numbers.specs.declared.number.Mixed.{Mixed}
 use Rattle.tree_rules.specs.Tree.{End, branch, leaf}
 use Rattle.tree_rules.specs.Claim.{Network, CostOver, IsFeasible}
 use Rattle.tree_rules.specs.Leaf.{Leaf, dead, clash, refuted, bounded, untried, LeafPasses}
+use Rattle.tree_rules.specs.Lean.{HasCheaper}
 use Rattle.branch_tree.specs.Known.{KnowsNode, KnowsEnd}
 use Rattle.search_tree.specs.Cells.{Cell, place_of}
 use Rattle.search_tree.specs.Fits.{Follows}
-use Rattle.turn_laws.specs.Values.{IsPositive, IsUnder, IsNoMore}
 use Rattle.branch_choice.specs.Choices.{IsChoice}
 use Rattle.node_evaluation.specs.declared.evaluator.PastStop.{PastStop}
 use Rattle.node_evaluation.specs.declared.looks.Ready.{Ready}
@@ -22,15 +22,15 @@ use Rattle.node_evaluation.specs.Evaluated.{PastPlaces, cost_in, IsBoundOf, HasU
 
 -- the node is reduced, and all that its branching or shutting takes is at hand: how it is branched, and the bound, whose value is
 -- the leaf's
-pub record IsReady (p : Problem) (n : Node) (value : Mixed) (r : Ready) : Type 0 where
+pub record IsReady (Past : PastPlaces) (p : Problem) (n : Node) (value : Mixed) (r : Ready) : Type 0 where
   pub reduced : IsReduced (shape_of p) n
   pub choice : IsChoice (shape_of p) n r.choice
-  pub bound : IsBoundOf p n r.bound
+  pub bound : IsBoundOf Past p n r.bound
   pub value_is : r.bound.value ≡ value
 
-abbrev pub IsSomeReady : Problem → Node → Mixed → Option Ready → Type 0
-IsSomeReady p n value None = ⊥
-IsSomeReady p n value (Some r) = IsReady p n value r
+abbrev pub IsSomeReady : PastPlaces → Problem → Node → Mixed → Option Ready → Type 0
+IsSomeReady Past p n value None = ⊥
+IsSomeReady Past p n value (Some r) = IsReady Past p n value r
 
 -- the node is reduced, and a number of its program is past the range
 pub record IsStop (Past : PastPlaces) (p : Problem) (n : Node) (h : PastStop) : Type 0 where
@@ -39,7 +39,7 @@ pub record IsStop (Past : PastPlaces) (p : Problem) (n : Node) (h : PastStop) : 
 
 -- an open leaf is ready, but for one that stops the search
 abbrev pub IsOpenAs : PastPlaces → Problem → Node → Leaf → Mixed → Option Ready → Option PastStop → Type 0
-IsOpenAs Past p n what value ready None = what ≡ untried → IsSomeReady p n value ready
+IsOpenAs Past p n what value ready None = what ≡ untried → IsSomeReady Past p n value ready
 IsOpenAs Past p n what value ready (Some h) = (what ≡ untried) × IsStop Past p n h
 
 -- ---- what a cell ends with
@@ -71,15 +71,15 @@ abbrev pub cost_of : Option Network → Option CostOver
 cost_of None = None
 cost_of (Some w) = Some (cost_in w)
 
--- no needed material of the node is dead, no unit is free there, and those taken in are the network's; the network has flows, and
--- costs no less than any number that no relaxed flows of the node undercut
+-- no needed material of the node is dead, no unit is free there, and those taken in are the network's; the network has flows, and the
+-- node has relaxed flows that cost no more
 pub record IsFoundAt (p : Problem) (n : Node) (w : Network) : Type 0 where
   pub alive : IsNever (IsDead (shape_of p) n)
   pub none_free : (u : ℕ) → u < (shape_of p).units → is_free (shape_of p) n u ≡ false
   pub units : HasUnits n w
   pub feasible : IsFeasible p w
   pub positive : pos 1 ≤ℤ w.d
-  pub no_less : (v : CostOver) → IsPositive v → IsUnder p v n → IsNoMore v (cost_in w)
+  pub reached : HasCheaper p n w.cost w.d
 
 abbrev pub AreFoundAt : Problem → Node → Option Network → Type 0
 AreFoundAt p n None = Unit {0}

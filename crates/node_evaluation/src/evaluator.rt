@@ -14,14 +14,6 @@ use pns_problem::Problem;
 use std::alloc::{AllocError, Global};
 use unit_sets::Node;
 
-/// The least cost of relaxed flows, and multipliers over their scale, which prove that no relaxed flows cost less than `low`.
-#[derive(Drop)]
-pub struct Bound {
-    pub value: Mixed,
-    pub low: Mixed,
-    pub scaled: Scaled,
-}
-
 /// The columns outside a basis, and the place where a number is past the range.
 #[derive(Drop)]
 pub struct PastStop {
@@ -29,10 +21,27 @@ pub struct PastStop {
     pub place: Place,
 }
 
+/// What is known of a node whose least cost is past the range: what some relaxed flows of it cost at most, and where its path stops.
+#[derive(Drop)]
+pub struct Interval {
+    pub reached: Mixed,
+    pub stop: PastStop,
+}
+
+/// The least cost of relaxed flows, or where an interval stands, a cost that none undercut; and multipliers over their scale, which prove
+/// that no relaxed flows cost less than `low`.
+#[derive(Drop)]
+pub struct Bound {
+    pub value: Mixed,
+    pub low: Mixed,
+    pub scaled: Scaled,
+    pub interval: Option<Interval>,
+}
+
 /// What is told of a node.
 #[derive(Drop)]
 pub enum Evaluation {
-    /// The node has relaxed flows, the cheapest of this value.
+    /// The node has relaxed flows, and is worth this much.
     Least(Bound),
     /// All is decided at the node, and the network of its units costs just the value, which `low` reaches.
     Flows(Bound, Network),

@@ -23,7 +23,7 @@ proof_for-requires-clause-reduced g c =
 pub proof_for-requires-clause-bound : goal.proof_for-requires-clause-bound
 proof_for-requires-clause-bound g c =
     let k = hand_some c.args.problem.now c.args.growing.now c.requires.growing.1 c.args.leaf c.requires.leaf c.args.network.now c.requires.beaten c.in-Some.ready.now (sym c.hand_at.ensures ∙ ap option_copied c.in-Some.is) in
-    subst (λ (m : Node). IsBoundOf c.args.problem.now (node_of m) c.in-Some.ready.now.bound) (sym c.node_at-node.ensures) k.known.bound
+    subst (λ (m : Node). IsBoundOf g.E.Evaluator.past c.args.problem.now (node_of m) c.in-Some.ready.now.bound) (sym c.node_at-node.ensures) k.known.bound
 
 pub proof_for-requires-clause-beaten : goal.proof_for-requires-clause-beaten
 proof_for-requires-clause-beaten g c =
@@ -34,4 +34,4 @@ pub returns-in_ok-proof-in-Some : goal.returns-in_ok-proof-in-Some
 returns-in_ok-proof-in-Some g c =
     let k = hand_some c.args.problem.now c.args.growing.now c.requires.growing.1 c.args.leaf c.requires.leaf c.args.network.now c.requires.beaten c.in-Some.ready.now (sym c.hand_at.ensures ∙ ap option_copied c.in-Some.is) in
     let h = subst (λ (m : Node). IsProof g.E.Evaluator.past c.args.problem.now (node_of m) (cost_in c.args.network.now) c.in_ok-proof-in-Some.proof) c.node_at-node.ensures c.in_ok-proof-in-Some.ensures in
-    shut_by c.args.problem.now c.args.growing.now c.requires.growing.1 c.args.leaf c.requires.leaf g.E.Evaluator.past c.args.network.now c.in-Some.ready.now k c.in_ok-proof-in-Some.proof h c.is_in_range.ensures
+    shut_by c.args.problem.now c.args.growing.now c.requires.growing.1 c.args.leaf c.requires.leaf c.args.network.now c.in-Some.ready.now k c.in_ok-proof-in-Some.proof h c.is_in_range.ensures

@@ -12,4 +12,4 @@ returns-then-reaches g c =
     (low_proves c.args.problem.now (node_of c.args.node) c.args.bound.now c.args.network.now c.is_sized.ensures.sized.positive c.requires.bound (c.if-reaches.ensures.0 refl))
 
 pub proved_by-requires-clause-worth : goal.proved_by-requires-clause-worth
-proved_by-requires-clause-worth g c = is_worth c.args.problem.now (node_of c.args.node) c.args.bound.now c.args.network.now c.requires.bound c.requires.beaten
+proved_by-requires-clause-worth g c = is_worth c.args.problem.now (node_of c.args.node) c.args.bound.now c.args.network.now c.is_sized.ensures.sized.positive c.requires.bound c.requires.beaten

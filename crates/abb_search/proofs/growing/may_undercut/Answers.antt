@@ -1,22 +1,28 @@
-use Rattle.std.proofs.Common.{◌≡◌, sym, ◌∙◌, subst, Option, Some}
+use Rattle.std.proofs.Common.{◌≡◌, sym, ap, ◌∙◌, subst, Option, Some}
+use Rattle.std.specs.List.{slice_get}
 use Rattle.tree_rules.specs.Claim as claims
-use Rattle.tree_rules.specs.Claim.{claimed_cost}
+use Rattle.tree_rules.specs.Claim.{claimed_cost, IsAtMost}
 use Rattle.mixed_numbers.specs.declared.number.Mixed.{Mixed}
-use Rattle.turn_laws.specs.Kept.{LastIsBelow}
-use Rattle.node_evaluation.specs.Evaluated.{cost_over}
+use Rattle.mixed_numbers.specs.Number.{numerator, denominator}
 use Rattle.node_evaluation.specs.Children.{claim_with}
+use Rattle.abb_search.specs.Growing.{interval_of, ready_at, reached_by}
 use Rattle.abb_search.proofs.growing.may_undercut.Goals as goal
 
-pub value-value-requires : goal.value-value-requires
-value-value-requires c = c.is_pool.ensures.leaves c.args.leaf c.requires
-
-pub returns-in-None : goal.returns-in-None
-returns-in-None c t v e = subst (λ (o : Option claims.Network). LastIsBelow (Some (cost_over v)) (claimed_cost (claim_with o))) (sym c.in-None.is) tt
+-- the value that the pool has
+only : {A : Type 0} (o : Option A) (x y : A) → o ≡ Some x → o ≡ Some y → x ≡ y
+only o x y h k = let both : Some x ≡ Some y = sym h ∙ k in cc
 
 pub returns-in-Some : goal.returns-in-Some
-returns-in-Some c t v e =
-    let both : Some c.value-value.result ≡ Some v = sym c.value-value.ensures ∙ e in
-    let same : c.value-value.result ≡ v = cc in
-    let tied : LastIsBelow (Some (cost_over c.value-value.result)) (claimed_cost (claim_with (Some c.in-Some.network))) = c.is_within.ensures.0 t in
-    subst (λ (u : Mixed). LastIsBelow (Some (cost_over u)) (claimed_cost (claim_with c.args.growing.now.best))) same
-    (subst (λ (o : Option claims.Network). LastIsBelow (Some (cost_over c.value-value.result)) (claimed_cost (claim_with o))) (sym c.in-Some.is) tied)
+returns-in-Some c =
+    let s = c.args.growing.now in
+    let r = c.reached_at-reached.ensures in
+    let x = c.reached_at-reached.result in (
+      λ t v e.
+          let same : x ≡ reached_by v (interval_of (ready_at s c.args.leaf)) = r.reached_is ∙ ap (λ (u : Mixed). reached_by u (interval_of (ready_at s c.args.leaf))) (only (slice_get s.pool.values c.args.leaf) r.value v r.value_is e) in
+          let tied : IsAtMost (claimed_cost (claim_with (Some c.in-Some.network))) (numerator x) (denominator x) = c.is_within.ensures.0 t in
+          subst (λ (u : Mixed). IsAtMost (claimed_cost (claim_with s.best)) (numerator u) (denominator u)) same
+          (subst (λ (o : Option claims.Network). IsAtMost (claimed_cost (claim_with o)) (numerator x) (denominator x)) (sym c.in-Some.is) tied),
+      λ may. c.is_within.ensures.1
+          (subst (λ (o : Option claims.Network). IsAtMost (claimed_cost (claim_with o)) (numerator x) (denominator x)) c.in-Some.is
+          (subst (λ (u : Mixed). IsAtMost (claimed_cost (claim_with s.best)) (numerator u) (denominator u)) (sym r.reached_is) (may r.value r.value_is))),
+    )

@@ -41,7 +41,7 @@ returns-in_ok-whole-in-Proved-clause-holds g c =
     let e : c.whole_found.result ≡ found_with s.best w.tree = c.whole_found.ensures ∙ ap (λ (b : Option claims.Network). found_with b w.tree) c.take.ensures.value in
     subst (λ (f : Found). IsEnd g.E.Evaluator.past p s new f) (sym e)
     (ends_with g.E.Evaluator.past p s new (found_with s.best w.tree) t
-    (closed_found p s c.requires.growing c.in-Some.network c.in-Some.is ms all w.place w.tree of c.in_ok-whole-in-Proved.ensures.sized g.E.Evaluator.past s.budget)
+    (closed_found p s c.requires.growing c.in-Some.network c.in-Some.is ms all w.place w.tree of c.in_ok-whole-in-Proved.ensures.sized s.budget)
     (never_memory s.best w.tree) (network_found s.best w.tree) refl refl refl refl)
 
 pub tree_with-requires-clause-leaf : goal.tree_with-requires-clause-leaf
@@ -70,7 +70,7 @@ close_all-requires-clause-growing g c = (claimed_cost (claim_with c.args.growing
 pub may_undercut-requires : goal.may_undercut-requires
 may_undercut-requires g c =
     let at : IsStoppedAt g.E.Evaluator.past c.args.problem.now c.args.growing.now c.in-Stopped.stopped.leaf c.in-Stopped.stopped.stop = rw c.in-Stopped.is at c.in_ok-proofs.ensures in
-    stopped_leaf c.args.problem.now c.args.growing.now c.requires.growing c.in-Stopped.stopped.leaf at.there at.is_open
+    at.there
 
 pub branch_least-requires-clause-leaf : goal.branch_least-requires-clause-leaf
 branch_least-requires-clause-leaf g c =
@@ -84,7 +84,7 @@ branch_least-requires-clause-least g c =
     let beaten = subst (λ (w : claims.Network). AreBeaten c.args.growing.now w) e c.requires.beaten.2 in
     let positive = subst (λ (o : Option claims.Network). IsPositiveCost (claimed_cost (claim_with o))) c.in-Some.is c.requires.growing.tree.kept.claim_positive in
     tied_is_least c.args.problem.now c.args.growing.now c.requires.growing c.is_pool.ensures.payloads c.is_pool.ensures.leaves c.in-Some.network c.in-Some.is positive beaten
-    c.in-Stopped.stopped.leaf (c.if-may_undercut.ensures refl)
+    c.in-Stopped.stopped.leaf (c.if-may_undercut.ensures.0 refl)
 
 pub branch_least-requires-clause-below : goal.branch_least-requires-clause-below
-branch_least-requires-clause-below g c = c.if-may_undercut.ensures refl
+branch_least-requires-clause-below g c = c.if-may_undercut.ensures.0 refl

@@ -1,9 +1,10 @@
-use Rattle.std.proofs.Common.{◌≡◌, sym, subst}
+use Rattle.std.proofs.Common.{◌≡◌, None, sym, subst}
 use Rattle.pgraph.specs.View.{node_of}
 use Rattle.flow_rules.specs.Net.{net_of}
 use Rattle.flow_rules.specs.Program.{Program, program_of}
 use Rattle.dual_simplex.specs.Bench.{IsLeastOf}
 use Rattle.node_evaluation.specs.Evaluated.{IsBoundOf}
+use Rattle.flow_evaluator.specs.Past.{IsPastAt}
 use Rattle.flow_evaluator.proofs.FlowLemmas.{bound_is}
 use Rattle.flow_evaluator.proofs.KnownLemmas.{stopped_is}
 use Rattle.flow_evaluator.proofs.answers.bounded.Goals as goal
@@ -20,5 +21,5 @@ returns-in_ok-bound-in-Ok-clause-evaluated c =
     let least : IsLeastOf (program_of (net_of p) n) b = subst (λ (q : Program). IsLeastOf q b) c.requires.program c.requires.least in
     let bound = bound_is p c.is_valid.ensures.valid n b least c.least_is_least.ensures.scale c.least_is_least.ensures.reached c.least_is_least.ensures.least
     c.in-Ok.value c.in-Ok.ensures.value c.in-Ok.ensures.formed in
-    let same : c.in_ok-bound-in-Ok.bound ≡ record { value = c.in-Ok.value; low = c.in-Ok.value; scaled = record { d = b.d; ys = b.ys } } = c.in_ok-bound-in-Ok.ensures in
-    (c.if-decided.false, subst (IsBoundOf p n) (sym same) bound)
+    let same : c.in_ok-bound-in-Ok.bound ≡ record { value = c.in-Ok.value; low = c.in-Ok.value; scaled = record { d = b.d; ys = b.ys }; interval = None } = c.in_ok-bound-in-Ok.ensures in
+    (c.if-decided.false, subst (IsBoundOf IsPastAt p n) (sym same) bound)

@@ -1,4 +1,4 @@
-use Rattle.std.proofs.Common.{◌≡◌, Some, sym, subst}
+use Rattle.std.proofs.Common.{◌≡◌, Some, None, sym, subst}
 use Rattle.pgraph.specs.View.{node_of}
 use Rattle.tree_rules.specs.Leaf.{IsBounded}
 use Rattle.node_evaluation.specs.declared.evaluator.Bound.{Bound}
@@ -18,6 +18,6 @@ returns-in_ok-bound-in-Ok c =
     let v = c.in-Ok.value in
     let bound = bound_is p c.is_valid.ensures.valid n b c.requires.least c.least_is_least.ensures.scale c.least_is_least.ensures.reached c.least_is_least.ensures.least
     v c.in-Ok.ensures.value c.in-Ok.ensures.formed in
-    let same : c.in_ok-bound-in-Ok.bound ≡ record { value = v; low = v; scaled = record { d = b.d; ys = b.ys } } = c.in_ok-bound-in-Ok.ensures in
+    let same : c.in_ok-bound-in-Ok.bound ≡ record { value = v; low = v; scaled = record { d = b.d; ys = b.ys }; interval = None } = c.in_ok-bound-in-Ok.ensures in
     λ cost positive worth. subst (λ (x : Bound). IsBounded p (Some cost) n x.scaled.d x.scaled.ys) (sym same)
     (worth_proved p n cost v (record { d = b.d; ys = b.ys }) positive worth bound)

@@ -1,4 +1,4 @@
-use Rattle.std.proofs.Common.{◌≡◌, ℕ, true, List, length, refl, sym, ap, ◌∙◌, subst, SFits}
+use Rattle.std.proofs.Common.{◌≡◌, ℕ, true, List, length, None, refl, sym, ap, ◌∙◌, subst, SFits}
 use Rattle.std.specs.Int.{w128}
 use Rattle.std.proofs.lemmas.Int.{to_z-of_z}
 use Rattle.int_rows.proofs.RangeLemmas.{fits_from_range}
@@ -65,11 +65,12 @@ returns-in_ok-network-in-Ok-clause-evaluated c =
     let bound = bound_is p valid n b least c.least_is_least.ensures.scale c.least_is_least.ensures.reached c.least_is_least.ensures.least v low formed in
     let network = network_is p valid c.args.node.now b least flows c.requires.sound c.requires.decided same c.least_is_least.ensures.scale c.split_flows_are_least.ensures.flows
     c.split_flows_are_least.ensures.least v low c.in-Ok.cost c.in-Ok.ensures.cost c.in-Ok.ensures.costs c.in-Ok.ensures.balances in
-    let bound_same : c.in_ok-bound-in-Ok.bound ≡ record { value = v; low = v; scaled = record { d = b.d; ys = b.ys } } = c.in_ok-bound-in-Ok.ensures in
+    let bound_same : c.in_ok-bound-in-Ok.bound ≡ record { value = v; low = v; scaled = record { d = b.d; ys = b.ys }; interval = None } = c.in_ok-bound-in-Ok.ensures in
     let fits : SFits w128 c.in-Ok.cost = fits_from_range _ c.in-Ok.ensures.in_range in
     let network_same : c.in_ok-network-in-Ok.network ≡ network_with c.args.node.now b c.in-Ok.cost = simp to_z-of_z at c.in_ok-network-in-Ok.ensures in (
       refl,
-      subst (IsBoundOf p n) (sym bound_same) bound,
+      subst (λ (x : Bound). x.interval ≡ None) (sym bound_same) refl,
+      subst (IsBoundOf IsPastAt p n) (sym bound_same) bound,
       subst (λ (x : Bound). IsNetworkOf p x.value c.in_ok-network-in-Ok.network) (sym bound_same) (subst (IsNetworkOf p v) (sym network_same) network),
       subst (λ (x : Bound). IsNoMore (cost_in c.in_ok-network-in-Ok.network) (cost_over x.low)) (sym bound_same)
           (subst (λ (w : Network). IsNoMore (cost_in w) (cost_over v)) (sym network_same) network.no_more),

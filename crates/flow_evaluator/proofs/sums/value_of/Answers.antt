@@ -1,6 +1,6 @@
-use Rattle.std.proofs.Common.{◌≡◌, ℤ, pos, ◌≤ℤ◌, ◌<ℤ◌, List, refl, sym, ap, ◌∙◌, subst, arith, rules, SFits, to_z, of_z}
+use Rattle.std.proofs.Common.{◌≡◌, ℤ, pos, ◌≤ℤ◌, List, refl, sym, ap, ◌∙◌, subst, rules, SFits, to_z, of_z}
 use Rattle.std.specs.Int.{w128}
-use Rattle.std.proofs.lemmas.Int.{ints, to_z-of_z}
+use Rattle.std.proofs.lemmas.Int.{to_z-of_z}
 use Rattle.mixed_numbers.specs.Number.{numerator, denominator}
 use Rattle.int_rows.specs.Range.{InRange}
 use Rattle.int_rows.proofs.RangeLemmas.{fits_from_range}

@@ -9,9 +9,9 @@ pub returns-in-Flows-clause-seen : goal.returns-in-Flows-clause-seen
 returns-in-Flows-clause-seen g c =
     let h = rw c.in-Flows.is at c.in_ok-bound.ensures in
     seen_solved g.E.Evaluator.past c.args.problem.now c.args.cell c.solved.result c.in-Flows.bound c.in-Flows.network c.solved.ensures.cell c.solved.ensures.network c.solved.ensures.stop
-    (c.requires.split h.0)
-    (subst (λ (w : Cell). IsBoundOf c.args.problem.now (place_of w) c.in-Flows.bound) c.cell.view_is h.1) h.2 h.3
-    (subst (λ (w : Cell). HasUnits (place_of w) c.in-Flows.network) c.cell.view_is h.4) c.are_in_range.ensures.scale c.are_in_range.ensures.multipliers
+    (c.requires.split h.0) h.1
+    (subst (λ (w : Cell). IsBoundOf g.E.Evaluator.past c.args.problem.now (place_of w) c.in-Flows.bound) c.cell.view_is h.2) h.3 h.4
+    (subst (λ (w : Cell). HasUnits (place_of w) c.in-Flows.network) c.cell.view_is h.5) c.are_in_range.ensures.scale c.are_in_range.ensures.multipliers
 
 pub returns-in-Refuted-clause-seen : goal.returns-in-Refuted-clause-seen
 returns-in-Refuted-clause-seen g c =
