@@ -4,11 +4,14 @@ use Rattle.std.specs.List.{slice_get}
 use Rattle.std.proofs.lemmas.Bool.{cases_lt, eq-eqb}
 use Rattle.std.proofs.lemmas.Int.{ints}
 use Rattle.std.proofs.lemmas.List.{length-map}
-use Rattle.tree_rules.specs.Claim.{Network, CostOver}
+use Rattle.problem_rules.specs.Problem.{Problem}
+use Rattle.pns_rules.specs.Nodes.{Node}
+use Rattle.tree_rules.specs.Claim.{Network, CostOver, IsAtMost}
+use Rattle.tree_rules.specs.Lean.{MayUndercut, HasCheaper}
 use Rattle.rank_rules.specs.Networks.{cost_of, last_cost}
 use Rattle.turn_laws.specs.Values.{IsPositive, IsNoMore, HasFallen, IsPositiveCost}
-use Rattle.turn_laws.specs.Kept.{LastIsBelow}
 use Rattle.turn_laws.proofs.FractionLemmas.{fraction_trans}
+use Rattle.turn_laws.proofs.OrderLemmas.{reached_may_undercut}
 use Rattle.node_evaluation.specs.Evaluated.{cost_in}
 use Rattle.rank_search.specs.Found.{FoundAt, networks_of, undercut_by, AreRising}
 use Rattle.rank_search.specs.Listed.{Listed, AreScaled, IsListed, AreDearer, IsAdded, AreAdded}
@@ -110,16 +113,15 @@ module _ (l m : Listed) (f : FoundAt) (listed : IsListed l) (scale : pos 1 ≤�
           = ap (λ (fs : List FoundAt). last_cost (networks_of (a.before ++ f ∷ fs))) e ∙ last_behind a.before f (z ∷ zs) in
           subst (λ (c : Option CostOver). HasFallen c (last_cost (networks_of m.found))) (all ∙ sym old) cut
 
--- ---- networks that cost at least a value
+-- ---- what is to be undercut, and what a node reaches
 
-abbrev pub AreAbove : CostOver → List (Option Network) → Type 0
-AreAbove v [] = Unit {0}
-AreAbove v (None ∷ ws) = AreAbove v ws
-AreAbove v (Some w ∷ ws) = IsNoMore v (cost_in w) × AreAbove v ws
+scaled_behind : (before after : List FoundAt) → AreScaled (before ++ after) → AreScaled after
+scaled_behind [] after s = s
+scaled_behind (g ∷ gs) after s = scaled_behind gs after s.1
 
 module _ (v : CostOver) (positive : IsPositive v) where
   above_from : (f : FoundAt) (after : List FoundAt) (n : ℕ) → IsNoMore v (cost_in f.network) → pos 1 ≤ℤ f.network.d → AreScaled after → AreDearer after f.network
-      → LastIsBelow (Some v) (last_cost (networks_of (f ∷ take n after)))
+      → IsAtMost (last_cost (networks_of (f ∷ take n after))) v.cost v.d
   above_from f after zero h scale scaled dearer = h
   above_from f [] (suc n) h scale scaled dearer = h
   above_from f (a ∷ rest) (suc n) h scale scaled dearer =
@@ -129,56 +131,67 @@ module _ (v : CostOver) (positive : IsPositive v) where
       (above_from f rest n h scale scaled.1 dearer.1)
     where
       -- the last of the others is at least the value where the last of the first one and the others is
-      last_first : (a : FoundAt) (rest : List FoundAt) (n : ℕ) → IsNoMore v (cost_in a.network) → LastIsBelow (Some v) (last_cost (networks_of (f ∷ take n rest)))
-          → LastIsBelow (Some v) (last_cost (networks_of (a ∷ take n rest)))
+      last_first : (a : FoundAt) (rest : List FoundAt) (n : ℕ) → IsNoMore v (cost_in a.network) → IsAtMost (last_cost (networks_of (f ∷ take n rest))) v.cost v.d
+          → IsAtMost (last_cost (networks_of (a ∷ take n rest))) v.cost v.d
       last_first a rest zero h k = h
       last_first a [] (suc n) h k = h
       last_first a (b ∷ bs) (suc n) h k = k
 
   above_behind : (before : List FoundAt) (f : FoundAt) (after : List FoundAt) (n : ℕ) → length before < n → IsNoMore v (cost_in f.network) → pos 1 ≤ℤ f.network.d → AreScaled after → AreDearer after f.network
-      → LastIsBelow (Some v) (last_cost (networks_of (take n (before ++ f ∷ after))))
+      → IsAtMost (last_cost (networks_of (take n (before ++ f ∷ after)))) v.cost v.d
   above_behind before f after zero lt h scale scaled dearer = absurd (omega (arith, lt))
   above_behind [] f after (suc n) lt h scale scaled dearer = above_from f after n h scale scaled dearer
   above_behind (g ∷ gs) f after (suc zero) lt h scale scaled dearer = absurd (omega (arith, lt))
   above_behind (g ∷ []) f after (suc (suc n)) lt h scale scaled dearer = above_from f after n h scale scaled dearer
   above_behind (g ∷ k ∷ ks) f after (suc (suc n)) lt h scale scaled dearer = above_behind (k ∷ ks) f after (suc n) (omega (arith, lt)) h scale scaled dearer
 
-  scaled_behind : (before after : List FoundAt) → AreScaled (before ++ after) → AreScaled after
-  scaled_behind [] after s = s
-  scaled_behind (g ∷ gs) after s = scaled_behind gs after s.1
-
-  one_above : (l m : Listed) (f : FoundAt) → IsListed l → pos 1 ≤ℤ f.network.d → IsAdded l m f → IsNoMore v (cost_in f.network)
-      → LastIsBelow (Some v) (undercut_by l.count l.found) → LastIsBelow (Some v) (undercut_by m.count m.found)
-  one_above l m f listed scale a h below = elim (cases_lt (length a.before) l.count) [
-    | inl lt ↦ by (length (networks_of m.found) == m.count) (subst (λ (fs : List FoundAt). LastIsBelow (Some v) (last_cost (networks_of fs))) (sym a.new_is)
-        (above_behind a.before f a.after l.count lt h scale (scaled_behind a.before a.after (subst (λ (fs : List FoundAt). AreScaled fs) a.old_is listed.scaled)) a.dearer))
-    | inr le ↦
-        let few = ap (λ (fs : List FoundAt). length fs) a.old_is ∙ length-append a.before a.after in
-        let most = listed.few in
-        let old : l.found ≡ a.before = a.old_is ∙ (ap (λ (fs : List FoundAt). a.before ++ fs) (empty a.after (omega (arith, few, most, le))) ∙ append_none a.before) in
-        let new : m.found ≡ l.found = a.new_is ∙ (take_all l.count a.before (f ∷ a.after) (omega (arith, few, most, le)) ∙ sym old) in
-        subst (λ k. LastIsBelow (Some v) (undercut_by k m.found)) (sym a.count_is) (subst (λ (fs : List FoundAt). LastIsBelow (Some v) (undercut_by l.count fs)) (sym new) below)
-  ]
+-- what is to be undercut costs at least what is added, where that stands in the list
+module _ (l m : Listed) (f : FoundAt) (listed : IsListed l) (scale : pos 1 ≤ℤ f.network.d) (a : IsAdded l m f) where
+  below_undercut : length a.before < l.count → IsAtMost (undercut_by m.count m.found) f.network.cost f.network.d
+  below_undercut lt = by (length (networks_of m.found) == m.count) (subst (λ (fs : List FoundAt). IsAtMost (last_cost (networks_of fs)) f.network.cost f.network.d) (sym a.new_is)
+      (above_behind (cost_in f.network) scale a.before f a.after l.count lt (omega (arith, ints)) scale
+      (scaled_behind a.before a.after (subst (λ (fs : List FoundAt). AreScaled fs) a.old_is listed.scaled)) a.dearer))
     where
-      by : (b : Bool) → LastIsBelow (Some v) (last_cost (networks_of m.found)) → LastIsBelow (Some v) (cond b (last_cost (networks_of m.found)) None)
+      by : (b : Bool) → IsAtMost (last_cost (networks_of m.found)) f.network.cost f.network.d → IsAtMost (cond b (last_cost (networks_of m.found)) None) f.network.cost f.network.d
       by true k = k
       by false k = tt
 
+  -- else the list is as it was
+  same_undercut : l.count ≤ length a.before → undercut_by m.count m.found ≡ undercut_by l.count l.found
+  same_undercut le =
+      let few = ap (λ (fs : List FoundAt). length fs) a.old_is ∙ length-append a.before a.after in
+      let most = listed.few in
+      let old : l.found ≡ a.before = a.old_is ∙ (ap (λ (fs : List FoundAt). a.before ++ fs) (empty a.after (omega (arith, few, most, le))) ∙ append_none a.before) in
+      let new : m.found ≡ l.found = a.new_is ∙ (take_all l.count a.before (f ∷ a.after) (omega (arith, few, most, le)) ∙ sym old) in
+      ap (λ k. undercut_by k m.found) a.count_is ∙ ap (λ (fs : List FoundAt). undercut_by l.count fs) new
+    where
       empty : (xs : List FoundAt) → length xs ≡ 0 → xs ≡ []
       empty [] e = refl
       empty (x ∷ xs) e = absurd (omega (arith, e))
 
--- what is to be undercut stays above the value where the networks that are added are
+  -- a node that reaches what is added, and may undercut what was to be undercut before, may undercut what is to be undercut now
+  one_reached : (p : Problem) (n : Node) → HasCheaper p n f.network.cost f.network.d → MayUndercut p (undercut_by l.count l.found) n → MayUndercut p (undercut_by m.count m.found) n
+  one_reached p n h may = elim (cases_lt (length a.before) l.count) [
+    | inl lt ↦ reached_may_undercut p (undercut_by m.count m.found) n (cost_in f.network) scale (undercut_positive m (listed_more l m f listed scale a)) (below_undercut lt) h
+    | inr le ↦ subst (λ (c : Option CostOver). MayUndercut p c n) (sym (same_undercut le)) may
+  ]
+
 abbrev pub AreScaledAll : List (Option Network) → Type 0
 AreScaledAll [] = Unit {0}
 AreScaledAll (None ∷ ws) = AreScaledAll ws
 AreScaledAll (Some w ∷ ws) = (pos 1 ≤ℤ w.d) × AreScaledAll ws
 
-pub all_above : (v : CostOver) → IsPositive v → (ws : List (Option Network)) (l m : Listed) (first : ℕ) → IsListed l → AreScaledAll ws → AreAdded l m first ws → AreAbove v ws
-    → LastIsBelow (Some v) (undercut_by l.count l.found) → LastIsBelow (Some v) (undercut_by m.count m.found)
-all_above v positive [] l m first listed scaled a h below = subst (λ (k : Listed). LastIsBelow (Some v) (undercut_by k.count k.found)) (sym a) below
-all_above v positive (None ∷ ws) l m first listed scaled a h below =
-    all_above v positive ws a.0 m (suc first) (subst IsListed (sym a.1) listed) scaled a.2 h (subst (λ (k : Listed). LastIsBelow (Some v) (undercut_by k.count k.found)) (sym a.1) below)
-all_above v positive (Some w ∷ ws) l m first listed scaled a h below =
-    all_above v positive ws a.0 m (suc first) (listed_more l a.0 (record { network = w; leaf = first }) listed scaled.0 a.1) scaled.1 a.2 h.1
-    (one_above v positive l a.0 (record { network = w; leaf = first }) listed scaled.0 a.1 h.0 below)
+-- the node has relaxed flows that cost at most what each of the networks does
+abbrev pub AreReached : Problem → Node → List (Option Network) → Type 0
+AreReached p n [] = Unit {0}
+AreReached p n (None ∷ ws) = AreReached p n ws
+AreReached p n (Some w ∷ ws) = HasCheaper p n w.cost w.d × AreReached p n ws
+
+pub all_reached : (p : Problem) (n : Node) (ws : List (Option Network)) (l m : Listed) (first : ℕ) → IsListed l → AreScaledAll ws → AreAdded l m first ws → AreReached p n ws
+    → MayUndercut p (undercut_by l.count l.found) n → MayUndercut p (undercut_by m.count m.found) n
+all_reached p n [] l m first listed scaled a h may = subst (λ (k : Listed). MayUndercut p (undercut_by k.count k.found) n) (sym a) may
+all_reached p n (None ∷ ws) l m first listed scaled a h may =
+    all_reached p n ws a.0 m (suc first) (subst IsListed (sym a.1) listed) scaled a.2 h (subst (λ (k : Listed). MayUndercut p (undercut_by k.count k.found) n) (sym a.1) may)
+all_reached p n (Some w ∷ ws) l m first listed scaled a h may =
+    all_reached p n ws a.0 m (suc first) (listed_more l a.0 (record { network = w; leaf = first }) listed scaled.0 a.1) scaled.1 a.2 h.1
+    (one_reached l a.0 (record { network = w; leaf = first }) listed scaled.0 a.1 p n h.0 may)

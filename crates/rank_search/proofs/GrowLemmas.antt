@@ -1,7 +1,6 @@
 -- A leaf is branched, and what is found at its children is added.
 use Rattle.std.specs.Prelude.{drop}
 use Rattle.std.proofs.Common.{◌≡◌, ℕ, zero, suc, ◌+◌, ◌^◌, ◌<◌, ◌≤◌, true, List, [], ◌∷◌, ◌++◌, length, map, slice_set, Option, Some, None, refl, sym, ap, ◌∙◌, subst, arith}
-use Rattle.std.specs.List.{slice_get}
 use Rattle.std.proofs.lemmas.List.{length-set}
 use Rattle.number_sets.specs.Options.{IsIn}
 use Rattle.link_lists.specs.Lists.{has}
@@ -11,57 +10,53 @@ use Rattle.pns_rules.specs.Shape.{shape_of}
 use Rattle.pns_rules.specs.Nodes.{Node}
 use Rattle.pns_rules.specs.Ends.{IsSound, IsDead, IsNever}
 use Rattle.pgraph.specs.View.{node_of}
-use Rattle.mixed_numbers.specs.declared.number.Mixed.{Mixed}
 use Rattle.tree_rules.specs.Ways.{Way, MayBranch, options_at, child_at}
-use Rattle.tree_rules.specs.Tree.{branch, after_all}
+use Rattle.tree_rules.specs.Tree.{branch}
 use Rattle.tree_rules.specs.Claim.{Network, CostOver, claimed_cost}
+use Rattle.tree_rules.specs.Lean.{MayUndercut, IsNoDearer}
 use Rattle.search_laws.proofs.ValueLemmas.{ways_are_dearer}
 use Rattle.search_tree.specs.Cells.{Cell, place_of, cell_at}
 use Rattle.search_tree.specs.Fits.{Follows}
 use Rattle.search_tree.specs.Growth.{as_parent}
-use Rattle.turn_laws.specs.Values.{IsPositive, IsUnder}
-use Rattle.turn_laws.specs.Kept.{LastIsBelow}
 use Rattle.turn_laws.specs.Turns.{AreChildren}
-use Rattle.turn_laws.proofs.KeptLemmas.{under_dearer}
+use Rattle.turn_laws.proofs.OrderLemmas.{reached_dearer}
 use Rattle.branch_choice.specs.declared.choice.Choice.{Choice}
 use Rattle.branch_choice.specs.Choices.{IsChoice, way_of, option_count}
-use Rattle.node_evaluation.specs.Evaluated.{PastPlaces, cost_over}
+use Rattle.node_evaluation.specs.Evaluated.{PastPlaces, cost_in}
 use Rattle.node_evaluation.specs.Children.{claim_with, AreSolvedBy, cells_of}
 use Rattle.node_evaluation.proofs.ChildLemmas.{comes}
 use Rattle.node_evaluation.proofs.ChoiceLemmas.{may_branch}
 use Rattle.abb_search.specs.declared.growing.Growing.{Growing}
-use Rattle.abb_search.specs.Growing.{IsGrowingFor, IsLeastLeaf, IsBranching}
+use Rattle.abb_search.specs.Growing.{IsGrowingFor, IsLeastLeaf, LeafUndercuts, IsBranching}
 use Rattle.abb_search.proofs.HandLemmas.{children_kept}
-use Rattle.abb_search.proofs.TurnLemmas.{there, untried_there, hand, sound_there, branched_for}
+use Rattle.abb_search.proofs.TurnLemmas.{there, untried_there, hand, sound_there, undercuts, branched_for}
 use Rattle.rank_search.specs.Found.{AreBest, undercut_by}
 use Rattle.rank_search.specs.Listed.{Listed, IsListed, AreAdded}
-use Rattle.rank_search.proofs.CostLemmas.{AreAbove, undercut_positive, all_above}
+use Rattle.rank_search.proofs.CostLemmas.{AreReached, undercut_positive, all_reached}
 use Rattle.rank_search.proofs.BestLemmas.{AreBestNow, all_more, found_scaled, as_branch}
 use Rattle.rank_search.specs.Turns.{IsRanking, IsMore}
-use Rattle.rank_search.proofs.LeafLemmas.{valued, at_hand_is}
 
--- ---- the children of a node are no cheaper than it
+-- ---- a node reaches what its children reach
 
-module _ (p : Problem) (valid : IsValid p) (n : Node) (w : Way) (sound : IsSound (shape_of p) n) (may : MayBranch (shape_of p) n w) (v : CostOver) (positive : IsPositive v) (under : IsUnder p v n) where
+module _ (p : Problem) (valid : IsValid p) (n : Node) (w : Way) (sound : IsSound (shape_of p) n) (may : MayBranch (shape_of p) n w) where
   -- a child's steps lead from an option of the way
   record IsBelow (c : Cell) : Type 0 where
     pub follows : Follows (shape_of p) (child_at (shape_of p) n w c.option) c
     pub option : IsIn c.option (options_at (shape_of p) n w)
 
-  under_child : (c : Cell) → IsBelow c → IsNever (IsDead (shape_of p) (place_of c)) → IsUnder p v (place_of c)
-  under_child c b alive =
-      subst (λ (m : Node). IsUnder p v m) b.follows.leave
-      (under_dearer p n (after_all (shape_of p) (child_at (shape_of p) n w c.option) c.steps) v positive under
-      (ways_are_dearer p valid n w c.option c.steps sound.apart may b.option b.follows.pass (subst (λ (m : Node). IsNever (IsDead (shape_of p) m)) (sym b.follows.leave) alive)))
+  dearer_child : (c : Cell) → IsBelow c → IsNever (IsDead (shape_of p) (place_of c)) → IsNoDearer p n (place_of c)
+  dearer_child c b alive =
+      subst (λ (m : Node). IsNoDearer p n m) b.follows.leave
+      (ways_are_dearer p valid n w c.option c.steps sound.apart may b.option b.follows.pass (subst (λ (m : Node). IsNever (IsDead (shape_of p) m)) (sym b.follows.leave) alive))
 
-  above : (children : List Cell) (ws : List (Option Network)) → ((k : ℕ) → k < length children → IsBelow (cell_at children k)) → AreSolvedBy p children ws → AreAbove v ws
-  above [] [] each s = tt
-  above [] (x ∷ ws) each s = absurd s
-  above (c ∷ cs) [] each s = absurd s
-  above (c ∷ cs) (None ∷ ws) each s = above cs ws (λ k lt. each (suc k) (omega (arith, lt))) s.1
-  above (c ∷ cs) (Some x ∷ ws) each s = (
-    s.0.found.no_less v positive (under_child c (each 0 (omega arith)) s.0.found.alive),
-    above cs ws (λ k lt. each (suc k) (omega (arith, lt))) s.1,
+  reached : (children : List Cell) (ws : List (Option Network)) → ((k : ℕ) → k < length children → IsBelow (cell_at children k)) → AreSolvedBy p children ws → AreReached p n ws
+  reached [] [] each s = tt
+  reached [] (x ∷ ws) each s = absurd s
+  reached (c ∷ cs) [] each s = absurd s
+  reached (c ∷ cs) (None ∷ ws) each s = reached cs ws (λ k lt. each (suc k) (omega (arith, lt))) s.1
+  reached (c ∷ cs) (Some x ∷ ws) each s = (
+    reached_dearer p n (place_of c) (cost_in x) s.0.found.positive (dearer_child c (each 0 (omega arith)) s.0.found.alive) s.0.found.reached,
+    reached cs ws (λ k lt. each (suc k) (omega (arith, lt))) s.1,
   )
 
   in_options : (children done : List Cell) (all : List (List ℕ)) → map (λ (c : Cell). c.option) done ++ map (λ (c : Cell). c.option) children ≡ all → (k : ℕ) → k < length children → IsIn (cell_at children k).option all
@@ -73,9 +68,9 @@ module _ (p : Problem) (valid : IsValid p) (n : Node) (w : Way) (sound : IsSound
       shift [] = refl
       shift (d ∷ ds) = ap (λ os. d.option ∷ os) (shift ds)
 
-  -- what is found at children costs at least a number that no relaxed flows of the node undercut
-  pub found_above : (claimed : Option CostOver) (children : List Cell) (ws : List (Option Network)) → AreChildren p claimed n w children → AreSolvedBy p children ws → AreAbove v ws
-  found_above claimed children ws are_children s = above children ws (λ k lt. record {
+  -- the node has relaxed flows that cost at most what is found at its children
+  pub found_reached : (claimed : Option CostOver) (children : List Cell) (ws : List (Option Network)) → AreChildren p claimed n w children → AreSolvedBy p children ws → AreReached p n ws
+  found_reached claimed children ws are_children s = reached children ws (λ k lt. record {
     follows = (are_children.each k lt).follows;
     option = in_options children [] (options_at (shape_of p) n w) are_children.options_are k lt;
   }) s
@@ -117,9 +112,9 @@ numbers_fit Past p n s new at nodes w b ws h e =
     let few = b.numbered in
     omega (arith, k, few, e)
 
-module _ (Past : PastPlaces) (p : Problem) (valid : IsValid p) (budget : ℕ) (s : Growing) (l : Listed) (listed : IsListed l) (r : IsRanking Past p budget s l) (g : IsGrowingFor p (undercut_by l.count l.found) s)
+module _ (Past : PastPlaces) (p : Problem) (valid : IsValid p) (budget : ℕ) (s : Growing) (l : Listed) (listed : IsListed l) (r : IsRanking Past p budget s l) (g : IsGrowingFor Past p (undercut_by l.count l.found) s)
     (at : ℕ) (is_leaf : has s.pool.leaves at ≡ true) (same_parents : length s.pool.payloads ≡ length s.pool.parents) (below : (id : ℕ) → has s.pool.leaves id ≡ true → id < length s.pool.parents)
-    (is_least : IsLeastLeaf s at) (v : Mixed) (value_is : slice_get s.pool.values at ≡ Some v) (under : LastIsBelow (Some (cost_over v)) (undercut_by l.count l.found)) where
+    (is_least : IsLeastLeaf s at) (may : LeafUndercuts s (undercut_by l.count l.found) at) where
   module _ (new : Growing) (m : Choice) (choice : IsChoice (shape_of p) (place_of (cell_at s.pool.payloads at)) m) (few : length s.pool.payloads + option_count m ≤ s.budget)
       (b : IsBranching Past p (place_of (cell_at s.pool.payloads at)) s new at (way_of m)) (ws : List (Option Network)) (solved : AreSolvedBy p (drop (length s.pool.payloads) new.pool.payloads) ws)
       (k : Listed) (added : AreAdded l k (length s.pool.payloads) ws) where
@@ -128,29 +123,25 @@ module _ (Past : PastPlaces) (p : Problem) (valid : IsValid p) (budget : ℕ) (s
 
     parent_best : AreBest p l.count (slice_set s.pool.payloads at (as_parent (cell_at s.pool.payloads at) (length s.pool.payloads) (branch (way_of m)))) l.found
     parent_best = as_branch p l.count s.pool.payloads l.found at (as_parent (cell_at s.pool.payloads at) (length s.pool.payloads) (branch (way_of m))) r.best
-        (there p valid s g at is_leaf same_parents below is_least) (untried_there p valid s g at is_leaf same_parents below is_least) refl
+        (there p valid s g at is_leaf same_parents below) (untried_there p valid s g at is_leaf same_parents below) refl
 
     best_now : AreBestNow p (slice_set s.pool.payloads at (as_parent (cell_at s.pool.payloads at) (length s.pool.payloads) (branch (way_of m))) ++ cells_of b.children) l k
     best_now = all_more p (cells_of b.children) ws (slice_set s.pool.payloads at (as_parent (cell_at s.pool.payloads at) (length s.pool.payloads) (branch (way_of m)))) l k listed parent_best children_solved
         (subst (λ n. AreAdded l k n ws) (sym (length-set s.pool.payloads at (as_parent (cell_at s.pool.payloads at) (length s.pool.payloads) (branch (way_of m))))) added)
 
-    leaf_value : IsUnder p (cost_over v) (place_of (cell_at s.pool.payloads at)) × IsPositive (cost_over v)
-    leaf_value = let u = valued p valid s g at is_leaf same_parents below is_least v value_is in (u.under, u.positive)
-
-    children_above : AreAbove (cost_over v) ws
-    children_above = found_above p valid (place_of (cell_at s.pool.payloads at)) (way_of m) (sound_there p valid s g at is_leaf same_parents below is_least) (may_branch (shape_of p) (place_of (cell_at s.pool.payloads at)) m choice)
-        (cost_over v) leaf_value.1 leaf_value.0 (claimed_cost (claim_with b.seen.best)) (cells_of b.children) ws
+    children_reached : AreReached p (place_of (cell_at s.pool.payloads at)) ws
+    children_reached = found_reached p valid (place_of (cell_at s.pool.payloads at)) (way_of m) (sound_there p valid s g at is_leaf same_parents below)
+        (may_branch (shape_of p) (place_of (cell_at s.pool.payloads at)) m choice) (claimed_cost (claim_with b.seen.best)) (cells_of b.children) ws
         (children_kept p b.seen.nodes.items b.children b.seen.ready.items b.freed new.ready b.placed (claimed_cost (claim_with b.seen.best)) (place_of (cell_at s.pool.payloads at)) (way_of m) b.are_seen.children) children_solved
 
-    still_below : LastIsBelow (Some (cost_over v)) (undercut_by k.count k.found)
-    still_below = all_above (cost_over v) leaf_value.1 ws l k (length s.pool.payloads) listed (found_scaled p (cells_of b.children) ws children_solved) added children_above under
+    may_still : MayUndercut p (undercut_by k.count k.found) (place_of (cell_at s.pool.payloads at))
+    may_still = all_reached p (place_of (cell_at s.pool.payloads at)) ws l k (length s.pool.payloads) listed (found_scaled p (cells_of b.children) ws children_solved) added children_reached
+        (undercuts p valid s g at is_leaf same_parents below (hand p valid s g at is_leaf same_parents below) (undercut_by l.count l.found) (undercut_positive l listed) may)
 
     pub grown : IsMore Past p budget (length s.pool.payloads) new k
     grown =
-        let hd = hand p valid s g at is_leaf same_parents below is_least in
-        let a = branched_for p valid s g at is_leaf same_parents below is_least hd.ready hd.known (undercut_by k.count k.found) (undercut_positive k best_now.listed)
-        (subst (λ (u : Mixed). LastIsBelow (Some (cost_over u)) (undercut_by k.count k.found)) (sym (at_hand_is p valid s g at is_leaf same_parents below is_least v value_is)) still_below)
-        Past new m choice few b in
+        let hd = hand p valid s g at is_leaf same_parents below in
+        let a = branched_for p valid s g at is_leaf same_parents below hd is_least (undercut_by k.count k.found) (undercut_positive k best_now.listed) may_still new m choice few b in
         record {
           ranking = record {
             start = ap node_of b.start ∙ r.start;

@@ -59,10 +59,9 @@ module _ (Past : PastPlaces) (p : Problem) (start : starts.Node) (budget : ℕ) 
       grown = t.kept.grown;
       sound = t.kept.sound;
       ends = one_leaf;
-      last_positive = tt;
       claim_positive = t.kept.claim_positive;
       undercut_positive = positive;
-      below = tt;
+      of_use = tt;
     };
     passes = t.passes;
     bounded = t.bounded;

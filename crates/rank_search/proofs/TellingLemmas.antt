@@ -181,7 +181,7 @@ module _ (p : Problem) (valid : IsValid p) (count : ℕ) (s : Growing) (fs : Lis
     module _ (options : ℕ) (h : IsSpentFor p (undercut_by count fs) s wanted options) where
       spent_plain : IsSpent p IsUntried (undercut_by count fs) (node_of s.start) (tree_of s.pool.payloads of.order) place options s.budget
       spent_plain =
-          kept_is_spent p (node_of s.start) (claim_with s.best) (undercut_by count fs) t.last s.pool.payloads of.order t.kept preorder wanted place options s.budget h.way h.value of.stands h.can h.least h.below h.pending h.count_is h.over
+          kept_is_spent p (node_of s.start) (claim_with s.best) (undercut_by count fs) t.last s.pool.payloads of.order t.kept preorder wanted place options s.budget h.way of.stands h.can h.least h.may h.pending h.count_is h.over
 
       -- the leaf's node, whichever it is called
       same_leaf : (n : Node) → IsOpenAt p IsUntried (node_of s.start) (tree_of s.pool.payloads of.order) place n

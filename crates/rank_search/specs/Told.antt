@@ -7,7 +7,7 @@ use Rattle.tree_rules.specs.Ways.{Way, options_at}
 use Rattle.tree_rules.specs.Tree.{leaf}
 use Rattle.tree_rules.specs.Claim.{Network, CostOver}
 use Rattle.tree_rules.specs.Leaf.{untried}
-use Rattle.tree_rules.specs.Lean.{IsLean}
+use Rattle.tree_rules.specs.Lean.{IsLean, MayUndercut}
 use Rattle.tree_rules.specs.Stops.{IsPending, IsNextCount, IsSpent}
 use Rattle.tree_rules.specs.Accepted.{Tree, first_node}
 use Rattle.rank_rules.specs.Leaf.{Leaf, plain}
@@ -19,7 +19,6 @@ use Rattle.ranked_tree.specs.Marked.{Mark, marked}
 use Rattle.ranked_tree.specs.Text.{IsCounted}
 use Rattle.rank_text.specs.Known.{KnowsNetwork}
 use Rattle.search_tree.specs.Cells.{place_of, cell_at}
-use Rattle.turn_laws.specs.Kept.{LastIsBelow}
 use Rattle.turn_laws.specs.Turns.{CanBranch, IsLeastOpen}
 use Rattle.abb_search.specs.declared.growing.Growing.{Growing}
 use Rattle.abb_search.specs.Closing.{ShutAll}
@@ -59,11 +58,10 @@ AreShutAgainst p s undercut proofs = NoneIsOpen s ⊎ ((cost : CostOver) × (und
 -- all open leaves are pending, the leaf is a least one, which may undercut the cost, and the nodes with its children are more than the
 -- budget
 pub record IsSpentFor (p : Problem) (undercut : Option CostOver) (s : Growing) (at options : ℕ) : Type 0 where
-  pub value : CostOver
   pub way : Way
-  pub can : CanBranch p s.pool.payloads at way value
-  pub least : IsLeastOpen p s.pool.payloads at value
-  pub below : LastIsBelow (Some value) undercut
+  pub can : CanBranch p s.pool.payloads at way
+  pub least : IsLeastOpen p s.pool.payloads at
+  pub may : MayUndercut p undercut (place_of (cell_at s.pool.payloads at))
   pub pending : (j : ℕ) → j < length s.pool.payloads → (cell_at s.pool.payloads j).end ≡ leaf untried → IsPending p (place_of (cell_at s.pool.payloads j))
   pub count_is : IsNextCount (shape_of p) (place_of (cell_at s.pool.payloads at)) options
   pub as_many : options ≡ length (options_at (shape_of p) (place_of (cell_at s.pool.payloads at)) way)

@@ -1,20 +1,23 @@
 -- What a search for the best networks keeps between two turns, and how it ends.
-use Rattle.std.specs.Prelude.{◌≡◌, ℕ, ◌<◌, length, Option, Some, None}
+use Rattle.std.specs.Prelude.{◌≡◌, ◌⊎◌, ℕ, ◌<◌, true, length, Option, Some, None}
+use Rattle.link_lists.specs.Lists.{has}
 use Rattle.problem_rules.specs.Problem.{Problem}
 use Rattle.pgraph.specs.View.{node_of}
-use Rattle.tree_rules.specs.Claim.{Network}
+use Rattle.tree_rules.specs.Claim.{Network, IsAtMost}
 use Rattle.tree_rules.specs.Accepted.{first_node}
 use Rattle.mixed_numbers.specs.declared.number.Mixed.{Mixed}
+use Rattle.mixed_numbers.specs.Number.{numerator, denominator}
 use Rattle.turn_laws.specs.Values.{IsNoMore}
-use Rattle.turn_laws.specs.Kept.{LastIsBelow}
 use Rattle.node_evaluation.specs.Evaluated.{PastPlaces, cost_over, cost_in}
 use Rattle.abb_search.specs.declared.growing.Growing.{Growing}
-use Rattle.abb_search.specs.Growing.{IsTreeKeptFor, GoesOnFor, IsStoppedAt}
+use Rattle.abb_search.specs.Growing.{IsTreeKeptFor, GoesOnFor, HasInterval, IsLeastLeaf, IsHeldUp, LeafUndercuts, IsStoppedAt}
 use Rattle.rank_search.specs.Found.{AreBest, undercut_by}
 use Rattle.rank_search.specs.Listed.{Listed}
 use Rattle.rank_search.specs.Told.{AreShutAgainst, IsSpentFor}
 use Rattle.rank_search.specs.declared.turns.Ending.{Ending}
 use Rattle.rank_search.specs.declared.turns.Ending.TheVariants as endings
+use Rattle.rank_search.specs.declared.turns.Next.{Next}
+use Rattle.rank_search.specs.declared.turns.Next.TheVariants as nexts
 
 -- the search starts where nothing is decided, and has this budget; its tree is kept for networks that undercut the last one of the list,
 -- where as many stand as are asked for; and the list has the best networks that were found
@@ -31,9 +34,9 @@ pub record IsRanking (Past : PastPlaces) (p : Problem) (budget : ℕ) (s : Growi
   pub going : GoesOnFor Past p (undercut_by l.count l.found) s s.stop
   pub best : AreBest p l.count s.pool.payloads l.found
 
--- the network is the one to be undercut, and costs no more than the value; or the value is below what is to be undercut
+-- the network is the one to be undercut, and costs no more than the value; or the value is at most what is to be undercut
 abbrev pub IsBeating : Listed → Mixed → Option Network → Type 0
-IsBeating l value None = LastIsBelow (Some (cost_over value)) (undercut_by l.count l.found)
+IsBeating l value None = IsAtMost (undercut_by l.count l.found) (numerator value) (denominator value)
 IsBeating l value (Some w) = (undercut_by l.count l.found ≡ Some (cost_in w)) × IsNoMore (cost_in w) (cost_over value)
 
 -- how the search ends
@@ -41,6 +44,25 @@ abbrev pub EndsWith : PastPlaces → Problem → Growing → Listed → Ending �
 EndsWith Past p s l (endings.Whole proofs) = AreShutAgainst p s (undercut_by l.count l.found) proofs.items
 EndsWith Past p s l (endings.Spent at options) = (at < length s.pool.payloads) × IsSpentFor p (undercut_by l.count l.found) s at options
 EndsWith Past p s l (endings.Past h) = IsStoppedAt Past p s h.leaf h.stop
+
+-- the leaf is open, and has relaxed flows that cost at most any other open leaf's value, and at most what is to be undercut
+pub record IsNextLeaf (s : Growing) (l : Listed) (at : ℕ) : Type 0 where
+  pub is_open : has s.pool.leaves at ≡ true
+  pub least : IsLeastLeaf s at
+  pub undercuts : LeafUndercuts s (undercut_by l.count l.found) at
+
+-- the leaf is open, its least cost is past the range, and its interval reaches more than the value of the leaf behind it, or than what is
+-- to be undercut
+pub record IsStopLeaf (s : Growing) (l : Listed) (at : ℕ) : Type 0 where
+  pub is_open : has s.pool.leaves at ≡ true
+  pub past : HasInterval s at
+  pub held_up : IsHeldUp s at ⊎ (LeafUndercuts s (undercut_by l.count l.found) at → ⊥)
+
+-- what a turn does next: it branches a leaf, or stops at one, or the search ends
+abbrev pub IsNext : PastPlaces → Problem → Growing → Listed → Next → Type 0
+IsNext Past p s l (nexts.Branch at) = IsNextLeaf s l at
+IsNext Past p s l (nexts.Stop at) = IsStopLeaf s l at
+IsNext Past p s l (nexts.End ending) = EndsWith Past p s l ending
 
 -- the search ends so
 pub record IsRankEnd (Past : PastPlaces) (p : Problem) (budget : ℕ) (s : Growing) (l : Listed) (ending : Ending) : Type 0 where
