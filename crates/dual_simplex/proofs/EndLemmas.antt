@@ -8,16 +8,16 @@ use Rattle.path_rules.specs.LinearProgram.{linear_of}
 use Rattle.path_rules.specs.Multipliers.{AreMultipliers, AreRefuting}
 use Rattle.std.proofs.lemmas.Int.{ints}
 use Rattle.path_rules.specs.ReadFlows.{AreRead}
-use Rattle.flow_reading.specs.Reading.{IsOwnPositive}
+use Rattle.dual_simplex.specs.Reading.{IsOwnPositive}
 use Rattle.dual_simplex.specs.Named.{column_named, nonbasic_named}
 use Rattle.dual_simplex.specs.Bench.{IsLeastOf, IsNoneOf, AreFlowsOf}
 use Rattle.std.specs.Prelude.{ℤ, pos, ◌<ℤ◌, ◌≤ℤ◌}
 use Rattle.path_rules.specs.LinearProgram.{LinearProgram}
 use Rattle.path_rules.specs.Columns.{scale_at}
 use Rattle.path_laws.proofs.PathLawLemmas.{basis_is_of_columns}
-use Rattle.tableau_rows.specs.Rows.{Rows, table, basis}
-use Rattle.pivots.specs.Choice.{columns_of, scale_of}
-use Rattle.flow_reading.specs.Dual.{IsNotNegative}
+use Rattle.dual_simplex.specs.Rows.{Rows, table, basis}
+use Rattle.dual_simplex.specs.Choice.{columns_of, scale_of}
+use Rattle.dual_simplex.specs.Dual.{IsNotNegative}
 use Rattle.dual_simplex.specs.Walk.{EndsFeasible, EndsRefuting}
 use Rattle.dual_simplex.proofs.FirstLemmas.{scale_is}
 use Rattle.dual_simplex.proofs.SecondLemmas.{columns_are}

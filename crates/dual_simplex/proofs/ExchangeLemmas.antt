@@ -19,9 +19,9 @@ use Rattle.path_rules.specs.Pivots.{HasPivot, IsCombined}
 use Rattle.path_rules.specs.Path.{Fits, IsPastEntry}
 use Rattle.path_laws.specs.Phases.{IsExchange}
 use Rattle.path_laws.proofs.RowLemmas.{rows_are_combined, rows_are_primitive}
-use Rattle.tableau_rows.specs.Rows.{Rows, width, row_of, table, basis, AreRows}
-use Rattle.tableau_rows.specs.Exchange.{IsStepped, IsPastStep, IsExchanged}
-use Rattle.pivots.specs.Choice.{IsOfSize}
+use Rattle.dual_simplex.specs.Rows.{Rows, width, row_of, table, basis, AreRows}
+use Rattle.dual_simplex.specs.Exchange.{IsStepped, IsPastStep, IsExchanged}
+use Rattle.dual_simplex.specs.Choice.{IsOfSize}
 
 pub row_long : (r : Rows) → AreRows r → (c : ℕ) → c < width r → length (row_of r c) ≡ width r
 row_long r a c h =

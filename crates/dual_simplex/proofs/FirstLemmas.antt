@@ -13,9 +13,9 @@ use Rattle.path_rules.specs.Places.{IsPastPivot, at_first}
 use Rattle.path_laws.specs.Phases.{IsFirstPhase, IsExchange}
 use Rattle.path_laws.proofs.PathLawLemmas.{basis_is_of_columns, first_phase_pivots, first_phase_goes_on, first_phase_ends, exchange_goes_on}
 use Rattle.path_laws.proofs.RangeProgramLemmas.{program_fits}
-use Rattle.tableau_rows.specs.Rows.{Rows, width, row_of, table, basis, AreRows}
-use Rattle.tableau_rows.specs.Exchange.{IsExchanged, IsPastRow, IsSameSize}
-use Rattle.pivots.specs.Choice.{IsOfSize, scale_of}
+use Rattle.dual_simplex.specs.Rows.{Rows, width, row_of, table, basis, AreRows}
+use Rattle.dual_simplex.specs.Exchange.{IsExchanged, IsPastRow, IsSameSize}
+use Rattle.dual_simplex.specs.Choice.{IsOfSize, scale_of}
 use Rattle.dual_simplex.specs.Walk.{IsOnPath, IsInFirst, IsInSecond, EndsPast}
 use Rattle.dual_simplex.proofs.ExchangeLemmas.{row_long, exchange_is, past_is}
 

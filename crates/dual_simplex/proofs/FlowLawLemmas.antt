@@ -8,7 +8,7 @@ use Rattle.path_rules.specs.LinearProgram.{linear_of}
 use Rattle.path_rules.specs.ReadFlows.{AreRead}
 use Rattle.path_laws.proofs.EndLemmas as law
 use Rattle.path_laws.proofs.SplitLemmas as split
-use Rattle.tableau_rows.specs.Rows.{table, basis}
+use Rattle.dual_simplex.specs.Rows.{table, basis}
 use Rattle.dual_simplex.specs.Bench.{Bench, AreFlowsOf}
 use Rattle.dual_simplex.specs.FlowLaws.{FlowsAreRelaxed, FlowsAreLeast, UnitsAreInside, SplitIsDecided, SplitFlowsAreFlows, SplitFlowsAreLeast}
 use Rattle.dual_simplex.proofs.LawLemmas.{ends_least}

@@ -5,7 +5,7 @@ use Rattle.flow_rules.specs.Net.{Net, net_of}
 use Rattle.flow_rules.specs.Program.{Program, program_of}
 use Rattle.path_laws.specs.Ends as ends
 use Rattle.path_laws.proofs.EndLemmas as law
-use Rattle.tableau_rows.specs.Rows.{table, basis}
+use Rattle.dual_simplex.specs.Rows.{table, basis}
 use Rattle.dual_simplex.specs.Bench.{Bench, IsLeastOf, IsNoneOf}
 use Rattle.dual_simplex.specs.Laws.{ScaleIsPositive, BoundIsReached, BoundIsLeast, NoneIsRefuted, FeasibleIsLast, RefutingIsLast, PastIsLast}
 use Rattle.path_laws.proofs.PathLawLemmas as path

@@ -12,7 +12,7 @@ use Rattle.path_rules.specs.LinearProgram.{LinearProgram}
 use Rattle.path_rules.specs.Columns.{Basis}
 use Rattle.path_rules.specs.ReadFlows.{Formed, FlowStep, Lcm, lcms, sizes, rounds, formed, IsPastFlow}
 use Rattle.path_rules.specs.Places as path
-use Rattle.tableau_rows.specs.Rows.{table, basis}
+use Rattle.dual_simplex.specs.Rows.{table, basis}
 use Rattle.dual_simplex.specs.Bench.{Bench, IsLeastOf, IsNoneOf, AreFlowsOf}
 use Rattle.dual_simplex.specs.Named.{place_named}
 use Rattle.dual_simplex.specs.PastPlace.{IsPastOf, IsPastFlowOf}

@@ -1,7 +1,7 @@
 -- The room of a bench, from program to program.
 use Rattle.std.proofs.Common.{◌≡◌, ℕ, ◌≤◌, List, length, arith}
 use Rattle.std.specs.Prelude.{ℤ, All}
-use Rattle.tableau_rows.specs.Rows.{Rows}
+use Rattle.dual_simplex.specs.Rows.{Rows}
 use Rattle.dual_simplex.specs.Walk.{IsSameRoom}
 use Rattle.dual_simplex.specs.Sizes.{IsSize}
 use Rattle.dual_simplex.specs.Bench.{HasLists}

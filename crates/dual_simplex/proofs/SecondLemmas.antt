@@ -18,9 +18,9 @@ use Rattle.path_rules.specs.Places.{at_second}
 use Rattle.path_laws.specs.Phases.{IsExchange}
 use Rattle.path_laws.proofs.PathLawLemmas.{basis_is_of_columns, exchange_goes_on, costs_are_not_negative, vectors_keep_rising, values_rise_by_pivots, rank_rises_too}
 use Rattle.path_laws.proofs.WithinLemmas.{values_are_within}
-use Rattle.tableau_rows.specs.Rows.{Rows, width, row_of, table, basis, AreRows}
-use Rattle.tableau_rows.specs.Exchange.{IsExchanged, IsPastRow, IsSameSize}
-use Rattle.pivots.specs.Choice.{IsOfSize, columns_of, IsDualFeasible}
+use Rattle.dual_simplex.specs.Rows.{Rows, width, row_of, table, basis, AreRows}
+use Rattle.dual_simplex.specs.Exchange.{IsExchanged, IsPastRow, IsSameSize}
+use Rattle.dual_simplex.specs.Choice.{IsOfSize, columns_of, IsDualFeasible}
 use Rattle.dual_simplex.specs.Walk.{IsOnPath, IsInSecond, EndsPast}
 use Rattle.dual_simplex.specs.Measure.{rank_of, ranks}
 use Rattle.dual_simplex.proofs.RankLemmas.{rank_below}

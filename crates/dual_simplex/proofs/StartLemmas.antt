@@ -8,8 +8,8 @@ use Rattle.path_rules.specs.Start.{IsStart}
 use Rattle.path_laws.specs.Phases.{IsFirstPhase, IsOut}
 use Rattle.path_laws.proofs.PathLawLemmas.{start_is_first_phase}
 use Rattle.path_laws.proofs.TableauLawLemmas.{start_is_tableau}
-use Rattle.tableau_rows.specs.Rows.{Rows, table, basis}
-use Rattle.pivots.specs.Choice.{IsOfSize}
+use Rattle.dual_simplex.specs.Rows.{Rows, table, basis}
+use Rattle.dual_simplex.specs.Choice.{IsOfSize}
 use Rattle.dual_simplex.specs.Walk.{IsInFirst}
 
 module _ (p : LinearProgram) (b c : Basis) (T : ℕ → ℕ → ℤ) (same : (k : ℕ) → b k ≡ c k) where

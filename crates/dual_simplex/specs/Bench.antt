@@ -7,7 +7,7 @@ use Rattle.path_rules.specs.LinearProgram.{linear_of}
 use Rattle.path_rules.specs.Columns.{scale_at}
 use Rattle.path_rules.specs.Multipliers.{AreMultipliers, AreRefuting}
 use Rattle.path_rules.specs.ReadFlows.{AreRead}
-use Rattle.tableau_rows.specs.Rows.{Rows, table, basis}
+use Rattle.dual_simplex.specs.Rows.{Rows, table, basis}
 use Rattle.dual_simplex.specs.Named.{column_named, nonbasic_named}
 use Rattle.dual_simplex.specs.Sizes.{IsSize}
 use Rattle.dual_simplex.specs.Walk.{EndsFeasible, EndsRefuting}

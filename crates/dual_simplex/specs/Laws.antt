@@ -10,7 +10,7 @@ use Rattle.flow_rules.specs.Relaxed.{IsRelaxed, relaxed_cost, bound, Refutes, ro
 use Rattle.int_rows.specs.declared.combination.Which.{Which}
 use Rattle.path_rules.specs.LinearProgram.{LinearProgram}
 use Rattle.path_rules.specs.Path.{IsLast}
-use Rattle.tableau_rows.specs.Rows.{Rows, basis}
+use Rattle.dual_simplex.specs.Rows.{Rows, basis}
 use Rattle.dual_simplex.specs.Walk.{EndsFeasible, EndsRefuting, EndsPast}
 use Rattle.dual_simplex.specs.Bench.{Bench, IsLeastOf, IsNoneOf}
 

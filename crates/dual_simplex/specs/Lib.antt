@@ -1,3 +1,11 @@
+pub mod Rows
+pub mod Exchange
+pub mod Start
+pub mod Candidates
+pub mod Choice
+pub mod Dual
+pub mod Reading
+pub mod Step
 pub mod Walk
 pub mod Measure
 pub mod Bench

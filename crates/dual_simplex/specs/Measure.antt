@@ -4,7 +4,7 @@ use Rattle.path_rules.specs.LinearProgram.{LinearProgram}
 use Rattle.path_rules.specs.Columns.{columns, right_at, scale_at}
 use Rattle.path_rules.specs.Vectors.{value_top, value_bottom}
 use Rattle.path_rules.specs.Rank.{rank, power}
-use Rattle.tableau_rows.specs.Rows.{Rows, table, basis}
+use Rattle.dual_simplex.specs.Rows.{Rows, table, basis}
 
 -- the rank of the list of the values of the basis, whose numbers are below 2^127
 unfoldable pub rank_of : LinearProgram → Rows → ℕ

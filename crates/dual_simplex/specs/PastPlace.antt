@@ -10,7 +10,7 @@ use Rattle.path_rules.specs.LinearProgram.{linear_of}
 use Rattle.path_rules.specs.Columns.{Basis}
 use Rattle.path_rules.specs.ReadFlows.{FlowStep, IsPastFlow}
 use Rattle.path_rules.specs.Places as path
-use Rattle.tableau_rows.specs.Rows.{table, basis}
+use Rattle.dual_simplex.specs.Rows.{table, basis}
 use Rattle.dual_simplex.specs.Walk.{EndsPast}
 use Rattle.dual_simplex.specs.Bench.{Bench}
 use Rattle.dual_simplex.specs.Named.{nonbasic_named, place_named}

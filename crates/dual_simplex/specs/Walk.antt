@@ -7,8 +7,8 @@ use Rattle.path_rules.specs.Path.{Reaches}
 use Rattle.path_rules.specs.Pivots.{IsFeasible, IsRefuting}
 use Rattle.path_rules.specs.Places.{IsPastPivot}
 use Rattle.path_laws.specs.Phases.{IsFirstPhase, VectorsRise}
-use Rattle.tableau_rows.specs.Rows.{Rows, table, basis}
-use Rattle.pivots.specs.Choice.{IsOfSize}
+use Rattle.dual_simplex.specs.Rows.{Rows, table, basis}
+use Rattle.dual_simplex.specs.Choice.{IsOfSize}
 
 pub record IsOnPath (p : LinearProgram) (r : Rows) : Type 0 where
   pub size : IsOfSize p r

@@ -8,12 +8,12 @@ ghost use Rattle.dual_simplex.specs.Sizes.{IsSize};
 
 use crate::ends::{read_multipliers, read_refutation, read_sizes};
 use crate::names::{column_at, entry_place, flow_place, put_nonbasic};
+use crate::rows::Rows;
 use crate::sizes::put_sizes;
 use crate::walk::walk;
 use flow_program::{Column, Place, Program};
 use std::alloc::{AllocError, Global};
 use std::marker::Model;
-use tableau_rows::Rows;
 
 /// How the path of a program ends: with least flows, or with a row that shows that there are none.
 #[derive(Clone, Copy, Debug, PartialEq, Eq)]

@@ -5,13 +5,15 @@ ghost use Rattle.path_rules.specs.LinearProgram.{linear_of};
 ghost use Rattle.path_rules.specs.Columns.{scale_at};
 ghost use Rattle.path_rules.specs.Multipliers.{AreMultipliers, AreRefuting};
 ghost use Rattle.path_rules.specs.ReadFlows.{AreRead, IsPastFlow};
-ghost use Rattle.tableau_rows.specs.Rows.{table, basis};
-ghost use Rattle.flow_reading.specs.Step.{step_of};
+ghost use Rattle.dual_simplex.specs.Rows.{table, basis};
+ghost use Rattle.dual_simplex.specs.Step.{step_of};
 ghost use Rattle.dual_simplex.specs.Walk.{EndsFeasible, EndsRefuting};
 
+use crate::dual::{multipliers, refuting};
+use crate::past_flow::PastFlow;
+use crate::reading::read_flows;
+use crate::rows::Rows;
 use flow_program::Program;
-use flow_reading::{PastFlow, multipliers, read_flows, refuting};
-use tableau_rows::Rows;
 
 /// Puts the multipliers of the cost row into the front of `ys`, and gives their scale.
 pub(crate) fn read_multipliers(rows: &Rows, program: &Program, ys: &mut [i128]) -> i128

@@ -3,17 +3,17 @@ ghost use Rattle.std.specs.Prelude.{◌≡◌, ◌<◌, ◌≤◌, ◌++◌, ◌
 ghost use Rattle.path_rules.specs.LinearProgram.{linear_of};
 ghost use Rattle.path_rules.specs.Columns.{columns, scale_at};
 ghost use Rattle.path_rules.specs.Places as path;
-ghost use Rattle.tableau_rows.specs.Rows.{basis, width};
-ghost use Rattle.pivots.specs.Choice.{IsOfSize};
-ghost use Rattle.flow_reading.specs.Step.{step_of};
+ghost use Rattle.dual_simplex.specs.Rows.{basis, width};
+ghost use Rattle.dual_simplex.specs.Choice.{IsOfSize};
+ghost use Rattle.dual_simplex.specs.Step.{step_of};
 ghost use Rattle.dual_simplex.specs.Named.{unit_named, named_at, column_named, nonbasic_named, place_named};
 ghost use Rattle.dual_simplex.specs.Numbers.{AreNumbers};
 
 use crate::numbers::{Numbers, numbers_of};
+use crate::past_flow::PastFlow;
+use crate::rows::Rows;
 use crate::walk::PastPivot;
 use flow_program::{Column, Place, Program};
-use flow_reading::PastFlow;
-use tableau_rows::Rows;
 
 fn unit_count(program: &Program) -> usize
     ensures count { result ≡ length program.now.units }

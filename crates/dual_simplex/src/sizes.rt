@@ -1,12 +1,12 @@
 //! The sizes of the units at the last basis, rounded down. They guide a search: nothing rests on more than their range.
 ghost use Rattle.std.specs.Prelude.{◌≡◌, ◌<◌, ◌≤◌, length, All};
 ghost use Rattle.path_rules.specs.LinearProgram.{linear_of};
-ghost use Rattle.flow_reading.specs.Reading.{IsOwnPositive};
+ghost use Rattle.dual_simplex.specs.Reading.{IsOwnPositive};
 ghost use Rattle.dual_simplex.specs.Walk.{EndsFeasible};
 ghost use Rattle.dual_simplex.specs.Sizes.{IsSize};
 
+use crate::rows::Rows;
 use flow_program::Program;
-use tableau_rows::Rows;
 
 /// The greatest size of a unit, in millionths.
 const MOST: i128 = 1_000_000_000_000_000;

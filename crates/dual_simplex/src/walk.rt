@@ -2,15 +2,16 @@
 ghost use Rattle.std.specs.Prelude.{◌≡◌, ◌<◌, ◌≤◌, ◌+◌, ◌-◌, ℕ, pos, suc, true, false, length, IsTrue, ◌<ℤ◌, ◌≤ℤ◌, OnOk, IfOk, IfErr, IfSome, IfNone};
 ghost use Rattle.path_rules.specs.LinearProgram.{linear_of};
 ghost use Rattle.path_rules.specs.Pivots.{IsLeaving, IsEntering};
-ghost use Rattle.tableau_rows.specs.Rows.{table, basis};
-ghost use Rattle.pivots.specs.Choice.{IsOfSize, scale_of};
+ghost use Rattle.dual_simplex.specs.Rows.{table, basis};
+ghost use Rattle.dual_simplex.specs.Choice.{IsOfSize, scale_of};
 ghost use Rattle.dual_simplex.specs.Walk.{IsInFirst, IsInSecond, EndsFeasible, EndsRefuting, EndsPast, IsSameRoom};
 ghost use Rattle.dual_simplex.specs.Measure.{rank_of, ranks};
 
+use crate::enters::entering;
+use crate::leaves::leaving;
+use crate::rows::Rows;
 use flow_program::Program;
 use int_rows::Which;
-use pivots::{entering, leaving};
-use tableau_rows::Rows;
 
 /// A pivot of the path at which a number is out of range, and which: columns by their places in a row.
 #[derive(Clone, Copy, Debug, PartialEq, Eq)]

@@ -1,7 +1,7 @@
 use Rattle.path_rules.specs.LinearProgram.{linear_of}
 use Rattle.dual_simplex.proofs.EndLemmas.{own_positive}
-use Rattle.tableau_rows.specs.Rows.{table, basis}
-use Rattle.flow_reading.specs.Step.{step_of}
+use Rattle.dual_simplex.specs.Rows.{table, basis}
+use Rattle.dual_simplex.specs.Step.{step_of}
 use Rattle.dual_simplex.proofs.OptionLemmas.{map_err}
 use Rattle.dual_simplex.proofs.PastLemmas.{past_unit}
 use Rattle.dual_simplex.proofs.ends.read_sizes.Goals as goal

@@ -1,7 +1,7 @@
 use Rattle.std.proofs.Common.{◌++◌, ◌∙◌, [], ◌∷◌, ap, cond, sym, arith}
 use Rattle.std.specs.Prelude.{List}
 use Rattle.flow_program.specs.declared.place.Column.{Column}
-use Rattle.tableau_rows.specs.Rows.{basis}
+use Rattle.dual_simplex.specs.Rows.{basis}
 use Rattle.dual_simplex.specs.Named.{column_named}
 use Rattle.dual_simplex.proofs.NumberLemmas.{outside_more}
 use Rattle.dual_simplex.proofs.names.put_nonbasic.Goals as goal

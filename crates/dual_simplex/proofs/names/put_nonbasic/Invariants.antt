@@ -3,7 +3,7 @@ use Rattle.std.specs.List.{filter, range_with_len}
 use Rattle.flow_program.specs.declared.place.Column.{Column}
 use Rattle.flow_rules.specs.Program.{Program}
 use Rattle.path_rules.specs.Columns.{Basis}
-use Rattle.tableau_rows.specs.Rows.{basis}
+use Rattle.dual_simplex.specs.Rows.{basis}
 use Rattle.dual_simplex.specs.Named.{column_named}
 use Rattle.dual_simplex.proofs.names.put_nonbasic.Given as goal
 

@@ -1,6 +1,6 @@
 use Rattle.std.specs.Prelude.{◌-◌}
 use Rattle.path_rules.specs.LinearProgram.{LinearProgram, linear_of}
-use Rattle.tableau_rows.specs.Rows.{Rows}
+use Rattle.dual_simplex.specs.Rows.{Rows}
 use Rattle.dual_simplex.specs.Walk.{IsInSecond, IsSameRoom}
 use Rattle.dual_simplex.specs.Measure.{rank_of, ranks}
 use Rattle.dual_simplex.proofs.walk.walk_second.Given as goal

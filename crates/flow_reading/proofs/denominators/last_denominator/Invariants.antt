@@ -1,5 +1,0 @@
-use Rattle.flow_reading.proofs.DenominatorLemmas.{IsFirstRound}
-use Rattle.flow_reading.proofs.denominators.last_denominator.Given as goal
-
-abbrev pub invariant-loop-unit : goal.invariant-loop-unit
-invariant-loop-unit l = IsFirstRound l.rows l.unit l.den

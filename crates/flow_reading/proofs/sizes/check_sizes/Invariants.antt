@@ -1,6 +1,0 @@
-use Rattle.path_rules.specs.LinearProgram.{linear_of}
-use Rattle.flow_reading.proofs.SizeLemmas.{IsSecondRound}
-use Rattle.flow_reading.proofs.sizes.check_sizes.Given as goal
-
-abbrev pub invariant-loop-unit : goal.invariant-loop-unit
-invariant-loop-unit l = IsSecondRound (linear_of l.program) l.rows l.unit

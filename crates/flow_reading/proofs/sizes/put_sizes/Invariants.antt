@@ -1,6 +1,0 @@
-use Rattle.path_rules.specs.LinearProgram.{linear_of}
-use Rattle.flow_reading.proofs.SizeLemmas.{ArePut}
-use Rattle.flow_reading.proofs.sizes.put_sizes.Given as goal
-
-abbrev pub invariant-loop-unit : goal.invariant-loop-unit
-invariant-loop-unit l = ArePut (linear_of l.program) l.rows l.flows l.unit

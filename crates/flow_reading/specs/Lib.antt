@@ -1,3 +1,0 @@
-pub mod Dual
-pub mod Reading
-pub mod Step

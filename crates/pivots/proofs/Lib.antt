@@ -1,2 +1,0 @@
-pub mod CandidateLemmas
-pub mod RatioLemmas

@@ -1,6 +1,0 @@
-use Rattle.std.proofs.Common.{◌≡◌, ℕ, ◌<◌, ◌*ℤ◌}
-use Rattle.pivots.specs.Candidates.{vector}
-use Rattle.pivots.proofs.ratios.comes_before.Given as goal
-
-abbrev pub invariant-loop-place : goal.invariant-loop-place
-invariant-loop-place l = (q : ℕ) → q < l.place → l.right.size *ℤ vector l.rows l.left.column q ≡ l.left.size *ℤ vector l.rows l.right.column q

@@ -1,8 +1,0 @@
-use Rattle.std.proofs.Common.{◌≡◌, ◌^◌, ap, ◌∙◌, length}
-use Rattle.tableau_rows.proofs.SizeLemmas.{as_many_highs}
-use Rattle.tableau_rows.proofs.numbers.ceilings.Goals as goal
-
-pub returns-clause-length : goal.returns-clause-length
-returns-clause-length c =
-    let q = c.args.program.now in
-    ap length c.ceilings.ensures ∙ as_many_highs (10 ^ 21) q.floors q.ceilings c.is_program.ensures.ranges ∙ c.is_program.ensures.one_range

@@ -1,6 +1,0 @@
-use Rattle.path_rules.specs.LinearProgram.{linear_of}
-use Rattle.tableau_rows.proofs.StartLemmas.{AreWritten}
-use Rattle.tableau_rows.proofs.start.start_rows.Given as goal
-
-abbrev pub invariant-loop-c : goal.invariant-loop-c
-invariant-loop-c l = AreWritten (linear_of l.program) l.width l.size.units l.fn.entries l.entries l.c
