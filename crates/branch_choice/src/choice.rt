@@ -73,8 +73,9 @@ fn has_two_free(graph: &Graph, node: &Node) -> bool {
 /// of them. A unit of a size above 0 scores what it owes of its fixed cost, and one more; another unit the greatest share that
 /// a needed material owes which it makes and no unit taken in. A free unit without a fixed cost owes what the only unit left owes that
 /// makes a material it uses, where that one is free too; in use it scores the whole fixed cost of that one in the ratio of their sizes.
-/// Where the unit of the greatest score owes nothing, units that lead on from units in use without a path to a product come before all
-/// that score less than 2.
+/// Where the unit of the greatest score owes nothing, those come first behind which units in use stand that owe something: at the end of a
+/// chain of free units each of which uses what the one behind it makes. Where there are none, units that lead on from units in use
+/// without a path to a product come before all that score less than 2.
 ///
 /// `first` is a material that is to decide. `sizes` has the sizes of the units that are not left out, in rising order and in
 /// millionths; an entry that is missing counts as 0.
@@ -95,6 +96,11 @@ pub fn choose(problem: &Problem, graph: &Graph, node: Node, first: u32, sizes: &
     let mut dues = Dues::of(problem, graph, &node, sizes);
     let unit = best_unit(graph, &node, needed, &dues, first);
     if dues.owes(unit) {
+        return Choice::Unit(unit);
+    }
+    dues.look_behind(graph, &node);
+    let unit = best_unit(graph, &node, needed, &dues, first);
+    if dues.has_behind(unit) {
         return Choice::Unit(unit);
     }
     dues.find_leading(problem, graph, &node);

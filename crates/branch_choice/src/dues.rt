@@ -17,6 +17,8 @@ struct Due {
     size: i64,
     // What it scores where it has a size above 0.
     share: i128,
+    // What stands behind it, where that was looked for.
+    behind: i128,
 }
 
 const NOTHING: Due = Due {
@@ -24,7 +26,16 @@ const NOTHING: Due = Due {
     unpaid: 0,
     size: 0,
     share: 0,
+    behind: 0,
 };
+
+// A unit that something stands behind scores so much more, which is more than any other score.
+const AHEAD: i128 = 1_000_000_000_000_000_000_000_000_000_000;
+
+// What stands behind a unit is divided by this for each unit in use on the way, and by that for each other one.
+const STEP: i128 = 2;
+
+const STEP_NOT_IN_USE: i128 = 1024;
 
 /// What each unit owes, and which units have a size above 0.
 #[derive(Clone, Copy)]
@@ -57,6 +68,7 @@ fn due_of(unit: &OperatingUnit, payout: i64, size: i64) -> Due {
         unpaid,
         size,
         share: unpaid,
+        behind: 0,
     }
 }
 
@@ -73,6 +85,7 @@ fn passed(due: Due, maker: Due) -> Due {
         unpaid: due.unpaid.max(maker.unpaid),
         size: due.size,
         share: due.share.max(share),
+        behind: 0,
     }
 }
 
@@ -140,6 +153,78 @@ impl Dues {
         self.dues[u as usize].unpaid > 0
     }
 
+    /// Looks for what stands behind the free units: what a unit in use scores that owes something and makes what they use, one behind the
+    /// other. It gets less with each unit on the way, much less with one that is not in use.
+    pub(crate) fn look_behind(&mut self, graph: &Graph, node: &Node) {
+        graph.is_proper();
+        let units = UnitSet::below(graph.unit_count());
+        let free = units.minus(node.inside).minus(node.outside);
+        self.begin_behind(free.meet(self.used));
+        for _turn in 0..graph.unit_count() {
+            if !self.pass_behind(graph, free) {
+                return;
+            }
+        }
+    }
+
+    /// Begins with the units that owe something themselves.
+    fn begin_behind(&mut self, set: UnitSet) {
+        for u in set {
+            if let Some(due) = self.dues.get_mut(u as usize) {
+                if due.unpaid > 0 {
+                    due.behind = due.share;
+                }
+            }
+        }
+    }
+
+    /// Passes what stands behind the free makers of each material to its free users, and tells whether that changed anything.
+    fn pass_behind(&mut self, graph: &Graph, free: UnitSet) -> bool {
+        graph.is_proper();
+        let mut has_changed = false;
+        for x in 0..graph.material_count() {
+            let most = self.most_behind(graph.producers(x).meet(free));
+            if most > 0 {
+                let users = graph.consumers(x).meet(free);
+                has_changed |= self.raise(users.meet(self.used), most / STEP);
+                has_changed |= self.raise(users.minus(self.used), most / STEP_NOT_IN_USE);
+            }
+        }
+        has_changed
+    }
+
+    /// The most that stands behind a unit of the set.
+    fn most_behind(&self, set: UnitSet) -> i128 {
+        let mut most = 0;
+        for u in set {
+            if let Some(due) = self.dues.get(u as usize) {
+                most = due.behind.max(most);
+            }
+        }
+        most
+    }
+
+    /// Lets at least so much stand behind the units, and tells whether it was less behind some.
+    fn raise(&mut self, set: UnitSet, behind: i128) -> bool {
+        let mut has_changed = false;
+        for u in set {
+            if let Some(due) = self.dues.get_mut(u as usize) {
+                if due.behind < behind {
+                    due.behind = behind;
+                    has_changed = true;
+                }
+            }
+        }
+        has_changed
+    }
+
+    /// Whether something stands behind the unit.
+    pub(crate) fn has_behind(&self, u: u32) -> bool
+        requires { u < 128 }
+    {
+        self.dues[u as usize].behind > 0
+    }
+
     /// Looks for the units that lead on from units in use without a path to a product. They score more than all that owe nothing.
     pub(crate) fn find_leading(&mut self, problem: &Problem, graph: &Graph, node: &Node)
         requires { shape graph.now ≡ shape_of problem.now }
@@ -162,7 +247,10 @@ impl Dues {
     pub(crate) fn score(&self, u: u32, owed: i128) -> i128
         requires { u < 128 }
     {
-        if self.leading.has(u) {
+        let behind = self.dues[u as usize].behind;
+        if behind > 0 {
+            behind.saturating_add(AHEAD)
+        } else if self.leading.has(u) {
             2
         } else if self.used.has(u) {
             self.dues[u as usize].share.saturating_add(1)
