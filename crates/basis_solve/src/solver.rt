@@ -137,14 +137,18 @@ impl Solver {
     /// Solves the basis that has these columns outside, at the node, and keeps sizes and multipliers. `false` where a number leaves
     /// 128 bits, or where the basis is none: what is kept is then of no use. Takes no memory.
     pub fn solve(&mut self, numbers: &Numbers, columns: &[Column], node: &Node) -> bool {
+        self.find_sizes(numbers, columns, node)
+            && self.solve_multipliers(numbers, node)
+            && self.bring_multipliers()
+    }
+
+    /// Solves the sizes of the basis alone, and keeps them; multipliers may be longer than they. As `solve` else.
+    pub fn find_sizes(&mut self, numbers: &Numbers, columns: &[Column], node: &Node) -> bool {
         numbers.stand(node, &mut self.standings);
         for (has_row, standing) in self.has_row.iter_mut().zip(&self.standings) {
             *has_row = *standing != Standing::Apart;
         }
-        self.number(columns)
-            && self.solve_sizes(numbers, columns, node)
-            && self.solve_multipliers(numbers, node)
-            && self.bring_all(node)
+        self.number(columns) && self.solve_sizes(numbers, columns, node) && self.bring_sizes(node)
     }
 
     /// The scaled sizes of the units of the node's program, in rising order, over `d`.
@@ -262,17 +266,22 @@ impl Solver {
             && read_values(&self.system, &self.materials, &mut self.multiplier_values)
     }
 
-    /// Brings sizes and multipliers over their denominators; those of units and materials that the node's program does not have are
-    /// dropped before.
-    fn bring_all(&mut self, node: &Node) -> bool {
+    /// Brings the sizes over their denominator; those of units that the node's program does not have are dropped before.
+    fn bring_sizes(&mut self, node: &Node) -> bool {
         for (unit, has_unit) in self.has_unit.iter_mut().enumerate() {
             *has_unit = unit < 128 && !node.outside.has(unit as u32);
         }
         drop_others(&mut self.size_values, &self.has_unit);
-        drop_others(&mut self.multiplier_values, &self.has_row);
         let Some(d) = bring_over(&self.size_values, &self.has_unit, &mut self.sizes) else {
             return false;
         };
+        self.d = d;
+        true
+    }
+
+    /// Brings the multipliers over their denominator; those of materials that are no row of the node's program are dropped before.
+    fn bring_multipliers(&mut self) -> bool {
+        drop_others(&mut self.multiplier_values, &self.has_row);
         let Some(scale) = bring_over(
             &self.multiplier_values,
             &self.has_row,
@@ -280,7 +289,6 @@ impl Solver {
         ) else {
             return false;
         };
-        self.d = d;
         self.scale = scale;
         true
     }

@@ -193,20 +193,54 @@ impl CertifiedBounds {
         ensures same { self.new ≡ self.old }
         ensures between { IfOk result (λ found. IfSome found (IsBetween problem.now (node_of node))) }
     {
-        if !self.proposals.propose_inside(&node) {
-            return Ok(None);
-        }
-        let Some(d) = self.proposals.write_short(&node) else {
+        let Some(reached) = self.cost_of_flows(problem, graph, &node) else {
             return Ok(None);
         };
-        let Some(reached) = self.reached(problem, graph, &node, d) else {
-            return Ok(None);
-        };
-        self.proposals.keep_short_sizes(d);
         low_to(alloc, problem, graph, &node, &mut self.proposals, reached)
     }
 
-    /// After `write_short`: what these sizes over `d` cost, where they pass the check.
+    /// What some flows of the node cost: least ones, where their numbers have room, or ones in short numbers.
+    fn cost_of_flows(&mut self, problem: &Problem, graph: &Graph, node: &Node) -> Option<Mixed>
+        requires own { self.old ≡ problem.now }
+        requires graph { shape graph.now ≡ shape_of problem.now }
+        requires sound { IsSound (shape_of problem.now) (node_of node.now) }
+        ensures same { self.new ≡ self.old }
+        ensures reached { IfSome result (λ cost. HasCheaper problem.now (node_of node.now) (numerator cost) (denominator cost)) }
+    {
+        if self.proposals.propose_sizes(node) {
+            let d = self.proposals.write_least();
+            if let Some(cost) = self.keep_reached(problem, graph, node, d) {
+                return Some(cost);
+            }
+        }
+        if self.proposals.propose_inside(node) {
+            let d = self.proposals.write_short(node);
+            return self.keep_reached(problem, graph, node, d);
+        }
+        None
+    }
+
+    /// What the listed sizes cost, where they were written and pass the check: then they are kept.
+    fn keep_reached(
+        &mut self,
+        problem: &Problem,
+        graph: &Graph,
+        node: &Node,
+        d: Option<i128>,
+    ) -> Option<Mixed>
+        requires own { self.old ≡ problem.now }
+        requires graph { shape graph.now ≡ shape_of problem.now }
+        requires sound { IsSound (shape_of problem.now) (node_of node.now) }
+        ensures same { self.new ≡ self.old }
+        ensures reached { IfSome result (λ cost. HasCheaper problem.now (node_of node.now) (numerator cost) (denominator cost)) }
+    {
+        let d = d?;
+        let cost = self.reached(problem, graph, node, d)?;
+        self.proposals.keep_listed_sizes(d);
+        Some(cost)
+    }
+
+    /// What the listed sizes over `d` cost, where they pass the check.
     fn reached(&self, problem: &Problem, graph: &Graph, node: &Node, d: i128) -> Option<Mixed>
         requires own { self.now ≡ problem.now }
         requires graph { shape graph.now ≡ shape_of problem.now }

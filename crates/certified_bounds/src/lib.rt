@@ -5,8 +5,9 @@
 //! sizes are judged as any network's are. What is told of a node rests on these checks alone; where one of them is past the range
 //! or says no, nothing is told, and the node is to be valued in another way.
 //!
-//! Where the least cost itself is past the range, two costs may still be told between which it lies: what rounded multipliers prove,
-//! and what flows cost that keep a little off the ends of their ranges, so that their numbers are short.
+//! Where the least cost itself is past the range, or the multipliers that prove it, two costs may still be told between which it lies:
+//! what rounded multipliers prove, and what flows cost that are least, or that keep a little off the ends of their ranges, so that their
+//! numbers are short.
 //!
 //! Multipliers of a bound are exact where their scale is short, and rounded else: the bound of rounded ones is a little below the
 //! least cost, and still proved.

@@ -209,7 +209,7 @@ pub(crate) fn proving(
     exact(alloc, problem, graph, node, proposals, goal)
 }
 
-/// After `propose_inside`: what rounded multipliers prove, over the longest of three scales at which no number is out of range.
+/// After `propose_sizes` or `propose_inside`: what rounded multipliers prove, over the longest of three scales at which no number is out of range.
 fn near_low(problem: &Problem, graph: &Graph, node: &Node, proposals: &mut Proposals) -> Option<Low>
     requires graph { shape graph.now ≡ shape_of problem.now }
     requires known { (u : ℕ) → has node.now.inside u ≡ true → u < (shape graph.now).units }
@@ -224,7 +224,7 @@ fn near_low(problem: &Problem, graph: &Graph, node: &Node, proposals: &mut Propo
     None
 }
 
-/// After `propose_inside`: what some flows cost, and what rounded multipliers prove.
+/// After `propose_sizes` or `propose_inside`: what some flows cost, and what rounded multipliers prove.
 pub(crate) fn low_to(
     alloc: Global,
     problem: &Problem,

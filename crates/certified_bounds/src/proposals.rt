@@ -192,6 +192,17 @@ impl Proposals {
         true
     }
 
+    /// Looks for least flows of the node, and for multipliers that prove little less than what these cost.
+    pub(crate) fn propose_sizes(&mut self, node: &Node) -> bool {
+        let outcome = self.guess.look(&self.scaled.numbers, node, true);
+        outcome == Outcome::Basis
+            && self.read_rows(node)
+            && self.read_costs()
+            && self
+                .solver
+                .find_sizes(&self.scaled.numbers, self.guess.columns(), node)
+    }
+
     /// Looks for flows of the node in short numbers that cost little more than the least, and for multipliers that prove little less.
     pub(crate) fn propose_inside(&mut self, node: &Node) -> bool {
         let outcome = self.guess.look_inside(&self.scaled.numbers, node);
@@ -283,7 +294,7 @@ impl Proposals {
         rows.write_rounded(bits, &mut self.list)
     }
 
-    /// After `propose_inside`: writes whole numbers near 2^bits times the multipliers of the cost. Gives that power.
+    /// After `propose_sizes` or `propose_inside`: writes whole numbers near 2^bits times the multipliers of the cost. Gives that power.
     pub(crate) fn write_near(&mut self, bits: u32) -> Option<i128> {
         let rows = ScaledRows {
             numbers: self.row.numbers(),
@@ -298,6 +309,17 @@ impl Proposals {
         }
     }
 
+    /// After `propose_sizes`: writes the scaled sizes over their denominator, which it gives.
+    pub(crate) fn write_least(&mut self) -> Option<i128> {
+        self.list.clear();
+        for size in self.solver.sizes() {
+            if !self.list.push(*size) {
+                return None;
+            }
+        }
+        Some(self.solver.d())
+    }
+
     /// After `propose_inside`: writes the scaled sizes over their denominator, which it gives.
     pub(crate) fn write_short(&mut self, node: &Node) -> Option<i128> {
         self.list.clear();
@@ -309,8 +331,8 @@ impl Proposals {
         Some(self.short.d())
     }
 
-    /// After `write_short`: keeps these sizes over `d` in whole millionths.
-    pub(crate) fn keep_short_sizes(&mut self, d: i128) {
+    /// Keeps the scaled sizes over `d` that are listed in whole millionths.
+    pub(crate) fn keep_listed_sizes(&mut self, d: i128) {
         let sizes = self.list.numbers();
         keep_whole(&mut self.whole_sizes, sizes, self.scaled.sizes, d);
     }
