@@ -10,8 +10,8 @@ use Rattle.script_rules.specs.declared.EditKind.TheVariants.{FileType, BadLine, 
 use Rattle.script_rules.specs.Line.{file_type}
 use Rattle.script_rules.specs.Read.{read_script}
 use Rattle.script_rules.specs.Printed.{edit_line}
-use Rattle.edit_scripts.specs.declared.fault.EditFault.{EditFault}
-use Rattle.edit_scripts.specs.declared.fault.EditFault.TheVariants.{Memory, At}
+use Rattle.text_lines.specs.declared.fault.TextFault.{TextFault}
+use Rattle.text_lines.specs.declared.fault.TextFault.TheVariants.{Memory, At}
 use Rattle.pns_edits.specs.Fault.{HasFaultAt}
 use Rattle.command_files.specs.Reading.{AreHeld, IsLong, OnSecond, file_limit}
 use Rattle.endings.specs.declared.status.Status.{Status}
@@ -73,7 +73,7 @@ abbrev pub ScriptFaults : (List ℕ → Told) → List ℕ → Problem → Statu
 ScriptFaults held name p status lines = (file : List ℕ) × AreHeld (held name) file × ScriptFault name p file status lines
 
 -- want of memory, or just the fault of the text
-abbrev pub TellsEdits : Problem → List ℕ → EditFault → Type 0
+abbrev pub TellsEdits : Problem → List ℕ → TextFault EditKind → Type 0
 TellsEdits p file Memory = Unit {0}
 TellsEdits p file (At line kind) = HasEditFault p file line kind
 

@@ -1,9 +1,8 @@
 mod Cutting
 mod Least
-mod Naming
+mod Maps
 mod ScriptLines
 mod TermsRead
-mod Whole
 mod TokenCounts
 mod Reading
 pub mod Clear

@@ -1,20 +1,10 @@
 //! The lines of a script, and their tokens.
 ghost use Rattle.std.specs.Prelude.{◌≡◌, ◌<◌, ◌∷◌, IfOk, length};
-ghost use Rattle.text_rules.specs.Line.{without_return};
 ghost use Rattle.text_lines.specs.View.{texts};
 ghost use Rattle.script_rules.specs.Line.{script_lines, tokens_of};
 
 use std::alloc::{AllocError, Global};
-use text_lines::line::place_of;
-
-fn without_return(text: &[u8]) -> &[u8]
-    ensures { result.now ≡ without_return text.now }
-{
-    match text {
-        [rest @ .., b'\r'] => rest,
-        _ => text,
-    }
-}
+use text_lines::line::{place_of, without_return};
 
 /// The first line of what is left of a text, and what is left behind it.
 pub fn cut_line(rest: &[u8]) -> (&[u8], &[u8])

@@ -7,16 +7,17 @@ ghost use Rattle.text_rules.specs.Fault.{millionths};
 ghost use Rattle.text_rules.specs.Value.{kind_of};
 ghost use Rattle.script_rules.specs.Fault.{name_fault, kind_fault, amount_fault, bound_fault};
 ghost use Rattle.script_rules.specs.Read.{judged, name_read, names_read, kind_read, amount_read, fixed_read, bounds_read, costs_read, years_read};
-ghost use Rattle.edit_scripts.specs.Tells.{TellsLine};
+ghost use Rattle.text_lines.specs.Tells.{TellsLine};
 
-use crate::line_fault::LineFault;
+use crate::fault::LineFault;
 use crate::token::{
-    amount_fault, bound_fault, kind_fault, kind_of, least, millionths, name_fault, name_string,
-    years_fault, years_of,
+    amount_fault, bound_fault, kind_fault, kind_of, least, name_fault, name_string, years_fault,
+    years_of,
 };
 use pns_problem::Kind;
 use script_rules::EditKind;
 use std::alloc::Global;
+use text_lines::amount::millionths;
 
 /// A name.
 pub(crate) fn name(alloc: Global, fields: &[&[u8]]) -> Result<String, LineFault>

@@ -8,19 +8,20 @@ ghost use Rattle.text_rules.specs.Value.{kind_of};
 ghost use Rattle.script_rules.specs.Fault.{place_of, place_fault, name_fault, kind_fault, amount_fault, bound_fault, names_fault, members_fault};
 ghost use Rattle.script_rules.specs.Term.{sides_of, term_read};
 ghost use Rattle.script_rules.specs.Read.{judged, material_read, with_sides, unit_read, exclusion_read};
-ghost use Rattle.edit_scripts.specs.Tells.{TellsLine};
+ghost use Rattle.text_lines.specs.Tells.{TellsLine};
 ghost use Rattle.edit_scripts.specs.View.{edit_of};
 
 use crate::edit::Edit;
-use crate::line_fault::LineFault;
-use crate::names::once;
+use crate::fault::LineFault;
 use crate::sides::{named_terms, sides_fault, sides_of, terms_fault};
 use crate::token::{
-    amount_fault, bound_fault, kind_fault, kind_of, least, millionths, name_fault, name_string,
-    names_fault, place_fault, place_of,
+    amount_fault, bound_fault, kind_fault, kind_of, least, name_fault, name_string, names_fault,
+    place_fault, place_of,
 };
 use script_rules::EditKind;
 use std::alloc::{AllocError, Global};
+use text_lines::amount::millionths;
+use text_lines::name_set::once;
 use text_lines::term::Sides;
 
 fn material_of(

@@ -4,7 +4,7 @@
 //!
 //! Modules: `edit`, `term`, `script` and `fault` (the values), `cut` (lines and tokens), `token` (what is wrong with one token),
 //! `sides` (the terms of a new unit), `fields` and `insertion` (the forms of lines), `line` (one line), `read`, `print`. Other texts
-//! with the same lines, tokens and amounts are read with `cut`, `fields` and `names`.
+//! with the same lines, tokens and amounts are read with `cut` and `fields`.
 #![tactic(auto)]
 
 pub mod cut;
@@ -13,8 +13,6 @@ mod fault;
 pub mod fields;
 mod insertion;
 mod line;
-mod line_fault;
-pub mod names;
 mod print;
 mod read;
 mod script;
@@ -23,8 +21,7 @@ mod term;
 mod token;
 
 pub use edit::Edit;
-pub use fault::EditFault;
-pub use line_fault::LineFault;
+pub use fault::{EditFault, LineFault};
 pub use print::print_script;
 pub use read::read_script;
 pub use script::Script;

@@ -3,12 +3,12 @@ ghost use Rattle.std.specs.Prelude.{◌≡◌, ◌<◌, ◌^◌, Ok, IfOk, IfErr
 ghost use Rattle.text_lines.specs.View.{texts};
 ghost use Rattle.script_rules.specs.Line.{tokens_of};
 ghost use Rattle.script_rules.specs.Read.{fields_read, tokens_read, line_read};
-ghost use Rattle.edit_scripts.specs.Tells.{TellsLine};
+ghost use Rattle.text_lines.specs.Tells.{TellsLine};
 ghost use Rattle.edit_scripts.specs.View.{edit_of};
 
 use crate::cut::tokens_of;
 use crate::edit::Edit;
-use crate::line_fault::LineFault;
+use crate::fault::LineFault;
 use crate::token::word_named;
 use crate::{fields, insertion};
 use script_rules::{EditKind, Word};

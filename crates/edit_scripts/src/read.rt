@@ -2,15 +2,14 @@
 ghost use Rattle.std.specs.Prelude.{◌≡◌, ◌<◌, ◌+◌, ◌-◌, ◌∷◌, ◌^◌, ℕ, List, Ok, IfOk, IfErr, OnOk, length, map};
 ghost use Rattle.script_rules.specs.Line.{script_lines};
 ghost use Rattle.script_rules.specs.Read.{lines_read, read_script};
-ghost use Rattle.edit_scripts.specs.Tells.{Tells};
+ghost use Rattle.text_lines.specs.Tells.{Tells};
 ghost use Rattle.edit_scripts.specs.Walk.{read_on};
 ghost use Rattle.edit_scripts.specs.View.{edit_of};
 
 use crate::cut::cut_line;
 use crate::edit::Edit;
-use crate::fault::EditFault;
+use crate::fault::{EditFault, LineFault};
 use crate::line::read_line;
-use crate::line_fault::LineFault;
 use crate::script::Script;
 use script_rules::EditKind;
 use std::alloc::Global;

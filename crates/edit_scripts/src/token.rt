@@ -1,15 +1,11 @@
 //! What is wrong with a token by its place in a line, and what it stands for.
-ghost use Rattle.std.specs.Prelude.{◌≡◌, ◌<◌, ◌≤◌, ◌+◌, ◌-◌, ◌*◌, ◌^◌, IfOk, IfSome, Some, None, nat_le, string_bytes, if◌then◌else◌};
-ghost use Rattle.std.specs.List.{list_all};
-ghost use Rattle.std.specs.Char.{is_ascii_digit};
-ghost use Rattle.text_rules.specs.Amount.{number_of};
-ghost use Rattle.text_rules.specs.Fault.{millionths};
+ghost use Rattle.std.specs.Prelude.{◌≡◌, ◌≤◌, IfOk, Some, None, string_bytes};
 ghost use Rattle.text_rules.specs.Field.{kind_words};
 ghost use Rattle.text_rules.specs.Value.{kind_of};
 ghost use Rattle.problem_rules.specs.Names.{is_among};
 ghost use Rattle.pns_problem.specs.Kind as kinds;
 ghost use Rattle.text_lines.specs.View.{texts};
-ghost use Rattle.script_rules.specs.Fault.{kind_number, lesser, least, number_fault, name_fault, kind_fault, amount_fault, bound_fault, rate_fault, is_whole, whole_within, place_of, place_fault, years_of, years_fault, names_fault};
+ghost use Rattle.script_rules.specs.Fault.{kind_number, lesser, least, number_fault, name_fault, kind_fault, amount_fault, bound_fault, rate_fault, place_of, place_fault, years_of, years_fault, names_fault};
 ghost use Rattle.script_rules.specs.Line.{word_named};
 
 use pns_problem::Kind;
@@ -18,6 +14,7 @@ use std::alloc::{AllocError, Global};
 use std::str;
 use text_lines::amount::read_amount;
 use text_lines::name::is_name;
+use text_lines::whole_number::whole_within;
 use text_rules::TextKind;
 
 fn kind_number(kind: EditKind) -> u32
@@ -193,69 +190,6 @@ pub(crate) fn rate_fault(token: &[u8]) -> Option<EditKind>
     }
 }
 
-/// The amount in millionths, which is 0 where the token is none.
-pub(crate) fn millionths(token: &[u8]) -> i64
-    ensures { result ≡ millionths token.now }
-{
-    match read_amount(token) {
-        Ok(amount) => amount,
-        Err(_) => 0,
-    }
-}
-
-fn are_digits(token: &[u8]) -> bool
-    ensures { result ≡ list_all is_ascii_digit token.now }
-{
-    token.iter().all(|c| c.is_ascii_digit())
-}
-
-fn is_whole(token: &[u8]) -> bool
-    ensures { result ≡ is_whole token.now }
-{
-    if !are_digits(token) || token.is_empty() {
-        return false;
-    }
-    token.len() == 1 || token[0] != b'0'
-}
-
-fn with_digit(number: u64, c: u8) -> u64
-    requires { number < 2 ^ 32 }
-    ensures { result ≡ (if is_ascii_digit c then 10 * number + (c - 48) else number) }
-{
-    if c.is_ascii_digit() {
-        10 * number + (c - b'0') as u64
-    } else {
-        number
-    }
-}
-
-// The number that digits spell, where it is within the limit.
-fn number_within(limit: u64, digits: &[u8]) -> Option<u64>
-    requires { limit < 2 ^ 32 }
-    ensures { result ≡ (if nat_le (number_of digits.now) limit then Some (number_of digits.now) else None) }
-{
-    let mut number: u64 = 0;
-    'reading: for c in digits {
-        number = with_digit(number, *c);
-        if number > limit {
-            return None;
-        }
-    }
-    Some(number)
-}
-
-fn whole_within(limit: u64, token: &[u8]) -> Option<u64>
-    requires { limit < 2 ^ 32 }
-    ensures value { result ≡ whole_within limit token.now }
-    ensures within { IfSome result (λ number. number ≤ limit) }
-{
-    if is_whole(token) {
-        number_within(limit, token)
-    } else {
-        None
-    }
-}
-
 /// What is wrong with a token in the place of a place.
 pub(crate) fn place_fault(token: &[u8]) -> Option<EditKind>
     ensures { result ≡ place_fault token.now }
@@ -285,7 +219,7 @@ pub(crate) fn years_of(token: &[u8]) -> u64
     ensures few { result ≤ 100 }
 {
     match whole_within(100, token) {
-        Some(years) => years,
+        Some(years) => years as u64,
         None => 0,
     }
 }

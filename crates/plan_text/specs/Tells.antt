@@ -1,29 +1,15 @@
--- What a fault of the reader tells of a reading in the grammar's words; want of memory tells nothing.
-use Rattle.std.specs.Prelude.{◌≡◌, Option, Some, None, Result, Ok, Err}
-use Rattle.edit_scripts.specs.declared.line_fault.LineFault as script
-use Rattle.edit_scripts.specs.declared.line_fault.LineFault.TheVariants as script_faults
+-- What a plan makes of the faults of a script's fields, and of a fault that may be.
+use Rattle.std.specs.Prelude.{Option, Some, None, Result, Ok, Err}
+use Rattle.script_rules.specs.declared.EditKind.{EditKind}
 use Rattle.plan_rules.specs.declared.PlanKind.{PlanKind}
 use Rattle.plan_rules.specs.Line.{kind_of}
-use Rattle.plan_rules.specs.Read as rules
-use Rattle.plan_text.specs.declared.fault.PlanFault.{PlanFault}
-use Rattle.plan_text.specs.declared.fault.PlanFault.TheVariants.{At, Memory}
-use Rattle.plan_text.specs.declared.line_fault.LineFault.{LineFault}
-use Rattle.plan_text.specs.declared.line_fault.LineFault.TheVariants as line
-
--- of a plan
-abbrev pub Tells : {A : Type 0} → Result A rules.Fault → PlanFault → Type 0
-Tells reading Memory = Unit {0}
-Tells reading (At number kind) = reading ≡ Err (number, kind)
-
--- of a line
-abbrev pub TellsLine : {A : Type 0} → Result A PlanKind → LineFault → Type 0
-TellsLine reading line.Memory = Unit {0}
-TellsLine reading (line.Kind kind) = reading ≡ Err kind
+use Rattle.text_lines.specs.declared.fault.LineFault.{LineFault}
+use Rattle.text_lines.specs.declared.fault.LineFault.TheVariants.{Memory, Kind}
 
 -- a script's fault, as a plan has it
-abbrev pub fault_from : script.LineFault → LineFault
-fault_from script_faults.Memory = line.Memory
-fault_from (script_faults.Kind kind) = line.Kind (kind_of kind)
+abbrev pub fault_from : LineFault EditKind → LineFault PlanKind
+fault_from Memory = Memory
+fault_from (Kind kind) = Kind (kind_of kind)
 
 -- the value, where nothing is wrong with it
 abbrev pub told : {A : Type 0} → Option PlanKind → A → Result A PlanKind

@@ -4,8 +4,8 @@ use Rattle.plan_rules.specs.Read.{Fault, Line, placed, seen_after, with_line, li
 use Rattle.plan_rules.specs.Line.{Entry}
 use Rattle.plan_rules.specs.declared.PlanKind.{PlanKind}
 use Rattle.plan_rules.specs.declared.PlanKind.TheVariants.{BadLine}
-use Rattle.plan_text.specs.declared.fault.PlanFault.{PlanFault}
-use Rattle.plan_text.specs.declared.fault.PlanFault.TheVariants.{At}
+use Rattle.text_lines.specs.declared.fault.TextFault.{TextFault}
+use Rattle.text_lines.specs.declared.fault.TextFault.TheVariants.{At}
 use Rattle.plan_text.specs.declared.read.Walk.{Walk}
 
 abbrev pub with_front : List Line → Result (List Line) Fault → Result (List Line) Fault
@@ -21,5 +21,5 @@ with_said walk entry texts =
     with_front walk.lines.items (with_line walk.number (placed walk.seen (Ok entry)) (lines_read (walk.number + 1) (seen_after walk.seen entry) texts))
 
 -- the fault of a line that says nothing
-abbrev pub refused : Walk → PlanKind → PlanFault
+abbrev pub refused : Walk → PlanKind → TextFault PlanKind
 refused walk kind = At walk.number (if walk.seen.started then kind else BadLine)

@@ -1,34 +1,9 @@
-//! Why a text is no plan.
+//! Why a text is no plan, and why a line of it says nothing.
 use plan_rules::PlanKind;
-use std::alloc::{AllocError, AllocFailed};
+use text_lines::fault;
 
 /// The first fault of a plan, or want of memory.
-#[derive(Clone, Copy, Debug, PartialEq, Eq)]
-pub enum PlanFault {
-    /// Want of memory, at any moment.
-    Memory,
-    /// The kind of fault, and the line at which it stands, counted from 1.
-    At { line: u32, kind: PlanKind },
-}
+pub type PlanFault = fault::TextFault<PlanKind>;
 
-impl From<AllocError> for PlanFault {
-    ghost use Rattle.std.specs.Prelude.{◌≡◌};
-    ghost use Rattle.plan_text.specs.declared.fault.PlanFault.TheVariants.{Memory};
-
-    ghost from_gives = { λ _ e. e ≡ Memory };
-
-    fn from(_e: AllocError) -> PlanFault {
-        PlanFault::Memory
-    }
-}
-
-impl<T: Drop> From<AllocFailed<T>> for PlanFault {
-    ghost use Rattle.std.specs.Prelude.{◌≡◌};
-    ghost use Rattle.plan_text.specs.declared.fault.PlanFault.TheVariants.{Memory};
-
-    ghost from_gives = { λ _ e. e ≡ Memory };
-
-    fn from(_e: AllocFailed<T>) -> PlanFault {
-        PlanFault::Memory
-    }
-}
+/// The fault of a line, or want of memory.
+pub(crate) type LineFault = fault::LineFault<PlanKind>;

@@ -2,14 +2,15 @@
 ghost use Rattle.std.specs.Prelude.{◌≡◌, Ok, IfOk, IfErr};
 ghost use Rattle.text_lines.specs.View.{texts};
 ghost use Rattle.script_rules.specs.Line.{tokens_of};
-ghost use Rattle.plan_rules.specs.Line.{fields_read, tokens_read, line_read, word_named};
-ghost use Rattle.plan_text.specs.Tells.{TellsLine, fault_from};
+ghost use Rattle.plan_rules.specs.Line.{kind_of, fields_read, tokens_read, line_read, word_named};
+ghost use Rattle.text_lines.specs.Tells.{TellsLine};
+ghost use Rattle.plan_text.specs.Tells.{fault_from};
 ghost use Rattle.plan_text.specs.View.{entry_of, name_of, first_of};
 
 use crate::entry::Entry;
-use crate::line_fault::{LineFault, kind_of};
+use crate::fault::LineFault;
 use edit_scripts::cut::tokens_of;
-use edit_scripts::{LineFault as ScriptFault, fields};
+use edit_scripts::{EditKind, LineFault as ScriptFault, fields};
 use plan_rules::{PlanKind, PlanWord};
 use std::alloc::Global;
 
@@ -31,6 +32,20 @@ fn word_named(text: &[u8]) -> Option<PlanWord>
         Some(PlanWord::Bounds)
     } else {
         None
+    }
+}
+
+// What a plan calls a fault of a name or an amount that a script has too.
+fn kind_of(kind: EditKind) -> PlanKind
+    ensures { result ≡ kind_of kind }
+{
+    match kind {
+        EditKind::BadName => PlanKind::BadName,
+        EditKind::BadNumber => PlanKind::BadNumber,
+        EditKind::TooFine => PlanKind::TooFine,
+        EditKind::TooLarge => PlanKind::TooLarge,
+        EditKind::Sign => PlanKind::Sign,
+        _ => PlanKind::BadLine,
     }
 }
 

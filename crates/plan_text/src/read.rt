@@ -2,14 +2,13 @@
 ghost use Rattle.std.specs.Prelude.{◌≡◌, ◌<◌, ◌≤◌, ◌+◌, ◌-◌, ◌∷◌, ◌^◌, ℕ, List, Ok, IfOk, IfErr, OnOk, length};
 ghost use Rattle.script_rules.specs.Line.{script_lines};
 ghost use Rattle.plan_rules.specs.Read.{nothing_seen, lines_read, read_lines};
-ghost use Rattle.plan_text.specs.Tells.{Tells};
+ghost use Rattle.text_lines.specs.Tells.{Tells};
 ghost use Rattle.plan_text.specs.View.{entry_of, name_of};
 ghost use Rattle.plan_text.specs.Walk.{refused, read_on, with_said};
 
 use crate::entry::Line;
-use crate::fault::PlanFault;
+use crate::fault::{LineFault, PlanFault};
 use crate::line::{Said, read_line};
-use crate::line_fault::LineFault;
 use crate::seen::Seen;
 use edit_scripts::cut::cut_line;
 use plan_rules::PlanKind;

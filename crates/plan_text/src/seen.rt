@@ -6,11 +6,11 @@ ghost use Rattle.plan_text.specs.Tells.{told};
 ghost use Rattle.plan_text.specs.View.{entry_of, name_of};
 
 use crate::entry::Entry;
-use edit_scripts::names::NameSet;
 use plan_rules::PlanKind;
 use std::alloc::{AllocError, Global};
 use std::marker::Model;
 use std::mem;
+use text_lines::name_set::NameSet;
 
 /// Whether a period has begun, and the materials whose price and whose bounds it has changed so far.
 #[derive(Drop)]

@@ -2,7 +2,7 @@
 ghost use Rattle.std.specs.Prelude.{◌≡◌, ◌<◌, ◌-◌, ◌^◌, Ok, IfOk, IfErr, length};
 ghost use Rattle.plan_rules.specs.Meaning.{read_plan};
 ghost use Rattle.plan_rules.specs.Plan.{IsPlan};
-ghost use Rattle.plan_text.specs.Tells.{Tells};
+ghost use Rattle.text_lines.specs.Tells.{Tells};
 
 use crate::fault::PlanFault;
 use crate::lines_plan::periods_of;

@@ -6,8 +6,8 @@ use Rattle.edit_rules.specs.Fault.{Fault, unknown_name, double_name, bad_place, 
 use Rattle.edit_rules.specs.Script.{IsFaultAt}
 use Rattle.script_rules.specs.declared.EditKind.{EditKind}
 use Rattle.script_rules.specs.declared.EditKind.TheVariants.{UnknownName, DoubleName, BadPlace, LowAboveHigh, InUse, NoProduct, TooMany}
-use Rattle.edit_scripts.specs.declared.fault.EditFault.{EditFault}
-use Rattle.edit_scripts.specs.declared.fault.EditFault.TheVariants.{Memory, At}
+use Rattle.text_lines.specs.declared.fault.TextFault.{TextFault}
+use Rattle.text_lines.specs.declared.fault.TextFault.TheVariants.{Memory, At}
 use Rattle.pns_edits.specs.declared.refusal.Refusal as refusals
 
 abbrev pub kind_of : Fault → EditKind
@@ -31,6 +31,6 @@ pub record HasFaultAt (p : Problem) (s : Script) (line : ℕ) (kind : EditKind) 
   pub kind_is : kind ≡ kind_of fault
 
 -- want of memory, or just the first fault of a script
-abbrev pub TellsFirst : Problem → Script → EditFault → Type 0
+abbrev pub TellsFirst : Problem → Script → TextFault EditKind → Type 0
 TellsFirst p s Memory = Unit {0}
 TellsFirst p s (At line kind) = HasFaultAt p s line kind

@@ -9,9 +9,9 @@ use Rattle.text_rules.specs.declared.Section.TheVariants.{Preamble, MeasurementU
 use Rattle.problem_rules.specs.Names.{is_among, distinct}
 use Rattle.text_rules.specs.Line.{Placed, head_of}
 use Rattle.text_rules.specs.Field.{Line, taken_apart, lines_in, names_in, key_of}
-use Rattle.pns_text.specs.Once.{with_name}
+use Rattle.text_lines.specs.Once.{with_name}
 use Rattle.pns_text.specs.Seen.{Seen, seen_none, seen_after}
-use Rattle.pns_text.proofs.Naming.{bytes_eq-sym}
+use Rattle.text_lines.proofs.Naming.{bytes_eq-sym}
 
 -- lists with the same names, so many of them
 pub record SameNames (xs ys : List (List ℕ)) : Type 0 where

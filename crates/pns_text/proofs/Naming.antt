@@ -1,107 +1,11 @@
--- Names in a table, and names that come once.
-use Rattle.std.proofs.Common.{◌≡◌, ◌<◌, ◌&&◌, zero, suc, length, nat_le, slice_index, arith, ℕ, ◌+◌, Bool, true, false, cond, not, nat_lt, ◌||◌, Option, Some, None, List, [], ◌∷◌, ◌++◌, refl, sym, ap, ◌∙◌, if◌then◌else◌, append_assoc, append-nil}
-use Rattle.std.specs.Borrow.{Bor}
-use Rattle.std.specs.Str.{bytes_eq, IsUtf8, IsAscii}
-use Rattle.std.specs.List.{list_all, list_any, position, position_or_len}
+-- Names are ASCII.
+use Rattle.std.proofs.Common.{◌≡◌, ◌<◌, ◌&&◌, zero, suc, length, nat_le, slice_index, arith, ℕ, true, List, [], ◌∷◌}
+use Rattle.std.specs.Str.{IsUtf8, IsAscii}
+use Rattle.std.specs.List.{list_all}
 use Rattle.std.proofs.lemmas.Bool.{and_parts}
 use Rattle.std.proofs.lemmas.Bool.Decides.{nat_tests}
 use Rattle.std.proofs.lemmas.Str.{IsUtf8-from_ascii}
-use Rattle.std.proofs.lemmas.List.{length-map, map-append}
-use Rattle.std.proofs.lemmas.List.Folds.{list_any-append}
-use Rattle.std.proofs.lemmas.Cmp.{nat_list_eq_equiv}
-use Rattle.problem_rules.specs.Names.{is_name, begins_name, continues_name, is_among, has_double}
-use Rattle.text_lines.specs.View.{texts}
-use Rattle.pns_text.specs.Once.{with_name, once}
-
-pub bytes_eq-sym : (xs ys : List ℕ) → bytes_eq xs ys ≡ bytes_eq ys xs
-bytes_eq-sym xs ys = nat_list_eq_equiv.symm xs ys
-
--- a table has the text where it is among the names
-pub has_listed : (text : List ℕ) (keys : List (Bor (List ℕ))) → list_any (λ k. bytes_eq text k.now) keys ≡ is_among (texts keys) text
-has_listed text [] = refl
-has_listed text (k ∷ keys) = λ i. bytes_eq-sym text k.now i || has_listed text keys i
-
--- its number there
-position_or_len_listed : (text : List ℕ) (keys : List (Bor (List ℕ))) → position_or_len (λ k. bytes_eq text k.now) keys ≡ position_or_len (λ word. bytes_eq word text) (texts keys)
-position_or_len_listed text [] = refl
-position_or_len_listed text (k ∷ keys) = λ i. cond (not (bytes_eq-sym text k.now i)) (1 + position_or_len_listed text keys i) 0
-
-pub position_listed : (text : List ℕ) (keys : List (Bor (List ℕ))) → position (λ k. bytes_eq text k.now) keys ≡ position (λ word. bytes_eq word text) (texts keys)
-position_listed text keys = λ i. cond (nat_lt (position_or_len_listed text keys i) (sym (length-map keys (λ (k : Bor (List ℕ)). k.now)) i)) (Some (position_or_len_listed text keys i)) None
-
-texts_cond : (b : Bool) (keys : List (Bor (List ℕ))) (key : Bor (List ℕ)) → texts (if b then keys else keys ++ key ∷ []) ≡ (if b then texts keys else texts keys ++ key.now ∷ [])
-texts_cond true keys key = refl
-texts_cond false keys key = map-append (λ (k : Bor (List ℕ)). k.now) keys (key ∷ [])
-
--- a name goes last where it is new
-pub listed_with : (keys : List (Bor (List ℕ))) (key : Bor (List ℕ)) → texts (if list_any (λ k. bytes_eq key.now k.now) keys then keys else keys ++ key ∷ []) ≡ with_name (texts keys) key.now
-listed_with keys key =
-    texts_cond (list_any (λ k. bytes_eq key.now k.now) keys) keys key
-    ∙ ap (λ (b : Bool). if b then texts keys else texts keys ++ key.now ∷ []) (has_listed key.now keys)
-
--- names that come once, behind those that were seen
-abbrev pub once_from : List (List ℕ) → List (List ℕ) → Option (List (List ℕ))
-once_from seen [] = Some seen
-once_from seen (name ∷ names) = if is_among seen name then None else once_from (with_name seen name) names
-
-again : List (List ℕ) → List (List ℕ) → Bool
-again seen names = list_any (is_among seen) names || has_double names
-
-or_other : (a b : Bool) → (a || (b || false)) ≡ (b || a)
-or_other true true = refl
-or_other true false = refl
-or_other false true = refl
-or_other false false = refl
-
-mix : (a r b s : Bool) → ((b || a) || (r || s)) ≡ ((a || r) || (b || s))
-mix true r true s = refl
-mix true r false s = refl
-mix false true true s = refl
-mix false false true s = refl
-mix false true false s = refl
-mix false false false s = refl
-
-among_one : (seen : List (List ℕ)) (name x : List ℕ) → is_among (seen ++ name ∷ []) x ≡ (bytes_eq x name || is_among seen x)
-among_one seen name x = list_any-append (λ word. bytes_eq word x) seen (name ∷ []) ∙ or_other (is_among seen x) (bytes_eq name x) ∙ ap (λ (b : Bool). b || is_among seen x) (bytes_eq-sym name x)
-
--- a name is met again by those before it and by itself
-any_more : (seen : List (List ℕ)) (name : List ℕ) (names : List (List ℕ)) → list_any (is_among (seen ++ name ∷ [])) names ≡ (list_any (is_among seen) names || is_among names name)
-any_more seen name [] = refl
-any_more seen name (x ∷ names) =
-    ap (λ (b : Bool). b || list_any (is_among (seen ++ name ∷ [])) names) (among_one seen name x)
-    ∙ ap (λ (b : Bool). (bytes_eq x name || is_among seen x) || b) (any_more seen name names)
-    ∙ mix (is_among seen x) (list_any (is_among seen) names) (bytes_eq x name) (is_among names name)
-
-turn : (a b c d : Bool) → ((a || b) || d) ≡ (a || (b || d))
-turn true b c d = refl
-turn false b c d = refl
-
-apart : (seen : List (List ℕ)) (name : List ℕ) (names : List (List ℕ)) → again (seen ++ name ∷ []) names ≡ (list_any (is_among seen) names || (is_among names name || has_double names))
-unfolding again
-apart seen name names =
-    ap (λ (b : Bool). b || has_double names) (any_more seen name names)
-    ∙ turn (list_any (is_among seen) names) (is_among names name) true (has_double names)
-
-once_step : (b : Bool) (seen : List (List ℕ)) (name : List ℕ) (names : List (List ℕ))
-    → once_from (seen ++ name ∷ []) names ≡ (if again (seen ++ name ∷ []) names then None else Some ((seen ++ name ∷ []) ++ names))
-    → (if b then None else once_from (if b then seen else seen ++ name ∷ []) names) ≡ (if ((b || list_any (is_among seen) names) || (is_among names name || has_double names)) then None else Some (seen ++ name ∷ names))
-once_step true seen name names e = refl
-once_step false seen name names e =
-    e ∙ ap (λ (b : Bool). if b then None else Some ((seen ++ name ∷ []) ++ names)) (apart seen name names)
-    ∙ ap (λ (all : List (List ℕ)). if (list_any (is_among seen) names || (is_among names name || has_double names)) then None else Some all) (append_assoc seen (name ∷ []) names)
-
-once_all : (seen names : List (List ℕ)) → once_from seen names ≡ (if again seen names then None else Some (seen ++ names))
-unfolding again
-once_all seen [] = ap Some (sym (append-nil seen))
-once_all seen (name ∷ names) = once_step (is_among seen name) seen name names (once_all (seen ++ name ∷ []) names)
-
-none_again : (names : List (List ℕ)) → list_any (is_among []) names ≡ false
-none_again [] = refl
-none_again (name ∷ names) = none_again names
-
-pub once-all : (names : List (List ℕ)) → once_from [] names ≡ once names
-unfolding again
-once-all names = once_all [] names ∙ ap (λ (b : Bool). if (b || has_double names) then None else Some names) (none_again names)
+use Rattle.problem_rules.specs.Names.{is_name, begins_name, continues_name}
 
 low : (c : ℕ) → continues_name c ≡ true → c < 128
 low c h = grind (arith, nat_tests)

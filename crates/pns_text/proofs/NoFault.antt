@@ -58,11 +58,6 @@ if_colon false fault e = cc
 pub rates_new : (names seen : List (List ℕ)) (name text : List ℕ) (sides : List (List (List (List ℕ)))) → rates_fault names seen name text sides ≡ None → is_among names name ≡ false
 rates_new names seen name text sides e = sides_new names seen name (sides_read sides) (if_colon (list_any is_colon text) (sides_fault names seen name (sides_read sides)) e)
 
--- a new name goes last
-pub with_new : (b : Bool) (names : List (List ℕ)) (name : List ℕ) → b ≡ false → (if b then names else names ++ name ∷ []) ≡ names ++ name ∷ []
-with_new true names name e = cc
-with_new false names name e = refl
-
 pub members_once : (names : List (List ℕ)) (text name : List ℕ) (items : List (List ℕ)) → exclusion_fault names text name items ≡ None → has_double items ≡ false
 members_once names text name items e = let none = none_stand (exclusion_stands names text name items) exclusion_kinds e in none.1.1.1.1.0
 

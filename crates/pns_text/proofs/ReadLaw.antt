@@ -6,15 +6,16 @@ use Rattle.text_rules.specs.Line.{Placed, lines_of, body_of}
 use Rattle.text_rules.specs.Fault as rules
 use Rattle.text_rules.specs.Fault.{form_fault, parts_of, first_of}
 use Rattle.text_rules.specs.Value.{stands_in, meaning_kinds, meaning_fault, problem_of, read_lines, read_text}
-use Rattle.pns_text.specs.Fault.{Tells}
+use Rattle.text_lines.specs.Tells.{Tells}
 use Rattle.pns_text.specs.Kept.{lines_apart}
 use Rattle.pns_text.specs.Settings.{Settings, settings_of}
 use Rattle.pns_text.specs.Meaning.{Names, first_meaning}
 use Rattle.pns_text.specs.Value.{problem_from}
 use Rattle.pns_text.specs.Reading.{names_all, has_product, with_product, or_first, meaning_at}
 use Rattle.pns_text.specs.Walk.{Walk, matters, walk_start, walk}
-use Rattle.pns_text.specs.declared.fault.TextFault.{TextFault}
-use Rattle.pns_text.specs.declared.fault.TextFault.TheVariants.{At, Memory}
+use Rattle.text_lines.specs.declared.fault.TextFault.{TextFault}
+use Rattle.text_rules.specs.declared.TextKind.{TextKind}
+use Rattle.text_lines.specs.declared.fault.TextFault.TheVariants.{At, Memory}
 use Rattle.pns_text.proofs.MeaningLaw.{problem_is, meaning_is}
 use Rattle.pns_text.proofs.WalkLaw.{ending, walked, walk_is, walked_keeps, walked_counts}
 
@@ -68,7 +69,7 @@ read_all (first ∷ texts) = read_first first texts
 pub read_is : (bytes : List ℕ) → read_text bytes ≡ readings (walk (lines_of bytes))
 read_is bytes = read_all (lines_of bytes)
 
-pub walk_tells : (fault : TextFault) (bytes : List ℕ) → Tells (walk (lines_of bytes)) fault → Tells (read_text bytes) fault
+pub walk_tells : (fault : TextFault TextKind) (bytes : List ℕ) → Tells (walk (lines_of bytes)) fault → Tells (read_text bytes) fault
 walk_tells Memory bytes told = tt
 walk_tells (At line kind) bytes told = read_is bytes ∙ ap readings told
 

@@ -14,7 +14,7 @@ use Rattle.pns_text.specs.Walk.{Walk, HasNames, walk_start, walk_past, placed_at
 use Rattle.pns_text.specs.Meaning.{Names}
 use Rattle.pns_text.specs.Reading.{names_all}
 use Rattle.pns_text.specs.View.{walk_view}
-use Rattle.pns_text.specs.declared.fault.TextFault.{TextFault}
+use Rattle.text_lines.specs.declared.fault.TextFault.{TextFault}
 use Rattle.pns_text.specs.declared.walk.Walk as declared
 use Rattle.pns_text.proofs.Walking.{or_walk, walk_step}
 
@@ -126,7 +126,7 @@ pub names_walk : (texts : List (List ℕ)) (end : Walk) → walk texts ≡ Ok en
 names_walk [] end e = cc
 names_walk (first ∷ texts) end e = typed_names (bytes_eq first file_type) texts end e
 
-pub names_read : (r : Result declared.Walk TextFault) (texts : List (List ℕ)) (reading : Result Walk rules.Fault) → walk texts ≡ reading → IfOk r (λ w. reading ≡ Ok (walk_view w)) → IfOk r (λ w. HasNames (walk_view w))
+pub names_read : (r : Result declared.Walk (TextFault TextKind)) (texts : List (List ℕ)) (reading : Result Walk rules.Fault) → walk texts ≡ reading → IfOk r (λ w. reading ≡ Ok (walk_view w)) → IfOk r (λ w. HasNames (walk_view w))
 names_read (Ok w) texts reading e is = names_walk texts (walk_view w) (e ∙ is)
 names_read (Err fault) texts reading e is = tt
 

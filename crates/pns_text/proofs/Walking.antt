@@ -7,10 +7,11 @@ use Rattle.text_rules.specs.Fault.{file_type}
 use Rattle.text_rules.specs.declared.TextKind.TheVariants.{FileType}
 use Rattle.text_rules.specs.Line.{lines_of, without_mark}
 use Rattle.text_lines.specs.Lines.{lines_from}
-use Rattle.pns_text.specs.Fault.{Tells}
+use Rattle.text_lines.specs.Tells.{Tells}
 use Rattle.pns_text.specs.Walk.{Walk, walk_start, step, walk_from, walk}
-use Rattle.pns_text.specs.declared.fault.TextFault.{TextFault}
-use Rattle.pns_text.specs.declared.fault.TextFault.TheVariants.{At, Memory}
+use Rattle.text_lines.specs.declared.fault.TextFault.{TextFault}
+use Rattle.text_rules.specs.declared.TextKind.{TextKind}
+use Rattle.text_lines.specs.declared.fault.TextFault.TheVariants.{At, Memory}
 
 abbrev pub or_walk : Result Walk rules.Fault → List (List ℕ) → Result Walk rules.Fault
 or_walk (Ok next) texts = walk_from next texts
@@ -33,7 +34,7 @@ walk-end w [] e = refl
 walk-end w (x ∷ xs) e = absurd (omega arith)
 
 -- at a line with a fault
-pub walk-fault : (fault : TextFault) (w : Walk) (rest behind text : List ℕ) (whole : Result Walk rules.Fault) → lines_from rest ≡ text ∷ lines_from behind → Tells (step w text) fault → walk_from w (lines_from rest) ≡ whole → Tells whole fault
+pub walk-fault : (fault : TextFault TextKind) (w : Walk) (rest behind text : List ℕ) (whole : Result Walk rules.Fault) → lines_from rest ≡ text ∷ lines_from behind → Tells (step w text) fault → walk_from w (lines_from rest) ≡ whole → Tells whole fault
 walk-fault Memory w rest behind text whole cut bad kept = tt
 walk-fault (At line kind) w rest behind text whole cut bad kept =
     sym kept ∙ ap (walk_from w) cut ∙ walk_step w text (lines_from behind) ∙ ap (λ (r : Result Walk rules.Fault). or_walk r (lines_from behind)) bad

@@ -6,7 +6,6 @@ pub mod Item
 pub mod Kept
 pub mod MaterialLine
 pub mod Meaning
-pub mod Once
 pub mod RatesLine
 pub mod Reading
 pub mod Seen

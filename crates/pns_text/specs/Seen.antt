@@ -7,7 +7,7 @@ use Rattle.text_rules.specs.declared.Section.{Section}
 use Rattle.text_rules.specs.declared.Section.TheVariants.{Preamble, MeasurementUnits, Defaults, Materials, OperatingUnits, Rates, Exclusions}
 use Rattle.text_rules.specs.Line.{section_named, Placed, head_of}
 use Rattle.text_rules.specs.Field.{has_key, key_of, items_of, sides_of}
-use Rattle.pns_text.specs.Once.{with_name}
+use Rattle.text_lines.specs.Once.{with_name}
 use Rattle.pns_text.specs.MaterialLine.{material_fault}
 use Rattle.pns_text.specs.UnitLine.{unit_fault}
 use Rattle.pns_text.specs.RatesLine.{rates_fault}

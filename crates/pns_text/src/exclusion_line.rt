@@ -9,11 +9,11 @@ ghost use Rattle.pns_text.specs.Fault.{TellsKind};
 ghost use Rattle.pns_text.specs.ExclusionLine.{exclusion_fault};
 
 use crate::fault::TextFault;
-use crate::name_set::{NameSet, once};
 use std::alloc::{AllocError, Global};
 use text_lines::field::items_of;
 use text_lines::line::{has_colon, head_of};
 use text_lines::name::is_name;
+use text_lines::name_set::{NameSet, once};
 use text_rules::TextKind;
 
 fn some_empty(items: &[&[u8]]) -> bool

@@ -14,7 +14,6 @@ mod fault;
 mod item;
 mod material_line;
 mod meaning;
-mod name_set;
 mod rates_line;
 mod read;
 mod seen;

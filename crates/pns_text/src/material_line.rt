@@ -11,10 +11,10 @@ use crate::fault::TextFault;
 use crate::item::{
     Item, items_of, some_double_key, some_empty, some_item_stands, some_unknown_material_key,
 };
-use crate::name_set::NameSet;
 use std::alloc::Global;
 use text_lines::line::head_of;
 use text_lines::name::is_name;
+use text_lines::name_set::NameSet;
 use text_rules::TextKind;
 
 fn some_unknown_kind(items: &[Item<'_>]) -> bool

@@ -11,10 +11,10 @@ ghost use Rattle.pns_text.specs.View.{settings_view, names_view};
 
 use crate::cut::{Cut, Kept};
 use crate::item::Item;
-use crate::name_set::NameSet;
 use crate::settings::Settings;
 use std::alloc::{AllocError, Global};
 use text_lines::line::head_of;
+use text_lines::name_set::NameSet;
 use text_lines::term::{Sides, Term};
 use text_rules::{Section, TextKind};
 

@@ -11,12 +11,12 @@ ghost use Rattle.pns_text.specs.RatesLine.{names_of, rate_stands, is_faulty, dou
 
 use crate::fault::TextFault;
 use crate::item::number_stands;
-use crate::name_set::{NameSet, once};
 use crate::unit_line::is_beyond;
 use std::alloc::{AllocError, Global};
 use text_lines::amount::read_amount;
 use text_lines::line::{has_colon, head_of};
 use text_lines::name::is_name;
+use text_lines::name_set::{NameSet, once};
 use text_lines::term::{Sides, Term, sides_of};
 use text_rules::TextKind;
 

@@ -3,7 +3,7 @@ ghost use Rattle.std.specs.Prelude.{◌≡◌, true, ◌<◌, ◌-◌, ◌^◌, 
 ghost use Rattle.problem_rules.specs.Problem as rules;
 ghost use Rattle.problem_rules.specs.Validity.{IsValid};
 ghost use Rattle.text_rules.specs.Value.{read_text};
-ghost use Rattle.pns_text.specs.Fault.{Tells};
+ghost use Rattle.text_lines.specs.Tells.{Tells};
 ghost use Rattle.pns_text.specs.View.{names_view};
 ghost use Rattle.pns_text.specs.Reading.{has_product, with_product, names_all, meaning_at};
 

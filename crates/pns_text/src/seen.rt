@@ -13,13 +13,13 @@ use crate::exclusion_line::members;
 use crate::fault::TextFault;
 use crate::material_line::material_items;
 use crate::meaning::Names;
-use crate::name_set::NameSet;
 use crate::rates_line::rates_sides;
 use crate::unit_line::unit_items;
 use std::alloc::{AllocError, Global};
 use text_lines::field::{has_key, key_of};
 use text_lines::line::head_of;
 use text_lines::name::is_among;
+use text_lines::name_set::NameSet;
 use text_lines::section::section_named;
 use text_rules::{Section, TextKind};
 

@@ -1,6 +1,5 @@
 //! The defaults, and the values of materials and units by them.
 ghost use Rattle.std.specs.Prelude.{◌≡◌, ◌/◌, codes, option_map, pos, unsigned_abs};
-ghost use Rattle.text_rules.specs.Fault.{millionths};
 ghost use Rattle.text_rules.specs.Value.{value_at, kind_of};
 ghost use Rattle.problem_rules.specs.Problem.{intermediate};
 ghost use Rattle.pns_problem.specs.Kind as kinds;
@@ -12,7 +11,7 @@ ghost use Rattle.pns_text.specs.View.{settings_view};
 use crate::cut::Kept;
 use crate::item::{Item, field_at};
 use pns_problem::Kind;
-use text_lines::amount::read_amount;
+use text_lines::amount::millionths;
 use text_lines::field::{key_of, value_of};
 use text_rules::Section;
 
@@ -29,16 +28,6 @@ pub struct Settings {
     pub proportional: i64,
     pub investment_fix: i64,
     pub investment_proportional: i64,
-}
-
-/// The number of the text, which is 0 where it has a fault.
-pub(crate) fn number_of(text: &[u8]) -> i64
-    ensures { result ≡ millionths text.now }
-{
-    match read_amount(text) {
-        Ok(amount) => amount,
-        Err(_) => 0,
-    }
 }
 
 // The kind that the word stands for.
@@ -71,7 +60,7 @@ fn default_number(lines: &[Kept<'_>], key: &[u8], built_in: i64) -> i64
     ensures { result ≡ default_number (lines_apart lines.now) key.now built_in }
 {
     match default_at(lines, key) {
-        Some(text) => number_of(text),
+        Some(text) => millionths(text),
         None => built_in,
     }
 }

@@ -8,10 +8,10 @@ ghost use Rattle.pns_text.specs.UnitLine.{unit_fault, is_beyond};
 
 use crate::fault::TextFault;
 use crate::item::{Item, items_of, some_double_key, some_item_stands, some_unknown_unit_key};
-use crate::name_set::NameSet;
 use std::alloc::Global;
 use text_lines::line::head_of;
 use text_lines::name::is_name;
+use text_lines::name_set::NameSet;
 use text_rules::TextKind;
 
 fn some_without_key(items: &[Item<'_>]) -> bool

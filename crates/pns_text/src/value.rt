@@ -14,15 +14,15 @@ ghost use Rattle.pns_text.specs.View.{settings_view};
 use crate::cut::Kept;
 use crate::item::Item;
 use crate::meaning::{Names, heads_at};
-use crate::name_set::{NameSet, once};
 use crate::settings::{
     Settings, capacity_lower_at, capacity_upper_at, fix_at, flow_lower_at, flow_upper_at,
-    investment_fix_at, investment_proportional_at, kind_at, number_of, payout_of, price_at,
-    proportional_at,
+    investment_fix_at, investment_proportional_at, kind_at, payout_of, price_at, proportional_at,
 };
 use pns_problem::{Exclusion, Material, OperatingUnit, Parts, Term};
 use std::alloc::{AllocError, Global};
 use std::str;
+use text_lines::amount::millionths;
+use text_lines::name_set::{NameSet, once};
 use text_lines::term;
 use text_rules::Section;
 
@@ -89,7 +89,7 @@ fn term(names: &NameSet<'_>, term: &term::Term<'_>) -> Term
 {
     Term {
         material: number_named(names, term.name),
-        rate: number_of(term.number),
+        rate: millionths(term.number),
     }
 }
 

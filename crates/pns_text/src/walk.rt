@@ -3,7 +3,7 @@ ghost use Rattle.std.specs.Prelude.{◌≡◌, ◌<◌, ◌+◌, ◌-◌, ◌^�
 ghost use Rattle.text_rules.specs.Line.{lines_of};
 ghost use Rattle.text_lines.specs.Lines.{lines_from};
 ghost use Rattle.pns_text.specs.Cut.{Keeps};
-ghost use Rattle.pns_text.specs.Fault.{Tells};
+ghost use Rattle.text_lines.specs.Tells.{Tells};
 ghost use Rattle.pns_text.specs.View.{placed_view, walk_view};
 ghost use Rattle.pns_text.specs.Walk.{walk_start, kept_after, placed_at, take_line, step, walk_from, walk, HasNames};
 

@@ -2,6 +2,8 @@ pub mod Borrowed
 pub mod Cutting
 pub mod Mantissa
 pub mod Marks
+pub mod Naming
 pub mod Plain
 pub mod Sides
 pub mod Tens
+pub mod Whole

@@ -1,3 +1,5 @@
 pub mod Lines
+pub mod Once
+pub mod Tells
 pub mod Terms
 pub mod View

@@ -4,6 +4,7 @@ ghost use Rattle.std.specs.Bool.{OnTrue};
 ghost use Rattle.std.specs.List.{list_all, list_any, position_or_len, after_first};
 ghost use Rattle.std.specs.Char.{is_ascii_digit};
 ghost use Rattle.text_rules.specs.Amount.{is_point, is_digit_or_point, is_sign, is_exponent_mark, has_minus, without_sign, number_from, number_of, mantissa, exponent, is_mantissa, is_exponent, is_number, tens_for, tens_against, scaled, scaled_by, with_sign, amount_of};
+ghost use Rattle.text_rules.specs.Fault.{millionths};
 
 use crate::line::place_of;
 use text_rules::TextKind;
@@ -304,4 +305,14 @@ pub fn read_amount(text: &[u8]) -> Result<i64, TextKind>
     }
     let size = magnitude(mantissa, exponent)? as i64;
     Ok(if has_minus(text) { -size } else { size })
+}
+
+/// The amount in millionths, which is 0 where the text is none.
+pub fn millionths(text: &[u8]) -> i64
+    ensures { result ≡ millionths text.now }
+{
+    match read_amount(text) {
+        Ok(amount) => amount,
+        Err(_) => 0,
+    }
 }

@@ -47,7 +47,8 @@ pub fn place_of(byte: u8, text: &[u8]) -> usize
     text.len()
 }
 
-fn without_return(text: &[u8]) -> &[u8]
+/// The line without the carriage return at its end, where it has one.
+pub fn without_return(text: &[u8]) -> &[u8]
     ensures { result.now ≡ without_return text.now }
 {
     match text {

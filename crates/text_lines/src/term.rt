@@ -1,5 +1,5 @@
 //! The terms of a line of rates, on both sides of its arrow.
-ghost use Rattle.std.specs.Prelude.{◌≡◌, ◌≤◌, ◌==◌, IfOk, length, filter, not, option_map};
+ghost use Rattle.std.specs.Prelude.{◌≡◌, ◌≤◌, ◌==◌, IfOk, length, filter, map, not, option_map};
 ghost use Rattle.std.specs.List.{slice_split, position_or_len};
 ghost use Rattle.text_rules.specs.Blanks.{is_blank};
 ghost use Rattle.text_rules.specs.Field.{tokens_of, terms_of, sides_of};
@@ -128,16 +128,24 @@ fn cut_sides<'b, 'a>(tokens: &'b [&'a [u8]]) -> Option<(&'b [&'a [u8]], &'b [&'a
     Some((&tokens[..at], right))
 }
 
+/// The terms on both sides of the arrow among the tokens; none where there is not exactly one arrow, or where a term is
+/// neither a name nor a number and a name.
+pub fn sides_in<'a>(alloc: Global, tokens: &[&'a [u8]]) -> Result<Option<Sides<'a>>, AllocError>
+    ensures { IfOk result (λ found. option_map sides_view found ≡ sides_read (map terms_of (slice_split is_arrow (texts tokens.now)))) }
+{
+    match cut_sides(tokens) {
+        Some((left, right)) => read_sides(alloc, left, right),
+        None => Ok(None),
+    }
+}
+
 /// The terms on both sides of the arrow behind the line's colon; none where there is not exactly one arrow, or where a
 /// term is neither a name nor a number and a name.
 pub fn sides_of<'a>(alloc: Global, text: &'a [u8]) -> Result<Option<Sides<'a>>, AllocError>
     ensures { IfOk result (λ found. option_map sides_view found ≡ sides_read (sides_of text.now)) }
 {
     let tokens = tokens_of(alloc, tail_of(text))?;
-    match cut_sides(&tokens) {
-        Some((left, right)) => read_sides(alloc, left, right),
-        None => Ok(None),
-    }
+    sides_in(alloc, &tokens)
 }
 
 // The terms on both sides, or none where a term has not its form.

@@ -1,7 +1,7 @@
 use Rattle.std.proofs.Common.{◌≡◌, ℕ, ℤ, List, Result, Ok, IfOk, IfErr, string_bytes, subst, sym, ap}
 use Rattle.script_rules.specs.declared.EditKind.{EditKind}
 use Rattle.script_rules.specs.Read.{fixed_read}
-use Rattle.edit_scripts.specs.Tells.{TellsLine}
+use Rattle.text_lines.specs.Tells.{TellsLine}
 use Rattle.edit_scripts.proofs.TokenCounts.{two_of, not_fixed}
 use Rattle.edit_scripts.proofs.fields.fixed.Goals as goal
 

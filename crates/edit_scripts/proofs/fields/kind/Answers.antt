@@ -3,7 +3,7 @@ use Rattle.problem_rules.specs.Problem as rules
 use Rattle.pns_problem.specs.Kind as kinds
 use Rattle.script_rules.specs.declared.EditKind.{EditKind}
 use Rattle.script_rules.specs.Read.{kind_read}
-use Rattle.edit_scripts.specs.Tells.{TellsLine}
+use Rattle.text_lines.specs.Tells.{TellsLine}
 use Rattle.edit_scripts.proofs.TokenCounts.{two_of, not_kind}
 use Rattle.edit_scripts.proofs.fields.kind.Goals as goal
 

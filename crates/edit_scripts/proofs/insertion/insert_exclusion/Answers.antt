@@ -1,7 +1,7 @@
 use Rattle.std.proofs.Common.{◌≡◌, Result, Ok, IfOk, IfErr, subst, sym}
 use Rattle.edit_rules.specs.Edit as rules
 use Rattle.script_rules.specs.declared.EditKind.{EditKind}
-use Rattle.edit_scripts.specs.Tells.{TellsLine}
+use Rattle.text_lines.specs.Tells.{TellsLine}
 use Rattle.edit_scripts.specs.View.{edit_of}
 use Rattle.edit_scripts.proofs.TokenCounts.{exclusion_at, not_exclusion}
 use Rattle.edit_scripts.proofs.insertion.insert_exclusion.Goals as goal

@@ -2,7 +2,7 @@ use Rattle.std.proofs.Common.{◌≡◌, Result, Ok, IfOk, IfErr, subst, sym, ap
 use Rattle.edit_rules.specs.Edit as rules
 use Rattle.script_rules.specs.declared.EditKind.{EditKind}
 use Rattle.script_rules.specs.Read.{material_read}
-use Rattle.edit_scripts.specs.Tells.{TellsLine}
+use Rattle.text_lines.specs.Tells.{TellsLine}
 use Rattle.edit_scripts.specs.View.{edit_of}
 use Rattle.edit_scripts.proofs.TokenCounts.{six_of, not_material}
 use Rattle.edit_scripts.proofs.insertion.insert_material.Goals as goal

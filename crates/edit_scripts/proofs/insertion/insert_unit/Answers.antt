@@ -3,7 +3,7 @@ use Rattle.std.specs.Str.{bytes_eq}
 use Rattle.std.specs.Borrow.{Bor}
 use Rattle.edit_rules.specs.Edit as rules
 use Rattle.script_rules.specs.declared.EditKind.{EditKind}
-use Rattle.edit_scripts.specs.Tells.{TellsLine}
+use Rattle.text_lines.specs.Tells.{TellsLine}
 use Rattle.edit_scripts.specs.View.{edit_of}
 use Rattle.edit_scripts.proofs.TokenCounts.{unit_at, not_unit}
 use Rattle.edit_scripts.proofs.insertion.insert_unit.Goals as goal

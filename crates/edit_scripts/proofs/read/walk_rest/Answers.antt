@@ -3,7 +3,7 @@ use Rattle.std.proofs.lemmas.Bool.{eqb-true}
 use Rattle.edit_rules.specs.Edit.{Script}
 use Rattle.script_rules.specs.Fault.{Fault}
 use Rattle.script_rules.specs.Line.{script_lines}
-use Rattle.edit_scripts.specs.Tells.{Tells}
+use Rattle.text_lines.specs.Tells.{Tells}
 use Rattle.edit_scripts.specs.View.{edit_of}
 use Rattle.edit_scripts.specs.Walk.{read_on}
 use Rattle.edit_scripts.proofs.Reading.{read_to_end}

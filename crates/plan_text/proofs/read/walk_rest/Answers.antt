@@ -2,7 +2,7 @@ use Rattle.std.proofs.Common.{length, Result, List, sym, subst, ap, ◌∙◌, a
 use Rattle.std.proofs.lemmas.Bool.{eqb-true}
 use Rattle.script_rules.specs.Line.{script_lines}
 use Rattle.plan_rules.specs.Read.{Fault, Line}
-use Rattle.plan_text.specs.Tells.{Tells}
+use Rattle.text_lines.specs.Tells.{Tells}
 use Rattle.plan_text.specs.Walk.{read_on}
 use Rattle.plan_text.proofs.Reading.{read_to_end, no_lines}
 use Rattle.plan_text.proofs.read.walk_rest.Goals as goal

@@ -3,7 +3,7 @@ use Rattle.problem_rules.specs.Problem.{Problem}
 use Rattle.text_rules.specs.Line.{Placed}
 use Rattle.text_rules.specs.Fault as rules
 use Rattle.text_rules.specs.Value.{read_text}
-use Rattle.pns_text.specs.Fault.{Tells}
+use Rattle.text_lines.specs.Tells.{Tells}
 use Rattle.pns_text.specs.Reading.{meaning_at}
 use Rattle.pns_text.specs.Reading.{names_all}
 use Rattle.pns_text.specs.View.{walk_view}

@@ -4,7 +4,7 @@ use Rattle.text_rules.specs.Fault as rules
 use Rattle.text_rules.specs.Fault.{file_type}
 use Rattle.text_rules.specs.Line.{lines_of}
 use Rattle.text_lines.specs.Lines.{lines_from}
-use Rattle.pns_text.specs.Fault.{Tells}
+use Rattle.text_lines.specs.Tells.{Tells}
 use Rattle.pns_text.specs.View.{walk_view}
 use Rattle.pns_text.specs.Walk.{Walk, walk_start, walk_from, walk}
 use Rattle.pns_text.proofs.Walking.{walk-typed}

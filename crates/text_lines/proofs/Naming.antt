@@ -1,14 +1,14 @@
 -- Names in a table, and names that come once.
-use Rattle.std.proofs.Common.{◌<◌, length, map, take, get_or, ◌≡◌, ℕ, ◌+◌, Bool, true, false, ◌||◌, Option, Some, None, List, [], ◌∷◌, ◌++◌, refl, sym, ap, ◌∙◌, if◌then◌else◌, append_assoc, append-nil}
+use Rattle.std.proofs.Common.{◌≡◌, ℕ, ◌+◌, Bool, true, false, cond, not, nat_lt, ◌||◌, Option, Some, None, List, [], ◌∷◌, ◌++◌, refl, sym, ap, ◌∙◌, if◌then◌else◌, append_assoc, append-nil}
 use Rattle.std.specs.Borrow.{Bor}
 use Rattle.std.specs.Str.{bytes_eq}
-use Rattle.std.specs.List.{list_any}
-use Rattle.std.proofs.lemmas.List.{map-append, take_more}
+use Rattle.std.specs.List.{list_any, position, position_or_len}
+use Rattle.std.proofs.lemmas.List.{length-map, map-append}
 use Rattle.std.proofs.lemmas.List.Folds.{list_any-append}
 use Rattle.std.proofs.lemmas.Cmp.{nat_list_eq_equiv}
 use Rattle.problem_rules.specs.Names.{is_among, has_double}
 use Rattle.text_lines.specs.View.{texts}
-use Rattle.edit_scripts.specs.Once.{with_name, once}
+use Rattle.text_lines.specs.Once.{with_name, once}
 
 pub bytes_eq-sym : (xs ys : List ℕ) → bytes_eq xs ys ≡ bytes_eq ys xs
 bytes_eq-sym xs ys = nat_list_eq_equiv.symm xs ys
@@ -17,6 +17,14 @@ bytes_eq-sym xs ys = nat_list_eq_equiv.symm xs ys
 pub has_listed : (text : List ℕ) (keys : List (Bor (List ℕ))) → list_any (λ k. bytes_eq text k.now) keys ≡ is_among (texts keys) text
 has_listed text [] = refl
 has_listed text (k ∷ keys) = λ i. bytes_eq-sym text k.now i || has_listed text keys i
+
+-- its number there
+position_or_len_listed : (text : List ℕ) (keys : List (Bor (List ℕ))) → position_or_len (λ k. bytes_eq text k.now) keys ≡ position_or_len (λ word. bytes_eq word text) (texts keys)
+position_or_len_listed text [] = refl
+position_or_len_listed text (k ∷ keys) = λ i. cond (not (bytes_eq-sym text k.now i)) (1 + position_or_len_listed text keys i) 0
+
+pub position_listed : (text : List ℕ) (keys : List (Bor (List ℕ))) → position (λ k. bytes_eq text k.now) keys ≡ position (λ word. bytes_eq word text) (texts keys)
+position_listed text keys = λ i. cond (nat_lt (position_or_len_listed text keys i) (sym (length-map keys (λ (k : Bor (List ℕ)). k.now)) i)) (Some (position_or_len_listed text keys i)) None
 
 texts_cond : (b : Bool) (keys : List (Bor (List ℕ))) (key : Bor (List ℕ)) → texts (if b then keys else keys ++ key ∷ []) ≡ (if b then texts keys else texts keys ++ key.now ∷ [])
 texts_cond true keys key = refl
@@ -92,9 +100,7 @@ pub once-all : (names : List (List ℕ)) → once_from [] names ≡ once names
 unfolding again
 once-all names = once_all [] names ∙ ap (λ (b : Bool). if (b || has_double names) then None else Some names) (none_again names)
 
--- two maps over one more
-pub maps_more : {A B C : Type 0} (f : B → C) (v : A → B) (xs : List A) (i : ℕ) (d : A) → i < length xs → map f (map v (take (i + 1) xs)) ≡ map f (map v (take i xs)) ++ f (v (get_or xs i d)) ∷ []
-maps_more {A} {B} f v xs i d lt =
-    ap (λ (ys : List A). map f (map v ys)) (take_more xs i d lt)
-    ∙ ap (map f) (map-append v (take i xs) (get_or xs i d ∷ []))
-    ∙ map-append f (map v (take i xs)) (v (get_or xs i d) ∷ [])
+-- a new name goes last
+pub with_new : (b : Bool) (names : List (List ℕ)) (name : List ℕ) → b ≡ false → (if b then names else names ++ name ∷ []) ≡ names ++ name ∷ []
+with_new true names name e = cc
+with_new false names name e = refl

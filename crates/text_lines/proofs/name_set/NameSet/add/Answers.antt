@@ -1,9 +1,9 @@
 use Rattle.std.proofs.Common.{not, ap, ◌∙◌}
 use Rattle.problem_rules.specs.Names.{is_among}
 use Rattle.text_lines.specs.View.{texts}
-use Rattle.pns_text.specs.Once.{with_name}
-use Rattle.pns_text.proofs.Naming.{has_listed, listed_with}
-use Rattle.pns_text.proofs.name_set.NameSet.add.Goals as goal
+use Rattle.text_lines.specs.Once.{with_name}
+use Rattle.text_lines.proofs.Naming.{has_listed, listed_with}
+use Rattle.text_lines.proofs.name_set.NameSet.add.Goals as goal
 
 pub returns-clause-new : goal.returns-clause-new
 returns-clause-new c =

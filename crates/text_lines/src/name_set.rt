@@ -1,8 +1,10 @@
 //! Names, each once, found by a look-up.
-ghost use Rattle.std.specs.Prelude.{◌≡◌, IfOk, not, OnOk, []};
+ghost use Rattle.std.specs.Prelude.{◌≡◌, ◌++◌, ◌∷◌, IfOk, not, OnOk, [], Option, false, length};
+ghost use Rattle.std.specs.List.{position};
+ghost use Rattle.std.specs.Str.{bytes_eq};
 ghost use Rattle.problem_rules.specs.Names.{is_among};
 ghost use Rattle.text_lines.specs.View.{texts};
-ghost use Rattle.edit_scripts.specs.Once.{with_name, once};
+ghost use Rattle.text_lines.specs.Once.{with_name, once};
 
 use indexmap::IndexSet;
 use std::alloc::{AllocError, Global};
@@ -24,7 +26,6 @@ impl<'a> Model for NameSet<'a> {
 }
 
 impl<'a> NameSet<'a> {
-    /// No names.
     pub fn new(alloc: Global) -> NameSet<'a>
         ensures { result ≡ [] }
     {
@@ -33,13 +34,19 @@ impl<'a> NameSet<'a> {
         }
     }
 
-    pub(crate) fn has(&self, name: &[u8]) -> bool
+    pub fn len(&self) -> usize
+        ensures { result ≡ length self.now }
+    {
+        self.names.len()
+    }
+
+    pub fn has(&self, name: &[u8]) -> bool
         ensures { result ≡ is_among self.now name.now }
     {
         self.names.contains(&name)
     }
 
-    /// Adds the name, and tells whether it is new.
+    /// Adds a name that is new or not, and tells which.
     pub fn add(&mut self, name: &'a [u8]) -> Result<bool, AllocError>
         ensures new { IfOk result (λ is_new. is_new ≡ not (is_among self.old name.now)) }
         ensures added { OnOk result (self.new ≡ with_name self.old name.now) }
@@ -47,14 +54,30 @@ impl<'a> NameSet<'a> {
         let (_, is_new) = self.names.insert_full(name)?;
         Ok(is_new)
     }
+
+    /// Adds a name that is new.
+    #[tactic(auto, using(crate::proofs::Naming::with_new))]
+    pub fn push(&mut self, name: &'a [u8]) -> Result<(), AllocError>
+        requires { is_among self.old name.now ≡ false }
+        ensures { OnOk result (self.new ≡ self.old ++ name.now ∷ []) }
+    {
+        self.add(name)?;
+        Ok(())
+    }
+
+    pub fn number_of(&self, name: &[u8]) -> Option<usize>
+        ensures { result ≡ position (λ word. bytes_eq word name.now) self.now }
+    {
+        self.names.get_index_of(&name)
+    }
 }
 
 /// The names as a set, or none where one comes twice.
-pub(crate) fn once<'a>(alloc: Global, names: &[&'a [u8]]) -> Result<Option<NameSet<'a>>, AllocError>
+pub fn once<'a>(alloc: Global, names: &[&'a [u8]]) -> Result<Option<NameSet<'a>>, AllocError>
     ensures { IfOk result (λ found. found ≡ once (texts names.now)) }
 {
     let mut set = NameSet::new(alloc);
-    'adding: for name in names {
+    for name in names {
         if !set.add(*name)? {
             return Ok(None);
         }

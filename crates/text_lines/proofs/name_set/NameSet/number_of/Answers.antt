@@ -1,8 +1,8 @@
 use Rattle.std.proofs.Common.{ap, ◌∙◌}
 use Rattle.std.specs.List.{position}
 use Rattle.std.specs.Str.{bytes_eq}
-use Rattle.pns_text.proofs.Naming.{position_listed}
-use Rattle.pns_text.proofs.name_set.NameSet.number_of.Goals as goal
+use Rattle.text_lines.proofs.Naming.{position_listed}
+use Rattle.text_lines.proofs.name_set.NameSet.number_of.Goals as goal
 
 pub returns : goal.returns
 returns c =

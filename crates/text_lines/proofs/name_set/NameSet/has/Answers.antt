@@ -1,7 +1,7 @@
 use Rattle.std.proofs.Common.{ap, ◌∙◌}
 use Rattle.problem_rules.specs.Names.{is_among}
-use Rattle.pns_text.proofs.Naming.{has_listed}
-use Rattle.pns_text.proofs.name_set.NameSet.has.Goals as goal
+use Rattle.text_lines.proofs.Naming.{has_listed}
+use Rattle.text_lines.proofs.name_set.NameSet.has.Goals as goal
 
 pub returns : goal.returns
 returns c = c.contains.ensures ∙ (has_listed c.args.name.now c.self.inside.names.keys ∙ ap (λ names. is_among names c.args.name.now) c.self.view_is)

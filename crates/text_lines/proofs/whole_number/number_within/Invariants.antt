@@ -1,6 +1,6 @@
 use Rattle.std.proofs.Common.{◌≡◌, ◌≤◌, drop}
 use Rattle.text_rules.specs.Amount.{number_from, number_of}
-use Rattle.edit_scripts.proofs.token.number_within.Given as goal
+use Rattle.text_lines.proofs.whole_number.number_within.Given as goal
 
 -- the digits to come finish the number
 abbrev pub invariant-reading : goal.invariant-reading

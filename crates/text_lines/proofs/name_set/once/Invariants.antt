@@ -1,8 +1,8 @@
 use Rattle.std.proofs.Common.{◌≡◌, drop}
 use Rattle.text_lines.specs.View.{texts}
-use Rattle.pns_text.specs.Once.{once}
-use Rattle.pns_text.proofs.Naming.{once_from}
-use Rattle.pns_text.proofs.name_set.once.Given as goal
+use Rattle.text_lines.specs.Once.{once}
+use Rattle.text_lines.proofs.Naming.{once_from}
+use Rattle.text_lines.proofs.name_set.once.Given as goal
 
 -- what is to come finishes it
 abbrev pub invariant-loop-name : goal.invariant-loop-name

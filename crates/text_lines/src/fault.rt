@@ -1,0 +1,62 @@
+//! Why a text or a line of it stands for nothing, for texts of any grammar: `K` is the kind of fault that the grammar has.
+use std::alloc::{AllocError, AllocFailed};
+
+/// The first fault of a text, or want of memory.
+#[derive(Clone, Copy, Debug, PartialEq, Eq)]
+pub enum TextFault<K> {
+    /// Want of memory, at any moment.
+    Memory,
+    /// The kind of fault, and the line at which it stands, counted from 1.
+    At { line: u32, kind: K },
+}
+
+/// The fault of a line, or want of memory.
+#[derive(Clone, Copy, Debug, PartialEq, Eq)]
+pub enum LineFault<K> {
+    Memory,
+    Kind(K),
+}
+
+impl<K: Drop> From<AllocError> for TextFault<K> {
+    ghost use Rattle.std.specs.Prelude.{◌≡◌};
+    ghost use Rattle.text_lines.specs.declared.fault.TextFault.TheVariants.{Memory};
+
+    ghost from_gives = { λ _ e. e ≡ Memory };
+
+    fn from(_e: AllocError) -> TextFault<K> {
+        TextFault::Memory
+    }
+}
+
+impl<K: Drop, T: Drop> From<AllocFailed<T>> for TextFault<K> {
+    ghost use Rattle.std.specs.Prelude.{◌≡◌};
+    ghost use Rattle.text_lines.specs.declared.fault.TextFault.TheVariants.{Memory};
+
+    ghost from_gives = { λ _ e. e ≡ Memory };
+
+    fn from(_e: AllocFailed<T>) -> TextFault<K> {
+        TextFault::Memory
+    }
+}
+
+impl<K: Drop> From<AllocError> for LineFault<K> {
+    ghost use Rattle.std.specs.Prelude.{◌≡◌};
+    ghost use Rattle.text_lines.specs.declared.fault.LineFault.TheVariants.{Memory};
+
+    ghost from_gives = { λ _ e. e ≡ Memory };
+
+    fn from(_e: AllocError) -> LineFault<K> {
+        LineFault::Memory
+    }
+}
+
+impl<K: Drop, T: Drop> From<AllocFailed<T>> for LineFault<K> {
+    ghost use Rattle.std.specs.Prelude.{◌≡◌};
+    ghost use Rattle.text_lines.specs.declared.fault.LineFault.TheVariants.{Memory};
+
+    ghost from_gives = { λ _ e. e ≡ Memory };
+
+    fn from(_e: AllocFailed<T>) -> LineFault<K> {
+        LineFault::Memory
+    }
+}
