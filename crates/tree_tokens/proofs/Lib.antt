@@ -3,4 +3,3 @@ pub mod Cutting
 pub mod Joining
 pub mod Naming
 pub mod RisingUnits
-pub mod Whole
