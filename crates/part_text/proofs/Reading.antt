@@ -7,8 +7,8 @@ use Rattle.tree_text_rules.specs.declared.TreeKind.{TreeKind}
 use Rattle.tree_text_rules.specs.declared.TreeKind.TheVariants.{FileType, BadLine}
 use Rattle.tree_parts.specs.Part.{Part}
 use Rattle.part_text.specs.Lines.{IsTaken, IsFaultAt}
-use Rattle.tree_reading.specs.declared.fault.TreeFault.{TreeFault}
-use Rattle.tree_reading.specs.declared.fault.TreeFault.TheVariants.{At, Memory}
+use Rattle.text_lines.specs.declared.fault.TextFault.{TextFault}
+use Rattle.text_lines.specs.declared.fault.TextFault.TheVariants.{At, Memory}
 use Rattle.part_text.specs.Read.{SetLine, FirstLine, StartReads, BehindType, LinesRead, is_file_type, with_start}
 
 -- ---- the first line

@@ -3,8 +3,8 @@ use Rattle.std.specs.Prelude.{◌≡◌, ℕ, List, [], ◌∷◌, Result, Ok, E
 use Rattle.tree_text_rules.specs.Line.{Line}
 use Rattle.tree_text_rules.specs.declared.TreeKind.{TreeKind}
 use Rattle.tree_text_rules.specs.declared.TreeKind.TheVariants.{BadLine}
-use Rattle.tree_reading.specs.declared.fault.TreeFault.{TreeFault}
-use Rattle.tree_reading.specs.declared.fault.TreeFault.TheVariants.{At, Memory}
+use Rattle.text_lines.specs.declared.fault.TextFault.{TextFault}
+use Rattle.text_lines.specs.declared.fault.TextFault.TheVariants.{At, Memory}
 
 -- the first of the lines stands for the set, and those behind it are left
 pub record IsTaken (Judged : Line → Result (List ℕ) TreeKind → Type 0) (lines : List Line) (units : List ℕ) (behind : List Line) : Type 0 where
@@ -17,6 +17,6 @@ abbrev pub HasKind : (Line → Result (List ℕ) TreeKind → Type 0) → List L
 HasKind Judged [] kind = kind ≡ BadLine
 HasKind Judged (line ∷ lines) kind = Judged line (Err kind)
 
-abbrev pub IsFaultAt : (Line → Result (List ℕ) TreeKind → Type 0) → ℕ → List Line → TreeFault → Type 0
+abbrev pub IsFaultAt : (Line → Result (List ℕ) TreeKind → Type 0) → ℕ → List Line → TextFault TreeKind → Type 0
 IsFaultAt Judged number lines Memory = ⊥
 IsFaultAt Judged number lines (At line kind) = (line ≡ number) × HasKind Judged lines kind

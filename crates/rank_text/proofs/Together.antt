@@ -14,9 +14,9 @@ use Rattle.tree_text_rules.specs.Read as rules
 use Rattle.tree_text_rules.specs.Read.{Fault, Taken, Certificate, on_line, first_line, then_read, network_taken, sizes_taken, claim_behind, tree_taken, tail_taken}
 use Rattle.tree_text_rules.specs.declared.TreeKind.{TreeKind}
 use Rattle.tree_reading.specs.Taken.{line_taken}
-use Rattle.tree_reading.specs.Tells.{Tells}
-use Rattle.tree_reading.specs.declared.fault.TreeFault.{TreeFault}
-use Rattle.tree_reading.specs.declared.fault.TreeFault.TheVariants.{At, Memory}
+use Rattle.text_lines.specs.Tells.{Tells}
+use Rattle.text_lines.specs.declared.fault.TextFault.{TextFault}
+use Rattle.text_lines.specs.declared.fault.TextFault.TheVariants.{At, Memory}
 use Rattle.tree_reading.proofs.FirstLines.{first_next, first_tells, read_tells}
 use Rattle.ranked_tree.specs.Marked.{Mark}
 use Rattle.ranked_tree.specs.Text.{Text}
@@ -54,7 +54,7 @@ module _ (p : Problem) (whole : Result (Taken (List Network)) Fault) (ws : List 
       ∙ ap (with_networks ws) (sym (ap (λ (r : Result (Taken Network) Fault). then_read r (λ w number lines. with_network w (networks_taken p (left - 1) number lines))) e))
       ∙ at_network
 
-  pub network_bad : (fault : TreeFault) → Tells (network_taken p number lines) fault → Tells whole fault
+  pub network_bad : (fault : TextFault TreeKind) → Tells (network_taken p number lines) fault → Tells whole fault
   network_bad Memory h = tt
   network_bad (At line kind) h =
       sym at_network
@@ -138,7 +138,7 @@ module _ (p : Problem) (number : ℕ) (lines : List Line) where
   pub grown_ok : (all : List Line) (c : Certificate) → rules.rest_taken p number all ≡ Ok c → all ≡ unknown_line ∷ lines → grown_taken p (suc number) lines ≡ Ok (record { tree = c.tree; tail = c.tail })
   grown_ok all c e cut = tree_same (tree_taken p (suc number) lines) c (sym claims_nothing ∙ ap (rules.rest_taken p number) (sym cut) ∙ e)
 
-  pub grown_bad : (all : List Line) (fault : TreeFault) → Tells (rules.rest_taken p number all) fault → all ≡ unknown_line ∷ lines → Tells (grown_taken p (suc number) lines) fault
+  pub grown_bad : (all : List Line) (fault : TextFault TreeKind) → Tells (rules.rest_taken p number all) fault → all ≡ unknown_line ∷ lines → Tells (grown_taken p (suc number) lines) fault
   grown_bad all Memory h cut = tt
   grown_bad all (At line kind) h cut = tree_fails (tree_taken p (suc number) lines) (line, kind) (sym claims_nothing ∙ ap (rules.rest_taken p number) (sym cut) ∙ h)
 
@@ -172,14 +172,14 @@ abbrev count_then : Problem → ℕ → ℕ → List Line → Result Text Fault
 count_then p count number lines = first_line (networks_read count) number lines (λ k lines. list_then p count k (suc number) lines)
 
 module _ (p : Problem) (number : ℕ) (lines : List Line) where
-  pub count_bad : (fault : TreeFault) → Tells (line_taken count_read number lines) fault → Tells (rest_taken p number lines) fault
+  pub count_bad : (fault : TextFault TreeKind) → Tells (line_taken count_read number lines) fault → Tells (rest_taken p number lines) fault
   count_bad fault h = first_tells count_read number lines (λ count lines. count_then p count (suc number) lines) fault h
 
   module _ (count number' : ℕ) (lines' : List Line) (e : line_taken count_read number lines ≡ Ok (record { what = count; number = number'; behind = lines' })) where
     from_count : rest_taken p number lines ≡ count_then p count number' lines'
     from_count = first_next count_read number lines (count_then p) (record { what = count; number = number'; behind = lines' }) e
 
-    pub networks_bad : (fault : TreeFault) → Tells (line_taken (networks_read count) number' lines') fault → Tells (rest_taken p number lines) fault
+    pub networks_bad : (fault : TextFault TreeKind) → Tells (line_taken (networks_read count) number' lines') fault → Tells (rest_taken p number lines) fault
     networks_bad fault h =
         subst (λ (r : Result Text Fault). Tells r fault) (sym from_count)
         (first_tells (networks_read count) number' lines' (λ k lines. list_then p count k (suc number') lines) fault h)
@@ -188,7 +188,7 @@ module _ (p : Problem) (number : ℕ) (lines : List Line) where
       from_networks : rest_taken p number lines ≡ list_then p count k number'' lines''
       from_networks = from_count ∙ first_next (networks_read count) number' lines' (list_then p count) (record { what = k; number = number''; behind = lines'' }) e'
 
-      pub list_bad : (fault : TreeFault) → Tells (networks_taken p k number'' lines'') fault → Tells (rest_taken p number lines) fault
+      pub list_bad : (fault : TextFault TreeKind) → Tells (networks_taken p k number'' lines'') fault → Tells (rest_taken p number lines) fault
       list_bad fault h =
           subst (λ (r : Result Text Fault). Tells r fault) (sym from_networks)
           (read_tells (networks_taken p k number'' lines'') (behind_networks p count) fault h)

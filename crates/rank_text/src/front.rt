@@ -3,8 +3,8 @@ ghost use Rattle.std.specs.Prelude.{◌≡◌, ◌≤◌, ◌<◌, ◌-◌, ◌^
 ghost use Rattle.tree_tokens.specs.View.{line_of};
 ghost use Rattle.tree_reading.specs.Place.{IsCut, IsBehind, lines_at};
 ghost use Rattle.tree_reading.specs.Taken.{line_taken, taken};
-ghost use Rattle.tree_reading.specs.Tells.{Tells};
-ghost use Rattle.tree_reading.specs.declared.fault.TreeFault.TheVariants as faults;
+ghost use Rattle.text_lines.specs.Tells.{Tells};
+ghost use Rattle.text_lines.specs.declared.fault.TextFault.TheVariants as faults;
 ghost use Rattle.rank_text.specs.Read.{file_type_read, word_read, count_read, networks_read};
 
 use crate::cut::{first_token, one_count};

@@ -6,7 +6,7 @@ ghost use Rattle.tree_text_rules.specs.LineRead.{one_and_more};
 ghost use Rattle.tree_text_rules.specs.Token as rules;
 ghost use Rattle.tree_text_rules.specs.Token.{told};
 ghost use Rattle.tree_text_rules.specs.declared.TreeKind.TheVariants.{BadNumber};
-ghost use Rattle.tree_tokens.specs.Tells.{TellsLine};
+ghost use Rattle.text_lines.specs.Tells.{TellsLine};
 ghost use Rattle.tree_tokens.specs.View.{line_of, tokens_in};
 ghost use Rattle.ranked_tree.specs.Text.{AreNumbered};
 ghost use Rattle.ranked_tree.specs.View.{mark_of};

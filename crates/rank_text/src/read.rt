@@ -4,7 +4,7 @@ ghost use Rattle.problem_rules.specs.Each.{Each};
 ghost use Rattle.branch_tree.specs.Known.{KnowsTree, KnowsTail};
 ghost use Rattle.branch_tree.specs.View.{tail_of};
 ghost use Rattle.tree_reading.specs.Place.{IsCut, lines_at};
-ghost use Rattle.tree_reading.specs.Tells.{Tells};
+ghost use Rattle.text_lines.specs.Tells.{Tells};
 ghost use Rattle.rank_text.specs.Known.{KnowsNetwork, KnowsText};
 ghost use Rattle.tree_text_rules.specs.Line.{Line};
 ghost use Rattle.rank_text.specs.Opened.{unknown_line};

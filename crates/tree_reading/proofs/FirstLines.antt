@@ -9,9 +9,9 @@ use Rattle.tree_tokens.specs.Apart.{AreParts}
 use Rattle.tree_tokens.specs.View.{tokens_in}
 use Rattle.tree_tokens.specs.declared.apart.LineParts.{LineParts}
 use Rattle.tree_reading.specs.Taken.{line_taken}
-use Rattle.tree_reading.specs.Tells.{Tells}
-use Rattle.tree_reading.specs.declared.fault.TreeFault.{TreeFault}
-use Rattle.tree_reading.specs.declared.fault.TreeFault.TheVariants as faults
+use Rattle.text_lines.specs.Tells.{Tells}
+use Rattle.text_lines.specs.declared.fault.TextFault.{TextFault}
+use Rattle.text_lines.specs.declared.fault.TextFault.TheVariants as faults
 
 -- what is read of a line is read of its parts
 pub by_parts : {R : Type 0} (read : Option Word → List Token → Bool → R) (parts : LineParts) (line : Line) → AreParts parts line
@@ -64,17 +64,17 @@ pub first_ok : {A B : Type 0} (judge : Line → Result A TreeKind) (number : ℕ
     → line_taken judge number lines ≡ Ok t → first_line judge number lines read ≡ read t.what t.behind
 first_ok {A} judge number lines read t e = first_then judge number lines read ∙ ap (λ (r : Result (Taken A) Fault). then_read r (λ a number lines. read a lines)) e
 
-then_tells : {A B : Type 0} (r : Result (Taken A) Fault) (read : A → ℕ → List Line → Result B Fault) (fault : TreeFault) → Tells r fault → Tells (then_read r read) fault
+then_tells : {A B : Type 0} (r : Result (Taken A) Fault) (read : A → ℕ → List Line → Result B Fault) (fault : TextFault TreeKind) → Tells r fault → Tells (then_read r read) fault
 then_tells r read faults.Memory h = tt
 then_tells {A} {B} r read (faults.At line kind) h = ap (λ (r : Result (Taken A) Fault). then_read r read) h
 
-pub first_tells : {A B : Type 0} (judge : Line → Result A TreeKind) (number : ℕ) (lines : List Line) (read : A → List Line → Result B Fault) (fault : TreeFault)
+pub first_tells : {A B : Type 0} (judge : Line → Result A TreeKind) (number : ℕ) (lines : List Line) (read : A → List Line → Result B Fault) (fault : TextFault TreeKind)
     → Tells (line_taken judge number lines) fault → Tells (first_line judge number lines read) fault
 first_tells {A} {B} judge number lines read fault h =
     subst (λ (r : Result B Fault). Tells r fault) (sym (first_then judge number lines read))
     (then_tells (line_taken judge number lines) (λ a number lines. read a lines) fault h)
 
-pub read_tells : {A B : Type 0} (r : Result (Taken A) Fault) (read : A → ℕ → List Line → Result B Fault) (fault : TreeFault) → Tells r fault → Tells (then_read r read) fault
+pub read_tells : {A B : Type 0} (r : Result (Taken A) Fault) (read : A → ℕ → List Line → Result B Fault) (fault : TextFault TreeKind) → Tells r fault → Tells (then_read r read) fault
 read_tells r read fault h = then_tells r read fault h
 
 -- the first line, and then what is read from the number behind it on
@@ -95,7 +95,7 @@ module _ {A B C : Type 0} (judge : Line → Result A TreeKind) (judge' : Line �
   pub two_ok : (t : Taken A) (u : Taken B) → line_taken judge number lines ≡ Ok t → line_taken judge' t.number t.behind ≡ Ok u → two_lines ≡ next t.what u.what u.number u.behind
   two_ok t u e e' = two_first t e ∙ first_next judge' t.number t.behind (next t.what) u e'
 
-  pub two_bad : (t : Taken A) (fault : TreeFault) → line_taken judge number lines ≡ Ok t → Tells (line_taken judge' t.number t.behind) fault → Tells two_lines fault
+  pub two_bad : (t : Taken A) (fault : TextFault TreeKind) → line_taken judge number lines ≡ Ok t → Tells (line_taken judge' t.number t.behind) fault → Tells two_lines fault
   two_bad t fault e h =
       subst (λ (r : Result C Fault). Tells r fault) (sym (two_first t e))
       (first_tells judge' t.number t.behind (λ b lines. next t.what b (suc t.number) lines) fault h)

@@ -11,9 +11,9 @@ use Rattle.tree_text_rules.specs.LineRead.{step_read, end_line_read, option_read
 use Rattle.tree_text_rules.specs.Read.{Fault, Taken, Head, with_step, with_end, with_node, on_line, first_line, then_read, steps_taken, nodes_taken}
 use Rattle.tree_text_rules.specs.declared.TreeKind.{TreeKind}
 use Rattle.tree_reading.specs.Taken.{line_taken, end_behind, node_taken}
-use Rattle.tree_reading.specs.Tells.{Tells}
-use Rattle.tree_reading.specs.declared.fault.TreeFault.{TreeFault}
-use Rattle.tree_reading.specs.declared.fault.TreeFault.TheVariants as faults
+use Rattle.text_lines.specs.Tells.{Tells}
+use Rattle.text_lines.specs.declared.fault.TextFault.{TextFault}
+use Rattle.text_lines.specs.declared.fault.TextFault.TheVariants as faults
 use Rattle.tree_reading.proofs.FirstLines.{first_ok, first_tells, read_tells, line_number}
 
 abbrev pub TreeNode : Type 0
@@ -67,7 +67,7 @@ unfolding nodes_taken
 nodes_by_option p count number [] = refl
 nodes_by_option p count number (line ∷ lines) = refl
 
-front_tells : (front : Tree) (r : Reading) (fault : TreeFault) → Tells r fault → Tells (with_front front r) fault
+front_tells : (front : Tree) (r : Reading) (fault : TextFault TreeKind) → Tells r fault → Tells (with_front front r) fault
 front_tells front r faults.Memory h = tt
 front_tells front r (faults.At line kind) h = ap (with_front front) h
 
@@ -89,7 +89,7 @@ module _ (p : Problem) (whole : Reading) where
       ∙ ap (with_front front) (sym (nodes_by_node p (record { option = option; steps = [] }) count number lines))
       ∙ leads
 
-  pub node_bad : (front : Tree) (option : List ℕ) (count number : ℕ) (lines : List Line) (fault : TreeFault)
+  pub node_bad : (front : Tree) (option : List ℕ) (count number : ℕ) (lines : List Line) (fault : TextFault TreeKind)
       → LeadsIn front option count number lines → Tells (node_taken p option number lines) fault → Tells whole fault
   node_bad front option count number lines fault leads h =
       subst (λ (r : Reading). Tells r fault)
@@ -117,7 +117,7 @@ module _ (p : Problem) (whole : Reading) where
       ∙ ap (with_front front) (sym (first_ok (option_read p) number lines (λ option lines. nodes_taken p (Some (record { option = option; steps = [] })) (count - 1) (suc number) lines) (record { what = option; number = number'; behind = lines' }) e))
       ∙ at_option front count number lines leads some
 
-  pub option_bad : (front : Tree) (count number : ℕ) (lines : List Line) (fault : TreeFault)
+  pub option_bad : (front : Tree) (count number : ℕ) (lines : List Line) (fault : TextFault TreeKind)
       → LeadsOn front count number lines → 0 < count → Tells (line_taken (option_read p) number lines) fault → Tells whole fault
   option_bad front count number lines fault leads some h =
       let read : List ℕ → List Line → Reading = λ option lines. nodes_taken p (Some (record { option = option; steps = [] })) (count - 1) (suc number) lines in
@@ -135,7 +135,7 @@ module _ (p : Problem) (option : List ℕ) (number : ℕ) (lines : List Line) (h
       ∙ first_ok (end_line_read p) number' lines' (λ end lines. Ok (record { what = with_end head end; number = suc number'; behind = lines })) (record { what = end; number = number''; behind = lines'' }) e
       ∙ ap (λ (n : ℕ). Ok (record { what = with_end head end; number = n; behind = lines'' })) (sym (line_number (end_line_read p) number' lines' (record { what = end; number = number''; behind = lines'' }) e))
 
-  pub end_bad : (fault : TreeFault) → steps_taken p (record { option = option; steps = [] }) number lines ≡ Ok (record { what = head; number = number'; behind = lines' })
+  pub end_bad : (fault : TextFault TreeKind) → steps_taken p (record { option = option; steps = [] }) number lines ≡ Ok (record { what = head; number = number'; behind = lines' })
       → Tells (line_taken (end_line_read p) number' lines') fault → Tells (node_taken p option number lines) fault
   end_bad fault steps h =
       subst (λ (r : Result (Taken TreeNode) Fault). Tells r fault) (sym (ap (λ (r : Result (Taken Head) Fault). then_read r (end_behind p)) steps))

@@ -6,7 +6,7 @@ ghost use Rattle.tree_text_rules.specs.Read.{sizes_taken, network_taken, claim_b
 ghost use Rattle.tree_tokens.specs.Apart.{KnowsOpening, opening_of};
 ghost use Rattle.tree_reading.specs.Place.{IsCut, IsReached, IsBehind, lines_at};
 ghost use Rattle.tree_reading.specs.Taken.{taken};
-ghost use Rattle.tree_reading.specs.Tells.{Tells};
+ghost use Rattle.text_lines.specs.Tells.{Tells};
 
 use crate::cut::Cut;
 use crate::fault::TreeFault;

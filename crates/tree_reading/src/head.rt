@@ -6,7 +6,7 @@ ghost use Rattle.branch_tree.specs.Known.{AreUnits, KnowsStep};
 ghost use Rattle.tree_text_rules.specs.Read.{head_taken, steps_taken};
 ghost use Rattle.tree_reading.specs.Place.{IsCut, IsReached, IsBehind, lines_at};
 ghost use Rattle.tree_reading.specs.Taken.{taken};
-ghost use Rattle.tree_reading.specs.Tells.{Tells};
+ghost use Rattle.text_lines.specs.Tells.{Tells};
 
 use crate::cut::{Cut, line_at};
 use crate::fault::TreeFault;

@@ -9,7 +9,8 @@ ghost use Rattle.tree_text_rules.specs.LineRead as reads;
 ghost use Rattle.tree_tokens.specs.Apart.{KnowsOpening, opening_of, tail_opening_of};
 ghost use Rattle.tree_reading.specs.Place.{IsCut, IsBehind, lines_at};
 ghost use Rattle.tree_reading.specs.Taken.{line_taken, taken};
-ghost use Rattle.tree_reading.specs.Tells.{Tells, fault_at, kind_at};
+ghost use Rattle.tree_reading.specs.Tells.{fault_at, kind_at};
+ghost use Rattle.text_lines.specs.Tells.{Tells};
 
 use crate::cut::{Cut, line_at};
 use crate::fault::TreeFault;

@@ -6,7 +6,7 @@ ghost use Rattle.tree_rules.specs.Tree.{HasChildren};
 ghost use Rattle.tree_text_rules.specs.Read.{end_taken};
 ghost use Rattle.tree_reading.specs.Place.{IsCut, IsBehind, lines_at};
 ghost use Rattle.tree_reading.specs.Taken.{node_taken, taken};
-ghost use Rattle.tree_reading.specs.Tells.{Tells};
+ghost use Rattle.text_lines.specs.Tells.{Tells};
 
 use crate::cut::Cut;
 use crate::fault::TreeFault;

@@ -6,7 +6,7 @@ ghost use Rattle.branch_tree.specs.Known.{KnowsTail};
 ghost use Rattle.tree_text_rules.specs.Read.{nothing_behind, tail_taken, past_taken, tail_behind, close_taken};
 ghost use Rattle.tree_tokens.specs.Apart.{tail_opening_of};
 ghost use Rattle.tree_reading.specs.Place.{IsCut, lines_at};
-ghost use Rattle.tree_reading.specs.Tells.{Tells};
+ghost use Rattle.text_lines.specs.Tells.{Tells};
 
 use crate::cut::{Cut, line_at};
 use crate::fault::TreeFault;

@@ -4,7 +4,8 @@ ghost use Rattle.branch_tree.specs.View.{claim_of, tail_of};
 ghost use Rattle.branch_tree.specs.Known.{KnowsClaim, KnowsTree, KnowsTail};
 ghost use Rattle.tree_text_rules.specs.Read.{rest_taken, read_text};
 ghost use Rattle.tree_reading.specs.Place.{IsCut, lines_at};
-ghost use Rattle.tree_reading.specs.Tells.{Tells, TellsFault};
+ghost use Rattle.tree_reading.specs.Tells.{TellsFault};
+ghost use Rattle.text_lines.specs.Tells.{Tells};
 
 use crate::claim::read_claim;
 use crate::cut::{Cut, line_at};

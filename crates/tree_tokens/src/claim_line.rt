@@ -6,7 +6,7 @@ ghost use Rattle.branch_tree.specs.Known.{AreUnits};
 ghost use Rattle.tree_text_rules.specs.LineRead as reads;
 ghost use Rattle.tree_text_rules.specs.Token as rules;
 ghost use Rattle.tree_tokens.specs.Apart.{formed_by, opening_of, KnowsOpening};
-ghost use Rattle.tree_tokens.specs.Tells.{TellsLine};
+ghost use Rattle.text_lines.specs.Tells.{TellsLine};
 ghost use Rattle.tree_tokens.specs.View.{line_of, tokens_in};
 
 use crate::apart::LineParts;

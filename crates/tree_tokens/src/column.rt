@@ -4,7 +4,7 @@ ghost use Rattle.flow_program.specs.declared.place.Column.TheVariants as columns
 ghost use Rattle.branch_tree.specs.Known.{KnowsColumn, KnowsRow};
 ghost use Rattle.tree_text_rules.specs.Token as rules;
 ghost use Rattle.tree_tokens.specs.Joined.{so_far, joined};
-ghost use Rattle.tree_tokens.specs.Tells.{TellsLine};
+ghost use Rattle.text_lines.specs.Tells.{TellsLine};
 ghost use Rattle.tree_tokens.specs.View.{tokens_in};
 
 use crate::name::{material_of, unit_of};

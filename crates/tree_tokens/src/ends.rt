@@ -7,7 +7,7 @@ ghost use Rattle.tree_rules.specs.Tree.{HasChildren};
 ghost use Rattle.tree_text_rules.specs.LineRead as reads;
 ghost use Rattle.tree_text_rules.specs.Token as rules;
 ghost use Rattle.tree_tokens.specs.Apart.{formed_by};
-ghost use Rattle.tree_tokens.specs.Tells.{TellsLine};
+ghost use Rattle.text_lines.specs.Tells.{TellsLine};
 ghost use Rattle.tree_tokens.specs.View.{tokens_in};
 
 use crate::apart::LineParts;

@@ -3,7 +3,7 @@ ghost use Rattle.std.specs.Prelude.{◌≡◌, ◌∷◌, [], ℤ, List, Ok, IfO
 ghost use Rattle.int_rows.specs.Range.{InRange, AllInRange};
 ghost use Rattle.tree_text_rules.specs.Token as rules;
 ghost use Rattle.tree_tokens.specs.Joined.{so_far, joined};
-ghost use Rattle.tree_tokens.specs.Tells.{TellsLine};
+ghost use Rattle.text_lines.specs.Tells.{TellsLine};
 ghost use Rattle.tree_tokens.specs.View.{tokens_in};
 
 use crate::cut::{first_token, token_count};

@@ -4,7 +4,7 @@ ghost use Rattle.problem_rules.specs.Each.{Each};
 ghost use Rattle.branch_tree.specs.Known.{KnowsColumn, KnowsPlace};
 ghost use Rattle.tree_text_rules.specs.LineRead as reads;
 ghost use Rattle.tree_tokens.specs.Apart.{formed_by, tail_opening_of, is_node};
-ghost use Rattle.tree_tokens.specs.Tells.{TellsLine};
+ghost use Rattle.text_lines.specs.Tells.{TellsLine};
 ghost use Rattle.tree_tokens.specs.View.{tokens_in};
 
 use crate::apart::LineParts;

@@ -3,9 +3,10 @@ use Rattle.branch_tree.specs.View.{claim_of, tail_of}
 use Rattle.tree_tokens.specs.View.{line_of}
 use Rattle.tree_text_rules.specs.Read.{Certificate, rest_taken}
 use Rattle.tree_reading.specs.Place.{lines_at}
-use Rattle.tree_reading.specs.Tells.{Tells}
-use Rattle.tree_reading.specs.declared.fault.TreeFault.{TreeFault}
-use Rattle.tree_reading.specs.declared.fault.TreeFault.TheVariants.{At, Memory}
+use Rattle.text_lines.specs.Tells.{Tells}
+use Rattle.tree_text_rules.specs.declared.TreeKind.{TreeKind}
+use Rattle.text_lines.specs.declared.fault.TextFault.{TextFault}
+use Rattle.text_lines.specs.declared.fault.TextFault.TheVariants.{At, Memory}
 use Rattle.tree_text_rules.specs.Line.{lines_of}
 use Rattle.part_text.specs.Lines.{IsTaken}
 use Rattle.tree_parts.specs.Part.{Part}
@@ -36,7 +37,7 @@ returns-in-Ok-read_rest-clause-read c =
 pub returns-in-Err-read_rest-clause-fault : goal.returns-in-Err-read_rest-clause-fault
 returns-in-Err-read_rest-clause-fault c = told c.in-Err-read_rest.fault c.in-Err-read_rest.ensures.fault
   where
-    told : (fault : TreeFault) → Tells (rest_taken c.args.problem.now c.in-Ok-set_at.found.1.line (lines_at c.args.bytes.now c.in-Ok-set_at.found.1)) fault → TellsPart c.args.problem.now c.args.bytes.now fault
+    told : (fault : TextFault TreeKind) → Tells (rest_taken c.args.problem.now c.in-Ok-set_at.found.1.line (lines_at c.args.bytes.now c.in-Ok-set_at.found.1)) fault → TellsPart c.args.problem.now c.args.bytes.now fault
     told Memory h = tt
     told (At line kind) h =
         let p = c.args.problem.now in

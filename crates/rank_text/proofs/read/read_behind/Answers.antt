@@ -4,7 +4,7 @@ use Rattle.ranked_tree.specs.Text.{Text}
 use Rattle.ranked_tree.specs.View.{mark_of}
 use Rattle.tree_text_rules.specs.Line.{lines_of}
 use Rattle.tree_reading.specs.Place.{lines_at}
-use Rattle.tree_reading.specs.Tells.{Tells}
+use Rattle.text_lines.specs.Tells.{Tells}
 use Rattle.rank_text.specs.Opened.{opened, unknown_line}
 use Rattle.rank_text.specs.Read.{Grown, grown_taken}
 use Rattle.rank_text.proofs.Together.{behind_bad, behind_named, behind_ok}

@@ -6,7 +6,7 @@ use Rattle.tree_text_rules.specs.Read.{Fault, Taken, claim_behind}
 use Rattle.tree_tokens.specs.Apart.{opening_of}
 use Rattle.tree_reading.specs.Place.{lines_at}
 use Rattle.tree_reading.specs.Taken.{taken}
-use Rattle.tree_reading.specs.Tells.{Tells}
+use Rattle.text_lines.specs.Tells.{Tells}
 use Rattle.tree_reading.proofs.FirstLines.{first_next}
 use Rattle.tree_reading.proofs.claim.read_claim.Goals as goal
 

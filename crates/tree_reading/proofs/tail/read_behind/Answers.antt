@@ -4,7 +4,7 @@ use Rattle.tree_text_rules.specs.Read.{tail_behind}
 use Rattle.tree_tokens.specs.Apart.{tail_opening_of}
 use Rattle.tree_tokens.specs.declared.opening.TailOpening.{TailOpening}
 use Rattle.tree_reading.specs.Place.{lines_at}
-use Rattle.tree_reading.specs.Tells.{Tells}
+use Rattle.text_lines.specs.Tells.{Tells}
 use Rattle.tree_reading.proofs.tail.read_behind.Goals as goal
 
 pub returns-in-Err-clause-fault : goal.returns-in-Err-clause-fault

@@ -7,7 +7,7 @@ use Rattle.tree_text_rules.specs.LineRead.{nonbasic_read, place_read}
 use Rattle.tree_text_rules.specs.Read.{Fault, close_taken}
 use Rattle.tree_reading.specs.Place.{lines_at}
 use Rattle.tree_reading.specs.Taken.{taken}
-use Rattle.tree_reading.specs.Tells.{Tells}
+use Rattle.text_lines.specs.Tells.{Tells}
 use Rattle.tree_reading.proofs.FirstLines.{two_ok, two_bad}
 use Rattle.tree_reading.proofs.tail.read_past.Goals as goal
 
