@@ -1,4 +1,3 @@
-mod Printed
 mod Reading
 pub mod Tokens
 mod SetTokens

@@ -1,7 +1,6 @@
 mod Cuts
 mod Marks
 pub mod OpenBytes
-mod Printed
 mod Printing
 mod Together
 mod Lines

@@ -10,7 +10,7 @@ use Rattle.tree_text_rules.specs.Spelling.{line_text}
 use Rattle.tree_text.specs.Printing.{appended}
 use Rattle.ranked_tree.specs.Marked.{Mark, marked, marked_node, marks_behind, first_mark, other_marks}
 use Rattle.rank_text.specs.Spelling.{node_lines, tree_lines}
-use Rattle.rank_text.proofs.Printed.{item_ahead}
+use Rattle.tree_text.proofs.Printed.{item_ahead}
 
 -- ---- marks
 

@@ -1,2 +1,2 @@
-mod Appending
-mod Printed
+pub mod Appending
+pub mod Printed

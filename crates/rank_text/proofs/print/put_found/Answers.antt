@@ -2,7 +2,7 @@ use Rattle.std.proofs.Common.{◌++◌, List, ap, flat_map}
 use Rattle.tree_rules.specs.Claim.{Network}
 use Rattle.tree_text_rules.specs.Spelling.{network_lines}
 use Rattle.rank_text.specs.Spelling.{grown_lines}
-use Rattle.rank_text.proofs.Printed.{two_printed, part_failed, printed_as}
+use Rattle.tree_text.proofs.Printed.{two_printed, part_failed, printed_as}
 use Rattle.rank_text.proofs.print.put_found.Goals as goal
 
 pub returns-in-Ok-clause-prints : goal.returns-in-Ok-clause-prints

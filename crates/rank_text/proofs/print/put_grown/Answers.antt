@@ -4,7 +4,7 @@ use Rattle.ranked_tree.specs.Marked.{marked}
 use Rattle.ranked_tree.specs.View.{mark_of}
 use Rattle.tree_text_rules.specs.Spelling.{tail_lines}
 use Rattle.rank_text.specs.Spelling.{tree_lines, grown_lines}
-use Rattle.rank_text.proofs.Printed.{two_printed, part_failed, printed_as}
+use Rattle.tree_text.proofs.Printed.{two_printed, part_failed, printed_as}
 use Rattle.rank_text.proofs.print.put_grown.Goals as goal
 
 pub returns-in-Ok-clause-prints : goal.returns-in-Ok-clause-prints

@@ -1,7 +1,7 @@
 use Rattle.std.proofs.Common.{List, arith, subst}
 use Rattle.problem_rules.specs.Each.{Each}
 use Rattle.tree_rules.specs.Claim.{Network}
-use Rattle.rank_text.proofs.Printed.{then_printed, then_failed, item_ahead}
+use Rattle.tree_text.proofs.Printed.{then_printed, then_failed, item_ahead}
 use Rattle.rank_text.specs.Known.{KnowsNetwork}
 use Rattle.rank_text.proofs.Printing.{network_ahead}
 use Rattle.rank_text.proofs.print.put_networks.Goals as goal

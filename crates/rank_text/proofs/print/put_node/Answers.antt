@@ -6,7 +6,7 @@ use Rattle.ranked_tree.specs.View.{mark_of}
 use Rattle.tree_rules.specs.Leaf.{Leaf}
 use Rattle.tree_rules.specs.Tree.{TreeNode}
 use Rattle.tree_text_rules.specs.Spelling.{head_lines}
-use Rattle.rank_text.proofs.Printed.{two_printed, part_failed, printed_as}
+use Rattle.tree_text.proofs.Printed.{two_printed, part_failed, printed_as}
 use Rattle.rank_text.specs.Spelling.{end_line, node_lines}
 use Rattle.rank_text.proofs.print.put_node.Goals as goal
 

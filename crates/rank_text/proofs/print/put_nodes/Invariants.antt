@@ -2,7 +2,7 @@ use Rattle.std.proofs.Common.{◌≤◌, drop, map}
 use Rattle.branch_tree.specs.Known.{KnowsTree}
 use Rattle.ranked_tree.specs.Marked.{marked}
 use Rattle.ranked_tree.specs.View.{mark_of}
-use Rattle.rank_text.proofs.Printed.{ArePrinted}
+use Rattle.tree_text.proofs.Printed.{ArePrinted}
 use Rattle.rank_text.specs.Spelling.{tree_lines}
 use Rattle.rank_text.proofs.print.put_nodes.Given as goal
 
