@@ -1,8 +1,8 @@
 //! The text of a part, line by line.
-ghost use Rattle.std.specs.Prelude.{◌≡◌, ◌≤◌, ◌∷◌, ◌++◌, [], List, IfOk, codes, string_bytes};
+ghost use Rattle.std.specs.Prelude.{◌≡◌, ◌≤◌, ◌∷◌, OnOk, codes, string_bytes};
 ghost use Rattle.branch_tree.specs.Known.{KnowsClaim, KnowsTree, KnowsTail};
-ghost use Rattle.tree_text_rules.specs.Line.{Token};
-ghost use Rattle.tree_text_rules.specs.Spelling.{line_text, rest_lines};
+ghost use Rattle.text_rules.specs.Canonical.{joined};
+ghost use Rattle.tree_text_rules.specs.Spelling.{rest_lines};
 ghost use Rattle.tree_text.specs.Prints.{Prints};
 ghost use Rattle.part_text.specs.Spelling.{file_type, set_line, part_text_lines};
 
@@ -11,34 +11,16 @@ use pns_problem::Problem;
 use std::alloc::{AllocError, Global};
 use structure_list::print_token;
 use tree_parts::Part;
-use tree_text::{PrintFault, print_rest};
+use tree_text::{PrintFault, begin, print_rest, push_field, put_line};
 use unit_sets::UnitSet;
 
-// The word and the token of the set, with a line feed.
-fn set_line(alloc: Global, word: &str, units: UnitSet) -> Result<String, AllocError>
-    ensures { IfOk result (λ text. string_bytes text ≡ line_text (set_line word.now units)) }
+// The word and the token of the set.
+fn set_line(alloc: Global, line: &mut String, word: &str, units: UnitSet) -> Result<(), AllocError>
+    ensures { OnOk result (string_bytes line.new ≡ joined 32 (set_line word.now units)) }
 {
     let token = print_token(alloc, units)?;
-    let mut text = String::from_str(alloc, word)?;
-    text.push(' ')?;
-    text.push_str(token.as_str())?;
-    text.push('\n')?;
-    Ok(text)
-}
-
-// Puts the line that was made.
-fn put_line<K: Sink>(out: &mut K, line: Result<String, AllocError>) -> Result<(), PrintFault>
-    ensures prints { (tokens : List Token) → IfOk line (λ text. string_bytes text ≡ line_text tokens)
-        → Prints (tokens ∷ []) (K.written out.old) (K.written out.new) (K.faults out.old) (K.faults out.new) result }
-    ensures later { K.faults out.old ≤ K.faults out.new }
-{
-    let Ok(text) = line else {
-        return Err(PrintFault::Memory);
-    };
-    match out.put(text.as_bytes()) {
-        Ok(()) => Ok(()),
-        Err(_) => Err(PrintFault::WriteFault),
-    }
+    begin(line, word)?;
+    push_field(line, token.as_str())
 }
 
 // The units that are left out, and all lines behind them.
@@ -54,8 +36,9 @@ fn put_outside<K: Sink>(
     ensures prints { Prints (set_line (codes "outside") part.now.outside ∷ rest_lines problem.now part.now.claim part.now.tree part.now.tail) (K.written out.old) (K.written out.new) (K.faults out.old) (K.faults out.new) result }
     ensures later { K.faults out.old ≤ K.faults out.new }
 {
-    let outside = set_line(alloc, "outside", part.start().outside);
-    match put_line(out, outside) {
+    let mut line = String::new(alloc);
+    let made = set_line(alloc, &mut line, "outside", part.start().outside);
+    match put_line(out, &mut line, made) {
         Ok(()) => print_rest(alloc, problem, part.claim(), part.tree(), part.tail(), out),
         Err(fault) => Err(fault),
     }
@@ -74,8 +57,9 @@ fn put_start<K: Sink>(
     ensures prints { Prints (set_line (codes "inside") part.now.inside ∷ set_line (codes "outside") part.now.outside ∷ rest_lines problem.now part.now.claim part.now.tree part.now.tail) (K.written out.old) (K.written out.new) (K.faults out.old) (K.faults out.new) result }
     ensures later { K.faults out.old ≤ K.faults out.new }
 {
-    let inside = set_line(alloc, "inside", part.start().inside);
-    match put_line(out, inside) {
+    let mut line = String::new(alloc);
+    let made = set_line(alloc, &mut line, "inside", part.start().inside);
+    match put_line(out, &mut line, made) {
         Ok(()) => put_outside(alloc, problem, part, out),
         Err(fault) => Err(fault),
     }
@@ -95,8 +79,9 @@ pub fn print_part<K: Sink>(
     ensures prints { Prints (part_text_lines problem.now part.now) (K.written out.old) (K.written out.new) (K.faults out.old) (K.faults out.new) result }
     ensures later { K.faults out.old ≤ K.faults out.new }
 {
-    let first = String::from_str(alloc, "file_type=PNS_part_v1\n");
-    match put_line(out, first) {
+    let mut line = String::new(alloc);
+    let made = begin(&mut line, "file_type=PNS_part_v1");
+    match put_line(out, &mut line, made) {
         Ok(()) => put_start(alloc, problem, part, out),
         Err(fault) => Err(fault),
     }

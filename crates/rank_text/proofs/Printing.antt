@@ -1,13 +1,13 @@
 -- The lines of a ranked tree that are printed one after another.
-use Rattle.std.proofs.Common.{◌≡◌, ◌<◌, ◌+◌, ◌++◌, ℕ, zero, suc, List, [], ◌∷◌, length, drop, get_or, map, flat_map, refl, ap, ◌∙◌, append_assoc, arith}
+use Rattle.std.proofs.Common.{◌≡◌, ◌<◌, ◌+◌, ◌++◌, ℕ, zero, suc, List, [], ◌∷◌, length, drop, get_or, map, flat_map, refl, ap, ◌∙◌, arith}
 use Rattle.problem_rules.specs.Problem.{Problem}
 use Rattle.tree_rules.specs.Tree.{TreeNode}
 use Rattle.tree_rules.specs.Leaf.{Leaf}
 use Rattle.tree_rules.specs.Claim.{Network}
 use Rattle.text_rules.specs.Canonical.{joined}
 use Rattle.tree_text_rules.specs.Spelling as trees
-use Rattle.tree_text_rules.specs.Spelling.{line_text}
 use Rattle.tree_text.specs.Printing.{appended}
+use Rattle.tree_text.proofs.Appending.{line_made}
 use Rattle.ranked_tree.specs.Marked.{Mark, marked, marked_node, marks_behind, first_mark, other_marks}
 use Rattle.rank_text.specs.Spelling.{node_lines, tree_lines}
 use Rattle.tree_text.proofs.Printed.{item_ahead}
@@ -43,23 +43,9 @@ pub network_ahead : (p : Problem) (xs : List Network) (i : ℕ) (x : Network) �
     → flat_map (trees.network_lines p) (drop i xs) ≡ trees.network_lines p x ++ flat_map (trees.network_lines p) (drop (i + 1) xs)
 network_ahead p xs i x lt is = ap (flat_map (trees.network_lines p)) (item_ahead xs i x lt is)
 
--- ---- a line that is put together
+-- ---- a line that is put together: a word, two fields and then the others
 
--- behind a word, joined by spaces
-line_appended : (word : List ℕ) (fields : List (List ℕ)) → appended word fields ≡ joined 32 (word ∷ fields)
-line_appended word [] = refl
-line_appended word (field ∷ fields) = line_appended (word ++ 32 ∷ field) fields ∙ one_less word field fields
-  where
-    one_less : (word field : List ℕ) (fields : List (List ℕ)) → joined 32 ((word ++ 32 ∷ field) ∷ fields) ≡ joined 32 (word ∷ field ∷ fields)
-    one_less word field [] = refl
-    one_less word field (next ∷ fields) = append_assoc word (32 ∷ field) (32 ∷ joined 32 (next ∷ fields))
-
--- a word and one field
-pub line_of_one : (ended line word one : List ℕ) → ended ≡ line ++ 10 ∷ [] → line ≡ appended word (one ∷ []) → ended ≡ line_text (word ∷ one ∷ [])
-line_of_one ended line word one e f = e ∙ ap (λ (t : List ℕ). t ++ 10 ∷ []) (f ∙ line_appended word (one ∷ []))
-
--- a word, two fields and then the others
-pub line_of_more : (ended line second first begun word one two : List ℕ) (fields : List (List ℕ))
-    → ended ≡ line ++ 10 ∷ [] → line ≡ appended second fields → second ≡ appended first (two ∷ []) → first ≡ appended begun (one ∷ []) → begun ≡ word → ended ≡ line_text (word ∷ one ∷ two ∷ fields)
-line_of_more ended line second first begun word one two fields e l s f b =
-    e ∙ ap (λ (t : List ℕ). t ++ 10 ∷ []) (l ∙ ap (λ (t : List ℕ). appended t fields) (s ∙ ap (λ (t : List ℕ). appended t (two ∷ [])) (f ∙ ap (λ (t : List ℕ). appended t (one ∷ [])) b)) ∙ line_appended word (one ∷ two ∷ fields))
+pub line_of_more : (line second first begun word one two : List ℕ) (fields : List (List ℕ))
+    → line ≡ appended second fields → second ≡ appended first (two ∷ []) → first ≡ appended begun (one ∷ []) → begun ≡ word → line ≡ joined 32 (word ∷ one ∷ two ∷ fields)
+line_of_more line second first begun word one two fields l s f b =
+    line_made line begun word (one ∷ two ∷ fields) (l ∙ ap (λ (t : List ℕ). appended t fields) (s ∙ ap (λ (t : List ℕ). appended t (two ∷ [])) f)) b

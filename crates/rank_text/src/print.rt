@@ -1,13 +1,11 @@
 //! The text of a ranking, line by line.
-ghost use Rattle.std.specs.Prelude.{◌≡◌, ◌≤◌, ◌<◌, ◌+◌, ◌^◌, ◌++◌, ◌∷◌, [], List, IfOk, length, map, drop, flat_map, decimal, string_bytes};
+ghost use Rattle.std.specs.Prelude.{◌≡◌, ◌≤◌, ◌<◌, ◌+◌, ◌^◌, ◌++◌, ◌∷◌, [], List, length, map, drop, flat_map, decimal};
 ghost use Rattle.std.specs.Fmt.{signed_decimal};
 ghost use Rattle.problem_rules.specs.Each.{Each};
 ghost use Rattle.branch_tree.specs.Known.{KnowsEnd, KnowsNode, KnowsTree};
 ghost use Rattle.branch_tree.specs.View.{end_of};
 ghost use Rattle.tree_rules.specs.Tree.{leaf};
-ghost use Rattle.tree_text_rules.specs.Line.{Token};
 ghost use Rattle.tree_text_rules.specs.Spelling as trees;
-ghost use Rattle.tree_text_rules.specs.Spelling.{line_text};
 ghost use Rattle.tree_text.specs.Prints.{Prints};
 ghost use Rattle.ranked_tree.specs.Marked as rules;
 ghost use Rattle.ranked_tree.specs.Marked.{marked, marked_node, marked_end, marked_leaf, first_mark, marks_behind};
@@ -20,23 +18,8 @@ use branch_tree::{End, Network, Scaled, TreeNode};
 use pns_io::Sink;
 use pns_problem::Problem;
 use ranked_tree::{Mark, RankText};
-use std::alloc::{AllocError, Global};
-use tree_text::{PrintFault, print_end, print_head, print_network, print_tail};
-
-// Puts the line that was made.
-fn put_line<K: Sink>(out: &mut K, line: Result<String, AllocError>) -> Result<(), PrintFault>
-    ensures prints { (tokens : List Token) → IfOk line (λ text. string_bytes text ≡ line_text tokens)
-        → Prints (tokens ∷ []) (K.written out.old) (K.written out.new) (K.faults out.old) (K.faults out.new) result }
-    ensures later { K.faults out.old ≤ K.faults out.new }
-{
-    let Ok(text) = line else {
-        return Err(PrintFault::Memory);
-    };
-    match out.put(text.as_bytes()) {
-        Ok(()) => Ok(()),
-        Err(_) => Err(PrintFault::WriteFault),
-    }
-}
+use std::alloc::Global;
+use tree_text::{PrintFault, begin, print_end, print_head, print_network, print_tail, put_line};
 
 fn put_named<K: Sink>(
     alloc: Global,
@@ -47,16 +30,18 @@ fn put_named<K: Sink>(
     ensures prints { Prints ((named_word ∷ decimal network ∷ signed_decimal scaled.now.d ∷ map signed_decimal scaled.now.ys) ∷ []) (K.written out.old) (K.written out.new) (K.faults out.old) (K.faults out.new) result }
     ensures later { K.faults out.old ≤ K.faults out.new }
 {
-    let line = named_line(alloc, network, scaled);
-    put_line(out, line)
+    let mut line = String::new(alloc);
+    let made = named_line(&mut line, network, scaled);
+    put_line(out, &mut line, made)
 }
 
 fn put_count<K: Sink>(alloc: Global, word: &str, count: u32, out: &mut K) -> Result<(), PrintFault>
     ensures prints { Prints ((word.now ∷ decimal count ∷ []) ∷ []) (K.written out.old) (K.written out.new) (K.faults out.old) (K.faults out.new) result }
     ensures later { K.faults out.old ≤ K.faults out.new }
 {
-    let line = count_line(alloc, word, count);
-    put_line(out, line)
+    let mut line = String::new(alloc);
+    let made = count_line(&mut line, word, count);
+    put_line(out, &mut line, made)
 }
 
 // The line of a leaf with this mark.
@@ -272,8 +257,9 @@ pub fn print_rank<K: Sink>(
     ensures prints { Prints (rank_text_lines problem.now text.now) (K.written out.old) (K.written out.new) (K.faults out.old) (K.faults out.new) result }
     ensures later { K.faults out.old ≤ K.faults out.new }
 {
-    let first = String::from_str(alloc, "file_type=PNS_rank_v1\n");
-    match put_line(out, first) {
+    let mut line = String::new(alloc);
+    let made = begin(&mut line, "file_type=PNS_rank_v1");
+    match put_line(out, &mut line, made) {
         Ok(()) => put_behind(alloc, problem, text, out),
         Err(fault) => Err(fault),
     }

@@ -10,7 +10,7 @@ use std::alloc::AllocError;
 use unit_sets::UnitSet;
 
 /// Begins a line anew by its first word.
-pub(crate) fn begin(line: &mut String, word: &str) -> Result<(), AllocError>
+pub fn begin(line: &mut String, word: &str) -> Result<(), AllocError>
     ensures { OnOk result (string_bytes line.new ≡ word.now) }
 {
     line.clear();
@@ -18,7 +18,8 @@ pub(crate) fn begin(line: &mut String, word: &str) -> Result<(), AllocError>
     Ok(())
 }
 
-pub(crate) fn push_field(line: &mut String, field: &str) -> Result<(), AllocError>
+/// A field as it stands.
+pub fn push_field(line: &mut String, field: &str) -> Result<(), AllocError>
     ensures { OnOk result (string_bytes line.new ≡ appended (string_bytes line.old) (field.now ∷ [])) }
 {
     line.push(' ')?;
@@ -26,7 +27,8 @@ pub(crate) fn push_field(line: &mut String, field: &str) -> Result<(), AllocErro
     Ok(())
 }
 
-pub(crate) fn push_count(line: &mut String, count: u32) -> Result<(), AllocError>
+/// A count.
+pub fn push_count(line: &mut String, count: u32) -> Result<(), AllocError>
     ensures { OnOk result (string_bytes line.new ≡ appended (string_bytes line.old) (decimal count ∷ [])) }
 {
     line.push(' ')?;
@@ -42,7 +44,8 @@ pub(crate) fn push_options(line: &mut String, options: u128) -> Result<(), Alloc
     Ok(())
 }
 
-pub(crate) fn push_number(line: &mut String, number: i128) -> Result<(), AllocError>
+/// A whole number.
+pub fn push_number(line: &mut String, number: i128) -> Result<(), AllocError>
     ensures { OnOk result (string_bytes line.new ≡ appended (string_bytes line.old) (signed_decimal number ∷ [])) }
 {
     line.push(' ')?;
@@ -50,7 +53,8 @@ pub(crate) fn push_number(line: &mut String, number: i128) -> Result<(), AllocEr
     Ok(())
 }
 
-pub(crate) fn push_numbers(line: &mut String, numbers: &[i128]) -> Result<(), AllocError>
+/// Whole numbers, each behind a space.
+pub fn push_numbers(line: &mut String, numbers: &[i128]) -> Result<(), AllocError>
     ensures { OnOk result (string_bytes line.new ≡ appended (string_bytes line.old) (map signed_decimal numbers.now)) }
 {
     'printing: for number in numbers {

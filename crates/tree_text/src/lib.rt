@@ -1,5 +1,6 @@
 //! The text PNS_tree_v1 of branch trees in code. [`print_tree`] writes the one text of a claim, a tree and a tail to a sink, and
-//! the printers of parts write their lines of it: one put a line, so that want of memory leaves whole lines.
+//! the printers of parts write their lines of it: one put a line, so that want of memory leaves whole lines. Texts that have other
+//! lines beside those of a tree make them by the same calls: [`begin`], the fields behind it, and [`put_line`].
 //!
 //! Each call answers in the words of `tree_text_rules`. Modules: `field` appends names and numbers to a line, `column` columns
 //! and places, `line` makes the lines, `put` hands them to the sink, `part` puts the lines of each part, and `print` has the calls.
@@ -14,6 +15,8 @@ mod print;
 mod put;
 
 pub use fault::PrintFault;
+pub use field::{begin, push_count, push_field, push_number, push_numbers};
 pub use print::{
     print_end, print_head, print_network, print_place, print_rest, print_tail, print_tree,
 };
+pub use put::put_line;

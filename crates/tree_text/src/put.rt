@@ -8,8 +8,8 @@ use crate::fault::PrintFault;
 use pns_io::Sink;
 use std::alloc::AllocError;
 
-/// Puts the line that was made, with its line feed.
-pub(crate) fn put_line<K: Sink>(
+/// Puts the line that was made, with its line feed. A line that could not be made is told as want of memory.
+pub fn put_line<K: Sink>(
     out: &mut K,
     line: &mut String,
     made: Result<(), AllocError>,
