@@ -1,14 +1,13 @@
 -- The lines of a part's text that are read one by one.
-use Rattle.std.proofs.Common.{◌≡◌, ℕ, true, false, List, [], ◌∷◌, codes, Result, Ok, Err, refl, sym, ap, ap₂, ◌∙◌, subst, inl, inr}
+use Rattle.std.proofs.Common.{◌≡◌, ℕ, true, false, List, [], ◌∷◌, codes, Result, Err, refl, sym, ap, ap₂, ◌∙◌, subst, inl, inr}
 use Rattle.problem_rules.specs.Problem.{Problem}
 use Rattle.tree_text_rules.specs.Line.{Line}
 use Rattle.tree_text_rules.specs.Read.{Fault, Certificate, rest_taken}
 use Rattle.tree_text_rules.specs.declared.TreeKind.{TreeKind}
-use Rattle.tree_text_rules.specs.declared.TreeKind.TheVariants.{FileType, BadLine}
+use Rattle.tree_text_rules.specs.declared.TreeKind.TheVariants.{FileType}
 use Rattle.tree_parts.specs.Part.{Part}
 use Rattle.part_text.specs.Lines.{IsTaken, IsFaultAt}
-use Rattle.text_lines.specs.declared.fault.TextFault.{TextFault}
-use Rattle.text_lines.specs.declared.fault.TextFault.TheVariants.{At, Memory}
+use Rattle.text_lines.specs.declared.fault.TextFault.TheVariants.{At}
 use Rattle.part_text.specs.Read.{SetLine, FirstLine, StartReads, BehindType, LinesRead, is_file_type, with_start}
 
 -- ---- the first line

@@ -5,7 +5,6 @@ mod Printing
 mod Together
 mod Lines
 mod OpenLines
-mod Parts
 mod Shapes
 mod Texts
 mod Tokens

@@ -1,15 +1,12 @@
 -- The lines that a tree text has not, both ways.
 use Rattle.std.proofs.Common.{◌≡◌, ◌≤◌, Bool, true, false, nat_le, ℕ, ℤ, List, [], ◌∷◌, map, decimal, Some, Result, Ok, Err, refl, sym, ap, ap₂, ◌∙◌, arith, if◌then◌else◌}
 use Rattle.std.specs.Fmt.{signed_decimal}
-use Rattle.std.specs.List.{list_all, list_any}
 use Rattle.std.specs.Str.{bytes_eq}
-use Rattle.std.proofs.lemmas.Bool.{and_parts, and_from, leb-true, le-leb}
+use Rattle.std.proofs.lemmas.Bool.{leb-true, le-leb}
 use Rattle.std.proofs.lemmas.Slice.Eq.{bytes_eq-Decides}
 use Rattle.int_rows.specs.Range.{InRange}
 use Rattle.problem_rules.specs.Each.{Each}
-use Rattle.text_rules.specs.Canonical.{joined}
-use Rattle.text_laws.proofs.Each.{each-to}
-use Rattle.tree_text_rules.specs.Line.{Token, Line, is_space, tokens_of, has_bytes, is_formed, behind_first, fields_of}
+use Rattle.tree_text_rules.specs.Line.{Token, Line, tokens_of, behind_first, fields_of}
 use Rattle.tree_text_rules.specs.LineRead.{formed, one, one_and_more}
 use Rattle.tree_text_rules.specs.Token.{both, mapped, judged, number_of, count_of, children_of}
 use Rattle.tree_text_rules.specs.declared.TreeKind.{TreeKind}
@@ -19,29 +16,12 @@ use Rattle.tree_text_laws.specs.LineFits.{IsCount, IsSomeCount}
 use Rattle.tree_text_laws.proofs.Codes.{AreFields, mapped_ok, both_ok, judged_ok, judged_again, formed_ok, formed_again, one_fields, more_fields}
 use Rattle.tree_text_laws.proofs.Decimals.{number_code, counts, children}
 use Rattle.tree_text_laws.proofs.NodeLines.{all_each, each_all}
-use Rattle.tree_text_laws.proofs.Pieces.{split_joined, joined_split}
+use Rattle.tree_text_laws.proofs.Said.{tokens_said, formed_said, line_from}
 use Rattle.ranked_tree.specs.Marked.{Mark, Name}
 use Rattle.rank_text.specs.Opened.{is_first, begins_by, mark_by, named_read}
 use Rattle.rank_text.specs.Read.{behind_word, word_read, count_read, networks_read}
 use Rattle.rank_text.specs.Spelling.{count_word, networks_word, named_word}
 use Rattle.rank_text.specs.Fits.{FitsMark}
-
--- ---- lines of tokens
-
-pub tokens_said : (token : Token) (tokens : List Token) → IsToken token → Each IsToken tokens → tokens_of (line_of (token ∷ tokens)) ≡ token ∷ tokens
-tokens_said token tokens one each = split_joined is_space 32 token tokens refl one.space (each-to IsToken (λ t. list_any is_space t ≡ false) (λ t is. is.space) tokens each)
-
-all_some : (tokens : List Token) → Each IsToken tokens → list_all has_bytes tokens ≡ true
-all_some [] each = refl
-all_some (token ∷ tokens) each = and_from (has_bytes token) (list_all has_bytes tokens) each.0.some (all_some tokens each.1)
-
-pub formed_said : (token : Token) (tokens : List Token) → IsToken token → Each IsToken tokens → is_formed (line_of (token ∷ tokens)) ≡ true
-formed_said token tokens one each = ap (list_all has_bytes) (tokens_said token tokens one each) ∙ all_some (token ∷ tokens) (one, each)
-
-pub line_from : (line : Line) (tokens : List Token) → is_formed line ≡ true → tokens_of line ≡ tokens → line ≡ line_of tokens
-line_from line tokens formed cut =
-    ap₂ (λ (t : List ℕ) (b : Bool). let l : Line = record { text = t; ended = b } in l)
-    (sym (joined_split 32 line.text) ∙ ap (joined 32) cut) (and_parts line.ended (list_all has_bytes (tokens_of line)) formed).0
 
 -- ---- a word and one token
 

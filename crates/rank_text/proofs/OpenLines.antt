@@ -9,11 +9,12 @@ use Rattle.tree_text_rules.specs.declared.TreeKind.{TreeKind}
 use Rattle.tree_text_rules.specs.declared.Word.TheVariants.{Open}
 use Rattle.tree_text_laws.specs.Codes.{line_of, IsToken}
 use Rattle.tree_text_laws.specs.Lines.{lines_said}
+use Rattle.tree_text_laws.proofs.Said.{tokens_said}
 use Rattle.ranked_tree.specs.Marked.{Mark, Name, first_mark, other_marks}
 use Rattle.rank_text.specs.Opened.{is_first, begins_by, opened, mark_read, named_read, with_marks, marks_taken}
 use Rattle.rank_text.specs.Spelling.{named_word}
 use Rattle.rank_text.specs.Fits.{FitsMark}
-use Rattle.rank_text.proofs.Lines.{tokens_said, named_tokens, named_is, name_tokens_are, named_back, named_again}
+use Rattle.rank_text.proofs.Lines.{named_tokens, named_is, name_tokens_are, named_back, named_again}
 
 abbrev pub open_tokens : List Token
 open_tokens = word_text Open ∷ []

@@ -19,7 +19,7 @@ use Rattle.tree_text_laws.proofs.Pieces.{text_back, text_again, HasNoFeed}
 use Rattle.tree_text_laws.proofs.Said.{no_feed}
 use Rattle.tree_text_laws.specs.Fits.{FitsNetwork, FitsTree, FitsTail}
 use Rattle.tree_text_laws.specs.Lines.{lines_said, TakesJust, ReadsJust}
-use Rattle.rank_text.proofs.Parts.{good, good_is, on_line_ok, then_ok, first_back, first_again}
+use Rattle.tree_text_laws.proofs.Parts.{good, good_is, on_line_ok, then_ok, first_back, first_again}
 use Rattle.ranked_tree.specs.Marked.{Mark}
 use Rattle.ranked_tree.specs.Text.{Text}
 use Rattle.rank_text.specs.Opened.{opened, marks_taken}

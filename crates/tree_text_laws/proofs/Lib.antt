@@ -1,7 +1,7 @@
 mod Claims
 mod Heads
 mod Nodes
-mod Parts
+pub mod Parts
 mod Tails
 mod Takings
 mod WholeText

@@ -18,12 +18,21 @@ no_feed tokens each = joined_none is_feed 32 tokens refl (each-to IsToken (λ t.
 
 -- ---- what a line of tokens says
 
-tokens_again : (token : Token) (tokens : List Token) → IsToken token → Each IsToken tokens → tokens_of (line_of (token ∷ tokens)) ≡ token ∷ tokens
-tokens_again token tokens one each = split_joined is_space 32 token tokens refl one.space (each-to IsToken (λ t. list_any is_space t ≡ false) (λ t is. is.space) tokens each)
+pub tokens_said : (token : Token) (tokens : List Token) → IsToken token → Each IsToken tokens → tokens_of (line_of (token ∷ tokens)) ≡ token ∷ tokens
+tokens_said token tokens one each = split_joined is_space 32 token tokens refl one.space (each-to IsToken (λ t. list_any is_space t ≡ false) (λ t is. is.space) tokens each)
 
 all_some : (tokens : List Token) → Each IsToken tokens → list_all has_bytes tokens ≡ true
 all_some [] each = refl
 all_some (token ∷ tokens) each = and_from (has_bytes token) (list_all has_bytes tokens) each.0.some (all_some tokens each.1)
+
+pub formed_said : (token : Token) (tokens : List Token) → IsToken token → Each IsToken tokens → is_formed (line_of (token ∷ tokens)) ≡ true
+formed_said token tokens one each = ap (list_all has_bytes) (tokens_said token tokens one each) ∙ all_some (token ∷ tokens) (one, each)
+
+-- and the line that has its form and these tokens
+pub line_from : (line : Line) (tokens : List Token) → is_formed line ≡ true → tokens_of line ≡ tokens → line ≡ line_of tokens
+line_from line tokens formed cut =
+    ap₂ (λ (t : List ℕ) (b : Bool). let l : Line = record { text = t; ended = b } in l)
+    (sym (joined_split 32 line.text) ∙ ap (joined 32) cut) (and_parts line.ended (list_all has_bytes (tokens_of line)) formed).0
 
 pub word_is_token : (word : Word) → IsToken (word_text word)
 word_is_token words.Network = record { some = refl; space = refl; feed = refl }
@@ -84,9 +93,9 @@ pub record Says (line : Line) (word : Word) (fields : List Token) : Type 0 where
 
 pub says_word : (word : Word) (fields : List Token) → Each IsToken fields → Says (line_of (word_text word ∷ fields)) word fields
 says_word word fields each =
-    let tokens = tokens_again (word_text word) fields (word_is_token word) each in
+    let tokens = tokens_said (word_text word) fields (word_is_token word) each in
     record {
-      formed = ap (list_all has_bytes) tokens ∙ all_some (word_text word ∷ fields) (word_is_token word, each);
+      formed = formed_said (word_text word) fields (word_is_token word) each;
       word_is = ap first_word tokens ∙ word_again word;
       fields_are = ap behind_first tokens;
     }
@@ -121,7 +130,4 @@ first_back (token ∷ tokens) word e = ap (λ (t : Token). t ∷ tokens) (word_b
 
 -- a line with its form is that of its word and the tokens behind it
 pub line_back : (line : Line) (word : Word) → is_formed line ≡ true → word_of line ≡ Some word → line ≡ line_of (word_text word ∷ fields_of line)
-line_back line word formed named =
-    let ended = (and_parts line.ended (list_all has_bytes (tokens_of line)) formed).0 in
-    let text : line.text ≡ joined 32 (word_text word ∷ fields_of line) = sym (joined_split 32 line.text) ∙ ap (joined 32) (first_back (tokens_of line) word named) in
-    ap₂ (λ (t : List ℕ) (b : Bool). let l : Line = record { text = t; ended = b } in l) text ended
+line_back line word formed named = line_from line (word_text word ∷ fields_of line) formed (first_back (tokens_of line) word named)
