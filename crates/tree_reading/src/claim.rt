@@ -104,9 +104,6 @@ pub fn read_claim(
     ensures known { IfOk result (λ found. KnowsClaim problem.now (claim_of found.0)) }
     ensures fault { IfErr result (Tells (claim_taken problem.now cut.line (lines_at bytes.now cut))) }
 {
-    let (opening, first) = match opening_at(problem, bytes, cut) {
-        Err(fault) => return Err(fault),
-        Ok(found) => found,
-    };
+    let (opening, first) = opening_at(problem, bytes, cut)?;
     claim_behind(alloc, problem, opening, bytes, first)
 }

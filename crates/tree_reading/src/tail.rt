@@ -114,9 +114,6 @@ pub fn read_tail(
     ensures known { IfOk result (λ tail. KnowsTail problem.now (tail_of tail)) }
     ensures fault { IfErr result (Tells (tail_taken problem.now cut.line (lines_at bytes.now cut))) }
 {
-    let (opening, first) = match tail_opening_at(bytes, cut) {
-        Err(fault) => return Err(fault),
-        Ok(found) => found,
-    };
+    let (opening, first) = tail_opening_at(bytes, cut)?;
     read_behind(alloc, problem, opening, bytes, first)
 }

@@ -34,18 +34,10 @@ pub fn read_rest(
     ensures known { IfOk result (λ c. KnowsClaim problem.now (claim_of c.0) × KnowsTree problem.now c.1 × KnowsTail problem.now (tail_of c.2)) }
     ensures fault { IfErr result (Tells (rest_taken problem.now cut.line (lines_at bytes.now cut))) }
 {
-    let (claim, first) = match read_claim(alloc, problem, bytes, cut) {
-        Err(fault) => return Err(fault),
-        Ok(found) => found,
-    };
-    let (tree, second) = match read_whole(alloc, problem, bytes, first) {
-        Err(fault) => return Err(fault),
-        Ok(found) => found,
-    };
-    match read_tail(alloc, problem, bytes, second) {
-        Err(fault) => Err(fault),
-        Ok(tail) => Ok((claim, tree, tail)),
-    }
+    let (claim, first) = read_claim(alloc, problem, bytes, cut)?;
+    let (tree, second) = read_whole(alloc, problem, bytes, first)?;
+    let tail = read_tail(alloc, problem, bytes, second)?;
+    Ok((claim, tree, tail))
 }
 
 /// The claim, the tree and the tail that a text stands for. `At` comes exactly where the text is not in the grammar, with the
