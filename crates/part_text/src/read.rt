@@ -13,7 +13,7 @@ use crate::set::set_line;
 use pns_problem::Problem;
 use std::alloc::Global;
 use tree_parts::Part;
-use tree_reading::{Cut, TreeFault, line_at, read_rest};
+use tree_reading::{Cut, TreeFault, kind_at, line_at, read_rest};
 use tree_text_rules::TreeKind;
 use tree_tokens::Line;
 use unit_sets::{Node, UnitSet};
@@ -41,17 +41,11 @@ fn set_at(
     ensures fault { IfErr result (IsFaultAt (SetLine problem.now before word.now) cut.line (lines_at bytes.now cut)) }
 {
     let Some((line, behind)) = line_at(bytes, cut) else {
-        return Err(TreeFault::At {
-            line: cut.line,
-            kind: TreeKind::BadLine,
-        });
+        return Err(kind_at(cut, TreeKind::BadLine));
     };
     match set_line(problem, before, word, &line) {
         Ok(units) => Ok((units, behind)),
-        Err(kind) => Err(TreeFault::At {
-            line: cut.line,
-            kind,
-        }),
+        Err(kind) => Err(kind_at(cut, kind)),
     }
 }
 

@@ -1,4 +1,3 @@
-mod Cuts
 mod Marks
 pub mod OpenBytes
 mod Printing

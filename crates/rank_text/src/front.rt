@@ -4,13 +4,12 @@ ghost use Rattle.tree_tokens.specs.View.{line_of};
 ghost use Rattle.tree_reading.specs.Place.{IsCut, IsBehind, lines_at};
 ghost use Rattle.tree_reading.specs.Taken.{line_taken, taken};
 ghost use Rattle.text_lines.specs.Tells.{Tells};
-ghost use Rattle.text_lines.specs.declared.fault.TextFault.TheVariants as faults;
 ghost use Rattle.rank_text.specs.Read.{file_type_read, word_read, count_read, networks_read};
 
-use crate::cut::{first_token, one_count};
-use tree_reading::{Cut, TreeFault, line_at};
+use crate::cut::count_left;
+use tree_reading::{Cut, TreeFault, kind_at, line_at};
 use tree_text_rules::TreeKind;
-use tree_tokens::{Line, parts_of};
+use tree_tokens::{Line, first_token, parts_of};
 
 /// The first line.
 pub fn file_type_line(line: &Line) -> Result<(), TreeKind>
@@ -30,7 +29,7 @@ fn word_line(word: &[u8], line: &Line) -> Result<u32, TreeKind>
     let (token, fields) = first_token(line.text);
     let parts = parts_of(line);
     if token == word {
-        one_count(parts.formed, fields)
+        count_left(parts.formed, fields)
     } else {
         Err(TreeKind::BadLine)
     }
@@ -67,16 +66,6 @@ fn networks_line(count: u32, line: &Line) -> Result<u32, TreeKind>
             }
         }
         Err(kind) => Err(kind),
-    }
-}
-
-// The fault of this kind of the line at a cut.
-fn kind_at(cut: Cut, kind: TreeKind) -> TreeFault
-    ensures { result ≡ faults.At cut.line kind }
-{
-    TreeFault::At {
-        line: cut.line,
-        kind,
     }
 }
 

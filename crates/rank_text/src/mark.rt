@@ -1,37 +1,21 @@
 //! The line of an open leaf.
-ghost use Rattle.std.specs.Prelude.{◌≡◌, ◌∷◌, ◌≤◌, [], Ok, Err, IfOk, IfErr, IfSome, IfNone};
-ghost use Rattle.std.specs.List.{slice_split};
-ghost use Rattle.tree_text_rules.specs.Line.{is_space};
+ghost use Rattle.std.specs.Prelude.{◌≡◌, ◌∷◌, ◌≤◌, [], Ok, IfOk, IfErr};
 ghost use Rattle.tree_text_rules.specs.LineRead.{one_and_more};
 ghost use Rattle.tree_text_rules.specs.Token as rules;
-ghost use Rattle.tree_text_rules.specs.Token.{told};
-ghost use Rattle.tree_text_rules.specs.declared.TreeKind.TheVariants.{BadNumber};
 ghost use Rattle.text_lines.specs.Tells.{TellsLine};
 ghost use Rattle.tree_tokens.specs.View.{line_of, tokens_in};
 ghost use Rattle.ranked_tree.specs.Text.{AreNumbered};
 ghost use Rattle.ranked_tree.specs.View.{mark_of};
 ghost use Rattle.rank_text.specs.Opened.{mark_by, mark_with, named_read};
 
-use crate::cut::{first_token, one_count};
 use branch_tree::{End, Scaled};
 use pns_problem::Problem;
 use ranked_tree::Mark;
 use std::alloc::Global;
 use tree_text_rules::{TreeKind, Word};
-use tree_tokens::{Line, LineFault, LineParts, end_line, parts_of};
-
-// The number of a network, counted from 1.
-fn network_of(token: &[u8]) -> Option<u32>
-    requires { slice_split is_space token.now ≡ token.now ∷ [] }
-    ensures some { IfSome result (λ k. rules.children_of token.now ≡ Ok k) }
-    ensures numbered { IfSome result (λ k. 1 ≤ k) }
-    ensures none { IfNone result (rules.children_of token.now ≡ Err BadNumber) }
-{
-    match one_count(true, Some(token)) {
-        Ok(count) => { if 1 <= count { Some(count) } else { None } }
-        Err(_) => None,
-    }
-}
+use tree_tokens::{
+    Line, LineFault, LineParts, children_of, end_line, lesser, next_token, parts_of,
+};
 
 // A scale and multipliers, which are read as those of a line `bound`.
 fn scaled_fields(
@@ -55,39 +39,27 @@ fn scaled_fields(
     }
 }
 
-// The fault of a line that has a bad number and this fault.
-fn with_bad_number(other: TreeKind) -> TreeKind
-    ensures { result ≡ rules.lesser BadNumber other }
-{
-    match other {
-        TreeKind::FileType => other,
-        TreeKind::BadLine => other,
-        TreeKind::UnknownName => other,
-        _ => TreeKind::BadNumber,
-    }
-}
-
-// The number of a network, and a scale and multipliers.
+// The number of a network, which was read, and a scale and multipliers.
 fn named_fields(
     alloc: Global,
     problem: &Problem,
-    network: Option<u32>,
+    network: Result<u32, TreeKind>,
     behind: Option<&[u8]>,
 ) -> Result<Mark, LineFault>
-    requires { IfSome network (λ k. 1 ≤ k) }
-    ensures ok { IfOk result (λ m. mark_with (told BadNumber network) (one_and_more rules.number_of rules.number_of (tokens_in behind.entry)) ≡ Ok (mark_of m)) }
+    requires { IfOk network (λ k. 1 ≤ k) }
+    ensures ok { IfOk result (λ m. mark_with network (one_and_more rules.number_of rules.number_of (tokens_in behind.entry)) ≡ Ok (mark_of m)) }
     ensures numbered { IfOk result (λ m. AreNumbered (mark_of m ∷ [])) }
-    ensures fault { IfErr result (TellsLine (mark_with (told BadNumber network) (one_and_more rules.number_of rules.number_of (tokens_in behind.entry)))) }
+    ensures fault { IfErr result (TellsLine (mark_with network (one_and_more rules.number_of rules.number_of (tokens_in behind.entry)))) }
 {
-    match network {
-        Some(network) => match scaled_fields(alloc, problem, behind) {
-            Ok(scaled) => Ok(Mark::Named { network, scaled }),
-            Err(fault) => Err(fault),
+    match scaled_fields(alloc, problem, behind) {
+        Ok(scaled) => match network {
+            Ok(network) => Ok(Mark::Named { network, scaled }),
+            Err(kind) => Err(LineFault::Kind(kind)),
         },
-        None => match scaled_fields(alloc, problem, behind) {
-            Ok(_) => Err(LineFault::Kind(TreeKind::BadNumber)),
-            Err(LineFault::Memory) => Err(LineFault::Memory),
-            Err(LineFault::Kind(other)) => Err(LineFault::Kind(with_bad_number(other))),
+        Err(LineFault::Memory) => Err(LineFault::Memory),
+        Err(LineFault::Kind(other)) => match network {
+            Ok(_) => Err(LineFault::Kind(other)),
+            Err(kind) => Err(LineFault::Kind(lesser(kind, other))),
         },
     }
 }
@@ -98,11 +70,10 @@ fn mark_fields(alloc: Global, problem: &Problem, fields: Option<&[u8]>) -> Resul
     ensures numbered { IfOk result (λ m. AreNumbered (mark_of m ∷ [])) }
     ensures fault { IfErr result (TellsLine (mark_by (tokens_in fields.entry))) }
 {
-    let Some(text) = fields else {
+    let Some((token, behind)) = next_token(fields) else {
         return Err(LineFault::Kind(TreeKind::BadLine));
     };
-    let (token, behind) = first_token(text);
-    let network = network_of(token);
+    let network = children_of(token);
     named_fields(alloc, problem, network, behind)
 }
 

@@ -20,6 +20,7 @@ pub use claim::read_network;
 pub use cut::{Cut, line_at};
 pub use fault::TreeFault;
 pub use head::read_head;
+pub use lines::kind_at;
 pub use node::read_end;
 pub use tail::read_tail;
 pub use text::{read_rest, read_tree};

@@ -3,7 +3,8 @@
 //! A line is a borrowed slice, and its tokens are cut as they are needed, so that nothing but the numbers and columns of a line
 //! takes memory. Modules: `cut` (lines and tokens), `apart` (a line's first word and what stands behind it), `word`, `number`,
 //! `name`, `column` (one token), `some_tokens` (one or two), `list`, `unit_list`, `column_list` (all that are left), `place`, and
-//! the lines: `claim_line`, `node_line`, `steps`, `ends`, `tail_line`. `fault_order` tells the least of several faults.
+//! the lines: `claim_line`, `node_line`, `steps`, `ends`, `tail_line`. `fault_order` tells the least of several faults. Texts that have
+//! other lines beside those of a tree read their tokens by the same calls.
 #![tactic(auto)]
 
 mod apart;
@@ -28,10 +29,13 @@ mod word;
 
 pub use apart::{LineParts, parts_of};
 pub use claim_line::{cost_line, file_type_line, network_line, opening_line, sizes_line};
-pub use cut::{Line, first_line};
+pub use cut::{Line, first_line, first_token, next_token};
 pub use ends::end_line;
+pub use fault_order::lesser;
 pub use line_fault::LineFault;
 pub use node_line::{option_line, root_line};
+pub use number::children_of;
 pub use opening::{Opening, TailOpening};
+pub use some_tokens::one_count;
 pub use steps::step_line;
 pub use tail_line::{close_line, nonbasic_line, place_line, tail_opening_line};

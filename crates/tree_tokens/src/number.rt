@@ -105,7 +105,8 @@ pub fn count_of(token: &[u8]) -> Result<u32, TreeKind>
 
 /// How many children a branch has, at least 1.
 pub fn children_of(token: &[u8]) -> Result<u32, TreeKind>
-    ensures { result ≡ rules.children_of token.now }
+    ensures value { result ≡ rules.children_of token.now }
+    ensures some { IfOk result (λ count. 1 ≤ count) }
 {
     match count_of(token) {
         Ok(count) => {
