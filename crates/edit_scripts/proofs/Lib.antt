@@ -1,6 +1,5 @@
 mod Cutting
 mod Least
-mod Maps
 mod ScriptLines
 mod TermsRead
 mod TokenCounts

@@ -1,15 +1,17 @@
 -- The token of a set of units can stand in a line, and a line of tokens in front of a text is its first.
-use Rattle.std.proofs.Common.{◌≡◌, ◌<◌, ◌≤◌, ◌+◌, ◌==◌, ◌++◌, Bool, true, false, not, cond, nat_lt, ℕ, List, [], ◌∷◌, length, refl, sym, ap, ◌∙◌, arith, append_assoc}
-use Rattle.std.specs.List.{list_any, slice_split, onto_first}
+use Rattle.std.proofs.Common.{◌≡◌, ◌<◌, ◌≤◌, ◌+◌, ◌==◌, ◌++◌, Bool, true, false, not, cond, nat_lt, ℕ, List, [], ◌∷◌, refl, ap, ◌∙◌, arith, append_assoc}
+use Rattle.std.specs.List.{list_any, slice_split}
 use Rattle.std.proofs.lemmas.Bool.{ne_eqb, or_from}
 use Rattle.text_rules.specs.Canonical.{joined}
 use Rattle.text_laws.proofs.Cuts.{split_at}
+use Rattle.text_lines.proofs.Cutting.{parts_some}
 use Rattle.structure_list.specs.Tokens.{digit, token_of, AreDigits}
 use Rattle.structure_list.proofs.TokenLemmas.{token_has_form}
-use Rattle.tree_text_rules.specs.Line.{Token, Line, is_feed, lines_from, lines_of}
+use Rattle.tree_text_rules.specs.Line.{Token, is_feed, lines_from, lines_of}
 use Rattle.tree_text_rules.specs.Spelling.{line_text}
 use Rattle.tree_text_laws.specs.Codes.{line_of, IsToken}
 use Rattle.tree_text_laws.proofs.Pieces.{HasNoFeed}
+use Rattle.tree_tokens.proofs.Cutting.{more_pieces}
 
 -- ---- tokens
 
@@ -37,19 +39,6 @@ set_is_token units =
     }
 
 -- ---- lines
-
-some_part : (c : Bool) (x : ℕ) (parts : List (List ℕ)) → 0 < length (cond c ([] ∷ parts) (onto_first x parts))
-some_part true x parts = omega arith
-some_part false x [] = omega arith
-some_part false x (part ∷ parts) = omega arith
-
-parts_some : (p : ℕ → Bool) (xs : List ℕ) → 0 < length (slice_split p xs)
-parts_some p [] = omega arith
-parts_some p (x ∷ xs) = some_part (p x) x (slice_split p xs)
-
-more_pieces : (piece : List ℕ) (pieces : List (List ℕ)) → 0 < length pieces → lines_from (piece ∷ pieces) ≡ record { text = piece; ended = true } ∷ lines_from pieces
-more_pieces piece [] some = absurd (omega arith)
-more_pieces piece (next ∷ pieces) some = refl
 
 pub line_in_front : (tokens : List Token) (rest : List ℕ) → HasNoFeed tokens → lines_of (line_text tokens ++ rest) ≡ line_of tokens ∷ lines_of rest
 line_in_front tokens rest clear =

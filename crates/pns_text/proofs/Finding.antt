@@ -1,6 +1,5 @@
 -- Tests over lists, and the first that passes.
-use Rattle.std.proofs.lemmas.List.{map-append, take_more}
-use Rattle.std.proofs.Common.{◌≡◌, ◌<◌, ◌+◌, ◌&&◌, ◌||◌, Bool, true, false, cond, not, ℕ, List, [], ◌∷◌, ◌++◌, length, map, take, get_or, filter, find, Some, refl, ◌∙◌, ap}
+use Rattle.std.proofs.Common.{◌≡◌, ◌&&◌, ◌||◌, Bool, true, false, cond, not, ℕ, List, [], ◌∷◌, map, filter, find, Some, refl, ◌∙◌, ap}
 use Rattle.std.specs.List.{list_any}
 use Rattle.std.specs.Str.{bytes_eq}
 use Rattle.problem_rules.specs.Each.{Each}
@@ -57,10 +56,3 @@ and_true false = refl
 pub find_same : {A : Type 0} (p q : A → Bool) (xs : List A) → Each (λ x. p x ≡ q x) xs → find p xs ≡ find q xs
 find_same p q [] each = refl
 find_same p q (x ∷ xs) each = ap (λ b. cond b (Some x) (find p xs)) each.0 ∙ ap (λ rest. cond (q x) (Some x) rest) (find_same p q xs each.1)
-
--- two maps over one more
-pub maps_more : {A B C : Type 0} (f : B → C) (v : A → B) (xs : List A) (i : ℕ) (d : A) → i < length xs → map f (map v (take (i + 1) xs)) ≡ map f (map v (take i xs)) ++ f (v (get_or xs i d)) ∷ []
-maps_more {A} {B} f v xs i d lt =
-    ap (λ (ys : List A). map f (map v ys)) (take_more xs i d lt)
-    ∙ ap (map f) (map-append v (take i xs) (get_or xs i d ∷ []))
-    ∙ map-append f (map v (take i xs)) (v (get_or xs i d) ∷ [])

@@ -27,7 +27,7 @@ use text_lines::term;
 use text_rules::Section;
 
 // The name as a string: a name is ASCII, and so UTF-8.
-#[tactic(auto, using(crate::proofs::Naming::name_utf8))]
+#[tactic(auto, using(text_lines::proofs::Ascii::name_utf8))]
 fn name_string(alloc: Global, name: &[u8]) -> Result<String, AllocError>
     requires { is_name name.now ≡ true }
     ensures { IfOk result (λ s. string_bytes s ≡ name.now) }

@@ -1,5 +1,5 @@
 -- A text is put together from its lines, also with `open` in place of each line that names a network.
-use Rattle.std.proofs.Common.{◌≡◌, ◌≤◌, ◌<◌, ◌+◌, Bool, true, false, cond, ℕ, zero, suc, List, [], ◌∷◌, ◌++◌, map, flat_map, length, take, drop, refl, sym, ap, ◌∙◌, subst, arith, append_assoc, append-nil, if◌then◌else◌}
+use Rattle.std.proofs.Common.{◌≡◌, ◌≤◌, ◌+◌, Bool, true, false, cond, ℕ, zero, suc, List, [], ◌∷◌, ◌++◌, map, flat_map, length, take, drop, refl, sym, ap, ◌∙◌, subst, arith, append_assoc, append-nil, if◌then◌else◌}
 use Rattle.std.specs.List.{list_any, slice_split, onto_first}
 use Rattle.std.proofs.lemmas.Bool.{or_from}
 use Rattle.std.proofs.lemmas.List.{length-append}
@@ -7,9 +7,11 @@ use Rattle.std.proofs.lemmas.Slice.Eq.{bytes_eq-Decides}
 use Rattle.problem_rules.specs.Each.{Each}
 use Rattle.text_rules.specs.Canonical.{joined}
 use Rattle.text_laws.proofs.Cuts.{split_at, split_none}
+use Rattle.text_lines.proofs.Cutting.{parts_some}
 use Rattle.tree_text_rules.specs.Line.{Token, Line, is_feed, lines_from, lines_of, tokens_of, word_text}
 use Rattle.tree_text_rules.specs.declared.Word.TheVariants.{Open, Unknown}
 use Rattle.tree_text_laws.proofs.Pieces.{joined_split}
+use Rattle.tree_tokens.proofs.Cutting.{more_pieces}
 use Rattle.rank_text.specs.Opened.{is_first, begins_by, opened, unknown_line, line_bytes}
 use Rattle.rank_text.specs.Spelling.{named_word}
 
@@ -43,24 +45,11 @@ pieces_clear (c ∷ cs) = at (is_feed c) refl (slice_split is_feed cs) (pieces_c
     at false e [] each = (or_from (is_feed c) false e refl, tt)
     at false e (piece ∷ pieces) each = (or_from (is_feed c) (list_any is_feed piece) e each.0, each.1)
 
-some_part : (c : Bool) (x : ℕ) (parts : List (List ℕ)) → 0 < length (cond c ([] ∷ parts) (onto_first x parts))
-some_part true x parts = omega arith
-some_part false x [] = omega arith
-some_part false x (part ∷ parts) = omega arith
-
-parts_some : (bytes : List ℕ) → 0 < length (slice_split is_feed bytes)
-parts_some [] = omega arith
-parts_some (c ∷ cs) = some_part (is_feed c) c (slice_split is_feed cs)
-
-more_pieces : (piece : List ℕ) (pieces : List (List ℕ)) → 0 < length pieces → lines_from (piece ∷ pieces) ≡ record { text = piece; ended = true } ∷ lines_from pieces
-more_pieces piece [] some = absurd (omega arith)
-more_pieces piece (next ∷ pieces) some = refl
-
 front_line : (text rest : List ℕ) → IsClear text → lines_of ((text ++ 10 ∷ []) ++ rest) ≡ record { text = text; ended = true } ∷ lines_of rest
 front_line text rest clear =
     ap lines_of (append_assoc text (10 ∷ []) rest)
     ∙ ap lines_from (split_at is_feed text 10 rest clear refl)
-    ∙ more_pieces text (slice_split is_feed rest) (parts_some rest)
+    ∙ more_pieces text (slice_split is_feed rest) (parts_some is_feed rest)
 
 last_alone : (c : ℕ) (cs : List ℕ) → IsClear (c ∷ cs) → lines_of ((c ∷ cs) ++ []) ≡ record { text = c ∷ cs; ended = false } ∷ []
 last_alone c cs clear = ap lines_of (append-nil (c ∷ cs)) ∙ ap lines_from (split_none is_feed (c ∷ cs) clear)

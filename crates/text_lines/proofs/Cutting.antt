@@ -61,7 +61,7 @@ last-more x y ys =
     ∙ if_last (length (slice_index_or (y ∷ ys) (length ys) (0 ∷ [])) == 0) x (length ys) (y ∷ ys)
     ∙ ap (λ (k : ℕ). x ∷ without_last k (y ∷ ys)) (sym short)
 
-more_parts : (x : List ℕ) (parts : List (List ℕ)) → 0 < length parts → without_empty_last (x ∷ parts) ≡ x ∷ without_empty_last parts
+pub more_parts : (x : List ℕ) (parts : List (List ℕ)) → 0 < length parts → without_empty_last (x ∷ parts) ≡ x ∷ without_empty_last parts
 more_parts x [] lt = absurd (omega arith)
 more_parts x (y ∷ ys) lt = last-more x y ys
 
@@ -70,7 +70,7 @@ some_part true x parts = omega arith
 some_part false x [] = omega arith
 some_part false x (part ∷ parts) = omega arith
 
-parts_some : (p : ℕ → Bool) (xs : List ℕ) → 0 < length (slice_split p xs)
+pub parts_some : (p : ℕ → Bool) (xs : List ℕ) → 0 < length (slice_split p xs)
 parts_some p [] = omega arith
 parts_some p (x ∷ xs) = some_part (p x) x (slice_split p xs)
 
@@ -80,7 +80,7 @@ lines-cut rest at e lt =
     ap (λ (parts : List (List ℕ)). map cleaned (without_empty_last parts)) (split-at (λ (c : ℕ). c == 10) rest 0 at e lt)
     ∙ ap (map cleaned) (more_parts (take at rest) (slice_split (λ c. c == 10) (drop (at + 1) rest)) (parts_some (λ c. c == 10) (drop (at + 1) rest)))
 
-last_one : (x : ℕ) (xs : List ℕ) → without_empty_last ((x ∷ xs) ∷ []) ≡ (x ∷ xs) ∷ []
+pub last_one : (x : ℕ) (xs : List ℕ) → without_empty_last ((x ∷ xs) ∷ []) ≡ (x ∷ xs) ∷ []
 last_one x xs = cond-false (suc (length xs) == 0) [] ((x ∷ xs) ∷ []) (ne_eqb (suc (length xs)) 0 (λ e. omega (arith, e)))
 
 pub lines-last : (rest : List ℕ) → 0 < length rest → length rest ≤ position_or_len (λ c. c == 10) rest → lines_from rest ≡ cleaned rest ∷ []

@@ -1,6 +1,8 @@
+pub mod Ascii
 pub mod Borrowed
 pub mod Cutting
 pub mod Mantissa
+pub mod Maps
 pub mod Marks
 pub mod Naming
 pub mod Plain

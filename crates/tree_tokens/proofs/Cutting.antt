@@ -1,20 +1,12 @@
 -- A text is cut line by line, and a line token by token.
-use Rattle.std.proofs.Common.{cond, sym, ◌≡◌, ◌<◌, ◌≤◌, ◌+◌, ℕ, Bool, true, false, List, [], ◌∷◌, length, take, drop, refl, ap, ◌∙◌, arith}
-use Rattle.std.specs.List.{slice_split, onto_first, position_or_len}
+use Rattle.std.proofs.Common.{sym, ◌≡◌, ◌<◌, ◌≤◌, ◌+◌, ℕ, true, false, List, [], ◌∷◌, length, take, drop, refl, ap, ◌∙◌, arith}
+use Rattle.std.specs.List.{slice_split, position_or_len}
 use Rattle.std.proofs.lemmas.Grind.{common_steps}
-use Rattle.text_lines.proofs.Cutting.{split-at, split-none}
+use Rattle.text_lines.proofs.Cutting.{split-at, split-none, parts_some}
 use Rattle.tree_text_rules.specs.Line.{lines_of, lines_from, is_feed, is_space}
 
-some_part : (c : Bool) (x : ℕ) (parts : List (List ℕ)) → 0 < length (cond c ([] ∷ parts) (onto_first x parts))
-some_part true x parts = omega arith
-some_part false x [] = omega arith
-some_part false x (part ∷ parts) = omega arith
-
-parts_some : (p : ℕ → Bool) (xs : List ℕ) → 0 < length (slice_split p xs)
-parts_some p [] = omega arith
-parts_some p (x ∷ xs) = some_part (p x) x (slice_split p xs)
-
-more_pieces : (piece : List ℕ) (pieces : List (List ℕ)) → 0 < length pieces → lines_from (piece ∷ pieces) ≡ record { text = piece; ended = true } ∷ lines_from pieces
+-- a part behind which others come
+pub more_pieces : (piece : List ℕ) (pieces : List (List ℕ)) → 0 < length pieces → lines_from (piece ∷ pieces) ≡ record { text = piece; ended = true } ∷ lines_from pieces
 more_pieces piece [] some = absurd (omega arith)
 more_pieces piece (next ∷ pieces) some = refl
 

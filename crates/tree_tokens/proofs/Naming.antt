@@ -1,26 +1,12 @@
 -- A token is found among names, or is none of them.
-use Rattle.std.proofs.Common.{◌≡◌, ◌<◌, ◌+◌, ◌&&◌, ℕ, zero, suc, Bool, true, false, cond, not, List, [], ◌∷◌, length, map, nat_lt, nat_le, Some, None, Decides, refl, subst, arith, slice_index}
-use Rattle.std.specs.List.{list_all, position, position_or_len}
-use Rattle.std.specs.Str.{bytes_eq, IsUtf8, IsAscii}
-use Rattle.std.proofs.lemmas.Bool.{and_parts, le-ltb, cond-false}
-use Rattle.std.proofs.lemmas.Bool.Decides.{nat_tests}
+use Rattle.std.proofs.Common.{◌≡◌, ◌+◌, ℕ, suc, Bool, true, false, cond, not, List, [], ◌∷◌, length, map, nat_lt, Some, None, Decides, refl, subst, arith}
+use Rattle.std.specs.List.{position, position_or_len}
+use Rattle.std.specs.Str.{bytes_eq, IsUtf8}
+use Rattle.std.proofs.lemmas.Bool.{le-ltb, cond-false}
 use Rattle.std.proofs.lemmas.Slice.Eq.{bytes_eq-Decides}
-use Rattle.std.proofs.lemmas.Str.{IsUtf8-from_ascii}
 use Rattle.problem_rules.specs.Each.{Each}
-use Rattle.problem_rules.specs.Names.{is_name, begins_name, continues_name}
-
-low : (c : ℕ) → continues_name c ≡ true → c < 128
-low c h = grind (arith, nat_tests)
-
-all_low : (text : List ℕ) → list_all continues_name text ≡ true → IsAscii text
-all_low [] h i = omega arith
-all_low (c ∷ cs) h zero = low c (and_parts (continues_name c) (list_all continues_name cs) h).0
-all_low (c ∷ cs) h (suc i) = all_low cs (and_parts (continues_name c) (list_all continues_name cs) h).1 i
-
-name_utf8 : (text : List ℕ) → is_name text ≡ true → IsUtf8 text
-name_utf8 text h =
-    let front = nat_le 1 (length text) && nat_le (length text) 64 && begins_name (slice_index text 0) in
-    IsUtf8-from_ascii text (all_low text (and_parts front (list_all continues_name text) h).1)
+use Rattle.problem_rules.specs.Names.{is_name}
+use Rattle.text_lines.proofs.Ascii.{name_utf8}
 
 not_same : (b : Bool) (name token : List ℕ) → Decides b (name ≡ token) → (name ≡ token → ⊥) → b ≡ false
 not_same true name token d apart = absurd (apart (d.0 refl))

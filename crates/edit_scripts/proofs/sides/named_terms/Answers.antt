@@ -3,7 +3,7 @@ use Rattle.edit_rules.specs.Edit as rules
 use Rattle.text_lines.specs.Terms.{term_view, terms_view}
 use Rattle.text_lines.specs.declared.term.Term.{Term}
 use Rattle.script_rules.specs.Term.{term_read}
-use Rattle.edit_scripts.proofs.Maps.{maps_more}
+use Rattle.text_lines.proofs.Maps.{maps_more}
 use Rattle.edit_scripts.proofs.sides.named_terms.Goals as goal
 
 pub naming-preserved : goal.naming-preserved

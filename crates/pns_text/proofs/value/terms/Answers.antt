@@ -3,7 +3,7 @@ use Rattle.problem_rules.specs.Problem as rules
 use Rattle.text_lines.specs.Terms.{term_view, terms_view}
 use Rattle.text_lines.specs.declared.term.Term.{Term}
 use Rattle.pns_text.specs.Value.{term_from}
-use Rattle.pns_text.proofs.Finding.{maps_more}
+use Rattle.text_lines.proofs.Maps.{maps_more}
 use Rattle.pns_text.proofs.value.terms.Goals as goal
 
 pub loop-one-preserved : goal.loop-one-preserved
