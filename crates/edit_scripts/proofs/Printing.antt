@@ -1,10 +1,10 @@
 -- Fields that are appended one after another make the line of an edit.
 use Rattle.std.proofs.Common.{◌≡◌, ◌<◌, ◌-◌, take, arith, ℕ, List, [], ◌∷◌, ◌++◌, codes, length, drop, get_or, refl, sym, ap, ◌∙◌, append_assoc, append-nil}
 use Rattle.std.proofs.lemmas.List.{take_all}
-use Rattle.edit_rules.specs.Edit.{NamedTerm, Edit}
+use Rattle.edit_rules.specs.Edit.{NamedTerm}
 use Rattle.text_rules.specs.Canonical.{joined}
-use Rattle.script_rules.specs.Printed.{term_tokens, side_tokens, edit_line}
-use Rattle.edit_scripts.specs.Printing.{appended, further_terms, edit_lines}
+use Rattle.script_rules.specs.Printed.{term_tokens, side_tokens}
+use Rattle.edit_scripts.specs.Printing.{appended, further_terms}
 
 -- fields behind fields
 pub appended-append : (text : List ℕ) (xs ys : List (List ℕ)) → appended text (xs ++ ys) ≡ appended (appended text xs) ys
@@ -25,12 +25,6 @@ line_appended text word (field ∷ fields) =
 pub side_is : (t : NamedTerm) (ts : List NamedTerm) → side_tokens (t ∷ ts) ≡ term_tokens t ++ further_terms ts
 side_is t [] = sym (append-nil (term_tokens t))
 side_is t (next ∷ ts) = ap (λ (rest : List (List ℕ)). term_tokens t ++ codes "+" ∷ rest) (side_is next ts)
-
--- one more line
-pub line_more : (text : List ℕ) (edit : Edit) (edits : List Edit) → ((text ++ edit_line edit) ++ 10 ∷ []) ++ edit_lines edits ≡ text ++ edit_lines (edit ∷ edits)
-line_more text edit edits =
-    ap (λ (t : List ℕ). t ++ edit_lines edits) (append_assoc text (edit_line edit) (10 ∷ []))
-    ∙ append_assoc text (edit_line edit ++ 10 ∷ []) (edit_lines edits)
 
 -- a side from its first term on
 pub side_of_terms : (terms : List NamedTerm) (t d : NamedTerm) (text : List ℕ) → 0 < length terms → t ≡ get_or terms 0 d → appended (appended text (term_tokens t)) (further_terms (take (length terms - 1) (drop 1 terms))) ≡ appended text (side_tokens terms)

@@ -1,5 +1,5 @@
 -- What is read of a line without a fault is an edit without a fault of form.
-use Rattle.std.proofs.Common.{◌≡◌, ◌<◌, ◌≤◌, ◌+◌, ◌||◌, ◌==◌, Bool, true, false, ℕ, suc, Option, Some, None, List, [], ◌∷◌, map, length, Result, Ok, Err, ℤ, pos, refl, subst, ap, ◌∙◌, arith, codes, if◌then◌else◌}
+use Rattle.std.proofs.Common.{◌≡◌, ◌<◌, ◌+◌, ◌||◌, ◌==◌, Bool, true, false, ℕ, suc, Option, Some, None, List, [], ◌∷◌, map, length, Result, Ok, Err, ℤ, pos, refl, subst, ap, ◌∙◌, arith, codes, if◌then◌else◌}
 use Rattle.std.specs.List.{list_any}
 use Rattle.std.specs.Str.{bytes_eq}
 use Rattle.std.proofs.lemmas.Bool.{or_parts, eqb-false}
@@ -237,10 +237,6 @@ record AreFormedBehind (low : ℕ) (s : Script) : Type 0 where
   edits_formed : Each IsFormed s.edits
   one_line_each : length s.lines ≡ length s.edits
   rising : AreRising low s.lines
-
-rising_less : (low higher : ℕ) (ns : List ℕ) → low ≤ higher → AreRising higher ns → AreRising low ns
-rising_less low higher [] le rising = tt
-rising_less low higher (n ∷ ns) le rising = let less : higher < n = rising.0 in (omega (arith, less), rising.1)
 
 with_formed : (low number : ℕ) (read : Result Edit EditKind) (rest : Result Script Fault) → ((e : Edit) → read ≡ Ok e → IsFormed e) → ((t : Script) → rest ≡ Ok t → AreFormedBehind number t)
     → low < number → (s : Script) → with_line number read rest ≡ Ok s → AreFormedBehind low s

@@ -29,13 +29,6 @@ take_edit edits lines number text edit texts some good =
     ∙ ap (λ (r : Result Edit EditKind). with_front edits lines (with_line number r (lines_read (number + 1) texts))) (sym good)
     ∙ ap (with_front edits lines) (sym (line_taken number text texts some))
 
--- at a line with a fault
-pub take_fault : (edits : List Edit) (lines : List ℕ) (number : ℕ) (text : List ℕ) (kind : EditKind) (texts : List (List ℕ)) → 0 < length text → line_read text ≡ Err kind
-    → with_front edits lines (lines_read number (text ∷ texts)) ≡ Err (number, kind)
-take_fault edits lines number text kind texts some bad =
-    ap (with_front edits lines) (line_taken number text texts some)
-    ∙ ap (λ (r : Result Edit EditKind). with_front edits lines (with_line number r (lines_read (number + 1) texts))) bad
-
 -- past an empty line
 pub take_empty : (edits : List Edit) (lines : List ℕ) (number : ℕ) (text : List ℕ) (texts : List (List ℕ)) → length text ≡ 0
     → with_front edits lines (lines_read (number + 1) texts) ≡ with_front edits lines (lines_read number (text ∷ texts))

@@ -1,37 +1,24 @@
 -- The lines of a part's text that are read one by one.
-use Rattle.std.proofs.Common.{◌≡◌, ℕ, true, false, List, [], ◌∷◌, codes, Result, Err, refl, sym, ap, ap₂, ◌∙◌, subst, inl, inr}
+use Rattle.std.proofs.Common.{◌≡◌, ℕ, true, List, [], ◌∷◌, codes, Result, sym, ap, ◌∙◌, subst, inr}
 use Rattle.problem_rules.specs.Problem.{Problem}
 use Rattle.tree_text_rules.specs.Line.{Line}
 use Rattle.tree_text_rules.specs.Read.{Fault, Certificate, rest_taken}
 use Rattle.tree_text_rules.specs.declared.TreeKind.{TreeKind}
-use Rattle.tree_text_rules.specs.declared.TreeKind.TheVariants.{FileType}
 use Rattle.tree_parts.specs.Part.{Part}
-use Rattle.part_text.specs.Lines.{IsTaken, IsFaultAt}
-use Rattle.text_lines.specs.declared.fault.TextFault.TheVariants.{At}
+use Rattle.part_text.specs.Lines.{IsTaken}
 use Rattle.part_text.specs.Read.{SetLine, FirstLine, StartReads, BehindType, LinesRead, is_file_type, with_start}
 
 -- ---- the first line
 
-module _ (p : Problem) (lines : List Line) where
-  pub no_lines : lines ≡ [] → LinesRead p lines (Err (1, FileType))
-  no_lines e = subst (λ (ls : List Line). LinesRead p ls (Err (1, FileType))) (sym e) refl
-
-  module _ (line : Line) (rest : List Line) (cut : lines ≡ line ∷ rest) where
-    pub wrong_type : is_file_type line ≡ false → LinesRead p lines (Err (1, FileType))
-    wrong_type e = subst (λ (ls : List Line). LinesRead p ls (Err (1, FileType))) (sym cut) (subst (λ b. BehindType b p rest (Err (1, FileType))) (sym e) refl)
-
-    pub right_type : is_file_type line ≡ true → (r : Result Part Fault) → StartReads p rest r → LinesRead p lines r
-    right_type e r read = subst (λ (ls : List Line). LinesRead p ls r) (sym cut) (subst (λ b. BehindType b p rest r) (sym e) read)
+module _ (p : Problem) (lines : List Line) (line : Line) (rest : List Line) (cut : lines ≡ line ∷ rest) where
+  pub right_type : is_file_type line ≡ true → (r : Result Part Fault) → StartReads p rest r → LinesRead p lines r
+  right_type e r read = subst (λ (ls : List Line). LinesRead p ls r) (sym cut) (subst (λ b. BehindType b p rest r) (sym e) read)
 
 -- ---- a line that is judged, and the lines behind it
 
 module _ (Judged : Line → Result (List ℕ) TreeKind → Type 0) (number : ℕ) (Read : List ℕ → List Line → Result Part Fault → Type 0) where
   pub first_taken : (lines : List Line) (units : List ℕ) (behind : List Line) (r : Result Part Fault) → IsTaken Judged lines units behind → Read units behind r → FirstLine Judged number lines Read r
   first_taken lines units behind r taken read = subst (λ (ls : List Line). FirstLine Judged number ls Read r) (sym taken.cut) (inr (units, taken.judged, read))
-
-  pub first_fault : (lines : List Line) (line : ℕ) (kind : TreeKind) → IsFaultAt Judged number lines (At line kind) → FirstLine Judged number lines Read (Err (line, kind))
-  first_fault [] line kind h = ap₂ (λ (n : ℕ) (k : TreeKind). Err (n, k)) h.0 h.1
-  first_fault (l ∷ ls) line kind h = inl (kind, h.1, ap (λ (n : ℕ). Err (n, kind)) h.0)
 
 -- ---- both sets
 
@@ -45,15 +32,7 @@ module _ (p : Problem) (lines : List Line) where
   abbrev OutsideReads : List ℕ → List Line → Result Part Fault → Type 0
   OutsideReads inside lines = FirstLine (OutsideIs p inside) 3 lines (λ outside lines result. result ≡ with_start inside outside (rest_taken p 4 lines))
 
-  pub inside_fault : (line : ℕ) (kind : TreeKind) → IsFaultAt (InsideIs p) 2 lines (At line kind) → StartReads p lines (Err (line, kind))
-  inside_fault = first_fault (InsideIs p) 2 OutsideReads lines
-
   module _ (inside : List ℕ) (second : List Line) (taken : IsTaken (InsideIs p) lines inside second) where
-    pub outside_fault : (line : ℕ) (kind : TreeKind) → IsFaultAt (OutsideIs p inside) 3 second (At line kind) → StartReads p lines (Err (line, kind))
-    outside_fault line kind h =
-        first_taken (InsideIs p) 2 OutsideReads lines inside second (Err (line, kind)) taken
-        (first_fault (OutsideIs p inside) 3 (λ outside lines result. result ≡ with_start inside outside (rest_taken p 4 lines)) second line kind h)
-
     module _ (outside : List ℕ) (third : List Line) (taken' : IsTaken (OutsideIs p inside) second outside third) where
       pub rest_read : (number : ℕ) (read : Result Certificate Fault) → number ≡ 4 → rest_taken p number third ≡ read → StartReads p lines (with_start inside outside read)
       rest_read number read is e =

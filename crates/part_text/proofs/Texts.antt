@@ -1,6 +1,6 @@
 -- The text of a part reads as the part, and no other text does.
-use Rattle.std.proofs.Common.{◌≡◌, ◌++◌, ◌&&◌, Bool, true, false, ℕ, List, [], ◌∷◌, map, codes, Result, Ok, Err, refl, sym, ap, ap₂, ◌∙◌, subst, inl, inr, if◌then◌else◌}
-use Rattle.std.specs.List.{list_all, slice_split}
+use Rattle.std.proofs.Common.{◌≡◌, ◌&&◌, Bool, true, false, ℕ, List, [], ◌∷◌, map, codes, Result, Ok, Err, refl, sym, ap, ap₂, ◌∙◌, subst, inl, inr}
+use Rattle.std.specs.List.{list_all}
 use Rattle.std.specs.Str.{bytes_eq}
 use Rattle.std.proofs.lemmas.Bool.{and_parts, and_from}
 use Rattle.std.proofs.lemmas.Slice.Eq.{bytes_eq-Decides}
@@ -8,19 +8,18 @@ use Rattle.text_rules.specs.Canonical.{joined}
 use Rattle.problem_rules.specs.Problem.{Problem}
 use Rattle.problem_rules.specs.Validity.{IsValid}
 use Rattle.structure_list.specs.Tokens.{token_of}
-use Rattle.tree_text_rules.specs.Line.{Token, Line, is_space, has_bytes, tokens_of, is_formed, lines_of}
+use Rattle.tree_text_rules.specs.Line.{Token, Line, is_space, has_bytes, tokens_of, lines_of}
 use Rattle.tree_text_rules.specs.Line as trees
-use Rattle.tree_text_rules.specs.Read.{Fault, Certificate, rest_taken, lines_taken, read_text}
+use Rattle.tree_text_rules.specs.Read.{Fault, Certificate, rest_taken, lines_taken}
 use Rattle.tree_text_rules.specs.Spelling.{rest_lines, text_of, tree_text}
-use Rattle.tree_text_rules.specs.declared.TreeKind.{TreeKind}
 use Rattle.tree_text_laws.specs.Codes.{line_of, IsToken}
 use Rattle.tree_text_laws.proofs.Pieces.{split_joined, joined_split, text_back, HasNoFeed}
 use Rattle.tree_text_laws.proofs.Said.{no_feed}
 use Rattle.tree_text_laws.specs.Fits as fits
 use Rattle.tree_text_laws.specs.Laws.{RestsAreRead, SpelledTextsRead}
-use Rattle.tree_parts.specs.Part.{Part, IsApart}
+use Rattle.tree_parts.specs.Part.{Part}
 use Rattle.part_text.specs.Read as reads
-use Rattle.part_text.specs.Read.{PartReads, LinesRead, StartReads, BehindType, SetLine, IsFormedAs, with_start, is_file_type}
+use Rattle.part_text.specs.Read.{PartReads, LinesRead, StartReads, BehindType, IsFormedAs, with_start, is_file_type}
 use Rattle.part_text.specs.Spelling.{file_type, set_line, part_text_lines, part_text}
 use Rattle.part_text.specs.Laws.{certificate_of, Fits, IsSpelled}
 use Rattle.part_text.proofs.SetTokens.{set_is_token, line_in_front}
@@ -88,9 +87,6 @@ module _ (p : Problem) (valid : IsValid p) (rests : RestsAreRead) where
         subst (λ (ls : List Line). LinesRead p ls (Ok part)) (sym (text_said part fit.rest)) start
 
   -- ---- no other text does
-
-  read_ok : Part → Result Part Fault
-  read_ok part = Ok part
 
   rest_back : (inside outside : List ℕ) (part : Part) (lines : List Line) (r : Result Certificate Fault) → rest_taken p 4 lines ≡ r → reads.Fits p [] inside → reads.Fits p inside outside → Ok part ≡ with_start inside outside r
       → (line_of (set_line (codes "inside") inside) ∷ line_of (set_line (codes "outside") outside) ∷ lines ≡ map line_of (set_line (codes "inside") part.inside ∷ set_line (codes "outside") part.outside ∷ lines_behind part)) × Fits p part

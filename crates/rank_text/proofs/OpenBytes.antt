@@ -123,11 +123,6 @@ front_long zero xs le = omega arith
 front_long (suc n) [] le = absurd (omega (arith, le))
 front_long (suc n) (x ∷ xs) le = let rest = front_long n xs (omega (arith, le)) in omega (arith, rest)
 
-take_long : (n : ℕ) (xs : List ℕ) → n ≤ length xs → length (take n xs) ≡ n
-take_long zero xs le = refl
-take_long (suc n) [] le = absurd (omega (arith, le))
-take_long (suc n) (x ∷ xs) le = let rest = take_long n xs (omega (arith, le)) in omega (arith, rest)
-
 -- the text behind what stands before the place
 abbrev pub opened_from : List ℕ → ℕ → List ℕ
 opened_from bytes at = bytes_of (unknown_line ∷ map opened (lines_of (drop at bytes)))
@@ -156,13 +151,6 @@ module _ (bytes made : List ℕ) (at : ℕ) (within : at ≤ length bytes) (is :
       let long = from_long bytes at in
       let front = front_long at bytes within in
       omega (arith, same, parts, long, front)
-
-  pub made_some : at ≤ length made
-  made_some =
-      let same = ap (λ (bs : List ℕ). length bs) is in
-      let parts = length-append (take at bytes) (opened_from bytes at) in
-      let front = take_long at bytes within in
-      omega (arith, same, parts, front)
 
 -- ---- a text that is made line by line
 

@@ -38,9 +38,6 @@ said_append (x ∷ xs) ys = ap (λ (ls : List Line). line_of x ∷ ls) (said_app
 
 -- ---- the first line
 
-type_again : file_type_read (line_of (file_type ∷ [])) ≡ Ok tt
-type_again = refl
-
 type_back : (line : Line) (u : Unit {0}) → file_type_read line ≡ Ok u → line ≡ line_of (file_type ∷ [])
 type_back line u e = at line.ended refl (bytes_eq line.text file_type) refl e
   where

@@ -17,7 +17,7 @@ use Rattle.tree_reading.specs.Taken.{line_taken}
 use Rattle.text_lines.specs.Tells.{Tells}
 use Rattle.text_lines.specs.declared.fault.TextFault.{TextFault}
 use Rattle.text_lines.specs.declared.fault.TextFault.TheVariants.{At, Memory}
-use Rattle.tree_reading.proofs.FirstLines.{first_next, first_tells, read_tells}
+use Rattle.tree_reading.proofs.FirstLines.{first_next, first_tells}
 use Rattle.ranked_tree.specs.Marked.{Mark}
 use Rattle.ranked_tree.specs.Text.{Text}
 use Rattle.rank_text.specs.Opened.{opened, unknown_line, marks_taken, so_far}
@@ -187,11 +187,6 @@ module _ (p : Problem) (number : ℕ) (lines : List Line) where
     module _ (k number'' : ℕ) (lines'' : List Line) (e' : line_taken (networks_read count) number' lines' ≡ Ok (record { what = k; number = number''; behind = lines'' })) where
       from_networks : rest_taken p number lines ≡ list_then p count k number'' lines''
       from_networks = from_count ∙ first_next (networks_read count) number' lines' (list_then p count) (record { what = k; number = number''; behind = lines'' }) e'
-
-      pub list_bad : (fault : TextFault TreeKind) → Tells (networks_taken p k number'' lines'') fault → Tells (rest_taken p number lines) fault
-      list_bad fault h =
-          subst (λ (r : Result Text Fault). Tells r fault) (sym from_networks)
-          (read_tells (networks_taken p k number'' lines'') (behind_networks p count) fault h)
 
       pub list_ok : (ws : List Network) (last : ℕ) (behind : List Line) → networks_taken p k number'' lines'' ≡ Ok (record { what = ws; number = last; behind = behind }) → rest_taken p number lines ≡ behind_networks p count ws last behind
       list_ok ws last behind f = from_networks ∙ ap (λ (r : Result (Taken (List Network)) Fault). then_read r (behind_networks p count)) f

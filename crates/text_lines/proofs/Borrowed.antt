@@ -5,9 +5,6 @@ use Rattle.std.proofs.lemmas.Grind.{common_steps}
 use Rattle.std.proofs.lemmas.List.{take-map, drop-map, length-map}
 use Rattle.text_lines.specs.View.{texts}
 
-now_of : Bor (List ℕ) → List ℕ
-now_of text = text.now
-
 rest_all : (xs : List (Bor (List ℕ))) (at : ℕ) → take (length xs - (at + 1)) (drop (at + 1) xs) ≡ drop (at + 1) xs
 rest_all xs at = grind (arith, common_steps)
 

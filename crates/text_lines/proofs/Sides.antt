@@ -1,5 +1,5 @@
 -- Terms and sides that are read one by one.
-use Rattle.std.proofs.Common.{◌≡◌, ◌==◌, ◌<◌, ◌≤◌, ◌+◌, ◌||◌, ◌++◌, ℕ, Bool, true, false, not, List, [], ◌∷◌, Option, Some, None, length, map, flat_map, option_map, if◌then◌else◌, refl, ap, sym, ◌∙◌, arith, append_assoc, append-nil, take, drop}
+use Rattle.std.proofs.Common.{◌≡◌, ◌==◌, ◌<◌, ◌≤◌, ◌+◌, ◌||◌, ◌++◌, ℕ, Bool, true, false, not, List, [], ◌∷◌, Option, Some, None, length, map, flat_map, option_map, if◌then◌else◌, refl, ap, sym, ◌∙◌, arith, append_assoc, take, drop}
 use Rattle.std.specs.List.{list_any, slice_split, position_or_len}
 use Rattle.std.proofs.lemmas.Bool.{ne_eqb}
 use Rattle.std.proofs.lemmas.List.{length-map}
@@ -37,12 +37,6 @@ terms-more done pair term rest all whole good cut kept =
     ∙ ap (option_map (λ more. done ++ more)) (sym (term-good term rest pair good))
     ∙ ap (λ (terms : List (List (List ℕ))). option_map (λ more. done ++ more) (terms_read terms)) (sym cut)
     ∙ kept
-
--- the last one
-pub terms-last : (done : List Pair) (pair : Pair) (term : List (List ℕ)) (all : List (List (List ℕ))) (whole : Option (List Pair)) → begins term ≡ Some pair → all ≡ term ∷ []
-    → option_map (λ more. done ++ more) (terms_read all) ≡ whole → Some (done ++ pair ∷ []) ≡ whole
-terms-last done pair term all whole good cut kept =
-    ap Some (sym (append-nil (done ++ pair ∷ []))) ∙ terms-more done pair term [] all whole good cut kept
 
 -- one without its form
 pub terms-bad : (done : List Pair) (term : List (List ℕ)) (rest all : List (List (List ℕ))) (whole : Option (List Pair)) → begins term ≡ None → all ≡ term ∷ rest

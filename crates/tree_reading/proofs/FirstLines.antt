@@ -1,39 +1,13 @@
 -- What is read of the first line, and then of the lines behind it.
-use Rattle.std.proofs.Common.{◌≡◌, ℕ, suc, Bool, List, [], ◌∷◌, Option, Result, Ok, Err, refl, sym, ap, ◌∙◌, subst}
-use Rattle.tree_text_rules.specs.Line.{Token, Line, word_of, fields_of, is_formed}
+use Rattle.std.proofs.Common.{◌≡◌, ℕ, suc, List, [], ◌∷◌, Result, Ok, Err, refl, sym, ap, ◌∙◌, subst}
+use Rattle.tree_text_rules.specs.Line.{Line}
 use Rattle.tree_text_rules.specs.Read.{Fault, Taken, first_line, on_line, then_read}
 use Rattle.tree_text_rules.specs.declared.TreeKind.{TreeKind}
 use Rattle.tree_text_rules.specs.declared.TreeKind.TheVariants.{BadLine}
-use Rattle.tree_text_rules.specs.declared.Word.{Word}
-use Rattle.tree_tokens.specs.Apart.{AreParts}
-use Rattle.tree_tokens.specs.View.{tokens_in}
-use Rattle.tree_tokens.specs.declared.apart.LineParts.{LineParts}
 use Rattle.tree_reading.specs.Taken.{line_taken}
 use Rattle.text_lines.specs.Tells.{Tells}
 use Rattle.text_lines.specs.declared.fault.TextFault.{TextFault}
 use Rattle.text_lines.specs.declared.fault.TextFault.TheVariants as faults
-
--- what is read of a line is read of its parts
-pub by_parts : {R : Type 0} (read : Option Word → List Token → Bool → R) (parts : LineParts) (line : Line) → AreParts parts line
-    → read (word_of line) (fields_of line) (is_formed line) ≡ read parts.word (tokens_in parts.fields) parts.formed
-by_parts read parts line are =
-    ap (λ word. read word (fields_of line) (is_formed line)) (sym are.word)
-    ∙ ap (λ fields. read parts.word fields (is_formed line)) (sym are.fields)
-    ∙ ap (read parts.word (tokens_in parts.fields)) (sym are.formed)
-
-module _ {A : Type 0} (judge : Line → Result A TreeKind) (number : ℕ) (lines : List Line) where
-  pub line_ok : (line : Line) (behind : List Line) (a : A) → lines ≡ line ∷ behind → judge line ≡ Ok a → line_taken judge number lines ≡ Ok (record { what = a; number = suc number; behind = behind })
-  line_ok line behind a cut good =
-      ap (line_taken judge number) cut
-      ∙ ap (λ (r : Result A TreeKind). on_line number r (λ a. Ok (record { what = a; number = suc number; behind = behind }))) good
-
-  pub line_bad : (line : Line) (behind : List Line) (kind : TreeKind) → lines ≡ line ∷ behind → judge line ≡ Err kind → line_taken judge number lines ≡ Err (number, kind)
-  line_bad line behind kind cut bad =
-      ap (line_taken judge number) cut
-      ∙ ap (λ (r : Result A TreeKind). on_line number r (λ a. Ok (record { what = a; number = suc number; behind = behind }))) bad
-
-  pub line_missing : lines ≡ [] → line_taken judge number lines ≡ Err (number, BadLine)
-  line_missing none = ap (line_taken judge number) none
 
 numbered : {A : Type 0} (number : ℕ) (r : Result A TreeKind) (behind : List Line) (t : Taken A) → on_line number r (λ a. Ok (record { what = a; number = suc number; behind = behind })) ≡ Ok t → t.number ≡ suc number
 numbered {A} number (Ok a) behind t e =

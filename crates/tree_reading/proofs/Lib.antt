@@ -1,3 +1,2 @@
 pub mod FirstLines
 pub mod NodeByNode
-pub mod StepByStep

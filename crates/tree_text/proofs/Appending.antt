@@ -3,11 +3,6 @@ use Rattle.std.proofs.Common.{◌≡◌, ℕ, List, [], ◌∷◌, ◌++◌, ref
 use Rattle.text_rules.specs.Canonical.{joined}
 use Rattle.tree_text.specs.Printing.{appended}
 
--- fields behind fields
-pub appended-append : (text : List ℕ) (xs ys : List (List ℕ)) → appended text (xs ++ ys) ≡ appended (appended text xs) ys
-appended-append text [] ys = refl
-appended-append text (x ∷ xs) ys = appended-append (text ++ 32 ∷ x) xs ys
-
 -- behind a word, joined by spaces
 pub line_appended : (word : List ℕ) (fields : List (List ℕ)) → appended word fields ≡ joined 32 (word ∷ fields)
 line_appended word [] = refl

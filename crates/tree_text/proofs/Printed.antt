@@ -75,10 +75,6 @@ module _ (lines rest some behind : List (List Token)) (old mid new : Option (Lis
   then_failed WriteFault le out = record { outcome = (risen_later before between after le out.outcome.0, front_printed lines rest some behind old mid new printed cut out.outcome.1) }
   then_failed Memory le out = record { outcome = first_printed lines rest some behind old mid new printed cut out.outcome }
 
--- nothing is left
-pub all_printed : (lines : List (List Token)) (old new : Option (List ℕ)) (before after : ℕ) → ArePrinted lines [] old new → Prints lines old new before after (Ok tt)
-all_printed lines old new before after printed = record { outcome = subst (λ (ls : List (List Token)). Appends old new (text_of ls)) (sym (printed.cut ∙ append-nil printed.front)) printed.out }
-
 -- a part of what is printed failed
 pub part_failed : (some behind : List (List Token)) (old new : Option (List ℕ)) (before after : ℕ) (fault : PrintFault) → Prints some old new before after (Err fault) → Prints (some ++ behind) old new before after (Err fault)
 part_failed some behind old new before after fault out = then_failed (some ++ behind) (some ++ behind) some behind old old new before before after (none_printed (some ++ behind) old) refl fault (omega arith) out

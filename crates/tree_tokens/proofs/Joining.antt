@@ -1,10 +1,10 @@
 -- Values that are read one by one.
-use Rattle.std.proofs.Common.{◌≡◌, ◌<◌, ◌≤◌, List, [], ◌∷◌, ◌++◌, Option, Some, None, Result, Ok, Err, IfErr, refl, sym, ap, ◌∙◌, arith, inl, inr, append_assoc, append-nil, if◌then◌else◌}
+use Rattle.std.proofs.Common.{◌≡◌, ◌<◌, ◌≤◌, List, [], ◌∷◌, Result, Ok, Err, IfErr, refl, sym, ap, ◌∙◌, arith, inl, inr, append_assoc, append-nil, if◌then◌else◌}
 use Rattle.std.proofs.lemmas.Bool.{cases_lt, le-leb, lt-leb}
 use Rattle.tree_text_rules.specs.Line.{Token}
 use Rattle.tree_text_rules.specs.Token.{kind_number, lesser, both, mapped, each}
 use Rattle.tree_text_rules.specs.declared.TreeKind.{TreeKind}
-use Rattle.tree_tokens.specs.Joined.{so_far, joined, lesser_of}
+use Rattle.tree_tokens.specs.Joined.{joined}
 
 first_told : (a b : TreeKind) → kind_number a ≤ kind_number b → lesser a b ≡ a
 first_told a b le = ap (λ t. if t then a else b) (le-leb (kind_number a) (kind_number b) le)
@@ -53,24 +53,6 @@ each_on {A} read front next token tokens all whole e cut before =
 pub joined_none : {A : Type 0} (front : Result (List A) TreeKind) → joined front (Ok []) ≡ front
 joined_none {A} (Ok vs) = ap (λ (xs : List A). Ok xs) (append-nil vs)
 joined_none (Err k) = refl
-
-pub none_joined : {A : Type 0} (rest : Result (List A) TreeKind) → joined (Ok []) rest ≡ rest
-none_joined (Ok bs) = refl
-none_joined (Err k) = refl
-
--- a value, or a fault, at the end of what was read
-pub value_last : {A : Type 0} (vs : List A) (here : Result A TreeKind) (a : A) → here ≡ Ok a → Ok (vs ++ a ∷ []) ≡ joined (Ok vs) (mapped (λ x. x ∷ []) here)
-value_last {A} vs here a e = sym (ap (λ (r : Result A TreeKind). joined (Ok vs) (mapped (λ (x : A). x ∷ []) r)) e)
-
-pub value_behind_fault : {A : Type 0} (k : TreeKind) (here : Result A TreeKind) (a : A) → here ≡ Ok a → Err k ≡ joined (Err k) (mapped (λ x. x ∷ []) here)
-value_behind_fault {A} k here a e = sym (ap (λ (r : Result A TreeKind). joined (Err k) (mapped (λ (x : A). x ∷ []) r)) e)
-
-at_fault : {A : Type 0} (fault : Option TreeKind) (vs : List A) (kind : TreeKind) → Err (lesser_of fault kind) ≡ joined (so_far fault vs) (Err kind)
-at_fault None vs kind = refl
-at_fault (Some k) vs kind = refl
-
-pub fault_last : {A : Type 0} (fault : Option TreeKind) (vs : List A) (here : Result A TreeKind) (kind : TreeKind) → here ≡ Err kind → Err (lesser_of fault kind) ≡ joined (so_far fault vs) (mapped (λ x. x ∷ []) here)
-fault_last {A} fault vs here kind e = at_fault fault vs kind ∙ sym (ap (λ (r : Result A TreeKind). joined (so_far fault vs) (mapped (λ (x : A). x ∷ []) r)) e)
 
 -- where each token has the one fault or none
 abbrev pub OnlyFails : {A : Type 0} → TreeKind → Result A TreeKind → Type 0

@@ -13,9 +13,6 @@ not_same true name token d apart = absurd (apart (d.0 refl))
 not_same false name token d apart = refl
 
 module _ {X : Type 0} (name : X → List ℕ) (token : List ℕ) where
-  is_it : List ℕ → Bool
-  is_it word = bytes_eq word token
-
   stays : (b : Bool) (n m : ℕ) → b ≡ false → n ≡ m → cond (not b) (1 + n) 0 ≡ suc m
   stays true n m e q = absurd cc
   stays false n m e q = omega (arith, q)
