@@ -19,7 +19,8 @@ use Rattle.search_tree.specs.Growth.{is_open, as_shut}
 use Rattle.search_tree.specs.Preorder.{IsTreeOf}
 use Rattle.search_tree.specs.Shut.{shut_end, shut_cells}
 use Rattle.search_tree.proofs.ShutLemmas.{closed_stays, unproved_stays, proof_of, shut_length, shut_at}
-use Rattle.turn_laws.specs.Values.{IsPositive, IsNoMore}
+use Rattle.turn_laws.specs.Values.{IsPositive}
+use Rattle.tree_rules.specs.Costs.{IsNoMore}
 use Rattle.turn_laws.specs.Turns.{IsShut, AreShut}
 use Rattle.turn_laws.proofs.GrowLemmas.{leaf_fallen}
 use Rattle.turn_laws.proofs.KeptLemmas.{shutting_is_kept}

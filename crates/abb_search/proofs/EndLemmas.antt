@@ -10,7 +10,7 @@ use Rattle.tree_rules.specs.Tree.{End, leaf, Stands}
 use Rattle.unit_sets.specs.declared.node.Node as starts
 use Rattle.tree_rules.specs.Claim as claims
 use Rattle.tree_rules.specs.Claim.{CostOver, claimed_cost, ClaimPasses, IsSized}
-use Rattle.branch_tree.specs.Known.{KnowsTree, KnowsClaim}
+use Rattle.tree_rules.specs.Known.{KnowsTree, KnowsClaim}
 use Rattle.tree_rules.specs.Leaf.{Leaf, IsUntried, untried, LeafPasses}
 use Rattle.tree_rules.specs.Accepted.{Tree}
 use Rattle.tree_rules.specs.Stops.{IsSpent, IsPast}
@@ -30,7 +30,8 @@ use Rattle.node_evaluation.specs.Children.{claim_with}
 use Rattle.abb_search.specs.declared.growing.Growing.{Growing}
 use Rattle.abb_search.specs.Growing.{IsTreeKept, IsSpentAt, IsStoppedAt}
 use Rattle.abb_search.proofs.KnownLemmas.{knows_tree, few_nodes, knows_claim}
-use Rattle.abb_search.specs.Found.{IsProved, IsStopped, IsBelowLimit, found_with, IsFoundBy}
+use Rattle.tree_rules.specs.Proved.{IsProved, IsStopped, IsBelowLimit}
+use Rattle.abb_search.specs.Found.{found_with, IsFoundBy}
 
 -- nothing claimed has no cost, as none has where no network is
 as_infeasible : (p : Problem) (start : Node) (last : Option Node) (cells : List Cell) → IsKept p start claims.unknown last cells → IsKept p start claims.infeasible last cells

@@ -12,7 +12,7 @@ use Rattle.tree_rules.specs.Claim as claims
 use Rattle.tree_rules.specs.Claim.{ClaimPasses, IsSized}
 use Rattle.tree_rules.specs.Tree.{End, branch, leaf}
 use Rattle.tree_rules.specs.Leaf.{Leaf, untried}
-use Rattle.branch_tree.specs.Known.{KnowsNode, KnowsEnd, KnowsTree, KnowsClaim}
+use Rattle.tree_rules.specs.Known.{KnowsNode, KnowsEnd, KnowsTree, KnowsClaim}
 use Rattle.search_tree.specs.Cells.{Cell, no_cell, cell_at, children_at, IsLinked}
 use Rattle.search_tree.specs.Preorder.{IsPreorder, tree_of, node_at}
 use Rattle.search_tree.proofs.CountLemmas.{preorder_has_all}

@@ -14,7 +14,8 @@ use Rattle.tree_rules.specs.Leaf.{untried}
 use Rattle.tree_rules.specs.Claim as claims
 use Rattle.tree_rules.specs.Claim.{CostOver, ClaimPasses}
 use Rattle.std.proofs.lemmas.Int.{ints}
-use Rattle.turn_laws.specs.Values.{HasFallen, IsPositiveCost}
+use Rattle.tree_rules.specs.Costs.{HasFallen}
+use Rattle.turn_laws.specs.Values.{IsPositiveCost}
 use Rattle.turn_laws.proofs.FractionLemmas.{fraction_trans}
 use Rattle.pns_rules.specs.Nodes.{Node}
 use Rattle.tree_rules.specs.Accepted.{Tree}

@@ -30,7 +30,8 @@ use Rattle.tree_rules.specs.Stops.{IsPending}
 use Rattle.search_tree.specs.Cells.{Cell, place_of, cell_at}
 use Rattle.search_tree.specs.declared.growth.Fresh.{Fresh}
 use Rattle.search_tree.specs.Growth.{is_open, AreOpen, as_parent}
-use Rattle.turn_laws.specs.Values.{IsPositive, IsNoMore, HasFallen, IsPositiveCost}
+use Rattle.turn_laws.specs.Values.{IsPositive, IsPositiveCost}
+use Rattle.tree_rules.specs.Costs.{IsNoMore, HasFallen}
 use Rattle.turn_laws.specs.Kept.{IsKeptFor}
 use Rattle.turn_laws.specs.Turns.{CanBranch, IsLeastOpen, AreChildren, IsBranched}
 use Rattle.branch_choice.specs.declared.choice.Choice.{Choice}

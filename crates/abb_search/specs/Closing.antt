@@ -1,7 +1,7 @@
 -- What shuts the open leaves, where a network costs no more than any of them.
 use Rattle.std.specs.Prelude.{◌≡◌, ℕ, ◌<◌, length, cond, List, Option, Some, None, Result, Ok, Err, slice_index_or}
 use Rattle.std.specs.List.{slice_get}
-use Rattle.int_rows.specs.Range.{InRange, AllInRange}
+use Rattle.integer_laws.specs.Range.{InRange, AllInRange}
 use Rattle.problem_rules.specs.Problem.{Problem}
 use Rattle.mixed_numbers.specs.declared.number.Mixed.{Mixed}
 use Rattle.tree_rules.specs.Tree.{leaf}
@@ -10,7 +10,7 @@ use Rattle.tree_rules.specs.Claim.{CostOver}
 use Rattle.tree_rules.specs.Leaf.{untried, IsBounded}
 use Rattle.branch_tree.specs.Scaled.{Scaled}
 use Rattle.search_tree.specs.Cells.{Cell, place_of, cell_at}
-use Rattle.turn_laws.specs.Values.{IsNoMore}
+use Rattle.tree_rules.specs.Costs.{IsNoMore}
 use Rattle.search_tree.specs.Growth.{is_open}
 use Rattle.slab.specs.Slab.{get}
 use Rattle.node_evaluation.specs.declared.evaluator.PastStop.{PastStop}

@@ -18,7 +18,7 @@ use Rattle.tree_rules.specs.Lean as lean
 use Rattle.tree_rules.specs.Stops.{IsPending, IsNextCount}
 use Rattle.search_tree.specs.Cells.{Cell, place_of, cell_at}
 use Rattle.search_tree.specs.Growth.{AreOpen, as_parent}
-use Rattle.turn_laws.specs.Values.{IsNoMore, HasFallen}
+use Rattle.tree_rules.specs.Costs.{IsNoMore, HasFallen}
 use Rattle.turn_laws.specs.Kept.{IsKeptFor}
 use Rattle.turn_laws.specs.Turns.{CanBranch, IsLeastOpen}
 use Rattle.node_pool.specs.Pooled.{AreSameNodes}

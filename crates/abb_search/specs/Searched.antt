@@ -10,7 +10,8 @@ use Rattle.tree_rules.specs.Accepted.{Tree}
 use Rattle.search_tree.specs.Cells.{Cell}
 use Rattle.search_tree.specs.Preorder.{IsPreorder, tree_of}
 use Rattle.neutral_extension.specs.Candidates.{AreMakersOf}
-use Rattle.turn_laws.specs.Values.{HasFallen, IsPositiveCost}
+use Rattle.tree_rules.specs.Costs.{HasFallen}
+use Rattle.turn_laws.specs.Values.{IsPositiveCost}
 use Rattle.node_evaluation.specs.Evaluated.{PastPlaces}
 use Rattle.node_evaluation.specs.Looks.{cost_of}
 use Rattle.abb_search.specs.declared.outcome.Found.{Found}

@@ -14,7 +14,7 @@ ghost use Rattle.pgraph.specs.View.{node_of};
 ghost use Rattle.search_tree.specs.Cells.{cell_at};
 ghost use Rattle.search_tree.specs.Growth.{AreOpen};
 ghost use Rattle.neutral_extension.specs.Candidates.{AreMakersOf};
-ghost use Rattle.turn_laws.specs.Values.{IsNoMore};
+ghost use Rattle.tree_rules.specs.Costs.{IsNoMore};
 ghost use Rattle.node_evaluation.specs.Children.{AreSolvedBy};
 ghost use Rattle.node_evaluation.specs.Evaluated.{cost_over, cost_in};
 ghost use Rattle.abb_search.specs.Growing.{IsBeaten, IsBranching, IsSame, IsSameButHand, HasInterval, IsReachedAt, IsLeastLeaf, IsHeldUp, MayUndercut, ready_at, interval_of, interval_stop, stop_at, leaf_of, choice_of};

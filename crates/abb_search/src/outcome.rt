@@ -1,6 +1,6 @@
 //! What a search finds, and what a turn of it answers.
 use branch_tree::{Columns, Network, Tree};
-use flow_program::Place;
+use flow_rules::Place;
 
 /// What a search finds.
 #[derive(Drop)]

@@ -7,7 +7,7 @@ ghost use Rattle.pgraph.specs.View.{node_of};
 ghost use Rattle.node_evaluation.specs.Looks.{has_bounded};
 ghost use Rattle.tree_rules.specs.Claim.{ClaimPasses};
 ghost use Rattle.node_evaluation.specs.Children.{claim_with};
-ghost use Rattle.abb_search.specs.Found.{IsStopped};
+ghost use Rattle.tree_rules.specs.Proved.{IsStopped};
 ghost use Rattle.abb_search.specs.Searched.{opened, TurnHolds, AreNodesOf};
 
 use crate::found::{is_sized, tree_with};

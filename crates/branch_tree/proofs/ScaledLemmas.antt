@@ -1,6 +1,6 @@
 -- The multipliers behind the scale are numbers of the list.
 use Rattle.std.proofs.Common.{◌≡◌, ℕ, suc, ◌<◌, List, [], ◌∷◌, ℤ, length, sym, subst, arith}
-use Rattle.int_rows.specs.Range.{AllInRange}
+use Rattle.integer_laws.specs.Range.{AllInRange}
 use Rattle.branch_tree.specs.Scaled.{Scaled, scaled_of}
 
 rest_in_range : (numbers : List ℤ) → AllInRange numbers → AllInRange (scaled_of numbers).ys

@@ -3,7 +3,7 @@ use Rattle.tree_rules.specs.Ways as ways
 use Rattle.tree_rules.specs.Tree as trees
 use Rattle.tree_rules.specs.Leaf as leaves
 use Rattle.tree_rules.specs.Claim as claims
-use Rattle.branch_tree.specs.Tail as tails
+use Rattle.tree_rules.specs.Tail as tails
 use Rattle.branch_tree.specs.declared.end.End.{End}
 use Rattle.branch_tree.specs.declared.end.End.TheVariants.{Dead, Clash, Refuted, Bound, Branch, Either, Open}
 use Rattle.branch_tree.specs.declared.claim.Claim.{Claim}

@@ -1,7 +1,7 @@
 //! Columns of a tableau.
 ghost use Rattle.std.specs.Prelude.{◌≡◌};
 
-use flow_program::Column;
+use flow_rules::Column;
 use std::marker::Model;
 
 /// Columns of a tableau in some order.
@@ -12,7 +12,7 @@ pub struct Columns {
 
 impl Model for Columns {
     ghost use Rattle.std.specs.Prelude.{List};
-    ghost use Rattle.flow_program.specs.declared.place.Column.{Column};
+    ghost use Rattle.flow_rules.specs.declared.place.Column.{Column};
 
     ghost Value = { List Column };
 

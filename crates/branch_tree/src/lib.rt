@@ -2,8 +2,7 @@
 //! [`Network`] has by its type one size for each unit; a [`Tail`] says where a search stopped.
 //!
 //! Contracts see them in the words of `tree_rules`: a tree as its list of nodes, a network as its record, and ends, claims and
-//! tails through `View`. `Known` says that the numbers of a value are below the counts of a problem. Nothing here takes memory,
-//! and what is built is read by reference or given back in its parts.
+//! tails through `View`. Nothing here takes memory, and what is built is read by reference or given back in its parts.
 //!
 //! Modules: `multipliers`, `scaled`, `steps` and `columns` are lists with a model; `network`, `claim`, `end`, `node`, `tree` and `tail`
 //! have a type each.

@@ -1,6 +1,6 @@
 //! A network with its sizes and its cost.
 ghost use Rattle.std.specs.Prelude.{◌≡◌, ◌≤ℤ◌, pos, length};
-ghost use Rattle.int_rows.specs.Range.{InRange, AllInRange};
+ghost use Rattle.integer_laws.specs.Range.{InRange, AllInRange};
 ghost use Rattle.tree_rules.specs.Claim.{IsSized};
 ghost use Rattle.branch_tree.specs.Sized.{IsKept};
 

@@ -1,6 +1,6 @@
 //! The multipliers of a bound, with what they are over.
 ghost use Rattle.std.specs.Prelude.{◌≡◌, ◌<◌, length, IfOk};
-ghost use Rattle.int_rows.specs.Range.{InRange, AllInRange};
+ghost use Rattle.integer_laws.specs.Range.{InRange, AllInRange};
 ghost use Rattle.branch_tree.specs.Scaled.{scaled_of};
 
 use std::alloc::{AllocError, Global};
@@ -15,7 +15,7 @@ pub struct Scaled {
 
 impl Model for Scaled {
     ghost use Rattle.std.specs.Prelude.{◌<◌, length};
-    ghost use Rattle.int_rows.specs.Range.{AllInRange};
+    ghost use Rattle.integer_laws.specs.Range.{AllInRange};
     ghost use Rattle.branch_tree.specs.Scaled as specs;
 
     ghost Value = { specs.Scaled };

@@ -1,6 +1,6 @@
 //! Where a search stopped.
 use crate::columns::Columns;
-use flow_program::Place;
+use flow_rules::Place;
 
 /// Where a search stopped. Nodes are counted from 0 in preorder.
 #[derive(Drop)]

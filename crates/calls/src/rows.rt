@@ -1,6 +1,6 @@
 //! Steps of elimination and divisors, at the edge of the range too.
 ghost use Rattle.std.specs.Prelude.{IsTrue};
-ghost use Rattle.int_rows.specs.Range.{AllInRange};
+ghost use Rattle.integer_laws.specs.Range.{AllInRange};
 
 use int_rows::{
     checked_difference, checked_product, checked_sum, combine, gcd, lowest_terms, primitive,

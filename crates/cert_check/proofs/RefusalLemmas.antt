@@ -8,11 +8,13 @@ use Rattle.pns_rules.specs.Nodes.{Node}
 use Rattle.tree_rules.specs.declared.why.Why.{Why}
 use Rattle.tree_rules.specs.Claim as rules
 use Rattle.tree_rules.specs.Accepted.{Tree, first_node, Proves, NodeIsFault}
-use Rattle.tree_laws.specs.Laws.{CostsEnough, AcceptedIsOptimal, PassingClaimHasNoFault, ClaimHasOneFault, PassingTreeHasNoFault, TreeHasOneFault}
-use Rattle.cert_check.specs.declared.refusal.Refusal.{Refusal}
-use Rattle.cert_check.specs.declared.refusal.Refusal.TheVariants.{Memory, Claim}
-use Rattle.cert_check.specs.declared.refusal.Refusal.TheVariants as refusals
-use Rattle.cert_check.specs.Refusals.{Refuses, IsOkOrMemory, IsRefusalOrMemory}
+use Rattle.tree_rules.specs.Costs.{CostsEnough}
+use Rattle.tree_laws.specs.Laws.{AcceptedIsOptimal, PassingClaimHasNoFault, ClaimHasOneFault, PassingTreeHasNoFault, TreeHasOneFault}
+use Rattle.tree_rules.specs.declared.refusal.Refusal.{Refusal}
+use Rattle.tree_rules.specs.declared.refusal.Refusal.TheVariants.{Memory, Claim}
+use Rattle.tree_rules.specs.declared.refusal.Refusal.TheVariants as refusals
+use Rattle.tree_rules.specs.Refusals.{Refuses}
+use Rattle.cert_check.specs.Refusals.{IsOkOrMemory, IsRefusalOrMemory}
 
 module _ {A : Type 0} (partial : Bool) (p : Problem) (start : Node) (claim : rules.Claim) (tree : Tree) where
   pub accepts : PassingClaimHasNoFault → PassingTreeHasNoFault → (r : Result A Refusal) → IfErr r (Refuses partial p start claim tree) → Proves partial p start claim tree → IsOkOrMemory r

@@ -5,9 +5,9 @@ use Rattle.pns_rules.specs.Nodes.{Node}
 use Rattle.tree_rules.specs.Accepted.{Tree}
 use Rattle.part_rules.specs.OpenLeaves.{OpenAt, open_leaves}
 use Rattle.cert_check.specs.declared.open_leaf.OpenLeaf.{OpenLeaf}
-use Rattle.cert_check.specs.declared.refusal.Refusal.{Refusal}
-use Rattle.cert_check.specs.declared.refusal.Refusal.TheVariants.{Memory, Claim}
-use Rattle.cert_check.specs.declared.refusal.Refusal.TheVariants as refusals
+use Rattle.tree_rules.specs.declared.refusal.Refusal.{Refusal}
+use Rattle.tree_rules.specs.declared.refusal.Refusal.TheVariants.{Memory, Claim}
+use Rattle.tree_rules.specs.declared.refusal.Refusal.TheVariants as refusals
 use Rattle.pgraph.specs.View.{node_of}
 
 abbrev pub leaf_at : OpenLeaf → OpenAt

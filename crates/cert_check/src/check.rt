@@ -7,7 +7,7 @@ ghost use Rattle.tree_rules.specs.Tree.{Pass};
 ghost use Rattle.tree_rules.specs.Leaf.{LeafPasses, LeafFails};
 ghost use Rattle.tree_rules.specs.Claim as rules;
 ghost use Rattle.tree_rules.specs.Accepted.{first_node, Proves, IsAccepted, NodeIsFault};
-ghost use Rattle.tree_laws.specs.Laws.{CostsEnough};
+ghost use Rattle.tree_rules.specs.Costs.{CostsEnough};
 ghost use Rattle.pgraph.specs.Tables.{shape};
 ghost use Rattle.pgraph.specs.View.{node_of};
 ghost use Rattle.branch_tree.specs.View.{claim_of};
@@ -15,12 +15,12 @@ ghost use Rattle.cert_parts.specs.Known.{KnowsInside};
 ghost use Rattle.cert_parts.specs.Shown.{cost_over};
 ghost use Rattle.part_rules.specs.OpenLeaves.{open_leaves};
 ghost use Rattle.cert_check.specs.OpenLeaves.{leaves_at, AreBefore};
-ghost use Rattle.cert_check.specs.declared.refusal.Refusal.TheVariants as refusals;
-ghost use Rattle.cert_check.specs.Refusals.{NamesFault, Refuses, IsOkOrMemory, IsRefusalOrMemory};
+ghost use Rattle.tree_rules.specs.declared.refusal.Refusal.TheVariants as refusals;
+ghost use Rattle.cert_check.specs.Refusals.{NamesFault, IsOkOrMemory, IsRefusalOrMemory};
+ghost use Rattle.tree_rules.specs.Refusals.{Refuses};
 
 use crate::claim::{cost_of_claim, judge_claim};
 use crate::open_leaf::OpenLeaf;
-use crate::refusal::Refusal;
 use crate::walk::{Stop, walk, walk_to};
 use branch_tree::{Claim, Tree};
 use cert_parts::CostOver;
@@ -28,6 +28,7 @@ use pgraph::Graph;
 use pns_problem::Problem;
 use std::alloc::Global;
 use tree_laws::{accepted_is_optimal, claim_has_one_fault, tree_has_one_fault};
+use tree_rules::Refusal;
 use unit_sets::{Node, UnitSet};
 
 /// Judges the claim, and then the tree from the start. In a partial tree leaves may be open, and nothing claimed. What is given are

@@ -12,7 +12,6 @@ ghost use Rattle.cert_check.specs.OpenLeaves.{leaves_at, AreBefore};
 ghost use Rattle.cert_check.specs.Refusals.{NamesFault};
 
 use crate::open_leaf::{OpenLeaf, note_end};
-use crate::refusal::Refusal;
 use crate::subtrees::ends_of;
 use crate::visit::{Halt, visit};
 use branch_tree::TreeNode;
@@ -20,6 +19,7 @@ use cert_parts::CostOver;
 use pgraph::Graph;
 use pns_problem::Problem;
 use std::alloc::Global;
+use tree_rules::Refusal;
 use unit_sets::Node;
 
 /// A walk that stopped before its end: why, and the open leaves that it met before.

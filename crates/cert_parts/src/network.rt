@@ -6,8 +6,9 @@ ghost use Rattle.pgraph.specs.Tables.{shape};
 
 use crate::costs::are_same;
 use flow_program::{cost_of, feasible};
-use pgraph::{Graph, Verdict};
+use pgraph::Graph;
 use pns_problem::Problem;
+use pns_rules::Verdict;
 use tree_rules::Why;
 use unit_sets::UnitSet;
 

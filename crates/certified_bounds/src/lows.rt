@@ -1,6 +1,6 @@
 //! What the multipliers that are proposed prove.
 ghost use Rattle.std.specs.Prelude.{◌≡◌, ◌<◌, ℕ, true, false, Some, IfOk, IfSome};
-ghost use Rattle.int_rows.specs.Range.{InRange};
+ghost use Rattle.integer_laws.specs.Range.{InRange};
 ghost use Rattle.number_sets.specs.Sets.{has};
 ghost use Rattle.pns_rules.specs.Shape.{shape_of};
 ghost use Rattle.pgraph.specs.Tables.{shape};

@@ -1,7 +1,7 @@
 //! What is proposed for a node: a guessed basis, its solution, and what is made of it. Nothing is promised of that but that it is
 //! found safely and in an end, and that lists are in range.
 ghost use Rattle.std.specs.Prelude.{◌≡◌};
-ghost use Rattle.int_rows.specs.Range.{AllInRange};
+ghost use Rattle.integer_laws.specs.Range.{AllInRange};
 ghost use Rattle.flow_rules.specs.Net.{net_of};
 ghost use Rattle.scaled_flows.specs.Divisors.{AreDivisors};
 

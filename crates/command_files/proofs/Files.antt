@@ -1,7 +1,7 @@
 -- What the commands on a file say, from what is said of the file and of its problem.
 use Rattle.std.proofs.Common.{◌≡◌, ◌<◌, ℕ, List, Some, None, length, refl, arith, inl, inr, suc, replicate}
 use Rattle.std.proofs.lemmas.List.{length-replicate}
-use Rattle.pns_io.specs.Outside.{Told, IfTold}
+use Rattle.text_rules.specs.Outside.{Told, IfTold}
 use Rattle.problem_rules.specs.Problem.{Problem}
 use Rattle.endings.specs.Ending.{Shelves, Tells, Says}
 use Rattle.endings.specs.declared.status.Status.{Status}

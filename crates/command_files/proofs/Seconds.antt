@@ -1,6 +1,6 @@
 -- What the commands on a file and a second file say, from what is said of each.
 use Rattle.std.proofs.Common.{◌≡◌, ◌≤◌, ◌⊎◌, ℕ, List, inl, inr, subst, sym}
-use Rattle.pns_io.specs.Outside.{HasRisen, Told}
+use Rattle.text_rules.specs.Outside.{HasRisen, Told}
 use Rattle.problem_rules.specs.Problem.{Problem}
 use Rattle.command_files.specs.Reading.{AreHeld, LongFile, IsLong, FileFaults, GivesProblem, OnFile, OnSecond}
 use Rattle.endings.specs.Ending.{Shelves, Says}

@@ -1,6 +1,6 @@
 -- FILE is read and judged, which all commands on a problem share.
 use Rattle.std.specs.Prelude.{◌≡◌, ◌<◌, ◌≤◌, ◌⊎◌, ◌++◌, ℕ, List, [], ◌∷◌, Result, Ok, Err, length, codes, decimal}
-use Rattle.pns_io.specs.Outside.{Told, IfTold}
+use Rattle.text_rules.specs.Outside.{Told, IfTold}
 use Rattle.problem_rules.specs.Problem.{Problem}
 use Rattle.problem_rules.specs.Validity.{IsValid}
 use Rattle.text_rules.specs.declared.TextKind.{TextKind}

@@ -1,6 +1,6 @@
 -- SCRIPT is read and judged behind FILE: first its form, then its meaning on the problem.
 use Rattle.std.specs.Prelude.{◌≡◌, ◌≤◌, ◌⊎◌, ◌++◌, ℕ, List, [], ◌∷◌, Ok, Err, length, map, codes, decimal}
-use Rattle.pns_io.specs.Outside.{Told}
+use Rattle.text_rules.specs.Outside.{Told}
 use Rattle.problem_rules.specs.Problem.{Problem}
 use Rattle.edit_rules.specs.Edit.{Edit, Script}
 use Rattle.edit_rules.specs.Formed.{script_of}
@@ -12,7 +12,7 @@ use Rattle.script_rules.specs.Read.{read_script}
 use Rattle.script_rules.specs.Printed.{edit_line}
 use Rattle.text_lines.specs.declared.fault.TextFault.{TextFault}
 use Rattle.text_lines.specs.declared.fault.TextFault.TheVariants.{Memory, At}
-use Rattle.pns_edits.specs.Fault.{HasFaultAt}
+use Rattle.script_rules.specs.Meaning.{HasFaultAt}
 use Rattle.command_files.specs.Reading.{AreHeld, IsLong, OnSecond, file_limit}
 use Rattle.endings.specs.declared.status.Status.{Status}
 use Rattle.endings.specs.declared.status.Status.TheVariants.{BadEdit, TooLong}

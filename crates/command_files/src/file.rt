@@ -1,6 +1,6 @@
 //! The bytes of a file.
 ghost use Rattle.std.specs.Prelude.{◌≡◌, ◌≤◌, ◌<◌, ◌^◌, ℕ, List, IfOk, IfErr, OnOk, length, string_bytes};
-ghost use Rattle.pns_io.specs.Outside.{HasRisen};
+ghost use Rattle.text_rules.specs.Outside.{HasRisen};
 ghost use Rattle.command_files.specs.Reading.{AreHeld, LongFile};
 ghost use Rattle.endings.specs.Ending.{Ends, Says};
 

@@ -1,6 +1,6 @@
 //! A plan file: it is read and judged for a problem.
 ghost use Rattle.std.specs.Prelude.{◌≡◌, ℕ, List, IfOk, IfErr, OnOk, string_bytes};
-ghost use Rattle.pns_io.specs.Outside.{HasRisen};
+ghost use Rattle.text_rules.specs.Outside.{HasRisen};
 ghost use Rattle.endings.specs.Lines.{line};
 ghost use Rattle.plan_rules.specs.Plan.{IsPlan};
 ghost use Rattle.command_files.specs.Reading.{AreHeld};

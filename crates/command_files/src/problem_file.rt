@@ -1,6 +1,6 @@
 //! A problem file: it is read and judged.
 ghost use Rattle.std.specs.Prelude.{◌≡◌, ◌≤◌, ℕ, List, IfOk, IfErr, OnOk, string_bytes};
-ghost use Rattle.pns_io.specs.Outside.{HasRisen};
+ghost use Rattle.text_rules.specs.Outside.{HasRisen};
 ghost use Rattle.endings.specs.Lines.{line};
 ghost use Rattle.command_files.specs.Reading.{AreHeld, GivesProblem, FileFaults, fault_line, kind_word};
 ghost use Rattle.endings.specs.Ending.{Ends, Says, Only, OrMemory};

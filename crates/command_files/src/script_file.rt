@@ -1,6 +1,6 @@
 //! A script file: it is read, judged and applied to a problem.
 ghost use Rattle.std.specs.Prelude.{◌≡◌, ◌≤◌, ℕ, List, IfOk, IfErr, OnOk, length, string_bytes};
-ghost use Rattle.pns_io.specs.Outside.{HasRisen};
+ghost use Rattle.text_rules.specs.Outside.{HasRisen};
 ghost use Rattle.endings.specs.Lines.{line};
 ghost use Rattle.command_files.specs.Reading.{AreHeld};
 ghost use Rattle.command_files.specs.Script.{IsEdited, ScriptFaults, TellsEdits, edit_fault_line, edit_kind_word};

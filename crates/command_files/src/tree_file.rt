@@ -1,7 +1,7 @@
 //! A tree file: it is read and judged by its grammar.
 ghost use Rattle.std.specs.Prelude.{◌≡◌, ◌≤◌, ◌<◌, ◌^◌, ℕ, List, IfOk, IfErr, OnOk, length, string_bytes};
-ghost use Rattle.pns_io.specs.Outside.{HasRisen};
-ghost use Rattle.branch_tree.specs.Known.{KnowsClaim, KnowsTree};
+ghost use Rattle.text_rules.specs.Outside.{HasRisen};
+ghost use Rattle.tree_rules.specs.Known.{KnowsClaim, KnowsTree};
 ghost use Rattle.branch_tree.specs.View.{claim_of};
 ghost use Rattle.endings.specs.Lines.{line};
 ghost use Rattle.command_files.specs.Reading.{AreHeld};

@@ -15,7 +15,7 @@ use Rattle.plan_rules.specs.Plan.{Plan, IsPlan}
 use Rattle.plan_rules.specs.Design.{Design, IsDesign, design_cost}
 use Rattle.plan_laws.specs.Laws.{ExpandedIsValid}
 use Rattle.tree_rules.specs.Claim.{Network, network, infeasible, claimed_cost, IsFeasible, IsAtLeast}
-use Rattle.tree_laws.specs.Laws.{CostsEnough}
+use Rattle.tree_rules.specs.Costs.{CostsEnough}
 use Rattle.design_rules.specs.Folded.{folded, design_of}
 use Rattle.design_rules.specs.Least.{IsLeastDesign, HasNoDesign}
 use Rattle.design_laws.specs.Laws.{Runs, BuildsUnion, FamiliesAreStructures, StructuresAreFamilies, HasNetwork, DesignsAreNetworks, NoNetworkIsNoDesign, LeastNetworkIsLeastDesign}

@@ -12,7 +12,7 @@ use Rattle.plan_rules.specs.Expanded.{expanded}
 use Rattle.plan_rules.specs.Plan.{Plan, IsPlan}
 use Rattle.plan_rules.specs.Design.{Design, IsDesign, design_cost}
 use Rattle.tree_rules.specs.Claim.{Network, network, infeasible, claimed_cost, IsFeasible}
-use Rattle.tree_laws.specs.Laws.{CostsEnough}
+use Rattle.tree_rules.specs.Costs.{CostsEnough}
 use Rattle.design_rules.specs.Folded.{running_number, folded}
 use Rattle.design_rules.specs.Least.{IsLeastDesign, HasNoDesign}
 

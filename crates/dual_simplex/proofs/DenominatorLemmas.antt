@@ -3,8 +3,8 @@ use Rattle.std.proofs.Common.{◌≡◌, ℕ, suc, ◌+◌, ◌-◌, ◌<◌, in
 use Rattle.std.specs.Prelude.{unsigned_abs, Option, Some, None, IfSome, IfNone}
 use Rattle.std.specs.List.{range_with_len}
 use Rattle.std.proofs.lemmas.Int.{ints}
-use Rattle.int_rows.specs.Lowest.{IsLowest}
-use Rattle.int_rows.specs.Range.{InRange}
+use Rattle.integer_laws.specs.Lowest.{IsLowest}
+use Rattle.integer_laws.specs.Range.{InRange}
 use Rattle.path_rules.specs.LinearProgram.{LinearProgram}
 use Rattle.path_rules.specs.ReadFlows.{IsLcm, Formed, Lcm, lcms, sizes, rounds}
 use Rattle.dual_simplex.specs.Rows.{Rows, table, basis}

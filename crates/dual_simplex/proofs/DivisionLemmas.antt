@@ -4,8 +4,8 @@ use Rattle.std.specs.Prelude.{unsigned_abs, int_div}
 use Rattle.std.specs.Int.{IsGcd, ◌∣◌}
 use Rattle.std.proofs.lemmas.Nat.Gcd.{IsGcd-swap}
 use Rattle.integer_laws.proofs.LowestTerms.{gcd_positive}
-use Rattle.int_rows.specs.Range.{InRange}
-use Rattle.int_rows.specs.Reduced.{DividesAll, IsRowGcd, IsReduced}
+use Rattle.integer_laws.specs.Range.{InRange}
+use Rattle.integer_laws.specs.Reduced.{DividesAll, IsRowGcd, IsReduced}
 use Rattle.int_rows.proofs.Division.{IsRowGcd-more, reduced_from_quotients}
 
 -- the greatest common divisor of the first number and the i behind it

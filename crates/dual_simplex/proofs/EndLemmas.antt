@@ -1,15 +1,15 @@
 -- What the reading of multipliers asks of the last basis.
 use Rattle.std.proofs.Common.{◌≡◌, ◌<◌, ◌≤◌, ◌++◌, ℕ, arith, subst, sym, ◌∙◌, List, length, take}
 use Rattle.std.proofs.lemmas.List.{take-append-le, take_all, length-take-le}
-use Rattle.int_rows.specs.Range.{InRange, AllInRange}
-use Rattle.flow_program.specs.declared.place.Column.{Column}
+use Rattle.integer_laws.specs.Range.{InRange, AllInRange}
+use Rattle.flow_rules.specs.declared.place.Column.{Column}
 use Rattle.flow_rules.specs.Program.{Program}
 use Rattle.path_rules.specs.LinearProgram.{linear_of}
 use Rattle.path_rules.specs.Multipliers.{AreMultipliers, AreRefuting}
 use Rattle.std.proofs.lemmas.Int.{ints}
 use Rattle.path_rules.specs.ReadFlows.{AreRead}
 use Rattle.dual_simplex.specs.Reading.{IsOwnPositive}
-use Rattle.dual_simplex.specs.Named.{column_named, nonbasic_named}
+use Rattle.path_rules.specs.Named.{column_named, nonbasic_named}
 use Rattle.dual_simplex.specs.Bench.{IsLeastOf, IsNoneOf, AreFlowsOf}
 use Rattle.std.specs.Prelude.{ℤ, pos, ◌<ℤ◌, ◌≤ℤ◌}
 use Rattle.path_rules.specs.LinearProgram.{LinearProgram}

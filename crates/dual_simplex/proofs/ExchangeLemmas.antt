@@ -8,9 +8,9 @@ use Rattle.std.proofs.Math.ListN.{length-drop}
 use Rattle.std.proofs.Math.Nat.{mul-le-mul}
 use Rattle.integer_laws.proofs.Order.{mul_pos, pos_of-mul}
 use Rattle.integer_laws.proofs.Ring.{V, ◌⊖◌, ◌⊗◌, ring}
-use Rattle.int_rows.specs.declared.combination.Which.{Which}
-use Rattle.int_rows.specs.Combined as rows
-use Rattle.int_rows.specs.Lowest.{IsLowest}
+use Rattle.integer_laws.specs.declared.which.Which.{Which}
+use Rattle.integer_laws.specs.Combined as rows
+use Rattle.integer_laws.specs.Lowest.{IsLowest}
 use Rattle.int_rows.proofs.LowestLemmas.{lowest_same}
 use Rattle.path_rules.specs.LinearProgram.{LinearProgram}
 use Rattle.path_rules.specs.Columns.{Has, exchanged, scale_at}

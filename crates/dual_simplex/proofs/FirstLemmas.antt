@@ -2,7 +2,7 @@
 use Rattle.std.proofs.Common.{◌≡◌, ℕ, suc, ◌+◌, ◌<◌, inl, inr, Bool, false, arith, refl, sym, ◌∙◌, subst, List, length, get_or, None, Some}
 use Rattle.std.specs.Prelude.{ℤ, pos, ◌<ℤ◌}
 use Rattle.std.proofs.lemmas.Bool.{cases_eq}
-use Rattle.int_rows.specs.declared.combination.Which.{Which}
+use Rattle.integer_laws.specs.declared.which.Which.{Which}
 use Rattle.flow_rules.specs.Program.{Program, IsProgram}
 use Rattle.path_rules.specs.LinearProgram.{LinearProgram, linear_of}
 use Rattle.path_rules.specs.Columns.{scale_at, s_at}

@@ -8,8 +8,8 @@ use Rattle.std.proofs.lemmas.Int.{ints, unsigned_abs-mul}
 use Rattle.std.proofs.lemmas.Nat.Gcd.{IsGcd-swap, dvd_antisymm}
 use Rattle.std.proofs.Math.Nat.{dvd-mul_right, div-mul_cancel, mul-dvd-mul_left, dvd_of_mul-dvd-mul_left}
 use Rattle.integer_laws.proofs.Coprime.{dvd_of_coprime}
-use Rattle.int_rows.specs.Lowest.{IsLowest}
-use Rattle.int_rows.specs.Range.{InRange}
+use Rattle.integer_laws.specs.Lowest.{IsLowest}
+use Rattle.integer_laws.specs.Range.{InRange}
 use Rattle.int_rows.proofs.LowestLemmas.{lowest_coprime, common_positive}
 use Rattle.path_rules.specs.ReadFlows.{IsLcm}
 

@@ -5,11 +5,11 @@ use Rattle.std.specs.List.{filter, range_with_len}
 use Rattle.std.proofs.lemmas.Bool.{ltb-true, ltb-false}
 use Rattle.problem_rules.specs.Each.{Each}
 use Rattle.flow_rules.specs.Program.{Program}
-use Rattle.flow_program.specs.declared.place.Column.TheVariants.{Right, Scale}
+use Rattle.flow_rules.specs.declared.place.Column.TheVariants.{Right, Scale}
 use Rattle.path_rules.specs.LinearProgram.{linear_of}
 use Rattle.path_rules.specs.Columns.{columns, scale_at}
 use Rattle.path_laws.proofs.PlaceLemmas.{has_at}
-use Rattle.dual_simplex.specs.Named.{column_named}
+use Rattle.path_rules.specs.Named.{column_named}
 use Rattle.dual_simplex.specs.ProgramNames.{IsColumnOf, IsRowOf, IsPlaceOf, NonbasicAreOfProgram, ColumnsAreOfProgram, RowIsOfProgram, EntriesAreOfProgram, FlowsAreOfProgram}
 
 either : {A : Type 0} (P : A → Type 0) (c : Bool) (x y : A) → (c ≡ true → P x) → (c ≡ false → P y) → P (cond c x y)

@@ -2,9 +2,9 @@
 use Rattle.std.proofs.Common.{◌≡◌, ℕ, zero, suc, ◌+◌, ◌<◌, ◌≤◌, Bool, true, false, cond, arith, refl, sym, ap, subst, List, [], ◌∷◌, ◌++◌, map, get_or, ℤ}
 use Rattle.std.specs.List.{range_with_len}
 use Rattle.pns_rules.specs.Nodes.{Node}
-use Rattle.flow_program.specs.declared.place.Column.{Column}
-use Rattle.flow_program.specs.declared.place.Place.{Place}
-use Rattle.flow_program.specs.declared.place.Place.TheVariants as places
+use Rattle.flow_rules.specs.declared.place.Column.{Column}
+use Rattle.flow_rules.specs.declared.place.Place.{Place}
+use Rattle.flow_rules.specs.declared.place.Place.TheVariants as places
 use Rattle.flow_rules.specs.Net.{Net}
 use Rattle.flow_rules.specs.Program.{Program, program_of}
 use Rattle.flow_rules.specs.Steps.{IsFirstPast}
@@ -14,7 +14,7 @@ use Rattle.path_rules.specs.ReadFlows.{Formed, FlowStep, Lcm, lcms, sizes, round
 use Rattle.path_rules.specs.Places as path
 use Rattle.dual_simplex.specs.Rows.{table, basis}
 use Rattle.dual_simplex.specs.Bench.{Bench, IsLeastOf, IsNoneOf, AreFlowsOf}
-use Rattle.dual_simplex.specs.Named.{place_named}
+use Rattle.path_rules.specs.Named.{place_named}
 use Rattle.dual_simplex.specs.PastPlace.{IsPastOf, IsPastFlowOf}
 use Rattle.dual_simplex.specs.PastLaws.{IsPastHere, EntryIsPast, FlowIsPast, BoundIsPast, RefutationIsPast, CostIsPast, BalanceIsPast}
 use Rattle.dual_simplex.proofs.LawLemmas.{feasible_is_last, refuting_is_last, past_is_last}

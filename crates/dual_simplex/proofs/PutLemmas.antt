@@ -3,8 +3,8 @@ use Rattle.std.proofs.Common.{◌≡◌, ◌≢◌, ℕ, ◌+◌, ◌<◌, ◌�
 use Rattle.std.proofs.lemmas.List.{get_or_default}
 use Rattle.std.proofs.lemmas.List.Edits.{fill_by_more}
 use Rattle.std.proofs.lemmas.List.FromFn.{fill_by_all}
-use Rattle.int_rows.specs.Range.{InRange, AllInRange}
-use Rattle.int_rows.specs.Reduced.{IsReduced}
+use Rattle.integer_laws.specs.Range.{InRange, AllInRange}
+use Rattle.integer_laws.specs.Reduced.{IsReduced}
 use Rattle.path_rules.specs.LinearProgram.{LinearProgram}
 use Rattle.path_rules.specs.Columns.{t_at, w_at, scale_at}
 use Rattle.path_rules.specs.Multipliers.{multipliers}

@@ -6,7 +6,7 @@ use Rattle.std.proofs.lemmas.Int.{ints}
 use Rattle.std.proofs.lemmas.Nat.Gcd.{IsGcd-from_zero, IsGcd-from_mod, dvd-zero, dvd_refl}
 use Rattle.integer_laws.proofs.LowestTerms.{gcd_positive}
 use Rattle.integer_laws.proofs.Order.{sign_cases}
-use Rattle.int_rows.specs.Lowest.{IsLowest}
+use Rattle.integer_laws.specs.Lowest.{IsLowest}
 use Rattle.int_rows.proofs.Division.{quotient_exact}
 use Rattle.path_rules.specs.LinearProgram.{LinearProgram}
 use Rattle.path_rules.specs.ReadFlows.{IsLcm}

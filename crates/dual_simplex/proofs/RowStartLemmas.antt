@@ -12,7 +12,7 @@ use Rattle.std.proofs.lemmas.Bool.{cases_eq}
 use Rattle.std.proofs.lemmas.List.{get_or-set_same, get_or-set_other, length-set}
 use Rattle.std.proofs.lemmas.List.Elements.{AllWithin-more_set}
 use Rattle.std.proofs.Math.Nat.{mul-le-mul}
-use Rattle.int_rows.specs.Range.{InRange, AllInRange}
+use Rattle.integer_laws.specs.Range.{InRange, AllInRange}
 use Rattle.dual_simplex.specs.Rows.{row_at, width_of, AreRows}
 use Rattle.dual_simplex.specs.Start.{start_at_x, start_at_right, start_entry}
 

@@ -6,8 +6,8 @@ use Rattle.std.proofs.lemmas.Bool.{cases_eq}
 use Rattle.std.proofs.lemmas.List.Elements.{All-take, All-drop}
 use Rattle.std.proofs.Math.ListN.{get_or-map}
 use Rattle.path_laws.proofs.BoolLemmas.{bool_cases}
-use Rattle.int_rows.specs.declared.combination.Which.{Which}
-use Rattle.int_rows.specs.Range.{InRange, AllInRange}
+use Rattle.integer_laws.specs.declared.which.Which.{Which}
+use Rattle.integer_laws.specs.Range.{InRange, AllInRange}
 use Rattle.path_rules.specs.LinearProgram.{LinearProgram}
 use Rattle.path_rules.specs.Columns.{Has, columns, right_at, scale_at}
 use Rattle.path_rules.specs.Vectors.{value_top, value_bottom}

@@ -4,8 +4,8 @@ use Rattle.std.specs.Prelude.{unsigned_abs, int_div, Option}
 use Rattle.std.specs.Option.{SomeIff}
 use Rattle.std.specs.Int.{◌∣◌}
 use Rattle.std.specs.List.{range_with_len}
-use Rattle.int_rows.specs.Lowest.{IsLowest}
-use Rattle.int_rows.specs.Range.{InRange, AllInRange}
+use Rattle.integer_laws.specs.Lowest.{IsLowest}
+use Rattle.integer_laws.specs.Range.{InRange, AllInRange}
 use Rattle.std.proofs.lemmas.List.{get_or_default}
 use Rattle.std.proofs.lemmas.List.FromFn.{fill_by_all}
 use Rattle.integer_laws.proofs.Ring.{V, N, ◌⊗◌, ring}

@@ -1,9 +1,9 @@
 -- The rows of a basis make their steps one after the other.
 use Rattle.std.proofs.Common.{◌≡◌, ◌≢◌, ◌<◌, ◌≤◌, ◌+◌, ◌*◌, ◌++◌, arith, sym, ap, ◌∙◌, subst, inl, inr, ℕ, ℤ, Bool, true, false, List, length, get_or}
 use Rattle.std.proofs.lemmas.Bool.{cases_eq}
-use Rattle.int_rows.specs.Range.{AllInRange}
+use Rattle.integer_laws.specs.Range.{AllInRange}
 use Rattle.dual_simplex.specs.Rows.{row_at}
-use Rattle.int_rows.specs.declared.combination.Which.{Which}
+use Rattle.integer_laws.specs.declared.which.Which.{Which}
 use Rattle.dual_simplex.specs.Exchange.{IsStepped, IsPastStep, AreStepped, IsPastAmong}
 use Rattle.dual_simplex.proofs.BlockLemmas.{below, row_before}
 

@@ -1,7 +1,7 @@
 -- What an exchange of two columns of the basis does to the rows.
 use Rattle.std.specs.Prelude.{◌≡◌, ◌≢◌, ◌⊎◌, ◌<◌, ℕ, true, false, Bool, cond, ℤ, pos, neg_ℤ, List, map, slice_index_or}
-use Rattle.int_rows.specs.declared.combination.Which.{Which}
-use Rattle.int_rows.specs.Combined.{IsCombined, IsPastEntry}
+use Rattle.integer_laws.specs.declared.which.Which.{Which}
+use Rattle.integer_laws.specs.Combined.{IsCombined, IsPastEntry}
 use Rattle.path_rules.specs.Columns.{exchanged}
 use Rattle.dual_simplex.specs.Rows.{Rows, width, row_at, row_of, basis}
 

@@ -7,7 +7,7 @@ use Rattle.pns_rules.specs.Nodes.{Node}
 use Rattle.flow_rules.specs.Net.{net_of, beside}
 use Rattle.flow_rules.specs.Program.{Program, program_of}
 use Rattle.flow_rules.specs.Relaxed.{IsRelaxed, relaxed_cost, bound, Refutes, rows}
-use Rattle.int_rows.specs.declared.combination.Which.{Which}
+use Rattle.integer_laws.specs.declared.which.Which.{Which}
 use Rattle.path_rules.specs.LinearProgram.{LinearProgram}
 use Rattle.path_rules.specs.Path.{IsLast}
 use Rattle.dual_simplex.specs.Rows.{Rows, basis}

@@ -11,7 +11,6 @@ pub mod Measure
 pub mod Bench
 pub mod Answer
 pub mod Laws
-pub mod Named
 pub mod Numbers
 pub mod PastPlace
 pub mod PastLaws

@@ -2,8 +2,8 @@
 -- keeps. Each of these laws is the contract of a public function of this crate.
 use Rattle.std.specs.Prelude.{◌≡◌, ℕ, pos}
 use Rattle.pns_rules.specs.Nodes.{Node}
-use Rattle.flow_program.specs.declared.place.Place.{Place}
-use Rattle.flow_program.specs.declared.place.Place.TheVariants as places
+use Rattle.flow_rules.specs.declared.place.Place.{Place}
+use Rattle.flow_rules.specs.declared.place.Place.TheVariants as places
 use Rattle.flow_rules.specs.Net.{Net, beside}
 use Rattle.flow_rules.specs.Program.{Program, program_of}
 use Rattle.flow_rules.specs.Relaxed.{units, rows}
@@ -13,7 +13,8 @@ use Rattle.flow_rules.specs.CostSteps.{cost_steps}
 use Rattle.flow_rules.specs.FeasibleSteps.{feasible_steps}
 use Rattle.path_rules.specs.Places.{IsDecided}
 use Rattle.dual_simplex.specs.Bench.{Bench, IsLeastOf, IsNoneOf, AreFlowsOf}
-use Rattle.dual_simplex.specs.PastPlace.{IsPastOf, IsPastFlowOf, IsPastNamed}
+use Rattle.dual_simplex.specs.PastPlace.{IsPastOf, IsPastFlowOf}
+use Rattle.path_rules.specs.PastPlace.{IsPastNamed}
 
 -- the place is past at the basis that is kept
 abbrev pub IsPastHere : Net → Node → Bench → Place → Type 0

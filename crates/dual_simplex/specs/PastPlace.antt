@@ -1,19 +1,15 @@
--- The place that a bench names where a number leaves the range, and what it means for a node.
-use Rattle.std.specs.Prelude.{◌≡◌, ℕ, ◌<◌, List, length}
-use Rattle.int_rows.specs.declared.combination.Which.{Which}
-use Rattle.flow_program.specs.declared.place.Column.{Column}
-use Rattle.flow_program.specs.declared.place.Place.{Place}
-use Rattle.pns_rules.specs.Nodes.{Node}
-use Rattle.flow_rules.specs.Net.{Net}
-use Rattle.flow_rules.specs.Program.{Program, program_of}
+-- The place that a bench names where a number leaves the range.
+use Rattle.std.specs.Prelude.{◌≡◌, ℕ, ◌<◌, length}
+use Rattle.integer_laws.specs.declared.which.Which.{Which}
+use Rattle.flow_rules.specs.declared.place.Place.{Place}
+use Rattle.flow_rules.specs.Program.{Program}
 use Rattle.path_rules.specs.LinearProgram.{linear_of}
-use Rattle.path_rules.specs.Columns.{Basis}
 use Rattle.path_rules.specs.ReadFlows.{FlowStep, IsPastFlow}
 use Rattle.path_rules.specs.Places as path
 use Rattle.dual_simplex.specs.Rows.{table, basis}
 use Rattle.dual_simplex.specs.Walk.{EndsPast}
 use Rattle.dual_simplex.specs.Bench.{Bench}
-use Rattle.dual_simplex.specs.Named.{nonbasic_named, place_named}
+use Rattle.path_rules.specs.Named.{nonbasic_named, place_named}
 
 -- at the pivot of the basis that is kept an entry is out of range
 pub record IsPastOf (q : Program) (b : Bench) (place : Place) : Type 0 where
@@ -33,12 +29,3 @@ pub record IsPastFlowOf (q : Program) (b : Bench) (place : Place) : Type 0 where
   pub is_unit : unit < length q.units
   pub past : IsPastFlow (linear_of q) (basis b.rows) (table b.rows) unit step
   pub named : place ≡ place_named q (path.Flow unit step)
-
--- the place is past at the last basis of the path of the node's program, and these are the other columns, all by the numbers of
--- the problem
-pub record IsPastNamed (net : Net) (n : Node) (nonbasic : List Column) (place : Place) : Type 0 where
-  pub last : Basis
-  pub at : path.Place
-  pub nonbasic_are : nonbasic ≡ nonbasic_named (program_of net n) last
-  pub named : place ≡ place_named (program_of net n) at
-  pub past : path.IsPast net n last at

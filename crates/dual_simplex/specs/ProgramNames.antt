@@ -2,14 +2,14 @@
 use Rattle.std.specs.Prelude.{◌≡◌, ℕ, true, Option, Some, None}
 use Rattle.number_sets.specs.Sets.{has}
 use Rattle.problem_rules.specs.Each.{Each}
-use Rattle.flow_program.specs.declared.place.Column.{Column}
-use Rattle.flow_program.specs.declared.place.Column.TheVariants.{X, S, T, W, Right, Scale}
-use Rattle.flow_program.specs.declared.place.Place.{Place}
-use Rattle.flow_program.specs.declared.place.Place.TheVariants as places
+use Rattle.flow_rules.specs.declared.place.Column.{Column}
+use Rattle.flow_rules.specs.declared.place.Column.TheVariants.{X, S, T, W, Right, Scale}
+use Rattle.flow_rules.specs.declared.place.Place.{Place}
+use Rattle.flow_rules.specs.declared.place.Place.TheVariants as places
 use Rattle.flow_rules.specs.Program.{Program}
 use Rattle.path_rules.specs.Columns.{Basis}
 use Rattle.dual_simplex.specs.Bench.{Bench, IsNoneOf}
-use Rattle.dual_simplex.specs.Named.{column_named, nonbasic_named}
+use Rattle.path_rules.specs.Named.{column_named, nonbasic_named}
 use Rattle.dual_simplex.specs.PastPlace.{IsPastOf, IsPastFlowOf}
 
 abbrev pub IsColumnOf : Program → Column → Type 0

@@ -2,7 +2,7 @@
 -- columns are there too, and what they are does not matter.
 use Rattle.std.specs.Prelude.{◌≡◌, ℕ, suc, ◌+◌, ◌*◌, ◌≤◌, Bool, false, ℤ, pos, List, length, slice_index_or}
 use Rattle.std.specs.List.{slice_range}
-use Rattle.int_rows.specs.Range.{AllInRange}
+use Rattle.integer_laws.specs.Range.{AllInRange}
 use Rattle.path_rules.specs.Columns.{Basis}
 
 pub record Rows : Type 0 where

@@ -1,6 +1,6 @@
 -- Rows that hold the tableau of a basis of the path of a linear program.
 use Rattle.std.specs.Prelude.{◌≡◌, ℕ, ℤ}
-use Rattle.int_rows.specs.declared.combination.Which.{Which}
+use Rattle.integer_laws.specs.declared.which.Which.{Which}
 use Rattle.path_rules.specs.LinearProgram.{LinearProgram}
 use Rattle.path_rules.specs.Tableau.{IsTableau}
 use Rattle.path_rules.specs.Path.{Reaches}

@@ -11,7 +11,8 @@ use crate::names::{column_at, entry_place, flow_place, put_nonbasic};
 use crate::rows::Rows;
 use crate::sizes::put_sizes;
 use crate::walk::walk;
-use flow_program::{Column, Place, Program};
+use flow_program::Program;
+use flow_rules::{Column, Place};
 use std::alloc::{AllocError, Global};
 use std::marker::Model;
 

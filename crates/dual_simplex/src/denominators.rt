@@ -1,6 +1,6 @@
 // The first round of a reading: the common denominator of the values of the units.
 ghost use Rattle.std.specs.Prelude.{◌≡◌, ◌<◌, ℕ, suc, true, pos, ◌<ℤ◌, unsigned_abs, IfErr, IfNone, IfOk, IfSome};
-ghost use Rattle.int_rows.specs.Range.{InRange};
+ghost use Rattle.integer_laws.specs.Range.{InRange};
 ghost use Rattle.path_rules.specs.LinearProgram.{LinearProgram};
 ghost use Rattle.path_rules.specs.ReadFlows.{rounds};
 ghost use Rattle.dual_simplex.specs.Rows.{table, basis};
@@ -10,7 +10,7 @@ ghost use Rattle.dual_simplex.specs.Step.{step_of};
 use crate::multiple::checked_lcm;
 use crate::past_flow::PastFlow;
 use crate::rows::Rows;
-use flow_program::FlowStep;
+use flow_rules::FlowStep;
 use int_rows::lowest_terms;
 
 /// The common denominator behind a unit, given the one before it; or `None` where it is out of range.

@@ -1,8 +1,8 @@
 // A number and a row behind it, divided by their greatest common divisor.
 ghost use Rattle.std.specs.Prelude.{◌≡◌, ◌<ℤ◌, ◌*ℤ◌, pos, unsigned_abs, int_div, map, ◌∷◌};
 ghost use Rattle.std.specs.Int.{◌∣◌};
-ghost use Rattle.int_rows.specs.Range.{InRange, AllInRange};
-ghost use Rattle.int_rows.specs.Reduced.{DividesAll, IsRowGcd, IsReduced};
+ghost use Rattle.integer_laws.specs.Range.{InRange, AllInRange};
+ghost use Rattle.integer_laws.specs.Reduced.{DividesAll, IsRowGcd, IsReduced};
 
 use int_rows::gcd;
 

@@ -1,6 +1,6 @@
 // The multipliers of the rows of a program, and those by which a row refutes.
 ghost use Rattle.std.specs.Prelude.{◌≡◌, ◌<◌, ◌+◌, ℕ, pos, ◌-ℤ◌, ◌<ℤ◌, ◌≤ℤ◌, length, slice_index_or};
-ghost use Rattle.int_rows.specs.Range.{InRange, AllInRange};
+ghost use Rattle.integer_laws.specs.Range.{InRange, AllInRange};
 ghost use Rattle.path_rules.specs.Columns.{scale_at};
 ghost use Rattle.path_rules.specs.LinearProgram.{LinearProgram};
 ghost use Rattle.path_rules.specs.Multipliers.{AreMultipliers, AreRefuting};

@@ -1,6 +1,6 @@
 //! What is read off the last basis of a path: multipliers and flows, or the multipliers of a refutation.
 ghost use Rattle.std.specs.Prelude.{◌≡◌, ◌<◌, ◌≤◌, ◌<ℤ◌, pos, length, take, IfOk, IfErr, OnOk, OnErr};
-ghost use Rattle.int_rows.specs.Range.{InRange, AllInRange};
+ghost use Rattle.integer_laws.specs.Range.{InRange, AllInRange};
 ghost use Rattle.path_rules.specs.LinearProgram.{linear_of};
 ghost use Rattle.path_rules.specs.Columns.{scale_at};
 ghost use Rattle.path_rules.specs.Multipliers.{AreMultipliers, AreRefuting};

@@ -1,6 +1,6 @@
 //! The exchange of two columns of the basis.
 ghost use Rattle.std.specs.Prelude.{◌≡◌, ◌≢◌, ◌<◌, ◌≤◌, ◌+◌, ◌*◌, ◌<ℤ◌, pos, suc, ℕ, true, false, length, OnOk, IfErr, slice_index_or};
-ghost use Rattle.int_rows.specs.Range.{AllInRange};
+ghost use Rattle.integer_laws.specs.Range.{AllInRange};
 ghost use Rattle.dual_simplex.specs.Rows.{row_at};
 ghost use Rattle.dual_simplex.specs.Exchange.{pivot_row, AreStepped, IsPastAmong};
 

@@ -1,7 +1,7 @@
 // The second round of a reading: the sizes of the units over the common denominator.
 ghost use Rattle.std.specs.Prelude.{◌≡◌, ◌<◌, ℕ, pos, ◌<ℤ◌, length, map, slice_index_or, IfErr, IfOk, OnOk};
 ghost use Rattle.std.specs.Option.{SomeIff};
-ghost use Rattle.int_rows.specs.Range.{InRange, AllInRange};
+ghost use Rattle.integer_laws.specs.Range.{InRange, AllInRange};
 ghost use Rattle.flow_rules.specs.Steps.{AreInRange};
 ghost use Rattle.path_rules.specs.LinearProgram.{LinearProgram, linear_of};
 ghost use Rattle.path_rules.specs.ReadFlows.{size, size_above};
@@ -12,7 +12,8 @@ ghost use Rattle.dual_simplex.specs.Step.{step_of};
 use crate::division::quotient;
 use crate::past_flow::PastFlow;
 use crate::rows::Rows;
-use flow_program::{FlowStep, Program};
+use flow_program::Program;
+use flow_rules::FlowStep;
 use int_rows::{checked_product, checked_sum, lowest_terms};
 
 /// The size of a unit above its least, over the common denominator; or `None` exactly where it is out of range.

@@ -1,6 +1,6 @@
 // The least common multiple in the symmetric range.
 ghost use Rattle.std.specs.Prelude.{◌<ℤ◌, ℤ, pos, unsigned_abs, IfNone, IfSome};
-ghost use Rattle.int_rows.specs.Range.{InRange};
+ghost use Rattle.integer_laws.specs.Range.{InRange};
 ghost use Rattle.path_rules.specs.ReadFlows.{IsLcm};
 
 use int_rows::{checked_product, lowest_terms};

@@ -6,14 +6,15 @@ ghost use Rattle.path_rules.specs.Places as path;
 ghost use Rattle.dual_simplex.specs.Rows.{basis, width};
 ghost use Rattle.dual_simplex.specs.Choice.{IsOfSize};
 ghost use Rattle.dual_simplex.specs.Step.{step_of};
-ghost use Rattle.dual_simplex.specs.Named.{unit_named, named_at, column_named, nonbasic_named, place_named};
+ghost use Rattle.path_rules.specs.Named.{unit_named, named_at, column_named, nonbasic_named, place_named};
 ghost use Rattle.dual_simplex.specs.Numbers.{AreNumbers};
 
 use crate::numbers::{Numbers, numbers_of};
 use crate::past_flow::PastFlow;
 use crate::rows::Rows;
 use crate::walk::PastPivot;
-use flow_program::{Column, Place, Program};
+use flow_program::Program;
+use flow_rules::{Column, Place};
 
 fn unit_count(program: &Program) -> usize
     ensures count { result ≡ length program.now.units }

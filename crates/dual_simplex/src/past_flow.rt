@@ -1,5 +1,5 @@
 // Where a number of a flow is out of range.
-use flow_program::FlowStep;
+use flow_rules::FlowStep;
 
 /// The first number out of range as flows are read: which of those that are formed for a unit. Units are numbered as in the
 /// program.

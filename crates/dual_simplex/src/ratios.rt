@@ -1,7 +1,7 @@
 // Two columns that could enter the basis, compared by their vectors.
 ghost use Rattle.std.specs.Prelude.{◌≡◌, ◌≢◌, ◌<◌, ◌+◌, suc, false, pos, ◌*ℤ◌, ◌<ℤ◌, IsTrue};
 ghost use Rattle.std.specs.Ordering.{int_cmp};
-ghost use Rattle.int_rows.specs.Range.{InRange};
+ghost use Rattle.integer_laws.specs.Range.{InRange};
 ghost use Rattle.dual_simplex.specs.Rows.{basis};
 ghost use Rattle.dual_simplex.specs.Choice.{columns_of};
 ghost use Rattle.dual_simplex.specs.Candidates.{vector, ComesBefore};

@@ -3,7 +3,7 @@ ghost use Rattle.std.specs.Prelude.{◌≡◌, ◌<◌, ◌≤◌, ◌+◌, ◌*
 ghost use Rattle.path_rules.specs.LinearProgram.{linear_of};
 ghost use Rattle.path_rules.specs.Columns.{start};
 ghost use Rattle.path_rules.specs.Start.{IsStart};
-ghost use Rattle.int_rows.specs.Range.{InRange, AllInRange};
+ghost use Rattle.integer_laws.specs.Range.{InRange, AllInRange};
 ghost use Rattle.dual_simplex.specs.Rows.{width, row_of, table, basis, AreRows};
 ghost use Rattle.dual_simplex.specs.Exchange.{pivot_row, IsExchanged, IsPastRow, IsSameSize};
 

@@ -1,6 +1,6 @@
 //! The rows at the start of the path.
 ghost use Rattle.std.specs.Prelude.{◌≡◌, ◌≢◌, ◌<◌, ◌≤◌, ◌+◌, ◌*◌, ◌^◌, ℕ, neg_ℤ, suc, false, length, pos, slice_index_or, unsigned_abs};
-ghost use Rattle.int_rows.specs.Range.{InRange, AllInRange};
+ghost use Rattle.integer_laws.specs.Range.{InRange, AllInRange};
 ghost use Rattle.path_rules.specs.LinearProgram.{linear_of};
 ghost use Rattle.path_rules.specs.Start.{one_at};
 ghost use Rattle.dual_simplex.specs.Rows.{row_at, width_of};

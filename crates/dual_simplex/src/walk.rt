@@ -11,7 +11,7 @@ use crate::enters::entering;
 use crate::leaves::leaving;
 use crate::rows::Rows;
 use flow_program::Program;
-use int_rows::Which;
+use integer_laws::Which;
 
 /// A pivot of the path at which a number is out of range, and which: columns by their places in a row.
 #[derive(Clone, Copy, Debug, PartialEq, Eq)]

@@ -1,7 +1,7 @@
 -- `make NUMBER UNITS`: the canonical text of the problem that the number and the count of units stand for.
 use Rattle.std.specs.Prelude.{◌≡◌, ℕ, List}
 use Rattle.text_rules.specs.Canonical.{canonical_lines}
-use Rattle.generator.specs.Generated.{generated}
+use Rattle.problem_rules.specs.Generated.{generated}
 use Rattle.endings.specs.declared.status.Status.{Status}
 use Rattle.endings.specs.declared.status.Status.TheVariants.{Done}
 

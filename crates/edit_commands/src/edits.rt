@@ -1,6 +1,6 @@
 //! The commands `edit` and `undo`.
 ghost use Rattle.std.specs.Prelude.{◌≡◌, ◌⊎◌};
-ghost use Rattle.pns_io.specs.Outside.{HasRisen};
+ghost use Rattle.text_rules.specs.Outside.{HasRisen};
 ghost use Rattle.command_files.specs.Reading.{OnFile};
 ghost use Rattle.command_files.specs.Script.{OnScript};
 ghost use Rattle.edit_commands.specs.Edits.{EditWork, UndoWork};

@@ -1,8 +1,8 @@
 //! The command `make`.
 ghost use Rattle.std.specs.Prelude.{◌≡◌, ◌≤◌, IfOk};
-ghost use Rattle.pns_io.specs.Outside.{HasRisen};
+ghost use Rattle.text_rules.specs.Outside.{HasRisen};
 ghost use Rattle.text_rules.specs.Canonical.{canonical_lines};
-ghost use Rattle.generator.specs.Generated.{generated};
+ghost use Rattle.problem_rules.specs.Generated.{generated};
 ghost use Rattle.endings.specs.Lines.{text_of};
 ghost use Rattle.edit_commands.specs.Make.{MakeWork};
 ghost use Rattle.endings.specs.Ending.{Ends, Tells};

@@ -1,6 +1,6 @@
 //! The command `migrate`.
 ghost use Rattle.std.specs.Prelude.{◌≡◌, ◌≤◌};
-ghost use Rattle.pns_io.specs.Outside.{HasRisen};
+ghost use Rattle.text_rules.specs.Outside.{HasRisen};
 ghost use Rattle.problem_rules.specs.Problem.{unit_at};
 ghost use Rattle.command_files.specs.Reading.{OnFile};
 ghost use Rattle.edit_commands.specs.Migrate.{MigrateWork};

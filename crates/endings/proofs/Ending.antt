@@ -2,7 +2,7 @@
 use Rattle.std.proofs.Common.{◌≡◌, ◌≤◌, ◌++◌, [], ◌∷◌, ℕ, List, Option, refl, sym, ◌∙◌, ap, subst, arith, inl, inr, append_assoc, append-nil, codes}
 use Rattle.std.specs.Io.KnownBytes.{Appends}
 use Rattle.std.proofs.KnownBytes.{Appends-trans}
-use Rattle.pns_io.specs.Outside.{HasRisen}
+use Rattle.text_rules.specs.Outside.{HasRisen}
 use Rattle.endings.specs.Lines.{line, text_of}
 use Rattle.endings.specs.Ending.{Shelves, Ends, Tells, Says, Only, OrMemory}
 use Rattle.endings.specs.declared.status.Status.{Status}

@@ -3,7 +3,7 @@ use Rattle.std.proofs.Common.{◌≡◌, ◌≤◌, ◌++◌, ◌∷◌, [], ℕ
 use Rattle.std.specs.Io.KnownBytes.{Appends}
 use Rattle.std.proofs.KnownBytes.{Appends-trans}
 use Rattle.tree_text.specs.declared.fault.PrintFault.{PrintFault}
-use Rattle.pns_io.specs.Outside.{HasRisen, AppendsFront}
+use Rattle.text_rules.specs.Outside.{HasRisen, AppendsFront}
 use Rattle.text_rules.specs.Canonical.{joined}
 use Rattle.tree_text_rules.specs.Line.{Token}
 use Rattle.tree_text_rules.specs.Spelling as trees

@@ -1,7 +1,7 @@
 -- How a call ends: with the whole text of its status, or with a front of such a text where the sink failed.
 use Rattle.std.specs.Prelude.{◌≡◌, ◌⊎◌, ◌++◌, ℕ, List, [], ◌∷◌, Option, codes}
 use Rattle.std.specs.Io.KnownBytes.{Appends}
-use Rattle.pns_io.specs.Outside.{HasRisen, AppendsFront, Told}
+use Rattle.text_rules.specs.Outside.{HasRisen, AppendsFront, Told}
 use Rattle.endings.specs.Lines.{line, text_of}
 use Rattle.endings.specs.declared.status.Status.{Status}
 use Rattle.endings.specs.declared.status.Status.TheVariants.{ReadFault, WriteFault, Memory}

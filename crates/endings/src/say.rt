@@ -1,6 +1,6 @@
 //! How lines are put into the sink, and with which status a call then ends.
 ghost use Rattle.std.specs.Prelude.{◌≡◌, ◌≢◌, ◌≤◌, ◌<◌, ◌++◌, ◌∷◌, [], ℕ, List, Option, IfOk, codes, length};
-ghost use Rattle.pns_io.specs.Outside.{HasRisen};
+ghost use Rattle.text_rules.specs.Outside.{HasRisen};
 ghost use Rattle.tree_text_rules.specs.Line.{Token};
 ghost use Rattle.tree_text.specs.Prints.{Prints};
 ghost use Rattle.endings.specs.Lines.{line, text_of};

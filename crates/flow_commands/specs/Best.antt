@@ -1,6 +1,6 @@
 -- What it means that a claim is best, over allowed solution structures and their flows alone: no tree is named here.
 use Rattle.std.specs.Prelude.{◌≡◌, ℕ, ℤ, ◌*ℤ◌, ◌≤ℤ◌, Bool, List}
-use Rattle.pns_io.specs.Outside.{Told}
+use Rattle.text_rules.specs.Outside.{Told}
 use Rattle.number_sets.specs.Sets.{has}
 use Rattle.problem_rules.specs.Problem.{Problem}
 use Rattle.problem_rules.specs.Validity.{IsValid}

@@ -5,20 +5,20 @@ use Rattle.std.specs.Prelude.{◌≡◌, ◌⊎◌, ◌++◌, ℕ, ℤ, List, []
 use Rattle.number_sets.specs.Sets.{has, IsSet}
 use Rattle.problem_rules.specs.Problem.{Problem}
 use Rattle.pns_rules.specs.Shape.{shape_of}
-use Rattle.pgraph.specs.Verdict.{Judges}
-use Rattle.pgraph.specs.declared.verdict.Axiom.TheVariants.{S3}
-use Rattle.pgraph.specs.declared.verdict.Verdict.{Verdict}
-use Rattle.pgraph.specs.declared.verdict.Verdict.TheVariants.{Meets, Breaks}
-use Rattle.flow_program.specs.declared.place.Column.{Column}
-use Rattle.flow_program.specs.declared.place.Place.{Place}
+use Rattle.pns_rules.specs.Verdict.{Judges}
+use Rattle.pns_rules.specs.declared.verdict.Axiom.TheVariants.{S3}
+use Rattle.pns_rules.specs.declared.verdict.Verdict.{Verdict}
+use Rattle.pns_rules.specs.declared.verdict.Verdict.TheVariants.{Meets, Breaks}
+use Rattle.flow_rules.specs.declared.place.Column.{Column}
+use Rattle.flow_rules.specs.declared.place.Place.{Place}
 use Rattle.tree_rules.specs.Tree as trees
 use Rattle.tree_rules.specs.Leaf as leaves
 use Rattle.tree_rules.specs.Claim.{Network}
 use Rattle.tree_rules.specs.Claim as claims
 use Rattle.tree_text_rules.specs.Spelling.{network_lines, claim_lines, end_line, place_lines}
 use Rattle.flow_rules.specs.Net.{net_of}
-use Rattle.dual_simplex.specs.PastPlace.{IsPastNamed}
-use Rattle.structure_flows.specs.Flows.{decided, IsLeastFlows, HasNoFlows}
+use Rattle.path_rules.specs.PastPlace.{IsPastNamed}
+use Rattle.tree_rules.specs.LeastFlows.{decided, IsLeastFlows, HasNoFlows}
 use Rattle.endings.specs.Printed.{spelled}
 use Rattle.structure_commands.specs.Axioms.{units_named, first_stranger, breaks_line, VerdictSays}
 use Rattle.endings.specs.declared.status.Status.{Status}

@@ -1,6 +1,6 @@
 //! The command `check`.
 ghost use Rattle.std.specs.Prelude.{◌≡◌, ◌<◌, ◌^◌, ◌⊎◌, length};
-ghost use Rattle.pns_io.specs.Outside.{HasRisen};
+ghost use Rattle.text_rules.specs.Outside.{HasRisen};
 ghost use Rattle.branch_tree.specs.View.{claim_of};
 ghost use Rattle.command_files.specs.Reading.{OnFile};
 ghost use Rattle.command_files.specs.TreeFile.{OnTree};
@@ -10,7 +10,7 @@ ghost use Rattle.endings.specs.Ending.{Ends, Says, Tells};
 ghost use Rattle.endings.specs.declared.status.Status.TheVariants.{Done};
 
 use branch_tree::{Claim, Tree};
-use cert_check::{Refusal, check_tree};
+use cert_check::check_tree;
 use command_files::{problem_of, tree_of};
 use endings::Status;
 use endings::say::{say, say_memory, say_of};
@@ -20,6 +20,7 @@ use pns_problem::Problem;
 use refusal_words::{say_node, why_word};
 use std::alloc::Global;
 use tree_laws::{accepted_has_flows, accepted_is_optimal};
+use tree_rules::Refusal;
 
 /// Says whether the tree proves the claim, or else the first line of the claim or the first node that fails.
 fn say_checked<K: Sink>(

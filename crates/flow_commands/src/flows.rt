@@ -1,11 +1,11 @@
 //! The command `flows`.
 ghost use Rattle.std.specs.Prelude.{◌≡◌, ◌≤◌, ◌<◌, ◌++◌, ◌∷◌, [], None, true};
 ghost use Rattle.number_sets.specs.Sets.{has};
-ghost use Rattle.pns_io.specs.Outside.{HasRisen};
+ghost use Rattle.text_rules.specs.Outside.{HasRisen};
 ghost use Rattle.pns_rules.specs.Shape.{shape_of};
 ghost use Rattle.pns_rules.specs.Structure.{IsStructure};
 ghost use Rattle.pgraph.specs.Tables.{shape};
-ghost use Rattle.branch_tree.specs.Known.{AreUnits, KnowsEnd};
+ghost use Rattle.tree_rules.specs.Known.{AreUnits, KnowsEnd};
 ghost use Rattle.branch_tree.specs.View.{end_of};
 ghost use Rattle.tree_rules.specs.Claim as claims;
 ghost use Rattle.tree_text_rules.specs.Spelling.{network_lines, claim_lines, end_line};
@@ -19,9 +19,10 @@ use branch_tree::{End, Network};
 use command_files::problem_of;
 use endings::Status;
 use endings::say::{say_memory, say_printed};
-use pgraph::{Axiom, Graph, Verdict};
+use pgraph::Graph;
 use pns_io::{Shelf, Sink};
 use pns_problem::Problem;
+use pns_rules::{Axiom, Verdict};
 use std::alloc::Global;
 use structure_commands::axioms::{first_stranger, say_breaks, say_verdict, units_named};
 use structure_flows::{StructureFlows, flows_of};

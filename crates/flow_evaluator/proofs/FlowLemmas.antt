@@ -4,7 +4,7 @@ use Rattle.std.specs.Prelude.{◌&&◌}
 use Rattle.std.proofs.lemmas.Int.{ints}
 use Rattle.number_sets.specs.Sets.{has, IsRising}
 use Rattle.number_sets.proofs.SetLemmas.{below_from, listed-is}
-use Rattle.int_rows.specs.Range.{InRange}
+use Rattle.integer_laws.specs.Range.{InRange}
 use Rattle.problem_rules.specs.Problem.{Problem}
 use Rattle.problem_rules.specs.Validity.{IsValid}
 use Rattle.pns_rules.specs.Shape.{shape_of}
@@ -33,7 +33,7 @@ use Rattle.turn_laws.specs.Values.{IsPositive}
 use Rattle.turn_laws.proofs.GrowLemmas.{leaf_fallen}
 use Rattle.node_evaluation.specs.Evaluated.{cost_over, IsBoundOf, IsNetworkOf, IsWorth}
 use Rattle.node_evaluation.proofs.LookLemmas.{under_value}
-use Rattle.flow_evaluator.specs.Past.{IsPastAt}
+use Rattle.tree_rules.specs.Past.{IsPastAt}
 use Rattle.flow_evaluator.proofs.ValueLemmas.{kept_le, kept_same, kept_over}
 
 -- the number is the bound that the bench keeps, over its scale

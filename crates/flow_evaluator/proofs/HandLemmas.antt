@@ -13,7 +13,7 @@ use Rattle.tree_rules.specs.Claim.{Network}
 use Rattle.certified_bounds.specs.declared.certified.LeastBound.{LeastBound}
 use Rattle.certified_bounds.specs.declared.certified.Certified.TheVariants.{Flows}
 use Rattle.certified_bounds.specs.Certified.{IsCertified}
-use Rattle.structure_flows.specs.Flows.{decided}
+use Rattle.tree_rules.specs.LeastFlows.{decided}
 use Rattle.node_evaluation.specs.Evaluated.{IsAtHand}
 
 -- the units that are taken in, and those of a set that are not left out

@@ -7,14 +7,14 @@ use Rattle.pns_rules.specs.Nodes.{Node}
 use Rattle.flow_rules.specs.Net.{net_of}
 use Rattle.flow_rules.specs.Program.{Program, program_of}
 use Rattle.flow_rules.specs.Relaxed.{units, rows}
-use Rattle.flow_program.specs.declared.place.Column.{Column}
-use Rattle.flow_program.specs.declared.place.Column.TheVariants.{X, S, T, W, Right, Scale}
-use Rattle.flow_program.specs.declared.place.Place.{Place}
-use Rattle.flow_program.specs.declared.place.Place.TheVariants.{Entry, Flow, Cost, FlowSum, Bound, Refute}
-use Rattle.branch_tree.specs.Known.{KnowsColumn, KnowsRow, KnowsPlace}
+use Rattle.flow_rules.specs.declared.place.Column.{Column}
+use Rattle.flow_rules.specs.declared.place.Column.TheVariants.{X, S, T, W, Right, Scale}
+use Rattle.flow_rules.specs.declared.place.Place.{Place}
+use Rattle.flow_rules.specs.declared.place.Place.TheVariants.{Entry, Flow, Cost, FlowSum, Bound, Refute}
+use Rattle.tree_rules.specs.Known.{KnowsColumn, KnowsRow, KnowsPlace}
 use Rattle.dual_simplex.specs.Rows.{basis}
 use Rattle.dual_simplex.specs.Bench.{Bench}
-use Rattle.dual_simplex.specs.Named.{nonbasic_named}
+use Rattle.path_rules.specs.Named.{nonbasic_named}
 use Rattle.dual_simplex.specs.ProgramNames.{IsColumnOf, IsRowOf, IsPlaceOf, NonbasicAreOfProgram}
 use Rattle.tree_rules.specs.Claim.{CostOver}
 use Rattle.node_evaluation.specs.Evaluated.{IsEvaluated, IsProof}
@@ -22,7 +22,7 @@ use Rattle.node_evaluation.specs.declared.evaluator.Proof.{Proof}
 use Rattle.node_evaluation.specs.declared.evaluator.Proof.TheVariants as proofs
 use Rattle.node_evaluation.specs.declared.evaluator.Evaluation.{Evaluation}
 use Rattle.node_evaluation.specs.declared.evaluator.Evaluation.TheVariants.{Stopped}
-use Rattle.flow_evaluator.specs.Past.{IsPastAt}
+use Rattle.tree_rules.specs.Past.{IsPastAt}
 
 module _ (p : Problem) (n : Node) where
   abbrev own : Program

@@ -11,7 +11,8 @@ use Rattle.flow_rules.specs.Relaxed.{relaxed_cost, bound}
 use Rattle.flow_rules.specs.Laws.{RelaxedDuality}
 use Rattle.tree_rules.specs.Claim.{Network, CostOver}
 use Rattle.tree_rules.specs.Leaf.{IsBounded, multiplier}
-use Rattle.turn_laws.specs.Values.{IsPositive, IsUnder, IsNoMore}
+use Rattle.turn_laws.specs.Values.{IsPositive, IsUnder}
+use Rattle.tree_rules.specs.Costs.{IsNoMore}
 use Rattle.turn_laws.proofs.FractionLemmas.{fraction_trans}
 use Rattle.certified_bounds.specs.declared.certified.Between.{Between}
 use Rattle.certified_bounds.specs.declared.certified.LeastBound.{LeastBound}
@@ -21,7 +22,7 @@ use Rattle.certified_bounds.specs.Certified.{IsCertified, IsBetween, IsLeastBoun
 use Rattle.node_evaluation.specs.declared.evaluator.PastStop.{PastStop}
 use Rattle.node_evaluation.specs.declared.evaluator.Bound.{Bound}
 use Rattle.node_evaluation.specs.Evaluated.{cost_over, cost_in, IsBoundOf, IsNetworkOf, HasUnits}
-use Rattle.flow_evaluator.specs.Past.{IsPastAt}
+use Rattle.tree_rules.specs.Past.{IsPastAt}
 
 abbrev pub bound_from : LeastBound → Bound
 bound_from b = record { value = b.value; low = b.low; scaled = b.scaled; interval = None }

@@ -1,7 +1,7 @@
 //! What the last basis of a node's path gives.
 ghost use Rattle.std.specs.Prelude.{◌≡◌, ◌≤ℤ◌, Bool, true, pos, length, None, IfOk};
 ghost use Rattle.mixed_numbers.specs.Number.{numerator, denominator};
-ghost use Rattle.int_rows.specs.Range.{InRange, AllInRange};
+ghost use Rattle.integer_laws.specs.Range.{InRange, AllInRange};
 ghost use Rattle.pns_rules.specs.Shape.{shape_of};
 ghost use Rattle.pns_rules.specs.Ends.{IsSound, IsDecided};
 ghost use Rattle.pgraph.specs.Tables.{shape};
@@ -16,7 +16,7 @@ ghost use Rattle.turn_laws.specs.Values.{IsPositive};
 ghost use Rattle.node_evaluation.specs.Evaluated.{IsEvaluated, IsWorth, IsProof};
 ghost use Rattle.node_evaluation.specs.declared.evaluator.Evaluation.TheVariants.{Stopped};
 ghost use Rattle.node_evaluation.specs.declared.evaluator.Proof.TheVariants as proofs;
-ghost use Rattle.flow_evaluator.specs.Past.{IsPastAt};
+ghost use Rattle.tree_rules.specs.Past.{IsPastAt};
 
 use crate::sums::{cost_of_flows, form_refutation, value_of};
 use branch_tree::{Columns, Multipliers, Network, Scaled};
@@ -24,7 +24,8 @@ use dual_simplex::{
     Bench, flow_is_past, least_is_least, names_are_of_program, none_is_refuted,
     split_flows_are_least,
 };
-use flow_program::{Place, Program};
+use flow_program::Program;
+use flow_rules::Place;
 use mixed_numbers::Mixed;
 use node_evaluation::{Bound, Evaluation, PastStop, Proof};
 use pgraph::Graph;

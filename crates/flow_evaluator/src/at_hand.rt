@@ -8,8 +8,9 @@ ghost use Rattle.pgraph.specs.Tables.{shape};
 ghost use Rattle.pgraph.specs.View.{node_of};
 
 use max_structure::maximal;
-use pgraph::{Graph, Verdict};
+use pgraph::Graph;
 use pns_problem::{OperatingUnit, Problem};
+use pns_rules::Verdict;
 use unit_sets::{Node, UnitSet};
 
 /// The free units that run, and those that owe something of their fixed cost at their sizes, whether they run or not.

@@ -11,7 +11,7 @@ ghost use Rattle.tree_rules.specs.Claim.{CostOver};
 ghost use Rattle.tree_rules.specs.Lean.{MayUndercut};
 ghost use Rattle.turn_laws.specs.Values.{IsPositive};
 ghost use Rattle.node_evaluation.specs.Evaluated.{IsEvaluated, IsWorth, IsProof, IsAtHand};
-ghost use Rattle.flow_evaluator.specs.Past.{IsPastAt};
+ghost use Rattle.tree_rules.specs.Past.{IsPastAt};
 
 use crate::answers::{bounded, proved, refuted, stopped, unproved};
 use crate::at_hand::{running_units, structure_with};
@@ -262,7 +262,7 @@ impl FlowEvaluator {
 }
 
 impl Evaluator for FlowEvaluator {
-    ghost use Rattle.flow_evaluator.specs.Past.{IsPastAt};
+    ghost use Rattle.tree_rules.specs.Past.{IsPastAt};
 
     ghost past = { IsPastAt };
 

@@ -1,7 +1,7 @@
 //! The sums over what a bench keeps, each with the place at which it leaves the range.
 ghost use Rattle.std.specs.Prelude.{◌≡◌, pos, true, IfOk, IfErr, OnOk};
 ghost use Rattle.number_sets.specs.Sets.{has};
-ghost use Rattle.int_rows.specs.Range.{InRange};
+ghost use Rattle.integer_laws.specs.Range.{InRange};
 ghost use Rattle.mixed_numbers.specs.Number.{numerator, denominator};
 ghost use Rattle.pns_rules.specs.Shape.{shape_of};
 ghost use Rattle.pns_rules.specs.Ends.{IsSound, IsDecided};
@@ -16,14 +16,14 @@ ghost use Rattle.flow_rules.specs.CostSteps.{cost_steps};
 ghost use Rattle.flow_rules.specs.FeasibleSteps.{feasible_steps};
 ghost use Rattle.tree_rules.specs.Leaf.{IsFormed, multiplier};
 ghost use Rattle.dual_simplex.specs.Bench.{IsLeastOf, IsNoneOf, AreFlowsOf};
-ghost use Rattle.flow_evaluator.specs.Past.{IsPastAt};
+ghost use Rattle.tree_rules.specs.Past.{IsPastAt};
 
 use dual_simplex::{
     Bench, balance_is_past, bound_is_past, cost_is_past, least_is_least, names_are_of_program,
     refutation_is_past, split_flows_are_least,
 };
-use flow_program::{Place, bound_of, cost_of, feasible, refutes};
-use flow_rules::sums_are_last;
+use flow_program::{bound_of, cost_of, feasible, refutes};
+use flow_rules::{Place, sums_are_last};
 use mixed_numbers::Mixed;
 use pgraph::Graph;
 use pns_problem::Problem;

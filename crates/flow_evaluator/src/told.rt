@@ -4,7 +4,7 @@ ghost use Rattle.problem_rules.specs.Problem.{Problem};
 ghost use Rattle.pns_rules.specs.Nodes.{Node};
 ghost use Rattle.certified_bounds.specs.Certified.{IsCertified};
 ghost use Rattle.node_evaluation.specs.Evaluated.{IsEvaluated};
-ghost use Rattle.flow_evaluator.specs.Past.{IsPastAt};
+ghost use Rattle.tree_rules.specs.Past.{IsPastAt};
 
 use certified_bounds::{Between, Certified, LeastBound};
 use node_evaluation::{Bound, Evaluation, Interval, PastStop};

@@ -1,7 +1,7 @@
 -- A bound, put together from its parts.
 use Rattle.std.proofs.Common.{◌≡◌, ℕ, ◌+◌, ◌*◌, ◌-◌, ◌≤◌, List, [], ◌∷◌, ◌++◌, length, refl, sym, ap, ◌∙◌, subst, arith, ℤ, ◌+ℤ◌, ◌-ℤ◌, ◌*ℤ◌}
 use Rattle.std.proofs.lemmas.List.{length-append}
-use Rattle.int_rows.specs.Range.{InRange}
+use Rattle.integer_laws.specs.Range.{InRange}
 use Rattle.integer_laws.specs.Total.{total}
 use Rattle.pns_rules.specs.Nodes.{Node}
 use Rattle.flow_rules.specs.Net.{Net}

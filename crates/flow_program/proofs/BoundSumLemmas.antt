@@ -5,7 +5,7 @@ use Rattle.std.specs.Prelude.{IfErr, nat_lt, not, ◌&&◌}
 use Rattle.std.specs.Ordering.{int_eq}
 use Rattle.std.proofs.lemmas.Int.{ints, clamps}
 use Rattle.std.proofs.lemmas.Bool.{lt-ltb}
-use Rattle.int_rows.specs.Range.{InRange}
+use Rattle.integer_laws.specs.Range.{InRange}
 use Rattle.integer_laws.specs.Total.{total}
 use Rattle.integer_laws.proofs.Order.{mul-le_left, mul-le_left_neg}
 use Rattle.integer_laws.proofs.Totals.{total-agree}

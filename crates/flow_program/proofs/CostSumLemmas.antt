@@ -1,7 +1,7 @@
 -- The walk over the units of a network that sums its cost.
 use Rattle.std.proofs.Common.{◌≡◌, ℕ, ◌+◌, ◌*◌, ◌-◌, ◌<◌, ◌≤◌, List, [], ◌++◌, length, true, sym, ap, ◌∙◌, subst, arith, pos, ℤ, ◌+ℤ◌, ◌*ℤ◌}
 use Rattle.std.proofs.lemmas.Int.{ints}
-use Rattle.int_rows.specs.Range.{InRange}
+use Rattle.integer_laws.specs.Range.{InRange}
 use Rattle.integer_laws.specs.Total.{total}
 use Rattle.integer_laws.proofs.Totals.{total-agree}
 use Rattle.number_sets.specs.Sets.{has, IsSet, IsWithin}

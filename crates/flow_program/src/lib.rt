@@ -4,9 +4,8 @@
 //! [`bound_of`], [`refutes`], [`cost_of`] and [`feasible`] take a problem beside its graph and no memory. Each gives the
 //! value of its definition exactly where every number that is formed on the way is in range, and else, as [`PastSum`], the
 //! number of the first that is not. The numbers that a sum starts from, as costs and ranges, cannot leave the range.
-//! [`Program::of`] gives the numbers of a node's program as lists, from which a simplex method starts; [`Column`], [`Place`]
-//! and [`FlowStep`] name what such a method meets. [`sets_of`], [`unit_numbers`], [`row_range`] and [`put_rates`] give the same
-//! numbers one unit or row at a time, without memory.
+//! [`Program::of`] gives the numbers of a node's program as lists, from which a simplex method starts.
+//! [`sets_of`], [`unit_numbers`], [`row_range`] and [`put_rates`] give the same numbers one unit or row at a time, without memory.
 //!
 //! Modules: `costs`, `ranges` and `rates` read a problem; `node_sets` and `node_numbers` say what a node makes of it; `tables`
 //! finds a value by the number of a material or unit; `products` multiplies; `bound`, `cost`, `feasibility` and `program` are the calls.
@@ -19,7 +18,6 @@ mod feasibility;
 mod node_numbers;
 mod node_sets;
 mod past_sum;
-mod place;
 mod products;
 mod program;
 mod ranges;
@@ -33,7 +31,6 @@ pub use feasibility::{feasible, is_within, rate_at, units_with};
 pub use node_numbers::{UnitNumbers, row_range, unit_numbers};
 pub use node_sets::{NodeSets, sets_of};
 pub use past_sum::PastSum;
-pub use place::{Column, FlowStep, Place};
 pub use program::Program;
 pub use ranges::Range;
 pub use rates::put_rates;

@@ -1,7 +1,7 @@
 //! Products of numbers that are mostly short.
 ghost use Rattle.std.specs.Prelude.{◌≡◌, ◌*ℤ◌};
 ghost use Rattle.std.specs.Option.{SomeIff};
-ghost use Rattle.int_rows.specs.Range.{InRange};
+ghost use Rattle.integer_laws.specs.Range.{InRange};
 
 use int_rows::checked_product;
 

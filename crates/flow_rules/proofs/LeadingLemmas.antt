@@ -1,7 +1,7 @@
 -- One step after another: what is left to form leads to the whole.
 use Rattle.std.proofs.Common.{◌≡◌, ℕ, zero, suc, ◌+◌, ◌≤◌, refl, arith, ℤ, List, [], ◌∷◌, ◌++◌, length, subst}
 use Rattle.std.proofs.lemmas.List.{length-append}
-use Rattle.int_rows.specs.Range.{InRange}
+use Rattle.integer_laws.specs.Range.{InRange}
 use Rattle.flow_rules.specs.Steps.{AreInRange, IsFirstPast}
 
 pub IsFirstPast-left : (a b : List ℤ) (k : ℕ) → IsFirstPast a k → IsFirstPast (a ++ b) k

@@ -1,7 +1,7 @@
 -- The whole numbers that a sum forms on its way, in order, and the first of them that is out of range. Each such number, a
 -- product, a sum or a difference, is a step; steps are numbered from 0.
 use Rattle.std.specs.Prelude.{ℕ, zero, suc, ℤ, List, [], ◌∷◌}
-use Rattle.int_rows.specs.Range.{InRange}
+use Rattle.integer_laws.specs.Range.{InRange}
 
 -- all steps are in range
 abbrev pub AreInRange : List ℤ → Type 0

@@ -2,11 +2,15 @@
 //! numbers that each such sum forms on its way, and the laws that tie them: weak duality above all.
 //!
 //! The definitions stand in `specs/`: `Net` (a problem as functions of numbers), `Flows`, `Relaxed`, and, for each sum, the
-//! list of its steps with the words that say which step is the first out of range. Each law is the contract of a function
-//! without a body, which a proof elsewhere calls to have it.
+//! list of its steps with the words that say which step is the first out of range. [`Column`] and [`Place`] name where a number of
+//! a simplex method is. Each law is the contract of a function without a body, which a proof elsewhere calls to have it.
 #![tactic(auto)]
 
+mod place;
+
 ghost use Rattle.flow_rules.specs.Laws.{RelaxedDuality, FlowsAreRelaxed, RelaxedCostsLess, SlopeIsGreatest, WeakDuality, RefutationHolds, RefutedIsEmpty, BoundIsLast, CostIsLast, ReducedIsLast, BalanceIsLast};
+
+pub use place::{Column, FlowStep, Place};
 
 /// No flows for a solution structure that has the units taken in at a node and none that is left out, cost less than a
 /// bound of the node, for any multipliers and any scale of the cost.

@@ -8,8 +8,8 @@ use Rattle.integer_laws.proofs.Ring.{V, ◌⊕◌, ◌⊗◌, ring}
 use Rattle.integer_laws.proofs.Order.{mul_pos}
 use Rattle.integer_laws.proofs.Coprime.{coprime-mul, coprime-divisors}
 use Rattle.integer_laws.proofs.LowestTerms.{part_divides}
-use Rattle.int_rows.specs.Range.{InRange}
-use Rattle.int_rows.specs.Lowest.{IsLowest}
+use Rattle.integer_laws.specs.Range.{InRange}
+use Rattle.integer_laws.specs.Lowest.{IsLowest}
 use Rattle.int_rows.proofs.LowestLemmas.{lowest_same, lowest_cross, lowest_scaled, lowest_from_cross}
 use Rattle.frac128.specs.Product.{IsPastLowest}
 use Rattle.frac128.specs.Sum.{IsSumInRange, IsPastSum}

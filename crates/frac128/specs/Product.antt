@@ -1,7 +1,7 @@
 -- A fraction that cannot be kept, because its lowest terms leave the range.
 use Rattle.std.specs.Prelude.{ℤ}
-use Rattle.int_rows.specs.Range.{InRange}
-use Rattle.int_rows.specs.Lowest.{IsLowest}
+use Rattle.integer_laws.specs.Range.{InRange}
+use Rattle.integer_laws.specs.Lowest.{IsLowest}
 
 -- x / y in lowest terms has a numerator or a denominator out of range
 pub record IsPastLowest (x y : ℤ) : Type 0 where

@@ -1,8 +1,8 @@
 -- The numbers that are formed for the sum of two fractions a / b and c / d: with g the greatest common divisor of b and d,
 -- a * (d / g), c * (b / g), their sum, and the denominator (b / g) * d.
 use Rattle.std.specs.Prelude.{ℤ, ◌+ℤ◌, ◌*ℤ◌}
-use Rattle.int_rows.specs.Range.{InRange}
-use Rattle.int_rows.specs.Lowest.{IsLowest}
+use Rattle.integer_laws.specs.Range.{InRange}
+use Rattle.integer_laws.specs.Lowest.{IsLowest}
 
 -- all of them are in range, where `b_part` and `d_part` are b and d divided by g
 abbrev pub IsSumInRange : ℤ → ℤ → ℤ → ℤ → ℤ → Type 0

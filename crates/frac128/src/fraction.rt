@@ -2,8 +2,8 @@
 ghost use Rattle.std.specs.Prelude.{◌≡◌, ◌+ℤ◌, ◌*ℤ◌, ◌<ℤ◌, ◌↔◌, pos, unsigned_abs, IfOk, IsErr, Some};
 ghost use Rattle.std.specs.Int.{IsGcd};
 ghost use Rattle.std.specs.Ordering.{int_cmp};
-ghost use Rattle.int_rows.specs.Range.{InRange};
-ghost use Rattle.int_rows.specs.Lowest.{IsLowest};
+ghost use Rattle.integer_laws.specs.Range.{InRange};
+ghost use Rattle.integer_laws.specs.Lowest.{IsLowest};
 ghost use Rattle.frac128.specs.Product.{IsPastLowest};
 ghost use Rattle.frac128.specs.Sum.{IsPastSum};
 

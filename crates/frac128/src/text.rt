@@ -1,7 +1,7 @@
 // A fraction as text.
 ghost use Rattle.std.specs.Prelude.{◌≡◌, IfOk};
 ghost use Rattle.std.specs.String.{string_bytes};
-ghost use Rattle.frac128.specs.Text.{fraction_text};
+ghost use Rattle.integer_laws.specs.Fraction.{fraction_text};
 
 use crate::Frac;
 use std::alloc::{AllocError, Global};

@@ -9,7 +9,7 @@ use Rattle.std.proofs.lemmas.Slice.Eq.{bytes_eq-Decides}
 use Rattle.std.proofs.lemmas.Fmt.{decimal_injective}
 use Rattle.problem_rules.specs.Problem.{Material, material_names, unit_names}
 use Rattle.problem_rules.specs.Names.{is_name, is_among, has_double}
-use Rattle.generator.specs.Generated.{numbered, intermediate_of, end_product, materials_of, unit_in_turn, units_of}
+use Rattle.problem_rules.specs.Generated.{numbered, intermediate_of, end_product, materials_of, unit_in_turn, units_of}
 
 -- ---- names
 

@@ -9,8 +9,8 @@ use Rattle.problem_rules.specs.Problem.{Material, OperatingUnit, Exclusion}
 use Rattle.problem_rules.specs.Each.{Each}
 use Rattle.problem_rules.specs.Validity.{has_product, IsValid, shares_material}
 use Rattle.problem_rules.specs.WellFormed.{IsInRange, IsBound, AreBounds, IsWellFormedMaterial, IsWellFormedTerm, IsWellFormedSide, IsWellFormedUnit, IsWellFormed}
-use Rattle.generator.specs.Draws.{first_state, state_after, drawn}
-use Rattle.generator.specs.Generated.{whole, raw_of, intermediate_of, end_product, raw_materials, intermediates, materials_of, target, stage, input, term, unit, unit_in_turn, units_of, chain_length, generated}
+use Rattle.problem_rules.specs.Draws.{first_state, state_after, drawn}
+use Rattle.problem_rules.specs.Generated.{whole, raw_of, intermediate_of, end_product, raw_materials, intermediates, materials_of, target, stage, input, term, unit, unit_in_turn, units_of, chain_length, generated}
 use Rattle.generator.proofs.DrawLemmas.{drawn-lt}
 use Rattle.generator.proofs.NameLemmas.{intermediate_is_name, raw_is_name, unit_is_name, units_apart, materials_apart}
 

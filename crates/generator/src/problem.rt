@@ -1,7 +1,7 @@
 //! Generated problems.
 ghost use Rattle.std.specs.Prelude.{◌≡◌, ◌≤◌, IfOk};
 ghost use Rattle.problem_rules.specs.Validity.{IsValid};
-ghost use Rattle.generator.specs.Generated.{generated, GeneratedIsValid};
+ghost use Rattle.problem_rules.specs.Generated.{generated, GeneratedIsValid};
 
 use crate::draws::Draws;
 use crate::materials::materials_of;

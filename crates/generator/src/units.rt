@@ -1,7 +1,7 @@
 //! The operating units of a generated problem.
 ghost use Rattle.std.specs.Prelude.{◌≡◌, ◌≤◌, ◌<◌, ◌∷◌, [], IfOk, OnOk};
-ghost use Rattle.generator.specs.Draws.{next_state, state_after};
-ghost use Rattle.generator.specs.Generated.{target, stage, input, term, unit, units_of};
+ghost use Rattle.problem_rules.specs.Draws.{next_state, state_after};
+ghost use Rattle.problem_rules.specs.Generated.{target, stage, input, term, unit, units_of};
 
 use crate::draws::Draws;
 use crate::materials::{numbered, whole};

@@ -4,7 +4,7 @@ use Rattle.std.specs.Prelude.{◌||◌, ◌&&◌, nat_lt, not}
 use Rattle.std.specs.Ordering.{int_eq}
 use Rattle.std.proofs.lemmas.Int.{ints}
 use Rattle.std.proofs.lemmas.Bool.{eqb-true, lt-ltb}
-use Rattle.int_rows.specs.Range.{InRange}
+use Rattle.integer_laws.specs.Range.{InRange}
 use Rattle.number_sets.specs.Sets.{has, listed}
 use Rattle.number_sets.proofs.SetLemmas.{has-listed, any_below-from}
 use Rattle.problem_rules.specs.Problem.{Problem, Term, terms_have, rate_in, rate_of, unit_at}

@@ -1,6 +1,6 @@
 //! The lines of arcs.
 ghost use Rattle.std.specs.Prelude.{◌≡◌, ◌≢◌, ◌++◌, ◌<◌, ◌*ℤ◌, ℕ, [], pos, Some, true, OnOk, IfSome, option_map, string_bytes, length, map};
-ghost use Rattle.int_rows.specs.Range.{InRange};
+ghost use Rattle.integer_laws.specs.Range.{InRange};
 ghost use Rattle.number_sets.specs.Sets.{has};
 ghost use Rattle.problem_rules.specs.Problem.{rate_of};
 ghost use Rattle.pns_problem.specs.Printing.{printed};

@@ -1,6 +1,6 @@
 //! Sizes and flows, with 3 places.
 ghost use Rattle.std.specs.Prelude.{◌≡◌, ◌++◌, ◌≤ℤ◌, pos, unsigned_abs, OnOk, string_bytes};
-ghost use Rattle.int_rows.specs.Range.{InRange};
+ghost use Rattle.integer_laws.specs.Range.{InRange};
 ghost use Rattle.graph_text.specs.Drawn.{size_text, flow_text, way_words, net_label};
 
 use decimals::push_quotient;

@@ -10,7 +10,7 @@ use Rattle.std.proofs.lemmas.Simd.{map-map}
 use Rattle.std.proofs.lemmas.List.{take_all, get_or-take, length-take-le, length-map, get_or-append_right, get_or-drop, get_or_default, drop_all, append-nil}
 use Rattle.std.proofs.lemmas.List.Edits.{map_over_more}
 use Rattle.integer_laws.proofs.Coprime.{one_divides}
-use Rattle.int_rows.specs.Reduced.{DividesAll, IsRowGcd, IsReduced, scaled}
+use Rattle.integer_laws.specs.Reduced.{DividesAll, IsRowGcd, IsReduced, scaled}
 
 rem_none : (e : ℤ) (n : ℕ) → n ∣ unsigned_abs e → int_rem e (pos n) ≡ pos 0
 rem_none (pos a) n h = ap pos (mod-eq-zero_of_dvd n h)

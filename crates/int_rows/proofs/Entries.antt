@@ -1,7 +1,7 @@
 -- The combined row, entry after entry.
 use Rattle.std.proofs.Common.{◌≡◌, ℕ, refl, sym, ap, ◌∙◌, arith, pos, ℤ, ◌-ℤ◌, ◌*ℤ◌, ◌+◌, ◌-◌, ◌≤◌, ◌<◌, suc, List, [], ◌∷◌, take, drop, ◌++◌, set, get_or, length}
 use Rattle.std.proofs.lemmas.List.{take_all, length-take-le, get_or-append_right, get_or-drop, drop_all, append-nil, drop_more, take_more, set_at, append_assoc}
-use Rattle.int_rows.specs.Combined.{combined}
+use Rattle.integer_laws.specs.Combined.{combined}
 
 pub length-combined : (p q : ℤ) (row pivot : List ℤ) → length row ≡ length pivot → length (combined p q row pivot) ≡ length row
 length-combined p q [] pivot e = refl

@@ -9,7 +9,7 @@ use Rattle.integer_laws.proofs.Ring.{V, ◌⊗◌, ring, mul_comm_z}
 use Rattle.integer_laws.proofs.Order.{cancel, pos_of-mul}
 use Rattle.integer_laws.proofs.Coprime.{IsGcd-mul, dvd_of_coprime}
 use Rattle.integer_laws.proofs.LowestTerms.{gcd_positive, lowest_of-gcd}
-use Rattle.int_rows.specs.Lowest.{IsLowest}
+use Rattle.integer_laws.specs.Lowest.{IsLowest}
 
 -- what is left after division by the greatest common divisor is in lowest terms
 pub is_lowest : (x y g p q : ℤ) → pos 0 ≤ℤ g → IsGcd (unsigned_abs x) (unsigned_abs y) (unsigned_abs g) → g *ℤ p ≡ x → g *ℤ q ≡ y → IsLowest x y p q

@@ -5,9 +5,9 @@ use Rattle.std.specs.Prelude.{unsigned_abs}
 use Rattle.std.proofs.lemmas.Int.{ints, fits_signed_from_abs, unsigned_abs-mul}
 use Rattle.std.proofs.Math.Nat.{mul-le-mul}
 use Rattle.std.proofs.lemmas.Bool.Decides.{nat_tests}
-use Rattle.int_rows.specs.Range.{InRange}
-use Rattle.int_rows.specs.declared.combination.Which.TheVariants.{Left, Right, Difference}
-use Rattle.int_rows.specs.Combined.{is_in_range, past_of}
+use Rattle.integer_laws.specs.Range.{InRange}
+use Rattle.integer_laws.specs.declared.which.Which.TheVariants.{Left, Right, Difference}
+use Rattle.integer_laws.specs.Combined.{is_in_range, past_of}
 
 pub fits_from_range : (z : ℤ) → InRange z → SFits w128 z
 fits_from_range z h = fits_signed_from_abs w128 z h

@@ -7,9 +7,9 @@ use Rattle.std.proofs.lemmas.Nat.Gcd.{dvd_antisymm}
 use Rattle.std.proofs.lemmas.List.Elements.{All-map}
 use Rattle.std.proofs.Math.Nat.{mul-dvd-mul_left, dvd_of_mul-dvd-mul_left}
 use Rattle.integer_laws.proofs.Order.{cancel}
-use Rattle.int_rows.specs.declared.combination.Which.{Which}
-use Rattle.int_rows.specs.Reduced.{DividesAll, IsRowGcd, IsReduced, scaled}
-use Rattle.int_rows.specs.Combined.{combined, past_at, IsCombined, IsPastEntry}
+use Rattle.integer_laws.specs.declared.which.Which.{Which}
+use Rattle.integer_laws.specs.Reduced.{DividesAll, IsRowGcd, IsReduced, scaled}
+use Rattle.integer_laws.specs.Combined.{combined, past_at, IsCombined, IsPastEntry}
 use Rattle.int_rows.proofs.LowestLemmas.{lowest_same}
 
 row_gcd_unique : (row : List ℤ) (g h : ℕ) → IsRowGcd row g → IsRowGcd row h → g ≡ h

@@ -1,7 +1,7 @@
 // Arithmetic with the symmetric range.
 ghost use Rattle.std.specs.Prelude.{◌≡◌, ◌+ℤ◌, ◌-ℤ◌, ◌*ℤ◌};
 ghost use Rattle.std.specs.Option.{SomeIff};
-ghost use Rattle.int_rows.specs.Range.{InRange};
+ghost use Rattle.integer_laws.specs.Range.{InRange};
 
 /// The product, or `None` exactly where it is out of range.
 pub fn checked_product(a: i128, b: i128) -> Option<i128>

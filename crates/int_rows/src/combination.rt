@@ -1,17 +1,10 @@
 // A row combined with a pivot row: the step of an elimination in whole numbers.
 ghost use Rattle.std.specs.Prelude.{◌≡◌, ◌<◌, ◌<ℤ◌, ◌*ℤ◌, ◌-ℤ◌, pos, length, IfOk, IfErr, OnErr, OnOk, ℕ, slice_index_or, None, Some, IsTrue, ◌↔◌, ◌^◌, unsigned_abs};
-ghost use Rattle.int_rows.specs.Range.{InRange, AllInRange};
-ghost use Rattle.int_rows.specs.Combined.{past_of, past_at, combined, IsCombined, IsPastEntry};
+ghost use Rattle.integer_laws.specs.Range.{InRange, AllInRange};
+ghost use Rattle.integer_laws.specs.Combined.{past_of, past_at, combined, IsCombined, IsPastEntry};
 
 use crate::{checked_difference, checked_product, lowest_terms, primitive};
-
-/// Which number of an entry is out of range: the first product, the second, or their difference.
-#[derive(Clone, Copy, Debug, PartialEq, Eq)]
-pub enum Which {
-    Left,
-    Right,
-    Difference,
-}
+use integer_laws::Which;
 
 /// The first number out of range among all places.
 #[derive(Clone, Copy, Debug, PartialEq, Eq)]

@@ -1,9 +1,9 @@
 // Greatest common divisors, of two numbers and of a row.
 ghost use Rattle.std.specs.Prelude.{◌≡◌, ◌≤ℤ◌, ◌<ℤ◌, ◌*ℤ◌, pos, unsigned_abs, int_div};
 ghost use Rattle.std.specs.Int.{IsGcd, ◌∣◌};
-ghost use Rattle.int_rows.specs.Range.{InRange, AllInRange};
-ghost use Rattle.int_rows.specs.Lowest.{IsLowest};
-ghost use Rattle.int_rows.specs.Reduced.{IsReduced, IsRowGcd};
+ghost use Rattle.integer_laws.specs.Range.{InRange, AllInRange};
+ghost use Rattle.integer_laws.specs.Lowest.{IsLowest};
+ghost use Rattle.integer_laws.specs.Reduced.{IsReduced, IsRowGcd};
 
 /// The greatest common divisor. It is at least 0, and 0 only for two zeros.
 pub fn gcd(a: i128, b: i128) -> i128

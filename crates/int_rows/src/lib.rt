@@ -13,5 +13,5 @@ mod combination;
 mod divisors;
 
 pub use checked::{checked_difference, checked_product, checked_sum};
-pub use combination::{PastEntry, Which, combine};
+pub use combination::{PastEntry, combine};
 pub use divisors::{gcd, lowest_terms, primitive};

@@ -6,7 +6,7 @@ use Rattle.number_sets.proofs.SetLemmas.{has-minus, has-meet, has-union, has-kep
 use Rattle.pns_rules.specs.Shape.{Shape, IsProper}
 use Rattle.pns_rules.specs.Structure.{is_made, is_used, Meets}
 use Rattle.pns_rules.proofs.StructureLemmas.{is_made-from, is_made-some, is_made-within, is_used-from, is_used-some, mats-within}
-use Rattle.pgraph.specs.Breaks.{BreaksS2}
+use Rattle.pns_rules.specs.Breaks.{BreaksS2}
 use Rattle.max_structure.specs.Balance.{is_to_blame}
 
 module _ (g : Shape) where

@@ -7,7 +7,7 @@ use Rattle.pns_rules.specs.Shape.{Shape, IsProper}
 use Rattle.pns_rules.specs.Structure.{is_made, Meets}
 use Rattle.pns_rules.specs.Ends.{IsNever}
 use Rattle.pns_rules.proofs.StructureLemmas.{is_made-from, is_made-some, is_made-within, is_used-some, is_used-within}
-use Rattle.pgraph.specs.Breaks.{BreaksS2}
+use Rattle.pns_rules.specs.Breaks.{BreaksS2}
 use Rattle.max_structure.specs.Rest.{IsKept, UsesWanted, IsRest, HasNoRest, IsStarved}
 use Rattle.max_structure.proofs.BalanceLemmas.{broken_raw, broken_other, broken_used, broken_if_raw, broken_if_unmade, makes_what_it_uses, next_has, next_within, next_keeps, same_makers, more_covers, more_has, more_lost}
 

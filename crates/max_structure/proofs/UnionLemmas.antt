@@ -7,7 +7,7 @@ use Rattle.pns_rules.specs.Shape.{Shape}
 use Rattle.pns_rules.specs.Structure.{is_made, is_used, mats, IsPath, HasPath, Meets, IsStructure, IsUnion}
 use Rattle.pns_rules.specs.Ends.{IsNever}
 use Rattle.pns_rules.proofs.StructureLemmas.{is_made-from, is_made-some, is_made-within, is_used-some, mats-within, HasPath-within}
-use Rattle.pgraph.specs.Breaks.{BreaksS1, BreaksS2}
+use Rattle.pns_rules.specs.Breaks.{BreaksS1, BreaksS2}
 use Rattle.pgraph.proofs.AxiomLemmas.{balanced}
 
 module _ (g : Shape) where

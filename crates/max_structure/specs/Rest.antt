@@ -5,7 +5,7 @@ use Rattle.number_sets.specs.Sets.{IsWithin}
 use Rattle.pns_rules.specs.Shape.{Shape}
 use Rattle.pns_rules.specs.Structure.{is_made, Meets}
 use Rattle.pns_rules.specs.Ends.{IsNever}
-use Rattle.pgraph.specs.Breaks.{BreaksS2}
+use Rattle.pns_rules.specs.Breaks.{BreaksS2}
 
 -- each material that is wanted has a maker in the set
 abbrev pub HasAll : Shape → (ℕ → Bool) → (ℕ → Bool) → Type 0

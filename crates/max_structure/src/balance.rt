@@ -4,7 +4,7 @@ ghost use Rattle.number_sets.specs.Sets.{has, IsWithin, Avoids};
 ghost use Rattle.pns_rules.specs.Structure.{Meets};
 ghost use Rattle.pns_rules.specs.Ends.{IsNever};
 ghost use Rattle.pgraph.specs.Tables.{shape};
-ghost use Rattle.pgraph.specs.Breaks.{BreaksS2};
+ghost use Rattle.pns_rules.specs.Breaks.{BreaksS2};
 ghost use Rattle.max_structure.specs.Balance.{is_to_blame};
 
 use pgraph::Graph;

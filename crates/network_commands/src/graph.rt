@@ -1,7 +1,7 @@
 //! The command `graph`.
 ghost use Rattle.std.specs.Prelude.{◌≡◌, ◌⊎◌, ℕ, List, Some, None, IfOk, IfSome, option_map, true, length};
 ghost use Rattle.number_sets.specs.Sets.{has};
-ghost use Rattle.pns_io.specs.Outside.{HasRisen};
+ghost use Rattle.text_rules.specs.Outside.{HasRisen};
 ghost use Rattle.pns_rules.specs.Shape.{shape_of};
 ghost use Rattle.pgraph.specs.Tables.{shape};
 ghost use Rattle.tree_rules.specs.Claim.{IsFeasible};

@@ -9,7 +9,7 @@ use Rattle.pns_rules.proofs.ProperLemmas.{proper_if_valid}
 use Rattle.tree_rules.specs.Ways.{width, MayBranch, IsDecision, options_at}
 use Rattle.tree_rules.specs.Tree.{branch}
 use Rattle.tree_rules.specs.Stops.{IsNextCount}
-use Rattle.branch_tree.specs.Known.{KnowsEnd}
+use Rattle.tree_rules.specs.Known.{KnowsEnd}
 use Rattle.branch_choice.specs.declared.choice.Choice.{Choice}
 use Rattle.branch_choice.specs.declared.choice.Choice.TheVariants as choices
 use Rattle.branch_choice.specs.Choices.{IsChoice, way_of, option_count}

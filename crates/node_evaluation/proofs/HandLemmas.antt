@@ -24,7 +24,7 @@ use Rattle.tree_rules.specs.Claim.{CostOver, claimed_cost, size_in}
 use Rattle.tree_rules.specs.Lean.{HasCheaper, IsNoDearer}
 use Rattle.search_tree.specs.Cells.{Cell, place_of, cell_at}
 use Rattle.search_tree.specs.declared.growth.Fresh.{Fresh}
-use Rattle.turn_laws.specs.Values.{HasFallen}
+use Rattle.tree_rules.specs.Costs.{HasFallen}
 use Rattle.turn_laws.specs.Turns.{IsFreshChild}
 use Rattle.turn_laws.proofs.GrowLemmas.{leaf_fallen}
 use Rattle.turn_laws.proofs.OrderLemmas.{reached_dearer, reached_may_undercut}

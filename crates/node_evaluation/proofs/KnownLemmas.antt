@@ -8,7 +8,7 @@ use Rattle.problem_rules.specs.Problem.{Problem}
 use Rattle.pns_rules.specs.Shape.{IsProper, shape_of}
 use Rattle.pns_rules.specs.Nodes.{Node, Step, raw, rival, starve, loose, sole, IsPossible, after}
 use Rattle.pns_rules.specs.Ends.{IsDead, Leads}
-use Rattle.branch_tree.specs.Known.{AreUnits, IsMaterial, KnowsStep}
+use Rattle.tree_rules.specs.Known.{AreUnits, IsMaterial, KnowsStep}
 use Rattle.tree_rules.specs.Ways.{Way, MayBranch, options_at}
 use Rattle.tree_laws.proofs.WayLemmas.{choices}
 use Rattle.cert_parts.proofs.StepLemmas.{needed_known}

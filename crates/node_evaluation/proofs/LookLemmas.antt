@@ -2,11 +2,11 @@
 use Rattle.std.proofs.Common.{◌≡◌, ℕ, true, false, List, [], ◌∷◌, Result, Ok, Err, IfOk, Option, Some, None, sym, ap, ◌∙◌, subst, arith}
 use Rattle.std.proofs.lemmas.Int.{ints}
 use Rattle.std.specs.Prelude.{is_some}
-use Rattle.int_rows.specs.Range.{InRange, AllInRange}
+use Rattle.integer_laws.specs.Range.{InRange, AllInRange}
 use Rattle.problem_rules.specs.Each.{Each}
 use Rattle.problem_rules.specs.Problem.{Problem}
 use Rattle.pns_rules.specs.Shape.{Shape, IsProper, shape_of}
-use Rattle.branch_tree.specs.Known.{AreUnits, KnowsStep, KnowsLeaf, KnowsEnd}
+use Rattle.tree_rules.specs.Known.{AreUnits, KnowsStep, KnowsLeaf, KnowsEnd}
 use Rattle.pns_rules.specs.Nodes as rules
 use Rattle.pns_rules.specs.Nodes.{after}
 use Rattle.pns_rules.specs.Ends.{IsSound, IsDecided, Leads, Stop}
@@ -18,7 +18,8 @@ use Rattle.tree_rules.specs.Leaf.{Leaf, bounded, untried, LeafPasses}
 use Rattle.neutral_extension.specs.Moves.{Extends}
 use Rattle.search_tree.specs.Cells.{Cell, place_of}
 use Rattle.search_tree.specs.Growth.{as_shut}
-use Rattle.turn_laws.specs.Values.{IsPositive, IsUnder, IsNoMore, IsValueOf}
+use Rattle.turn_laws.specs.Values.{IsPositive, IsUnder, IsValueOf}
+use Rattle.tree_rules.specs.Costs.{IsNoMore}
 use Rattle.turn_laws.proofs.GrowLemmas.{leaf_fallen}
 use Rattle.turn_laws.proofs.OrderLemmas.{under_reached, reached_more}
 use Rattle.mixed_numbers.specs.declared.number.Mixed.{Mixed}

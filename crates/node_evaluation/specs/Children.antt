@@ -14,7 +14,8 @@ use Rattle.tree_rules.specs.Lean.{MayUndercut}
 use Rattle.search_tree.specs.Cells.{Cell, place_of, cell_at}
 use Rattle.search_tree.specs.Fits.{Follows}
 use Rattle.search_tree.specs.declared.growth.Fresh.{Fresh}
-use Rattle.turn_laws.specs.Values.{HasFallen, IsPositiveCost}
+use Rattle.tree_rules.specs.Costs.{HasFallen}
+use Rattle.turn_laws.specs.Values.{IsPositiveCost}
 use Rattle.turn_laws.specs.Turns.{IsFreshChild, AreChildren}
 use Rattle.branch_choice.specs.declared.choice.Choice.{Choice}
 use Rattle.branch_choice.specs.declared.choice.Choice.TheVariants.{Material, Unit as AtUnit}

@@ -7,12 +7,13 @@ use Rattle.problem_rules.specs.Problem.{Problem}
 use Rattle.pns_rules.specs.Nodes.{Node}
 use Rattle.mixed_numbers.specs.declared.number.Mixed.{Mixed}
 use Rattle.mixed_numbers.specs.Number.{numerator, denominator}
-use Rattle.flow_program.specs.declared.place.Column.{Column}
-use Rattle.flow_program.specs.declared.place.Place.{Place}
+use Rattle.flow_rules.specs.declared.place.Column.{Column}
+use Rattle.flow_rules.specs.declared.place.Place.{Place}
 use Rattle.tree_rules.specs.Claim.{Network, CostOver, IsFeasible}
 use Rattle.tree_rules.specs.Leaf.{IsRefuted, IsBounded}
 use Rattle.tree_rules.specs.Lean.{MayUndercut, HasCheaper}
-use Rattle.turn_laws.specs.Values.{IsValueOf, IsUnder, IsNoMore}
+use Rattle.turn_laws.specs.Values.{IsValueOf, IsUnder}
+use Rattle.tree_rules.specs.Costs.{IsNoMore}
 use Rattle.node_evaluation.specs.declared.evaluator.Interval.{Interval}
 use Rattle.node_evaluation.specs.declared.evaluator.Bound.{Bound}
 use Rattle.node_evaluation.specs.declared.evaluator.Evaluation.{Evaluation}

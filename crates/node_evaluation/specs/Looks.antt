@@ -9,7 +9,7 @@ use Rattle.tree_rules.specs.Tree.{End, branch, leaf}
 use Rattle.tree_rules.specs.Claim.{Network, CostOver, IsFeasible}
 use Rattle.tree_rules.specs.Leaf.{Leaf, dead, clash, refuted, bounded, untried, LeafPasses}
 use Rattle.tree_rules.specs.Lean.{HasCheaper}
-use Rattle.branch_tree.specs.Known.{KnowsNode, KnowsEnd}
+use Rattle.tree_rules.specs.Known.{KnowsNode, KnowsEnd}
 use Rattle.search_tree.specs.Cells.{Cell, place_of}
 use Rattle.search_tree.specs.Fits.{Follows}
 use Rattle.branch_choice.specs.Choices.{IsChoice}

@@ -7,12 +7,12 @@ ghost use Rattle.tree_rules.specs.Ways.{options_at};
 ghost use Rattle.branch_choice.specs.Choices.{IsChoice, way_of};
 ghost use Rattle.pgraph.specs.Tables.{shape};
 ghost use Rattle.pgraph.specs.View.{node_of};
-ghost use Rattle.turn_laws.specs.Values.{IsNoMore, HasFallen};
+ghost use Rattle.tree_rules.specs.Costs.{IsNoMore, HasFallen};
 ghost use Rattle.search_tree.specs.Cells.{place_of};
 ghost use Rattle.node_evaluation.specs.Evaluated.{cost_in, IsAtHand};
 ghost use Rattle.node_evaluation.specs.Looks.{cost_of};
 ghost use Rattle.node_evaluation.specs.Children.{IsChild, IsSameBut, AreLooked, AreSeen, AreSolvedBy, cells_of, options_in, stop_after};
-ghost use Rattle.branch_tree.specs.Known.{AreUnits};
+ghost use Rattle.tree_rules.specs.Known.{AreUnits};
 ghost use Rattle.neutral_extension.specs.Candidates.{AreMakersOf};
 
 use crate::costs::is_no_more;

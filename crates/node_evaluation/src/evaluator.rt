@@ -7,7 +7,7 @@ ghost use Rattle.pgraph.specs.View.{node_of};
 ghost use Rattle.node_evaluation.specs.Evaluated.{PastPlaces, IsEvaluated, IsWorth, IsProof, IsAtHand};
 
 use branch_tree::{Columns, Multipliers, Network, Scaled};
-use flow_program::Place;
+use flow_rules::Place;
 use mixed_numbers::Mixed;
 use pgraph::Graph;
 use pns_problem::Problem;

@@ -7,7 +7,7 @@ ghost use Rattle.pgraph.specs.View.{node_of};
 ghost use Rattle.tree_rules.specs.Tree.{leaf};
 ghost use Rattle.tree_rules.specs.Leaf.{untried, bounded};
 ghost use Rattle.branch_tree.specs.View.{end_of};
-ghost use Rattle.branch_tree.specs.Known.{AreUnits};
+ghost use Rattle.tree_rules.specs.Known.{AreUnits};
 ghost use Rattle.neutral_extension.specs.Candidates.{AreMakersOf};
 ghost use Rattle.search_tree.specs.Growth.{as_shut};
 ghost use Rattle.node_evaluation.specs.Looks.{IsLooked, IsSameNode, IsSeen};

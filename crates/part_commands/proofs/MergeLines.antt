@@ -8,7 +8,7 @@ use Rattle.pns_rules.specs.Shape.{Shape, shape_of}
 use Rattle.cert_parts.specs.Known.{KnowsInside}
 use Rattle.tree_rules.specs.Claim.{Claim, Network, network, infeasible, unknown}
 use Rattle.tree_rules.specs.Accepted.{Tree}
-use Rattle.branch_tree.specs.Known.{KnowsStep, KnowsNode, KnowsTree, KnowsClaim, AreUnits}
+use Rattle.tree_rules.specs.Known.{KnowsStep, KnowsNode, KnowsTree, KnowsClaim, AreUnits}
 use Rattle.part_rules.specs.Graft.{graft_at, grafted, claim_of_both, cheaper, has_open}
 use Rattle.tree_parts.specs.Part.{Part, start_of}
 use Rattle.tree_parts.specs.Several.{AreMerged}

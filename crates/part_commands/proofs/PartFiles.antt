@@ -2,7 +2,7 @@
 use Rattle.std.proofs.Common.{◌≡◌, Bool, ◌≤◌, ◌<◌, ◌+◌, ℕ, suc, List, [], ◌∷◌, ◌++◌, length, take, get_or, refl, sym, ap, ◌∙◌, subst, inl, inr, ◌⊎◌, add-one}
 use Rattle.std.specs.List.{Contains}
 use Rattle.std.proofs.Math.Seq.{take-suc, take-length}
-use Rattle.pns_io.specs.Outside.{HasRisen, Told}
+use Rattle.text_rules.specs.Outside.{HasRisen, Told}
 use Rattle.problem_rules.specs.Problem.{Problem}
 use Rattle.tree_rules.specs.Claim.{Claim}
 use Rattle.tree_rules.specs.Accepted.{Tree}

@@ -1,14 +1,14 @@
 -- `merge FILE TREE PART ..`: the parts are put back in turn, each in the place of the open leaf whose node is its own, and the tree that
 -- comes of it is printed with what it proves but for its open leaves. Or else the first part that is not put back is told, with why.
 use Rattle.std.specs.Prelude.{◌≡◌, ◌⊎◌, ◌++◌, ℕ, Bool, true, false, List, [], ◌∷◌, get_or, codes, decimal}
-use Rattle.pns_io.specs.Outside.{Told}
+use Rattle.text_rules.specs.Outside.{Told}
 use Rattle.problem_rules.specs.Problem.{Problem}
 use Rattle.tree_rules.specs.declared.why.Why.{Why}
 use Rattle.tree_rules.specs.Claim as claims
 use Rattle.tree_rules.specs.Accepted as trees
-use Rattle.branch_tree.specs.Tail.{whole}
-use Rattle.cert_check.specs.declared.refusal.Refusal.{Refusal}
-use Rattle.cert_check.specs.declared.refusal.Refusal.TheVariants.{Claim, Node, Memory}
+use Rattle.tree_rules.specs.Tail.{whole}
+use Rattle.tree_rules.specs.declared.refusal.Refusal.{Refusal}
+use Rattle.tree_rules.specs.declared.refusal.Refusal.TheVariants.{Claim, Node, Memory}
 use Rattle.tree_text_rules.specs.Spelling.{tree_text_lines}
 use Rattle.tree_parts.specs.Part as parts
 use Rattle.tree_parts.specs.Several.{AreMerged, StopsAt}

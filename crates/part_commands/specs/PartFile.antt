@@ -1,7 +1,7 @@
 -- PART is read and judged behind TREE by its grammar: a node, a claim, a tree and a tail. Where there are several, a line that speaks of
 -- one names its file.
 use Rattle.std.specs.Prelude.{◌≡◌, ◌≤◌, ◌<◌, ◌++◌, ℕ, Bool, true, false, List, [], ◌∷◌, Ok, Err, length, take, get_or, nat_lt, codes, decimal}
-use Rattle.pns_io.specs.Outside.{Told}
+use Rattle.text_rules.specs.Outside.{Told}
 use Rattle.problem_rules.specs.Problem.{Problem}
 use Rattle.tree_text_rules.specs.declared.TreeKind.{TreeKind}
 use Rattle.tree_parts.specs.Part.{Part}

@@ -8,7 +8,7 @@ use Rattle.tree_rules.specs.declared.why.Why.{Why}
 use Rattle.tree_rules.specs.Claim.{Claim, ClaimPasses, ClaimFails}
 use Rattle.tree_rules.specs.Accepted.{Tree, first_node, IsPartial, NodeIsFault}
 use Rattle.part_rules.specs.OpenLeaves.{OpenAt, open_leaves}
-use Rattle.structure_list.specs.Tokens.{token_of}
+use Rattle.pns_rules.specs.Tokens.{token_of}
 use Rattle.refusal_words.specs.Words.{claim_line, node_line}
 use Rattle.endings.specs.declared.status.Status.{Status}
 use Rattle.endings.specs.declared.status.Status.TheVariants.{Done, Refused}

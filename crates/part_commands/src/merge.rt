@@ -1,11 +1,11 @@
 //! The command `merge`.
 ghost use Rattle.std.specs.Prelude.{◌≡◌, ◌<◌, ◌⊎◌, ◌++◌, List, ℕ, [], IfOk, get_or, length, map, string_bytes};
 ghost use Rattle.std.specs.List.{Contains};
-ghost use Rattle.pns_io.specs.Outside.{HasRisen};
+ghost use Rattle.text_rules.specs.Outside.{HasRisen};
 ghost use Rattle.problem_rules.specs.Each.{Each};
-ghost use Rattle.branch_tree.specs.Known.{KnowsClaim, KnowsTree};
+ghost use Rattle.tree_rules.specs.Known.{KnowsClaim, KnowsTree};
 ghost use Rattle.branch_tree.specs.View.{claim_of};
-ghost use Rattle.branch_tree.specs.Tail.{whole};
+ghost use Rattle.tree_rules.specs.Tail.{whole};
 ghost use Rattle.part_text.specs.Spelling.{KnowsPart};
 ghost use Rattle.tree_text_rules.specs.Spelling.{tree_text_lines};
 ghost use Rattle.command_files.specs.Reading.{OnFile};
@@ -19,7 +19,6 @@ ghost use Rattle.endings.specs.declared.status.Status.TheVariants.{Done, Refused
 
 use crate::part_file::{parts_of, push_part};
 use branch_tree::{Claim, Tail, Tree};
-use cert_check::Refusal;
 use command_files::{problem_of, tree_of};
 use endings::Status;
 use endings::say::{say, say_memory, say_of, say_printed};
@@ -29,7 +28,7 @@ use pns_problem::Problem;
 use refusal_words::{say_node, why_word};
 use std::alloc::{AllocError, Global};
 use tree_parts::{MergeFault, Part, merge_all};
-use tree_rules::Why;
+use tree_rules::{Refusal, Why};
 use tree_text::print_tree;
 
 fn part_claim_line(alloc: Global, several: bool, name: &str, why: Why) -> Result<String, AllocError>

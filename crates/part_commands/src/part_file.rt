@@ -1,7 +1,7 @@
 //! The files of parts: each is read and judged by its grammar.
 ghost use Rattle.std.specs.Prelude.{◌≡◌, ◌≤◌, ◌++◌, ℕ, List, IfOk, IfErr, OnOk, codes, map, string_bytes};
 ghost use Rattle.std.specs.List.{Contains};
-ghost use Rattle.pns_io.specs.Outside.{HasRisen};
+ghost use Rattle.text_rules.specs.Outside.{HasRisen};
 ghost use Rattle.problem_rules.specs.Each.{Each};
 ghost use Rattle.endings.specs.Lines.{line};
 ghost use Rattle.part_text.specs.Spelling.{KnowsPart};

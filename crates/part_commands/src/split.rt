@@ -1,7 +1,7 @@
 //! The command `split`.
 ghost use Rattle.std.specs.Prelude.{◌≡◌, ◌<◌, ◌^◌, ◌⊎◌, IfOk, OnOk, length, map, string_bytes};
 ghost use Rattle.number_sets.specs.Sets.{has};
-ghost use Rattle.pns_io.specs.Outside.{HasRisen};
+ghost use Rattle.text_rules.specs.Outside.{HasRisen};
 ghost use Rattle.branch_tree.specs.View.{claim_of};
 ghost use Rattle.cert_check.specs.OpenLeaves.{leaf_at, leaves_at};
 ghost use Rattle.endings.specs.Lines.{line, text_of};
@@ -11,7 +11,6 @@ ghost use Rattle.part_commands.specs.Split.{SplitWork, LeavesSay, part_line, tok
 ghost use Rattle.endings.specs.Ending.{Ends, Says, Tells};
 
 use branch_tree::{Claim, Tree};
-use cert_check::Refusal;
 use command_files::{problem_of, tree_of};
 use endings::Status;
 use endings::say::{say, say_memory, say_of};
@@ -22,6 +21,7 @@ use refusal_words::{say_node, why_word};
 use std::alloc::{AllocError, Global};
 use structure_list::print_token;
 use tree_parts::{OpenLeaf, open_leaves};
+use tree_rules::Refusal;
 use unit_sets::UnitSet;
 
 fn token_in(alloc: Global, set: UnitSet) -> Result<String, AllocError>

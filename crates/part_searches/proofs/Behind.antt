@@ -1,6 +1,6 @@
 -- What is said of TREE behind FILE, over the shelf as it was left.
 use Rattle.std.proofs.Common.{◌≡◌, ◌≤◌, ◌⊎◌, ℕ, List, inl, inr, subst}
-use Rattle.pns_io.specs.Outside.{HasRisen, Told}
+use Rattle.text_rules.specs.Outside.{HasRisen, Told}
 use Rattle.problem_rules.specs.Problem.{Problem}
 use Rattle.command_files.specs.Reading.{AreHeld, FileFaults, GivesProblem, OnFile}
 use Rattle.part_searches.specs.Part.{AgainstWork}

@@ -3,8 +3,8 @@ use Rattle.std.proofs.Common.{◌≡◌, ℕ, List, [], ◌∷◌, Some, subst, 
 use Rattle.problem_rules.specs.Problem.{Problem}
 use Rattle.pns_rules.specs.Nodes.{Node}
 use Rattle.tree_rules.specs.Claim.{Network, network}
-use Rattle.branch_tree.specs.Known.{KnowsClaim, KnowsTree, KnowsTail}
-use Rattle.branch_tree.specs.Tail as tails
+use Rattle.tree_rules.specs.Known.{KnowsClaim, KnowsTree, KnowsTail}
+use Rattle.tree_rules.specs.Tail as tails
 use Rattle.tree_parts.specs.Part.{Part}
 use Rattle.abb_search.specs.declared.outcome.Found.{Found}
 use Rattle.abb_search.specs.declared.outcome.Found.TheVariants as found

@@ -1,7 +1,7 @@
 -- `part FILE INSIDE OUTSIDE BUDGET`: what a search of the structures of a node finds, as the text of a part. `part FILE INSIDE OUTSIDE
 -- BUDGET TREE`: the same, where the search begins with the network of TREE as its best, if TREE claims one.
 use Rattle.std.specs.Prelude.{◌⊎◌, ℕ, List, Option, Some, None}
-use Rattle.pns_io.specs.Outside.{Told}
+use Rattle.text_rules.specs.Outside.{Told}
 use Rattle.number_sets.specs.Sets.{has}
 use Rattle.problem_rules.specs.Problem.{Problem}
 use Rattle.tree_rules.specs.Claim.{Network, Claim, network, infeasible, unknown, IsFeasible}

@@ -4,8 +4,8 @@ use Rattle.number_sets.specs.Sets.{has}
 use Rattle.problem_rules.specs.Problem.{Problem}
 use Rattle.pns_rules.specs.Shape.{shape_of}
 use Rattle.pns_rules.specs.Ends.{IsSound}
-use Rattle.branch_tree.specs.Known.{AreUnits}
-use Rattle.structure_list.specs.Tokens.{token_of}
+use Rattle.tree_rules.specs.Known.{AreUnits}
+use Rattle.pns_rules.specs.Tokens.{token_of}
 use Rattle.endings.specs.declared.status.Status.{Status}
 use Rattle.endings.specs.declared.status.Status.TheVariants.{BadNode}
 

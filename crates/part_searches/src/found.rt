@@ -1,8 +1,8 @@
 //! The part that a search found.
 ghost use Rattle.std.specs.Prelude.{◌≡◌, ℕ};
-ghost use Rattle.pns_io.specs.Outside.{HasRisen};
+ghost use Rattle.text_rules.specs.Outside.{HasRisen};
 ghost use Rattle.pgraph.specs.View.{node_of};
-ghost use Rattle.branch_tree.specs.Known.{KnowsClaim, KnowsTree, KnowsTail};
+ghost use Rattle.tree_rules.specs.Known.{KnowsClaim, KnowsTree, KnowsTail};
 ghost use Rattle.tree_parts.specs.Part.{IsApart};
 ghost use Rattle.part_text.specs.Spelling.{part_text_lines};
 ghost use Rattle.abb_search.specs.Found.{IsFound};

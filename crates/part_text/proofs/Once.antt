@@ -3,7 +3,7 @@ use Rattle.std.proofs.Common.{◌≡◌, ◌≤◌, Bool, true, false, ℕ, List
 use Rattle.problem_rules.specs.Problem.{Problem}
 use Rattle.number_sets.specs.Sets.{IsSet}
 use Rattle.number_sets.proofs.SetLemmas.{AreBelow-higher}
-use Rattle.structure_list.specs.Tokens.{token_of}
+use Rattle.pns_rules.specs.Tokens.{token_of}
 use Rattle.structure_list.proofs.TokenLemmas.{token_one}
 use Rattle.tree_text_rules.specs.Line.{Token, Line, tokens_of, lines_of}
 use Rattle.tree_text_rules.specs.Read.{Fault, rest_taken}

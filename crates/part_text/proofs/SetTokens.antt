@@ -5,7 +5,7 @@ use Rattle.std.proofs.lemmas.Bool.{ne_eqb, or_from}
 use Rattle.text_rules.specs.Canonical.{joined}
 use Rattle.text_laws.proofs.Cuts.{split_at}
 use Rattle.text_lines.proofs.Cutting.{parts_some}
-use Rattle.structure_list.specs.Tokens.{digit, token_of, AreDigits}
+use Rattle.pns_rules.specs.Tokens.{digit, token_of, AreDigits}
 use Rattle.structure_list.proofs.TokenLemmas.{token_has_form}
 use Rattle.tree_text_rules.specs.Line.{Token, is_feed, lines_from, lines_of}
 use Rattle.tree_text_rules.specs.Spelling.{line_text}

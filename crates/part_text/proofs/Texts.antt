@@ -7,7 +7,7 @@ use Rattle.std.proofs.lemmas.Slice.Eq.{bytes_eq-Decides}
 use Rattle.text_rules.specs.Canonical.{joined}
 use Rattle.problem_rules.specs.Problem.{Problem}
 use Rattle.problem_rules.specs.Validity.{IsValid}
-use Rattle.structure_list.specs.Tokens.{token_of}
+use Rattle.pns_rules.specs.Tokens.{token_of}
 use Rattle.tree_text_rules.specs.Line.{Token, Line, is_space, has_bytes, tokens_of, lines_of}
 use Rattle.tree_text_rules.specs.Line as trees
 use Rattle.tree_text_rules.specs.Read.{Fault, Certificate, rest_taken, lines_taken}

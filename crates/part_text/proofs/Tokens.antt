@@ -6,7 +6,7 @@ use Rattle.std.proofs.lemmas.Bool.{ne_eqb, and_parts, and_from}
 use Rattle.std.proofs.lemmas.Str.{IsUtf8-from_ascii}
 use Rattle.number_sets.specs.Sets.{has, IsSet}
 use Rattle.number_sets.proofs.SetLemmas.{AreBelow-higher}
-use Rattle.structure_list.specs.Tokens.{digit, token_of, AreDigits}
+use Rattle.pns_rules.specs.Tokens.{digit, token_of, AreDigits}
 use Rattle.structure_list.proofs.TokenLemmas.{token_one, token_has_form}
 use Rattle.text_lines.proofs.Cutting.{split-at, split-none}
 use Rattle.tree_text_rules.specs.Line.{Line, is_space, has_bytes, tokens_of, is_formed}

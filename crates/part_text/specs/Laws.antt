@@ -2,7 +2,7 @@
 use Rattle.std.specs.Prelude.{◌≡◌, ℕ, List, Result, Ok}
 use Rattle.problem_rules.specs.Problem.{Problem}
 use Rattle.problem_rules.specs.Validity.{IsValid}
-use Rattle.branch_tree.specs.Known.{AreUnits}
+use Rattle.tree_rules.specs.Known.{AreUnits}
 use Rattle.tree_text_rules.specs.Read.{Fault, Certificate}
 use Rattle.tree_text_laws.specs.Fits as trees
 use Rattle.tree_parts.specs.Part.{Part, IsApart}

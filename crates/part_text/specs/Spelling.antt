@@ -2,8 +2,8 @@
 -- text from its claim on.
 use Rattle.std.specs.Prelude.{ℕ, List, [], ◌∷◌, codes}
 use Rattle.problem_rules.specs.Problem.{Problem}
-use Rattle.branch_tree.specs.Known.{AreUnits, KnowsClaim, KnowsTree, KnowsTail}
-use Rattle.structure_list.specs.Tokens.{token_of}
+use Rattle.tree_rules.specs.Known.{AreUnits, KnowsClaim, KnowsTree, KnowsTail}
+use Rattle.pns_rules.specs.Tokens.{token_of}
 use Rattle.tree_text_rules.specs.Line.{Token}
 use Rattle.tree_text_rules.specs.Spelling.{rest_lines, text_of}
 use Rattle.tree_parts.specs.Part.{Part}

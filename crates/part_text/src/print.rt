@@ -1,6 +1,6 @@
 //! The text of a part, line by line.
 ghost use Rattle.std.specs.Prelude.{◌≡◌, ◌≤◌, ◌∷◌, OnOk, codes, string_bytes};
-ghost use Rattle.branch_tree.specs.Known.{KnowsClaim, KnowsTree, KnowsTail};
+ghost use Rattle.tree_rules.specs.Known.{KnowsClaim, KnowsTree, KnowsTail};
 ghost use Rattle.text_rules.specs.Canonical.{joined};
 ghost use Rattle.tree_text_rules.specs.Spelling.{rest_lines};
 ghost use Rattle.tree_text.specs.Prints.{Prints};

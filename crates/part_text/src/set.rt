@@ -1,7 +1,7 @@
 //! Sets of units by their tokens, and the lines of a part's text that have one.
 ghost use Rattle.std.specs.Prelude.{◌≡◌, ◌≤◌, ◌<◌, ◌∷◌, [], ℕ, List, Ok, Err, IfOk, IfErr, IfSome, IfNone, length};
-ghost use Rattle.branch_tree.specs.Known.{AreUnits};
-ghost use Rattle.structure_list.specs.Tokens.{token_of};
+ghost use Rattle.tree_rules.specs.Known.{AreUnits};
+ghost use Rattle.pns_rules.specs.Tokens.{token_of};
 ghost use Rattle.tree_text_rules.specs.Line.{Token};
 ghost use Rattle.tree_tokens.specs.View.{line_of};
 ghost use Rattle.part_text.specs.Read.{IsFormedAs, SetLine};

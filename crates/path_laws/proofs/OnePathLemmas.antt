@@ -14,9 +14,9 @@ use Rattle.path_rules.specs.Vectors.{gain}
 use Rattle.path_laws.proofs.BoolLemmas.{bool_cases}
 use Rattle.path_laws.proofs.UniqueLemmas.{row_unique}
 use Rattle.path_rules.specs.Places.{IsPastPivot, at_first, at_second}
-use Rattle.int_rows.specs.declared.combination.Which.{Which}
-use Rattle.int_rows.specs.Combined.{past_of}
-use Rattle.int_rows.specs.Lowest.{IsLowest}
+use Rattle.integer_laws.specs.declared.which.Which.{Which}
+use Rattle.integer_laws.specs.Combined.{past_of}
+use Rattle.integer_laws.specs.Lowest.{IsLowest}
 
 -- two tableaux of one basis
 abbrev pub Agree : LinearProgram → Basis → (ℕ → ℕ → ℤ) → (ℕ → ℕ → ℤ) → Type 0

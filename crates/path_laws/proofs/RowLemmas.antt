@@ -6,8 +6,8 @@ use Rattle.std.proofs.lemmas.Int.{ints, unsigned_abs-mul}
 use Rattle.std.proofs.Math.Nat.{dvd_of_mul-dvd-mul_left, mul-dvd-mul_left, eq-one_of_dvd-one, eq-zero_of_zero-dvd}
 use Rattle.integer_laws.proofs.Ring.{V, ◌⊖◌, ◌⊗◌, ring}
 use Rattle.integer_laws.proofs.Order.{mul_pos}
-use Rattle.int_rows.specs.Combined as rows
-use Rattle.int_rows.specs.Reduced.{IsReduced, scaled}
+use Rattle.integer_laws.specs.Combined as rows
+use Rattle.integer_laws.specs.Reduced.{IsReduced, scaled}
 use Rattle.path_laws.specs.RangeLaws.{entry, RowsAreCombined, RowsArePrimitive}
 
 combined_at : (p q : ℤ) (row pivot : List ℤ) (k : ℕ) → length row ≡ length pivot → entry (rows.combined p q row pivot) k ≡ p *ℤ entry row k -ℤ q *ℤ entry pivot k

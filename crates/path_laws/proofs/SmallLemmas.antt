@@ -9,8 +9,8 @@ use Rattle.std.proofs.lemmas.Bool.Decides.{eqb_tells, leb_tells}
 use Rattle.integer_laws.specs.Total.{total_below}
 use Rattle.integer_laws.proofs.Ring.{V, ◌⊖◌, ◌⊗◌, ring, one-mul_z}
 use Rattle.integer_laws.proofs.IndexTotals.{total_below-same, total_below-zero, total_below-single}
-use Rattle.int_rows.specs.Combined.{past_of, is_in_range}
-use Rattle.int_rows.specs.Lowest.{IsLowest}
+use Rattle.integer_laws.specs.Combined.{past_of, is_in_range}
+use Rattle.integer_laws.specs.Lowest.{IsLowest}
 use Rattle.path_rules.specs.LinearProgram.{LinearProgram, low_flow}
 use Rattle.path_rules.specs.Columns.{Basis, Has, x_at, s_at, t_at, w_at, columns, right_at, scale_at, start}
 use Rattle.path_rules.specs.Equations.{IsCombination}

@@ -6,7 +6,7 @@ use Rattle.std.specs.Prelude.{ℤ, pos, ◌-ℤ◌, ◌*ℤ◌, neg_ℤ, ◌<ℤ
 use Rattle.std.proofs.lemmas.Int.{ints}
 use Rattle.std.proofs.Math.Nat.{eq-one_of_dvd-one}
 use Rattle.integer_laws.proofs.Ring.{one-mul_z}
-use Rattle.int_rows.specs.Combined.{past_of}
+use Rattle.integer_laws.specs.Combined.{past_of}
 use Rattle.path_rules.specs.LinearProgram.{LinearProgram}
 use Rattle.path_rules.specs.Columns.{Basis, Has, start, exchanged}
 use Rattle.path_rules.specs.Tableau.{IsTableau, IsPrimitive}

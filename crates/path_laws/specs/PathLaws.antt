@@ -1,7 +1,7 @@
 -- Laws of the path of a linear program with ranges, each of which a public function of this crate has as its contract.
 -- T, T' and U are tableaux: rows, one for each column.
 use Rattle.std.specs.Prelude.{◌≡◌, ◌≢◌, ℕ, suc, ◌+◌, ◌<◌, ◌≤◌, false, ℤ, pos, ◌*ℤ◌, ◌≤ℤ◌, ◌<ℤ◌}
-use Rattle.int_rows.specs.declared.combination.Which.{Which}
+use Rattle.integer_laws.specs.declared.which.Which.{Which}
 use Rattle.path_rules.specs.LinearProgram.{LinearProgram}
 use Rattle.path_rules.specs.Columns.{Basis, Has, x_at, s_at, columns, right_at, scale_at, start}
 use Rattle.path_rules.specs.Tableau.{IsPrimitive, IsTableau}

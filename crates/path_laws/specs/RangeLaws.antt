@@ -1,6 +1,6 @@
 -- Laws of rows as lists of numbers in range, each of which a public function of this crate has as its contract.
 use Rattle.std.specs.Prelude.{◌≡◌, ◌≢◌, ℕ, suc, ◌+◌, ◌*◌, ◌^◌, ◌<◌, ◌≤◌, ℤ, pos, ◌-ℤ◌, ◌<ℤ◌, unsigned_abs, List, length, slice_index_or}
-use Rattle.int_rows.specs.Combined as rows
+use Rattle.integer_laws.specs.Combined as rows
 use Rattle.flow_rules.specs.Program.{Program, IsProgram}
 use Rattle.path_rules.specs.LinearProgram.{LinearProgram, linear_of, low_flow}
 use Rattle.path_rules.specs.Columns.{Basis, Has, x_at, s_at, columns, right_at, scale_at}

@@ -3,6 +3,8 @@ pub mod Equations
 pub mod Lexicographic
 pub mod LinearProgram
 pub mod Multipliers
+pub mod Named
+pub mod PastPlace
 pub mod Path
 pub mod Pivots
 pub mod Places

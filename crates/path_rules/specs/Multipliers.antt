@@ -1,7 +1,7 @@
 -- The multipliers that a row of a tableau gives to the rows of the program: its entry at t, less that at w.
 use Rattle.std.specs.Prelude.{ℕ, ℤ, ◌-ℤ◌, List, ◌∷◌, map}
 use Rattle.std.specs.List.{range_with_len}
-use Rattle.int_rows.specs.Reduced.{IsReduced}
+use Rattle.integer_laws.specs.Reduced.{IsReduced}
 use Rattle.path_rules.specs.LinearProgram.{LinearProgram}
 use Rattle.path_rules.specs.Columns.{t_at, w_at, scale_at}
 

@@ -1,9 +1,9 @@
 -- The path of a program: a list of bases. It begins with the start, and goes on by pivots until a basis has none or a number
 -- of it is out of range.
 use Rattle.std.specs.Prelude.{◌≡◌, ◌≢◌, ℕ, zero, suc, ◌<◌, ◌≤◌, ℤ, pos, None, Some}
-use Rattle.int_rows.specs.declared.combination.Which.{Which}
-use Rattle.int_rows.specs.Combined.{past_of}
-use Rattle.int_rows.specs.Lowest.{IsLowest}
+use Rattle.integer_laws.specs.declared.which.Which.{Which}
+use Rattle.integer_laws.specs.Combined.{past_of}
+use Rattle.integer_laws.specs.Lowest.{IsLowest}
 use Rattle.path_rules.specs.LinearProgram.{LinearProgram}
 use Rattle.path_rules.specs.Columns.{Basis, Has, start, exchanged, scale_at}
 use Rattle.path_rules.specs.Tableau.{IsTableau}

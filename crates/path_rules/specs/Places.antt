@@ -1,7 +1,7 @@
 -- The places at which a number can leave the range, and when one is past at the last basis of the path of a node's program.
 -- A basis fixes its tableau, and a program its path, so no choice is left.
 use Rattle.std.specs.Prelude.{◌≡◌, ◌≢◌, ℕ, ◌<◌, true, ℤ, pos, neg_ℤ, List, ◌||◌}
-use Rattle.int_rows.specs.declared.combination.Which.{Which}
+use Rattle.integer_laws.specs.declared.which.Which.{Which}
 use Rattle.pns_rules.specs.Nodes.{Node}
 use Rattle.flow_rules.specs.Net.{Net, beside}
 use Rattle.flow_rules.specs.Relaxed.{units, rows}

@@ -2,7 +2,7 @@
 use Rattle.std.specs.Prelude.{◌≡◌, ℕ, suc, ◌<◌, false, ℤ, pos, ◌+ℤ◌, ◌*ℤ◌, ◌≤ℤ◌, int_div, unsigned_abs, List, [], ◌∷◌, ◌++◌, map, cond, get_or}
 use Rattle.std.specs.List.{range_with_len}
 use Rattle.std.specs.Int.{◌∣◌}
-use Rattle.int_rows.specs.Lowest.{IsLowest}
+use Rattle.integer_laws.specs.Lowest.{IsLowest}
 use Rattle.flow_rules.specs.Steps.{AreInRange, IsFirstPast}
 use Rattle.path_rules.specs.LinearProgram.{LinearProgram}
 use Rattle.path_rules.specs.Columns.{Basis, Has, x_at, right_at}

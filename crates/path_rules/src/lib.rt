@@ -6,5 +6,5 @@
 //!
 //! In `specs/`: `LinearProgram` and `Columns`, `Equations` and `Tableau`, `Vectors` with the order `Lexicographic`, `Pivots`
 //! and `Path`; `Start`, the first tableau; `Rank`, a number that rises along the path; `Multipliers` and `ReadFlows`, what is
-//! read off at the end; `Places`, when a place is past.
+//! read off at the end; `Places`, when a place is past; `Named` and `PastPlace`, the same by the numbers of the problem.
 #![tactic(auto)]

@@ -8,7 +8,7 @@ use Rattle.tree_rules.specs.Claim as claims
 use Rattle.tree_rules.specs.Claim.{Network, IsFeasible}
 use Rattle.tree_rules.specs.Accepted.{Tree, first_node}
 use Rattle.tree_laws.specs.Laws.{AcceptedIsOptimal}
-use Rattle.branch_tree.specs.Tail as tails
+use Rattle.tree_rules.specs.Tail as tails
 use Rattle.tree_text_rules.specs.Read.{Certificate}
 use Rattle.node_evaluation.specs.Children.{claim_with}
 use Rattle.abb_search.specs.declared.outcome.Found.{Found}

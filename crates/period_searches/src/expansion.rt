@@ -1,6 +1,6 @@
 //! The command `expand`.
 ghost use Rattle.std.specs.Prelude.{◌≡◌, ◌⊎◌, IfOk};
-ghost use Rattle.pns_io.specs.Outside.{HasRisen};
+ghost use Rattle.text_rules.specs.Outside.{HasRisen};
 ghost use Rattle.text_rules.specs.Canonical.{canonical};
 ghost use Rattle.plan_rules.specs.Expanded.{expanded};
 ghost use Rattle.plan_rules.specs.Plan.{IsPlan};

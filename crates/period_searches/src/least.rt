@@ -1,6 +1,6 @@
 //! The search of all designs of a plant over its periods.
 ghost use Rattle.std.specs.Prelude.{◌≡◌, ◌≤◌, IfOk};
-ghost use Rattle.pns_io.specs.Outside.{HasRisen};
+ghost use Rattle.text_rules.specs.Outside.{HasRisen};
 ghost use Rattle.plan_rules.specs.Expanded.{expanded};
 ghost use Rattle.plan_rules.specs.Plan.{IsPlan};
 ghost use Rattle.tree_rules.specs.Claim.{IsFeasible};

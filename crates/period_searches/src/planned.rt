@@ -1,6 +1,6 @@
 //! The command `periods`.
 ghost use Rattle.std.specs.Prelude.{◌≡◌, ◌⊎◌, ◌≤◌};
-ghost use Rattle.pns_io.specs.Outside.{HasRisen};
+ghost use Rattle.text_rules.specs.Outside.{HasRisen};
 ghost use Rattle.command_files.specs.Reading.{OnFile};
 ghost use Rattle.command_files.specs.Plan.{OnPlan};
 ghost use Rattle.endings.specs.Ending.{Ends, Says};

@@ -6,7 +6,7 @@ use Rattle.number_sets.proofs.SetLemmas.{has-union, has-meet, has-minus}
 use Rattle.pns_rules.specs.Shape.{Shape}
 use Rattle.pns_rules.specs.Structure.{is_made, is_used, mats, HasPath, IsStructure}
 use Rattle.pns_rules.specs.Ends.{IsNever}
-use Rattle.pgraph.specs.Breaks.{BreaksS1, BreaksS2, BreaksS4}
+use Rattle.pns_rules.specs.Breaks.{BreaksS1, BreaksS2, BreaksS4}
 
 module _ (g : Shape) (o : List ℕ) where
   pub breaks_s1_is : (products materials missing : List ℕ) → has products ≡ g.product → has materials ≡ mats g (has o) → missing ≡ minus products materials → (x : ℕ) → (has missing x ≡ true) ↔ BreaksS1 g (has o) x

@@ -22,4 +22,3 @@ mod tables;
 mod verdict;
 
 pub use graph::Graph;
-pub use verdict::{Axiom, Verdict};

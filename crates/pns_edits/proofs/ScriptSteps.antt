@@ -14,7 +14,7 @@ use Rattle.edit_rules.specs.Inverse.{inverse, costs_no_investment}
 use Rattle.edit_rules.specs.Script.{applied, undoing, CanApply, IsFirstFault}
 use Rattle.edit_laws.proofs.ValidLemmas.{edit_keeps_valid}
 use Rattle.script_rules.specs.declared.EditKind.{EditKind}
-use Rattle.pns_edits.specs.Fault.{kind_of}
+use Rattle.script_rules.specs.Meaning.{kind_of}
 
 -- from p by the edits passed to q, which are undone by `back` from its end
 pub record IsAppliedTo (p q : Problem) (es rest back : List Edit) (passed : ℕ) : Type 0 where

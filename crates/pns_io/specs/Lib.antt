@@ -1,4 +1,3 @@
-pub mod Outside
 pub mod NamedFiles
 pub mod MemoryShelf
 pub mod MemorySink

@@ -1,6 +1,6 @@
 //! The files of the system.
 ghost use Rattle.std.specs.Prelude.{◌≡◌, ◌≤◌, List, ℕ, length, IfOk, OnOk, OnErr, None};
-ghost use Rattle.pns_io.specs.Outside.{HasRisen, ReadsAt, IfTold, counted};
+ghost use Rattle.text_rules.specs.Outside.{HasRisen, ReadsAt, IfTold, counted};
 
 use crate::{Failed, Shelf};
 use std::io::{ErrorKind, Read, Seek, SeekFrom};

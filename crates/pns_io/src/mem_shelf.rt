@@ -1,6 +1,6 @@
 //! A shelf in memory, with reads that fail.
 ghost use Rattle.std.specs.Prelude.{◌≡◌, ◌≤◌, ◌-◌, ◌⊎◌, ◌↔◌, List, ℕ, length, min, Some, IsSomeAnd, IfOk, OnOk, IsErr, IsNone, OnErr, Contains};
-ghost use Rattle.pns_io.specs.Outside.{HasRisen, ReadsAt, counted};
+ghost use Rattle.text_rules.specs.Outside.{HasRisen, ReadsAt, counted};
 ghost use Rattle.pns_io.specs.NamedFiles.{file_of, file_views};
 
 use crate::named_file::{copy_from, file_named};

@@ -1,7 +1,7 @@
 //! A sink in memory, with a room and a put that fails.
 ghost use Rattle.std.specs.Prelude.{◌≡◌, ◌≤◌, ◌↔◌, ◌++◌, [], Some, length, take, IsErr, OnOk, OnErr, IfOk};
 ghost use Rattle.std.specs.Io.KnownBytes.{Appends};
-ghost use Rattle.pns_io.specs.Outside.{HasRisen, AppendsFront, counted};
+ghost use Rattle.text_rules.specs.Outside.{HasRisen, AppendsFront, counted};
 ghost use Rattle.pns_io.specs.MemorySink.{taken, Fails};
 
 use crate::{Failed, Sink};

@@ -1,6 +1,6 @@
 //! Files in memory, by name.
 ghost use Rattle.std.specs.Prelude.{◌≡◌, ◌≤◌, ◌-◌, length, min, option_map};
-ghost use Rattle.pns_io.specs.Outside.{ReadsAt};
+ghost use Rattle.text_rules.specs.Outside.{ReadsAt};
 ghost use Rattle.pns_io.specs.NamedFiles.{file_of, file_views};
 
 // The bytes of the first file of this name.

@@ -1,7 +1,7 @@
 //! The standard output.
 ghost use Rattle.std.specs.Prelude.{◌≡◌, ◌≤◌, OnOk, OnErr, None};
 ghost use Rattle.std.specs.Io.KnownBytes.{Appends};
-ghost use Rattle.pns_io.specs.Outside.{HasRisen, AppendsFront, counted};
+ghost use Rattle.text_rules.specs.Outside.{HasRisen, AppendsFront, counted};
 
 use crate::{Failed, Sink};
 use std::marker::Model;

@@ -1,6 +1,6 @@
 //! A shelf in memory that never fails.
 ghost use Rattle.std.specs.Prelude.{◌≡◌, ◌≤◌, ◌-◌, List, ℕ, Some, length, min, IfOk, IsOk};
-ghost use Rattle.pns_io.specs.Outside.{ReadsAt};
+ghost use Rattle.text_rules.specs.Outside.{ReadsAt};
 ghost use Rattle.pns_io.specs.NamedFiles.{file_or_empty, file_views};
 
 use crate::named_file::{copy_from, file_named};

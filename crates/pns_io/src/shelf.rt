@@ -1,6 +1,6 @@
 //! A shelf holds files by name.
 ghost use Rattle.std.specs.Prelude.{◌≡◌, ◌≤◌, ◌^◌, List, ℕ, length, IfOk, OnErr};
-ghost use Rattle.pns_io.specs.Outside.{HasRisen, ReadsAt, Told, IfTold};
+ghost use Rattle.text_rules.specs.Outside.{HasRisen, ReadsAt, Told, IfTold};
 
 use crate::Failed;
 

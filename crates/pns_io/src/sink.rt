@@ -1,7 +1,7 @@
 //! A sink takes bytes, one piece after another.
 ghost use Rattle.std.specs.Prelude.{◌≤◌, List, ℕ, Option, OnOk, OnErr};
 ghost use Rattle.std.specs.Io.KnownBytes.{Appends};
-ghost use Rattle.pns_io.specs.Outside.{HasRisen, AppendsFront};
+ghost use Rattle.text_rules.specs.Outside.{HasRisen, AppendsFront};
 
 use crate::Failed;
 

@@ -1,6 +1,6 @@
 //! The whole of a file.
 ghost use Rattle.std.specs.Prelude.{◌≡◌, ◌<◌, ◌≤◌, ◌^◌, ◌+◌, List, ℕ, length, vec_len, IfOk, IsErrOf};
-ghost use Rattle.pns_io.specs.Outside.{HasRisen, Continues, IfTold};
+ghost use Rattle.text_rules.specs.Outside.{HasRisen, Continues, IfTold};
 
 use crate::Shelf;
 use std::alloc::Global;

@@ -1,7 +1,10 @@
+pub mod Breaks
 pub mod Ends
 pub mod Laws
 pub mod Listing
 pub mod Nodes
 pub mod Shape
 pub mod Structure
+pub mod Tokens
 pub mod Trace
+pub mod Verdict

@@ -3,8 +3,8 @@
 use Rattle.std.specs.Prelude.{◌≡◌, ℕ, ℤ, List, [], ◌∷◌, codes, flat_map}
 use Rattle.std.specs.Fmt.{signed_decimal}
 use Rattle.csv.specs.Writing.{default_writer, row_text}
-use Rattle.int_rows.specs.Lowest.{IsLowest}
-use Rattle.frac128.specs.Text.{fraction_text}
+use Rattle.integer_laws.specs.Lowest.{IsLowest}
+use Rattle.integer_laws.specs.Fraction.{fraction_text}
 use Rattle.number_sets.specs.Sets.{has}
 use Rattle.problem_rules.specs.Problem.{Problem, unit_at, material_at}
 use Rattle.text_rules.specs.Canonical.{kind_word}

@@ -1,6 +1,6 @@
 //! What a network makes of a material less what it uses of it.
 ghost use Rattle.std.specs.Prelude.{◌≡◌, ◌≢◌, ◌<◌, ◌+ℤ◌, ◌*ℤ◌, ℕ, pos, true, length};
-ghost use Rattle.int_rows.specs.Range.{InRange};
+ghost use Rattle.integer_laws.specs.Range.{InRange};
 ghost use Rattle.number_sets.specs.Sets.{has};
 ghost use Rattle.flow_rules.specs.Net.{net_of};
 ghost use Rattle.flow_rules.specs.Flows.{balance};

@@ -10,7 +10,7 @@ ghost use Rattle.flow_rules.specs.Net.{net_of};
 ghost use Rattle.flow_rules.specs.Steps.{AreInRange};
 ghost use Rattle.flow_rules.specs.FeasibleSteps.{units_at, balance_steps, feasible_steps};
 ghost use Rattle.tree_rules.specs.Claim.{size_in};
-ghost use Rattle.branch_tree.specs.Known.{AreUnits};
+ghost use Rattle.tree_rules.specs.Known.{AreUnits};
 ghost use Rattle.pns_tables.specs.Table.{IsMaterialRow, IsMaterialTable};
 ghost use Rattle.pns_tables.specs.Written.{HasWritten};
 

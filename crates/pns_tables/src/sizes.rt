@@ -1,6 +1,6 @@
 //! The sizes of a network's units.
 ghost use Rattle.std.specs.Prelude.{◌≡◌, IfOk, string_bytes};
-ghost use Rattle.int_rows.specs.Range.{InRange};
+ghost use Rattle.integer_laws.specs.Range.{InRange};
 ghost use Rattle.tree_rules.specs.Claim.{size_in};
 ghost use Rattle.pns_tables.specs.Table.{IsQuotient};
 

@@ -1,7 +1,7 @@
 //! The table of a network's units.
 ghost use Rattle.std.specs.Prelude.{◌≡◌, ◌<◌, ◌++◌, ℕ, List, Some, IfOk, OnOk, length, string_bytes};
 ghost use Rattle.csv.specs.Writing.{default_writer, row_text};
-ghost use Rattle.branch_tree.specs.Known.{AreUnits};
+ghost use Rattle.tree_rules.specs.Known.{AreUnits};
 ghost use Rattle.pns_tables.specs.Table.{IsUnitRow, IsUnitTable};
 ghost use Rattle.pns_tables.specs.Written.{HasWritten};
 

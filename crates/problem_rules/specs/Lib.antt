@@ -1,4 +1,6 @@
+pub mod Draws
 pub mod Each
+pub mod Generated
 pub mod Names
 pub mod Problem
 pub mod Validity

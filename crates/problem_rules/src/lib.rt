@@ -1,7 +1,8 @@
 //! What a synthesis problem is, how its items are named, and which problems are valid.
 //!
 //! The definitions stand in `specs/`: `Problem`, `Names`, `Validity` (the faults of a problem in the order in which they
-//! are judged) and `WellFormed` (what holds of each item of a problem that has none).
+//! are judged) and `WellFormed` (what holds of each item of a problem that has none). `Draws` and `Generated` give a problem for each
+//! number and count of units.
 #![tactic(auto)]
 
 ghost use Rattle.problem_rules.specs.WellFormed.{ValidIsWellFormed};

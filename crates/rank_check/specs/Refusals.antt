@@ -6,7 +6,7 @@ use Rattle.tree_rules.specs.Tree.{Pass}
 use Rattle.tree_rules.specs.Leaf as leaves
 use Rattle.tree_rules.specs.Accepted.{first_node}
 use Rattle.part_rules.specs.OpenLeaves.{OpenAt}
-use Rattle.cert_check.specs.declared.refusal.Refusal as plain
+use Rattle.tree_rules.specs.declared.refusal.Refusal as plain
 use Rattle.cert_check.specs.Refusals.{NamesFault}
 use Rattle.rank_rules.specs.declared.why.RankWhy.{RankWhy}
 use Rattle.rank_rules.specs.Leaf.{LeafPasses, LeafFails}

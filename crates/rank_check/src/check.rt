@@ -7,7 +7,7 @@ ghost use Rattle.flow_rules.specs.Net.{net_of};
 ghost use Rattle.flow_rules.specs.Flows.{IsFlows};
 ghost use Rattle.tree_rules.specs.Claim as rules;
 ghost use Rattle.tree_rules.specs.Accepted.{first_node};
-ghost use Rattle.tree_laws.specs.Laws.{CostsEnough};
+ghost use Rattle.tree_rules.specs.Costs.{CostsEnough};
 ghost use Rattle.part_rules.specs.OpenLeaves.{open_leaves};
 ghost use Rattle.pgraph.specs.Tables.{shape};
 ghost use Rattle.cert_parts.specs.Shown.{cost_over};
@@ -25,7 +25,7 @@ use crate::marks::judge_marks;
 use crate::networks::judge_networks;
 use crate::refusal::RankRefusal;
 use branch_tree::Network;
-use cert_check::{OpenLeaf, Refusal, Stop, check_nodes};
+use cert_check::{OpenLeaf, Stop, check_nodes};
 use cert_parts::CostOver;
 use pgraph::Graph;
 use pns_problem::Problem;
@@ -35,6 +35,7 @@ use rank_laws::{
 use rank_rules::RankWhy;
 use ranked_tree::RankText;
 use std::alloc::Global;
+use tree_rules::Refusal;
 use unit_sets::{Node, UnitSet};
 
 /// The cost that is to be undercut: that of the last network, where there are as many as were asked for.

@@ -1,6 +1,6 @@
 //! The command `rankcheck`.
 ghost use Rattle.std.specs.Prelude.{◌≡◌, ◌<◌, ◌^◌, ◌⊎◌, IfOk, length, string_bytes};
-ghost use Rattle.pns_io.specs.Outside.{HasRisen};
+ghost use Rattle.text_rules.specs.Outside.{HasRisen};
 ghost use Rattle.endings.specs.Lines.{line};
 ghost use Rattle.rank_commands.specs.Words.{network_line, rank_node_line};
 ghost use Rattle.command_files.specs.Reading.{OnFile};

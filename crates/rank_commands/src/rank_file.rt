@@ -1,6 +1,6 @@
 //! A file that has a ranking: it is read and judged by its grammar.
 ghost use Rattle.std.specs.Prelude.{◌≡◌, ◌≤◌, ◌<◌, ◌^◌, ℕ, List, IfOk, IfErr, OnOk, length, string_bytes};
-ghost use Rattle.pns_io.specs.Outside.{HasRisen};
+ghost use Rattle.text_rules.specs.Outside.{HasRisen};
 ghost use Rattle.endings.specs.Lines.{line};
 ghost use Rattle.rank_text.specs.Known.{KnowsText};
 ghost use Rattle.command_files.specs.Reading.{AreHeld};

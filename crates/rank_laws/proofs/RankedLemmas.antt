@@ -12,7 +12,7 @@ use Rattle.flow_rules.specs.Flows.{cost}
 use Rattle.tree_rules.specs.Claim.{Network, CostOver, IsFeasible}
 use Rattle.tree_rules.specs.Leaf as leaves
 use Rattle.tree_rules.specs.Accepted.{first_node}
-use Rattle.tree_laws.specs.Laws.{CostsEnough}
+use Rattle.tree_rules.specs.Costs.{CostsEnough}
 use Rattle.tree_laws.proofs.CoverLemmas.{IsUnder, covers}
 use Rattle.tree_laws.proofs.LeafLemmas.{HasScale, leaf_holds}
 use Rattle.rank_rules.specs.Networks.{cost_of, numbered, IsListed, last_cost, to_undercut}

@@ -9,7 +9,7 @@ use Rattle.flow_rules.specs.Net.{net_of}
 use Rattle.flow_rules.specs.Flows.{IsFlows}
 use Rattle.tree_rules.specs.Claim.{Network, CostOver}
 use Rattle.tree_rules.specs.Fault.{AreLeafRules}
-use Rattle.tree_laws.specs.Laws.{CostsEnough}
+use Rattle.tree_rules.specs.Costs.{CostsEnough}
 use Rattle.rank_rules.specs.declared.why.RankWhy.{RankWhy}
 use Rattle.rank_rules.specs.Networks.{cost_of, numbered, IsListed, last_cost, ArePassing}
 use Rattle.rank_rules.specs.Leaf.{LeafPasses, LeafFails}

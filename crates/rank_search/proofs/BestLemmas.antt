@@ -10,7 +10,7 @@ use Rattle.tree_rules.specs.Claim.{Network, CostOver}
 use Rattle.tree_rules.specs.Leaf.{Leaf, bounded, untried, IsBounded}
 use Rattle.rank_rules.specs.Networks.{cost_of, last_cost}
 use Rattle.search_tree.specs.Cells.{Cell, no_cell, place_of, cell_at}
-use Rattle.turn_laws.specs.Values.{HasFallen}
+use Rattle.tree_rules.specs.Costs.{HasFallen}
 use Rattle.turn_laws.proofs.GrowLemmas.{leaf_fallen}
 use Rattle.node_evaluation.specs.Looks.{is_bounded, IsFoundAt}
 use Rattle.node_evaluation.specs.Children.{IsSolvedAs, IsSolvedBy, AreSolvedBy}

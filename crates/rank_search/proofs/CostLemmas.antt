@@ -9,7 +9,8 @@ use Rattle.pns_rules.specs.Nodes.{Node}
 use Rattle.tree_rules.specs.Claim.{Network, CostOver, IsAtMost}
 use Rattle.tree_rules.specs.Lean.{MayUndercut, HasCheaper}
 use Rattle.rank_rules.specs.Networks.{cost_of, last_cost}
-use Rattle.turn_laws.specs.Values.{IsPositive, IsNoMore, HasFallen, IsPositiveCost}
+use Rattle.turn_laws.specs.Values.{IsPositive, IsPositiveCost}
+use Rattle.tree_rules.specs.Costs.{IsNoMore, HasFallen}
 use Rattle.turn_laws.proofs.FractionLemmas.{fraction_trans}
 use Rattle.turn_laws.proofs.OrderLemmas.{reached_may_undercut}
 use Rattle.node_evaluation.specs.Evaluated.{cost_in}

@@ -8,7 +8,7 @@ use Rattle.tree_rules.specs.Leaf.{Leaf, dead, clash, refuted, bounded, untried}
 use Rattle.tree_rules.specs.Accepted.{Tree}
 use Rattle.rank_rules.specs.Leaf as ranks
 use Rattle.rank_rules.specs.Ranked as ranked
-use Rattle.branch_tree.specs.Known.{KnowsEnd, KnowsTree}
+use Rattle.tree_rules.specs.Known.{KnowsEnd, KnowsTree}
 use Rattle.ranked_tree.specs.Marked.{Mark, marked, marked_end, marks_behind}
 use Rattle.ranked_tree.specs.declared.mark.Mark as code
 use Rattle.ranked_tree.specs.View.{mark_of}

@@ -23,7 +23,7 @@ use Rattle.rank_rules.specs.Leaf as ranks
 use Rattle.rank_rules.specs.Networks.{ArePassing}
 use Rattle.rank_rules.specs.Ranked as ranked
 use Rattle.branch_tree.specs.Scaled.{Scaled}
-use Rattle.branch_tree.specs.Known.{KnowsEnd, KnowsTree}
+use Rattle.tree_rules.specs.Known.{KnowsEnd, KnowsTree}
 use Rattle.ranked_tree.specs.Marked.{Mark, marked}
 use Rattle.ranked_tree.specs.Text.{AreNumbered}
 use Rattle.search_tree.specs.Cells.{Cell, place_of, cell_at, IsLinked}
@@ -37,7 +37,7 @@ use Rattle.node_evaluation.specs.Children.{claim_with}
 use Rattle.node_evaluation.specs.Looks.{KnowsCell}
 use Rattle.abb_search.specs.declared.growing.Growing.{Growing}
 use Rattle.abb_search.specs.Growing.{IsTreeKeptFor}
-use Rattle.abb_search.specs.Found.{IsBelowLimit}
+use Rattle.tree_rules.specs.Proved.{IsBelowLimit}
 use Rattle.abb_search.proofs.KnownLemmas.{AreKnown, known_end, knows_tree, few_nodes}
 use Rattle.rank_search.specs.Found.{FoundAt, networks_of, undercut_by, AreBest}
 use Rattle.rank_search.specs.Naming.{Names, name_at, names_at, names_of, IsNamedTree}

@@ -6,7 +6,7 @@ use Rattle.tree_rules.specs.Leaf.{untried}
 use Rattle.tree_rules.specs.Claim.{Network}
 use Rattle.tree_rules.specs.Accepted.{Tree, first_node}
 use Rattle.tree_rules.specs.Stops.{IsOpenAt}
-use Rattle.branch_tree.specs.Tail.{whole, spent, past}
+use Rattle.tree_rules.specs.Tail.{whole, spent, past}
 use Rattle.search_tree.specs.Cells.{place_of, cell_at}
 use Rattle.node_evaluation.specs.Evaluated.{PastPlaces}
 use Rattle.abb_search.specs.declared.growing.Growing.{Growing}

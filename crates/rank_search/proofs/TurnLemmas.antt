@@ -11,7 +11,8 @@ use Rattle.tree_rules.specs.Tree.{leaf}
 use Rattle.tree_rules.specs.Claim.{Network, CostOver, IsAtMost}
 use Rattle.tree_rules.specs.Leaf.{untried}
 use Rattle.search_tree.specs.Cells.{Cell, place_of, cell_at}
-use Rattle.turn_laws.specs.Values.{IsPositive, IsNoMore}
+use Rattle.turn_laws.specs.Values.{IsPositive}
+use Rattle.tree_rules.specs.Costs.{IsNoMore}
 use Rattle.turn_laws.proofs.FractionLemmas.{fraction_trans}
 use Rattle.node_evaluation.specs.declared.evaluator.Interval.{Interval}
 use Rattle.node_evaluation.specs.Evaluated.{PastPlaces, cost_over, cost_in}

@@ -1,13 +1,13 @@
 -- What a search for the best networks finds: a whole ranking, or one as far as it came and where it stopped.
 use Rattle.std.specs.Prelude.{◌≡◌, ℕ, Bool, true, false, List}
 use Rattle.problem_rules.specs.Problem.{Problem}
-use Rattle.flow_program.specs.declared.place.Column.{Column}
-use Rattle.flow_program.specs.declared.place.Place.{Place}
+use Rattle.flow_rules.specs.declared.place.Column.{Column}
+use Rattle.flow_rules.specs.declared.place.Place.{Place}
 use Rattle.tree_rules.specs.Accepted.{first_node}
 use Rattle.tree_rules.specs.Stops.{IsPast}
-use Rattle.branch_tree.specs.Tail.{whole, spent, past}
+use Rattle.tree_rules.specs.Tail.{whole, spent, past}
 use Rattle.node_evaluation.specs.Evaluated.{PastPlaces}
-use Rattle.flow_evaluator.specs.Past.{IsPastAt}
+use Rattle.tree_rules.specs.Past.{IsPastAt}
 use Rattle.ranked_tree.specs.Marked.{marked}
 use Rattle.ranked_tree.specs.Text.{Text}
 use Rattle.rank_search.specs.Told.{IsOpenLeaf, IsTelling, IsSpentTelling}

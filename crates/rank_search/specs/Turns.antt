@@ -7,7 +7,7 @@ use Rattle.tree_rules.specs.Claim.{Network, IsAtMost}
 use Rattle.tree_rules.specs.Accepted.{first_node}
 use Rattle.mixed_numbers.specs.declared.number.Mixed.{Mixed}
 use Rattle.mixed_numbers.specs.Number.{numerator, denominator}
-use Rattle.turn_laws.specs.Values.{IsNoMore}
+use Rattle.tree_rules.specs.Costs.{IsNoMore}
 use Rattle.node_evaluation.specs.Evaluated.{PastPlaces, cost_over, cost_in}
 use Rattle.abb_search.specs.declared.growing.Growing.{Growing}
 use Rattle.abb_search.specs.Growing.{IsTreeKeptFor, GoesOnFor, HasInterval, IsLeastLeaf, IsHeldUp, LeafUndercuts, IsStoppedAt}

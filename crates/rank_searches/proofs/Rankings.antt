@@ -12,9 +12,9 @@ use Rattle.rank_rules.specs.Networks.{to_undercut}
 use Rattle.rank_rules.specs.Ranked as ranked
 use Rattle.rank_rules.specs.Ranked.{Ranking, Proves}
 use Rattle.rank_laws.specs.Laws.{ListedAreLeast, OthersCostEnough, OthersHaveNone}
-use Rattle.branch_tree.specs.Known.{KnowsTail}
+use Rattle.tree_rules.specs.Known.{KnowsTail}
 use Rattle.branch_tree.specs.Sized.{IsKept}
-use Rattle.branch_tree.specs.Tail as tails
+use Rattle.tree_rules.specs.Tail as tails
 use Rattle.ranked_tree.specs.Marked.{marked}
 use Rattle.ranked_tree.specs.Text.{Text, ranking_of, IsCounted}
 use Rattle.tree_text_rules.specs.Line.{Token}
@@ -29,7 +29,7 @@ use Rattle.rank_search.specs.declared.outcome.Ranked.{Ranked}
 use Rattle.rank_search.specs.declared.outcome.Ranked.TheVariants as found
 use Rattle.rank_search.specs.Ranked.{IsRankingFor, IsRankedTo}
 use Rattle.rank_commands.proofs.Best.{are_best}
-use Rattle.flow_evaluator.specs.Past.{IsPastAt}
+use Rattle.tree_rules.specs.Past.{IsPastAt}
 use Rattle.searches.specs.Solve.{status_of}
 use Rattle.searches.proofs.Counted.{tree_counted}
 use Rattle.endings.specs.Lines.{text_of}

@@ -7,15 +7,15 @@ use Rattle.tree_rules.specs.Accepted.{first_node}
 use Rattle.tree_rules.specs.Stops.{IsSpent, IsPast}
 use Rattle.rank_rules.specs.Networks.{to_undercut}
 use Rattle.rank_rules.specs.Ranked.{Proves}
-use Rattle.branch_tree.specs.Tail.{Tail, whole, spent, past}
+use Rattle.tree_rules.specs.Tail.{Tail, whole, spent, past}
 use Rattle.ranked_tree.specs.Marked.{marked}
 use Rattle.ranked_tree.specs.Text.{Text, ranking_of}
 use Rattle.rank_text.specs.Read.{read_text}
 use Rattle.rank_text.specs.Spelling.{rank_text_lines}
 use Rattle.rank_search.specs.Told.{IsOpenLeaf}
 use Rattle.rank_commands.specs.Rankcheck.{AreBest}
-use Rattle.flow_evaluator.specs.Past.{IsPastAt}
-use Rattle.abb_search.specs.Found.{IsBelowLimit}
+use Rattle.tree_rules.specs.Past.{IsPastAt}
+use Rattle.tree_rules.specs.Proved.{IsBelowLimit}
 use Rattle.searches.specs.Solve.{status_of}
 use Rattle.endings.specs.Lines.{text_of}
 use Rattle.endings.specs.Printed.{spelled}

@@ -1,6 +1,6 @@
 //! The command `rank`.
 ghost use Rattle.std.specs.Prelude.{◌≡◌, ◌≤◌};
-ghost use Rattle.pns_io.specs.Outside.{HasRisen};
+ghost use Rattle.text_rules.specs.Outside.{HasRisen};
 ghost use Rattle.rank_searches.specs.Rank.{RankWork};
 ghost use Rattle.command_files.specs.Reading.{OnFile};
 ghost use Rattle.endings.specs.Ending.{Ends, Says, Tells};

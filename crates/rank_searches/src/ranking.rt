@@ -1,6 +1,6 @@
 //! The text of what a search for the best networks found.
 ghost use Rattle.std.specs.Prelude.{◌≡◌, ◌<◌, ◌^◌, ℕ, Ok, length, map};
-ghost use Rattle.pns_io.specs.Outside.{HasRisen};
+ghost use Rattle.text_rules.specs.Outside.{HasRisen};
 ghost use Rattle.problem_rules.specs.Each.{Each};
 ghost use Rattle.branch_tree.specs.Sized.{IsKept};
 ghost use Rattle.ranked_tree.specs.View.{mark_of};

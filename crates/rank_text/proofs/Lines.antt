@@ -4,7 +4,7 @@ use Rattle.std.specs.Fmt.{signed_decimal}
 use Rattle.std.specs.Str.{bytes_eq}
 use Rattle.std.proofs.lemmas.Bool.{leb-true, le-leb}
 use Rattle.std.proofs.lemmas.Slice.Eq.{bytes_eq-Decides}
-use Rattle.int_rows.specs.Range.{InRange}
+use Rattle.integer_laws.specs.Range.{InRange}
 use Rattle.problem_rules.specs.Each.{Each}
 use Rattle.tree_text_rules.specs.Line.{Token, Line, tokens_of, behind_first, fields_of}
 use Rattle.tree_text_rules.specs.LineRead.{formed, one, one_and_more}

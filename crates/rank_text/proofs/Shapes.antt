@@ -8,7 +8,7 @@ use Rattle.tree_rules.specs.Ways as ways
 use Rattle.tree_rules.specs.Tree as trees
 use Rattle.tree_rules.specs.Leaf as leaves
 use Rattle.tree_rules.specs.Accepted.{Tree}
-use Rattle.branch_tree.specs.Tail as tails
+use Rattle.tree_rules.specs.Tail as tails
 use Rattle.text_laws.proofs.Each.{each-append}
 use Rattle.tree_text_rules.specs.Line.{Token, word_text}
 use Rattle.tree_text_rules.specs.Spelling as plain

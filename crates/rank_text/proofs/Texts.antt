@@ -8,7 +8,7 @@ use Rattle.problem_rules.specs.WellFormed.{IsWellFormed}
 use Rattle.text_laws.proofs.Each.{each-append, each-to}
 use Rattle.tree_rules.specs.Claim.{Network}
 use Rattle.tree_rules.specs.Accepted.{Tree}
-use Rattle.branch_tree.specs.Tail.{Tail}
+use Rattle.tree_rules.specs.Tail.{Tail}
 use Rattle.tree_text_rules.specs.Line.{Token, Line, lines_of}
 use Rattle.tree_text_rules.specs.Read.{Fault, Taken, first_line, then_read, network_taken, tree_taken, tail_taken}
 use Rattle.tree_text_rules.specs.Spelling as plain

@@ -3,7 +3,7 @@ use Rattle.std.proofs.Common.{◌≡◌, ◌<◌, ◌≤◌, ◌-◌, length, �
 use Rattle.problem_rules.specs.Each.{Each}
 use Rattle.problem_rules.specs.Problem.{Problem}
 use Rattle.tree_rules.specs.Accepted.{Tree}
-use Rattle.branch_tree.specs.Tail.{Tail}
+use Rattle.tree_rules.specs.Tail.{Tail}
 use Rattle.tree_rules.specs.Claim as claims
 use Rattle.tree_rules.specs.Claim.{Network}
 use Rattle.tree_text_rules.specs.Line.{Line}

@@ -7,8 +7,8 @@ use Rattle.pns_rules.specs.Nodes as nodes
 use Rattle.tree_rules.specs.Tree as trees
 use Rattle.tree_rules.specs.Accepted.{Tree}
 use Rattle.tree_rules.specs.Claim.{Network}
-use Rattle.branch_tree.specs.Known.{KnowsStep, KnowsTree}
-use Rattle.branch_tree.specs.Tail as tails
+use Rattle.tree_rules.specs.Known.{KnowsStep, KnowsTree}
+use Rattle.tree_rules.specs.Tail as tails
 use Rattle.text_laws.proofs.Each.{each-append}
 use Rattle.tree_text_rules.specs.LineRead.{spent, past}
 use Rattle.tree_text_rules.specs.Spelling.{step_line, end_line, node_lines, tree_lines, network_lines, tail_lines}

@@ -1,7 +1,7 @@
 -- Rankings whose numbers a problem knows.
 use Rattle.problem_rules.specs.Each.{Each}
 use Rattle.problem_rules.specs.Problem.{Problem}
-use Rattle.branch_tree.specs.Known.{AreUnits, KnowsTree, KnowsTail}
+use Rattle.tree_rules.specs.Known.{AreUnits, KnowsTree, KnowsTail}
 use Rattle.tree_rules.specs.Claim.{Network}
 use Rattle.ranked_tree.specs.Text.{Text}
 

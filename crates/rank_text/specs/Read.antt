@@ -6,7 +6,7 @@ use Rattle.std.specs.Str.{bytes_eq}
 use Rattle.problem_rules.specs.Problem.{Problem}
 use Rattle.tree_rules.specs.Claim.{Network}
 use Rattle.tree_rules.specs.Accepted.{Tree}
-use Rattle.branch_tree.specs.Tail.{Tail}
+use Rattle.tree_rules.specs.Tail.{Tail}
 use Rattle.tree_text_rules.specs.Line.{Token, Line, lines_of, tokens_of}
 use Rattle.tree_text_rules.specs.LineRead.{formed, one}
 use Rattle.tree_text_rules.specs.Token.{judged, count_of}

@@ -2,7 +2,7 @@
 ghost use Rattle.std.specs.Prelude.{◌≡◌, ◌≤◌, ◌<◌, ◌+◌, ◌^◌, ◌++◌, ◌∷◌, [], List, length, map, drop, flat_map, decimal};
 ghost use Rattle.std.specs.Fmt.{signed_decimal};
 ghost use Rattle.problem_rules.specs.Each.{Each};
-ghost use Rattle.branch_tree.specs.Known.{KnowsEnd, KnowsNode, KnowsTree};
+ghost use Rattle.tree_rules.specs.Known.{KnowsEnd, KnowsNode, KnowsTree};
 ghost use Rattle.branch_tree.specs.View.{end_of};
 ghost use Rattle.tree_rules.specs.Tree.{leaf};
 ghost use Rattle.tree_text_rules.specs.Spelling as trees;

@@ -1,7 +1,7 @@
 //! Whole texts.
 ghost use Rattle.std.specs.Prelude.{◌≡◌, ◌≤◌, ◌<◌, ◌-◌, ◌^◌, ◌∷◌, suc, List, Ok, IfOk, IfErr, IfSome, IfNone, length};
 ghost use Rattle.problem_rules.specs.Each.{Each};
-ghost use Rattle.branch_tree.specs.Known.{KnowsTree, KnowsTail};
+ghost use Rattle.tree_rules.specs.Known.{KnowsTree, KnowsTail};
 ghost use Rattle.branch_tree.specs.View.{tail_of};
 ghost use Rattle.tree_reading.specs.Place.{IsCut, lines_at};
 ghost use Rattle.text_lines.specs.Tells.{Tells};

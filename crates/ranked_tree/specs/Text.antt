@@ -3,7 +3,7 @@ use Rattle.std.specs.Prelude.{ℕ, ◌≤◌, List, [], ◌∷◌, length, Some,
 use Rattle.tree_rules.specs.Claim.{Network}
 use Rattle.tree_rules.specs.Accepted.{Tree}
 use Rattle.rank_rules.specs.Ranked.{Ranking}
-use Rattle.branch_tree.specs.Tail.{Tail}
+use Rattle.tree_rules.specs.Tail.{Tail}
 use Rattle.ranked_tree.specs.Marked.{Mark, marked}
 
 pub record Text : Type 0 where

@@ -1,6 +1,6 @@
 //! The words of causes, and the line of a node that is refused.
 ghost use Rattle.std.specs.Prelude.{◌≡◌, IfOk, string_bytes};
-ghost use Rattle.pns_io.specs.Outside.{HasRisen};
+ghost use Rattle.text_rules.specs.Outside.{HasRisen};
 ghost use Rattle.endings.specs.Lines.{line};
 ghost use Rattle.endings.specs.Ending.{Ends, Only, OrMemory};
 ghost use Rattle.endings.specs.declared.status.Status.TheVariants.{Refused};

@@ -8,8 +8,8 @@ use Rattle.std.proofs.lemmas.Nat.{mod_below}
 use Rattle.std.proofs.lemmas.Nat.Gcd.{IsGcd-from_zero, IsGcd-from_mod, dvd-zero}
 use Rattle.std.proofs.Math.Nat.{mul-div_cancel'}
 use Rattle.integer_laws.proofs.Ring.{mul_neg_at}
-use Rattle.int_rows.specs.Range.{InRange}
-use Rattle.int_rows.specs.Lowest.{IsLowest}
+use Rattle.integer_laws.specs.Range.{InRange}
+use Rattle.integer_laws.specs.Lowest.{IsLowest}
 use Rattle.int_rows.proofs.LowestLemmas.{lowest_same}
 use Rattle.frac128.specs.Product.{IsPastLowest}
 use Rattle.frac128.specs.Sum.{IsSumInRange, IsPastSum}

@@ -1,6 +1,6 @@
 //! The numbers of a network's materials, and the sums of their costs.
 ghost use Rattle.std.specs.Prelude.{◌≡◌, ◌<◌, ◌<ℤ◌, ℕ, pos, neg_ℤ, true, length};
-ghost use Rattle.int_rows.specs.Range.{InRange};
+ghost use Rattle.integer_laws.specs.Range.{InRange};
 ghost use Rattle.number_sets.specs.Sets.{has};
 ghost use Rattle.problem_rules.specs.Problem.{material_at};
 ghost use Rattle.pns_rules.specs.Shape.{shape_of};

@@ -1,6 +1,6 @@
 //! Fractions that may be past.
 ghost use Rattle.std.specs.Prelude.{◌≡◌, ◌++◌, ◌∷◌, [], ◌<ℤ◌, ◌*ℤ◌, ◌^◌, ◌*◌, ◌+◌, ◌/◌, ◌%◌, None, Some, pos, decimal, OnOk, string_bytes};
-ghost use Rattle.int_rows.specs.Range.{InRange};
+ghost use Rattle.integer_laws.specs.Range.{InRange};
 ghost use Rattle.report_amounts.specs.Number.{of, nothing, lowest, kept, times, plus, above, below, half_of, is_even, doubled_text, number_text, thousandths_text, share_text};
 
 use decimals::push_rounded;

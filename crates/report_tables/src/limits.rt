@@ -1,7 +1,7 @@
 //! Where a number is at one of its bounds.
 ghost use Rattle.std.specs.Prelude.{◌≡◌, ◌*ℤ◌, ℕ};
 ghost use Rattle.std.specs.Ordering.{int_eq};
-ghost use Rattle.int_rows.specs.Range.{InRange};
+ghost use Rattle.integer_laws.specs.Range.{InRange};
 ghost use Rattle.report_tables.specs.Report.{idle_words, least_words, most_words, limit_words};
 
 use int_rows::checked_product;

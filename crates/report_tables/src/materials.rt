@@ -1,6 +1,6 @@
 //! The table of materials.
 ghost use Rattle.std.specs.Prelude.{◌≡◌, ◌<◌, ◌++◌, ◌∷◌, [], ◌*ℤ◌, ℕ, true, IfOk, OnOk, map, length, string_bytes};
-ghost use Rattle.int_rows.specs.Range.{InRange};
+ghost use Rattle.integer_laws.specs.Range.{InRange};
 ghost use Rattle.number_sets.specs.Sets.{has};
 ghost use Rattle.problem_rules.specs.Problem.{material_at, is_raw_material};
 ghost use Rattle.pns_problem.specs.Kind.{kind_of};

@@ -9,7 +9,7 @@ use Rattle.std.proofs.lemmas.Nat.Gcd.{dvd_refl, dvd_trans}
 use Rattle.std.proofs.Math.ListN.{get_or-append}
 use Rattle.std.proofs.Math.Seq.{get_or-append_seam}
 use borrow.Author.Count.{below_more}
-use Rattle.int_rows.specs.Range.{InRange}
+use Rattle.integer_laws.specs.Range.{InRange}
 use Rattle.number_sets.specs.Sets.{has, IsWithin}
 use Rattle.pns_rules.specs.Nodes.{Node}
 use Rattle.problem_rules.specs.Problem.{Problem, OperatingUnit, rate_of}

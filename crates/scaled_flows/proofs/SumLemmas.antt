@@ -1,7 +1,7 @@
 -- Walks over a set that add up, and what has been found of the numbers that were passed.
 use Rattle.std.proofs.Common.{◌≡◌, ℕ, Bool, true, false, List, [], refl, sym, ap, ◌∙◌, arith, pos, ℤ, ◌+ℤ◌, ◌-ℤ◌}
 use Rattle.std.proofs.lemmas.Int.{ints}
-use Rattle.int_rows.specs.Range.{InRange}
+use Rattle.integer_laws.specs.Range.{InRange}
 use Rattle.integer_laws.specs.Total.{total}
 use Rattle.number_sets.specs.Sets.{has, IsWithin}
 use Rattle.flow_program.proofs.WalkLemmas.{IsNext, rest_within, passed}

@@ -2,7 +2,7 @@
 //! are free.
 ghost use Rattle.std.specs.Prelude.{◌≡◌, ◌<◌, ◌≤ℤ◌, ◌*ℤ◌, ℕ, pos, true, length, int_div, unsigned_abs, slice_index_or, IfOk};
 ghost use Rattle.std.specs.Int.{◌∣◌};
-ghost use Rattle.int_rows.specs.Range.{InRange};
+ghost use Rattle.integer_laws.specs.Range.{InRange};
 ghost use Rattle.number_sets.specs.Sets.{has};
 ghost use Rattle.problem_rules.specs.Problem.{rate_of};
 ghost use Rattle.pns_rules.specs.Shape.{shape_of};

@@ -2,8 +2,8 @@
 //! text without a fault stands for, and the text that is printed of a script.
 //!
 //! `specs/` states the format: `Line` (lines, tokens, first words), `Fault` (what is wrong with a token, and which fault of a
-//! line is told), `Term` (the sides of a new unit), `Read` (`read_script`: a script, or the first fault with its line) and
-//! `Printed` (`script_text`). `proofs/` reads and prints small scripts by computation.
+//! line is told), `Term` (the sides of a new unit), `Read` (`read_script`: a script, or the first fault with its line),
+//! `Printed` (`script_text`) and `Meaning` (the first fault of a script that a problem does not take). `proofs/` reads and prints small scripts by computation.
 #![tactic(auto)]
 
 /// A fault of an edit script. The variants stand in the order of their numbers, 1 to 16. Those of form, 1 to 8 and 16, are

@@ -8,14 +8,15 @@ use Rattle.tree_rules.specs.Claim as claims
 use Rattle.tree_rules.specs.Claim.{Claim, Network, claimed_cost, ClaimPasses, IsFeasible}
 use Rattle.tree_rules.specs.Accepted.{Tree, first_node}
 use Rattle.tree_laws.specs.Laws.{AcceptedIsOptimal}
-use Rattle.branch_tree.specs.Known.{KnowsClaim, KnowsTree, KnowsTail}
-use Rattle.branch_tree.specs.Tail as tails
+use Rattle.tree_rules.specs.Known.{KnowsClaim, KnowsTree, KnowsTail}
+use Rattle.tree_rules.specs.Tail as tails
 use Rattle.tree_text_rules.specs.Read.{Certificate, read_text}
 use Rattle.tree_text_rules.specs.Spelling.{tree_text, tree_text_lines}
 use Rattle.node_evaluation.specs.Children.{claim_with}
 use Rattle.abb_search.specs.declared.outcome.Found.{Found}
 use Rattle.abb_search.specs.declared.outcome.Found.TheVariants as found
-use Rattle.abb_search.specs.Found.{IsFound, IsProved}
+use Rattle.abb_search.specs.Found.{IsFound}
+use Rattle.tree_rules.specs.Proved.{IsProved}
 use Rattle.endings.specs.Ending.{IsOneOf}
 use Rattle.endings.specs.Lines.{text_of}
 use Rattle.endings.specs.Printed.{spelled, OneAnswer}

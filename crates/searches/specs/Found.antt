@@ -2,7 +2,7 @@
 use Rattle.std.specs.Prelude.{◌≡◌, ℕ, List, Option, Some, None}
 use Rattle.problem_rules.specs.Problem.{Problem}
 use Rattle.tree_rules.specs.Claim as claims
-use Rattle.branch_tree.specs.Tail as tails
+use Rattle.tree_rules.specs.Tail as tails
 use Rattle.tree_text_rules.specs.Read.{Certificate}
 use Rattle.node_evaluation.specs.Children.{claim_with}
 use Rattle.abb_search.specs.declared.outcome.Found.{Found}

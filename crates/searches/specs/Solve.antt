@@ -6,20 +6,20 @@ use Rattle.pns_rules.specs.Shape.{shape_of}
 use Rattle.pns_rules.specs.Structure.{IsStructure, IsAllowed}
 use Rattle.pns_rules.specs.Nodes.{Node}
 use Rattle.pns_rules.specs.Ends.{IsReduced}
-use Rattle.flow_program.specs.declared.place.Column.{Column}
-use Rattle.flow_program.specs.declared.place.Place.{Place}
+use Rattle.flow_rules.specs.declared.place.Column.{Column}
+use Rattle.flow_rules.specs.declared.place.Place.{Place}
 use Rattle.flow_rules.specs.Net.{net_of}
-use Rattle.dual_simplex.specs.PastPlace.{IsPastNamed}
+use Rattle.path_rules.specs.PastPlace.{IsPastNamed}
 use Rattle.tree_rules.specs.Claim.{Claim, Network, network, infeasible, claimed_cost, IsFeasible}
 use Rattle.tree_rules.specs.Leaf.{IsUntried}
 use Rattle.tree_rules.specs.Accepted.{Tree, first_node}
 use Rattle.tree_rules.specs.Stops.{IsSpent, IsPast}
-use Rattle.tree_laws.specs.Laws.{CostsEnough}
-use Rattle.branch_tree.specs.Tail.{Tail, whole, spent, past}
+use Rattle.tree_rules.specs.Costs.{CostsEnough}
+use Rattle.tree_rules.specs.Tail.{Tail, whole, spent, past}
 use Rattle.tree_text_rules.specs.Read.{Certificate, read_text}
 use Rattle.tree_text_rules.specs.Spelling.{tree_text_lines}
-use Rattle.flow_evaluator.specs.Past.{IsPastAt}
-use Rattle.abb_search.specs.Found.{IsProved, IsStopped, IsBelowLimit}
+use Rattle.tree_rules.specs.Past.{IsPastAt}
+use Rattle.tree_rules.specs.Proved.{IsProved, IsStopped, IsBelowLimit}
 use Rattle.endings.specs.Lines.{text_of}
 use Rattle.endings.specs.Printed.{spelled}
 use Rattle.endings.specs.declared.status.Status.{Status}

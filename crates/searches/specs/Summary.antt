@@ -7,7 +7,7 @@ use Rattle.pns_rules.specs.Shape.{shape_of}
 use Rattle.pns_rules.specs.Structure.{IsUnion}
 use Rattle.tree_rules.specs.Claim.{Network, network, infeasible}
 use Rattle.tree_rules.specs.Accepted.{Tree}
-use Rattle.branch_tree.specs.Tail.{whole}
+use Rattle.tree_rules.specs.Tail.{whole}
 use Rattle.endings.specs.Lines.{spaced_names, names_in}
 use Rattle.searches.specs.Solve.{Solves, AreTextOf, SolveWork}
 use Rattle.endings.specs.declared.status.Status.{Status}

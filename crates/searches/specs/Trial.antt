@@ -1,6 +1,6 @@
 -- `trial NUMBER UNITS BUDGET`: the search of the problem that `make` prints for the same numbers, with a summary of what it solves.
 use Rattle.std.specs.Prelude.{ℕ, List}
-use Rattle.generator.specs.Generated.{generated}
+use Rattle.problem_rules.specs.Generated.{generated}
 use Rattle.searches.specs.Summary.{SummaryWork}
 use Rattle.endings.specs.declared.status.Status.{Status}
 

@@ -1,7 +1,7 @@
 //! What a search found, as a text of a claim, a tree and a tail.
 ghost use Rattle.std.specs.Prelude.{◌≡◌, ◌≤◌, ◌<◌, ◌^◌, ℕ, Ok, length};
-ghost use Rattle.pns_io.specs.Outside.{HasRisen};
-ghost use Rattle.branch_tree.specs.Known.{KnowsClaim, KnowsTree, KnowsTail};
+ghost use Rattle.text_rules.specs.Outside.{HasRisen};
+ghost use Rattle.tree_rules.specs.Known.{KnowsClaim, KnowsTree, KnowsTail};
 ghost use Rattle.branch_tree.specs.View.{claim_of, tail_of};
 ghost use Rattle.tree_rules.specs.Accepted.{first_node};
 ghost use Rattle.tree_text_rules.specs.Read.{read_text};
@@ -19,7 +19,7 @@ use abb_search::Found;
 use branch_tree::{Claim, Network, Tail, Tree};
 use endings::Status;
 use endings::say::{say_memory, say_printed};
-use flow_program::Place;
+use flow_rules::Place;
 use pns_io::Sink;
 use pns_problem::Problem;
 use std::alloc::Global;

@@ -1,6 +1,6 @@
 //! The command `trial`.
 ghost use Rattle.std.specs.Prelude.{◌≤◌};
-ghost use Rattle.pns_io.specs.Outside.{HasRisen};
+ghost use Rattle.text_rules.specs.Outside.{HasRisen};
 ghost use Rattle.searches.specs.Trial.{TrialWork};
 ghost use Rattle.endings.specs.Ending.{Ends, Tells};
 

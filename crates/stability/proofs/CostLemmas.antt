@@ -1,7 +1,7 @@
 -- A cost whose steps are in range is in range.
 use Rattle.std.proofs.Common.{◌≡◌, List, [], ◌∷◌, ℤ, pos, Result, Ok, Err, sym, ◌∙◌, subst, rules}
 use Rattle.std.specs.Prelude.{IfOk, OnOk}
-use Rattle.int_rows.specs.Range.{InRange}
+use Rattle.integer_laws.specs.Range.{InRange}
 use Rattle.flow_rules.specs.Steps.{AreInRange, last_from}
 
 last_in_range : (before : ℤ) (zs : List ℤ) → InRange before → AreInRange zs → InRange (last_from before zs)

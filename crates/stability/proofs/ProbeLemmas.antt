@@ -10,7 +10,7 @@ use Rattle.flow_rules.specs.Flows.{cost}
 use Rattle.tree_rules.specs.Claim.{Network, network, CostOver}
 use Rattle.tree_rules.specs.Accepted.{Tree, first_node}
 use Rattle.tree_laws.specs.Laws.{AcceptedIsOptimal, AcceptedHasFlows}
-use Rattle.abb_search.specs.Found.{IsProved}
+use Rattle.tree_rules.specs.Proved.{IsProved}
 use Rattle.stability_rules.specs.Range.{IsLeast, IsCheaper}
 
 -- a over b is at most c over d, which is at most e over f

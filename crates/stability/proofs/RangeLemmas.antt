@@ -14,11 +14,11 @@ use Rattle.stability_rules.specs.declared.spot.Spot.{Spot}
 use Rattle.stability_rules.specs.declared.side.Side.{Side}
 use Rattle.stability_rules.specs.declared.side.Side.TheVariants.{Below, Above}
 use Rattle.stability_rules.specs.Spot.{KnowsSpot, value_at, valued, IsAllowedValue, value_on, limit_on}
-use Rattle.stability_rules.specs.Range.{cost_at, IsBestAt, IsCheaper, IsCheaperAt, beyond, IsRange, IsHalfProved, MayWant}
+use Rattle.stability_rules.specs.Range.{cost_at, IsBestAt, IsCheaper, IsCheaperAt, beyond, IsRange, IsHalfProved, MayWant, IsPastCost}
 use Rattle.stability_rules.specs.Rise.{least_rise}
 use Rattle.stability_laws.specs.Laws.{ValuedIsSame, BestBetween, BestAway}
 use Rattle.stability.specs.Case.{Case}
-use Rattle.stability.specs.Refusal.{IsPastCost, IsSearchStop, IsStopAt, IsRefusal}
+use Rattle.stability.specs.Refusal.{IsSearchStop, IsStopAt, IsRefusal}
 use Rattle.stability.specs.Side.{there, IsBeyond, IsBracket, IsSettledAs, IsEnd}
 use Rattle.stability.specs.declared.outcome.RangeFault.{RangeFault}
 use Rattle.stability.specs.declared.outcome.RangeFault.TheVariants.{NotBest, Spent, Past, PastCost, Memory}

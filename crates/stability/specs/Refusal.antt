@@ -1,23 +1,15 @@
 -- What stands behind each refusal of a range.
 use Rattle.std.specs.Prelude.{◌≡◌, ℕ, ℤ, Option, Some, None}
-use Rattle.number_sets.specs.Sets.{has}
 use Rattle.problem_rules.specs.Problem.{Problem}
-use Rattle.flow_rules.specs.Net.{net_of}
-use Rattle.flow_rules.specs.Steps.{IsFirstPast}
-use Rattle.flow_rules.specs.CostSteps.{cost_steps}
-use Rattle.tree_rules.specs.Claim.{Network, size_in}
+use Rattle.tree_rules.specs.Claim.{Network}
 use Rattle.tree_rules.specs.Accepted.{first_node}
 use Rattle.abb_search.specs.Found.{IsFound}
 use Rattle.abb_search.specs.declared.outcome.Found.TheVariants as founds
 use Rattle.stability_rules.specs.declared.spot.Spot.{Spot}
 use Rattle.stability_rules.specs.Spot.{valued, IsAllowedValue}
-use Rattle.stability_rules.specs.Range.{IsBestAt, IsCheaper, IsCheaperAt, IsHalfProved, MayWant}
+use Rattle.stability_rules.specs.Range.{IsBestAt, IsCheaper, IsCheaperAt, IsHalfProved, MayWant, IsPastCost}
 use Rattle.stability.specs.declared.outcome.RangeFault.{RangeFault}
 use Rattle.stability.specs.declared.outcome.RangeFault.TheVariants.{NotBest, Spent, Past, PastCost, Memory}
-
--- step `at` of the network's cost is the first out of range with this value in the spot
-abbrev pub IsPastCost : Problem → Spot → Network → ℤ → ℕ → Type 0
-IsPastCost p spot w v at = IsFirstPast (cost_steps (net_of (valued p spot v)) (has w.units) (size_in w) w.d) at
 
 -- ---- at one value
 

@@ -1,7 +1,7 @@
 //! What the flows of a network cost in a problem.
 ghost use Rattle.std.specs.Prelude.{◌≡◌, ◌<◌, ℕ, true, IfOk, IfErr, OnOk};
 ghost use Rattle.number_sets.specs.Sets.{has};
-ghost use Rattle.int_rows.specs.Range.{InRange};
+ghost use Rattle.integer_laws.specs.Range.{InRange};
 ghost use Rattle.pns_rules.specs.Shape.{shape_of};
 ghost use Rattle.pgraph.specs.Tables.{shape};
 ghost use Rattle.flow_rules.specs.Net.{net_of};

@@ -7,7 +7,7 @@
 //! of two costs is a straight line, and none on a side on which the network's cost rises as little as that of any structure can.
 //! Elsewhere the limit of the values is looked at first. Where another network is cheaper, the next value is the last at which it is not; where a budget is spent, one on the way out
 //! from the present value; where a number is past the range, one in between by length, until half the way is proved. What is promised
-//! stands in `specs/Refusal` and in `stability_rules`.
+//! stands in `stability_rules` and in `specs/Refusal`.
 //!
 //! - `setting`: the problem with another value in the spot
 //! - `case`: a network and a spot, and the values on both sides of the present one

@@ -1,6 +1,6 @@
 //! What the range of a spot is, and why none is told.
 use branch_tree::{Columns, Network, Tree};
-use flow_program::Place;
+use flow_rules::Place;
 
 /// The values of a spot at which a network is optimal, in millionths: each from `from` to `to`. One step below `from` the network
 /// `below` is cheaper, and one step above `to` the network `above`; none where that end is the limit of the values.

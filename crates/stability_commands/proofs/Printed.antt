@@ -2,7 +2,7 @@
 use Rattle.std.proofs.Common.{ℕ, List, Option, Ok, Err, refl, subst}
 use Rattle.std.specs.Io.KnownBytes.{Appends}
 use Rattle.tree_text.specs.declared.fault.PrintFault.TheVariants as faults
-use Rattle.pns_io.specs.Outside.{HasRisen, AppendsFront}
+use Rattle.text_rules.specs.Outside.{HasRisen, AppendsFront}
 use Rattle.tree_text_rules.specs.Line.{Token}
 use Rattle.tree_text.specs.Prints.{Prints}
 use Rattle.endings.specs.Lines.{text_of}

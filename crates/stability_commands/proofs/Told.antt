@@ -7,8 +7,8 @@ use Rattle.pns_rules.specs.Shape.{Shape}
 use Rattle.tree_rules.specs.Claim.{Network}
 use Rattle.tree_rules.specs.Accepted.{Tree, first_node}
 use Rattle.tree_laws.specs.Laws.{AcceptedIsOptimal}
-use Rattle.flow_program.specs.declared.place.Column.{Column}
-use Rattle.flow_program.specs.declared.place.Place.{Place}
+use Rattle.flow_rules.specs.declared.place.Column.{Column}
+use Rattle.flow_rules.specs.declared.place.Place.{Place}
 use Rattle.tree_text_rules.specs.Read.{Certificate, read_text}
 use Rattle.tree_text_rules.specs.Spelling.{tree_text, tree_text_lines}
 use Rattle.abb_search.specs.declared.outcome.Found.{Found}
@@ -20,9 +20,8 @@ use Rattle.searches.proofs.FoundTexts.{CanPrint, can_print, found_solves, are_te
 use Rattle.stability_rules.specs.declared.spot.Spot.{Spot}
 use Rattle.stability_rules.specs.declared.side.Side.{Side}
 use Rattle.stability_rules.specs.Spot.{KnowsSpot, valued, IsAllowedValue}
-use Rattle.stability_rules.specs.Range.{IsCheaper, EndsAt, beyond, IsRange, IsHalfProved, MayWant}
+use Rattle.stability_rules.specs.Range.{IsCheaper, EndsAt, beyond, IsRange, IsHalfProved, MayWant, IsPastCost}
 use Rattle.stability_laws.specs.Laws.{ShapeStays}
-use Rattle.stability.specs.Refusal.{IsPastCost}
 use Rattle.endings.specs.Printed.{spelled, OneAnswer}
 use Rattle.endings.specs.declared.status.Status.{Status}
 use Rattle.endings.specs.declared.status.Status.TheVariants.{Done, Past, Spent, NotBest}

@@ -16,8 +16,7 @@ use Rattle.stability_rules.specs.declared.side.Side.TheVariants.{Below, Above}
 use Rattle.stability_rules.specs.declared.spot.SpotKind.{SpotKind}
 use Rattle.stability_rules.specs.declared.spot.SpotKind.TheVariants.{Price, Fix, Proportional}
 use Rattle.stability_rules.specs.Spot.{valued, IsAllowedValue}
-use Rattle.stability_rules.specs.Range.{IsCheaper, IsRange, IsHalfProved, MayWant}
-use Rattle.stability.specs.Refusal.{IsPastCost}
+use Rattle.stability_rules.specs.Range.{IsCheaper, IsRange, IsHalfProved, MayWant, IsPastCost}
 use Rattle.searches.specs.Solve.{SolveWork}
 use Rattle.network_commands.specs.Network.{OnNetwork}
 use Rattle.endings.specs.Printed.{spelled}

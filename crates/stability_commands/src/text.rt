@@ -2,7 +2,7 @@
 ghost use Rattle.std.specs.Prelude.{◌≡◌, ◌≤◌, ◌++◌, ◌∷◌, [], List, codes, decimal, IfOk, string_bytes, length};
 ghost use Rattle.std.specs.Fmt.{signed_decimal};
 ghost use Rattle.number_sets.specs.Sets.{AreBelow};
-ghost use Rattle.branch_tree.specs.Known.{KnowsClaim, KnowsTree, KnowsTail};
+ghost use Rattle.tree_rules.specs.Known.{KnowsClaim, KnowsTree, KnowsTail};
 ghost use Rattle.tree_text_rules.specs.Line.{Token};
 ghost use Rattle.tree_text_rules.specs.Spelling.{line_text, network_lines, tree_text_lines};
 ghost use Rattle.tree_text.specs.Prints.{Prints};

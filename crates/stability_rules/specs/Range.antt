@@ -7,8 +7,10 @@ use Rattle.pns_rules.specs.Shape.{shape_of}
 use Rattle.pns_rules.specs.Structure.{IsStructure, IsAllowed}
 use Rattle.flow_rules.specs.Net.{net_of}
 use Rattle.flow_rules.specs.Flows.{cost}
+use Rattle.flow_rules.specs.Steps.{IsFirstPast}
+use Rattle.flow_rules.specs.CostSteps.{cost_steps}
 use Rattle.tree_rules.specs.Claim.{Network, CostOver, size_in, IsFeasible}
-use Rattle.tree_laws.specs.Laws.{CostsEnough}
+use Rattle.tree_rules.specs.Costs.{CostsEnough}
 use Rattle.stability_rules.specs.declared.spot.Spot.{Spot}
 use Rattle.stability_rules.specs.declared.side.Side.{Side}
 use Rattle.stability_rules.specs.declared.side.Side.TheVariants.{Below, Above}
@@ -74,3 +76,7 @@ pub record IsHalfProved (p : Problem) (spot : Spot) (w : Network) (v : ℤ) : Ty
 -- an answer may be wanting at the present value, and at one that is half proved
 abbrev pub MayWant : Problem → Spot → Network → ℤ → Type 0
 MayWant p spot w v = (v ≡ value_at p spot) ⊎ IsHalfProved p spot w v
+
+-- step `at` of the network's cost is the first out of range with this value in the spot
+abbrev pub IsPastCost : Problem → Spot → Network → ℤ → ℕ → Type 0
+IsPastCost p spot w v at = IsFirstPast (cost_steps (net_of (valued p spot v)) (has w.units) (size_in w) w.d) at

@@ -3,7 +3,8 @@ ghost use Rattle.std.specs.Prelude.{◌≡◌, ◌<◌};
 
 use decisions::{Decided, compare_traces};
 use max_structure::{Steps, maximal, viable};
-use pgraph::{Graph, Verdict};
+use pgraph::Graph;
+use pns_rules::Verdict;
 use small_plants::plants::{EXCLUDING, FIRST, RIVALS, graph_of};
 use small_plants::texts::{material_text, unit_text};
 use std::alloc::Global;

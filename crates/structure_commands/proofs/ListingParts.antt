@@ -11,7 +11,7 @@ use Rattle.pns_rules.specs.Shape.{shape_of}
 use Rattle.pns_rules.specs.Structure.{IsStructure}
 use Rattle.pns_rules.specs.Listing.{IsListed, IsListing}
 use Rattle.pns_rules.proofs.ListingLemmas.{listing_is_one, listing_resumes}
-use Rattle.structure_list.specs.Tokens.{token_of}
+use Rattle.pns_rules.specs.Tokens.{token_of}
 use Rattle.structure_list.proofs.TokenLemmas.{token_one}
 use Rattle.structure_commands.specs.Listing.{IsAfter, structure_line, more_line, last_of, last_line, listing_lines, ListingWork}
 use Rattle.endings.specs.declared.status.Status.TheVariants.{Done}

@@ -7,7 +7,7 @@ use Rattle.pns_rules.specs.Shape.{Shape, shape_of}
 use Rattle.pns_rules.specs.Structure.{IsStructure}
 use Rattle.pns_rules.specs.Listing.{IsListing}
 use Rattle.pgraph.specs.Tables.{Tables, shape}
-use Rattle.structure_list.specs.Tokens.{token_of}
+use Rattle.pns_rules.specs.Tokens.{token_of}
 use Rattle.structure_list.specs.Rest.{Rest, IsToCome}
 use Rattle.structure_list.proofs.TokenLemmas.{token_one, token_has_form}
 use Rattle.structure_commands.specs.Listing.{IsAfter, IsBadToken, RestSays, ListingWork}

@@ -6,7 +6,7 @@ use Rattle.std.proofs.lemmas.List.{map-append, length-append, take_all}
 use Rattle.std.proofs.lemmas.Bool.{le-ltb, lt-ltb}
 use Rattle.std.proofs.lemmas.Grind.{flat_map-append}
 use Rattle.std.proofs.Math.Seq.{take-append-add}
-use Rattle.pns_io.specs.Outside.{AppendsFront}
+use Rattle.text_rules.specs.Outside.{AppendsFront}
 use Rattle.problem_rules.specs.Problem.{Problem}
 use Rattle.structure_list.specs.Rest.{Rest, IsToCome}
 use Rattle.endings.specs.Lines.{line, text_of}

@@ -5,11 +5,11 @@ use Rattle.std.specs.List.{list_any, position}
 use Rattle.std.specs.Str.{bytes_eq}
 use Rattle.problem_rules.specs.Problem.{Problem, unit_names, material_at, unit_at}
 use Rattle.pns_rules.specs.Shape.{shape_of}
-use Rattle.pgraph.specs.Verdict.{Judges}
-use Rattle.pgraph.specs.declared.verdict.Axiom.{Axiom}
-use Rattle.pgraph.specs.declared.verdict.Axiom.TheVariants.{S1, S2, S3, S4, S5}
-use Rattle.pgraph.specs.declared.verdict.Verdict.{Verdict}
-use Rattle.pgraph.specs.declared.verdict.Verdict.TheVariants.{Meets, Breaks}
+use Rattle.pns_rules.specs.Verdict.{Judges}
+use Rattle.pns_rules.specs.declared.verdict.Axiom.{Axiom}
+use Rattle.pns_rules.specs.declared.verdict.Axiom.TheVariants.{S1, S2, S3, S4, S5}
+use Rattle.pns_rules.specs.declared.verdict.Verdict.{Verdict}
+use Rattle.pns_rules.specs.declared.verdict.Verdict.TheVariants.{Meets, Breaks}
 use Rattle.endings.specs.declared.status.Status.{Status}
 use Rattle.endings.specs.declared.status.Status.TheVariants.{Done, Refused}
 

@@ -6,7 +6,7 @@ use Rattle.problem_rules.specs.Problem.{Problem, unit_names}
 use Rattle.pns_rules.specs.Shape.{Shape, shape_of}
 use Rattle.pns_rules.specs.Structure.{IsStructure}
 use Rattle.pns_rules.specs.Listing.{IsListing}
-use Rattle.structure_list.specs.Tokens.{token_of}
+use Rattle.pns_rules.specs.Tokens.{token_of}
 use Rattle.structure_list.specs.Rest.{Rest, IsToCome}
 use Rattle.endings.specs.Lines.{spaced_names, names_in}
 use Rattle.endings.specs.declared.status.Status.{Status}

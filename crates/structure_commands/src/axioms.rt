@@ -1,7 +1,7 @@
 //! The command `axioms`.
 ghost use Rattle.std.specs.Prelude.{◌≡◌, ◌<◌, ◌≤◌, ◌||◌, ℕ, None, IfOk, length, option_map, true};
 ghost use Rattle.number_sets.specs.Sets.{has};
-ghost use Rattle.pns_io.specs.Outside.{HasRisen};
+ghost use Rattle.text_rules.specs.Outside.{HasRisen};
 ghost use Rattle.problem_rules.specs.Problem.{material_at, unit_at};
 ghost use Rattle.endings.specs.Lines.{line};
 ghost use Rattle.command_files.specs.Reading.{OnFile};
@@ -12,9 +12,10 @@ ghost use Rattle.endings.specs.declared.status.Status.TheVariants.{Refused};
 use command_files::problem_of;
 use endings::Status;
 use endings::say::{say, say_memory};
-use pgraph::{Axiom, Graph, Verdict};
+use pgraph::Graph;
 use pns_io::{Shelf, Sink};
 use pns_problem::Problem;
+use pns_rules::{Axiom, Verdict};
 use std::alloc::{AllocError, Global};
 use studio_words::UnitNames;
 use unit_sets::UnitSet;

@@ -2,9 +2,9 @@
 ghost use Rattle.std.specs.Prelude.{◌≡◌, ◌≤◌, ◌<◌, ◌++◌, ◌∷◌, ◌↔◌, [], ℕ, List, Some, IfOk, IfSome, IfNone, OnOk, OnErr, length, codes};
 ghost use Rattle.number_sets.specs.Sets.{has, IsSet};
 ghost use Rattle.std.specs.Io.KnownBytes.{Appends};
-ghost use Rattle.pns_io.specs.Outside.{HasRisen, AppendsFront};
+ghost use Rattle.text_rules.specs.Outside.{HasRisen, AppendsFront};
 ghost use Rattle.pns_rules.specs.Shape.{shape_of};
-ghost use Rattle.structure_list.specs.Tokens.{digit, token_of};
+ghost use Rattle.pns_rules.specs.Tokens.{digit, token_of};
 ghost use Rattle.structure_list.specs.Rest.{IsToCome};
 ghost use Rattle.endings.specs.Lines.{line};
 ghost use Rattle.command_files.specs.Reading.{OnFile};

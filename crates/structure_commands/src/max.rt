@@ -1,7 +1,7 @@
 //! The command `max`.
 ghost use Rattle.std.specs.Prelude.{◌≡◌, ◌≤◌, ◌<◌, ◌++◌, ℕ, IfOk, length, true};
 ghost use Rattle.number_sets.specs.Sets.{has};
-ghost use Rattle.pns_io.specs.Outside.{HasRisen};
+ghost use Rattle.text_rules.specs.Outside.{HasRisen};
 ghost use Rattle.pns_rules.specs.Shape.{shape_of};
 ghost use Rattle.pns_rules.specs.Structure.{mats};
 ghost use Rattle.pgraph.specs.Tables.{shape};

@@ -2,7 +2,7 @@
 use Rattle.std.proofs.Common.{◌≡◌, ℕ, ◌<◌, true, ℤ, pos, ◌*ℤ◌, ◌≤ℤ◌, List, [], ◌∷◌, length, refl, sym, ap, ◌∙◌, subst}
 use Rattle.number_sets.specs.Sets.{has, IsSet}
 use Rattle.number_sets.proofs.SetLemmas.{below_from}
-use Rattle.int_rows.specs.Range.{InRange}
+use Rattle.integer_laws.specs.Range.{InRange}
 use Rattle.problem_rules.specs.Problem.{Problem}
 use Rattle.problem_rules.specs.Validity.{IsValid}
 use Rattle.pns_rules.specs.Shape.{shape_of}
@@ -14,7 +14,7 @@ use Rattle.flow_rules.specs.Program.{Program, program_of}
 use Rattle.flow_rules.specs.Relaxed.{bound, units, rows}
 use Rattle.flow_rules.specs.Steps.{AreInRange, last_from}
 use Rattle.dual_simplex.specs.Bench.{Bench, IsLeastOf}
-use Rattle.structure_flows.specs.Flows.{decided, rows_of}
+use Rattle.tree_rules.specs.LeastFlows.{decided, rows_of}
 use Rattle.structure_flows.specs.Laws.{ProvedIsLeast}
 use Rattle.structure_flows.specs.Answers.{IsLeastFor}
 

@@ -5,7 +5,7 @@ use Rattle.integer_laws.proofs.Ring.{V, ◌⊗◌, ring}
 use Rattle.integer_laws.proofs.Order.{mul-le_left, cancel_le}
 use Rattle.number_sets.specs.Sets.{has, IsSet}
 use Rattle.number_sets.proofs.SetLemmas.{same_sets}
-use Rattle.int_rows.specs.Range.{InRange}
+use Rattle.integer_laws.specs.Range.{InRange}
 use Rattle.problem_rules.specs.Problem.{Problem}
 use Rattle.problem_rules.specs.Validity.{IsValid}
 use Rattle.mixed_numbers.specs.Number.{numerator, denominator}
@@ -18,7 +18,7 @@ use Rattle.flow_rules.specs.Laws.{WeakDuality}
 use Rattle.tree_rules.specs.Claim.{Network, size_in}
 use Rattle.tree_rules.specs.Leaf.{IsBounded}
 use Rattle.certified_bounds.specs.Certified.{cost_over, IsNetworkAt}
-use Rattle.structure_flows.specs.Flows.{decided, rows_of, ProveCost}
+use Rattle.tree_rules.specs.LeastFlows.{decided, rows_of, ProveCost}
 use Rattle.structure_flows.specs.Laws.{ProvedIsLeast}
 use Rattle.structure_flows.specs.Answers.{IsLeastFor}
 use Rattle.structure_flows.proofs.NodeLemmas.{is_between}

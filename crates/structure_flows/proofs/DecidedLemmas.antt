@@ -8,7 +8,7 @@ use Rattle.pns_rules.specs.Structure.{is_made, is_used, mats, IsStructure, IsAll
 use Rattle.pns_rules.specs.Nodes.{Step, raw, rival, starve, loose, sole, IsPossible, is_free}
 use Rattle.pns_rules.specs.Ends.{IsSound, IsDead, IsDecided}
 use Rattle.pns_rules.proofs.StructureLemmas.{raw_unmade, a_maker}
-use Rattle.structure_flows.specs.Flows.{decided}
+use Rattle.tree_rules.specs.LeastFlows.{decided}
 use Rattle.structure_flows.proofs.NodeLemmas.{outside_is, is_between}
 
 neither : (b : Bool) → (not b && not (not b)) ≡ false

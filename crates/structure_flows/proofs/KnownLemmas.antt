@@ -3,20 +3,20 @@ use Rattle.std.proofs.Common.{◌≡◌, ℕ, ◌+◌, ◌-◌, ◌<◌, ◌≤�
 use Rattle.std.specs.Prelude.{nat_lt, nat_eq}
 use Rattle.std.proofs.lemmas.Bool.Decides.{nat_tests}
 use Rattle.number_sets.proofs.SetLemmas.{has_below, AreBelow-listed}
-use Rattle.int_rows.specs.declared.combination.Which.{Which}
+use Rattle.integer_laws.specs.declared.which.Which.{Which}
 use Rattle.problem_rules.specs.Each.{Each}
 use Rattle.problem_rules.specs.Problem.{Problem}
 use Rattle.pns_rules.specs.Nodes.{Node}
 use Rattle.flow_rules.specs.Net.{net_of}
 use Rattle.flow_rules.specs.Program.{Program, program_of}
-use Rattle.flow_program.specs.declared.place.Column.TheVariants.{X, S, T, W, Right, Scale}
+use Rattle.flow_rules.specs.declared.place.Column.TheVariants.{X, S, T, W, Right, Scale}
 use Rattle.path_rules.specs.LinearProgram.{linear_of}
 use Rattle.path_rules.specs.Columns.{Basis, scale_at}
 use Rattle.path_rules.specs.Places as path
 use Rattle.path_rules.specs.ReadFlows.{FlowStep}
 use Rattle.path_laws.proofs.PlaceLemmas.{has_at}
-use Rattle.branch_tree.specs.Known.{IsUnit, IsMaterial, KnowsColumn, KnowsRow, KnowsPlace}
-use Rattle.dual_simplex.specs.Named.{unit_named, row_named, named_at, column_named, nonbasic_named, place_named}
+use Rattle.tree_rules.specs.Known.{IsUnit, IsMaterial, KnowsColumn, KnowsRow, KnowsPlace}
+use Rattle.path_rules.specs.Named.{unit_named, row_named, named_at, column_named, nonbasic_named, place_named}
 
 -- the units and the rows of the program are units and materials of the problem
 record Knows (p : Problem) (q : Program) : Type 0 where

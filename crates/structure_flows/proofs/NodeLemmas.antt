@@ -9,7 +9,7 @@ use Rattle.pns_rules.specs.Shape.{shape_of}
 use Rattle.pns_rules.specs.Structure.{IsStructure, IsBetween}
 use Rattle.flow_rules.specs.Net.{net_of}
 use Rattle.flow_rules.specs.Relaxed.{units, stays}
-use Rattle.structure_flows.specs.Flows.{decided}
+use Rattle.tree_rules.specs.LeastFlows.{decided}
 
 below_is : (i n : ℕ) (b : Bool) → i < n → (nat_lt i n && b) ≡ b
 below_is i n b h = let e : nat_lt i n ≡ true = grind (arith, nat_tests) in rw e refl

@@ -1,15 +1,15 @@
 -- What the call answers for a set of units, and what it promises of each answer.
 use Rattle.std.specs.Prelude.{◌≡◌, ℕ, ℤ, List}
-use Rattle.int_rows.specs.Range.{InRange}
+use Rattle.integer_laws.specs.Range.{InRange}
 use Rattle.problem_rules.specs.Each.{Each}
 use Rattle.problem_rules.specs.Problem.{Problem}
 use Rattle.flow_rules.specs.Net.{net_of}
 use Rattle.tree_rules.specs.Claim.{Network}
-use Rattle.flow_program.specs.declared.place.Column.{Column}
-use Rattle.flow_program.specs.declared.place.Place.{Place}
-use Rattle.branch_tree.specs.Known.{KnowsColumn, KnowsPlace}
-use Rattle.dual_simplex.specs.PastPlace.{IsPastNamed}
-use Rattle.structure_flows.specs.Flows.{decided, IsLeastFlows, HasNoFlows}
+use Rattle.flow_rules.specs.declared.place.Column.{Column}
+use Rattle.flow_rules.specs.declared.place.Place.{Place}
+use Rattle.tree_rules.specs.Known.{KnowsColumn, KnowsPlace}
+use Rattle.path_rules.specs.PastPlace.{IsPastNamed}
+use Rattle.tree_rules.specs.LeastFlows.{decided, IsLeastFlows, HasNoFlows}
 use Rattle.structure_flows.specs.declared.answer.StructureFlows.{StructureFlows}
 use Rattle.structure_flows.specs.declared.answer.StructureFlows.TheVariants.{Least, Refuted, Past}
 

@@ -10,7 +10,7 @@ use Rattle.pns_rules.specs.Ends.{IsSound, IsDecided}
 use Rattle.flow_rules.specs.Net.{net_of, beside}
 use Rattle.flow_rules.specs.Relaxed.{units, Refutes}
 use Rattle.tree_rules.specs.Claim.{Network}
-use Rattle.structure_flows.specs.Flows.{decided, rows_of, HasFlows, ProveCost, IsLeastFlows, HasNoFlows}
+use Rattle.tree_rules.specs.LeastFlows.{decided, rows_of, HasFlows, ProveCost, IsLeastFlows, HasNoFlows}
 
 -- flows whose cost is the bound of multipliers are least
 abbrev pub ProvedIsLeast : Type 0

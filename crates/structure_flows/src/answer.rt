@@ -1,6 +1,6 @@
 // What there is to say of the flows of a solution structure.
 use branch_tree::{Columns, Multipliers, Network, Scaled};
-use flow_program::Place;
+use flow_rules::Place;
 
 /// What there is to say of the flows of a solution structure.
 #[derive(Drop)]

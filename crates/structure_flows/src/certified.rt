@@ -6,7 +6,7 @@ ghost use Rattle.pns_rules.specs.Structure.{IsStructure};
 ghost use Rattle.pgraph.specs.Tables.{shape};
 ghost use Rattle.tree_rules.specs.Leaf.{IsRefuted};
 ghost use Rattle.certified_bounds.specs.Certified.{IsLeastBound, IsNetworkAt, HasUnits, IsCertified};
-ghost use Rattle.structure_flows.specs.Flows.{decided};
+ghost use Rattle.tree_rules.specs.LeastFlows.{decided};
 ghost use Rattle.structure_flows.specs.Answers.{AnswersFor};
 
 use crate::answer::StructureFlows;

@@ -1,16 +1,16 @@
 // The least flows of a set of units.
 ghost use Rattle.std.specs.Prelude.{◌≡◌, ◌<◌, ℕ, length, true, IfOk};
 ghost use Rattle.number_sets.specs.Sets.{has};
-ghost use Rattle.int_rows.specs.Range.{InRange, AllInRange};
+ghost use Rattle.integer_laws.specs.Range.{InRange, AllInRange};
 ghost use Rattle.pns_rules.specs.Shape.{shape_of};
 ghost use Rattle.pns_rules.specs.Structure.{IsStructure};
 ghost use Rattle.pgraph.specs.Tables.{shape};
 ghost use Rattle.flow_rules.specs.Net.{net_of};
 ghost use Rattle.flow_rules.specs.Program.{program_of};
-ghost use Rattle.branch_tree.specs.Known.{KnowsPlace};
+ghost use Rattle.tree_rules.specs.Known.{KnowsPlace};
 ghost use Rattle.dual_simplex.specs.Bench.{IsLeastOf, IsNoneOf};
 ghost use Rattle.dual_simplex.specs.PastLaws.{IsPastHere};
-ghost use Rattle.structure_flows.specs.Flows.{decided};
+ghost use Rattle.tree_rules.specs.LeastFlows.{decided};
 ghost use Rattle.structure_flows.specs.Answers.{AnswersFor};
 
 use crate::answer::StructureFlows;
@@ -22,8 +22,8 @@ use dual_simplex::{
     Bench, Ends, cost_is_past, entry_is_past, flow_is_past, least_is_least, none_is_refuted,
     split_flows_are_least,
 };
-use flow_program::{Place, Program, cost_of};
-use flow_rules::sums_are_last;
+use flow_program::{Program, cost_of};
+use flow_rules::{Place, sums_are_last};
 use pgraph::Graph;
 use pns_problem::Problem;
 use std::alloc::{AllocError, Global};

@@ -1,7 +1,7 @@
 // The node of a set of units.
 ghost use Rattle.std.specs.Prelude.{◌≡◌, ◌<◌, length};
 ghost use Rattle.pgraph.specs.View.{node_of};
-ghost use Rattle.structure_flows.specs.Flows.{decided};
+ghost use Rattle.tree_rules.specs.LeastFlows.{decided};
 
 use pns_problem::Problem;
 use unit_sets::{Node, UnitSet};

@@ -11,7 +11,7 @@ use Rattle.pns_rules.proofs.StructureLemmas.{is_made-from, is_made-some, is_used
 use Rattle.pns_rules.proofs.TraceLemmas.{least_some}
 use Rattle.pns_rules.proofs.PathLemmas.{found_in, found_leads, path_found}
 use Rattle.pns_rules.proofs.OrderLemmas.{same_set}
-use Rattle.pgraph.specs.Breaks.{BreaksS1}
+use Rattle.pns_rules.specs.Breaks.{BreaksS1}
 use Rattle.unit_sets.specs.declared.node.Node.{Node}
 use Rattle.max_structure.specs.Rest.{HasAll, IsKept, IsRest, HasNoRest}
 use Rattle.max_structure.proofs.BalanceLemmas.{broken_if_unmade, makes_what_it_uses}

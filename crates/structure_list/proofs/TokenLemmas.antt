@@ -4,7 +4,7 @@ use Rattle.std.proofs.Math.Seq.{take-append_seam, get_or-append_seam}
 use Rattle.number_sets.specs.Sets.{has, mask_of, IsSet}
 use Rattle.number_sets.proofs.MaskOrder.{weight, mask-weight}
 use Rattle.number_sets.proofs.OptionLists.{same-mask}
-use Rattle.structure_list.specs.Tokens.{digit, digits, token_of, IsDigit, AreDigits, IsToken}
+use Rattle.pns_rules.specs.Tokens.{digit, digits, token_of, IsDigit, AreDigits, IsToken}
 use Rattle.structure_list.proofs.DigitLemmas.{length_digits}
 
 -- ---- one set for a token

@@ -3,4 +3,3 @@ pub mod Rest
 pub mod Stack
 pub mod Start
 pub mod Tight
-pub mod Tokens

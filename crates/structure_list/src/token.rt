@@ -1,6 +1,6 @@
 //! Tokens of sets of units.
 ghost use Rattle.std.specs.Prelude.{◌≡◌, ◌<◌, ◌≤◌, ℕ, List, [], ◌∷◌, ◌↔◌, IfOk, IfErr, IfSome, IfNone, IsOk, string_bytes};
-ghost use Rattle.structure_list.specs.Tokens.{digit, token_of, IsDigit, IsToken};
+ghost use Rattle.pns_rules.specs.Tokens.{digit, token_of, IsDigit, IsToken};
 
 use std::alloc::{AllocError, Global};
 use unit_sets::UnitSet;

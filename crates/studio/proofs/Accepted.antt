@@ -1,12 +1,12 @@
 -- What `solve` prints with status 0 is accepted by `check`.
 use Rattle.std.proofs.Common.{◌≡◌, ◌≤◌, ℕ, false, List, Some, Result, Ok, Err, length, refl, sym, ◌∙◌, subst, arith, inl, inr}
-use Rattle.pns_io.specs.Outside.{Told}
+use Rattle.text_rules.specs.Outside.{Told}
 use Rattle.problem_rules.specs.Problem.{Problem}
 use Rattle.text_rules.specs.Fault.{Fault}
 use Rattle.tree_rules.specs.Claim.{Claim}
 use Rattle.tree_rules.specs.Accepted.{Tree, first_node, IsAccepted}
 use Rattle.tree_laws.specs.Laws.{PassingClaimHasNoFault, PassingTreeHasNoFault}
-use Rattle.branch_tree.specs.Tail.{Tail, whole, spent, past}
+use Rattle.tree_rules.specs.Tail.{Tail, whole, spent, past}
 use Rattle.tree_text_rules.specs.Read as trees
 use Rattle.searches.specs.Solve.{Holds, status_of}
 use Rattle.endings.specs.Lines.{text_of}

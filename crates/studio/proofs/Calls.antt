@@ -4,13 +4,13 @@ use Rattle.std.proofs.lemmas.List.{append_cancel_left, append_cancel_right, leng
 use Rattle.std.proofs.lemmas.Grind.{flat_map-append}
 use Rattle.std.proofs.Math.Seq.{take-append_seam}
 use Rattle.std.specs.Io.KnownBytes.{Appends}
-use Rattle.pns_io.specs.Outside.{HasRisen, Told}
+use Rattle.text_rules.specs.Outside.{HasRisen, Told}
 use Rattle.problem_rules.specs.Problem.{Problem}
 use Rattle.problem_rules.specs.WellFormed.{IsWellFormed, ValidIsWellFormed}
 use Rattle.pns_rules.specs.Shape.{shape_of}
 use Rattle.pns_rules.specs.Listing.{IsListing}
 use Rattle.pns_rules.proofs.ListingLemmas.{listing_is_one}
-use Rattle.structure_list.specs.Tokens.{digit, IsDigit, AreDigits, token_of}
+use Rattle.pns_rules.specs.Tokens.{digit, IsDigit, AreDigits, token_of}
 use Rattle.structure_list.proofs.TokenLemmas.{token_one, token_has_form}
 use Rattle.structure_commands.specs.Listing.{IsAfter, structure_line, more_line, last_of, last_line, listing_lines, ListingWork}
 use Rattle.structure_commands.specs.ListingLaws.{PartsJoin}

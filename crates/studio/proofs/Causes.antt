@@ -14,7 +14,7 @@ use Rattle.script_rules.specs.Fault as scripts
 use Rattle.plan_rules.specs.declared.PlanKind.{PlanKind}
 use Rattle.plan_rules.specs.Plan.{Plan}
 use Rattle.plan_rules.specs.Read as plans
-use Rattle.pns_io.specs.Outside.{Told}
+use Rattle.text_rules.specs.Outside.{Told}
 use Rattle.tree_rules.specs.Claim.{Claim, Network}
 use Rattle.tree_rules.specs.Accepted.{Tree}
 use Rattle.tree_text_rules.specs.Read as trees
@@ -24,7 +24,7 @@ use Rattle.part_text.specs.Laws.{PartsAreReadOnce}
 use Rattle.ranked_tree.specs.Text.{Text}
 use Rattle.stability_rules.specs.declared.spot.Spot.{Spot}
 use Rattle.stability_rules.specs.declared.spot.SpotKind.{SpotKind}
-use Rattle.generator.specs.Generated.{generated}
+use Rattle.problem_rules.specs.Generated.{generated}
 use Rattle.endings.specs.Ending.{Shelves, Ends, IsOneOf}
 use Rattle.endings.specs.declared.status.Status.{Status}
 use Rattle.endings.specs.declared.status.Status.TheVariants.{Done, Refused, Past, Spent, ReadFault, WriteFault, Memory, BadProblem, BadToken, BadTree, BadEdit, TooLong, UnknownName, NotMigrated, BadNode, BadPlan}

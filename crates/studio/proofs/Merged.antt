@@ -1,6 +1,6 @@
 -- What `merge` put out, where `split` finds no open leaf in it, is accepted.
 use Rattle.std.proofs.Common.{◌≡◌, ◌⊎◌, ◌≤◌, ◌+◌, ◌++◌, ◌∷◌, ◌||◌, ◌*ℤ◌, int_lt, [], Bool, true, false, ℕ, zero, suc, List, Option, Some, None, Result, Ok, Err, codes, length, get_or, refl, sym, ap, subst, ◌∙◌, arith, inl, inr, if◌then◌else◌}
-use Rattle.pns_io.specs.Outside.{Told}
+use Rattle.text_rules.specs.Outside.{Told}
 use Rattle.problem_rules.specs.Each.{Each}
 use Rattle.problem_rules.specs.Problem.{Problem}
 use Rattle.problem_rules.specs.Validity.{IsValid}
@@ -12,8 +12,8 @@ use Rattle.tree_rules.specs.Leaf.{Leaf, dead, clash, refuted, bounded, untried, 
 use Rattle.tree_rules.specs.Claim.{Claim, Network, network, infeasible, unknown, claimed_cost}
 use Rattle.tree_rules.specs.Accepted.{Tree, first_node, IsPartial, IsAccepted}
 use Rattle.tree_laws.specs.Laws.{PartialIsAccepted, PassingClaimHasNoFault, PassingTreeHasNoFault}
-use Rattle.branch_tree.specs.Known.{KnowsStep, KnowsNode, KnowsTree, AreUnits}
-use Rattle.branch_tree.specs.Tail.{Tail, whole}
+use Rattle.tree_rules.specs.Known.{KnowsStep, KnowsNode, KnowsTree, AreUnits}
+use Rattle.tree_rules.specs.Tail.{Tail, whole}
 use Rattle.part_rules.specs.Graft.{graft_at, grafted, claim_of_both, cheaper, has_open, is_open}
 use Rattle.part_rules.specs.OpenLeaves.{OpenAt, IsAmong, open_here, open_leaves}
 use Rattle.part_laws.specs.Laws.{OpenLeavesStand, GraftIsTree}

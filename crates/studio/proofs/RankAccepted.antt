@@ -3,7 +3,7 @@ use Rattle.std.proofs.Common.{◌≡◌, ◌≤◌, ℕ, false, List, Result, Ok
 use Rattle.problem_rules.specs.Problem.{Problem}
 use Rattle.rank_rules.specs.Ranked.{IsRanked}
 use Rattle.rank_laws.specs.Laws.{PassingNetworksHaveNoFault, PassingTreeHasNoFault}
-use Rattle.branch_tree.specs.Tail.{Tail, whole, spent, past}
+use Rattle.tree_rules.specs.Tail.{Tail, whole, spent, past}
 use Rattle.tree_text_rules.specs.Read.{Fault}
 use Rattle.ranked_tree.specs.Text.{Text, ranking_of}
 use Rattle.rank_text.specs.Read.{read_text}

@@ -3,9 +3,9 @@ use Rattle.std.specs.List.{Contains}
 use Rattle.std.proofs.Common.{Bool, sym, ◌∙◌, ◌≡◌, ◌⊎◌, ◌<◌, ◌≤◌, ◌∷◌, [], Some, None, IsSomeAnd, refl, inl, inr, List, ℕ, Option, subst, ap, arith, length}
 use Rattle.problem_rules.specs.Problem.{Problem}
 use Rattle.edit_rules.specs.Edit.{Edit}
-use Rattle.pgraph.specs.declared.verdict.Verdict.{Verdict}
-use Rattle.pgraph.specs.declared.verdict.Verdict.TheVariants.{Meets, Breaks}
-use Rattle.pns_io.specs.Outside.{HasRisen, Told, IsToldAnd}
+use Rattle.pns_rules.specs.declared.verdict.Verdict.{Verdict}
+use Rattle.pns_rules.specs.declared.verdict.Verdict.TheVariants.{Meets, Breaks}
+use Rattle.text_rules.specs.Outside.{HasRisen, Told, IsToldAnd}
 use Rattle.studio_words.specs.Command.{Command, Max, Axioms, Flows, Listing, Make, Migrate, Editing, Undoing, Checking, RankChecking, Solving, Ranking, Trial, Telling, command_of, IsFileOf, IsFileWord, Table, Splitting, Expanding, Drawing, DrawingNetwork, Reporting, Ranging, Planning, Parting, PartingAgainst, Merging}
 use Rattle.command_files.specs.Reading.{AreHeld, FileFault, file_limit}
 use Rattle.structure_commands.specs.Max.{MaxWork}
@@ -35,7 +35,7 @@ use Rattle.part_commands.specs.PartFile.{PartFault, FirstFault, are_several}
 use Rattle.part_commands.specs.Merge.{MergeWork, MergeSays, FaultSays}
 use Rattle.tree_parts.specs.declared.merging.MergeFault.{MergeFault}
 use Rattle.tree_parts.specs.declared.merging.MergeFault.TheVariants as merging
-use Rattle.cert_check.specs.declared.refusal.Refusal.TheVariants as refusals
+use Rattle.tree_rules.specs.declared.refusal.Refusal.TheVariants as refusals
 use Rattle.part_searches.specs.Found.{FoundSays}
 use Rattle.part_searches.specs.Start.{OnStart}
 use Rattle.part_searches.specs.Part.{PartSays, PartWork, ClaimSays, AgainstWork}
@@ -45,8 +45,8 @@ use Rattle.stability_rules.specs.declared.spot.Spot.{Spot}
 use Rattle.stability_rules.specs.declared.spot.SpotKind.{SpotKind}
 use Rattle.stability_commands.specs.Stable.{spot_named, SpotWork, NamedWork, StableWork}
 use Rattle.flow_commands.specs.Best.{FilesClaimBest, AcceptedIsBest}
-use Rattle.branch_tree.specs.Tail.{Tail, whole, spent, past}
-use Rattle.generator.specs.Generated.{generated}
+use Rattle.tree_rules.specs.Tail.{Tail, whole, spent, past}
+use Rattle.problem_rules.specs.Generated.{generated}
 use Rattle.searches.specs.Solve.{SolveWork, Holds, status_of, CanFinish}
 use Rattle.searches.specs.Summary.{SummaryWork}
 use Rattle.structure_commands.specs.Axioms.{NamesSay, VerdictSays, first_stranger}

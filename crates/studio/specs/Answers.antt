@@ -1,9 +1,9 @@
 -- What each command says, from its words and what the shelf holds.
 use Rattle.std.specs.List.{Contains}
 use Rattle.std.specs.Prelude.{◌≡◌, ◌≤◌, ◌⊎◌, ℕ, List, [], ◌∷◌, Option, Some, None, length, codes}
-use Rattle.pns_io.specs.Outside.{HasRisen, Told, IsToldAnd}
+use Rattle.text_rules.specs.Outside.{HasRisen, Told, IsToldAnd}
 use Rattle.studio_words.specs.Command.{Command, Max, Axioms, Flows, Listing, Make, Migrate, Editing, Undoing, Checking, RankChecking, Solving, Ranking, Trial, Telling, command_of, IsFileOf, IsFileWord, Table, Splitting, Expanding, Drawing, DrawingNetwork, Reporting, Ranging, Planning, Parting, PartingAgainst, Merging}
-use Rattle.generator.specs.Generated.{generated}
+use Rattle.problem_rules.specs.Generated.{generated}
 use Rattle.problem_rules.specs.Problem.{Problem}
 use Rattle.command_files.specs.Reading.{AreHeld, GivesProblem, OnFile, file_limit}
 use Rattle.structure_commands.specs.Max.{MaxWork}

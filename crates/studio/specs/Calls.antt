@@ -1,7 +1,7 @@
 -- Laws over calls of `studio` one after another, on shelves that keep the files: what one call put out another accepts, or goes on from.
 use Rattle.std.specs.Prelude.{◌≡◌, ◌⊎◌, ◌≤◌, ◌<◌, ◌+◌, ◌++◌, ℕ, List, [], ◌∷◌, Option, Some, length, codes}
 use Rattle.std.specs.Io.KnownBytes.{Appends}
-use Rattle.pns_io.specs.Outside.{HasRisen}
+use Rattle.text_rules.specs.Outside.{HasRisen}
 use Rattle.command_files.specs.TreeFile.{tree_limit}
 use Rattle.studio_words.specs.Command.{Command, Listing, Checking, RankChecking, Solving, Ranking, Splitting, Merging, command_of}
 use Rattle.endings.specs.Lines.{line, text_of}

@@ -1,7 +1,7 @@
 -- Why a call ends with a status that tells of its words and its files: the cause of each, in what the words are and what the bytes of the
 -- files stand for. No line that is printed is named here.
 use Rattle.std.specs.Prelude.{◌≡◌, ◌<◌, ◌≤◌, ◌⊎◌, ℕ, true, List, [], ◌∷◌, Some, None, IsSome, Err, length, pos}
-use Rattle.pns_io.specs.Outside.{Told}
+use Rattle.text_rules.specs.Outside.{Told}
 use Rattle.problem_rules.specs.Problem.{Problem}
 use Rattle.pns_rules.specs.Shape.{shape_of}
 use Rattle.text_rules.specs.declared.TextKind.{TextKind}

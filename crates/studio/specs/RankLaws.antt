@@ -1,6 +1,6 @@
 -- A law over what `rank` and `rankcheck` print.
 use Rattle.std.specs.Prelude.{◌≡◌, ℕ, List, Some}
-use Rattle.pns_io.specs.Outside.{Told}
+use Rattle.text_rules.specs.Outside.{Told}
 use Rattle.endings.specs.Lines.{text_of}
 use Rattle.endings.specs.declared.status.Status.{Status}
 use Rattle.endings.specs.declared.status.Status.TheVariants.{Done}

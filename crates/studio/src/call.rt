@@ -1,6 +1,6 @@
 //! The call: it judges the words and does their command.
 ghost use Rattle.std.specs.Prelude.{◌≡◌, ◌∷◌, [], List, ℕ, Some, None, map, string_bytes};
-ghost use Rattle.pns_io.specs.Outside.{HasRisen};
+ghost use Rattle.text_rules.specs.Outside.{HasRisen};
 ghost use Rattle.studio_words.specs.Command as rules;
 ghost use Rattle.studio_words.specs.Command.{command_of, AreWithin, IsFileWord};
 ghost use Rattle.endings.specs.Ending.{Ends, IsOneOf};

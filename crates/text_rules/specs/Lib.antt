@@ -4,5 +4,6 @@ pub mod Canonical
 pub mod Fault
 pub mod Field
 pub mod Line
+pub mod Outside
 pub mod Printed
 pub mod Value

@@ -4,7 +4,7 @@
 //! `specs/` states the format, from the bytes up: `Blanks`, `Amount` (numbers), `Line` (lines and sections), `Field` (names,
 //! items, sides of a line), `Fault` (faults of form), `Value` (the problem, and faults of meaning), `Printed` and `Canonical`
 //! (what is written). `read_text` of `Value` is the whole: a problem, or the first fault with its line. `proofs/` reads
-//! small texts by computation, one at least for each kind of fault.
+//! small texts by computation, one at least for each kind of fault. `Outside` says what is known of files and of an output.
 //!
 //! A fault of form is looked for first in the whole text, a fault of meaning (`LowAboveHigh`, `UnknownMaterial`, `NoRates`,
 //! `NoProduct`, `UnknownUnit`) only where there is none of form. Of each group the least line is told, and of the faults at

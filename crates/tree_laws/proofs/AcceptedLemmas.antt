@@ -11,7 +11,8 @@ use Rattle.tree_rules.specs.Tree.{End, branch, leaf, TreeNode, after_all, Stands
 use Rattle.tree_rules.specs.Claim.{Claim, claimed_cost}
 use Rattle.tree_rules.specs.Leaf.{Leaf, untried, LeafPasses}
 use Rattle.tree_rules.specs.Accepted.{Tree, first_node, Proves}
-use Rattle.tree_laws.specs.Laws.{CostsEnough, AcceptedIsLeast, AcceptedIsOptimal, IsAtLeaf, LeavesCover, PartialIsLeast, LeavesAreApart, LeavesAreDifferent, free_units, LeanIsSmall, AcceptedIsPartial, PartialIsAccepted}
+use Rattle.tree_rules.specs.Costs.{CostsEnough}
+use Rattle.tree_laws.specs.Laws.{AcceptedIsLeast, AcceptedIsOptimal, IsAtLeaf, LeavesCover, PartialIsLeast, LeavesAreApart, LeavesAreDifferent, free_units, LeanIsSmall, AcceptedIsPartial, PartialIsAccepted}
 use Rattle.tree_laws.proofs.CoverLemmas.{IsOf, IsUnder, covers}
 use Rattle.tree_laws.proofs.UpLemmas.{structure_goes_up, IsOver, over_goes_up}
 use Rattle.tree_laws.proofs.SidesLemmas.{stands_apart}

@@ -16,7 +16,7 @@ use Rattle.flow_rules.specs.Relaxed.{bound}
 use Rattle.flow_rules.proofs.DualityLemmas.{weak_duality_holds, refutation_holds}
 use Rattle.tree_rules.specs.Claim.{network, Claim, infeasible, unknown, CostOver, claimed_cost, ClaimPasses}
 use Rattle.tree_rules.specs.Leaf.{Leaf, dead, clash, refuted, bounded, untried, multiplier, IsBounded, LeafPasses}
-use Rattle.tree_laws.specs.Laws.{CostsEnough}
+use Rattle.tree_rules.specs.Costs.{CostsEnough}
 
 -- n / e is at most b / d, and b / d at most c / z
 chain : (n e d b z c : ℤ) → pos 1 ≤ℤ d → pos 1 ≤ℤ z → pos 0 ≤ℤ e → (n *ℤ d) ≤ℤ (b *ℤ e) → (z *ℤ b) ≤ℤ (d *ℤ c) → (n *ℤ z) ≤ℤ (c *ℤ e)

@@ -1,5 +1,5 @@
 -- Laws of branch trees, each of which a public function of this crate has as its contract. Each speaks of every valid problem.
-use Rattle.std.specs.Prelude.{◌≡◌, ◌⊎◌, ℕ, suc, ◌<◌, ◌≤◌, ◌^◌, ℤ, Bool, ◌||◌, ◌==◌, List, [], ◌∷◌, length, Option}
+use Rattle.std.specs.Prelude.{◌≡◌, ◌⊎◌, ℕ, suc, ◌<◌, ◌≤◌, ◌^◌, Bool, ◌||◌, ◌==◌, List, [], ◌∷◌, length, Option}
 use Rattle.number_sets.specs.Sets.{listed, Avoids}
 use Rattle.number_sets.specs.Options.{IsIn}
 use Rattle.problem_rules.specs.Problem.{Problem}
@@ -7,20 +7,15 @@ use Rattle.problem_rules.specs.Validity.{IsValid}
 use Rattle.pns_rules.specs.Shape.{Shape, IsProper, shape_of}
 use Rattle.pns_rules.specs.Structure.{IsStructure, IsAllowed, InFamily}
 use Rattle.pns_rules.specs.Nodes.{Node, is_free}
-use Rattle.flow_rules.specs.Net.{net_of}
-use Rattle.flow_rules.specs.Flows.{IsFlows, cost}
 use Rattle.tree_rules.specs.declared.why.Why.{Why}
 use Rattle.tree_rules.specs.Ways.{Way, either, MayBranch, options_at, child_at, children_at, IsDecision}
 use Rattle.tree_rules.specs.Tree.{End, leaf, Stands}
-use Rattle.tree_rules.specs.Claim.{Network, network, Claim, unknown, CostOver, claimed_cost, IsAtLeast, IsFeasible, ClaimPasses, ClaimFails}
+use Rattle.tree_rules.specs.Claim.{Network, network, Claim, unknown, CostOver, claimed_cost, IsFeasible, ClaimPasses, ClaimFails}
 use Rattle.tree_rules.specs.Fault.{AreLeafRules}
 use Rattle.tree_rules.specs.Leaf.{Leaf, untried, IsUntried, LeafPasses, LeafFails}
 use Rattle.tree_rules.specs.Lean.{IsLean}
 use Rattle.tree_rules.specs.Accepted.{Tree, first_node, Proves, IsAccepted, IsPartial, NodeIsFault}
-
--- any flows for the units of s cost at least what is claimed; where no cost is claimed there are none
-abbrev pub CostsEnough : Problem → Option CostOver → (ℕ → Bool) → Type 0
-CostsEnough p claimed s = (z : ℕ → ℤ) (d : ℤ) → IsFlows (net_of p) s z d → IsAtLeast claimed (cost (net_of p) s z d) d
+use Rattle.tree_rules.specs.Costs.{CostsEnough}
 
 -- ---- ways to branch
 

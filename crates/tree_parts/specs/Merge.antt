@@ -9,8 +9,8 @@ use Rattle.tree_rules.specs.Claim as rules
 use Rattle.tree_rules.specs.Accepted as trees
 use Rattle.tree_rules.specs.Accepted.{first_node, IsPartial}
 use Rattle.part_rules.specs.Graft.{graft_at, claim_of_both}
-use Rattle.cert_check.specs.declared.refusal.Refusal.TheVariants as refusals
-use Rattle.cert_check.specs.Refusals.{Refuses}
+use Rattle.tree_rules.specs.declared.refusal.Refusal.TheVariants as refusals
+use Rattle.tree_rules.specs.Refusals.{Refuses}
 use Rattle.tree_parts.specs.declared.merging.MergeFault.{MergeFault}
 use Rattle.tree_parts.specs.declared.merging.MergeFault.TheVariants.{Tree, Part, NoLeaf, Memory}
 use Rattle.tree_parts.specs.Part as parts

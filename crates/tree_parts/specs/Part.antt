@@ -4,7 +4,7 @@ use Rattle.number_sets.specs.Sets.{has, Avoids}
 use Rattle.pns_rules.specs.Nodes.{Node}
 use Rattle.tree_rules.specs.Claim.{Claim}
 use Rattle.tree_rules.specs.Accepted.{Tree}
-use Rattle.branch_tree.specs.Tail.{Tail}
+use Rattle.tree_rules.specs.Tail.{Tail}
 
 -- the units that are taken in and those that are left out where the run began, what it claims, its tree, and where it stopped
 pub record Part : Type 0 where

@@ -19,12 +19,13 @@ use crate::copies::{copied_network, grafted, push_copies};
 use crate::open::{check_part, open_leaves};
 use crate::part::Part;
 use branch_tree::{Claim, End, Network, Tree, TreeNode};
-use cert_check::{OpenLeaf, Refusal};
+use cert_check::OpenLeaf;
 use cert_parts::{CostOver, is_reached};
 use part_laws::{grafts_are_partial, open_leaves_stand};
 use pgraph::Graph;
 use pns_problem::Problem;
 use std::alloc::{AllocError, Global};
+use tree_rules::Refusal;
 use unit_sets::Node;
 
 /// Why a part is not put back.

@@ -7,18 +7,20 @@ ghost use Rattle.tree_rules.specs.Accepted.{first_node, IsPartial, NodeIsFault};
 ghost use Rattle.pgraph.specs.Tables.{shape};
 ghost use Rattle.branch_tree.specs.View.{claim_of};
 ghost use Rattle.cert_parts.specs.Known.{KnowsInside};
-ghost use Rattle.cert_check.specs.declared.refusal.Refusal.TheVariants as refusals;
+ghost use Rattle.tree_rules.specs.declared.refusal.Refusal.TheVariants as refusals;
 ghost use Rattle.part_rules.specs.OpenLeaves.{open_leaves};
 ghost use Rattle.cert_check.specs.OpenLeaves.{leaves_at};
-ghost use Rattle.cert_check.specs.Refusals.{Refuses, IsOkOrMemory, IsRefusalOrMemory};
+ghost use Rattle.tree_rules.specs.Refusals.{Refuses};
+ghost use Rattle.cert_check.specs.Refusals.{IsOkOrMemory, IsRefusalOrMemory};
 ghost use Rattle.tree_parts.specs.Part.{start_of};
 
 use crate::part::Part;
 use branch_tree::{Claim, Tree};
-use cert_check::{OpenLeaf, Refusal, check_from};
+use cert_check::{OpenLeaf, check_from};
 use pgraph::Graph;
 use pns_problem::Problem;
 use std::alloc::Global;
+use tree_rules::Refusal;
 use unit_sets::{Node, UnitSet};
 
 /// The open leaves of the tree in preorder, each with the node that its steps leave. `Ok` comes exactly where the tree proves its

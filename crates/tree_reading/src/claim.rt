@@ -1,7 +1,7 @@
 //! Claims.
 ghost use Rattle.std.specs.Prelude.{◌≡◌, ◌<◌, ◌-◌, ◌^◌, Ok, IfOk, IfErr, length};
 ghost use Rattle.branch_tree.specs.View.{claim_of};
-ghost use Rattle.branch_tree.specs.Known.{AreUnits, KnowsClaim};
+ghost use Rattle.tree_rules.specs.Known.{AreUnits, KnowsClaim};
 ghost use Rattle.tree_text_rules.specs.Read.{sizes_taken, network_taken, claim_behind, claim_taken};
 ghost use Rattle.tree_tokens.specs.Apart.{KnowsOpening, opening_of};
 ghost use Rattle.tree_reading.specs.Place.{IsCut, IsReached, IsBehind, lines_at};

@@ -2,7 +2,7 @@
 ghost use Rattle.std.specs.Prelude.{◌≡◌, ◌<◌, ◌-◌, ◌^◌, ◌∷◌, ◌++◌, [], Ok, IfOk, IfErr, OnOk, length, map};
 ghost use Rattle.problem_rules.specs.Each.{Each};
 ghost use Rattle.pgraph.specs.View.{step_of};
-ghost use Rattle.branch_tree.specs.Known.{AreUnits, KnowsStep};
+ghost use Rattle.tree_rules.specs.Known.{AreUnits, KnowsStep};
 ghost use Rattle.tree_text_rules.specs.Read.{head_taken, steps_taken};
 ghost use Rattle.tree_reading.specs.Place.{IsCut, IsReached, IsBehind, lines_at};
 ghost use Rattle.tree_reading.specs.Taken.{taken};

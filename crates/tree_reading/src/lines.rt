@@ -1,8 +1,8 @@
 //! The line at a cut, by what may come there.
 ghost use Rattle.std.specs.Prelude.{◌≡◌, ◌<◌, ◌-◌, ◌≤ℤ◌, ◌^◌, [], Ok, IfOk, IfErr, length, pos};
 ghost use Rattle.problem_rules.specs.Each.{Each};
-ghost use Rattle.int_rows.specs.Range.{InRange, AllInRange};
-ghost use Rattle.branch_tree.specs.Known.{AreUnits, KnowsEnd, KnowsColumn, KnowsPlace};
+ghost use Rattle.integer_laws.specs.Range.{InRange, AllInRange};
+ghost use Rattle.tree_rules.specs.Known.{AreUnits, KnowsEnd, KnowsColumn, KnowsPlace};
 ghost use Rattle.branch_tree.specs.View.{end_of};
 ghost use Rattle.tree_rules.specs.Tree.{HasChildren};
 ghost use Rattle.tree_text_rules.specs.LineRead as reads;
@@ -15,7 +15,7 @@ ghost use Rattle.text_lines.specs.Tells.{Tells};
 use crate::cut::{Cut, line_at};
 use crate::fault::TreeFault;
 use branch_tree::End;
-use flow_program::{Column, Place};
+use flow_rules::{Column, Place};
 use pns_problem::Problem;
 use std::alloc::Global;
 use tree_text_rules::TreeKind;

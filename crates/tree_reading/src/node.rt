@@ -1,7 +1,7 @@
 //! One node with its end.
 ghost use Rattle.std.specs.Prelude.{◌≡◌, ◌<◌, ◌-◌, ◌^◌, Ok, IfOk, IfErr, length};
 ghost use Rattle.branch_tree.specs.View.{end_of};
-ghost use Rattle.branch_tree.specs.Known.{AreUnits, KnowsNode, KnowsEnd};
+ghost use Rattle.tree_rules.specs.Known.{AreUnits, KnowsNode, KnowsEnd};
 ghost use Rattle.tree_rules.specs.Tree.{HasChildren};
 ghost use Rattle.tree_text_rules.specs.Read.{end_taken};
 ghost use Rattle.tree_reading.specs.Place.{IsCut, IsBehind, lines_at};

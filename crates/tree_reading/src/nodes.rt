@@ -1,6 +1,6 @@
 //! A whole tree.
 ghost use Rattle.std.specs.Prelude.{◌≡◌, ◌<◌, ◌≤◌, ◌+◌, ◌-◌, ◌^◌, [], zero, Ok, Some, IfOk, IfErr, length};
-ghost use Rattle.branch_tree.specs.Known.{AreUnits, KnowsTree};
+ghost use Rattle.tree_rules.specs.Known.{AreUnits, KnowsTree};
 ghost use Rattle.tree_rules.specs.Tree as trees;
 ghost use Rattle.tree_text_rules.specs.Read.{nodes_taken, tree_taken};
 ghost use Rattle.tree_reading.specs.Place.{IsCut, IsBehind, lines_at};

@@ -1,8 +1,8 @@
 //! Tails, and the last line.
 ghost use Rattle.std.specs.Prelude.{◌≡◌, ◌<◌, ◌-◌, ◌^◌, ◌∷◌, [], Ok, IfOk, IfErr, OnOk, length};
-ghost use Rattle.branch_tree.specs.Tail as tails;
+ghost use Rattle.tree_rules.specs.Tail as tails;
 ghost use Rattle.branch_tree.specs.View.{tail_of};
-ghost use Rattle.branch_tree.specs.Known.{KnowsTail};
+ghost use Rattle.tree_rules.specs.Known.{KnowsTail};
 ghost use Rattle.tree_text_rules.specs.Read.{nothing_behind, tail_taken, past_taken, tail_behind, close_taken};
 ghost use Rattle.tree_tokens.specs.Apart.{tail_opening_of};
 ghost use Rattle.tree_reading.specs.Place.{IsCut, lines_at};

@@ -1,8 +1,15 @@
 pub mod Accepted
 pub mod Claim
+pub mod Costs
 pub mod Fault
+pub mod Known
 pub mod Leaf
 pub mod Lean
+pub mod LeastFlows
+pub mod Past
+pub mod Proved
+pub mod Refusals
 pub mod Stops
+pub mod Tail
 pub mod Tree
 pub mod Ways

@@ -3,7 +3,7 @@ use Rattle.std.proofs.Common.{◌≡◌, ◌≤◌, ◌<◌, ◌+◌, ◌++◌, 
 use Rattle.std.proofs.lemmas.List.{drop_more}
 use Rattle.std.specs.Io.KnownBytes.{Appends}
 use Rattle.std.proofs.KnownBytes.{Appends-nil, Appends-trans}
-use Rattle.pns_io.specs.Outside.{HasRisen, AppendsFront}
+use Rattle.text_rules.specs.Outside.{HasRisen, AppendsFront}
 use Rattle.tree_text_rules.specs.Line.{Token}
 use Rattle.problem_rules.specs.Problem.{Problem}
 use Rattle.unit_sets.specs.declared.step.Step.{Step}

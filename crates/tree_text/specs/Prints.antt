@@ -2,7 +2,7 @@
 -- after want of memory the first of them, each whole.
 use Rattle.std.specs.Prelude.{◌≡◌, ◌++◌, ℕ, List, Option, Result, Ok, Err}
 use Rattle.std.specs.Io.KnownBytes.{Appends}
-use Rattle.pns_io.specs.Outside.{HasRisen, AppendsFront}
+use Rattle.text_rules.specs.Outside.{HasRisen, AppendsFront}
 use Rattle.tree_text_rules.specs.Line.{Token}
 use Rattle.tree_text_rules.specs.Spelling.{text_of}
 use Rattle.tree_text.specs.declared.fault.PrintFault.{PrintFault}

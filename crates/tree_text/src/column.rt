@@ -1,13 +1,13 @@
 //! Columns and places behind the first word of a line.
 ghost use Rattle.std.specs.Prelude.{◌≡◌, ◌<◌, ◌++◌, [], ◌∷◌, OnOk, codes, decimal, map, string_bytes};
 ghost use Rattle.problem_rules.specs.Each.{Each};
-ghost use Rattle.branch_tree.specs.Known.{KnowsColumn, KnowsRow, KnowsPlace};
+ghost use Rattle.tree_rules.specs.Known.{KnowsColumn, KnowsRow, KnowsPlace};
 ghost use Rattle.tree_text_rules.specs.Spelling.{column_text, row_text, which_text, flow_text, place_fields};
 ghost use Rattle.tree_text.specs.Printing.{appended};
 
 use crate::field::{material_name, push_count, push_field, push_unit, unit_name};
-use flow_program::{Column, FlowStep, Place};
-use int_rows::Which;
+use flow_rules::{Column, FlowStep, Place};
+use integer_laws::Which;
 use pns_problem::Problem;
 use std::alloc::AllocError;
 

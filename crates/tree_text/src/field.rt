@@ -2,7 +2,7 @@
 ghost use Rattle.std.specs.Prelude.{◌≡◌, ◌<◌, ◌≤◌, [], ◌∷◌, OnOk, decimal, map, length, string_bytes};
 ghost use Rattle.std.specs.Fmt.{signed_decimal};
 ghost use Rattle.tree_text_rules.specs.Spelling.{unit_name, material_name, exclusion_name};
-ghost use Rattle.branch_tree.specs.Known.{IsUnit, IsMaterial, IsExclusion, AreUnits};
+ghost use Rattle.tree_rules.specs.Known.{IsUnit, IsMaterial, IsExclusion, AreUnits};
 ghost use Rattle.tree_text.specs.Printing.{appended};
 
 use pns_problem::Problem;

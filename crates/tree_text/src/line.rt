@@ -4,7 +4,7 @@ ghost use Rattle.std.specs.Fmt.{signed_decimal};
 ghost use Rattle.problem_rules.specs.Each.{Each};
 ghost use Rattle.pgraph.specs.View.{step_of};
 ghost use Rattle.text_rules.specs.Canonical.{joined};
-ghost use Rattle.branch_tree.specs.Known.{AreUnits, KnowsStep, KnowsEnd, KnowsColumn, KnowsPlace};
+ghost use Rattle.tree_rules.specs.Known.{AreUnits, KnowsStep, KnowsEnd, KnowsColumn, KnowsPlace};
 ghost use Rattle.branch_tree.specs.View.{end_of};
 ghost use Rattle.tree_text_rules.specs.Line.{word_text};
 ghost use Rattle.tree_text_rules.specs.declared.Word.TheVariants as words;
@@ -16,7 +16,7 @@ use crate::field::{
     push_unit, push_units,
 };
 use branch_tree::End;
-use flow_program::{Column, Place};
+use flow_rules::{Column, Place};
 use pns_problem::Problem;
 use std::alloc::AllocError;
 use unit_sets::{Step, UnitSet};

@@ -3,7 +3,7 @@ ghost use Rattle.std.specs.Prelude.{◌≡◌, ◌≤◌, ◌++◌, [], ◌∷�
 ghost use Rattle.std.specs.Fmt.{signed_decimal};
 ghost use Rattle.problem_rules.specs.Each.{Each};
 ghost use Rattle.pgraph.specs.View.{step_of};
-ghost use Rattle.branch_tree.specs.Known.{AreUnits, KnowsStep, KnowsEnd, KnowsNode, KnowsTree, KnowsClaim, KnowsColumn, KnowsPlace, KnowsTail};
+ghost use Rattle.tree_rules.specs.Known.{AreUnits, KnowsStep, KnowsEnd, KnowsNode, KnowsTree, KnowsClaim, KnowsColumn, KnowsPlace, KnowsTail};
 ghost use Rattle.branch_tree.specs.View.{end_of, claim_of, tail_of};
 ghost use Rattle.tree_text_rules.specs.Spelling.{step_line, end_line, head_lines, node_lines, tree_lines, sizes_lines, network_lines, claim_lines, place_lines, spent_lines, past_lines, end_lines, tail_lines, rest_lines, tree_text_lines, place_fields};
 ghost use Rattle.tree_text_rules.specs.Line.{word_text};
@@ -18,7 +18,7 @@ use crate::line::{
 };
 use crate::put::put_line;
 use branch_tree::{Claim, End, Network, Tail, Tree, TreeNode};
-use flow_program::{Column, Place};
+use flow_rules::{Column, Place};
 use pns_io::Sink;
 use pns_problem::Problem;
 use unit_sets::{Step, UnitSet};

@@ -2,7 +2,7 @@
 ghost use Rattle.std.specs.Prelude.{◌≡◌, ◌≤◌, [], ◌∷◌, map};
 ghost use Rattle.problem_rules.specs.Each.{Each};
 ghost use Rattle.pgraph.specs.View.{step_of};
-ghost use Rattle.branch_tree.specs.Known.{AreUnits, KnowsStep, KnowsEnd, KnowsTree, KnowsClaim, KnowsColumn, KnowsPlace, KnowsTail};
+ghost use Rattle.tree_rules.specs.Known.{AreUnits, KnowsStep, KnowsEnd, KnowsTree, KnowsClaim, KnowsColumn, KnowsPlace, KnowsTail};
 ghost use Rattle.branch_tree.specs.View.{end_of, claim_of, tail_of};
 ghost use Rattle.tree_text_rules.specs.Spelling.{end_line, head_lines, network_lines, place_lines, tail_lines, rest_lines, tree_text_lines};
 ghost use Rattle.tree_text.specs.Prints.{Prints};
@@ -10,7 +10,7 @@ ghost use Rattle.tree_text.specs.Prints.{Prints};
 use crate::fault::PrintFault;
 use crate::part::{put_end, put_head, put_network, put_place, put_rest, put_tail, put_tree};
 use branch_tree::{Claim, End, Network, Tail, Tree};
-use flow_program::{Column, Place};
+use flow_rules::{Column, Place};
 use pns_io::Sink;
 use pns_problem::Problem;
 use std::alloc::Global;

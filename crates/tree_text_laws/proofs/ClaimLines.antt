@@ -1,11 +1,11 @@
 -- The lines of a claim, both ways.
 use Rattle.std.proofs.Common.{◌≡◌, ◌==◌, ℕ, ℤ, List, [], ◌∷◌, length, map, Option, Some, Ok, refl, ap, subst, eqb-true, eq-eqb}
 use Rattle.std.specs.Fmt.{signed_decimal}
-use Rattle.int_rows.specs.Range.{InRange}
+use Rattle.integer_laws.specs.Range.{InRange}
 use Rattle.problem_rules.specs.Each.{Each}
 use Rattle.problem_rules.specs.Problem.{Problem}
 use Rattle.problem_rules.specs.WellFormed.{IsWellFormed}
-use Rattle.branch_tree.specs.Known.{AreUnits}
+use Rattle.tree_rules.specs.Known.{AreUnits}
 use Rattle.tree_text_rules.specs.Line.{Token, word_text}
 use Rattle.tree_text_rules.specs.LineRead.{one, one_and_more, Opening, network, infeasible, unknown, opening_by, opening_read, network_by, network_line_read, sizes_by, sizes_read, cost_by, cost_read}
 use Rattle.tree_text_rules.specs.Spelling.{unit_name}

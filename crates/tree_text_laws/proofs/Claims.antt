@@ -2,12 +2,12 @@
 use Rattle.std.proofs.Common.{◌≡◌, ◌≤◌, ℕ, suc, ℤ, List, [], ◌∷◌, ◌++◌, length, map, Result, Ok, refl, sym, ◌∙◌, ap, ap₂, subst, arith}
 use Rattle.std.specs.Fmt.{signed_decimal}
 use Rattle.number_sets.specs.Sets.{AreBelow}
-use Rattle.int_rows.specs.Range.{InRange}
+use Rattle.integer_laws.specs.Range.{InRange}
 use Rattle.problem_rules.specs.Each.{Each}
 use Rattle.problem_rules.specs.Problem.{Problem}
 use Rattle.problem_rules.specs.WellFormed.{IsWellFormed}
 use Rattle.tree_rules.specs.Claim as claims
-use Rattle.branch_tree.specs.Known.{AreUnits, KnowsClaim}
+use Rattle.tree_rules.specs.Known.{AreUnits, KnowsClaim}
 use Rattle.branch_tree.specs.Sized.{IsKept}
 use Rattle.tree_text_rules.specs.Line.{Token, Line, word_text}
 use Rattle.tree_text_rules.specs.LineRead.{Opening, network, infeasible, unknown, opening_read, network_line_read, sizes_read, cost_read}

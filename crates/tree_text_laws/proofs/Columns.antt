@@ -5,13 +5,13 @@ use Rattle.std.specs.Str.{bytes_eq}
 use Rattle.std.proofs.lemmas.Slice.Eq.{bytes_eq-Decides}
 use Rattle.problem_rules.specs.Problem.{Problem}
 use Rattle.problem_rules.specs.WellFormed.{IsWellFormed}
-use Rattle.int_rows.specs.declared.combination.Which.{Which}
-use Rattle.int_rows.specs.declared.combination.Which.TheVariants as whiches
-use Rattle.flow_program.specs.declared.place.Column.{Column}
-use Rattle.flow_program.specs.declared.place.Column.TheVariants as columns
-use Rattle.flow_program.specs.declared.place.FlowStep.{FlowStep}
-use Rattle.flow_program.specs.declared.place.FlowStep.TheVariants as flows
-use Rattle.branch_tree.specs.Known.{IsUnit, IsMaterial, KnowsColumn, KnowsRow}
+use Rattle.integer_laws.specs.declared.which.Which.{Which}
+use Rattle.integer_laws.specs.declared.which.Which.TheVariants as whiches
+use Rattle.flow_rules.specs.declared.place.Column.{Column}
+use Rattle.flow_rules.specs.declared.place.Column.TheVariants as columns
+use Rattle.flow_rules.specs.declared.place.FlowStep.{FlowStep}
+use Rattle.flow_rules.specs.declared.place.FlowStep.TheVariants as flows
+use Rattle.tree_rules.specs.Known.{IsUnit, IsMaterial, KnowsColumn, KnowsRow}
 use Rattle.tree_text_rules.specs.Line.{Token}
 use Rattle.tree_text_rules.specs.Spelling.{unit_name, material_name, column_text, row_text, which_text, flow_text}
 use Rattle.tree_text_rules.specs.Token.{mapped, begins, unit_of, material_of, column_of, row_of, which_of, flow_of}

@@ -5,7 +5,7 @@ use Rattle.std.specs.List.{list_all, list_any}
 use Rattle.std.specs.Char.{is_ascii_digit}
 use Rattle.std.proofs.lemmas.Bool.{cond-true, and_parts, and_from, or_left, or_right, true≢false}
 use Rattle.std.proofs.lemmas.Fmt.{decimal_by_steps_wide, decimal_step_wide, decimal_digit}
-use Rattle.int_rows.specs.Range.{InRange}
+use Rattle.integer_laws.specs.Range.{InRange}
 use Rattle.text_rules.specs.Amount.{number_from, number_of}
 use Rattle.text_laws.proofs.Cuts.{not_mark, none_from_all}
 use Rattle.text_laws.proofs.Digits.{digit-yes, number-last, all-append}

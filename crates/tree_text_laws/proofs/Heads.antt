@@ -7,7 +7,7 @@ use Rattle.problem_rules.specs.WellFormed.{IsWellFormed}
 use Rattle.pns_rules.specs.Nodes as nodes
 use Rattle.tree_rules.specs.Tree as trees
 use Rattle.tree_rules.specs.Leaf as leaves
-use Rattle.branch_tree.specs.Known.{AreUnits, KnowsStep}
+use Rattle.tree_rules.specs.Known.{AreUnits, KnowsStep}
 use Rattle.tree_text_rules.specs.Line.{Line}
 use Rattle.tree_text_rules.specs.LineRead.{step_read, option_read, end_line_read}
 use Rattle.tree_text_rules.specs.Read.{Fault, Taken, Head, with_step, on_line, steps_taken, head_taken, end_taken}

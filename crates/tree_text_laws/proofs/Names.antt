@@ -14,7 +14,7 @@ use Rattle.problem_rules.specs.WellFormed.{IsWellFormed, IsWellFormedMaterial, I
 use Rattle.text_laws.proofs.Cuts.{not_mark, none_from_all}
 use Rattle.text_laws.proofs.Each.{each-to}
 use Rattle.text_laws.proofs.Names.{bytes_same, bytes_differ}
-use Rattle.branch_tree.specs.Known.{IsUnit, IsMaterial, IsExclusion, AreUnits}
+use Rattle.tree_rules.specs.Known.{IsUnit, IsMaterial, IsExclusion, AreUnits}
 use Rattle.tree_text_rules.specs.Line.{Token}
 use Rattle.tree_text_rules.specs.Spelling.{unit_name, material_name, exclusion_name}
 use Rattle.tree_text_rules.specs.Token.{told, each, is_rising, unit_of, material_of, exclusion_of, units_of}

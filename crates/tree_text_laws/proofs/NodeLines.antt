@@ -2,7 +2,7 @@
 use Rattle.std.proofs.Common.{◌≡◌, ◌<◌, Bool, true, ℕ, ℤ, List, [], ◌∷◌, map, decimal, arith, Option, Some, None, Result, Ok, refl, sym, ◌∙◌, ap, ap₂, subst}
 use Rattle.std.specs.Fmt.{signed_decimal}
 use Rattle.std.proofs.lemmas.List.Elements.{All-cons, All-nil, All-head, All-tail}
-use Rattle.int_rows.specs.Range.{InRange, AllInRange}
+use Rattle.integer_laws.specs.Range.{InRange, AllInRange}
 use Rattle.problem_rules.specs.Each.{Each}
 use Rattle.problem_rules.specs.Problem.{Problem}
 use Rattle.problem_rules.specs.WellFormed.{IsWellFormed}
@@ -10,7 +10,7 @@ use Rattle.pns_rules.specs.Nodes as nodes
 use Rattle.tree_rules.specs.Ways as ways
 use Rattle.tree_rules.specs.Tree as trees
 use Rattle.tree_rules.specs.Leaf as leaves
-use Rattle.branch_tree.specs.Known.{IsUnit, IsMaterial, IsExclusion, AreUnits, KnowsStep}
+use Rattle.tree_rules.specs.Known.{IsUnit, IsMaterial, IsExclusion, AreUnits, KnowsStep}
 use Rattle.tree_text_rules.specs.Line.{Token, Line, is_formed, word_text, word_of, fields_of}
 use Rattle.tree_text_rules.specs.LineRead.{formed, one, two, one_and_more, step_by, formed_step, step_read, end_by, end_line_read, option_by, option_read, root_by, root_read}
 use Rattle.tree_text_rules.specs.Spelling.{unit_name, material_name, exclusion_name, step_line, end_line, option_line}

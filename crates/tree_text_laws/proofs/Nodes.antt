@@ -9,7 +9,7 @@ use Rattle.tree_rules.specs.Tree as trees
 use Rattle.tree_rules.specs.Leaf as leaves
 use Rattle.tree_rules.specs.Accepted.{Tree}
 use Rattle.text_laws.proofs.Each.{each-append}
-use Rattle.branch_tree.specs.Known.{AreUnits, KnowsStep, KnowsNode, KnowsTree}
+use Rattle.tree_rules.specs.Known.{AreUnits, KnowsStep, KnowsNode, KnowsTree}
 use Rattle.tree_text_rules.specs.Line.{Token, Line}
 use Rattle.tree_text_rules.specs.LineRead.{step_read, end_line_read, option_read, root_read}
 use Rattle.tree_text_rules.specs.Read.{Fault, Taken, Head, with_step, with_end, with_node, on_line, nodes_taken, tree_taken}

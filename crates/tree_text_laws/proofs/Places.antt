@@ -4,11 +4,11 @@ use Rattle.std.specs.Str.{bytes_eq}
 use Rattle.problem_rules.specs.Each.{Each}
 use Rattle.problem_rules.specs.Problem.{Problem}
 use Rattle.problem_rules.specs.WellFormed.{IsWellFormed}
-use Rattle.int_rows.specs.declared.combination.Which.{Which}
-use Rattle.flow_program.specs.declared.place.Column.{Column}
-use Rattle.flow_program.specs.declared.place.Place.{Place}
-use Rattle.flow_program.specs.declared.place.Place.TheVariants as places
-use Rattle.branch_tree.specs.Known.{IsUnit, KnowsColumn, KnowsPlace}
+use Rattle.integer_laws.specs.declared.which.Which.{Which}
+use Rattle.flow_rules.specs.declared.place.Column.{Column}
+use Rattle.flow_rules.specs.declared.place.Place.{Place}
+use Rattle.flow_rules.specs.declared.place.Place.TheVariants as places
+use Rattle.tree_rules.specs.Known.{IsUnit, KnowsColumn, KnowsPlace}
 use Rattle.tree_text_rules.specs.Line.{Token}
 use Rattle.tree_text_rules.specs.LineRead.{one, two, entry_of, place_of}
 use Rattle.tree_text_rules.specs.Spelling.{unit_name, column_text, row_text, which_text, flow_text, place_fields}

@@ -3,9 +3,9 @@ use Rattle.std.proofs.Common.{◌≡◌, List, [], ◌∷◌, map, decimal, Opti
 use Rattle.problem_rules.specs.Each.{Each}
 use Rattle.problem_rules.specs.Problem.{Problem}
 use Rattle.problem_rules.specs.WellFormed.{IsWellFormed}
-use Rattle.flow_program.specs.declared.place.Column.{Column}
-use Rattle.flow_program.specs.declared.place.Place.{Place}
-use Rattle.branch_tree.specs.Known.{KnowsColumn}
+use Rattle.flow_rules.specs.declared.place.Column.{Column}
+use Rattle.flow_rules.specs.declared.place.Place.{Place}
+use Rattle.tree_rules.specs.Known.{KnowsColumn}
 use Rattle.tree_text_rules.specs.Line.{Token, Line, word_text, word_of, fields_of}
 use Rattle.tree_text_rules.specs.LineRead.{formed, one, two, behind_nodes, TailOpening, whole, spent, past, tail_opening_by, tail_opening_read, nonbasic_by, nonbasic_read, place_by, place_read, close_by, close_read}
 use Rattle.tree_text_rules.specs.Spelling.{column_text, place_fields}

@@ -3,10 +3,10 @@ use Rattle.std.proofs.Common.{◌≡◌, ℕ, suc, List, [], ◌∷◌, map, Ok,
 use Rattle.problem_rules.specs.Each.{Each}
 use Rattle.problem_rules.specs.Problem.{Problem}
 use Rattle.problem_rules.specs.WellFormed.{IsWellFormed}
-use Rattle.flow_program.specs.declared.place.Column.{Column}
-use Rattle.flow_program.specs.declared.place.Place.{Place}
-use Rattle.branch_tree.specs.Known.{KnowsColumn}
-use Rattle.branch_tree.specs.Tail as tails
+use Rattle.flow_rules.specs.declared.place.Column.{Column}
+use Rattle.flow_rules.specs.declared.place.Place.{Place}
+use Rattle.tree_rules.specs.Known.{KnowsColumn}
+use Rattle.tree_rules.specs.Tail as tails
 use Rattle.tree_text_rules.specs.Line.{Token, Line, word_text}
 use Rattle.tree_text_rules.specs.LineRead.{TailOpening, whole, spent, past, tail_opening_read, nonbasic_read, place_read, close_read}
 use Rattle.tree_text_rules.specs.Read.{first_line, nothing_behind, close_taken, past_taken, tail_behind, tail_taken}

@@ -9,7 +9,7 @@ use Rattle.problem_rules.specs.WellFormed.{IsWellFormed}
 use Rattle.tree_rules.specs.Claim as claims
 use Rattle.tree_rules.specs.Accepted.{Tree}
 use Rattle.text_laws.proofs.Each.{each-append, each-to}
-use Rattle.branch_tree.specs.Tail as tails
+use Rattle.tree_rules.specs.Tail as tails
 use Rattle.tree_text_rules.specs.Line.{Token, Line, file_type, lines_of}
 use Rattle.tree_text_rules.specs.LineRead.{file_type_read}
 use Rattle.tree_text_rules.specs.Read.{Fault, Taken, Certificate, then_read, with_tail, claim_taken, tree_taken, tail_taken, rest_taken, lines_taken, read_text}

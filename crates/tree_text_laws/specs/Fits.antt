@@ -5,9 +5,9 @@ use Rattle.problem_rules.specs.Problem.{Problem}
 use Rattle.tree_rules.specs.Tree as trees
 use Rattle.tree_rules.specs.Accepted.{Tree}
 use Rattle.tree_rules.specs.Claim as claims
-use Rattle.branch_tree.specs.Known.{AreUnits, KnowsClaim, KnowsStep, KnowsTree, KnowsTail}
+use Rattle.tree_rules.specs.Known.{AreUnits, KnowsClaim, KnowsStep, KnowsTree, KnowsTail}
 use Rattle.branch_tree.specs.Sized.{IsKept}
-use Rattle.branch_tree.specs.Tail as tails
+use Rattle.tree_rules.specs.Tail as tails
 use Rattle.tree_text_rules.specs.Read.{Certificate, Head}
 use Rattle.tree_text_laws.specs.LineFits.{IsCount, IsOptionCount, CountsEnd, CountsPlace}
 

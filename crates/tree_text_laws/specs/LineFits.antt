@@ -1,15 +1,15 @@
 -- What a line can hold: numbers in range, counts up to 2^32 - 1, as many options as 2^128 - 1, and ends and places that a
 -- problem knows with such counts.
 use Rattle.std.specs.Prelude.{◌≡◌, ℕ, ℤ, pos, ◌≤◌, ◌≤ℤ◌, ◌^◌, ◌-◌, List, length}
-use Rattle.int_rows.specs.Range.{InRange}
+use Rattle.integer_laws.specs.Range.{InRange}
 use Rattle.problem_rules.specs.Each.{Each}
 use Rattle.problem_rules.specs.Problem.{Problem}
-use Rattle.flow_program.specs.declared.place.Place.{Place}
-use Rattle.flow_program.specs.declared.place.Place.TheVariants as places
+use Rattle.flow_rules.specs.declared.place.Place.{Place}
+use Rattle.flow_rules.specs.declared.place.Place.TheVariants as places
 use Rattle.tree_rules.specs.Ways as ways
 use Rattle.tree_rules.specs.Tree as trees
 use Rattle.tree_rules.specs.Leaf as leaves
-use Rattle.branch_tree.specs.Known.{KnowsEnd, KnowsPlace}
+use Rattle.tree_rules.specs.Known.{KnowsEnd, KnowsPlace}
 
 -- the number of a node or of a step, or how many children a branch has
 abbrev pub IsCount : ℕ → Type 0

@@ -1,12 +1,12 @@
 -- The laws of tokens and lines, each of which a public function of this crate has as its contract.
 use Rattle.std.specs.Prelude.{◌≡◌, ℕ, List, [], ◌∷◌, map, decimal, Some, Ok}
 use Rattle.std.specs.Fmt.{signed_decimal}
-use Rattle.int_rows.specs.Range.{InRange}
+use Rattle.integer_laws.specs.Range.{InRange}
 use Rattle.problem_rules.specs.Each.{Each}
 use Rattle.problem_rules.specs.Problem.{Problem}
 use Rattle.problem_rules.specs.Validity.{IsValid}
 use Rattle.pns_rules.specs.Nodes.{Step}
-use Rattle.branch_tree.specs.Known.{IsUnit, IsMaterial, IsExclusion, AreUnits, KnowsStep, KnowsColumn, KnowsRow}
+use Rattle.tree_rules.specs.Known.{IsUnit, IsMaterial, IsExclusion, AreUnits, KnowsStep, KnowsColumn, KnowsRow}
 use Rattle.tree_text_rules.specs.Line.{Token, Line, lines_of, word_text}
 use Rattle.tree_text_rules.specs.LineRead.{step_read, end_line_read, option_read, root_read, network_line_read, sizes_read, cost_read, nonbasic_read, place_read, close_read}
 use Rattle.tree_text_rules.specs.Spelling.{unit_name, material_name, exclusion_name, step_line, end_line, option_line, column_text, row_text, which_text, flow_text, place_fields, text_of}

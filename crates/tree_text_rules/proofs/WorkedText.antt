@@ -2,17 +2,17 @@
 use Rattle.std.proofs.Common.{◌≡◌, ◌++◌, ℕ, pos, negsuc, List, [], ◌∷◌, map, codes, refl, Ok, Some, None}
 use Rattle.std.specs.Fmt.{digits}
 use Rattle.pns_rules.specs.Nodes.{raw, rival, starve, loose, sole}
-use Rattle.int_rows.specs.declared.combination.Which.TheVariants as whiches
-use Rattle.flow_program.specs.declared.place.Column.TheVariants as columns
-use Rattle.flow_program.specs.declared.place.FlowStep.TheVariants as flows
-use Rattle.flow_program.specs.declared.place.Place.{Place}
-use Rattle.flow_program.specs.declared.place.Place.TheVariants as places
+use Rattle.integer_laws.specs.declared.which.Which.TheVariants as whiches
+use Rattle.flow_rules.specs.declared.place.Column.TheVariants as columns
+use Rattle.flow_rules.specs.declared.place.FlowStep.TheVariants as flows
+use Rattle.flow_rules.specs.declared.place.Place.{Place}
+use Rattle.flow_rules.specs.declared.place.Place.TheVariants as places
 use Rattle.tree_rules.specs.Ways.{at_material, either}
 use Rattle.tree_rules.specs.Tree.{TreeNode, branch, leaf}
 use Rattle.tree_rules.specs.Leaf.{Leaf, dead, clash, refuted, bounded, untried}
 use Rattle.tree_rules.specs.Claim.{Claim, network, infeasible, unknown}
 use Rattle.tree_rules.specs.Accepted.{Tree}
-use Rattle.branch_tree.specs.Tail.{whole, spent, past}
+use Rattle.tree_rules.specs.Tail.{whole, spent, past}
 use Rattle.tree_text_rules.specs.Spelling.{tree_text}
 use Rattle.tree_text_rules.specs.Line.{word_named}
 use Rattle.tree_text_rules.specs.Read.{Certificate, read_text, nodes_taken}

@@ -4,9 +4,9 @@ use Rattle.std.specs.Prelude.{◌==◌, ℕ, ℤ, Bool, true, List, [], ◌∷�
 use Rattle.std.specs.Str.{bytes_eq}
 use Rattle.problem_rules.specs.Problem.{Problem}
 use Rattle.pns_rules.specs.Nodes as nodes
-use Rattle.flow_program.specs.declared.place.Column.{Column}
-use Rattle.flow_program.specs.declared.place.Place.{Place}
-use Rattle.flow_program.specs.declared.place.Place.TheVariants as places
+use Rattle.flow_rules.specs.declared.place.Column.{Column}
+use Rattle.flow_rules.specs.declared.place.Place.{Place}
+use Rattle.flow_rules.specs.declared.place.Place.TheVariants as places
 use Rattle.tree_rules.specs.Ways as ways
 use Rattle.tree_rules.specs.Tree as trees
 use Rattle.tree_rules.specs.Leaf as leaves

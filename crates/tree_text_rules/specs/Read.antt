@@ -8,7 +8,7 @@ use Rattle.tree_rules.specs.Tree as trees
 use Rattle.tree_rules.specs.Leaf as leaves
 use Rattle.tree_rules.specs.Claim as claims
 use Rattle.tree_rules.specs.Accepted.{Tree}
-use Rattle.branch_tree.specs.Tail as tails
+use Rattle.tree_rules.specs.Tail as tails
 use Rattle.tree_text_rules.specs.Line.{Line, lines_of}
 use Rattle.tree_text_rules.specs.LineRead as reads
 use Rattle.tree_text_rules.specs.declared.TreeKind.{TreeKind}

@@ -5,20 +5,20 @@ use Rattle.std.specs.Fmt.{signed_decimal}
 use Rattle.problem_rules.specs.Problem.{Problem, unit_at, material_at, exclusion_at}
 use Rattle.pns_rules.specs.Nodes as nodes
 use Rattle.text_rules.specs.Canonical.{joined}
-use Rattle.int_rows.specs.declared.combination.Which.{Which}
-use Rattle.int_rows.specs.declared.combination.Which.TheVariants as whiches
-use Rattle.flow_program.specs.declared.place.Column.{Column}
-use Rattle.flow_program.specs.declared.place.Column.TheVariants as columns
-use Rattle.flow_program.specs.declared.place.FlowStep.{FlowStep}
-use Rattle.flow_program.specs.declared.place.FlowStep.TheVariants as flows
-use Rattle.flow_program.specs.declared.place.Place.{Place}
-use Rattle.flow_program.specs.declared.place.Place.TheVariants as places
+use Rattle.integer_laws.specs.declared.which.Which.{Which}
+use Rattle.integer_laws.specs.declared.which.Which.TheVariants as whiches
+use Rattle.flow_rules.specs.declared.place.Column.{Column}
+use Rattle.flow_rules.specs.declared.place.Column.TheVariants as columns
+use Rattle.flow_rules.specs.declared.place.FlowStep.{FlowStep}
+use Rattle.flow_rules.specs.declared.place.FlowStep.TheVariants as flows
+use Rattle.flow_rules.specs.declared.place.Place.{Place}
+use Rattle.flow_rules.specs.declared.place.Place.TheVariants as places
 use Rattle.tree_rules.specs.Ways as ways
 use Rattle.tree_rules.specs.Tree as trees
 use Rattle.tree_rules.specs.Leaf as leaves
 use Rattle.tree_rules.specs.Claim as claims
 use Rattle.tree_rules.specs.Accepted.{Tree}
-use Rattle.branch_tree.specs.Tail as tails
+use Rattle.tree_rules.specs.Tail as tails
 use Rattle.tree_text_rules.specs.Line.{Token, file_type, word_text}
 use Rattle.tree_text_rules.specs.declared.Word.TheVariants as words
 

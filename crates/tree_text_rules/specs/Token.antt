@@ -5,12 +5,12 @@ use Rattle.std.specs.List.{starts_with}
 use Rattle.std.specs.Str.{bytes_eq}
 use Rattle.problem_rules.specs.Problem.{Problem, material_names, unit_names, exclusion_names}
 use Rattle.script_rules.specs.Fault.{whole_within}
-use Rattle.int_rows.specs.declared.combination.Which.{Which}
-use Rattle.int_rows.specs.declared.combination.Which.TheVariants as whiches
-use Rattle.flow_program.specs.declared.place.Column.{Column}
-use Rattle.flow_program.specs.declared.place.Column.TheVariants as columns
-use Rattle.flow_program.specs.declared.place.FlowStep.{FlowStep}
-use Rattle.flow_program.specs.declared.place.FlowStep.TheVariants as flows
+use Rattle.integer_laws.specs.declared.which.Which.{Which}
+use Rattle.integer_laws.specs.declared.which.Which.TheVariants as whiches
+use Rattle.flow_rules.specs.declared.place.Column.{Column}
+use Rattle.flow_rules.specs.declared.place.Column.TheVariants as columns
+use Rattle.flow_rules.specs.declared.place.FlowStep.{FlowStep}
+use Rattle.flow_rules.specs.declared.place.FlowStep.TheVariants as flows
 use Rattle.tree_text_rules.specs.Line.{Token}
 use Rattle.tree_text_rules.specs.declared.TreeKind.{TreeKind}
 use Rattle.tree_text_rules.specs.declared.TreeKind.TheVariants.{FileType, BadLine, UnknownName, BadNumber, Order, WrongCount, MoreNodes, FewerNodes, AfterEnd}

@@ -1,7 +1,7 @@
 -- A line that is taken apart into its first word and the tokens behind it.
 use Rattle.std.specs.Prelude.{◌≡◌, Bool, true, false, Option, Some, None, Result, Err, if◌then◌else◌}
 use Rattle.problem_rules.specs.Problem.{Problem}
-use Rattle.branch_tree.specs.Known.{AreUnits}
+use Rattle.tree_rules.specs.Known.{AreUnits}
 use Rattle.tree_text_rules.specs.Line as rules
 use Rattle.tree_text_rules.specs.declared.Word.{Word}
 use Rattle.tree_text_rules.specs.declared.Word.TheVariants.{Node}

@@ -1,8 +1,8 @@
 //! The lines of claims.
 ghost use Rattle.std.specs.Prelude.{◌≡◌, ◌≤ℤ◌, ℤ, ℕ, List, Some, Ok, Err, IfOk, IfErr, length, pos, ◌==◌};
 ghost use Rattle.std.specs.Str.{bytes_eq};
-ghost use Rattle.int_rows.specs.Range.{InRange, AllInRange};
-ghost use Rattle.branch_tree.specs.Known.{AreUnits};
+ghost use Rattle.integer_laws.specs.Range.{InRange, AllInRange};
+ghost use Rattle.tree_rules.specs.Known.{AreUnits};
 ghost use Rattle.tree_text_rules.specs.LineRead as reads;
 ghost use Rattle.tree_text_rules.specs.Token as rules;
 ghost use Rattle.tree_tokens.specs.Apart.{formed_by, opening_of, KnowsOpening};

@@ -1,7 +1,7 @@
 //! Lists of columns.
 ghost use Rattle.std.specs.Prelude.{◌≡◌, ◌∷◌, [], Ok, IfOk, IfErr, OnOk};
 ghost use Rattle.problem_rules.specs.Each.{Each};
-ghost use Rattle.branch_tree.specs.Known.{KnowsColumn};
+ghost use Rattle.tree_rules.specs.Known.{KnowsColumn};
 ghost use Rattle.tree_text_rules.specs.Token as rules;
 ghost use Rattle.tree_tokens.specs.Joined.{so_far, joined};
 ghost use Rattle.text_lines.specs.Tells.{TellsLine};
@@ -11,7 +11,7 @@ use crate::column::column_of;
 use crate::cut::first_token;
 use crate::fault_order::lesser_of;
 use crate::line_fault::LineFault;
-use flow_program::Column;
+use flow_rules::Column;
 use pns_problem::Problem;
 use std::alloc::{AllocError, Global};
 use tree_text_rules::TreeKind;

@@ -1,8 +1,8 @@
 //! The lines of ends.
 ghost use Rattle.std.specs.Prelude.{◌≡◌, ℤ, List, Some, Ok, IfOk, IfErr};
-ghost use Rattle.int_rows.specs.Range.{InRange, AllInRange};
+ghost use Rattle.integer_laws.specs.Range.{InRange, AllInRange};
 ghost use Rattle.branch_tree.specs.View.{end_of};
-ghost use Rattle.branch_tree.specs.Known.{KnowsEnd};
+ghost use Rattle.tree_rules.specs.Known.{KnowsEnd};
 ghost use Rattle.tree_rules.specs.Tree.{HasChildren};
 ghost use Rattle.tree_text_rules.specs.LineRead as reads;
 ghost use Rattle.tree_text_rules.specs.Token as rules;

@@ -1,6 +1,6 @@
 //! Lists of numbers.
 ghost use Rattle.std.specs.Prelude.{◌≡◌, ◌∷◌, [], ℤ, List, Ok, IfOk, IfErr, OnOk};
-ghost use Rattle.int_rows.specs.Range.{InRange, AllInRange};
+ghost use Rattle.integer_laws.specs.Range.{InRange, AllInRange};
 ghost use Rattle.tree_text_rules.specs.Token as rules;
 ghost use Rattle.tree_tokens.specs.Joined.{so_far, joined};
 ghost use Rattle.text_lines.specs.Tells.{TellsLine};

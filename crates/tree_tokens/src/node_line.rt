@@ -1,6 +1,6 @@
 //! The lines that begin nodes.
 ghost use Rattle.std.specs.Prelude.{◌≡◌, ℕ, List, [], Ok, Err, IfOk, IfErr};
-ghost use Rattle.branch_tree.specs.Known.{AreUnits};
+ghost use Rattle.tree_rules.specs.Known.{AreUnits};
 ghost use Rattle.tree_text_rules.specs.LineRead as reads;
 ghost use Rattle.tree_tokens.specs.View.{tokens_in};
 

@@ -1,6 +1,6 @@
 //! Whole numbers.
 ghost use Rattle.std.specs.Prelude.{◌≡◌, ◌<◌, ◌≤◌, ◌≤ℤ◌, ◌-◌, ◌^◌, pos, negsuc, IfOk, IfSome, option_map};
-ghost use Rattle.int_rows.specs.Range.{InRange};
+ghost use Rattle.integer_laws.specs.Range.{InRange};
 ghost use Rattle.tree_text_rules.specs.Token as rules;
 
 use text_lines::whole_number::whole_within;

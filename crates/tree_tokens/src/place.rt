@@ -1,6 +1,6 @@
 //! Places where a number is out of range.
 ghost use Rattle.std.specs.Prelude.{◌≡◌, ◌∷◌, [], IfOk, IfSome, IfNone, length};
-ghost use Rattle.branch_tree.specs.Known.{KnowsPlace};
+ghost use Rattle.tree_rules.specs.Known.{KnowsPlace};
 ghost use Rattle.tree_text_rules.specs.LineRead as reads;
 ghost use Rattle.tree_tokens.specs.View.{tokens_in};
 
@@ -9,7 +9,7 @@ use crate::column::{column_of, row_of, which_of};
 use crate::cut::next_token;
 use crate::fault_order::both;
 use crate::some_tokens::{column_and_count, one_count, unit_and_flow};
-use flow_program::Place;
+use flow_rules::Place;
 use pns_problem::Problem;
 use tree_text_rules::TreeKind;
 

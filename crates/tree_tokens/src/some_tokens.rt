@@ -1,7 +1,7 @@
 //! One token or two behind a first word.
 ghost use Rattle.std.specs.Prelude.{◌≡◌, ◌<◌, IfOk, length};
-ghost use Rattle.int_rows.specs.Range.{InRange};
-ghost use Rattle.branch_tree.specs.Known.{KnowsColumn};
+ghost use Rattle.integer_laws.specs.Range.{InRange};
+ghost use Rattle.tree_rules.specs.Known.{KnowsColumn};
 ghost use Rattle.tree_text_rules.specs.LineRead.{one, two};
 ghost use Rattle.tree_text_rules.specs.Token as rules;
 ghost use Rattle.tree_tokens.specs.View.{tokens_in};
@@ -11,7 +11,7 @@ use crate::column::{column_of, flow_of};
 use crate::fault_order::both;
 use crate::name::{exclusion_of, material_of, unit_of};
 use crate::number::{children_of, count_of, number_of, options_of};
-use flow_program::{Column, FlowStep};
+use flow_rules::{Column, FlowStep};
 use pns_problem::Problem;
 use tree_text_rules::TreeKind;
 

@@ -1,7 +1,7 @@
 //! The lines of steps.
 ghost use Rattle.std.specs.Prelude.{◌≡◌, Some, IfOk, IfSome, option_map};
 ghost use Rattle.pgraph.specs.View.{step_of};
-ghost use Rattle.branch_tree.specs.Known.{KnowsStep};
+ghost use Rattle.tree_rules.specs.Known.{KnowsStep};
 ghost use Rattle.tree_text_rules.specs.LineRead as reads;
 ghost use Rattle.tree_text_rules.specs.Token as rules;
 ghost use Rattle.tree_tokens.specs.Apart.{formed_if_read};

@@ -1,7 +1,7 @@
 //! The lines of tails.
 ghost use Rattle.std.specs.Prelude.{◌≡◌, Some, Ok, Err, IfOk, IfErr};
 ghost use Rattle.problem_rules.specs.Each.{Each};
-ghost use Rattle.branch_tree.specs.Known.{KnowsColumn, KnowsPlace};
+ghost use Rattle.tree_rules.specs.Known.{KnowsColumn, KnowsPlace};
 ghost use Rattle.tree_text_rules.specs.LineRead as reads;
 ghost use Rattle.tree_tokens.specs.Apart.{formed_by, tail_opening_of, is_node};
 ghost use Rattle.text_lines.specs.Tells.{TellsLine};
@@ -14,7 +14,7 @@ use crate::line_fault::LineFault;
 use crate::opening::TailOpening;
 use crate::place::place_of;
 use crate::some_tokens::{count_and_options, one_count};
-use flow_program::{Column, Place};
+use flow_rules::{Column, Place};
 use pns_problem::Problem;
 use std::alloc::Global;
 use tree_text_rules::{TreeKind, Word};

@@ -1,6 +1,6 @@
 //! Sets of units, which stand in file order.
 ghost use Rattle.std.specs.Prelude.{◌≡◌, ◌≤◌, ◌<◌, ◌∷◌, ◌++◌, ◌+◌, ◌&&◌, [], true, Ok, Err, IfOk, IfErr, length, nat_le};
-ghost use Rattle.branch_tree.specs.Known.{AreUnits};
+ghost use Rattle.tree_rules.specs.Known.{AreUnits};
 ghost use Rattle.tree_text_rules.specs.Token as rules;
 ghost use Rattle.tree_tokens.specs.Joined.{IsEnd};
 ghost use Rattle.tree_tokens.specs.View.{tokens_in};

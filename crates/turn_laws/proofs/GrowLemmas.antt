@@ -15,7 +15,8 @@ use Rattle.tree_rules.specs.Leaf.{Leaf, dead, clash, refuted, bounded, untried, 
 use Rattle.tree_rules.specs.Claim.{CostOver, IsAtLeast}
 use Rattle.search_tree.specs.Cells.{Cell, place_of, cell_at, times, numbers_below, children_at, AreBehind, IsLinked}
 use Rattle.search_tree.specs.Fits.{Follows, IsBranch, EndFits, Fits}
-use Rattle.turn_laws.specs.Values.{HasFallen, IsPositiveCost}
+use Rattle.tree_rules.specs.Costs.{HasFallen}
+use Rattle.turn_laws.specs.Values.{IsPositiveCost}
 use Rattle.turn_laws.specs.Turns.{with_end, IsFreshChild, AreChildren, IsBranched, AreShut}
 use Rattle.turn_laws.proofs.FractionLemmas.{fraction_trans}
 use Rattle.turn_laws.proofs.LinkLemmas.{where_is}

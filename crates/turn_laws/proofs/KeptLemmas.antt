@@ -14,7 +14,8 @@ use Rattle.tree_rules.specs.Claim.{Claim, CostOver, claimed_cost}
 use Rattle.tree_rules.specs.Lean.{MayUndercut, IsNoDearer}
 use Rattle.search_laws.proofs.ValueLemmas.{ways_are_dearer}
 use Rattle.search_tree.specs.Cells.{Cell, place_of, cell_at}
-use Rattle.turn_laws.specs.Values.{HasFallen, IsPositiveCost}
+use Rattle.tree_rules.specs.Costs.{HasFallen}
+use Rattle.turn_laws.specs.Values.{IsPositiveCost}
 use Rattle.turn_laws.specs.Kept.{IsFromLast, ReachesLast, LeafIsKept, EndIsKept, IsKeptFor}
 use Rattle.turn_laws.specs.Turns.{CanBranch, IsLeastOpen, AreChildren, IsBranched, AreShut}
 use Rattle.turn_laws.proofs.GrowLemmas.{branched_fits, shut_fits, shut_linked}

@@ -7,7 +7,8 @@ use Rattle.flow_rules.specs.Net.{net_of}
 use Rattle.flow_rules.specs.Relaxed.{relaxed_cost}
 use Rattle.tree_rules.specs.Claim.{CostOver, IsAtMost}
 use Rattle.tree_rules.specs.Lean.{MayUndercut, HasCheaper, IsNoDearer}
-use Rattle.turn_laws.specs.Values.{IsPositive, IsNoMore, IsUnder, IsPositiveCost}
+use Rattle.turn_laws.specs.Values.{IsPositive, IsUnder, IsPositiveCost}
+use Rattle.tree_rules.specs.Costs.{IsNoMore}
 use Rattle.turn_laws.proofs.FractionLemmas.{fraction_trans}
 
 -- ---- costs

@@ -19,7 +19,8 @@ use Rattle.tree_rules.specs.Accepted.{IsAccepted}
 use Rattle.search_tree.specs.Cells.{Cell, place_of, cell_at}
 use Rattle.search_tree.specs.Growth.{as_parent}
 use Rattle.search_tree.specs.Preorder.{IsPreorder, tree_of}
-use Rattle.turn_laws.specs.Values.{IsPositive, IsUnder, HasFallen, IsPositiveCost}
+use Rattle.turn_laws.specs.Values.{IsPositive, IsUnder, IsPositiveCost}
+use Rattle.tree_rules.specs.Costs.{HasFallen}
 use Rattle.turn_laws.specs.Kept.{IsKeptFor}
 use Rattle.turn_laws.specs.Turns.{CanBranch, IsLeastOpen, AreChildren, IsBranched, AreShut}
 

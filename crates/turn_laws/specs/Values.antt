@@ -11,10 +11,6 @@ use Rattle.tree_rules.specs.Lean.{HasCheaper}
 abbrev pub IsPositive : CostOver → Type 0
 IsPositive v = pos 1 ≤ℤ v.d
 
--- v is at most w
-abbrev pub IsNoMore : CostOver → CostOver → Type 0
-IsNoMore v w = (v.cost *ℤ w.d) ≤ℤ (w.cost *ℤ v.d)
-
 -- no relaxed flows of the node cost less than v
 abbrev pub IsUnder : Problem → CostOver → Node → Type 0
 IsUnder p v n = (z : ℕ → ℤ) (d : ℤ) → IsRelaxed (net_of p) n z d → (v.cost *ℤ d) ≤ℤ (relaxed_cost (net_of p) n z d *ℤ v.d)
@@ -24,12 +20,6 @@ pub record IsValueOf (p : Problem) (n : Node) (v : CostOver) : Type 0 where
   pub positive : IsPositive v
   pub under : IsUnder p v n
   pub reached : HasCheaper p n v.cost v.d
-
--- the second cost is at most the first, and there is one where there was one
-abbrev pub HasFallen : Option CostOver → Option CostOver → Type 0
-HasFallen None new = Unit {0}
-HasFallen (Some old) None = ⊥
-HasFallen (Some old) (Some new) = IsNoMore new old
 
 abbrev pub IsPositiveCost : Option CostOver → Type 0
 IsPositiveCost None = Unit {0}

@@ -2,7 +2,7 @@ use Rattle.std.proofs.Common.{◌≡◌, ◌⊎◌, ◌||◌, ◌+◌, ◌<◌, 
 use Rattle.pgraph.specs.View.{node_of}
 use Rattle.std.specs.Prelude.{is_some}
 use Rattle.tree_rules.specs.Claim as claims
-use Rattle.turn_laws.specs.Values.{HasFallen}
+use Rattle.tree_rules.specs.Costs.{HasFallen}
 use Rattle.node_evaluation.specs.Looks.{cost_of}
 use Rattle.abb_search.specs.declared.growing.Growing.{Growing}
 use Rattle.std.proofs.lemmas.List.{length-reverse}

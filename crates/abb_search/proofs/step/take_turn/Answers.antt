@@ -1,7 +1,7 @@
 use Rattle.std.proofs.Common.{◌∙◌, List, length, Option, sym, ap, subst}
 use Rattle.search_tree.specs.Cells.{Cell}
 use Rattle.tree_rules.specs.Claim as claims
-use Rattle.turn_laws.specs.Values.{HasFallen}
+use Rattle.tree_rules.specs.Costs.{HasFallen}
 use Rattle.node_evaluation.specs.Looks.{cost_of}
 use Rattle.node_evaluation.specs.Children.{IsBest}
 use Rattle.abb_search.specs.Searched.{StandsAt}

@@ -6,11 +6,12 @@ use Rattle.pns_rules.specs.Nodes.{Node}
 use Rattle.pgraph.specs.View.{node_of}
 use Rattle.tree_rules.specs.Claim.{claimed_cost}
 use Rattle.tree_rules.specs.Accepted.{first_node, Proves, NodeIsFault}
-use Rattle.tree_laws.specs.Laws.{CostsEnough}
+use Rattle.tree_rules.specs.Costs.{CostsEnough}
 use Rattle.branch_tree.specs.View.{claim_of}
-use Rattle.cert_check.specs.declared.refusal.Refusal.{Refusal}
-use Rattle.cert_check.specs.declared.refusal.Refusal.TheVariants as refusals
-use Rattle.cert_check.specs.Refusals.{Refuses, IsOkOrMemory, IsRefusalOrMemory}
+use Rattle.tree_rules.specs.declared.refusal.Refusal.{Refusal}
+use Rattle.tree_rules.specs.declared.refusal.Refusal.TheVariants as refusals
+use Rattle.tree_rules.specs.Refusals.{Refuses}
+use Rattle.cert_check.specs.Refusals.{IsOkOrMemory, IsRefusalOrMemory}
 use Rattle.cert_check.proofs.RefusalLemmas.{answer_of, answer_ok, answer_err, answer_or_memory, answer_refused, least}
 use Rattle.cert_check.proofs.check.check_tree.Goals.{in-Ok, in-Err}
 use Rattle.cert_check.proofs.check.check_tree.Goals as goal

@@ -2,7 +2,7 @@ use Rattle.std.proofs.Common.{◌≡◌, pos, sym, ◌∙◌, subst, rules, SFit
 use Rattle.std.specs.Int.{w128}
 use Rattle.std.proofs.lemmas.Int.{to_z-of_z}
 use Rattle.number_sets.specs.Sets.{has}
-use Rattle.int_rows.specs.Range.{InRange}
+use Rattle.integer_laws.specs.Range.{InRange}
 use Rattle.int_rows.proofs.RangeLemmas.{fits_from_range}
 use Rattle.flow_rules.specs.Net.{net_of, beside}
 use Rattle.flow_rules.specs.Flows.{cost}

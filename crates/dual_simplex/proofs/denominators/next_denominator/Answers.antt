@@ -2,8 +2,8 @@ use Rattle.std.proofs.Common.{◌≡◌, ◌∙◌, true, false, ap, SFits, ℕ,
 use Rattle.std.specs.Int.{w128}
 use Rattle.std.proofs.lemmas.Int.{to_z-of_z}
 use Rattle.int_rows.proofs.RangeLemmas.{fits_from_range}
-use Rattle.int_rows.specs.Lowest.{IsLowest}
-use Rattle.int_rows.specs.Range.{InRange}
+use Rattle.integer_laws.specs.Lowest.{IsLowest}
+use Rattle.integer_laws.specs.Range.{InRange}
 use Rattle.std.specs.Prelude.{unsigned_abs}
 use Rattle.path_rules.specs.ReadFlows.{IsLcm}
 use Rattle.dual_simplex.specs.Rows.{table, basis}

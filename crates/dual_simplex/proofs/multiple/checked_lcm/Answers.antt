@@ -2,8 +2,8 @@ use Rattle.std.proofs.Common.{◌*ℤ◌, SFits}
 use Rattle.std.specs.Int.{w128}
 use Rattle.std.specs.Option.{SomeIff}
 use Rattle.std.proofs.lemmas.Int.{to_z-of_z}
-use Rattle.int_rows.specs.Lowest.{IsLowest}
-use Rattle.int_rows.specs.Range.{InRange}
+use Rattle.integer_laws.specs.Lowest.{IsLowest}
+use Rattle.integer_laws.specs.Range.{InRange}
 use Rattle.int_rows.proofs.RangeLemmas.{fits_from_range}
 use Rattle.dual_simplex.proofs.LcmLemmas.{lcm_found, found_positive, lcm_missed}
 use Rattle.dual_simplex.proofs.multiple.checked_lcm.Goals as goal

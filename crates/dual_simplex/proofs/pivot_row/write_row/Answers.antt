@@ -1,5 +1,5 @@
 use Rattle.std.proofs.Common.{rules, ◌≡◌, ◌+◌, ◌-◌, ◌*◌, ℕ, ℤ, List, arith, sym, ap, ◌∙◌, subst, length}
-use Rattle.int_rows.specs.Range.{AllInRange}
+use Rattle.integer_laws.specs.Range.{AllInRange}
 use Rattle.dual_simplex.proofs.BlockLemmas.{other_row, all_kept}
 use Rattle.dual_simplex.proofs.pivot_row.write_row.Goals as goal
 

@@ -1,6 +1,6 @@
 use Rattle.std.proofs.Common.{[], refl, inl, List, ℕ}
 use Rattle.text_rules.specs.Canonical.{canonical_lines}
-use Rattle.generator.specs.Generated.{generated}
+use Rattle.problem_rules.specs.Generated.{generated}
 use Rattle.endings.specs.Lines.{text_of}
 use Rattle.edit_commands.specs.Make.{MakeWork}
 use Rattle.endings.specs.Ending.{Tells}

@@ -5,7 +5,7 @@ use Rattle.tree_rules.specs.Claim as claims
 use Rattle.tree_text_rules.specs.Line.{Token}
 use Rattle.tree_text_rules.specs.Spelling.{network_lines, claim_lines, end_line, place_lines}
 use Rattle.structure_flows.specs.Answers.{AnswersFor, IsLeastFor, IsPastFor}
-use Rattle.structure_flows.specs.Flows.{HasNoFlows}
+use Rattle.tree_rules.specs.LeastFlows.{HasNoFlows}
 use Rattle.flow_commands.specs.Flows.{FlowsSay}
 use Rattle.endings.specs.Printed.{OneAnswer}
 use Rattle.endings.specs.declared.status.Status.{Status}

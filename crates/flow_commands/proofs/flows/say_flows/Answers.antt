@@ -1,5 +1,5 @@
 use Rattle.std.proofs.Common.{◌∷◌, [], refl, subst, inl, ℕ, List, Option}
-use Rattle.pgraph.specs.declared.verdict.Axiom.TheVariants.{S3}
+use Rattle.pns_rules.specs.declared.verdict.Axiom.TheVariants.{S3}
 use Rattle.endings.specs.Lines.{line}
 use Rattle.structure_commands.specs.Axioms.{breaks_line}
 use Rattle.flow_commands.specs.Flows.{FlowsWork, FlowNamesSay}

@@ -2,9 +2,9 @@ use Rattle.std.proofs.Common.{◌≡◌, ℕ, Bool, List, None, length, refl, su
 use Rattle.number_sets.specs.Sets.{has, IsSet}
 use Rattle.problem_rules.specs.Problem.{Problem}
 use Rattle.pns_rules.specs.Shape.{Shape, shape_of}
-use Rattle.pgraph.specs.Verdict.{Judges}
-use Rattle.pgraph.specs.declared.verdict.Verdict.{Verdict}
-use Rattle.pgraph.specs.declared.verdict.Verdict.TheVariants.{Meets, Breaks}
+use Rattle.pns_rules.specs.Verdict.{Judges}
+use Rattle.pns_rules.specs.declared.verdict.Verdict.{Verdict}
+use Rattle.pns_rules.specs.declared.verdict.Verdict.TheVariants.{Meets, Breaks}
 use Rattle.structure_commands.specs.Axioms.{VerdictSays, units_named}
 use Rattle.flow_commands.specs.Flows.{FlowsSay, FlowNamesSay, UnitsSay}
 use Rattle.endings.specs.declared.status.Status.{Status}

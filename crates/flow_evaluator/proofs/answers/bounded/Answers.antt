@@ -4,7 +4,7 @@ use Rattle.flow_rules.specs.Net.{net_of}
 use Rattle.flow_rules.specs.Program.{Program, program_of}
 use Rattle.dual_simplex.specs.Bench.{IsLeastOf}
 use Rattle.node_evaluation.specs.Evaluated.{IsBoundOf}
-use Rattle.flow_evaluator.specs.Past.{IsPastAt}
+use Rattle.tree_rules.specs.Past.{IsPastAt}
 use Rattle.flow_evaluator.proofs.FlowLemmas.{bound_is}
 use Rattle.flow_evaluator.proofs.KnownLemmas.{stopped_is}
 use Rattle.flow_evaluator.proofs.answers.bounded.Goals as goal

@@ -10,9 +10,9 @@ use Rattle.dual_simplex.specs.PastPlace.{IsPastFlowOf}
 use Rattle.tree_rules.specs.Leaf.{IsFormed}
 use Rattle.node_evaluation.specs.declared.evaluator.Bound.{Bound}
 use Rattle.tree_rules.specs.Claim.{Network}
-use Rattle.turn_laws.specs.Values.{IsNoMore}
+use Rattle.tree_rules.specs.Costs.{IsNoMore}
 use Rattle.node_evaluation.specs.Evaluated.{cost_over, cost_in, IsBoundOf, IsNetworkOf, HasUnits}
-use Rattle.flow_evaluator.specs.Past.{IsPastAt}
+use Rattle.tree_rules.specs.Past.{IsPastAt}
 use Rattle.flow_evaluator.proofs.FlowLemmas.{IsValueAt, bound_is, network_with, network_is, kept_value, kept_steps, is_split, units_inside}
 use Rattle.flow_evaluator.proofs.KnownLemmas.{place_known, kept_known, stopped_is}
 use Rattle.flow_evaluator.proofs.answers.with_flows.Goals as goal

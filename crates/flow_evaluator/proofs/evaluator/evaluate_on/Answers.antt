@@ -7,7 +7,7 @@ use Rattle.flow_rules.specs.Program.{Program, program_of}
 use Rattle.flow_rules.specs.Relaxed.{stays, units, rows}
 use Rattle.dual_simplex.specs.Bench.{HasRoom}
 use Rattle.dual_simplex.specs.PastPlace.{IsPastOf}
-use Rattle.flow_evaluator.specs.Past.{IsPastAt}
+use Rattle.tree_rules.specs.Past.{IsPastAt}
 use Rattle.flow_evaluator.proofs.KnownLemmas.{place_known, kept_known, stopped_is}
 use Rattle.flow_evaluator.proofs.evaluator.evaluate_on.Goals as goal
 

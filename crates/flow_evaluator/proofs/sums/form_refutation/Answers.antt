@@ -4,10 +4,10 @@ use Rattle.flow_rules.specs.Net.{net_of}
 use Rattle.flow_rules.specs.Program.{program_of}
 use Rattle.flow_rules.specs.Steps.{IsFirstPast}
 use Rattle.flow_rules.specs.BoundSteps.{bound_steps}
-use Rattle.flow_program.specs.declared.place.Column.{Column}
-use Rattle.flow_program.specs.declared.place.Place.TheVariants.{Refute}
+use Rattle.flow_rules.specs.declared.place.Column.{Column}
+use Rattle.flow_rules.specs.declared.place.Place.TheVariants.{Refute}
 use Rattle.tree_rules.specs.Leaf.{multiplier}
-use Rattle.flow_evaluator.specs.Past.{IsPastAt}
+use Rattle.tree_rules.specs.Past.{IsPastAt}
 use Rattle.flow_evaluator.proofs.KnownLemmas.{column_known, kept_known}
 use Rattle.flow_evaluator.proofs.sums.form_refutation.Goals as goal
 

@@ -1,4 +1,4 @@
-use Rattle.generator.specs.Generated.{intermediate_of}
+use Rattle.problem_rules.specs.Generated.{intermediate_of}
 use Rattle.generator.proofs.RangeLemmas.{made_more}
 use Rattle.generator.proofs.materials.push_intermediates.Goals as goal
 

@@ -1,5 +1,5 @@
 use Rattle.std.proofs.Common.{◌≡◌, ◌++◌}
-use Rattle.generator.specs.Generated.{intermediates}
+use Rattle.problem_rules.specs.Generated.{intermediates}
 use Rattle.generator.proofs.materials.push_intermediates.Given as goal
 
 abbrev pub invariant-chaining : goal.invariant-chaining

@@ -1,7 +1,7 @@
 use Rattle.std.proofs.Common.{◌≡◌, map}
 use Rattle.std.specs.List.{range_with_len}
-use Rattle.generator.specs.Draws.{state_after}
-use Rattle.generator.specs.Generated.{raw_of}
+use Rattle.problem_rules.specs.Draws.{state_after}
+use Rattle.problem_rules.specs.Generated.{raw_of}
 use Rattle.generator.proofs.materials.raw_materials.Given as goal
 
 abbrev pub invariant-pricing : goal.invariant-pricing

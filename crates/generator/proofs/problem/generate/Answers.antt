@@ -1,7 +1,7 @@
 use Rattle.generator.proofs.ValidLemmas.{valid_parts}
 use Rattle.std.proofs.Common.{◌∙◌, ap}
-use Rattle.generator.specs.Draws.{state_after}
-use Rattle.generator.specs.Generated.{materials_of, units_of, chain_length}
+use Rattle.problem_rules.specs.Draws.{state_after}
+use Rattle.problem_rules.specs.Generated.{materials_of, units_of, chain_length}
 use Rattle.generator.proofs.problem.generate.Goals as goal
 
 pub build_valid-requires : goal.build_valid-requires

@@ -1,4 +1,4 @@
-use Rattle.generator.specs.Generated.{generated}
+use Rattle.problem_rules.specs.Generated.{generated}
 use Rattle.generator.proofs.ValidLemmas.{generated_is_well_formed}
 use Rattle.generator.proofs.problem.generated_is_valid.Goals as goal
 

@@ -1,6 +1,6 @@
 use Rattle.std.proofs.Common.{◌∙◌, ap, sym, []}
-use Rattle.generator.specs.Draws.{state_after}
-use Rattle.generator.specs.Generated.{unit, unit_in_turn}
+use Rattle.problem_rules.specs.Draws.{state_after}
+use Rattle.problem_rules.specs.Generated.{unit, unit_in_turn}
 use Rattle.generator.proofs.DrawLemmas.{five_more}
 use Rattle.generator.proofs.RangeLemmas.{made_more}
 use Rattle.generator.proofs.units.units_of.Goals as goal

@@ -1,6 +1,6 @@
 use Rattle.std.proofs.Common.{◌≡◌, ◌*◌}
-use Rattle.generator.specs.Draws.{state_after}
-use Rattle.generator.specs.Generated.{units_of}
+use Rattle.problem_rules.specs.Draws.{state_after}
+use Rattle.problem_rules.specs.Generated.{units_of}
 use Rattle.generator.proofs.units.units_of.Given as goal
 
 abbrev pub invariant-making : goal.invariant-making

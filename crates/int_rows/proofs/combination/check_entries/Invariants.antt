@@ -1,5 +1,5 @@
 use Rattle.std.proofs.Common.{ℕ, ◌≡◌, ◌<◌, None}
-use Rattle.int_rows.specs.Combined.{past_at}
+use Rattle.integer_laws.specs.Combined.{past_at}
 use Rattle.int_rows.proofs.combination.check_entries.Given as goal
 
 abbrev pub invariant-loop-j : goal.invariant-loop-j

@@ -2,7 +2,7 @@ use Rattle.std.proofs.Common.{pos, ℤ, SFits, rules, get_or, subst, List}
 use Rattle.std.proofs.lemmas.Int.{to_z-of_z}
 use Rattle.std.proofs.lemmas.Result.{err_from_is_err_and}
 use Rattle.std.specs.Int.{w128}
-use Rattle.int_rows.specs.Reduced.{IsReduced}
+use Rattle.integer_laws.specs.Reduced.{IsReduced}
 use Rattle.int_rows.proofs.RangeLemmas.{fits_from_range}
 use Rattle.int_rows.proofs.combination.combine.Goals as goal
 

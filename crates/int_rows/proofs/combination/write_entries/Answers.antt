@@ -2,8 +2,8 @@ use Rattle.std.proofs.Common.{◌≡◌, ◌<◌, pos, ℤ, SFits, rules, get_or
 use Rattle.std.proofs.lemmas.Int.{to_z-of_z}
 use Rattle.std.proofs.lemmas.List.Elements.{AllWithin-more_set}
 use Rattle.std.specs.Int.{w128}
-use Rattle.int_rows.specs.Range.{InRange}
-use Rattle.int_rows.specs.Combined.{past_of}
+use Rattle.integer_laws.specs.Range.{InRange}
+use Rattle.integer_laws.specs.Combined.{past_of}
 use Rattle.int_rows.proofs.Entries.{combined_left, combined_more}
 use Rattle.int_rows.proofs.combination.write_entries.Goals as goal
 

@@ -1,6 +1,6 @@
 use Rattle.std.proofs.Common.{ℕ, ℤ, ◌≡◌, ◌++◌, List, take, drop}
-use Rattle.int_rows.specs.Combined.{combined}
-use Rattle.int_rows.specs.Range.{InRange}
+use Rattle.integer_laws.specs.Combined.{combined}
+use Rattle.integer_laws.specs.Range.{InRange}
 use Rattle.std.specs.List.{AllWithin}
 use Rattle.int_rows.proofs.combination.write_entries.Given as goal
 

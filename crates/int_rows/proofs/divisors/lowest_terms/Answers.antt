@@ -2,7 +2,7 @@ use Rattle.std.proofs.Common.{SFits}
 use Rattle.std.specs.Int.{w128}
 use Rattle.std.proofs.lemmas.Int.{to_z-of_z}
 use Rattle.integer_laws.proofs.LowestTerms.{gcd_positive}
-use Rattle.int_rows.specs.Lowest.{IsLowest}
+use Rattle.integer_laws.specs.Lowest.{IsLowest}
 use Rattle.int_rows.proofs.RangeLemmas.{fits_from_range}
 use Rattle.int_rows.proofs.LowestLemmas.{is_lowest, lowest_coprime, lowest_positive}
 use Rattle.int_rows.proofs.divisors.lowest_terms.Goals as goal

@@ -3,7 +3,7 @@ use Rattle.std.proofs.lemmas.Int.{to_z-of_z, ints}
 use Rattle.std.specs.Prelude.{unsigned_abs}
 use Rattle.std.specs.Int.{w128}
 use Rattle.std.proofs.lemmas.List.Elements.{All-set}
-use Rattle.int_rows.specs.Range.{InRange}
+use Rattle.integer_laws.specs.Range.{InRange}
 use Rattle.int_rows.proofs.Division.{divided_more, divided_all, divides_entry, reduced_from_quotients, reduced_from_one}
 use Rattle.int_rows.proofs.divisors.primitive.Goals as goal
 

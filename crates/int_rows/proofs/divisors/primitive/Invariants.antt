@@ -1,6 +1,6 @@
 use Rattle.std.proofs.Common.{ℕ, ◌≡◌, ℤ, List, take, drop, ◌++◌, map}
 use Rattle.std.specs.Prelude.{int_div}
-use Rattle.int_rows.specs.Range.{AllInRange}
+use Rattle.integer_laws.specs.Range.{AllInRange}
 use Rattle.int_rows.proofs.divisors.primitive.Given as goal
 
 pub record IsDivided (old new : List ℤ) (i : ℕ) (common : ℤ) : Type 0 where

@@ -1,7 +1,7 @@
 use Rattle.std.proofs.Common.{ℕ, ◌≤ℤ◌, pos, ℤ, List, take}
 use Rattle.std.specs.Prelude.{unsigned_abs}
-use Rattle.int_rows.specs.Range.{InRange}
-use Rattle.int_rows.specs.Reduced.{IsRowGcd}
+use Rattle.integer_laws.specs.Range.{InRange}
+use Rattle.integer_laws.specs.Reduced.{IsRowGcd}
 use Rattle.int_rows.proofs.divisors.row_gcd.Given as goal
 
 pub record IsSoFar (row : List ℤ) (i : ℕ) (common : ℤ) : Type 0 where

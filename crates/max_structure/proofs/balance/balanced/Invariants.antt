@@ -1,7 +1,7 @@
 use Rattle.std.proofs.Common.{◌≡◌, ◌<◌, ◌+◌, ◌*◌, ℕ, Bool, true, length}
 use Rattle.number_sets.specs.Sets.{has, IsWithin}
 use Rattle.pns_rules.specs.Structure.{Meets}
-use Rattle.pgraph.specs.Breaks.{BreaksS2}
+use Rattle.pns_rules.specs.Breaks.{BreaksS2}
 use Rattle.pgraph.specs.Tables.{shape}
 use Rattle.max_structure.proofs.balance.balanced.Given as goal
 

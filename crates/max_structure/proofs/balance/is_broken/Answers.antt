@@ -2,7 +2,7 @@ use Rattle.std.proofs.Common.{◌≡◌, ◌∙◌, ◌↔◌, not, true, false,
 use Rattle.std.proofs.lemmas.Bool.{both_ways}
 use Rattle.number_sets.specs.Sets.{has}
 use Rattle.pgraph.specs.Tables.{shape}
-use Rattle.pgraph.specs.Breaks.{BreaksS2}
+use Rattle.pns_rules.specs.Breaks.{BreaksS2}
 use Rattle.max_structure.proofs.BalanceLemmas.{broken_if_raw, broken_if_unmade, unbroken_if_made}
 use Rattle.max_structure.proofs.balance.is_broken.Goals as goal
 

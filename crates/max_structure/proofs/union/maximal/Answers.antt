@@ -3,7 +3,7 @@ use Rattle.std.proofs.lemmas.Bool.{both_ways}
 use Rattle.number_sets.specs.Sets.{has}
 use Rattle.pns_rules.specs.Ends.{IsNever}
 use Rattle.pgraph.specs.Tables.{shape}
-use Rattle.pgraph.specs.Breaks.{BreaksS1}
+use Rattle.pns_rules.specs.Breaks.{BreaksS1}
 use Rattle.pgraph.proofs.ArcLemmas.{some_number}
 use Rattle.max_structure.proofs.UnionLemmas.{set_within, structure_of, set_keeps, union_of, none_of, all_known, all_avoids, all_keeps}
 use Rattle.max_structure.proofs.union.maximal.Goals as goal

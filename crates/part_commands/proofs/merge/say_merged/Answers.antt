@@ -1,7 +1,7 @@
 use Rattle.std.proofs.Common.{◌≡◌, ◌<◌, arith, ◌∷◌, [], refl, ap, subst, sym, ◌∙◌, inl, inr, ℕ, List, Bool, nat_lt, get_or, length, map, codes, string_bytes}
 use Rattle.std.proofs.lemmas.List.{length-map, get_or-map}
 use Rattle.branch_tree.specs.View.{claim_of}
-use Rattle.branch_tree.specs.Tail.{whole}
+use Rattle.tree_rules.specs.Tail.{whole}
 use Rattle.pgraph.specs.Tables.{shape}
 use Rattle.tree_text_rules.specs.Spelling.{tree_text_lines}
 use Rattle.part_commands.specs.Merge.{MergeSays, FaultSays}

@@ -1,5 +1,5 @@
 use Rattle.branch_tree.specs.View.{claim_of}
-use Rattle.branch_tree.specs.Tail.{whole}
+use Rattle.tree_rules.specs.Tail.{whole}
 use Rattle.tree_text_rules.specs.Spelling.{tree_text_lines}
 use Rattle.part_commands.proofs.merge.say_tree_text.Goals as goal
 

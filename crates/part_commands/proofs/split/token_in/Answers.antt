@@ -1,6 +1,6 @@
 use Rattle.std.proofs.Common.{IfOk, string_bytes, ◌≡◌, List, ℕ, sym, subst}
 use Rattle.number_sets.proofs.SetLemmas.{listed-is}
-use Rattle.structure_list.specs.Tokens.{token_of}
+use Rattle.pns_rules.specs.Tokens.{token_of}
 use Rattle.part_commands.proofs.split.token_in.Goals as goal
 
 pub returns : goal.returns

@@ -1,7 +1,7 @@
 use Rattle.std.proofs.Common.{List, [], ◌∷◌, subst}
 use Rattle.pns_rules.specs.Shape.{shape_of}
 use Rattle.tree_rules.specs.Accepted.{first_node}
-use Rattle.cert_check.specs.declared.refusal.Refusal.{Refusal}
+use Rattle.tree_rules.specs.declared.refusal.Refusal.{Refusal}
 use Rattle.cert_check.specs.declared.open_leaf.OpenLeaf.{OpenLeaf}
 use Rattle.cert_check.specs.OpenLeaves.{leaves_at, AreBefore}
 use Rattle.rank_check.specs.Refusals.{NamesPlainFault, OpenPass, OpenFails}

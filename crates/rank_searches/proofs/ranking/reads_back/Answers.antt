@@ -4,7 +4,7 @@ use Rattle.tree_rules.specs.Tree.{IsTree}
 use Rattle.tree_rules.specs.Claim.{Network}
 use Rattle.tree_rules.specs.Accepted.{Tree}
 use Rattle.branch_tree.specs.Sized.{IsKept}
-use Rattle.branch_tree.specs.Tail.{Tail}
+use Rattle.tree_rules.specs.Tail.{Tail}
 use Rattle.tree_text_laws.specs.Fits.{CountsTail}
 use Rattle.ranked_tree.specs.Marked.{Mark}
 use Rattle.rank_searches.specs.Normal.{normal, IsMarkInRange}

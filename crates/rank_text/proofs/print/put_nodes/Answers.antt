@@ -1,5 +1,5 @@
 use Rattle.std.proofs.Common.{◌++◌, ◌+◌, ◌∙◌, ap, arith, drop, map, subst, sym, List}
-use Rattle.branch_tree.specs.Known.{KnowsTree}
+use Rattle.tree_rules.specs.Known.{KnowsTree}
 use Rattle.ranked_tree.specs.Marked.{Mark, marked, marked_node, marks_behind}
 use Rattle.ranked_tree.specs.View.{mark_of}
 use Rattle.tree_rules.specs.Accepted.{Tree}

@@ -1,5 +1,5 @@
 use Rattle.std.proofs.Common.{◌≤◌, drop, map}
-use Rattle.branch_tree.specs.Known.{KnowsTree}
+use Rattle.tree_rules.specs.Known.{KnowsTree}
 use Rattle.ranked_tree.specs.Marked.{marked}
 use Rattle.ranked_tree.specs.View.{mark_of}
 use Rattle.tree_text.proofs.Printed.{ArePrinted}

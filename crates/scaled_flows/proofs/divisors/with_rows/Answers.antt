@@ -4,7 +4,7 @@ use Rattle.std.specs.Int.{w64, w128, ◌∣◌}
 use Rattle.std.proofs.lemmas.Int.{to_z-of_z}
 use Rattle.std.proofs.lemmas.Nat.Gcd.{dvd_refl}
 use Rattle.number_sets.specs.Sets.{IsSet}
-use Rattle.int_rows.specs.Range.{InRange}
+use Rattle.integer_laws.specs.Range.{InRange}
 use Rattle.scaled_flows.proofs.DivisorLemmas.{divides_abs}
 use Rattle.pgraph.specs.View.{node_of}
 use Rattle.flow_rules.specs.Net.{net_of}

@@ -7,7 +7,8 @@ use Rattle.endings.specs.declared.status.Status.{Status}
 use Rattle.endings.specs.declared.status.Status.TheVariants.{Memory}
 use Rattle.endings.proofs.Ending.{Ends-map, Tells-map, Tells-memory, only_in}
 use Rattle.abb_search.specs.declared.outcome.Found.{Found}
-use Rattle.abb_search.specs.Found.{IsFound, IsProved}
+use Rattle.abb_search.specs.Found.{IsFound}
+use Rattle.tree_rules.specs.Proved.{IsProved}
 use Rattle.searches.specs.Found.{FoundSays}
 use Rattle.searches.specs.Summary.{SummarySays, SummaryWork}
 use Rattle.searches.proofs.FoundTexts.{solves, found_sums}

@@ -1,4 +1,4 @@
-use Rattle.pns_io.specs.Outside.{HasRisen}
+use Rattle.text_rules.specs.Outside.{HasRisen}
 use Rattle.endings.specs.declared.status.Status.TheVariants.{NotBest}
 use Rattle.endings.proofs.Printing.{printed_first}
 use Rattle.stability_commands.specs.Stable.{not_best_lines}

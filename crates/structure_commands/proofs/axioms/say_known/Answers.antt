@@ -1,7 +1,7 @@
 use Rattle.std.proofs.Common.{None, subst, ℕ, List, Bool}
 use Rattle.number_sets.specs.Sets.{has}
 use Rattle.pns_rules.specs.Shape.{Shape, shape_of}
-use Rattle.pgraph.specs.Verdict.{Judges}
+use Rattle.pns_rules.specs.Verdict.{Judges}
 use Rattle.structure_commands.specs.Axioms.{NamesSay, VerdictSays, units_named}
 use Rattle.endings.specs.Ending.{Tells}
 use Rattle.endings.specs.declared.status.Status.{Status}

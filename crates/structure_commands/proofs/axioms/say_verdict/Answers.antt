@@ -1,5 +1,5 @@
 use Rattle.std.proofs.Common.{◌∷◌, ◌∙◌, [], refl, sym, ap, subst, inl, ℕ, List, codes}
-use Rattle.pgraph.specs.declared.verdict.Verdict.{Verdict}
+use Rattle.pns_rules.specs.declared.verdict.Verdict.{Verdict}
 use Rattle.endings.specs.Lines.{line}
 use Rattle.structure_commands.specs.Axioms.{VerdictSays, breaks_line, place_name}
 use Rattle.endings.specs.Ending.{Tells}

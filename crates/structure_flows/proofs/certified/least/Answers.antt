@@ -2,7 +2,7 @@ use Rattle.std.proofs.Common.{Some, subst}
 use Rattle.mixed_numbers.specs.declared.number.Mixed.{Mixed}
 use Rattle.tree_rules.specs.Leaf.{IsBounded}
 use Rattle.certified_bounds.specs.Certified.{cost_over}
-use Rattle.structure_flows.specs.Flows.{decided}
+use Rattle.tree_rules.specs.LeastFlows.{decided}
 use Rattle.structure_flows.proofs.CertifiedLemmas.{least_for}
 use Rattle.structure_flows.proofs.certified.least.Goals as goal
 

@@ -5,7 +5,7 @@ use Rattle.number_sets.specs.Sets.{has}
 use Rattle.flow_rules.specs.Net.{net_of, beside}
 use Rattle.flow_rules.specs.Flows.{cost}
 use Rattle.flow_rules.specs.Relaxed.{bound}
-use Rattle.structure_flows.specs.Flows.{decided, rows_of}
+use Rattle.tree_rules.specs.LeastFlows.{decided, rows_of}
 use Rattle.structure_flows.proofs.LeastLemmas.{least_cost}
 use Rattle.structure_flows.proofs.NodeLemmas.{is_between}
 use Rattle.structure_flows.proofs.laws.multipliers_prove.Goals as goal

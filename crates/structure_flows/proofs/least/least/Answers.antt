@@ -2,7 +2,7 @@ use Rattle.std.proofs.Common.{◌≡◌, ℕ, ℤ, List, length, pos, sym, ap, �
 use Rattle.std.specs.Int.{w128}
 use Rattle.std.proofs.lemmas.Int.{to_z-of_z}
 use Rattle.number_sets.specs.Sets.{has}
-use Rattle.int_rows.specs.Range.{InRange, AllInRange}
+use Rattle.integer_laws.specs.Range.{InRange, AllInRange}
 use Rattle.int_rows.proofs.RangeLemmas.{fits_from_range}
 use Rattle.flow_rules.specs.Net.{net_of, beside}
 use Rattle.flow_rules.specs.Flows.{cost}
@@ -12,9 +12,9 @@ use Rattle.flow_rules.specs.CostSteps.{cost_steps}
 use Rattle.tree_rules.specs.Claim.{Network}
 use Rattle.branch_tree.specs.Scaled.{Scaled}
 use Rattle.dual_simplex.specs.Bench.{IsLeastOf, AreFlowsOf}
-use Rattle.branch_tree.specs.Known.{KnowsPlace}
+use Rattle.tree_rules.specs.Known.{KnowsPlace}
 use Rattle.dual_simplex.specs.PastPlace.{IsPastFlowOf}
-use Rattle.structure_flows.specs.Flows.{decided}
+use Rattle.tree_rules.specs.LeastFlows.{decided}
 use Rattle.structure_flows.specs.Answers.{IsLeastFor}
 use Rattle.structure_flows.proofs.AnswerLemmas.{last_in_range, set_of_problem, one_each_unit, Reached, least_for}
 use Rattle.structure_flows.proofs.KnownLemmas.{flow_known}

@@ -2,9 +2,9 @@ use Rattle.std.proofs.Common.{◌≡◌, List, refl, sym, subst, rules}
 use Rattle.problem_rules.specs.Each.{Each}
 use Rattle.flow_rules.specs.Net.{net_of}
 use Rattle.flow_rules.specs.Program.{program_of}
-use Rattle.flow_program.specs.declared.place.Column.{Column}
-use Rattle.branch_tree.specs.Known.{KnowsColumn}
-use Rattle.structure_flows.specs.Flows.{decided}
+use Rattle.flow_rules.specs.declared.place.Column.{Column}
+use Rattle.tree_rules.specs.Known.{KnowsColumn}
+use Rattle.tree_rules.specs.LeastFlows.{decided}
 use Rattle.structure_flows.specs.Answers.{IsPastFor}
 use Rattle.structure_flows.proofs.KnownLemmas.{columns_known}
 use Rattle.structure_flows.proofs.least.past.Goals as goal

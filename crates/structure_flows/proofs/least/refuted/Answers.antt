@@ -1,7 +1,7 @@
 use Rattle.std.proofs.Common.{◌≡◌, ℤ, List, ◌∙◌, subst, sym, rules}
 use Rattle.flow_rules.specs.Net.{net_of, beside}
 use Rattle.flow_rules.specs.Relaxed.{Refutes}
-use Rattle.structure_flows.specs.Flows.{decided, rows_of, HasNoFlows}
+use Rattle.tree_rules.specs.LeastFlows.{decided, rows_of, HasNoFlows}
 use Rattle.structure_flows.proofs.AnswerLemmas.{one_each_row}
 use Rattle.structure_flows.proofs.least.refuted.Goals as goal
 

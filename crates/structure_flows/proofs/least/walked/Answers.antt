@@ -1,9 +1,9 @@
 use Rattle.std.proofs.Common.{◌≤◌, subst, sym, ℕ, rules}
 use Rattle.number_sets.proofs.SetLemmas.{length_below}
 use Rattle.flow_rules.specs.Net.{net_of}
-use Rattle.branch_tree.specs.Known.{KnowsPlace}
+use Rattle.tree_rules.specs.Known.{KnowsPlace}
 use Rattle.dual_simplex.specs.PastPlace.{IsPastOf}
-use Rattle.structure_flows.specs.Flows.{decided}
+use Rattle.tree_rules.specs.LeastFlows.{decided}
 use Rattle.structure_flows.proofs.KnownLemmas.{entry_known}
 use Rattle.structure_flows.proofs.least.walked.Goals as goal
 

@@ -1,5 +1,5 @@
 use Rattle.std.proofs.Common.{map, string_bytes}
-use Rattle.pns_io.specs.Outside.{HasRisen}
+use Rattle.text_rules.specs.Outside.{HasRisen}
 use Rattle.endings.specs.Ending.{Shelves}
 use Rattle.studio.proofs.Statuses.{usage_ends, no_form_ends, read_fault_ends, write_fault_ends, complete_ends, finish_ends, accepted_ends, ranked_ends, missing_ends}
 use Rattle.studio.proofs.Causes.{exact_ends}

@@ -1,6 +1,6 @@
 use Rattle.std.proofs.Common.{◌<◌, ◌≤◌, ◌+◌, ◌-◌, ◌++◌, ◌∷◌, [], zero, suc, length, Some, Ok, ap, sym, subst, ◌∙◌, arith}
 use Rattle.std.proofs.lemmas.List.{length_push}
-use Rattle.branch_tree.specs.Known.{KnowsNode}
+use Rattle.tree_rules.specs.Known.{KnowsNode}
 use Rattle.problem_rules.specs.Each.{Each}
 use Rattle.tree_rules.specs.Tree as trees
 use Rattle.tree_rules.specs.Accepted.{Tree}

@@ -1,5 +1,5 @@
 use Rattle.std.proofs.Common.{◌≤◌, ◌*◌, ◌-◌, [], zero, suc, Some, length}
-use Rattle.branch_tree.specs.Known.{AreUnits, KnowsTree}
+use Rattle.tree_rules.specs.Known.{AreUnits, KnowsTree}
 use Rattle.tree_text_rules.specs.Read.{nodes_taken}
 use Rattle.tree_reading.specs.Place.{IsReached, lines_at}
 use Rattle.tree_reading.proofs.NodeByNode.{LeadsIn, Grows, HasRoot}

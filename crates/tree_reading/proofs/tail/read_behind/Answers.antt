@@ -1,5 +1,5 @@
 use Rattle.std.proofs.Common.{sym, subst}
-use Rattle.branch_tree.specs.Tail as tails
+use Rattle.tree_rules.specs.Tail as tails
 use Rattle.tree_text_rules.specs.Read.{tail_behind}
 use Rattle.tree_tokens.specs.Apart.{tail_opening_of}
 use Rattle.tree_tokens.specs.declared.opening.TailOpening.{TailOpening}

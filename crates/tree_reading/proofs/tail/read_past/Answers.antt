@@ -1,7 +1,7 @@
 use Rattle.std.proofs.Common.{ℕ, List, Result, Ok, ap, sym, subst, ◌∙◌}
-use Rattle.flow_program.specs.declared.place.Column.{Column}
-use Rattle.flow_program.specs.declared.place.Place.{Place}
-use Rattle.branch_tree.specs.Tail as tails
+use Rattle.flow_rules.specs.declared.place.Column.{Column}
+use Rattle.flow_rules.specs.declared.place.Place.{Place}
+use Rattle.tree_rules.specs.Tail as tails
 use Rattle.tree_text_rules.specs.Line.{Line}
 use Rattle.tree_text_rules.specs.LineRead.{nonbasic_read, place_read}
 use Rattle.tree_text_rules.specs.Read.{Fault, close_taken}

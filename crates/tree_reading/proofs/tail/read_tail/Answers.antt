@@ -1,6 +1,6 @@
 use Rattle.std.proofs.Common.{◌≡◌, suc, Result, Ok, IfOk, IfErr, sym, subst}
 use Rattle.std.proofs.lemmas.Result.{err_from_is_err_and}
-use Rattle.branch_tree.specs.Tail as tails
+use Rattle.tree_rules.specs.Tail as tails
 use Rattle.branch_tree.specs.View.{tail_of}
 use Rattle.tree_text_rules.specs.LineRead.{tail_opening_read}
 use Rattle.tree_text_rules.specs.Read.{Fault, tail_behind}

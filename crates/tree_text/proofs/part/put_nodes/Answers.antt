@@ -1,5 +1,5 @@
 use Rattle.std.proofs.Common.{arith, subst}
-use Rattle.branch_tree.specs.Known.{KnowsTree}
+use Rattle.tree_rules.specs.Known.{KnowsTree}
 use Rattle.tree_rules.specs.Accepted.{Tree}
 use Rattle.tree_text.proofs.Printed.{then_printed, then_failed, node_ahead, item_ahead}
 use Rattle.tree_text.proofs.part.put_nodes.Goals as goal

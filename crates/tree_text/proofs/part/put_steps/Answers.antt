@@ -2,7 +2,7 @@ use Rattle.std.proofs.Common.{map, arith, subst, List}
 use Rattle.problem_rules.specs.Each.{Each}
 use Rattle.unit_sets.specs.declared.step.Step.{Step}
 use Rattle.pgraph.specs.View.{step_of}
-use Rattle.branch_tree.specs.Known.{KnowsStep}
+use Rattle.tree_rules.specs.Known.{KnowsStep}
 use Rattle.tree_text_rules.specs.Spelling.{step_line}
 use Rattle.tree_text.proofs.Printed.{then_printed, then_failed, step_ahead, item_ahead}
 use Rattle.tree_text.proofs.part.put_steps.Goals as goal

@@ -1,7 +1,7 @@
 use Rattle.std.proofs.Common.{◌≤◌, map, drop}
 use Rattle.problem_rules.specs.Each.{Each}
 use Rattle.pgraph.specs.View.{step_of}
-use Rattle.branch_tree.specs.Known.{KnowsStep}
+use Rattle.tree_rules.specs.Known.{KnowsStep}
 use Rattle.tree_text_rules.specs.Spelling.{step_line}
 use Rattle.tree_text.proofs.Printed.{ArePrinted}
 use Rattle.tree_text.proofs.part.put_steps.Given as goal

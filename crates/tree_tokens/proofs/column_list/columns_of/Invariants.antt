@@ -1,6 +1,6 @@
 use Rattle.std.proofs.Common.{◌≡◌}
 use Rattle.problem_rules.specs.Each.{Each}
-use Rattle.branch_tree.specs.Known.{KnowsColumn}
+use Rattle.tree_rules.specs.Known.{KnowsColumn}
 use Rattle.tree_text_rules.specs.Token as rules
 use Rattle.tree_tokens.specs.Joined.{so_far, joined}
 use Rattle.tree_tokens.specs.View.{tokens_in, size_in}

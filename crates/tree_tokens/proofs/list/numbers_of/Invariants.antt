@@ -1,5 +1,5 @@
 use Rattle.std.proofs.Common.{◌≡◌}
-use Rattle.int_rows.specs.Range.{AllInRange}
+use Rattle.integer_laws.specs.Range.{AllInRange}
 use Rattle.tree_text_rules.specs.Token as rules
 use Rattle.tree_tokens.specs.Joined.{so_far, joined}
 use Rattle.tree_tokens.specs.View.{tokens_in, size_in}

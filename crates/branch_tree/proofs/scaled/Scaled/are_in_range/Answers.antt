@@ -1,6 +1,6 @@
 use Rattle.branch_tree.proofs.ScaledLemmas.{multipliers_in_range}
 use Rattle.std.proofs.Common.{rules, ◌≡◌, ◌<◌, length, ℕ, ◌+◌, ◌-◌, ◌*◌, ◌≤◌, ◌/◌, ◌%◌, Bool, true, false, nat_eq, nat_lt, List, [], ◌∷◌, ◌++◌, slice_index_or, slice_set, bit_and, bit_or, Fits, w8, w32, w64, Bor, MutBor}
-use Rattle.int_rows.specs.Range.{InRange, AllInRange}
+use Rattle.integer_laws.specs.Range.{InRange, AllInRange}
 use Rattle.branch_tree.specs.Scaled.{scaled_of}
 use Rattle.branch_tree.proofs.scaled.Scaled.are_in_range.Goals as goal
 

@@ -1,6 +1,6 @@
 use Rattle.std.proofs.Common.{SFits, rules, ◌≡◌, ◌≤◌, ◌∙◌, refl, sym, subst, ap, ℕ, List, length, take, arith}
 use Rattle.std.specs.Prelude.{ℤ, All, Option, Some, None, IfNone, IfSome, Result, IfOk}
-use Rattle.flow_program.specs.declared.place.Column.{Column}
+use Rattle.flow_rules.specs.declared.place.Column.{Column}
 use Rattle.dual_simplex.specs.declared.walk.PastPivot.{PastPivot}
 use Rattle.path_rules.specs.LinearProgram.{linear_of}
 use Rattle.dual_simplex.specs.Walk.{EndsFeasible, EndsRefuting}

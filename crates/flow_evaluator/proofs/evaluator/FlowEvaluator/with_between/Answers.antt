@@ -4,7 +4,7 @@ use Rattle.certified_bounds.specs.declared.certified.Between.{Between}
 use Rattle.certified_bounds.specs.Certified.{IsBetween}
 use Rattle.node_evaluation.specs.Evaluated.{IsEvaluated}
 use Rattle.node_evaluation.specs.declared.evaluator.Evaluation.TheVariants.{Stopped}
-use Rattle.flow_evaluator.specs.Past.{IsPastAt}
+use Rattle.tree_rules.specs.Past.{IsPastAt}
 use Rattle.flow_evaluator.proofs.ToldLemmas.{between_is}
 use Rattle.flow_evaluator.proofs.evaluator.FlowEvaluator.with_between.Goals as goal
 

@@ -1,8 +1,8 @@
 use Rattle.std.proofs.Common.{◌≡◌, ℤ, pos, ◌+ℤ◌, ◌*ℤ◌, ◌<ℤ◌, sym, ◌∙◌, refl, subst, SFits, true≢false}
 use Rattle.std.specs.Int.{w128}
 use Rattle.std.proofs.lemmas.Int.{to_z-of_z}
-use Rattle.int_rows.specs.Range.{InRange}
-use Rattle.int_rows.specs.Lowest.{IsLowest}
+use Rattle.integer_laws.specs.Range.{InRange}
+use Rattle.integer_laws.specs.Lowest.{IsLowest}
 use Rattle.int_rows.proofs.RangeLemmas.{fits_from_range}
 use Rattle.integer_laws.proofs.Order.{mul_pos}
 use Rattle.int_rows.proofs.LowestLemmas.{lowest_first_positive}

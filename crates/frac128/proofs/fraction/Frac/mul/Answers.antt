@@ -3,8 +3,8 @@ use Rattle.std.specs.Prelude.{unsigned_abs, IfOk, IsErr, ◌↔◌}
 use Rattle.std.proofs.lemmas.Result.{IfOk-weaker}
 use Rattle.std.specs.Int.{w128, IsGcd}
 use Rattle.std.proofs.lemmas.Int.{to_z-of_z}
-use Rattle.int_rows.specs.Range.{InRange}
-use Rattle.int_rows.specs.Lowest.{IsLowest}
+use Rattle.integer_laws.specs.Range.{InRange}
+use Rattle.integer_laws.specs.Lowest.{IsLowest}
 use Rattle.int_rows.proofs.RangeLemmas.{fits_from_range}
 use Rattle.integer_laws.proofs.Order.{mul_pos}
 use Rattle.frac128.proofs.FractionLemmas.{products_coprime, product_lowest, past_lowest}

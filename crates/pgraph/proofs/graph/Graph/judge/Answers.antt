@@ -1,6 +1,6 @@
 use Rattle.std.proofs.Common.{◌∙◌, sym, ap, refl}
 use Rattle.number_sets.specs.Sets.{has}
-use Rattle.pgraph.specs.Breaks.{BreaksS1, BreaksS2, BreaksS4}
+use Rattle.pns_rules.specs.Breaks.{BreaksS1, BreaksS2, BreaksS4}
 use Rattle.pgraph.specs.Tables.{shape}
 use Rattle.number_sets.proofs.OptionLemmas.{first_none}
 use Rattle.pgraph.proofs.PathLemmas.{first_is, first_never}

@@ -3,11 +3,11 @@ use Rattle.std.specs.Prelude.{ℕ, Bool}
 use Rattle.pns_rules.specs.Shape.{Shape}
 use Rattle.pns_rules.specs.Structure.{IsStructure}
 use Rattle.pns_rules.specs.Ends.{IsFirst, IsNever}
-use Rattle.pgraph.specs.Breaks.{BreaksS1, BreaksS2, BreaksS4}
-use Rattle.pgraph.specs.declared.verdict.Axiom.{Axiom}
-use Rattle.pgraph.specs.declared.verdict.Axiom.TheVariants.{S1, S2, S3, S4, S5}
-use Rattle.pgraph.specs.declared.verdict.Verdict.{Verdict}
-use Rattle.pgraph.specs.declared.verdict.Verdict.TheVariants.{Meets, Breaks}
+use Rattle.pns_rules.specs.Breaks.{BreaksS1, BreaksS2, BreaksS4}
+use Rattle.pns_rules.specs.declared.verdict.Axiom.{Axiom}
+use Rattle.pns_rules.specs.declared.verdict.Axiom.TheVariants.{S1, S2, S3, S4, S5}
+use Rattle.pns_rules.specs.declared.verdict.Verdict.{Verdict}
+use Rattle.pns_rules.specs.declared.verdict.Verdict.TheVariants.{Meets, Breaks}
 
 -- S3 and S5 hold of every set of units of the problem
 abbrev pub BreaksFirst : Shape → (ℕ → Bool) → Axiom → ℕ → Type 0

@@ -2,20 +2,20 @@
 -- rises. Whole numbers are in range.
 use Rattle.std.specs.Prelude.{ℕ, ◌<◌, List, length, Option, Some, None}
 use Rattle.number_sets.specs.Sets.{IsSet}
-use Rattle.int_rows.specs.Range.{InRange, AllInRange}
+use Rattle.integer_laws.specs.Range.{InRange, AllInRange}
 use Rattle.problem_rules.specs.Each.{Each}
 use Rattle.problem_rules.specs.Problem.{Problem}
 use Rattle.pns_rules.specs.Nodes as nodes
-use Rattle.flow_program.specs.declared.place.Column.{Column}
-use Rattle.flow_program.specs.declared.place.Column.TheVariants.{X, S, T, W, Right, Scale}
-use Rattle.flow_program.specs.declared.place.Place.{Place}
-use Rattle.flow_program.specs.declared.place.Place.TheVariants as places
+use Rattle.flow_rules.specs.declared.place.Column.{Column}
+use Rattle.flow_rules.specs.declared.place.Column.TheVariants.{X, S, T, W, Right, Scale}
+use Rattle.flow_rules.specs.declared.place.Place.{Place}
+use Rattle.flow_rules.specs.declared.place.Place.TheVariants as places
 use Rattle.tree_rules.specs.Ways as ways
 use Rattle.tree_rules.specs.Tree as trees
 use Rattle.tree_rules.specs.Leaf as leaves
 use Rattle.tree_rules.specs.Claim as claims
 use Rattle.tree_rules.specs.Accepted.{Tree}
-use Rattle.branch_tree.specs.Tail as tails
+use Rattle.tree_rules.specs.Tail as tails
 
 abbrev pub IsUnit : Problem → ℕ → Type 0
 IsUnit p u = u < length p.units

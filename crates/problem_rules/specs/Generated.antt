@@ -5,7 +5,7 @@ use Rattle.std.specs.Prelude.{ℕ, ◌+◌, ◌-◌, ◌*◌, ◌/◌, ◌%◌, 
 use Rattle.std.specs.List.{range_with_len}
 use Rattle.problem_rules.specs.Problem.{raw_material, intermediate, product, Material, Term, OperatingUnit, Problem}
 use Rattle.problem_rules.specs.Validity.{IsValid}
-use Rattle.generator.specs.Draws.{first_state, state_after, drawn}
+use Rattle.problem_rules.specs.Draws.{first_state, state_after, drawn}
 
 -- an amount in millionths
 abbrev pub whole : ℕ → ℤ

@@ -2,12 +2,12 @@
 -- problem: a tableau and its path know them by their places in the program.
 use Rattle.std.specs.Prelude.{ℕ, ◌+◌, ◌-◌, not, cond, nat_lt, nat_eq, List, length, map, slice_index_or, Some, None}
 use Rattle.std.specs.List.{filter, range_with_len}
-use Rattle.flow_program.specs.declared.place.Column.{Column}
-use Rattle.flow_program.specs.declared.place.Column.TheVariants.{X, S, T, W, Right, Scale}
-use Rattle.flow_program.specs.declared.place.FlowStep.{FlowStep}
-use Rattle.flow_program.specs.declared.place.FlowStep.TheVariants as steps
-use Rattle.flow_program.specs.declared.place.Place.{Place}
-use Rattle.flow_program.specs.declared.place.Place.TheVariants as places
+use Rattle.flow_rules.specs.declared.place.Column.{Column}
+use Rattle.flow_rules.specs.declared.place.Column.TheVariants.{X, S, T, W, Right, Scale}
+use Rattle.flow_rules.specs.declared.place.FlowStep.{FlowStep}
+use Rattle.flow_rules.specs.declared.place.FlowStep.TheVariants as steps
+use Rattle.flow_rules.specs.declared.place.Place.{Place}
+use Rattle.flow_rules.specs.declared.place.Place.TheVariants as places
 use Rattle.flow_rules.specs.Program.{Program}
 use Rattle.path_rules.specs.LinearProgram.{linear_of}
 use Rattle.path_rules.specs.Columns.{Basis, columns, scale_at}

@@ -1,9 +1,9 @@
 -- The combination of a row with a pivot row that takes one place to 0, and the first number on the way that is out of range.
 use Rattle.std.specs.Prelude.{ℕ, ◌<◌, ◌≡◌, ◌^◌, ℤ, pos, ◌*ℤ◌, ◌-ℤ◌, unsigned_abs, List, [], ◌∷◌, cond, length, slice_index_or, Option, Some, None, nat_lt, Bool}
-use Rattle.int_rows.specs.declared.combination.Which.{Which}
-use Rattle.int_rows.specs.declared.combination.Which.TheVariants.{Left, Right, Difference}
-use Rattle.int_rows.specs.Lowest.{IsLowest}
-use Rattle.int_rows.specs.Reduced.{IsReduced}
+use Rattle.integer_laws.specs.declared.which.Which.{Which}
+use Rattle.integer_laws.specs.declared.which.Which.TheVariants.{Left, Right, Difference}
+use Rattle.integer_laws.specs.Lowest.{IsLowest}
+use Rattle.integer_laws.specs.Reduced.{IsReduced}
 
 -- p times row minus q times pivot, place by place
 abbrev pub combined : ℤ → ℤ → List ℤ → List ℤ → List ℤ

@@ -1,4 +1,4 @@
-use tree_rules::Why;
+use crate::why::Why;
 
 /// Why a claim with its tree is refused.
 #[derive(Clone, Copy, Debug, PartialEq, Eq)]

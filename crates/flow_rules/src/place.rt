@@ -1,6 +1,6 @@
 //! The columns of a tableau, and the places where a number of a simplex method can leave the range.
 
-use int_rows::Which;
+use integer_laws::Which;
 
 /// A column of the tableau of a program, or an entry beside the columns. For each unit, `X` is its size above the least
 /// and `S` what is left to the greatest; for each row, `T` is what is left over above the least and `W` what is left to

@@ -4,10 +4,10 @@ use Rattle.problem_rules.specs.Each.{Each}
 use Rattle.problem_rules.specs.Problem.{Problem}
 use Rattle.pns_rules.specs.Nodes.{Node}
 use Rattle.flow_rules.specs.Net.{net_of}
-use Rattle.flow_program.specs.declared.place.Column.{Column}
-use Rattle.flow_program.specs.declared.place.Place.{Place}
-use Rattle.branch_tree.specs.Known.{KnowsColumn, KnowsPlace}
-use Rattle.dual_simplex.specs.PastPlace.{IsPastNamed}
+use Rattle.flow_rules.specs.declared.place.Column.{Column}
+use Rattle.flow_rules.specs.declared.place.Place.{Place}
+use Rattle.tree_rules.specs.Known.{KnowsColumn, KnowsPlace}
+use Rattle.path_rules.specs.PastPlace.{IsPastNamed}
 
 -- the place is past at the last basis of the path of the node's program, these are the columns outside that basis, and all their
 -- numbers are those of units and materials of the problem

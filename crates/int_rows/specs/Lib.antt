@@ -1,4 +1,0 @@
-pub mod Range
-pub mod Lowest
-pub mod Reduced
-pub mod Combined

@@ -1,0 +1,19 @@
+-- What it means that a place is past for a node, by the numbers of the problem.
+use Rattle.std.specs.Prelude.{◌≡◌, List}
+use Rattle.flow_rules.specs.declared.place.Column.{Column}
+use Rattle.flow_rules.specs.declared.place.Place.{Place}
+use Rattle.pns_rules.specs.Nodes.{Node}
+use Rattle.flow_rules.specs.Net.{Net}
+use Rattle.flow_rules.specs.Program.{program_of}
+use Rattle.path_rules.specs.Columns.{Basis}
+use Rattle.path_rules.specs.Places as path
+use Rattle.path_rules.specs.Named.{nonbasic_named, place_named}
+
+-- the place is past at the last basis of the path of the node's program, and these are the other columns, all by the numbers of
+-- the problem
+pub record IsPastNamed (net : Net) (n : Node) (nonbasic : List Column) (place : Place) : Type 0 where
+  pub last : Basis
+  pub at : path.Place
+  pub nonbasic_are : nonbasic ≡ nonbasic_named (program_of net n) last
+  pub named : place ≡ place_named (program_of net n) at
+  pub past : path.IsPast net n last at
