@@ -10,9 +10,9 @@ use Rattle.tree_rules.specs.Claim.{Claim, Network, network, infeasible, unknown}
 use Rattle.tree_rules.specs.Accepted.{Tree}
 use Rattle.tree_rules.specs.Known.{KnowsStep, KnowsNode, KnowsTree, KnowsClaim, AreUnits}
 use Rattle.part_rules.specs.Graft.{graft_at, grafted, claim_of_both, cheaper, has_open}
-use Rattle.tree_parts.specs.Part.{Part, start_of}
-use Rattle.tree_parts.specs.Several.{AreMerged}
-use Rattle.part_text.specs.Spelling.{KnowsPart}
+use Rattle.part_rules.specs.Part.{Part, start_of}
+use Rattle.part_rules.specs.Several.{AreMerged}
+use Rattle.part_rules.specs.Spelling.{KnowsPart}
 
 module _ (p : Problem) where
   graft_known : (k : ℕ) (ts part : Tree) → KnowsTree p ts → KnowsTree p part → KnowsTree p (graft_at k ts part)

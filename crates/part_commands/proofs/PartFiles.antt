@@ -6,7 +6,7 @@ use Rattle.text_rules.specs.Outside.{HasRisen, Told}
 use Rattle.problem_rules.specs.Problem.{Problem}
 use Rattle.tree_rules.specs.Claim.{Claim}
 use Rattle.tree_rules.specs.Accepted.{Tree}
-use Rattle.tree_parts.specs.Part.{Part}
+use Rattle.part_rules.specs.Part.{Part}
 use Rattle.command_files.specs.Reading.{AreHeld, FileFaults, GivesProblem, OnFile}
 use Rattle.command_files.specs.TreeFile.{GivesTree, OnTree, TreeFaults, TreeSays}
 use Rattle.part_commands.specs.Merge.{MergeSays, MergeWork}

@@ -10,10 +10,10 @@ use Rattle.tree_rules.specs.Tail.{whole}
 use Rattle.tree_rules.specs.declared.refusal.Refusal.{Refusal}
 use Rattle.tree_rules.specs.declared.refusal.Refusal.TheVariants.{Claim, Node, Memory}
 use Rattle.tree_text_rules.specs.Spelling.{tree_text_lines}
-use Rattle.tree_parts.specs.Part as parts
-use Rattle.tree_parts.specs.Several.{AreMerged, StopsAt}
-use Rattle.tree_parts.specs.declared.merging.MergeFault.{MergeFault}
-use Rattle.tree_parts.specs.declared.merging.MergeFault.TheVariants as faults
+use Rattle.part_rules.specs.Part as parts
+use Rattle.part_rules.specs.Several.{AreMerged, StopsAt}
+use Rattle.part_rules.specs.declared.merge_fault.MergeFault.{MergeFault}
+use Rattle.part_rules.specs.declared.merge_fault.MergeFault.TheVariants as faults
 use Rattle.refusal_words.specs.Words.{why_word, claim_line, node_line}
 use Rattle.part_commands.specs.PartFile.{FirstFault, GiveParts, part_words, are_several}
 use Rattle.endings.specs.Printed.{spelled}

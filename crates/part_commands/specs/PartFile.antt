@@ -4,8 +4,8 @@ use Rattle.std.specs.Prelude.{◌≡◌, ◌≤◌, ◌<◌, ◌++◌, ℕ, Bool
 use Rattle.text_rules.specs.Outside.{Told}
 use Rattle.problem_rules.specs.Problem.{Problem}
 use Rattle.tree_text_rules.specs.declared.TreeKind.{TreeKind}
-use Rattle.tree_parts.specs.Part.{Part}
-use Rattle.part_text.specs.Read.{PartReads}
+use Rattle.part_rules.specs.Part.{Part}
+use Rattle.part_rules.specs.Read.{PartReads}
 use Rattle.command_files.specs.Reading.{AreHeld, IsLong}
 use Rattle.command_files.specs.TreeFile.{tree_limit, tree_kind_word}
 use Rattle.endings.specs.declared.status.Status.{Status}

@@ -4,7 +4,7 @@ ghost use Rattle.std.specs.List.{Contains};
 ghost use Rattle.text_rules.specs.Outside.{HasRisen};
 ghost use Rattle.problem_rules.specs.Each.{Each};
 ghost use Rattle.endings.specs.Lines.{line};
-ghost use Rattle.part_text.specs.Spelling.{KnowsPart};
+ghost use Rattle.part_rules.specs.Spelling.{KnowsPart};
 ghost use Rattle.command_files.specs.Reading.{AreHeld};
 ghost use Rattle.part_commands.specs.PartFile.{GivesPart, PartFaults, GiveParts, FirstFault, are_several, part_words, part_fault_line};
 ghost use Rattle.endings.specs.Ending.{Ends, Says, Only, OrMemory};

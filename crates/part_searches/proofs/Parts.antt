@@ -5,7 +5,7 @@ use Rattle.pns_rules.specs.Nodes.{Node}
 use Rattle.tree_rules.specs.Claim.{Network, network}
 use Rattle.tree_rules.specs.Known.{KnowsClaim, KnowsTree, KnowsTail}
 use Rattle.tree_rules.specs.Tail as tails
-use Rattle.tree_parts.specs.Part.{Part}
+use Rattle.part_rules.specs.Part.{Part}
 use Rattle.abb_search.specs.declared.outcome.Found.{Found}
 use Rattle.abb_search.specs.declared.outcome.Found.TheVariants as found
 use Rattle.abb_search.specs.Found.{IsFound}

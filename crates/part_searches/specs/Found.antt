@@ -2,8 +2,8 @@
 use Rattle.std.specs.Prelude.{◌≡◌, ℕ, List, Option, Some, option_map}
 use Rattle.problem_rules.specs.Problem.{Problem}
 use Rattle.tree_text_rules.specs.Read.{Certificate}
-use Rattle.tree_parts.specs.Part.{Part}
-use Rattle.part_text.specs.Spelling.{part_text_lines}
+use Rattle.part_rules.specs.Part.{Part}
+use Rattle.part_rules.specs.Spelling.{part_text_lines}
 use Rattle.abb_search.specs.declared.outcome.Found.{Found}
 use Rattle.searches.specs.Solve.{status_of}
 use Rattle.searches.specs.Found.{certificate_of}

@@ -9,8 +9,8 @@ use Rattle.tree_text_rules.specs.Line.{Token, Line, tokens_of, lines_of}
 use Rattle.tree_text_rules.specs.Read.{Fault, rest_taken}
 use Rattle.tree_text_rules.specs.declared.TreeKind.{TreeKind}
 use Rattle.tree_text_rules.specs.declared.TreeKind.TheVariants.{FileType, BadLine, UnknownName, BadNumber, Order, WrongCount, MoreNodes, FewerNodes, AfterEnd}
-use Rattle.tree_parts.specs.Part.{Part}
-use Rattle.part_text.specs.Read.{PartReads, LinesRead, StartReads, FirstLine, BehindType, SetLine, is_file_type, with_start}
+use Rattle.part_rules.specs.Part.{Part}
+use Rattle.part_rules.specs.Read.{PartReads, LinesRead, StartReads, FirstLine, BehindType, SetLine, is_file_type, with_start}
 
 module _ (p : Problem) (few : length p.units ≤ 128) where
   -- ---- a line of a word and a set

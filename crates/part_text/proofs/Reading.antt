@@ -4,9 +4,9 @@ use Rattle.problem_rules.specs.Problem.{Problem}
 use Rattle.tree_text_rules.specs.Line.{Line}
 use Rattle.tree_text_rules.specs.Read.{Fault, Certificate, rest_taken}
 use Rattle.tree_text_rules.specs.declared.TreeKind.{TreeKind}
-use Rattle.tree_parts.specs.Part.{Part}
+use Rattle.part_rules.specs.Part.{Part}
 use Rattle.part_text.specs.Lines.{IsTaken}
-use Rattle.part_text.specs.Read.{SetLine, FirstLine, StartReads, BehindType, LinesRead, is_file_type, with_start}
+use Rattle.part_rules.specs.Read.{SetLine, FirstLine, StartReads, BehindType, LinesRead, is_file_type, with_start}
 
 -- ---- the first line
 

@@ -17,10 +17,10 @@ use Rattle.tree_text_laws.proofs.Pieces.{split_joined, joined_split, text_back, 
 use Rattle.tree_text_laws.proofs.Said.{no_feed}
 use Rattle.tree_text_laws.specs.Fits as fits
 use Rattle.tree_text_laws.specs.Laws.{RestsAreRead, SpelledTextsRead}
-use Rattle.tree_parts.specs.Part.{Part}
-use Rattle.part_text.specs.Read as reads
-use Rattle.part_text.specs.Read.{PartReads, LinesRead, StartReads, BehindType, IsFormedAs, with_start, is_file_type}
-use Rattle.part_text.specs.Spelling.{file_type, set_line, part_text_lines, part_text}
+use Rattle.part_rules.specs.Part.{Part}
+use Rattle.part_rules.specs.Read as reads
+use Rattle.part_rules.specs.Read.{PartReads, LinesRead, StartReads, BehindType, IsFormedAs, with_start, is_file_type}
+use Rattle.part_rules.specs.Spelling.{file_type, set_line, part_text_lines, part_text}
 use Rattle.part_text.specs.Laws.{certificate_of, Fits, IsSpelled}
 use Rattle.part_text.proofs.SetTokens.{set_is_token, line_in_front}
 

@@ -11,7 +11,7 @@ use Rattle.structure_list.proofs.TokenLemmas.{token_one, token_has_form}
 use Rattle.text_lines.proofs.Cutting.{split-at, split-none}
 use Rattle.tree_text_rules.specs.Line.{Line, is_space, has_bytes, tokens_of, is_formed}
 use Rattle.tree_tokens.proofs.Cutting.{tokens_some}
-use Rattle.part_text.specs.Read.{IsFormedAs}
+use Rattle.part_rules.specs.Read.{IsFormedAs}
 
 -- ---- sets
 

@@ -5,9 +5,9 @@ use Rattle.problem_rules.specs.Validity.{IsValid}
 use Rattle.tree_rules.specs.Known.{AreUnits}
 use Rattle.tree_text_rules.specs.Read.{Fault, Certificate}
 use Rattle.tree_text_laws.specs.Fits as trees
-use Rattle.tree_parts.specs.Part.{Part, IsApart}
-use Rattle.part_text.specs.Read.{PartReads}
-use Rattle.part_text.specs.Spelling.{part_text}
+use Rattle.part_rules.specs.Part.{Part, IsApart}
+use Rattle.part_rules.specs.Read.{PartReads}
+use Rattle.part_rules.specs.Spelling.{part_text}
 
 -- what a part has of a tree text
 abbrev pub certificate_of : Part → Certificate

@@ -1,5 +1,3 @@
 pub mod Lines
-pub mod Read
-pub mod Spelling
 pub mod Tells
 pub mod Laws

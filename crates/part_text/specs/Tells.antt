@@ -4,7 +4,7 @@ use Rattle.problem_rules.specs.Problem.{Problem}
 use Rattle.tree_text_rules.specs.declared.TreeKind.{TreeKind}
 use Rattle.text_lines.specs.declared.fault.TextFault.{TextFault}
 use Rattle.text_lines.specs.declared.fault.TextFault.TheVariants.{At, Memory}
-use Rattle.part_text.specs.Read.{PartReads}
+use Rattle.part_rules.specs.Read.{PartReads}
 
 abbrev pub TellsPart : Problem → List ℕ → TextFault TreeKind → Type 0
 TellsPart p bytes Memory = Unit {0}

@@ -4,8 +4,8 @@
 //! [`print_part`] writes the one text of a part, and [`read_part`] gives the part that a text stands for, or its first fault.
 //! The text of a part reads as the part, what a text stands for has no other text, and no text stands for two parts or has two first
 //! faults: [`laws`] has these (`specs/Laws`) as contracts of functions that do nothing.
-//! `specs/Spelling` has the text, and `specs/Read` what a text stands for. Modules: `print`; `set`, the sets of units that tokens and
-//! lines stand for; `read`.
+//! In `part_rules`, `Spelling` has the text, and `Read` what a text stands for. Modules: `print`; `set`, the sets of units that tokens
+//! and lines stand for; `read`.
 #![tactic(auto)]
 
 pub mod laws;

@@ -4,7 +4,7 @@ ghost use Rattle.tree_rules.specs.Known.{KnowsClaim, KnowsTree, KnowsTail};
 ghost use Rattle.text_rules.specs.Canonical.{joined};
 ghost use Rattle.tree_text_rules.specs.Spelling.{rest_lines};
 ghost use Rattle.tree_text.specs.Prints.{Prints};
-ghost use Rattle.part_text.specs.Spelling.{file_type, set_line, part_text_lines};
+ghost use Rattle.part_rules.specs.Spelling.{file_type, set_line, part_text_lines};
 
 use pns_io::Sink;
 use pns_problem::Problem;

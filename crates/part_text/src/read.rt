@@ -3,10 +3,10 @@ ghost use Rattle.std.specs.Prelude.{◌≡◌, ◌≤◌, ◌<◌, ◌-◌, ◌^
 ghost use Rattle.tree_rules.specs.Known.{AreUnits};
 ghost use Rattle.tree_tokens.specs.View.{line_of};
 ghost use Rattle.tree_reading.specs.Place.{IsCut, lines_at};
-ghost use Rattle.tree_parts.specs.Part.{IsApart};
+ghost use Rattle.part_rules.specs.Part.{IsApart};
 ghost use Rattle.part_text.specs.Lines.{IsTaken, IsFaultAt};
-ghost use Rattle.part_text.specs.Read.{SetLine, PartReads, is_file_type};
-ghost use Rattle.part_text.specs.Spelling.{KnowsPart};
+ghost use Rattle.part_rules.specs.Read.{SetLine, PartReads, is_file_type};
+ghost use Rattle.part_rules.specs.Spelling.{KnowsPart};
 ghost use Rattle.part_text.specs.Tells.{TellsPart};
 
 use crate::set::set_line;

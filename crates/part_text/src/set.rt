@@ -4,7 +4,7 @@ ghost use Rattle.tree_rules.specs.Known.{AreUnits};
 ghost use Rattle.pns_rules.specs.Tokens.{token_of};
 ghost use Rattle.tree_text_rules.specs.Line.{Token};
 ghost use Rattle.tree_tokens.specs.View.{line_of};
-ghost use Rattle.part_text.specs.Read.{IsFormedAs, SetLine};
+ghost use Rattle.part_rules.specs.Read.{IsFormedAs, SetLine};
 
 use pns_problem::Problem;
 use std::str;

@@ -15,8 +15,8 @@ use Rattle.rank_rules.specs.declared.why.RankWhy.TheVariants.{Plain}
 use Rattle.rank_rules.specs.Networks.{to_undercut, ArePassing}
 use Rattle.rank_rules.specs.Leaf.{LeafPasses, LeafFails}
 use Rattle.rank_rules.specs.Ranked.{IsRanked, NodeIsFault}
-use Rattle.ranked_tree.specs.Marked.{Mark}
-use Rattle.ranked_tree.specs.Text.{Text, ranking_of}
+use Rattle.rank_rules.specs.Marked.{Mark}
+use Rattle.rank_rules.specs.Text.{Text, ranking_of}
 use Rattle.rank_check.specs.Marks.{MarksPass, IsFirstMark}
 use Rattle.rank_check.specs.Refusals.{PlainPasses, OpenPass, OpenFails}
 use Rattle.rank_check.proofs.MarkLemmas.{marked_passes, marked_fault, mark_fault, pass_to, fault_to, all_before, IsFaultAt}

@@ -17,7 +17,7 @@ use Rattle.rank_rules.specs.declared.why.RankWhy.{RankWhy}
 use Rattle.rank_rules.specs.declared.why.RankWhy.TheVariants.{Plain}
 use Rattle.rank_rules.specs.Leaf.{Leaf, plain, named, LeafPasses, LeafFails, IsTold}
 use Rattle.rank_rules.specs.Ranked.{IsToldAt}
-use Rattle.ranked_tree.specs.Marked.{Mark, marked_leaf, first_mark, marked_end, marks_behind, marked}
+use Rattle.rank_rules.specs.Marked.{Mark, marked_leaf, first_mark, marked_end, marks_behind, marked}
 use Rattle.cert_check.specs.OpenLeaves.{AllBefore, NoneBefore}
 use Rattle.cert_check.proofs.TurnLemmas.{none_before}
 use Rattle.rank_check.specs.Marks.{MarksPass, IsFirstMark}

@@ -8,7 +8,7 @@ use Rattle.part_rules.specs.OpenLeaves.{OpenAt}
 use Rattle.rank_rules.specs.declared.why.RankWhy.{RankWhy}
 use Rattle.rank_rules.specs.declared.why.RankWhy.TheVariants.{Plain}
 use Rattle.rank_rules.specs.Leaf.{LeafPasses, LeafFails}
-use Rattle.ranked_tree.specs.Marked.{Mark, marked_leaf, first_mark, other_marks}
+use Rattle.rank_rules.specs.Marked.{Mark, marked_leaf, first_mark, other_marks}
 use Rattle.ranked_tree.specs.declared.mark.Mark as code
 use Rattle.ranked_tree.specs.View.{mark_of}
 use Rattle.rank_check.specs.Marks.{MarksPass, MarkFails, IsFirstMark}

@@ -12,7 +12,7 @@ use Rattle.part_rules.specs.OpenLeaves.{OpenAt}
 use Rattle.rank_rules.specs.declared.why.RankWhy.{RankWhy}
 use Rattle.rank_rules.specs.declared.why.RankWhy.TheVariants.{Plain, Named}
 use Rattle.rank_rules.specs.Leaf.{Leaf, IsOnly, named_cost, IsTold}
-use Rattle.ranked_tree.specs.Marked.{Mark, marked_leaf, first_mark, other_marks}
+use Rattle.rank_rules.specs.Marked.{Mark, marked_leaf, first_mark, other_marks}
 
 -- each leaf passes as what its mark tells
 abbrev pub MarksPass : (Node → Leaf → Type 0) → List OpenAt → List Mark → Type 0

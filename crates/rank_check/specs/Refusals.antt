@@ -12,7 +12,7 @@ use Rattle.rank_rules.specs.declared.why.RankWhy.{RankWhy}
 use Rattle.rank_rules.specs.Leaf.{LeafPasses, LeafFails}
 use Rattle.rank_rules.specs.Networks.{to_undercut, ArePassing}
 use Rattle.rank_rules.specs.Ranked.{Ranking, NetworkIsFault, NodeIsFault}
-use Rattle.ranked_tree.specs.Text.{Text}
+use Rattle.rank_rules.specs.Text.{Text}
 use Rattle.rank_check.specs.Marks.{MarksPass, IsFirstMark}
 use Rattle.rank_check.specs.declared.refusal.RankRefusal.{RankRefusal}
 use Rattle.rank_check.specs.declared.refusal.RankRefusal.TheVariants.{Memory, Network, Node}

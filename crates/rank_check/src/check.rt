@@ -16,7 +16,7 @@ ghost use Rattle.rank_rules.specs.declared.why.RankWhy.{RankWhy};
 ghost use Rattle.rank_rules.specs.Networks as ranks;
 ghost use Rattle.rank_rules.specs.Networks.{to_undercut, numbered, last_cost, IsListed, ArePassing};
 ghost use Rattle.rank_rules.specs.Ranked.{IsRanked, NetworkIsFault, NodeIsFault};
-ghost use Rattle.ranked_tree.specs.Text.{ranking_of};
+ghost use Rattle.rank_rules.specs.Text.{ranking_of};
 ghost use Rattle.rank_check.specs.declared.refusal.RankRefusal.TheVariants as refusals;
 ghost use Rattle.rank_check.specs.Refusals.{PlainPasses, NamesPlainFault, OpenPass, OpenFails, IsNodeAnswer, Refuses, IsOkOrMemory, IsRefusalOrMemory};
 

@@ -7,7 +7,7 @@ ghost use Rattle.pgraph.specs.View.{node_of};
 ghost use Rattle.cert_check.specs.OpenLeaves.{leaves_at};
 ghost use Rattle.rank_rules.specs.Networks.{ArePassing};
 ghost use Rattle.rank_rules.specs.Leaf.{LeafPasses, LeafFails};
-ghost use Rattle.ranked_tree.specs.Marked.{marked_leaf, first_mark};
+ghost use Rattle.rank_rules.specs.Marked.{marked_leaf, first_mark};
 ghost use Rattle.ranked_tree.specs.View.{mark_of};
 ghost use Rattle.rank_check.specs.Marks.{MarksPass, MarkFails, IsFirstMark};
 

@@ -4,7 +4,7 @@ use Rattle.problem_rules.specs.Problem.{Problem}
 use Rattle.problem_rules.specs.Validity.{IsValid}
 use Rattle.rank_rules.specs.Ranked.{IsRanked}
 use Rattle.rank_laws.specs.Laws.{ListedAreLeast, OthersCostEnough, OthersHaveNone}
-use Rattle.ranked_tree.specs.Text.{Text, ranking_of}
+use Rattle.rank_rules.specs.Text.{Text, ranking_of}
 use Rattle.command_files.specs.Reading.{OnFile}
 use Rattle.endings.specs.Ending.{Shelves, Ends, Says}
 use Rattle.endings.specs.declared.status.Status.{Status}

@@ -13,9 +13,9 @@ use Rattle.tree_rules.specs.Costs.{CostsEnough}
 use Rattle.rank_rules.specs.declared.why.RankWhy.{RankWhy}
 use Rattle.rank_rules.specs.Networks.{cost_of, numbered, last_cost, IsListed, ArePassing}
 use Rattle.rank_rules.specs.Ranked.{Ranking, IsRanked, NetworkIsFault, NodeIsFault}
-use Rattle.ranked_tree.specs.Text.{Text, ranking_of}
+use Rattle.rank_rules.specs.Text.{Text, ranking_of}
 use Rattle.tree_text_rules.specs.declared.TreeKind.{TreeKind}
-use Rattle.rank_text.specs.Read.{read_text}
+use Rattle.rank_rules.specs.Read.{read_text}
 use Rattle.rank_commands.specs.Words.{network_line, rank_node_line}
 use Rattle.command_files.specs.Reading.{AreHeld, GivesProblem, IsLong, OnFile, OnSecond}
 use Rattle.command_files.specs.TreeFile.{tree_limit, tree_fault_line}

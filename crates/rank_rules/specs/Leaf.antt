@@ -11,7 +11,7 @@ use Rattle.tree_rules.specs.Fault.{Fails}
 use Rattle.tree_rules.specs.Tree.{End, branch, leaf}
 use Rattle.tree_rules.specs.Claim.{Network, CostOver}
 use Rattle.tree_rules.specs.Leaf as leaves
-use Rattle.tree_rules.specs.Leaf.{IsOneEach, IsFormed, Reaches, IsBounded}
+use Rattle.tree_rules.specs.Leaf.{IsOneEach, IsFormed, Reaches, IsBounded, untried}
 use Rattle.rank_rules.specs.declared.why.RankWhy.{RankWhy}
 use Rattle.rank_rules.specs.declared.why.RankWhy.TheVariants.{Plain, Named}
 use Rattle.rank_rules.specs.Networks.{cost_of, numbered}
@@ -55,3 +55,7 @@ abbrev pub IsTold : End Leaf → Why → RankWhy → Type 0
 IsTold (branch w) cause why = why ≡ Plain cause
 IsTold (leaf (plain l)) cause why = why ≡ Plain cause
 IsTold (leaf (named k d ys)) cause why = ((cause ≡ Bound) × (why ≡ Named)) ⊎ ((cause ≡ Bound → ⊥) × (why ≡ Plain cause))
+
+-- an open leaf of a ranked tree
+abbrev pub IsOpenLeaf : Leaf → Type 0
+IsOpenLeaf l = l ≡ plain untried

@@ -24,8 +24,8 @@ use Rattle.rank_rules.specs.Networks.{ArePassing}
 use Rattle.rank_rules.specs.Ranked as ranked
 use Rattle.branch_tree.specs.Scaled.{Scaled}
 use Rattle.tree_rules.specs.Known.{KnowsEnd, KnowsTree}
-use Rattle.ranked_tree.specs.Marked.{Mark, marked}
-use Rattle.ranked_tree.specs.Text.{AreNumbered}
+use Rattle.rank_rules.specs.Marked.{Mark, marked}
+use Rattle.rank_rules.specs.Text.{AreNumbered}
 use Rattle.search_tree.specs.Cells.{Cell, place_of, cell_at, IsLinked}
 use Rattle.search_tree.specs.Growth.{as_shut}
 use Rattle.search_tree.specs.Preorder.{IsPreorder, node_at, tree_of, told_tree}
@@ -41,7 +41,8 @@ use Rattle.tree_rules.specs.Proved.{IsBelowLimit}
 use Rattle.abb_search.proofs.KnownLemmas.{AreKnown, known_end, knows_tree, few_nodes}
 use Rattle.rank_search.specs.Found.{FoundAt, networks_of, undercut_by, AreBest}
 use Rattle.rank_search.specs.Naming.{Names, name_at, names_at, names_of, IsNamedTree}
-use Rattle.rank_search.specs.Told.{IsOpenLeaf, IsTelling, IsSpentTelling, IsSpentFor}
+use Rattle.rank_rules.specs.Leaf.{IsOpenLeaf}
+use Rattle.rank_search.specs.Told.{IsTelling, IsSpentTelling, IsSpentFor}
 use Rattle.rank_search.proofs.FewLemmas.{few_with_next}
 use Rattle.rank_search.proofs.NamedLeafLemmas.{ClosesAt, Closes, leaf_passes, still_open, told_open}
 use Rattle.rank_search.proofs.MarkLemmas.{named_leaf, marked_is, length-opened, opened_known, marks_numbered}

@@ -12,8 +12,9 @@ use Rattle.node_evaluation.specs.Evaluated.{PastPlaces}
 use Rattle.abb_search.specs.declared.growing.Growing.{Growing}
 use Rattle.abb_search.specs.declared.growing.StoppedLeaf.{StoppedLeaf}
 use Rattle.abb_search.specs.Growing.{IsStoppedAt}
-use Rattle.ranked_tree.specs.Marked.{Mark, marked}
-use Rattle.rank_search.specs.Told.{IsOpenLeaf, IsTelling, IsSpentTelling}
+use Rattle.rank_rules.specs.Marked.{Mark, marked}
+use Rattle.rank_rules.specs.Leaf.{IsOpenLeaf}
+use Rattle.rank_search.specs.Told.{IsTelling, IsSpentTelling}
 use Rattle.rank_search.specs.Ranked.{IsRankedBy}
 use Rattle.rank_search.specs.declared.outcome.Ranked.TheVariants.{Whole, Spent, Past}
 

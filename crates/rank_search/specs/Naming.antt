@@ -5,7 +5,7 @@ use Rattle.std.specs.List.{slice_get}
 use Rattle.tree_rules.specs.Tree.{End, branch, leaf, TreeNode}
 use Rattle.tree_rules.specs.Leaf.{Leaf, dead, clash, refuted, bounded, untried}
 use Rattle.tree_rules.specs.Accepted.{Tree}
-use Rattle.ranked_tree.specs.Marked.{Mark}
+use Rattle.rank_rules.specs.Marked.{Mark}
 use Rattle.ranked_tree.specs.declared.mark.Mark as marks
 use Rattle.ranked_tree.specs.View.{mark_of}
 use Rattle.branch_tree.specs.Scaled.{Scaled}

@@ -8,9 +8,10 @@ use Rattle.tree_rules.specs.Stops.{IsPast}
 use Rattle.tree_rules.specs.Tail.{whole, spent, past}
 use Rattle.node_evaluation.specs.Evaluated.{PastPlaces}
 use Rattle.tree_rules.specs.Past.{IsPastAt}
-use Rattle.ranked_tree.specs.Marked.{marked}
-use Rattle.ranked_tree.specs.Text.{Text}
-use Rattle.rank_search.specs.Told.{IsOpenLeaf, IsTelling, IsSpentTelling}
+use Rattle.rank_rules.specs.Marked.{marked}
+use Rattle.rank_rules.specs.Text.{Text}
+use Rattle.rank_rules.specs.Leaf.{IsOpenLeaf}
+use Rattle.rank_search.specs.Told.{IsTelling, IsSpentTelling}
 use Rattle.rank_search.specs.declared.outcome.Ranked.{Ranked}
 use Rattle.rank_search.specs.declared.outcome.Ranked.TheVariants.{Whole, Spent, Past, Memory}
 

@@ -10,23 +10,19 @@ use Rattle.tree_rules.specs.Leaf.{untried}
 use Rattle.tree_rules.specs.Lean.{IsLean, MayUndercut}
 use Rattle.tree_rules.specs.Stops.{IsPending, IsNextCount, IsSpent}
 use Rattle.tree_rules.specs.Accepted.{Tree, first_node}
-use Rattle.rank_rules.specs.Leaf.{Leaf, plain}
 use Rattle.rank_rules.specs.Networks.{to_undercut}
 use Rattle.rank_rules.specs.Ranked.{Proves}
 use Rattle.branch_tree.specs.Scaled.{Scaled}
 use Rattle.tree_rules.specs.Known.{KnowsTree}
-use Rattle.ranked_tree.specs.Marked.{Mark, marked}
-use Rattle.ranked_tree.specs.Text.{IsCounted}
+use Rattle.rank_rules.specs.Marked.{Mark, marked}
+use Rattle.rank_rules.specs.Text.{IsCounted}
 use Rattle.rank_text.specs.Known.{KnowsNetwork}
 use Rattle.search_tree.specs.Cells.{place_of, cell_at}
 use Rattle.turn_laws.specs.Turns.{CanBranch, IsLeastOpen}
 use Rattle.abb_search.specs.declared.growing.Growing.{Growing}
 use Rattle.abb_search.specs.Closing.{ShutAll}
 use Rattle.tree_rules.specs.Proved.{IsBelowLimit}
-
--- an open leaf of a ranked tree
-abbrev pub IsOpenLeaf : Leaf → Type 0
-IsOpenLeaf l = l ≡ plain untried
+use Rattle.rank_rules.specs.Leaf.{IsOpenLeaf}
 
 -- ---- what is told
 

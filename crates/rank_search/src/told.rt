@@ -2,7 +2,7 @@
 ghost use Rattle.std.specs.Prelude.{◌≡◌, IfOk, map};
 ghost use Rattle.branch_tree.specs.View.{tail_of};
 ghost use Rattle.ranked_tree.specs.View.{mark_of};
-ghost use Rattle.ranked_tree.specs.Text.{IsCounted};
+ghost use Rattle.rank_rules.specs.Text.{IsCounted};
 ghost use Rattle.rank_search.specs.Ranked.{IsRankedBy};
 ghost use Rattle.rank_search.specs.Turns.{IsRankEnd};
 

@@ -5,8 +5,8 @@ use Rattle.tree_rules.specs.Tree.{TreeNode, End, branch, leaf}
 use Rattle.tree_rules.specs.Leaf as leaves
 use Rattle.tree_rules.specs.Accepted.{Tree}
 use Rattle.rank_rules.specs.Ranked as ranked
-use Rattle.ranked_tree.specs.Marked.{Mark, marked, marked_node, marked_end, first_mark, other_marks, marks_behind}
-use Rattle.ranked_tree.specs.Text.{AreNumbered}
+use Rattle.rank_rules.specs.Marked.{Mark, marked, marked_node, marked_end, first_mark, other_marks, marks_behind}
+use Rattle.rank_rules.specs.Text.{AreNumbered}
 use Rattle.rank_text.specs.Fits.{opens, opens_at, FitsMark}
 use Rattle.rank_searches.specs.Normal.{with_mark, marks_for, IsMarkInRange}
 

@@ -15,16 +15,16 @@ use Rattle.rank_laws.specs.Laws.{ListedAreLeast, OthersCostEnough, OthersHaveNon
 use Rattle.tree_rules.specs.Known.{KnowsTail}
 use Rattle.branch_tree.specs.Sized.{IsKept}
 use Rattle.tree_rules.specs.Tail as tails
-use Rattle.ranked_tree.specs.Marked.{marked}
-use Rattle.ranked_tree.specs.Text.{Text, ranking_of, IsCounted}
+use Rattle.rank_rules.specs.Marked.{marked}
+use Rattle.rank_rules.specs.Text.{Text, ranking_of, IsCounted}
 use Rattle.tree_text_rules.specs.Line.{Token}
 use Rattle.tree_text_rules.specs.Spelling as trees
 use Rattle.tree_text_laws.specs.Fits.{FitsNetwork, CountsTail}
 use Rattle.rank_text.specs.Known.{KnowsNetwork, KnowsText}
-use Rattle.rank_text.specs.Read.{read_text}
-use Rattle.rank_text.specs.Spelling.{rank_text, rank_text_lines, file_type, count_word, networks_word, tree_lines}
+use Rattle.rank_rules.specs.Read.{read_text}
+use Rattle.rank_rules.specs.Spelling.{rank_text, rank_text_lines, file_type, count_word, networks_word, tree_lines}
 use Rattle.rank_text.specs.Fits.{Fits}
-use Rattle.rank_search.specs.Told.{IsOpenLeaf}
+use Rattle.rank_rules.specs.Leaf.{IsOpenLeaf}
 use Rattle.rank_search.specs.declared.outcome.Ranked.{Ranked}
 use Rattle.rank_search.specs.declared.outcome.Ranked.TheVariants as found
 use Rattle.rank_search.specs.Ranked.{IsRankingFor, IsRankedTo}

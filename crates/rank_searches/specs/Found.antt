@@ -1,7 +1,7 @@
 -- The text of what a search for the best networks found, for the proof of the command.
 use Rattle.std.specs.Prelude.{◌≡◌, ℕ, List, Option, Some, None}
 use Rattle.problem_rules.specs.Problem.{Problem}
-use Rattle.ranked_tree.specs.Text.{Text}
+use Rattle.rank_rules.specs.Text.{Text}
 use Rattle.rank_search.specs.declared.outcome.Ranked.{Ranked}
 use Rattle.rank_search.specs.declared.outcome.Ranked.TheVariants.{Whole, Spent, Past, Memory}
 use Rattle.searches.specs.Solve.{status_of}

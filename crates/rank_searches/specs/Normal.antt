@@ -5,8 +5,8 @@ use Rattle.integer_laws.specs.Range.{InRange, AllInRange}
 use Rattle.tree_rules.specs.Tree.{TreeNode, End, branch, leaf}
 use Rattle.tree_rules.specs.Leaf.{Leaf, dead, clash, refuted, bounded, untried}
 use Rattle.tree_rules.specs.Accepted.{Tree}
-use Rattle.ranked_tree.specs.Marked.{Mark, first_mark, marks_behind}
-use Rattle.ranked_tree.specs.Text.{Text}
+use Rattle.rank_rules.specs.Marked.{Mark, first_mark, marks_behind}
+use Rattle.rank_rules.specs.Text.{Text}
 
 -- the mark of an open leaf before those of the nodes behind it
 abbrev pub with_mark : List Mark → End Leaf → List Mark → List Mark

@@ -8,11 +8,11 @@ use Rattle.tree_rules.specs.Stops.{IsSpent, IsPast}
 use Rattle.rank_rules.specs.Networks.{to_undercut}
 use Rattle.rank_rules.specs.Ranked.{Proves}
 use Rattle.tree_rules.specs.Tail.{Tail, whole, spent, past}
-use Rattle.ranked_tree.specs.Marked.{marked}
-use Rattle.ranked_tree.specs.Text.{Text, ranking_of}
-use Rattle.rank_text.specs.Read.{read_text}
-use Rattle.rank_text.specs.Spelling.{rank_text_lines}
-use Rattle.rank_search.specs.Told.{IsOpenLeaf}
+use Rattle.rank_rules.specs.Marked.{marked}
+use Rattle.rank_rules.specs.Text.{Text, ranking_of}
+use Rattle.rank_rules.specs.Read.{read_text}
+use Rattle.rank_rules.specs.Spelling.{rank_text_lines}
+use Rattle.rank_rules.specs.Leaf.{IsOpenLeaf}
 use Rattle.rank_commands.specs.Rankcheck.{AreBest}
 use Rattle.tree_rules.specs.Past.{IsPastAt}
 use Rattle.tree_rules.specs.Proved.{IsBelowLimit}

@@ -17,10 +17,10 @@ use Rattle.tree_text_laws.proofs.Codes.{AreFields, mapped_ok, both_ok, judged_ok
 use Rattle.tree_text_laws.proofs.Decimals.{number_code, counts, children}
 use Rattle.tree_text_laws.proofs.NodeLines.{all_each, each_all}
 use Rattle.tree_text_laws.proofs.Said.{tokens_said, formed_said, line_from}
-use Rattle.ranked_tree.specs.Marked.{Mark, Name}
-use Rattle.rank_text.specs.Opened.{is_first, begins_by, mark_by, named_read}
-use Rattle.rank_text.specs.Read.{behind_word, word_read, count_read, networks_read}
-use Rattle.rank_text.specs.Spelling.{count_word, networks_word, named_word}
+use Rattle.rank_rules.specs.Marked.{Mark, Name}
+use Rattle.rank_rules.specs.Opened.{is_first, begins_by, mark_by, named_read}
+use Rattle.rank_rules.specs.Read.{behind_word, word_read, count_read, networks_read}
+use Rattle.rank_rules.specs.Spelling.{count_word, networks_word, named_word}
 use Rattle.rank_text.specs.Fits.{FitsMark}
 
 -- ---- a word and one token

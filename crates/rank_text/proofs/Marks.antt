@@ -1,8 +1,8 @@
 -- The marks of lines that are read one by one.
 use Rattle.std.proofs.Common.{◌≡◌, List, [], ◌∷◌, ◌++◌, map, Some, None, Ok, refl, sym, ap, subst, append-nil}
-use Rattle.ranked_tree.specs.Marked.{Mark}
-use Rattle.ranked_tree.specs.Text.{AreNumbered}
-use Rattle.rank_text.specs.Opened.{with_marks}
+use Rattle.rank_rules.specs.Marked.{Mark}
+use Rattle.rank_rules.specs.Text.{AreNumbered}
+use Rattle.rank_rules.specs.Opened.{with_marks}
 
 pub marks_done : (ms : List Mark) → with_marks ms (Ok []) ≡ Ok ms
 marks_done ms = ap (λ (xs : List Mark). Ok xs) (append-nil ms)

@@ -12,8 +12,8 @@ use Rattle.tree_text_rules.specs.Line.{Token, Line, is_feed, lines_from, lines_o
 use Rattle.tree_text_rules.specs.declared.Word.TheVariants.{Open, Unknown}
 use Rattle.tree_text_laws.proofs.Pieces.{joined_split}
 use Rattle.tree_tokens.proofs.Cutting.{more_pieces}
-use Rattle.rank_text.specs.Opened.{is_first, begins_by, opened, unknown_line, line_bytes}
-use Rattle.rank_text.specs.Spelling.{named_word}
+use Rattle.rank_rules.specs.Opened.{is_first, begins_by, opened, unknown_line, line_bytes}
+use Rattle.rank_rules.specs.Spelling.{named_word}
 
 abbrev pub bytes_of : List Line → List ℕ
 bytes_of lines = flat_map line_bytes lines

@@ -10,9 +10,9 @@ use Rattle.tree_text_rules.specs.declared.Word.TheVariants.{Open}
 use Rattle.tree_text_laws.specs.Codes.{line_of, IsToken}
 use Rattle.tree_text_laws.specs.Lines.{lines_said}
 use Rattle.tree_text_laws.proofs.Said.{tokens_said}
-use Rattle.ranked_tree.specs.Marked.{Mark, Name, first_mark, other_marks}
-use Rattle.rank_text.specs.Opened.{is_first, begins_by, opened, mark_read, named_read, with_marks, marks_taken}
-use Rattle.rank_text.specs.Spelling.{named_word}
+use Rattle.rank_rules.specs.Marked.{Mark, Name, first_mark, other_marks}
+use Rattle.rank_rules.specs.Opened.{is_first, begins_by, opened, mark_read, named_read, with_marks, marks_taken}
+use Rattle.rank_rules.specs.Spelling.{named_word}
 use Rattle.rank_text.specs.Fits.{FitsMark}
 use Rattle.rank_text.proofs.Lines.{named_tokens, named_is, name_tokens_are, named_back, named_again}
 

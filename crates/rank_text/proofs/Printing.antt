@@ -8,8 +8,8 @@ use Rattle.text_rules.specs.Canonical.{joined}
 use Rattle.tree_text_rules.specs.Spelling as trees
 use Rattle.tree_text.specs.Printing.{appended}
 use Rattle.tree_text.proofs.Appending.{line_made}
-use Rattle.ranked_tree.specs.Marked.{Mark, marked, marked_node, marks_behind, first_mark, other_marks}
-use Rattle.rank_text.specs.Spelling.{node_lines, tree_lines}
+use Rattle.rank_rules.specs.Marked.{Mark, marked, marked_node, marks_behind, first_mark, other_marks}
+use Rattle.rank_rules.specs.Spelling.{node_lines, tree_lines}
 use Rattle.tree_text.proofs.Printed.{item_ahead}
 
 -- ---- marks

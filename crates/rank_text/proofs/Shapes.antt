@@ -14,9 +14,9 @@ use Rattle.tree_text_rules.specs.Line.{Token, word_text}
 use Rattle.tree_text_rules.specs.Spelling as plain
 use Rattle.tree_text_rules.specs.declared.Word.TheVariants.{Open}
 use Rattle.tree_text_laws.specs.Codes.{IsToken}
-use Rattle.ranked_tree.specs.Marked.{Mark, marked, marked_end, marked_leaf, marks_behind, first_mark, other_marks}
-use Rattle.rank_text.specs.Opened.{is_first}
-use Rattle.rank_text.specs.Spelling.{named_word, end_line, tree_lines}
+use Rattle.rank_rules.specs.Marked.{Mark, marked, marked_end, marked_leaf, marks_behind, first_mark, other_marks}
+use Rattle.rank_rules.specs.Opened.{is_first}
+use Rattle.rank_rules.specs.Spelling.{named_word, end_line, tree_lines}
 use Rattle.rank_text.specs.Fits.{opens, opens_at}
 use Rattle.rank_text.proofs.OpenLines.{IsAlone, IsPlain, respell, respell_as, open_lines, open_as, mark_line}
 

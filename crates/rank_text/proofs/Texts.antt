@@ -20,11 +20,11 @@ use Rattle.tree_text_laws.proofs.Said.{no_feed}
 use Rattle.tree_text_laws.specs.Fits.{FitsNetwork, FitsTree, FitsTail}
 use Rattle.tree_text_laws.specs.Lines.{lines_said, TakesJust, ReadsJust}
 use Rattle.tree_text_laws.proofs.Parts.{good, good_is, on_line_ok, then_ok, first_back, first_again}
-use Rattle.ranked_tree.specs.Marked.{Mark}
-use Rattle.ranked_tree.specs.Text.{Text}
-use Rattle.rank_text.specs.Opened.{opened, marks_taken}
-use Rattle.rank_text.specs.Read.{file_type_read, count_read, networks_read, with_network, networks_taken, Grown, with_tail, grown_taken, put_together, behind_networks, rest_taken, lines_taken, read_text}
-use Rattle.rank_text.specs.Spelling.{file_type, count_word, networks_word, grown_lines, rank_text_lines, rank_text}
+use Rattle.rank_rules.specs.Marked.{Mark}
+use Rattle.rank_rules.specs.Text.{Text}
+use Rattle.rank_rules.specs.Opened.{opened, marks_taken}
+use Rattle.rank_rules.specs.Read.{file_type_read, count_read, networks_read, with_network, networks_taken, Grown, with_tail, grown_taken, put_together, behind_networks, rest_taken, lines_taken, read_text}
+use Rattle.rank_rules.specs.Spelling.{file_type, count_word, networks_word, grown_lines, rank_text_lines, rank_text}
 use Rattle.rank_text.specs.Fits.{Fits}
 use Rattle.rank_text.specs.Laws.{IsSpelled}
 use Rattle.rank_text.proofs.Lines.{count_line, networks_line}

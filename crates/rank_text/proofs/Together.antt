@@ -18,10 +18,10 @@ use Rattle.text_lines.specs.Tells.{Tells}
 use Rattle.text_lines.specs.declared.fault.TextFault.{TextFault}
 use Rattle.text_lines.specs.declared.fault.TextFault.TheVariants.{At, Memory}
 use Rattle.tree_reading.proofs.FirstLines.{first_next, first_tells}
-use Rattle.ranked_tree.specs.Marked.{Mark}
-use Rattle.ranked_tree.specs.Text.{Text}
-use Rattle.rank_text.specs.Opened.{opened, unknown_line, marks_taken, so_far}
-use Rattle.rank_text.specs.Read.{Grown, with_network, with_tail, networks_taken, grown_taken, earlier, put_together, behind_networks, count_read, networks_read, rest_taken}
+use Rattle.rank_rules.specs.Marked.{Mark}
+use Rattle.rank_rules.specs.Text.{Text}
+use Rattle.rank_rules.specs.Opened.{opened, unknown_line, marks_taken, so_far}
+use Rattle.rank_rules.specs.Read.{Grown, with_network, with_tail, networks_taken, grown_taken, earlier, put_together, behind_networks, count_read, networks_read, rest_taken}
 use Rattle.rank_text.proofs.Marks.{marks_done}
 
 -- ---- networks

@@ -9,8 +9,8 @@ use Rattle.tree_rules.specs.Leaf as leaves
 use Rattle.tree_rules.specs.Accepted.{Tree}
 use Rattle.tree_text_laws.specs.LineFits.{IsSomeCount}
 use Rattle.tree_text_laws.specs.Fits.{FitsNetwork, FitsTree, FitsTail}
-use Rattle.ranked_tree.specs.Marked.{Mark}
-use Rattle.ranked_tree.specs.Text.{Text}
+use Rattle.rank_rules.specs.Marked.{Mark}
+use Rattle.rank_rules.specs.Text.{Text}
 
 -- how many open leaves there are
 abbrev pub opens_at : trees.End leaves.Leaf → ℕ

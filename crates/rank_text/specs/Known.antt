@@ -3,7 +3,7 @@ use Rattle.problem_rules.specs.Each.{Each}
 use Rattle.problem_rules.specs.Problem.{Problem}
 use Rattle.tree_rules.specs.Known.{AreUnits, KnowsTree, KnowsTail}
 use Rattle.tree_rules.specs.Claim.{Network}
-use Rattle.ranked_tree.specs.Text.{Text}
+use Rattle.rank_rules.specs.Text.{Text}
 
 abbrev pub KnowsNetwork : Problem → Network → Type 0
 KnowsNetwork p w = AreUnits p w.units

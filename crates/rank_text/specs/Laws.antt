@@ -2,9 +2,9 @@
 use Rattle.std.specs.Prelude.{◌≡◌, ℕ, List, Ok}
 use Rattle.problem_rules.specs.Problem.{Problem}
 use Rattle.problem_rules.specs.Validity.{IsValid}
-use Rattle.ranked_tree.specs.Text.{Text}
-use Rattle.rank_text.specs.Read.{read_text}
-use Rattle.rank_text.specs.Spelling.{rank_text}
+use Rattle.rank_rules.specs.Text.{Text}
+use Rattle.rank_rules.specs.Read.{read_text}
+use Rattle.rank_rules.specs.Spelling.{rank_text}
 use Rattle.rank_text.specs.Fits.{Fits}
 
 -- The text of a ranking that fits a valid problem has no fault, and stands for the ranking.

@@ -4,7 +4,7 @@ ghost use Rattle.tree_text_rules.specs.LineRead.{one};
 ghost use Rattle.tree_text_rules.specs.Token as rules;
 ghost use Rattle.tree_tokens.specs.Apart.{formed_by};
 ghost use Rattle.tree_tokens.specs.View.{line_of, tokens_in};
-ghost use Rattle.rank_text.specs.Opened.{begins_by};
+ghost use Rattle.rank_rules.specs.Opened.{begins_by};
 
 use tree_text_rules::TreeKind;
 use tree_tokens::{Line, first_token, one_count};

@@ -4,7 +4,7 @@ ghost use Rattle.tree_tokens.specs.View.{line_of};
 ghost use Rattle.tree_reading.specs.Place.{IsCut, IsBehind, lines_at};
 ghost use Rattle.tree_reading.specs.Taken.{line_taken, taken};
 ghost use Rattle.text_lines.specs.Tells.{Tells};
-ghost use Rattle.rank_text.specs.Read.{file_type_read, word_read, count_read, networks_read};
+ghost use Rattle.rank_rules.specs.Read.{file_type_read, word_read, count_read, networks_read};
 
 use crate::cut::count_left;
 use tree_reading::{Cut, TreeFault, kind_at, line_at};

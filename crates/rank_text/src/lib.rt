@@ -2,7 +2,7 @@
 //!
 //! [`print_rank`] writes the one text of a ranked tree, and [`read_rank`] gives the ranked tree that a text stands for, or its first
 //! fault. A leaf that names a network has a line of its own, `named K D Y ..`; all other lines are those of a tree text, printed and read
-//! by the crates of that text. `specs/Spelling` has the text, `specs/Opened` the lines of open leaves, and `specs/Read` what a text stands
+//! by the crates of that text. In `rank_rules`, `Spelling` has the text, `Opened` the lines of open leaves, and `Read` what a text stands
 //! for.
 //!
 //! The text of a ranking reads as the ranking, and what a text stands for has no other text: [`laws`] has both (`specs/Laws`) as contracts of

@@ -2,7 +2,7 @@
 ghost use Rattle.std.specs.Prelude.{◌≡◌, ◌∷◌, [], OnOk, map, decimal, string_bytes};
 ghost use Rattle.std.specs.Fmt.{signed_decimal};
 ghost use Rattle.text_rules.specs.Canonical.{joined};
-ghost use Rattle.rank_text.specs.Spelling.{named_word};
+ghost use Rattle.rank_rules.specs.Spelling.{named_word};
 
 use branch_tree::Scaled;
 use std::alloc::AllocError;

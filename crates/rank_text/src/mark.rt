@@ -4,9 +4,9 @@ ghost use Rattle.tree_text_rules.specs.LineRead.{one_and_more};
 ghost use Rattle.tree_text_rules.specs.Token as rules;
 ghost use Rattle.text_lines.specs.Tells.{TellsLine};
 ghost use Rattle.tree_tokens.specs.View.{line_of, tokens_in};
-ghost use Rattle.ranked_tree.specs.Text.{AreNumbered};
+ghost use Rattle.rank_rules.specs.Text.{AreNumbered};
 ghost use Rattle.ranked_tree.specs.View.{mark_of};
-ghost use Rattle.rank_text.specs.Opened.{mark_by, mark_with, named_read};
+ghost use Rattle.rank_rules.specs.Opened.{mark_by, mark_with, named_read};
 
 use branch_tree::{End, Scaled};
 use pns_problem::Problem;

@@ -3,10 +3,10 @@ ghost use Rattle.std.specs.Prelude.{◌≡◌, ◌≤◌, ◌<◌, ◌-◌, ◌^
 ghost use Rattle.tree_text_rules.specs.Line as rules;
 ghost use Rattle.tree_tokens.specs.View.{line_of};
 ghost use Rattle.tree_reading.specs.Place.{IsCut, lines_at};
-ghost use Rattle.ranked_tree.specs.Text.{AreNumbered};
+ghost use Rattle.rank_rules.specs.Text.{AreNumbered};
 ghost use Rattle.ranked_tree.specs.View.{mark_of};
-ghost use Rattle.rank_text.specs.Opened.{begins_by, opened, unknown_line, line_bytes, marks_taken, so_far};
-ghost use Rattle.rank_text.specs.Spelling.{named_word};
+ghost use Rattle.rank_rules.specs.Opened.{begins_by, opened, unknown_line, line_bytes, marks_taken, so_far};
+ghost use Rattle.rank_rules.specs.Spelling.{named_word};
 
 use crate::cut::begins_by;
 use crate::mark::named_line;

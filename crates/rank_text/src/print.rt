@@ -7,11 +7,11 @@ ghost use Rattle.branch_tree.specs.View.{end_of};
 ghost use Rattle.tree_rules.specs.Tree.{leaf};
 ghost use Rattle.tree_text_rules.specs.Spelling as trees;
 ghost use Rattle.tree_text.specs.Prints.{Prints};
-ghost use Rattle.ranked_tree.specs.Marked as rules;
-ghost use Rattle.ranked_tree.specs.Marked.{marked, marked_node, marked_end, marked_leaf, first_mark, marks_behind};
+ghost use Rattle.rank_rules.specs.Marked as rules;
+ghost use Rattle.rank_rules.specs.Marked.{marked, marked_node, marked_end, marked_leaf, first_mark, marks_behind};
 ghost use Rattle.ranked_tree.specs.View.{mark_of};
 ghost use Rattle.rank_text.specs.Known.{KnowsNetwork, KnowsText};
-ghost use Rattle.rank_text.specs.Spelling.{count_word, networks_word, named_word, end_line, node_lines, tree_lines, grown_lines, rank_text_lines};
+ghost use Rattle.rank_rules.specs.Spelling.{count_word, networks_word, named_word, end_line, node_lines, tree_lines, grown_lines, rank_text_lines};
 
 use crate::line::{count_line, named_line};
 use branch_tree::{End, Network, Scaled, TreeNode};

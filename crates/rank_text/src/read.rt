@@ -7,8 +7,8 @@ ghost use Rattle.tree_reading.specs.Place.{IsCut, lines_at};
 ghost use Rattle.text_lines.specs.Tells.{Tells};
 ghost use Rattle.rank_text.specs.Known.{KnowsNetwork, KnowsText};
 ghost use Rattle.tree_text_rules.specs.Line.{Line};
-ghost use Rattle.rank_text.specs.Opened.{unknown_line};
-ghost use Rattle.rank_text.specs.Read.{grown_taken, behind_networks, rest_taken, read_text, earlier};
+ghost use Rattle.rank_rules.specs.Opened.{unknown_line};
+ghost use Rattle.rank_rules.specs.Read.{grown_taken, behind_networks, rest_taken, read_text, earlier};
 
 use crate::front::{count_at, file_type_line, networks_at};
 use crate::networks::read_networks;

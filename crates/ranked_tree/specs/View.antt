@@ -2,7 +2,7 @@
 use Rattle.std.specs.Prelude.{Some, None}
 use Rattle.ranked_tree.specs.declared.mark.Mark.{Mark}
 use Rattle.ranked_tree.specs.declared.mark.Mark.TheVariants.{Open, Named}
-use Rattle.ranked_tree.specs.Marked as specs
+use Rattle.rank_rules.specs.Marked as specs
 
 abbrev pub mark_of : Mark → specs.Mark
 mark_of Open = None

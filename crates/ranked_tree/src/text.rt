@@ -1,6 +1,6 @@
 //! Whole ranked trees.
 ghost use Rattle.std.specs.Prelude.{◌≡◌, ◌<◌, ◌^◌, length, map};
-ghost use Rattle.ranked_tree.specs.Text.{IsCounted};
+ghost use Rattle.rank_rules.specs.Text.{IsCounted};
 ghost use Rattle.ranked_tree.specs.View.{mark_of};
 ghost use Rattle.branch_tree.specs.View.{tail_of};
 
@@ -22,7 +22,7 @@ pub struct RankText {
 
 impl Model for RankText {
     ghost use Rattle.std.specs.Prelude.{map};
-    ghost use Rattle.ranked_tree.specs.Text as specs;
+    ghost use Rattle.rank_rules.specs.Text as specs;
     ghost use Rattle.ranked_tree.specs.View.{mark_of};
     ghost use Rattle.branch_tree.specs.View.{tail_of};
 

@@ -18,10 +18,10 @@ use Rattle.text_rules.specs.Outside.{Told}
 use Rattle.tree_rules.specs.Claim.{Claim, Network}
 use Rattle.tree_rules.specs.Accepted.{Tree}
 use Rattle.tree_text_rules.specs.Read as trees
-use Rattle.tree_parts.specs.Part.{Part}
-use Rattle.part_text.specs.Read.{PartReads}
+use Rattle.part_rules.specs.Part.{Part}
+use Rattle.part_rules.specs.Read.{PartReads}
 use Rattle.part_text.specs.Laws.{PartsAreReadOnce}
-use Rattle.ranked_tree.specs.Text.{Text}
+use Rattle.rank_rules.specs.Text.{Text}
 use Rattle.stability_rules.specs.declared.spot.Spot.{Spot}
 use Rattle.stability_rules.specs.declared.spot.SpotKind.{SpotKind}
 use Rattle.problem_rules.specs.Generated.{generated}

@@ -22,8 +22,8 @@ use Rattle.tree_text_rules.specs.Spelling.{tree_text, tree_text_lines}
 use Rattle.tree_text_laws.specs.Fits.{CountsTree, FitsClaim, FitsTree}
 use Rattle.tree_text_laws.specs.LineFits.{CountsEnd}
 use Rattle.tree_text_laws.specs.Laws.{SpelledTextsRead, ReadTextsAreSpelled}
-use Rattle.tree_parts.specs.Part.{Part, start_of}
-use Rattle.tree_parts.specs.Several.{AreMerged}
+use Rattle.part_rules.specs.Part.{Part, start_of}
+use Rattle.part_rules.specs.Several.{AreMerged}
 use Rattle.part_text.specs.Laws.{ReadPartsAreSpelled}
 use Rattle.command_files.specs.Reading.{AreHeld, GivesProblem, OnFile}
 use Rattle.command_files.specs.TreeFile.{TreeFault, TreeSays, GivesTree, OnTree, tree_limit}

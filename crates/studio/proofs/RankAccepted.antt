@@ -5,8 +5,8 @@ use Rattle.rank_rules.specs.Ranked.{IsRanked}
 use Rattle.rank_laws.specs.Laws.{PassingNetworksHaveNoFault, PassingTreeHasNoFault}
 use Rattle.tree_rules.specs.Tail.{Tail, whole, spent, past}
 use Rattle.tree_text_rules.specs.Read.{Fault}
-use Rattle.ranked_tree.specs.Text.{Text, ranking_of}
-use Rattle.rank_text.specs.Read.{read_text}
+use Rattle.rank_rules.specs.Text.{Text, ranking_of}
+use Rattle.rank_rules.specs.Read.{read_text}
 use Rattle.rank_searches.specs.Rank.{Holds}
 use Rattle.rank_commands.specs.Rankcheck.{RankcheckSays, RankcheckWork}
 use Rattle.searches.specs.Solve.{status_of}

@@ -21,7 +21,7 @@ use Rattle.tree_rules.specs.Claim.{Claim, Network}
 use Rattle.tree_rules.specs.Accepted.{Tree}
 use Rattle.command_files.specs.TreeFile.{TreeFault, OnTree, tree_limit}
 use Rattle.flow_commands.specs.Check.{CheckWork}
-use Rattle.ranked_tree.specs.Text.{Text}
+use Rattle.rank_rules.specs.Text.{Text}
 use Rattle.rank_searches.specs.Rank as rankings
 use Rattle.rank_searches.specs.Rank.{RankWork}
 use Rattle.rank_commands.specs.Rankcheck.{RankFault, RankcheckWork, FilesListBest, AcceptedAreBest}
@@ -33,8 +33,8 @@ use Rattle.network_commands.specs.Graph.{PlantGraphWork, NetworkGraphWork}
 use Rattle.part_commands.specs.Split.{SplitWork}
 use Rattle.part_commands.specs.PartFile.{PartFault, FirstFault, are_several}
 use Rattle.part_commands.specs.Merge.{MergeWork, MergeSays, FaultSays}
-use Rattle.tree_parts.specs.declared.merging.MergeFault.{MergeFault}
-use Rattle.tree_parts.specs.declared.merging.MergeFault.TheVariants as merging
+use Rattle.part_rules.specs.declared.merge_fault.MergeFault.{MergeFault}
+use Rattle.part_rules.specs.declared.merge_fault.MergeFault.TheVariants as merging
 use Rattle.tree_rules.specs.declared.refusal.Refusal.TheVariants as refusals
 use Rattle.part_searches.specs.Found.{FoundSays}
 use Rattle.part_searches.specs.Start.{OnStart}

@@ -13,9 +13,9 @@ use Rattle.tree_rules.specs.Claim.{Claim}
 use Rattle.tree_rules.specs.Accepted.{Tree}
 use Rattle.tree_text_rules.specs.declared.TreeKind.{TreeKind}
 use Rattle.tree_text_rules.specs.Read as trees
-use Rattle.rank_text.specs.Read as ranks
-use Rattle.tree_parts.specs.Part.{Part}
-use Rattle.part_text.specs.Read.{PartReads}
+use Rattle.rank_rules.specs.Read as ranks
+use Rattle.part_rules.specs.Part.{Part}
+use Rattle.part_rules.specs.Read.{PartReads}
 use Rattle.stability_rules.specs.declared.spot.SpotKind.{SpotKind}
 use Rattle.command_files.specs.Reading.{AreHeld, GivesProblem, Reads, file_limit}
 use Rattle.command_files.specs.Script.{HasEditFault}

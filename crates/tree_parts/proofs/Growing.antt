@@ -11,12 +11,12 @@ use Rattle.part_rules.specs.Graft.{claim_of_both}
 use Rattle.part_laws.specs.Laws.{OpenLeavesStand, GraftIsTree, GraftIsPartial}
 use Rattle.part_laws.specs.Splices.{Splice, spliced, AreRising, IsPut, ArePut, settled, cheapest}
 use Rattle.part_laws.proofs.SpliceLemmas.{IsIn, put_in, rising_more, put_more, first_claims, next_claims}
-use Rattle.tree_parts.specs.Part as parts
-use Rattle.tree_parts.specs.Part.{start_of}
-use Rattle.tree_parts.specs.Merge.{IsMerged, IsLeafOf, MergeFails}
-use Rattle.tree_parts.specs.declared.merging.MergeFault.{MergeFault}
-use Rattle.tree_parts.specs.declared.merging.MergeFault.TheVariants.{NoLeaf}
-use Rattle.tree_parts.specs.Several.{AreMerged, StopsAt}
+use Rattle.part_rules.specs.Part as parts
+use Rattle.part_rules.specs.Part.{start_of}
+use Rattle.part_rules.specs.Merge.{IsMerged, IsLeafOf, MergeFails}
+use Rattle.part_rules.specs.declared.merge_fault.MergeFault.{MergeFault}
+use Rattle.part_rules.specs.declared.merge_fault.MergeFault.TheVariants.{NoLeaf}
+use Rattle.part_rules.specs.Several.{AreMerged, StopsAt}
 use Rattle.tree_parts.specs.declared.waiting.Waiting.{Waiting}
 use Rattle.tree_parts.specs.Waiting.{splices_of, IsOneMore}
 use Rattle.tree_parts.proofs.InTurn.{AreBack, one_back}

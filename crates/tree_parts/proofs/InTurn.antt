@@ -6,10 +6,10 @@ use Rattle.problem_rules.specs.Each.{Each}
 use Rattle.problem_rules.specs.Problem.{Problem}
 use Rattle.tree_rules.specs.Claim.{Claim}
 use Rattle.tree_rules.specs.Accepted.{Tree}
-use Rattle.tree_parts.specs.Part.{Part}
-use Rattle.tree_parts.specs.Merge.{IsMerged}
-use Rattle.tree_parts.specs.Several.{AreMerged, StopsAt}
-use Rattle.tree_parts.specs.declared.merging.MergeFault.{MergeFault}
+use Rattle.part_rules.specs.Part.{Part}
+use Rattle.part_rules.specs.Merge.{IsMerged}
+use Rattle.part_rules.specs.Several.{AreMerged, StopsAt}
+use Rattle.part_rules.specs.declared.merge_fault.MergeFault.{MergeFault}
 
 -- ---- the parts from a place on
 

@@ -10,8 +10,8 @@ use Rattle.problem_rules.specs.Problem.{Problem}
 use Rattle.pns_rules.specs.Shape.{shape_of}
 use Rattle.pns_rules.specs.Nodes.{Node}
 use Rattle.part_rules.specs.OpenLeaves.{OpenAt, IsAmong}
-use Rattle.tree_parts.specs.Part as parts
-use Rattle.tree_parts.specs.Part.{start_of}
+use Rattle.part_rules.specs.Part as parts
+use Rattle.part_rules.specs.Part.{start_of}
 use Rattle.tree_parts.specs.Waiting.{AreWithin, splice_of, splices_of, IsOneMore}
 use Rattle.tree_parts.proofs.GraftLists.{stands_below, some_nodes}
 use Rattle.tree_parts.specs.declared.waiting.Waiting.{Waiting}

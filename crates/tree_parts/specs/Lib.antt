@@ -1,4 +1,1 @@
-pub mod Merge
-pub mod Part
-pub mod Several
 pub mod Waiting

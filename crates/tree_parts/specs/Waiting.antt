@@ -3,8 +3,8 @@ use Rattle.std.specs.Prelude.{◌≡◌, ◌<◌, ℕ, List, [], ◌∷◌, ◌+
 use Rattle.part_rules.specs.OpenLeaves.{OpenAt, IsAmong}
 use Rattle.part_laws.specs.Splices.{Splice, AllBelow, AllAbove}
 use Rattle.tree_parts.specs.declared.waiting.Waiting.{Waiting}
-use Rattle.tree_parts.specs.Part as parts
-use Rattle.tree_parts.specs.Part.{start_of}
+use Rattle.part_rules.specs.Part as parts
+use Rattle.part_rules.specs.Part.{start_of}
 
 abbrev pub splice_of : Waiting → Splice
 splice_of w = record { place = w.place; part = w.nodes.items }

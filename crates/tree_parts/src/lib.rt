@@ -18,7 +18,7 @@ mod splicing;
 mod waiting;
 
 pub use cert_check::OpenLeaf;
-pub use merging::{MergeFault, merge};
+pub use merging::merge;
 pub use open::{check_part, open_leaves};
 pub use part::Part;
 pub use several::{PartFault, merge_all};

@@ -11,9 +11,9 @@ ghost use Rattle.cert_parts.specs.Known.{KnowsInside};
 ghost use Rattle.cert_check.specs.OpenLeaves.{leaves_at};
 ghost use Rattle.part_rules.specs.OpenLeaves.{open_leaves, IsAmong};
 ghost use Rattle.part_rules.specs.Graft as grafts;
-ghost use Rattle.tree_parts.specs.Part as parts;
-ghost use Rattle.tree_parts.specs.Part.{start_of};
-ghost use Rattle.tree_parts.specs.Merge.{IsMerged, IsLeafOf, MergeFails};
+ghost use Rattle.part_rules.specs.Part as parts;
+ghost use Rattle.part_rules.specs.Part.{start_of};
+ghost use Rattle.part_rules.specs.Merge.{IsMerged, IsLeafOf, MergeFails};
 
 use crate::copies::{copied_network, grafted, push_copies};
 use crate::open::{check_part, open_leaves};
@@ -22,24 +22,12 @@ use branch_tree::{Claim, End, Network, Tree, TreeNode};
 use cert_check::OpenLeaf;
 use cert_parts::{CostOver, is_reached};
 use part_laws::{grafts_are_partial, open_leaves_stand};
+use part_rules::MergeFault;
 use pgraph::Graph;
 use pns_problem::Problem;
 use std::alloc::{AllocError, Global};
 use tree_rules::Refusal;
 use unit_sets::Node;
-
-/// Why a part is not put back.
-#[derive(Clone, Copy, Debug, PartialEq, Eq)]
-pub enum MergeFault {
-    /// The tree is refused. Want of memory is no such refusal.
-    Tree(Refusal),
-    /// The tree is not, and the part is.
-    Part(Refusal),
-    /// Neither is refused, and no open leaf of the tree has the part's node.
-    NoLeaf,
-    /// There was no memory.
-    Memory,
-}
 
 /// Whether the nodes are the same.
 fn are_same(a: &Node, b: &Node) -> bool

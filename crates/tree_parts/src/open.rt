@@ -12,7 +12,7 @@ ghost use Rattle.part_rules.specs.OpenLeaves.{open_leaves};
 ghost use Rattle.cert_check.specs.OpenLeaves.{leaves_at};
 ghost use Rattle.tree_rules.specs.Refusals.{Refuses};
 ghost use Rattle.cert_check.specs.Refusals.{IsOkOrMemory, IsRefusalOrMemory};
-ghost use Rattle.tree_parts.specs.Part.{start_of};
+ghost use Rattle.part_rules.specs.Part.{start_of};
 
 use crate::part::Part;
 use branch_tree::{Claim, Tree};

@@ -3,7 +3,7 @@ ghost use Rattle.std.specs.Prelude.{◌≡◌, ◌≤◌, ◌<◌, ℕ, true, fa
 ghost use Rattle.part_rules.specs.OpenLeaves.{IsAmong};
 ghost use Rattle.cert_check.specs.OpenLeaves.{leaves_at};
 ghost use Rattle.part_laws.specs.Splices.{AllBelow, AllAbove, AreRising};
-ghost use Rattle.tree_parts.specs.Part.{start_of};
+ghost use Rattle.part_rules.specs.Part.{start_of};
 ghost use Rattle.tree_parts.specs.Waiting.{splices_of, IsOneMore};
 
 use crate::copies::push_copies;

@@ -1,5 +1,5 @@
 use Rattle.std.proofs.Common.{◌≡◌, ◌∷◌, [], refl, subst, sym, inl, ℕ, List, codes}
-use Rattle.tree_parts.specs.declared.merging.MergeFault.{MergeFault}
+use Rattle.part_rules.specs.declared.merge_fault.MergeFault.{MergeFault}
 use Rattle.part_commands.specs.Merge.{TreeRefused, PartRefused, FaultSays, no_leaf_line}
 use Rattle.endings.specs.Lines.{line}
 use Rattle.endings.specs.Ending.{Tells}

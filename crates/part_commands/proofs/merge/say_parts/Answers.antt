@@ -2,9 +2,9 @@ use Rattle.std.proofs.Common.{◌≡◌, ◌∙◌, ap, inl, inr, ℕ, List, map
 use Rattle.std.specs.List.{Contains}
 use Rattle.std.proofs.lemmas.List.{length-map}
 use Rattle.problem_rules.specs.Each.{Each}
-use Rattle.tree_parts.specs.Part.{Part}
+use Rattle.part_rules.specs.Part.{Part}
 use Rattle.branch_tree.specs.View.{claim_of}
-use Rattle.part_text.specs.Spelling.{KnowsPart}
+use Rattle.part_rules.specs.Spelling.{KnowsPart}
 use Rattle.part_commands.specs.Merge.{MergeSays, MergeWork}
 use Rattle.part_commands.specs.PartFile.{FirstFault, GiveParts}
 use Rattle.part_commands.proofs.PartFiles.{as_many}

@@ -1,6 +1,6 @@
 use Rattle.std.proofs.Common.{◌≡◌, ◌∷◌, [], Ok, Err, refl, sym, ap, subst, inl, List, ℕ, codes}
-use Rattle.tree_parts.specs.Part as parts
-use Rattle.part_text.specs.Read.{PartReads}
+use Rattle.part_rules.specs.Part as parts
+use Rattle.part_rules.specs.Read.{PartReads}
 use Rattle.endings.specs.Lines.{line}
 use Rattle.part_commands.specs.PartFile.{PartFault, PartFaults, part_fault_line}
 use Rattle.endings.specs.Ending.{Shelves, Says}

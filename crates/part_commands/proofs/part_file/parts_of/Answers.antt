@@ -4,8 +4,8 @@ use Rattle.std.proofs.lemmas.List.{length-map, get_or-map}
 use Rattle.text_rules.specs.Outside.{Told}
 use Rattle.problem_rules.specs.Each.{Each}
 use Rattle.text_laws.proofs.Each.{each-append}
-use Rattle.tree_parts.specs.Part.{Part}
-use Rattle.part_text.specs.Spelling.{KnowsPart}
+use Rattle.part_rules.specs.Part.{Part}
+use Rattle.part_rules.specs.Spelling.{KnowsPart}
 use Rattle.command_files.specs.Reading.{AreHeld}
 use Rattle.part_commands.specs.PartFile.{FirstFault, GivesPart}
 use Rattle.part_commands.proofs.PartFiles.{GiveBefore, one_given, fault_told}

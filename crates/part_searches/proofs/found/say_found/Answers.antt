@@ -1,7 +1,7 @@
 use Rattle.std.proofs.Common.{◌∙◌, sym}
 use Rattle.pgraph.specs.View.{node_of}
-use Rattle.tree_parts.specs.Part.{Part}
-use Rattle.part_text.specs.Spelling.{part_text_lines}
+use Rattle.part_rules.specs.Part.{Part}
+use Rattle.part_rules.specs.Spelling.{part_text_lines}
 use Rattle.searches.specs.Solve.{status_of}
 use Rattle.part_searches.specs.Found.{FoundSays}
 use Rattle.part_searches.proofs.Parts.{can_print}

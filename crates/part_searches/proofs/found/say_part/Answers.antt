@@ -1,6 +1,6 @@
 use Rattle.std.proofs.Common.{◌≡◌, ◌∙◌, ap}
 use Rattle.searches.specs.Solve.{status_of}
-use Rattle.part_text.specs.Spelling.{part_text_lines}
+use Rattle.part_rules.specs.Spelling.{part_text_lines}
 use Rattle.endings.specs.Printed.{OneAnswer}
 use Rattle.endings.proofs.Ending.{Ends-map, Tells-map}
 use Rattle.part_searches.proofs.Parts.{is_printing}

@@ -1,5 +1,5 @@
 use Rattle.std.proofs.Common.{◌∷◌, []}
-use Rattle.part_text.specs.Spelling.{file_type}
+use Rattle.part_rules.specs.Spelling.{file_type}
 use Rattle.tree_text.proofs.Printed.{two_printed, part_failed}
 use Rattle.part_text.proofs.print.print_part.Goals as goal
 

@@ -4,7 +4,7 @@ use Rattle.tree_text_rules.specs.Line.{Token}
 use Rattle.text_rules.specs.Canonical.{joined}
 use Rattle.tree_text_rules.specs.Spelling.{rest_lines}
 use Rattle.tree_text.specs.Prints.{Prints}
-use Rattle.part_text.specs.Spelling.{set_line}
+use Rattle.part_rules.specs.Spelling.{set_line}
 use Rattle.tree_text.proofs.Printed.{two_printed, part_failed}
 use Rattle.part_text.proofs.print.put_outside.Goals as goal
 

@@ -1,6 +1,6 @@
 use Rattle.std.proofs.Common.{◌≡◌, OnOk, ℕ, List, codes, string_bytes, subst}
 use Rattle.text_rules.specs.Canonical.{joined}
-use Rattle.part_text.specs.Spelling.{set_line}
+use Rattle.part_rules.specs.Spelling.{set_line}
 use Rattle.tree_text.proofs.Printed.{two_printed, part_failed}
 use Rattle.part_text.proofs.print.put_start.Goals as goal
 

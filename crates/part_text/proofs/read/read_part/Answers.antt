@@ -9,8 +9,8 @@ use Rattle.text_lines.specs.declared.fault.TextFault.{TextFault}
 use Rattle.text_lines.specs.declared.fault.TextFault.TheVariants.{At, Memory}
 use Rattle.tree_text_rules.specs.Line.{lines_of}
 use Rattle.part_text.specs.Lines.{IsTaken}
-use Rattle.tree_parts.specs.Part.{Part}
-use Rattle.part_text.specs.Read.{PartReads, SetLine, with_start}
+use Rattle.part_rules.specs.Part.{Part}
+use Rattle.part_rules.specs.Read.{PartReads, SetLine, with_start}
 use Rattle.part_text.specs.Tells.{TellsPart}
 use Rattle.part_text.proofs.Reading.{right_type, rest_read, InsideIs}
 use Rattle.part_text.proofs.read.read_part.Goals as goal

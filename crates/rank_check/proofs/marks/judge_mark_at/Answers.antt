@@ -5,7 +5,7 @@ use Rattle.pgraph.specs.View.{node_of}
 use Rattle.rank_rules.specs.declared.why.RankWhy.{RankWhy}
 use Rattle.rank_rules.specs.declared.why.RankWhy.TheVariants.{Plain}
 use Rattle.rank_rules.specs.Leaf.{LeafPasses, LeafFails}
-use Rattle.ranked_tree.specs.Marked.{Mark, marked_leaf}
+use Rattle.rank_rules.specs.Marked.{Mark, marked_leaf}
 use Rattle.rank_check.specs.Marks.{MarkFails}
 use Rattle.rank_check.proofs.TurnLemmas.{mark_here, mark_none, open_fails}
 use Rattle.rank_check.proofs.marks.judge_mark_at.Goals as goal

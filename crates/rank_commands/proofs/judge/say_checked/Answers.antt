@@ -1,7 +1,7 @@
 use Rattle.std.proofs.Common.{◌∷◌, [], false, refl, inl, inr, ℕ, List, codes}
 use Rattle.rank_rules.specs.Networks.{ArePassing}
 use Rattle.rank_rules.specs.Ranked.{NetworkIsFault, NodeIsFault}
-use Rattle.ranked_tree.specs.Text.{ranking_of}
+use Rattle.rank_rules.specs.Text.{ranking_of}
 use Rattle.rank_commands.specs.Words.{network_line, rank_node_line}
 use Rattle.endings.specs.Lines.{line}
 use Rattle.rank_commands.specs.Rankcheck.{RankcheckWork}

@@ -1,5 +1,5 @@
 use Rattle.std.proofs.Common.{◌≡◌, ◌∷◌, [], Ok, Err, refl, sym, ◌∙◌, inl, List, ℕ, codes, ap}
-use Rattle.rank_text.specs.Read.{read_text}
+use Rattle.rank_rules.specs.Read.{read_text}
 use Rattle.endings.specs.Lines.{line}
 use Rattle.command_files.specs.TreeFile.{tree_fault_line}
 use Rattle.rank_commands.specs.Rankcheck.{RankFault, RankFaults}

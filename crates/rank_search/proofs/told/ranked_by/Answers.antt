@@ -1,7 +1,7 @@
 use Rattle.std.proofs.Common.{List, Option, sym, subst, map}
 use Rattle.branch_tree.specs.Scaled.{Scaled}
 use Rattle.rank_search.specs.Found.{undercut_by}
-use Rattle.ranked_tree.specs.Text.{Text}
+use Rattle.rank_rules.specs.Text.{Text}
 use Rattle.ranked_tree.specs.View.{mark_of}
 use Rattle.rank_search.specs.Told.{AreShutAgainst}
 use Rattle.rank_search.specs.declared.outcome.Ranked.TheVariants as ranks

@@ -6,7 +6,7 @@ use Rattle.tree_rules.specs.Accepted.{Tree}
 use Rattle.branch_tree.specs.Sized.{IsKept}
 use Rattle.tree_rules.specs.Tail.{Tail}
 use Rattle.tree_text_laws.specs.Fits.{CountsTail}
-use Rattle.ranked_tree.specs.Marked.{Mark}
+use Rattle.rank_rules.specs.Marked.{Mark}
 use Rattle.rank_searches.specs.Normal.{normal, IsMarkInRange}
 use Rattle.rank_searches.proofs.Rankings.{fits}
 use Rattle.rank_searches.proofs.ranking.reads_back.Goals as goal

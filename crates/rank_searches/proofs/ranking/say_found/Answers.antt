@@ -1,5 +1,5 @@
 use Rattle.std.proofs.Common.{◌∙◌, sym}
-use Rattle.ranked_tree.specs.Text.{Text}
+use Rattle.rank_rules.specs.Text.{Text}
 use Rattle.endings.specs.Ending.{Tells}
 use Rattle.endings.specs.declared.status.Status.TheVariants.{Memory}
 use Rattle.endings.proofs.Ending.{Ends-map, Tells-map, Tells-memory, only_in}

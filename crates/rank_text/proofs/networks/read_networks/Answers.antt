@@ -5,7 +5,7 @@ use Rattle.tree_rules.specs.Claim.{Network}
 use Rattle.tree_reading.specs.Place.{lines_at}
 use Rattle.tree_reading.specs.Taken.{taken}
 use Rattle.rank_text.specs.Known.{KnowsNetwork}
-use Rattle.rank_text.specs.Read.{networks_taken}
+use Rattle.rank_rules.specs.Read.{networks_taken}
 use Rattle.rank_text.proofs.Together.{with_networks, network_on, network_bad, network_later, networks_whole, each_last}
 use Rattle.rank_text.proofs.networks.read_networks.Goals as goal
 

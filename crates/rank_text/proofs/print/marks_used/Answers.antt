@@ -1,7 +1,7 @@
 use Rattle.std.proofs.Common.{◌∙◌, ap, sym, drop}
 use Rattle.branch_tree.specs.View.{end_of}
 use Rattle.branch_tree.specs.declared.end.End.{End}
-use Rattle.ranked_tree.specs.Marked.{marks_behind}
+use Rattle.rank_rules.specs.Marked.{marks_behind}
 use Rattle.rank_text.proofs.Printing.{other_behind}
 use Rattle.rank_text.proofs.print.marks_used.Goals as goal
 

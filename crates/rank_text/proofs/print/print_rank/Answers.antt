@@ -1,5 +1,5 @@
 use Rattle.std.proofs.Common.{◌∷◌, []}
-use Rattle.rank_text.specs.Spelling.{file_type}
+use Rattle.rank_rules.specs.Spelling.{file_type}
 use Rattle.tree_text.proofs.Printed.{two_printed, part_failed}
 use Rattle.rank_text.proofs.print.print_rank.Goals as goal
 

@@ -1,6 +1,6 @@
 use Rattle.std.proofs.Common.{◌++◌, ◌∷◌, [], ℕ, ap, decimal, flat_map, length}
 use Rattle.tree_text_rules.specs.Spelling.{network_lines}
-use Rattle.rank_text.specs.Spelling.{count_word, networks_word, grown_lines}
+use Rattle.rank_rules.specs.Spelling.{count_word, networks_word, grown_lines}
 use Rattle.tree_text.proofs.Printed.{two_printed, part_failed, printed_as}
 use Rattle.rank_text.proofs.print.put_behind.Goals as goal
 

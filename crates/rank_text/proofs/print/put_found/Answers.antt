@@ -1,7 +1,7 @@
 use Rattle.std.proofs.Common.{◌++◌, List, ap, flat_map}
 use Rattle.tree_rules.specs.Claim.{Network}
 use Rattle.tree_text_rules.specs.Spelling.{network_lines}
-use Rattle.rank_text.specs.Spelling.{grown_lines}
+use Rattle.rank_rules.specs.Spelling.{grown_lines}
 use Rattle.tree_text.proofs.Printed.{two_printed, part_failed, printed_as}
 use Rattle.rank_text.proofs.print.put_found.Goals as goal
 

@@ -1,9 +1,9 @@
 use Rattle.std.proofs.Common.{◌≡◌, ◌++◌, ◌∙◌, map}
 use Rattle.branch_tree.specs.View.{tail_of}
-use Rattle.ranked_tree.specs.Marked.{marked}
+use Rattle.rank_rules.specs.Marked.{marked}
 use Rattle.ranked_tree.specs.View.{mark_of}
 use Rattle.tree_text_rules.specs.Spelling.{tail_lines}
-use Rattle.rank_text.specs.Spelling.{tree_lines, grown_lines}
+use Rattle.rank_rules.specs.Spelling.{tree_lines, grown_lines}
 use Rattle.tree_text.proofs.Printed.{two_printed, part_failed, printed_as}
 use Rattle.rank_text.proofs.print.put_grown.Goals as goal
 

@@ -1,6 +1,6 @@
 use Rattle.std.proofs.Common.{◌∷◌, map, decimal}
 use Rattle.std.specs.Fmt.{signed_decimal}
-use Rattle.rank_text.specs.Spelling.{named_word}
+use Rattle.rank_rules.specs.Spelling.{named_word}
 use Rattle.rank_text.proofs.print.put_named.Goals as goal
 
 pub returns-clause-prints : goal.returns-clause-prints

@@ -1,13 +1,13 @@
 use Rattle.std.proofs.Common.{◌++◌, ◌∷◌, [], ◌∙◌, List, ap, drop, map}
 use Rattle.pns_rules.specs.Nodes.{Step}
 use Rattle.branch_tree.specs.View.{end_of}
-use Rattle.ranked_tree.specs.Marked.{Mark, marked_end, marked_node}
+use Rattle.rank_rules.specs.Marked.{Mark, marked_end, marked_node}
 use Rattle.ranked_tree.specs.View.{mark_of}
 use Rattle.tree_rules.specs.Leaf.{Leaf}
 use Rattle.tree_rules.specs.Tree.{TreeNode}
 use Rattle.tree_text_rules.specs.Spelling.{head_lines}
 use Rattle.tree_text.proofs.Printed.{two_printed, part_failed, printed_as}
-use Rattle.rank_text.specs.Spelling.{end_line, node_lines}
+use Rattle.rank_rules.specs.Spelling.{end_line, node_lines}
 use Rattle.rank_text.proofs.print.put_node.Goals as goal
 
 pub returns-in-Ok-clause-prints : goal.returns-in-Ok-clause-prints

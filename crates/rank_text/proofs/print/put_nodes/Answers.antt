@@ -1,12 +1,12 @@
 use Rattle.std.proofs.Common.{◌++◌, ◌+◌, ◌∙◌, ap, arith, drop, map, subst, sym, List}
 use Rattle.tree_rules.specs.Known.{KnowsTree}
-use Rattle.ranked_tree.specs.Marked.{Mark, marked, marked_node, marks_behind}
+use Rattle.rank_rules.specs.Marked.{Mark, marked, marked_node, marks_behind}
 use Rattle.ranked_tree.specs.View.{mark_of}
 use Rattle.tree_rules.specs.Accepted.{Tree}
 use Rattle.tree_rules.specs.Leaf.{Leaf}
 use Rattle.tree_rules.specs.Tree.{TreeNode}
 use Rattle.tree_text.proofs.Printed.{then_printed, then_failed, item_ahead}
-use Rattle.rank_text.specs.Spelling.{node_lines, tree_lines}
+use Rattle.rank_rules.specs.Spelling.{node_lines, tree_lines}
 use Rattle.rank_text.proofs.Printing.{node_ahead}
 use Rattle.rank_text.proofs.print.put_nodes.Goals as goal
 

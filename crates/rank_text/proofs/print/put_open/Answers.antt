@@ -1,8 +1,8 @@
 use Rattle.std.proofs.Common.{◌∷◌, [], ap, sym}
 use Rattle.tree_rules.specs.Tree.{leaf}
-use Rattle.ranked_tree.specs.Marked.{Mark, marked_leaf}
+use Rattle.rank_rules.specs.Marked.{Mark, marked_leaf}
 use Rattle.ranked_tree.specs.View.{mark_of}
-use Rattle.rank_text.specs.Spelling.{end_line}
+use Rattle.rank_rules.specs.Spelling.{end_line}
 use Rattle.tree_text.proofs.Printed.{printed_as}
 use Rattle.rank_text.proofs.Printing.{mark_ahead}
 use Rattle.rank_text.proofs.print.put_open.Goals as goal

@@ -1,12 +1,12 @@
 use Rattle.std.proofs.Common.{◌≡◌, ◌-◌, ◌∷◌, ℕ, suc, List, drop, map, Ok, Err, sym, ap, ◌∙◌, subst, arith}
 use Rattle.branch_tree.specs.View.{tail_of}
-use Rattle.ranked_tree.specs.Text.{Text}
+use Rattle.rank_rules.specs.Text.{Text}
 use Rattle.ranked_tree.specs.View.{mark_of}
 use Rattle.tree_text_rules.specs.Line.{lines_of}
 use Rattle.tree_reading.specs.Place.{lines_at}
 use Rattle.text_lines.specs.Tells.{Tells}
-use Rattle.rank_text.specs.Opened.{opened, unknown_line}
-use Rattle.rank_text.specs.Read.{Grown, grown_taken}
+use Rattle.rank_rules.specs.Opened.{opened, unknown_line}
+use Rattle.rank_rules.specs.Read.{Grown, grown_taken}
 use Rattle.rank_text.proofs.Together.{behind_bad, behind_named, behind_ok}
 use Rattle.rank_text.proofs.read.read_behind.Goals as goal
 

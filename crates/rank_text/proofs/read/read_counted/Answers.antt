@@ -1,5 +1,5 @@
 use Rattle.std.proofs.Common.{◌≡◌, Result, Ok, IfOk, sym, subst}
-use Rattle.ranked_tree.specs.Text.{Text}
+use Rattle.rank_rules.specs.Text.{Text}
 use Rattle.tree_text_rules.specs.Read.{Fault}
 use Rattle.tree_reading.specs.Place.{lines_at}
 use Rattle.rank_text.proofs.Together.{count_bad, networks_bad, list_ok}

@@ -11,7 +11,7 @@ use Rattle.part_rules.specs.OpenLeaves.{OpenAt, open_leaves, IsAmong}
 use Rattle.part_rules.specs.Graft.{claim_of_both}
 use Rattle.cert_check.specs.declared.open_leaf.OpenLeaf.{OpenLeaf}
 use Rattle.cert_check.specs.OpenLeaves.{leaves_at}
-use Rattle.tree_parts.specs.Part.{start_of}
+use Rattle.part_rules.specs.Part.{start_of}
 use Rattle.tree_parts.proofs.merging.merge.Goals as goal
 
 pub returns-in-Err-clause-fault : goal.returns-in-Err-clause-fault

@@ -3,7 +3,7 @@ use Rattle.pns_rules.specs.Shape.{shape_of}
 use Rattle.tree_rules.specs.Tree.{IsTree}
 use Rattle.tree_rules.specs.Accepted.{Tree, first_node}
 use Rattle.part_rules.specs.Graft.{graft_at}
-use Rattle.tree_parts.specs.Part.{start_of}
+use Rattle.part_rules.specs.Part.{start_of}
 use Rattle.tree_parts.proofs.GraftLists.{stands_below}
 use Rattle.tree_parts.proofs.merging.put_back.Goals as goal
 

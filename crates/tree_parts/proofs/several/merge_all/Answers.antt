@@ -3,8 +3,8 @@ use Rattle.problem_rules.specs.Each.{Each}
 use Rattle.pgraph.specs.Tables.{shape}
 use Rattle.cert_parts.specs.Known.{KnowsInside}
 use Rattle.branch_tree.specs.View.{claim_of}
-use Rattle.tree_parts.specs.Part.{Part, start_of}
-use Rattle.tree_parts.specs.Several.{AreMerged, StopsAt}
+use Rattle.part_rules.specs.Part.{Part, start_of}
+use Rattle.part_rules.specs.Several.{AreMerged, StopsAt}
 use Rattle.tree_parts.proofs.InTurn.{rest_on, each_on, more_back, stops_behind}
 use Rattle.tree_parts.proofs.several.merge_all.Goals as goal
 

@@ -5,14 +5,14 @@ use Rattle.tree_rules.specs.Claim.{Claim}
 use Rattle.tree_rules.specs.Accepted.{first_node}
 use Rattle.branch_tree.specs.View.{claim_of}
 use Rattle.part_rules.specs.OpenLeaves.{OpenAt, open_leaves, IsAmong}
-use Rattle.tree_parts.specs.Part.{start_of}
+use Rattle.part_rules.specs.Part.{start_of}
 use Rattle.part_laws.specs.Splices.{cheapest, settled}
 use Rattle.cert_check.specs.declared.open_leaf.OpenLeaf.{OpenLeaf}
 use Rattle.cert_check.specs.OpenLeaves.{leaves_at}
 use Rattle.tree_parts.specs.Waiting.{splices_of, IsOneMore}
-use Rattle.tree_parts.specs.declared.merging.MergeFault.TheVariants.{Memory}
+use Rattle.part_rules.specs.declared.merge_fault.MergeFault.TheVariants.{Memory}
 use Rattle.tree_parts.specs.declared.several.PartFault.{PartFault}
-use Rattle.tree_parts.specs.Several.{StopsAt}
+use Rattle.part_rules.specs.Several.{StopsAt}
 use Rattle.tree_parts.proofs.Growing.{one_waits, stops_first, stops_without, grown_merged}
 use Rattle.tree_rules.specs.Accepted.{Tree}
 use Rattle.part_laws.specs.Splices.{spliced}

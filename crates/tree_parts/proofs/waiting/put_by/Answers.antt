@@ -6,7 +6,7 @@ use Rattle.tree_rules.specs.Accepted.{Tree}
 use Rattle.part_rules.specs.OpenLeaves.{IsAmong}
 use Rattle.cert_check.specs.OpenLeaves.{leaves_at}
 use Rattle.part_laws.specs.Splices.{AllBelow, AllAbove}
-use Rattle.tree_parts.specs.Part.{start_of}
+use Rattle.part_rules.specs.Part.{start_of}
 use Rattle.tree_parts.specs.declared.waiting.Waiting.{Waiting}
 use Rattle.tree_parts.specs.Waiting.{splices_of}
 use Rattle.tree_parts.proofs.LaidNodes.{one_more}

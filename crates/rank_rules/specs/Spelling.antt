@@ -8,8 +8,8 @@ use Rattle.tree_text_rules.specs.Line.{Token}
 use Rattle.tree_text_rules.specs.Spelling as trees
 use Rattle.rank_rules.specs.Leaf.{Leaf, plain, named}
 use Rattle.rank_rules.specs.Ranked.{Tree}
-use Rattle.ranked_tree.specs.Text.{Text}
-use Rattle.ranked_tree.specs.Marked.{marked}
+use Rattle.rank_rules.specs.Text.{Text}
+use Rattle.rank_rules.specs.Marked.{marked}
 
 -- the whole first line of a text
 abbrev pub file_type : Token

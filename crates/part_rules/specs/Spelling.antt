@@ -6,7 +6,7 @@ use Rattle.tree_rules.specs.Known.{AreUnits, KnowsClaim, KnowsTree, KnowsTail}
 use Rattle.pns_rules.specs.Tokens.{token_of}
 use Rattle.tree_text_rules.specs.Line.{Token}
 use Rattle.tree_text_rules.specs.Spelling.{rest_lines, text_of}
-use Rattle.tree_parts.specs.Part.{Part}
+use Rattle.part_rules.specs.Part.{Part}
 
 -- the whole first line of a text
 abbrev pub file_type : Token

@@ -3,9 +3,9 @@ use Rattle.std.specs.Prelude.{◌≡◌, ◌<◌, ℕ, List, [], ◌∷◌, leng
 use Rattle.problem_rules.specs.Problem.{Problem}
 use Rattle.tree_rules.specs.Claim as rules
 use Rattle.tree_rules.specs.Accepted as trees
-use Rattle.tree_parts.specs.declared.merging.MergeFault.{MergeFault}
-use Rattle.tree_parts.specs.Part as parts
-use Rattle.tree_parts.specs.Merge.{IsMerged, MergeFails}
+use Rattle.part_rules.specs.declared.merge_fault.MergeFault.{MergeFault}
+use Rattle.part_rules.specs.Part as parts
+use Rattle.part_rules.specs.Merge.{IsMerged, MergeFails}
 
 abbrev pub AreMerged : Problem → rules.Claim → trees.Tree → List parts.Part → rules.Claim → trees.Tree → Type 0
 AreMerged p claim tree [] both whole = (both ≡ claim) × (whole ≡ tree)

@@ -4,7 +4,7 @@ use Rattle.tree_rules.specs.Claim.{Network}
 use Rattle.tree_rules.specs.Accepted.{Tree}
 use Rattle.rank_rules.specs.Ranked.{Ranking}
 use Rattle.tree_rules.specs.Tail.{Tail}
-use Rattle.ranked_tree.specs.Marked.{Mark, marked}
+use Rattle.rank_rules.specs.Marked.{Mark, marked}
 
 pub record Text : Type 0 where
   pub count : ℕ

@@ -8,8 +8,8 @@ use Rattle.tree_text_rules.specs.Line.{Token, Line, tokens_of, is_formed, lines_
 use Rattle.tree_text_rules.specs.Read.{Fault, Certificate, rest_taken}
 use Rattle.tree_text_rules.specs.declared.TreeKind.{TreeKind}
 use Rattle.tree_text_rules.specs.declared.TreeKind.TheVariants.{FileType, BadLine, BadNumber}
-use Rattle.tree_parts.specs.Part.{Part, IsApart}
-use Rattle.part_text.specs.Spelling.{file_type, set_line}
+use Rattle.part_rules.specs.Part.{Part, IsApart}
+use Rattle.part_rules.specs.Spelling.{file_type, set_line}
 
 -- ---- the lines of the start
 

@@ -13,10 +13,10 @@ use Rattle.tree_text_rules.specs.Token.{judged, count_of}
 use Rattle.tree_text_rules.specs.Read.{Fault, Taken, on_line, first_line, then_read, network_taken, tree_taken, tail_taken}
 use Rattle.tree_text_rules.specs.declared.TreeKind.{TreeKind}
 use Rattle.tree_text_rules.specs.declared.TreeKind.TheVariants.{FileType, BadLine, BadNumber}
-use Rattle.ranked_tree.specs.Marked.{Mark}
-use Rattle.ranked_tree.specs.Text.{Text}
-use Rattle.rank_text.specs.Opened.{opened, marks_taken}
-use Rattle.rank_text.specs.Spelling.{file_type, count_word, networks_word}
+use Rattle.rank_rules.specs.Marked.{Mark}
+use Rattle.rank_rules.specs.Text.{Text}
+use Rattle.rank_rules.specs.Opened.{opened, marks_taken}
+use Rattle.rank_rules.specs.Spelling.{file_type, count_word, networks_word}
 
 -- ---- the first three lines
 

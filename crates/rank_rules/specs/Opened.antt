@@ -9,8 +9,8 @@ use Rattle.tree_text_rules.specs.Read.{Fault, on_line}
 use Rattle.tree_text_rules.specs.declared.TreeKind.{TreeKind}
 use Rattle.tree_text_rules.specs.declared.TreeKind.TheVariants.{BadLine}
 use Rattle.tree_text_rules.specs.declared.Word.TheVariants.{Open, Unknown}
-use Rattle.ranked_tree.specs.Marked.{Mark}
-use Rattle.rank_text.specs.Spelling.{named_word}
+use Rattle.rank_rules.specs.Marked.{Mark}
+use Rattle.rank_rules.specs.Spelling.{named_word}
 
 -- the line begins with the word
 abbrev pub is_first : Token → List Token → Bool

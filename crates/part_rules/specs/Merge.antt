@@ -11,10 +11,10 @@ use Rattle.tree_rules.specs.Accepted.{first_node, IsPartial}
 use Rattle.part_rules.specs.Graft.{graft_at, claim_of_both}
 use Rattle.tree_rules.specs.declared.refusal.Refusal.TheVariants as refusals
 use Rattle.tree_rules.specs.Refusals.{Refuses}
-use Rattle.tree_parts.specs.declared.merging.MergeFault.{MergeFault}
-use Rattle.tree_parts.specs.declared.merging.MergeFault.TheVariants.{Tree, Part, NoLeaf, Memory}
-use Rattle.tree_parts.specs.Part as parts
-use Rattle.tree_parts.specs.Part.{start_of}
+use Rattle.part_rules.specs.declared.merge_fault.MergeFault.{MergeFault}
+use Rattle.part_rules.specs.declared.merge_fault.MergeFault.TheVariants.{Tree, Part, NoLeaf, Memory}
+use Rattle.part_rules.specs.Part as parts
+use Rattle.part_rules.specs.Part.{start_of}
 
 -- leaf k of the tree is open, and its node is that of the part
 abbrev pub IsLeafOf : Problem → trees.Tree → parts.Part → ℕ → Type 0
