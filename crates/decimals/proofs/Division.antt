@@ -1,7 +1,7 @@
 -- A number that is divided by the parts of a product one after another.
 use Rattle.std.proofs.Common.{◌≡◌, ◌<◌, ◌≤◌, ◌+◌, ◌*◌, ◌/◌, ◌%◌, ◌^◌, ◌==◌, ◌&&◌, ℕ, Bool, true, false, refl, sym, ap, ◌∙◌, arith}
 use Rattle.std.specs.Prelude.{ℤ, pos, unsigned_abs, int_lt, Result, Ok, Err, OnOk}
-use Rattle.decimals.specs.Decimal.{rounded_text, decimal_text}
+use Rattle.report_rules.specs.Decimal.{rounded_text, decimal_text}
 use Rattle.std.proofs.lemmas.Bool.{eq-eqb, ne_eqb, eqb-true, eqb-false}
 use Rattle.std.proofs.Math.Nat.{div-div-eq-div-mul, add-mul-div_right, mul-div-mul_right, mul-div_cancel, mul-mod_left, le-mul_of_pos_right, one-le-pow}
 use Rattle.std.proofs.Math.Arith.{mod-mul}

@@ -1,7 +1,7 @@
 //! Digits behind the point.
 ghost use Rattle.std.specs.Prelude.{◌≡◌, ◌++◌, ◌^◌, OnOk, string_bytes};
 ghost use Rattle.text_rules.specs.Printed.{digits, places};
-ghost use Rattle.decimals.specs.Decimal.{scaled_text};
+ghost use Rattle.report_rules.specs.Decimal.{scaled_text};
 
 use std::alloc::AllocError;
 

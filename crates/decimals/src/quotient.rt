@@ -1,6 +1,6 @@
 //! A quotient whose divisor is a product.
 ghost use Rattle.std.specs.Prelude.{◌≡◌, ◌≤ℤ◌, ◌<◌, ◌++◌, ◌*◌, ◌^◌, ◌==◌, ◌&&◌, ◌+◌, ◌/◌, ◌%◌, pos, unsigned_abs, OnOk, string_bytes};
-ghost use Rattle.decimals.specs.Decimal.{decimal_text, rounded, is_exact};
+ghost use Rattle.report_rules.specs.Decimal.{decimal_text, rounded, is_exact};
 
 use crate::rounded::push_rounded;
 use std::alloc::AllocError;

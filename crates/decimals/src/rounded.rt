@@ -1,6 +1,6 @@
 //! A rounded number with its mark and its sign.
 ghost use Rattle.std.specs.Prelude.{◌≡◌, ◌++◌, ◌^◌, OnOk, string_bytes};
-ghost use Rattle.decimals.specs.Decimal.{rounded_text};
+ghost use Rattle.report_rules.specs.Decimal.{rounded_text};
 
 use crate::places::push_scaled;
 use std::alloc::AllocError;

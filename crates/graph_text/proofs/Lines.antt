@@ -2,7 +2,7 @@
 use Rattle.std.proofs.Common.{◌≡◌, ℕ, Bool, true, false, List, [], ◌∷◌, ◌++◌, map, refl, sym, ap, ◌∙◌, append_assoc, append-nil, codes}
 use Rattle.std.specs.Prelude.{flat_map, if◌then◌else◌, Result, Ok, Err, OnOk}
 use Rattle.pns_problem.specs.Printing.{printed}
-use Rattle.graph_text.specs.Graph.{node_line}
+use Rattle.report_rules.specs.Graph.{node_line}
 use Rattle.pns_problem.proofs.PrintingLemmas.{after}
 
 pub printed-append : (xs ys : List (List ℕ)) → printed (xs ++ ys) ≡ printed xs ++ printed ys

@@ -5,9 +5,9 @@ ghost use Rattle.number_sets.specs.Sets.{has};
 ghost use Rattle.problem_rules.specs.Problem.{rate_of};
 ghost use Rattle.pns_problem.specs.Printing.{printed};
 ghost use Rattle.tree_rules.specs.Claim.{IsFeasible, size_in};
-ghost use Rattle.graph_text.specs.Drawn.{moved, arc_flow};
-ghost use Rattle.graph_text.specs.Graph.{attributes, arc_attributes, input_line, output_line};
-ghost use Rattle.graph_text.specs.declared.role.Role.TheVariants.{Planned, Running};
+ghost use Rattle.report_rules.specs.Drawn.{moved, arc_flow};
+ghost use Rattle.report_rules.specs.Graph.{attributes, arc_attributes, input_line, output_line};
+ghost use Rattle.report_rules.specs.declared.role.Role.TheVariants.{Planned, Running};
 
 use crate::names::{material_name, unit_name};
 use crate::nodes::push_node;

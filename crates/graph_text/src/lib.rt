@@ -1,8 +1,8 @@
 //! The P-graph of a problem as text for Graphviz, and in it a network, where one is given.
 //!
-//! `specs/Graph` has the lines: those of the maximal structure, with each material, each unit and each arc between them. In a network
-//! they tell sizes and flows, and what it leaves out is grey. [`graph_of`] gives their bytes. No number that is told leaves the range:
-//! each is a whole number by which the network was judged, divided by the parts of its divisor one after the other.
+//! `Graph` of `report_rules` has the lines: those of the maximal structure, with each material, each unit and each arc between them. In
+//! a network they tell sizes and flows, and what it leaves out is grey. [`graph_of`] gives their bytes. No number that is told leaves
+//! the range: each is a whole number by which the network was judged, divided by the parts of its divisor one after the other.
 //!
 //! Modules: `role`, the part of a unit; `names`, names by number; `numbers`, sizes and flows; `nodes`, quotes and looks; `materials`,
 //! `units` and `arcs`, their lines; `text`, all of it.
@@ -17,5 +17,4 @@ mod role;
 mod text;
 mod units;
 
-pub use role::Role;
 pub use text::{empty_graph, graph_of};

@@ -7,8 +7,8 @@ ghost use Rattle.pns_rules.specs.Shape.{shape_of};
 ghost use Rattle.pns_rules.specs.Structure.{mats};
 ghost use Rattle.pgraph.specs.Tables.{shape};
 ghost use Rattle.tree_rules.specs.Claim.{IsFeasible};
-ghost use Rattle.graph_text.specs.Drawn.{is_drawn, material_flow};
-ghost use Rattle.graph_text.specs.Graph.{shape_words, shade, material_line};
+ghost use Rattle.report_rules.specs.Drawn.{is_drawn, material_flow};
+ghost use Rattle.report_rules.specs.Graph.{shape_words, shade, material_line};
 
 use crate::names::{kind_at, material_name};
 use crate::nodes::{push_node, shade, shape};

@@ -1,7 +1,7 @@
 //! Nodes between quotes, and their looks.
 ghost use Rattle.std.specs.Prelude.{◌≡◌, ◌++◌, OnOk, string_bytes};
 ghost use Rattle.pns_problem.specs.Kind.{kind_of};
-ghost use Rattle.graph_text.specs.Graph.{node, shape_words, shade};
+ghost use Rattle.report_rules.specs.Graph.{node, shape_words, shade};
 
 use pns_problem::Kind;
 use std::alloc::AllocError;

@@ -1,7 +1,7 @@
 //! Sizes and flows, with 3 places.
 ghost use Rattle.std.specs.Prelude.{◌≡◌, ◌++◌, ◌≤ℤ◌, pos, unsigned_abs, OnOk, string_bytes};
 ghost use Rattle.integer_laws.specs.Range.{InRange};
-ghost use Rattle.graph_text.specs.Drawn.{size_text, flow_text, way_words, net_label};
+ghost use Rattle.report_rules.specs.Drawn.{size_text, flow_text, way_words, net_label};
 
 use decimals::push_quotient;
 use std::alloc::AllocError;

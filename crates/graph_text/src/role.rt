@@ -1,23 +1,11 @@
 //! The part of a unit in what is drawn.
 ghost use Rattle.std.specs.Prelude.{◌≡◌, ◌<◌, Some, option_map};
-ghost use Rattle.graph_text.specs.Drawn.{role_of};
-ghost use Rattle.graph_text.specs.Graph.{look_words};
+ghost use Rattle.report_rules.specs.Drawn.{role_of};
+ghost use Rattle.report_rules.specs.Graph.{look_words};
 
 use branch_tree::Network;
 use pns_tables::size_at;
-
-/// The part of a unit.
-#[derive(Clone, Copy, Debug, PartialEq, Eq)]
-pub enum Role {
-    /// No network is given.
-    Planned,
-    /// It is in the network, and its size is not 0.
-    Running,
-    /// It is in the network, and its size is 0.
-    Idle,
-    /// It is not in the network.
-    LeftOut,
-}
+use report_rules::Role;
 
 /// The part of the unit.
 pub(crate) fn role_of(network: Option<&Network>, u: u32) -> Role

@@ -5,7 +5,7 @@ ghost use Rattle.pns_problem.specs.Printing.{printed};
 ghost use Rattle.pns_rules.specs.Shape.{shape_of};
 ghost use Rattle.pgraph.specs.Tables.{shape};
 ghost use Rattle.tree_rules.specs.Claim.{IsFeasible};
-ghost use Rattle.graph_text.specs.Graph.{cost_text, sort_words, total_lines, head_lines, graph_lines, empty_lines};
+ghost use Rattle.report_rules.specs.Graph.{cost_text, sort_words, total_lines, head_lines, graph_lines, empty_lines};
 
 use crate::materials::push_materials;
 use crate::units::push_units;

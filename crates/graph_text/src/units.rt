@@ -4,8 +4,8 @@ ghost use Rattle.number_sets.specs.Sets.{has};
 ghost use Rattle.problem_rules.specs.Problem.{unit_at};
 ghost use Rattle.pns_problem.specs.Printing.{printed};
 ghost use Rattle.tree_rules.specs.Claim.{IsFeasible};
-ghost use Rattle.graph_text.specs.Drawn.{unit_size};
-ghost use Rattle.graph_text.specs.Graph.{unit_line, unit_lines};
+ghost use Rattle.report_rules.specs.Drawn.{unit_size};
+ghost use Rattle.report_rules.specs.Graph.{unit_line, unit_lines};
 
 use crate::arcs::{push_inputs, push_outputs};
 use crate::names::unit_name;

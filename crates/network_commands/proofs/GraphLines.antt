@@ -6,7 +6,7 @@ use Rattle.pns_problem.specs.Printing.{printed}
 use Rattle.pns_rules.specs.Shape.{shape_of}
 use Rattle.tree_rules.specs.Claim.{Network}
 use Rattle.structure_commands.specs.Max.{IsMaximal, HasNoStructure}
-use Rattle.graph_text.specs.Graph.{graph_lines, empty_lines}
+use Rattle.report_rules.specs.Graph.{graph_lines, empty_lines}
 use Rattle.endings.specs.Lines.{text_of}
 use Rattle.network_commands.specs.Graph.{AreGraphLines}
 

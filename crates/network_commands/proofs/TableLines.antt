@@ -4,7 +4,7 @@ use Rattle.std.specs.Prelude.{if◌then◌else◌}
 use Rattle.csv.specs.Writing.{default_writer, row_text, row_body, is_blank, quote_mark}
 use Rattle.problem_rules.specs.Problem.{Problem}
 use Rattle.tree_rules.specs.Claim.{Network}
-use Rattle.pns_tables.specs.Table.{AreUnitRows, AreMaterialRows, unit_heading, material_heading, records_text}
+use Rattle.report_rules.specs.Table.{AreUnitRows, AreMaterialRows, unit_heading, material_heading, records_text}
 use Rattle.endings.specs.Lines.{line, text_of}
 use Rattle.network_commands.specs.Table.{AreTables}
 

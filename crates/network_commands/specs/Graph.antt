@@ -4,7 +4,7 @@ use Rattle.problem_rules.specs.Problem.{Problem}
 use Rattle.pns_rules.specs.Shape.{shape_of}
 use Rattle.tree_rules.specs.Claim.{Network}
 use Rattle.structure_commands.specs.Max.{IsMaximal, HasNoStructure}
-use Rattle.graph_text.specs.Graph.{graph_lines, empty_lines}
+use Rattle.report_rules.specs.Graph.{graph_lines, empty_lines}
 use Rattle.endings.specs.declared.status.Status.{Status}
 use Rattle.endings.specs.declared.status.Status.TheVariants.{Done}
 

@@ -3,7 +3,7 @@ use Rattle.std.specs.Prelude.{◌≡◌, ◌++◌, ℕ, List, [], ◌∷◌, map
 use Rattle.csv.specs.Writing.{default_writer, row_text}
 use Rattle.problem_rules.specs.Problem.{Problem}
 use Rattle.tree_rules.specs.Claim.{Network}
-use Rattle.pns_tables.specs.Table.{AreUnitRows, AreMaterialRows, unit_heading, material_heading}
+use Rattle.report_rules.specs.Table.{AreUnitRows, AreMaterialRows, unit_heading, material_heading}
 use Rattle.endings.specs.Lines.{line}
 use Rattle.endings.specs.declared.status.Status.{Status}
 use Rattle.endings.specs.declared.status.Status.TheVariants.{Done}

@@ -4,7 +4,7 @@ ghost use Rattle.text_rules.specs.Outside.{HasRisen};
 ghost use Rattle.pns_rules.specs.Shape.{shape_of};
 ghost use Rattle.pgraph.specs.Tables.{shape};
 ghost use Rattle.tree_rules.specs.Claim.{IsFeasible};
-ghost use Rattle.report_tables.specs.Report.{report_lines};
+ghost use Rattle.report_rules.specs.Report.{report_lines};
 ghost use Rattle.endings.specs.Lines.{text_of};
 ghost use Rattle.command_files.specs.Reading.{OnFile};
 ghost use Rattle.command_files.specs.TreeFile.{OnTree};

@@ -3,7 +3,7 @@ use Rattle.std.proofs.Common.{◌≡◌, ℕ, List, [], ◌∷◌, ◌++◌, ref
 use Rattle.std.specs.Prelude.{Option, Result, Ok, Err, IfOk, OnOk}
 use Rattle.csv.specs.Writing.{default_writer, row_text}
 use Rattle.csv.specs.declared.writer.Writer.{Writer}
-use Rattle.pns_tables.specs.Table.{AreRows, records_text, IsTable}
+use Rattle.report_rules.specs.Table.{AreRows, records_text, IsTable}
 use Rattle.pns_tables.specs.Written.{HasWritten}
 
 -- the heading and some rows are written, which rows for the numbers that are left would complete

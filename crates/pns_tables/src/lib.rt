@@ -1,9 +1,9 @@
 //! A network as tables of comma-separated fields, which a spreadsheet opens: its units with their sizes and fixed costs, and its
 //! materials with what is left over of each.
 //!
-//! [`unit_table`] and [`material_table`] give the bytes that `specs/Table` says, in the words of `csv` itself. All sums are those by
-//! which the flows of a network are judged, so that none leaves the range where they were. The numbers of other texts on a network
-//! come from [`size_at`] and [`flow_of`] too.
+//! [`unit_table`] and [`material_table`] give the bytes that `Table` of `report_rules` says, in the words of `csv` itself. All sums are
+//! those by which the flows of a network are judged, so that none leaves the range where they were. The numbers of other texts on a
+//! network come from [`size_at`] and [`flow_of`] too.
 //!
 //! Modules: `rows`, records by the writer of `csv`; `sizes` and `flows`, the numbers; `units` and `materials`, the tables.
 #![tactic(auto)]

@@ -11,7 +11,7 @@ ghost use Rattle.flow_rules.specs.Steps.{AreInRange};
 ghost use Rattle.flow_rules.specs.FeasibleSteps.{units_at, balance_steps, feasible_steps};
 ghost use Rattle.tree_rules.specs.Claim.{size_in};
 ghost use Rattle.tree_rules.specs.Known.{AreUnits};
-ghost use Rattle.pns_tables.specs.Table.{IsMaterialRow, IsMaterialTable};
+ghost use Rattle.report_rules.specs.Table.{IsMaterialRow, IsMaterialTable};
 ghost use Rattle.pns_tables.specs.Written.{HasWritten};
 
 use crate::flows::flow_of;

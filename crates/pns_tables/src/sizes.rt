@@ -2,7 +2,7 @@
 ghost use Rattle.std.specs.Prelude.{◌≡◌, IfOk, string_bytes};
 ghost use Rattle.integer_laws.specs.Range.{InRange};
 ghost use Rattle.tree_rules.specs.Claim.{size_in};
-ghost use Rattle.pns_tables.specs.Table.{IsQuotient};
+ghost use Rattle.report_rules.specs.Table.{IsQuotient};
 
 use branch_tree::Network;
 use frac128::Frac;

@@ -2,7 +2,7 @@
 ghost use Rattle.std.specs.Prelude.{◌≡◌, ◌<◌, ◌++◌, ℕ, List, Some, IfOk, OnOk, length, string_bytes};
 ghost use Rattle.csv.specs.Writing.{default_writer, row_text};
 ghost use Rattle.tree_rules.specs.Known.{AreUnits};
-ghost use Rattle.pns_tables.specs.Table.{IsUnitRow, IsUnitTable};
+ghost use Rattle.report_rules.specs.Table.{IsUnitRow, IsUnitTable};
 ghost use Rattle.pns_tables.specs.Written.{HasWritten};
 
 use crate::rows::{headed, push_row, written};

@@ -14,7 +14,7 @@ use Rattle.int_rows.proofs.LowestLemmas.{lowest_same}
 use Rattle.frac128.specs.Product.{IsPastLowest}
 use Rattle.frac128.specs.Sum.{IsSumInRange, IsPastSum}
 use Rattle.text_rules.specs.Amount.{signed}
-use Rattle.report_amounts.specs.Number.{Fraction, Number, common, gcd, lowest, is_in_range, kept, parts, are_in_range, sum_in_range, plus}
+use Rattle.report_rules.specs.Number.{Fraction, Number, common, gcd, lowest, is_in_range, kept, parts, are_in_range, sum_in_range, plus}
 
 common_is : (n a b : ℕ) → b < n → IsGcd a b (common n a b)
 common_is zero a b h = absurd (omega arith)

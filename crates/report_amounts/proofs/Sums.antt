@@ -1,6 +1,6 @@
 -- A sum along a walk.
 use Rattle.std.proofs.Common.{◌≡◌, ℕ, List, [], ◌∷◌, sym, ap, ◌∙◌}
-use Rattle.report_amounts.specs.Number.{Number, plus, sum_from}
+use Rattle.report_rules.specs.Number.{Number, plus, sum_from}
 
 -- the numbers to come finish the sum
 pub next_sum : (f : ℕ → Number) (left rest : List ℕ) (k : ℕ) (sum new whole : Number) → left ≡ k ∷ rest → new ≡ plus sum (f k) → sum_from sum f left ≡ whole → sum_from new f rest ≡ whole

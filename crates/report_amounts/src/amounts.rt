@@ -4,33 +4,15 @@ ghost use Rattle.integer_laws.specs.Range.{InRange};
 ghost use Rattle.number_sets.specs.Sets.{has};
 ghost use Rattle.problem_rules.specs.Problem.{unit_at};
 ghost use Rattle.flow_rules.specs.Net.{million};
-ghost use Rattle.report_amounts.specs.Number.{sum_of};
-ghost use Rattle.report_amounts.specs.Amounts.{quotient, sized, size, fixed, proportional, once, investment, unit_total, made_rate, used_rate, made_by, used_by, amount, unit_sum};
+ghost use Rattle.report_rules.specs.Number.{sum_of};
+ghost use Rattle.report_rules.specs.Amounts.{quotient, sized, size, fixed, proportional, once, investment, unit_total, made_rate, used_rate, made_by, used_by, amount, unit_sum};
 
 use crate::number::Number;
 use branch_tree::Network;
 use flow_program::rate_at;
 use pns_problem::{OperatingUnit, Problem};
 use pns_tables::size_at;
-
-/// A number of a unit of a network, for one year.
-#[derive(Clone, Copy, Debug, PartialEq, Eq)]
-pub enum UnitAmount {
-    /// The fixed cost.
-    Fixed,
-    /// The proportional cost at its size.
-    Proportional,
-    /// The part of the investment.
-    Investment,
-    /// All three costs.
-    Total,
-    /// The investment, paid once.
-    Once,
-    /// What it makes of a material.
-    Made(u32),
-    /// What it uses of a material.
-    Used(u32),
-}
+use report_rules::UnitAmount;
 
 pub fn unit_of(problem: &Problem, u: u32) -> &OperatingUnit
     requires { u < length problem.now.units }
@@ -40,7 +22,7 @@ pub fn unit_of(problem: &Problem, u: u32) -> &OperatingUnit
 }
 
 /// num / den.
-#[tactic(auto, unfolding(crate::specs::Amounts::quotient))]
+#[tactic(auto, unfolding(report_rules::specs::Amounts::quotient))]
 pub(crate) fn quotient(num: i128, den: i128) -> Number
     requires num_in_range { InRange num }
     requires den_in_range { InRange den }

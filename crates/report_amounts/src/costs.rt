@@ -8,7 +8,7 @@ ghost use Rattle.pgraph.specs.Tables.{shape};
 ghost use Rattle.flow_rules.specs.Net.{net_of, materials_of};
 ghost use Rattle.flow_rules.specs.Flows.{balance};
 ghost use Rattle.tree_rules.specs.Claim.{IsFeasible, size_in};
-ghost use Rattle.report_amounts.specs.Amounts.{flowing, net, cost, part_of, cost_sum};
+ghost use Rattle.report_rules.specs.Amounts.{flowing, net, cost, part_of, cost_sum};
 
 use crate::amounts::quotient;
 use crate::number::Number;
@@ -16,18 +16,8 @@ use branch_tree::Network;
 use pgraph::Graph;
 use pns_problem::{Material, Problem};
 use pns_tables::flow_of;
+use report_rules::CostPart;
 use unit_sets::MatSet;
-
-/// What is taken of a cost.
-#[derive(Clone, Copy, Debug, PartialEq, Eq)]
-pub enum Part {
-    /// All of it.
-    All,
-    /// What is above 0.
-    Costs,
-    /// What is below 0.
-    Incomes,
-}
 
 /// The materials of the network.
 pub fn materials_in(problem: &Problem, graph: &Graph, network: &Network) -> MatSet
@@ -99,18 +89,18 @@ pub fn cost(problem: &Problem, network: &Network, j: u32) -> Number
     flowing(problem, network, j, price, 1_000_000_000_000_000_000)
 }
 
-fn part_of(part: Part, cost: Number) -> Number
+fn part_of(part: CostPart, cost: Number) -> Number
     ensures { result ≡ part_of part cost }
 {
     match part {
-        Part::All => cost,
-        Part::Costs => cost.above(),
-        Part::Incomes => cost.below(),
+        CostPart::All => cost,
+        CostPart::Costs => cost.above(),
+        CostPart::Incomes => cost.below(),
     }
 }
 
 /// The sum of the costs, or of these parts of them, over the network's materials.
-pub fn cost_sum(part: Part, problem: &Problem, graph: &Graph, network: &Network) -> Number
+pub fn cost_sum(part: CostPart, problem: &Problem, graph: &Graph, network: &Network) -> Number
     requires graph { shape graph.now ≡ shape_of problem.now }
     requires feasible { IsFeasible problem.now network.now }
     ensures { result ≡ cost_sum part problem.now network.now }

@@ -1,10 +1,10 @@
 //! The numbers of a claimed network for one year: costs of its units, flows and costs of its materials, and their sums.
 //!
-//! `specs/Amounts` has each number as a fraction, formed before any rounding. One for which a number past 127 bits would be formed is
-//! past, and so is each sum over it.
+//! `Amounts` of `report_rules` has each number as a fraction, formed before any rounding. One for which a number past 127 bits would be
+//! formed is past, and so is each sum over it.
 //!
-//! Numbers are fractions in lowest terms whose numerator and denominator are of at most 127 bits; `specs/Number` has how they are formed and
-//! printed, with so many places or as a share in per cent.
+//! Numbers are fractions in lowest terms whose numerator and denominator are of at most 127 bits; `Number` of `report_rules` has how they are
+//! formed and printed, with so many places or as a share in per cent.
 //!
 //! Modules: `number`, such fractions; `amounts`, the numbers of units and their sums; `costs`, those of materials.
 #![tactic(auto)]
@@ -13,6 +13,6 @@ mod amounts;
 mod costs;
 mod number;
 
-pub use amounts::{UnitAmount, amount, share_of, size, unit_of, unit_sum};
-pub use costs::{Part, cost, cost_sum, flow_at, material_of, materials_in, net};
+pub use amounts::{amount, share_of, size, unit_of, unit_sum};
+pub use costs::{cost, cost_sum, flow_at, material_of, materials_in, net};
 pub use number::Number;

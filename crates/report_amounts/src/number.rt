@@ -1,7 +1,7 @@
 //! Fractions that may be past.
 ghost use Rattle.std.specs.Prelude.{◌≡◌, ◌++◌, ◌∷◌, [], ◌<ℤ◌, ◌*ℤ◌, ◌^◌, ◌*◌, ◌+◌, ◌/◌, ◌%◌, None, Some, pos, decimal, OnOk, string_bytes};
 ghost use Rattle.integer_laws.specs.Range.{InRange};
-ghost use Rattle.report_amounts.specs.Number.{of, nothing, lowest, kept, times, plus, above, below, half_of, is_even, doubled_text, number_text, thousandths_text, share_text};
+ghost use Rattle.report_rules.specs.Number.{of, nothing, lowest, kept, times, plus, above, below, half_of, is_even, doubled_text, number_text, thousandths_text, share_text};
 
 use decimals::push_rounded;
 use frac128::Frac;
@@ -16,7 +16,7 @@ pub struct Number {
 
 impl Model for Number {
     ghost use Rattle.std.specs.Prelude.{option_map};
-    ghost use Rattle.report_amounts.specs.Number as rules;
+    ghost use Rattle.report_rules.specs.Number as rules;
 
     ghost Value = { rules.Number };
 

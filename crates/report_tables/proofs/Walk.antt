@@ -2,8 +2,8 @@
 use Rattle.std.proofs.Common.{◌≡◌, ℕ, zero, suc, ◌+◌, ◌-◌, ◌<◌, Bool, List, [], ◌∷◌, ◌++◌, drop, length, get_or, refl, sym, ap, ◌∙◌, append_assoc, arith}
 use Rattle.std.proofs.lemmas.List.{drop_more}
 use Rattle.pns_problem.proofs.PrintingLemmas.{after}
-use Rattle.report_tables.specs.declared.column.Sort.{Sort}
-use Rattle.report_tables.specs.Aligned.{spaces, cell_at, Column, column_at, columns_from, before, behind, shown, gap_left, line_text}
+use Rattle.report_rules.specs.declared.column.Sort.{Sort}
+use Rattle.report_rules.specs.Aligned.{spaces, cell_at, Column, column_at, columns_from, before, behind, shown, gap_left, line_text}
 
 pub next_space : (n : ℕ) → 0 < n → spaces n ≡ 32 ∷ spaces (n - 1)
 next_space zero h = absurd (omega arith)

@@ -1,6 +1,6 @@
 //! One cell more in a row.
 ghost use Rattle.std.specs.Prelude.{◌≡◌, ◌++◌, ◌∷◌, [], IfOk, OnOk, string_bytes};
-ghost use Rattle.report_tables.specs.Report.{number_cell};
+ghost use Rattle.report_rules.specs.Report.{number_cell};
 
 use crate::row::Row;
 use report_amounts::Number;
@@ -15,7 +15,7 @@ pub(crate) fn push_words(alloc: Global, row: &mut Row, words: &str) -> Result<()
 }
 
 /// Appends the number with 9 places, or `past`.
-#[tactic(auto, unfolding(crate::specs::Report::number_cell))]
+#[tactic(auto, unfolding(report_rules::specs::Report::number_cell))]
 pub(crate) fn push_9_places(text: &mut String, number: &Number) -> Result<(), AllocError>
     ensures { OnOk result (string_bytes text.new ≡ string_bytes text.old ++ number_cell number.now) }
 {

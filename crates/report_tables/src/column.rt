@@ -1,31 +1,12 @@
 //! How wide columns are.
 ghost use Rattle.std.specs.Prelude.{◌≡◌, ◌++◌, ◌∷◌, [], IfOk, length};
-ghost use Rattle.report_tables.specs.Aligned.{cell_at, measured, greater, widest, column_at, columns_from};
+ghost use Rattle.report_rules.specs.Aligned.{cell_at, measured, greater, widest, column_at, columns_from};
 
 use crate::row::Row;
+use report_rules::{Measure, Sort};
 use std::alloc::{AllocError, Global};
 use std::marker::Model;
 use text_lines::line::place_of;
-
-/// What stands in a column.
-#[derive(Clone, Copy, Debug, PartialEq, Eq)]
-pub enum Sort {
-    /// Words, to the left.
-    Words,
-    /// Numbers, whose points stand under each other.
-    Numbers,
-}
-
-/// What is measured of a cell, in bytes.
-#[derive(Clone, Copy, Debug, PartialEq, Eq)]
-pub enum Measure {
-    /// All of it.
-    Whole,
-    /// What stands before its point.
-    Front,
-    /// What stands from its point on.
-    Back,
-}
 
 /// A column and how wide it is, in bytes.
 #[derive(Drop)]
@@ -37,7 +18,7 @@ pub(crate) struct Column {
 }
 
 impl Model for Column {
-    ghost use Rattle.report_tables.specs.Aligned as rules;
+    ghost use Rattle.report_rules.specs.Aligned as rules;
 
     ghost Value = { rules.Column };
 

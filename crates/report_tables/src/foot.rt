@@ -2,13 +2,14 @@
 ghost use Rattle.std.specs.Prelude.{◌≡◌, ◌<◌, ◌++◌, ◌∷◌, [], ℕ, true, OnOk, flat_map, length, string_bytes};
 ghost use Rattle.number_sets.specs.Sets.{has};
 ghost use Rattle.pns_problem.specs.Printing.{printed};
-ghost use Rattle.report_tables.specs.Report.{once_line, left_out, name_behind, names_or_none, left_out_line, last_line, foot_lines};
+ghost use Rattle.report_rules.specs.Report.{once_line, left_out, name_behind, names_or_none, left_out_line, last_line, foot_lines};
 
 use crate::cells::push_9_places;
 use crate::names::{unit_count, unit_name};
 use branch_tree::Network;
 use pns_problem::Problem;
-use report_amounts::{UnitAmount, unit_sum};
+use report_amounts::unit_sum;
+use report_rules::UnitAmount;
 use std::alloc::AllocError;
 use unit_sets::UnitSet;
 

@@ -1,7 +1,7 @@
 //! The report of a claimed network: its units, its materials and its money for one year as tables for people.
 //!
-//! `specs/Report` has the lines, whose numbers are those of `report_amounts`, and `specs/Aligned` the lines of any table, whose columns stand
-//! under each other. [`report_of`] gives their bytes.
+//! In `report_rules`, `Report` has the lines, whose numbers are those of `report_amounts`, and `Aligned` the lines of any table, whose
+//! columns stand under each other. [`report_of`] gives their bytes.
 //!
 //! Modules: `row`, `column`, `line` and `table`, aligned tables; `names`; `cells`, one cell more in a row; `limits`, where a number is at a bound; `tables`, a table with the empty line
 //! behind it; `units`, `materials` and `money`, the three tables; `foot`; `text`, the whole.

@@ -2,7 +2,7 @@
 ghost use Rattle.std.specs.Prelude.{◌≡◌, ◌*ℤ◌, ℕ};
 ghost use Rattle.std.specs.Ordering.{int_eq};
 ghost use Rattle.integer_laws.specs.Range.{InRange};
-ghost use Rattle.report_tables.specs.Report.{idle_words, least_words, most_words, limit_words};
+ghost use Rattle.report_rules.specs.Report.{idle_words, least_words, most_words, limit_words};
 
 use int_rows::checked_product;
 
@@ -17,14 +17,14 @@ fn is_at(z: i128, bound: i128, d: i128) -> bool
     }
 }
 
-#[tactic(auto, unfolding(crate::specs::Report::idle_words))]
+#[tactic(auto, unfolding(report_rules::specs::Report::idle_words))]
 fn idle_words(idle: bool) -> &'static str
     ensures { result.now ≡ idle_words idle }
 {
     if idle { "idle" } else { "-" }
 }
 
-#[tactic(auto, unfolding(crate::specs::Report::least_words))]
+#[tactic(auto, unfolding(report_rules::specs::Report::least_words))]
 fn least_words(idle: bool, lower: i128, z: i128, d: i128) -> &'static str
     requires { InRange z }
     ensures { result.now ≡ least_words idle lower z d }
@@ -38,7 +38,7 @@ fn least_words(idle: bool, lower: i128, z: i128, d: i128) -> &'static str
     }
 }
 
-#[tactic(auto, unfolding(crate::specs::Report::most_words))]
+#[tactic(auto, unfolding(report_rules::specs::Report::most_words))]
 fn most_words(idle: bool, lower: i128, upper: i128, z: i128, d: i128) -> &'static str
     requires { InRange z }
     ensures { result.now ≡ most_words idle lower upper z d }
@@ -51,7 +51,7 @@ fn most_words(idle: bool, lower: i128, upper: i128, z: i128, d: i128) -> &'stati
 }
 
 /// At which of its bounds z over d is, in a word.
-#[tactic(auto, unfolding(crate::specs::Report::limit_words))]
+#[tactic(auto, unfolding(report_rules::specs::Report::limit_words))]
 pub(crate) fn limit_words(idle: bool, lower: i128, upper: i128, z: i128, d: i128) -> &'static str
     requires { InRange z }
     ensures { result.now ≡ limit_words idle lower upper z d }

@@ -1,9 +1,10 @@
 //! A row as a line.
 ghost use Rattle.std.specs.Prelude.{◌≡◌, ◌++◌, ◌∷◌, [], true, false, OnOk, string_bytes};
-ghost use Rattle.report_tables.specs.Aligned.{spaces, shown, gap_left, before, behind, line_text};
+ghost use Rattle.report_rules.specs.Aligned.{spaces, shown, gap_left, before, behind, line_text};
 
-use crate::column::{Column, Measure, Sort, measured};
+use crate::column::{Column, measured};
 use crate::row::Row;
+use report_rules::{Measure, Sort};
 use std::alloc::{AllocError, Global};
 
 fn push_spaces(text: &mut String, count: usize) -> Result<(), AllocError>

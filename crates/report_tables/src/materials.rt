@@ -11,13 +11,12 @@ ghost use Rattle.text_rules.specs.Canonical.{kind_word};
 ghost use Rattle.text_rules.specs.Printed.{amount_bytes};
 ghost use Rattle.flow_rules.specs.Net.{net_of, materials_of, million};
 ghost use Rattle.tree_rules.specs.Claim.{IsFeasible};
-ghost use Rattle.report_amounts.specs.declared.amounts.UnitAmount.TheVariants.{Made, Used};
-ghost use Rattle.report_amounts.specs.declared.costs.Part.TheVariants.{All};
-ghost use Rattle.report_amounts.specs.Amounts.{unit_sum, net, cost, cost_sum};
-ghost use Rattle.report_tables.specs.Report.{number_cell, bought_or_left, material_limit, material_heading, material_row, all_materials_row, material_rows, material_lines};
+ghost use Rattle.report_rules.specs.declared.amount.UnitAmount.TheVariants.{Made, Used};
+ghost use Rattle.report_rules.specs.declared.cost_part.CostPart.TheVariants.{All};
+ghost use Rattle.report_rules.specs.Amounts.{unit_sum, net, cost, cost_sum};
+ghost use Rattle.report_rules.specs.Report.{number_cell, bought_or_left, material_limit, material_heading, material_row, all_materials_row, material_rows, material_lines};
 
 use crate::cells::{push_number, push_words};
-use crate::column::Sort;
 use crate::limits::limit_words;
 use crate::names::material_name;
 use crate::row::Row;
@@ -25,9 +24,8 @@ use crate::tables::push_table_and_gap;
 use branch_tree::Network;
 use pgraph::Graph;
 use pns_problem::{Kind, Problem, amount_text};
-use report_amounts::{
-    Part, UnitAmount, cost, cost_sum, flow_at, material_of, materials_in, net, unit_sum,
-};
+use report_amounts::{cost, cost_sum, flow_at, material_of, materials_in, net, unit_sum};
+use report_rules::{CostPart, Sort, UnitAmount};
 use std::alloc::{AllocError, Global};
 
 fn heading(alloc: Global) -> Result<Row, AllocError>
@@ -166,7 +164,7 @@ fn all_materials_row(
     push_number(
         alloc,
         &mut row,
-        &cost_sum(Part::All, problem, graph, network),
+        &cost_sum(CostPart::All, problem, graph, network),
     )?;
     Ok(row)
 }

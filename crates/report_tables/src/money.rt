@@ -5,20 +5,20 @@ ghost use Rattle.pns_problem.specs.Printing.{printed};
 ghost use Rattle.pns_rules.specs.Shape.{shape_of};
 ghost use Rattle.pgraph.specs.Tables.{shape};
 ghost use Rattle.tree_rules.specs.Claim.{IsFeasible};
-ghost use Rattle.report_amounts.specs.declared.amounts.UnitAmount.TheVariants.{Fixed, Proportional, Investment};
-ghost use Rattle.report_amounts.specs.declared.costs.Part.TheVariants.{Costs, Incomes};
-ghost use Rattle.report_amounts.specs.Amounts.{unit_sum, cost_sum};
-ghost use Rattle.report_tables.specs.Report.{money_heading, money_row, total_cell, total_words, total_row, money_rows, money_lines};
+ghost use Rattle.report_rules.specs.declared.amount.UnitAmount.TheVariants.{Fixed, Proportional, Investment};
+ghost use Rattle.report_rules.specs.declared.cost_part.CostPart.TheVariants.{Costs, Incomes};
+ghost use Rattle.report_rules.specs.Amounts.{unit_sum, cost_sum};
+ghost use Rattle.report_rules.specs.Report.{money_heading, money_row, total_cell, total_words, total_row, money_rows, money_lines};
 
 use crate::cells::{push_number, push_words};
-use crate::column::Sort;
 use crate::row::Row;
 use crate::tables::push_table_and_gap;
 use branch_tree::Network;
 use decimals::push_quotient;
 use pgraph::Graph;
 use pns_problem::Problem;
-use report_amounts::{Number, Part, UnitAmount, cost_sum, unit_sum};
+use report_amounts::{Number, cost_sum, unit_sum};
+use report_rules::{CostPart, Sort, UnitAmount};
 use std::alloc::{AllocError, Global};
 
 fn heading(alloc: Global) -> Result<Row, AllocError>
@@ -55,7 +55,7 @@ fn unit_money(
 fn material_money(
     alloc: Global,
     words: &str,
-    part: Part,
+    part: CostPart,
     problem: &Problem,
     graph: &Graph,
     network: &Network,
@@ -68,7 +68,7 @@ fn material_money(
 }
 
 /// The claimed cost in one year, with 9 places.
-#[tactic(auto, unfolding(crate::specs::Report::total_cell))]
+#[tactic(auto, unfolding(report_rules::specs::Report::total_cell))]
 fn push_total(text: &mut String, problem: &Problem, network: &Network) -> Result<(), AllocError>
     ensures { OnOk result (string_bytes text.new ≡ string_bytes text.old ++ total_cell problem.now network.now) }
 {
@@ -128,7 +128,7 @@ fn money_rows(
     rows.push(material_money(
         alloc,
         "material costs",
-        Part::Costs,
+        CostPart::Costs,
         problem,
         graph,
         network,
@@ -136,7 +136,7 @@ fn money_rows(
     rows.push(material_money(
         alloc,
         "material incomes",
-        Part::Incomes,
+        CostPart::Incomes,
         problem,
         graph,
         network,

@@ -1,6 +1,6 @@
 //! A row of cells.
 ghost use Rattle.std.specs.Prelude.{◌≡◌, ◌++◌, ◌∷◌, [], OnOk, string_bytes};
-ghost use Rattle.report_tables.specs.Aligned.{cell_at};
+ghost use Rattle.report_rules.specs.Aligned.{cell_at};
 
 use std::alloc::{AllocError, Global};
 use std::marker::Model;

@@ -1,11 +1,11 @@
 //! A table with the empty line behind it.
 ghost use Rattle.std.specs.Prelude.{◌≡◌, ◌++◌, OnOk, string_bytes};
 ghost use Rattle.pns_problem.specs.Printing.{printed};
-ghost use Rattle.report_tables.specs.Report.{table_and_gap};
+ghost use Rattle.report_rules.specs.Report.{table_and_gap};
 
-use crate::column::Sort;
 use crate::row::Row;
 use crate::table::push_table;
+use report_rules::Sort;
 use std::alloc::{AllocError, Global};
 
 /// Appends the lines of a table with columns of these sorts, and an empty line.

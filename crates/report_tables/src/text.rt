@@ -6,7 +6,7 @@ ghost use Rattle.pns_rules.specs.Shape.{shape_of};
 ghost use Rattle.pgraph.specs.Tables.{shape};
 ghost use Rattle.flow_rules.specs.Net.{net_of, materials_of};
 ghost use Rattle.tree_rules.specs.Claim.{IsFeasible};
-ghost use Rattle.report_tables.specs.Report.{counted, network_line, head_lines, report_lines};
+ghost use Rattle.report_rules.specs.Report.{counted, network_line, head_lines, report_lines};
 
 use crate::foot::push_foot;
 use crate::materials::push_materials;

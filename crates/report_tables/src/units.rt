@@ -2,13 +2,12 @@
 ghost use Rattle.std.specs.Prelude.{◌≡◌, ◌<◌, ◌++◌, ◌∷◌, [], ℕ, true, IfOk, OnOk, map, length, string_bytes};
 ghost use Rattle.number_sets.specs.Sets.{has};
 ghost use Rattle.pns_problem.specs.Printing.{printed};
-ghost use Rattle.report_tables.specs.Report.{share_cell, unit_limit, number_cell, unit_heading, unit_row, all_units_row, unit_rows, unit_lines};
-ghost use Rattle.report_amounts.specs.Amounts.{size, amount, unit_sum};
-ghost use Rattle.report_amounts.specs.declared.amounts.UnitAmount.TheVariants.{Fixed, Proportional, Investment, Total};
+ghost use Rattle.report_rules.specs.Report.{share_cell, unit_limit, number_cell, unit_heading, unit_row, all_units_row, unit_rows, unit_lines};
+ghost use Rattle.report_rules.specs.Amounts.{size, amount, unit_sum};
+ghost use Rattle.report_rules.specs.declared.amount.UnitAmount.TheVariants.{Fixed, Proportional, Investment, Total};
 ghost use Rattle.problem_rules.specs.Problem.{unit_at};
 
 use crate::cells::{push_number, push_words};
-use crate::column::Sort;
 use crate::limits::limit_words;
 use crate::names::unit_name;
 use crate::row::Row;
@@ -16,7 +15,8 @@ use crate::tables::push_table_and_gap;
 use branch_tree::Network;
 use pns_problem::Problem;
 use pns_tables::size_at;
-use report_amounts::{UnitAmount, amount, share_of, size, unit_of, unit_sum};
+use report_amounts::{amount, share_of, size, unit_of, unit_sum};
+use report_rules::{Sort, UnitAmount};
 use std::alloc::{AllocError, Global};
 
 fn heading(alloc: Global) -> Result<Row, AllocError>

@@ -2,7 +2,7 @@ use Rattle.std.proofs.Common.{◌≡◌, ◌/◌, ◌%◌, ◌*◌, ◌+◌, ◌
 use Rattle.std.specs.Prelude.{int_lt, pos, ℤ}
 use Rattle.std.specs.Int.{w128}
 use Rattle.std.proofs.lemmas.Int.{to_z-of_z, ints}
-use Rattle.decimals.specs.Decimal.{rounded_text}
+use Rattle.report_rules.specs.Decimal.{rounded_text}
 use Rattle.decimals.proofs.Division.{quotient_text, on_ok}
 use Rattle.decimals.proofs.quotient.push_quotient.Goals as goal
 

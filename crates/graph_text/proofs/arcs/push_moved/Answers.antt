@@ -1,7 +1,7 @@
 use Rattle.std.proofs.Common.{◌≡◌, ◌∙◌, ◌++◌, ◌∷◌, [], codes, string_bytes, unsigned_abs, SFits, rules, List, ℕ}
 use Rattle.std.specs.Int.{w128}
 use Rattle.std.proofs.lemmas.Int.{to_z-of_z}
-use Rattle.graph_text.specs.Drawn.{flow_text, moved}
+use Rattle.report_rules.specs.Drawn.{flow_text, moved}
 use Rattle.graph_text.proofs.Lines.{after_three}
 use Rattle.graph_text.proofs.arcs.push_moved.Goals as goal
 

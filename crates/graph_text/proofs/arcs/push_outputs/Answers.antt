@@ -1,6 +1,6 @@
 use Rattle.std.proofs.Common.{◌++◌, ◌∙◌, string_bytes, option_map, ap, arith, List, ℕ}
 use Rattle.pns_problem.proofs.PrintingLemmas.{one_line}
-use Rattle.graph_text.specs.Graph.{output_line}
+use Rattle.report_rules.specs.Graph.{output_line}
 use Rattle.graph_text.proofs.arcs.push_outputs.Goals as goal
 
 pub printing-preserved : goal.printing-preserved

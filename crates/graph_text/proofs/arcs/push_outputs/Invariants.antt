@@ -1,6 +1,6 @@
 use Rattle.std.proofs.Common.{string_bytes, option_map}
 use Rattle.pns_problem.proofs.Printed.{AreLinesPrinted}
-use Rattle.graph_text.specs.Graph.{output_line}
+use Rattle.report_rules.specs.Graph.{output_line}
 use Rattle.graph_text.proofs.arcs.push_outputs.Given as goal
 
 abbrev pub invariant-printing : goal.invariant-printing

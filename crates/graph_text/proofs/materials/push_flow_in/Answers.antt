@@ -8,7 +8,7 @@ use Rattle.flow_rules.specs.Net.{net_of, materials_of}
 use Rattle.flow_rules.specs.Flows.{balance}
 use Rattle.tree_rules.specs.Claim.{size_in}
 use Rattle.pns_tables.proofs.FlowLemmas.{material_in_range}
-use Rattle.graph_text.specs.Drawn.{net_label}
+use Rattle.report_rules.specs.Drawn.{net_label}
 use Rattle.graph_text.proofs.Lines.{on_ok, where_true}
 use Rattle.graph_text.proofs.Moves.{is_material}
 use Rattle.graph_text.proofs.materials.push_flow_in.Goals as goal

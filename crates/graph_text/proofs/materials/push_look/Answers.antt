@@ -2,8 +2,8 @@ use Rattle.std.proofs.Common.{◌≡◌, ◌∙◌, ◌++◌, ap, ℕ, List, Boo
 use Rattle.problem_rules.specs.Problem.{Kind, material_at}
 use Rattle.pns_rules.specs.Shape.{Shape, shape_of}
 use Rattle.pns_problem.proofs.PrintingLemmas.{after}
-use Rattle.graph_text.specs.Drawn.{is_drawn}
-use Rattle.graph_text.specs.Graph.{shape_words, shade}
+use Rattle.report_rules.specs.Drawn.{is_drawn}
+use Rattle.report_rules.specs.Graph.{shape_words, shade}
 use Rattle.graph_text.proofs.materials.push_look.Goals as goal
 
 pub returns : goal.returns

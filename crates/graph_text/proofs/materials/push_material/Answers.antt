@@ -1,8 +1,8 @@
 use Rattle.std.proofs.Common.{◌≡◌, ◌∙◌, ◌++◌, ap, codes, ℕ, List, string_bytes, option_map}
 use Rattle.problem_rules.specs.Problem.{material_at}
 use Rattle.pns_rules.specs.Shape.{shape_of}
-use Rattle.graph_text.specs.Drawn.{is_drawn, material_flow}
-use Rattle.graph_text.specs.Graph.{node, material_node, shape_words, shade}
+use Rattle.report_rules.specs.Drawn.{is_drawn, material_flow}
+use Rattle.report_rules.specs.Graph.{node, material_node, shape_words, shade}
 use Rattle.graph_text.proofs.Lines.{node_line_of}
 use Rattle.graph_text.proofs.materials.push_material.Goals as goal
 

@@ -1,7 +1,7 @@
 use Rattle.std.proofs.Common.{◌∙◌, ◌++◌, ap, ℕ, List, string_bytes, option_map, map, arith}
 use Rattle.flow_program.proofs.WalkLemmas.{IsNext, rest_within, next_of, head_had}
 use Rattle.pns_problem.specs.Printing.{printed}
-use Rattle.graph_text.specs.Graph.{material_line}
+use Rattle.report_rules.specs.Graph.{material_line}
 use Rattle.graph_text.proofs.Lines.{next_line}
 use Rattle.graph_text.proofs.materials.push_materials.Goals as goal
 

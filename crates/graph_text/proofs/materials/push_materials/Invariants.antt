@@ -1,7 +1,7 @@
 use Rattle.std.proofs.Common.{◌≡◌, ◌++◌, map, string_bytes, option_map}
 use Rattle.number_sets.specs.Sets.{has, IsWithin, IsSet}
 use Rattle.pns_problem.specs.Printing.{printed}
-use Rattle.graph_text.specs.Graph.{material_line}
+use Rattle.report_rules.specs.Graph.{material_line}
 use Rattle.graph_text.proofs.materials.push_materials.Given as goal
 
 -- the lines to come finish the text

@@ -8,7 +8,7 @@ use Rattle.pns_rules.specs.Structure.{mats}
 use Rattle.pgraph.specs.Tables.{shape}
 use Rattle.flow_rules.specs.Net.{net_of, materials_of}
 use Rattle.pns_tables.proofs.FlowLemmas.{materials_are, mats_known}
-use Rattle.graph_text.specs.Graph.{head_lines, total_lines, material_line, unit_lines, last_lines}
+use Rattle.report_rules.specs.Graph.{head_lines, total_lines, material_line, unit_lines, last_lines}
 use Rattle.graph_text.proofs.Lines.{parts_printed}
 use Rattle.graph_text.proofs.text.push_graph.Goals as goal
 

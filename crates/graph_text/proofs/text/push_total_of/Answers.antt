@@ -1,7 +1,7 @@
 use Rattle.std.proofs.Common.{◌≡◌, ◌∙◌, ◌++◌, ◌∷◌, [], codes, string_bytes, SFits, rules, ap, sym, List, ℕ, arith, append_assoc, append-nil}
 use Rattle.std.specs.Int.{w128}
 use Rattle.std.proofs.lemmas.Int.{to_z-of_z}
-use Rattle.graph_text.specs.Graph.{cost_text, sort_words}
+use Rattle.report_rules.specs.Graph.{cost_text, sort_words}
 use Rattle.graph_text.proofs.Lines.{after_four, line_end}
 use Rattle.graph_text.proofs.text.push_total_of.Goals as goal
 

@@ -4,7 +4,7 @@ use Rattle.std.proofs.lemmas.Int.{to_z-of_z}
 use Rattle.number_sets.specs.Sets.{has}
 use Rattle.tree_rules.specs.Claim.{size_in}
 use Rattle.pns_problem.proofs.PrintingLemmas.{after}
-use Rattle.graph_text.specs.Drawn.{below, size_text}
+use Rattle.report_rules.specs.Drawn.{below, size_text}
 use Rattle.graph_text.proofs.Lines.{on_ok, where_true}
 use Rattle.graph_text.proofs.units.push_size_in.Goals as goal
 

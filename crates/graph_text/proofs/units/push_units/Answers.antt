@@ -2,7 +2,7 @@ use Rattle.std.proofs.Common.{◌++◌, string_bytes, option_map}
 use Rattle.flow_program.proofs.WalkLemmas.{IsNext, rest_within, next_of, head_had}
 use Rattle.std.specs.Prelude.{flat_map}
 use Rattle.pns_problem.specs.Printing.{printed}
-use Rattle.graph_text.specs.Graph.{unit_lines}
+use Rattle.report_rules.specs.Graph.{unit_lines}
 use Rattle.graph_text.proofs.Lines.{next_lines}
 use Rattle.graph_text.proofs.units.push_units.Goals as goal
 

@@ -2,7 +2,7 @@ use Rattle.std.proofs.Common.{◌≡◌, ◌++◌, string_bytes, option_map}
 use Rattle.std.specs.Prelude.{flat_map}
 use Rattle.number_sets.specs.Sets.{has, IsWithin, IsSet}
 use Rattle.pns_problem.specs.Printing.{printed}
-use Rattle.graph_text.specs.Graph.{unit_lines}
+use Rattle.report_rules.specs.Graph.{unit_lines}
 use Rattle.graph_text.proofs.units.push_units.Given as goal
 
 -- the lines to come finish the text

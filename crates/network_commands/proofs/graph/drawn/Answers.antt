@@ -5,7 +5,7 @@ use Rattle.pns_rules.specs.Shape.{Shape, shape_of}
 use Rattle.pgraph.specs.Tables.{shape}
 use Rattle.tree_rules.specs.Claim.{Network}
 use Rattle.structure_commands.proofs.Maximal.{maximal_from, none_from}
-use Rattle.graph_text.specs.Graph.{graph_lines, empty_lines}
+use Rattle.report_rules.specs.Graph.{graph_lines, empty_lines}
 use Rattle.network_commands.proofs.GraphLines.{graph_told, empty_told}
 use Rattle.network_commands.proofs.graph.drawn.Goals as goal
 

@@ -8,7 +8,7 @@ use Rattle.pgraph.specs.Tables.{shape}
 use Rattle.flow_rules.specs.Net.{net_of, materials_of}
 use Rattle.flow_program.proofs.WalkLemmas.{IsNext, is_next, shorter, next_had, rest_within}
 use Rattle.tree_rules.specs.Claim.{size_in}
-use Rattle.pns_tables.specs.Table.{material_heading, IsMaterialRow, IsMaterialTable, records_text}
+use Rattle.report_rules.specs.Table.{material_heading, IsMaterialRow, IsMaterialTable, records_text}
 use Rattle.pns_tables.proofs.FlowLemmas.{materials_are, material_in_range}
 use Rattle.pns_tables.proofs.RowLemmas.{IsTableSoFar, table_begins, table_more, table_ends, if_ok}
 use Rattle.pns_tables.proofs.materials.material_table.Goals as goal

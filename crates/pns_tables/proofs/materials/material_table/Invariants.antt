@@ -1,7 +1,7 @@
 use Rattle.std.proofs.Common.{Some, length}
 use Rattle.number_sets.specs.Sets.{has, IsWithin}
 use Rattle.flow_rules.specs.Net.{net_of, materials_of}
-use Rattle.pns_tables.specs.Table.{material_heading, IsMaterialRow}
+use Rattle.report_rules.specs.Table.{material_heading, IsMaterialRow}
 use Rattle.pns_tables.proofs.RowLemmas.{IsTableSoFar}
 use Rattle.pns_tables.proofs.materials.material_table.Given as goal
 

@@ -7,7 +7,7 @@ use Rattle.text_rules.specs.Canonical.{kind_word}
 use Rattle.flow_rules.specs.Net.{net_of}
 use Rattle.flow_rules.specs.Flows.{balance}
 use Rattle.tree_rules.specs.Claim.{size_in}
-use Rattle.pns_tables.specs.Table.{IsQuotient}
+use Rattle.report_rules.specs.Table.{IsQuotient}
 use Rattle.pns_tables.specs.Written.{HasWritten}
 use Rattle.pns_tables.proofs.RowLemmas.{on_ok}
 use Rattle.problem_rules.specs.Problem.{Material, material_at}

@@ -5,7 +5,7 @@ use Rattle.std.proofs.lemmas.Int.{to_z-of_z}
 use Rattle.problem_rules.specs.Problem.{OperatingUnit, unit_at}
 use Rattle.csv.specs.Writing.{default_writer, row_text}
 use Rattle.tree_rules.specs.Claim.{size_in}
-use Rattle.pns_tables.specs.Table.{IsQuotient}
+use Rattle.report_rules.specs.Table.{IsQuotient}
 use Rattle.pns_tables.specs.Written.{HasWritten}
 use Rattle.pns_tables.proofs.ReadLemmas.{unit_read}
 use Rattle.pns_tables.proofs.RowLemmas.{on_ok}

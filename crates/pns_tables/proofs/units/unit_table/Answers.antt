@@ -2,7 +2,7 @@ use Rattle.std.proofs.Common.{◌≡◌, ◌∙◌, ◌∷◌, sym, Some}
 use Rattle.number_sets.proofs.SetLemmas.{has_below}
 use Rattle.number_sets.proofs.OptionLemmas.{first_none}
 use Rattle.flow_program.proofs.WalkLemmas.{IsNext, is_next, shorter, next_had, rest_within}
-use Rattle.pns_tables.specs.Table.{unit_heading, IsUnitRow, IsUnitTable, records_text}
+use Rattle.report_rules.specs.Table.{unit_heading, IsUnitRow, IsUnitTable, records_text}
 use Rattle.pns_tables.proofs.RowLemmas.{table_more, table_ends, if_ok}
 use Rattle.pns_tables.proofs.units.unit_table.Goals as goal
 

@@ -1,5 +1,5 @@
 use Rattle.std.proofs.Common.{Some, length}
-use Rattle.pns_tables.specs.Table.{unit_heading, IsUnitRow}
+use Rattle.report_rules.specs.Table.{unit_heading, IsUnitRow}
 use Rattle.pns_tables.proofs.RowLemmas.{IsTableSoFar}
 use Rattle.number_sets.specs.Sets.{has, IsWithin}
 use Rattle.pns_tables.proofs.units.unit_table.Given as goal

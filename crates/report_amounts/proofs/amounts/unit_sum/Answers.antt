@@ -2,8 +2,8 @@ use Rattle.std.proofs.Common.{◌≡◌, ◌∙◌, sym, ap, subst, ℕ, List, t
 use Rattle.number_sets.specs.Sets.{has}
 use Rattle.number_sets.proofs.OptionLemmas.{first_none}
 use Rattle.flow_program.proofs.WalkLemmas.{IsNext, is_next, shorter, next_had, rest_within}
-use Rattle.report_amounts.specs.Number.{Number, plus, nothing, sum_from}
-use Rattle.report_amounts.specs.Amounts.{amount}
+use Rattle.report_rules.specs.Number.{Number, plus, nothing, sum_from}
+use Rattle.report_rules.specs.Amounts.{amount}
 use Rattle.report_amounts.proofs.Sums.{next_sum, last_sum}
 use Rattle.report_amounts.proofs.amounts.unit_sum.Goals as goal
 

@@ -1,7 +1,7 @@
 use Rattle.std.proofs.Common.{◌≡◌, length}
 use Rattle.number_sets.specs.Sets.{has, IsWithin}
-use Rattle.report_amounts.specs.Number.{sum_from}
-use Rattle.report_amounts.specs.Amounts.{amount, unit_sum}
+use Rattle.report_rules.specs.Number.{sum_from}
+use Rattle.report_rules.specs.Amounts.{amount, unit_sum}
 use Rattle.report_amounts.proofs.amounts.unit_sum.Given as goal
 
 -- the units to come finish the sum

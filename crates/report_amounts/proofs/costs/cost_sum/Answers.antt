@@ -1,8 +1,8 @@
 use Rattle.std.proofs.Common.{◌≡◌, ◌∙◌, sym, ap, subst, ℕ, List, true}
 use Rattle.number_sets.specs.Sets.{has, IsSet}
 use Rattle.flow_program.proofs.WalkLemmas.{IsNext, rest_within, next_of, head_had}
-use Rattle.report_amounts.specs.Number.{Number, plus, sum_from}
-use Rattle.report_amounts.specs.Amounts.{cost, part_of}
+use Rattle.report_rules.specs.Number.{Number, plus, sum_from}
+use Rattle.report_rules.specs.Amounts.{cost, part_of}
 use Rattle.report_amounts.proofs.Sums.{next_sum, last_sum}
 use Rattle.report_amounts.proofs.Known.{material_known}
 use Rattle.report_amounts.proofs.costs.cost_sum.Goals as goal

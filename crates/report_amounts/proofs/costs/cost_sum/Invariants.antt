@@ -1,8 +1,8 @@
 use Rattle.std.proofs.Common.{◌≡◌}
 use Rattle.number_sets.specs.Sets.{has, IsWithin, IsSet}
 use Rattle.flow_rules.specs.Net.{net_of, materials_of}
-use Rattle.report_amounts.specs.Number.{sum_from}
-use Rattle.report_amounts.specs.Amounts.{cost, part_of, cost_sum}
+use Rattle.report_rules.specs.Number.{sum_from}
+use Rattle.report_rules.specs.Amounts.{cost, part_of, cost_sum}
 use Rattle.report_amounts.proofs.costs.cost_sum.Given as goal
 
 -- the materials to come finish the sum

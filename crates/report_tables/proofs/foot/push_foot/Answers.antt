@@ -1,5 +1,5 @@
 use Rattle.std.proofs.Common.{◌++◌, ◌∙◌, ap, ℕ, List, string_bytes, arith}
-use Rattle.report_tables.specs.Report.{once_line, left_out_line, last_line}
+use Rattle.report_rules.specs.Report.{once_line, left_out_line, last_line}
 use Rattle.report_tables.proofs.Pieces.{three_lines}
 use Rattle.report_tables.proofs.foot.push_foot.Goals as goal
 

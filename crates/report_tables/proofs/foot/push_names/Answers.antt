@@ -2,7 +2,7 @@ use Rattle.std.proofs.Common.{◌∙◌, ◌++◌, ◌∷◌, [], ap, ℕ, List,
 use Rattle.std.specs.Prelude.{flat_map}
 use Rattle.flow_program.proofs.WalkLemmas.{IsNext, rest_within, next_of}
 use Rattle.problem_rules.specs.Problem.{unit_at}
-use Rattle.report_tables.specs.Report.{name_behind}
+use Rattle.report_rules.specs.Report.{name_behind}
 use Rattle.report_tables.proofs.Pieces.{after, next_piece}
 use Rattle.report_tables.proofs.foot.push_names.Goals as goal
 

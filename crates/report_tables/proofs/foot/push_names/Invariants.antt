@@ -1,7 +1,7 @@
 use Rattle.std.proofs.Common.{◌≡◌, ◌++◌, string_bytes}
 use Rattle.std.specs.Prelude.{flat_map}
 use Rattle.number_sets.specs.Sets.{has, IsWithin, IsSet}
-use Rattle.report_tables.specs.Report.{name_behind}
+use Rattle.report_rules.specs.Report.{name_behind}
 use Rattle.report_tables.proofs.foot.push_names.Given as goal
 
 -- the names to come finish the text

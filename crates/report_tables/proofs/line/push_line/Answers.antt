@@ -1,5 +1,5 @@
 use Rattle.std.proofs.Common.{◌≡◌, ◌++◌, ◌∙◌, [], ap, List, ℕ, arith, string_bytes}
-use Rattle.report_tables.specs.Aligned.{line_text, before, behind, shown, gap_left}
+use Rattle.report_rules.specs.Aligned.{line_text, before, behind, shown, gap_left}
 use Rattle.report_tables.proofs.Walk.{cell_more}
 use Rattle.report_tables.proofs.line.push_line.Goals as goal
 

@@ -1,5 +1,5 @@
 use Rattle.std.proofs.Common.{◌≡◌, ◌++◌, string_bytes}
-use Rattle.report_tables.specs.Aligned.{spaces}
+use Rattle.report_rules.specs.Aligned.{spaces}
 use Rattle.report_tables.proofs.line.push_spaces.Given as goal
 
 -- the spaces to come finish the text

@@ -1,5 +1,5 @@
 use Rattle.std.proofs.Common.{◌∷◌, [], codes}
-use Rattle.report_tables.specs.Report.{material_heading}
+use Rattle.report_rules.specs.Report.{material_heading}
 use Rattle.report_tables.proofs.Pieces.{after_eight, row_of}
 use Rattle.report_tables.proofs.materials.heading.Goals as goal
 

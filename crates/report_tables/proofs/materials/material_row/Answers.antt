@@ -2,10 +2,10 @@ use Rattle.std.proofs.Common.{◌++◌, ◌∷◌, [], ◌∙◌, ap, ℕ, List}
 use Rattle.problem_rules.specs.Problem.{material_at}
 use Rattle.text_rules.specs.Canonical.{kind_word}
 use Rattle.text_rules.specs.Printed.{amount_bytes}
-use Rattle.report_amounts.specs.Number.{Number}
-use Rattle.report_amounts.specs.declared.amounts.UnitAmount.TheVariants.{Made, Used}
-use Rattle.report_amounts.specs.Amounts.{unit_sum, net, cost}
-use Rattle.report_tables.specs.Report.{number_cell, material_limit, material_row}
+use Rattle.report_rules.specs.Number.{Number}
+use Rattle.report_rules.specs.declared.amount.UnitAmount.TheVariants.{Made, Used}
+use Rattle.report_rules.specs.Amounts.{unit_sum, net, cost}
+use Rattle.report_rules.specs.Report.{number_cell, material_limit, material_row}
 use Rattle.report_tables.proofs.Pieces.{after_six, row_of}
 use Rattle.report_tables.proofs.materials.material_row.Goals as goal
 

@@ -2,7 +2,7 @@ use Rattle.std.proofs.Common.{◌≡◌, ◌∙◌, ◌++◌, ◌∷◌, [], sym
 use Rattle.number_sets.specs.Sets.{has}
 use Rattle.number_sets.proofs.OptionLemmas.{first_none}
 use Rattle.flow_program.proofs.WalkLemmas.{IsNext, is_next, shorter, next_had, rest_within}
-use Rattle.report_tables.specs.Report.{material_row}
+use Rattle.report_rules.specs.Report.{material_row}
 use Rattle.report_amounts.proofs.Known.{material_known}
 use Rattle.report_tables.proofs.Pieces.{next_row, last_row}
 use Rattle.report_tables.proofs.materials.material_rows.Goals as goal

@@ -1,7 +1,7 @@
 use Rattle.std.proofs.Common.{◌≡◌, ◌++◌, length, map}
 use Rattle.number_sets.specs.Sets.{has, IsWithin}
 use Rattle.flow_rules.specs.Net.{net_of, materials_of}
-use Rattle.report_tables.specs.Report.{material_row}
+use Rattle.report_rules.specs.Report.{material_row}
 use Rattle.report_tables.proofs.materials.material_rows.Given as goal
 
 -- the rows to come finish the table

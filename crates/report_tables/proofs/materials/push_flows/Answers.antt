@@ -1,8 +1,8 @@
 use Rattle.std.proofs.Common.{◌++◌, ◌∷◌, [], ◌∙◌, ap}
-use Rattle.report_amounts.specs.Number.{Number}
-use Rattle.report_amounts.specs.declared.amounts.UnitAmount.TheVariants.{Made, Used}
-use Rattle.report_amounts.specs.Amounts.{unit_sum, net}
-use Rattle.report_tables.specs.Report.{number_cell}
+use Rattle.report_rules.specs.Number.{Number}
+use Rattle.report_rules.specs.declared.amount.UnitAmount.TheVariants.{Made, Used}
+use Rattle.report_rules.specs.Amounts.{unit_sum, net}
+use Rattle.report_rules.specs.Report.{number_cell}
 use Rattle.report_tables.proofs.Pieces.{after_three}
 use Rattle.report_tables.proofs.materials.push_flows.Goals as goal
 

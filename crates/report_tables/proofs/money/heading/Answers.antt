@@ -1,5 +1,5 @@
 use Rattle.std.proofs.Common.{◌∷◌, [], codes}
-use Rattle.report_tables.specs.Report.{money_heading}
+use Rattle.report_rules.specs.Report.{money_heading}
 use Rattle.report_tables.proofs.Pieces.{after, row_of}
 use Rattle.report_tables.proofs.money.heading.Goals as goal
 

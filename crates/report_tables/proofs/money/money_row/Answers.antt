@@ -1,5 +1,5 @@
 use Rattle.std.proofs.Common.{◌∷◌, []}
-use Rattle.report_tables.specs.Report.{number_cell, money_row}
+use Rattle.report_rules.specs.Report.{number_cell, money_row}
 use Rattle.report_tables.proofs.Pieces.{after, row_of}
 use Rattle.report_tables.proofs.money.money_row.Goals as goal
 

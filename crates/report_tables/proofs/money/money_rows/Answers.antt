@@ -1,8 +1,8 @@
 use Rattle.std.proofs.Common.{◌++◌, ◌∷◌, [], ◌∙◌, ap, codes, ℕ, List}
-use Rattle.report_amounts.specs.declared.amounts.UnitAmount.TheVariants.{Fixed, Proportional, Investment}
-use Rattle.report_amounts.specs.declared.costs.Part.TheVariants.{Costs, Incomes}
-use Rattle.report_amounts.specs.Amounts.{unit_sum, cost_sum}
-use Rattle.report_tables.specs.Report.{money_row, total_row, money_rows}
+use Rattle.report_rules.specs.declared.amount.UnitAmount.TheVariants.{Fixed, Proportional, Investment}
+use Rattle.report_rules.specs.declared.cost_part.CostPart.TheVariants.{Costs, Incomes}
+use Rattle.report_rules.specs.Amounts.{unit_sum, cost_sum}
+use Rattle.report_rules.specs.Report.{money_row, total_row, money_rows}
 use Rattle.report_tables.proofs.Pieces.{after_six, row_of}
 use Rattle.report_tables.proofs.money.money_rows.Goals as goal
 

@@ -1,7 +1,7 @@
 use Rattle.std.proofs.Common.{◌++◌, ◌∙◌, ap, ℕ, codes, length, unsigned_abs, string_bytes}
 use Rattle.number_sets.specs.Sets.{has}
 use Rattle.flow_rules.specs.Net.{net_of, materials_of}
-use Rattle.report_tables.specs.Report.{counted}
+use Rattle.report_rules.specs.Report.{counted}
 use Rattle.report_tables.proofs.Pieces.{after_five}
 use Rattle.report_tables.proofs.text.push_network.Goals as goal
 

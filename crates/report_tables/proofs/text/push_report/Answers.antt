@@ -1,5 +1,5 @@
 use Rattle.std.proofs.Common.{string_bytes}
-use Rattle.report_tables.specs.Report.{head_lines, unit_lines, material_lines, money_lines, foot_lines}
+use Rattle.report_rules.specs.Report.{head_lines, unit_lines, material_lines, money_lines, foot_lines}
 use Rattle.report_tables.proofs.Pieces.{parts_printed}
 use Rattle.report_tables.proofs.text.push_report.Goals as goal
 

@@ -1,7 +1,7 @@
 use Rattle.std.proofs.Common.{◌∷◌, [], codes}
-use Rattle.report_amounts.specs.declared.amounts.UnitAmount.TheVariants.{Fixed, Proportional, Investment, Total}
-use Rattle.report_amounts.specs.Amounts.{unit_sum}
-use Rattle.report_tables.specs.Report.{number_cell, all_units_row}
+use Rattle.report_rules.specs.declared.amount.UnitAmount.TheVariants.{Fixed, Proportional, Investment, Total}
+use Rattle.report_rules.specs.Amounts.{unit_sum}
+use Rattle.report_rules.specs.Report.{number_cell, all_units_row}
 use Rattle.report_tables.proofs.Pieces.{after_five, row_of}
 use Rattle.report_tables.proofs.units.all_units_row.Goals as goal
 

@@ -1,5 +1,5 @@
 use Rattle.std.proofs.Common.{◌∷◌, [], codes}
-use Rattle.report_tables.specs.Report.{unit_heading}
+use Rattle.report_rules.specs.Report.{unit_heading}
 use Rattle.report_tables.proofs.Pieces.{after_eight, row_of}
 use Rattle.report_tables.proofs.units.heading.Goals as goal
 

@@ -1,8 +1,8 @@
 use Rattle.std.proofs.Common.{◌++◌, ◌∷◌, [], ◌∙◌, ap}
-use Rattle.report_amounts.specs.Number.{Number}
-use Rattle.report_amounts.specs.declared.amounts.UnitAmount.TheVariants.{Fixed, Proportional, Investment, Total}
-use Rattle.report_amounts.specs.Amounts.{amount}
-use Rattle.report_tables.specs.Report.{number_cell}
+use Rattle.report_rules.specs.Number.{Number}
+use Rattle.report_rules.specs.declared.amount.UnitAmount.TheVariants.{Fixed, Proportional, Investment, Total}
+use Rattle.report_rules.specs.Amounts.{amount}
+use Rattle.report_rules.specs.Report.{number_cell}
 use Rattle.report_tables.proofs.Pieces.{after_four}
 use Rattle.report_tables.proofs.units.push_costs.Goals as goal
 

@@ -1,6 +1,6 @@
 use Rattle.std.proofs.Common.{◌≡◌, ◌++◌, ◌∷◌, [], ◌∙◌, string_bytes}
 use Rattle.pns_problem.specs.Printing.{printed}
-use Rattle.report_tables.specs.Report.{table_and_gap, unit_sorts, unit_rows}
+use Rattle.report_rules.specs.Report.{table_and_gap, unit_sorts, unit_rows}
 use Rattle.report_tables.proofs.units.push_units.Goals as goal
 
 pub returns : goal.returns

@@ -1,9 +1,9 @@
 use Rattle.std.proofs.Common.{◌++◌, ◌∷◌, [], ◌∙◌, ap, ℕ, List}
 use Rattle.problem_rules.specs.Problem.{unit_at}
-use Rattle.report_amounts.specs.Number.{Number}
-use Rattle.report_amounts.specs.declared.amounts.UnitAmount.TheVariants.{Fixed, Proportional, Investment, Total}
-use Rattle.report_amounts.specs.Amounts.{size, amount}
-use Rattle.report_tables.specs.Report.{number_cell, share_cell, unit_limit, unit_row}
+use Rattle.report_rules.specs.Number.{Number}
+use Rattle.report_rules.specs.declared.amount.UnitAmount.TheVariants.{Fixed, Proportional, Investment, Total}
+use Rattle.report_rules.specs.Amounts.{size, amount}
+use Rattle.report_rules.specs.Report.{number_cell, share_cell, unit_limit, unit_row}
 use Rattle.report_tables.proofs.Pieces.{after_five, row_of}
 use Rattle.report_tables.proofs.units.unit_row.Goals as goal
 

@@ -1,6 +1,6 @@
 use Rattle.std.proofs.Common.{◌≡◌, ◌++◌, length, map}
 use Rattle.number_sets.specs.Sets.{has, IsWithin}
-use Rattle.report_tables.specs.Report.{unit_row}
+use Rattle.report_rules.specs.Report.{unit_row}
 use Rattle.report_tables.proofs.units.unit_rows.Given as goal
 
 -- the rows to come finish the table

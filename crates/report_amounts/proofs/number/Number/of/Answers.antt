@@ -2,7 +2,7 @@ use Rattle.std.proofs.Common.{ap, sym, SFits, rules}
 use Rattle.std.specs.Prelude.{Some}
 use Rattle.std.specs.Int.{w128}
 use Rattle.std.proofs.lemmas.Int.{to_z-of_z}
-use Rattle.report_amounts.specs.Number.{Fraction}
+use Rattle.report_rules.specs.Number.{Fraction}
 use Rattle.report_amounts.proofs.Fractions.{lowest_is}
 use Rattle.report_amounts.proofs.number.Number.of.Goals as goal
 

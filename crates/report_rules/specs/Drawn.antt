@@ -2,7 +2,7 @@
 -- arc with its flow. All numbers are those of a year.
 use Rattle.std.specs.Prelude.{ℕ, ◌*◌, ◌++◌, Bool, true, List, [], ◌∷◌, Option, Some, None, ℤ, pos, ◌*ℤ◌, unsigned_abs, int_lt, codes, if◌then◌else◌}
 use Rattle.std.specs.Ordering.{int_eq}
-use Rattle.decimals.specs.Decimal.{decimal_text}
+use Rattle.report_rules.specs.Decimal.{decimal_text}
 use Rattle.number_sets.specs.Sets.{has}
 use Rattle.problem_rules.specs.Problem.{Problem, rate_of}
 use Rattle.pns_rules.specs.Shape.{Shape, shape_of}
@@ -10,8 +10,8 @@ use Rattle.pns_rules.specs.Structure.{mats}
 use Rattle.flow_rules.specs.Net.{net_of}
 use Rattle.flow_rules.specs.Flows.{balance}
 use Rattle.tree_rules.specs.Claim.{Network, size_in}
-use Rattle.graph_text.specs.declared.role.Role.{Role}
-use Rattle.graph_text.specs.declared.role.Role.TheVariants.{Planned, Running, Idle, LeftOut}
+use Rattle.report_rules.specs.declared.role.Role.{Role}
+use Rattle.report_rules.specs.declared.role.Role.TheVariants.{Planned, Running, Idle, LeftOut}
 
 -- the part of a unit: without a network each may be built; in a network it runs or is idle, or it is left out
 abbrev pub role_of : Option Network → ℕ → Role

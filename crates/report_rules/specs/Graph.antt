@@ -2,16 +2,16 @@
 -- where one is given. Raw materials are houses, products have a double line, units are boxes. What the network leaves out is
 -- grey. Names and numbers have no byte that would end a text between quotes.
 use Rattle.std.specs.Prelude.{◌==◌, ℕ, ◌*◌, ◌++◌, Bool, List, [], ◌∷◌, map, flat_map, length, Option, Some, None, ℤ, pos, unsigned_abs, int_lt, codes, if◌then◌else◌}
-use Rattle.decimals.specs.Decimal.{decimal_text}
+use Rattle.report_rules.specs.Decimal.{decimal_text}
 use Rattle.number_sets.specs.Sets.{listed}
 use Rattle.problem_rules.specs.Problem.{Kind, raw_material, intermediate, product, Problem, Term, material_at, unit_at}
 use Rattle.text_rules.specs.Printed.{amount_bytes}
 use Rattle.flow_rules.specs.Net.{net_of, materials_of}
 use Rattle.pns_rules.specs.Shape.{shape_of}
 use Rattle.tree_rules.specs.Claim.{Network}
-use Rattle.graph_text.specs.declared.role.Role.{Role}
-use Rattle.graph_text.specs.declared.role.Role.TheVariants.{Planned, Running, Idle, LeftOut}
-use Rattle.graph_text.specs.Drawn.{role_of, is_drawn, material_flow, unit_size, arc_flow}
+use Rattle.report_rules.specs.declared.role.Role.{Role}
+use Rattle.report_rules.specs.declared.role.Role.TheVariants.{Planned, Running, Idle, LeftOut}
+use Rattle.report_rules.specs.Drawn.{role_of, is_drawn, material_flow, unit_size, arc_flow}
 
 -- a node, by a word and a name, so that a unit and a material of one name are apart
 abbrev pub node : List ℕ → List ℕ → List ℕ

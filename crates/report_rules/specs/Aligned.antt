@@ -3,10 +3,10 @@
 -- point on, and all is as wide as the heading at least. Columns are parted by two spaces, and no line ends with a space.
 use Rattle.std.specs.Prelude.{ℕ, ◌+◌, ◌-◌, ◌==◌, nat_lt, Bool, true, false, List, [], ◌∷◌, ◌++◌, map, length, replicate, slice_index_or, if◌then◌else◌}
 use Rattle.std.specs.List.{position_or_len}
-use Rattle.report_tables.specs.declared.column.Sort.{Sort}
-use Rattle.report_tables.specs.declared.column.Sort.TheVariants.{Words, Numbers}
-use Rattle.report_tables.specs.declared.column.Measure.{Measure}
-use Rattle.report_tables.specs.declared.column.Measure.TheVariants.{Whole, Front, Back}
+use Rattle.report_rules.specs.declared.column.Sort.{Sort}
+use Rattle.report_rules.specs.declared.column.Sort.TheVariants.{Words, Numbers}
+use Rattle.report_rules.specs.declared.column.Measure.{Measure}
+use Rattle.report_rules.specs.declared.column.Measure.TheVariants.{Whole, Front, Back}
 
 abbrev pub spaces : ℕ → List ℕ
 spaces n = replicate n 32

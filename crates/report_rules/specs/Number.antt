@@ -2,7 +2,7 @@
 -- one that is formed for it has more.
 use Rattle.std.specs.Prelude.{ℕ, zero, suc, ◌+◌, ◌*◌, ◌/◌, ◌%◌, ◌^◌, ◌==◌, nat_lt, ◌&&◌, Bool, List, [], ◌∷◌, ◌++◌, Option, Some, None, ℤ, pos, ◌+ℤ◌, ◌*ℤ◌, unsigned_abs, int_lt, codes, decimal, if◌then◌else◌}
 use Rattle.text_rules.specs.Amount.{signed}
-use Rattle.decimals.specs.Decimal.{rounded_text}
+use Rattle.report_rules.specs.Decimal.{rounded_text}
 
 pub record Fraction : Type 0 where
   pub num : ℤ

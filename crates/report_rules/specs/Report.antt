@@ -8,14 +8,14 @@ use Rattle.text_rules.specs.Printed.{amount_bytes}
 use Rattle.flow_rules.specs.Net.{net_of, materials_of, million}
 use Rattle.flow_rules.specs.Flows.{balance}
 use Rattle.tree_rules.specs.Claim.{Network, size_in}
-use Rattle.decimals.specs.Decimal.{decimal_text}
-use Rattle.report_tables.specs.declared.column.Sort.{Sort}
-use Rattle.report_tables.specs.declared.column.Sort.TheVariants.{Words, Numbers}
-use Rattle.report_tables.specs.Aligned.{table_lines}
-use Rattle.report_amounts.specs.Number.{Number, number_text, share_text}
-use Rattle.report_amounts.specs.declared.amounts.UnitAmount.TheVariants.{Fixed, Proportional, Investment, Total, Once, Made, Used}
-use Rattle.report_amounts.specs.declared.costs.Part.TheVariants.{All, Costs, Incomes}
-use Rattle.report_amounts.specs.Amounts.{size, share, amount, unit_sum, net, cost, cost_sum}
+use Rattle.report_rules.specs.Decimal.{decimal_text}
+use Rattle.report_rules.specs.declared.column.Sort.{Sort}
+use Rattle.report_rules.specs.declared.column.Sort.TheVariants.{Words, Numbers}
+use Rattle.report_rules.specs.Aligned.{table_lines}
+use Rattle.report_rules.specs.Number.{Number, number_text, share_text}
+use Rattle.report_rules.specs.declared.amount.UnitAmount.TheVariants.{Fixed, Proportional, Investment, Total, Once, Made, Used}
+use Rattle.report_rules.specs.declared.cost_part.CostPart.TheVariants.{All, Costs, Incomes}
+use Rattle.report_rules.specs.Amounts.{size, share, amount, unit_sum, net, cost, cost_sum}
 
 -- ---- head
 

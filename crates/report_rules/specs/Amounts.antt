@@ -7,11 +7,11 @@ use Rattle.problem_rules.specs.Problem.{Problem, unit_at, material_at, rate_of}
 use Rattle.flow_rules.specs.Net.{net_of, materials_of, million, trillion}
 use Rattle.flow_rules.specs.Flows.{balance}
 use Rattle.tree_rules.specs.Claim.{Network, size_in}
-use Rattle.report_amounts.specs.Number.{Number, of, times, plus, above, below, sum_of}
-use Rattle.report_amounts.specs.declared.amounts.UnitAmount.{UnitAmount}
-use Rattle.report_amounts.specs.declared.amounts.UnitAmount.TheVariants.{Fixed, Proportional, Investment, Total, Once, Made, Used}
-use Rattle.report_amounts.specs.declared.costs.Part.{Part}
-use Rattle.report_amounts.specs.declared.costs.Part.TheVariants.{All, Costs, Incomes}
+use Rattle.report_rules.specs.Number.{Number, of, times, plus, above, below, sum_of}
+use Rattle.report_rules.specs.declared.amount.UnitAmount.{UnitAmount}
+use Rattle.report_rules.specs.declared.amount.UnitAmount.TheVariants.{Fixed, Proportional, Investment, Total, Once, Made, Used}
+use Rattle.report_rules.specs.declared.cost_part.CostPart.{CostPart}
+use Rattle.report_rules.specs.declared.cost_part.CostPart.TheVariants.{All, Costs, Incomes}
 
 -- the fraction of two numbers, the second above 0
 unfoldable pub quotient : ℤ → ℤ → Number
@@ -87,11 +87,11 @@ abbrev pub cost : Problem → Network → ℕ → Number
 cost p w j = flowing p w j (neg_ℤ (material_at p j).price) (pos 1000000000000000000)
 
 -- a cost itself, where it is above 0 alone, and where it is below 0 alone
-abbrev pub part_of : Part → Number → Number
+abbrev pub part_of : CostPart → Number → Number
 part_of All n = n
 part_of Costs n = above n
 part_of Incomes n = below n
 
 -- the sum over the materials of the network
-abbrev pub cost_sum : Part → Problem → Network → Number
+abbrev pub cost_sum : CostPart → Problem → Network → Number
 cost_sum part p w = sum_of (λ j. part_of part (cost p w j)) (materials_of (net_of p) (has w.units))

@@ -1,0 +1,16 @@
+//! What is written of a network for people: its tables, its report, and the graph of the plant.
+//!
+//! The definitions stand in `specs/`: `Table` (a network as two tables of comma-separated fields), `Decimal` (decimal numbers), `Drawn` and
+//! `Graph` (the P-graph as text for Graphviz), `Number` and `Amounts` (the numbers of a report, and those of a network for one year with
+//! their sums), `Aligned` (rows of cells under each other) and `Report` (the three tables of a report).
+#![tactic(auto)]
+
+mod amount;
+mod column;
+mod cost_part;
+mod role;
+
+pub use amount::UnitAmount;
+pub use column::{Measure, Sort};
+pub use cost_part::CostPart;
+pub use role::Role;
