@@ -2,7 +2,7 @@
 
 use pns_io::{MemShelf, MemSink};
 use std::alloc::{AllocError, Global};
-use studio::studio;
+use studio::{code_of, studio};
 
 /// The room of the sink where a case says nothing of it, in bytes.
 const ROOM: u64 = 1_000_000;
@@ -66,7 +66,7 @@ impl<'a> Case<'a> {
         let mut shelf = MemShelf::new(held, self.failing_reads.clone()?);
         let mut out = MemSink::new(alloc, self.room, self.failing_put)?;
         let status = studio(alloc, &self.words, &mut shelf, &mut out);
-        Ok((status.code(), out.bytes().to_vec(alloc)?))
+        Ok((code_of(status), out.bytes().to_vec(alloc)?))
     }
 
     /// Whether a word is this name.

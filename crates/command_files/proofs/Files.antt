@@ -3,9 +3,9 @@ use Rattle.std.proofs.Common.{◌≡◌, ◌<◌, ℕ, List, Some, None, length,
 use Rattle.std.proofs.lemmas.List.{length-replicate}
 use Rattle.text_rules.specs.Outside.{Told, IfTold}
 use Rattle.problem_rules.specs.Problem.{Problem}
-use Rattle.endings.specs.Ending.{Shelves, Tells, Says}
-use Rattle.endings.specs.declared.status.Status.{Status}
-use Rattle.command_files.specs.Reading.{AreHeld, FileFaults, GivesProblem, OnFile}
+use Rattle.studio_rules.specs.Ending.{Shelves, Tells, Says}
+use Rattle.studio_rules.specs.declared.status.Status.{Status}
+use Rattle.studio_rules.specs.Reading.{AreHeld, FileFaults, GivesProblem, OnFile}
 use Rattle.endings.proofs.Ending.{Says-map, Says-told}
 
 -- a file that is too long, also where the shelf does not tell

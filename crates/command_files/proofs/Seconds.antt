@@ -2,10 +2,10 @@
 use Rattle.std.proofs.Common.{◌≡◌, ◌≤◌, ◌⊎◌, ℕ, List, inl, inr, subst, sym}
 use Rattle.text_rules.specs.Outside.{HasRisen, Told}
 use Rattle.problem_rules.specs.Problem.{Problem}
-use Rattle.command_files.specs.Reading.{AreHeld, LongFile, IsLong, FileFaults, GivesProblem, OnFile, OnSecond}
-use Rattle.endings.specs.Ending.{Shelves, Says}
-use Rattle.endings.specs.declared.status.Status.{Status}
-use Rattle.endings.specs.declared.status.Status.TheVariants.{TooLong}
+use Rattle.studio_rules.specs.Reading.{AreHeld, LongFile, IsLong, FileFaults, GivesProblem, OnFile, OnSecond}
+use Rattle.studio_rules.specs.Ending.{Shelves, Says}
+use Rattle.studio_rules.specs.declared.status.Status.{Status}
+use Rattle.studio_rules.specs.declared.status.Status.TheVariants.{TooLong}
 use Rattle.endings.proofs.Ending.{Says-map, Says-over, HasRisen-later}
 
 -- a file above its limit is one of the faults of its text

@@ -1,4 +1,1 @@
-pub mod Plan
-pub mod Reading
 pub mod Script
-pub mod TreeFile

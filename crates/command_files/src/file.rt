@@ -1,13 +1,13 @@
 //! The bytes of a file.
 ghost use Rattle.std.specs.Prelude.{◌≡◌, ◌≤◌, ◌<◌, ◌^◌, ℕ, List, IfOk, IfErr, OnOk, length, string_bytes};
 ghost use Rattle.text_rules.specs.Outside.{HasRisen};
-ghost use Rattle.command_files.specs.Reading.{AreHeld, LongFile};
-ghost use Rattle.endings.specs.Ending.{Ends, Says};
+ghost use Rattle.studio_rules.specs.Reading.{AreHeld, LongFile};
+ghost use Rattle.studio_rules.specs.Ending.{Ends, Says};
 
-use endings::Status;
 use endings::say::{say_memory, say_of};
 use pns_io::{ReadAllFault, Shelf, Sink, read_all};
 use std::alloc::Global;
+use studio_rules::Status;
 
 /// The whole of the file, which may hold so many bytes. Where it can't be read, or holds more, the text that tells so is out,
 /// and the status is that of the call.

@@ -1,21 +1,21 @@
 //! A plan file: it is read and judged for a problem.
 ghost use Rattle.std.specs.Prelude.{◌≡◌, ℕ, List, IfOk, IfErr, OnOk, string_bytes};
 ghost use Rattle.text_rules.specs.Outside.{HasRisen};
-ghost use Rattle.endings.specs.Lines.{line};
+ghost use Rattle.studio_rules.specs.Lines.{line};
 ghost use Rattle.plan_rules.specs.Plan.{IsPlan};
-ghost use Rattle.command_files.specs.Reading.{AreHeld};
-ghost use Rattle.command_files.specs.Plan.{GivesPlan, PlanFaults, plan_fault_line, plan_kind_word};
-ghost use Rattle.endings.specs.Ending.{Ends, Says, Only, OrMemory};
-ghost use Rattle.endings.specs.declared.status.Status.TheVariants.{BadPlan};
+ghost use Rattle.studio_rules.specs.Reading.{AreHeld};
+ghost use Rattle.studio_rules.specs.Plan.{GivesPlan, PlanFaults, plan_fault_line, plan_kind_word};
+ghost use Rattle.studio_rules.specs.Ending.{Ends, Says, Only, OrMemory};
+ghost use Rattle.studio_rules.specs.declared.status.Status.TheVariants.{BadPlan};
 
 use crate::file::bytes_of;
-use endings::Status;
 use endings::say::{say, say_memory};
 use periods::Plan;
 use plan_text::{PlanFault, PlanKind, read_plan};
 use pns_io::{Shelf, Sink};
 use pns_problem::Problem;
 use std::alloc::{AllocError, Global};
+use studio_rules::Status;
 
 /// The most bytes of a plan file.
 const PLAN_LIMIT: u64 = 4_194_304;

@@ -1,18 +1,18 @@
 //! A problem file: it is read and judged.
 ghost use Rattle.std.specs.Prelude.{◌≡◌, ◌≤◌, ℕ, List, IfOk, IfErr, OnOk, string_bytes};
 ghost use Rattle.text_rules.specs.Outside.{HasRisen};
-ghost use Rattle.endings.specs.Lines.{line};
-ghost use Rattle.command_files.specs.Reading.{AreHeld, GivesProblem, FileFaults, fault_line, kind_word};
-ghost use Rattle.endings.specs.Ending.{Ends, Says, Only, OrMemory};
-ghost use Rattle.endings.specs.declared.status.Status.TheVariants.{BadProblem};
+ghost use Rattle.studio_rules.specs.Lines.{line};
+ghost use Rattle.studio_rules.specs.Reading.{AreHeld, GivesProblem, FileFaults, fault_line, kind_word};
+ghost use Rattle.studio_rules.specs.Ending.{Ends, Says, Only, OrMemory};
+ghost use Rattle.studio_rules.specs.declared.status.Status.TheVariants.{BadProblem};
 
 use crate::file::bytes_of;
-use endings::Status;
 use endings::say::{say, say_memory};
 use pns_io::{Shelf, Sink};
 use pns_problem::Problem;
 use pns_text::{TextFault, read_problem};
 use std::alloc::{AllocError, Global};
+use studio_rules::Status;
 use text_rules::TextKind;
 
 /// The most bytes of a problem file.

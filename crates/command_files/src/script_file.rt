@@ -1,20 +1,21 @@
 //! A script file: it is read, judged and applied to a problem.
 ghost use Rattle.std.specs.Prelude.{◌≡◌, ◌≤◌, ℕ, List, IfOk, IfErr, OnOk, length, string_bytes};
 ghost use Rattle.text_rules.specs.Outside.{HasRisen};
-ghost use Rattle.endings.specs.Lines.{line};
-ghost use Rattle.command_files.specs.Reading.{AreHeld};
-ghost use Rattle.command_files.specs.Script.{IsEdited, ScriptFaults, TellsEdits, edit_fault_line, edit_kind_word};
-ghost use Rattle.endings.specs.Ending.{Ends, Says, Only, OrMemory};
-ghost use Rattle.endings.specs.declared.status.Status.TheVariants.{BadEdit};
+ghost use Rattle.studio_rules.specs.Lines.{line};
+ghost use Rattle.studio_rules.specs.Reading.{AreHeld};
+ghost use Rattle.studio_rules.specs.Script.{IsEdited, ScriptFaults, edit_fault_line, edit_kind_word};
+ghost use Rattle.command_files.specs.Script.{TellsEdits};
+ghost use Rattle.studio_rules.specs.Ending.{Ends, Says, Only, OrMemory};
+ghost use Rattle.studio_rules.specs.declared.status.Status.TheVariants.{BadEdit};
 
 use crate::file::bytes_of;
 use edit_scripts::{EditFault, EditKind, Script, read_script};
-use endings::Status;
 use endings::say::{say, say_memory};
 use pns_edits::apply;
 use pns_io::{Shelf, Sink};
 use pns_problem::Problem;
 use std::alloc::{AllocError, Global};
+use studio_rules::Status;
 
 /// The most bytes of a script file.
 const SCRIPT_LIMIT: u64 = 4_194_304;

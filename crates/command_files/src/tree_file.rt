@@ -3,19 +3,19 @@ ghost use Rattle.std.specs.Prelude.{◌≡◌, ◌≤◌, ◌<◌, ◌^◌, ℕ,
 ghost use Rattle.text_rules.specs.Outside.{HasRisen};
 ghost use Rattle.tree_rules.specs.Known.{KnowsClaim, KnowsTree};
 ghost use Rattle.branch_tree.specs.View.{claim_of};
-ghost use Rattle.endings.specs.Lines.{line};
-ghost use Rattle.command_files.specs.Reading.{AreHeld};
-ghost use Rattle.command_files.specs.TreeFile.{GivesTree, TreeFaults, tree_fault_line, tree_kind_word};
-ghost use Rattle.endings.specs.Ending.{Ends, Says, Only, OrMemory};
-ghost use Rattle.endings.specs.declared.status.Status.TheVariants.{BadTree};
+ghost use Rattle.studio_rules.specs.Lines.{line};
+ghost use Rattle.studio_rules.specs.Reading.{AreHeld};
+ghost use Rattle.studio_rules.specs.TreeFile.{GivesTree, TreeFaults, tree_fault_line, tree_kind_word};
+ghost use Rattle.studio_rules.specs.Ending.{Ends, Says, Only, OrMemory};
+ghost use Rattle.studio_rules.specs.declared.status.Status.TheVariants.{BadTree};
 
 use crate::file::bytes_of;
 use branch_tree::{Claim, Tree};
-use endings::Status;
 use endings::say::{say, say_memory};
 use pns_io::{Shelf, Sink};
 use pns_problem::Problem;
 use std::alloc::{AllocError, Global};
+use studio_rules::Status;
 use tree_reading::{TreeFault, read_tree};
 use tree_text_rules::TreeKind;
 

@@ -1,18 +1,18 @@
 //! The commands `edit` and `undo`.
 ghost use Rattle.std.specs.Prelude.{◌≡◌, ◌⊎◌};
 ghost use Rattle.text_rules.specs.Outside.{HasRisen};
-ghost use Rattle.command_files.specs.Reading.{OnFile};
-ghost use Rattle.command_files.specs.Script.{OnScript};
-ghost use Rattle.edit_commands.specs.Edits.{EditWork, UndoWork};
-ghost use Rattle.endings.specs.Ending.{Ends, Says};
+ghost use Rattle.studio_rules.specs.Reading.{OnFile};
+ghost use Rattle.studio_rules.specs.Script.{OnScript};
+ghost use Rattle.studio_rules.specs.Edits.{EditWork, UndoWork};
+ghost use Rattle.studio_rules.specs.Ending.{Ends, Says};
 
 use command_files::{edited_of, problem_of};
 use edit_scripts::print_script;
-use endings::Status;
 use endings::say::say_made;
 use pns_io::{Shelf, Sink};
 use pns_problem::Problem;
 use std::alloc::Global;
+use studio_rules::Status;
 
 fn say_edited<F: Shelf, K: Sink>(
     alloc: Global,

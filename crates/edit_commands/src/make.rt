@@ -3,15 +3,15 @@ ghost use Rattle.std.specs.Prelude.{◌≡◌, ◌≤◌, IfOk};
 ghost use Rattle.text_rules.specs.Outside.{HasRisen};
 ghost use Rattle.text_rules.specs.Canonical.{canonical_lines};
 ghost use Rattle.problem_rules.specs.Generated.{generated};
-ghost use Rattle.endings.specs.Lines.{text_of};
-ghost use Rattle.edit_commands.specs.Make.{MakeWork};
-ghost use Rattle.endings.specs.Ending.{Ends, Tells};
+ghost use Rattle.studio_rules.specs.Lines.{text_of};
+ghost use Rattle.studio_rules.specs.Make.{MakeWork};
+ghost use Rattle.studio_rules.specs.Ending.{Ends, Tells};
 
-use endings::Status;
 use endings::say::say_made;
 use generator::generate;
 use pns_io::Sink;
 use std::alloc::{AllocError, Global};
+use studio_rules::Status;
 
 fn made_text(alloc: Global, number: u64, units: u64) -> Result<Vec<u8>, AllocError>
     requires some { 1 ≤ units }

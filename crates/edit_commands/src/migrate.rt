@@ -2,18 +2,18 @@
 ghost use Rattle.std.specs.Prelude.{◌≡◌, ◌≤◌};
 ghost use Rattle.text_rules.specs.Outside.{HasRisen};
 ghost use Rattle.problem_rules.specs.Problem.{unit_at};
-ghost use Rattle.command_files.specs.Reading.{OnFile};
-ghost use Rattle.edit_commands.specs.Migrate.{MigrateWork};
-ghost use Rattle.endings.specs.Ending.{Ends, Says, Tells};
+ghost use Rattle.studio_rules.specs.Reading.{OnFile};
+ghost use Rattle.studio_rules.specs.Migrate.{MigrateWork};
+ghost use Rattle.studio_rules.specs.Ending.{Ends, Says, Tells};
 
 use command_files::problem_of;
 use edit_scripts::print_script;
-use endings::Status;
 use endings::say::{say, say_made, say_memory, say_of};
 use pns_edits::MigrateFault;
 use pns_io::{Shelf, Sink};
 use pns_problem::Problem;
 use std::alloc::Global;
+use studio_rules::Status;
 
 fn unit_name<'a>(problem: &'a Problem, at: u32) -> &'a str
     ensures { result.now ≡ (unit_at problem.now at).name }

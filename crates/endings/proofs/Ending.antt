@@ -3,10 +3,10 @@ use Rattle.std.proofs.Common.{◌≡◌, ◌≤◌, ◌++◌, [], ◌∷◌, ℕ
 use Rattle.std.specs.Io.KnownBytes.{Appends}
 use Rattle.std.proofs.KnownBytes.{Appends-trans}
 use Rattle.text_rules.specs.Outside.{HasRisen}
-use Rattle.endings.specs.Lines.{line, text_of}
-use Rattle.endings.specs.Ending.{Shelves, Ends, Tells, Says, Only, OrMemory}
-use Rattle.endings.specs.declared.status.Status.{Status}
-use Rattle.endings.specs.declared.status.Status.TheVariants.{ReadFault, WriteFault, Memory}
+use Rattle.studio_rules.specs.Lines.{line, text_of}
+use Rattle.studio_rules.specs.Ending.{Shelves, Ends, Tells, Says, Only, OrMemory}
+use Rattle.studio_rules.specs.declared.status.Status.{Status}
+use Rattle.studio_rules.specs.declared.status.Status.TheVariants.{ReadFault, WriteFault, Memory}
 
 -- what allows more
 pub Ends-map : (P Q : Status → List ℕ → Type 0) (risen risen' : Type 0) (old new : Option (List ℕ)) (status : Status) → ((s : Status) (t : List ℕ) → P s t → Q s t) → (risen → risen') → Ends P risen old new status → Ends Q risen' old new status

@@ -5,7 +5,7 @@ use Rattle.std.proofs.lemmas.List.{append_assoc, append-nil, length-map}
 use Rattle.std.proofs.lemmas.Bool.{or_left}
 use Rattle.number_sets.specs.Sets.{has, IsBelowAll}
 use Rattle.number_sets.proofs.SetLemmas.{below_not_had}
-use Rattle.endings.specs.Lines.{names_in, spaced_names}
+use Rattle.studio_rules.specs.Lines.{names_in, spaced_names}
 
 names_same : (s t : ℕ → Bool) (k : ℕ) (ns : List (List ℕ)) → ((i : ℕ) → k ≤ i → i < k + length ns → s i ≡ t i) → names_in s k ns ≡ names_in t k ns
 names_same s t k [] h = refl

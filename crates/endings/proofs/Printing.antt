@@ -9,11 +9,11 @@ use Rattle.tree_text_rules.specs.Line.{Token}
 use Rattle.tree_text_rules.specs.Spelling as trees
 use Rattle.tree_text.specs.Prints.{Prints}
 use Rattle.tree_text.specs.declared.fault.PrintFault.TheVariants as faults
-use Rattle.endings.specs.Lines.{line, text_of}
-use Rattle.endings.specs.Printed.{spelled, OneAnswer}
-use Rattle.endings.specs.Ending.{Ends, Tells, Only, IsOneOf}
-use Rattle.endings.specs.declared.status.Status.{Status}
-use Rattle.endings.specs.declared.status.Status.TheVariants.{Done, Past, Spent, Memory, WriteFault}
+use Rattle.studio_rules.specs.Lines.{line, text_of}
+use Rattle.studio_rules.specs.Printed.{spelled, OneAnswer}
+use Rattle.studio_rules.specs.Ending.{Ends, Tells, Only, IsOneOf}
+use Rattle.studio_rules.specs.declared.status.Status.{Status}
+use Rattle.studio_rules.specs.declared.status.Status.TheVariants.{Done, Past, Spent, Memory, WriteFault}
 use Rattle.endings.proofs.Ending.{Ends-after, HasRisen-later, only_in}
 
 pub spelled_text : (ls : List (List Token)) → trees.text_of ls ≡ text_of (spelled ls)

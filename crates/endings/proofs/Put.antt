@@ -3,9 +3,9 @@ use Rattle.std.proofs.Common.{◌≡◌, ◌≢◌, ◌++◌, ◌∷◌, [], len
 use Rattle.std.specs.Io.KnownBytes.{Appends}
 use Rattle.std.proofs.KnownBytes.{Appends-nil, Appends-trans}
 use Rattle.text_rules.specs.Outside.{AppendsFront}
-use Rattle.endings.specs.Ending.{Ends}
-use Rattle.endings.specs.declared.status.Status.{Status}
-use Rattle.endings.specs.declared.status.Status.TheVariants.{WriteFault}
+use Rattle.studio_rules.specs.Ending.{Ends}
+use Rattle.studio_rules.specs.declared.status.Status.{Status}
+use Rattle.studio_rules.specs.declared.status.Status.TheVariants.{WriteFault}
 
 -- what is out is the text up to the rest
 pub record IsPut (text rest : List ℕ) (old new : Option (List ℕ)) : Type 0 where

@@ -2,7 +2,7 @@
 ghost use Rattle.std.specs.Prelude.{◌≡◌, ◌≤◌, ◌++◌, ◌∷◌, ℕ, length, IfOk, OnOk};
 ghost use Rattle.number_sets.specs.Sets.{has};
 ghost use Rattle.problem_rules.specs.Problem.{material_names, unit_names};
-ghost use Rattle.endings.specs.Lines.{line, spaced_names, names_in};
+ghost use Rattle.studio_rules.specs.Lines.{line, spaced_names, names_in};
 
 use pns_problem::{Material, OperatingUnit};
 use std::alloc::{AllocError, Global};

@@ -3,15 +3,15 @@ ghost use Rattle.std.specs.Prelude.{◌≡◌, ◌≢◌, ◌≤◌, ◌<◌, �
 ghost use Rattle.text_rules.specs.Outside.{HasRisen};
 ghost use Rattle.tree_text_rules.specs.Line.{Token};
 ghost use Rattle.tree_text.specs.Prints.{Prints};
-ghost use Rattle.endings.specs.Lines.{line, text_of};
-ghost use Rattle.endings.specs.Printed.{OneAnswer};
-ghost use Rattle.endings.specs.Ending.{Ends, Tells, Only, OrMemory, IsOneOf};
-ghost use Rattle.endings.specs.declared.status.Status.TheVariants.{Done, Past, Spent, Memory, WriteFault};
+ghost use Rattle.studio_rules.specs.Lines.{line, text_of};
+ghost use Rattle.studio_rules.specs.Printed.{OneAnswer};
+ghost use Rattle.studio_rules.specs.Ending.{Ends, Tells, Only, OrMemory, IsOneOf};
+ghost use Rattle.studio_rules.specs.declared.status.Status.TheVariants.{Done, Past, Spent, Memory, WriteFault};
 
 use crate::line::line_of;
-use crate::status::Status;
 use pns_io::Sink;
 use std::alloc::{AllocError, Global};
+use studio_rules::Status;
 use text_lines::line::place_of;
 use tree_text::PrintFault;
 

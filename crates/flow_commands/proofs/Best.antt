@@ -5,13 +5,13 @@ use Rattle.problem_rules.specs.Validity.{IsValid}
 use Rattle.tree_rules.specs.Claim.{Claim, network, infeasible, unknown}
 use Rattle.tree_rules.specs.Accepted.{Tree, first_node, IsAccepted}
 use Rattle.tree_laws.specs.Laws.{AcceptedIsOptimal, AcceptedHasFlows}
-use Rattle.command_files.specs.Reading.{OnFile}
-use Rattle.command_files.specs.TreeFile.{OnTree}
-use Rattle.endings.specs.Ending.{Shelves, Ends, Says}
-use Rattle.endings.specs.declared.status.Status.{Status}
-use Rattle.endings.specs.declared.status.Status.TheVariants.{Done}
-use Rattle.flow_commands.specs.Check.{CheckWork}
-use Rattle.flow_commands.specs.Best.{IsBest, FilesClaimBest, AcceptedIsBest}
+use Rattle.studio_rules.specs.Reading.{OnFile}
+use Rattle.studio_rules.specs.TreeFile.{OnTree}
+use Rattle.studio_rules.specs.Ending.{Shelves, Ends, Says}
+use Rattle.studio_rules.specs.declared.status.Status.{Status}
+use Rattle.studio_rules.specs.declared.status.Status.TheVariants.{Done}
+use Rattle.studio_rules.specs.Check.{CheckWork}
+use Rattle.studio_rules.specs.Best.{IsBest, FilesClaimBest, AcceptedIsBest}
 
 module _ (optimal : AcceptedIsOptimal) (feasible : AcceptedHasFlows) where
   is_best : (p : Problem) → IsValid p → (claim : Claim) (tree : Tree) → IsAccepted p first_node claim tree → IsBest p claim

@@ -2,23 +2,23 @@
 ghost use Rattle.std.specs.Prelude.{◌≡◌, ◌<◌, ◌^◌, ◌⊎◌, length};
 ghost use Rattle.text_rules.specs.Outside.{HasRisen};
 ghost use Rattle.branch_tree.specs.View.{claim_of};
-ghost use Rattle.command_files.specs.Reading.{OnFile};
-ghost use Rattle.command_files.specs.TreeFile.{OnTree};
-ghost use Rattle.flow_commands.specs.Check.{CheckWork};
-ghost use Rattle.flow_commands.specs.Best.{AcceptedIsBest, FilesClaimBest};
-ghost use Rattle.endings.specs.Ending.{Ends, Says, Tells};
-ghost use Rattle.endings.specs.declared.status.Status.TheVariants.{Done};
+ghost use Rattle.studio_rules.specs.Reading.{OnFile};
+ghost use Rattle.studio_rules.specs.TreeFile.{OnTree};
+ghost use Rattle.studio_rules.specs.Check.{CheckWork};
+ghost use Rattle.studio_rules.specs.Best.{AcceptedIsBest, FilesClaimBest};
+ghost use Rattle.studio_rules.specs.Ending.{Ends, Says, Tells};
+ghost use Rattle.studio_rules.specs.declared.status.Status.TheVariants.{Done};
 
 use branch_tree::{Claim, Tree};
 use cert_check::check_tree;
 use command_files::{problem_of, tree_of};
-use endings::Status;
 use endings::say::{say, say_memory, say_of};
 use pgraph::Graph;
 use pns_io::{Shelf, Sink};
 use pns_problem::Problem;
 use refusal_words::{say_node, why_word};
 use std::alloc::Global;
+use studio_rules::Status;
 use tree_laws::{accepted_has_flows, accepted_is_optimal};
 use tree_rules::Refusal;
 

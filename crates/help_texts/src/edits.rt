@@ -1,10 +1,10 @@
 //! The pages on edits, and plants that are made.
 ghost use Rattle.std.specs.Prelude.{◌≡◌};
-ghost use Rattle.help_texts.specs.Lines.{text_of};
-ghost use Rattle.help_texts.specs.Edits.{edit_page, undo_page, migrate_page, make_page};
+ghost use Rattle.studio_rules.specs.PageLines.{text_of};
+ghost use Rattle.studio_rules.specs.EditPages.{edit_page, undo_page, migrate_page, make_page};
 
 /// The page on `edit`.
-#[tactic(auto, unfolding(crate::specs::Edits::edit_page))]
+#[tactic(auto, unfolding(studio_rules::specs::EditPages::edit_page))]
 pub fn edit_page() -> &'static [u8]
     ensures { result.now ≡ text_of edit_page }
 {
@@ -26,7 +26,7 @@ Example
 }
 
 /// The page on `undo`.
-#[tactic(auto, unfolding(crate::specs::Edits::undo_page))]
+#[tactic(auto, unfolding(studio_rules::specs::EditPages::undo_page))]
 pub fn undo_page() -> &'static [u8]
     ensures { result.now ≡ text_of undo_page }
 {
@@ -48,7 +48,7 @@ Example
 }
 
 /// The page on `migrate`.
-#[tactic(auto, unfolding(crate::specs::Edits::migrate_page))]
+#[tactic(auto, unfolding(studio_rules::specs::EditPages::migrate_page))]
 pub fn migrate_page() -> &'static [u8]
     ensures { result.now ≡ text_of migrate_page }
 {
@@ -70,7 +70,7 @@ Example
 }
 
 /// The page on `make`.
-#[tactic(auto, unfolding(crate::specs::Edits::make_page))]
+#[tactic(auto, unfolding(studio_rules::specs::EditPages::make_page))]
 pub fn make_page() -> &'static [u8]
     ensures { result.now ≡ text_of make_page }
 {

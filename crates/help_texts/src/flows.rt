@@ -1,10 +1,10 @@
 //! The pages on flows, and proofs that are judged.
 ghost use Rattle.std.specs.Prelude.{◌≡◌};
-ghost use Rattle.help_texts.specs.Lines.{text_of};
-ghost use Rattle.help_texts.specs.Flows.{flows_page, check_page};
+ghost use Rattle.studio_rules.specs.PageLines.{text_of};
+ghost use Rattle.studio_rules.specs.FlowPages.{flows_page, check_page};
 
 /// The page on `flows`.
-#[tactic(auto, unfolding(crate::specs::Flows::flows_page))]
+#[tactic(auto, unfolding(studio_rules::specs::FlowPages::flows_page))]
 pub fn flows_page() -> &'static [u8]
     ensures { result.now ≡ text_of flows_page }
 {
@@ -33,7 +33,7 @@ Example
 }
 
 /// The page on `check`.
-#[tactic(auto, unfolding(crate::specs::Flows::check_page))]
+#[tactic(auto, unfolding(studio_rules::specs::FlowPages::check_page))]
 pub fn check_page() -> &'static [u8]
     ensures { result.now ≡ text_of check_page }
 {

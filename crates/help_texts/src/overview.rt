@@ -1,10 +1,10 @@
 //! The commands on one screen, and which program this is.
 ghost use Rattle.std.specs.Prelude.{◌≡◌};
-ghost use Rattle.help_texts.specs.Lines.{text_of};
-ghost use Rattle.help_texts.specs.Overview.{overview, version};
+ghost use Rattle.studio_rules.specs.PageLines.{text_of};
+ghost use Rattle.studio_rules.specs.Overview.{overview, version};
 
 /// The commands on one screen.
-#[tactic(auto, unfolding(crate::specs::Overview::overview))]
+#[tactic(auto, unfolding(studio_rules::specs::Overview::overview))]
 pub fn overview_text() -> &'static [u8]
     ensures { result.now ≡ text_of overview }
 {
@@ -35,7 +35,7 @@ Begin:  pns solve a.pns 10000 > tree        pns check a.pns tree
 }
 
 /// The program, its version, and the formats of its files.
-#[tactic(auto, unfolding(crate::specs::Overview::version))]
+#[tactic(auto, unfolding(studio_rules::specs::Overview::version))]
 pub fn version_text() -> &'static [u8]
     ensures { result.now ≡ text_of version }
 {

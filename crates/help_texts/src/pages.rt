@@ -1,6 +1,6 @@
 //! The page on each topic.
 ghost use Rattle.std.specs.Prelude.{◌≡◌, option_map};
-ghost use Rattle.help_texts.specs.Pages.{page_text};
+ghost use Rattle.studio_rules.specs.Pages.{page_text};
 
 use crate::edits::{edit_page, make_page, migrate_page, undo_page};
 use crate::flows::{check_page, flows_page};
@@ -13,7 +13,7 @@ use crate::searches::{solve_page, trial_page};
 use crate::structures::{axioms_page, list_page, max_page};
 
 /// The page on a command, by its first word, or on the statuses.
-#[tactic(auto, unfolding(crate::specs::Pages::page_of))]
+#[tactic(auto, unfolding(studio_rules::specs::Pages::page_of))]
 pub fn page_on(topic: &str) -> Option<&'static [u8]>
     ensures { option_map (λ page. page.now) result ≡ page_text topic.now }
 {

@@ -1,10 +1,10 @@
 //! The pages on searches in parts.
 ghost use Rattle.std.specs.Prelude.{◌≡◌};
-ghost use Rattle.help_texts.specs.Lines.{text_of};
-ghost use Rattle.help_texts.specs.Parts.{split_page, part_page, merge_page};
+ghost use Rattle.studio_rules.specs.PageLines.{text_of};
+ghost use Rattle.studio_rules.specs.PartPages.{split_page, part_page, merge_page};
 
 /// The page on `split`.
-#[tactic(auto, unfolding(crate::specs::Parts::split_page))]
+#[tactic(auto, unfolding(studio_rules::specs::PartPages::split_page))]
 pub fn split_page() -> &'static [u8]
     ensures { result.now ≡ text_of split_page }
 {
@@ -30,7 +30,7 @@ Example
 }
 
 /// The page on `part`.
-#[tactic(auto, unfolding(crate::specs::Parts::part_page))]
+#[tactic(auto, unfolding(studio_rules::specs::PartPages::part_page))]
 pub fn part_page() -> &'static [u8]
     ensures { result.now ≡ text_of part_page }
 {
@@ -66,7 +66,7 @@ Example
 }
 
 /// The page on `merge`.
-#[tactic(auto, unfolding(crate::specs::Parts::merge_page))]
+#[tactic(auto, unfolding(studio_rules::specs::PartPages::merge_page))]
 pub fn merge_page() -> &'static [u8]
     ensures { result.now ≡ text_of merge_page }
 {

@@ -1,10 +1,10 @@
 //! The pages on designs for several periods.
 ghost use Rattle.std.specs.Prelude.{◌≡◌};
-ghost use Rattle.help_texts.specs.Lines.{text_of};
-ghost use Rattle.help_texts.specs.Plans.{expand_page, periods_page};
+ghost use Rattle.studio_rules.specs.PageLines.{text_of};
+ghost use Rattle.studio_rules.specs.PlanPages.{expand_page, periods_page};
 
 /// The page on `expand`.
-#[tactic(auto, unfolding(crate::specs::Plans::expand_page))]
+#[tactic(auto, unfolding(studio_rules::specs::PlanPages::expand_page))]
 pub fn expand_page() -> &'static [u8]
     ensures { result.now ≡ text_of expand_page }
 {
@@ -26,7 +26,7 @@ Example
 }
 
 /// The page on `periods`.
-#[tactic(auto, unfolding(crate::specs::Plans::periods_page))]
+#[tactic(auto, unfolding(studio_rules::specs::PlanPages::periods_page))]
 pub fn periods_page() -> &'static [u8]
     ensures { result.now ≡ text_of periods_page }
 {

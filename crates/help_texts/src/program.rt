@@ -1,10 +1,10 @@
 //! The pages on the program itself.
 ghost use Rattle.std.specs.Prelude.{◌≡◌};
-ghost use Rattle.help_texts.specs.Lines.{text_of};
-ghost use Rattle.help_texts.specs.Program.{help_page, version_page, status_page};
+ghost use Rattle.studio_rules.specs.PageLines.{text_of};
+ghost use Rattle.studio_rules.specs.ProgramPages.{help_page, version_page, status_page};
 
 /// The page on `help`.
-#[tactic(auto, unfolding(crate::specs::Program::help_page))]
+#[tactic(auto, unfolding(studio_rules::specs::ProgramPages::help_page))]
 pub fn help_page() -> &'static [u8]
     ensures { result.now ≡ text_of help_page }
 {
@@ -22,7 +22,7 @@ Example
 }
 
 /// The page on `version`.
-#[tactic(auto, unfolding(crate::specs::Program::version_page))]
+#[tactic(auto, unfolding(studio_rules::specs::ProgramPages::version_page))]
 pub fn version_page() -> &'static [u8]
     ensures { result.now ≡ text_of version_page }
 {
@@ -40,7 +40,7 @@ Example
 }
 
 /// The page on statuses, those that all commands share.
-#[tactic(auto, unfolding(crate::specs::Program::status_page))]
+#[tactic(auto, unfolding(studio_rules::specs::ProgramPages::status_page))]
 pub fn status_page() -> &'static [u8]
     ensures { result.now ≡ text_of status_page }
 {

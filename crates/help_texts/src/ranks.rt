@@ -1,10 +1,10 @@
 //! The pages on the best networks.
 ghost use Rattle.std.specs.Prelude.{◌≡◌};
-ghost use Rattle.help_texts.specs.Lines.{text_of};
-ghost use Rattle.help_texts.specs.Ranks.{rank_page, rankcheck_page};
+ghost use Rattle.studio_rules.specs.PageLines.{text_of};
+ghost use Rattle.studio_rules.specs.RankPages.{rank_page, rankcheck_page};
 
 /// The page on `rank`.
-#[tactic(auto, unfolding(crate::specs::Ranks::rank_page))]
+#[tactic(auto, unfolding(studio_rules::specs::RankPages::rank_page))]
 pub fn rank_page() -> &'static [u8]
     ensures { result.now ≡ text_of rank_page }
 {
@@ -31,7 +31,7 @@ Example
 }
 
 /// The page on `rankcheck`.
-#[tactic(auto, unfolding(crate::specs::Ranks::rankcheck_page))]
+#[tactic(auto, unfolding(studio_rules::specs::RankPages::rankcheck_page))]
 pub fn rankcheck_page() -> &'static [u8]
     ensures { result.now ≡ text_of rankcheck_page }
 {

@@ -1,10 +1,10 @@
 //! The pages on claimed networks as people read them.
 ghost use Rattle.std.specs.Prelude.{◌≡◌};
-ghost use Rattle.help_texts.specs.Lines.{text_of};
-ghost use Rattle.help_texts.specs.Reports.{table_page, report_page, graph_page, stable_page};
+ghost use Rattle.studio_rules.specs.PageLines.{text_of};
+ghost use Rattle.studio_rules.specs.ReportPages.{table_page, report_page, graph_page, stable_page};
 
 /// The page on `table`.
-#[tactic(auto, unfolding(crate::specs::Reports::table_page))]
+#[tactic(auto, unfolding(studio_rules::specs::ReportPages::table_page))]
 pub fn table_page() -> &'static [u8]
     ensures { result.now ≡ text_of table_page }
 {
@@ -38,7 +38,7 @@ Example
 }
 
 /// The page on `report`.
-#[tactic(auto, unfolding(crate::specs::Reports::report_page))]
+#[tactic(auto, unfolding(studio_rules::specs::ReportPages::report_page))]
 pub fn report_page() -> &'static [u8]
     ensures { result.now ≡ text_of report_page }
 {
@@ -65,7 +65,7 @@ Example
 }
 
 /// The page on `graph`.
-#[tactic(auto, unfolding(crate::specs::Reports::graph_page))]
+#[tactic(auto, unfolding(studio_rules::specs::ReportPages::graph_page))]
 pub fn graph_page() -> &'static [u8]
     ensures { result.now ≡ text_of graph_page }
 {
@@ -91,7 +91,7 @@ Example
 }
 
 /// The page on `stable`.
-#[tactic(auto, unfolding(crate::specs::Reports::stable_page))]
+#[tactic(auto, unfolding(studio_rules::specs::ReportPages::stable_page))]
 pub fn stable_page() -> &'static [u8]
     ensures { result.now ≡ text_of stable_page }
 {

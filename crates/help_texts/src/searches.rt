@@ -1,10 +1,10 @@
 //! The pages on searches.
 ghost use Rattle.std.specs.Prelude.{◌≡◌};
-ghost use Rattle.help_texts.specs.Lines.{text_of};
-ghost use Rattle.help_texts.specs.Searches.{solve_page, trial_page};
+ghost use Rattle.studio_rules.specs.PageLines.{text_of};
+ghost use Rattle.studio_rules.specs.SearchPages.{solve_page, trial_page};
 
 /// The page on `solve`.
-#[tactic(auto, unfolding(crate::specs::Searches::solve_page))]
+#[tactic(auto, unfolding(studio_rules::specs::SearchPages::solve_page))]
 pub fn solve_page() -> &'static [u8]
     ensures { result.now ≡ text_of solve_page }
 {
@@ -31,7 +31,7 @@ Example
 }
 
 /// The page on `trial`.
-#[tactic(auto, unfolding(crate::specs::Searches::trial_page))]
+#[tactic(auto, unfolding(studio_rules::specs::SearchPages::trial_page))]
 pub fn trial_page() -> &'static [u8]
     ensures { result.now ≡ text_of trial_page }
 {

@@ -1,10 +1,10 @@
 //! The pages on units and structures.
 ghost use Rattle.std.specs.Prelude.{◌≡◌};
-ghost use Rattle.help_texts.specs.Lines.{text_of};
-ghost use Rattle.help_texts.specs.Structures.{max_page, axioms_page, list_page};
+ghost use Rattle.studio_rules.specs.PageLines.{text_of};
+ghost use Rattle.studio_rules.specs.StructurePages.{max_page, axioms_page, list_page};
 
 /// The page on `max`.
-#[tactic(auto, unfolding(crate::specs::Structures::max_page))]
+#[tactic(auto, unfolding(studio_rules::specs::StructurePages::max_page))]
 pub fn max_page() -> &'static [u8]
     ensures { result.now ≡ text_of max_page }
 {
@@ -25,7 +25,7 @@ Example
 }
 
 /// The page on `axioms`.
-#[tactic(auto, unfolding(crate::specs::Structures::axioms_page))]
+#[tactic(auto, unfolding(studio_rules::specs::StructurePages::axioms_page))]
 pub fn axioms_page() -> &'static [u8]
     ensures { result.now ≡ text_of axioms_page }
 {
@@ -47,7 +47,7 @@ Example
 }
 
 /// The page on `list`.
-#[tactic(auto, unfolding(crate::specs::Structures::list_page))]
+#[tactic(auto, unfolding(studio_rules::specs::StructurePages::list_page))]
 pub fn list_page() -> &'static [u8]
     ensures { result.now ≡ text_of list_page }
 {

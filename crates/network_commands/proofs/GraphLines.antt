@@ -5,10 +5,10 @@ use Rattle.problem_rules.specs.Problem.{Problem}
 use Rattle.pns_problem.specs.Printing.{printed}
 use Rattle.pns_rules.specs.Shape.{shape_of}
 use Rattle.tree_rules.specs.Claim.{Network}
-use Rattle.structure_commands.specs.Max.{IsMaximal, HasNoStructure}
+use Rattle.studio_rules.specs.Max.{IsMaximal, HasNoStructure}
 use Rattle.report_rules.specs.Graph.{graph_lines, empty_lines}
-use Rattle.endings.specs.Lines.{text_of}
-use Rattle.network_commands.specs.Graph.{AreGraphLines}
+use Rattle.studio_rules.specs.Lines.{text_of}
+use Rattle.studio_rules.specs.Graph.{AreGraphLines}
 
 pub graph_told : {V E : Type 0} (items : V → List ℕ) (p : Problem) (w : Option Network) (t : ℕ → Bool) (r : Result V E) → IsMaximal (shape_of p) t → IfOk r (λ bytes. items bytes ≡ printed (graph_lines p w t))
     → IfOk r (λ bytes. (lines : List (List ℕ)) × AreGraphLines p w lines × (items bytes ≡ text_of lines))

@@ -3,13 +3,13 @@ use Rattle.std.proofs.Common.{◌∷◌, [], false, refl, inl, inr, ℕ, List}
 use Rattle.problem_rules.specs.Problem.{Problem}
 use Rattle.tree_rules.specs.declared.why.Why.{Why}
 use Rattle.tree_rules.specs.Claim.{Claim, network, infeasible, unknown, ClaimFails}
-use Rattle.refusal_words.specs.Words.{claim_line}
-use Rattle.endings.specs.Lines.{line}
-use Rattle.endings.specs.Ending.{Tells, Only, OrMemory}
-use Rattle.endings.specs.declared.status.Status.{Status}
-use Rattle.endings.specs.declared.status.Status.TheVariants.{Refused}
+use Rattle.studio_rules.specs.RefusalWords.{claim_line}
+use Rattle.studio_rules.specs.Lines.{line}
+use Rattle.studio_rules.specs.Ending.{Tells, Only, OrMemory}
+use Rattle.studio_rules.specs.declared.status.Status.{Status}
+use Rattle.studio_rules.specs.declared.status.Status.TheVariants.{Refused}
 use Rattle.endings.proofs.Ending.{only_or_memory_in, one_line}
-use Rattle.network_commands.specs.Network.{IsRefusedFor, ClaimRefusal}
+use Rattle.studio_rules.specs.Network.{IsRefusedFor, ClaimRefusal}
 
 pub refused_for : (p : Problem) (claim : Claim) (why : Why) → ClaimFails false p claim why → IsRefusedFor p claim why
 refused_for p (network w) why h = h

@@ -5,8 +5,8 @@ use Rattle.csv.specs.Writing.{default_writer, row_text, row_body, is_blank, quot
 use Rattle.problem_rules.specs.Problem.{Problem}
 use Rattle.tree_rules.specs.Claim.{Network}
 use Rattle.report_rules.specs.Table.{AreUnitRows, AreMaterialRows, unit_heading, material_heading, records_text}
-use Rattle.endings.specs.Lines.{line, text_of}
-use Rattle.network_commands.specs.Table.{AreTables}
+use Rattle.studio_rules.specs.Lines.{line, text_of}
+use Rattle.studio_rules.specs.Table.{AreTables}
 
 -- a record without its line feed
 abbrev record_line : List (List ℕ) → List ℕ

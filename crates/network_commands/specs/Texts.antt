@@ -2,12 +2,12 @@
 use Rattle.std.specs.Prelude.{ℕ, List}
 use Rattle.problem_rules.specs.Problem.{Problem}
 use Rattle.tree_rules.specs.Claim.{Network}
-use Rattle.endings.specs.declared.status.Status.{Status}
+use Rattle.studio_rules.specs.declared.status.Status.{Status}
 use Rattle.network_commands.specs.declared.network.NetworkText.{NetworkText}
 use Rattle.network_commands.specs.declared.network.NetworkText.TheVariants as texts
-use Rattle.network_commands.specs.Graph.{NetworkGraphWork}
-use Rattle.network_commands.specs.Report.{ReportWork}
-use Rattle.network_commands.specs.Table.{TableWork}
+use Rattle.studio_rules.specs.Graph.{NetworkGraphWork}
+use Rattle.studio_rules.specs.Report.{ReportWork}
+use Rattle.studio_rules.specs.Table.{TableWork}
 
 abbrev pub TextWork : NetworkText → Problem → Network → Status → List (List ℕ) → Type 0
 TextWork texts.Table = TableWork

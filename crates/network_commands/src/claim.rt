@@ -4,21 +4,21 @@ ghost use Rattle.text_rules.specs.Outside.{HasRisen};
 ghost use Rattle.pns_rules.specs.Shape.{shape_of};
 ghost use Rattle.pgraph.specs.Tables.{shape};
 ghost use Rattle.branch_tree.specs.View.{claim_of};
-ghost use Rattle.refusal_words.specs.Words.{claim_line};
-ghost use Rattle.endings.specs.Lines.{line};
-ghost use Rattle.endings.specs.Ending.{Ends, Tells, Only, OrMemory};
-ghost use Rattle.endings.specs.declared.status.Status.TheVariants.{Refused};
-ghost use Rattle.network_commands.specs.Network.{ClaimRefusal, ClaimsNetwork};
+ghost use Rattle.studio_rules.specs.RefusalWords.{claim_line};
+ghost use Rattle.studio_rules.specs.Lines.{line};
+ghost use Rattle.studio_rules.specs.Ending.{Ends, Tells, Only, OrMemory};
+ghost use Rattle.studio_rules.specs.declared.status.Status.TheVariants.{Refused};
+ghost use Rattle.studio_rules.specs.Network.{ClaimRefusal, ClaimsNetwork};
 
 use branch_tree::{Claim, Network};
 use cert_check::check_claim;
-use endings::Status;
 use endings::say::say_of;
 use pgraph::Graph;
 use pns_io::Sink;
 use pns_problem::Problem;
 use refusal_words::why_word;
 use std::alloc::Global;
+use studio_rules::Status;
 use tree_rules::Why;
 
 fn say_refused<K: Sink>(alloc: Global, out: &mut K, why: Why) -> Status

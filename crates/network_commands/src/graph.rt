@@ -5,17 +5,16 @@ ghost use Rattle.text_rules.specs.Outside.{HasRisen};
 ghost use Rattle.pns_rules.specs.Shape.{shape_of};
 ghost use Rattle.pgraph.specs.Tables.{shape};
 ghost use Rattle.tree_rules.specs.Claim.{IsFeasible};
-ghost use Rattle.endings.specs.Lines.{text_of};
-ghost use Rattle.command_files.specs.Reading.{OnFile};
-ghost use Rattle.command_files.specs.TreeFile.{OnTree};
-ghost use Rattle.network_commands.specs.Network.{OnNetwork};
-ghost use Rattle.network_commands.specs.Graph.{AreGraphLines, PlantGraphWork, NetworkGraphWork};
-ghost use Rattle.endings.specs.Ending.{Ends, Says, Tells};
+ghost use Rattle.studio_rules.specs.Lines.{text_of};
+ghost use Rattle.studio_rules.specs.Reading.{OnFile};
+ghost use Rattle.studio_rules.specs.TreeFile.{OnTree};
+ghost use Rattle.studio_rules.specs.Network.{OnNetwork};
+ghost use Rattle.studio_rules.specs.Graph.{AreGraphLines, PlantGraphWork, NetworkGraphWork};
+ghost use Rattle.studio_rules.specs.Ending.{Ends, Says, Tells};
 
 use crate::network::{NetworkText, say_of_network};
 use branch_tree::Network;
 use command_files::problem_of;
-use endings::Status;
 use endings::say::{say_memory, say_text};
 use graph_text::{empty_graph, graph_of};
 use max_structure::maximal;
@@ -23,6 +22,7 @@ use pgraph::Graph;
 use pns_io::{Shelf, Sink};
 use pns_problem::Problem;
 use std::alloc::{AllocError, Global};
+use studio_rules::Status;
 use unit_sets::UnitSet;
 
 /// The graph of the maximal structure, and in it the network, where one is given.

@@ -1,8 +1,8 @@
 //! The commands that tell a claimed network, and the graph that it lies in: `table`, `graph` and `report`.
 //!
 //! Each reads a problem, and all but `graph FILE` a tree, of which the claim's lines alone are judged. Its contract says which text is
-//! out with which status. `specs/Network` has what all of them say of a claim that is refused, and a file of `specs` for each has its
-//! text.
+//! out with which status. `Network` of `studio_rules` has what all of them say of a claim that is refused, and `Table`, `Graph` and
+//! `Report` there have the texts.
 //!
 //! Modules: `claim`, which gives the network of a claim or refuses it; `network`, the way from the files to the text of a network;
 //! `table`, `graph` and `report`.

@@ -5,13 +5,13 @@ ghost use Rattle.pns_rules.specs.Shape.{shape_of};
 ghost use Rattle.pgraph.specs.Tables.{shape};
 ghost use Rattle.tree_rules.specs.Claim.{IsFeasible};
 ghost use Rattle.branch_tree.specs.View.{claim_of};
-ghost use Rattle.endings.specs.Lines.{text_of};
-ghost use Rattle.command_files.specs.Reading.{OnFile};
-ghost use Rattle.command_files.specs.TreeFile.{OnTree};
-ghost use Rattle.network_commands.specs.Network.{OnNetwork};
+ghost use Rattle.studio_rules.specs.Lines.{text_of};
+ghost use Rattle.studio_rules.specs.Reading.{OnFile};
+ghost use Rattle.studio_rules.specs.TreeFile.{OnTree};
+ghost use Rattle.studio_rules.specs.Network.{OnNetwork};
 ghost use Rattle.network_commands.specs.Texts.{TextWork};
-ghost use Rattle.endings.specs.declared.status.Status.TheVariants.{Done};
-ghost use Rattle.endings.specs.Ending.{Ends, Says, Tells};
+ghost use Rattle.studio_rules.specs.declared.status.Status.TheVariants.{Done};
+ghost use Rattle.studio_rules.specs.Ending.{Ends, Says, Tells};
 
 use crate::claim::network_of;
 use crate::graph::network_graph;
@@ -19,12 +19,12 @@ use crate::report::network_report;
 use crate::table::tables;
 use branch_tree::{Claim, Network, Tree};
 use command_files::{problem_of, tree_of};
-use endings::Status;
 use endings::say::{say_memory, say_text};
 use pgraph::Graph;
 use pns_io::{Shelf, Sink};
 use pns_problem::Problem;
 use std::alloc::{AllocError, Global};
+use studio_rules::Status;
 
 /// What is said of a network.
 #[derive(Clone, Copy, Debug, PartialEq, Eq)]

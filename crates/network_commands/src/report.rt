@@ -5,21 +5,21 @@ ghost use Rattle.pns_rules.specs.Shape.{shape_of};
 ghost use Rattle.pgraph.specs.Tables.{shape};
 ghost use Rattle.tree_rules.specs.Claim.{IsFeasible};
 ghost use Rattle.report_rules.specs.Report.{report_lines};
-ghost use Rattle.endings.specs.Lines.{text_of};
-ghost use Rattle.command_files.specs.Reading.{OnFile};
-ghost use Rattle.command_files.specs.TreeFile.{OnTree};
-ghost use Rattle.network_commands.specs.Network.{OnNetwork};
-ghost use Rattle.network_commands.specs.Report.{ReportWork};
-ghost use Rattle.endings.specs.Ending.{Ends, Says};
+ghost use Rattle.studio_rules.specs.Lines.{text_of};
+ghost use Rattle.studio_rules.specs.Reading.{OnFile};
+ghost use Rattle.studio_rules.specs.TreeFile.{OnTree};
+ghost use Rattle.studio_rules.specs.Network.{OnNetwork};
+ghost use Rattle.studio_rules.specs.Report.{ReportWork};
+ghost use Rattle.studio_rules.specs.Ending.{Ends, Says};
 
 use crate::network::{NetworkText, say_of_network};
 use branch_tree::Network;
-use endings::Status;
 use pgraph::Graph;
 use pns_io::{Shelf, Sink};
 use pns_problem::Problem;
 use report_tables::report_of;
 use std::alloc::{AllocError, Global};
+use studio_rules::Status;
 
 /// The tables of the network for people.
 pub(crate) fn network_report(

@@ -9,11 +9,11 @@ use Rattle.text_rules.specs.Outside.{AppendsFront}
 use Rattle.part_rules.specs.OpenLeaves.{OpenAt}
 use Rattle.cert_check.specs.declared.open_leaf.OpenLeaf.{OpenLeaf}
 use Rattle.cert_check.specs.OpenLeaves.{leaf_at, leaves_at}
-use Rattle.part_commands.specs.Split.{part_line, split_lines, LeavesSay}
-use Rattle.endings.specs.Lines.{line, text_of}
-use Rattle.endings.specs.Ending.{Ends, Tells, Only}
-use Rattle.endings.specs.declared.status.Status.{Status}
-use Rattle.endings.specs.declared.status.Status.TheVariants.{Done, WriteFault, Memory}
+use Rattle.studio_rules.specs.Split.{part_line, split_lines, LeavesSay}
+use Rattle.studio_rules.specs.Lines.{line, text_of}
+use Rattle.studio_rules.specs.Ending.{Ends, Tells, Only}
+use Rattle.studio_rules.specs.declared.status.Status.{Status}
+use Rattle.studio_rules.specs.declared.status.Status.TheVariants.{Done, WriteFault, Memory}
 use Rattle.endings.proofs.Ending.{Ends-after, only_in}
 
 text_of-push : (ls : List (List ℕ)) (l : List ℕ) → text_of (ls ++ l ∷ []) ≡ text_of ls ++ line l

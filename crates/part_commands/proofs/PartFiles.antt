@@ -7,12 +7,12 @@ use Rattle.problem_rules.specs.Problem.{Problem}
 use Rattle.tree_rules.specs.Claim.{Claim}
 use Rattle.tree_rules.specs.Accepted.{Tree}
 use Rattle.part_rules.specs.Part.{Part}
-use Rattle.command_files.specs.Reading.{AreHeld, FileFaults, GivesProblem, OnFile}
-use Rattle.command_files.specs.TreeFile.{GivesTree, OnTree, TreeFaults, TreeSays}
-use Rattle.part_commands.specs.Merge.{MergeSays, MergeWork}
-use Rattle.part_commands.specs.PartFile.{GivesPart, GiveParts, PartFault, PartFaults, FirstFault, are_several}
-use Rattle.endings.specs.Ending.{Shelves, Says, Tells}
-use Rattle.endings.specs.declared.status.Status.{Status}
+use Rattle.studio_rules.specs.Reading.{AreHeld, FileFaults, GivesProblem, OnFile}
+use Rattle.studio_rules.specs.TreeFile.{GivesTree, OnTree, TreeFaults, TreeSays}
+use Rattle.studio_rules.specs.Merge.{MergeSays, MergeWork}
+use Rattle.studio_rules.specs.PartFile.{GivesPart, GiveParts, PartFault, PartFaults, FirstFault, are_several}
+use Rattle.studio_rules.specs.Ending.{Shelves, Says, Tells}
+use Rattle.studio_rules.specs.declared.status.Status.{Status}
 use Rattle.endings.proofs.Ending.{Says-map, Says-told, Says-over, HasRisen-later}
 
 -- ---- parts in order

@@ -3,20 +3,20 @@ ghost use Rattle.std.specs.Prelude.{◌≡◌, ◌≤◌, ◌++◌, ℕ, List, I
 ghost use Rattle.std.specs.List.{Contains};
 ghost use Rattle.text_rules.specs.Outside.{HasRisen};
 ghost use Rattle.problem_rules.specs.Each.{Each};
-ghost use Rattle.endings.specs.Lines.{line};
+ghost use Rattle.studio_rules.specs.Lines.{line};
 ghost use Rattle.part_rules.specs.Spelling.{KnowsPart};
-ghost use Rattle.command_files.specs.Reading.{AreHeld};
-ghost use Rattle.part_commands.specs.PartFile.{GivesPart, PartFaults, GiveParts, FirstFault, are_several, part_words, part_fault_line};
-ghost use Rattle.endings.specs.Ending.{Ends, Says, Only, OrMemory};
-ghost use Rattle.endings.specs.declared.status.Status.TheVariants.{BadTree};
+ghost use Rattle.studio_rules.specs.Reading.{AreHeld};
+ghost use Rattle.studio_rules.specs.PartFile.{GivesPart, PartFaults, GiveParts, FirstFault, are_several, part_words, part_fault_line};
+ghost use Rattle.studio_rules.specs.Ending.{Ends, Says, Only, OrMemory};
+ghost use Rattle.studio_rules.specs.declared.status.Status.TheVariants.{BadTree};
 
 use command_files::{bytes_of, tree_kind_word};
-use endings::Status;
 use endings::say::{say, say_memory};
 use part_text::read_part;
 use pns_io::{Shelf, Sink};
 use pns_problem::Problem;
 use std::alloc::{AllocError, Global};
+use studio_rules::Status;
 use tree_parts::Part;
 use tree_reading::TreeFault;
 use tree_text_rules::TreeKind;

@@ -2,10 +2,10 @@
 use Rattle.std.proofs.Common.{◌≡◌, ◌≤◌, ◌⊎◌, ℕ, List, inl, inr, subst}
 use Rattle.text_rules.specs.Outside.{HasRisen, Told}
 use Rattle.problem_rules.specs.Problem.{Problem}
-use Rattle.command_files.specs.Reading.{AreHeld, FileFaults, GivesProblem, OnFile}
-use Rattle.part_searches.specs.Part.{AgainstWork}
-use Rattle.endings.specs.Ending.{Shelves, Says}
-use Rattle.endings.specs.declared.status.Status.{Status}
+use Rattle.studio_rules.specs.Reading.{AreHeld, FileFaults, GivesProblem, OnFile}
+use Rattle.studio_rules.specs.Part.{AgainstWork}
+use Rattle.studio_rules.specs.Ending.{Shelves, Says}
+use Rattle.studio_rules.specs.declared.status.Status.{Status}
 use Rattle.endings.proofs.Ending.{Says-map, Says-over, HasRisen-later}
 
 module _ (budget : ℕ) (file tree word other : List ℕ) where

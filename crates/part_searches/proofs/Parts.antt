@@ -1,19 +1,29 @@
 -- What a search found, as a part that can be printed.
-use Rattle.std.proofs.Common.{◌≡◌, ℕ, List, [], ◌∷◌, Some, subst, inl, inr}
+use Rattle.std.proofs.Common.{◌≡◌, ℕ, List, [], ◌∷◌, Option, Some, None, sym, subst, inl, inr}
+use Rattle.number_sets.specs.Sets.{has}
 use Rattle.problem_rules.specs.Problem.{Problem}
 use Rattle.pns_rules.specs.Nodes.{Node}
-use Rattle.tree_rules.specs.Claim.{Network, network}
+use Rattle.flow_rules.specs.declared.place.Column.{Column}
+use Rattle.flow_rules.specs.declared.place.Place.{Place}
+use Rattle.tree_rules.specs.Claim.{Network, network, infeasible}
+use Rattle.tree_rules.specs.Accepted.{Tree}
 use Rattle.tree_rules.specs.Known.{KnowsClaim, KnowsTree, KnowsTail}
 use Rattle.tree_rules.specs.Tail as tails
+use Rattle.tree_text_rules.specs.Read.{Certificate}
 use Rattle.part_rules.specs.Part.{Part}
+use Rattle.part_rules.specs.Spelling.{part_text_lines}
+use Rattle.node_evaluation.specs.Children.{claim_with}
 use Rattle.abb_search.specs.declared.outcome.Found.{Found}
 use Rattle.abb_search.specs.declared.outcome.Found.TheVariants as found
 use Rattle.abb_search.specs.Found.{IsFound}
-use Rattle.searches.specs.Solve.{status_of}
-use Rattle.part_searches.specs.Found.{part_of}
-use Rattle.endings.specs.Ending.{IsOneOf}
-use Rattle.endings.specs.declared.status.Status.{Status}
-use Rattle.endings.specs.declared.status.Status.TheVariants.{Done, Spent, Past}
+use Rattle.abb_search.specs.Answers.{IsAgainst}
+use Rattle.studio_rules.specs.Solve.{status_of}
+use Rattle.studio_rules.specs.Part.{part_from, HoldsFrom, NoDearer, PartSays}
+use Rattle.studio_rules.specs.Printed.{spelled}
+use Rattle.part_searches.specs.Found.{part_of, FoundSays}
+use Rattle.studio_rules.specs.Ending.{IsOneOf}
+use Rattle.studio_rules.specs.declared.status.Status.{Status}
+use Rattle.studio_rules.specs.declared.status.Status.TheVariants.{Done, Spent, Past}
 
 pub record CanPrint (p : Problem) (part : Part) : Type 0 where
   pub claim : KnowsClaim p part.claim
@@ -40,3 +50,58 @@ pub is_printing : (tail : tails.Tail) (status : Status) → status ≡ status_of
 is_printing tails.whole status e = inl e
 is_printing (tails.spent next options) status e = inr (inr (inl e))
 is_printing (tails.past node nonbasic place) status e = inr (inl e)
+
+-- ---- what is found, by claim, tree and tail
+
+not_infeasible : (best : Option Network) → claim_with best ≡ infeasible → ⊥
+not_infeasible None e = absurd cc
+not_infeasible (Some w) e = absurd cc
+
+-- the network of the answer costs no more than the one that was known
+abbrev pub IsNoDearer : Option Network → Found → Type 0
+IsNoDearer None f = Unit {0}
+IsNoDearer (Some w) f = IsAgainst (Some w) f
+
+solved_no_dearer : (known : Option Network) (w : Network) (tree : Tree) → IsNoDearer known (found.Solved w tree) → NoDearer known (network w)
+solved_no_dearer None w tree h = tt
+solved_no_dearer (Some k) w tree h = h
+
+infeasible_no_dearer : (known : Option Network) (tree : Tree) → IsNoDearer known (found.Infeasible tree) → NoDearer known infeasible
+infeasible_no_dearer None tree h = tt
+infeasible_no_dearer (Some k) tree h = h
+
+spent_no_dearer : (known best : Option Network) (tree : Tree) (next options : ℕ) → IsNoDearer known (found.Spent best tree next options) → NoDearer known (claim_with best)
+spent_no_dearer None best tree next options h = tt
+spent_no_dearer (Some k) None tree next options h = h
+spent_no_dearer (Some k) (Some w) tree next options h = h
+
+past_no_dearer : (known best : Option Network) (tree : Tree) (node : ℕ) (nonbasic : List Column) (place : Place) → IsNoDearer known (found.Past best tree node nonbasic place) → NoDearer known (claim_with best)
+past_no_dearer None best tree node nonbasic place h = tt
+past_no_dearer (Some k) None tree node nonbasic place h = h
+past_no_dearer (Some k) (Some w) tree node nonbasic place h = h
+
+module _ (budget : ℕ) (known : Option Network) (inside outside : List ℕ) (p : Problem) (s : Status) (lines : List (List ℕ)) where
+  abbrev Told : Part → Type 0
+  Told part = (s ≡ status_of part.tail) × (lines ≡ spelled (part_text_lines p part))
+
+  abbrev start : Node
+  start = record { inside = has inside; outside = has outside }
+
+  made : (c : Certificate) → HoldsFrom start budget p c.claim c.tree c.tail → NoDearer known c.claim
+      → (part : Part) → Some (part_from inside outside c) ≡ Some part → Told part → PartSays budget known inside outside p s lines
+  made c holds no_dearer part e told =
+      let said : Told (part_from inside outside c) = some_is Told part (part_from inside outside c) (sym e) told in
+      record { found = c; holds = holds; no_dearer = no_dearer; status_is = said.0; text = said.1 }
+
+  pub part_says : (f : Found) → IsFound p start budget f → IsNoDearer known f → FoundSays p inside outside f s lines → PartSays budget known inside outside p s lines
+  part_says (found.Solved w tree) h against said =
+      made (record { claim = network w; tree = tree; tail = tails.whole }) h (solved_no_dearer known w tree against) said.0 said.1 said.2
+  part_says (found.Infeasible tree) h against said =
+      made (record { claim = infeasible; tree = tree; tail = tails.whole }) h (infeasible_no_dearer known tree against) said.0 said.1 said.2
+  part_says (found.Spent best tree next options) h against said =
+      made (record { claim = claim_with best; tree = tree; tail = tails.spent next options }) (record { stopped = h.0; not_infeasible = not_infeasible best }, h.1, h.2)
+      (spent_no_dearer known best tree next options against) said.0 said.1 said.2
+  part_says (found.Past best tree node nonbasic place) h against said =
+      made (record { claim = claim_with best; tree = tree; tail = tails.past node nonbasic place }) (record { stopped = h.0; not_infeasible = not_infeasible best }, h.1)
+      (past_no_dearer known best tree node nonbasic place against) said.0 said.1 said.2
+  part_says found.Memory h against said = absurd cc

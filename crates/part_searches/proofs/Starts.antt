@@ -7,7 +7,7 @@ use Rattle.pns_rules.specs.Ends.{IsSound}
 use Rattle.tree_rules.specs.Known.{AreUnits}
 use Rattle.pns_rules.specs.Tokens.{token_of}
 use Rattle.part_text.proofs.Tokens.{one_set, wider}
-use Rattle.part_searches.specs.Start.{IsStart}
+use Rattle.studio_rules.specs.Start.{IsStart}
 
 module _ (p : Problem) (word other : List ℕ) (few : length p.units ≤ 128) where
   pub not_sound : (taken left : List ℕ) → AreUnits p taken → AreUnits p left → word ≡ token_of taken → other ≡ token_of left

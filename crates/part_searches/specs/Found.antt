@@ -1,18 +1,14 @@
 -- The part that a search found, and its text.
 use Rattle.std.specs.Prelude.{◌≡◌, ℕ, List, Option, Some, option_map}
 use Rattle.problem_rules.specs.Problem.{Problem}
-use Rattle.tree_text_rules.specs.Read.{Certificate}
 use Rattle.part_rules.specs.Part.{Part}
 use Rattle.part_rules.specs.Spelling.{part_text_lines}
+use Rattle.studio_rules.specs.Part.{part_from}
 use Rattle.abb_search.specs.declared.outcome.Found.{Found}
-use Rattle.searches.specs.Solve.{status_of}
+use Rattle.studio_rules.specs.Solve.{status_of}
 use Rattle.searches.specs.Found.{certificate_of}
-use Rattle.endings.specs.Printed.{spelled}
-use Rattle.endings.specs.declared.status.Status.{Status}
-
--- what is claimed, the tree, and where the search stopped, from the node where it began
-abbrev pub part_from : List ℕ → List ℕ → Certificate → Part
-part_from inside outside c = record { inside = inside; outside = outside; claim = c.claim; tree = c.tree; tail = c.tail }
+use Rattle.studio_rules.specs.Printed.{spelled}
+use Rattle.studio_rules.specs.declared.status.Status.{Status}
 
 abbrev pub part_of : List ℕ → List ℕ → Found → Option Part
 part_of inside outside found = option_map (part_from inside outside) (certificate_of found)

@@ -1,3 +1,1 @@
 pub mod Found
-pub mod Part
-pub mod Start

@@ -6,19 +6,19 @@ ghost use Rattle.tree_rules.specs.Known.{KnowsClaim, KnowsTree, KnowsTail};
 ghost use Rattle.part_rules.specs.Part.{IsApart};
 ghost use Rattle.part_rules.specs.Spelling.{part_text_lines};
 ghost use Rattle.abb_search.specs.Found.{IsFound};
-ghost use Rattle.searches.specs.Solve.{status_of};
+ghost use Rattle.studio_rules.specs.Solve.{status_of};
 ghost use Rattle.part_searches.specs.Found.{FoundSays, part_of};
-ghost use Rattle.endings.specs.Printed.{OneAnswer};
-ghost use Rattle.endings.specs.Ending.{Ends, Tells};
+ghost use Rattle.studio_rules.specs.Printed.{OneAnswer};
+ghost use Rattle.studio_rules.specs.Ending.{Ends, Tells};
 
 use abb_search::Found;
-use endings::Status;
 use endings::say::{say_memory, say_printed};
 use part_text::print_part;
 use pns_io::Sink;
 use pns_problem::Problem;
 use searches::{certificate_of, status_of};
 use std::alloc::Global;
+use studio_rules::Status;
 use tree_parts::Part;
 use unit_sets::Node;
 

@@ -7,23 +7,23 @@ ghost use Rattle.pgraph.specs.Tables.{shape};
 ghost use Rattle.pgraph.specs.View.{node_of};
 ghost use Rattle.tree_rules.specs.Claim.{IsFeasible};
 ghost use Rattle.branch_tree.specs.View.{claim_of};
-ghost use Rattle.command_files.specs.Reading.{OnFile};
-ghost use Rattle.command_files.specs.TreeFile.{OnTree};
-ghost use Rattle.part_searches.specs.Part.{PartSays, PartWork, ClaimSays, AgainstWork};
-ghost use Rattle.endings.specs.Ending.{Ends, Says, Tells};
+ghost use Rattle.studio_rules.specs.Reading.{OnFile};
+ghost use Rattle.studio_rules.specs.TreeFile.{OnTree};
+ghost use Rattle.studio_rules.specs.Part.{PartSays, PartWork, ClaimSays, AgainstWork};
+ghost use Rattle.studio_rules.specs.Ending.{Ends, Says, Tells};
 
 use crate::found::say_found;
 use crate::start::start_of;
 use abb_search::{search, search_against};
 use branch_tree::{Claim, Network, Tree};
 use command_files::{problem_of, tree_of};
-use endings::Status;
 use endings::say::{say, say_memory};
 use network_commands::network_of;
 use pgraph::Graph;
 use pns_io::{Shelf, Sink};
 use pns_problem::Problem;
 use std::alloc::Global;
+use studio_rules::Status;
 use unit_sets::Node;
 
 // Searches the structures of the node.

@@ -2,7 +2,7 @@
 ghost use Rattle.std.specs.Prelude.{◌≡◌, ℕ, List, IfSome, IfNone};
 ghost use Rattle.pns_rules.specs.Shape.{shape_of};
 ghost use Rattle.pgraph.specs.Tables.{shape};
-ghost use Rattle.part_searches.specs.Start.{IsStart};
+ghost use Rattle.studio_rules.specs.Start.{IsStart};
 
 use part_text::units_named;
 use pgraph::Graph;

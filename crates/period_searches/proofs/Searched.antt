@@ -16,13 +16,13 @@ use Rattle.abb_search.specs.declared.outcome.Found.TheVariants as found
 use Rattle.abb_search.specs.Found.{IsFound}
 use Rattle.design_rules.specs.Folded.{folded}
 use Rattle.design_laws.specs.Laws.{LeastNetworkIsLeastDesign, NoNetworkIsNoDesign}
-use Rattle.endings.specs.declared.status.Status.{Status}
-use Rattle.endings.specs.declared.status.Status.TheVariants.{Done, Spent, Past}
-use Rattle.searches.specs.Solve.{Solves, SolveWork}
+use Rattle.studio_rules.specs.declared.status.Status.{Status}
+use Rattle.studio_rules.specs.declared.status.Status.TheVariants.{Done, Spent, Past}
+use Rattle.studio_rules.specs.Solve.{Solves, SolveWork}
 use Rattle.searches.specs.Found.{certificate_of, CertificateSays, FoundSays}
 use Rattle.searches.proofs.FoundTexts.{solves, holds}
-use Rattle.period_searches.specs.DesignText.{design_lines}
-use Rattle.period_searches.specs.Periods.{IsLeastText, IsNoneText, PeriodsWork}
+use Rattle.studio_rules.specs.DesignText.{design_lines}
+use Rattle.studio_rules.specs.Periods.{IsLeastText, IsNoneText, PeriodsWork}
 
 some_is : {A : Type 0} (P : A → Type 0) (a b : A) → Some a ≡ Some b → P a → P b
 some_is P a b e h = subst P (let e' : a ≡ b = cc in e') h

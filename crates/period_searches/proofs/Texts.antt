@@ -6,8 +6,8 @@ use Rattle.std.proofs.lemmas.Grind.{flat_map-append}
 use Rattle.std.proofs.lemmas.List.{drop_all}
 use Rattle.problem_rules.specs.Problem.{Problem}
 use Rattle.design_rules.specs.Folded.{Run, Written}
-use Rattle.endings.specs.Lines.{line, text_of}
-use Rattle.period_searches.specs.DesignText.{spaced_units, spaced_numbers, built_lines, run_lines, runs_lines, design_lines}
+use Rattle.studio_rules.specs.Lines.{line, text_of}
+use Rattle.studio_rules.specs.DesignText.{spaced_units, spaced_numbers, built_lines, run_lines, runs_lines, design_lines}
 
 rest_from : {A : Type 0} (xs : List A) (i : ℕ) (x : A) → i < length xs → x ≡ get_or xs i x → drop i xs ≡ x ∷ drop (i + 1) xs
 rest_from {A} xs i x lt is =

@@ -1,8 +1,8 @@
 //! The text of a design.
 ghost use Rattle.std.specs.Prelude.{◌≡◌, ◌≤◌, ◌<◌, ◌+◌, ◌++◌, ◌∷◌, [], IfOk, OnOk, codes, decimal, length, string_bytes};
 ghost use Rattle.std.specs.Fmt.{signed_decimal};
-ghost use Rattle.endings.specs.Lines.{text_of};
-ghost use Rattle.period_searches.specs.DesignText.{spaced_units, spaced_numbers, built_lines, run_lines, runs_lines, design_lines};
+ghost use Rattle.studio_rules.specs.Lines.{text_of};
+ghost use Rattle.studio_rules.specs.DesignText.{spaced_units, spaced_numbers, built_lines, run_lines, runs_lines, design_lines};
 
 use designs::{Design, Run};
 use endings::line::push_unit_names;

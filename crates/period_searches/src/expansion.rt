@@ -4,18 +4,18 @@ ghost use Rattle.text_rules.specs.Outside.{HasRisen};
 ghost use Rattle.text_rules.specs.Canonical.{canonical};
 ghost use Rattle.plan_rules.specs.Expanded.{expanded};
 ghost use Rattle.plan_rules.specs.Plan.{IsPlan};
-ghost use Rattle.command_files.specs.Reading.{OnFile};
-ghost use Rattle.command_files.specs.Plan.{OnPlan};
-ghost use Rattle.period_searches.specs.Expand.{ExpandWork};
-ghost use Rattle.endings.specs.Ending.{Ends, Says};
+ghost use Rattle.studio_rules.specs.Reading.{OnFile};
+ghost use Rattle.studio_rules.specs.Plan.{OnPlan};
+ghost use Rattle.studio_rules.specs.Expand.{ExpandWork};
+ghost use Rattle.studio_rules.specs.Ending.{Ends, Says};
 
 use command_files::{plan_of, problem_of};
-use endings::Status;
 use endings::say::say_made;
 use periods::Plan;
 use pns_io::{Shelf, Sink};
 use pns_problem::Problem;
 use std::alloc::{AllocError, Global};
+use studio_rules::Status;
 
 /// The canonical text of the expanded problem.
 fn expanded_text(alloc: Global, problem: &Problem, plan: &Plan) -> Result<Vec<u8>, AllocError>

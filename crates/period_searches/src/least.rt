@@ -5,17 +5,16 @@ ghost use Rattle.plan_rules.specs.Expanded.{expanded};
 ghost use Rattle.plan_rules.specs.Plan.{IsPlan};
 ghost use Rattle.tree_rules.specs.Claim.{IsFeasible};
 ghost use Rattle.design_rules.specs.Folded.{folded};
-ghost use Rattle.endings.specs.Lines.{text_of};
-ghost use Rattle.endings.specs.Ending.{Ends, Tells};
-ghost use Rattle.period_searches.specs.DesignText.{design_lines};
-ghost use Rattle.period_searches.specs.Periods.{PeriodsWork};
+ghost use Rattle.studio_rules.specs.Lines.{text_of};
+ghost use Rattle.studio_rules.specs.Ending.{Ends, Tells};
+ghost use Rattle.studio_rules.specs.DesignText.{design_lines};
+ghost use Rattle.studio_rules.specs.Periods.{PeriodsWork};
 
 use crate::design_text::design_text;
 use abb_search::Found;
 use branch_tree::Network;
 use design_laws::{least_network_is_least_design, no_network_is_no_design};
 use designs::fold;
-use endings::Status;
 use endings::say::{say, say_made, say_memory};
 use periods::{Plan, expand};
 use pgraph::Graph;
@@ -24,6 +23,7 @@ use pns_io::Sink;
 use pns_problem::Problem;
 use searches::{say_found, search_all};
 use std::alloc::{AllocError, Global};
+use studio_rules::Status;
 use tree_laws::accepted_is_optimal;
 
 /// The text of the design that the network stands for.

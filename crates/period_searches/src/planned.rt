@@ -1,17 +1,17 @@
 //! The command `periods`.
 ghost use Rattle.std.specs.Prelude.{◌≡◌, ◌⊎◌, ◌≤◌};
 ghost use Rattle.text_rules.specs.Outside.{HasRisen};
-ghost use Rattle.command_files.specs.Reading.{OnFile};
-ghost use Rattle.command_files.specs.Plan.{OnPlan};
-ghost use Rattle.endings.specs.Ending.{Ends, Says};
-ghost use Rattle.period_searches.specs.Periods.{PeriodsWork};
+ghost use Rattle.studio_rules.specs.Reading.{OnFile};
+ghost use Rattle.studio_rules.specs.Plan.{OnPlan};
+ghost use Rattle.studio_rules.specs.Ending.{Ends, Says};
+ghost use Rattle.studio_rules.specs.Periods.{PeriodsWork};
 
 use crate::least::say_least;
 use command_files::{plan_of, problem_of};
-use endings::Status;
 use pns_io::{Shelf, Sink};
 use pns_problem::Problem;
 use std::alloc::Global;
+use studio_rules::Status;
 
 fn say_planned<F: Shelf, K: Sink>(
     alloc: Global,

@@ -7,7 +7,7 @@ use std::env;
 use std::io::ErrorKind;
 use std::process::ExitCode;
 use std::rt::Env;
-use studio::{Status, studio};
+use studio::{Status, code_of, studio};
 
 /// The number with which the program ends where its words cannot be gathered, for another cause than want of memory.
 /// No call of the studio ends so.
@@ -20,7 +20,7 @@ const WORD_LIMIT: usize = 4_294_967_295;
 fn words_of<R: Env + Alloc<A = Global>>(rt: &R) -> Result<Vec<String>, u8> {
     let args = match env::args(rt) {
         Ok(args) => args,
-        Err(error) if error.kind() == ErrorKind::OutOfMemory => return Err(Status::Memory.code()),
+        Err(error) if error.kind() == ErrorKind::OutOfMemory => return Err(code_of(Status::Memory)),
         Err(_) => return Err(NO_WORDS),
     };
     let mut words = Vec::new(rt.alloc());
@@ -29,7 +29,7 @@ fn words_of<R: Env + Alloc<A = Global>>(rt: &R) -> Result<Vec<String>, u8> {
             return Err(NO_WORDS);
         }
         if words.push(word).is_err() {
-            return Err(Status::Memory.code());
+            return Err(code_of(Status::Memory));
         }
     }
     Ok(words)
@@ -42,5 +42,6 @@ fn main(rt: HostRuntime) -> ExitCode {
     };
     let mut shelf = FileShelf::new(&rt);
     let mut out = OutSink::new(&rt);
-    ExitCode::from(studio(rt.alloc(), &words, &mut shelf, &mut out).code())
+    let status = studio(rt.alloc(), &words, &mut shelf, &mut out);
+    ExitCode::from(code_of(status))
 }

@@ -5,11 +5,11 @@ use Rattle.problem_rules.specs.Validity.{IsValid}
 use Rattle.rank_rules.specs.Ranked.{IsRanked}
 use Rattle.rank_laws.specs.Laws.{ListedAreLeast, OthersCostEnough, OthersHaveNone}
 use Rattle.rank_rules.specs.Text.{Text, ranking_of}
-use Rattle.command_files.specs.Reading.{OnFile}
-use Rattle.endings.specs.Ending.{Shelves, Ends, Says}
-use Rattle.endings.specs.declared.status.Status.{Status}
-use Rattle.endings.specs.declared.status.Status.TheVariants.{Done}
-use Rattle.rank_commands.specs.Rankcheck.{OnRank, AreBest, FilesListBest, AcceptedAreBest}
+use Rattle.studio_rules.specs.Reading.{OnFile}
+use Rattle.studio_rules.specs.Ending.{Shelves, Ends, Says}
+use Rattle.studio_rules.specs.declared.status.Status.{Status}
+use Rattle.studio_rules.specs.declared.status.Status.TheVariants.{Done}
+use Rattle.studio_rules.specs.Rankcheck.{OnRank, AreBest, FilesListBest, AcceptedAreBest}
 
 module _ (listed : ListedAreLeast) (full : OthersCostEnough) (fewer : OthersHaveNone) where
   pub are_best : (p : Problem) → IsValid p → (t : Text) → IsRanked p (ranking_of t) → AreBest p t.count t.networks

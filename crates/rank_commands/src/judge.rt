@@ -1,17 +1,16 @@
 //! The command `rankcheck`.
 ghost use Rattle.std.specs.Prelude.{◌≡◌, ◌<◌, ◌^◌, ◌⊎◌, IfOk, length, string_bytes};
 ghost use Rattle.text_rules.specs.Outside.{HasRisen};
-ghost use Rattle.endings.specs.Lines.{line};
-ghost use Rattle.rank_commands.specs.Words.{network_line, rank_node_line};
-ghost use Rattle.command_files.specs.Reading.{OnFile};
-ghost use Rattle.rank_commands.specs.Rankcheck.{RankcheckWork, OnRank, FilesListBest, AcceptedAreBest};
-ghost use Rattle.endings.specs.Ending.{Ends, Says, Tells, Only, OrMemory};
-ghost use Rattle.endings.specs.declared.status.Status.TheVariants.{Done, Refused};
+ghost use Rattle.studio_rules.specs.Lines.{line};
+ghost use Rattle.studio_rules.specs.RankWords.{network_line, rank_node_line};
+ghost use Rattle.studio_rules.specs.Reading.{OnFile};
+ghost use Rattle.studio_rules.specs.Rankcheck.{RankcheckWork, OnRank, FilesListBest, AcceptedAreBest};
+ghost use Rattle.studio_rules.specs.Ending.{Ends, Says, Tells, Only, OrMemory};
+ghost use Rattle.studio_rules.specs.declared.status.Status.TheVariants.{Done, Refused};
 
 use crate::rank_file::rank_of;
 use crate::words::rank_why_word;
 use command_files::problem_of;
-use endings::Status;
 use endings::say::{say, say_memory};
 use pgraph::Graph;
 use pns_io::{Shelf, Sink};
@@ -21,6 +20,7 @@ use rank_laws::{listed_are_least, others_are_no_better};
 use rank_rules::RankWhy;
 use ranked_tree::RankText;
 use std::alloc::{AllocError, Global};
+use studio_rules::Status;
 
 fn network_line(alloc: Global, number: u32, why: RankWhy) -> Result<String, AllocError>
     ensures { IfOk result (λ text. string_bytes text ≡ line (network_line number why)) }

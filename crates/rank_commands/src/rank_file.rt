@@ -1,22 +1,22 @@
 //! A file that has a ranking: it is read and judged by its grammar.
 ghost use Rattle.std.specs.Prelude.{◌≡◌, ◌≤◌, ◌<◌, ◌^◌, ℕ, List, IfOk, IfErr, OnOk, length, string_bytes};
 ghost use Rattle.text_rules.specs.Outside.{HasRisen};
-ghost use Rattle.endings.specs.Lines.{line};
+ghost use Rattle.studio_rules.specs.Lines.{line};
 ghost use Rattle.rank_text.specs.Known.{KnowsText};
-ghost use Rattle.command_files.specs.Reading.{AreHeld};
-ghost use Rattle.command_files.specs.TreeFile.{tree_fault_line};
-ghost use Rattle.rank_commands.specs.Rankcheck.{GivesRanking, RankFaults};
-ghost use Rattle.endings.specs.Ending.{Ends, Says, Only, OrMemory};
-ghost use Rattle.endings.specs.declared.status.Status.TheVariants.{BadTree};
+ghost use Rattle.studio_rules.specs.Reading.{AreHeld};
+ghost use Rattle.studio_rules.specs.TreeFile.{tree_fault_line};
+ghost use Rattle.studio_rules.specs.Rankcheck.{GivesRanking, RankFaults};
+ghost use Rattle.studio_rules.specs.Ending.{Ends, Says, Only, OrMemory};
+ghost use Rattle.studio_rules.specs.declared.status.Status.TheVariants.{BadTree};
 
 use command_files::{bytes_of, tree_kind_word};
-use endings::Status;
 use endings::say::{say, say_memory};
 use pns_io::{Shelf, Sink};
 use pns_problem::Problem;
 use rank_text::read_rank;
 use ranked_tree::RankText;
 use std::alloc::{AllocError, Global};
+use studio_rules::Status;
 use tree_reading::TreeFault;
 use tree_text_rules::TreeKind;
 

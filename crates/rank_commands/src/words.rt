@@ -1,6 +1,6 @@
 //! The words of causes.
 ghost use Rattle.std.specs.Prelude.{◌≡◌};
-ghost use Rattle.rank_commands.specs.Words.{rank_why_word};
+ghost use Rattle.studio_rules.specs.RankWords.{rank_why_word};
 
 use rank_rules::RankWhy;
 use refusal_words::why_word;

@@ -30,14 +30,14 @@ use Rattle.rank_search.specs.declared.outcome.Ranked.TheVariants as found
 use Rattle.rank_search.specs.Ranked.{IsRankingFor, IsRankedTo}
 use Rattle.rank_commands.proofs.Best.{are_best}
 use Rattle.tree_rules.specs.Past.{IsPastAt}
-use Rattle.searches.specs.Solve.{status_of}
+use Rattle.studio_rules.specs.Solve.{status_of}
 use Rattle.searches.proofs.Counted.{tree_counted}
-use Rattle.endings.specs.Lines.{text_of}
-use Rattle.endings.specs.Printed.{spelled, OneAnswer}
-use Rattle.endings.specs.declared.status.Status.{Status}
+use Rattle.studio_rules.specs.Lines.{text_of}
+use Rattle.studio_rules.specs.Printed.{spelled, OneAnswer}
+use Rattle.studio_rules.specs.declared.status.Status.{Status}
 use Rattle.endings.proofs.Printing.{spelled_text}
 use Rattle.rank_searches.specs.Normal.{normal, marks_for, IsMarkInRange}
-use Rattle.rank_searches.specs.Rank.{AreTextOf, Lists, Ranks, Holds, RankWork}
+use Rattle.studio_rules.specs.Rank.{AreTextOf, Lists, Ranks, Holds, RankWork}
 use Rattle.rank_searches.specs.Found.{ranking_found, RankingSays, FoundSays}
 use Rattle.rank_searches.proofs.Marks.{marks_for_length, same_tree, marks_for_fit}
 

@@ -4,10 +4,10 @@ use Rattle.problem_rules.specs.Problem.{Problem}
 use Rattle.rank_rules.specs.Text.{Text}
 use Rattle.rank_search.specs.declared.outcome.Ranked.{Ranked}
 use Rattle.rank_search.specs.declared.outcome.Ranked.TheVariants.{Whole, Spent, Past, Memory}
-use Rattle.searches.specs.Solve.{status_of}
+use Rattle.studio_rules.specs.Solve.{status_of}
 use Rattle.rank_searches.specs.Normal.{normal}
-use Rattle.rank_searches.specs.Rank.{AreTextOf}
-use Rattle.endings.specs.declared.status.Status.{Status}
+use Rattle.studio_rules.specs.Rank.{AreTextOf}
+use Rattle.studio_rules.specs.declared.status.Status.{Status}
 
 -- the ranking that is found
 abbrev pub ranking_found : Ranked → Option Text

@@ -1,19 +1,19 @@
 //! The command `rank`.
 ghost use Rattle.std.specs.Prelude.{◌≡◌, ◌≤◌};
 ghost use Rattle.text_rules.specs.Outside.{HasRisen};
-ghost use Rattle.rank_searches.specs.Rank.{RankWork};
-ghost use Rattle.command_files.specs.Reading.{OnFile};
-ghost use Rattle.endings.specs.Ending.{Ends, Says, Tells};
+ghost use Rattle.studio_rules.specs.Rank.{RankWork};
+ghost use Rattle.studio_rules.specs.Reading.{OnFile};
+ghost use Rattle.studio_rules.specs.Ending.{Ends, Says, Tells};
 
 use crate::ranking::say_found;
 use command_files::problem_of;
-use endings::Status;
 use endings::say::say_memory;
 use pgraph::Graph;
 use pns_io::{Shelf, Sink};
 use pns_problem::Problem;
 use rank_laws::{listed_are_least, others_are_no_better};
 use std::alloc::Global;
+use studio_rules::Status;
 
 // Says the best networks of the problem with the tree that proves it, or how far the search came.
 fn say_ranked<K: Sink>(

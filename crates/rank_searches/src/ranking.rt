@@ -10,10 +10,9 @@ ghost use Rattle.rank_rules.specs.Spelling.{rank_text};
 ghost use Rattle.rank_search.specs.Ranked.{IsRankedTo};
 ghost use Rattle.rank_searches.specs.Normal.{normal, IsMarkInRange};
 ghost use Rattle.rank_searches.specs.Found.{ranking_found, RankingSays, FoundSays};
-ghost use Rattle.endings.specs.Ending.{Ends, Tells};
+ghost use Rattle.studio_rules.specs.Ending.{Ends, Tells};
 
 use branch_tree::Network;
-use endings::Status;
 use endings::say::{say_memory, say_printed};
 use pns_io::Sink;
 use pns_problem::Problem;
@@ -22,6 +21,7 @@ use rank_text::{print_rank, spelled_ranks_read};
 use ranked_tree::{Mark, RankText};
 use searches::{status_of, tail_is_counted};
 use std::alloc::Global;
+use studio_rules::Status;
 
 /// The ranking that was found; `None` exactly for want of memory.
 fn ranking_found(ranked: Ranked) -> Option<RankText>

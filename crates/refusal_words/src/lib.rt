@@ -1,6 +1,6 @@
 //! The words by which it is told why a claim, or a node of a tree, is refused.
 //!
-//! `specs/Words` has the word of each cause, and the lines of a refused claim and of a refused node; `say_node` says the latter.
+//! `RefusalWords` of `studio_rules` has the word of each cause, and the lines of a refused claim and of a refused node; `say_node` says the latter.
 #![tactic(auto)]
 
 mod words;

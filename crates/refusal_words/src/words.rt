@@ -1,15 +1,15 @@
 //! The words of causes, and the line of a node that is refused.
 ghost use Rattle.std.specs.Prelude.{◌≡◌, IfOk, string_bytes};
 ghost use Rattle.text_rules.specs.Outside.{HasRisen};
-ghost use Rattle.endings.specs.Lines.{line};
-ghost use Rattle.endings.specs.Ending.{Ends, Only, OrMemory};
-ghost use Rattle.endings.specs.declared.status.Status.TheVariants.{Refused};
-ghost use Rattle.refusal_words.specs.Words.{why_word, node_line};
+ghost use Rattle.studio_rules.specs.Lines.{line};
+ghost use Rattle.studio_rules.specs.Ending.{Ends, Only, OrMemory};
+ghost use Rattle.studio_rules.specs.declared.status.Status.TheVariants.{Refused};
+ghost use Rattle.studio_rules.specs.RefusalWords.{why_word, node_line};
 
-use endings::Status;
 use endings::say::{say, say_memory};
 use pns_io::Sink;
 use std::alloc::{AllocError, Global};
+use studio_rules::Status;
 use tree_rules::Why;
 
 /// The word by which a cause is told.

@@ -17,14 +17,14 @@ use Rattle.abb_search.specs.declared.outcome.Found.{Found}
 use Rattle.abb_search.specs.declared.outcome.Found.TheVariants as found
 use Rattle.abb_search.specs.Found.{IsFound}
 use Rattle.tree_rules.specs.Proved.{IsProved}
-use Rattle.endings.specs.Ending.{IsOneOf}
-use Rattle.endings.specs.Lines.{text_of}
-use Rattle.endings.specs.Printed.{spelled, OneAnswer}
-use Rattle.endings.specs.declared.status.Status.{Status}
-use Rattle.endings.specs.declared.status.Status.TheVariants.{Done, Spent, Past}
+use Rattle.studio_rules.specs.Ending.{IsOneOf}
+use Rattle.studio_rules.specs.Lines.{text_of}
+use Rattle.studio_rules.specs.Printed.{spelled, OneAnswer}
+use Rattle.studio_rules.specs.declared.status.Status.{Status}
+use Rattle.studio_rules.specs.declared.status.Status.TheVariants.{Done, Spent, Past}
 use Rattle.endings.proofs.Printing.{spelled_text}
-use Rattle.searches.specs.Solve.{AreTextOf, Solves, Holds, status_of, SolveWork}
-use Rattle.searches.specs.Summary.{SummaryWork}
+use Rattle.studio_rules.specs.Solve.{AreTextOf, Solves, Holds, status_of, SolveWork}
+use Rattle.studio_rules.specs.Summary.{SummaryWork}
 use Rattle.searches.specs.Found.{certificate_of, CertificateSays, FoundSays}
 
 -- nothing is decided at the first node

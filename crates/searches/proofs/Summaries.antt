@@ -8,8 +8,8 @@ use Rattle.problem_rules.specs.Problem.{Problem, unit_names}
 use Rattle.pns_rules.specs.Shape.{Shape, shape_of}
 use Rattle.pns_rules.specs.Structure.{Meets, IsStructure, IsBetween, IsUnion, mats}
 use Rattle.tree_rules.specs.Claim.{Network}
-use Rattle.endings.specs.Lines.{text_of, spaced_names, names_in}
-use Rattle.searches.specs.Summary.{CountsMaximal, summary_lines}
+use Rattle.studio_rules.specs.Lines.{text_of, spaced_names, names_in}
+use Rattle.studio_rules.specs.Summary.{CountsMaximal, summary_lines}
 
 regrouped : (u a f m b n names k c d v e : List ℕ) → ((u ++ (a ++ ((f ++ m) ++ (b ++ (f ++ n))))) ++ names) ++ ((f ++ k) ++ (c ++ (d ++ ((f ++ v) ++ (e ++ f))))) ≡ ((u ++ a) ++ f) ++ (((m ++ b) ++ f) ++ (((n ++ names) ++ f) ++ ((((k ++ c) ++ d) ++ f) ++ (((v ++ e) ++ f) ++ []))))
 regrouped u a f m b n names k c d v e = simp (append_assoc, append-nil)

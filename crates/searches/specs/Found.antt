@@ -7,8 +7,8 @@ use Rattle.tree_text_rules.specs.Read.{Certificate}
 use Rattle.node_evaluation.specs.Children.{claim_with}
 use Rattle.abb_search.specs.declared.outcome.Found.{Found}
 use Rattle.abb_search.specs.declared.outcome.Found.TheVariants.{Solved, Infeasible, Spent, Past, Memory}
-use Rattle.searches.specs.Solve.{AreTextOf, status_of}
-use Rattle.endings.specs.declared.status.Status.{Status}
+use Rattle.studio_rules.specs.Solve.{AreTextOf, status_of}
+use Rattle.studio_rules.specs.declared.status.Status.{Status}
 
 -- the claim, the tree and the tail that are found
 abbrev pub certificate_of : Found → Option Certificate

@@ -1,4 +1,1 @@
 pub mod Found
-pub mod Solve
-pub mod Summary
-pub mod Trial

@@ -11,19 +11,19 @@ ghost use Rattle.tree_text_laws.specs.Fits.{CountsTail, KeepsClaim};
 ghost use Rattle.tree_text_laws.specs.LineFits.{CountsPlace};
 ghost use Rattle.node_evaluation.specs.Children.{claim_with};
 ghost use Rattle.abb_search.specs.Found.{IsFound};
-ghost use Rattle.endings.specs.Ending.{Ends, Tells};
-ghost use Rattle.searches.specs.Solve.{status_of};
+ghost use Rattle.studio_rules.specs.Ending.{Ends, Tells};
+ghost use Rattle.studio_rules.specs.Solve.{status_of};
 ghost use Rattle.searches.specs.Found.{certificate_of, CertificateSays, FoundSays};
 
 use abb_search::Found;
 use branch_tree::{Claim, Network, Tail, Tree};
-use endings::Status;
 use endings::say::{say_memory, say_printed};
 use flow_rules::Place;
 use pns_io::Sink;
 use pns_problem::Problem;
 use std::alloc::Global;
 use std::marker::Model;
+use studio_rules::Status;
 use tree_text::{PrintFault, print_tree};
 use tree_text_laws::spelled_texts_read;
 

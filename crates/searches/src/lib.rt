@@ -1,7 +1,7 @@
 //! The commands that search all structures of a problem: `solve` and `trial`.
 //!
 //! [`solve::solve`] prints a claim, the tree that proves it and where the search stopped, for the problem of a file; [`trial::trial`]
-//! a summary in the place of a proved network, for a problem out of numbers. `specs/Solve`, `specs/Summary` and `specs/Trial` say
+//! a summary in the place of a proved network, for a problem out of numbers. `Solve`, `Summary` and `Trial` of `studio_rules` say
 //! what the lines are with which status.
 //!
 //! [`search_all`] searches a problem, and [`say_found`] prints what was found, for the commands that search.

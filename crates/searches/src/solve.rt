@@ -5,19 +5,19 @@ ghost use Rattle.pns_rules.specs.Shape.{shape_of};
 ghost use Rattle.pgraph.specs.Tables.{shape};
 ghost use Rattle.tree_rules.specs.Accepted.{first_node};
 ghost use Rattle.abb_search.specs.Found.{IsFound};
-ghost use Rattle.searches.specs.Solve.{SolveWork};
-ghost use Rattle.command_files.specs.Reading.{OnFile};
-ghost use Rattle.endings.specs.Ending.{Ends, Says, Tells};
+ghost use Rattle.studio_rules.specs.Solve.{SolveWork};
+ghost use Rattle.studio_rules.specs.Reading.{OnFile};
+ghost use Rattle.studio_rules.specs.Ending.{Ends, Says, Tells};
 
 use crate::certificate::say_found;
 use abb_search::{Found, search};
 use command_files::problem_of;
-use endings::Status;
 use endings::say::say_memory;
 use pgraph::Graph;
 use pns_io::{Shelf, Sink};
 use pns_problem::Problem;
 use std::alloc::Global;
+use studio_rules::Status;
 use tree_laws::accepted_is_optimal;
 use unit_sets::{Node, UnitSet};
 

@@ -6,16 +6,15 @@ ghost use Rattle.pns_rules.specs.Shape.{shape_of};
 ghost use Rattle.pns_rules.specs.Structure.{IsStructure};
 ghost use Rattle.pgraph.specs.Tables.{shape};
 ghost use Rattle.tree_rules.specs.Claim as claims;
-ghost use Rattle.searches.specs.Solve.{Solves};
-ghost use Rattle.searches.specs.Summary.{CountsMaximal, SummarySays, SummaryWork, summary_lines};
-ghost use Rattle.endings.specs.Lines.{text_of};
-ghost use Rattle.endings.specs.Ending.{Ends, Tells};
+ghost use Rattle.studio_rules.specs.Solve.{Solves};
+ghost use Rattle.studio_rules.specs.Summary.{CountsMaximal, SummarySays, SummaryWork, summary_lines};
+ghost use Rattle.studio_rules.specs.Lines.{text_of};
+ghost use Rattle.studio_rules.specs.Ending.{Ends, Tells};
 
 use crate::certificate::say_found;
 use crate::solve::search_all;
 use abb_search::Found;
 use branch_tree::{Network, Tree};
-use endings::Status;
 use endings::line::push_unit_names;
 use endings::say::{say_made, say_memory};
 use max_structure::maximal;
@@ -23,6 +22,7 @@ use pgraph::Graph;
 use pns_io::Sink;
 use pns_problem::Problem;
 use std::alloc::{AllocError, Global};
+use studio_rules::Status;
 use tree_laws::accepted_is_optimal;
 use unit_sets::UnitSet;
 

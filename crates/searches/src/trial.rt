@@ -1,15 +1,15 @@
 //! The command `trial`.
 ghost use Rattle.std.specs.Prelude.{◌≤◌};
 ghost use Rattle.text_rules.specs.Outside.{HasRisen};
-ghost use Rattle.searches.specs.Trial.{TrialWork};
-ghost use Rattle.endings.specs.Ending.{Ends, Tells};
+ghost use Rattle.studio_rules.specs.Trial.{TrialWork};
+ghost use Rattle.studio_rules.specs.Ending.{Ends, Tells};
 
 use crate::summary::say_summed;
-use endings::Status;
 use endings::say::say_memory;
 use generator::generate;
 use pns_io::Sink;
 use std::alloc::Global;
+use studio_rules::Status;
 
 /// Says what the search of the problem of this number with so many operating units, 1 to 128, comes to.
 pub fn trial<K: Sink>(alloc: Global, number: u64, units: u64, budget: u64, out: &mut K) -> Status

@@ -11,7 +11,7 @@ use Rattle.stability_rules.specs.declared.spot.Spot.TheVariants as spots
 use Rattle.stability_rules.specs.declared.spot.SpotKind.{SpotKind}
 use Rattle.stability_rules.specs.declared.spot.SpotKind.TheVariants.{Price, Fix, Proportional}
 use Rattle.stability_rules.specs.Spot.{KnowsSpot}
-use Rattle.stability_commands.specs.Stable.{spot_named}
+use Rattle.studio_rules.specs.Stable.{spot_named}
 
 option_known : (P : Spot → Type 0) (make : ℕ → Spot) (o : Option ℕ) → ((x : ℕ) → o ≡ Some x → P (make x)) → IfSome (option_map make o) P
 option_known P make None h = tt

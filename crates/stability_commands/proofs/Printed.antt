@@ -5,10 +5,10 @@ use Rattle.tree_text.specs.declared.fault.PrintFault.TheVariants as faults
 use Rattle.text_rules.specs.Outside.{HasRisen, AppendsFront}
 use Rattle.tree_text_rules.specs.Line.{Token}
 use Rattle.tree_text.specs.Prints.{Prints}
-use Rattle.endings.specs.Lines.{text_of}
-use Rattle.endings.specs.Printed.{spelled, OneAnswer}
-use Rattle.endings.specs.Ending.{Ends, Tells}
-use Rattle.endings.specs.declared.status.Status.TheVariants.{NotBest, WriteFault}
+use Rattle.studio_rules.specs.Lines.{text_of}
+use Rattle.studio_rules.specs.Printed.{spelled, OneAnswer}
+use Rattle.studio_rules.specs.Ending.{Ends, Tells}
+use Rattle.studio_rules.specs.declared.status.Status.TheVariants.{NotBest, WriteFault}
 use Rattle.endings.proofs.Printing.{spelled_text}
 
 -- the text of a network that is not the best, as of other lines

@@ -14,7 +14,7 @@ use Rattle.tree_text_rules.specs.Spelling.{tree_text, tree_text_lines}
 use Rattle.abb_search.specs.declared.outcome.Found.{Found}
 use Rattle.abb_search.specs.declared.outcome.Found.TheVariants as founds
 use Rattle.abb_search.specs.Found.{IsFound}
-use Rattle.searches.specs.Solve.{status_of, SolveWork}
+use Rattle.studio_rules.specs.Solve.{status_of, SolveWork}
 use Rattle.searches.specs.Found.{certificate_of}
 use Rattle.searches.proofs.FoundTexts.{CanPrint, can_print, found_solves, are_text}
 use Rattle.stability_rules.specs.declared.spot.Spot.{Spot}
@@ -22,10 +22,10 @@ use Rattle.stability_rules.specs.declared.side.Side.{Side}
 use Rattle.stability_rules.specs.Spot.{KnowsSpot, valued, IsAllowedValue}
 use Rattle.stability_rules.specs.Range.{IsCheaper, EndsAt, beyond, IsRange, IsHalfProved, MayWant, IsPastCost}
 use Rattle.stability_laws.specs.Laws.{ShapeStays}
-use Rattle.endings.specs.Printed.{spelled, OneAnswer}
-use Rattle.endings.specs.declared.status.Status.{Status}
-use Rattle.endings.specs.declared.status.Status.TheVariants.{Done, Past, Spent, NotBest}
-use Rattle.stability_commands.specs.Stable.{range_lines, not_best_lines, at_line, past_cost_lines, SpotWork}
+use Rattle.studio_rules.specs.Printed.{spelled, OneAnswer}
+use Rattle.studio_rules.specs.declared.status.Status.{Status}
+use Rattle.studio_rules.specs.declared.status.Status.TheVariants.{Done, Past, Spent, NotBest}
+use Rattle.studio_rules.specs.Stable.{range_lines, not_best_lines, at_line, past_cost_lines, SpotWork}
 use Rattle.stability_commands.specs.Beyond.{KnowsBeyond, StopSays}
 
 -- a network that is feasible with another value in the spot has units of the problem

@@ -5,9 +5,9 @@ use Rattle.problem_rules.specs.Problem.{Problem}
 use Rattle.tree_rules.specs.Claim.{Network}
 use Rattle.abb_search.specs.declared.outcome.Found.{Found}
 use Rattle.searches.specs.Found.{FoundSays}
-use Rattle.endings.specs.Printed.{spelled}
-use Rattle.endings.specs.declared.status.Status.{Status}
-use Rattle.stability_commands.specs.Stable.{at_line}
+use Rattle.studio_rules.specs.Printed.{spelled}
+use Rattle.studio_rules.specs.declared.status.Status.{Status}
+use Rattle.studio_rules.specs.Stable.{at_line}
 
 -- the units of such a network are ones of the problem
 abbrev pub KnowsBeyond : Problem → Option Network → Type 0

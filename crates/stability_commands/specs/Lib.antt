@@ -1,2 +1,1 @@
-pub mod Stable
 pub mod Beyond

@@ -6,7 +6,7 @@ ghost use Rattle.tree_rules.specs.Known.{KnowsClaim, KnowsTree, KnowsTail};
 ghost use Rattle.tree_text_rules.specs.Line.{Token};
 ghost use Rattle.tree_text_rules.specs.Spelling.{line_text, network_lines, tree_text_lines};
 ghost use Rattle.tree_text.specs.Prints.{Prints};
-ghost use Rattle.stability_commands.specs.Stable.{side_word, beyond_lines, end_lines, range_lines, not_best_lines, at_line, past_cost_lines};
+ghost use Rattle.studio_rules.specs.Stable.{side_word, beyond_lines, end_lines, range_lines, not_best_lines, at_line, past_cost_lines};
 ghost use Rattle.stability_commands.specs.Beyond.{KnowsBeyond};
 
 use branch_tree::Network;

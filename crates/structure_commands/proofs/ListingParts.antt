@@ -13,8 +13,8 @@ use Rattle.pns_rules.specs.Listing.{IsListed, IsListing}
 use Rattle.pns_rules.proofs.ListingLemmas.{listing_is_one, listing_resumes}
 use Rattle.pns_rules.specs.Tokens.{token_of}
 use Rattle.structure_list.proofs.TokenLemmas.{token_one}
-use Rattle.structure_commands.specs.Listing.{IsAfter, structure_line, more_line, last_of, last_line, listing_lines, ListingWork}
-use Rattle.endings.specs.declared.status.Status.TheVariants.{Done}
+use Rattle.studio_rules.specs.Listing.{IsAfter, structure_line, more_line, last_of, last_line, listing_lines, ListingWork}
+use Rattle.studio_rules.specs.declared.status.Status.TheVariants.{Done}
 use Rattle.structure_commands.proofs.Listings.{lines_cut}
 use Rattle.structure_commands.proofs.ListingStart.{not_start, set_of}
 

@@ -10,8 +10,9 @@ use Rattle.pgraph.specs.Tables.{Tables, shape}
 use Rattle.pns_rules.specs.Tokens.{token_of}
 use Rattle.structure_list.specs.Rest.{Rest, IsToCome}
 use Rattle.structure_list.proofs.TokenLemmas.{token_one, token_has_form}
-use Rattle.structure_commands.specs.Listing.{IsAfter, IsBadToken, RestSays, ListingWork}
-use Rattle.endings.specs.declared.status.Status.{Status}
+use Rattle.studio_rules.specs.Listing.{IsAfter, IsBadToken, ListingWork}
+use Rattle.structure_commands.specs.Listing.{RestSays}
+use Rattle.studio_rules.specs.declared.status.Status.{Status}
 
 pub not_start : (word s : List ℕ) → word ≡ token_of s → word ≡ codes "start" → ⊥
 not_start word s e h = let five = ap length h in let long = (token_has_form word s e).long in omega (arith, five, long)

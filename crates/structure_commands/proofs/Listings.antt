@@ -9,11 +9,12 @@ use Rattle.std.proofs.Math.Seq.{take-append-add}
 use Rattle.text_rules.specs.Outside.{AppendsFront}
 use Rattle.problem_rules.specs.Problem.{Problem}
 use Rattle.structure_list.specs.Rest.{Rest, IsToCome}
-use Rattle.endings.specs.Lines.{line, text_of}
-use Rattle.structure_commands.specs.Listing.{structure_line, more_line, last_of, last_line, listing_lines, RestSays}
-use Rattle.endings.specs.Ending.{Ends, Tells, Only, OrMemory}
-use Rattle.endings.specs.declared.status.Status.{Status}
-use Rattle.endings.specs.declared.status.Status.TheVariants.{Done, WriteFault, Memory}
+use Rattle.studio_rules.specs.Lines.{line, text_of}
+use Rattle.studio_rules.specs.Listing.{structure_line, more_line, last_of, last_line, listing_lines}
+use Rattle.structure_commands.specs.Listing.{RestSays}
+use Rattle.studio_rules.specs.Ending.{Ends, Tells, Only, OrMemory}
+use Rattle.studio_rules.specs.declared.status.Status.{Status}
+use Rattle.studio_rules.specs.declared.status.Status.TheVariants.{Done, WriteFault, Memory}
 use Rattle.endings.proofs.Ending.{Ends-after, only_in, only_or_memory_in}
 
 pub last_of-push : (ss : List (List ℕ)) (s : List ℕ) → last_of (ss ++ s ∷ []) ≡ s

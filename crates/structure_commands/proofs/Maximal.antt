@@ -4,7 +4,7 @@ use Rattle.std.proofs.lemmas.Bool.{both_ways}
 use Rattle.number_sets.specs.Sets.{has, Avoids}
 use Rattle.pns_rules.specs.Shape.{Shape}
 use Rattle.pns_rules.specs.Structure.{Meets, IsStructure, IsBetween, IsUnion, mats}
-use Rattle.structure_commands.specs.Max.{IsMaximal, HasNoStructure}
+use Rattle.studio_rules.specs.Max.{IsMaximal, HasNoStructure}
 
 pub maximal_from : (g h : Shape) (w s : List ℕ) → g ≡ h → w ≡ [] → IsUnion g (has w) (has s) → IsBetween g (λ _. false) (has w) (has s) → IsMaximal h (has s)
 maximal_from g h w s same none union between = record {

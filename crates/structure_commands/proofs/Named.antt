@@ -8,7 +8,7 @@ use Rattle.std.proofs.lemmas.List.Quantifiers.{position-Some}
 use Rattle.number_sets.specs.Sets.{has, with_number}
 use Rattle.number_sets.proofs.SetLemmas.{has-with_number}
 use Rattle.problem_rules.specs.Problem.{Problem, OperatingUnit, unit_names}
-use Rattle.structure_commands.specs.Axioms.{is_stranger, first_stranger, is_name_of, units_named, number_of}
+use Rattle.studio_rules.specs.Axioms.{is_stranger, first_stranger, is_name_of, units_named, number_of}
 
 module _ (p : Problem) (names : List (List ℕ)) (k : ℕ) (there : k < length names) where
   pub stranger_here : is_stranger p (get_or names k []) ≡ true → first_stranger p (drop k names) ≡ Some (get_or names k [])

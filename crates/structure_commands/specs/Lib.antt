@@ -1,4 +1,2 @@
-pub mod Axioms
 pub mod Listing
 pub mod ListingLaws
-pub mod Max

@@ -1,55 +1,12 @@
--- `list FILE AFTER COUNT`: the allowed solution structures behind AFTER in the order of their traces, at most COUNT of them
--- (solution structure generation of Friedler, Tarjan, Huang and Fan 1992).
-use Rattle.std.specs.Prelude.{◌≡◌, ◌++◌, ℕ, List, [], ◌∷◌, Option, Some, None, codes, length, map, take, nat_lt, if◌then◌else◌}
-use Rattle.number_sets.specs.Sets.{has, IsRising}
-use Rattle.problem_rules.specs.Problem.{Problem, unit_names}
-use Rattle.pns_rules.specs.Shape.{Shape, shape_of}
-use Rattle.pns_rules.specs.Structure.{IsStructure}
-use Rattle.pns_rules.specs.Listing.{IsListing}
-use Rattle.pns_rules.specs.Tokens.{token_of}
+-- The lines of a listing from where the code has come.
+use Rattle.std.specs.Prelude.{◌≡◌, ℕ, List}
+use Rattle.problem_rules.specs.Problem.{Problem}
+use Rattle.studio_rules.specs.Listing.{listing_lines}
 use Rattle.structure_list.specs.Rest.{Rest, IsToCome}
-use Rattle.endings.specs.Lines.{spaced_names, names_in}
-use Rattle.endings.specs.declared.status.Status.{Status}
-use Rattle.endings.specs.declared.status.Status.TheVariants.{Done, BadToken}
-
--- where the listing begins: at its head for `start`, else behind the solution structure, allowed or not, of the token
-abbrev pub IsAfter : Shape → List ℕ → Option (List ℕ) → Type 0
-IsAfter g word None = word ≡ codes "start"
-IsAfter g word (Some s) = IsRising s × IsStructure g (has s) × (word ≡ token_of s)
-
--- the word is neither
-abbrev pub IsBadToken : Shape → List ℕ → Type 0
-IsBadToken g word = (after : Option (List ℕ)) → IsAfter g word after → ⊥
-
--- the token of a structure, and the names of its units in file order
-abbrev pub structure_line : Problem → List ℕ → List ℕ
-structure_line p s = token_of s ++ spaced_names (names_in (has s) 0 (unit_names p.units))
-
-abbrev pub more_line : List ℕ → List ℕ
-more_line s = codes "more " ++ token_of s
-
--- the last of some structures
-abbrev pub last_of : List (List ℕ) → List ℕ
-last_of [] = []
-last_of (s ∷ []) = s
-last_of (s ∷ t ∷ more) = last_of (t ∷ more)
-
--- `end` where no structure follows the first count, else `more` and the token of the last of them
-abbrev pub last_line : ℕ → List (List ℕ) → List ℕ
-last_line count all = if nat_lt count (length all) then more_line (last_of (take count all)) else codes "end"
-
--- the lines of a listing of which at most count structures are given
-abbrev pub listing_lines : Problem → ℕ → List (List ℕ) → List (List ℕ)
-listing_lines p count all = map (structure_line p) (take count all) ++ last_line count all ∷ []
+use Rattle.studio_rules.specs.declared.status.Status.{Status}
+use Rattle.studio_rules.specs.declared.status.Status.TheVariants.{Done}
 
 -- what is said of a listing that is under way
 abbrev pub RestSays : Problem → ℕ → Rest → Status → List (List ℕ) → Type 0
 RestSays p count rest status lines =
     (status ≡ Done) × ((all : List (List ℕ)) × IsToCome rest all × (lines ≡ listing_lines p count all))
-
-abbrev pub ListingWork : List ℕ → ℕ → Problem → Status → List (List ℕ) → Type 0
-ListingWork word count p Done lines =
-    (after : Option (List ℕ)) × IsAfter (shape_of p) word after
-    × ((all : List (List ℕ)) × IsListing (shape_of p) after all × (lines ≡ listing_lines p count all))
-ListingWork word count p BadToken lines = IsBadToken (shape_of p) word × (lines ≡ codes "bad token" ∷ [])
-ListingWork word count p status lines = ⊥

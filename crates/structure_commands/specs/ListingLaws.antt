@@ -2,8 +2,8 @@
 use Rattle.std.specs.Prelude.{◌<◌, ◌+◌, ◌++◌, ℕ, List, [], ◌∷◌, codes}
 use Rattle.problem_rules.specs.Problem.{Problem}
 use Rattle.problem_rules.specs.WellFormed.{IsWellFormed}
-use Rattle.structure_commands.specs.Listing.{ListingWork}
-use Rattle.endings.specs.declared.status.Status.TheVariants.{Done}
+use Rattle.studio_rules.specs.Listing.{ListingWork}
+use Rattle.studio_rules.specs.declared.status.Status.TheVariants.{Done}
 
 -- A listing that is taken in parts, the second behind the last token of the first, is the listing taken at once: the lines
 -- of the second part stand in the place of the line `more` of the first.

@@ -3,20 +3,20 @@ ghost use Rattle.std.specs.Prelude.{◌≡◌, ◌<◌, ◌≤◌, ◌||◌, ℕ
 ghost use Rattle.number_sets.specs.Sets.{has};
 ghost use Rattle.text_rules.specs.Outside.{HasRisen};
 ghost use Rattle.problem_rules.specs.Problem.{material_at, unit_at};
-ghost use Rattle.endings.specs.Lines.{line};
-ghost use Rattle.command_files.specs.Reading.{OnFile};
-ghost use Rattle.structure_commands.specs.Axioms.{AxiomsWork, NamesSay, VerdictSays, axiom_word, breaks_line, place_name, is_stranger, first_stranger, is_name_of, units_named};
-ghost use Rattle.endings.specs.Ending.{Ends, Says, Tells, Only, OrMemory};
-ghost use Rattle.endings.specs.declared.status.Status.TheVariants.{Refused};
+ghost use Rattle.studio_rules.specs.Lines.{line};
+ghost use Rattle.studio_rules.specs.Reading.{OnFile};
+ghost use Rattle.studio_rules.specs.Axioms.{AxiomsWork, NamesSay, VerdictSays, axiom_word, breaks_line, place_name, is_stranger, first_stranger, is_name_of, units_named};
+ghost use Rattle.studio_rules.specs.Ending.{Ends, Says, Tells, Only, OrMemory};
+ghost use Rattle.studio_rules.specs.declared.status.Status.TheVariants.{Refused};
 
 use command_files::problem_of;
-use endings::Status;
 use endings::say::{say, say_memory};
 use pgraph::Graph;
 use pns_io::{Shelf, Sink};
 use pns_problem::Problem;
 use pns_rules::{Axiom, Verdict};
 use std::alloc::{AllocError, Global};
+use studio_rules::Status;
 use studio_words::UnitNames;
 use unit_sets::UnitSet;
 

@@ -6,14 +6,14 @@ ghost use Rattle.text_rules.specs.Outside.{HasRisen, AppendsFront};
 ghost use Rattle.pns_rules.specs.Shape.{shape_of};
 ghost use Rattle.pns_rules.specs.Tokens.{digit, token_of};
 ghost use Rattle.structure_list.specs.Rest.{IsToCome};
-ghost use Rattle.endings.specs.Lines.{line};
-ghost use Rattle.command_files.specs.Reading.{OnFile};
-ghost use Rattle.structure_commands.specs.Listing.{ListingWork, RestSays, IsAfter, IsBadToken, structure_line, more_line};
-ghost use Rattle.endings.specs.Ending.{Ends, Says, Tells, Only, OrMemory};
-ghost use Rattle.endings.specs.declared.status.Status.TheVariants.{Done, BadToken};
+ghost use Rattle.studio_rules.specs.Lines.{line};
+ghost use Rattle.studio_rules.specs.Reading.{OnFile};
+ghost use Rattle.studio_rules.specs.Listing.{ListingWork, IsAfter, IsBadToken, structure_line, more_line};
+ghost use Rattle.structure_commands.specs.Listing.{RestSays};
+ghost use Rattle.studio_rules.specs.Ending.{Ends, Says, Tells, Only, OrMemory};
+ghost use Rattle.studio_rules.specs.declared.status.Status.TheVariants.{Done, BadToken};
 
 use command_files::problem_of;
-use endings::Status;
 use endings::line::push_unit_names;
 use endings::say::{say, say_memory, say_of};
 use max_structure::Steps;
@@ -24,6 +24,7 @@ use std::alloc::{AllocError, Global};
 use std::marker::Brand;
 use std::sync::ledger::{Blank, Ledger};
 use structure_list::{OpenFault, StructureList, print_token, read_token};
+use studio_rules::Status;
 use unit_sets::UnitSet;
 
 // Gives the next structure, with a count of viability tests that nobody reads.

@@ -5,14 +5,13 @@ ghost use Rattle.text_rules.specs.Outside.{HasRisen};
 ghost use Rattle.pns_rules.specs.Shape.{shape_of};
 ghost use Rattle.pns_rules.specs.Structure.{mats};
 ghost use Rattle.pgraph.specs.Tables.{shape};
-ghost use Rattle.endings.specs.Lines.{line};
-ghost use Rattle.command_files.specs.Reading.{OnFile};
-ghost use Rattle.structure_commands.specs.Max.{MaxWork, units_line, materials_line};
-ghost use Rattle.endings.specs.Ending.{Ends, Says, Tells, Only, OrMemory};
-ghost use Rattle.endings.specs.declared.status.Status.TheVariants.{Done};
+ghost use Rattle.studio_rules.specs.Lines.{line};
+ghost use Rattle.studio_rules.specs.Reading.{OnFile};
+ghost use Rattle.studio_rules.specs.Max.{MaxWork, units_line, materials_line};
+ghost use Rattle.studio_rules.specs.Ending.{Ends, Says, Tells, Only, OrMemory};
+ghost use Rattle.studio_rules.specs.declared.status.Status.TheVariants.{Done};
 
 use command_files::problem_of;
-use endings::Status;
 use endings::line::{push_material_names, push_unit_names};
 use endings::say::{say, say_both, say_memory};
 use max_structure::maximal;
@@ -20,6 +19,7 @@ use pgraph::Graph;
 use pns_io::{Shelf, Sink};
 use pns_problem::Problem;
 use std::alloc::{AllocError, Global};
+use studio_rules::Status;
 use unit_sets::{MatSet, UnitSet};
 
 fn units_line(alloc: Global, problem: &Problem, set: UnitSet) -> Result<Vec<u8>, AllocError>

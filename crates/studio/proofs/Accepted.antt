@@ -8,13 +8,13 @@ use Rattle.tree_rules.specs.Accepted.{Tree, first_node, IsAccepted}
 use Rattle.tree_laws.specs.Laws.{PassingClaimHasNoFault, PassingTreeHasNoFault}
 use Rattle.tree_rules.specs.Tail.{Tail, whole, spent, past}
 use Rattle.tree_text_rules.specs.Read as trees
-use Rattle.searches.specs.Solve.{Holds, status_of}
-use Rattle.endings.specs.Lines.{text_of}
-use Rattle.endings.specs.declared.status.Status.{Status}
-use Rattle.endings.specs.declared.status.Status.TheVariants.{Done, Refused, BadProblem, BadTree, TooLong}
-use Rattle.command_files.specs.Reading.{AreHeld, FileFault, GivesProblem}
-use Rattle.command_files.specs.TreeFile.{TreeSays, tree_limit}
-use Rattle.flow_commands.specs.Check.{CheckWork}
+use Rattle.studio_rules.specs.Solve.{Holds, status_of}
+use Rattle.studio_rules.specs.Lines.{text_of}
+use Rattle.studio_rules.specs.declared.status.Status.{Status}
+use Rattle.studio_rules.specs.declared.status.Status.TheVariants.{Done, Refused, BadProblem, BadTree, TooLong}
+use Rattle.studio_rules.specs.Reading.{AreHeld, FileFault, GivesProblem}
+use Rattle.studio_rules.specs.TreeFile.{TreeSays, tree_limit}
+use Rattle.studio_rules.specs.Check.{CheckWork}
 use Rattle.studio.specs.SolveLaws.{IsAcceptedOrLong, SolvedIsAccepted}
 
 pub is_held : (held : Told) (bytes file : List ℕ) → held ≡ Some (Some bytes) → AreHeld held file → file ≡ bytes

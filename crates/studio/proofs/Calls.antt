@@ -12,20 +12,20 @@ use Rattle.pns_rules.specs.Listing.{IsListing}
 use Rattle.pns_rules.proofs.ListingLemmas.{listing_is_one}
 use Rattle.pns_rules.specs.Tokens.{digit, IsDigit, AreDigits, token_of}
 use Rattle.structure_list.proofs.TokenLemmas.{token_one, token_has_form}
-use Rattle.structure_commands.specs.Listing.{IsAfter, structure_line, more_line, last_of, last_line, listing_lines, ListingWork}
+use Rattle.studio_rules.specs.Listing.{IsAfter, structure_line, more_line, last_of, last_line, listing_lines, ListingWork}
 use Rattle.structure_commands.specs.ListingLaws.{PartsJoin}
 use Rattle.structure_commands.proofs.ListingStart.{not_start, set_of}
-use Rattle.command_files.specs.Reading.{AreHeld, FileFault, GivesProblem, OnFile}
-use Rattle.command_files.specs.TreeFile.{tree_limit}
-use Rattle.rank_searches.specs.Rank.{RankWork}
-use Rattle.searches.specs.Solve.{SolveWork}
-use Rattle.studio_words.specs.Command.{Command, Listing, Checking, RankChecking, Solving, Ranking, command_of}
-use Rattle.endings.specs.Lines.{line, text_of}
-use Rattle.endings.specs.Ending.{Ends}
+use Rattle.studio_rules.specs.Reading.{AreHeld, FileFault, GivesProblem, OnFile}
+use Rattle.studio_rules.specs.TreeFile.{tree_limit}
+use Rattle.studio_rules.specs.Rank.{RankWork}
+use Rattle.studio_rules.specs.Solve.{SolveWork}
+use Rattle.studio_rules.specs.Command.{Command, Listing, Checking, RankChecking, Solving, Ranking, command_of}
+use Rattle.studio_rules.specs.Lines.{line, text_of}
+use Rattle.studio_rules.specs.Ending.{Ends}
 use Rattle.endings.proofs.Ending.{one_line}
-use Rattle.endings.specs.declared.status.Status.{Status}
-use Rattle.endings.specs.declared.status.Status.TheVariants.{Done, ReadFault, WriteFault, Memory, TooLong, BadToken}
-use Rattle.studio.specs.Answers.{AnswersTo, CommandAnswers, WordsSay}
+use Rattle.studio_rules.specs.declared.status.Status.{Status}
+use Rattle.studio_rules.specs.declared.status.Status.TheVariants.{Done, ReadFault, WriteFault, Memory, TooLong, BadToken}
+use Rattle.studio_rules.specs.Answers.{AnswersTo, CommandAnswers, WordsSay}
 use Rattle.studio.specs.SolveLaws.{IsAcceptedOrLong, SolvedIsAccepted}
 use Rattle.studio.specs.RankLaws.{RankedIsAccepted}
 use Rattle.studio.specs.Calls.{Call, IsCall, Calls, Puts, Holds, Keep, EndsWith, HasFailed, Accepts, CheckAcceptsSolved, RankcheckAcceptsRanked, ListingsJoin}

@@ -25,38 +25,38 @@ use Rattle.rank_rules.specs.Text.{Text}
 use Rattle.stability_rules.specs.declared.spot.Spot.{Spot}
 use Rattle.stability_rules.specs.declared.spot.SpotKind.{SpotKind}
 use Rattle.problem_rules.specs.Generated.{generated}
-use Rattle.endings.specs.Ending.{Shelves, Ends, IsOneOf}
-use Rattle.endings.specs.declared.status.Status.{Status}
-use Rattle.endings.specs.declared.status.Status.TheVariants.{Done, Refused, Past, Spent, ReadFault, WriteFault, Memory, BadProblem, BadToken, BadTree, BadEdit, TooLong, UnknownName, NotMigrated, BadNode, BadPlan}
-use Rattle.command_files.specs.Reading.{AreHeld, FileFault, GivesProblem, OnFile, file_limit}
-use Rattle.command_files.specs.Script.{ScriptFault, GivesScript, HasEditFault, OnScript}
-use Rattle.command_files.specs.Plan.{PlanFileFault, GivesPlan, OnPlan}
-use Rattle.command_files.specs.TreeFile.{TreeFault, GivesTree, OnTree, tree_limit}
-use Rattle.structure_commands.specs.Max.{MaxWork}
-use Rattle.structure_commands.specs.Axioms.{AxiomsWork, first_stranger}
-use Rattle.structure_commands.specs.Listing.{ListingWork}
-use Rattle.edit_commands.specs.Migrate.{MigrateWork}
-use Rattle.edit_commands.specs.Edits.{EditWork, UndoWork}
-use Rattle.flow_commands.specs.Flows.{FlowsWork}
-use Rattle.flow_commands.specs.Check.{CheckWork}
-use Rattle.rank_commands.specs.Rankcheck.{RankFault, GivesRanking, OnRank, RankcheckWork}
-use Rattle.rank_searches.specs.Rank.{RankWork}
-use Rattle.network_commands.specs.Network.{OnNetwork}
-use Rattle.network_commands.specs.Table.{TableWork}
-use Rattle.network_commands.specs.Report.{ReportWork}
-use Rattle.network_commands.specs.Graph.{PlantGraphWork, NetworkGraphWork}
-use Rattle.period_searches.specs.Expand.{ExpandWork}
-use Rattle.period_searches.specs.Periods.{PeriodsWork}
-use Rattle.part_commands.specs.Split.{SplitWork}
-use Rattle.part_commands.specs.PartFile.{PartFault, PartFaults, GivesPart, GiveParts, FirstFault, are_several}
-use Rattle.part_commands.specs.Merge.{MergeWork}
-use Rattle.part_searches.specs.Start.{OnStart}
-use Rattle.part_searches.specs.Part.{PartSays, PartWork, ClaimSays, AgainstWork}
-use Rattle.searches.specs.Solve.{SolveWork}
-use Rattle.stability_commands.specs.Stable.{spot_named, NamedWork, StableWork}
-use Rattle.studio_words.specs.Command.{Command, Max, Axioms, Flows, Listing, Make, Migrate, Editing, Undoing, Checking, RankChecking, Solving, Ranking, Trial, Telling, Table, Splitting, Expanding, Drawing, DrawingNetwork, Reporting, Ranging, Planning, Parting, PartingAgainst, Merging, command_of}
-use Rattle.studio.specs.Answers.{AnswersTo, CommandAnswers, WordsSay}
-use Rattle.studio.specs.Causes.{caused, FileCause, HasProblemFault, HasScriptFault, HasPlanFault, HasTreeFault, HasRankFault, HasPartFault, NoCause, TokenCause, MigrationCause, NameCause, InFile, InScript, InPlan, InRank, InTree, InParts, AtNode, CauseOf, AreTold, EndsExactly}
+use Rattle.studio_rules.specs.Ending.{Shelves, Ends, IsOneOf}
+use Rattle.studio_rules.specs.declared.status.Status.{Status}
+use Rattle.studio_rules.specs.declared.status.Status.TheVariants.{Done, Refused, Past, Spent, ReadFault, WriteFault, Memory, BadProblem, BadToken, BadTree, BadEdit, TooLong, UnknownName, NotMigrated, BadNode, BadPlan}
+use Rattle.studio_rules.specs.Reading.{AreHeld, FileFault, GivesProblem, OnFile, file_limit}
+use Rattle.studio_rules.specs.Script.{ScriptFault, GivesScript, HasEditFault, OnScript}
+use Rattle.studio_rules.specs.Plan.{PlanFileFault, GivesPlan, OnPlan}
+use Rattle.studio_rules.specs.TreeFile.{TreeFault, GivesTree, OnTree, tree_limit}
+use Rattle.studio_rules.specs.Max.{MaxWork}
+use Rattle.studio_rules.specs.Axioms.{AxiomsWork, first_stranger}
+use Rattle.studio_rules.specs.Listing.{ListingWork}
+use Rattle.studio_rules.specs.Migrate.{MigrateWork}
+use Rattle.studio_rules.specs.Edits.{EditWork, UndoWork}
+use Rattle.studio_rules.specs.Flows.{FlowsWork}
+use Rattle.studio_rules.specs.Check.{CheckWork}
+use Rattle.studio_rules.specs.Rankcheck.{RankFault, GivesRanking, OnRank, RankcheckWork}
+use Rattle.studio_rules.specs.Rank.{RankWork}
+use Rattle.studio_rules.specs.Network.{OnNetwork}
+use Rattle.studio_rules.specs.Table.{TableWork}
+use Rattle.studio_rules.specs.Report.{ReportWork}
+use Rattle.studio_rules.specs.Graph.{PlantGraphWork, NetworkGraphWork}
+use Rattle.studio_rules.specs.Expand.{ExpandWork}
+use Rattle.studio_rules.specs.Periods.{PeriodsWork}
+use Rattle.studio_rules.specs.Split.{SplitWork}
+use Rattle.studio_rules.specs.PartFile.{PartFault, PartFaults, GivesPart, GiveParts, FirstFault, are_several}
+use Rattle.studio_rules.specs.Merge.{MergeWork}
+use Rattle.studio_rules.specs.Start.{OnStart}
+use Rattle.studio_rules.specs.Part.{PartSays, PartWork, ClaimSays, AgainstWork}
+use Rattle.studio_rules.specs.Solve.{SolveWork}
+use Rattle.studio_rules.specs.Stable.{spot_named, NamedWork, StableWork}
+use Rattle.studio_rules.specs.Command.{Command, Max, Axioms, Flows, Listing, Make, Migrate, Editing, Undoing, Checking, RankChecking, Solving, Ranking, Trial, Telling, Table, Splitting, Expanding, Drawing, DrawingNetwork, Reporting, Ranging, Planning, Parting, PartingAgainst, Merging, command_of}
+use Rattle.studio_rules.specs.Answers.{AnswersTo, CommandAnswers, WordsSay}
+use Rattle.studio_rules.specs.Causes.{caused, FileCause, HasProblemFault, HasScriptFault, HasPlanFault, HasTreeFault, HasRankFault, HasPartFault, NoCause, TokenCause, MigrationCause, NameCause, InFile, InScript, InPlan, InRank, InTree, InParts, AtNode, CauseOf, AreTold, EndsExactly}
 use Rattle.studio.proofs.Accepted.{no_fault, one_problem}
 use Rattle.studio.proofs.Statuses.{max_status, names_status, flows_status, check_status, rankcheck_status, split_status, table_status, report_status, network_status, solve_status, rank_status, search_status, plant_graph_status, graph_status, periods_status, part_status, claim_status, merge_fault_status, spot_status}
 

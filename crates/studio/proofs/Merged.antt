@@ -25,18 +25,18 @@ use Rattle.tree_text_laws.specs.Laws.{SpelledTextsRead, ReadTextsAreSpelled}
 use Rattle.part_rules.specs.Part.{Part, start_of}
 use Rattle.part_rules.specs.Several.{AreMerged}
 use Rattle.part_text.specs.Laws.{ReadPartsAreSpelled}
-use Rattle.command_files.specs.Reading.{AreHeld, GivesProblem, OnFile}
-use Rattle.command_files.specs.TreeFile.{TreeFault, TreeSays, GivesTree, OnTree, tree_limit}
-use Rattle.flow_commands.specs.Check.{CheckWork}
-use Rattle.part_commands.specs.PartFile.{GiveParts, are_several}
-use Rattle.part_commands.specs.Split.{SplitWork, part_line, split_lines}
-use Rattle.part_commands.specs.Merge.{MergeWork}
-use Rattle.studio_words.specs.Command.{Checking, Splitting, Merging}
-use Rattle.endings.specs.Lines.{line, text_of}
-use Rattle.endings.specs.Printed.{spelled}
+use Rattle.studio_rules.specs.Reading.{AreHeld, GivesProblem, OnFile}
+use Rattle.studio_rules.specs.TreeFile.{TreeFault, TreeSays, GivesTree, OnTree, tree_limit}
+use Rattle.studio_rules.specs.Check.{CheckWork}
+use Rattle.studio_rules.specs.PartFile.{GiveParts, are_several}
+use Rattle.studio_rules.specs.Split.{SplitWork, part_line, split_lines}
+use Rattle.studio_rules.specs.Merge.{MergeWork}
+use Rattle.studio_rules.specs.Command.{Checking, Splitting, Merging}
+use Rattle.studio_rules.specs.Lines.{line, text_of}
+use Rattle.studio_rules.specs.Printed.{spelled}
 use Rattle.endings.proofs.Printing.{spelled_text}
-use Rattle.endings.specs.declared.status.Status.{Status}
-use Rattle.endings.specs.declared.status.Status.TheVariants.{Done, Refused, NoLeaf}
+use Rattle.studio_rules.specs.declared.status.Status.{Status}
+use Rattle.studio_rules.specs.declared.status.Status.TheVariants.{Done, Refused, NoLeaf}
 use Rattle.studio.specs.SolveLaws.{IsAcceptedOrLong}
 use Rattle.studio.specs.Calls.{Call, Calls, Puts, Holds, Keep, Accepts, HasFailed, CheckAcceptsMerged}
 use Rattle.studio.proofs.Accepted.{is_held, read}

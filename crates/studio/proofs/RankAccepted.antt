@@ -7,14 +7,14 @@ use Rattle.tree_rules.specs.Tail.{Tail, whole, spent, past}
 use Rattle.tree_text_rules.specs.Read.{Fault}
 use Rattle.rank_rules.specs.Text.{Text, ranking_of}
 use Rattle.rank_rules.specs.Read.{read_text}
-use Rattle.rank_searches.specs.Rank.{Holds}
-use Rattle.rank_commands.specs.Rankcheck.{RankcheckSays, RankcheckWork}
-use Rattle.searches.specs.Solve.{status_of}
-use Rattle.endings.specs.Lines.{text_of}
-use Rattle.endings.specs.declared.status.Status.{Status}
-use Rattle.endings.specs.declared.status.Status.TheVariants.{Done, Refused, BadTree, TooLong}
-use Rattle.command_files.specs.Reading.{FileFault, GivesProblem}
-use Rattle.command_files.specs.TreeFile.{tree_limit}
+use Rattle.studio_rules.specs.Rank.{Holds}
+use Rattle.studio_rules.specs.Rankcheck.{RankcheckSays, RankcheckWork}
+use Rattle.studio_rules.specs.Solve.{status_of}
+use Rattle.studio_rules.specs.Lines.{text_of}
+use Rattle.studio_rules.specs.declared.status.Status.{Status}
+use Rattle.studio_rules.specs.declared.status.Status.TheVariants.{Done, Refused, BadTree, TooLong}
+use Rattle.studio_rules.specs.Reading.{FileFault, GivesProblem}
+use Rattle.studio_rules.specs.TreeFile.{tree_limit}
 use Rattle.studio.specs.SolveLaws.{IsAcceptedOrLong}
 use Rattle.studio.specs.RankLaws.{RankedIsAccepted}
 use Rattle.studio.proofs.Accepted.{is_held, no_fault, one_problem}

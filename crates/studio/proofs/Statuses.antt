@@ -6,54 +6,52 @@ use Rattle.edit_rules.specs.Edit.{Edit}
 use Rattle.pns_rules.specs.declared.verdict.Verdict.{Verdict}
 use Rattle.pns_rules.specs.declared.verdict.Verdict.TheVariants.{Meets, Breaks}
 use Rattle.text_rules.specs.Outside.{HasRisen, Told, IsToldAnd}
-use Rattle.studio_words.specs.Command.{Command, Max, Axioms, Flows, Listing, Make, Migrate, Editing, Undoing, Checking, RankChecking, Solving, Ranking, Trial, Telling, command_of, IsFileOf, IsFileWord, Table, Splitting, Expanding, Drawing, DrawingNetwork, Reporting, Ranging, Planning, Parting, PartingAgainst, Merging}
-use Rattle.command_files.specs.Reading.{AreHeld, FileFault, file_limit}
-use Rattle.structure_commands.specs.Max.{MaxWork}
-use Rattle.structure_commands.specs.Listing.{ListingWork}
-use Rattle.edit_commands.specs.Migrate.{MigrateWork}
-use Rattle.flow_commands.specs.Flows.{FlowNamesSay, UnitsSay, FlowsSay}
-use Rattle.command_files.specs.Script.{ScriptFault, OnScript}
-use Rattle.command_files.specs.Plan.{PlanFileFault, OnPlan}
-use Rattle.period_searches.specs.Expand.{ExpandWork}
+use Rattle.studio_rules.specs.Command.{Command, Max, Axioms, Flows, Listing, Make, Migrate, Editing, Undoing, Checking, RankChecking, Solving, Ranking, Trial, Telling, command_of, IsFileOf, IsFileWord, Table, Splitting, Expanding, Drawing, DrawingNetwork, Reporting, Ranging, Planning, Parting, PartingAgainst, Merging}
+use Rattle.studio_rules.specs.Reading.{AreHeld, FileFault, file_limit}
+use Rattle.studio_rules.specs.Max.{MaxWork}
+use Rattle.studio_rules.specs.Listing.{ListingWork}
+use Rattle.studio_rules.specs.Migrate.{MigrateWork}
+use Rattle.studio_rules.specs.Flows.{FlowNamesSay, UnitsSay, FlowsSay}
+use Rattle.studio_rules.specs.Script.{ScriptFault, OnScript}
+use Rattle.studio_rules.specs.Plan.{PlanFileFault, OnPlan}
+use Rattle.studio_rules.specs.Expand.{ExpandWork}
 use Rattle.plan_rules.specs.Plan.{Plan}
-use Rattle.edit_commands.specs.Edits.{EditWork, UndoWork}
+use Rattle.studio_rules.specs.Edits.{EditWork, UndoWork}
 use Rattle.tree_rules.specs.Claim.{Claim, Network}
 use Rattle.tree_rules.specs.Accepted.{Tree}
-use Rattle.command_files.specs.TreeFile.{TreeFault, OnTree, tree_limit}
-use Rattle.flow_commands.specs.Check.{CheckWork}
+use Rattle.studio_rules.specs.TreeFile.{TreeFault, OnTree, tree_limit}
+use Rattle.studio_rules.specs.Check.{CheckWork}
 use Rattle.rank_rules.specs.Text.{Text}
-use Rattle.rank_searches.specs.Rank as rankings
-use Rattle.rank_searches.specs.Rank.{RankWork}
-use Rattle.rank_commands.specs.Rankcheck.{RankFault, RankcheckWork, FilesListBest, AcceptedAreBest}
-use Rattle.network_commands.specs.Network.{OnNetwork}
-use Rattle.network_commands.specs.Table.{TableWork}
-use Rattle.network_commands.specs.Network.{ClaimRefusal}
-use Rattle.network_commands.specs.Report.{ReportWork}
-use Rattle.network_commands.specs.Graph.{PlantGraphWork, NetworkGraphWork}
-use Rattle.part_commands.specs.Split.{SplitWork}
-use Rattle.part_commands.specs.PartFile.{PartFault, FirstFault, are_several}
-use Rattle.part_commands.specs.Merge.{MergeWork, MergeSays, FaultSays}
+use Rattle.studio_rules.specs.Rank as rankings
+use Rattle.studio_rules.specs.Rank.{RankWork}
+use Rattle.studio_rules.specs.Rankcheck.{RankFault, RankcheckWork, FilesListBest, AcceptedAreBest}
+use Rattle.studio_rules.specs.Network.{OnNetwork, ClaimRefusal}
+use Rattle.studio_rules.specs.Table.{TableWork}
+use Rattle.studio_rules.specs.Report.{ReportWork}
+use Rattle.studio_rules.specs.Graph.{PlantGraphWork, NetworkGraphWork}
+use Rattle.studio_rules.specs.Split.{SplitWork}
+use Rattle.studio_rules.specs.PartFile.{PartFault, FirstFault, are_several}
+use Rattle.studio_rules.specs.Merge.{MergeWork, MergeSays, FaultSays}
 use Rattle.part_rules.specs.declared.merge_fault.MergeFault.{MergeFault}
 use Rattle.part_rules.specs.declared.merge_fault.MergeFault.TheVariants as merging
 use Rattle.tree_rules.specs.declared.refusal.Refusal.TheVariants as refusals
-use Rattle.part_searches.specs.Found.{FoundSays}
-use Rattle.part_searches.specs.Start.{OnStart}
-use Rattle.part_searches.specs.Part.{PartSays, PartWork, ClaimSays, AgainstWork}
+use Rattle.studio_rules.specs.Start.{OnStart}
+use Rattle.studio_rules.specs.Part.{PartSays, PartWork, ClaimSays, AgainstWork}
 use Rattle.tree_rules.specs.Claim.{network, infeasible, unknown}
-use Rattle.period_searches.specs.Periods.{PeriodsWork}
+use Rattle.studio_rules.specs.Periods.{PeriodsWork}
 use Rattle.stability_rules.specs.declared.spot.Spot.{Spot}
 use Rattle.stability_rules.specs.declared.spot.SpotKind.{SpotKind}
-use Rattle.stability_commands.specs.Stable.{spot_named, SpotWork, NamedWork, StableWork}
-use Rattle.flow_commands.specs.Best.{FilesClaimBest, AcceptedIsBest}
+use Rattle.studio_rules.specs.Stable.{spot_named, SpotWork, NamedWork, StableWork}
+use Rattle.studio_rules.specs.Best.{FilesClaimBest, AcceptedIsBest}
 use Rattle.tree_rules.specs.Tail.{Tail, whole, spent, past}
 use Rattle.problem_rules.specs.Generated.{generated}
-use Rattle.searches.specs.Solve.{SolveWork, Holds, status_of, CanFinish}
-use Rattle.searches.specs.Summary.{SummaryWork}
-use Rattle.structure_commands.specs.Axioms.{NamesSay, VerdictSays, first_stranger}
-use Rattle.endings.specs.Ending.{Shelves, Ends, IsOneOf}
-use Rattle.studio.specs.Answers.{AnswersTo, CommandAnswers, WordsSay, IsReadWithin, IsUndisturbed, IsNotStopped, SearchCanFinish, statuses_of, first_file}
-use Rattle.endings.specs.declared.status.Status.{Status}
-use Rattle.endings.specs.declared.status.Status.TheVariants.{Done, Refused, Usage, BadProblem, Past, Spent, ReadFault, WriteFault, Memory, TooLong, BadToken, BadTree, BadEdit, NotMigrated, BadPlan, BadNode, NoLeaf, NotBest, UnknownName}
+use Rattle.studio_rules.specs.Solve.{SolveWork, Holds, status_of, CanFinish}
+use Rattle.studio_rules.specs.Summary.{SummaryWork}
+use Rattle.studio_rules.specs.Axioms.{NamesSay, VerdictSays, first_stranger}
+use Rattle.studio_rules.specs.Ending.{Shelves, Ends, IsOneOf}
+use Rattle.studio_rules.specs.Answers.{AnswersTo, CommandAnswers, WordsSay, IsReadWithin, IsUndisturbed, IsNotStopped, SearchCanFinish, statuses_of, first_file}
+use Rattle.studio_rules.specs.declared.status.Status.{Status}
+use Rattle.studio_rules.specs.declared.status.Status.TheVariants.{Done, Refused, Usage, BadProblem, Past, Spent, ReadFault, WriteFault, Memory, TooLong, BadToken, BadTree, BadEdit, NotMigrated, BadPlan, BadNode, NoLeaf, NotBest, UnknownName}
 
 -- a file that gives no problem, where it is held within the limit or not
 fault_status : (name file : List ℕ) (s : Status) (lines : List (List ℕ)) → FileFault name file s lines → (s ≡ BadProblem) ⊎ ((s ≡ TooLong) × (file_limit < length file))
@@ -212,7 +210,7 @@ periods_status budget p plan s lines h = solve_status budget _ s lines h
 -- ---- parts
 
 pub part_status : (budget : ℕ) (known : Option Network) (inside outside : List ℕ) (p : Problem) (s : Status) (lines : List (List ℕ)) → PartSays budget known inside outside p s lines → (s ≡ Done) ⊎ ((s ≡ Spent) ⊎ (s ≡ Past))
-part_status budget known inside outside p s lines h = tail_status h.says.0.tail s h.says.2
+part_status budget known inside outside p s lines h = tail_status h.found.tail s h.status_is
 
 pub claim_status : (budget : ℕ) (inside outside : List ℕ) (p : Problem) (claim : Claim) (tree : Tree) (s : Status) (lines : List (List ℕ)) → ClaimSays budget inside outside p claim tree s lines → (s ≡ Refused) ⊎ ((s ≡ Done) ⊎ ((s ≡ Spent) ⊎ (s ≡ Past)))
 claim_status budget inside outside p (network w) tree s lines (inl refusal) = inl refusal.0

@@ -2,13 +2,13 @@
 use Rattle.std.specs.Prelude.{◌≡◌, ◌⊎◌, ◌≤◌, ◌<◌, ◌+◌, ◌++◌, ℕ, List, [], ◌∷◌, Option, Some, length, codes}
 use Rattle.std.specs.Io.KnownBytes.{Appends}
 use Rattle.text_rules.specs.Outside.{HasRisen}
-use Rattle.command_files.specs.TreeFile.{tree_limit}
-use Rattle.studio_words.specs.Command.{Command, Listing, Checking, RankChecking, Solving, Ranking, Splitting, Merging, command_of}
-use Rattle.endings.specs.Lines.{line, text_of}
-use Rattle.endings.specs.Ending.{Shelves, Ends, IsOneOf}
-use Rattle.endings.specs.declared.status.Status.{Status}
-use Rattle.endings.specs.declared.status.Status.TheVariants.{Done, ReadFault, WriteFault, Memory, TooLong}
-use Rattle.studio.specs.Answers.{WordsSay}
+use Rattle.studio_rules.specs.TreeFile.{tree_limit}
+use Rattle.studio_rules.specs.Command.{Command, Listing, Checking, RankChecking, Solving, Ranking, Splitting, Merging, command_of}
+use Rattle.studio_rules.specs.Lines.{line, text_of}
+use Rattle.studio_rules.specs.Ending.{Shelves, Ends, IsOneOf}
+use Rattle.studio_rules.specs.declared.status.Status.{Status}
+use Rattle.studio_rules.specs.declared.status.Status.TheVariants.{Done, ReadFault, WriteFault, Memory, TooLong}
+use Rattle.studio_rules.specs.Answers.{WordsSay}
 
 -- A call: its words, the shelf with the counts of its faults before and after, the same of the sink with what it tells to be out, and the
 -- status with which the call ended.

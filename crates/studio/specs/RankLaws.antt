@@ -1,11 +1,11 @@
 -- A law over what `rank` and `rankcheck` print.
 use Rattle.std.specs.Prelude.{◌≡◌, ℕ, List, Some}
 use Rattle.text_rules.specs.Outside.{Told}
-use Rattle.endings.specs.Lines.{text_of}
-use Rattle.endings.specs.declared.status.Status.{Status}
-use Rattle.endings.specs.declared.status.Status.TheVariants.{Done}
-use Rattle.studio_words.specs.Command.{Ranking, RankChecking}
-use Rattle.studio.specs.Answers.{CommandAnswers}
+use Rattle.studio_rules.specs.Lines.{text_of}
+use Rattle.studio_rules.specs.declared.status.Status.{Status}
+use Rattle.studio_rules.specs.declared.status.Status.TheVariants.{Done}
+use Rattle.studio_rules.specs.Command.{Ranking, RankChecking}
+use Rattle.studio_rules.specs.Answers.{CommandAnswers}
 use Rattle.studio.specs.SolveLaws.{IsAcceptedOrLong}
 
 -- What `rank` prints with status 0 is accepted by `rankcheck` with the same problem file, or it is too long.

@@ -1,12 +1,12 @@
 -- A law over what `solve` and `check` print.
 use Rattle.std.specs.Prelude.{◌≡◌, ◌⊎◌, ◌≤◌, ◌<◌, ◌++◌, ℕ, List, [], ◌∷◌, Some, length, codes}
 use Rattle.text_rules.specs.Outside.{Told}
-use Rattle.endings.specs.Lines.{text_of}
-use Rattle.endings.specs.declared.status.Status.{Status}
-use Rattle.endings.specs.declared.status.Status.TheVariants.{Done, TooLong}
-use Rattle.studio_words.specs.Command.{Solving, Checking}
-use Rattle.command_files.specs.TreeFile.{tree_limit}
-use Rattle.studio.specs.Answers.{CommandAnswers}
+use Rattle.studio_rules.specs.Lines.{text_of}
+use Rattle.studio_rules.specs.declared.status.Status.{Status}
+use Rattle.studio_rules.specs.declared.status.Status.TheVariants.{Done, TooLong}
+use Rattle.studio_rules.specs.Command.{Solving, Checking}
+use Rattle.studio_rules.specs.TreeFile.{tree_limit}
+use Rattle.studio_rules.specs.Answers.{CommandAnswers}
 
 -- `accepted`, or where the tree file is above its limit that it is too long
 abbrev pub IsAcceptedOrLong : List ℕ → List ℕ → Status → List (List ℕ) → Type 0

@@ -1,19 +1,18 @@
 //! The call: it judges the words and does their command.
 ghost use Rattle.std.specs.Prelude.{◌≡◌, ◌∷◌, [], List, ℕ, Some, None, map, string_bytes};
 ghost use Rattle.text_rules.specs.Outside.{HasRisen};
-ghost use Rattle.studio_words.specs.Command as rules;
-ghost use Rattle.studio_words.specs.Command.{command_of, AreWithin, IsFileWord};
-ghost use Rattle.endings.specs.Ending.{Ends, IsOneOf};
-ghost use Rattle.studio.specs.Answers.{CommandSays, WordsSay, IsUndisturbed, IsNotStopped, SearchCanFinish, first_file, statuses_of};
-ghost use Rattle.studio.specs.Causes.{EndsExactly};
+ghost use Rattle.studio_rules.specs.Command as rules;
+ghost use Rattle.studio_rules.specs.Command.{command_of, AreWithin, IsFileWord};
+ghost use Rattle.studio_rules.specs.Ending.{Ends, IsOneOf};
+ghost use Rattle.studio_rules.specs.Answers.{CommandSays, WordsSay, IsUndisturbed, IsNotStopped, SearchCanFinish, first_file, statuses_of};
+ghost use Rattle.studio_rules.specs.Causes.{EndsExactly};
 ghost use Rattle.studio_words.specs.View.{command_view};
-ghost use Rattle.flow_commands.specs.Best.{FilesClaimBest};
-ghost use Rattle.rank_commands.specs.Rankcheck.{FilesListBest};
+ghost use Rattle.studio_rules.specs.Best.{FilesClaimBest};
+ghost use Rattle.studio_rules.specs.Rankcheck.{FilesListBest};
 
 use edit_commands::edits::{edit, undo};
 use edit_commands::make::make;
 use edit_commands::migrate::migrate;
-use endings::Status;
 use endings::say::{say, say_memory, say_text};
 use flow_commands::check::{accepted_is_best, check};
 use flow_commands::flows::flows;
@@ -36,6 +35,7 @@ use std::alloc::Global;
 use structure_commands::axioms::axioms;
 use structure_commands::list::list;
 use structure_commands::max::max;
+use studio_rules::Status;
 use studio_words::{Command, command_of};
 
 fn perform<F: Shelf, K: Sink>(

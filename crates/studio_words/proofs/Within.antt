@@ -5,11 +5,11 @@ use Rattle.std.specs.Str.{bytes_eq}
 use Rattle.std.specs.List.{list_all}
 use Rattle.std.proofs.lemmas.Bool.{leb-true}
 use Rattle.text_rules.specs.Amount.{number_of}
-use Rattle.studio_words.specs.Numeral.{is_numeral, number_within}
-use Rattle.help_texts.specs.Lines.{text_of}
-use Rattle.help_texts.specs.Overview.{overview, version}
-use Rattle.help_texts.specs.Pages.{page_of, page_text}
-use Rattle.studio_words.specs.Command.{Command, Max, Axioms, Flows, Listing, Migrate, Editing, Undoing, Checking, RankChecking, Solving, Ranking, Telling, is_help_word, is_version_word, or_else, merging_of, form_of, command_of, on_file, made_by, tried_by, ranged_by, ranked_by, kind_of, unit_names_of, count_of, seed_of, unit_count_of, years_of, rank_count_of, budget_of, is_file_word, AreWithin, Table, Splitting, Expanding, Drawing, DrawingNetwork, Reporting, Ranging, Planning, Parting, PartingAgainst, Merging}
+use Rattle.studio_rules.specs.Numeral.{is_numeral, number_within}
+use Rattle.studio_rules.specs.PageLines.{text_of}
+use Rattle.studio_rules.specs.Overview.{overview, version}
+use Rattle.studio_rules.specs.Pages.{page_of, page_text}
+use Rattle.studio_rules.specs.Command.{Command, Max, Axioms, Flows, Listing, Migrate, Editing, Undoing, Checking, RankChecking, Solving, Ranking, Telling, is_help_word, is_version_word, or_else, merging_of, form_of, command_of, on_file, made_by, tried_by, ranged_by, ranked_by, kind_of, unit_names_of, count_of, seed_of, unit_count_of, years_of, rank_count_of, budget_of, is_file_word, AreWithin, Table, Splitting, Expanding, Drawing, DrawingNetwork, Reporting, Ranging, Planning, Parting, PartingAgainst, Merging}
 use Rattle.stability_rules.specs.declared.spot.SpotKind.{SpotKind}
 
 numeral_within : (least most : ℕ) (word : List ℕ) → IfSome (number_within least most word) (λ n. (least ≤ n) × (n ≤ most))

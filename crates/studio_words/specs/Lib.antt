@@ -1,4 +1,2 @@
-pub mod Command
 pub mod Gathering
-pub mod Numeral
 pub mod View

@@ -1,6 +1,6 @@
 -- A command of the code as the definitions name it.
 use Rattle.std.specs.Prelude.{map, string_bytes}
-use Rattle.studio_words.specs.Command as rules
+use Rattle.studio_rules.specs.Command as rules
 use Rattle.studio_words.specs.declared.command.Command.{Command}
 use Rattle.studio_words.specs.declared.command.Command.TheVariants.{Max, Axioms, Flows, Listing, Make, Migrate, Editing, Undoing, Checking, RankChecking, Solving, Ranking, Trial, Telling, Table, Splitting, Expanding, Drawing, DrawingNetwork, Reporting, Ranging, Planning, Parting, PartingAgainst, Merging}
 

@@ -1,7 +1,7 @@
 //! The words of a call, and the command that they are.
 //!
-//! [`command_of`] gives the command exactly where the words have a form. `specs/Command` has the forms, and the ranges of a
-//! command's numbers.
+//! [`command_of`] gives the command exactly where the words have a form. `Command` of `studio_rules` has the forms, and the ranges of
+//! a command's numbers.
 //!
 //! Modules: `command`, the commands; `merging`, the words of `merge`; `unit_names`, the word UNITS; `number`, numbers in words.
 #![tactic(auto)]

@@ -1,7 +1,7 @@
 //! The words of `merge`, which may have up to a hundred parts.
 ghost use Rattle.std.specs.Prelude.{◌≡◌, map, option_map, string_bytes};
 ghost use Rattle.std.specs.List.{list_all};
-ghost use Rattle.studio_words.specs.Command.{is_file_word, merging_of};
+ghost use Rattle.studio_rules.specs.Command.{is_file_word, merging_of};
 ghost use Rattle.studio_words.specs.View.{command_view};
 
 use crate::command::Command;

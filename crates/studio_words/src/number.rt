@@ -3,7 +3,7 @@ ghost use Rattle.std.specs.Prelude.{◌≡◌, ◌==◌, ◌&&◌, ℕ, Option, 
 ghost use Rattle.std.specs.List.{list_all};
 ghost use Rattle.std.specs.Char.{is_ascii_digit};
 ghost use Rattle.text_rules.specs.Amount.{number_of};
-ghost use Rattle.studio_words.specs.Numeral.{has_leading_zero, number_within};
+ghost use Rattle.studio_rules.specs.Numeral.{has_leading_zero, number_within};
 
 /// The number that the word is, where it is from `least` to `most`.
 pub(crate) fn number_within(word: &str, least: u64, most: u64) -> Option<u64>

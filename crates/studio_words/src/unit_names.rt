@@ -3,7 +3,7 @@ ghost use Rattle.std.specs.Prelude.{◌≡◌, ◌==◌, ◌<◌, ◌++◌, ◌&
 ghost use Rattle.std.specs.List.{slice_split};
 ghost use Rattle.std.specs.Str.{byte};
 ghost use Rattle.problem_rules.specs.Names.{is_name, is_among};
-ghost use Rattle.studio_words.specs.Command.{unit_names_of};
+ghost use Rattle.studio_rules.specs.Command.{unit_names_of};
 ghost use Rattle.studio_words.specs.Gathering.{gathered};
 
 use indexmap::IndexSet;

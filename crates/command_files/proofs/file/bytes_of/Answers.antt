@@ -1,9 +1,9 @@
 use Rattle.std.proofs.Common.{◌≡◌, ◌++◌, ◌∷◌, [], refl, inl, List, ℕ, codes}
-use Rattle.endings.specs.Lines.{line}
-use Rattle.command_files.specs.Reading.{LongFile}
-use Rattle.endings.specs.Ending.{Shelves, Says}
-use Rattle.endings.specs.declared.status.Status.{Status}
-use Rattle.endings.specs.declared.status.Status.TheVariants.{ReadFault, Memory, TooLong}
+use Rattle.studio_rules.specs.Lines.{line}
+use Rattle.studio_rules.specs.Reading.{LongFile}
+use Rattle.studio_rules.specs.Ending.{Shelves, Says}
+use Rattle.studio_rules.specs.declared.status.Status.{Status}
+use Rattle.studio_rules.specs.declared.status.Status.TheVariants.{ReadFault, Memory, TooLong}
 use Rattle.endings.proofs.Ending.{Ends-map, only_in, only_or_memory_in, one_line}
 use Rattle.command_files.proofs.Files.{long_file}
 use Rattle.command_files.proofs.file.bytes_of.Goals as goal

@@ -1,10 +1,10 @@
 use Rattle.std.proofs.Common.{◌≡◌, ◌∷◌, [], Err, refl, sym, ◌∙◌, inl, List, ℕ, codes, ap}
 use Rattle.text_rules.specs.Value.{read_text}
-use Rattle.endings.specs.Lines.{line}
-use Rattle.command_files.specs.Reading.{FileFault, FileFaults, fault_line}
-use Rattle.endings.specs.Ending.{Shelves, Says}
-use Rattle.endings.specs.declared.status.Status.{Status}
-use Rattle.endings.specs.declared.status.Status.TheVariants.{BadProblem, Memory}
+use Rattle.studio_rules.specs.Lines.{line}
+use Rattle.studio_rules.specs.Reading.{FileFault, FileFaults, fault_line}
+use Rattle.studio_rules.specs.Ending.{Shelves, Says}
+use Rattle.studio_rules.specs.declared.status.Status.{Status}
+use Rattle.studio_rules.specs.declared.status.Status.TheVariants.{BadProblem, Memory}
 use Rattle.endings.proofs.Ending.{Ends-map, Ends-from, only_in, only_or_memory_in, one_line}
 use Rattle.command_files.proofs.Seconds.{long-faults}
 use Rattle.command_files.proofs.problem_file.problem_of.Goals as goal

@@ -1,8 +1,8 @@
 use Rattle.std.proofs.Common.{◌∙◌, inl, inr}
-use Rattle.endings.specs.Lines.{line}
-use Rattle.command_files.specs.Reading.{fault_line}
-use Rattle.endings.specs.Ending.{Only, OrMemory}
-use Rattle.endings.specs.declared.status.Status.TheVariants.{BadProblem}
+use Rattle.studio_rules.specs.Lines.{line}
+use Rattle.studio_rules.specs.Reading.{fault_line}
+use Rattle.studio_rules.specs.Ending.{Only, OrMemory}
+use Rattle.studio_rules.specs.declared.status.Status.TheVariants.{BadProblem}
 use Rattle.endings.proofs.Ending.{Ends-map}
 use Rattle.command_files.proofs.problem_file.say_fault.Goals as goal
 

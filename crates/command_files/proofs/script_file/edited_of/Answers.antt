@@ -1,9 +1,9 @@
 use Rattle.std.proofs.Common.{◌≡◌, ◌∷◌, [], refl, inl, List, ℕ, codes, ap, subst}
-use Rattle.endings.specs.Lines.{line}
-use Rattle.command_files.specs.Script.{ScriptFault, ScriptFaults, HasEditFault, edit_fault_line}
-use Rattle.endings.specs.Ending.{Shelves, Says}
-use Rattle.endings.specs.declared.status.Status.{Status}
-use Rattle.endings.specs.declared.status.Status.TheVariants.{BadEdit, Memory}
+use Rattle.studio_rules.specs.Lines.{line}
+use Rattle.studio_rules.specs.Script.{ScriptFault, ScriptFaults, HasEditFault, edit_fault_line}
+use Rattle.studio_rules.specs.Ending.{Shelves, Says}
+use Rattle.studio_rules.specs.declared.status.Status.{Status}
+use Rattle.studio_rules.specs.declared.status.Status.TheVariants.{BadEdit, Memory}
 use Rattle.endings.proofs.Ending.{Ends-map, Ends-from, only_in, only_or_memory_in, one_line}
 use Rattle.command_files.proofs.Seconds.{long-faults}
 use Rattle.command_files.proofs.script_file.edited_of.Goals as goal

@@ -1,11 +1,11 @@
 use Rattle.std.proofs.Common.{◌≡◌, ◌∷◌, [], Ok, Err, refl, sym, ◌∙◌, inl, List, ℕ, codes, ap}
 use Rattle.branch_tree.specs.View.{claim_of, tail_of}
 use Rattle.tree_text_rules.specs.Read.{read_text}
-use Rattle.endings.specs.Lines.{line}
-use Rattle.command_files.specs.TreeFile.{TreeFault, TreeFaults, tree_fault_line}
-use Rattle.endings.specs.Ending.{Shelves, Says}
-use Rattle.endings.specs.declared.status.Status.{Status}
-use Rattle.endings.specs.declared.status.Status.TheVariants.{BadTree, Memory}
+use Rattle.studio_rules.specs.Lines.{line}
+use Rattle.studio_rules.specs.TreeFile.{TreeFault, TreeFaults, tree_fault_line}
+use Rattle.studio_rules.specs.Ending.{Shelves, Says}
+use Rattle.studio_rules.specs.declared.status.Status.{Status}
+use Rattle.studio_rules.specs.declared.status.Status.TheVariants.{BadTree, Memory}
 use Rattle.endings.proofs.Ending.{Ends-map, Ends-from, only_in, only_or_memory_in, one_line}
 use Rattle.command_files.proofs.Seconds.{long-faults}
 use Rattle.command_files.proofs.tree_file.tree_of.Goals as goal

@@ -1,9 +1,9 @@
 use Rattle.std.proofs.Common.{◌≡◌, ◌⊎◌, refl, ap, ℕ, List}
-use Rattle.command_files.specs.Reading.{OnFile}
-use Rattle.command_files.specs.Script.{OnScript, ScriptSays}
-use Rattle.edit_commands.specs.Edits.{EditWork}
-use Rattle.endings.specs.Ending.{Shelves, Says}
-use Rattle.endings.specs.declared.status.Status.{Status}
+use Rattle.studio_rules.specs.Reading.{OnFile}
+use Rattle.studio_rules.specs.Script.{OnScript, ScriptSays}
+use Rattle.studio_rules.specs.Edits.{EditWork}
+use Rattle.studio_rules.specs.Ending.{Shelves, Says}
+use Rattle.studio_rules.specs.declared.status.Status.{Status}
 use Rattle.endings.proofs.Ending.{Ends-map, Ends-from}
 use Rattle.command_files.proofs.Seconds.{on_both-faults, on_both-work}
 use Rattle.edit_commands.proofs.edits.edit.Goals as goal

@@ -2,12 +2,12 @@ use Rattle.std.proofs.Common.{◌≡◌, IfOk, [], refl, ap, subst, inl, inr, �
 use Rattle.problem_rules.specs.Problem.{Problem}
 use Rattle.edit_rules.specs.Script.{applied}
 use Rattle.text_rules.specs.Canonical.{canonical, canonical_lines}
-use Rattle.endings.specs.Lines.{text_of}
-use Rattle.command_files.specs.Script.{OnScript, ScriptFault, ScriptSays, IsEdited}
-use Rattle.edit_commands.specs.Edits.{EditWork}
-use Rattle.endings.specs.Ending.{Shelves, Says}
-use Rattle.endings.specs.declared.status.Status.{Status}
-use Rattle.endings.specs.declared.status.Status.TheVariants.{Done}
+use Rattle.studio_rules.specs.Lines.{text_of}
+use Rattle.studio_rules.specs.Script.{OnScript, ScriptFault, ScriptSays, IsEdited}
+use Rattle.studio_rules.specs.Edits.{EditWork}
+use Rattle.studio_rules.specs.Ending.{Shelves, Says}
+use Rattle.studio_rules.specs.declared.status.Status.{Status}
+use Rattle.studio_rules.specs.declared.status.Status.TheVariants.{Done}
 use Rattle.endings.proofs.Ending.{Ends-map, Ends-from, only_or_memory_in}
 use Rattle.command_files.proofs.Seconds.{on_second-faults}
 use Rattle.edit_commands.proofs.edits.say_edited.Goals as goal

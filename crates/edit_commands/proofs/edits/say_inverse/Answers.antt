@@ -2,12 +2,12 @@ use Rattle.std.proofs.Common.{◌≡◌, IfOk, [], refl, ap, subst, inl, inr, �
 use Rattle.edit_rules.specs.Edit.{Script}
 use Rattle.edit_rules.specs.Script.{undoing}
 use Rattle.script_rules.specs.Printed.{script_text}
-use Rattle.endings.specs.Lines.{text_of}
-use Rattle.command_files.specs.Script.{OnScript, ScriptFault, ScriptSays, IsEdited, printed_lines}
-use Rattle.edit_commands.specs.Edits.{UndoWork}
-use Rattle.endings.specs.Ending.{Shelves, Says}
-use Rattle.endings.specs.declared.status.Status.{Status}
-use Rattle.endings.specs.declared.status.Status.TheVariants.{Done}
+use Rattle.studio_rules.specs.Lines.{text_of}
+use Rattle.studio_rules.specs.Script.{OnScript, ScriptFault, ScriptSays, IsEdited, printed_lines}
+use Rattle.studio_rules.specs.Edits.{UndoWork}
+use Rattle.studio_rules.specs.Ending.{Shelves, Says}
+use Rattle.studio_rules.specs.declared.status.Status.{Status}
+use Rattle.studio_rules.specs.declared.status.Status.TheVariants.{Done}
 use Rattle.endings.proofs.Ending.{Ends-map, Ends-from, only_or_memory_in}
 use Rattle.command_files.proofs.Seconds.{on_second-faults}
 use Rattle.edit_commands.proofs.edits.say_inverse.Goals as goal

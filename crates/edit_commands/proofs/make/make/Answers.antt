@@ -1,11 +1,11 @@
 use Rattle.std.proofs.Common.{[], refl, inl, List, ℕ}
 use Rattle.text_rules.specs.Canonical.{canonical_lines}
 use Rattle.problem_rules.specs.Generated.{generated}
-use Rattle.endings.specs.Lines.{text_of}
-use Rattle.edit_commands.specs.Make.{MakeWork}
-use Rattle.endings.specs.Ending.{Tells}
-use Rattle.endings.specs.declared.status.Status.{Status}
-use Rattle.endings.specs.declared.status.Status.TheVariants.{Done}
+use Rattle.studio_rules.specs.Lines.{text_of}
+use Rattle.studio_rules.specs.Make.{MakeWork}
+use Rattle.studio_rules.specs.Ending.{Tells}
+use Rattle.studio_rules.specs.declared.status.Status.{Status}
+use Rattle.studio_rules.specs.declared.status.Status.TheVariants.{Done}
 use Rattle.endings.proofs.Ending.{Ends-map, only_or_memory_in}
 use Rattle.edit_commands.proofs.make.make.Goals as goal
 

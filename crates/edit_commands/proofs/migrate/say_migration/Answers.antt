@@ -3,12 +3,12 @@ use Rattle.problem_rules.specs.Problem.{unit_at}
 use Rattle.edit_rules.specs.Edit.{Script}
 use Rattle.edit_rules.specs.Migration.{has_payout, out_of_range_at, migration}
 use Rattle.script_rules.specs.Printed.{script_text}
-use Rattle.endings.specs.Lines.{line, text_of}
-use Rattle.command_files.specs.Script.{printed_lines}
-use Rattle.edit_commands.specs.Migrate.{MigrateWork, out_of_range_line}
-use Rattle.endings.specs.Ending.{Tells}
-use Rattle.endings.specs.declared.status.Status.{Status}
-use Rattle.endings.specs.declared.status.Status.TheVariants.{Done, NotMigrated}
+use Rattle.studio_rules.specs.Lines.{line, text_of}
+use Rattle.studio_rules.specs.Script.{printed_lines}
+use Rattle.studio_rules.specs.Migrate.{MigrateWork, out_of_range_line}
+use Rattle.studio_rules.specs.Ending.{Tells}
+use Rattle.studio_rules.specs.declared.status.Status.{Status}
+use Rattle.studio_rules.specs.declared.status.Status.TheVariants.{Done, NotMigrated}
 use Rattle.endings.proofs.Ending.{Ends-map, only_in, only_or_memory_in, one_line}
 use Rattle.edit_commands.proofs.migrate.say_migration.Goals as goal
 

@@ -1,5 +1,5 @@
 use Rattle.std.proofs.Common.{◌++◌, ◌∙◌, ap, refl, List, ℕ, append_assoc}
-use Rattle.endings.specs.Ending.{Only}
+use Rattle.studio_rules.specs.Ending.{Only}
 use Rattle.endings.proofs.Ending.{Ends-after, HasRisen-later}
 use Rattle.endings.proofs.say.say_both.Goals as goal
 

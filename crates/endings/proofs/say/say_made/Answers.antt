@@ -1,7 +1,7 @@
 use Rattle.std.proofs.Common.{◌≡◌, ◌∙◌, inl, inr}
-use Rattle.endings.specs.Lines.{text_of}
-use Rattle.endings.specs.Ending.{Only, OrMemory}
-use Rattle.endings.specs.declared.status.Status.TheVariants.{Done}
+use Rattle.studio_rules.specs.Lines.{text_of}
+use Rattle.studio_rules.specs.Ending.{Only, OrMemory}
+use Rattle.studio_rules.specs.declared.status.Status.TheVariants.{Done}
 use Rattle.endings.proofs.Ending.{Ends-map}
 use Rattle.endings.proofs.say.say_made.Goals as goal
 

@@ -1,6 +1,6 @@
 use Rattle.std.proofs.Common.{◌++◌, ◌∙◌, inl, inr}
-use Rattle.endings.specs.Lines.{line}
-use Rattle.endings.specs.Ending.{Only, OrMemory}
+use Rattle.studio_rules.specs.Lines.{line}
+use Rattle.studio_rules.specs.Ending.{Only, OrMemory}
 use Rattle.endings.proofs.Ending.{Ends-map}
 use Rattle.endings.proofs.say.say_of.Goals as goal
 

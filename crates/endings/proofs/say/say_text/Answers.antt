@@ -1,6 +1,6 @@
 use Rattle.std.proofs.Common.{refl, sym, arith, length}
 use Rattle.std.proofs.lemmas.Bool.{eqb-true}
-use Rattle.endings.specs.Ending.{Only}
+use Rattle.studio_rules.specs.Ending.{Only}
 use Rattle.endings.proofs.Ending.{HasRisen-later}
 use Rattle.endings.proofs.Put.{put_more, put_stopped, put_whole, Ends-whole}
 use Rattle.endings.proofs.say.say_text.Goals as goal

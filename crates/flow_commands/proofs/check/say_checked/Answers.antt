@@ -2,12 +2,12 @@ use Rattle.std.proofs.Common.{◌++◌, ◌∷◌, ◌∙◌, [], false, refl, a
 use Rattle.branch_tree.specs.View.{claim_of}
 use Rattle.tree_rules.specs.Claim.{ClaimPasses, ClaimFails}
 use Rattle.tree_rules.specs.Accepted.{first_node, NodeIsFault}
-use Rattle.endings.specs.Lines.{line}
-use Rattle.refusal_words.specs.Words.{claim_line, node_line}
-use Rattle.flow_commands.specs.Check.{CheckWork}
-use Rattle.endings.specs.Ending.{Tells}
-use Rattle.endings.specs.declared.status.Status.{Status}
-use Rattle.endings.specs.declared.status.Status.TheVariants.{Done, Refused, Memory}
+use Rattle.studio_rules.specs.Lines.{line}
+use Rattle.studio_rules.specs.RefusalWords.{claim_line, node_line}
+use Rattle.studio_rules.specs.Check.{CheckWork}
+use Rattle.studio_rules.specs.Ending.{Tells}
+use Rattle.studio_rules.specs.declared.status.Status.{Status}
+use Rattle.studio_rules.specs.declared.status.Status.TheVariants.{Done, Refused, Memory}
 use Rattle.endings.proofs.Ending.{Ends-map, only_in, only_or_memory_in, one_line}
 use Rattle.flow_commands.proofs.check.say_checked.Goals as goal
 

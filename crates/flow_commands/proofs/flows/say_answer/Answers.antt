@@ -6,10 +6,10 @@ use Rattle.tree_text_rules.specs.Line.{Token}
 use Rattle.tree_text_rules.specs.Spelling.{network_lines, claim_lines, end_line, place_lines}
 use Rattle.structure_flows.specs.Answers.{AnswersFor, IsLeastFor, IsPastFor}
 use Rattle.tree_rules.specs.LeastFlows.{HasNoFlows}
-use Rattle.flow_commands.specs.Flows.{FlowsSay}
-use Rattle.endings.specs.Printed.{OneAnswer}
-use Rattle.endings.specs.declared.status.Status.{Status}
-use Rattle.endings.specs.declared.status.Status.TheVariants.{Done, Past}
+use Rattle.studio_rules.specs.Flows.{FlowsSay}
+use Rattle.studio_rules.specs.Printed.{OneAnswer}
+use Rattle.studio_rules.specs.declared.status.Status.{Status}
+use Rattle.studio_rules.specs.declared.status.Status.TheVariants.{Done, Past}
 use Rattle.endings.proofs.Ending.{Ends-map, Tells-map}
 use Rattle.flow_commands.proofs.flows.say_answer.Goals as goal
 

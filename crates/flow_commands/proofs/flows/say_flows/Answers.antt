@@ -1,11 +1,11 @@
 use Rattle.std.proofs.Common.{◌∷◌, [], refl, subst, inl, ℕ, List, Option}
 use Rattle.pns_rules.specs.declared.verdict.Axiom.TheVariants.{S3}
-use Rattle.endings.specs.Lines.{line}
-use Rattle.structure_commands.specs.Axioms.{breaks_line}
-use Rattle.flow_commands.specs.Flows.{FlowsWork, FlowNamesSay}
-use Rattle.endings.specs.Ending.{Tells}
-use Rattle.endings.specs.declared.status.Status.{Status}
-use Rattle.endings.specs.declared.status.Status.TheVariants.{Refused}
+use Rattle.studio_rules.specs.Lines.{line}
+use Rattle.studio_rules.specs.Axioms.{breaks_line}
+use Rattle.studio_rules.specs.Flows.{FlowsWork, FlowNamesSay}
+use Rattle.studio_rules.specs.Ending.{Tells}
+use Rattle.studio_rules.specs.declared.status.Status.{Status}
+use Rattle.studio_rules.specs.declared.status.Status.TheVariants.{Refused}
 use Rattle.endings.proofs.Ending.{Ends-map, only_or_memory_in, one_line, Tells-map}
 use Rattle.flow_commands.proofs.flows.say_flows.Goals as goal
 

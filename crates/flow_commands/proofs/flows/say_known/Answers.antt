@@ -5,9 +5,9 @@ use Rattle.pns_rules.specs.Shape.{Shape, shape_of}
 use Rattle.pns_rules.specs.Verdict.{Judges}
 use Rattle.pns_rules.specs.declared.verdict.Verdict.{Verdict}
 use Rattle.pns_rules.specs.declared.verdict.Verdict.TheVariants.{Meets, Breaks}
-use Rattle.structure_commands.specs.Axioms.{VerdictSays, units_named}
-use Rattle.flow_commands.specs.Flows.{FlowsSay, FlowNamesSay, UnitsSay}
-use Rattle.endings.specs.declared.status.Status.{Status}
+use Rattle.studio_rules.specs.Axioms.{VerdictSays, units_named}
+use Rattle.studio_rules.specs.Flows.{FlowsSay, FlowNamesSay, UnitsSay}
+use Rattle.studio_rules.specs.declared.status.Status.{Status}
 use Rattle.endings.proofs.Ending.{Ends-map, Tells-map}
 use Rattle.number_sets.proofs.SetLemmas.{below_from}
 use Rattle.flow_commands.proofs.flows.say_known.Goals as goal

@@ -2,13 +2,13 @@ use Rattle.std.proofs.Common.{refl, sym, subst, ℕ, List}
 use Rattle.branch_tree.specs.View.{claim_of}
 use Rattle.branch_tree.specs.declared.claim.Claim.{Claim}
 use Rattle.tree_rules.specs.declared.why.Why.TheVariants.{Unknown}
-use Rattle.refusal_words.specs.Words.{claim_line}
-use Rattle.endings.specs.Lines.{line}
-use Rattle.endings.specs.Ending.{Tells, Only, OrMemory}
-use Rattle.endings.specs.declared.status.Status.{Status}
-use Rattle.endings.specs.declared.status.Status.TheVariants.{Refused}
+use Rattle.studio_rules.specs.RefusalWords.{claim_line}
+use Rattle.studio_rules.specs.Lines.{line}
+use Rattle.studio_rules.specs.Ending.{Tells, Only, OrMemory}
+use Rattle.studio_rules.specs.declared.status.Status.{Status}
+use Rattle.studio_rules.specs.declared.status.Status.TheVariants.{Refused}
 use Rattle.endings.proofs.Ending.{Ends-map}
-use Rattle.network_commands.specs.Network.{IsRefusedFor, ClaimRefusal}
+use Rattle.studio_rules.specs.Network.{IsRefusedFor, ClaimRefusal}
 use Rattle.network_commands.proofs.Refusals.{refused_for, refusal_told}
 use Rattle.network_commands.proofs.claim.network_of.Goals as goal
 

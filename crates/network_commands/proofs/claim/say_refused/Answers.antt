@@ -1,9 +1,9 @@
 use Rattle.std.proofs.Common.{◌++◌, ap, ◌∙◌, inl, inr, ℕ, List, codes}
-use Rattle.refusal_words.specs.Words.{claim_line}
-use Rattle.endings.specs.Lines.{line}
-use Rattle.endings.specs.Ending.{Only, OrMemory}
-use Rattle.endings.specs.declared.status.Status.{Status}
-use Rattle.endings.specs.declared.status.Status.TheVariants.{Refused}
+use Rattle.studio_rules.specs.RefusalWords.{claim_line}
+use Rattle.studio_rules.specs.Lines.{line}
+use Rattle.studio_rules.specs.Ending.{Only, OrMemory}
+use Rattle.studio_rules.specs.declared.status.Status.{Status}
+use Rattle.studio_rules.specs.declared.status.Status.TheVariants.{Refused}
 use Rattle.endings.proofs.Ending.{Ends-map}
 use Rattle.network_commands.proofs.claim.say_refused.Goals as goal
 

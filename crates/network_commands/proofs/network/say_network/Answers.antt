@@ -1,9 +1,9 @@
 use Rattle.std.proofs.Common.{◌∙◌, [], refl, inl, ℕ, List, codes}
-use Rattle.endings.specs.Lines.{line}
+use Rattle.studio_rules.specs.Lines.{line}
 use Rattle.network_commands.specs.Texts.{TextWork}
-use Rattle.endings.specs.Ending.{Tells}
-use Rattle.endings.specs.declared.status.Status.{Status}
-use Rattle.endings.specs.declared.status.Status.TheVariants.{Done, Memory}
+use Rattle.studio_rules.specs.Ending.{Tells}
+use Rattle.studio_rules.specs.declared.status.Status.{Status}
+use Rattle.studio_rules.specs.declared.status.Status.TheVariants.{Done, Memory}
 use Rattle.endings.proofs.Ending.{Ends-map, only_in}
 use Rattle.network_commands.proofs.network.say_network.Goals as goal
 

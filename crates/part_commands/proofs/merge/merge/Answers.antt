@@ -1,11 +1,11 @@
 use Rattle.std.proofs.Common.{◌≡◌, ◌⊎◌, ap, inl, inr, refl, ℕ, List, map, string_bytes}
 use Rattle.std.specs.List.{Contains}
-use Rattle.command_files.specs.Reading.{FileFaults, OnFile}
-use Rattle.command_files.specs.TreeFile.{OnTree}
-use Rattle.part_commands.specs.Merge.{MergeWork}
+use Rattle.studio_rules.specs.Reading.{FileFaults, OnFile}
+use Rattle.studio_rules.specs.TreeFile.{OnTree}
+use Rattle.studio_rules.specs.Merge.{MergeWork}
 use Rattle.part_commands.proofs.PartFiles.{file_told}
-use Rattle.endings.specs.Ending.{Shelves, Says}
-use Rattle.endings.specs.declared.status.Status.{Status}
+use Rattle.studio_rules.specs.Ending.{Shelves, Says}
+use Rattle.studio_rules.specs.declared.status.Status.{Status}
 use Rattle.endings.proofs.Ending.{Ends-map, Ends-from, Says-map}
 use Rattle.part_commands.proofs.merge.merge.Goals as goal
 

@@ -1,10 +1,10 @@
 use Rattle.std.proofs.Common.{◌≡◌, ◌∷◌, [], refl, subst, sym, inl, ℕ, List, codes}
 use Rattle.part_rules.specs.declared.merge_fault.MergeFault.{MergeFault}
-use Rattle.part_commands.specs.Merge.{TreeRefused, PartRefused, FaultSays, no_leaf_line}
-use Rattle.endings.specs.Lines.{line}
-use Rattle.endings.specs.Ending.{Tells}
-use Rattle.endings.specs.declared.status.Status.{Status}
-use Rattle.endings.specs.declared.status.Status.TheVariants.{NoLeaf, Memory}
+use Rattle.studio_rules.specs.Merge.{TreeRefused, PartRefused, FaultSays, no_leaf_line}
+use Rattle.studio_rules.specs.Lines.{line}
+use Rattle.studio_rules.specs.Ending.{Tells}
+use Rattle.studio_rules.specs.declared.status.Status.{Status}
+use Rattle.studio_rules.specs.declared.status.Status.TheVariants.{NoLeaf, Memory}
 use Rattle.endings.proofs.Ending.{Ends-map, Tells-map, only_in, only_or_memory_in, one_line}
 use Rattle.part_commands.proofs.merge.say_fault.Goals as goal
 

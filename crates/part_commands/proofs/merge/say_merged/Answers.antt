@@ -4,13 +4,13 @@ use Rattle.branch_tree.specs.View.{claim_of}
 use Rattle.tree_rules.specs.Tail.{whole}
 use Rattle.pgraph.specs.Tables.{shape}
 use Rattle.tree_text_rules.specs.Spelling.{tree_text_lines}
-use Rattle.part_commands.specs.Merge.{MergeSays, FaultSays}
+use Rattle.studio_rules.specs.Merge.{MergeSays, FaultSays}
 use Rattle.part_commands.proofs.MergeLines.{inside_known, merged_known}
-use Rattle.endings.specs.Lines.{line}
-use Rattle.endings.specs.Printed.{OneAnswer}
-use Rattle.endings.specs.Ending.{Tells}
-use Rattle.endings.specs.declared.status.Status.{Status}
-use Rattle.endings.specs.declared.status.Status.TheVariants.{Done, Memory}
+use Rattle.studio_rules.specs.Lines.{line}
+use Rattle.studio_rules.specs.Printed.{OneAnswer}
+use Rattle.studio_rules.specs.Ending.{Tells}
+use Rattle.studio_rules.specs.declared.status.Status.{Status}
+use Rattle.studio_rules.specs.declared.status.Status.TheVariants.{Done, Memory}
 use Rattle.endings.proofs.Ending.{Ends-map, Tells-map, Tells-memory, only_in}
 use Rattle.part_commands.proofs.merge.say_merged.Goals as goal
 

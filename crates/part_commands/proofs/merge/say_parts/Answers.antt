@@ -5,11 +5,11 @@ use Rattle.problem_rules.specs.Each.{Each}
 use Rattle.part_rules.specs.Part.{Part}
 use Rattle.branch_tree.specs.View.{claim_of}
 use Rattle.part_rules.specs.Spelling.{KnowsPart}
-use Rattle.part_commands.specs.Merge.{MergeSays, MergeWork}
-use Rattle.part_commands.specs.PartFile.{FirstFault, GiveParts}
+use Rattle.studio_rules.specs.Merge.{MergeSays, MergeWork}
+use Rattle.studio_rules.specs.PartFile.{FirstFault, GiveParts}
 use Rattle.part_commands.proofs.PartFiles.{as_many}
-use Rattle.endings.specs.Ending.{Shelves, Says}
-use Rattle.endings.specs.declared.status.Status.{Status}
+use Rattle.studio_rules.specs.Ending.{Shelves, Says}
+use Rattle.studio_rules.specs.declared.status.Status.{Status}
 use Rattle.endings.proofs.Ending.{Ends-map, Ends-from, Says-map, Says-told}
 use Rattle.part_commands.proofs.merge.say_parts.Goals as goal
 

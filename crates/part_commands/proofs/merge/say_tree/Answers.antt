@@ -1,11 +1,11 @@
 use Rattle.std.proofs.Common.{◌≡◌, ◌⊎◌, ap, inl, inr, refl, ℕ, List, map, string_bytes}
 use Rattle.std.specs.List.{Contains}
 use Rattle.branch_tree.specs.View.{claim_of}
-use Rattle.command_files.specs.TreeFile.{OnTree, TreeFault, TreeFaults, TreeSays}
-use Rattle.part_commands.specs.Merge.{MergeWork}
+use Rattle.studio_rules.specs.TreeFile.{OnTree, TreeFault, TreeFaults, TreeSays}
+use Rattle.studio_rules.specs.Merge.{MergeWork}
 use Rattle.part_commands.proofs.PartFiles.{tree_told}
-use Rattle.endings.specs.Ending.{Shelves, Says}
-use Rattle.endings.specs.declared.status.Status.{Status}
+use Rattle.studio_rules.specs.Ending.{Shelves, Says}
+use Rattle.studio_rules.specs.declared.status.Status.{Status}
 use Rattle.endings.proofs.Ending.{Ends-map, Ends-from, Says-map}
 use Rattle.part_commands.proofs.merge.say_tree.Goals as goal
 

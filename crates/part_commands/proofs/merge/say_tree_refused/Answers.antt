@@ -1,10 +1,10 @@
 use Rattle.std.proofs.Common.{◌≡◌, ◌∷◌, ◌++◌, [], refl, ap, subst, sym, ◌∙◌, inl, ℕ, List, codes}
-use Rattle.refusal_words.specs.Words.{claim_line, node_line}
-use Rattle.part_commands.specs.Merge.{TreeRefused}
-use Rattle.endings.specs.Lines.{line}
-use Rattle.endings.specs.Ending.{Tells}
-use Rattle.endings.specs.declared.status.Status.{Status}
-use Rattle.endings.specs.declared.status.Status.TheVariants.{Refused, NoLeaf, Memory}
+use Rattle.studio_rules.specs.RefusalWords.{claim_line, node_line}
+use Rattle.studio_rules.specs.Merge.{TreeRefused}
+use Rattle.studio_rules.specs.Lines.{line}
+use Rattle.studio_rules.specs.Ending.{Tells}
+use Rattle.studio_rules.specs.declared.status.Status.{Status}
+use Rattle.studio_rules.specs.declared.status.Status.TheVariants.{Refused, NoLeaf, Memory}
 use Rattle.endings.proofs.Ending.{Ends-map, only_in, only_or_memory_in, one_line}
 use Rattle.part_commands.proofs.merge.say_tree_refused.Goals as goal
 

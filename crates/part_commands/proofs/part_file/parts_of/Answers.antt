@@ -6,12 +6,12 @@ use Rattle.problem_rules.specs.Each.{Each}
 use Rattle.text_laws.proofs.Each.{each-append}
 use Rattle.part_rules.specs.Part.{Part}
 use Rattle.part_rules.specs.Spelling.{KnowsPart}
-use Rattle.command_files.specs.Reading.{AreHeld}
-use Rattle.part_commands.specs.PartFile.{FirstFault, GivesPart}
+use Rattle.studio_rules.specs.Reading.{AreHeld}
+use Rattle.studio_rules.specs.PartFile.{FirstFault, GivesPart}
 use Rattle.part_commands.proofs.PartFiles.{GiveBefore, one_given, fault_told}
-use Rattle.endings.specs.Ending.{Shelves, Says}
-use Rattle.endings.specs.declared.status.Status.{Status}
-use Rattle.endings.specs.declared.status.Status.TheVariants.{Memory}
+use Rattle.studio_rules.specs.Ending.{Shelves, Says}
+use Rattle.studio_rules.specs.declared.status.Status.{Status}
+use Rattle.studio_rules.specs.declared.status.Status.TheVariants.{Memory}
 use Rattle.endings.proofs.Ending.{Ends-from, only_in}
 use Rattle.part_commands.proofs.part_file.parts_of.Goals as goal
 

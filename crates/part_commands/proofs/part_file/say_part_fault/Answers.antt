@@ -1,8 +1,8 @@
 use Rattle.std.proofs.Common.{◌∙◌, inl}
-use Rattle.endings.specs.Lines.{line}
-use Rattle.part_commands.specs.PartFile.{part_fault_line}
-use Rattle.endings.specs.Ending.{Only, OrMemory}
-use Rattle.endings.specs.declared.status.Status.TheVariants.{BadTree}
+use Rattle.studio_rules.specs.Lines.{line}
+use Rattle.studio_rules.specs.PartFile.{part_fault_line}
+use Rattle.studio_rules.specs.Ending.{Only, OrMemory}
+use Rattle.studio_rules.specs.declared.status.Status.TheVariants.{BadTree}
 use Rattle.endings.proofs.Ending.{Ends-map}
 use Rattle.part_commands.proofs.part_file.say_part_fault.Goals as goal
 

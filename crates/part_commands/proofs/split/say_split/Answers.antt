@@ -6,12 +6,12 @@ use Rattle.pns_rules.specs.Shape.{shape_of}
 use Rattle.part_rules.specs.OpenLeaves.{open_leaves}
 use Rattle.cert_check.specs.declared.open_leaf.OpenLeaf.{OpenLeaf}
 use Rattle.cert_check.specs.OpenLeaves.{leaves_at}
-use Rattle.endings.specs.Lines.{line}
-use Rattle.part_commands.specs.Split.{SplitWork, LeavesSay, split_lines}
-use Rattle.refusal_words.specs.Words.{claim_line, node_line}
-use Rattle.endings.specs.Ending.{Tells}
-use Rattle.endings.specs.declared.status.Status.{Status}
-use Rattle.endings.specs.declared.status.Status.TheVariants.{Refused, Memory}
+use Rattle.studio_rules.specs.Lines.{line}
+use Rattle.studio_rules.specs.Split.{SplitWork, LeavesSay, split_lines}
+use Rattle.studio_rules.specs.RefusalWords.{claim_line, node_line}
+use Rattle.studio_rules.specs.Ending.{Tells}
+use Rattle.studio_rules.specs.declared.status.Status.{Status}
+use Rattle.studio_rules.specs.declared.status.Status.TheVariants.{Refused, Memory}
 use Rattle.endings.proofs.Ending.{Ends-map, Tells-map, only_in, only_or_memory_in, one_line}
 use Rattle.part_commands.proofs.split.say_split.Goals as goal
 

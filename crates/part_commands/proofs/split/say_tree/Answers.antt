@@ -1,9 +1,9 @@
 use Rattle.std.proofs.Common.{◌≡◌, ap, inl, inr, ℕ, List}
 use Rattle.branch_tree.specs.View.{claim_of}
-use Rattle.command_files.specs.TreeFile.{OnTree, TreeFault, TreeSays}
-use Rattle.part_commands.specs.Split.{SplitWork}
-use Rattle.endings.specs.Ending.{Shelves, Says}
-use Rattle.endings.specs.declared.status.Status.{Status}
+use Rattle.studio_rules.specs.TreeFile.{OnTree, TreeFault, TreeSays}
+use Rattle.studio_rules.specs.Split.{SplitWork}
+use Rattle.studio_rules.specs.Ending.{Shelves, Says}
+use Rattle.studio_rules.specs.declared.status.Status.{Status}
 use Rattle.endings.proofs.Ending.{Ends-map, Ends-from, Says-told}
 use Rattle.command_files.proofs.Seconds.{on_second-faults}
 use Rattle.part_commands.proofs.split.say_tree.Goals as goal

@@ -2,12 +2,12 @@ use Rattle.std.proofs.Common.{◌∙◌, sym}
 use Rattle.pgraph.specs.View.{node_of}
 use Rattle.part_rules.specs.Part.{Part}
 use Rattle.part_rules.specs.Spelling.{part_text_lines}
-use Rattle.searches.specs.Solve.{status_of}
+use Rattle.studio_rules.specs.Solve.{status_of}
 use Rattle.part_searches.specs.Found.{FoundSays}
 use Rattle.part_searches.proofs.Parts.{can_print}
-use Rattle.endings.specs.Printed.{OneAnswer}
-use Rattle.endings.specs.Ending.{Tells}
-use Rattle.endings.specs.declared.status.Status.TheVariants.{Memory}
+use Rattle.studio_rules.specs.Printed.{OneAnswer}
+use Rattle.studio_rules.specs.Ending.{Tells}
+use Rattle.studio_rules.specs.declared.status.Status.TheVariants.{Memory}
 use Rattle.endings.proofs.Ending.{Ends-map, Tells-map, Tells-memory, only_in}
 use Rattle.part_searches.proofs.found.say_found.Goals as goal
 

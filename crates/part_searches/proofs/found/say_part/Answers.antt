@@ -1,7 +1,7 @@
 use Rattle.std.proofs.Common.{◌≡◌, ◌∙◌, ap}
-use Rattle.searches.specs.Solve.{status_of}
+use Rattle.studio_rules.specs.Solve.{status_of}
 use Rattle.part_rules.specs.Spelling.{part_text_lines}
-use Rattle.endings.specs.Printed.{OneAnswer}
+use Rattle.studio_rules.specs.Printed.{OneAnswer}
 use Rattle.endings.proofs.Ending.{Ends-map, Tells-map}
 use Rattle.part_searches.proofs.Parts.{is_printing}
 use Rattle.part_searches.proofs.found.say_part.Goals as goal

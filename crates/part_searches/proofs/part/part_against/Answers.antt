@@ -1,9 +1,9 @@
 use Rattle.std.proofs.Common.{◌≡◌, ◌⊎◌, refl, ap, ℕ, List}
-use Rattle.command_files.specs.Reading.{OnFile}
-use Rattle.part_searches.specs.Part.{AgainstWork}
+use Rattle.studio_rules.specs.Reading.{OnFile}
+use Rattle.studio_rules.specs.Part.{AgainstWork}
 use Rattle.part_searches.proofs.Behind.{file_faults, file_work}
-use Rattle.endings.specs.Ending.{Shelves, Says}
-use Rattle.endings.specs.declared.status.Status.{Status}
+use Rattle.studio_rules.specs.Ending.{Shelves, Says}
+use Rattle.studio_rules.specs.declared.status.Status.{Status}
 use Rattle.endings.proofs.Ending.{Ends-map, Ends-from}
 use Rattle.part_searches.proofs.part.part_against.Goals as goal
 

@@ -3,11 +3,11 @@ use Rattle.tree_rules.specs.Claim.{Network, IsFeasible}
 use Rattle.branch_tree.specs.View.{claim_of}
 use Rattle.branch_tree.specs.declared.claim.Claim.{Claim}
 use Rattle.branch_tree.specs.declared.claim.Claim.TheVariants as claims
-use Rattle.network_commands.specs.Network.{ClaimRefusal}
-use Rattle.part_searches.specs.Part.{PartSays, ClaimSays}
+use Rattle.studio_rules.specs.Network.{ClaimRefusal}
+use Rattle.studio_rules.specs.Part.{PartSays, ClaimSays}
 use Rattle.part_searches.proofs.Parts.{network_is}
-use Rattle.endings.specs.Ending.{Tells}
-use Rattle.endings.specs.declared.status.Status.{Status}
+use Rattle.studio_rules.specs.Ending.{Tells}
+use Rattle.studio_rules.specs.declared.status.Status.{Status}
 use Rattle.endings.proofs.Ending.{Ends-map, Ends-from, Tells-map}
 use Rattle.part_searches.proofs.part.say_claimed.Goals as goal
 

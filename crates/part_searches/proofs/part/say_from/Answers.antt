@@ -1,8 +1,8 @@
 use Rattle.std.proofs.Common.{None, [], ◌∷◌, refl, inl, inr, ℕ, List, codes}
-use Rattle.part_searches.specs.Part.{PartSays, PartWork}
-use Rattle.endings.specs.Ending.{Tells}
-use Rattle.endings.specs.declared.status.Status.{Status}
-use Rattle.endings.specs.declared.status.Status.TheVariants.{Memory, BadNode}
+use Rattle.studio_rules.specs.Part.{PartSays, PartWork}
+use Rattle.studio_rules.specs.Ending.{Tells}
+use Rattle.studio_rules.specs.declared.status.Status.{Status}
+use Rattle.studio_rules.specs.declared.status.Status.TheVariants.{Memory, BadNode}
 use Rattle.endings.proofs.Ending.{Ends-map, Tells-map, Tells-memory, only_in}
 use Rattle.part_searches.proofs.part.say_from.Goals as goal
 

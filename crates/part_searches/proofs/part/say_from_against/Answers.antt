@@ -1,9 +1,9 @@
 use Rattle.std.proofs.Common.{◌≡◌, [], ◌∷◌, refl, inl, inr, ℕ, List, codes}
-use Rattle.command_files.specs.TreeFile.{OnTree}
-use Rattle.part_searches.specs.Part.{ClaimSays, AgainstWork}
-use Rattle.endings.specs.Ending.{Shelves, Says}
-use Rattle.endings.specs.declared.status.Status.{Status}
-use Rattle.endings.specs.declared.status.Status.TheVariants.{Memory, BadNode}
+use Rattle.studio_rules.specs.TreeFile.{OnTree}
+use Rattle.studio_rules.specs.Part.{ClaimSays, AgainstWork}
+use Rattle.studio_rules.specs.Ending.{Shelves, Says}
+use Rattle.studio_rules.specs.declared.status.Status.{Status}
+use Rattle.studio_rules.specs.declared.status.Status.TheVariants.{Memory, BadNode}
 use Rattle.endings.proofs.Ending.{Ends-map, Says-map, Tells-memory, only_in}
 use Rattle.part_searches.proofs.part.say_from_against.Goals as goal
 

@@ -1,8 +1,9 @@
 use Rattle.std.proofs.Common.{None}
 use Rattle.abb_search.specs.declared.outcome.Found.{Found}
 use Rattle.part_searches.specs.Found.{FoundSays}
-use Rattle.part_searches.specs.Part.{PartSays}
+use Rattle.studio_rules.specs.Part.{PartSays}
 use Rattle.endings.proofs.Ending.{Ends-map, Tells-map}
+use Rattle.part_searches.proofs.Parts.{part_says}
 use Rattle.part_searches.proofs.part.say_searched.Goals as goal
 
 pub returns : goal.returns
@@ -11,5 +12,5 @@ returns g c =
     let s = c.args.start.now in
     let found : Found = c.search-found.result in
     Ends-map _ _ _ _ _ _ _
-    (Tells-map (FoundSays p s.inside s.outside found) (PartSays c.args.budget None s.inside s.outside p) (λ status lines h. record { found = found; is_found = c.search-found.ensures.found; no_dearer = tt; says = h }))
+    (Tells-map (FoundSays p s.inside s.outside found) (PartSays c.args.budget None s.inside s.outside p) (λ status lines h. part_says c.args.budget None s.inside s.outside p status lines found c.search-found.ensures.found tt h))
     (λ r. r) c.say_found.ensures

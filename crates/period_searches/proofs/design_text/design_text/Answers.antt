@@ -1,7 +1,7 @@
 use Rattle.std.proofs.Common.{◌≡◌, ◌∙◌, ◌++◌, ℕ, List, ap, ap₂}
 use Rattle.design_rules.specs.Folded.{Run, Written}
-use Rattle.endings.specs.Lines.{text_of}
-use Rattle.period_searches.specs.DesignText.{built_lines, runs_lines}
+use Rattle.studio_rules.specs.Lines.{text_of}
+use Rattle.studio_rules.specs.DesignText.{built_lines, runs_lines}
 use Rattle.period_searches.proofs.Texts.{whole_text}
 use Rattle.period_searches.proofs.design_text.design_text.Goals as goal
 

@@ -1,6 +1,6 @@
 use Rattle.std.proofs.Common.{◌≡◌, ◌∙◌, ◌++◌, ℕ, List, ap, ap₂}
 use Rattle.design_rules.specs.Folded.{Written}
-use Rattle.period_searches.specs.DesignText.{spaced_units}
+use Rattle.studio_rules.specs.DesignText.{spaced_units}
 use Rattle.period_searches.proofs.Texts.{built_text}
 use Rattle.period_searches.proofs.design_text.push_built.Goals as goal
 

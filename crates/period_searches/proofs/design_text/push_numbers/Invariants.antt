@@ -1,5 +1,5 @@
 use Rattle.std.proofs.Common.{◌≡◌, ◌++◌, drop, string_bytes}
-use Rattle.period_searches.specs.DesignText.{spaced_numbers}
+use Rattle.studio_rules.specs.DesignText.{spaced_numbers}
 use Rattle.period_searches.proofs.design_text.push_numbers.Given as goal
 
 abbrev pub invariant-printing : goal.invariant-printing

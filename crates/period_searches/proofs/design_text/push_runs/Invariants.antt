@@ -1,6 +1,6 @@
 use Rattle.std.proofs.Common.{◌≡◌, ◌++◌, ◌+◌, drop}
-use Rattle.endings.specs.Lines.{text_of}
-use Rattle.period_searches.specs.DesignText.{runs_lines}
+use Rattle.studio_rules.specs.Lines.{text_of}
+use Rattle.studio_rules.specs.DesignText.{runs_lines}
 use Rattle.period_searches.proofs.design_text.push_runs.Given as goal
 
 abbrev pub invariant-running : goal.invariant-running

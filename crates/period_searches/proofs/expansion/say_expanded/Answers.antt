@@ -1,12 +1,12 @@
 use Rattle.std.proofs.Common.{◌≡◌, [], refl, ap, inl, inr, ℕ, List}
 use Rattle.text_rules.specs.Canonical.{canonical_lines}
 use Rattle.plan_rules.specs.Expanded.{expanded}
-use Rattle.endings.specs.Lines.{text_of}
-use Rattle.command_files.specs.Plan.{OnPlan, PlanFileFault, PlanSays}
-use Rattle.period_searches.specs.Expand.{ExpandWork}
-use Rattle.endings.specs.Ending.{Shelves, Says}
-use Rattle.endings.specs.declared.status.Status.{Status}
-use Rattle.endings.specs.declared.status.Status.TheVariants.{Done}
+use Rattle.studio_rules.specs.Lines.{text_of}
+use Rattle.studio_rules.specs.Plan.{OnPlan, PlanFileFault, PlanSays}
+use Rattle.studio_rules.specs.Expand.{ExpandWork}
+use Rattle.studio_rules.specs.Ending.{Shelves, Says}
+use Rattle.studio_rules.specs.declared.status.Status.{Status}
+use Rattle.studio_rules.specs.declared.status.Status.TheVariants.{Done}
 use Rattle.endings.proofs.Ending.{Ends-map, Ends-from, only_or_memory_in}
 use Rattle.command_files.proofs.Seconds.{on_second-faults}
 use Rattle.period_searches.proofs.expansion.say_expanded.Goals as goal

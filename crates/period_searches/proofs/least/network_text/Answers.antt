@@ -1,8 +1,8 @@
 use Rattle.std.proofs.Common.{◌≡◌, IfOk, length, subst, ap, arith}
 use Rattle.std.proofs.lemmas.List.FromFn.{length-map-range_with_len}
 use Rattle.design_rules.specs.Folded.{Written, run_in}
-use Rattle.endings.specs.Lines.{text_of}
-use Rattle.period_searches.specs.DesignText.{design_lines}
+use Rattle.studio_rules.specs.Lines.{text_of}
+use Rattle.studio_rules.specs.DesignText.{design_lines}
 use Rattle.period_searches.proofs.least.network_text.Goals as goal
 
 pub design_text-requires : goal.design_text-requires

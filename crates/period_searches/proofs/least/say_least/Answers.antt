@@ -1,7 +1,7 @@
-use Rattle.endings.specs.Ending.{Tells}
-use Rattle.endings.specs.declared.status.Status.TheVariants.{Memory}
+use Rattle.studio_rules.specs.Ending.{Tells}
+use Rattle.studio_rules.specs.declared.status.Status.TheVariants.{Memory}
 use Rattle.endings.proofs.Ending.{Ends-map, Tells-memory, only_in}
-use Rattle.period_searches.specs.Periods.{PeriodsWork}
+use Rattle.studio_rules.specs.Periods.{PeriodsWork}
 use Rattle.period_searches.proofs.least.say_least.Goals as goal
 
 pub returns-in-Err : goal.returns-in-Err

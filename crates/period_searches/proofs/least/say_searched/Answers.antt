@@ -2,13 +2,13 @@ use Rattle.std.proofs.Common.{◌≡◌, ℕ, List, [], ◌∷◌, refl, codes}
 use Rattle.plan_rules.specs.Plan.{Plan}
 use Rattle.abb_search.specs.declared.outcome.Found.{Found}
 use Rattle.design_rules.specs.Folded.{folded}
-use Rattle.endings.specs.Lines.{text_of}
-use Rattle.endings.specs.Ending.{Tells}
-use Rattle.endings.specs.declared.status.Status.TheVariants.{Done, Memory}
+use Rattle.studio_rules.specs.Lines.{text_of}
+use Rattle.studio_rules.specs.Ending.{Tells}
+use Rattle.studio_rules.specs.declared.status.Status.TheVariants.{Done, Memory}
 use Rattle.endings.proofs.Ending.{Ends-map, Tells-map, Tells-memory, only_in, only_or_memory_in}
 use Rattle.searches.specs.Found.{FoundSays}
-use Rattle.period_searches.specs.DesignText.{design_lines}
-use Rattle.period_searches.specs.Periods.{PeriodsWork}
+use Rattle.studio_rules.specs.DesignText.{design_lines}
+use Rattle.studio_rules.specs.Periods.{PeriodsWork}
 use Rattle.period_searches.proofs.Searched.{feasible_there, least_text, none_text, stopped_text}
 use Rattle.period_searches.proofs.least.say_searched.Goals as goal
 

@@ -1,10 +1,10 @@
 use Rattle.std.proofs.Common.{◌≡◌, ap, inl, inr, ℕ, List}
 use Rattle.problem_rules.specs.Problem.{Problem}
 use Rattle.plan_rules.specs.Plan.{Plan}
-use Rattle.command_files.specs.Plan.{OnPlan, PlanFileFault, PlanSays}
-use Rattle.period_searches.specs.Periods.{PeriodsWork}
-use Rattle.endings.specs.Ending.{Shelves, Says, Tells}
-use Rattle.endings.specs.declared.status.Status.{Status}
+use Rattle.studio_rules.specs.Plan.{OnPlan, PlanFileFault, PlanSays}
+use Rattle.studio_rules.specs.Periods.{PeriodsWork}
+use Rattle.studio_rules.specs.Ending.{Shelves, Says, Tells}
+use Rattle.studio_rules.specs.declared.status.Status.{Status}
 use Rattle.endings.proofs.Ending.{Ends-map, Ends-from, Says-told}
 use Rattle.command_files.proofs.Seconds.{on_second-faults}
 use Rattle.period_searches.proofs.planned.say_planned.Goals as goal

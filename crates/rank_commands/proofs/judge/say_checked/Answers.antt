@@ -2,12 +2,12 @@ use Rattle.std.proofs.Common.{◌∷◌, [], false, refl, inl, inr, ℕ, List, c
 use Rattle.rank_rules.specs.Networks.{ArePassing}
 use Rattle.rank_rules.specs.Ranked.{NetworkIsFault, NodeIsFault}
 use Rattle.rank_rules.specs.Text.{ranking_of}
-use Rattle.rank_commands.specs.Words.{network_line, rank_node_line}
-use Rattle.endings.specs.Lines.{line}
-use Rattle.rank_commands.specs.Rankcheck.{RankcheckWork}
-use Rattle.endings.specs.Ending.{Tells}
-use Rattle.endings.specs.declared.status.Status.{Status}
-use Rattle.endings.specs.declared.status.Status.TheVariants.{Done, Refused, Memory}
+use Rattle.studio_rules.specs.RankWords.{network_line, rank_node_line}
+use Rattle.studio_rules.specs.Lines.{line}
+use Rattle.studio_rules.specs.Rankcheck.{RankcheckWork}
+use Rattle.studio_rules.specs.Ending.{Tells}
+use Rattle.studio_rules.specs.declared.status.Status.{Status}
+use Rattle.studio_rules.specs.declared.status.Status.TheVariants.{Done, Refused, Memory}
 use Rattle.endings.proofs.Ending.{Ends-map, only_in, only_or_memory_in, one_line}
 use Rattle.rank_commands.proofs.judge.say_checked.Goals as goal
 

@@ -1,9 +1,9 @@
 use Rattle.std.proofs.Common.{◌≡◌, ◌∙◌, inl, ℕ, List}
-use Rattle.rank_commands.specs.Words.{network_line}
-use Rattle.endings.specs.Lines.{line}
-use Rattle.endings.specs.Ending.{Only, OrMemory}
-use Rattle.endings.specs.declared.status.Status.{Status}
-use Rattle.endings.specs.declared.status.Status.TheVariants.{Refused}
+use Rattle.studio_rules.specs.RankWords.{network_line}
+use Rattle.studio_rules.specs.Lines.{line}
+use Rattle.studio_rules.specs.Ending.{Only, OrMemory}
+use Rattle.studio_rules.specs.declared.status.Status.{Status}
+use Rattle.studio_rules.specs.declared.status.Status.TheVariants.{Refused}
 use Rattle.endings.proofs.Ending.{Ends-map}
 use Rattle.rank_commands.proofs.judge.say_network.Goals as goal
 

@@ -1,8 +1,8 @@
-use Rattle.endings.specs.Ending.{Tells}
-use Rattle.endings.specs.declared.status.Status.TheVariants.{Memory}
+use Rattle.studio_rules.specs.Ending.{Tells}
+use Rattle.studio_rules.specs.declared.status.Status.TheVariants.{Memory}
 use Rattle.endings.proofs.Ending.{Ends-map, Tells-map, Tells-memory, only_in}
 use Rattle.rank_searches.specs.Found.{FoundSays}
-use Rattle.rank_searches.specs.Rank.{RankWork}
+use Rattle.studio_rules.specs.Rank.{RankWork}
 use Rattle.rank_searches.proofs.Rankings.{found_works}
 use Rattle.rank_searches.proofs.command.say_ranked.Goals as goal
 

@@ -1,8 +1,8 @@
 use Rattle.std.proofs.Common.{◌≡◌, ◌∙◌, ap}
-use Rattle.searches.specs.Solve.{status_of}
+use Rattle.studio_rules.specs.Solve.{status_of}
 use Rattle.searches.proofs.FoundTexts.{is_printing}
 use Rattle.rank_rules.specs.Spelling.{rank_text_lines}
-use Rattle.endings.specs.Printed.{OneAnswer}
+use Rattle.studio_rules.specs.Printed.{OneAnswer}
 use Rattle.endings.proofs.Ending.{Ends-map, Tells-map}
 use Rattle.rank_searches.specs.Found.{RankingSays}
 use Rattle.rank_searches.proofs.Rankings.{says}

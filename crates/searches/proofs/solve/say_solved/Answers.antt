@@ -1,8 +1,8 @@
-use Rattle.endings.specs.Ending.{Tells}
-use Rattle.endings.specs.declared.status.Status.TheVariants.{Memory}
+use Rattle.studio_rules.specs.Ending.{Tells}
+use Rattle.studio_rules.specs.declared.status.Status.TheVariants.{Memory}
 use Rattle.endings.proofs.Ending.{Ends-map, Tells-map, Tells-memory, only_in}
 use Rattle.searches.specs.Found.{FoundSays}
-use Rattle.searches.specs.Solve.{SolveWork}
+use Rattle.studio_rules.specs.Solve.{SolveWork}
 use Rattle.searches.proofs.FoundTexts.{found_solves}
 use Rattle.searches.proofs.solve.say_solved.Goals as goal
 

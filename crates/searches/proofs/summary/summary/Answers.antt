@@ -3,7 +3,7 @@ use Rattle.std.specs.Int.{w128}
 use Rattle.std.proofs.lemmas.Int.{to_z-of_z}
 use Rattle.number_sets.specs.Sets.{has}
 use Rattle.problem_rules.specs.Problem.{OperatingUnit, unit_names}
-use Rattle.endings.specs.Lines.{spaced_names, names_in}
+use Rattle.studio_rules.specs.Lines.{spaced_names, names_in}
 use Rattle.searches.proofs.Summaries.{before_names, behind_names, summary_is}
 use Rattle.searches.proofs.summary.summary.Goals as goal
 

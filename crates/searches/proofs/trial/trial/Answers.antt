@@ -1,9 +1,9 @@
 use Rattle.std.proofs.Common.{subst}
 use Rattle.problem_rules.specs.Problem.{Problem}
-use Rattle.searches.specs.Summary.{SummaryWork}
-use Rattle.searches.specs.Trial.{TrialWork}
-use Rattle.endings.specs.Ending.{Tells}
-use Rattle.endings.specs.declared.status.Status.TheVariants.{Memory}
+use Rattle.studio_rules.specs.Summary.{SummaryWork}
+use Rattle.studio_rules.specs.Trial.{TrialWork}
+use Rattle.studio_rules.specs.Ending.{Tells}
+use Rattle.studio_rules.specs.declared.status.Status.TheVariants.{Memory}
 use Rattle.endings.proofs.Ending.{Ends-map, Tells-map, Tells-memory, only_in}
 use Rattle.searches.proofs.trial.trial.Goals as goal
 

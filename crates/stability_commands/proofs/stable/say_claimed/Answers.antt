@@ -1,9 +1,9 @@
 use Rattle.std.proofs.Common.{ap, inl, inr, ℕ, List}
 use Rattle.branch_tree.specs.View.{claim_of}
-use Rattle.network_commands.specs.Network.{OnNetwork, ClaimRefusal}
-use Rattle.stability_commands.specs.Stable.{SpotWork}
-use Rattle.endings.specs.Ending.{Tells}
-use Rattle.endings.specs.declared.status.Status.{Status}
+use Rattle.studio_rules.specs.Network.{OnNetwork, ClaimRefusal}
+use Rattle.studio_rules.specs.Stable.{SpotWork}
+use Rattle.studio_rules.specs.Ending.{Tells}
+use Rattle.studio_rules.specs.declared.status.Status.{Status}
 use Rattle.endings.proofs.Ending.{Ends-map, Ends-from, Tells-map}
 use Rattle.stability_commands.proofs.stable.say_claimed.Goals as goal
 

@@ -1,7 +1,7 @@
 use Rattle.text_rules.specs.Outside.{HasRisen}
-use Rattle.endings.specs.declared.status.Status.TheVariants.{NotBest}
+use Rattle.studio_rules.specs.declared.status.Status.TheVariants.{NotBest}
 use Rattle.endings.proofs.Printing.{printed_first}
-use Rattle.stability_commands.specs.Stable.{not_best_lines}
+use Rattle.studio_rules.specs.Stable.{not_best_lines}
 use Rattle.stability_commands.proofs.Printed.{not_best_whole, not_best_front}
 use Rattle.stability_commands.proofs.stable.say_not_best.Goals as goal
 

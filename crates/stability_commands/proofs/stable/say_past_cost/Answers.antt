@@ -1,7 +1,7 @@
 use Rattle.std.proofs.Common.{SFits, rules}
 use Rattle.std.specs.Int.{w64}
 use Rattle.std.proofs.lemmas.Int.{to_z-of_z}
-use Rattle.stability_commands.specs.Stable.{past_cost_lines}
+use Rattle.studio_rules.specs.Stable.{past_cost_lines}
 use Rattle.stability_commands.proofs.stable.say_past_cost.Goals as goal
 
 pub returns : goal.returns

@@ -2,9 +2,9 @@ use Rattle.std.proofs.Common.{List}
 use Rattle.tree_rules.specs.Claim.{Network}
 use Rattle.tree_text_rules.specs.Line.{Token}
 use Rattle.stability_rules.specs.declared.side.Side.TheVariants.{Below, Above}
-use Rattle.stability_commands.specs.Stable.{range_lines, SpotWork}
-use Rattle.endings.specs.Printed.{OneAnswer}
-use Rattle.endings.specs.declared.status.Status.TheVariants.{Done}
+use Rattle.studio_rules.specs.Stable.{range_lines, SpotWork}
+use Rattle.studio_rules.specs.Printed.{OneAnswer}
+use Rattle.studio_rules.specs.declared.status.Status.TheVariants.{Done}
 use Rattle.endings.proofs.Ending.{Ends-map, Tells-map}
 use Rattle.stability_commands.proofs.Told.{knows_beyond, range_told}
 use Rattle.stability_commands.proofs.stable.say_range.Goals as goal

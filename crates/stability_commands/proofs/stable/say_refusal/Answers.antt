@@ -6,11 +6,11 @@ use Rattle.abb_search.specs.declared.outcome.Found.TheVariants as founds
 use Rattle.stability_rules.specs.Spot.{valued}
 use Rattle.stability.specs.declared.outcome.RangeFault.TheVariants.{NotBest, Spent, Past, PastCost}
 use Rattle.stability.specs.Refusal.{IsRefusal}
-use Rattle.endings.specs.Ending.{Tells}
-use Rattle.endings.specs.Printed.{OneAnswer}
-use Rattle.endings.specs.declared.status.Status.TheVariants as statuses
+use Rattle.studio_rules.specs.Ending.{Tells}
+use Rattle.studio_rules.specs.Printed.{OneAnswer}
+use Rattle.studio_rules.specs.declared.status.Status.TheVariants as statuses
 use Rattle.endings.proofs.Ending.{Ends-map, Tells-map, Tells-memory, only_in}
-use Rattle.stability_commands.specs.Stable.{not_best_lines, past_cost_lines, SpotWork}
+use Rattle.studio_rules.specs.Stable.{not_best_lines, past_cost_lines, SpotWork}
 use Rattle.stability_commands.specs.Beyond.{StopSays}
 use Rattle.stability_commands.proofs.Told.{not_best_told, past_cost_told, spent_told, past_told}
 use Rattle.stability_commands.proofs.stable.say_refusal.Goals as goal

@@ -5,13 +5,13 @@ use Rattle.problem_rules.specs.Problem.{Problem}
 use Rattle.tree_text_rules.specs.Line.{Token}
 use Rattle.tree_text_rules.specs.Read.{Certificate}
 use Rattle.tree_text_rules.specs.Spelling.{tree_text_lines}
-use Rattle.endings.specs.Ending.{Tells}
-use Rattle.endings.specs.Printed.{OneAnswer}
-use Rattle.endings.specs.declared.status.Status.TheVariants.{Memory}
+use Rattle.studio_rules.specs.Ending.{Tells}
+use Rattle.studio_rules.specs.Printed.{OneAnswer}
+use Rattle.studio_rules.specs.declared.status.Status.TheVariants.{Memory}
 use Rattle.endings.proofs.Ending.{Ends-map, Tells-map, Tells-memory, only_in}
 use Rattle.searches.proofs.FoundTexts.{CanPrint, is_printing}
 use Rattle.stability_rules.specs.Spot.{valued}
-use Rattle.stability_commands.specs.Stable.{at_line}
+use Rattle.studio_rules.specs.Stable.{at_line}
 use Rattle.stability_commands.specs.Beyond.{StopSays}
 use Rattle.stability_commands.proofs.Told.{can_print_there, stop_says}
 use Rattle.stability_commands.proofs.stable.say_stopped.Goals as goal

@@ -1,11 +1,11 @@
 use Rattle.std.proofs.Common.{◌≡◌, ap, sym, subst, IfSome, inl, inr, ℕ, List, Option}
 use Rattle.branch_tree.specs.View.{claim_of}
-use Rattle.command_files.specs.TreeFile.{OnTree, TreeFault, TreeSays}
+use Rattle.studio_rules.specs.TreeFile.{OnTree, TreeFault, TreeSays}
 use Rattle.stability_rules.specs.declared.spot.Spot.{Spot}
 use Rattle.stability_rules.specs.Spot.{KnowsSpot}
-use Rattle.stability_commands.specs.Stable.{NamedWork, StableWork}
-use Rattle.endings.specs.Ending.{Shelves, Says, Tells}
-use Rattle.endings.specs.declared.status.Status.{Status}
+use Rattle.studio_rules.specs.Stable.{NamedWork, StableWork}
+use Rattle.studio_rules.specs.Ending.{Shelves, Says, Tells}
+use Rattle.studio_rules.specs.declared.status.Status.{Status}
 use Rattle.endings.proofs.Ending.{Ends-map, Ends-from, Says-told}
 use Rattle.command_files.proofs.Seconds.{on_second-faults}
 use Rattle.stability_commands.proofs.Named.{spot_known}

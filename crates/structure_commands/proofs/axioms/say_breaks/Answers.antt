@@ -1,8 +1,8 @@
 use Rattle.std.proofs.Common.{◌∙◌, inl, inr}
-use Rattle.endings.specs.Lines.{line}
-use Rattle.structure_commands.specs.Axioms.{breaks_line}
-use Rattle.endings.specs.Ending.{Only, OrMemory}
-use Rattle.endings.specs.declared.status.Status.TheVariants.{Refused}
+use Rattle.studio_rules.specs.Lines.{line}
+use Rattle.studio_rules.specs.Axioms.{breaks_line}
+use Rattle.studio_rules.specs.Ending.{Only, OrMemory}
+use Rattle.studio_rules.specs.declared.status.Status.TheVariants.{Refused}
 use Rattle.endings.proofs.Ending.{Ends-map}
 use Rattle.structure_commands.proofs.axioms.say_breaks.Goals as goal
 

@@ -1,10 +1,10 @@
 use Rattle.std.proofs.Common.{◌∷◌, [], refl, subst, inl, ℕ, List, Option}
 use Rattle.pns_rules.specs.declared.verdict.Axiom.TheVariants.{S3}
-use Rattle.endings.specs.Lines.{line}
-use Rattle.structure_commands.specs.Axioms.{AxiomsWork, NamesSay, breaks_line}
-use Rattle.endings.specs.Ending.{Tells}
-use Rattle.endings.specs.declared.status.Status.{Status}
-use Rattle.endings.specs.declared.status.Status.TheVariants.{Refused}
+use Rattle.studio_rules.specs.Lines.{line}
+use Rattle.studio_rules.specs.Axioms.{AxiomsWork, NamesSay, breaks_line}
+use Rattle.studio_rules.specs.Ending.{Tells}
+use Rattle.studio_rules.specs.declared.status.Status.{Status}
+use Rattle.studio_rules.specs.declared.status.Status.TheVariants.{Refused}
 use Rattle.endings.proofs.Ending.{Ends-map, only_or_memory_in, one_line, Tells-map}
 use Rattle.structure_commands.proofs.axioms.say_judged.Goals as goal
 

@@ -2,9 +2,9 @@ use Rattle.std.proofs.Common.{None, subst, ℕ, List, Bool}
 use Rattle.number_sets.specs.Sets.{has}
 use Rattle.pns_rules.specs.Shape.{Shape, shape_of}
 use Rattle.pns_rules.specs.Verdict.{Judges}
-use Rattle.structure_commands.specs.Axioms.{NamesSay, VerdictSays, units_named}
-use Rattle.endings.specs.Ending.{Tells}
-use Rattle.endings.specs.declared.status.Status.{Status}
+use Rattle.studio_rules.specs.Axioms.{NamesSay, VerdictSays, units_named}
+use Rattle.studio_rules.specs.Ending.{Tells}
+use Rattle.studio_rules.specs.declared.status.Status.{Status}
 use Rattle.endings.proofs.Ending.{Ends-map, Tells-map}
 use Rattle.structure_commands.proofs.axioms.say_known.Goals as goal
 

@@ -1,10 +1,10 @@
 use Rattle.std.proofs.Common.{◌∷◌, ◌∙◌, [], refl, sym, ap, subst, inl, ℕ, List, codes}
 use Rattle.pns_rules.specs.declared.verdict.Verdict.{Verdict}
-use Rattle.endings.specs.Lines.{line}
-use Rattle.structure_commands.specs.Axioms.{VerdictSays, breaks_line, place_name}
-use Rattle.endings.specs.Ending.{Tells}
-use Rattle.endings.specs.declared.status.Status.{Status}
-use Rattle.endings.specs.declared.status.Status.TheVariants.{Done, Refused}
+use Rattle.studio_rules.specs.Lines.{line}
+use Rattle.studio_rules.specs.Axioms.{VerdictSays, breaks_line, place_name}
+use Rattle.studio_rules.specs.Ending.{Tells}
+use Rattle.studio_rules.specs.declared.status.Status.{Status}
+use Rattle.studio_rules.specs.declared.status.Status.TheVariants.{Done, Refused}
 use Rattle.endings.proofs.Ending.{Ends-map, only_in, only_or_memory_in, one_line}
 use Rattle.structure_commands.proofs.axioms.say_verdict.Goals as goal
 

@@ -1,6 +1,6 @@
 use Rattle.std.proofs.Common.{◌≡◌, ◌||◌, ◌<◌, ℕ, drop, length, true}
 use Rattle.number_sets.specs.Sets.{has}
-use Rattle.structure_commands.specs.Axioms.{units_named}
+use Rattle.studio_rules.specs.Axioms.{units_named}
 use Rattle.structure_commands.proofs.axioms.units_named.Given as goal
 
 -- the names to come finish the set

@@ -1,9 +1,9 @@
 use Rattle.std.proofs.Common.{◌≡◌, ap, ℕ, List}
 use Rattle.problem_rules.specs.Problem.{Problem}
-use Rattle.structure_commands.specs.Listing.{ListingWork}
-use Rattle.command_files.specs.Reading.{OnFile}
-use Rattle.endings.specs.Ending.{Shelves, Says, Tells}
-use Rattle.endings.specs.declared.status.Status.{Status}
+use Rattle.studio_rules.specs.Listing.{ListingWork}
+use Rattle.studio_rules.specs.Reading.{OnFile}
+use Rattle.studio_rules.specs.Ending.{Shelves, Says, Tells}
+use Rattle.studio_rules.specs.declared.status.Status.{Status}
 use Rattle.endings.proofs.Ending.{Ends-map, Ends-from}
 use Rattle.command_files.proofs.Files.{on_file-faults, on_file-work}
 use Rattle.structure_commands.proofs.list.list.Goals as goal

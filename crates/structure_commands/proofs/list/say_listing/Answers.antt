@@ -2,11 +2,12 @@ use Rattle.std.proofs.Common.{◌≤◌, ◌∷◌, [], refl, sym, subst, inl, �
 use Rattle.number_sets.specs.Sets.{has}
 use Rattle.pns_rules.specs.Shape.{Shape, shape_of}
 use Rattle.pns_rules.specs.Structure.{IsStructure}
-use Rattle.endings.specs.Lines.{line}
-use Rattle.structure_commands.specs.Listing.{ListingWork, RestSays, IsBadToken}
-use Rattle.endings.specs.Ending.{Tells}
-use Rattle.endings.specs.declared.status.Status.{Status}
-use Rattle.endings.specs.declared.status.Status.TheVariants.{BadToken, Memory}
+use Rattle.studio_rules.specs.Lines.{line}
+use Rattle.studio_rules.specs.Listing.{ListingWork, IsBadToken}
+use Rattle.structure_commands.specs.Listing.{RestSays}
+use Rattle.studio_rules.specs.Ending.{Tells}
+use Rattle.studio_rules.specs.declared.status.Status.{Status}
+use Rattle.studio_rules.specs.declared.status.Status.TheVariants.{BadToken, Memory}
 use Rattle.endings.proofs.Ending.{Ends-map, only_in, Tells-map, one_line}
 use Rattle.structure_commands.proofs.ListingStart.{no_after, bad_after, is_after, work_of}
 use Rattle.structure_commands.proofs.list.say_listing.Goals as goal

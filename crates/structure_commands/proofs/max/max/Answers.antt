@@ -1,8 +1,8 @@
 use Rattle.std.proofs.Common.{◌≡◌, ap, ℕ, List}
-use Rattle.structure_commands.specs.Max.{MaxWork}
-use Rattle.command_files.specs.Reading.{OnFile}
-use Rattle.endings.specs.Ending.{Shelves, Says, Tells}
-use Rattle.endings.specs.declared.status.Status.{Status}
+use Rattle.studio_rules.specs.Max.{MaxWork}
+use Rattle.studio_rules.specs.Reading.{OnFile}
+use Rattle.studio_rules.specs.Ending.{Shelves, Says, Tells}
+use Rattle.studio_rules.specs.declared.status.Status.{Status}
 use Rattle.endings.proofs.Ending.{Ends-map, Ends-from}
 use Rattle.command_files.proofs.Files.{on_file-faults, on_file-work}
 use Rattle.structure_commands.proofs.max.max.Goals as goal

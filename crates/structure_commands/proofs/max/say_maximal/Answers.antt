@@ -3,11 +3,11 @@ use Rattle.number_sets.specs.Sets.{has}
 use Rattle.pns_rules.specs.Shape.{shape_of}
 use Rattle.pns_rules.specs.Structure.{mats}
 use Rattle.pgraph.specs.Tables.{shape}
-use Rattle.endings.specs.Lines.{line}
-use Rattle.structure_commands.specs.Max.{MaxWork, units_line, materials_line}
-use Rattle.endings.specs.Ending.{Tells}
-use Rattle.endings.specs.declared.status.Status.{Status}
-use Rattle.endings.specs.declared.status.Status.TheVariants.{Done}
+use Rattle.studio_rules.specs.Lines.{line}
+use Rattle.studio_rules.specs.Max.{MaxWork, units_line, materials_line}
+use Rattle.studio_rules.specs.Ending.{Tells}
+use Rattle.studio_rules.specs.declared.status.Status.{Status}
+use Rattle.studio_rules.specs.declared.status.Status.TheVariants.{Done}
 use Rattle.endings.proofs.Ending.{Ends-map, only_in, only_or_memory_in, two_lines}
 use Rattle.structure_commands.proofs.Maximal.{maximal_from, none_from}
 use Rattle.structure_commands.proofs.max.say_maximal.Goals as goal

@@ -1,13 +1,13 @@
 use Rattle.std.proofs.Common.{refl, sym, ap, subst, ◌≤◌, ℕ, List, map, string_bytes}
-use Rattle.studio_words.specs.Command.{Command, Max, Axioms, Flows, Listing, Migrate, Editing, Undoing, Checking, RankChecking, Solving, Ranking, Telling, AreWithin, Table, Splitting, Expanding, Drawing, DrawingNetwork, Reporting, Ranging, Planning, Parting, PartingAgainst, Merging}
+use Rattle.studio_rules.specs.Command.{Command, Max, Axioms, Flows, Listing, Migrate, Editing, Undoing, Checking, RankChecking, Solving, Ranking, Telling, AreWithin, Table, Splitting, Expanding, Drawing, DrawingNetwork, Reporting, Ranging, Planning, Parting, PartingAgainst, Merging}
 use Rattle.studio_words.specs.View.{command_view}
-use Rattle.endings.specs.Ending.{Shelves}
-use Rattle.studio.specs.Answers.{CommandSays}
-use Rattle.edit_commands.specs.Make.{MakeWork}
-use Rattle.searches.specs.Trial.{TrialWork}
-use Rattle.endings.specs.declared.status.Status.{Status}
-use Rattle.help_texts.specs.Lines.{IsOfLines}
-use Rattle.endings.specs.declared.status.Status.TheVariants.{Done}
+use Rattle.studio_rules.specs.Ending.{Shelves}
+use Rattle.studio_rules.specs.Answers.{CommandSays}
+use Rattle.studio_rules.specs.Make.{MakeWork}
+use Rattle.studio_rules.specs.Trial.{TrialWork}
+use Rattle.studio_rules.specs.declared.status.Status.{Status}
+use Rattle.studio_rules.specs.PageLines.{IsOfLines}
+use Rattle.studio_rules.specs.declared.status.Status.TheVariants.{Done}
 use Rattle.endings.proofs.Ending.{Ends-map, Says-told, only_in}
 use Rattle.studio.proofs.call.perform.Goals as goal
 

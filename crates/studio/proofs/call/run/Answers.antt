@@ -1,11 +1,11 @@
 use Rattle.std.proofs.Common.{◌≡◌, ◌∷◌, [], Some, None, IfSome, IsSomeAnd, map, refl, inl, List, ℕ, Option, codes, string_bytes, subst, ap, sym, ◌∙◌, option_map}
-use Rattle.endings.specs.Lines.{line}
-use Rattle.studio_words.specs.Command.{Command, command_of, AreWithin, IsFileOf, IsFileWord}
+use Rattle.studio_rules.specs.Lines.{line}
+use Rattle.studio_rules.specs.Command.{Command, command_of, AreWithin, IsFileOf, IsFileWord}
 use Rattle.studio_words.specs.View.{command_view}
-use Rattle.endings.specs.Ending.{Shelves}
-use Rattle.studio.specs.Answers.{Answers, AnswersTo, CommandAnswers, CommandSays, WordsSay}
-use Rattle.endings.specs.declared.status.Status.{Status}
-use Rattle.endings.specs.declared.status.Status.TheVariants.{Usage, Memory}
+use Rattle.studio_rules.specs.Ending.{Shelves}
+use Rattle.studio_rules.specs.Answers.{Answers, AnswersTo, CommandAnswers, CommandSays, WordsSay}
+use Rattle.studio_rules.specs.declared.status.Status.{Status}
+use Rattle.studio_rules.specs.declared.status.Status.TheVariants.{Usage, Memory}
 use Rattle.endings.proofs.Ending.{Ends-map, Says-map, only_in}
 use Rattle.studio_words.proofs.Within.{words_within}
 use Rattle.studio.proofs.call.run.Goals as goal

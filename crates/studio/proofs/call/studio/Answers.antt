@@ -1,6 +1,6 @@
 use Rattle.std.proofs.Common.{map, string_bytes}
 use Rattle.text_rules.specs.Outside.{HasRisen}
-use Rattle.endings.specs.Ending.{Shelves}
+use Rattle.studio_rules.specs.Ending.{Shelves}
 use Rattle.studio.proofs.Statuses.{usage_ends, no_form_ends, read_fault_ends, write_fault_ends, complete_ends, finish_ends, accepted_ends, ranked_ends, missing_ends}
 use Rattle.studio.proofs.Causes.{exact_ends}
 use Rattle.studio.proofs.call.studio.Goals as goal

@@ -1,6 +1,6 @@
 use Rattle.std.proofs.Common.{◌≡◌, map, drop, string_bytes}
 use Rattle.std.specs.List.{list_all}
-use Rattle.studio_words.specs.Command.{is_file_word}
+use Rattle.studio_rules.specs.Command.{is_file_word}
 use Rattle.studio_words.proofs.merging.are_file_words.Given as goal
 
 -- the words before the index may be those of files

@@ -3,9 +3,9 @@ use Rattle.tree_text_rules.specs.Read.{Certificate}
 use Rattle.tree_text_rules.specs.Line.{Token}
 use Rattle.tree_text_rules.specs.Spelling.{tree_text_lines}
 use Rattle.tree_text.specs.Prints.{Prints}
-use Rattle.endings.specs.Printed.{OneAnswer}
+use Rattle.studio_rules.specs.Printed.{OneAnswer}
 use Rattle.endings.proofs.Ending.{Ends-map, Tells-map}
-use Rattle.searches.specs.Solve.{status_of}
+use Rattle.studio_rules.specs.Solve.{status_of}
 use Rattle.searches.specs.Found.{CertificateSays}
 use Rattle.searches.proofs.FoundTexts.{says, is_printing}
 use Rattle.searches.proofs.certificate.Certificate.say.Goals as goal

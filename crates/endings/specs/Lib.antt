@@ -1,4 +1,0 @@
-pub mod Code
-pub mod Ending
-pub mod Lines
-pub mod Printed

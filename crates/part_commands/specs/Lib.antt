@@ -1,3 +1,0 @@
-pub mod Merge
-pub mod PartFile
-pub mod Split

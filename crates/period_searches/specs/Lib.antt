@@ -1,3 +1,0 @@
-pub mod DesignText
-pub mod Periods
-pub mod Expand

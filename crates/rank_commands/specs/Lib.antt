@@ -1,2 +1,0 @@
-pub mod Rankcheck
-pub mod Words

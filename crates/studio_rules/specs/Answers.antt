@@ -1,0 +1,166 @@
+-- What each command says, from its words and what the shelf holds.
+use Rattle.std.specs.List.{Contains}
+use Rattle.std.specs.Prelude.{◌≡◌, ◌≤◌, ◌⊎◌, ℕ, List, [], ◌∷◌, Option, Some, None, length, codes}
+use Rattle.text_rules.specs.Outside.{HasRisen, Told, IsToldAnd}
+use Rattle.studio_rules.specs.Command.{Command, Max, Axioms, Flows, Listing, Make, Migrate, Editing, Undoing, Checking, RankChecking, Solving, Ranking, Trial, Telling, command_of, IsFileOf, IsFileWord, Table, Splitting, Expanding, Drawing, DrawingNetwork, Reporting, Ranging, Planning, Parting, PartingAgainst, Merging}
+use Rattle.problem_rules.specs.Generated.{generated}
+use Rattle.problem_rules.specs.Problem.{Problem}
+use Rattle.studio_rules.specs.Reading.{AreHeld, GivesProblem, OnFile, file_limit}
+use Rattle.studio_rules.specs.Max.{MaxWork}
+use Rattle.studio_rules.specs.Axioms.{AxiomsWork}
+use Rattle.studio_rules.specs.Flows.{FlowsWork}
+use Rattle.studio_rules.specs.Listing.{ListingWork}
+use Rattle.studio_rules.specs.Make.{MakeWork}
+use Rattle.studio_rules.specs.Script.{OnScript}
+use Rattle.studio_rules.specs.Plan.{OnPlan}
+use Rattle.studio_rules.specs.Expand.{ExpandWork}
+use Rattle.studio_rules.specs.Migrate.{MigrateWork}
+use Rattle.studio_rules.specs.Edits.{EditWork, UndoWork}
+use Rattle.studio_rules.specs.TreeFile.{OnTree, tree_limit}
+use Rattle.studio_rules.specs.Check.{CheckWork}
+use Rattle.studio_rules.specs.Rankcheck.{OnRank}
+use Rattle.studio_rules.specs.Rank.{RankWork}
+use Rattle.studio_rules.specs.Network.{OnNetwork}
+use Rattle.studio_rules.specs.Table.{TableWork}
+use Rattle.studio_rules.specs.Report.{ReportWork}
+use Rattle.studio_rules.specs.Graph.{PlantGraphWork, NetworkGraphWork}
+use Rattle.studio_rules.specs.Split.{SplitWork}
+use Rattle.studio_rules.specs.Merge.{MergeWork}
+use Rattle.studio_rules.specs.Part.{PartWork, AgainstWork}
+use Rattle.studio_rules.specs.Periods.{PeriodsWork}
+use Rattle.studio_rules.specs.Stable.{StableWork}
+use Rattle.studio_rules.specs.Solve.{SolveWork, CanFinish}
+use Rattle.studio_rules.specs.Trial.{TrialWork}
+use Rattle.studio_rules.specs.Ending.{Shelves, Says}
+use Rattle.studio_rules.specs.Lines.{text_of}
+use Rattle.studio_rules.specs.declared.status.Status.{Status}
+use Rattle.studio_rules.specs.declared.status.Status.TheVariants.{Done, Refused, Usage, BadProblem, Past, Spent, Memory, BadToken, BadTree, BadEdit, NotMigrated, BadPlan, BadNode, NoLeaf, NotBest, UnknownName}
+
+-- the statuses and lines of a command, while neither shelf, sink nor memory fails
+abbrev pub CommandAnswers : (List ℕ → Told) → Command → Status → List (List ℕ) → Type 0
+CommandAnswers held (Max file) status lines = OnFile MaxWork held file status lines
+CommandAnswers held (Axioms file units) status lines = OnFile (AxiomsWork units) held file status lines
+CommandAnswers held (Flows file units) status lines = OnFile (FlowsWork units) held file status lines
+CommandAnswers held (Listing file after count) status lines = OnFile (ListingWork after count) held file status lines
+CommandAnswers held (Make number units) status lines = MakeWork number units status lines
+CommandAnswers held (Migrate file years) status lines = OnFile (MigrateWork years) held file status lines
+CommandAnswers held (Editing file script) status lines = OnFile (OnScript EditWork held script) held file status lines
+CommandAnswers held (Undoing file script) status lines = OnFile (OnScript UndoWork held script) held file status lines
+CommandAnswers held (Checking file tree) status lines = OnFile (OnTree CheckWork held tree) held file status lines
+CommandAnswers held (RankChecking file rank) status lines = OnFile (OnRank held rank) held file status lines
+CommandAnswers held (Table file tree) status lines = OnFile (OnTree (OnNetwork TableWork) held tree) held file status lines
+CommandAnswers held (Splitting file tree) status lines = OnFile (OnTree SplitWork held tree) held file status lines
+CommandAnswers held (Expanding file plan) status lines = OnFile (OnPlan ExpandWork held plan) held file status lines
+CommandAnswers held (Drawing file) status lines = OnFile PlantGraphWork held file status lines
+CommandAnswers held (DrawingNetwork file tree) status lines = OnFile (OnTree (OnNetwork NetworkGraphWork) held tree) held file status lines
+CommandAnswers held (Reporting file tree) status lines = OnFile (OnTree (OnNetwork ReportWork) held tree) held file status lines
+CommandAnswers held (Ranging file tree kind name budget) status lines = OnFile (OnTree (StableWork kind name budget) held tree) held file status lines
+CommandAnswers held (Planning file plan budget) status lines = OnFile (OnPlan (PeriodsWork budget) held plan) held file status lines
+CommandAnswers held (Parting file inside outside budget) status lines = OnFile (PartWork budget inside outside) held file status lines
+CommandAnswers held (PartingAgainst file inside outside budget tree) status lines = OnFile (AgainstWork budget held tree inside outside) held file status lines
+CommandAnswers held (Merging file tree parts) status lines = OnFile (OnTree (MergeWork held parts) held tree) held file status lines
+CommandAnswers held (Solving file budget) status lines = OnFile (SolveWork budget) held file status lines
+CommandAnswers held (Ranking file count budget) status lines = OnFile (RankWork count budget) held file status lines
+CommandAnswers held (Trial number units budget) status lines = TrialWork number units budget status lines
+CommandAnswers held (Telling text) status lines = (status ≡ Done) × (text ≡ text_of lines)
+
+-- words without a form are told so
+abbrev pub AnswersTo : (List ℕ → Told) → Option Command → Status → List (List ℕ) → Type 0
+AnswersTo held None status lines = (status ≡ Usage) × (lines ≡ codes "usage" ∷ [])
+AnswersTo held (Some command) status lines = CommandAnswers held command status lines
+
+abbrev pub Answers : (List ℕ → Told) → List (List ℕ) → Status → List (List ℕ) → Type 0
+Answers held words = AnswersTo held (command_of words)
+
+-- what a command, and what the words, may have out with a status
+abbrev pub CommandSays : Shelves → Command → Status → List ℕ → Type 0
+CommandSays shelves command = Says (CommandAnswers shelves.held command) (IsFileOf command) shelves
+
+abbrev pub WordsSay : Shelves → List (List ℕ) → Status → List ℕ → Type 0
+WordsSay shelves words = Says (Answers shelves.held words) (IsFileWord words) shelves
+
+-- the file that a command reads first, if it reads any
+abbrev pub first_file : Command → Option (List ℕ)
+first_file (Make number units) = None
+first_file (Trial number units budget) = None
+first_file (Telling text) = None
+first_file (Max file) = Some file
+first_file (Axioms file units) = Some file
+first_file (Flows file units) = Some file
+first_file (Listing file after count) = Some file
+first_file (Migrate file years) = Some file
+first_file (Editing file script) = Some file
+first_file (Undoing file script) = Some file
+first_file (Checking file tree) = Some file
+first_file (RankChecking file rank) = Some file
+first_file (Table file tree) = Some file
+first_file (Splitting file tree) = Some file
+first_file (Expanding file plan) = Some file
+first_file (Drawing file) = Some file
+first_file (DrawingNetwork file tree) = Some file
+first_file (Reporting file tree) = Some file
+first_file (Ranging file tree kind name budget) = Some file
+first_file (Planning file plan budget) = Some file
+first_file (Parting file inside outside budget) = Some file
+first_file (PartingAgainst file inside outside budget tree) = Some file
+first_file (Merging file tree parts) = Some file
+first_file (Solving file budget) = Some file
+first_file (Ranking file count budget) = Some file
+
+-- the command reads the file, which is to hold no more bytes
+abbrev pub IsReadWithin : Command → List ℕ → ℕ → Type 0
+IsReadWithin (Checking file tree) name limit = ((name ≡ file) × (limit ≡ file_limit)) ⊎ ((name ≡ tree) × (limit ≡ tree_limit))
+IsReadWithin (RankChecking file rank) name limit = ((name ≡ file) × (limit ≡ file_limit)) ⊎ ((name ≡ rank) × (limit ≡ tree_limit))
+IsReadWithin (Table file tree) name limit = ((name ≡ file) × (limit ≡ file_limit)) ⊎ ((name ≡ tree) × (limit ≡ tree_limit))
+IsReadWithin (Splitting file tree) name limit = ((name ≡ file) × (limit ≡ file_limit)) ⊎ ((name ≡ tree) × (limit ≡ tree_limit))
+IsReadWithin (DrawingNetwork file tree) name limit = ((name ≡ file) × (limit ≡ file_limit)) ⊎ ((name ≡ tree) × (limit ≡ tree_limit))
+IsReadWithin (Reporting file tree) name limit = ((name ≡ file) × (limit ≡ file_limit)) ⊎ ((name ≡ tree) × (limit ≡ tree_limit))
+IsReadWithin (Ranging file tree kind word budget) name limit = ((name ≡ file) × (limit ≡ file_limit)) ⊎ ((name ≡ tree) × (limit ≡ tree_limit))
+IsReadWithin (PartingAgainst file inside outside budget tree) name limit = ((name ≡ file) × (limit ≡ file_limit)) ⊎ ((name ≡ tree) × (limit ≡ tree_limit))
+IsReadWithin (Merging file tree parts) name limit = ((name ≡ file) × (limit ≡ file_limit)) ⊎ (((name ≡ tree) ⊎ Contains parts name) × (limit ≡ tree_limit))
+IsReadWithin command name limit = IsFileOf command name × (limit ≡ file_limit)
+
+-- the files of the command are held within their limits, and neither their counts of faults nor that of the sink rise
+pub record IsUndisturbed (shelves : Shelves) (command : Command) (risen : Type 0) : Type 0 where
+  pub held : (name : List ℕ) (limit : ℕ) → IsReadWithin command name limit → IsToldAnd (shelves.held name) (λ file. length file ≤ limit)
+  pub read : (name : List ℕ) → IsFileOf command name → HasRisen (shelves.before name) (shelves.after name) → ⊥
+  pub written : risen → ⊥
+
+-- the statuses with which an undisturbed command may end
+abbrev pub statuses_of : Command → List Status
+statuses_of (Max file) = Done ∷ BadProblem ∷ Memory ∷ []
+statuses_of (Axioms file units) = Done ∷ Refused ∷ BadProblem ∷ Memory ∷ []
+statuses_of (Flows file units) = Done ∷ Refused ∷ Past ∷ BadProblem ∷ Memory ∷ []
+statuses_of (Listing file after count) = Done ∷ BadToken ∷ BadProblem ∷ Memory ∷ []
+statuses_of (Make number units) = Done ∷ Memory ∷ []
+statuses_of (Migrate file years) = Done ∷ NotMigrated ∷ BadProblem ∷ Memory ∷ []
+statuses_of (Editing file script) = Done ∷ BadEdit ∷ BadProblem ∷ Memory ∷ []
+statuses_of (Undoing file script) = Done ∷ BadEdit ∷ BadProblem ∷ Memory ∷ []
+statuses_of (Checking file tree) = Done ∷ Refused ∷ BadProblem ∷ BadTree ∷ Memory ∷ []
+statuses_of (RankChecking file rank) = Done ∷ Refused ∷ BadProblem ∷ BadTree ∷ Memory ∷ []
+statuses_of (Table file tree) = Done ∷ Refused ∷ BadProblem ∷ BadTree ∷ Memory ∷ []
+statuses_of (Splitting file tree) = Done ∷ Refused ∷ BadProblem ∷ BadTree ∷ Memory ∷ []
+statuses_of (Expanding file plan) = Done ∷ BadPlan ∷ BadProblem ∷ Memory ∷ []
+statuses_of (Drawing file) = Done ∷ BadProblem ∷ Memory ∷ []
+statuses_of (DrawingNetwork file tree) = Done ∷ Refused ∷ BadProblem ∷ BadTree ∷ Memory ∷ []
+statuses_of (Reporting file tree) = Done ∷ Refused ∷ BadProblem ∷ BadTree ∷ Memory ∷ []
+statuses_of (Ranging file tree kind name budget) = Done ∷ Refused ∷ Spent ∷ Past ∷ BadProblem ∷ BadTree ∷ NotBest ∷ UnknownName ∷ Memory ∷ []
+statuses_of (Planning file plan budget) = Done ∷ Spent ∷ Past ∷ BadPlan ∷ BadProblem ∷ Memory ∷ []
+statuses_of (Parting file inside outside budget) = Done ∷ Spent ∷ Past ∷ BadNode ∷ BadProblem ∷ Memory ∷ []
+statuses_of (PartingAgainst file inside outside budget tree) = Done ∷ Refused ∷ Spent ∷ Past ∷ BadNode ∷ BadProblem ∷ BadTree ∷ Memory ∷ []
+statuses_of (Merging file tree parts) = Done ∷ Refused ∷ NoLeaf ∷ BadProblem ∷ BadTree ∷ Memory ∷ []
+statuses_of (Solving file budget) = Done ∷ Spent ∷ Past ∷ BadProblem ∷ Memory ∷ []
+statuses_of (Ranking file count budget) = Done ∷ Spent ∷ Past ∷ BadProblem ∷ Memory ∷ []
+statuses_of (Trial number units budget) = Done ∷ Spent ∷ Past ∷ Memory ∷ []
+statuses_of (Telling text) = Done ∷ Memory ∷ []
+
+-- nothing stops the search of the command before its end, whatever problem its file gives
+abbrev pub SearchCanFinish : (List ℕ → Told) → Command → Type 0
+SearchCanFinish held (Solving name budget) = (file : List ℕ) (p : Problem) → AreHeld (held name) file → GivesProblem file p → CanFinish budget p
+SearchCanFinish held (Ranking name count budget) = (file : List ℕ) (p : Problem) → AreHeld (held name) file → GivesProblem file p → CanFinish budget p
+SearchCanFinish held (Trial number units budget) = CanFinish budget (generated number units)
+SearchCanFinish held command = ⊥
+
+-- a search came to its end
+abbrev pub IsNotStopped : Status → Type 0
+IsNotStopped status = (status ≡ Spent → ⊥) × (status ≡ Past → ⊥)

@@ -1,0 +1,61 @@
+-- What it means that a claim is best, over allowed solution structures and their flows alone: no tree is named here.
+use Rattle.std.specs.Prelude.{◌≡◌, ℕ, ℤ, ◌*ℤ◌, ◌≤ℤ◌, Bool, List}
+use Rattle.text_rules.specs.Outside.{Told}
+use Rattle.number_sets.specs.Sets.{has}
+use Rattle.problem_rules.specs.Problem.{Problem}
+use Rattle.problem_rules.specs.Validity.{IsValid}
+use Rattle.pns_rules.specs.Shape.{shape_of}
+use Rattle.pns_rules.specs.Structure.{IsStructure, IsAllowed}
+use Rattle.flow_rules.specs.Net.{net_of}
+use Rattle.flow_rules.specs.Flows.{IsFlows, cost}
+use Rattle.tree_rules.specs.Claim.{Network, size_in, Claim, network, infeasible, unknown}
+use Rattle.tree_rules.specs.Accepted.{Tree}
+use Rattle.studio_rules.specs.Reading.{AreHeld, GivesProblem, OnFile}
+use Rattle.studio_rules.specs.TreeFile.{GivesTree, OnTree}
+use Rattle.studio_rules.specs.Check.{CheckWork}
+use Rattle.studio_rules.specs.declared.status.Status.TheVariants.{Done}
+
+-- no allowed solution structure, with any flows, costs less than this much over d
+abbrev pub NoneCostsLess : Problem → ℤ → ℤ → Type 0
+NoneCostsLess p much d =
+    (s : ℕ → Bool) → IsStructure (shape_of p) s → IsAllowed (shape_of p) s
+    → (z : ℕ → ℤ) (e : ℤ) → IsFlows (net_of p) s z e → (much *ℤ e) ≤ℤ (cost (net_of p) s z e *ℤ d)
+
+-- no allowed solution structure has flows
+abbrev pub NoneHasFlows : Problem → Type 0
+NoneHasFlows p =
+    (s : ℕ → Bool) → IsStructure (shape_of p) s → IsAllowed (shape_of p) s → (z : ℕ → ℤ) (e : ℤ) → IsFlows (net_of p) s z e → ⊥
+
+-- the network is an allowed solution structure with flows of its cost, and none costs less
+pub record IsBestNetwork (p : Problem) (w : Network) : Type 0 where
+  pub structure : IsStructure (shape_of p) (has w.units)
+  pub allowed : IsAllowed (shape_of p) (has w.units)
+  pub flows : IsFlows (net_of p) (has w.units) (size_in w) w.d
+  pub cost_is : cost (net_of p) (has w.units) (size_in w) w.d ≡ w.cost
+  pub least : NoneCostsLess p w.cost w.d
+
+-- the claim is a best network, or that there is none and none has flows
+abbrev pub IsBest : Problem → Claim → Type 0
+IsBest p (network w) = IsBestNetwork p w
+IsBest p infeasible = NoneHasFlows p
+IsBest p unknown = ⊥
+
+-- FILE gives a valid problem, TREE a claim with a tree for it, and the claim is best
+pub record FilesClaimBest (held : List ℕ → Told) (file tree : List ℕ) : Type 0 where
+  pub problem_text : List ℕ
+  pub problem_held : AreHeld (held file) problem_text
+  pub problem : Problem
+  pub gives_problem : GivesProblem problem_text problem
+  pub valid : IsValid problem
+  pub tree_text : List ℕ
+  pub tree_held : AreHeld (held tree) tree_text
+  pub claim : Claim
+  pub nodes : Tree
+  pub gives_tree : GivesTree problem tree_text claim nodes
+  pub best : IsBest problem claim
+
+-- so it is wherever `check FILE TREE` answers with status 0
+abbrev pub AcceptedIsBest : Type 0
+AcceptedIsBest =
+    (held : List ℕ → Told) (file tree : List ℕ) (lines : List (List ℕ))
+    → OnFile (OnTree CheckWork held tree) held file Done lines → FilesClaimBest held file tree

@@ -1,0 +1,26 @@
+-- The numbers of the statuses with which the program ends.
+use Rattle.std.specs.Prelude.{ℕ}
+use Rattle.studio_rules.specs.declared.status.Status.{Status}
+use Rattle.studio_rules.specs.declared.status.Status.TheVariants.{Done, Refused, Usage, BadProblem, Past, Spent, ReadFault, WriteFault, Memory, BadToken, BadTree, BadEdit, TooLong, NotBest, UnknownName, NotMigrated, BadNode, NoLeaf, BadPlan}
+
+-- there is no 15
+abbrev pub code_of : Status → ℕ
+code_of Done = 0
+code_of Refused = 1
+code_of Usage = 2
+code_of BadProblem = 3
+code_of Past = 4
+code_of Spent = 5
+code_of ReadFault = 6
+code_of WriteFault = 7
+code_of Memory = 8
+code_of BadToken = 9
+code_of BadTree = 10
+code_of BadEdit = 11
+code_of TooLong = 12
+code_of NotBest = 13
+code_of UnknownName = 14
+code_of NotMigrated = 16
+code_of BadNode = 17
+code_of NoLeaf = 18
+code_of BadPlan = 19

@@ -1,0 +1,59 @@
+-- `flows FILE UNITS`: where the units are a solution structure, allowed or not, flows of least cost for them with multipliers
+-- that prove it, or multipliers that refute all flows, or where a number is out of range on the way; else the broken axiom, as
+-- `axioms` tells it. The lines are those of a tree text.
+use Rattle.std.specs.Prelude.{◌≡◌, ◌⊎◌, ◌++◌, ℕ, ℤ, List, [], ◌∷◌, Option, Some, None, length}
+use Rattle.number_sets.specs.Sets.{has, IsSet}
+use Rattle.problem_rules.specs.Problem.{Problem}
+use Rattle.pns_rules.specs.Shape.{shape_of}
+use Rattle.pns_rules.specs.Verdict.{Judges}
+use Rattle.pns_rules.specs.declared.verdict.Axiom.TheVariants.{S3}
+use Rattle.pns_rules.specs.declared.verdict.Verdict.{Verdict}
+use Rattle.pns_rules.specs.declared.verdict.Verdict.TheVariants.{Meets, Breaks}
+use Rattle.flow_rules.specs.declared.place.Column.{Column}
+use Rattle.flow_rules.specs.declared.place.Place.{Place}
+use Rattle.tree_rules.specs.Tree as trees
+use Rattle.tree_rules.specs.Leaf as leaves
+use Rattle.tree_rules.specs.Claim.{Network}
+use Rattle.tree_rules.specs.Claim as claims
+use Rattle.tree_text_rules.specs.Spelling.{network_lines, claim_lines, end_line, place_lines}
+use Rattle.flow_rules.specs.Net.{net_of}
+use Rattle.path_rules.specs.PastPlace.{IsPastNamed}
+use Rattle.tree_rules.specs.LeastFlows.{decided, IsLeastFlows, HasNoFlows}
+use Rattle.studio_rules.specs.Printed.{spelled}
+use Rattle.studio_rules.specs.Axioms.{units_named, first_stranger, breaks_line, VerdictSays}
+use Rattle.studio_rules.specs.declared.status.Status.{Status}
+use Rattle.studio_rules.specs.declared.status.Status.TheVariants.{Done, Refused, Past}
+
+-- the lines of the network and that of the bound
+abbrev pub LeastLines : Problem → List ℕ → List (List ℕ) → Type 0
+LeastLines p us lines =
+    (w : Network) × (d : ℤ) × (ys : List ℤ) × (w.units ≡ us) × IsLeastFlows p w d ys × (lines ≡ spelled (network_lines p w ++ end_line p (trees.leaf (leaves.bounded d ys)) ∷ []))
+
+-- `infeasible`, and the line of the refutation
+abbrev pub NoneLines : Problem → List ℕ → List (List ℕ) → Type 0
+NoneLines p us lines =
+    (ys : List ℤ) × HasNoFlows p us ys × (lines ≡ spelled (claim_lines p claims.infeasible ++ end_line p (trees.leaf (leaves.refuted ys)) ∷ []))
+
+-- the columns outside a basis, and the place that is past there
+abbrev pub PastLines : Problem → List ℕ → List (List ℕ) → Type 0
+PastLines p us lines = (nonbasic : List Column) × (place : Place) × IsPastNamed (net_of p) (decided p us) nonbasic place × (lines ≡ spelled (place_lines p nonbasic place))
+
+-- what is said of the flows of a solution structure
+abbrev pub FlowsSay : Problem → List ℕ → Status → List (List ℕ) → Type 0
+FlowsSay p us Done lines = LeastLines p us lines ⊎ NoneLines p us lines
+FlowsSay p us Past lines = PastLines p us lines
+FlowsSay p us status lines = ⊥
+
+-- of names that are all known
+abbrev pub UnitsSay : List (List ℕ) → Problem → Verdict → Status → List (List ℕ) → Type 0
+UnitsSay names p Meets status lines = (us : List ℕ) × IsSet (length p.units) us × (has us ≡ units_named p names) × FlowsSay p us status lines
+UnitsSay names p (Breaks broken at) status lines = VerdictSays p (Breaks broken at) status lines
+
+-- of names, where the first is given that no unit has
+abbrev pub FlowNamesSay : List (List ℕ) → Problem → Option (List ℕ) → Status → List (List ℕ) → Type 0
+FlowNamesSay names p (Some stranger) status lines = (status ≡ Refused) × (lines ≡ breaks_line S3 stranger ∷ [])
+FlowNamesSay names p None status lines =
+    (verdict : Verdict) × Judges (shape_of p) (units_named p names) verdict × UnitsSay names p verdict status lines
+
+abbrev pub FlowsWork : List (List ℕ) → Problem → Status → List (List ℕ) → Type 0
+FlowsWork names p = FlowNamesSay names p (first_stranger p names)

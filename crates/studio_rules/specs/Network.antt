@@ -1,0 +1,28 @@
+-- The claim of a tree file is judged by its lines, which all commands on a claimed network share. Neither nodes nor tail are judged.
+use Rattle.std.specs.Prelude.{◌≡◌, ◌⊎◌, ℕ, false, List, [], ◌∷◌}
+use Rattle.problem_rules.specs.Problem.{Problem}
+use Rattle.tree_rules.specs.declared.why.Why.{Why}
+use Rattle.tree_rules.specs.declared.why.Why.TheVariants.{Unknown}
+use Rattle.tree_rules.specs.Claim.{Network, Claim, network, infeasible, unknown, IsFeasible, ClaimFails}
+use Rattle.tree_rules.specs.Accepted.{Tree}
+use Rattle.studio_rules.specs.RefusalWords.{claim_line}
+use Rattle.studio_rules.specs.declared.status.Status.{Status}
+use Rattle.studio_rules.specs.declared.status.Status.TheVariants.{Refused}
+
+-- a claim without a network is refused as unknown, any other for the first of its lines that fails
+abbrev pub IsRefusedFor : Problem → Claim → Why → Type 0
+IsRefusedFor p (network w) why = ClaimFails false p (network w) why
+IsRefusedFor p infeasible why = why ≡ Unknown
+IsRefusedFor p unknown why = why ≡ Unknown
+
+abbrev pub ClaimRefusal : Problem → Claim → Status → List (List ℕ) → Type 0
+ClaimRefusal p claim status lines = (status ≡ Refused) × ((why : Why) × IsRefusedFor p claim why × (lines ≡ claim_line why ∷ []))
+
+-- the claim is a network of which each line holds
+abbrev pub ClaimsNetwork : Problem → Claim → Network → Type 0
+ClaimsNetwork p claim w = (claim ≡ network w) × IsFeasible p w
+
+-- The status and lines of the work on a problem and the network of a claim: those of a claim that is refused, else those of the
+-- work.
+abbrev pub OnNetwork : (Problem → Network → Status → List (List ℕ) → Type 0) → Problem → Claim → Tree → Status → List (List ℕ) → Type 0
+OnNetwork work p claim tree status lines = ClaimRefusal p claim status lines ⊎ ((w : Network) × ClaimsNetwork p claim w × work p w status lines)

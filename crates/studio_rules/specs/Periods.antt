@@ -1,0 +1,34 @@
+-- `periods FILE PLAN BUDGET`: a design of least cost of the plant over its periods, or that it has none. Where the search stops
+-- before its end, the lines and the status are those of `solve` on the expanded problem.
+use Rattle.std.specs.Prelude.{◌≡◌, ◌⊎◌, ℕ, List, [], ◌∷◌, codes}
+use Rattle.problem_rules.specs.Problem.{Problem}
+use Rattle.plan_rules.specs.Expanded.{expanded}
+use Rattle.plan_rules.specs.Plan.{Plan}
+use Rattle.tree_rules.specs.Claim.{Network, network, infeasible}
+use Rattle.tree_rules.specs.Accepted.{Tree}
+use Rattle.design_rules.specs.Folded.{folded}
+use Rattle.design_rules.specs.Least.{IsLeastDesign, HasNoDesign}
+use Rattle.studio_rules.specs.Solve.{Solves, SolveWork}
+use Rattle.studio_rules.specs.declared.status.Status.{Status}
+use Rattle.studio_rules.specs.declared.status.Status.TheVariants.{Done}
+use Rattle.studio_rules.specs.DesignText.{design_lines}
+
+-- The lines of a design that no design undercuts: that of an allowed network of least cost of the expanded problem, which a lean
+-- tree proves.
+pub record IsLeastText (p : Problem) (plan : Plan) (lines : List (List ℕ)) : Type 0 where
+  pub network_of : Network
+  pub tree : Tree
+  pub solves : Solves (expanded p plan) (network network_of) tree
+  pub design : IsLeastDesign p plan (folded p plan network_of)
+  pub text : lines ≡ design_lines p (folded p plan network_of)
+
+-- the plant has no design, as a lean tree proves of the expanded problem
+pub record IsNoneText (p : Problem) (plan : Plan) (lines : List (List ℕ)) : Type 0 where
+  pub tree : Tree
+  pub solves : Solves (expanded p plan) infeasible tree
+  pub none : HasNoDesign p plan
+  pub text : lines ≡ codes "infeasible" ∷ []
+
+abbrev pub PeriodsWork : ℕ → Problem → Plan → Status → List (List ℕ) → Type 0
+PeriodsWork budget p plan Done lines = IsLeastText p plan lines ⊎ IsNoneText p plan lines
+PeriodsWork budget p plan status lines = SolveWork budget (expanded p plan) status lines

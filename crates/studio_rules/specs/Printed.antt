@@ -1,0 +1,13 @@
+-- Lines of a tree text, as lines of bytes.
+use Rattle.std.specs.Prelude.{◌≡◌, ℕ, List, map}
+use Rattle.text_rules.specs.Canonical.{joined}
+use Rattle.tree_text_rules.specs.Line.{Token}
+use Rattle.studio_rules.specs.declared.status.Status.{Status}
+
+-- the bytes of lines of tokens
+abbrev pub spelled : List (List Token) → List (List ℕ)
+spelled = map (joined 32)
+
+-- these lines with this status
+abbrev pub OneAnswer : Status → List (List Token) → Status → List (List ℕ) → Type 0
+OneAnswer status lines status' lines' = (status' ≡ status) × (lines' ≡ spelled lines)

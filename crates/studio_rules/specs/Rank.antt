@@ -1,0 +1,53 @@
+-- `rank FILE N BUDGET`: the N best allowed networks, each at its least cost, with the tree that proves it; or where the search stopped
+-- before its end, the networks that were found and the tree as far as it came. The lines are those of a rank text.
+use Rattle.std.specs.Prelude.{◌≡◌, ℕ, Bool, true, false, List, Ok}
+use Rattle.problem_rules.specs.Problem.{Problem}
+use Rattle.tree_rules.specs.Lean.{IsLean}
+use Rattle.tree_rules.specs.Accepted.{first_node}
+use Rattle.tree_rules.specs.Stops.{IsSpent, IsPast}
+use Rattle.rank_rules.specs.Networks.{to_undercut}
+use Rattle.rank_rules.specs.Ranked.{Proves}
+use Rattle.tree_rules.specs.Tail.{Tail, whole, spent, past}
+use Rattle.rank_rules.specs.Marked.{marked}
+use Rattle.rank_rules.specs.Text.{Text, ranking_of}
+use Rattle.rank_rules.specs.Read.{read_text}
+use Rattle.rank_rules.specs.Spelling.{rank_text_lines}
+use Rattle.rank_rules.specs.Leaf.{IsOpenLeaf}
+use Rattle.studio_rules.specs.Rankcheck.{AreBest}
+use Rattle.tree_rules.specs.Past.{IsPastAt}
+use Rattle.tree_rules.specs.Proved.{IsBelowLimit}
+use Rattle.studio_rules.specs.Solve.{status_of}
+use Rattle.studio_rules.specs.Lines.{text_of}
+use Rattle.studio_rules.specs.Printed.{spelled}
+use Rattle.studio_rules.specs.declared.status.Status.{Status}
+
+-- the lines are the one text of the ranking, and read as it
+pub record AreTextOf (p : Problem) (t : Text) (lines : List (List ℕ)) : Type 0 where
+  pub text : lines ≡ spelled (rank_text_lines p t)
+  pub reads : read_text p (text_of lines) ≡ Ok t
+
+-- so many networks were asked for, those that are listed pass, and the lean tree proves the ranking, but for its open leaves where it is
+-- partial
+pub record Lists (partial : Bool) (count : ℕ) (p : Problem) (t : Text) : Type 0 where
+  pub count_is : t.count ≡ count
+  pub proves : Proves partial p (ranking_of t)
+  pub lean : IsLean p IsOpenLeaf (to_undercut t.count t.networks) first_node (marked t.marks t.tree)
+
+-- The tree proves the ranking: no flows for the units of a listed network cost less than it, and no other allowed solution structure costs
+-- less than the last one, whatever its flows, or none has flows where fewer are listed than were asked for.
+pub record Ranks (count : ℕ) (p : Problem) (t : Text) : Type 0 where
+  pub lists : Lists false count p t
+  pub best : AreBest p t.count t.networks
+
+-- What a ranking is by its tail. The budget is spent only below twice the number of sets of units of the maximal structure; a place is past
+-- only by the path of its node's program.
+abbrev pub Holds : ℕ → ℕ → Problem → Text → Tail → Type 0
+Holds count budget p t whole = Ranks count p t
+Holds count budget p t (spent next options) =
+    Lists true count p t × IsSpent p IsOpenLeaf (to_undercut t.count t.networks) first_node (marked t.marks t.tree) next options budget × IsBelowLimit p budget
+Holds count budget p t (past node nonbasic place) =
+    Lists true count p t × IsPast p IsOpenLeaf first_node (marked t.marks t.tree) (λ n. IsPastAt p n nonbasic place) node
+
+abbrev pub RankWork : ℕ → ℕ → Problem → Status → List (List ℕ) → Type 0
+RankWork count budget p status lines =
+    (t : Text) × (status ≡ status_of t.tail) × Holds count budget p t t.tail × AreTextOf p t lines

@@ -1,0 +1,19 @@
+-- The words by which it is told why a network or a node of a ranked tree is refused.
+use Rattle.std.specs.Prelude.{ℕ, List, ◌∷◌, ◌++◌, codes, decimal}
+use Rattle.studio_rules.specs.RefusalWords.{why_word}
+use Rattle.rank_rules.specs.declared.why.RankWhy.{RankWhy}
+use Rattle.rank_rules.specs.declared.why.RankWhy.TheVariants.{Plain, Order, Named}
+
+-- the word by which a cause is told
+abbrev pub rank_why_word : RankWhy → List ℕ
+rank_why_word (Plain why) = why_word why
+rank_why_word Order = codes "order"
+rank_why_word Named = codes "named"
+
+-- networks are counted from 1
+abbrev pub network_line : ℕ → RankWhy → List ℕ
+network_line number why = codes "refused network " ++ decimal number ++ 32 ∷ rank_why_word why
+
+-- nodes are counted from 0 in preorder
+abbrev pub rank_node_line : ℕ → RankWhy → List ℕ
+rank_node_line node why = codes "refused node " ++ decimal node ++ 32 ∷ rank_why_word why

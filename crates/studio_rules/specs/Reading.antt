@@ -1,0 +1,92 @@
+-- FILE is read and judged, which all commands on a problem share.
+use Rattle.std.specs.Prelude.{◌≡◌, ◌<◌, ◌≤◌, ◌⊎◌, ◌++◌, ℕ, List, [], ◌∷◌, Result, Ok, Err, length, codes, decimal}
+use Rattle.text_rules.specs.Outside.{Told, IfTold}
+use Rattle.problem_rules.specs.Problem.{Problem}
+use Rattle.problem_rules.specs.Validity.{IsValid}
+use Rattle.text_rules.specs.declared.TextKind.{TextKind}
+use Rattle.text_rules.specs.declared.TextKind.TheVariants.{FileType, UnknownSection, DoubleSection, BadLine, BadName, UnknownKey, DoubleKey, BadNumber, TooFine, TooLarge, Negative, UnknownKind, ZeroRate, DoubleTerm, BothSides, EmptySide, DoubleMaterial, DoubleUnit, DoubleRates, TooMany, LowAboveHigh, UnknownMaterial, NoRates, NoProduct, DoubleExclusion, DoubleMember, FewMembers, UnknownUnit, BadPayout}
+use Rattle.text_rules.specs.Fault.{Fault}
+use Rattle.text_rules.specs.Value.{read_text}
+use Rattle.studio_rules.specs.declared.status.Status.{Status}
+use Rattle.studio_rules.specs.declared.status.Status.TheVariants.{BadProblem, TooLong}
+
+-- the most bytes of a problem file
+abbrev pub file_limit : ℕ
+file_limit = 4194304
+
+-- what the bytes of a file stand for by the grammar of the problem text: a problem, or the first fault
+abbrev pub Reads : List ℕ → Result Problem Fault → Type 0
+Reads file outcome = read_text file ≡ outcome
+
+-- the bytes are those of the file, where the shelf tells them; where it tells that there is no such file no bytes are
+abbrev pub AreHeld : Told → List ℕ → Type 0
+AreHeld held file = IfTold held (λ told. file ≡ told)
+
+-- the word by which a kind of fault is told
+abbrev pub kind_word : TextKind → List ℕ
+kind_word FileType = codes "FileType"
+kind_word UnknownSection = codes "UnknownSection"
+kind_word DoubleSection = codes "DoubleSection"
+kind_word BadLine = codes "BadLine"
+kind_word BadName = codes "BadName"
+kind_word UnknownKey = codes "UnknownKey"
+kind_word DoubleKey = codes "DoubleKey"
+kind_word BadNumber = codes "BadNumber"
+kind_word TooFine = codes "TooFine"
+kind_word TooLarge = codes "TooLarge"
+kind_word Negative = codes "Negative"
+kind_word UnknownKind = codes "UnknownKind"
+kind_word ZeroRate = codes "ZeroRate"
+kind_word DoubleTerm = codes "DoubleTerm"
+kind_word BothSides = codes "BothSides"
+kind_word EmptySide = codes "EmptySide"
+kind_word DoubleMaterial = codes "DoubleMaterial"
+kind_word DoubleUnit = codes "DoubleUnit"
+kind_word DoubleRates = codes "DoubleRates"
+kind_word TooMany = codes "TooMany"
+kind_word LowAboveHigh = codes "LowAboveHigh"
+kind_word UnknownMaterial = codes "UnknownMaterial"
+kind_word NoRates = codes "NoRates"
+kind_word NoProduct = codes "NoProduct"
+kind_word DoubleExclusion = codes "DoubleExclusion"
+kind_word DoubleMember = codes "DoubleMember"
+kind_word FewMembers = codes "FewMembers"
+kind_word UnknownUnit = codes "UnknownUnit"
+kind_word BadPayout = codes "BadPayout"
+
+abbrev pub fault_line : ℕ → TextKind → List ℕ
+fault_line line kind = codes "problem line " ++ decimal line ++ 32 ∷ kind_word kind
+
+-- a file above its limit is told so
+abbrev pub IsLong : List ℕ → ℕ → List ℕ → List (List ℕ) → Type 0
+IsLong name limit file lines = (limit < length file) × (lines ≡ (codes "too long " ++ name) ∷ [])
+
+abbrev pub LongFile : (List ℕ → Told) → List ℕ → ℕ → Status → List (List ℕ) → Type 0
+LongFile held name limit status lines = (status ≡ TooLong) × ((file : List ℕ) × AreHeld (held name) file × IsLong name limit file lines)
+
+-- a file that gives no problem: it is above the limit, or its text has a fault, which is told with its line and kind
+abbrev pub FileFault : List ℕ → List ℕ → Status → List (List ℕ) → Type 0
+FileFault name file TooLong lines = IsLong name file_limit file lines
+FileFault name file BadProblem lines =
+    (length file ≤ file_limit) × ((line : ℕ) × (kind : TextKind) × Reads file (Err (line, kind)) × (lines ≡ fault_line line kind ∷ []))
+FileFault name file status lines = ⊥
+
+-- a file within the limit, whose text stands for the problem, which is valid
+pub record GivesProblem (file : List ℕ) (p : Problem) : Type 0 where
+  pub within : length file ≤ file_limit
+  pub reads : Reads file (Ok p)
+  pub valid : IsValid p
+
+-- what reading the named file says where it gives no problem
+abbrev pub FileFaults : (List ℕ → Told) → List ℕ → Status → List (List ℕ) → Type 0
+FileFaults held name status lines = (file : List ℕ) × AreHeld (held name) file × FileFault name file status lines
+
+-- The status and lines of a command on the named file: those of a file that gives no problem, else those of its work on
+-- the problem.
+abbrev pub OnFile : (Problem → Status → List (List ℕ) → Type 0) → (List ℕ → Told) → List ℕ → Status → List (List ℕ) → Type 0
+OnFile work held name status lines =
+    (file : List ℕ) × AreHeld (held name) file × (FileFault name file status lines ⊎ ((p : Problem) × GivesProblem file p × work p status lines))
+
+-- The status and lines of a command on a problem and a second file, of whose bytes `judged` speaks.
+abbrev pub OnSecond : (Problem → List ℕ → Status → List (List ℕ) → Type 0) → (List ℕ → Told) → List ℕ → Problem → Status → List (List ℕ) → Type 0
+OnSecond judged held name p status lines = (file : List ℕ) × AreHeld (held name) file × judged p file status lines

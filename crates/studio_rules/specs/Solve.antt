@@ -1,0 +1,68 @@
+-- `solve FILE BUDGET`: an allowed network of least cost, or that no network has flows, with the tree that proves it; or where the
+-- search stopped before its end, the tree as far as it came. The lines are those of a tree text.
+use Rattle.std.specs.Prelude.{◌≡◌, ℕ, Bool, List, Ok}
+use Rattle.problem_rules.specs.Problem.{Problem}
+use Rattle.pns_rules.specs.Shape.{shape_of}
+use Rattle.pns_rules.specs.Structure.{IsStructure, IsAllowed}
+use Rattle.pns_rules.specs.Nodes.{Node}
+use Rattle.pns_rules.specs.Ends.{IsReduced}
+use Rattle.flow_rules.specs.declared.place.Column.{Column}
+use Rattle.flow_rules.specs.declared.place.Place.{Place}
+use Rattle.flow_rules.specs.Net.{net_of}
+use Rattle.path_rules.specs.PastPlace.{IsPastNamed}
+use Rattle.tree_rules.specs.Claim.{Claim, Network, network, infeasible, claimed_cost, IsFeasible}
+use Rattle.tree_rules.specs.Leaf.{IsUntried}
+use Rattle.tree_rules.specs.Accepted.{Tree, first_node}
+use Rattle.tree_rules.specs.Stops.{IsSpent, IsPast}
+use Rattle.tree_rules.specs.Costs.{CostsEnough}
+use Rattle.tree_rules.specs.Tail.{Tail, whole, spent, past}
+use Rattle.tree_text_rules.specs.Read.{Certificate, read_text}
+use Rattle.tree_text_rules.specs.Spelling.{tree_text_lines}
+use Rattle.tree_rules.specs.Past.{IsPastAt}
+use Rattle.tree_rules.specs.Proved.{IsProved, IsStopped, IsBelowLimit}
+use Rattle.studio_rules.specs.Lines.{text_of}
+use Rattle.studio_rules.specs.Printed.{spelled}
+use Rattle.studio_rules.specs.declared.status.Status.{Status}
+use Rattle.studio_rules.specs.declared.status.Status.TheVariants.{Done, Spent, Past}
+
+-- the lines are the one text of the certificate, and read as it
+pub record AreTextOf (p : Problem) (c : Certificate) (lines : List (List ℕ)) : Type 0 where
+  pub text : lines ≡ spelled (tree_text_lines p c.claim c.tree c.tail)
+  pub reads : read_text p (text_of lines) ≡ Ok c
+
+-- The tree is lean and proves the claim: a claimed network is allowed and has flows of its cost, and no allowed solution structure
+-- costs less, whatever its flows; where no network is claimed, no allowed solution structure has flows.
+pub record Solves (p : Problem) (claim : Claim) (tree : Tree) : Type 0 where
+  pub proved : IsProved p first_node claim tree
+  pub feasible : (w : Network) → claim ≡ network w → IsFeasible p w
+  pub least : (s : ℕ → Bool) → IsStructure (shape_of p) s → IsAllowed (shape_of p) s → CostsEnough p (claimed_cost claim) s
+
+-- the tree is lean and proves the claim but for its open leaves; the claim is the cheapest network that was found, if any was
+pub record ProvesInPart (p : Problem) (claim : Claim) (tree : Tree) : Type 0 where
+  pub stopped : IsStopped p first_node claim tree
+  pub not_infeasible : claim ≡ infeasible → ⊥
+
+-- What a claim and its tree are by the tail. The budget is spent only below twice the number of sets of units of the maximal
+-- structure; a place is past only by the path of its node's program.
+abbrev pub Holds : ℕ → Problem → Claim → Tree → Tail → Type 0
+Holds budget p claim tree whole = Solves p claim tree
+Holds budget p claim tree (spent next options) =
+    ProvesInPart p claim tree × IsSpent p IsUntried (claimed_cost claim) first_node tree next options budget × IsBelowLimit p budget
+Holds budget p claim tree (past node nonbasic place) =
+    ProvesInPart p claim tree × IsPast p IsUntried first_node tree (λ n. IsPastAt p n nonbasic place) node
+
+-- the status that a tail has
+abbrev pub status_of : Tail → Status
+status_of whole = Done
+status_of (spent next options) = Spent
+status_of (past node nonbasic place) = Past
+
+abbrev pub SolveWork : ℕ → Problem → Status → List (List ℕ) → Type 0
+SolveWork budget p status lines =
+    (c : Certificate) × (status ≡ status_of c.tail) × Holds budget p c.claim c.tree c.tail × AreTextOf p c lines
+
+-- Nothing stops the search of a problem before its end: the budget is at least twice the number of sets of units of the maximal
+-- structure, and at no reduced node a number is out of range on the path of its program.
+pub record CanFinish (budget : ℕ) (p : Problem) : Type 0 where
+  pub enough : IsBelowLimit p budget → ⊥
+  pub in_range : (n : Node) (nonbasic : List Column) (place : Place) → IsReduced (shape_of p) n → IsPastNamed (net_of p) n nonbasic place → ⊥

@@ -1,0 +1,49 @@
+-- A search whose answer is summed up: how large the problem is, the network, its cost and the size of the tree that proves it.
+use Rattle.std.specs.Prelude.{◌≡◌, ◌⊎◌, ◌++◌, ℕ, false, List, [], ◌∷◌, length, codes, decimal}
+use Rattle.std.specs.Fmt.{signed_decimal}
+use Rattle.number_sets.specs.Sets.{has, IsSet}
+use Rattle.problem_rules.specs.Problem.{Problem, unit_names}
+use Rattle.pns_rules.specs.Shape.{shape_of}
+use Rattle.pns_rules.specs.Structure.{IsUnion}
+use Rattle.tree_rules.specs.Claim.{Network, network, infeasible}
+use Rattle.tree_rules.specs.Accepted.{Tree}
+use Rattle.tree_rules.specs.Tail.{whole}
+use Rattle.studio_rules.specs.Lines.{spaced_names, names_in}
+use Rattle.studio_rules.specs.Solve.{Solves, AreTextOf, SolveWork}
+use Rattle.studio_rules.specs.declared.status.Status.{Status}
+use Rattle.studio_rules.specs.declared.status.Status.TheVariants.{Done}
+
+-- how many units the problem and its maximal structure have, the network with its cost and what that is over, and how many nodes
+-- the tree has
+abbrev pub summary_lines : Problem → ℕ → Network → ℕ → List (List ℕ)
+summary_lines p most w nodes =
+    (codes "units " ++ decimal (length p.units))
+    ∷ (codes "maximal " ++ decimal most)
+    ∷ (codes "network" ++ spaced_names (names_in (has w.units) 0 (unit_names p.units)))
+    ∷ (codes "cost " ++ signed_decimal w.cost ++ 32 ∷ signed_decimal w.d)
+    ∷ (codes "nodes " ++ decimal nodes)
+    ∷ []
+
+-- the number is that of the units of the maximal structure
+pub record CountsMaximal (p : Problem) (most : ℕ) : Type 0 where
+  pub all : List ℕ
+  pub set : IsSet (length p.units) all
+  pub union : IsUnion (shape_of p) (λ u. false) (has all)
+  pub count : most ≡ length all
+
+-- the network is an allowed one of least cost, which the tree proves
+abbrev pub SummaryLines : Problem → List (List ℕ) → Type 0
+SummaryLines p lines =
+    (most : ℕ) × (w : Network) × (tree : Tree) × CountsMaximal p most × Solves p (network w) tree × (lines ≡ summary_lines p most w (length tree))
+
+abbrev pub SummarySays : Problem → Status → List (List ℕ) → Type 0
+SummarySays p status lines = (status ≡ Done) × SummaryLines p lines
+
+-- no network has flows, and the lines are those of `solve`
+abbrev pub NoNetworkLines : Problem → List (List ℕ) → Type 0
+NoNetworkLines p lines = (tree : Tree) × Solves p infeasible tree × AreTextOf p (record { claim = infeasible; tree = tree; tail = whole }) lines
+
+-- where the search stops before its end the lines are those of `solve`
+abbrev pub SummaryWork : ℕ → Problem → Status → List (List ℕ) → Type 0
+SummaryWork budget p Done lines = SummaryLines p lines ⊎ NoNetworkLines p lines
+SummaryWork budget p status lines = SolveWork budget p status lines
