@@ -1,8 +1,8 @@
 -- The problem after an edit.
-use Rattle.std.specs.Prelude.{ℕ, List, map, slice_set, pos}
+use Rattle.std.specs.Prelude.{ℕ, ℤ, List, map, slice_set, pos}
 use Rattle.std.specs.List.{insert, remove}
 use Rattle.problem_rules.specs.Problem.{Problem, Material, OperatingUnit, material_at, unit_at}
-use Rattle.edit_rules.specs.Edit.{Edit, price, bounds, kind, capacity, fix, proportional, rename_material, rename_unit, add_material, remove_material, add_unit, remove_unit, exclude, unexclude, investment, payout}
+use Rattle.edit_rules.specs.Edit.{Edit, NamedTerm, price, bounds, kind, capacity, fix, proportional, rename_material, rename_unit, add_material, remove_material, add_unit, remove_unit, exclude, unexclude, investment, payout}
 use Rattle.edit_rules.specs.Numbering.{up, down, in_unit, in_exclusion}
 use Rattle.edit_rules.specs.Place.{material_place, unit_place, exclusion_place, numbered_terms, members}
 
@@ -29,6 +29,19 @@ abbrev pub unit_taken_out : Problem → ℕ → Problem
 unit_taken_out p k = record p { units = remove p.units k; exclusions = map (in_exclusion (down k)) p.exclusions }
 
 -- a unit that is added costs nothing to build
+abbrev pub added_unit : Problem → List ℕ → ℤ → ℤ → ℤ → ℤ → List NamedTerm → List NamedTerm → OperatingUnit
+added_unit p name lower upper yearly rate inputs outputs = record {
+  name = name;
+  lower = lower;
+  upper = upper;
+  fix = yearly;
+  proportional = rate;
+  investment_fix = pos 0;
+  investment_proportional = pos 0;
+  inputs = numbered_terms p inputs;
+  outputs = numbered_terms p outputs;
+}
+
 abbrev pub effect : Problem → Edit → Problem
 effect p (price name value) = with_material p name (λ m. record m { price = value })
 effect p (bounds name lower upper) = with_material p name (λ m. record m { lower = lower; upper = upper })
@@ -41,17 +54,8 @@ effect p (rename_unit old new) = with_unit p old (λ u. record u { name = new })
 effect p (add_material at name new value lower upper) =
     material_put_in p at (record { name = name; kind = new; price = value; lower = lower; upper = upper })
 effect p (remove_material name) = material_taken_out p (material_place p name)
-effect p (add_unit at name lower upper yearly rate inputs outputs) = unit_put_in p at (record {
-  name = name;
-  lower = lower;
-  upper = upper;
-  fix = yearly;
-  proportional = rate;
-  investment_fix = pos 0;
-  investment_proportional = pos 0;
-  inputs = numbered_terms p inputs;
-  outputs = numbered_terms p outputs;
-})
+effect p (add_unit at name lower upper yearly rate inputs outputs) =
+    unit_put_in p at (added_unit p name lower upper yearly rate inputs outputs)
 effect p (remove_unit name) = unit_taken_out p (unit_place p name)
 effect p (exclude at name units) = record p {
   exclusions = insert p.exclusions at (record { name = name; units = members p units });

@@ -32,6 +32,26 @@ pub record Check : Type 0 where
 abbrev pub check : Fault → Bool → Check
 check fault fails = record { fault = fault; fails = fails }
 
+-- the faults of an edit that adds an item to a problem, least first
+abbrev pub adding_checks : Problem → Edit → List Check
+adding_checks p (add_material at name new value lower upper) =
+    check double_name (has_material p name) ∷
+    check bad_place (nat_lt (length p.materials) at) ∷
+    check low_above_high (int_lt upper lower) ∷
+    check too_many (nat_le 256 (length p.materials)) ∷ []
+adding_checks p (add_unit at name lower upper yearly rate inputs outputs) =
+    check unknown_name (lacks_material p inputs || lacks_material p outputs) ∷
+    check double_name (has_unit p name) ∷
+    check bad_place (nat_lt (length p.units) at) ∷
+    check low_above_high (int_lt upper lower) ∷
+    check too_many (nat_le 128 (length p.units)) ∷ []
+adding_checks p (exclude at name units) =
+    check unknown_name (lacks_unit p units) ∷
+    check double_name (has_exclusion p name) ∷
+    check bad_place (nat_lt (length p.exclusions) at) ∷
+    check too_many (nat_le 64 (length p.exclusions)) ∷ []
+adding_checks p e = []
+
 -- the faults of an edit on a problem, least first
 abbrev pub checks : Problem → Edit → List Check
 checks p (price name value) = check unknown_name (not (has_material p name)) ∷ []
@@ -47,31 +67,16 @@ checks p (rename_material old new) =
     check unknown_name (not (has_material p old)) ∷ check double_name (has_material p new) ∷ []
 checks p (rename_unit old new) =
     check unknown_name (not (has_unit p old)) ∷ check double_name (has_unit p new) ∷ []
-checks p (add_material at name new value lower upper) =
-    check double_name (has_material p name) ∷
-    check bad_place (nat_lt (length p.materials) at) ∷
-    check low_above_high (int_lt upper lower) ∷
-    check too_many (nat_le 256 (length p.materials)) ∷ []
 checks p (remove_material name) =
     check unknown_name (not (has_material p name)) ∷
     check in_use (any_unit_has p.units (material_place p name)) ∷
     check no_product (not (has_product (remove p.materials (material_place p name)))) ∷ []
-checks p (add_unit at name lower upper yearly rate inputs outputs) =
-    check unknown_name (lacks_material p inputs || lacks_material p outputs) ∷
-    check double_name (has_unit p name) ∷
-    check bad_place (nat_lt (length p.units) at) ∷
-    check low_above_high (int_lt upper lower) ∷
-    check too_many (nat_le 128 (length p.units)) ∷ []
 checks p (remove_unit name) =
     check unknown_name (not (has_unit p name)) ∷ check in_use (any_excludes p.exclusions (unit_place p name)) ∷ []
-checks p (exclude at name units) =
-    check unknown_name (lacks_unit p units) ∷
-    check double_name (has_exclusion p name) ∷
-    check bad_place (nat_lt (length p.exclusions) at) ∷
-    check too_many (nat_le 64 (length p.exclusions)) ∷ []
 checks p (unexclude name) = check unknown_name (not (has_exclusion p name)) ∷ []
 checks p (investment name once rate) = check unknown_name (not (has_unit p name)) ∷ []
 checks p (payout years) = []
+checks p e = adding_checks p e
 
 abbrev pub first_fault : List Check → Option Fault
 first_fault [] = None

@@ -36,7 +36,18 @@ use Rattle.studio_rules.specs.Lines.{text_of}
 use Rattle.studio_rules.specs.declared.status.Status.{Status}
 use Rattle.studio_rules.specs.declared.status.Status.TheVariants.{Done, Refused, Usage, BadProblem, Past, Spent, Memory, BadToken, BadTree, BadEdit, NotMigrated, BadPlan, BadNode, NoLeaf, NotBest, UnknownName}
 
--- the statuses and lines of a command, while neither shelf, sink nor memory fails
+-- the statuses and lines of a command that searches, while neither shelf, sink nor memory fails; other commands have none
+abbrev pub SearchAnswers : (List ℕ → Told) → Command → Status → List (List ℕ) → Type 0
+SearchAnswers held (Ranging file tree kind name budget) status lines = OnFile (OnTree (StableWork kind name budget) held tree) held file status lines
+SearchAnswers held (Planning file plan budget) status lines = OnFile (OnPlan (PeriodsWork budget) held plan) held file status lines
+SearchAnswers held (Parting file inside outside budget) status lines = OnFile (PartWork budget inside outside) held file status lines
+SearchAnswers held (PartingAgainst file inside outside budget tree) status lines = OnFile (AgainstWork budget held tree inside outside) held file status lines
+SearchAnswers held (Solving file budget) status lines = OnFile (SolveWork budget) held file status lines
+SearchAnswers held (Ranking file count budget) status lines = OnFile (RankWork count budget) held file status lines
+SearchAnswers held (Trial number units budget) status lines = TrialWork number units budget status lines
+SearchAnswers held command status lines = ⊥
+
+-- the statuses and lines of a command
 abbrev pub CommandAnswers : (List ℕ → Told) → Command → Status → List (List ℕ) → Type 0
 CommandAnswers held (Max file) status lines = OnFile MaxWork held file status lines
 CommandAnswers held (Axioms file units) status lines = OnFile (AxiomsWork units) held file status lines
@@ -54,15 +65,9 @@ CommandAnswers held (Expanding file plan) status lines = OnFile (OnPlan ExpandWo
 CommandAnswers held (Drawing file) status lines = OnFile PlantGraphWork held file status lines
 CommandAnswers held (DrawingNetwork file tree) status lines = OnFile (OnTree (OnNetwork NetworkGraphWork) held tree) held file status lines
 CommandAnswers held (Reporting file tree) status lines = OnFile (OnTree (OnNetwork ReportWork) held tree) held file status lines
-CommandAnswers held (Ranging file tree kind name budget) status lines = OnFile (OnTree (StableWork kind name budget) held tree) held file status lines
-CommandAnswers held (Planning file plan budget) status lines = OnFile (OnPlan (PeriodsWork budget) held plan) held file status lines
-CommandAnswers held (Parting file inside outside budget) status lines = OnFile (PartWork budget inside outside) held file status lines
-CommandAnswers held (PartingAgainst file inside outside budget tree) status lines = OnFile (AgainstWork budget held tree inside outside) held file status lines
 CommandAnswers held (Merging file tree parts) status lines = OnFile (OnTree (MergeWork held parts) held tree) held file status lines
-CommandAnswers held (Solving file budget) status lines = OnFile (SolveWork budget) held file status lines
-CommandAnswers held (Ranking file count budget) status lines = OnFile (RankWork count budget) held file status lines
-CommandAnswers held (Trial number units budget) status lines = TrialWork number units budget status lines
 CommandAnswers held (Telling text) status lines = (status ≡ Done) × (text ≡ text_of lines)
+CommandAnswers held command status lines = SearchAnswers held command status lines
 
 -- words without a form are told so
 abbrev pub AnswersTo : (List ℕ → Told) → Option Command → Status → List (List ℕ) → Type 0
@@ -81,9 +86,6 @@ WordsSay shelves words = Says (Answers shelves.held words) (IsFileWord words) sh
 
 -- the file that a command reads first, if it reads any
 abbrev pub first_file : Command → Option (List ℕ)
-first_file (Make number units) = None
-first_file (Trial number units budget) = None
-first_file (Telling text) = None
 first_file (Max file) = Some file
 first_file (Axioms file units) = Some file
 first_file (Flows file units) = Some file
@@ -106,6 +108,7 @@ first_file (PartingAgainst file inside outside budget tree) = Some file
 first_file (Merging file tree parts) = Some file
 first_file (Solving file budget) = Some file
 first_file (Ranking file count budget) = Some file
+first_file command = None
 
 -- the command reads the file, which is to hold no more bytes
 abbrev pub IsReadWithin : Command → List ℕ → ℕ → Type 0
@@ -132,7 +135,6 @@ statuses_of (Max file) = Done ∷ BadProblem ∷ Memory ∷ []
 statuses_of (Axioms file units) = Done ∷ Refused ∷ BadProblem ∷ Memory ∷ []
 statuses_of (Flows file units) = Done ∷ Refused ∷ Past ∷ BadProblem ∷ Memory ∷ []
 statuses_of (Listing file after count) = Done ∷ BadToken ∷ BadProblem ∷ Memory ∷ []
-statuses_of (Make number units) = Done ∷ Memory ∷ []
 statuses_of (Migrate file years) = Done ∷ NotMigrated ∷ BadProblem ∷ Memory ∷ []
 statuses_of (Editing file script) = Done ∷ BadEdit ∷ BadProblem ∷ Memory ∷ []
 statuses_of (Undoing file script) = Done ∷ BadEdit ∷ BadProblem ∷ Memory ∷ []
@@ -152,7 +154,7 @@ statuses_of (Merging file tree parts) = Done ∷ Refused ∷ NoLeaf ∷ BadProbl
 statuses_of (Solving file budget) = Done ∷ Spent ∷ Past ∷ BadProblem ∷ Memory ∷ []
 statuses_of (Ranking file count budget) = Done ∷ Spent ∷ Past ∷ BadProblem ∷ Memory ∷ []
 statuses_of (Trial number units budget) = Done ∷ Spent ∷ Past ∷ Memory ∷ []
-statuses_of (Telling text) = Done ∷ Memory ∷ []
+statuses_of command = Done ∷ Memory ∷ []
 
 -- nothing stops the search of the command before its end, whatever problem its file gives
 abbrev pub SearchCanFinish : (List ℕ → Told) → Command → Type 0

@@ -136,9 +136,7 @@ CauseOf held (PartingAgainst file inside outside budget tree) status = InFile (A
 CauseOf held (Merging file tree parts) status = InFile (InTree (InParts held parts) held tree) held file status
 CauseOf held (Solving file budget) status = InFile NoCause held file status
 CauseOf held (Ranking file count budget) status = InFile NoCause held file status
-CauseOf held (Make number units) status = ⊥
-CauseOf held (Trial number units budget) status = ⊥
-CauseOf held (Telling text) status = ⊥
+CauseOf held command status = ⊥
 
 -- of each file of the command the shelf tells the bytes, or that there is none
 abbrev pub AreTold : (List ℕ → Told) → Command → Type 0

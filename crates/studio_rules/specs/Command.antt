@@ -20,8 +20,7 @@ pub data Command : Type 0 where
   Listing : List ℕ → List ℕ → ℕ → Command
   Make : ℕ → ℕ → Command
   Migrate : List ℕ → ℕ → Command
-  Editing : List ℕ → List ℕ → Command
-  Undoing : List ℕ → List ℕ → Command
+  Editing Undoing : List ℕ → List ℕ → Command
   Checking : List ℕ → List ℕ → Command
   RankChecking : List ℕ → List ℕ → Command
   Table : List ℕ → List ℕ → Command
@@ -145,6 +144,19 @@ merging_of (word ∷ file ∷ tree ∷ part ∷ parts) =
     else None
 merging_of words = None
 
+-- the forms of five and of six words
+abbrev pub long_form_of : List (List ℕ) → Option Command
+long_form_of (word ∷ first ∷ second ∷ third ∷ fourth ∷ []) =
+    if bytes_eq word (codes "part") && is_file_word first then option_map (Parting first second third) (budget_of fourth)
+    else None
+long_form_of (word ∷ first ∷ second ∷ third ∷ fourth ∷ fifth ∷ []) =
+    if bytes_eq word (codes "part") && is_file_word first && is_file_word fifth then
+    option_map (λ budget. PartingAgainst first second third budget fifth) (budget_of fourth)
+    else if bytes_eq word (codes "stable") && is_file_word first && is_file_word second then
+    ranged_by first second (kind_of third) fourth (budget_of fifth)
+    else None
+long_form_of words = None
+
 -- the forms of the other commands, by the number of their words
 abbrev pub form_of : List (List ℕ) → Option Command
 form_of (word ∷ []) = alone word
@@ -163,16 +175,7 @@ form_of (word ∷ first ∷ second ∷ third ∷ []) =
     else if bytes_eq word (codes "periods") && is_file_word first && is_file_word second then option_map (Planning first second) (budget_of third)
     else if bytes_eq word (codes "rank") && is_file_word first then ranked_by first (rank_count_of second) (budget_of third)
     else None
-form_of (word ∷ first ∷ second ∷ third ∷ fourth ∷ []) =
-    if bytes_eq word (codes "part") && is_file_word first then option_map (Parting first second third) (budget_of fourth)
-    else None
-form_of (word ∷ first ∷ second ∷ third ∷ fourth ∷ fifth ∷ []) =
-    if bytes_eq word (codes "part") && is_file_word first && is_file_word fifth then
-    option_map (λ budget. PartingAgainst first second third budget fifth) (budget_of fourth)
-    else if bytes_eq word (codes "stable") && is_file_word first && is_file_word second then
-    ranged_by first second (kind_of third) fourth (budget_of fifth)
-    else None
-form_of words = None
+form_of words = long_form_of words
 
 -- the first command, or else the second
 abbrev pub or_else : Option Command → Option Command → Option Command
@@ -189,7 +192,6 @@ IsFileOf (Max file) name = name ≡ file
 IsFileOf (Axioms file units) name = name ≡ file
 IsFileOf (Flows file units) name = name ≡ file
 IsFileOf (Listing file after count) name = name ≡ file
-IsFileOf (Make number units) name = ⊥
 IsFileOf (Migrate file years) name = name ≡ file
 IsFileOf (Editing file script) name = (name ≡ file) ⊎ (name ≡ script)
 IsFileOf (Undoing file script) name = (name ≡ file) ⊎ (name ≡ script)
@@ -208,8 +210,7 @@ IsFileOf (PartingAgainst file inside outside budget tree) name = (name ≡ file)
 IsFileOf (Merging file tree parts) name = (name ≡ file) ⊎ ((name ≡ tree) ⊎ Contains parts name)
 IsFileOf (Solving file budget) name = name ≡ file
 IsFileOf (Ranking file count budget) name = name ≡ file
-IsFileOf (Trial number units budget) name = ⊥
-IsFileOf (Telling text) name = ⊥
+IsFileOf command name = ⊥
 
 -- the numbers of a command are those that its words may be, and a text of the program is one of whole lines
 abbrev pub AreWithin : Command → Type 0

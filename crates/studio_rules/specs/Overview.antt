@@ -1,6 +1,13 @@
 -- What the words `help` and `version` tell: the commands on one screen, and which program this is.
 use Rattle.std.specs.Prelude.{ℕ, List, [], ◌∷◌, codes}
 
+-- the calls to begin with
+abbrev pub first_calls : List (List ℕ)
+first_calls =
+    codes "Begin:  pns solve a.pns 10000 > tree        pns check a.pns tree" ∷
+    codes "        pns report a.pns tree               pns graph a.pns tree > a.dot" ∷
+    []
+
 unfoldable pub overview : List (List ℕ)
 overview =
     codes "pns: which units of a plant to build? Exact answers, with proofs (P-graph)." ∷
@@ -24,9 +31,7 @@ overview =
     codes "  help COMMAND, help status      the words of a command, what a status asks for" ∷
     codes "  version                        which program this is" ∷
     codes "" ∷
-    codes "Begin:  pns solve a.pns 10000 > tree        pns check a.pns tree" ∷
-    codes "        pns report a.pns tree               pns graph a.pns tree > a.dot" ∷
-    []
+    first_calls
 
 unfoldable pub version : List (List ℕ)
 version =

@@ -12,6 +12,14 @@ use Rattle.studio_rules.specs.EditPages.{edit_page, undo_page, migrate_page, mak
 use Rattle.studio_rules.specs.PlanPages.{expand_page, periods_page}
 use Rattle.studio_rules.specs.ProgramPages.{help_page, version_page, status_page}
 
+-- the page on what is no work on a file
+abbrev pub program_page_of : List ℕ → Option (List (List ℕ))
+program_page_of topic =
+    if bytes_eq topic (codes "help") then Some help_page
+    else if bytes_eq topic (codes "version") then Some version_page
+    else if bytes_eq topic (codes "status") then Some status_page
+    else None
+
 unfoldable pub page_of : List ℕ → Option (List (List ℕ))
 page_of topic =
     if bytes_eq topic (codes "max") then Some max_page
@@ -36,10 +44,7 @@ page_of topic =
     else if bytes_eq topic (codes "split") then Some split_page
     else if bytes_eq topic (codes "part") then Some part_page
     else if bytes_eq topic (codes "merge") then Some merge_page
-    else if bytes_eq topic (codes "help") then Some help_page
-    else if bytes_eq topic (codes "version") then Some version_page
-    else if bytes_eq topic (codes "status") then Some status_page
-    else None
+    else program_page_of topic
 
 -- its text
 abbrev pub page_text : List ℕ → Option (List ℕ)

@@ -23,18 +23,9 @@ split_page =
     codes "  end" ∷
     []
 
-unfoldable pub part_page : List (List ℕ)
-part_page =
-    codes "pns part FILE INSIDE OUTSIDE BUDGET" ∷
-    codes "pns part FILE INSIDE OUTSIDE BUDGET TREE" ∷
-    codes "Searches one open leaf of a tree: the networks with all units of INSIDE and none" ∷
-    codes "of OUTSIDE. With TREE it looks only for networks cheaper than TREE's." ∷
-    codes "  FILE     the plant, PNS_problem_v1" ∷
-    codes "  INSIDE   the token of the units taken in, from a line of split" ∷
-    codes "  OUTSIDE  the token of the units left out, from the same line" ∷
-    codes "  BUDGET   the most nodes of the tree, 1 to 1000000; 10000 is a good try" ∷
-    codes "  TREE     a tree text, as solve prints it" ∷
-    codes "Prints a part text for pns merge." ∷
+-- the page on `part` from its statuses on
+abbrev pub part_ends : List (List ℕ)
+part_ends =
     codes "Ends with" ∷
     codes "  0   The text is out, whole." ∷
     codes "  1   refused claim WHY, with TREE only: its network fails on this plant." ∷
@@ -54,6 +45,20 @@ part_page =
     codes "  pns part a.pns 00000000000000000000000000000004 \\" ∷
     codes "    00000000000000000000000000000018 100 > apart" ∷
     []
+
+unfoldable pub part_page : List (List ℕ)
+part_page =
+    codes "pns part FILE INSIDE OUTSIDE BUDGET" ∷
+    codes "pns part FILE INSIDE OUTSIDE BUDGET TREE" ∷
+    codes "Searches one open leaf of a tree: the networks with all units of INSIDE and none" ∷
+    codes "of OUTSIDE. With TREE it looks only for networks cheaper than TREE's." ∷
+    codes "  FILE     the plant, PNS_problem_v1" ∷
+    codes "  INSIDE   the token of the units taken in, from a line of split" ∷
+    codes "  OUTSIDE  the token of the units left out, from the same line" ∷
+    codes "  BUDGET   the most nodes of the tree, 1 to 1000000; 10000 is a good try" ∷
+    codes "  TREE     a tree text, as solve prints it" ∷
+    codes "Prints a part text for pns merge." ∷
+    part_ends
 
 unfoldable pub merge_page : List (List ℕ)
 merge_page =

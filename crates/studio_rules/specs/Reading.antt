@@ -22,37 +22,42 @@ Reads file outcome = read_text file ≡ outcome
 abbrev pub AreHeld : Told → List ℕ → Type 0
 AreHeld held file = IfTold held (λ told. file ≡ told)
 
+-- the word by which a kind of fault is told where something stands twice; there is none of other kinds
+abbrev pub double_word : TextKind → List ℕ
+double_word DoubleSection = codes "DoubleSection"
+double_word DoubleKey = codes "DoubleKey"
+double_word DoubleTerm = codes "DoubleTerm"
+double_word DoubleMaterial = codes "DoubleMaterial"
+double_word DoubleUnit = codes "DoubleUnit"
+double_word DoubleRates = codes "DoubleRates"
+double_word DoubleExclusion = codes "DoubleExclusion"
+double_word DoubleMember = codes "DoubleMember"
+double_word kind = []
+
 -- the word by which a kind of fault is told
 abbrev pub kind_word : TextKind → List ℕ
 kind_word FileType = codes "FileType"
 kind_word UnknownSection = codes "UnknownSection"
-kind_word DoubleSection = codes "DoubleSection"
 kind_word BadLine = codes "BadLine"
 kind_word BadName = codes "BadName"
 kind_word UnknownKey = codes "UnknownKey"
-kind_word DoubleKey = codes "DoubleKey"
 kind_word BadNumber = codes "BadNumber"
 kind_word TooFine = codes "TooFine"
 kind_word TooLarge = codes "TooLarge"
 kind_word Negative = codes "Negative"
 kind_word UnknownKind = codes "UnknownKind"
 kind_word ZeroRate = codes "ZeroRate"
-kind_word DoubleTerm = codes "DoubleTerm"
 kind_word BothSides = codes "BothSides"
 kind_word EmptySide = codes "EmptySide"
-kind_word DoubleMaterial = codes "DoubleMaterial"
-kind_word DoubleUnit = codes "DoubleUnit"
-kind_word DoubleRates = codes "DoubleRates"
 kind_word TooMany = codes "TooMany"
 kind_word LowAboveHigh = codes "LowAboveHigh"
 kind_word UnknownMaterial = codes "UnknownMaterial"
 kind_word NoRates = codes "NoRates"
 kind_word NoProduct = codes "NoProduct"
-kind_word DoubleExclusion = codes "DoubleExclusion"
-kind_word DoubleMember = codes "DoubleMember"
 kind_word FewMembers = codes "FewMembers"
 kind_word UnknownUnit = codes "UnknownUnit"
 kind_word BadPayout = codes "BadPayout"
+kind_word kind = double_word kind
 
 abbrev pub fault_line : ℕ → TextKind → List ℕ
 fault_line line kind = codes "problem line " ++ decimal line ++ 32 ∷ kind_word kind

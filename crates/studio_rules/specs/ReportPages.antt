@@ -1,6 +1,21 @@
 -- The pages on claimed networks as people read them.
 use Rattle.std.specs.Prelude.{ℕ, List, [], ◌∷◌, codes}
 
+-- the page on `table` from its example on
+abbrev pub table_example : List (List ℕ)
+table_example =
+    codes "Example" ∷
+    codes "  pns table a.pns tree" ∷
+    codes "  unit,size_e6,fix_e6" ∷
+    codes "  U1,20000000,10000000" ∷
+    codes "  U3,20000000,5000000" ∷
+    codes "" ∷
+    codes "  material,kind,flow_e12" ∷
+    codes "  A,raw_material,-20000000000000" ∷
+    codes "  C,intermediate,0" ∷
+    codes "  P,product,20000000000000" ∷
+    []
+
 unfoldable pub table_page : List (List ℕ)
 table_page =
     codes "pns table FILE TREE" ∷
@@ -19,17 +34,7 @@ table_page =
     codes "  10  tree line L KIND: line L of TREE has a fault; docs/FORMATS.md lists the" ∷
     codes "      kinds. Have the text printed anew." ∷
     codes "  2, 3, 6, 7, 8, 12, 20: see pns help status" ∷
-    codes "Example" ∷
-    codes "  pns table a.pns tree" ∷
-    codes "  unit,size_e6,fix_e6" ∷
-    codes "  U1,20000000,10000000" ∷
-    codes "  U3,20000000,5000000" ∷
-    codes "" ∷
-    codes "  material,kind,flow_e12" ∷
-    codes "  A,raw_material,-20000000000000" ∷
-    codes "  C,intermediate,0" ∷
-    codes "  P,product,20000000000000" ∷
-    []
+    table_example
 
 unfoldable pub report_page : List (List ℕ)
 report_page =
@@ -76,18 +81,9 @@ graph_page =
     codes "  pns graph a.pns tree | dot -Tsvg > a.svg" ∷
     []
 
-unfoldable pub stable_page : List (List ℕ)
-stable_page =
-    codes "pns stable FILE TREE KIND NAME BUDGET" ∷
-    codes "Finds how far one price or cost may move while the claimed network stays one of" ∷
-    codes "least cost." ∷
-    codes "  FILE    the plant, PNS_problem_v1" ∷
-    codes "  TREE    a tree text, as solve prints it" ∷
-    codes "  KIND    price, fix or proportional" ∷
-    codes "  NAME    a material for price, a unit for fix and proportional" ∷
-    codes "  BUDGET  the most nodes of the tree, 1 to 1000000; 10000 is a good try" ∷
-    codes "Prints from V, then below and a network that is cheaper under V, or below limit;" ∷
-    codes "to V, then above in the same way. V is in millionths." ∷
+-- the page on `stable` from its statuses on
+abbrev pub stable_ends : List (List ℕ)
+stable_ends =
     codes "Ends with" ∷
     codes "  0   The text is out, whole." ∷
     codes "  1   refused claim WHY: the claim has no network (unknown), or its network" ∷
@@ -111,3 +107,17 @@ stable_page =
     codes "  to 1000000000000000" ∷
     codes "  above limit" ∷
     []
+
+unfoldable pub stable_page : List (List ℕ)
+stable_page =
+    codes "pns stable FILE TREE KIND NAME BUDGET" ∷
+    codes "Finds how far one price or cost may move while the claimed network stays one of" ∷
+    codes "least cost." ∷
+    codes "  FILE    the plant, PNS_problem_v1" ∷
+    codes "  TREE    a tree text, as solve prints it" ∷
+    codes "  KIND    price, fix or proportional" ∷
+    codes "  NAME    a material for price, a unit for fix and proportional" ∷
+    codes "  BUDGET  the most nodes of the tree, 1 to 1000000; 10000 is a good try" ∷
+    codes "Prints from V, then below and a network that is cheaper under V, or below limit;" ∷
+    codes "to V, then above in the same way. V is in millionths." ∷
+    stable_ends

@@ -24,6 +24,18 @@ solve_page =
     codes "  pns solve a.pns 100 > tree" ∷
     []
 
+-- the page on `trial` from its example on
+abbrev pub trial_example : List (List ℕ)
+trial_example =
+    codes "Example" ∷
+    codes "  pns trial 0 3 100" ∷
+    codes "  units 3" ∷
+    codes "  maximal 3" ∷
+    codes "  network U0 U1" ∷
+    codes "  cost 125000000000000000000 1" ∷
+    codes "  nodes 4" ∷
+    []
+
 unfoldable pub trial_page : List (List ℕ)
 trial_page =
     codes "pns trial NUMBER UNITS BUDGET" ∷
@@ -43,11 +55,4 @@ trial_page =
     codes "      claims the cheapest network found so far, or unknown, and proves it but" ∷
     codes "      for its open leaves. Call again with a greater BUDGET." ∷
     codes "  2, 7, 8, 20: see pns help status" ∷
-    codes "Example" ∷
-    codes "  pns trial 0 3 100" ∷
-    codes "  units 3" ∷
-    codes "  maximal 3" ∷
-    codes "  network U0 U1" ∷
-    codes "  cost 125000000000000000000 1" ∷
-    codes "  nodes 4" ∷
-    []
+    trial_example

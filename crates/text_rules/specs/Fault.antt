@@ -59,6 +59,30 @@ keys_of_section line =
 abbrev pub keyed_items : Line → List (List ℕ)
 keyed_items line = if is_in Defaults line then line.text ∷ [] else if is_in Materials line || is_in OperatingUnits line then filter has_key line.items else []
 
+-- a kind of something that stands twice stands at the line, where these lines stand before it; no other kind does
+abbrev pub stands_twice : List Line → Line → TextKind → Bool
+stands_twice before line DoubleSection = line.header && list_any (λ other. other.header && bytes_eq other.name line.name) before
+stands_twice before line DoubleKey =
+    if is_in Defaults line then is_among (map (λ other. key_of other.text) (lines_in Defaults before)) (key_of line.text)
+    else if is_in Rates line then false
+    else has_double (map (λ field. field.0) (fields_of line))
+stands_twice before line DoubleTerm = is_in Rates line && (has_double (materials_of (left line)) || has_double (materials_of (right line)))
+stands_twice before line DoubleMaterial = is_in Materials line && is_among (names_in Materials before) line.name
+stands_twice before line DoubleUnit = is_in OperatingUnits line && is_among (names_in OperatingUnits before) line.name
+stands_twice before line DoubleRates = is_in Rates line && is_among (names_in Rates before) line.name
+stands_twice before line DoubleExclusion = is_in Exclusions line && is_among (names_in Exclusions before) line.name
+stands_twice before line DoubleMember = is_in Exclusions line && has_double line.items
+stands_twice before line kind = false
+
+-- a material, an exclusion or a unit with another name, where the most of them stand before it
+abbrev pub is_one_too_many : List Line → Line → Bool
+is_one_too_many before line =
+    if is_in Materials line then nat_le 256 (length (lines_in Materials before))
+    else if is_in Exclusions line then nat_le 64 (length (lines_in Exclusions before))
+    else (is_in OperatingUnits line || is_in Rates line)
+    && not (is_among (names_in OperatingUnits before ++ names_in Rates before) line.name)
+    && nat_le 128 (length (distinct (names_in OperatingUnits before ++ names_in Rates before)))
+
 -- The kinds of form that stand at a line, where these lines stand before it.
 -- A name and an item are judged apart, so a line may have several kinds. Numbers are judged one kind after the other: one that
 -- is no number, too fine or too large counts as 0 for the kinds behind, and is told before them.
@@ -68,16 +92,11 @@ keyed_items line = if is_in Defaults line then line.text ∷ [] else if is_in Ma
 -- counted in both sections together. A doubled member is judged by its text, whether the unit is known or not.
 abbrev pub stands : List Line → Line → TextKind → Bool
 stands before line UnknownSection = line.header && is_none (section_named line.name)
-stands before line DoubleSection = line.header && list_any (λ other. other.header && bytes_eq other.name line.name) before
 stands before line BadLine = lacks_form line
 stands before line BadName = (is_entry line && not (is_name line.name))
     || list_any (λ term. not (is_name (material_of term))) (terms_in line)
     || (is_in Exclusions line && list_any (λ item. not (is_name item)) line.items)
 stands before line UnknownKey = list_any (λ item. not (is_among (keys_of_section line) (key_of item))) (keyed_items line)
-stands before line DoubleKey =
-    if is_in Defaults line then is_among (map (λ other. key_of other.text) (lines_in Defaults before)) (key_of line.text)
-    else if is_in Rates line then false
-    else has_double (map (λ field. field.0) (fields_of line))
 stands before line BadNumber = list_any (λ field. is_bad (amount_of field.1)) (numbers_of line)
 stands before line TooFine = list_any (λ field. is_too_fine (amount_of field.1)) (numbers_of line)
 stands before line TooLarge = list_any (λ field. is_too_large (amount_of field.1)) (numbers_of line)
@@ -86,23 +105,12 @@ stands before line UnknownKind =
     if is_in Materials line then list_any (λ item. not (has_key item) && not (is_among kind_words item)) line.items
     else is_in Defaults line && bytes_eq (key_of line.text) material_type && not (is_among kind_words (value_of line.text))
 stands before line ZeroRate = is_in Rates line && list_any (λ field. not (int_lt (millionths field.1) (pos 0)) && not (int_lt (pos 0) (millionths field.1))) (numbers_of line)
-stands before line DoubleTerm = is_in Rates line && (has_double (materials_of (left line)) || has_double (materials_of (right line)))
 stands before line BothSides = is_in Rates line && list_any (is_among (materials_of (right line))) (materials_of (left line))
 stands before line EmptySide = is_in Rates line && list_any (λ side. length side == 0) line.sides
-stands before line DoubleMaterial = is_in Materials line && is_among (names_in Materials before) line.name
-stands before line DoubleUnit = is_in OperatingUnits line && is_among (names_in OperatingUnits before) line.name
-stands before line DoubleRates = is_in Rates line && is_among (names_in Rates before) line.name
-stands before line TooMany =
-    if is_in Materials line then nat_le 256 (length (lines_in Materials before))
-    else if is_in Exclusions line then nat_le 64 (length (lines_in Exclusions before))
-    else (is_in OperatingUnits line || is_in Rates line)
-    && not (is_among (names_in OperatingUnits before ++ names_in Rates before) line.name)
-    && nat_le 128 (length (distinct (names_in OperatingUnits before ++ names_in Rates before)))
-stands before line DoubleExclusion = is_in Exclusions line && is_among (names_in Exclusions before) line.name
-stands before line DoubleMember = is_in Exclusions line && has_double line.items
+stands before line TooMany = is_one_too_many before line
 stands before line FewMembers = is_in Exclusions line && nat_lt (length line.items) 2
 stands before line BadPayout = is_in Defaults line && bytes_eq (key_of line.text) payout_period && not (is_payout (millionths (value_of line.text)))
-stands before line kind = false
+stands before line kind = stands_twice before line kind
 
 abbrev pub form_kinds : List TextKind
 form_kinds = UnknownSection ∷ DoubleSection ∷ BadLine ∷ BadName ∷ UnknownKey ∷ DoubleKey ∷ BadNumber ∷ TooFine ∷ TooLarge ∷ Negative ∷ UnknownKind ∷ ZeroRate ∷ DoubleTerm ∷ BothSides ∷ EmptySide ∷ DoubleMaterial ∷ DoubleUnit ∷ DoubleRates ∷ TooMany

@@ -74,6 +74,16 @@ word_text Nonbasic = codes "nonbasic"
 word_text Place = codes "place"
 word_text End = codes "end"
 
+-- the first word of a tail that a token is
+abbrev pub tail_word_named : Token → Option Word
+tail_word_named token =
+    if bytes_eq token (word_text Spent) then Some Spent
+    else if bytes_eq token (word_text Past) then Some Past
+    else if bytes_eq token (word_text Nonbasic) then Some Nonbasic
+    else if bytes_eq token (word_text Place) then Some Place
+    else if bytes_eq token (word_text End) then Some End
+    else None
+
 -- the first word that a token is
 unfoldable pub word_named : Token → Option Word
 word_named token =
@@ -95,12 +105,7 @@ word_named token =
     else if bytes_eq token (word_text Branch) then Some Branch
     else if bytes_eq token (word_text Either) then Some Either
     else if bytes_eq token (word_text Open) then Some Open
-    else if bytes_eq token (word_text Spent) then Some Spent
-    else if bytes_eq token (word_text Past) then Some Past
-    else if bytes_eq token (word_text Nonbasic) then Some Nonbasic
-    else if bytes_eq token (word_text Place) then Some Place
-    else if bytes_eq token (word_text End) then Some End
-    else None
+    else tail_word_named token
 
 abbrev pub first_word : List Token → Option Word
 first_word [] = None
