@@ -3,7 +3,8 @@
 //! Only speed rests on it: whoever asks it for a leaf looks whether that leaf is open, and on which side of the place it stands. It is
 //! a treap (Aragon and Seidel 1989): from left to right the leaves rise as in their list, and on each way down their ranks fall. Ranks
 //! are the leaves' numbers, well mixed, so that n leaves hang some 2 log n deep. Ways end after 256 steps, far more than such trees
-//! are deep (57 levels for 2 million leaves).
+//! are deep (57 levels for 2 million leaves). Of leaves of one value the one that was put last comes first; puts are told apart up
+//! to the 2^32nd.
 
 use mixed_numbers::Mixed;
 use std::alloc::{AllocError, Global};
@@ -16,11 +17,14 @@ const MOST_STEPS: u32 = 256;
 struct Fork {
     before: Option<u32>,
     behind: Option<u32>,
+    // The number of the put that the leaf hangs by.
+    put: u32,
 }
 
 const NO_FORK: Fork = Fork {
     before: None,
     behind: None,
+    put: 0,
 };
 
 /// Where a leaf can hang.
@@ -36,6 +40,7 @@ enum Place {
 pub struct Index {
     root: Option<u32>,
     forks: Vec<Fork>,
+    puts: u32,
 }
 
 /// The leaf's rank. No two leaves have the same.
@@ -45,24 +50,13 @@ fn rank(leaf: u32) -> u32 {
     twice ^ (twice >> 16)
 }
 
-/// Whether the leaf comes before the other: its value is less, or the same and it is the newer one.
-fn comes_before(values: &Vec<Mixed>, leaf: u32, other: u32) -> bool {
-    let (Some(value), Some(than)) = (values.get(leaf as usize), values.get(other as usize)) else {
-        return false;
-    };
-    match value.cmp(than) {
-        Ordering::Less => true,
-        Ordering::Equal => leaf > other,
-        Ordering::Greater => false,
-    }
-}
-
 impl Index {
     /// No leaves, and memory for so many nodes.
     pub fn with_room(alloc: Global, room: u32) -> Result<Index, AllocError> {
         Ok(Index {
             root: None,
             forks: vec![in alloc; NO_FORK; room as usize]?,
+            puts: 0,
         })
     }
 
@@ -72,6 +66,27 @@ impl Index {
             self.forks.resize(room as usize, NO_FORK)?;
         }
         Ok(())
+    }
+
+    /// The number of the put that the leaf hangs by.
+    fn put_of(&self, leaf: u32) -> u32 {
+        match self.forks.get(leaf as usize) {
+            None => 0,
+            Some(fork) => fork.put,
+        }
+    }
+
+    /// Whether the leaf comes before the other: its value is less, or the same and it was put later.
+    fn comes_before(&self, values: &Vec<Mixed>, leaf: u32, other: u32) -> bool {
+        let (Some(value), Some(than)) = (values.get(leaf as usize), values.get(other as usize))
+        else {
+            return false;
+        };
+        match value.cmp(than) {
+            Ordering::Less => true,
+            Ordering::Equal => self.put_of(leaf) > self.put_of(other),
+            Ordering::Greater => false,
+        }
     }
 
     /// The leaf that hangs there.
@@ -129,7 +144,7 @@ impl Index {
         for _ in 0..MOST_STEPS {
             match self.at(place) {
                 Some(at) if rank(leaf) < rank(at) => {
-                    place = if comes_before(values, leaf, at) {
+                    place = if self.comes_before(values, leaf, at) {
                         Place::Before(at)
                     } else {
                         Place::Behind(at)
@@ -151,7 +166,7 @@ impl Index {
                 None => break,
                 Some(at) => at,
             };
-            if comes_before(values, at, leaf) {
+            if self.comes_before(values, at, leaf) {
                 self.hang(before, rest);
                 before = Place::Behind(at);
                 rest = self.at(before);
@@ -167,6 +182,10 @@ impl Index {
 
     /// Adds a leaf.
     pub fn put(&mut self, values: &Vec<Mixed>, leaf: u32) {
+        self.puts = self.puts.wrapping_add(1);
+        if let Some(fork) = self.forks.get_mut(leaf as usize) {
+            fork.put = self.puts;
+        }
         let place = self.place_of(values, leaf);
         let below = self.at(place);
         self.hang(place, Some(leaf));
@@ -206,7 +225,7 @@ impl Index {
                     return;
                 }
                 Some(at) => {
-                    place = if comes_before(values, leaf, at) {
+                    place = if self.comes_before(values, leaf, at) {
                         Place::Before(at)
                     } else {
                         Place::Behind(at)
