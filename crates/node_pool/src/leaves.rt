@@ -3,7 +3,7 @@
 ghost use Rattle.std.specs.Prelude.{◌≡◌, [], ℕ, true, false, Some, ◌<◌, ◌+◌, ◌^◌, length, slice_set, IfOk, OnErr};
 ghost use Rattle.std.specs.List.{find};
 ghost use Rattle.mixed_numbers.specs.Order.{mixed_cmp};
-ghost use Rattle.link_lists.specs.Lists.{first, has, row, without, IsListed};
+ghost use Rattle.link_lists.specs.Lists.{first, following, has, row, without, IsListed};
 ghost use Rattle.node_pool.specs.Order.{OpenLeaves, is_at_least, put_before, second, IsRising};
 
 use crate::index::Index;
@@ -112,6 +112,14 @@ impl Leaves {
         ensures { result ≡ second self.now.leaves }
     {
         self.lists.next(self.lists.first(0)?)
+    }
+
+    /// The leaf behind this one.
+    pub fn next(&self, leaf: u32) -> Option<u32>
+        requires { has self.now.leaves leaf ≡ true }
+        ensures { result ≡ following leaf self.now.leaves }
+    {
+        self.lists.next(leaf)
     }
 
     /// A leaf of less value, as close as the index leads to the first one that has at least this one.

@@ -3,7 +3,7 @@
 ghost use Rattle.std.specs.Prelude.{◌≡◌, ◌∷◌, [], ℕ, true, false, Some, ◌<◌, ◌≤◌, ◌+◌, ◌-◌, ◌^◌, length, max, IfOk, OnOk, IsOk, IfErr, OnErr, vec_len};
 ghost use Rattle.std.specs.List.{slice_get};
 ghost use Rattle.std.specs.Borrow.{sem};
-ghost use Rattle.link_lists.specs.Lists.{first, has};
+ghost use Rattle.link_lists.specs.Lists.{first, following, has};
 ghost use Rattle.node_pool.specs.Tree.{children, sibling_after, AreAfterParents};
 ghost use Rattle.node_pool.specs.Order.{placed, second, IsRising};
 ghost use Rattle.node_pool.specs.Pooled.{Pooled, IsParent, IsShut, AreSameNodes, IsWithLeaf, with_shut};
@@ -81,6 +81,14 @@ impl<T> Pool<T> {
         ensures { result ≡ second self.now.leaves }
     {
         self.leaves.second()
+    }
+
+    /// The open leaf behind this one in the order of the open leaves, and none behind the last.
+    pub fn next_open(&self, id: u32) -> Option<u32>
+        requires { has self.now.leaves id ≡ true }
+        ensures { result ≡ following id self.now.leaves }
+    {
+        self.leaves.next(id)
     }
 
     /// The node's first child, and none where it has none.
