@@ -1,6 +1,6 @@
 -- Rising leaves: what is behind a leaf that has at least some value has so too, and a new leaf keeps the order.
-use Rattle.std.proofs.Common.{◌≡◌, ℕ, zero, suc, ◌<◌, ◌==◌, Bool, true, false, cond, not, List, [], ◌∷◌, ◌++◌, length, Option, Some, None, refl, sym, ap, ◌∙◌, subst, inl, inr, ◌⊎◌, eqb-true, eq-eqb, ne_eqb, arith}
-use Rattle.std.proofs.lemmas.Bool.{or_cases, or_left, both_ways}
+use Rattle.std.proofs.Common.{◌≡◌, ℕ, zero, suc, ◌<◌, ◌==◌, Bool, true, false, cond, not, List, [], ◌∷◌, ◌++◌, length, Option, Some, None, slice_set, refl, sym, ap, ◌∙◌, subst, inl, inr, ◌⊎◌, eqb-true, eq-eqb, ne_eqb, length-append, arith}
+use Rattle.std.proofs.lemmas.Bool.{or_cases, or_left, both_ways, false_from_ne_true, not-true, and_parts}
 use Rattle.std.specs.List.{slice_get, find}
 use Rattle.std.specs.Ordering.{is_le, ordering_reverse}
 use Rattle.std.specs.declared.cmp.Ordering.{Ordering}
@@ -10,7 +10,6 @@ use Rattle.mixed_numbers.specs.Order.{mixed_cmp}
 use Rattle.mixed_numbers.specs.OrderLaws.{mixed_cmp_total}
 use Rattle.link_lists.specs.Lists.{has, without, inserted}
 use Rattle.link_lists.proofs.Cells.{has-here, has-later, has-without}
-use Rattle.std.proofs.lemmas.Bool.{and_parts}
 use Rattle.node_pool.specs.Order.{at_most, is_at_least, placed, IsAtMost, IsRising, put_before}
 use Rattle.node_pool.proofs.Places.{StaysTrue}
 
@@ -60,6 +59,18 @@ slice_get_push (w ∷ vs) v (suc c) lt = slice_get_push vs v c (omega arith)
 slice_get_new : (vs : List Mixed) (v : Mixed) → slice_get (vs ++ v ∷ []) (length vs) ≡ Some v
 slice_get_new [] v = refl
 slice_get_new (w ∷ vs) v = slice_get_new vs v
+
+slice_get_other : (vs : List Mixed) (i : ℕ) (v : Mixed) (c : ℕ) → (c ≡ i → ⊥) → slice_get (slice_set vs i v) c ≡ slice_get vs c
+slice_get_other [] i v c ne = refl
+slice_get_other (w ∷ vs) zero v zero ne = absurd (ne refl)
+slice_get_other (w ∷ vs) zero v (suc c) ne = refl
+slice_get_other (w ∷ vs) (suc i) v zero ne = refl
+slice_get_other (w ∷ vs) (suc i) v (suc c) ne = slice_get_other vs i v c (λ s. ne (ap suc s))
+
+pub slice_get_set : (vs : List Mixed) (i : ℕ) (v : Mixed) → i < length vs → slice_get (slice_set vs i v) i ≡ Some v
+slice_get_set [] i v lt = absurd (omega arith)
+slice_get_set (w ∷ vs) zero v lt = refl
+slice_get_set (w ∷ vs) (suc i) v lt = slice_get_set vs i v (omega arith)
 
 at_least_by : (vs : List Mixed) (v w : Mixed) (c : ℕ) → slice_get vs c ≡ Some w → is_at_least vs v c ≡ is_le (mixed_cmp v w)
 at_least_by vs v w c e = ap (at_most v) e
@@ -116,48 +127,69 @@ has-placed vs v c (x ∷ xs) d h = by (is_at_least vs v x) h (λ q. has-placed v
       | inr t ↦ elim (ih t) [ inl e ↦ inl e | inr u ↦ inr (has-later x d xs u) ]
     ]
 
--- the order of old leaves, and with the new one
-at_most_more : (vs : List Mixed) (v : Mixed) (x y : ℕ) → x < length vs → y < length vs → IsAtMost vs x y → IsAtMost (vs ++ v ∷ []) x y
-at_most_more vs v x y lx ly h a b ea eb = h a b (sym (slice_get_push vs v x lx) ∙ ea) (sym (slice_get_push vs v y ly) ∙ eb)
+-- the order of the leaves, and with one more
+new_at_most : (vs : List Mixed) (v : Mixed) (c y : ℕ) → slice_get vs c ≡ Some v → is_at_least vs v y ≡ true → IsAtMost vs c y
+new_at_most vs v c y e high a b ea eb g =
+    let s : v ≡ a = let f : Some v ≡ Some a = sym e ∙ ea in cc in
+    le_not_greater (mixed_cmp v b) (sym (at_least_by vs v b y eb) ∙ high) (ap (λ (w : Mixed). mixed_cmp w b) s ∙ g)
 
-new_at_most : (vs : List Mixed) (v : Mixed) (y : ℕ) → y < length vs → is_at_least vs v y ≡ true → IsAtMost (vs ++ v ∷ []) (length vs) y
-new_at_most vs v y ly high a b ea eb g =
-    let s : v ≡ a = let e : Some v ≡ Some a = sym (slice_get_new vs v) ∙ ea in cc in
-    le_not_greater (mixed_cmp v b) (sym (at_least_by vs v b y (sym (slice_get_push vs v y ly) ∙ eb)) ∙ high) (ap (λ (w : Mixed). mixed_cmp w b) s ∙ g)
-
-at_most_new : (vs : List Mixed) (v : Mixed) (x : ℕ) → x < length vs → is_at_least vs v x ≡ false → IsAtMost (vs ++ v ∷ []) x (length vs)
-at_most_new vs v x lx low a b ea eb g =
-    let s : v ≡ b = let e : Some v ≡ Some b = sym (slice_get_new vs v) ∙ eb in cc in
+at_most_new : (vs : List Mixed) (v : Mixed) (c x : ℕ) → slice_get vs c ≡ Some v → is_at_least vs v x ≡ false → IsAtMost vs x c
+at_most_new vs v c x e low a b ea eb g =
+    let s : v ≡ b = let f : Some v ≡ Some b = sym e ∙ eb in cc in
     let back : mixed_cmp b a ≡ Less = mixed_cmp_total.antisymm b a ∙ ap ordering_reverse g in
     let l : is_le (mixed_cmp v a) ≡ true = ap (λ (w : Mixed). is_le (mixed_cmp w a)) s ∙ ap is_le back in
-    both_ways (is_at_least vs v x) low (at_least_by vs v a x (sym (slice_get_push vs v x lx) ∙ ea) ∙ l)
+    both_ways (is_at_least vs v x) low (at_least_by vs v a x ea ∙ l)
 
-rising_more : (vs : List Mixed) (v : Mixed) (xs : List ℕ) → ((c : ℕ) → has xs c ≡ true → c < length vs) → IsRising vs xs → IsRising (vs ++ v ∷ []) xs
-rising_more vs v [] known r = tt
-rising_more vs v (x ∷ xs) known r = (
-  λ y hy. at_most_more vs v x y (known x (has-here x xs)) (known y (has-later x y xs hy)) (r.0 y hy),
-  rising_more vs v xs (λ c h. known c (has-later x c xs h)) r.1,
-)
-
-pub rising_placed : (vs : List Mixed) (v : Mixed) (xs : List ℕ) → ((c : ℕ) → has xs c ≡ true → c < length vs) → IsRising vs xs → IsRising (vs ++ v ∷ []) (placed vs v (length vs) xs)
-rising_placed vs v [] known r = (λ y h. absurd (both_ways false refl h), tt)
-rising_placed vs v (x ∷ xs) known r = by (is_at_least vs v x) refl (rising_placed vs v xs (λ c h. known c (has-later x c xs h)) r.1)
+pub rising_with : (vs : List Mixed) (v : Mixed) (c : ℕ) (xs : List ℕ) → slice_get vs c ≡ Some v → ((d : ℕ) → has xs d ≡ true → d < length vs) → IsRising vs xs → IsRising vs (placed vs v c xs)
+rising_with vs v c [] e known r = (λ y h. absurd (both_ways false refl h), tt)
+rising_with vs v c (x ∷ xs) e known r = by (is_at_least vs v x) refl (rising_with vs v c xs e (λ d h. known d (has-later x d xs h)) r.1)
   where
-    by : (b : Bool) → is_at_least vs v x ≡ b → IsRising (vs ++ v ∷ []) (placed vs v (length vs) xs) → IsRising (vs ++ v ∷ []) (cond b (length vs ∷ x ∷ xs) (x ∷ placed vs v (length vs) xs))
+    by : (b : Bool) → is_at_least vs v x ≡ b → IsRising vs (placed vs v c xs) → IsRising vs (cond b (c ∷ x ∷ xs) (x ∷ placed vs v c xs))
     by true q ih = (
-      λ y hy. new_at_most vs v y (known y hy) (elim (or_cases (x == y) (has xs y) hy) [
+      λ y hy. new_at_most vs v c y e (elim (or_cases (x == y) (has xs y) hy) [
         | inl s ↦ ap (is_at_least vs v) (sym (eqb-true x y s)) ∙ q
         | inr t ↦ (stays_at_least vs v (x ∷ xs) known r).0 q y t
       ]),
-      rising_more vs v (x ∷ xs) known r,
+      r,
     )
     by false q ih = (
-      λ y hy. elim (has-placed vs v (length vs) xs y hy) [
-        | inl e ↦ subst (IsAtMost (vs ++ v ∷ []) x) (sym e) (at_most_new vs v x (known x (has-here x xs)) q)
-        | inr t ↦ at_most_more vs v x y (known x (has-here x xs)) (known y (has-later x y xs t)) (r.0 y t)
+      λ y hy. elim (has-placed vs v c xs y hy) [
+        | inl s ↦ subst (IsAtMost vs x) (sym s) (at_most_new vs v c x e q)
+        | inr t ↦ r.0 y t
       ],
       ih,
     )
+
+-- ---- other values elsewhere
+
+-- the leaves have the same values in both
+abbrev HaveSame : List Mixed → List Mixed → List ℕ → Type 0
+HaveSame vs ws xs = (c : ℕ) → has xs c ≡ true → slice_get ws c ≡ slice_get vs c
+
+rising_same : (vs ws : List Mixed) (xs : List ℕ) → HaveSame vs ws xs → IsRising vs xs → IsRising ws xs
+rising_same vs ws [] same r = tt
+rising_same vs ws (x ∷ xs) same r = (
+  λ y hy a b ea eb. r.0 y hy a b (sym (same x (has-here x xs)) ∙ ea) (sym (same y (has-later x y xs hy)) ∙ eb),
+  rising_same vs ws xs (λ c h. same c (has-later x c xs h)) r.1,
+)
+
+placed_same : (vs ws : List Mixed) (v : Mixed) (c : ℕ) (xs : List ℕ) → HaveSame vs ws xs → placed ws v c xs ≡ placed vs v c xs
+placed_same vs ws v c [] same = refl
+placed_same vs ws v c (x ∷ xs) same =
+    ap (λ t. cond t (c ∷ x ∷ xs) (x ∷ placed ws v c xs)) (ap (at_most v) (same x (has-here x xs)))
+    ∙ ap (λ ys. cond (is_at_least vs v x) (c ∷ x ∷ xs) (x ∷ ys)) (placed_same vs ws v c xs (λ d h. same d (has-later x d xs h)))
+
+pub rising_placed : (vs : List Mixed) (v : Mixed) (xs : List ℕ) → ((c : ℕ) → has xs c ≡ true → c < length vs) → IsRising vs xs → IsRising (vs ++ v ∷ []) (placed vs v (length vs) xs)
+rising_placed vs v xs known r =
+    let ws = vs ++ v ∷ [] in
+    let more = length-append vs (v ∷ []) in
+    let same : HaveSame vs ws xs = λ c h. slice_get_push vs v c (known c h) in
+    subst (IsRising ws) (placed_same vs ws v (length vs) xs same)
+    (rising_with ws v (length vs) xs (slice_get_new vs v) (λ c h. let k = known c h in omega arith) (rising_same vs ws xs same r))
+
+-- another value of a leaf that is not among them
+pub rising_set : (vs : List Mixed) (i : ℕ) (v : Mixed) (xs : List ℕ) → has xs i ≡ false → IsRising vs xs → IsRising (slice_set vs i v) xs
+rising_set vs i v xs out r = rising_same vs (slice_set vs i v) xs (λ c h. slice_get_other vs i v c (λ s. both_ways (has xs i) out (subst (λ k. has xs k ≡ true) s h))) r
 
 -- ---- a leaf less
 
@@ -171,3 +203,6 @@ rising_without vs c (x ∷ xs) r = by (not (c == x)) (rising_without vs c xs r.1
     by : (b : Bool) → IsRising vs (without c xs) → IsRising vs (cond b (x ∷ without c xs) (without c xs))
     by true ih = (λ y hy. r.0 y (has-less c xs y hy), ih)
     by false ih = ih
+
+pub without_out : (c : ℕ) (xs : List ℕ) → has (without c xs) c ≡ false
+without_out c xs = false_from_ne_true (has (without c xs) c) (λ h. both_ways (c == c) (not-true (c == c) (and_parts (has xs c) (not (c == c)) (sym (has-without c xs c) ∙ h)).1) (eq-eqb c c refl))

@@ -1,12 +1,13 @@
 -- The parts of a pool fit together after each call.
-use Rattle.std.proofs.Common.{◌≡◌, ℕ, ◌+◌, ◌<◌, ◌≤◌, Bool, true, false, List, [], ◌∷◌, ◌++◌, length, Option, refl, sym, ap, ◌∙◌, subst, inl, inr, ◌^◌, length-append, arith}
+use Rattle.std.proofs.Common.{◌≡◌, ℕ, ◌+◌, ◌<◌, ◌≤◌, Bool, true, false, List, [], ◌∷◌, ◌++◌, length, Option, slice_set, refl, sym, ap, ◌∙◌, subst, inl, inr, ◌^◌, length-append, arith}
+use Rattle.std.proofs.lemmas.List.{length-set}
 use Rattle.std.specs.List.{find}
 use Rattle.mixed_numbers.specs.declared.number.Mixed.{Mixed}
 use Rattle.link_lists.specs.Lists.{has, without}
 use Rattle.node_pool.specs.Tree.{Branches, with_node}
 use Rattle.node_pool.specs.Order.{OpenLeaves, is_at_least, placed, put_before, IsRising}
 use Rattle.node_pool.specs.Sound.{IsSound}
-use Rattle.node_pool.proofs.Order.{placed_by, has-placed, rising_placed, rising_without, has-less}
+use Rattle.node_pool.proofs.Order.{placed_by, slice_get_set, has-placed, rising_with, rising_placed, rising_set, rising_without, without_out, has-less}
 
 pub sound_shut : (t : Branches) (vs : List Mixed) (vr pl pr : ℕ) (o : OpenLeaves) (id : ℕ) → IsSound t vs vr pl pr o → IsSound t vs vr pl pr (record { leaves = without id o.leaves; room = o.room })
 sound_shut t vs vr pl pr o id h = record {
@@ -85,3 +86,36 @@ module _ (t : Branches) (vs : List Mixed) (vr pl pr : ℕ) (o : OpenLeaves) (p :
       false_by : (b : Bool) → has o.leaves (length t.parents) ≡ b → b ≡ false
       false_by true q = let z = h.known (length t.parents) q in absurd (omega arith)
       false_by false q = refl
+
+-- an open leaf of another value
+module _ (t : Branches) (vs : List Mixed) (vr pl pr : ℕ) (o : OpenLeaves) (id : ℕ) (v : Mixed) (h : IsSound t vs vr pl pr o) where
+  abbrev rest : List ℕ
+  rest = without id o.leaves
+
+  pub known_set : (c : ℕ) → has rest c ≡ true → c < length (slice_set vs id v)
+  known_set c q = let n = length-set vs id v in let x = h.some_values in let z = h.known c (has-less id o.leaves c q) in omega arith
+
+  pub rising_rest : IsRising (slice_set vs id v) rest
+  rising_rest = rising_set vs id v rest (without_out id o.leaves) (rising_without vs id o.leaves h.rising)
+
+  module _ (before : Option ℕ) (there : has o.leaves id ≡ true) (e : before ≡ find (is_at_least (slice_set vs id v) v) rest) where
+    pub leaves_set : put_before id before rest ≡ placed (slice_set vs id v) v id rest
+    leaves_set = placed_by (slice_set vs id v) v id rest before e
+
+    pub sound_set : IsSound t (slice_set vs id v) vr pl pr (record { leaves = put_before id before rest; room = o.room })
+    sound_set =
+        let n = length-set vs id v in
+        let x = h.some_values in record {
+          some_values = omega arith;
+          some_payloads = h.some_payloads;
+          few = h.few;
+          numbered = h.numbered;
+          tree_room = h.tree_room;
+          value_rooms = h.value_rooms;
+          payload_rooms = h.payload_rooms;
+          known = λ c q. elim (has-placed (slice_set vs id v) v id rest c (sym (ap (λ xs. has xs c) leaves_set) ∙ q)) [
+            | inl s ↦ let z = h.known id there in omega arith
+            | inr u ↦ h.known c (has-less id o.leaves c u)
+          ];
+          rising = subst (IsRising (slice_set vs id v)) (sym leaves_set) (rising_with (slice_set vs id v) v id rest (slice_get_set vs id v (let z = h.known id there in omega arith)) known_set rising_rest);
+        }

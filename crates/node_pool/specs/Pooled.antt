@@ -44,3 +44,7 @@ module _ {T : Type 0} where
   -- node i has another payload
   abbrev pub with_payload : Pooled T → ℕ → T → Pooled T
   with_payload p i x = record { parents = p.parents; values = p.values; payloads = slice_set p.payloads i x; leaves = p.leaves; spare = p.spare }
+
+  -- open leaf i has another value, and stands before the open leaves of at least this value
+  abbrev pub with_value : Pooled T → ℕ → Mixed → Pooled T
+  with_value p i v = record { parents = p.parents; values = slice_set p.values i v; payloads = p.payloads; leaves = placed (slice_set p.values i v) v i (without i p.leaves); spare = p.spare }

@@ -2,8 +2,9 @@
 //!
 //! Nodes are numbered from 0 in the order of adding, and none is ever removed. Contracts see a `Pool` as the parents, values and
 //! payloads of its nodes, the list of its open leaves, and how many adds cannot fail. A new leaf stands before the leaves of the same
-//! value, so that a search goes on from the newest of equal leaves: down to a network, and not through all of them in breadth. Only `open`, `reserve` and `add` take memory, and `add` only where
-//! no room is left. Every call but these and `shut` takes constant time; `add` and `shut` say what they take.
+//! value, so that a search goes on from the newest of equal leaves: down to a network, and not through all of them in breadth. A leaf
+//! that is given another value does so too. Only `open`, `reserve` and `add` take memory, and `add` only where no room is left. Every
+//! call but these, `shut` and `raise` takes constant time; `add`, `shut` and `raise` say what they take.
 //!
 //! - `pool`: `Pool` and its calls
 //! - `tree`: the nodes by first child and next sibling

@@ -6,7 +6,7 @@ ghost use Rattle.std.specs.Borrow.{sem};
 ghost use Rattle.link_lists.specs.Lists.{first, following, has};
 ghost use Rattle.node_pool.specs.Tree.{children, sibling_after, AreAfterParents};
 ghost use Rattle.node_pool.specs.Order.{placed, second, IsRising};
-ghost use Rattle.node_pool.specs.Pooled.{Pooled, IsParent, IsShut, AreSameNodes, IsWithLeaf, with_shut};
+ghost use Rattle.node_pool.specs.Pooled.{Pooled, IsParent, IsShut, AreSameNodes, IsWithLeaf, with_shut, with_value};
 
 use crate::leaves::Leaves;
 use crate::tree::Tree;
@@ -69,7 +69,7 @@ impl<T> Pool<T> {
         self.leaves.room() - self.tree.len() as u32
     }
 
-    /// The open leaf of least value that was added first, and none where no leaf is open.
+    /// The open leaf of least value, of several the one that got it last, and none where no leaf is open.
     pub fn least(&self) -> Option<u32>
         ensures { result ≡ first self.now.leaves }
     {
@@ -107,7 +107,7 @@ impl<T> Pool<T> {
         self.tree.next_sibling(id)
     }
 
-    /// The value that the node was added with.
+    /// The node's value: the one that it was given last.
     pub fn value(&self, id: u32) -> Mixed
         requires { id < length self.now.parents }
         ensures { slice_get self.now.values id ≡ Some result }
@@ -220,5 +220,17 @@ impl<T> Pool<T> {
         ensures { self.new ≡ with_shut self.old id }
     {
         self.leaves.take(&self.values, id);
+    }
+
+    /// Gives an open leaf this value, which may be less than its own too: it then stands before the open leaves of the same value. All
+    /// else stays. It takes no memory, and time with the logarithm of the number of open leaves.
+    pub fn raise(&mut self, id: u32, value: Mixed)
+        requires { has self.old.leaves id ≡ true }
+        ensures { self.new ≡ with_value self.old id value }
+    {
+        self.leaves.take(&self.values, id);
+        self.values[id as usize] = value;
+        let before = self.leaves.first_at_least(&self.values, &value);
+        self.leaves.put(&self.values, id, before);
     }
 }
