@@ -61,17 +61,16 @@ fn entry_of(problem: &Problem, fields: Option<&[u8]>) -> Result<Place, TreeKind>
     let behind_row = both(column_of(problem, entry.column), which_of(entry.which));
     let behind_enter = both(row_of(problem, entry.row), behind_row);
     let behind_leave = both(column_of(problem, entry.enter), behind_enter);
-    let (leave, (enter, (row, (column, which)))) = both(
-        column_of(problem, entry.leave),
-        behind_leave,
-    )?;
-    Ok(Place::Entry {
-        leave,
-        enter,
-        row,
-        column,
-        which,
-    })
+    match both(column_of(problem, entry.leave), behind_leave) {
+        Ok((leave, (enter, (row, (column, which))))) => Ok(Place::Entry {
+            leave,
+            enter,
+            row,
+            column,
+            which,
+        }),
+        Err(kind) => Err(kind),
+    }
 }
 
 /// A place.
