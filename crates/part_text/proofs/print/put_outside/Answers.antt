@@ -16,5 +16,5 @@ returns-in-Ok-clause-prints g c =
     two_printed _ _ _ _ _ _ _ _ _ c.put_line.ensures.later (c.in-Ok.ensures.prints (set_line (codes "outside") c.args.part.now.outside) (subst (λ (units : List ℕ). OnOk c.set_line-made.result (string_bytes c.set_line-made.new.line ≡ joined 32 (set_line (codes "outside") units))) c.start.ensures.outside c.set_line-made.ensures))
     (subst (λ (lines : List (List Token)). Prints lines (g.K.Sink.written c.put_line.new.out) (g.K.Sink.written c.print_rest.new.out) (g.K.Sink.faults c.put_line.new.out) (g.K.Sink.faults c.print_rest.new.out) c.print_rest.result) same c.print_rest.ensures.prints)
 
-pub returns-in-Err-clause-prints : goal.returns-in-Err-clause-prints
-returns-in-Err-clause-prints g c = part_failed _ _ _ _ _ _ c.in-Err.fault (c.in-Err.ensures.prints (set_line (codes "outside") c.args.part.now.outside) (subst (λ (units : List ℕ). OnOk c.set_line-made.result (string_bytes c.set_line-made.new.line ≡ joined 32 (set_line (codes "outside") units))) c.start.ensures.outside c.set_line-made.ensures))
+pub returns-clause-prints : goal.returns-clause-prints
+returns-clause-prints g c = part_failed _ _ _ _ _ _ c.in-Err.fault (c.in-Err.ensures.prints (set_line (codes "outside") c.args.part.now.outside) (subst (λ (units : List ℕ). OnOk c.set_line-made.result (string_bytes c.set_line-made.new.line ≡ joined 32 (set_line (codes "outside") units))) c.start.ensures.outside c.set_line-made.ensures))
