@@ -95,13 +95,13 @@ module _ (budget : ℕ) (known : Option Network) (inside outside : List ℕ) (p 
 
   pub part_says : (f : Found) → IsFound p start budget f → IsNoDearer known f → FoundSays p inside outside f s lines → PartSays budget known inside outside p s lines
   part_says (found.Solved w tree) h against said =
-      made (record { claim = network w; tree = tree; tail = tails.whole }) h (solved_no_dearer known w tree against) said.0 said.1 said.2
+      made (record { claim = network w; tree = tree; tail = tails.whole }) h (solved_no_dearer known w tree against) said.0 said.1 (said.2, said.3)
   part_says (found.Infeasible tree) h against said =
-      made (record { claim = infeasible; tree = tree; tail = tails.whole }) h (infeasible_no_dearer known tree against) said.0 said.1 said.2
+      made (record { claim = infeasible; tree = tree; tail = tails.whole }) h (infeasible_no_dearer known tree against) said.0 said.1 (said.2, said.3)
   part_says (found.Spent best tree next options) h against said =
       made (record { claim = claim_with best; tree = tree; tail = tails.spent next options }) (record { stopped = h.0; not_infeasible = not_infeasible best }, h.1, h.2)
-      (spent_no_dearer known best tree next options against) said.0 said.1 said.2
+      (spent_no_dearer known best tree next options against) said.0 said.1 (said.2, said.3)
   part_says (found.Past best tree node nonbasic place) h against said =
       made (record { claim = claim_with best; tree = tree; tail = tails.past node nonbasic place }) (record { stopped = h.0; not_infeasible = not_infeasible best }, h.1)
-      (past_no_dearer known best tree node nonbasic place against) said.0 said.1 said.2
+      (past_no_dearer known best tree node nonbasic place against) said.0 said.1 (said.2, said.3)
   part_says found.Memory h against said = absurd cc
