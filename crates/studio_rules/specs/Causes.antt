@@ -24,7 +24,9 @@ use Rattle.studio_rules.specs.Listing.{IsBadToken}
 use Rattle.studio_rules.specs.PartFile.{GivesPart}
 use Rattle.studio_rules.specs.Start.{IsStart}
 use Rattle.studio_rules.specs.Stable.{spot_named}
-use Rattle.studio_rules.specs.Command.{Command, Max, Axioms, Flows, Listing, Migrate, Editing, Undoing, Checking, RankChecking, Solving, Ranking, IsFileOf, Table, Splitting, Expanding, Drawing, DrawingNetwork, Reporting, Ranging, Planning, Parting, PartingAgainst, Merging}
+use Rattle.studio_rules.specs.Command.{Command, IsFileOf}
+use Rattle.studio_rules.specs.Command.{Max, Axioms, Flows, Listing, Migrate, Editing, Undoing, Checking, RankChecking, Solving, Ranking}
+use Rattle.studio_rules.specs.Command.{Table, Splitting, Expanding, Drawing, DrawingNetwork, Reporting, Ranging, Planning, Parting, PartingAgainst, Merging}
 use Rattle.studio_rules.specs.Ending.{IsOneOf}
 use Rattle.studio_rules.specs.declared.status.Status.{Status}
 use Rattle.studio_rules.specs.declared.status.Status.TheVariants.{BadProblem, ReadFault, WriteFault, Memory, BadToken, BadTree, BadEdit, TooLong, UnknownName, NotMigrated, BadNode, BadPlan}

@@ -1,7 +1,8 @@
 -- The numbers of the statuses with which the program ends.
 use Rattle.std.specs.Prelude.{ℕ}
 use Rattle.studio_rules.specs.declared.status.Status.{Status}
-use Rattle.studio_rules.specs.declared.status.Status.TheVariants.{Done, Refused, Usage, BadProblem, Past, Spent, ReadFault, WriteFault, Memory, BadToken, BadTree, BadEdit, TooLong, NotBest, UnknownName, NotMigrated, BadNode, NoLeaf, BadPlan}
+use Rattle.studio_rules.specs.declared.status.Status.TheVariants.{Done, Refused, Usage, BadProblem, Past, Spent, ReadFault, WriteFault, Memory}
+use Rattle.studio_rules.specs.declared.status.Status.TheVariants.{BadToken, BadTree, BadEdit, TooLong, NotBest, UnknownName, NotMigrated, BadNode, NoLeaf, BadPlan}
 
 -- there is no 15
 abbrev pub code_of : Status → ℕ

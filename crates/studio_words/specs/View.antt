@@ -2,7 +2,8 @@
 use Rattle.std.specs.Prelude.{map, string_bytes}
 use Rattle.studio_rules.specs.Command as rules
 use Rattle.studio_words.specs.declared.command.Command.{Command}
-use Rattle.studio_words.specs.declared.command.Command.TheVariants.{Max, Axioms, Flows, Listing, Make, Migrate, Editing, Undoing, Checking, RankChecking, Solving, Ranking, Trial, Telling, Table, Splitting, Expanding, Drawing, DrawingNetwork, Reporting, Ranging, Planning, Parting, PartingAgainst, Merging}
+use Rattle.studio_words.specs.declared.command.Command.TheVariants.{Max, Axioms, Flows, Listing, Make, Migrate, Editing, Undoing, Checking, RankChecking, Solving, Ranking, Trial, Telling}
+use Rattle.studio_words.specs.declared.command.Command.TheVariants.{Table, Splitting, Expanding, Drawing, DrawingNetwork, Reporting, Ranging, Planning, Parting, PartingAgainst, Merging}
 
 abbrev pub command_view : Command → rules.Command
 command_view (Max file) = rules.Max file.now

@@ -1,6 +1,7 @@
 //! The words of a call.
 ghost use Rattle.std.specs.Prelude.{◌≡◌, ◌∷◌, [], IfOk, map, option_map, string_bytes};
-ghost use Rattle.studio_rules.specs.Command.{command_of, form_of, on_file, with_file, made_by, tried_by, ranged_by, ranked_by, unit_names_of, count_of, seed_of, unit_count_of, years_of, rank_count_of, budget_of, kind_of, alone, Axioms, Flows, Listing, Migrate, Solving, Planning, Parting, PartingAgainst, Telling};
+ghost use Rattle.studio_rules.specs.Command.{command_of, form_of, on_file, with_file, made_by, tried_by, ranged_by, ranked_by, unit_names_of, count_of, seed_of, unit_count_of, years_of, rank_count_of, budget_of, kind_of};
+ghost use Rattle.studio_rules.specs.Command.{alone, Axioms, Flows, Listing, Migrate, Solving, Planning, Parting, PartingAgainst, Telling};
 ghost use Rattle.studio_rules.specs.Pages.{page_text};
 ghost use Rattle.studio_words.specs.View.{command_view};
 
