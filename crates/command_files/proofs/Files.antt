@@ -2,10 +2,11 @@
 use Rattle.std.proofs.Common.{◌≡◌, ◌<◌, ℕ, List, Some, None, length, refl, arith, inl, inr, suc, replicate}
 use Rattle.std.proofs.lemmas.List.{length-replicate}
 use Rattle.text_rules.specs.Outside.{Told, IfTold}
+use Rattle.io_rules.specs.State.{ShelfState}
 use Rattle.problem_rules.specs.Problem.{Problem}
-use Rattle.studio_rules.specs.Ending.{Shelves, Tells, Says}
+use Rattle.studio_rules.specs.Ending.{Tells, Says}
 use Rattle.studio_rules.specs.declared.status.Status.{Status}
-use Rattle.studio_rules.specs.Reading.{AreHeld, FileFaults, GivesProblem, OnFile}
+use Rattle.studio_rules.specs.Reading.{AreHeld, FileFaults, GivesProblem, OnFile, FileSays}
 use Rattle.endings.proofs.Ending.{Says-map, Says-told}
 
 -- a file that is too long, also where the shelf does not tell
@@ -15,13 +16,13 @@ long_file (Some None) limit h = absurd h
 long_file (Some (Some file)) limit h = (file, refl, h)
 
 -- a command on a file says what its file says where that gives no problem
-pub on_file-faults : (work : Problem → Status → List (List ℕ) → Type 0) (shelves : Shelves) (name : List ℕ) (s : Status) (t : List ℕ) → Says (FileFaults shelves.held name) (λ other. other ≡ name) shelves s t → Says (OnFile work shelves.held name) (λ other. other ≡ name) shelves s t
-on_file-faults work shelves name =
-    Says-map (FileFaults shelves.held name) (OnFile work shelves.held name) (λ other. other ≡ name) (λ other. other ≡ name) shelves
+pub on_file-faults : (work : Problem → Status → List (List ℕ) → Type 0) (old new : ShelfState) (name : List ℕ) (s : Status) (t : List ℕ) → Says (FileFaults old.held name) (λ other. other ≡ name) old new s t → FileSays work name old new s t
+on_file-faults work old new name =
+    Says-map (FileFaults old.held name) (OnFile work old.held name) (λ other. other ≡ name) (λ other. other ≡ name) old new
     (λ s lines h. (h.0, h.1, inl h.2)) (λ other e. e)
 
 -- and else what its work on the problem says
-pub on_file-work : (work : Problem → Status → List (List ℕ) → Type 0) (shelves : Shelves) (name : List ℕ) (p : Problem) → (file : List ℕ) × AreHeld (shelves.held name) file × GivesProblem file p → (s : Status) (t : List ℕ) → Tells (work p) s t → Says (OnFile work shelves.held name) (λ other. other ≡ name) shelves s t
-on_file-work work shelves name p given =
-    Says-told (work p) (OnFile work shelves.held name) (λ other. other ≡ name) shelves
+pub on_file-work : (work : Problem → Status → List (List ℕ) → Type 0) (old new : ShelfState) (name : List ℕ) (p : Problem) → (file : List ℕ) × AreHeld (old.held name) file × GivesProblem file p → (s : Status) (t : List ℕ) → Tells (work p) s t → FileSays work name old new s t
+on_file-work work old new name p given =
+    Says-told (work p) (OnFile work old.held name) (λ other. other ≡ name) old new
     (λ s lines h. (given.0, given.1, inr (p, given.2, h)))

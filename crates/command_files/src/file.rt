@@ -1,6 +1,5 @@
 //! The bytes of a file.
 ghost use Rattle.std.specs.Prelude.{◌≡◌, ◌≤◌, ◌<◌, ◌^◌, ℕ, List, IfOk, IfErr, OnOk, length, string_bytes};
-ghost use Rattle.text_rules.specs.Outside.{HasRisen};
 ghost use Rattle.studio_rules.specs.Reading.{AreHeld, LongFile};
 ghost use Rattle.studio_rules.specs.Ending.{Ends, Says};
 
@@ -19,13 +18,12 @@ pub fn bytes_of<F: Shelf, K: Sink>(
     limit: u64,
 ) -> Result<Vec<u8>, Status>
     requires { limit < 2 ^ 32 }
-    ensures whole { IfOk result (λ bytes. AreHeld (F.held shelf.old name.now) bytes.items) }
+    ensures whole { IfOk result (λ bytes. AreHeld ((F.state shelf.old).held name.now) bytes.items) }
     ensures within { IfOk result (λ bytes. length bytes.items ≤ limit) }
     ensures silent { OnOk result (out.new ≡ out.old) }
-    ensures later { (other : List ℕ) → F.faults shelf.old other ≤ F.faults shelf.new other }
-    ensures keeps { (other : List ℕ) → F.held shelf.new other ≡ F.held shelf.old other }
-    ensures told { IfErr result (Ends (Says (LongFile (F.held shelf.old) name.now limit) (λ other. other ≡ name.now) (record { held = F.held shelf.old; before = F.faults shelf.old; after = F.faults shelf.new }))
-        (HasRisen (K.faults out.old) (K.faults out.new)) (K.written out.old) (K.written out.new)) }
+    ensures later { (other : List ℕ) → (F.state shelf.old).faults other ≤ (F.state shelf.new).faults other }
+    ensures keeps { (other : List ℕ) → (F.state shelf.new).held other ≡ (F.state shelf.old).held other }
+    ensures told { IfErr result (Ends (Says (LongFile (F.state shelf.old).held name.now limit) (λ other. other ≡ name.now) (F.state shelf.old) (F.state shelf.new)) (K.state out.old) (K.state out.new)) }
 {
     match read_all(alloc, shelf, name, limit) {
         Ok(bytes) => Ok(bytes),

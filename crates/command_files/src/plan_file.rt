@@ -1,6 +1,5 @@
 //! A plan file: it is read and judged for a problem.
 ghost use Rattle.std.specs.Prelude.{◌≡◌, ℕ, List, IfOk, IfErr, OnOk, string_bytes};
-ghost use Rattle.text_rules.specs.Outside.{HasRisen};
 ghost use Rattle.studio_rules.specs.Lines.{line};
 ghost use Rattle.plan_rules.specs.Plan.{IsPlan};
 ghost use Rattle.studio_rules.specs.Reading.{AreHeld};
@@ -52,7 +51,7 @@ fn plan_fault_line(alloc: Global, number: u32, kind: PlanKind) -> Result<String,
 }
 
 fn say_plan_fault<K: Sink>(alloc: Global, out: &mut K, number: u32, kind: PlanKind) -> Status
-    ensures { Ends (OrMemory (Only BadPlan (line (plan_fault_line number kind)))) (HasRisen (K.faults out.old) (K.faults out.new)) (K.written out.old) (K.written out.new) result }
+    ensures { Ends (OrMemory (Only BadPlan (line (plan_fault_line number kind)))) (K.state out.old) (K.state out.new) result }
 {
     match plan_fault_line(alloc, number, kind) {
         Ok(text) => say(out, text.as_bytes(), Status::BadPlan),
@@ -69,11 +68,10 @@ pub fn plan_of<F: Shelf, K: Sink>(
     name: &str,
     problem: &Problem,
 ) -> Result<Plan, Status>
-    ensures plan { IfOk result (λ plan. (file : List ℕ) × AreHeld (F.held shelf.old name.now) file × GivesPlan problem.now file plan) }
+    ensures plan { IfOk result (λ plan. (file : List ℕ) × AreHeld ((F.state shelf.old).held name.now) file × GivesPlan problem.now file plan) }
     ensures valid { IfOk result (IsPlan problem.now) }
     ensures silent { OnOk result (out.new ≡ out.old) }
-    ensures told { IfErr result (Ends (Says (PlanFaults (F.held shelf.old) name.now problem.now) (λ other. other ≡ name.now) (record { held = F.held shelf.old; before = F.faults shelf.old; after = F.faults shelf.new }))
-        (HasRisen (K.faults out.old) (K.faults out.new)) (K.written out.old) (K.written out.new)) }
+    ensures told { IfErr result (Ends (Says (PlanFaults (F.state shelf.old).held name.now problem.now) (λ other. other ≡ name.now) (F.state shelf.old) (F.state shelf.new)) (K.state out.old) (K.state out.new)) }
 {
     let bytes = match bytes_of(alloc, shelf, out, name, PLAN_LIMIT) {
         Ok(bytes) => bytes,

@@ -1,6 +1,5 @@
 //! A problem file: it is read and judged.
 ghost use Rattle.std.specs.Prelude.{◌≡◌, ◌≤◌, ℕ, List, IfOk, IfErr, OnOk, string_bytes};
-ghost use Rattle.text_rules.specs.Outside.{HasRisen};
 ghost use Rattle.studio_rules.specs.Lines.{line};
 ghost use Rattle.studio_rules.specs.Reading.{AreHeld, GivesProblem, FileFaults, fault_line, kind_word};
 ghost use Rattle.studio_rules.specs.Ending.{Ends, Says, Only, OrMemory};
@@ -67,7 +66,7 @@ fn fault_line(alloc: Global, number: u32, kind: TextKind) -> Result<String, Allo
 }
 
 fn say_fault<K: Sink>(alloc: Global, out: &mut K, number: u32, kind: TextKind) -> Status
-    ensures { Ends (OrMemory (Only BadProblem (line (fault_line number kind)))) (HasRisen (K.faults out.old) (K.faults out.new)) (K.written out.old) (K.written out.new) result }
+    ensures { Ends (OrMemory (Only BadProblem (line (fault_line number kind)))) (K.state out.old) (K.state out.new) result }
 {
     match fault_line(alloc, number, kind) {
         Ok(text) => say(out, text.as_bytes(), Status::BadProblem),
@@ -83,12 +82,11 @@ pub fn problem_of<F: Shelf, K: Sink>(
     out: &mut K,
     name: &str,
 ) -> Result<Problem, Status>
-    ensures problem { IfOk result (λ p. (file : List ℕ) × AreHeld (F.held shelf.old name.now) file × GivesProblem file p) }
+    ensures problem { IfOk result (λ p. (file : List ℕ) × AreHeld ((F.state shelf.old).held name.now) file × GivesProblem file p) }
     ensures silent { OnOk result (out.new ≡ out.old) }
-    ensures later { (other : List ℕ) → F.faults shelf.old other ≤ F.faults shelf.new other }
-    ensures keeps { (other : List ℕ) → F.held shelf.new other ≡ F.held shelf.old other }
-    ensures told { IfErr result (Ends (Says (FileFaults (F.held shelf.old) name.now) (λ other. other ≡ name.now) (record { held = F.held shelf.old; before = F.faults shelf.old; after = F.faults shelf.new }))
-        (HasRisen (K.faults out.old) (K.faults out.new)) (K.written out.old) (K.written out.new)) }
+    ensures later { (other : List ℕ) → (F.state shelf.old).faults other ≤ (F.state shelf.new).faults other }
+    ensures keeps { (other : List ℕ) → (F.state shelf.new).held other ≡ (F.state shelf.old).held other }
+    ensures told { IfErr result (Ends (Says (FileFaults (F.state shelf.old).held name.now) (λ other. other ≡ name.now) (F.state shelf.old) (F.state shelf.new)) (K.state out.old) (K.state out.new)) }
 {
     let bytes = match bytes_of(alloc, shelf, out, name, FILE_LIMIT) {
         Ok(bytes) => bytes,

@@ -1,6 +1,5 @@
 //! A script file: it is read, judged and applied to a problem.
 ghost use Rattle.std.specs.Prelude.{◌≡◌, ◌≤◌, ℕ, List, IfOk, IfErr, OnOk, length, string_bytes};
-ghost use Rattle.text_rules.specs.Outside.{HasRisen};
 ghost use Rattle.studio_rules.specs.Lines.{line};
 ghost use Rattle.studio_rules.specs.Reading.{AreHeld};
 ghost use Rattle.studio_rules.specs.Script.{IsEdited, ScriptFaults, edit_fault_line, edit_kind_word};
@@ -56,7 +55,7 @@ fn edit_fault_line(alloc: Global, number: u32, kind: EditKind) -> Result<String,
 }
 
 fn say_edit_fault<K: Sink>(alloc: Global, out: &mut K, number: u32, kind: EditKind) -> Status
-    ensures { Ends (OrMemory (Only BadEdit (line (edit_fault_line number kind)))) (HasRisen (K.faults out.old) (K.faults out.new)) (K.written out.old) (K.written out.new) result }
+    ensures { Ends (OrMemory (Only BadEdit (line (edit_fault_line number kind)))) (K.state out.old) (K.state out.new) result }
 {
     match edit_fault_line(alloc, number, kind) {
         Ok(text) => say(out, text.as_bytes(), Status::BadEdit),
@@ -93,10 +92,9 @@ pub fn edited_of<F: Shelf, K: Sink>(
     name: &str,
     problem: &Problem,
 ) -> Result<(Problem, Script), Status>
-    ensures edited { IfOk result (λ edited. (file : List ℕ) × AreHeld (F.held shelf.old name.now) file × IsEdited problem.now file edited.0 edited.1) }
+    ensures edited { IfOk result (λ edited. (file : List ℕ) × AreHeld ((F.state shelf.old).held name.now) file × IsEdited problem.now file edited.0 edited.1) }
     ensures silent { OnOk result (out.new ≡ out.old) }
-    ensures told { IfErr result (Ends (Says (ScriptFaults (F.held shelf.old) name.now problem.now) (λ other. other ≡ name.now) (record { held = F.held shelf.old; before = F.faults shelf.old; after = F.faults shelf.new }))
-        (HasRisen (K.faults out.old) (K.faults out.new)) (K.written out.old) (K.written out.new)) }
+    ensures told { IfErr result (Ends (Says (ScriptFaults (F.state shelf.old).held name.now problem.now) (λ other. other ≡ name.now) (F.state shelf.old) (F.state shelf.new)) (K.state out.old) (K.state out.new)) }
 {
     let bytes = match bytes_of(alloc, shelf, out, name, SCRIPT_LIMIT) {
         Ok(bytes) => bytes,

@@ -1,6 +1,5 @@
 //! A tree file: it is read and judged by its grammar.
 ghost use Rattle.std.specs.Prelude.{◌≡◌, ◌≤◌, ◌<◌, ◌^◌, ℕ, List, IfOk, IfErr, OnOk, length, string_bytes};
-ghost use Rattle.text_rules.specs.Outside.{HasRisen};
 ghost use Rattle.tree_rules.specs.Known.{KnowsClaim, KnowsTree};
 ghost use Rattle.branch_tree.specs.View.{claim_of};
 ghost use Rattle.studio_rules.specs.Lines.{line};
@@ -51,7 +50,7 @@ fn tree_fault_line(alloc: Global, number: u32, kind: TreeKind) -> Result<String,
 }
 
 fn say_tree_fault<K: Sink>(alloc: Global, out: &mut K, number: u32, kind: TreeKind) -> Status
-    ensures { Ends (OrMemory (Only BadTree (line (tree_fault_line number kind)))) (HasRisen (K.faults out.old) (K.faults out.new)) (K.written out.old) (K.written out.new) result }
+    ensures { Ends (OrMemory (Only BadTree (line (tree_fault_line number kind)))) (K.state out.old) (K.state out.new) result }
 {
     match tree_fault_line(alloc, number, kind) {
         Ok(text) => say(out, text.as_bytes(), Status::BadTree),
@@ -68,14 +67,13 @@ pub fn tree_of<F: Shelf, K: Sink>(
     name: &str,
     problem: &Problem,
 ) -> Result<(Claim, Tree), Status>
-    ensures tree { IfOk result (λ found. (file : List ℕ) × AreHeld (F.held shelf.old name.now) file × GivesTree problem.now file (claim_of found.0) found.1) }
+    ensures tree { IfOk result (λ found. (file : List ℕ) × AreHeld ((F.state shelf.old).held name.now) file × GivesTree problem.now file (claim_of found.0) found.1) }
     ensures few { IfOk result (λ found. length found.1 < 2 ^ 32) }
     ensures known { IfOk result (λ found. KnowsClaim problem.now (claim_of found.0) × KnowsTree problem.now found.1) }
     ensures silent { OnOk result (out.new ≡ out.old) }
-    ensures later { (other : List ℕ) → F.faults shelf.old other ≤ F.faults shelf.new other }
-    ensures keeps { (other : List ℕ) → F.held shelf.new other ≡ F.held shelf.old other }
-    ensures told { IfErr result (Ends (Says (TreeFaults (F.held shelf.old) name.now problem.now) (λ other. other ≡ name.now) (record { held = F.held shelf.old; before = F.faults shelf.old; after = F.faults shelf.new }))
-        (HasRisen (K.faults out.old) (K.faults out.new)) (K.written out.old) (K.written out.new)) }
+    ensures later { (other : List ℕ) → (F.state shelf.old).faults other ≤ (F.state shelf.new).faults other }
+    ensures keeps { (other : List ℕ) → (F.state shelf.new).held other ≡ (F.state shelf.old).held other }
+    ensures told { IfErr result (Ends (Says (TreeFaults (F.state shelf.old).held name.now problem.now) (λ other. other ≡ name.now) (F.state shelf.old) (F.state shelf.new)) (K.state out.old) (K.state out.new)) }
 {
     let bytes = match bytes_of(alloc, shelf, out, name, TREE_LIMIT) {
         Ok(bytes) => bytes,

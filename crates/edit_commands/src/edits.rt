@@ -1,7 +1,6 @@
 //! The commands `edit` and `undo`.
-ghost use Rattle.std.specs.Prelude.{◌≡◌, ◌⊎◌};
-ghost use Rattle.text_rules.specs.Outside.{HasRisen};
-ghost use Rattle.studio_rules.specs.Reading.{OnFile};
+ghost use Rattle.std.specs.Prelude.{◌≡◌};
+ghost use Rattle.studio_rules.specs.Reading.{TwoFilesSay};
 ghost use Rattle.studio_rules.specs.Script.{OnScript};
 ghost use Rattle.studio_rules.specs.Edits.{EditWork, UndoWork};
 ghost use Rattle.studio_rules.specs.Ending.{Ends, Says};
@@ -21,8 +20,7 @@ fn say_edited<F: Shelf, K: Sink>(
     shelf: &mut F,
     out: &mut K,
 ) -> Status
-    ensures { Ends (Says (OnScript EditWork (F.held shelf.old) script.now problem.now) (λ other. other ≡ script.now) (record { held = F.held shelf.old; before = F.faults shelf.old; after = F.faults shelf.new }))
-        (HasRisen (K.faults out.old) (K.faults out.new)) (K.written out.old) (K.written out.new) result }
+    ensures { Ends (Says (OnScript EditWork (F.state shelf.old).held script.now problem.now) (λ other. other ≡ script.now) (F.state shelf.old) (F.state shelf.new)) (K.state out.old) (K.state out.new) result }
 {
     match edited_of(alloc, shelf, out, script, problem) {
         Ok(edited) => say_made(out, edited.0.canonical_text(alloc)),
@@ -38,8 +36,7 @@ pub fn edit<F: Shelf, K: Sink>(
     shelf: &mut F,
     out: &mut K,
 ) -> Status
-    ensures { Ends (Says (OnFile (OnScript EditWork (F.held shelf.old) script.now) (F.held shelf.old) file.now) (λ other. (other ≡ file.now) ⊎ (other ≡ script.now)) (record { held = F.held shelf.old; before = F.faults shelf.old; after = F.faults shelf.new }))
-        (HasRisen (K.faults out.old) (K.faults out.new)) (K.written out.old) (K.written out.new) result }
+    ensures { Ends (TwoFilesSay (OnScript EditWork) file.now script.now (F.state shelf.old) (F.state shelf.new)) (K.state out.old) (K.state out.new) result }
 {
     match problem_of(alloc, shelf, out, file) {
         Ok(problem) => say_edited(alloc, &problem, script, shelf, out),
@@ -54,8 +51,7 @@ fn say_inverse<F: Shelf, K: Sink>(
     shelf: &mut F,
     out: &mut K,
 ) -> Status
-    ensures { Ends (Says (OnScript UndoWork (F.held shelf.old) script.now problem.now) (λ other. other ≡ script.now) (record { held = F.held shelf.old; before = F.faults shelf.old; after = F.faults shelf.new }))
-        (HasRisen (K.faults out.old) (K.faults out.new)) (K.written out.old) (K.written out.new) result }
+    ensures { Ends (Says (OnScript UndoWork (F.state shelf.old).held script.now problem.now) (λ other. other ≡ script.now) (F.state shelf.old) (F.state shelf.new)) (K.state out.old) (K.state out.new) result }
 {
     match edited_of(alloc, shelf, out, script, problem) {
         Ok(edited) => say_made(out, print_script(alloc, &edited.1)),
@@ -71,8 +67,7 @@ pub fn undo<F: Shelf, K: Sink>(
     shelf: &mut F,
     out: &mut K,
 ) -> Status
-    ensures { Ends (Says (OnFile (OnScript UndoWork (F.held shelf.old) script.now) (F.held shelf.old) file.now) (λ other. (other ≡ file.now) ⊎ (other ≡ script.now)) (record { held = F.held shelf.old; before = F.faults shelf.old; after = F.faults shelf.new }))
-        (HasRisen (K.faults out.old) (K.faults out.new)) (K.written out.old) (K.written out.new) result }
+    ensures { Ends (TwoFilesSay (OnScript UndoWork) file.now script.now (F.state shelf.old) (F.state shelf.new)) (K.state out.old) (K.state out.new) result }
 {
     match problem_of(alloc, shelf, out, file) {
         Ok(problem) => say_inverse(alloc, &problem, script, shelf, out),

@@ -1,6 +1,5 @@
 //! The command `make`.
 ghost use Rattle.std.specs.Prelude.{◌≡◌, ◌≤◌, IfOk};
-ghost use Rattle.text_rules.specs.Outside.{HasRisen};
 ghost use Rattle.text_rules.specs.Canonical.{canonical_lines};
 ghost use Rattle.problem_rules.specs.Generated.{generated};
 ghost use Rattle.studio_rules.specs.Lines.{text_of};
@@ -26,7 +25,7 @@ fn made_text(alloc: Global, number: u64, units: u64) -> Result<Vec<u8>, AllocErr
 pub fn make<K: Sink>(alloc: Global, number: u64, units: u64, out: &mut K) -> Status
     requires some { 1 ≤ units }
     requires few { units ≤ 128 }
-    ensures { Ends (Tells (MakeWork number units)) (HasRisen (K.faults out.old) (K.faults out.new)) (K.written out.old) (K.written out.new) result }
+    ensures { Ends (Tells (MakeWork number units)) (K.state out.old) (K.state out.new) result }
 {
     say_made(out, made_text(alloc, number, units))
 }

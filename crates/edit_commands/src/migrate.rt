@@ -1,10 +1,9 @@
 //! The command `migrate`.
 ghost use Rattle.std.specs.Prelude.{◌≡◌, ◌≤◌};
-ghost use Rattle.text_rules.specs.Outside.{HasRisen};
 ghost use Rattle.problem_rules.specs.Problem.{unit_at};
-ghost use Rattle.studio_rules.specs.Reading.{OnFile};
+ghost use Rattle.studio_rules.specs.Reading.{FileSays};
 ghost use Rattle.studio_rules.specs.Migrate.{MigrateWork};
-ghost use Rattle.studio_rules.specs.Ending.{Ends, Says, Tells};
+ghost use Rattle.studio_rules.specs.Ending.{Ends, Tells};
 
 use command_files::problem_of;
 use edit_scripts::print_script;
@@ -26,7 +25,7 @@ fn unit_name<'a>(problem: &'a Problem, at: u32) -> &'a str
 
 fn say_migration<K: Sink>(alloc: Global, out: &mut K, problem: &Problem, years: u64) -> Status
     requires { (1 ≤ years) × (years ≤ 100) }
-    ensures { Ends (Tells (MigrateWork years problem.now)) (HasRisen (K.faults out.old) (K.faults out.new)) (K.written out.old) (K.written out.new) result }
+    ensures { Ends (Tells (MigrateWork years problem.now)) (K.state out.old) (K.state out.new) result }
 {
     match pns_edits::migrate(alloc, problem, years as u32) {
         Ok(script) => say_made(out, print_script(alloc, &script)),
@@ -48,8 +47,7 @@ pub fn migrate<F: Shelf, K: Sink>(
     out: &mut K,
 ) -> Status
     requires { (1 ≤ years) × (years ≤ 100) }
-    ensures { Ends (Says (OnFile (MigrateWork years) (F.held shelf.old) file.now) (λ other. other ≡ file.now) (record { held = F.held shelf.old; before = F.faults shelf.old; after = F.faults shelf.new }))
-        (HasRisen (K.faults out.old) (K.faults out.new)) (K.written out.old) (K.written out.new) result }
+    ensures { Ends (FileSays (MigrateWork years) file.now (F.state shelf.old) (F.state shelf.new)) (K.state out.old) (K.state out.new) result }
 {
     match problem_of(alloc, shelf, out, file) {
         Ok(problem) => say_migration(alloc, out, &problem, years),

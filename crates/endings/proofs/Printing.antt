@@ -1,9 +1,10 @@
 -- What is out after lines of a tree text were printed.
-use Rattle.std.proofs.Common.{◌≡◌, ◌≤◌, ◌++◌, ◌∷◌, [], ℕ, List, Option, Result, Ok, Err, refl, sym, ap, ◌∙◌, subst, inl, inr, append_assoc, codes}
+use Rattle.std.proofs.Common.{◌≡◌, ◌≤◌, ◌++◌, ◌∷◌, [], ℕ, List, Result, Ok, Err, refl, sym, ap, ◌∙◌, subst, inl, inr, append_assoc, codes}
 use Rattle.std.specs.Io.KnownBytes.{Appends}
 use Rattle.std.proofs.KnownBytes.{Appends-trans}
 use Rattle.tree_text.specs.declared.fault.PrintFault.{PrintFault}
-use Rattle.text_rules.specs.Outside.{HasRisen, AppendsFront}
+use Rattle.text_rules.specs.Outside.{AppendsFront}
+use Rattle.io_rules.specs.State.{SinkState}
 use Rattle.text_rules.specs.Canonical.{joined}
 use Rattle.tree_text_rules.specs.Line.{Token}
 use Rattle.tree_text_rules.specs.Spelling as trees
@@ -39,26 +40,26 @@ tells_all status lines =
     by_status (λ (s : Status). Tells (OneAnswer s lines) s (text_of (spelled lines))) status
     (spelled lines, (refl, refl), refl) (spelled lines, (refl, refl), refl) (spelled lines, (refl, refl), refl)
 
-pub printed_whole : (status : Status) (lines : List (List Token)) (risen : Type 0) (old new : Option (List ℕ)) (before after : ℕ) → IsPrinting status → Prints lines old new before after (Ok tt) → Ends (Tells (OneAnswer status lines)) risen old new status
-printed_whole status lines risen old new before after works out =
-    let appends = subst (Appends old new) (spelled_text lines) out.outcome in
-    by_status (λ (s : Status). Ends (Tells (OneAnswer s lines)) risen old new s) status
+pub printed_whole : (status : Status) (lines : List (List Token)) (old new : SinkState) → IsPrinting status → Prints lines old new (Ok tt) → Ends (Tells (OneAnswer status lines)) old new status
+printed_whole status lines old new works out =
+    let appends = subst (Appends old.written new.written) (spelled_text lines) out.outcome in
+    by_status (λ (s : Status). Ends (Tells (OneAnswer s lines)) old new s) status
     (text_of (spelled lines), (spelled lines, (refl, refl), refl), appends)
     (text_of (spelled lines), (spelled lines, (refl, refl), refl), appends)
     (text_of (spelled lines), (spelled lines, (refl, refl), refl), appends) works
 
-pub printed_front : (status : Status) (lines : List (List Token)) (old new : Option (List ℕ)) (before after : ℕ) → IsPrinting status → Prints lines old new before after (Err faults.WriteFault) → Ends (Tells (OneAnswer status lines)) (HasRisen before after) old new WriteFault
-printed_front status lines old new before after works out = (out.outcome.0, status, text_of (spelled lines), tells_all status lines works, subst (AppendsFront old new) (spelled_text lines) out.outcome.1)
+pub printed_front : (status : Status) (lines : List (List Token)) (old new : SinkState) → IsPrinting status → Prints lines old new (Err faults.WriteFault) → Ends (Tells (OneAnswer status lines)) old new WriteFault
+printed_front status lines old new works out = (out.outcome.0, status, text_of (spelled lines), tells_all status lines works, subst (AppendsFront old.written new.written) (spelled_text lines) out.outcome.1)
 
 front_told : (status : Status) (lines front rest : List (List Token)) → lines ≡ front ++ rest → (s : Status) (t : List ℕ) → Only Memory (line (codes "memory")) s t → Tells (OneAnswer status lines) s (text_of (spelled front) ++ t)
 front_told status lines front rest e s t o =
     only_in (λ s t. Tells (OneAnswer status lines) s (text_of (spelled front) ++ t)) Memory (line (codes "memory"))
     (spelled front, inr (status, spelled lines, spelled rest, (refl, refl), ap spelled e ∙ spelled-append front rest), refl) s t o
 
-pub printed_first : (status : Status) (lines : List (List Token)) (old mid new : Option (List ℕ)) (before between after : ℕ) (s : Status) → before ≤ between → Prints lines old mid before between (Err faults.Memory) → Ends (Only Memory (line (codes "memory"))) (HasRisen between after) mid new s → Ends (Tells (OneAnswer status lines)) (HasRisen before after) old new s
-printed_first status lines old mid new before between after s le out ends =
-    Ends-after (Only Memory (line (codes "memory"))) (Tells (OneAnswer status lines)) (HasRisen between after) (HasRisen before after) old mid new s (text_of (spelled out.outcome.0))
-    (subst (Appends old mid) (spelled_text out.outcome.0) out.outcome.3) (front_told status lines out.outcome.0 out.outcome.1 out.outcome.2) (HasRisen-later before between after le) ends
+pub printed_first : (status : Status) (lines : List (List Token)) (old mid new : SinkState) (s : Status) → old.faults ≤ mid.faults → Prints lines old mid (Err faults.Memory) → Ends (Only Memory (line (codes "memory"))) mid new s → Ends (Tells (OneAnswer status lines)) old new s
+printed_first status lines old mid new s le out ends =
+    Ends-after (Only Memory (line (codes "memory"))) (Tells (OneAnswer status lines)) old mid new s (text_of (spelled out.outcome.0))
+    (subst (Appends old.written mid.written) (spelled_text out.outcome.0) out.outcome.3) (front_told status lines out.outcome.0 out.outcome.1 out.outcome.2) le ends
 
 -- ---- one part and then another
 
@@ -66,35 +67,35 @@ text_of-append : (xs ys : List (List Token)) → trees.text_of (xs ++ ys) ≡ tr
 text_of-append [] ys = refl
 text_of-append (x ∷ xs) ys = ap (λ (t : List ℕ). trees.line_text x ++ t) (text_of-append xs ys) ∙ sym (append_assoc (trees.line_text x) (trees.text_of xs) (trees.text_of ys))
 
-pub two_printed : (some behind : List (List Token)) (old mid new : Option (List ℕ)) (before between after : ℕ) (r : Result (Unit {0}) PrintFault) → before ≤ between → Prints some old mid before between (Ok tt) → Prints behind mid new between after r → Prints (some ++ behind) old new before after r
-two_printed some behind old mid new before between after (Ok done) le first second =
-    record { outcome = subst (Appends old new) (sym (text_of-append some behind)) (Appends-trans old mid new (trees.text_of some) (trees.text_of behind) first.outcome second.outcome) }
-two_printed some behind old mid new before between after (Err faults.WriteFault) le first second =
+pub two_printed : (some behind : List (List Token)) (old mid new : SinkState) (r : Result (Unit {0}) PrintFault) → old.faults ≤ mid.faults → Prints some old mid (Ok tt) → Prints behind mid new r → Prints (some ++ behind) old new r
+two_printed some behind old mid new (Ok done) le first second =
+    record { outcome = subst (Appends old.written new.written) (sym (text_of-append some behind)) (Appends-trans old.written mid.written new.written (trees.text_of some) (trees.text_of behind) first.outcome second.outcome) }
+two_printed some behind old mid new (Err faults.WriteFault) le first second =
     let o = second.outcome.1 in
     record {
       outcome = (
-        HasRisen-later before between after le second.outcome.0,
+        HasRisen-later old.faults mid.faults new.faults le second.outcome.0,
         (
           trees.text_of some ++ o.0,
           o.1,
           text_of-append some behind ∙ (ap (λ (t : List ℕ). trees.text_of some ++ t) o.2 ∙ sym (append_assoc (trees.text_of some) o.0 o.1)),
-          Appends-trans old mid new (trees.text_of some) o.0 first.outcome o.3,
+          Appends-trans old.written mid.written new.written (trees.text_of some) o.0 first.outcome o.3,
         ),
       );
     }
-two_printed some behind old mid new before between after (Err faults.Memory) le first second =
+two_printed some behind old mid new (Err faults.Memory) le first second =
     let o = second.outcome in
     record {
       outcome = (
         some ++ o.0,
         o.1,
         ap (λ (t : List (List Token)). some ++ t) o.2 ∙ sym (append_assoc some o.0 o.1),
-        subst (Appends old new) (sym (text_of-append some o.0)) (Appends-trans old mid new (trees.text_of some) (trees.text_of o.0) first.outcome o.3),
+        subst (Appends old.written new.written) (sym (text_of-append some o.0)) (Appends-trans old.written mid.written new.written (trees.text_of some) (trees.text_of o.0) first.outcome o.3),
       );
     }
 
-pub part_failed : (some behind : List (List Token)) (old new : Option (List ℕ)) (before after : ℕ) (fault : PrintFault) → Prints some old new before after (Err fault) → Prints (some ++ behind) old new before after (Err fault)
-part_failed some behind old new before after faults.WriteFault out =
+pub part_failed : (some behind : List (List Token)) (old new : SinkState) (fault : PrintFault) → Prints some old new (Err fault) → Prints (some ++ behind) old new (Err fault)
+part_failed some behind old new faults.WriteFault out =
     let o = out.outcome.1 in
     record {
       outcome = (
@@ -107,6 +108,6 @@ part_failed some behind old new before after faults.WriteFault out =
         ),
       );
     }
-part_failed some behind old new before after faults.Memory out =
+part_failed some behind old new faults.Memory out =
     let o = out.outcome in
     record { outcome = (o.0, o.1 ++ behind, ap (λ (t : List (List Token)). t ++ behind) o.2 ∙ append_assoc o.0 o.1 behind, o.3) }

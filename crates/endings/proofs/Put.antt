@@ -3,6 +3,7 @@ use Rattle.std.proofs.Common.{◌≡◌, ◌≢◌, ◌++◌, ◌∷◌, [], len
 use Rattle.std.specs.Io.KnownBytes.{Appends}
 use Rattle.std.proofs.KnownBytes.{Appends-nil, Appends-trans}
 use Rattle.text_rules.specs.Outside.{AppendsFront}
+use Rattle.io_rules.specs.State.{SinkState}
 use Rattle.studio_rules.specs.Ending.{Ends}
 use Rattle.studio_rules.specs.declared.status.Status.{Status}
 use Rattle.studio_rules.specs.declared.status.Status.TheVariants.{WriteFault}
@@ -37,6 +38,6 @@ put_whole text [] old new put none = subst (Appends old new) (sym (put.cut ∙ a
 put_whole text (c ∷ cs) old new put none = absurd (omega (arith, none))
 
 -- a whole text that is out
-pub Ends-whole : (P : Status → List ℕ → Type 0) (risen : Type 0) (old new : Option (List ℕ)) (status : Status) → status ≢ WriteFault → (text : List ℕ) → P status text → Appends old new text → Ends P risen old new status
-Ends-whole P risen old new WriteFault not text holds out = absurd (not refl)
-Ends-whole P risen old new status not text holds out = (text, holds, out)
+pub Ends-whole : (P : Status → List ℕ → Type 0) (old new : SinkState) (status : Status) → status ≢ WriteFault → (text : List ℕ) → P status text → Appends old.written new.written text → Ends P old new status
+Ends-whole P old new WriteFault not text holds out = absurd (not refl)
+Ends-whole P old new status not text holds out = (text, holds, out)

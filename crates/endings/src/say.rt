@@ -1,6 +1,6 @@
 //! How lines are put into the sink, and with which status a call then ends.
-ghost use Rattle.std.specs.Prelude.{◌≡◌, ◌≢◌, ◌≤◌, ◌<◌, ◌++◌, ◌∷◌, [], ℕ, List, Option, IfOk, codes, length};
-ghost use Rattle.text_rules.specs.Outside.{HasRisen};
+ghost use Rattle.std.specs.Prelude.{◌≡◌, ◌≢◌, ◌≤◌, ◌<◌, ◌++◌, ◌∷◌, [], ℕ, List, IfOk, codes, length};
+ghost use Rattle.io_rules.specs.State.{SinkState};
 ghost use Rattle.tree_text_rules.specs.Line.{Token};
 ghost use Rattle.tree_text.specs.Prints.{Prints};
 ghost use Rattle.studio_rules.specs.Lines.{line, text_of};
@@ -18,7 +18,7 @@ use tree_text::PrintFault;
 /// Puts one line, which has its line feed, and gives the status.
 pub fn say<K: Sink>(out: &mut K, bytes: &[u8], status: Status) -> Status
     requires { status ≢ WriteFault }
-    ensures { Ends (Only status bytes.now) (HasRisen (K.faults out.old) (K.faults out.new)) (K.written out.old) (K.written out.new) result }
+    ensures { Ends (Only status bytes.now) (K.state out.old) (K.state out.new) result }
 {
     match out.put(bytes) {
         Ok(()) => status,
@@ -29,7 +29,7 @@ pub fn say<K: Sink>(out: &mut K, bytes: &[u8], status: Status) -> Status
 /// Puts two lines.
 pub fn say_both<K: Sink>(out: &mut K, first: &[u8], second: &[u8], status: Status) -> Status
     requires { status ≢ WriteFault }
-    ensures { Ends (Only status (first.now ++ second.now)) (HasRisen (K.faults out.old) (K.faults out.new)) (K.written out.old) (K.written out.new) result }
+    ensures { Ends (Only status (first.now ++ second.now)) (K.state out.old) (K.state out.new) result }
 {
     match out.put(first) {
         Ok(()) => say(out, second, status),
@@ -54,7 +54,7 @@ fn cut_line(text: &[u8]) -> (&[u8], &[u8])
 /// Puts a text line by line, and gives the status.
 pub fn say_text<K: Sink>(out: &mut K, text: &[u8], status: Status) -> Status
     requires { status ≢ WriteFault }
-    ensures { Ends (Only status text.now) (HasRisen (K.faults out.old) (K.faults out.new)) (K.written out.old) (K.written out.new) result }
+    ensures { Ends (Only status text.now) (K.state out.old) (K.state out.new) result }
 {
     let mut rest = text;
     while !rest.is_empty() {
@@ -70,7 +70,7 @@ pub fn say_text<K: Sink>(out: &mut K, text: &[u8], status: Status) -> Status
 /// Puts a text line by line, or tells the want of memory for it.
 pub fn say_made<K: Sink>(out: &mut K, text: Result<Vec<u8>, AllocError>) -> Status
     ensures { (lines : List (List ℕ)) → IfOk text (λ bytes. bytes.items ≡ text_of lines)
-        → Ends (OrMemory (Only Done (text_of lines))) (HasRisen (K.faults out.old) (K.faults out.new)) (K.written out.old) (K.written out.new) result }
+        → Ends (OrMemory (Only Done (text_of lines))) (K.state out.old) (K.state out.new) result }
 {
     match text {
         Ok(bytes) => say_text(out, &bytes, Status::Done),
@@ -80,7 +80,7 @@ pub fn say_made<K: Sink>(out: &mut K, text: Result<Vec<u8>, AllocError>) -> Stat
 
 /// Puts the line that tells want of memory, for which no memory is taken.
 pub fn say_memory<K: Sink>(out: &mut K) -> Status
-    ensures { Ends (Only Memory (line (codes "memory"))) (HasRisen (K.faults out.old) (K.faults out.new)) (K.written out.old) (K.written out.new) result }
+    ensures { Ends (Only Memory (line (codes "memory"))) (K.state out.old) (K.state out.new) result }
 {
     say(out, b"memory\n", Status::Memory)
 }
@@ -88,7 +88,7 @@ pub fn say_memory<K: Sink>(out: &mut K) -> Status
 /// Puts a line of two texts, one behind the other.
 pub fn say_of<K: Sink>(alloc: Global, out: &mut K, head: &str, tail: &str, status: Status) -> Status
     requires { status ≢ WriteFault }
-    ensures { Ends (OrMemory (Only status (line (head.now ++ tail.now)))) (HasRisen (K.faults out.old) (K.faults out.new)) (K.written out.old) (K.written out.new) result }
+    ensures { Ends (OrMemory (Only status (line (head.now ++ tail.now)))) (K.state out.old) (K.state out.new) result }
 {
     match line_of(alloc, head, tail) {
         Ok(bytes) => say(out, &bytes, status),
@@ -99,8 +99,8 @@ pub fn say_of<K: Sink>(alloc: Global, out: &mut K, head: &str, tail: &str, statu
 /// With which status the call ends after lines of a tree text were printed.
 pub fn say_printed<K: Sink>(out: &mut K, printed: Result<(), PrintFault>, status: Status) -> Status
     requires { IsOneOf (Done ∷ Past ∷ Spent ∷ []) status }
-    ensures { (lines : List (List Token)) (old : Option (List ℕ)) (before : ℕ) → before ≤ K.faults out.old → Prints lines old (K.written out.old) before (K.faults out.old) printed
-        → Ends (Tells (OneAnswer status lines)) (HasRisen before (K.faults out.new)) old (K.written out.new) result }
+    ensures { (lines : List (List Token)) (old : SinkState) → old.faults ≤ (K.state out.old).faults → Prints lines old (K.state out.old) printed
+        → Ends (Tells (OneAnswer status lines)) old (K.state out.new) result }
 {
     match printed {
         Ok(()) => status,

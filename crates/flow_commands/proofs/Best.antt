@@ -1,13 +1,14 @@
 -- A claim whose tree is accepted is best.
-use Rattle.std.proofs.Common.{◌≡◌, ◌⊎◌, false, true, Bool, ℕ, List, Option, inl, inr, subst}
+use Rattle.std.proofs.Common.{◌≡◌, false, true, Bool, ℕ, List, inl, inr, subst}
 use Rattle.problem_rules.specs.Problem.{Problem}
 use Rattle.problem_rules.specs.Validity.{IsValid}
 use Rattle.tree_rules.specs.Claim.{Claim, network, infeasible, unknown}
 use Rattle.tree_rules.specs.Accepted.{Tree, first_node, IsAccepted}
 use Rattle.tree_laws.specs.Laws.{AcceptedIsOptimal, AcceptedHasFlows}
-use Rattle.studio_rules.specs.Reading.{OnFile}
+use Rattle.studio_rules.specs.Reading.{TwoFilesSay}
 use Rattle.studio_rules.specs.TreeFile.{OnTree}
-use Rattle.studio_rules.specs.Ending.{Shelves, Ends, Says}
+use Rattle.io_rules.specs.State.{ShelfState, SinkState}
+use Rattle.studio_rules.specs.Ending.{Ends}
 use Rattle.studio_rules.specs.declared.status.Status.{Status}
 use Rattle.studio_rules.specs.declared.status.Status.TheVariants.{Done}
 use Rattle.studio_rules.specs.Check.{CheckWork}
@@ -46,7 +47,7 @@ module _ (optimal : AcceptedIsOptimal) (feasible : AcceptedHasFlows) where
       }
 
 -- what is out with status 0 is such an answer
-pub done_ends : AcceptedIsBest → (shelves : Shelves) (file tree : List ℕ) (risen : Type 0) (old new : Option (List ℕ)) (s : Status) → Ends (Says (OnFile (OnTree CheckWork shelves.held tree) shelves.held file) (λ other. (other ≡ file) ⊎ (other ≡ tree)) shelves) risen old new s → s ≡ Done → FilesClaimBest shelves.held file tree
-done_ends law shelves file tree risen old new s e done =
-    let said = subst (λ (t : Status). Ends (Says (OnFile (OnTree CheckWork shelves.held tree) shelves.held file) (λ other. (other ≡ file) ⊎ (other ≡ tree)) shelves) risen old new t) done e in
-    law shelves.held file tree said.1.0 said.1.1
+pub done_ends : AcceptedIsBest → (old new : ShelfState) (file tree : List ℕ) (before after : SinkState) (s : Status) → Ends (TwoFilesSay (OnTree CheckWork) file tree old new) before after s → s ≡ Done → FilesClaimBest old.held file tree
+done_ends law old new file tree before after s e done =
+    let said = subst (λ (t : Status). Ends (TwoFilesSay (OnTree CheckWork) file tree old new) before after t) done e in
+    law old.held file tree said.1.0 said.1.1

@@ -1,8 +1,7 @@
 //! The command `check`.
-ghost use Rattle.std.specs.Prelude.{◌≡◌, ◌<◌, ◌^◌, ◌⊎◌, length};
-ghost use Rattle.text_rules.specs.Outside.{HasRisen};
+ghost use Rattle.std.specs.Prelude.{◌≡◌, ◌<◌, ◌^◌, length};
 ghost use Rattle.branch_tree.specs.View.{claim_of};
-ghost use Rattle.studio_rules.specs.Reading.{OnFile};
+ghost use Rattle.studio_rules.specs.Reading.{TwoFilesSay};
 ghost use Rattle.studio_rules.specs.TreeFile.{OnTree};
 ghost use Rattle.studio_rules.specs.Check.{CheckWork};
 ghost use Rattle.studio_rules.specs.Best.{AcceptedIsBest, FilesClaimBest};
@@ -31,7 +30,7 @@ fn say_checked<K: Sink>(
     tree: &Tree,
 ) -> Status
     requires few { length tree.now < 2 ^ 32 }
-    ensures { Ends (Tells (CheckWork problem.now (claim_of claim.now) tree.now)) (HasRisen (K.faults out.old) (K.faults out.new)) (K.written out.old) (K.written out.new) result }
+    ensures { Ends (Tells (CheckWork problem.now (claim_of claim.now) tree.now)) (K.state out.old) (K.state out.new) result }
 {
     let Ok(graph) = Graph::of(alloc, problem) else {
         return say_memory(out);
@@ -53,8 +52,7 @@ fn say_tree<F: Shelf, K: Sink>(
     shelf: &mut F,
     out: &mut K,
 ) -> Status
-    ensures { Ends (Says (OnTree CheckWork (F.held shelf.old) name.now problem.now) (λ other. other ≡ name.now) (record { held = F.held shelf.old; before = F.faults shelf.old; after = F.faults shelf.new }))
-        (HasRisen (K.faults out.old) (K.faults out.new)) (K.written out.old) (K.written out.new) result }
+    ensures { Ends (Says (OnTree CheckWork (F.state shelf.old).held name.now problem.now) (λ other. other ≡ name.now) (F.state shelf.old) (F.state shelf.new)) (K.state out.old) (K.state out.new) result }
 {
     match tree_of(alloc, shelf, out, name, problem) {
         Ok((claim, tree)) => say_checked(alloc, out, problem, &claim, &tree),
@@ -78,10 +76,9 @@ pub fn check<F: Shelf, K: Sink>(
     shelf: &mut F,
     out: &mut K,
 ) -> Status
-    ensures ends { Ends (Says (OnFile (OnTree CheckWork (F.held shelf.old) tree.now) (F.held shelf.old) file.now) (λ other. (other ≡ file.now) ⊎ (other ≡ tree.now)) (record { held = F.held shelf.old; before = F.faults shelf.old; after = F.faults shelf.new }))
-        (HasRisen (K.faults out.old) (K.faults out.new)) (K.written out.old) (K.written out.new) result }
+    ensures ends { Ends (TwoFilesSay (OnTree CheckWork) file.now tree.now (F.state shelf.old) (F.state shelf.new)) (K.state out.old) (K.state out.new) result }
     // With status 0 the one file gives a valid problem and the other a claim, which is best.
-    ensures accepted { result ≡ Done → FilesClaimBest (F.held shelf.old) file.now tree.now }
+    ensures accepted { result ≡ Done → FilesClaimBest (F.state shelf.old).held file.now tree.now }
 {
     accepted_is_best();
     match problem_of(alloc, shelf, out, file) {

@@ -1,7 +1,6 @@
 //! The command `flows`.
 ghost use Rattle.std.specs.Prelude.{◌≡◌, ◌≤◌, ◌<◌, ◌++◌, ◌∷◌, [], None, true};
 ghost use Rattle.number_sets.specs.Sets.{has};
-ghost use Rattle.text_rules.specs.Outside.{HasRisen};
 ghost use Rattle.pns_rules.specs.Shape.{shape_of};
 ghost use Rattle.pns_rules.specs.Structure.{IsStructure};
 ghost use Rattle.pgraph.specs.Tables.{shape};
@@ -11,9 +10,9 @@ ghost use Rattle.tree_rules.specs.Claim as claims;
 ghost use Rattle.tree_text_rules.specs.Spelling.{network_lines, claim_lines, end_line};
 ghost use Rattle.tree_text.specs.Prints.{Prints};
 ghost use Rattle.structure_flows.specs.Answers.{AnswersFor};
-ghost use Rattle.studio_rules.specs.Reading.{OnFile};
+ghost use Rattle.studio_rules.specs.Reading.{FileSays};
 ghost use Rattle.studio_rules.specs.Flows.{FlowsWork, FlowNamesSay, FlowsSay};
-ghost use Rattle.studio_rules.specs.Ending.{Ends, Says, Tells};
+ghost use Rattle.studio_rules.specs.Ending.{Ends, Tells};
 
 use branch_tree::{End, Network};
 use command_files::problem_of;
@@ -40,8 +39,8 @@ fn print_least<K: Sink>(
 ) -> Result<(), PrintFault>
     requires units { AreUnits problem.now network.now.units }
     requires bound { KnowsEnd problem.now (end_of bound.now) }
-    ensures prints { Prints (network_lines problem.now network.now ++ end_line problem.now (end_of bound.now) ∷ []) (K.written out.old) (K.written out.new) (K.faults out.old) (K.faults out.new) result }
-    ensures later { K.faults out.old ≤ K.faults out.new }
+    ensures prints { Prints (network_lines problem.now network.now ++ end_line problem.now (end_of bound.now) ∷ []) (K.state out.old) (K.state out.new) result }
+    ensures later { (K.state out.old).faults ≤ (K.state out.new).faults }
 {
     match print_network(alloc, problem, network, out) {
         Ok(()) => print_end(alloc, problem, bound, out),
@@ -57,8 +56,8 @@ fn print_none<K: Sink>(
     out: &mut K,
 ) -> Result<(), PrintFault>
     requires { KnowsEnd problem.now (end_of refuted.now) }
-    ensures prints { Prints (claim_lines problem.now claims.infeasible ++ end_line problem.now (end_of refuted.now) ∷ []) (K.written out.old) (K.written out.new) (K.faults out.old) (K.faults out.new) result }
-    ensures later { K.faults out.old ≤ K.faults out.new }
+    ensures prints { Prints (claim_lines problem.now claims.infeasible ++ end_line problem.now (end_of refuted.now) ∷ []) (K.state out.old) (K.state out.new) result }
+    ensures later { (K.state out.old).faults ≤ (K.state out.new).faults }
 {
     match out.put(b"infeasible\n") {
         Ok(()) => print_end(alloc, problem, refuted, out),
@@ -75,7 +74,7 @@ fn say_answer<K: Sink>(
 ) -> Status
     requires known { AreUnits problem.now set }
     requires answer { AnswersFor problem.now set answer }
-    ensures { Ends (Tells (FlowsSay problem.now set)) (HasRisen (K.faults out.old) (K.faults out.new)) (K.written out.old) (K.written out.new) result }
+    ensures { Ends (Tells (FlowsSay problem.now set)) (K.state out.old) (K.state out.new) result }
 {
     match answer {
         StructureFlows::Least { network, bound } => {
@@ -106,7 +105,7 @@ fn say_structure<K: Sink>(
     requires graph { shape graph.now ≡ shape_of problem.now }
     requires known { AreUnits problem.now set }
     requires structure { IsStructure (shape_of problem.now) (has set) }
-    ensures { Ends (Tells (FlowsSay problem.now set)) (HasRisen (K.faults out.old) (K.faults out.new)) (K.written out.old) (K.written out.new) result }
+    ensures { Ends (Tells (FlowsSay problem.now set)) (K.state out.old) (K.state out.new) result }
 {
     match flows_of(alloc, problem, graph, set) {
         Ok(answer) => say_answer(alloc, out, problem, set, answer),
@@ -116,7 +115,7 @@ fn say_structure<K: Sink>(
 
 // The flows of the units of names that are all known.
 fn say_known<K: Sink>(alloc: Global, out: &mut K, problem: &Problem, units: &UnitNames) -> Status
-    ensures { Ends (Tells (FlowNamesSay units.now problem.now None)) (HasRisen (K.faults out.old) (K.faults out.new)) (K.written out.old) (K.written out.new) result }
+    ensures { Ends (Tells (FlowNamesSay units.now problem.now None)) (K.state out.old) (K.state out.new) result }
 {
     let Ok(graph) = Graph::of(alloc, problem) else {
         return say_memory(out);
@@ -131,7 +130,7 @@ fn say_known<K: Sink>(alloc: Global, out: &mut K, problem: &Problem, units: &Uni
 }
 
 fn say_flows<K: Sink>(alloc: Global, out: &mut K, problem: &Problem, units: &UnitNames) -> Status
-    ensures { Ends (Tells (FlowsWork units.now problem.now)) (HasRisen (K.faults out.old) (K.faults out.new)) (K.written out.old) (K.written out.new) result }
+    ensures { Ends (Tells (FlowsWork units.now problem.now)) (K.state out.old) (K.state out.new) result }
 {
     match first_stranger(problem, units) {
         Some(name) => say_breaks(alloc, out, Axiom::S3, name),
@@ -148,8 +147,7 @@ pub fn flows<F: Shelf, K: Sink>(
     shelf: &mut F,
     out: &mut K,
 ) -> Status
-    ensures { Ends (Says (OnFile (FlowsWork units.now) (F.held shelf.old) file.now) (λ other. other ≡ file.now) (record { held = F.held shelf.old; before = F.faults shelf.old; after = F.faults shelf.new }))
-        (HasRisen (K.faults out.old) (K.faults out.new)) (K.written out.old) (K.written out.new) result }
+    ensures { Ends (FileSays (FlowsWork units.now) file.now (F.state shelf.old) (F.state shelf.new)) (K.state out.old) (K.state out.new) result }
 {
     match problem_of(alloc, shelf, out, file) {
         Ok(problem) => say_flows(alloc, out, &problem, units),

@@ -1,6 +1,5 @@
 //! The network of a claim.
 ghost use Rattle.std.specs.Prelude.{◌≡◌, ◌++◌, IfOk, IfErr, OnOk};
-ghost use Rattle.text_rules.specs.Outside.{HasRisen};
 ghost use Rattle.pns_rules.specs.Shape.{shape_of};
 ghost use Rattle.pgraph.specs.Tables.{shape};
 ghost use Rattle.branch_tree.specs.View.{claim_of};
@@ -22,7 +21,7 @@ use studio_rules::Status;
 use tree_rules::Why;
 
 fn say_refused<K: Sink>(alloc: Global, out: &mut K, why: Why) -> Status
-    ensures { Ends (OrMemory (Only Refused (line (claim_line why)))) (HasRisen (K.faults out.old) (K.faults out.new)) (K.written out.old) (K.written out.new) result }
+    ensures { Ends (OrMemory (Only Refused (line (claim_line why)))) (K.state out.old) (K.state out.new) result }
 {
     say_of(alloc, out, "refused claim ", why_word(why), Status::Refused)
 }
@@ -39,7 +38,7 @@ pub fn network_of<K: Sink>(
     requires { shape graph.now ≡ shape_of problem.now }
     ensures network { IfOk result (ClaimsNetwork problem.now (claim_of claim)) }
     ensures silent { OnOk result (out.new ≡ out.old) }
-    ensures told { IfErr result (Ends (Tells (ClaimRefusal problem.now (claim_of claim))) (HasRisen (K.faults out.old) (K.faults out.new)) (K.written out.old) (K.written out.new)) }
+    ensures told { IfErr result (Ends (Tells (ClaimRefusal problem.now (claim_of claim))) (K.state out.old) (K.state out.new)) }
 {
     match check_claim(problem, graph, &claim) {
         Ok(()) => match claim {

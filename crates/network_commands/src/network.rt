@@ -1,12 +1,11 @@
 //! The text of the network that a tree file claims.
-ghost use Rattle.std.specs.Prelude.{◌≡◌, ◌⊎◌, ℕ, List, IfOk};
-ghost use Rattle.text_rules.specs.Outside.{HasRisen};
+ghost use Rattle.std.specs.Prelude.{◌≡◌, ℕ, List, IfOk};
 ghost use Rattle.pns_rules.specs.Shape.{shape_of};
 ghost use Rattle.pgraph.specs.Tables.{shape};
 ghost use Rattle.tree_rules.specs.Claim.{IsFeasible};
 ghost use Rattle.branch_tree.specs.View.{claim_of};
 ghost use Rattle.studio_rules.specs.Lines.{text_of};
-ghost use Rattle.studio_rules.specs.Reading.{OnFile};
+ghost use Rattle.studio_rules.specs.Reading.{TwoFilesSay};
 ghost use Rattle.studio_rules.specs.TreeFile.{OnTree};
 ghost use Rattle.studio_rules.specs.Network.{OnNetwork};
 ghost use Rattle.network_commands.specs.Texts.{TextWork};
@@ -66,7 +65,7 @@ fn say_network<K: Sink>(
 ) -> Status
     requires graph { shape graph.now ≡ shape_of problem.now }
     requires feasible { IsFeasible problem.now network.now }
-    ensures { Ends (Tells (TextWork what problem.now network.now)) (HasRisen (K.faults out.old) (K.faults out.new)) (K.written out.old) (K.written out.new) result }
+    ensures { Ends (Tells (TextWork what problem.now network.now)) (K.state out.old) (K.state out.new) result }
 {
     match text_of(alloc, what, problem, graph, network) {
         Ok(bytes) => say_text(out, &bytes, Status::Done),
@@ -82,7 +81,7 @@ fn say_claimed<K: Sink>(
     claim: Claim,
     tree: &Tree,
 ) -> Status
-    ensures { Ends (Tells (OnNetwork (TextWork what) problem.now (claim_of claim) tree.now)) (HasRisen (K.faults out.old) (K.faults out.new)) (K.written out.old) (K.written out.new) result }
+    ensures { Ends (Tells (OnNetwork (TextWork what) problem.now (claim_of claim) tree.now)) (K.state out.old) (K.state out.new) result }
 {
     let Ok(graph) = Graph::of(alloc, problem) else {
         return say_memory(out);
@@ -101,8 +100,7 @@ fn say_tree<F: Shelf, K: Sink>(
     shelf: &mut F,
     out: &mut K,
 ) -> Status
-    ensures { Ends (Says (OnTree (OnNetwork (TextWork what)) (F.held shelf.old) name.now problem.now) (λ other. other ≡ name.now) (record { held = F.held shelf.old; before = F.faults shelf.old; after = F.faults shelf.new }))
-        (HasRisen (K.faults out.old) (K.faults out.new)) (K.written out.old) (K.written out.new) result }
+    ensures { Ends (Says (OnTree (OnNetwork (TextWork what)) (F.state shelf.old).held name.now problem.now) (λ other. other ≡ name.now) (F.state shelf.old) (F.state shelf.new)) (K.state out.old) (K.state out.new) result }
 {
     match tree_of(alloc, shelf, out, name, problem) {
         Ok((claim, tree)) => say_claimed(alloc, what, out, problem, claim, &tree),
@@ -119,8 +117,7 @@ pub(crate) fn say_of_network<F: Shelf, K: Sink>(
     shelf: &mut F,
     out: &mut K,
 ) -> Status
-    ensures { Ends (Says (OnFile (OnTree (OnNetwork (TextWork what)) (F.held shelf.old) tree.now) (F.held shelf.old) file.now) (λ other. (other ≡ file.now) ⊎ (other ≡ tree.now)) (record { held = F.held shelf.old; before = F.faults shelf.old; after = F.faults shelf.new }))
-        (HasRisen (K.faults out.old) (K.faults out.new)) (K.written out.old) (K.written out.new) result }
+    ensures { Ends (TwoFilesSay (OnTree (OnNetwork (TextWork what))) file.now tree.now (F.state shelf.old) (F.state shelf.new)) (K.state out.old) (K.state out.new) result }
 {
     match problem_of(alloc, shelf, out, file) {
         Ok(problem) => say_tree(alloc, what, &problem, tree, shelf, out),

@@ -1,16 +1,15 @@
 //! The command `report`.
-ghost use Rattle.std.specs.Prelude.{◌≡◌, ◌⊎◌, ℕ, List, IfOk};
-ghost use Rattle.text_rules.specs.Outside.{HasRisen};
+ghost use Rattle.std.specs.Prelude.{◌≡◌, ℕ, List, IfOk};
 ghost use Rattle.pns_rules.specs.Shape.{shape_of};
 ghost use Rattle.pgraph.specs.Tables.{shape};
 ghost use Rattle.tree_rules.specs.Claim.{IsFeasible};
 ghost use Rattle.report_rules.specs.Report.{report_lines};
 ghost use Rattle.studio_rules.specs.Lines.{text_of};
-ghost use Rattle.studio_rules.specs.Reading.{OnFile};
+ghost use Rattle.studio_rules.specs.Reading.{TwoFilesSay};
 ghost use Rattle.studio_rules.specs.TreeFile.{OnTree};
 ghost use Rattle.studio_rules.specs.Network.{OnNetwork};
 ghost use Rattle.studio_rules.specs.Report.{ReportWork};
-ghost use Rattle.studio_rules.specs.Ending.{Ends, Says};
+ghost use Rattle.studio_rules.specs.Ending.{Ends};
 
 use crate::network::{NetworkText, say_of_network};
 use branch_tree::Network;
@@ -43,8 +42,7 @@ pub fn report<F: Shelf, K: Sink>(
     shelf: &mut F,
     out: &mut K,
 ) -> Status
-    ensures { Ends (Says (OnFile (OnTree (OnNetwork ReportWork) (F.held shelf.old) tree.now) (F.held shelf.old) file.now) (λ other. (other ≡ file.now) ⊎ (other ≡ tree.now)) (record { held = F.held shelf.old; before = F.faults shelf.old; after = F.faults shelf.new }))
-        (HasRisen (K.faults out.old) (K.faults out.new)) (K.written out.old) (K.written out.new) result }
+    ensures { Ends (TwoFilesSay (OnTree (OnNetwork ReportWork)) file.now tree.now (F.state shelf.old) (F.state shelf.new)) (K.state out.old) (K.state out.new) result }
 {
     say_of_network(alloc, NetworkText::Report, file, tree, shelf, out)
 }

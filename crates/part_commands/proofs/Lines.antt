@@ -1,11 +1,12 @@
 -- The lines of a listing of open leaves that is put leaf by leaf.
-use Rattle.std.proofs.Common.{◌≡◌, ◌++◌, ◌+◌, ◌<◌, ◌≤◌, ℕ, zero, suc, List, [], ◌∷◌, Option, codes, length, map, take, drop, get_or, refl, sym, ap, subst, ◌∙◌, arith, inr, append_assoc, append-nil, add-one}
+use Rattle.std.proofs.Common.{◌≡◌, ◌++◌, ◌+◌, ◌<◌, ◌≤◌, ℕ, zero, suc, List, [], ◌∷◌, codes, length, map, take, drop, get_or, refl, sym, ap, subst, ◌∙◌, arith, inr, append_assoc, append-nil, add-one}
 use Rattle.std.specs.Io.KnownBytes.{Appends}
 use Rattle.std.proofs.KnownBytes.{Appends-nil, Appends-trans}
 use Rattle.std.proofs.lemmas.List.{map-append, take-append-drop}
 use Rattle.std.proofs.lemmas.Grind.{flat_map-append}
 use Rattle.std.proofs.Math.Seq.{take-suc, drop-cons}
-use Rattle.text_rules.specs.Outside.{AppendsFront}
+use Rattle.text_rules.specs.Outside.{HasRisen, AppendsFront}
+use Rattle.io_rules.specs.State.{SinkState}
 use Rattle.part_rules.specs.OpenLeaves.{OpenAt}
 use Rattle.cert_check.specs.declared.open_leaf.OpenLeaf.{OpenLeaf}
 use Rattle.cert_check.specs.OpenLeaves.{leaf_at, leaves_at}
@@ -38,14 +39,14 @@ module _ (leaves : List OpenLeaf) where
       ∙ append_assoc (lines_before i) (map part_line (leaves_at (drop i leaves))) (codes "end" ∷ [])
 
   -- the lines of the leaves before place i are out
-  pub record AreOut (i : ℕ) (old new : Option (List ℕ)) : Type 0 where
-    pub out : Appends old new (text_of (lines_before i))
+  pub record AreOut (i : ℕ) (old new : SinkState) : Type 0 where
+    pub out : Appends old.written new.written (text_of (lines_before i))
 
-  pub none_out : (old : Option (List ℕ)) → AreOut 0 old old
-  none_out old = record { out = Appends-nil old }
+  pub none_out : (old : SinkState) → AreOut 0 old old
+  none_out old = record { out = Appends-nil old.written }
 
-  module _ (i : ℕ) (old mid : Option (List ℕ)) (is : AreOut i old mid) where
-    pub one_more : (leaf : OpenLeaf) (piece : List ℕ) (new : Option (List ℕ)) → i < length leaves → leaf ≡ get_or leaves i leaf → piece ≡ line (part_line (leaf_at leaf)) → Appends mid new piece → AreOut (i + 1) old new
+  module _ (i : ℕ) (old mid : SinkState) (is : AreOut i old mid) where
+    pub one_more : (leaf : OpenLeaf) (piece : List ℕ) (new : SinkState) → i < length leaves → leaf ≡ get_or leaves i leaf → piece ≡ line (part_line (leaf_at leaf)) → Appends mid.written new.written piece → AreOut (i + 1) old new
     one_more leaf piece new lt here piece_is put =
         let more : take (i + 1) leaves ≡ take i leaves ++ leaf ∷ [] =
         ap (λ (k : ℕ). take k leaves) (add-one i) ∙ take-suc leaves i leaf lt ∙ ap (λ (l : OpenLeaf). take i leaves ++ l ∷ []) (sym here) in
@@ -54,16 +55,16 @@ module _ (leaves : List OpenLeaf) where
         ∙ ap (λ (ls : List OpenAt). map part_line ls) (map-append leaf_at (take i leaves) (leaf ∷ []))
         ∙ map-append part_line (leaves_at (take i leaves)) (leaf_at leaf ∷ []) in
         record {
-          out = subst (λ (t : List ℕ). Appends old new t)
+          out = subst (λ (t : List ℕ). Appends old.written new.written t)
               (ap (λ (t : List ℕ). text_of (lines_before i) ++ t) piece_is ∙ sym (text_of-push (lines_before i) (part_line (leaf_at leaf))) ∙ ap text_of (sym lines))
-              (Appends-trans old mid new (text_of (lines_before i)) piece is.out put);
+              (Appends-trans old.written mid.written new.written (text_of (lines_before i)) piece is.out put);
         }
 
-    module _ (risen' risen : Type 0) (later : risen' → risen) (new : Option (List ℕ)) (status : Status) where
+    module _ (later : old.faults ≤ mid.faults) (new : SinkState) (status : Status) where
       -- there is no memory for the next line
-      pub starved : Ends (Only Memory (line (codes "memory"))) risen' mid new status → Ends (Tells (LeavesSay (leaves_at leaves))) risen old new status
+      pub starved : Ends (Only Memory (line (codes "memory"))) mid new status → Ends (Tells (LeavesSay (leaves_at leaves))) old new status
       starved =
-          Ends-after (Only Memory (line (codes "memory"))) (Tells (LeavesSay (leaves_at leaves))) risen' risen old mid new status (text_of (lines_before i)) is.out
+          Ends-after (Only Memory (line (codes "memory"))) (Tells (LeavesSay (leaves_at leaves))) old mid new status (text_of (lines_before i)) is.out
           (only_in (λ s t. Tells (LeavesSay (leaves_at leaves)) s (text_of (lines_before i) ++ t)) Memory (line (codes "memory")) (
             lines_before i,
             inr (Done, split_lines (leaves_at leaves), lines_from i, (refl, refl), cut i),
@@ -71,10 +72,10 @@ module _ (leaves : List OpenLeaf) where
           )) later
 
       -- all leaves are told
-      pub ended : length leaves ≤ i → Ends (Only Done (line (codes "end"))) risen' mid new status → Ends (Tells (LeavesSay (leaves_at leaves))) risen old new status
+      pub ended : length leaves ≤ i → Ends (Only Done (line (codes "end"))) mid new status → Ends (Tells (LeavesSay (leaves_at leaves))) old new status
       ended le =
           let behind : lines_from i ≡ codes "end" ∷ [] = ap (λ (ls : List OpenLeaf). map part_line (leaves_at ls) ++ codes "end" ∷ []) (none_behind leaves i le) in
-          Ends-after (Only Done (line (codes "end"))) (Tells (LeavesSay (leaves_at leaves))) risen' risen old mid new status (text_of (lines_before i)) is.out
+          Ends-after (Only Done (line (codes "end"))) (Tells (LeavesSay (leaves_at leaves))) old mid new status (text_of (lines_before i)) is.out
           (only_in (λ s t. Tells (LeavesSay (leaves_at leaves)) s (text_of (lines_before i) ++ t)) Done (line (codes "end")) (
             split_lines (leaves_at leaves),
             (refl, refl),
@@ -88,8 +89,8 @@ module _ (leaves : List OpenLeaf) where
           none_behind (x ∷ xs) (suc k) h = none_behind xs k (omega arith)
 
     -- the line of the next leaf is cut off
-    pub stopped : (risen : Type 0) (new : Option (List ℕ)) (leaf : OpenLeaf) (piece : List ℕ) → i < length leaves → leaf ≡ get_or leaves i leaf → risen → piece ≡ line (part_line (leaf_at leaf)) → AppendsFront mid new piece → Ends (Tells (LeavesSay (leaves_at leaves))) risen old new WriteFault
-    stopped risen new leaf piece lt here rose piece_is front =
+    pub stopped : (new : SinkState) (leaf : OpenLeaf) (piece : List ℕ) → i < length leaves → leaf ≡ get_or leaves i leaf → HasRisen old.faults new.faults → piece ≡ line (part_line (leaf_at leaf)) → AppendsFront mid.written new.written piece → Ends (Tells (LeavesSay (leaves_at leaves))) old new WriteFault
+    stopped new leaf piece lt here rose piece_is front =
         let behind : List (List ℕ) = lines_from (suc i) in
         let ahead : lines_from i ≡ part_line (leaf_at leaf) ∷ behind = ap (λ (ls : List OpenLeaf). map part_line (leaves_at ls) ++ codes "end" ∷ []) (drop-here leaves i leaf lt here) in
         let text : text_of (split_lines (leaves_at leaves)) ≡ (text_of (lines_before i) ++ front.0) ++ (front.1 ++ text_of behind) =
@@ -102,5 +103,5 @@ module _ (leaves : List OpenLeaf) where
           Done,
           text_of (split_lines (leaves_at leaves)),
           (split_lines (leaves_at leaves), (refl, refl), refl),
-          (text_of (lines_before i) ++ front.0, front.1 ++ text_of behind, text, Appends-trans old mid new (text_of (lines_before i)) front.0 is.out front.3),
+          (text_of (lines_before i) ++ front.0, front.1 ++ text_of behind, text, Appends-trans old.written mid.written new.written (text_of (lines_before i)) front.0 is.out front.3),
         )

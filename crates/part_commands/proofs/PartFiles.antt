@@ -2,7 +2,8 @@
 use Rattle.std.proofs.Common.{◌≡◌, Bool, ◌≤◌, ◌<◌, ◌+◌, ℕ, suc, List, [], ◌∷◌, ◌++◌, length, take, get_or, refl, sym, ap, ◌∙◌, subst, inl, inr, ◌⊎◌, add-one}
 use Rattle.std.specs.List.{Contains}
 use Rattle.std.proofs.Math.Seq.{take-suc, take-length}
-use Rattle.text_rules.specs.Outside.{HasRisen, Told}
+use Rattle.text_rules.specs.Outside.{Told}
+use Rattle.io_rules.specs.State.{ShelfState}
 use Rattle.problem_rules.specs.Problem.{Problem}
 use Rattle.tree_rules.specs.Claim.{Claim}
 use Rattle.tree_rules.specs.Accepted.{Tree}
@@ -11,9 +12,9 @@ use Rattle.studio_rules.specs.Reading.{AreHeld, FileFaults, GivesProblem, OnFile
 use Rattle.studio_rules.specs.TreeFile.{GivesTree, OnTree, TreeFaults, TreeSays}
 use Rattle.studio_rules.specs.Merge.{MergeSays, MergeWork}
 use Rattle.studio_rules.specs.PartFile.{GivesPart, GiveParts, PartFault, PartFaults, FirstFault, are_several}
-use Rattle.studio_rules.specs.Ending.{Shelves, Says, Tells}
+use Rattle.studio_rules.specs.Ending.{Says, Tells}
 use Rattle.studio_rules.specs.declared.status.Status.{Status}
-use Rattle.endings.proofs.Ending.{Says-map, Says-told, Says-over, HasRisen-later}
+use Rattle.endings.proofs.Ending.{Says-map, Says-told, Says-over}
 
 -- ---- parts in order
 
@@ -48,21 +49,15 @@ module _ (held : List ℕ → Told) (p : Problem) where
 
 -- ---- what is said, over the shelf as it was left
 
-module _ (names : List (List ℕ)) (p : Problem) (shelves later : Shelves) (keeps : (other : List ℕ) → later.held other ≡ shelves.held other) (after : later.after ≡ shelves.after)
-    (before : (other : List ℕ) → shelves.before other ≤ later.before other) where
-  rises : (other : List ℕ) → HasRisen (later.before other) (later.after other) → HasRisen (shelves.before other) (shelves.after other)
-  rises other rise =
-      HasRisen-later (shelves.before other) (later.before other) (shelves.after other) (before other)
-      (subst (λ (f : List ℕ → ℕ). HasRisen (later.before other) (f other)) after rise)
-
-  same_held : later.held ≡ shelves.held
+module _ (names : List (List ℕ)) (p : Problem) (old mid new : ShelfState) (keeps : (other : List ℕ) → mid.held other ≡ old.held other) (later : (other : List ℕ) → old.faults other ≤ mid.faults other) where
+  same_held : mid.held ≡ old.held
   same_held = λ i other. keeps other i
 
   -- of a file that gives no part
-  pub fault_told : (several : Bool) (place : ℕ) (name : List ℕ) (ps : List Part) → several ≡ are_several names → place < length names → name ≡ get_or names place name → GiveBefore shelves.held p names place ps
-      → (s : Status) (t : List ℕ) → Says (PartFaults several later.held name p) (λ other. other ≡ name) later s t → Says (FirstFault shelves.held names p) (Contains names) shelves s t
+  pub fault_told : (several : Bool) (place : ℕ) (name : List ℕ) (ps : List Part) → several ≡ are_several names → place < length names → name ≡ get_or names place name → GiveBefore old.held p names place ps
+      → (s : Status) (t : List ℕ) → Says (PartFaults several mid.held name p) (λ other. other ≡ name) mid new s t → Says (FirstFault old.held names p) (Contains names) old new s t
   fault_told several place name ps is lt here given =
-      Says-over (PartFaults several later.held name p) (FirstFault shelves.held names p) (λ other. other ≡ name) (Contains names) later shelves
+      Says-over (PartFaults several mid.held name p) (FirstFault old.held names p) (λ other. other ≡ name) (Contains names) old mid new
       (λ s lines h. record {
         place = place;
         name = name;
@@ -72,21 +67,21 @@ module _ (names : List (List ℕ)) (p : Problem) (shelves later : Shelves) (keep
         before = given.give;
         fault = (h.0, subst (λ (o : Told). AreHeld o h.0) (keeps name) h.1, subst (λ (b : Bool). PartFault b name p h.0 s lines) is h.2);
       })
-      (λ other e. subst (Contains names) (sym e) (place, lt, sym here)) rises
+      (λ other e. subst (Contains names) (sym e) (place, lt, sym here)) later
 
   -- of the work behind TREE
-  pub tree_told : (tree : List ℕ) (claim : Claim) (ts : Tree) → (file : List ℕ) × AreHeld (shelves.held tree) file × GivesTree p file claim ts
-      → (s : Status) (t : List ℕ) → Says (MergeWork later.held names p claim ts) (Contains names) later s t → Says (OnTree (MergeWork shelves.held names) shelves.held tree p) (λ other. (other ≡ tree) ⊎ Contains names other) shelves s t
+  pub tree_told : (tree : List ℕ) (claim : Claim) (ts : Tree) → (file : List ℕ) × AreHeld (old.held tree) file × GivesTree p file claim ts
+      → (s : Status) (t : List ℕ) → Says (MergeWork mid.held names p claim ts) (Contains names) mid new s t → Says (OnTree (MergeWork old.held names) old.held tree p) (λ other. (other ≡ tree) ⊎ Contains names other) old new s t
   tree_told tree claim ts given =
-      Says-over (MergeWork later.held names p claim ts) (OnTree (MergeWork shelves.held names) shelves.held tree p) (Contains names) (λ other. (other ≡ tree) ⊎ Contains names other) later shelves
+      Says-over (MergeWork mid.held names p claim ts) (OnTree (MergeWork old.held names) old.held tree p) (Contains names) (λ other. (other ≡ tree) ⊎ Contains names other) old mid new
       (λ s lines h. (given.0, given.1, inr (claim, ts, given.2, subst (λ (held : List ℕ → Told). MergeWork held names p claim ts s lines) same_held h)))
-      (λ other h. inr h) rises
+      (λ other h. inr h) later
 
   -- of the work behind FILE
-  pub file_told : (file tree : List ℕ) → (bytes : List ℕ) × AreHeld (shelves.held file) bytes × GivesProblem bytes p
-      → (s : Status) (t : List ℕ) → Says (OnTree (MergeWork later.held names) later.held tree p) (λ other. (other ≡ tree) ⊎ Contains names other) later s t
-      → Says (OnFile (OnTree (MergeWork shelves.held names) shelves.held tree) shelves.held file) (λ other. (other ≡ file) ⊎ ((other ≡ tree) ⊎ Contains names other)) shelves s t
+  pub file_told : (file tree : List ℕ) → (bytes : List ℕ) × AreHeld (old.held file) bytes × GivesProblem bytes p
+      → (s : Status) (t : List ℕ) → Says (OnTree (MergeWork mid.held names) mid.held tree p) (λ other. (other ≡ tree) ⊎ Contains names other) mid new s t
+      → Says (OnFile (OnTree (MergeWork old.held names) old.held tree) old.held file) (λ other. (other ≡ file) ⊎ ((other ≡ tree) ⊎ Contains names other)) old new s t
   file_told file tree given =
-      Says-over (OnTree (MergeWork later.held names) later.held tree p) (OnFile (OnTree (MergeWork shelves.held names) shelves.held tree) shelves.held file) (λ other. (other ≡ tree) ⊎ Contains names other) (λ other. (other ≡ file) ⊎ ((other ≡ tree) ⊎ Contains names other)) later shelves
+      Says-over (OnTree (MergeWork mid.held names) mid.held tree p) (OnFile (OnTree (MergeWork old.held names) old.held tree) old.held file) (λ other. (other ≡ tree) ⊎ Contains names other) (λ other. (other ≡ file) ⊎ ((other ≡ tree) ⊎ Contains names other)) old mid new
       (λ s lines h. (given.0, given.1, inr (p, given.2, subst (λ (held : List ℕ → Told). OnTree (MergeWork held names) held tree p s lines) same_held h)))
-      (λ other h. inr h) rises
+      (λ other h. inr h) later

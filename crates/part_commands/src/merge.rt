@@ -1,7 +1,6 @@
 //! The command `merge`.
 ghost use Rattle.std.specs.Prelude.{◌≡◌, ◌<◌, ◌⊎◌, ◌++◌, List, ℕ, [], IfOk, get_or, length, map, string_bytes};
 ghost use Rattle.std.specs.List.{Contains};
-ghost use Rattle.text_rules.specs.Outside.{HasRisen};
 ghost use Rattle.problem_rules.specs.Each.{Each};
 ghost use Rattle.tree_rules.specs.Known.{KnowsClaim, KnowsTree};
 ghost use Rattle.branch_tree.specs.View.{claim_of};
@@ -78,7 +77,7 @@ fn no_leaf_line(alloc: Global, several: bool, name: &str) -> Result<String, Allo
 fn say_line<K: Sink>(out: &mut K, made: Result<String, AllocError>, status: Status) -> Status
     requires { (status ≡ Refused) ⊎ (status ≡ NoLeaf) }
     ensures { (told : List ℕ) → IfOk made (λ text. string_bytes text ≡ line told)
-        → Ends (OrMemory (Only status (line told))) (HasRisen (K.faults out.old) (K.faults out.new)) (K.written out.old) (K.written out.new) result }
+        → Ends (OrMemory (Only status (line told))) (K.state out.old) (K.state out.new) result }
 {
     match made {
         Ok(text) => say(out, text.as_bytes(), status),
@@ -88,7 +87,7 @@ fn say_line<K: Sink>(out: &mut K, made: Result<String, AllocError>, status: Stat
 
 // Says why the tree is refused.
 fn say_tree_refused<K: Sink>(alloc: Global, out: &mut K, refusal: Refusal) -> Status
-    ensures { Ends (Tells (TreeRefused refusal)) (HasRisen (K.faults out.old) (K.faults out.new)) (K.written out.old) (K.written out.new) result }
+    ensures { Ends (Tells (TreeRefused refusal)) (K.state out.old) (K.state out.new) result }
 {
     match refusal {
         Refusal::Claim(why) => {
@@ -107,7 +106,7 @@ fn say_part_refused<K: Sink>(
     name: &str,
     refusal: Refusal,
 ) -> Status
-    ensures { Ends (Tells (PartRefused several name.now refusal)) (HasRisen (K.faults out.old) (K.faults out.new)) (K.written out.old) (K.written out.new) result }
+    ensures { Ends (Tells (PartRefused several name.now refusal)) (K.state out.old) (K.state out.new) result }
 {
     match refusal {
         Refusal::Claim(why) => {
@@ -130,7 +129,7 @@ fn say_fault<K: Sink>(
     name: &str,
     fault: MergeFault,
 ) -> Status
-    ensures { Ends (Tells (FaultSays several name.now fault)) (HasRisen (K.faults out.old) (K.faults out.new)) (K.written out.old) (K.written out.new) result }
+    ensures { Ends (Tells (FaultSays several name.now fault)) (K.state out.old) (K.state out.new) result }
 {
     match fault {
         MergeFault::Tree(refusal) => say_tree_refused(alloc, out, refusal),
@@ -153,7 +152,7 @@ fn say_tree_text<K: Sink>(
 ) -> Status
     requires claim { KnowsClaim problem.now (claim_of claim.now) }
     requires tree { KnowsTree problem.now tree.now }
-    ensures { Ends (Tells (OneAnswer Done (tree_text_lines problem.now (claim_of claim.now) tree.now whole))) (HasRisen (K.faults out.old) (K.faults out.new)) (K.written out.old) (K.written out.new) result }
+    ensures { Ends (Tells (OneAnswer Done (tree_text_lines problem.now (claim_of claim.now) tree.now whole))) (K.state out.old) (K.state out.new) result }
 {
     let printed = print_tree(alloc, problem, claim, tree, &Tail::Whole, out);
     say_printed(out, printed, Status::Done)
@@ -173,7 +172,7 @@ fn say_merged<K: Sink>(
     requires tree { KnowsTree problem.now tree }
     requires parts { Each (KnowsPart problem.now) parts.now }
     requires count { length parts.now ≡ length names.now }
-    ensures { Ends (Tells (MergeSays (map string_bytes names.now) problem.now (claim_of claim) tree parts.now)) (HasRisen (K.faults out.old) (K.faults out.new)) (K.written out.old) (K.written out.new) result }
+    ensures { Ends (Tells (MergeSays (map string_bytes names.now) problem.now (claim_of claim) tree parts.now)) (K.state out.old) (K.state out.new) result }
 {
     let Ok(graph) = Graph::of(alloc, problem) else {
         return say_memory(out);
@@ -198,8 +197,8 @@ fn say_parts<F: Shelf, K: Sink>(
 ) -> Status
     requires claim { KnowsClaim problem.now (claim_of claim) }
     requires tree { KnowsTree problem.now tree }
-    ensures { Ends (Says (MergeWork (F.held shelf.old) (map string_bytes names.now) problem.now (claim_of claim) tree) (Contains (map string_bytes names.now)) (record { held = F.held shelf.old; before = F.faults shelf.old; after = F.faults shelf.new }))
-        (HasRisen (K.faults out.old) (K.faults out.new)) (K.written out.old) (K.written out.new) result }
+    ensures { Ends (Says (MergeWork (F.state shelf.old).held (map string_bytes names.now) problem.now (claim_of claim) tree) (Contains (map string_bytes names.now))
+        (F.state shelf.old) (F.state shelf.new)) (K.state out.old) (K.state out.new) result }
 {
     match parts_of(alloc, shelf, out, names, problem) {
         Ok(parts) => say_merged(alloc, out, problem, claim, tree, names, &parts),
@@ -215,8 +214,8 @@ fn say_tree<F: Shelf, K: Sink>(
     shelf: &mut F,
     out: &mut K,
 ) -> Status
-    ensures { Ends (Says (OnTree (MergeWork (F.held shelf.old) (map string_bytes names.now)) (F.held shelf.old) name.now problem.now) (λ other. (other ≡ name.now) ⊎ Contains (map string_bytes names.now) other) (record { held = F.held shelf.old; before = F.faults shelf.old; after = F.faults shelf.new }))
-        (HasRisen (K.faults out.old) (K.faults out.new)) (K.written out.old) (K.written out.new) result }
+    ensures { Ends (Says (OnTree (MergeWork (F.state shelf.old).held (map string_bytes names.now)) (F.state shelf.old).held name.now problem.now)
+        (λ other. (other ≡ name.now) ⊎ Contains (map string_bytes names.now) other) (F.state shelf.old) (F.state shelf.new)) (K.state out.old) (K.state out.new) result }
 {
     match tree_of(alloc, shelf, out, name, problem) {
         Ok((claim, tree)) => say_parts(alloc, problem, claim, tree, names, shelf, out),
@@ -234,8 +233,8 @@ pub fn merge<F: Shelf, K: Sink>(
     shelf: &mut F,
     out: &mut K,
 ) -> Status
-    ensures { Ends (Says (OnFile (OnTree (MergeWork (F.held shelf.old) (map string_bytes parts.now)) (F.held shelf.old) tree.now) (F.held shelf.old) file.now) (λ other. (other ≡ file.now) ⊎ ((other ≡ tree.now) ⊎ Contains (map string_bytes parts.now) other)) (record { held = F.held shelf.old; before = F.faults shelf.old; after = F.faults shelf.new }))
-        (HasRisen (K.faults out.old) (K.faults out.new)) (K.written out.old) (K.written out.new) result }
+    ensures { Ends (Says (OnFile (OnTree (MergeWork (F.state shelf.old).held (map string_bytes parts.now)) (F.state shelf.old).held tree.now) (F.state shelf.old).held file.now)
+        (λ other. (other ≡ file.now) ⊎ ((other ≡ tree.now) ⊎ Contains (map string_bytes parts.now) other)) (F.state shelf.old) (F.state shelf.new)) (K.state out.old) (K.state out.new) result }
 {
     match problem_of(alloc, shelf, out, file) {
         Ok(problem) => say_tree(alloc, &problem, tree, parts, shelf, out),

@@ -1,7 +1,6 @@
 //! The files of parts: each is read and judged by its grammar.
 ghost use Rattle.std.specs.Prelude.{◌≡◌, ◌≤◌, ◌++◌, ℕ, List, IfOk, IfErr, OnOk, codes, map, string_bytes};
 ghost use Rattle.std.specs.List.{Contains};
-ghost use Rattle.text_rules.specs.Outside.{HasRisen};
 ghost use Rattle.problem_rules.specs.Each.{Each};
 ghost use Rattle.studio_rules.specs.Lines.{line};
 ghost use Rattle.part_rules.specs.Spelling.{KnowsPart};
@@ -63,7 +62,7 @@ fn say_part_fault<K: Sink>(
     number: u32,
     kind: TreeKind,
 ) -> Status
-    ensures { Ends (OrMemory (Only BadTree (line (part_fault_line several name.now number kind)))) (HasRisen (K.faults out.old) (K.faults out.new)) (K.written out.old) (K.written out.new) result }
+    ensures { Ends (OrMemory (Only BadTree (line (part_fault_line several name.now number kind)))) (K.state out.old) (K.state out.new) result }
 {
     match part_fault_line(alloc, several, name, number, kind) {
         Ok(text) => say(out, text.as_bytes(), Status::BadTree),
@@ -81,13 +80,12 @@ fn part_of<F: Shelf, K: Sink>(
     name: &str,
     problem: &Problem,
 ) -> Result<Part, Status>
-    ensures part { IfOk result (λ part. (file : List ℕ) × AreHeld (F.held shelf.old name.now) file × GivesPart problem.now file part) }
+    ensures part { IfOk result (λ part. (file : List ℕ) × AreHeld ((F.state shelf.old).held name.now) file × GivesPart problem.now file part) }
     ensures known { IfOk result (KnowsPart problem.now) }
     ensures silent { OnOk result (out.new ≡ out.old) }
-    ensures later { (other : List ℕ) → F.faults shelf.old other ≤ F.faults shelf.new other }
-    ensures keeps { (other : List ℕ) → F.held shelf.new other ≡ F.held shelf.old other }
-    ensures told { IfErr result (Ends (Says (PartFaults several (F.held shelf.old) name.now problem.now) (λ other. other ≡ name.now) (record { held = F.held shelf.old; before = F.faults shelf.old; after = F.faults shelf.new }))
-        (HasRisen (K.faults out.old) (K.faults out.new)) (K.written out.old) (K.written out.new)) }
+    ensures later { (other : List ℕ) → (F.state shelf.old).faults other ≤ (F.state shelf.new).faults other }
+    ensures keeps { (other : List ℕ) → (F.state shelf.new).held other ≡ (F.state shelf.old).held other }
+    ensures told { IfErr result (Ends (Says (PartFaults several (F.state shelf.old).held name.now problem.now) (λ other. other ≡ name.now) (F.state shelf.old) (F.state shelf.new)) (K.state out.old) (K.state out.new)) }
 {
     let bytes = match bytes_of(alloc, shelf, out, name, PART_LIMIT) {
         Ok(bytes) => bytes,
@@ -111,11 +109,11 @@ pub(crate) fn parts_of<F: Shelf, K: Sink>(
     names: &[String],
     problem: &Problem,
 ) -> Result<Vec<Part>, Status>
-    ensures parts { IfOk result (λ parts. GiveParts (F.held shelf.old) problem.now (map string_bytes names.now) parts.items) }
+    ensures parts { IfOk result (λ parts. GiveParts (F.state shelf.old).held problem.now (map string_bytes names.now) parts.items) }
     ensures known { IfOk result (λ parts. Each (KnowsPart problem.now) parts.items) }
     ensures silent { OnOk result (out.new ≡ out.old) }
-    ensures told { IfErr result (Ends (Says (FirstFault (F.held shelf.old) (map string_bytes names.now) problem.now) (Contains (map string_bytes names.now)) (record { held = F.held shelf.old; before = F.faults shelf.old; after = F.faults shelf.new }))
-        (HasRisen (K.faults out.old) (K.faults out.new)) (K.written out.old) (K.written out.new)) }
+    ensures told { IfErr result (Ends (Says (FirstFault (F.state shelf.old).held (map string_bytes names.now) problem.now) (Contains (map string_bytes names.now))
+        (F.state shelf.old) (F.state shelf.new)) (K.state out.old) (K.state out.new)) }
 {
     let several = 1 < names.len();
     let mut parts = Vec::new(alloc);

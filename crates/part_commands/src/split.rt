@@ -1,11 +1,10 @@
 //! The command `split`.
-ghost use Rattle.std.specs.Prelude.{◌≡◌, ◌<◌, ◌^◌, ◌⊎◌, IfOk, OnOk, length, map, string_bytes};
+ghost use Rattle.std.specs.Prelude.{◌≡◌, ◌<◌, ◌^◌, IfOk, OnOk, length, map, string_bytes};
 ghost use Rattle.number_sets.specs.Sets.{has};
-ghost use Rattle.text_rules.specs.Outside.{HasRisen};
 ghost use Rattle.branch_tree.specs.View.{claim_of};
 ghost use Rattle.cert_check.specs.OpenLeaves.{leaf_at, leaves_at};
 ghost use Rattle.studio_rules.specs.Lines.{line, text_of};
-ghost use Rattle.studio_rules.specs.Reading.{OnFile};
+ghost use Rattle.studio_rules.specs.Reading.{TwoFilesSay};
 ghost use Rattle.studio_rules.specs.TreeFile.{OnTree};
 ghost use Rattle.studio_rules.specs.Split.{SplitWork, LeavesSay, part_line, token_in};
 ghost use Rattle.studio_rules.specs.Ending.{Ends, Says, Tells};
@@ -49,7 +48,7 @@ fn part_line(alloc: Global, leaf: &OpenLeaf) -> Result<String, AllocError>
 
 /// Puts a line for each open leaf, and the last line.
 fn say_leaves<K: Sink>(alloc: Global, out: &mut K, leaves: &[OpenLeaf]) -> Status
-    ensures { Ends (Tells (LeavesSay (leaves_at leaves.now))) (HasRisen (K.faults out.old) (K.faults out.new)) (K.written out.old) (K.written out.new) result }
+    ensures { Ends (Tells (LeavesSay (leaves_at leaves.now))) (K.state out.old) (K.state out.new) result }
 {
     'telling: for leaf in leaves {
         let Ok(text) = part_line(alloc, leaf) else {
@@ -71,7 +70,7 @@ fn say_split<K: Sink>(
     tree: &Tree,
 ) -> Status
     requires few { length tree.now < 2 ^ 32 }
-    ensures { Ends (Tells (SplitWork problem.now (claim_of claim.now) tree.now)) (HasRisen (K.faults out.old) (K.faults out.new)) (K.written out.old) (K.written out.new) result }
+    ensures { Ends (Tells (SplitWork problem.now (claim_of claim.now) tree.now)) (K.state out.old) (K.state out.new) result }
 {
     let Ok(graph) = Graph::of(alloc, problem) else {
         return say_memory(out);
@@ -93,8 +92,7 @@ fn say_tree<F: Shelf, K: Sink>(
     shelf: &mut F,
     out: &mut K,
 ) -> Status
-    ensures { Ends (Says (OnTree SplitWork (F.held shelf.old) name.now problem.now) (λ other. other ≡ name.now) (record { held = F.held shelf.old; before = F.faults shelf.old; after = F.faults shelf.new }))
-        (HasRisen (K.faults out.old) (K.faults out.new)) (K.written out.old) (K.written out.new) result }
+    ensures { Ends (Says (OnTree SplitWork (F.state shelf.old).held name.now problem.now) (λ other. other ≡ name.now) (F.state shelf.old) (F.state shelf.new)) (K.state out.old) (K.state out.new) result }
 {
     match tree_of(alloc, shelf, out, name, problem) {
         Ok((claim, tree)) => say_split(alloc, out, problem, &claim, &tree),
@@ -111,8 +109,7 @@ pub fn split<F: Shelf, K: Sink>(
     shelf: &mut F,
     out: &mut K,
 ) -> Status
-    ensures { Ends (Says (OnFile (OnTree SplitWork (F.held shelf.old) tree.now) (F.held shelf.old) file.now) (λ other. (other ≡ file.now) ⊎ (other ≡ tree.now)) (record { held = F.held shelf.old; before = F.faults shelf.old; after = F.faults shelf.new }))
-        (HasRisen (K.faults out.old) (K.faults out.new)) (K.written out.old) (K.written out.new) result }
+    ensures { Ends (TwoFilesSay (OnTree SplitWork) file.now tree.now (F.state shelf.old) (F.state shelf.new)) (K.state out.old) (K.state out.new) result }
 {
     match problem_of(alloc, shelf, out, file) {
         Ok(problem) => say_tree(alloc, &problem, tree, shelf, out),

@@ -1,6 +1,5 @@
 //! The part that a search found.
 ghost use Rattle.std.specs.Prelude.{◌≡◌, ℕ};
-ghost use Rattle.text_rules.specs.Outside.{HasRisen};
 ghost use Rattle.pgraph.specs.View.{node_of};
 ghost use Rattle.tree_rules.specs.Known.{KnowsClaim, KnowsTree, KnowsTail};
 ghost use Rattle.part_rules.specs.Part.{IsApart};
@@ -41,7 +40,7 @@ fn say_part<K: Sink>(alloc: Global, out: &mut K, problem: &Problem, part: &Part)
     requires claim { KnowsClaim problem.now part.now.claim }
     requires tree { KnowsTree problem.now part.now.tree }
     requires tail { KnowsTail problem.now part.now.tail }
-    ensures { Ends (Tells (OneAnswer (status_of part.now.tail) (part_text_lines problem.now part.now))) (HasRisen (K.faults out.old) (K.faults out.new)) (K.written out.old) (K.written out.new) result }
+    ensures { Ends (Tells (OneAnswer (status_of part.now.tail) (part_text_lines problem.now part.now))) (K.state out.old) (K.state out.new) result }
 {
     let printed = print_part(alloc, problem, part, out);
     say_printed(out, printed, status_of(part.tail()))
@@ -57,7 +56,7 @@ pub(crate) fn say_found<K: Sink>(
 ) -> Status
     requires apart { IsApart start.now.inside start.now.outside }
     requires found { (budget : ℕ) × IsFound problem.now (node_of start.now) budget found }
-    ensures { Ends (Tells (FoundSays problem.now start.now.inside start.now.outside found)) (HasRisen (K.faults out.old) (K.faults out.new)) (K.written out.old) (K.written out.new) result }
+    ensures { Ends (Tells (FoundSays problem.now start.now.inside start.now.outside found)) (K.state out.old) (K.state out.new) result }
 {
     match part_of(*start, found) {
         Some(part) => say_part(alloc, out, problem, &part),

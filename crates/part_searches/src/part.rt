@@ -1,13 +1,12 @@
 //! The command `part`.
-ghost use Rattle.std.specs.Prelude.{◌≡◌, ◌≤◌, ◌⊎◌, Some, None};
-ghost use Rattle.text_rules.specs.Outside.{HasRisen};
+ghost use Rattle.std.specs.Prelude.{◌≡◌, ◌≤◌, Some, None};
 ghost use Rattle.pns_rules.specs.Shape.{shape_of};
 ghost use Rattle.pns_rules.specs.Ends.{IsSound};
 ghost use Rattle.pgraph.specs.Tables.{shape};
 ghost use Rattle.pgraph.specs.View.{node_of};
 ghost use Rattle.tree_rules.specs.Claim.{IsFeasible};
 ghost use Rattle.branch_tree.specs.View.{claim_of};
-ghost use Rattle.studio_rules.specs.Reading.{OnFile};
+ghost use Rattle.studio_rules.specs.Reading.{FileSays, TwoFilesSay};
 ghost use Rattle.studio_rules.specs.TreeFile.{OnTree};
 ghost use Rattle.studio_rules.specs.Part.{PartSays, PartWork, ClaimSays, AgainstWork};
 ghost use Rattle.studio_rules.specs.Ending.{Ends, Says, Tells};
@@ -39,7 +38,7 @@ fn say_searched<K: Sink>(
     requires sound { IsSound (shape_of problem.now) (node_of start.now) }
     requires some { 1 ≤ budget }
     requires few { budget ≤ 1000000 }
-    ensures { Ends (Tells (PartSays budget None start.now.inside start.now.outside problem.now)) (HasRisen (K.faults out.old) (K.faults out.new)) (K.written out.old) (K.written out.new) result }
+    ensures { Ends (Tells (PartSays budget None start.now.inside start.now.outside problem.now)) (K.state out.old) (K.state out.new) result }
 {
     let found = search(alloc, problem, graph, *start, budget as u32);
     say_found(alloc, out, problem, start, found)
@@ -60,7 +59,7 @@ fn say_against<K: Sink>(
     requires some { 1 ≤ budget }
     requires few { budget ≤ 1000000 }
     requires passes { IsFeasible problem.now network }
-    ensures { Ends (Tells (PartSays budget (Some network) start.now.inside start.now.outside problem.now)) (HasRisen (K.faults out.old) (K.faults out.new)) (K.written out.old) (K.written out.new) result }
+    ensures { Ends (Tells (PartSays budget (Some network) start.now.inside start.now.outside problem.now)) (K.state out.old) (K.state out.new) result }
 {
     let found = search_against(alloc, problem, graph, *start, budget as u32, network);
     say_found(alloc, out, problem, start, found)
@@ -81,7 +80,7 @@ fn say_claimed<K: Sink>(
     requires sound { IsSound (shape_of problem.now) (node_of start.now) }
     requires some { 1 ≤ budget }
     requires few { budget ≤ 1000000 }
-    ensures { Ends (Tells (ClaimSays budget start.now.inside start.now.outside problem.now (claim_of claim) tree.now)) (HasRisen (K.faults out.old) (K.faults out.new)) (K.written out.old) (K.written out.new) result }
+    ensures { Ends (Tells (ClaimSays budget start.now.inside start.now.outside problem.now (claim_of claim) tree.now)) (K.state out.old) (K.state out.new) result }
 {
     match claim {
         Claim::Network(network) => {
@@ -109,8 +108,8 @@ fn say_tree<F: Shelf, K: Sink>(
     requires sound { IsSound (shape_of problem.now) (node_of start.now) }
     requires some { 1 ≤ budget }
     requires few { budget ≤ 1000000 }
-    ensures { Ends (Says (OnTree (ClaimSays budget start.now.inside start.now.outside) (F.held shelf.old) name.now problem.now) (λ other. other ≡ name.now) (record { held = F.held shelf.old; before = F.faults shelf.old; after = F.faults shelf.new }))
-        (HasRisen (K.faults out.old) (K.faults out.new)) (K.written out.old) (K.written out.new) result }
+    ensures { Ends (Says (OnTree (ClaimSays budget start.now.inside start.now.outside) (F.state shelf.old).held name.now problem.now) (λ other. other ≡ name.now)
+        (F.state shelf.old) (F.state shelf.new)) (K.state out.old) (K.state out.new) result }
 {
     match tree_of(alloc, shelf, out, name, problem) {
         Ok((claim, tree)) => say_claimed(alloc, out, problem, graph, start, budget, claim, &tree),
@@ -129,7 +128,7 @@ fn say_from<K: Sink>(
 ) -> Status
     requires some { 1 ≤ budget }
     requires few { budget ≤ 1000000 }
-    ensures { Ends (Tells (PartWork budget inside.now outside.now problem.now)) (HasRisen (K.faults out.old) (K.faults out.new)) (K.written out.old) (K.written out.new) result }
+    ensures { Ends (Tells (PartWork budget inside.now outside.now problem.now)) (K.state out.old) (K.state out.new) result }
 {
     let Ok(graph) = Graph::of(alloc, problem) else {
         return say_memory(out);
@@ -153,8 +152,7 @@ fn say_from_against<F: Shelf, K: Sink>(
 ) -> Status
     requires some { 1 ≤ budget }
     requires few { budget ≤ 1000000 }
-    ensures { Ends (Says (AgainstWork budget (F.held shelf.old) tree.now inside.now outside.now problem.now) (λ other. other ≡ tree.now) (record { held = F.held shelf.old; before = F.faults shelf.old; after = F.faults shelf.new }))
-        (HasRisen (K.faults out.old) (K.faults out.new)) (K.written out.old) (K.written out.new) result }
+    ensures { Ends (Says (AgainstWork budget (F.state shelf.old).held tree.now inside.now outside.now problem.now) (λ other. other ≡ tree.now) (F.state shelf.old) (F.state shelf.new)) (K.state out.old) (K.state out.new) result }
 {
     let Ok(graph) = Graph::of(alloc, problem) else {
         return say_memory(out);
@@ -178,8 +176,7 @@ pub fn part<F: Shelf, K: Sink>(
 ) -> Status
     requires some { 1 ≤ budget }
     requires few { budget ≤ 1000000 }
-    ensures { Ends (Says (OnFile (PartWork budget inside.now outside.now) (F.held shelf.old) file.now) (λ other. other ≡ file.now) (record { held = F.held shelf.old; before = F.faults shelf.old; after = F.faults shelf.new }))
-        (HasRisen (K.faults out.old) (K.faults out.new)) (K.written out.old) (K.written out.new) result }
+    ensures { Ends (FileSays (PartWork budget inside.now outside.now) file.now (F.state shelf.old) (F.state shelf.new)) (K.state out.old) (K.state out.new) result }
 {
     match problem_of(alloc, shelf, out, file) {
         Ok(problem) => say_from(alloc, out, &problem, inside, outside, budget),
@@ -200,8 +197,7 @@ pub fn part_against<F: Shelf, K: Sink>(
 ) -> Status
     requires some { 1 ≤ budget }
     requires few { budget ≤ 1000000 }
-    ensures { Ends (Says (OnFile (AgainstWork budget (F.held shelf.old) tree.now inside.now outside.now) (F.held shelf.old) file.now) (λ other. (other ≡ file.now) ⊎ (other ≡ tree.now)) (record { held = F.held shelf.old; before = F.faults shelf.old; after = F.faults shelf.new }))
-        (HasRisen (K.faults out.old) (K.faults out.new)) (K.written out.old) (K.written out.new) result }
+    ensures { Ends (TwoFilesSay (λ held name. AgainstWork budget held name inside.now outside.now) file.now tree.now (F.state shelf.old) (F.state shelf.new)) (K.state out.old) (K.state out.new) result }
 {
     match problem_of(alloc, shelf, out, file) {
         Ok(problem) => {

@@ -33,8 +33,8 @@ fn put_outside<K: Sink>(
     requires claim { KnowsClaim problem.now part.now.claim }
     requires tree { KnowsTree problem.now part.now.tree }
     requires tail { KnowsTail problem.now part.now.tail }
-    ensures prints { Prints (set_line (codes "outside") part.now.outside ∷ rest_lines problem.now part.now.claim part.now.tree part.now.tail) (K.written out.old) (K.written out.new) (K.faults out.old) (K.faults out.new) result }
-    ensures later { K.faults out.old ≤ K.faults out.new }
+    ensures prints { Prints (set_line (codes "outside") part.now.outside ∷ rest_lines problem.now part.now.claim part.now.tree part.now.tail) (K.state out.old) (K.state out.new) result }
+    ensures later { (K.state out.old).faults ≤ (K.state out.new).faults }
 {
     let mut line = String::new(alloc);
     let made = set_line(alloc, &mut line, "outside", part.start().outside);
@@ -54,8 +54,8 @@ fn put_start<K: Sink>(
     requires claim { KnowsClaim problem.now part.now.claim }
     requires tree { KnowsTree problem.now part.now.tree }
     requires tail { KnowsTail problem.now part.now.tail }
-    ensures prints { Prints (set_line (codes "inside") part.now.inside ∷ set_line (codes "outside") part.now.outside ∷ rest_lines problem.now part.now.claim part.now.tree part.now.tail) (K.written out.old) (K.written out.new) (K.faults out.old) (K.faults out.new) result }
-    ensures later { K.faults out.old ≤ K.faults out.new }
+    ensures prints { Prints (set_line (codes "inside") part.now.inside ∷ set_line (codes "outside") part.now.outside ∷ rest_lines problem.now part.now.claim part.now.tree part.now.tail) (K.state out.old) (K.state out.new) result }
+    ensures later { (K.state out.old).faults ≤ (K.state out.new).faults }
 {
     let mut line = String::new(alloc);
     let made = set_line(alloc, &mut line, "inside", part.start().inside);
@@ -76,8 +76,8 @@ pub fn print_part<K: Sink>(
     requires claim { KnowsClaim problem.now part.now.claim }
     requires tree { KnowsTree problem.now part.now.tree }
     requires tail { KnowsTail problem.now part.now.tail }
-    ensures prints { Prints (part_text_lines problem.now part.now) (K.written out.old) (K.written out.new) (K.faults out.old) (K.faults out.new) result }
-    ensures later { K.faults out.old ≤ K.faults out.new }
+    ensures prints { Prints (part_text_lines problem.now part.now) (K.state out.old) (K.state out.new) result }
+    ensures later { (K.state out.old).faults ≤ (K.state out.new).faults }
 {
     let mut line = String::new(alloc);
     let made = begin(&mut line, "file_type=PNS_part_v1");

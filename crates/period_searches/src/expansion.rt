@@ -1,10 +1,9 @@
 //! The command `expand`.
-ghost use Rattle.std.specs.Prelude.{◌≡◌, ◌⊎◌, IfOk};
-ghost use Rattle.text_rules.specs.Outside.{HasRisen};
+ghost use Rattle.std.specs.Prelude.{◌≡◌, IfOk};
 ghost use Rattle.text_rules.specs.Canonical.{canonical};
 ghost use Rattle.plan_rules.specs.Expanded.{expanded};
 ghost use Rattle.plan_rules.specs.Plan.{IsPlan};
-ghost use Rattle.studio_rules.specs.Reading.{OnFile};
+ghost use Rattle.studio_rules.specs.Reading.{TwoFilesSay};
 ghost use Rattle.studio_rules.specs.Plan.{OnPlan};
 ghost use Rattle.studio_rules.specs.Expand.{ExpandWork};
 ghost use Rattle.studio_rules.specs.Ending.{Ends, Says};
@@ -33,8 +32,7 @@ fn say_expanded<F: Shelf, K: Sink>(
     shelf: &mut F,
     out: &mut K,
 ) -> Status
-    ensures { Ends (Says (OnPlan ExpandWork (F.held shelf.old) plan.now problem.now) (λ other. other ≡ plan.now) (record { held = F.held shelf.old; before = F.faults shelf.old; after = F.faults shelf.new }))
-        (HasRisen (K.faults out.old) (K.faults out.new)) (K.written out.old) (K.written out.new) result }
+    ensures { Ends (Says (OnPlan ExpandWork (F.state shelf.old).held plan.now problem.now) (λ other. other ≡ plan.now) (F.state shelf.old) (F.state shelf.new)) (K.state out.old) (K.state out.new) result }
 {
     match plan_of(alloc, shelf, out, plan, problem) {
         Ok(plan) => say_made(out, expanded_text(alloc, problem, &plan)),
@@ -50,8 +48,7 @@ pub fn expand<F: Shelf, K: Sink>(
     shelf: &mut F,
     out: &mut K,
 ) -> Status
-    ensures { Ends (Says (OnFile (OnPlan ExpandWork (F.held shelf.old) plan.now) (F.held shelf.old) file.now) (λ other. (other ≡ file.now) ⊎ (other ≡ plan.now)) (record { held = F.held shelf.old; before = F.faults shelf.old; after = F.faults shelf.new }))
-        (HasRisen (K.faults out.old) (K.faults out.new)) (K.written out.old) (K.written out.new) result }
+    ensures { Ends (TwoFilesSay (OnPlan ExpandWork) file.now plan.now (F.state shelf.old) (F.state shelf.new)) (K.state out.old) (K.state out.new) result }
 {
     match problem_of(alloc, shelf, out, file) {
         Ok(problem) => say_expanded(alloc, &problem, plan, shelf, out),

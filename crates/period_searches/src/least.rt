@@ -1,6 +1,5 @@
 //! The search of all designs of a plant over its periods.
 ghost use Rattle.std.specs.Prelude.{◌≡◌, ◌≤◌, IfOk};
-ghost use Rattle.text_rules.specs.Outside.{HasRisen};
 ghost use Rattle.plan_rules.specs.Expanded.{expanded};
 ghost use Rattle.plan_rules.specs.Plan.{IsPlan};
 ghost use Rattle.tree_rules.specs.Claim.{IsFeasible};
@@ -56,7 +55,7 @@ fn say_searched<K: Sink>(
     requires whole { whole.now ≡ expanded problem.now plan.now }
     requires some { 1 ≤ budget }
     requires few { budget ≤ 1000000 }
-    ensures { Ends (Tells (PeriodsWork budget problem.now plan.now)) (HasRisen (K.faults out.old) (K.faults out.new)) (K.written out.old) (K.written out.new) result }
+    ensures { Ends (Tells (PeriodsWork budget problem.now plan.now)) (K.state out.old) (K.state out.new) result }
 {
     let Ok(graph) = Graph::of(alloc, whole) else {
         return say_memory(out);
@@ -87,7 +86,7 @@ pub fn say_least<K: Sink>(
     requires plan { IsPlan problem.now plan.now }
     requires some { 1 ≤ budget }
     requires few { budget ≤ 1000000 }
-    ensures { Ends (Tells (PeriodsWork budget problem.now plan.now)) (HasRisen (K.faults out.old) (K.faults out.new)) (K.written out.old) (K.written out.new) result }
+    ensures { Ends (Tells (PeriodsWork budget problem.now plan.now)) (K.state out.old) (K.state out.new) result }
 {
     match expand(alloc, problem, plan) {
         Ok(whole) => say_searched(alloc, out, problem, plan, &whole, budget),

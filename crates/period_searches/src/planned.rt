@@ -1,7 +1,6 @@
 //! The command `periods`.
-ghost use Rattle.std.specs.Prelude.{◌≡◌, ◌⊎◌, ◌≤◌};
-ghost use Rattle.text_rules.specs.Outside.{HasRisen};
-ghost use Rattle.studio_rules.specs.Reading.{OnFile};
+ghost use Rattle.std.specs.Prelude.{◌≡◌, ◌≤◌};
+ghost use Rattle.studio_rules.specs.Reading.{TwoFilesSay};
 ghost use Rattle.studio_rules.specs.Plan.{OnPlan};
 ghost use Rattle.studio_rules.specs.Ending.{Ends, Says};
 ghost use Rattle.studio_rules.specs.Periods.{PeriodsWork};
@@ -23,8 +22,7 @@ fn say_planned<F: Shelf, K: Sink>(
 ) -> Status
     requires some { 1 ≤ budget }
     requires few { budget ≤ 1000000 }
-    ensures { Ends (Says (OnPlan (PeriodsWork budget) (F.held shelf.old) plan.now problem.now) (λ other. other ≡ plan.now) (record { held = F.held shelf.old; before = F.faults shelf.old; after = F.faults shelf.new }))
-        (HasRisen (K.faults out.old) (K.faults out.new)) (K.written out.old) (K.written out.new) result }
+    ensures { Ends (Says (OnPlan (PeriodsWork budget) (F.state shelf.old).held plan.now problem.now) (λ other. other ≡ plan.now) (F.state shelf.old) (F.state shelf.new)) (K.state out.old) (K.state out.new) result }
 {
     match plan_of(alloc, shelf, out, plan, problem) {
         Ok(plan) => say_least(alloc, out, problem, &plan, budget),
@@ -44,8 +42,7 @@ pub fn periods<F: Shelf, K: Sink>(
 ) -> Status
     requires some { 1 ≤ budget }
     requires few { budget ≤ 1000000 }
-    ensures { Ends (Says (OnFile (OnPlan (PeriodsWork budget) (F.held shelf.old) plan.now) (F.held shelf.old) file.now) (λ other. (other ≡ file.now) ⊎ (other ≡ plan.now)) (record { held = F.held shelf.old; before = F.faults shelf.old; after = F.faults shelf.new }))
-        (HasRisen (K.faults out.old) (K.faults out.new)) (K.written out.old) (K.written out.new) result }
+    ensures { Ends (TwoFilesSay (OnPlan (PeriodsWork budget)) file.now plan.now (F.state shelf.old) (F.state shelf.new)) (K.state out.old) (K.state out.new) result }
 {
     match problem_of(alloc, shelf, out, file) {
         Ok(problem) => say_planned(alloc, &problem, plan, budget, shelf, out),

@@ -100,9 +100,7 @@ impl<'a, R: Files> FileShelf<'a, R> {
 }
 
 impl<'a, R: Files> Shelf for FileShelf<'a, R> {
-    ghost held = { λ _ _. None };
-
-    ghost faults = { λ failed _. failed };
+    ghost state = { λ failed. record { held = λ _. None; faults = λ _. failed } };
 
     fn read(&mut self, name: &str, at: u64, into: &mut [u8]) -> Result<usize, Failed>
         ensures count { IfOk result (λ k. k ≤ length into.new) }

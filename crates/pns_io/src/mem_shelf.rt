@@ -47,9 +47,7 @@ impl MemShelf {
 }
 
 impl Shelf for MemShelf {
-    ghost held = { λ shelf name. Some (file_of shelf.files name) };
-
-    ghost faults = { λ shelf name. shelf.failed };
+    ghost state = { λ shelf. record { held = λ name. Some (file_of shelf.files name); faults = λ _. shelf.failed } };
 
     fn read(&mut self, name: &str, at: u64, into: &mut [u8]) -> Result<usize, Failed>
         ensures count { IfOk result (λ k. k ≤ length into.new) }

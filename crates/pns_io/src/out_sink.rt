@@ -32,9 +32,7 @@ impl<'a, R: Print> OutSink<'a, R> {
 }
 
 impl<'a, R: Print> Sink for OutSink<'a, R> {
-    ghost written = { λ _. None };
-
-    ghost faults = { λ failed. failed };
+    ghost state = { λ failed. record { written = None; faults = failed } };
 
     fn put(&mut self, bytes: &[u8]) -> Result<(), Failed>
         ensures ok { OnOk result (Appends None None bytes.now) }

@@ -32,9 +32,7 @@ impl PlainShelf {
 }
 
 impl Shelf for PlainShelf {
-    ghost held = { λ shelf name. Some (Some (file_or_empty shelf name)) };
-
-    ghost faults = { λ shelf name. 0 };
+    ghost state = { λ shelf. record { held = λ name. Some (Some (file_or_empty shelf name)); faults = λ _. 0 } };
 
     fn read(&mut self, name: &str, at: u64, into: &mut [u8]) -> Result<usize, Failed>
         ensures never_fails { IsOk result }

@@ -15,9 +15,7 @@ impl PlainSink {
 }
 
 impl Sink for PlainSink {
-    ghost written = { λ _. None };
-
-    ghost faults = { λ _. 0 };
+    ghost state = { λ _. record { written = None; faults = 0 } };
 
     fn put(&mut self, _: &[u8]) -> Result<(), Failed>
         ensures never_fails { IsOk result }

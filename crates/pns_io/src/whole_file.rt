@@ -32,12 +32,12 @@ pub fn read_all<F: Shelf>(
     limit: u64,
 ) -> Result<Vec<u8>, ReadAllFault>
     requires { limit < 2 ^ 32 }
-    ensures whole { IfOk result (λ bytes. IfTold (F.held shelf.old name.now) (λ file. bytes.items ≡ file)) }
+    ensures whole { IfOk result (λ bytes. IfTold ((F.state shelf.old).held name.now) (λ file. bytes.items ≡ file)) }
     ensures within { IfOk result (λ bytes. vec_len bytes ≤ limit) }
-    ensures too_long { IsErrOf result ReadAllFault.TooLong → IfTold (F.held shelf.old name.now) (λ file. limit < length file) }
-    ensures fault { IsErrOf result ReadAllFault.ReadFault → HasRisen (F.faults shelf.old name.now) (F.faults shelf.new name.now) }
-    ensures later { (other : List ℕ) → F.faults shelf.old other ≤ F.faults shelf.new other }
-    ensures keeps { (other : List ℕ) → F.held shelf.new other ≡ F.held shelf.old other }
+    ensures too_long { IsErrOf result ReadAllFault.TooLong → IfTold ((F.state shelf.old).held name.now) (λ file. limit < length file) }
+    ensures fault { IsErrOf result ReadAllFault.ReadFault → HasRisen ((F.state shelf.old).faults name.now) ((F.state shelf.new).faults name.now) }
+    ensures later { (other : List ℕ) → (F.state shelf.old).faults other ≤ (F.state shelf.new).faults other }
+    ensures keeps { (other : List ℕ) → (F.state shelf.new).held other ≡ (F.state shelf.old).held other }
 {
     let Ok(mut chunk) = vec![in alloc; 0u8; CHUNK] else {
         return Err(ReadAllFault::Memory);
@@ -55,12 +55,12 @@ fn read_through<F: Shelf>(
 ) -> Result<Vec<u8>, ReadAllFault>
     requires small { limit < 2 ^ 32 }
     requires room { 0 < length chunk.old }
-    ensures whole { IfOk result (λ bytes. IfTold (F.held shelf.old name.now) (λ file. bytes.items ≡ file)) }
+    ensures whole { IfOk result (λ bytes. IfTold ((F.state shelf.old).held name.now) (λ file. bytes.items ≡ file)) }
     ensures within { IfOk result (λ bytes. vec_len bytes ≤ limit) }
-    ensures too_long { IsErrOf result ReadAllFault.TooLong → IfTold (F.held shelf.old name.now) (λ file. limit < length file) }
-    ensures fault { IsErrOf result ReadAllFault.ReadFault → HasRisen (F.faults shelf.old name.now) (F.faults shelf.new name.now) }
-    ensures later { (other : List ℕ) → F.faults shelf.old other ≤ F.faults shelf.new other }
-    ensures keeps { (other : List ℕ) → F.held shelf.new other ≡ F.held shelf.old other }
+    ensures too_long { IsErrOf result ReadAllFault.TooLong → IfTold ((F.state shelf.old).held name.now) (λ file. limit < length file) }
+    ensures fault { IsErrOf result ReadAllFault.ReadFault → HasRisen ((F.state shelf.old).faults name.now) ((F.state shelf.new).faults name.now) }
+    ensures later { (other : List ℕ) → (F.state shelf.old).faults other ≤ (F.state shelf.new).faults other }
+    ensures keeps { (other : List ℕ) → (F.state shelf.new).held other ≡ (F.state shelf.old).held other }
 {
     let most = limit as usize;
     let mut bytes: Vec<u8> = Vec::new(alloc);
@@ -85,11 +85,11 @@ fn read_piece<F: Shelf>(
     requires small { vec_len bytes.old ≤ 2 ^ 32 }
     requires room { 0 < length piece.old }
     ensures grows { IfOk result (λ k. (vec_len bytes.new ≡ vec_len bytes.old + k) × (k ≤ length piece.new)) }
-    ensures told { IfOk result (λ k. IfTold (F.held shelf.old name.now) (λ file. Continues file bytes.old.items bytes.new.items k)) }
+    ensures told { IfOk result (λ k. IfTold ((F.state shelf.old).held name.now) (λ file. Continues file bytes.old.items bytes.new.items k)) }
     ensures no_limit { IsErrOf result ReadAllFault.TooLong → ⊥ }
-    ensures fault { IsErrOf result ReadAllFault.ReadFault → HasRisen (F.faults shelf.old name.now) (F.faults shelf.new name.now) }
-    ensures later { (other : List ℕ) → F.faults shelf.old other ≤ F.faults shelf.new other }
-    ensures keeps { (other : List ℕ) → F.held shelf.new other ≡ F.held shelf.old other }
+    ensures fault { IsErrOf result ReadAllFault.ReadFault → HasRisen ((F.state shelf.old).faults name.now) ((F.state shelf.new).faults name.now) }
+    ensures later { (other : List ℕ) → (F.state shelf.old).faults other ≤ (F.state shelf.new).faults other }
+    ensures keeps { (other : List ℕ) → (F.state shelf.new).held other ≡ (F.state shelf.old).held other }
 {
     let Ok(count) = shelf.read(name, bytes.len() as u64, piece) else {
         return Err(ReadAllFault::ReadFault);

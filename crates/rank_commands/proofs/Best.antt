@@ -1,12 +1,13 @@
 -- Networks whose tree is accepted are the best.
-use Rattle.std.proofs.Common.{◌≡◌, ◌⊎◌, ℕ, List, Option, inl, inr, subst}
+use Rattle.std.proofs.Common.{◌≡◌, ℕ, List, inl, inr, subst}
 use Rattle.problem_rules.specs.Problem.{Problem}
 use Rattle.problem_rules.specs.Validity.{IsValid}
 use Rattle.rank_rules.specs.Ranked.{IsRanked}
 use Rattle.rank_laws.specs.Laws.{ListedAreLeast, OthersCostEnough, OthersHaveNone}
 use Rattle.rank_rules.specs.Text.{Text, ranking_of}
-use Rattle.studio_rules.specs.Reading.{OnFile}
-use Rattle.studio_rules.specs.Ending.{Shelves, Ends, Says}
+use Rattle.studio_rules.specs.Reading.{TwoFilesSay}
+use Rattle.io_rules.specs.State.{ShelfState, SinkState}
+use Rattle.studio_rules.specs.Ending.{Ends}
 use Rattle.studio_rules.specs.declared.status.Status.{Status}
 use Rattle.studio_rules.specs.declared.status.Status.TheVariants.{Done}
 use Rattle.studio_rules.specs.Rankcheck.{OnRank, AreBest, FilesListBest, AcceptedAreBest}
@@ -40,7 +41,7 @@ module _ (listed : ListedAreLeast) (full : OthersCostEnough) (fewer : OthersHave
       }
 
 -- what is out with status 0 is such an answer
-pub done_ends : AcceptedAreBest → (shelves : Shelves) (file rank : List ℕ) (risen : Type 0) (old new : Option (List ℕ)) (s : Status) → Ends (Says (OnFile (OnRank shelves.held rank) shelves.held file) (λ other. (other ≡ file) ⊎ (other ≡ rank)) shelves) risen old new s → s ≡ Done → FilesListBest shelves.held file rank
-done_ends law shelves file rank risen old new s e done =
-    let said = subst (λ (t : Status). Ends (Says (OnFile (OnRank shelves.held rank) shelves.held file) (λ other. (other ≡ file) ⊎ (other ≡ rank)) shelves) risen old new t) done e in
-    law shelves.held file rank said.1.0 said.1.1
+pub done_ends : AcceptedAreBest → (old new : ShelfState) (file rank : List ℕ) (before after : SinkState) (s : Status) → Ends (TwoFilesSay OnRank file rank old new) before after s → s ≡ Done → FilesListBest old.held file rank
+done_ends law old new file rank before after s e done =
+    let said = subst (λ (t : Status). Ends (TwoFilesSay OnRank file rank old new) before after t) done e in
+    law old.held file rank said.1.0 said.1.1

@@ -1,9 +1,8 @@
 //! The command `rankcheck`.
-ghost use Rattle.std.specs.Prelude.{◌≡◌, ◌<◌, ◌^◌, ◌⊎◌, IfOk, length, string_bytes};
-ghost use Rattle.text_rules.specs.Outside.{HasRisen};
+ghost use Rattle.std.specs.Prelude.{◌≡◌, ◌<◌, ◌^◌, IfOk, length, string_bytes};
 ghost use Rattle.studio_rules.specs.Lines.{line};
 ghost use Rattle.studio_rules.specs.RankWords.{network_line, rank_node_line};
-ghost use Rattle.studio_rules.specs.Reading.{OnFile};
+ghost use Rattle.studio_rules.specs.Reading.{TwoFilesSay};
 ghost use Rattle.studio_rules.specs.Rankcheck.{RankcheckWork, OnRank, FilesListBest, AcceptedAreBest};
 ghost use Rattle.studio_rules.specs.Ending.{Ends, Says, Tells, Only, OrMemory};
 ghost use Rattle.studio_rules.specs.declared.status.Status.TheVariants.{Done, Refused};
@@ -45,7 +44,7 @@ fn node_line(alloc: Global, node: u32, why: RankWhy) -> Result<String, AllocErro
 }
 
 fn say_network<K: Sink>(alloc: Global, out: &mut K, number: u32, why: RankWhy) -> Status
-    ensures { Ends (OrMemory (Only Refused (line (network_line number why)))) (HasRisen (K.faults out.old) (K.faults out.new)) (K.written out.old) (K.written out.new) result }
+    ensures { Ends (OrMemory (Only Refused (line (network_line number why)))) (K.state out.old) (K.state out.new) result }
 {
     match network_line(alloc, number, why) {
         Ok(text) => say(out, text.as_bytes(), Status::Refused),
@@ -54,7 +53,7 @@ fn say_network<K: Sink>(alloc: Global, out: &mut K, number: u32, why: RankWhy) -
 }
 
 fn say_node<K: Sink>(alloc: Global, out: &mut K, node: u32, why: RankWhy) -> Status
-    ensures { Ends (OrMemory (Only Refused (line (rank_node_line node why)))) (HasRisen (K.faults out.old) (K.faults out.new)) (K.written out.old) (K.written out.new) result }
+    ensures { Ends (OrMemory (Only Refused (line (rank_node_line node why)))) (K.state out.old) (K.state out.new) result }
 {
     match node_line(alloc, node, why) {
         Ok(text) => say(out, text.as_bytes(), Status::Refused),
@@ -65,7 +64,7 @@ fn say_node<K: Sink>(alloc: Global, out: &mut K, node: u32, why: RankWhy) -> Sta
 /// Says whether the tree proves the ranking, or else the first network or the first node that fails.
 fn say_checked<K: Sink>(alloc: Global, out: &mut K, problem: &Problem, text: &RankText) -> Status
     requires few { length text.now.tree < 2 ^ 32 }
-    ensures { Ends (Tells (RankcheckWork problem.now text.now)) (HasRisen (K.faults out.old) (K.faults out.new)) (K.written out.old) (K.written out.new) result }
+    ensures { Ends (Tells (RankcheckWork problem.now text.now)) (K.state out.old) (K.state out.new) result }
 {
     let Ok(graph) = Graph::of(alloc, problem) else {
         return say_memory(out);
@@ -85,8 +84,7 @@ fn say_rank<F: Shelf, K: Sink>(
     shelf: &mut F,
     out: &mut K,
 ) -> Status
-    ensures { Ends (Says (OnRank (F.held shelf.old) name.now problem.now) (λ other. other ≡ name.now) (record { held = F.held shelf.old; before = F.faults shelf.old; after = F.faults shelf.new }))
-        (HasRisen (K.faults out.old) (K.faults out.new)) (K.written out.old) (K.written out.new) result }
+    ensures { Ends (Says (OnRank (F.state shelf.old).held name.now problem.now) (λ other. other ≡ name.now) (F.state shelf.old) (F.state shelf.new)) (K.state out.old) (K.state out.new) result }
 {
     match rank_of(alloc, shelf, out, name, problem) {
         Ok(text) => say_checked(alloc, out, problem, &text),
@@ -110,10 +108,9 @@ pub fn rankcheck<F: Shelf, K: Sink>(
     shelf: &mut F,
     out: &mut K,
 ) -> Status
-    ensures ends { Ends (Says (OnFile (OnRank (F.held shelf.old) rank.now) (F.held shelf.old) file.now) (λ other. (other ≡ file.now) ⊎ (other ≡ rank.now)) (record { held = F.held shelf.old; before = F.faults shelf.old; after = F.faults shelf.new }))
-        (HasRisen (K.faults out.old) (K.faults out.new)) (K.written out.old) (K.written out.new) result }
+    ensures ends { Ends (TwoFilesSay OnRank file.now rank.now (F.state shelf.old) (F.state shelf.new)) (K.state out.old) (K.state out.new) result }
     // With status 0 the one file gives a valid problem and the other networks, which are the best.
-    ensures accepted { result ≡ Done → FilesListBest (F.held shelf.old) file.now rank.now }
+    ensures accepted { result ≡ Done → FilesListBest (F.state shelf.old).held file.now rank.now }
 {
     accepted_are_best();
     match problem_of(alloc, shelf, out, file) {

@@ -1,6 +1,5 @@
 //! A file that has a ranking: it is read and judged by its grammar.
 ghost use Rattle.std.specs.Prelude.{◌≡◌, ◌≤◌, ◌<◌, ◌^◌, ℕ, List, IfOk, IfErr, OnOk, length, string_bytes};
-ghost use Rattle.text_rules.specs.Outside.{HasRisen};
 ghost use Rattle.studio_rules.specs.Lines.{line};
 ghost use Rattle.rank_text.specs.Known.{KnowsText};
 ghost use Rattle.studio_rules.specs.Reading.{AreHeld};
@@ -35,7 +34,7 @@ fn fault_line(alloc: Global, number: u32, kind: TreeKind) -> Result<String, Allo
 }
 
 fn say_fault<K: Sink>(alloc: Global, out: &mut K, number: u32, kind: TreeKind) -> Status
-    ensures { Ends (OrMemory (Only BadTree (line (tree_fault_line number kind)))) (HasRisen (K.faults out.old) (K.faults out.new)) (K.written out.old) (K.written out.new) result }
+    ensures { Ends (OrMemory (Only BadTree (line (tree_fault_line number kind)))) (K.state out.old) (K.state out.new) result }
 {
     match fault_line(alloc, number, kind) {
         Ok(text) => say(out, text.as_bytes(), Status::BadTree),
@@ -52,14 +51,13 @@ pub(crate) fn rank_of<F: Shelf, K: Sink>(
     name: &str,
     problem: &Problem,
 ) -> Result<RankText, Status>
-    ensures ranking { IfOk result (λ t. (file : List ℕ) × AreHeld (F.held shelf.old name.now) file × GivesRanking problem.now file t) }
+    ensures ranking { IfOk result (λ t. (file : List ℕ) × AreHeld ((F.state shelf.old).held name.now) file × GivesRanking problem.now file t) }
     ensures few { IfOk result (λ t. length t.tree < 2 ^ 32) }
     ensures known { IfOk result (KnowsText problem.now) }
     ensures silent { OnOk result (out.new ≡ out.old) }
-    ensures later { (other : List ℕ) → F.faults shelf.old other ≤ F.faults shelf.new other }
-    ensures keeps { (other : List ℕ) → F.held shelf.new other ≡ F.held shelf.old other }
-    ensures told { IfErr result (Ends (Says (RankFaults (F.held shelf.old) name.now problem.now) (λ other. other ≡ name.now) (record { held = F.held shelf.old; before = F.faults shelf.old; after = F.faults shelf.new }))
-        (HasRisen (K.faults out.old) (K.faults out.new)) (K.written out.old) (K.written out.new)) }
+    ensures later { (other : List ℕ) → (F.state shelf.old).faults other ≤ (F.state shelf.new).faults other }
+    ensures keeps { (other : List ℕ) → (F.state shelf.new).held other ≡ (F.state shelf.old).held other }
+    ensures told { IfErr result (Ends (Says (RankFaults (F.state shelf.old).held name.now problem.now) (λ other. other ≡ name.now) (F.state shelf.old) (F.state shelf.new)) (K.state out.old) (K.state out.new)) }
 {
     let bytes = match bytes_of(alloc, shelf, out, name, RANK_LIMIT) {
         Ok(bytes) => bytes,

@@ -1,9 +1,8 @@
 //! The command `rank`.
-ghost use Rattle.std.specs.Prelude.{◌≡◌, ◌≤◌};
-ghost use Rattle.text_rules.specs.Outside.{HasRisen};
+ghost use Rattle.std.specs.Prelude.{◌≤◌};
 ghost use Rattle.studio_rules.specs.Rank.{RankWork};
-ghost use Rattle.studio_rules.specs.Reading.{OnFile};
-ghost use Rattle.studio_rules.specs.Ending.{Ends, Says, Tells};
+ghost use Rattle.studio_rules.specs.Reading.{FileSays};
+ghost use Rattle.studio_rules.specs.Ending.{Ends, Tells};
 
 use crate::ranking::say_found;
 use command_files::problem_of;
@@ -27,7 +26,7 @@ fn say_ranked<K: Sink>(
     requires within { count ≤ 1000 }
     requires some { 1 ≤ budget }
     requires few { budget ≤ 1000000 }
-    ensures { Ends (Tells (RankWork count budget problem.now)) (HasRisen (K.faults out.old) (K.faults out.new)) (K.written out.old) (K.written out.new) result }
+    ensures { Ends (Tells (RankWork count budget problem.now)) (K.state out.old) (K.state out.new) result }
 {
     let Ok(graph) = Graph::of(alloc, problem) else {
         return say_memory(out);
@@ -52,8 +51,7 @@ pub fn rank<F: Shelf, K: Sink>(
     requires within { count ≤ 1000 }
     requires some { 1 ≤ budget }
     requires few { budget ≤ 1000000 }
-    ensures { Ends (Says (OnFile (RankWork count budget) (F.held shelf.old) file.now) (λ other. other ≡ file.now) (record { held = F.held shelf.old; before = F.faults shelf.old; after = F.faults shelf.new }))
-        (HasRisen (K.faults out.old) (K.faults out.new)) (K.written out.old) (K.written out.new) result }
+    ensures { Ends (FileSays (RankWork count budget) file.now (F.state shelf.old) (F.state shelf.new)) (K.state out.old) (K.state out.new) result }
 {
     match problem_of(alloc, shelf, out, file) {
         Ok(problem) => say_ranked(alloc, out, &problem, count, budget),

@@ -1,6 +1,5 @@
 //! The text of what a search for the best networks found.
 ghost use Rattle.std.specs.Prelude.{◌≡◌, ◌<◌, ◌^◌, ℕ, Ok, length, map};
-ghost use Rattle.text_rules.specs.Outside.{HasRisen};
 ghost use Rattle.problem_rules.specs.Each.{Each};
 ghost use Rattle.branch_tree.specs.Sized.{IsKept};
 ghost use Rattle.ranked_tree.specs.View.{mark_of};
@@ -93,7 +92,7 @@ fn reads_back(problem: &Problem, text: &RankText)
 fn say_ranking<K: Sink>(alloc: Global, out: &mut K, problem: &Problem, text: &RankText) -> Status
     requires known { KnowsText problem.now text.now }
     requires few { length text.now.tree < 2 ^ 32 }
-    ensures { Ends (Tells (RankingSays problem.now text.now)) (HasRisen (K.faults out.old) (K.faults out.new)) (K.written out.old) (K.written out.new) result }
+    ensures { Ends (Tells (RankingSays problem.now text.now)) (K.state out.old) (K.state out.new) result }
 {
     reads_back(problem, text);
     let printed = print_rank(alloc, problem, text, out);
@@ -108,7 +107,7 @@ pub(crate) fn say_found<K: Sink>(
     ranked: Ranked,
 ) -> Status
     requires { (count : ℕ) × (budget : ℕ) × IsRankedTo problem.now count budget ranked }
-    ensures { Ends (Tells (FoundSays problem.now ranked)) (HasRisen (K.faults out.old) (K.faults out.new)) (K.written out.old) (K.written out.new) result }
+    ensures { Ends (Tells (FoundSays problem.now ranked)) (K.state out.old) (K.state out.new) result }
 {
     match ranking_found(ranked) {
         Some(text) => say_ranking(alloc, out, problem, &text),

@@ -27,8 +27,8 @@ fn put_named<K: Sink>(
     scaled: &Scaled,
     out: &mut K,
 ) -> Result<(), PrintFault>
-    ensures prints { Prints ((named_word ∷ decimal network ∷ signed_decimal scaled.now.d ∷ map signed_decimal scaled.now.ys) ∷ []) (K.written out.old) (K.written out.new) (K.faults out.old) (K.faults out.new) result }
-    ensures later { K.faults out.old ≤ K.faults out.new }
+    ensures prints { Prints ((named_word ∷ decimal network ∷ signed_decimal scaled.now.d ∷ map signed_decimal scaled.now.ys) ∷ []) (K.state out.old) (K.state out.new) result }
+    ensures later { (K.state out.old).faults ≤ (K.state out.new).faults }
 {
     let mut line = String::new(alloc);
     let made = named_line(&mut line, network, scaled);
@@ -36,8 +36,8 @@ fn put_named<K: Sink>(
 }
 
 fn put_count<K: Sink>(alloc: Global, word: &str, count: u32, out: &mut K) -> Result<(), PrintFault>
-    ensures prints { Prints ((word.now ∷ decimal count ∷ []) ∷ []) (K.written out.old) (K.written out.new) (K.faults out.old) (K.faults out.new) result }
-    ensures later { K.faults out.old ≤ K.faults out.new }
+    ensures prints { Prints ((word.now ∷ decimal count ∷ []) ∷ []) (K.state out.old) (K.state out.new) result }
+    ensures later { (K.state out.old).faults ≤ (K.state out.new).faults }
 {
     let mut line = String::new(alloc);
     let made = count_line(&mut line, word, count);
@@ -51,8 +51,8 @@ fn put_mark<K: Sink>(
     mark: &Mark,
     out: &mut K,
 ) -> Result<(), PrintFault>
-    ensures prints { Prints (end_line problem.now (leaf (marked_leaf (mark_of mark.now))) ∷ []) (K.written out.old) (K.written out.new) (K.faults out.old) (K.faults out.new) result }
-    ensures later { K.faults out.old ≤ K.faults out.new }
+    ensures prints { Prints (end_line problem.now (leaf (marked_leaf (mark_of mark.now))) ∷ []) (K.state out.old) (K.state out.new) result }
+    ensures later { (K.state out.old).faults ≤ (K.state out.new).faults }
 {
     match mark {
         Mark::Named { network, scaled } => put_named(alloc, *network, scaled, out),
@@ -68,8 +68,8 @@ fn put_open<K: Sink>(
     at: usize,
     out: &mut K,
 ) -> Result<(), PrintFault>
-    ensures prints { Prints (end_line problem.now (leaf (marked_leaf (first_mark (drop at (map mark_of marks.now))))) ∷ []) (K.written out.old) (K.written out.new) (K.faults out.old) (K.faults out.new) result }
-    ensures later { K.faults out.old ≤ K.faults out.new }
+    ensures prints { Prints (end_line problem.now (leaf (marked_leaf (first_mark (drop at (map mark_of marks.now))))) ∷ []) (K.state out.old) (K.state out.new) result }
+    ensures later { (K.state out.old).faults ≤ (K.state out.new).faults }
 {
     if at < marks.len() {
         let mark = &marks[at];
@@ -89,8 +89,8 @@ fn put_marked<K: Sink>(
     out: &mut K,
 ) -> Result<(), PrintFault>
     requires known { KnowsEnd problem.now (end_of end.now) }
-    ensures prints { Prints (end_line problem.now (marked_end (drop at (map mark_of marks.now)) (end_of end.now)) ∷ []) (K.written out.old) (K.written out.new) (K.faults out.old) (K.faults out.new) result }
-    ensures later { K.faults out.old ≤ K.faults out.new }
+    ensures prints { Prints (end_line problem.now (marked_end (drop at (map mark_of marks.now)) (end_of end.now)) ∷ []) (K.state out.old) (K.state out.new) result }
+    ensures later { (K.state out.old).faults ≤ (K.state out.new).faults }
 {
     match end {
         End::Open => put_open(alloc, problem, marks, at, out),
@@ -119,8 +119,8 @@ fn put_node<K: Sink>(
     out: &mut K,
 ) -> Result<(), PrintFault>
     requires known { KnowsNode problem.now node.now }
-    ensures prints { Prints (node_lines problem.now (marked_node (drop at (map mark_of marks.now)) node.now)) (K.written out.old) (K.written out.new) (K.faults out.old) (K.faults out.new) result }
-    ensures later { K.faults out.old ≤ K.faults out.new }
+    ensures prints { Prints (node_lines problem.now (marked_node (drop at (map mark_of marks.now)) node.now)) (K.state out.old) (K.state out.new) result }
+    ensures later { (K.state out.old).faults ≤ (K.state out.new).faults }
 {
     match print_head(alloc, problem, node.option, node.steps.steps(), out) {
         Ok(()) => put_marked(alloc, problem, &node.end, marks, at, out),
@@ -136,8 +136,8 @@ fn put_nodes<K: Sink>(
     out: &mut K,
 ) -> Result<(), PrintFault>
     requires known { KnowsTree problem.now nodes.now }
-    ensures prints { Prints (tree_lines problem.now (marked (map mark_of marks.now) nodes.now)) (K.written out.old) (K.written out.new) (K.faults out.old) (K.faults out.new) result }
-    ensures later { K.faults out.old ≤ K.faults out.new }
+    ensures prints { Prints (tree_lines problem.now (marked (map mark_of marks.now) nodes.now)) (K.state out.old) (K.state out.new) result }
+    ensures later { (K.state out.old).faults ≤ (K.state out.new).faults }
 {
     let mut at: usize = 0;
     'printing: for node in nodes {
@@ -157,8 +157,8 @@ fn put_networks<K: Sink>(
     out: &mut K,
 ) -> Result<(), PrintFault>
     requires known { Each (KnowsNetwork problem.now) networks.now }
-    ensures prints { Prints (flat_map (trees.network_lines problem.now) networks.now) (K.written out.old) (K.written out.new) (K.faults out.old) (K.faults out.new) result }
-    ensures later { K.faults out.old ≤ K.faults out.new }
+    ensures prints { Prints (flat_map (trees.network_lines problem.now) networks.now) (K.state out.old) (K.state out.new) result }
+    ensures later { (K.state out.old).faults ≤ (K.state out.new).faults }
 {
     'printing: for network in networks {
         match print_network(alloc, problem, network, out) {
@@ -177,8 +177,8 @@ fn put_grown<K: Sink>(
     out: &mut K,
 ) -> Result<(), PrintFault>
     requires known { KnowsText problem.now text.now }
-    ensures prints { Prints (grown_lines problem.now text.now) (K.written out.old) (K.written out.new) (K.faults out.old) (K.faults out.new) result }
-    ensures later { K.faults out.old ≤ K.faults out.new }
+    ensures prints { Prints (grown_lines problem.now text.now) (K.state out.old) (K.state out.new) result }
+    ensures later { (K.state out.old).faults ≤ (K.state out.new).faults }
 {
     match put_nodes(alloc, problem, text.tree().nodes(), text.marks(), out) {
         Ok(()) => print_tail(alloc, problem, text.tail(), out),
@@ -194,8 +194,8 @@ fn put_found<K: Sink>(
     out: &mut K,
 ) -> Result<(), PrintFault>
     requires known { KnowsText problem.now text.now }
-    ensures prints { Prints (flat_map (trees.network_lines problem.now) text.now.networks ++ grown_lines problem.now text.now) (K.written out.old) (K.written out.new) (K.faults out.old) (K.faults out.new) result }
-    ensures later { K.faults out.old ≤ K.faults out.new }
+    ensures prints { Prints (flat_map (trees.network_lines problem.now) text.now.networks ++ grown_lines problem.now text.now) (K.state out.old) (K.state out.new) result }
+    ensures later { (K.state out.old).faults ≤ (K.state out.new).faults }
 {
     match put_networks(alloc, problem, text.networks(), out) {
         Ok(()) => put_grown(alloc, problem, text, out),
@@ -218,8 +218,8 @@ fn put_counted<K: Sink>(
     out: &mut K,
 ) -> Result<(), PrintFault>
     requires known { KnowsText problem.now text.now }
-    ensures prints { Prints ((networks_word ∷ decimal (length text.now.networks) ∷ []) ∷ (flat_map (trees.network_lines problem.now) text.now.networks ++ grown_lines problem.now text.now)) (K.written out.old) (K.written out.new) (K.faults out.old) (K.faults out.new) result }
-    ensures later { K.faults out.old ≤ K.faults out.new }
+    ensures prints { Prints ((networks_word ∷ decimal (length text.now.networks) ∷ []) ∷ (flat_map (trees.network_lines problem.now) text.now.networks ++ grown_lines problem.now text.now)) (K.state out.old) (K.state out.new) result }
+    ensures later { (K.state out.old).faults ≤ (K.state out.new).faults }
 {
     let count = network_count(text);
     match put_count(alloc, "networks", count, out) {
@@ -236,8 +236,9 @@ fn put_behind<K: Sink>(
     out: &mut K,
 ) -> Result<(), PrintFault>
     requires known { KnowsText problem.now text.now }
-    ensures prints { Prints ((count_word ∷ decimal text.now.count ∷ []) ∷ (networks_word ∷ decimal (length text.now.networks) ∷ []) ∷ (flat_map (trees.network_lines problem.now) text.now.networks ++ grown_lines problem.now text.now)) (K.written out.old) (K.written out.new) (K.faults out.old) (K.faults out.new) result }
-    ensures later { K.faults out.old ≤ K.faults out.new }
+    ensures prints { Prints ((count_word ∷ decimal text.now.count ∷ []) ∷ (networks_word ∷ decimal (length text.now.networks) ∷ []) ∷ (flat_map (trees.network_lines problem.now) text.now.networks ++ grown_lines problem.now text.now))
+        (K.state out.old) (K.state out.new) result }
+    ensures later { (K.state out.old).faults ≤ (K.state out.new).faults }
 {
     match put_count(alloc, "count", text.count(), out) {
         Ok(()) => put_counted(alloc, problem, text, out),
@@ -254,8 +255,8 @@ pub fn print_rank<K: Sink>(
     out: &mut K,
 ) -> Result<(), PrintFault>
     requires known { KnowsText problem.now text.now }
-    ensures prints { Prints (rank_text_lines problem.now text.now) (K.written out.old) (K.written out.new) (K.faults out.old) (K.faults out.new) result }
-    ensures later { K.faults out.old ≤ K.faults out.new }
+    ensures prints { Prints (rank_text_lines problem.now text.now) (K.state out.old) (K.state out.new) result }
+    ensures later { (K.state out.old).faults ≤ (K.state out.new).faults }
 {
     let mut line = String::new(alloc);
     let made = begin(&mut line, "file_type=PNS_rank_v1");

@@ -1,6 +1,5 @@
 //! The words of causes, and the line of a node that is refused.
 ghost use Rattle.std.specs.Prelude.{◌≡◌, IfOk, string_bytes};
-ghost use Rattle.text_rules.specs.Outside.{HasRisen};
 ghost use Rattle.studio_rules.specs.Lines.{line};
 ghost use Rattle.studio_rules.specs.Ending.{Ends, Only, OrMemory};
 ghost use Rattle.studio_rules.specs.declared.status.Status.TheVariants.{Refused};
@@ -46,7 +45,7 @@ fn node_line(alloc: Global, node: u32, why: Why) -> Result<String, AllocError>
 
 /// Says that the node, counted from 0 in preorder, is refused, and why.
 pub fn say_node<K: Sink>(alloc: Global, out: &mut K, node: u32, why: Why) -> Status
-    ensures { Ends (OrMemory (Only Refused (line (node_line node why)))) (HasRisen (K.faults out.old) (K.faults out.new)) (K.written out.old) (K.written out.new) result }
+    ensures { Ends (OrMemory (Only Refused (line (node_line node why)))) (K.state out.old) (K.state out.new) result }
 {
     match node_line(alloc, node, why) {
         Ok(text) => say(out, text.as_bytes(), Status::Refused),

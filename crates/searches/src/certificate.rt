@@ -1,6 +1,5 @@
 //! What a search found, as a text of a claim, a tree and a tail.
 ghost use Rattle.std.specs.Prelude.{◌≡◌, ◌≤◌, ◌<◌, ◌^◌, ℕ, Ok, length};
-ghost use Rattle.text_rules.specs.Outside.{HasRisen};
 ghost use Rattle.tree_rules.specs.Known.{KnowsClaim, KnowsTree, KnowsTail};
 ghost use Rattle.branch_tree.specs.View.{claim_of, tail_of};
 ghost use Rattle.tree_rules.specs.Accepted.{first_node};
@@ -193,8 +192,8 @@ impl Certificate {
         requires claim { KnowsClaim problem.now self.now.claim }
         requires tree { KnowsTree problem.now self.now.tree }
         requires tail { KnowsTail problem.now self.now.tail }
-        ensures prints { Prints (tree_text_lines problem.now self.now.claim self.now.tree self.now.tail) (K.written out.old) (K.written out.new) (K.faults out.old) (K.faults out.new) result }
-        ensures later { K.faults out.old ≤ K.faults out.new }
+        ensures prints { Prints (tree_text_lines problem.now self.now.claim self.now.tree self.now.tail) (K.state out.old) (K.state out.new) result }
+        ensures later { (K.state out.old).faults ≤ (K.state out.new).faults }
     {
         print_tree(alloc, problem, &self.claim, &self.tree, &self.tail, out)
     }
@@ -205,7 +204,7 @@ impl Certificate {
         requires tree { KnowsTree problem.now self.now.tree }
         requires tail { KnowsTail problem.now self.now.tail }
         requires few { length self.now.tree < 2 ^ 32 }
-        ensures { Ends (Tells (CertificateSays problem.now self.now)) (HasRisen (K.faults out.old) (K.faults out.new)) (K.written out.old) (K.written out.new) result }
+        ensures { Ends (Tells (CertificateSays problem.now self.now)) (K.state out.old) (K.state out.new) result }
     {
         self.reads_back(problem);
         let printed = print_tree(alloc, problem, &self.claim, &self.tree, &self.tail, out);
@@ -216,7 +215,7 @@ impl Certificate {
 /// Prints what was found.
 pub fn say_found<K: Sink>(alloc: Global, out: &mut K, problem: &Problem, found: Found) -> Status
     requires { (budget : ℕ) × IsFound problem.now first_node budget found }
-    ensures { Ends (Tells (FoundSays problem.now found)) (HasRisen (K.faults out.old) (K.faults out.new)) (K.written out.old) (K.written out.new) result }
+    ensures { Ends (Tells (FoundSays problem.now found)) (K.state out.old) (K.state out.new) result }
 {
     match certificate_of(found) {
         Some(certificate) => certificate.say(alloc, out, problem),

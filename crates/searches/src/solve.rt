@@ -1,13 +1,12 @@
 //! The command `solve`: the text of a whole search.
 ghost use Rattle.std.specs.Prelude.{◌≡◌, ◌≤◌};
-ghost use Rattle.text_rules.specs.Outside.{HasRisen};
 ghost use Rattle.pns_rules.specs.Shape.{shape_of};
 ghost use Rattle.pgraph.specs.Tables.{shape};
 ghost use Rattle.tree_rules.specs.Accepted.{first_node};
 ghost use Rattle.abb_search.specs.Found.{IsFound};
 ghost use Rattle.studio_rules.specs.Solve.{SolveWork};
-ghost use Rattle.studio_rules.specs.Reading.{OnFile};
-ghost use Rattle.studio_rules.specs.Ending.{Ends, Says, Tells};
+ghost use Rattle.studio_rules.specs.Reading.{FileSays};
+ghost use Rattle.studio_rules.specs.Ending.{Ends, Tells};
 
 use crate::certificate::say_found;
 use abb_search::{Found, search};
@@ -39,7 +38,7 @@ pub fn search_all(alloc: Global, problem: &Problem, graph: &Graph, budget: u64) 
 pub fn say_solved<K: Sink>(alloc: Global, out: &mut K, problem: &Problem, budget: u64) -> Status
     requires some { 1 ≤ budget }
     requires few { budget ≤ 1000000 }
-    ensures { Ends (Tells (SolveWork budget problem.now)) (HasRisen (K.faults out.old) (K.faults out.new)) (K.written out.old) (K.written out.new) result }
+    ensures { Ends (Tells (SolveWork budget problem.now)) (K.state out.old) (K.state out.new) result }
 {
     let Ok(graph) = Graph::of(alloc, problem) else {
         return say_memory(out);
@@ -61,8 +60,7 @@ pub fn solve<F: Shelf, K: Sink>(
 ) -> Status
     requires some { 1 ≤ budget }
     requires few { budget ≤ 1000000 }
-    ensures { Ends (Says (OnFile (SolveWork budget) (F.held shelf.old) file.now) (λ other. other ≡ file.now) (record { held = F.held shelf.old; before = F.faults shelf.old; after = F.faults shelf.new }))
-        (HasRisen (K.faults out.old) (K.faults out.new)) (K.written out.old) (K.written out.new) result }
+    ensures { Ends (FileSays (SolveWork budget) file.now (F.state shelf.old) (F.state shelf.new)) (K.state out.old) (K.state out.new) result }
 {
     match problem_of(alloc, shelf, out, file) {
         Ok(problem) => say_solved(alloc, out, &problem, budget),

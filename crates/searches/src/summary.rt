@@ -1,7 +1,6 @@
 //! The summary of a whole search.
 ghost use Rattle.std.specs.Prelude.{◌≡◌, ◌≤◌, ◌++◌, ◌∷◌, [], ℕ, Bool, IfOk, codes, decimal, length, string_bytes};
 ghost use Rattle.std.specs.Fmt.{signed_decimal};
-ghost use Rattle.text_rules.specs.Outside.{HasRisen};
 ghost use Rattle.pns_rules.specs.Shape.{shape_of};
 ghost use Rattle.pns_rules.specs.Structure.{IsStructure};
 ghost use Rattle.pgraph.specs.Tables.{shape};
@@ -83,7 +82,7 @@ fn say_summary<K: Sink>(
 ) -> Status
     requires graph { shape graph.now ≡ shape_of problem.now }
     requires solves { Solves problem.now (claims.network network.now) tree.now }
-    ensures { Ends (Tells (SummarySays problem.now)) (HasRisen (K.faults out.old) (K.faults out.new)) (K.written out.old) (K.written out.new) result }
+    ensures { Ends (Tells (SummarySays problem.now)) (K.state out.old) (K.state out.new) result }
 {
     problem.is_valid();
     let most = maximal_count(problem, graph);
@@ -97,7 +96,7 @@ fn say_summary<K: Sink>(
 pub fn say_summed<K: Sink>(alloc: Global, out: &mut K, problem: &Problem, budget: u64) -> Status
     requires some { 1 ≤ budget }
     requires few { budget ≤ 1000000 }
-    ensures { Ends (Tells (SummaryWork budget problem.now)) (HasRisen (K.faults out.old) (K.faults out.new)) (K.written out.old) (K.written out.new) result }
+    ensures { Ends (Tells (SummaryWork budget problem.now)) (K.state out.old) (K.state out.new) result }
 {
     let Ok(graph) = Graph::of(alloc, problem) else {
         return say_memory(out);

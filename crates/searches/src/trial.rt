@@ -1,6 +1,5 @@
 //! The command `trial`.
 ghost use Rattle.std.specs.Prelude.{◌≤◌};
-ghost use Rattle.text_rules.specs.Outside.{HasRisen};
 ghost use Rattle.studio_rules.specs.Trial.{TrialWork};
 ghost use Rattle.studio_rules.specs.Ending.{Ends, Tells};
 
@@ -17,7 +16,7 @@ pub fn trial<K: Sink>(alloc: Global, number: u64, units: u64, budget: u64, out: 
     requires few { units ≤ 128 }
     requires some_nodes { 1 ≤ budget }
     requires few_nodes { budget ≤ 1000000 }
-    ensures { Ends (Tells (TrialWork number units budget)) (HasRisen (K.faults out.old) (K.faults out.new)) (K.written out.old) (K.written out.new) result }
+    ensures { Ends (Tells (TrialWork number units budget)) (K.state out.old) (K.state out.new) result }
 {
     match generate(alloc, number, units as u32) {
         Ok(problem) => say_summed(alloc, out, &problem, budget),

@@ -1,8 +1,9 @@
 -- Lines that are printed.
-use Rattle.std.proofs.Common.{ℕ, List, Option, Ok, Err, refl, subst}
+use Rattle.std.proofs.Common.{List, Ok, Err, refl, subst}
 use Rattle.std.specs.Io.KnownBytes.{Appends}
 use Rattle.tree_text.specs.declared.fault.PrintFault.TheVariants as faults
-use Rattle.text_rules.specs.Outside.{HasRisen, AppendsFront}
+use Rattle.text_rules.specs.Outside.{AppendsFront}
+use Rattle.io_rules.specs.State.{SinkState}
 use Rattle.tree_text_rules.specs.Line.{Token}
 use Rattle.tree_text.specs.Prints.{Prints}
 use Rattle.studio_rules.specs.Lines.{text_of}
@@ -12,8 +13,8 @@ use Rattle.studio_rules.specs.declared.status.Status.TheVariants.{NotBest, Write
 use Rattle.endings.proofs.Printing.{spelled_text}
 
 -- the text of a network that is not the best, as of other lines
-pub not_best_whole : (lines : List (List Token)) (risen : Type 0) (old new : Option (List ℕ)) (before after : ℕ) → Prints lines old new before after (Ok tt) → Ends (Tells (OneAnswer NotBest lines)) risen old new NotBest
-not_best_whole lines risen old new before after out = (text_of (spelled lines), (spelled lines, (refl, refl), refl), subst (Appends old new) (spelled_text lines) out.outcome)
+pub not_best_whole : (lines : List (List Token)) (old new : SinkState) → Prints lines old new (Ok tt) → Ends (Tells (OneAnswer NotBest lines)) old new NotBest
+not_best_whole lines old new out = (text_of (spelled lines), (spelled lines, (refl, refl), refl), subst (Appends old.written new.written) (spelled_text lines) out.outcome)
 
-pub not_best_front : (lines : List (List Token)) (old new : Option (List ℕ)) (before after : ℕ) → Prints lines old new before after (Err faults.WriteFault) → Ends (Tells (OneAnswer NotBest lines)) (HasRisen before after) old new WriteFault
-not_best_front lines old new before after out = (out.outcome.0, NotBest, text_of (spelled lines), (spelled lines, (refl, refl), refl), subst (AppendsFront old new) (spelled_text lines) out.outcome.1)
+pub not_best_front : (lines : List (List Token)) (old new : SinkState) → Prints lines old new (Err faults.WriteFault) → Ends (Tells (OneAnswer NotBest lines)) old new WriteFault
+not_best_front lines old new out = (out.outcome.0, NotBest, text_of (spelled lines), (spelled lines, (refl, refl), refl), subst (AppendsFront old.written new.written) (spelled_text lines) out.outcome.1)

@@ -1,14 +1,13 @@
 //! The command `stable`.
-ghost use Rattle.std.specs.Prelude.{◌≡◌, ◌≤◌, ◌⊎◌, ℕ, IfSome, length};
+ghost use Rattle.std.specs.Prelude.{◌≡◌, ◌≤◌, ℕ, IfSome, length};
 ghost use Rattle.number_sets.specs.Sets.{AreBelow};
-ghost use Rattle.text_rules.specs.Outside.{HasRisen};
 ghost use Rattle.pns_rules.specs.Shape.{shape_of};
 ghost use Rattle.pgraph.specs.Tables.{shape};
 ghost use Rattle.tree_rules.specs.Claim.{Network, IsFeasible};
 ghost use Rattle.tree_rules.specs.Accepted.{first_node};
 ghost use Rattle.branch_tree.specs.View.{claim_of};
 ghost use Rattle.abb_search.specs.Found.{IsFound};
-ghost use Rattle.studio_rules.specs.Reading.{OnFile};
+ghost use Rattle.studio_rules.specs.Reading.{TwoFilesSay};
 ghost use Rattle.studio_rules.specs.TreeFile.{OnTree};
 ghost use Rattle.studio_rules.specs.Network.{OnNetwork};
 ghost use Rattle.stability_rules.specs.Spot.{KnowsSpot, IsAllowedValue, valued};
@@ -60,7 +59,7 @@ fn spot_named(problem: &Problem, kind: SpotKind, name: &str) -> Option<Spot>
 /// Says that a network is not the best, and a cheaper one of least cost.
 fn say_not_best<K: Sink>(alloc: Global, out: &mut K, problem: &Problem, cheaper: &Network) -> Status
     requires { AreBelow (length problem.now.units) cheaper.now.units }
-    ensures { Ends (Tells (OneAnswer NotBest (not_best_lines problem.now cheaper.now))) (HasRisen (K.faults out.old) (K.faults out.new)) (K.written out.old) (K.written out.new) result }
+    ensures { Ends (Tells (OneAnswer NotBest (not_best_lines problem.now cheaper.now))) (K.state out.old) (K.state out.new) result }
 {
     match print_not_best(alloc, problem, cheaper, out) {
         Ok(()) => Status::NotBest,
@@ -71,7 +70,7 @@ fn say_not_best<K: Sink>(alloc: Global, out: &mut K, problem: &Problem, cheaper:
 
 /// Says that the network's cost is past the range at a value.
 fn say_past_cost<K: Sink>(alloc: Global, out: &mut K, value: i64, at: u32) -> Status
-    ensures { Ends (Tells (OneAnswer Past (past_cost_lines value at))) (HasRisen (K.faults out.old) (K.faults out.new)) (K.written out.old) (K.written out.new) result }
+    ensures { Ends (Tells (OneAnswer Past (past_cost_lines value at))) (K.state out.old) (K.state out.new) result }
 {
     let printed = print_past_cost(alloc, value, at, out);
     say_printed(out, printed, Status::Past)
@@ -89,7 +88,7 @@ fn say_stopped<K: Sink>(
     requires known { KnowsSpot problem.now spot }
     requires allowed { IsAllowedValue spot value }
     requires found { (budget : ℕ) × IsFound (valued problem.now spot value) first_node budget found }
-    ensures { Ends (Tells (StopSays (valued problem.now spot value) value found)) (HasRisen (K.faults out.old) (K.faults out.new)) (K.written out.old) (K.written out.new) result }
+    ensures { Ends (Tells (StopSays (valued problem.now spot value) value found)) (K.state out.old) (K.state out.new) result }
 {
     let Ok(other) = valued(alloc, problem, spot, value) else {
         return say_memory(out);
@@ -115,7 +114,7 @@ fn say_refusal<K: Sink>(
     requires known { KnowsSpot problem.now spot }
     requires refusal { (w : Network) × (budget : ℕ) × IsRefusal problem.now spot w budget fault }
     ensures { (w : Network) (budget : ℕ) → IsRefusal problem.now spot w budget fault
-        → Ends (Tells (SpotWork spot budget problem.now w)) (HasRisen (K.faults out.old) (K.faults out.new)) (K.written out.old) (K.written out.new) result }
+        → Ends (Tells (SpotWork spot budget problem.now w)) (K.state out.old) (K.state out.new) result }
 {
     problem.is_valid();
     valued_is_valid();
@@ -174,7 +173,7 @@ fn say_range<K: Sink>(
     requires known { KnowsSpot problem.now spot }
     requires some { 1 ≤ budget }
     requires few { budget ≤ 1000000 }
-    ensures { Ends (Tells (SpotWork spot budget problem.now network.now)) (HasRisen (K.faults out.old) (K.faults out.new)) (K.written out.old) (K.written out.new) result }
+    ensures { Ends (Tells (SpotWork spot budget problem.now network.now)) (K.state out.old) (K.state out.new) result }
 {
     structures_stay();
     match range(alloc, problem, graph, network, spot, budget as u32) {
@@ -199,7 +198,7 @@ fn say_claimed<K: Sink>(
     requires known { KnowsSpot problem.now spot }
     requires some { 1 ≤ budget }
     requires few { budget ≤ 1000000 }
-    ensures { Ends (Tells (OnNetwork (SpotWork spot budget) problem.now (claim_of claim) tree.now)) (HasRisen (K.faults out.old) (K.faults out.new)) (K.written out.old) (K.written out.new) result }
+    ensures { Ends (Tells (OnNetwork (SpotWork spot budget) problem.now (claim_of claim) tree.now)) (K.state out.old) (K.state out.new) result }
 {
     let Ok(graph) = Graph::of(alloc, problem) else {
         return say_memory(out);
@@ -223,7 +222,7 @@ fn say_named<K: Sink>(
     requires known { IfSome spot (KnowsSpot problem.now) }
     requires some { 1 ≤ budget }
     requires few { budget ≤ 1000000 }
-    ensures { Ends (Tells (NamedWork spot budget problem.now (claim_of claim) tree.now)) (HasRisen (K.faults out.old) (K.faults out.new)) (K.written out.old) (K.written out.new) result }
+    ensures { Ends (Tells (NamedWork spot budget problem.now (claim_of claim) tree.now)) (K.state out.old) (K.state out.new) result }
 {
     match spot {
         Some(spot) => say_claimed(alloc, out, problem, claim, tree, spot, budget),
@@ -244,8 +243,7 @@ fn say_tree<F: Shelf, K: Sink>(
 ) -> Status
     requires some { 1 ≤ budget }
     requires few { budget ≤ 1000000 }
-    ensures { Ends (Says (OnTree (StableWork kind name.now budget) (F.held shelf.old) file.now problem.now) (λ other. other ≡ file.now) (record { held = F.held shelf.old; before = F.faults shelf.old; after = F.faults shelf.new }))
-        (HasRisen (K.faults out.old) (K.faults out.new)) (K.written out.old) (K.written out.new) result }
+    ensures { Ends (Says (OnTree (StableWork kind name.now budget) (F.state shelf.old).held file.now problem.now) (λ other. other ≡ file.now) (F.state shelf.old) (F.state shelf.new)) (K.state out.old) (K.state out.new) result }
 {
     match tree_of(alloc, shelf, out, file, problem) {
         Ok((claim, tree)) => {
@@ -270,8 +268,7 @@ pub fn stable<F: Shelf, K: Sink>(
 ) -> Status
     requires some { 1 ≤ budget }
     requires few { budget ≤ 1000000 }
-    ensures { Ends (Says (OnFile (OnTree (StableWork kind name.now budget) (F.held shelf.old) tree.now) (F.held shelf.old) file.now) (λ other. (other ≡ file.now) ⊎ (other ≡ tree.now)) (record { held = F.held shelf.old; before = F.faults shelf.old; after = F.faults shelf.new }))
-        (HasRisen (K.faults out.old) (K.faults out.new)) (K.written out.old) (K.written out.new) result }
+    ensures { Ends (TwoFilesSay (OnTree (StableWork kind name.now budget)) file.now tree.now (F.state shelf.old) (F.state shelf.new)) (K.state out.old) (K.state out.new) result }
 {
     match problem_of(alloc, shelf, out, file) {
         Ok(problem) => say_tree(alloc, &problem, tree, kind, name, budget, shelf, out),

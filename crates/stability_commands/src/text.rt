@@ -27,8 +27,8 @@ fn number_line(alloc: Global, head: &str, number: i64) -> Result<String, AllocEr
 
 /// Puts a line, which has its line feed.
 fn put<K: Sink>(out: &mut K, line: &[u8]) -> Result<(), PrintFault>
-    ensures prints { (tokens : List Token) → line.now ≡ line_text tokens → Prints (tokens ∷ []) (K.written out.old) (K.written out.new) (K.faults out.old) (K.faults out.new) result }
-    ensures later { K.faults out.old ≤ K.faults out.new }
+    ensures prints { (tokens : List Token) → line.now ≡ line_text tokens → Prints (tokens ∷ []) (K.state out.old) (K.state out.new) result }
+    ensures later { (K.state out.old).faults ≤ (K.state out.new).faults }
 {
     match out.put(line) {
         Ok(()) => Ok(()),
@@ -43,8 +43,8 @@ fn put_number<K: Sink>(
     head: &str,
     number: i64,
 ) -> Result<(), PrintFault>
-    ensures prints { Prints ((head.now ∷ signed_decimal number ∷ []) ∷ []) (K.written out.old) (K.written out.new) (K.faults out.old) (K.faults out.new) result }
-    ensures later { K.faults out.old ≤ K.faults out.new }
+    ensures prints { Prints ((head.now ∷ signed_decimal number ∷ []) ∷ []) (K.state out.old) (K.state out.new) result }
+    ensures later { (K.state out.old).faults ≤ (K.state out.new).faults }
 {
     match number_line(alloc, head, number) {
         Ok(line) => put(out, line.as_bytes()),
@@ -61,8 +61,8 @@ fn step_line(alloc: Global, at: u32) -> Result<String, AllocError>
 
 /// Puts the line of a step of a cost.
 fn put_step<K: Sink>(alloc: Global, out: &mut K, at: u32) -> Result<(), PrintFault>
-    ensures prints { Prints ((codes "place" ∷ codes "cost" ∷ decimal at ∷ []) ∷ []) (K.written out.old) (K.written out.new) (K.faults out.old) (K.faults out.new) result }
-    ensures later { K.faults out.old ≤ K.faults out.new }
+    ensures prints { Prints ((codes "place" ∷ codes "cost" ∷ decimal at ∷ []) ∷ []) (K.state out.old) (K.state out.new) result }
+    ensures later { (K.state out.old).faults ≤ (K.state out.new).faults }
 {
     match step_line(alloc, at) {
         Ok(line) => put(out, line.as_bytes()),
@@ -100,8 +100,8 @@ fn put_headed<K: Sink>(
 ) -> Result<(), PrintFault>
     requires { AreBelow (length problem.now.units) network.now.units }
     ensures prints { (tokens : List Token) → head.now ≡ line_text tokens
-        → Prints (tokens ∷ network_lines problem.now network.now) (K.written out.old) (K.written out.new) (K.faults out.old) (K.faults out.new) result }
-    ensures later { K.faults out.old ≤ K.faults out.new }
+        → Prints (tokens ∷ network_lines problem.now network.now) (K.state out.old) (K.state out.new) result }
+    ensures later { (K.state out.old).faults ≤ (K.state out.new).faults }
 {
     network.is_sized();
     match put(out, head) {
@@ -119,8 +119,8 @@ fn put_beyond<K: Sink>(
     beyond: &Option<Network>,
 ) -> Result<(), PrintFault>
     requires { KnowsBeyond problem.now beyond.now }
-    ensures prints { Prints (beyond_lines problem.now (side_word side) beyond.now) (K.written out.old) (K.written out.new) (K.faults out.old) (K.faults out.new) result }
-    ensures later { K.faults out.old ≤ K.faults out.new }
+    ensures prints { Prints (beyond_lines problem.now (side_word side) beyond.now) (K.state out.old) (K.state out.new) result }
+    ensures later { (K.state out.old).faults ≤ (K.state out.new).faults }
 {
     match beyond {
         Some(network) => put_headed(alloc, problem, out, beyond_line(side), network),
@@ -139,8 +139,8 @@ fn put_end<K: Sink>(
     beyond: &Option<Network>,
 ) -> Result<(), PrintFault>
     requires { KnowsBeyond problem.now beyond.now }
-    ensures prints { Prints (end_lines problem.now head.now value (side_word side) beyond.now) (K.written out.old) (K.written out.new) (K.faults out.old) (K.faults out.new) result }
-    ensures later { K.faults out.old ≤ K.faults out.new }
+    ensures prints { Prints (end_lines problem.now head.now value (side_word side) beyond.now) (K.state out.old) (K.state out.new) result }
+    ensures later { (K.state out.old).faults ≤ (K.state out.new).faults }
 {
     match put_number(alloc, out, head, value) {
         Ok(()) => put_beyond(alloc, problem, out, side, beyond),
@@ -157,8 +157,8 @@ pub(crate) fn print_range<K: Sink>(
 ) -> Result<(), PrintFault>
     requires below { KnowsBeyond problem.now range.now.below }
     requires above { KnowsBeyond problem.now range.now.above }
-    ensures prints { Prints (range_lines problem.now range.now.from range.now.to range.now.below range.now.above) (K.written out.old) (K.written out.new) (K.faults out.old) (K.faults out.new) result }
-    ensures later { K.faults out.old ≤ K.faults out.new }
+    ensures prints { Prints (range_lines problem.now range.now.from range.now.to range.now.below range.now.above) (K.state out.old) (K.state out.new) result }
+    ensures later { (K.state out.old).faults ≤ (K.state out.new).faults }
 {
     let below = &range.below;
     match put_end(alloc, problem, out, "from", range.from, Side::Below, below) {
@@ -183,8 +183,8 @@ pub(crate) fn print_not_best<K: Sink>(
     out: &mut K,
 ) -> Result<(), PrintFault>
     requires { AreBelow (length problem.now.units) cheaper.now.units }
-    ensures prints { Prints (not_best_lines problem.now cheaper.now) (K.written out.old) (K.written out.new) (K.faults out.old) (K.faults out.new) result }
-    ensures later { K.faults out.old ≤ K.faults out.new }
+    ensures prints { Prints (not_best_lines problem.now cheaper.now) (K.state out.old) (K.state out.new) result }
+    ensures later { (K.state out.old).faults ≤ (K.state out.new).faults }
 {
     put_headed(alloc, problem, out, b"not best\n", cheaper)
 }
@@ -196,8 +196,8 @@ pub(crate) fn print_past_cost<K: Sink>(
     at: u32,
     out: &mut K,
 ) -> Result<(), PrintFault>
-    ensures prints { Prints (past_cost_lines value at) (K.written out.old) (K.written out.new) (K.faults out.old) (K.faults out.new) result }
-    ensures later { K.faults out.old ≤ K.faults out.new }
+    ensures prints { Prints (past_cost_lines value at) (K.state out.old) (K.state out.new) result }
+    ensures later { (K.state out.old).faults ≤ (K.state out.new).faults }
 {
     match put_number(alloc, out, "at", value) {
         Ok(()) => put_step(alloc, out, at),
@@ -216,8 +216,8 @@ pub(crate) fn print_stopped<K: Sink>(
     requires claim { KnowsClaim problem.now certificate.now.claim }
     requires tree { KnowsTree problem.now certificate.now.tree }
     requires tail { KnowsTail problem.now certificate.now.tail }
-    ensures prints { Prints (at_line value ∷ tree_text_lines problem.now certificate.now.claim certificate.now.tree certificate.now.tail) (K.written out.old) (K.written out.new) (K.faults out.old) (K.faults out.new) result }
-    ensures later { K.faults out.old ≤ K.faults out.new }
+    ensures prints { Prints (at_line value ∷ tree_text_lines problem.now certificate.now.claim certificate.now.tree certificate.now.tail) (K.state out.old) (K.state out.new) result }
+    ensures later { (K.state out.old).faults ≤ (K.state out.new).faults }
 {
     match put_number(alloc, out, "at", value) {
         Ok(()) => certificate.print(alloc, problem, out),

@@ -1,12 +1,13 @@
 -- The text of a listing that is given one structure after another.
-use Rattle.std.proofs.Common.{◌≡◌, ◌++◌, ◌+◌, ◌-◌, ◌≤◌, ◌↔◌, ℕ, List, [], ◌∷◌, Option, codes, length, map, take, refl, sym, ap, subst, ◌∙◌, arith, inr, append_assoc, append-nil, cond}
+use Rattle.std.proofs.Common.{◌≡◌, ◌++◌, ◌+◌, ◌-◌, ◌≤◌, ◌↔◌, ℕ, List, [], ◌∷◌, codes, length, map, take, refl, sym, ap, subst, ◌∙◌, arith, inr, append_assoc, append-nil, cond}
 use Rattle.std.specs.Io.KnownBytes.{Appends}
 use Rattle.std.proofs.KnownBytes.{Appends-nil, Appends-trans}
 use Rattle.std.proofs.lemmas.List.{map-append, length-append, take_all}
 use Rattle.std.proofs.lemmas.Bool.{le-ltb, lt-ltb}
 use Rattle.std.proofs.lemmas.Grind.{flat_map-append}
 use Rattle.std.proofs.Math.Seq.{take-append-add}
-use Rattle.text_rules.specs.Outside.{AppendsFront}
+use Rattle.text_rules.specs.Outside.{HasRisen, AppendsFront}
+use Rattle.io_rules.specs.State.{SinkState}
 use Rattle.problem_rules.specs.Problem.{Problem}
 use Rattle.structure_list.specs.Rest.{Rest, IsToCome}
 use Rattle.studio_rules.specs.Lines.{line, text_of}
@@ -26,35 +27,35 @@ text_of-push : (ls : List (List ℕ)) (l : List ℕ) → text_of (ls ++ l ∷ []
 text_of-push ls l = flat_map-append line ls (l ∷ []) ∙ ap (λ t. text_of ls ++ t) (append-nil (line l))
 
 -- the structures that were given are the first of the listing, and their lines are out
-pub record IsGiven (p : Problem) (start now : Rest) (many : ℕ) (old new : Option (List ℕ)) (last : List ℕ) : Type 0 where
+pub record IsGiven (p : Problem) (start now : Rest) (many : ℕ) (old new : SinkState) (last : List ℕ) : Type 0 where
   pub given : List (List ℕ)
   pub many_is : length given ≡ many
   pub rest : (xs : List (List ℕ)) → IsToCome now xs ↔ IsToCome start (given ++ xs)
   pub last_is : last ≡ last_of given
-  pub out : Appends old new (text_of (map (structure_line p) given))
+  pub out : Appends old.written new.written (text_of (map (structure_line p) given))
 
 -- the structures that were given are the first of the listing; the lines of the first of these are out, and the others wait
-pub record IsGathered (p : Problem) (start now : Rest) (many : ℕ) (old mid : Option (List ℕ)) (bytes last : List ℕ) : Type 0 where
+pub record IsGathered (p : Problem) (start now : Rest) (many : ℕ) (old mid : SinkState) (bytes last : List ℕ) : Type 0 where
   pub out_are : List (List ℕ)
   pub waiting : List (List ℕ)
   pub many_is : length (out_are ++ waiting) ≡ many
   pub rest : (xs : List (List ℕ)) → IsToCome now xs ↔ IsToCome start ((out_are ++ waiting) ++ xs)
   pub last_is : last ≡ last_of (out_are ++ waiting)
-  pub out : Appends old mid (text_of (map (structure_line p) out_are))
+  pub out : Appends old.written mid.written (text_of (map (structure_line p) out_are))
   pub bytes_are : bytes ≡ text_of (map (structure_line p) waiting)
 
-pub none_gathered : (p : Problem) (start : Rest) (old : Option (List ℕ)) (bytes last : List ℕ) → bytes ≡ [] → last ≡ [] → IsGathered p start start 0 old old bytes last
+pub none_gathered : (p : Problem) (start : Rest) (old : SinkState) (bytes last : List ℕ) → bytes ≡ [] → last ≡ [] → IsGathered p start start 0 old old bytes last
 none_gathered p start old bytes last none e = record {
   out_are = [];
   waiting = [];
   many_is = refl;
   rest = λ xs. (λ h. h, λ h. h);
   last_is = e;
-  out = Appends-nil old;
+  out = Appends-nil old.written;
   bytes_are = none;
 }
 
-module _ (p : Problem) (start now : Rest) (many : ℕ) (old mid : Option (List ℕ)) (bytes last : List ℕ) (g : IsGathered p start now many old mid bytes last) where
+module _ (p : Problem) (start now : Rest) (many : ℕ) (old mid : SinkState) (bytes last : List ℕ) (g : IsGathered p start now many old mid bytes last) where
   abbrev f : List ℕ → List ℕ
   f = structure_line p
 
@@ -80,16 +81,16 @@ module _ (p : Problem) (start now : Rest) (many : ℕ) (old mid : Option (List �
       }
 
   -- those that wait are put
-  out_then : (new : Option (List ℕ)) → Appends mid new bytes → Appends old new (text_of (map f given))
+  out_then : (new : SinkState) → Appends mid.written new.written bytes → Appends old.written new.written (text_of (map f given))
   out_then new put =
-      subst (λ t. Appends old new t)
+      subst (λ t. Appends old.written new.written t)
       (ap (λ t. text_of (map f g.out_are) ++ t) g.bytes_are ∙ (sym (flat_map-append line (map f g.out_are) (map f g.waiting)) ∙ ap text_of (sym (map-append f g.out_are g.waiting))))
-      (Appends-trans old mid new (text_of (map f g.out_are)) bytes g.out put)
+      (Appends-trans old.written mid.written new.written (text_of (map f g.out_are)) bytes g.out put)
 
-  pub given_then : (new : Option (List ℕ)) → Appends mid new bytes → IsGiven p start now many old new last
+  pub given_then : (new : SinkState) → Appends mid.written new.written bytes → IsGiven p start now many old new last
   given_then new put = record { given = given; many_is = g.many_is; rest = g.rest; last_is = g.last_is; out = out_then new put }
 
-  pub gathered_then : (new : Option (List ℕ)) (none : List ℕ) → Appends mid new bytes → none ≡ [] → IsGathered p start now many old new none last
+  pub gathered_then : (new : SinkState) (none : List ℕ) → Appends mid.written new.written bytes → none ≡ [] → IsGathered p start now many old new none last
   gathered_then new none put none_is =
       let all : given ++ [] ≡ given = append-nil given in
       record {
@@ -151,40 +152,40 @@ module _ (p : Problem) where
     whole_behind given all last is e =
         (map (structure_line p) given ++ last ∷ [], (refl, (all, is, sym e)), sym (text_of-push (map (structure_line p) given) last))
 
-    module _ (now : Rest) (many : ℕ) (old mid : Option (List ℕ)) (last : List ℕ) (g : IsGiven p start now many old mid last) (le : many ≤ count) where
+    module _ (now : Rest) (many : ℕ) (old mid : SinkState) (last : List ℕ) (g : IsGiven p start now many old mid last) (le : many ≤ count) where
       le_given : length g.given ≤ count
       le_given = let e = g.many_is in omega (arith, e, le)
 
-      module _ (risen' risen : Type 0) (later : risen' → risen) (new : Option (List ℕ)) (status : Status) where
+      module _ (later : old.faults ≤ mid.faults) (new : SinkState) (status : Status) where
         -- no structure is to come, and `end` is said
-        pub ended : IsToCome now [] → Ends (Only Done (line (codes "end"))) risen' mid new status → Ends (Tells (RestSays p count start)) risen old new status
+        pub ended : IsToCome now [] → Ends (Only Done (line (codes "end"))) mid new status → Ends (Tells (RestSays p count start)) old new status
         ended none =
-            Ends-after (Only Done (line (codes "end"))) (Tells (RestSays p count start)) risen' risen old mid new status (text_of (map (structure_line p) g.given)) g.out
+            Ends-after (Only Done (line (codes "end"))) (Tells (RestSays p count start)) old mid new status (text_of (map (structure_line p) g.given)) g.out
             (only_in (λ s t. Tells (RestSays p count start) s (text_of (map (structure_line p) g.given) ++ t)) Done (line (codes "end"))
             (whole_behind g.given (g.given ++ []) (codes "end") ((g.rest []).0 none) (lines_end g.given count le_given))) later
 
         -- all that are wanted are given, and another is to come
-        pub continued : many ≡ count → (r : List ℕ) (xs : List (List ℕ)) → IsToCome now (r ∷ xs) → Ends (OrMemory (Only Done (line (more_line last)))) risen' mid new status → Ends (Tells (RestSays p count start)) risen old new status
+        pub continued : many ≡ count → (r : List ℕ) (xs : List (List ℕ)) → IsToCome now (r ∷ xs) → Ends (OrMemory (Only Done (line (more_line last)))) mid new status → Ends (Tells (RestSays p count start)) old new status
         continued all r xs is =
-            Ends-after (OrMemory (Only Done (line (more_line last)))) (Tells (RestSays p count start)) risen' risen old mid new status (text_of (map (structure_line p) g.given)) g.out
+            Ends-after (OrMemory (Only Done (line (more_line last)))) (Tells (RestSays p count start)) old mid new status (text_of (map (structure_line p) g.given)) g.out
             (only_or_memory_in (λ s t. Tells (RestSays p count start) s (text_of (map (structure_line p) g.given) ++ t)) Done (line (more_line last))
             (subst (λ l. Tells (RestSays p count start) Done (text_of (map (structure_line p) g.given) ++ line (more_line l))) (sym g.last_is)
             (whole_behind g.given (g.given ++ r ∷ xs) (more_line (last_of g.given)) ((g.rest (r ∷ xs)).0 is) (lines_more g.given r xs count (g.many_is ∙ all))))
             (memory_behind g.given (r ∷ xs) le_given ((g.rest (r ∷ xs)).0 is))) later
 
-module _ (p : Problem) (count : ℕ) (start now : Rest) (many : ℕ) (old mid : Option (List ℕ)) (bytes last : List ℕ) (g : IsGathered p start now many old mid bytes last) (le : many ≤ count) where
+module _ (p : Problem) (count : ℕ) (start now : Rest) (many : ℕ) (old mid : SinkState) (bytes last : List ℕ) (g : IsGathered p start now many old mid bytes last) (le : many ≤ count) where
   -- there is no memory for the next line, and those that wait are not put
-  pub starved_waiting : (risen' risen : Type 0) (later : risen' → risen) (new : Option (List ℕ)) (status : Status) (xs : List (List ℕ)) → IsToCome now xs → Ends (Only Memory (line (codes "memory"))) risen' mid new status → Ends (Tells (RestSays p count start)) risen old new status
-  starved_waiting risen' risen later new status xs is =
+  pub starved_waiting : (later : old.faults ≤ mid.faults) (new : SinkState) (status : Status) (xs : List (List ℕ)) → IsToCome now xs → Ends (Only Memory (line (codes "memory"))) mid new status → Ends (Tells (RestSays p count start)) old new status
+  starved_waiting later new status xs is =
       let short = length-append g.out_are g.waiting in
       let e = g.many_is in
-      Ends-after (Only Memory (line (codes "memory"))) (Tells (RestSays p count start)) risen' risen old mid new status (text_of (map (structure_line p) g.out_are)) g.out
+      Ends-after (Only Memory (line (codes "memory"))) (Tells (RestSays p count start)) old mid new status (text_of (map (structure_line p) g.out_are)) g.out
       (only_in (λ s t. Tells (RestSays p count start) s (text_of (map (structure_line p) g.out_are) ++ t)) Memory (line (codes "memory"))
       (memory_behind p count start g.out_are (g.waiting ++ xs) (omega (arith, short, e, le)) (subst (IsToCome start) (append_assoc g.out_are g.waiting xs) ((g.rest xs).0 is)))) later
 
   -- the lines that wait are cut off
-  pub stopped_waiting : (risen : Type 0) (new : Option (List ℕ)) (xs : List (List ℕ)) → risen → IsToCome now xs → AppendsFront mid new bytes → Ends (Tells (RestSays p count start)) risen old new WriteFault
-  stopped_waiting risen new xs rose is front =
+  pub stopped_waiting : (new : SinkState) (xs : List (List ℕ)) → HasRisen old.faults new.faults → IsToCome now xs → AppendsFront mid.written new.written bytes → Ends (Tells (RestSays p count start)) old new WriteFault
+  stopped_waiting new xs rose is front =
       let f : List ℕ → List ℕ = structure_line p in
       let given : List (List ℕ) = g.out_are ++ g.waiting in
       let all : List (List ℕ) = given ++ xs in
@@ -202,5 +203,5 @@ module _ (p : Problem) (count : ℕ) (start now : Rest) (many : ℕ) (old mid : 
         Done,
         text_of (listing_lines p count all),
         (listing_lines p count all, (refl, (all, (g.rest xs).0 is, refl)), refl),
-        (text_of (map f g.out_are) ++ front.0, front.1 ++ text_of behind, text, Appends-trans old mid new (text_of (map f g.out_are)) front.0 g.out front.3),
+        (text_of (map f g.out_are) ++ front.0, front.1 ++ text_of behind, text, Appends-trans old.written mid.written new.written (text_of (map f g.out_are)) front.0 g.out front.3),
       )

@@ -1,12 +1,11 @@
 //! The command `axioms`.
 ghost use Rattle.std.specs.Prelude.{◌≡◌, ◌<◌, ◌≤◌, ◌||◌, ℕ, None, IfOk, length, option_map, true};
 ghost use Rattle.number_sets.specs.Sets.{has};
-ghost use Rattle.text_rules.specs.Outside.{HasRisen};
 ghost use Rattle.problem_rules.specs.Problem.{material_at, unit_at};
 ghost use Rattle.studio_rules.specs.Lines.{line};
-ghost use Rattle.studio_rules.specs.Reading.{OnFile};
+ghost use Rattle.studio_rules.specs.Reading.{FileSays};
 ghost use Rattle.studio_rules.specs.Axioms.{AxiomsWork, NamesSay, VerdictSays, axiom_word, breaks_line, place_name, is_stranger, first_stranger, is_name_of, units_named};
-ghost use Rattle.studio_rules.specs.Ending.{Ends, Says, Tells, Only, OrMemory};
+ghost use Rattle.studio_rules.specs.Ending.{Ends, Tells, Only, OrMemory};
 ghost use Rattle.studio_rules.specs.declared.status.Status.TheVariants.{Refused};
 
 use command_files::problem_of;
@@ -45,7 +44,7 @@ fn breaks_line(alloc: Global, broken: Axiom, name: &str) -> Result<Vec<u8>, Allo
 
 /// Says the broken axiom with the name of its place.
 pub fn say_breaks<K: Sink>(alloc: Global, out: &mut K, broken: Axiom, name: &str) -> Status
-    ensures { Ends (OrMemory (Only Refused (line (breaks_line broken name.now)))) (HasRisen (K.faults out.old) (K.faults out.new)) (K.written out.old) (K.written out.new) result }
+    ensures { Ends (OrMemory (Only Refused (line (breaks_line broken name.now)))) (K.state out.old) (K.state out.new) result }
 {
     match breaks_line(alloc, broken, name) {
         Ok(bytes) => say(out, &bytes, Status::Refused),
@@ -133,7 +132,7 @@ pub fn say_verdict<K: Sink>(
     problem: &Problem,
     verdict: Verdict,
 ) -> Status
-    ensures { Ends (Tells (VerdictSays problem.now verdict)) (HasRisen (K.faults out.old) (K.faults out.new)) (K.written out.old) (K.written out.new) result }
+    ensures { Ends (Tells (VerdictSays problem.now verdict)) (K.state out.old) (K.state out.new) result }
 {
     match verdict {
         Verdict::Meets => say(out, b"meets\n", Status::Done),
@@ -145,7 +144,7 @@ pub fn say_verdict<K: Sink>(
 
 // Judges the units of names that are all known.
 fn say_known<K: Sink>(alloc: Global, out: &mut K, problem: &Problem, units: &UnitNames) -> Status
-    ensures { Ends (Tells (NamesSay units.now problem.now None)) (HasRisen (K.faults out.old) (K.faults out.new)) (K.written out.old) (K.written out.new) result }
+    ensures { Ends (Tells (NamesSay units.now problem.now None)) (K.state out.old) (K.state out.new) result }
 {
     let Ok(graph) = Graph::of(alloc, problem) else {
         return say_memory(out);
@@ -156,7 +155,7 @@ fn say_known<K: Sink>(alloc: Global, out: &mut K, problem: &Problem, units: &Uni
 }
 
 fn say_judged<K: Sink>(alloc: Global, out: &mut K, problem: &Problem, units: &UnitNames) -> Status
-    ensures { Ends (Tells (AxiomsWork units.now problem.now)) (HasRisen (K.faults out.old) (K.faults out.new)) (K.written out.old) (K.written out.new) result }
+    ensures { Ends (Tells (AxiomsWork units.now problem.now)) (K.state out.old) (K.state out.new) result }
 {
     match first_stranger(problem, units) {
         Some(name) => say_breaks(alloc, out, Axiom::S3, name),
@@ -172,8 +171,7 @@ pub fn axioms<F: Shelf, K: Sink>(
     shelf: &mut F,
     out: &mut K,
 ) -> Status
-    ensures { Ends (Says (OnFile (AxiomsWork units.now) (F.held shelf.old) file.now) (λ other. other ≡ file.now) (record { held = F.held shelf.old; before = F.faults shelf.old; after = F.faults shelf.new }))
-        (HasRisen (K.faults out.old) (K.faults out.new)) (K.written out.old) (K.written out.new) result }
+    ensures { Ends (FileSays (AxiomsWork units.now) file.now (F.state shelf.old) (F.state shelf.new)) (K.state out.old) (K.state out.new) result }
 {
     match problem_of(alloc, shelf, out, file) {
         Ok(problem) => say_judged(alloc, out, &problem, units),

@@ -7,10 +7,10 @@ ghost use Rattle.pns_rules.specs.Shape.{shape_of};
 ghost use Rattle.pns_rules.specs.Tokens.{digit, token_of};
 ghost use Rattle.structure_list.specs.Rest.{IsToCome};
 ghost use Rattle.studio_rules.specs.Lines.{line};
-ghost use Rattle.studio_rules.specs.Reading.{OnFile};
+ghost use Rattle.studio_rules.specs.Reading.{FileSays};
 ghost use Rattle.studio_rules.specs.Listing.{ListingWork, IsAfter, IsBadToken, structure_line, more_line};
 ghost use Rattle.structure_commands.specs.Listing.{RestSays};
-ghost use Rattle.studio_rules.specs.Ending.{Ends, Says, Tells, Only, OrMemory};
+ghost use Rattle.studio_rules.specs.Ending.{Ends, Tells, Only, OrMemory};
 ghost use Rattle.studio_rules.specs.declared.status.Status.TheVariants.{Done, BadToken};
 
 use command_files::problem_of;
@@ -76,7 +76,7 @@ fn push_line(bytes: &mut Vec<u8>, problem: &Problem, set: UnitSet) -> Result<(),
 
 // Says that more structures follow the last one given.
 fn say_more<K: Sink>(alloc: Global, out: &mut K, last: UnitSet) -> Status
-    ensures { Ends (OrMemory (Only Done (line (more_line last)))) (HasRisen (K.faults out.old) (K.faults out.new)) (K.written out.old) (K.written out.new) result }
+    ensures { Ends (OrMemory (Only Done (line (more_line last)))) (K.state out.old) (K.state out.new) result }
 {
     match print_token(alloc, last) {
         Ok(token) => say_of(alloc, out, "more ", &token, Status::Done),
@@ -86,11 +86,11 @@ fn say_more<K: Sink>(alloc: Global, out: &mut K, last: UnitSet) -> Status
 
 // Puts the lines that wait, and leaves none.
 fn put_waiting<K: Sink>(out: &mut K, bytes: &mut Vec<u8>) -> Result<(), Failed>
-    ensures ok { OnOk result (Appends (K.written out.old) (K.written out.new) bytes.old.items) }
+    ensures ok { OnOk result (Appends (K.state out.old).written (K.state out.new).written bytes.old.items) }
     ensures none { OnOk result (bytes.new.items ≡ []) }
-    ensures err { OnErr result (AppendsFront (K.written out.old) (K.written out.new) bytes.old.items) }
-    ensures cause { OnErr result (HasRisen (K.faults out.old) (K.faults out.new)) }
-    ensures later { K.faults out.old ≤ K.faults out.new }
+    ensures err { OnErr result (AppendsFront (K.state out.old).written (K.state out.new).written bytes.old.items) }
+    ensures cause { OnErr result (HasRisen (K.state out.old).faults (K.state out.new).faults) }
+    ensures later { (K.state out.old).faults ≤ (K.state out.new).faults }
 {
     if !bytes.is_empty() {
         out.put(bytes)?;
@@ -109,7 +109,7 @@ fn say_rest<K: Sink>(
     count: u64,
 ) -> Status
     requires { length problem.now.units ≤ 128 }
-    ensures { Ends (Tells (RestSays problem.now count list.old)) (HasRisen (K.faults out.old) (K.faults out.new)) (K.written out.old) (K.written out.new) result }
+    ensures { Ends (Tells (RestSays problem.now count list.old)) (K.state out.old) (K.state out.new) result }
 {
     let mut bytes = Vec::new(alloc);
     let mut last = UnitSet::empty();
@@ -166,7 +166,7 @@ fn after_of(word: &str) -> Option<Option<UnitSet>>
 }
 
 fn say_bad_token<K: Sink>(out: &mut K) -> Status
-    ensures { Ends (Only BadToken (line (codes "bad token"))) (HasRisen (K.faults out.old) (K.faults out.new)) (K.written out.old) (K.written out.new) result }
+    ensures { Ends (Only BadToken (line (codes "bad token"))) (K.state out.old) (K.state out.new) result }
 {
     say(out, b"bad token\n", Status::BadToken)
 }
@@ -178,7 +178,7 @@ fn say_listing<K: Sink>(
     after: &str,
     count: u64,
 ) -> Status
-    ensures { Ends (Tells (ListingWork after.now count problem.now)) (HasRisen (K.faults out.old) (K.faults out.new)) (K.written out.old) (K.written out.new) result }
+    ensures { Ends (Tells (ListingWork after.now count problem.now)) (K.state out.old) (K.state out.new) result }
 {
     let Ok(graph) = Graph::of(alloc, problem) else {
         return say_memory(out);
@@ -203,8 +203,7 @@ pub fn list<F: Shelf, K: Sink>(
     shelf: &mut F,
     out: &mut K,
 ) -> Status
-    ensures { Ends (Says (OnFile (ListingWork after.now count) (F.held shelf.old) file.now) (λ other. other ≡ file.now) (record { held = F.held shelf.old; before = F.faults shelf.old; after = F.faults shelf.new }))
-        (HasRisen (K.faults out.old) (K.faults out.new)) (K.written out.old) (K.written out.new) result }
+    ensures { Ends (FileSays (ListingWork after.now count) file.now (F.state shelf.old) (F.state shelf.new)) (K.state out.old) (K.state out.new) result }
 {
     match problem_of(alloc, shelf, out, file) {
         Ok(problem) => say_listing(alloc, out, &problem, after, count),

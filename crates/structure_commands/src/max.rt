@@ -1,14 +1,13 @@
 //! The command `max`.
 ghost use Rattle.std.specs.Prelude.{◌≡◌, ◌≤◌, ◌<◌, ◌++◌, ℕ, IfOk, length, true};
 ghost use Rattle.number_sets.specs.Sets.{has};
-ghost use Rattle.text_rules.specs.Outside.{HasRisen};
 ghost use Rattle.pns_rules.specs.Shape.{shape_of};
 ghost use Rattle.pns_rules.specs.Structure.{mats};
 ghost use Rattle.pgraph.specs.Tables.{shape};
 ghost use Rattle.studio_rules.specs.Lines.{line};
-ghost use Rattle.studio_rules.specs.Reading.{OnFile};
+ghost use Rattle.studio_rules.specs.Reading.{FileSays};
 ghost use Rattle.studio_rules.specs.Max.{MaxWork, units_line, materials_line};
-ghost use Rattle.studio_rules.specs.Ending.{Ends, Says, Tells, Only, OrMemory};
+ghost use Rattle.studio_rules.specs.Ending.{Ends, Tells, Only, OrMemory};
 ghost use Rattle.studio_rules.specs.declared.status.Status.TheVariants.{Done};
 
 use command_files::problem_of;
@@ -52,7 +51,7 @@ fn say_structure<K: Sink>(
 ) -> Status
     requires graph { shape graph.now ≡ shape_of problem.now }
     requires known { (u : ℕ) → has set u ≡ true → u < (shape graph.now).units }
-    ensures { Ends (OrMemory (Only Done (line (units_line problem.now (has set)) ++ line (materials_line problem.now (mats (shape_of problem.now) (has set)))))) (HasRisen (K.faults out.old) (K.faults out.new)) (K.written out.old) (K.written out.new) result }
+    ensures { Ends (OrMemory (Only Done (line (units_line problem.now (has set)) ++ line (materials_line problem.now (mats (shape_of problem.now) (has set)))))) (K.state out.old) (K.state out.new) result }
 {
     graph.is_proper();
     let Ok(units) = units_line(alloc, problem, set) else {
@@ -65,7 +64,7 @@ fn say_structure<K: Sink>(
 }
 
 fn say_maximal<K: Sink>(alloc: Global, out: &mut K, problem: &Problem) -> Status
-    ensures { Ends (Tells (MaxWork problem.now)) (HasRisen (K.faults out.old) (K.faults out.new)) (K.written out.old) (K.written out.new) result }
+    ensures { Ends (Tells (MaxWork problem.now)) (K.state out.old) (K.state out.new) result }
 {
     let Ok(graph) = Graph::of(alloc, problem) else {
         return say_memory(out);
@@ -78,8 +77,7 @@ fn say_maximal<K: Sink>(alloc: Global, out: &mut K, problem: &Problem) -> Status
 
 /// Says the units and the materials of the maximal structure of the file's problem.
 pub fn max<F: Shelf, K: Sink>(alloc: Global, file: &str, shelf: &mut F, out: &mut K) -> Status
-    ensures { Ends (Says (OnFile MaxWork (F.held shelf.old) file.now) (λ other. other ≡ file.now) (record { held = F.held shelf.old; before = F.faults shelf.old; after = F.faults shelf.new }))
-        (HasRisen (K.faults out.old) (K.faults out.new)) (K.written out.old) (K.written out.new) result }
+    ensures { Ends (FileSays MaxWork file.now (F.state shelf.old) (F.state shelf.new)) (K.state out.old) (K.state out.new) result }
 {
     match problem_of(alloc, shelf, out, file) {
         Ok(problem) => say_maximal(alloc, out, &problem),

@@ -4,7 +4,7 @@ use Rattle.std.proofs.lemmas.List.{append_cancel_left, append_cancel_right, leng
 use Rattle.std.proofs.lemmas.Grind.{flat_map-append}
 use Rattle.std.proofs.Math.Seq.{take-append_seam}
 use Rattle.std.specs.Io.KnownBytes.{Appends}
-use Rattle.text_rules.specs.Outside.{HasRisen, Told}
+use Rattle.text_rules.specs.Outside.{Told}
 use Rattle.problem_rules.specs.Problem.{Problem}
 use Rattle.problem_rules.specs.WellFormed.{IsWellFormed, ValidIsWellFormed}
 use Rattle.pns_rules.specs.Shape.{shape_of}
@@ -36,7 +36,7 @@ use Rattle.studio.proofs.Accepted.{is_held, no_fault, one_problem}
 -- the lines of an answer, which are the text
 pub record Answered (c : Call) (command : Command) (text : List ℕ) : Type 0 where
   pub lines : List (List ℕ)
-  pub answers : CommandAnswers c.shelves.held command Done lines
+  pub answers : CommandAnswers c.shelf_before.held command Done lines
   pub text_is : text ≡ text_of lines
 
 appended : (old new : Option (List ℕ)) (front text other : List ℕ) → old ≡ Some front → new ≡ Some (front ++ text) → Appends old new other → text ≡ other
@@ -46,25 +46,25 @@ appended old new front text other before after appends =
 
 pub answered : (c : Call) (command : Command) (text : List ℕ) → Calls c command → Puts c text → Answered c command text
 answered c command text calls puts =
-    let ends = subst (λ (s : Status). Ends (WordsSay c.shelves c.words) (HasRisen c.faults_before c.faults_after) c.out_before c.out_after s) puts.done calls.call in
+    let ends = subst (λ (s : Status). Ends (WordsSay c.shelf_before c.shelf_after c.words) c.out_before c.out_after s) puts.done calls.call in
     record {
       lines = ends.1.0;
-      answers = subst (λ (f : Option Command). AnswersTo c.shelves.held f Done ends.1.0) calls.form ends.1.1;
-      text_is = appended c.out_before c.out_after puts.front text ends.0 puts.before puts.after ends.2 ∙ ends.1.2;
+      answers = subst (λ (f : Option Command). AnswersTo c.shelf_before.held f Done ends.1.0) calls.form ends.1.1;
+      text_is = appended c.out_before.written c.out_after.written puts.front text ends.0 puts.before puts.after ends.2 ∙ ends.1.2;
     }
 
 -- what is shown of each answer of a call holds of how it ended
-module _ (c : Call) (command : Command) (calls : Calls c command) (Q : Status → List ℕ → Type 0) (shown : (s : Status) (lines : List (List ℕ)) → CommandAnswers c.shelves.held command s lines → (status : Status) × (text : List ℕ) × (s ≡ status) × (text_of lines ≡ text) × Q status text) where
+module _ (c : Call) (command : Command) (calls : Calls c command) (Q : Status → List ℕ → Type 0) (shown : (s : Status) (lines : List (List ℕ)) → CommandAnswers c.shelf_before.held command s lines → (status : Status) × (text : List ℕ) × (s ≡ status) × (text_of lines ≡ text) × Q status text) where
   ended : ((status : Status) × (text : List ℕ) × EndsWith c status text × Q status text) ⊎ HasFailed c
   ended = at c.status refl calls.call
     where
-      at : (s : Status) → c.status ≡ s → Ends (WordsSay c.shelves c.words) (HasRisen c.faults_before c.faults_after) c.out_before c.out_after s → ((status : Status) × (text : List ℕ) × EndsWith c status text × Q status text) ⊎ HasFailed c
+      at : (s : Status) → c.status ≡ s → Ends (WordsSay c.shelf_before c.shelf_after c.words) c.out_before c.out_after s → ((status : Status) × (text : List ℕ) × EndsWith c status text × Q status text) ⊎ HasFailed c
       at ReadFault is e = inr (inl is)
       at WriteFault is e = inr (inr (inl is))
       at Memory is e = inr (inr (inr (inl is)))
       at s is e =
-          let told = shown s e.1.0 (subst (λ (f : Option Command). AnswersTo c.shelves.held f s e.1.0) calls.form e.1.1) in
-          inl (told.0, told.1, (is ∙ told.2, subst (λ (t : List ℕ). Appends c.out_before c.out_after t) (e.1.2 ∙ told.3) e.2), told.4)
+          let told = shown s e.1.0 (subst (λ (f : Option Command). AnswersTo c.shelf_before.held f s e.1.0) calls.form e.1.1) in
+          inl (told.0, told.1, (is ∙ told.2, subst (λ (t : List ℕ). Appends c.out_before.written c.out_after.written t) (e.1.2 ∙ told.3) e.2), told.4)
 
 -- ---- texts that are accepted
 
@@ -79,15 +79,15 @@ verdict name text s lines (inl h) = inl (h.0, h.1, ap text_of h.2 ∙ sym (one_l
 verdict name text s lines (inr h) = inr (h.0, h.1, ap text_of h.2 ∙ sym (one_line (codes "too long " ++ name)))
 
 accepts : (c : Call) (name text : List ℕ) (status : Status) (said : List ℕ) → EndsWith c status said → IsVerdict name text status said → Accepts c name text
-accepts c name text status said ends (inl h) = inl (h.0, (ends.0 ∙ h.1, subst (λ (t : List ℕ). Appends c.out_before c.out_after t) h.2 ends.1))
-accepts c name text status said ends (inr h) = inr (h.0, (ends.0 ∙ h.1, subst (λ (t : List ℕ). Appends c.out_before c.out_after t) h.2 ends.1))
+accepts c name text status said ends (inl h) = inl (h.0, (ends.0 ∙ h.1, subst (λ (t : List ℕ). Appends c.out_before.written c.out_after.written t) h.2 ends.1))
+accepts c name text status said ends (inr h) = inr (h.0, (ends.0 ∙ h.1, subst (λ (t : List ℕ). Appends c.out_before.written c.out_after.written t) h.2 ends.1))
 
 -- the same answers where another shelf holds the file
 moved : (work : Problem → Status → List (List ℕ) → Type 0) (held later : List ℕ → Told) (file bytes : List ℕ) (s : Status) (lines : List (List ℕ)) → held file ≡ Some (Some bytes) → later file ≡ Some (Some bytes) → OnFile work held file s lines → OnFile work later file s lines
 moved work held later file bytes s lines is here said =
     (said.0, subst (λ (t : Told). AreHeld t said.0) (is ∙ sym here) said.1, said.2)
 
-pub judged : (c : Call) (judge : Command) (name text : List ℕ) → Calls c judge → ((s : Status) (lines : List (List ℕ)) → CommandAnswers c.shelves.held judge s lines → IsAcceptedOrLong name text s lines) → Accepts c name text ⊎ HasFailed c
+pub judged : (c : Call) (judge : Command) (name text : List ℕ) → Calls c judge → ((s : Status) (lines : List (List ℕ)) → CommandAnswers c.shelf_before.held judge s lines → IsAcceptedOrLong name text s lines) → Accepts c name text ⊎ HasFailed c
 judged c judge name text calls law = elim (ended c judge calls (IsVerdict name text) (λ s lines h. (s, text_of lines, refl, refl, verdict name text s lines (law s lines h)))) [
   | inl h ↦ inl (accepts c name text h.0 h.1 h.2 h.3)
   | inr failed ↦ inr failed
@@ -98,8 +98,8 @@ check_accepts_solved law solving checking file tree budget text calls puts judge
     let said = answered solving (Solving file budget) text calls puts in
     judged checking (Checking file tree) tree text judges (λ s lines h.
     subst (λ (t : List ℕ). IsAcceptedOrLong tree t s lines) (sym said.text_is)
-    (law checking.shelves.held file tree keep.0 budget said.lines keep.2
-    (moved (SolveWork budget) solving.shelves.held checking.shelves.held file keep.0 Done said.lines keep.1 keep.2 said.answers)
+    (law checking.shelf_before.held file tree keep.0 budget said.lines keep.2
+    (moved (SolveWork budget) solving.shelf_before.held checking.shelf_before.held file keep.0 Done said.lines keep.1 keep.2 said.answers)
     (holds ∙ ap (λ (t : List ℕ). Some (Some t)) said.text_is) s lines h))
 
 pub rankcheck_accepts_ranked : RankedIsAccepted → RankcheckAcceptsRanked
@@ -107,8 +107,8 @@ rankcheck_accepts_ranked law ranking checking file rank count budget text calls 
     let said = answered ranking (Ranking file count budget) text calls puts in
     judged checking (RankChecking file rank) rank text judges (λ s lines h.
     subst (λ (t : List ℕ). IsAcceptedOrLong rank t s lines) (sym said.text_is)
-    (law checking.shelves.held file rank keep.0 count budget said.lines keep.2
-    (moved (RankWork count budget) ranking.shelves.held checking.shelves.held file keep.0 Done said.lines keep.1 keep.2 said.answers)
+    (law checking.shelf_before.held file rank keep.0 count budget said.lines keep.2
+    (moved (RankWork count budget) ranking.shelf_before.held checking.shelf_before.held file keep.0 Done said.lines keep.1 keep.2 said.answers)
     (holds ∙ ap (λ (t : List ℕ). Some (Some t)) said.text_is) s lines h))
 
 -- ---- the last line of a text
@@ -265,19 +265,19 @@ module _ (join : PartsJoin) (well : ValidIsWellFormed) (file after token : List 
       let other = answered second (Listing file token n) rest goes_on adds in
       at one other one.answers
     where
-      at : (one : Answered first (Listing file after m) (text_of (lines ++ (codes "more " ++ token) ∷ []))) → Answered second (Listing file token n) rest → OnFile (ListingWork after m) first.shelves.held file Done one.lines → EndsWith whole Done (text_of lines ++ rest) ⊎ HasFailed whole
+      at : (one : Answered first (Listing file after m) (text_of (lines ++ (codes "more " ++ token) ∷ []))) → Answered second (Listing file token n) rest → OnFile (ListingWork after m) first.shelf_before.held file Done one.lines → EndsWith whole Done (text_of lines ++ rest) ⊎ HasFailed whole
       at one other (bytes, there, inl fault) = absurd fault
       at one other (bytes, there, inr (p, given, work)) =
-          let here : Holds first file bytes = keep.1 ∙ ap (λ (b : List ℕ). Some (Some b)) (sym (is_held (first.shelves.held file) keep.0 bytes keep.1 there)) in
+          let here : Holds first file bytes = keep.1 ∙ ap (λ (b : List ℕ). Some (Some b)) (sym (is_held (first.shelf_before.held file) keep.0 bytes keep.1 there)) in
           let second_holds : Holds second file bytes = keep.2 ∙ (sym keep.1 ∙ here) in
           let whole_holds : Holds whole file bytes = kept.2 ∙ (sym kept.1 ∙ here) in
           let formed : IsWellFormed p = (well p).0 given.valid in
-          let behind = given_work (ListingWork token n) second.shelves.held file bytes p Done other.lines second_holds given other.answers in
-          let shown : (s : Status) (ls : List (List ℕ)) → OnFile (ListingWork after (m + n)) whole.shelves.held file s ls → (status : Status) × (text : List ℕ) × (s ≡ status) × (text_of ls ≡ text) × ((status ≡ Done) × (text ≡ text_of lines ++ rest)) =
+          let behind = given_work (ListingWork token n) second.shelf_before.held file bytes p Done other.lines second_holds given other.answers in
+          let shown : (s : Status) (ls : List (List ℕ)) → OnFile (ListingWork after (m + n)) whole.shelf_before.held file s ls → (status : Status) × (text : List ℕ) × (s ≡ status) × (text_of ls ≡ text) × ((status ≡ Done) × (text ≡ text_of lines ++ rest)) =
           λ s ls h.
-          let said = joined p one.lines other.lines formed one.text_is work behind s ls (given_work (ListingWork after (m + n)) whole.shelves.held file bytes p s ls whole_holds given h) in
+          let said = joined p one.lines other.lines formed one.text_is work behind s ls (given_work (ListingWork after (m + n)) whole.shelf_before.held file bytes p s ls whole_holds given h) in
           (s, text_of ls, refl, refl, (said.0, said.1 ∙ ap (λ (t : List ℕ). text_of lines ++ t) (sym other.text_is))) in
           elim (ended whole (Listing file after (m + n)) all (λ s t. (s ≡ Done) × (t ≡ text_of lines ++ rest)) shown) [
-            | inl h ↦ inl (h.2.0 ∙ h.3.0, subst (λ (t : List ℕ). Appends whole.out_before whole.out_after t) h.3.1 h.2.1)
+            | inl h ↦ inl (h.2.0 ∙ h.3.0, subst (λ (t : List ℕ). Appends whole.out_before.written whole.out_after.written t) h.3.1 h.2.1)
             | inr failed ↦ inr failed
           ]

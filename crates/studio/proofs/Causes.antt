@@ -15,6 +15,7 @@ use Rattle.plan_rules.specs.declared.PlanKind.{PlanKind}
 use Rattle.plan_rules.specs.Plan.{Plan}
 use Rattle.plan_rules.specs.Read as plans
 use Rattle.text_rules.specs.Outside.{Told}
+use Rattle.io_rules.specs.State.{ShelfState, SinkState}
 use Rattle.tree_rules.specs.Claim.{Claim, Network}
 use Rattle.tree_rules.specs.Accepted.{Tree}
 use Rattle.tree_text_rules.specs.Read as trees
@@ -25,7 +26,7 @@ use Rattle.rank_rules.specs.Text.{Text}
 use Rattle.stability_rules.specs.declared.spot.Spot.{Spot}
 use Rattle.stability_rules.specs.declared.spot.SpotKind.{SpotKind}
 use Rattle.problem_rules.specs.Generated.{generated}
-use Rattle.studio_rules.specs.Ending.{Shelves, Ends, IsOneOf}
+use Rattle.studio_rules.specs.Ending.{Ends, IsOneOf}
 use Rattle.studio_rules.specs.declared.status.Status.{Status}
 use Rattle.studio_rules.specs.declared.status.Status.TheVariants.{Done, Refused, Past, Spent, ReadFault, WriteFault, Memory, BadProblem, BadToken, BadTree, BadEdit, TooLong, UnknownName, NotMigrated, BadNode, BadPlan}
 use Rattle.studio_rules.specs.Reading.{AreHeld, FileFault, GivesProblem, OnFile, file_limit}
@@ -536,14 +537,14 @@ module _ (held : List ℕ → Told) where
 -- ---- the call
 
 -- each status that has a cause comes just where it holds, unless reading, the sink or memory fails
-module _ (once : PartsAreReadOnce) (shelves : Shelves) (words : List (List ℕ)) (risen : Type 0) (old new : Option (List ℕ)) where
-  pub exact_ends : (s : Status) → Ends (WordsSay shelves words) risen old new s → (command : Command) → command_of words ≡ Some command → EndsExactly shelves.held command s
+module _ (once : PartsAreReadOnce) (old new : ShelfState) (words : List (List ℕ)) (before after : SinkState) where
+  pub exact_ends : (s : Status) → Ends (WordsSay old new words) before after s → (command : Command) → command_of words ≡ Some command → EndsExactly old.held command s
   exact_ends ReadFault e command is status named = record { only = λ q. absurd (subst Caused (sym q) (by_cases status named)); always = λ told cause. inr (inl refl) }
   exact_ends WriteFault e command is status named = record { only = λ q. absurd (subst Caused (sym q) (by_cases status named)); always = λ told cause. inr (inr (inl refl)) }
   exact_ends Memory e command is status named = record { only = λ q. absurd (subst Caused (sym q) (by_cases status named)); always = λ told cause. inr (inr (inr (inl refl))) }
   exact_ends s e command is status named =
-      let told = subst (λ (f : Option Command). AnswersTo shelves.held f s e.1.0) is e.1.1 in
+      let told = subst (λ (f : Option Command). AnswersTo old.held f s e.1.0) is e.1.1 in
       record {
-        only = λ q. subst (CauseOf shelves.held command) q (command_only shelves.held command s e.1.0 (subst Caused (sym q) (by_cases status named)) told);
-        always = λ all cause. inl (command_always shelves.held once command all status s e.1.0 cause told);
+        only = λ q. subst (CauseOf old.held command) q (command_only old.held command s e.1.0 (subst Caused (sym q) (by_cases status named)) told);
+        always = λ all cause. inl (command_always old.held once command all status s e.1.0 cause told);
       }

@@ -183,7 +183,7 @@ module _ (spells : SpelledTextsRead) (spelt : ReadTextsAreSpelled) (parts_spelt 
       let told = answered splitting (Splitting file merged) (line (codes "end")) splits ends in
       at said.lines said.text_is said.answers told.lines told.text_is told.answers
     where
-      at : (lines : List (List ℕ)) → text ≡ text_of lines → OnFile (OnTree (MergeWork merging.shelves.held (part ∷ parts)) merging.shelves.held tree) merging.shelves.held file Done lines → (list : List (List ℕ)) → line (codes "end") ≡ text_of list → OnFile (OnTree SplitWork splitting.shelves.held merged) splitting.shelves.held file Done list → Accepts checking merged text ⊎ HasFailed checking
+      at : (lines : List (List ℕ)) → text ≡ text_of lines → OnFile (OnTree (MergeWork merging.shelf_before.held (part ∷ parts)) merging.shelf_before.held tree) merging.shelf_before.held file Done lines → (list : List (List ℕ)) → line (codes "end") ≡ text_of list → OnFile (OnTree SplitWork splitting.shelf_before.held merged) splitting.shelf_before.held file Done list → Accepts checking merged text ⊎ HasFailed checking
       at lines is (bytes, there, inl fault) list none splitted = absurd fault
       at lines is (bytes, there, inr (p, given, (own, its, inl fault))) list none splitted = absurd fault
       at lines is (bytes, there, inr (p, given, (own, its, inr (claim, nodes, gives, inl fault)))) list none splitted = absurd fault.fault.2
@@ -191,25 +191,25 @@ module _ (spells : SpelledTextsRead) (spelt : ReadTextsAreSpelled) (parts_spelt 
           elim (merge_fault_status (are_several (part ∷ parts)) (get_or (part ∷ parts) stopped.place []) stopped.fault Done lines stopped.says) [ inl q ↦ cc | inr q ↦ cc ]
       at lines is (bytes, there, inr (p, given, (own, its, inr (claim, nodes, gives, inr ([], give, inl done))))) list none splitted = absurd give
       at lines is (bytes, there, inr (p, given, (own, its, inr (claim, nodes, gives, inr (q ∷ ps, give, inl done))))) list none splitted =
-          let same : bytes ≡ kept.0 = is_held (merging.shelves.held file) kept.0 bytes kept.1 there in
+          let same : bytes ≡ kept.0 = is_held (merging.shelf_before.held file) kept.0 bytes kept.1 there in
           let first : GivesProblem kept.0 p = subst (λ (b : List ℕ). GivesProblem b p) same given in
-          let both_same : keep.0 ≡ kept.0 = is_held (merging.shelves.held file) kept.0 keep.0 kept.1 (subst (λ (t : Told). AreHeld t keep.0) (sym keep.1) refl) in
+          let both_same : keep.0 ≡ kept.0 = is_held (merging.shelf_before.held file) kept.0 keep.0 kept.1 (subst (λ (t : Told). AreHeld t keep.0) (sym keep.1) refl) in
           let last : GivesProblem keep.0 p = subst (λ (b : List ℕ). GivesProblem b p) (sym both_same) first in
           let spelling : text ≡ tree_text p done.both done.grown whole = is ∙ (ap text_of done.text ∙ sym (spelled_text (tree_text_lines p done.both done.grown whole))) in
           let reads : read_text p text ≡ Ok (record { claim = done.both; tree = done.grown; tail = whole }) =
-          ap (read_text p) spelling ∙ merged_reads spells spelt parts_spelt grafts stand decide p given.valid merging.shelves.held (part ∷ parts) (q ∷ ps) own claim nodes done.both done.grown gives give done.merged in
-          let work = given_work (OnTree SplitWork splitting.shelves.held merged) splitting.shelves.held file kept.0 p Done list kept.2 first splitted in
+          ap (read_text p) spelling ∙ merged_reads spells spelt parts_spelt grafts stand decide p given.valid merging.shelf_before.held (part ∷ parts) (q ∷ ps) own claim nodes done.both done.grown gives give done.merged in
+          let work = given_work (OnTree SplitWork splitting.shelf_before.held merged) splitting.shelf_before.held file kept.0 p Done list kept.2 first splitted in
           within p claim nodes q ps done.both done.grown given.valid done.merged reads last list none work
         where
-          within : (p : Problem) (claim : Claim) (nodes : Tree) (q : Part) (ps : List Part) (both : Claim) (grown : Tree) → IsValid p → AreMerged p claim nodes (q ∷ ps) both grown → read_text p text ≡ Ok (record { claim = both; tree = grown; tail = whole }) → GivesProblem keep.0 p → (list : List (List ℕ)) → line (codes "end") ≡ text_of list → OnTree SplitWork splitting.shelves.held merged p Done list → Accepts checking merged text ⊎ HasFailed checking
+          within : (p : Problem) (claim : Claim) (nodes : Tree) (q : Part) (ps : List Part) (both : Claim) (grown : Tree) → IsValid p → AreMerged p claim nodes (q ∷ ps) both grown → read_text p text ≡ Ok (record { claim = both; tree = grown; tail = whole }) → GivesProblem keep.0 p → (list : List (List ℕ)) → line (codes "end") ≡ text_of list → OnTree SplitWork splitting.shelf_before.held merged p Done list → Accepts checking merged text ⊎ HasFailed checking
           within p claim nodes q ps both grown valid are reads last list none (b, it, inl fault) = absurd fault
           within p claim nodes q ps both grown valid are reads last list none (b, it, inr (other, trunk, gives, work)) =
-              let short : length text ≤ tree_limit = subst (λ (t : List ℕ). length t ≤ tree_limit) (is_held (splitting.shelves.held merged) text b holds it) gives.0 in
+              let short : length text ≤ tree_limit = subst (λ (t : List ℕ). length t ≤ tree_limit) (is_held (splitting.shelf_before.held merged) text b holds it) gives.0 in
               let given : GivesTree p text both grown = (short, (whole, reads)) in
-              let does : SplitWork p both grown Done list = given_tree SplitWork splitting.shelves.held merged text p both grown Done list holds given (b, it, inr (other, trunk, gives, work)) in
+              let does : SplitWork p both grown Done list = given_tree SplitWork splitting.shelf_before.held merged text p both grown Done list holds given (b, it, inr (other, trunk, gives, work)) in
               let empty : open_leaves (shape_of p) (first_node ∷ []) grown 0 ≡ [] = lists_none (open_leaves (shape_of p) (first_node ∷ []) grown 0) (sym (none ∙ ap text_of does.1)) in
               let accepted : IsAccepted p first_node both grown = closed spells spelt parts_spelt grafts stand decide p valid claim nodes q ps both grown are does.0 empty in
               judged checking (Checking file merged) merged text checks (λ s ls h.
-              let judge = given_work (OnTree CheckWork checking.shelves.held merged) checking.shelves.held file keep.0 p s ls keep.2 last h in
+              let judge = given_work (OnTree CheckWork checking.shelf_before.held merged) checking.shelf_before.held file keep.0 p s ls keep.2 last h in
               read no_claim_fault no_tree_fault p (record { claim = both; tree = grown; tail = whole }) merged text s ls reads accepted
-              (subst (λ (b : List ℕ). TreeSays CheckWork merged p b s ls) (is_held (checking.shelves.held merged) text judge.0 here judge.1) judge.2))
+              (subst (λ (b : List ℕ). TreeSays CheckWork merged p b s ls) (is_held (checking.shelf_before.held merged) text judge.0 here judge.1) judge.2))

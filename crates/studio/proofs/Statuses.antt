@@ -6,6 +6,7 @@ use Rattle.edit_rules.specs.Edit.{Edit}
 use Rattle.pns_rules.specs.declared.verdict.Verdict.{Verdict}
 use Rattle.pns_rules.specs.declared.verdict.Verdict.TheVariants.{Meets, Breaks}
 use Rattle.text_rules.specs.Outside.{HasRisen, Told, IsToldAnd}
+use Rattle.io_rules.specs.State.{ShelfState, SinkState}
 use Rattle.studio_rules.specs.Command.{Command, Max, Axioms, Flows, Listing, Make, Migrate, Editing, Undoing, Checking, RankChecking, Solving, Ranking, Trial, Telling, command_of, IsFileOf, IsFileWord, Table, Splitting, Expanding, Drawing, DrawingNetwork, Reporting, Ranging, Planning, Parting, PartingAgainst, Merging}
 use Rattle.studio_rules.specs.Reading.{AreHeld, FileFault, file_limit}
 use Rattle.studio_rules.specs.Max.{MaxWork}
@@ -48,7 +49,7 @@ use Rattle.problem_rules.specs.Generated.{generated}
 use Rattle.studio_rules.specs.Solve.{SolveWork, Holds, status_of, CanFinish}
 use Rattle.studio_rules.specs.Summary.{SummaryWork}
 use Rattle.studio_rules.specs.Axioms.{NamesSay, VerdictSays, first_stranger}
-use Rattle.studio_rules.specs.Ending.{Shelves, Ends, IsOneOf}
+use Rattle.studio_rules.specs.Ending.{Ends, IsOneOf}
 use Rattle.studio_rules.specs.Answers.{AnswersTo, CommandAnswers, WordsSay, IsReadWithin, IsUndisturbed, IsNotStopped, SearchCanFinish, statuses_of, first_file}
 use Rattle.studio_rules.specs.declared.status.Status.{Status}
 use Rattle.studio_rules.specs.declared.status.Status.TheVariants.{Done, Refused, Usage, BadProblem, Past, Spent, ReadFault, WriteFault, Memory, TooLong, BadToken, BadTree, BadEdit, NotMigrated, BadPlan, BadNode, NoLeaf, NotBest, UnknownName}
@@ -627,62 +628,62 @@ missing_says held (Merging file tree parts) name s lines first gone h = let same
 missing_says held (Ranking file count budget) name s lines first gone h = let same : file ≡ name = cc in nothing_held (held file) h.0 (ap held same ∙ gone) h.1
 missing_says held (Solving file budget) name s lines first gone h = let same : file ≡ name = cc in nothing_held (held file) h.0 (ap held same ∙ gone) h.1
 
-module _ (shelves : Shelves) (words : List (List ℕ)) (risen : Type 0) (old new : Option (List ℕ)) where
-  pub usage_ends : (s : Status) → Ends (WordsSay shelves words) risen old new s → s ≡ Usage → command_of words ≡ None
+module _ (old new : ShelfState) (words : List (List ℕ)) (before after : SinkState) where
+  pub usage_ends : (s : Status) → Ends (WordsSay old new words) before after s → s ≡ Usage → command_of words ≡ None
   usage_ends s e is =
-      let said = subst (λ (t : Status). Ends (WordsSay shelves words) risen old new t) is e in
-      usage_answers shelves.held (command_of words) said.1.0 said.1.1
+      let said = subst (λ (t : Status). Ends (WordsSay old new words) before after t) is e in
+      usage_answers old.held (command_of words) said.1.0 said.1.1
 
-  pub read_fault_ends : (s : Status) → Ends (WordsSay shelves words) risen old new s → s ≡ ReadFault → (name : List ℕ) × IsFileWord words name × HasRisen (shelves.before name) (shelves.after name)
+  pub read_fault_ends : (s : Status) → Ends (WordsSay old new words) before after s → s ≡ ReadFault → (name : List ℕ) × IsFileWord words name × HasRisen (old.faults name) (new.faults name)
   read_fault_ends s e is =
-      let said = subst (λ (t : Status). Ends (WordsSay shelves words) risen old new t) is e in
+      let said = subst (λ (t : Status). Ends (WordsSay old new words) before after t) is e in
       (said.1.0, said.1.1, said.1.2)
 
-  pub write_fault_ends : (s : Status) → Ends (WordsSay shelves words) risen old new s → s ≡ WriteFault → risen
-  write_fault_ends s e is = (subst (λ (t : Status). Ends (WordsSay shelves words) risen old new t) is e).0
+  pub write_fault_ends : (s : Status) → Ends (WordsSay old new words) before after s → s ≡ WriteFault → HasRisen before.faults after.faults
+  write_fault_ends s e is = (subst (λ (t : Status). Ends (WordsSay old new words) before after t) is e).0
 
   -- words without a form are told so, unless the sink or memory fails
-  pub no_form_ends : (s : Status) → Ends (WordsSay shelves words) risen old new s → command_of words ≡ None → IsOneOf (Usage ∷ WriteFault ∷ Memory ∷ []) s
+  pub no_form_ends : (s : Status) → Ends (WordsSay old new words) before after s → command_of words ≡ None → IsOneOf (Usage ∷ WriteFault ∷ Memory ∷ []) s
   no_form_ends WriteFault e none = inr (inl refl)
   no_form_ends Memory e none = inr (inr (inl refl))
   no_form_ends ReadFault e none = absurd (subst (λ (f : Option Command). IsSomeAnd f (λ command. IsFileOf command e.1.0)) none e.1.1)
   no_form_ends s e none =
-      let told = subst (λ (f : Option Command). AnswersTo shelves.held f s e.1.0) none e.1.1 in inl told.0
+      let told = subst (λ (f : Option Command). AnswersTo old.held f s e.1.0) none e.1.1 in inl told.0
 
   -- nothing but want of memory stops a command that nothing disturbs
-  pub complete_ends : (s : Status) → Ends (WordsSay shelves words) risen old new s → (command : Command) → command_of words ≡ Some command → IsUndisturbed shelves command risen → IsOneOf (statuses_of command) s
+  pub complete_ends : (s : Status) → Ends (WordsSay old new words) before after s → (command : Command) → command_of words ≡ Some command → IsUndisturbed old new before after command → IsOneOf (statuses_of command) s
   complete_ends WriteFault e command is calm = absurd (calm.written e.0)
   complete_ends Memory e command is calm = memory_status command
   complete_ends ReadFault e command is calm =
       absurd (calm.read e.1.0 (subst (λ (f : Option Command). IsSomeAnd f (λ command. IsFileOf command e.1.0)) is e.1.1) e.1.2)
   complete_ends s e command is calm =
-      let told = subst (λ (f : Option Command). AnswersTo shelves.held f s e.1.0) is e.1.1 in command_status shelves.held command s e.1.0 told calm.held
+      let told = subst (λ (f : Option Command). AnswersTo old.held f s e.1.0) is e.1.1 in command_status old.held command s e.1.0 told calm.held
 
   -- a search that nothing stops comes to its end
-  pub finish_ends : (s : Status) → Ends (WordsSay shelves words) risen old new s → (command : Command) → command_of words ≡ Some command → SearchCanFinish shelves.held command → IsNotStopped s
+  pub finish_ends : (s : Status) → Ends (WordsSay old new words) before after s → (command : Command) → command_of words ≡ Some command → SearchCanFinish old.held command → IsNotStopped s
   finish_ends WriteFault e command is can = ((λ q. cc), (λ q. cc))
   finish_ends Memory e command is can = ((λ q. cc), (λ q. cc))
   finish_ends ReadFault e command is can = ((λ q. cc), (λ q. cc))
   finish_ends s e command is can =
-      let told = subst (λ (f : Option Command). AnswersTo shelves.held f s e.1.0) is e.1.1 in command_finished shelves.held command s e.1.0 can told
+      let told = subst (λ (f : Option Command). AnswersTo old.held f s e.1.0) is e.1.1 in command_finished old.held command s e.1.0 can told
 
   -- a claim that `check` accepts is best
-  pub accepted_ends : AcceptedIsBest → (s : Status) → Ends (WordsSay shelves words) risen old new s → (file tree : List ℕ) → command_of words ≡ Some (Checking file tree) → s ≡ Done → FilesClaimBest shelves.held file tree
+  pub accepted_ends : AcceptedIsBest → (s : Status) → Ends (WordsSay old new words) before after s → (file tree : List ℕ) → command_of words ≡ Some (Checking file tree) → s ≡ Done → FilesClaimBest old.held file tree
   accepted_ends law s e file tree is done =
-      let said = subst (λ (t : Status). Ends (WordsSay shelves words) risen old new t) done e in
-      law shelves.held file tree said.1.0 (subst (λ (f : Option Command). AnswersTo shelves.held f Done said.1.0) is said.1.1)
+      let said = subst (λ (t : Status). Ends (WordsSay old new words) before after t) done e in
+      law old.held file tree said.1.0 (subst (λ (f : Option Command). AnswersTo old.held f Done said.1.0) is said.1.1)
 
   -- the networks of a ranking that `rankcheck` accepts are the best
-  pub ranked_ends : AcceptedAreBest → (s : Status) → Ends (WordsSay shelves words) risen old new s → (file rank : List ℕ) → command_of words ≡ Some (RankChecking file rank) → s ≡ Done → FilesListBest shelves.held file rank
+  pub ranked_ends : AcceptedAreBest → (s : Status) → Ends (WordsSay old new words) before after s → (file rank : List ℕ) → command_of words ≡ Some (RankChecking file rank) → s ≡ Done → FilesListBest old.held file rank
   ranked_ends law s e file rank is done =
-      let said = subst (λ (t : Status). Ends (WordsSay shelves words) risen old new t) done e in
-      law shelves.held file rank said.1.0 (subst (λ (f : Option Command). AnswersTo shelves.held f Done said.1.0) is said.1.1)
+      let said = subst (λ (t : Status). Ends (WordsSay old new words) before after t) done e in
+      law old.held file rank said.1.0 (subst (λ (f : Option Command). AnswersTo old.held f Done said.1.0) is said.1.1)
 
   -- a command that reads a missing file first says so, unless the sink or memory fails
-  pub missing_ends : (s : Status) → Ends (WordsSay shelves words) risen old new s → (command : Command) (name : List ℕ) → command_of words ≡ Some command → first_file command ≡ Some name → shelves.held name ≡ Some None → IsOneOf (ReadFault ∷ WriteFault ∷ Memory ∷ []) s
+  pub missing_ends : (s : Status) → Ends (WordsSay old new words) before after s → (command : Command) (name : List ℕ) → command_of words ≡ Some command → first_file command ≡ Some name → old.held name ≡ Some None → IsOneOf (ReadFault ∷ WriteFault ∷ Memory ∷ []) s
   missing_ends ReadFault e command name is first gone = inl refl
   missing_ends WriteFault e command name is first gone = inr (inl refl)
   missing_ends Memory e command name is first gone = inr (inr (inl refl))
   missing_ends s e command name is first gone =
-      let told = subst (λ (f : Option Command). AnswersTo shelves.held f s e.1.0) is e.1.1 in
-      absurd (missing_says shelves.held command name s e.1.0 first gone told)
+      let told = subst (λ (f : Option Command). AnswersTo old.held f s e.1.0) is e.1.1 in
+      absurd (missing_says old.held command name s e.1.0 first gone told)

@@ -1,29 +1,27 @@
 -- Laws over calls of `studio` one after another, on shelves that keep the files: what one call put out another accepts, or goes on from.
-use Rattle.std.specs.Prelude.{◌≡◌, ◌⊎◌, ◌≤◌, ◌<◌, ◌+◌, ◌++◌, ℕ, List, [], ◌∷◌, Option, Some, length, codes}
+use Rattle.std.specs.Prelude.{◌≡◌, ◌⊎◌, ◌≤◌, ◌<◌, ◌+◌, ◌++◌, ℕ, List, [], ◌∷◌, Some, length, codes}
 use Rattle.std.specs.Io.KnownBytes.{Appends}
-use Rattle.text_rules.specs.Outside.{HasRisen}
+use Rattle.io_rules.specs.State.{ShelfState, SinkState}
 use Rattle.studio_rules.specs.TreeFile.{tree_limit}
 use Rattle.studio_rules.specs.Command.{Command, Listing, Checking, RankChecking, Solving, Ranking, Splitting, Merging, command_of}
 use Rattle.studio_rules.specs.Lines.{line, text_of}
-use Rattle.studio_rules.specs.Ending.{Shelves, Ends, IsOneOf}
+use Rattle.studio_rules.specs.Ending.{Ends, IsOneOf}
 use Rattle.studio_rules.specs.declared.status.Status.{Status}
 use Rattle.studio_rules.specs.declared.status.Status.TheVariants.{Done, ReadFault, WriteFault, Memory, TooLong}
 use Rattle.studio_rules.specs.Answers.{WordsSay}
 
--- A call: its words, the shelf with the counts of its faults before and after, the same of the sink with what it tells to be out, and the
--- status with which the call ended.
+-- A call: its words, the shelf and the sink before and after, and the status with which the call ended.
 pub record Call : Type 0 where
   pub words : List (List ℕ)
-  pub shelves : Shelves
-  pub faults_before : ℕ
-  pub faults_after : ℕ
-  pub out_before : Option (List ℕ)
-  pub out_after : Option (List ℕ)
+  pub shelf_before : ShelfState
+  pub shelf_after : ShelfState
+  pub out_before : SinkState
+  pub out_after : SinkState
   pub status : Status
 
 -- what the clause `ends` of `studio` says
 abbrev pub IsCall : Call → Type 0
-IsCall c = Ends (WordsSay c.shelves c.words) (HasRisen c.faults_before c.faults_after) c.out_before c.out_after c.status
+IsCall c = Ends (WordsSay c.shelf_before c.shelf_after c.words) c.out_before c.out_after c.status
 
 -- a call of the command
 pub record Calls (c : Call) (command : Command) : Type 0 where
@@ -34,19 +32,19 @@ pub record Calls (c : Call) (command : Command) : Type 0 where
 pub record Puts (c : Call) (text : List ℕ) : Type 0 where
   pub done : c.status ≡ Done
   pub front : List ℕ
-  pub before : c.out_before ≡ Some front
-  pub after : c.out_after ≡ Some (front ++ text)
+  pub before : c.out_before.written ≡ Some front
+  pub after : c.out_after.written ≡ Some (front ++ text)
 
 -- the shelf of a call tells that the file holds the bytes, and those of two calls that it holds the same
 abbrev pub Holds : Call → List ℕ → List ℕ → Type 0
-Holds c name bytes = c.shelves.held name ≡ Some (Some bytes)
+Holds c name bytes = c.shelf_before.held name ≡ Some (Some bytes)
 
 abbrev pub Keep : Call → Call → List ℕ → Type 0
 Keep c d name = (bytes : List ℕ) × Holds c name bytes × Holds d name bytes
 
 -- it ended with the status and the text, or with a fault of reading, of the sink or of memory
 abbrev pub EndsWith : Call → Status → List ℕ → Type 0
-EndsWith c status text = (c.status ≡ status) × Appends c.out_before c.out_after text
+EndsWith c status text = (c.status ≡ status) × Appends c.out_before.written c.out_after.written text
 
 abbrev pub HasFailed : Call → Type 0
 HasFailed c = IsOneOf (ReadFault ∷ WriteFault ∷ Memory ∷ []) c.status

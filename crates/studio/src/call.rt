@@ -45,8 +45,7 @@ fn perform<F: Shelf, K: Sink>(
     out: &mut K,
 ) -> Status
     requires { AreWithin (command_view command) }
-    ensures { Ends (CommandSays (record { held = F.held shelf.old; before = F.faults shelf.old; after = F.faults shelf.new }) (command_view command.entry))
-        (HasRisen (K.faults out.old) (K.faults out.new)) (K.written out.old) (K.written out.new) result }
+    ensures { Ends (CommandSays (F.state shelf.old) (F.state shelf.new) (command_view command.entry)) (K.state out.old) (K.state out.new) result }
 {
     match command {
         Command::Max(file) => max(alloc, file, shelf, out),
@@ -84,8 +83,7 @@ fn perform<F: Shelf, K: Sink>(
 }
 
 fn run<F: Shelf, K: Sink>(alloc: Global, words: &[String], shelf: &mut F, out: &mut K) -> Status
-    ensures { Ends (WordsSay (record { held = F.held shelf.old; before = F.faults shelf.old; after = F.faults shelf.new }) (map string_bytes words.now))
-        (HasRisen (K.faults out.old) (K.faults out.new)) (K.written out.old) (K.written out.new) result }
+    ensures { Ends (WordsSay (F.state shelf.old) (F.state shelf.new) (map string_bytes words.now)) (K.state out.old) (K.state out.new) result }
 {
     let Ok(found) = command_of(alloc, words) else {
         return say_memory(out);
@@ -106,36 +104,35 @@ pub fn studio<F: Shelf, K: Sink>(
     shelf: &mut F,
     out: &mut K,
 ) -> Status
-    ensures ends { Ends (WordsSay (record { held = F.held shelf.old; before = F.faults shelf.old; after = F.faults shelf.new }) (map string_bytes words.now))
-        (HasRisen (K.faults out.old) (K.faults out.new)) (K.written out.old) (K.written out.new) result }
+    ensures ends { Ends (WordsSay (F.state shelf.old) (F.state shelf.new) (map string_bytes words.now)) (K.state out.old) (K.state out.new) result }
     // Usage comes exactly where the words have no form, and yields to the faults of the sink and of memory.
     ensures usage { result ≡ Status.Usage → command_of (map string_bytes words.now) ≡ None }
     ensures no_form { command_of (map string_bytes words.now) ≡ None → IsOneOf (Status.Usage ∷ Status.WriteFault ∷ Status.Memory ∷ []) result }
     // A fault of reading or writing has its count: that of a file of the words, or that of the sink.
-    ensures read_fault { result ≡ Status.ReadFault → (name : List ℕ) × IsFileWord (map string_bytes words.now) name × HasRisen (F.faults shelf.old name) (F.faults shelf.new name) }
-    ensures write_fault { result ≡ Status.WriteFault → HasRisen (K.faults out.old) (K.faults out.new) }
+    ensures read_fault { result ≡ Status.ReadFault → (name : List ℕ) × IsFileWord (map string_bytes words.now) name × HasRisen ((F.state shelf.old).faults name) ((F.state shelf.new).faults name) }
+    ensures write_fault { result ≡ Status.WriteFault → HasRisen (K.state out.old).faults (K.state out.new).faults }
     // A command whose first file the shelf tells to be missing says that it could not be read.
     ensures missing { (command : rules.Command) (name : List ℕ) → command_of (map string_bytes words.now) ≡ Some command → first_file command ≡ Some name
-        → F.held shelf.old name ≡ Some None → IsOneOf (Status.ReadFault ∷ Status.WriteFault ∷ Status.Memory ∷ []) result }
+        → (F.state shelf.old).held name ≡ Some None → IsOneOf (Status.ReadFault ∷ Status.WriteFault ∷ Status.Memory ∷ []) result }
     // A status that tells of the words and the files comes exactly where its cause holds: a file above its limit, the first fault of its
     // text, a bad token, an unknown name, words of no sound node, or a problem that is not migrated. It yields to the faults of reading,
     // of the sink and of memory.
-    ensures exact { (command : rules.Command) → command_of (map string_bytes words.now) ≡ Some command → EndsExactly (F.held shelf.old) command result }
+    ensures exact { (command : rules.Command) → command_of (map string_bytes words.now) ≡ Some command → EndsExactly (F.state shelf.old).held command result }
     // Where the command's files are held within the limit and no count rises, nothing but want of memory stops it.
     ensures complete { (command : rules.Command) → command_of (map string_bytes words.now) ≡ Some command
-        → IsUndisturbed (record { held = F.held shelf.old; before = F.faults shelf.old; after = F.faults shelf.new }) command (HasRisen (K.faults out.old) (K.faults out.new))
+        → IsUndisturbed (F.state shelf.old) (F.state shelf.new) (K.state out.old) (K.state out.new) command
         → IsOneOf (statuses_of command) result }
     // A search comes to its end where its budget is large enough and no number is out of range.
-    ensures finishes { (command : rules.Command) → command_of (map string_bytes words.now) ≡ Some command → SearchCanFinish (F.held shelf.old) command → IsNotStopped result }
+    ensures finishes { (command : rules.Command) → command_of (map string_bytes words.now) ≡ Some command → SearchCanFinish (F.state shelf.old).held command → IsNotStopped result }
     // Where `check` ends with status 0, its files give a valid problem and a claim that is best: the claimed network is an
     // allowed solution structure with flows of its cost, and none costs less; or none has flows.
     ensures accepted { (file : List ℕ) (tree : List ℕ) → command_of (map string_bytes words.now) ≡ Some (rules.Checking file tree)
-        → result ≡ Status.Done → FilesClaimBest (F.held shelf.old) file tree }
+        → result ≡ Status.Done → FilesClaimBest (F.state shelf.old).held file tree }
     // Where `rankcheck` ends with status 0, its files give a valid problem and a ranking that is right: no flows for the units of a listed
     // network cost less than it, and no other allowed solution structure costs less than the last one, or none has flows where fewer
     // are listed than were asked for.
     ensures ranked { (file : List ℕ) (rank : List ℕ) → command_of (map string_bytes words.now) ≡ Some (rules.RankChecking file rank)
-        → result ≡ Status.Done → FilesListBest (F.held shelf.old) file rank }
+        → result ≡ Status.Done → FilesListBest (F.state shelf.old).held file rank }
 {
     accepted_is_best();
     accepted_are_best();

@@ -2,7 +2,10 @@
 use Rattle.std.specs.List.{Contains}
 use Rattle.std.specs.Prelude.{◌≡◌, ◌≤◌, ◌⊎◌, ℕ, List, [], ◌∷◌, Option, Some, None, length, codes}
 use Rattle.text_rules.specs.Outside.{HasRisen, Told, IsToldAnd}
-use Rattle.studio_rules.specs.Command.{Command, Max, Axioms, Flows, Listing, Make, Migrate, Editing, Undoing, Checking, RankChecking, Solving, Ranking, Trial, Telling, command_of, IsFileOf, IsFileWord, Table, Splitting, Expanding, Drawing, DrawingNetwork, Reporting, Ranging, Planning, Parting, PartingAgainst, Merging}
+use Rattle.io_rules.specs.State.{ShelfState, SinkState}
+use Rattle.studio_rules.specs.Command.{Command, command_of, IsFileOf, IsFileWord}
+use Rattle.studio_rules.specs.Command.{Max, Axioms, Flows, Listing, Make, Migrate, Editing, Undoing, Checking, RankChecking, Solving, Ranking, Trial, Telling}
+use Rattle.studio_rules.specs.Command.{Table, Splitting, Expanding, Drawing, DrawingNetwork, Reporting, Ranging, Planning, Parting, PartingAgainst, Merging}
 use Rattle.problem_rules.specs.Generated.{generated}
 use Rattle.problem_rules.specs.Problem.{Problem}
 use Rattle.studio_rules.specs.Reading.{AreHeld, GivesProblem, OnFile, file_limit}
@@ -31,7 +34,7 @@ use Rattle.studio_rules.specs.Periods.{PeriodsWork}
 use Rattle.studio_rules.specs.Stable.{StableWork}
 use Rattle.studio_rules.specs.Solve.{SolveWork, CanFinish}
 use Rattle.studio_rules.specs.Trial.{TrialWork}
-use Rattle.studio_rules.specs.Ending.{Shelves, Says}
+use Rattle.studio_rules.specs.Ending.{Says}
 use Rattle.studio_rules.specs.Lines.{text_of}
 use Rattle.studio_rules.specs.declared.status.Status.{Status}
 use Rattle.studio_rules.specs.declared.status.Status.TheVariants.{Done, Refused, Usage, BadProblem, Past, Spent, Memory, BadToken, BadTree, BadEdit, NotMigrated, BadPlan, BadNode, NoLeaf, NotBest, UnknownName}
@@ -78,11 +81,11 @@ abbrev pub Answers : (List ℕ → Told) → List (List ℕ) → Status → List
 Answers held words = AnswersTo held (command_of words)
 
 -- what a command, and what the words, may have out with a status
-abbrev pub CommandSays : Shelves → Command → Status → List ℕ → Type 0
-CommandSays shelves command = Says (CommandAnswers shelves.held command) (IsFileOf command) shelves
+abbrev pub CommandSays : ShelfState → ShelfState → Command → Status → List ℕ → Type 0
+CommandSays old new command = Says (CommandAnswers old.held command) (IsFileOf command) old new
 
-abbrev pub WordsSay : Shelves → List (List ℕ) → Status → List ℕ → Type 0
-WordsSay shelves words = Says (Answers shelves.held words) (IsFileWord words) shelves
+abbrev pub WordsSay : ShelfState → ShelfState → List (List ℕ) → Status → List ℕ → Type 0
+WordsSay old new words = Says (Answers old.held words) (IsFileWord words) old new
 
 -- the file that a command reads first, if it reads any
 abbrev pub first_file : Command → Option (List ℕ)
@@ -124,10 +127,10 @@ IsReadWithin (Merging file tree parts) name limit = ((name ≡ file) × (limit �
 IsReadWithin command name limit = IsFileOf command name × (limit ≡ file_limit)
 
 -- the files of the command are held within their limits, and neither their counts of faults nor that of the sink rise
-pub record IsUndisturbed (shelves : Shelves) (command : Command) (risen : Type 0) : Type 0 where
-  pub held : (name : List ℕ) (limit : ℕ) → IsReadWithin command name limit → IsToldAnd (shelves.held name) (λ file. length file ≤ limit)
-  pub read : (name : List ℕ) → IsFileOf command name → HasRisen (shelves.before name) (shelves.after name) → ⊥
-  pub written : risen → ⊥
+pub record IsUndisturbed (old new : ShelfState) (before after : SinkState) (command : Command) : Type 0 where
+  pub held : (name : List ℕ) (limit : ℕ) → IsReadWithin command name limit → IsToldAnd (old.held name) (λ file. length file ≤ limit)
+  pub read : (name : List ℕ) → IsFileOf command name → HasRisen (old.faults name) (new.faults name) → ⊥
+  pub written : HasRisen before.faults after.faults → ⊥
 
 -- the statuses with which an undisturbed command may end
 abbrev pub statuses_of : Command → List Status

@@ -1,16 +1,11 @@
 -- How a call ends: with the whole text of its status, or with a front of such a text where the sink failed.
-use Rattle.std.specs.Prelude.{◌≡◌, ◌⊎◌, ◌++◌, ℕ, List, [], ◌∷◌, Option, codes}
+use Rattle.std.specs.Prelude.{◌≡◌, ◌⊎◌, ◌++◌, ℕ, List, [], ◌∷◌, codes}
 use Rattle.std.specs.Io.KnownBytes.{Appends}
-use Rattle.text_rules.specs.Outside.{HasRisen, AppendsFront, Told}
+use Rattle.text_rules.specs.Outside.{HasRisen, AppendsFront}
+use Rattle.io_rules.specs.State.{ShelfState, SinkState}
 use Rattle.studio_rules.specs.Lines.{line, text_of}
 use Rattle.studio_rules.specs.declared.status.Status.{Status}
 use Rattle.studio_rules.specs.declared.status.Status.TheVariants.{ReadFault, WriteFault, Memory}
-
--- the shelf in a call: the bytes of each file where it tells them, and the counts of faults before the call and after it
-pub record Shelves : Type 0 where
-  pub held : List ℕ → Told
-  pub before : List ℕ → ℕ
-  pub after : List ℕ → ℕ
 
 -- no lines, or the first ones of an answer
 abbrev pub IsFrontOfAnswer : (Status → List (List ℕ) → Type 0) → List (List ℕ) → Type 0
@@ -25,17 +20,19 @@ Tells answers WriteFault text = ⊥
 Tells answers Memory text = (lines : List (List ℕ)) × IsFrontOfAnswer answers lines × (text ≡ text_of lines ++ line (codes "memory"))
 Tells answers status text = (lines : List (List ℕ)) × answers status lines × (text ≡ text_of lines)
 
--- the same of a call that reads files: a fault of reading has the name of one of them, whose count rose
-abbrev pub Says : (Status → List (List ℕ) → Type 0) → (List ℕ → Type 0) → Shelves → Status → List ℕ → Type 0
-Says answers is_file shelves ReadFault text =
-    (name : List ℕ) × is_file name × HasRisen (shelves.before name) (shelves.after name) × (text ≡ line (codes "read fault " ++ name))
-Says answers is_file shelves status text = Tells answers status text
+-- the same of a call that reads files of a shelf, old before it and new after it: a fault of reading has the name of one of them, whose
+-- count rose
+abbrev pub Says : (Status → List (List ℕ) → Type 0) → (List ℕ → Type 0) → ShelfState → ShelfState → Status → List ℕ → Type 0
+Says answers is_file old new ReadFault text =
+    (name : List ℕ) × is_file name × HasRisen (old.faults name) (new.faults name) × (text ≡ line (codes "read fault " ++ name))
+Says answers is_file old new status text = Tells answers status text
 
--- What is out since old is a text that P allows with the status; after a fault of the sink, whose count then rose, a
--- front of such a text.
-abbrev pub Ends : (Status → List ℕ → Type 0) → Type 0 → Option (List ℕ) → Option (List ℕ) → Status → Type 0
-Ends P risen old new WriteFault = risen × (status : Status) × (whole : List ℕ) × P status whole × AppendsFront old new whole
-Ends P risen old new status = (text : List ℕ) × P status text × Appends old new text
+-- What a sink, old before a call and new after it, has taken in the call is a text that P allows with the status; after a fault of the
+-- sink, whose count then rose, a front of such a text.
+abbrev pub Ends : (Status → List ℕ → Type 0) → SinkState → SinkState → Status → Type 0
+Ends P old new WriteFault =
+    HasRisen old.faults new.faults × (status : Status) × (whole : List ℕ) × P status whole × AppendsFront old.written new.written whole
+Ends P old new status = (text : List ℕ) × P status text × Appends old.written new.written text
 
 -- one text with one status
 abbrev pub Only : Status → List ℕ → Status → List ℕ → Type 0

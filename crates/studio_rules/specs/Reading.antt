@@ -4,9 +4,12 @@ use Rattle.text_rules.specs.Outside.{Told, IfTold}
 use Rattle.problem_rules.specs.Problem.{Problem}
 use Rattle.problem_rules.specs.Validity.{IsValid}
 use Rattle.text_rules.specs.declared.TextKind.{TextKind}
-use Rattle.text_rules.specs.declared.TextKind.TheVariants.{FileType, UnknownSection, DoubleSection, BadLine, BadName, UnknownKey, DoubleKey, BadNumber, TooFine, TooLarge, Negative, UnknownKind, ZeroRate, DoubleTerm, BothSides, EmptySide, DoubleMaterial, DoubleUnit, DoubleRates, TooMany, LowAboveHigh, UnknownMaterial, NoRates, NoProduct, DoubleExclusion, DoubleMember, FewMembers, UnknownUnit, BadPayout}
+use Rattle.text_rules.specs.declared.TextKind.TheVariants.{FileType, UnknownSection, DoubleSection, BadLine, BadName, UnknownKey, DoubleKey, BadNumber, TooFine, TooLarge, Negative, UnknownKind, ZeroRate, DoubleTerm, BothSides}
+use Rattle.text_rules.specs.declared.TextKind.TheVariants.{EmptySide, DoubleMaterial, DoubleUnit, DoubleRates, TooMany, LowAboveHigh, UnknownMaterial, NoRates, NoProduct, DoubleExclusion, DoubleMember, FewMembers, UnknownUnit, BadPayout}
 use Rattle.text_rules.specs.Fault.{Fault}
 use Rattle.text_rules.specs.Value.{read_text}
+use Rattle.io_rules.specs.State.{ShelfState}
+use Rattle.studio_rules.specs.Ending.{Says}
 use Rattle.studio_rules.specs.declared.status.Status.{Status}
 use Rattle.studio_rules.specs.declared.status.Status.TheVariants.{BadProblem, TooLong}
 
@@ -91,6 +94,14 @@ FileFaults held name status lines = (file : List ℕ) × AreHeld (held name) fil
 abbrev pub OnFile : (Problem → Status → List (List ℕ) → Type 0) → (List ℕ → Told) → List ℕ → Status → List (List ℕ) → Type 0
 OnFile work held name status lines =
     (file : List ℕ) × AreHeld (held name) file × (FileFault name file status lines ⊎ ((p : Problem) × GivesProblem file p × work p status lines))
+
+-- what a command on the named file may have out with a status, over a shelf that is old before it and new after it
+abbrev pub FileSays : (Problem → Status → List (List ℕ) → Type 0) → List ℕ → ShelfState → ShelfState → Status → List ℕ → Type 0
+FileSays work name old new = Says (OnFile work old.held name) (λ other. other ≡ name) old new
+
+-- the same of a command that also reads a second file, over what the shelf holds
+abbrev pub TwoFilesSay : ((List ℕ → Told) → List ℕ → Problem → Status → List (List ℕ) → Type 0) → List ℕ → List ℕ → ShelfState → ShelfState → Status → List ℕ → Type 0
+TwoFilesSay work file second old new = Says (OnFile (work old.held second) old.held file) (λ other. (other ≡ file) ⊎ (other ≡ second)) old new
 
 -- The status and lines of a command on a problem and a second file, of whose bytes `judged` speaks.
 abbrev pub OnSecond : (Problem → List ℕ → Status → List (List ℕ) → Type 0) → (List ℕ → Told) → List ℕ → Problem → Status → List (List ℕ) → Type 0

@@ -5,7 +5,8 @@ ghost use Rattle.problem_rules.specs.Each.{Each};
 ghost use Rattle.pgraph.specs.View.{step_of};
 ghost use Rattle.tree_rules.specs.Known.{AreUnits, KnowsStep, KnowsEnd, KnowsNode, KnowsTree, KnowsClaim, KnowsColumn, KnowsPlace, KnowsTail};
 ghost use Rattle.branch_tree.specs.View.{end_of, claim_of, tail_of};
-ghost use Rattle.tree_text_rules.specs.Spelling.{step_line, end_line, head_lines, node_lines, tree_lines, sizes_lines, network_lines, claim_lines, place_lines, spent_lines, past_lines, end_lines, tail_lines, rest_lines, tree_text_lines, place_fields};
+ghost use Rattle.tree_text_rules.specs.Spelling.{step_line, end_line, head_lines, node_lines, tree_lines, sizes_lines, network_lines, claim_lines};
+ghost use Rattle.tree_text_rules.specs.Spelling.{place_lines, spent_lines, past_lines, end_lines, tail_lines, rest_lines, tree_text_lines, place_fields};
 ghost use Rattle.tree_text_rules.specs.Line.{word_text};
 ghost use Rattle.tree_text_rules.specs.declared.Word.TheVariants as words;
 ghost use Rattle.tree_text.specs.Prints.{Prints};
@@ -30,8 +31,8 @@ fn put_steps<K: Sink>(
     out: &mut K,
 ) -> Result<(), PrintFault>
     requires known { Each (KnowsStep problem.now) (map step_of steps.now) }
-    ensures prints { Prints (map (step_line problem.now) (map step_of steps.now)) (K.written out.old) (K.written out.new) (K.faults out.old) (K.faults out.new) result }
-    ensures later { K.faults out.old ≤ K.faults out.new }
+    ensures prints { Prints (map (step_line problem.now) (map step_of steps.now)) (K.state out.old) (K.state out.new) result }
+    ensures later { (K.state out.old).faults ≤ (K.state out.new).faults }
 {
     'printing: for step in steps {
         let made = step_line(line, problem, *step);
@@ -52,8 +53,8 @@ pub(crate) fn put_head<K: Sink>(
 ) -> Result<(), PrintFault>
     requires option { AreUnits problem.now option }
     requires steps { Each (KnowsStep problem.now) (map step_of steps.now) }
-    ensures prints { Prints (head_lines problem.now option (map step_of steps.now)) (K.written out.old) (K.written out.new) (K.faults out.old) (K.faults out.new) result }
-    ensures later { K.faults out.old ≤ K.faults out.new }
+    ensures prints { Prints (head_lines problem.now option (map step_of steps.now)) (K.state out.old) (K.state out.new) result }
+    ensures later { (K.state out.old).faults ≤ (K.state out.new).faults }
 {
     let made = option_line(line, problem, option);
     match put_line(out, line, made) {
@@ -69,8 +70,8 @@ pub(crate) fn put_end<K: Sink>(
     out: &mut K,
 ) -> Result<(), PrintFault>
     requires known { KnowsEnd problem.now (end_of end.now) }
-    ensures prints { Prints (end_line problem.now (end_of end.now) ∷ []) (K.written out.old) (K.written out.new) (K.faults out.old) (K.faults out.new) result }
-    ensures later { K.faults out.old ≤ K.faults out.new }
+    ensures prints { Prints (end_line problem.now (end_of end.now) ∷ []) (K.state out.old) (K.state out.new) result }
+    ensures later { (K.state out.old).faults ≤ (K.state out.new).faults }
 {
     let made = end_line(line, problem, end);
     put_line(out, line, made)
@@ -83,8 +84,8 @@ fn put_node<K: Sink>(
     out: &mut K,
 ) -> Result<(), PrintFault>
     requires known { KnowsNode problem.now node.now }
-    ensures prints { Prints (node_lines problem.now node.now) (K.written out.old) (K.written out.new) (K.faults out.old) (K.faults out.new) result }
-    ensures later { K.faults out.old ≤ K.faults out.new }
+    ensures prints { Prints (node_lines problem.now node.now) (K.state out.old) (K.state out.new) result }
+    ensures later { (K.state out.old).faults ≤ (K.state out.new).faults }
 {
     match put_head(line, problem, node.option, node.steps.steps(), out) {
         Ok(()) => put_end(line, problem, &node.end, out),
@@ -99,8 +100,8 @@ fn put_nodes<K: Sink>(
     out: &mut K,
 ) -> Result<(), PrintFault>
     requires known { KnowsTree problem.now nodes.now }
-    ensures prints { Prints (tree_lines problem.now nodes.now) (K.written out.old) (K.written out.new) (K.faults out.old) (K.faults out.new) result }
-    ensures later { K.faults out.old ≤ K.faults out.new }
+    ensures prints { Prints (tree_lines problem.now nodes.now) (K.state out.old) (K.state out.new) result }
+    ensures later { (K.state out.old).faults ≤ (K.state out.new).faults }
 {
     'printing: for node in nodes {
         match put_node(line, problem, node, out) {
@@ -112,8 +113,8 @@ fn put_nodes<K: Sink>(
 }
 
 fn put_cost<K: Sink>(line: &mut String, cost: i128, out: &mut K) -> Result<(), PrintFault>
-    ensures prints { Prints ((word_text words.Cost ∷ signed_decimal cost ∷ []) ∷ []) (K.written out.old) (K.written out.new) (K.faults out.old) (K.faults out.new) result }
-    ensures later { K.faults out.old ≤ K.faults out.new }
+    ensures prints { Prints ((word_text words.Cost ∷ signed_decimal cost ∷ []) ∷ []) (K.state out.old) (K.state out.new) result }
+    ensures later { (K.state out.old).faults ≤ (K.state out.new).faults }
 {
     let made = cost_line(line, cost);
     put_line(out, line, made)
@@ -125,8 +126,8 @@ fn put_sizes_line<K: Sink>(
     sizes: &[i128],
     out: &mut K,
 ) -> Result<(), PrintFault>
-    ensures prints { Prints ((word_text words.Sizes ∷ signed_decimal d ∷ map signed_decimal sizes.now) ∷ []) (K.written out.old) (K.written out.new) (K.faults out.old) (K.faults out.new) result }
-    ensures later { K.faults out.old ≤ K.faults out.new }
+    ensures prints { Prints ((word_text words.Sizes ∷ signed_decimal d ∷ map signed_decimal sizes.now) ∷ []) (K.state out.old) (K.state out.new) result }
+    ensures later { (K.state out.old).faults ≤ (K.state out.new).faults }
 {
     let made = sizes_line(line, d, sizes);
     put_line(out, line, made)
@@ -139,8 +140,8 @@ fn put_sizes<K: Sink>(
     cost: i128,
     out: &mut K,
 ) -> Result<(), PrintFault>
-    ensures prints { Prints (sizes_lines d sizes.now cost) (K.written out.old) (K.written out.new) (K.faults out.old) (K.faults out.new) result }
-    ensures later { K.faults out.old ≤ K.faults out.new }
+    ensures prints { Prints (sizes_lines d sizes.now cost) (K.state out.old) (K.state out.new) result }
+    ensures later { (K.state out.old).faults ≤ (K.state out.new).faults }
 {
     match put_sizes_line(line, d, sizes, out) {
         Ok(()) => put_cost(line, cost, out),
@@ -155,8 +156,8 @@ pub(crate) fn put_network<K: Sink>(
     out: &mut K,
 ) -> Result<(), PrintFault>
     requires known { AreUnits problem.now network.now.units }
-    ensures prints { Prints (network_lines problem.now network.now) (K.written out.old) (K.written out.new) (K.faults out.old) (K.faults out.new) result }
-    ensures later { K.faults out.old ≤ K.faults out.new }
+    ensures prints { Prints (network_lines problem.now network.now) (K.state out.old) (K.state out.new) result }
+    ensures later { (K.state out.old).faults ≤ (K.state out.new).faults }
 {
     let units = network.units();
     let d = network.d();
@@ -170,8 +171,8 @@ pub(crate) fn put_network<K: Sink>(
 }
 
 fn put_word<K: Sink>(line: &mut String, word: &str, out: &mut K) -> Result<(), PrintFault>
-    ensures prints { Prints ((word.now ∷ []) ∷ []) (K.written out.old) (K.written out.new) (K.faults out.old) (K.faults out.new) result }
-    ensures later { K.faults out.old ≤ K.faults out.new }
+    ensures prints { Prints ((word.now ∷ []) ∷ []) (K.state out.old) (K.state out.new) result }
+    ensures later { (K.state out.old).faults ≤ (K.state out.new).faults }
 {
     let made = begin(line, word);
     put_line(out, line, made)
@@ -184,8 +185,8 @@ fn put_claim<K: Sink>(
     out: &mut K,
 ) -> Result<(), PrintFault>
     requires known { KnowsClaim problem.now (claim_of claim.now) }
-    ensures prints { Prints (claim_lines problem.now (claim_of claim.now)) (K.written out.old) (K.written out.new) (K.faults out.old) (K.faults out.new) result }
-    ensures later { K.faults out.old ≤ K.faults out.new }
+    ensures prints { Prints (claim_lines problem.now (claim_of claim.now)) (K.state out.old) (K.state out.new) result }
+    ensures later { (K.state out.old).faults ≤ (K.state out.new).faults }
 {
     match claim {
         Claim::Network(network) => put_network(line, problem, network, out),
@@ -201,8 +202,8 @@ fn put_place_line<K: Sink>(
     out: &mut K,
 ) -> Result<(), PrintFault>
     requires known { KnowsPlace problem.now place }
-    ensures prints { Prints ((word_text words.Place ∷ place_fields problem.now place) ∷ []) (K.written out.old) (K.written out.new) (K.faults out.old) (K.faults out.new) result }
-    ensures later { K.faults out.old ≤ K.faults out.new }
+    ensures prints { Prints ((word_text words.Place ∷ place_fields problem.now place) ∷ []) (K.state out.old) (K.state out.new) result }
+    ensures later { (K.state out.old).faults ≤ (K.state out.new).faults }
 {
     let made = place_line(line, problem, place);
     put_line(out, line, made)
@@ -217,8 +218,8 @@ pub(crate) fn put_place<K: Sink>(
 ) -> Result<(), PrintFault>
     requires columns { Each (KnowsColumn problem.now) nonbasic.now }
     requires known { KnowsPlace problem.now place }
-    ensures prints { Prints (place_lines problem.now nonbasic.now place) (K.written out.old) (K.written out.new) (K.faults out.old) (K.faults out.new) result }
-    ensures later { K.faults out.old ≤ K.faults out.new }
+    ensures prints { Prints (place_lines problem.now nonbasic.now place) (K.state out.old) (K.state out.new) result }
+    ensures later { (K.state out.old).faults ≤ (K.state out.new).faults }
 {
     let made = nonbasic_line(line, problem, nonbasic);
     match put_line(out, line, made) {
@@ -233,8 +234,8 @@ fn put_spent<K: Sink>(
     options: u128,
     out: &mut K,
 ) -> Result<(), PrintFault>
-    ensures prints { Prints (spent_lines next options) (K.written out.old) (K.written out.new) (K.faults out.old) (K.faults out.new) result }
-    ensures later { K.faults out.old ≤ K.faults out.new }
+    ensures prints { Prints (spent_lines next options) (K.state out.old) (K.state out.new) result }
+    ensures later { (K.state out.old).faults ≤ (K.state out.new).faults }
 {
     let made = spent_line(line, next, options);
     match put_line(out, line, made) {
@@ -252,8 +253,8 @@ fn put_place_and_end<K: Sink>(
 ) -> Result<(), PrintFault>
     requires columns { Each (KnowsColumn problem.now) nonbasic.now }
     requires known { KnowsPlace problem.now place }
-    ensures prints { Prints (place_lines problem.now nonbasic.now place ++ end_lines) (K.written out.old) (K.written out.new) (K.faults out.old) (K.faults out.new) result }
-    ensures later { K.faults out.old ≤ K.faults out.new }
+    ensures prints { Prints (place_lines problem.now nonbasic.now place ++ end_lines) (K.state out.old) (K.state out.new) result }
+    ensures later { (K.state out.old).faults ≤ (K.state out.new).faults }
 {
     match put_place(line, problem, nonbasic, place, out) {
         Ok(()) => put_word(line, "end", out),
@@ -271,8 +272,8 @@ fn put_past<K: Sink>(
 ) -> Result<(), PrintFault>
     requires columns { Each (KnowsColumn problem.now) nonbasic.now }
     requires known { KnowsPlace problem.now place }
-    ensures prints { Prints (past_lines problem.now node nonbasic.now place) (K.written out.old) (K.written out.new) (K.faults out.old) (K.faults out.new) result }
-    ensures later { K.faults out.old ≤ K.faults out.new }
+    ensures prints { Prints (past_lines problem.now node nonbasic.now place) (K.state out.old) (K.state out.new) result }
+    ensures later { (K.state out.old).faults ≤ (K.state out.new).faults }
 {
     let made = past_line(line, node);
     match put_line(out, line, made) {
@@ -288,8 +289,8 @@ pub(crate) fn put_tail<K: Sink>(
     out: &mut K,
 ) -> Result<(), PrintFault>
     requires known { KnowsTail problem.now (tail_of tail.now) }
-    ensures prints { Prints (tail_lines problem.now (tail_of tail.now)) (K.written out.old) (K.written out.new) (K.faults out.old) (K.faults out.new) result }
-    ensures later { K.faults out.old ≤ K.faults out.new }
+    ensures prints { Prints (tail_lines problem.now (tail_of tail.now)) (K.state out.old) (K.state out.new) result }
+    ensures later { (K.state out.old).faults ≤ (K.state out.new).faults }
 {
     match tail {
         Tail::Whole => put_word(line, "end", out),
@@ -311,8 +312,8 @@ fn put_tree_and_tail<K: Sink>(
 ) -> Result<(), PrintFault>
     requires tree { KnowsTree problem.now tree.now }
     requires tail { KnowsTail problem.now (tail_of tail.now) }
-    ensures prints { Prints (tree_lines problem.now tree.now ++ tail_lines problem.now (tail_of tail.now)) (K.written out.old) (K.written out.new) (K.faults out.old) (K.faults out.new) result }
-    ensures later { K.faults out.old ≤ K.faults out.new }
+    ensures prints { Prints (tree_lines problem.now tree.now ++ tail_lines problem.now (tail_of tail.now)) (K.state out.old) (K.state out.new) result }
+    ensures later { (K.state out.old).faults ≤ (K.state out.new).faults }
 {
     match put_nodes(line, problem, tree.nodes(), out) {
         Ok(()) => put_tail(line, problem, tail, out),
@@ -331,8 +332,8 @@ pub(crate) fn put_rest<K: Sink>(
     requires claim { KnowsClaim problem.now (claim_of claim.now) }
     requires tree { KnowsTree problem.now tree.now }
     requires tail { KnowsTail problem.now (tail_of tail.now) }
-    ensures prints { Prints (rest_lines problem.now (claim_of claim.now) tree.now (tail_of tail.now)) (K.written out.old) (K.written out.new) (K.faults out.old) (K.faults out.new) result }
-    ensures later { K.faults out.old ≤ K.faults out.new }
+    ensures prints { Prints (rest_lines problem.now (claim_of claim.now) tree.now (tail_of tail.now)) (K.state out.old) (K.state out.new) result }
+    ensures later { (K.state out.old).faults ≤ (K.state out.new).faults }
 {
     match put_claim(line, problem, claim, out) {
         Ok(()) => put_tree_and_tail(line, problem, tree, tail, out),
@@ -351,8 +352,8 @@ pub(crate) fn put_tree<K: Sink>(
     requires claim { KnowsClaim problem.now (claim_of claim.now) }
     requires tree { KnowsTree problem.now tree.now }
     requires tail { KnowsTail problem.now (tail_of tail.now) }
-    ensures prints { Prints (tree_text_lines problem.now (claim_of claim.now) tree.now (tail_of tail.now)) (K.written out.old) (K.written out.new) (K.faults out.old) (K.faults out.new) result }
-    ensures later { K.faults out.old ≤ K.faults out.new }
+    ensures prints { Prints (tree_text_lines problem.now (claim_of claim.now) tree.now (tail_of tail.now)) (K.state out.old) (K.state out.new) result }
+    ensures later { (K.state out.old).faults ≤ (K.state out.new).faults }
 {
     match put_word(line, "file_type=PNS_tree_v1", out) {
         Ok(()) => put_rest(line, problem, claim, tree, tail, out),

@@ -29,8 +29,8 @@ pub fn print_tree<K: Sink>(
     requires claim { KnowsClaim problem.now (claim_of claim.now) }
     requires tree { KnowsTree problem.now tree.now }
     requires tail { KnowsTail problem.now (tail_of tail.now) }
-    ensures prints { Prints (tree_text_lines problem.now (claim_of claim.now) tree.now (tail_of tail.now)) (K.written out.old) (K.written out.new) (K.faults out.old) (K.faults out.new) result }
-    ensures later { K.faults out.old ≤ K.faults out.new }
+    ensures prints { Prints (tree_text_lines problem.now (claim_of claim.now) tree.now (tail_of tail.now)) (K.state out.old) (K.state out.new) result }
+    ensures later { (K.state out.old).faults ≤ (K.state out.new).faults }
 {
     let mut line = String::new(alloc);
     put_tree(&mut line, problem, claim, tree, tail, out)
@@ -48,8 +48,8 @@ pub fn print_rest<K: Sink>(
     requires claim { KnowsClaim problem.now (claim_of claim.now) }
     requires tree { KnowsTree problem.now tree.now }
     requires tail { KnowsTail problem.now (tail_of tail.now) }
-    ensures prints { Prints (rest_lines problem.now (claim_of claim.now) tree.now (tail_of tail.now)) (K.written out.old) (K.written out.new) (K.faults out.old) (K.faults out.new) result }
-    ensures later { K.faults out.old ≤ K.faults out.new }
+    ensures prints { Prints (rest_lines problem.now (claim_of claim.now) tree.now (tail_of tail.now)) (K.state out.old) (K.state out.new) result }
+    ensures later { (K.state out.old).faults ≤ (K.state out.new).faults }
 {
     let mut line = String::new(alloc);
     put_rest(&mut line, problem, claim, tree, tail, out)
@@ -63,8 +63,8 @@ pub fn print_network<K: Sink>(
     out: &mut K,
 ) -> Result<(), PrintFault>
     requires known { AreUnits problem.now network.now.units }
-    ensures prints { Prints (network_lines problem.now network.now) (K.written out.old) (K.written out.new) (K.faults out.old) (K.faults out.new) result }
-    ensures later { K.faults out.old ≤ K.faults out.new }
+    ensures prints { Prints (network_lines problem.now network.now) (K.state out.old) (K.state out.new) result }
+    ensures later { (K.state out.old).faults ≤ (K.state out.new).faults }
 {
     let mut line = String::new(alloc);
     put_network(&mut line, problem, network, out)
@@ -80,8 +80,8 @@ pub fn print_head<K: Sink>(
 ) -> Result<(), PrintFault>
     requires option { AreUnits problem.now option }
     requires steps { Each (KnowsStep problem.now) (map step_of steps.now) }
-    ensures prints { Prints (head_lines problem.now option (map step_of steps.now)) (K.written out.old) (K.written out.new) (K.faults out.old) (K.faults out.new) result }
-    ensures later { K.faults out.old ≤ K.faults out.new }
+    ensures prints { Prints (head_lines problem.now option (map step_of steps.now)) (K.state out.old) (K.state out.new) result }
+    ensures later { (K.state out.old).faults ≤ (K.state out.new).faults }
 {
     let mut line = String::new(alloc);
     put_head(&mut line, problem, option, steps, out)
@@ -95,8 +95,8 @@ pub fn print_end<K: Sink>(
     out: &mut K,
 ) -> Result<(), PrintFault>
     requires known { KnowsEnd problem.now (end_of end.now) }
-    ensures prints { Prints (end_line problem.now (end_of end.now) ∷ []) (K.written out.old) (K.written out.new) (K.faults out.old) (K.faults out.new) result }
-    ensures later { K.faults out.old ≤ K.faults out.new }
+    ensures prints { Prints (end_line problem.now (end_of end.now) ∷ []) (K.state out.old) (K.state out.new) result }
+    ensures later { (K.state out.old).faults ≤ (K.state out.new).faults }
 {
     let mut line = String::new(alloc);
     put_end(&mut line, problem, end, out)
@@ -112,8 +112,8 @@ pub fn print_place<K: Sink>(
 ) -> Result<(), PrintFault>
     requires columns { Each (KnowsColumn problem.now) nonbasic.now }
     requires known { KnowsPlace problem.now place.now }
-    ensures prints { Prints (place_lines problem.now nonbasic.now place.now) (K.written out.old) (K.written out.new) (K.faults out.old) (K.faults out.new) result }
-    ensures later { K.faults out.old ≤ K.faults out.new }
+    ensures prints { Prints (place_lines problem.now nonbasic.now place.now) (K.state out.old) (K.state out.new) result }
+    ensures later { (K.state out.old).faults ≤ (K.state out.new).faults }
 {
     let mut line = String::new(alloc);
     put_place(&mut line, problem, nonbasic, *place, out)
@@ -127,8 +127,8 @@ pub fn print_tail<K: Sink>(
     out: &mut K,
 ) -> Result<(), PrintFault>
     requires known { KnowsTail problem.now (tail_of tail.now) }
-    ensures prints { Prints (tail_lines problem.now (tail_of tail.now)) (K.written out.old) (K.written out.new) (K.faults out.old) (K.faults out.new) result }
-    ensures later { K.faults out.old ≤ K.faults out.new }
+    ensures prints { Prints (tail_lines problem.now (tail_of tail.now)) (K.state out.old) (K.state out.new) result }
+    ensures later { (K.state out.old).faults ≤ (K.state out.new).faults }
 {
     let mut line = String::new(alloc);
     put_tail(&mut line, problem, tail, out)

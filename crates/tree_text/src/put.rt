@@ -15,8 +15,8 @@ pub fn put_line<K: Sink>(
     made: Result<(), AllocError>,
 ) -> Result<(), PrintFault>
     ensures prints { (tokens : List Token) → OnOk made (string_bytes line.old ≡ joined 32 tokens)
-        → Prints (tokens ∷ []) (K.written out.old) (K.written out.new) (K.faults out.old) (K.faults out.new) result }
-    ensures later { K.faults out.old ≤ K.faults out.new }
+        → Prints (tokens ∷ []) (K.state out.old) (K.state out.new) result }
+    ensures later { (K.state out.old).faults ≤ (K.state out.new).faults }
 {
     let Ok(()) = made else {
         return Err(PrintFault::Memory);

@@ -1,7 +1,7 @@
 use Rattle.std.proofs.Common.{◌≡◌, ◌∷◌, [], refl, inl, List, ℕ, codes, ap, subst}
 use Rattle.studio_rules.specs.Lines.{line}
 use Rattle.studio_rules.specs.Script.{ScriptFault, ScriptFaults, HasEditFault, edit_fault_line}
-use Rattle.studio_rules.specs.Ending.{Shelves, Says}
+use Rattle.studio_rules.specs.Ending.{Says}
 use Rattle.studio_rules.specs.declared.status.Status.{Status}
 use Rattle.studio_rules.specs.declared.status.Status.TheVariants.{BadEdit, Memory}
 use Rattle.endings.proofs.Ending.{Ends-map, Ends-from, only_in, only_or_memory_in, one_line}
@@ -10,23 +10,23 @@ use Rattle.command_files.proofs.script_file.edited_of.Goals as goal
 
 pub returns-in-Err-clause-told : goal.returns-in-Err-clause-told
 returns-in-Err-clause-told g c =
-    let held = g.F.Shelf.held c.args.shelf.now in
-    let shelves : Shelves = record { held = held; before = g.F.Shelf.faults c.args.shelf.now; after = g.F.Shelf.faults c.bytes_of.new.shelf } in
+    let old = g.F.Shelf.state c.args.shelf.now in
+    let new = g.F.Shelf.state c.bytes_of.new.shelf in
     let name = c.args.name.now in
     let p = c.args.problem.now in
-    let Q : Status → List ℕ → Type 0 = Says (ScriptFaults held name p) (λ other. other ≡ name) shelves in
-    Ends-map _ Q _ _ _ _ _ (long-faults (ScriptFault name p) shelves name 4194304 (λ file lines h. h)) (λ r. r) c.in-Err.ensures.told
+    let Q : Status → List ℕ → Type 0 = Says (ScriptFaults old.held name p) (λ other. other ≡ name) old new in
+    Ends-map _ Q (g.K.Sink.state c.args.out.now) _ _ (long-faults (ScriptFault name p) old new name 4194304 (λ file lines h. h)) c.in-Err.ensures.told
 
 pub returns-in-Err-At-clause-told : goal.returns-in-Err-At-clause-told
 returns-in-Err-At-clause-told g c =
-    let held = g.F.Shelf.held c.args.shelf.now in
-    let shelves : Shelves = record { held = held; before = g.F.Shelf.faults c.args.shelf.now; after = g.F.Shelf.faults c.bytes_of.new.shelf } in
+    let old = g.F.Shelf.state c.args.shelf.now in
+    let new = g.F.Shelf.state c.bytes_of.new.shelf in
     let name = c.args.name.now in
     let p = c.args.problem.now in
-    let Q : Status → List ℕ → Type 0 = Says (ScriptFaults held name p) (λ other. other ≡ name) shelves in
+    let Q : Status → List ℕ → Type 0 = Says (ScriptFaults old.held name p) (λ other. other ≡ name) old new in
     let told : HasEditFault p c.in-Ok.bytes.items c.in-Err-At.line c.in-Err-At.kind =
     subst (λ (text : List ℕ). HasEditFault p text c.in-Err-At.line c.in-Err-At.kind) c.deref.ensures.value (rw c.in-Err-At.field-0-is at c.in-Err-At.ensures.fault) in
-    Ends-from _ Q _ _ _ _ _ _ _ (ap g.K.Sink.faults c.in-Ok.ensures.silent) (ap g.K.Sink.written c.in-Ok.ensures.silent)
+    Ends-from _ Q (g.K.Sink.state c.args.out.now) _ _ _ (ap g.K.Sink.state c.in-Ok.ensures.silent)
     (only_or_memory_in Q BadEdit (line (edit_fault_line c.in-Err-At.line c.in-Err-At.kind)) (
       edit_fault_line c.in-Err-At.line c.in-Err-At.kind ∷ [],
       (c.in-Ok.bytes.items, c.in-Ok.ensures.whole, (c.in-Ok.ensures.within, (c.in-Err-At.line, c.in-Err-At.kind, told, refl))),
@@ -36,9 +36,9 @@ returns-in-Err-At-clause-told g c =
 
 pub returns-clause-told : goal.returns-clause-told
 returns-clause-told g c =
-    let held = g.F.Shelf.held c.args.shelf.now in
-    let shelves : Shelves = record { held = held; before = g.F.Shelf.faults c.args.shelf.now; after = g.F.Shelf.faults c.bytes_of.new.shelf } in
+    let old = g.F.Shelf.state c.args.shelf.now in
+    let new = g.F.Shelf.state c.bytes_of.new.shelf in
     let name = c.args.name.now in
     let p = c.args.problem.now in
-    let Q : Status → List ℕ → Type 0 = Says (ScriptFaults held name p) (λ other. other ≡ name) shelves in
-    Ends-from _ Q _ _ _ _ _ _ _ (ap g.K.Sink.faults c.in-Ok.ensures.silent) (ap g.K.Sink.written c.in-Ok.ensures.silent) (only_in Q Memory (line (codes "memory")) ([], inl refl, refl)) c.say_memory.ensures
+    let Q : Status → List ℕ → Type 0 = Says (ScriptFaults old.held name p) (λ other. other ≡ name) old new in
+    Ends-from _ Q (g.K.Sink.state c.args.out.now) _ _ _ (ap g.K.Sink.state c.in-Ok.ensures.silent) (only_in Q Memory (line (codes "memory")) ([], inl refl, refl)) c.say_memory.ensures

@@ -3,7 +3,7 @@ use Rattle.branch_tree.specs.View.{claim_of, tail_of}
 use Rattle.tree_text_rules.specs.Read.{read_text}
 use Rattle.studio_rules.specs.Lines.{line}
 use Rattle.studio_rules.specs.TreeFile.{TreeFault, TreeFaults, tree_fault_line}
-use Rattle.studio_rules.specs.Ending.{Shelves, Says}
+use Rattle.studio_rules.specs.Ending.{Says}
 use Rattle.studio_rules.specs.declared.status.Status.{Status}
 use Rattle.studio_rules.specs.declared.status.Status.TheVariants.{BadTree, Memory}
 use Rattle.endings.proofs.Ending.{Ends-map, Ends-from, only_in, only_or_memory_in, one_line}
@@ -12,23 +12,23 @@ use Rattle.command_files.proofs.tree_file.tree_of.Goals as goal
 
 pub returns-in-Err-clause-told : goal.returns-in-Err-clause-told
 returns-in-Err-clause-told g c =
-    let held = g.F.Shelf.held c.args.shelf.now in
-    let shelves : Shelves = record { held = held; before = g.F.Shelf.faults c.args.shelf.now; after = g.F.Shelf.faults c.bytes_of.new.shelf } in
+    let old = g.F.Shelf.state c.args.shelf.now in
+    let new = g.F.Shelf.state c.bytes_of.new.shelf in
     let name = c.args.name.now in
     let p = c.args.problem.now in
-    let Q : Status → List ℕ → Type 0 = Says (TreeFaults held name p) (λ other. other ≡ name) shelves in
-    Ends-map _ Q _ _ _ _ _ (long-faults (TreeFault name p) shelves name 268435456 (λ file lines h. h)) (λ r. r) c.in-Err.ensures.told
+    let Q : Status → List ℕ → Type 0 = Says (TreeFaults old.held name p) (λ other. other ≡ name) old new in
+    Ends-map _ Q (g.K.Sink.state c.args.out.now) _ _ (long-faults (TreeFault name p) old new name 268435456 (λ file lines h. h)) c.in-Err.ensures.told
 
 pub returns-in-Err-At-clause-told : goal.returns-in-Err-At-clause-told
 returns-in-Err-At-clause-told g c =
-    let held = g.F.Shelf.held c.args.shelf.now in
-    let shelves : Shelves = record { held = held; before = g.F.Shelf.faults c.args.shelf.now; after = g.F.Shelf.faults c.bytes_of.new.shelf } in
+    let old = g.F.Shelf.state c.args.shelf.now in
+    let new = g.F.Shelf.state c.bytes_of.new.shelf in
     let name = c.args.name.now in
     let p = c.args.problem.now in
-    let Q : Status → List ℕ → Type 0 = Says (TreeFaults held name p) (λ other. other ≡ name) shelves in
+    let Q : Status → List ℕ → Type 0 = Says (TreeFaults old.held name p) (λ other. other ≡ name) old new in
     let told : read_text p c.in-Ok.bytes.items ≡ Err (c.in-Err-At.line, c.in-Err-At.kind) =
     ap (read_text p) (sym c.deref.ensures.value) ∙ (rw c.in-Err-At.field-0-is at c.in-Err-At.ensures.fault) in
-    Ends-from _ Q _ _ _ _ _ _ _ (ap g.K.Sink.faults c.in-Ok.ensures.silent) (ap g.K.Sink.written c.in-Ok.ensures.silent)
+    Ends-from _ Q (g.K.Sink.state c.args.out.now) _ _ _ (ap g.K.Sink.state c.in-Ok.ensures.silent)
     (only_or_memory_in Q BadTree (line (tree_fault_line c.in-Err-At.line c.in-Err-At.kind)) (
       tree_fault_line c.in-Err-At.line c.in-Err-At.kind ∷ [],
       (c.in-Ok.bytes.items, c.in-Ok.ensures.whole, (c.in-Ok.ensures.within, (c.in-Err-At.line, c.in-Err-At.kind, told, refl))),
@@ -38,12 +38,12 @@ returns-in-Err-At-clause-told g c =
 
 pub returns-clause-told : goal.returns-clause-told
 returns-clause-told g c =
-    let held = g.F.Shelf.held c.args.shelf.now in
-    let shelves : Shelves = record { held = held; before = g.F.Shelf.faults c.args.shelf.now; after = g.F.Shelf.faults c.bytes_of.new.shelf } in
+    let old = g.F.Shelf.state c.args.shelf.now in
+    let new = g.F.Shelf.state c.bytes_of.new.shelf in
     let name = c.args.name.now in
     let p = c.args.problem.now in
-    let Q : Status → List ℕ → Type 0 = Says (TreeFaults held name p) (λ other. other ≡ name) shelves in
-    Ends-from _ Q _ _ _ _ _ _ _ (ap g.K.Sink.faults c.in-Ok.ensures.silent) (ap g.K.Sink.written c.in-Ok.ensures.silent)
+    let Q : Status → List ℕ → Type 0 = Says (TreeFaults old.held name p) (λ other. other ≡ name) old new in
+    Ends-from _ Q (g.K.Sink.state c.args.out.now) _ _ _ (ap g.K.Sink.state c.in-Ok.ensures.silent)
     (only_in Q Memory (line (codes "memory")) ([], inl refl, refl)) c.say_memory.ensures
 
 pub returns-in-Ok-read_tree-clause-tree : goal.returns-in-Ok-read_tree-clause-tree

@@ -5,7 +5,7 @@ use Rattle.text_rules.specs.Canonical.{canonical, canonical_lines}
 use Rattle.studio_rules.specs.Lines.{text_of}
 use Rattle.studio_rules.specs.Script.{OnScript, ScriptFault, ScriptSays, IsEdited}
 use Rattle.studio_rules.specs.Edits.{EditWork}
-use Rattle.studio_rules.specs.Ending.{Shelves, Says}
+use Rattle.studio_rules.specs.Ending.{Says}
 use Rattle.studio_rules.specs.declared.status.Status.{Status}
 use Rattle.studio_rules.specs.declared.status.Status.TheVariants.{Done}
 use Rattle.endings.proofs.Ending.{Ends-map, Ends-from, only_or_memory_in}
@@ -14,18 +14,20 @@ use Rattle.edit_commands.proofs.edits.say_edited.Goals as goal
 
 pub returns-in-Ok : goal.returns-in-Ok
 returns-in-Ok g c =
-    let shelves : Shelves = record { held = g.F.Shelf.held c.args.shelf.now; before = g.F.Shelf.faults c.args.shelf.now; after = g.F.Shelf.faults c.edited_of.new.shelf } in
+    let old = g.F.Shelf.state c.args.shelf.now in
+    let new = g.F.Shelf.state c.edited_of.new.shelf in
     let p = c.args.problem.now in
     let read = c.in-Ok.ensures.edited in
     let is : IsEdited p read.0 c.in-Ok.edited.0 c.in-Ok.edited.1 = read.2 in
     let lines : List (List ℕ) = canonical_lines (applied p is.script.edits) in
-    let Q : Status → List ℕ → Type 0 = Says (OnScript EditWork shelves.held c.args.script.now p) (λ other. other ≡ c.args.script.now) shelves in
-    Ends-from _ Q _ _ _ _ _ _ _ (ap g.K.Sink.faults c.in-Ok.ensures.silent) (ap g.K.Sink.written c.in-Ok.ensures.silent)
+    let Q : Status → List ℕ → Type 0 = Says (OnScript EditWork old.held c.args.script.now p) (λ other. other ≡ c.args.script.now) old new in
+    Ends-from _ Q (g.K.Sink.state c.args.out.now) _ _ _ (ap g.K.Sink.state c.in-Ok.ensures.silent)
     (only_or_memory_in Q Done (text_of lines) (lines, (read.0, read.1, inr (is.script, is.gives, (refl, refl))), refl) ([], inl refl, refl))
     (c.say_made.ensures lines (subst (λ (q : Problem). IfOk c.canonical_text.result (λ text. text.items ≡ canonical q)) is.edited_is c.canonical_text.ensures))
 
 pub returns-in-Err : goal.returns-in-Err
 returns-in-Err g c =
-    let shelves : Shelves = record { held = g.F.Shelf.held c.args.shelf.now; before = g.F.Shelf.faults c.args.shelf.now; after = g.F.Shelf.faults c.edited_of.new.shelf } in
-    let Q : Status → List ℕ → Type 0 = Says (OnScript EditWork shelves.held c.args.script.now c.args.problem.now) (λ other. other ≡ c.args.script.now) shelves in
-    Ends-map _ Q _ _ _ _ _ (on_second-faults (ScriptSays EditWork c.args.script.now) (ScriptFault c.args.script.now c.args.problem.now) shelves c.args.script.now c.args.problem.now (λ file s lines h. inl h)) (λ r. r) c.in-Err.ensures.told
+    let old = g.F.Shelf.state c.args.shelf.now in
+    let new = g.F.Shelf.state c.edited_of.new.shelf in
+    let Q : Status → List ℕ → Type 0 = Says (OnScript EditWork old.held c.args.script.now c.args.problem.now) (λ other. other ≡ c.args.script.now) old new in
+    Ends-map _ Q (g.K.Sink.state c.args.out.now) _ _ (on_second-faults (ScriptSays EditWork c.args.script.now) (ScriptFault c.args.script.now c.args.problem.now) old new c.args.script.now c.args.problem.now (λ file s lines h. inl h)) c.in-Err.ensures.told

@@ -1,12 +1,12 @@
 use Rattle.std.proofs.Common.{◌++◌, ◌∙◌, ap, refl, List, ℕ, append_assoc}
 use Rattle.studio_rules.specs.Ending.{Only}
-use Rattle.endings.proofs.Ending.{Ends-after, HasRisen-later}
+use Rattle.endings.proofs.Ending.{Ends-after}
 use Rattle.endings.proofs.say.say_both.Goals as goal
 
 pub returns-in-Ok : goal.returns-in-Ok
 returns-in-Ok g c =
-    Ends-after (Only c.args.status c.args.second.now) (Only c.args.status (c.args.first.now ++ c.args.second.now)) _ _ (g.K.Sink.written c.args.out.now) (g.K.Sink.written c.put.new.self) _ _
-    c.args.first.now c.in-Ok.ensures.ok (λ s t p. (p.0, ap (λ (u : List ℕ). c.args.first.now ++ u) p.1)) (HasRisen-later _ _ _ c.put.ensures.later) c.say.ensures
+    Ends-after (Only c.args.status c.args.second.now) (Only c.args.status (c.args.first.now ++ c.args.second.now)) (g.K.Sink.state c.args.out.now) (g.K.Sink.state c.put.new.self) _ _
+    c.args.first.now c.in-Ok.ensures.ok (λ s t p. (p.0, ap (λ (u : List ℕ). c.args.first.now ++ u) p.1)) c.put.ensures.later c.say.ensures
 
 pub returns-in-Err : goal.returns-in-Err
 returns-in-Err g c =

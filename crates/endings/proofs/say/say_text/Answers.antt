@@ -22,5 +22,5 @@ returns-in_default g c = (
 
 pub returns : goal.returns
 returns g c =
-    Ends-whole (Only c.args.status c.args.text.now) _ _ _ c.args.status c.requires c.args.text.now (refl, refl)
+    Ends-whole (Only c.args.status c.args.text.now) (g.K.Sink.state c.args.out.now) (g.K.Sink.state c.loop-rest.out) c.args.status c.requires c.args.text.now (refl, refl)
     (put_whole c.args.text.now c.loop-rest.rest.now _ _ c.loop-rest.invariant.put (eqb-true (length c.loop-rest.rest.now) 0 (sym c.loop-rest-test.ensures)))

@@ -5,8 +5,8 @@ use Rattle.endings.proofs.say.say_text.Given as goal
 -- what is before the rest is out
 abbrev pub invariant-loop-rest : goal.invariant-loop-rest
 invariant-loop-rest g l = record {
-  put : IsPut l.fn.text l.rest (g.K.Sink.written l.fn.out) (g.K.Sink.written l.out);
-  later : g.K.Sink.faults l.fn.out ≤ g.K.Sink.faults l.out;
+  put : IsPut l.fn.text l.rest (g.K.Sink.state l.fn.out).written (g.K.Sink.state l.out).written;
+  later : (g.K.Sink.state l.fn.out).faults ≤ (g.K.Sink.state l.out).faults;
 }
 
 abbrev pub decreases-loop-rest : goal.decreases-loop-rest

@@ -18,14 +18,14 @@ returns-in-Err-Claim g c =
     let claim = claim_of c.args.claim.now in
     let fails : ClaimFails false p claim c.in-Err-Claim.why = (rw c.in-Err-Claim.field-0-is at c.in-Err-Claim.ensures.refused) in
     let told : List ℕ = claim_line c.in-Err-Claim.why in
-    Ends-map _ Q _ _ _ _ _
+    Ends-map _ Q (g.K.Sink.state c.args.out.now) _ _
     (only_or_memory_in Q Refused (line (codes "refused claim " ++ c.why_word.result.now)) (
       told ∷ [],
       inl (c.in-Err-Claim.why, fails, refl),
       ap (λ (word : List ℕ). line (codes "refused claim " ++ word)) c.why_word.ensures ∙ one_line told,
     )
     ([], inl refl, refl))
-    (λ r. r) c.say_of.ensures
+    c.say_of.ensures
 
 pub returns-in-Err-Node : goal.returns-in-Err-Node
 returns-in-Err-Node g c =
@@ -34,23 +34,23 @@ returns-in-Err-Node g c =
     let claim = claim_of c.args.claim.now in
     let refuses : ClaimPasses false p claim × NodeIsFault false p first_node claim c.args.tree.now c.in-Err-Node.node c.in-Err-Node.why = (rw c.in-Err-Node.field-0-is at c.in-Err-Node.ensures.refused) in
     let told : List ℕ = node_line c.in-Err-Node.node c.in-Err-Node.why in
-    Ends-map _ Q _ _ _ _ _
+    Ends-map _ Q (g.K.Sink.state c.args.out.now) _ _
     (only_or_memory_in Q Refused (line told) (
       told ∷ [],
       inr (refuses.0, (c.in-Err-Node.node, c.in-Err-Node.why, refuses.1, refl)),
       one_line told,
     )
     ([], inl refl, refl))
-    (λ r. r) c.say_node.ensures
+    c.say_node.ensures
 
 pub returns-in-Ok-check_tree : goal.returns-in-Ok-check_tree
 returns-in-Ok-check_tree g c =
     let Q : Status → List ℕ → Type 0 = Tells (CheckWork c.args.problem.now (claim_of c.args.claim.now) c.args.tree.now) in
-    Ends-map _ Q _ _ _ _ _
+    Ends-map _ Q (g.K.Sink.state c.args.out.now) _ _
     (only_in Q Done (line (codes "accepted")) (codes "accepted" ∷ [], (c.in-Ok-check_tree.ensures.accepted, refl), one_line (codes "accepted")))
-    (λ r. r) c.say.ensures
+    c.say.ensures
 
 pub returns : goal.returns
 returns g c =
     let Q : Status → List ℕ → Type 0 = Tells (CheckWork c.args.problem.now (claim_of c.args.claim.now) c.args.tree.now) in
-    Ends-map _ Q _ _ _ _ _ (only_in Q Memory (line (codes "memory")) ([], inl refl, refl)) (λ r. r) c.say_memory-in-Err-Memory.ensures
+    Ends-map _ Q (g.K.Sink.state c.args.out.now) _ _ (only_in Q Memory (line (codes "memory")) ([], inl refl, refl)) c.say_memory-in-Err-Memory.ensures

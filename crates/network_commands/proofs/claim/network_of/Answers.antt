@@ -16,13 +16,13 @@ pub returns-in-Infeasible-clause-told : goal.returns-in-Infeasible-clause-told
 returns-in-Infeasible-clause-told g c =
     let p = c.args.problem.now in
     let Q : Status → List ℕ → Type 0 = Tells (ClaimRefusal p (claim_of c.args.claim)) in
-    Ends-map (OrMemory (Only Refused (line (claim_line Unknown)))) Q _ _ _ _ _
-    (refusal_told p (claim_of c.args.claim) Unknown (subst (λ (k : Claim). IsRefusedFor p (claim_of k) Unknown) (sym c.in-Infeasible.is) refl)) (λ r. r) c.say_refused.ensures
+    Ends-map (OrMemory (Only Refused (line (claim_line Unknown)))) Q (g.K.Sink.state c.args.out.now) _ _
+    (refusal_told p (claim_of c.args.claim) Unknown (subst (λ (k : Claim). IsRefusedFor p (claim_of k) Unknown) (sym c.in-Infeasible.is) refl)) c.say_refused.ensures
 
 pub returns-in-Err-clause-told : goal.returns-in-Err-clause-told
 returns-in-Err-clause-told g c =
     let p = c.args.problem.now in
     let claim = claim_of c.args.claim in
     let Q : Status → List ℕ → Type 0 = Tells (ClaimRefusal p claim) in
-    Ends-map (OrMemory (Only Refused (line (claim_line c.in-Err.why)))) Q _ _ _ _ _
-    (refusal_told p claim c.in-Err.why (refused_for p claim c.in-Err.why ((c.in-Err.ensures.fails c.in-Err.why).0 refl))) (λ r. r) c.say_refused-in-Err.ensures
+    Ends-map (OrMemory (Only Refused (line (claim_line c.in-Err.why)))) Q (g.K.Sink.state c.args.out.now) _ _
+    (refusal_told p claim c.in-Err.why (refused_for p claim c.in-Err.why ((c.in-Err.ensures.fails c.in-Err.why).0 refl))) c.say_refused-in-Err.ensures

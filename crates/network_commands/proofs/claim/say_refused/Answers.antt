@@ -10,6 +10,6 @@ use Rattle.network_commands.proofs.claim.say_refused.Goals as goal
 pub returns : goal.returns
 returns g c =
     let Q : Status → List ℕ → Type 0 = OrMemory (Only Refused (line (claim_line c.args.why))) in
-    Ends-map (OrMemory (Only Refused (line (codes "refused claim " ++ c.why_word.result.now)))) Q _ _ _ _ _
+    Ends-map (OrMemory (Only Refused (line (codes "refused claim " ++ c.why_word.result.now)))) Q (g.K.Sink.state c.args.out.now) _ _
     (λ s t h. elim h [ inl q ↦ inl (q.0, q.1 ∙ ap (λ (word : List ℕ). line (codes "refused claim " ++ word)) c.why_word.ensures) | inr q ↦ inr q ])
-    (λ r. r) c.say_of.ensures
+    c.say_of.ensures

@@ -13,7 +13,7 @@ returns-in-Ok-network_of g c =
     let claim = claim_of c.args.claim in
     let w = c.in-Ok-network_of.network in
     let Q : Status → List ℕ → Type 0 = Tells (OnNetwork (TextWork c.args.what) p claim c.args.tree.now) in
-    Ends-from (Tells (TextWork c.args.what p w)) Q _ _ _ _ _ _ _ (ap g.K.Sink.faults c.in-Ok-network_of.ensures.silent) (ap g.K.Sink.written c.in-Ok-network_of.ensures.silent)
+    Ends-from (Tells (TextWork c.args.what p w)) Q (g.K.Sink.state c.args.out.now) _ _ _ (ap g.K.Sink.state c.in-Ok-network_of.ensures.silent)
     (Tells-map (TextWork c.args.what p w) (OnNetwork (TextWork c.args.what) p claim c.args.tree.now) (λ s lines h. inr (w, c.in-Ok-network_of.ensures.network, h))) c.say_network.ensures
 
 pub returns : goal.returns
@@ -21,4 +21,4 @@ returns g c =
     let p = c.args.problem.now in
     let claim = claim_of c.args.claim in
     let Q : Status → List ℕ → Type 0 = Tells (OnNetwork (TextWork c.args.what) p claim c.args.tree.now) in
-    Ends-map (Tells (ClaimRefusal p claim)) Q _ _ _ _ _ (Tells-map (ClaimRefusal p claim) (OnNetwork (TextWork c.args.what) p claim c.args.tree.now) (λ s lines h. inl h)) (λ r. r) c.in-Err.ensures.told
+    Ends-map (Tells (ClaimRefusal p claim)) Q (g.K.Sink.state c.args.out.now) _ _ (Tells-map (ClaimRefusal p claim) (OnNetwork (TextWork c.args.what) p claim c.args.tree.now) (λ s lines h. inl h)) c.in-Err.ensures.told

@@ -3,7 +3,7 @@ use Rattle.branch_tree.specs.View.{claim_of}
 use Rattle.studio_rules.specs.TreeFile.{OnTree, TreeFault, TreeSays}
 use Rattle.studio_rules.specs.Network.{OnNetwork}
 use Rattle.network_commands.specs.Texts.{TextWork}
-use Rattle.studio_rules.specs.Ending.{Shelves, Says}
+use Rattle.studio_rules.specs.Ending.{Says}
 use Rattle.studio_rules.specs.declared.status.Status.{Status}
 use Rattle.endings.proofs.Ending.{Ends-map, Ends-from, Says-told}
 use Rattle.command_files.proofs.Seconds.{on_second-faults}
@@ -11,20 +11,22 @@ use Rattle.network_commands.proofs.network.say_tree.Goals as goal
 
 pub returns-in-Ok : goal.returns-in-Ok
 returns-in-Ok g c =
-    let shelves : Shelves = record { held = g.F.Shelf.held c.args.shelf.now; before = g.F.Shelf.faults c.args.shelf.now; after = g.F.Shelf.faults c.tree_of.new.shelf } in
+    let old = g.F.Shelf.state c.args.shelf.now in
+    let new = g.F.Shelf.state c.tree_of.new.shelf in
     let p = c.args.problem.now in
     let name = c.args.name.now in
     let read = c.in-Ok.ensures.tree in
-    let Q : Status → List ℕ → Type 0 = Says (OnTree (OnNetwork (TextWork c.args.what)) shelves.held name p) (λ other. other ≡ name) shelves in
-    Ends-from _ Q _ _ _ _ _ _ _ (ap g.K.Sink.faults c.in-Ok.ensures.silent) (ap g.K.Sink.written c.in-Ok.ensures.silent)
-    (Says-told (OnNetwork (TextWork c.args.what) p (claim_of c.in-Ok.claim) c.in-Ok.tree) (OnTree (OnNetwork (TextWork c.args.what)) shelves.held name p) (λ other. other ≡ name) shelves
+    let Q : Status → List ℕ → Type 0 = Says (OnTree (OnNetwork (TextWork c.args.what)) old.held name p) (λ other. other ≡ name) old new in
+    Ends-from _ Q (g.K.Sink.state c.args.out.now) _ _ _ (ap g.K.Sink.state c.in-Ok.ensures.silent)
+    (Says-told (OnNetwork (TextWork c.args.what) p (claim_of c.in-Ok.claim) c.in-Ok.tree) (OnTree (OnNetwork (TextWork c.args.what)) old.held name p) (λ other. other ≡ name) old new
     (λ s lines h. (read.0, read.1, inr (claim_of c.in-Ok.claim, c.in-Ok.tree, read.2, h))))
     c.say_claimed.ensures
 
 pub returns-in-Err : goal.returns-in-Err
 returns-in-Err g c =
-    let shelves : Shelves = record { held = g.F.Shelf.held c.args.shelf.now; before = g.F.Shelf.faults c.args.shelf.now; after = g.F.Shelf.faults c.tree_of.new.shelf } in
+    let old = g.F.Shelf.state c.args.shelf.now in
+    let new = g.F.Shelf.state c.tree_of.new.shelf in
     let p = c.args.problem.now in
     let name = c.args.name.now in
-    let Q : Status → List ℕ → Type 0 = Says (OnTree (OnNetwork (TextWork c.args.what)) shelves.held name p) (λ other. other ≡ name) shelves in
-    Ends-map _ Q _ _ _ _ _ (on_second-faults (TreeSays (OnNetwork (TextWork c.args.what)) name) (TreeFault name p) shelves name p (λ file s lines h. inl h)) (λ r. r) c.in-Err.ensures.told
+    let Q : Status → List ℕ → Type 0 = Says (OnTree (OnNetwork (TextWork c.args.what)) old.held name p) (λ other. other ≡ name) old new in
+    Ends-map _ Q (g.K.Sink.state c.args.out.now) _ _ (on_second-faults (TreeSays (OnNetwork (TextWork c.args.what)) name) (TreeFault name p) old new name p (λ file s lines h. inl h)) c.in-Err.ensures.told

@@ -17,7 +17,7 @@ use Rattle.part_commands.proofs.merge.say_merged.Goals as goal
 pub returns-in_default : goal.returns-in_default
 returns-in_default g c =
     let says = MergeSays (map string_bytes c.args.names.now) c.args.problem.now (claim_of c.args.claim) c.args.tree c.args.parts.now in
-    Ends-map _ _ _ _ _ _ _ (only_in (Tells says) Memory _ (Tells-memory says)) (λ r. r) c.say_memory.ensures
+    Ends-map _ _ (g.K.Sink.state c.args.out.now) _ _ (only_in (Tells says) Memory _ (Tells-memory says)) c.say_memory.ensures
 
 pub merge_all-requires-clause-known : goal.merge_all-requires-clause-known
 merge_all-requires-clause-known g c = inside_known c.args.problem.now (shape c.in-Ok.graph) c.in-Ok.ensures c.args.parts.now c.requires.parts
@@ -36,9 +36,9 @@ returns-in-Ok-merge_all g c =
     let both = claim_of c.in-Ok-merge_all.both in
     let grown = c.in-Ok-merge_all.grown in
     let says = MergeSays (map string_bytes c.args.names.now) p (claim_of c.args.claim) c.args.tree c.args.parts.now in
-    Ends-map _ _ _ _ _ _ _
+    Ends-map _ _ (g.K.Sink.state c.args.out.now) _ _
     (Tells-map (OneAnswer Done (tree_text_lines p both grown whole)) says (λ s lines h. inl (record { both = both; grown = grown; merged = c.in-Ok-merge_all.ensures.merged; done = h.0; text = h.1 })))
-    (λ r. r) c.say_tree_text.ensures
+    c.say_tree_text.ensures
 
 pub returns : goal.returns
 returns g c =
@@ -52,7 +52,7 @@ returns g c =
     c.as_str-name.ensures.value ∙ (ap string_bytes c.index-names-stop.is ∙ sym (get_or-map string_bytes list stop.part c.index-names-stop.result [] (omega (arith, few, as_many)))) in
     let several : nat_lt 1 (length list) ≡ nat_lt 1 (length names) = ap (λ (n : ℕ). nat_lt 1 n) (sym (length-map list string_bytes)) in
     let says = MergeSays names c.args.problem.now (claim_of c.args.claim) c.args.tree c.args.parts.now in
-    Ends-map _ _ _ _ _ _ _
+    Ends-map _ _ (g.K.Sink.state c.args.out.now) _ _
     (Tells-map (FaultSays (nat_lt 1 (length list)) c.as_str-name.result.now stop.fault) says (λ s lines h. inr (record {
       place = stop.part;
       fault = stop.fault;
@@ -61,4 +61,4 @@ returns g c =
           subst (λ (n : List ℕ). FaultSays (nat_lt 1 (length names)) n stop.fault s lines) name
           (subst (λ (b : Bool). FaultSays b c.as_str-name.result.now stop.fault s lines) several h);
     })))
-    (λ r. r) c.say_fault.ensures
+    c.say_fault.ensures

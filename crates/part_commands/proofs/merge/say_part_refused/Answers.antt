@@ -11,27 +11,27 @@ pub returns-in-Claim : goal.returns-in-Claim
 returns-in-Claim g c =
     let Q : Status → List ℕ → Type 0 = Tells (PartRefused c.args.several c.args.name.now c.args.refusal) in
     let told : List ℕ = part_claim_line c.args.several c.args.name.now c.in-Claim.why in
-    Ends-map _ Q _ _ _ _ _
+    Ends-map _ Q (g.K.Sink.state c.args.out.now) _ _
     (only_or_memory_in Q Refused (line told) (
       told ∷ [],
       subst (λ x. PartRefused c.args.several c.args.name.now x Refused (told ∷ [])) (sym c.in-Claim.is) (refl, refl),
       one_line told,
     ) ([], inl refl, refl))
-    (λ r. r) (c.say_line.ensures told c.part_claim_line-made.ensures)
+    (c.say_line.ensures told c.part_claim_line-made.ensures)
 
 pub returns-in-Node : goal.returns-in-Node
 returns-in-Node g c =
     let Q : Status → List ℕ → Type 0 = Tells (PartRefused c.args.several c.args.name.now c.args.refusal) in
     let told : List ℕ = part_node_line c.args.several c.args.name.now c.in-Node.node c.in-Node.why in
-    Ends-map _ Q _ _ _ _ _
+    Ends-map _ Q (g.K.Sink.state c.args.out.now) _ _
     (only_or_memory_in Q Refused (line told) (
       told ∷ [],
       subst (λ x. PartRefused c.args.several c.args.name.now x Refused (told ∷ [])) (sym c.in-Node.is) (refl, refl),
       one_line told,
     ) ([], inl refl, refl))
-    (λ r. r) (c.say_line-in-Node.ensures told c.part_node_line-made.ensures)
+    (c.say_line-in-Node.ensures told c.part_node_line-made.ensures)
 
 pub returns-in-Memory : goal.returns-in-Memory
 returns-in-Memory g c =
     let Q : Status → List ℕ → Type 0 = Tells (PartRefused c.args.several c.args.name.now c.args.refusal) in
-    Ends-map _ Q _ _ _ _ _ (only_in Q Memory (line (codes "memory")) ([], inl refl, refl)) (λ r. r) c.say_memory.ensures
+    Ends-map _ Q (g.K.Sink.state c.args.out.now) _ _ (only_in Q Memory (line (codes "memory")) ([], inl refl, refl)) c.say_memory.ensures

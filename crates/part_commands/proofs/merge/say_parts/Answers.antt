@@ -8,36 +8,38 @@ use Rattle.part_rules.specs.Spelling.{KnowsPart}
 use Rattle.studio_rules.specs.Merge.{MergeSays, MergeWork}
 use Rattle.studio_rules.specs.PartFile.{FirstFault, GiveParts}
 use Rattle.part_commands.proofs.PartFiles.{as_many}
-use Rattle.studio_rules.specs.Ending.{Shelves, Says}
+use Rattle.studio_rules.specs.Ending.{Says}
 use Rattle.studio_rules.specs.declared.status.Status.{Status}
 use Rattle.endings.proofs.Ending.{Ends-map, Ends-from, Says-map, Says-told}
 use Rattle.part_commands.proofs.merge.say_parts.Goals as goal
 
 pub returns-in-Ok : goal.returns-in-Ok
 returns-in-Ok g c =
-    let shelves : Shelves = record { held = g.F.Shelf.held c.args.shelf.now; before = g.F.Shelf.faults c.args.shelf.now; after = g.F.Shelf.faults c.parts_of.new.shelf } in
+    let old = g.F.Shelf.state c.args.shelf.now in
+    let new = g.F.Shelf.state c.parts_of.new.shelf in
     let p = c.args.problem.now in
     let names = map string_bytes c.args.names.now in
     let claim = claim_of c.args.claim in
     let tree = c.args.tree in
     let ps = c.deref.result.now in
-    let give : GiveParts shelves.held p names ps = subst (λ (qs : List Part). GiveParts shelves.held p names qs) (sym c.deref.ensures.value) c.in-Ok.ensures.parts in
-    let Q : Status → List ℕ → Type 0 = Says (MergeWork shelves.held names p claim tree) (Contains names) shelves in
-    Ends-from _ Q _ _ _ _ _ _ _ (ap g.K.Sink.faults c.in-Ok.ensures.silent) (ap g.K.Sink.written c.in-Ok.ensures.silent)
-    (Says-told (MergeSays names p claim tree ps) (MergeWork shelves.held names p claim tree) (Contains names) shelves
+    let give : GiveParts old.held p names ps = subst (λ (qs : List Part). GiveParts old.held p names qs) (sym c.deref.ensures.value) c.in-Ok.ensures.parts in
+    let Q : Status → List ℕ → Type 0 = Says (MergeWork old.held names p claim tree) (Contains names) old new in
+    Ends-from _ Q (g.K.Sink.state c.args.out.now) _ _ _ (ap g.K.Sink.state c.in-Ok.ensures.silent)
+    (Says-told (MergeSays names p claim tree ps) (MergeWork old.held names p claim tree) (Contains names) old new
     (λ s lines h. inr (ps, give, h))) c.say_merged.ensures
 
 pub returns-in-Err : goal.returns-in-Err
 returns-in-Err g c =
-    let shelves : Shelves = record { held = g.F.Shelf.held c.args.shelf.now; before = g.F.Shelf.faults c.args.shelf.now; after = g.F.Shelf.faults c.parts_of.new.shelf } in
+    let old = g.F.Shelf.state c.args.shelf.now in
+    let new = g.F.Shelf.state c.parts_of.new.shelf in
     let p = c.args.problem.now in
     let names = map string_bytes c.args.names.now in
-    let work : Status → List (List ℕ) → Type 0 = MergeWork shelves.held names p (claim_of c.args.claim) c.args.tree in
-    Ends-map _ (Says work (Contains names) shelves) _ _ _ _ _ (Says-map (FirstFault shelves.held names p) work (Contains names) (Contains names) shelves (λ s lines h. inl h) (λ other h. h)) (λ r. r) c.in-Err.ensures.told
+    let work : Status → List (List ℕ) → Type 0 = MergeWork old.held names p (claim_of c.args.claim) c.args.tree in
+    Ends-map _ (Says work (Contains names) old new) (g.K.Sink.state c.args.out.now) _ _ (Says-map (FirstFault old.held names p) work (Contains names) (Contains names) old new (λ s lines h. inl h) (λ other h. h)) c.in-Err.ensures.told
 
 pub say_merged-requires-clause-count : goal.say_merged-requires-clause-count
 say_merged-requires-clause-count g c =
-    let held = g.F.Shelf.held c.args.shelf.now in
+    let held = (g.F.Shelf.state c.args.shelf.now).held in
     let list = c.args.names.now in
     let give : GiveParts held c.args.problem.now (map string_bytes list) c.deref.result.now = subst (λ (qs : List Part). GiveParts held c.args.problem.now (map string_bytes list) qs) (sym c.deref.ensures.value) c.in-Ok.ensures.parts in
     as_many held c.args.problem.now (map string_bytes list) c.deref.result.now give ∙ length-map list string_bytes

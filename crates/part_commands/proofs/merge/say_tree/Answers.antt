@@ -1,31 +1,33 @@
-use Rattle.std.proofs.Common.{◌≡◌, ◌⊎◌, ap, inl, inr, refl, ℕ, List, map, string_bytes}
+use Rattle.std.proofs.Common.{◌≡◌, ◌⊎◌, ap, inl, inr, ℕ, List, map, string_bytes}
 use Rattle.std.specs.List.{Contains}
 use Rattle.branch_tree.specs.View.{claim_of}
 use Rattle.studio_rules.specs.TreeFile.{OnTree, TreeFault, TreeFaults, TreeSays}
 use Rattle.studio_rules.specs.Merge.{MergeWork}
 use Rattle.part_commands.proofs.PartFiles.{tree_told}
-use Rattle.studio_rules.specs.Ending.{Shelves, Says}
+use Rattle.studio_rules.specs.Ending.{Says}
 use Rattle.studio_rules.specs.declared.status.Status.{Status}
 use Rattle.endings.proofs.Ending.{Ends-map, Ends-from, Says-map}
 use Rattle.part_commands.proofs.merge.say_tree.Goals as goal
 
 pub returns-in-Ok : goal.returns-in-Ok
 returns-in-Ok g c =
-    let shelves : Shelves = record { held = g.F.Shelf.held c.args.shelf.now; before = g.F.Shelf.faults c.args.shelf.now; after = g.F.Shelf.faults c.say_parts.new.shelf } in
-    let later : Shelves = record { held = g.F.Shelf.held c.tree_of.new.shelf; before = g.F.Shelf.faults c.tree_of.new.shelf; after = g.F.Shelf.faults c.say_parts.new.shelf } in
+    let old = g.F.Shelf.state c.args.shelf.now in
+    let mid = g.F.Shelf.state c.tree_of.new.shelf in
+    let new = g.F.Shelf.state c.say_parts.new.shelf in
     let p = c.args.problem.now in
     let name = c.args.name.now in
     let names = map string_bytes c.args.names.now in
-    let Q : Status → List ℕ → Type 0 = Says (OnTree (MergeWork shelves.held names) shelves.held name p) (λ other. (other ≡ name) ⊎ Contains names other) shelves in
-    Ends-from _ Q _ _ _ _ _ _ _ (ap g.K.Sink.faults c.in-Ok.ensures.silent) (ap g.K.Sink.written c.in-Ok.ensures.silent)
-    (tree_told names p shelves later c.tree_of.ensures.keeps refl c.tree_of.ensures.later name (claim_of c.in-Ok.claim) c.in-Ok.tree c.in-Ok.ensures.tree) c.say_parts.ensures
+    let Q : Status → List ℕ → Type 0 = Says (OnTree (MergeWork old.held names) old.held name p) (λ other. (other ≡ name) ⊎ Contains names other) old new in
+    Ends-from _ Q (g.K.Sink.state c.args.out.now) _ _ _ (ap g.K.Sink.state c.in-Ok.ensures.silent)
+    (tree_told names p old mid new c.tree_of.ensures.keeps c.tree_of.ensures.later name (claim_of c.in-Ok.claim) c.in-Ok.tree c.in-Ok.ensures.tree) c.say_parts.ensures
 
 pub returns-in-Err : goal.returns-in-Err
 returns-in-Err g c =
-    let shelves : Shelves = record { held = g.F.Shelf.held c.args.shelf.now; before = g.F.Shelf.faults c.args.shelf.now; after = g.F.Shelf.faults c.tree_of.new.shelf } in
+    let old = g.F.Shelf.state c.args.shelf.now in
+    let new = g.F.Shelf.state c.tree_of.new.shelf in
     let p = c.args.problem.now in
     let name = c.args.name.now in
     let names = map string_bytes c.args.names.now in
-    let work : Status → List (List ℕ) → Type 0 = OnTree (MergeWork shelves.held names) shelves.held name p in
-    Ends-map _ (Says work (λ other. (other ≡ name) ⊎ Contains names other) shelves) _ _ _ _ _
-    (Says-map (TreeFaults shelves.held name p) work (λ other. other ≡ name) (λ other. (other ≡ name) ⊎ Contains names other) shelves (λ s lines h. (h.0, h.1, inl h.2)) (λ other e. inl e)) (λ r. r) c.in-Err.ensures.told
+    let work : Status → List (List ℕ) → Type 0 = OnTree (MergeWork old.held names) old.held name p in
+    Ends-map _ (Says work (λ other. (other ≡ name) ⊎ Contains names other) old new) (g.K.Sink.state c.args.out.now) _ _
+    (Says-map (TreeFaults old.held name p) work (λ other. other ≡ name) (λ other. (other ≡ name) ⊎ Contains names other) old new (λ s lines h. (h.0, h.1, inl h.2)) (λ other e. inl e)) c.in-Err.ensures.told

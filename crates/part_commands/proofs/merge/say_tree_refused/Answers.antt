@@ -12,27 +12,27 @@ pub returns-in-Claim : goal.returns-in-Claim
 returns-in-Claim g c =
     let Q : Status → List ℕ → Type 0 = Tells (TreeRefused c.args.refusal) in
     let told : List ℕ = claim_line c.in-Claim.why in
-    Ends-map _ Q _ _ _ _ _
+    Ends-map _ Q (g.K.Sink.state c.args.out.now) _ _
     (only_or_memory_in Q Refused (line (codes "refused claim " ++ c.why_word.result.now)) (
       told ∷ [],
       subst (λ x. TreeRefused x Refused (told ∷ [])) (sym c.in-Claim.is) (refl, refl),
       ap (λ (word : List ℕ). line (codes "refused claim " ++ word)) c.why_word.ensures ∙ one_line told,
     ) ([], inl refl, refl))
-    (λ r. r) c.say_of.ensures
+    c.say_of.ensures
 
 pub returns-in-Node : goal.returns-in-Node
 returns-in-Node g c =
     let Q : Status → List ℕ → Type 0 = Tells (TreeRefused c.args.refusal) in
     let told : List ℕ = node_line c.in-Node.node c.in-Node.why in
-    Ends-map _ Q _ _ _ _ _
+    Ends-map _ Q (g.K.Sink.state c.args.out.now) _ _
     (only_or_memory_in Q Refused (line told) (
       told ∷ [],
       subst (λ x. TreeRefused x Refused (told ∷ [])) (sym c.in-Node.is) (refl, refl),
       one_line told,
     ) ([], inl refl, refl))
-    (λ r. r) c.say_node.ensures
+    c.say_node.ensures
 
 pub returns-in-Memory : goal.returns-in-Memory
 returns-in-Memory g c =
     let Q : Status → List ℕ → Type 0 = Tells (TreeRefused c.args.refusal) in
-    Ends-map _ Q _ _ _ _ _ (only_in Q Memory (line (codes "memory")) ([], inl refl, refl)) (λ r. r) c.say_memory.ensures
+    Ends-map _ Q (g.K.Sink.state c.args.out.now) _ _ (only_in Q Memory (line (codes "memory")) ([], inl refl, refl)) c.say_memory.ensures

@@ -9,7 +9,7 @@ use Rattle.part_rules.specs.Spelling.{KnowsPart}
 use Rattle.studio_rules.specs.Reading.{AreHeld}
 use Rattle.studio_rules.specs.PartFile.{FirstFault, GivesPart}
 use Rattle.part_commands.proofs.PartFiles.{GiveBefore, one_given, fault_told}
-use Rattle.studio_rules.specs.Ending.{Shelves, Says}
+use Rattle.studio_rules.specs.Ending.{Says}
 use Rattle.studio_rules.specs.declared.status.Status.{Status}
 use Rattle.studio_rules.specs.declared.status.Status.TheVariants.{Memory}
 use Rattle.endings.proofs.Ending.{Ends-from, only_in}
@@ -17,16 +17,18 @@ use Rattle.part_commands.proofs.part_file.parts_of.Goals as goal
 
 pub returns-in_default-clause-told : goal.returns-in_default-clause-told
 returns-in_default-clause-told g c =
-    let shelves : Shelves = record { held = g.F.Shelf.held c.args.shelf.now; before = g.F.Shelf.faults c.args.shelf.now; after = g.F.Shelf.faults c.part_of.new.shelf } in
+    let old = g.F.Shelf.state c.args.shelf.now in
+    let new = g.F.Shelf.state c.part_of.new.shelf in
     let names = map string_bytes c.args.names.now in
-    let Q : Status → List ℕ → Type 0 = Says (FirstFault shelves.held names c.args.problem.now) (Contains names) shelves in
+    let Q : Status → List ℕ → Type 0 = Says (FirstFault old.held names c.args.problem.now) (Contains names) old new in
     let silent = c.in-Ok.ensures.silent ∙ c.reading.invariant.silent in
-    Ends-from _ Q _ _ _ _ _ _ _ (ap g.K.Sink.faults silent) (ap g.K.Sink.written silent) (only_in Q Memory _ ([], inl refl, refl)) c.say_memory.ensures
+    Ends-from _ Q (g.K.Sink.state c.args.out.now) _ _ _ (ap g.K.Sink.state silent) (only_in Q Memory _ ([], inl refl, refl)) c.say_memory.ensures
 
 pub returns-in-Err-clause-told : goal.returns-in-Err-clause-told
 returns-in-Err-clause-told g c =
-    let shelves : Shelves = record { held = g.F.Shelf.held c.args.shelf.now; before = g.F.Shelf.faults c.args.shelf.now; after = g.F.Shelf.faults c.part_of.new.shelf } in
-    let later : Shelves = record { held = g.F.Shelf.held c.reading.shelf; before = g.F.Shelf.faults c.reading.shelf; after = g.F.Shelf.faults c.part_of.new.shelf } in
+    let old = g.F.Shelf.state c.args.shelf.now in
+    let mid = g.F.Shelf.state c.reading.shelf in
+    let new = g.F.Shelf.state c.part_of.new.shelf in
     let list = c.args.names.now in
     let names = map string_bytes list in
     let place = c.reading.name-index in
@@ -34,14 +36,14 @@ returns-in-Err-clause-told g c =
     let count = length-map list string_bytes in
     let lt : place < length names = omega (arith, count, c.reading-test.true) in
     let here : name ≡ get_or names place name = c.as_str.ensures.value ∙ (ap string_bytes c.name-item.is ∙ sym (get_or-map string_bytes list place c.name-item.result name c.reading-test.true)) in
-    let Q : Status → List ℕ → Type 0 = Says (FirstFault shelves.held names c.args.problem.now) (Contains names) shelves in
-    Ends-from _ Q _ _ _ _ _ _ _ (ap g.K.Sink.faults c.reading.invariant.silent) (ap g.K.Sink.written c.reading.invariant.silent)
-    (fault_told names c.args.problem.now shelves later c.reading.invariant.keeps refl c.reading.invariant.later (nat_lt 1 (length list)) place name c.reading.parts.items (ap (λ (n : ℕ). nat_lt 1 n) (sym count)) lt here c.reading.invariant.given)
+    let Q : Status → List ℕ → Type 0 = Says (FirstFault old.held names c.args.problem.now) (Contains names) old new in
+    Ends-from _ Q (g.K.Sink.state c.args.out.now) _ _ _ (ap g.K.Sink.state c.reading.invariant.silent)
+    (fault_told names c.args.problem.now old mid new c.reading.invariant.keeps c.reading.invariant.later (nat_lt 1 (length list)) place name c.reading.parts.items (ap (λ (n : ℕ). nat_lt 1 n) (sym count)) lt here c.reading.invariant.given)
     c.in-Err.ensures.told
 
 pub reading-preserved : goal.reading-preserved
 reading-preserved g c =
-    let held = g.F.Shelf.held c.args.shelf.now in
+    let held = (g.F.Shelf.state c.args.shelf.now).held in
     let p = c.args.problem.now in
     let list = c.args.names.now in
     let names = map string_bytes list in

@@ -7,9 +7,9 @@ use Rattle.part_commands.proofs.part_file.parts_of.Given as goal
 -- the files before this one give the parts, and nothing is said
 abbrev pub invariant-reading : goal.invariant-reading
 invariant-reading g l = record {
-  given : GiveBefore (g.F.Shelf.held l.fn.shelf) l.problem (map string_bytes l.names) l.name-index l.parts.items;
+  given : GiveBefore (g.F.Shelf.state l.fn.shelf).held l.problem (map string_bytes l.names) l.name-index l.parts.items;
   known : Each (KnowsPart l.problem) l.parts.items;
   silent : l.out ≡ l.fn.out;
-  later : (other : List ℕ) → g.F.Shelf.faults l.fn.shelf other ≤ g.F.Shelf.faults l.shelf other;
-  keeps : (other : List ℕ) → g.F.Shelf.held l.shelf other ≡ g.F.Shelf.held l.fn.shelf other;
+  later : (other : List ℕ) → (g.F.Shelf.state l.fn.shelf).faults other ≤ (g.F.Shelf.state l.shelf).faults other;
+  keeps : (other : List ℕ) → (g.F.Shelf.state l.shelf).held other ≡ (g.F.Shelf.state l.fn.shelf).held other;
 }

@@ -8,5 +8,5 @@ use Rattle.part_commands.proofs.part_file.say_part_fault.Goals as goal
 
 pub returns-in-Ok : goal.returns-in-Ok
 returns-in-Ok g c =
-    Ends-map (Only BadTree c.as_bytes.result.now) (OrMemory (Only BadTree (line (part_fault_line c.args.several c.args.name.now c.args.number c.args.kind)))) _ _ _ _ _
-    (λ s t p. inl (p.0, p.1 ∙ c.as_bytes.ensures.value ∙ c.in-Ok.ensures)) (λ r. r) c.say.ensures
+    Ends-map (Only BadTree c.as_bytes.result.now) (OrMemory (Only BadTree (line (part_fault_line c.args.several c.args.name.now c.args.number c.args.kind)))) (g.K.Sink.state c.args.out.now) _ _
+    (λ s t p. inl (p.0, p.1 ∙ c.as_bytes.ensures.value ∙ c.in-Ok.ensures)) c.say.ensures

@@ -5,6 +5,6 @@ use Rattle.part_commands.proofs.split.say_leaves.Given as goal
 -- the lines of the leaves before this one are out
 abbrev pub invariant-telling : goal.invariant-telling
 invariant-telling g l = record {
-  told : AreOut l.leaves l.leaf-index (g.K.Sink.written l.fn.out) (g.K.Sink.written l.out);
-  later : g.K.Sink.faults l.fn.out ≤ g.K.Sink.faults l.out;
+  told : AreOut l.leaves l.leaf-index (g.K.Sink.state l.fn.out) (g.K.Sink.state l.out);
+  later : (g.K.Sink.state l.fn.out).faults ≤ (g.K.Sink.state l.out).faults;
 }

@@ -22,10 +22,10 @@ returns-in-Some g c =
     let p = c.args.problem.now in
     let start = c.args.start.now in
     let part : Part = c.in-Some.part in
-    Ends-map _ _ _ _ _ _ _
-    (Tells-map (OneAnswer (status_of part.tail) (part_text_lines p part)) (FoundSays p start.inside start.outside c.args.found) (λ s lines h. (part, sym c.part_of.ensures ∙ c.in-Some.is, h.0, h.1))) (λ r. r) c.say_part.ensures
+    Ends-map _ _ (g.K.Sink.state c.args.out.now) _ _
+    (Tells-map (OneAnswer (status_of part.tail) (part_text_lines p part)) (FoundSays p start.inside start.outside c.args.found) (λ s lines h. (part, sym c.part_of.ensures ∙ c.in-Some.is, h.0, h.1))) c.say_part.ensures
 
 pub returns-in-None : goal.returns-in-None
 returns-in-None g c =
     let says = FoundSays c.args.problem.now c.args.start.now.inside c.args.start.now.outside c.args.found in
-    Ends-map _ _ _ _ _ _ _ (only_in (Tells says) Memory _ (Tells-memory says)) (λ r. r) c.say_memory.ensures
+    Ends-map _ _ (g.K.Sink.state c.args.out.now) _ _ (only_in (Tells says) Memory _ (Tells-memory says)) c.say_memory.ensures

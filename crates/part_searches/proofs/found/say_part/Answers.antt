@@ -14,5 +14,5 @@ returns g c =
     let lines = part_text_lines c.args.problem.now c.args.part.now in
     let same : c.status_of.result ≡ status_of c.args.part.now.tail = c.status_of.ensures ∙ ap status_of c.tail.ensures in
     let out = c.print_part-printed in
-    Ends-map _ _ _ _ _ _ _ (Tells-map (OneAnswer c.status_of.result lines) (OneAnswer (status_of c.args.part.now.tail) lines) (λ s ls h. (h.0 ∙ same, h.1))) (λ r. r)
-    (c.say_printed.ensures lines _ _ out.ensures.later out.ensures.prints)
+    Ends-map _ _ (g.K.Sink.state c.args.out.now) _ _ (Tells-map (OneAnswer c.status_of.result lines) (OneAnswer (status_of c.args.part.now.tail) lines) (λ s ls h. (h.0 ∙ same, h.1)))
+    (c.say_printed.ensures lines (g.K.Sink.state c.args.out.now) out.ensures.later out.ensures.prints)

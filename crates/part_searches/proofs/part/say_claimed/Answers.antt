@@ -19,7 +19,7 @@ returns-in-Ok g c =
     let w : Network = c.in-Network.network in
     let claimed = c.in-Ok.ensures.network in
     let all : Claim → Status → List (List ℕ) → Type 0 = λ k. ClaimSays c.args.budget s.inside s.outside p (claim_of k) c.args.tree.now in
-    Ends-from (Tells (PartSays c.args.budget (Some known) s.inside s.outside p)) (Tells (all c.args.claim)) _ _ _ _ _ _ _ (ap g.K.Sink.faults c.in-Ok.ensures.silent) (ap g.K.Sink.written c.in-Ok.ensures.silent)
+    Ends-from (Tells (PartSays c.args.budget (Some known) s.inside s.outside p)) (Tells (all c.args.claim)) (g.K.Sink.state c.args.out.now) _ _ _ (ap g.K.Sink.state c.in-Ok.ensures.silent)
     (Tells-map (PartSays c.args.budget (Some known) s.inside s.outside p) (all c.args.claim)
     (λ status lines h. subst (λ (k : Claim). all k status lines) (sym c.in-Network.is)
     (inr (network_is (λ (n : Network). IsFeasible p n × PartSays c.args.budget (Some n) s.inside s.outside p status lines) w known claimed.0 (claimed.1, h)))))
@@ -30,24 +30,24 @@ returns-in-Err g c =
     let p = c.args.problem.now in
     let s = c.args.start.now in
     let all : Claim → Status → List (List ℕ) → Type 0 = λ k. ClaimSays c.args.budget s.inside s.outside p (claim_of k) c.args.tree.now in
-    Ends-map _ _ _ _ _ _ _
+    Ends-map _ _ (g.K.Sink.state c.args.out.now) _ _
     (Tells-map (ClaimRefusal p (claim_of (claims.Network c.in-Network.network))) (all c.args.claim) (λ status lines h. subst (λ (k : Claim). all k status lines) (sym c.in-Network.is) (inl h)))
-    (λ r. r) c.in-Err.ensures.told
+    c.in-Err.ensures.told
 
 pub returns-in-Infeasible : goal.returns-in-Infeasible
 returns-in-Infeasible g c =
     let p = c.args.problem.now in
     let s = c.args.start.now in
     let all : Claim → Status → List (List ℕ) → Type 0 = λ k. ClaimSays c.args.budget s.inside s.outside p (claim_of k) c.args.tree.now in
-    Ends-map _ _ _ _ _ _ _
+    Ends-map _ _ (g.K.Sink.state c.args.out.now) _ _
     (Tells-map (PartSays c.args.budget None s.inside s.outside p) (all c.args.claim) (λ status lines h. subst (λ (k : Claim). all k status lines) (sym c.in-Infeasible.is) h))
-    (λ r. r) c.say_searched.ensures
+    c.say_searched.ensures
 
 pub returns-in-Unknown : goal.returns-in-Unknown
 returns-in-Unknown g c =
     let p = c.args.problem.now in
     let s = c.args.start.now in
     let all : Claim → Status → List (List ℕ) → Type 0 = λ k. ClaimSays c.args.budget s.inside s.outside p (claim_of k) c.args.tree.now in
-    Ends-map _ _ _ _ _ _ _
+    Ends-map _ _ (g.K.Sink.state c.args.out.now) _ _
     (Tells-map (PartSays c.args.budget None s.inside s.outside p) (all c.args.claim) (λ status lines h. subst (λ (k : Claim). all k status lines) (sym c.in-Unknown.is) h))
-    (λ r. r) c.say_searched-in-Unknown.ensures
+    c.say_searched-in-Unknown.ensures

@@ -1,7 +1,7 @@
 use Rattle.std.proofs.Common.{◌≡◌, [], ◌∷◌, refl, inl, inr, ℕ, List, codes}
 use Rattle.studio_rules.specs.TreeFile.{OnTree}
 use Rattle.studio_rules.specs.Part.{ClaimSays, AgainstWork}
-use Rattle.studio_rules.specs.Ending.{Shelves, Says}
+use Rattle.studio_rules.specs.Ending.{Says}
 use Rattle.studio_rules.specs.declared.status.Status.{Status}
 use Rattle.studio_rules.specs.declared.status.Status.TheVariants.{Memory, BadNode}
 use Rattle.endings.proofs.Ending.{Ends-map, Says-map, Tells-memory, only_in}
@@ -9,25 +9,26 @@ use Rattle.part_searches.proofs.part.say_from_against.Goals as goal
 
 pub returns-in_default : goal.returns-in_default
 returns-in_default g c =
-    let shelves : Shelves = record { held = g.F.Shelf.held c.args.shelf.now; before = g.F.Shelf.faults c.args.shelf.now; after = g.F.Shelf.faults c.args.shelf.now } in
-    let work = AgainstWork c.args.budget shelves.held c.args.tree.now c.args.inside.now c.args.outside.now c.args.problem.now in
-    let Q : Status → List ℕ → Type 0 = Says work (λ other. other ≡ c.args.tree.now) shelves in
-    Ends-map _ Q _ _ _ _ _ (only_in Q Memory _ (Tells-memory work)) (λ r. r) c.say_memory.ensures
+    let shelf = g.F.Shelf.state c.args.shelf.now in
+    let work = AgainstWork c.args.budget shelf.held c.args.tree.now c.args.inside.now c.args.outside.now c.args.problem.now in
+    let Q : Status → List ℕ → Type 0 = Says work (λ other. other ≡ c.args.tree.now) shelf shelf in
+    Ends-map _ Q (g.K.Sink.state c.args.out.now) _ _ (only_in Q Memory _ (Tells-memory work)) c.say_memory.ensures
 
 pub returns-in-Some : goal.returns-in-Some
 returns-in-Some g c =
-    let shelves : Shelves = record { held = g.F.Shelf.held c.args.shelf.now; before = g.F.Shelf.faults c.args.shelf.now; after = g.F.Shelf.faults c.say_tree.new.shelf } in
+    let old = g.F.Shelf.state c.args.shelf.now in
+    let new = g.F.Shelf.state c.say_tree.new.shelf in
     let p = c.args.problem.now in
     let s = c.in-Some.start in
     let name = c.args.tree.now in
-    let work = AgainstWork c.args.budget shelves.held name c.args.inside.now c.args.outside.now p in
-    Ends-map _ _ _ _ _ _ _
-    (Says-map (OnTree (ClaimSays c.args.budget s.inside s.outside) shelves.held name p) work (λ other. other ≡ name) (λ other. other ≡ name) shelves (λ status lines h. inr (s.inside, s.outside, c.in-Some.ensures.some, h)) (λ other e. e))
-    (λ r. r) c.say_tree.ensures
+    let work = AgainstWork c.args.budget old.held name c.args.inside.now c.args.outside.now p in
+    Ends-map _ _ (g.K.Sink.state c.args.out.now) _ _
+    (Says-map (OnTree (ClaimSays c.args.budget s.inside s.outside) old.held name p) work (λ other. other ≡ name) (λ other. other ≡ name) old new (λ status lines h. inr (s.inside, s.outside, c.in-Some.ensures.some, h)) (λ other e. e))
+    c.say_tree.ensures
 
 pub returns : goal.returns
 returns g c =
-    let shelves : Shelves = record { held = g.F.Shelf.held c.args.shelf.now; before = g.F.Shelf.faults c.args.shelf.now; after = g.F.Shelf.faults c.args.shelf.now } in
-    let work = AgainstWork c.args.budget shelves.held c.args.tree.now c.args.inside.now c.args.outside.now c.args.problem.now in
-    let Q : Status → List ℕ → Type 0 = Says work (λ other. other ≡ c.args.tree.now) shelves in
-    Ends-map _ Q _ _ _ _ _ (only_in Q BadNode _ (codes "bad node" ∷ [], inl (refl, c.in-None.ensures.none, refl), refl)) (λ r. r) c.say.ensures
+    let shelf = g.F.Shelf.state c.args.shelf.now in
+    let work = AgainstWork c.args.budget shelf.held c.args.tree.now c.args.inside.now c.args.outside.now c.args.problem.now in
+    let Q : Status → List ℕ → Type 0 = Says work (λ other. other ≡ c.args.tree.now) shelf shelf in
+    Ends-map _ Q (g.K.Sink.state c.args.out.now) _ _ (only_in Q BadNode _ (codes "bad node" ∷ [], inl (refl, c.in-None.ensures.none, refl), refl)) c.say.ensures

@@ -13,8 +13,8 @@ returns-in-Ok-clause-prints g c =
     let p = c.args.problem.now in
     let part = c.args.part.now in
     let same : rest_lines p (claim_of c.claim.result.now) c.tree.result.now (tail_of c.tail.result.now) ≡ rest_lines p part.claim part.tree part.tail = λ i. rest_lines p (c.claim.ensures i) (c.tree.ensures i) (c.tail.ensures i) in
-    two_printed _ _ _ _ _ _ _ _ _ c.put_line.ensures.later (c.in-Ok.ensures.prints (set_line (codes "outside") c.args.part.now.outside) (subst (λ (units : List ℕ). OnOk c.set_line-made.result (string_bytes c.set_line-made.new.line ≡ joined 32 (set_line (codes "outside") units))) c.start.ensures.outside c.set_line-made.ensures))
-    (subst (λ (lines : List (List Token)). Prints lines (g.K.Sink.written c.put_line.new.out) (g.K.Sink.written c.print_rest.new.out) (g.K.Sink.faults c.put_line.new.out) (g.K.Sink.faults c.print_rest.new.out) c.print_rest.result) same c.print_rest.ensures.prints)
+    two_printed _ _ _ _ _ _ c.put_line.ensures.later (c.in-Ok.ensures.prints (set_line (codes "outside") c.args.part.now.outside) (subst (λ (units : List ℕ). OnOk c.set_line-made.result (string_bytes c.set_line-made.new.line ≡ joined 32 (set_line (codes "outside") units))) c.start.ensures.outside c.set_line-made.ensures))
+    (subst (λ (lines : List (List Token)). Prints lines (g.K.Sink.state c.put_line.new.out) (g.K.Sink.state c.print_rest.new.out) c.print_rest.result) same c.print_rest.ensures.prints)
 
 pub returns-clause-prints : goal.returns-clause-prints
-returns-clause-prints g c = part_failed _ _ _ _ _ _ c.in-Err.fault (c.in-Err.ensures.prints (set_line (codes "outside") c.args.part.now.outside) (subst (λ (units : List ℕ). OnOk c.set_line-made.result (string_bytes c.set_line-made.new.line ≡ joined 32 (set_line (codes "outside") units))) c.start.ensures.outside c.set_line-made.ensures))
+returns-clause-prints g c = part_failed _ _ _ _ c.in-Err.fault (c.in-Err.ensures.prints (set_line (codes "outside") c.args.part.now.outside) (subst (λ (units : List ℕ). OnOk c.set_line-made.result (string_bytes c.set_line-made.new.line ≡ joined 32 (set_line (codes "outside") units))) c.start.ensures.outside c.set_line-made.ensures))

@@ -1,8 +1,8 @@
-use Rattle.std.proofs.Common.{◌≡◌, ◌⊎◌, refl, ap, ℕ, List}
-use Rattle.studio_rules.specs.Reading.{OnFile}
+use Rattle.std.proofs.Common.{◌≡◌, ap, ℕ, List}
+use Rattle.studio_rules.specs.Reading.{TwoFilesSay}
 use Rattle.studio_rules.specs.Plan.{OnPlan, PlanSays}
 use Rattle.studio_rules.specs.Expand.{ExpandWork}
-use Rattle.studio_rules.specs.Ending.{Shelves, Says}
+use Rattle.studio_rules.specs.Ending.{Says}
 use Rattle.studio_rules.specs.declared.status.Status.{Status}
 use Rattle.endings.proofs.Ending.{Ends-map, Ends-from}
 use Rattle.command_files.proofs.Seconds.{on_both-faults, on_both-work}
@@ -10,19 +10,21 @@ use Rattle.period_searches.proofs.expansion.expand.Goals as goal
 
 pub returns-in-Ok : goal.returns-in-Ok
 returns-in-Ok g c =
-    let shelves : Shelves = record { held = g.F.Shelf.held c.args.shelf.now; before = g.F.Shelf.faults c.args.shelf.now; after = g.F.Shelf.faults c.say_expanded.new.shelf } in
-    let later : Shelves = record { held = g.F.Shelf.held c.problem_of.new.shelf; before = g.F.Shelf.faults c.problem_of.new.shelf; after = g.F.Shelf.faults c.say_expanded.new.shelf } in
+    let old = g.F.Shelf.state c.args.shelf.now in
+    let mid = g.F.Shelf.state c.problem_of.new.shelf in
+    let new = g.F.Shelf.state c.say_expanded.new.shelf in
     let file = c.args.file.now in
     let plan = c.args.plan.now in
-    let P : Status → List ℕ → Type 0 = Says (OnPlan ExpandWork later.held plan c.in-Ok.problem) (λ other. other ≡ plan) later in
-    let Q : Status → List ℕ → Type 0 = Says (OnFile (OnPlan ExpandWork shelves.held plan) shelves.held file) (λ other. (other ≡ file) ⊎ (other ≡ plan)) shelves in
-    Ends-from P Q _ _ _ _ _ _ _ (ap g.K.Sink.faults c.in-Ok.ensures.silent) (ap g.K.Sink.written c.in-Ok.ensures.silent)
-    (on_both-work (PlanSays ExpandWork plan) file plan shelves later c.in-Ok.problem c.in-Ok.ensures.problem (c.problem_of.ensures.keeps plan) refl c.problem_of.ensures.later) c.say_expanded.ensures
+    let P : Status → List ℕ → Type 0 = Says (OnPlan ExpandWork mid.held plan c.in-Ok.problem) (λ other. other ≡ plan) mid new in
+    let Q : Status → List ℕ → Type 0 = TwoFilesSay (OnPlan ExpandWork) file plan old new in
+    Ends-from P Q (g.K.Sink.state c.args.out.now) _ _ _ (ap g.K.Sink.state c.in-Ok.ensures.silent)
+    (on_both-work (PlanSays ExpandWork plan) file plan old mid new c.in-Ok.problem c.in-Ok.ensures.problem (c.problem_of.ensures.keeps plan) c.problem_of.ensures.later) c.say_expanded.ensures
 
 pub returns-in-Err : goal.returns-in-Err
 returns-in-Err g c =
-    let shelves : Shelves = record { held = g.F.Shelf.held c.args.shelf.now; before = g.F.Shelf.faults c.args.shelf.now; after = g.F.Shelf.faults c.problem_of.new.shelf } in
+    let old = g.F.Shelf.state c.args.shelf.now in
+    let new = g.F.Shelf.state c.problem_of.new.shelf in
     let file = c.args.file.now in
     let plan = c.args.plan.now in
-    let Q : Status → List ℕ → Type 0 = Says (OnFile (OnPlan ExpandWork shelves.held plan) shelves.held file) (λ other. (other ≡ file) ⊎ (other ≡ plan)) shelves in
-    Ends-map _ Q _ _ _ _ _ (on_both-faults (PlanSays ExpandWork plan) file plan shelves) (λ r. r) c.in-Err.ensures.told
+    let Q : Status → List ℕ → Type 0 = TwoFilesSay (OnPlan ExpandWork) file plan old new in
+    Ends-map _ Q (g.K.Sink.state c.args.out.now) _ _ (on_both-faults (PlanSays ExpandWork plan) file plan old new) c.in-Err.ensures.told

@@ -4,7 +4,7 @@ use Rattle.plan_rules.specs.Expanded.{expanded}
 use Rattle.studio_rules.specs.Lines.{text_of}
 use Rattle.studio_rules.specs.Plan.{OnPlan, PlanFileFault, PlanSays}
 use Rattle.studio_rules.specs.Expand.{ExpandWork}
-use Rattle.studio_rules.specs.Ending.{Shelves, Says}
+use Rattle.studio_rules.specs.Ending.{Says}
 use Rattle.studio_rules.specs.declared.status.Status.{Status}
 use Rattle.studio_rules.specs.declared.status.Status.TheVariants.{Done}
 use Rattle.endings.proofs.Ending.{Ends-map, Ends-from, only_or_memory_in}
@@ -13,17 +13,19 @@ use Rattle.period_searches.proofs.expansion.say_expanded.Goals as goal
 
 pub returns-in-Ok : goal.returns-in-Ok
 returns-in-Ok g c =
-    let shelves : Shelves = record { held = g.F.Shelf.held c.args.shelf.now; before = g.F.Shelf.faults c.args.shelf.now; after = g.F.Shelf.faults c.plan_of.new.shelf } in
+    let old = g.F.Shelf.state c.args.shelf.now in
+    let new = g.F.Shelf.state c.plan_of.new.shelf in
     let p = c.args.problem.now in
     let read = c.in-Ok.ensures.plan in
     let lines : List (List ℕ) = canonical_lines (expanded p c.in-Ok.plan) in
-    let Q : Status → List ℕ → Type 0 = Says (OnPlan ExpandWork shelves.held c.args.plan.now p) (λ other. other ≡ c.args.plan.now) shelves in
-    Ends-from _ Q _ _ _ _ _ _ _ (ap g.K.Sink.faults c.in-Ok.ensures.silent) (ap g.K.Sink.written c.in-Ok.ensures.silent)
+    let Q : Status → List ℕ → Type 0 = Says (OnPlan ExpandWork old.held c.args.plan.now p) (λ other. other ≡ c.args.plan.now) old new in
+    Ends-from _ Q (g.K.Sink.state c.args.out.now) _ _ _ (ap g.K.Sink.state c.in-Ok.ensures.silent)
     (only_or_memory_in Q Done (text_of lines) (lines, (read.0, read.1, inr (c.in-Ok.plan, read.2, (refl, refl))), refl) ([], inl refl, refl))
     (c.say_made.ensures lines c.expanded_text.ensures)
 
 pub returns-in-Err : goal.returns-in-Err
 returns-in-Err g c =
-    let shelves : Shelves = record { held = g.F.Shelf.held c.args.shelf.now; before = g.F.Shelf.faults c.args.shelf.now; after = g.F.Shelf.faults c.plan_of.new.shelf } in
-    let Q : Status → List ℕ → Type 0 = Says (OnPlan ExpandWork shelves.held c.args.plan.now c.args.problem.now) (λ other. other ≡ c.args.plan.now) shelves in
-    Ends-map _ Q _ _ _ _ _ (on_second-faults (PlanSays ExpandWork c.args.plan.now) (PlanFileFault c.args.plan.now c.args.problem.now) shelves c.args.plan.now c.args.problem.now (λ file s lines h. inl h)) (λ r. r) c.in-Err.ensures.told
+    let old = g.F.Shelf.state c.args.shelf.now in
+    let new = g.F.Shelf.state c.plan_of.new.shelf in
+    let Q : Status → List ℕ → Type 0 = Says (OnPlan ExpandWork old.held c.args.plan.now c.args.problem.now) (λ other. other ≡ c.args.plan.now) old new in
+    Ends-map _ Q (g.K.Sink.state c.args.out.now) _ _ (on_second-faults (PlanSays ExpandWork c.args.plan.now) (PlanFileFault c.args.plan.now c.args.problem.now) old new c.args.plan.now c.args.problem.now (λ file s lines h. inl h)) c.in-Err.ensures.told

@@ -3,7 +3,7 @@ use Rattle.problem_rules.specs.Problem.{Problem}
 use Rattle.plan_rules.specs.Plan.{Plan}
 use Rattle.studio_rules.specs.Plan.{OnPlan, PlanFileFault, PlanSays}
 use Rattle.studio_rules.specs.Periods.{PeriodsWork}
-use Rattle.studio_rules.specs.Ending.{Shelves, Says, Tells}
+use Rattle.studio_rules.specs.Ending.{Says, Tells}
 use Rattle.studio_rules.specs.declared.status.Status.{Status}
 use Rattle.endings.proofs.Ending.{Ends-map, Ends-from, Says-told}
 use Rattle.command_files.proofs.Seconds.{on_second-faults}
@@ -11,18 +11,20 @@ use Rattle.period_searches.proofs.planned.say_planned.Goals as goal
 
 pub returns-in-Ok : goal.returns-in-Ok
 returns-in-Ok g c =
-    let shelves : Shelves = record { held = g.F.Shelf.held c.args.shelf.now; before = g.F.Shelf.faults c.args.shelf.now; after = g.F.Shelf.faults c.plan_of.new.shelf } in
+    let old = g.F.Shelf.state c.args.shelf.now in
+    let new = g.F.Shelf.state c.plan_of.new.shelf in
     let p = c.args.problem.now in
     let read = c.in-Ok.ensures.plan in
     let work : Problem → Plan → Status → List (List ℕ) → Type 0 = PeriodsWork c.args.budget in
-    let Q : Status → List ℕ → Type 0 = Says (OnPlan work shelves.held c.args.plan.now p) (λ other. other ≡ c.args.plan.now) shelves in
-    Ends-from (Tells (work p c.in-Ok.plan)) Q _ _ _ _ _ _ _ (ap g.K.Sink.faults c.in-Ok.ensures.silent) (ap g.K.Sink.written c.in-Ok.ensures.silent)
-    (Says-told (work p c.in-Ok.plan) (OnPlan work shelves.held c.args.plan.now p) (λ other. other ≡ c.args.plan.now) shelves (λ s lines h. (read.0, read.1, inr (c.in-Ok.plan, read.2, h))))
+    let Q : Status → List ℕ → Type 0 = Says (OnPlan work old.held c.args.plan.now p) (λ other. other ≡ c.args.plan.now) old new in
+    Ends-from (Tells (work p c.in-Ok.plan)) Q (g.K.Sink.state c.args.out.now) _ _ _ (ap g.K.Sink.state c.in-Ok.ensures.silent)
+    (Says-told (work p c.in-Ok.plan) (OnPlan work old.held c.args.plan.now p) (λ other. other ≡ c.args.plan.now) old new (λ s lines h. (read.0, read.1, inr (c.in-Ok.plan, read.2, h))))
     c.say_least.ensures
 
 pub returns-in-Err : goal.returns-in-Err
 returns-in-Err g c =
-    let shelves : Shelves = record { held = g.F.Shelf.held c.args.shelf.now; before = g.F.Shelf.faults c.args.shelf.now; after = g.F.Shelf.faults c.plan_of.new.shelf } in
+    let old = g.F.Shelf.state c.args.shelf.now in
+    let new = g.F.Shelf.state c.plan_of.new.shelf in
     let work : Problem → Plan → Status → List (List ℕ) → Type 0 = PeriodsWork c.args.budget in
-    let Q : Status → List ℕ → Type 0 = Says (OnPlan work shelves.held c.args.plan.now c.args.problem.now) (λ other. other ≡ c.args.plan.now) shelves in
-    Ends-map _ Q _ _ _ _ _ (on_second-faults (PlanSays work c.args.plan.now) (PlanFileFault c.args.plan.now c.args.problem.now) shelves c.args.plan.now c.args.problem.now (λ file s lines h. inl h)) (λ r. r) c.in-Err.ensures.told
+    let Q : Status → List ℕ → Type 0 = Says (OnPlan work old.held c.args.plan.now c.args.problem.now) (λ other. other ≡ c.args.plan.now) old new in
+    Ends-map _ Q (g.K.Sink.state c.args.out.now) _ _ (on_second-faults (PlanSays work c.args.plan.now) (PlanFileFault c.args.plan.now c.args.problem.now) old new c.args.plan.now c.args.problem.now (λ file s lines h. inl h)) c.in-Err.ensures.told

@@ -16,14 +16,14 @@ returns-in-Err-Network g c =
     let Q : Status → List ℕ → Type 0 = Tells (RankcheckWork c.args.problem.now c.args.text.now) in
     let fails : NetworkIsFault c.args.problem.now (ranking_of c.args.text.now) c.in-Err-Network.number c.in-Err-Network.why = (rw c.in-Err-Network.field-0-is at c.in-Err-Network.ensures.refused) in
     let told : List ℕ = network_line c.in-Err-Network.number c.in-Err-Network.why in
-    Ends-map _ Q _ _ _ _ _
+    Ends-map _ Q (g.K.Sink.state c.args.out.now) _ _
     (only_or_memory_in Q Refused (line told) (
       told ∷ [],
       inl (c.in-Err-Network.number, c.in-Err-Network.why, fails, refl),
       one_line told,
     )
     ([], inl refl, refl))
-    (λ r. r) c.say_network.ensures
+    c.say_network.ensures
 
 pub returns-in-Err-Node : goal.returns-in-Err-Node
 returns-in-Err-Node g c =
@@ -32,23 +32,23 @@ returns-in-Err-Node g c =
     let t = c.args.text.now in
     let refuses : ArePassing p [] t.networks × NodeIsFault false p (ranking_of t) c.in-Err-Node.node c.in-Err-Node.why = (rw c.in-Err-Node.field-0-is at c.in-Err-Node.ensures.refused) in
     let told : List ℕ = rank_node_line c.in-Err-Node.node c.in-Err-Node.why in
-    Ends-map _ Q _ _ _ _ _
+    Ends-map _ Q (g.K.Sink.state c.args.out.now) _ _
     (only_or_memory_in Q Refused (line told) (
       told ∷ [],
       inr (refuses.0, (c.in-Err-Node.node, c.in-Err-Node.why, refuses.1, refl)),
       one_line told,
     )
     ([], inl refl, refl))
-    (λ r. r) c.say_node.ensures
+    c.say_node.ensures
 
 pub returns-in-Ok-check_rank : goal.returns-in-Ok-check_rank
 returns-in-Ok-check_rank g c =
     let Q : Status → List ℕ → Type 0 = Tells (RankcheckWork c.args.problem.now c.args.text.now) in
-    Ends-map _ Q _ _ _ _ _
+    Ends-map _ Q (g.K.Sink.state c.args.out.now) _ _
     (only_in Q Done (line (codes "accepted")) (codes "accepted" ∷ [], (c.in-Ok-check_rank.ensures.ranked, refl), one_line (codes "accepted")))
-    (λ r. r) c.say.ensures
+    c.say.ensures
 
 pub returns : goal.returns
 returns g c =
     let Q : Status → List ℕ → Type 0 = Tells (RankcheckWork c.args.problem.now c.args.text.now) in
-    Ends-map _ Q _ _ _ _ _ (only_in Q Memory (line (codes "memory")) ([], inl refl, refl)) (λ r. r) c.say_memory-in-Err-Memory.ensures
+    Ends-map _ Q (g.K.Sink.state c.args.out.now) _ _ (only_in Q Memory (line (codes "memory")) ([], inl refl, refl)) c.say_memory-in-Err-Memory.ensures

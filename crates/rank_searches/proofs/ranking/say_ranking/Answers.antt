@@ -18,5 +18,5 @@ returns g c =
     let lines = rank_text_lines p t in
     let same : c.status_of.result ≡ status_of t.tail = c.status_of.ensures ∙ ap status_of c.tail.ensures in
     let out = c.print_rank-printed in
-    Ends-map _ _ _ _ _ _ _ (Tells-map (OneAnswer c.status_of.result lines) (RankingSays p t) (says p t c.status_of.result same c.reads_back.ensures)) (λ r. r)
-    (c.say_printed.ensures lines _ _ out.ensures.later out.ensures.prints)
+    Ends-map _ _ (g.K.Sink.state c.args.out.now) _ _ (Tells-map (OneAnswer c.status_of.result lines) (RankingSays p t) (says p t c.status_of.result same c.reads_back.ensures))
+    (c.say_printed.ensures lines (g.K.Sink.state c.args.out.now) out.ensures.later out.ensures.prints)

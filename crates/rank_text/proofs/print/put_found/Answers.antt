@@ -7,12 +7,12 @@ use Rattle.rank_text.proofs.print.put_found.Goals as goal
 
 pub returns-in-Ok-clause-prints : goal.returns-in-Ok-clause-prints
 returns-in-Ok-clause-prints g c =
-    printed_as _ _ _ _ _ _ _
+    printed_as _ _ _ _ _
     (ap (λ (ws : List Network). flat_map (network_lines c.args.problem.now) ws ++ grown_lines c.args.problem.now c.args.text.now) c.networks.ensures)
-    (two_printed _ _ _ _ _ _ _ _ _ c.put_networks.ensures.later c.in-Ok.ensures.prints c.put_grown.ensures.prints)
+    (two_printed _ _ _ _ _ _ c.put_networks.ensures.later c.in-Ok.ensures.prints c.put_grown.ensures.prints)
 
 pub returns-in-Err-clause-prints : goal.returns-in-Err-clause-prints
 returns-in-Err-clause-prints g c =
-    printed_as _ _ _ _ _ _ _
+    printed_as _ _ _ _ _
     (ap (λ (ws : List Network). flat_map (network_lines c.args.problem.now) ws ++ grown_lines c.args.problem.now c.args.text.now) c.networks.ensures)
-    (part_failed _ _ _ _ _ _ c.in-Err.fault c.in-Err.ensures.prints)
+    (part_failed _ _ _ _ c.in-Err.fault c.in-Err.ensures.prints)

@@ -13,13 +13,13 @@ use Rattle.rank_text.proofs.print.put_node.Goals as goal
 pub returns-in-Ok-clause-prints : goal.returns-in-Ok-clause-prints
 returns-in-Ok-clause-prints g c =
     let ms : List Mark = drop c.args.at (map mark_of c.args.marks.now) in
-    printed_as _ _ _ _ _ _ _
+    printed_as _ _ _ _ _
     (ap (λ (ss : List Step). head_lines c.args.problem.now c.node.inside.option ss ++ end_line c.args.problem.now (marked_end ms (end_of c.node.inside.end)) ∷ []) c.steps.ensures ∙ ap (λ (t : TreeNode Leaf). node_lines c.args.problem.now (marked_node ms t)) c.node.view_is)
-    (two_printed _ _ _ _ _ _ _ _ _ c.print_head.ensures.later c.in-Ok.ensures.prints c.put_marked.ensures.prints)
+    (two_printed _ _ _ _ _ _ c.print_head.ensures.later c.in-Ok.ensures.prints c.put_marked.ensures.prints)
 
 pub returns-in-Err-clause-prints : goal.returns-in-Err-clause-prints
 returns-in-Err-clause-prints g c =
     let ms : List Mark = drop c.args.at (map mark_of c.args.marks.now) in
-    printed_as _ _ _ _ _ _ _
+    printed_as _ _ _ _ _
     (ap (λ (ss : List Step). head_lines c.args.problem.now c.node.inside.option ss ++ end_line c.args.problem.now (marked_end ms (end_of c.node.inside.end)) ∷ []) c.steps.ensures ∙ ap (λ (t : TreeNode Leaf). node_lines c.args.problem.now (marked_node ms t)) c.node.view_is)
-    (part_failed _ _ _ _ _ _ c.in-Err.fault c.in-Err.ensures.prints)
+    (part_failed _ _ _ _ c.in-Err.fault c.in-Err.ensures.prints)

@@ -9,6 +9,6 @@ use Rattle.rank_text.proofs.print.put_open.Goals as goal
 
 pub returns-then-at-marks-clause-prints : goal.returns-then-at-marks-clause-prints
 returns-then-at-marks-clause-prints g c =
-    printed_as _ _ _ _ _ _ _
+    printed_as _ _ _ _ _
     (ap (λ (m : Mark). end_line c.args.problem.now (leaf (marked_leaf m)) ∷ []) (sym (mark_ahead mark_of c.args.marks.now c.args.at c.index-marks-at.result c.if-at-marks.true c.index-marks-at.is)))
     c.put_mark.ensures.prints

@@ -14,7 +14,7 @@ returns-in-Ok-network_of g c =
     let w = c.in-Ok-network_of.network in
     let work = SpotWork c.args.spot c.args.budget in
     let Q : Status → List ℕ → Type 0 = Tells (OnNetwork work p claim c.args.tree.now) in
-    Ends-from (Tells (work p w)) Q _ _ _ _ _ _ _ (ap g.K.Sink.faults c.in-Ok-network_of.ensures.silent) (ap g.K.Sink.written c.in-Ok-network_of.ensures.silent)
+    Ends-from (Tells (work p w)) Q (g.K.Sink.state c.args.out.now) _ _ _ (ap g.K.Sink.state c.in-Ok-network_of.ensures.silent)
     (Tells-map (work p w) (OnNetwork work p claim c.args.tree.now) (λ s lines h. inr (w, c.in-Ok-network_of.ensures.network, h))) c.say_range.ensures
 
 pub returns : goal.returns
@@ -23,4 +23,4 @@ returns g c =
     let claim = claim_of c.args.claim in
     let work = SpotWork c.args.spot c.args.budget in
     let Q : Status → List ℕ → Type 0 = Tells (OnNetwork work p claim c.args.tree.now) in
-    Ends-map (Tells (ClaimRefusal p claim)) Q _ _ _ _ _ (Tells-map (ClaimRefusal p claim) (OnNetwork work p claim c.args.tree.now) (λ s lines h. inl h)) (λ r. r) c.in-Err.ensures.told
+    Ends-map (Tells (ClaimRefusal p claim)) Q (g.K.Sink.state c.args.out.now) _ _ (Tells-map (ClaimRefusal p claim) (OnNetwork work p claim c.args.tree.now) (λ s lines h. inl h)) c.in-Err.ensures.told

@@ -7,4 +7,4 @@ use Rattle.stability_commands.proofs.stable.say_past_cost.Goals as goal
 pub returns : goal.returns
 returns g c =
     let r : SFits w64 c.args.value = search rules in
-    c.say_printed.ensures (past_cost_lines c.args.value c.args.at) _ _ c.print_past_cost-printed.ensures.later (simp to_z-of_z at c.print_past_cost-printed.ensures.prints)
+    c.say_printed.ensures (past_cost_lines c.args.value c.args.at) (g.K.Sink.state c.args.out.now) c.print_past_cost-printed.ensures.later (simp to_z-of_z at c.print_past_cost-printed.ensures.prints)

@@ -25,8 +25,8 @@ returns-in-Ok g c =
     let w : Network = c.args.network.now in
     let r = c.in-Ok.range in
     let lines : List (List Token) = range_lines p r.from r.to r.below r.above in
-    Ends-map _ _ _ _ _ _ _ (Tells-map (OneAnswer Done lines) (SpotWork c.args.spot c.args.budget p w) (range_told p c.args.spot w c.args.budget r.from r.to r.below r.above c.in-Ok.ensures.range)) (λ r. r)
-    (c.say_printed.ensures lines _ _ c.print_range-printed.ensures.later c.print_range-printed.ensures.prints)
+    Ends-map _ _ (g.K.Sink.state c.args.out.now) _ _ (Tells-map (OneAnswer Done lines) (SpotWork c.args.spot c.args.budget p w) (range_told p c.args.spot w c.args.budget r.from r.to r.below r.above c.in-Ok.ensures.range))
+    (c.say_printed.ensures lines (g.K.Sink.state c.args.out.now) c.print_range-printed.ensures.later c.print_range-printed.ensures.prints)
 
 pub say_refusal-requires-clause-refusal : goal.say_refusal-requires-clause-refusal
 say_refusal-requires-clause-refusal g c = (c.args.network.now, c.args.budget, c.in-Err.ensures.refusal)

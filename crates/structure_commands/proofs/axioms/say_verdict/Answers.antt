@@ -12,20 +12,20 @@ pub returns-in-Meets : goal.returns-in-Meets
 returns-in-Meets g c =
     let p = c.args.problem.now in
     let Q : Status → List ℕ → Type 0 = Tells (VerdictSays p c.args.verdict) in
-    Ends-map _ Q _ _ _ _ _
+    Ends-map _ Q (g.K.Sink.state c.args.out.now) _ _
     (only_in Q Done (line (codes "meets")) (codes "meets" ∷ [], subst (λ (v : Verdict). VerdictSays p v Done (codes "meets" ∷ [])) (sym c.in-Meets.is) (refl, refl), refl))
-    (λ r. r) c.say.ensures
+    c.say.ensures
 
 pub returns-in-Breaks : goal.returns-in-Breaks
 returns-in-Breaks g c =
     let p = c.args.problem.now in
     let Q : Status → List ℕ → Type 0 = Tells (VerdictSays p c.args.verdict) in
     let told : List ℕ = breaks_line c.in-Breaks.axiom (place_name p c.in-Breaks.axiom c.in-Breaks.at) in
-    Ends-map _ Q _ _ _ _ _
+    Ends-map _ Q (g.K.Sink.state c.args.out.now) _ _
     (only_or_memory_in Q Refused (line (breaks_line c.in-Breaks.axiom c.place_name.result.now)) (
       told ∷ [],
       subst (λ (v : Verdict). VerdictSays p v Refused (told ∷ [])) (sym c.in-Breaks.is) (refl, refl),
       ap (λ (name : List ℕ). line (breaks_line c.in-Breaks.axiom name)) c.place_name.ensures ∙ one_line told,
     )
     ([], inl refl, refl))
-    (λ r. r) c.say_breaks.ensures
+    c.say_breaks.ensures

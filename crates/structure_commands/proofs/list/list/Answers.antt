@@ -1,8 +1,8 @@
-use Rattle.std.proofs.Common.{◌≡◌, ap, ℕ, List}
+use Rattle.std.proofs.Common.{ap, ℕ, List}
 use Rattle.problem_rules.specs.Problem.{Problem}
 use Rattle.studio_rules.specs.Listing.{ListingWork}
-use Rattle.studio_rules.specs.Reading.{OnFile}
-use Rattle.studio_rules.specs.Ending.{Shelves, Says, Tells}
+use Rattle.studio_rules.specs.Reading.{FileSays}
+use Rattle.studio_rules.specs.Ending.{Tells}
 use Rattle.studio_rules.specs.declared.status.Status.{Status}
 use Rattle.endings.proofs.Ending.{Ends-map, Ends-from}
 use Rattle.command_files.proofs.Files.{on_file-faults, on_file-work}
@@ -10,15 +10,17 @@ use Rattle.structure_commands.proofs.list.list.Goals as goal
 
 pub returns-in-Ok : goal.returns-in-Ok
 returns-in-Ok g c =
-    let shelves : Shelves = record { held = g.F.Shelf.held c.args.shelf.now; before = g.F.Shelf.faults c.args.shelf.now; after = g.F.Shelf.faults c.problem_of.new.shelf } in
+    let old = g.F.Shelf.state c.args.shelf.now in
+    let new = g.F.Shelf.state c.problem_of.new.shelf in
     let work : Problem → Status → List (List ℕ) → Type 0 = ListingWork c.args.after.now c.args.count in
-    let Q : Status → List ℕ → Type 0 = Says (OnFile work shelves.held c.args.file.now) (λ other. other ≡ c.args.file.now) shelves in
-    Ends-from (Tells (work c.in-Ok.problem)) Q _ _ _ _ _ _ _ (ap g.K.Sink.faults c.in-Ok.ensures.silent) (ap g.K.Sink.written c.in-Ok.ensures.silent)
-    (on_file-work work shelves c.args.file.now c.in-Ok.problem c.in-Ok.ensures.problem) c.say_listing.ensures
+    let Q : Status → List ℕ → Type 0 = FileSays work c.args.file.now old new in
+    Ends-from (Tells (work c.in-Ok.problem)) Q (g.K.Sink.state c.args.out.now) _ _ _ (ap g.K.Sink.state c.in-Ok.ensures.silent)
+    (on_file-work work old new c.args.file.now c.in-Ok.problem c.in-Ok.ensures.problem) c.say_listing.ensures
 
 pub returns-in-Err : goal.returns-in-Err
 returns-in-Err g c =
-    let shelves : Shelves = record { held = g.F.Shelf.held c.args.shelf.now; before = g.F.Shelf.faults c.args.shelf.now; after = g.F.Shelf.faults c.problem_of.new.shelf } in
+    let old = g.F.Shelf.state c.args.shelf.now in
+    let new = g.F.Shelf.state c.problem_of.new.shelf in
     let work : Problem → Status → List (List ℕ) → Type 0 = ListingWork c.args.after.now c.args.count in
-    let Q : Status → List ℕ → Type 0 = Says (OnFile work shelves.held c.args.file.now) (λ other. other ≡ c.args.file.now) shelves in
-    Ends-map _ Q _ _ _ _ _ (on_file-faults work shelves c.args.file.now) (λ r. r) c.in-Err.ensures.told
+    let Q : Status → List ℕ → Type 0 = FileSays work c.args.file.now old new in
+    Ends-map _ Q (g.K.Sink.state c.args.out.now) _ _ (on_file-faults work old new c.args.file.now) c.in-Err.ensures.told

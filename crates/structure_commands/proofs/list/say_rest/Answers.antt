@@ -12,20 +12,20 @@ giving-init g c = record {
 
 pub returns-in_default-put_waiting : goal.returns-in_default-put_waiting
 returns-in_default-put_waiting g c =
-    stopped_waiting c.args.problem.now c.args.count c.args.list.now c.giving.list c.giving.given _ _ _ c.giving.last c.giving.invariant.gathered (let le : c.giving.given ≤ c.args.count = omega arith in le) _ _ []
+    stopped_waiting c.args.problem.now c.args.count c.args.list.now c.giving.list c.giving.given _ _ _ c.giving.last c.giving.invariant.gathered (let le : c.giving.given ≤ c.args.count = omega arith in le) _ []
     (HasRisen-later _ _ _ c.giving.invariant.later c.in_default-put_waiting.ensures.cause) c.in_default.ensures.end c.in_default-put_waiting.ensures.err
 
 pub returns-in_default : goal.returns-in_default
 returns-in_default g c =
     ended c.args.problem.now c.args.count c.args.list.now c.giving.list c.giving.given _ _ c.giving.last
-    (given_then c.args.problem.now c.args.list.now c.giving.list c.giving.given _ _ _ c.giving.last c.giving.invariant.gathered _ c.in-Ok.ensures.ok) (let le : c.giving.given ≤ c.args.count = omega arith in le) _ _
-    (HasRisen-later _ _ _ (let a = c.giving.invariant.later in let b = c.in-Ok.ensures.later in omega (arith, a, b))) _ _ c.in_default.ensures.end c.say.ensures
+    (given_then c.args.problem.now c.args.list.now c.giving.list c.giving.given _ _ _ c.giving.last c.giving.invariant.gathered _ c.in-Ok.ensures.ok) (let le : c.giving.given ≤ c.args.count = omega arith in le)
+    (let a = c.giving.invariant.later in let b = c.in-Ok.ensures.later in omega (arith, a, b)) _ _ c.in_default.ensures.end c.say.ensures
 
 pub returns-in_default-push_line : goal.returns-in_default-push_line
 returns-in_default-push_line g c =
     let ahead = c.is_one.ensures.exists in
-    starved_waiting c.args.problem.now c.args.count c.args.list.now c.giving.list c.giving.given _ _ _ c.giving.last c.giving.invariant.gathered (let le : c.giving.given ≤ c.args.count = omega arith in le) _ _
-    (HasRisen-later _ _ _ c.giving.invariant.later) _ _ (c.in-Some.set ∷ ahead.0) ((c.in-Some.ensures.head ahead.0).0 ahead.1) c.say_memory.ensures
+    starved_waiting c.args.problem.now c.args.count c.args.list.now c.giving.list c.giving.given _ _ _ c.giving.last c.giving.invariant.gathered (let le : c.giving.given ≤ c.args.count = omega arith in le)
+    c.giving.invariant.later _ _ (c.in-Some.set ∷ ahead.0) ((c.in-Some.ensures.head ahead.0).0 ahead.1) c.say_memory.ensures
 
 pub returns-in_default-put_waiting-2 : goal.returns-in_default-put_waiting-2
 returns-in_default-put_waiting-2 g c =
@@ -33,7 +33,7 @@ returns-in_default-put_waiting-2 g c =
     let test = c.giving-test.true in
     stopped_waiting c.args.problem.now c.args.count c.args.list.now c.next.new.list (c.giving.given + 1) _ _ _ c.in-Some.set
     (gather_one c.args.problem.now c.args.list.now c.giving.list c.giving.given _ _ _ c.giving.last c.giving.invariant.gathered c.next.new.list c.push_line.new.bytes.items c.in-Some.set c.in-Some.ensures.head c.in-Ok-push_line.ensures)
-    (let le : c.giving.given + 1 ≤ c.args.count = omega (arith, test) in le) _ _ ahead.0
+    (let le : c.giving.given + 1 ≤ c.args.count = omega (arith, test) in le) _ ahead.0
     (HasRisen-later _ _ _ c.giving.invariant.later c.in_default-put_waiting-2.ensures.cause) ahead.1 c.in_default-put_waiting-2.ensures.err
 
 pub giving-preserved : goal.giving-preserved
@@ -50,18 +50,18 @@ giving-preserved g c =
 pub returns-in_default-put_waiting-3 : goal.returns-in_default-put_waiting-3
 returns-in_default-put_waiting-3 g c =
     let ahead = c.is_one-2.ensures.exists in
-    stopped_waiting c.args.problem.now c.args.count c.args.list.now c.giving.list c.giving.given _ _ _ c.giving.last c.giving.invariant.gathered (let le : c.giving.given ≤ c.args.count = omega arith in le) _ _ ahead.0
+    stopped_waiting c.args.problem.now c.args.count c.args.list.now c.giving.list c.giving.given _ _ _ c.giving.last c.giving.invariant.gathered (let le : c.giving.given ≤ c.args.count = omega arith in le) _ ahead.0
     (HasRisen-later _ _ _ c.giving.invariant.later c.in_default-put_waiting-3.ensures.cause) ahead.1 c.in_default-put_waiting-3.ensures.err
 
 pub returns-in_default-next : goal.returns-in_default-next
 returns-in_default-next g c =
     ended c.args.problem.now c.args.count c.args.list.now c.giving.list c.giving.given _ _ c.giving.last
-    (given_then c.args.problem.now c.args.list.now c.giving.list c.giving.given _ _ _ c.giving.last c.giving.invariant.gathered _ c.in-Ok-put_waiting-2.ensures.ok) (let le : c.giving.given ≤ c.args.count = omega arith in le) _ _
-    (HasRisen-later _ _ _ (let a = c.giving.invariant.later in let b = c.in-Ok-put_waiting-2.ensures.later in omega (arith, a, b))) _ _ c.in_default-next.ensures.end c.say-in_default-next.ensures
+    (given_then c.args.problem.now c.args.list.now c.giving.list c.giving.given _ _ _ c.giving.last c.giving.invariant.gathered _ c.in-Ok-put_waiting-2.ensures.ok) (let le : c.giving.given ≤ c.args.count = omega arith in le)
+    (let a = c.giving.invariant.later in let b = c.in-Ok-put_waiting-2.ensures.later in omega (arith, a, b)) _ _ c.in_default-next.ensures.end c.say-in_default-next.ensures
 
 pub returns : goal.returns
 returns g c =
     let ahead = c.is_one-3.ensures.exists in
     continued c.args.problem.now c.args.count c.args.list.now c.giving.list c.giving.given _ _ c.giving.last
-    (given_then c.args.problem.now c.args.list.now c.giving.list c.giving.given _ _ _ c.giving.last c.giving.invariant.gathered _ c.in-Ok-put_waiting-2.ensures.ok) (let le : c.giving.given ≤ c.args.count = omega arith in le) _ _
-    (HasRisen-later _ _ _ (let a = c.giving.invariant.later in let b = c.in-Ok-put_waiting-2.ensures.later in omega (arith, a, b))) _ _ (let e : c.giving.given ≡ c.args.count = omega arith in e) c.in-Some-next.field-0 ahead.0 ((c.in-Some-next.ensures.head ahead.0).0 ahead.1) c.say_more.ensures
+    (given_then c.args.problem.now c.args.list.now c.giving.list c.giving.given _ _ _ c.giving.last c.giving.invariant.gathered _ c.in-Ok-put_waiting-2.ensures.ok) (let le : c.giving.given ≤ c.args.count = omega arith in le)
+    (let a = c.giving.invariant.later in let b = c.in-Ok-put_waiting-2.ensures.later in omega (arith, a, b)) _ _ (let e : c.giving.given ≡ c.args.count = omega arith in e) c.in-Some-next.field-0 ahead.0 ((c.in-Some-next.ensures.head ahead.0).0 ahead.1) c.say_more.ensures

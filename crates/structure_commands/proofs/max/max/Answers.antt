@@ -1,7 +1,7 @@
-use Rattle.std.proofs.Common.{◌≡◌, ap, ℕ, List}
+use Rattle.std.proofs.Common.{ap, ℕ, List}
 use Rattle.studio_rules.specs.Max.{MaxWork}
-use Rattle.studio_rules.specs.Reading.{OnFile}
-use Rattle.studio_rules.specs.Ending.{Shelves, Says, Tells}
+use Rattle.studio_rules.specs.Reading.{FileSays}
+use Rattle.studio_rules.specs.Ending.{Tells}
 use Rattle.studio_rules.specs.declared.status.Status.{Status}
 use Rattle.endings.proofs.Ending.{Ends-map, Ends-from}
 use Rattle.command_files.proofs.Files.{on_file-faults, on_file-work}
@@ -9,13 +9,15 @@ use Rattle.structure_commands.proofs.max.max.Goals as goal
 
 pub returns-in-Ok : goal.returns-in-Ok
 returns-in-Ok g c =
-    let shelves : Shelves = record { held = g.F.Shelf.held c.args.shelf.now; before = g.F.Shelf.faults c.args.shelf.now; after = g.F.Shelf.faults c.problem_of.new.shelf } in
-    let Q : Status → List ℕ → Type 0 = Says (OnFile MaxWork shelves.held c.args.file.now) (λ other. other ≡ c.args.file.now) shelves in
-    Ends-from (Tells (MaxWork c.in-Ok.problem)) Q _ _ _ _ _ _ _ (ap g.K.Sink.faults c.in-Ok.ensures.silent) (ap g.K.Sink.written c.in-Ok.ensures.silent)
-    (on_file-work MaxWork shelves c.args.file.now c.in-Ok.problem c.in-Ok.ensures.problem) c.say_maximal.ensures
+    let old = g.F.Shelf.state c.args.shelf.now in
+    let new = g.F.Shelf.state c.problem_of.new.shelf in
+    let Q : Status → List ℕ → Type 0 = FileSays MaxWork c.args.file.now old new in
+    Ends-from (Tells (MaxWork c.in-Ok.problem)) Q (g.K.Sink.state c.args.out.now) _ _ _ (ap g.K.Sink.state c.in-Ok.ensures.silent)
+    (on_file-work MaxWork old new c.args.file.now c.in-Ok.problem c.in-Ok.ensures.problem) c.say_maximal.ensures
 
 pub returns-in-Err : goal.returns-in-Err
 returns-in-Err g c =
-    let shelves : Shelves = record { held = g.F.Shelf.held c.args.shelf.now; before = g.F.Shelf.faults c.args.shelf.now; after = g.F.Shelf.faults c.problem_of.new.shelf } in
-    let Q : Status → List ℕ → Type 0 = Says (OnFile MaxWork shelves.held c.args.file.now) (λ other. other ≡ c.args.file.now) shelves in
-    Ends-map _ Q _ _ _ _ _ (on_file-faults MaxWork shelves c.args.file.now) (λ r. r) c.in-Err.ensures.told
+    let old = g.F.Shelf.state c.args.shelf.now in
+    let new = g.F.Shelf.state c.problem_of.new.shelf in
+    let Q : Status → List ℕ → Type 0 = FileSays MaxWork c.args.file.now old new in
+    Ends-map _ Q (g.K.Sink.state c.args.out.now) _ _ (on_file-faults MaxWork old new c.args.file.now) c.in-Err.ensures.told

@@ -1,7 +1,6 @@
 use Rattle.std.proofs.Common.{refl, sym, ap, subst, ◌≤◌, ℕ, List, map, string_bytes}
 use Rattle.studio_rules.specs.Command.{Command, Max, Axioms, Flows, Listing, Migrate, Editing, Undoing, Checking, RankChecking, Solving, Ranking, Telling, AreWithin, Table, Splitting, Expanding, Drawing, DrawingNetwork, Reporting, Ranging, Planning, Parting, PartingAgainst, Merging}
 use Rattle.studio_words.specs.View.{command_view}
-use Rattle.studio_rules.specs.Ending.{Shelves}
 use Rattle.studio_rules.specs.Answers.{CommandSays}
 use Rattle.studio_rules.specs.Make.{MakeWork}
 use Rattle.studio_rules.specs.Trial.{TrialWork}
@@ -13,40 +12,44 @@ use Rattle.studio.proofs.call.perform.Goals as goal
 
 pub returns-in-Max : goal.returns-in-Max
 returns-in-Max g c =
-    let shelves : Shelves = record { held = g.F.Shelf.held c.args.shelf.now; before = g.F.Shelf.faults c.args.shelf.now; after = g.F.Shelf.faults c.max.new.shelf } in
-    let Q : Status → List ℕ → Type 0 = CommandSays shelves (command_view c.args.command) in
-    Ends-map (CommandSays shelves (Max c.in-Max.file.now)) Q _ _ _ _ _
-    (λ s t h. subst (λ (v : Command). CommandSays shelves v s t) (sym (ap command_view c.in-Max.is)) h) (λ r. r) c.max.ensures
+    let old = g.F.Shelf.state c.args.shelf.now in
+    let new = g.F.Shelf.state c.max.new.shelf in
+    let Q : Status → List ℕ → Type 0 = CommandSays old new (command_view c.args.command) in
+    Ends-map (CommandSays old new (Max c.in-Max.file.now)) Q (g.K.Sink.state c.args.out.now) _ _
+    (λ s t h. subst (λ (v : Command). CommandSays old new v s t) (sym (ap command_view c.in-Max.is)) h) c.max.ensures
 
 pub returns-in-Axioms : goal.returns-in-Axioms
 returns-in-Axioms g c =
-    let shelves : Shelves = record { held = g.F.Shelf.held c.args.shelf.now; before = g.F.Shelf.faults c.args.shelf.now; after = g.F.Shelf.faults c.axioms.new.shelf } in
-    let Q : Status → List ℕ → Type 0 = CommandSays shelves (command_view c.args.command) in
-    Ends-map (CommandSays shelves (Axioms c.in-Axioms.file.now c.in-Axioms.units)) Q _ _ _ _ _
-    (λ s t h. subst (λ (v : Command). CommandSays shelves v s t) (sym (ap command_view c.in-Axioms.is)) h) (λ r. r) c.axioms.ensures
+    let old = g.F.Shelf.state c.args.shelf.now in
+    let new = g.F.Shelf.state c.axioms.new.shelf in
+    let Q : Status → List ℕ → Type 0 = CommandSays old new (command_view c.args.command) in
+    Ends-map (CommandSays old new (Axioms c.in-Axioms.file.now c.in-Axioms.units)) Q (g.K.Sink.state c.args.out.now) _ _
+    (λ s t h. subst (λ (v : Command). CommandSays old new v s t) (sym (ap command_view c.in-Axioms.is)) h) c.axioms.ensures
 
 pub returns-in-Flows : goal.returns-in-Flows
 returns-in-Flows g c =
-    let shelves : Shelves = record { held = g.F.Shelf.held c.args.shelf.now; before = g.F.Shelf.faults c.args.shelf.now; after = g.F.Shelf.faults c.flows.new.shelf } in
-    let Q : Status → List ℕ → Type 0 = CommandSays shelves (command_view c.args.command) in
-    Ends-map (CommandSays shelves (Flows c.in-Flows.file.now c.in-Flows.units)) Q _ _ _ _ _
-    (λ s t h. subst (λ (v : Command). CommandSays shelves v s t) (sym (ap command_view c.in-Flows.is)) h) (λ r. r) c.flows.ensures
+    let old = g.F.Shelf.state c.args.shelf.now in
+    let new = g.F.Shelf.state c.flows.new.shelf in
+    let Q : Status → List ℕ → Type 0 = CommandSays old new (command_view c.args.command) in
+    Ends-map (CommandSays old new (Flows c.in-Flows.file.now c.in-Flows.units)) Q (g.K.Sink.state c.args.out.now) _ _
+    (λ s t h. subst (λ (v : Command). CommandSays old new v s t) (sym (ap command_view c.in-Flows.is)) h) c.flows.ensures
 
 pub returns-in-Listing : goal.returns-in-Listing
 returns-in-Listing g c =
-    let shelves : Shelves = record { held = g.F.Shelf.held c.args.shelf.now; before = g.F.Shelf.faults c.args.shelf.now; after = g.F.Shelf.faults c.list.new.shelf } in
-    let Q : Status → List ℕ → Type 0 = CommandSays shelves (command_view c.args.command) in
-    Ends-map (CommandSays shelves (Listing c.in-Listing.file.now c.in-Listing.after.now c.in-Listing.count)) Q _ _ _ _ _
-    (λ s t h. subst (λ (v : Command). CommandSays shelves v s t) (sym (ap command_view c.in-Listing.is)) h) (λ r. r) c.list.ensures
+    let old = g.F.Shelf.state c.args.shelf.now in
+    let new = g.F.Shelf.state c.list.new.shelf in
+    let Q : Status → List ℕ → Type 0 = CommandSays old new (command_view c.args.command) in
+    Ends-map (CommandSays old new (Listing c.in-Listing.file.now c.in-Listing.after.now c.in-Listing.count)) Q (g.K.Sink.state c.args.out.now) _ _
+    (λ s t h. subst (λ (v : Command). CommandSays old new v s t) (sym (ap command_view c.in-Listing.is)) h) c.list.ensures
 
 pub returns-in-Make : goal.returns-in-Make
 returns-in-Make g c =
-    let shelves : Shelves = record { held = g.F.Shelf.held c.args.shelf.now; before = g.F.Shelf.faults c.args.shelf.now; after = g.F.Shelf.faults c.args.shelf.now } in
-    let Q : Status → List ℕ → Type 0 = CommandSays shelves (command_view c.args.command) in
-    Ends-map _ Q _ _ _ _ _
-    (λ s t h. subst (λ (v : Command). CommandSays shelves v s t) (sym (ap command_view c.in-Make.is))
-    (Says-told (MakeWork c.in-Make.number c.in-Make.units) (MakeWork c.in-Make.number c.in-Make.units) _ shelves (λ s lines h. h) s t h))
-    (λ r. r) c.make.ensures
+    let shelf = g.F.Shelf.state c.args.shelf.now in
+    let Q : Status → List ℕ → Type 0 = CommandSays shelf shelf (command_view c.args.command) in
+    Ends-map _ Q (g.K.Sink.state c.args.out.now) _ _
+    (λ s t h. subst (λ (v : Command). CommandSays shelf shelf v s t) (sym (ap command_view c.in-Make.is))
+    (Says-told (MakeWork c.in-Make.number c.in-Make.units) (MakeWork c.in-Make.number c.in-Make.units) _ shelf shelf (λ s lines h. h) s t h))
+    c.make.ensures
 
 pub make-requires : goal.make-requires
 make-requires g c =
@@ -58,80 +61,91 @@ migrate-requires g c = subst AreWithin (ap command_view c.in-Migrate.is) c.requi
 
 pub returns-in-Migrate : goal.returns-in-Migrate
 returns-in-Migrate g c =
-    let shelves : Shelves = record { held = g.F.Shelf.held c.args.shelf.now; before = g.F.Shelf.faults c.args.shelf.now; after = g.F.Shelf.faults c.migrate.new.shelf } in
-    let Q : Status → List ℕ → Type 0 = CommandSays shelves (command_view c.args.command) in
-    Ends-map (CommandSays shelves (Migrate c.in-Migrate.file.now c.in-Migrate.years)) Q _ _ _ _ _
-    (λ s t h. subst (λ (v : Command). CommandSays shelves v s t) (sym (ap command_view c.in-Migrate.is)) h) (λ r. r) c.migrate.ensures
+    let old = g.F.Shelf.state c.args.shelf.now in
+    let new = g.F.Shelf.state c.migrate.new.shelf in
+    let Q : Status → List ℕ → Type 0 = CommandSays old new (command_view c.args.command) in
+    Ends-map (CommandSays old new (Migrate c.in-Migrate.file.now c.in-Migrate.years)) Q (g.K.Sink.state c.args.out.now) _ _
+    (λ s t h. subst (λ (v : Command). CommandSays old new v s t) (sym (ap command_view c.in-Migrate.is)) h) c.migrate.ensures
 
 pub returns-in-Editing : goal.returns-in-Editing
 returns-in-Editing g c =
-    let shelves : Shelves = record { held = g.F.Shelf.held c.args.shelf.now; before = g.F.Shelf.faults c.args.shelf.now; after = g.F.Shelf.faults c.edit.new.shelf } in
-    let Q : Status → List ℕ → Type 0 = CommandSays shelves (command_view c.args.command) in
-    Ends-map (CommandSays shelves (Editing c.in-Editing.file.now c.in-Editing.script.now)) Q _ _ _ _ _
-    (λ s t h. subst (λ (v : Command). CommandSays shelves v s t) (sym (ap command_view c.in-Editing.is)) h) (λ r. r) c.edit.ensures
+    let old = g.F.Shelf.state c.args.shelf.now in
+    let new = g.F.Shelf.state c.edit.new.shelf in
+    let Q : Status → List ℕ → Type 0 = CommandSays old new (command_view c.args.command) in
+    Ends-map (CommandSays old new (Editing c.in-Editing.file.now c.in-Editing.script.now)) Q (g.K.Sink.state c.args.out.now) _ _
+    (λ s t h. subst (λ (v : Command). CommandSays old new v s t) (sym (ap command_view c.in-Editing.is)) h) c.edit.ensures
 
 pub returns-in-Undoing : goal.returns-in-Undoing
 returns-in-Undoing g c =
-    let shelves : Shelves = record { held = g.F.Shelf.held c.args.shelf.now; before = g.F.Shelf.faults c.args.shelf.now; after = g.F.Shelf.faults c.undo.new.shelf } in
-    let Q : Status → List ℕ → Type 0 = CommandSays shelves (command_view c.args.command) in
-    Ends-map (CommandSays shelves (Undoing c.in-Undoing.file.now c.in-Undoing.script.now)) Q _ _ _ _ _
-    (λ s t h. subst (λ (v : Command). CommandSays shelves v s t) (sym (ap command_view c.in-Undoing.is)) h) (λ r. r) c.undo.ensures
+    let old = g.F.Shelf.state c.args.shelf.now in
+    let new = g.F.Shelf.state c.undo.new.shelf in
+    let Q : Status → List ℕ → Type 0 = CommandSays old new (command_view c.args.command) in
+    Ends-map (CommandSays old new (Undoing c.in-Undoing.file.now c.in-Undoing.script.now)) Q (g.K.Sink.state c.args.out.now) _ _
+    (λ s t h. subst (λ (v : Command). CommandSays old new v s t) (sym (ap command_view c.in-Undoing.is)) h) c.undo.ensures
 
 pub returns-in-Expanding : goal.returns-in-Expanding
 returns-in-Expanding g c =
-    let shelves : Shelves = record { held = g.F.Shelf.held c.args.shelf.now; before = g.F.Shelf.faults c.args.shelf.now; after = g.F.Shelf.faults c.expand.new.shelf } in
-    let Q : Status → List ℕ → Type 0 = CommandSays shelves (command_view c.args.command) in
-    Ends-map (CommandSays shelves (Expanding c.in-Expanding.file.now c.in-Expanding.plan.now)) Q _ _ _ _ _
-    (λ s t h. subst (λ (v : Command). CommandSays shelves v s t) (sym (ap command_view c.in-Expanding.is)) h) (λ r. r) c.expand.ensures
+    let old = g.F.Shelf.state c.args.shelf.now in
+    let new = g.F.Shelf.state c.expand.new.shelf in
+    let Q : Status → List ℕ → Type 0 = CommandSays old new (command_view c.args.command) in
+    Ends-map (CommandSays old new (Expanding c.in-Expanding.file.now c.in-Expanding.plan.now)) Q (g.K.Sink.state c.args.out.now) _ _
+    (λ s t h. subst (λ (v : Command). CommandSays old new v s t) (sym (ap command_view c.in-Expanding.is)) h) c.expand.ensures
 
 pub returns-in-Checking : goal.returns-in-Checking
 returns-in-Checking g c =
-    let shelves : Shelves = record { held = g.F.Shelf.held c.args.shelf.now; before = g.F.Shelf.faults c.args.shelf.now; after = g.F.Shelf.faults c.check.new.shelf } in
-    let Q : Status → List ℕ → Type 0 = CommandSays shelves (command_view c.args.command) in
-    Ends-map (CommandSays shelves (Checking c.in-Checking.file.now c.in-Checking.tree.now)) Q _ _ _ _ _
-    (λ s t h. subst (λ (v : Command). CommandSays shelves v s t) (sym (ap command_view c.in-Checking.is)) h) (λ r. r) c.check.ensures.ends
+    let old = g.F.Shelf.state c.args.shelf.now in
+    let new = g.F.Shelf.state c.check.new.shelf in
+    let Q : Status → List ℕ → Type 0 = CommandSays old new (command_view c.args.command) in
+    Ends-map (CommandSays old new (Checking c.in-Checking.file.now c.in-Checking.tree.now)) Q (g.K.Sink.state c.args.out.now) _ _
+    (λ s t h. subst (λ (v : Command). CommandSays old new v s t) (sym (ap command_view c.in-Checking.is)) h) c.check.ensures.ends
 
 pub returns-in-RankChecking : goal.returns-in-RankChecking
 returns-in-RankChecking g c =
-    let shelves : Shelves = record { held = g.F.Shelf.held c.args.shelf.now; before = g.F.Shelf.faults c.args.shelf.now; after = g.F.Shelf.faults c.rankcheck.new.shelf } in
-    let Q : Status → List ℕ → Type 0 = CommandSays shelves (command_view c.args.command) in
-    Ends-map (CommandSays shelves (RankChecking c.in-RankChecking.file.now c.in-RankChecking.rank.now)) Q _ _ _ _ _
-    (λ s t h. subst (λ (v : Command). CommandSays shelves v s t) (sym (ap command_view c.in-RankChecking.is)) h) (λ r. r) c.rankcheck.ensures.ends
+    let old = g.F.Shelf.state c.args.shelf.now in
+    let new = g.F.Shelf.state c.rankcheck.new.shelf in
+    let Q : Status → List ℕ → Type 0 = CommandSays old new (command_view c.args.command) in
+    Ends-map (CommandSays old new (RankChecking c.in-RankChecking.file.now c.in-RankChecking.rank.now)) Q (g.K.Sink.state c.args.out.now) _ _
+    (λ s t h. subst (λ (v : Command). CommandSays old new v s t) (sym (ap command_view c.in-RankChecking.is)) h) c.rankcheck.ensures.ends
 
 pub returns-in-Table : goal.returns-in-Table
 returns-in-Table g c =
-    let shelves : Shelves = record { held = g.F.Shelf.held c.args.shelf.now; before = g.F.Shelf.faults c.args.shelf.now; after = g.F.Shelf.faults c.table.new.shelf } in
-    let Q : Status → List ℕ → Type 0 = CommandSays shelves (command_view c.args.command) in
-    Ends-map (CommandSays shelves (Table c.in-Table.file.now c.in-Table.tree.now)) Q _ _ _ _ _
-    (λ s t h. subst (λ (v : Command). CommandSays shelves v s t) (sym (ap command_view c.in-Table.is)) h) (λ r. r) c.table.ensures
+    let old = g.F.Shelf.state c.args.shelf.now in
+    let new = g.F.Shelf.state c.table.new.shelf in
+    let Q : Status → List ℕ → Type 0 = CommandSays old new (command_view c.args.command) in
+    Ends-map (CommandSays old new (Table c.in-Table.file.now c.in-Table.tree.now)) Q (g.K.Sink.state c.args.out.now) _ _
+    (λ s t h. subst (λ (v : Command). CommandSays old new v s t) (sym (ap command_view c.in-Table.is)) h) c.table.ensures
 
 pub returns-in-Reporting : goal.returns-in-Reporting
 returns-in-Reporting g c =
-    let shelves : Shelves = record { held = g.F.Shelf.held c.args.shelf.now; before = g.F.Shelf.faults c.args.shelf.now; after = g.F.Shelf.faults c.report.new.shelf } in
-    let Q : Status → List ℕ → Type 0 = CommandSays shelves (command_view c.args.command) in
-    Ends-map (CommandSays shelves (Reporting c.in-Reporting.file.now c.in-Reporting.tree.now)) Q _ _ _ _ _
-    (λ s t h. subst (λ (v : Command). CommandSays shelves v s t) (sym (ap command_view c.in-Reporting.is)) h) (λ r. r) c.report.ensures
+    let old = g.F.Shelf.state c.args.shelf.now in
+    let new = g.F.Shelf.state c.report.new.shelf in
+    let Q : Status → List ℕ → Type 0 = CommandSays old new (command_view c.args.command) in
+    Ends-map (CommandSays old new (Reporting c.in-Reporting.file.now c.in-Reporting.tree.now)) Q (g.K.Sink.state c.args.out.now) _ _
+    (λ s t h. subst (λ (v : Command). CommandSays old new v s t) (sym (ap command_view c.in-Reporting.is)) h) c.report.ensures
 
 pub returns-in-Splitting : goal.returns-in-Splitting
 returns-in-Splitting g c =
-    let shelves : Shelves = record { held = g.F.Shelf.held c.args.shelf.now; before = g.F.Shelf.faults c.args.shelf.now; after = g.F.Shelf.faults c.split.new.shelf } in
-    let Q : Status → List ℕ → Type 0 = CommandSays shelves (command_view c.args.command) in
-    Ends-map (CommandSays shelves (Splitting c.in-Splitting.file.now c.in-Splitting.tree.now)) Q _ _ _ _ _
-    (λ s t h. subst (λ (v : Command). CommandSays shelves v s t) (sym (ap command_view c.in-Splitting.is)) h) (λ r. r) c.split.ensures
+    let old = g.F.Shelf.state c.args.shelf.now in
+    let new = g.F.Shelf.state c.split.new.shelf in
+    let Q : Status → List ℕ → Type 0 = CommandSays old new (command_view c.args.command) in
+    Ends-map (CommandSays old new (Splitting c.in-Splitting.file.now c.in-Splitting.tree.now)) Q (g.K.Sink.state c.args.out.now) _ _
+    (λ s t h. subst (λ (v : Command). CommandSays old new v s t) (sym (ap command_view c.in-Splitting.is)) h) c.split.ensures
 
 pub returns-in-Drawing : goal.returns-in-Drawing
 returns-in-Drawing g c =
-    let shelves : Shelves = record { held = g.F.Shelf.held c.args.shelf.now; before = g.F.Shelf.faults c.args.shelf.now; after = g.F.Shelf.faults c.plant_graph.new.shelf } in
-    let Q : Status → List ℕ → Type 0 = CommandSays shelves (command_view c.args.command) in
-    Ends-map (CommandSays shelves (Drawing c.in-Drawing.file.now)) Q _ _ _ _ _
-    (λ s t h. subst (λ (v : Command). CommandSays shelves v s t) (sym (ap command_view c.in-Drawing.is)) h) (λ r. r) c.plant_graph.ensures
+    let old = g.F.Shelf.state c.args.shelf.now in
+    let new = g.F.Shelf.state c.plant_graph.new.shelf in
+    let Q : Status → List ℕ → Type 0 = CommandSays old new (command_view c.args.command) in
+    Ends-map (CommandSays old new (Drawing c.in-Drawing.file.now)) Q (g.K.Sink.state c.args.out.now) _ _
+    (λ s t h. subst (λ (v : Command). CommandSays old new v s t) (sym (ap command_view c.in-Drawing.is)) h) c.plant_graph.ensures
 
 pub returns-in-DrawingNetwork : goal.returns-in-DrawingNetwork
 returns-in-DrawingNetwork g c =
-    let shelves : Shelves = record { held = g.F.Shelf.held c.args.shelf.now; before = g.F.Shelf.faults c.args.shelf.now; after = g.F.Shelf.faults c.graph.new.shelf } in
-    let Q : Status → List ℕ → Type 0 = CommandSays shelves (command_view c.args.command) in
-    Ends-map (CommandSays shelves (DrawingNetwork c.in-DrawingNetwork.file.now c.in-DrawingNetwork.tree.now)) Q _ _ _ _ _
-    (λ s t h. subst (λ (v : Command). CommandSays shelves v s t) (sym (ap command_view c.in-DrawingNetwork.is)) h) (λ r. r) c.graph.ensures
+    let old = g.F.Shelf.state c.args.shelf.now in
+    let new = g.F.Shelf.state c.graph.new.shelf in
+    let Q : Status → List ℕ → Type 0 = CommandSays old new (command_view c.args.command) in
+    Ends-map (CommandSays old new (DrawingNetwork c.in-DrawingNetwork.file.now c.in-DrawingNetwork.tree.now)) Q (g.K.Sink.state c.args.out.now) _ _
+    (λ s t h. subst (λ (v : Command). CommandSays old new v s t) (sym (ap command_view c.in-DrawingNetwork.is)) h) c.graph.ensures
 
 pub stable-requires : goal.stable-requires
 stable-requires g c =
@@ -140,10 +154,11 @@ stable-requires g c =
 
 pub returns-in-Ranging : goal.returns-in-Ranging
 returns-in-Ranging g c =
-    let shelves : Shelves = record { held = g.F.Shelf.held c.args.shelf.now; before = g.F.Shelf.faults c.args.shelf.now; after = g.F.Shelf.faults c.stable.new.shelf } in
-    let Q : Status → List ℕ → Type 0 = CommandSays shelves (command_view c.args.command) in
-    Ends-map (CommandSays shelves (Ranging c.in-Ranging.file.now c.in-Ranging.tree.now c.in-Ranging.kind c.in-Ranging.name.now c.in-Ranging.budget)) Q _ _ _ _ _
-    (λ s t h. subst (λ (v : Command). CommandSays shelves v s t) (sym (ap command_view c.in-Ranging.is)) h) (λ r. r) c.stable.ensures
+    let old = g.F.Shelf.state c.args.shelf.now in
+    let new = g.F.Shelf.state c.stable.new.shelf in
+    let Q : Status → List ℕ → Type 0 = CommandSays old new (command_view c.args.command) in
+    Ends-map (CommandSays old new (Ranging c.in-Ranging.file.now c.in-Ranging.tree.now c.in-Ranging.kind c.in-Ranging.name.now c.in-Ranging.budget)) Q (g.K.Sink.state c.args.out.now) _ _
+    (λ s t h. subst (λ (v : Command). CommandSays old new v s t) (sym (ap command_view c.in-Ranging.is)) h) c.stable.ensures
 
 pub periods-requires : goal.periods-requires
 periods-requires g c =
@@ -152,10 +167,11 @@ periods-requires g c =
 
 pub returns-in-Planning : goal.returns-in-Planning
 returns-in-Planning g c =
-    let shelves : Shelves = record { held = g.F.Shelf.held c.args.shelf.now; before = g.F.Shelf.faults c.args.shelf.now; after = g.F.Shelf.faults c.periods.new.shelf } in
-    let Q : Status → List ℕ → Type 0 = CommandSays shelves (command_view c.args.command) in
-    Ends-map (CommandSays shelves (Planning c.in-Planning.file.now c.in-Planning.plan.now c.in-Planning.budget)) Q _ _ _ _ _
-    (λ s t h. subst (λ (v : Command). CommandSays shelves v s t) (sym (ap command_view c.in-Planning.is)) h) (λ r. r) c.periods.ensures
+    let old = g.F.Shelf.state c.args.shelf.now in
+    let new = g.F.Shelf.state c.periods.new.shelf in
+    let Q : Status → List ℕ → Type 0 = CommandSays old new (command_view c.args.command) in
+    Ends-map (CommandSays old new (Planning c.in-Planning.file.now c.in-Planning.plan.now c.in-Planning.budget)) Q (g.K.Sink.state c.args.out.now) _ _
+    (λ s t h. subst (λ (v : Command). CommandSays old new v s t) (sym (ap command_view c.in-Planning.is)) h) c.periods.ensures
 
 pub part-requires : goal.part-requires
 part-requires g c =
@@ -164,10 +180,11 @@ part-requires g c =
 
 pub returns-in-Parting : goal.returns-in-Parting
 returns-in-Parting g c =
-    let shelves : Shelves = record { held = g.F.Shelf.held c.args.shelf.now; before = g.F.Shelf.faults c.args.shelf.now; after = g.F.Shelf.faults c.part.new.shelf } in
-    let Q : Status → List ℕ → Type 0 = CommandSays shelves (command_view c.args.command) in
-    Ends-map (CommandSays shelves (Parting c.in-Parting.file.now c.in-Parting.inside.now c.in-Parting.outside.now c.in-Parting.budget)) Q _ _ _ _ _
-    (λ s t h. subst (λ (v : Command). CommandSays shelves v s t) (sym (ap command_view c.in-Parting.is)) h) (λ r. r) c.part.ensures
+    let old = g.F.Shelf.state c.args.shelf.now in
+    let new = g.F.Shelf.state c.part.new.shelf in
+    let Q : Status → List ℕ → Type 0 = CommandSays old new (command_view c.args.command) in
+    Ends-map (CommandSays old new (Parting c.in-Parting.file.now c.in-Parting.inside.now c.in-Parting.outside.now c.in-Parting.budget)) Q (g.K.Sink.state c.args.out.now) _ _
+    (λ s t h. subst (λ (v : Command). CommandSays old new v s t) (sym (ap command_view c.in-Parting.is)) h) c.part.ensures
 
 pub part_against-requires : goal.part_against-requires
 part_against-requires g c =
@@ -176,17 +193,19 @@ part_against-requires g c =
 
 pub returns-in-PartingAgainst : goal.returns-in-PartingAgainst
 returns-in-PartingAgainst g c =
-    let shelves : Shelves = record { held = g.F.Shelf.held c.args.shelf.now; before = g.F.Shelf.faults c.args.shelf.now; after = g.F.Shelf.faults c.part_against.new.shelf } in
-    let Q : Status → List ℕ → Type 0 = CommandSays shelves (command_view c.args.command) in
-    Ends-map (CommandSays shelves (PartingAgainst c.in-PartingAgainst.file.now c.in-PartingAgainst.inside.now c.in-PartingAgainst.outside.now c.in-PartingAgainst.budget c.in-PartingAgainst.tree.now)) Q _ _ _ _ _
-    (λ s t h. subst (λ (v : Command). CommandSays shelves v s t) (sym (ap command_view c.in-PartingAgainst.is)) h) (λ r. r) c.part_against.ensures
+    let old = g.F.Shelf.state c.args.shelf.now in
+    let new = g.F.Shelf.state c.part_against.new.shelf in
+    let Q : Status → List ℕ → Type 0 = CommandSays old new (command_view c.args.command) in
+    Ends-map (CommandSays old new (PartingAgainst c.in-PartingAgainst.file.now c.in-PartingAgainst.inside.now c.in-PartingAgainst.outside.now c.in-PartingAgainst.budget c.in-PartingAgainst.tree.now)) Q (g.K.Sink.state c.args.out.now) _ _
+    (λ s t h. subst (λ (v : Command). CommandSays old new v s t) (sym (ap command_view c.in-PartingAgainst.is)) h) c.part_against.ensures
 
 pub returns-in-Merging : goal.returns-in-Merging
 returns-in-Merging g c =
-    let shelves : Shelves = record { held = g.F.Shelf.held c.args.shelf.now; before = g.F.Shelf.faults c.args.shelf.now; after = g.F.Shelf.faults c.merge.new.shelf } in
-    let Q : Status → List ℕ → Type 0 = CommandSays shelves (command_view c.args.command) in
-    Ends-map (CommandSays shelves (Merging c.in-Merging.file.now c.in-Merging.tree.now (map string_bytes c.in-Merging.parts.now))) Q _ _ _ _ _
-    (λ s t h. subst (λ (v : Command). CommandSays shelves v s t) (sym (ap command_view c.in-Merging.is)) h) (λ r. r) c.merge.ensures
+    let old = g.F.Shelf.state c.args.shelf.now in
+    let new = g.F.Shelf.state c.merge.new.shelf in
+    let Q : Status → List ℕ → Type 0 = CommandSays old new (command_view c.args.command) in
+    Ends-map (CommandSays old new (Merging c.in-Merging.file.now c.in-Merging.tree.now (map string_bytes c.in-Merging.parts.now))) Q (g.K.Sink.state c.args.out.now) _ _
+    (λ s t h. subst (λ (v : Command). CommandSays old new v s t) (sym (ap command_view c.in-Merging.is)) h) c.merge.ensures
 
 pub solve-requires : goal.solve-requires
 solve-requires g c =
@@ -195,10 +214,11 @@ solve-requires g c =
 
 pub returns-in-Solving : goal.returns-in-Solving
 returns-in-Solving g c =
-    let shelves : Shelves = record { held = g.F.Shelf.held c.args.shelf.now; before = g.F.Shelf.faults c.args.shelf.now; after = g.F.Shelf.faults c.solve.new.shelf } in
-    let Q : Status → List ℕ → Type 0 = CommandSays shelves (command_view c.args.command) in
-    Ends-map (CommandSays shelves (Solving c.in-Solving.file.now c.in-Solving.budget)) Q _ _ _ _ _
-    (λ s t h. subst (λ (v : Command). CommandSays shelves v s t) (sym (ap command_view c.in-Solving.is)) h) (λ r. r) c.solve.ensures
+    let old = g.F.Shelf.state c.args.shelf.now in
+    let new = g.F.Shelf.state c.solve.new.shelf in
+    let Q : Status → List ℕ → Type 0 = CommandSays old new (command_view c.args.command) in
+    Ends-map (CommandSays old new (Solving c.in-Solving.file.now c.in-Solving.budget)) Q (g.K.Sink.state c.args.out.now) _ _
+    (λ s t h. subst (λ (v : Command). CommandSays old new v s t) (sym (ap command_view c.in-Solving.is)) h) c.solve.ensures
 
 pub rank-requires : goal.rank-requires
 rank-requires g c =
@@ -207,10 +227,11 @@ rank-requires g c =
 
 pub returns-in-Ranking : goal.returns-in-Ranking
 returns-in-Ranking g c =
-    let shelves : Shelves = record { held = g.F.Shelf.held c.args.shelf.now; before = g.F.Shelf.faults c.args.shelf.now; after = g.F.Shelf.faults c.rank.new.shelf } in
-    let Q : Status → List ℕ → Type 0 = CommandSays shelves (command_view c.args.command) in
-    Ends-map (CommandSays shelves (Ranking c.in-Ranking.file.now c.in-Ranking.count c.in-Ranking.budget)) Q _ _ _ _ _
-    (λ s t h. subst (λ (v : Command). CommandSays shelves v s t) (sym (ap command_view c.in-Ranking.is)) h) (λ r. r) c.rank.ensures
+    let old = g.F.Shelf.state c.args.shelf.now in
+    let new = g.F.Shelf.state c.rank.new.shelf in
+    let Q : Status → List ℕ → Type 0 = CommandSays old new (command_view c.args.command) in
+    Ends-map (CommandSays old new (Ranking c.in-Ranking.file.now c.in-Ranking.count c.in-Ranking.budget)) Q (g.K.Sink.state c.args.out.now) _ _
+    (λ s t h. subst (λ (v : Command). CommandSays old new v s t) (sym (ap command_view c.in-Ranking.is)) h) c.rank.ensures
 
 pub trial-requires : goal.trial-requires
 trial-requires g c =
@@ -219,21 +240,21 @@ trial-requires g c =
 
 pub returns-in-Trial : goal.returns-in-Trial
 returns-in-Trial g c =
-    let shelves : Shelves = record { held = g.F.Shelf.held c.args.shelf.now; before = g.F.Shelf.faults c.args.shelf.now; after = g.F.Shelf.faults c.args.shelf.now } in
-    let Q : Status → List ℕ → Type 0 = CommandSays shelves (command_view c.args.command) in
+    let shelf = g.F.Shelf.state c.args.shelf.now in
+    let Q : Status → List ℕ → Type 0 = CommandSays shelf shelf (command_view c.args.command) in
     let work : Status → List (List ℕ) → Type 0 = TrialWork c.in-Trial.number c.in-Trial.units c.in-Trial.budget in
-    Ends-map _ Q _ _ _ _ _
-    (λ s t h. subst (λ (v : Command). CommandSays shelves v s t) (sym (ap command_view c.in-Trial.is))
-    (Says-told work work _ shelves (λ s lines h. h) s t h))
-    (λ r. r) c.trial.ensures
+    Ends-map _ Q (g.K.Sink.state c.args.out.now) _ _
+    (λ s t h. subst (λ (v : Command). CommandSays shelf shelf v s t) (sym (ap command_view c.in-Trial.is))
+    (Says-told work work _ shelf shelf (λ s lines h. h) s t h))
+    c.trial.ensures
 
 pub returns-in-Telling : goal.returns-in-Telling
 returns-in-Telling g c =
-    let shelves : Shelves = record { held = g.F.Shelf.held c.args.shelf.now; before = g.F.Shelf.faults c.args.shelf.now; after = g.F.Shelf.faults c.args.shelf.now } in
-    let Q : Status → List ℕ → Type 0 = CommandSays shelves (command_view c.args.command) in
+    let shelf = g.F.Shelf.state c.args.shelf.now in
+    let Q : Status → List ℕ → Type 0 = CommandSays shelf shelf (command_view c.args.command) in
     let text : List ℕ = c.in-Telling.text.now in
     let whole : IsOfLines text = subst AreWithin (ap command_view c.in-Telling.is) c.requires in
-    Ends-map _ Q _ _ _ _ _
-    (λ s t h. subst (λ (v : Command). CommandSays shelves v s t) (sym (ap command_view c.in-Telling.is))
-    (only_in (CommandSays shelves (Telling text)) Done text (whole.0, (refl, whole.1), whole.1) s t h))
-    (λ r. r) c.say_text.ensures
+    Ends-map _ Q (g.K.Sink.state c.args.out.now) _ _
+    (λ s t h. subst (λ (v : Command). CommandSays shelf shelf v s t) (sym (ap command_view c.in-Telling.is))
+    (only_in (CommandSays shelf shelf (Telling text)) Done text (whole.0, (refl, whole.1), whole.1) s t h))
+    c.say_text.ensures

@@ -2,7 +2,6 @@ use Rattle.std.proofs.Common.{◌≡◌, ◌∷◌, [], Some, None, IfSome, IsSo
 use Rattle.studio_rules.specs.Lines.{line}
 use Rattle.studio_rules.specs.Command.{Command, command_of, AreWithin, IsFileOf, IsFileWord}
 use Rattle.studio_words.specs.View.{command_view}
-use Rattle.studio_rules.specs.Ending.{Shelves}
 use Rattle.studio_rules.specs.Answers.{Answers, AnswersTo, CommandAnswers, CommandSays, WordsSay}
 use Rattle.studio_rules.specs.declared.status.Status.{Status}
 use Rattle.studio_rules.specs.declared.status.Status.TheVariants.{Usage, Memory}
@@ -19,29 +18,30 @@ perform-requires g c =
 pub returns-in_default : goal.returns-in_default
 returns-in_default g c =
     let words = map string_bytes c.args.words.now in
-    let shelves : Shelves = record { held = g.F.Shelf.held c.args.shelf.now; before = g.F.Shelf.faults c.args.shelf.now; after = g.F.Shelf.faults c.args.shelf.now } in
-    let Q : Status → List ℕ → Type 0 = WordsSay shelves words in
-    Ends-map _ Q _ _ _ _ _ (only_in Q Memory (line (codes "memory")) ([], inl refl, refl)) (λ r. r) c.say_memory.ensures
+    let shelf = g.F.Shelf.state c.args.shelf.now in
+    let Q : Status → List ℕ → Type 0 = WordsSay shelf shelf words in
+    Ends-map _ Q (g.K.Sink.state c.args.out.now) _ _ (only_in Q Memory (line (codes "memory")) ([], inl refl, refl)) c.say_memory.ensures
 
 pub returns-in-Some : goal.returns-in-Some
 returns-in-Some g c =
     let words = map string_bytes c.args.words.now in
-    let shelves : Shelves = record { held = g.F.Shelf.held c.args.shelf.now; before = g.F.Shelf.faults c.args.shelf.now; after = g.F.Shelf.faults c.perform.new.shelf } in
-    let Q : Status → List ℕ → Type 0 = WordsSay shelves words in
+    let old = g.F.Shelf.state c.args.shelf.now in
+    let new = g.F.Shelf.state c.perform.new.shelf in
+    let Q : Status → List ℕ → Type 0 = WordsSay old new words in
     let command = command_view c.in-Some.command in
     let found : Some command ≡ command_of words = ap (option_map command_view) (sym c.in-Some.is) ∙ c.in-Ok.ensures in
-    Ends-map (CommandSays shelves command) Q _ _ _ _ _
-    (Says-map (CommandAnswers shelves.held command) (Answers shelves.held words) (IsFileOf command) (IsFileWord words) shelves
-    (λ s lines h. subst (λ (f : Option Command). AnswersTo shelves.held f s lines) found h)
+    Ends-map (CommandSays old new command) Q (g.K.Sink.state c.args.out.now) _ _
+    (Says-map (CommandAnswers old.held command) (Answers old.held words) (IsFileOf command) (IsFileWord words) old new
+    (λ s lines h. subst (λ (f : Option Command). AnswersTo old.held f s lines) found h)
     (λ name h. subst (λ (f : Option Command). IsSomeAnd f (λ command. IsFileOf command name)) found h))
-    (λ r. r) c.perform.ensures
+    c.perform.ensures
 
 pub returns-in-None : goal.returns-in-None
 returns-in-None g c =
     let words = map string_bytes c.args.words.now in
-    let shelves : Shelves = record { held = g.F.Shelf.held c.args.shelf.now; before = g.F.Shelf.faults c.args.shelf.now; after = g.F.Shelf.faults c.args.shelf.now } in
-    let Q : Status → List ℕ → Type 0 = WordsSay shelves words in
+    let shelf = g.F.Shelf.state c.args.shelf.now in
+    let Q : Status → List ℕ → Type 0 = WordsSay shelf shelf words in
     let found : None ≡ command_of words = ap (option_map command_view) (sym c.in-None.is) ∙ c.in-Ok.ensures in
-    Ends-map _ Q _ _ _ _ _
-    (only_in Q Usage (line (codes "usage")) (codes "usage" ∷ [], subst (λ (f : Option Command). AnswersTo shelves.held f Usage (codes "usage" ∷ [])) found (refl, refl), refl))
-    (λ r. r) c.say.ensures
+    Ends-map _ Q (g.K.Sink.state c.args.out.now) _ _
+    (only_in Q Usage (line (codes "usage")) (codes "usage" ∷ [], subst (λ (f : Option Command). AnswersTo shelf.held f Usage (codes "usage" ∷ [])) found (refl, refl), refl))
+    c.say.ensures

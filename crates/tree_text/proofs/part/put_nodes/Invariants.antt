@@ -7,6 +7,6 @@ use Rattle.tree_text.proofs.part.put_nodes.Given as goal
 abbrev pub invariant-printing : goal.invariant-printing
 invariant-printing g l = record {
   known : KnowsTree l.problem (drop l.node-index l.nodes);
-  printed : ArePrinted (tree_lines l.problem l.nodes) (tree_lines l.problem (drop l.node-index l.nodes)) (g.K.Sink.written l.fn.out) (g.K.Sink.written l.out);
-  later : g.K.Sink.faults l.fn.out ≤ g.K.Sink.faults l.out;
+  printed : ArePrinted (tree_lines l.problem l.nodes) (tree_lines l.problem (drop l.node-index l.nodes)) (g.K.Sink.state l.fn.out) (g.K.Sink.state l.out);
+  later : (g.K.Sink.state l.fn.out).faults ≤ (g.K.Sink.state l.out).faults;
 }

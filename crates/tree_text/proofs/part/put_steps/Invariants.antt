@@ -9,6 +9,6 @@ use Rattle.tree_text.proofs.part.put_steps.Given as goal
 abbrev pub invariant-printing : goal.invariant-printing
 invariant-printing g l = record {
   known : Each (KnowsStep l.problem) (map step_of (drop l.step-index l.steps));
-  printed : ArePrinted (map (step_line l.problem) (map step_of l.steps)) (map (step_line l.problem) (map step_of (drop l.step-index l.steps))) (g.K.Sink.written l.fn.out) (g.K.Sink.written l.out);
-  later : g.K.Sink.faults l.fn.out ≤ g.K.Sink.faults l.out;
+  printed : ArePrinted (map (step_line l.problem) (map step_of l.steps)) (map (step_line l.problem) (map step_of (drop l.step-index l.steps))) (g.K.Sink.state l.fn.out) (g.K.Sink.state l.out);
+  later : (g.K.Sink.state l.fn.out).faults ≤ (g.K.Sink.state l.out).faults;
 }

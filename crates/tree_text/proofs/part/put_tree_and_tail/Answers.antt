@@ -7,10 +7,10 @@ use Rattle.tree_text.proofs.part.put_tree_and_tail.Goals as goal
 
 pub returns-in-Ok-clause-prints : goal.returns-in-Ok-clause-prints
 returns-in-Ok-clause-prints g c =
-    printed_as _ _ _ _ _ _ _ (ap (λ (ts : Tree). tree_lines c.args.problem.now ts ++ tail_lines c.args.problem.now (tail_of c.args.tail.now)) c.nodes.ensures)
-    (two_printed _ _ _ _ _ _ _ _ _ c.put_nodes.ensures.later c.in-Ok.ensures.prints c.put_tail.ensures.prints)
+    printed_as _ _ _ _ _ (ap (λ (ts : Tree). tree_lines c.args.problem.now ts ++ tail_lines c.args.problem.now (tail_of c.args.tail.now)) c.nodes.ensures)
+    (two_printed _ _ _ _ _ _ c.put_nodes.ensures.later c.in-Ok.ensures.prints c.put_tail.ensures.prints)
 
 pub returns-in-Err-clause-prints : goal.returns-in-Err-clause-prints
 returns-in-Err-clause-prints g c =
-    printed_as _ _ _ _ _ _ _ (ap (λ (ts : Tree). tree_lines c.args.problem.now ts ++ tail_lines c.args.problem.now (tail_of c.args.tail.now)) c.nodes.ensures)
-    (part_failed _ _ _ _ _ _ c.in-Err.fault c.in-Err.ensures.prints)
+    printed_as _ _ _ _ _ (ap (λ (ts : Tree). tree_lines c.args.problem.now ts ++ tail_lines c.args.problem.now (tail_of c.args.tail.now)) c.nodes.ensures)
+    (part_failed _ _ _ _ c.in-Err.fault c.in-Err.ensures.prints)

@@ -19,6 +19,8 @@ returns g c =
     let q : Certificate = c.args.self.now in
     let lines : List (List Token) = tree_text_lines p q.claim q.tree q.tail in
     let out = c.print_tree-printed in
-    let prints : Prints lines (g.K.Sink.written c.args.out.now) (g.K.Sink.written out.new.out) (g.K.Sink.faults c.args.out.now) (g.K.Sink.faults out.new.out) out.result = subst (λ (d : Certificate). Prints (tree_text_lines p d.claim d.tree d.tail) (g.K.Sink.written c.args.out.now) (g.K.Sink.written out.new.out) (g.K.Sink.faults c.args.out.now) (g.K.Sink.faults out.new.out) out.result) c.self.view_is out.ensures.prints in
-    Ends-map _ _ _ _ _ _ _ (Tells-map (OneAnswer c.status_of.result lines) (CertificateSays p q) (says p q c.status_of.result (c.status_of.ensures ∙ ap (λ (d : Certificate). status_of d.tail) c.self.view_is) c.reads_back.ensures)) (λ r. r)
-    (c.say_printed.ensures lines _ _ out.ensures.later prints)
+    let old = g.K.Sink.state c.args.out.now in
+    let new = g.K.Sink.state out.new.out in
+    let prints : Prints lines old new out.result = subst (λ (d : Certificate). Prints (tree_text_lines p d.claim d.tree d.tail) old new out.result) c.self.view_is out.ensures.prints in
+    Ends-map _ _ (g.K.Sink.state c.args.out.now) _ _ (Tells-map (OneAnswer c.status_of.result lines) (CertificateSays p q) (says p q c.status_of.result (c.status_of.ensures ∙ ap (λ (d : Certificate). status_of d.tail) c.self.view_is) c.reads_back.ensures))
+    (c.say_printed.ensures lines (g.K.Sink.state c.args.out.now) out.ensures.later prints)
