@@ -1,8 +1,8 @@
 //! What stands outside the program: shelves, which hold files by name, and sinks, which take bytes.
 //!
-//! A [`Shelf`] is read piece by piece and a [`Sink`] takes one piece after another. Each counts its faults, and a read or
-//! a put fails only where the count rose, so a caller that meets a fault can say whose it was. [`read_all`] gives the
-//! whole of a file that is within a limit.
+//! A [`Shelf`] is read piece by piece and a [`Sink`] takes one piece after another. What a contract knows of one is its
+//! `state`: what it tells, and its count of faults. A read or a put fails only where the count rose, so a caller that meets
+//! a fault can say whose it was. [`read_all`] gives the whole of a file that is within a limit.
 //!
 //! `MemShelf` and `MemSink` are exact and fail where they are told to; `PlainShelf` and `PlainSink` never fail;
 //! `FileShelf` and `OutSink` are the files of the system and the standard output, of which nothing is told but their
