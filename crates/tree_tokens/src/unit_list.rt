@@ -1,5 +1,5 @@
 //! Sets of units, which stand in file order.
-ghost use Rattle.std.specs.Prelude.{◌≡◌, ◌≤◌, ◌<◌, ◌∷◌, ◌++◌, ◌+◌, ◌&&◌, [], true, Ok, Err, IfOk, IfErr, length, nat_le};
+ghost use Rattle.std.specs.Prelude.{◌≡◌, ◌<◌, ◌∷◌, ◌++◌, ◌+◌, ◌&&◌, [], true, Ok, Err, IfOk, IfErr, nat_le};
 ghost use Rattle.tree_rules.specs.Known.{AreUnits};
 ghost use Rattle.tree_text_rules.specs.Token as rules;
 ghost use Rattle.tree_tokens.specs.Joined.{IsEnd};
@@ -57,10 +57,8 @@ pub fn units_of(problem: &Problem, fields: Option<&[u8]>) -> Result<UnitSet, Tre
     let mut rest = fields;
     'reading: while let Some(left) = rest {
         let (token, behind) = first_token(left);
-        match unit_of(problem, token) {
-            Ok(unit) => front = with_unit(front, unit),
-            Err(kind) => return Err(kind),
-        }
+        let unit = unit_of(problem, token)?;
+        front = with_unit(front, unit);
         rest = behind;
     }
     if front.rises {
