@@ -31,14 +31,8 @@ fn read_sizes(
     ensures units { IfOk result (λ found. found.0.units ≡ units) }
     ensures fault { IfErr result (Tells (sizes_taken units cut.line (lines_at bytes.now cut))) }
 {
-    let ((d, sizes), first) = match sizes_at(alloc, units.count(), bytes, cut) {
-        Err(fault) => return Err(fault),
-        Ok(found) => found,
-    };
-    let (cost, behind) = match cost_at(bytes, first) {
-        Err(fault) => return Err(fault),
-        Ok(found) => found,
-    };
+    let ((d, sizes), first) = sizes_at(alloc, units.count(), bytes, cut)?;
+    let (cost, behind) = cost_at(bytes, first)?;
     Ok((Network::of(units, sizes, d, cost), behind))
 }
 
@@ -57,10 +51,8 @@ pub fn read_network(
     ensures known { IfOk result (λ found. AreUnits problem.now found.0.units) }
     ensures fault { IfErr result (Tells (network_taken problem.now cut.line (lines_at bytes.now cut))) }
 {
-    match network_at(problem, bytes, cut) {
-        Err(fault) => Err(fault),
-        Ok((units, first)) => read_sizes(alloc, units, bytes, first),
-    }
+    let (units, first) = network_at(problem, bytes, cut)?;
+    read_sizes(alloc, units, bytes, first)
 }
 
 // What follows the first line of a claim.
@@ -81,10 +73,10 @@ fn claim_behind(
 {
     let _units = problem.units();
     match opening {
-        Opening::Network(units) => match read_sizes(alloc, units, bytes, cut) {
-            Err(fault) => Err(fault),
-            Ok((network, behind)) => Ok((Claim::Network(network), behind)),
-        },
+        Opening::Network(units) => {
+            let (network, behind) = read_sizes(alloc, units, bytes, cut)?;
+            Ok((Claim::Network(network), behind))
+        }
         Opening::Infeasible => Ok((Claim::Infeasible, cut)),
         Opening::Unknown => Ok((Claim::Unknown, cut)),
     }

@@ -55,10 +55,7 @@ pub fn read_node(
     ensures fault { IfErr result (Tells (node_taken problem.now option cut.line (lines_at bytes.now cut))) }
 {
     let (steps, first) = read_steps(alloc, problem, option, bytes, cut)?;
-    let (end, behind) = match end_at(alloc, problem, bytes, first) {
-        Err(fault) => return Err(fault),
-        Ok(found) => found,
-    };
+    let (end, behind) = end_at(alloc, problem, bytes, first)?;
     let node = TreeNode {
         option,
         steps: Steps::from_vec(steps),

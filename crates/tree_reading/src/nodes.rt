@@ -1,6 +1,6 @@
 //! A whole tree.
 ghost use Rattle.std.specs.Prelude.{◌≡◌, ◌<◌, ◌≤◌, ◌+◌, ◌-◌, ◌^◌, [], zero, Ok, Some, IfOk, IfErr, length};
-ghost use Rattle.tree_rules.specs.Known.{AreUnits, KnowsTree};
+ghost use Rattle.tree_rules.specs.Known.{KnowsTree};
 ghost use Rattle.tree_rules.specs.Tree as trees;
 ghost use Rattle.tree_text_rules.specs.Read.{nodes_taken, tree_taken};
 ghost use Rattle.tree_reading.specs.Place.{IsCut, IsBehind, lines_at};
@@ -45,19 +45,13 @@ pub fn read_nodes(
     let mut pending: u64 = 0;
     let mut at = cut;
     'nodes: loop {
-        let (node, behind) = match read_node(alloc, problem, option, bytes, at) {
-            Err(fault) => return Err(fault),
-            Ok(found) => found,
-        };
+        let (node, behind) = read_node(alloc, problem, option, bytes, at)?;
         pending = more_subtrees(pending, &node);
         nodes.push(node)?;
         if pending == 0 {
             return Ok((Tree::from_nodes(nodes), behind));
         }
-        let (next, first) = match option_at(problem, bytes, behind) {
-            Err(fault) => return Err(fault),
-            Ok(found) => found,
-        };
+        let (next, first) = option_at(problem, bytes, behind)?;
         option = next;
         pending -= 1;
         at = first;

@@ -1,5 +1,5 @@
 //! Tails, and the last line.
-ghost use Rattle.std.specs.Prelude.{◌≡◌, ◌<◌, ◌-◌, ◌^◌, ◌∷◌, [], Ok, IfOk, IfErr, OnOk, length};
+ghost use Rattle.std.specs.Prelude.{◌≡◌, ◌<◌, ◌-◌, ◌^◌, [], Ok, IfOk, IfErr, OnOk, length};
 ghost use Rattle.tree_rules.specs.Tail as tails;
 ghost use Rattle.branch_tree.specs.View.{tail_of};
 ghost use Rattle.tree_rules.specs.Known.{KnowsTail};
@@ -37,10 +37,8 @@ fn read_close(bytes: &[u8], cut: Cut) -> Result<(), TreeFault>
     ensures ok { OnOk result ((tail : tails.Tail) → close_taken tail cut.line (lines_at bytes.now cut) ≡ Ok tail) }
     ensures fault { IfErr result (λ fault. (tail : tails.Tail) → Tells (close_taken tail cut.line (lines_at bytes.now cut)) fault) }
 {
-    match close_at(bytes, cut) {
-        Err(fault) => Err(fault),
-        Ok((_, behind)) => read_nothing(bytes, behind),
-    }
+    let (_, behind) = close_at(bytes, cut)?;
+    read_nothing(bytes, behind)
 }
 
 fn read_past(
@@ -56,22 +54,14 @@ fn read_past(
     ensures known { IfOk result (λ tail. KnowsTail problem.now (tail_of tail)) }
     ensures fault { IfErr result (Tells (past_taken problem.now node cut.line (lines_at bytes.now cut))) }
 {
-    let (nonbasic, first) = match nonbasic_at(alloc, problem, bytes, cut) {
-        Err(fault) => return Err(fault),
-        Ok(found) => found,
-    };
-    let (place, second) = match place_at(problem, bytes, first) {
-        Err(fault) => return Err(fault),
-        Ok(found) => found,
-    };
-    match read_close(bytes, second) {
-        Err(fault) => Err(fault),
-        Ok(()) => Ok(Tail::Past {
-            node,
-            nonbasic: Columns::from_vec(nonbasic),
-            place,
-        }),
-    }
+    let (nonbasic, first) = nonbasic_at(alloc, problem, bytes, cut)?;
+    let (place, second) = place_at(problem, bytes, first)?;
+    read_close(bytes, second)?;
+    Ok(Tail::Past {
+        node,
+        nonbasic: Columns::from_vec(nonbasic),
+        place,
+    })
 }
 
 fn read_behind(
@@ -88,14 +78,14 @@ fn read_behind(
     ensures fault { IfErr result (Tells (tail_behind problem.now (tail_opening_of opening) cut.line (lines_at bytes.now cut))) }
 {
     match opening {
-        TailOpening::Whole => match read_nothing(bytes, cut) {
-            Err(fault) => Err(fault),
-            Ok(()) => Ok(Tail::Whole),
-        },
-        TailOpening::Spent { next, options } => match read_close(bytes, cut) {
-            Err(fault) => Err(fault),
-            Ok(()) => Ok(Tail::Spent { next, options }),
-        },
+        TailOpening::Whole => {
+            read_nothing(bytes, cut)?;
+            Ok(Tail::Whole)
+        }
+        TailOpening::Spent { next, options } => {
+            read_close(bytes, cut)?;
+            Ok(Tail::Spent { next, options })
+        }
         TailOpening::Past { node } => read_past(alloc, problem, node, bytes, cut),
     }
 }
