@@ -1,18 +1,12 @@
 -- The ends of subtrees, and the roots that are found by them.
 use Rattle.std.proofs.Common.{◌≡◌, ℕ, zero, suc, ◌+◌, ◌-◌, ◌<◌, ◌≤◌, List, [], ◌∷◌, ◌++◌, length, drop, get_or, refl, sym, ap, ◌∙◌, subst, inl, inr, ◌⊎◌, arith, append_assoc, set}
 use Rattle.std.proofs.lemmas.Bool.{cases_eq}
-use Rattle.std.proofs.lemmas.List.{get_or-set_same, get_or-set_other}
+use Rattle.std.proofs.lemmas.List.{drop_all, get_or-set_same, get_or-set_other}
 use Rattle.tree_rules.specs.Tree as trees
 use Rattle.tree_rules.specs.Leaf.{Leaf}
 use Rattle.tree_rules.specs.Accepted.{Tree}
 use Rattle.cert_check.specs.Subtrees.{IsEnd, AreEnds}
 use Rattle.cert_check.proofs.WalkLemmas.{skip-add, skip-nil}
-
-drop_past : {X : Type 0} (xs : List X) (n : ℕ) → length xs ≤ n → drop n xs ≡ []
-drop_past [] zero h = refl
-drop_past [] (suc n) h = refl
-drop_past (x ∷ xs) zero h = absurd (omega arith)
-drop_past (x ∷ xs) (suc n) h = drop_past xs n (omega arith)
 
 -- on the way over some subtrees
 pub record IsOver (ts : Tree) (count from left at : ℕ) : Type 0 where
@@ -34,7 +28,7 @@ over_step ts ends count from left at are o some lt =
 pub over_end : (ts : Tree) (count from left at : ℕ) → IsOver ts count from left at → (left ≡ 0) ⊎ (length ts ≤ at) → drop at ts ≡ trees.skip count (drop from ts)
 over_end ts count from left at o (inl e) = subst (λ (k : ℕ). trees.skip k (drop at ts) ≡ trees.skip count (drop from ts)) e o.so_far
 over_end ts count from left at o (inr le) =
-    let none : drop at ts ≡ [] = drop_past ts at le in
+    let none : drop at ts ≡ [] = drop_all at ts le in
     none ∙ sym (skip-nil left) ∙ ap (λ (us : Tree). trees.skip left us) (sym none) ∙ o.so_far
 
 -- the node at i and what stands behind it
@@ -71,7 +65,7 @@ roots_step ts ends left at t found are some lt here =
 
 pub roots_end : (ts : Tree) (left at : ℕ) → (left ≡ 0) ⊎ (length ts ≤ at) → trees.roots left (drop at ts) ≡ []
 roots_end ts left at (inl e) = ap (λ (k : ℕ). trees.roots k (drop at ts)) e
-roots_end ts left at (inr le) = ap (λ (us : Tree). trees.roots left us) (drop_past ts at le) ∙ none left
+roots_end ts left at (inr le) = ap (λ (us : Tree). trees.roots left us) (drop_all at ts le) ∙ none left
   where
     none : (k : ℕ) → trees.roots {L = Leaf} k [] ≡ []
     none zero = refl

@@ -1,6 +1,6 @@
 -- A turn of the walk: the node on top of the stack is that of the next item.
-use Rattle.std.proofs.Common.{◌≡◌, ℕ, zero, suc, ◌+◌, ◌<◌, List, [], ◌∷◌, ◌++◌, length, map, drop, get_or, refl, sym, ap, ◌∙◌, subst, add-one, arith, ◌≤◌, append_assoc}
-use Rattle.std.proofs.lemmas.List.{append-nil, reverse-append}
+use Rattle.std.proofs.Common.{◌≡◌, ℕ, ◌+◌, ◌<◌, List, [], ◌∷◌, ◌++◌, length, map, drop, get_or, refl, sym, ap, ◌∙◌, subst, add-one, arith, ◌≤◌, append_assoc}
+use Rattle.std.proofs.lemmas.List.{append-nil, drop_all, reverse-append}
 use Rattle.pns_rules.specs.Shape.{Shape}
 use Rattle.pns_rules.specs.Nodes as rules
 use Rattle.tree_rules.specs.declared.why.Why.{Why}
@@ -21,12 +21,6 @@ use Rattle.cert_check.proofs.WalkLemmas.{Leads, leads_on, leads_fault, leads_all
 
 pub stack_top : (rest : List Node) (n : Node) → stack_of (rest ++ n ∷ []) ≡ node_of n ∷ stack_of rest
 stack_top rest n = ap (λ (ns : List Node). map node_of ns) (reverse-append rest (n ∷ []))
-
-all_behind : {X : Type 0} (xs : List X) (i : ℕ) → length xs ≤ i → drop i xs ≡ []
-all_behind [] zero h = refl
-all_behind [] (suc i) h = refl
-all_behind (x ∷ xs) zero h = absurd (omega arith)
-all_behind (x ∷ xs) (suc i) h = all_behind xs i (omega arith)
 
 -- the open leaves that were found before item i, and those that are still to come
 pub record AreFound (g : Shape) (starts : List rules.Node) (ts : Tree) (found : List OpenAt) (stack : List rules.Node) (i : ℕ) : Type 0 where
@@ -70,7 +64,7 @@ module _ (g : Shape) (P : rules.Node → Leaf → Type 0) (F : rules.Node → Le
   failed n t rest i why o h = leads_fault g P F starts ts n rest t (drop (i + 1) ts) i why o.leads h
 
   pub all_visited : (stack : List rules.Node) (i : ℕ) → length ts ≤ i → IsAt stack i → Pass g P starts ts
-  all_visited stack i le is = leads_all g P F starts ts stack i (subst (λ (us : Tree). Leads g P F starts ts stack us i) (all_behind ts i le) is.leads)
+  all_visited stack i le is = leads_all g P F starts ts stack i (subst (λ (us : Tree). Leads g P F starts ts stack us i) (drop_all i ts le) is.leads)
 
   -- a stack without nodes is met only behind the last item
   pub none_left : (i : ℕ) → IsAt [] i → Pass g P starts ts
@@ -161,7 +155,7 @@ module _ (g : Shape) (starts : List rules.Node) (ts : Tree) where
 
   pub found_all : (found : List OpenAt) (stack : List rules.Node) (i : ℕ) → length ts ≤ i → AreFound g starts ts found stack i → found ≡ open_leaves g starts ts 0
   found_all found stack i le is =
-      sym (is.all ∙ ap (λ (us : Tree). found ++ open_leaves g stack us i) (all_behind ts i le) ∙ ap (λ (fs : List OpenAt). found ++ fs) (none_open stack i) ∙ append-nil found)
+      sym (is.all ∙ ap (λ (us : Tree). found ++ open_leaves g stack us i) (drop_all i ts le) ∙ ap (λ (fs : List OpenAt). found ++ fs) (none_open stack i) ∙ append-nil found)
 
   pub found_whole : (found : List OpenAt) (i : ℕ) → AreFound g starts ts found [] i → found ≡ open_leaves g starts ts 0
   found_whole found i is = sym (is.all ∙ append-nil found)

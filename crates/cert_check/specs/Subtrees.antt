@@ -8,6 +8,7 @@ use Rattle.tree_rules.specs.Accepted.{Tree}
 use Rattle.unit_sets.specs.declared.node.Node.{Node}
 use Rattle.pgraph.specs.View.{node_of}
 use Rattle.cert_parts.specs.Known.{KnowsInside}
+use Rattle.cert_check.specs.declared.subtrees.Behind.{Behind}
 
 -- the subtree of the node at i ends before e
 pub record IsEnd (ts : Tree) (i e : ℕ) : Type 0 where
@@ -18,6 +19,16 @@ pub record IsEnd (ts : Tree) (i e : ℕ) : Type 0 where
 -- the ends of the subtrees at all places from one on
 abbrev pub AreEnds : Tree → List ℕ → ℕ → Type 0
 AreEnds ts ends from = (i : ℕ) → from ≤ i → i < length ts → IsEnd ts i (get_or ends i 0)
+
+-- the nodes from the place on
+abbrev pub rest_of : Behind → Tree
+rest_of b = drop b.from b.nodes.now
+
+-- the place is within the list, and the ends are those of all its subtrees
+pub record HasEnds (b : Behind) : Type 0 where
+  pub same : length b.ends.now ≡ length b.nodes.now
+  pub within : b.from ≤ length b.nodes.now
+  pub are : AreEnds b.nodes.now b.ends.now 0
 
 -- the last node of the stack comes first
 abbrev pub stack_of : List Node → List rules.Node

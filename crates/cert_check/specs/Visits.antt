@@ -3,11 +3,25 @@ use Rattle.std.specs.Prelude.{◌≡◌, List, ◌++◌}
 use Rattle.pns_rules.specs.Shape.{Shape}
 use Rattle.pns_rules.specs.Nodes.{Node}
 use Rattle.tree_rules.specs.declared.why.Why.{Why}
-use Rattle.tree_rules.specs.Tree.{TreeNode, StepsPass, after_all, below, EndPasses}
-use Rattle.tree_rules.specs.Leaf.{Leaf}
+use Rattle.tree_rules.specs.Tree.{TreeNode, roots, StepsPass, after_all, below, EndPasses}
+use Rattle.tree_rules.specs.Ways.{Way, width, MayBranch, options_at}
+use Rattle.tree_rules.specs.Leaf.{Leaf, LeafPasses, LeafFails}
 use Rattle.tree_rules.specs.Accepted.{Tree}
+use Rattle.cert_parts.specs.Shown.{cost_over}
+use Rattle.cert_check.specs.declared.visit.Judge.{Judge}
 use Rattle.cert_check.specs.declared.visit.Halt.{Halt}
 use Rattle.cert_check.specs.declared.visit.Halt.TheVariants.{Memory, Fails}
+
+-- the leaves that pass, and those that fail
+abbrev pub leaf_passes : Judge → Node → Leaf → Type 0
+leaf_passes j = LeafPasses j.partial j.problem.now (cost_over j.claimed)
+
+abbrev pub leaf_fails : Judge → Node → Leaf → Why → Type 0
+leaf_fails j = LeafFails j.partial j.problem.now (cost_over j.claimed)
+
+-- the node may be branched so, and the subtrees that begin the list behind it have all options in order
+abbrev pub BranchPasses : Shape → Node → Way → Tree → Type 0
+BranchPasses g n w behind = MayBranch g n w × (roots (width w) behind ≡ options_at g n w)
 
 -- the node passes, with `behind` in the list behind it, and the nodes of its children are put before those that were to come
 pub record IsVisited (g : Shape) (P : Node → Leaf → Type 0) (n : Node) (t : TreeNode Leaf) (behind : Tree) (before after : List Node) : Type 0 where

@@ -52,7 +52,8 @@ pub fn check_from(
     // A refusal names the first fault, and a first fault is named.
     ensures refuses { IfErr result (Refuses partial problem.now (node_of start.now) (claim_of claim.now) tree.now) }
     ensures names_claim { (why : Why) → rules.ClaimFails partial problem.now (claim_of claim.now) why → IsRefusalOrMemory (refusals.Claim why) result }
-    ensures names_node { (k : ℕ) (why : Why) → rules.ClaimPasses partial problem.now (claim_of claim.now) → NodeIsFault partial problem.now (node_of start.now) (claim_of claim.now) tree.now k why → IsRefusalOrMemory (refusals.Node k why) result }
+    ensures names_node { (k : ℕ) (why : Why) → rules.ClaimPasses partial problem.now (claim_of claim.now) → NodeIsFault partial problem.now (node_of start.now) (claim_of claim.now) tree.now k why
+        → IsRefusalOrMemory (refusals.Node k why) result }
 {
     claim_has_one_fault();
     tree_has_one_fault();

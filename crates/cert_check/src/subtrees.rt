@@ -7,6 +7,14 @@ use branch_tree::TreeNode;
 use std::alloc::{AllocError, Global};
 use unit_sets::UnitSet;
 
+/// What stands behind a node: the list of the tree's nodes from a place on, and where the subtree of each node ends.
+#[derive(Clone, Copy)]
+pub struct Behind<'a> {
+    pub nodes: &'a [TreeNode],
+    pub ends: &'a [usize],
+    pub from: usize,
+}
+
 /// Where the list goes on behind some subtrees.
 fn past(nodes: &[TreeNode], ends: &[usize], from: usize, count: u32) -> usize
     requires same { length ends.now ≡ length nodes.now }

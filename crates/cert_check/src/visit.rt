@@ -1,5 +1,5 @@
 //! One node on the walk.
-ghost use Rattle.std.specs.Prelude.{◌≡◌, ◌≤◌, ◌++◌, length, map, drop, true, OnOk, IfOk, IfErr};
+ghost use Rattle.std.specs.Prelude.{◌≡◌, ◌++◌, map, true, OnOk, IfOk, IfErr};
 ghost use Rattle.number_sets.specs.Sets.{has};
 ghost use Rattle.pns_rules.specs.Shape.{shape_of};
 ghost use Rattle.pns_rules.specs.Structure.{is_needed};
@@ -7,20 +7,18 @@ ghost use Rattle.pns_rules.specs.Nodes.{options, child};
 ghost use Rattle.tree_rules.specs.declared.why.Why.TheVariants as causes;
 ghost use Rattle.tree_rules.specs.Tree as trees;
 ghost use Rattle.tree_rules.specs.Tree.{after_all, below, EndPasses};
-ghost use Rattle.tree_rules.specs.Ways.{either, MayBranch, options_at, children_at};
+ghost use Rattle.tree_rules.specs.Ways.{at_material, either, MayBranch, options_at, children_at};
 ghost use Rattle.tree_rules.specs.Fault.{EndFails, NodeFails};
-ghost use Rattle.tree_rules.specs.Leaf.{LeafPasses, LeafFails};
 ghost use Rattle.pgraph.specs.Tables.{shape};
 ghost use Rattle.pgraph.specs.View.{node_of};
 ghost use Rattle.branch_tree.specs.View.{end_of};
 ghost use Rattle.cert_parts.specs.Known.{KnowsInside};
-ghost use Rattle.cert_parts.specs.Shown.{cost_over};
-ghost use Rattle.cert_check.specs.Subtrees.{AreEnds, stack_of};
-ghost use Rattle.cert_check.specs.Visits.{IsVisited, Halts};
+ghost use Rattle.cert_check.specs.Subtrees.{rest_of, HasEnds, stack_of};
+ghost use Rattle.cert_check.specs.Visits.{leaf_passes, leaf_fails, BranchPasses, IsVisited, Halts};
 
 use crate::children::push_children;
 use crate::leaf::judge_leaf;
-use crate::subtrees::roots;
+use crate::subtrees::{Behind, roots};
 use branch_tree::{End, TreeNode};
 use cert_parts::{
     CostOver, after_steps, are_all_options, are_options_of_unit, with_unit, without_unit,
@@ -30,6 +28,16 @@ use pns_problem::Problem;
 use tree_rules::Why;
 use unit_sets::{Node, UnitSet};
 
+/// By what nodes are judged: the problem with its P-graph, the cost that is to be undercut, if there is one, and whether leaves may
+/// be open.
+#[derive(Clone, Copy)]
+pub struct Judge<'a> {
+    pub problem: &'a Problem,
+    pub graph: &'a Graph,
+    pub claimed: Option<CostOver>,
+    pub partial: bool,
+}
+
 /// Why a walk goes no further.
 #[derive(Clone, Copy, Debug, PartialEq, Eq)]
 pub enum Halt {
@@ -38,29 +46,25 @@ pub enum Halt {
     Fails(Why),
 }
 
-/// Judges a branch at the node, with so many subtrees from a place on as its children, and puts their nodes on the stack.
-/// `found` is room for their options.
+/// Judges a branch at the node, with so many subtrees behind it as its children, and puts their nodes on the stack. `found` is room
+/// for their options.
 fn visit_branch(
     graph: &Graph,
     node: &Node,
     material: u32,
     children: u32,
-    nodes: &[TreeNode],
-    ends: &[usize],
-    from: usize,
+    behind: &Behind<'_>,
     found: &mut Vec<UnitSet>,
     stack: &mut Vec<Node>,
 ) -> Result<(), Halt>
-    requires same { length ends.now ≡ length nodes.now }
-    requires within { from ≤ length nodes.now }
-    requires are { AreEnds nodes.now ends.now 0 }
+    requires { HasEnds behind.now }
     ensures needed { OnOk result (is_needed (shape graph.now) (has node.now.inside) material ≡ true) }
-    ensures options { OnOk result (trees.roots children (drop from nodes.now) ≡ options (shape graph.now) (node_of node.now) material) }
+    ensures options { OnOk result (trees.roots children (rest_of behind.now) ≡ options (shape graph.now) (node_of node.now) material) }
     ensures stack { OnOk result (stack_of stack.new.items ≡ map (child (shape graph.now) (node_of node.now) material) (options (shape graph.now) (node_of node.now) material) ++ stack_of stack.old.items) }
-    ensures halts { IfErr result (Halts (λ why. (why ≡ causes.Options) × ((is_needed (shape graph.now) (has node.now.inside) material ≡ true) × (trees.roots children (drop from nodes.now) ≡ options (shape graph.now) (node_of node.now) material) → ⊥))) }
+    ensures halts { IfErr result (Halts (λ why. (why ≡ causes.Options) × (BranchPasses (shape graph.now) (node_of node.now) (at_material material children) (rest_of behind.now) → ⊥))) }
 {
     graph.is_proper();
-    let Ok(()) = roots(nodes, ends, from, children, found) else {
+    let Ok(()) = roots(behind.nodes, behind.ends, behind.from, children, found) else {
         return Err(Halt::Memory);
     };
     if !are_all_options(graph, node, material, found) {
@@ -72,28 +76,24 @@ fn visit_branch(
     }
 }
 
-/// Judges a branch in two at the unit, with the two subtrees from a place on as its children, and puts their nodes on the stack,
-/// the one in which the unit goes in on top. `found` is room for their options.
+/// Judges a branch in two at the unit, with the two subtrees behind it as its children, and puts their nodes on the stack, the one in
+/// which the unit goes in on top. `found` is room for their options.
 fn visit_either(
     graph: &Graph,
     node: &Node,
     unit: u32,
-    nodes: &[TreeNode],
-    ends: &[usize],
-    from: usize,
+    behind: &Behind<'_>,
     found: &mut Vec<UnitSet>,
     stack: &mut Vec<Node>,
 ) -> Result<(), Halt>
-    requires same { length ends.now ≡ length nodes.now }
-    requires within { from ≤ length nodes.now }
-    requires are { AreEnds nodes.now ends.now 0 }
+    requires { HasEnds behind.now }
     ensures may { OnOk result (MayBranch (shape graph.now) (node_of node.now) (either unit)) }
-    ensures options { OnOk result (trees.roots 2 (drop from nodes.now) ≡ options_at (shape graph.now) (node_of node.now) (either unit)) }
+    ensures options { OnOk result (trees.roots 2 (rest_of behind.now) ≡ options_at (shape graph.now) (node_of node.now) (either unit)) }
     ensures stack { OnOk result (stack_of stack.new.items ≡ children_at (shape graph.now) (node_of node.now) (either unit) ++ stack_of stack.old.items) }
-    ensures halts { IfErr result (Halts (λ why. (why ≡ causes.Options) × (MayBranch (shape graph.now) (node_of node.now) (either unit) × (trees.roots 2 (drop from nodes.now) ≡ options_at (shape graph.now) (node_of node.now) (either unit)) → ⊥))) }
+    ensures halts { IfErr result (Halts (λ why. (why ≡ causes.Options) × (BranchPasses (shape graph.now) (node_of node.now) (either unit) (rest_of behind.now) → ⊥))) }
 {
     graph.is_proper();
-    let Ok(()) = roots(nodes, ends, from, 2, found) else {
+    let Ok(()) = roots(behind.nodes, behind.ends, behind.from, 2, found) else {
         return Err(Halt::Memory);
     };
     if !are_options_of_unit(graph, node, unit, found) {
@@ -108,74 +108,63 @@ fn visit_either(
     Ok(())
 }
 
-/// Judges the end of a node, with the subtrees from a place on as its children, and puts the nodes of the children on the stack.
+/// Judges the end of a node, with the subtrees behind it as its children, and puts the nodes of the children on the stack.
 fn visit_end(
-    problem: &Problem,
-    graph: &Graph,
-    claimed: Option<CostOver>,
-    partial: bool,
+    judge: &Judge<'_>,
     node: &Node,
     end: &End,
-    nodes: &[TreeNode],
-    ends: &[usize],
-    from: usize,
+    behind: &Behind<'_>,
     found: &mut Vec<UnitSet>,
     stack: &mut Vec<Node>,
 ) -> Result<(), Halt>
-    requires graph { shape graph.now ≡ shape_of problem.now }
-    requires known { KnowsInside (shape graph.now) (node_of node.now) }
-    requires same { length ends.now ≡ length nodes.now }
-    requires within { from ≤ length nodes.now }
-    requires are { AreEnds nodes.now ends.now 0 }
-    ensures passes { OnOk result (EndPasses (shape graph.now) (LeafPasses partial problem.now (cost_over claimed)) (node_of node.now) (end_of end.now) (drop from nodes.now)) }
-    ensures children { OnOk result (stack_of stack.new.items ≡ below (shape graph.now) (node_of node.now) (end_of end.now) ++ stack_of stack.old.items) }
-    ensures halts { IfErr result (Halts (EndFails (shape graph.now) (LeafFails partial problem.now (cost_over claimed)) (node_of node.now) (end_of end.now) (drop from nodes.now))) }
+    requires graph { shape judge.now.graph.now ≡ shape_of judge.now.problem.now }
+    requires known { KnowsInside (shape judge.now.graph.now) (node_of node.now) }
+    requires ends { HasEnds behind.now }
+    ensures passes { OnOk result (EndPasses (shape judge.now.graph.now) (leaf_passes judge.now) (node_of node.now) (end_of end.now) (rest_of behind.now)) }
+    ensures children { OnOk result (stack_of stack.new.items ≡ below (shape judge.now.graph.now) (node_of node.now) (end_of end.now) ++ stack_of stack.old.items) }
+    ensures halts { IfErr result (Halts (EndFails (shape judge.now.graph.now) (leaf_fails judge.now) (node_of node.now) (end_of end.now) (rest_of behind.now))) }
 {
     match end {
         End::Branch { material, children } => visit_branch(
-            graph, node, *material, *children, nodes, ends, from, found, stack,
+            judge.graph, node, *material, *children, behind, found, stack,
         ),
-        End::Either(unit) => visit_either(graph, node, *unit, nodes, ends, from, found, stack),
-        end => match judge_leaf(problem, graph, node, claimed, partial, end) {
+        End::Either(unit) => visit_either(judge.graph, node, *unit, behind, found, stack),
+        end => match judge_leaf(
+            judge.problem,
+            judge.graph,
+            node,
+            judge.claimed,
+            judge.partial,
+            end,
+        ) {
             Ok(()) => Ok(()),
             Err(why) => Err(Halt::Fails(why)),
         },
     }
 }
 
-/// Judges the item of the tree at its node, and puts the nodes of its children on the stack. The list goes on behind the item
-/// from a place on. What is given is the node that its steps leave.
+/// Judges the item of the tree at its node, and puts the nodes of its children on the stack. What is given is the node that its steps
+/// leave.
 pub fn visit(
-    problem: &Problem,
-    graph: &Graph,
-    claimed: Option<CostOver>,
-    partial: bool,
+    judge: &Judge<'_>,
     node: &Node,
     item: &TreeNode,
-    nodes: &[TreeNode],
-    ends: &[usize],
-    from: usize,
+    behind: &Behind<'_>,
     found: &mut Vec<UnitSet>,
     stack: &mut Vec<Node>,
 ) -> Result<Node, Halt>
-    requires graph { shape graph.now ≡ shape_of problem.now }
-    requires known { KnowsInside (shape graph.now) (node_of node.now) }
-    requires same { length ends.now ≡ length nodes.now }
-    requires within { from ≤ length nodes.now }
-    requires are { AreEnds nodes.now ends.now 0 }
-    ensures visited { OnOk result (IsVisited (shape graph.now) (LeafPasses partial problem.now (cost_over claimed)) (node_of node.now) item.now (drop from nodes.now) (stack_of stack.old.items) (stack_of stack.new.items)) }
-    ensures reached { IfOk result (λ n. node_of n ≡ after_all (shape graph.now) (node_of node.now) item.now.steps) }
-    ensures halts { IfErr result (Halts (NodeFails (shape graph.now) (LeafFails partial problem.now (cost_over claimed)) (node_of node.now) item.now (drop from nodes.now))) }
+    requires graph { shape judge.now.graph.now ≡ shape_of judge.now.problem.now }
+    requires known { KnowsInside (shape judge.now.graph.now) (node_of node.now) }
+    requires ends { HasEnds behind.now }
+    ensures visited { OnOk result (IsVisited (shape judge.now.graph.now) (leaf_passes judge.now) (node_of node.now) item.now (rest_of behind.now) (stack_of stack.old.items) (stack_of stack.new.items)) }
+    ensures reached { IfOk result (λ n. node_of n ≡ after_all (shape judge.now.graph.now) (node_of node.now) item.now.steps) }
+    ensures halts { IfErr result (Halts (NodeFails (shape judge.now.graph.now) (leaf_fails judge.now) (node_of node.now) item.now (rest_of behind.now))) }
 {
     let steps = item.steps.steps();
-    let Some(reached) = after_steps(graph, node, steps) else {
+    let Some(reached) = after_steps(judge.graph, node, steps) else {
         return Err(Halt::Fails(Why::Step));
     };
     let end = &item.end;
-    match visit_end(
-        problem, graph, claimed, partial, &reached, end, nodes, ends, from, found, stack,
-    ) {
-        Ok(()) => Ok(reached),
-        Err(halt) => Err(halt),
-    }
+    visit_end(judge, &reached, end, behind, found, stack)?;
+    Ok(reached)
 }

@@ -12,8 +12,8 @@ ghost use Rattle.cert_check.specs.OpenLeaves.{leaves_at, AreBefore};
 ghost use Rattle.cert_check.specs.Refusals.{NamesFault};
 
 use crate::open_leaf::{OpenLeaf, note_end};
-use crate::subtrees::ends_of;
-use crate::visit::{Halt, visit};
+use crate::subtrees::{Behind, ends_of};
+use crate::visit::{Halt, Judge, visit};
 use branch_tree::TreeNode;
 use cert_parts::CostOver;
 use pgraph::Graph;
@@ -72,24 +72,23 @@ pub fn walk_to(
             leaves,
         });
     };
+    let judge = Judge {
+        problem,
+        graph,
+        claimed,
+        partial,
+    };
     'walk: for i in 0..nodes.len() {
         let Some(node) = stack.pop() else {
             return Ok(leaves);
         };
         let item = &nodes[i];
-        match visit(
-            problem,
-            graph,
-            claimed,
-            partial,
-            &node,
-            item,
+        let behind = Behind {
             nodes,
-            &ends,
-            i + 1,
-            &mut found,
-            &mut stack,
-        ) {
+            ends: &ends,
+            from: i + 1,
+        };
+        match visit(&judge, &node, item, &behind, &mut found, &mut stack) {
             Ok(reached) => {
                 let Ok(()) = note_end(&mut leaves, number(i), reached, &item.end) else {
                     return Err(Stop {

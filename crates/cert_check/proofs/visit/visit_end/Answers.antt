@@ -1,32 +1,32 @@
-use Rattle.std.proofs.Common.{◌++◌, ap, sym, subst, drop}
+use Rattle.std.proofs.Common.{◌++◌, ap, sym, subst}
 use Rattle.tree_rules.specs.Tree.{End, below, EndPasses}
 use Rattle.tree_rules.specs.Fault.{EndFails}
-use Rattle.tree_rules.specs.Leaf.{Leaf, LeafPasses, LeafFails}
+use Rattle.tree_rules.specs.Leaf.{Leaf}
 use Rattle.pgraph.specs.Tables.{shape}
 use Rattle.pgraph.specs.View.{node_of}
-use Rattle.cert_parts.specs.Shown.{cost_over}
-use Rattle.cert_check.specs.Subtrees.{stack_of}
+use Rattle.cert_check.specs.Subtrees.{rest_of, stack_of}
+use Rattle.cert_check.specs.Visits.{leaf_passes, leaf_fails}
 use Rattle.cert_check.proofs.LeafLemmas.{leaf_of}
 use Rattle.cert_check.proofs.visit.visit_end.Goals as goal
 
 pub returns-in-Ok : goal.returns-in-Ok
 returns-in-Ok c =
-    let g = shape c.args.graph.now in
+    let g = shape c.args.judge.now.graph.now in
     let n = node_of c.args.node.now in
     let k = leaf_of c.args.end.now c.in_default.not-Branch c.in_default.not-Either in
     record {
-      passes = subst (λ (e : End Leaf). EndPasses g (LeafPasses c.args.partial c.args.problem.now (cost_over c.args.claimed)) n e (drop c.args.from c.args.nodes.now)) (sym k.1) (c.in-Ok.ensures.passes k.0 k.1);
+      passes = subst (λ (e : End Leaf). EndPasses g (leaf_passes c.args.judge.now) n e (rest_of c.args.behind.now)) (sym k.1) (c.in-Ok.ensures.passes k.0 k.1);
       children = ap (λ (e : End Leaf). below g n e ++ stack_of c.args.stack.now.items) (sym k.1);
       halts = tt;
     }
 
 pub returns-in-Err : goal.returns-in-Err
 returns-in-Err c =
-    let g = shape c.args.graph.now in
+    let g = shape c.args.judge.now.graph.now in
     let n = node_of c.args.node.now in
     let k = leaf_of c.args.end.now c.in_default.not-Branch c.in_default.not-Either in
     record {
       passes = tt;
       children = tt;
-      halts = subst (λ (e : End Leaf). EndFails g (LeafFails c.args.partial c.args.problem.now (cost_over c.args.claimed)) n e (drop c.args.from c.args.nodes.now) c.in-Err.why) (sym k.1) (c.in-Err.ensures.fails k.0 k.1);
+      halts = subst (λ (e : End Leaf). EndFails g (leaf_fails c.args.judge.now) n e (rest_of c.args.behind.now) c.in-Err.why) (sym k.1) (c.in-Err.ensures.fails k.0 k.1);
     }
