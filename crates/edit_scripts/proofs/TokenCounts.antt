@@ -2,14 +2,14 @@
 use Rattle.std.proofs.Common.{◌≡◌, ◌<◌, ◌≤◌, ◌-◌, ℕ, true, List, [], ◌∷◌, length, take, drop, get_or, codes, Err, refl, sym, ap, ◌∙◌, arith}
 use Rattle.std.specs.Str.{bytes_eq}
 use Rattle.std.proofs.lemmas.Bool.{cond-true}
-use Rattle.edit_rules.specs.Edit.{exclude}
 use Rattle.text_lines.proofs.Borrowed.{texts-behind}
-use Rattle.script_rules.specs.Fault.{place_of, place_fault, name_fault, names_fault, members_fault}
 use Rattle.script_rules.specs.Term.{sides_of}
 use Rattle.std.specs.Borrow.{Bor}
 use Rattle.text_lines.specs.View.{texts}
 use Rattle.script_rules.specs.declared.EditKind.TheVariants.{BadLine}
-use Rattle.script_rules.specs.Read.{judged, with_sides, names_read, kind_read, amount_read, fixed_read, bounds_read, costs_read, material_read, unit_read, exclusion_read}
+use Rattle.edit_scripts.specs.declared.insertion.UnitFields.{UnitFields}
+use Rattle.edit_scripts.specs.Insertion.{unit_from, exclusion_from}
+use Rattle.script_rules.specs.Read.{names_read, kind_read, amount_read, fixed_read, bounds_read, costs_read, material_read, unit_read, exclusion_read}
 
 pub two_of : (xs : List (Bor (List ℕ))) (d : Bor (List ℕ)) → length xs ≡ 2 → texts xs ≡ (get_or xs 0 d).now ∷ (get_or xs 1 d).now ∷ []
 two_of [] d e = absurd (omega (arith, e))
@@ -118,16 +118,25 @@ not_exclusion (x0 ∷ x1 ∷ x2 ∷ x3 ∷ xs) few = absurd (omega (arith, few))
 
 -- two units or more behind the place and the name
 pub exclusion_at : (xs : List (Bor (List ℕ))) (d : Bor (List ℕ)) → 4 ≤ length xs
-    → exclusion_read (texts xs) ≡ judged (place_fault (get_or xs 0 d).now ∷ name_fault (get_or xs 1 d).now ∷ names_fault (texts (take (length xs - 2) (drop 2 xs))) ∷ members_fault (texts (take (length xs - 2) (drop 2 xs))) ∷ []) (exclude (place_of (get_or xs 0 d).now) (get_or xs 1 d).now (texts (take (length xs - 2) (drop 2 xs))))
+    → exclusion_read (texts xs) ≡ exclusion_from (get_or xs 0 d).now (get_or xs 1 d).now (texts (take (length xs - 2) (drop 2 xs)))
 exclusion_at xs d le =
     ap exclusion_read (four_up xs d le)
-    ∙ ap (λ (units : List (List ℕ)). judged (place_fault (get_or xs 0 d).now ∷ name_fault (get_or xs 1 d).now ∷ names_fault units ∷ members_fault units ∷ []) (exclude (place_of (get_or xs 0 d).now) (get_or xs 1 d).now units))
-    (sym (texts-behind xs 1 ∙ ap (drop 2) (four_up xs d le)))
+    ∙ ap (exclusion_from (get_or xs 0 d).now (get_or xs 1 d).now) (sym (texts-behind xs 1 ∙ ap (drop 2) (four_up xs d le)))
 
--- the sides behind the colon
+-- the tokens in front of a unit's colon, and the sides behind it
+abbrev pub unit_fields : List (Bor (List ℕ)) → Bor (List ℕ) → UnitFields
+unit_fields xs d = record {
+  place = get_or xs 0 d;
+  name = get_or xs 1 d;
+  lower = get_or xs 2 d;
+  upper = get_or xs 3 d;
+  fix = get_or xs 4 d;
+  proportional = get_or xs 5 d;
+}
+
 pub unit_at : (xs : List (Bor (List ℕ))) (d : Bor (List ℕ)) → 7 ≤ length xs → bytes_eq (get_or xs 6 d).now (codes ":") ≡ true
-    → unit_read (texts xs) ≡ with_sides (get_or xs 0 d).now (get_or xs 1 d).now (get_or xs 2 d).now (get_or xs 3 d).now (get_or xs 4 d).now (get_or xs 5 d).now (sides_of (texts (take (length xs - 7) (drop 7 xs))))
+    → unit_read (texts xs) ≡ unit_from (unit_fields xs d) (sides_of (texts (take (length xs - 7) (drop 7 xs))))
 unit_at xs d le colon =
     ap unit_read (seven_up xs d le)
-    ∙ cond-true (bytes_eq (get_or xs 6 d).now (codes ":")) (with_sides (get_or xs 0 d).now (get_or xs 1 d).now (get_or xs 2 d).now (get_or xs 3 d).now (get_or xs 4 d).now (get_or xs 5 d).now (sides_of (texts (drop 7 xs)))) (Err BadLine) colon
-    ∙ ap (λ (tokens : List (List ℕ)). with_sides (get_or xs 0 d).now (get_or xs 1 d).now (get_or xs 2 d).now (get_or xs 3 d).now (get_or xs 4 d).now (get_or xs 5 d).now (sides_of tokens)) (sym (texts-behind xs 6 ∙ ap (drop 7) (seven_up xs d le)))
+    ∙ cond-true (bytes_eq (get_or xs 6 d).now (codes ":")) (unit_from (unit_fields xs d) (sides_of (texts (drop 7 xs)))) (Err BadLine) colon
+    ∙ ap (λ (tokens : List (List ℕ)). unit_from (unit_fields xs d) (sides_of tokens)) (sym (texts-behind xs 6 ∙ ap (drop 7) (seven_up xs d le)))

@@ -1,12 +1,8 @@
 //! What stands behind the first token of a line, for the forms that several words share.
-ghost use Rattle.std.specs.Prelude.{◌≡◌, ◌≤◌, ◌∷◌, [], ℕ, ℤ, List, Ok, IfOk, IfErr, string_bytes};
-ghost use Rattle.problem_rules.specs.Problem as rules;
+ghost use Rattle.std.specs.Prelude.{◌≡◌, ◌≤◌, ◌∷◌, [], Ok, IfOk, IfErr, string_bytes};
 ghost use Rattle.pns_problem.specs.Kind as kinds;
 ghost use Rattle.text_lines.specs.View.{texts};
-ghost use Rattle.text_rules.specs.Fault.{millionths};
-ghost use Rattle.text_rules.specs.Value.{kind_of};
-ghost use Rattle.script_rules.specs.Fault.{name_fault, kind_fault, amount_fault, bound_fault};
-ghost use Rattle.script_rules.specs.Read.{judged, name_read, names_read, kind_read, amount_read, fixed_read, bounds_read, costs_read, years_read};
+ghost use Rattle.script_rules.specs.Read.{name_read, names_read, kind_read, amount_read, fixed_read, bounds_read, costs_read, years_read};
 ghost use Rattle.text_lines.specs.Tells.{TellsLine};
 
 use crate::fault::LineFault;
@@ -34,8 +30,8 @@ pub(crate) fn name(alloc: Global, fields: &[&[u8]]) -> Result<String, LineFault>
 }
 
 fn names_from(alloc: Global, old: &[u8], new: &[u8]) -> Result<(String, String), LineFault>
-    ensures ok { IfOk result (λ read. judged {A = List ℕ × List ℕ} (name_fault old.now ∷ name_fault new.now ∷ []) (old.now, new.now) ≡ Ok (string_bytes read.0, string_bytes read.1)) }
-    ensures fault { IfErr result (TellsLine (judged {A = List ℕ × List ℕ} (name_fault old.now ∷ name_fault new.now ∷ []) (old.now, new.now))) }
+    ensures ok { IfOk result (λ read. names_read (old.now ∷ new.now ∷ []) ≡ Ok (string_bytes read.0, string_bytes read.1)) }
+    ensures fault { IfErr result (TellsLine (names_read (old.now ∷ new.now ∷ []))) }
 {
     match least(&[name_fault(old), name_fault(new)]) {
         Some(kind) => Err(LineFault::Kind(kind)),
@@ -55,8 +51,8 @@ pub(crate) fn names(alloc: Global, fields: &[&[u8]]) -> Result<(String, String),
 }
 
 fn kind_from(alloc: Global, name: &[u8], word: &[u8]) -> Result<(String, Kind), LineFault>
-    ensures ok { IfOk result (λ read. judged {A = List ℕ × rules.Kind} (name_fault name.now ∷ kind_fault word.now ∷ []) (name.now, kind_of word.now) ≡ Ok (string_bytes read.0, kinds.kind_of read.1)) }
-    ensures fault { IfErr result (TellsLine (judged {A = List ℕ × rules.Kind} (name_fault name.now ∷ kind_fault word.now ∷ []) (name.now, kind_of word.now))) }
+    ensures ok { IfOk result (λ read. kind_read (name.now ∷ word.now ∷ []) ≡ Ok (string_bytes read.0, kinds.kind_of read.1)) }
+    ensures fault { IfErr result (TellsLine (kind_read (name.now ∷ word.now ∷ []))) }
 {
     match least(&[name_fault(name), kind_fault(word)]) {
         Some(kind) => Err(LineFault::Kind(kind)),
@@ -76,8 +72,8 @@ pub(crate) fn kind(alloc: Global, fields: &[&[u8]]) -> Result<(String, Kind), Li
 }
 
 fn amount_from(alloc: Global, name: &[u8], value: &[u8]) -> Result<(String, i64), LineFault>
-    ensures ok { IfOk result (λ read. judged {A = List ℕ × ℤ} (name_fault name.now ∷ amount_fault value.now ∷ []) (name.now, millionths value.now) ≡ Ok (string_bytes read.0, read.1)) }
-    ensures fault { IfErr result (TellsLine (judged {A = List ℕ × ℤ} (name_fault name.now ∷ amount_fault value.now ∷ []) (name.now, millionths value.now))) }
+    ensures ok { IfOk result (λ read. amount_read (name.now ∷ value.now ∷ []) ≡ Ok (string_bytes read.0, read.1)) }
+    ensures fault { IfErr result (TellsLine (amount_read (name.now ∷ value.now ∷ []))) }
 {
     match least(&[name_fault(name), amount_fault(value)]) {
         Some(kind) => Err(LineFault::Kind(kind)),
@@ -97,8 +93,8 @@ pub fn amount(alloc: Global, fields: &[&[u8]]) -> Result<(String, i64), LineFaul
 }
 
 fn fixed_from(alloc: Global, name: &[u8], value: &[u8]) -> Result<(String, i64), LineFault>
-    ensures ok { IfOk result (λ read. judged {A = List ℕ × ℤ} (name_fault name.now ∷ bound_fault value.now ∷ []) (name.now, millionths value.now) ≡ Ok (string_bytes read.0, read.1)) }
-    ensures fault { IfErr result (TellsLine (judged {A = List ℕ × ℤ} (name_fault name.now ∷ bound_fault value.now ∷ []) (name.now, millionths value.now))) }
+    ensures ok { IfOk result (λ read. fixed_read (name.now ∷ value.now ∷ []) ≡ Ok (string_bytes read.0, read.1)) }
+    ensures fault { IfErr result (TellsLine (fixed_read (name.now ∷ value.now ∷ []))) }
 {
     match least(&[name_fault(name), bound_fault(value)]) {
         Some(kind) => Err(LineFault::Kind(kind)),
@@ -123,8 +119,8 @@ fn bounds_from(
     lower: &[u8],
     upper: &[u8],
 ) -> Result<(String, i64, i64), LineFault>
-    ensures ok { IfOk result (λ read. judged {A = List ℕ × (ℤ × ℤ)} (name_fault name.now ∷ bound_fault lower.now ∷ bound_fault upper.now ∷ []) (name.now, (millionths lower.now, millionths upper.now)) ≡ Ok (string_bytes read.0, (read.1, read.2))) }
-    ensures fault { IfErr result (TellsLine (judged {A = List ℕ × (ℤ × ℤ)} (name_fault name.now ∷ bound_fault lower.now ∷ bound_fault upper.now ∷ []) (name.now, (millionths lower.now, millionths upper.now)))) }
+    ensures ok { IfOk result (λ read. bounds_read (name.now ∷ lower.now ∷ upper.now ∷ []) ≡ Ok (string_bytes read.0, (read.1, read.2))) }
+    ensures fault { IfErr result (TellsLine (bounds_read (name.now ∷ lower.now ∷ upper.now ∷ []))) }
 {
     match least(&[name_fault(name), bound_fault(lower), bound_fault(upper)]) {
         Some(kind) => Err(LineFault::Kind(kind)),
@@ -153,8 +149,8 @@ fn costs_from(
     fixed: &[u8],
     per_size: &[u8],
 ) -> Result<(String, i64, i64), LineFault>
-    ensures ok { IfOk result (λ read. judged {A = List ℕ × (ℤ × ℤ)} (name_fault name.now ∷ bound_fault fixed.now ∷ amount_fault per_size.now ∷ []) (name.now, (millionths fixed.now, millionths per_size.now)) ≡ Ok (string_bytes read.0, (read.1, read.2))) }
-    ensures fault { IfErr result (TellsLine (judged {A = List ℕ × (ℤ × ℤ)} (name_fault name.now ∷ bound_fault fixed.now ∷ amount_fault per_size.now ∷ []) (name.now, (millionths fixed.now, millionths per_size.now)))) }
+    ensures ok { IfOk result (λ read. costs_read (name.now ∷ fixed.now ∷ per_size.now ∷ []) ≡ Ok (string_bytes read.0, (read.1, read.2))) }
+    ensures fault { IfErr result (TellsLine (costs_read (name.now ∷ fixed.now ∷ per_size.now ∷ []))) }
 {
     match least(&[name_fault(name), bound_fault(fixed), amount_fault(per_size)]) {
         Some(kind) => Err(LineFault::Kind(kind)),

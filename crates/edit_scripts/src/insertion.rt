@@ -1,14 +1,12 @@
 //! Lines that insert a material, a unit or an exclusion.
-ghost use Rattle.std.specs.Prelude.{◌≡◌, ◌∷◌, [], Ok, Some, IfOk, IfErr, map, string_bytes};
+ghost use Rattle.std.specs.Prelude.{◌≡◌, Ok, Some, IfOk, IfErr, map, string_bytes};
 ghost use Rattle.text_lines.specs.View.{texts};
 ghost use Rattle.text_lines.specs.Terms.{sides_view};
-ghost use Rattle.edit_rules.specs.Edit.{add_material, add_unit, exclude};
-ghost use Rattle.text_rules.specs.Fault.{millionths};
-ghost use Rattle.text_rules.specs.Value.{kind_of};
-ghost use Rattle.script_rules.specs.Fault.{place_of, place_fault, name_fault, kind_fault, amount_fault, bound_fault, names_fault, members_fault};
-ghost use Rattle.script_rules.specs.Term.{sides_of, term_read};
-ghost use Rattle.script_rules.specs.Read.{judged, material_read, with_sides, unit_read, exclusion_read};
+ghost use Rattle.script_rules.specs.Fault.{members_fault};
+ghost use Rattle.script_rules.specs.Term.{sides_of};
+ghost use Rattle.script_rules.specs.Read.{material_read, unit_read, exclusion_read};
 ghost use Rattle.text_lines.specs.Tells.{TellsLine};
+ghost use Rattle.edit_scripts.specs.Insertion.{material_from, unit_from, unit_added, exclusion_from};
 ghost use Rattle.edit_scripts.specs.View.{edit_of};
 
 use crate::edit::Edit;
@@ -24,34 +22,37 @@ use text_lines::amount::millionths;
 use text_lines::name_set::once;
 use text_lines::term::Sides;
 
-fn material_of(
-    alloc: Global,
-    at: &[u8],
-    name: &[u8],
-    word: &[u8],
-    value: &[u8],
-    lower: &[u8],
-    upper: &[u8],
-) -> Result<Edit, LineFault>
-    ensures ok { IfOk result (λ edit. judged (place_fault at.now ∷ name_fault name.now ∷ kind_fault word.now ∷ amount_fault value.now ∷ bound_fault lower.now ∷ bound_fault upper.now ∷ []) (add_material (place_of at.now) name.now (kind_of word.now) (millionths value.now) (millionths lower.now) (millionths upper.now)) ≡ Ok (edit_of edit)) }
-    ensures fault { IfErr result (TellsLine (judged (place_fault at.now ∷ name_fault name.now ∷ kind_fault word.now ∷ amount_fault value.now ∷ bound_fault lower.now ∷ bound_fault upper.now ∷ []) (add_material (place_of at.now) name.now (kind_of word.now) (millionths value.now) (millionths lower.now) (millionths upper.now)))) }
+/// The tokens of a material.
+#[derive(Clone, Copy)]
+pub(crate) struct MaterialFields<'a> {
+    pub(crate) place: &'a [u8],
+    pub(crate) name: &'a [u8],
+    pub(crate) kind: &'a [u8],
+    pub(crate) price: &'a [u8],
+    pub(crate) lower: &'a [u8],
+    pub(crate) upper: &'a [u8],
+}
+
+fn material_of(alloc: Global, material: &MaterialFields<'_>) -> Result<Edit, LineFault>
+    ensures ok { IfOk result (λ edit. material_from material.now ≡ Ok (edit_of edit)) }
+    ensures fault { IfErr result (TellsLine (material_from material.now)) }
 {
     match least(&[
-        place_fault(at),
-        name_fault(name),
-        kind_fault(word),
-        amount_fault(value),
-        bound_fault(lower),
-        bound_fault(upper),
+        place_fault(material.place),
+        name_fault(material.name),
+        kind_fault(material.kind),
+        amount_fault(material.price),
+        bound_fault(material.lower),
+        bound_fault(material.upper),
     ]) {
         Some(kind) => Err(LineFault::Kind(kind)),
         None => Ok(Edit::AddMaterial {
-            at: place_of(at),
-            name: name_string(alloc, name)?,
-            kind: kind_of(word),
-            price: millionths(value),
-            lower: millionths(lower),
-            upper: millionths(upper),
+            at: place_of(material.place),
+            name: name_string(alloc, material.name)?,
+            kind: kind_of(material.kind),
+            price: millionths(material.price),
+            lower: millionths(material.lower),
+            upper: millionths(material.upper),
         }),
     }
 }
@@ -64,34 +65,40 @@ pub(crate) fn insert_material(alloc: Global, fields: &[&[u8]]) -> Result<Edit, L
     if fields.len() != 6 {
         return Err(LineFault::Kind(EditKind::BadLine));
     }
-    material_of(
-        alloc, fields[0], fields[1], fields[2], fields[3], fields[4], fields[5],
-    )
+    let material = MaterialFields {
+        place: fields[0],
+        name: fields[1],
+        kind: fields[2],
+        price: fields[3],
+        lower: fields[4],
+        upper: fields[5],
+    };
+    material_of(alloc, &material)
 }
 
 /// The tokens in front of a unit's colon.
 #[derive(Clone, Copy)]
-struct UnitFields<'a> {
-    at: &'a [u8],
-    name: &'a [u8],
-    lower: &'a [u8],
-    upper: &'a [u8],
-    fixed: &'a [u8],
-    per_size: &'a [u8],
+pub(crate) struct UnitFields<'a> {
+    pub(crate) place: &'a [u8],
+    pub(crate) name: &'a [u8],
+    pub(crate) lower: &'a [u8],
+    pub(crate) upper: &'a [u8],
+    pub(crate) fix: &'a [u8],
+    pub(crate) proportional: &'a [u8],
 }
 
 fn unit_with(alloc: Global, unit: &UnitFields<'_>, sides: &Sides<'_>) -> Result<Edit, LineFault>
-    ensures ok { IfOk result (λ edit. with_sides unit.now.at.now unit.now.name.now unit.now.lower.now unit.now.upper.now unit.now.fixed.now unit.now.per_size.now (Some (sides_view sides.now)) ≡ Ok (edit_of edit)) }
-    ensures fault { IfErr result (TellsLine (with_sides unit.now.at.now unit.now.name.now unit.now.lower.now unit.now.upper.now unit.now.fixed.now unit.now.per_size.now (Some (sides_view sides.now)))) }
+    ensures ok { IfOk result (λ edit. unit_from unit.now (Some (sides_view sides.now)) ≡ Ok (edit_of edit)) }
+    ensures fault { IfErr result (TellsLine (unit_from unit.now (Some (sides_view sides.now)))) }
 {
     let whole = sides_fault(alloc, sides)?;
     match least(&[
-        place_fault(unit.at),
+        place_fault(unit.place),
         name_fault(unit.name),
         bound_fault(unit.lower),
         bound_fault(unit.upper),
-        bound_fault(unit.fixed),
-        amount_fault(unit.per_size),
+        bound_fault(unit.fix),
+        amount_fault(unit.proportional),
         terms_fault(&sides.inputs),
         terms_fault(&sides.outputs),
         whole,
@@ -103,26 +110,26 @@ fn unit_with(alloc: Global, unit: &UnitFields<'_>, sides: &Sides<'_>) -> Result<
 
 // The edit that inserts the unit.
 fn unit_of(alloc: Global, unit: &UnitFields<'_>, sides: &Sides<'_>) -> Result<Edit, AllocError>
-    ensures { IfOk result (λ edit. edit_of edit ≡ add_unit (place_of unit.now.at.now) unit.now.name.now (millionths unit.now.lower.now) (millionths unit.now.upper.now) (millionths unit.now.fixed.now) (millionths unit.now.per_size.now) (map term_read (sides_view sides.now).0) (map term_read (sides_view sides.now).1)) }
+    ensures { IfOk result (λ edit. edit_of edit ≡ unit_added unit.now (sides_view sides.now)) }
 {
     let name = name_string(alloc, unit.name)?;
     let inputs = named_terms(alloc, &sides.inputs)?;
     let outputs = named_terms(alloc, &sides.outputs)?;
     Ok(Edit::AddUnit {
-        at: place_of(unit.at),
+        at: place_of(unit.place),
         name,
         lower: millionths(unit.lower),
         upper: millionths(unit.upper),
-        fix: millionths(unit.fixed),
-        proportional: millionths(unit.per_size),
+        fix: millionths(unit.fix),
+        proportional: millionths(unit.proportional),
         inputs,
         outputs,
     })
 }
 
 fn unit_at(alloc: Global, unit: &UnitFields<'_>, tokens: &[&[u8]]) -> Result<Edit, LineFault>
-    ensures ok { IfOk result (λ edit. with_sides unit.now.at.now unit.now.name.now unit.now.lower.now unit.now.upper.now unit.now.fixed.now unit.now.per_size.now (sides_of (texts tokens.now)) ≡ Ok (edit_of edit)) }
-    ensures fault { IfErr result (TellsLine (with_sides unit.now.at.now unit.now.name.now unit.now.lower.now unit.now.upper.now unit.now.fixed.now unit.now.per_size.now (sides_of (texts tokens.now)))) }
+    ensures ok { IfOk result (λ edit. unit_from unit.now (sides_of (texts tokens.now)) ≡ Ok (edit_of edit)) }
+    ensures fault { IfErr result (TellsLine (unit_from unit.now (sides_of (texts tokens.now)))) }
 {
     match sides_of(alloc, tokens)? {
         Some(sides) => unit_with(alloc, unit, &sides),
@@ -140,12 +147,12 @@ pub(crate) fn insert_unit(alloc: Global, fields: &[&[u8]]) -> Result<Edit, LineF
     }
     if fields[6] == b":".as_slice() {
         let unit = UnitFields {
-            at: fields[0],
+            place: fields[0],
             name: fields[1],
             lower: fields[2],
             upper: fields[3],
-            fixed: fields[4],
-            per_size: fields[5],
+            fix: fields[4],
+            proportional: fields[5],
         };
         unit_at(alloc, &unit, &fields[7..])
     } else {
@@ -174,13 +181,18 @@ fn name_strings(alloc: Global, names: &[&[u8]]) -> Result<Vec<String>, AllocErro
     Ok(strings)
 }
 
-fn exclusion_of(alloc: Global, at: &[u8], name: &[u8], units: &[&[u8]]) -> Result<Edit, LineFault>
-    ensures ok { IfOk result (λ edit. judged (place_fault at.now ∷ name_fault name.now ∷ names_fault (texts units.now) ∷ members_fault (texts units.now) ∷ []) (exclude (place_of at.now) name.now (texts units.now)) ≡ Ok (edit_of edit)) }
-    ensures fault { IfErr result (TellsLine (judged (place_fault at.now ∷ name_fault name.now ∷ names_fault (texts units.now) ∷ members_fault (texts units.now) ∷ []) (exclude (place_of at.now) name.now (texts units.now)))) }
+fn exclusion_of(
+    alloc: Global,
+    place: &[u8],
+    name: &[u8],
+    units: &[&[u8]],
+) -> Result<Edit, LineFault>
+    ensures ok { IfOk result (λ edit. exclusion_from place.now name.now (texts units.now) ≡ Ok (edit_of edit)) }
+    ensures fault { IfErr result (TellsLine (exclusion_from place.now name.now (texts units.now))) }
 {
     let members = members_fault(alloc, units)?;
     match least(&[
-        place_fault(at),
+        place_fault(place),
         name_fault(name),
         names_fault(units),
         members,
@@ -190,7 +202,7 @@ fn exclusion_of(alloc: Global, at: &[u8], name: &[u8], units: &[&[u8]]) -> Resul
             let string = name_string(alloc, name)?;
             let units = name_strings(alloc, units)?;
             Ok(Edit::Exclude {
-                at: place_of(at),
+                at: place_of(place),
                 name: string,
                 units,
             })
