@@ -1,11 +1,11 @@
 -- What the walk and the marks tell of a ranking.
-use Rattle.std.proofs.Common.{◌≡◌, ℕ, ◌+◌, true, false, List, [], ◌∷◌, length, Option, Result, Ok, Err, OnOk, IfErr, sym, subst, arith}
+use Rattle.std.proofs.Common.{◌≡◌, ℕ, ◌+◌, true, false, List, [], ◌∷◌, length, Result, Ok, Err, OnOk, IfErr, sym, subst, arith}
 use Rattle.std.proofs.lemmas.List.{append-nil}
 use Rattle.problem_rules.specs.Problem.{Problem}
 use Rattle.pns_rules.specs.Shape.{shape_of}
 use Rattle.tree_rules.specs.declared.why.Why.{Why}
 use Rattle.tree_rules.specs.Fault.{IsFirstFault}
-use Rattle.tree_rules.specs.Claim.{Network, CostOver}
+use Rattle.tree_rules.specs.Claim.{Network}
 use Rattle.tree_rules.specs.Leaf as leaves
 use Rattle.tree_rules.specs.Accepted.{first_node}
 use Rattle.part_rules.specs.OpenLeaves.{OpenAt, open_leaves}
@@ -17,7 +17,7 @@ use Rattle.rank_rules.specs.Leaf.{LeafPasses, LeafFails}
 use Rattle.rank_rules.specs.Ranked.{IsRanked, NodeIsFault}
 use Rattle.rank_rules.specs.Marked.{Mark}
 use Rattle.rank_rules.specs.Text.{Text, ranking_of}
-use Rattle.rank_check.specs.Marks.{MarksPass, IsFirstMark}
+use Rattle.rank_check.specs.Marks.{MarksPass, IsFirstMark, AllMarksPass, MarkIsFault}
 use Rattle.rank_check.specs.Refusals.{PlainPasses, OpenPass, OpenFails}
 use Rattle.rank_check.proofs.MarkLemmas.{marked_passes, marked_fault, mark_fault, pass_to, fault_to, all_before, IsFaultAt}
 
@@ -73,13 +73,13 @@ module _ (p : Problem) (t : Text) where
 -- ---- the marks of the text
 
 module _ {A : Type 0} (p : Problem) (t : Text) (ls : List OpenAt) (ws : List Network) (ms : List Mark) (ws_are : ws ≡ t.networks) (ms_are : ms ≡ t.marks) where
-  pub pass_as : (r : Result A (ℕ × RankWhy)) → OnOk r ((undercut : Option CostOver) → MarksPass (LeafPasses false p ws undercut) ls ms) → OnOk r (OpenPass p t ls)
+  pub pass_as : (r : Result A (ℕ × RankWhy)) → OnOk r (AllMarksPass p ws ls ms) → OnOk r (OpenPass p t ls)
   pass_as (Ok x) h =
       subst (λ (vs : List Network). MarksPass (LeafPasses false p vs (to_undercut t.count t.networks)) ls t.marks) ws_are
       (subst (λ (ns : List Mark). MarksPass (LeafPasses false p ws (to_undercut t.count t.networks)) ls ns) ms_are (h (to_undercut t.count t.networks)))
   pass_as (Err e) h = tt
 
-  pub fail_as : (r : Result A (ℕ × RankWhy)) → IfErr r (λ found. (undercut : Option CostOver) → IsFirstMark (LeafPasses false p ws undercut) (LeafFails false p ws undercut) ls ms found.0 found.1) → IfErr r (λ found. OpenFails p t ls found.0 found.1)
+  pub fail_as : (r : Result A (ℕ × RankWhy)) → IfErr r (λ found. MarkIsFault p ws ls ms found.0 found.1) → IfErr r (λ found. OpenFails p t ls found.0 found.1)
   fail_as (Ok x) h = tt
   fail_as (Err e) h =
       subst (λ (vs : List Network). IsFirstMark (LeafPasses false p vs (to_undercut t.count t.networks)) (LeafFails false p vs (to_undercut t.count t.networks)) ls t.marks e.0 e.1) ws_are

@@ -1,10 +1,12 @@
 -- The networks in turn: which stand before a place, and what is known when those pass.
 use Rattle.std.proofs.Common.{◌≡◌, ◌↔◌, ℕ, zero, suc, ◌+◌, ◌-◌, ◌<◌, ◌≤◌, Bool, true, false, ◌&&◌, List, [], ◌∷◌, length, drop, get_or, refl, sym, ap, ◌∙◌, subst, arith, IsTrue, ◌==◌, cond, Option, Some, None, ℤ, ◌*ℤ◌, ◌≤ℤ◌}
+use Rattle.std.proofs.lemmas.List.{drop_all}
 use Rattle.number_sets.specs.Sets.{has, IsWithin}
 use Rattle.problem_rules.specs.Problem.{Problem}
 use Rattle.tree_rules.specs.Claim.{Network, CostOver, IsFeasible}
 use Rattle.rank_rules.specs.declared.why.RankWhy.{RankWhy}
 use Rattle.rank_rules.specs.Networks.{cost_of, last_cost, to_undercut, RisesFrom, IsNewTo, IsInOrder, ArePassing, NetworkFails, IsFirstOff}
+use Rattle.cert_check.proofs.EndLemmas.{node_ahead}
 use Rattle.rank_check.specs.Earlier.{earlier_on, earlier}
 
 earlier_more : (i : ℕ) (before ws : List Network) (w : Network) → i < length ws → w ≡ get_or ws i w → earlier_on (suc i) before ws ≡ w ∷ earlier_on i before ws
@@ -14,17 +16,6 @@ earlier_more (suc i) before (x ∷ xs) w lt e = earlier_more i (x ∷ before) xs
 
 pub earlier_next : (i j : ℕ) (ws : List Network) (w : Network) → j ≡ i + 1 → i < length ws → w ≡ get_or ws i w → earlier j ws ≡ w ∷ earlier i ws
 earlier_next i j ws w is lt e = ap (λ (k : ℕ). earlier k ws) (let q : j ≡ suc i = omega arith in q) ∙ earlier_more i [] ws w lt e
-
-ahead : {X : Type 0} (xs : List X) (i : ℕ) (x : X) → i < length xs → x ≡ get_or xs i x → drop i xs ≡ x ∷ drop (suc i) xs
-ahead [] i x h e = absurd (omega arith)
-ahead (y ∷ ys) zero x h e = ap (λ w. w ∷ ys) (sym e)
-ahead (y ∷ ys) (suc i) x h e = ahead ys i x (omega arith) e
-
-none_left : {X : Type 0} (xs : List X) (i : ℕ) → length xs ≤ i → drop i xs ≡ []
-none_left [] zero h = refl
-none_left [] (suc i) h = refl
-none_left (x ∷ xs) zero h = absurd (omega arith)
-none_left (x ∷ xs) (suc i) h = none_left xs i (omega arith)
 
 -- the networks before place i pass, and what is still to come decides of the whole
 pub record IsOn (p : Problem) (ws : List Network) (i : ℕ) : Type 0 where
@@ -37,7 +28,7 @@ on_start p ws = record { passes = λ h. h; fails = λ k why h. subst (λ (n : �
 pub on_next : (p : Problem) (ws : List Network) (i : ℕ) (w : Network) → i < length ws → w ≡ get_or ws i w → IsFeasible p w × IsInOrder (earlier i ws) w → IsOn p ws i → IsOn p ws (i + 1)
 on_next p ws i w lt e h on =
     let front : earlier (i + 1) ws ≡ w ∷ earlier i ws = earlier_next i (i + 1) ws w refl lt e in
-    let here : drop i ws ≡ w ∷ drop (i + 1) ws = ahead ws i w lt e ∙ ap (λ (k : ℕ). w ∷ drop k ws) (let q : suc i ≡ i + 1 = omega arith in q) in
+    let here : drop i ws ≡ w ∷ drop (i + 1) ws = node_ahead ws i w lt e ∙ ap (λ (k : ℕ). w ∷ drop k ws) (let q : suc i ≡ i + 1 = omega arith in q) in
     record {
       passes = λ rest. on.passes (subst (λ (us : List Network). ArePassing p (earlier i ws) us) (sym here)
           (h.0, h.1, subst (λ (vs : List Network). ArePassing p vs (drop (i + 1) ws)) front rest));
@@ -50,10 +41,10 @@ on_next p ws i w lt e h on =
 pub off_here : (p : Problem) (ws : List Network) (i : ℕ) (w : Network) (why : RankWhy) → i < length ws → w ≡ get_or ws i w → NetworkFails p (earlier i ws) w why → IsOn p ws i → IsFirstOff p [] ws (i + 1) why
 off_here p ws i w why lt e h on =
     subst (λ (n : ℕ). IsFirstOff p [] ws n why) (let q : suc (i + 0) ≡ i + 1 = omega arith in q)
-    (on.fails 0 why (subst (λ (us : List Network). IsFirstOff p (earlier i ws) us (suc zero) why) (sym (ahead ws i w lt e)) h))
+    (on.fails 0 why (subst (λ (us : List Network). IsFirstOff p (earlier i ws) us (suc zero) why) (sym (node_ahead ws i w lt e)) h))
 
 pub on_end : (p : Problem) (ws : List Network) (i : ℕ) → length ws ≤ i → IsOn p ws i → ArePassing p [] ws
-on_end p ws i le on = on.passes (subst (λ (us : List Network). ArePassing p (earlier i ws) us) (sym (none_left ws i le)) tt)
+on_end p ws i le on = on.passes (subst (λ (us : List Network). ArePassing p (earlier i ws) us) (sym (drop_all i ws le)) tt)
 
 -- ---- sets of units
 

@@ -5,27 +5,17 @@ use Rattle.pns_rules.specs.Nodes.{Node}
 use Rattle.tree_rules.specs.declared.why.Why.TheVariants as causes
 use Rattle.tree_rules.specs.Claim.{Network, CostOver}
 use Rattle.part_rules.specs.OpenLeaves.{OpenAt}
+use Rattle.cert_parts.proofs.NodeLemmas.{step_ahead, none_ahead}
 use Rattle.rank_rules.specs.declared.why.RankWhy.{RankWhy}
 use Rattle.rank_rules.specs.declared.why.RankWhy.TheVariants.{Plain}
 use Rattle.rank_rules.specs.Leaf.{LeafPasses, LeafFails}
 use Rattle.rank_rules.specs.Marked.{Mark, marked_leaf, first_mark, other_marks}
 use Rattle.ranked_tree.specs.declared.mark.Mark as code
 use Rattle.ranked_tree.specs.View.{mark_of}
-use Rattle.rank_check.specs.Marks.{MarksPass, MarkFails, IsFirstMark}
-
-ahead_at : {X Y : Type 0} (f : X → Y) (xs : List X) (i : ℕ) (x : X) → i < length xs → x ≡ get_or xs i x → drop i (map f xs) ≡ f x ∷ drop (suc i) (map f xs)
-ahead_at f [] i x h k = absurd (omega arith)
-ahead_at f (z ∷ zs) zero x h k = ap (λ w. f w ∷ map f zs) (sym k)
-ahead_at f (z ∷ zs) (suc i) x h k = ahead_at f zs i x (omega arith) k
+use Rattle.rank_check.specs.Marks.{MarksPass, MarkFails, IsFirstMark, AllMarksPass, MarkIsFault}
 
 pub map_ahead : {X Y : Type 0} (f : X → Y) (xs : List X) (i : ℕ) (x : X) → i < length xs → x ≡ get_or xs i x → drop i (map f xs) ≡ f x ∷ drop (i + 1) (map f xs)
-map_ahead f xs i x lt e = ahead_at f xs i x lt e ∙ ap (λ (k : ℕ). f x ∷ drop k (map f xs)) (let q : suc i ≡ i + 1 = omega arith in q)
-
-pub map_behind : {X Y : Type 0} (f : X → Y) (xs : List X) (i : ℕ) → length xs ≤ i → drop i (map f xs) ≡ []
-map_behind f [] zero h = refl
-map_behind f [] (suc i) h = refl
-map_behind f (x ∷ xs) zero h = absurd (omega arith)
-map_behind f (x ∷ xs) (suc i) h = map_behind f xs i (omega arith)
+map_ahead f xs i x lt e = step_ahead f xs i x lt e ∙ ap (λ (k : ℕ). f x ∷ drop k (map f xs)) (let q : suc i ≡ i + 1 = omega arith in q)
 
 others_behind : (ms : List Mark) (i : ℕ) → other_marks (drop i ms) ≡ drop (suc i) ms
 others_behind [] zero = refl
@@ -38,7 +28,7 @@ pub mark_here : (marks : List code.Mark) (i : ℕ) (m : code.Mark) → i < lengt
 mark_here marks i m lt e = ap first_mark (map_ahead mark_of marks i m lt e)
 
 pub mark_none : (marks : List code.Mark) (i : ℕ) → length marks ≤ i → first_mark (drop i (map mark_of marks)) ≡ None
-mark_none marks i le = ap first_mark (map_behind mark_of marks i le)
+mark_none marks i le = ap first_mark (none_ahead mark_of marks i le)
 
 -- a leaf that is open
 pub open_fails : (p : Problem) (ws : List Network) (undercut : Option CostOver) (n : Node) → MarkFails (LeafFails false p ws undercut) n None (Plain causes.Open)
@@ -64,9 +54,9 @@ module _ (p : Problem) (ws : List Network) where
       }
 
   pub mark_off : (ls : List OpenAt) (ms : List Mark) (i : ℕ) (l : OpenAt) (why : RankWhy) → drop i ls ≡ l ∷ drop (i + 1) ls → ((undercut : Option CostOver) → MarkFails (LeafFails false p ws undercut) l.node (first_mark (drop i ms)) why) → AreOn ls ms i
-      → (undercut : Option CostOver) → IsFirstMark (LeafPasses false p ws undercut) (LeafFails false p ws undercut) ls ms l.number why
+      → MarkIsFault p ws ls ms l.number why
   mark_off ls ms i l why here h on u =
       on.fails u l.number why (subst (λ (xs : List OpenAt). IsFirstMark (LeafPasses false p ws u) (LeafFails false p ws u) xs (drop i ms) l.number why) (sym here) (inl (refl, h u)))
 
-  pub marks_end : (ls : List OpenAt) (ms : List Mark) (i : ℕ) → drop i ls ≡ [] → AreOn ls ms i → (undercut : Option CostOver) → MarksPass (LeafPasses false p ws undercut) ls ms
+  pub marks_end : (ls : List OpenAt) (ms : List Mark) (i : ℕ) → drop i ls ≡ [] → AreOn ls ms i → AllMarksPass p ws ls ms
   marks_end ls ms i none on u = on.passes u (subst (λ (xs : List OpenAt). MarksPass (LeafPasses false p ws u) xs (drop i ms)) (sym none) tt)

@@ -1,3 +1,4 @@
 pub mod Earlier
 pub mod Marks
+pub mod Others
 pub mod Refusals

@@ -1,8 +1,7 @@
 //! Whole ranked trees.
-ghost use Rattle.std.specs.Prelude.{◌≡◌, ◌<◌, ◌^◌, [], ◌∷◌, ℕ, ℤ, Bool, false, Some, length, OnOk, IfOk, IfErr};
+ghost use Rattle.std.specs.Prelude.{◌≡◌, ◌<◌, ◌^◌, [], ◌∷◌, ℕ, ℤ, false, Some, length, OnOk, IfOk, IfErr};
 ghost use Rattle.number_sets.specs.Sets.{has};
 ghost use Rattle.pns_rules.specs.Shape.{shape_of};
-ghost use Rattle.pns_rules.specs.Structure.{IsStructure, IsAllowed};
 ghost use Rattle.flow_rules.specs.Net.{net_of};
 ghost use Rattle.flow_rules.specs.Flows.{IsFlows};
 ghost use Rattle.tree_rules.specs.Claim as rules;
@@ -14,10 +13,11 @@ ghost use Rattle.cert_parts.specs.Shown.{cost_over};
 ghost use Rattle.cert_check.specs.OpenLeaves.{leaves_at, AreBefore};
 ghost use Rattle.rank_rules.specs.declared.why.RankWhy.{RankWhy};
 ghost use Rattle.rank_rules.specs.Networks as ranks;
-ghost use Rattle.rank_rules.specs.Networks.{to_undercut, numbered, last_cost, IsListed, ArePassing};
+ghost use Rattle.rank_rules.specs.Networks.{to_undercut, numbered, last_cost, ArePassing};
 ghost use Rattle.rank_rules.specs.Ranked.{IsRanked, NetworkIsFault, NodeIsFault};
 ghost use Rattle.rank_rules.specs.Text.{ranking_of};
 ghost use Rattle.rank_check.specs.declared.refusal.RankRefusal.TheVariants as refusals;
+ghost use Rattle.rank_check.specs.Others.{AllOthers};
 ghost use Rattle.rank_check.specs.Refusals.{PlainPasses, NamesPlainFault, OpenPass, OpenFails, IsNodeAnswer, Refuses, IsOkOrMemory, IsRefusalOrMemory};
 
 use crate::leaf::cost_of;
@@ -190,8 +190,8 @@ pub fn check_rank(
     ensures least { OnOk result ((k : ℕ) (w : rules.Network) → numbered k text.now.networks ≡ Some w → CostsEnough problem.now (Some (ranks.cost_of w)) (has w.units)) }
     // Where as many networks stand as were asked for, each allowed solution structure that is not listed costs at least what the last
     // does, with any flows; where fewer stand, none of them has flows.
-    ensures full { OnOk result (length text.now.networks ≡ text.now.count → (s : ℕ → Bool) → IsStructure (shape_of problem.now) s → IsAllowed (shape_of problem.now) s → (IsListed text.now.networks s → ⊥) → CostsEnough problem.now (last_cost text.now.networks) s) }
-    ensures fewer { OnOk result (length text.now.networks < text.now.count → (s : ℕ → Bool) → IsStructure (shape_of problem.now) s → IsAllowed (shape_of problem.now) s → (IsListed text.now.networks s → ⊥) → (z : ℕ → ℤ) (d : ℤ) → IsFlows (net_of problem.now) s z d → ⊥) }
+    ensures full { OnOk result (length text.now.networks ≡ text.now.count → AllOthers problem.now text.now.networks (CostsEnough problem.now (last_cost text.now.networks))) }
+    ensures fewer { OnOk result (length text.now.networks < text.now.count → AllOthers problem.now text.now.networks (λ s. (z : ℕ → ℤ) (d : ℤ) → IsFlows (net_of problem.now) s z d → ⊥)) }
 {
     problem.is_valid();
     network_has_one_fault();

@@ -9,7 +9,7 @@ ghost use Rattle.rank_rules.specs.Networks.{ArePassing};
 ghost use Rattle.rank_rules.specs.Leaf.{LeafPasses, LeafFails};
 ghost use Rattle.rank_rules.specs.Marked.{marked_leaf, first_mark};
 ghost use Rattle.ranked_tree.specs.View.{mark_of};
-ghost use Rattle.rank_check.specs.Marks.{MarksPass, MarkFails, IsFirstMark};
+ghost use Rattle.rank_check.specs.Marks.{MarkFails, AllMarksPass, MarkIsFault};
 
 use crate::leaf::judge_numbered;
 use branch_tree::Network;
@@ -74,8 +74,8 @@ pub(crate) fn judge_marks(
 ) -> Result<(), (u32, RankWhy)>
     requires graph { shape graph.now ≡ shape_of problem.now }
     requires listed { ArePassing problem.now [] networks.now }
-    ensures passes { OnOk result ((undercut : Option rules.CostOver) → MarksPass (LeafPasses false problem.now networks.now undercut) (leaves_at leaves.now) (map mark_of marks.now)) }
-    ensures fails { IfErr result (λ found. (undercut : Option rules.CostOver) → IsFirstMark (LeafPasses false problem.now networks.now undercut) (LeafFails false problem.now networks.now undercut) (leaves_at leaves.now) (map mark_of marks.now) found.0 found.1) }
+    ensures passes { OnOk result (AllMarksPass problem.now networks.now (leaves_at leaves.now) (map mark_of marks.now)) }
+    ensures fails { IfErr result (λ found. MarkIsFault problem.now networks.now (leaves_at leaves.now) (map mark_of marks.now) found.0 found.1) }
 {
     'judging: for i in 0..leaves.len() {
         let leaf = leaves[i];
