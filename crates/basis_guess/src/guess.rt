@@ -4,7 +4,7 @@ use crate::cost_row::CostRow;
 use crate::line::Line;
 use crate::numbers::Numbers;
 use crate::ranges::{Ranges, Variable};
-use crate::rounding::shortened;
+use crate::rounding::{narrowed, shortened};
 use crate::row::{Distance, Pivot, Row};
 use std::alloc::{AllocError, Global};
 use unit_sets::{Node, UnitSet};
@@ -153,6 +153,24 @@ impl Guess {
     /// How many bits the multipliers have lost; none after `Row`.
     pub fn shift(&self) -> u32 {
         self.shift
+    }
+
+    /// After `look` ended with `Basis` at the node: writes so many times the scaled size of each unit, as a whole number between the ends
+    /// of that size. A size at an end is told to the letter, another one as near as the rows have it. Linear in the number of units.
+    pub fn write_sizes(&self, numbers: &Numbers, node: &Node, factor: i128, sizes: &mut [i64]) {
+        for column in self.columns.iter() {
+            if let Variable::Size(unit) = column.variable {
+                let ends = numbers.size_ends(node, unit).times(factor);
+                put_size_of(sizes, unit, ends.end(column.at_high));
+            }
+        }
+        let factor_of_row = factor.wrapping_shl(numbers.end_shift());
+        for row in self.rows.iter() {
+            if let Variable::Size(unit) = row.basic {
+                let ends = numbers.size_ends(node, unit).times(factor);
+                put_size_of(sizes, unit, ends.nearest(row.nearest_times(factor_of_row)));
+            }
+        }
     }
 
     /// The ranges that were taken last.
@@ -329,6 +347,13 @@ impl Guess {
         for multiplier in &self.multipliers {
             self.scale = self.scale.max(multiplier.wrapping_abs());
         }
+    }
+}
+
+/// Writes the size of a unit.
+fn put_size_of(sizes: &mut [i64], unit: usize, size: i128) {
+    if let Some(kept) = sizes.get_mut(unit) {
+        *kept = narrowed(size);
     }
 }
 

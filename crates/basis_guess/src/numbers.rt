@@ -19,6 +19,26 @@ pub struct Ends {
     pub high: i128,
 }
 
+impl Ends {
+    /// One of the two ends.
+    pub(crate) fn end(self, at_high: bool) -> i128 {
+        if at_high { self.high } else { self.low }
+    }
+
+    /// The number between the ends that is nearest.
+    pub(crate) fn nearest(self, number: i128) -> i128 {
+        number.min(self.high).max(self.low)
+    }
+
+    /// So many times the ends.
+    pub(crate) fn times(self, factor: i128) -> Ends {
+        Ends {
+            low: self.low.wrapping_mul(factor),
+            high: self.high.wrapping_mul(factor),
+        }
+    }
+}
+
 /// What a node asks of a material: nothing where none of its units has it, a range that begins at 0, or its own range where the
 /// material has to be there.
 #[derive(Clone, Copy, Debug, PartialEq, Eq)]

@@ -121,9 +121,14 @@ impl Row {
 
     /// The whole number that is nearest to the basic variable, as its value was formed last.
     pub(crate) fn nearest(&self) -> i64 {
+        narrowed(self.nearest_times(1))
+    }
+
+    /// The whole number that is nearest to so many times the basic variable, as its value was formed last.
+    pub(crate) fn nearest_times(&self, factor: i128) -> i128 {
         let half = self.den.wrapping_shr(1) as i128;
-        let raised = self.value.wrapping_add(half);
-        narrowed(raised.wrapping_div(self.den.max(1) as i128))
+        let raised = self.value.wrapping_mul(factor).wrapping_add(half);
+        raised.wrapping_div(self.den.max(1) as i128)
     }
 
     /// How far the basic variable is out of its range. What may be noise does not count.

@@ -7,7 +7,7 @@ use Rattle.pns_rules.specs.Nodes.{Node}
 use Rattle.mixed_numbers.specs.declared.number.Mixed.{Mixed}
 use Rattle.mixed_numbers.specs.Number.{numerator, denominator}
 use Rattle.flow_rules.specs.Net.{net_of}
-use Rattle.flow_rules.specs.Relaxed.{relaxed_cost, bound}
+use Rattle.flow_rules.specs.Relaxed.{IsRelaxed, relaxed_cost, bound}
 use Rattle.flow_rules.specs.Laws.{RelaxedDuality}
 use Rattle.flow_rules.specs.Steps.{AreInRange, last_from}
 use Rattle.tree_rules.specs.Claim.{Network, CostOver}
@@ -49,17 +49,22 @@ reaches_less p n scale ys less more pl pm le h = record {
   reaches = through less.cost less.d more.cost more.d (bound (net_of p) n scale (multiplier p n ys)) scale pl pm h.positive le h.reaches;
 }
 
+-- no relaxed flows cost less than what multipliers prove
+pub bounded_under : RelaxedDuality → (p : Problem) (n : Node) (scale : ℤ) (ys : List ℤ) (low : CostOver) → pos 1 ≤ℤ low.d → IsBounded p (Some low) n scale ys
+    → (z : ℕ → ℤ) (d : ℤ) → IsRelaxed (net_of p) n z d → (low.cost *ℤ d) ≤ℤ (relaxed_cost (net_of p) n z d *ℤ low.d)
+bounded_under duality p n scale ys low pl h z d flows =
+    let rc : ℤ = relaxed_cost (net_of p) n z d in
+    let y : ℕ → ℤ = multiplier p n ys in
+    let dual : (d *ℤ bound (net_of p) n scale y) ≤ℤ (scale *ℤ rc) = duality p n z d flows scale (let q = h.positive in omega (arith, ints)) y in
+    let turned : (bound (net_of p) n scale y *ℤ d) ≤ℤ (rc *ℤ scale) = omega (arith, ints) in
+    through low.cost low.d (bound (net_of p) n scale y) scale rc d pl h.positive flows.positive h.reaches turned
+
 -- what multipliers prove is no more than the least cost
 pub no_more_than_least : RelaxedDuality → (p : Problem) (n : Node) (scale : ℤ) (ys : List ℤ) (low : CostOver) (a b : ℤ) → pos 1 ≤ℤ low.d → IsBounded p (Some low) n scale ys → IsLeastCost p n a b
     → (low.cost *ℤ b) ≤ℤ (a *ℤ low.d)
 no_more_than_least duality p n scale ys low a b pl h k =
     let r = k.reached in
-    let rc : ℤ = relaxed_cost (net_of p) n r.sizes r.d in
-    let y : ℕ → ℤ = multiplier p n ys in
-    let dual : (r.d *ℤ bound (net_of p) n scale y) ≤ℤ (scale *ℤ rc) = duality p n r.sizes r.d r.relaxed scale (let q = h.positive in omega (arith, ints)) y in
-    let turned : (bound (net_of p) n scale y *ℤ r.d) ≤ℤ (rc *ℤ scale) = omega (arith, ints) in
-    let first : (low.cost *ℤ r.d) ≤ℤ (rc *ℤ low.d) = through low.cost low.d (bound (net_of p) n scale y) scale rc r.d pl h.positive r.relaxed.positive h.reaches turned in
-    through low.cost low.d rc r.d a b pl r.relaxed.positive k.positive first r.at_most
+    through low.cost low.d (relaxed_cost (net_of p) n r.sizes r.d) r.d a b pl r.relaxed.positive k.positive (bounded_under duality p n scale ys low pl h r.sizes r.d r.relaxed) r.at_most
 
 abbrev pub network_of : List ℕ → ℤ → ℤ → List ℤ → Network
 network_of units d cost sizes = record { units = units; sizes = sizes; d = d; cost = cost }

@@ -1,17 +1,23 @@
 -- What is told of a node by the second way: the least cost of its relaxed flows with a bound that multipliers prove, a network of
--- that cost, multipliers that refute the node, or nothing; and two costs between which the least lies.
-use Rattle.std.specs.Prelude.{◌≡◌, ℕ, pos, ◌≤ℤ◌, ◌*ℤ◌, Bool, true, false, Some}
+-- that cost, multipliers that refute the node, or nothing; two costs between which the least lies; and a cost below the least, where
+-- this is not asked for.
+use Rattle.std.specs.Prelude.{◌≡◌, ℕ, ℤ, pos, ◌≤ℤ◌, ◌*ℤ◌, Bool, true, false, Some}
 use Rattle.number_sets.specs.Sets.{has}
 use Rattle.problem_rules.specs.Problem.{Problem}
 use Rattle.pns_rules.specs.Nodes.{Node}
 use Rattle.mixed_numbers.specs.declared.number.Mixed.{Mixed}
 use Rattle.mixed_numbers.specs.Number.{numerator, denominator}
+use Rattle.flow_rules.specs.Net.{net_of}
+use Rattle.flow_rules.specs.Relaxed.{IsRelaxed, relaxed_cost}
 use Rattle.scaled_flows.specs.LeastCost.{IsLeastCost}
 use Rattle.tree_rules.specs.Claim.{Network, CostOver, IsFeasible}
 use Rattle.tree_rules.specs.Leaf.{IsRefuted, IsBounded}
 use Rattle.tree_rules.specs.Lean.{HasCheaper}
 use Rattle.certified_bounds.specs.declared.certified.LeastBound.{LeastBound}
 use Rattle.certified_bounds.specs.declared.certified.Between.{Between}
+use Rattle.certified_bounds.specs.declared.certified.LowBound.{LowBound}
+use Rattle.certified_bounds.specs.declared.certified.FirstBound.{FirstBound}
+use Rattle.certified_bounds.specs.declared.certified.FirstBound.TheVariants as looks
 use Rattle.certified_bounds.specs.declared.certified.Certified.{Certified}
 use Rattle.certified_bounds.specs.declared.certified.Certified.TheVariants.{Least, Flows, Refuted, Nothing}
 
@@ -25,6 +31,17 @@ pub record IsLeastBound (p : Problem) (n : Node) (b : LeastBound) : Type 0 where
   pub value : IsLeastCost p n (numerator b.value) (denominator b.value)
   pub no_more : (numerator b.low *ℤ denominator b.value) ≤ℤ (numerator b.value *ℤ denominator b.low)
   pub bounded : IsBounded p (Some (cost_over b.low)) n b.scaled.d b.scaled.ys
+
+-- no relaxed flows of the node cost less than `low`, as the multipliers prove
+pub record IsLowBound (p : Problem) (n : Node) (b : LowBound) : Type 0 where
+  pub under : (z : ℕ → ℤ) (d : ℤ) → IsRelaxed (net_of p) n z d → (numerator b.low *ℤ d) ≤ℤ (relaxed_cost (net_of p) n z d *ℤ denominator b.low)
+  pub bounded : IsBounded p (Some (cost_over b.low)) n b.scaled.d b.scaled.ys
+
+-- a bound or multipliers that refute the node are told at a first look; nothing may be told of each
+abbrev pub IsFirstBound : Problem → Node → FirstBound → Type 0
+IsFirstBound p n (looks.AtLeast b) = IsLowBound p n b
+IsFirstBound p n (looks.Refuted ys) = IsRefuted p n ys
+IsFirstBound p n looks.Nothing = Unit {0}
 
 -- the multipliers prove that no relaxed flows of the node cost less than `low`, and some cost at most `reached`
 pub record IsBetween (p : Problem) (n : Node) (b : Between) : Type 0 where

@@ -1,5 +1,5 @@
 //! The calls that value the nodes of a problem.
-ghost use Rattle.std.specs.Prelude.{◌≡◌, ◌≤ℤ◌, pos, true, length, Some, IsTrue, IfOk, IfSome, OnOk, OnErr};
+ghost use Rattle.std.specs.Prelude.{◌≡◌, ◌≤ℤ◌, pos, true, false, length, Some, IsTrue, IfOk, IfSome, OnOk, OnErr};
 ghost use Rattle.pns_rules.specs.Shape.{shape_of};
 ghost use Rattle.pns_rules.specs.Ends.{IsSound, IsDecided};
 ghost use Rattle.pgraph.specs.Tables.{shape};
@@ -8,14 +8,14 @@ ghost use Rattle.mixed_numbers.specs.Number.{numerator, denominator};
 ghost use Rattle.scaled_flows.specs.LeastCost.{IsLeastCost};
 ghost use Rattle.tree_rules.specs.Leaf.{IsBounded};
 ghost use Rattle.tree_rules.specs.Lean.{HasCheaper};
-ghost use Rattle.certified_bounds.specs.Certified.{IsBetween, IsCertified};
+ghost use Rattle.certified_bounds.specs.Certified.{IsBetween, IsCertified, IsFirstBound};
 
-use crate::certified::{Between, Certified};
+use crate::certified::{Between, Certified, FirstBound};
 use crate::change::{change_to, make_change};
 use crate::flows::flows;
-use crate::lows::{least, low_to, proving};
+use crate::lows::{first_low, least, low_to, proving};
 use crate::proposals::{Proposals, Proposed};
-use crate::refutations::refuted;
+use crate::refutations::{first_refuted, refuted};
 use crate::same_problem::is_same_problem;
 use branch_tree::Scaled;
 use mixed_numbers::Mixed;
@@ -108,6 +108,27 @@ impl CertifiedBounds {
         Ok(())
     }
 
+    /// Tells a cost that no relaxed flows of the node undercut, and does not find the least: short multipliers of a guess prove it. It
+    /// takes no memory but for what it hands out, and `Err` comes for want of that alone.
+    pub fn look_first(
+        &mut self,
+        alloc: Global,
+        problem: &Problem,
+        graph: &Graph,
+        node: Node,
+    ) -> Result<FirstBound, AllocError>
+        requires graph { shape graph.now ≡ shape_of problem.now }
+        requires sound { IsSound (shape_of problem.now) (node_of node) }
+        ensures same { self.new ≡ self.old }
+        ensures bounded { IfOk result (IsFirstBound problem.now (node_of node)) }
+    {
+        match self.proposals.propose_low(&node) {
+            Proposed::Nothing => Ok(FirstBound::Nothing),
+            Proposed::Row => first_refuted(alloc, problem, graph, &node, &mut self.proposals),
+            Proposed::Optimum => first_low(alloc, problem, graph, &node, &mut self.proposals),
+        }
+    }
+
     /// Tells what the node is worth; `decided` tells whether all is decided there. It takes no memory but for what it hands out, and
     /// `Err` comes for want of that alone.
     pub fn look(
@@ -150,7 +171,48 @@ impl CertifiedBounds {
         ensures same { self.new ≡ self.old }
         ensures certified { IfOk result (IsCertified problem.now (node_of node.now) decided) }
     {
-        match self.proposals.propose(node, anew) {
+        let proposed = self.proposals.propose(node, anew);
+        self.judged(alloc, problem, graph, node, decided, proposed)
+    }
+
+    /// Tells what a node is worth that a first look bounded: the basis that it guessed is solved. It takes no memory but for what it hands
+    /// out, and `Err` comes for want of that alone.
+    pub fn settle(
+        &mut self,
+        alloc: Global,
+        problem: &Problem,
+        graph: &Graph,
+        node: Node,
+        basis: &[u16],
+    ) -> Result<Certified, AllocError>
+        requires own { self.old ≡ problem.now }
+        requires graph { shape graph.now ≡ shape_of problem.now }
+        requires sound { IsSound (shape_of problem.now) (node_of node) }
+        ensures same { self.new ≡ self.old }
+        ensures certified { IfOk result (IsCertified problem.now (node_of node) false) }
+    {
+        let proposed = self.proposals.propose_noted(&node, basis);
+        self.judged(alloc, problem, graph, &node, false, proposed)
+    }
+
+    /// What is told of the node once what is proposed is judged.
+    fn judged(
+        &mut self,
+        alloc: Global,
+        problem: &Problem,
+        graph: &Graph,
+        node: &Node,
+        decided: bool,
+        proposed: Proposed,
+    ) -> Result<Certified, AllocError>
+        requires own { self.old ≡ problem.now }
+        requires graph { shape graph.now ≡ shape_of problem.now }
+        requires sound { IsSound (shape_of problem.now) (node_of node.now) }
+        requires split { decided ≡ true → IsDecided (shape_of problem.now) (node_of node.now) }
+        ensures same { self.new ≡ self.old }
+        ensures certified { IfOk result (IsCertified problem.now (node_of node.now) decided) }
+    {
+        match proposed {
             Proposed::Nothing => Ok(Certified::Nothing),
             Proposed::Row => refuted(alloc, problem, graph, node, &mut self.proposals),
             Proposed::Optimum => {
@@ -275,7 +337,7 @@ impl CertifiedBounds {
         }
     }
 
-    /// The size of each unit that is not left out at the node for which flows were found last, in rising order and in whole
+    /// The size of each unit that is not left out at the node for which flows were found or guessed last, in rising order and in whole
     /// millionths. A guide for the choice of a branch: nothing rests on it.
     pub fn sizes(&self) -> &[i64] {
         self.proposals.whole_sizes()

@@ -20,6 +20,27 @@ pub struct Between {
     pub reached: Mixed,
 }
 
+/// A cost that no relaxed flows undercut, and the multipliers over their scale that prove so. It is in 10^-18 of the money unit times
+/// the payout period.
+#[derive(Drop)]
+pub struct LowBound {
+    pub low: Mixed,
+    pub scaled: Scaled,
+    /// The basis that was guessed, in short numbers: nothing rests on it.
+    pub basis: Vec<u16>,
+}
+
+/// What is told of a node at a first look.
+#[derive(Drop)]
+pub enum FirstBound {
+    /// No relaxed flows of the node cost less, if it has any.
+    AtLeast(LowBound),
+    /// The node has no relaxed flows.
+    Refuted(Multipliers),
+    /// Nothing was found that passes a check.
+    Nothing,
+}
+
 /// What is told of a node.
 #[derive(Drop)]
 pub enum Certified {

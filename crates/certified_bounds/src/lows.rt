@@ -9,9 +9,9 @@ ghost use Rattle.mixed_numbers.specs.Number.{numerator, denominator};
 ghost use Rattle.scaled_flows.specs.LeastCost.{IsLeastCost};
 ghost use Rattle.tree_rules.specs.Leaf.{IsBounded};
 ghost use Rattle.tree_rules.specs.Lean.{HasCheaper};
-ghost use Rattle.certified_bounds.specs.Certified.{cost_over, IsBetween, IsCertified};
+ghost use Rattle.certified_bounds.specs.Certified.{cost_over, IsBetween, IsCertified, IsFirstBound};
 
-use crate::certified::{Between, Certified, LeastBound};
+use crate::certified::{Between, Certified, FirstBound, LeastBound, LowBound};
 use crate::judged::{low_of, reaches};
 use crate::proposals::Proposals;
 use branch_tree::Scaled;
@@ -26,6 +26,9 @@ use unit_sets::Node;
 const SHORT_BITS: u32 = 20;
 
 const SHORT: i128 = 1 << 20;
+
+// Where a number is out of range with these, ones over 2^10 may do at a first look.
+const SHORTER_BITS: u32 = 10;
 
 /// The scale of the multipliers that are listed, and what they prove.
 #[derive(Clone, Copy)]
@@ -209,19 +212,96 @@ pub(crate) fn proving(
     exact(alloc, problem, graph, node, proposals, goal)
 }
 
+/// After `propose_low`, `propose_sizes` or `propose_inside`: what rounded multipliers prove.
+fn near_low(
+    problem: &Problem,
+    graph: &Graph,
+    node: &Node,
+    proposals: &mut Proposals,
+    bits: u32,
+) -> Option<Low>
+    requires graph { shape graph.now ≡ shape_of problem.now }
+    requires known { (u : ℕ) → has node.now.inside u ≡ true → u < (shape graph.now).units }
+    ensures { IfSome result (λ l. IsBounded problem.now (Some (cost_over l.low)) (node_of node.now) l.scale proposals.new) }
+{
+    let scale = proposals.write_near(bits);
+    listed_low(problem, graph, node, proposals, scale)
+}
+
 /// After `propose_sizes` or `propose_inside`: what rounded multipliers prove, over the longest of three scales at which no number is out of range.
-fn near_low(problem: &Problem, graph: &Graph, node: &Node, proposals: &mut Proposals) -> Option<Low>
+fn nearest_low(
+    problem: &Problem,
+    graph: &Graph,
+    node: &Node,
+    proposals: &mut Proposals,
+) -> Option<Low>
     requires graph { shape graph.now ≡ shape_of problem.now }
     requires known { (u : ℕ) → has node.now.inside u ≡ true → u < (shape graph.now).units }
     ensures { IfSome result (λ l. IsBounded problem.now (Some (cost_over l.low)) (node_of node.now) l.scale proposals.new) }
 {
     'scales: for bits in [30u32, 20, 10] {
-        let scale = proposals.write_near(bits);
-        if let Some(low) = listed_low(problem, graph, node, proposals, scale) {
+        if let Some(low) = near_low(problem, graph, node, proposals, bits) {
             return Some(low);
         }
     }
     None
+}
+
+/// After `propose_low`: what rounded multipliers prove, over a short scale, since they may come to stand in a tree.
+fn quick_low(
+    problem: &Problem,
+    graph: &Graph,
+    node: &Node,
+    proposals: &mut Proposals,
+) -> Option<Low>
+    requires graph { shape graph.now ≡ shape_of problem.now }
+    requires known { (u : ℕ) → has node.now.inside u ≡ true → u < (shape graph.now).units }
+    ensures { IfSome result (λ l. IsBounded problem.now (Some (cost_over l.low)) (node_of node.now) l.scale proposals.new) }
+{
+    if let Some(low) = near_low(problem, graph, node, proposals, SHORT_BITS) {
+        return Some(low);
+    }
+    near_low(problem, graph, node, proposals, SHORTER_BITS)
+}
+
+/// What is proved, with the multipliers that are listed, and the basis.
+fn low_with(
+    alloc: Global,
+    low: Low,
+    proposals: &Proposals,
+    basis: Vec<u16>,
+) -> Result<LowBound, AllocError>
+    requires { InRange low.scale }
+    ensures { IfOk result (λ b. b ≡ record { low = low.low; scaled = record { d = low.scale; ys = proposals.now }; basis = basis }) }
+{
+    proposals.are_in_range();
+    let scaled = Scaled::of(alloc, low.scale, proposals.list())?;
+    Ok(LowBound {
+        low: low.low,
+        scaled,
+        basis,
+    })
+}
+
+/// After `propose_low`: a cost that no relaxed flows of the node undercut, as multipliers prove.
+pub(crate) fn first_low(
+    alloc: Global,
+    problem: &Problem,
+    graph: &Graph,
+    node: &Node,
+    proposals: &mut Proposals,
+) -> Result<FirstBound, AllocError>
+    requires graph { shape graph.now ≡ shape_of problem.now }
+    requires known { (u : ℕ) → has node.now.inside u ≡ true → u < (shape graph.now).units }
+    ensures { IfOk result (IsFirstBound problem.now (node_of node.now)) }
+{
+    relaxed_duality();
+    let Some(low) = quick_low(problem, graph, node, proposals) else {
+        return Ok(FirstBound::Nothing);
+    };
+    let basis = proposals.basis(alloc)?;
+    let bound = low_with(alloc, low, proposals, basis)?;
+    Ok(FirstBound::AtLeast(bound))
 }
 
 /// After `propose_sizes` or `propose_inside`: what some flows cost, and what rounded multipliers prove.
@@ -238,7 +318,7 @@ pub(crate) fn low_to(
     requires reached { HasCheaper problem.now (node_of node.now) (numerator reached) (denominator reached) }
     ensures { IfOk result (λ found. IfSome found (IsBetween problem.now (node_of node.now))) }
 {
-    let Some(low) = near_low(problem, graph, node, proposals) else {
+    let Some(low) = nearest_low(problem, graph, node, proposals) else {
         return Ok(None);
     };
     proposals.are_in_range();

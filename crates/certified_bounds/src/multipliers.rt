@@ -95,12 +95,19 @@ impl ScaledRows<'_> {
         true
     }
 
+    /// A whole number near 2^bits times the multiplier of one row.
+    fn near(&self, number: i128, rate: i64, bits: u32) -> Option<i128> {
+        if number == 0 {
+            return Some(0);
+        }
+        Ratio::of_products(number, self.costs, self.scale, rate as i128).nearest(bits)
+    }
+
     /// Writes whole numbers near 2^bits times the multipliers.
     pub(crate) fn write_rounded(&self, bits: u32, list: &mut NumberList) -> bool {
         list.clear();
         for (number, rate) in self.numbers.iter().zip(self.rates) {
-            let near = Ratio::of_products(*number, self.costs, self.scale, *rate as i128);
-            if !list.push_some(near.nearest(bits)) {
+            if !list.push_some(self.near(*number, *rate, bits)) {
                 return false;
             }
         }

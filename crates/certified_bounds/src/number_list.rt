@@ -1,6 +1,6 @@
 //! A list of numbers in range that is filled again and again.
 ghost use Rattle.std.specs.Prelude.{◌≡◌};
-ghost use Rattle.integer_laws.specs.Range.{AllInRange};
+ghost use Rattle.integer_laws.specs.Range.{InRange, AllInRange};
 
 use std::alloc::{AllocError, Global};
 use std::marker::Model;
@@ -20,6 +20,24 @@ impl Model for NumberList {
     ghost view = { λ l. l.numbers.items };
 
     ghost invariant = { λ l. AllInRange l.numbers.items };
+}
+
+/// The number without so many of its last bits.
+fn shortened(number: i128, by: u32) -> i128
+    ensures { InRange result }
+{
+    let rest = number.wrapping_shr(by.min(127));
+    if rest == i128::MIN { 0 } else { rest }
+}
+
+/// Drops so many of the last bits of each number.
+fn shorten_all(numbers: &mut [i128], by: u32)
+    requires { AllInRange numbers.old }
+    ensures { AllInRange numbers.new }
+{
+    'all: for number in numbers.iter_mut() {
+        *number = shortened(*number, by);
+    }
 }
 
 impl NumberList {
@@ -43,6 +61,20 @@ impl NumberList {
             Some(number) => self.push(number),
             None => false,
         }
+    }
+
+    /// How many of the last bits are 0 in each number; 128 where all numbers are 0.
+    pub(crate) fn idle_bits(&self) -> u32 {
+        let mut bits = 0u128;
+        for number in &self.numbers {
+            bits |= number.unsigned_abs();
+        }
+        bits.trailing_zeros()
+    }
+
+    /// Drops so many of the last bits of each number.
+    pub(crate) fn shorten(&mut self, by: u32) {
+        shorten_all(&mut self.numbers, by);
     }
 
     pub(crate) fn numbers(&self) -> &[i128]

@@ -6,9 +6,10 @@ ghost use Rattle.flow_rules.specs.Net.{net_of};
 ghost use Rattle.scaled_flows.specs.Divisors.{AreDivisors};
 
 use crate::multipliers::ScaledRows;
+use crate::noted::{codes_of, column_of};
 use crate::number_list::NumberList;
 use crate::rounding::Ratio;
-use basis_guess::{Guess, Numbers, Outcome, ShortSizes, Standing};
+use basis_guess::{Column, Guess, Numbers, Outcome, ShortSizes, Standing};
 use basis_solve::Solver;
 use int_rows::gcd;
 use pns_problem::Problem;
@@ -39,6 +40,8 @@ struct ScaledProblem {
 pub(crate) struct Proposals {
     scaled: ScaledProblem,
     guess: Guess,
+    // The columns of a basis that was noted.
+    columns: Vec<Column>,
     solver: Solver,
     short: ShortSizes,
     // The rows of the node: what it asks of each material, and the divisors of those that it has.
@@ -47,6 +50,8 @@ pub(crate) struct Proposals {
     // Scaled multipliers of a row that can't be met, or of the cost.
     row: NumberList,
     list: NumberList,
+    // The guessed size of each unit of the problem.
+    guessed_sizes: Vec<i64>,
     whole_sizes: Vec<i64>,
 }
 
@@ -127,12 +132,14 @@ impl Proposals {
         Ok(Proposals {
             scaled: ScaledProblem::of(alloc, problem, scales)?,
             guess: Guess::open(alloc, units, materials)?,
+            columns: Vec::with_capacity(alloc, units as usize)?,
             solver: Solver::open(alloc, units, materials)?,
             short: ShortSizes::open(alloc, units, materials)?,
             standings: vec![in alloc; Standing::Apart; materials as usize]?,
             row_rates: Vec::with_capacity(alloc, materials as usize)?,
             row: NumberList::open(alloc, materials as usize)?,
             list: NumberList::open(alloc, materials.max(units) as usize)?,
+            guessed_sizes: vec![in alloc; 0i64; units as usize]?,
             whole_sizes: Vec::with_capacity(alloc, units as usize)?,
         })
     }
@@ -166,6 +173,61 @@ impl Proposals {
             }
             Outcome::Row if self.read_row() => Proposed::Row,
             _ => Proposed::Nothing,
+        }
+    }
+
+    /// Looks, from the last basis, for multipliers that prove little less than least flows of the node cost, and keeps the sizes that
+    /// these flows seem to have.
+    pub(crate) fn propose_low(&mut self, node: &Node) -> Proposed {
+        let outcome = self.guess.look(&self.scaled.numbers, node, false);
+        if !self.read_rows(node) {
+            return Proposed::Nothing;
+        }
+        match outcome {
+            Outcome::Basis if self.read_costs() => {
+                self.keep_guessed_sizes(node);
+                Proposed::Optimum
+            }
+            Outcome::Row if self.read_row() => Proposed::Row,
+            _ => Proposed::Nothing,
+        }
+    }
+
+    /// The basis that was guessed last, in short numbers.
+    pub(crate) fn basis(&self, alloc: Global) -> Result<Vec<u16>, AllocError> {
+        codes_of(alloc, self.guess.columns())
+    }
+
+    /// Looks for an optimum of the node's program at the basis that was noted at its first look.
+    pub(crate) fn propose_noted(&mut self, node: &Node, basis: &[u16]) -> Proposed {
+        self.columns.clear();
+        for code in basis {
+            let _is_kept = self.columns.push(column_of(*code)).is_ok();
+        }
+        if self.read_rows(node)
+            && self
+                .solver
+                .solve(&self.scaled.numbers, &self.columns, node)
+        {
+            Proposed::Optimum
+        } else {
+            Proposed::Nothing
+        }
+    }
+
+    /// Keeps the sizes of the guess in whole millionths.
+    fn keep_guessed_sizes(&mut self, node: &Node) {
+        self.guess.write_sizes(
+            &self.scaled.numbers,
+            node,
+            self.scaled.sizes,
+            &mut self.guessed_sizes,
+        );
+        self.whole_sizes.clear();
+        for (unit, size) in self.guessed_sizes.iter().enumerate() {
+            if !is_left_out(node, unit) {
+                let _is_kept = self.whole_sizes.push(*size).is_ok();
+            }
         }
     }
 
@@ -294,7 +356,8 @@ impl Proposals {
         rows.write_rounded(bits, &mut self.list)
     }
 
-    /// After `propose_sizes` or `propose_inside`: writes whole numbers near 2^bits times the multipliers of the cost. Gives that power.
+    /// After `propose_low`, `propose_sizes` or `propose_inside`: writes whole numbers near a power of 2 times the multipliers of the cost:
+    /// 2^bits, or a lower one over which they are the same. Gives that power.
     pub(crate) fn write_near(&mut self, bits: u32) -> Option<i128> {
         let rows = ScaledRows {
             numbers: self.row.numbers(),
@@ -302,11 +365,12 @@ impl Proposals {
             scale: self.guess.scale() as i128,
             costs: self.scaled.costs,
         };
-        if rows.write_rounded(bits, &mut self.list) {
-            Some(1i128.wrapping_shl(bits.min(126)))
-        } else {
-            None
+        if !rows.write_rounded(bits, &mut self.list) {
+            return None;
         }
+        let idle = self.list.idle_bits().min(bits);
+        self.list.shorten(idle);
+        Some(1i128.wrapping_shl(bits.saturating_sub(idle).min(126)))
     }
 
     /// After `propose_sizes`: writes the scaled sizes over their denominator, which it gives.

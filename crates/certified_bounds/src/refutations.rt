@@ -1,13 +1,13 @@
 //! Multipliers that refute a node.
-ghost use Rattle.std.specs.Prelude.{◌≡◌, ◌<◌, ℕ, Bool, true, IsTrue, IfOk};
+ghost use Rattle.std.specs.Prelude.{◌≡◌, ◌<◌, ℕ, Bool, true, IsTrue, IfOk, IfSome};
 ghost use Rattle.number_sets.specs.Sets.{has};
 ghost use Rattle.pns_rules.specs.Shape.{shape_of};
 ghost use Rattle.pgraph.specs.Tables.{shape};
 ghost use Rattle.pgraph.specs.View.{node_of};
 ghost use Rattle.tree_rules.specs.Leaf.{IsRefuted};
-ghost use Rattle.certified_bounds.specs.Certified.{IsCertified};
+ghost use Rattle.certified_bounds.specs.Certified.{IsCertified, IsFirstBound};
 
-use crate::certified::Certified;
+use crate::certified::{Certified, FirstBound};
 use crate::judged::is_refuted;
 use crate::proposals::Proposals;
 use branch_tree::Multipliers;
@@ -31,7 +31,29 @@ fn is_row_refuted(
     proposals.write_row(bits) && is_refuted(problem, graph, node, proposals.list())
 }
 
-/// After `Row`: multipliers that refute the node.
+/// After `Row`: multipliers that refute the node, where rounded ones do.
+fn refuting(
+    alloc: Global,
+    problem: &Problem,
+    graph: &Graph,
+    node: &Node,
+    proposals: &mut Proposals,
+) -> Result<Option<Multipliers>, AllocError>
+    requires graph { shape graph.now ≡ shape_of problem.now }
+    requires known { (u : ℕ) → has node.now.inside u ≡ true → u < (shape graph.now).units }
+    ensures { IfOk result (λ found. IfSome found (λ ys. IsRefuted problem.now (node_of node.now) ys)) }
+{
+    'scales: for bits in [30u32, 20, 40, 10, 50] {
+        if is_row_refuted(problem, graph, node, proposals, bits) {
+            proposals.are_in_range();
+            let ys = proposals.list().to_vec(alloc)?;
+            return Ok(Some(Multipliers::from_vec(ys)));
+        }
+    }
+    Ok(None)
+}
+
+/// After `Row`: what is told of the node.
 pub(crate) fn refuted(
     alloc: Global,
     problem: &Problem,
@@ -43,12 +65,26 @@ pub(crate) fn refuted(
     requires known { (u : ℕ) → has node.now.inside u ≡ true → u < (shape graph.now).units }
     ensures { (decided : Bool) → IfOk result (IsCertified problem.now (node_of node.now) decided) }
 {
-    'scales: for bits in [30u32, 20, 40, 10, 50] {
-        if is_row_refuted(problem, graph, node, proposals, bits) {
-            proposals.are_in_range();
-            let ys = proposals.list().to_vec(alloc)?;
-            return Ok(Certified::Refuted(Multipliers::from_vec(ys)));
-        }
+    match refuting(alloc, problem, graph, node, proposals)? {
+        Some(ys) => Ok(Certified::Refuted(ys)),
+        None => Ok(Certified::Nothing),
     }
-    Ok(Certified::Nothing)
+}
+
+/// After `Row`: what is told of the node at a first look.
+pub(crate) fn first_refuted(
+    alloc: Global,
+    problem: &Problem,
+    graph: &Graph,
+    node: &Node,
+    proposals: &mut Proposals,
+) -> Result<FirstBound, AllocError>
+    requires graph { shape graph.now ≡ shape_of problem.now }
+    requires known { (u : ℕ) → has node.now.inside u ≡ true → u < (shape graph.now).units }
+    ensures { IfOk result (IsFirstBound problem.now (node_of node.now)) }
+{
+    match refuting(alloc, problem, graph, node, proposals)? {
+        Some(ys) => Ok(FirstBound::Refuted(ys)),
+        None => Ok(FirstBound::Nothing),
+    }
 }

@@ -6,22 +6,21 @@ use Rattle.pns_rules.specs.Nodes.{Node}
 use Rattle.mixed_numbers.specs.declared.number.Mixed.{Mixed}
 use Rattle.mixed_numbers.specs.Number.{numerator, denominator}
 use Rattle.mixed_numbers.specs.OrderLaws.{denominator_positive}
-use Rattle.flow_rules.specs.Net.{net_of}
-use Rattle.flow_rules.specs.Relaxed.{relaxed_cost, bound}
 use Rattle.flow_rules.specs.Laws.{RelaxedDuality}
-use Rattle.tree_rules.specs.Claim.{Network, CostOver}
-use Rattle.tree_rules.specs.Leaf.{IsBounded, multiplier}
-use Rattle.turn_laws.specs.Values.{IsPositive, IsUnder}
+use Rattle.tree_rules.specs.Claim.{Network}
 use Rattle.tree_rules.specs.Costs.{IsNoMore}
-use Rattle.turn_laws.proofs.FractionLemmas.{fraction_trans}
 use Rattle.certified_bounds.specs.declared.certified.Between.{Between}
 use Rattle.certified_bounds.specs.declared.certified.LeastBound.{LeastBound}
+use Rattle.certified_bounds.specs.declared.certified.LowBound.{LowBound}
+use Rattle.certified_bounds.specs.declared.certified.FirstBound.{FirstBound}
+use Rattle.certified_bounds.specs.declared.certified.FirstBound.TheVariants.{AtLeast}
 use Rattle.certified_bounds.specs.declared.certified.Certified.{Certified}
 use Rattle.certified_bounds.specs.declared.certified.Certified.TheVariants.{Least, Flows}
-use Rattle.certified_bounds.specs.Certified.{IsCertified, IsBetween, IsLeastBound, IsNetworkAt}
+use Rattle.certified_bounds.specs.Certified.{IsCertified, IsBetween, IsLeastBound, IsNetworkAt, IsFirstBound}
+use Rattle.certified_bounds.proofs.BoundLemmas.{bounded_under}
 use Rattle.node_evaluation.specs.declared.evaluator.PastStop.{PastStop}
 use Rattle.node_evaluation.specs.declared.evaluator.Bound.{Bound}
-use Rattle.node_evaluation.specs.Evaluated.{cost_over, cost_in, IsBoundOf, IsNetworkOf, HasUnits}
+use Rattle.node_evaluation.specs.Evaluated.{cost_over, cost_in, IsLowerBoundOf, IsBoundOf, IsNetworkOf, HasUnits}
 use Rattle.tree_rules.specs.Past.{IsPastAt}
 
 abbrev pub bound_from : LeastBound → Bound
@@ -64,15 +63,13 @@ flows_are p n decided told b w r is same h =
       k.4,
     )
 
--- ---- two costs between which the least cost lies
+-- what a first look tells
+pub first_is : (p : Problem) (n : Node) (told : FirstBound) (b : LowBound) → told ≡ AtLeast b → IsFirstBound p n told → IsLowerBoundOf p n (record { low = b.low; scaled = b.scaled; basis = b.basis })
+first_is p n told b is h =
+    let k : IsFirstBound p n (AtLeast b) = subst (IsFirstBound p n) is h in
+    record { under = k.under; bounded = k.bounded }
 
--- no relaxed flows cost less than what multipliers prove
-bounded_under : RelaxedDuality → (p : Problem) (n : Node) (cost : CostOver) (scale : ℤ) (ys : List ℤ) → IsPositive cost → IsBounded p (Some cost) n scale ys → IsUnder p cost n
-bounded_under duality p n cost scale ys positive h z d flows =
-    let scaled = h.positive in
-    let dual : (d *ℤ bound (net_of p) n scale (multiplier p n ys)) ≤ℤ (scale *ℤ relaxed_cost (net_of p) n z d) = duality p n z d flows scale (omega (arith, ints)) (multiplier p n ys) in
-    let turned : (bound (net_of p) n scale (multiplier p n ys) *ℤ d) ≤ℤ (relaxed_cost (net_of p) n z d *ℤ scale) = omega (arith, ints) in
-    fraction_trans cost.cost cost.d (bound (net_of p) n scale (multiplier p n ys)) scale (relaxed_cost (net_of p) n z d) d positive h.positive flows.positive h.reaches turned
+-- ---- two costs between which the least cost lies
 
 abbrev pub bound_with : Between → PastStop → Bound
 bound_with b stop = record { value = b.low; low = b.low; scaled = b.scaled; interval = Some (record { reached = b.reached; stop = stop }) }
@@ -81,7 +78,7 @@ pub between_is : RelaxedDuality → (p : Problem) (n : Node) (b : Between) (stop
 between_is duality p n b stop r same h past =
     subst (IsBoundOf IsPastAt p n) (sym same)
     (record {
-      value = (bounded_under duality p n (cost_over b.low) b.scaled.d b.scaled.ys positive h.bounded, h.reached, past);
+      value = (bounded_under duality p n b.scaled.d b.scaled.ys (cost_over b.low) positive h.bounded, h.reached, past);
       no_more = no_more_of_same (numerator b.low *ℤ denominator b.low) (numerator b.low *ℤ denominator b.low) refl;
       bounded = h.bounded;
     })

@@ -1,5 +1,5 @@
 //! [`FlowEvaluator`], which evaluates nodes in two ways.
-ghost use Rattle.std.specs.Prelude.{◌≡◌, true, length, None, IfOk, IfSome, OnOk};
+ghost use Rattle.std.specs.Prelude.{◌≡◌, true, false, length, None, IfOk, IfSome, OnOk};
 ghost use Rattle.number_sets.specs.Sets.{has};
 ghost use Rattle.pns_rules.specs.Shape.{shape_of};
 ghost use Rattle.pns_rules.specs.Structure.{InFamily};
@@ -15,14 +15,14 @@ ghost use Rattle.tree_rules.specs.Past.{IsPastAt};
 
 use crate::answers::{bounded, proved, refuted, stopped, unproved};
 use crate::at_hand::{running_units, structure_with};
-use crate::told::{bound_between, evaluation_of};
+use crate::told::{bound_between, evaluation_of, first_look_of};
 use crate::tries::Tries;
 use branch_tree::Network;
 use certified_bounds::{Certified, CertifiedBounds};
 use dual_simplex::{Bench, Ends, entry_is_past, names_are_of_program, none_is_refuted};
 use flow_program::Program;
 use flow_rules::{refutation, relaxed_duality};
-use node_evaluation::{Evaluation, Evaluator, Proof};
+use node_evaluation::{Evaluation, Evaluator, FirstLook, LowerBound, Proof};
 use pgraph::Graph;
 use pns_problem::Problem;
 use std::alloc::{AllocError, Global};
@@ -36,7 +36,7 @@ use unit_sets::{Node, UnitSet};
 pub struct FlowEvaluator {
     certified: CertifiedBounds,
     bench: Bench,
-    // Whether the path of the node that was evaluated last was walked.
+    // Whether the path of the node that was looked at or evaluated last was walked.
     is_walked: bool,
     tries: Tries,
 }
@@ -225,6 +225,26 @@ impl FlowEvaluator {
         Ok(evaluation_of(told))
     }
 
+    /// What is told of the node without its path and without a guess, from what was noted at its first look, if anything.
+    fn certify_noted(
+        &mut self,
+        alloc: Global,
+        problem: &Problem,
+        graph: &Graph,
+        node: Node,
+        basis: &[u16],
+    ) -> Result<Option<Evaluation>, AllocError>
+        requires own { self.old.problem ≡ problem.now }
+        requires graph { shape graph.now ≡ shape_of problem.now }
+        requires sound { IsSound (shape_of problem.now) (node_of node) }
+        ensures same { self.new ≡ self.old }
+        ensures evaluated { IfOk result (λ found. IfSome found (IsEvaluated IsPastAt problem.now (node_of node) false)) }
+    {
+        self.is_walked = false;
+        let told = self.certified.settle(alloc, problem, graph, node, basis)?;
+        Ok(evaluation_of(told))
+    }
+
     /// What the path of a node tells; where it stops and not all is decided, two costs between which the least cost lies, if they are
     /// found.
     fn with_between(
@@ -266,6 +286,37 @@ impl Evaluator for FlowEvaluator {
 
     ghost past = { IsPastAt };
 
+    fn look_first(
+        &mut self,
+        alloc: Global,
+        problem: &Problem,
+        graph: &Graph,
+        node: Node,
+    ) -> Result<FirstLook, AllocError> {
+        self.make_ready(alloc, problem, graph)?;
+        self.is_walked = false;
+        let told = self.certified.look_first(alloc, problem, graph, node)?;
+        let first = first_look_of(told);
+        self.tries.keep_first(&first);
+        Ok(first)
+    }
+
+    fn settle(
+        &mut self,
+        alloc: Global,
+        problem: &Problem,
+        graph: &Graph,
+        node: Node,
+        bound: &LowerBound,
+    ) -> Result<Evaluation, AllocError> {
+        self.make_ready(alloc, problem, graph)?;
+        if let Some(evaluation) = self.certify_noted(alloc, problem, graph, node, &bound.basis)? {
+            self.tries.keep(&evaluation, false);
+            return Ok(evaluation);
+        }
+        self.evaluate(alloc, problem, graph, node, false)
+    }
+
     fn evaluate(
         &mut self,
         alloc: Global,
@@ -276,14 +327,14 @@ impl Evaluator for FlowEvaluator {
     ) -> Result<Evaluation, AllocError> {
         self.make_ready(alloc, problem, graph)?;
         if let Some(evaluation) = self.certify(alloc, problem, graph, node, decided)? {
-            self.tries.keep(&evaluation);
+            self.tries.keep(&evaluation, decided);
             return Ok(evaluation);
         }
         self.has_room();
         self.is_walked = true;
         let told = evaluate_on(alloc, problem, graph, &node, decided, &mut self.bench)?;
         let evaluation = self.with_between(alloc, problem, graph, node, decided, told)?;
-        self.tries.keep(&evaluation);
+        self.tries.keep(&evaluation, decided);
         Ok(evaluation)
     }
 

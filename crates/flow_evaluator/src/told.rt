@@ -1,13 +1,13 @@
-//! What is told of a node without its path, as an evaluation.
+//! What is told of a node without its path, as a search is told it.
 ghost use Rattle.std.specs.Prelude.{◌≡◌, Bool, Some, None, IfSome};
 ghost use Rattle.problem_rules.specs.Problem.{Problem};
 ghost use Rattle.pns_rules.specs.Nodes.{Node};
-ghost use Rattle.certified_bounds.specs.Certified.{IsCertified};
-ghost use Rattle.node_evaluation.specs.Evaluated.{IsEvaluated};
+ghost use Rattle.certified_bounds.specs.Certified.{IsCertified, IsFirstBound};
+ghost use Rattle.node_evaluation.specs.Evaluated.{IsEvaluated, IsFirstLook};
 ghost use Rattle.tree_rules.specs.Past.{IsPastAt};
 
-use certified_bounds::{Between, Certified, LeastBound};
-use node_evaluation::{Bound, Evaluation, Interval, PastStop};
+use certified_bounds::{Between, Certified, FirstBound, LeastBound};
+use node_evaluation::{Bound, Evaluation, FirstLook, Interval, LowerBound, PastStop};
 
 fn bound_of(least: LeastBound) -> Bound
     ensures { result ≡ record { value = least.value; low = least.low; scaled = least.scaled; interval = None } }
@@ -32,6 +32,21 @@ pub(crate) fn bound_between(between: Between, stop: PastStop) -> Bound
             reached: between.reached,
             stop,
         }),
+    }
+}
+
+/// What a first look tells.
+pub(crate) fn first_look_of(told: FirstBound) -> FirstLook
+    ensures { (p : Problem) (n : Node) → IsFirstBound p n told → IsFirstLook p n result }
+{
+    match told {
+        FirstBound::AtLeast(bound) => FirstLook::AtLeast(LowerBound {
+            low: bound.low,
+            scaled: bound.scaled,
+            basis: bound.basis,
+        }),
+        FirstBound::Refuted(multipliers) => FirstLook::Refuted(multipliers),
+        FirstBound::Nothing => FirstLook::Nothing,
     }
 }
 

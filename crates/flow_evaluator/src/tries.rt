@@ -1,9 +1,9 @@
 //! When the flows of a structure at hand are tried. It saves time, and nothing is promised of it.
 use mixed_numbers::Mixed;
-use node_evaluation::Evaluation;
+use node_evaluation::{Evaluation, FirstLook};
 
-/// What was told so far: what the node is worth that was evaluated last, the least cost of a network, and how many structures were tried
-/// in vain since a network was told.
+/// What was told so far: what the node is worth that was looked at last, or what it costs at least, the least cost of a network, and how
+/// many structures were tried in vain since a network was told.
 #[derive(Clone, Copy)]
 pub(crate) struct Tries {
     value: Mixed,
@@ -11,7 +11,7 @@ pub(crate) struct Tries {
     vain: u32,
     // How many leaves are still passed over.
     passed: u32,
-    // How many nodes were evaluated.
+    // How many nodes were looked at.
     nodes: u32,
 }
 
@@ -27,9 +27,24 @@ impl Tries {
         }
     }
 
-    /// Keeps what is told of a node.
-    pub(crate) fn keep(&mut self, evaluation: &Evaluation) {
+    fn count(&mut self) {
         self.nodes = self.nodes.wrapping_add(1);
+    }
+
+    /// Keeps what a first look tells of a node, which counts it.
+    pub(crate) fn keep_first(&mut self, first: &FirstLook) {
+        self.count();
+        match first {
+            FirstLook::AtLeast(bound) => self.value = bound.low,
+            FirstLook::Refuted(_) | FirstLook::Nothing => {}
+        }
+    }
+
+    /// Keeps what is told of a node. One at which not all is decided was counted at its first look.
+    pub(crate) fn keep(&mut self, evaluation: &Evaluation, decided: bool) {
+        if decided {
+            self.count();
+        }
         match evaluation {
             Evaluation::Least(bound) => self.value = bound.value,
             Evaluation::Flows(bound, _) => self.keep_cost(bound.value),
@@ -69,7 +84,7 @@ impl Tries {
         }
     }
 
-    /// Whether a structure of the node that was evaluated last is to be tried: its network may be the cheapest that was told, and the
+    /// Whether a structure of the node that was looked at last is to be tried: its network may be the cheapest that was told, and the
     /// leaf is not passed over.
     pub(crate) fn is_due(&mut self) -> bool {
         if !self.is_cheaper(self.value) {

@@ -1,5 +1,5 @@
 -- What a choice decides, and how many children it gives.
-use Rattle.std.proofs.Common.{◌≡◌, ◌≤◌, ℕ, length, refl, inl, inr, arith}
+use Rattle.std.proofs.Common.{◌≡◌, ℕ, length, refl, inl, inr, arith}
 use Rattle.problem_rules.specs.Problem.{Problem}
 use Rattle.problem_rules.specs.Validity.{IsValid}
 use Rattle.pns_rules.specs.Shape.{Shape, shape_of}

@@ -1,5 +1,5 @@
 -- What a look sees.
-use Rattle.std.proofs.Common.{◌≡◌, ℕ, true, false, List, [], ◌∷◌, Result, Ok, Err, IfOk, Option, Some, None, sym, ap, ◌∙◌, subst, arith}
+use Rattle.std.proofs.Common.{◌≡◌, ℕ, true, false, List, [], ◌∷◌, Result, Ok, Err, IfOk, Option, Some, None, refl, sym, ap, ◌∙◌, subst, arith}
 use Rattle.std.proofs.lemmas.Int.{ints}
 use Rattle.std.specs.Prelude.{is_some}
 use Rattle.integer_laws.specs.Range.{InRange, AllInRange}
@@ -9,10 +9,10 @@ use Rattle.pns_rules.specs.Shape.{Shape, IsProper, shape_of}
 use Rattle.tree_rules.specs.Known.{AreUnits, KnowsStep, KnowsLeaf, KnowsEnd}
 use Rattle.pns_rules.specs.Nodes as rules
 use Rattle.pns_rules.specs.Nodes.{after}
-use Rattle.pns_rules.specs.Ends.{IsSound, IsDecided, Leads, Stop}
+use Rattle.pns_rules.specs.Ends.{IsSound, IsReduced, IsDecided, Leads, Stop}
 use Rattle.pgraph.specs.View.{node_of}
 use Rattle.unit_sets.specs.declared.node.Node.{Node}
-use Rattle.tree_rules.specs.Tree.{leaf, StepsPass, after_all}
+use Rattle.tree_rules.specs.Tree.{End, leaf, StepsPass, after_all}
 use Rattle.tree_rules.specs.Claim.{Network, CostOver}
 use Rattle.tree_rules.specs.Leaf.{Leaf, bounded, untried, LeafPasses}
 use Rattle.neutral_extension.specs.Moves.{Extends}
@@ -24,12 +24,15 @@ use Rattle.turn_laws.proofs.GrowLemmas.{leaf_fallen}
 use Rattle.turn_laws.proofs.OrderLemmas.{under_reached, reached_more}
 use Rattle.mixed_numbers.specs.declared.number.Mixed.{Mixed}
 use Rattle.mixed_numbers.specs.OrderLaws.{denominator_positive}
+use Rattle.branch_choice.specs.declared.choice.Choice.{Choice}
+use Rattle.branch_choice.specs.Choices.{IsChoice}
 use Rattle.node_evaluation.specs.declared.evaluator.Bound.{Bound}
 use Rattle.node_evaluation.specs.declared.evaluator.Interval.{Interval}
 use Rattle.node_evaluation.specs.declared.evaluator.PastStop.{PastStop}
+use Rattle.node_evaluation.specs.declared.looks.Worth.{Worth}
 use Rattle.node_evaluation.specs.declared.looks.Looked.{Looked}
 use Rattle.node_evaluation.specs.Evaluated.{PastPlaces, cost_over, cost_in, IsWorthAs, IsBoundOf, IsNetworkOf, HasUnits}
-use Rattle.node_evaluation.specs.Looks.{is_bounded_leaf, is_bounded, cost_of, IsFoundAt, AreFoundAt, IsOpenAs, IsSameNode, IsSeen, IsLooked}
+use Rattle.node_evaluation.specs.Looks.{is_bounded_leaf, is_bounded, cost_of, IsWorthOf, IsFoundAt, AreFoundAt, IsOpenAs, IsSameNode, IsSeen, IsLooked}
 use Rattle.node_evaluation.proofs.KnownLemmas.{known_steps}
 
 -- what a lower bound is over is above 0
@@ -69,6 +72,18 @@ module _ (Past : PastPlaces) (p : Problem) (cell : Cell) (l : Looked) where
     end_known = subst (λ (c : Cell). KnowsEnd p c.end) (sym ec) (scale, multipliers);
     open_as = subst (λ (o : Option PastStop). IsOpenAs Past p (place_of l.cell) (bounded b.scaled.d b.scaled.ys) l.value l.ready o) (sym eh) (λ e. absurd (let q : bounded b.scaled.d b.scaled.ys ≡ untried = e in cc));
   }
+
+  pub seen_open : (value : Mixed) (choice : Choice) (worth : Worth) → l ≡ record { cell = cell; value = value; ready = Some (record { choice = choice; worth = worth }); network = None; stop = None }
+      → cell.end ≡ leaf untried → IsReduced (shape_of p) (place_of cell) → IsChoice (shape_of p) (place_of cell) choice → IsWorthOf Past p (place_of cell) value worth → IsSeen Past p l
+  seen_open value choice worth same untouched reduced chosen is = subst (λ (m : Looked). IsSeen Past p m) (sym same) (record {
+    what = untried;
+    end_is = untouched;
+    passes = refl;
+    found = tt;
+    bounded = sym (ap (λ (e : End Leaf). is_bounded e) untouched);
+    open_as = λ e. record { reduced = reduced; choice = chosen; worth = is };
+    end_known = subst (λ (e : End Leaf). KnowsEnd p e) (sym untouched) tt;
+  })
 
   pub seen_closed : (what : Leaf) → l.cell ≡ as_shut cell (leaf what) → l.network ≡ None → l.stop ≡ None → (what ≡ untried → ⊥) → is_bounded_leaf what ≡ false
       → LeafPasses true p None (place_of cell) what → KnowsLeaf p what → IsSeen Past p l

@@ -1,5 +1,5 @@
 -- The units that a choice decides, and the children that its options give.
-use Rattle.std.proofs.Common.{◌≡◌, ℕ, ◌<◌, ◌≤◌, Bool, not, ◌&&◌, ◌||◌, List, ap, ◌∙◌, arith}
+use Rattle.std.proofs.Common.{◌≡◌, ℕ, ◌≤◌, Bool, not, ◌&&◌, ◌||◌, List, ap, ◌∙◌, arith}
 use Rattle.number_sets.specs.Sets.{has, union, minus}
 use Rattle.number_sets.proofs.SetLemmas.{has-union, has-minus}
 use Rattle.pns_rules.specs.Shape.{Shape, IsProper}

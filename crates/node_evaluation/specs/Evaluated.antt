@@ -15,6 +15,9 @@ use Rattle.tree_rules.specs.Lean.{MayUndercut, HasCheaper}
 use Rattle.turn_laws.specs.Values.{IsValueOf, IsUnder}
 use Rattle.tree_rules.specs.Costs.{IsNoMore}
 use Rattle.node_evaluation.specs.declared.evaluator.Interval.{Interval}
+use Rattle.node_evaluation.specs.declared.evaluator.LowerBound.{LowerBound}
+use Rattle.node_evaluation.specs.declared.evaluator.FirstLook.{FirstLook}
+use Rattle.node_evaluation.specs.declared.evaluator.FirstLook.TheVariants as looks
 use Rattle.node_evaluation.specs.declared.evaluator.Bound.{Bound}
 use Rattle.node_evaluation.specs.declared.evaluator.Evaluation.{Evaluation}
 use Rattle.node_evaluation.specs.declared.evaluator.Evaluation.TheVariants.{Least, Flows, Refuted, Stopped}
@@ -32,6 +35,17 @@ cost_over m = record { cost = numerator m; d = denominator m }
 -- the cost of a network
 abbrev pub cost_in : Network → CostOver
 cost_in w = record { cost = w.cost; d = w.d }
+
+-- no relaxed flows of the node cost less than the bound, which the multipliers prove
+pub record IsLowerBoundOf (p : Problem) (n : Node) (b : LowerBound) : Type 0 where
+  pub under : IsUnder p (cost_over b.low) n
+  pub bounded : IsBounded p (Some (cost_over b.low)) n b.scaled.d b.scaled.ys
+
+-- what a first look tells of a node
+abbrev pub IsFirstLook : Problem → Node → FirstLook → Type 0
+IsFirstLook p n (looks.AtLeast b) = IsLowerBoundOf p n b
+IsFirstLook p n (looks.Refuted ys) = IsRefuted p n ys
+IsFirstLook p n looks.Nothing = Unit {0}
 
 -- the value is the least cost of relaxed flows of the node; where an interval is known, no relaxed flows cost less, some cost at most
 -- what the interval reaches, and a number of the node's program is past the range

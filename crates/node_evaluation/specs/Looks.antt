@@ -7,26 +7,42 @@ use Rattle.pns_rules.specs.Ends.{IsSound, IsReduced, IsDead, IsNever}
 use Rattle.mixed_numbers.specs.declared.number.Mixed.{Mixed}
 use Rattle.tree_rules.specs.Tree.{End, branch, leaf}
 use Rattle.tree_rules.specs.Claim.{Network, CostOver, IsFeasible}
-use Rattle.tree_rules.specs.Leaf.{Leaf, dead, clash, refuted, bounded, untried, LeafPasses}
+use Rattle.tree_rules.specs.Leaf.{Leaf, dead, clash, refuted, bounded, untried, LeafPasses, IsRefuted}
 use Rattle.tree_rules.specs.Lean.{HasCheaper}
 use Rattle.tree_rules.specs.Known.{KnowsNode, KnowsEnd}
 use Rattle.search_tree.specs.Cells.{Cell, place_of}
 use Rattle.search_tree.specs.Fits.{Follows}
 use Rattle.branch_choice.specs.Choices.{IsChoice}
 use Rattle.node_evaluation.specs.declared.evaluator.PastStop.{PastStop}
+use Rattle.node_evaluation.specs.declared.looks.Worth.{Worth}
+use Rattle.node_evaluation.specs.declared.looks.Worth.TheVariants.{AtLeast, Settled}
+use Rattle.node_evaluation.specs.declared.looks.Worth.TheVariants as worths
+use Rattle.node_evaluation.specs.declared.looks.Settling.{Settling}
+use Rattle.node_evaluation.specs.declared.looks.Settling.TheVariants as settlings
 use Rattle.node_evaluation.specs.declared.looks.Ready.{Ready}
 use Rattle.node_evaluation.specs.declared.looks.Looked.{Looked}
-use Rattle.node_evaluation.specs.Evaluated.{PastPlaces, cost_in, IsBoundOf, HasUnits}
+use Rattle.node_evaluation.specs.Evaluated.{PastPlaces, cost_in, IsLowerBoundOf, IsBoundOf, HasUnits}
 
 -- ---- an open leaf
 
--- the node is reduced, and all that its branching or shutting takes is at hand: how it is branched, and the bound, whose value is
--- the leaf's
+-- what is known of what the node is worth: the leaf's value is a lower bound of it, or just what it is worth, but where the node has no
+-- relaxed flows
+abbrev pub IsWorthOf : PastPlaces → Problem → Node → Mixed → Worth → Type 0
+IsWorthOf Past p n value (AtLeast b) = IsLowerBoundOf p n b × (b.low ≡ value)
+IsWorthOf Past p n value (Settled b) = IsBoundOf Past p n b × (b.value ≡ value)
+IsWorthOf Past p n value (worths.Refuted ys) = IsRefuted p n ys
+
+-- the node is reduced, and all that its branching or shutting takes is at hand: how it is branched, and what it is worth
 pub record IsReady (Past : PastPlaces) (p : Problem) (n : Node) (value : Mixed) (r : Ready) : Type 0 where
   pub reduced : IsReduced (shape_of p) n
   pub choice : IsChoice (shape_of p) n r.choice
-  pub bound : IsBoundOf Past p n r.bound
-  pub value_is : r.bound.value ≡ value
+  pub worth : IsWorthOf Past p n value r.worth
+
+-- what a node is worth once this is settled
+abbrev pub IsSettling : PastPlaces → Problem → Node → Settling → Type 0
+IsSettling Past p n (settlings.Least b) = IsBoundOf Past p n b
+IsSettling Past p n (settlings.Refuted ys) = IsRefuted p n ys
+IsSettling Past p n (settlings.Stopped h) = Past p n h.nonbasic h.place
 
 abbrev pub IsSomeReady : PastPlaces → Problem → Node → Mixed → Option Ready → Type 0
 IsSomeReady Past p n value None = ⊥

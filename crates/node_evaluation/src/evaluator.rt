@@ -1,10 +1,10 @@
 //! How a search comes to know the value of a node.
-ghost use Rattle.std.specs.Prelude.{◌≡◌, pos, ◌≤ℤ◌, true, IfOk, IfSome};
+ghost use Rattle.std.specs.Prelude.{◌≡◌, pos, ◌≤ℤ◌, true, false, IfOk, IfSome};
 ghost use Rattle.pns_rules.specs.Shape.{shape_of};
 ghost use Rattle.pns_rules.specs.Ends.{IsSound, IsReduced, IsDecided};
 ghost use Rattle.pgraph.specs.Tables.{shape};
 ghost use Rattle.pgraph.specs.View.{node_of};
-ghost use Rattle.node_evaluation.specs.Evaluated.{PastPlaces, IsEvaluated, IsWorth, IsProof, IsAtHand};
+ghost use Rattle.node_evaluation.specs.Evaluated.{PastPlaces, IsFirstLook, IsEvaluated, IsWorth, IsProof, IsAtHand};
 
 use branch_tree::{Columns, Multipliers, Network, Scaled};
 use flow_rules::Place;
@@ -26,6 +26,26 @@ pub struct PastStop {
 pub struct Interval {
     pub reached: Mixed,
     pub stop: PastStop,
+}
+
+/// A cost that no relaxed flows of a node undercut, and multipliers over their scale that prove so.
+#[derive(Drop)]
+pub struct LowerBound {
+    pub low: Mixed,
+    pub scaled: Scaled,
+    /// Where to begin when the worth of the node is settled, as the evaluator noted it: nothing rests on it.
+    pub basis: Vec<u16>,
+}
+
+/// What a first look tells of a node at which not all is decided.
+#[derive(Drop)]
+pub enum FirstLook {
+    /// No relaxed flows of the node cost less, if it has any.
+    AtLeast(LowerBound),
+    /// The node has no relaxed flows.
+    Refuted(Multipliers),
+    /// Nothing is told: the node is to be evaluated.
+    Nothing,
 }
 
 /// The least cost of relaxed flows, or where an interval stands, a cost that none undercut; and multipliers over their scale, which prove
@@ -64,6 +84,34 @@ pub enum Proof {
 pub trait Evaluator {
     ghost past: { PastPlaces };
 
+    /// Bounds a node that no step changes any more and at which not all is decided, and does not find what it is worth. `Err` comes for
+    /// want of memory alone.
+    fn look_first(
+        &mut self,
+        alloc: Global,
+        problem: &Problem,
+        graph: &Graph,
+        node: Node,
+    ) -> Result<FirstLook, AllocError>
+        requires graph { shape graph.now ≡ shape_of problem.now }
+        requires sound { IsSound (shape_of problem.now) (node_of node) }
+        requires reduced { IsReduced (shape_of problem.now) (node_of node) }
+        ensures { IfOk result (IsFirstLook problem.now (node_of node)) };
+
+    /// Evaluates a node that a first look bounded so. `Err` comes for want of memory alone.
+    fn settle(
+        &mut self,
+        alloc: Global,
+        problem: &Problem,
+        graph: &Graph,
+        node: Node,
+        bound: &LowerBound,
+    ) -> Result<Evaluation, AllocError>
+        requires graph { shape graph.now ≡ shape_of problem.now }
+        requires sound { IsSound (shape_of problem.now) (node_of node) }
+        requires reduced { IsReduced (shape_of problem.now) (node_of node) }
+        ensures { IfOk result (IsEvaluated past problem.now (node_of node) false) };
+
     /// Evaluates a node that no step changes any more; `decided` tells whether all is decided there.
     fn evaluate(
         &mut self,
@@ -98,7 +146,7 @@ pub trait Evaluator {
         ensures { IfOk result (IsProof past problem.now (node_of node) (record { cost = cost; d = d })) };
 
     /// A network of the units that are taken in at a node and of others that are not left out there, where one is at hand: it is asked
-    /// for where least relaxed flows of the node were told last. `None` says nothing, and `Err` comes for want of memory alone.
+    /// for where the node was looked at or evaluated last. `None` says nothing, and `Err` comes for want of memory alone.
     fn network_at_hand(
         &mut self,
         alloc: Global,
@@ -110,7 +158,7 @@ pub trait Evaluator {
         requires sound { IsSound (shape_of problem.now) (node_of node) }
         ensures { IfOk result (λ found. IfSome found (IsAtHand problem.now (node_of node))) };
 
-    /// The size of each unit that is not left out at the node evaluated last, in rising order and in whole millionths, where least
-    /// flows were found. A guide for the choice of a branch: nothing rests on it.
+    /// The size of each unit that is not left out at the node looked at or evaluated last, in rising order and in whole millionths,
+    /// where least flows were found or guessed. A guide for the choice of a branch: nothing rests on it.
     fn sizes(&self) -> &[i64];
 }

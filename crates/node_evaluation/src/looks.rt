@@ -10,11 +10,11 @@ ghost use Rattle.branch_tree.specs.View.{end_of};
 ghost use Rattle.tree_rules.specs.Known.{AreUnits};
 ghost use Rattle.neutral_extension.specs.Candidates.{AreMakersOf};
 ghost use Rattle.search_tree.specs.Growth.{as_shut};
-ghost use Rattle.node_evaluation.specs.Looks.{IsLooked, IsSameNode, IsSeen};
+ghost use Rattle.node_evaluation.specs.Looks.{IsLooked, IsSameNode, IsSeen, IsSettling};
 
-use crate::evaluator::{Bound, Evaluation, Evaluator, PastStop};
+use crate::evaluator::{Bound, Evaluation, Evaluator, FirstLook, LowerBound, PastStop};
 use branch_choice::{Choice, choose};
-use branch_tree::{End, Network, Steps};
+use branch_tree::{End, Multipliers, Network, Steps};
 use mixed_numbers::Mixed;
 use neutral_extension::{Makers, Stop, extend_with};
 use pgraph::Graph;
@@ -23,11 +23,33 @@ use search_tree::Cell;
 use std::alloc::{AllocError, Global};
 use unit_sets::{Node, UnitSet};
 
-/// What the branching or shutting of an open leaf takes: how it is branched, and the bound.
+/// What is known of what an open leaf is worth.
+#[derive(Drop)]
+pub enum Worth {
+    /// No relaxed flows cost less. What the node is worth is not settled yet, nor whether it has any.
+    AtLeast(LowerBound),
+    /// What the node is worth.
+    Settled(Bound),
+    /// The node has no relaxed flows, as turned out when its worth was to be settled.
+    Refuted(Multipliers),
+}
+
+/// What the branching or shutting of an open leaf takes: how it is branched, and what it is worth.
 #[derive(Drop)]
 pub struct Ready {
     pub choice: Choice,
-    pub bound: Bound,
+    pub worth: Worth,
+}
+
+/// What an open leaf is worth once this is settled.
+#[derive(Drop)]
+pub enum Settling {
+    /// The node has relaxed flows, and is worth this much.
+    Least(Bound),
+    /// The node has no relaxed flows.
+    Refuted(Multipliers),
+    /// A number is past the range.
+    Stopped(PastStop),
 }
 
 /// What is seen at a node.
@@ -35,7 +57,7 @@ pub struct Ready {
 pub struct Looked {
     /// The node after its steps, with its end.
     pub cell: Cell,
-    /// The value of an open leaf.
+    /// The value of an open leaf: what it is worth, or a cost below that.
     pub value: Mixed,
     /// What is at hand for an open leaf.
     pub ready: Option<Ready>,
@@ -86,6 +108,19 @@ fn solved(cell: Cell, bound: Bound, network: Network) -> Looked
     }
 }
 
+/// A leaf that stays open.
+fn opened(cell: Cell, value: Mixed, choice: Choice, worth: Worth) -> Looked
+    ensures { result ≡ record { cell = cell; value = value; ready = Some (record { choice = choice; worth = worth }); network = None; stop = None } }
+{
+    Looked {
+        cell,
+        value,
+        ready: Some(Ready { choice, worth }),
+        network: None,
+        stop: None,
+    }
+}
+
 /// Evaluates the node of an open cell.
 fn look_closer<E: Evaluator>(
     alloc: Global,
@@ -108,13 +143,8 @@ fn look_closer<E: Evaluator>(
     match evaluator.evaluate(alloc, problem, graph, cell.node, decided)? {
         Evaluation::Least(bound) => {
             let choice = choose(problem, graph, cell.node, material, evaluator.sizes());
-            Ok(Looked {
-                cell,
-                value: bound.value,
-                ready: Some(Ready { choice, bound }),
-                network: None,
-                stop: None,
-            })
+            let value = bound.value;
+            Ok(opened(cell, value, choice, Worth::Settled(bound)))
         }
         Evaluation::Flows(bound, network) => {
             bound.scaled.are_in_range();
@@ -131,6 +161,61 @@ fn look_closer<E: Evaluator>(
             network: None,
             stop: Some(stop),
         }),
+    }
+}
+
+/// Looks at the node of an open cell at which not all is decided, and evaluates it where the first look tells nothing.
+fn look_first<E: Evaluator>(
+    alloc: Global,
+    evaluator: &mut E,
+    problem: &Problem,
+    graph: &Graph,
+    cell: Cell,
+    material: u32,
+) -> Result<Looked, AllocError>
+    requires graph { shape graph.now ≡ shape_of problem.now }
+    requires sound { IsSound (shape_of problem.now) (node_of cell.node) }
+    requires reduced { IsReduced (shape_of problem.now) (node_of cell.node) }
+    requires first { IsFirst (IsUndecided (shape_of problem.now) (node_of cell.node)) material }
+    requires open { cell.end ≡ leaf untried }
+    ensures same { IfOk result (λ l. IsSameNode cell l.cell) }
+    ensures seen { IfOk result (IsSeen E.past problem.now) }
+{
+    match evaluator.look_first(alloc, problem, graph, cell.node)? {
+        FirstLook::AtLeast(bound) => {
+            let choice = choose(problem, graph, cell.node, material, evaluator.sizes());
+            let value = bound.low;
+            Ok(opened(cell, value, choice, Worth::AtLeast(bound)))
+        }
+        FirstLook::Refuted(ys) => {
+            ys.are_in_range();
+            Ok(closed(cell, End::Refuted(ys)))
+        }
+        FirstLook::Nothing => {
+            look_closer(alloc, evaluator, problem, graph, cell, material, false)
+        }
+    }
+}
+
+/// What a node is worth that a first look bounded so, or where a number is past the range. `Err` comes for want of memory alone.
+pub fn settle<E: Evaluator>(
+    alloc: Global,
+    evaluator: &mut E,
+    problem: &Problem,
+    graph: &Graph,
+    node: Node,
+    bound: &LowerBound,
+) -> Result<Settling, AllocError>
+    requires graph { shape graph.now ≡ shape_of problem.now }
+    requires sound { IsSound (shape_of problem.now) (node_of node) }
+    requires reduced { IsReduced (shape_of problem.now) (node_of node) }
+    ensures { IfOk result (IsSettling E.past problem.now (node_of node)) }
+{
+    match evaluator.settle(alloc, problem, graph, node, bound)? {
+        Evaluation::Least(bound) => Ok(Settling::Least(bound)),
+        Evaluation::Flows(_, _) => unreachable!(),
+        Evaluation::Refuted(ys) => Ok(Settling::Refuted(ys)),
+        Evaluation::Stopped(stop) => Ok(Settling::Stopped(stop)),
     }
 }
 
@@ -174,8 +259,6 @@ pub fn look<E: Evaluator>(
         Stop::Dead(material) => Ok(closed(cell, End::Dead(material))),
         Stop::Clash(exclusion) => Ok(closed(cell, End::Clash(exclusion))),
         Stop::Decided => look_closer(alloc, evaluator, problem, graph, cell, 0, true),
-        Stop::Branch(material) => {
-            look_closer(alloc, evaluator, problem, graph, cell, material, false)
-        }
+        Stop::Branch(material) => look_first(alloc, evaluator, problem, graph, cell, material),
     }
 }

@@ -13,13 +13,13 @@ use Rattle.node_evaluation.proofs.KnownLemmas.{known_dead}
 use Rattle.node_evaluation.proofs.LookLemmas.{moved, looked_ok, looked_closed}
 use Rattle.node_evaluation.proofs.looks.look.Goals as goal
 
-pub look_closer-requires-in-Branch-clause-first : goal.look_closer-requires-in-Branch-clause-first
-look_closer-requires-in-Branch-clause-first g c =
+pub look_first-requires-clause-first : goal.look_first-requires-clause-first
+look_first-requires-clause-first g c =
     let x = c.in_ok-extended.extended in
     let p = c.args.problem.now in
     let ends : EndsAt (shape_of p) (node_of x.node) (stop_of x.end) = (moved (shape c.args.graph.now) (shape_of p) c.requires.graph (node_of c.args.start) (map step_of x.steps.items) (node_of x.node) (stop_of x.end) c.in_ok-extended.ensures.extends).ends in
     let first : EndsAt (shape_of p) (node_of x.node) (branch c.in-Branch.material) = subst (λ (s : Stop). EndsAt (shape_of p) (node_of x.node) (stop_of s)) c.in-Branch.is ends in
-    λ no. subst (λ (m : Node). IsFirst (IsUndecided (shape_of p) (node_of m)) c.in-Branch.material) (sym (ap (λ (d : Cell). d.node) c.open_cell-cell.ensures)) first.1
+    subst (λ (m : Node). IsFirst (IsUndecided (shape_of p) (node_of m)) c.in-Branch.material) (sym (ap (λ (d : Cell). d.node) c.open_cell-cell.ensures)) first.1
 
 pub returns-in-Dead-clause-looked : goal.returns-in-Dead-clause-looked
 returns-in-Dead-clause-looked g c =
@@ -52,4 +52,4 @@ pub returns-in-Branch-clause-looked : goal.returns-in-Branch-clause-looked
 returns-in-Branch-clause-looked g c =
     let x = c.in_ok-extended.extended in
     looked_ok g.E.Evaluator.past c.args.problem.now (shape c.args.graph.now) c.requires.graph (node_of c.args.start) c.args.option (map step_of x.steps.items) c.from_vec.result x.node (stop_of x.end)
-    c.open_cell-cell.result (proper_if_valid c.args.problem.now c.is_valid.ensures.valid) c.requires.option c.from_vec.ensures c.open_cell-cell.ensures c.in_ok-extended.ensures.extends c.look_closer-in-Branch.result c.look_closer-in-Branch.ensures.same c.look_closer-in-Branch.ensures.seen
+    c.open_cell-cell.result (proper_if_valid c.args.problem.now c.is_valid.ensures.valid) c.requires.option c.from_vec.ensures c.open_cell-cell.ensures c.in_ok-extended.ensures.extends c.look_first.result c.look_first.ensures.same c.look_first.ensures.seen

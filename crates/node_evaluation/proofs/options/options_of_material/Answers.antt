@@ -1,4 +1,4 @@
-use Rattle.std.proofs.Common.{◌≡◌, ℕ, List, [], ◌∷◌, Option, Some, None, sym, ap₂, ◌∙◌, subst, length-append, arith}
+use Rattle.std.proofs.Common.{ℕ, List, [], ◌∷◌, Option, sym, ap₂, ◌∙◌, subst, length-append, arith}
 use Rattle.number_sets.specs.Options.{all_options}
 use Rattle.node_evaluation.proofs.OptionWalk.{IsAhead, ahead_first, ahead_next, all_done, is_between, some_left}
 use Rattle.node_evaluation.proofs.options.options_of_material.Goals as goal

@@ -1,0 +1,21 @@
+use Rattle.std.proofs.Common.{◌≡◌, Some, sym, subst}
+use Rattle.pgraph.specs.View.{node_of}
+use Rattle.tree_rules.specs.Leaf.{IsBounded}
+use Rattle.certified_bounds.specs.Certified.{cost_over, IsLowBound}
+use Rattle.certified_bounds.proofs.FractionLemmas.{over_one}
+use Rattle.certified_bounds.proofs.BoundLemmas.{bounded_under}
+use Rattle.certified_bounds.proofs.lows.first_low.Goals as goal
+
+pub returns : goal.returns
+returns c =
+    let p = c.args.problem.now in
+    let n = node_of c.args.node.now in
+    let l = c.in-Some.low in
+    let ys = c.quick_low.new.proposals in
+    let h : IsBounded p (Some (cost_over l.low)) n l.scale ys = c.in-Some.ensures in
+    let same : c.in_ok-bound.bound ≡ record { low = l.low; scaled = record { d = l.scale; ys = ys }; basis = c.in_ok-basis.basis } = c.in_ok-bound.ensures in
+    let whole : IsLowBound p n (record { low = l.low; scaled = record { d = l.scale; ys = ys }; basis = c.in_ok-basis.basis }) = record {
+      under = bounded_under c.relaxed_duality.ensures p n l.scale ys (cost_over l.low) (over_one l.low) h;
+      bounded = h;
+    } in
+    subst (IsLowBound p n) (sym same) whole
