@@ -1,52 +1,47 @@
--- What shuts the open leaves, and the tree in which all of them are shut.
-use Rattle.std.specs.Prelude.{IfSome, is_some, slice_index_or}
-use Rattle.std.proofs.Common.{◌≡◌, ◌⊎◌, ℕ, zero, suc, ◌+◌, ◌-◌, ◌^◌, ◌<◌, Bool, true, false, cond, List, [], ◌∷◌, ◌++◌, length, Option, Some, None, Result, Ok, Err, inl, inr, refl, sym, ap, ◌∙◌, subst, arith, length-append}
+-- What shuts the open leaves, node after node.
+use Rattle.std.specs.Prelude.{is_some, slice_index_or}
+use Rattle.std.specs.List.{slice_get}
+use Rattle.std.proofs.Common.{◌≡◌, ℕ, ℤ, zero, suc, ◌+◌, ◌<◌, Bool, true, false, cond, List, [], ◌∷◌, ◌++◌, length, Option, Some, None, inl, inr, refl, sym, ap, ◌∙◌, subst, arith, true≢false, length-append}
 use Rattle.std.proofs.lemmas.Bool.{cases_eq}
-use Rattle.slab.specs.Slab.{get}
+use Rattle.integer_laws.specs.Range.{InRange, AllInRange}
 use Rattle.problem_rules.specs.Problem.{Problem}
 use Rattle.pns_rules.specs.Nodes.{Node}
-use Rattle.pgraph.specs.View.{node_of}
 use Rattle.mixed_numbers.specs.declared.number.Mixed.{Mixed}
 use Rattle.mixed_numbers.specs.Number.{numerator, denominator}
-use Rattle.tree_rules.specs.Tree.{End, branch, leaf}
-use Rattle.tree_rules.specs.Leaf.{Leaf, dead, clash, refuted, bounded, untried, IsBounded}
+use Rattle.tree_rules.specs.Tree.{leaf}
+use Rattle.tree_rules.specs.Leaf.{bounded, untried, IsBounded}
 use Rattle.tree_rules.specs.Claim as claims
-use Rattle.tree_rules.specs.Claim.{CostOver, claimed_cost, IsSized}
-use Rattle.tree_rules.specs.Accepted.{Tree}
+use Rattle.tree_rules.specs.Claim.{CostOver}
 use Rattle.branch_tree.specs.Scaled.{Scaled}
-use Rattle.search_tree.specs.Cells.{Cell, place_of, cell_at}
-use Rattle.search_tree.specs.Growth.{is_open, as_shut}
-use Rattle.search_tree.specs.Preorder.{IsTreeOf}
-use Rattle.search_tree.specs.Shut.{shut_end, shut_cells}
-use Rattle.search_tree.proofs.ShutLemmas.{closed_stays, unproved_stays, proof_of, shut_length, shut_at}
+use Rattle.search_tree.specs.declared.shut.Shut.{Shut}
+use Rattle.search_tree.specs.Cells.{place_of, cell_at}
+use Rattle.search_tree.specs.Growth.{is_open}
 use Rattle.turn_laws.specs.Values.{IsPositive}
 use Rattle.tree_rules.specs.Costs.{IsNoMore}
-use Rattle.turn_laws.specs.Turns.{IsShut, AreShut}
 use Rattle.turn_laws.proofs.GrowLemmas.{leaf_fallen}
-use Rattle.turn_laws.proofs.KeptLemmas.{shutting_is_kept}
 use Rattle.turn_laws.proofs.OrderLemmas.{under_less, reached_any}
 use Rattle.node_evaluation.specs.declared.evaluator.Bound.{Bound}
-use Rattle.node_evaluation.specs.declared.evaluator.PastStop.{PastStop}
+use Rattle.node_evaluation.specs.declared.evaluator.LowerBound.{LowerBound}
 use Rattle.node_evaluation.specs.declared.evaluator.Proof.{Proof}
 use Rattle.node_evaluation.specs.declared.evaluator.Proof.TheVariants as proofs
+use Rattle.node_evaluation.specs.declared.looks.Worth.{Worth}
+use Rattle.node_evaluation.specs.declared.looks.Worth.TheVariants as worths
 use Rattle.node_evaluation.specs.declared.looks.Ready.{Ready}
 use Rattle.node_evaluation.specs.Evaluated.{PastPlaces, cost_over, cost_in, IsBoundOf, IsWorth, IsProof}
-use Rattle.node_evaluation.specs.Looks.{KnowsCell, IsReady, IsSomeReady}
-use Rattle.node_evaluation.specs.Children.{claim_with}
+use Rattle.node_evaluation.specs.Looks.{IsWorthOf, IsReady, IsSomeReady}
 use Rattle.abb_search.specs.declared.growing.Growing.{Growing}
-use Rattle.abb_search.specs.Growing.{IsTreeKept, IsGrowing, IsGrowingFor, IsStoppedAt, reached_by}
-use Rattle.abb_search.specs.Closing.{AreBeaten, ShutsLeaf, IsShutBy, ShutAll, IsInRange, hand_of, scaled_in}
-use Rattle.abb_search.specs.Found.{found_with, IsFoundBy}
-use Rattle.abb_search.proofs.EndLemmas.{whole_found}
-use Rattle.abb_search.proofs.KnownLemmas.{AreKnown, known_end}
+use Rattle.abb_search.specs.Worth.{refutation_in, refutation_of, is_settled, is_settled_worth}
+use Rattle.abb_search.specs.Growing.{ready_at, IsGrowingFor, IsSettledAt, reached_by}
+use Rattle.abb_search.specs.Closing.{AreBeaten, ProvesLeaf, RefutesLeaf, ShutsLeaf, IsShutBy, IsInRange, AreInRange, RefutedShut, hand_of, refuted_by, shut_by}
 use Rattle.abb_search.proofs.ReadyLemmas.{open_leaf, leaf_open}
 use Rattle.abb_search.proofs.WorthLemmas.{mixed_positive, worth_under, worth_reached}
 
 -- ---- one node
 
 -- multipliers whose bound reaches the network's cost prove it
-pub low_proves : {Past : PastPlaces} (p : Problem) (n : Node) (b : Bound) (w : claims.Network) → IsPositive (cost_in w) → IsBoundOf Past p n b → IsNoMore (cost_in w) (cost_over b.low) → IsBounded p (Some (cost_in w)) n b.scaled.d b.scaled.ys
-low_proves p n b w positive h le = leaf_fallen p (Some (cost_over b.low)) (Some (cost_in w)) n (bounded b.scaled.d b.scaled.ys) le (mixed_positive b.low) positive h.bounded
+pub low_proves : (p : Problem) (n : Node) (low : Mixed) (m : Scaled) (w : claims.Network) → IsPositive (cost_in w) → IsBounded p (Some (cost_over low)) n m.d m.ys → IsNoMore (cost_in w) (cost_over low)
+    → IsBounded p (Some (cost_in w)) n m.d m.ys
+low_proves p n low m w positive h le = leaf_fallen p (Some (cost_over low)) (Some (cost_in w)) n (bounded m.d m.ys) le (mixed_positive low) positive h
 
 pub is_worth : {Past : PastPlaces} (p : Problem) (n : Node) (b : Bound) (w : claims.Network) → IsPositive (cost_in w) → IsBoundOf Past p n b → IsNoMore (cost_in w) (cost_over b.value) → IsWorth p n (cost_in w)
 is_worth {Past} p n b w positive h le = record {
@@ -54,184 +49,114 @@ is_worth {Past} p n b w positive h le = record {
   under = under_less p n (cost_in w) (cost_over b.value) positive (mixed_positive b.value) le (worth_under Past p n b.value b.interval h.value);
 }
 
+-- an open leaf has at hand what stands under its key
+pub hand_there : (s : Growing) (j : ℕ) → (cell_at s.pool.payloads j).end ≡ leaf untried → hand_of s j ≡ ready_at s j
+hand_there s j e = ap (λ b. cond b (ready_at s j) None) (leaf_open (cell_at s.pool.payloads j).end e)
+
 module _ {Past : PastPlaces} {undercut : Option CostOver} (p : Problem) (s : Growing) (g : IsGrowingFor Past p undercut s) (j : ℕ) (lt : j < length s.pool.payloads) where
   pub hand_none : hand_of s j ≡ None → (cell_at s.pool.payloads j).end ≡ leaf untried → ⊥
   hand_none h e =
       let a = g.ready.each j lt e in
-      let n : get s.ready (cell_at s.pool.payloads j).key ≡ None = subst (λ b. cond b (get s.ready (cell_at s.pool.payloads j).key) None ≡ None) (leaf_open (cell_at s.pool.payloads j).end e) h in
-      subst (λ (r : Option Ready). IsSomeReady Past p (place_of (cell_at s.pool.payloads j)) a.value r) n a.some
+      subst (λ (r : Option Ready). IsSomeReady Past p (place_of (cell_at s.pool.payloads j)) a.value r) (sym (hand_there s j e) ∙ h) a.some
 
-  pub record IsKnownHand (w : claims.Network) (q : Ready) : Type 0 where
+  pub record IsKnownHand (q : Ready) : Type 0 where
     pub open_there : (cell_at s.pool.payloads j).end ≡ leaf untried
+    pub here : ready_at s j ≡ Some q
     pub value : Mixed
+    pub value_is : slice_get s.pool.values j ≡ Some value
     pub known : IsReady Past p (place_of (cell_at s.pool.payloads j)) value q
-    pub beaten : IsNoMore (cost_in w) (cost_over q.bound.value)
 
-  pub hand_some : (w : claims.Network) → AreBeaten s w → (q : Ready) → hand_of s j ≡ Some q → IsKnownHand w q
-  hand_some w b q h = by (is_open (cell_at s.pool.payloads j).end) refl h
+  pub hand_some : (q : Ready) → hand_of s j ≡ Some q → IsKnownHand q
+  hand_some q h = by (is_open (cell_at s.pool.payloads j).end) refl h
     where
-      by : (o : Bool) → is_open (cell_at s.pool.payloads j).end ≡ o → cond o (get s.ready (cell_at s.pool.payloads j).key) None ≡ Some q → IsKnownHand w q
+      by : (o : Bool) → is_open (cell_at s.pool.payloads j).end ≡ o → cond o (ready_at s j) None ≡ Some q → IsKnownHand q
       by false eo k = absurd (let z : None ≡ Some q = k in cc)
       by true eo k =
           let u = open_leaf (cell_at s.pool.payloads j).end eo in
           let a = g.ready.each j lt u in
-          let r : IsReady Past p (place_of (cell_at s.pool.payloads j)) a.value q = subst (λ (o : Option Ready). IsSomeReady Past p (place_of (cell_at s.pool.payloads j)) a.value o) k a.some in
-          record { open_there = u; value = a.value; known = r; beaten = subst (λ (v : Mixed). IsNoMore (cost_in w) (cost_over v)) (sym r.value_is) (b.each j a.value lt u a.value_is) }
+          record {
+            open_there = u;
+            here = k;
+            value = a.value;
+            value_is = a.value_is;
+            known = subst (λ (o : Option Ready). IsSomeReady Past p (place_of (cell_at s.pool.payloads j)) a.value o) k a.some;
+          }
 
-  pub shut_by : (w : claims.Network) (q : Ready) → IsKnownHand w q → (proof : Proof) → IsProof Past p (place_of (cell_at s.pool.payloads j)) (cost_in w) proof → IsInRange proof
-      → IsShutBy Past p s (cost_in w) j (Some proof)
-  shut_by w q k (proofs.Scaled m) h r = record { bounded = h; scale = r.0; multipliers = r.1 }
-  shut_by w q k (proofs.Stopped x) h r = record { there = lt; is_open = k.open_there; stopped = record { reduced = k.known.reduced; past = h } }
+  module _ (q : Ready) (k : IsKnownHand q) where
+    worth_as : (w : Worth) → q.worth ≡ w → IsWorthOf Past p (place_of (cell_at s.pool.payloads j)) k.value w
+    worth_as w e = subst (λ (x : Worth). IsWorthOf Past p (place_of (cell_at s.pool.payloads j)) k.value x) e k.known.worth
+
+    -- the network costs no more than the leaf's value where this is not refuted
+    hand_beaten : (w : claims.Network) → AreBeaten s w → refutation_in q.worth ≡ None → IsNoMore (cost_in w) (cost_over k.value)
+    hand_beaten w b lives = elim (g.are_open.others j lt k.open_there) [
+      | inl open_j ↦ b.each j k.value open_j k.value_is
+      | inr r ↦ absurd (true≢false (sym r ∙ ap (λ (o : Option (List ℤ)). is_some o) (ap refutation_of k.here ∙ lives)))
+    ]
+
+    -- a lower bound that the network's cost is at most shuts the leaf
+    pub lower_shuts : (w : claims.Network) → IsPositive (cost_in w) → AreBeaten s w → (b : LowerBound) → q.worth ≡ worths.AtLeast b → InRange b.scaled.d → AllInRange b.scaled.ys
+        → ProvesLeaf p (Some (cost_in w)) (place_of (cell_at s.pool.payloads j)) b.scaled
+    lower_shuts w positive beaten b e scale multipliers =
+        let h = worth_as (worths.AtLeast b) e in
+        let le = subst (λ (v : Mixed). IsNoMore (cost_in w) (cost_over v)) (sym h.1) (hand_beaten w beaten (ap refutation_in e)) in
+        record { bounded = low_proves p (place_of (cell_at s.pool.payloads j)) b.low b.scaled w positive h.0.bounded le; scale = scale; multipliers = multipliers }
+
+    -- so does a refutation
+    pub refuted_shuts : (ys : List ℤ) → q.worth ≡ worths.Refuted ys → AllInRange ys → RefutesLeaf p (place_of (cell_at s.pool.payloads j)) ys
+    refuted_shuts ys e multipliers = record { refuted = worth_as (worths.Refuted ys) e; multipliers = multipliers }
+
+    module _ (b : Bound) (e : q.worth ≡ worths.Settled b) where
+      pub settled_bound : IsBoundOf Past p (place_of (cell_at s.pool.payloads j)) b
+      settled_bound = (worth_as (worths.Settled b) e).0
+
+      pub settled_beaten : (w : claims.Network) → AreBeaten s w → IsNoMore (cost_in w) (cost_over b.value)
+      settled_beaten w beaten = subst (λ (v : Mixed). IsNoMore (cost_in w) (cost_over v)) (sym (worth_as (worths.Settled b) e).1) (hand_beaten w beaten (ap refutation_in e))
+
+      pub settled_there : IsSettledAt s j
+      settled_there = ap is_settled k.here ∙ ap is_settled_worth e
+
+      -- and what the evaluator proves
+      pub proof_shuts : (w : claims.Network) (proof : Proof) → IsProof Past p (place_of (cell_at s.pool.payloads j)) (cost_in w) proof → IsInRange proof → IsShutBy Past p s (cost_in w) j (shut_by proof)
+      proof_shuts w (proofs.Scaled m) h r = record { bounded = h; scale = r.0; multipliers = r.1 }
+      proof_shuts w (proofs.Stopped x) h r = (record { there = lt; is_open = k.open_there; stopped = record { reduced = k.known.reduced; past = h } }, settled_there)
 
 -- ---- node after node
 
-abbrev pub fine : Option Scaled → Result (Option Scaled) PastStop
-fine m = Ok m
-
-abbrev pub failed : PastStop → Result (Option Scaled) PastStop
-failed x = Err x
-
-fine_is : (m k : Option Scaled) → fine m ≡ fine k → m ≡ k
-fine_is m k h = cc
-
-failed_is : (x y : PastStop) → failed x ≡ failed y → x ≡ y
-failed_is x y h = cc
-
-never_both : (m : Option Scaled) (x : PastStop) → fine m ≡ failed x → ⊥
-never_both m x h = cc
-
-pub shut_ok : (Past : PastPlaces) (p : Problem) (s : Growing) (cost : CostOver) (j : ℕ) (o : Option Proof) (m : Option Scaled) → IsShutBy Past p s cost j o → scaled_in o ≡ fine m
-    → ShutsLeaf p cost (cell_at s.pool.payloads j) m
-shut_ok Past p s cost j None m h e = subst (λ (k : Option Scaled). ShutsLeaf p cost (cell_at s.pool.payloads j) k) (fine_is None m e) h
-shut_ok Past p s cost j (Some (proofs.Scaled n)) m h e = subst (λ (k : Option Scaled). ShutsLeaf p cost (cell_at s.pool.payloads j) k) (fine_is (Some n) m e) h
-shut_ok Past p s cost j (Some (proofs.Stopped x)) m h e = absurd (never_both m x (sym e))
-
-pub shut_err : (Past : PastPlaces) (p : Problem) (s : Growing) (cost : CostOver) (j : ℕ) (o : Option Proof) (x : PastStop) → IsShutBy Past p s cost j o → scaled_in o ≡ failed x → IsStoppedAt Past p s j x
-shut_err Past p s cost j None x h e = absurd (never_both None x e)
-shut_err Past p s cost j (Some (proofs.Scaled n)) x h e = absurd (never_both (Some n) x e)
-shut_err Past p s cost j (Some (proofs.Stopped y)) x h e = subst (λ (z : PastStop). IsStoppedAt Past p s j z) (failed_is y x e) h
-
-push_left : (ms : List (Option Scaled)) (m : Option Scaled) (j : ℕ) → j < length ms → slice_index_or (ms ++ m ∷ []) j None ≡ slice_index_or ms j None
+push_left : (ms : List (Option Shut)) (m : Option Shut) (j : ℕ) → j < length ms → slice_index_or (ms ++ m ∷ []) j None ≡ slice_index_or ms j None
 push_left [] m j lt = absurd (omega (arith, lt))
 push_left (x ∷ xs) m zero lt = refl
 push_left (x ∷ xs) m (suc j) lt = push_left xs m j (omega (arith, lt))
 
-push_last : (ms : List (Option Scaled)) (m : Option Scaled) → slice_index_or (ms ++ m ∷ []) (length ms) None ≡ m
+push_last : (ms : List (Option Shut)) (m : Option Shut) → slice_index_or (ms ++ m ∷ []) (length ms) None ≡ m
 push_last [] m = refl
 push_last (x ∷ xs) m = push_last xs m
 
--- the first nodes are shut by these
-abbrev pub AreShutBelow : Problem → Growing → CostOver → List (Option Scaled) → ℕ → Type 0
-AreShutBelow p s cost ms i = (length ms ≡ i) × ((j : ℕ) → j < i → ShutsLeaf p cost (cell_at s.pool.payloads j) (slice_index_or ms j None))
+-- P holds of what stands at the first numbers
+abbrev pub AreSoBelow : (ℕ → Option Shut → Type 0) → List (Option Shut) → ℕ → Type 0
+AreSoBelow P ms i = (length ms ≡ i) × ((j : ℕ) → j < i → P j (slice_index_or ms j None))
 
-pub below_first : (p : Problem) (s : Growing) (cost : CostOver) (ms : List (Option Scaled)) → ms ≡ [] → AreShutBelow p s cost ms 0
-below_first p s cost ms e = (ap (λ (xs : List (Option Scaled)). length xs) e, λ j lt. absurd (omega (arith, lt)))
+module _ (P : ℕ → Option Shut → Type 0) where
+  pub below_first : (ms : List (Option Shut)) → ms ≡ [] → AreSoBelow P ms 0
+  below_first ms e = (ap (λ (xs : List (Option Shut)). length xs) e, λ j lt. absurd (omega (arith, lt)))
 
-pub below_next : (p : Problem) (s : Growing) (cost : CostOver) (ms ns : List (Option Scaled)) (m : Option Scaled) (i : ℕ) → AreShutBelow p s cost ms i → ShutsLeaf p cost (cell_at s.pool.payloads i) m → ns ≡ ms ++ m ∷ []
-    → AreShutBelow p s cost ns (i + 1)
-below_next p s cost ms ns m i h k e = (
-  (let a = ap (λ (xs : List (Option Scaled)). length xs) e in let b = length-append ms (m ∷ []) in let c = h.0 in omega (arith, a, b, c)),
-  λ j lt. subst (λ (xs : List (Option Scaled)). ShutsLeaf p cost (cell_at s.pool.payloads j) (slice_index_or xs j None)) (sym e) (elim (cases_eq j i) [
-    | inl same ↦ subst (λ u. ShutsLeaf p cost (cell_at s.pool.payloads u) (slice_index_or (ms ++ m ∷ []) u None)) (sym same)
-        (subst (λ (o : Option Scaled). ShutsLeaf p cost (cell_at s.pool.payloads i) o) (sym (ap (λ u. slice_index_or (ms ++ m ∷ []) u None) (sym h.0) ∙ push_last ms m)) k)
-    | inr ne ↦
-        let less : j < i = omega (arith, lt, ne) in
-        subst (λ (o : Option Scaled). ShutsLeaf p cost (cell_at s.pool.payloads j) o) (sym (push_left ms m j (let a = h.0 in omega (arith, a, less)))) (h.1 j less)
-  ]),
-)
+  pub below_next : (ms ns : List (Option Shut)) (m : Option Shut) (i : ℕ) → AreSoBelow P ms i → P i m → ns ≡ ms ++ m ∷ [] → AreSoBelow P ns (i + 1)
+  below_next ms ns m i h k e = (
+    (let a = ap (λ (xs : List (Option Shut)). length xs) e in let b = length-append ms (m ∷ []) in let c = h.0 in omega (arith, a, b, c)),
+    λ j lt. subst (λ (xs : List (Option Shut)). P j (slice_index_or xs j None)) (sym e) (elim (cases_eq j i) [
+      | inl same ↦ subst (λ u. P u (slice_index_or (ms ++ m ∷ []) u None)) (sym same) (subst (λ (o : Option Shut). P i o) (sym (ap (λ u. slice_index_or (ms ++ m ∷ []) u None) (sym h.0) ∙ push_last ms m)) k)
+      | inr ne ↦
+          let less : j < i = omega (arith, lt, ne) in
+          subst (λ (o : Option Shut). P j o) (sym (push_left ms m j (let a = h.0 in omega (arith, a, less)))) (h.1 j less)
+    ]),
+  )
 
--- ---- the tree in which all are shut
+-- what shuts each node against a cost, and what shuts it where it is refuted
+abbrev pub ShutsAt : Problem → Growing → CostOver → ℕ → Option Shut → Type 0
+ShutsAt p s cost j m = ShutsLeaf p (Some cost) (cell_at s.pool.payloads j) m
 
-no_open : (m : Scaled) (e : End Leaf) → shut_end (Some m) e ≡ leaf untried → ⊥
-no_open m (branch w) h = let q : branch w ≡ leaf untried = h in cc
-no_open m (leaf (dead x)) h = let q : leaf (dead x) ≡ leaf untried = h in cc
-no_open m (leaf (clash k)) h = let q : leaf (clash k) ≡ leaf untried = h in cc
-no_open m (leaf (refuted ys)) h = let q : leaf (refuted ys) ≡ leaf untried = h in cc
-no_open m (leaf (bounded d ys)) h = let q : leaf (bounded d ys) ≡ leaf untried = h in cc
-no_open m (leaf untried) h = let q : leaf (bounded m.d m.ys) ≡ leaf untried = h in cc
+abbrev pub RefutesAt : Growing → ℕ → Option Shut → Type 0
+RefutesAt s j m = (m ≡ refuted_by (refutation_of (hand_of s j))) × AreInRange (refutation_of (hand_of s j))
 
-module _ {Past : PastPlaces} (p : Problem) (s : Growing) (g : IsGrowing Past p s) (w : claims.Network) (best_is : s.best ≡ Some w) (ms : List (Option Scaled)) (all : ShutAll p s (cost_in w) ms) where
-  claimed_is : claimed_cost (claim_with s.best) ≡ Some (cost_in w)
-  claimed_is = ap (λ (o : Option claims.Network). claimed_cost (claim_with o)) best_is
-
-  within : (j : ℕ) → j < length (shut_cells ms s.pool.payloads) → j < length s.pool.payloads
-  within j lt = let e = shut_length ms s.pool.payloads in omega (arith, lt, e)
-
-  -- what becomes of one cell
-  abbrev Becomes : Cell → Option Scaled → Type 0
-  Becomes c o = (as_shut c (shut_end o c.end) ≡ c) ⊎ IsShut p (claimed_cost (claim_with s.best)) c (as_shut c (shut_end o c.end))
-
-  becomes : (c : Cell) (o : Option Scaled) → ShutsLeaf p (cost_in w) c o → Becomes c o
-  becomes c None h = inl (ap (λ (e : End Leaf). as_shut c e) (unproved_stays c.end))
-  becomes c (Some m) h = by (is_open c.end) refl
-    where
-      by : (b : Bool) → is_open c.end ≡ b → Becomes c (Some m)
-      by false e = inl (ap (λ (k : End Leaf). as_shut c k) (closed_stays m c.end e))
-      by true e =
-          let u = open_leaf c.end e in
-          inr (record {
-            was_open = u;
-            what = bounded m.d m.ys;
-            shut = λ (q : bounded m.d m.ys ≡ untried). cc;
-            passes = subst (λ (o : Option CostOver). IsBounded p o (place_of c) m.d m.ys) (sym claimed_is) h.bounded;
-            key = c.key;
-            new_is = ap (λ (k : End Leaf). as_shut c (shut_end (Some m) k)) u;
-          })
-
-  are_shut : AreShut p (claimed_cost (claim_with s.best)) s.pool.payloads (shut_cells ms s.pool.payloads)
-  are_shut = record {
-    len = shut_length ms s.pool.payloads;
-    each = λ j lt. subst (λ (d : Cell). (d ≡ cell_at s.pool.payloads j) ⊎ IsShut p (claimed_cost (claim_with s.best)) (cell_at s.pool.payloads j) d) (sym (shut_at ms s.pool.payloads j lt))
-        (becomes (cell_at s.pool.payloads j) (proof_of ms j) (all j lt));
-  }
-
-  pub none_open : (j : ℕ) → j < length (shut_cells ms s.pool.payloads) → (cell_at (shut_cells ms s.pool.payloads) j).end ≡ leaf untried → ⊥
-  none_open j lt e =
-      by (proof_of ms j) (all j (within j lt)) (ap (λ (c : Cell). c.end) (sym (shut_at ms s.pool.payloads j (within j lt))) ∙ e)
-    where
-      by : (o : Option Scaled) → ShutsLeaf p (cost_in w) (cell_at s.pool.payloads j) o → shut_end o (cell_at s.pool.payloads j).end ≡ leaf untried → ⊥
-      by None h k = h (sym (unproved_stays (cell_at s.pool.payloads j).end) ∙ k)
-      by (Some m) h k = no_open m (cell_at s.pool.payloads j).end k
-
-  known_shut : AreKnown p (shut_cells ms s.pool.payloads)
-  known_shut j lt =
-      subst (λ (c : Cell). KnowsCell p c) (sym (shut_at ms s.pool.payloads j (within j lt))) (by (proof_of ms j) (all j (within j lt)))
-    where
-      by : (o : Option Scaled) → ShutsLeaf p (cost_in w) (cell_at s.pool.payloads j) o → KnowsCell p (as_shut (cell_at s.pool.payloads j) (shut_end o (cell_at s.pool.payloads j).end))
-      by None h = subst (λ (e : End Leaf). KnowsCell p (as_shut (cell_at s.pool.payloads j) e)) (sym (unproved_stays (cell_at s.pool.payloads j).end))
-          (known_end p (cell_at s.pool.payloads j) (as_shut (cell_at s.pool.payloads j) (cell_at s.pool.payloads j).end) (g.tree.known j (within j lt)) refl refl (g.tree.known j (within j lt)).end)
-      by (Some m) h = closing (is_open (cell_at s.pool.payloads j).end) refl
-        where
-          closing : (b : Bool) → is_open (cell_at s.pool.payloads j).end ≡ b → KnowsCell p (as_shut (cell_at s.pool.payloads j) (shut_end (Some m) (cell_at s.pool.payloads j).end))
-          closing false e = subst (λ (k : End Leaf). KnowsCell p (as_shut (cell_at s.pool.payloads j) k)) (sym (closed_stays m (cell_at s.pool.payloads j).end e))
-              (known_end p (cell_at s.pool.payloads j) (as_shut (cell_at s.pool.payloads j) (cell_at s.pool.payloads j).end) (g.tree.known j (within j lt)) refl refl (g.tree.known j (within j lt)).end)
-          closing true e = subst (λ (k : End Leaf). KnowsCell p (as_shut (cell_at s.pool.payloads j) (shut_end (Some m) k))) (sym (open_leaf (cell_at s.pool.payloads j).end e))
-              (known_end p (cell_at s.pool.payloads j) (as_shut (cell_at s.pool.payloads j) (leaf (bounded m.d m.ys))) (g.tree.known j (within j lt)) refl refl (h.scale, h.multipliers))
-
-  -- the search with these nodes
-  abbrev closed : Growing
-  closed = record {
-    start = s.start;
-    budget = s.budget;
-    nodes = s.nodes;
-    pool = record { parents = s.pool.parents; values = s.pool.values; payloads = shut_cells ms s.pool.payloads; leaves = s.pool.leaves; spare = s.pool.spare };
-    ready = s.ready;
-    best = s.best;
-    stop = s.stop;
-  }
-
-  closed_tree : IsTreeKept p closed
-  closed_tree = record {
-    last = g.tree.last;
-    kept = shutting_is_kept p (node_of s.start) (claim_with s.best) (claimed_cost (claim_with s.best)) g.tree.last s.pool.payloads (shut_cells ms s.pool.payloads) g.tree.kept are_shut;
-    passes = g.tree.passes;
-    bounded = λ b. ap (λ (o : Option claims.Network). is_some o) best_is;
-    known = known_shut;
-    counted = let a = g.tree.counted in let e = shut_length ms s.pool.payloads in omega (arith, a, e);
-    few = let a = g.tree.few in let e = shut_length ms s.pool.payloads in omega (arith, a, e);
-    numbered = subst (λ n. n < 2 ^ 32 - 1) (sym (shut_length ms s.pool.payloads)) g.tree.numbered;
-  }
-
-  pub closed_found : (place : ℕ) (tree : Tree) → IsTreeOf (shut_cells ms s.pool.payloads) 0 tree place → IfSome s.best IsSized → (budget : ℕ)
-      → IsFoundBy Past p (node_of s.start) budget (found_with s.best tree)
-  closed_found place tree of sized budget = whole_found p closed closed_tree 0 place tree of sized Past budget s.start refl none_open
+-- nothing is refuted
+pub none_refuted : (s : Growing) → ((j : ℕ) → j < length s.pool.payloads → refutation_of (hand_of s j) ≡ None) → (ms : List (Option Shut)) → ms ≡ [] → RefutedShut s ms
+none_refuted s h ms e j lt = subst (λ (o : Option (List ℤ)). (slice_index_or ms j None ≡ refuted_by o) × AreInRange o) (sym (h j lt)) (ap (λ (xs : List (Option Shut)). slice_index_or xs j None) e, tt)

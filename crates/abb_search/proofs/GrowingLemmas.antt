@@ -1,7 +1,8 @@
 -- What a look at all children does to the nodes, where a leaf is branched.
 use Rattle.std.proofs.Common.{◌≡◌, ◌⊎◌, ℕ, zero, suc, drop, ◌+◌, ◌-◌, ◌^◌, ◌<◌, ◌≤◌, max, ◌||◌, subst, List, [], ◌∷◌, ◌++◌, length, reverse, slice_set, Option, Some, None, refl, sym, ap, ◌∙◌, arith}
 use Rattle.std.specs.Prelude.{MatchOption, is_some}
-use Rattle.std.proofs.lemmas.List.{reverse-append, length-set, length-map, length-reverse, reverse-reverse}
+use Rattle.std.proofs.lemmas.List.{reverse-append, length-set, length-map, reverse-reverse}
+use Rattle.link_lists.specs.Lists.{has}
 use Rattle.problem_rules.specs.Problem.{Problem}
 use Rattle.pns_rules.specs.Shape.{shape_of}
 use Rattle.pns_rules.specs.Nodes.{Node}
@@ -12,7 +13,7 @@ use Rattle.tree_rules.specs.Costs.{HasFallen}
 use Rattle.node_evaluation.specs.Looks.{cost_of}
 use Rattle.tree_rules.specs.Claim as claims
 use Rattle.search_tree.specs.Cells.{Cell, cell_at}
-use Rattle.search_tree.specs.Growth.{AreOpen, as_parent, cells_in_turn, values_in_turn}
+use Rattle.search_tree.specs.Growth.{AreOpenAfter, as_parent, cells_in_turn, values_in_turn}
 use Rattle.search_tree.specs.declared.growth.Fresh.{Fresh}
 use Rattle.node_pool.specs.Pooled.{Pooled, AreSameNodes}
 use Rattle.node_evaluation.specs.declared.looks.Ready.{Ready}
@@ -66,7 +67,7 @@ pub branching : (Past : PastPlaces) (p : Problem) (n : Node) (old new : Growing)
     → new.pool.payloads ≡ slice_set mid.payloads at (as_parent (cell_at mid.payloads at) first (branch w)) ++ cells_in_turn placed
     → new.pool.values ≡ mid.values ++ values_in_turn placed
     → (new.best ≡ old.best) ⊎ (new.best ≡ c.best) → HasFallen (cost_of old.best) (cost_of new.best) → HasFallen (cost_of c.best) (cost_of new.best)
-    → is_some new.best ≡ (is_some old.best || is_some c.best) → length old.pool.payloads + length c.nodes.items < 2 ^ 32 - 1 → new.nodes ≡ old.nodes + length c.nodes.items → AreOpen new.pool
+    → is_some new.best ≡ (is_some old.best || is_some c.best) → length old.pool.payloads + length c.nodes.items < 2 ^ 32 - 1 → new.nodes ≡ old.nodes + length c.nodes.items → AreOpenAfter mid new.pool at
     → new.start ≡ old.start → new.budget ≡ old.budget → new.stop ≡ stop_at first c.stop → IsBranching Past p n old new at w
 branching Past p n old new at w c mid placed freed first seen wide same ef frees are_placed ec ev which fallen fallen_found some_best numbered en ao es eu eh = record {
   seen = c;
@@ -87,7 +88,11 @@ branching Past p n old new at w c mid placed freed first seen wide same ef frees
   some_best = some_best;
   nodes = en ∙ ap (λ k. old.nodes + k) many;
   numbered = subst (λ k. length old.pool.payloads + k < 2 ^ 32 - 1) many numbered;
-  are_open = ao;
+  open_after = record {
+    shut = ao.shut;
+    others = λ j lt ne. ao.others j (subst (λ (cs : List Cell). j < length cs) (sym same.payloads) lt) ne ∙ ap (λ (ls : List ℕ). has ls j) same.leaves;
+    fresh = λ j le lt. ao.fresh j (subst (λ (cs : List Cell). length cs ≤ j) (sym same.payloads) le) lt;
+  };
   start = es;
   budget = eu;
   stop = eh ∙ ap (λ k. stop_at k c.stop) ef;

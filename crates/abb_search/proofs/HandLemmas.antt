@@ -17,10 +17,12 @@ use Rattle.search_tree.specs.Cells.{Cell, no_cell, place_of, cell_at}
 use Rattle.search_tree.specs.Growth.{is_open}
 use Rattle.search_tree.specs.declared.growth.Fresh.{Fresh}
 use Rattle.turn_laws.specs.Turns.{IsFreshChild, AreChildren}
+use Rattle.node_evaluation.specs.declared.looks.Worth.{Worth}
 use Rattle.node_evaluation.specs.declared.looks.Ready.{Ready}
 use Rattle.node_evaluation.specs.Evaluated.{PastPlaces}
 use Rattle.node_evaluation.specs.Looks.{is_bounded, has_bounded, KnowsCell, IsSomeReady}
 use Rattle.node_evaluation.specs.Children.{cells_of, values_of, AreReady, IsSolvedBy, AreSolvedBy}
+use Rattle.abb_search.specs.Worth.{with_worth}
 use Rattle.abb_search.specs.Hand.{IsAtHand, AreAtHand, with_key, IsPlaced, ArePlaced}
 use Rattle.abb_search.proofs.ReadyLemmas.{not_untried}
 
@@ -406,3 +408,17 @@ solved_placed p (f ∷ fs) [] rs before after ws h s = absurd h
 solved_placed p (f ∷ fs) (g ∷ gs) [] before after ws h s = absurd h
 solved_placed p (f ∷ fs) (g ∷ gs) (r ∷ rs) before after [] h s = absurd s
 solved_placed p (f ∷ fs) (g ∷ gs) (r ∷ rs) before after (w ∷ ws) h s = (solved_one p f g r h.0 after w h.2 s.0, solved_placed p fs gs rs before h.0 ws h.1 s.1)
+
+-- ---- another worth is at hand
+
+-- what was taken out and put back with another worth
+pub worth_put : (before mid after : Slab Ready) (key back : ℕ) (w : Worth) (r : Ready) → get before key ≡ Some r → Updates before mid key None → back ≡ key
+    → Updates mid after back (Some (record { choice = r.choice; worth = w })) → Updates before after key (with_worth w (get before key))
+worth_put before mid after key back w r is taken same put = record {
+  changed = ap (λ k. get after k) (sym same) ∙ (put.changed ∙ ap (λ (o : Option Ready). with_worth w o) (sym is));
+  others = λ k ne. put.others k (λ e. ne (e ∙ same)) ∙ taken.others k ne;
+}
+
+-- nothing was there
+pub nothing_put : (before : Slab Ready) (key : ℕ) (w : Worth) → get before key ≡ None → Updates before before key (with_worth w (get before key))
+nothing_put before key w none = record { changed = none ∙ ap (λ (o : Option Ready). with_worth w o) (sym none); others = λ k ne. refl }

@@ -4,13 +4,12 @@ use Rattle.std.proofs.Common.{◌≡◌, ℕ, ◌+◌, ◌-◌, ◌^◌, ◌<◌
 use Rattle.std.specs.Prelude.{IfSome}
 use Rattle.std.proofs.lemmas.Bool.{cases_eq, cases_lt}
 use Rattle.std.proofs.lemmas.List.{get_or_append_left, get_or-append-add, get_or-set_same, get_or-set_other, length-set, length-map}
-use Rattle.number_sets.specs.Sets.{has, IsSet}
 use Rattle.number_sets.proofs.SetLemmas.{below_from}
 use Rattle.problem_rules.specs.Each.{Each}
 use Rattle.problem_rules.specs.Problem.{Problem}
 use Rattle.tree_rules.specs.Claim as claims
 use Rattle.tree_rules.specs.Claim.{ClaimPasses, IsSized}
-use Rattle.tree_rules.specs.Tree.{End, branch, leaf}
+use Rattle.tree_rules.specs.Tree.{End, leaf}
 use Rattle.tree_rules.specs.Leaf.{Leaf, untried}
 use Rattle.tree_rules.specs.Known.{KnowsNode, KnowsEnd, KnowsTree, KnowsClaim}
 use Rattle.search_tree.specs.Cells.{Cell, no_cell, cell_at, children_at, IsLinked}

@@ -5,6 +5,10 @@ pub mod HandLemmas
 pub mod KnownLemmas
 pub mod ReadyLemmas
 pub mod RootLemmas
+pub mod SameLemmas
+pub mod SettleLemmas
+pub mod ShutTreeLemmas
+pub mod SpentLemmas
 pub mod StepLemmas
 pub mod TurnLemmas
 pub mod WorthLemmas

@@ -1,6 +1,6 @@
 -- What the tree of a root is, before it is looked at and after.
 use Rattle.std.specs.Prelude.{is_some}
-use Rattle.std.proofs.Common.{◌≡◌, ◌⊎◌, inl, inr, ℕ, ◌≤◌, Bool, true, false, ◌||◌, List, [], ◌∷◌, length, Option, Some, None, refl, sym, ap, ◌∙◌, subst, arith, true≢false}
+use Rattle.std.proofs.Common.{◌≡◌, ◌⊎◌, inl, inr, ℕ, ◌≤◌, Bool, true, false, cond, ◌||◌, List, [], ◌∷◌, length, Option, Some, None, refl, sym, ap, ◌∙◌, subst, arith, true≢false}
 use Rattle.problem_rules.specs.Problem.{Problem}
 use Rattle.pns_rules.specs.Shape.{shape_of}
 use Rattle.pns_rules.specs.Nodes.{Node}
@@ -14,6 +14,8 @@ use Rattle.tree_rules.specs.Claim.{CostOver, claimed_cost, ClaimPasses}
 use Rattle.tree_rules.specs.Leaf.{Leaf, dead, clash, refuted, bounded, untried, LeafPasses}
 use Rattle.search_tree.specs.Cells.{Cell, place_of, cell_at, AreBehind}
 use Rattle.search_tree.specs.Fits.{Follows, EndFits}
+use Rattle.search_tree.specs.Growth.{is_open}
+use Rattle.link_lists.specs.Lists.{has}
 use Rattle.std.proofs.lemmas.Bool.{or_right}
 use Rattle.turn_laws.specs.Values.{IsPositiveCost}
 use Rattle.turn_laws.proofs.GrowLemmas.{leaf_fallen}
@@ -27,8 +29,9 @@ use Rattle.abb_search.specs.Hand.{AreAtHand, with_key}
 use Rattle.abb_search.proofs.HandLemmas.{IsSameChild, child_same, hand_more}
 use Rattle.abb_search.specs.declared.growing.Growing.{Growing}
 use Rattle.abb_search.specs.declared.growing.StoppedLeaf.{StoppedLeaf}
-use Rattle.abb_search.specs.Growing.{IsTreeKept, IsGrowing, GoesOn, open_cell, IsOpenRoot, root_stop, IsLookedRoot, IsStoppedAt}
+use Rattle.abb_search.specs.Growing.{IsTreeKept, AreOpen, IsGrowing, GoesOn, open_cell, IsOpenRoot, root_stop, IsLookedRoot, IsStoppedAt}
 use Rattle.abb_search.proofs.KnownLemmas.{AreKnown}
+use Rattle.abb_search.proofs.ReadyLemmas.{open_leaf, leaf_open}
 
 or_nothing : (b : Bool) → b ≡ (b || false)
 or_nothing true = refl
@@ -134,10 +137,32 @@ module _ (Past : PastPlaces) (p : Problem) (start : starts.Node) (budget : ℕ) 
   nothing_at_hand : AreAtHand Past p [] [] h.empty
   nothing_at_hand = record { as_many = refl; each = λ j lt e. absurd (omega (arith, lt)); apart = λ i j li lj ei ej q. absurd (omega (arith, li)) }
 
+  one_cell : length s.pool.payloads ≡ 1
+  one_cell = ap (λ (cs : List Cell). length cs) cells_now
+
+  root_open : AreOpen s
+  root_open = record {
+    opens = λ j lt l.
+        let z : j ≡ 0 = let n = one_cell in omega (arith, lt, n) in
+        subst (λ i. (cell_at s.pool.payloads i).end ≡ leaf untried) (sym z) (subst (λ (cs : List Cell). (cell_at cs 0).end ≡ leaf untried) (sym h.cells_are)
+        (open_root (is_open h.root.cell.end) refl (subst (λ i. has s.pool.leaves i ≡ true) z l)));
+    others = λ j lt e.
+        let z : j ≡ 0 = let n = one_cell in omega (arith, lt, n) in
+        inl (subst (λ i. has s.pool.leaves i ≡ true) (sym z)
+        (root_listed (subst (λ (cs : List Cell). (cell_at cs 0).end ≡ leaf untried) h.cells_are (subst (λ i. (cell_at s.pool.payloads i).end ≡ leaf untried) z e))));
+  }
+    where
+      open_root : (b : Bool) → is_open h.root.cell.end ≡ b → has s.pool.leaves 0 ≡ true → h.root.cell.end ≡ leaf untried
+      open_root true e l = open_leaf h.root.cell.end e
+      open_root false e l = absurd (true≢false (sym l ∙ ap (λ (ls : List ℕ). has ls 0) (h.leaves_are ∙ ap (λ b. cond b (0 ∷ []) []) e)))
+
+      root_listed : h.root.cell.end ≡ leaf untried → has s.pool.leaves 0 ≡ true
+      root_listed e = ap (λ (ls : List ℕ). has ls 0) (h.leaves_are ∙ ap (λ b. cond b (0 ∷ []) []) (leaf_open h.root.cell.end e))
+
   root_grows : h.looked.stop ≡ None → IsGrowing Past p s
   root_grows eh = record {
     tree = root_tree;
-    are_open = h.are_open;
+    are_open = root_open;
     ready = subst (λ (cs : List Cell). AreAtHand Past p cs s.pool.values s.ready) (sym h.cells_are)
         (subst (λ (vs : List Mixed). AreAtHand Past p (h.root.cell ∷ []) vs s.ready) (sym h.values_are)
         (hand_more Past p [] [] h.empty s.ready nothing_at_hand (record { cell = h.looked.cell; value = h.looked.value } ∷ []) (h.root ∷ []) (h.looked.ready ∷ []) (h.empty, refl, h.placed) (

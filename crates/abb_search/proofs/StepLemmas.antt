@@ -1,16 +1,11 @@
 -- What a turn leads to, from what its parts do.
-use Rattle.std.specs.Prelude.{is_some}
-use Rattle.std.proofs.Common.{◌≡◌, ℕ, ◌-◌, ◌^◌, ◌<◌, Bool, true, false, List, length, Option, Some, None, refl, sym, ap, ◌∙◌, subst, arith}
-use Rattle.link_lists.specs.Lists.{has}
+use Rattle.std.proofs.Common.{◌≡◌, ℕ, ◌<◌, Bool, true, false, List, length, Option, Some, None, refl, sym, ap, ◌∙◌, subst, arith}
 use Rattle.problem_rules.specs.Problem.{Problem}
 use Rattle.pns_rules.specs.Shape.{Shape, shape_of}
 use Rattle.pns_rules.specs.Ends.{IsSound}
 use Rattle.pgraph.specs.View.{node_of}
 use Rattle.neutral_extension.specs.Candidates.{AreMakersOf}
 use Rattle.unit_sets.specs.declared.node.Node as starts
-use Rattle.mixed_numbers.specs.declared.number.Mixed.{Mixed}
-use Rattle.tree_rules.specs.Tree.{leaf}
-use Rattle.tree_rules.specs.Leaf.{untried}
 use Rattle.tree_rules.specs.Claim as claims
 use Rattle.tree_rules.specs.Claim.{CostOver, ClaimPasses}
 use Rattle.std.proofs.lemmas.Int.{ints}
@@ -20,28 +15,24 @@ use Rattle.turn_laws.proofs.FractionLemmas.{fraction_trans}
 use Rattle.pns_rules.specs.Nodes.{Node}
 use Rattle.tree_rules.specs.Accepted.{Tree}
 use Rattle.node_pool.specs.Pooled.{Pooled}
-use Rattle.search_tree.specs.Cells.{Cell, place_of, cell_at, IsLinked}
+use Rattle.search_tree.specs.Cells.{Cell, IsLinked}
 use Rattle.search_tree.specs.Preorder.{IsTreeOf, node_at}
 use Rattle.search_tree.proofs.CountLemmas.{preorder_has_all}
 use Rattle.std.proofs.lemmas.List.{length-map}
-use Rattle.search_tree.specs.Growth.{is_open, AreOpen}
-use Rattle.turn_laws.specs.Kept.{IsKept, IsKeptFor}
-use Rattle.node_evaluation.specs.declared.evaluator.PastStop.{PastStop}
 use Rattle.node_evaluation.specs.Evaluated.{PastPlaces, cost_in}
-use Rattle.node_evaluation.specs.Looks.{has_bounded, cost_of, IsStop}
+use Rattle.node_evaluation.specs.Looks.{cost_of}
 use Rattle.node_evaluation.specs.Children.{claim_with, IsBest}
 use Rattle.node_evaluation.proofs.ChildLemmas.{cost_is}
-use Rattle.abb_search.specs.Hand.{AreAtHand}
-use Rattle.abb_search.proofs.HandLemmas.{hand_same}
 use Rattle.abb_search.specs.declared.outcome.Found.{Found}
 use Rattle.abb_search.specs.declared.outcome.Found.TheVariants as founds
 use Rattle.abb_search.specs.declared.growing.Growing.{Growing}
 use Rattle.abb_search.specs.declared.growing.StoppedLeaf.{StoppedLeaf}
-use Rattle.abb_search.specs.Growing.{IsTreeKept, IsTreeKeptFor, IsGrowing, leaf_of, IsStoppedAt, GoesOn, IsGoing, IsSame, IsSameButHand}
+use Rattle.abb_search.specs.Growing.{IsTreeKept, IsTreeKeptFor, leaf_of, GoesOn, IsGoing, IsSame, IsSameButHand}
+use Rattle.abb_search.specs.Settling.{SettleHolds}
 use Rattle.abb_search.specs.Found.{IsFoundBy, found_with}
-use Rattle.abb_search.specs.Answers.{network_in, IsAgainst, IsMore, IsEnd, StepHolds}
+use Rattle.abb_search.specs.Answers.{network_in, IsAgainst, IsMore, IsEnd, StepHolds, settled_round, RoundHolds}
 use Rattle.abb_search.specs.Searched.{Searched, IsSameSearch, AreNodesOf, StandsAt, IsSearching}
-use Rattle.abb_search.proofs.KnownLemmas.{AreKnown}
+use Rattle.abb_search.proofs.SameLemmas.{kept_same, tree_same, stands_same}
 
 -- ---- a leaf that stops the search
 
@@ -163,65 +154,22 @@ step_from Past p old root new (Some found) h es eu el po pr fallen = record {
   budget = h.budget ∙ eu;
 }
 
--- ---- only the room that stands ready changed
+-- ---- the nodes and the best network stayed
 
-module _ (Past : PastPlaces) (p : Problem) (s n : Growing) (e : IsSame s n) where
-  tree_same : IsTreeKept p s → IsTreeKept p n
-  tree_same t = record {
-    last = t.last;
-    kept = subst (λ (cs : List Cell). IsKept p (node_of n.start) (claim_with n.best) t.last cs) (sym e.pool.payloads)
-        (subst (λ (w : Option claims.Network). IsKept p (node_of n.start) (claim_with w) t.last s.pool.payloads) (sym e.best)
-        (subst (λ (m : starts.Node). IsKept p (node_of m) (claim_with s.best) t.last s.pool.payloads) (sym e.start) t.kept));
-    passes = subst (λ (w : Option claims.Network). ClaimPasses true p (claim_with w)) (sym e.best) t.passes;
-    bounded = λ b. ap (λ (w : Option claims.Network). is_some w) e.best ∙ t.bounded (ap (λ (cs : List Cell). has_bounded cs) (sym e.pool.payloads) ∙ b);
-    known = subst (λ (cs : List Cell). AreKnown p cs) (sym e.pool.payloads) t.known;
-    counted = e.nodes ∙ (t.counted ∙ ap (λ (cs : List Cell). length cs) (sym e.pool.payloads));
-    few = let a = ap (λ (cs : List Cell). length cs) e.pool.payloads in let b = e.budget in let c = t.few in omega (arith, a, b, c);
-    numbered = subst (λ (cs : List Cell). length cs < 2 ^ 32 - 1) (sym e.pool.payloads) t.numbered;
-  }
+-- a turn is one of the search as it was
+pub step_same : (Past : PastPlaces) (p : Problem) (old mid new : Growing) (o : Option Found) → IsSame Past p old mid → IsTreeKept p old → StepHolds Past p mid new o → StepHolds Past p old new o
+step_same Past p old mid new o e t h =
+    step_from Past p old mid new o h e.start e.budget (ap (λ (cs : List Cell). length cs) e.cells) (tree_positive p old t) (tree_positive p mid (tree_same Past p old mid e t))
+    (subst (λ (w : Option claims.Network). HasFallen (cost_of old.best) (cost_of w)) (sym e.best) (fallen_same (cost_of old.best)))
 
-  open_same : AreOpen s.pool → AreOpen n.pool
-  open_same a j lt =
-      ap (λ (ls : List ℕ). has ls j) e.pool.leaves
-      ∙ (a j (subst (λ (cs : List Cell). j < length cs) e.pool.payloads lt) ∙ ap (λ (cs : List Cell). is_open (cell_at cs j).end) (sym e.pool.payloads))
-
-  growing_same : IsGrowing Past p s → IsGrowing Past p n
-  growing_same g = record {
-    tree = tree_same g.tree;
-    are_open = open_same g.are_open;
-    ready = subst (λ (cs : List Cell). AreAtHand Past p cs n.pool.values n.ready) (sym e.pool.payloads)
-        (subst (λ (vs : List Mixed). AreAtHand Past p s.pool.payloads vs n.ready) (sym e.pool.values) (hand_same Past p s.pool.payloads s.pool.values s.ready n.ready e.ready g.ready));
-  }
-
-  stopped_same : (at : ℕ) (h : PastStop) → IsStoppedAt Past p s at h → IsStoppedAt Past p n at h
-  stopped_same at h k = record {
-    there = subst (λ (cs : List Cell). at < length cs) (sym e.pool.payloads) k.there;
-    is_open = subst (λ (cs : List Cell). (cell_at cs at).end ≡ leaf untried) (sym e.pool.payloads) k.is_open;
-    stopped = subst (λ (cs : List Cell). IsStop Past p (place_of (cell_at cs at)) h) (sym e.pool.payloads) k.stopped;
-  }
-
-  goes_same : (o : Option StoppedLeaf) → GoesOn Past p s o → GoesOn Past p n o
-  goes_same None g = growing_same g
-  goes_same (Some h) g = (tree_same g.0, stopped_same h.leaf h.stop g.1)
-
-  pub stands_same : (looked : Bool) → StandsAt Past p s looked → StandsAt Past p n looked
-  stands_same false h = (tree_same h.0, ap (λ (cs : List Cell). length cs) e.pool.payloads ∙ h.1)
-  stands_same true h = subst (λ (o : Option StoppedLeaf). GoesOn Past p n o) (sym e.stop) (goes_same s.stop h)
+-- what comes of settling leaves
+pub round_settled : (Past : PastPlaces) (p : Problem) (old new : Growing) (h : Option StoppedLeaf) → IsSame Past p old new → SettleHolds Past p old new h → RoundHolds Past p old new (settled_round h)
+round_settled Past p old new None e s = (e, s)
+round_settled Past p old new (Some w) e s = (e, s)
 
 -- only what is at hand changed
 pub kept_but_hand : (p : Problem) (undercut : Option CostOver) (s n : Growing) → IsSameButHand s n → IsTreeKeptFor p undercut s → IsTreeKeptFor p undercut n
-kept_but_hand p undercut s n e t = record {
-  last = t.last;
-  kept = subst (λ (l : Pooled Cell). IsKeptFor p (node_of n.start) (claim_with n.best) undercut t.last l.payloads) (sym e.pool)
-      (subst (λ (w : Option claims.Network). IsKeptFor p (node_of n.start) (claim_with w) undercut t.last s.pool.payloads) (sym e.best)
-      (subst (λ (m : starts.Node). IsKeptFor p (node_of m) (claim_with s.best) undercut t.last s.pool.payloads) (sym e.start) t.kept));
-  passes = subst (λ (w : Option claims.Network). ClaimPasses true p (claim_with w)) (sym e.best) t.passes;
-  bounded = λ b. ap (λ (w : Option claims.Network). is_some w) e.best ∙ t.bounded (ap (λ (l : Pooled Cell). has_bounded l.payloads) (sym e.pool) ∙ b);
-  known = subst (λ (l : Pooled Cell). AreKnown p l.payloads) (sym e.pool) t.known;
-  counted = e.nodes ∙ (t.counted ∙ ap (λ (l : Pooled Cell). length l.payloads) (sym e.pool));
-  few = let a = ap (λ (l : Pooled Cell). length l.payloads) e.pool in let b = e.budget in let c = t.few in omega (arith, a, b, c);
-  numbered = subst (λ (l : Pooled Cell). length l.payloads < 2 ^ 32 - 1) (sym e.pool) t.numbered;
-}
+kept_but_hand p undercut s n e t = kept_same p undercut s n e.start e.budget e.nodes (ap (λ (l : Pooled Cell). l.payloads) e.pool) e.best t
 
 -- ---- the search ends
 
@@ -262,14 +210,14 @@ found_same Past a b found h f =
     (subst (λ (n : starts.Node). IsFoundBy Past b.problem (node_of n) a.budget found) h.start (subst (λ k. IsFoundBy Past b.problem (node_of b.start) k found) h.budget f))
 
 -- the search stands as it stood
-pub searching_same : (Past : PastPlaces) (p : Problem) (g : Shape) (mk mk' : List (List ℕ)) (s n : Growing) (looked ended : Bool) → IsSearching Past p g mk s looked ended → mk' ≡ mk → IsSame s n
+pub searching_same : (Past : PastPlaces) (p : Problem) (g : Shape) (mk mk' : List (List ℕ)) (s n : Growing) (looked ended : Bool) → IsSearching Past p g mk s looked ended → mk' ≡ mk → IsSame Past p s n
     → IsSearching Past p g mk' n looked ended
 searching_same Past p g mk mk' s n looked ended h em e = record {
   graph = h.graph;
   makers = subst (λ (m : List (List ℕ)). AreMakersOf g m) (sym em) h.makers;
   sound = subst (λ (m : starts.Node). IsSound (shape_of p) (node_of m)) (sym e.start) h.sound;
   some = let a = e.budget in let b = h.some in omega (arith, a, b);
-  counted = e.nodes ∙ (h.counted ∙ ap (λ (cs : List Cell). length cs) (sym e.pool.payloads));
-  few = let a = ap (λ (cs : List Cell). length cs) e.pool.payloads in let b = e.budget in let c = h.few in omega (arith, a, b, c);
+  counted = e.nodes ∙ (h.counted ∙ ap (λ (cs : List Cell). length cs) (sym e.cells));
+  few = let a = ap (λ (cs : List Cell). length cs) e.cells in let b = e.budget in let c = h.few in omega (arith, a, b, c);
   stands = λ q. stands_same Past p s n e looked (h.stands q);
 }

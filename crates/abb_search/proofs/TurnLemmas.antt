@@ -29,7 +29,7 @@ use Rattle.tree_rules.specs.Lean.{HasCheaper}
 use Rattle.tree_rules.specs.Stops.{IsPending}
 use Rattle.search_tree.specs.Cells.{Cell, place_of, cell_at}
 use Rattle.search_tree.specs.declared.growth.Fresh.{Fresh}
-use Rattle.search_tree.specs.Growth.{is_open, AreOpen, as_parent}
+use Rattle.search_tree.specs.Growth.{AreOpenAfter, as_parent}
 use Rattle.turn_laws.specs.Values.{IsPositive, IsPositiveCost}
 use Rattle.tree_rules.specs.Costs.{IsNoMore, HasFallen}
 use Rattle.turn_laws.specs.Kept.{IsKeptFor}
@@ -51,15 +51,17 @@ use Rattle.node_evaluation.specs.Children.{claim_with, IsBest, IsImproved, cells
 use Rattle.node_evaluation.proofs.BestLemmas.{improved_after, children_after}
 use Rattle.abb_search.specs.declared.growing.Growing.{Growing}
 use Rattle.abb_search.specs.declared.growing.StoppedLeaf.{StoppedLeaf}
-use Rattle.abb_search.specs.Growing.{IsTreeKeptFor, IsGrowingFor, HasLeastValue, ready_at, interval_of, HasInterval, reached_by, IsLeastLeaf, LeafUndercuts, MayUndercut, choice_of, IsBeaten, IsStoppedAt, stop_at, IsBranching, GoesOn, GoesOnFor, IsSpentAt}
+use Rattle.abb_search.specs.Worth.{interval_of, refutation_of, is_refuted, is_settled, is_put_off}
+use Rattle.abb_search.specs.Growing.{IsTreeKeptFor, AreOpen, IsGrowingFor, HasLeastValue, ready_at, IsSettledAt, HasInterval, reached_by, IsLeastLeaf, LeafUndercuts, MayUndercut, choice_of, IsBeaten, IsStoppedAt, stop_at, IsBranching, GoesOn, GoesOnFor}
+use Rattle.abb_search.specs.Settling.{AreSettled}
 use Rattle.abb_search.specs.Closing.{AreBeaten}
-use Rattle.abb_search.proofs.WorthLemmas.{mixed_positive, ready_under, ready_reached, ready_stop}
+use Rattle.abb_search.proofs.WorthLemmas.{mixed_positive, dearer_refuted, never_both, else_settled, ready_under, ready_reached, ready_stop, ready_refuted}
 use Rattle.abb_search.proofs.ReadyLemmas.{open_leaf, leaf_open, not_greater, none_first}
 use Rattle.slab.specs.Slab.{Slab, get, Updates}
 use Rattle.abb_search.specs.Hand.{IsAtHand, AreAtHand, with_key, ArePlaced}
-use Rattle.abb_search.proofs.HandLemmas.{hand_freed, hand_more, children_same, as_many_children, known_children, children_kept, bounded_same}
+use Rattle.abb_search.proofs.HandLemmas.{hand_freed, hand_more, kept, children_same, as_many_children, known_children, children_kept, bounded_same}
 use Rattle.abb_search.proofs.GrowingLemmas.{count_seen}
-use Rattle.node_evaluation.proofs.ChoiceLemmas.{may_branch, decides, option_count_is, next_count, undecided_there, end_known}
+use Rattle.node_evaluation.proofs.ChoiceLemmas.{may_branch, decides, option_count_is, undecided_there, end_known}
 use Rattle.abb_search.proofs.KnownLemmas.{AreKnown, known_set, known_more, known_end, bounded_set, bounded_more, open_unbounded}
 
 -- the best network passes, and its scale is above 0
@@ -75,9 +77,17 @@ two_or_more : (m : Choice) → 2 ≤ option_count m
 two_or_more (choices.Material x) = omega arith
 two_or_more (choices.Unit u) = omega arith
 
--- no leaf is open where none is first
-pub whole : {Past : PastPlaces} {undercut : Option CostOver} (p : Problem) (s : Growing) → IsGrowingFor Past p undercut s → first s.pool.leaves ≡ None → (i : ℕ) → i < length s.pool.payloads → (cell_at s.pool.payloads i).end ≡ leaf untried → ⊥
-whole p s g e i lt h = none_first s.pool.leaves e i (g.are_open i lt ∙ leaf_open (cell_at s.pool.payloads i).end h)
+-- each open leaf is refuted where the pool has no first one
+pub whole : {Past : PastPlaces} {undercut : Option CostOver} (p : Problem) (s : Growing) → IsGrowingFor Past p undercut s → first s.pool.leaves ≡ None → (i : ℕ) → i < length s.pool.payloads → (cell_at s.pool.payloads i).end ≡ leaf untried → is_refuted (ready_at s i) ≡ true
+whole p s g e i lt h = elim (g.are_open.others i lt h) [ inl l ↦ absurd (none_first s.pool.leaves e i l) | inr r ↦ r ]
+
+-- the multipliers that refute a leaf
+pub refutation_there : (o : Option Ready) → is_refuted o ≡ true → (ys : List ℤ) × (refutation_of o ≡ Some ys)
+refutation_there o h = by (refutation_of o) refl h
+  where
+    by : (r : Option (List ℤ)) → refutation_of o ≡ r → is_some r ≡ true → (ys : List ℤ) × (refutation_of o ≡ Some ys)
+    by None e h = absurd (true≢false (sym h))
+    by (Some ys) e h = (ys, e)
 
 -- the first leaf has the least value
 pub first_is_least : (s : Growing) (at : ℕ) → first s.pool.leaves ≡ Some at → IsRising s.pool.values s.pool.leaves → HasLeastValue s at
@@ -139,30 +149,24 @@ pub not_beaten : (best : Option claims.Network) (v : Mixed) → (IsBeaten best v
 not_beaten None v h = tt
 not_beaten (Some w) v h = dearer (w.cost *ℤ denominator v) (numerator v *ℤ w.d) h
 
--- an open leaf is in the pool's list
-pub stopped_leaf : {Past : PastPlaces} {undercut : Option CostOver} (p : Problem) (s : Growing) → IsGrowingFor Past p undercut s → (at : ℕ) → at < length s.pool.payloads → (cell_at s.pool.payloads at).end ≡ leaf untried → has s.pool.leaves at ≡ true
-stopped_leaf p s g at there opens = g.are_open at there ∙ leaf_open (cell_at s.pool.payloads at).end opens
+-- an open leaf is one of the pool where it is settled what it is worth
+pub stopped_leaf : {Past : PastPlaces} {undercut : Option CostOver} (p : Problem) (s : Growing) → IsGrowingFor Past p undercut s → (at : ℕ) → at < length s.pool.payloads → (cell_at s.pool.payloads at).end ≡ leaf untried → IsSettledAt s at → has s.pool.leaves at ≡ true
+stopped_leaf p s g at there opens settled = elim (g.are_open.others at there opens) [ inl l ↦ l | inr r ↦ absurd (never_both (ready_at s at) settled r) ]
 
 -- a beaten leaf that has relaxed flows which cost at most as much as the network is a least one
-pub tied_is_least : {Past : PastPlaces} {undercut : Option CostOver} (p : Problem) (s : Growing) (g : IsGrowingFor Past p undercut s) (same_parents : length s.pool.payloads ≡ length s.pool.parents)
-    (below : (id : ℕ) → has s.pool.leaves id ≡ true → id < length s.pool.parents) (w : claims.Network) → s.best ≡ Some w → IsPositive (cost_in w) → AreBeaten s w → (at : ℕ) → MayUndercut s at → IsLeastLeaf s at
-tied_is_least p s g same_parents below w is positive beaten at may v e j h ne x ex =
-    let lt : j < length s.pool.payloads = (let l = below j h in let q = same_parents in omega (arith, l, q)) in
-    let open_j = open_leaf (cell_at s.pool.payloads j).end (sym (g.are_open j lt) ∙ h) in
+pub tied_is_least : (s : Growing) (w : claims.Network) → s.best ≡ Some w → IsPositive (cost_in w) → AreBeaten s w → (at : ℕ) → MayUndercut s at → IsLeastLeaf s at
+tied_is_least s w is positive beaten at may v e j h ne x ex =
     let u : Mixed = reached_by v (interval_of (ready_at s at)) in
     let tied : IsNoMore (cost_over u) (cost_in w) = subst (λ (o : Option claims.Network). IsAtMost (claimed_cost (claim_with o)) (numerator u) (denominator u)) is (may v e) in
-    fraction_trans (numerator u) (denominator u) w.cost w.d (numerator x) (denominator x) (mixed_positive u) positive (mixed_positive x) tied (beaten.each j x lt open_j ex)
+    fraction_trans (numerator u) (denominator u) w.cost w.d (numerator x) (denominator x) (mixed_positive u) positive (mixed_positive x) tied (beaten.each j x h ex)
 
 module _ {Past : PastPlaces} {undercut : Option CostOver} (p : Problem) (valid : IsValid p) (s : Growing) (g : IsGrowingFor Past p undercut s) (at : ℕ) (is_leaf : has s.pool.leaves at ≡ true)
     (same_parents : length s.pool.payloads ≡ length s.pool.parents) (below : (id : ℕ) → has s.pool.leaves id ≡ true → id < length s.pool.parents) where
   pub there : at < length s.pool.payloads
   there = let l = below at is_leaf in let e = same_parents in omega (arith, l, e)
 
-  pub opens : is_open (cell_at s.pool.payloads at).end ≡ true
-  opens = sym (g.are_open at there) ∙ is_leaf
-
   pub untried_there : (cell_at s.pool.payloads at).end ≡ leaf untried
-  untried_there = open_leaf (cell_at s.pool.payloads at).end opens
+  untried_there = g.are_open.opens at there is_leaf
 
   pub at_hand : IsAtHand Past p s.pool.payloads s.pool.values s.ready at
   at_hand = g.ready.each at there untried_there
@@ -194,16 +198,17 @@ module _ {Past : PastPlaces} {undercut : Option CostOver} (p : Problem) (valid :
     pub value : Mixed
     pub value_is : slice_get s.pool.values j ≡ Some value
     pub ready : Ready
+    pub is : ready_at s j ≡ Some ready
     pub known : IsReady Past p (place_of (cell_at s.pool.payloads j)) value ready
 
   other : (j : ℕ) → j < length s.pool.payloads → (cell_at s.pool.payloads j).end ≡ leaf untried → IsOther j
   other j lt e =
       let h = g.ready.each j lt e in
-      by h.value h.value_is (get s.ready (cell_at s.pool.payloads j).key) h.some
+      by h.value h.value_is (ready_at s j) refl h.some
     where
-      by : (v : Mixed) → slice_get s.pool.values j ≡ Some v → (r : Option Ready) → IsSomeReady Past p (place_of (cell_at s.pool.payloads j)) v r → IsOther j
-      by v e None k = absurd k
-      by v e (Some r) k = record { value = v; value_is = e; ready = r; known = k }
+      by : (v : Mixed) → slice_get s.pool.values j ≡ Some v → (r : Option Ready) → ready_at s j ≡ r → IsSomeReady Past p (place_of (cell_at s.pool.payloads j)) v r → IsOther j
+      by v e None i k = absurd k
+      by v e (Some r) i k = record { value = v; value_is = e; ready = r; is = i; known = k }
 
   pub can_branch : IsHand → (m : Choice) → IsChoice (shape_of p) (place_of (cell_at s.pool.payloads at)) m → CanBranch p s.pool.payloads at (way_of m)
   can_branch h m u = record {
@@ -214,15 +219,22 @@ module _ {Past : PastPlaces} {undercut : Option CostOver} (p : Problem) (valid :
     splits = decides (shape_of p) (place_of (cell_at s.pool.payloads at)) m u;
   }
 
-  pub pending : (j : ℕ) → j < length s.pool.payloads → (cell_at s.pool.payloads j).end ≡ leaf untried → IsPending p (place_of (cell_at s.pool.payloads j))
-  pending j lt e =
+  -- an open leaf is pending where it is settled what it is worth
+  pub pending : (j : ℕ) → j < length s.pool.payloads → (cell_at s.pool.payloads j).end ≡ leaf untried → IsSettledAt s j → IsPending p (place_of (cell_at s.pool.payloads j))
+  pending j lt e settled =
       let o = other j lt e in
       record {
         reduced = o.known.reduced;
         undecided = undecided_there (shape_of p) (place_of (cell_at s.pool.payloads j)) o.ready.choice o.known.choice;
-        relaxed = reached_any p (place_of (cell_at s.pool.payloads j)) (numerator (reached_by o.value o.ready.bound.interval)) (denominator (reached_by o.value o.ready.bound.interval))
-            (ready_reached Past p (place_of (cell_at s.pool.payloads j)) o.value o.ready o.known);
+        relaxed = reached_any p (place_of (cell_at s.pool.payloads j)) (numerator (reached_by o.value (interval_of (Some o.ready)))) (denominator (reached_by o.value (interval_of (Some o.ready))))
+            (ready_reached Past p (place_of (cell_at s.pool.payloads j)) o.value o.ready o.known (ap is_settled (sym o.is) ∙ settled));
       }
+
+  -- so it is where of no open leaf a lower bound is all that is known, and this one is not refuted
+  pub pending_or : AreSettled s → (j : ℕ) → j < length s.pool.payloads → (cell_at s.pool.payloads j).end ≡ leaf untried → refutation_of (ready_at s j) ≡ None → IsPending p (place_of (cell_at s.pool.payloads j))
+  pending_or all j lt e lives =
+      let o = other j lt e in
+      pending j lt e (ap is_settled o.is ∙ else_settled o.ready (ap is_put_off (sym o.is) ∙ all j lt e) (ap refutation_of (sym o.is) ∙ lives))
 
   -- the value that the pool has is the one at hand
   value_here : (v : Mixed) → slice_get s.pool.values at ≡ Some v → at_hand.value ≡ v
@@ -234,10 +246,9 @@ module _ {Past : PastPlaces} {undercut : Option CostOver} (p : Problem) (valid :
   -- where a network costs no more than the least value, it costs no more than any
   pub beaten_by : HasLeastValue s at → (v : Mixed) → slice_get s.pool.values at ≡ Some v → (w : claims.Network) → IsPositive (cost_in w) → IsNoMore (cost_in w) (cost_over v) → AreBeaten s w
   beaten_by has_least v e w positive h = record {
-    each = λ j u lt opens i. elim (cases_eq j at) [
+    each = λ j u open_j i. elim (cases_eq j at) [
       | inl same ↦ subst (λ (x : Mixed). IsNoMore (cost_in w) (cost_over x)) (same_value v e j u same i) h
-      | inr ne ↦ fraction_trans w.cost w.d (numerator v) (denominator v) (numerator u) (denominator u) positive (mixed_positive v) (mixed_positive u) h
-          (has_least v e j (g.are_open j lt ∙ leaf_open (cell_at s.pool.payloads j).end opens) ne u i)
+      | inr ne ↦ fraction_trans w.cost w.d (numerator v) (denominator v) (numerator u) (denominator u) positive (mixed_positive v) (mixed_positive u) h (has_least v e j open_j ne u i)
     ];
   }
 
@@ -279,7 +290,7 @@ module _ {Past : PastPlaces} {undercut : Option CostOver} (p : Problem) (valid :
     };
   }
 
-  module _ (q : IsHand) where
+  module _ (q : IsHand) (settled : IsSettledAt s at) where
     abbrev pub here : Node
     here = place_of (cell_at s.pool.payloads at)
 
@@ -289,33 +300,29 @@ module _ {Past : PastPlaces} {undercut : Option CostOver} (p : Problem) (valid :
 
     pub is_reached : HasCheaper p here (numerator reached) (denominator reached)
     is_reached = subst (λ (o : Option Ready). HasCheaper p here (numerator (reached_by at_hand.value (interval_of o))) (denominator (reached_by at_hand.value (interval_of o)))) (sym q.is)
-        (ready_reached Past p here at_hand.value q.ready q.known)
+        (ready_reached Past p here at_hand.value q.ready q.known (ap is_settled (sym q.is) ∙ settled))
 
     pub undercuts : (undercut : Option CostOver) → IsPositiveCost undercut → LeafUndercuts s undercut at → lean.MayUndercut p undercut here
     undercuts u positive may = reached_may_undercut p u here (cost_over reached) (mixed_positive reached) positive (may at_hand.value at_hand.value_is) is_reached
 
     pub least : IsLeastLeaf s at → IsLeastOpen p s.pool.payloads at
-    least is_least j lt ne e alive =
-        let o = other j lt e in
-        let there_j = place_of (cell_at s.pool.payloads j) in
-        reached_is_no_dearer p here there_j (cost_over reached) (mixed_positive reached) is_reached
-        (under_less p there_j (cost_over reached) (cost_over o.value) (mixed_positive reached) (mixed_positive o.value)
-        (is_least at_hand.value at_hand.value_is j (g.are_open j lt ∙ leaf_open (cell_at s.pool.payloads j).end e) ne o.value o.value_is) (ready_under Past p there_j o.value o.ready o.known))
+    least is_least j lt ne e alive = elim (g.are_open.others j lt e) [
+      | inl open_j ↦
+          reached_is_no_dearer p here there_j (cost_over reached) (mixed_positive reached) is_reached
+          (under_less p there_j (cost_over reached) (cost_over o.value) (mixed_positive reached) (mixed_positive o.value)
+          (is_least at_hand.value at_hand.value_is j open_j ne o.value o.value_is) (ready_under Past p there_j o.value o.ready o.known))
+      | inr r ↦
+          let f = refutation_there (ready_at s j) r in
+          dearer_refuted p here there_j f.0 (ready_refuted Past p there_j o.value o.ready o.known f.0 (ap refutation_of (sym o.is) ∙ f.1))
+    ]
+      where
+        there_j : Node
+        there_j = place_of (cell_at s.pool.payloads j)
+
+        o : IsOther j
+        o = other j lt e
 
     module _ (is_least : IsLeastLeaf s at) where
-      -- ---- the budget is spent
-      pub spent_here : MayUndercut s at → (m : Choice) → IsChoice (shape_of p) (place_of (cell_at s.pool.payloads at)) m → s.budget < length s.pool.payloads + option_count m → IsSpentAt p s at (option_count m)
-      spent_here may m u over = record {
-        way = way_of m;
-        can = can_branch q m u;
-        least = least is_least;
-        of_use = undercuts (claimed_cost (claim_with s.best)) g.tree.kept.claim_positive may;
-        pending = pending;
-        count_is = next_count (shape_of p) (place_of (cell_at s.pool.payloads at)) m u;
-        as_many = sym (option_count_is (shape_of p) (place_of (cell_at s.pool.payloads at)) m u);
-        over = over;
-      }
-
       -- ---- the leaf is branched, for networks that undercut a cost which the leaf may undercut
       module _ (new_undercut : Option CostOver) (new_positive : IsPositiveCost new_undercut) (of_use : lean.MayUndercut p new_undercut (place_of (cell_at s.pool.payloads at))) where
         module _ (new : Growing) (m : Choice) (choice : IsChoice (shape_of p) (place_of (cell_at s.pool.payloads at)) m)
@@ -326,7 +333,7 @@ module _ {Past : PastPlaces} {undercut : Option CostOver} (p : Problem) (valid :
             (ec : new.pool.payloads ≡ slice_set s.pool.payloads at (as_parent (cell_at s.pool.payloads at) (length s.pool.payloads) (branch (way_of m))) ++ cells_of gs)
             (ev : new.pool.values ≡ s.pool.values ++ values_of gs)
             (which : (new.best ≡ s.best) ⊎ (new.best ≡ c.best)) (fallen : HasFallen (cost_of s.best) (cost_of new.best)) (fallen_found : HasFallen (cost_of c.best) (cost_of new.best))
-            (some_new : is_some new.best ≡ (is_some s.best || is_some c.best)) (numbered : length s.pool.payloads + length (cells_of gs) < 2 ^ 32 - 1) (ao : AreOpen new.pool) (es : new.start ≡ s.start) (eu : new.budget ≡ s.budget)
+            (some_new : is_some new.best ≡ (is_some s.best || is_some c.best)) (numbered : length s.pool.payloads + length (cells_of gs) < 2 ^ 32 - 1) (after : AreOpenAfter s.pool new.pool at) (es : new.start ≡ s.start) (eu : new.budget ≡ s.budget)
             (en : new.nodes ≡ s.nodes + length (cells_of gs)) where
           abbrev children : List Cell
           children = cells_of gs
@@ -400,6 +407,43 @@ module _ {Past : PastPlaces} {undercut : Option CostOver} (p : Problem) (valid :
               (hand_more Past p (slice_set s.pool.payloads at now) s.pool.values freed new.ready
               (hand_freed Past p s.pool.payloads s.pool.values s.ready freed at now g.ready there untried_there refl frees) c.nodes.items gs c.ready.items placed h))
 
+          -- what is at hand for another open leaf stays
+          ready_kept : (j : ℕ) → j < length s.pool.payloads → (j ≡ at → ⊥) → (cell_at s.pool.payloads j).end ≡ leaf untried → (r : Ready) → ready_at s j ≡ Some r → ready_at new j ≡ Some r
+          ready_kept j lt ne e r is =
+              ap (λ (d : Cell). get new.ready d.key) (branched.others j lt ne)
+              ∙ kept c.nodes.items gs c.ready.items freed new.ready placed (cell_at s.pool.payloads j).key r
+              (frees.others (cell_at s.pool.payloads j).key (λ same. ne (g.ready.apart j at lt there e untried_there same)) ∙ is)
+
+          refuted_kept : (j : ℕ) → j < length s.pool.payloads → (j ≡ at → ⊥) → (cell_at s.pool.payloads j).end ≡ leaf untried → is_refuted (ready_at s j) ≡ true → is_refuted (ready_at new j) ≡ true
+          refuted_kept j lt ne e r = by (ready_at s j) refl r
+            where
+              by : (o : Option Ready) → ready_at s j ≡ o → is_refuted o ≡ true → is_refuted (ready_at new j) ≡ true
+              by None i h = absurd (true≢false (sym h))
+              by (Some k) i h = ap is_refuted (ready_kept j lt ne e k i) ∙ h
+
+          open_now : AreOpen new
+          open_now = record {
+            opens = λ j lt h. elim (cases_lt j (length s.pool.payloads)) [
+              | inl l ↦ elim (cases_eq j at) [
+                | inl e ↦ absurd (true≢false (sym h ∙ (ap (λ i. has new.pool.leaves i) e ∙ after.shut)))
+                | inr ne ↦ subst (λ (d : Cell). d.end ≡ leaf untried) (sym (branched.others j l ne)) (g.are_open.opens j l (sym (after.others j l ne) ∙ h))
+              ]
+              | inr le ↦ open_leaf (cell_at new.pool.payloads j).end (sym (after.fresh j (omega (arith, le)) lt) ∙ h)
+            ];
+            others = λ j lt e. elim (cases_lt j (length s.pool.payloads)) [
+              | inl l ↦ elim (cases_eq j at) [
+                | inl same ↦ absurd (parent_closed (subst (λ (d : Cell). d.end ≡ leaf untried) (ap (λ i. cell_at new.pool.payloads i) same ∙ branched.at_is) e))
+                | inr ne ↦
+                    let u = subst (λ (d : Cell). d.end ≡ leaf untried) (branched.others j l ne) e in
+                    elim (g.are_open.others j l u) [ inl o ↦ inl (after.others j l ne ∙ o) | inr r ↦ inr (refuted_kept j l ne u r) ]
+              ]
+              | inr le ↦ inl (after.fresh j (omega (arith, le)) lt ∙ leaf_open (cell_at new.pool.payloads j).end e)
+            ];
+          }
+            where
+              parent_closed : branch (way_of m) ≡ leaf untried → ⊥
+              parent_closed q = cc
+
           -- a leaf has at least two options
           pub more_now : length s.pool.payloads < length new.pool.payloads
           more_now = let a = longer in let b = child_count in let d = two in omega (arith, a, b, d)
@@ -408,7 +452,7 @@ module _ {Past : PastPlaces} {undercut : Option CostOver} (p : Problem) (valid :
               two = two_or_more m
 
           pub going_now : (h : Option StoppedAt) → StopHolds Past p c.nodes.items c.ready.items h → GoesOnFor Past p new_undercut new (stop_at (length s.pool.payloads) h)
-          going_now None h = record { tree = tree_now; are_open = ao; ready = ready_now h }
+          going_now None h = record { tree = tree_now; are_open = open_now; ready = ready_now h }
           going_now (Some w) h =
               let lt : w.at < length (cells_of gs) = let a = h.0 in let b = length-map gs (λ (f : Fresh). f.cell) in let d = as_many_children c.nodes.items gs c.ready.items freed new.ready placed in omega (arith, a, b, d) in
               let child = children_same c.nodes.items gs c.ready.items freed new.ready placed w.at (let a = h.0 in let d = as_many_children c.nodes.items gs c.ready.items freed new.ready placed in omega (arith, a, d)) in
@@ -427,8 +471,8 @@ module _ {Past : PastPlaces} {undercut : Option CostOver} (p : Problem) (valid :
           → GoesOnFor Past p new_undercut new new.stop × (length s.pool.payloads < length new.pool.payloads)
       branched_for u positive of_use new m choice few b = (
         subst (λ (o : Option StoppedLeaf). GoesOnFor Past p u new o) (sym b.stop)
-            (going_now u positive of_use new m choice few b.seen b.are_seen b.children b.freed b.frees b.placed b.wide b.cells b.values b.best b.fallen b.fallen_found b.some_best b.numbered b.are_open b.start b.budget b.nodes b.seen.stop b.are_seen.stop_holds),
-        more_now u positive of_use new m choice few b.seen b.are_seen b.children b.freed b.frees b.placed b.wide b.cells b.values b.best b.fallen b.fallen_found b.some_best b.numbered b.are_open b.start b.budget b.nodes,
+            (going_now u positive of_use new m choice few b.seen b.are_seen b.children b.freed b.frees b.placed b.wide b.cells b.values b.best b.fallen b.fallen_found b.some_best b.numbered b.open_after b.start b.budget b.nodes b.seen.stop b.are_seen.stop_holds),
+        more_now u positive of_use new m choice few b.seen b.are_seen b.children b.freed b.frees b.placed b.wide b.cells b.values b.best b.fallen b.fallen_found b.some_best b.numbered b.open_after b.start b.budget b.nodes,
       )
 
       -- so it does where the best network is to be undercut

@@ -1,65 +1,100 @@
--- What shuts the open leaves, where a network costs no more than any of them.
-use Rattle.std.specs.Prelude.{◌≡◌, ℕ, ◌<◌, length, cond, List, Option, Some, None, Result, Ok, Err, slice_index_or}
+-- What shuts the open leaves, where a network costs no more than any of them, or where they are refuted.
+use Rattle.std.specs.Prelude.{◌≡◌, ℕ, ℤ, ◌<◌, true, length, cond, List, Option, Some, None, slice_index_or}
 use Rattle.std.specs.List.{slice_get}
+use Rattle.link_lists.specs.Lists.{has}
 use Rattle.integer_laws.specs.Range.{InRange, AllInRange}
 use Rattle.problem_rules.specs.Problem.{Problem}
+use Rattle.pns_rules.specs.Nodes.{Node}
 use Rattle.mixed_numbers.specs.declared.number.Mixed.{Mixed}
 use Rattle.tree_rules.specs.Tree.{leaf}
 use Rattle.tree_rules.specs.Claim as claims
 use Rattle.tree_rules.specs.Claim.{CostOver}
-use Rattle.tree_rules.specs.Leaf.{untried, IsBounded}
+use Rattle.tree_rules.specs.Leaf.{untried, IsRefuted, IsBounded}
 use Rattle.branch_tree.specs.Scaled.{Scaled}
+use Rattle.search_tree.specs.declared.shut.Shut.{Shut}
+use Rattle.search_tree.specs.declared.shut.Shut.TheVariants as shuts
 use Rattle.search_tree.specs.Cells.{Cell, place_of, cell_at}
 use Rattle.tree_rules.specs.Costs.{IsNoMore}
 use Rattle.search_tree.specs.Growth.{is_open}
 use Rattle.slab.specs.Slab.{get}
-use Rattle.node_evaluation.specs.declared.evaluator.PastStop.{PastStop}
 use Rattle.node_evaluation.specs.declared.looks.Ready.{Ready}
 use Rattle.node_evaluation.specs.declared.evaluator.Proof.{Proof}
 use Rattle.node_evaluation.specs.declared.evaluator.Proof.TheVariants as proofs
 use Rattle.node_evaluation.specs.Evaluated.{PastPlaces, cost_over, cost_in}
 use Rattle.abb_search.specs.declared.growing.Growing.{Growing}
+use Rattle.abb_search.specs.declared.closing.Shutting.{Shutting}
+use Rattle.abb_search.specs.declared.closing.Shutting.TheVariants as shuttings
 use Rattle.abb_search.specs.declared.closing.Closing.{Closing}
 use Rattle.abb_search.specs.declared.closing.Closing.TheVariants.{Proved, Stopped}
-use Rattle.abb_search.specs.Growing.{IsStoppedAt}
+use Rattle.abb_search.specs.Worth.{refutation_of}
+use Rattle.abb_search.specs.Growing.{IsSettledAt, IsStoppedAt}
 
--- the network costs no more than any open leaf's value
+-- the network costs no more than the value of any open leaf of the pool
 pub record AreBeaten (s : Growing) (w : claims.Network) : Type 0 where
-  pub each : (j : ℕ) (v : Mixed) → j < length s.pool.payloads → (cell_at s.pool.payloads j).end ≡ leaf untried → slice_get s.pool.values j ≡ Some v → IsNoMore (cost_in w) (cost_over v)
+  pub each : (j : ℕ) (v : Mixed) → has s.pool.leaves j ≡ true → slice_get s.pool.values j ≡ Some v → IsNoMore (cost_in w) (cost_over v)
 
 -- what is at hand for a node, where it is an open leaf
 abbrev pub hand_of : Growing → ℕ → Option Ready
 hand_of s j = cond (is_open (cell_at s.pool.payloads j).end) (get s.ready (cell_at s.pool.payloads j).key) None
 
--- these multipliers prove that the cell's node is worth the cost; nothing need, where the cell is no open leaf
-pub record ProvesLeaf (p : Problem) (cost : CostOver) (c : Cell) (m : Scaled) : Type 0 where
-  pub bounded : IsBounded p (Some cost) (place_of c) m.d m.ys
+-- ---- what shuts a leaf
+
+-- these multipliers prove that no relaxed flows of the node cost less than what is claimed
+pub record ProvesLeaf (p : Problem) (claimed : Option CostOver) (n : Node) (m : Scaled) : Type 0 where
+  pub bounded : IsBounded p claimed n m.d m.ys
   pub scale : InRange m.d
   pub multipliers : AllInRange m.ys
 
-abbrev pub ShutsLeaf : Problem → CostOver → Cell → Option Scaled → Type 0
-ShutsLeaf p cost c None = c.end ≡ leaf untried → ⊥
-ShutsLeaf p cost c (Some m) = ProvesLeaf p cost c m
+-- these prove that the node has none
+pub record RefutesLeaf (p : Problem) (n : Node) (ys : List ℤ) : Type 0 where
+  pub refuted : IsRefuted p n ys
+  pub multipliers : AllInRange ys
 
--- what is answered for one node, and for all
-abbrev pub IsShutBy : PastPlaces → Problem → Growing → CostOver → ℕ → Option Proof → Type 0
-IsShutBy Past p s cost j None = ShutsLeaf p cost (cell_at s.pool.payloads j) None
-IsShutBy Past p s cost j (Some (proofs.Scaled m)) = ShutsLeaf p cost (cell_at s.pool.payloads j) (Some m)
-IsShutBy Past p s cost j (Some (proofs.Stopped h)) = IsStoppedAt Past p s j h
+abbrev pub ShutsNode : Problem → Option CostOver → Node → Shut → Type 0
+ShutsNode p claimed n (shuts.Bounded m) = ProvesLeaf p claimed n m
+ShutsNode p claimed n (shuts.Refuted ys) = RefutesLeaf p n ys
 
--- the multipliers, or where a number is past the range
-abbrev pub scaled_in : Option Proof → Result (Option Scaled) PastStop
-scaled_in None = Ok None
-scaled_in (Some (proofs.Scaled m)) = Ok (Some m)
-scaled_in (Some (proofs.Stopped h)) = Err h
+-- nothing need shut the cell where it is no open leaf
+abbrev pub ShutsLeaf : Problem → Option CostOver → Cell → Option Shut → Type 0
+ShutsLeaf p claimed c None = c.end ≡ leaf untried → ⊥
+ShutsLeaf p claimed c (Some m) = ShutsNode p claimed (place_of c) m
 
-abbrev pub ShutAll : Problem → Growing → CostOver → List (Option Scaled) → Type 0
-ShutAll p s cost ms = (j : ℕ) → j < length s.pool.payloads → ShutsLeaf p cost (cell_at s.pool.payloads j) (slice_index_or ms j None)
+-- all open leaves are shut, each by what stands at its number
+abbrev pub ShutAll : Problem → Growing → Option CostOver → List (Option Shut) → Type 0
+ShutAll p s claimed ms = (j : ℕ) → j < length s.pool.payloads → ShutsLeaf p claimed (cell_at s.pool.payloads j) (slice_index_or ms j None)
+
+-- ---- where a network costs no more than any open leaf
+
+-- what is answered for one node, and for all: what shuts it, or that a number is past the range there
+abbrev pub IsShutBy : PastPlaces → Problem → Growing → CostOver → ℕ → Shutting → Type 0
+IsShutBy Past p s cost j (shuttings.By m) = ShutsLeaf p (Some cost) (cell_at s.pool.payloads j) m
+IsShutBy Past p s cost j (shuttings.Stopped h) = IsStoppedAt Past p s j h × IsSettledAt s j
 
 abbrev pub AreShutBy : PastPlaces → Problem → Growing → CostOver → Closing → Type 0
-AreShutBy Past p s cost (Proved ms) = ShutAll p s cost ms.items
-AreShutBy Past p s cost (Stopped h) = IsStoppedAt Past p s h.leaf h.stop
+AreShutBy Past p s cost (Proved ms) = ShutAll p s (Some cost) ms.items
+AreShutBy Past p s cost (Stopped h) = IsStoppedAt Past p s h.leaf h.stop × IsSettledAt s h.leaf
+
+-- what the evaluator proves shuts a leaf
+abbrev pub shut_by : Proof → Shutting
+shut_by (proofs.Scaled m) = shuttings.By (Some (shuts.Bounded m))
+shut_by (proofs.Stopped h) = shuttings.Stopped h
 
 abbrev pub IsInRange : Proof → Type 0
 IsInRange (proofs.Scaled m) = InRange m.d × AllInRange m.ys
 IsInRange (proofs.Stopped h) = Unit {0}
+
+-- ---- where leaves are refuted
+
+-- what shuts a leaf with these multipliers of a refutation, where there are some
+abbrev pub refuted_by : Option (List ℤ) → Option Shut
+refuted_by None = None
+refuted_by (Some ys) = Some (shuts.Refuted ys)
+
+abbrev pub AreInRange : Option (List ℤ) → Type 0
+AreInRange None = Unit {0}
+AreInRange (Some ys) = AllInRange ys
+
+-- at the number of each open leaf that is refuted stands its refutation, and nothing at the others
+abbrev pub RefutedShut : Growing → List (Option Shut) → Type 0
+RefutedShut s ms =
+    (j : ℕ) → j < length s.pool.payloads → (slice_index_or ms j None ≡ refuted_by (refutation_of (hand_of s j))) × AreInRange (refutation_of (hand_of s j))

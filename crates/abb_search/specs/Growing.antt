@@ -1,5 +1,5 @@
 -- What a search keeps between two turns, and what a turn does.
-use Rattle.std.specs.Prelude.{◌≡◌, ◌⊎◌, ℕ, ◌+◌, ◌-◌, ◌^◌, ◌<◌, ◌≤◌, true, ◌||◌, List, [], ◌∷◌, ◌++◌, length, slice_set, Option, Some, None, is_some}
+use Rattle.std.specs.Prelude.{◌≡◌, ◌⊎◌, ℕ, ◌+◌, ◌-◌, ◌^◌, ◌<◌, ◌≤◌, true, cond, ◌||◌, List, [], ◌∷◌, ◌++◌, length, slice_set, Option, Some, None, is_some}
 use Rattle.std.specs.List.{slice_get}
 use Rattle.link_lists.specs.Lists.{has}
 use Rattle.problem_rules.specs.Problem.{Problem}
@@ -17,7 +17,7 @@ use Rattle.tree_rules.specs.Leaf.{untried}
 use Rattle.tree_rules.specs.Lean as lean
 use Rattle.tree_rules.specs.Stops.{IsPending, IsNextCount}
 use Rattle.search_tree.specs.Cells.{Cell, place_of, cell_at}
-use Rattle.search_tree.specs.Growth.{AreOpen, as_parent}
+use Rattle.search_tree.specs.Growth.{is_open, AreOpenAfter, as_parent}
 use Rattle.tree_rules.specs.Costs.{IsNoMore, HasFallen}
 use Rattle.turn_laws.specs.Kept.{IsKeptFor}
 use Rattle.turn_laws.specs.Turns.{CanBranch, IsLeastOpen}
@@ -36,6 +36,7 @@ use Rattle.node_evaluation.specs.declared.children.Children.{Children}
 use Rattle.node_evaluation.specs.Evaluated.{PastPlaces, cost_over, cost_in}
 use Rattle.node_evaluation.specs.Looks.{has_bounded, KnowsCell, cost_of, IsStop, IsLooked}
 use Rattle.node_evaluation.specs.Children.{claim_with, cells_of, values_of, AreSeen}
+use Rattle.abb_search.specs.Worth.{interval_of, is_refuted, is_settled}
 use Rattle.abb_search.specs.Hand.{AreAtHand, IsPlaced, ArePlaced}
 use Rattle.abb_search.specs.declared.growing.Growing.{Growing}
 use Rattle.abb_search.specs.declared.growing.StoppedLeaf.{StoppedLeaf}
@@ -52,10 +53,19 @@ pub record IsTreeKeptFor (p : Problem) (undercut : Option CostOver) (s : Growing
   pub few : length s.pool.payloads ≤ s.budget
   pub numbered : length s.pool.payloads < 2 ^ 32 - 1
 
+-- what is at hand under the leaf's key
+abbrev pub ready_at : Growing → ℕ → Option Ready
+ready_at s at = get s.ready (cell_at s.pool.payloads at).key
+
+-- each leaf of the pool is open, and each open leaf is one of the pool or is refuted, though its cell stays open
+pub record AreOpen (s : Growing) : Type 0 where
+  pub opens : (j : ℕ) → j < length s.pool.payloads → has s.pool.leaves j ≡ true → (cell_at s.pool.payloads j).end ≡ leaf untried
+  pub others : (j : ℕ) → j < length s.pool.payloads → (cell_at s.pool.payloads j).end ≡ leaf untried → (has s.pool.leaves j ≡ true) ⊎ (is_refuted (ready_at s j) ≡ true)
+
 -- and all is at hand for each open leaf
 pub record IsGrowingFor (Past : PastPlaces) (p : Problem) (undercut : Option CostOver) (s : Growing) : Type 0 where
   pub tree : IsTreeKeptFor p undercut s
-  pub are_open : AreOpen s.pool
+  pub are_open : AreOpen s
   pub ready : AreAtHand Past p s.pool.payloads s.pool.values s.ready
 
 -- the best network is to be undercut
@@ -83,20 +93,15 @@ HasLeastValue s at =
 
 -- ---- which leaf may be branched
 
--- what is at hand under the leaf's key
-abbrev pub ready_at : Growing → ℕ → Option Ready
-ready_at s at = get s.ready (cell_at s.pool.payloads at).key
-
--- the interval that its least cost lies in, where this is past the range
-abbrev pub interval_of : Option Ready → Option Interval
-interval_of None = None
-interval_of (Some r) = r.bound.interval
+-- it is settled what the leaf is worth, and that it has relaxed flows
+abbrev pub IsSettledAt : Growing → ℕ → Type 0
+IsSettledAt s at = is_settled (ready_at s at) ≡ true
 
 pub record HasInterval (s : Growing) (at : ℕ) : Type 0 where
   pub interval : Interval
   pub is : interval_of (ready_at s at) ≡ Some interval
 
--- what some relaxed flows cost at most: the value, or what the interval reaches
+-- what some relaxed flows of a leaf cost at most, where it is settled what it is worth: the value, or what the interval reaches
 abbrev pub reached_by : Mixed → Option Interval → Mixed
 reached_by value None = value
 reached_by value (Some r) = r.reached
@@ -106,7 +111,7 @@ pub record IsReachedAt (s : Growing) (at : ℕ) (reached : Mixed) : Type 0 where
   pub value_is : slice_get s.pool.values at ≡ Some value
   pub reached_is : reached ≡ reached_by value (interval_of (ready_at s at))
 
--- some relaxed flows of the leaf cost at most any other open leaf's value
+-- where it is settled what the leaf is worth, some relaxed flows of it cost at most any other open leaf's value
 abbrev pub IsLeastLeaf : Growing → ℕ → Type 0
 IsLeastLeaf s at =
     (v : Mixed) → slice_get s.pool.values at ≡ Some v → (j : ℕ) → has s.pool.leaves j ≡ true → (j ≡ at → ⊥) → (w : Mixed) → slice_get s.pool.values j ≡ Some w
@@ -193,12 +198,12 @@ pub record IsLookedRoot (Past : PastPlaces) (p : Problem) (start : starts.Node) 
   pub fallen_found : HasFallen (cost_of looked.network) (cost_of s.best)
   pub some_best : is_some s.best ≡ (is_some best || is_some looked.network)
   pub stop_is : s.stop ≡ root_stop looked.stop
-  pub are_open : AreOpen s.pool
+  pub leaves_are : s.pool.leaves ≡ cond (is_open root.cell.end) (0 ∷ []) []
 
--- ---- a leaf is branched
+-- ---- what stays
 
 -- the nodes and all that is kept with them are as before; only the room that stands ready may be more
-pub record IsSame (old new : Growing) : Type 0 where
+pub record IsSameButRoom (old new : Growing) : Type 0 where
   pub start : new.start ≡ old.start
   pub budget : new.budget ≡ old.budget
   pub nodes : new.nodes ≡ old.nodes
@@ -206,6 +211,17 @@ pub record IsSame (old new : Growing) : Type 0 where
   pub ready : new.ready.slots ≡ old.ready.slots
   pub best : new.best ≡ old.best
   pub stop : new.stop ≡ old.stop
+
+-- the nodes and the best network are as before. Values, what is at hand, and which open leaves the pool has may be others, and what a
+-- search keeps of them holds again.
+pub record IsSame (Past : PastPlaces) (p : Problem) (old new : Growing) : Type 0 where
+  pub start : new.start ≡ old.start
+  pub budget : new.budget ≡ old.budget
+  pub nodes : new.nodes ≡ old.nodes
+  pub cells : new.pool.payloads ≡ old.pool.payloads
+  pub best : new.best ≡ old.best
+  pub stop : new.stop ≡ old.stop
+  pub growing : (undercut : Option CostOver) → IsGrowingFor Past p undercut old → IsGrowingFor Past p undercut new
 
 -- all but what is at hand for the open leaves is as before
 pub record IsSameButHand (old new : Growing) : Type 0 where
@@ -215,6 +231,8 @@ pub record IsSameButHand (old new : Growing) : Type 0 where
   pub pool : new.pool ≡ old.pool
   pub best : new.best ≡ old.best
   pub stop : new.stop ≡ old.stop
+
+-- ---- a leaf is branched
 
 abbrev pub stop_at : ℕ → Option StoppedAt → Option StoppedLeaf
 stop_at first None = None
@@ -238,7 +256,7 @@ pub record IsBranching (Past : PastPlaces) (p : Problem) (n : Node) (old new : G
   pub some_best : is_some new.best ≡ (is_some old.best || is_some seen.best)
   pub nodes : new.nodes ≡ old.nodes + length (cells_of children)
   pub numbered : length old.pool.payloads + length (cells_of children) < 2 ^ 32 - 1
-  pub are_open : AreOpen new.pool
+  pub open_after : AreOpenAfter old.pool new.pool at
   pub start : new.start ≡ old.start
   pub budget : new.budget ≡ old.budget
   pub stop : new.stop ≡ stop_at (length old.pool.payloads) seen.stop

@@ -4,3 +4,5 @@ pub mod Found
 pub mod Growing
 pub mod Hand
 pub mod Searched
+pub mod Settling
+pub mod Worth

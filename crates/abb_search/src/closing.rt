@@ -1,5 +1,5 @@
-//! What shuts the open leaves, where a network costs no more than any of them.
-ghost use Rattle.std.specs.Prelude.{◌≡◌, ◌<◌, length, IfOk, Option, option_copied};
+//! What shuts the open leaves, where a network costs no more than any of them, or where they are refuted.
+ghost use Rattle.std.specs.Prelude.{◌≡◌, ◌<◌, ℕ, false, None, length, IfOk, Option, option_copied};
 ghost use Rattle.pns_rules.specs.Shape.{shape_of};
 ghost use Rattle.pns_rules.specs.Ends.{IsSound, IsReduced};
 ghost use Rattle.pgraph.specs.Tables.{shape};
@@ -7,24 +7,35 @@ ghost use Rattle.pgraph.specs.View.{node_of};
 ghost use Rattle.tree_rules.specs.Claim.{CostOver};
 ghost use Rattle.tree_rules.specs.Costs.{IsNoMore};
 ghost use Rattle.node_evaluation.specs.Evaluated.{cost_over, cost_in, IsBoundOf, IsWorth, IsProof};
+ghost use Rattle.abb_search.specs.Worth.{refutation_in, refutation_of};
 ghost use Rattle.abb_search.specs.Growing.{IsGrowingFor};
-ghost use Rattle.abb_search.specs.Closing.{AreBeaten, IsShutBy, AreShutBy, IsInRange, hand_of, scaled_in};
+ghost use Rattle.abb_search.specs.Closing.{AreBeaten, IsShutBy, AreShutBy, IsInRange, AreInRange, RefutedShut, hand_of, refuted_by, shut_by};
 
 use crate::growing::{Growing, StoppedLeaf, node_at, reaches};
-use branch_tree::{Network, Scaled};
-use node_evaluation::{Bound, Evaluator, PastStop, Proof, Ready};
+use branch_tree::{Multipliers, Network};
+use node_evaluation::{Bound, Evaluator, PastStop, Proof, Ready, Worth};
 use pgraph::Graph;
 use pns_problem::Problem;
+use search_tree::{Shut, copy_multipliers, copy_scaled};
 use std::alloc::{AllocError, Global};
 use unit_sets::Node;
 
 /// What shuts the open leaves.
 #[derive(Drop)]
 pub enum Closing {
-    /// Multipliers for each open leaf, by its number.
-    Proved(Vec<Option<Scaled>>),
-    /// A number is past the range at an open leaf.
+    /// What shuts each open leaf, by its number.
+    Proved(Vec<Option<Shut>>),
+    /// A number is past the range at an open leaf of which it is settled what it is worth.
     Stopped(StoppedLeaf),
+}
+
+/// What shuts one node.
+#[derive(Drop)]
+enum Shutting {
+    /// This shuts it, or nothing, where it is no open leaf.
+    By(Option<Shut>),
+    /// A number is past the range there.
+    Stopped(PastStop),
 }
 
 // The numbers of multipliers are in range. A call tells a proof so, and does nothing.
@@ -35,13 +46,6 @@ fn is_in_range(proof: &Proof)
         Proof::Scaled(scaled) => scaled.are_in_range(),
         Proof::Stopped(_) => {}
     }
-}
-
-fn copy_of(alloc: Global, scaled: &Scaled) -> Result<Scaled, AllocError>
-    ensures { IfOk result (λ c. c ≡ scaled.now) }
-{
-    let numbers = scaled.numbers().to_vec(alloc)?;
-    Ok(Scaled::from_vec(numbers))
 }
 
 /// What the evaluator proves of a node that is worth no less than the network's cost.
@@ -83,14 +87,14 @@ fn proof_for<E: Evaluator>(
 {
     network.is_sized();
     if reaches(&bound.low, network) {
-        let copy = copy_of(alloc, &bound.scaled)?;
+        let copy = copy_scaled(alloc, &bound.scaled)?;
         return Ok(Proof::Scaled(copy));
     }
     proved_by(alloc, evaluator, problem, graph, network, node)
 }
 
 /// What is at hand for a node, where it is an open leaf.
-fn hand_at(growing: &Growing, leaf: u32) -> Option<&Ready>
+pub(crate) fn hand_at(growing: &Growing, leaf: u32) -> Option<&Ready>
     requires { leaf < length growing.now.pool.payloads }
     ensures { option_copied result ≡ hand_of growing.now leaf }
 {
@@ -103,8 +107,18 @@ fn hand_at(growing: &Growing, leaf: u32) -> Option<&Ready>
     }
 }
 
+/// What the evaluator proves shuts a leaf.
+fn shut_by(proof: Proof) -> Shutting
+    ensures { result ≡ shut_by proof }
+{
+    match proof {
+        Proof::Scaled(scaled) => Shutting::By(Some(Shut::Bounded(scaled))),
+        Proof::Stopped(stop) => Shutting::Stopped(stop),
+    }
+}
+
 /// What shuts a node, where it is an open leaf.
-fn proof_at<E: Evaluator>(
+fn shut_at<E: Evaluator>(
     alloc: Global,
     evaluator: &mut E,
     problem: &Problem,
@@ -112,40 +126,34 @@ fn proof_at<E: Evaluator>(
     growing: &Growing,
     network: &Network,
     leaf: u32,
-) -> Result<Option<Proof>, AllocError>
+) -> Result<Shutting, AllocError>
     requires graph { shape graph.now ≡ shape_of problem.now }
     requires growing { (undercut : Option CostOver) × IsGrowingFor E.past problem.now undercut growing.now }
     requires beaten { AreBeaten growing.now network.now }
     requires leaf { leaf < length growing.now.pool.payloads }
     ensures { IfOk result (IsShutBy E.past problem.now growing.now (cost_in network.now) leaf) }
 {
-    match hand_at(growing, leaf) {
-        None => Ok(None),
-        Some(ready) => {
-            let node = node_at(&growing.pool, leaf);
-            let proof = proof_for(
-                alloc,
-                evaluator,
-                problem,
-                graph,
-                network,
-                node,
-                &ready.bound,
-            )?;
-            is_in_range(&proof);
-            Ok(Some(proof))
+    let Some(ready) = hand_at(growing, leaf) else {
+        return Ok(Shutting::By(None));
+    };
+    match &ready.worth {
+        Worth::AtLeast(bound) => {
+            bound.scaled.are_in_range();
+            network.is_sized();
+            let copy = copy_scaled(alloc, &bound.scaled)?;
+            Ok(Shutting::By(Some(Shut::Bounded(copy))))
         }
-    }
-}
-
-/// The multipliers, if there are any, or where a number is past the range.
-fn scaled_in(proof: Option<Proof>) -> Result<Option<Scaled>, PastStop>
-    ensures { result ≡ scaled_in proof }
-{
-    match proof {
-        None => Ok(None),
-        Some(Proof::Scaled(scaled)) => Ok(Some(scaled)),
-        Some(Proof::Stopped(stop)) => Err(stop),
+        Worth::Refuted(ys) => {
+            ys.are_in_range();
+            let copy = copy_multipliers(alloc, ys)?;
+            Ok(Shutting::By(Some(Shut::Refuted(copy))))
+        }
+        Worth::Settled(bound) => {
+            let node = node_at(&growing.pool, leaf);
+            let proof = proof_for(alloc, evaluator, problem, graph, network, node, bound)?;
+            is_in_range(&proof);
+            Ok(shut_by(proof))
+        }
     }
 }
 
@@ -165,11 +173,74 @@ pub fn close_all<E: Evaluator>(
 {
     let mut proofs = Vec::new(alloc);
     'leaves: for leaf in 0..growing.nodes {
-        let proof = proof_at(alloc, evaluator, problem, graph, growing, network, leaf)?;
-        match scaled_in(proof) {
-            Ok(scaled) => proofs.push(scaled)?,
-            Err(stop) => return Ok(Closing::Stopped(StoppedLeaf { leaf, stop })),
+        let shutting = shut_at(alloc, evaluator, problem, graph, growing, network, leaf)?;
+        match shutting {
+            Shutting::By(shut) => proofs.push(shut)?,
+            Shutting::Stopped(stop) => return Ok(Closing::Stopped(StoppedLeaf { leaf, stop })),
         }
     }
     Ok(Closing::Proved(proofs))
+}
+
+/// The multipliers of a refutation, where there are some.
+fn refutation_in(worth: &Worth) -> Option<&Multipliers>
+    ensures { option_copied result ≡ refutation_in worth.now }
+{
+    match worth {
+        Worth::Refuted(ys) => Some(ys),
+        Worth::AtLeast(_) | Worth::Settled(_) => None,
+    }
+}
+
+/// The refutation of a node, where it is an open leaf that is refuted.
+fn refutation_at(growing: &Growing, leaf: u32) -> Option<&Multipliers>
+    requires { leaf < length growing.now.pool.payloads }
+    ensures { option_copied result ≡ refutation_of (hand_of growing.now leaf) }
+{
+    let ready = hand_at(growing, leaf)?;
+    refutation_in(&ready.worth)
+}
+
+/// Whether an open leaf is refuted.
+fn has_refuted(growing: &Growing) -> bool
+    requires { growing.now.nodes ≡ length growing.now.pool.payloads }
+    ensures { result ≡ false → (j : ℕ) → j < length growing.now.pool.payloads → refutation_of (hand_of growing.now j) ≡ None }
+{
+    'leaves: for leaf in 0..growing.nodes {
+        if refutation_at(growing, leaf).is_some() {
+            return true;
+        }
+    }
+    false
+}
+
+/// What shuts a leaf with a refutation, where there is one.
+fn refute(alloc: Global, ys: Option<&Multipliers>) -> Result<Option<Shut>, AllocError>
+    ensures { IfOk result (λ m. (m ≡ refuted_by (option_copied ys.entry)) × AreInRange (option_copied ys.entry)) }
+{
+    match ys {
+        None => Ok(None),
+        Some(ys) => {
+            ys.are_in_range();
+            let copy = copy_multipliers(alloc, ys)?;
+            Ok(Some(Shut::Refuted(copy)))
+        }
+    }
+}
+
+/// What shuts the open leaves that are refuted, by their numbers. It takes memory only where there are some; `Err` comes for want of it
+/// alone.
+pub fn shut_refuted(alloc: Global, growing: &Growing) -> Result<Vec<Option<Shut>>, AllocError>
+    requires { growing.now.nodes ≡ length growing.now.pool.payloads }
+    ensures { IfOk result (λ proofs. RefutedShut growing.now proofs.items) }
+{
+    let mut proofs = Vec::new(alloc);
+    if !has_refuted(growing) {
+        return Ok(proofs);
+    }
+    'leaves: for leaf in 0..growing.nodes {
+        let shut = refute(alloc, refutation_at(growing, leaf))?;
+        proofs.push(shut)?;
+    }
+    Ok(proofs)
 }

@@ -9,8 +9,8 @@ ghost use Rattle.abb_search.specs.Answers.{past_with};
 
 use crate::growing::{Growing, StoppedLeaf};
 use crate::outcome::Found;
-use branch_tree::{Network, Scaled, Tree};
-use search_tree::nodes_in_preorder;
+use branch_tree::{Network, Tree};
+use search_tree::{Shut, nodes_in_preorder};
 use std::alloc::{AllocError, Global};
 
 /// A tree, and the place of one of its nodes.
@@ -29,11 +29,11 @@ pub(crate) fn is_sized(best: &Option<Network>)
     }
 }
 
-/// The tree of the nodes, and where a node stands in it. An open leaf at whose number multipliers stand is shut there by these.
+/// The tree of the nodes, and where a node stands in it. An open leaf at whose number something stands is shut there by this.
 pub(crate) fn shut_tree(
     alloc: Global,
     growing: &Growing,
-    proofs: &[Option<Scaled>],
+    proofs: &[Option<Shut>],
     leaf: u32,
 ) -> Result<Placed, AllocError>
     requires linked { IsLinked growing.now.pool.payloads }

@@ -12,19 +12,21 @@ ghost use Rattle.branch_choice.specs.Choices.{IsChoice, way_of};
 ghost use Rattle.pgraph.specs.Tables.{shape};
 ghost use Rattle.pgraph.specs.View.{node_of};
 ghost use Rattle.search_tree.specs.Cells.{cell_at};
-ghost use Rattle.search_tree.specs.Growth.{AreOpen};
 ghost use Rattle.neutral_extension.specs.Candidates.{AreMakersOf};
 ghost use Rattle.tree_rules.specs.Costs.{IsNoMore};
 ghost use Rattle.node_evaluation.specs.Children.{AreSolvedBy};
 ghost use Rattle.node_evaluation.specs.Evaluated.{cost_over, cost_in};
-ghost use Rattle.abb_search.specs.Growing.{IsBeaten, IsBranching, IsSame, IsSameButHand, HasInterval, IsReachedAt, IsLeastLeaf, IsHeldUp, MayUndercut, ready_at, interval_of, interval_stop, stop_at, leaf_of, choice_of};
+ghost use Rattle.abb_search.specs.Worth.{interval_in, interval_of};
+ghost use Rattle.abb_search.specs.Growing.{IsBeaten, IsBranching, IsSameButRoom, IsSameButHand, HasInterval, IsReachedAt, IsLeastLeaf, IsHeldUp, MayUndercut, ready_at, interval_stop, stop_at, leaf_of, choice_of};
 
 use crate::hand::place_all;
 use branch_choice::Choice;
 use branch_tree::{End, Network};
 use mixed_numbers::Mixed;
 use neutral_extension::Makers;
-use node_evaluation::{Evaluator, Interval, PastStop, Ready, StoppedAt, cheaper, look_at_children};
+use node_evaluation::{
+    Evaluator, Interval, PastStop, Ready, StoppedAt, Worth, cheaper, look_at_children,
+};
 use node_pool::Pool;
 use pgraph::Graph;
 use pns_problem::Problem;
@@ -134,7 +136,7 @@ pub fn stopped_leaf(stop: &Option<StoppedLeaf>) -> Option<u32>
 }
 
 /// The key of what is at hand for an open leaf.
-fn key_at(pool: &Pool<Cell>, leaf: u32) -> usize
+pub(crate) fn key_at(pool: &Pool<Cell>, leaf: u32) -> usize
     requires { leaf < length pool.now.payloads }
     ensures { result ≡ (cell_at pool.now.payloads leaf).key }
 {
@@ -142,16 +144,26 @@ fn key_at(pool: &Pool<Cell>, leaf: u32) -> usize
     pool.payload(leaf).key
 }
 
-/// The interval that the least cost of an open leaf lies in, where this is past the range.
+/// The interval that a least cost lies in, where it is settled that this is past the range.
+fn interval_in(worth: &Worth) -> Option<&Interval>
+    ensures { option_copied result ≡ interval_in worth.now }
+{
+    match worth {
+        Worth::Settled(bound) => bound.interval.as_ref(),
+        Worth::AtLeast(_) | Worth::Refuted(_) => None,
+    }
+}
+
+/// The interval that the least cost of an open leaf lies in, where it is settled that this is past the range.
 fn interval_at(growing: &Growing, leaf: u32) -> Option<&Interval>
     requires { leaf < length growing.now.pool.payloads }
     ensures { option_copied result ≡ interval_of (ready_at growing.now leaf) }
 {
     let ready = growing.ready.get(key_at(&growing.pool, leaf))?;
-    ready.bound.interval.as_ref()
+    interval_in(&ready.worth)
 }
 
-/// What some relaxed flows of an open leaf cost at most: its value, or what the interval reaches.
+/// What some relaxed flows of an open leaf cost at most, where it is settled what it is worth: its value, or what the interval reaches.
 pub fn reached_at(growing: &Growing, leaf: u32) -> Mixed
     requires { leaf < length growing.now.pool.payloads }
     ensures { IsReachedAt growing.now leaf result }
@@ -164,8 +176,8 @@ pub fn reached_at(growing: &Growing, leaf: u32) -> Mixed
     }
 }
 
-/// Whether the open leaf of least value has relaxed flows that cost at most any other open leaf's value: it has, but where its least
-/// cost is past the range.
+/// Whether the open leaf of least value, where it is settled what it is worth, has relaxed flows that cost at most any other open leaf's
+/// value: it has, but where its least cost is past the range.
 pub fn leads(growing: &Growing, leaf: u32) -> bool
     requires { first growing.now.pool.leaves ≡ Some leaf }
     ensures least { result ≡ true → IsLeastLeaf growing.now leaf }
@@ -182,7 +194,7 @@ pub fn leads(growing: &Growing, leaf: u32) -> bool
     }
 }
 
-/// Whether an open leaf has relaxed flows that cost at most as much as the best network.
+/// Whether an open leaf, where it is settled what it is worth, has relaxed flows that cost at most as much as the best network.
 pub(crate) fn may_undercut(growing: &Growing, leaf: u32) -> bool
     requires { leaf < length growing.now.pool.payloads }
     ensures { IsTrue result ↔ MayUndercut growing.now leaf }
@@ -216,10 +228,10 @@ pub fn take_stop(growing: &mut Growing, leaf: u32) -> Option<StoppedLeaf>
 {
     match growing.ready.try_remove(key_at(&growing.pool, leaf)) {
         None => None,
-        Some(ready) => {
-            let bound = ready.bound;
-            stop_in(leaf, bound.interval)
-        }
+        Some(ready) => match ready.worth {
+            Worth::Settled(bound) => stop_in(leaf, bound.interval),
+            Worth::AtLeast(_) | Worth::Refuted(_) => None,
+        },
     }
 }
 
@@ -272,7 +284,6 @@ pub fn branch_leaf<E: Evaluator>(
     requires graph { shape graph.now ≡ shape_of problem.now }
     requires same { AreMakersOf (shape graph.now) makers.old.makers }
     requires leaf { has growing.old.pool.leaves leaf ≡ true }
-    requires open { AreOpen growing.old.pool }
     requires sound { IsSound (shape_of problem.now) (node_of node) }
     requires reduced { IsReduced (shape_of problem.now) (node_of node) }
     requires choice { IsChoice (shape_of problem.now) (node_of node) choice }
@@ -280,7 +291,7 @@ pub fn branch_leaf<E: Evaluator>(
     requires few { length growing.old.pool.payloads + length (options_at (shape_of problem.now) (node_of node) (way_of choice)) < 2 ^ 32 }
     ensures branching { OnOk result (IsBranching E.past problem.now (node_of node) growing.old growing.new leaf (way_of choice)) }
     ensures solved { IfOk result (λ ws. all ≡ true → AreSolvedBy problem.now (drop (length growing.old.pool.payloads) growing.new.pool.payloads) ws.items) }
-    ensures same { OnErr result (IsSame growing.old growing.new) }
+    ensures same { OnErr result (IsSameButRoom growing.old growing.new) }
     ensures makers { makers.new.makers ≡ makers.old.makers }
 {
     growing.pool.is_pool();

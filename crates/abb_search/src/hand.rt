@@ -1,9 +1,10 @@
 //! What is at hand for the open leaves, each under a key.
 ghost use Rattle.std.specs.Prelude.{◌≡◌, ◌<◌, ◌≤◌, ◌+◌, [], ◌∷◌, ◌++◌, length, reverse, vec_len, vec_capacity};
-ghost use Rattle.slab.specs.Slab.{slab_len, HasRoomFor};
+ghost use Rattle.slab.specs.Slab.{get, slab_len, HasRoomFor, Updates};
+ghost use Rattle.abb_search.specs.Worth.{with_worth};
 ghost use Rattle.abb_search.specs.Hand.{IsPlaced, ArePlaced};
 
-use node_evaluation::Ready;
+use node_evaluation::{Ready, Worth};
 use search_tree::Fresh;
 use slab::Slab;
 
@@ -58,4 +59,16 @@ pub(crate) fn place_all(
         placed.push_reserved(place(fresh, at_hand, hand));
     }
     placed
+}
+
+/// Puts another worth at hand under a key, where something is. It takes no memory.
+pub(crate) fn put_worth(hand: &mut Slab<Ready>, key: usize, worth: Worth)
+    ensures { Updates hand.old hand.new key (with_worth worth (get hand.old key)) }
+{
+    if let Some(ready) = hand.try_remove(key) {
+        hand.insert_reserved(Ready {
+            choice: ready.choice,
+            worth,
+        });
+    }
 }

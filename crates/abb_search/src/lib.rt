@@ -1,11 +1,14 @@
 //! Accelerated branch and bound: a best-first search of the structures of a node.
 //!
 //! A search is an object: each turn branches an open leaf of least value, so that the nodes are more, or tells the end. After want of
-//! memory all is as before the turn. It stands on an evaluator of nodes. A leaf whose least cost is past the range has a cost that no
-//! relaxed flows undercut as its value; it is branched where some are known that cost at most as much as any other leaf's value.
+//! memory all is as before the turn. It stands on an evaluator of nodes. The value of a new leaf is a cost that no relaxed flows undercut,
+//! as a first look tells it. What the leaf is worth is settled when no other is less and it is to be branched: its value rises then, or it
+//! is refuted, and waits for its shutting in the tree of the end. A leaf whose least cost is past the range keeps a cost that no relaxed
+//! flows undercut as its value; it is branched where some are known that cost at most as much as any other leaf's value.
 //!
 //! - `growing`: the tree while it grows, and how a leaf is branched
-//! - `closing`: what shuts the open leaves, where the best network costs no more than any of them
+//! - `settling`: what open leaves are worth is settled
+//! - `closing`: what shuts the open leaves, where the best network costs no more than any of them or they are refuted
 //! - `hand`: what is at hand for the open leaves, each under a key
 //! - `root`: the root, before and after the steps that are possible there
 //! - `outcome`: what a search finds, and what a turn answers
@@ -22,18 +25,20 @@ mod growing;
 mod hand;
 mod outcome;
 mod root;
+mod settling;
 mod step;
 mod turns;
 mod whole;
 mod workspace;
 
-pub use closing::{Closing, close_all};
+pub use closing::{Closing, close_all, shut_refuted};
 pub use growing::{
     Growing, StoppedLeaf, branch_leaf, choice_at, is_over, is_within, leads, node_at, reached_at,
     reaches, stopped_leaf, take_stop,
 };
 pub use outcome::{Found, Turn};
 pub use root::look_at_root;
+pub use settling::{first_put_off, is_settled, next_waiting, settle_from, settle_leaf};
 pub use turns::SearchWith;
 pub use whole::{Search, Workspace, search, search_against};
 pub use workspace::WorkspaceWith;

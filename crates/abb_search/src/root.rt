@@ -1,10 +1,10 @@
 //! The root of a search.
-ghost use Rattle.std.specs.Prelude.{◌≡◌, ◌≤◌, [], ◌∷◌, None, IfOk, OnOk, length};
+ghost use Rattle.std.specs.Prelude.{◌≡◌, ◌≤◌, [], ◌∷◌, cond, None, IfOk, OnOk, length};
 ghost use Rattle.pns_rules.specs.Shape.{shape_of};
 ghost use Rattle.pns_rules.specs.Ends.{IsSound};
 ghost use Rattle.pgraph.specs.Tables.{shape};
 ghost use Rattle.pgraph.specs.View.{node_of};
-ghost use Rattle.search_tree.specs.Growth.{AreOpen};
+ghost use Rattle.search_tree.specs.Growth.{is_open};
 ghost use Rattle.neutral_extension.specs.Candidates.{AreMakersOf};
 ghost use Rattle.node_evaluation.specs.Children.{AreSolvedBy};
 ghost use Rattle.abb_search.specs.Growing.{root_stop, IsOpenRoot, IsLookedRoot};
@@ -31,7 +31,7 @@ fn add_root(pool: &mut Pool<Cell>, cell: Cell, value: Mixed) -> Result<(), Alloc
     requires leaves { pool.old.leaves ≡ [] }
     ensures cells { OnOk result (pool.new.payloads ≡ cell ∷ []) }
     ensures values { OnOk result (pool.new.values ≡ value ∷ []) }
-    ensures open { OnOk result (AreOpen pool.new) }
+    ensures open { OnOk result (pool.new.leaves ≡ cond (is_open cell.end) (0 ∷ []) []) }
 {
     let open = cell.ends_open();
     match pool.add(None, value, cell) {
@@ -49,7 +49,7 @@ fn add_root(pool: &mut Pool<Cell>, cell: Cell, value: Mixed) -> Result<(), Alloc
 fn root_pool(alloc: Global, cell: Cell, value: Mixed) -> Result<Pool<Cell>, AllocError>
     ensures cells { IfOk result (λ pool. pool.payloads ≡ cell ∷ []) }
     ensures values { IfOk result (λ pool. pool.values ≡ value ∷ []) }
-    ensures open { IfOk result AreOpen }
+    ensures open { IfOk result (λ pool. pool.leaves ≡ cond (is_open cell.end) (0 ∷ []) []) }
 {
     let mut pool = Pool::open(alloc, 1)?;
     add_root(&mut pool, cell, value)?;

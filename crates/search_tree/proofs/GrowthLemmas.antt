@@ -1,7 +1,7 @@
 -- Pools to which leaves are added, and of which leaves are shut.
 use Rattle.std.proofs.Common.{◌≡◌, ℕ, ◌+◌, ◌<◌, ◌≤◌, ◌==◌, Bool, true, false, cond, not, List, [], ◌∷◌, ◌++◌, length, slice_set, refl, sym, ap, ◌∙◌, subst, arith, inl, inr, ◌⊎◌, Option, Some, eq-eqb, ne_eqb, length-append, append_assoc}
 use Rattle.std.proofs.lemmas.Bool.{and_parts, and_from, both_ways, cases_eq, false_from_ne_true, not-true, or_cases, or_left}
-use Rattle.std.proofs.lemmas.List.{get_or_append_left, get_or-set_same, get_or-set_other, length-set}
+use Rattle.std.proofs.lemmas.List.{get_or_append_left, length-set}
 use Rattle.link_lists.specs.Lists.{has, without}
 use Rattle.link_lists.proofs.Cells.{has-here, has-later, has-without}
 use Rattle.mixed_numbers.specs.declared.number.Mixed.{Mixed}
@@ -10,7 +10,7 @@ use Rattle.node_pool.specs.Pooled.{Pooled, IsShut, IsWithLeaf, with_shut, with_p
 use Rattle.node_pool.proofs.Order.{has-placed}
 use Rattle.search_tree.specs.declared.growth.Fresh.{Fresh}
 use Rattle.search_tree.specs.Cells.{Cell, no_cell, cell_at}
-use Rattle.search_tree.specs.Growth.{is_open, AreOpen, cells_in_turn, values_in_turn}
+use Rattle.search_tree.specs.Growth.{is_open, AreOpenAfter, cells_in_turn, values_in_turn}
 
 pub placed_new : (vs : List Mixed) (v : Mixed) (c : ℕ) (xs : List ℕ) → has (placed vs v c xs) c ≡ true
 placed_new vs v c [] = has-here c []
@@ -24,6 +24,10 @@ without_parts : (c : ℕ) (xs : List ℕ) (j : ℕ) → has (without c xs) j ≡
 without_parts c xs j h =
     let p = and_parts (has xs j) (not (c == j)) (sym (has-without c xs j) ∙ h) in
     (p.0, λ e. both_ways (c == j) (not-true (c == j) p.1) (eq-eqb c j (sym e)))
+
+-- a leaf that is taken out is gone
+pub without_gone : (c : ℕ) (xs : List ℕ) → has (without c xs) c ≡ false
+without_gone c xs = false_from_ne_true (has (without c xs) c) (λ h. (without_parts c xs c h).1 refl)
 
 module _ (old new : Pooled Cell) (leaf : ℕ) (v : Mixed) (x : Cell) (added : IsWithLeaf old (Some leaf) v x new) where
   pub new_leaf : has new.leaves (length old.parents) ≡ true
@@ -51,10 +55,10 @@ shut_stays p id leaf s = record {
 pub shut_now : (p : Pooled Cell) (leaf : ℕ) (x : Cell) → leaf < length p.parents → IsShut (with_payload (with_shut p leaf) leaf x) leaf
 shut_now p leaf x lt = record {
   there = lt;
-  out = false_from_ne_true (has (without leaf p.leaves) leaf) (λ t. (without_parts leaf p.leaves leaf t).1 refl);
+  out = without_gone leaf p.leaves;
 }
 
--- ---- the open leaves are the cells that end open
+-- ---- which leaves are open
 placed_keeps : (vs : List Mixed) (v : Mixed) (c : ℕ) (xs : List ℕ) (d : ℕ) → has xs d ≡ true → has (placed vs v c xs) d ≡ true
 placed_keeps vs v c [] d h = absurd (both_ways false refl h)
 placed_keeps vs v c (x ∷ xs) d h = by (is_at_least vs v x) (λ t. placed_keeps vs v c xs d t)
@@ -77,51 +81,30 @@ cell-new : (cells : List Cell) (x : Cell) → cell_at (cells ++ x ∷ []) (lengt
 cell-new [] x = refl
 cell-new (c ∷ cs) x = cell-new cs x
 
-module _ (old new : Pooled Cell) (leaf : ℕ) (v : Mixed) (x : Cell) (added : IsWithLeaf old (Some leaf) v x new) (same : length old.payloads ≡ length old.parents) (were : AreOpen old) where
-  keeps_old : (j : ℕ) → j < length old.payloads → has new.leaves j ≡ has old.leaves j
-  keeps_old j lt = together (has new.leaves j) (has old.leaves j)
-      (λ h. elim (has-placed old.values v (length old.parents) old.leaves j (sym (ap (λ xs. has xs j) added.leaves) ∙ h)) [ inl e ↦ absurd (omega (arith, lt, e, same)) | inr o ↦ o ])
-      (λ h. ap (λ xs. has xs j) added.leaves ∙ placed_keeps old.values v (length old.parents) old.leaves j h)
+-- the other leaves stay where one is taken out
+pub others_stay : (leaf : ℕ) (xs : List ℕ) (j : ℕ) → (j ≡ leaf → ⊥) → has (without leaf xs) j ≡ has xs j
+others_stay leaf xs j ne =
+    together (has (without leaf xs) j) (has xs j) (λ h. (without_parts leaf xs j h).0)
+    (λ h. has-without leaf xs j ∙ and_from (has xs j) (not (leaf == j)) h (ap not (ne_eqb leaf j (λ e. ne (sym e)))))
 
-  old_open : (j : ℕ) → j < length old.payloads → has new.leaves j ≡ is_open (cell_at new.payloads j).end
-  old_open j lt = keeps_old j lt ∙ (were j lt ∙ sym (ap (λ (c : Cell). is_open c.end) (ap (λ cs. cell_at cs j) added.payloads ∙ cell-old old.payloads x j lt)))
+-- they stay where one is put in
+pub placed_stays : (vs : List Mixed) (v : Mixed) (c : ℕ) (xs : List ℕ) (j : ℕ) → (j ≡ c → ⊥) → has (placed vs v c xs) j ≡ has xs j
+placed_stays vs v c xs j ne =
+    together (has (placed vs v c xs) j) (has xs j) (λ h. elim (has-placed vs v c xs j h) [ inl e ↦ absurd (ne e) | inr o ↦ o ]) (λ h. placed_keeps vs v c xs j h)
 
-  new_cell : cell_at new.payloads (length old.payloads) ≡ x
-  new_cell = ap (λ cs. cell_at cs (length old.payloads)) added.payloads ∙ cell-new old.payloads x
+module _ (old new : Pooled Cell) (leaf : ℕ) (v : Mixed) (x : Cell) (added : IsWithLeaf old (Some leaf) v x new) (same : length old.payloads ≡ length old.parents) where
+  pub keeps_old : (j : ℕ) → j < length old.payloads → has new.leaves j ≡ has old.leaves j
+  keeps_old j lt = ap (λ xs. has xs j) added.leaves ∙ placed_stays old.values v (length old.parents) old.leaves j (λ e. omega (arith, lt, e, same))
 
-  count : length new.payloads ≡ length old.payloads + 1
-  count = ap (λ (cs : List Cell). length cs) added.payloads ∙ length-append old.payloads (x ∷ [])
+  pub open_added : is_open x.end ≡ true → has new.leaves (length old.payloads) ≡ is_open x.end
+  open_added is = subst (λ i. has new.leaves i ≡ true) (sym same) (new_leaf old new leaf v x added) ∙ sym is
 
-  pub open_added : is_open x.end ≡ true → AreOpen new
-  open_added is j lt = elim (cases_eq j (length old.payloads)) [
-    | inl e ↦ subst (λ i. has new.leaves i ≡ is_open (cell_at new.payloads i).end) (sym e)
-        (subst (λ i. has new.leaves i ≡ true) (sym same) (ap (λ xs. has xs (length old.parents)) added.leaves ∙ placed_new old.values v (length old.parents) old.leaves) ∙ (sym is ∙ sym (ap (λ (c : Cell). is_open c.end) new_cell)))
-    | inr ne ↦ old_open j (let n = count in omega (arith, lt, ne, n))
-  ]
+  module _ (id : ℕ) (is : id ≡ length old.parents) where
+    pub shut_keeps : (j : ℕ) → j < length old.payloads → has (without id new.leaves) j ≡ has old.leaves j
+    shut_keeps j lt = others_stay id new.leaves j (λ e. omega (arith, lt, e, is, same)) ∙ keeps_old j lt
 
-  pub shut_added : (id : ℕ) → id ≡ length old.parents → is_open x.end ≡ false → AreOpen (with_shut new id)
-  shut_added id is closed j lt = elim (cases_eq j (length old.payloads)) [
-    | inl e ↦ false_from_ne_true (has (without id new.leaves) j) (λ h. (without_parts id new.leaves j h).1 (e ∙ (same ∙ sym is)))
-        ∙ sym (ap (λ i. is_open (cell_at new.payloads i).end) e ∙ (ap (λ (c : Cell). is_open c.end) new_cell ∙ closed))
-    | inr ne ↦
-        let less : j < length old.payloads = let n = count in omega (arith, lt, ne, n) in
-        together (has (without id new.leaves) j) (has new.leaves j) (λ h. (without_parts id new.leaves j h).0)
-        (λ h. has-without id new.leaves j ∙ and_from (has new.leaves j) (not (id == j)) h (ap not (ne_eqb id j (λ e. omega (arith, less, e, is, same))))) ∙ old_open j less
-  ]
-
--- a leaf that is shut with another cell, which does not end open
-pub open_shut : (p : Pooled Cell) (leaf : ℕ) (x : Cell) → AreOpen p → is_open x.end ≡ false → AreOpen (with_payload (with_shut p leaf) leaf x)
-open_shut p leaf x were closed j lt = elim (cases_eq j leaf) [
-  | inl e ↦ false_from_ne_true (has (without leaf p.leaves) j) (λ h. (without_parts leaf p.leaves j h).1 e)
-      ∙ sym (ap (λ i. is_open (cell_at (slice_set p.payloads leaf x) i).end) e ∙ (ap (λ (c : Cell). is_open c.end) (get_or-set_same p.payloads leaf x no_cell (subst (λ i. i < length p.payloads) e less)) ∙ closed))
-  | inr ne ↦
-      together (has (without leaf p.leaves) j) (has p.leaves j) (λ h. (without_parts leaf p.leaves j h).0)
-      (λ h. has-without leaf p.leaves j ∙ and_from (has p.leaves j) (not (leaf == j)) h (ap not (ne_eqb leaf j (λ e. ne (sym e)))))
-      ∙ (were j less ∙ sym (ap (λ (c : Cell). is_open c.end) (get_or-set_other p.payloads leaf j x no_cell ne)))
-]
-  where
-    less : j < length p.payloads
-    less = let e = length-set p.payloads leaf x in omega (arith, lt, e)
+    pub shut_added : is_open x.end ≡ false → has (without id new.leaves) (length old.payloads) ≡ is_open x.end
+    shut_added closed = false_from_ne_true (has (without id new.leaves) (length old.payloads)) (λ h. (without_parts id new.leaves (length old.payloads) h).1 (same ∙ sym is)) ∙ sym closed
 
 -- ---- children in turn
 pub cells-push : (children : List Fresh) (f : Fresh) → cells_in_turn (children ++ f ∷ []) ≡ f.cell ∷ cells_in_turn children
@@ -132,17 +115,39 @@ pub values-push : (children : List Fresh) (f : Fresh) → values_in_turn (childr
 values-push [] f = refl
 values-push (k ∷ ks) f = ap (λ (vs : List Mixed). vs ++ k.value ∷ []) (values-push ks f)
 
--- what is to come finishes the pool
-pub record IsGrowing (cells : List Cell) (values : List Mixed) (leaf : ℕ) (p : Pooled Cell) (children : List Fresh) : Type 0 where
+-- what is to come finishes the pool, which grew out of the old one
+pub record IsGrowing (old : Pooled Cell) (cells : List Cell) (values : List Mixed) (leaf : ℕ) (p : Pooled Cell) (children : List Fresh) : Type 0 where
   pub cells_are : p.payloads ++ cells_in_turn children ≡ cells
   pub values_are : p.values ++ values_in_turn children ≡ values
   pub parent : IsShut p leaf
-  pub opens : AreOpen p
+  pub more : length old.payloads ≤ length p.payloads
+  pub opens : AreOpenAfter old p leaf
   pub room : length children ≤ p.spare
 
-pub grows : (cells : List Cell) (values : List Mixed) (leaf : ℕ) (p q : Pooled Cell) (children : List Fresh) (f : Fresh) → IsGrowing cells values leaf p (children ++ f ∷ [])
-    → q.payloads ≡ p.payloads ++ f.cell ∷ [] → q.values ≡ p.values ++ f.value ∷ [] → IsShut q leaf → AreOpen q → p.spare ≤ q.spare + 1 → IsGrowing cells values leaf q children
-grows cells values leaf p q children f g pc pv s now room = record {
+-- it begins where the leaf is shut
+pub grows_first : (old p : Pooled Cell) (leaf : ℕ) (d : Cell) (children : List Fresh) → p.payloads ≡ slice_set old.payloads leaf d → p.values ≡ old.values → IsShut p leaf
+    → ((j : ℕ) → (j ≡ leaf → ⊥) → has p.leaves j ≡ has old.leaves j) → p.spare ≡ old.spare → length children ≤ old.spare
+    → IsGrowing old (slice_set old.payloads leaf d ++ cells_in_turn children) (old.values ++ values_in_turn children) leaf p children
+grows_first old p leaf d children pc pv s stay es room = record {
+  cells_are = ap (λ (cs : List Cell). cs ++ cells_in_turn children) pc;
+  values_are = ap (λ (vs : List Mixed). vs ++ values_in_turn children) pv;
+  parent = s;
+  more = omega (arith, many);
+  opens = record {
+    shut = s.out;
+    others = λ j lt ne. stay j ne;
+    fresh = λ j le lt. absurd (omega (arith, le, lt, many));
+  };
+  room = omega (arith, es, room);
+}
+  where
+    many : length p.payloads ≡ length old.payloads
+    many = ap (λ (cs : List Cell). length cs) pc ∙ length-set old.payloads leaf d
+
+pub grows : (old : Pooled Cell) (cells : List Cell) (values : List Mixed) (leaf : ℕ) (p q : Pooled Cell) (children : List Fresh) (f : Fresh) → IsGrowing old cells values leaf p (children ++ f ∷ [])
+    → q.payloads ≡ p.payloads ++ f.cell ∷ [] → q.values ≡ p.values ++ f.value ∷ [] → IsShut q leaf → has q.leaves (length p.payloads) ≡ is_open f.cell.end
+    → ((j : ℕ) → j < length p.payloads → has q.leaves j ≡ has p.leaves j) → p.spare ≤ q.spare + 1 → IsGrowing old cells values leaf q children
+grows old cells values leaf p q children f g pc pv s new stay room = record {
   cells_are =
       ap (λ (cs : List Cell). cs ++ cells_in_turn children) pc
       ∙ (append_assoc p.payloads (f.cell ∷ []) (cells_in_turn children) ∙ (sym (ap (λ (cs : List Cell). p.payloads ++ cs) (cells-push children f)) ∙ g.cells_are));
@@ -150,6 +155,22 @@ grows cells values leaf p q children f g pc pv s now room = record {
       ap (λ (vs : List Mixed). vs ++ values_in_turn children) pv
       ∙ (append_assoc p.values (f.value ∷ []) (values_in_turn children) ∙ (sym (ap (λ (vs : List Mixed). p.values ++ vs) (values-push children f)) ∙ g.values_are));
   parent = s;
-  opens = now;
+  more = let m = g.more in omega (arith, m, many);
+  opens = record {
+    shut = s.out;
+    others = λ j lt ne. stay j (let m = g.more in omega (arith, lt, m)) ∙ g.opens.others j lt ne;
+    fresh = λ j le lt. elim (cases_eq j (length p.payloads)) [
+      | inl e ↦ subst (λ i. has q.leaves i ≡ is_open (cell_at q.payloads i).end) (sym e) (new ∙ sym (ap (λ (c : Cell). is_open c.end) here))
+      | inr ne ↦
+          let less : j < length p.payloads = omega (arith, lt, ne, many) in
+          stay j less ∙ (g.opens.fresh j le less ∙ sym (ap (λ (c : Cell). is_open c.end) (ap (λ cs. cell_at cs j) pc ∙ cell-old p.payloads f.cell j less)))
+    ];
+  };
   room = let l = length-append children (f ∷ []) in let r = g.room in omega (arith, l, r, room);
 }
+  where
+    many : length q.payloads ≡ length p.payloads + 1
+    many = ap (λ (cs : List Cell). length cs) pc ∙ length-append p.payloads (f.cell ∷ [])
+
+    here : cell_at q.payloads (length p.payloads) ≡ f.cell
+    here = ap (λ cs. cell_at cs (length p.payloads)) pc ∙ cell-new p.payloads f.cell

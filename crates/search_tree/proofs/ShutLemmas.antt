@@ -3,20 +3,20 @@ use Rattle.std.proofs.Common.{◌≡◌, ℕ, zero, suc, ◌<◌, false, List, [
 use Rattle.std.specs.Prelude.{slice_index_or}
 use Rattle.tree_rules.specs.Tree.{End, branch, leaf}
 use Rattle.tree_rules.specs.Leaf.{Leaf, dead, clash, refuted, bounded, untried}
-use Rattle.branch_tree.specs.Scaled.{Scaled}
+use Rattle.search_tree.specs.declared.shut.Shut.{Shut}
 use Rattle.search_tree.specs.Cells.{Cell, cell_at, times, numbers_below, children_at, AreBehind, IsLinked}
 use Rattle.search_tree.specs.Growth.{is_open, as_shut}
 use Rattle.search_tree.specs.Shut.{shut_leaf, shut_end, shut_cells}
 
 -- an end that is not open stays
-closed_leaf : (s : Scaled) (l : Leaf) → is_open (leaf l) ≡ false → shut_leaf (Some s) l ≡ l
+closed_leaf : (s : Shut) (l : Leaf) → is_open (leaf l) ≡ false → shut_leaf (Some s) l ≡ l
 closed_leaf s (dead x) h = refl
 closed_leaf s (clash k) h = refl
 closed_leaf s (refuted ys) h = refl
 closed_leaf s (bounded d ys) h = refl
 closed_leaf s untried h = absurd (true≢false h)
 
-pub closed_stays : (s : Scaled) (e : End Leaf) → is_open e ≡ false → shut_end (Some s) e ≡ e
+pub closed_stays : (s : Shut) (e : End Leaf) → is_open e ≡ false → shut_end (Some s) e ≡ e
 closed_stays s (branch w) h = refl
 closed_stays s (leaf l) h = ap (λ (k : Leaf). leaf k) (closed_leaf s l h)
 
@@ -24,32 +24,32 @@ pub unproved_stays : (e : End Leaf) → shut_end None e ≡ e
 unproved_stays (branch w) = refl
 unproved_stays (leaf l) = refl
 
-pub numbers_stay : (f : ℕ) (s : Option Scaled) (e : End Leaf) → numbers_below f (shut_end s e) ≡ numbers_below f e
+pub numbers_stay : (f : ℕ) (s : Option Shut) (e : End Leaf) → numbers_below f (shut_end s e) ≡ numbers_below f e
 numbers_stay f s (branch w) = refl
 numbers_stay f s (leaf l) = refl
 
-behind_stays : (n i f : ℕ) (s : Option Scaled) (e : End Leaf) → AreBehind n i f e → AreBehind n i f (shut_end s e)
+behind_stays : (n i f : ℕ) (s : Option Shut) (e : End Leaf) → AreBehind n i f e → AreBehind n i f (shut_end s e)
 behind_stays n i f s (branch w) h = h
 behind_stays n i f s (leaf l) h = tt
 
-abbrev pub proof_of : List (Option Scaled) → ℕ → Option Scaled
+abbrev pub proof_of : List (Option Shut) → ℕ → Option Shut
 proof_of ss i = slice_index_or ss i None
 
 same_cell : (c : Cell) → as_shut c (shut_end None c.end) ≡ c
 same_cell c = ap (λ (e : End Leaf). as_shut c e) (unproved_stays c.end)
 
-pub shut_length : (ss : List (Option Scaled)) (cs : List Cell) → length (shut_cells ss cs) ≡ length cs
+pub shut_length : (ss : List (Option Shut)) (cs : List Cell) → length (shut_cells ss cs) ≡ length cs
 shut_length [] cs = refl
 shut_length (s ∷ ss) [] = refl
 shut_length (s ∷ ss) (c ∷ cs) = ap suc (shut_length ss cs)
 
-pub shut_at : (ss : List (Option Scaled)) (cs : List Cell) (i : ℕ) → i < length cs → cell_at (shut_cells ss cs) i ≡ as_shut (cell_at cs i) (shut_end (proof_of ss i) (cell_at cs i).end)
+pub shut_at : (ss : List (Option Shut)) (cs : List Cell) (i : ℕ) → i < length cs → cell_at (shut_cells ss cs) i ≡ as_shut (cell_at cs i) (shut_end (proof_of ss i) (cell_at cs i).end)
 shut_at [] cs i lt = sym (same_cell (cell_at cs i))
 shut_at (s ∷ ss) [] i lt = absurd (omega (arith, lt))
 shut_at (s ∷ ss) (c ∷ cs) zero lt = refl
 shut_at (s ∷ ss) (c ∷ cs) (suc i) lt = shut_at ss cs i (omega (arith, lt))
 
-module _ (ss : List (Option Scaled)) (cs : List Cell) where
+module _ (ss : List (Option Shut)) (cs : List Cell) where
   pub children_stay : (i : ℕ) → i < length cs → children_at (shut_cells ss cs) i ≡ children_at cs i
   children_stay i lt = ap (λ (c : Cell). numbers_below c.first c.end) (shut_at ss cs i lt) ∙ numbers_stay (cell_at cs i).first (proof_of ss i) (cell_at cs i).end
 

@@ -1,5 +1,5 @@
 -- How a leaf of a growing tree becomes a branch.
-use Rattle.std.specs.Prelude.{◌≡◌, ℕ, ◌<◌, Bool, true, false, List, [], ◌∷◌, ◌++◌, length}
+use Rattle.std.specs.Prelude.{◌≡◌, ℕ, ◌<◌, ◌≤◌, Bool, true, false, List, [], ◌∷◌, ◌++◌, length}
 use Rattle.link_lists.specs.Lists.{has}
 use Rattle.node_pool.specs.Pooled.{Pooled}
 use Rattle.mixed_numbers.specs.declared.number.Mixed.{Mixed}
@@ -20,9 +20,11 @@ abbrev pub is_open : End Leaf → Bool
 is_open (branch w) = false
 is_open (leaf l) = is_open_leaf l
 
--- the open leaves of the pool are the cells that end open
-abbrev pub AreOpen : Pooled Cell → Type 0
-AreOpen p = (j : ℕ) → j < length p.payloads → has p.leaves j ≡ is_open (cell_at p.payloads j).end
+-- the open leaves of the pool after node `at` is branched: those before but this one, and each new node that ends open
+pub record AreOpenAfter (old new : Pooled Cell) (at : ℕ) : Type 0 where
+  pub shut : has new.leaves at ≡ false
+  pub others : (j : ℕ) → j < length old.payloads → (j ≡ at → ⊥) → has new.leaves j ≡ has old.leaves j
+  pub fresh : (j : ℕ) → length old.payloads ≤ j → j < length new.payloads → has new.leaves j ≡ is_open (cell_at new.payloads j).end
 
 -- the cell with an end whose children begin with `first`
 abbrev pub as_parent : Cell → ℕ → End Leaf → Cell

@@ -6,6 +6,7 @@
 //!
 //! - `cell`: `Cell`
 //! - `growth`: a leaf becomes a branch, and its children are added
+//! - `shut`: what shuts an open leaf
 //! - `walk`: the cells in preorder
 //! - `laws`: what holds of the tree where each cell fits
 #![tactic(auto)]
@@ -13,9 +14,11 @@
 mod cell;
 mod growth;
 mod laws;
+mod shut;
 mod walk;
 
 pub use cell::Cell;
 pub use growth::{Fresh, branch};
 pub use laws::{cells_stand, preorder_is_tree, preorder_proves};
+pub use shut::{Shut, copy_multipliers, copy_scaled};
 pub use walk::{Preorder, nodes_in_preorder};

@@ -8,7 +8,8 @@ ghost use Rattle.search_tree.specs.Shut.{shut_end, shut_cells};
 ghost use Rattle.search_tree.specs.Runs.{to_come};
 
 use crate::cell::Cell;
-use branch_tree::{End, Multipliers, Scaled, Steps, TreeNode};
+use crate::shut::{Shut, copy_multipliers, copy_scaled, end_by};
+use branch_tree::{End, Steps, TreeNode};
 use node_pool::Pool;
 use std::alloc::{AllocError, Global};
 
@@ -25,21 +26,6 @@ pub struct Preorder {
     pub nodes: Vec<TreeNode>,
     pub order: Vec<u32>,
     pub place: u32,
-}
-
-fn copy_multipliers(alloc: Global, ys: &Multipliers) -> Result<Multipliers, AllocError>
-    ensures { IfOk result (λ c. c ≡ ys.now) }
-{
-    ys.are_in_range();
-    let numbers = ys.numbers().to_vec(alloc)?;
-    Ok(Multipliers::from_vec(numbers))
-}
-
-fn copy_scaled(alloc: Global, scaled: &Scaled) -> Result<Scaled, AllocError>
-    ensures { IfOk result (λ c. c ≡ scaled.now) }
-{
-    let numbers = scaled.numbers().to_vec(alloc)?;
-    Ok(Scaled::from_vec(numbers))
 }
 
 fn copy_steps(alloc: Global, steps: &Steps) -> Result<Steps, AllocError>
@@ -72,20 +58,19 @@ fn copy_end(alloc: Global, end: &End) -> Result<End, AllocError>
     }
 }
 
-/// A copy of the node's end; an open leaf is bounded by the multipliers, where there are some.
-fn copy_shut(alloc: Global, cell: &Cell, proof: Option<&Scaled>) -> Result<End, AllocError>
+/// A copy of the node's end; an open leaf is shut, where something shuts it.
+fn copy_shut(alloc: Global, cell: &Cell, proof: Option<&Shut>) -> Result<End, AllocError>
     ensures { IfOk result (λ e. end_of e ≡ shut_end (option_copied proof.entry) cell.now.end) }
 {
-    if let Some(scaled) = proof {
+    if let Some(shut) = proof {
         if cell.ends_open() {
-            let copy = copy_scaled(alloc, scaled)?;
-            return Ok(End::Bound(copy));
+            return end_by(alloc, shut);
         }
     }
     copy_end(alloc, &cell.end)
 }
 
-fn copy_node(alloc: Global, cell: &Cell, proof: Option<&Scaled>) -> Result<TreeNode, AllocError>
+fn copy_node(alloc: Global, cell: &Cell, proof: Option<&Shut>) -> Result<TreeNode, AllocError>
     ensures { IfOk result (λ t. t ≡ record { option = cell.now.option; steps = cell.now.steps; end = shut_end (option_copied proof.entry) cell.now.end }) }
 {
     let steps = copy_steps(alloc, &cell.steps)?;
@@ -131,7 +116,7 @@ fn put_children(stack: &mut Vec<Run>, cell: &Cell) -> Result<(), AllocError>
 fn visit(
     alloc: Global,
     cell: &Cell,
-    proof: Option<&Scaled>,
+    proof: Option<&Shut>,
     run: Run,
     stack: &mut Vec<Run>,
     order: &mut Vec<u32>,
@@ -169,22 +154,22 @@ fn ended(nodes: Vec<TreeNode>, order: Vec<u32>, place: usize) -> Preorder
     }
 }
 
-/// The multipliers at a number, where there are some.
-fn proof_at(proofs: &[Option<Scaled>], number: u32) -> Option<&Scaled>
+/// What stands at a number, where something does.
+fn proof_at(proofs: &[Option<Shut>], number: u32) -> Option<&Shut>
     ensures { option_copied result ≡ slice_index_or proofs.now number None }
 {
     match proofs.get(number as usize) {
-        Some(Some(scaled)) => Some(scaled),
+        Some(Some(shut)) => Some(shut),
         _ => None,
     }
 }
 
-/// The branch tree of the cells, and the place of the cell `wanted` in it. An open leaf at whose number multipliers stand is shut
-/// there by these. It takes a step for each cell, and no recursion.
+/// The branch tree of the cells, and the place of the cell `wanted` in it. An open leaf at whose number something stands is shut there by
+/// this. It takes a step for each cell, and no recursion.
 pub fn nodes_in_preorder(
     alloc: Global,
     pool: &Pool<Cell>,
-    proofs: &[Option<Scaled>],
+    proofs: &[Option<Shut>],
     wanted: u32,
 ) -> Result<Preorder, AllocError>
     requires linked { IsLinked pool.now.payloads }

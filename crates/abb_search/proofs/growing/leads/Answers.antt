@@ -3,7 +3,8 @@ use Rattle.std.specs.Prelude.{option_copied}
 use Rattle.tree_rules.specs.Costs.{IsNoMore}
 use Rattle.node_evaluation.specs.declared.evaluator.Interval.{Interval}
 use Rattle.node_evaluation.specs.Evaluated.{cost_over}
-use Rattle.abb_search.specs.Growing.{interval_of, ready_at, reached_by}
+use Rattle.abb_search.specs.Worth.{interval_of}
+use Rattle.abb_search.specs.Growing.{ready_at, reached_by}
 use Rattle.abb_search.proofs.ReadyLemmas.{first_has, second_has}
 use Rattle.abb_search.proofs.TurnLemmas.{first_is_least, second_is_least, value_leads}
 use Rattle.abb_search.proofs.growing.leads.Goals as goal

@@ -5,7 +5,8 @@ use Rattle.tree_rules.specs.Claim.{claimed_cost, IsAtMost}
 use Rattle.mixed_numbers.specs.declared.number.Mixed.{Mixed}
 use Rattle.mixed_numbers.specs.Number.{numerator, denominator}
 use Rattle.node_evaluation.specs.Children.{claim_with}
-use Rattle.abb_search.specs.Growing.{interval_of, ready_at, reached_by}
+use Rattle.abb_search.specs.Worth.{interval_of}
+use Rattle.abb_search.specs.Growing.{ready_at, reached_by}
 use Rattle.abb_search.proofs.growing.may_undercut.Goals as goal
 
 -- the value that the pool has

@@ -1,6 +1,5 @@
-use Rattle.std.proofs.Common.{◌≡◌, ◌+◌, ◌≤◌, length, arith, ◌++◌, ◌∷◌, [], List, Option, Some, ap, ◌∙◌, length-append}
+use Rattle.std.proofs.Common.{◌≡◌, length, arith, ◌++◌, ◌∷◌, [], List, ap, ◌∙◌, length-append}
 use Rattle.search_tree.specs.declared.growth.Fresh.{Fresh}
-use Rattle.node_evaluation.specs.declared.looks.Ready.{Ready}
 use Rattle.abb_search.proofs.HandLemmas.{placing_goes_on}
 use Rattle.abb_search.proofs.hand.place_all.Goals as goal
 

@@ -30,7 +30,7 @@ returns-clause-root g c =
       fallen_found = c.cheaper.ensures.found;
       some_best = c.cheaper.ensures.some;
       stop_is = c.root_stop.ensures;
-      are_open = c.in_ok-pool.ensures.open;
+      leaves_are = c.in_ok-pool.ensures.open;
     }
 
 pub returns-clause-solved : goal.returns-clause-solved

@@ -1,4 +1,4 @@
-use Rattle.std.proofs.Common.{◌∙◌, Option, Some, None, subst}
+use Rattle.std.proofs.Common.{◌∙◌, Option, subst}
 use Rattle.pgraph.specs.View.{node_of}
 use Rattle.node_evaluation.specs.Looks.{cost_of}
 use Rattle.abb_search.specs.declared.outcome.Found.{Found}

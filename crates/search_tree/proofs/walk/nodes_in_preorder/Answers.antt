@@ -5,7 +5,7 @@ use Rattle.std.proofs.lemmas.Option.{get_or_from_slice_get}
 use Rattle.tree_rules.specs.Accepted.{Tree}
 use Rattle.search_tree.specs.declared.walk.Run.{Run}
 use Rattle.search_tree.specs.Cells.{Cell, no_cell, cell_at, numbers_below, children_at}
-use Rattle.branch_tree.specs.Scaled.{Scaled}
+use Rattle.search_tree.specs.declared.shut.Shut.{Shut}
 use Rattle.search_tree.specs.Growth.{as_shut}
 use Rattle.search_tree.specs.Preorder.{node_at, IsTreeIn}
 use Rattle.search_tree.specs.Shut.{shut_end, shut_cells}
@@ -93,7 +93,7 @@ walk-preserved c =
     = subst (λ (x : Cell). to_come c.visit.new.stack.items ≡ numbers_below x.first x.end ++ rest) (sym item) c.in_ok-visit.ensures.stack
     ∙ ap (λ xs. xs ++ rest) (sym (children_stay c.args.proofs.now old_cells run.next there)) in
     let seen : c.visit.new.nodes.items ≡ c.walk.nodes.items ++ record { option = (cell_at old_cells run.next).option; steps = (cell_at old_cells run.next).steps; end = shut_end (proof_of c.args.proofs.now run.next) (cell_at old_cells run.next).end } ∷ []
-    = subst (λ (q : Option Scaled). c.visit.new.nodes.items ≡ c.walk.nodes.items ++ record { option = (cell_at old_cells run.next).option; steps = (cell_at old_cells run.next).steps; end = shut_end q (cell_at old_cells run.next).end } ∷ []) c.proof_at-proof.ensures
+    = subst (λ (q : Option Shut). c.visit.new.nodes.items ≡ c.walk.nodes.items ++ record { option = (cell_at old_cells run.next).option; steps = (cell_at old_cells run.next).steps; end = shut_end q (cell_at old_cells run.next).end } ∷ []) c.proof_at-proof.ensures
     (subst (λ (x : Cell). c.visit.new.nodes.items ≡ c.walk.nodes.items ++ record { option = x.option; steps = x.steps; end = shut_end (option_copied c.proof_at-proof.result) x.end } ∷ []) (sym item) c.in_ok-visit.ensures.nodes) in
     let nodes : c.visit.new.nodes.items ≡ c.walk.nodes.items ++ node_at cells run.next ∷ []
     = seen ∙ ap (λ (x : Cell). c.walk.nodes.items ++ record { option = x.option; steps = x.steps; end = x.end } ∷ []) (sym shut) in

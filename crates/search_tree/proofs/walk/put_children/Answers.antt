@@ -1,6 +1,5 @@
-use Rattle.std.proofs.Common.{◌≡◌, ◌-◌, ◌<◌, sym, ap, ◌∙◌, ◌++◌, subst, arith}
+use Rattle.std.proofs.Common.{◌≡◌, ◌-◌, sym, ap, ◌∙◌, ◌++◌, subst, arith}
 use Rattle.std.specs.List.{range_with_len}
-use Rattle.tree_rules.specs.Tree.{children}
 use Rattle.branch_tree.specs.View.{end_of}
 use Rattle.search_tree.specs.Cells.{Cell, numbers_below}
 use Rattle.search_tree.specs.Runs.{to_come}

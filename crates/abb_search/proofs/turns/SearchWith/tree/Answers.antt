@@ -1,4 +1,4 @@
-use Rattle.std.proofs.Common.{◌≡◌, false, ap, ◌∙◌, subst}
+use Rattle.std.proofs.Common.{ap, ◌∙◌, subst}
 use Rattle.pgraph.specs.View.{node_of}
 use Rattle.node_evaluation.specs.Children.{claim_with}
 use Rattle.tree_rules.specs.Proved.{IsStopped}

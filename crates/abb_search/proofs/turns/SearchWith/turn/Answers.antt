@@ -1,9 +1,4 @@
-use Rattle.std.proofs.Common.{◌≡◌, ◌<◌, ◌≤◌, List, length, sym, ap, ◌∙◌, subst}
-use Rattle.pns_rules.specs.Shape.{shape_of}
-use Rattle.pns_rules.specs.Ends.{IsSound}
 use Rattle.pgraph.specs.Tables.{shape}
-use Rattle.pgraph.specs.View.{node_of}
-use Rattle.neutral_extension.specs.Candidates.{AreMakersOf}
 use Rattle.abb_search.proofs.StepLemmas.{searching_same}
 use Rattle.abb_search.proofs.turns.SearchWith.turn.Goals as goal
 

@@ -1,0 +1,13 @@
+use Rattle.std.proofs.Common.{◌≡◌}
+use Rattle.abb_search.specs.Growing.{IsSame}
+use Rattle.abb_search.specs.Settling.{waiting}
+use Rattle.abb_search.proofs.step.go_on.Given as goal
+
+abbrev pub invariant-rounds : goal.invariant-rounds
+invariant-rounds g l = record {
+  makers : l.makers.makers ≡ l.fn.makers.makers;
+  same : IsSame g.E.Evaluator.past l.problem l.fn.growing l.growing;
+}
+
+abbrev pub decreases-rounds : goal.decreases-rounds
+decreases-rounds g l = waiting l.growing

@@ -1,0 +1,216 @@
+//! What open leaves are worth is settled: when a leaf is to be branched, and before a search ends whose budget is spent.
+ghost use Rattle.std.specs.Prelude.{◌≡◌, ◌<◌, true, IfOk, IfSome, IfNone, Option, length};
+ghost use Rattle.pns_rules.specs.Shape.{shape_of};
+ghost use Rattle.pgraph.specs.Tables.{shape};
+ghost use Rattle.pgraph.specs.View.{node_of};
+ghost use Rattle.search_tree.specs.Cells.{cell_at};
+ghost use Rattle.node_evaluation.specs.Looks.{IsSettling};
+ghost use Rattle.tree_rules.specs.Claim.{CostOver};
+ghost use Rattle.abb_search.specs.Worth.{is_settled, is_settled_worth, is_put_off, is_put_off_worth};
+ghost use Rattle.abb_search.specs.Closing.{hand_of};
+ghost use Rattle.abb_search.specs.Growing.{AreOpen, IsGrowingFor, IsSame, ready_at};
+ghost use Rattle.abb_search.specs.Settling.{is_waiting, AreSettled, SettleHolds, StaysSettling};
+
+use crate::closing::hand_at;
+use crate::growing::{Growing, StoppedLeaf, key_at, node_at};
+use crate::hand::put_worth;
+use node_evaluation::{Evaluator, Settling, Worth, settle};
+use pgraph::Graph;
+use pns_problem::Problem;
+use search_tree::copy_multipliers;
+use std::alloc::{AllocError, Global};
+use unit_sets::Node;
+
+/// Whether it is settled so what a node is worth, and that it has relaxed flows.
+fn is_settled_worth(worth: &Worth) -> bool
+    ensures { result ≡ is_settled_worth worth.now }
+{
+    match worth {
+        Worth::Settled(_) => true,
+        Worth::AtLeast(_) | Worth::Refuted(_) => false,
+    }
+}
+
+/// Whether a lower bound is all that is known.
+fn is_put_off_worth(worth: &Worth) -> bool
+    ensures { result ≡ is_put_off_worth worth.now }
+{
+    match worth {
+        Worth::AtLeast(_) => true,
+        Worth::Settled(_) | Worth::Refuted(_) => false,
+    }
+}
+
+/// Whether it is settled what an open leaf is worth, and that it has relaxed flows.
+pub fn is_settled(growing: &Growing, leaf: u32) -> bool
+    requires { leaf < length growing.now.pool.payloads }
+    ensures { result ≡ is_settled (ready_at growing.now leaf) }
+{
+    match growing.ready.get(key_at(&growing.pool, leaf)) {
+        None => false,
+        Some(ready) => is_settled_worth(&ready.worth),
+    }
+}
+
+/// Whether a node is an open leaf of which a lower bound is all that is known.
+fn is_put_off(growing: &Growing, leaf: u32) -> bool
+    requires { leaf < length growing.now.pool.payloads }
+    ensures { result ≡ is_put_off (hand_of growing.now leaf) }
+{
+    match hand_at(growing, leaf) {
+        None => false,
+        Some(ready) => is_put_off_worth(&ready.worth),
+    }
+}
+
+/// The leaf behind that of least value in the order of the pool's open leaves, where it is not settled what that is worth.
+pub fn next_waiting(growing: &Growing) -> Option<u32>
+    ensures { IfSome result (λ leaf. is_waiting growing.now leaf ≡ true) }
+{
+    growing.pool.is_pool();
+    let Some(next) = growing.pool.next_least() else {
+        return None;
+    };
+    if is_settled(growing, next) {
+        None
+    } else {
+        Some(next)
+    }
+}
+
+/// The first open leaf of which a lower bound is all that is known.
+pub fn first_put_off(growing: &Growing) -> Option<u32>
+    requires counted { growing.now.nodes ≡ length growing.now.pool.payloads }
+    requires open { AreOpen growing.now }
+    ensures none { IfNone result (AreSettled growing.now) }
+    ensures some { IfSome result (λ leaf. is_waiting growing.now leaf ≡ true) }
+{
+    'leaves: for leaf in 0..growing.nodes {
+        if is_put_off(growing, leaf) {
+            return Some(leaf);
+        }
+    }
+    None
+}
+
+/// What an open leaf is worth: it is settled now, from what its first look told, or it is refuted already.
+fn settling_at<E: Evaluator>(
+    alloc: Global,
+    evaluator: &mut E,
+    problem: &Problem,
+    graph: &Graph,
+    growing: &Growing,
+    leaf: u32,
+    node: Node,
+) -> Result<Settling, AllocError>
+    requires graph { shape graph.now ≡ shape_of problem.now }
+    requires growing { (undercut : Option CostOver) × IsGrowingFor E.past problem.now undercut growing.now }
+    requires leaf { leaf < length growing.now.pool.payloads }
+    requires node { node ≡ (cell_at growing.now.pool.payloads leaf).node }
+    requires waits { is_waiting growing.now leaf ≡ true }
+    ensures { IfOk result (IsSettling E.past problem.now (node_of node)) }
+{
+    let Some(ready) = growing.ready.get(key_at(&growing.pool, leaf)) else {
+        unreachable!();
+    };
+    match &ready.worth {
+        Worth::AtLeast(bound) => settle(alloc, evaluator, problem, graph, node, bound),
+        Worth::Refuted(ys) => {
+            let copy = copy_multipliers(alloc, ys)?;
+            Ok(Settling::Refuted(copy))
+        }
+        Worth::Settled(_) => unreachable!(),
+    }
+}
+
+/// Settles what an open leaf is worth. Its value may rise then, and where it turns out to have no relaxed flows, it leaves the pool, and
+/// its cell stays open. The answer is where a number is past the range there. `Err` comes for want of memory alone.
+pub fn settle_leaf<E: Evaluator>(
+    alloc: Global,
+    evaluator: &mut E,
+    problem: &Problem,
+    graph: &Graph,
+    growing: &mut Growing,
+    leaf: u32,
+) -> Result<Option<StoppedLeaf>, AllocError>
+    requires graph { shape graph.now ≡ shape_of problem.now }
+    requires growing { (undercut : Option CostOver) × IsGrowingFor E.past problem.now undercut growing.old }
+    requires waits { is_waiting growing.old leaf ≡ true }
+    ensures settles { IfOk result (SettleHolds E.past problem.now growing.old growing.new) }
+    ensures same { IsSame E.past problem.now growing.old growing.new }
+{
+    growing.pool.is_pool();
+    let node = node_at(&growing.pool, leaf);
+    match settling_at(alloc, evaluator, problem, graph, growing, leaf, node)? {
+        Settling::Least(bound) => {
+            let value = bound.value;
+            put_worth(
+                &mut growing.ready,
+                key_at(&growing.pool, leaf),
+                Worth::Settled(bound),
+            );
+            growing.pool.raise(leaf, value);
+            Ok(None)
+        }
+        Settling::Refuted(ys) => {
+            put_worth(
+                &mut growing.ready,
+                key_at(&growing.pool, leaf),
+                Worth::Refuted(ys),
+            );
+            growing.pool.shut(leaf);
+            Ok(None)
+        }
+        Settling::Stopped(stop) => Ok(Some(StoppedLeaf { leaf, stop })),
+    }
+}
+
+/// Settles a node where it is an open leaf of which a lower bound is all that is known, as [`settle_leaf`] does.
+fn settle_put_off<E: Evaluator>(
+    alloc: Global,
+    evaluator: &mut E,
+    problem: &Problem,
+    graph: &Graph,
+    growing: &mut Growing,
+    leaf: u32,
+) -> Result<Option<StoppedLeaf>, AllocError>
+    requires graph { shape graph.now ≡ shape_of problem.now }
+    requires growing { (undercut : Option CostOver) × IsGrowingFor E.past problem.now undercut growing.old }
+    requires leaf { leaf < length growing.old.pool.payloads }
+    ensures settles { IfOk result (StaysSettling E.past problem.now growing.old growing.new) }
+    ensures same { IsSame E.past problem.now growing.old growing.new }
+{
+    if is_put_off(growing, leaf) {
+        settle_leaf(alloc, evaluator, problem, graph, growing, leaf)
+    } else {
+        Ok(None)
+    }
+}
+
+/// Settles an open leaf, and each one behind it in the order of adding of which a lower bound is all that is known, in one pass. It ends
+/// at the first of them at which a number is past the range, which is the answer. `Err` comes for want of memory alone.
+pub fn settle_from<E: Evaluator>(
+    alloc: Global,
+    evaluator: &mut E,
+    problem: &Problem,
+    graph: &Graph,
+    growing: &mut Growing,
+    first: u32,
+) -> Result<Option<StoppedLeaf>, AllocError>
+    requires graph { shape graph.now ≡ shape_of problem.now }
+    requires growing { (undercut : Option CostOver) × IsGrowingFor E.past problem.now undercut growing.old }
+    requires waits { is_waiting growing.old first ≡ true }
+    ensures settles { IfOk result (SettleHolds E.past problem.now growing.old growing.new) }
+    ensures same { IsSame E.past problem.now growing.old growing.new }
+{
+    growing.pool.is_pool();
+    if let Some(stopped) = settle_leaf(alloc, evaluator, problem, graph, growing, first)? {
+        return Ok(Some(stopped));
+    }
+    'leaves: for leaf in first + 1..growing.nodes {
+        if let Some(stopped) = settle_put_off(alloc, evaluator, problem, graph, growing, leaf)? {
+            return Ok(Some(stopped));
+        }
+    }
+    Ok(None)
+}

@@ -1,0 +1,50 @@
+//! What shuts an open leaf.
+ghost use Rattle.std.specs.Prelude.{◌≡◌, IfOk};
+ghost use Rattle.tree_rules.specs.Tree.{leaf};
+ghost use Rattle.branch_tree.specs.View.{end_of};
+ghost use Rattle.search_tree.specs.Shut.{shut_as};
+
+use branch_tree::{End, Multipliers, Scaled};
+use std::alloc::{AllocError, Global};
+
+/// What shuts an open leaf.
+#[derive(Drop)]
+pub enum Shut {
+    /// The leaf is bounded by these multipliers.
+    Bounded(Scaled),
+    /// The leaf is refuted by these multipliers.
+    Refuted(Multipliers),
+}
+
+/// A copy of the multipliers of a refutation.
+pub fn copy_multipliers(alloc: Global, ys: &Multipliers) -> Result<Multipliers, AllocError>
+    ensures { IfOk result (λ c. c ≡ ys.now) }
+{
+    ys.are_in_range();
+    let numbers = ys.numbers().to_vec(alloc)?;
+    Ok(Multipliers::from_vec(numbers))
+}
+
+/// A copy of the multipliers of a bound.
+pub fn copy_scaled(alloc: Global, scaled: &Scaled) -> Result<Scaled, AllocError>
+    ensures { IfOk result (λ c. c ≡ scaled.now) }
+{
+    let numbers = scaled.numbers().to_vec(alloc)?;
+    Ok(Scaled::from_vec(numbers))
+}
+
+/// The end of a leaf that is shut by this.
+pub(crate) fn end_by(alloc: Global, shut: &Shut) -> Result<End, AllocError>
+    ensures { IfOk result (λ e. end_of e ≡ leaf (shut_as shut.now)) }
+{
+    match shut {
+        Shut::Bounded(scaled) => {
+            let copy = copy_scaled(alloc, scaled)?;
+            Ok(End::Bound(copy))
+        }
+        Shut::Refuted(ys) => {
+            let copy = copy_multipliers(alloc, ys)?;
+            Ok(End::Refuted(copy))
+        }
+    }
+}
