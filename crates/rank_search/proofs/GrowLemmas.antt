@@ -27,7 +27,7 @@ use Rattle.node_evaluation.specs.Children.{claim_with, AreSolvedBy, cells_of}
 use Rattle.node_evaluation.proofs.ChildLemmas.{comes}
 use Rattle.node_evaluation.proofs.ChoiceLemmas.{may_branch}
 use Rattle.abb_search.specs.declared.growing.Growing.{Growing}
-use Rattle.abb_search.specs.Growing.{IsGrowingFor, IsLeastLeaf, LeafUndercuts, IsBranching}
+use Rattle.abb_search.specs.Growing.{IsGrowingFor, IsSettledAt, IsLeastLeaf, LeafUndercuts, IsBranching}
 use Rattle.abb_search.proofs.HandLemmas.{children_kept}
 use Rattle.abb_search.proofs.TurnLemmas.{there, untried_there, hand, sound_there, undercuts, branched_for}
 use Rattle.rank_search.specs.Found.{AreBest, undercut_by}
@@ -114,7 +114,7 @@ numbers_fit Past p n s new at nodes w b ws h e =
 
 module _ (Past : PastPlaces) (p : Problem) (valid : IsValid p) (budget : ℕ) (s : Growing) (l : Listed) (listed : IsListed l) (r : IsRanking Past p budget s l) (g : IsGrowingFor Past p (undercut_by l.count l.found) s)
     (at : ℕ) (is_leaf : has s.pool.leaves at ≡ true) (same_parents : length s.pool.payloads ≡ length s.pool.parents) (below : (id : ℕ) → has s.pool.leaves id ≡ true → id < length s.pool.parents)
-    (is_least : IsLeastLeaf s at) (may : LeafUndercuts s (undercut_by l.count l.found) at) where
+    (settled : IsSettledAt s at) (is_least : IsLeastLeaf s at) (may : LeafUndercuts s (undercut_by l.count l.found) at) where
   module _ (new : Growing) (m : Choice) (choice : IsChoice (shape_of p) (place_of (cell_at s.pool.payloads at)) m) (few : length s.pool.payloads + option_count m ≤ s.budget)
       (b : IsBranching Past p (place_of (cell_at s.pool.payloads at)) s new at (way_of m)) (ws : List (Option Network)) (solved : AreSolvedBy p (drop (length s.pool.payloads) new.pool.payloads) ws)
       (k : Listed) (added : AreAdded l k (length s.pool.payloads) ws) where
@@ -136,12 +136,12 @@ module _ (Past : PastPlaces) (p : Problem) (valid : IsValid p) (budget : ℕ) (s
 
     may_still : MayUndercut p (undercut_by k.count k.found) (place_of (cell_at s.pool.payloads at))
     may_still = all_reached p (place_of (cell_at s.pool.payloads at)) ws l k (length s.pool.payloads) listed (found_scaled p (cells_of b.children) ws children_solved) added children_reached
-        (undercuts p valid s g at is_leaf same_parents below (hand p valid s g at is_leaf same_parents below) (undercut_by l.count l.found) (undercut_positive l listed) may)
+        (undercuts p valid s g at is_leaf same_parents below (hand p valid s g at is_leaf same_parents below) settled (undercut_by l.count l.found) (undercut_positive l listed) may)
 
     pub grown : IsMore Past p budget (length s.pool.payloads) new k
     grown =
         let hd = hand p valid s g at is_leaf same_parents below in
-        let a = branched_for p valid s g at is_leaf same_parents below hd is_least (undercut_by k.count k.found) (undercut_positive k best_now.listed) may_still new m choice few b in
+        let a = branched_for p valid s g at is_leaf same_parents below hd settled is_least (undercut_by k.count k.found) (undercut_positive k best_now.listed) may_still new m choice few b in
         record {
           ranking = record {
             start = ap node_of b.start ∙ r.start;

@@ -3,7 +3,6 @@
 use Rattle.std.proofs.Common.{◌≡◌, ℕ, zero, suc, ◌+◌, ◌<◌, ℤ, Bool, true, false, cond, List, [], ◌∷◌, length, Option, Some, None, refl, sym, ap, ◌∙◌, subst, arith, inl, inr, eq-eqb}
 use Rattle.std.specs.List.{slice_get}
 use Rattle.std.proofs.lemmas.List.{length-map}
-use Rattle.integer_laws.specs.Range.{InRange, AllInRange}
 use Rattle.problem_rules.specs.Problem.{Problem}
 use Rattle.pns_rules.specs.Shape.{shape_of}
 use Rattle.pns_rules.specs.Nodes.{Node}
@@ -11,48 +10,54 @@ use Rattle.tree_rules.specs.Tree.{End, leaf}
 use Rattle.tree_rules.specs.Leaf as leaves
 use Rattle.tree_rules.specs.Leaf.{Leaf, dead, clash, refuted, bounded, untried, IsBounded}
 use Rattle.tree_rules.specs.Claim.{Network, CostOver}
-use Rattle.branch_tree.specs.Scaled.{Scaled}
 use Rattle.rank_rules.specs.Leaf as ranks
 use Rattle.rank_rules.specs.Networks.{numbered, network_at, last_cost}
+use Rattle.search_tree.specs.declared.shut.Shut.{Shut}
+use Rattle.search_tree.specs.declared.shut.Shut.TheVariants as shuts
 use Rattle.search_tree.specs.Cells.{Cell, place_of, cell_at}
 use Rattle.search_tree.specs.Fits.{EndFits, Fits}
-use Rattle.search_tree.specs.Shut.{shut_leaf}
+use Rattle.search_tree.specs.Shut.{shut_as, shut_leaf}
 use Rattle.search_tree.proofs.ShutLemmas.{proof_of}
 use Rattle.abb_search.specs.declared.growing.Growing.{Growing}
-use Rattle.abb_search.specs.Closing.{ShutsLeaf}
+use Rattle.abb_search.specs.Closing.{ShutsNode, ShutsLeaf, ShutAll}
 use Rattle.rank_search.specs.Found.{FoundAt, networks_of, undercut_by, IsOfLeaf, IsFoundThere, AreBest}
 use Rattle.rank_search.specs.Naming.{names_of}
-use Rattle.rank_search.specs.Told.{AreShutAgainst}
+use Rattle.rank_search.specs.Told.{ShutsIfSome, ShutSome}
 use Rattle.rank_search.proofs.NameLemmas.{name_is}
 use Rattle.rank_search.proofs.MarkLemmas.{named_leaf}
 use Rattle.rank_search.proofs.OrderLemmas.{leaf_told}
 
 -- ---- open leaves
 
--- an open leaf stays open in a partial tree, or multipliers in range bound it
-abbrev pub ClosesAt : Bool → Problem → Option CostOver → Node → Option Scaled → Type 0
+-- an open leaf stays open in a partial tree, or what stands at its number shuts it
+abbrev pub ClosesAt : Bool → Problem → Option CostOver → Node → Option Shut → Type 0
 ClosesAt partial p undercut n None = partial ≡ true
-ClosesAt partial p undercut n (Some m) = IsBounded p undercut n m.d m.ys × InRange m.d × AllInRange m.ys
+ClosesAt partial p undercut n (Some m) = ShutsNode p undercut n m
 
-abbrev pub Closes : Bool → Problem → Option CostOver → List Cell → List (Option Scaled) → Type 0
+abbrev pub Closes : Bool → Problem → Option CostOver → List Cell → List (Option Shut) → Type 0
 Closes partial p undercut cells ms = (j : ℕ) → j < length cells → (cell_at cells j).end ≡ leaf untried → ClosesAt partial p undercut (place_of (cell_at cells j)) (proof_of ms j)
 
-shuts_one : (p : Problem) (undercut : Option CostOver) (cost : CostOver) (c : Cell) (m : Option Scaled) → undercut ≡ Some cost → c.end ≡ leaf untried → ShutsLeaf p cost c m → ClosesAt false p undercut (place_of c) m
-shuts_one p undercut cost c None e is h = absurd (h is)
-shuts_one p undercut cost c (Some m) e is h = (subst (λ (o : Option CostOver). IsBounded p o (place_of c) m.d m.ys) (sym e) h.bounded, h.scale, h.multipliers)
+shuts_one : (p : Problem) (undercut : Option CostOver) (c : Cell) (m : Option Shut) → c.end ≡ leaf untried → ShutsLeaf p undercut c m → ClosesAt false p undercut (place_of c) m
+shuts_one p undercut c None is h = absurd (h is)
+shuts_one p undercut c (Some m) is h = h
 
-pub shut_closes : (p : Problem) (s : Growing) (undercut : Option CostOver) (ms : List (Option Scaled)) → AreShutAgainst p s undercut ms → Closes false p undercut s.pool.payloads ms
-shut_closes p s undercut ms h j lt is = elim h [
-  | inl none ↦ absurd (none j lt is)
-  | inr all ↦ shuts_one p undercut all.0 (cell_at s.pool.payloads j) (proof_of ms j) all.1 is (all.2 j lt)
-]
+pub all_close : (p : Problem) (s : Growing) (undercut : Option CostOver) (ms : List (Option Shut)) → ShutAll p s undercut ms → Closes false p undercut s.pool.payloads ms
+all_close p s undercut ms h j lt is = shuts_one p undercut (cell_at s.pool.payloads j) (proof_of ms j) is (h j lt)
 
-pub stays_open : (p : Problem) (undercut : Option CostOver) (cells : List Cell) → Closes true p undercut cells []
-stays_open p undercut cells j lt is = refl
+shuts_some : (p : Problem) (undercut : Option CostOver) (n : Node) (m : Option Shut) → ShutsIfSome p undercut n m → ClosesAt true p undercut n m
+shuts_some p undercut n None h = refl
+shuts_some p undercut n (Some m) h = h
+
+pub some_close : (p : Problem) (s : Growing) (undercut : Option CostOver) (ms : List (Option Shut)) → ShutSome p s undercut ms → Closes true p undercut s.pool.payloads ms
+some_close p s undercut ms h j lt is = shuts_some p undercut (place_of (cell_at s.pool.payloads j)) (proof_of ms j) (h j lt is)
 
 -- ---- a leaf without a name
 
-plain_passes : (partial : Bool) (p : Problem) (claimed undercut : Option CostOver) (n : Node) (l : Leaf) (m : Option Scaled) → leaves.LeafPasses true p claimed n l
+shut_passes : (partial : Bool) (p : Problem) (undercut : Option CostOver) (n : Node) (m : Shut) → ShutsNode p undercut n m → leaves.LeafPasses partial p undercut n (shut_as m)
+shut_passes partial p undercut n (shuts.Bounded m) h = h.bounded
+shut_passes partial p undercut n (shuts.Refuted ys) h = h.refuted
+
+plain_passes : (partial : Bool) (p : Problem) (claimed undercut : Option CostOver) (n : Node) (l : Leaf) (m : Option Shut) → leaves.LeafPasses true p claimed n l
     → ((d : ℤ) (ys : List ℤ) → l ≡ bounded d ys → IsBounded p undercut n d ys) → (l ≡ untried → ClosesAt partial p undercut n m)
     → leaves.LeafPasses partial p undercut n (shut_leaf m l)
 plain_passes partial p claimed undercut n (dead x) None h b o = h
@@ -64,15 +69,15 @@ plain_passes partial p claimed undercut n (refuted ys) (Some m) h b o = h
 plain_passes partial p claimed undercut n (bounded d ys) None h b o = b d ys refl
 plain_passes partial p claimed undercut n (bounded d ys) (Some m) h b o = b d ys refl
 plain_passes partial p claimed undercut n untried None h b o = o refl
-plain_passes partial p claimed undercut n untried (Some m) h b o = (o refl).0
+plain_passes partial p claimed undercut n untried (Some m) h b o = shut_passes partial p undercut n m (o refl)
 
-bounded_stays : (m : Option Scaled) (d : ℤ) (ys : List ℤ) → shut_leaf m (bounded d ys) ≡ bounded d ys
+bounded_stays : (m : Option Shut) (d : ℤ) (ys : List ℤ) → shut_leaf m (bounded d ys) ≡ bounded d ys
 bounded_stays None d ys = refl
 bounded_stays (Some m) d ys = refl
 
 -- ---- an open leaf is told as open where it was open
 
-shut_open : (m : Option Scaled) (l : Leaf) → shut_leaf m l ≡ untried → l ≡ untried
+shut_open : (m : Option Shut) (l : Leaf) → shut_leaf m l ≡ untried → l ≡ untried
 shut_open None l h = h
 shut_open (Some m) (dead x) h = let q : dead x ≡ untried = h in cc
 shut_open (Some m) (clash k) h = let q : clash k ≡ untried = h in cc
@@ -91,10 +96,19 @@ named_open (Some k) (refuted ys) h = plain_is (refuted ys) untried h
 named_open (Some k) (bounded d ys) h = let q : ranks.named k d ys ≡ ranks.plain untried = h in cc
 named_open (Some k) untried h = refl
 
-pub still_open : (n : Option ℕ) (m : Option Scaled) (l : Leaf) → named_leaf n (shut_leaf m l) ≡ ranks.plain untried → l ≡ untried
+pub still_open : (n : Option ℕ) (m : Option Shut) (l : Leaf) → named_leaf n (shut_leaf m l) ≡ ranks.plain untried → l ≡ untried
 still_open n m l h = shut_open m l (named_open n (shut_leaf m l) h)
 
--- without multipliers an open leaf is told as open
+never_open : (m : Shut) → shut_as m ≡ untried → ⊥
+never_open (shuts.Bounded m) h = let q : bounded m.d m.ys ≡ untried = h in cc
+never_open (shuts.Refuted ys) h = let q : refuted ys ≡ untried = h in cc
+
+-- nothing shuts one that is told as open
+pub told_unshut : (n : Option ℕ) (m : Option Shut) → named_leaf n (shut_leaf m untried) ≡ ranks.plain untried → m ≡ None
+told_unshut n None h = refl
+told_unshut n (Some m) h = absurd (never_open m (named_open n (shut_as m) h))
+
+-- where nothing shuts it, an open leaf is told as open
 pub told_open : (n : Option ℕ) → named_leaf n (shut_leaf None untried) ≡ ranks.plain untried
 told_open None = refl
 told_open (Some k) = refl
@@ -123,7 +137,7 @@ end_inj l k h = cc
 -- ---- a leaf as it is told
 
 module _ (partial : Bool) (p : Problem) (count : ℕ) (start : Node) (claimed : Option CostOver) (cells : List Cell) (fits : Fits (shape_of p) (leaves.LeafPasses true p claimed) start cells)
-    (fs : List FoundAt) (best : AreBest p count cells fs) (ms : List (Option Scaled)) (closes : Closes partial p (undercut_by count fs) cells ms) where
+    (fs : List FoundAt) (best : AreBest p count cells fs) (ms : List (Option Shut)) (closes : Closes partial p (undercut_by count fs) cells ms) where
   abbrev Holds : ℕ → Option ℕ → Leaf → Type 0
   Holds i name l = ranks.LeafPasses partial p (networks_of fs) (undercut_by count fs) (place_of (cell_at cells i)) (named_leaf name (shut_leaf (proof_of ms i) l))
 

@@ -8,7 +8,7 @@ use Rattle.tree_rules.specs.Tree.{End, branch, leaf, TreeNode}
 use Rattle.tree_rules.specs.Leaf.{Leaf}
 use Rattle.rank_rules.specs.Leaf as ranks
 use Rattle.rank_rules.specs.Ranked as ranked
-use Rattle.branch_tree.specs.Scaled.{Scaled}
+use Rattle.search_tree.specs.declared.shut.Shut.{Shut}
 use Rattle.search_tree.specs.Cells.{Cell, cell_at, times, children_at, IsLinked}
 use Rattle.search_tree.specs.Preorder.{IsPreorder, node_at, tree_of, told_end, told_at, told_tree}
 use Rattle.search_tree.specs.Shut.{shut_leaf, shut_end, shut_cells}
@@ -41,14 +41,14 @@ stands_in cells order linked p j lt = stands_somewhere order j (once cells linke
 -- ---- where open leaves are shut
 
 -- how the leaf of a cell is told
-abbrev pub leaf_told : Names → List (Option Scaled) → ℕ → Leaf → ranks.Leaf
+abbrev pub leaf_told : Names → List (Option Shut) → ℕ → Leaf → ranks.Leaf
 leaf_told names ms i l = named_leaf (name_at names i) (shut_leaf (proof_of ms i) l)
 
-told_shut : (n : Option ℕ) (m : Option Scaled) (e : End Leaf) → told_end (named_leaf n) (shut_end m e) ≡ told_end (λ (l : Leaf). named_leaf n (shut_leaf m l)) e
+told_shut : (n : Option ℕ) (m : Option Shut) (e : End Leaf) → told_end (named_leaf n) (shut_end m e) ≡ told_end (λ (l : Leaf). named_leaf n (shut_leaf m l)) e
 told_shut n m (branch w) = refl
 told_shut n m (leaf l) = refl
 
-module _ (names : Names) (ms : List (Option Scaled)) (cells : List Cell) (linked : IsLinked cells) where
+module _ (names : Names) (ms : List (Option Shut)) (cells : List Cell) (linked : IsLinked cells) where
   -- in the same order
   same_order : (is order : List ℕ) → AreThere cells is → IsPreorder (shut_cells ms cells) is order → IsPreorder cells is order
   same_order [] [] there p = tt

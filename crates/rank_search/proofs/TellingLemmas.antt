@@ -17,26 +17,29 @@ use Rattle.tree_rules.specs.Leaf as leaves
 use Rattle.tree_rules.specs.Leaf.{Leaf, dead, clash, refuted, bounded, untried, IsUntried}
 use Rattle.tree_rules.specs.Claim.{CostOver, claimed_cost, IsSized}
 use Rattle.tree_rules.specs.Lean.{IsLean}
-use Rattle.tree_rules.specs.Stops.{IsOpenAt, IsSpent}
+use Rattle.tree_rules.specs.Stops.{IsOpenAt, IsPending, IsSpent}
 use Rattle.tree_rules.specs.Accepted.{Tree, first_node}
 use Rattle.rank_rules.specs.Leaf as ranks
 use Rattle.rank_rules.specs.Networks.{ArePassing}
 use Rattle.rank_rules.specs.Ranked as ranked
-use Rattle.branch_tree.specs.Scaled.{Scaled}
 use Rattle.tree_rules.specs.Known.{KnowsEnd, KnowsTree}
 use Rattle.rank_rules.specs.Marked.{Mark, marked}
 use Rattle.rank_rules.specs.Text.{AreNumbered}
+use Rattle.search_tree.specs.declared.shut.Shut.{Shut}
+use Rattle.search_tree.specs.declared.shut.Shut.TheVariants as shuts
 use Rattle.search_tree.specs.Cells.{Cell, place_of, cell_at, IsLinked}
 use Rattle.search_tree.specs.Growth.{as_shut}
 use Rattle.search_tree.specs.Preorder.{IsPreorder, node_at, tree_of, told_tree}
-use Rattle.search_tree.specs.Shut.{shut_leaf, shut_end, shut_cells}
+use Rattle.search_tree.specs.Shut.{shut_as, shut_leaf, shut_end, shut_cells}
+use Rattle.search_tree.proofs.CountLemmas.{preorder_has_all}
 use Rattle.search_tree.proofs.PassLemmas.{passes, cells_stand, told_passes, aligned_start}
 use Rattle.search_tree.proofs.ShutLemmas.{proof_of, shut_at, shut_length, shut_linked}
-use Rattle.turn_laws.proofs.LeanLemmas.{kept_is_lean, kept_is_spent}
+use Rattle.turn_laws.proofs.LeanLemmas.{kept_is_lean}
 use Rattle.node_evaluation.specs.Children.{claim_with}
 use Rattle.node_evaluation.specs.Looks.{KnowsCell}
 use Rattle.abb_search.specs.declared.growing.Growing.{Growing}
 use Rattle.abb_search.specs.Growing.{IsTreeKeptFor}
+use Rattle.abb_search.specs.Closing.{ShutsNode}
 use Rattle.tree_rules.specs.Proved.{IsBelowLimit}
 use Rattle.abb_search.proofs.KnownLemmas.{AreKnown, known_end, knows_tree, few_nodes}
 use Rattle.rank_search.specs.Found.{FoundAt, networks_of, undercut_by, AreBest}
@@ -44,16 +47,20 @@ use Rattle.rank_search.specs.Naming.{Names, name_at, names_at, names_of, IsNamed
 use Rattle.rank_rules.specs.Leaf.{IsOpenLeaf}
 use Rattle.rank_search.specs.Told.{IsTelling, IsSpentTelling, IsSpentFor}
 use Rattle.rank_search.proofs.FewLemmas.{few_with_next}
-use Rattle.rank_search.proofs.NamedLeafLemmas.{ClosesAt, Closes, leaf_passes, still_open, told_open}
+use Rattle.rank_search.proofs.NamedLeafLemmas.{ClosesAt, Closes, leaf_passes, still_open, told_open, told_unshut}
 use Rattle.rank_search.proofs.MarkLemmas.{named_leaf, marked_is, length-opened, opened_known, marks_numbered}
 use Rattle.rank_search.proofs.NameLemmas.{IsCountedName, counted_name}
 use Rattle.rank_search.proofs.NetworkLemmas.{each_there, knows_networks, networks_pass}
 use Rattle.rank_search.proofs.OrderLemmas.{leaf_told, shut_order, named_is_told, length-names_at, each_name}
-use Rattle.rank_search.proofs.ToldTreeLemmas.{one_node, told_is_lean, told_stands, told_is_spent}
+use Rattle.rank_search.proofs.ToldTreeLemmas.{told_is_lean, told_stands, told_is_spent}
 
 -- ---- numbers are known
 
-knows_shut : (p : Problem) (partial : Bool) (undercut : Option CostOver) (n : Node) (m : Option Scaled) (e : End Leaf) → KnowsEnd p e → (e ≡ leaf untried → ClosesAt partial p undercut n m) → KnowsEnd p (shut_end m e)
+knows_by : (p : Problem) (undercut : Option CostOver) (n : Node) (m : Shut) → ShutsNode p undercut n m → KnowsEnd p (leaf (shut_as m))
+knows_by p undercut n (shuts.Bounded m) h = (h.scale, h.multipliers)
+knows_by p undercut n (shuts.Refuted ys) h = h.multipliers
+
+knows_shut : (p : Problem) (partial : Bool) (undercut : Option CostOver) (n : Node) (m : Option Shut) (e : End Leaf) → KnowsEnd p e → (e ≡ leaf untried → ClosesAt partial p undercut n m) → KnowsEnd p (shut_end m e)
 knows_shut p partial undercut n None (branch w) k h = k
 knows_shut p partial undercut n None (leaf l) k h = k
 knows_shut p partial undercut n (Some m) (branch w) k h = k
@@ -61,9 +68,9 @@ knows_shut p partial undercut n (Some m) (leaf (dead x)) k h = k
 knows_shut p partial undercut n (Some m) (leaf (clash x)) k h = k
 knows_shut p partial undercut n (Some m) (leaf (refuted ys)) k h = k
 knows_shut p partial undercut n (Some m) (leaf (bounded d ys)) k h = k
-knows_shut p partial undercut n (Some m) (leaf untried) k h = let c = h refl in (c.1, c.2)
+knows_shut p partial undercut n (Some m) (leaf untried) k h = knows_by p undercut n m (h refl)
 
-module _ (p : Problem) (partial : Bool) (undercut : Option CostOver) (cells : List Cell) (known : AreKnown p cells) (ms : List (Option Scaled)) (closes : Closes partial p undercut cells ms) where
+module _ (p : Problem) (partial : Bool) (undercut : Option CostOver) (cells : List Cell) (known : AreKnown p cells) (ms : List (Option Shut)) (closes : Closes partial p undercut cells ms) where
   known_shut : AreKnown p (shut_cells ms cells)
   known_shut j lt =
       let there : j < length cells = let e = shut_length ms cells in omega (arith, lt, e) in
@@ -76,7 +83,7 @@ head_is cells [] h = absurd h
 head_is cells (k ∷ ks) h = ap (λ (i : ℕ). Some i) h.0
 
 module _ (p : Problem) (valid : IsValid p) (count : ℕ) (s : Growing) (fs : List FoundAt) (t : IsTreeKeptFor p (undercut_by count fs) s) (first : node_of s.start ≡ first_node) (best : AreBest p count s.pool.payloads fs)
-    (ms : List (Option Scaled)) (wanted place : ℕ) (tree : Tree) (marks : List Mark) (of : IsNamedTree s.pool.payloads fs ms wanted tree marks place) where
+    (ms : List (Option Shut)) (wanted place : ℕ) (tree : Tree) (marks : List Mark) (of : IsNamedTree s.pool.payloads fs ms wanted tree marks place) where
   abbrev cells : List Cell
   cells = s.pool.payloads
 
@@ -167,36 +174,34 @@ module _ (p : Problem) (valid : IsValid p) (count : ℕ) (s : Growing) (fs : Lis
       few = few;
     }
 
-  -- ---- an open leaf that no multipliers shut
+  -- ---- an open leaf that nothing shuts
   module _ (there : wanted < length s.pool.payloads) (unshut : proof_of ms wanted ≡ None) where
     stands_told : (cell_at s.pool.payloads wanted).end ≡ leaf untried → IsOpenAt p IsOpenLeaf (node_of s.start) (told_tree told s.pool.payloads of.order) place (place_of (cell_at s.pool.payloads wanted))
     stands_told is =
         told_stands p (leaves.LeafPasses true p (claimed_cost (claim_with s.best))) (node_of s.start) s.pool.payloads linked t.kept.grown.fits of.order preorder told IsOpenLeaf still
         wanted place there of.stands is
-        (subst (λ (m : Option Scaled). IsOpenLeaf (named_leaf (name_at names wanted) (shut_leaf m untried))) (sym unshut) (told_open (name_at names wanted)))
+        (subst (λ (m : Option Shut). IsOpenLeaf (named_leaf (name_at names wanted) (shut_leaf m untried))) (sym unshut) (told_open (name_at names wanted)))
 
     pub stands_open : (cell_at s.pool.payloads wanted).end ≡ leaf untried → IsOpenAt p IsOpenLeaf first_node (marked marks tree) place (place_of (cell_at s.pool.payloads wanted))
     stands_open is = subst (λ (n : Node). IsOpenAt p IsOpenLeaf n (marked marks tree) place (place_of (cell_at s.pool.payloads wanted))) first
         (subst (λ (w : ranked.Tree). IsOpenAt p IsOpenLeaf (node_of s.start) w place (place_of (cell_at s.pool.payloads wanted))) (sym marked_tree) (stands_told is))
 
-    module _ (options : ℕ) (h : IsSpentFor p (undercut_by count fs) s wanted options) where
-      spent_plain : IsSpent p IsUntried (undercut_by count fs) (node_of s.start) (tree_of s.pool.payloads of.order) place options s.budget
-      spent_plain =
-          kept_is_spent p (node_of s.start) (claim_with s.best) (undercut_by count fs) t.last s.pool.payloads of.order t.kept preorder wanted place options s.budget h.way of.stands h.can h.least h.may h.pending h.count_is h.over
-
-      -- the leaf's node, whichever it is called
-      same_leaf : (n : Node) → IsOpenAt p IsUntried (node_of s.start) (tree_of s.pool.payloads of.order) place n
-          → IsOpenAt p IsOpenLeaf (node_of s.start) (told_tree told s.pool.payloads of.order) place n
-      same_leaf n o =
-          subst (λ (m : Node). IsOpenAt p IsOpenLeaf (node_of s.start) (told_tree told s.pool.payloads of.order) place m)
-          (one_node (shape_of p) (node_of s.start ∷ []) (tree_of s.pool.payloads of.order) place (place_of (cell_at s.pool.payloads wanted)) n (cell_at s.pool.payloads wanted).end (leaf o.what) (stands_plain place wanted of.stands) o.stands)
-          (stands_told h.can.is_open)
+    module _ (options : ℕ) (h : IsSpentFor p (undercut_by count fs) s ms wanted options) where
+      pending : (j : ℕ) → j < length s.pool.payloads → (cell_at s.pool.payloads j).end ≡ leaf untried → IsOpenLeaf (told j untried) → IsPending p (place_of (cell_at s.pool.payloads j))
+      pending j lt is o = h.pending j lt is (told_unshut (name_at names j) (proof_of ms j) o)
 
       spent : IsSpent p IsOpenLeaf (undercut_by count fs) first_node (marked marks tree) place options s.budget
       spent = subst (λ (n : Node). IsSpent p IsOpenLeaf (undercut_by count fs) n (marked marks tree) place options s.budget) first
           (subst (λ (w : ranked.Tree). IsSpent p IsOpenLeaf (undercut_by count fs) (node_of s.start) w place options s.budget) (sym marked_tree)
           (told_is_spent p (leaves.LeafPasses true p (claimed_cost (claim_with s.best))) (node_of s.start) s.pool.payloads linked t.kept.grown.fits of.order preorder told IsOpenLeaf still
-          (undercut_by count fs) place options s.budget spent_plain same_leaf))
+          (undercut_by count fs) wanted place options s.budget (stands_told h.can.is_open) h.may h.least pending h.count_is h.over))
+
+      exceeds : s.budget < length (tree_of s.pool.payloads of.order) + options
+      exceeds =
+          let a : length (tree_of s.pool.payloads of.order) ≡ length of.order = length-map of.order (node_at s.pool.payloads) in
+          let b = preorder_has_all s.pool.payloads of.order linked preorder in
+          let o = h.over in
+          omega (arith, a, b, o)
 
       below_limit : IsBelowLimit p s.budget
       below_limit = λ all union.
@@ -206,7 +211,7 @@ module _ (p : Problem) (valid : IsValid p) (count : ℕ) (s : Growing) (fs : Lis
           lean_plain.reduced lean_plain.splits (place_of (cell_at s.pool.payloads 0)) (cell_at s.pool.payloads 0).end (stands_plain 0 0 (head_is s.pool.payloads of.order preorder)) (t.kept.sound 0 linked.some)
           place (place_of (cell_at s.pool.payloads wanted)) untried leaf_there h.can.reduced h.way h.can.may h.can.splits in
           under_limit s.budget (length (tree_of s.pool.payloads of.order)) options (length (options_at (shape_of p) (place_of (cell_at s.pool.payloads wanted)) h.way)) (2 ^ suc (length (listed (shape_of p).units all)))
-          spent_plain.exceeds h.as_many most
+          exceeds h.as_many most
         where
           under_limit : (b n c k m : ℕ) → b < n + c → c ≡ k → n + k < m → b < m
           under_limit b n c k m h e l = omega (arith, h, e, l)

@@ -1,28 +1,25 @@
 -- What stands in a tree whose leaves are told in another way stands in the tree of the cells, at some place.
-use Rattle.std.proofs.Common.{◌≡◌, ℕ, zero, suc, ◌<◌, List, [], ◌∷◌, ◌++◌, length, Option, Some, refl, sym, ap, ◌∙◌, subst, arith}
+use Rattle.std.proofs.Common.{◌≡◌, ℕ, ◌+◌, ◌<◌, List, [], ◌∷◌, length, Option, Some, refl, sym, ap, ◌∙◌, subst, arith, inl, inr}
 use Rattle.std.specs.List.{slice_get}
+use Rattle.std.proofs.lemmas.Bool.{cases_eq}
 use Rattle.std.proofs.lemmas.List.{length-map}
 use Rattle.problem_rules.specs.Problem.{Problem}
-use Rattle.pns_rules.specs.Shape.{Shape, shape_of}
+use Rattle.pns_rules.specs.Shape.{shape_of}
 use Rattle.pns_rules.specs.Nodes.{Node}
 use Rattle.tree_rules.specs.Ways.{Way}
-use Rattle.tree_rules.specs.Tree.{End, branch, leaf, TreeNode, after_all, below, Stands}
+use Rattle.tree_rules.specs.Tree.{End, branch, leaf, Stands}
 use Rattle.tree_rules.specs.Leaf.{Leaf, untried, IsUntried}
 use Rattle.tree_rules.specs.Claim.{CostOver}
-use Rattle.tree_rules.specs.Lean.{IsLean}
-use Rattle.tree_rules.specs.Stops.{IsOpenAt, IsSpent}
+use Rattle.tree_rules.specs.Lean.{MayUndercut, IsNoDearer, IsLean}
+use Rattle.tree_rules.specs.Stops.{IsOpenAt, IsPending, IsNextCount, IsSpent}
 use Rattle.search_tree.specs.Cells.{Cell, place_of, cell_at, IsLinked}
 use Rattle.search_tree.specs.Fits.{Fits}
-use Rattle.search_tree.specs.Preorder.{IsPreorder, node_at, tree_of, told_end, told_at, told_tree}
+use Rattle.search_tree.specs.Preorder.{IsPreorder, tree_of, told_end, told_at, told_tree}
+use Rattle.search_tree.proofs.CountLemmas.{preorder_has_all}
 use Rattle.search_tree.proofs.PassLemmas.{nodes_are_told, told_cells_stand, cells_stand, aligned_start}
+use Rattle.turn_laws.specs.Turns.{IsLeastOpen}
+use Rattle.turn_laws.proofs.OrderLemmas.{no_dearer_self}
 use Rattle.rank_search.proofs.OrderLemmas.{stands_in}
-
--- at one place stands one node
-pub one_node : {L : Type 0} (g : Shape) (ns : List Node) (ts : List (TreeNode L)) (k : ℕ) (n m : Node) (e d : End L) → Stands g ns ts k n e → Stands g ns ts k m d → n ≡ m
-one_node g [] ts k n m e d h i = absurd h
-one_node g (o ∷ os) [] k n m e d h i = absurd h
-one_node g (o ∷ os) (t ∷ ts) zero n m e d h i = sym h.0 ∙ i.0
-one_node g (o ∷ os) (t ∷ ts) (suc k) n m e d h i = one_node g (below g (after_all g o t.steps) t.end ++ os) ts k n m e d h i
 
 module _ {L : Type 0} (f : Leaf → L) where
   told_branch : (e : End Leaf) (w : Way) → told_end f e ≡ branch w → e ≡ branch w
@@ -106,19 +103,52 @@ module _ (p : Problem) (P : Node → Leaf → Type 0) (start : Node) (cells : Li
         is_open = o;
       }
 
-    pub told_is_spent : (undercut : Option CostOver) (place count budget : ℕ) → IsSpent p IsUntried undercut start (tree_of cells order) place count budget
-        → ((n : Node) → IsOpenAt p IsUntried start (tree_of cells order) place n → IsOpenAt p IsOpen start (told_tree f cells order) place n)
-        → IsSpent p IsOpen undercut start (told_tree f cells order) place count budget
-    told_is_spent undercut place count budget h there = record {
-      pending = λ k n o. let q = open_there k n o.what o.stands o.is_open in h.pending q.place n (record { what = untried; stands = q.stands; is_open = refl });
-      node = h.node;
-      at_leaf = there h.node h.at_leaf;
-      of_use = h.of_use;
-      least = λ k n o. let q = open_there k n o.what o.stands o.is_open in h.least q.place n (record { what = untried; stands = q.stands; is_open = refl });
-      count_is = h.count_is;
-      exceeds =
-          let a : length (tree_of cells order) ≡ length order = length-map order (node_at cells) in
-          let b : length (told_tree f cells order) ≡ length order = length-map order (told_at f cells) in
-          let e = h.exceeds in
-          omega (arith, a, b, e);
-    }
+    -- ---- the budget is spent
+
+    -- an open leaf that is told as open is that of an open cell
+    record IsOpenCell (n : Node) : Type 0 where
+      pub number : ℕ
+      pub there : number < length cells
+      pub node_is : place_of (cell_at cells number) ≡ n
+      pub end_is : (cell_at cells number).end ≡ leaf untried
+      pub is_open : IsOpen (f number untried)
+
+    open_cell : (k : ℕ) (n : Node) → IsOpenAt p IsOpen start (told_tree f cells order) k n → IsOpenCell n
+    open_cell k n o =
+        let c = nodes_are_told (shape_of p) P start cells linked fits f (start ∷ []) (0 ∷ []) order (aligned_start (shape_of p) P start cells linked fits) preorder k n (leaf o.what) o.stands in
+        let t = told_leaf (f c.number) (cell_at cells c.number).end o.what c.end_is in
+        let now : IsOpen (f c.number t.was) = subst IsOpen (sym t.told) o.is_open in
+        let was : t.was ≡ untried = still c.number t.was now in
+        record {
+          number = c.number;
+          there = c.there;
+          node_is = c.node_is;
+          end_is = t.end_is ∙ ap (λ (w : Leaf). leaf w) was;
+          is_open = subst (λ (w : Leaf). IsOpen (f c.number w)) was now;
+        }
+
+    module _ (undercut : Option CostOver) (at place count budget : ℕ) (at_leaf : IsOpenAt p IsOpen start (told_tree f cells order) place (place_of (cell_at cells at))) (may : MayUndercut p undercut (place_of (cell_at cells at)))
+        (least : IsLeastOpen p cells at) (pending : (j : ℕ) → j < length cells → (cell_at cells j).end ≡ leaf untried → IsOpen (f j untried) → IsPending p (place_of (cell_at cells j)))
+        (count_is : IsNextCount (shape_of p) (place_of (cell_at cells at)) count) (over : budget < length cells + count) where
+      pending_at : (n : Node) → IsOpenCell n → IsPending p n
+      pending_at n c = subst (λ (m : Node). IsPending p m) c.node_is (pending c.number c.there c.end_is c.is_open)
+
+      dearer_at : (n : Node) → IsOpenCell n → IsNoDearer p (place_of (cell_at cells at)) n
+      dearer_at n c = subst (λ (m : Node). IsNoDearer p (place_of (cell_at cells at)) m) c.node_is (elim (cases_eq c.number at) [
+        | inl e ↦ subst (λ i. IsNoDearer p (place_of (cell_at cells at)) (place_of (cell_at cells i))) (sym e) (no_dearer_self p (place_of (cell_at cells at)))
+        | inr ne ↦ least c.number c.there ne c.end_is (pending c.number c.there c.end_is c.is_open).reduced.live.no_dead
+      ])
+
+      pub told_is_spent : IsSpent p IsOpen undercut start (told_tree f cells order) place count budget
+      told_is_spent = record {
+        pending = λ k n o. pending_at n (open_cell k n o);
+        node = place_of (cell_at cells at);
+        at_leaf = at_leaf;
+        of_use = may;
+        least = λ k n o. dearer_at n (open_cell k n o);
+        count_is = count_is;
+        exceeds =
+            let a : length (told_tree f cells order) ≡ length order = length-map order (told_at f cells) in
+            let b = preorder_has_all cells order linked preorder in
+            omega (arith, a, b, over);
+      }

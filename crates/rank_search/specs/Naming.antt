@@ -8,7 +8,7 @@ use Rattle.tree_rules.specs.Accepted.{Tree}
 use Rattle.rank_rules.specs.Marked.{Mark}
 use Rattle.ranked_tree.specs.declared.mark.Mark as marks
 use Rattle.ranked_tree.specs.View.{mark_of}
-use Rattle.branch_tree.specs.Scaled.{Scaled}
+use Rattle.search_tree.specs.declared.shut.Shut.{Shut}
 use Rattle.search_tree.specs.Cells.{Cell}
 use Rattle.search_tree.specs.Preorder.{IsPreorder, tree_of}
 use Rattle.search_tree.specs.Shut.{shut_cells}
@@ -85,9 +85,9 @@ marks_of (Some m) = mark_of m ∷ []
 
 -- ---- what a walk over the cells finds
 
--- the nodes are those of all cells in preorder, whose open leaves are shut by the multipliers, and their named leaves stand open with
--- these marks; the cell `wanted` is the node `place` there
-pub record IsNamedTree (cells : List Cell) (fs : List FoundAt) (proofs : List (Option Scaled)) (wanted : ℕ) (tree : Tree) (marks : List Mark) (place : ℕ) : Type 0 where
+-- the nodes are those of all cells in preorder, whose open leaves are shut by what stands at their numbers, and their named leaves stand
+-- open with these marks; the cell `wanted` is the node `place` there
+pub record IsNamedTree (cells : List Cell) (fs : List FoundAt) (proofs : List (Option Shut)) (wanted : ℕ) (tree : Tree) (marks : List Mark) (place : ℕ) : Type 0 where
   pub order : List ℕ
   pub is_preorder : IsPreorder (shut_cells proofs cells) (0 ∷ []) order
   pub stands : slice_get order place ≡ Some wanted

@@ -1,8 +1,9 @@
 -- What is told of a search for the best networks: the networks with a ranked tree, whole, or as far as the search came.
-use Rattle.std.specs.Prelude.{◌≡◌, ◌⊎◌, ℕ, ◌+◌, ◌-◌, ◌^◌, ◌<◌, Bool, List, length, Option, Some}
+use Rattle.std.specs.Prelude.{◌≡◌, ℕ, ◌+◌, ◌-◌, ◌^◌, ◌<◌, Bool, List, length, slice_index_or, Option, Some, None}
 use Rattle.problem_rules.specs.Each.{Each}
 use Rattle.problem_rules.specs.Problem.{Problem}
 use Rattle.pns_rules.specs.Shape.{shape_of}
+use Rattle.pns_rules.specs.Nodes.{Node}
 use Rattle.tree_rules.specs.Ways.{Way, options_at}
 use Rattle.tree_rules.specs.Tree.{leaf}
 use Rattle.tree_rules.specs.Claim.{Network, CostOver}
@@ -12,15 +13,15 @@ use Rattle.tree_rules.specs.Stops.{IsPending, IsNextCount, IsSpent}
 use Rattle.tree_rules.specs.Accepted.{Tree, first_node}
 use Rattle.rank_rules.specs.Networks.{to_undercut}
 use Rattle.rank_rules.specs.Ranked.{Proves}
-use Rattle.branch_tree.specs.Scaled.{Scaled}
 use Rattle.tree_rules.specs.Known.{KnowsTree}
 use Rattle.rank_rules.specs.Marked.{Mark, marked}
 use Rattle.rank_rules.specs.Text.{IsCounted}
 use Rattle.rank_text.specs.Known.{KnowsNetwork}
+use Rattle.search_tree.specs.declared.shut.Shut.{Shut}
 use Rattle.search_tree.specs.Cells.{place_of, cell_at}
 use Rattle.turn_laws.specs.Turns.{CanBranch, IsLeastOpen}
 use Rattle.abb_search.specs.declared.growing.Growing.{Growing}
-use Rattle.abb_search.specs.Closing.{ShutAll}
+use Rattle.abb_search.specs.Closing.{ShutsNode}
 use Rattle.tree_rules.specs.Proved.{IsBelowLimit}
 use Rattle.rank_rules.specs.Leaf.{IsOpenLeaf}
 
@@ -43,22 +44,26 @@ pub record IsSpentTelling (p : Problem) (count : ℕ) (ws : List Network) (tree 
 
 -- ---- where it is told
 
--- no leaf is open
-abbrev pub NoneIsOpen : Growing → Type 0
-NoneIsOpen s = (j : ℕ) → j < length s.pool.payloads → (cell_at s.pool.payloads j).end ≡ leaf untried → ⊥
+-- what shuts an open leaf shuts its node, and nothing need
+abbrev pub ShutsIfSome : Problem → Option CostOver → Node → Option Shut → Type 0
+ShutsIfSome p undercut n None = Unit {0}
+ShutsIfSome p undercut n (Some m) = ShutsNode p undercut n m
 
--- or the multipliers shut all open leaves against the last of as many networks as are asked for
-abbrev pub AreShutAgainst : Problem → Growing → Option CostOver → List (Option Scaled) → Type 0
-AreShutAgainst p s undercut proofs = NoneIsOpen s ⊎ ((cost : CostOver) × (undercut ≡ Some cost) × ShutAll p s cost proofs)
+-- some open leaves may be shut, each by what stands at its number
+abbrev pub ShutSome : Problem → Growing → Option CostOver → List (Option Shut) → Type 0
+ShutSome p s undercut ms =
+    (j : ℕ) → j < length s.pool.payloads → (cell_at s.pool.payloads j).end ≡ leaf untried → ShutsIfSome p undercut (place_of (cell_at s.pool.payloads j)) (slice_index_or ms j None)
 
--- all open leaves are pending, the leaf is a least one, which may undercut the cost, and the nodes with its children are more than the
--- budget
-pub record IsSpentFor (p : Problem) (undercut : Option CostOver) (s : Growing) (at options : ℕ) : Type 0 where
+-- with some open leaves shut, all others are pending; the leaf is one of these, a least one, which may undercut the cost, and the nodes
+-- with its children are more than the budget
+pub record IsSpentFor (p : Problem) (undercut : Option CostOver) (s : Growing) (ms : List (Option Shut)) (at options : ℕ) : Type 0 where
+  pub shut : ShutSome p s undercut ms
+  pub stays : slice_index_or ms at None ≡ None
   pub way : Way
   pub can : CanBranch p s.pool.payloads at way
   pub least : IsLeastOpen p s.pool.payloads at
   pub may : MayUndercut p undercut (place_of (cell_at s.pool.payloads at))
-  pub pending : (j : ℕ) → j < length s.pool.payloads → (cell_at s.pool.payloads j).end ≡ leaf untried → IsPending p (place_of (cell_at s.pool.payloads j))
+  pub pending : (j : ℕ) → j < length s.pool.payloads → (cell_at s.pool.payloads j).end ≡ leaf untried → slice_index_or ms j None ≡ None → IsPending p (place_of (cell_at s.pool.payloads j))
   pub count_is : IsNextCount (shape_of p) (place_of (cell_at s.pool.payloads at)) options
   pub as_many : options ≡ length (options_at (shape_of p) (place_of (cell_at s.pool.payloads at)) way)
   pub over : s.budget < length s.pool.payloads + options

@@ -9,10 +9,10 @@ ghost use Rattle.rank_search.specs.Found.{networks_of};
 ghost use Rattle.rank_search.specs.Naming.{AreWithin, IsNamedTree, names_of, name_at, names_at, opened, opened_node, marks_in, marks_at, marks_of};
 
 use crate::found::FoundAt;
-use branch_tree::{End, Scaled, Tree, TreeNode};
+use branch_tree::{End, Tree, TreeNode};
 use node_pool::Pool;
 use ranked_tree::Mark;
-use search_tree::{Cell, nodes_in_preorder};
+use search_tree::{Cell, Shut, nodes_in_preorder};
 use std::alloc::{AllocError, Global};
 use std::mem;
 
@@ -90,12 +90,12 @@ fn take_marks(
 }
 
 /// The tree of the nodes, with the leaves at which networks were found named by these, and where a node stands in it. An open leaf at
-/// whose number multipliers stand is shut there by these.
+/// whose number something stands is shut there by this.
 pub(crate) fn named_tree(
     alloc: Global,
     pool: &Pool<Cell>,
     found: &[FoundAt],
-    proofs: &[Option<Scaled>],
+    proofs: &[Option<Shut>],
     leaf: u32,
     nodes: u32,
 ) -> Result<NamedTree, AllocError>

@@ -1,5 +1,5 @@
 //! What is told.
-ghost use Rattle.std.specs.Prelude.{◌≡◌, ◌<◌, ◌≤◌, ◌^◌, ℕ, true, false, [], map, length, IfOk};
+ghost use Rattle.std.specs.Prelude.{◌≡◌, ◌<◌, ◌≤◌, ◌^◌, ℕ, true, false, [], map, length, slice_index_or, None, IfOk};
 ghost use Rattle.problem_rules.specs.Each.{Each};
 ghost use Rattle.tree_rules.specs.Claim.{IsSized};
 ghost use Rattle.tree_rules.specs.Tree as trees;
@@ -10,18 +10,20 @@ ghost use Rattle.pgraph.specs.View.{node_of};
 ghost use Rattle.rank_rules.specs.Marked.{marked};
 ghost use Rattle.ranked_tree.specs.View.{mark_of};
 ghost use Rattle.search_tree.specs.Cells.{place_of, cell_at, IsLinked};
+ghost use Rattle.abb_search.specs.Closing.{ShutAll};
 ghost use Rattle.abb_search.specs.Growing.{IsTreeKeptFor};
 ghost use Rattle.rank_search.specs.Found.{AreBest, networks_of, undercut_by};
 ghost use Rattle.rank_search.specs.Naming.{AreWithin, IsNamedTree};
 ghost use Rattle.rank_rules.specs.Leaf.{IsOpenLeaf};
-ghost use Rattle.rank_search.specs.Told.{IsTelling, IsSpentTelling, IsSpentFor, AreShutAgainst};
+ghost use Rattle.rank_search.specs.Told.{IsTelling, IsSpentTelling, IsSpentFor, ShutSome};
 
 use crate::found::FoundNetworks;
 use crate::naming::named_tree;
 use abb_search::Growing;
-use branch_tree::{Network, Scaled, Tree};
+use branch_tree::{Network, Tree};
 use pns_problem::Problem;
 use ranked_tree::Mark;
+use search_tree::Shut;
 use std::alloc::{AllocError, Global};
 
 /// The networks, best first, the tree with the marks of its open leaves in preorder, and the place of one of its nodes.
@@ -58,7 +60,7 @@ fn tell(
     alloc: Global,
     growing: &Growing,
     found: FoundNetworks,
-    proofs: &[Option<Scaled>],
+    proofs: &[Option<Shut>],
     leaf: u32,
 ) -> Result<Told, AllocError>
     requires linked { IsLinked growing.now.pool.payloads }
@@ -89,18 +91,18 @@ fn tell(
     })
 }
 
-/// Tells of a search that is at its end: no leaf is open, or the multipliers shut each that is. The place is that of the root.
+/// Tells of a search that is at its end: each leaf that is open is shut by what stands at its number. The place is that of the root.
 pub fn tell_whole(
     alloc: Global,
     problem: &Problem,
     growing: &Growing,
     found: FoundNetworks,
-    proofs: &[Option<Scaled>],
+    proofs: &[Option<Shut>],
 ) -> Result<Told, AllocError>
     requires kept { IsTreeKeptFor problem.now (undercut_by found.count found.found) growing.now }
     requires start { node_of growing.now.start ≡ first_node }
     requires best { AreBest problem.now found.count growing.now.pool.payloads found.found }
-    requires shut { AreShutAgainst problem.now growing.now (undercut_by found.count found.found) proofs.now }
+    requires shut { ShutAll problem.now growing.now (undercut_by found.count found.found) proofs.now }
     ensures networks { IfOk result (λ t. t.networks.items ≡ networks_of found.found) }
     ensures tells { IfOk result (λ t. IsTelling false problem.now found.count t.networks.items t.tree (map mark_of t.marks.items)) }
 {
@@ -108,25 +110,29 @@ pub fn tell_whole(
     tell(alloc, growing, found, proofs, 0)
 }
 
-/// Tells of a search that stops before its end, and where a leaf stands in its tree.
+/// Tells of a search that stops before its end, and where a leaf stands in its tree that stays open. Others may be shut, each by what
+/// stands at its number.
 pub fn tell_stopped(
     alloc: Global,
     problem: &Problem,
     growing: &Growing,
     found: FoundNetworks,
+    proofs: &[Option<Shut>],
     leaf: u32,
 ) -> Result<Told, AllocError>
     requires kept { IsTreeKeptFor problem.now (undercut_by found.count found.found) growing.now }
     requires start { node_of growing.now.start ≡ first_node }
     requires best { AreBest problem.now found.count growing.now.pool.payloads found.found }
     requires leaf { leaf < length growing.now.pool.payloads }
+    requires shut { ShutSome problem.now growing.now (undercut_by found.count found.found) proofs.now }
+    requires stays { slice_index_or proofs.now leaf None ≡ None }
     ensures networks { IfOk result (λ t. t.networks.items ≡ networks_of found.found) }
     ensures tells { IfOk result (λ t. IsTelling true problem.now found.count t.networks.items t.tree (map mark_of t.marks.items)) }
     ensures open { IfOk result (λ t. (cell_at growing.now.pool.payloads leaf).end ≡ trees.leaf untried
         → IsOpenAt problem.now IsOpenLeaf first_node (marked (map mark_of t.marks.items) t.tree) t.place (place_of (cell_at growing.now.pool.payloads leaf))) }
-    ensures spent { IfOk result (λ t. (options : ℕ) → IsSpentFor problem.now (undercut_by found.count found.found) growing.now leaf options
+    ensures spent { IfOk result (λ t. (options : ℕ) → IsSpentFor problem.now (undercut_by found.count found.found) growing.now proofs.now leaf options
         → IsSpentTelling problem.now found.count t.networks.items t.tree (map mark_of t.marks.items) t.place options growing.now.budget) }
 {
     problem.is_valid();
-    tell(alloc, growing, found, &[], leaf)
+    tell(alloc, growing, found, proofs, leaf)
 }

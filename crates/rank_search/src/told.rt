@@ -42,13 +42,17 @@ pub(crate) fn ranked_by<E: Evaluator>(
             let told = tell_whole(alloc, problem, growing, found, &proofs)?;
             Ok(Ranked::Whole(text_of(count, told, Tail::Whole)))
         }
-        Ending::Spent { leaf, options } => {
-            let told = tell_stopped(alloc, problem, growing, found, leaf)?;
+        Ending::Spent {
+            leaf,
+            options,
+            refuted,
+        } => {
+            let told = tell_stopped(alloc, problem, growing, found, &refuted, leaf)?;
             let next = told.place;
             Ok(Ranked::Spent(text_of(count, told, Tail::Spent { next, options })))
         }
         Ending::Past(stopped) => {
-            let told = tell_stopped(alloc, problem, growing, found, stopped.leaf)?;
+            let told = tell_stopped(alloc, problem, growing, found, &[], stopped.leaf)?;
             let node = told.place;
             let tail = Tail::Past {
                 node,

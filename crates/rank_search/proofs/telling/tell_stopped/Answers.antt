@@ -1,10 +1,10 @@
-use Rattle.std.proofs.Common.{ℕ, length, true, List, [], map, refl, sym, subst}
+use Rattle.std.proofs.Common.{ℕ, length, true, List, map, sym, subst}
 use Rattle.tree_rules.specs.Claim.{Network}
 use Rattle.ranked_tree.specs.View.{mark_of}
 use Rattle.rank_search.specs.Found.{undercut_by}
 use Rattle.rank_search.specs.Naming.{AreWithin}
 use Rattle.rank_search.specs.Told.{IsTelling, IsSpentTelling}
-use Rattle.rank_search.proofs.NamedLeafLemmas.{stays_open}
+use Rattle.rank_search.proofs.NamedLeafLemmas.{some_close}
 use Rattle.rank_search.proofs.NameLemmas.{within_all}
 use Rattle.rank_search.proofs.TellingLemmas.{is_telling, stands_open, spent_telling, with_three}
 use Rattle.rank_search.proofs.telling.tell_stopped.Goals as goal
@@ -22,8 +22,8 @@ returns-clause-tells c =
     let fs = c.args.found.found in
     with_three c.tell.result
     (λ t n of sized. subst (λ (ws : List Network). IsTelling true p c.args.found.count ws t.tree (map mark_of t.marks.items)) (sym n)
-    (is_telling p c.is_valid.ensures.valid c.args.found.count s fs c.requires.kept c.requires.start c.requires.best [] c.args.leaf t.place t.tree (map mark_of t.marks.items) of true
-    (stays_open p (undercut_by c.args.found.count fs) s.pool.payloads) sized c.tell.ensures.asked))
+    (is_telling p c.is_valid.ensures.valid c.args.found.count s fs c.requires.kept c.requires.start c.requires.best c.args.proofs.now c.args.leaf t.place t.tree (map mark_of t.marks.items) of true
+    (some_close p s (undercut_by c.args.found.count fs) c.args.proofs.now c.requires.shut) sized c.tell.ensures.asked))
     c.tell.ensures.networks c.tell.ensures.tree c.tell.ensures.sized
 
 pub returns-clause-open : goal.returns-clause-open
@@ -32,7 +32,7 @@ returns-clause-open c =
     let s = c.args.growing.now in
     let fs = c.args.found.found in
     with_three c.tell.result
-    (λ t n of sized is. stands_open p c.is_valid.ensures.valid c.args.found.count s fs c.requires.kept c.requires.start c.requires.best [] c.args.leaf t.place t.tree (map mark_of t.marks.items) of c.requires.leaf refl is)
+    (λ t n of sized is. stands_open p c.is_valid.ensures.valid c.args.found.count s fs c.requires.kept c.requires.start c.requires.best c.args.proofs.now c.args.leaf t.place t.tree (map mark_of t.marks.items) of c.requires.leaf c.requires.stays is)
     c.tell.ensures.networks c.tell.ensures.tree c.tell.ensures.sized
 
 pub returns-clause-spent : goal.returns-clause-spent
@@ -42,5 +42,5 @@ returns-clause-spent c =
     let fs = c.args.found.found in
     with_three c.tell.result
     (λ t n of sized options h. subst (λ (ws : List Network). IsSpentTelling p c.args.found.count ws t.tree (map mark_of t.marks.items) t.place options s.budget) (sym n)
-    (spent_telling p c.is_valid.ensures.valid c.args.found.count s fs c.requires.kept c.requires.start c.requires.best [] c.args.leaf t.place t.tree (map mark_of t.marks.items) of c.requires.leaf refl options h))
+    (spent_telling p c.is_valid.ensures.valid c.args.found.count s fs c.requires.kept c.requires.start c.requires.best c.args.proofs.now c.args.leaf t.place t.tree (map mark_of t.marks.items) of c.requires.leaf c.requires.stays options h))
     c.tell.ensures.networks c.tell.ensures.tree c.tell.ensures.sized

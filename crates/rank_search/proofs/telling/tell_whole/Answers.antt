@@ -4,7 +4,7 @@ use Rattle.ranked_tree.specs.View.{mark_of}
 use Rattle.rank_search.specs.Found.{undercut_by}
 use Rattle.rank_search.specs.Naming.{AreWithin}
 use Rattle.rank_search.specs.Told.{IsTelling}
-use Rattle.rank_search.proofs.NamedLeafLemmas.{shut_closes}
+use Rattle.rank_search.proofs.NamedLeafLemmas.{all_close}
 use Rattle.rank_search.proofs.NameLemmas.{within_all}
 use Rattle.rank_search.proofs.TellingLemmas.{is_telling, with_three}
 use Rattle.rank_search.proofs.telling.tell_whole.Goals as goal
@@ -24,5 +24,5 @@ returns-clause-tells c =
     with_three c.tell.result
     (λ t n of sized. subst (λ (ws : List Network). IsTelling false p c.args.found.count ws t.tree (map mark_of t.marks.items)) (sym n)
     (is_telling p c.is_valid.ensures.valid c.args.found.count s fs c.requires.kept c.requires.start c.requires.best ms 0 t.place t.tree (map mark_of t.marks.items) of false
-    (shut_closes p s (undercut_by c.args.found.count fs) ms c.requires.shut) sized c.tell.ensures.asked))
+    (all_close p s (undercut_by c.args.found.count fs) ms c.requires.shut) sized c.tell.ensures.asked))
     c.tell.ensures.networks c.tell.ensures.tree c.tell.ensures.sized

@@ -1,19 +1,15 @@
-use Rattle.std.proofs.Common.{◌+◌, ◌<◌, length, true≢false, refl, sym, subst, arith}
+use Rattle.std.proofs.Common.{◌+◌, ◌≤◌, length, refl, sym, subst}
 use Rattle.pns_rules.specs.Shape.{shape_of}
 use Rattle.pns_rules.specs.Ends.{IsSound, IsReduced}
 use Rattle.pgraph.specs.View.{node_of}
 use Rattle.unit_sets.specs.declared.node.Node.{Node}
+use Rattle.branch_choice.specs.declared.choice.Choice.{Choice}
 use Rattle.branch_choice.specs.Choices.{IsChoice, way_of, option_count}
 use Rattle.search_tree.specs.Cells.{cell_at}
 use Rattle.abb_search.specs.Growing.{IsBranching}
-use Rattle.abb_search.proofs.TurnLemmas.{there, hand, chosen, sound_there, within_budget}
+use Rattle.abb_search.proofs.TurnLemmas.{there, hand, chosen, sound_there}
 use Rattle.rank_search.specs.Listed.{AreAdded}
-use Rattle.rank_search.specs.declared.turns.Ending.TheVariants as endings
-use Rattle.rank_search.specs.Found.{undercut_by}
-use Rattle.rank_search.specs.Turns.{IsRankEnd}
-use Rattle.rank_search.proofs.CostLemmas.{undercut_positive}
-use Rattle.rank_search.proofs.TurnLemmas.{growing_of, ends}
-use Rattle.rank_search.proofs.LeafLemmas.{spent_for}
+use Rattle.rank_search.proofs.TurnLemmas.{growing_of}
 use Rattle.rank_search.proofs.GrowLemmas.{same_count, numbers_fit, grown}
 use Rattle.rank_search.proofs.turns.branch_next.Goals as goal
 
@@ -30,22 +26,6 @@ node_at-node-requires g c =
     let s = c.args.growing.now in
     let gr = growing_of g.E.Evaluator.past p s.budget s c.args.found.now c.requires.ranking c.requires.goes_on in
     there p c.is_valid.ensures.valid s gr c.args.leaf c.requires.next.is_open c.is_pool.ensures.payloads c.is_pool.ensures.leaves
-
-pub returns-then-is_over-clause-holds : goal.returns-then-is_over-clause-holds
-returns-then-is_over-clause-holds g c =
-    let p = c.args.problem.now in
-    let s = c.args.growing.now in
-    let l = c.args.found.now in
-    let gr = growing_of g.E.Evaluator.past p s.budget s l c.requires.ranking c.requires.goes_on in
-    let m = c.choice_at-choice.result in
-    let at = c.args.leaf in
-    let choice = chosen p c.is_valid.ensures.valid s gr at c.requires.next.is_open c.is_pool.ensures.payloads c.is_pool.ensures.leaves m c.choice_at-choice.ensures in
-    let over : s.budget < length s.pool.payloads + option_count m = (let o = c.if-is_over.ensures.0 refl in let k = gr.tree.counted in let e = c.options-options.ensures in omega (arith, o, k, e)) in
-    let lt = there p c.is_valid.ensures.valid s gr at c.requires.next.is_open c.is_pool.ensures.payloads c.is_pool.ensures.leaves in
-    let positive = undercut_positive l c.is_listed.ensures in
-    let spent = spent_for p c.is_valid.ensures.valid s gr at c.requires.next.is_open c.is_pool.ensures.payloads c.is_pool.ensures.leaves (undercut_by l.count l.found) positive c.requires.next.least c.requires.next.undercuts m choice over in
-    subst (λ n. IsRankEnd g.E.Evaluator.past p s.budget s l (endings.Spent at n)) (sym c.options-options.ensures)
-    (ends g.E.Evaluator.past p s.budget s l c.requires.ranking (endings.Spent at (option_count m)) (lt, spent))
 
 pub branch_leaf-requires-clause-sound : goal.branch_leaf-requires-clause-sound
 branch_leaf-requires-clause-sound g c =
@@ -79,8 +59,8 @@ add_all-requires g c =
     numbers_fit g.E.Evaluator.past p (node_of c.node_at-node.result) s c.branch_leaf.new.growing c.args.leaf s.nodes (way_of c.choice_at-choice.result) c.in_ok-networks.ensures.branching c.in_ok-networks.networks.items
     (c.in_ok-networks.ensures.solved refl) gr.tree.counted
 
-pub returns-clause-holds : goal.returns-clause-holds
-returns-clause-holds g c =
+pub returns-clause-more : goal.returns-clause-more
+returns-clause-more g c =
     let p = c.args.problem.now in
     let s = c.args.growing.now in
     let l = c.args.found.now in
@@ -89,12 +69,12 @@ returns-clause-holds g c =
     let m = c.choice_at-choice.result in
     let at = c.args.leaf in
     let choice = chosen p c.is_valid.ensures.valid s gr at c.requires.next.is_open c.is_pool.ensures.payloads c.is_pool.ensures.leaves m c.choice_at-choice.ensures in
-    let few = within_budget s.budget s.nodes (length s.pool.payloads) c.options-options.result (option_count m) gr.tree.counted c.options-options.ensures (λ h. true≢false (sym (c.if-is_over.ensures.1 h))) in
+    let few = subst (λ (x : Choice). length s.pool.payloads + option_count x ≤ s.budget) (sym c.choice_at-choice.ensures) c.requires.fits in
     let b : IsBranching g.E.Evaluator.past p (node_of (cell_at s.pool.payloads at).node) s new at (way_of m)
     = subst (λ (k : Node). IsBranching g.E.Evaluator.past p (node_of k) s new at (way_of m)) c.node_at-node.ensures c.in_ok-networks.ensures.branching in
     let added : AreAdded l c.add_all.new.self (length s.pool.payloads) c.in_ok-networks.networks.items = subst (λ n. AreAdded l c.add_all.new.self n c.in_ok-networks.networks.items) gr.tree.counted c.in_ok-add_all.ensures in
-    grown g.E.Evaluator.past p c.is_valid.ensures.valid s.budget s l c.is_listed.ensures c.requires.ranking gr at c.requires.next.is_open c.is_pool.ensures.payloads c.is_pool.ensures.leaves c.requires.next.least
-    c.requires.next.undercuts new m choice few b c.in_ok-networks.networks.items (c.in_ok-networks.ensures.solved refl) c.add_all.new.self added
+    grown g.E.Evaluator.past p c.is_valid.ensures.valid s.budget s l c.is_listed.ensures c.requires.ranking gr at c.requires.next.is_open c.is_pool.ensures.payloads c.is_pool.ensures.leaves c.requires.next.settled
+    c.requires.next.least c.requires.next.undercuts new m choice few b c.in_ok-networks.networks.items (c.in_ok-networks.ensures.solved refl) c.add_all.new.self added
 
 pub returns-clause-count : goal.returns-clause-count
 returns-clause-count g c = same_count c.args.found.now c.add_all.new.self c.args.growing.now.nodes c.in_ok-networks.networks.items c.in_ok-add_all.ensures

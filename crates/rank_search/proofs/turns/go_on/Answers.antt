@@ -3,9 +3,9 @@ use Rattle.abb_search.specs.declared.growing.StoppedLeaf.{StoppedLeaf}
 use Rattle.node_evaluation.specs.declared.evaluator.Interval.{Interval}
 use Rattle.abb_search.specs.Growing.{IsStoppedAt, interval_stop}
 use Rattle.abb_search.proofs.TurnLemmas.{there, hand, stops_there}
-use Rattle.rank_search.specs.Turns.{IsStopLeaf, IsNext}
+use Rattle.rank_search.specs.Turns.{IsRanking, IsNextLeaf, FitsBudget, IsStopLeaf, IsNext}
 use Rattle.rank_search.specs.declared.turns.Next.TheVariants as nexts
-use Rattle.rank_search.proofs.TurnLemmas.{growing_of, tree_of, ends, ends_there}
+use Rattle.rank_search.proofs.TurnLemmas.{growing_of, tree_of, ends, ranking_settled, more_settled, ends_there}
 use Rattle.rank_search.proofs.turns.go_on.Goals as goal
 
 pub next_leaf-requires-clause-growing : goal.next_leaf-requires-clause-growing
@@ -15,24 +15,52 @@ pub returns-in-End-clause-holds : goal.returns-in-End-clause-holds
 returns-in-End-clause-holds g c =
     let p = c.args.problem.now in
     let s = c.args.growing.now in
+    let t = c.next_leaf.new.growing in
     let l = c.args.found.now in
-    let next : IsNext g.E.Evaluator.past p s l (nexts.End c.in-End.ending) = rw c.in-End.is at c.in_ok-ending.ensures in
-    ends g.E.Evaluator.past p s.budget s l c.requires.ranking c.in-End.ending next
+    let next : IsNext g.E.Evaluator.past p t l (nexts.End c.in-End.ending) = rw c.in-End.is at c.in_ok-ending.ensures.next in
+    ends g.E.Evaluator.past p s.budget t l (ranking_settled g.E.Evaluator.past p s.budget s t l c.in_ok-ending.ensures.same c.requires.ranking c.requires.goes_on) c.in-End.ending next
+
+pub branch_next-requires-clause-ranking : goal.branch_next-requires-clause-ranking
+branch_next-requires-clause-ranking g c =
+    let p = c.args.problem.now in
+    let s = c.args.growing.now in
+    let t = c.next_leaf.new.growing in
+    let l = c.args.found.now in
+    let same = c.in_ok-ending.ensures.same in
+    subst (λ b. IsRanking g.E.Evaluator.past p b t l) (sym same.budget) (ranking_settled g.E.Evaluator.past p s.budget s t l same c.requires.ranking c.requires.goes_on)
+
+pub branch_next-requires-clause-goes_on : goal.branch_next-requires-clause-goes_on
+branch_next-requires-clause-goes_on g c = c.in_ok-ending.ensures.same.stop ∙ c.requires.goes_on
 
 pub branch_next-requires-clause-next : goal.branch_next-requires-clause-next
-branch_next-requires-clause-next g c = rw c.in-Branch.is at c.in_ok-ending.ensures
+branch_next-requires-clause-next g c =
+    let t = c.next_leaf.new.growing in
+    let next : IsNext g.E.Evaluator.past c.args.problem.now t c.args.found.now (nexts.Branch c.in-Branch.leaf) = rw c.in-Branch.is at c.in_ok-ending.ensures.next in
+    next.0
+
+pub branch_next-requires-clause-fits : goal.branch_next-requires-clause-fits
+branch_next-requires-clause-fits g c =
+    let t = c.next_leaf.new.growing in
+    let next : IsNext g.E.Evaluator.past c.args.problem.now t c.args.found.now (nexts.Branch c.in-Branch.leaf) = rw c.in-Branch.is at c.in_ok-ending.ensures.next in
+    next.1
+
+pub returns-in-Branch-clause-holds : goal.returns-in-Branch-clause-holds
+returns-in-Branch-clause-holds g c =
+    more_settled g.E.Evaluator.past c.args.problem.now c.args.growing.now c.next_leaf.new.growing c.branch_next.new.growing c.branch_next.new.found c.in_ok-ending.ensures.same c.in_ok-branch_next.ensures.more
 
 pub take_stop-requires : goal.take_stop-requires
 take_stop-requires g c =
     let p = c.args.problem.now in
     let s = c.args.growing.now in
-    let gr = growing_of g.E.Evaluator.past p s.budget s c.args.found.now c.requires.ranking c.requires.goes_on in
-    let next : IsStopLeaf s c.args.found.now c.in-Stop.leaf = rw c.in-Stop.is at c.in_ok-ending.ensures in
-    there p c.is_valid.ensures.valid s gr c.in-Stop.leaf next.is_open c.is_pool.ensures.payloads c.is_pool.ensures.leaves
+    let t = c.next_leaf.new.growing in
+    let l = c.args.found.now in
+    let gr = growing_of g.E.Evaluator.past p s.budget t l (ranking_settled g.E.Evaluator.past p s.budget s t l c.in_ok-ending.ensures.same c.requires.ranking c.requires.goes_on) (c.in_ok-ending.ensures.same.stop ∙ c.requires.goes_on) in
+    let next : IsStopLeaf t l c.in-Stop.leaf = rw c.in-Stop.is at c.in_ok-ending.ensures.next in
+    there p c.is_valid.ensures.valid t gr c.in-Stop.leaf next.is_open c.is_pool.ensures.payloads c.is_pool.ensures.leaves
 
 pub unreachable-requires : goal.unreachable-requires
 unreachable-requires g c =
-    let next : IsStopLeaf c.args.growing.now c.args.found.now c.in-Stop.leaf = rw c.in-Stop.is at c.in_ok-ending.ensures in
+    let next : IsStopLeaf c.next_leaf.new.growing c.args.found.now c.in-Stop.leaf = rw c.in-Stop.is at c.in_ok-ending.ensures.next in
     let told : StoppedLeaf = record { leaf = c.in-Stop.leaf; stop = next.past.interval.stop } in
     absurd (let q : None ≡ Some told = sym c.in_default.is ∙ (c.take_stop.ensures.stop ∙ ap (λ (i : Option Interval). interval_stop c.in-Stop.leaf i) next.past.is) in cc)
 
@@ -40,14 +68,16 @@ pub returns-in-Some-clause-holds : goal.returns-in-Some-clause-holds
 returns-in-Some-clause-holds g c =
     let p = c.args.problem.now in
     let s = c.args.growing.now in
+    let t = c.next_leaf.new.growing in
     let l = c.args.found.now in
     let at = c.in-Stop.leaf in
-    let gr = growing_of g.E.Evaluator.past p s.budget s l c.requires.ranking c.requires.goes_on in
-    let next : IsStopLeaf s l at = rw c.in-Stop.is at c.in_ok-ending.ensures in
-    let hd = hand p c.is_valid.ensures.valid s gr at next.is_open c.is_pool.ensures.payloads c.is_pool.ensures.leaves in
-    let here = stops_there p c.is_valid.ensures.valid s gr at next.is_open c.is_pool.ensures.payloads c.is_pool.ensures.leaves hd next.past.interval next.past.is in
+    let ranking = ranking_settled g.E.Evaluator.past p s.budget s t l c.in_ok-ending.ensures.same c.requires.ranking c.requires.goes_on in
+    let gr = growing_of g.E.Evaluator.past p s.budget t l ranking (c.in_ok-ending.ensures.same.stop ∙ c.requires.goes_on) in
+    let next : IsStopLeaf t l at = rw c.in-Stop.is at c.in_ok-ending.ensures.next in
+    let hd = hand p c.is_valid.ensures.valid t gr at next.is_open c.is_pool.ensures.payloads c.is_pool.ensures.leaves in
+    let here = stops_there p c.is_valid.ensures.valid t gr at next.is_open c.is_pool.ensures.payloads c.is_pool.ensures.leaves hd next.past.interval next.past.is in
     let told : StoppedLeaf = record { leaf = at; stop = next.past.interval.stop } in
     let both : Some c.in-Some.stopped ≡ Some told = sym c.in-Some.is ∙ (c.take_stop.ensures.stop ∙ ap (λ (i : Option Interval). interval_stop at i) next.past.is) in
     let same : told ≡ c.in-Some.stopped = cc in
-    ends_there g.E.Evaluator.past p s.budget s c.take_stop.new.growing l c.take_stop.ensures.rest (tree_of g.E.Evaluator.past p s.budget s l c.requires.ranking) c.in-Some.stopped
-    (subst (λ (h : StoppedLeaf). IsStoppedAt g.E.Evaluator.past p s h.leaf h.stop) same here)
+    ends_there g.E.Evaluator.past p s.budget t c.take_stop.new.growing l c.take_stop.ensures.rest (tree_of g.E.Evaluator.past p s.budget t l ranking) c.in-Some.stopped
+    (subst (λ (h : StoppedLeaf). IsStoppedAt g.E.Evaluator.past p t h.leaf h.stop) same here)
