@@ -1,4 +1,0 @@
-use Rattle.certified_bounds.proofs.bounds.CertifiedBounds.look_once.Goals as goal
-
-pub returns-in-Row-clause-certified : goal.returns-in-Row-clause-certified
-returns-in-Row-clause-certified c = c.refuted.ensures c.args.decided
