@@ -126,7 +126,13 @@ fn visit_end(
 {
     match end {
         End::Branch { material, children } => visit_branch(
-            judge.graph, node, *material, *children, behind, found, stack,
+            judge.graph,
+            node,
+            *material,
+            *children,
+            behind,
+            found,
+            stack,
         ),
         End::Either(unit) => visit_either(judge.graph, node, *unit, behind, found, stack),
         end => match judge_leaf(

@@ -204,11 +204,7 @@ impl Proposals {
         for code in basis {
             let _is_kept = self.columns.push(column_of(*code)).is_ok();
         }
-        if self.read_rows(node)
-            && self
-                .solver
-                .solve(&self.scaled.numbers, &self.columns, node)
-        {
+        if self.read_rows(node) && self.solver.solve(&self.scaled.numbers, &self.columns, node) {
             Proposed::Optimum
         } else {
             Proposed::Nothing
