@@ -1,5 +1,5 @@
 -- What is told of a node, from what the checks say.
-use Rattle.std.proofs.Common.{◌≡◌, ℕ, Option, Some, None, Result, Ok, Err, IfOk, IfSome, List, [], ◌∷◌, sym, ap, ◌∙◌, arith, pos, ℤ, ◌*ℤ◌, ◌≤ℤ◌}
+use Rattle.std.proofs.Common.{◌≡◌, ℕ, Option, Some, None, Result, Ok, Err, IfOk, IfSome, List, [], ◌∷◌, sym, ◌∙◌, arith, pos, ℤ, ◌*ℤ◌, ◌≤ℤ◌}
 use Rattle.std.proofs.lemmas.Int.{ints}
 use Rattle.integer_laws.specs.Range.{InRange}
 use Rattle.problem_rules.specs.Problem.{Problem}

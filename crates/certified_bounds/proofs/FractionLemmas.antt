@@ -1,5 +1,5 @@
 -- The order of fractions by cross products.
-use Rattle.std.proofs.Common.{◌≡◌, true, false, sym, ap, ◌∙◌, arith, pos, ℤ, ◌*ℤ◌, ◌≤ℤ◌, ◌<ℤ◌}
+use Rattle.std.proofs.Common.{◌≡◌, true, false, arith, pos, ℤ, ◌*ℤ◌, ◌≤ℤ◌, ◌<ℤ◌}
 use Rattle.std.specs.Ordering.{int_cmp, is_le, is_eq}
 use Rattle.std.specs.declared.cmp.Ordering.{Ordering}
 use Rattle.std.specs.declared.cmp.Ordering.TheVariants.{Less, Equal, Greater}
@@ -8,8 +8,8 @@ use Rattle.std.proofs.lemmas.Int.{ints}
 use Rattle.mixed_numbers.specs.declared.number.Mixed.{Mixed}
 use Rattle.mixed_numbers.specs.Number.{denominator}
 use Rattle.mixed_numbers.specs.OrderLaws.{denominator_positive}
-use Rattle.integer_laws.proofs.Ring.{ring_z, V, ◌⊗◌, ring}
-use Rattle.integer_laws.proofs.Order.{mul-le_right, cancel, cancel_le}
+use Rattle.integer_laws.proofs.Ring.{ring_z}
+use Rattle.integer_laws.proofs.Order.{mul-le_right, cancel_le}
 
 pub no_more_of_same : (a b : ℤ) → a ≡ b → a ≤ℤ b
 no_more_of_same a b e = omega (arith, ints)

@@ -1,5 +1,5 @@
 -- What is told of a node without its path, as a search is told it.
-use Rattle.std.proofs.Common.{◌≡◌, Bool, true, false, Some, None, refl, List, ℤ, pos, ◌*ℤ◌, ◌≤ℤ◌, sym, subst, arith}
+use Rattle.std.proofs.Common.{◌≡◌, Bool, true, false, Some, None, refl, ℤ, pos, ◌*ℤ◌, ◌≤ℤ◌, sym, subst, arith}
 use Rattle.std.proofs.lemmas.Int.{ints}
 use Rattle.problem_rules.specs.Problem.{Problem}
 use Rattle.pns_rules.specs.Nodes.{Node}

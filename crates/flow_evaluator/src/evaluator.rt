@@ -225,14 +225,14 @@ impl FlowEvaluator {
         Ok(evaluation_of(told))
     }
 
-    /// What is told of the node without its path and without a guess, from what was noted at its first look, if anything.
+    /// What is told of the node without its path and without a guess, at the basis that was noted at its first look, if anything.
     fn certify_noted(
         &mut self,
         alloc: Global,
         problem: &Problem,
         graph: &Graph,
         node: Node,
-        basis: &[u16],
+        bound: &LowerBound,
     ) -> Result<Option<Evaluation>, AllocError>
         requires own { self.old.problem ≡ problem.now }
         requires graph { shape graph.now ≡ shape_of problem.now }
@@ -241,7 +241,9 @@ impl FlowEvaluator {
         ensures evaluated { IfOk result (λ found. IfSome found (IsEvaluated IsPastAt problem.now (node_of node) false)) }
     {
         self.is_walked = false;
-        let told = self.certified.settle(alloc, problem, graph, node, basis)?;
+        let told = self
+            .certified
+            .settle(alloc, problem, graph, node, &bound.basis)?;
         Ok(evaluation_of(told))
     }
 
@@ -279,6 +281,33 @@ impl FlowEvaluator {
             other => Ok(other),
         }
     }
+
+    /// What is told of the node: without its path, where that tells anything, and by its path else.
+    fn valued(
+        &mut self,
+        alloc: Global,
+        problem: &Problem,
+        graph: &Graph,
+        node: &Node,
+        decided: bool,
+    ) -> Result<Evaluation, AllocError>
+        requires own { self.old.problem ≡ problem.now }
+        requires graph { shape graph.now ≡ shape_of problem.now }
+        requires sound { IsSound (shape_of problem.now) (node_of node.now) }
+        requires split { decided ≡ true → IsDecided (shape_of problem.now) (node_of node.now) }
+        ensures { IfOk result (IsEvaluated IsPastAt problem.now (node_of node.now) decided) }
+    {
+        if let Some(evaluation) = self.certify(alloc, problem, graph, *node, decided)? {
+            self.tries.keep(&evaluation, decided);
+            return Ok(evaluation);
+        }
+        self.has_room();
+        self.is_walked = true;
+        let told = evaluate_on(alloc, problem, graph, node, decided, &mut self.bench)?;
+        let evaluation = self.with_between(alloc, problem, graph, *node, decided, told)?;
+        self.tries.keep(&evaluation, decided);
+        Ok(evaluation)
+    }
 }
 
 impl Evaluator for FlowEvaluator {
@@ -310,11 +339,13 @@ impl Evaluator for FlowEvaluator {
         bound: &LowerBound,
     ) -> Result<Evaluation, AllocError> {
         self.make_ready(alloc, problem, graph)?;
-        if let Some(evaluation) = self.certify_noted(alloc, problem, graph, node, &bound.basis)? {
-            self.tries.keep(&evaluation, false);
-            return Ok(evaluation);
+        match self.certify_noted(alloc, problem, graph, node, bound)? {
+            Some(evaluation) => {
+                self.tries.keep(&evaluation, false);
+                Ok(evaluation)
+            }
+            None => self.valued(alloc, problem, graph, &node, false),
         }
-        self.evaluate(alloc, problem, graph, node, false)
     }
 
     fn evaluate(
@@ -326,16 +357,7 @@ impl Evaluator for FlowEvaluator {
         decided: bool,
     ) -> Result<Evaluation, AllocError> {
         self.make_ready(alloc, problem, graph)?;
-        if let Some(evaluation) = self.certify(alloc, problem, graph, node, decided)? {
-            self.tries.keep(&evaluation, decided);
-            return Ok(evaluation);
-        }
-        self.has_room();
-        self.is_walked = true;
-        let told = evaluate_on(alloc, problem, graph, &node, decided, &mut self.bench)?;
-        let evaluation = self.with_between(alloc, problem, graph, node, decided, told)?;
-        self.tries.keep(&evaluation, decided);
-        Ok(evaluation)
+        self.valued(alloc, problem, graph, &node, decided)
     }
 
     fn prove(
