@@ -1,4 +1,5 @@
 pub mod Case
 pub mod Desk
 pub mod Refusal
+pub mod Rise
 pub mod Side

@@ -28,14 +28,8 @@ impl<'a> Case<'a> {
     {
         best_between();
         self.is_known();
-        let below = match self.end(desk, Side::Below) {
-            Ok(end) => end,
-            Err(fault) => return Err(fault),
-        };
-        let above = match self.end(desk, Side::Above) {
-            Ok(end) => end,
-            Err(fault) => return Err(fault),
-        };
+        let below = self.end(desk, Side::Below)?;
+        let above = self.end(desk, Side::Above)?;
         Ok(Range {
             from: self.value(Side::Below, below.away),
             to: self.value(Side::Above, above.away),
@@ -53,10 +47,9 @@ impl<'a> Case<'a> {
     {
         self.is_known();
         present_stays();
-        match self.probe_now(desk) {
-            Ok(None) => self.both_sides(desk),
-            Ok(Some(cheaper)) => Err(RangeFault::NotBest(cheaper)),
-            Err(fault) => Err(fault),
+        match self.probe_now(desk)? {
+            None => self.both_sides(desk),
+            Some(cheaper) => Err(RangeFault::NotBest(cheaper)),
         }
     }
 }

@@ -1,13 +1,15 @@
 //! Whether the network's cost rises on a side as little as that of any structure can: then no search is needed there.
-ghost use Rattle.std.specs.Prelude.{◌≡◌, ◌≤◌, ◌<◌, ◌^◌, ◌*ℤ◌, ◌+ℤ◌, neg_ℤ, true, length, unsigned_abs, IfSome};
+ghost use Rattle.std.specs.Prelude.{◌≡◌, ◌≤◌, ◌<◌, ◌^◌, ◌*ℤ◌, neg_ℤ, true, length, unsigned_abs, IfSome};
 ghost use Rattle.problem_rules.specs.Problem.{unit_at};
 ghost use Rattle.problem_rules.specs.WellFormed.{IsInRange};
 ghost use Rattle.flow_rules.specs.Net.{million};
 ghost use Rattle.stability_rules.specs.declared.side.Side.TheVariants.{Below, Above};
-ghost use Rattle.stability_rules.specs.Spot.{KnowsSpot, value_at, valued, value_on, IsAllowedValue};
+ghost use Rattle.stability_rules.specs.Spot.{KnowsSpot, valued, IsAllowedValue};
 ghost use Rattle.stability_rules.specs.Range.{cost_at};
 ghost use Rattle.stability_rules.specs.Rise.{least_left, most_left, least_rise};
 ghost use Rattle.stability.specs.Desk.{IsDesk};
+ghost use Rattle.stability.specs.Rise.{cost_there, least_cost};
+ghost use Rattle.stability.specs.Side.{there};
 
 use crate::case::Case;
 use crate::costs::cost_in;
@@ -131,7 +133,7 @@ fn least_rise(problem: &Problem, spot: Spot, side: Side) -> i128
 impl<'a> Case<'a> {
     /// What the network costs one step away if its cost rises as little as that of any structure can.
     fn least_cost(&self, side: Side) -> Option<i128>
-        ensures { IfSome result (λ least. least ≡ self.now.network.cost +ℤ least_rise self.now.problem self.now.spot side *ℤ self.now.network.d) }
+        ensures { IfSome result (λ least. least ≡ least_cost self.now side) }
     {
         self.is_known();
         self.network.is_sized();
@@ -157,8 +159,8 @@ impl<'a> Case<'a> {
     /// What the network costs one step away.
     fn cost_near(&self, desk: &mut Desk, side: Side) -> Option<i128>
         requires desk { IsDesk self.now desk.old }
-        requires allowed { IsAllowedValue self.now.spot (value_on side (value_at self.now.problem self.now.spot) 1) }
-        ensures cost { IfSome result (λ cost. cost ≡ cost_at self.now.problem self.now.spot self.now.network (value_on side (value_at self.now.problem self.now.spot) 1)) }
+        requires allowed { IsAllowedValue self.now.spot (there self.now side 1) }
+        ensures cost { IfSome result (λ cost. cost ≡ cost_there self.now side 1) }
         ensures desk { IsDesk self.now desk.new }
     {
         let value = self.value(side, 1);
@@ -169,8 +171,8 @@ impl<'a> Case<'a> {
     /// Whether the network costs as little more one step away as any structure can.
     pub(crate) fn rises_least(&self, desk: &mut Desk, side: Side) -> bool
         requires desk { IsDesk self.now desk.old }
-        requires allowed { IsAllowedValue self.now.spot (value_on side (value_at self.now.problem self.now.spot) 1) }
-        ensures least { result ≡ true → cost_at self.now.problem self.now.spot self.now.network (value_on side (value_at self.now.problem self.now.spot) 1) ≡ self.now.network.cost +ℤ least_rise self.now.problem self.now.spot side *ℤ self.now.network.d }
+        requires allowed { IsAllowedValue self.now.spot (there self.now side 1) }
+        ensures least { result ≡ true → cost_there self.now side 1 ≡ least_cost self.now side }
         ensures desk { IsDesk self.now desk.new }
     {
         match (self.cost_near(desk, side), self.least_cost(side)) {
