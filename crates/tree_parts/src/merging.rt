@@ -238,14 +238,8 @@ pub fn merge(
     open_leaves_stand();
     tree.is_tree();
     part.tree().is_tree();
-    let leaves = match leaves_of(alloc, problem, graph, claim, tree) {
-        Ok(leaves) => leaves,
-        Err(fault) => return Err(fault),
-    };
-    match judge_part(alloc, problem, graph, part) {
-        Ok(()) => {}
-        Err(fault) => return Err(fault),
-    }
+    let leaves = leaves_of(alloc, problem, graph, claim, tree)?;
+    judge_part(alloc, problem, graph, part)?;
     let start = part.start();
     let Some(at) = leaf_at(&leaves, &start) else {
         return Err(MergeFault::NoLeaf);
