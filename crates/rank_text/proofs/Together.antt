@@ -1,6 +1,5 @@
 -- What is read of the marks and of the tree is put together.
 use Rattle.std.proofs.Common.{◌≡◌, ◌<◌, ◌≤◌, ◌-◌, length, ℕ, suc, List, [], ◌∷◌, ◌++◌, map, Option, Some, None, IfSome, IfNone, Result, Ok, Err, refl, sym, ap, ap₂, ◌∙◌, subst, arith}
-use Rattle.problem_rules.specs.Each.{Each}
 use Rattle.problem_rules.specs.Problem.{Problem}
 use Rattle.tree_rules.specs.Accepted.{Tree}
 use Rattle.tree_rules.specs.Tail.{Tail}
@@ -93,10 +92,6 @@ network_later p number lines taken e =
     Ok (record { what = record { units = one.0; sizes = two.0.1; d = two.0.0; cost = cost }; number = suc (suc (suc number)); behind = lines })) taken two.2 in
     let same = made_number (record { what = record { units = one.0; sizes = two.0.1; d = two.0.0; cost = three.0 }; number = suc (suc (suc number)); behind = three.1 }) taken three.2 in
     omega (arith, same)
-
-pub each_last : {X : Type 0} (P : X → Type 0) (xs : List X) (x : X) → Each P xs → P x → Each P (xs ++ x ∷ [])
-each_last P [] x all one = (one, tt)
-each_last P (y ∷ ys) x all one = (all.0, each_last P ys x all.1 one)
 
 -- ---- behind the networks
 

@@ -34,10 +34,7 @@ pub fn read_networks(
     let mut left = count;
     let mut at = cut;
     'reading: while left > 0 {
-        let (network, behind) = match read_network(alloc, problem, bytes, at) {
-            Err(fault) => return Err(fault),
-            Ok(found) => found,
-        };
+        let (network, behind) = read_network(alloc, problem, bytes, at)?;
         networks.push(network)?;
         at = behind;
         left -= 1;

@@ -34,10 +34,8 @@ fn read_grown(
     ensures known { IfOk result (λ g. KnowsTree problem.now g.0 × KnowsTail problem.now (tail_of g.1)) }
     ensures fault { IfErr result (λ fault. (lines : List Line) → lines_at bytes.now cut ≡ unknown_line ∷ lines → Tells (grown_taken problem.now (suc cut.line) lines) fault) }
 {
-    match read_rest(alloc, problem, bytes, cut) {
-        Err(fault) => Err(fault),
-        Ok((_, tree, tail)) => Ok((tree, tail)),
-    }
+    let (_, tree, tail) = read_rest(alloc, problem, bytes, cut)?;
+    Ok((tree, tail))
 }
 
 // The fault of a line that names a network where its line is the lesser one, else the other.
@@ -107,18 +105,10 @@ fn read_counted(
     ensures known { IfOk result (KnowsText problem.now) }
     ensures fault { IfErr result (Tells (rest_taken problem.now cut.line (lines_at bytes.now cut))) }
 {
-    let (count, first) = match count_at(bytes, cut) {
-        Err(fault) => return Err(fault),
-        Ok(found) => found,
-    };
-    let (number, second) = match networks_at(count, bytes, first) {
-        Err(fault) => return Err(fault),
-        Ok(found) => found,
-    };
-    match read_networks(alloc, problem, number, bytes, second) {
-        Err(fault) => Err(fault),
-        Ok((networks, third)) => read_behind(alloc, problem, count, networks, bytes, third),
-    }
+    let (count, first) = count_at(bytes, cut)?;
+    let (number, second) = networks_at(count, bytes, first)?;
+    let (networks, third) = read_networks(alloc, problem, number, bytes, second)?;
+    read_behind(alloc, problem, count, networks, bytes, third)
 }
 
 /// The ranked tree that a text stands for. `At` comes exactly where the text is not in the grammar, with the least line that has a
