@@ -126,10 +126,7 @@ fn walk_rest(alloc: Global, bytes: &[u8]) -> Result<Lines, PlanFault>
     let mut rest = bytes;
     while !rest.is_empty() {
         let (text, behind) = cut_line(rest);
-        match walk.step(alloc, text) {
-            Ok(()) => {}
-            Err(fault) => return Err(fault),
-        }
+        walk.step(alloc, text)?;
         rest = behind;
     }
     Ok(Lines {

@@ -1,5 +1,6 @@
 use Rattle.std.proofs.Common.{length, Result, List, sym, subst, ap, ◌∙◌, arith}
 use Rattle.std.proofs.lemmas.Bool.{eqb-true}
+use Rattle.std.proofs.lemmas.Result.{err_from_is_err_and}
 use Rattle.script_rules.specs.Line.{script_lines}
 use Rattle.plan_rules.specs.Read.{Fault, Line}
 use Rattle.text_lines.specs.Tells.{Tells}
@@ -7,10 +8,12 @@ use Rattle.plan_text.specs.Walk.{read_on}
 use Rattle.plan_text.proofs.Reading.{read_to_end, no_lines}
 use Rattle.plan_text.proofs.read.walk_rest.Goals as goal
 
-pub returns-in-Err-clause-fault : goal.returns-in-Err-clause-fault
-returns-in-Err-clause-fault c =
-    subst (λ (reading : Result (List Line) Fault). Tells reading c.in-Err.fault)
-    (ap (read_on c.loop-rest.walk) (sym c.cut_line.ensures.cut) ∙ c.loop-rest.invariant.to_come) (c.in-Err.ensures.fault (script_lines c.cut_line.result.1.now))
+pub returns-in_err-step-clause-fault : goal.returns-in_err-step-clause-fault
+returns-in_err-step-clause-fault c =
+    let e = err_from_is_err_and c.from_residual.result c.from_residual.ensures.1 in
+    rw (e.1, e.2)
+    (subst (λ (reading : Result (List Line) Fault). Tells reading c.in_err-step.field-0.0)
+    (ap (read_on c.loop-rest.walk) (sym c.cut_line.ensures.cut) ∙ c.loop-rest.invariant.to_come) (c.in_err-step.ensures.fault (script_lines c.cut_line.result.1.now)))
 
 pub returns-clause-ok : goal.returns-clause-ok
 returns-clause-ok c =
