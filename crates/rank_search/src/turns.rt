@@ -1,5 +1,5 @@
 //! The turns of a search for the best networks, and the loop over them.
-ghost use Rattle.std.specs.Prelude.{◌≡◌, ◌↔◌, ◌<◌, ◌+◌, IsTrue, IfOk, OnOk, Some, None, option_copied, length};
+ghost use Rattle.std.specs.Prelude.{◌≡◌, ◌↔◌, ◌<◌, ◌+◌, ◌^◌, IsTrue, IfOk, OnOk, Some, None, option_copied, length};
 ghost use Rattle.link_lists.specs.Lists.{first};
 ghost use Rattle.pns_rules.specs.Shape.{shape_of};
 ghost use Rattle.pgraph.specs.Tables.{shape};
@@ -273,6 +273,13 @@ fn next_leaf<E: Evaluator>(
     }
 }
 
+/// The budget is a number of 32 bits. A call tells a proof so, and does nothing.
+fn has_budget(growing: &Growing)
+    ensures { growing.now.budget < 2 ^ 32 }
+{
+    let _budget = growing.budget;
+}
+
 /// Branches the leaf that comes next and adds what is found at its children.
 fn branch_next<E: Evaluator>(
     alloc: Global,
@@ -297,6 +304,7 @@ fn branch_next<E: Evaluator>(
     problem.is_valid();
     growing.pool.is_pool();
     found.is_listed();
+    has_budget(growing);
     let choice = choice_at(growing, leaf);
     let node = node_at(&growing.pool, leaf);
     let first = growing.nodes;

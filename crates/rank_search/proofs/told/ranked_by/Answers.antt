@@ -42,11 +42,11 @@ returns-in_ok-told-in-Spent g c =
     (spent_ranked g.E.Evaluator.past p c.count-count.result found.count s.budget c.count-count.ensures told.networks.items told.tree (map mark_of told.marks.items) told.place c.in-Spent.options
     c.in_ok-told-in-Spent.ensures.tells (c.in_ok-told-in-Spent.ensures.spent c.in-Spent.options spent))
 
-pub tell_stopped-in-Past-requires-clause-shut : goal.tell_stopped-in-Past-requires-clause-shut
-tell_stopped-in-Past-requires-clause-shut g c = λ j lt is_open. tt
+pub tell_stopped-requires-in-Past-clause-shut : goal.tell_stopped-requires-in-Past-clause-shut
+tell_stopped-requires-in-Past-clause-shut g c = λ j lt is_open. tt
 
-pub tell_stopped-in-Past-requires-clause-stays : goal.tell_stopped-in-Past-requires-clause-stays
-tell_stopped-in-Past-requires-clause-stays g c = refl
+pub tell_stopped-requires-in-Past-clause-stays : goal.tell_stopped-requires-in-Past-clause-stays
+tell_stopped-requires-in-Past-clause-stays g c = refl
 
 pub returns-in_ok-told-in-Past : goal.returns-in_ok-told-in-Past
 returns-in_ok-told-in-Past g c =

@@ -1,4 +1,4 @@
-use Rattle.std.proofs.Common.{◌+◌, ◌<◌, length, true≢false, refl, sym, ap, ◌∙◌, arith}
+use Rattle.std.proofs.Common.{length, true≢false, refl, sym, ap, ◌∙◌, arith}
 use Rattle.branch_choice.specs.declared.choice.Choice.{Choice}
 use Rattle.branch_choice.specs.Choices.{option_count}
 use Rattle.abb_search.specs.Growing.{choice_of, ready_at}

@@ -1,4 +1,4 @@
-use Rattle.std.proofs.Common.{◌+◌, ◌≤◌, length, refl, sym, subst}
+use Rattle.std.proofs.Common.{◌+◌, ◌≤◌, length, refl, sym, subst, arith}
 use Rattle.pns_rules.specs.Shape.{shape_of}
 use Rattle.pns_rules.specs.Ends.{IsSound, IsReduced}
 use Rattle.pgraph.specs.View.{node_of}
@@ -6,6 +6,7 @@ use Rattle.unit_sets.specs.declared.node.Node.{Node}
 use Rattle.branch_choice.specs.declared.choice.Choice.{Choice}
 use Rattle.branch_choice.specs.Choices.{IsChoice, way_of, option_count}
 use Rattle.search_tree.specs.Cells.{cell_at}
+use Rattle.node_evaluation.proofs.ChoiceLemmas.{option_count_is}
 use Rattle.abb_search.specs.Growing.{IsBranching}
 use Rattle.abb_search.proofs.TurnLemmas.{there, hand, chosen, sound_there}
 use Rattle.rank_search.specs.Listed.{AreAdded}
@@ -50,6 +51,20 @@ branch_leaf-requires-clause-choice g c =
     let gr = growing_of g.E.Evaluator.past p s.budget s c.args.found.now c.requires.ranking c.requires.goes_on in
     subst (λ (k : Node). IsChoice (shape_of p) (node_of k) c.choice_at-choice.result) (sym c.node_at-node.ensures)
     (chosen p c.is_valid.ensures.valid s gr c.args.leaf c.requires.next.is_open c.is_pool.ensures.payloads c.is_pool.ensures.leaves c.choice_at-choice.result c.choice_at-choice.ensures)
+
+pub branch_leaf-requires-clause-few : goal.branch_leaf-requires-clause-few
+branch_leaf-requires-clause-few g c =
+    let p = c.args.problem.now in
+    let s = c.args.growing.now in
+    let gr = growing_of g.E.Evaluator.past p s.budget s c.args.found.now c.requires.ranking c.requires.goes_on in
+    let m = c.choice_at-choice.result in
+    let choice : IsChoice (shape_of p) (node_of c.node_at-node.result) m
+    = subst (λ (k : Node). IsChoice (shape_of p) (node_of k) m) (sym c.node_at-node.ensures)
+    (chosen p c.is_valid.ensures.valid s gr c.args.leaf c.requires.next.is_open c.is_pool.ensures.payloads c.is_pool.ensures.leaves m c.choice_at-choice.ensures) in
+    let few = subst (λ (x : Choice). length s.pool.payloads + option_count x ≤ s.budget) (sym c.choice_at-choice.ensures) c.requires.fits in
+    let options = option_count_is (shape_of p) (node_of c.node_at-node.result) m choice in
+    let most = c.has_budget.ensures in
+    omega (arith, few, options, most)
 
 pub add_all-requires : goal.add_all-requires
 add_all-requires g c =

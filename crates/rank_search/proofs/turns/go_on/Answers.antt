@@ -3,7 +3,7 @@ use Rattle.abb_search.specs.declared.growing.StoppedLeaf.{StoppedLeaf}
 use Rattle.node_evaluation.specs.declared.evaluator.Interval.{Interval}
 use Rattle.abb_search.specs.Growing.{IsStoppedAt, interval_stop}
 use Rattle.abb_search.proofs.TurnLemmas.{there, hand, stops_there}
-use Rattle.rank_search.specs.Turns.{IsRanking, IsNextLeaf, FitsBudget, IsStopLeaf, IsNext}
+use Rattle.rank_search.specs.Turns.{IsRanking, IsStopLeaf, IsNext}
 use Rattle.rank_search.specs.declared.turns.Next.TheVariants as nexts
 use Rattle.rank_search.proofs.TurnLemmas.{growing_of, tree_of, ends, ranking_settled, more_settled, ends_there}
 use Rattle.rank_search.proofs.turns.go_on.Goals as goal
@@ -44,9 +44,9 @@ branch_next-requires-clause-fits g c =
     let next : IsNext g.E.Evaluator.past c.args.problem.now t c.args.found.now (nexts.Branch c.in-Branch.leaf) = rw c.in-Branch.is at c.in_ok-ending.ensures.next in
     next.1
 
-pub returns-in-Branch-clause-holds : goal.returns-in-Branch-clause-holds
-returns-in-Branch-clause-holds g c =
-    more_settled g.E.Evaluator.past c.args.problem.now c.args.growing.now c.next_leaf.new.growing c.branch_next.new.growing c.branch_next.new.found c.in_ok-ending.ensures.same c.in_ok-branch_next.ensures.more
+pub returns-in_ok-branch_next-in-Branch-clause-holds : goal.returns-in_ok-branch_next-in-Branch-clause-holds
+returns-in_ok-branch_next-in-Branch-clause-holds g c =
+    more_settled g.E.Evaluator.past c.args.problem.now c.args.growing.now c.next_leaf.new.growing c.branch_next.new.growing c.branch_next.new.found c.in_ok-ending.ensures.same c.in_ok-branch_next-in-Branch.ensures.more
 
 pub take_stop-requires : goal.take_stop-requires
 take_stop-requires g c =

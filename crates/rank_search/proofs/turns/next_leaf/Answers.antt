@@ -1,4 +1,4 @@
-use Rattle.std.proofs.Common.{None, Option, Some, subst}
+use Rattle.std.proofs.Common.{Option, subst}
 use Rattle.abb_search.proofs.SameLemmas.{same_refl, same_trans}
 use Rattle.rank_search.specs.Found.{undercut_by}
 use Rattle.rank_search.specs.declared.turns.Next.{Next}

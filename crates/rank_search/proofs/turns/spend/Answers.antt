@@ -1,5 +1,4 @@
 use Rattle.std.proofs.Common.{◌+◌, ◌<◌, length, Option, refl, sym, subst}
-use Rattle.branch_choice.specs.Choices.{option_count}
 use Rattle.abb_search.specs.Growing.{choice_of, ready_at}
 use Rattle.abb_search.proofs.TurnLemmas.{chosen}
 use Rattle.rank_search.specs.Found.{undercut_by}
