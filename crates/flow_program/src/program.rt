@@ -44,7 +44,17 @@ impl Model for Program {
 
     ghost view = { λ q. record { units = q.units; rows = q.rows; fixed = q.fixed; costs = q.costs.items; lows = q.lows.items; highs = q.highs.items; floors = q.floors.items; ceilings = q.ceilings.items; rates = q.rates.items } };
 
-    ghost invariant = { λ q. rules.IsProgram (record { units = q.units; rows = q.rows; fixed = q.fixed; costs = q.costs.items; lows = q.lows.items; highs = q.highs.items; floors = q.floors.items; ceilings = q.ceilings.items; rates = q.rates.items }) };
+    ghost invariant = { λ q. rules.IsProgram (record {
+      units = q.units;
+      rows = q.rows;
+      fixed = q.fixed;
+      costs = q.costs.items;
+      lows = q.lows.items;
+      highs = q.highs.items;
+      floors = q.floors.items;
+      ceilings = q.ceilings.items;
+      rates = q.rates.items;
+    }) };
 }
 
 /// What the units of a program have, each in rising order.

@@ -39,5 +39,6 @@ pub mixed_cmp_total : IsTotalOrder mixed_cmp
 mixed_cmp_total = record {
   antisymm = λ x y. int_cmp_total.antisymm (numerator x *ℤ denominator y) (numerator y *ℤ denominator x);
   trans = λ x y z h k. chain (numerator x) (denominator x) (numerator y) (denominator y) (numerator z) (denominator z) (denominator_positive x) (denominator_positive y) (denominator_positive z) h k;
-  congr = λ x y z h. alike (numerator x) (denominator x) (numerator y) (denominator y) (numerator z) (denominator z) (denominator_positive x) (denominator_positive y) (int_ranked (numerator x *ℤ denominator y) (numerator y *ℤ denominator x) Equal (sym h));
+  congr = λ x y z h. alike (numerator x) (denominator x) (numerator y) (denominator y) (numerator z) (denominator z) (denominator_positive x) (denominator_positive y)
+      (int_ranked (numerator x *ℤ denominator y) (numerator y *ℤ denominator x) Equal (sym h));
 }

@@ -2,6 +2,7 @@
 -- the list x.
 use Rattle.std.specs.Prelude.{◌≡◌, ℕ, zero, suc, ◌+◌, ◌-◌, ◌*◌, ◌<◌, ◌≤◌, Bool, true, cond, not, ◌&&◌, nat_lt, List, [], ◌∷◌, ◌++◌, length, map, take}
 use Rattle.number_sets.specs.Sets.{has, IsSet}
+use Rattle.pns_rules.specs.Shape.{Shape}
 use Rattle.link_lists.specs.Lists.{Vacancy, Rows, row, filled, unlinked, IsListed, IsOnce, AreApart}
 use Rattle.link_lists.specs.Lists as cells
 use Rattle.neutral_extension.specs.Candidates.{makers_at}
@@ -80,3 +81,7 @@ pub record IsOut (makes : ℕ → ℕ → Bool) (u n : ℕ) (before r : Rows) : 
   pub is : r ≡ out_cells before (unit_cells makes u n)
   pub apart : AreApart before.lists
   pub listed : (x : ℕ) → x < n → makes u x ≡ true → IsListed (out_cells before (unit_cells makes u x)).lists (cell_at x u)
+
+-- the same over the materials of a plant
+abbrev pub IsUnitOut : Shape → ℕ → Rows → Rows → Type 0
+IsUnitOut g u before r = IsOut g.makes u g.materials before r

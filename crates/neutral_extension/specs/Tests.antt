@@ -1,9 +1,9 @@
 -- Units of a node by what the steps ask of them.
-use Rattle.std.specs.Prelude.{◌≡◌, ℕ, Bool, true, false, ◌&&◌, nat_lt, List}
+use Rattle.std.specs.Prelude.{◌≡◌, ℕ, Bool, true, false, ◌&&◌, ◌<◌, nat_lt, List}
 use Rattle.number_sets.specs.Sets.{has}
 use Rattle.pns_rules.specs.Shape.{Shape}
 use Rattle.pns_rules.specs.Structure.{HasPath}
-use Rattle.pns_rules.specs.Nodes.{Node, is_free}
+use Rattle.pns_rules.specs.Nodes.{Node, is_free, sole, IsPossible}
 use Rattle.pns_rules.specs.Ends.{remaining, IsPathless}
 
 -- a unit of the graph that is neither taken in nor left out
@@ -18,3 +18,10 @@ MakesRaw g u = (x : ℕ) × (g.makes u x ≡ true) × (g.raw x ≡ true)
 pub record IsLooseSet (g : Shape) (d : Node) (w : List ℕ) : Type 0 where
   pub pathless : (u : ℕ) → has w u ≡ true → IsPathless g d u
   pub others : (u : ℕ) → remaining g d u ≡ true → has w u ≡ false → HasPath g (remaining g d) u
+
+-- x is the least material with a sole step, and u is its unit
+abbrev pub IsLeastSole : Shape → Node → ℕ → ℕ → Type 0
+IsLeastSole g d x u = IsPossible g d (sole x u) × ((y v : ℕ) → y < x → IsPossible g d (sole y v) → ⊥)
+
+abbrev pub HasNoSole : Shape → Node → Type 0
+HasNoSole g d = (x u : ℕ) → IsPossible g d (sole x u) → ⊥

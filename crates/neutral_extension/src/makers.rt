@@ -5,7 +5,7 @@ ghost use Rattle.number_sets.specs.Sets.{has, first, IsSet};
 ghost use Rattle.link_lists.specs.Lists.{Rows, row, IsListed};
 ghost use Rattle.pgraph.specs.Tables.{shape};
 ghost use Rattle.neutral_extension.specs.Candidates.{left, AreMakersOf};
-ghost use Rattle.neutral_extension.specs.Cells.{cell_at, unit_cells, out_cells, full_rows, AreInBands, AreFrom, IsFilled, IsOut};
+ghost use Rattle.neutral_extension.specs.Cells.{cell_at, unit_cells, out_cells, full_rows, AreInBands, AreFrom, IsFilled, IsUnitOut};
 ghost use Rattle.neutral_extension.specs.OpenLeaf.{is_empty, is_single};
 
 use link_lists::Lists;
@@ -63,8 +63,8 @@ fn unlink_cells(lists: &mut Lists, graph: &Graph, u: u32)
 /// Relinks the cells of the unit at these outputs, that of the greatest material first. They were the last to be unlinked.
 fn relink_from(lists: &mut Lists, graph: &Graph, u: u32, outputs: MatSet)
     requires unit { u < 128 }
-    requires out { (b : Rows) × (n : ℕ) × (n ≤ (shape graph.now).materials) × IsOut (shape graph.now).makes u (shape graph.now).materials b lists.old × AreFrom (shape graph.now).makes u n outputs }
-    ensures { (b : Rows) (n : ℕ) → n ≤ (shape graph.now).materials → IsOut (shape graph.now).makes u (shape graph.now).materials b lists.old → AreFrom (shape graph.now).makes u n outputs → lists.new ≡ out_cells b (unit_cells (shape graph.now).makes u n) }
+    requires out { (b : Rows) × (n : ℕ) × (n ≤ (shape graph.now).materials) × IsUnitOut (shape graph.now) u b lists.old × AreFrom (shape graph.now).makes u n outputs }
+    ensures { (b : Rows) (n : ℕ) → n ≤ (shape graph.now).materials → IsUnitOut (shape graph.now) u b lists.old → AreFrom (shape graph.now).makes u n outputs → lists.new ≡ out_cells b (unit_cells (shape graph.now).makes u n) }
 {
     graph.is_proper();
     outputs.rises();
@@ -78,8 +78,8 @@ fn relink_from(lists: &mut Lists, graph: &Graph, u: u32, outputs: MatSet)
 /// Relinks the cells of the unit, which was the last to be unlinked.
 fn relink_cells(lists: &mut Lists, graph: &Graph, u: u32)
     requires unit { u < 128 }
-    requires out { (b : Rows) × IsOut (shape graph.now).makes u (shape graph.now).materials b lists.old }
-    ensures { (b : Rows) → IsOut (shape graph.now).makes u (shape graph.now).materials b lists.old → lists.new ≡ b }
+    requires out { (b : Rows) × IsUnitOut (shape graph.now) u b lists.old }
+    ensures { (b : Rows) → IsUnitOut (shape graph.now) u b lists.old → lists.new ≡ b }
 {
     graph.is_proper();
     relink_from(lists, graph, u, outputs_of(graph, u));

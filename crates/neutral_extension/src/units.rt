@@ -7,7 +7,7 @@ ghost use Rattle.pns_rules.specs.Ends.{IsSound, IsFirst, IsNever};
 ghost use Rattle.pgraph.specs.Tables.{shape};
 ghost use Rattle.pgraph.specs.View.{node_of};
 ghost use Rattle.neutral_extension.specs.OpenLeaf.{Stands, Follows, AllLead};
-ghost use Rattle.neutral_extension.specs.Tests.{MakesRaw, IsLooseSet};
+ghost use Rattle.neutral_extension.specs.Tests.{MakesRaw, IsLooseSet, IsLeastSole, HasNoSole};
 
 use crate::makers::Makers;
 use crate::open_leaf::OpenLeaf;
@@ -80,7 +80,7 @@ pub fn sole_step(graph: &Graph, makers: &Makers, leaf: &OpenLeaf) -> Option<(u32
     requires sound { IsSound (shape graph.now) (node_of leaf.now.node) }
     requires stands { Stands (shape graph.now) leaf.now }
     requires follows { Follows (shape graph.now) makers.now leaf.now }
-    ensures { MatchOption result ((x u : ℕ) → IsPossible (shape graph.now) (node_of leaf.now.node) (sole x u) → ⊥) (λ p. IsPossible (shape graph.now) (node_of leaf.now.node) (sole p.0 p.1) × ((y v : ℕ) → y < p.0 → IsPossible (shape graph.now) (node_of leaf.now.node) (sole y v) → ⊥)) }
+    ensures { MatchOption result (HasNoSole (shape graph.now) (node_of leaf.now.node)) (λ p. IsLeastSole (shape graph.now) (node_of leaf.now.node) p.0 p.1) }
 {
     graph.is_proper();
     let single = leaf.intake.needed.meet(leaf.scarce.single);

@@ -15,9 +15,16 @@ pub record IsSettled (low high d number price : ℤ) : Type 0 where
   pub at_low : pos 0 <ℤ price → number ≡ low *ℤ d
   pub at_high : price <ℤ pos 0 → number ≡ high *ℤ d
 
+-- the scaled size of a unit, at its price, and what scaled sizes leave over of a row's material, at its multiplier
+abbrev pub IsSizeSettled : Net → Divisors → Node → (ℕ → ℤ) → ℤ → ℤ → (ℕ → ℤ) → ℕ → Type 0
+IsSizeSettled net s n z d scale y i = IsSettled (size_floor net s n i) (size_ceiling net s i) d (z i) (price net s n scale y i)
+
+abbrev pub IsRowSettled : Net → Divisors → Node → (ℕ → ℤ) → ℤ → (ℕ → ℤ) → ℕ → Type 0
+IsRowSettled net s n z d y j = IsSettled (row_floor net s n j) (row_ceiling net s n j) d (scaled_balance net s n z j) (y j)
+
 -- scaled sizes z over d, and multipliers y over their scale
 pub record AreSettled (net : Net) (s : Divisors) (n : Node) (z : ℕ → ℤ) (d scale : ℤ) (y : ℕ → ℤ) : Type 0 where
   pub positive : pos 1 ≤ℤ d
   pub scale_positive : pos 1 ≤ℤ scale
-  pub sizes : (i : ℕ) → i < net.graph.units → stays n i ≡ true → IsSettled (size_floor net s n i) (size_ceiling net s i) d (z i) (price net s n scale y i)
-  pub rows : (j : ℕ) → j < net.graph.materials → mats net.graph (stays n) j ≡ true → IsSettled (row_floor net s n j) (row_ceiling net s n j) d (scaled_balance net s n z j) (y j)
+  pub sizes : (i : ℕ) → i < net.graph.units → stays n i ≡ true → IsSizeSettled net s n z d scale y i
+  pub rows : (j : ℕ) → j < net.graph.materials → mats net.graph (stays n) j ≡ true → IsRowSettled net s n z d y j

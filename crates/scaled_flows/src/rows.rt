@@ -10,8 +10,7 @@ ghost use Rattle.flow_rules.specs.Net.{net_of};
 ghost use Rattle.flow_program.specs.Entry.{entry};
 ghost use Rattle.flow_program.specs.NodeSets.{AreSetsOf};
 ghost use Rattle.scaled_flows.specs.Divisors.{Divides, AreDivisors};
-ghost use Rattle.scaled_flows.specs.Scaled.{row_floor, row_ceiling, scaled_balance};
-ghost use Rattle.scaled_flows.specs.Settled.{IsSettled};
+ghost use Rattle.scaled_flows.specs.Settled.{IsRowSettled};
 
 use crate::Scales;
 use crate::settled::{is_settled, scaled, scaled_rate};
@@ -85,7 +84,7 @@ pub(crate) fn are_rows_settled(
     requires all_sizes { length size_at.now ≡ 128 }
     requires all_ys { length y_at.now ≡ 256 }
     requires positive { pos 1 ≤ℤ d }
-    ensures { IsTrue result → (j : ℕ) → has sets.now.rows j ≡ true → IsSettled (row_floor (net_of problem.now) scales.now (node_of node.now) j) (row_ceiling (net_of problem.now) scales.now (node_of node.now) j) d (scaled_balance (net_of problem.now) scales.now (node_of node.now) (entry size_at.now) j) (entry y_at.now j) }
+    ensures { IsTrue result → (j : ℕ) → has sets.now.rows j ≡ true → IsRowSettled (net_of problem.now) scales.now (node_of node.now) (entry size_at.now) d (entry y_at.now) j }
 {
     problem.is_valid();
     for j in sets.rows {

@@ -10,8 +10,8 @@ ghost use Rattle.flow_rules.specs.Net.{net_of};
 ghost use Rattle.flow_rules.specs.Relaxed.{units};
 ghost use Rattle.flow_program.specs.Entry.{entry};
 ghost use Rattle.scaled_flows.specs.Divisors.{Divides, AreDivisors, HasDivisors, rate_divisor};
-ghost use Rattle.scaled_flows.specs.Scaled.{size_floor, size_ceiling, price, size_costs};
-ghost use Rattle.scaled_flows.specs.Settled.{IsSettled};
+ghost use Rattle.scaled_flows.specs.Scaled.{size_costs};
+ghost use Rattle.scaled_flows.specs.Settled.{IsSettled, IsSizeSettled};
 
 use crate::Scales;
 use crate::settled::{is_settled, scaled, scaled_rate};
@@ -112,7 +112,7 @@ pub(crate) fn settled_costs(
     requires all_sizes { length size_at.now ≡ 128 }
     requires all_ys { length y_at.now ≡ 256 }
     requires positive { pos 1 ≤ℤ d }
-    ensures settled { IfSome result (λ c. (i : ℕ) → has set i ≡ true → IsSettled (size_floor (net_of problem.now) scales.now (node_of node.now) i) (size_ceiling (net_of problem.now) scales.now i) d (entry size_at.now i) (price (net_of problem.now) scales.now (node_of node.now) scale (entry y_at.now) i)) }
+    ensures settled { IfSome result (λ c. (i : ℕ) → has set i ≡ true → IsSizeSettled (net_of problem.now) scales.now (node_of node.now) (entry size_at.now) d scale (entry y_at.now) i) }
     ensures cost { IfSome result (λ c. c ≡ size_costs (net_of problem.now) scales.now (node_of node.now) (entry size_at.now)) }
     ensures in_range { IfSome result (λ c. InRange c) }
 {

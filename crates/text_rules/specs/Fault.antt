@@ -113,8 +113,8 @@ stands before line BadPayout = is_in Defaults line && bytes_eq (key_of line.text
 stands before line kind = stands_twice before line kind
 
 abbrev pub form_kinds : List TextKind
-form_kinds = UnknownSection ∷ DoubleSection ∷ BadLine ∷ BadName ∷ UnknownKey ∷ DoubleKey ∷ BadNumber ∷ TooFine ∷ TooLarge ∷ Negative ∷ UnknownKind ∷ ZeroRate ∷ DoubleTerm ∷ BothSides ∷ EmptySide ∷ DoubleMaterial ∷ DoubleUnit ∷ DoubleRates ∷ TooMany
-    ∷ DoubleExclusion ∷ DoubleMember ∷ FewMembers ∷ BadPayout ∷ []
+form_kinds = UnknownSection ∷ DoubleSection ∷ BadLine ∷ BadName ∷ UnknownKey ∷ DoubleKey ∷ BadNumber ∷ TooFine ∷ TooLarge ∷ Negative ∷ UnknownKind ∷ ZeroRate ∷ DoubleTerm ∷ BothSides ∷ EmptySide ∷ DoubleMaterial ∷ DoubleUnit
+    ∷ DoubleRates ∷ TooMany ∷ DoubleExclusion ∷ DoubleMember ∷ FewMembers ∷ BadPayout ∷ []
 
 -- a line's number and a kind
 abbrev pub Fault : Type 0
