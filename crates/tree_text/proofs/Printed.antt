@@ -1,9 +1,11 @@
 -- Lines that are printed one after another.
-use Rattle.std.proofs.Common.{◌≡◌, ◌≤◌, ◌<◌, ◌+◌, ◌++◌, ℕ, length, drop, map, get_or, List, [], ◌∷◌, Result, Ok, Err, refl, sym, ap, subst, ◌∙◌, arith, inl, inr, append_assoc, append-nil}
+use Rattle.std.proofs.Common.{◌≡◌, ◌≤◌, ◌<◌, ◌+◌, ◌++◌, ℕ, length, drop, map, get_or, List, [], ◌∷◌, Option, Result, Ok, Err, refl, sym, ap, subst, ◌∙◌, arith, inl, inr, append_assoc}
 use Rattle.std.proofs.lemmas.List.{drop_more}
+use Rattle.std.proofs.lemmas.Result.{err_from_is_err_and}
+use Rattle.std.specs.Result.{IsErrAnd}
 use Rattle.std.specs.Io.KnownBytes.{Appends}
 use Rattle.std.proofs.KnownBytes.{Appends-nil, Appends-trans}
-use Rattle.text_rules.specs.Outside.{HasRisen, AppendsFront}
+use Rattle.text_rules.specs.Outside.{HasRisen}
 use Rattle.io_rules.specs.State.{SinkState}
 use Rattle.tree_text_rules.specs.Line.{Token}
 use Rattle.problem_rules.specs.Problem.{Problem}
@@ -14,17 +16,53 @@ use Rattle.tree_rules.specs.Leaf.{Leaf}
 use Rattle.tree_text_rules.specs.Spelling.{text_of, line_text, step_line, node_lines, tree_lines}
 use Rattle.tree_text.specs.declared.fault.PrintFault.{PrintFault}
 use Rattle.tree_text.specs.declared.fault.PrintFault.TheVariants.{WriteFault, Memory}
-use Rattle.tree_text.specs.Prints.{FirstLines, Prints}
+use Rattle.tree_text.specs.Prints.{Prints, Puts}
 
 -- the bytes of lines and lines
-pub text_of-append : (xs ys : List (List Token)) → text_of (xs ++ ys) ≡ text_of xs ++ text_of ys
+text_of-append : (xs ys : List (List Token)) → text_of (xs ++ ys) ≡ text_of xs ++ text_of ys
 text_of-append [] ys = refl
 text_of-append (x ∷ xs) ys = ap (λ (t : List ℕ). line_text x ++ t) (text_of-append xs ys) ∙ sym (append_assoc (line_text x) (text_of xs) (text_of ys))
 
--- a count that rose in a later part of a call, or in an earlier one
-pub risen_later : (a b c : ℕ) → a ≤ b → HasRisen b c → HasRisen a c
+both_out : (some behind : List (List Token)) (old mid new : Option (List ℕ)) → Appends old mid (text_of some) → Appends mid new (text_of behind) → Appends old new (text_of (some ++ behind))
+both_out some behind old mid new first second = subst (Appends old new) (sym (text_of-append some behind)) (Appends-trans old mid new (text_of some) (text_of behind) first second)
+
+-- a count that rose in a later part of a call
+risen_later : (a b c : ℕ) → a ≤ b → HasRisen b c → HasRisen a c
 risen_later a b c le (inl lt) = inl (omega arith)
 risen_later a b c le (inr e) = inr e
+
+-- the same lines in other words
+pub printed_as : (xs ys : List (List Token)) (old new : SinkState) (r : Result (Unit {0}) PrintFault) → xs ≡ ys → Prints xs old new r → Prints ys old new r
+printed_as xs ys old new r e out = subst (λ (ls : List (List Token)). Prints ls old new r) e out
+
+-- a part of what is printed failed
+pub part_failed : (some behind : List (List Token)) (old new : SinkState) (fault : PrintFault) → Prints some old new (Err fault) → Prints (some ++ behind) old new (Err fault)
+part_failed some behind old new WriteFault out =
+    let w = out.outcome.1 in
+    record { outcome = (out.outcome.0, (w.0, w.1 ++ text_of behind, text_of-append some behind ∙ ap (λ (t : List ℕ). t ++ text_of behind) w.2 ∙ append_assoc w.0 w.1 (text_of behind), w.3)) }
+part_failed some behind old new Memory out =
+    let w = out.outcome in
+    record { outcome = (w.0, w.1 ++ behind, ap (λ (ls : List (List Token)). ls ++ behind) w.2 ∙ append_assoc w.0 w.1 behind, w.3) }
+
+-- one part and then another
+pub two_printed : (some behind : List (List Token)) (old mid new : SinkState) (r : Result (Unit {0}) PrintFault) → old.faults ≤ mid.faults → Prints some old mid (Ok tt) → Prints behind mid new r → Prints (some ++ behind) old new r
+two_printed some behind old mid new (Ok done) le first second = record { outcome = both_out some behind old.written mid.written new.written first.outcome second.outcome }
+two_printed some behind old mid new (Err WriteFault) le first second =
+    let w = second.outcome.1 in
+    record {
+      outcome = (
+        risen_later old.faults mid.faults new.faults le second.outcome.0,
+        (
+          text_of some ++ w.0,
+          w.1,
+          text_of-append some behind ∙ ap (λ (t : List ℕ). text_of some ++ t) w.2 ∙ sym (append_assoc (text_of some) w.0 w.1),
+          Appends-trans old.written mid.written new.written (text_of some) w.0 first.outcome w.3,
+        ),
+      );
+    }
+two_printed some behind old mid new (Err Memory) le first second =
+    let w = second.outcome in
+    record { outcome = (some ++ w.0, w.1, ap (λ (ls : List (List Token)). some ++ ls) w.2 ∙ sym (append_assoc some w.0 w.1), both_out some w.0 old.written mid.written new.written first.outcome w.3) }
 
 -- what is out are all lines but the rest
 pub record ArePrinted (lines rest : List (List Token)) (old new : SinkState) : Type 0 where
@@ -32,60 +70,43 @@ pub record ArePrinted (lines rest : List (List Token)) (old new : SinkState) : T
   pub cut : lines ≡ front ++ rest
   pub out : Appends old.written new.written (text_of front)
 
-pub none_printed : (lines : List (List Token)) (old : SinkState) → ArePrinted lines lines old old
-none_printed lines old = record { front = []; cut = refl; out = Appends-nil old.written }
-
-module _ (lines rest some behind : List (List Token)) (old mid new : SinkState) (printed : ArePrinted lines rest old mid) (cut : rest ≡ some ++ behind) where
-  cut_so : lines ≡ printed.front ++ (some ++ behind)
-  cut_so = printed.cut ∙ ap (λ (t : List (List Token)). printed.front ++ t) cut
-
-  more_printed : Appends mid.written new.written (text_of some) → ArePrinted lines behind old new
-  more_printed out = record {
-    front = printed.front ++ some;
-    cut = cut_so ∙ sym (append_assoc printed.front some behind);
-    out = subst (Appends old.written new.written) (sym (text_of-append printed.front some)) (Appends-trans old.written mid.written new.written (text_of printed.front) (text_of some) printed.out out);
-  }
-
-  -- a front of the text, as far as its end is known
-  front_printed : AppendsFront mid.written new.written (text_of some) → AppendsFront old.written new.written (text_of lines)
-  front_printed (front, left, is, out) = (
-    text_of printed.front ++ front,
-    left ++ text_of behind,
-    ap text_of cut_so
-        ∙ (text_of-append printed.front (some ++ behind)
-        ∙ (ap (λ (t : List ℕ). text_of printed.front ++ t) (text_of-append some behind ∙ (ap (λ (t : List ℕ). t ++ text_of behind) is ∙ append_assoc front left (text_of behind)))
-        ∙ sym (append_assoc (text_of printed.front) front (left ++ text_of behind)))),
-    Appends-trans old.written mid.written new.written (text_of printed.front) front printed.out out,
-  )
-
-  first_printed : FirstLines some mid new → FirstLines lines old new
-  first_printed (front, left, is, out) = (
-    printed.front ++ front,
-    left ++ behind,
-    cut_so ∙ (ap (λ (t : List (List Token)). printed.front ++ (t ++ behind)) is
-        ∙ (ap (λ (t : List (List Token)). printed.front ++ t) (append_assoc front left behind) ∙ sym (append_assoc printed.front front (left ++ behind)))),
-    subst (Appends old.written new.written) (sym (text_of-append printed.front front)) (Appends-trans old.written mid.written new.written (text_of printed.front) (text_of front) printed.out out),
-  )
-
 -- some lines were printed, or printing them failed
 module _ (lines rest some behind : List (List Token)) (old mid new : SinkState) (printed : ArePrinted lines rest old mid) (cut : rest ≡ some ++ behind) where
+  cut_so : lines ≡ printed.front ++ (some ++ behind)
+  cut_so = printed.cut ∙ ap (λ (ls : List (List Token)). printed.front ++ ls) cut
+
   pub then_printed : Prints some mid new (Ok tt) → ArePrinted lines behind old new
-  then_printed out = more_printed lines rest some behind old mid new printed cut out.outcome
+  then_printed out = record {
+    front = printed.front ++ some;
+    cut = cut_so ∙ sym (append_assoc printed.front some behind);
+    out = both_out printed.front some old.written mid.written new.written printed.out out.outcome;
+  }
 
   pub then_failed : (fault : PrintFault) → old.faults ≤ mid.faults → Prints some mid new (Err fault) → Prints lines old new (Err fault)
-  then_failed WriteFault le out = record { outcome = (risen_later old.faults mid.faults new.faults le out.outcome.0, front_printed lines rest some behind old mid new printed cut out.outcome.1) }
-  then_failed Memory le out = record { outcome = first_printed lines rest some behind old mid new printed cut out.outcome }
+  then_failed fault le out =
+      printed_as _ _ old new _ (sym cut_so) (two_printed printed.front (some ++ behind) old mid new (Err fault) le (record { outcome = printed.out }) (part_failed some behind mid new fault out))
 
--- a part of what is printed failed
-pub part_failed : (some behind : List (List Token)) (old new : SinkState) (fault : PrintFault) → Prints some old new (Err fault) → Prints (some ++ behind) old new (Err fault)
-part_failed some behind old new fault out = then_failed (some ++ behind) (some ++ behind) some behind old old new (none_printed (some ++ behind) old) refl fault (omega arith) out
+-- ---- what calls that print one after another leave
 
--- one part and then another
-pub two_printed : (some behind : List (List Token)) (old mid new : SinkState) (r : Result (Unit {0}) PrintFault) → old.faults ≤ mid.faults → Prints some old mid (Ok tt) → Prints behind mid new r → Prints (some ++ behind) old new r
-two_printed some behind old mid new (Ok done) le first second =
-    record { outcome = subst (Appends old.written new.written) (sym (text_of-append some behind)) (Appends-trans old.written mid.written new.written (text_of some) (text_of behind) first.outcome second.outcome) }
-two_printed some behind old mid new (Err fault) le first second =
-    then_failed (some ++ behind) behind behind [] old mid new (record { front = some; cut = refl; out = first.outcome }) (sym (append-nil behind)) fault le second
+pub none_put : (state : SinkState) (done : Unit {0}) → Puts [] state state (Ok done)
+none_put state done = record { prints = record { outcome = Appends-nil state.written }; later = omega arith }
+
+-- the first lines, and then those behind them
+pub both_put : {lines some behind : List (List Token)} {old mid new : SinkState} {done : Unit {0}} {r : Result (Unit {0}) PrintFault}
+    → Puts some old mid (Ok done) → Puts behind mid new r → lines ≡ some ++ behind → Puts lines old new r
+both_put {lines} {some} {behind} {old} {mid} {new} {done} {r} first second is = record {
+  prints = printed_as _ _ old new r (sym is) (two_printed some behind old mid new r first.later first.prints second.prints);
+  later = omega (arith, first.later, second.later);
+}
+
+-- the first lines failed
+pub first_failed : {lines some : List (List Token)} (behind : List (List Token)) {old new : SinkState} {fault : PrintFault} {r : Result (Unit {0}) PrintFault}
+    → Puts some old new (Err fault) → IsErrAnd r (λ told. told ≡ fault) → lines ≡ some ++ behind → Puts lines old new r
+first_failed {lines} {some} behind {old} {new} {fault} {r} first told is =
+    let e = err_from_is_err_and r told in
+    rw (e.1, e.2) (record { prints = printed_as _ _ old new _ (sym is) (part_failed some behind old new fault first.prints); later = first.later })
+
+-- ---- lists
 
 -- an item and the rest of a list
 pub item_ahead : {X : Type 0} (xs : List X) (i : ℕ) (x : X) → i < length xs → x ≡ get_or xs i x → drop i xs ≡ x ∷ drop (i + 1) xs
@@ -97,7 +118,3 @@ step_ahead p xs i x lt is = ap (λ (ss : List Step). map (step_line p) (map step
 
 pub node_ahead : (p : Problem) (xs : List (TreeNode Leaf)) (i : ℕ) (x : TreeNode Leaf) → i < length xs → x ≡ get_or xs i x → tree_lines p (drop i xs) ≡ node_lines p x ++ tree_lines p (drop (i + 1) xs)
 node_ahead p xs i x lt is = ap (tree_lines p) (item_ahead xs i x lt is)
-
--- the same lines in other words
-pub printed_as : (xs ys : List (List Token)) (old new : SinkState) (r : Result (Unit {0}) PrintFault) → xs ≡ ys → Prints xs old new r → Prints ys old new r
-printed_as xs ys old new r e out = subst (λ (ls : List (List Token)). Prints ls old new r) e out

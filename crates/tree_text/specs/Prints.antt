@@ -1,6 +1,6 @@
 -- What is out after lines were printed: all of them; after a fault of the sink, whose count then rose, a front of their text;
 -- after want of memory the first of them, each whole.
-use Rattle.std.specs.Prelude.{◌≡◌, ◌++◌, List, Result, Ok, Err}
+use Rattle.std.specs.Prelude.{◌≡◌, ◌≤◌, ◌++◌, List, Result, Ok, Err}
 use Rattle.std.specs.Io.KnownBytes.{Appends}
 use Rattle.text_rules.specs.Outside.{HasRisen, AppendsFront}
 use Rattle.io_rules.specs.State.{SinkState}
@@ -22,3 +22,8 @@ Outcome lines old new (Err Memory) = FirstLines lines old new
 -- old and new are the state of the sink before and after
 pub record Prints (lines : List (List Token)) (old new : SinkState) (result : Result (Unit {0}) PrintFault) : Type 0 where
   pub outcome : Outcome lines old new result
+
+-- and the count of faults is not below what it was
+pub record Puts (lines : List (List Token)) (old new : SinkState) (result : Result (Unit {0}) PrintFault) : Type 0 where
+  pub prints : Prints lines old new result
+  pub later : old.faults ≤ new.faults

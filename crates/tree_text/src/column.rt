@@ -5,7 +5,7 @@ ghost use Rattle.tree_rules.specs.Known.{KnowsColumn, KnowsRow, KnowsPlace};
 ghost use Rattle.tree_text_rules.specs.Spelling.{column_text, row_text, which_text, flow_text, place_fields};
 ghost use Rattle.tree_text.specs.Printing.{appended};
 
-use crate::field::{material_name, push_count, push_field, push_unit, unit_name};
+use crate::field::{material_name, push_count, push_field, unit_name};
 use flow_rules::{Column, FlowStep, Place};
 use integer_laws::Which;
 use pns_problem::Problem;
@@ -113,7 +113,7 @@ pub(crate) fn push_place(
         }
         Place::Flow { unit, which } => {
             push_field(line, "flow")?;
-            push_unit(line, problem, unit)?;
+            push_field(line, unit_name(problem, unit))?;
             push_field(line, flow_text(which))
         }
         Place::Cost { at } => push_step(line, "cost", at),

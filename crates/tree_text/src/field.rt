@@ -81,41 +81,13 @@ pub(crate) fn material_name(problem: &Problem, material: u32) -> &str
     &material.name
 }
 
-fn exclusion_name(problem: &Problem, exclusion: u32) -> &str
+/// The name of an exclusion.
+pub(crate) fn exclusion_name(problem: &Problem, exclusion: u32) -> &str
     requires { IsExclusion problem.now exclusion }
     ensures { result.now ≡ exclusion_name problem.now exclusion }
 {
     let exclusion = &problem.exclusions()[exclusion as usize];
     &exclusion.name
-}
-
-pub(crate) fn push_unit(line: &mut String, problem: &Problem, unit: u32) -> Result<(), AllocError>
-    requires { IsUnit problem.now unit }
-    ensures { OnOk result (string_bytes line.new ≡ appended (string_bytes line.old) (unit_name problem.now unit ∷ [])) }
-{
-    push_field(line, unit_name(problem, unit))
-}
-
-pub(crate) fn push_material(
-    line: &mut String,
-    problem: &Problem,
-    material: u32,
-) -> Result<(), AllocError>
-    requires { IsMaterial problem.now material }
-    ensures { OnOk result (string_bytes line.new ≡ appended (string_bytes line.old) (material_name problem.now material ∷ [])) }
-{
-    push_field(line, material_name(problem, material))
-}
-
-pub(crate) fn push_exclusion(
-    line: &mut String,
-    problem: &Problem,
-    exclusion: u32,
-) -> Result<(), AllocError>
-    requires { IsExclusion problem.now exclusion }
-    ensures { OnOk result (string_bytes line.new ≡ appended (string_bytes line.old) (exclusion_name problem.now exclusion ∷ [])) }
-{
-    push_field(line, exclusion_name(problem, exclusion))
 }
 
 /// The names of the units of a set, in file order.
@@ -128,7 +100,7 @@ pub(crate) fn push_units(
     ensures { OnOk result (string_bytes line.new ≡ appended (string_bytes line.old) (map (unit_name problem.now) units)) }
 {
     for unit in units {
-        push_unit(line, problem, unit)?;
+        push_field(line, unit_name(problem, unit))?;
     }
     Ok(())
 }

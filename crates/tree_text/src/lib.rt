@@ -3,7 +3,7 @@
 //! lines beside those of a tree make them by the same calls: [`begin`], the fields behind it, and [`put_line`].
 //!
 //! Each call answers in the words of `tree_text_rules`. Modules: `field` appends names and numbers to a line, `column` columns
-//! and places, `line` makes the lines, `put` hands them to the sink, `part` puts the lines of each part, and `print` has the calls.
+//! and places, `put` hands lines to the sink, `line` puts one of a word and fields, `part` those of each part, and `print` has the calls.
 #![tactic(auto)]
 
 mod column;

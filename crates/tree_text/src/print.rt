@@ -8,7 +8,8 @@ ghost use Rattle.tree_text_rules.specs.Spelling.{end_line, head_lines, network_l
 ghost use Rattle.tree_text.specs.Prints.{Prints};
 
 use crate::fault::PrintFault;
-use crate::part::{put_end, put_head, put_network, put_place, put_rest, put_tail, put_tree};
+use crate::line::put;
+use crate::part::{put_end, put_head, put_network, put_place, put_rest, put_tail};
 use branch_tree::{Claim, End, Network, Tail, Tree};
 use flow_rules::{Column, Place};
 use pns_io::Sink;
@@ -33,7 +34,8 @@ pub fn print_tree<K: Sink>(
     ensures later { (K.state out.old).faults ≤ (K.state out.new).faults }
 {
     let mut line = String::new(alloc);
-    put_tree(&mut line, problem, claim, tree, tail, out)
+    put(&mut line, problem, "file_type=PNS_tree_v1", &[], out)?;
+    put_rest(&mut line, problem, claim, tree, tail, out)
 }
 
 /// Prints the whole text without its first line.

@@ -1,9 +1,28 @@
-use Rattle.tree_text_rules.specs.Spelling.{option_line}
-use Rattle.tree_text.proofs.Printed.{two_printed, part_failed}
+use Rattle.std.proofs.Common.{map, subst, List, refl}
+use Rattle.std.proofs.lemmas.List.{drop_all}
+use Rattle.problem_rules.specs.Each.{Each}
+use Rattle.unit_sets.specs.declared.step.Step.{Step}
+use Rattle.pgraph.specs.View.{step_of}
+use Rattle.tree_rules.specs.Known.{KnowsStep}
+use Rattle.tree_text.proofs.Printed.{none_put, both_put, first_failed, item_ahead, step_ahead}
 use Rattle.tree_text.proofs.part.put_head.Goals as goal
 
-pub returns-in-Ok-clause-prints : goal.returns-in-Ok-clause-prints
-returns-in-Ok-clause-prints g c = two_printed _ _ _ _ _ _ c.put_line.ensures.later (c.in-Ok.ensures.prints (option_line c.args.problem.now c.args.option) c.option_line-made.ensures) c.put_steps.ensures.prints
+pub returns-in_err-put : goal.returns-in_err-put
+returns-in_err-put g c = first_failed _ c.in_err-put.ensures c.from_residual.ensures.1 refl
 
-pub returns-in-Err-clause-prints : goal.returns-in-Err-clause-prints
-returns-in-Err-clause-prints g c = part_failed _ _ _ _ c.in-Err.fault (c.in-Err.ensures.prints (option_line c.args.problem.now c.args.option) c.option_line-made.ensures)
+pub printing-init : goal.printing-init
+printing-init g c = record { known = c.requires.steps; put = λ last r rest. both_put c.in_ok-put.ensures rest refl }
+
+pub returns-in_err-put_step : goal.returns-in_err-put_step
+returns-in_err-put_step g c =
+    c.printing.invariant.put _ _
+    (first_failed _ c.in_err-put_step.ensures c.from_residual-in_err-put_step.ensures.1 (step_ahead c.args.problem.now c.args.steps.now c.printing.step-index c.step-item.result c.printing-test.true c.step-item.is))
+
+pub printing-preserved : goal.printing-preserved
+printing-preserved g c = record {
+  known = (subst (λ (ss : List Step). Each (KnowsStep c.args.problem.now) (map step_of ss)) (item_ahead c.args.steps.now c.printing.step-index c.step-item.result c.printing-test.true c.step-item.is) c.printing.invariant.known).1;
+  put = λ last r rest. c.printing.invariant.put last r (both_put c.in_ok-put_step.ensures rest (step_ahead c.args.problem.now c.args.steps.now c.printing.step-index c.step-item.result c.printing-test.true c.step-item.is));
+}
+
+pub returns : goal.returns
+returns g c = c.printing.invariant.put _ _ (rw (drop_all c.printing.step-index c.args.steps.now c.printing-test.false) (none_put _ _))

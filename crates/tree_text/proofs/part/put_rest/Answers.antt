@@ -1,8 +1,12 @@
-use Rattle.tree_text.proofs.Printed.{two_printed, part_failed}
+use Rattle.std.proofs.Common.{refl}
+use Rattle.tree_text.proofs.Printed.{both_put, first_failed}
 use Rattle.tree_text.proofs.part.put_rest.Goals as goal
 
-pub returns-in-Ok-clause-prints : goal.returns-in-Ok-clause-prints
-returns-in-Ok-clause-prints g c = two_printed _ _ _ _ _ _ c.put_claim.ensures.later c.in-Ok.ensures.prints c.put_tree_and_tail.ensures.prints
+pub returns-in_err-put_claim : goal.returns-in_err-put_claim
+returns-in_err-put_claim g c = first_failed _ c.in_err-put_claim.ensures c.from_residual.ensures.1 refl
 
-pub returns-in-Err-clause-prints : goal.returns-in-Err-clause-prints
-returns-in-Err-clause-prints g c = part_failed _ _ _ _ c.in-Err.fault c.in-Err.ensures.prints
+pub returns-in_err-put_nodes : goal.returns-in_err-put_nodes
+returns-in_err-put_nodes g c = rw (← c.nodes.ensures) (both_put c.in_ok-put_claim.ensures (first_failed _ c.in_err-put_nodes.ensures c.from_residual-in_err-put_nodes.ensures.1 refl) refl)
+
+pub returns : goal.returns
+returns g c = rw (← c.nodes.ensures) (both_put c.in_ok-put_claim.ensures (both_put c.in_ok-put_nodes.ensures c.put_tail.ensures refl) refl)

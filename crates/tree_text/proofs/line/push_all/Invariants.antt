@@ -1,0 +1,12 @@
+use Rattle.std.proofs.Common.{◌≡◌, drop, string_bytes}
+use Rattle.problem_rules.specs.Each.{Each}
+use Rattle.tree_text.specs.Printing.{appended}
+use Rattle.tree_text.specs.Fields.{KnowsField, tokens_of}
+use Rattle.tree_text.proofs.line.push_all.Given as goal
+
+-- the fields that are left finish the line
+abbrev pub invariant-printing : goal.invariant-printing
+invariant-printing l = record {
+  known : Each (KnowsField l.problem) (drop l.field-index l.fields);
+  line : appended (string_bytes l.line) (tokens_of l.problem (drop l.field-index l.fields)) ≡ appended (string_bytes l.fn.line) (tokens_of l.problem l.fields);
+}

@@ -1,8 +1,0 @@
-use Rattle.tree_text.proofs.Printed.{two_printed, part_failed}
-use Rattle.tree_text.proofs.part.put_tree.Goals as goal
-
-pub returns-in-Ok-clause-prints : goal.returns-in-Ok-clause-prints
-returns-in-Ok-clause-prints g c = two_printed _ _ _ _ _ _ c.put_word.ensures.later c.in-Ok.ensures.prints c.put_rest.ensures.prints
-
-pub returns-in-Err-clause-prints : goal.returns-in-Err-clause-prints
-returns-in-Err-clause-prints g c = part_failed _ _ _ _ c.in-Err.fault c.in-Err.ensures.prints
