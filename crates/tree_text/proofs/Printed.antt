@@ -1,5 +1,6 @@
 -- Lines that are printed one after another.
-use Rattle.std.proofs.Common.{◌≡◌, ◌≤◌, ◌<◌, ◌+◌, ◌++◌, ℕ, length, drop, map, get_or, List, [], ◌∷◌, Option, Result, Ok, Err, refl, sym, ap, subst, ◌∙◌, arith, inl, inr, append_assoc}
+use Rattle.std.proofs.Common.{◌≡◌, ◌≤◌, ◌<◌, ◌+◌, ◌++◌, ℕ, length, drop, get_or, List, [], ◌∷◌, Option, Result, Ok, Err, sym, ap, subst, ◌∙◌, arith, inl, inr, append_assoc}
+use Rattle.std.proofs.lemmas.Grind.{flat_map-append}
 use Rattle.std.proofs.lemmas.List.{drop_more}
 use Rattle.std.proofs.lemmas.Result.{err_from_is_err_and}
 use Rattle.std.specs.Result.{IsErrAnd}
@@ -8,23 +9,14 @@ use Rattle.std.proofs.KnownBytes.{Appends-nil, Appends-trans}
 use Rattle.text_rules.specs.Outside.{HasRisen}
 use Rattle.io_rules.specs.State.{SinkState}
 use Rattle.tree_text_rules.specs.Line.{Token}
-use Rattle.problem_rules.specs.Problem.{Problem}
-use Rattle.unit_sets.specs.declared.step.Step.{Step}
-use Rattle.pgraph.specs.View.{step_of}
-use Rattle.tree_rules.specs.Tree.{TreeNode}
-use Rattle.tree_rules.specs.Leaf.{Leaf}
-use Rattle.tree_text_rules.specs.Spelling.{text_of, line_text, step_line, node_lines, tree_lines}
+use Rattle.tree_text_rules.specs.Spelling.{text_of, line_text}
 use Rattle.tree_text.specs.declared.fault.PrintFault.{PrintFault}
 use Rattle.tree_text.specs.declared.fault.PrintFault.TheVariants.{WriteFault, Memory}
 use Rattle.tree_text.specs.Prints.{Prints, Puts}
 
--- the bytes of lines and lines
-text_of-append : (xs ys : List (List Token)) → text_of (xs ++ ys) ≡ text_of xs ++ text_of ys
-text_of-append [] ys = refl
-text_of-append (x ∷ xs) ys = ap (λ (t : List ℕ). line_text x ++ t) (text_of-append xs ys) ∙ sym (append_assoc (line_text x) (text_of xs) (text_of ys))
-
+-- lines that are out, and then more of them
 both_out : (some behind : List (List Token)) (old mid new : Option (List ℕ)) → Appends old mid (text_of some) → Appends mid new (text_of behind) → Appends old new (text_of (some ++ behind))
-both_out some behind old mid new first second = subst (Appends old new) (sym (text_of-append some behind)) (Appends-trans old mid new (text_of some) (text_of behind) first second)
+both_out some behind old mid new first second = subst (Appends old new) (sym (flat_map-append line_text some behind)) (Appends-trans old mid new (text_of some) (text_of behind) first second)
 
 -- a count that rose in a later part of a call
 risen_later : (a b c : ℕ) → a ≤ b → HasRisen b c → HasRisen a c
@@ -39,7 +31,7 @@ printed_as xs ys old new r e out = subst (λ (ls : List (List Token)). Prints ls
 pub part_failed : (some behind : List (List Token)) (old new : SinkState) (fault : PrintFault) → Prints some old new (Err fault) → Prints (some ++ behind) old new (Err fault)
 part_failed some behind old new WriteFault out =
     let w = out.outcome.1 in
-    record { outcome = (out.outcome.0, (w.0, w.1 ++ text_of behind, text_of-append some behind ∙ ap (λ (t : List ℕ). t ++ text_of behind) w.2 ∙ append_assoc w.0 w.1 (text_of behind), w.3)) }
+    record { outcome = (out.outcome.0, (w.0, w.1 ++ text_of behind, flat_map-append line_text some behind ∙ ap (λ (t : List ℕ). t ++ text_of behind) w.2 ∙ append_assoc w.0 w.1 (text_of behind), w.3)) }
 part_failed some behind old new Memory out =
     let w = out.outcome in
     record { outcome = (w.0, w.1 ++ behind, ap (λ (ls : List (List Token)). ls ++ behind) w.2 ∙ append_assoc w.0 w.1 behind, w.3) }
@@ -55,7 +47,7 @@ two_printed some behind old mid new (Err WriteFault) le first second =
         (
           text_of some ++ w.0,
           w.1,
-          text_of-append some behind ∙ ap (λ (t : List ℕ). text_of some ++ t) w.2 ∙ sym (append_assoc (text_of some) w.0 w.1),
+          flat_map-append line_text some behind ∙ ap (λ (t : List ℕ). text_of some ++ t) w.2 ∙ sym (append_assoc (text_of some) w.0 w.1),
           Appends-trans old.written mid.written new.written (text_of some) w.0 first.outcome w.3,
         ),
       );
@@ -106,15 +98,12 @@ first_failed {lines} {some} behind {old} {new} {fault} {r} first told is =
     let e = err_from_is_err_and r told in
     rw (e.1, e.2) (record { prints = printed_as _ _ old new _ (sym is) (part_failed some behind old new fault first.prints); later = first.later })
 
+-- with the lines that are left, all lines are put since the old state
+abbrev pub Finishes : List (List Token) → List (List Token) → SinkState → SinkState → Type 0
+Finishes left lines old now = (last : SinkState) (r : Result (Unit {0}) PrintFault) → Puts left now last r → Puts lines old last r
+
 -- ---- lists
 
 -- an item and the rest of a list
 pub item_ahead : {X : Type 0} (xs : List X) (i : ℕ) (x : X) → i < length xs → x ≡ get_or xs i x → drop i xs ≡ x ∷ drop (i + 1) xs
 item_ahead xs i x lt is = drop_more xs i x lt ∙ ap (λ y. y ∷ drop (i + 1) xs) (sym is)
-
--- the lines of an item and of the rest
-pub step_ahead : (p : Problem) (xs : List Step) (i : ℕ) (x : Step) → i < length xs → x ≡ get_or xs i x → map (step_line p) (map step_of (drop i xs)) ≡ (step_line p (step_of x) ∷ []) ++ map (step_line p) (map step_of (drop (i + 1) xs))
-step_ahead p xs i x lt is = ap (λ (ss : List Step). map (step_line p) (map step_of ss)) (item_ahead xs i x lt is)
-
-pub node_ahead : (p : Problem) (xs : List (TreeNode Leaf)) (i : ℕ) (x : TreeNode Leaf) → i < length xs → x ≡ get_or xs i x → tree_lines p (drop i xs) ≡ node_lines p x ++ tree_lines p (drop (i + 1) xs)
-node_ahead p xs i x lt is = ap (tree_lines p) (item_ahead xs i x lt is)

@@ -52,18 +52,7 @@ fn push(line: &mut String, problem: &Problem, field: &Field) -> Result<(), Alloc
     }
 }
 
-#[tactic(auto, using(std::proofs::lemmas::List::drop_more, crate::proofs::Appending::field_ahead))]
-fn push_all(line: &mut String, problem: &Problem, fields: &[Field]) -> Result<(), AllocError>
-    requires { Each (KnowsField problem.now) fields.now }
-    ensures { OnOk result (string_bytes line.new ≡ appended (string_bytes line.old) (tokens_of problem.now fields.now)) }
-{
-    'printing: for field in fields {
-        push(line, problem, field)?;
-    }
-    Ok(())
-}
-
-#[tactic(auto, using(crate::proofs::Appending::line_appended))]
+#[tactic(auto, using(std::proofs::lemmas::List::drop_more, crate::proofs::Appending::field_ahead, crate::proofs::Appending::line_appended))]
 fn make(
     line: &mut String,
     problem: &Problem,
@@ -74,7 +63,9 @@ fn make(
     ensures { OnOk result (string_bytes line.new ≡ joined 32 (word.now ∷ tokens_of problem.now fields.now)) }
 {
     begin(line, word)?;
-    push_all(line, problem, fields)?;
+    'printing: for field in fields {
+        push(line, problem, field)?;
+    }
     Ok(())
 }
 

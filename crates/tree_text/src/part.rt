@@ -66,13 +66,10 @@ pub(crate) fn put_end<K: Sink>(
     match end {
         End::Dead(material) => put(line, problem, "dead", &[Field::Material(*material)], out),
         End::Clash(exclusion) => put(line, problem, "clash", &[Field::Exclusion(*exclusion)], out),
-        End::Refuted(ys) => put(
-            line,
-            problem,
-            "refuted",
-            &[Field::Numbers(ys.numbers())],
-            out,
-        ),
+        End::Refuted(ys) => {
+            let fields = [Field::Numbers(ys.numbers())];
+            put(line, problem, "refuted", &fields, out)
+        }
         End::Bound(scaled) => {
             let fields = [Field::Number(scaled.d()), Field::Numbers(scaled.ys())];
             put(line, problem, "bound", &fields, out)

@@ -1,12 +1,13 @@
-use Rattle.std.proofs.Common.{◌≡◌, drop, string_bytes}
+use Rattle.std.proofs.Common.{◌≡◌, ◌∷◌, drop, string_bytes}
 use Rattle.problem_rules.specs.Each.{Each}
+use Rattle.text_rules.specs.Canonical.{joined}
 use Rattle.tree_text.specs.Printing.{appended}
 use Rattle.tree_text.specs.Fields.{KnowsField, tokens_of}
-use Rattle.tree_text.proofs.line.push_all.Given as goal
+use Rattle.tree_text.proofs.line.make.Given as goal
 
 -- the fields that are left finish the line
 abbrev pub invariant-printing : goal.invariant-printing
 invariant-printing l = record {
   known : Each (KnowsField l.problem) (drop l.field-index l.fields);
-  line : appended (string_bytes l.line) (tokens_of l.problem (drop l.field-index l.fields)) ≡ appended (string_bytes l.fn.line) (tokens_of l.problem l.fields);
+  line : appended (string_bytes l.line) (tokens_of l.problem (drop l.field-index l.fields)) ≡ joined 32 (l.word ∷ tokens_of l.problem l.fields);
 }
