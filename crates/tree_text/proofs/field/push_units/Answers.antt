@@ -1,4 +1,4 @@
-use Rattle.std.proofs.Common.{◌∙◌, ◌∷◌, [], sym, ap, map, List, ℕ, string_bytes}
+use Rattle.std.proofs.Common.{map, sym, ap, List, ℕ, string_bytes, ◌∙◌}
 use Rattle.tree_text_rules.specs.Spelling.{unit_name}
 use Rattle.flow_program.proofs.WalkLemmas.{next_of}
 use Rattle.tree_text.specs.Printing.{appended}
@@ -9,6 +9,5 @@ loop-unit-preserved c =
     let next = next_of _ c.loop-unit.unit-iterator c.in-Some.unit c.next.new.self c.loop-unit.invariant.known c.in-Some.ensures.steps in
     record {
       known = next.set;
-      line = ap (λ (t : List ℕ). appended t (map (unit_name c.args.problem.now) c.next.new.self)) (c.in_ok-push_field.ensures ∙ ap (λ (name : List ℕ). appended (string_bytes c.loop-unit.line) (name ∷ [])) c.unit_name.ensures)
-          ∙ (ap (λ (us : List ℕ). appended (string_bytes c.loop-unit.line) (map (unit_name c.args.problem.now) us)) (sym next.is) ∙ c.loop-unit.invariant.line);
+      line = rw (c.in_ok-push_field.ensures, c.unit_name.ensures) (ap (λ (us : List ℕ). appended (string_bytes c.loop-unit.line) (map (unit_name c.args.problem.now) us)) (sym next.is) ∙ c.loop-unit.invariant.line);
     }
