@@ -23,7 +23,9 @@ use Rattle.script_rules.specs.Read.{told, judged, edit_by, fields_read, worded_r
 use Rattle.script_rules.specs.Term.{Pair, terms_fault, sides_fault, term_read}
 use Rattle.edit_laws.proofs.ScriptLines.{IsLine, lines_back}
 use Rattle.edit_laws.proofs.SidesRead.{pair_at, sides_back, terms_back, terms_clear, sides_clear, side_each}
-use Rattle.edit_laws.proofs.Tokens.{IsToken, word_token, name_word, decimal_word, amount_word, joined_none, token_none, split_joined}
+use Rattle.text_laws.proofs.Cuts.{split_joined}
+use Rattle.text_laws.proofs.Words.{name_word, amount_word}
+use Rattle.edit_laws.proofs.Tokens.{IsToken, word_token, decimal_word, token_none, tokens_none}
 use Rattle.edit_laws.proofs.TokensRead.{unless_true, least_none, name_none, names_none, kind_none, kind_back, millionths_back, amount_none, bound_none, bound_back, place_back, place_none, years_back, years_none}
 
 -- what is read of tokens without a fault
@@ -207,8 +209,8 @@ line_back edit is =
 
 line_is : (edit : Edit) → IsFormed edit → IsLine (edit_line edit)
 line_is edit is = record {
-  feed = joined_none 10 refl refl (edit_tokens edit) (word_is (word_of edit), fields_each edit is);
-  ret = joined_none 13 refl refl (edit_tokens edit) (word_is (word_of edit), fields_each edit is);
+  feed = tokens_none 10 refl refl (edit_tokens edit) (word_is (word_of edit), fields_each edit is);
+  ret = tokens_none 13 refl refl (edit_tokens edit) (word_is (word_of edit), fields_each edit is);
 }
 
 lines_are : (edits : List Edit) → Each IsFormed edits → Each IsLine (map edit_line edits)

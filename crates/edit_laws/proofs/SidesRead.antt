@@ -1,15 +1,14 @@
 -- The printed sides of a unit are found again.
-use Rattle.std.proofs.Common.{◌≡◌, ◌<◌, ◌==◌, Bool, true, false, not, ℕ, Option, Some, None, List, [], ◌∷◌, ◌++◌, length, map, codes, bytes_eq, ℤ, pos, negsuc, int_lt, unsigned_abs, refl, sym, ◌∙◌, ap, arith, length-append, if◌then◌else◌}
-use Rattle.std.specs.List.{list_all, list_any, slice_split}
-use Rattle.std.proofs.lemmas.Bool.{and_parts, and_left, or_from, cond_both, ne_eqb, eqb-true, true≢false}
+use Rattle.std.proofs.Common.{◌≡◌, ◌<◌, ◌==◌, Bool, true, false, not, ℕ, Option, Some, None, List, [], ◌∷◌, ◌++◌, length, map, codes, ℤ, pos, negsuc, int_lt, unsigned_abs, refl, sym, ◌∙◌, ap, arith, if◌then◌else◌}
+use Rattle.std.specs.List.{list_any}
+use Rattle.std.proofs.lemmas.Bool.{or_from, cond_both, ne_eqb, eqb-true, true≢false}
 use Rattle.std.proofs.lemmas.List.{length-map}
 use Rattle.problem_rules.specs.Each.{Each}
-use Rattle.problem_rules.specs.Names.{continues_name, is_among, has_double}
+use Rattle.problem_rules.specs.Names.{is_among, has_double}
 use Rattle.text_rules.specs.Fault.{millionths}
 use Rattle.text_rules.specs.Field.{terms_of}
 use Rattle.text_rules.specs.Printed.{amount_bytes}
-use Rattle.text_rules.specs.Canonical.{joined}
-use Rattle.text_laws.proofs.Cuts.{not_mark, none-append, split_at, split_none}
+use Rattle.text_laws.proofs.Cuts.{split_at, split_none, joined_none, split_joined, joined_some}
 use Rattle.text_laws.proofs.Each.{each-append, each-to, none_from_each}
 use Rattle.edit_rules.specs.Edit.{NamedTerm}
 use Rattle.edit_rules.specs.Formed.{IsFormedTerm, IsFormedSide, AreFormedSides, term_names}
@@ -18,23 +17,9 @@ use Rattle.script_rules.specs.declared.EditKind.TheVariants as kinds
 use Rattle.script_rules.specs.Fault.{lesser, name_fault, rate_fault}
 use Rattle.script_rules.specs.Printed.{term_tokens, side_tokens}
 use Rattle.script_rules.specs.Term.{Pair, pair_of, with_pair, pairs_of, both, both_sides, is_arrow, sides_of, term_fault, terms_fault, materials_of, are_bad_sides, sides_fault, term_read}
-use Rattle.edit_laws.proofs.Tokens.{IsWord, IsToken, word_token, name_word, amount_word, split_joined}
+use Rattle.text_laws.proofs.Words.{IsWord, name_word, amount_word, is_plus, word_no_plus, word_no_arrow, terms_split}
+use Rattle.edit_laws.proofs.Tokens.{IsToken, word_token}
 use Rattle.edit_laws.proofs.TokensRead.{name_none, rate_none, millionths_back, unless_true}
-
-abbrev is_plus : List ℕ → Bool
-is_plus token = bytes_eq token (codes "+")
-
-word_no_plus : (text : List ℕ) → IsWord text → is_plus text ≡ false
-word_no_plus [] is = refl
-word_no_plus (c ∷ cs) is =
-    let first = and_parts (continues_name c) (list_all continues_name cs) is.all in
-    and_left (c == 43) (bytes_eq cs []) (not_mark continues_name 43 c refl first.0)
-
-word_no_arrow : (text : List ℕ) → IsWord text → is_arrow text ≡ false
-word_no_arrow [] is = refl
-word_no_arrow (c ∷ cs) is =
-    let first = and_parts (continues_name c) (list_all continues_name cs) is.all in
-    and_left (c == 61) (bytes_eq cs (62 ∷ [])) (not_mark continues_name 61 c refl first.0)
 
 -- what stands for the rate of a term
 abbrev rate_text : NamedTerm → List ℕ
@@ -61,25 +46,11 @@ terms_none : (q : List ℕ → Bool) → ((t : List ℕ) → IsWord t → q t �
 terms_none q says [] each = tt
 terms_none q says (t ∷ terms) each = (none_from_each q (term_tokens t) (each-to IsWord (λ w. q w ≡ false) says (term_tokens t) (term_words t each.0)), terms_none q says terms each.1)
 
-joined_without : (q : List ℕ → Bool) (pieces : List (List (List ℕ))) → q (codes "+") ≡ false → Each (λ piece. list_any q piece ≡ false) pieces → list_any q (joined (codes "+") pieces) ≡ false
-joined_without q [] off each = refl
-joined_without q (piece ∷ []) off each = each.0
-joined_without q (piece ∷ next ∷ pieces) off each =
-    none-append q piece (codes "+" ∷ joined (codes "+") (next ∷ pieces)) each.0 (or_from (q (codes "+")) (list_any q (joined (codes "+") (next ∷ pieces))) off (joined_without q (next ∷ pieces) off each.1))
-
-joined_some : (piece : List (List ℕ)) (pieces : List (List (List ℕ))) → 0 < length piece → 0 < length (joined (codes "+") (piece ∷ pieces))
-joined_some piece [] some = some
-joined_some piece (next ∷ pieces) some = omega (arith, some, length-append piece (codes "+" ∷ joined (codes "+") (next ∷ pieces)))
-
-terms_split : (tokens : List (List ℕ)) → 0 < length tokens → terms_of tokens ≡ slice_split is_plus tokens
-terms_split [] some = absurd (omega arith)
-terms_split (token ∷ tokens) some = refl
-
 side_terms : (terms : List NamedTerm) → IsFormedSide terms → terms_of (side_tokens terms) ≡ map term_tokens terms
 side_terms [] is = absurd (omega (arith, is.some))
 side_terms (t ∷ terms) is =
     let none = terms_none is_plus word_no_plus (t ∷ terms) is.terms_formed in
-    terms_split (side_tokens (t ∷ terms)) (joined_some (term_tokens t) (map term_tokens terms) (term_some t))
+    terms_split (side_tokens (t ∷ terms)) (joined_some (codes "+") (term_tokens t) (map term_tokens terms) (term_some t))
     ∙ split_joined is_plus (codes "+") (term_tokens t) (map term_tokens terms) refl none.0 none.1
 
 pairs_back : (terms : List NamedTerm) → pairs_of (map term_tokens terms) ≡ Some (map pair_at terms)
@@ -90,7 +61,7 @@ side_pairs : (terms : List NamedTerm) → IsFormedSide terms → pairs_of (terms
 side_pairs terms is = ap pairs_of (side_terms terms is) ∙ pairs_back terms
 
 side_no_arrow : (terms : List NamedTerm) → Each IsFormedTerm terms → list_any is_arrow (side_tokens terms) ≡ false
-side_no_arrow terms each = joined_without is_arrow (map term_tokens terms) refl (terms_none is_arrow word_no_arrow terms each)
+side_no_arrow terms each = joined_none is_arrow (codes "+") (map term_tokens terms) refl (terms_none is_arrow word_no_arrow terms each)
 
 pub sides_back : (ins outs : List NamedTerm) → AreFormedSides ins outs → sides_of (side_tokens ins ++ codes "=>" ∷ side_tokens outs) ≡ Some (map pair_at ins, map pair_at outs)
 sides_back ins outs is =

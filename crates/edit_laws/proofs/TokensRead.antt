@@ -1,8 +1,8 @@
 -- What is printed of an edit's fields has no fault, and stands for them.
-use Rattle.std.proofs.Common.{◌≡◌, ◌<◌, ◌≤◌, ◌+◌, ◌&&◌, ◌||◌, ◌==◌, ◌/◌, ◌%◌, ◌^◌, Bool, true, false, not, ℕ, zero, suc, Option, Some, None, is_some, unwrap_or, nat_le, List, [], ◌∷◌, ◌++◌, length, decimal, Result, Ok, ℤ, pos, negsuc, int_lt, slice_index, refl, sym, ◌∙◌, ap, arith, length-append, le-leb, le-ltb, if◌then◌else◌}
+use Rattle.std.proofs.Common.{◌≡◌, ◌<◌, ◌≤◌, ◌&&◌, ◌^◌, Bool, true, not, ℕ, Option, Some, None, is_some, unwrap_or, nat_le, List, [], ◌∷◌, length, decimal, Result, Ok, ℤ, pos, negsuc, int_lt, refl, sym, ◌∙◌, ap, arith, le-leb, le-ltb, if◌then◌else◌}
 use Rattle.std.specs.Result.{result_unwrap_or}
-use Rattle.std.proofs.lemmas.Bool.{cond-true, and_from, or_left, or_right, true≢false, ne_eqb, eq-eqb}
-use Rattle.std.proofs.lemmas.Fmt.{decimal_nonempty, decimal_by_steps}
+use Rattle.std.proofs.lemmas.Bool.{cond-true, and_from, true≢false}
+use Rattle.std.proofs.lemmas.Fmt.{decimal_nonempty}
 use Rattle.problem_rules.specs.Each.{Each}
 use Rattle.problem_rules.specs.Names.{is_name}
 use Rattle.problem_rules.specs.Problem.{Kind, raw_material, intermediate, product}
@@ -13,13 +13,13 @@ use Rattle.text_rules.specs.Fault.{millionths}
 use Rattle.text_rules.specs.Printed.{amount_bytes}
 use Rattle.text_rules.specs.Canonical.{kind_word}
 use Rattle.text_rules.specs.Value.{kind_of}
-use Rattle.text_laws.proofs.Digits.{decimal_reads}
+use Rattle.text_laws.proofs.Digits.{decimal_reads, decimal_whole}
 use Rattle.text_laws.proofs.PrintedAmount.{amounts_read_back}
+use Rattle.text_laws.proofs.Words.{name_word, amount_word}
 use Rattle.edit_rules.specs.Formed.{IsName, IsPlace}
 use Rattle.script_rules.specs.declared.EditKind.{EditKind}
 use Rattle.script_rules.specs.declared.EditKind.TheVariants as kinds
 use Rattle.script_rules.specs.Fault.{least, lesser, some_token, unless, name_fault, kind_fault, amount_fault, bound_fault, rate_fault, any_sign, not_negative, positive, is_whole, whole_within, place_of, place_fault, years_of, years_fault, names_fault}
-use Rattle.edit_laws.proofs.Tokens.{name_word, amount_word}
 
 -- a token with bytes has no other fault
 some_is : (token : List ℕ) (kind : Option EditKind) → 0 < length token → some_token token kind ≡ kind
@@ -78,43 +78,11 @@ rate_none z small above =
     some_is (amount_bytes z) (positive (amount_of (amount_bytes z))) (amount_some z small) ∙ ap positive (amounts_read_back z small) ∙ positive_none z above
 
 -- places and years
-record Leads (n : ℕ) (ds : List ℕ) : Type 0 where
-  some : 0 < length ds
-  one : n < 10 → length ds ≡ 1
-  first : 0 < n → (slice_index ds 0 == 48) ≡ false
-
-first_of : (ds : List ℕ) (d : ℕ) → 0 < length ds → slice_index (ds ++ d ∷ []) 0 ≡ slice_index ds 0
-first_of [] d some = absurd (omega arith)
-first_of (c ∷ cs) d some = refl
-
-leads_one : (n : ℕ) → n < 10 → Leads n ((48 + n) ∷ [])
-leads_one n lt = record { some = omega arith; one = λ _. refl; first = λ above. ne_eqb (48 + n) 48 (λ e. omega (arith, e, above)) }
-
-leads_more : (n : ℕ) (ds : List ℕ) → 10 ≤ n → Leads (n / 10) ds → Leads n (ds ++ (48 + n % 10) ∷ [])
-leads_more n ds le before = record {
-  some = omega (arith, length-append ds ((48 + n % 10) ∷ []));
-  one = λ small. absurd (omega (arith, small, le));
-  first = λ above. ap (λ (c : ℕ). c == 48) (first_of ds (48 + n % 10) before.some) ∙ before.first (omega (arith, le));
-}
-
-decimal_leads : (n : ℕ) → n < 2 ^ 64 → Leads n (decimal n)
-decimal_leads = decimal_by_steps Leads leads_one leads_more
-
--- 0 is one digit, and any other number begins with another digit
-no_zero : (n : ℕ) (ds : List ℕ) → Leads n ds → (length ds == 1 || not (slice_index ds 0 == 48)) ≡ true
-no_zero zero ds leads = or_left (length ds == 1) (not (slice_index ds 0 == 48)) (eq-eqb (length ds) 1 (leads.one (omega arith)))
-no_zero (suc n) ds leads = or_right (length ds == 1) (not (slice_index ds 0 == 48)) (ap not (leads.first (omega arith)))
-
-decimal_whole : (n : ℕ) → n < 2 ^ 64 → is_whole (decimal n) ≡ true
-decimal_whole n lt =
-    let leads = decimal_leads n lt in
-    and_from _ _ (and_from _ _ (decimal_reads n lt).0 (le-leb 1 (length (decimal n)) leads.some)) (no_zero n (decimal n) leads)
-
 whole_back : (limit n : ℕ) → n ≤ limit → n < 2 ^ 64 → whole_within limit (decimal n) ≡ Some n
 whole_back limit n le lt =
     let value : number_of (decimal n) ≡ n = (decimal_reads n lt).1 in
     cond-true (is_whole (decimal n) && nat_le (number_of (decimal n)) limit) (Some (number_of (decimal n))) None
-    (and_from _ _ (decimal_whole n lt) (ap (λ (k : ℕ). nat_le k limit) value ∙ le-leb n limit le))
+    (and_from _ _ (decimal_whole n (omega (arith, lt))) (ap (λ (k : ℕ). nat_le k limit) value ∙ le-leb n limit le))
     ∙ ap Some value
 
 pub place_back : (n : ℕ) → IsPlace n → place_of (decimal n) ≡ n

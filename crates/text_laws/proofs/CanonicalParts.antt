@@ -22,7 +22,8 @@ use Rattle.text_laws.proofs.Digits.{decimal_reads}
 use Rattle.text_laws.proofs.PrintedAmount.{all_to}
 use Rattle.text_laws.proofs.Cuts.{prefix_none}
 use Rattle.text_laws.proofs.PrintedLines.{IsLine, lines_read}
-use Rattle.text_laws.proofs.Pieces.{IsWord, IsPiece, IsNamed, name_word, word_piece, items_tail, items_apart, named_apart, piece_none, piece_end, no_blank, off_mark, digit_continues}
+use Rattle.text_laws.proofs.Pieces.{IsPiece, IsNamed, word_piece, items_tail, items_apart, named_apart, piece_none, piece_end, no_blank, off_mark}
+use Rattle.text_laws.proofs.Words.{IsWord, name_word, digit_continues}
 use Rattle.text_laws.proofs.PrintedSides.{rates_tail, sides_apart}
 
 -- a line for each of the items, numbered from n on

@@ -1,12 +1,14 @@
--- Texts without certain bytes: trimmed, cut at the first mark, and split.
-use Rattle.std.proofs.Common.{◌≡◌, ◌+◌, ◌-◌, ◌||◌, ◌==◌, Bool, true, false, not, ℕ, suc, List, [], ◌∷◌, ◌++◌, length, take, drop, reverse, All, refl, sym, ◌∙◌, ap, arith, take_all, add-one, one-add}
+-- Texts without certain bytes: trimmed, cut at the first mark, split, and joined again.
+use Rattle.std.proofs.Common.{◌≡◌, ◌<◌, ◌+◌, ◌-◌, ◌||◌, ◌==◌, Bool, true, false, not, ℕ, suc, List, [], ◌∷◌, ◌++◌, length, take, drop, reverse, All, refl, sym, ◌∙◌, ap, arith, length-append, take_all, add-one, one-add}
 use Rattle.std.specs.List.{list_all, list_any, prefix_len, suffix_len, position_or_len, before_first, after_first, slice_split}
 use Rattle.std.proofs.lemmas.Bool.{true≢false, cond-true, cond-false, ne_eqb, or_parts, or_from, and_parts}
 use Rattle.std.proofs.lemmas.List.{reverse-append, length-reverse}
 use Rattle.std.proofs.lemmas.List.Elements.{All-cons, All-nil}
 use Rattle.std.proofs.lemmas.List.Folds.{list_any-append, prefix_len-append}
 use Rattle.std.proofs.lemmas.List.Splits.{slice_split_none, slice_split_at}
+use Rattle.problem_rules.specs.Each.{Each}
 use Rattle.text_rules.specs.Blanks.{is_blank, trim, trim_back}
+use Rattle.text_rules.specs.Canonical.{joined}
 
 -- a byte that passes is not the mark, which does not
 pub not_mark : (p : ℕ → Bool) (k c : ℕ) → p k ≡ false → p c ≡ true → (c == k) ≡ false
@@ -103,3 +105,22 @@ trim_none xs none = trim_solid xs (prefix_none is_blank xs none) (suffix_none is
 pub trim_space : (xs : List ℕ) → prefix_len is_blank xs ≡ 0 → suffix_len is_blank xs ≡ 0 → trim (32 ∷ xs) ≡ xs
 trim_space xs front back =
     ap (λ n. trim_back (drop (1 + n) (32 ∷ xs))) front ∙ ap (λ n. take (length xs - n) xs) back ∙ take_all (length xs - 0) xs (omega arith)
+
+-- ---- pieces that are joined by a mark
+
+-- they are cut there
+pub split_joined : {A : Type 0} (q : A → Bool) (mark : A) (piece : List A) (pieces : List (List A)) → q mark ≡ true → list_any q piece ≡ false → Each (λ piece. list_any q piece ≡ false) pieces → slice_split q (joined mark (piece ∷ pieces)) ≡ piece ∷ pieces
+split_joined q mark piece [] on one each = split_none q piece one
+split_joined q mark piece (next ∷ pieces) on one each =
+    split_at q piece mark (joined mark (next ∷ pieces)) one on ∙ ap (λ rest. piece ∷ rest) (split_joined q mark next pieces on each.0 each.1)
+
+-- what neither the mark nor a piece has
+pub joined_none : {A : Type 0} (q : A → Bool) (mark : A) (pieces : List (List A)) → q mark ≡ false → Each (λ piece. list_any q piece ≡ false) pieces → list_any q (joined mark pieces) ≡ false
+joined_none q mark [] off each = refl
+joined_none q mark (piece ∷ []) off each = each.0
+joined_none q mark (piece ∷ next ∷ pieces) off each =
+    none-append q piece (mark ∷ joined mark (next ∷ pieces)) each.0 (or_from (q mark) (list_any q (joined mark (next ∷ pieces))) off (joined_none q mark (next ∷ pieces) off each.1))
+
+pub joined_some : {A : Type 0} (mark : A) (piece : List A) (pieces : List (List A)) → 0 < length piece → 0 < length (joined mark (piece ∷ pieces))
+joined_some mark piece [] some = some
+joined_some mark piece (next ∷ pieces) some = omega (arith, length-append piece (mark ∷ joined mark (next ∷ pieces)))

@@ -1,10 +1,10 @@
 -- What digits stand for.
-use Rattle.std.proofs.Common.{◌≡◌, ◌<◌, ◌+◌, ◌-◌, ◌*◌, ◌/◌, ◌%◌, ◌^◌, ◌&&◌, Bool, true, false, ℕ, zero, suc, List, [], ◌∷◌, ◌++◌, decimal, if◌then◌else◌, refl, sym, ◌∙◌, ap, arith}
+use Rattle.std.proofs.Common.{◌≡◌, ◌<◌, ◌≤◌, ◌+◌, ◌-◌, ◌*◌, ◌/◌, ◌%◌, ◌^◌, ◌&&◌, ◌||◌, ◌==◌, Bool, true, false, not, ℕ, zero, suc, nat_le, List, [], ◌∷◌, ◌++◌, length, slice_index, decimal, if◌then◌else◌, refl, sym, ◌∙◌, ap, arith, length-append, ne_eqb, eq-eqb, le-leb}
 use Rattle.std.specs.List.{list_all}
 use Rattle.std.specs.Char.{is_ascii_digit}
-use Rattle.std.proofs.lemmas.Bool.{cond-true}
+use Rattle.std.proofs.lemmas.Bool.{cond-true, and_from, or_left, or_right}
 use Rattle.std.proofs.lemmas.Bool.Decides.{nat_tests}
-use Rattle.std.proofs.lemmas.Fmt.{decimal_by_steps}
+use Rattle.std.proofs.lemmas.Fmt.{decimal_by_steps_wide}
 use Rattle.std.proofs.Math.Nat.{pow-suc, add-mul-mod_self_left, mod-eq_of_lt, mod-lt, div-add-mod, one-le-pow}
 use Rattle.std.proofs.lemmas.Nat.{pow-add}
 use Rattle.text_rules.specs.Amount.{number_from}
@@ -33,14 +33,54 @@ all-append p (x ∷ xs) ys all more = all_in (p x) (list_all p xs) (list_all p (
   all_in true rest whole all step = step all
   all_in false rest whole all step = all
 
-all-last : (ds : List ℕ) (d : ℕ) → d < 10 → list_all is_ascii_digit ds ≡ true → list_all is_ascii_digit (ds ++ (48 + d) ∷ []) ≡ true
+pub all-last : (ds : List ℕ) (d : ℕ) → d < 10 → list_all is_ascii_digit ds ≡ true → list_all is_ascii_digit (ds ++ (48 + d) ∷ []) ≡ true
 all-last ds d lt all = all-append is_ascii_digit ds ((48 + d) ∷ []) all (ap (λ b. b && true) (digit-yes d lt))
 
--- a printed number is digits that stand for it
+-- ---- printed numbers
+
+-- digits that stand for the number, without a 0 in front
+pub record IsPrinted (n : ℕ) (ds : List ℕ) : Type 0 where
+  pub all : list_all is_ascii_digit ds ≡ true
+  pub some : 0 < length ds
+  pub value : number_from 0 ds ≡ n
+  pub one : n < 10 → length ds ≡ 1
+  pub first : 0 < n → (slice_index ds 0 == 48) ≡ false
+
+first_of : (ds : List ℕ) (d : ℕ) → 0 < length ds → slice_index (ds ++ d ∷ []) 0 ≡ slice_index ds 0
+first_of [] d some = absurd (omega arith)
+first_of (c ∷ cs) d some = refl
+
+printed_one : (n : ℕ) → n < 10 → IsPrinted n ((48 + n) ∷ [])
+printed_one n lt = record {
+  all = all-last [] n lt refl;
+  some = omega arith;
+  value = number-last 0 [] n lt ∙ omega arith;
+  one = λ _. refl;
+  first = λ above. ne_eqb (48 + n) 48 (λ e. omega (arith, e, above));
+}
+
+printed_more : (n : ℕ) (ds : List ℕ) → 10 ≤ n → IsPrinted (n / 10) ds → IsPrinted n (ds ++ (48 + n % 10) ∷ [])
+printed_more n ds le before = record {
+  all = all-last ds (n % 10) (omega arith) before.all;
+  some = omega (arith, length-append ds ((48 + n % 10) ∷ []));
+  value = number-last 0 ds (n % 10) (omega arith) ∙ ap (λ m. 10 * m + n % 10) before.value ∙ omega arith;
+  one = λ small. absurd (omega (arith, small, le));
+  first = λ above. ap (λ (c : ℕ). c == 48) (first_of ds (48 + n % 10) before.some) ∙ before.first (omega (arith, le));
+}
+
+pub decimal_printed : (n : ℕ) → n < 10 ^ 64 → IsPrinted n (decimal n)
+decimal_printed = decimal_by_steps_wide IsPrinted printed_one printed_more
+
+no_zero : (n : ℕ) (ds : List ℕ) → IsPrinted n ds → (length ds == 1 || not (slice_index ds 0 == 48)) ≡ true
+no_zero zero ds is = or_left (length ds == 1) (not (slice_index ds 0 == 48)) (eq-eqb (length ds) 1 (is.one (omega arith)))
+no_zero (suc n) ds is = or_right (length ds == 1) (not (slice_index ds 0 == 48)) (ap not (is.first (omega arith)))
+
+-- a printed number is whole: 0, or digits that do not begin with one
+pub decimal_whole : (n : ℕ) → n < 10 ^ 64 → (list_all is_ascii_digit (decimal n) && nat_le 1 (length (decimal n)) && (length (decimal n) == 1 || not (slice_index (decimal n) 0 == 48))) ≡ true
+decimal_whole n lt = let is = decimal_printed n lt in and_from _ _ (and_from _ _ is.all (le-leb 1 (length (decimal n)) is.some)) (no_zero n (decimal n) is)
+
 pub decimal_reads : (n : ℕ) → n < 2 ^ 64 → (list_all is_ascii_digit (decimal n) ≡ true) × (number_from 0 (decimal n) ≡ n)
-decimal_reads = decimal_by_steps (λ n ds. (list_all is_ascii_digit ds ≡ true) × (number_from 0 ds ≡ n))
-    (λ n lt. (all-last [] n lt refl, number-last 0 [] n lt ∙ omega arith))
-    (λ n ds le p. (all-last ds (n % 10) (omega arith) p.0, number-last 0 ds (n % 10) (omega arith) ∙ ap (λ m. 10 * m + n % 10) p.1 ∙ omega arith))
+decimal_reads n lt = let is = decimal_printed n (omega (arith, lt)) in (is.all, is.value)
 
 -- the last digits of a number stand for its remainder
 pub digits_all : (k n : ℕ) → list_all is_ascii_digit (digits k n) ≡ true

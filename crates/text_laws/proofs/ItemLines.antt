@@ -17,7 +17,8 @@ use Rattle.text_laws.proofs.PrintedAmount.{amounts_read_back}
 use Rattle.problem_rules.specs.Each.{Each}
 use Rattle.text_laws.proofs.Each.{each-to, none_from_each}
 use Rattle.text_laws.proofs.Cuts.{trim_none}
-use Rattle.text_laws.proofs.Pieces.{IsPiece, word_piece, amount_word, piece_none, no_blank}
+use Rattle.text_laws.proofs.Pieces.{IsPiece, word_piece, piece_none, no_blank}
+use Rattle.text_laws.proofs.Words.{amount_word}
 use Rattle.problem_rules.specs.WellFormed.{IsBound, IsWellFormedMaterial, IsWellFormedUnit}
 use Rattle.text_laws.proofs.PrintedItems.{material_pieces}
 use Rattle.text_laws.proofs.CanonicalParts.{material_part, unit_part, payout_part, piece_long, header_part}

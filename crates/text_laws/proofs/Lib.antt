@@ -14,10 +14,11 @@ pub mod Numbers
 mod Pieces
 pub mod PrintedAmount
 mod PrintedItems
-mod PrintedLines
+pub mod PrintedLines
 mod PrintedSides
 mod RatesLines
 mod ReadCounts
 mod ReadFields
 mod ReadIsWellFormed
 mod ReadItems
+pub mod Words

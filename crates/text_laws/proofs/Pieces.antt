@@ -1,32 +1,24 @@
 -- Pieces with marks between them: names, items and tokens of a printed line are found again.
-use Rattle.std.proofs.Common.{◌≡◌, ◌<◌, ◌≤◌, ◌+◌, ◌^◌, ⊎_elim, ◌||◌, ◌==◌, ◌/◌, ◌%◌, Bool, true, false, not, ℕ, suc, List, [], ◌∷◌, ◌++◌, length, map, filter, decimal, ℤ, pos, negsuc, unsigned_abs, refl, sym, ◌∙◌, ap, subst, arith, length-append, leb-true, ne_eqb, if◌then◌else◌, le-ltb}
+use Rattle.std.proofs.Common.{◌≡◌, ◌<◌, ◌+◌, ◌||◌, ◌==◌, Bool, true, false, not, ℕ, suc, List, [], ◌∷◌, ◌++◌, length, map, filter, refl, ◌∙◌, ap, arith, length-append, ne_eqb}
 use Rattle.std.specs.List.{list_all, list_any, prefix_len, suffix_len, slice_split}
-use Rattle.std.specs.Char.{is_ascii_digit}
-use Rattle.std.proofs.lemmas.Bool.{cond-true, and_parts, and_right, or_from, or_parts, or_cases, or_left, or_right}
-use Rattle.std.proofs.lemmas.Fmt.{decimal_nonempty}
+use Rattle.std.proofs.lemmas.Bool.{cond-true, and_right, or_from, or_parts, or_left}
 use Rattle.text_rules.specs.Blanks.{is_blank, trim}
-use Rattle.problem_rules.specs.Names.{continues_name, begins_name, is_name}
-use Rattle.text_rules.specs.Amount.{is_point, is_digit_or_point, amount_limit}
-use Rattle.text_rules.specs.Printed.{amount_bytes}
+use Rattle.problem_rules.specs.Names.{continues_name}
 use Rattle.text_rules.specs.Line.{is_colon, head_of, tail_of, is_header}
 use Rattle.text_rules.specs.Field.{items_of, tokens_of}
 use Rattle.text_rules.specs.Canonical.{joined, spaced, named, item_line, token_text}
-use Rattle.text_laws.proofs.Digits.{all-append, decimal_reads}
-use Rattle.text_laws.proofs.PrintedAmount.{fraction, fraction_reads, all_to}
-use Rattle.text_laws.proofs.Cuts.{not_mark, none_from_all, none-append, split_at, split_none, before_mark, after_mark, any_mark, no_prefix, suffix_behind, suffix_none, prefix_none, trim_none, trim_space}
+use Rattle.text_laws.proofs.PrintedAmount.{all_to}
+use Rattle.text_laws.proofs.Cuts.{not_mark, none_from_all, none-append, before_mark, after_mark, any_mark, no_prefix, suffix_behind, suffix_none, prefix_none, trim_none, trim_space, joined_none, split_joined}
 use Rattle.problem_rules.specs.Each.{Each}
 use Rattle.text_laws.proofs.Each.{each-map, each-to}
 use Rattle.text_laws.proofs.PrintedLines.{IsLine}
+use Rattle.text_laws.proofs.Words.{IsWord}
 
 -- the bytes of names, numbers, keys and signs
 abbrev pub is_piece_byte : ℕ → Bool
 is_piece_byte c = continues_name c || c == 43 || c == 61 || c == 62
 
--- a name or a number, and a piece of a line
-pub record IsWord (text : List ℕ) : Type 0 where
-  pub all : list_all continues_name text ≡ true
-  pub some : 0 < length text
-
+-- a piece of a line
 pub record IsPiece (text : List ℕ) : Type 0 where
   pub all : list_all is_piece_byte text ≡ true
   pub some : 0 < length text
@@ -36,35 +28,6 @@ continues_piece c is = or_left _ _ (or_left _ _ (or_left (continues_name c) (c =
 
 pub word_piece : (text : List ℕ) → IsWord text → IsPiece text
 word_piece text w = record { all = all_to continues_name is_piece_byte continues_piece text w.all; some = w.some }
-
-pub name_word : (text : List ℕ) → is_name text ≡ true → IsWord text
-name_word text is =
-    let parts = and_parts _ (list_all continues_name text) is in
-    let front = and_parts _ _ parts.0 in
-    let size = and_parts _ _ front.0 in
-    record { all = parts.1; some = leb-true 1 (length text) size.0 }
-
-pub digit_continues : (c : ℕ) → is_ascii_digit c ≡ true → continues_name c ≡ true
-digit_continues c is = or_left _ _ (or_left _ _ (or_right (begins_name c) (is_ascii_digit c) is))
-
-part_continues : (c : ℕ) → is_digit_or_point c ≡ true → continues_name c ≡ true
-part_continues c is = ⊎_elim (digit_continues c) (λ point. or_right _ (c == 46) point) (or_cases (is_ascii_digit c) (is_point c) is)
-
-size_word : (a : ℕ) → a ≤ amount_limit → IsWord (decimal (a / 1000000) ++ fraction (a % 1000000))
-size_word a small =
-    let below : a / 1000000 < 2 ^ 64 = omega arith in
-    record {
-      all = all-append continues_name (decimal (a / 1000000)) (fraction (a % 1000000))
-          (all_to is_ascii_digit continues_name digit_continues (decimal (a / 1000000)) (decimal_reads (a / 1000000) below).0)
-          (all_to is_digit_or_point continues_name part_continues (fraction (a % 1000000)) (fraction_reads (a % 1000000) (omega arith)).all);
-      some = omega (arith, decimal_nonempty (a / 1000000) below, length-append (decimal (a / 1000000)) (fraction (a % 1000000)));
-    }
-
-pub amount_word : (z : ℤ) → unsigned_abs z ≤ amount_limit → IsWord (amount_bytes z)
-amount_word (pos n) small = subst IsWord (ap (λ b. (if b then 45 ∷ [] else []) ++ decimal (n / 1000000) ++ fraction (n % 1000000)) (sym (le-ltb n 0 (omega arith)))) (size_word n small)
-amount_word (negsuc n) small =
-    let w : IsWord (decimal (suc n / 1000000) ++ fraction (suc n % 1000000)) = size_word (suc n) small in
-    record { all = w.all; some = omega arith }
 
 -- what no piece has
 pub piece_none : (q : ℕ → Bool) → ((c : ℕ) → is_piece_byte c ≡ true → q c ≡ false) → (text : List ℕ) → IsPiece text → list_any q text ≡ false
@@ -98,17 +61,6 @@ joined_front mark [] pieces is = absurd (omega (arith, is.some))
 joined_front mark (c ∷ cs) [] is = prefix_none is_blank (c ∷ cs) (piece_none is_blank no_blank (c ∷ cs) is)
 joined_front mark (c ∷ cs) (next ∷ pieces) is =
     no_prefix is_blank c (cs ++ mark ∷ joined mark (next ∷ pieces)) ((or_parts (is_blank c) (list_any is_blank cs) (piece_none is_blank no_blank (c ∷ cs) is)).0)
-
-pub joined_none : {A : Type 0} (q : A → Bool) (mark : A) (pieces : List (List A)) → q mark ≡ false → Each (λ piece. list_any q piece ≡ false) pieces → list_any q (joined mark pieces) ≡ false
-joined_none q mark [] off each = refl
-joined_none q mark (piece ∷ []) off each = each.0
-joined_none q mark (piece ∷ next ∷ pieces) off each =
-    none-append q piece (mark ∷ joined mark (next ∷ pieces)) each.0 (or_from (q mark) (list_any q (joined mark (next ∷ pieces))) off (joined_none q mark (next ∷ pieces) off each.1))
-
-pub split_joined : {A : Type 0} (q : A → Bool) (mark : A) (piece : List A) (pieces : List (List A)) → q mark ≡ true → list_any q piece ≡ false → Each (λ piece. list_any q piece ≡ false) pieces → slice_split q (joined mark (piece ∷ pieces)) ≡ piece ∷ pieces
-split_joined q mark piece [] on one each = split_none q piece one
-split_joined q mark piece (next ∷ pieces) on one each =
-    split_at q piece mark (joined mark (next ∷ pieces)) one on ∙ ap (λ rest. piece ∷ rest) (split_joined q mark next pieces on each.0 each.1)
 
 -- items behind spaces
 abbrev behind_space : List ℕ → List ℕ

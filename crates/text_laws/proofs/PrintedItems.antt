@@ -7,7 +7,8 @@ use Rattle.text_rules.specs.Canonical.{field, kind_word, material_items, is_zero
 use Rattle.text_rules.specs.Printed.{amount_bytes}
 use Rattle.problem_rules.specs.Each.{Each}
 use Rattle.text_laws.proofs.Each.{each-append}
-use Rattle.text_laws.proofs.Pieces.{IsWord, IsPiece, word_piece, amount_word}
+use Rattle.text_laws.proofs.Pieces.{IsPiece, word_piece}
+use Rattle.text_laws.proofs.Words.{IsWord, amount_word}
 use Rattle.problem_rules.specs.WellFormed.{IsWellFormedMaterial, IsWellFormedUnit, IsWellFormedTerm, AreRisingFrom}
 
 -- the items of a material and of a unit

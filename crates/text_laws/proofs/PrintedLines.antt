@@ -18,18 +18,18 @@ pub record IsLine (text : List ℕ) : Type 0 where
 abbrev pub printed_line : List ℕ → List ℕ
 printed_line line = line ++ 10 ∷ []
 
-split_lines : (lines : List (List ℕ)) → Each IsLine lines → slice_split (λ c. c == 10) (flat_map printed_line lines) ≡ lines ++ [] ∷ []
+pub split_lines : (lines : List (List ℕ)) → Each (λ line. list_any (λ c. c == 10) line ≡ false) lines → slice_split (λ c. c == 10) (flat_map printed_line lines) ≡ lines ++ [] ∷ []
 split_lines [] each = refl
 split_lines (line ∷ lines) each =
     ap (slice_split (λ c. c == 10)) (append_assoc line (10 ∷ []) (flat_map printed_line lines))
-    ∙ split_at (λ c. c == 10) line 10 (flat_map printed_line lines) each.0.feed refl
+    ∙ split_at (λ c. c == 10) line 10 (flat_map printed_line lines) each.0 refl
     ∙ ap (λ ls. line ∷ ls) (split_lines lines each.1)
 
 get_at : {A : Type 0} (xs : List A) (y d : A) → get_or (xs ++ y ∷ []) (length xs) d ≡ y
 get_at [] y d = refl
 get_at (x ∷ xs) y d = get_at xs y d
 
-without_last : (lines : List (List ℕ)) → without_empty_last (lines ++ [] ∷ []) ≡ lines
+pub without_last : (lines : List (List ℕ)) → without_empty_last (lines ++ [] ∷ []) ≡ lines
 without_last lines =
     let all : List (List ℕ) = lines ++ [] ∷ [] in
     let one : length all ≡ length lines + 1 = length-append lines ([] ∷ []) in
@@ -43,15 +43,17 @@ at_none p off [] i none = off
 at_none p off (x ∷ xs) zero none = (or_parts (p x) (list_any p xs) none).0
 at_none p off (x ∷ xs) (suc i) none = at_none p off xs i ((or_parts (p x) (list_any p xs) none).1)
 
+-- a line without a return is kept
+pub line_kept : (text : List ℕ) → list_any (λ c. c == 13) text ≡ false → without_return text ≡ text
+line_kept text none = cond-false (get_or text (length text - 1) 0 == 13) (take (length text - 1) text) text (at_none (λ c. c == 13) refl text (length text - 1) none)
+
 same_line : (text : List ℕ) → IsLine text → trim (without_return text) ≡ text
-same_line text is =
-    ap trim (cond-false (get_or text (length text - 1) 0 == 13) (take (length text - 1) text) text (at_none (λ c. c == 13) refl text (length text - 1) is.ret))
-    ∙ trim_solid text is.front is.back
+same_line text is = ap trim (line_kept text is.ret) ∙ trim_solid text is.front is.back
 
 -- without a mark in front, the lines come back
 pub lines_read : (lines : List (List ℕ)) → Each IsLine lines → without_mark (flat_map printed_line lines) ≡ flat_map printed_line lines → lines_of (flat_map printed_line lines) ≡ lines
 lines_read lines each plain =
     ap (λ text. map (λ part. trim (without_return part)) (without_empty_last (slice_split (λ c. c == 10) text))) plain
-    ∙ ap (λ parts. map (λ part. trim (without_return part)) (without_empty_last parts)) (split_lines lines each)
+    ∙ ap (λ parts. map (λ part. trim (without_return part)) (without_empty_last parts)) (split_lines lines (each-to IsLine (λ line. list_any (λ c. c == 10) line ≡ false) (λ line is. is.feed) lines each))
     ∙ ap (map (λ part. trim (without_return part))) (without_last lines)
     ∙ map_same (λ part. trim (without_return part)) lines (each-to IsLine (λ t. trim (without_return t) ≡ t) same_line lines each)

@@ -1,36 +1,18 @@
 -- The sides of a printed rates line are found again.
-use Rattle.std.proofs.Common.{◌≡◌, ◌<◌, ◌==◌, Bool, false, ℕ, List, [], ◌∷◌, length, map, codes, bytes_eq, unsigned_abs, refl, ◌∙◌, ap, arith, length-append}
-use Rattle.std.specs.List.{list_all, list_any, slice_split}
-use Rattle.std.proofs.lemmas.Bool.{and_parts, and_left, cond_both}
-use Rattle.problem_rules.specs.Names.{continues_name}
+use Rattle.std.proofs.Common.{◌≡◌, ◌<◌, ◌==◌, Bool, false, ℕ, List, [], ◌∷◌, length, map, codes, unsigned_abs, refl, ◌∙◌, ap, arith, length-append}
+use Rattle.std.specs.List.{list_any, slice_split}
+use Rattle.std.proofs.lemmas.Bool.{cond_both}
 use Rattle.text_rules.specs.Printed.{amount_bytes}
 use Rattle.problem_rules.specs.Problem.{Term, OperatingUnit}
 use Rattle.text_rules.specs.Field.{tokens_of, terms_of, sides_of}
 use Rattle.text_rules.specs.Canonical.{joined, named, name_at, term_tokens, side_tokens, token_text, rates_tokens}
 use Rattle.problem_rules.specs.Each.{Each}
 use Rattle.text_laws.proofs.Each.{each-append, each-map, each-to, none_from_each}
-use Rattle.text_laws.proofs.Cuts.{not_mark, split_at, split_none}
-use Rattle.text_laws.proofs.Pieces.{IsWord, IsPiece, IsTail, IsNamed, word_piece, named_apart, joined_none, split_joined, tokens_tail, tokens_apart}
+use Rattle.text_laws.proofs.Cuts.{split_at, split_none, joined_none, split_joined, joined_some}
+use Rattle.text_laws.proofs.Words.{IsWord, is_plus, is_arrow, word_no_plus, word_no_arrow, terms_split}
+use Rattle.text_laws.proofs.Pieces.{IsPiece, IsTail, IsNamed, word_piece, named_apart, tokens_tail, tokens_apart}
 use Rattle.problem_rules.specs.WellFormed.{IsWellFormedTerm, IsWellFormedUnit}
 use Rattle.text_laws.proofs.PrintedItems.{term_words}
-
-abbrev is_plus : List ℕ → Bool
-is_plus token = bytes_eq token (codes "+")
-
-abbrev is_arrow : List ℕ → Bool
-is_arrow token = bytes_eq token (codes "=>")
-
-word_no_plus : (text : List ℕ) → IsWord text → is_plus text ≡ false
-word_no_plus [] is = refl
-word_no_plus (c ∷ cs) is =
-    let first = and_parts (continues_name c) (list_all continues_name cs) is.all in
-    and_left (c == 43) (bytes_eq cs []) (not_mark continues_name 43 c refl first.0)
-
-word_no_arrow : (text : List ℕ) → IsWord text → is_arrow text ≡ false
-word_no_arrow [] is = refl
-word_no_arrow (c ∷ cs) is =
-    let first = and_parts (continues_name c) (list_all continues_name cs) is.all in
-    and_left (c == 61) (bytes_eq cs (62 ∷ [])) (not_mark continues_name 61 c refl first.0)
 
 plus_piece : IsPiece (codes "+")
 plus_piece = record { all = refl; some = omega arith }
@@ -43,14 +25,6 @@ joined_each : {A : Type 0} (P : A → Type 0) (mark : A) (pieces : List (List A)
 joined_each P mark [] one each = tt
 joined_each P mark (piece ∷ []) one each = each.0
 joined_each P mark (piece ∷ next ∷ pieces) one each = each-append P piece (mark ∷ joined mark (next ∷ pieces)) each.0 (one, joined_each P mark (next ∷ pieces) one each.1)
-
-joined_some : {A : Type 0} (mark : A) (piece : List A) (pieces : List (List A)) → 0 < length piece → 0 < length (joined mark (piece ∷ pieces))
-joined_some mark piece [] some = some
-joined_some mark piece (next ∷ pieces) some = omega (arith, length-append piece (mark ∷ joined mark (next ∷ pieces)))
-
-terms_split : (tokens : List (List ℕ)) → 0 < length tokens → terms_of tokens ≡ slice_split is_plus tokens
-terms_split [] some = absurd (omega arith)
-terms_split (token ∷ tokens) some = refl
 
 module _ (names : List (List ℕ)) (words : Each IsWord names) where
   -- the tokens of each term

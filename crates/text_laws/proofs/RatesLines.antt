@@ -20,7 +20,8 @@ use Rattle.text_laws.proofs.PrintedItems.{member_words}
 use Rattle.text_laws.proofs.PrintedAmount.{amounts_read_back}
 use Rattle.problem_rules.specs.Each.{Each}
 use Rattle.text_laws.proofs.Each.{each-to, each-map, each-append, none_from_each}
-use Rattle.text_laws.proofs.Pieces.{IsWord, IsPiece, IsNamed, word_piece, name_word, named_apart}
+use Rattle.text_laws.proofs.Pieces.{IsPiece, IsNamed, word_piece, named_apart}
+use Rattle.text_laws.proofs.Words.{IsWord, name_word}
 use Rattle.text_laws.proofs.PrintedSides.{rates_tail}
 use Rattle.text_laws.proofs.CanonicalParts.{rates_part, exclusion_part, IsItemLine, items_line}
 use Rattle.text_laws.proofs.Names.{bytes_differ}

@@ -1,14 +1,14 @@
 -- Numbers are read from the one text that is printed of them.
-use Rattle.std.proofs.Common.{◌≡◌, ◌<◌, ◌≤◌, ◌+◌, ◌-◌, ◌*◌, ◌/◌, ◌%◌, ◌^◌, ◌&&◌, ◌||◌, ◌==◌, Bool, true, false, not, ℕ, zero, suc, nat_le, List, [], ◌∷◌, ◌++◌, length, decimal, Option, Some, None, option_map, ℤ, pos, negsuc, ◌≤ℤ◌, slice_index, Result, refl, sym, ◌∙◌, ap, ap₂, subst, arith, append_assoc, append-nil, length-append, ne_eqb, eq-eqb, eqb-true, leb-true, le-leb, le→leb, leb→le, if◌then◌else◌}
+use Rattle.std.proofs.Common.{◌≡◌, ◌<◌, ◌≤◌, ◌+◌, ◌-◌, ◌*◌, ◌/◌, ◌%◌, ◌^◌, ◌&&◌, ◌||◌, ◌==◌, Bool, true, false, not, ℕ, zero, suc, nat_le, List, [], ◌∷◌, ◌++◌, length, decimal, Option, Some, None, option_map, ℤ, pos, negsuc, ◌≤ℤ◌, slice_index, Result, refl, sym, ◌∙◌, ap, ap₂, subst, arith, append_assoc, append-nil, ne_eqb, eq-eqb, eqb-true, leb-true, le-leb, le→leb, leb→le, if◌then◌else◌}
 use Rattle.std.specs.Fmt.{signed_decimal}
 use Rattle.std.specs.List.{list_all, list_any}
 use Rattle.std.specs.Char.{is_ascii_digit}
-use Rattle.std.proofs.lemmas.Bool.{cond-true, and_parts, and_from, or_left, or_right, true≢false}
-use Rattle.std.proofs.lemmas.Fmt.{decimal_by_steps_wide, decimal_step_wide, decimal_digit}
+use Rattle.std.proofs.lemmas.Bool.{cond-true, and_parts, and_from, true≢false}
+use Rattle.std.proofs.lemmas.Fmt.{decimal_step_wide, decimal_digit}
 use Rattle.integer_laws.specs.Range.{InRange}
 use Rattle.text_rules.specs.Amount.{number_from, number_of}
 use Rattle.text_laws.proofs.Cuts.{not_mark, none_from_all}
-use Rattle.text_laws.proofs.Digits.{digit-yes, number-last, all-append}
+use Rattle.text_laws.proofs.Digits.{decimal_printed, decimal_whole}
 use Rattle.script_rules.specs.Fault.{is_whole, whole_within}
 use Rattle.tree_text_rules.specs.Line.{Token}
 use Rattle.tree_text_rules.specs.Token.{told, greatest, negative_of, whole_number, number_of as whole_of, is_positive, denominator_of, count_of, children_of, options_of}
@@ -20,51 +20,11 @@ use Rattle.tree_text_laws.proofs.Codes.{told_ok, told_again, judged_ok, judged_a
 
 -- ---- what is printed of a number
 
-record IsPrinted (n : ℕ) (ds : List ℕ) : Type 0 where
-  all : list_all is_ascii_digit ds ≡ true
-  some : 0 < length ds
-  value : number_from 0 ds ≡ n
-  one : n < 10 → length ds ≡ 1
-  first : 0 < n → (slice_index ds 0 == 48) ≡ false
-
-first_of : (ds : List ℕ) (d : ℕ) → 0 < length ds → slice_index (ds ++ d ∷ []) 0 ≡ slice_index ds 0
-first_of [] d some = absurd (omega arith)
-first_of (c ∷ cs) d some = refl
-
-all-last : (ds : List ℕ) (d : ℕ) → d < 10 → list_all is_ascii_digit ds ≡ true → list_all is_ascii_digit (ds ++ (48 + d) ∷ []) ≡ true
-all-last ds d lt all = all-append is_ascii_digit ds ((48 + d) ∷ []) all (ap (λ b. b && true) (digit-yes d lt))
-
-printed_one : (n : ℕ) → n < 10 → IsPrinted n ((48 + n) ∷ [])
-printed_one n lt = record {
-  all = all-last [] n lt refl;
-  some = omega arith;
-  value = number-last 0 [] n lt ∙ omega arith;
-  one = λ _. refl;
-  first = λ above. ne_eqb (48 + n) 48 (λ e. omega (arith, e, above));
-}
-
-printed_more : (n : ℕ) (ds : List ℕ) → 10 ≤ n → IsPrinted (n / 10) ds → IsPrinted n (ds ++ (48 + n % 10) ∷ [])
-printed_more n ds le before = record {
-  all = all-last ds (n % 10) (omega arith) before.all;
-  some = omega (arith, length-append ds ((48 + n % 10) ∷ []));
-  value = number-last 0 ds (n % 10) (omega arith) ∙ ap (λ m. 10 * m + n % 10) before.value ∙ omega arith;
-  one = λ small. absurd (omega (arith, small, le));
-  first = λ above. ap (λ (c : ℕ). c == 48) (first_of ds (48 + n % 10) before.some) ∙ before.first (omega (arith, le));
-}
-
-printed : (n : ℕ) → n < 10 ^ 64 → IsPrinted n (decimal n)
-printed = decimal_by_steps_wide IsPrinted printed_one printed_more
-
-no_zero : (n : ℕ) (ds : List ℕ) → IsPrinted n ds → (length ds == 1 || not (slice_index ds 0 == 48)) ≡ true
-no_zero zero ds is = or_left (length ds == 1) (not (slice_index ds 0 == 48)) (eq-eqb (length ds) 1 (is.one (omega arith)))
-no_zero (suc n) ds is = or_right (length ds == 1) (not (slice_index ds 0 == 48)) (ap not (is.first (omega arith)))
-
 whole_again : (limit n : ℕ) → n ≤ limit → n < 10 ^ 64 → whole_within limit (decimal n) ≡ Some n
 whole_again limit n le lt =
-    let is = printed n lt in
-    let whole : is_whole (decimal n) ≡ true = and_from _ _ (and_from _ _ is.all (le-leb 1 (length (decimal n)) is.some)) (no_zero n (decimal n) is) in
+    let is = decimal_printed n lt in
     cond-true (is_whole (decimal n) && nat_le (number_of (decimal n)) limit) (Some (number_of (decimal n))) None
-    (and_from _ _ whole (ap (λ (k : ℕ). nat_le k limit) is.value ∙ le-leb n limit le))
+    (and_from _ _ (decimal_whole n lt) (ap (λ (k : ℕ). nat_le k limit) is.value ∙ le-leb n limit le))
     ∙ ap (λ (k : ℕ). Some k) is.value
 
 -- ---- which texts are numbers
@@ -154,7 +114,7 @@ digit_mark k off ds all = none_from_all is_ascii_digit (λ c. c == k) (λ c at. 
 
 decimal_token : (n : ℕ) → n < 10 ^ 64 → IsToken (decimal n)
 decimal_token n small =
-    let is = printed n small in
+    let is = decimal_printed n small in
     record {
       some = ap not (ne_eqb (length (decimal n)) 0 (λ e. omega (arith, e, is.some)));
       space = digit_mark 32 refl (decimal n) is.all;
@@ -194,7 +154,7 @@ plus_again n (c ∷ cs) all some e =
 number_again : (z : ℤ) → InRange z → whole_number (signed_decimal z) ≡ Some z
 number_again (pos n) in_range =
     let small : n < 2 ^ 127 = in_range in
-    let is = printed n (omega (arith, small)) in
+    let is = decimal_printed n (omega (arith, small)) in
     plus_again n (decimal n) is.all is.some (whole_again greatest n (omega (arith, small)) (omega (arith, small)))
 number_again (negsuc n) in_range = let small : suc n < 2 ^ 127 = in_range in minus_again n (omega (arith, small))
 

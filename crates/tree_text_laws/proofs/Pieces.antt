@@ -1,28 +1,15 @@
 -- Texts are cut where they were joined, and joined where they were cut.
 use Rattle.std.proofs.Common.{◌≡◌, ◌==◌, Bool, true, false, cond, ℕ, List, [], ◌∷◌, ◌++◌, map, flat_map, refl, sym, ap, ap₂, ◌∙◌, append_assoc, append-nil, eqb-true, if◌then◌else◌}
 use Rattle.std.specs.List.{list_any, slice_split, onto_first}
-use Rattle.std.proofs.lemmas.Bool.{or_from}
 use Rattle.problem_rules.specs.Each.{Each}
 use Rattle.text_rules.specs.Canonical.{joined}
-use Rattle.text_laws.proofs.Cuts.{split_at, split_none, none-append}
+use Rattle.text_laws.proofs.Cuts.{split_at}
+pub use Rattle.text_laws.proofs.Cuts.{split_joined, joined_none}
 use Rattle.tree_text_rules.specs.Line.{Token, Line, is_feed, lines_from, lines_of}
 use Rattle.tree_text_rules.specs.Spelling.{line_text, text_of}
 use Rattle.tree_text_laws.specs.Codes.{line_of}
 
 -- ---- pieces
-
--- pieces that are joined by a mark are cut there
-pub split_joined : {A : Type 0} (q : A → Bool) (mark : A) (piece : List A) (pieces : List (List A)) → q mark ≡ true → list_any q piece ≡ false → Each (λ piece. list_any q piece ≡ false) pieces → slice_split q (joined mark (piece ∷ pieces)) ≡ piece ∷ pieces
-split_joined q mark piece [] on one each = split_none q piece one
-split_joined q mark piece (next ∷ pieces) on one each =
-    split_at q piece mark (joined mark (next ∷ pieces)) one on ∙ ap (λ (rest : List (List _)). piece ∷ rest) (split_joined q mark next pieces on each.0 each.1)
-
--- no piece has the byte, and neither has the mark
-pub joined_none : {A : Type 0} (q : A → Bool) (mark : A) (pieces : List (List A)) → q mark ≡ false → Each (λ piece. list_any q piece ≡ false) pieces → list_any q (joined mark pieces) ≡ false
-joined_none q mark [] off each = refl
-joined_none q mark (piece ∷ []) off each = each.0
-joined_none q mark (piece ∷ next ∷ pieces) off each =
-    none-append q piece (mark ∷ joined mark (next ∷ pieces)) each.0 (or_from (q mark) (list_any q (joined mark (next ∷ pieces))) off (joined_none q mark (next ∷ pieces) off each.1))
 
 joined_onto : {A : Type 0} (mark x : A) (pieces : List (List A)) → joined mark (onto_first x pieces) ≡ x ∷ joined mark pieces
 joined_onto mark x [] = refl
