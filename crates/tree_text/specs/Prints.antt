@@ -23,7 +23,7 @@ Outcome lines old new (Err Memory) = FirstLines lines old new
 pub record Prints (lines : List (List Token)) (old new : SinkState) (result : Result (Unit {0}) PrintFault) : Type 0 where
   pub outcome : Outcome lines old new result
 
--- and the count of faults is not below what it was
+-- the same, and the count of faults is not below what it was
 pub record Puts (lines : List (List Token)) (old new : SinkState) (result : Result (Unit {0}) PrintFault) : Type 0 where
   pub prints : Prints lines old new result
   pub later : old.faults ≤ new.faults

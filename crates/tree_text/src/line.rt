@@ -52,6 +52,7 @@ fn push(line: &mut String, problem: &Problem, field: &Field) -> Result<(), Alloc
     }
 }
 
+// The line of the word and the fields.
 #[tactic(auto, using(std::proofs::lemmas::List::drop_more, crate::proofs::Appending::field_ahead, crate::proofs::Appending::line_appended))]
 fn make(
     line: &mut String,

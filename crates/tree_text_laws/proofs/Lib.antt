@@ -1,8 +1,8 @@
-mod Claims
+pub mod Claims
 mod Heads
-mod Nodes
+pub mod Nodes
 pub mod Parts
-mod Tails
+pub mod Tails
 mod Takings
 mod WholeText
 pub mod ClaimLines
