@@ -29,14 +29,7 @@ same_flows_priced net price fix proportional s z d f = record {
 }
 
 flows_unpriced : (net : Net) (price fix proportional : ℕ → ℤ) (s : ℕ → Bool) (z : ℕ → ℤ) (d : ℤ) → IsFlows (priced net price fix proportional) s z d → IsFlows net s z d
-flows_unpriced net price fix proportional s z d f = record {
-  positive = f.positive;
-  at_least = f.at_least;
-  at_most = f.at_most;
-  no_others = f.no_others;
-  low = f.low;
-  high = f.high;
-}
+flows_unpriced net price fix proportional s z d f = same_flows_priced (priced net price fix proportional) net.price net.fix net.proportional s z d f
 
 moved_none : (years : ℤ) → moved years no_unit ≡ no_unit
 moved_none years = λ i. record no_unit { investment_fix = mul-zero_z years i; investment_proportional = mul-zero_z years i }

@@ -1,15 +1,16 @@
 -- The edits of a migration have no fault of form.
-use Rattle.std.proofs.Common.{◌≡◌, ◌*ℤ◌, ◌*◌, ℕ, ◌+◌, Bool, true, false, cond, Option, Some, None, List, [], ◌∷◌, ◌++◌, length, ℤ, pos, negsuc, refl, arith}
+use Rattle.std.proofs.Common.{◌≡◌, ◌*ℤ◌, ◌*◌, ℕ, ◌+◌, Bool, true, false, cond, Option, Some, None, List, [], ◌∷◌, length, ℤ, pos, negsuc, refl, arith}
 use Rattle.std.specs.Prelude.{flat_map, int_lt}
 use Rattle.std.specs.List.{position_from}
 use Rattle.std.proofs.lemmas.Bool.{or_parts, le-ltb}
 use Rattle.problem_rules.specs.Problem.{Problem, OperatingUnit}
 use Rattle.problem_rules.specs.Each.{Each}
+use Rattle.text_laws.proofs.Each.{each-append}
 use Rattle.problem_rules.specs.Validity.{IsValid, is_out_of_range}
 use Rattle.problem_rules.specs.WellFormed.{IsWellFormedUnit, IsInRange, IsBound}
 use Rattle.problem_rules.proofs.AmountLemmas.{in_range}
 use Rattle.problem_rules.proofs.ValidLemmas.{well_formed_from_valid}
-use Rattle.edit_rules.specs.Edit.{Edit, fix, proportional, investment}
+use Rattle.edit_rules.specs.Edit.{fix, proportional, investment}
 use Rattle.edit_rules.specs.Formed.{IsFormed, IsName, IsPayout}
 use Rattle.edit_rules.specs.Migration.{costs_nothing_yearly, migrates_out_of_range, out_of_range_at, unit_migration, migration}
 use Rattle.edit_laws.proofs.SideLemmas.{no_cost}
@@ -27,10 +28,6 @@ none_found : {X : Type 0} (t : X → Bool) (i : ℕ) (xs : List X) → position_
 none_found t i [] e = tt
 none_found t i (x ∷ xs) e = let h = none_here (t x) i (position_from t (i + 1) xs) e in (h.0, none_found t (i + 1) xs h.1)
 
-each_append : (xs ys : List Edit) → Each IsFormed xs → Each IsFormed ys → Each IsFormed (xs ++ ys)
-each_append [] ys h l = l
-each_append (x ∷ xs) ys h l = (h.0, each_append xs ys h.1 l)
-
 three_formed : (b : Bool) (n : List ℕ) (f c : ℤ) → IsName n → IsBound f → IsInRange c → Each IsFormed (cond b [] (fix n (pos 0) ∷ proportional n (pos 0) ∷ investment n f c ∷ []))
 three_formed true n f c g h l = tt
 three_formed false n f c g h l = ((g, no_cost), ((g, no_cost.in_range), ((g, h, l), tt)))
@@ -44,7 +41,7 @@ unit_formed n years u y h e =
 
 units_formed : (n : ℕ) (years : ℤ) (us : List OperatingUnit) → IsPayout years → Each (IsWellFormedUnit n) us → Each (λ (u : OperatingUnit). migrates_out_of_range years u ≡ false) us → Each IsFormed (flat_map (unit_migration years) us)
 units_formed n years [] y h e = tt
-units_formed n years (u ∷ us) y h e = each_append (unit_migration years u) (flat_map (unit_migration years) us) (unit_formed n years u y h.0 e.0) (units_formed n years us y h.1 e.1)
+units_formed n years (u ∷ us) y h e = each-append IsFormed (unit_migration years u) (flat_map (unit_migration years) us) (unit_formed n years u y h.0 e.0) (units_formed n years us y h.1 e.1)
 
 pub migration_formed : (p : Problem) → IsValid p → (years : ℤ) → IsPayout years → out_of_range_at years p ≡ None → Each IsFormed (migration years p)
 migration_formed p v years y e =

@@ -1,9 +1,10 @@
 -- Valid problems are sound and good, and stay so.
-use Rattle.std.proofs.Common.{◌≡◌, ℕ, ◌+◌, ◌≤◌, List, [], ◌∷◌, ◌++◌, length, arith}
+use Rattle.std.proofs.Common.{◌≡◌, ℕ, ◌+◌, ◌≤◌, List, [], ◌∷◌, length, arith}
 use Rattle.std.specs.Prelude.{int_lt, false}
 use Rattle.number_sets.specs.Sets.{IsBelowAll, IsRising, AreBelow}
 use Rattle.problem_rules.specs.Problem.{Problem, Material, material_names, unit_names, exclusion_names}
 use Rattle.problem_rules.specs.Each.{Each}
+use Rattle.text_laws.proofs.Each.{each-append}
 use Rattle.problem_rules.specs.Validity.{IsValid}
 use Rattle.problem_rules.specs.WellFormed.{IsWellFormedMaterial, IsWellFormedUnit, IsWellFormedExclusion, IsWellFormed, AreRisingFrom}
 use Rattle.problem_rules.proofs.ValidLemmas.{well_formed_from_valid, valid_from_well_formed}
@@ -123,17 +124,13 @@ edit_keeps_valid p v e g h = valid_from_well (effect p e) (stays_well p (well_fr
 pub inverse_is_formed : (p : Problem) → IsValid p → (e : Edit) → IsFormed e → AreClear (checks p e) → Each IsFormed (inverse p e)
 inverse_is_formed p v e g h = inverse_formed p (well_from_valid p v) e g h
 
-each_append : (xs ys : List Edit) → Each IsFormed xs → Each IsFormed ys → Each IsFormed (xs ++ ys)
-each_append [] ys h l = l
-each_append (x ∷ xs) ys h l = (h.0, each_append xs ys h.1 l)
-
 script_well : (p : Problem) → IsWell p → (es : List Edit) → Each IsFormed es → CanApply p es → IsWell (applied p es)
 script_well p w [] g h = w
 script_well p w (e ∷ es) g h = script_well (effect p e) (stays_well p w e g.0 h.0) es g.1 h.1
 
 script_formed : (p : Problem) → IsWell p → (es : List Edit) → Each IsFormed es → CanApply p es → Each IsFormed (undoing p es)
 script_formed p w [] g h = tt
-script_formed p w (e ∷ es) g h = each_append (undoing (effect p e) es) (inverse p e) (script_formed (effect p e) (stays_well p w e g.0 h.0) es g.1 h.1) (inverse_formed p w e g.0 h.0)
+script_formed p w (e ∷ es) g h = each-append IsFormed (undoing (effect p e) es) (inverse p e) (script_formed (effect p e) (stays_well p w e g.0 h.0) es g.1 h.1) (inverse_formed p w e g.0 h.0)
 
 pub scripts_are_undone : (p : Problem) → IsValid p → (es : List Edit) → Each IsFormed es → CanApply p es → AreUndone p es
 scripts_are_undone p v es g h =
