@@ -1,11 +1,9 @@
 pub mod Ascii
 pub mod Borrowed
 pub mod Cutting
-pub mod Mantissa
+pub mod Fronts
 pub mod Maps
-pub mod Marks
 pub mod Naming
-pub mod Plain
 pub mod Sides
 pub mod Tens
 pub mod Whole

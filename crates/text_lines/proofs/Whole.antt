@@ -1,6 +1,7 @@
 -- The number that digits spell does not fall as more are read.
-use Rattle.std.proofs.Common.{◌≡◌, ◌<◌, ◌≤◌, ◌+◌, ◌-◌, ◌*◌, ℕ, Bool, true, false, Some, None, List, [], ◌∷◌, nat_le, if◌then◌else◌, arith, ap, sym}
+use Rattle.std.proofs.Common.{◌≡◌, ◌<◌, ◌≤◌, ◌+◌, ◌-◌, ◌*◌, ℕ, Bool, true, false, Some, None, List, [], ◌∷◌, length, drop, get_or, nat_le, if◌then◌else◌, arith, ap, sym, ◌∙◌}
 use Rattle.std.proofs.lemmas.Bool.{lt-leb}
+use Rattle.std.proofs.lemmas.List.{at_drop_more}
 use Rattle.std.specs.Char.{is_ascii_digit}
 use Rattle.text_rules.specs.Amount.{number_from}
 
@@ -16,7 +17,10 @@ number_grows n (c ∷ cs) =
     omega (arith, here, rest)
 
 -- past the limit it stays there
-pub past_limit : (limit n whole : ℕ) (cs : List ℕ) → limit < n → number_from n cs ≡ whole → None ≡ (if nat_le whole limit then Some whole else None)
-past_limit limit n whole cs lt e =
-    let grown = number_grows n cs in
-    sym (ap (λ b. if b then Some whole else None) (lt-leb whole limit (omega (arith, grown, e))))
+pub past_digit : (limit n : ℕ) (text : List ℕ) (i whole : ℕ) → i < length text → is_ascii_digit (get_or text i 0) ≡ true → limit < 10 * n + (get_or text i 0 - 48) → number_from n (drop i text) ≡ whole
+    → None ≡ (if nat_le whole limit then Some whole else None)
+past_digit limit n text i whole lt digit past e =
+    let here : number_from n (drop i text) ≡ number_from (10 * n + (get_or text i 0 - 48)) (drop (i + 1) text) =
+    at_drop_more (number_from n) text i 0 lt ∙ ap (λ b. number_from (if b then 10 * n + (get_or text i 0 - 48) else n) (drop (i + 1) text)) digit in
+    let grown = number_grows (10 * n + (get_or text i 0 - 48)) (drop (i + 1) text) in
+    sym (ap (λ b. if b then Some whole else None) (lt-leb whole limit (omega (arith, grown, here, e))))

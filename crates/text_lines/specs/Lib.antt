@@ -1,4 +1,5 @@
 pub mod Lines
+pub mod Numbers
 pub mod Once
 pub mod Tells
 pub mod Terms

@@ -1,4 +1,8 @@
 //! Why a text or a line of it stands for nothing, for texts of any grammar: `K` is the kind of fault that the grammar has.
+ghost use Rattle.std.specs.Prelude.{◌≡◌};
+ghost use Rattle.text_lines.specs.declared.fault.TextFault.TheVariants as text;
+ghost use Rattle.text_lines.specs.declared.fault.LineFault.TheVariants as line;
+
 use std::alloc::{AllocError, AllocFailed};
 
 /// The first fault of a text, or want of memory.
@@ -18,10 +22,7 @@ pub enum LineFault<K> {
 }
 
 impl<K: Drop> From<AllocError> for TextFault<K> {
-    ghost use Rattle.std.specs.Prelude.{◌≡◌};
-    ghost use Rattle.text_lines.specs.declared.fault.TextFault.TheVariants.{Memory};
-
-    ghost from_gives = { λ _ e. e ≡ Memory };
+    ghost from_gives = { λ _ e. e ≡ text.Memory };
 
     fn from(_e: AllocError) -> TextFault<K> {
         TextFault::Memory
@@ -29,10 +30,7 @@ impl<K: Drop> From<AllocError> for TextFault<K> {
 }
 
 impl<K: Drop, T: Drop> From<AllocFailed<T>> for TextFault<K> {
-    ghost use Rattle.std.specs.Prelude.{◌≡◌};
-    ghost use Rattle.text_lines.specs.declared.fault.TextFault.TheVariants.{Memory};
-
-    ghost from_gives = { λ _ e. e ≡ Memory };
+    ghost from_gives = { λ _ e. e ≡ text.Memory };
 
     fn from(_e: AllocFailed<T>) -> TextFault<K> {
         TextFault::Memory
@@ -40,10 +38,7 @@ impl<K: Drop, T: Drop> From<AllocFailed<T>> for TextFault<K> {
 }
 
 impl<K: Drop> From<AllocError> for LineFault<K> {
-    ghost use Rattle.std.specs.Prelude.{◌≡◌};
-    ghost use Rattle.text_lines.specs.declared.fault.LineFault.TheVariants.{Memory};
-
-    ghost from_gives = { λ _ e. e ≡ Memory };
+    ghost from_gives = { λ _ e. e ≡ line.Memory };
 
     fn from(_e: AllocError) -> LineFault<K> {
         LineFault::Memory
@@ -51,10 +46,7 @@ impl<K: Drop> From<AllocError> for LineFault<K> {
 }
 
 impl<K: Drop, T: Drop> From<AllocFailed<T>> for LineFault<K> {
-    ghost use Rattle.std.specs.Prelude.{◌≡◌};
-    ghost use Rattle.text_lines.specs.declared.fault.LineFault.TheVariants.{Memory};
-
-    ghost from_gives = { λ _ e. e ≡ Memory };
+    ghost from_gives = { λ _ e. e ≡ line.Memory };
 
     fn from(_e: AllocFailed<T>) -> LineFault<K> {
         LineFault::Memory

@@ -10,20 +10,13 @@ ghost use Rattle.text_lines.specs.View.{texts};
 use crate::line::{has_colon, place_of, tail_of, trim};
 use std::alloc::{AllocError, Global};
 
-fn commas<'a>(alloc: Global, text: &'a [u8]) -> Result<Vec<&'a [u8]>, AllocError>
-    ensures { IfOk result (λ parts. texts parts.items ≡ slice_split (λ c. c == byte ",") text.now) }
+// What stands between the commas.
+fn parts<'a>(alloc: Global, text: &'a [u8]) -> Result<Vec<&'a [u8]>, AllocError>
+    ensures { IfOk result (λ parts. texts parts.items ≡ map trim (slice_split (λ c. c == byte ",") text.now)) }
 {
-    text.split(|c| *c == b',').collect(alloc)
-}
-
-fn trimmed<'a>(alloc: Global, parts: &[&'a [u8]]) -> Result<Vec<&'a [u8]>, AllocError>
-    ensures { IfOk result (λ items. texts items.items ≡ map trim (texts parts.now)) }
-{
-    let mut items = Vec::new(alloc);
-    for part in parts {
-        items.push(trim(*part))?;
-    }
-    Ok(items)
+    text.split(|c| *c == b',')
+        .map(|part| trim(part))
+        .collect(alloc)
 }
 
 /// What stands between the commas behind the colon; none where there is no colon.
@@ -31,8 +24,7 @@ pub fn items_of<'a>(alloc: Global, text: &'a [u8]) -> Result<Vec<&'a [u8]>, Allo
     ensures { IfOk result (λ items. texts items.items ≡ items_of text.now) }
 {
     if has_colon(text) {
-        let parts = commas(alloc, tail_of(text))?;
-        trimmed(alloc, &parts)
+        parts(alloc, tail_of(text))
     } else {
         Ok(Vec::new(alloc))
     }

@@ -39,12 +39,7 @@ pub fn place_of(byte: u8, text: &[u8]) -> usize
     ensures within { result ≤ length text.now }
     ensures place { result ≡ position_or_len (λ c. c == byte) text.now }
 {
-    for (i, c) in text.iter().enumerate() {
-        if *c == byte {
-            return i;
-        }
-    }
-    text.len()
+    text.iter().take_while(|c| **c != byte).count()
 }
 
 /// The line without the carriage return at its end, where it has one.

@@ -26,10 +26,7 @@ fn all_continue(text: &[u8]) -> bool
 pub fn is_name(text: &[u8]) -> bool
     ensures { result ≡ is_name text.now }
 {
-    if text.is_empty() || text.len() > 64 {
-        return false;
-    }
-    begins_name(text[0]) && all_continue(text)
+    !text.is_empty() && text.len() <= 64 && begins_name(text[0]) && all_continue(text)
 }
 
 /// Whether the text is one of the names. It looks at all of them.

@@ -1,10 +1,10 @@
 //! The terms of a line of rates, on both sides of its arrow.
-ghost use Rattle.std.specs.Prelude.{◌≡◌, ◌≤◌, ◌==◌, IfOk, length, filter, map, not, option_map};
+ghost use Rattle.std.specs.Prelude.{◌≡◌, ◌≤◌, IfOk, length, map, option_map};
 ghost use Rattle.std.specs.List.{slice_split, position_or_len};
-ghost use Rattle.text_rules.specs.Blanks.{is_blank};
+ghost use Rattle.std.specs.Str.{bytes_eq};
 ghost use Rattle.text_rules.specs.Field.{tokens_of, terms_of, sides_of};
 ghost use Rattle.text_lines.specs.View.{texts};
-ghost use Rattle.text_lines.specs.Terms.{terms_view, terms_read, both_read, only_two, sides_view, sides_read, begins, is_plus, is_arrow};
+ghost use Rattle.text_lines.specs.Terms.{terms_view, terms_read, both_read, only_two, sides_view, sides_read, begins, is_arrow};
 
 use crate::line::tail_of;
 use std::alloc::{AllocError, Global};
@@ -23,51 +23,21 @@ pub struct Sides<'a> {
     pub outputs: Vec<Term<'a>>,
 }
 
-fn pieces<'a>(alloc: Global, text: &'a [u8]) -> Result<Vec<&'a [u8]>, AllocError>
-    ensures { IfOk result (λ pieces. texts pieces.items ≡ slice_split is_blank text.now) }
-{
-    text.split(|c| *c == b' ' || *c == b'\t').collect(alloc)
-}
-
-fn without_empty<'a>(alloc: Global, pieces: &[&'a [u8]]) -> Result<Vec<&'a [u8]>, AllocError>
-    ensures { IfOk result (λ tokens. texts tokens.items ≡ filter (λ token. not (length token == 0)) (texts pieces.now)) }
-{
-    let mut tokens = Vec::new(alloc);
-    for piece in pieces {
-        if !piece.is_empty() {
-            tokens.push(*piece)?;
-        }
-    }
-    Ok(tokens)
-}
-
 fn tokens_of<'a>(alloc: Global, text: &'a [u8]) -> Result<Vec<&'a [u8]>, AllocError>
     ensures { IfOk result (λ tokens. texts tokens.items ≡ tokens_of text.now) }
 {
-    let pieces = pieces(alloc, text)?;
-    without_empty(alloc, &pieces)
+    text.split(|c| *c == b' ' || *c == b'\t')
+        .filter(|token| !token.is_empty())
+        .collect(alloc)
 }
 
-// The first place of a plus among the tokens, or their number where none is one.
-fn plus_place(tokens: &[&[u8]]) -> usize
+// The first place of the mark among the tokens, or their number where none is it.
+fn place_of(mark: &[u8], tokens: &[&[u8]]) -> usize
     ensures within { result ≤ length tokens.now }
-    ensures place { result ≡ position_or_len is_plus (texts tokens.now) }
+    ensures place { result ≡ position_or_len (λ token. bytes_eq token mark.now) (texts tokens.now) }
 {
     for (i, token) in tokens.iter().enumerate() {
-        if *token == b"+".as_slice() {
-            return i;
-        }
-    }
-    tokens.len()
-}
-
-// The first place of an arrow among the tokens, or their number where none is one.
-fn arrow_place(tokens: &[&[u8]]) -> usize
-    ensures within { result ≤ length tokens.now }
-    ensures place { result ≡ position_or_len is_arrow (texts tokens.now) }
-{
-    for (i, token) in tokens.iter().enumerate() {
-        if *token == b"=>".as_slice() {
+        if *token == mark {
             return i;
         }
     }
@@ -101,7 +71,7 @@ fn terms_of<'a>(alloc: Global, tokens: &[&'a [u8]]) -> Result<Option<Vec<Term<'a
     }
     let mut rest = tokens;
     loop {
-        let at = plus_place(rest);
+        let at = place_of(b"+", rest);
         match term_of(&rest[..at]) {
             Some(term) => terms.push(term)?,
             None => return Ok(None),
@@ -117,12 +87,12 @@ fn terms_of<'a>(alloc: Global, tokens: &[&'a [u8]]) -> Result<Option<Vec<Term<'a
 fn cut_sides<'b, 'a>(tokens: &'b [&'a [u8]]) -> Option<(&'b [&'a [u8]], &'b [&'a [u8]])>
     ensures { option_map (λ cut. (texts cut.0.now, texts cut.1.now)) result ≡ only_two (slice_split is_arrow (texts tokens.now)) }
 {
-    let at = arrow_place(tokens);
+    let at = place_of(b"=>", tokens);
     if at == tokens.len() {
         return None;
     }
     let right = &tokens[at + 1..];
-    if arrow_place(right) < right.len() {
+    if place_of(b"=>", right) < right.len() {
         return None;
     }
     Some((&tokens[..at], right))
@@ -156,12 +126,11 @@ fn read_sides<'a>(
 ) -> Result<Option<Sides<'a>>, AllocError>
     ensures { IfOk result (λ found. option_map sides_view found ≡ both_read (terms_read (terms_of (texts left.now))) (terms_read (terms_of (texts right.now)))) }
 {
-    let inputs = match terms_of(alloc, left)? {
-        Some(terms) => terms,
-        None => return Ok(None),
+    let Some(inputs) = terms_of(alloc, left)? else {
+        return Ok(None);
     };
-    match terms_of(alloc, right)? {
-        Some(outputs) => Ok(Some(Sides { inputs, outputs })),
-        None => Ok(None),
-    }
+    let Some(outputs) = terms_of(alloc, right)? else {
+        return Ok(None);
+    };
+    Ok(Some(Sides { inputs, outputs }))
 }

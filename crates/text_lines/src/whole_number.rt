@@ -14,46 +14,25 @@ fn are_digits(token: &[u8]) -> bool
 fn is_whole(token: &[u8]) -> bool
     ensures { result ≡ is_whole token.now }
 {
-    if !are_digits(token) || token.is_empty() {
-        return false;
-    }
-    token.len() == 1 || token[0] != b'0'
-}
-
-// The number with one more digit, where it is within the limit.
-fn with_unit(limit: u128, number: u128, unit: u128) -> Option<u128>
-    requires { unit < 10 }
-    ensures some { IfSome result (λ n. (n ≡ 10 * number + unit) × (n ≤ limit)) }
-    ensures none { IfNone result (limit < 10 * number + unit) }
-{
-    if unit <= limit && number <= (limit - unit) / 10 {
-        Some(10 * number + unit)
-    } else {
-        None
-    }
-}
-
-fn with_digit(limit: u128, number: u128, c: u8) -> Option<u128>
-    requires { number ≤ limit }
-    ensures some { IfSome result (λ n. (n ≡ (if is_ascii_digit c then 10 * number + (c - 48) else number)) × (n ≤ limit)) }
-    ensures none { IfNone result (limit < (if is_ascii_digit c then 10 * number + (c - 48) else number)) }
-{
-    if c.is_ascii_digit() {
-        with_unit(limit, number, (c - b'0') as u128)
-    } else {
-        Some(number)
-    }
+    are_digits(token) && !token.is_empty() && (token.len() == 1 || token[0] != b'0')
 }
 
 // The number that digits spell, where it is within the limit.
+#[tactic(auto, using(crate::proofs::Whole::past_digit))]
 fn number_within(limit: u128, digits: &[u8]) -> Option<u128>
     ensures { result ≡ (if nat_le (number_of digits.now) limit then Some (number_of digits.now) else None) }
 {
     let mut number: u128 = 0;
     'reading: for c in digits {
-        match with_digit(limit, number, *c) {
-            Some(grown) => number = grown,
-            None => return None,
+        if c.is_ascii_digit() {
+            let unit = (*c - b'0') as u128;
+            if unit > limit {
+                return None;
+            }
+            if number > (limit - unit) / 10 {
+                return None;
+            }
+            number = 10 * number + unit;
         }
     }
     Some(number)

@@ -18,20 +18,20 @@ same_found (Some pairs) = refl
 
 pub returns-in-None : goal.returns-in-None
 returns-in-None c =
-    let at : ℕ = c.plus_place-at.result in
+    let at : ℕ = c.place_of-at.result in
     let rest : List (Bor (List ℕ)) = c.loop-term.rest.now in
     let cut : slice_split is_plus (texts rest) ≡ texts (take at rest) ∷ behind is_plus (texts rest) at =
-    split-first is_plus (texts rest) [] at c.plus_place-at.ensures.place ∙ ap (λ (t : List (List ℕ)). t ∷ behind is_plus (texts rest) at) (take-map (λ (text : Bor (List ℕ)). text.now) at rest) in
+    split-first is_plus (texts rest) [] at c.place_of-at.ensures.place ∙ ap (λ (t : List (List ℕ)). t ∷ behind is_plus (texts rest) at) (take-map (λ (text : Bor (List ℕ)). text.now) at rest) in
     let bad : begins (texts (take at rest)) ≡ None = sym c.in-None.ensures in
     terms-bad (terms_view c.loop-term.terms.items) (texts (take at rest)) (behind is_plus (texts rest) at) _ _ bad cut c.loop-term.invariant
 
 pub loop-term-preserved : goal.loop-term-preserved
 loop-term-preserved c =
-    let at : ℕ = c.plus_place-at.result in
+    let at : ℕ = c.place_of-at.result in
     let rest : List (Bor (List ℕ)) = c.loop-term.rest.now in
-    let lt : at < length (texts rest) = let a = c.plus_place-at.ensures.within in let b = c.if-at-rest.false in omega (arith, length-map rest (λ (text : Bor (List ℕ)). text.now)) in
+    let lt : at < length (texts rest) = let a = c.place_of-at.ensures.within in let b = c.if-at-rest.false in omega (arith, length-map rest (λ (text : Bor (List ℕ)). text.now)) in
     let cut : slice_split is_plus (texts rest) ≡ texts (take at rest) ∷ slice_split is_plus (texts (drop (at + 1) rest)) =
-    split-at is_plus (texts rest) [] at c.plus_place-at.ensures.place lt
+    split-at is_plus (texts rest) [] at c.place_of-at.ensures.place lt
     ∙ ap (λ (t : List (List ℕ)). t ∷ slice_split is_plus (drop (at + 1) (texts rest))) (take-map (λ (text : Bor (List ℕ)). text.now) at rest)
     ∙ ap (λ (t : List (List ℕ)). texts (take at rest) ∷ slice_split is_plus t) (drop-map (λ (text : Bor (List ℕ)). text.now) (at + 1) rest) in
     let good = sym c.in-Some.ensures in
