@@ -151,7 +151,7 @@ fn grown(number: u128, tens: usize) -> Result<u64, TextKind>
     if number > LIMIT || tens > 15 {
         return Err(TextKind::TooLarge);
     }
-    within_limit(number * 10u128.pow(tens as u32))
+    within_limit(number * 10u64.pow(tens as u32) as u128)
 }
 
 #[tactic(auto, using(crate::proofs::Tens::shrunk_far, crate::proofs::Tens::power_fits, crate::proofs::Tens::power_some))]
