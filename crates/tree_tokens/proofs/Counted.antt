@@ -1,10 +1,14 @@
 -- Lines with another number of tokens than their form has.
-use Rattle.std.proofs.Common.{◌≡◌, List, [], ◌∷◌, length, Result, Err, refl}
+use Rattle.std.proofs.Common.{◌≡◌, ◌<◌, List, [], ◌∷◌, length, Result, Err, refl, arith}
 use Rattle.problem_rules.specs.Problem.{Problem}
 use Rattle.tree_text_rules.specs.Line.{Token}
-use Rattle.tree_text_rules.specs.LineRead.{one, two, entry_of}
+use Rattle.tree_text_rules.specs.LineRead.{alone, one, two, entry_of}
 use Rattle.tree_text_rules.specs.declared.TreeKind.{TreeKind}
 use Rattle.tree_text_rules.specs.declared.TreeKind.TheVariants.{BadLine}
+
+pub not_alone : {A : Type 0} (a : A) (tokens : List Token) → 0 < length tokens → alone a tokens ≡ Err BadLine
+not_alone a [] some = absurd (omega arith)
+not_alone a (token ∷ tokens) some = refl
 
 pub not_one : {A : Type 0} (read : Token → Result A TreeKind) (tokens : List Token) → (length tokens ≡ 1 → ⊥) → one read tokens ≡ Err BadLine
 not_one read [] other = refl

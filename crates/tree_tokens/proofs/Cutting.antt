@@ -11,24 +11,24 @@ more_pieces piece [] some = absurd (omega arith)
 more_pieces piece (next ∷ pieces) some = refl
 
 -- a line that is ended by a line feed
-pub line-ended : (rest : List ℕ) (at : ℕ) → at ≡ position_or_len is_feed rest → at < length rest → lines_of rest ≡ record { text = take at rest; ended = true } ∷ lines_of (drop (at + 1) rest)
-line-ended rest at e lt =
+pub line_ended : (rest : List ℕ) (at : ℕ) → at ≡ position_or_len is_feed rest → at < length rest → lines_of rest ≡ record { text = take at rest; ended = true } ∷ lines_of (drop (at + 1) rest)
+line_ended rest at e lt =
     ap lines_from (split-at is_feed rest 0 at e lt)
     ∙ more_pieces (take at rest) (slice_split is_feed (drop (at + 1) rest)) (parts_some is_feed (drop (at + 1) rest))
-
-none_left : (rest : List ℕ) (at : ℕ) → length rest ≤ at → drop at rest ≡ []
-none_left rest at le = grind (arith, common_steps)
 
 last_line : (rest : List ℕ) → 0 < length rest → lines_from (rest ∷ []) ≡ record { text = rest; ended = false } ∷ []
 last_line [] some = absurd (omega arith)
 last_line (c ∷ cs) some = refl
 
 -- the last one, where none ends it
-pub line-open : (rest : List ℕ) (at : ℕ) → 0 < length rest → at ≡ position_or_len is_feed rest → length rest ≤ at → lines_of rest ≡ record { text = rest; ended = false } ∷ lines_of (drop at rest)
-line-open rest at some e le =
+pub line_open : (rest : List ℕ) (at : ℕ) → 0 < length rest → at ≡ position_or_len is_feed rest → length rest ≤ at → lines_of rest ≡ record { text = take at rest; ended = false } ∷ lines_of (drop at rest)
+line_open rest at some e le =
+    let all : take at rest ≡ rest = grind (arith, common_steps) in
+    let none : drop at rest ≡ [] = grind (arith, common_steps) in
     ap lines_from (split-none is_feed rest (omega arith))
     ∙ last_line rest some
-    ∙ ap (λ (left : List ℕ). record { text = rest; ended = false } ∷ lines_of left) (sym (none_left rest at le))
+    ∙ ap (λ (text : List ℕ). record { text = text; ended = false } ∷ []) (sym all)
+    ∙ ap (λ (left : List ℕ). record { text = take at rest; ended = false } ∷ lines_of left) (sym none)
 
 -- a line has a token or more
 pub tokens_some : (text : List ℕ) → 0 < length (slice_split is_space text)

@@ -1,5 +1,5 @@
 -- Values that are read one by one.
-use Rattle.std.proofs.Common.{◌≡◌, ◌<◌, ◌≤◌, List, [], ◌∷◌, Result, Ok, Err, IfErr, refl, sym, ap, ◌∙◌, arith, inl, inr, append_assoc, append-nil, if◌then◌else◌}
+use Rattle.std.proofs.Common.{◌≡◌, ◌<◌, ◌≤◌, List, [], ◌∷◌, Result, Ok, Err, refl, sym, ap, ◌∙◌, arith, inl, inr, append_assoc, append-nil, if◌then◌else◌}
 use Rattle.std.proofs.lemmas.Bool.{cases_lt, le-leb, lt-leb}
 use Rattle.tree_text_rules.specs.Line.{Token}
 use Rattle.tree_text_rules.specs.Token.{kind_number, lesser, both, mapped, each}
@@ -53,17 +53,3 @@ each_on {A} read front next token tokens all whole e cut before =
 pub joined_none : {A : Type 0} (front : Result (List A) TreeKind) → joined front (Ok []) ≡ front
 joined_none {A} (Ok vs) = ap (λ (xs : List A). Ok xs) (append-nil vs)
 joined_none (Err k) = refl
-
--- where each token has the one fault or none
-abbrev pub OnlyFails : {A : Type 0} → TreeKind → Result A TreeKind → Type 0
-OnlyFails kind read = IfErr read (λ other. other ≡ kind)
-
-both_only : {A : Type 0} (kind : TreeKind) → lesser kind kind ≡ kind → (here : Result A TreeKind) (rest : Result (List A) TreeKind) → OnlyFails kind here → OnlyFails kind rest → OnlyFails kind (mapped (λ found. found.0 ∷ found.1) (both here rest))
-both_only kind same (Ok a) (Ok bs) h t = tt
-both_only kind same (Ok a) (Err k) h t = t
-both_only kind same (Err k) (Ok bs) h t = h
-both_only kind same (Err k) (Err l) h t = ap (λ (x : TreeKind). lesser x l) h ∙ ap (λ (x : TreeKind). lesser kind x) t ∙ same
-
-pub each_only : {A : Type 0} (read : Token → Result A TreeKind) (kind : TreeKind) → lesser kind kind ≡ kind → ((token : Token) → OnlyFails kind (read token)) → (tokens : List Token) → OnlyFails kind (each read tokens)
-each_only read kind same one [] = tt
-each_only read kind same one (token ∷ tokens) = both_only kind same (read token) (each read tokens) (one token) (each_only read kind same one tokens)

@@ -1,14 +1,15 @@
 -- Sets of units that are read one by one.
-use Rattle.std.proofs.Common.{◌≡◌, ◌==◌, ◌<◌, ◌≤◌, ◌+◌, ◌&&◌, ℕ, Bool, true, false, cond, nat_lt, nat_le, List, [], ◌∷◌, ◌++◌, Option, Some, None, Result, Ok, Err, refl, sym, ap, ◌∙◌, arith, inl, inr}
+use Rattle.std.proofs.Common.{◌≡◌, ◌==◌, ◌<◌, ◌≤◌, ◌+◌, ◌&&◌, ℕ, Bool, true, false, cond, nat_lt, nat_le, List, [], ◌∷◌, ◌++◌, Result, Ok, Err, refl, sym, ap, ◌∙◌, arith, inl, inr}
 use Rattle.std.proofs.lemmas.Bool.{cases_lt, lt-ltb, le-ltb, le-leb, lt-leb, cond-true, cond-false, ne_eqb}
 use Rattle.number_sets.specs.Sets.{AreBelow, IsRising, IsBelowAll, with_number}
 use Rattle.problem_rules.specs.Problem.{Problem}
 use Rattle.tree_text_rules.specs.Line.{Token}
-use Rattle.tree_text_rules.specs.Token.{both, mapped, each, judged, told, unit_of, is_above_all, is_rising}
+use Rattle.tree_text_rules.specs.Token.{both, mapped, each, judged, unit_of, is_above_all, is_rising}
 use Rattle.tree_text_rules.specs.declared.TreeKind.{TreeKind}
 use Rattle.tree_text_rules.specs.declared.TreeKind.TheVariants.{Order, UnknownName}
 use Rattle.tree_tokens.specs.Joined.{joined, units_with, EndsAt, IsEnd}
-use Rattle.tree_tokens.proofs.Joining.{one_more, joined_none, each_only, OnlyFails}
+use Rattle.tree_tokens.proofs.Failing.{each_fails, told_only}
+use Rattle.tree_tokens.proofs.Joining.{one_more, joined_none}
 
 -- a greater number comes last
 pub with_last : (least u : ℕ) (us : List ℕ) → AreBelow least us → least ≤ u → with_number u us ≡ us ++ u ∷ []
@@ -88,29 +89,17 @@ turned p front next least u us vs token tokens all whole found cut end e same be
     ∙ ap (λ (ts : List Token). units_with front us (each (unit_of p) ts)) (sym cut)
     ∙ before
 
+with_fault : (front : Bool) (us : List ℕ) (kind : TreeKind) → units_with front us (Err kind) ≡ Err kind
+with_fault true us kind = refl
+with_fault false us kind = refl
+
 -- an unknown name is told, whatever comes behind
-unknown_only : (p : Problem) (token : Token) (o : Option ℕ) → OnlyFails UnknownName (told UnknownName o)
-unknown_only p token None = refl
-unknown_only p token (Some u) = tt
-
-unknown_at : (front : Bool) (us : List ℕ) (kind : TreeKind) (rest : Result (List ℕ) TreeKind) → kind ≡ UnknownName → OnlyFails UnknownName rest
-    → units_with front us (mapped {A = ℕ × List ℕ} (λ found. found.0 ∷ found.1) (both (Err kind) rest)) ≡ Err kind
-unknown_at true us kind (Ok vs) e only = refl
-unknown_at true us kind (Err k) e only = ap (λ (x : TreeKind). judged is_rising Order (joined (Ok us) (mapped {A = ℕ × List ℕ} (λ found. found.0 ∷ found.1) (both {A = ℕ} (Err x) (Err k))))) e ∙ ap (λ (x : TreeKind). judged is_rising Order (joined (Ok us) (mapped {A = ℕ × List ℕ} (λ found. found.0 ∷ found.1) (both {A = ℕ} {B = List ℕ} (Err UnknownName) (Err x))))) only ∙ ap (λ (x : TreeKind). Err x) (sym e)
-unknown_at false us kind (Ok vs) e only = refl
-unknown_at false us kind (Err k) e only = ap (λ (x : TreeKind). judged (λ found. false) Order (mapped {A = ℕ × List ℕ} (λ found. found.0 ∷ found.1) (both {A = ℕ} {B = List ℕ} (Err x) (Err k)))) e ∙ ap (λ (x : TreeKind). judged (λ found. false) Order (mapped {A = ℕ × List ℕ} (λ found. found.0 ∷ found.1) (both {A = ℕ} {B = List ℕ} (Err UnknownName) (Err x)))) only ∙ ap (λ (x : TreeKind). Err x) (sym e)
-
-only_kind : (here : Result ℕ TreeKind) (kind : TreeKind) → here ≡ Err kind → OnlyFails UnknownName here → kind ≡ UnknownName
-only_kind (Ok u) kind e only = absurd cc
-only_kind (Err k) kind e only = (let q : k ≡ kind = cc in sym q) ∙ only
-
 pub unknown : (p : Problem) (front : Bool) (us : List ℕ) (kind : TreeKind) (token : Token) (tokens all : List Token) (whole : Result (List ℕ) TreeKind)
     → unit_of p token ≡ Err kind → all ≡ token ∷ tokens → units_with front us (each (unit_of p) all) ≡ whole → whole ≡ Err kind
 unknown p front us kind token tokens all whole found cut before =
     sym before
-    ∙ ap (λ (ts : List Token). units_with front us (each (unit_of p) ts)) cut
-    ∙ ap (λ (here : Result ℕ TreeKind). units_with front us (mapped (λ found. found.0 ∷ found.1) (both here (each (unit_of p) tokens)))) found
-    ∙ unknown_at front us kind (each (unit_of p) tokens) (only_kind (unit_of p token) kind found (unknown_only p token _)) (each_only (unit_of p) UnknownName refl (λ t. unknown_only p t _) tokens)
+    ∙ ap (units_with front us) (each_fails (unit_of p) UnknownName kind token tokens all refl (λ t. told_only UnknownName _) found cut)
+    ∙ with_fault front us kind
 
 -- at the end
 pub rose : (us : List ℕ) (whole : Result (List ℕ) TreeKind) → IsRising us → units_with true us (Ok []) ≡ whole → whole ≡ Ok us

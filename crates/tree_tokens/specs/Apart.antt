@@ -1,10 +1,8 @@
 -- A line that is taken apart into its first word and the tokens behind it.
-use Rattle.std.specs.Prelude.{◌≡◌, Bool, true, false, Option, Some, None, Result, Err, if◌then◌else◌}
+use Rattle.std.specs.Prelude.{◌≡◌, Bool, Option, Some, None, Result, Err, if◌then◌else◌}
 use Rattle.problem_rules.specs.Problem.{Problem}
 use Rattle.tree_rules.specs.Known.{AreUnits}
 use Rattle.tree_text_rules.specs.Line as rules
-use Rattle.tree_text_rules.specs.declared.Word.{Word}
-use Rattle.tree_text_rules.specs.declared.Word.TheVariants.{Node}
 use Rattle.tree_text_rules.specs.declared.TreeKind.{TreeKind}
 use Rattle.tree_text_rules.specs.declared.TreeKind.TheVariants.{BadLine}
 use Rattle.tree_text_rules.specs.Line.{word_of, fields_of, is_formed}
@@ -44,8 +42,3 @@ abbrev pub KnowsOpening : Problem → Opening → Type 0
 KnowsOpening p (Network us) = AreUnits p us
 KnowsOpening p Infeasible = Unit {0}
 KnowsOpening p Unknown = Unit {0}
-
--- the first word of a node's line
-abbrev pub is_node : Option Word → Bool
-is_node (Some Node) = true
-is_node word = false

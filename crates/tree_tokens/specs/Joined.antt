@@ -1,14 +1,9 @@
 -- A list of values that is read token by token: what was read, and what is read of the tokens behind.
 use Rattle.std.specs.Prelude.{◌≡◌, ◌+◌, ℕ, Bool, true, false, List, [], ◌∷◌, ◌++◌, Option, Some, None, Result, Ok, Err}
 use Rattle.number_sets.specs.Sets.{AreBelow}
-use Rattle.tree_text_rules.specs.Token.{lesser, both, mapped, judged, is_rising}
+use Rattle.tree_text_rules.specs.Token.{both, mapped, judged, is_rising}
 use Rattle.tree_text_rules.specs.declared.TreeKind.{TreeKind}
 use Rattle.tree_text_rules.specs.declared.TreeKind.TheVariants.{Order}
-
--- the lesser fault, where one may have been before
-abbrev pub lesser_of : Option TreeKind → TreeKind → TreeKind
-lesser_of None other = other
-lesser_of (Some kind) other = lesser kind other
 
 -- the values that were read, or the fault that was met
 abbrev pub so_far : {A : Type 0} → Option TreeKind → List A → Result (List A) TreeKind

@@ -1,12 +1,12 @@
 //! A line that is taken apart.
-ghost use Rattle.std.specs.Prelude.{◌≡◌, ◌∷◌, ◌<◌, [], IfSome, IfNone, length};
+ghost use Rattle.std.specs.Prelude.{◌≡◌, ◌∷◌, ◌<◌, [], IfOk, IfErr, length};
 ghost use Rattle.tree_text_rules.specs.Line.{word_of, fields_of, is_formed};
 ghost use Rattle.tree_tokens.specs.Apart.{AreParts};
 ghost use Rattle.tree_tokens.specs.View.{line_of, tokens_in};
 
 use crate::cut::{Line, all_have_bytes, first_token, next_token};
 use crate::word::word_named;
-use tree_text_rules::Word;
+use tree_text_rules::{TreeKind, Word};
 
 /// Whether a line has ended and each of its tokens has bytes, the word that it begins with, and what is left behind that.
 #[derive(Clone, Copy)]
@@ -28,26 +28,39 @@ pub fn parts_of<'a>(line: &Line<'a>) -> LineParts<'a>
     }
 }
 
-/// The one token that is left; none exactly where there are more or fewer.
-pub fn only(fields: Option<&[u8]>) -> Option<&[u8]>
-    ensures some { IfSome result (λ token. tokens_in fields.entry ≡ token.now ∷ []) }
-    ensures none { IfNone result (length (tokens_in fields.entry) ≡ 1 → ⊥) }
+/// The first token that is left, and what is left behind it.
+pub fn some_token(fields: Option<&[u8]>) -> Result<(&[u8], Option<&[u8]>), TreeKind>
+    ensures ok { IfOk result (λ found. tokens_in fields.entry ≡ found.0.now ∷ tokens_in found.1) }
+    ensures fault { IfErr result (λ kind. (kind ≡ TreeKind.BadLine) × (tokens_in fields.entry ≡ [])) }
 {
-    let (token, behind) = next_token(fields)?;
-    match next_token(behind) {
-        None => Some(token),
-        Some(_) => None,
+    next_token(fields).ok_or(TreeKind::BadLine)
+}
+
+/// The value, where no token is left.
+pub fn alone<A: Drop>(value: A, fields: Option<&[u8]>) -> Result<A, TreeKind>
+    ensures ok { IfOk result (λ found. (found ≡ value) × (tokens_in fields.entry ≡ [])) }
+    ensures fault { IfErr result (λ kind. (kind ≡ TreeKind.BadLine) × (0 < length (tokens_in fields.entry))) }
+{
+    match next_token(fields) {
+        None => Ok(value),
+        Some(_) => Err(TreeKind::BadLine),
     }
 }
 
-/// The two tokens that are left; none exactly where there are more or fewer.
-pub fn pair(fields: Option<&[u8]>) -> Option<(&[u8], &[u8])>
-    ensures some { IfSome result (λ found. tokens_in fields.entry ≡ found.0.now ∷ found.1.now ∷ []) }
-    ensures none { IfNone result (length (tokens_in fields.entry) ≡ 2 → ⊥) }
+/// The one token that is left.
+pub fn only(fields: Option<&[u8]>) -> Result<&[u8], TreeKind>
+    ensures ok { IfOk result (λ token. tokens_in fields.entry ≡ token.now ∷ []) }
+    ensures fault { IfErr result (λ kind. (kind ≡ TreeKind.BadLine) × (length (tokens_in fields.entry) ≡ 1 → ⊥)) }
 {
-    let (token, behind) = next_token(fields)?;
-    match only(behind) {
-        Some(next) => Some((token, next)),
-        None => None,
-    }
+    let (token, behind) = some_token(fields)?;
+    alone(token, behind)
+}
+
+/// The two tokens that are left.
+pub fn pair(fields: Option<&[u8]>) -> Result<(&[u8], &[u8]), TreeKind>
+    ensures ok { IfOk result (λ found. tokens_in fields.entry ≡ found.0.now ∷ found.1.now ∷ []) }
+    ensures fault { IfErr result (λ kind. (kind ≡ TreeKind.BadLine) × (length (tokens_in fields.entry) ≡ 2 → ⊥)) }
+{
+    let (token, behind) = some_token(fields)?;
+    Ok((token, only(behind)?))
 }

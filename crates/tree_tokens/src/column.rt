@@ -13,72 +13,19 @@ use integer_laws::Which;
 use pns_problem::Problem;
 use tree_text_rules::TreeKind;
 
-fn begins(token: &[u8], front: &[u8]) -> bool
-    ensures { result ≡ rules.begins token.now front.now }
-{
-    token.starts_with(front)
-}
-
-// What stands behind the first two bytes.
-fn behind_two(token: &[u8]) -> &[u8]
-    ensures { result.now ≡ drop 2 token.now }
-{
-    if token.len() < 2 { &[] } else { &token[2..] }
-}
-
-fn column_x(problem: &Problem, name: &[u8]) -> Result<Column, TreeKind>
-    ensures value { result ≡ rules.mapped columns.X (rules.unit_of problem.now name.now) }
-    ensures known { IfOk result (KnowsColumn problem.now) }
-{
-    match unit_of(problem, name) {
-        Ok(unit) => Ok(Column::X(unit)),
-        Err(kind) => Err(kind),
-    }
-}
-
-fn column_s(problem: &Problem, name: &[u8]) -> Result<Column, TreeKind>
-    ensures value { result ≡ rules.mapped columns.S (rules.unit_of problem.now name.now) }
-    ensures known { IfOk result (KnowsColumn problem.now) }
-{
-    match unit_of(problem, name) {
-        Ok(unit) => Ok(Column::S(unit)),
-        Err(kind) => Err(kind),
-    }
-}
-
-fn column_t(problem: &Problem, name: &[u8]) -> Result<Column, TreeKind>
-    ensures value { result ≡ rules.mapped columns.T (rules.material_of problem.now name.now) }
-    ensures known { IfOk result (KnowsColumn problem.now) }
-{
-    match material_of(problem, name) {
-        Ok(material) => Ok(Column::T(material)),
-        Err(kind) => Err(kind),
-    }
-}
-
-fn column_w(problem: &Problem, name: &[u8]) -> Result<Column, TreeKind>
-    ensures value { result ≡ rules.mapped columns.W (rules.material_of problem.now name.now) }
-    ensures known { IfOk result (KnowsColumn problem.now) }
-{
-    match material_of(problem, name) {
-        Ok(material) => Ok(Column::W(material)),
-        Err(kind) => Err(kind),
-    }
-}
-
 /// A column.
 pub fn column_of(problem: &Problem, token: &[u8]) -> Result<Column, TreeKind>
     ensures value { result ≡ rules.column_of problem.now token.now }
     ensures known { IfOk result (KnowsColumn problem.now) }
 {
-    if begins(token, b"x:") {
-        column_x(problem, behind_two(token))
-    } else if begins(token, b"s:") {
-        column_s(problem, behind_two(token))
-    } else if begins(token, b"t:") {
-        column_t(problem, behind_two(token))
-    } else if begins(token, b"w:") {
-        column_w(problem, behind_two(token))
+    if let Some(name) = token.strip_prefix(b"x:") {
+        Ok(Column::X(unit_of(problem, name)?))
+    } else if let Some(name) = token.strip_prefix(b"s:") {
+        Ok(Column::S(unit_of(problem, name)?))
+    } else if let Some(name) = token.strip_prefix(b"t:") {
+        Ok(Column::T(material_of(problem, name)?))
+    } else if let Some(name) = token.strip_prefix(b"w:") {
+        Ok(Column::W(material_of(problem, name)?))
     } else if token == b"right".as_slice() {
         Ok(Column::Right)
     } else if token == b"scale".as_slice() {
@@ -94,11 +41,9 @@ pub fn row_of(problem: &Problem, token: &[u8]) -> Result<Option<Column>, TreeKin
     ensures known { IfOk result (KnowsRow problem.now) }
 {
     if token == b"cost".as_slice() {
-        return Ok(None);
-    }
-    match column_of(problem, token) {
-        Ok(column) => Ok(Some(column)),
-        Err(kind) => Err(kind),
+        Ok(None)
+    } else {
+        Ok(Some(column_of(problem, token)?))
     }
 }
 

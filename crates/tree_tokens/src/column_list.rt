@@ -9,7 +9,7 @@ ghost use Rattle.tree_tokens.specs.View.{tokens_in};
 
 use crate::column::column_of;
 use crate::cut::first_token;
-use crate::fault_order::lesser_of;
+use crate::fault_order::lesser;
 use crate::line_fault::LineFault;
 use flow_rules::Column;
 use pns_problem::Problem;
@@ -27,15 +27,13 @@ fn take_column(
     ensures next { IfOk result (λ next. so_far next columns.new.items ≡ joined (so_far fault columns.old.items) (rules.mapped (λ a. a ∷ []) (rules.column_of problem.now token.now))) }
     ensures known { OnOk result (Each (KnowsColumn problem.now) columns.new.items) }
 {
-    match column_of(problem, token) {
-        Err(kind) => Ok(Some(lesser_of(fault, kind))),
-        Ok(column) => match fault {
-            Some(kind) => Ok(Some(kind)),
-            None => {
-                columns.push(column)?;
-                Ok(None)
-            }
-        },
+    match (fault, column_of(problem, token)) {
+        (None, Ok(column)) => {
+            columns.push(column)?;
+            Ok(None)
+        }
+        (None, Err(kind)) | (Some(kind), Ok(_)) => Ok(Some(kind)),
+        (Some(kind), Err(other)) => Ok(Some(lesser(kind, other))),
     }
 }
 

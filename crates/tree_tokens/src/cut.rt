@@ -14,6 +14,7 @@ pub struct Line<'a> {
 }
 
 /// The first line of what is left of a text, and how many bytes it takes with its line feed.
+#[tactic(auto, using(crate::proofs::Cutting::line_ended, crate::proofs::Cutting::line_open))]
 pub fn first_line(rest: &[u8]) -> (Line<'_>, usize)
     requires { 0 < length rest.now }
     ensures cut { lines_of rest.now ≡ line_of result.0 ∷ lines_of (drop result.1 rest.now) }
@@ -21,18 +22,11 @@ pub fn first_line(rest: &[u8]) -> (Line<'_>, usize)
     ensures within { result.1 ≤ length rest.now }
 {
     let at = place_of(b'\n', rest);
+    let text = &rest[..at];
     if at < rest.len() {
-        let line = Line {
-            text: &rest[..at],
-            ended: true,
-        };
-        (line, at + 1)
+        (Line { text, ended: true }, at + 1)
     } else {
-        let line = Line {
-            text: rest,
-            ended: false,
-        };
-        (line, at)
+        (Line { text, ended: false }, at)
     }
 }
 
@@ -54,17 +48,7 @@ pub fn next_token(rest: Option<&[u8]>) -> Option<(&[u8], Option<&[u8]>)>
     ensures some { IfSome result (λ found. tokens_in rest.entry ≡ found.0.now ∷ tokens_in found.1) }
     ensures none { IfNone result (tokens_in rest.entry ≡ []) }
 {
-    match rest {
-        None => None,
-        Some(text) => Some(first_token(text)),
-    }
-}
-
-fn spaces_in(text: &[u8]) -> usize
-    ensures within { result ≤ length text.now }
-    ensures count { result ≡ count_by is_space text.now }
-{
-    text.iter().filter(|c| **c == b' ').count()
+    Some(first_token(rest?))
 }
 
 /// How many tokens what is left of a line has.
@@ -73,7 +57,7 @@ pub fn token_count(rest: Option<&[u8]>) -> usize
 {
     match rest {
         None => 0,
-        Some(text) => spaces_in(text) + 1,
+        Some(text) => text.iter().filter(|c| **c == b' ').count() + 1,
     }
 }
 
@@ -81,13 +65,5 @@ pub fn token_count(rest: Option<&[u8]>) -> usize
 pub fn all_have_bytes(text: &[u8]) -> bool
     ensures { result ≡ list_all has_bytes (slice_split is_space text.now) }
 {
-    let mut rest = Some(text);
-    'looking: while let Some(left) = rest {
-        let (token, behind) = first_token(left);
-        if token.is_empty() {
-            return false;
-        }
-        rest = behind;
-    }
-    true
+    text.split(|c| *c == b' ').all(|token| !token.is_empty())
 }

@@ -10,130 +10,39 @@ ghost use Rattle.tree_tokens.specs.Apart.{formed_by};
 ghost use Rattle.text_lines.specs.Tells.{TellsLine};
 ghost use Rattle.tree_tokens.specs.View.{tokens_in};
 
-use crate::apart::LineParts;
+use crate::apart::{LineParts, alone, only, pair};
 use crate::cut::next_token;
+use crate::fault_order::both;
 use crate::line_fault::LineFault;
 use crate::list::numbers_of;
-use crate::some_tokens::{material_and_children, one_exclusion, one_material, one_unit};
+use crate::name::{exclusion_of, material_of, unit_of};
+use crate::number::children_of;
 use branch_tree::{End, Multipliers, Scaled};
 use pns_problem::Problem;
 use std::alloc::Global;
 use tree_text_rules::{TreeKind, Word};
 
-fn dead(problem: &Problem, fields: Option<&[u8]>) -> Result<End, LineFault>
-    ensures ok { IfOk result (λ end. reads.end_by problem.now (Some Word.Dead) (tokens_in fields.entry) ≡ Ok (end_of end)) }
-    ensures known { IfOk result (λ end. KnowsEnd problem.now (end_of end)) }
-    ensures whole { IfOk result (λ end. HasChildren (end_of end)) }
-    ensures fault { IfErr result (TellsLine (reads.end_by problem.now (Some Word.Dead) (tokens_in fields.entry))) }
-{
-    match one_material(problem, fields) {
-        Ok(material) => Ok(End::Dead(material)),
-        Err(kind) => Err(LineFault::Kind(kind)),
-    }
-}
-
-fn clash(problem: &Problem, fields: Option<&[u8]>) -> Result<End, LineFault>
-    ensures ok { IfOk result (λ end. reads.end_by problem.now (Some Word.Clash) (tokens_in fields.entry) ≡ Ok (end_of end)) }
-    ensures known { IfOk result (λ end. KnowsEnd problem.now (end_of end)) }
-    ensures whole { IfOk result (λ end. HasChildren (end_of end)) }
-    ensures fault { IfErr result (TellsLine (reads.end_by problem.now (Some Word.Clash) (tokens_in fields.entry))) }
-{
-    match one_exclusion(problem, fields) {
-        Ok(exclusion) => Ok(End::Clash(exclusion)),
-        Err(kind) => Err(LineFault::Kind(kind)),
-    }
-}
-
-fn refuted(alloc: Global, problem: &Problem, fields: Option<&[u8]>) -> Result<End, LineFault>
-    ensures ok { IfOk result (λ end. reads.end_by problem.now (Some Word.Refuted) (tokens_in fields.entry) ≡ Ok (end_of end)) }
-    ensures known { IfOk result (λ end. KnowsEnd problem.now (end_of end)) }
-    ensures whole { IfOk result (λ end. HasChildren (end_of end)) }
-    ensures fault { IfErr result (TellsLine (reads.end_by problem.now (Some Word.Refuted) (tokens_in fields.entry))) }
-{
-    let _materials = problem.materials();
-    match numbers_of(alloc, fields) {
-        Ok(numbers) => Ok(End::Refuted(Multipliers::from_vec(numbers))),
-        Err(fault) => Err(fault),
-    }
-}
-
-fn bound(alloc: Global, problem: &Problem, fields: Option<&[u8]>) -> Result<End, LineFault>
-    ensures ok { IfOk result (λ end. reads.end_by problem.now (Some Word.Bound) (tokens_in fields.entry) ≡ Ok (end_of end)) }
-    ensures known { IfOk result (λ end. KnowsEnd problem.now (end_of end)) }
-    ensures whole { IfOk result (λ end. HasChildren (end_of end)) }
-    ensures fault { IfErr result (TellsLine (reads.end_by problem.now (Some Word.Bound) (tokens_in fields.entry))) }
-{
-    let _materials = problem.materials();
-    if next_token(fields).is_none() {
-        return Err(LineFault::Kind(TreeKind::BadLine));
-    }
-    match numbers_of(alloc, fields) {
-        Ok(numbers) => {
-            let scaled = Scaled::from_vec(numbers);
-            scaled.are_in_range();
-            Ok(End::Bound(scaled))
-        }
-        Err(fault) => Err(fault),
-    }
-}
-
-fn branch(problem: &Problem, fields: Option<&[u8]>) -> Result<End, LineFault>
-    ensures ok { IfOk result (λ end. reads.end_by problem.now (Some Word.Branch) (tokens_in fields.entry) ≡ Ok (end_of end)) }
-    ensures known { IfOk result (λ end. KnowsEnd problem.now (end_of end)) }
-    ensures whole { IfOk result (λ end. HasChildren (end_of end)) }
-    ensures fault { IfErr result (TellsLine (reads.end_by problem.now (Some Word.Branch) (tokens_in fields.entry))) }
-{
-    match material_and_children(problem, fields) {
-        Ok((material, children)) => Ok(End::Branch { material, children }),
-        Err(kind) => Err(LineFault::Kind(kind)),
-    }
-}
-
-fn either(problem: &Problem, fields: Option<&[u8]>) -> Result<End, LineFault>
-    ensures ok { IfOk result (λ end. reads.end_by problem.now (Some Word.Either) (tokens_in fields.entry) ≡ Ok (end_of end)) }
-    ensures known { IfOk result (λ end. KnowsEnd problem.now (end_of end)) }
-    ensures whole { IfOk result (λ end. HasChildren (end_of end)) }
-    ensures fault { IfErr result (TellsLine (reads.end_by problem.now (Some Word.Either) (tokens_in fields.entry))) }
-{
-    match one_unit(problem, fields) {
-        Ok(unit) => Ok(End::Either(unit)),
-        Err(kind) => Err(LineFault::Kind(kind)),
-    }
-}
-
-fn open(problem: &Problem, fields: Option<&[u8]>) -> Result<End, LineFault>
-    ensures ok { IfOk result (λ end. reads.end_by problem.now (Some Word.Open) (tokens_in fields.entry) ≡ Ok (end_of end)) }
-    ensures known { IfOk result (λ end. KnowsEnd problem.now (end_of end)) }
-    ensures whole { IfOk result (λ end. HasChildren (end_of end)) }
-    ensures fault { IfErr result (TellsLine (reads.end_by problem.now (Some Word.Open) (tokens_in fields.entry))) }
-{
-    let _materials = problem.materials();
-    match next_token(fields) {
-        None => Ok(End::Open),
-        Some(_) => Err(LineFault::Kind(TreeKind::BadLine)),
-    }
-}
-
-fn end_fields(
-    alloc: Global,
-    problem: &Problem,
-    word: Option<Word>,
-    fields: Option<&[u8]>,
-) -> Result<End, LineFault>
+// The end of a line that has no list of numbers.
+#[tactic(auto, using(crate::proofs::Counted::not_alone, crate::proofs::Counted::not_one, crate::proofs::Counted::not_two))]
+fn short_end(problem: &Problem, word: Option<Word>, fields: Option<&[u8]>) -> Result<End, TreeKind>
+    requires refuted { word ≡ Some Word.Refuted → ⊥ }
+    requires bound { word ≡ Some Word.Bound → ⊥ }
     ensures ok { IfOk result (λ end. reads.end_by problem.now word (tokens_in fields.entry) ≡ Ok (end_of end)) }
     ensures known { IfOk result (λ end. KnowsEnd problem.now (end_of end)) }
     ensures whole { IfOk result (λ end. HasChildren (end_of end)) }
-    ensures fault { IfErr result (TellsLine (reads.end_by problem.now word (tokens_in fields.entry))) }
+    ensures fault { IfErr result (λ kind. reads.end_by problem.now word (tokens_in fields.entry) ≡ Err kind) }
 {
     match word {
-        Some(Word::Dead) => dead(problem, fields),
-        Some(Word::Clash) => clash(problem, fields),
-        Some(Word::Refuted) => refuted(alloc, problem, fields),
-        Some(Word::Bound) => bound(alloc, problem, fields),
-        Some(Word::Branch) => branch(problem, fields),
-        Some(Word::Either) => either(problem, fields),
-        Some(Word::Open) => open(problem, fields),
-        _ => Err(LineFault::Kind(TreeKind::BadLine)),
+        Some(Word::Dead) => Ok(End::Dead(material_of(problem, only(fields)?)?)),
+        Some(Word::Clash) => Ok(End::Clash(exclusion_of(problem, only(fields)?)?)),
+        Some(Word::Branch) => {
+            let (material, children) = pair(fields)?;
+            let (material, children) = both(material_of(problem, material), children_of(children))?;
+            Ok(End::Branch { material, children })
+        }
+        Some(Word::Either) => Ok(End::Either(unit_of(problem, only(fields)?)?)),
+        Some(Word::Open) => alone(End::Open, fields),
+        _ => Err(TreeKind::BadLine),
     }
 }
 
@@ -144,9 +53,22 @@ pub fn end_line(alloc: Global, problem: &Problem, line: &LineParts) -> Result<En
     ensures whole { IfOk result (λ end. HasChildren (end_of end)) }
     ensures fault { IfErr result (TellsLine (formed_by line.now.formed (reads.end_by problem.now line.now.word (tokens_in line.now.fields)))) }
 {
-    if line.formed {
-        end_fields(alloc, problem, line.word, line.fields)
-    } else {
-        Err(LineFault::Kind(TreeKind::BadLine))
+    if !line.formed {
+        return Err(LineFault::Kind(TreeKind::BadLine));
+    }
+    match line.word {
+        Some(Word::Refuted) => {
+            let numbers = numbers_of(alloc, line.fields)?;
+            Ok(End::Refuted(Multipliers::from_vec(numbers)))
+        }
+        Some(Word::Bound) => {
+            if next_token(line.fields).is_none() {
+                return Err(LineFault::Kind(TreeKind::BadLine));
+            }
+            let scaled = Scaled::from_vec(numbers_of(alloc, line.fields)?);
+            scaled.are_in_range();
+            Ok(End::Bound(scaled))
+        }
+        word => short_end(problem, word, line.fields).map_err(LineFault::Kind),
     }
 }

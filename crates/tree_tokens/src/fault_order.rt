@@ -1,7 +1,6 @@
 //! Which of several faults is told.
 ghost use Rattle.std.specs.Prelude.{◌≡◌, Ok, IfOk};
 ghost use Rattle.tree_text_rules.specs.Token.{kind_number, lesser, both};
-ghost use Rattle.tree_tokens.specs.Joined.{lesser_of};
 
 use tree_text_rules::TreeKind;
 
@@ -32,16 +31,6 @@ pub fn lesser(kind: TreeKind, other: TreeKind) -> TreeKind
     }
 }
 
-/// The lesser fault, where one may have been before.
-pub fn lesser_of(fault: Option<TreeKind>, other: TreeKind) -> TreeKind
-    ensures { result ≡ lesser_of fault other }
-{
-    match fault {
-        Some(kind) => lesser(kind, other),
-        None => other,
-    }
-}
-
 /// Both of two values, or the lesser fault.
 pub fn both<A: Copy, B: Copy>(
     first: Result<A, TreeKind>,
@@ -50,14 +39,9 @@ pub fn both<A: Copy, B: Copy>(
     ensures value { result ≡ both first second }
     ensures parts { IfOk result (λ found. (first ≡ Ok found.0) × (second ≡ Ok found.1)) }
 {
-    match first {
-        Ok(a) => match second {
-            Ok(b) => Ok((a, b)),
-            Err(kind) => Err(kind),
-        },
-        Err(kind) => match second {
-            Ok(_) => Err(kind),
-            Err(other) => Err(lesser(kind, other)),
-        },
+    match (first, second) {
+        (Ok(a), Ok(b)) => Ok((a, b)),
+        (Err(kind), Ok(_)) | (Ok(_), Err(kind)) => Err(kind),
+        (Err(kind), Err(other)) => Err(lesser(kind, other)),
     }
 }

@@ -1,8 +1,8 @@
 //! One line of a branch tree's text: where it ends, its tokens, and what it stands for by the place where it comes.
 //!
 //! A line is a borrowed slice, and its tokens are cut as they are needed, so that nothing but the numbers and columns of a line
-//! takes memory. Modules: `cut` (lines and tokens), `apart` (a line's first word and what stands behind it), `word`, `number`,
-//! `name`, `column` (one token), `some_tokens` (one or two), `list`, `unit_list`, `column_list` (all that are left), `place`, and
+//! takes memory. Modules: `cut` (lines and tokens), `apart` (a line's first word and the tokens behind it), `word`, `number`,
+//! `name`, `column` (one token), `list`, `unit_list`, `column_list` (all that are left), `place`, and
 //! the lines: `claim_line`, `node_line`, `steps`, `ends`, `tail_line`. `fault_order` tells the least of several faults. Texts that have
 //! other lines beside those of a tree read their tokens by the same calls.
 #![tactic(auto)]
@@ -21,7 +21,6 @@ mod node_line;
 mod number;
 mod opening;
 mod place;
-mod some_tokens;
 mod steps;
 mod tail_line;
 mod unit_list;
@@ -34,8 +33,7 @@ pub use ends::end_line;
 pub use fault_order::lesser;
 pub use line_fault::LineFault;
 pub use node_line::{option_line, root_line};
-pub use number::children_of;
+pub use number::{children_of, one_count};
 pub use opening::{Opening, TailOpening};
-pub use some_tokens::one_count;
 pub use steps::step_line;
 pub use tail_line::{close_line, nonbasic_line, place_line, tail_opening_line};

@@ -13,10 +13,7 @@ pub fn unit_of(problem: &Problem, token: &[u8]) -> Result<u32, TreeKind>
 {
     problem.is_valid();
     match str::from_utf8(token) {
-        Ok(name) => match problem.unit_named(name) {
-            Some(unit) => Ok(unit),
-            None => Err(TreeKind::UnknownName),
-        },
+        Ok(name) => problem.unit_named(name).ok_or(TreeKind::UnknownName),
         Err(_) => Err(TreeKind::UnknownName),
     }
 }
@@ -28,10 +25,7 @@ pub fn material_of(problem: &Problem, token: &[u8]) -> Result<u32, TreeKind>
 {
     problem.is_valid();
     match str::from_utf8(token) {
-        Ok(name) => match problem.material_named(name) {
-            Some(material) => Ok(material),
-            None => Err(TreeKind::UnknownName),
-        },
+        Ok(name) => problem.material_named(name).ok_or(TreeKind::UnknownName),
         Err(_) => Err(TreeKind::UnknownName),
     }
 }

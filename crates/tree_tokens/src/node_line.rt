@@ -1,11 +1,10 @@
 //! The lines that begin nodes.
-ghost use Rattle.std.specs.Prelude.{◌≡◌, ℕ, List, [], Ok, Err, IfOk, IfErr};
+ghost use Rattle.std.specs.Prelude.{◌≡◌, [], Ok, Err, IfOk, IfErr};
 ghost use Rattle.tree_rules.specs.Known.{AreUnits};
 ghost use Rattle.tree_text_rules.specs.LineRead as reads;
 ghost use Rattle.tree_tokens.specs.View.{tokens_in};
 
-use crate::apart::LineParts;
-use crate::cut::next_token;
+use crate::apart::{LineParts, alone};
 use crate::unit_list::units_of;
 use pns_problem::Problem;
 use tree_text_rules::{TreeKind, Word};
@@ -18,48 +17,22 @@ pub fn option_line(problem: &Problem, line: &LineParts) -> Result<UnitSet, TreeK
     ensures fault { IfErr result (λ kind. reads.option_by problem.now line.now.word (tokens_in line.now.fields) line.now.formed ≡ Err kind) }
 {
     match line.word {
-        Some(Word::Node) => {
-            if line.formed {
-                units_of(problem, line.fields)
-            } else {
-                Err(TreeKind::BadLine)
-            }
-        }
-        Some(Word::Spent) => Err(TreeKind::FewerNodes),
-        Some(Word::Past) => Err(TreeKind::FewerNodes),
-        Some(Word::End) => Err(TreeKind::FewerNodes),
+        Some(Word::Node) if line.formed => units_of(problem, line.fields),
+        Some(Word::Spent | Word::Past | Word::End) => Err(TreeKind::FewerNodes),
         _ => Err(TreeKind::BadLine),
     }
 }
 
-fn no_units(fields: Option<&[u8]>) -> Result<UnitSet, TreeKind>
-    ensures ok { IfOk result (λ us. reads.alone {A = List ℕ} [] (tokens_in fields.entry) ≡ Ok us) }
-    ensures none { IfOk result (λ us. us ≡ []) }
-    ensures fault { IfErr result (λ kind. reads.alone {A = List ℕ} [] (tokens_in fields.entry) ≡ Err kind) }
-{
-    match next_token(fields) {
-        None => Ok(UnitSet::empty()),
-        Some(_) => Err(TreeKind::BadLine),
-    }
-}
-
 /// The root's line, which has no names.
+#[tactic(auto, using(crate::proofs::Counted::not_alone))]
 pub fn root_line(line: &LineParts) -> Result<UnitSet, TreeKind>
     ensures ok { IfOk result (λ us. reads.root_by line.now.word (tokens_in line.now.fields) line.now.formed ≡ Ok us) }
     ensures none { IfOk result (λ us. us ≡ []) }
     ensures fault { IfErr result (λ kind. reads.root_by line.now.word (tokens_in line.now.fields) line.now.formed ≡ Err kind) }
 {
     match line.word {
-        Some(Word::Node) => {
-            if line.formed {
-                no_units(line.fields)
-            } else {
-                Err(TreeKind::BadLine)
-            }
-        }
-        Some(Word::Spent) => Err(TreeKind::FewerNodes),
-        Some(Word::Past) => Err(TreeKind::FewerNodes),
-        Some(Word::End) => Err(TreeKind::FewerNodes),
+        Some(Word::Node) if line.formed => alone(UnitSet::empty(), line.fields),
+        Some(Word::Spent | Word::Past | Word::End) => Err(TreeKind::FewerNodes),
         _ => Err(TreeKind::BadLine),
     }
 }

@@ -1,57 +1,15 @@
 //! Whole numbers.
-ghost use Rattle.std.specs.Prelude.{◌≡◌, ◌<◌, ◌≤◌, ◌≤ℤ◌, ◌-◌, ◌^◌, pos, negsuc, IfOk, IfSome, option_map};
+ghost use Rattle.std.specs.Prelude.{◌≡◌, ◌≤◌, ◌≤ℤ◌, pos, IfOk, IfSome};
 ghost use Rattle.integer_laws.specs.Range.{InRange};
+ghost use Rattle.tree_text_rules.specs.LineRead.{one};
 ghost use Rattle.tree_text_rules.specs.Token as rules;
+ghost use Rattle.tree_tokens.specs.View.{tokens_in};
 
+use crate::apart::only;
 use text_lines::whole_number::whole_within;
 use tree_text_rules::TreeKind;
 
 const GREATEST: u128 = 170_141_183_460_469_231_731_687_303_715_884_105_727;
-
-fn below_zero(number: u128) -> i128
-    requires some { 1 ≤ number }
-    requires in_range { number < 2 ^ 127 }
-    ensures value { result ≡ negsuc (number - 1) }
-    ensures range { InRange result }
-{
-    -(number as i128)
-}
-
-fn not_below_zero(number: u128) -> i128
-    requires { number < 2 ^ 127 }
-    ensures value { result ≡ pos number }
-    ensures range { InRange result }
-{
-    number as i128
-}
-
-fn negative_of(found: Option<u128>) -> Option<i128>
-    requires { IfSome found (λ n. n < 2 ^ 127) }
-    ensures value { result ≡ rules.negative_of found }
-    ensures range { IfSome result InRange }
-{
-    match found {
-        None => None,
-        Some(number) => {
-            if 1 <= number {
-                Some(below_zero(number))
-            } else {
-                None
-            }
-        }
-    }
-}
-
-fn positive_of(found: Option<u128>) -> Option<i128>
-    requires { IfSome found (λ n. n < 2 ^ 127) }
-    ensures value { result ≡ option_map pos found }
-    ensures range { IfSome result InRange }
-{
-    match found {
-        None => None,
-        Some(number) => Some(not_below_zero(number)),
-    }
-}
 
 fn whole_number(token: &[u8]) -> Option<i128>
     ensures value { result ≡ rules.whole_number token.now }
@@ -59,8 +17,11 @@ fn whole_number(token: &[u8]) -> Option<i128>
 {
     match token {
         [] => None,
-        [b'-', digits @ ..] => negative_of(whole_within(GREATEST, digits)),
-        _ => positive_of(whole_within(GREATEST, token)),
+        [b'-', digits @ ..] => match whole_within(GREATEST, digits)? {
+            0 => None,
+            number => Some(-(number as i128)),
+        },
+        _ => Some(whole_within(GREATEST, token)? as i128),
     }
 }
 
@@ -69,10 +30,7 @@ pub fn number_of(token: &[u8]) -> Result<i128, TreeKind>
     ensures value { result ≡ rules.number_of token.now }
     ensures range { IfOk result InRange }
 {
-    match whole_number(token) {
-        Some(number) => Ok(number),
-        None => Err(TreeKind::BadNumber),
-    }
+    whole_number(token).ok_or(TreeKind::BadNumber)
 }
 
 /// What sizes and cost are over, at least 1.
@@ -81,15 +39,9 @@ pub fn denominator_of(token: &[u8]) -> Result<i128, TreeKind>
     ensures range { IfOk result InRange }
     ensures positive { IfOk result (λ d. pos 1 ≤ℤ d) }
 {
-    match number_of(token) {
-        Ok(number) => {
-            if 1 <= number {
-                Ok(number)
-            } else {
-                Err(TreeKind::BadNumber)
-            }
-        }
-        Err(kind) => Err(kind),
+    match number_of(token)? {
+        number if 1 <= number => Ok(number),
+        _ => Err(TreeKind::BadNumber),
     }
 }
 
@@ -97,10 +49,16 @@ pub fn denominator_of(token: &[u8]) -> Result<i128, TreeKind>
 pub fn count_of(token: &[u8]) -> Result<u32, TreeKind>
     ensures { result ≡ rules.count_of token.now }
 {
-    match whole_within(4_294_967_295, token) {
-        Some(number) => Ok(number as u32),
-        None => Err(TreeKind::BadNumber),
-    }
+    let number = whole_within(4_294_967_295, token).ok_or(TreeKind::BadNumber)?;
+    Ok(number as u32)
+}
+
+/// The number of a node or of a step, where no other token is left.
+#[tactic(auto, using(crate::proofs::Counted::not_one))]
+pub fn one_count(fields: Option<&[u8]>) -> Result<u32, TreeKind>
+    ensures { result ≡ one rules.count_of (tokens_in fields.entry) }
+{
+    count_of(only(fields)?)
 }
 
 /// How many children a branch has, at least 1.
@@ -108,15 +66,9 @@ pub fn children_of(token: &[u8]) -> Result<u32, TreeKind>
     ensures value { result ≡ rules.children_of token.now }
     ensures some { IfOk result (λ count. 1 ≤ count) }
 {
-    match count_of(token) {
-        Ok(count) => {
-            if 1 <= count {
-                Ok(count)
-            } else {
-                Err(TreeKind::BadNumber)
-            }
-        }
-        Err(kind) => Err(kind),
+    match count_of(token)? {
+        0 => Err(TreeKind::BadNumber),
+        count => Ok(count),
     }
 }
 
@@ -124,8 +76,5 @@ pub fn children_of(token: &[u8]) -> Result<u32, TreeKind>
 pub fn options_of(token: &[u8]) -> Result<u128, TreeKind>
     ensures { result ≡ rules.options_of token.now }
 {
-    match whole_within(u128::MAX, token) {
-        Some(number) => Ok(number),
-        None => Err(TreeKind::BadNumber),
-    }
+    whole_within(u128::MAX, token).ok_or(TreeKind::BadNumber)
 }

@@ -1,15 +1,24 @@
-use Rattle.std.proofs.Common.{ap, ◌∙◌}
-use Rattle.tree_text_rules.specs.Token as rules
-use Rattle.tree_tokens.specs.Joined.{so_far}
+use Rattle.std.proofs.Common.{Ok, ap, sym, ◌∙◌, refl, rules}
+use Rattle.tree_text_rules.specs.Token as token
+use Rattle.tree_text_rules.specs.declared.TreeKind.TheVariants.{BadNumber}
+use Rattle.tree_tokens.specs.Joined.{joined}
 use Rattle.tree_tokens.specs.View.{tokens_in}
+use Rattle.tree_tokens.proofs.Failing.{each_fails, told_only}
 use Rattle.tree_tokens.proofs.Joining.{each_on}
 use Rattle.tree_tokens.proofs.list.numbers_of.Goals as goal
+
+pub returns-in-Err-clause-fault : goal.returns-in-Err-clause-fault
+returns-in-Err-clause-fault c =
+    sym c.reading.invariant.whole
+    ∙ ap (joined (Ok c.reading.numbers.items))
+    (each_fails token.number_of BadNumber c.in-Err.kind c.first_token.result.0.now (tokens_in c.first_token.result.1) (tokens_in c.reading.rest)
+    refl (λ t. told_only BadNumber _) (sym c.in-Err.ensures.value) (ap tokens_in c.in-Some.is ∙ c.first_token.ensures.cut))
 
 pub reading-preserved : goal.reading-preserved
 reading-preserved c = record {
   whole =
-      each_on rules.number_of (so_far c.reading.fault c.reading.numbers.items) (so_far c.in_ok-fault.fault c.take_number.new.numbers.items)
-      c.first_token.result.0.now (tokens_in c.first_token.result.1) (tokens_in c.reading.rest) (rules.each rules.number_of (tokens_in c.args.fields))
-      c.in_ok-fault.ensures.next (ap tokens_in c.in-Some.is ∙ c.first_token.ensures.cut) c.reading.invariant.whole;
-  range = c.in_ok-fault.ensures.range;
+      each_on token.number_of (Ok c.reading.numbers.items) (Ok c.push.new.self.items)
+      c.first_token.result.0.now (tokens_in c.first_token.result.1) (tokens_in c.reading.rest) (token.each token.number_of (tokens_in c.args.fields))
+      (rw (← c.in-Ok.ensures.value) (search rules)) (ap tokens_in c.in-Some.is ∙ c.first_token.ensures.cut) c.reading.invariant.whole;
+  range = search rules;
 }

@@ -1,14 +1,14 @@
-use Rattle.std.proofs.Common.{◌≡◌}
+use Rattle.std.proofs.Common.{◌≡◌, Ok}
 use Rattle.integer_laws.specs.Range.{AllInRange}
 use Rattle.tree_text_rules.specs.Token as rules
-use Rattle.tree_tokens.specs.Joined.{so_far, joined}
+use Rattle.tree_tokens.specs.Joined.{joined}
 use Rattle.tree_tokens.specs.View.{tokens_in, size_in}
 use Rattle.tree_tokens.proofs.list.numbers_of.Given as goal
 
 -- what was read, with what is to come
 abbrev pub invariant-reading : goal.invariant-reading
 invariant-reading l = record {
-  whole : joined (so_far l.fault l.numbers.items) (rules.each rules.number_of (tokens_in l.rest)) ≡ rules.each rules.number_of (tokens_in l.fn.fields);
+  whole : joined (Ok l.numbers.items) (rules.each rules.number_of (tokens_in l.rest)) ≡ rules.each rules.number_of (tokens_in l.fn.fields);
   range : AllInRange l.numbers.items;
 }
 

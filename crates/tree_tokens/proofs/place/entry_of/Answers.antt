@@ -1,21 +1,12 @@
-use Rattle.std.proofs.Common.{◌≡◌, List, [], ◌∷◌, Err, ap, sym, ◌∙◌}
-use Rattle.flow_rules.specs.declared.place.Place.TheVariants as places
-use Rattle.problem_rules.specs.Problem.{Problem}
-use Rattle.tree_text_rules.specs.Line.{Token}
-use Rattle.tree_text_rules.specs.LineRead.{entry_of}
-use Rattle.tree_text_rules.specs.Token.{both, mapped, column_of, row_of, which_of}
-use Rattle.tree_text_rules.specs.declared.TreeKind.{TreeKind}
+use Rattle.std.proofs.Common.{◌≡◌, [], ◌∷◌, refl}
+use Rattle.std.proofs.lemmas.Result.{err_from_is_err_and}
 use Rattle.tree_tokens.specs.View.{tokens_in}
 use Rattle.tree_tokens.proofs.place.entry_of.Goals as goal
 
-entry_fails : (p : Problem) (leave enter row column which : Token) (tokens : List Token) (kind : TreeKind) → tokens ≡ leave ∷ enter ∷ row ∷ column ∷ which ∷ []
-    → Err kind ≡ both (column_of p leave) (both (column_of p enter) (both (row_of p row) (both (column_of p column) (which_of which)))) → Err kind ≡ entry_of p tokens
-entry_fails p leave enter row column which tokens kind cut e =
-    ap (mapped (λ found. places.Entry found.0 found.1.0 found.1.1.0 found.1.1.1.0 found.1.1.1.1)) e ∙ ap (entry_of p) (sym cut)
-
-pub returns-in-Err-clause-value : goal.returns-in-Err-clause-value
-returns-in-Err-clause-value c =
-    let entry = c.in-Some.entry in
-    entry_fails c.args.problem.now entry.leave.now entry.enter.now entry.row.now entry.column.now entry.which.now (tokens_in c.args.fields) c.in-Err.kind c.in-Some.ensures.some
-    (rw (← c.which_of.ensures, ← c.column_of.ensures.value, ← c.both-behind_row.ensures.value, ← c.row_of.ensures.value, ← c.both-behind_enter.ensures.value, ← c.column_of-2.ensures.value, ← c.both-behind_leave.ensures.value, ← c.column_of-3.ensures.value)
-    c.in-Err.ensures.value)
+pub returns-in_err-leave-2-clause-value : goal.returns-in_err-leave-2-clause-value
+returns-in_err-leave-2-clause-value c =
+    let e = err_from_is_err_and c.from_residual-in_err-leave-2.result c.from_residual-in_err-leave-2.ensures.1 in
+    let cut : tokens_in c.args.fields ≡ c.in_ok-leave.leave.now ∷ c.in_ok-enter.enter.now ∷ c.in_ok-row.row.now ∷ c.in_ok-column.column.now ∷ c.in_ok-column.which.now ∷ [] =
+    cc (c.in_ok-leave.ensures.ok, c.in_ok-enter.ensures.ok, c.in_ok-row.ensures.ok, c.in_ok-column.ensures.ok) in
+    rw (e.1, e.2, cut, ← c.which_of.ensures, ← c.column_of.ensures.value, ← c.both-behind_row.ensures.value, ← c.row_of.ensures.value, ← c.both-behind_enter.ensures.value, ← c.column_of-2.ensures.value, ← c.both-behind_leave.ensures.value, ← c.column_of-3.ensures.value, ← c.in_err-leave-2.ensures.value)
+    refl
