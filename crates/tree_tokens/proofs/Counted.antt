@@ -1,8 +1,9 @@
 -- Lines with another number of tokens than their form has.
-use Rattle.std.proofs.Common.{◌≡◌, ◌<◌, List, [], ◌∷◌, length, Result, Err, refl, arith}
+use Rattle.std.proofs.Common.{◌≡◌, ◌<◌, ℤ, List, [], ◌∷◌, length, Result, Ok, Err, refl, arith}
 use Rattle.problem_rules.specs.Problem.{Problem}
 use Rattle.tree_text_rules.specs.Line.{Token}
-use Rattle.tree_text_rules.specs.LineRead.{alone, one, two, entry_of}
+use Rattle.tree_text_rules.specs.LineRead.{alone, one, two, one_and_more, entry_of}
+use Rattle.tree_text_rules.specs.Token.{both, mapped, each, number_of}
 use Rattle.tree_text_rules.specs.declared.TreeKind.{TreeKind}
 use Rattle.tree_text_rules.specs.declared.TreeKind.TheVariants.{BadLine}
 
@@ -29,3 +30,12 @@ not_entry p (a ∷ b ∷ c ∷ []) other = refl
 not_entry p (a ∷ b ∷ c ∷ d ∷ []) other = refl
 not_entry p (a ∷ b ∷ c ∷ d ∷ e ∷ []) other = absurd (other refl)
 not_entry p (a ∷ b ∷ c ∷ d ∷ e ∷ f ∷ tokens) other = refl
+
+first_fails : (r : Result (ℤ × List ℤ) TreeKind) (kind : TreeKind) → mapped (λ found. found.0 ∷ found.1) r ≡ Err kind → r ≡ Err kind
+first_fails (Ok a) kind e = absurd cc
+first_fails (Err k) kind e = cc
+
+-- a list that fails, as its first value and the others
+pub more_fails : (tokens : List Token) (kind : TreeKind) → each number_of tokens ≡ Err kind → one_and_more number_of number_of tokens ≡ Err kind
+more_fails [] kind e = absurd cc
+more_fails (token ∷ tokens) kind e = first_fails (both (number_of token) (each number_of tokens)) kind e

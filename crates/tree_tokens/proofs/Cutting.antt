@@ -30,6 +30,13 @@ line_open rest at some e le =
     ∙ ap (λ (text : List ℕ). record { text = text; ended = false } ∷ []) (sym all)
     ∙ ap (λ (left : List ℕ). record { text = take at rest; ended = false } ∷ lines_of left) (sym none)
 
+-- a token that is ended by a space, and the last one
+pub token_ended : (text : List ℕ) (at : ℕ) → at ≡ position_or_len is_space text → at < length text → slice_split is_space text ≡ take at text ∷ slice_split is_space (drop (at + 1) text)
+token_ended text at e lt = split-at is_space text 0 at e lt
+
+pub token_last : (text : List ℕ) (at : ℕ) → at ≡ position_or_len is_space text → length text ≤ at → slice_split is_space text ≡ text ∷ []
+token_last text at e le = split-none is_space text (omega arith)
+
 -- a line has a token or more
 pub tokens_some : (text : List ℕ) → 0 < length (slice_split is_space text)
 tokens_some text = parts_some is_space text

@@ -1,34 +1,13 @@
 -- Values that are read one by one.
 use Rattle.std.proofs.Common.{◌≡◌, ◌<◌, ◌≤◌, List, [], ◌∷◌, Result, Ok, Err, refl, sym, ap, ◌∙◌, arith, inl, inr, append_assoc, append-nil, if◌then◌else◌}
-use Rattle.std.proofs.lemmas.Bool.{cases_lt, le-leb, lt-leb}
+use Rattle.std.proofs.lemmas.Bool.Decides.{nat_tests}
 use Rattle.tree_text_rules.specs.Line.{Token}
 use Rattle.tree_text_rules.specs.Token.{kind_number, lesser, both, mapped, each}
 use Rattle.tree_text_rules.specs.declared.TreeKind.{TreeKind}
 use Rattle.tree_tokens.specs.Joined.{joined}
 
-first_told : (a b : TreeKind) → kind_number a ≤ kind_number b → lesser a b ≡ a
-first_told a b le = ap (λ t. if t then a else b) (le-leb (kind_number a) (kind_number b) le)
-
-second_told : (a b : TreeKind) → kind_number b < kind_number a → lesser a b ≡ b
-second_told a b lt = ap (λ t. if t then a else b) (lt-leb (kind_number a) (kind_number b) lt)
-
-pub lesser_assoc : (a b c : TreeKind) → lesser (lesser a b) c ≡ lesser a (lesser b c)
-lesser_assoc a b c = elim (cases_lt (kind_number b) (kind_number a)) as (λ _. lesser (lesser a b) c ≡ lesser a (lesser b c)) [
-  | inl ba ↦ elim (cases_lt (kind_number c) (kind_number b)) as (λ _. lesser (lesser a b) c ≡ lesser a (lesser b c)) [
-    | inl cb ↦
-        ap (λ k. lesser k c) (second_told a b ba) ∙ second_told b c cb
-        ∙ sym (second_told a c (omega arith)) ∙ ap (λ k. lesser a k) (sym (second_told b c cb))
-    | inr bc ↦
-        ap (λ k. lesser k c) (second_told a b ba) ∙ first_told b c bc
-        ∙ sym (second_told a b ba) ∙ ap (λ k. lesser a k) (sym (first_told b c bc))
-  ]
-  | inr ab ↦ elim (cases_lt (kind_number c) (kind_number b)) as (λ _. lesser (lesser a b) c ≡ lesser a (lesser b c)) [
-    | inl cb ↦ ap (λ k. lesser k c) (first_told a b ab) ∙ ap (λ k. lesser a k) (sym (second_told b c cb))
-    | inr bc ↦
-        ap (λ k. lesser k c) (first_told a b ab) ∙ first_told a c (omega arith)
-        ∙ sym (first_told a b ab) ∙ ap (λ k. lesser a k) (sym (first_told b c bc))
-  ]
-]
+lesser_assoc : (a b c : TreeKind) → lesser (lesser a b) c ≡ lesser a (lesser b c)
+lesser_assoc a b c = grind (arith, nat_tests)
 
 pub one_more : {A : Type 0} (front : Result (List A) TreeKind) (here : Result A TreeKind) (rest : Result (List A) TreeKind)
     → joined (joined front (mapped (λ a. a ∷ []) here)) rest ≡ joined front (mapped (λ found. found.0 ∷ found.1) (both here rest))

@@ -9,6 +9,7 @@ ghost use Rattle.tree_tokens.specs.View.{line_of, tokens_in};
 
 use crate::apart::{LineParts, alone, only};
 use crate::cut::{Line, next_token};
+use crate::fault_order::lesser;
 use crate::line_fault::LineFault;
 use crate::list::numbers_of;
 use crate::number::{denominator_of, number_of};
@@ -78,12 +79,17 @@ pub fn sizes_line(
     ) else {
         return Err(LineFault::Kind(TreeKind::BadLine));
     };
-    let sizes = numbers_of(alloc, behind)?;
-    let d = denominator_of(first).map_err(LineFault::Kind)?;
-    if sizes.len() == count as usize {
-        Ok((d, sizes))
-    } else {
-        Err(LineFault::Kind(TreeKind::WrongCount))
+    match (numbers_of(alloc, behind), denominator_of(first)) {
+        (Ok(sizes), Ok(d)) => {
+            if sizes.len() == count as usize {
+                Ok((d, sizes))
+            } else {
+                Err(LineFault::Kind(TreeKind::WrongCount))
+            }
+        }
+        (Ok(_), Err(kind)) => Err(LineFault::Kind(kind)),
+        (Err(LineFault::Kind(other)), Err(kind)) => Err(LineFault::Kind(lesser(kind, other))),
+        (Err(fault), _) => Err(fault),
     }
 }
 

@@ -31,6 +31,7 @@ pub fn first_line(rest: &[u8]) -> (Line<'_>, usize)
 }
 
 /// The first token of a text, and what is left behind the space that ends it.
+#[tactic(auto, using(crate::proofs::Cutting::token_ended, crate::proofs::Cutting::token_last, std::proofs::lemmas::Grind::common_steps))]
 pub fn first_token(text: &[u8]) -> (&[u8], Option<&[u8]>)
     ensures cut { slice_split is_space text.now ≡ result.0.now ∷ tokens_in result.1 }
     ensures shorter { IfSome result.1 (λ behind. length behind.now < length text.now) }

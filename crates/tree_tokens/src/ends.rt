@@ -46,6 +46,18 @@ fn short_end(problem: &Problem, word: Option<Word>, fields: Option<&[u8]>) -> Re
     }
 }
 
+// A scale and multipliers.
+#[tactic(auto, using(crate::proofs::Counted::more_fails))]
+fn scaled_in(alloc: Global, fields: Option<&[u8]>) -> Result<Scaled, LineFault>
+    ensures ok { IfOk result (λ s. reads.one_and_more rules.number_of rules.number_of (tokens_in fields.entry) ≡ Ok (s.d, s.ys)) }
+    ensures fault { IfErr result (TellsLine (reads.one_and_more rules.number_of rules.number_of (tokens_in fields.entry))) }
+{
+    if next_token(fields).is_none() {
+        return Err(LineFault::Kind(TreeKind::BadLine));
+    }
+    Ok(Scaled::from_vec(numbers_of(alloc, fields)?))
+}
+
 /// The end that a line says.
 pub fn end_line(alloc: Global, problem: &Problem, line: &LineParts) -> Result<End, LineFault>
     ensures ok { IfOk result (λ end. formed_by line.now.formed (reads.end_by problem.now line.now.word (tokens_in line.now.fields)) ≡ Ok (end_of end)) }
@@ -62,10 +74,7 @@ pub fn end_line(alloc: Global, problem: &Problem, line: &LineParts) -> Result<En
             Ok(End::Refuted(Multipliers::from_vec(numbers)))
         }
         Some(Word::Bound) => {
-            if next_token(line.fields).is_none() {
-                return Err(LineFault::Kind(TreeKind::BadLine));
-            }
-            let scaled = Scaled::from_vec(numbers_of(alloc, line.fields)?);
+            let scaled = scaled_in(alloc, line.fields)?;
             scaled.are_in_range();
             Ok(End::Bound(scaled))
         }

@@ -7,6 +7,7 @@ use std::str;
 use tree_text_rules::TreeKind;
 
 /// The number of the unit of this name.
+#[tactic(auto, using(crate::proofs::Naming::no_unit))]
 pub fn unit_of(problem: &Problem, token: &[u8]) -> Result<u32, TreeKind>
     ensures value { result ≡ rules.unit_of problem.now token.now }
     ensures below { IfOk result (λ u. u < length problem.now.units) }
@@ -19,6 +20,7 @@ pub fn unit_of(problem: &Problem, token: &[u8]) -> Result<u32, TreeKind>
 }
 
 /// The number of the material of this name.
+#[tactic(auto, using(crate::proofs::Naming::no_material))]
 pub fn material_of(problem: &Problem, token: &[u8]) -> Result<u32, TreeKind>
     ensures value { result ≡ rules.material_of problem.now token.now }
     ensures below { IfOk result (λ x. x < length problem.now.materials) }
