@@ -3,6 +3,7 @@ use Rattle.std.proofs.Common.{◌≡◌, List, [], ◌∷◌, Option, Some, None
 use Rattle.tree_text_rules.specs.Line.{Token}
 use Rattle.tree_text_rules.specs.Token.{lesser, both, mapped, each, told}
 use Rattle.tree_text_rules.specs.declared.TreeKind.{TreeKind}
+use Rattle.tree_tokens.specs.Joined.{joined}
 
 -- where each token has the one fault or none
 abbrev pub OnlyFails : {A : Type 0} → TreeKind → Result A TreeKind → Type 0
@@ -14,7 +15,7 @@ both_only kind same (Ok a) (Err k) h t = t
 both_only kind same (Err k) (Ok bs) h t = h
 both_only kind same (Err k) (Err l) h t = ap (λ (x : TreeKind). lesser x l) h ∙ ap (λ (x : TreeKind). lesser kind x) t ∙ same
 
-pub each_only : {A : Type 0} (read : Token → Result A TreeKind) (kind : TreeKind) → lesser kind kind ≡ kind → ((token : Token) → OnlyFails kind (read token)) → (tokens : List Token) → OnlyFails kind (each read tokens)
+each_only : {A : Type 0} (read : Token → Result A TreeKind) (kind : TreeKind) → lesser kind kind ≡ kind → ((token : Token) → OnlyFails kind (read token)) → (tokens : List Token) → OnlyFails kind (each read tokens)
 each_only read kind same one [] = tt
 each_only read kind same one (token ∷ tokens) = both_only kind same (read token) (each read tokens) (one token) (each_only read kind same one tokens)
 
@@ -27,12 +28,13 @@ only_kind kind k (Ok a) e only = absurd cc
 only_kind kind k (Err l) e only = (let q : l ≡ k = cc in sym q) ∙ only
 
 -- the first fault is told, where all have the one kind
-pub each_fails : {A : Type 0} (read : Token → Result A TreeKind) (kind k : TreeKind) (token : Token) (tokens all : List Token)
-    → lesser kind kind ≡ kind → ((t : Token) → OnlyFails kind (read t)) → read token ≡ Err k → all ≡ token ∷ tokens → each read all ≡ Err k
-each_fails read kind k token tokens all same one found cut =
-    ap (each read) cut
-    ∙ ap (λ here. mapped (λ found. found.0 ∷ found.1) (both here (each read tokens))) found
-    ∙ both_fails kind k (each read tokens) same (only_kind kind k (read token) found (one token)) (each_only read kind same one tokens)
+pub fails_at : {A : Type 0} (read : Token → Result A TreeKind) (kind k : TreeKind) (front : List A) (token : Token) (tokens all : List Token) (whole : Result (List A) TreeKind)
+    → lesser kind kind ≡ kind → ((t : Token) → OnlyFails kind (read t)) → read token ≡ Err k → all ≡ token ∷ tokens → joined (Ok front) (each read all) ≡ whole → whole ≡ Err k
+fails_at read kind k front token tokens all whole same one found cut before =
+    sym before
+    ∙ ap (λ ts. joined (Ok front) (each read ts)) cut
+    ∙ ap (λ here. joined (Ok front) (mapped (λ found. found.0 ∷ found.1) (both here (each read tokens)))) found
+    ∙ ap (joined (Ok front)) (both_fails kind k (each read tokens) same (only_kind kind k (read token) found (one token)) (each_only read kind same one tokens))
 
 pub told_only : {A : Type 0} (kind : TreeKind) (o : Option A) → OnlyFails kind (told kind o)
 told_only kind None = refl

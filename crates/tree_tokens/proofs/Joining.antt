@@ -32,3 +32,7 @@ each_on {A} read front next token tokens all whole e cut before =
 pub joined_none : {A : Type 0} (front : Result (List A) TreeKind) → joined front (Ok []) ≡ front
 joined_none {A} (Ok vs) = ap (λ (xs : List A). Ok xs) (append-nil vs)
 joined_none (Err k) = refl
+
+pub joined_first : {A : Type 0} (rest : Result (List A) TreeKind) → joined (Ok []) rest ≡ rest
+joined_first (Ok vs) = refl
+joined_first (Err k) = refl

@@ -1,8 +1,8 @@
 //! Sets of units, which stand in file order.
-ghost use Rattle.std.specs.Prelude.{◌≡◌, ◌<◌, ◌∷◌, ◌++◌, ◌+◌, ◌&&◌, [], true, Ok, Err, IfOk, IfErr, nat_le};
+ghost use Rattle.std.specs.Prelude.{◌≡◌, ◌<◌, ◌+◌, ◌&&◌, true, Ok, Err, IfOk, IfErr, nat_le};
+ghost use Rattle.number_sets.specs.Sets.{with_number};
 ghost use Rattle.tree_rules.specs.Known.{AreUnits};
 ghost use Rattle.tree_text_rules.specs.Token as rules;
-ghost use Rattle.tree_tokens.specs.Joined.{IsEnd};
 ghost use Rattle.tree_tokens.specs.View.{tokens_in};
 
 use crate::cut::first_token;
@@ -21,10 +21,9 @@ pub struct Front {
 
 // The units with one more.
 fn with_unit(front: Front, unit: u32) -> Front
-    requires few { unit < 128 }
-    requires ends { front.rises ≡ true → IsEnd front.least front.units }
+    requires { unit < 128 }
     ensures rises { result.rises ≡ (front.rises && nat_le front.least unit) }
-    ensures units { result.rises ≡ true → result.units ≡ front.units ++ unit ∷ [] }
+    ensures units { result.rises ≡ true → result.units ≡ with_number unit front.units }
     ensures least { result.rises ≡ true → result.least ≡ unit + 1 }
 {
     if front.rises && front.least <= unit {
@@ -35,9 +34,8 @@ fn with_unit(front: Front, unit: u32) -> Front
         }
     } else {
         Front {
-            units: front.units,
-            least: front.least,
             rises: false,
+            ..front
         }
     }
 }

@@ -1,15 +1,18 @@
-use Rattle.std.proofs.Common.{◌≡◌, ◌≤◌, true, length}
+use Rattle.std.proofs.Common.{◌≡◌, List, ℕ, Ok, length}
+use Rattle.number_sets.specs.Sets.{AreBelow}
 use Rattle.tree_text_rules.specs.Token as rules
-use Rattle.tree_tokens.specs.Joined.{units_with, IsEnd}
+use Rattle.tree_tokens.specs.Joined.{joined}
 use Rattle.tree_tokens.specs.View.{tokens_in, size_in}
+use Rattle.tree_tokens.proofs.RisingUnits.{IsFront}
 use Rattle.tree_tokens.proofs.unit_list.units_of.Given as goal
 
--- the set so far, with what is to come
+-- what was read, with what is to come
 abbrev pub invariant-reading : goal.invariant-reading
 invariant-reading l = record {
-  whole : units_with l.front.rises l.front.units (rules.each (rules.unit_of l.fn.problem) (tokens_in l.rest)) ≡ rules.units_of l.fn.problem (tokens_in l.fn.fields);
-  end : l.front.rises ≡ true → IsEnd l.front.least l.front.units;
-  below : l.front.rises ≡ true → l.front.least ≤ length l.fn.problem.units;
+  read : List ℕ;
+  whole : joined (Ok read) (rules.each (rules.unit_of l.fn.problem) (tokens_in l.rest)) ≡ rules.each (rules.unit_of l.fn.problem) (tokens_in l.fn.fields);
+  front : IsFront l.front.rises l.front.least l.front.units read;
+  below : AreBelow (length l.fn.problem.units) read;
 }
 
 abbrev pub decreases-reading : goal.decreases-reading
