@@ -1,105 +1,68 @@
 -- What stands behind a line's first token, by the number of its tokens.
-use Rattle.std.proofs.Common.{◌≡◌, ◌<◌, ◌≤◌, ◌-◌, ℕ, true, List, [], ◌∷◌, length, take, drop, get_or, codes, Err, refl, sym, ap, ◌∙◌, arith}
+use Rattle.std.proofs.Common.{◌≡◌, ◌≤◌, ◌<◌, ◌-◌, ◌⊎◌, ◌||◌, inl, inr, Bool, ℕ, true, false, not, nat_lt, List, [], ◌∷◌, length, take, drop, get_or, Option, Some, Result, Err, codes, refl, ap, sym, ◌∙◌, arith}
+use Rattle.std.proofs.lemmas.Bool.{cond-true, ltb-true}
 use Rattle.std.specs.Str.{bytes_eq}
-use Rattle.std.proofs.lemmas.Bool.{cond-true}
-use Rattle.text_lines.proofs.Borrowed.{texts-behind}
-use Rattle.script_rules.specs.Term.{sides_of}
+use Rattle.std.proofs.lemmas.List.{take_all}
 use Rattle.std.specs.Borrow.{Bor}
 use Rattle.text_lines.specs.View.{texts}
 use Rattle.script_rules.specs.declared.EditKind.TheVariants.{BadLine}
-use Rattle.edit_scripts.specs.declared.insertion.UnitFields.{UnitFields}
-use Rattle.edit_scripts.specs.Insertion.{unit_from, exclusion_from}
-use Rattle.script_rules.specs.Read.{names_read, kind_read, amount_read, fixed_read, bounds_read, costs_read, material_read, unit_read, exclusion_read}
+use Rattle.script_rules.specs.declared.EditKind.{EditKind}
+use Rattle.edit_rules.specs.Edit.{Edit, exclude}
+use Rattle.script_rules.specs.Fault.{place_of, place_fault, name_fault, names_fault, members_fault}
+use Rattle.script_rules.specs.Term.{Pair, sides_of}
+use Rattle.script_rules.specs.Read.{judged, material_read, with_sides, unit_read, exclusion_read}
 
-pub two_of : (xs : List (Bor (List ℕ))) (d : Bor (List ℕ)) → length xs ≡ 2 → texts xs ≡ (get_or xs 0 d).now ∷ (get_or xs 1 d).now ∷ []
-two_of [] d e = absurd (omega (arith, e))
-two_of (x0 ∷ []) d e = absurd (omega (arith, e))
-two_of (x0 ∷ x1 ∷ []) d e = refl
-two_of (x0 ∷ x1 ∷ x2 ∷ xs) d e = absurd (omega (arith, e))
+-- the token at a place, without its address
+abbrev at : List (Bor (List ℕ)) → ℕ → List ℕ
+at xs i = (get_or xs i (record { ref_ptr = (0, 0); now = [] })).now
 
-pub three_of : (xs : List (Bor (List ℕ))) (d : Bor (List ℕ)) → length xs ≡ 3 → texts xs ≡ (get_or xs 0 d).now ∷ (get_or xs 1 d).now ∷ (get_or xs 2 d).now ∷ []
-three_of [] d e = absurd (omega (arith, e))
-three_of (x0 ∷ []) d e = absurd (omega (arith, e))
-three_of (x0 ∷ x1 ∷ []) d e = absurd (omega (arith, e))
-three_of (x0 ∷ x1 ∷ x2 ∷ []) d e = refl
-three_of (x0 ∷ x1 ∷ x2 ∷ x3 ∷ xs) d e = absurd (omega (arith, e))
+-- tokens that are fewer or more than two
+pub not_two : (xs : List (Bor (List ℕ))) → (nat_lt (length xs) 2 || not (nat_lt (length xs) 3)) ≡ true
+    → (texts xs ≡ []) ⊎ (((x : List ℕ) × (texts xs ≡ x ∷ [])) ⊎ ((x : List ℕ) × (y : List ℕ) × (z : List ℕ) × (rest : List (List ℕ)) × (texts xs ≡ x ∷ y ∷ z ∷ rest)))
+not_two [] other = inl refl
+not_two (x ∷ []) other = inr (inl (x.now, refl))
+not_two (x ∷ y ∷ []) other = cc
+not_two (x ∷ y ∷ z ∷ xs) other = inr (inr (x.now, y.now, z.now, texts xs, refl))
 
-pub six_of : (xs : List (Bor (List ℕ))) (d : Bor (List ℕ)) → length xs ≡ 6 → texts xs ≡ (get_or xs 0 d).now ∷ (get_or xs 1 d).now ∷ (get_or xs 2 d).now ∷ (get_or xs 3 d).now ∷ (get_or xs 4 d).now ∷ (get_or xs 5 d).now ∷ []
-six_of [] d e = absurd (omega (arith, e))
-six_of (x0 ∷ []) d e = absurd (omega (arith, e))
-six_of (x0 ∷ x1 ∷ []) d e = absurd (omega (arith, e))
-six_of (x0 ∷ x1 ∷ x2 ∷ []) d e = absurd (omega (arith, e))
-six_of (x0 ∷ x1 ∷ x2 ∷ x3 ∷ []) d e = absurd (omega (arith, e))
-six_of (x0 ∷ x1 ∷ x2 ∷ x3 ∷ x4 ∷ []) d e = absurd (omega (arith, e))
-six_of (x0 ∷ x1 ∷ x2 ∷ x3 ∷ x4 ∷ x5 ∷ []) d e = refl
-six_of (x0 ∷ x1 ∷ x2 ∷ x3 ∷ x4 ∷ x5 ∷ x6 ∷ xs) d e = absurd (omega (arith, e))
+-- tokens that are fewer or more than three
+pub not_three : (xs : List (Bor (List ℕ))) → (nat_lt (length xs) 3 || not (nat_lt (length xs) 4)) ≡ true
+    → (texts xs ≡ []) ⊎ (((x : List ℕ) × (texts xs ≡ x ∷ [])) ⊎ (((x : List ℕ) × (y : List ℕ) × (texts xs ≡ x ∷ y ∷ []))
+    ⊎ ((x : List ℕ) × (y : List ℕ) × (z : List ℕ) × (u : List ℕ) × (rest : List (List ℕ)) × (texts xs ≡ x ∷ y ∷ z ∷ u ∷ rest))))
+not_three [] other = inl refl
+not_three (x ∷ []) other = inr (inl (x.now, refl))
+not_three (x ∷ y ∷ []) other = inr (inr (inl (x.now, y.now, refl)))
+not_three (x ∷ y ∷ z ∷ []) other = cc
+not_three (x ∷ y ∷ z ∷ u ∷ xs) other = inr (inr (inr (x.now, y.now, z.now, u.now, texts xs, refl)))
 
-pub four_up : (xs : List (Bor (List ℕ))) (d : Bor (List ℕ)) → 4 ≤ length xs → texts xs ≡ (get_or xs 0 d).now ∷ (get_or xs 1 d).now ∷ (get_or xs 2 d).now ∷ (get_or xs 3 d).now ∷ texts (drop 4 xs)
-four_up [] d e = absurd (omega (arith, e))
-four_up (x0 ∷ []) d e = absurd (omega (arith, e))
-four_up (x0 ∷ x1 ∷ []) d e = absurd (omega (arith, e))
-four_up (x0 ∷ x1 ∷ x2 ∷ []) d e = absurd (omega (arith, e))
-four_up (x0 ∷ x1 ∷ x2 ∷ x3 ∷ xs) d e = refl
+pub three : (xs : List (Bor (List ℕ))) → 3 ≤ length xs → length xs < 4 → texts xs ≡ at xs 0 ∷ at xs 1 ∷ at xs 2 ∷ []
+three [] least most = absurd (omega arith)
+three (x0 ∷ []) least most = absurd (omega arith)
+three (x0 ∷ x1 ∷ []) least most = absurd (omega arith)
+three (x0 ∷ x1 ∷ x2 ∷ []) least most = refl
+three (x0 ∷ x1 ∷ x2 ∷ x3 ∷ xs) least most = absurd (omega arith)
 
-pub seven_up : (xs : List (Bor (List ℕ))) (d : Bor (List ℕ)) → 7 ≤ length xs → texts xs ≡ (get_or xs 0 d).now ∷ (get_or xs 1 d).now ∷ (get_or xs 2 d).now ∷ (get_or xs 3 d).now ∷ (get_or xs 4 d).now ∷ (get_or xs 5 d).now ∷ (get_or xs 6 d).now ∷ texts (drop 7 xs)
-seven_up [] d e = absurd (omega (arith, e))
-seven_up (x0 ∷ []) d e = absurd (omega (arith, e))
-seven_up (x0 ∷ x1 ∷ []) d e = absurd (omega (arith, e))
-seven_up (x0 ∷ x1 ∷ x2 ∷ []) d e = absurd (omega (arith, e))
-seven_up (x0 ∷ x1 ∷ x2 ∷ x3 ∷ []) d e = absurd (omega (arith, e))
-seven_up (x0 ∷ x1 ∷ x2 ∷ x3 ∷ x4 ∷ []) d e = absurd (omega (arith, e))
-seven_up (x0 ∷ x1 ∷ x2 ∷ x3 ∷ x4 ∷ x5 ∷ []) d e = absurd (omega (arith, e))
-seven_up (x0 ∷ x1 ∷ x2 ∷ x3 ∷ x4 ∷ x5 ∷ x6 ∷ xs) d e = refl
+pub six : (xs : List (Bor (List ℕ))) → 6 ≤ length xs → length xs < 7 → texts xs ≡ at xs 0 ∷ at xs 1 ∷ at xs 2 ∷ at xs 3 ∷ at xs 4 ∷ at xs 5 ∷ []
+six [] least most = absurd (omega arith)
+six (x0 ∷ []) least most = absurd (omega arith)
+six (x0 ∷ x1 ∷ []) least most = absurd (omega arith)
+six (x0 ∷ x1 ∷ x2 ∷ []) least most = absurd (omega arith)
+six (x0 ∷ x1 ∷ x2 ∷ x3 ∷ []) least most = absurd (omega arith)
+six (x0 ∷ x1 ∷ x2 ∷ x3 ∷ x4 ∷ []) least most = absurd (omega arith)
+six (x0 ∷ x1 ∷ x2 ∷ x3 ∷ x4 ∷ x5 ∷ []) least most = refl
+six (x0 ∷ x1 ∷ x2 ∷ x3 ∷ x4 ∷ x5 ∷ x6 ∷ xs) least most = absurd (omega arith)
 
-pub not_names : (xs : List (Bor (List ℕ))) → (length xs ≡ 2 → ⊥) → names_read (texts xs) ≡ Err BadLine
-not_names [] other = refl
-not_names (x0 ∷ []) other = refl
-not_names (x0 ∷ x1 ∷ []) other = absurd (other refl)
-not_names (x0 ∷ x1 ∷ x2 ∷ xs) other = refl
-
-pub not_kind : (xs : List (Bor (List ℕ))) → (length xs ≡ 2 → ⊥) → kind_read (texts xs) ≡ Err BadLine
-not_kind [] other = refl
-not_kind (x0 ∷ []) other = refl
-not_kind (x0 ∷ x1 ∷ []) other = absurd (other refl)
-not_kind (x0 ∷ x1 ∷ x2 ∷ xs) other = refl
-
-pub not_amount : (xs : List (Bor (List ℕ))) → (length xs ≡ 2 → ⊥) → amount_read (texts xs) ≡ Err BadLine
-not_amount [] other = refl
-not_amount (x0 ∷ []) other = refl
-not_amount (x0 ∷ x1 ∷ []) other = absurd (other refl)
-not_amount (x0 ∷ x1 ∷ x2 ∷ xs) other = refl
-
-pub not_fixed : (xs : List (Bor (List ℕ))) → (length xs ≡ 2 → ⊥) → fixed_read (texts xs) ≡ Err BadLine
-not_fixed [] other = refl
-not_fixed (x0 ∷ []) other = refl
-not_fixed (x0 ∷ x1 ∷ []) other = absurd (other refl)
-not_fixed (x0 ∷ x1 ∷ x2 ∷ xs) other = refl
-
-pub not_bounds : (xs : List (Bor (List ℕ))) → (length xs ≡ 3 → ⊥) → bounds_read (texts xs) ≡ Err BadLine
-not_bounds [] other = refl
-not_bounds (x0 ∷ []) other = refl
-not_bounds (x0 ∷ x1 ∷ []) other = refl
-not_bounds (x0 ∷ x1 ∷ x2 ∷ []) other = absurd (other refl)
-not_bounds (x0 ∷ x1 ∷ x2 ∷ x3 ∷ xs) other = refl
-
-pub not_costs : (xs : List (Bor (List ℕ))) → (length xs ≡ 3 → ⊥) → costs_read (texts xs) ≡ Err BadLine
-not_costs [] other = refl
-not_costs (x0 ∷ []) other = refl
-not_costs (x0 ∷ x1 ∷ []) other = refl
-not_costs (x0 ∷ x1 ∷ x2 ∷ []) other = absurd (other refl)
-not_costs (x0 ∷ x1 ∷ x2 ∷ x3 ∷ xs) other = refl
-
-pub not_material : (xs : List (Bor (List ℕ))) → (length xs ≡ 6 → ⊥) → material_read (texts xs) ≡ Err BadLine
+pub not_material : (xs : List (Bor (List ℕ))) → (nat_lt (length xs) 6 || not (nat_lt (length xs) 7)) ≡ true → material_read (texts xs) ≡ Err BadLine
 not_material [] other = refl
 not_material (x0 ∷ []) other = refl
 not_material (x0 ∷ x1 ∷ []) other = refl
 not_material (x0 ∷ x1 ∷ x2 ∷ []) other = refl
 not_material (x0 ∷ x1 ∷ x2 ∷ x3 ∷ []) other = refl
 not_material (x0 ∷ x1 ∷ x2 ∷ x3 ∷ x4 ∷ []) other = refl
-not_material (x0 ∷ x1 ∷ x2 ∷ x3 ∷ x4 ∷ x5 ∷ []) other = absurd (other refl)
+not_material (x0 ∷ x1 ∷ x2 ∷ x3 ∷ x4 ∷ x5 ∷ []) other = cc
 not_material (x0 ∷ x1 ∷ x2 ∷ x3 ∷ x4 ∷ x5 ∷ x6 ∷ xs) other = refl
 
-pub not_unit : (xs : List (Bor (List ℕ))) → length xs < 7 → unit_read (texts xs) ≡ Err BadLine
+-- a unit with fewer tokens, and the sides behind its colon
+pub not_unit : (xs : List (Bor (List ℕ))) → nat_lt (length xs) 7 ≡ true → unit_read (texts xs) ≡ Err BadLine
 not_unit [] few = refl
 not_unit (x0 ∷ []) few = refl
 not_unit (x0 ∷ x1 ∷ []) few = refl
@@ -107,36 +70,50 @@ not_unit (x0 ∷ x1 ∷ x2 ∷ []) few = refl
 not_unit (x0 ∷ x1 ∷ x2 ∷ x3 ∷ []) few = refl
 not_unit (x0 ∷ x1 ∷ x2 ∷ x3 ∷ x4 ∷ []) few = refl
 not_unit (x0 ∷ x1 ∷ x2 ∷ x3 ∷ x4 ∷ x5 ∷ []) few = refl
-not_unit (x0 ∷ x1 ∷ x2 ∷ x3 ∷ x4 ∷ x5 ∷ x6 ∷ xs) few = absurd (omega (arith, few))
+not_unit (x0 ∷ x1 ∷ x2 ∷ x3 ∷ x4 ∷ x5 ∷ x6 ∷ xs) few = let lt = ltb-true (length (x0 ∷ x1 ∷ x2 ∷ x3 ∷ x4 ∷ x5 ∷ x6 ∷ xs)) 7 few in absurd (omega arith)
 
-pub not_exclusion : (xs : List (Bor (List ℕ))) → length xs < 4 → exclusion_read (texts xs) ≡ Err BadLine
+pub seven_up : (xs : List (Bor (List ℕ))) → 7 ≤ length xs
+    → texts xs ≡ at xs 0 ∷ at xs 1 ∷ at xs 2 ∷ at xs 3 ∷ at xs 4 ∷ at xs 5 ∷ at xs 6 ∷ texts (take (length xs - 7) (drop 7 xs))
+seven_up [] least = absurd (omega arith)
+seven_up (x0 ∷ []) least = absurd (omega arith)
+seven_up (x0 ∷ x1 ∷ []) least = absurd (omega arith)
+seven_up (x0 ∷ x1 ∷ x2 ∷ []) least = absurd (omega arith)
+seven_up (x0 ∷ x1 ∷ x2 ∷ x3 ∷ []) least = absurd (omega arith)
+seven_up (x0 ∷ x1 ∷ x2 ∷ x3 ∷ x4 ∷ []) least = absurd (omega arith)
+seven_up (x0 ∷ x1 ∷ x2 ∷ x3 ∷ x4 ∷ x5 ∷ []) least = absurd (omega arith)
+seven_up (x0 ∷ x1 ∷ x2 ∷ x3 ∷ x4 ∷ x5 ∷ x6 ∷ xs) least =
+    ap (λ (rest : List (Bor (List ℕ))). texts (x0 ∷ x1 ∷ x2 ∷ x3 ∷ x4 ∷ x5 ∷ x6 ∷ rest)) (sym (take_all (length (x0 ∷ x1 ∷ x2 ∷ x3 ∷ x4 ∷ x5 ∷ x6 ∷ xs) - 7) xs (omega arith)))
+
+abbrev unit_from : List (Bor (List ℕ)) → Option (List Pair × List Pair) → Result Edit EditKind
+unit_from xs = with_sides (at xs 0) (at xs 1) (at xs 2) (at xs 3) (at xs 4) (at xs 5)
+
+meets : (b : Bool) → false ≡ not b → b ≡ true
+meets true e = refl
+meets false e = cc
+
+pub unit_at : (xs : List (Bor (List ℕ))) (sides : List Pair × List Pair) (colon : List ℕ) → 7 ≤ length xs → colon ≡ codes ":" → false ≡ not (bytes_eq (at xs 6) colon)
+    → sides_of (texts (take (length xs - 7) (drop 7 xs))) ≡ Some sides → unit_read (texts xs) ≡ unit_from xs (Some sides)
+unit_at xs sides colon least same met is =
+    ap unit_read (seven_up xs least)
+    ∙ cond-true (bytes_eq (at xs 6) (codes ":")) (unit_from xs (sides_of (texts (take (length xs - 7) (drop 7 xs))))) (Err BadLine) (ap (bytes_eq (at xs 6)) (sym same) ∙ meets _ met)
+    ∙ ap (unit_from xs) is
+
+-- fewer than two units, and two or more
+pub not_exclusion : (xs : List (Bor (List ℕ))) → nat_lt (length xs) 4 ≡ true → exclusion_read (texts xs) ≡ Err BadLine
 not_exclusion [] few = refl
 not_exclusion (x0 ∷ []) few = refl
 not_exclusion (x0 ∷ x1 ∷ []) few = refl
 not_exclusion (x0 ∷ x1 ∷ x2 ∷ []) few = refl
-not_exclusion (x0 ∷ x1 ∷ x2 ∷ x3 ∷ xs) few = absurd (omega (arith, few))
+not_exclusion (x0 ∷ x1 ∷ x2 ∷ x3 ∷ xs) few = let lt = ltb-true (length (x0 ∷ x1 ∷ x2 ∷ x3 ∷ xs)) 4 few in absurd (omega arith)
 
--- two units or more behind the place and the name
-pub exclusion_at : (xs : List (Bor (List ℕ))) (d : Bor (List ℕ)) → 4 ≤ length xs
-    → exclusion_read (texts xs) ≡ exclusion_from (get_or xs 0 d).now (get_or xs 1 d).now (texts (take (length xs - 2) (drop 2 xs)))
-exclusion_at xs d le =
-    ap exclusion_read (four_up xs d le)
-    ∙ ap (exclusion_from (get_or xs 0 d).now (get_or xs 1 d).now) (sym (texts-behind xs 1 ∙ ap (drop 2) (four_up xs d le)))
+abbrev exclusion_from : List ℕ → List ℕ → List (List ℕ) → Result Edit EditKind
+exclusion_from place name units =
+    judged (place_fault place ∷ name_fault name ∷ names_fault units ∷ members_fault units ∷ []) (exclude (place_of place) name units)
 
--- the tokens in front of a unit's colon, and the sides behind it
-abbrev pub unit_fields : List (Bor (List ℕ)) → Bor (List ℕ) → UnitFields
-unit_fields xs d = record {
-  place = get_or xs 0 d;
-  name = get_or xs 1 d;
-  lower = get_or xs 2 d;
-  upper = get_or xs 3 d;
-  fix = get_or xs 4 d;
-  proportional = get_or xs 5 d;
-}
-
-pub unit_at : (xs : List (Bor (List ℕ))) (d : Bor (List ℕ)) → 7 ≤ length xs → bytes_eq (get_or xs 6 d).now (codes ":") ≡ true
-    → unit_read (texts xs) ≡ unit_from (unit_fields xs d) (sides_of (texts (take (length xs - 7) (drop 7 xs))))
-unit_at xs d le colon =
-    ap unit_read (seven_up xs d le)
-    ∙ cond-true (bytes_eq (get_or xs 6 d).now (codes ":")) (unit_from (unit_fields xs d) (sides_of (texts (drop 7 xs)))) (Err BadLine) colon
-    ∙ ap (λ (tokens : List (List ℕ)). unit_from (unit_fields xs d) (sides_of tokens)) (sym (texts-behind xs 6 ∙ ap (drop 7) (seven_up xs d le)))
+pub exclusion_at : (xs : List (Bor (List ℕ))) → 4 ≤ length xs → exclusion_read (texts xs) ≡ exclusion_from (at xs 0) (at xs 1) (texts (take (length xs - 2) (drop 2 xs)))
+exclusion_at [] least = absurd (omega arith)
+exclusion_at (x0 ∷ []) least = absurd (omega arith)
+exclusion_at (x0 ∷ x1 ∷ []) least = absurd (omega arith)
+exclusion_at (x0 ∷ x1 ∷ x2 ∷ []) least = absurd (omega arith)
+exclusion_at (x0 ∷ x1 ∷ x2 ∷ x3 ∷ xs) least =
+    ap (λ (units : List (Bor (List ℕ))). exclusion_from x0.now x1.now (texts units)) (sym (take_all (length (x0 ∷ x1 ∷ x2 ∷ x3 ∷ xs) - 2) (x2 ∷ x3 ∷ xs) (omega arith)))

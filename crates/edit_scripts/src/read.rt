@@ -23,25 +23,17 @@ pub struct Walk {
 }
 
 impl Walk {
-    fn new(alloc: Global) -> Walk
-        ensures start { (lines : List (List ℕ)) → read_on result lines ≡ lines_read 2 lines }
-        ensures number { result.number ≡ 2 }
-    {
-        Walk {
-            edits: Vec::new(alloc),
-            lines: Vec::new(alloc),
-            number: 2,
-        }
-    }
-
-    // Takes a line that is not empty.
+    // Takes a line; an empty one is skipped but counted.
     fn take(&mut self, alloc: Global, text: &[u8]) -> Result<(), EditFault>
-        requires some { 0 < length text.now }
-        requires few { self.old.number < 2 ^ 32 - 1 }
+        requires { self.old.number < 2 ^ 32 - 1 }
         ensures ok { OnOk result ((lines : List (List ℕ)) → read_on self.new lines ≡ read_on self.old (text.now ∷ lines)) }
         ensures next { OnOk result (self.new.number ≡ self.old.number + 1) }
         ensures fault { IfErr result (λ fault. (lines : List (List ℕ)) → Tells (read_on self.old (text.now ∷ lines)) fault) }
     {
+        if text.is_empty() {
+            self.number += 1;
+            return Ok(());
+        }
         match read_line(alloc, text) {
             Ok(edit) => {
                 self.edits.push(edit)?;
@@ -56,33 +48,24 @@ impl Walk {
             Err(LineFault::Memory) => Err(EditFault::Memory),
         }
     }
-
-    // Takes a line.
-    fn step(&mut self, alloc: Global, text: &[u8]) -> Result<(), EditFault>
-        requires { self.old.number < 2 ^ 32 - 1 }
-        ensures ok { OnOk result ((lines : List (List ℕ)) → read_on self.new lines ≡ read_on self.old (text.now ∷ lines)) }
-        ensures next { OnOk result (self.new.number ≡ self.old.number + 1) }
-        ensures fault { IfErr result (λ fault. (lines : List (List ℕ)) → Tells (read_on self.old (text.now ∷ lines)) fault) }
-    {
-        if text.is_empty() {
-            self.number += 1;
-            return Ok(());
-        }
-        self.take(alloc, text)
-    }
 }
 
 // All lines of what is left of a text behind its first line.
+#[tactic(auto, using(crate::proofs::Reading::front_none))]
 fn walk_rest(alloc: Global, bytes: &[u8]) -> Result<Walk, EditFault>
     requires { length bytes.now < 2 ^ 32 - 2 }
     ensures ok { IfOk result (λ w. lines_read 2 (script_lines bytes.now) ≡ Ok (record { edits = map edit_of w.edits.items; lines = w.lines.items })) }
     ensures fault { IfErr result (Tells (lines_read 2 (script_lines bytes.now))) }
 {
-    let mut walk = Walk::new(alloc);
+    let mut walk = Walk {
+        edits: Vec::new(alloc),
+        lines: Vec::new(alloc),
+        number: 2,
+    };
     let mut rest = bytes;
     while !rest.is_empty() {
         let (text, behind) = cut_line(rest);
-        walk.step(alloc, text)?;
+        walk.take(alloc, text)?;
         rest = behind;
     }
     Ok(walk)

@@ -32,6 +32,7 @@ fn term_fault(term: &Term<'_>) -> Option<EditKind>
 }
 
 /// What is wrong with the terms of a side one by one.
+#[tactic(auto, using(crate::proofs::Least::lesser_assoc, std::proofs::lemmas::Grind::common_steps))]
 pub(crate) fn terms_fault(terms: &[Term<'_>]) -> Option<EditKind>
     ensures { result ≡ terms_fault (terms_view terms.now) }
 {
@@ -85,21 +86,7 @@ fn are_bad_sides(alloc: Global, sides: &Sides<'_>) -> Result<bool, AllocError>
 pub(crate) fn sides_fault(alloc: Global, sides: &Sides<'_>) -> Result<Option<EditKind>, AllocError>
     ensures { IfOk result (λ kind. kind ≡ sides_fault (sides_view sides.now).0 (sides_view sides.now).1) }
 {
-    if are_bad_sides(alloc, sides)? {
-        Ok(Some(EditKind::BadTerms))
-    } else {
-        Ok(None)
-    }
-}
-
-fn named_term(alloc: Global, term: &Term<'_>) -> Result<NamedTerm, AllocError>
-    ensures { IfOk result (λ t. t ≡ term_read (term_view term.now)) }
-{
-    let name = name_string(alloc, term.name)?;
-    Ok(NamedTerm {
-        name,
-        rate: millionths(term.number),
-    })
+    Ok(are_bad_sides(alloc, sides)?.then_some(EditKind::BadTerms))
 }
 
 /// The terms of a side by name.
@@ -108,8 +95,10 @@ pub(crate) fn named_terms(alloc: Global, terms: &[Term<'_>]) -> Result<Vec<Named
 {
     let mut named = Vec::new(alloc);
     'naming: for term in terms {
-        let one = named_term(alloc, term)?;
-        named.push(one)?;
+        named.push(NamedTerm {
+            name: name_string(alloc, term.name)?,
+            rate: millionths(term.number),
+        })?;
     }
     Ok(named)
 }

@@ -1,13 +1,14 @@
 //! What is wrong with a token by its place in a line, and what it stands for.
-ghost use Rattle.std.specs.Prelude.{◌≡◌, ◌≤◌, IfOk, Some, None, string_bytes};
-ghost use Rattle.text_rules.specs.Field.{kind_words};
+ghost use Rattle.std.specs.Prelude.{◌≡◌, ◌≤◌, IfOk, IfErr, OnOk, Some, None, map, string_bytes};
 ghost use Rattle.text_rules.specs.Value.{kind_of};
-ghost use Rattle.problem_rules.specs.Names.{is_among};
 ghost use Rattle.pns_problem.specs.Kind as kinds;
 ghost use Rattle.text_lines.specs.View.{texts};
-ghost use Rattle.script_rules.specs.Fault.{kind_number, lesser, least, number_fault, name_fault, kind_fault, amount_fault, bound_fault, rate_fault, place_of, place_fault, years_of, years_fault, names_fault};
+ghost use Rattle.text_lines.specs.declared.fault.LineFault.TheVariants as line;
+ghost use Rattle.script_rules.specs.Fault.{kind_number, lesser, least, some_token, number_fault, name_fault, kind_fault, amount_fault, bound_fault, rate_fault, place_of, place_fault, years_of, years_fault, names_fault};
 ghost use Rattle.script_rules.specs.Line.{word_named};
+ghost use Rattle.edit_scripts.specs.Words.{looked_up};
 
+use crate::fault::LineFault;
 use pns_problem::Kind;
 use script_rules::{EditKind, Word};
 use std::alloc::{AllocError, Global};
@@ -17,49 +18,62 @@ use text_lines::name::is_name;
 use text_lines::whole_number::whole_within;
 use text_rules::TextKind;
 
+const WORDS: [(&[u8], Word); 16] = [
+    (b"price", Word::Price),
+    (b"bounds", Word::Bounds),
+    (b"kind", Word::Kind),
+    (b"capacity", Word::Capacity),
+    (b"fix", Word::Fix),
+    (b"proportional", Word::Proportional),
+    (b"rename_material", Word::RenameMaterial),
+    (b"rename_unit", Word::RenameUnit),
+    (b"add_material", Word::AddMaterial),
+    (b"remove_material", Word::RemoveMaterial),
+    (b"add_unit", Word::AddUnit),
+    (b"remove_unit", Word::RemoveUnit),
+    (b"exclude", Word::Exclude),
+    (b"unexclude", Word::Unexclude),
+    (b"investment", Word::Investment),
+    (b"payout", Word::Payout),
+];
+
+fn looked_up(mut words: &[(&[u8], Word)], text: &[u8]) -> Option<Word>
+    ensures { result ≡ looked_up (map (λ entry. (entry.0.now, entry.1)) words.entry.now) text.now }
+{
+    while let [(name, word), rest @ ..] = words {
+        if text == *name {
+            return Some(*word);
+        }
+        words = rest;
+    }
+    None
+}
+
+/// The word that begins a line.
+pub(crate) fn word_named(text: &[u8]) -> Option<Word>
+    ensures { result ≡ word_named text.now }
+{
+    looked_up(&WORDS, text)
+}
+
 fn kind_number(kind: EditKind) -> u32
     ensures { result ≡ kind_number kind }
 {
-    match kind {
-        EditKind::FileType => 1,
-        EditKind::BadLine => 2,
-        EditKind::BadName => 3,
-        EditKind::BadNumber => 4,
-        EditKind::TooFine => 5,
-        EditKind::TooLarge => 6,
-        EditKind::Sign => 7,
-        EditKind::BadTerms => 8,
-        EditKind::UnknownName => 9,
-        EditKind::DoubleName => 10,
-        EditKind::BadPlace => 11,
-        EditKind::LowAboveHigh => 12,
-        EditKind::InUse => 13,
-        EditKind::NoProduct => 14,
-        EditKind::TooMany => 15,
-        EditKind::BadMembers => 16,
-    }
+    kind as u32 + 1
 }
 
 /// The one of two kinds with the lesser number.
 pub(crate) fn lesser(first: Option<EditKind>, second: Option<EditKind>) -> Option<EditKind>
     ensures { result ≡ lesser first second }
 {
-    match first {
-        None => second,
-        Some(one) => match second {
-            None => Some(one),
-            Some(other) => {
-                if kind_number(one) <= kind_number(other) {
-                    Some(one)
-                } else {
-                    Some(other)
-                }
-            }
-        },
+    match (first, second) {
+        (Some(one), Some(other)) if kind_number(other) < kind_number(one) => second,
+        _ => first.or(second),
     }
 }
 
 /// The one of many kinds with the least number.
+#[tactic(auto, using(crate::proofs::Least::lesser_assoc, std::proofs::lemmas::Grind::common_steps))]
 pub(crate) fn least(kinds: &[Option<EditKind>]) -> Option<EditKind>
     ensures { result ≡ least kinds.now }
 {
@@ -70,21 +84,37 @@ pub(crate) fn least(kinds: &[Option<EditKind>]) -> Option<EditKind>
     found
 }
 
+/// Refuses a line for the least of the faults of its tokens, if one of them has a fault.
+pub(crate) fn judge(faults: &[Option<EditKind>]) -> Result<(), LineFault>
+    ensures ok { OnOk result (least faults.now ≡ None) }
+    ensures fault { IfErr result (λ fault. (kind : EditKind) × (least faults.now ≡ Some kind) × (fault ≡ line.Kind kind)) }
+{
+    match least(faults) {
+        Some(kind) => Err(LineFault::Kind(kind)),
+        None => Ok(()),
+    }
+}
+
+// A token without bytes is none, so the line has not its form.
+fn some_token(token: &[u8], fault: Option<EditKind>) -> Option<EditKind>
+    ensures { result ≡ some_token token.now fault }
+{
+    if token.is_empty() {
+        Some(EditKind::BadLine)
+    } else {
+        fault
+    }
+}
+
 /// What is wrong with a token in a name's place.
 pub(crate) fn name_fault(token: &[u8]) -> Option<EditKind>
     ensures { result ≡ name_fault token.now }
 {
-    if token.is_empty() {
-        return Some(EditKind::BadLine);
-    }
-    if is_name(token) {
-        None
-    } else {
-        Some(EditKind::BadName)
-    }
+    some_token(token, (!is_name(token)).then_some(EditKind::BadName))
 }
 
 /// What is wrong with tokens in the places of names.
+#[tactic(auto, using(crate::proofs::Least::lesser_assoc, std::proofs::lemmas::Grind::common_steps))]
 pub(crate) fn names_fault(tokens: &[&[u8]]) -> Option<EditKind>
     ensures { result ≡ names_fault (texts tokens.now) }
 {
@@ -95,19 +125,14 @@ pub(crate) fn names_fault(tokens: &[&[u8]]) -> Option<EditKind>
     found
 }
 
-fn is_kind_word(token: &[u8]) -> bool
-    ensures { result ≡ is_among kind_words token.now }
-{
-    b"raw_material".as_slice() == token
-        || b"intermediate".as_slice() == token
-        || b"product".as_slice() == token
-}
-
 /// What is wrong with a token in a kind word's place.
 pub(crate) fn kind_fault(token: &[u8]) -> Option<EditKind>
     ensures { result ≡ kind_fault token.now }
 {
-    if is_kind_word(token) {
+    if b"raw_material".as_slice() == token
+        || b"intermediate".as_slice() == token
+        || b"product".as_slice() == token
+    {
         None
     } else {
         Some(EditKind::BadLine)
@@ -141,66 +166,42 @@ fn number_fault(kind: TextKind) -> EditKind
 pub(crate) fn amount_fault(token: &[u8]) -> Option<EditKind>
     ensures { result ≡ amount_fault token.now }
 {
-    if token.is_empty() {
-        return Some(EditKind::BadLine);
-    }
-    match read_amount(token) {
+    let fault = match read_amount(token) {
         Ok(_) => None,
         Err(kind) => Some(number_fault(kind)),
-    }
+    };
+    some_token(token, fault)
 }
 
 /// What is wrong with a token in the place of a bound or of a fixed cost.
 pub(crate) fn bound_fault(token: &[u8]) -> Option<EditKind>
     ensures { result ≡ bound_fault token.now }
 {
-    if token.is_empty() {
-        return Some(EditKind::BadLine);
-    }
-    match read_amount(token) {
-        Ok(amount) => {
-            if amount < 0 {
-                Some(EditKind::Sign)
-            } else {
-                None
-            }
-        }
+    let fault = match read_amount(token) {
+        Ok(amount) => (amount < 0).then_some(EditKind::Sign),
         Err(kind) => Some(number_fault(kind)),
-    }
+    };
+    some_token(token, fault)
 }
 
 /// What is wrong with a token in a rate's place.
 pub(crate) fn rate_fault(token: &[u8]) -> Option<EditKind>
     ensures { result ≡ rate_fault token.now }
 {
-    if token.is_empty() {
-        return Some(EditKind::BadLine);
-    }
-    match read_amount(token) {
-        Ok(amount) => {
-            if amount < 0 {
-                Some(EditKind::Sign)
-            } else if 0 < amount {
-                None
-            } else {
-                Some(EditKind::BadTerms)
-            }
-        }
+    let fault = match read_amount(token) {
+        Ok(amount) if amount < 0 => Some(EditKind::Sign),
+        Ok(amount) => (amount == 0).then_some(EditKind::BadTerms),
         Err(kind) => Some(number_fault(kind)),
-    }
+    };
+    some_token(token, fault)
 }
 
 /// What is wrong with a token in the place of a place.
 pub(crate) fn place_fault(token: &[u8]) -> Option<EditKind>
     ensures { result ≡ place_fault token.now }
 {
-    if token.is_empty() {
-        return Some(EditKind::BadLine);
-    }
-    match whole_within(4_294_967_295, token) {
-        Some(_) => None,
-        None => Some(EditKind::BadNumber),
-    }
+    let place = whole_within(4_294_967_295, token);
+    some_token(token, place.is_none().then_some(EditKind::BadNumber))
 }
 
 /// The place, which is 0 where the token is none.
@@ -228,14 +229,7 @@ pub(crate) fn years_of(token: &[u8]) -> u64
 pub(crate) fn years_fault(token: &[u8]) -> Option<EditKind>
     ensures { result ≡ years_fault token.now }
 {
-    if token.is_empty() {
-        return Some(EditKind::BadLine);
-    }
-    if 1 <= years_of(token) {
-        None
-    } else {
-        Some(EditKind::BadNumber)
-    }
+    some_token(token, (years_of(token) < 1).then_some(EditKind::BadNumber))
 }
 
 /// The name as a string. A name is ASCII; a token that is not UTF-8 has a fault and does not come here.
@@ -245,46 +239,5 @@ pub(crate) fn name_string(alloc: Global, name: &[u8]) -> Result<String, AllocErr
     match str::from_utf8(name) {
         Ok(text) => String::from_str(alloc, text),
         Err(_) => Err(AllocError),
-    }
-}
-
-/// The word that begins a line.
-pub(crate) fn word_named(text: &[u8]) -> Option<Word>
-    ensures { result ≡ word_named text.now }
-{
-    if text == b"price".as_slice() {
-        Some(Word::Price)
-    } else if text == b"bounds".as_slice() {
-        Some(Word::Bounds)
-    } else if text == b"kind".as_slice() {
-        Some(Word::Kind)
-    } else if text == b"capacity".as_slice() {
-        Some(Word::Capacity)
-    } else if text == b"fix".as_slice() {
-        Some(Word::Fix)
-    } else if text == b"proportional".as_slice() {
-        Some(Word::Proportional)
-    } else if text == b"rename_material".as_slice() {
-        Some(Word::RenameMaterial)
-    } else if text == b"rename_unit".as_slice() {
-        Some(Word::RenameUnit)
-    } else if text == b"add_material".as_slice() {
-        Some(Word::AddMaterial)
-    } else if text == b"remove_material".as_slice() {
-        Some(Word::RemoveMaterial)
-    } else if text == b"add_unit".as_slice() {
-        Some(Word::AddUnit)
-    } else if text == b"remove_unit".as_slice() {
-        Some(Word::RemoveUnit)
-    } else if text == b"exclude".as_slice() {
-        Some(Word::Exclude)
-    } else if text == b"unexclude".as_slice() {
-        Some(Word::Unexclude)
-    } else if text == b"investment".as_slice() {
-        Some(Word::Investment)
-    } else if text == b"payout".as_slice() {
-        Some(Word::Payout)
-    } else {
-        None
     }
 }

@@ -1,26 +1,12 @@
-use Rattle.std.proofs.Common.{◌≡◌, Result, Ok, IfOk, IfErr, subst, sym, ℕ, List, [], get_or, ◌∙◌, ap}
-use Rattle.std.specs.Str.{bytes_eq}
-use Rattle.std.specs.Borrow.{Bor}
-use Rattle.edit_rules.specs.Edit as rules
-use Rattle.script_rules.specs.declared.EditKind.{EditKind}
-use Rattle.text_lines.specs.Tells.{TellsLine}
-use Rattle.edit_scripts.specs.View.{edit_of}
-use Rattle.edit_scripts.proofs.TokenCounts.{unit_at, not_unit}
+use Rattle.std.proofs.Common.{rules}
+use Rattle.text_lines.specs.Terms.{sides_view}
+use Rattle.edit_scripts.proofs.TokenCounts.{unit_at}
 use Rattle.edit_scripts.proofs.insertion.insert_unit.Goals as goal
 
-pub returns-then-fields-lt7-clause-fault : goal.returns-then-fields-lt7-clause-fault
-returns-then-fields-lt7-clause-fault c = not_unit c.args.fields.now c.if-fields-lt7.true
+pub returns-in_err-judge-in-len7-up : goal.returns-in_err-judge-in-len7-up
+returns-in_err-judge-in-len7-up c =
+    rw (unit_at c.args.fields.now (sides_view c.in-Some.sides) _ c.in-len7-up.len_at_least c.as_slice.ensures c.if-ne.ensures (search rules)) (search rules)
 
-pub returns-then-eq-clause-ok : goal.returns-then-eq-clause-ok
-returns-then-eq-clause-ok c =
-    let none : Bor (List ℕ) = record { ref_ptr = (0, 0); now = [] } in
-    let colon = ap (λ (text : List ℕ). bytes_eq (get_or c.args.fields.now 6 none).now text) (sym c.as_slice.ensures) ∙ sym c.if-eq.ensures in
-    subst (λ (reading : Result rules.Edit EditKind). IfOk c.unit_at.result (λ edit. reading ≡ Ok (edit_of edit)))
-    (sym (unit_at c.args.fields.now none c.if-fields-lt7.false colon)) c.unit_at.ensures.ok
-
-pub returns-then-eq-clause-fault : goal.returns-then-eq-clause-fault
-returns-then-eq-clause-fault c =
-    let none : Bor (List ℕ) = record { ref_ptr = (0, 0); now = [] } in
-    let colon = ap (λ (text : List ℕ). bytes_eq (get_or c.args.fields.now 6 none).now text) (sym c.as_slice.ensures) ∙ sym c.if-eq.ensures in
-    subst (λ (reading : Result rules.Edit EditKind). IfErr c.unit_at.result (TellsLine reading))
-    (sym (unit_at c.args.fields.now none c.if-fields-lt7.false colon)) c.unit_at.ensures.fault
+pub returns-in_ok-named_terms-in-len7-up-2 : goal.returns-in_ok-named_terms-in-len7-up-2
+returns-in_ok-named_terms-in-len7-up-2 c =
+    rw (unit_at c.args.fields.now (sides_view c.in-Some.sides) _ c.in-len7-up.len_at_least c.as_slice.ensures c.if-ne.ensures (search rules)) (search rules)

@@ -10,12 +10,12 @@ use Rattle.edit_scripts.specs.Walk.{read_on}
 use Rattle.edit_scripts.proofs.Reading.{read_to_end}
 use Rattle.edit_scripts.proofs.read.walk_rest.Goals as goal
 
-pub returns-in_err-step-clause-fault : goal.returns-in_err-step-clause-fault
-returns-in_err-step-clause-fault c =
+pub returns-in_err-take-clause-fault : goal.returns-in_err-take-clause-fault
+returns-in_err-take-clause-fault c =
     let e = err_from_is_err_and c.from_residual.result c.from_residual.ensures.1 in
     rw (e.1, e.2)
-    (subst (λ (reading : Result Script Fault). Tells reading c.in_err-step.field-0.0)
-    (ap (read_on c.loop-rest.walk) (sym c.cut_line.ensures.cut) ∙ c.loop-rest.invariant.to_come) (c.in_err-step.ensures.fault (script_lines c.cut_line.result.1.now)))
+    (subst (λ (reading : Result Script Fault). Tells reading c.in_err-take.field-0.0)
+    (ap (read_on c.loop-rest.walk) (sym c.cut_line.ensures.cut) ∙ c.loop-rest.invariant.to_come) (c.in_err-take.ensures.fault (script_lines c.cut_line.result.1.now)))
 
 pub returns-clause-ok : goal.returns-clause-ok
 returns-clause-ok c =
