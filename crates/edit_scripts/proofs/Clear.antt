@@ -1,5 +1,5 @@
 -- What a token has that has no fault.
-use Rattle.std.proofs.Common.{◌≡◌, ◌≤◌, ◌&&◌, ◌*◌, ◌/◌, ◌%◌, ◌^◌, ◌-◌, ◌==◌, Bool, true, false, not, ℕ, zero, suc, nat_lt, nat_le, Option, Some, None, List, [], ◌∷◌, Result, Ok, Err, ℤ, pos, int_lt, unsigned_abs, refl, subst, ap, arith, unwrap_or, if◌then◌else◌}
+use Rattle.std.proofs.Common.{◌≡◌, ◌≤◌, ◌&&◌, ◌*◌, ◌/◌, ◌%◌, ◌^◌, ◌-◌, ◌==◌, Bool, true, false, not, ℕ, zero, suc, nat_lt, nat_le, Option, Some, None, List, [], ◌∷◌, Result, Ok, Err, ℤ, pos, int_lt, unsigned_abs, refl, subst, arith, unwrap_or, if◌then◌else◌}
 use Rattle.std.specs.Result.{result_unwrap_or}
 use Rattle.std.proofs.lemmas.Bool.{cond_both, and_parts, leb-true, ltb-false, lt-ltb}
 use Rattle.problem_rules.specs.Each.{Each}
@@ -15,26 +15,14 @@ use Rattle.script_rules.specs.declared.EditKind.TheVariants as kinds
 use Rattle.script_rules.specs.Fault.{lesser, least, some_token, unless, name_fault, bound_fault, rate_fault, not_negative, positive, is_whole, whole_within, place_of, years_of, years_fault, names_fault}
 use Rattle.script_rules.specs.Read.{told, judged}
 
-abbrev IsAnErr : {A B : Type 0} → Result A B → Type 0
-IsAnErr (Ok value) = ⊥
-IsAnErr (Err fault) = Unit {0}
-
 pub err_not_ok : {A B : Type 0} (fault : B) (value : A) → ◌≡◌ {A = Result A B} (Err fault) (Ok value) → ⊥
-err_not_ok {A} {B} fault value e = subst (λ (r : Result A B). IsAnErr r) e tt
-
-abbrev or_value : {A B : Type 0} → A → Result A B → A
-or_value other (Ok value) = value
-or_value other (Err fault) = other
+err_not_ok fault value e = cc
 
 pub ok_same : {A B : Type 0} (v w : A) → ◌≡◌ {A = Result A B} (Ok v) (Ok w) → v ≡ w
-ok_same {A} {B} v w e = ap (λ (r : Result A B). or_value v r) e
-
-abbrev IsSomeKind : Option EditKind → Type 0
-IsSomeKind None = ⊥
-IsSomeKind (Some kind) = Unit {0}
+ok_same v w e = cc
 
 pub some_not_none : (kind : EditKind) → Some kind ≡ None → ⊥
-some_not_none kind e = subst IsSomeKind e tt
+some_not_none kind e = cc
 
 one_of_two : (b : Bool) (a c : EditKind) → (if b then Some a else Some c) ≡ None → ⊥
 one_of_two true a c e = some_not_none a e
@@ -65,12 +53,15 @@ told_same : {A : Type 0} (kind : Option EditKind) (v w : A) → told kind v ≡ 
 told_same None v w e = ok_same v w e
 told_same (Some kind) v w e = absurd (err_not_ok kind w e)
 
--- what is read of tokens without a fault
-pub judged_clear : {A : Type 0} (faults : List (Option EditKind)) (v w : A) → judged faults v ≡ Ok w → Each (λ kind. kind ≡ None) faults
+judged_clear : {A : Type 0} (faults : List (Option EditKind)) (v w : A) → judged faults v ≡ Ok w → Each (λ kind. kind ≡ None) faults
 judged_clear faults v w e = least_clear faults (told_clear (least faults) v w e)
 
 pub judged_same : {A : Type 0} (faults : List (Option EditKind)) (v w : A) → judged faults v ≡ Ok w → v ≡ w
 judged_same faults v w e = told_same (least faults) v w e
+
+-- what is read has what its tokens give where none of them has a fault
+pub judged_good : {A : Type 0} (faults : List (Option EditKind)) (v w : A) (P : A → Type 0) → judged faults v ≡ Ok w → (Each (λ kind. kind ≡ None) faults → P v) → P w
+judged_good faults v w P e good = subst P (judged_same faults v w e) (good (judged_clear faults v w e))
 
 some_clear : (token : List ℕ) (kind : Option EditKind) → some_token token kind ≡ None → kind ≡ None
 some_clear [] kind e = absurd (some_not_none kinds.BadLine e)

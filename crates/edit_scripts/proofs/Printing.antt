@@ -1,18 +1,18 @@
 -- Fields that are appended one after another make the line of an edit.
 use Rattle.std.proofs.Common.{◌≡◌, ◌<◌, ◌-◌, take, arith, ℕ, List, [], ◌∷◌, ◌++◌, codes, length, drop, get_or, refl, sym, ap, ◌∙◌, append_assoc, append-nil}
 use Rattle.std.proofs.lemmas.List.{take_all}
-use Rattle.edit_rules.specs.Edit.{NamedTerm}
+use Rattle.edit_rules.specs.Edit.{NamedTerm, Edit, price, bounds, kind, capacity, fix, proportional, rename_material, rename_unit, add_material, remove_material, add_unit, remove_unit, exclude, unexclude, investment, payout}
 use Rattle.text_rules.specs.Canonical.{joined}
-use Rattle.script_rules.specs.Printed.{term_tokens, side_tokens}
-use Rattle.edit_scripts.specs.Printing.{appended, further_terms}
+use Rattle.script_rules.specs.Printed.{term_tokens, side_tokens, fields_of}
+use Rattle.edit_scripts.specs.Printing.{appended, further_terms, head_of, amounts_of, tail_of}
 
 -- fields behind fields
-pub appended-append : (text : List ℕ) (xs ys : List (List ℕ)) → appended text (xs ++ ys) ≡ appended (appended text xs) ys
+appended-append : (text : List ℕ) (xs ys : List (List ℕ)) → appended text (xs ++ ys) ≡ appended (appended text xs) ys
 appended-append text [] ys = refl
 appended-append text (x ∷ xs) ys = appended-append (text ++ 32 ∷ x) xs ys
 
 -- behind a word, joined by spaces
-pub line_appended : (text word : List ℕ) (fields : List (List ℕ)) → appended (text ++ word) fields ≡ text ++ joined 32 (word ∷ fields)
+line_appended : (text word : List ℕ) (fields : List (List ℕ)) → appended (text ++ word) fields ≡ text ++ joined 32 (word ∷ fields)
 line_appended text word [] = refl
 line_appended text word (field ∷ fields) =
     ap (λ (t : List ℕ). appended t fields) (append_assoc text word (32 ∷ field))
@@ -20,6 +20,32 @@ line_appended text word (field ∷ fields) =
     ∙ line_appended (text ++ (word ++ 32 ∷ [])) field fields
     ∙ append_assoc text (word ++ 32 ∷ []) (joined 32 (field ∷ fields))
     ∙ ap (λ (t : List ℕ). text ++ t) (append_assoc word (32 ∷ []) (joined 32 (field ∷ fields)))
+
+-- an edit's columns are its fields
+columns : (text : List ℕ) (edit : Edit) → appended (appended (appended text (head_of edit)) (amounts_of edit)) (tail_of edit) ≡ appended text (fields_of edit)
+columns text (price material value) = refl
+columns text (bounds material lower upper) = refl
+columns text (kind material k) = refl
+columns text (capacity unit lower upper) = refl
+columns text (fix unit value) = refl
+columns text (proportional unit value) = refl
+columns text (rename_material old new) = refl
+columns text (rename_unit old new) = refl
+columns text (add_material at name k value lower upper) = refl
+columns text (remove_material material) = refl
+columns text (add_unit at name lower upper fixed per_size inputs outputs) = refl
+columns text (remove_unit unit) = refl
+columns text (exclude at name units) = refl
+columns text (unexclude name) = refl
+columns text (investment unit fixed per_size) = refl
+columns text (payout years) = refl
+
+pub line_of : (text word : List ℕ) (edit : Edit) → appended (appended (appended (text ++ word) (head_of edit)) (amounts_of edit)) (tail_of edit) ≡ text ++ joined 32 (word ∷ fields_of edit)
+line_of text word edit = columns (text ++ word) edit ∙ line_appended text word (fields_of edit)
+
+-- two sides behind one another
+pub two_sides : (text : List ℕ) (ins outs : List (List ℕ)) → appended (appended (appended (appended text (codes ":" ∷ [])) ins) (codes "=>" ∷ [])) outs ≡ appended text (codes ":" ∷ ins ++ codes "=>" ∷ outs)
+two_sides text ins outs = sym (appended-append (appended text (codes ":" ∷ [])) ins (codes "=>" ∷ outs))
 
 -- a side is its first term and the further ones
 pub side_is : (t : NamedTerm) (ts : List NamedTerm) → side_tokens (t ∷ ts) ≡ term_tokens t ++ further_terms ts

@@ -20,60 +20,45 @@ use Rattle.script_rules.specs.Fault.{Fault, place_of, years_of, name_fault, kind
 use Rattle.script_rules.specs.Line.{tokens_of, word_named}
 use Rattle.script_rules.specs.Read.{name_read, names_read, kind_read, amount_read, fixed_read, bounds_read, costs_read, years_read, material_read, with_sides, unit_read, exclusion_read, edit_by, fields_read, worded_read, tokens_read, line_read, with_line, lines_read}
 use Rattle.script_rules.specs.Term.{Pair, sides_of, term_fault, terms_fault, sides_fault, materials_of, are_bad_sides, term_read}
-use Rattle.edit_scripts.proofs.Clear.{err_not_ok, ok_same, judged_clear, judged_same, both_clear, not_clear, name_clear, names_clear, range_of, bound_clear, rate_clear, place_clear, years_clear}
+use Rattle.edit_scripts.proofs.Clear.{err_not_ok, ok_same, judged_good, both_clear, not_clear, name_clear, names_clear, range_of, bound_clear, rate_clear, place_clear, years_clear}
 
 name_formed : (fields : List (List ℕ)) (value : List ℕ) → name_read fields ≡ Ok value → IsName value
 name_formed [] value e = absurd (err_not_ok _ value e)
 name_formed (x0 ∷ []) value e =
-    let faults : List (Option EditKind) = name_fault x0 ∷ [] in
-    let read : List ℕ = x0 in
-    let clear = judged_clear faults read value e in
-    let good : IsName read = name_clear x0 clear.0 in
-    subst (λ (v : List ℕ). IsName v) (judged_same faults read value e) good
+    judged_good (name_fault x0 ∷ []) x0 value (λ (v : List ℕ). IsName v) e
+    (λ clear. name_clear x0 clear.0)
 name_formed (x0 ∷ x1 ∷ xs) value e = absurd (err_not_ok _ value e)
 
 names_formed : (fields : List (List ℕ)) (value : List ℕ × List ℕ) → names_read fields ≡ Ok value → IsName value.0 × IsName value.1
 names_formed [] value e = absurd (err_not_ok _ value e)
 names_formed (x0 ∷ []) value e = absurd (err_not_ok _ value e)
 names_formed (x0 ∷ x1 ∷ []) value e =
-    let faults : List (Option EditKind) = name_fault x0 ∷ name_fault x1 ∷ [] in
-    let read : List ℕ × List ℕ = (x0, x1) in
-    let clear = judged_clear faults read value e in
-    let good : IsName read.0 × IsName read.1 = (name_clear x0 clear.0, name_clear x1 clear.1.0) in
-    subst (λ (v : List ℕ × List ℕ). IsName v.0 × IsName v.1) (judged_same faults read value e) good
+    judged_good (name_fault x0 ∷ name_fault x1 ∷ []) (x0, x1) value (λ (v : List ℕ × List ℕ). IsName v.0 × IsName v.1) e
+    (λ clear. (name_clear x0 clear.0, name_clear x1 clear.1.0))
 names_formed (x0 ∷ x1 ∷ x2 ∷ xs) value e = absurd (err_not_ok _ value e)
 
 kind_formed : (fields : List (List ℕ)) (value : List ℕ × Kind) → kind_read fields ≡ Ok value → IsName value.0
 kind_formed [] value e = absurd (err_not_ok _ value e)
 kind_formed (x0 ∷ []) value e = absurd (err_not_ok _ value e)
 kind_formed (x0 ∷ x1 ∷ []) value e =
-    let faults : List (Option EditKind) = name_fault x0 ∷ kind_fault x1 ∷ [] in
-    let read : List ℕ × Kind = (x0, kind_of x1) in
-    let clear = judged_clear faults read value e in
-    let good : IsName read.0 = name_clear x0 clear.0 in
-    subst (λ (v : List ℕ × Kind). IsName v.0) (judged_same faults read value e) good
+    judged_good (name_fault x0 ∷ kind_fault x1 ∷ []) (x0, kind_of x1) value (λ (v : List ℕ × Kind). IsName v.0) e
+    (λ clear. name_clear x0 clear.0)
 kind_formed (x0 ∷ x1 ∷ x2 ∷ xs) value e = absurd (err_not_ok _ value e)
 
 pub amount_formed : (fields : List (List ℕ)) (value : List ℕ × ℤ) → amount_read fields ≡ Ok value → IsName value.0 × IsInRange value.1
 amount_formed [] value e = absurd (err_not_ok _ value e)
 amount_formed (x0 ∷ []) value e = absurd (err_not_ok _ value e)
 amount_formed (x0 ∷ x1 ∷ []) value e =
-    let faults : List (Option EditKind) = name_fault x0 ∷ amount_fault x1 ∷ [] in
-    let read : List ℕ × ℤ = (x0, millionths x1) in
-    let clear = judged_clear faults read value e in
-    let good : IsName read.0 × IsInRange read.1 = (name_clear x0 clear.0, range_of x1) in
-    subst (λ (v : List ℕ × ℤ). IsName v.0 × IsInRange v.1) (judged_same faults read value e) good
+    judged_good (name_fault x0 ∷ amount_fault x1 ∷ []) (x0, millionths x1) value (λ (v : List ℕ × ℤ). IsName v.0 × IsInRange v.1) e
+    (λ clear. (name_clear x0 clear.0, range_of x1))
 amount_formed (x0 ∷ x1 ∷ x2 ∷ xs) value e = absurd (err_not_ok _ value e)
 
 fixed_formed : (fields : List (List ℕ)) (value : List ℕ × ℤ) → fixed_read fields ≡ Ok value → IsName value.0 × IsBound value.1
 fixed_formed [] value e = absurd (err_not_ok _ value e)
 fixed_formed (x0 ∷ []) value e = absurd (err_not_ok _ value e)
 fixed_formed (x0 ∷ x1 ∷ []) value e =
-    let faults : List (Option EditKind) = name_fault x0 ∷ bound_fault x1 ∷ [] in
-    let read : List ℕ × ℤ = (x0, millionths x1) in
-    let clear = judged_clear faults read value e in
-    let good : IsName read.0 × IsBound read.1 = (name_clear x0 clear.0, bound_clear x1 clear.1.0) in
-    subst (λ (v : List ℕ × ℤ). IsName v.0 × IsBound v.1) (judged_same faults read value e) good
+    judged_good (name_fault x0 ∷ bound_fault x1 ∷ []) (x0, millionths x1) value (λ (v : List ℕ × ℤ). IsName v.0 × IsBound v.1) e
+    (λ clear. (name_clear x0 clear.0, bound_clear x1 clear.1.0))
 fixed_formed (x0 ∷ x1 ∷ x2 ∷ xs) value e = absurd (err_not_ok _ value e)
 
 pub bounds_formed : (fields : List (List ℕ)) (value : List ℕ × (ℤ × ℤ)) → bounds_read fields ≡ Ok value → IsName value.0 × AreSignedBounds value.1.0 value.1.1
@@ -81,11 +66,8 @@ bounds_formed [] value e = absurd (err_not_ok _ value e)
 bounds_formed (x0 ∷ []) value e = absurd (err_not_ok _ value e)
 bounds_formed (x0 ∷ x1 ∷ []) value e = absurd (err_not_ok _ value e)
 bounds_formed (x0 ∷ x1 ∷ x2 ∷ []) value e =
-    let faults : List (Option EditKind) = name_fault x0 ∷ bound_fault x1 ∷ bound_fault x2 ∷ [] in
-    let read : List ℕ × (ℤ × ℤ) = (x0, (millionths x1, millionths x2)) in
-    let clear = judged_clear faults read value e in
-    let good : IsName read.0 × AreSignedBounds read.1.0 read.1.1 = (name_clear x0 clear.0, record { lower_bound = bound_clear x1 clear.1.0; upper_bound = bound_clear x2 clear.1.1.0 }) in
-    subst (λ (v : List ℕ × (ℤ × ℤ)). IsName v.0 × AreSignedBounds v.1.0 v.1.1) (judged_same faults read value e) good
+    judged_good (name_fault x0 ∷ bound_fault x1 ∷ bound_fault x2 ∷ []) (x0, (millionths x1, millionths x2)) value (λ (v : List ℕ × (ℤ × ℤ)). IsName v.0 × AreSignedBounds v.1.0 v.1.1) e
+    (λ clear. (name_clear x0 clear.0, record { lower_bound = bound_clear x1 clear.1.0; upper_bound = bound_clear x2 clear.1.1.0 }))
 bounds_formed (x0 ∷ x1 ∷ x2 ∷ x3 ∷ xs) value e = absurd (err_not_ok _ value e)
 
 costs_formed : (fields : List (List ℕ)) (value : List ℕ × (ℤ × ℤ)) → costs_read fields ≡ Ok value → IsName value.0 × IsBound value.1.0 × IsInRange value.1.1
@@ -93,21 +75,15 @@ costs_formed [] value e = absurd (err_not_ok _ value e)
 costs_formed (x0 ∷ []) value e = absurd (err_not_ok _ value e)
 costs_formed (x0 ∷ x1 ∷ []) value e = absurd (err_not_ok _ value e)
 costs_formed (x0 ∷ x1 ∷ x2 ∷ []) value e =
-    let faults : List (Option EditKind) = name_fault x0 ∷ bound_fault x1 ∷ amount_fault x2 ∷ [] in
-    let read : List ℕ × (ℤ × ℤ) = (x0, (millionths x1, millionths x2)) in
-    let clear = judged_clear faults read value e in
-    let good : IsName read.0 × IsBound read.1.0 × IsInRange read.1.1 = (name_clear x0 clear.0, bound_clear x1 clear.1.0, range_of x2) in
-    subst (λ (v : List ℕ × (ℤ × ℤ)). IsName v.0 × IsBound v.1.0 × IsInRange v.1.1) (judged_same faults read value e) good
+    judged_good (name_fault x0 ∷ bound_fault x1 ∷ amount_fault x2 ∷ []) (x0, (millionths x1, millionths x2)) value (λ (v : List ℕ × (ℤ × ℤ)). IsName v.0 × IsBound v.1.0 × IsInRange v.1.1) e
+    (λ clear. (name_clear x0 clear.0, bound_clear x1 clear.1.0, range_of x2))
 costs_formed (x0 ∷ x1 ∷ x2 ∷ x3 ∷ xs) value e = absurd (err_not_ok _ value e)
 
 years_formed : (fields : List (List ℕ)) (value : ℕ) → years_read fields ≡ Ok value → IsPayout (pos value)
 years_formed [] value e = absurd (err_not_ok _ value e)
 years_formed (x0 ∷ []) value e =
-    let faults : List (Option EditKind) = years_fault x0 ∷ [] in
-    let read : ℕ = years_of x0 in
-    let clear = judged_clear faults read value e in
-    let good : IsPayout (pos read) = years_clear x0 clear.0 in
-    subst (λ (v : ℕ). IsPayout (pos v)) (judged_same faults read value e) good
+    judged_good (years_fault x0 ∷ []) (years_of x0) value (λ (v : ℕ). IsPayout (pos v)) e
+    (λ clear. years_clear x0 clear.0)
 years_formed (x0 ∷ x1 ∷ xs) value e = absurd (err_not_ok _ value e)
 
 material_formed : (fields : List (List ℕ)) (value : Edit) → material_read fields ≡ Ok value → IsFormed value
@@ -118,11 +94,8 @@ material_formed (x0 ∷ x1 ∷ x2 ∷ []) value e = absurd (err_not_ok _ value e
 material_formed (x0 ∷ x1 ∷ x2 ∷ x3 ∷ []) value e = absurd (err_not_ok _ value e)
 material_formed (x0 ∷ x1 ∷ x2 ∷ x3 ∷ x4 ∷ []) value e = absurd (err_not_ok _ value e)
 material_formed (x0 ∷ x1 ∷ x2 ∷ x3 ∷ x4 ∷ x5 ∷ []) value e =
-    let faults : List (Option EditKind) = place_fault x0 ∷ name_fault x1 ∷ kind_fault x2 ∷ amount_fault x3 ∷ bound_fault x4 ∷ bound_fault x5 ∷ [] in
-    let read : Edit = add_material (place_of x0) x1 (kind_of x2) (millionths x3) (millionths x4) (millionths x5) in
-    let clear = judged_clear faults read value e in
-    let good : IsFormed read = record { place = place_clear x0; named = name_clear x1 clear.1.0; price_in_range = range_of x3; bounds = record { lower_bound = bound_clear x4 clear.1.1.1.1.0; upper_bound = bound_clear x5 clear.1.1.1.1.1.0 } } in
-    subst (λ (v : Edit). IsFormed v) (judged_same faults read value e) good
+    judged_good (place_fault x0 ∷ name_fault x1 ∷ kind_fault x2 ∷ amount_fault x3 ∷ bound_fault x4 ∷ bound_fault x5 ∷ []) (add_material (place_of x0) x1 (kind_of x2) (millionths x3) (millionths x4) (millionths x5)) value IsFormed e
+    (λ clear. record { place = place_clear x0; named = name_clear x1 clear.1.0; price_in_range = range_of x3; bounds = record { lower_bound = bound_clear x4 clear.1.1.1.1.0; upper_bound = bound_clear x5 clear.1.1.1.1.1.0 } })
 material_formed (x0 ∷ x1 ∷ x2 ∷ x3 ∷ x4 ∷ x5 ∷ x6 ∷ xs) value e = absurd (err_not_ok _ value e)
 
 -- sides
@@ -160,18 +133,15 @@ sides_formed inputs outputs ins outs good =
 sided_formed : (x0 x1 x2 x3 x4 x5 : List ℕ) (sides : Option (List Pair × List Pair)) (edit : Edit) → with_sides x0 x1 x2 x3 x4 x5 sides ≡ Ok edit → IsFormed edit
 sided_formed x0 x1 x2 x3 x4 x5 None edit e = absurd (err_not_ok _ edit e)
 sided_formed x0 x1 x2 x3 x4 x5 (Some (inputs, outputs)) edit e =
-    let faults : List (Option EditKind) = place_fault x0 ∷ name_fault x1 ∷ bound_fault x2 ∷ bound_fault x3 ∷ bound_fault x4 ∷ amount_fault x5 ∷ terms_fault inputs ∷ terms_fault outputs ∷ sides_fault inputs outputs ∷ [] in
-    let read : Edit = add_unit (place_of x0) x1 (millionths x2) (millionths x3) (millionths x4) (millionths x5) (map term_read inputs) (map term_read outputs) in
-    let clear = judged_clear faults read edit e in
-    let good : IsFormed read = record {
-      place = place_clear x0;
-      named = name_clear x1 clear.1.0;
-      bounds = record { lower_bound = bound_clear x2 clear.1.1.0; upper_bound = bound_clear x3 clear.1.1.1.0 };
-      fix_bound = bound_clear x4 clear.1.1.1.1.0;
-      proportional_in_range = range_of x5;
-      sides = sides_formed inputs outputs clear.1.1.1.1.1.1.0 clear.1.1.1.1.1.1.1.0 (not_clear (are_bad_sides inputs outputs) kinds.BadTerms clear.1.1.1.1.1.1.1.1.0);
-    } in
-    subst IsFormed (judged_same faults read edit e) good
+    judged_good (place_fault x0 ∷ name_fault x1 ∷ bound_fault x2 ∷ bound_fault x3 ∷ bound_fault x4 ∷ amount_fault x5 ∷ terms_fault inputs ∷ terms_fault outputs ∷ sides_fault inputs outputs ∷ []) (add_unit (place_of x0) x1 (millionths x2) (millionths x3) (millionths x4) (millionths x5) (map term_read inputs) (map term_read outputs)) edit IsFormed e
+    (λ clear. record {
+        place = place_clear x0;
+        named = name_clear x1 clear.1.0;
+        bounds = record { lower_bound = bound_clear x2 clear.1.1.0; upper_bound = bound_clear x3 clear.1.1.1.0 };
+        fix_bound = bound_clear x4 clear.1.1.1.1.0;
+        proportional_in_range = range_of x5;
+        sides = sides_formed inputs outputs clear.1.1.1.1.1.1.0 clear.1.1.1.1.1.1.1.0 (not_clear (are_bad_sides inputs outputs) kinds.BadTerms clear.1.1.1.1.1.1.1.1.0);
+      })
 
 unit_formed : (fields : List (List ℕ)) (edit : Edit) → unit_read fields ≡ Ok edit → IsFormed edit
 unit_formed [] edit e = absurd (err_not_ok _ edit e)
@@ -193,11 +163,8 @@ exclusion_formed (x0 ∷ x1 ∷ []) edit e = absurd (err_not_ok _ edit e)
 exclusion_formed (x0 ∷ x1 ∷ x2 ∷ []) edit e = absurd (err_not_ok _ edit e)
 exclusion_formed (x0 ∷ x1 ∷ x2 ∷ x3 ∷ more) edit e =
     let units : List (List ℕ) = x2 ∷ x3 ∷ more in
-    let faults : List (Option EditKind) = place_fault x0 ∷ name_fault x1 ∷ names_fault units ∷ members_fault units ∷ [] in
-    let read : Edit = exclude (place_of x0) x1 units in
-    let clear = judged_clear faults read edit e in
-    let good : IsFormed read = record { place = place_clear x0; named = name_clear x1 clear.1.0; members_named = names_clear units clear.1.1.0; enough = omega arith; once = not_clear (has_double units) kinds.BadMembers clear.1.1.1.0 } in
-    subst IsFormed (judged_same faults read edit e) good
+    judged_good (place_fault x0 ∷ name_fault x1 ∷ names_fault units ∷ members_fault units ∷ []) (exclude (place_of x0) x1 units) edit IsFormed e
+    (λ clear. record { place = place_clear x0; named = name_clear x1 clear.1.0; members_named = names_clear units clear.1.1.0; enough = omega arith; once = not_clear (has_double units) kinds.BadMembers clear.1.1.1.0 })
 
 by_formed : {A : Type 0} (edit : A → Edit) (read : Result A EditKind) → ((value : A) → read ≡ Ok value → IsFormed (edit value)) → (e : Edit) → edit_by edit read ≡ Ok e → IsFormed e
 by_formed edit (Ok value) says e same = subst IsFormed (ok_same (edit value) e same) (says value refl)

@@ -1,13 +1,10 @@
 -- Lines that are read one by one.
-use Rattle.std.proofs.Common.{◌≡◌, ◌<◌, ◌+◌, ◌++◌, ℕ, List, [], ◌∷◌, length, Result, Ok, Err, refl, sym, ap, ◌∙◌, arith, append_assoc, append-nil, true}
-use Rattle.std.specs.Str.{bytes_eq}
-use Rattle.std.proofs.lemmas.Bool.{cond-true}
+use Rattle.std.proofs.Common.{◌≡◌, ◌<◌, ◌+◌, ◌++◌, ℕ, List, [], ◌∷◌, length, Result, Ok, Err, refl, sym, ap, ◌∙◌, arith, append_assoc, append-nil}
 use Rattle.edit_rules.specs.Edit.{Edit, Script}
 use Rattle.script_rules.specs.declared.EditKind.{EditKind}
-use Rattle.script_rules.specs.declared.EditKind.TheVariants.{FileType}
 use Rattle.script_rules.specs.Fault.{Fault}
-use Rattle.script_rules.specs.Line.{file_type, script_lines}
-use Rattle.script_rules.specs.Read.{line_read, with_line, lines_read, text_read, read_script}
+use Rattle.script_rules.specs.Line.{script_lines}
+use Rattle.script_rules.specs.Read.{line_read, with_line, lines_read}
 use Rattle.edit_scripts.specs.Walk.{with_front}
 
 front_one : (edits : List Edit) (lines : List ℕ) (number : ℕ) (edit : Edit) (rest : Result Script Fault)
@@ -29,12 +26,6 @@ take_edit edits lines number text edit texts some good =
     ∙ ap (λ (r : Result Edit EditKind). with_front edits lines (with_line number r (lines_read (number + 1) texts))) (sym good)
     ∙ ap (with_front edits lines) (sym (line_taken number text texts some))
 
--- past an empty line
-pub take_empty : (edits : List Edit) (lines : List ℕ) (number : ℕ) (text : List ℕ) (texts : List (List ℕ)) → length text ≡ 0
-    → with_front edits lines (lines_read (number + 1) texts) ≡ with_front edits lines (lines_read number (text ∷ texts))
-take_empty edits lines number [] texts e = refl
-take_empty edits lines number (c ∷ cs) texts e = absurd (omega arith)
-
 -- nothing in front, and nothing behind
 pub front_none : (rest : Result Script Fault) → with_front [] [] rest ≡ rest
 front_none (Ok script) = refl
@@ -46,8 +37,3 @@ read_to_end edits lines number [] e =
     ap (λ (es : List Edit). Ok (record { edits = es; lines = lines ++ [] })) (append-nil edits)
     ∙ ap (λ (ns : List ℕ). Ok (record { edits = edits; lines = ns })) (append-nil lines)
 read_to_end edits lines number (c ∷ cs) e = absurd (omega arith)
-
--- behind the first line
-pub read_typed : (bytes first rest : List ℕ) → script_lines bytes ≡ first ∷ script_lines rest → bytes_eq first file_type ≡ true → read_script bytes ≡ lines_read 2 (script_lines rest)
-read_typed bytes first rest cut typed =
-    ap text_read cut ∙ cond-true (bytes_eq first file_type) (lines_read 2 (script_lines rest)) (Err (1, FileType)) typed

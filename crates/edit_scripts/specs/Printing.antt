@@ -1,12 +1,50 @@
--- How the line of an edit is put together: each field behind a space.
-use Rattle.std.specs.Prelude.{ℕ, List, [], ◌∷◌, ◌++◌, codes, flat_map, map}
-use Rattle.edit_rules.specs.Edit.{NamedTerm, Edit}
-use Rattle.script_rules.specs.Printed.{term_tokens, edit_line, printed}
+-- How the line of an edit is put together: each field behind a space. Behind the word come the place, the names and the kind;
+-- then the amounts; then the sides, the units or the years.
+use Rattle.std.specs.Prelude.{ℕ, List, [], ◌∷◌, ◌++◌, codes, decimal, flat_map, map, unsigned_abs}
+use Rattle.edit_rules.specs.Edit.{NamedTerm, Edit, price, bounds, kind, capacity, fix, proportional, rename_material, rename_unit, add_material, remove_material, add_unit, remove_unit, exclude, unexclude, investment, payout}
+use Rattle.text_rules.specs.Canonical.{kind_word}
+use Rattle.text_rules.specs.Printed.{amount_bytes}
+use Rattle.script_rules.specs.Printed.{term_tokens, side_tokens, edit_line, printed}
 
 -- what stands when the fields were appended
 abbrev pub appended : List ℕ → List (List ℕ) → List ℕ
 appended text [] = text
 appended text (field ∷ fields) = appended (text ++ 32 ∷ field) fields
+
+abbrev pub head_of : Edit → List (List ℕ)
+head_of (price material value) = material ∷ []
+head_of (bounds material lower upper) = material ∷ []
+head_of (kind material k) = material ∷ kind_word k ∷ []
+head_of (capacity unit lower upper) = unit ∷ []
+head_of (fix unit value) = unit ∷ []
+head_of (proportional unit value) = unit ∷ []
+head_of (rename_material old new) = old ∷ new ∷ []
+head_of (rename_unit old new) = old ∷ new ∷ []
+head_of (add_material at name k value lower upper) = decimal at ∷ name ∷ kind_word k ∷ []
+head_of (remove_material material) = material ∷ []
+head_of (add_unit at name lower upper fixed per_size inputs outputs) = decimal at ∷ name ∷ []
+head_of (remove_unit unit) = unit ∷ []
+head_of (exclude at name units) = decimal at ∷ name ∷ []
+head_of (unexclude name) = name ∷ []
+head_of (investment unit fixed per_size) = unit ∷ []
+head_of (payout years) = []
+
+abbrev pub amounts_of : Edit → List (List ℕ)
+amounts_of (price material value) = amount_bytes value ∷ []
+amounts_of (bounds material lower upper) = amount_bytes lower ∷ amount_bytes upper ∷ []
+amounts_of (capacity unit lower upper) = amount_bytes lower ∷ amount_bytes upper ∷ []
+amounts_of (fix unit value) = amount_bytes value ∷ []
+amounts_of (proportional unit value) = amount_bytes value ∷ []
+amounts_of (add_material at name k value lower upper) = amount_bytes value ∷ amount_bytes lower ∷ amount_bytes upper ∷ []
+amounts_of (add_unit at name lower upper fixed per_size inputs outputs) = amount_bytes lower ∷ amount_bytes upper ∷ amount_bytes fixed ∷ amount_bytes per_size ∷ []
+amounts_of (investment unit fixed per_size) = amount_bytes fixed ∷ amount_bytes per_size ∷ []
+amounts_of edit = []
+
+abbrev pub tail_of : Edit → List (List ℕ)
+tail_of (add_unit at name lower upper fixed per_size inputs outputs) = codes ":" ∷ side_tokens inputs ++ codes "=>" ∷ side_tokens outputs
+tail_of (exclude at name units) = units
+tail_of (payout years) = decimal (unsigned_abs years) ∷ []
+tail_of edit = []
 
 -- terms behind the first of a side, each behind a `+`
 abbrev pub further_terms : List NamedTerm → List (List ℕ)
