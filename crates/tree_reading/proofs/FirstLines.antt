@@ -19,7 +19,7 @@ none_taken : {A : Type 0} (number : ℕ) (t : Taken A) → ◌≡◌ {A = Result
 none_taken number t e = absurd cc
 
 -- a line counts one
-pub line_number : {A : Type 0} (judge : Line → Result A TreeKind) (number : ℕ) (lines : List Line) (t : Taken A) → line_taken judge number lines ≡ Ok t → t.number ≡ suc number
+line_number : {A : Type 0} (judge : Line → Result A TreeKind) (number : ℕ) (lines : List Line) (t : Taken A) → line_taken judge number lines ≡ Ok t → t.number ≡ suc number
 line_number judge number [] t e = none_taken number t e
 line_number judge number (line ∷ behind) t e = numbered number (judge line) behind t e
 
@@ -29,16 +29,16 @@ behind_on number (Ok a) behind read = refl
 behind_on number (Err kind) behind read = refl
 
 -- the first line, and then the lines behind it
-pub first_then : {A B : Type 0} (judge : Line → Result A TreeKind) (number : ℕ) (lines : List Line) (read : A → List Line → Result B Fault)
+first_then : {A B : Type 0} (judge : Line → Result A TreeKind) (number : ℕ) (lines : List Line) (read : A → List Line → Result B Fault)
     → first_line judge number lines read ≡ then_read (line_taken judge number lines) (λ a number lines. read a lines)
 first_then judge number [] read = refl
 first_then judge number (line ∷ behind) read = behind_on number (judge line) behind read
 
-pub first_ok : {A B : Type 0} (judge : Line → Result A TreeKind) (number : ℕ) (lines : List Line) (read : A → List Line → Result B Fault) (t : Taken A)
+first_ok : {A B : Type 0} (judge : Line → Result A TreeKind) (number : ℕ) (lines : List Line) (read : A → List Line → Result B Fault) (t : Taken A)
     → line_taken judge number lines ≡ Ok t → first_line judge number lines read ≡ read t.what t.behind
 first_ok {A} judge number lines read t e = first_then judge number lines read ∙ ap (λ (r : Result (Taken A) Fault). then_read r (λ a number lines. read a lines)) e
 
-then_tells : {A B : Type 0} (r : Result (Taken A) Fault) (read : A → ℕ → List Line → Result B Fault) (fault : TextFault TreeKind) → Tells r fault → Tells (then_read r read) fault
+pub then_tells : {A B : Type 0} (r : Result (Taken A) Fault) (read : A → ℕ → List Line → Result B Fault) (fault : TextFault TreeKind) → Tells r fault → Tells (then_read r read) fault
 then_tells r read faults.Memory h = tt
 then_tells {A} {B} r read (faults.At line kind) h = ap (λ (r : Result (Taken A) Fault). then_read r read) h
 
@@ -48,28 +48,9 @@ first_tells {A} {B} judge number lines read fault h =
     subst (λ (r : Result B Fault). Tells r fault) (sym (first_then judge number lines read))
     (then_tells (line_taken judge number lines) (λ a number lines. read a lines) fault h)
 
-pub read_tells : {A B : Type 0} (r : Result (Taken A) Fault) (read : A → ℕ → List Line → Result B Fault) (fault : TextFault TreeKind) → Tells r fault → Tells (then_read r read) fault
-read_tells r read fault h = then_tells r read fault h
-
 -- the first line, and then what is read from the number behind it on
 pub first_next : {A B : Type 0} (judge : Line → Result A TreeKind) (number : ℕ) (lines : List Line) (next : A → ℕ → List Line → Result B Fault) (t : Taken A)
     → line_taken judge number lines ≡ Ok t → first_line judge number lines (λ a lines. next a (suc number) lines) ≡ next t.what t.number t.behind
 first_next judge number lines next t e =
     first_ok judge number lines (λ a lines. next a (suc number) lines) t e
     ∙ ap (λ n. next t.what n t.behind) (sym (line_number judge number lines t e))
-
-module _ {A B C : Type 0} (judge : Line → Result A TreeKind) (judge' : Line → Result B TreeKind) (next : A → B → ℕ → List Line → Result C Fault) (number : ℕ) (lines : List Line) where
-  -- two lines, and then what is read behind them
-  abbrev pub two_lines : Result C Fault
-  two_lines = first_line judge number lines (λ a lines. first_line judge' (suc number) lines (λ b lines. next a b (suc (suc number)) lines))
-
-  pub two_first : (t : Taken A) → line_taken judge number lines ≡ Ok t → two_lines ≡ first_line judge' t.number t.behind (λ b lines. next t.what b (suc t.number) lines)
-  two_first t e = first_next judge number lines (λ a n lines. first_line judge' n lines (λ b lines. next a b (suc n) lines)) t e
-
-  pub two_ok : (t : Taken A) (u : Taken B) → line_taken judge number lines ≡ Ok t → line_taken judge' t.number t.behind ≡ Ok u → two_lines ≡ next t.what u.what u.number u.behind
-  two_ok t u e e' = two_first t e ∙ first_next judge' t.number t.behind (next t.what) u e'
-
-  pub two_bad : (t : Taken A) (fault : TextFault TreeKind) → line_taken judge number lines ≡ Ok t → Tells (line_taken judge' t.number t.behind) fault → Tells two_lines fault
-  two_bad t fault e h =
-      subst (λ (r : Result C Fault). Tells r fault) (sym (two_first t e))
-      (first_tells judge' t.number t.behind (λ b lines. next t.what b (suc t.number) lines) fault h)

@@ -8,13 +8,16 @@ use Rattle.tree_rules.specs.Leaf.{Leaf}
 use Rattle.tree_rules.specs.Accepted.{Tree}
 use Rattle.tree_text_rules.specs.Line.{Line}
 use Rattle.tree_text_rules.specs.LineRead.{step_read, end_line_read, option_read}
-use Rattle.tree_text_rules.specs.Read.{Fault, Taken, Head, with_step, with_end, with_node, on_line, first_line, then_read, steps_taken, nodes_taken}
+use Rattle.tree_text_rules.specs.Read.{Fault, Taken, Head, with_step, with_end, with_node, on_line, first_line, then_read, steps_taken, end_taken, nodes_taken}
 use Rattle.tree_text_rules.specs.declared.TreeKind.{TreeKind}
-use Rattle.tree_reading.specs.Taken.{line_taken, end_behind, node_taken}
+use Rattle.tree_reading.specs.Gives.{begun, IsNode}
+use Rattle.tree_reading.specs.Place.{lines_at}
+use Rattle.tree_reading.specs.Taken.{line_taken}
+use Rattle.tree_reading.specs.declared.cut.Cut.{Cut}
 use Rattle.text_lines.specs.Tells.{Tells}
 use Rattle.text_lines.specs.declared.fault.TextFault.{TextFault}
 use Rattle.text_lines.specs.declared.fault.TextFault.TheVariants as faults
-use Rattle.tree_reading.proofs.FirstLines.{first_ok, first_tells, read_tells, line_number}
+use Rattle.tree_reading.proofs.FirstLines.{first_next, first_tells, then_tells}
 
 abbrev pub TreeNode : Type 0
 TreeNode = trees.TreeNode Leaf
@@ -22,156 +25,135 @@ TreeNode = trees.TreeNode Leaf
 abbrev pub Reading : Type 0
 Reading = Result (Taken Tree) Fault
 
--- what was read before, and what is still read
-abbrev pub with_front : Tree → Reading → Reading
-with_front front (Ok t) = Ok (record { what = front ++ t.what; number = t.number; behind = t.behind })
-with_front front (Err fault) = Err fault
+-- ---- one node
 
-regroup : (front : Tree) (t : TreeNode) (r : Reading) → with_front front (with_node t r) ≡ with_front (front ++ t ∷ []) r
-regroup front t (Ok r) = ap (λ (ts : Tree). Ok (record { what = ts; number = r.number; behind = r.behind })) (sym (append_assoc front (t ∷ []) r.what))
-regroup front t (Err f) = refl
-
-abbrev node_then : Problem → ℕ → TreeNode → ℕ → List Line → Reading
-node_then p count t number lines = with_node t (nodes_taken p None (trees.children t.end + count) number lines)
-
-at_end : (p : Problem) (head : Head) (count number : ℕ) (lines : List Line) (r : Result (trees.End Leaf) TreeKind)
-    → on_line number r (λ end. with_node (with_end head end) (nodes_taken p None (trees.children end + count) (suc number) lines))
-    ≡ then_read (on_line number r (λ end. Ok (record { what = with_end head end; number = suc number; behind = lines }))) (node_then p count)
-at_end p head count number lines (Ok end) = refl
-at_end p head count number lines (Err kind) = refl
+-- the end of a node behind its steps, and then what stands behind the node
+abbrev pub after_steps : Problem → ℕ → Head → ℕ → List Line → Reading
+after_steps p count head number lines =
+    first_line (end_line_read p) number lines (λ end lines. with_node (with_end head end) (nodes_taken p None (trees.children end + count) (suc number) lines))
 
 at_line : (p : Problem) (head : Head) (count number : ℕ) (line : Line) (lines : List Line) (r : Option (Result Step TreeKind))
-    → ((head' : Head) → nodes_taken p (Some head') count (suc number) lines ≡ then_read (then_read (steps_taken p head' (suc number) lines) (end_behind p)) (node_then p count))
+    → ((head' : Head) → nodes_taken p (Some head') count (suc number) lines ≡ then_read (steps_taken p head' (suc number) lines) (after_steps p count))
     → elim r [
       | Some read ↦ on_line number read (λ step. nodes_taken p (Some (with_step head step)) count (suc number) lines)
-      | None ↦ on_line number (end_line_read p line) (λ end. with_node (with_end head end) (nodes_taken p None (trees.children end + count) (suc number) lines))
+      | None ↦ after_steps p count head number (line ∷ lines)
     ]
-    ≡ then_read (then_read (elim r [
+    ≡ then_read (elim r [
       | None ↦ Ok (record { what = head; number = number; behind = line ∷ lines })
       | Some read ↦ on_line number read (λ step. steps_taken p (with_step head step) (suc number) lines)
-    ]) (end_behind p)) (node_then p count)
-at_line p head count number line lines None later = at_end p head count number lines (end_line_read p line)
+    ]) (after_steps p count)
+at_line p head count number line lines None later = refl
 at_line p head count number line lines (Some (Ok step)) later = later (with_step head step)
 at_line p head count number line lines (Some (Err kind)) later = refl
 
--- a node is its steps and its end, and then what stands behind
-nodes_by_node : (p : Problem) (head : Head) (count number : ℕ) (lines : List Line)
-    → nodes_taken p (Some head) count number lines ≡ then_read (then_read (steps_taken p head number lines) (end_behind p)) (node_then p count)
+nodes_by_steps : (p : Problem) (head : Head) (count number : ℕ) (lines : List Line)
+    → nodes_taken p (Some head) count number lines ≡ then_read (steps_taken p head number lines) (after_steps p count)
 unfolding nodes_taken
-nodes_by_node p head count number [] = refl
-nodes_by_node p head count number (line ∷ lines) = at_line p head count number line lines (step_read p line) (λ head'. nodes_by_node p head' count (suc number) lines)
+nodes_by_steps p head count number [] = refl
+nodes_by_steps p head count number (line ∷ lines) = at_line p head count number line lines (step_read p line) (λ head'. nodes_by_steps p head' count (suc number) lines)
 
-nodes_by_option : (p : Problem) (count number : ℕ) (lines : List Line)
-    → nodes_taken p None (suc count) number lines ≡ first_line (option_read p) number lines (λ option lines. nodes_taken p (Some (record { option = option; steps = [] })) count (suc number) lines)
-unfolding nodes_taken
-nodes_by_option p count number [] = refl
-nodes_by_option p count number (line ∷ lines) = refl
+module _ (p : Problem) (option : List ℕ) (number : ℕ) (lines : List Line) (head : Head) (number' : ℕ) (lines' : List Line)
+    (steps : steps_taken p (record { option = option; steps = [] }) number lines ≡ Ok (record { what = head; number = number'; behind = lines' })) (count : ℕ) where
+  behind_steps : begun p option count number lines ≡ after_steps p count head number' lines'
+  behind_steps = nodes_by_steps p (record { option = option; steps = [] }) count number lines ∙ ap (λ (r : Result (Taken Head) Fault). then_read r (after_steps p count)) steps
+
+  pub node_read : (end : trees.End Leaf) (number'' : ℕ) (lines'' : List Line) → end_taken p number' lines' ≡ Ok (record { what = end; number = number''; behind = lines'' })
+      → begun p option count number lines ≡ with_node (with_end head end) (nodes_taken p None (trees.children end + count) number'' lines'')
+  node_read end number'' lines'' e =
+      behind_steps
+      ∙ first_next (end_line_read p) number' lines' (λ end number lines. with_node (with_end head end) (nodes_taken p None (trees.children end + count) number lines)) (record { what = end; number = number''; behind = lines'' }) e
+
+  pub end_told : (fault : TextFault TreeKind) → Tells (end_taken p number' lines') fault → Tells (begun p option count number lines) fault
+  end_told fault h =
+      subst (λ (r : Reading). Tells r fault) (sym behind_steps)
+      (first_tells (end_line_read p) number' lines' (λ end lines. with_node (with_end head end) (nodes_taken p None (trees.children end + count) (suc number') lines)) fault h)
+
+pub steps_told : (p : Problem) (option : List ℕ) (number : ℕ) (lines : List Line) (count : ℕ) (fault : TextFault TreeKind) → Tells (steps_taken p (record { option = option; steps = [] }) number lines) fault → Tells (begun p option count number lines) fault
+steps_told p option number lines count fault h =
+    let head : Head = record { option = option; steps = [] } in
+    subst (λ (r : Reading). Tells r fault) (sym (nodes_by_steps p head count number lines)) (then_tells (steps_taken p head number lines) (after_steps p count) fault h)
+
+-- ---- nodes that were read, and what is still read behind them
+
+abbrev pub with_front : Tree → Reading → Reading
+with_front front (Ok t) = Ok (record { what = front ++ t.what; number = t.number; behind = t.behind })
+with_front front (Err fault) = Err fault
 
 front_tells : (front : Tree) (r : Reading) (fault : TextFault TreeKind) → Tells r fault → Tells (with_front front r) fault
 front_tells front r faults.Memory h = tt
 front_tells front r (faults.At line kind) h = ap (with_front front) h
 
-module _ (p : Problem) (whole : Reading) where
-  -- before a node's steps, and behind a node
-  abbrev pub LeadsIn : Tree → List ℕ → ℕ → ℕ → List Line → Type 0
-  LeadsIn front option count number lines = with_front front (nodes_taken p (Some (record { option = option; steps = [] })) count number lines) ≡ whole
+regroup : (front : Tree) (t : TreeNode) (r : Reading) → with_front front (with_node t r) ≡ with_front (front ++ t ∷ []) r
+regroup front t (Ok r) = ap (λ (ts : Tree). Ok (record { what = ts; number = r.number; behind = r.behind })) (sym (append_assoc front (t ∷ []) r.what))
+regroup front t (Err f) = refl
 
-  abbrev pub LeadsOn : Tree → ℕ → ℕ → List Line → Type 0
-  LeadsOn front count number lines = with_front front (nodes_taken p None count number lines) ≡ whole
+-- The line of a node with this option was read behind these nodes: what is still read leads to the whole, and this node and so
+-- many subtrees behind it make one tree of the nodes.
+pub record IsBegun (p : Problem) (whole : Reading) (front : Tree) (option : List ℕ) (count number : ℕ) (lines : List Line) : Type 0 where
+  pub leads : with_front front (begun p option count number lines) ≡ whole
+  pub shape : (t : TreeNode) (ts : Tree) → t.option ≡ option → trees.IsForest (suc count) (t ∷ ts) → trees.IsTree (front ++ t ∷ ts)
 
-  pub node_on : (front : Tree) (option : List ℕ) (count more number number' : ℕ) (lines lines' : List Line) (t : TreeNode)
-      → LeadsIn front option count number lines → node_taken p option number lines ≡ Ok (record { what = t; number = number'; behind = lines' }) → more ≡ trees.children t.end + count
-      → LeadsOn (front ++ t ∷ []) more number' lines'
-  node_on front option count more number number' lines lines' t leads e q =
-      ap (λ (n : ℕ). with_front (front ++ t ∷ []) (nodes_taken p None n number' lines')) q
-      ∙ sym (regroup front t (nodes_taken p None (trees.children t.end + count) number' lines'))
-      ∙ ap (λ (r : Result (Taken TreeNode) Fault). with_front front (then_read r (node_then p count))) (sym e)
-      ∙ ap (with_front front) (sym (nodes_by_node p (record { option = option; steps = [] }) count number lines))
-      ∙ leads
+-- So many subtrees are still to come behind these nodes.
+pub record IsOpen (p : Problem) (whole : Reading) (front : Tree) (count number : ℕ) (lines : List Line) : Type 0 where
+  pub leads : with_front front (nodes_taken p None count number lines) ≡ whole
+  pub shape : (ts : Tree) → trees.IsForest count ts → trees.IsTree (front ++ ts)
 
-  pub node_bad : (front : Tree) (option : List ℕ) (count number : ℕ) (lines : List Line) (fault : TextFault TreeKind)
-      → LeadsIn front option count number lines → Tells (node_taken p option number lines) fault → Tells whole fault
-  node_bad front option count number lines fault leads h =
-      subst (λ (r : Reading). Tells r fault)
-      (ap (with_front front) (sym (nodes_by_node p (record { option = option; steps = [] }) count number lines)) ∙ leads)
-      (front_tells front (then_read (node_taken p option number lines) (node_then p count)) fault (read_tells (node_taken p option number lines) (node_then p count) fault h))
+pub nothing_before : (p : Problem) (front : Tree) (option : List ℕ) (number : ℕ) (lines : List Line) → front ≡ [] → option ≡ [] → IsBegun p (begun p [] 0 number lines) front option 0 number lines
+nothing_before p front option number lines e f =
+    subst (λ (c : Tree × List ℕ). IsBegun p (begun p [] 0 number lines) c.0 c.1 0 number lines) (λ i. (sym e i, sym f i))
+    (record { leads = same (begun p [] 0 number lines); shape = λ t ts is forest. (is, forest) })
+  where
+    same : (r : Reading) → with_front [] r ≡ r
+    same (Ok t) = refl
+    same (Err fault) = refl
 
-  pub nodes_done : (front : Tree) (count number : ℕ) (lines : List Line) → LeadsOn front count number lines → count ≡ 0 → whole ≡ Ok (record { what = front; number = number; behind = lines })
+pub node_told : {p : Problem} {whole : Reading} {front : Tree} {option : List ℕ} {count number : ℕ} {lines : List Line} → IsBegun p whole front option count number lines → (fault : TextFault TreeKind) → Tells (begun p option count number lines) fault → Tells whole fault
+node_told {p} {whole} {front} {option} {count} {number} {lines} is fault h = subst (λ (r : Reading). Tells r fault) is.leads (front_tells front (begun p option count number lines) fault h)
+
+pub node_on : {p : Problem} {whole : Reading} {front nodes : Tree} {option bytes : List ℕ} {count more : ℕ} {cut : Cut} {found : TreeNode × Cut} → IsNode p option bytes cut found → IsBegun p whole front option count cut.line (lines_at bytes cut)
+    → nodes ≡ front ++ found.0 ∷ [] → more ≡ trees.children found.0.end + count → IsOpen p whole nodes more found.1.line (lines_at bytes found.1)
+node_on {p} {whole} {front} {nodes} {option} {bytes} {count} {more} {cut} {found} node is q q' =
+    let t : TreeNode = found.0 in
+    let number : ℕ = found.1.line in
+    let lines : List Line = lines_at bytes found.1 in
+    subst (λ (c : Tree × ℕ). IsOpen p whole c.0 c.1 number lines) (λ i. (sym q i, sym q' i)) (record {
+      leads = sym (regroup front t (nodes_taken p None (trees.children t.end + count) number lines)) ∙ ap (with_front front) (sym (node.reads count)) ∙ is.leads;
+      shape = λ ts forest. subst (λ (us : Tree). trees.IsTree us) (sym (append_assoc front (t ∷ []) ts)) (is.shape t ts node.option_is (node.whole, forest));
+    })
+
+module _ {p : Problem} {whole : Reading} {front : Tree} {count number : ℕ} {lines : List Line} (is : IsOpen p whole front count number lines) where
+  pub nodes_done : count ≡ 0 → whole ≡ Ok (record { what = front; number = number; behind = lines })
   unfolding nodes_taken
-  nodes_done front count number lines leads e =
-      sym leads ∙ ap (λ (n : ℕ). with_front front (nodes_taken p None n number lines)) e
+  nodes_done e =
+      sym is.leads ∙ ap (λ (n : ℕ). with_front front (nodes_taken p None n number lines)) e
       ∙ ap (λ (ts : Tree). Ok (record { what = ts; number = number; behind = lines })) (append-nil front)
 
-  at_option : (front : Tree) (count number : ℕ) (lines : List Line) → LeadsOn front count number lines → 0 < count
-      → with_front front (first_line (option_read p) number lines (λ option lines. nodes_taken p (Some (record { option = option; steps = [] })) (count - 1) (suc number) lines)) ≡ whole
-  at_option front count number lines leads some =
-      ap (with_front front) (sym (nodes_by_option p (count - 1) number lines))
-      ∙ ap (λ (n : ℕ). with_front front (nodes_taken p None n number lines)) (let q : suc (count - 1) ≡ count = omega arith in q)
-      ∙ leads
+  pub nodes_tree : count ≡ 0 → trees.IsTree front
+  nodes_tree e = subst (λ (ts : Tree). trees.IsTree ts) (append-nil front) (is.shape [] (subst (λ (n : ℕ). trees.IsForest {L = Leaf} n []) (sym e) tt))
 
-  pub option_on : (front : Tree) (option : List ℕ) (count number number' : ℕ) (lines lines' : List Line)
-      → LeadsOn front count number lines → 0 < count → line_taken (option_read p) number lines ≡ Ok (record { what = option; number = number'; behind = lines' }) → number' ≡ suc number
-      → LeadsIn front option (count - 1) number' lines'
-  option_on front option count number number' lines lines' leads some e q =
-      ap (λ (n : ℕ). with_front front (nodes_taken p (Some (record { option = option; steps = [] })) (count - 1) n lines')) q
-      ∙ ap (with_front front) (sym (first_ok (option_read p) number lines (λ option lines. nodes_taken p (Some (record { option = option; steps = [] })) (count - 1) (suc number) lines) (record { what = option; number = number'; behind = lines' }) e))
-      ∙ at_option front count number lines leads some
+  module _ (some : 0 < count) where
+    one_more : suc (count - 1) ≡ count
+    one_more = omega arith
 
-  pub option_bad : (front : Tree) (count number : ℕ) (lines : List Line) (fault : TextFault TreeKind)
-      → LeadsOn front count number lines → 0 < count → Tells (line_taken (option_read p) number lines) fault → Tells whole fault
-  option_bad front count number lines fault leads some h =
-      let read : List ℕ → List Line → Reading = λ option lines. nodes_taken p (Some (record { option = option; steps = [] })) (count - 1) (suc number) lines in
-      subst (λ (r : Reading). Tells r fault) (at_option front count number lines leads some)
-      (front_tells front (first_line (option_read p) number lines read) fault (first_tells (option_read p) number lines read fault h))
+    by_option : (lines : List Line) → nodes_taken p None (suc (count - 1)) number lines ≡ first_line (option_read p) number lines (λ option lines. begun p option (count - 1) (suc number) lines)
+    unfolding nodes_taken
+    by_option [] = refl
+    by_option (line ∷ lines) = refl
 
--- ---- one node
+    at_option : with_front front (first_line (option_read p) number lines (λ option lines. begun p option (count - 1) (suc number) lines)) ≡ whole
+    at_option = ap (with_front front) (sym (by_option lines) ∙ ap (λ (n : ℕ). nodes_taken p None n number lines) one_more) ∙ is.leads
 
-module _ (p : Problem) (option : List ℕ) (number : ℕ) (lines : List Line) (head : Head) (number' : ℕ) (lines' : List Line) where
-  pub node_ok : (end : trees.End Leaf) (number'' : ℕ) (lines'' : List Line) → steps_taken p (record { option = option; steps = [] }) number lines ≡ Ok (record { what = head; number = number'; behind = lines' })
-      → line_taken (end_line_read p) number' lines' ≡ Ok (record { what = end; number = number''; behind = lines'' })
-      → node_taken p option number lines ≡ Ok (record { what = with_end head end; number = number''; behind = lines'' })
-  node_ok end number'' lines'' steps e =
-      ap (λ (r : Result (Taken Head) Fault). then_read r (end_behind p)) steps
-      ∙ first_ok (end_line_read p) number' lines' (λ end lines. Ok (record { what = with_end head end; number = suc number'; behind = lines })) (record { what = end; number = number''; behind = lines'' }) e
-      ∙ ap (λ (n : ℕ). Ok (record { what = with_end head end; number = n; behind = lines'' })) (sym (line_number (end_line_read p) number' lines' (record { what = end; number = number''; behind = lines'' }) e))
+    pub option_told : (fault : TextFault TreeKind) → Tells (line_taken (option_read p) number lines) fault → Tells whole fault
+    option_told fault h =
+        let read : List ℕ → List Line → Reading = λ option lines. begun p option (count - 1) (suc number) lines in
+        subst (λ (r : Reading). Tells r fault) at_option (front_tells front (first_line (option_read p) number lines read) fault (first_tells (option_read p) number lines read fault h))
 
-  pub end_bad : (fault : TextFault TreeKind) → steps_taken p (record { option = option; steps = [] }) number lines ≡ Ok (record { what = head; number = number'; behind = lines' })
-      → Tells (line_taken (end_line_read p) number' lines') fault → Tells (node_taken p option number lines) fault
-  end_bad fault steps h =
-      subst (λ (r : Result (Taken TreeNode) Fault). Tells r fault) (sym (ap (λ (r : Result (Taken Head) Fault). then_read r (end_behind p)) steps))
-      (first_tells (end_line_read p) number' lines' (λ end lines. Ok (record { what = with_end head end; number = suc number'; behind = lines })) fault h)
-
--- ---- the form of the tree
-
--- with so many subtrees behind them these nodes are one tree
-abbrev pub Grows : Tree → ℕ → Type 0
-Grows front count = (ts : Tree) → trees.IsForest count ts → trees.IsForest 1 (front ++ ts)
-
--- the first node, which may be still to come, has the empty option
-abbrev pub HasRoot : Tree → List ℕ → Type 0
-HasRoot [] option = option ≡ []
-HasRoot (t ∷ ts) option = t.option ≡ []
-
-pub grown : (front : Tree) (t : TreeNode) (count more : ℕ) → Grows front (suc count) → trees.HasChildren t.end → more ≡ trees.children t.end + count → Grows (front ++ t ∷ []) more
-grown front t count more grows some q ts forest =
-    subst (λ (us : Tree). trees.IsForest 1 us) (sym (append_assoc front (t ∷ []) ts))
-    (grows (t ∷ ts) (some, subst (λ (n : ℕ). trees.IsForest n ts) q forest))
-
-pub root_last : (front : Tree) (t : TreeNode) (option other : List ℕ) → HasRoot front option → t.option ≡ option → HasRoot (front ++ t ∷ []) other
-root_last [] t option other root same = same ∙ root
-root_last (u ∷ us) t option other root same = root
-
-has_root : (front : Tree) (t : TreeNode) (other : List ℕ) → HasRoot (front ++ t ∷ []) other → trees.IsForest 1 (front ++ t ∷ []) → trees.IsTree (front ++ t ∷ [])
-has_root [] t other root forest = (root, forest)
-has_root (u ∷ us) t other root forest = (root, forest)
-
-pub whole_tree : (front : Tree) (t : TreeNode) (other : List ℕ) (count : ℕ) → HasRoot (front ++ t ∷ []) other → Grows (front ++ t ∷ []) count → count ≡ 0 → trees.IsTree (front ++ t ∷ [])
-whole_tree front t other count root grows e =
-    has_root front t other root
-    (subst (λ (us : Tree). trees.IsForest 1 us) (append-nil (front ++ t ∷ [])) (grows [] (subst (λ (n : ℕ). trees.IsForest {L = Leaf} n []) (sym e) tt)))
-
-pub grows_again : (front : Tree) (count : ℕ) → Grows front count → 0 < count → Grows front (suc (count - 1))
-grows_again front count grows some = subst (λ (n : ℕ). Grows front n) (let q : count ≡ suc (count - 1) = omega arith in q) grows
+    pub option_on : (option : List ℕ) (number' : ℕ) (lines' : List Line) → line_taken (option_read p) number lines ≡ Ok (record { what = option; number = number'; behind = lines' })
+        → IsBegun p whole front option (count - 1) number' lines'
+    option_on option number' lines' e = record {
+      leads = ap (with_front front) (sym (first_next (option_read p) number lines (λ option number lines. begun p option (count - 1) number lines) (record { what = option; number = number'; behind = lines' }) e)) ∙ at_option;
+      shape = λ t ts same forest. is.shape (t ∷ ts) (subst (λ (n : ℕ). trees.IsForest n (t ∷ ts)) one_more forest);
+    }
 
 pub each_last : {X : Type 0} (P : X → Type 0) (xs : List X) (x : X) → Each P xs → P x → Each P (xs ++ x ∷ [])
 each_last P [] x all one = (one, tt)

@@ -1,3 +1,4 @@
 pub mod Place
 pub mod Taken
 pub mod Tells
+pub mod Gives

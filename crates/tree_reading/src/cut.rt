@@ -1,8 +1,11 @@
 //! Places in a text.
-ghost use Rattle.std.specs.Prelude.{◌≡◌, ◌≤◌, ◌<◌, ◌∷◌, ◌^◌, ◌-◌, [], suc, IfSome, IfNone, length};
+ghost use Rattle.std.specs.Prelude.{◌≡◌, ◌≤◌, ◌<◌, ◌∷◌, ◌^◌, ◌-◌, [], suc, IfSome, IfNone, IfOk, IfErr, length};
 ghost use Rattle.tree_tokens.specs.View.{line_of};
-ghost use Rattle.tree_reading.specs.Place.{IsCut, lines_at};
+ghost use Rattle.tree_reading.specs.Place.{IsCut, IsBehind, lines_at};
+ghost use Rattle.tree_reading.specs.Tells.{kind_at};
 
+use crate::fault::{TreeFault, kind_at};
+use tree_text_rules::TreeKind;
 use tree_tokens::{Line, first_line};
 
 /// A place in the bytes and its line number: the line begins there, or the bytes end there.
@@ -32,4 +35,16 @@ pub fn line_at(bytes: &[u8], cut: Cut) -> Option<(Line<'_>, Cut)>
         line: cut.line + 1,
     };
     Some((line, behind))
+}
+
+/// The line at a cut, and the cut behind it; a bad line where none is left.
+pub fn next_line(bytes: &[u8], cut: Cut) -> Result<(Line<'_>, Cut), TreeFault>
+    requires cut { IsCut bytes.now cut }
+    requires few { length bytes.now < 2 ^ 32 - 1 }
+    ensures line { IfOk result (λ found. lines_at bytes.now cut ≡ line_of found.0 ∷ lines_at bytes.now found.1) }
+    ensures behind { IfOk result (λ found. IsBehind bytes.now cut found.1) }
+    ensures number { IfOk result (λ found. found.1.line ≡ suc cut.line) }
+    ensures none { IfErr result (λ fault. (lines_at bytes.now cut ≡ []) × (fault ≡ kind_at cut.line TreeKind.BadLine)) }
+{
+    line_at(bytes, cut).ok_or(kind_at(cut, TreeKind::BadLine))
 }

@@ -3,17 +3,18 @@ ghost use Rattle.std.specs.Prelude.{◌≡◌, ◌<◌, ◌-◌, ◌^◌, ◌∷
 ghost use Rattle.problem_rules.specs.Each.{Each};
 ghost use Rattle.pgraph.specs.View.{step_of};
 ghost use Rattle.tree_rules.specs.Known.{AreUnits, KnowsStep};
+ghost use Rattle.tree_text_rules.specs.LineRead.{option_read};
 ghost use Rattle.tree_text_rules.specs.Read.{head_taken, steps_taken};
+ghost use Rattle.tree_reading.specs.Gives.{GivesAt};
 ghost use Rattle.tree_reading.specs.Place.{IsCut, IsReached, IsBehind, lines_at};
-ghost use Rattle.tree_reading.specs.Taken.{taken};
+ghost use Rattle.tree_reading.specs.Taken.{line_taken, taken};
 ghost use Rattle.text_lines.specs.Tells.{Tells};
 
-use crate::cut::{Cut, line_at};
-use crate::fault::TreeFault;
-use crate::lines::{kind_at, option_at};
+use crate::cut::{Cut, line_at, next_line};
+use crate::fault::{TreeFault, kind_at};
 use pns_problem::Problem;
 use std::alloc::{AllocError, Global};
-use tree_tokens::{parts_of, step_line};
+use tree_tokens::{option_line, parts_of, step_line};
 use unit_sets::{Step, UnitSet};
 
 // Puts a step behind the others.
@@ -58,6 +59,17 @@ pub fn read_steps(
     Ok((steps, at))
 }
 
+/// The option of the node whose line is at the cut, and the cut behind it.
+pub fn read_option(problem: &Problem, bytes: &[u8], cut: Cut) -> Result<(UnitSet, Cut), TreeFault>
+    requires cut { IsCut bytes.now cut }
+    requires few { length bytes.now < 2 ^ 32 - 1 }
+    ensures { GivesAt (λ us. us) (AreUnits problem.now) (line_taken (option_read problem.now)) bytes.now cut result }
+{
+    let (line, behind) = next_line(bytes, cut)?;
+    let option = option_line(problem, &parts_of(&line)).map_err(|kind| kind_at(cut, kind))?;
+    Ok((option, behind))
+}
+
 /// The option and the steps of the node whose line is at the cut, and the cut behind them. The steps end before the first line
 /// whose first word is none of `raw`, `rival`, `starve`, `loose` and `sole`. Any option is taken. `At` comes exactly at the first
 /// fault of these lines, `Memory` is want of memory.
@@ -74,7 +86,7 @@ pub fn read_head(
     ensures known { IfOk result (λ found. AreUnits problem.now found.0 × Each (KnowsStep problem.now) (map step_of found.1.items)) }
     ensures fault { IfErr result (Tells (head_taken problem.now cut.line (lines_at bytes.now cut))) }
 {
-    let (option, first) = option_at(problem, bytes, cut)?;
+    let (option, first) = read_option(problem, bytes, cut)?;
     let (steps, behind) = read_steps(alloc, problem, option, bytes, first)?;
     Ok((option, steps, behind))
 }

@@ -2,7 +2,7 @@
 //! and `read_rest` a part of one from a [`Cut`] on. Each gives the value that the text stands for, or its first fault.
 //!
 //! The text is read once from front to end and stays borrowed; only what is read takes memory, and nothing is reserved by a
-//! promised number of children. Modules: `cut` (a place in a text), `fault`, `lines` (the line at a cut), `claim`, `head`,
+//! promised number of children. Modules: `cut` (a place in a text), `fault`, `claim`, `head`,
 //! `node`, `nodes` (the tree), `tail`, `text`.
 #![tactic(auto)]
 
@@ -10,7 +10,6 @@ mod claim;
 mod cut;
 mod fault;
 mod head;
-mod lines;
 mod node;
 mod nodes;
 mod tail;
@@ -18,9 +17,8 @@ mod text;
 
 pub use claim::read_network;
 pub use cut::{Cut, line_at};
-pub use fault::TreeFault;
+pub use fault::{TreeFault, kind_at};
 pub use head::read_head;
-pub use lines::kind_at;
 pub use node::read_end;
 pub use tail::read_tail;
 pub use text::{read_rest, read_tree};

@@ -1,20 +1,21 @@
 //! One node with its end.
 ghost use Rattle.std.specs.Prelude.{◌≡◌, ◌<◌, ◌-◌, ◌^◌, Ok, IfOk, IfErr, length};
 ghost use Rattle.branch_tree.specs.View.{end_of};
-ghost use Rattle.tree_rules.specs.Known.{AreUnits, KnowsNode, KnowsEnd};
+ghost use Rattle.tree_rules.specs.Known.{AreUnits, KnowsEnd};
 ghost use Rattle.tree_rules.specs.Tree.{HasChildren};
 ghost use Rattle.tree_text_rules.specs.Read.{end_taken};
+ghost use Rattle.tree_reading.specs.Gives.{GivesNode};
 ghost use Rattle.tree_reading.specs.Place.{IsCut, IsBehind, lines_at};
-ghost use Rattle.tree_reading.specs.Taken.{node_taken, taken};
+ghost use Rattle.tree_reading.specs.Taken.{taken};
 ghost use Rattle.text_lines.specs.Tells.{Tells};
 
-use crate::cut::Cut;
-use crate::fault::TreeFault;
+use crate::cut::{Cut, next_line};
+use crate::fault::{TreeFault, fault_at};
 use crate::head::read_steps;
-use crate::lines::end_at;
 use branch_tree::{End, Steps, TreeNode};
 use pns_problem::Problem;
 use std::alloc::Global;
+use tree_tokens::{end_line, parts_of};
 use unit_sets::UnitSet;
 
 /// The end whose line is at the cut, and the cut behind it. `At` comes exactly at the fault of this line, `Memory` is want of
@@ -33,7 +34,9 @@ pub fn read_end(
     ensures whole { IfOk result (λ found. HasChildren (end_of found.0)) }
     ensures fault { IfErr result (Tells (end_taken problem.now cut.line (lines_at bytes.now cut))) }
 {
-    end_at(alloc, problem, bytes, cut)
+    let (line, behind) = next_line(bytes, cut)?;
+    let end = end_line(alloc, problem, &parts_of(&line)).map_err(|fault| fault_at(cut, fault))?;
+    Ok((end, behind))
 }
 
 /// The steps and the end of a node with this option, from the line behind its own on.
@@ -47,15 +50,10 @@ pub fn read_node(
     requires cut { IsCut bytes.now cut }
     requires few { length bytes.now < 2 ^ 32 - 1 }
     requires option_known { AreUnits problem.now option }
-    ensures ok { IfOk result (λ found. node_taken problem.now option cut.line (lines_at bytes.now cut) ≡ Ok (taken found.0 bytes.now found.1)) }
-    ensures behind { IfOk result (λ found. IsBehind bytes.now cut found.1) }
-    ensures option { IfOk result (λ found. found.0.option ≡ option) }
-    ensures known { IfOk result (λ found. KnowsNode problem.now found.0) }
-    ensures whole { IfOk result (λ found. HasChildren found.0.end) }
-    ensures fault { IfErr result (Tells (node_taken problem.now option cut.line (lines_at bytes.now cut))) }
+    ensures { GivesNode problem.now option bytes.now cut result }
 {
     let (steps, first) = read_steps(alloc, problem, option, bytes, cut)?;
-    let (end, behind) = end_at(alloc, problem, bytes, first)?;
+    let (end, behind) = read_end(alloc, problem, bytes, first)?;
     let node = TreeNode {
         option,
         steps: Steps::from_vec(steps),

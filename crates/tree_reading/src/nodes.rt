@@ -1,19 +1,21 @@
 //! A whole tree.
-ghost use Rattle.std.specs.Prelude.{◌≡◌, ◌<◌, ◌≤◌, ◌+◌, ◌-◌, ◌^◌, [], zero, Ok, Some, IfOk, IfErr, length};
+ghost use Rattle.std.specs.Prelude.{◌≡◌, ◌<◌, ◌≤◌, ◌+◌, ◌-◌, ◌^◌, [], zero, Ok, IfOk, IfErr, length};
 ghost use Rattle.tree_rules.specs.Known.{KnowsTree};
 ghost use Rattle.tree_rules.specs.Tree as trees;
-ghost use Rattle.tree_text_rules.specs.Read.{nodes_taken, tree_taken};
+ghost use Rattle.tree_text_rules.specs.Read.{tree_taken};
+ghost use Rattle.tree_reading.specs.Gives.{GivesAt, begun};
 ghost use Rattle.tree_reading.specs.Place.{IsCut, IsBehind, lines_at};
 ghost use Rattle.tree_reading.specs.Taken.{taken};
 ghost use Rattle.text_lines.specs.Tells.{Tells};
 
-use crate::cut::Cut;
-use crate::fault::TreeFault;
-use crate::lines::{option_at, root_at};
+use crate::cut::{Cut, next_line};
+use crate::fault::{TreeFault, kind_at};
+use crate::head::read_option;
 use crate::node::read_node;
 use branch_tree::{Tree, TreeNode};
 use pns_problem::Problem;
 use std::alloc::Global;
+use tree_tokens::{parts_of, root_line};
 use unit_sets::UnitSet;
 
 // How many subtrees are to come behind a node, where so many were to come before.
@@ -34,11 +36,11 @@ pub fn read_nodes(
 ) -> Result<(Tree, Cut), TreeFault>
     requires cut { IsCut bytes.now cut }
     requires few { length bytes.now < 2 ^ 32 - 1 }
-    ensures ok { IfOk result (λ found. nodes_taken problem.now (Some (record { option = []; steps = [] })) zero cut.line (lines_at bytes.now cut) ≡ Ok (taken found.0 bytes.now found.1)) }
+    ensures ok { IfOk result (λ found. begun problem.now [] zero cut.line (lines_at bytes.now cut) ≡ Ok (taken found.0 bytes.now found.1)) }
     ensures behind { IfOk result (λ found. IsBehind bytes.now cut found.1) }
     ensures count { IfOk result (λ found. length found.0 ≤ found.1.at) }
     ensures known { IfOk result (λ found. KnowsTree problem.now found.0) }
-    ensures fault { IfErr result (Tells (nodes_taken problem.now (Some (record { option = []; steps = [] })) zero cut.line (lines_at bytes.now cut))) }
+    ensures fault { IfErr result (Tells (begun problem.now [] zero cut.line (lines_at bytes.now cut))) }
 {
     let mut nodes = Vec::new(alloc);
     let mut option = UnitSet::empty();
@@ -51,7 +53,7 @@ pub fn read_nodes(
         if pending == 0 {
             return Ok((Tree::from_nodes(nodes), behind));
         }
-        let (next, first) = option_at(problem, bytes, behind)?;
+        let (next, first) = read_option(problem, bytes, behind)?;
         option = next;
         pending -= 1;
         at = first;
@@ -67,12 +69,10 @@ pub fn read_whole(
 ) -> Result<(Tree, Cut), TreeFault>
     requires cut { IsCut bytes.now cut }
     requires few { length bytes.now < 2 ^ 32 - 1 }
-    ensures ok { IfOk result (λ found. tree_taken problem.now cut.line (lines_at bytes.now cut) ≡ Ok (taken found.0 bytes.now found.1)) }
-    ensures behind { IfOk result (λ found. IsBehind bytes.now cut found.1) }
+    ensures gives { GivesAt (λ tree. tree) (KnowsTree problem.now) (tree_taken problem.now) bytes.now cut result }
     ensures count { IfOk result (λ found. length found.0 ≤ found.1.at) }
-    ensures known { IfOk result (λ found. KnowsTree problem.now found.0) }
-    ensures fault { IfErr result (Tells (tree_taken problem.now cut.line (lines_at bytes.now cut))) }
 {
-    let (_root, first) = root_at(bytes, cut)?;
+    let (line, first) = next_line(bytes, cut)?;
+    root_line(&parts_of(&line)).map_err(|kind| kind_at(cut, kind))?;
     read_nodes(alloc, problem, bytes, first)
 }

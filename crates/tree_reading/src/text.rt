@@ -9,8 +9,7 @@ ghost use Rattle.text_lines.specs.Tells.{Tells};
 
 use crate::claim::read_claim;
 use crate::cut::{Cut, line_at};
-use crate::fault::TreeFault;
-use crate::lines::kind_at;
+use crate::fault::{TreeFault, kind_at};
 use crate::nodes::read_whole;
 use crate::tail::read_tail;
 use branch_tree::{Claim, Tail, Tree};
@@ -57,8 +56,6 @@ pub fn read_tree(
     let Some((line, behind)) = line_at(bytes, front) else {
         return Err(kind_at(front, TreeKind::FileType));
     };
-    match file_type_line(&line) {
-        Err(kind) => Err(kind_at(front, kind)),
-        Ok(()) => read_rest(alloc, problem, bytes, behind),
-    }
+    file_type_line(&line).map_err(|kind| kind_at(front, kind))?;
+    read_rest(alloc, problem, bytes, behind)
 }

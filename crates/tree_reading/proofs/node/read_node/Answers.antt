@@ -1,25 +1,41 @@
-use Rattle.std.proofs.Common.{map, List, Ok, ap, sym, ◌∙◌}
+use Rattle.std.proofs.Common.{◌≡◌, ◌+◌, List, [], map, None, rules, sym, subst}
 use Rattle.std.proofs.lemmas.Result.{err_from_is_err_and}
 use Rattle.pns_rules.specs.Nodes.{Step}
 use Rattle.pgraph.specs.View.{step_of}
 use Rattle.branch_tree.specs.View.{end_of}
+use Rattle.tree_rules.specs.Tree.{children}
+use Rattle.tree_text_rules.specs.Read.{with_node, nodes_taken}
+use Rattle.tree_reading.specs.Gives.{begun}
 use Rattle.tree_reading.specs.Place.{lines_at}
-use Rattle.tree_reading.proofs.NodeByNode.{node_ok, end_bad}
+use Rattle.tree_reading.proofs.NodeByNode.{steps_told, end_told, node_read}
 use Rattle.tree_reading.proofs.node.read_node.Goals as goal
 
-pub returns-in_err-end-clause-fault : goal.returns-in_err-end-clause-fault
-returns-in_err-end-clause-fault c =
+pub returns-in_err-steps : goal.returns-in_err-steps
+returns-in_err-steps c =
+    let e = err_from_is_err_and c.from_residual.result c.from_residual.ensures.1 in
+    rw (e.1, e.2) (λ count. steps_told c.args.problem.now c.args.option c.args.cut.line (lines_at c.args.bytes.now c.args.cut) count _ c.in_err-steps.ensures.fault)
+
+pub returns-in_err-end : goal.returns-in_err-end
+returns-in_err-end c =
     let e = err_from_is_err_and c.from_residual-in_err-end.result c.from_residual-in_err-end.ensures.1 in
     let first = c.in_ok-steps.first in
     rw (e.1, e.2)
-    (end_bad c.args.problem.now c.args.option c.args.cut.line (lines_at c.args.bytes.now c.args.cut)
-    (record { option = c.args.option; steps = map step_of c.in_ok-steps.steps.items }) first.line (lines_at c.args.bytes.now first)
-    _ c.in_ok-steps.ensures.ok c.in_err-end.ensures.fault)
+    (λ count. end_told c.args.problem.now c.args.option c.args.cut.line (lines_at c.args.bytes.now c.args.cut) (record { option = c.args.option; steps = map step_of c.in_ok-steps.steps.items }) first.line (lines_at c.args.bytes.now first)
+    c.in_ok-steps.ensures.ok count _ c.in_err-end.ensures.fault)
 
-pub returns-clause-ok : goal.returns-clause-ok
-returns-clause-ok c =
+pub returns : goal.returns
+returns c =
+    let p = c.args.problem.now in
+    let bytes = c.args.bytes.now in
     let first = c.in_ok-steps.first in
-    node_ok c.args.problem.now c.args.option c.args.cut.line (lines_at c.args.bytes.now c.args.cut)
-    (record { option = c.args.option; steps = map step_of c.in_ok-steps.steps.items }) first.line (lines_at c.args.bytes.now first)
-    (end_of c.in_ok-end.end) c.in_ok-end.behind.line (lines_at c.args.bytes.now c.in_ok-end.behind) c.in_ok-steps.ensures.ok c.in_ok-end.ensures.ok
-    ∙ ap (λ (steps : List Step). Ok (record { what = record { option = c.args.option; steps = steps; end = end_of c.in_ok-end.end }; number = c.in_ok-end.behind.line; behind = lines_at c.args.bytes.now c.in_ok-end.behind })) (sym c.from_vec.ensures)
+    let end = end_of c.in_ok-end.end in
+    let behind = c.in_ok-end.behind in
+    record {
+      reads = λ count.
+          subst (λ (steps : List Step). begun p c.args.option count c.args.cut.line (lines_at bytes c.args.cut) ≡ with_node (record { option = c.args.option; steps = steps; end = end }) (nodes_taken p None (children end + count) behind.line (lines_at bytes behind))) (sym c.from_vec.ensures)
+          (node_read p c.args.option c.args.cut.line (lines_at bytes c.args.cut) (record { option = c.args.option; steps = map step_of c.in_ok-steps.steps.items }) first.line (lines_at bytes first) c.in_ok-steps.ensures.ok count end behind.line (lines_at bytes behind) c.in_ok-end.ensures.read);
+      behind = search rules;
+      option_is = search rules;
+      known = search rules;
+      whole = search rules;
+    }

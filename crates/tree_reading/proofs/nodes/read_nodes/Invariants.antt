@@ -1,22 +1,19 @@
-use Rattle.std.proofs.Common.{◌≤◌, ◌*◌, ◌-◌, [], zero, suc, Some, length}
+use Rattle.std.proofs.Common.{◌≤◌, ◌*◌, ◌-◌, [], zero, length}
 use Rattle.tree_rules.specs.Known.{AreUnits, KnowsTree}
-use Rattle.tree_text_rules.specs.Read.{nodes_taken}
+use Rattle.tree_reading.specs.Gives.{begun}
 use Rattle.tree_reading.specs.Place.{IsReached, lines_at}
-use Rattle.tree_reading.proofs.NodeByNode.{LeadsIn, Grows, HasRoot}
+use Rattle.tree_reading.proofs.NodeByNode.{IsBegun}
 use Rattle.tree_reading.proofs.nodes.read_nodes.Given as goal
 
 -- what is to come finishes the tree; each line adds less than 2^32 subtrees
 abbrev pub invariant-nodes : goal.invariant-nodes
 invariant-nodes l = record {
-  whole : LeadsIn l.fn.problem (nodes_taken l.fn.problem (Some (record { option = []; steps = [] })) zero l.fn.cut.line (lines_at l.fn.bytes l.fn.cut))
-      l.nodes.items l.option l.pending l.at.line (lines_at l.fn.bytes l.at);
+  whole : IsBegun l.fn.problem (begun l.fn.problem [] zero l.fn.cut.line (lines_at l.fn.bytes l.fn.cut)) l.nodes.items l.option l.pending l.at.line (lines_at l.fn.bytes l.at);
   reached : IsReached l.fn.bytes l.fn.cut l.at;
   count : length l.nodes.items ≤ l.at.at;
   few : l.pending ≤ l.at.at * 4294967295;
   known : KnowsTree l.fn.problem l.nodes.items;
   option_known : AreUnits l.fn.problem l.option;
-  root : HasRoot l.nodes.items l.option;
-  grows : Grows l.nodes.items (suc l.pending);
 }
 
 abbrev pub decreases-nodes : goal.decreases-nodes
