@@ -1,5 +1,5 @@
 //! The head of a node: the line that begins it, and its steps.
-ghost use Rattle.std.specs.Prelude.{◌≡◌, ◌<◌, ◌-◌, ◌^◌, ◌∷◌, ◌++◌, [], Ok, IfOk, IfErr, OnOk, length, map};
+ghost use Rattle.std.specs.Prelude.{◌≡◌, ◌<◌, ◌-◌, ◌^◌, [], Ok, IfOk, IfErr, length, map};
 ghost use Rattle.problem_rules.specs.Each.{Each};
 ghost use Rattle.pgraph.specs.View.{step_of};
 ghost use Rattle.tree_rules.specs.Known.{AreUnits, KnowsStep};
@@ -13,21 +13,9 @@ ghost use Rattle.text_lines.specs.Tells.{Tells};
 use crate::cut::{Cut, line_at, next_line};
 use crate::fault::{TreeFault, kind_at};
 use pns_problem::Problem;
-use std::alloc::{AllocError, Global};
+use std::alloc::Global;
 use tree_tokens::{option_line, parts_of, step_line};
 use unit_sets::{Step, UnitSet};
-
-// Puts a step behind the others.
-fn add_step(problem: &Problem, steps: &mut Vec<Step>, step: Step) -> Result<(), AllocError>
-    requires known { Each (KnowsStep problem.now) (map step_of steps.old.items) }
-    requires knows { KnowsStep problem.now (step_of step) }
-    ensures steps { OnOk result (map step_of steps.new.items ≡ map step_of steps.old.items ++ step_of step ∷ []) }
-    ensures known { OnOk result (Each (KnowsStep problem.now) (map step_of steps.new.items)) }
-{
-    let _units = problem.units();
-    steps.push(step)?;
-    Ok(())
-}
 
 /// The steps from a cut on, and the cut before the first line that is no step.
 pub fn read_steps(
@@ -51,7 +39,7 @@ pub fn read_steps(
             None => return Ok((steps, at)),
             Some(Err(kind)) => return Err(kind_at(at, kind)),
             Some(Ok(step)) => {
-                add_step(problem, &mut steps, step)?;
+                steps.push(step)?;
                 at = behind;
             }
         }
