@@ -1,6 +1,6 @@
 -- What a reader answers by what the grammar reads: the value that the lines stand for, of which more is known, or their first
 -- fault. A view tells which value of the rules a value of the code is.
-use Rattle.std.specs.Prelude.{◌≡◌, ◌+◌, ℕ, List, [], Option, Some, None, Result, Ok, Err}
+use Rattle.std.specs.Prelude.{◌≡◌, ◌+◌, ℕ, List, [], Some, None, Result, Ok, Err}
 use Rattle.problem_rules.specs.Problem.{Problem}
 use Rattle.tree_rules.specs.Tree as trees
 use Rattle.tree_rules.specs.Leaf.{Leaf}

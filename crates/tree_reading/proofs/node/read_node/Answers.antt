@@ -1,4 +1,4 @@
-use Rattle.std.proofs.Common.{◌≡◌, ◌+◌, List, [], map, None, rules, sym, subst}
+use Rattle.std.proofs.Common.{◌≡◌, ◌+◌, List, map, None, rules, sym, subst}
 use Rattle.std.proofs.lemmas.Result.{err_from_is_err_and}
 use Rattle.pns_rules.specs.Nodes.{Step}
 use Rattle.pgraph.specs.View.{step_of}
