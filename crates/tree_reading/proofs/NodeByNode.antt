@@ -68,7 +68,8 @@ module _ (p : Problem) (option : List ℕ) (number : ℕ) (lines : List Line) (h
       subst (λ (r : Reading). Tells r fault) (sym behind_steps)
       (first_tells (end_line_read p) number' lines' (λ end lines. with_node (with_end head end) (nodes_taken p None (trees.children end + count) (suc number') lines)) fault h)
 
-pub steps_told : (p : Problem) (option : List ℕ) (number : ℕ) (lines : List Line) (count : ℕ) (fault : TextFault TreeKind) → Tells (steps_taken p (record { option = option; steps = [] }) number lines) fault → Tells (begun p option count number lines) fault
+pub steps_told : (p : Problem) (option : List ℕ) (number : ℕ) (lines : List Line) (count : ℕ) (fault : TextFault TreeKind)
+    → Tells (steps_taken p (record { option = option; steps = [] }) number lines) fault → Tells (begun p option count number lines) fault
 steps_told p option number lines count fault h =
     let head : Head = record { option = option; steps = [] } in
     subst (λ (r : Reading). Tells r fault) (sym (nodes_by_steps p head count number lines)) (then_tells (steps_taken p head number lines) (after_steps p count) fault h)
@@ -107,11 +108,12 @@ nothing_before p front option number lines e f =
     same (Ok t) = refl
     same (Err fault) = refl
 
-pub node_told : {p : Problem} {whole : Reading} {front : Tree} {option : List ℕ} {count number : ℕ} {lines : List Line} → IsBegun p whole front option count number lines → (fault : TextFault TreeKind) → Tells (begun p option count number lines) fault → Tells whole fault
+pub node_told : {p : Problem} {whole : Reading} {front : Tree} {option : List ℕ} {count number : ℕ} {lines : List Line} → IsBegun p whole front option count number lines
+    → (fault : TextFault TreeKind) → Tells (begun p option count number lines) fault → Tells whole fault
 node_told {p} {whole} {front} {option} {count} {number} {lines} is fault h = subst (λ (r : Reading). Tells r fault) is.leads (front_tells front (begun p option count number lines) fault h)
 
-pub node_on : {p : Problem} {whole : Reading} {front nodes : Tree} {option bytes : List ℕ} {count more : ℕ} {cut : Cut} {found : TreeNode × Cut} → IsNode p option bytes cut found → IsBegun p whole front option count cut.line (lines_at bytes cut)
-    → nodes ≡ front ++ found.0 ∷ [] → more ≡ trees.children found.0.end + count → IsOpen p whole nodes more found.1.line (lines_at bytes found.1)
+pub node_on : {p : Problem} {whole : Reading} {front nodes : Tree} {option bytes : List ℕ} {count more : ℕ} {cut : Cut} {found : TreeNode × Cut}
+    → IsNode p option bytes cut found → IsBegun p whole front option count cut.line (lines_at bytes cut) → nodes ≡ front ++ found.0 ∷ [] → more ≡ trees.children found.0.end + count → IsOpen p whole nodes more found.1.line (lines_at bytes found.1)
 node_on {p} {whole} {front} {nodes} {option} {bytes} {count} {more} {cut} {found} node is q q' =
     let t : TreeNode = found.0 in
     let number : ℕ = found.1.line in

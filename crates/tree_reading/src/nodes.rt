@@ -53,10 +53,8 @@ pub fn read_nodes(
         if pending == 0 {
             return Ok((Tree::from_nodes(nodes), behind));
         }
-        let (next, first) = read_option(problem, bytes, behind)?;
-        option = next;
         pending -= 1;
-        at = first;
+        (option, at) = read_option(problem, bytes, behind)?;
     }
 }
 

@@ -36,25 +36,25 @@ returns-then-pending-eq0-clause-ok c =
     let left = node_on node.ensures c.nodes.invariant.whole c.in_ok-push.ensures.items c.more_subtrees-pending.ensures.sum in
     nodes_done left c.if-pending-eq0.true ∙ ap (λ (ts : Tree). Ok (taken ts c.args.bytes.now node.behind)) (sym c.from_nodes.ensures)
 
-pub returns-in_err-next-clause-fault : goal.returns-in_err-next-clause-fault
-returns-in_err-next-clause-fault c =
-    let e = err_from_is_err_and c.from_residual-in_err-next.result c.from_residual-in_err-next.ensures.1 in
+pub returns-in_err-option-clause-fault : goal.returns-in_err-option-clause-fault
+returns-in_err-option-clause-fault c =
+    let e = err_from_is_err_and c.from_residual-in_err-option.result c.from_residual-in_err-option.ensures.1 in
     let node = c.in_ok-node in
     let left = node_on node.ensures c.nodes.invariant.whole c.in_ok-push.ensures.items c.more_subtrees-pending.ensures.sum in
-    rw (e.1, e.2) (option_told left (omega (arith, c.if-pending-eq0.false)) _ c.in_err-next.ensures)
+    rw (e.1, e.2) (option_told left (omega (arith, c.if-pending-eq0.false)) _ c.in_err-option.ensures)
 
 pub nodes-preserved : goal.nodes-preserved
 nodes-preserved c =
     let node = c.in_ok-node in
-    let next = c.in_ok-next in
+    let next = c.in_ok-option in
     let items = c.in_ok-push.ensures.items in
     let left = node_on node.ensures c.nodes.invariant.whole items c.more_subtrees-pending.ensures.sum in
     let before = c.nodes.invariant.reached.later in
     let later = node.ensures.behind.later in
     let later' = next.ensures.behind.later in
-    let more_bytes : c.nodes.at.at + 1 ≤ next.first.at = omega (arith, later, later') in
+    let more_bytes : c.nodes.at.at + 1 ≤ next.field-0-1.at = omega (arith, later, later') in
     record {
-      whole = option_on left (omega (arith, c.if-pending-eq0.false)) next.next next.first.line (lines_at c.args.bytes.now next.first) next.ensures.reads;
+      whole = option_on left (omega (arith, c.if-pending-eq0.false)) next.field-0-0 next.field-0-1.line (lines_at c.args.bytes.now next.field-0-1) next.ensures.reads;
       reached = record { is_cut = next.ensures.behind.is_cut; later = omega (arith, before, more_bytes) };
       count = let e = ap length items in let n = length_push c.nodes.nodes.items node.node in let b = c.nodes.invariant.count in omega (arith, e, n, b, more_bytes);
       few = let b = c.more_subtrees-pending.ensures.bound in let f = c.nodes.invariant.few in omega (arith, b, f, more_bytes);
