@@ -2,6 +2,8 @@
 use Rattle.std.proofs.Common.{◌≡◌, ◌<◌, ◌+◌, ℕ, zero, suc, Bool, cond, List, [], ◌∷◌, ◌++◌, length, map, reverse, take, drop, get_or, set, refl, sym, ap, ◌∙◌, arith}
 use Rattle.std.proofs.lemmas.List.{map-append, reverse-append}
 use Rattle.number_sets.specs.Sets.{listed}
+use Rattle.problem_rules.specs.Problem.{Term, OperatingUnit, Exclusion}
+use Rattle.edit_rules.specs.Numbering.{in_term, in_unit, in_exclusion}
 
 changed_at : {X : Type 0} (f : X → X) (old : List X) (i : ℕ) (d : X) → i < length old → set (map f (take i old) ++ drop i old) i (f (get_or (map f (take i old) ++ drop i old) i d)) ≡ map f (take (suc i) old) ++ drop (suc i) old
 changed_at f [] i d less = absurd (omega arith)
@@ -14,6 +16,15 @@ changed_next f old now i d y less so_far e =
     ap (λ v. set now i v) e
     ∙ (ap (λ z. set z i (f (get_or z i d))) so_far
     ∙ (changed_at f old i d less ∙ ap (λ j. map f (take j old) ++ drop j old) next))
+
+pub in_term_is : (f : ℕ → ℕ) (v t : Term) (m : ℕ) → v ≡ t → m ≡ f v.material → record v { material = m } ≡ in_term f t
+in_term_is f v t m same is = (λ i. record v { material = is i }) ∙ ap (in_term f) same
+
+pub in_unit_is : (f : ℕ → ℕ) (v u : OperatingUnit) (ins outs : List Term) → v ≡ u → ins ≡ map (in_term f) v.inputs → outs ≡ map (in_term f) v.outputs → record v { inputs = ins; outputs = outs } ≡ in_unit f u
+in_unit_is f v u ins outs same ins_are outs_are = (λ i. record v { inputs = ins_are i; outputs = outs_are i }) ∙ ap (in_unit f) same
+
+pub in_exclusion_is : (f : ℕ → ℕ) (v e : Exclusion) (us : List ℕ) → v ≡ e → us ≡ map f v.units → record v { units = us } ≡ in_exclusion f e
+in_exclusion_is f v e us same are = (λ i. record v { units = are i }) ∙ ap (in_exclusion f) same
 
 pub listed_none : (t : ℕ → Bool) → [] ≡ listed 0 t
 unfolding listed

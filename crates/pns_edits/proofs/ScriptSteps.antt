@@ -1,20 +1,24 @@
 -- A script that is applied edit by edit: what is left of it, and what was done.
-use Rattle.std.proofs.Common.{◌≡◌, ◌≤◌, ◌+◌, ℕ, suc, Option, Some, None, List, [], ◌∷◌, ◌++◌, length, reverse, refl, sym, ap, ◌∙◌, subst, arith}
-use Rattle.std.specs.Prelude.{Bool, true, false, cond, option_map}
-use Rattle.std.proofs.lemmas.List.{append-nil, append_assoc, reverse-append, reverse-reverse, length-append, length-reverse}
-use Rattle.problem_rules.specs.Problem.{Problem, unit_at}
+use Rattle.std.proofs.Common.{◌≡◌, ◌<◌, ◌≤◌, ◌+◌, ℕ, suc, Option, Some, None, List, [], ◌∷◌, ◌++◌, length, map, reverse, drop, get_or, refl, sym, ap, ◌∙◌, subst, arith}
+use Rattle.std.specs.Prelude.{option_map}
+use Rattle.std.proofs.lemmas.List.{append-nil, append_assoc, drop_more, reverse-append, reverse-reverse, length-append, length-reverse}
+use Rattle.problem_rules.specs.Problem.{Problem}
 use Rattle.problem_rules.specs.Each.{Each}
 use Rattle.problem_rules.specs.Validity.{IsValid}
-use Rattle.edit_rules.specs.Edit.{Edit, price, bounds, kind, capacity, fix, proportional, rename_material, rename_unit, add_material, remove_material, add_unit, remove_unit, exclude, unexclude, investment, payout}
+use Rattle.edit_rules.specs.Edit.{Edit}
 use Rattle.edit_rules.specs.Effect.{effect}
-use Rattle.edit_rules.specs.Place.{unit_place, named_terms}
-use Rattle.edit_rules.specs.Fault.{Fault, checks, fault_of, AreClear}
+use Rattle.edit_rules.specs.Fault.{Fault, fault_of, AreClear, checks}
 use Rattle.edit_rules.specs.Formed.{IsFormed}
-use Rattle.edit_rules.specs.Inverse.{inverse, costs_no_investment}
+use Rattle.edit_rules.specs.Inverse.{inverse}
 use Rattle.edit_rules.specs.Script.{applied, undoing, CanApply, IsFirstFault}
 use Rattle.edit_laws.proofs.ValidLemmas.{edit_keeps_valid}
+use Rattle.edit_scripts.specs.declared.edit.Edit as scripts
+use Rattle.edit_scripts.specs.View.{edit_of}
 use Rattle.script_rules.specs.declared.EditKind.{EditKind}
 use Rattle.script_rules.specs.Meaning.{kind_of}
+use Rattle.pns_edits.specs.Answer.{IsEdited}
+use Rattle.pns_edits.specs.Inverse.{edits_of, listed_of}
+use Rattle.pns_edits.specs.declared.inverse.Inverse.{Inverse}
 
 -- from p by the edits passed to q, which are undone by `back` from its end
 pub record IsAppliedTo (p q : Problem) (es rest back : List Edit) (passed : ℕ) : Type 0 where
@@ -37,39 +41,19 @@ begin p es v f = record {
   few = omega arith;
 }
 
-one_or_two : (b : Bool) (x y : Edit) → length (x ∷ cond b [] (y ∷ [])) ≤ 2
-one_or_two true x y = omega arith
-one_or_two false x y = omega arith
+-- so it is by the first edits of a list
+abbrev pub IsAppliedAt : Problem → Problem → List scripts.Edit → List scripts.Edit → ℕ → Type 0
+IsAppliedAt p q edits back i = IsAppliedTo p q (map edit_of edits) (map edit_of (drop i edits)) (map edit_of back) i
 
-two_at_most : (p : Problem) (e : Edit) → length (inverse p e) ≤ 2
-two_at_most p (price n v) = omega arith
-two_at_most p (bounds n low high) = omega arith
-two_at_most p (kind n k) = omega arith
-two_at_most p (capacity n low high) = omega arith
-two_at_most p (fix n v) = omega arith
-two_at_most p (proportional n v) = omega arith
-two_at_most p (rename_material old new) = omega arith
-two_at_most p (rename_unit old new) = omega arith
-two_at_most p (add_material at n k v low high) = omega arith
-two_at_most p (remove_material n) = omega arith
-two_at_most p (add_unit at n low high f c ins outs) = omega arith
-two_at_most p (remove_unit n) =
-    let u = unit_at p (unit_place p n) in
-    one_or_two (costs_no_investment u)
-    (add_unit (unit_place p n) n u.lower u.upper u.fix u.proportional (named_terms p u.inputs) (named_terms p u.outputs))
-    (investment n u.investment_fix u.investment_proportional)
-two_at_most p (exclude at n us) = omega arith
-two_at_most p (unexclude n) = omega arith
-two_at_most p (investment n f c) = omega arith
-two_at_most p (payout years) = omega arith
+at_item : (p q : Problem) (edits back : List scripts.Edit) (i : ℕ) (item : scripts.Edit) → i < length edits → item ≡ get_or edits i item → IsAppliedAt p q edits back i → IsAppliedTo p q (map edit_of edits) (edit_of item ∷ map edit_of (drop (i + 1) edits)) (map edit_of back) i
+at_item p q edits back i item less is a =
+    subst (λ (rest : List Edit). IsAppliedTo p q (map edit_of edits) rest (map edit_of back) i) (ap (map edit_of) (drop_more edits i item less) ∙ ap (λ x. edit_of x ∷ map edit_of (drop (i + 1) edits)) (sym is)) a
 
-next_at : (p q : Problem) (es rest back : List Edit) (e : Edit) (passed : ℕ) → IsAppliedTo p q es (e ∷ rest) back passed → AreClear (checks q e) → IsAppliedTo p (effect q e) es rest (back ++ reverse (inverse q e)) (passed + 1)
-next_at p q es rest back e passed a clear =
-    let inv = inverse q e in
+next_at : (p q : Problem) (es rest back inv : List Edit) (e : Edit) (passed : ℕ) → IsAppliedTo p q es (e ∷ rest) back passed → AreClear (checks q e) → inv ≡ inverse q e → length inv ≤ 2 → IsAppliedTo p (effect q e) es rest (back ++ reverse inv) (passed + 1)
+next_at p q es rest back inv e passed a clear inv_is two =
     let u = undoing (effect q e) rest in
     let long = length-append back (reverse inv) in
     let turned = length-reverse inv in
-    let two = two_at_most q e in
     let few = a.few in
     record {
       valid = edit_keeps_valid q a.valid e a.formed.0 clear;
@@ -79,17 +63,26 @@ next_at p q es rest back e passed a clear =
       fault = λ k f h. let same : passed + suc k ≡ passed + 1 + k = omega arith in subst (λ j. IsFirstFault p es j f) same (a.fault (suc k) f (clear, h));
       undone =
           ap (λ z. u ++ z) (reverse-append back (reverse inv) ∙ ap (λ z. z ++ reverse back) (reverse-reverse inv))
-          ∙ (sym (append_assoc u inv (reverse back)) ∙ a.undone);
+          ∙ (sym (append_assoc u inv (reverse back)) ∙ (ap (λ z. u ++ z ++ reverse back) inv_is ∙ a.undone));
       few = omega arith;
     }
 
-pub next : (p q r : Problem) (es rest back more : List Edit) (e : Edit) (passed : ℕ) → IsAppliedTo p q es (e ∷ rest) back passed → AreClear (checks q e) → r ≡ effect q e → more ≡ back ++ reverse (inverse q e) → IsAppliedTo p r es rest more (passed + 1)
-next p q r es rest back more e passed a clear same pushed =
-    subst (λ m. IsAppliedTo p r es rest m (passed + 1)) (sym pushed)
-    (subst (λ x. IsAppliedTo p x es rest (back ++ reverse (inverse q e)) (passed + 1)) (sym same) (next_at p q es rest back e passed a clear))
+listed_short : (o : Option scripts.Edit) → length (listed_of o) ≤ 1
+listed_short None = omega arith
+listed_short (Some e) = omega arith
 
-pub stop : (p q : Problem) (es rest back : List Edit) (e : Edit) (passed : ℕ) (f : Fault) → IsAppliedTo p q es (e ∷ rest) back passed → fault_of q e ≡ Some f → IsFirstFault p es passed f
-stop p q es rest back e passed f a h = let same : passed + 0 ≡ passed = omega arith in subst (λ j. IsFirstFault p es j f) same (a.fault 0 f h)
+pub next : (p q r : Problem) (edits back more : List scripts.Edit) (i : ℕ) (item : scripts.Edit) (inv : Inverse) → i < length edits → item ≡ get_or edits i item → IsAppliedAt p q edits back i → IsEdited q (edit_of item) r (edits_of inv) → map edit_of more ≡ map edit_of back ++ reverse (edits_of inv) → IsAppliedAt p r edits more (i + 1)
+next p q r edits back more i item inv less is a edited pushed =
+    let rest = map edit_of (drop (i + 1) edits) in
+    let short = listed_short inv.investment in
+    subst (λ (m : List Edit). IsAppliedTo p r (map edit_of edits) rest m (i + 1)) (sym pushed)
+    (subst (λ (x : Problem). IsAppliedTo p x (map edit_of edits) rest (map edit_of back ++ reverse (edits_of inv)) (i + 1)) (sym edited.done)
+    (next_at p q (map edit_of edits) rest (map edit_of back) (edits_of inv) (edit_of item) i (at_item p q edits back i item less is a) edited.clear edited.back_is (omega arith)))
+
+pub stop : (p q : Problem) (edits back : List scripts.Edit) (i : ℕ) (item : scripts.Edit) (f : Fault) → i < length edits → item ≡ get_or edits i item → IsAppliedAt p q edits back i → fault_of q (edit_of item) ≡ Some f → IsFirstFault p (map edit_of edits) i f
+stop p q edits back i item f less is a h =
+    let same : i + 0 ≡ i = omega arith in
+    subst (λ j. IsFirstFault p (map edit_of edits) j f) same ((at_item p q edits back i item less is a).fault 0 f h)
 
 pub record IsToldAs (o : Option Fault) (told : EditKind) : Type 0 where
   pub fault : Fault

@@ -1,4 +1,5 @@
-pub mod Fault
+pub mod Answer
 pub mod Inverse
 pub mod Migrate
+pub mod Renumbering
 pub mod Terms

@@ -7,17 +7,17 @@
 //!
 //! A script changes one copy of the parts in place, line by line, and the problem is built once behind its last line. Modules:
 //! `material`, `unit` and `exclusion` (the edits of each, with what undoes them), `place` (names), `numbering` (places moved),
-//! `terms` and `members` (names to numbers and back), `inverse`, `refusal`, `script`, `migration`.
+//! `terms` and `members` (names to numbers and back), `fault`, `inverse`, `script`, `migration`.
 #![tactic(auto)]
 
 mod exclusion;
+mod fault;
 mod inverse;
 mod material;
 mod members;
 mod migration;
 mod numbering;
 mod place;
-mod refusal;
 mod script;
 mod terms;
 mod unit;

@@ -3,17 +3,16 @@ ghost use Rattle.std.specs.Prelude.{◌≡◌, ◌<◌, ◌≤◌, true, false, 
 ghost use Rattle.number_sets.specs.Sets.{has, listed};
 ghost use Rattle.edit_rules.specs.Place.{unit_place, lacks_unit, members, member_names};
 ghost use Rattle.edit_rules.specs.Fault.{unknown_name};
-ghost use Rattle.pns_edits.specs.Fault.{Tells};
+ghost use Rattle.pns_edits.specs.Answer.{Tells};
 ghost use Rattle.pns_edits.specs.Terms.{AreNumbersBelow};
 
 use crate::numbering::has_number;
 use crate::place::unit_place;
-use crate::refusal::Refusal;
-use edit_scripts::EditKind;
+use edit_scripts::LineFault;
 use pns_problem::Parts;
 use std::alloc::{AllocError, Global};
 
-fn unit_places(alloc: Global, parts: &Parts, names: &[String]) -> Result<Vec<u32>, Refusal>
+fn unit_places(alloc: Global, parts: &Parts, names: &[String]) -> Result<Vec<u32>, LineFault>
     requires { length parts.now.units ≤ 128 }
     ensures ok { IfOk result (λ v. v.items ≡ map (unit_place parts.now) (map string_bytes names.now)) }
     ensures known { OnOk result (lacks_unit parts.now (map string_bytes names.now) ≡ false) }
@@ -21,9 +20,7 @@ fn unit_places(alloc: Global, parts: &Parts, names: &[String]) -> Result<Vec<u32
 {
     let mut places = Vec::new(alloc);
     'placing: for name in names {
-        let Some(k) = unit_place(parts, name.as_str()) else {
-            return Err(Refusal::Fault(EditKind::UnknownName));
-        };
+        let k = unit_place(parts, name)?;
         places.push(k as u32)?;
     }
     Ok(places)
@@ -51,15 +48,14 @@ fn rising(alloc: Global, limit: u32, numbers: &[u32]) -> Result<Vec<u32>, AllocE
 }
 
 /// The numbers of the units of these names, rising, where the parts have them all.
-pub(crate) fn members(alloc: Global, parts: &Parts, names: &[String]) -> Result<Vec<u32>, Refusal>
+pub(crate) fn members(alloc: Global, parts: &Parts, names: &[String]) -> Result<Vec<u32>, LineFault>
     requires { length parts.now.units ≤ 128 }
     ensures ok { IfOk result (λ v. v.items ≡ members parts.now (map string_bytes names.now)) }
     ensures known { OnOk result (lacks_unit parts.now (map string_bytes names.now) ≡ false) }
     ensures unknown { IfErr result (Tells (cond (lacks_unit parts.now (map string_bytes names.now)) (Some unknown_name) None)) }
 {
     let places = unit_places(alloc, parts, names)?;
-    let members = rising(alloc, parts.units.len() as u32, &places)?;
-    Ok(members)
+    Ok(rising(alloc, parts.units.len() as u32, &places)?)
 }
 
 /// The names of the units.

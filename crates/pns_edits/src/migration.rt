@@ -1,10 +1,9 @@
 //! The script that turns yearly costs into investment costs.
-ghost use Rattle.std.specs.Prelude.{◌≡◌, ◌≤◌, ◌<◌, ◌+◌, ◌*ℤ◌, ◌++◌, ◌||◌, not, false, None, Option, OnOk, IfOk, IfErr, [], ◌∷◌, length, map, pos};
+ghost use Rattle.std.specs.Prelude.{◌≡◌, ◌≤◌, ◌<◌, ◌+◌, ◌*ℤ◌, ◌++◌, not, false, None, OnOk, IfOk, IfErr, length, map, pos};
 ghost use Rattle.std.specs.List.{list_any, position_from};
-ghost use Rattle.problem_rules.specs.Each.{Each};
 ghost use Rattle.problem_rules.specs.Problem.{OperatingUnit};
 ghost use Rattle.problem_rules.specs.WellFormed.{IsInRange};
-ghost use Rattle.edit_rules.specs.Edit.{fix, proportional, investment};
+ghost use Rattle.edit_rules.specs.Edit.{investment};
 ghost use Rattle.edit_rules.specs.Formed.{script_of};
 ghost use Rattle.edit_rules.specs.Inverse.{costs_no_investment};
 ghost use Rattle.edit_rules.specs.Migration.{has_payout, costs_nothing_yearly, migrates_out_of_range, out_of_range_at, unit_migration, migration};
@@ -18,7 +17,7 @@ use crate::unit::costs_no_investment;
 use edit_laws::{migration_keeps_flows, migrations_apply, migrations_are_formed};
 use edit_scripts::{Edit, Script};
 use pns_problem::{OperatingUnit, Problem};
-use std::alloc::{AllocError, AllocFailed, Global};
+use std::alloc::{AllocError, Global};
 
 /// Why a problem is not migrated.
 #[derive(Clone, Copy, Debug, PartialEq, Eq)]
@@ -42,26 +41,10 @@ impl From<AllocError> for MigrateFault {
     }
 }
 
-impl<T: Drop> From<AllocFailed<T>> for MigrateFault {
-    ghost use Rattle.std.specs.Prelude.{◌≡◌};
-    ghost use Rattle.pns_edits.specs.declared.migration.MigrateFault.TheVariants.{Memory};
-
-    ghost from_gives = { λ _ e. e ≡ Memory };
-
-    fn from(_e: AllocFailed<T>) -> MigrateFault {
-        MigrateFault::Memory
-    }
-}
-
 fn any_invests(units: &[OperatingUnit]) -> bool
     ensures { result ≡ list_any (λ (u : OperatingUnit). not (costs_no_investment u)) units.now }
 {
-    'looking: for unit in units {
-        if !costs_no_investment(unit) {
-            return true;
-        }
-    }
-    false
+    units.iter().any(|unit| !costs_no_investment(unit))
 }
 
 fn has_payout(problem: &Problem) -> bool
@@ -96,12 +79,10 @@ fn first_out_of_range(years: u32, units: &[OperatingUnit]) -> Option<u32>
     requires costs { AreAllYearlyInRange units.now }
     ensures { result ≡ position_from (migrates_out_of_range (pos years)) 0 units.now }
 {
-    let mut at: u32 = 0;
-    'looking: for unit in units {
+    'looking: for (at, unit) in units.iter().enumerate() {
         if is_out_of_range(years, unit) {
-            return Some(at);
+            return Some(at as u32);
         }
-        at += 1;
     }
     None
 }
@@ -112,57 +93,19 @@ fn costs_nothing_yearly(unit: &OperatingUnit) -> bool
     unit.fix.unsigned_abs() == 0 && unit.proportional.unsigned_abs() == 0
 }
 
-fn no_fix(unit: &OperatingUnit) -> Result<Edit, AllocError>
-    ensures { IfOk result (λ e. edit_of e ≡ fix unit.now.name (pos 0)) }
-{
-    let name = unit.name.clone()?;
-    Ok(Edit::Fix {
-        unit: name,
-        value: 0,
-    })
-}
-
-fn no_proportional(unit: &OperatingUnit) -> Result<Edit, AllocError>
-    ensures { IfOk result (λ e. edit_of e ≡ proportional unit.now.name (pos 0)) }
-{
-    let name = unit.name.clone()?;
-    Ok(Edit::Proportional {
-        unit: name,
-        value: 0,
-    })
-}
-
 fn invested(years: u32, unit: &OperatingUnit) -> Result<Edit, AllocError>
     requires years { years ≤ 100 }
     requires costs { AreYearlyInRange unit.now }
     ensures { let u = unit.now in IfOk result (λ e. edit_of e ≡ investment u.name (pos years *ℤ u.fix) (pos years *ℤ u.proportional)) }
 {
-    let name = unit.name.clone()?;
-    let once = over_years(years, unit.fix);
-    let rate = over_years(years, unit.proportional);
     Ok(Edit::Investment {
-        unit: name,
-        fix: once,
-        proportional: rate,
+        unit: unit.name.clone()?,
+        fix: over_years(years, unit.fix),
+        proportional: over_years(years, unit.proportional),
     })
 }
 
-/// Puts the edits of a unit that costs something yearly at the end of a list.
-fn push_moved(edits: &mut Vec<Edit>, years: u32, unit: &OperatingUnit) -> Result<(), AllocError>
-    requires years { years ≤ 100 }
-    requires costs { AreYearlyInRange unit.now }
-    ensures { let u = unit.now in OnOk result (map edit_of edits.new.items ≡ map edit_of edits.old.items
-        ++ (fix u.name (pos 0) ∷ proportional u.name (pos 0) ∷ investment u.name (pos years *ℤ u.fix) (pos years *ℤ u.proportional) ∷ [])) }
-{
-    let fix = no_fix(unit)?;
-    let proportional = no_proportional(unit)?;
-    let investment = invested(years, unit)?;
-    edits.push(fix)?;
-    edits.push(proportional)?;
-    edits.push(investment)?;
-    Ok(())
-}
-
+/// Puts the edits of a unit, none where it costs nothing yearly, at the end of a list.
 fn push_unit(edits: &mut Vec<Edit>, years: u32, unit: &OperatingUnit) -> Result<(), AllocError>
     requires years { years ≤ 100 }
     requires costs { AreYearlyInRange unit.now }
@@ -171,7 +114,16 @@ fn push_unit(edits: &mut Vec<Edit>, years: u32, unit: &OperatingUnit) -> Result<
     if costs_nothing_yearly(unit) {
         return Ok(());
     }
-    push_moved(edits, years, unit)
+    edits.push(Edit::Fix {
+        unit: unit.name.clone()?,
+        value: 0,
+    })?;
+    edits.push(Edit::Proportional {
+        unit: unit.name.clone()?,
+        value: 0,
+    })?;
+    edits.push(invested(years, unit)?)?;
+    Ok(())
 }
 
 fn migration_edits(alloc: Global, problem: &Problem, years: u32) -> Result<Vec<Edit>, AllocError>

@@ -3,134 +3,65 @@ ghost use Rattle.std.specs.Prelude.{◌≡◌, ◌<◌, map};
 ghost use Rattle.number_sets.specs.Sets.{has};
 ghost use Rattle.problem_rules.specs.Each.{Each};
 ghost use Rattle.problem_rules.specs.Problem.{terms_have};
-ghost use Rattle.edit_rules.specs.Numbering.{up, down, in_term, in_unit, in_exclusion, unit_has, any_unit_has, any_excludes};
+ghost use Rattle.edit_rules.specs.Numbering.{in_term, in_unit, in_exclusion, any_unit_has, any_excludes};
+ghost use Rattle.pns_edits.specs.Renumbering.{new_number};
 ghost use Rattle.pns_edits.specs.Terms.{AreTermsBelow, IsUnitBelow, AreNumbersBelow, IsExclusionBelow};
 
 use pns_problem::{Exclusion, OperatingUnit, Term};
 
-fn up(k: u32, x: u32) -> u32
+/// The place at which an item was put in, or from which it was taken out: those behind it have new numbers.
+#[derive(Clone, Copy)]
+pub(crate) enum Renumbering {
+    PutIn(u32),
+    TakenOut(u32),
+}
+
+fn new_number(by: Renumbering, x: u32) -> u32
     requires { x < 4294967295 }
-    ensures { result ≡ up k x }
+    ensures { result ≡ new_number by x }
 {
-    if x < k { x } else { x + 1 }
+    match by {
+        Renumbering::PutIn(k) => if x < k { x } else { x + 1 },
+        Renumbering::TakenOut(k) => if k < x { x - 1 } else { x },
+    }
 }
 
-fn down(k: u32, x: u32) -> u32
-    ensures { result ≡ down k x }
-{
-    if k < x { x - 1 } else { x }
-}
-
-fn term_up(term: &mut Term, k: u32)
-    requires { term.old.material < 256 }
-    ensures { term.new ≡ in_term (up k) term.old }
-{
-    term.material = up(k, term.material);
-}
-
-fn term_down(term: &mut Term, k: u32)
-    ensures { term.new ≡ in_term (down k) term.old }
-{
-    term.material = down(k, term.material);
-}
-
-fn terms_up(terms: &mut [Term], k: u32)
+fn renumber_terms(terms: &mut [Term], by: Renumbering)
     requires { AreTermsBelow 256 terms.old }
-    ensures { terms.new ≡ map (in_term (up k)) terms.old }
+    ensures { terms.new ≡ map (in_term (new_number by)) terms.old }
 {
     'moving: for term in terms.iter_mut() {
-        term_up(term, k);
+        term.material = new_number(by, term.material);
     }
 }
 
-fn terms_down(terms: &mut [Term], k: u32)
-    ensures { terms.new ≡ map (in_term (down k)) terms.old }
-{
-    'moving: for term in terms.iter_mut() {
-        term_down(term, k);
-    }
-}
-
-fn unit_up(unit: &mut OperatingUnit, k: u32)
-    requires { IsUnitBelow 256 unit.old }
-    ensures { unit.new ≡ in_unit (up k) unit.old }
-{
-    terms_up(&mut unit.inputs, k);
-    terms_up(&mut unit.outputs, k);
-}
-
-fn unit_down(unit: &mut OperatingUnit, k: u32)
-    ensures { unit.new ≡ in_unit (down k) unit.old }
-{
-    terms_down(&mut unit.inputs, k);
-    terms_down(&mut unit.outputs, k);
-}
-
-/// The units after a material was put in at place k.
-pub(crate) fn units_up(units: &mut [OperatingUnit], k: u32)
+/// The units by the new numbers of materials.
+pub(crate) fn renumber_units(units: &mut [OperatingUnit], by: Renumbering)
     requires { Each (IsUnitBelow 256) units.old }
-    ensures { units.new ≡ map (in_unit (up k)) units.old }
+    ensures { units.new ≡ map (in_unit (new_number by)) units.old }
 {
     'moving: for unit in units.iter_mut() {
-        unit_up(unit, k);
+        renumber_terms(&mut unit.inputs, by);
+        renumber_terms(&mut unit.outputs, by);
     }
 }
 
-/// The units after the material at place k was taken out.
-pub(crate) fn units_down(units: &mut [OperatingUnit], k: u32)
-    ensures { units.new ≡ map (in_unit (down k)) units.old }
+fn renumber_members(members: &mut [u32], by: Renumbering)
+    requires { AreNumbersBelow 128 members.old }
+    ensures { members.new ≡ map (new_number by) members.old }
 {
-    'moving: for unit in units.iter_mut() {
-        unit_down(unit, k);
+    'moving: for member in members.iter_mut() {
+        *member = new_number(by, *member);
     }
 }
 
-fn numbers_up(numbers: &mut [u32], k: u32)
-    requires { AreNumbersBelow 128 numbers.old }
-    ensures { numbers.new ≡ map (up k) numbers.old }
-{
-    'moving: for number in numbers.iter_mut() {
-        *number = up(k, *number);
-    }
-}
-
-fn numbers_down(numbers: &mut [u32], k: u32)
-    ensures { numbers.new ≡ map (down k) numbers.old }
-{
-    'moving: for number in numbers.iter_mut() {
-        *number = down(k, *number);
-    }
-}
-
-fn exclusion_up(exclusion: &mut Exclusion, k: u32)
-    requires { IsExclusionBelow 128 exclusion.old }
-    ensures { exclusion.new ≡ in_exclusion (up k) exclusion.old }
-{
-    numbers_up(&mut exclusion.units, k);
-}
-
-fn exclusion_down(exclusion: &mut Exclusion, k: u32)
-    ensures { exclusion.new ≡ in_exclusion (down k) exclusion.old }
-{
-    numbers_down(&mut exclusion.units, k);
-}
-
-/// The exclusions after a unit was put in at place k.
-pub(crate) fn exclusions_up(exclusions: &mut [Exclusion], k: u32)
+/// The exclusions by the new numbers of units.
+pub(crate) fn renumber_exclusions(exclusions: &mut [Exclusion], by: Renumbering)
     requires { Each (IsExclusionBelow 128) exclusions.old }
-    ensures { exclusions.new ≡ map (in_exclusion (up k)) exclusions.old }
+    ensures { exclusions.new ≡ map (in_exclusion (new_number by)) exclusions.old }
 {
     'moving: for exclusion in exclusions.iter_mut() {
-        exclusion_up(exclusion, k);
-    }
-}
-
-/// The exclusions after the unit at place k was taken out.
-pub(crate) fn exclusions_down(exclusions: &mut [Exclusion], k: u32)
-    ensures { exclusions.new ≡ map (in_exclusion (down k)) exclusions.old }
-{
-    'moving: for exclusion in exclusions.iter_mut() {
-        exclusion_down(exclusion, k);
+        renumber_members(&mut exclusion.units, by);
     }
 }
 
@@ -145,22 +76,11 @@ fn terms_have(terms: &[Term], k: u32) -> bool
     false
 }
 
-fn unit_has(unit: &OperatingUnit, k: u32) -> bool
-    ensures { result ≡ unit_has unit.now k }
-{
-    terms_have(&unit.inputs, k) || terms_have(&unit.outputs, k)
-}
-
 /// Whether some unit has the material.
 pub(crate) fn any_unit_has(units: &[OperatingUnit], k: u32) -> bool
     ensures { result ≡ any_unit_has units.now k }
 {
-    'looking: for unit in units {
-        if unit_has(unit, k) {
-            return true;
-        }
-    }
-    false
+    units.iter().any(|unit| terms_have(&unit.inputs, k) || terms_have(&unit.outputs, k))
 }
 
 pub(crate) fn has_number(numbers: &[u32], k: u32) -> bool
@@ -174,20 +94,11 @@ pub(crate) fn has_number(numbers: &[u32], k: u32) -> bool
     false
 }
 
-fn excludes(exclusion: &Exclusion, k: u32) -> bool
-    ensures { result ≡ has exclusion.now.units k }
-{
-    has_number(&exclusion.units, k)
-}
-
 /// Whether some exclusion has the unit.
 pub(crate) fn any_excludes(exclusions: &[Exclusion], k: u32) -> bool
     ensures { result ≡ any_excludes exclusions.now k }
 {
-    'looking: for exclusion in exclusions {
-        if excludes(exclusion, k) {
-            return true;
-        }
-    }
-    false
+    exclusions
+        .iter()
+        .any(|exclusion| has_number(&exclusion.units, k))
 }

@@ -1,53 +1,40 @@
 //! The places of names among materials, operating units and exclusions, counted from 0.
-ghost use Rattle.std.specs.Prelude.{◌≡◌, ◌<◌, true, false, IfSome, IfNone, length};
+ghost use Rattle.std.specs.Prelude.{length, string_bytes};
 ghost use Rattle.edit_rules.specs.Place.{material_place, unit_place, exclusion_place, has_material, has_unit, has_exclusion};
+ghost use Rattle.pns_edits.specs.Answer.{Finds};
 
+use edit_scripts::{EditKind, LineFault};
 use pns_problem::Parts;
 
-pub(crate) fn material_place(parts: &Parts, name: &str) -> Option<usize>
-    ensures known { IfSome result (λ k. has_material parts.now name.now ≡ true) }
-    ensures place { IfSome result (λ k. k ≡ material_place parts.now name.now) }
-    ensures within { IfSome result (λ k. k < length parts.now.materials) }
-    ensures none { IfNone result (has_material parts.now name.now ≡ false) }
+pub(crate) fn material_place(parts: &Parts, name: &String) -> Result<usize, LineFault>
+    ensures { Finds (has_material parts.now (string_bytes name.now)) (material_place parts.now (string_bytes name.now)) (length parts.now.materials) result }
 {
-    let mut k: usize = 0;
-    'looking: for material in &parts.materials {
-        if material.name.as_str() == name {
-            return Some(k);
+    'looking: for (k, material) in parts.materials.iter().enumerate() {
+        if material.name.as_str() == name.as_str() {
+            return Ok(k);
         }
-        k += 1;
     }
-    None
+    Err(LineFault::Kind(EditKind::UnknownName))
 }
 
-pub(crate) fn unit_place(parts: &Parts, name: &str) -> Option<usize>
-    ensures known { IfSome result (λ k. has_unit parts.now name.now ≡ true) }
-    ensures place { IfSome result (λ k. k ≡ unit_place parts.now name.now) }
-    ensures within { IfSome result (λ k. k < length parts.now.units) }
-    ensures none { IfNone result (has_unit parts.now name.now ≡ false) }
+pub(crate) fn unit_place(parts: &Parts, name: &String) -> Result<usize, LineFault>
+    ensures { Finds (has_unit parts.now (string_bytes name.now)) (unit_place parts.now (string_bytes name.now)) (length parts.now.units) result }
 {
-    let mut k: usize = 0;
-    'looking: for unit in &parts.units {
-        if unit.name.as_str() == name {
-            return Some(k);
+    'looking: for (k, unit) in parts.units.iter().enumerate() {
+        if unit.name.as_str() == name.as_str() {
+            return Ok(k);
         }
-        k += 1;
     }
-    None
+    Err(LineFault::Kind(EditKind::UnknownName))
 }
 
-pub(crate) fn exclusion_place(parts: &Parts, name: &str) -> Option<usize>
-    ensures known { IfSome result (λ k. has_exclusion parts.now name.now ≡ true) }
-    ensures place { IfSome result (λ k. k ≡ exclusion_place parts.now name.now) }
-    ensures within { IfSome result (λ k. k < length parts.now.exclusions) }
-    ensures none { IfNone result (has_exclusion parts.now name.now ≡ false) }
+pub(crate) fn exclusion_place(parts: &Parts, name: &String) -> Result<usize, LineFault>
+    ensures { Finds (has_exclusion parts.now (string_bytes name.now)) (exclusion_place parts.now (string_bytes name.now)) (length parts.now.exclusions) result }
 {
-    let mut k: usize = 0;
-    'looking: for exclusion in &parts.exclusions {
-        if exclusion.name.as_str() == name {
-            return Some(k);
+    'looking: for (k, exclusion) in parts.exclusions.iter().enumerate() {
+        if exclusion.name.as_str() == name.as_str() {
+            return Ok(k);
         }
-        k += 1;
     }
-    None
+    Err(LineFault::Kind(EditKind::UnknownName))
 }

@@ -1,62 +1,37 @@
 //! Edits and whole scripts, applied.
-ghost use Rattle.std.specs.Prelude.{◌≡◌, ◌<◌, ◌++◌, ◌-◌, ◌^◌, OnOk, IfOk, IfErr, length, map, reverse};
+ghost use Rattle.std.specs.Prelude.{◌≡◌, ◌<◌, OnOk, IfOk, IfErr, length, map};
 ghost use Rattle.problem_rules.specs.Validity.{IsValid};
-ghost use Rattle.edit_rules.specs.Effect.{effect};
-ghost use Rattle.edit_rules.specs.Fault.{checks, fault_of, AreClear};
 ghost use Rattle.edit_rules.specs.Formed.{script_of};
-ghost use Rattle.edit_rules.specs.Inverse.{inverse};
 ghost use Rattle.edit_rules.specs.Script.{applied, undoing, CanApply, LeadsTo};
 ghost use Rattle.edit_scripts.specs.View.{edit_of};
-ghost use Rattle.pns_edits.specs.Fault.{Tells, TellsFirst};
-ghost use Rattle.pns_edits.specs.Inverse.{edits_of};
+ghost use Rattle.pns_edits.specs.Answer.{Answers, TellsFirst};
 ghost use Rattle.pns_edits.specs.Terms.{IsNumbered};
 
 use crate::inverse::{Inverse, push_inverse};
-use crate::refusal::Refusal;
 use crate::{exclusion, material, unit};
 use edit_laws::scripts_are_undone;
-use edit_scripts::{Edit, EditFault, Script};
+use edit_scripts::{Edit, EditFault, LineFault, Script};
 use pns_problem::{Parts, Problem};
 use std::alloc::Global;
 
 /// Applies one edit, and answers the edits that undo it.
-fn apply_edit(alloc: Global, parts: &mut Parts, edit: &Edit) -> Result<Inverse, Refusal>
+fn apply_edit(alloc: Global, parts: &mut Parts, edit: &Edit) -> Result<Inverse, LineFault>
     requires { IsNumbered parts.old }
-    ensures done { OnOk result (parts.new ≡ effect parts.old (edit_of edit.now)) }
-    ensures back { IfOk result (λ back. edits_of back ≡ inverse parts.old (edit_of edit.now)) }
-    ensures clear { OnOk result (AreClear (checks parts.old (edit_of edit.now))) }
-    ensures fault { IfErr result (Tells (fault_of parts.old (edit_of edit.now))) }
+    ensures { Answers parts.old (edit_of edit.now) parts.new result }
 {
     match edit {
-        Edit::Price {
-            material: name,
-            value,
-        } => material::set_price(alloc, parts, name.as_str(), *value),
+        Edit::Price { material, value } => material::set_price(parts, material, *value),
         Edit::Bounds {
-            material: name,
+            material,
             lower,
             upper,
-        } => { material::set_bounds(alloc, parts, name.as_str(), *lower, *upper) }
-        Edit::Kind {
-            material: name,
-            kind,
-        } => material::set_kind(alloc, parts, name.as_str(), *kind),
-        Edit::Capacity {
-            unit: name,
-            lower,
-            upper,
-        } => { unit::set_capacity(alloc, parts, name.as_str(), *lower, *upper) }
-        Edit::Fix { unit: name, value } => unit::set_fix(alloc, parts, name.as_str(), *value),
-        Edit::Proportional { unit: name, value } => {
-            unit::set_proportional(alloc, parts, name.as_str(), *value)
-        }
-        Edit::RenameMaterial { old, new } => material::rename(
-            alloc,
-            parts,
-            old.as_str(),
-            new.as_str(),
-        ),
-        Edit::RenameUnit { old, new } => unit::rename(alloc, parts, old.as_str(), new.as_str()),
+        } => material::set_bounds(parts, material, *lower, *upper),
+        Edit::Kind { material, kind } => material::set_kind(parts, material, *kind),
+        Edit::Capacity { unit, lower, upper } => unit::set_capacity(parts, unit, *lower, *upper),
+        Edit::Fix { unit, value } => unit::set_fix(parts, unit, *value),
+        Edit::Proportional { unit, value } => unit::set_proportional(parts, unit, *value),
+        Edit::RenameMaterial { old, new } => material::rename(parts, old, new),
+        Edit::RenameUnit { old, new } => unit::rename(parts, old, new),
         Edit::AddMaterial {
             at,
             name,
@@ -64,19 +39,8 @@ fn apply_edit(alloc: Global, parts: &mut Parts, edit: &Edit) -> Result<Inverse, 
             price,
             lower,
             upper,
-        } => {
-            material::add(
-                alloc,
-                parts,
-                *at,
-                name.as_str(),
-                *kind,
-                *price,
-                *lower,
-                *upper,
-            )
-        }
-        Edit::RemoveMaterial { material: name } => material::remove(alloc, parts, name.as_str()),
+        } => material::add(parts, *at, name, *kind, *price, *lower, *upper),
+        Edit::RemoveMaterial { material } => material::remove(parts, material),
         Edit::AddUnit {
             at,
             name,
@@ -90,7 +54,7 @@ fn apply_edit(alloc: Global, parts: &mut Parts, edit: &Edit) -> Result<Inverse, 
             alloc,
             parts,
             *at,
-            name.as_str(),
+            name,
             *lower,
             *upper,
             *fix,
@@ -98,43 +62,16 @@ fn apply_edit(alloc: Global, parts: &mut Parts, edit: &Edit) -> Result<Inverse, 
             inputs,
             outputs,
         ),
-        Edit::RemoveUnit { unit: name } => unit::remove(alloc, parts, name.as_str()),
-        Edit::Exclude { at, name, units } => exclusion::add(
-            alloc,
-            parts,
-            *at,
-            name.as_str(),
-            units,
-        ),
-        Edit::Unexclude { name } => exclusion::remove(alloc, parts, name.as_str()),
+        Edit::RemoveUnit { unit } => unit::remove(alloc, parts, unit),
+        Edit::Exclude { at, name, units } => exclusion::add(alloc, parts, *at, name, units),
+        Edit::Unexclude { name } => exclusion::remove(alloc, parts, name),
         Edit::Investment {
-            unit: name,
+            unit,
             fix,
             proportional,
-        } => { unit::set_investment(alloc, parts, name.as_str(), *fix, *proportional) }
+        } => unit::set_investment(parts, unit, *fix, *proportional),
         Edit::Payout { years } => Ok(exclusion::set_payout(parts, *years)),
     }
-}
-
-/// Applies one edit, and puts the edits that undo it, the last first, at the end of a list.
-fn apply_next(
-    alloc: Global,
-    parts: &mut Parts,
-    back: &mut Vec<Edit>,
-    edit: &Edit,
-) -> Result<(), Refusal>
-    requires { IsNumbered parts.old }
-    ensures done { OnOk result (parts.new ≡ effect parts.old (edit_of edit.now)) }
-    ensures back { OnOk result (map edit_of back.new.items ≡ map edit_of back.old.items ++ reverse (inverse parts.old (edit_of edit.now))) }
-    ensures clear { OnOk result (AreClear (checks parts.old (edit_of edit.now))) }
-    ensures fault { IfErr result (Tells (fault_of parts.old (edit_of edit.now))) }
-{
-    let inverse = match apply_edit(alloc, parts, edit) {
-        Err(refusal) => return Err(refusal),
-        Ok(inverse) => inverse,
-    };
-    push_inverse(back, inverse)?;
-    Ok(())
 }
 
 fn apply_edits(alloc: Global, parts: &mut Parts, script: &Script) -> Result<Vec<Edit>, EditFault>
@@ -150,19 +87,17 @@ fn apply_edits(alloc: Global, parts: &mut Parts, script: &Script) -> Result<Vec<
     let edits = script.edits();
     let lines = script.lines();
     let mut back = Vec::new(alloc);
-    let mut at: usize = 0;
-    'applying: for edit in edits {
-        match apply_next(alloc, parts, &mut back, edit) {
-            Ok(()) => {}
-            Err(Refusal::Memory) => return Err(EditFault::Memory),
-            Err(Refusal::Fault(kind)) => {
+    'applying: for (at, edit) in edits.iter().enumerate() {
+        match apply_edit(alloc, parts, edit) {
+            Ok(inverse) => push_inverse(&mut back, inverse)?,
+            Err(LineFault::Memory) => return Err(EditFault::Memory),
+            Err(LineFault::Kind(kind)) => {
                 return Err(EditFault::At {
                     line: lines[at],
                     kind,
                 });
             }
         }
-        at += 1;
     }
     back.reverse();
     Ok(back)
@@ -188,10 +123,7 @@ pub fn apply(
     problem.is_valid();
     script.is_formed();
     let mut parts = problem.parts(alloc)?;
-    let back = match apply_edits(alloc, &mut parts, script) {
-        Err(fault) => return Err(fault),
-        Ok(back) => back,
-    };
+    let back = apply_edits(alloc, &mut parts, script)?;
     let inverse = Script::of(alloc, back)?;
     match Problem::build(alloc, parts) {
         Ok(edited) => Ok((edited, inverse)),

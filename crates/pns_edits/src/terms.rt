@@ -2,17 +2,16 @@
 ghost use Rattle.std.specs.Prelude.{◌≡◌, ◌<◌, ◌≤◌, true, false, Some, None, OnOk, IfOk, IfErr, length, cond, ◌||◌};
 ghost use Rattle.edit_rules.specs.Place.{numbered_terms, named_terms, lacks_material};
 ghost use Rattle.edit_rules.specs.Fault.{unknown_name};
-ghost use Rattle.pns_edits.specs.Fault.{Tells};
+ghost use Rattle.pns_edits.specs.Answer.{Tells};
 ghost use Rattle.pns_edits.specs.Terms.{AreTermsBelow};
 
 use crate::place::material_place;
-use crate::refusal::Refusal;
-use edit_scripts::{EditKind, NamedTerm};
+use edit_scripts::{LineFault, NamedTerm};
 use pns_problem::{Parts, Term};
 use std::alloc::{AllocError, Global};
 
 /// The terms with their materials by number, where the parts have them all.
-fn numbered_terms(alloc: Global, parts: &Parts, terms: &[NamedTerm]) -> Result<Vec<Term>, Refusal>
+fn numbered_terms(alloc: Global, parts: &Parts, terms: &[NamedTerm]) -> Result<Vec<Term>, LineFault>
     requires { length parts.now.materials ≤ 256 }
     ensures ok { IfOk result (λ v. v.items ≡ numbered_terms parts.now terms.now) }
     ensures known { OnOk result (lacks_material parts.now terms.now ≡ false) }
@@ -20,9 +19,7 @@ fn numbered_terms(alloc: Global, parts: &Parts, terms: &[NamedTerm]) -> Result<V
 {
     let mut numbered = Vec::new(alloc);
     'numbering: for term in terms {
-        let Some(k) = material_place(parts, term.name.as_str()) else {
-            return Err(Refusal::Fault(EditKind::UnknownName));
-        };
+        let k = material_place(parts, &term.name)?;
         numbered.push(Term {
             material: k as u32,
             rate: term.rate,
@@ -37,7 +34,7 @@ pub(crate) fn numbered_sides(
     parts: &Parts,
     inputs: &[NamedTerm],
     outputs: &[NamedTerm],
-) -> Result<(Vec<Term>, Vec<Term>), Refusal>
+) -> Result<(Vec<Term>, Vec<Term>), LineFault>
     requires { length parts.now.materials ≤ 256 }
     ensures inputs { IfOk result (λ sides. sides.0.items ≡ numbered_terms parts.now inputs.now) }
     ensures outputs { IfOk result (λ sides. sides.1.items ≡ numbered_terms parts.now outputs.now) }

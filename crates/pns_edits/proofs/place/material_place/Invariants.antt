@@ -1,7 +1,7 @@
-use Rattle.std.proofs.Common.{◌≡◌, drop}
+use Rattle.std.proofs.Common.{drop, string_bytes}
 use Rattle.pns_edits.proofs.Sought.{IsSought}
 use Rattle.problem_rules.specs.Problem.{material_names}
 use Rattle.pns_edits.proofs.place.material_place.Given as goal
 
 abbrev pub invariant-looking : goal.invariant-looking
-invariant-looking l = (l.k ≡ l.material-index) × IsSought l.k l.name (material_names l.parts.materials) (material_names (drop l.material-index l.parts.materials))
+invariant-looking l = IsSought l.k (string_bytes l.name) (material_names l.parts.materials) (material_names (drop l.k l.parts.materials))

@@ -1,7 +1,7 @@
-use Rattle.std.proofs.Common.{◌≡◌, drop}
+use Rattle.std.proofs.Common.{drop, string_bytes}
 use Rattle.pns_edits.proofs.Sought.{IsSought}
 use Rattle.problem_rules.specs.Problem.{unit_names}
 use Rattle.pns_edits.proofs.place.unit_place.Given as goal
 
 abbrev pub invariant-looking : goal.invariant-looking
-invariant-looking l = (l.k ≡ l.unit-index) × IsSought l.k l.name (unit_names l.parts.units) (unit_names (drop l.unit-index l.parts.units))
+invariant-looking l = IsSought l.k (string_bytes l.name) (unit_names l.parts.units) (unit_names (drop l.k l.parts.units))

@@ -1,6 +1,0 @@
-use Rattle.std.proofs.Common.{◌≡◌, drop}
-use Rattle.problem_rules.specs.Validity.{has_product}
-use Rattle.pns_edits.proofs.material.has_product.Given as goal
-
-abbrev pub invariant-looking : goal.invariant-looking
-invariant-looking l = has_product (drop l.material-index l.materials) ≡ has_product l.materials

@@ -1,0 +1,9 @@
+-- The new numbers of items, after one was put in or taken out, as the rules have them.
+use Rattle.std.specs.Prelude.{ℕ}
+use Rattle.edit_rules.specs.Numbering.{up, down}
+use Rattle.pns_edits.specs.declared.numbering.Renumbering.{Renumbering}
+use Rattle.pns_edits.specs.declared.numbering.Renumbering.TheVariants.{PutIn, TakenOut}
+
+abbrev pub new_number : Renumbering → ℕ → ℕ
+new_number (PutIn k) = up k
+new_number (TakenOut k) = down k
