@@ -1,12 +1,11 @@
 -- The numbers in a valid problem name its items.
-use Rattle.std.proofs.Common.{◌<◌, ◌≤◌, ◌+◌, ℕ, List, [], ◌∷◌, length, arith}
-use Rattle.problem_rules.specs.Problem.{Problem, Term, OperatingUnit, Exclusion, unit_at, exclusion_at, no_unit, no_exclusion}
+use Rattle.std.proofs.Common.{◌≤◌, ◌+◌, ℕ, List, [], ◌∷◌, length, arith}
+use Rattle.problem_rules.specs.Problem.{Problem, Term, OperatingUnit, Exclusion}
 use Rattle.problem_rules.specs.Each.{Each}
 use Rattle.problem_rules.specs.Validity.{IsValid}
 use Rattle.problem_rules.specs.WellFormed.{IsWellFormed, IsWellFormedTerm, IsWellFormedUnit, IsWellFormedExclusion, AreRisingFrom}
-use Rattle.problem_rules.proofs.ItemLemmas.{Each-at}
 use Rattle.problem_rules.proofs.ValidLemmas.{well_formed_from_valid}
-use Rattle.pns_edits.specs.Terms.{AreTermsBelow, IsUnitBelow, AreNumbersBelow, IsExclusionBelow, IsNumbered, AreAllYearlyInRange}
+use Rattle.pns_edits.specs.Terms.{AreTermsBelow, IsUnitBelow, AreNumbersBelow, IsExclusionBelow, IsNumbered}
 
 terms_below : (n limit : ℕ) (ts : List Term) → n ≤ limit → Each (IsWellFormedTerm n) ts → AreTermsBelow limit ts
 terms_below n limit [] le h = tt
@@ -25,7 +24,7 @@ exclusions_below : (n limit : ℕ) (es : List Exclusion) → n ≤ limit → Eac
 exclusions_below n limit [] le h = tt
 exclusions_below n limit (e ∷ es) le h = (numbers_below n 0 limit e.units le h.0.rising, exclusions_below n limit es le h.1)
 
-pub numbered_from_well_formed : (p : Problem) → IsWellFormed p → IsNumbered p
+numbered_from_well_formed : (p : Problem) → IsWellFormed p → IsNumbered p
 numbered_from_well_formed p h = record {
   few_materials = h.few_materials;
   few_units = h.few_units;
@@ -38,16 +37,3 @@ numbered_from_well_formed p h = record {
 
 pub numbered_from_valid : (p : Problem) → IsValid p → IsNumbered p
 numbered_from_valid p v = numbered_from_well_formed p (well_formed_from_valid p v)
-
-pub unit_known : (p : Problem) → IsNumbered p → (k : ℕ) → k < length p.units → IsUnitBelow (length p.materials) (unit_at p k)
-unit_known p h k less = Each-at (IsUnitBelow (length p.materials)) p.units k no_unit less h.units_known
-
-pub exclusion_known : (p : Problem) → IsNumbered p → (k : ℕ) → k < length p.exclusions → AreNumbersBelow (length p.units) (exclusion_at p k).units
-exclusion_known p h k less = Each-at (IsExclusionBelow (length p.units)) p.exclusions k no_exclusion less h.exclusions_known
-
-yearly_in_range : (n : ℕ) (us : List OperatingUnit) → Each (IsWellFormedUnit n) us → AreAllYearlyInRange us
-yearly_in_range n [] h = tt
-yearly_in_range n (u ∷ us) h = (record { fix = h.0.fix.in_range; proportional = h.0.proportional }, yearly_in_range n us h.1)
-
-pub all_yearly_in_range : (p : Problem) → IsWellFormed p → AreAllYearlyInRange p.units
-all_yearly_in_range p h = yearly_in_range (length p.materials) p.units h.units_formed

@@ -23,10 +23,12 @@ fn excluded_back(alloc: Global, parts: &Parts, k: u32, name: &String) -> Result<
     requires known { AreNumbersBelow (length parts.now.units) (exclusion_at parts.now k).units }
     ensures { IfOk result (λ e. edit_of e ≡ exclude k (string_bytes name.now) (member_names parts.now (exclusion_at parts.now k).units)) }
 {
-    let name = name.clone()?;
     let exclusion = &parts.exclusions[k as usize];
-    let units = member_names(alloc, parts, &exclusion.units)?;
-    Ok(Edit::Exclude { at: k, name, units })
+    Ok(Edit::Exclude {
+        at: k,
+        name: name.clone()?,
+        units: member_names(alloc, parts, &exclusion.units)?,
+    })
 }
 
 /// Puts an exclusion of these units in at a place.

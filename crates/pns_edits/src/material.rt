@@ -51,11 +51,10 @@ fn added_back(parts: &Parts, k: u32, name: &String) -> Result<Edit, AllocError>
     requires { k < length parts.now.materials }
     ensures { let m = material_at parts.now k in IfOk result (λ e. edit_of e ≡ add_material k (string_bytes name.now) m.kind m.price m.lower m.upper) }
 {
-    let name = name.clone()?;
     let material = &parts.materials[k as usize];
     Ok(Edit::AddMaterial {
         at: k,
-        name,
+        name: name.clone()?,
         kind: material.kind,
         price: material.price,
         lower: material.lower,

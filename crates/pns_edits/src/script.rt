@@ -50,18 +50,11 @@ fn apply_edit(alloc: Global, parts: &mut Parts, edit: &Edit) -> Result<Inverse, 
             proportional,
             inputs,
             outputs,
-        } => unit::add(
-            alloc,
-            parts,
-            *at,
-            name,
-            *lower,
-            *upper,
-            *fix,
-            *proportional,
-            inputs,
-            outputs,
-        ),
+        } => {
+            let capacity = (*lower, *upper);
+            let costs = (*fix, *proportional);
+            unit::add(alloc, parts, *at, name, capacity, costs, inputs, outputs)
+        }
         Edit::RemoveUnit { unit } => unit::remove(alloc, parts, unit),
         Edit::Exclude { at, name, units } => exclusion::add(alloc, parts, *at, name, units),
         Edit::Unexclude { name } => exclusion::remove(alloc, parts, name),

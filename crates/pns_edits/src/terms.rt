@@ -1,5 +1,5 @@
 //! Terms with their materials by name and by number.
-ghost use Rattle.std.specs.Prelude.{◌≡◌, ◌<◌, ◌≤◌, true, false, Some, None, OnOk, IfOk, IfErr, length, cond, ◌||◌};
+ghost use Rattle.std.specs.Prelude.{◌≡◌, ◌<◌, ◌≤◌, true, false, Some, None, OnOk, IfOk, IfErr, length, cond};
 ghost use Rattle.edit_rules.specs.Place.{numbered_terms, named_terms, lacks_material};
 ghost use Rattle.edit_rules.specs.Fault.{unknown_name};
 ghost use Rattle.pns_edits.specs.Answer.{Tells};
@@ -11,7 +11,11 @@ use pns_problem::{Parts, Term};
 use std::alloc::{AllocError, Global};
 
 /// The terms with their materials by number, where the parts have them all.
-fn numbered_terms(alloc: Global, parts: &Parts, terms: &[NamedTerm]) -> Result<Vec<Term>, LineFault>
+pub(crate) fn numbered_terms(
+    alloc: Global,
+    parts: &Parts,
+    terms: &[NamedTerm],
+) -> Result<Vec<Term>, LineFault>
     requires { length parts.now.materials ≤ 256 }
     ensures ok { IfOk result (λ v. v.items ≡ numbered_terms parts.now terms.now) }
     ensures known { OnOk result (lacks_material parts.now terms.now ≡ false) }
@@ -26,24 +30,6 @@ fn numbered_terms(alloc: Global, parts: &Parts, terms: &[NamedTerm]) -> Result<V
         })?;
     }
     Ok(numbered)
-}
-
-/// The terms of both sides with their materials by number, where the parts have them all.
-pub(crate) fn numbered_sides(
-    alloc: Global,
-    parts: &Parts,
-    inputs: &[NamedTerm],
-    outputs: &[NamedTerm],
-) -> Result<(Vec<Term>, Vec<Term>), LineFault>
-    requires { length parts.now.materials ≤ 256 }
-    ensures inputs { IfOk result (λ sides. sides.0.items ≡ numbered_terms parts.now inputs.now) }
-    ensures outputs { IfOk result (λ sides. sides.1.items ≡ numbered_terms parts.now outputs.now) }
-    ensures known { OnOk result ((lacks_material parts.now inputs.now || lacks_material parts.now outputs.now) ≡ false) }
-    ensures unknown { IfErr result (Tells (cond (lacks_material parts.now inputs.now || lacks_material parts.now outputs.now) (Some unknown_name) None)) }
-{
-    let inputs = numbered_terms(alloc, parts, inputs)?;
-    let outputs = numbered_terms(alloc, parts, outputs)?;
-    Ok((inputs, outputs))
 }
 
 /// The terms with their materials by name.

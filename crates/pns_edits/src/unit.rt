@@ -15,7 +15,7 @@ use crate::fault::refuse_if;
 use crate::inverse::Inverse;
 use crate::numbering::{Renumbering, any_excludes, renumber_exclusions};
 use crate::place::unit_place;
-use crate::terms::{named_terms, numbered_sides};
+use crate::terms::{named_terms, numbered_terms};
 use edit_scripts::{Edit, EditKind, LineFault, NamedTerm};
 use pns_problem::{OperatingUnit, Parts};
 use std::alloc::{AllocError, Global};
@@ -48,19 +48,16 @@ fn added_back(alloc: Global, parts: &Parts, k: u32, name: &String) -> Result<Edi
     ensures { let u = unit_at parts.now k in IfOk result (λ e. edit_of e ≡
         add_unit k (string_bytes name.now) u.lower u.upper u.fix u.proportional (named_terms parts.now u.inputs) (named_terms parts.now u.outputs)) }
 {
-    let name = name.clone()?;
     let unit = &parts.units[k as usize];
-    let inputs = named_terms(alloc, parts, &unit.inputs)?;
-    let outputs = named_terms(alloc, parts, &unit.outputs)?;
     Ok(Edit::AddUnit {
         at: k,
-        name,
+        name: name.clone()?,
         lower: unit.lower,
         upper: unit.upper,
         fix: unit.fix,
         proportional: unit.proportional,
-        inputs,
-        outputs,
+        inputs: named_terms(alloc, parts, &unit.inputs)?,
+        outputs: named_terms(alloc, parts, &unit.outputs)?,
     })
 }
 
@@ -80,9 +77,8 @@ fn invested_back(parts: &Parts, k: u32, name: &String) -> Result<Option<Edit>, A
     if costs_no_investment(unit) {
         return Ok(None);
     }
-    let name = name.clone()?;
     Ok(Some(Edit::Investment {
-        unit: name,
+        unit: name.clone()?,
         fix: unit.investment_fix,
         proportional: unit.investment_proportional,
     }))
@@ -179,23 +175,25 @@ pub(crate) fn rename(parts: &mut Parts, old: &String, new: &String) -> Result<In
     Ok(inverse)
 }
 
-/// Puts a unit without investment costs in at a place.
+/// Puts a unit of this capacity, lower and upper, and these yearly costs, fixed and proportional, in at a place. It costs
+/// nothing to build.
 pub(crate) fn add(
     alloc: Global,
     parts: &mut Parts,
     at: u32,
     name: &String,
-    lower: i64,
-    upper: i64,
-    fix: i64,
-    proportional: i64,
+    capacity: (i64, i64),
+    costs: (i64, i64),
     inputs: &[NamedTerm],
     outputs: &[NamedTerm],
 ) -> Result<Inverse, LineFault>
     requires { IsNumbered parts.old }
-    ensures { Answers parts.old (add_unit at (string_bytes name.now) lower upper fix proportional inputs.now outputs.now) parts.new result }
+    ensures { Answers parts.old (add_unit at (string_bytes name.now) capacity.0 capacity.1 costs.0 costs.1 inputs.now outputs.now) parts.new result }
 {
-    let (inputs, outputs) = numbered_sides(alloc, parts, inputs, outputs)?;
+    let (lower, upper) = capacity;
+    let (fix, proportional) = costs;
+    let inputs = numbered_terms(alloc, parts, inputs)?;
+    let outputs = numbered_terms(alloc, parts, outputs)?;
     refuse_if(unit_place(parts, name).is_ok(), EditKind::DoubleName)?;
     refuse_if(parts.units.len() < at as usize, EditKind::BadPlace)?;
     refuse_if(upper < lower, EditKind::LowAboveHigh)?;
