@@ -1,6 +1,6 @@
 -- Lists that are changed item by item from the front, and lists of numbers that pass a test.
-use Rattle.std.proofs.Common.{◌≡◌, ◌<◌, ◌+◌, ℕ, zero, suc, Bool, cond, List, [], ◌∷◌, ◌++◌, length, map, reverse, take, drop, get_or, set, refl, sym, ap, ◌∙◌, arith}
-use Rattle.std.proofs.lemmas.List.{map-append, reverse-append}
+use Rattle.std.proofs.Common.{◌≡◌, ◌<◌, ◌+◌, ℕ, zero, suc, Bool, true, false, cond, List, [], ◌∷◌, ◌++◌, length, map, reverse, take, drop, get_or, set, refl, sym, ap, ◌∙◌, arith}
+use Rattle.std.proofs.lemmas.List.{append-nil, map-append, reverse-append}
 use Rattle.number_sets.specs.Sets.{listed}
 use Rattle.problem_rules.specs.Problem.{Term, OperatingUnit, Exclusion}
 use Rattle.edit_rules.specs.Numbering.{in_term, in_unit, in_exclusion}
@@ -26,15 +26,17 @@ in_unit_is f v u ins outs same ins_are outs_are = (λ i. record v { inputs = ins
 pub in_exclusion_is : (f : ℕ → ℕ) (v e : Exclusion) (us : List ℕ) → v ≡ e → us ≡ map f v.units → record v { units = us } ≡ in_exclusion f e
 in_exclusion_is f v e us same are = (λ i. record v { units = are i }) ∙ ap (in_exclusion f) same
 
-pub listed_none : (t : ℕ → Bool) → [] ≡ listed 0 t
+pub listed_none : (t : ℕ → Bool) → listed 0 t ≡ []
 unfolding listed
 listed_none t = refl
 
-pub listed_next : (n : ℕ) (t : ℕ → Bool) (b : Bool) → t n ≡ b → listed n t ++ cond b (n ∷ []) [] ≡ listed (n + 1) t
+with_next : (b : Bool) (n : ℕ) (xs : List ℕ) → xs ++ cond b (n ∷ []) [] ≡ cond b (xs ++ n ∷ []) xs
+with_next true n xs = refl
+with_next false n xs = append-nil xs
+
+pub listed_next : (n : ℕ) (t : ℕ → Bool) → listed (n + 1) t ≡ cond (t n) (listed n t ++ n ∷ []) (listed n t)
 unfolding listed
-listed_next n t b e =
-    let next : suc n ≡ n + 1 = omega arith in
-    ap (λ c. listed n t ++ cond c (n ∷ []) []) (sym e) ∙ ap (λ j. listed j t) next
+listed_next n t = let next : n + 1 ≡ suc n = omega arith in ap (λ j. listed j t) next ∙ with_next (t n) n (listed n t)
 
 pub map-reverse : {X Y : Type 0} (f : X → Y) (xs : List X) → map f (reverse xs) ≡ reverse (map f xs)
 map-reverse f [] = refl

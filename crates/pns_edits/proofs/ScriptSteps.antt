@@ -45,11 +45,14 @@ begin p es v f = record {
 abbrev pub IsAppliedAt : Problem → Problem → List scripts.Edit → List scripts.Edit → ℕ → Type 0
 IsAppliedAt p q edits back i = IsAppliedTo p q (map edit_of edits) (map edit_of (drop i edits)) (map edit_of back) i
 
-at_item : (p q : Problem) (edits back : List scripts.Edit) (i : ℕ) (item : scripts.Edit) → i < length edits → item ≡ get_or edits i item → IsAppliedAt p q edits back i → IsAppliedTo p q (map edit_of edits) (edit_of item ∷ map edit_of (drop (i + 1) edits)) (map edit_of back) i
+at_item : (p q : Problem) (edits back : List scripts.Edit) (i : ℕ) (item : scripts.Edit) → i < length edits → item ≡ get_or edits i item → IsAppliedAt p q edits back i
+    → IsAppliedTo p q (map edit_of edits) (edit_of item ∷ map edit_of (drop (i + 1) edits)) (map edit_of back) i
 at_item p q edits back i item less is a =
-    subst (λ (rest : List Edit). IsAppliedTo p q (map edit_of edits) rest (map edit_of back) i) (ap (map edit_of) (drop_more edits i item less) ∙ ap (λ x. edit_of x ∷ map edit_of (drop (i + 1) edits)) (sym is)) a
+    subst (λ (rest : List Edit). IsAppliedTo p q (map edit_of edits) rest (map edit_of back) i)
+    (ap (map edit_of) (drop_more edits i item less) ∙ ap (λ x. edit_of x ∷ map edit_of (drop (i + 1) edits)) (sym is)) a
 
-next_at : (p q : Problem) (es rest back inv : List Edit) (e : Edit) (passed : ℕ) → IsAppliedTo p q es (e ∷ rest) back passed → AreClear (checks q e) → inv ≡ inverse q e → length inv ≤ 2 → IsAppliedTo p (effect q e) es rest (back ++ reverse inv) (passed + 1)
+next_at : (p q : Problem) (es rest back inv : List Edit) (e : Edit) (passed : ℕ) → IsAppliedTo p q es (e ∷ rest) back passed → AreClear (checks q e) → inv ≡ inverse q e → length inv ≤ 2
+    → IsAppliedTo p (effect q e) es rest (back ++ reverse inv) (passed + 1)
 next_at p q es rest back inv e passed a clear inv_is two =
     let u = undoing (effect q e) rest in
     let long = length-append back (reverse inv) in
@@ -71,7 +74,8 @@ listed_short : (o : Option scripts.Edit) → length (listed_of o) ≤ 1
 listed_short None = omega arith
 listed_short (Some e) = omega arith
 
-pub next : (p q r : Problem) (edits back more : List scripts.Edit) (i : ℕ) (item : scripts.Edit) (inv : Inverse) → i < length edits → item ≡ get_or edits i item → IsAppliedAt p q edits back i → IsEdited q (edit_of item) r (edits_of inv) → map edit_of more ≡ map edit_of back ++ reverse (edits_of inv) → IsAppliedAt p r edits more (i + 1)
+pub next : (p q r : Problem) (edits back more : List scripts.Edit) (i : ℕ) (item : scripts.Edit) (inv : Inverse) → i < length edits → item ≡ get_or edits i item → IsAppliedAt p q edits back i
+    → IsEdited q (edit_of item) r (edits_of inv) → map edit_of more ≡ map edit_of back ++ reverse (edits_of inv) → IsAppliedAt p r edits more (i + 1)
 next p q r edits back more i item inv less is a edited pushed =
     let rest = map edit_of (drop (i + 1) edits) in
     let short = listed_short inv.investment in
@@ -79,7 +83,8 @@ next p q r edits back more i item inv less is a edited pushed =
     (subst (λ (x : Problem). IsAppliedTo p x (map edit_of edits) rest (map edit_of back ++ reverse (edits_of inv)) (i + 1)) (sym edited.done)
     (next_at p q (map edit_of edits) rest (map edit_of back) (edits_of inv) (edit_of item) i (at_item p q edits back i item less is a) edited.clear edited.back_is (omega arith)))
 
-pub stop : (p q : Problem) (edits back : List scripts.Edit) (i : ℕ) (item : scripts.Edit) (f : Fault) → i < length edits → item ≡ get_or edits i item → IsAppliedAt p q edits back i → fault_of q (edit_of item) ≡ Some f → IsFirstFault p (map edit_of edits) i f
+pub stop : (p q : Problem) (edits back : List scripts.Edit) (i : ℕ) (item : scripts.Edit) (f : Fault) → i < length edits → item ≡ get_or edits i item → IsAppliedAt p q edits back i
+    → fault_of q (edit_of item) ≡ Some f → IsFirstFault p (map edit_of edits) i f
 stop p q edits back i item f less is a h =
     let same : i + 0 ≡ i = omega arith in
     subst (λ j. IsFirstFault p (map edit_of edits) j f) same ((at_item p q edits back i item less is a).fault 0 f h)

@@ -26,23 +26,16 @@ fn unit_places(alloc: Global, parts: &Parts, names: &[String]) -> Result<Vec<u32
     Ok(places)
 }
 
-fn push_if(test: bool, numbers: &mut Vec<u32>, number: u32) -> Result<(), AllocError>
-    ensures { OnOk result (numbers.new.items ≡ numbers.old.items ++ cond test (number ∷ []) []) }
-{
-    if test {
-        numbers.push(number)?;
-    }
-    Ok(())
-}
-
 /// The numbers below a limit that stand in a list, rising.
+#[tactic(auto, using(crate::proofs::MappedLemmas::listed_none, crate::proofs::MappedLemmas::listed_next))]
 fn rising(alloc: Global, limit: u32, numbers: &[u32]) -> Result<Vec<u32>, AllocError>
     ensures { IfOk result (λ v. v.items ≡ listed limit (has numbers.now)) }
 {
     let mut rising = Vec::new(alloc);
     'listing: for number in 0..limit {
-        let stands = has_number(numbers, number);
-        push_if(stands, &mut rising, number)?;
+        if has_number(numbers, number) {
+            rising.push(number)?;
+        }
     }
     Ok(rising)
 }

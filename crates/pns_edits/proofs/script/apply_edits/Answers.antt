@@ -32,7 +32,8 @@ returns-in-Err-Kind-clause-fault c =
 
 pub applying-preserved : goal.applying-preserved
 applying-preserved c =
-    next c.args.parts.now c.applying.parts c.apply_edit.new.parts c.edits-edits.result.now c.applying.back.items c.push_inverse.new.back.items c.applying.at c.index-edits-at.result c.in-Ok.inverse c.applying-test.true c.index-edits-at.is c.applying.invariant c.in-Ok.ensures c.in_ok-push_inverse-in-Ok.ensures
+    next c.args.parts.now c.applying.parts c.apply_edit.new.parts c.edits-edits.result.now c.applying.back.items c.push_inverse.new.back.items c.applying.at
+    c.index-edits-at.result c.in-Ok.inverse c.applying-test.true c.index-edits-at.is c.applying.invariant c.in-Ok.ensures c.in_ok-push_inverse-in-Ok.ensures
 
 pub returns-clause-back : goal.returns-clause-back
 returns-clause-back c =
