@@ -1,5 +1,5 @@
 //! Edits of exclusions and of the payout period.
-ghost use Rattle.std.specs.Prelude.{◌≡◌, ◌<◌, IfOk, Ok, length, map, string_bytes};
+ghost use Rattle.std.specs.Prelude.{◌≡◌, ◌<◌, IfOk, length, map, string_bytes};
 ghost use Rattle.problem_rules.specs.Problem.{exclusion_at};
 ghost use Rattle.edit_rules.specs.Edit.{exclude, unexclude, payout};
 ghost use Rattle.edit_rules.specs.Place.{member_names};

@@ -1,5 +1,5 @@
 //! The units of an exclusion by name and by number.
-ghost use Rattle.std.specs.Prelude.{◌≡◌, ◌<◌, ◌≤◌, true, false, Some, None, OnOk, IfOk, IfErr, length, cond, map, string_bytes, ◌++◌, [], ◌∷◌};
+ghost use Rattle.std.specs.Prelude.{◌≡◌, ◌≤◌, false, Some, None, OnOk, IfOk, IfErr, length, cond, map, string_bytes};
 ghost use Rattle.number_sets.specs.Sets.{has, listed};
 ghost use Rattle.edit_rules.specs.Place.{unit_place, lacks_unit, members, member_names};
 ghost use Rattle.edit_rules.specs.Fault.{unknown_name};
@@ -33,9 +33,10 @@ fn rising(alloc: Global, limit: u32, numbers: &[u32]) -> Result<Vec<u32>, AllocE
 {
     let mut rising = Vec::new(alloc);
     'listing: for number in 0..limit {
-        if has_number(numbers, number) {
-            rising.push(number)?;
+        if !has_number(numbers, number) {
+            continue;
         }
+        rising.push(number)?;
     }
     Ok(rising)
 }

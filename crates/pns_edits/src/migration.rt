@@ -1,5 +1,5 @@
 //! The script that turns yearly costs into investment costs.
-ghost use Rattle.std.specs.Prelude.{◌≡◌, ◌≤◌, ◌<◌, ◌+◌, ◌*ℤ◌, ◌++◌, not, false, None, OnOk, IfOk, IfErr, length, map, pos};
+ghost use Rattle.std.specs.Prelude.{◌≡◌, ◌≤◌, ◌*ℤ◌, ◌++◌, not, false, None, OnOk, IfOk, IfErr, length, map, pos};
 ghost use Rattle.std.specs.List.{list_any, position_from};
 ghost use Rattle.problem_rules.specs.Problem.{OperatingUnit};
 ghost use Rattle.problem_rules.specs.WellFormed.{IsInRange};

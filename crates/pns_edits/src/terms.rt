@@ -1,5 +1,5 @@
 //! Terms with their materials by name and by number.
-ghost use Rattle.std.specs.Prelude.{◌≡◌, ◌<◌, ◌≤◌, true, false, Some, None, OnOk, IfOk, IfErr, length, cond};
+ghost use Rattle.std.specs.Prelude.{◌≡◌, ◌≤◌, false, Some, None, OnOk, IfOk, IfErr, length, cond};
 ghost use Rattle.edit_rules.specs.Place.{numbered_terms, named_terms, lacks_material};
 ghost use Rattle.edit_rules.specs.Fault.{unknown_name};
 ghost use Rattle.pns_edits.specs.Answer.{Tells};
