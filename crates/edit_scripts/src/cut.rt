@@ -7,6 +7,7 @@ use std::alloc::{AllocError, Global};
 use text_lines::line::{place_of, without_return};
 
 /// The first line of what is left of a text, and what is left behind it.
+#[tactic(auto, using(crate::proofs::Cutting::lines_cut, crate::proofs::Cutting::lines_last, std::proofs::lemmas::Grind::common_steps))]
 pub fn cut_line(rest: &[u8]) -> (&[u8], &[u8])
     requires { 0 < length rest.now }
     ensures cut { script_lines rest.now ≡ result.0.now ∷ script_lines result.1.now }

@@ -24,6 +24,7 @@ pub struct Walk {
 
 impl Walk {
     // Takes a line; an empty one is skipped but counted.
+    #[tactic(auto, using(crate::proofs::Reading::take_edit))]
     fn take(&mut self, alloc: Global, text: &[u8]) -> Result<(), EditFault>
         requires { self.old.number < 2 ^ 32 - 1 }
         ensures ok { OnOk result ((lines : List (List ℕ)) → read_on self.new lines ≡ read_on self.old (text.now ∷ lines)) }
@@ -51,7 +52,7 @@ impl Walk {
 }
 
 // All lines of what is left of a text behind its first line.
-#[tactic(auto, using(crate::proofs::Reading::front_none))]
+#[tactic(auto, using(crate::proofs::Reading::front_none, crate::proofs::Reading::read_to_end))]
 fn walk_rest(alloc: Global, bytes: &[u8]) -> Result<Walk, EditFault>
     requires { length bytes.now < 2 ^ 32 - 2 }
     ensures ok { IfOk result (λ w. lines_read 2 (script_lines bytes.now) ≡ Ok (record { edits = map edit_of w.edits.items; lines = w.lines.items })) }

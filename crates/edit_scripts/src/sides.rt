@@ -16,6 +16,7 @@ use text_lines::term::{Sides, Term, sides_in};
 
 /// The terms on both sides of the arrow; none where there is not exactly one arrow, or where a term is neither a
 /// material nor a rate and a material.
+#[tactic(auto, using(crate::proofs::TermsRead::sides_same))]
 pub(crate) fn sides_of<'a>(
     alloc: Global,
     tokens: &[&'a [u8]],
