@@ -135,13 +135,13 @@ sided_formed x0 x1 x2 x3 x4 x5 None edit e = absurd (err_not_ok _ edit e)
 sided_formed x0 x1 x2 x3 x4 x5 (Some (inputs, outputs)) edit e =
     judged_good (place_fault x0 ∷ name_fault x1 ∷ bound_fault x2 ∷ bound_fault x3 ∷ bound_fault x4 ∷ amount_fault x5 ∷ terms_fault inputs ∷ terms_fault outputs ∷ sides_fault inputs outputs ∷ []) (add_unit (place_of x0) x1 (millionths x2) (millionths x3) (millionths x4) (millionths x5) (map term_read inputs) (map term_read outputs)) edit IsFormed e
     (λ clear. record {
-        place = place_clear x0;
-        named = name_clear x1 clear.1.0;
-        bounds = record { lower_bound = bound_clear x2 clear.1.1.0; upper_bound = bound_clear x3 clear.1.1.1.0 };
-        fix_bound = bound_clear x4 clear.1.1.1.1.0;
-        proportional_in_range = range_of x5;
-        sides = sides_formed inputs outputs clear.1.1.1.1.1.1.0 clear.1.1.1.1.1.1.1.0 (not_clear (are_bad_sides inputs outputs) kinds.BadTerms clear.1.1.1.1.1.1.1.1.0);
-      })
+      place = place_clear x0;
+      named = name_clear x1 clear.1.0;
+      bounds = record { lower_bound = bound_clear x2 clear.1.1.0; upper_bound = bound_clear x3 clear.1.1.1.0 };
+      fix_bound = bound_clear x4 clear.1.1.1.1.0;
+      proportional_in_range = range_of x5;
+      sides = sides_formed inputs outputs clear.1.1.1.1.1.1.0 clear.1.1.1.1.1.1.1.0 (not_clear (are_bad_sides inputs outputs) kinds.BadTerms clear.1.1.1.1.1.1.1.1.0);
+    })
 
 unit_formed : (fields : List (List ℕ)) (edit : Edit) → unit_read fields ≡ Ok edit → IsFormed edit
 unit_formed [] edit e = absurd (err_not_ok _ edit e)

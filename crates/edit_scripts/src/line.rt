@@ -34,6 +34,18 @@ fn kind(alloc: Global, fields: &[&[u8]]) -> Result<Edit, LineFault>
     }
 }
 
+/// `NAME LOWER UPPER`
+fn material_bounds(alloc: Global, fields: &[&[u8]]) -> Result<Edit, LineFault>
+    ensures { Reads edit_of (fields_read Word.Bounds (texts fields.now)) result }
+{
+    let (material, lower, upper) = fields::bounds(alloc, fields)?;
+    Ok(Edit::Bounds {
+        material,
+        lower,
+        upper,
+    })
+}
+
 /// `NAME FIXED`
 #[tactic(auto, using(crate::proofs::TokenCounts::not_two))]
 fn fix(alloc: Global, fields: &[&[u8]]) -> Result<Edit, LineFault>
@@ -92,19 +104,13 @@ fn payout(fields: &[&[u8]]) -> Result<Edit, LineFault>
 fn read_fields(alloc: Global, word: Word, fields: &[&[u8]]) -> Result<Edit, LineFault>
     ensures { Reads edit_of (fields_read word (texts fields.now)) result }
 {
+    let name = || fields::name(alloc, fields);
     match word {
         Word::Price => {
             let (material, value) = fields::amount(alloc, fields)?;
             Ok(Edit::Price { material, value })
         }
-        Word::Bounds => {
-            let (material, lower, upper) = fields::bounds(alloc, fields)?;
-            Ok(Edit::Bounds {
-                material,
-                lower,
-                upper,
-            })
-        }
+        Word::Bounds => material_bounds(alloc, fields),
         Word::Kind => kind(alloc, fields),
         Word::Capacity => {
             let (unit, lower, upper) = fields::bounds(alloc, fields)?;
@@ -124,17 +130,11 @@ fn read_fields(alloc: Global, word: Word, fields: &[&[u8]]) -> Result<Edit, Line
             Ok(Edit::RenameUnit { old, new })
         }
         Word::AddMaterial => insertion::insert_material(alloc, fields),
-        Word::RemoveMaterial => Ok(Edit::RemoveMaterial {
-            material: fields::name(alloc, fields)?,
-        }),
+        Word::RemoveMaterial => Ok(Edit::RemoveMaterial { material: name()? }),
         Word::AddUnit => insertion::insert_unit(alloc, fields),
-        Word::RemoveUnit => Ok(Edit::RemoveUnit {
-            unit: fields::name(alloc, fields)?,
-        }),
+        Word::RemoveUnit => Ok(Edit::RemoveUnit { unit: name()? }),
         Word::Exclude => insertion::insert_exclusion(alloc, fields),
-        Word::Unexclude => Ok(Edit::Unexclude {
-            name: fields::name(alloc, fields)?,
-        }),
+        Word::Unexclude => Ok(Edit::Unexclude { name: name()? }),
         Word::Investment => investment(alloc, fields),
         Word::Payout => payout(fields),
     }

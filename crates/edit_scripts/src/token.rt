@@ -166,11 +166,8 @@ fn number_fault(kind: TextKind) -> EditKind
 pub(crate) fn amount_fault(token: &[u8]) -> Option<EditKind>
     ensures { result ≡ amount_fault token.now }
 {
-    let fault = match read_amount(token) {
-        Ok(_) => None,
-        Err(kind) => Some(number_fault(kind)),
-    };
-    some_token(token, fault)
+    let fault = read_amount(token).err();
+    some_token(token, fault.map(|kind| number_fault(kind)))
 }
 
 /// What is wrong with a token in the place of a bound or of a fixed cost.
@@ -208,10 +205,7 @@ pub(crate) fn place_fault(token: &[u8]) -> Option<EditKind>
 pub(crate) fn place_of(token: &[u8]) -> u32
     ensures { result ≡ place_of token.now }
 {
-    match whole_within(4_294_967_295, token) {
-        Some(place) => place as u32,
-        None => 0,
-    }
+    whole_within(4_294_967_295, token).unwrap_or(0) as u32
 }
 
 /// The payout period in years, which is 0 where the token is none.
@@ -219,10 +213,7 @@ pub(crate) fn years_of(token: &[u8]) -> u64
     ensures value { result ≡ years_of token.now }
     ensures few { result ≤ 100 }
 {
-    match whole_within(100, token) {
-        Some(years) => years as u64,
-        None => 0,
-    }
+    whole_within(100, token).unwrap_or(0) as u64
 }
 
 /// What is wrong with a token in the place of a payout period.
