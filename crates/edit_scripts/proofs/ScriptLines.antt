@@ -2,7 +2,7 @@
 use Rattle.std.proofs.Common.{◌≡◌, ◌<◌, ◌+◌, ◌∷◌, [], ℕ, suc, List, length, refl, ap, arith}
 use Rattle.problem_rules.specs.Each.{Each}
 use Rattle.edit_rules.specs.Edit.{Edit}
-use Rattle.edit_rules.specs.Formed.{IsFormed, AreRising, IsFormedScript, lines_from, script_of}
+use Rattle.edit_rules.specs.Formed.{IsFormed, AreRising, IsFormedScript, lines_from}
 
 lines_rise : (low line : ℕ) (edits : List Edit) → low < line → AreRising low (lines_from line edits)
 lines_rise low line [] less = tt
@@ -13,5 +13,5 @@ lines_count line [] = refl
 lines_count line (edit ∷ edits) = ap suc (lines_count (line + 1) edits)
 
 -- the script of formed edits is formed
-pub script_formed : (edits : List Edit) → Each IsFormed edits → IsFormedScript (script_of edits)
-script_formed edits formed = record { edits_formed = formed; one_line_each = lines_count 2 edits; rising = lines_rise 1 2 edits (omega arith) }
+pub script_formed : (edits : List Edit) (lines : List ℕ) → lines ≡ lines_from 2 edits → Each IsFormed edits → IsFormedScript (record { edits = edits; lines = lines })
+script_formed edits lines same formed = rw same (record { edits_formed = formed; one_line_each = lines_count 2 edits; rising = lines_rise 1 2 edits (omega arith) })

@@ -1,27 +1,16 @@
 -- The sides that are read are those of a script's grammar, which tells a term's pair by its tokens one by one.
-use Rattle.std.proofs.Common.{◌≡◌, ◌<◌, ◌∷◌, [], ℕ, Bool, true, false, List, Option, Some, None, length, map, option_map, nat_lt, ◌||◌, ◌==◌, if◌then◌else◌, refl, ap, ◌∙◌, arith}
-use Rattle.std.proofs.lemmas.Bool.{lt-ltb}
-use Rattle.std.proofs.Math.Bool.{or-true}
+use Rattle.std.proofs.Common.{◌≡◌, ◌∷◌, [], ℕ, List, Option, Some, None, map, option_map, refl, ap, ◌∙◌, arith}
+use Rattle.std.proofs.lemmas.Bool.Decides.{nat_tests}
 use Rattle.text_rules.specs.Field.{terms_of}
-use Rattle.text_lines.specs.Terms as lines
-use Rattle.text_lines.specs.Terms.{begins, is_bad_term, terms_read, both_read, sides_read}
+use Rattle.text_lines.specs.Terms.{begins, terms_read, both_read, sides_read}
 use Rattle.text_lines.proofs.Sides.{term-good, term-bad, sides-two, sides-none}
 use Rattle.script_rules.specs.Term.{Pair, pair_of, with_pair, pairs_of, both, both_sides}
-
-too_long : (b : Bool) (n : ℕ) → 2 < n → (b || nat_lt 2 n) ≡ true
-too_long b n lt = ap (λ (c : Bool). b || c) (lt-ltb 2 n lt) ∙ or-true b
-
-none_begun : (bad : Bool) (pair : Pair) → bad ≡ true → (if bad then None else Some pair) ≡ None
-none_begun true pair e = refl
-none_begun false pair e = cc
 
 begun : (term : List (List ℕ)) → begins term ≡ pair_of term
 begun [] = refl
 begun (name ∷ []) = refl
 begun (number ∷ name ∷ []) = refl
-begun (number ∷ name ∷ more ∷ tokens) =
-    let term : List (List ℕ) = number ∷ name ∷ more ∷ tokens in
-    none_begun (is_bad_term term) (lines.pair_of term) (too_long (length term == 0) (length term) (omega arith))
+begun (number ∷ name ∷ more ∷ tokens) = grind (arith, nat_tests)
 
 in_front : (pair : Pair) (found : Option (List Pair)) → option_map (λ more. pair ∷ more) found ≡ with_pair (Some pair) found
 in_front pair None = refl

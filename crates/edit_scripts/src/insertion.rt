@@ -8,7 +8,7 @@ ghost use Rattle.edit_scripts.specs.View.{edit_of};
 
 use crate::edit::Edit;
 use crate::fault::LineFault;
-use crate::sides::{named_terms, sides_fault, sides_of, terms_fault};
+use crate::sides::{named_terms, sides_fault, terms_fault};
 use crate::token::{
     amount_fault, bound_fault, judge, kind_fault, kind_of, name_fault, name_string, names_fault,
     place_fault, place_of,
@@ -17,6 +17,7 @@ use script_rules::EditKind;
 use std::alloc::{AllocError, Global};
 use text_lines::amount::millionths;
 use text_lines::name_set::once;
+use text_lines::term::sides_in;
 
 /// `AT NAME KIND PRICE LOWER UPPER`
 #[tactic(auto, using(crate::proofs::TokenCounts::not_material, crate::proofs::TokenCounts::six))]
@@ -47,7 +48,7 @@ pub(crate) fn insert_material(alloc: Global, fields: &[&[u8]]) -> Result<Edit, L
 }
 
 /// `AT NAME LOWER UPPER FIXED PROPORTIONAL : SIDE => SIDE`
-#[tactic(auto, using(crate::proofs::TokenCounts::not_unit, crate::proofs::TokenCounts::seven_up))]
+#[tactic(auto, using(crate::proofs::TokenCounts::not_unit, crate::proofs::TokenCounts::seven_up, crate::proofs::TermsRead::sides_same))]
 pub(crate) fn insert_unit(alloc: Global, fields: &[&[u8]]) -> Result<Edit, LineFault>
     ensures { Reads edit_of (unit_read (texts fields.now)) result }
 {
@@ -65,7 +66,7 @@ pub(crate) fn insert_unit(alloc: Global, fields: &[&[u8]]) -> Result<Edit, LineF
             if *colon != b":".as_slice() {
                 return Err(LineFault::Kind(EditKind::BadLine));
             }
-            let Some(sides) = sides_of(alloc, tokens)? else {
+            let Some(sides) = sides_in(alloc, tokens)? else {
                 return Err(LineFault::Kind(EditKind::BadLine));
             };
             let whole = sides_fault(alloc, &sides)?;

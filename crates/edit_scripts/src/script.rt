@@ -42,6 +42,7 @@ fn lines_of(alloc: Global, edits: &[Edit]) -> Result<Vec<u32>, AllocError>
 
 impl Script {
     /// The script of these edits, which stand at lines 2, 3 and so on.
+    #[tactic(auto, using(crate::proofs::ScriptLines::script_formed))]
     pub fn of(alloc: Global, edits: Vec<Edit>) -> Result<Script, AllocError>
         requires formed { Each IsFormed (map edit_of edits.items) }
         requires few { length edits.items < 2 ^ 32 - 1 }

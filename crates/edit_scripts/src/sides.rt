@@ -1,10 +1,10 @@
 //! The terms on both sides of a new unit.
-ghost use Rattle.std.specs.Prelude.{◌≡◌, IfOk, map, option_map};
+ghost use Rattle.std.specs.Prelude.{◌≡◌, IfOk, map};
 ghost use Rattle.std.specs.List.{list_any};
 ghost use Rattle.problem_rules.specs.Names.{is_among};
 ghost use Rattle.text_lines.specs.View.{texts};
 ghost use Rattle.text_lines.specs.Terms.{term_view, terms_view, sides_view};
-ghost use Rattle.script_rules.specs.Term.{sides_of, term_fault, terms_fault, materials_of, are_bad_sides, sides_fault, term_read};
+ghost use Rattle.script_rules.specs.Term.{term_fault, terms_fault, materials_of, are_bad_sides, sides_fault, term_read};
 
 use crate::term::NamedTerm;
 use crate::token::{lesser, name_fault, name_string, rate_fault};
@@ -12,19 +12,7 @@ use script_rules::EditKind;
 use std::alloc::{AllocError, Global};
 use text_lines::amount::millionths;
 use text_lines::name_set::{NameSet, once};
-use text_lines::term::{Sides, Term, sides_in};
-
-/// The terms on both sides of the arrow; none where there is not exactly one arrow, or where a term is neither a
-/// material nor a rate and a material.
-#[tactic(auto, using(crate::proofs::TermsRead::sides_same))]
-pub(crate) fn sides_of<'a>(
-    alloc: Global,
-    tokens: &[&'a [u8]],
-) -> Result<Option<Sides<'a>>, AllocError>
-    ensures { IfOk result (λ found. option_map sides_view found ≡ sides_of (texts tokens.now)) }
-{
-    sides_in(alloc, tokens)
-}
+use text_lines::term::{Sides, Term};
 
 fn term_fault(term: &Term<'_>) -> Option<EditKind>
     ensures { result ≡ term_fault (term_view term.now) }
