@@ -25,9 +25,9 @@ pub(crate) fn insert_material(alloc: Global, fields: &[&[u8]]) -> Result<Edit, L
     ensures { Reads edit_of (material_read (texts fields.now)) result }
 {
     match fields {
-        [place, name, kind, price, lower, upper] => {
+        [at, name, kind, price, lower, upper] => {
             judge(&[
-                place_fault(*place),
+                place_fault(*at),
                 name_fault(*name),
                 kind_fault(*kind),
                 amount_fault(*price),
@@ -35,7 +35,7 @@ pub(crate) fn insert_material(alloc: Global, fields: &[&[u8]]) -> Result<Edit, L
                 bound_fault(*upper),
             ])?;
             Ok(Edit::AddMaterial {
-                at: place_of(*place),
+                at: place_of(*at),
                 name: name_string(alloc, *name)?,
                 kind: kind_of(*kind),
                 price: millionths(*price),
@@ -53,16 +53,7 @@ pub(crate) fn insert_unit(alloc: Global, fields: &[&[u8]]) -> Result<Edit, LineF
     ensures { Reads edit_of (unit_read (texts fields.now)) result }
 {
     match fields {
-        [
-            place,
-            name,
-            lower,
-            upper,
-            fix,
-            proportional,
-            colon,
-            tokens @ ..,
-        ] => {
+        [at, name, lower, upper, fix, per_size, colon, tokens @ ..] => {
             if *colon != b":".as_slice() {
                 return Err(LineFault::Kind(EditKind::BadLine));
             }
@@ -71,23 +62,23 @@ pub(crate) fn insert_unit(alloc: Global, fields: &[&[u8]]) -> Result<Edit, LineF
             };
             let whole = sides_fault(alloc, &sides)?;
             judge(&[
-                place_fault(*place),
+                place_fault(*at),
                 name_fault(*name),
                 bound_fault(*lower),
                 bound_fault(*upper),
                 bound_fault(*fix),
-                amount_fault(*proportional),
+                amount_fault(*per_size),
                 terms_fault(&sides.inputs),
                 terms_fault(&sides.outputs),
                 whole,
             ])?;
             Ok(Edit::AddUnit {
-                at: place_of(*place),
+                at: place_of(*at),
                 name: name_string(alloc, *name)?,
                 lower: millionths(*lower),
                 upper: millionths(*upper),
                 fix: millionths(*fix),
-                proportional: millionths(*proportional),
+                proportional: millionths(*per_size),
                 inputs: named_terms(alloc, &sides.inputs)?,
                 outputs: named_terms(alloc, &sides.outputs)?,
             })
@@ -120,17 +111,17 @@ pub(crate) fn insert_exclusion(alloc: Global, fields: &[&[u8]]) -> Result<Edit, 
     ensures { Reads edit_of (exclusion_read (texts fields.now)) result }
 {
     match fields {
-        [place, name, _, _, ..] => {
+        [at, name, _, _, ..] => {
             let units = &fields[2..];
             let members = members_fault(alloc, units)?;
             judge(&[
-                place_fault(*place),
+                place_fault(*at),
                 name_fault(*name),
                 names_fault(units),
                 members,
             ])?;
             Ok(Edit::Exclude {
-                at: place_of(*place),
+                at: place_of(*at),
                 name: name_string(alloc, *name)?,
                 units: name_strings(alloc, units)?,
             })

@@ -17,7 +17,9 @@ use std::alloc::{AllocError, Global};
 fn push_field(text: &mut String, field: &str) -> Result<(), AllocError>
     ensures { OnOk result (string_bytes text.new ≡ appended (string_bytes text.old) (field.now ∷ [])) }
 {
-    write!(text, " {field}")
+    text.push(' ')?;
+    text.push_str(field)?;
+    Ok(())
 }
 
 fn push_amounts(alloc: Global, text: &mut String, amounts: &[i64]) -> Result<(), AllocError>
