@@ -99,8 +99,7 @@ fn name_strings(alloc: Global, names: &[&[u8]]) -> Result<Vec<String>, AllocErro
 {
     let mut strings = Vec::new(alloc);
     'naming: for name in names {
-        let string = name_string(alloc, *name)?;
-        strings.push(string)?;
+        strings.push(name_string(alloc, *name)?)?;
     }
     Ok(strings)
 }
