@@ -1,9 +1,8 @@
 -- Lines with another number of tokens than their form has.
-use Rattle.std.proofs.Common.{◌≡◌, ◌<◌, ℤ, List, [], ◌∷◌, length, Result, Ok, Err, refl, arith}
+use Rattle.std.proofs.Common.{◌≡◌, ◌<◌, List, [], ◌∷◌, length, Result, Err, refl, arith}
 use Rattle.problem_rules.specs.Problem.{Problem}
 use Rattle.tree_text_rules.specs.Line.{Token}
-use Rattle.tree_text_rules.specs.LineRead.{alone, one, two, one_and_more, entry_of}
-use Rattle.tree_text_rules.specs.Token.{both, mapped, each, number_of}
+use Rattle.tree_text_rules.specs.LineRead.{alone, one, two, entry_of}
 use Rattle.tree_text_rules.specs.declared.TreeKind.{TreeKind}
 use Rattle.tree_text_rules.specs.declared.TreeKind.TheVariants.{BadLine}
 
@@ -17,25 +16,9 @@ not_one read (a ∷ []) other = absurd (other refl)
 not_one read (a ∷ b ∷ tokens) other = refl
 
 pub not_two : {A B : Type 0} (read : Token → Result A TreeKind) (read' : Token → Result B TreeKind) (tokens : List Token) → (length tokens ≡ 2 → ⊥) → two read read' tokens ≡ Err BadLine
-not_two read read' [] other = refl
-not_two read read' (a ∷ []) other = refl
 not_two read read' (a ∷ b ∷ []) other = absurd (other refl)
-not_two read read' (a ∷ b ∷ c ∷ tokens) other = refl
+not_two read read' tokens other = refl
 
 pub not_entry : (p : Problem) (tokens : List Token) → (length tokens ≡ 5 → ⊥) → entry_of p tokens ≡ Err BadLine
-not_entry p [] other = refl
-not_entry p (a ∷ []) other = refl
-not_entry p (a ∷ b ∷ []) other = refl
-not_entry p (a ∷ b ∷ c ∷ []) other = refl
-not_entry p (a ∷ b ∷ c ∷ d ∷ []) other = refl
 not_entry p (a ∷ b ∷ c ∷ d ∷ e ∷ []) other = absurd (other refl)
-not_entry p (a ∷ b ∷ c ∷ d ∷ e ∷ f ∷ tokens) other = refl
-
-first_fails : (r : Result (ℤ × List ℤ) TreeKind) (kind : TreeKind) → mapped (λ found. found.0 ∷ found.1) r ≡ Err kind → r ≡ Err kind
-first_fails (Ok a) kind e = absurd cc
-first_fails (Err k) kind e = cc
-
--- a list that fails, as its first value and the others
-pub more_fails : (tokens : List Token) (kind : TreeKind) → each number_of tokens ≡ Err kind → one_and_more number_of number_of tokens ≡ Err kind
-more_fails [] kind e = absurd cc
-more_fails (token ∷ tokens) kind e = first_fails (both (number_of token) (each number_of tokens)) kind e
+not_entry p tokens other = refl

@@ -1,7 +1,8 @@
 -- A text is cut line by line, and a line token by token.
-use Rattle.std.proofs.Common.{sym, ◌≡◌, ◌<◌, ◌≤◌, ◌+◌, ℕ, true, false, List, [], ◌∷◌, length, take, drop, refl, ap, ◌∙◌, arith}
+use Rattle.std.proofs.Common.{sym, ◌≡◌, ◌<◌, ◌≤◌, ◌+◌, ℕ, true, false, List, [], ◌∷◌, length, count_by, take, drop, refl, ap, ◌∙◌, arith}
 use Rattle.std.specs.List.{slice_split, position_or_len}
 use Rattle.std.proofs.lemmas.Grind.{common_steps}
+use Rattle.std.proofs.lemmas.List.Splits.{length-slice_split}
 use Rattle.text_lines.proofs.Cutting.{split-at, split-none, parts_some}
 use Rattle.tree_text_rules.specs.Line.{lines_of, lines_from, is_feed, is_space}
 
@@ -36,6 +37,9 @@ token_ended text at e lt = split-at is_space text 0 at e lt
 
 pub token_last : (text : List ℕ) (at : ℕ) → at ≡ position_or_len is_space text → length text ≤ at → slice_split is_space text ≡ text ∷ []
 token_last text at e le = split-none is_space text (omega arith)
+
+pub token_number : (text : List ℕ) → length (slice_split is_space text) ≡ count_by is_space text + 1
+token_number text = length-slice_split is_space text
 
 -- a line has a token or more
 pub tokens_some : (text : List ℕ) → 0 < length (slice_split is_space text)

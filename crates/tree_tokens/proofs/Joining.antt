@@ -1,8 +1,8 @@
 -- Values that are read one by one.
-use Rattle.std.proofs.Common.{◌≡◌, ◌<◌, ◌≤◌, List, [], ◌∷◌, Result, Ok, Err, refl, sym, ap, ◌∙◌, arith, inl, inr, append_assoc, append-nil, if◌then◌else◌}
+use Rattle.std.proofs.Common.{◌≡◌, List, [], ◌∷◌, Result, Ok, Err, refl, sym, ap, ◌∙◌, arith, append_assoc, append-nil}
 use Rattle.std.proofs.lemmas.Bool.Decides.{nat_tests}
 use Rattle.tree_text_rules.specs.Line.{Token}
-use Rattle.tree_text_rules.specs.Token.{kind_number, lesser, both, mapped, each}
+use Rattle.tree_text_rules.specs.Token.{lesser, both, mapped, each}
 use Rattle.tree_text_rules.specs.declared.TreeKind.{TreeKind}
 use Rattle.tree_tokens.specs.Joined.{joined}
 

@@ -1,14 +1,17 @@
 -- Sets of units that are read one by one.
-use Rattle.std.proofs.Common.{◌≡◌, ◌==◌, ◌<◌, ◌+◌, ◌&&◌, ℕ, Bool, true, false, cond, nat_lt, nat_le, List, [], ◌∷◌, ◌++◌, Result, Ok, Err, refl, sym, ap, ◌∙◌, arith, if◌then◌else◌}
+use Rattle.std.proofs.Common.{◌≡◌, ◌==◌, ◌<◌, ◌+◌, ◌&&◌, ℕ, Bool, true, false, cond, nat_lt, nat_le, List, [], ◌∷◌, ◌++◌, Option, None, Ok, Err, refl, sym, ap, ◌∙◌, arith, if◌then◌else◌}
+use Rattle.std.specs.Borrow.{Bor}
 use Rattle.std.specs.List.{list_all}
-use Rattle.std.proofs.Math.Bool.{and_assoc, and_comm, and-true}
+use Rattle.std.proofs.Math.Bool.{and_assoc, and-true}
 use Rattle.std.proofs.lemmas.Bool.{and_parts, ltb-true, le-ltb, cond-false, ne_eqb}
 use Rattle.std.proofs.lemmas.Bool.Decides.{nat_tests}
 use Rattle.number_sets.specs.Sets.{AreBelow, with_number}
-use Rattle.tree_text_rules.specs.Token.{judged, is_above_all, is_rising}
-use Rattle.tree_text_rules.specs.declared.TreeKind.{TreeKind}
+use Rattle.problem_rules.specs.Problem.{Problem}
+use Rattle.tree_text_rules.specs.Line.{Token}
+use Rattle.tree_text_rules.specs.Token.{each, judged, unit_of, units_of, is_above_all, is_rising}
 use Rattle.tree_text_rules.specs.declared.TreeKind.TheVariants.{Order}
 use Rattle.tree_tokens.specs.Joined.{joined}
+use Rattle.tree_tokens.specs.View.{tokens_in}
 use Rattle.tree_tokens.proofs.Joining.{joined_none}
 
 -- whether a number is above all of a list
@@ -59,16 +62,15 @@ with_last u (x ∷ xs) last =
     ∙ ap (λ (ys : List ℕ). x ∷ ys) (with_last u xs both.1)
 
 -- one more unit
-pub goes_on : (rises next : Bool) (least top u : ℕ) (units more read : List ℕ) → IsFront rises least units read → next ≡ (rises && nat_le least u)
-    → (next ≡ true → more ≡ with_number u units) → (next ≡ true → top ≡ u + 1) → IsFront next top more (read ++ u ∷ [])
-goes_on true next least top u units more read front e taken ends =
+pub one_on : (rises next : Bool) (least u : ℕ) (units more read : List ℕ) → IsFront rises least units read → next ≡ (rises && nat_le least u) → more ≡ with_number u units → IsFront next (u + 1) more (read ++ u ∷ [])
+one_on true next least u units more read front e taken =
     let last : is_last u read ≡ next = front.limit refl u ∙ sym e in
     record {
       rising = rising_last u read ∙ ap (λ b. b && is_last u read) front.rising ∙ last;
-      same = λ on. taken on ∙ ap (with_number u) (front.same refl) ∙ with_last u read (last ∙ on);
-      limit = λ on. λ v. last_last v u read ∙ ap (λ b. b && nat_lt u v) (front.limit refl v) ∙ limits least u v (sym e ∙ on) ∙ ap (λ n. nat_le n v) (sym (ends on));
+      same = λ on. taken ∙ ap (with_number u) (front.same refl) ∙ with_last u read (last ∙ on);
+      limit = λ on. λ v. last_last v u read ∙ ap (λ b. b && nat_lt u v) (front.limit refl v) ∙ limits least u v (sym e ∙ on);
     }
-goes_on false next least top u units more read front e taken ends = record {
+one_on false next least u units more read front e taken = record {
   rising = rising_last u read ∙ ap (λ b. b && is_last u read) front.rising ∙ sym e;
   same = λ on. absurd (let apart : true ≡ false = sym on ∙ e in cc);
   limit = λ on. absurd (let apart : true ≡ false = sym on ∙ e in cc);
@@ -78,10 +80,13 @@ pub below_more : (n u : ℕ) (us : List ℕ) → AreBelow n us → u < n → Are
 below_more n u [] below lt = (lt, tt)
 below_more n u (x ∷ xs) below lt = (below.0, below_more n u xs below.1 lt)
 
+chosen : (rises : Bool) (units read : List ℕ) → (rises ≡ true → units ≡ read) → (if rises then Ok read else Err Order) ≡ (if rises then Ok units else Err Order)
+chosen true units read same = ap (λ (us : List ℕ). Ok us) (sym (same refl))
+chosen false units read same = refl
+
 -- at the end
-pub all_read : (rises : Bool) (least : ℕ) (units read : List ℕ) (whole : Result (List ℕ) TreeKind) → IsFront rises least units read → joined (Ok read) (Ok []) ≡ whole
-    → judged is_rising Order whole ≡ (if rises then Ok units else Err Order)
-all_read true least units read whole front e =
-    ap (judged is_rising Order) (sym e ∙ joined_none (Ok read)) ∙ ap (λ b. if b then Ok read else Err Order) front.rising ∙ ap (λ (us : List ℕ). Ok us) (sym (front.same refl))
-all_read false least units read whole front e =
-    ap (judged is_rising Order) (sym e ∙ joined_none (Ok read)) ∙ ap (λ b. if b then Ok read else Err Order) front.rising
+pub all_read : (p : Problem) (rises : Bool) (least : ℕ) (units read : List ℕ) (rest : Option (Bor (List ℕ))) (all : List Token) → IsFront rises least units read → rest ≡ None
+    → joined (Ok read) (each (unit_of p) (tokens_in rest)) ≡ each (unit_of p) all → units_of p all ≡ (if rises then Ok units else Err Order)
+all_read p rises least units read rest all front none whole =
+    let here : each (unit_of p) all ≡ Ok read = sym whole ∙ ap (λ rest. joined (Ok read) (each (unit_of p) (tokens_in rest))) none ∙ joined_none (Ok read) in
+    ap (judged is_rising Order) here ∙ ap (λ b. if b then Ok read else Err Order) front.rising ∙ chosen rises units read front.same

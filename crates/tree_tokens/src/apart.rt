@@ -1,6 +1,5 @@
 //! A line that is taken apart.
 ghost use Rattle.std.specs.Prelude.{◌≡◌, ◌∷◌, ◌<◌, [], IfOk, IfErr, length};
-ghost use Rattle.tree_text_rules.specs.Line.{word_of, fields_of, is_formed};
 ghost use Rattle.tree_tokens.specs.Apart.{AreParts};
 ghost use Rattle.tree_tokens.specs.View.{line_of, tokens_in};
 

@@ -1,11 +1,7 @@
 //! Columns of a tableau, rows, and the words of places.
-ghost use Rattle.std.specs.Prelude.{◌≡◌, ◌≤◌, ◌∷◌, [], Ok, IfOk, IfErr, drop, length, true, codes};
-ghost use Rattle.flow_rules.specs.declared.place.Column.TheVariants as columns;
+ghost use Rattle.std.specs.Prelude.{◌≡◌, Ok, IfOk};
 ghost use Rattle.tree_rules.specs.Known.{KnowsColumn, KnowsRow};
 ghost use Rattle.tree_text_rules.specs.Token as rules;
-ghost use Rattle.tree_tokens.specs.Joined.{so_far, joined};
-ghost use Rattle.text_lines.specs.Tells.{TellsLine};
-ghost use Rattle.tree_tokens.specs.View.{tokens_in};
 
 use crate::name::{material_of, unit_of};
 use flow_rules::{Column, FlowStep};

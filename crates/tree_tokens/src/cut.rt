@@ -1,5 +1,5 @@
 //! Lines of a text, and tokens of a line.
-ghost use Rattle.std.specs.Prelude.{◌≡◌, ◌<◌, ◌≤◌, ◌∷◌, [], IfSome, IfNone, length, drop, count_by};
+ghost use Rattle.std.specs.Prelude.{◌≡◌, ◌<◌, ◌≤◌, ◌∷◌, [], IfSome, IfNone, length, drop};
 ghost use Rattle.std.specs.List.{slice_split, list_all};
 ghost use Rattle.tree_text_rules.specs.Line.{lines_of, is_space, has_bytes};
 ghost use Rattle.tree_tokens.specs.View.{line_of, tokens_in};
@@ -53,6 +53,7 @@ pub fn next_token(rest: Option<&[u8]>) -> Option<(&[u8], Option<&[u8]>)>
 }
 
 /// How many tokens what is left of a line has.
+#[tactic(auto, using(crate::proofs::Cutting::token_number))]
 pub fn token_count(rest: Option<&[u8]>) -> usize
     ensures { result ≡ length (tokens_in rest.entry) }
 {

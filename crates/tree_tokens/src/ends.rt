@@ -1,6 +1,5 @@
 //! The lines of ends.
-ghost use Rattle.std.specs.Prelude.{◌≡◌, ℤ, List, Some, Ok, IfOk, IfErr};
-ghost use Rattle.integer_laws.specs.Range.{InRange, AllInRange};
+ghost use Rattle.std.specs.Prelude.{◌≡◌, Some, Ok, IfOk, IfErr};
 ghost use Rattle.branch_tree.specs.View.{end_of};
 ghost use Rattle.tree_rules.specs.Known.{KnowsEnd};
 ghost use Rattle.tree_rules.specs.Tree.{HasChildren};
@@ -47,7 +46,6 @@ fn short_end(problem: &Problem, word: Option<Word>, fields: Option<&[u8]>) -> Re
 }
 
 // A scale and multipliers.
-#[tactic(auto, using(crate::proofs::Counted::more_fails))]
 fn scaled_in(alloc: Global, fields: Option<&[u8]>) -> Result<Scaled, LineFault>
     ensures ok { IfOk result (λ s. reads.one_and_more rules.number_of rules.number_of (tokens_in fields.entry) ≡ Ok (s.d, s.ys)) }
     ensures fault { IfErr result (TellsLine (reads.one_and_more rules.number_of rules.number_of (tokens_in fields.entry))) }
@@ -55,7 +53,10 @@ fn scaled_in(alloc: Global, fields: Option<&[u8]>) -> Result<Scaled, LineFault>
     if next_token(fields).is_none() {
         return Err(LineFault::Kind(TreeKind::BadLine));
     }
-    Ok(Scaled::from_vec(numbers_of(alloc, fields)?))
+    match numbers_of(alloc, fields) {
+        Ok(numbers) => Ok(Scaled::from_vec(numbers)),
+        Err(fault) => Err(fault),
+    }
 }
 
 /// The end that a line says.

@@ -1,5 +1,5 @@
 //! Names of units, materials and exclusions.
-ghost use Rattle.std.specs.Prelude.{◌≡◌, ◌<◌, ◌≤◌, IfOk, length};
+ghost use Rattle.std.specs.Prelude.{◌≡◌, ◌<◌, IfOk, length};
 ghost use Rattle.tree_text_rules.specs.Token as rules;
 
 use pns_problem::Problem;

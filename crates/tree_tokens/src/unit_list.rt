@@ -1,6 +1,5 @@
 //! Sets of units, which stand in file order.
-ghost use Rattle.std.specs.Prelude.{◌≡◌, ◌<◌, ◌+◌, ◌&&◌, true, Ok, Err, IfOk, IfErr, nat_le};
-ghost use Rattle.number_sets.specs.Sets.{with_number};
+ghost use Rattle.std.specs.Prelude.{◌≡◌, ◌&&◌, Ok, Err, IfOk, IfErr, nat_le};
 ghost use Rattle.tree_rules.specs.Known.{AreUnits};
 ghost use Rattle.tree_text_rules.specs.Token as rules;
 ghost use Rattle.tree_tokens.specs.View.{tokens_in};
@@ -11,57 +10,36 @@ use pns_problem::Problem;
 use tree_text_rules::TreeKind;
 use unit_sets::UnitSet;
 
-// The units so far with the least number above them, as long as they rise.
-#[derive(Clone, Copy)]
-pub struct Front {
-    pub units: UnitSet,
-    pub least: u32,
-    pub rises: bool,
-}
-
-// The units with one more.
-fn with_unit(front: Front, unit: u32) -> Front
-    requires { unit < 128 }
-    ensures rises { result.rises ≡ (front.rises && nat_le front.least unit) }
-    ensures units { result.rises ≡ true → result.units ≡ with_number unit front.units }
-    ensures least { result.rises ≡ true → result.least ≡ unit + 1 }
+// Whether units that rise do so with one more, where this is the least number above them.
+fn goes_on(rises: bool, least: u32, unit: u32) -> bool
+    ensures { result ≡ (rises && nat_le least unit) }
 {
-    if front.rises && front.least <= unit {
-        Front {
-            units: front.units.with(unit),
-            least: unit + 1,
-            rises: true,
-        }
-    } else {
-        Front {
-            rises: false,
-            ..front
-        }
-    }
+    rises && least <= unit
 }
 
 /// The set of units of what is left of a line.
+#[tactic(auto, using(crate::proofs::RisingUnits::all_read))]
 pub fn units_of(problem: &Problem, fields: Option<&[u8]>) -> Result<UnitSet, TreeKind>
     ensures ok { IfOk result (λ us. rules.units_of problem.now (tokens_in fields.entry) ≡ Ok us) }
     ensures known { IfOk result (AreUnits problem.now) }
     ensures fault { IfErr result (λ kind. rules.units_of problem.now (tokens_in fields.entry) ≡ Err kind) }
 {
     problem.is_valid();
-    let mut front = Front {
-        units: UnitSet::empty(),
-        least: 0,
-        rises: true,
-    };
+    let mut units = UnitSet::empty();
+    let mut least = 0;
+    let mut rises = true;
     let mut rest = fields;
     'reading: while let Some(left) = rest {
         let (token, behind) = first_token(left);
         let unit = unit_of(problem, token)?;
-        front = with_unit(front, unit);
+        rises = goes_on(rises, least, unit);
+        units = units.with(unit);
+        least = unit + 1;
         rest = behind;
     }
-    if front.rises {
-        front.units.rises();
-        Ok(front.units)
+    if rises {
+        units.rises();
+        Ok(units)
     } else {
         Err(TreeKind::Order)
     }

@@ -11,7 +11,7 @@ abbrev pub invariant-reading : goal.invariant-reading
 invariant-reading l = record {
   read : List ℕ;
   whole : joined (Ok read) (rules.each (rules.unit_of l.fn.problem) (tokens_in l.rest)) ≡ rules.each (rules.unit_of l.fn.problem) (tokens_in l.fn.fields);
-  front : IsFront l.front.rises l.front.least l.front.units read;
+  front : IsFront l.rises l.least l.units read;
   below : AreBelow (length l.fn.problem.units) read;
 }
 
