@@ -1,10 +1,11 @@
 -- Sets of units that are read one by one.
-use Rattle.std.proofs.Common.{◌≡◌, ◌==◌, ◌<◌, ◌+◌, ◌&&◌, ℕ, Bool, true, false, cond, nat_lt, nat_le, List, [], ◌∷◌, ◌++◌, Option, None, Ok, Err, refl, sym, ap, ◌∙◌, arith, if◌then◌else◌}
+use Rattle.std.proofs.Common.{◌≡◌, ◌==◌, ◌<◌, ◌+◌, ◌&&◌, ℕ, Bool, true, false, cond, max, nat_lt, nat_le, List, [], ◌∷◌, ◌++◌, Option, None, Ok, Err, refl, sym, ap, ◌∙◌, arith, if◌then◌else◌}
 use Rattle.std.specs.Borrow.{Bor}
 use Rattle.std.specs.List.{list_all}
 use Rattle.std.proofs.Math.Bool.{and_assoc, and-true}
 use Rattle.std.proofs.lemmas.Bool.{and_parts, ltb-true, le-ltb, cond-false, ne_eqb}
 use Rattle.std.proofs.lemmas.Bool.Decides.{nat_tests}
+use Rattle.std.proofs.lemmas.List.Folds.{list_all-append}
 use Rattle.number_sets.specs.Sets.{AreBelow, with_number}
 use Rattle.problem_rules.specs.Problem.{Problem}
 use Rattle.tree_text_rules.specs.Line.{Token}
@@ -18,20 +19,17 @@ use Rattle.tree_tokens.proofs.Joining.{joined_none}
 abbrev pub is_last : ℕ → List ℕ → Bool
 is_last u us = list_all (λ x. nat_lt x u) us
 
--- The units that were read and the least number above them, as long as they rise.
+-- The units that were read and the least number above them.
 pub record IsFront (rises : Bool) (least : ℕ) (units read : List ℕ) : Type 0 where
   pub rising : is_rising read ≡ rises
   pub same : rises ≡ true → units ≡ read
-  pub limit : rises ≡ true → (u : ℕ) → is_last u read ≡ nat_le least u
+  pub limit : (u : ℕ) → is_last u read ≡ nat_le least u
 
 pub nothing_read : (units : List ℕ) → units ≡ [] → IsFront true 0 units []
-nothing_read units e = record { rising = refl; same = λ on. e; limit = λ on. λ u. grind (arith, nat_tests) }
+nothing_read units e = record { rising = refl; same = λ on. e; limit = λ u. grind (arith, nat_tests) }
 
 exchanged : (a b c d : Bool) → ((a && b) && (c && d)) ≡ ((a && c) && (b && d))
-exchanged false b c d = refl
-exchanged true true c d = refl
-exchanged true false true d = refl
-exchanged true false false d = refl
+exchanged a b c d = grind (arith, nat_tests)
 
 above_last : (x u : ℕ) (xs : List ℕ) → is_above_all x (xs ++ u ∷ []) ≡ (is_above_all x xs && nat_lt x u)
 above_last x u [] = and-true (nat_lt x u)
@@ -44,12 +42,8 @@ rising_last u (x ∷ xs) =
     ∙ ap (λ b. (is_above_all x xs && nat_lt x u) && b) (rising_last u xs)
     ∙ exchanged (is_above_all x xs) (nat_lt x u) (is_rising xs) (is_last u xs)
 
-last_last : (v u : ℕ) (us : List ℕ) → is_last v (us ++ u ∷ []) ≡ (is_last v us && nat_lt u v)
-last_last v u [] = and-true (nat_lt u v)
-last_last v u (x ∷ xs) = ap (λ b. nat_lt x v && b) (last_last v u xs) ∙ sym (and_assoc (nat_lt x v) (is_last v xs) (nat_lt u v))
-
-limits : (least u v : ℕ) → nat_le least u ≡ true → (nat_le least v && nat_lt u v) ≡ nat_le (u + 1) v
-limits least u v le = grind (arith, nat_tests)
+limits : (least u v : ℕ) → (nat_le least v && (nat_lt u v && true)) ≡ nat_le (max least (u + 1)) v
+limits least u v = grind (arith, nat_tests)
 
 -- a greater number comes last
 with_last : (u : ℕ) (us : List ℕ) → is_last u us ≡ true → with_number u us ≡ us ++ u ∷ []
@@ -62,18 +56,14 @@ with_last u (x ∷ xs) last =
     ∙ ap (λ (ys : List ℕ). x ∷ ys) (with_last u xs both.1)
 
 -- one more unit
-pub one_on : (rises next : Bool) (least u : ℕ) (units more read : List ℕ) → IsFront rises least units read → next ≡ (rises && nat_le least u) → more ≡ with_number u units → IsFront next (u + 1) more (read ++ u ∷ [])
-one_on true next least u units more read front e taken =
-    let last : is_last u read ≡ next = front.limit refl u ∙ sym e in
-    record {
-      rising = rising_last u read ∙ ap (λ b. b && is_last u read) front.rising ∙ last;
-      same = λ on. taken ∙ ap (with_number u) (front.same refl) ∙ with_last u read (last ∙ on);
-      limit = λ on. λ v. last_last v u read ∙ ap (λ b. b && nat_lt u v) (front.limit refl v) ∙ limits least u v (sym e ∙ on);
-    }
-one_on false next least u units more read front e taken = record {
-  rising = rising_last u read ∙ ap (λ b. b && is_last u read) front.rising ∙ sym e;
-  same = λ on. absurd (let apart : true ≡ false = sym on ∙ e in cc);
-  limit = λ on. absurd (let apart : true ≡ false = sym on ∙ e in cc);
+pub one_on : (rises next : Bool) (least top u : ℕ) (units more read : List ℕ) → IsFront rises least units read → next ≡ (rises && nat_le least u) → top ≡ max least (u + 1) → more ≡ with_number u units
+    → IsFront next top more (read ++ u ∷ [])
+one_on rises next least top u units more read front e above taken = record {
+  rising = rising_last u read ∙ ap (λ b. b && is_last u read) front.rising ∙ ap (λ b. rises && b) (front.limit u) ∙ sym e;
+  same = λ on.
+      let both = and_parts rises (nat_le least u) (sym e ∙ on) in
+      taken ∙ ap (with_number u) (front.same both.0) ∙ with_last u read (front.limit u ∙ both.1);
+  limit = λ v. list_all-append (λ x. nat_lt x v) read (u ∷ []) ∙ ap (λ b. b && (nat_lt u v && true)) (front.limit v) ∙ limits least u v ∙ ap (λ n. nat_le n v) (sym above);
 }
 
 pub below_more : (n u : ℕ) (us : List ℕ) → AreBelow n us → u < n → AreBelow n (us ++ u ∷ [])

@@ -10,7 +10,7 @@ use pns_problem::Problem;
 use tree_text_rules::TreeKind;
 use unit_sets::UnitSet;
 
-// Whether units that rise do so with one more, where this is the least number above them.
+// Whether units rise with one more, where they do without it or not, and `least` is the least number above them.
 fn goes_on(rises: bool, least: u32, unit: u32) -> bool
     ensures { result ≡ (rises && nat_le least unit) }
 {
@@ -34,7 +34,7 @@ pub fn units_of(problem: &Problem, fields: Option<&[u8]>) -> Result<UnitSet, Tre
         let unit = unit_of(problem, token)?;
         rises = goes_on(rises, least, unit);
         units = units.with(unit);
-        least = unit + 1;
+        least = least.max(unit + 1);
         rest = behind;
     }
     if rises {

@@ -29,7 +29,7 @@ reading-preserved c =
       whole =
           each_on (token.unit_of c.args.problem.now) (Ok before.read) (Ok (before.read ++ unit ∷ [])) c.first_token.result.0.now (tokens_in c.first_token.result.1) (tokens_in c.reading.rest) _
           (rw (← c.in_ok-unit.ensures.value) refl) (ap tokens_in c.in-Some.is ∙ c.first_token.ensures.cut) before.whole;
-      front = one_on c.reading.rises c.goes_on-rises.result c.reading.least unit c.reading.units c.with-units.result before.read before.front c.goes_on-rises.ensures c.with-units.ensures;
+      front = one_on c.reading.rises c.goes_on-rises.result c.reading.least c.max-least.result unit c.reading.units c.with-units.result before.read before.front c.goes_on-rises.ensures c.max-least.ensures c.with-units.ensures;
       below = below_more (length c.args.problem.now.units) unit before.read before.below c.in_ok-unit.ensures.below;
     }
 
