@@ -26,10 +26,7 @@ pub line_open : (rest : List ℕ) (at : ℕ) → 0 < length rest → at ≡ posi
 line_open rest at some e le =
     let all : take at rest ≡ rest = grind (arith, common_steps) in
     let none : drop at rest ≡ [] = grind (arith, common_steps) in
-    ap lines_from (split-none is_feed rest (omega arith))
-    ∙ last_line rest some
-    ∙ ap (λ (text : List ℕ). record { text = text; ended = false } ∷ []) (sym all)
-    ∙ ap (λ (left : List ℕ). record { text = take at rest; ended = false } ∷ lines_of left) (sym none)
+    rw (all, none) (ap lines_from (split-none is_feed rest (omega arith)) ∙ last_line rest some)
 
 -- a token that is ended by a space, and the last one
 pub token_ended : (text : List ℕ) (at : ℕ) → at ≡ position_or_len is_space text → at < length text → slice_split is_space text ≡ take at text ∷ slice_split is_space (drop (at + 1) text)

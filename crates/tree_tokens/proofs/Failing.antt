@@ -1,41 +1,31 @@
 -- The one fault of tokens of which each has that fault or none.
-use Rattle.std.proofs.Common.{◌≡◌, List, [], ◌∷◌, Option, Some, None, Result, Ok, Err, IfErr, refl, sym, ap, ◌∙◌}
+use Rattle.std.proofs.Common.{◌≡◌, List, [], ◌∷◌, Option, Some, None, Result, Ok, Err, IfErr, sym, ap, refl, ◌∙◌}
 use Rattle.tree_text_rules.specs.Line.{Token}
 use Rattle.tree_text_rules.specs.Token.{lesser, both, mapped, each, told}
 use Rattle.tree_text_rules.specs.declared.TreeKind.{TreeKind}
 use Rattle.tree_tokens.specs.Joined.{joined}
 
--- where each token has the one fault or none
-abbrev pub OnlyFails : {A : Type 0} → TreeKind → Result A TreeKind → Type 0
-OnlyFails kind read = IfErr read (λ other. other ≡ kind)
+module _ {A : Type 0} (read : Token → Option A) (kind : TreeKind) (same : lesser kind kind ≡ kind) where
+  -- the others fail as the kind says, or not at all
+  one_only : (o : Option A) (rest : Result (List A) TreeKind) → IfErr rest (λ k. k ≡ kind) → IfErr (mapped (λ found. found.0 ∷ found.1) (both (told kind o) rest)) (λ k. k ≡ kind)
+  one_only None (Ok vs) only = refl
+  one_only None (Err k) only = ap (lesser kind) only ∙ same
+  one_only (Some a) (Ok vs) only = tt
+  one_only (Some a) (Err k) only = only
 
-both_only : {A : Type 0} (kind : TreeKind) → lesser kind kind ≡ kind → (here : Result A TreeKind) (rest : Result (List A) TreeKind) → OnlyFails kind here → OnlyFails kind rest → OnlyFails kind (mapped (λ found. found.0 ∷ found.1) (both here rest))
-both_only kind same (Ok a) (Ok bs) h t = tt
-both_only kind same (Ok a) (Err k) h t = t
-both_only kind same (Err k) (Ok bs) h t = h
-both_only kind same (Err k) (Err l) h t = ap (λ (x : TreeKind). lesser x l) h ∙ ap (λ (x : TreeKind). lesser kind x) t ∙ same
+  each_only : (tokens : List Token) → IfErr (each (λ t. told kind (read t)) tokens) (λ k. k ≡ kind)
+  each_only [] = tt
+  each_only (token ∷ tokens) = one_only (read token) (each (λ t. told kind (read t)) tokens) (each_only tokens)
 
-each_only : {A : Type 0} (read : Token → Result A TreeKind) (kind : TreeKind) → lesser kind kind ≡ kind → ((token : Token) → OnlyFails kind (read token)) → (tokens : List Token) → OnlyFails kind (each read tokens)
-each_only read kind same one [] = tt
-each_only read kind same one (token ∷ tokens) = both_only kind same (read token) (each read tokens) (one token) (each_only read kind same one tokens)
+  first_fails : (k : TreeKind) (o : Option A) (rest : Result (List A) TreeKind) → IfErr rest (λ k. k ≡ kind) → told kind o ≡ Err k → mapped (λ found. found.0 ∷ found.1) (both (told kind o) rest) ≡ Err k
+  first_fails k None (Ok vs) only e = cc
+  first_fails k None (Err l) only e = ap (λ (x : TreeKind). Err x) (ap (lesser kind) only ∙ same) ∙ (let q : kind ≡ k = cc in ap (λ (x : TreeKind). Err x) q)
+  first_fails k (Some a) rest only e = absurd cc
 
-both_fails : {A : Type 0} (kind k : TreeKind) (rest : Result (List A) TreeKind) → lesser kind kind ≡ kind → k ≡ kind → OnlyFails kind rest → mapped {A = A × List A} (λ found. found.0 ∷ found.1) (both (Err k) rest) ≡ Err k
-both_fails kind k (Ok vs) same e only = refl
-both_fails kind k (Err l) same e only = ap (λ (x : TreeKind). Err x) (ap (λ (x : TreeKind). lesser x l) e ∙ ap (λ (x : TreeKind). lesser kind x) only ∙ same ∙ sym e)
-
-only_kind : {A : Type 0} (kind k : TreeKind) (here : Result A TreeKind) → here ≡ Err k → OnlyFails kind here → k ≡ kind
-only_kind kind k (Ok a) e only = absurd cc
-only_kind kind k (Err l) e only = (let q : l ≡ k = cc in sym q) ∙ only
-
--- the first fault is told, where all have the one kind
-pub fails_at : {A : Type 0} (read : Token → Result A TreeKind) (kind k : TreeKind) (front : List A) (token : Token) (tokens all : List Token) (whole : Result (List A) TreeKind)
-    → lesser kind kind ≡ kind → ((t : Token) → OnlyFails kind (read t)) → read token ≡ Err k → all ≡ token ∷ tokens → joined (Ok front) (each read all) ≡ whole → whole ≡ Err k
-fails_at read kind k front token tokens all whole same one found cut before =
-    sym before
-    ∙ ap (λ ts. joined (Ok front) (each read ts)) cut
-    ∙ ap (λ here. joined (Ok front) (mapped (λ found. found.0 ∷ found.1) (both here (each read tokens)))) found
-    ∙ ap (joined (Ok front)) (both_fails kind k (each read tokens) same (only_kind kind k (read token) found (one token)) (each_only read kind same one tokens))
-
-pub told_only : {A : Type 0} (kind : TreeKind) (o : Option A) → OnlyFails kind (told kind o)
-told_only kind None = refl
-told_only kind (Some a) = tt
+  -- the first fault is told
+  pub fails_at : (k : TreeKind) (front : List A) (token : Token) (tokens all : List Token) (whole : Result (List A) TreeKind)
+      → told kind (read token) ≡ Err k → all ≡ token ∷ tokens → joined (Ok front) (each (λ t. told kind (read t)) all) ≡ whole → whole ≡ Err k
+  fails_at k front token tokens all whole found cut before =
+      sym before
+      ∙ ap (λ ts. joined (Ok front) (each (λ t. told kind (read t)) ts)) cut
+      ∙ ap (joined (Ok front)) (first_fails k (read token) (each (λ t. told kind (read t)) tokens) (each_only tokens) found)

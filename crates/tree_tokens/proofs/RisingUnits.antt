@@ -50,10 +50,9 @@ with_last : (u : ℕ) (us : List ℕ) → is_last u us ≡ true → with_number 
 with_last u [] last = refl
 with_last u (x ∷ xs) last =
     let both = and_parts (nat_lt x u) (is_last u xs) last in
-    let lt : x < u = ltb-true x u both.0 in
-    cond-false (nat_lt u x) (u ∷ x ∷ xs) (cond (x == u) (x ∷ xs) (x ∷ with_number u xs)) (le-ltb u x (omega arith))
-    ∙ cond-false (x == u) (x ∷ xs) (x ∷ with_number u xs) (ne_eqb x u (λ e. omega (arith, e)))
-    ∙ ap (λ (ys : List ℕ). x ∷ ys) (with_last u xs both.1)
+    let lt = ltb-true x u both.0 in
+    let rest = with_last u xs both.1 in
+    grind (arith, nat_tests)
 
 -- one more unit
 pub one_on : (rises next : Bool) (least top u : ℕ) (units more read : List ℕ) → IsFront rises least units read → next ≡ (rises && nat_le least u) → top ≡ max least (u + 1) → more ≡ with_number u units

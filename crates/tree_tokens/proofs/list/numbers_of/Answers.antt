@@ -2,14 +2,14 @@ use Rattle.std.proofs.Common.{Ok, ap, sym, ◌∙◌, refl, rules}
 use Rattle.tree_text_rules.specs.Token as token
 use Rattle.tree_text_rules.specs.declared.TreeKind.TheVariants.{BadNumber}
 use Rattle.tree_tokens.specs.View.{tokens_in}
-use Rattle.tree_tokens.proofs.Failing.{fails_at, told_only}
+use Rattle.tree_tokens.proofs.Failing.{fails_at}
 use Rattle.tree_tokens.proofs.Joining.{each_on}
 use Rattle.tree_tokens.proofs.list.numbers_of.Goals as goal
 
 pub returns-in-Err-clause-fault : goal.returns-in-Err-clause-fault
 returns-in-Err-clause-fault c =
-    fails_at token.number_of BadNumber c.in-Err.kind c.reading.numbers.items c.first_token.result.0.now (tokens_in c.first_token.result.1) (tokens_in c.reading.rest) _
-    refl (λ t. told_only BadNumber _) (sym c.in-Err.ensures.value) (ap tokens_in c.in-Some.is ∙ c.first_token.ensures.cut) c.reading.invariant.whole
+    fails_at token.whole_number BadNumber refl c.in-Err.kind c.reading.numbers.items c.first_token.result.0.now (tokens_in c.first_token.result.1) (tokens_in c.reading.rest) _
+    (sym c.in-Err.ensures.value) (ap tokens_in c.in-Some.is ∙ c.first_token.ensures.cut) c.reading.invariant.whole
 
 pub reading-preserved : goal.reading-preserved
 reading-preserved c = record {

@@ -1,10 +1,12 @@
-use Rattle.std.proofs.Common.{◌∷◌, [], ◌++◌, Ok, length, ap, sym, subst, refl, ◌∙◌}
+use Rattle.std.proofs.Common.{◌∷◌, [], ◌++◌, Ok, length, position, ap, sym, subst, refl, ◌∙◌}
 use Rattle.std.proofs.lemmas.Result.{err_from_is_err_and}
+use Rattle.std.specs.Str.{bytes_eq}
 use Rattle.number_sets.specs.Sets.{AreBelow}
+use Rattle.problem_rules.specs.Problem.{unit_names}
 use Rattle.tree_text_rules.specs.Token as token
 use Rattle.tree_text_rules.specs.declared.TreeKind.TheVariants.{Order, UnknownName}
 use Rattle.tree_tokens.specs.View.{tokens_in}
-use Rattle.tree_tokens.proofs.Failing.{fails_at, told_only}
+use Rattle.tree_tokens.proofs.Failing.{fails_at}
 use Rattle.tree_tokens.proofs.Joining.{each_on, joined_first}
 use Rattle.tree_tokens.proofs.RisingUnits.{nothing_read, one_on, below_more}
 use Rattle.tree_tokens.proofs.unit_list.units_of.Goals as goal
@@ -17,8 +19,8 @@ returns-in_err-unit-clause-fault c =
     let e = err_from_is_err_and c.from_residual.result c.from_residual.ensures.1 in
     rw (e.1, e.2)
     (ap (token.judged token.is_rising Order)
-    (fails_at (token.unit_of c.args.problem.now) UnknownName _ c.reading.invariant.read c.first_token.result.0.now (tokens_in c.first_token.result.1) (tokens_in c.reading.rest) _
-    refl (λ t. told_only UnknownName _) (sym c.in_err-unit.ensures.value) (ap tokens_in c.in-Some.is ∙ c.first_token.ensures.cut) c.reading.invariant.whole))
+    (fails_at (λ t. position (λ name. bytes_eq name t) (unit_names c.args.problem.now.units)) UnknownName refl _ c.reading.invariant.read c.first_token.result.0.now (tokens_in c.first_token.result.1)
+    (tokens_in c.reading.rest) _ (sym c.in_err-unit.ensures.value) (ap tokens_in c.in-Some.is ∙ c.first_token.ensures.cut) c.reading.invariant.whole))
 
 pub reading-preserved : goal.reading-preserved
 reading-preserved c =
