@@ -11,9 +11,8 @@ not_alone a [] some = absurd (omega arith)
 not_alone a (token ∷ tokens) some = refl
 
 pub not_one : {A : Type 0} (read : Token → Result A TreeKind) (tokens : List Token) → (length tokens ≡ 1 → ⊥) → one read tokens ≡ Err BadLine
-not_one read [] other = refl
 not_one read (a ∷ []) other = absurd (other refl)
-not_one read (a ∷ b ∷ tokens) other = refl
+not_one read tokens other = refl
 
 pub not_two : {A B : Type 0} (read : Token → Result A TreeKind) (read' : Token → Result B TreeKind) (tokens : List Token) → (length tokens ≡ 2 → ⊥) → two read read' tokens ≡ Err BadLine
 not_two read read' (a ∷ b ∷ []) other = absurd (other refl)

@@ -1,9 +1,9 @@
 -- Sets of units that are read one by one.
-use Rattle.std.proofs.Common.{◌≡◌, ◌==◌, ◌<◌, ◌+◌, ◌&&◌, ℕ, Bool, true, false, cond, max, nat_lt, nat_le, List, [], ◌∷◌, ◌++◌, Option, None, Ok, Err, refl, sym, ap, ◌∙◌, arith, if◌then◌else◌}
+use Rattle.std.proofs.Common.{◌≡◌, ◌<◌, ◌+◌, ◌&&◌, ℕ, Bool, true, false, max, nat_lt, nat_le, List, [], ◌∷◌, ◌++◌, Option, None, Ok, Err, refl, sym, ap, ◌∙◌, arith, if◌then◌else◌}
 use Rattle.std.specs.Borrow.{Bor}
 use Rattle.std.specs.List.{list_all}
 use Rattle.std.proofs.Math.Bool.{and_assoc, and-true}
-use Rattle.std.proofs.lemmas.Bool.{and_parts, ltb-true, le-ltb, cond-false, ne_eqb}
+use Rattle.std.proofs.lemmas.Bool.{and_parts, ltb-true}
 use Rattle.std.proofs.lemmas.Bool.Decides.{nat_tests}
 use Rattle.std.proofs.lemmas.List.Folds.{list_all-append}
 use Rattle.number_sets.specs.Sets.{AreBelow, with_number}
@@ -28,9 +28,6 @@ pub record IsFront (rises : Bool) (least : ℕ) (units read : List ℕ) : Type 0
 pub nothing_read : (units : List ℕ) → units ≡ [] → IsFront true 0 units []
 nothing_read units e = record { rising = refl; same = λ on. e; limit = λ u. grind (arith, nat_tests) }
 
-exchanged : (a b c d : Bool) → ((a && b) && (c && d)) ≡ ((a && c) && (b && d))
-exchanged a b c d = grind (arith, nat_tests)
-
 above_last : (x u : ℕ) (xs : List ℕ) → is_above_all x (xs ++ u ∷ []) ≡ (is_above_all x xs && nat_lt x u)
 above_last x u [] = and-true (nat_lt x u)
 above_last x u (y ∷ ys) = ap (λ b. nat_lt x y && b) (above_last x u ys) ∙ sym (and_assoc (nat_lt x y) (is_above_all x ys) (nat_lt x u))
@@ -38,9 +35,9 @@ above_last x u (y ∷ ys) = ap (λ b. nat_lt x y && b) (above_last x u ys) ∙ s
 rising_last : (u : ℕ) (us : List ℕ) → is_rising (us ++ u ∷ []) ≡ (is_rising us && is_last u us)
 rising_last u [] = refl
 rising_last u (x ∷ xs) =
-    ap (λ b. b && is_rising (xs ++ u ∷ [])) (above_last x u xs)
-    ∙ ap (λ b. (is_above_all x xs && nat_lt x u) && b) (rising_last u xs)
-    ∙ exchanged (is_above_all x xs) (nat_lt x u) (is_rising xs) (is_last u xs)
+    let above = above_last x u xs in
+    let rest = rising_last u xs in
+    grind (arith, nat_tests)
 
 limits : (least u v : ℕ) → (nat_le least v && (nat_lt u v && true)) ≡ nat_le (max least (u + 1)) v
 limits least u v = grind (arith, nat_tests)
