@@ -53,10 +53,7 @@ fn scaled_in(alloc: Global, fields: Option<&[u8]>) -> Result<Scaled, LineFault>
     if next_token(fields).is_none() {
         return Err(LineFault::Kind(TreeKind::BadLine));
     }
-    match numbers_of(alloc, fields) {
-        Ok(numbers) => Ok(Scaled::from_vec(numbers)),
-        Err(fault) => Err(fault),
-    }
+    numbers_of(alloc, fields).map(Scaled::from_vec)
 }
 
 /// The end that a line says.
