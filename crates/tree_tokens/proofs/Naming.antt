@@ -1,9 +1,8 @@
 -- A token is found among names, or is none of them.
-use Rattle.std.proofs.Common.{◌≡◌, ℕ, true, false, List, [], ◌∷◌, length, map, nat_lt, Some, None, Err, refl, ap, subst, arith}
+use Rattle.std.proofs.Common.{◌≡◌, ℕ, true, false, List, [], ◌∷◌, length, map, None, Err, refl, ap, subst, arith}
 use Rattle.std.specs.List.{position, position_or_len}
 use Rattle.std.specs.Str.{bytes_eq, IsUtf8}
-use Rattle.std.proofs.lemmas.Bool.{le-ltb, cond-false}
-use Rattle.std.proofs.lemmas.Bool.Decides.{same_from_decides}
+use Rattle.std.proofs.lemmas.Bool.Decides.{nat_tests, same_from_decides}
 use Rattle.std.proofs.lemmas.Slice.Eq.{bytes_eq-Decides}
 use Rattle.problem_rules.specs.Each.{Each}
 use Rattle.problem_rules.specs.Names.{is_name}
@@ -25,9 +24,7 @@ module _ {X : Type 0} (name : X → List ℕ) (P : X → Type 0) (named : (x : X
 
   -- a text that is not UTF-8 is no name
   no_name : (xs : List X) → Each P xs → position (λ word. bytes_eq word token) (map name xs) ≡ None
-  no_name xs h =
-      let at = position_or_len (λ word. bytes_eq word token) (map name xs) in
-      cond-false (nat_lt at (length (map name xs))) (Some at) None (le-ltb at (length (map name xs)) (let e = nowhere xs h in omega (arith, e)))
+  no_name xs h = let e = nowhere xs h in grind (arith, nat_tests)
 
 pub no_unit : (p : Problem) (token : List ℕ) → IsWellFormed p → ¬ (IsUtf8 token) → unit_of p token ≡ Err UnknownName
 no_unit p token formed bad = ap (told UnknownName) (no_name (λ (x : OperatingUnit). x.name) _ (λ x h. h.named) token bad p.units formed.units_formed)

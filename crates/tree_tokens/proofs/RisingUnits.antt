@@ -25,9 +25,6 @@ pub record IsFront (rises : Bool) (least : ℕ) (units read : List ℕ) : Type 0
   pub same : rises ≡ true → units ≡ read
   pub limit : (u : ℕ) → is_last u read ≡ nat_le least u
 
-pub nothing_read : (units : List ℕ) → units ≡ [] → IsFront true 0 units []
-nothing_read units e = record { rising = refl; same = λ on. e; limit = λ u. grind (arith, nat_tests) }
-
 above_last : (x u : ℕ) (xs : List ℕ) → is_above_all x (xs ++ u ∷ []) ≡ (is_above_all x xs && nat_lt x u)
 above_last x u [] = and-true (nat_lt x u)
 above_last x u (y ∷ ys) = ap (λ b. nat_lt x y && b) (above_last x u ys) ∙ sym (and_assoc (nat_lt x y) (is_above_all x ys) (nat_lt x u))

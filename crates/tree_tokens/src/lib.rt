@@ -2,9 +2,9 @@
 //!
 //! A line is a borrowed slice, and its tokens are cut as they are needed, so that nothing but the numbers and columns of a line
 //! takes memory. Modules: `cut` (lines and tokens), `apart` (a line's first word and the tokens behind it), `word`, `number`,
-//! `name`, `column` (one token), `list`, `unit_list`, `column_list` (all that are left), `place`, and
-//! the lines: `claim_line`, `node_line`, `steps`, `ends`, `tail_line`. `fault_order` tells the least of several faults. Texts that have
-//! other lines beside those of a tree read their tokens by the same calls.
+//! `name`, `column` (one token), `list`, `unit_list`, `column_list` (all that are left), `place`, and the lines: `claim_line`,
+//! `node_line`, `steps`, `ends`, `tail_line`. `fault_order` tells the least of several faults. Texts that have other lines beside
+//! those of a tree read their tokens by the same calls.
 #![tactic(auto)]
 
 mod apart;

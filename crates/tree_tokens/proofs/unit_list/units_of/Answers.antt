@@ -1,4 +1,5 @@
-use Rattle.std.proofs.Common.{◌∷◌, [], ◌++◌, Ok, length, position, ap, sym, subst, refl, ◌∙◌}
+use Rattle.std.proofs.Common.{◌∷◌, [], ◌++◌, Ok, length, position, ap, sym, subst, refl, ◌∙◌, arith}
+use Rattle.std.proofs.lemmas.Bool.Decides.{nat_tests}
 use Rattle.std.proofs.lemmas.Result.{err_from_is_err_and}
 use Rattle.std.specs.Str.{bytes_eq}
 use Rattle.number_sets.specs.Sets.{AreBelow}
@@ -8,11 +9,11 @@ use Rattle.tree_text_rules.specs.declared.TreeKind.TheVariants.{Order, UnknownNa
 use Rattle.tree_tokens.specs.View.{tokens_in}
 use Rattle.tree_tokens.proofs.Failing.{fails_at}
 use Rattle.tree_tokens.proofs.Joining.{each_on, joined_first}
-use Rattle.tree_tokens.proofs.RisingUnits.{nothing_read, one_on, below_more}
+use Rattle.tree_tokens.proofs.RisingUnits.{one_on, below_more}
 use Rattle.tree_tokens.proofs.unit_list.units_of.Goals as goal
 
 pub reading-init : goal.reading-init
-reading-init c = record { read = []; whole = joined_first _; front = nothing_read c.empty-units.result c.empty-units.ensures; below = tt }
+reading-init c = record { read = []; whole = joined_first _; front = record { rising = refl; same = λ on. c.empty-units.ensures; limit = λ u. grind (arith, nat_tests) }; below = tt }
 
 pub returns-in_err-unit-clause-fault : goal.returns-in_err-unit-clause-fault
 returns-in_err-unit-clause-fault c =
