@@ -27,7 +27,7 @@ pub fn parts_of<'a>(line: &Line<'a>) -> LineParts<'a>
     }
 }
 
-/// The first token that is left, and what is left behind it.
+/// The first token that is left, and what is left behind it; `BadLine` exactly where there is no token.
 pub fn some_token(fields: Option<&[u8]>) -> Result<(&[u8], Option<&[u8]>), TreeKind>
     ensures ok { IfOk result (λ found. tokens_in fields.entry ≡ found.0.now ∷ tokens_in found.1) }
     ensures fault { IfErr result (λ kind. (kind ≡ TreeKind.BadLine) × (tokens_in fields.entry ≡ [])) }
@@ -35,7 +35,7 @@ pub fn some_token(fields: Option<&[u8]>) -> Result<(&[u8], Option<&[u8]>), TreeK
     next_token(fields).ok_or(TreeKind::BadLine)
 }
 
-/// The value, where no token is left.
+/// The value; `BadLine` exactly where a token is left.
 pub fn alone<A: Drop>(value: A, fields: Option<&[u8]>) -> Result<A, TreeKind>
     ensures ok { IfOk result (λ found. (found ≡ value) × (tokens_in fields.entry ≡ [])) }
     ensures fault { IfErr result (λ kind. (kind ≡ TreeKind.BadLine) × (0 < length (tokens_in fields.entry))) }
@@ -46,7 +46,7 @@ pub fn alone<A: Drop>(value: A, fields: Option<&[u8]>) -> Result<A, TreeKind>
     }
 }
 
-/// The one token that is left.
+/// The one token that is left; `BadLine` exactly where there are more or fewer.
 pub fn only(fields: Option<&[u8]>) -> Result<&[u8], TreeKind>
     ensures ok { IfOk result (λ token. tokens_in fields.entry ≡ token.now ∷ []) }
     ensures fault { IfErr result (λ kind. (kind ≡ TreeKind.BadLine) × (length (tokens_in fields.entry) ≡ 1 → ⊥)) }
@@ -55,7 +55,7 @@ pub fn only(fields: Option<&[u8]>) -> Result<&[u8], TreeKind>
     alone(token, behind)
 }
 
-/// The two tokens that are left.
+/// The two tokens that are left; `BadLine` exactly where there are more or fewer.
 pub fn pair(fields: Option<&[u8]>) -> Result<(&[u8], &[u8]), TreeKind>
     ensures ok { IfOk result (λ found. tokens_in fields.entry ≡ found.0.now ∷ found.1.now ∷ []) }
     ensures fault { IfErr result (λ kind. (kind ≡ TreeKind.BadLine) × (length (tokens_in fields.entry) ≡ 2 → ⊥)) }
