@@ -1,4 +1,3 @@
-mod Changes
 mod Fields
 mod Places
 mod Reading

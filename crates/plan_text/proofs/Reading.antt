@@ -6,7 +6,11 @@ use Rattle.script_rules.specs.Line.{script_lines}
 use Rattle.plan_rules.specs.declared.PlanKind.{PlanKind}
 use Rattle.plan_rules.specs.declared.PlanKind.TheVariants.{FileType, BadLine}
 use Rattle.plan_rules.specs.Line.{file_type, Entry, line_read}
-use Rattle.plan_rules.specs.Read.{Fault, Line, Seen, nothing_seen, seen_after, seen_past, placed, with_line, lines_read, text_read, read_lines}
+use Rattle.plan_rules.specs.Read.{Fault, Line, Seen, nothing_seen, seen_past, placed, with_line, lines_read, text_read, read_lines}
+use Rattle.text_lines.specs.declared.fault.LineFault.{LineFault}
+use Rattle.text_lines.specs.declared.fault.LineFault.TheVariants.{Memory, Kind}
+use Rattle.text_lines.specs.Tells.{TellsLine}
+use Rattle.plan_text.specs.Tells.{refused}
 use Rattle.plan_text.specs.Walk.{with_front}
 
 front_one : (before : List Line) (number : ℕ) (entry : Entry) (rest : Result (List Line) Fault)
@@ -20,39 +24,30 @@ line_taken number seen [] texts some = absurd (omega arith)
 line_taken number seen (c ∷ cs) texts some = refl
 
 -- past a line that says something where it stands
-pub take_entry : (before after : List Line) (number : ℕ) (seen new : Seen) (entry : Entry) (texts : List (List ℕ))
-    → after ≡ before ++ record { number = number; entry = entry } ∷ [] → new ≡ seen_after seen entry → placed seen (Ok entry) ≡ Ok entry
-    → with_front after (lines_read (number + 1) new texts) ≡ with_front before (with_line number (placed seen (Ok entry)) (lines_read (number + 1) (seen_after seen entry) texts))
-take_entry before after number seen new entry texts more next good =
+pub take_line : (before after : List Line) (number : ℕ) (seen new : Seen) (text : List ℕ) (entry : Entry) (texts : List (List ℕ)) → 0 < length text
+    → after ≡ before ++ record { number = number; entry = entry } ∷ [] → new ≡ seen_past seen (line_read text) → placed seen (line_read text) ≡ Ok entry
+    → with_front after (lines_read (number + 1) new texts) ≡ with_front before (lines_read number seen (text ∷ texts))
+take_line before after number seen new text entry texts some more next good =
     ap (λ (ls : List Line). with_front ls (lines_read (number + 1) new texts)) more
     ∙ front_one before number entry (lines_read (number + 1) new texts)
     ∙ ap (λ (s : Seen). with_front before (with_line number (Ok entry) (lines_read (number + 1) s texts))) next
-    ∙ ap (λ (r : Result Entry PlanKind). with_front before (with_line number r (lines_read (number + 1) (seen_after seen entry) texts))) (sym good)
-
--- at one that has a fault there
-pub place_fault : (before : List Line) (number : ℕ) (seen : Seen) (entry : Entry) (kind : PlanKind) (rest : Result (List Line) Fault) → placed seen (Ok entry) ≡ Err kind
-    → with_front before (with_line number (placed seen (Ok entry)) rest) ≡ Err (number, kind)
-place_fault before number seen entry kind rest bad = ap (λ (r : Result Entry PlanKind). with_front before (with_line number r rest)) bad
-
--- what a line says is what is read there
-pub said_there : (before : List Line) (number : ℕ) (seen : Seen) (text : List ℕ) (entry : Entry) (texts : List (List ℕ)) → 0 < length text → line_read text ≡ Ok entry
-    → with_front before (with_line number (placed seen (Ok entry)) (lines_read (number + 1) (seen_after seen entry) texts)) ≡ with_front before (lines_read number seen (text ∷ texts))
-said_there before number seen text entry texts some good =
-    ap (λ (r : Result Entry PlanKind). with_front before (with_line number (placed seen r) (lines_read (number + 1) (seen_past seen r) texts))) (sym good)
+    ∙ ap (λ (r : Result Entry PlanKind). with_front before (with_line number r (lines_read (number + 1) (seen_past seen (line_read text)) texts))) (sym good)
     ∙ ap (with_front before) (sym (line_taken number seen text texts some))
 
-told_by : (before : List Line) (number : ℕ) (b : Bool) (kind : PlanKind) (rest : Result (List Line) Fault)
-    → with_front before (with_line number (if b then Err kind else Err BadLine) rest) ≡ Err (number, (if b then kind else BadLine))
-told_by before number true kind rest = refl
-told_by before number false kind rest = refl
-
--- at a line that says nothing
-pub refused_there : (before : List Line) (number : ℕ) (seen : Seen) (text : List ℕ) (kind : PlanKind) (texts : List (List ℕ)) → 0 < length text → line_read text ≡ Err kind
-    → with_front before (lines_read number seen (text ∷ texts)) ≡ Err (number, (if seen.started then kind else BadLine))
-refused_there before number seen text kind texts some bad =
+-- at one that has a fault there
+pub fault_there : (before : List Line) (number : ℕ) (seen : Seen) (text : List ℕ) (kind : PlanKind) (texts : List (List ℕ)) → 0 < length text → placed seen (line_read text) ≡ Err kind
+    → with_front before (lines_read number seen (text ∷ texts)) ≡ Err (number, kind)
+fault_there before number seen text kind texts some bad =
     ap (with_front before) (line_taken number seen text texts some)
-    ∙ ap (λ (r : Result Entry PlanKind). with_front before (with_line number (placed seen r) (lines_read (number + 1) (seen_past seen r) texts))) bad
-    ∙ told_by before number seen.started kind (lines_read (number + 1) seen texts)
+    ∙ ap (λ (r : Result Entry PlanKind). with_front before (with_line number r (lines_read (number + 1) (seen_past seen (line_read text)) texts))) bad
+
+-- a line that says nothing, where it stands
+pub refused_tells : (seen : Seen) (reading : Result Entry PlanKind) (fault : LineFault PlanKind) → TellsLine reading fault → TellsLine (placed seen reading) (refused seen fault)
+refused_tells seen reading Memory e = tt
+refused_tells seen reading (Kind kind) e = ap (placed seen) e ∙ told_by seen.started kind where
+  told_by : (b : Bool) (kind : PlanKind) → ◌≡◌ {A = Result Entry PlanKind} (if b then Err kind else Err BadLine) (Err (if b then kind else BadLine))
+  told_by true kind = refl
+  told_by false kind = refl
 
 -- past an empty line
 pub take_empty : (before : List Line) (number : ℕ) (seen : Seen) (text : List ℕ) (texts : List (List ℕ)) → length text ≡ 0

@@ -1,15 +1,14 @@
 -- A plan that is read is one for the problem: its amounts are within 10^9, its bounds are not below 0 and in order, it has a
 -- period, and it is not too wide.
-use Rattle.std.proofs.Common.{◌≡◌, ◌<◌, ◌+◌, ◌==◌, Bool, true, false, ℕ, zero, suc, Option, Some, None, List, [], ◌∷◌, map, length, Result, Ok, Err, ℤ, pos, refl, sym, subst, ap, ◌∙◌, arith, if◌then◌else◌}
+use Rattle.std.proofs.Common.{◌≡◌, ◌<◌, ◌+◌, ◌==◌, Bool, true, false, ℕ, zero, suc, Option, Some, None, List, [], ◌∷◌, map, length, Result, Ok, Err, IfOk, IfNone, ℤ, pos, refl, sym, subst, ap, ◌∙◌, arith, if◌then◌else◌}
 use Rattle.std.specs.Prelude.{int_lt, slice_index_or, slice_set}
-use Rattle.std.proofs.lemmas.Bool.{true≢false, eqb-false}
+use Rattle.std.proofs.lemmas.Bool.{eqb-false}
 use Rattle.std.proofs.lemmas.List.{length-map, length-set}
 use Rattle.problem_rules.specs.Each.{Each}
 use Rattle.problem_rules.specs.Problem.{Problem, Material}
 use Rattle.problem_rules.specs.WellFormed.{IsInRange, AreBounds, IsWellFormedMaterial, IsWellFormed}
 use Rattle.edit_rules.specs.Formed.{AreSignedBounds}
 use Rattle.edit_rules.specs.Place.{has_material, material_place}
-use Rattle.edit_scripts.proofs.Clear.{err_not_ok, ok_same}
 use Rattle.edit_scripts.proofs.ReadIsFormed.{amount_formed, bounds_formed}
 use Rattle.script_rules.specs.declared.EditKind.{EditKind}
 use Rattle.script_rules.specs.Line.{tokens_of, script_lines}
@@ -18,12 +17,15 @@ use Rattle.plan_rules.specs.declared.PlanKind.{PlanKind}
 use Rattle.plan_rules.specs.declared.PlanKind.TheVariants.{FileType, BadLine, DoubleLine, UnknownName, LowAboveHigh, NoPeriod, TooWide}
 use Rattle.plan_rules.specs.declared.PlanWord.{PlanWord}
 use Rattle.plan_rules.specs.declared.PlanWord.TheVariants as words
-use Rattle.plan_rules.specs.Line.{Entry, begins, price, bounds, kind_of, entry_by, word_named, fields_read, worded_read, tokens_read, line_read}
-use Rattle.plan_rules.specs.Meaning.{entry_fault, at_line, lines_fault, period_count, count_fault, or_behind, meaning_fault, own_period, changed, period_from, periods_of, judged, lines_judged, read_plan}
+use Rattle.plan_rules.specs.Line.{file_type, Entry, begins, price, bounds, entry_by, word_named, worded_read, tokens_read, line_read}
+use Rattle.plan_rules.specs.Meaning.{entry_fault, at_line, lines_fault, period_count, or_behind, own_period, changed, period_from, periods_of, judged, lines_judged, read_plan}
 use Rattle.plan_rules.specs.Plan.{Period, Plan, IsPeriod, is_too_wide, IsPlan}
 use Rattle.plan_rules.specs.Read.{Fault, Line, Seen, is_begin, is_double, seen_past, nothing_seen, placed, with_line, lines_read, text_read, read_lines}
 use Rattle.std.specs.Str.{bytes_eq}
-use Rattle.plan_rules.specs.Line.{file_type}
+
+either : {A : Type 0} (P : A → Type 0) (b : Bool) (x y : A) → P x → P y → P (if b then x else y)
+either P true x y one two = one
+either P false x y one two = two
 
 -- ---- lines by themselves
 
@@ -33,110 +35,81 @@ Formed begins = Unit {0}
 Formed (price name value) = IsInRange value
 Formed (bounds name lower upper) = AreSignedBounds lower upper
 
-entry_formed : {A : Type 0} (entry : A → Entry) (r : Result A EditKind) → ((v : A) → r ≡ Ok v → Formed (entry v)) → (e : Entry) → entry_by entry r ≡ Ok e → Formed e
-entry_formed entry (Ok v) h e same = subst Formed (ok_same (entry v) e same) (h v refl)
-entry_formed entry (Err kind) h e same = absurd (err_not_ok (kind_of kind) e same)
+abbrev IsFormed : Result Entry PlanKind → Type 0
+IsFormed r = IfOk r Formed
 
-fields_formed : (word : PlanWord) (fields : List (List ℕ)) (e : Entry) → fields_read word fields ≡ Ok e → Formed e
-fields_formed words.Period [] e same = subst Formed (ok_same begins e same) tt
-fields_formed words.Period (field ∷ fields) e same = absurd (err_not_ok BadLine e same)
-fields_formed words.Price fields e same = entry_formed (λ (read : List ℕ × ℤ). price read.0 read.1) (amount_read fields) (λ v good. (amount_formed fields v good).1) e same
-fields_formed words.Bounds fields e same = entry_formed (λ (read : List ℕ × (ℤ × ℤ)). bounds read.0 read.1.0 read.1.1) (bounds_read fields) (λ v good. (bounds_formed fields v good).1) e same
+entry_formed : {A : Type 0} (entry : A → Entry) (r : Result A EditKind) → ((v : A) → r ≡ Ok v → Formed (entry v)) → IsFormed (entry_by entry r)
+entry_formed entry (Ok v) h = h v refl
+entry_formed entry (Err kind) h = tt
 
-worded_formed : (word : Option PlanWord) (fields : List (List ℕ)) (e : Entry) → worded_read word fields ≡ Ok e → Formed e
-worded_formed (Some word) fields e same = fields_formed word fields e same
-worded_formed None fields e same = absurd (err_not_ok BadLine e same)
+worded_formed : (word : Option PlanWord) (fields : List (List ℕ)) → IsFormed (worded_read word fields)
+worded_formed None fields = tt
+worded_formed (Some words.Period) [] = tt
+worded_formed (Some words.Period) (field ∷ fields) = tt
+worded_formed (Some words.Price) fields = entry_formed (λ (read : List ℕ × ℤ). price read.0 read.1) (amount_read fields) (λ v good. (amount_formed fields v good).1)
+worded_formed (Some words.Bounds) fields = entry_formed (λ (read : List ℕ × (ℤ × ℤ)). bounds read.0 read.1.0 read.1.1) (bounds_read fields) (λ v good. (bounds_formed fields v good).1)
 
-tokens_formed : (tokens : List (List ℕ)) (e : Entry) → tokens_read tokens ≡ Ok e → Formed e
-tokens_formed [] e same = absurd (err_not_ok BadLine e same)
-tokens_formed (word ∷ fields) e same = worded_formed (word_named word) fields e same
+tokens_formed : (tokens : List (List ℕ)) → IsFormed (tokens_read tokens)
+tokens_formed [] = tt
+tokens_formed (word ∷ fields) = worded_formed (word_named word) fields
 
-line_formed : (text : List ℕ) (e : Entry) → line_read text ≡ Ok e → Formed e
-line_formed text e same = tokens_formed (tokens_of text) e same
-
--- a line that is read where it stands is read by itself
-placed_by : (entry : Entry) (begin started double : Bool) (e : Entry)
-    → ◌≡◌ {A = Result Entry PlanKind} (if begin then Ok entry else (if started then (if double then Err DoubleLine else Ok entry) else Err BadLine)) (Ok e) → entry ≡ e
-placed_by entry true started double e same = ok_same entry e same
-placed_by entry false true true e same = absurd (err_not_ok DoubleLine e same)
-placed_by entry false true false e same = ok_same entry e same
-placed_by entry false false double e same = absurd (err_not_ok BadLine e same)
-
-refused_by : (kind : PlanKind) (started : Bool) (e : Entry) → ◌≡◌ {A = Result Entry PlanKind} (if started then Err kind else Err BadLine) (Ok e) → ⊥
-refused_by kind true e same = err_not_ok kind e same
-refused_by kind false e same = err_not_ok BadLine e same
-
-placed_formed : (seen : Seen) (r : Result Entry PlanKind) → ((e : Entry) → r ≡ Ok e → Formed e) → (e : Entry) → placed seen r ≡ Ok e → Formed e
-placed_formed seen (Ok entry) h e same = subst Formed (placed_by entry (is_begin entry) seen.started (is_double seen entry) e same) (h entry refl)
-placed_formed seen (Err kind) h e same = absurd (refused_by kind seen.started e same)
+placed_formed : (seen : Seen) (r : Result Entry PlanKind) → IsFormed r → IsFormed (placed seen r)
+placed_formed seen (Err kind) formed = either IsFormed seen.started (Err kind) (Err BadLine) tt tt
+placed_formed seen (Ok entry) formed =
+    either IsFormed (is_begin entry) (Ok entry) (if seen.started then (if is_double seen entry then Err DoubleLine else Ok entry) else Err BadLine) formed
+    (either IsFormed seen.started (if is_double seen entry then Err DoubleLine else Ok entry) (Err BadLine) (either IsFormed (is_double seen entry) (Err DoubleLine) (Ok entry) tt formed) tt)
 
 -- ---- all lines
 
 abbrev AreFormed : List Line → Type 0
 AreFormed lines = Each (λ (line : Line). Formed line.entry) lines
 
-with_formed : (number : ℕ) (r : Result Entry PlanKind) (rest : Result (List Line) Fault) → ((e : Entry) → r ≡ Ok e → Formed e) → ((ls : List Line) → rest ≡ Ok ls → AreFormed ls)
-    → (lines : List Line) → with_line number r rest ≡ Ok lines → AreFormed lines
-with_formed number (Err kind) rest one all lines same = absurd (err_not_ok (number, kind) lines same)
-with_formed number (Ok entry) (Err fault) one all lines same = absurd (err_not_ok fault lines same)
-with_formed number (Ok entry) (Ok ls) one all lines same =
-    subst AreFormed (ok_same {A = List Line} {B = Fault} (record { number = number; entry = entry } ∷ ls) lines same) (one entry refl, all ls refl)
+with_formed : (number : ℕ) (r : Result Entry PlanKind) (rest : Result (List Line) Fault) → IsFormed r → IfOk rest AreFormed → IfOk (with_line number r rest) AreFormed
+with_formed number (Err kind) rest one all = tt
+with_formed number (Ok entry) (Err fault) one all = tt
+with_formed number (Ok entry) (Ok lines) one all = (one, all)
 
-lines_formed : (number : ℕ) (seen : Seen) (texts : List (List ℕ)) (lines : List Line) → lines_read number seen texts ≡ Ok lines → AreFormed lines
-lines_formed number seen [] lines same = subst AreFormed (ok_same {A = List Line} {B = Fault} [] lines same) tt
-lines_formed number seen ([] ∷ texts) lines same = lines_formed (number + 1) seen texts lines same
-lines_formed number seen ((c ∷ cs) ∷ texts) lines same =
-    with_formed number (placed seen (line_read (c ∷ cs))) (lines_read (number + 1) (seen_past seen (line_read (c ∷ cs))) texts)
-    (placed_formed seen (line_read (c ∷ cs)) (line_formed (c ∷ cs))) (lines_formed (number + 1) (seen_past seen (line_read (c ∷ cs))) texts) lines same
+lines_formed : (number : ℕ) (seen : Seen) (texts : List (List ℕ)) → IfOk (lines_read number seen texts) AreFormed
+lines_formed number seen [] = tt
+lines_formed number seen ([] ∷ texts) = lines_formed (number + 1) seen texts
+lines_formed number seen ((c ∷ cs) ∷ texts) =
+    let read : Result Entry PlanKind = line_read (c ∷ cs) in
+    with_formed number (placed seen read) (lines_read (number + 1) (seen_past seen read) texts) (placed_formed seen read (tokens_formed (tokens_of (c ∷ cs)))) (lines_formed (number + 1) (seen_past seen read) texts)
 
-typed_formed : (b : Bool) (texts : List (List ℕ)) (lines : List Line) → (if b then lines_read 2 nothing_seen texts else Err (1, FileType)) ≡ Ok lines → AreFormed lines
-typed_formed true texts lines same = lines_formed 2 nothing_seen texts lines same
-typed_formed false texts lines same = absurd (err_not_ok (1, FileType) lines same)
-
-text_formed : (texts : List (List ℕ)) (lines : List Line) → text_read texts ≡ Ok lines → AreFormed lines
-text_formed [] lines same = absurd (err_not_ok (1, FileType) lines same)
-text_formed (first ∷ texts) lines same = typed_formed (bytes_eq first file_type) texts lines same
+text_formed : (texts : List (List ℕ)) → IfOk (text_read texts) AreFormed
+text_formed [] = tt
+text_formed (first ∷ texts) = either (λ r. IfOk r AreFormed) (bytes_eq first file_type) (lines_read 2 nothing_seen texts) (Err (1, FileType)) (lines_formed 2 nothing_seen texts) tt
 
 -- ---- lines without a fault of meaning
-
-abbrev is_there : {A : Type 0} → Option A → Bool
-is_there (Some x) = true
-is_there None = false
-
-some_not_none : {A : Type 0} (x : A) → Some x ≡ None → ⊥
-some_not_none x e = true≢false (ap is_there e)
 
 abbrev Good : Entry → Type 0
 Good begins = Unit {0}
 Good (price name value) = IsInRange value
 Good (bounds name lower upper) = AreBounds lower upper
 
-in_order : (known above : Bool) → (if known then (if above then Some LowAboveHigh else None) else Some UnknownName) ≡ None → above ≡ false
-in_order true true e = absurd (some_not_none LowAboveHigh e)
-in_order true false e = refl
-in_order false above e = absurd (some_not_none UnknownName e)
-
-good_of : (p : Problem) (entry : Entry) → Formed entry → entry_fault p entry ≡ None → Good entry
-good_of p begins formed clear = tt
-good_of p (price name value) formed clear = formed
-good_of p (bounds name lower upper) formed clear = record {
-  lower_bound = formed.lower_bound;
-  upper_bound = formed.upper_bound;
-  ordered = in_order (has_material p name) (int_lt upper lower) clear;
-}
-
 abbrev AreGood : List Line → Type 0
 AreGood lines = Each (λ (line : Line). Good line.entry) lines
 
-first_clear : (number : ℕ) (fault : Option PlanKind) (rest : Option Fault) → at_line number fault rest ≡ None → (fault ≡ None) × (rest ≡ None)
-first_clear number (Some kind) rest e = absurd (some_not_none (number, kind) e)
-first_clear number None rest e = (refl, e)
+in_order : (P : Type 0) (known above : Bool) → (above ≡ false → P) → IfNone (if known then (if above then Some LowAboveHigh else None) else Some UnknownName) P
+in_order P true true good = tt
+in_order P true false good = good refl
+in_order P false above good = tt
 
-lines_good : (p : Problem) (lines : List Line) → AreFormed lines → lines_fault p lines ≡ None → AreGood lines
-lines_good p [] formed clear = tt
-lines_good p (line ∷ lines) formed clear =
-    let parts = first_clear line.number (entry_fault p line.entry) (lines_fault p lines) clear in
-    (good_of p line.entry formed.0 parts.0, lines_good p lines formed.1 parts.1)
+good_of : (p : Problem) (entry : Entry) → Formed entry → IfNone (entry_fault p entry) (Good entry)
+good_of p begins formed = tt
+good_of p (price name value) formed = either (λ (fault : Option PlanKind). IfNone fault (IsInRange value)) (has_material p name) None (Some UnknownName) formed tt
+good_of p (bounds name lower upper) formed =
+    in_order (AreBounds lower upper) (has_material p name) (int_lt upper lower) (λ ordered. record { lower_bound = formed.lower_bound; upper_bound = formed.upper_bound; ordered = ordered })
+
+at_good : (P Q : Type 0) (number : ℕ) (fault : Option PlanKind) (rest : Option Fault) → IfNone fault P → IfNone rest Q → IfNone (at_line number fault rest) (P × Q)
+at_good P Q number (Some kind) rest one all = tt
+at_good P Q number None (Some fault) one all = tt
+at_good P Q number None None one all = (one, all)
+
+lines_good : (p : Problem) (lines : List Line) → AreFormed lines → IfNone (lines_fault p lines) (AreGood lines)
+lines_good p [] formed = tt
+lines_good p (line ∷ lines) formed =
+    at_good (Good line.entry) (AreGood lines) line.number (entry_fault p line.entry) (lines_fault p lines) (good_of p line.entry formed.0) (lines_good p lines formed.1)
 
 -- ---- periods
 
@@ -189,10 +162,6 @@ own_formed p good = record {
   bounds = λ j lt. own_bounds p.materials j good.materials_formed lt;
 }
 
-either : {A : Type 0} (P : A → Type 0) (b : Bool) (x y : A) → P x → P y → P (if b then x else y)
-either P true x y one two = one
-either P false x y one two = two
-
 period_formed : (p : Problem) (m : ℕ) (q : Period) (lines : List Line) → IsPeriod m q → AreGood lines → IsPeriod m (period_from p q lines)
 period_formed p m q [] formed good = formed
 period_formed p m q (line ∷ lines) formed good =
@@ -215,38 +184,31 @@ periods_counted p (line ∷ lines) = one_each (is_begin line.entry) (period_from
 
 -- ---- the plan
 
-count_clear : (none wide : Bool) → (if none then Some NoPeriod else if wide then Some TooWide else None) ≡ None → (none ≡ false) × (wide ≡ false)
-count_clear true wide e = absurd (some_not_none NoPeriod e)
-count_clear false true e = absurd (some_not_none TooWide e)
-count_clear false false e = (refl, refl)
-
-behind_clear : (p : Problem) (count : ℕ) (lines : List Line) (fault : Option Fault) → or_behind p count lines fault ≡ None → (fault ≡ None) × (count_fault p (period_count lines) ≡ None)
-behind_clear p count lines (Some fault) e = absurd (some_not_none fault e)
-behind_clear p count lines None e = (refl, (first_clear (count + 1) (count_fault p (period_count lines)) None e).0)
-
-lines_plan : (p : Problem) (count : ℕ) (lines : List Line) → IsWellFormed p → AreFormed lines → meaning_fault p count lines ≡ None → IsPlan p (record { periods = periods_of p lines })
-lines_plan p count lines good formed clear =
-    let parts = behind_clear p count lines (lines_fault p lines) clear in
-    let counts = count_clear (period_count lines == 0) (is_too_wide (length p.units) (length p.materials) (period_count lines)) parts.1 in
-    let some = eqb-false (period_count lines) 0 counts.0 in
+plan_by : (p : Problem) (number : ℕ) (lines : List Line) (none wide : Bool) → (period_count lines == 0) ≡ none → is_too_wide (length p.units) (length p.materials) (period_count lines) ≡ wide → IsWellFormed p → AreGood lines
+    → IfOk (judged p lines (at_line number (if none then Some NoPeriod else if wide then Some TooWide else None) None)) (IsPlan p)
+plan_by p number lines true wide some narrow formed good = tt
+plan_by p number lines false true some narrow formed good = tt
+plan_by p number lines false false some narrow formed good =
     let same = periods_counted p lines in
     record {
-      some = positive (period_count lines) (length (periods_of p lines)) some same;
-      periods_formed = periods_formed p (length p.materials) lines (own_formed p good) (lines_good p lines formed parts.0);
-      narrow = ap (is_too_wide (length p.units) (length p.materials)) same ∙ counts.1;
+      some = positive (period_count lines) (length (periods_of p lines)) (eqb-false (period_count lines) 0 some) same;
+      periods_formed = periods_formed p (length p.materials) lines (own_formed p formed) good;
+      narrow = ap (is_too_wide (length p.units) (length p.materials)) same ∙ narrow;
     }
   where
     positive : (n k : ℕ) → (n ≡ 0 → ⊥) → k ≡ n → 0 < k
     positive zero k not e = absurd (not refl)
     positive (suc n) k not e = omega (arith, e)
 
-judged_valid : (p : Problem) (count : ℕ) (lines : List Line) (fault : Option Fault) (plan : Plan) → IsWellFormed p → AreFormed lines → meaning_fault p count lines ≡ fault → judged p lines fault ≡ Ok plan → IsPlan p plan
-judged_valid p count lines (Some fault) plan good formed is e = absurd (err_not_ok fault plan e)
-judged_valid p count lines None plan good formed is e = subst (IsPlan p) (ok_same {A = Plan} {B = Fault} (record { periods = periods_of p lines }) plan e) (lines_plan p count lines good formed is)
+judged_valid : (p : Problem) (count : ℕ) (lines : List Line) (fault : Option Fault) → IsWellFormed p → IfNone fault (AreGood lines) → IfOk (judged p lines (or_behind p count lines fault)) (IsPlan p)
+judged_valid p count lines (Some fault) formed good = tt
+judged_valid p count lines None formed good = plan_by p (count + 1) lines (period_count lines == 0) (is_too_wide (length p.units) (length p.materials) (period_count lines)) refl refl formed good
 
-lines_valid : (p : Problem) (count : ℕ) (r : Result (List Line) Fault) (plan : Plan) → IsWellFormed p → ((lines : List Line) → r ≡ Ok lines → AreFormed lines) → lines_judged p count r ≡ Ok plan → IsPlan p plan
-lines_valid p count (Err fault) plan good formed e = absurd (err_not_ok fault plan e)
-lines_valid p count (Ok lines) plan good formed e = judged_valid p count lines (meaning_fault p count lines) plan good (formed lines refl) refl e
+lines_valid : (p : Problem) (count : ℕ) (r : Result (List Line) Fault) → IsWellFormed p → IfOk r AreFormed → IfOk (lines_judged p count r) (IsPlan p)
+lines_valid p count (Err fault) formed lines = tt
+lines_valid p count (Ok lines) formed all = judged_valid p count lines (lines_fault p lines) formed (lines_good p lines all)
 
 pub plan_valid : (p : Problem) (bytes : List ℕ) (plan : Plan) → IsWellFormed p → read_plan p bytes ≡ Ok plan → IsPlan p plan
-plan_valid p bytes plan good e = lines_valid p (length (script_lines bytes)) (read_lines bytes) plan good (text_formed (script_lines bytes)) e
+plan_valid p bytes plan formed e =
+    let whole : IfOk (read_plan p bytes) (IsPlan p) = lines_valid p (length (script_lines bytes)) (read_lines bytes) formed (text_formed (script_lines bytes)) in
+    subst (λ (r : Result Plan Fault). IfOk r (IsPlan p)) e whole

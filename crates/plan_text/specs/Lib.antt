@@ -1,4 +1,3 @@
-pub mod Periods
 pub mod Tells
 pub mod View
 pub mod Walk

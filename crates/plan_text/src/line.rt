@@ -1,10 +1,9 @@
 //! One line of a plan by itself.
-ghost use Rattle.std.specs.Prelude.{◌≡◌, Ok, IfOk, IfErr};
+ghost use Rattle.std.specs.Prelude.{◌≡◌, IfOk};
 ghost use Rattle.text_lines.specs.View.{texts};
 ghost use Rattle.script_rules.specs.Line.{tokens_of};
 ghost use Rattle.plan_rules.specs.Line.{kind_of, fields_read, tokens_read, line_read, word_named};
-ghost use Rattle.text_lines.specs.Tells.{TellsLine};
-ghost use Rattle.plan_text.specs.Tells.{fault_from};
+ghost use Rattle.plan_text.specs.Tells.{fault_from, Reads, Says};
 ghost use Rattle.plan_text.specs.View.{entry_of, name_of, first_of};
 
 use crate::entry::Entry;
@@ -67,76 +66,54 @@ fn first_of<'a>(fields: &[&'a [u8]]) -> &'a [u8]
     }
 }
 
-fn period<'a>(fields: &[&'a [u8]]) -> Result<Said<'a>, LineFault>
-    ensures ok { IfOk result (λ said. fields_read PlanWord.Period (texts fields.now) ≡ Ok (entry_of said.entry)) }
-    ensures name { IfOk result (λ said. said.name.now ≡ name_of (entry_of said.entry)) }
-    ensures fault { IfErr result (TellsLine (fields_read PlanWord.Period (texts fields.now))) }
-{
-    match fields {
-        [] => Ok(Said {
-            entry: Entry::Begins,
-            name: &[],
-        }),
-        _ => Err(LineFault::Kind(PlanKind::BadLine)),
-    }
-}
-
-fn price<'a>(alloc: Global, fields: &[&'a [u8]]) -> Result<Said<'a>, LineFault>
-    ensures ok { IfOk result (λ said. fields_read PlanWord.Price (texts fields.now) ≡ Ok (entry_of said.entry)) }
-    ensures name { IfOk result (λ said. said.name.now ≡ name_of (entry_of said.entry)) }
-    ensures fault { IfErr result (TellsLine (fields_read PlanWord.Price (texts fields.now))) }
+fn price(alloc: Global, fields: &[&[u8]]) -> Result<Entry, LineFault>
+    ensures { Reads (fields_read PlanWord.Price (texts fields.now)) result }
 {
     match fields::amount(alloc, fields) {
-        Ok((material, value)) => Ok(Said {
-            entry: Entry::Price { material, value },
-            name: first_of(fields),
-        }),
+        Ok((material, value)) => Ok(Entry::Price { material, value }),
         Err(fault) => Err(fault_from(fault)),
     }
 }
 
-fn bounds<'a>(alloc: Global, fields: &[&'a [u8]]) -> Result<Said<'a>, LineFault>
-    ensures ok { IfOk result (λ said. fields_read PlanWord.Bounds (texts fields.now) ≡ Ok (entry_of said.entry)) }
-    ensures name { IfOk result (λ said. said.name.now ≡ name_of (entry_of said.entry)) }
-    ensures fault { IfErr result (TellsLine (fields_read PlanWord.Bounds (texts fields.now))) }
+fn bounds(alloc: Global, fields: &[&[u8]]) -> Result<Entry, LineFault>
+    ensures { Reads (fields_read PlanWord.Bounds (texts fields.now)) result }
 {
     match fields::bounds(alloc, fields) {
-        Ok((material, lower, upper)) => Ok(Said {
-            entry: Entry::Bounds {
-                material,
-                lower,
-                upper,
-            },
-            name: first_of(fields),
+        Ok((material, lower, upper)) => Ok(Entry::Bounds {
+            material,
+            lower,
+            upper,
         }),
         Err(fault) => Err(fault_from(fault)),
     }
 }
 
-fn read_fields<'a>(
-    alloc: Global,
-    word: PlanWord,
-    fields: &[&'a [u8]],
-) -> Result<Said<'a>, LineFault>
-    ensures ok { IfOk result (λ said. fields_read word (texts fields.now) ≡ Ok (entry_of said.entry)) }
-    ensures name { IfOk result (λ said. said.name.now ≡ name_of (entry_of said.entry)) }
-    ensures fault { IfErr result (TellsLine (fields_read word (texts fields.now))) }
+fn read_fields(alloc: Global, word: PlanWord, fields: &[&[u8]]) -> Result<Entry, LineFault>
+    ensures { Reads (fields_read word (texts fields.now)) result }
 {
     match word {
-        PlanWord::Period => period(fields),
+        PlanWord::Period => match fields {
+            [] => Ok(Entry::Begins),
+            _ => Err(LineFault::Kind(PlanKind::BadLine)),
+        },
         PlanWord::Price => price(alloc, fields),
         PlanWord::Bounds => bounds(alloc, fields),
     }
 }
 
 fn read_tokens<'a>(alloc: Global, tokens: &[&'a [u8]]) -> Result<Said<'a>, LineFault>
-    ensures ok { IfOk result (λ said. tokens_read (texts tokens.now) ≡ Ok (entry_of said.entry)) }
+    ensures entry { Says (tokens_read (texts tokens.now)) result }
     ensures name { IfOk result (λ said. said.name.now ≡ name_of (entry_of said.entry)) }
-    ensures fault { IfErr result (TellsLine (tokens_read (texts tokens.now))) }
 {
     match tokens {
         [word, fields @ ..] => match word_named(*word) {
-            Some(word) => read_fields(alloc, word, fields),
+            Some(word) => {
+                let entry = read_fields(alloc, word, fields)?;
+                Ok(Said {
+                    entry,
+                    name: first_of(fields),
+                })
+            }
             None => Err(LineFault::Kind(PlanKind::BadLine)),
         },
         [] => Err(LineFault::Kind(PlanKind::BadLine)),
@@ -145,9 +122,8 @@ fn read_tokens<'a>(alloc: Global, tokens: &[&'a [u8]]) -> Result<Said<'a>, LineF
 
 /// What a line that is not empty says, or what is wrong with it by itself.
 pub(crate) fn read_line<'a>(alloc: Global, text: &'a [u8]) -> Result<Said<'a>, LineFault>
-    ensures ok { IfOk result (λ said. line_read text.now ≡ Ok (entry_of said.entry)) }
+    ensures entry { Says (line_read text.now) result }
     ensures name { IfOk result (λ said. said.name.now ≡ name_of (entry_of said.entry)) }
-    ensures fault { IfErr result (TellsLine (line_read text.now)) }
 {
     let tokens = tokens_of(alloc, text)?;
     read_tokens(alloc, &tokens)

@@ -1,10 +1,8 @@
 //! The plan that lines stand for.
-ghost use Rattle.std.specs.Prelude.{◌≡◌, ◌<◌, IfOk, length, map, slice_set};
-ghost use Rattle.edit_rules.specs.Place.{material_place};
+ghost use Rattle.std.specs.Prelude.{◌≡◌, IfOk, map, slice_set};
 ghost use Rattle.problem_rules.specs.Problem as rules;
 ghost use Rattle.plan_rules.specs.Meaning.{own_period, changed, period_from, periods_of};
 ghost use Rattle.plan_text.specs.View.{entry_of};
-ghost use Rattle.plan_text.specs.Periods.{IsWhole};
 
 use crate::entry::{Entry, Line};
 use crate::meaning::material_place;
@@ -34,55 +32,45 @@ fn own_numbers(alloc: Global, materials: &[Material]) -> Result<Period, AllocErr
 
 /// The problem's own prices and bounds.
 fn own_period(alloc: Global, problem: &Problem) -> Result<Period, AllocError>
-    ensures own { IfOk result (λ q. q ≡ own_period problem.now) }
-    ensures whole { IfOk result (λ q. IsWhole (length problem.now.materials) q) }
+    ensures { IfOk result (λ q. q ≡ own_period problem.now) }
 {
     own_numbers(alloc, problem.materials())
 }
 
-/// Sets the price of the material of this name in the period. A name that no material has changes nothing.
-#[tactic(auto, using(crate::proofs::Changes::same_prices))]
-fn change_price(problem: &Problem, period: &mut Period, name: &str, value: i64)
-    requires { IsWhole (length problem.now.materials) period.old }
-    ensures { period.new ≡ record period.old { prices = slice_set period.old.prices (material_place problem.now name.now) value } }
+// Sets the number at a place; one past the end changes nothing.
+#[tactic(auto, using(std::proofs::lemmas::List::set_past))]
+fn set(numbers: &mut Vec<i64>, place: usize, number: i64)
+    ensures { numbers.new.items ≡ slice_set numbers.old.items place number }
 {
-    if let Some(k) = material_place(problem, name) {
-        period.prices[k] = value;
+    if place < numbers.len() {
+        numbers[place] = number;
     }
 }
 
-/// Sets its bounds.
-#[tactic(auto, using(crate::proofs::Changes::same_bounds))]
-fn change_bounds(problem: &Problem, period: &mut Period, name: &str, lower: i64, upper: i64)
-    requires { IsWhole (length problem.now.materials) period.old }
-    ensures { period.new ≡ record period.old { lowers = slice_set period.old.lowers (material_place problem.now name.now) lower; uppers = slice_set period.old.uppers (material_place problem.now name.now) upper } }
-{
-    if let Some(k) = material_place(problem, name) {
-        period.lowers[k] = lower;
-        period.uppers[k] = upper;
-    }
-}
-
-/// Changes the period as a line says.
+/// Changes the period as a line says. A name that no material has changes nothing.
 fn change(problem: &Problem, period: &mut Period, entry: &Entry)
-    requires { IsWhole (length problem.now.materials) period.old }
     ensures { period.new ≡ changed problem.now period.old (entry_of entry.now) }
 {
     match entry {
         Entry::Begins => {}
         Entry::Price { material, value } => {
-            change_price(problem, period, material.as_str(), *value)
+            let place = material_place(problem, material.as_str());
+            set(&mut period.prices, place, *value);
         }
         Entry::Bounds {
             material,
             lower,
             upper,
-        } => change_bounds(problem, period, material.as_str(), *lower, *upper),
+        } => {
+            let place = material_place(problem, material.as_str());
+            set(&mut period.lowers, place, *lower);
+            set(&mut period.uppers, place, *upper);
+        }
     }
 }
 
 /// A period by the lines behind the one that begins it.
-#[tactic(auto, using(crate::proofs::Periods::period_ends, crate::proofs::Periods::period_goes_on, crate::proofs::Changes::whole_next))]
+#[tactic(auto, using(crate::proofs::Periods::period_ends, crate::proofs::Periods::period_goes_on))]
 fn period_from(alloc: Global, problem: &Problem, lines: &[Line]) -> Result<Period, AllocError>
     ensures { IfOk result (λ q. q ≡ period_from problem.now (own_period problem.now) lines.now) }
 {

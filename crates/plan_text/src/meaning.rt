@@ -1,5 +1,5 @@
 //! The faults of meaning of lines without a fault of form.
-ghost use Rattle.std.specs.Prelude.{◌≡◌, ◌<◌, ◌≤◌, ◌+◌, ◌-◌, ◌*◌, ◌^◌, true, false, Some, None, IfSome, IfNone, length, int_lt, if◌then◌else◌};
+ghost use Rattle.std.specs.Prelude.{◌≡◌, ◌<◌, ◌≤◌, ◌+◌, ◌-◌, ◌*◌, ◌^◌, length};
 ghost use Rattle.edit_rules.specs.Place.{has_material, material_place};
 ghost use Rattle.plan_rules.specs.Meaning.{entry_fault, lines_fault, period_count, count_fault, meaning_fault};
 ghost use Rattle.plan_rules.specs.Plan.{is_too_wide};
@@ -9,43 +9,22 @@ use crate::entry::{Entry, Line};
 use plan_rules::PlanKind;
 use pns_problem::Problem;
 
-/// The place of the material of this name.
-#[tactic(auto, using(crate::proofs::Places::known_at, crate::proofs::Places::place_at, crate::proofs::Places::within_at, crate::proofs::Places::unknown, crate::proofs::Places::place_past))]
-pub(crate) fn material_place(problem: &Problem, name: &str) -> Option<usize>
-    ensures known { IfSome result (λ k. has_material problem.now name.now ≡ true) }
-    ensures place { IfSome result (λ k. k ≡ material_place problem.now name.now) }
-    ensures within { IfSome result (λ k. k < length problem.now.materials) }
-    ensures none { IfNone result (has_material problem.now name.now ≡ false) }
-    ensures past { IfNone result (length problem.now.materials ≤ material_place problem.now name.now) }
+/// The place of the material of this name, or the number of materials where none has it.
+#[tactic(auto, using(crate::proofs::Places::place_at, crate::proofs::Places::place_past))]
+pub(crate) fn material_place(problem: &Problem, name: &str) -> usize
+    ensures { result ≡ material_place problem.now name.now }
 {
     match problem.material_named(name) {
-        Some(number) => Some(number as usize),
-        None => None,
+        Some(number) => number as usize,
+        None => problem.materials().len(),
     }
 }
 
-fn name_fault(problem: &Problem, name: &str) -> Option<PlanKind>
-    ensures { result ≡ (if has_material problem.now name.now then None else Some PlanKind.UnknownName) }
+#[tactic(auto, using(crate::proofs::Places::known, crate::proofs::Places::unknown))]
+fn has_material(problem: &Problem, name: &str) -> bool
+    ensures { result ≡ has_material problem.now name.now }
 {
-    match material_place(problem, name) {
-        Some(_) => None,
-        None => Some(PlanKind::UnknownName),
-    }
-}
-
-fn bounds_fault(problem: &Problem, name: &str, lower: i64, upper: i64) -> Option<PlanKind>
-    ensures { result ≡ (if has_material problem.now name.now then (if int_lt upper lower then Some PlanKind.LowAboveHigh else None) else Some PlanKind.UnknownName) }
-{
-    match material_place(problem, name) {
-        Some(_) => {
-            if upper < lower {
-                Some(PlanKind::LowAboveHigh)
-            } else {
-                None
-            }
-        }
-        None => Some(PlanKind::UnknownName),
-    }
+    matches!(problem.material_named(name), Some(_))
 }
 
 fn entry_fault(problem: &Problem, entry: &Entry) -> Option<PlanKind>
@@ -53,12 +32,26 @@ fn entry_fault(problem: &Problem, entry: &Entry) -> Option<PlanKind>
 {
     match entry {
         Entry::Begins => None,
-        Entry::Price { material, .. } => name_fault(problem, material.as_str()),
+        Entry::Price { material, .. } => {
+            if has_material(problem, material.as_str()) {
+                None
+            } else {
+                Some(PlanKind::UnknownName)
+            }
+        }
         Entry::Bounds {
             material,
             lower,
             upper,
-        } => bounds_fault(problem, material.as_str(), *lower, *upper),
+        } => {
+            if !has_material(problem, material.as_str()) {
+                Some(PlanKind::UnknownName)
+            } else if *upper < *lower {
+                Some(PlanKind::LowAboveHigh)
+            } else {
+                None
+            }
+        }
     }
 }
 

@@ -3,12 +3,10 @@ ghost use Rattle.std.specs.Prelude.{◌≡◌, ◌<◌, ◌≤◌, ◌+◌, ◌-
 ghost use Rattle.script_rules.specs.Line.{script_lines};
 ghost use Rattle.plan_rules.specs.Read.{nothing_seen, lines_read, read_lines};
 ghost use Rattle.text_lines.specs.Tells.{Tells};
-ghost use Rattle.plan_text.specs.View.{entry_of, name_of};
-ghost use Rattle.plan_text.specs.Walk.{refused, read_on, with_said};
+ghost use Rattle.plan_text.specs.Walk.{read_on};
 
 use crate::entry::Line;
 use crate::fault::{LineFault, PlanFault};
-use crate::line::{Said, read_line};
 use crate::seen::Seen;
 use edit_scripts::cut::cut_line;
 use plan_rules::PlanKind;
@@ -35,48 +33,8 @@ impl<'a> Walk<'a> {
         }
     }
 
-    // A line with a fault of its own. In front of the first period it is no line of a plan, whatever its fault.
-    fn refuse(&self, kind: PlanKind) -> PlanFault
-        ensures { result ≡ refused self.now kind }
-    {
-        let told = if self.seen.has_started() {
-            kind
-        } else {
-            PlanKind::BadLine
-        };
-        PlanFault::At {
-            line: self.number,
-            kind: told,
-        }
-    }
-
-    // Takes what a line says.
-    #[tactic(auto, using(crate::proofs::Reading::take_entry, crate::proofs::Reading::place_fault))]
-    fn place(&mut self, alloc: Global, said: Said<'a>) -> Result<(), PlanFault>
-        requires few { self.old.number < 2 ^ 32 - 1 }
-        requires named { said.name.now ≡ name_of (entry_of said.entry) }
-        ensures ok { OnOk result ((texts : List (List ℕ)) → read_on self.new texts ≡ with_said self.old (entry_of said.entry.entry) texts) }
-        ensures next { OnOk result (self.new.number ≡ self.old.number + 1) }
-        ensures fault { IfErr result (λ fault. (texts : List (List ℕ)) → Tells (with_said self.old (entry_of said.entry.entry) texts) fault) }
-    {
-        match self.seen.place(alloc, &said.entry, said.name)? {
-            Some(kind) => Err(PlanFault::At {
-                line: self.number,
-                kind,
-            }),
-            None => {
-                self.lines.push(Line {
-                    number: self.number,
-                    entry: said.entry,
-                })?;
-                self.number += 1;
-                Ok(())
-            }
-        }
-    }
-
     // Takes a line that is not empty.
-    #[tactic(auto, using(crate::proofs::Reading::said_there, crate::proofs::Reading::refused_there))]
+    #[tactic(auto, using(crate::proofs::Reading::take_line, crate::proofs::Reading::fault_there))]
     fn take(&mut self, alloc: Global, text: &'a [u8]) -> Result<(), PlanFault>
         requires some { 0 < length text.now }
         requires few { self.old.number < 2 ^ 32 - 1 }
@@ -84,9 +42,19 @@ impl<'a> Walk<'a> {
         ensures next { OnOk result (self.new.number ≡ self.old.number + 1) }
         ensures fault { IfErr result (λ fault. (texts : List (List ℕ)) → Tells (read_on self.old (text.now ∷ texts)) fault) }
     {
-        match read_line(alloc, text) {
-            Ok(said) => self.place(alloc, said),
-            Err(LineFault::Kind(kind)) => Err(self.refuse(kind)),
+        match self.seen.read(alloc, text) {
+            Ok(entry) => {
+                self.lines.push(Line {
+                    number: self.number,
+                    entry,
+                })?;
+                self.number += 1;
+                Ok(())
+            }
+            Err(LineFault::Kind(kind)) => Err(PlanFault::At {
+                line: self.number,
+                kind,
+            }),
             Err(LineFault::Memory) => Err(PlanFault::Memory),
         }
     }

@@ -1,13 +1,18 @@
 //! What the lines before a line say of its period.
-ghost use Rattle.std.specs.Prelude.{◌≡◌, ℤ, true, [], None, Ok, IfOk};
-ghost use Rattle.plan_rules.specs.Line.{price, bounds};
-ghost use Rattle.plan_rules.specs.Read.{nothing_seen, seen_after, placed};
-ghost use Rattle.plan_text.specs.Tells.{told};
+ghost use Rattle.std.specs.Prelude.{◌≡◌, ◌++◌, ◌∷◌, [], true, false, Ok, Err, OnOk, IfErr, if◌then◌else◌};
+ghost use Rattle.problem_rules.specs.Names.{is_among};
+ghost use Rattle.plan_rules.specs.Line as rules;
+ghost use Rattle.plan_rules.specs.Line.{line_read};
+ghost use Rattle.plan_rules.specs.Read.{nothing_seen, seen_after, seen_past, placed};
+ghost use Rattle.text_lines.specs.Tells.{TellsLine};
+ghost use Rattle.plan_text.specs.Tells.{refused, Reads};
 ghost use Rattle.plan_text.specs.View.{entry_of, name_of};
 
 use crate::entry::Entry;
+use crate::fault::LineFault;
+use crate::line::read_line;
 use plan_rules::PlanKind;
-use std::alloc::{AllocError, Global};
+use std::alloc::Global;
 use std::marker::Model;
 use std::mem;
 use text_lines::name_set::NameSet;
@@ -40,42 +45,6 @@ impl<'a> Seen<'a> {
         }
     }
 
-    pub(crate) fn has_started(&self) -> bool
-        ensures { result ≡ self.now.started }
-    {
-        self.started
-    }
-
-    // A line that changes the price of a material: the fault that it has where it stands.
-    fn add_price(&mut self, name: &'a [u8]) -> Result<Option<PlanKind>, AllocError>
-        ensures fault { IfOk result (λ fault. (value : ℤ) → placed self.old (Ok (price name.now value)) ≡ told fault (price name.now value)) }
-        ensures after { IfOk result (λ fault. (value : ℤ) → fault ≡ None → self.new ≡ seen_after self.old (price name.now value)) }
-    {
-        if !self.started {
-            return Ok(Some(PlanKind::BadLine));
-        }
-        if self.priced.add(name)? {
-            Ok(None)
-        } else {
-            Ok(Some(PlanKind::DoubleLine))
-        }
-    }
-
-    // The same of its bounds.
-    fn add_bounds(&mut self, name: &'a [u8]) -> Result<Option<PlanKind>, AllocError>
-        ensures fault { IfOk result (λ fault. (lower upper : ℤ) → placed self.old (Ok (bounds name.now lower upper)) ≡ told fault (bounds name.now lower upper)) }
-        ensures after { IfOk result (λ fault. (lower upper : ℤ) → fault ≡ None → self.new ≡ seen_after self.old (bounds name.now lower upper)) }
-    {
-        if !self.started {
-            return Ok(Some(PlanKind::BadLine));
-        }
-        if self.bounded.add(name)? {
-            Ok(None)
-        } else {
-            Ok(Some(PlanKind::DoubleLine))
-        }
-    }
-
     // A period begins, and has changed nothing.
     fn start(&mut self, alloc: Global)
         ensures { self.new ≡ record { started = true; priced = []; bounded = [] } }
@@ -85,24 +54,61 @@ impl<'a> Seen<'a> {
         let _ = mem::replace(&mut self.bounded, NameSet::new(alloc));
     }
 
-    /// Takes a line of this material: the fault that it has where it stands.
-    pub(crate) fn place(
-        &mut self,
-        alloc: Global,
-        entry: &Entry,
-        name: &'a [u8],
-    ) -> Result<Option<PlanKind>, AllocError>
+    // Takes a line that says this of a material of this name.
+    fn place(&mut self, alloc: Global, entry: &Entry, name: &'a [u8]) -> Result<(), LineFault>
         requires { name.now ≡ name_of (entry_of entry.now) }
-        ensures fault { IfOk result (λ fault. placed self.old (Ok (entry_of entry.now)) ≡ told fault (entry_of entry.now)) }
-        ensures after { IfOk result (λ fault. fault ≡ None → self.new ≡ seen_after self.old (entry_of entry.now)) }
+        ensures ok { OnOk result (placed self.old (Ok (entry_of entry.now)) ≡ Ok (entry_of entry.now)) }
+        ensures after { OnOk result (self.new ≡ seen_after self.old (entry_of entry.now)) }
+        ensures fault { IfErr result (TellsLine (placed self.old (Ok (entry_of entry.now)))) }
     {
         match entry {
             Entry::Begins => {
                 self.start(alloc);
-                Ok(None)
+                Ok(())
             }
-            Entry::Price { .. } => self.add_price(name),
-            Entry::Bounds { .. } => self.add_bounds(name),
+            Entry::Price { .. } => add(self.started, &mut self.priced, name),
+            Entry::Bounds { .. } => add(self.started, &mut self.bounded, name),
         }
+    }
+
+    // A fault of a line by itself. In front of the first period it is no line of a plan, whatever its fault.
+    fn refuse(&self, fault: LineFault) -> LineFault
+        ensures { result ≡ refused self.now fault }
+    {
+        match fault {
+            LineFault::Kind(_) if !self.started => LineFault::Kind(PlanKind::BadLine),
+            _ => fault,
+        }
+    }
+
+    /// What a line that is not empty says where it stands, or what is wrong with it there.
+    pub(crate) fn read(&mut self, alloc: Global, text: &'a [u8]) -> Result<Entry, LineFault>
+        ensures entry { Reads (placed self.old (line_read text.now)) result }
+        ensures after { OnOk result (self.new ≡ seen_past self.old (line_read text.now)) }
+    {
+        match read_line(alloc, text) {
+            Ok(said) => {
+                self.place(alloc, &said.entry, said.name)?;
+                Ok(said.entry)
+            }
+            Err(fault) => Err(self.refuse(fault)),
+        }
+    }
+}
+
+// Adds a name to those of its kind in the present period.
+fn add<'a>(started: bool, names: &mut NameSet<'a>, name: &'a [u8]) -> Result<(), LineFault>
+    ensures started { OnOk result (started ≡ true) }
+    ensures new { OnOk result (is_among names.old name.now ≡ false) }
+    ensures added { OnOk result (names.new ≡ names.old ++ name.now ∷ []) }
+    ensures fault { IfErr result (λ fault. (entry : rules.Entry) → TellsLine (if started then (if is_among names.old name.now then Err PlanKind.DoubleLine else Ok entry) else Err PlanKind.BadLine) fault) }
+{
+    if !started {
+        return Err(LineFault::Kind(PlanKind::BadLine));
+    }
+    if names.add(name)? {
+        Ok(())
+    } else {
+        Err(LineFault::Kind(PlanKind::DoubleLine))
     }
 }

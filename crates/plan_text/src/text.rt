@@ -22,17 +22,6 @@ pub fn read_plan(alloc: Global, problem: &Problem, bytes: &[u8]) -> Result<Plan,
     ensures fault { IfErr result (Tells (read_plan problem.now bytes.now)) }
 {
     problem.is_valid();
-    match plan_of(alloc, problem, bytes) {
-        Ok(plan) => Ok(plan),
-        Err(fault) => Err(fault),
-    }
-}
-
-fn plan_of(alloc: Global, problem: &Problem, bytes: &[u8]) -> Result<Plan, PlanFault>
-    requires { length bytes.now < 2 ^ 32 - 1 }
-    ensures read { IfOk result (λ plan. read_plan problem.now bytes.now ≡ Ok plan) }
-    ensures fault { IfErr result (Tells (read_plan problem.now bytes.now)) }
-{
     let read = read_lines(alloc, bytes)?;
     match meaning_fault(problem, read.count, &read.lines) {
         Some((line, kind)) => Err(PlanFault::At { line, kind }),
