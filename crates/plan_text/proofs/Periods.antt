@@ -1,11 +1,20 @@
 -- Lines that are looked at one by one.
-use Rattle.std.proofs.Common.{◌≡◌, ◌<◌, ◌+◌, ◌++◌, ℕ, suc, Bool, true, false, Option, Some, None, List, [], ◌∷◌, length, drop, get_or, sym, ap, ◌∙◌, arith, append_assoc, if◌then◌else◌}
+use Rattle.std.proofs.Common.{◌≡◌, ◌<◌, ◌+◌, ◌++◌, ℕ, suc, Bool, true, false, Option, Some, None, List, [], ◌∷◌, length, drop, get_or, sym, ap, ◌∙◌, arith, append_assoc, if◌then◌else◌, count_by, refl}
 use Rattle.std.proofs.lemmas.List.{drop_more}
+use Rattle.std.proofs.lemmas.List.Sums.{sum_by-cons}
 use Rattle.problem_rules.specs.Problem.{Problem}
 use Rattle.plan_rules.specs.declared.PlanKind.{PlanKind}
 use Rattle.plan_rules.specs.Meaning.{entry_fault, at_line, lines_fault, period_count, own_period, changed, period_from, periods_of}
 use Rattle.plan_rules.specs.Plan.{Period}
 use Rattle.plan_rules.specs.Read.{Line, is_begin}
+
+-- the lines that begin a period
+pub counted : (lines : List Line) → count_by (λ (line : Line). is_begin line.entry) lines ≡ period_count lines
+counted [] = refl
+counted (line ∷ lines) = sum_by-cons (λ (line : Line). if is_begin line.entry then 1 else 0) line lines ∙ one (is_begin line.entry) (counted lines) where
+  one : (b : Bool) {n k : ℕ} → n ≡ k → (if b then 1 else 0) + n ≡ (if b then suc k else k)
+  one true e = omega (arith, e)
+  one false e = omega (arith, e)
 
 module _ (p : Problem) (lines : List Line) (k : ℕ) (line : Line) (less : k < length lines) (is : line ≡ get_or lines k line) where
   pub ahead : drop k lines ≡ line ∷ drop (k + 1) lines
@@ -16,18 +25,6 @@ module _ (p : Problem) (lines : List Line) (k : ℕ) (line : Line) (less : k < l
 
   pub fault_later : entry_fault p line.entry ≡ None → lines_fault p (drop k lines) ≡ lines_fault p lines → lines_fault p (drop (k + 1) lines) ≡ lines_fault p lines
   fault_later e so_far = sym (ap (lines_fault p) ahead ∙ ap (λ (o : Option PlanKind). at_line line.number o (lines_fault p (drop (k + 1) lines))) e) ∙ so_far
-
-  pub count_here : (count : ℕ) → is_begin line.entry ≡ true → count + period_count (drop k lines) ≡ period_count lines → (count + 1) + period_count (drop (k + 1) lines) ≡ period_count lines
-  count_here count e so_far =
-      let here : period_count (drop k lines) ≡ suc (period_count (drop (k + 1) lines)) =
-      ap period_count ahead ∙ ap (λ b. if b then suc (period_count (drop (k + 1) lines)) else period_count (drop (k + 1) lines)) e in
-      omega (arith, here, so_far)
-
-  pub count_later : (count : ℕ) → is_begin line.entry ≡ false → count + period_count (drop k lines) ≡ period_count lines → count + period_count (drop (k + 1) lines) ≡ period_count lines
-  count_later count e so_far =
-      let here : period_count (drop k lines) ≡ period_count (drop (k + 1) lines) =
-      ap period_count ahead ∙ ap (λ b. if b then suc (period_count (drop (k + 1) lines)) else period_count (drop (k + 1) lines)) e in
-      omega (arith, here, so_far)
 
   pub period_ends : (q own : Period) → is_begin line.entry ≡ true → period_from p q (drop k lines) ≡ period_from p own lines → q ≡ period_from p own lines
   period_ends q own e so_far = sym (ap (period_from p q) ahead ∙ ap (λ b. if b then q else period_from p (changed p q line.entry) (drop (k + 1) lines)) e) ∙ so_far

@@ -10,31 +10,43 @@ use periods::Period;
 use pns_problem::{Material, Problem};
 use std::alloc::{AllocError, Global};
 
-/// The prices and bounds of materials.
-#[tactic(auto, using(plan_laws::proofs::Lists::taken_more))]
-fn own_numbers(alloc: Global, materials: &[Material]) -> Result<Period, AllocError>
-    ensures { IfOk result (λ q. q ≡ record { prices = map (λ (m : rules.Material). m.price) materials.now; lowers = map (λ (m : rules.Material). m.lower) materials.now; uppers = map (λ (m : rules.Material). m.upper) materials.now }) }
+fn prices(alloc: Global, materials: &[Material]) -> Result<Vec<i64>, AllocError>
+    ensures { IfOk result (λ numbers. numbers.items ≡ map (λ (m : rules.Material). m.price) materials.now) }
 {
-    let mut prices = Vec::new(alloc);
-    let mut lowers = Vec::new(alloc);
-    let mut uppers = Vec::new(alloc);
-    'copying: for material in materials {
-        prices.push(material.price)?;
-        lowers.push(material.lower)?;
-        uppers.push(material.upper)?;
-    }
-    Ok(Period {
-        prices,
-        lowers,
-        uppers,
-    })
+    materials
+        .iter()
+        .map(|material| material.price)
+        .collect(alloc)
+}
+
+fn lowers(alloc: Global, materials: &[Material]) -> Result<Vec<i64>, AllocError>
+    ensures { IfOk result (λ numbers. numbers.items ≡ map (λ (m : rules.Material). m.lower) materials.now) }
+{
+    materials
+        .iter()
+        .map(|material| material.lower)
+        .collect(alloc)
+}
+
+fn uppers(alloc: Global, materials: &[Material]) -> Result<Vec<i64>, AllocError>
+    ensures { IfOk result (λ numbers. numbers.items ≡ map (λ (m : rules.Material). m.upper) materials.now) }
+{
+    materials
+        .iter()
+        .map(|material| material.upper)
+        .collect(alloc)
 }
 
 /// The problem's own prices and bounds.
 fn own_period(alloc: Global, problem: &Problem) -> Result<Period, AllocError>
     ensures { IfOk result (λ q. q ≡ own_period problem.now) }
 {
-    own_numbers(alloc, problem.materials())
+    let materials = problem.materials();
+    Ok(Period {
+        prices: prices(alloc, materials)?,
+        lowers: lowers(alloc, materials)?,
+        uppers: uppers(alloc, materials)?,
+    })
 }
 
 // Sets the number at a place; one past the end changes nothing.

@@ -68,18 +68,12 @@ fn lines_fault(problem: &Problem, lines: &[Line]) -> Option<(u32, PlanKind)>
     None
 }
 
-#[tactic(auto, using(crate::proofs::Periods::count_here, crate::proofs::Periods::count_later))]
+#[tactic(auto, using(crate::proofs::Periods::counted))]
 fn period_count(lines: &[Line]) -> usize
     ensures value { result ≡ period_count lines.now }
     ensures few { result ≤ length lines.now }
 {
-    let mut count: usize = 0;
-    'counting: for line in lines {
-        if line.is_begin() {
-            count += 1;
-        }
-    }
-    count
+    lines.iter().filter(|line| line.is_begin()).count()
 }
 
 /// Whether the expanded problem would have too many units or materials.
