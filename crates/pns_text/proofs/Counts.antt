@@ -31,7 +31,7 @@ heads_few section lines =
     omega (arith, e, le)
 
 -- a line is in one section
-apart : (section : Section) (header : Bool) → ((is_section OperatingUnits section && not header) && (is_section Rates section && not header)) ≡ false
+pub apart : (section : Section) (header : Bool) → ((is_section OperatingUnits section && not header) && (is_section Rates section && not header)) ≡ false
 apart Preamble header = refl
 apart MeasurementUnits header = refl
 apart Defaults header = refl

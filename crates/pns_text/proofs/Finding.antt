@@ -1,8 +1,9 @@
--- Tests over lists, and the first that passes.
-use Rattle.std.proofs.Common.{◌≡◌, ◌&&◌, ◌||◌, Bool, true, false, cond, not, ℕ, List, [], ◌∷◌, map, filter, find, Some, refl, ◌∙◌, ap}
+-- Tests over lists, and the first kind that passes.
+use Rattle.std.proofs.Common.{◌≡◌, ◌&&◌, ◌||◌, Bool, true, false, cond, not, ℕ, List, [], ◌∷◌, map, filter, find, Option, Some, if◌then◌else◌, refl, ◌∙◌, ap}
 use Rattle.std.specs.List.{list_any}
 use Rattle.std.specs.Str.{bytes_eq}
-use Rattle.problem_rules.specs.Each.{Each}
+use Rattle.text_rules.specs.declared.TextKind.{TextKind}
+use Rattle.pns_text.specs.Fault.{or_kind}
 use Rattle.text_rules.specs.Field.{keyed, is_keyed, material_type}
 
 any_step : {A : Type 0} (p : A → Bool) (a : Bool) (x : A) (xs : List A) (rest : Bool) → list_any p xs ≡ rest → list_any p (cond a (x ∷ xs) xs) ≡ ((a && p x) || rest)
@@ -40,10 +41,6 @@ pub map_twice : {A B C : Type 0} (g : B → C) (f : A → B) (xs : List A) → m
 map_twice g f [] = refl
 map_twice {A} {B} {C} g f (x ∷ xs) = ap (λ (ys : List C). g (f x) ∷ ys) (map_twice g f xs)
 
-pub no_more : (b : Bool) → ((b || false) || false) ≡ b
-no_more true = refl
-no_more false = refl
-
 pub or_none : (b : Bool) → (b || false) ≡ b
 or_none true = refl
 or_none false = refl
@@ -52,7 +49,18 @@ pub and_true : (b : Bool) → (b && true) ≡ b
 and_true true = refl
 and_true false = refl
 
--- the same first where the tests agree
-pub find_same : {A : Type 0} (p q : A → Bool) (xs : List A) → Each (λ x. p x ≡ q x) xs → find p xs ≡ find q xs
-find_same p q [] each = refl
-find_same p q (x ∷ xs) each = ap (λ b. cond b (Some x) (find p xs)) each.0 ∙ ap (λ rest. cond (q x) (Some x) rest) (find_same p q xs each.1)
+-- the first that passes, or what is behind
+abbrev pub find_then : (TextKind → Bool) → List TextKind → Option TextKind → Option TextKind
+find_then p [] rest = rest
+find_then p (kind ∷ kinds) rest = if p kind then Some kind else find_then p kinds rest
+
+pub or_find : (p : TextKind → Bool) (kinds : List TextKind) (rest : Option TextKind) → or_kind (find p kinds) rest ≡ find_then p kinds rest
+or_find p [] rest = refl
+or_find p (kind ∷ kinds) rest = by (p kind) (or_find p kinds rest) where
+  by : (b : Bool) → or_kind (find p kinds) rest ≡ find_then p kinds rest → or_kind (cond b (Some kind) (find p kinds)) rest ≡ cond b (Some kind) (find_then p kinds rest)
+  by true more = refl
+  by false more = more
+
+pub or_if : (b : Bool) (kind : TextKind) (first rest : Option TextKind) → or_kind (if b then Some kind else first) rest ≡ (if b then Some kind else or_kind first rest)
+or_if true kind first rest = refl
+or_if false kind first rest = refl

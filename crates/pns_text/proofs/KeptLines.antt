@@ -28,7 +28,8 @@ filter_twice : {A : Type 0} (p q : A → Bool) → ((x : A) → p x ≡ true →
 filter_twice p q implied [] = refl
 filter_twice p q implied (x ∷ xs) = twice_step p q (q x) x xs (filter q xs) refl (implied x) (filter_twice p q implied xs)
 
-meant : (section other : Section) (header : Bool) → is_meant section ≡ true → (is_section section other && not header) ≡ true → (not header && is_meant other) ≡ true
+-- a line of such a section matters
+pub meant : (section other : Section) (header : Bool) → is_meant section ≡ true → (is_section section other && not header) ≡ true → (not header && is_meant other) ≡ true
 meant Preamble other header e at = cc
 meant MeasurementUnits other header e at = cc
 meant Defaults Defaults false e at = refl

@@ -6,7 +6,6 @@ pub mod ItemLines
 pub mod KeptLines
 pub mod MeaningLaw
 pub mod NamesBefore
-pub mod NoFault
 pub mod Places
 pub mod RateKinds
 pub mod RatesKinds

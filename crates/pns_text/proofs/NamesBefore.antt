@@ -8,10 +8,11 @@ use Rattle.text_rules.specs.declared.Section.{Section}
 use Rattle.text_rules.specs.declared.Section.TheVariants.{Preamble, MeasurementUnits, Defaults, Materials, OperatingUnits, Rates, Exclusions}
 use Rattle.problem_rules.specs.Names.{is_among, distinct}
 use Rattle.text_rules.specs.Line.{Placed, head_of}
-use Rattle.text_rules.specs.Field.{Line, taken_apart, lines_in, names_in, key_of}
+use Rattle.text_rules.specs.Field.{Line, taken_apart, is_in, lines_in, names_in, key_of}
 use Rattle.text_lines.specs.Once.{with_name}
-use Rattle.pns_text.specs.Seen.{Seen, seen_none, seen_after}
+use Rattle.pns_text.specs.Seen.{Seen, more_if, seen_none, seen_after}
 use Rattle.text_lines.proofs.Naming.{bytes_eq-sym}
+use Rattle.pns_text.proofs.Counts.{apart}
 
 -- lists with the same names, so many of them
 pub record SameNames (xs ys : List (List ℕ)) : Type 0 where
@@ -27,14 +28,21 @@ or_swap false false = refl
 pub among_end : (xs : List (List ℕ)) (name x : List ℕ) → is_among (xs ++ name ∷ []) x ≡ (bytes_eq name x || is_among xs x)
 among_end xs name x = list_any-append (λ word. bytes_eq word x) xs (name ∷ []) ∙ or_swap (is_among xs x) (bytes_eq name x)
 
-same_more : (xs ys : List (List ℕ)) (name : List ℕ) → SameNames xs ys → SameNames (xs ++ name ∷ []) (name ∷ ys)
-same_more xs ys name same = record {
-  among = λ x. among_end xs name x ∙ ap (λ b. bytes_eq name x || b) (same.among x);
-  long = length-append xs (name ∷ []) ∙ omega (arith, same.long);
-}
+-- with one more line of a section, whose name comes last here and first there
+among_more : (b : Bool) (f : Line → List ℕ) (xs : List (List ℕ)) (line : Line) (lines : List Line) → ((x : List ℕ) → is_among xs x ≡ is_among (map f lines) x)
+    → (x : List ℕ) → is_among (more_if b xs (f line)) x ≡ is_among (map f (if b then line ∷ lines else lines)) x
+among_more true f xs line lines same x = among_end xs (f line) x ∙ ap (λ b. bytes_eq (f line) x || b) (same x)
+among_more false f xs line lines same x = same x
 
-among_more : (xs ys : List (List ℕ)) (name : List ℕ) → ((x : List ℕ) → is_among xs x ≡ is_among ys x) → (x : List ℕ) → is_among (xs ++ name ∷ []) x ≡ is_among (name ∷ ys) x
-among_more xs ys name same x = among_end xs name x ∙ ap (λ b. bytes_eq name x || b) (same x)
+long_more : (b : Bool) (f : Line → List ℕ) (xs : List (List ℕ)) (line : Line) (lines : List Line) → length xs ≡ length (map f lines) → length (more_if b xs (f line)) ≡ length (map f (if b then line ∷ lines else lines))
+long_more true f xs line lines long = length-append xs (f line ∷ []) ∙ omega (arith, long)
+long_more false f xs line lines long = long
+
+abbrev name_of : Line → List ℕ
+name_of line = line.name
+
+same_more : (b : Bool) (xs : List (List ℕ)) (line : Line) (lines : List Line) → SameNames xs (map name_of lines) → SameNames (more_if b xs line.name) (map name_of (if b then line ∷ lines else lines))
+same_more b xs line lines same = record { among = among_more b name_of xs line lines same.among; long = long_more b name_of xs line lines same.long }
 
 -- the headers before
 abbrev pub has_header : List Line → List ℕ → Bool
@@ -44,6 +52,11 @@ has_header before x = list_any (λ (other : Line). other.header && bytes_eq othe
 abbrev pub units_before : List Line → List (List ℕ)
 units_before before = names_in OperatingUnits before ++ names_in Rates before
 
+-- names, each once, of a list
+pub record Counted (names all : List (List ℕ)) : Type 0 where
+  pub among : (x : List ℕ) → is_among names x ≡ is_among all x
+  pub counted : length names ≡ length (distinct all)
+
 pub record IsSeen (before : List Line) (seen : Seen) : Type 0 where
   pub headers : (x : List ℕ) → is_among seen.headers x ≡ has_header before x
   pub keys : (x : List ℕ) → is_among seen.keys x ≡ is_among (map (λ (other : Line). key_of other.text) (lines_in Defaults before)) x
@@ -51,8 +64,7 @@ pub record IsSeen (before : List Line) (seen : Seen) : Type 0 where
   pub units : (x : List ℕ) → is_among seen.units x ≡ is_among (names_in OperatingUnits before) x
   pub rates : (x : List ℕ) → is_among seen.rates x ≡ is_among (names_in Rates before) x
   pub exclusions : SameNames seen.exclusions (names_in Exclusions before)
-  pub named : (x : List ℕ) → is_among seen.unit_names x ≡ is_among (units_before before) x
-  pub counted : length seen.unit_names ≡ length (distinct (units_before before))
+  pub unit_names : Counted seen.unit_names (units_before before)
 
 pub none_seen : IsSeen [] seen_none
 none_seen = record {
@@ -62,8 +74,7 @@ none_seen = record {
   units = λ x. refl;
   rates = λ x. refl;
   exclusions = record { among = λ x. refl; long = refl };
-  named = λ x. refl;
-  counted = refl;
+  unit_names = record { among = λ x. refl; counted = refl };
 }
 
 -- how many more, where the name is among the others or not
@@ -119,68 +130,49 @@ with_counted : (b : Bool) (names : List (List ℕ)) (n : List ℕ) → length (i
 with_counted true names n = omega arith
 with_counted false names n = length-append names (n ∷ []) ∙ omega arith
 
-module _ (names before after : List (List ℕ)) (n : List ℕ) (named : (x : List ℕ) → is_among names x ≡ is_among before x) (more : (x : List ℕ) → is_among after x ≡ (bytes_eq n x || is_among before x)) where
-  unit_named : (x : List ℕ) → is_among (with_name names n) x ≡ is_among after x
-  unit_named x = with_named (is_among names n) names n x refl ∙ ap (λ b. bytes_eq n x || b) (named x) ∙ sym (more x)
+with_more : (names before after : List (List ℕ)) (n : List ℕ) → Counted names before → ((x : List ℕ) → is_among after x ≡ (bytes_eq n x || is_among before x)) → length (distinct after) ≡ one_if_new (is_among before n) + length (distinct before)
+    → Counted (with_name names n) after
+with_more names before after n is more rise = record {
+  among = λ x. with_named (is_among names n) names n x refl ∙ ap (λ b. bytes_eq n x || b) (is.among x) ∙ sym (more x);
+  counted = with_counted (is_among names n) names n ∙ (λ i. one_if_new (is.among n i) + is.counted i) ∙ sym rise;
+}
 
-  unit_counted : length names ≡ length (distinct before) → length (distinct after) ≡ one_if_new (is_among before n) + length (distinct before) → length (with_name names n) ≡ length (distinct after)
-  unit_counted counted rise =
-      with_counted (is_among names n) names n
-      ∙ ap (λ (b : Bool). one_if_new b + length names) (named n)
-      ∙ ap (λ (k : ℕ). one_if_new (is_among before n) + k) counted
-      ∙ sym rise
+-- with one more line of units or of rates
+units_more : (u r : Bool) (names : List (List ℕ)) (line : Line) (us rs : List Line) → (u && r) ≡ false → Counted names (map name_of us ++ map name_of rs)
+    → Counted (if u || r then with_name names line.name else names) (map name_of (if u then line ∷ us else us) ++ map name_of (if r then line ∷ rs else rs))
+units_more true true names line us rs e is = cc
+units_more true false names line us rs e is =
+    let all : List (List ℕ) = map name_of us ++ map name_of rs in
+    with_more names all (line.name ∷ all) line.name is (λ x. refl) (distinct_more (is_among all line.name) line.name all)
+units_more false true names line us rs e is =
+    with_more names (map name_of us ++ map name_of rs) (map name_of us ++ line.name ∷ map name_of rs) line.name is (among_middle (map name_of us) (map name_of rs) line.name) (count_middle (map name_of us) (map name_of rs) line.name)
+units_more false false names line us rs e is = is
 
 module _ (before : List Line) (seen : Seen) (is : IsSeen before seen) where
   abbrev at : Bool → Section → ℕ → List ℕ → Placed
   at header section number text = record { number = number; section = section; header = header; text = text }
 
   header_seen : (section : Section) (number : ℕ) (text : List ℕ) → IsSeen (taken_apart (at true section number text) ∷ before) (seen_after seen (at true section number text))
-  header_seen Preamble number text = record { headers = λ x. among_end seen.headers (head_of text) x ∙ ap (λ b. bytes_eq (head_of text) x || b) (is.headers x); keys = is.keys; materials = is.materials; units = is.units; rates = is.rates; exclusions = is.exclusions; named = is.named; counted = is.counted }
-  header_seen MeasurementUnits number text = record { headers = λ x. among_end seen.headers (head_of text) x ∙ ap (λ b. bytes_eq (head_of text) x || b) (is.headers x); keys = is.keys; materials = is.materials; units = is.units; rates = is.rates; exclusions = is.exclusions; named = is.named; counted = is.counted }
-  header_seen Defaults number text = record { headers = λ x. among_end seen.headers (head_of text) x ∙ ap (λ b. bytes_eq (head_of text) x || b) (is.headers x); keys = is.keys; materials = is.materials; units = is.units; rates = is.rates; exclusions = is.exclusions; named = is.named; counted = is.counted }
-  header_seen Materials number text = record { headers = λ x. among_end seen.headers (head_of text) x ∙ ap (λ b. bytes_eq (head_of text) x || b) (is.headers x); keys = is.keys; materials = is.materials; units = is.units; rates = is.rates; exclusions = is.exclusions; named = is.named; counted = is.counted }
-  header_seen OperatingUnits number text = record { headers = λ x. among_end seen.headers (head_of text) x ∙ ap (λ b. bytes_eq (head_of text) x || b) (is.headers x); keys = is.keys; materials = is.materials; units = is.units; rates = is.rates; exclusions = is.exclusions; named = is.named; counted = is.counted }
-  header_seen Rates number text = record { headers = λ x. among_end seen.headers (head_of text) x ∙ ap (λ b. bytes_eq (head_of text) x || b) (is.headers x); keys = is.keys; materials = is.materials; units = is.units; rates = is.rates; exclusions = is.exclusions; named = is.named; counted = is.counted }
-  header_seen Exclusions number text = record { headers = λ x. among_end seen.headers (head_of text) x ∙ ap (λ b. bytes_eq (head_of text) x || b) (is.headers x); keys = is.keys; materials = is.materials; units = is.units; rates = is.rates; exclusions = is.exclusions; named = is.named; counted = is.counted }
+  header_seen Preamble number text = record { headers = λ x. among_end seen.headers (head_of text) x ∙ ap (λ b. bytes_eq (head_of text) x || b) (is.headers x); keys = is.keys; materials = is.materials; units = is.units; rates = is.rates; exclusions = is.exclusions; unit_names = is.unit_names }
+  header_seen MeasurementUnits number text = record { headers = λ x. among_end seen.headers (head_of text) x ∙ ap (λ b. bytes_eq (head_of text) x || b) (is.headers x); keys = is.keys; materials = is.materials; units = is.units; rates = is.rates; exclusions = is.exclusions; unit_names = is.unit_names }
+  header_seen Defaults number text = record { headers = λ x. among_end seen.headers (head_of text) x ∙ ap (λ b. bytes_eq (head_of text) x || b) (is.headers x); keys = is.keys; materials = is.materials; units = is.units; rates = is.rates; exclusions = is.exclusions; unit_names = is.unit_names }
+  header_seen Materials number text = record { headers = λ x. among_end seen.headers (head_of text) x ∙ ap (λ b. bytes_eq (head_of text) x || b) (is.headers x); keys = is.keys; materials = is.materials; units = is.units; rates = is.rates; exclusions = is.exclusions; unit_names = is.unit_names }
+  header_seen OperatingUnits number text = record { headers = λ x. among_end seen.headers (head_of text) x ∙ ap (λ b. bytes_eq (head_of text) x || b) (is.headers x); keys = is.keys; materials = is.materials; units = is.units; rates = is.rates; exclusions = is.exclusions; unit_names = is.unit_names }
+  header_seen Rates number text = record { headers = λ x. among_end seen.headers (head_of text) x ∙ ap (λ b. bytes_eq (head_of text) x || b) (is.headers x); keys = is.keys; materials = is.materials; units = is.units; rates = is.rates; exclusions = is.exclusions; unit_names = is.unit_names }
+  header_seen Exclusions number text = record { headers = λ x. among_end seen.headers (head_of text) x ∙ ap (λ b. bytes_eq (head_of text) x || b) (is.headers x); keys = is.keys; materials = is.materials; units = is.units; rates = is.rates; exclusions = is.exclusions; unit_names = is.unit_names }
 
   entry_seen : (section : Section) (number : ℕ) (text : List ℕ) → IsSeen (taken_apart (at false section number text) ∷ before) (seen_after seen (at false section number text))
-  entry_seen Preamble number text = record { headers = is.headers; keys = is.keys; materials = is.materials; units = is.units; rates = is.rates; exclusions = is.exclusions; named = is.named; counted = is.counted }
-  entry_seen MeasurementUnits number text = record { headers = is.headers; keys = is.keys; materials = is.materials; units = is.units; rates = is.rates; exclusions = is.exclusions; named = is.named; counted = is.counted }
-  entry_seen Defaults number text = record {
-    headers = is.headers;
-    keys = among_more seen.keys (map (λ (other : Line). key_of other.text) (lines_in Defaults before)) (key_of text) is.keys;
-    materials = is.materials;
-    units = is.units;
-    rates = is.rates;
-    exclusions = is.exclusions;
-    named = is.named;
-    counted = is.counted;
-  }
-  entry_seen Materials number text = record { headers = is.headers; keys = is.keys; materials = same_more seen.materials (names_in Materials before) (head_of text) is.materials; units = is.units; rates = is.rates; exclusions = is.exclusions; named = is.named; counted = is.counted }
-  entry_seen OperatingUnits number text = record {
-    headers = is.headers;
-    keys = is.keys;
-    materials = is.materials;
-    units = among_more seen.units (names_in OperatingUnits before) (head_of text) is.units;
-    rates = is.rates;
-    exclusions = is.exclusions;
-    named = unit_named seen.unit_names (units_before before) (head_of text ∷ units_before before) (head_of text) is.named (λ x. refl);
-    counted = unit_counted seen.unit_names (units_before before) (head_of text ∷ units_before before) (head_of text) is.named (λ x. refl) is.counted (distinct_more (is_among (units_before before) (head_of text)) (head_of text) (units_before before));
-  }
-  entry_seen Rates number text =
-      let us : List (List ℕ) = names_in OperatingUnits before in
-      let rs : List (List ℕ) = names_in Rates before in
+  entry_seen section number text =
+      let line : Line = taken_apart (at false section number text) in
       record {
         headers = is.headers;
-        keys = is.keys;
-        materials = is.materials;
-        units = is.units;
-        rates = among_more seen.rates rs (head_of text) is.rates;
-        exclusions = is.exclusions;
-        named = unit_named seen.unit_names (us ++ rs) (us ++ head_of text ∷ rs) (head_of text) is.named (among_middle us rs (head_of text));
-        counted = unit_counted seen.unit_names (us ++ rs) (us ++ head_of text ∷ rs) (head_of text) is.named (among_middle us rs (head_of text)) is.counted (count_middle us rs (head_of text));
+        keys = among_more (is_in Defaults line) (λ (other : Line). key_of other.text) seen.keys line (lines_in Defaults before) is.keys;
+        materials = same_more (is_in Materials line) seen.materials line (lines_in Materials before) is.materials;
+        units = among_more (is_in OperatingUnits line) name_of seen.units line (lines_in OperatingUnits before) is.units;
+        rates = among_more (is_in Rates line) name_of seen.rates line (lines_in Rates before) is.rates;
+        exclusions = same_more (is_in Exclusions line) seen.exclusions line (lines_in Exclusions before) is.exclusions;
+        unit_names = units_more (is_in OperatingUnits line) (is_in Rates line) seen.unit_names line (lines_in OperatingUnits before) (lines_in Rates before) (apart section false) is.unit_names;
       }
-  entry_seen Exclusions number text = record { headers = is.headers; keys = is.keys; materials = is.materials; units = is.units; rates = is.rates; exclusions = same_more seen.exclusions (names_in Exclusions before) (head_of text) is.exclusions; named = is.named; counted = is.counted }
 
   any_seen : (header : Bool) (section : Section) (number : ℕ) (text : List ℕ) → IsSeen (taken_apart (at header section number text) ∷ before) (seen_after seen (at header section number text))
   any_seen true section number text = header_seen section number text

@@ -1,5 +1,5 @@
 -- Only at a faulty rate can a kind of rates stand.
-use Rattle.std.proofs.Common.{◌≡◌, ◌&&◌, ◌||◌, Bool, true, false, not, List, [], ◌∷◌, Result, Ok, Err, ℤ, pos, negsuc, int_lt, refl, ap, ◌∙◌, arith}
+use Rattle.std.proofs.Common.{◌≡◌, ◌&&◌, ◌||◌, Bool, true, false, cond, not, find, Option, Some, None, List, [], ◌∷◌, Result, Ok, Err, ℤ, pos, negsuc, int_lt, refl, ap, ◌∙◌, arith}
 use Rattle.std.specs.List.{list_any}
 use Rattle.std.proofs.lemmas.Bool.{le-ltb}
 use Rattle.std.specs.Result.{result_unwrap_or}
@@ -30,16 +30,17 @@ none_stands Negative term e = not_low (millionths term.0) e
 none_stands ZeroRate term e = and_none (not (int_lt (millionths term.0) (pos 0))) (not (int_lt (pos 0) (millionths term.0))) e
 none_stands kind term e = refl
 
-first_none : (a b : Bool) → (a || b) ≡ false → a ≡ false
-first_none true b e = cc
-first_none false b e = refl
+either : (a b c d : Bool) → (a ≡ false → c ≡ false) → (b ≡ false → d ≡ false) → (a || b) ≡ false → (c || d) ≡ false
+either true b c d first rest e = cc
+either false b true d first rest e = let off : true ≡ false = first refl in cc
+either false b false d first rest e = rest e
 
-rest_none : (a b : Bool) → (a || b) ≡ false → b ≡ false
-rest_none true b e = cc
-rest_none false b e = e
-
-pub no_rate_stands : (kind : TextKind) (terms : List Pair) → list_any is_faulty terms ≡ false → list_any (rate_stands kind) terms ≡ false
+no_rate_stands : (kind : TextKind) (terms : List Pair) → list_any is_faulty terms ≡ false → list_any (rate_stands kind) terms ≡ false
 no_rate_stands kind [] e = refl
 no_rate_stands kind (term ∷ terms) e =
-    ap (λ (b : Bool). b || list_any (rate_stands kind) terms) (none_stands kind term (first_none (is_faulty term) (list_any is_faulty terms) e))
-    ∙ no_rate_stands kind terms (rest_none (is_faulty term) (list_any is_faulty terms) e)
+    either (is_faulty term) (list_any is_faulty terms) (rate_stands kind term) (list_any (rate_stands kind) terms) (none_stands kind term) (no_rate_stands kind terms) e
+
+pub no_kind_stands : (terms : List Pair) (kinds : List TextKind) → list_any is_faulty terms ≡ false → find (λ kind. list_any (rate_stands kind) terms) kinds ≡ None
+no_kind_stands terms [] e = refl
+no_kind_stands terms (kind ∷ kinds) e =
+    ap (λ (b : Bool). cond b (Some kind) (find (λ kind. list_any (rate_stands kind) terms) kinds)) (no_rate_stands kind terms e) ∙ no_kind_stands terms kinds e

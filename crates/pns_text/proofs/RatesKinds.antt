@@ -1,23 +1,28 @@
 -- The kinds of form at a line of rates, by what was seen before it, are those of the grammar.
-use Rattle.std.proofs.Common.{◌≡◌, ◌==◌, ◌&&◌, ◌||◌, Bool, true, false, cond, not, nat_le, ℕ, List, [], ◌∷◌, ◌++◌, length, map, filter, flat_map, codes, find, Option, Some, None, if◌then◌else◌, refl, sym, ◌∙◌, ap, arith}
-use Rattle.std.specs.List.{list_any}
+use Rattle.std.proofs.Common.{◌≡◌, ◌==◌, ◌&&◌, ◌||◌, Bool, true, false, cond, not, nat_le, int_lt, pos, ℕ, List, [], ◌∷◌, ◌++◌, length, map, filter, flat_map, codes, find, Option, Some, None, if◌then◌else◌, refl, sym, ◌∙◌, ap, arith}
+use Rattle.std.specs.List.{list_any, slice_split}
 use Rattle.std.specs.Str.{bytes_eq}
 use Rattle.std.proofs.lemmas.Bool.{ne_eqb}
 use Rattle.std.proofs.lemmas.List.{length-map}
 use Rattle.std.proofs.lemmas.List.Folds.{list_any-append}
-use Rattle.problem_rules.specs.Names.{is_name, is_among, has_double, distinct}
+use Rattle.problem_rules.specs.Names.{is_name, is_among, has_double}
 use Rattle.text_rules.specs.declared.TextKind.{TextKind}
-use Rattle.text_rules.specs.declared.TextKind.TheVariants.{BadLine, BadNumber, TooFine, TooLarge, Negative, ZeroRate, DoubleTerm, BothSides, EmptySide, DoubleRates, TooMany}
+use Rattle.text_rules.specs.declared.TextKind.TheVariants.{BadLine, BadName, BadNumber, TooFine, TooLarge, Negative, ZeroRate, DoubleTerm, BothSides, EmptySide, DoubleRates, TooMany}
 use Rattle.text_rules.specs.declared.Section.TheVariants.{Rates}
 use Rattle.text_rules.specs.Line.{is_colon, head_of}
-use Rattle.text_rules.specs.Field.{Line, taken_apart, names_in, sides_of, material_of, rate_of, material_type, items_of}
-use Rattle.text_rules.specs.Fault.{stands, form_kinds}
+use Rattle.text_rules.specs.Field.{Line, taken_apart, names_in, tokens_of, terms_of, sides_of, material_of, rate_of, material_type, items_of}
+use Rattle.text_rules.specs.Amount.{amount_of}
+use Rattle.text_rules.specs.Blanks.{trim}
+use Rattle.text_rules.specs.Fault.{stands, form_kinds, is_bad, is_too_fine, is_too_large, millionths, may_be_negative}
 use Rattle.text_lines.specs.Terms.{Pair, pair_of, is_bad_term, has_bad_sides, sides_read}
 use Rattle.pns_text.specs.UnitLine.{is_beyond}
-use Rattle.pns_text.specs.RatesLine.{or_kind, names_of, rate_stands, term_stands, term_kinds, term_fault, doubled, whole_fault, sides_fault, rates_fault}
+use Rattle.pns_text.specs.Fault.{or_kind}
+use Rattle.pns_text.specs.RatesLine.{names_of, rate_stands, rate_kinds, term_fault, doubled, whole_fault, sides_fault}
 use Rattle.pns_text.specs.Seen.{Seen}
-use Rattle.pns_text.proofs.Finding.{any_map, any_same, map_twice, or_none, and_true, find_same}
-use Rattle.pns_text.proofs.NamesBefore.{IsSeen, units_before}
+use Rattle.text_laws.proofs.PrintedAmount.{after_none}
+use Rattle.pns_text.proofs.Finding.{any_map, any_same, map_twice, or_none, and_true}
+use Rattle.pns_text.proofs.FormKinds.{beyond}
+use Rattle.pns_text.proofs.NamesBefore.{IsSeen}
 
 -- tests of the terms of both sides
 both_terms : (p : Pair → Bool) (left right : List (List (List ℕ))) → list_any p (map pair_of left ++ map pair_of right) ≡ list_any (λ term. p (pair_of term)) (left ++ (right ++ []))
@@ -59,29 +64,27 @@ find_append p (x ∷ xs) ys = at (p x) (find_append p xs ys) where
   at true more = refl
   at false more = more
 
+-- without a colon there are no two sides
+no_sides : (text : List ℕ) → list_any is_colon text ≡ false → (length (sides_of text) == 2) ≡ false
+no_sides text none = ap (λ (behind : List ℕ). length (map terms_of (slice_split (λ token. bytes_eq token (codes "=>")) (tokens_of (trim behind)))) == 2) (after_none is_colon text none)
+
+abbrev term_kinds : List TextKind
+term_kinds = BadName ∷ rate_kinds
+
 module _ (before : List Line) (seen : Seen) (is : IsSeen before seen) where
   -- a line of rates with these sides
   abbrev line_with : ℕ → List ℕ → List (List (List (List ℕ))) → Line
   line_with number text sides = record { number = number; section = Rates; header = false; text = text; name = head_of text; items = items_of text; sides = sides }
 
   term_part : (number : ℕ) (text : List ℕ) (left right : List (List (List ℕ))) → term_fault (head_of text) (map pair_of left) (map pair_of right) ≡ find (stands before (line_with number text (left ∷ right ∷ []))) term_kinds
-  term_part number text left right =
-      find_same (term_stands (head_of text) (map pair_of left) (map pair_of right)) (stands before (line_with number text (left ∷ right ∷ []))) term_kinds (
-        ap (λ (b : Bool). not (is_name (head_of text)) || b) (both_terms (λ term. not (is_name term.1)) left right) ∙ no_more_left (not (is_name (head_of text))) (list_any (λ term. not (is_name (material_of term))) (left ++ (right ++ []))),
-        (
-          rates_any (rate_stands BadNumber) _ left right (λ term. refl),
-          (
-            rates_any (rate_stands TooFine) _ left right (λ term. refl),
-            (
-              rates_any (rate_stands TooLarge) _ left right (λ term. refl),
-              (
-                rates_any (rate_stands Negative) _ left right (λ term. sym (and_true (rate_stands Negative (pair_of term)))),
-                (rates_any (rate_stands ZeroRate) _ left right (λ term. refl), tt),
-              ),
-            ),
-          ),
-        ),
-      )
+  term_part number text left right = λ i.
+      if (ap (λ (b : Bool). not (is_name (head_of text)) || b) (both_terms (λ term. not (is_name term.1)) left right) ∙ no_more_left (not (is_name (head_of text))) (list_any (λ term. not (is_name (material_of term))) (left ++ (right ++ [])))) i then Some BadName
+      else if rates_any (rate_stands BadNumber) (λ field. is_bad (amount_of field.1)) left right (λ term. refl) i then Some BadNumber
+      else if rates_any (rate_stands TooFine) (λ field. is_too_fine (amount_of field.1)) left right (λ term. refl) i then Some TooFine
+      else if rates_any (rate_stands TooLarge) (λ field. is_too_large (amount_of field.1)) left right (λ term. refl) i then Some TooLarge
+      else if rates_any (rate_stands Negative) (λ field. int_lt (millionths field.1) (pos 0) && not (may_be_negative field.0)) left right (λ term. sym (and_true (rate_stands Negative (pair_of term)))) i then Some Negative
+      else if rates_any (rate_stands ZeroRate) (λ field. not (int_lt (millionths field.1) (pos 0)) && not (int_lt (pos 0) (millionths field.1))) left right (λ term. refl) i then Some ZeroRate
+      else None
 
   doubled_part : (number : ℕ) (text : List ℕ) (left right : List (List (List ℕ))) → doubled (map pair_of left) (map pair_of right) ≡ find (stands before (line_with number text (left ∷ right ∷ []))) (DoubleTerm ∷ BothSides ∷ [])
   doubled_part number text left right =
@@ -96,16 +99,11 @@ module _ (before : List Line) (seen : Seen) (is : IsSeen before seen) where
       ∙ ap (λ (n : ℕ). length left == 0 || n == 0) (length-map right pair_of)
       ∙ ap (λ (b : Bool). length left == 0 || b) (sym (or_none (length right == 0)))
 
-  beyond : (name : List ℕ) → is_beyond seen.unit_names name ≡ (not (is_among (units_before before) name) && nat_le 128 (length (distinct (units_before before))))
-  beyond name =
-      ap (λ (b : Bool). not b && nat_le 128 (length seen.unit_names)) (is.named name)
-      ∙ ap (λ (k : ℕ). not (is_among (units_before before) name) && nat_le 128 k) is.counted
-
   whole_part : (number : ℕ) (text : List ℕ) (left right : List (List (List ℕ))) → whole_fault seen.rates seen.unit_names (head_of text) (map pair_of left) (map pair_of right) ≡ find (stands before (line_with number text (left ∷ right ∷ []))) (EmptySide ∷ DoubleRates ∷ TooMany ∷ [])
   whole_part number text left right =
       ap (λ (b : Bool). whole_by b (is_among seen.rates (head_of text)) (is_beyond seen.unit_names (head_of text))) (same_empty left right)
       ∙ ap (λ (b : Bool). whole_by (length left == 0 || (length right == 0 || false)) b (is_beyond seen.unit_names (head_of text))) (is.rates (head_of text))
-      ∙ ap (λ (b : Bool). whole_by (length left == 0 || (length right == 0 || false)) (is_among (names_in Rates before) (head_of text)) b) (beyond (head_of text)) where
+      ∙ ap (λ (b : Bool). whole_by (length left == 0 || (length right == 0 || false)) (is_among (names_in Rates before) (head_of text)) b) (beyond before seen is (head_of text)) where
         whole_by : Bool → Bool → Bool → Option TextKind
         whole_by empty again many = if empty then Some EmptySide else if again then Some DoubleRates else if many then Some TooMany else None
 
@@ -122,11 +120,10 @@ module _ (before : List Line) (seen : Seen) (is : IsSeen before seen) where
   abbrev later_kinds : List TextKind
   later_kinds = term_kinds ++ ((DoubleTerm ∷ BothSides ∷ []) ++ (EmptySide ∷ DoubleRates ∷ TooMany ∷ []))
 
-  bad_form : (colon two any : Bool) (rest : Option TextKind) → (if colon then (if (not two || any) then Some BadLine else rest) else Some BadLine) ≡ (if ((not colon || not two) || any) then Some BadLine else rest)
-  bad_form true true true rest = refl
-  bad_form true true false rest = refl
-  bad_form true false any rest = refl
-  bad_form false two any rest = refl
+  bad_form : (colon two any : Bool) (rest : Option TextKind) → (colon ≡ false → two ≡ false) → (if not two || any then Some BadLine else rest) ≡ (if ((not colon || not two) || any) then Some BadLine else rest)
+  bad_form true two any rest none = refl
+  bad_form false true any rest none = let off : true ≡ false = none refl in cc
+  bad_form false false any rest none = refl
 
   unless_bad : (name : List ℕ) (b : Bool) (sides : Option (List Pair × List Pair)) → sides_fault seen.rates seen.unit_names name (if b then None else sides) ≡ (if b then Some BadLine else sides_fault seen.rates seen.unit_names name sides)
   unless_bad name true sides = refl
@@ -150,10 +147,7 @@ module _ (before : List Line) (seen : Seen) (is : IsSeen before seen) where
       unless_bad (head_of text) (has_bad_sides all) (Some (map pair_of left, map pair_of right))
       ∙ if_bad (has_bad_sides all) (sides_fault seen.rates seen.unit_names (head_of text) (Some (map pair_of left, map pair_of right))) (find (stands before (line_with number text all)) later_kinds) bad
 
-  rates_with : (number : ℕ) (text : List ℕ) (sides : List (List (List (List ℕ)))) → rates_fault seen.rates seen.unit_names (head_of text) text sides ≡ find (stands before (line_with number text sides)) form_kinds
-  rates_with number text sides =
-      ap (λ (kind : Option TextKind). if list_any is_colon text then kind else Some BadLine) (sides_kind number text sides)
-      ∙ bad_form (list_any is_colon text) (length sides == 2) (list_any is_bad_term (flat_map (λ side. side) sides)) (find (stands before (line_with number text sides)) later_kinds)
-
-  pub rates_kind : (number : ℕ) (text : List ℕ) → rates_fault seen.rates seen.unit_names (head_of text) text (sides_of text) ≡ find (stands before (taken_apart (record { number = number; section = Rates; header = false; text = text }))) form_kinds
-  rates_kind number text = rates_with number text (sides_of text)
+  pub rates_kind : (number : ℕ) (text : List ℕ) → sides_fault seen.rates seen.unit_names (head_of text) (sides_read (sides_of text)) ≡ find (stands before (taken_apart (record { number = number; section = Rates; header = false; text = text }))) form_kinds
+  rates_kind number text =
+      sides_kind number text (sides_of text)
+      ∙ bad_form (list_any is_colon text) (length (sides_of text) == 2) (list_any is_bad_term (flat_map (λ side. side) (sides_of text))) (find (stands before (line_with number text (sides_of text))) later_kinds) (no_sides text)

@@ -41,6 +41,13 @@ abbrev pub walked : Walk → List (List ℕ) → Walk
 walked w [] = w
 walked w (text ∷ texts) = if length text == 0 then walked (record w { number = w.number + 1 }) texts else walked (walk_past w (placed_at w.number w.section text)) texts
 
+not_empty : (c : ℕ) (cs : List ℕ) → (length (c ∷ cs) == 0) ≡ false
+not_empty c cs = ne_eqb (suc (length cs)) 0 (λ e. omega (arith, e))
+
+-- behind a line that is not empty
+pub walked_full : (w : Walk) (c : ℕ) (cs : List ℕ) (texts : List (List ℕ)) → walked w ((c ∷ cs) ∷ texts) ≡ walked (walk_past w (placed_at w.number w.section (c ∷ cs))) texts
+walked_full w c cs texts = cond-false (length (c ∷ cs) == 0) (walked (record w { number = w.number + 1 }) texts) (walked (walk_past w (placed_at w.number w.section (c ∷ cs))) texts) (not_empty c cs)
+
 abbrev goes : ℕ → Option TextKind → Option Fault → Option Fault
 goes number None rest = rest
 goes number (Some kind) rest = Some (number, kind)
@@ -51,6 +58,9 @@ first_step before line lines = by (find (stands before line) form_kinds) where
   by None = refl
   by (Some kind) = refl
 
+standing_full : (line : Placed) (rest : List Placed) → (length line.text == 0) ≡ false → standing (line ∷ rest) ≡ line ∷ standing rest
+standing_full line rest full = ap (λ (b : Bool). if not b then line ∷ standing rest else standing rest) full
+
 -- the first fault of form of the lines from here on
 abbrev pub found : Walk → List (List ℕ) → List Line → Option Fault
 found w texts before = first_of stands form_kinds before (map taken_apart (standing (placed_from w.number w.section texts)))
@@ -60,36 +70,31 @@ after_line : (w next : Walk) (number : ℕ) (texts : List (List ℕ)) (fault : O
 after_line w next number texts fault None more = more
 after_line w next number texts fault (Some kind) more = refl
 
-not_empty : (c : ℕ) (cs : List ℕ) → (length (c ∷ cs) == 0) ≡ false
-not_empty c cs = ne_eqb (suc (length cs)) 0 (λ e. omega (arith, e))
-
 -- a line that is not empty
-full_line : (w : Walk) (text : List ℕ) (texts : List (List ℕ)) (before : List Line) → (length text == 0) ≡ false → IsSeen before w.seen
-    → walk_from (walk_past w (placed_at w.number w.section text)) texts ≡ ending (found (walk_past w (placed_at w.number w.section text)) texts (taken_apart (placed_at w.number w.section text) ∷ before)) (Ok (walked (walk_past w (placed_at w.number w.section text)) texts))
-    → walk_from w (text ∷ texts) ≡ ending (found w (text ∷ texts) before) (Ok (walked w (text ∷ texts)))
-full_line w text texts before full is more =
+full_line : (w : Walk) (c : ℕ) (cs : List ℕ) (texts : List (List ℕ)) (before : List Line) → IsSeen before w.seen
+    → walk_from (walk_past w (placed_at w.number w.section (c ∷ cs))) texts ≡ ending (found (walk_past w (placed_at w.number w.section (c ∷ cs))) texts (taken_apart (placed_at w.number w.section (c ∷ cs)) ∷ before)) (Ok (walked (walk_past w (placed_at w.number w.section (c ∷ cs))) texts))
+    → walk_from w ((c ∷ cs) ∷ texts) ≡ ending (found w ((c ∷ cs) ∷ texts) before) (Ok (walked w ((c ∷ cs) ∷ texts)))
+full_line w c cs texts before is more =
+    let text : List ℕ = c ∷ cs in
     let line : Placed = placed_at w.number w.section text in
     let next : Walk = walk_past w line in
     let rest : List Placed = placed_from (w.number + 1) (section_after w.section text) texts in
     let kind : Option TextKind = find (stands before (taken_apart line)) form_kinds in
     let fault : Option Fault = found next texts (taken_apart line ∷ before) in
-    let one : step w text ≡ take_line w line = cond-false (length text == 0) (Ok (record w { number = w.number + 1 })) (take_line w line) full in
-    let kept : standing (line ∷ rest) ≡ line ∷ standing rest = ap (λ (b : Bool). if not b then line ∷ standing rest else standing rest) full in
-    let last : walked w (text ∷ texts) ≡ walked next texts = cond-false (length text == 0) (walked (record w { number = w.number + 1 }) texts) (walked next texts) full in
+    let one : step w text ≡ take_line w line = cond-false (length text == 0) (Ok (record w { number = w.number + 1 })) (take_line w line) (not_empty c cs) in
     walk_step w text texts
     ∙ ap (λ (r : Result Walk Fault). or_walk r texts) one
     ∙ ap (λ (o : Option TextKind). or_walk (or_fault w.number o next) texts) (kind_at before w.seen is line)
     ∙ after_line w next w.number texts fault kind more
     ∙ ap (λ (o : Option Fault). ending o (Ok (walked next texts))) (sym (first_step before (taken_apart line) (map taken_apart (standing rest))))
-    ∙ ap (λ (lines : List Placed). ending (first_of stands form_kinds before (map taken_apart lines)) (Ok (walked next texts))) (sym kept)
-    ∙ ap (λ (v : Walk). ending (found w (text ∷ texts) before) (Ok v)) (sym last)
+    ∙ (λ i. ending (first_of stands form_kinds before (map taken_apart (sym (standing_full line rest (not_empty c cs)) i))) (Ok (sym (walked_full w c cs texts) i)))
 
 walk_ends : (texts : List (List ℕ)) (w : Walk) (before : List Line) → IsSeen before w.seen → walk_from w texts ≡ ending (found w texts before) (Ok (walked w texts))
 walk_ends [] w before is = refl
 walk_ends ([] ∷ texts) w before is = walk_ends texts (record w { number = w.number + 1 }) before is
 walk_ends ((c ∷ cs) ∷ texts) w before is =
-    full_line w (c ∷ cs) texts before (not_empty c cs) is
-    (walk_ends texts (walk_past w (placed_at w.number w.section (c ∷ cs))) (taken_apart (placed_at w.number w.section (c ∷ cs)) ∷ before) (seen_more before w.seen is (placed_at w.number w.section (c ∷ cs))))
+    let line : Placed = placed_at w.number w.section (c ∷ cs) in
+    full_line w c cs texts before is (walk_ends texts (walk_past w line) (taken_apart line ∷ before) (seen_more before w.seen is line))
 
 typed : (b : Bool) (fault : Option Fault) (reading whole : Result Walk Fault) → whole ≡ ending fault reading → (if b then whole else Err (1, FileType)) ≡ ending (if b then fault else Some (1, FileType)) reading
 typed true fault reading whole e = e
@@ -114,24 +119,17 @@ pub walked_keeps : (texts : List (List ℕ)) (w : Walk) → (walked w texts).kep
 walked_keeps [] w = sym (append-nil w.kept)
 walked_keeps ([] ∷ texts) w = walked_keeps texts (record w { number = w.number + 1 })
 walked_keeps ((c ∷ cs) ∷ texts) w =
-    let text : List ℕ = c ∷ cs in
-    let line : Placed = placed_at w.number w.section text in
-    let next : Walk = walk_past w line in
-    let rest : List Placed = placed_from (w.number + 1) (section_after w.section text) texts in
-    let kept : standing (line ∷ rest) ≡ line ∷ standing rest = ap (λ (b : Bool). if not b then line ∷ standing rest else standing rest) (not_empty c cs) in
-    let last : walked w (text ∷ texts) ≡ walked next texts = cond-false (length text == 0) (walked (record w { number = w.number + 1 }) texts) (walked next texts) (not_empty c cs) in
-    ap (λ (v : Walk). v.kept) last
-    ∙ walked_keeps texts next
+    let line : Placed = placed_at w.number w.section (c ∷ cs) in
+    let rest : List Placed = placed_from (w.number + 1) (section_after w.section (c ∷ cs)) texts in
+    ap (λ (v : Walk). v.kept) (walked_full w c cs texts)
+    ∙ walked_keeps texts (walk_past w line)
     ∙ keep_one (matters line) w.kept line (filter matters (standing rest))
-    ∙ ap (λ (lines : List Placed). w.kept ++ filter matters lines) (sym kept)
+    ∙ ap (λ (lines : List Placed). w.kept ++ filter matters lines) (sym (standing_full line rest (not_empty c cs)))
 
 -- the number of the next line
 pub walked_counts : (texts : List (List ℕ)) (w : Walk) → (walked w texts).number ≡ w.number + length texts
 walked_counts [] w = omega arith
 walked_counts ([] ∷ texts) w = let more = walked_counts texts (record w { number = w.number + 1 }) in omega (arith, more)
 walked_counts ((c ∷ cs) ∷ texts) w =
-    let text : List ℕ = c ∷ cs in
-    let next : Walk = walk_past w (placed_at w.number w.section text) in
-    let last : walked w (text ∷ texts) ≡ walked next texts = cond-false (length text == 0) (walked (record w { number = w.number + 1 }) texts) (walked next texts) (not_empty c cs) in
-    let more = ap (λ (v : Walk). v.number) last ∙ walked_counts texts next in
+    let more = ap (λ (v : Walk). v.number) (walked_full w c cs texts) ∙ walked_counts texts (walk_past w (placed_at w.number w.section (c ∷ cs))) in
     omega (arith, more)

@@ -1,5 +1,5 @@
 -- Lines that a walk keeps, each cut once: what was cut of a line is what the grammar takes it apart into.
-use Rattle.std.specs.Prelude.{◌≡◌, ℕ, true, false, List, Option, Some, None}
+use Rattle.std.specs.Prelude.{◌≡◌, ℕ, true, false, List, Option, Some, None, Result, Ok, Err}
 use Rattle.problem_rules.specs.Names.{is_name, has_double}
 use Rattle.text_rules.specs.declared.Section.{Section}
 use Rattle.text_rules.specs.declared.Section.TheVariants.{Defaults, Materials, OperatingUnits, Rates, Exclusions}
@@ -7,6 +7,10 @@ use Rattle.text_rules.specs.Line.{Placed, head_of}
 use Rattle.text_rules.specs.Field.{items_of, sides_of}
 use Rattle.text_lines.specs.View.{texts}
 use Rattle.text_lines.specs.Terms.{sides_view, sides_read}
+use Rattle.text_lines.specs.declared.fault.TextFault.{TextFault}
+use Rattle.text_rules.specs.declared.TextKind.{TextKind}
+use Rattle.pns_text.specs.Fault.{TellsKind}
+use Rattle.pns_text.specs.Seen.{Seen, seen_after, line_fault}
 use Rattle.pns_text.specs.Walk.{matters}
 use Rattle.pns_text.specs.declared.cut.Cut.{Cut}
 use Rattle.pns_text.specs.declared.cut.Cut.TheVariants.{Default, Material, OperatingUnit, Flows, Exclusion}
@@ -50,3 +54,14 @@ pub record IsCutAt (line : Placed) (cut : Cut) : Type 0 where
 abbrev pub Keeps : Placed → Option Cut → Type 0
 Keeps line None = matters line ≡ false
 Keeps line (Some cut) = IsCutAt line cut
+
+-- a line was taken that has no fault, and what was cut of it
+pub record IsTaken (old : Seen) (line : Placed) (new : Seen) (cut : Option Cut) : Type 0 where
+  pub none : line_fault old line ≡ None
+  pub seen : new ≡ seen_after old line
+  pub kept : Keeps line cut
+
+-- or it is told why not
+abbrev pub Takes : Seen → Placed → Seen → Result (Option Cut) (TextFault TextKind) → Type 0
+Takes old line new (Ok cut) = IsTaken old line new cut
+Takes old line new (Err fault) = TellsKind line.number (line_fault old line) fault

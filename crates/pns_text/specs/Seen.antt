@@ -1,5 +1,5 @@
 -- What was seen on the lines before a line, and the kind of form at the line by it.
-use Rattle.std.specs.Prelude.{ℕ, List, [], ◌∷◌, ◌++◌, Option, Some, None, is_none, if◌then◌else◌}
+use Rattle.std.specs.Prelude.{◌||◌, ℕ, Bool, List, [], ◌∷◌, ◌++◌, Option, Some, None, is_none, if◌then◌else◌}
 use Rattle.problem_rules.specs.Names.{is_among}
 use Rattle.text_rules.specs.declared.TextKind.{TextKind}
 use Rattle.text_rules.specs.declared.TextKind.TheVariants.{UnknownSection, DoubleSection, BadLine}
@@ -10,7 +10,9 @@ use Rattle.text_rules.specs.Field.{has_key, key_of, items_of, sides_of}
 use Rattle.text_lines.specs.Once.{with_name}
 use Rattle.pns_text.specs.MaterialLine.{material_fault}
 use Rattle.pns_text.specs.UnitLine.{unit_fault}
-use Rattle.pns_text.specs.RatesLine.{rates_fault}
+use Rattle.text_lines.specs.Terms.{sides_read}
+use Rattle.pns_text.specs.Kept.{is_at}
+use Rattle.pns_text.specs.RatesLine.{sides_fault}
 use Rattle.pns_text.specs.ExclusionLine.{exclusion_fault}
 use Rattle.pns_text.specs.DefaultLine.{default_fault}
 
@@ -27,18 +29,21 @@ pub record Seen : Type 0 where
 abbrev pub seen_none : Seen
 seen_none = record { headers = []; keys = []; materials = []; units = []; rates = []; exclusions = []; unit_names = [] }
 
-abbrev pub seen_entry : Seen → Section → List ℕ → Seen
-seen_entry seen Preamble text = seen
-seen_entry seen MeasurementUnits text = seen
-seen_entry seen Defaults text = record seen { keys = seen.keys ++ key_of text ∷ [] }
-seen_entry seen Materials text = record seen { materials = seen.materials ++ head_of text ∷ [] }
-seen_entry seen OperatingUnits text = record seen { units = seen.units ++ head_of text ∷ []; unit_names = with_name seen.unit_names (head_of text) }
-seen_entry seen Rates text = record seen { rates = seen.rates ++ head_of text ∷ []; unit_names = with_name seen.unit_names (head_of text) }
-seen_entry seen Exclusions text = record seen { exclusions = seen.exclusions ++ head_of text ∷ [] }
+-- one more name at the end, where there is one
+abbrev pub more_if : Bool → List (List ℕ) → List ℕ → List (List ℕ)
+more_if b names name = if b then names ++ name ∷ [] else names
 
 -- what was seen with the line
 abbrev pub seen_after : Seen → Placed → Seen
-seen_after seen line = if line.header then record seen { headers = seen.headers ++ head_of line.text ∷ [] } else seen_entry seen line.section line.text
+seen_after seen line = if line.header then record seen { headers = seen.headers ++ head_of line.text ∷ [] } else record {
+  headers = seen.headers;
+  keys = more_if (is_at Defaults line) seen.keys (key_of line.text);
+  materials = more_if (is_at Materials line) seen.materials (head_of line.text);
+  units = more_if (is_at OperatingUnits line) seen.units (head_of line.text);
+  rates = more_if (is_at Rates line) seen.rates (head_of line.text);
+  exclusions = more_if (is_at Exclusions line) seen.exclusions (head_of line.text);
+  unit_names = if is_at OperatingUnits line || is_at Rates line then with_name seen.unit_names (head_of line.text) else seen.unit_names;
+}
 
 -- the kind of form at a header of this name
 abbrev pub header_fault : List (List ℕ) → List ℕ → Option TextKind
@@ -55,7 +60,7 @@ entry_fault seen MeasurementUnits text = skipped_fault text
 entry_fault seen Defaults text = default_fault seen.keys text
 entry_fault seen Materials text = material_fault seen.materials (head_of text) (items_of text)
 entry_fault seen OperatingUnits text = unit_fault seen.units seen.unit_names (head_of text) (items_of text)
-entry_fault seen Rates text = rates_fault seen.rates seen.unit_names (head_of text) text (sides_of text)
+entry_fault seen Rates text = sides_fault seen.rates seen.unit_names (head_of text) (sides_read (sides_of text))
 entry_fault seen Exclusions text = exclusion_fault seen.exclusions text (head_of text) (items_of text)
 
 -- at any line

@@ -1,38 +1,47 @@
 //! The form of a line of defaults.
-ghost use Rattle.std.specs.Prelude.{◌≡◌, ◌&&◌, not};
+ghost use Rattle.std.specs.Prelude.{◌≡◌, ◌&&◌, find, not};
 ghost use Rattle.std.specs.Str.{bytes_eq};
 ghost use Rattle.problem_rules.specs.Names.{is_among};
-ghost use Rattle.text_rules.specs.Field.{default_keys, key_of, value_of, kind_words, material_type, payout_period};
+ghost use Rattle.text_rules.specs.Field.{key_of, value_of, kind_words, material_type, payout_period};
 ghost use Rattle.text_rules.specs.Fault.{is_payout, millionths};
 ghost use Rattle.text_lines.specs.View.{texts};
 ghost use Rattle.pns_text.specs.DefaultLine.{default_fault, default_number_stands};
 
-use crate::item::value_stands;
-use text_lines::amount::read_amount;
+use crate::item::{NUMBER_KINDS, value_stands};
+use text_lines::amount::{millionths, read_amount};
 use text_lines::field::{has_key, is_kind_word, key_of, value_of};
 use text_lines::name::is_among;
 use text_rules::TextKind;
 
-fn is_default_key(key: &[u8]) -> bool
-    ensures { result ≡ is_among default_keys key.now }
-{
-    b"material_type".as_slice() == key
-        || b"payout_period".as_slice() == key
-        || b"material_price".as_slice() == key
-        || b"material_flow_rate_lower_bound".as_slice() == key
-        || b"material_flow_rate_upper_bound".as_slice() == key
-        || b"operating_unit_capacity_lower_bound".as_slice() == key
-        || b"operating_unit_capacity_upper_bound".as_slice() == key
-        || b"operating_unit_fix_cost".as_slice() == key
-        || b"operating_unit_proportional_cost".as_slice() == key
-        || b"operating_unit_investment_fix_cost".as_slice() == key
-        || b"operating_unit_investment_proportional_cost".as_slice() == key
-}
+const DEFAULT_KEYS: [&[u8]; 11] = [
+    b"material_type",
+    b"payout_period",
+    b"material_price",
+    b"material_flow_rate_lower_bound",
+    b"material_flow_rate_upper_bound",
+    b"operating_unit_capacity_lower_bound",
+    b"operating_unit_capacity_upper_bound",
+    b"operating_unit_fix_cost",
+    b"operating_unit_proportional_cost",
+    b"operating_unit_investment_fix_cost",
+    b"operating_unit_investment_proportional_cost",
+];
 
 fn number_stands(kind: TextKind, text: &[u8]) -> bool
     ensures { result ≡ default_number_stands kind text.now }
 {
-    key_of(text) != b"material_type".as_slice() && value_stands(kind, key_of(text), value_of(text))
+    let amount = read_amount(value_of(text));
+    key_of(text) != b"material_type".as_slice() && value_stands(kind, key_of(text), amount)
+}
+
+// The first of the kinds that stands at the value, where it is a number.
+fn first_at_number(kinds: &[TextKind], text: &[u8]) -> Option<TextKind>
+    ensures { result ≡ find (λ kind. default_number_stands kind text.now) kinds.now }
+{
+    kinds
+        .iter()
+        .copied()
+        .find(|kind| number_stands(*kind, text))
 }
 
 fn is_unknown_kind(text: &[u8]) -> bool
@@ -45,10 +54,8 @@ fn is_unknown_kind(text: &[u8]) -> bool
 fn is_payout(text: &[u8]) -> bool
     ensures { result ≡ is_payout (millionths text.now) }
 {
-    match read_amount(text) {
-        Ok(amount) => 0 < amount && amount % 1_000_000 == 0 && amount <= 100_000_000,
-        Err(_) => false,
-    }
+    let amount = millionths(text);
+    0 < amount && amount % 1_000_000 == 0 && amount <= 100_000_000
 }
 
 fn is_bad_payout(text: &[u8]) -> bool
@@ -64,23 +71,14 @@ pub(crate) fn default_fault(keys: &[&[u8]], text: &[u8]) -> Option<TextKind>
     if !has_key(text) {
         return Some(TextKind::BadLine);
     }
-    if !is_default_key(key_of(text)) {
+    if !is_among(&DEFAULT_KEYS, key_of(text)) {
         return Some(TextKind::UnknownKey);
     }
     if is_among(keys, key_of(text)) {
         return Some(TextKind::DoubleKey);
     }
-    if number_stands(TextKind::BadNumber, text) {
-        return Some(TextKind::BadNumber);
-    }
-    if number_stands(TextKind::TooFine, text) {
-        return Some(TextKind::TooFine);
-    }
-    if number_stands(TextKind::TooLarge, text) {
-        return Some(TextKind::TooLarge);
-    }
-    if number_stands(TextKind::Negative, text) {
-        return Some(TextKind::Negative);
+    if let Some(kind) = first_at_number(&NUMBER_KINDS, text) {
+        return Some(kind);
     }
     if is_unknown_kind(text) {
         return Some(TextKind::UnknownKind);

@@ -1,12 +1,12 @@
 //! The items of a line, each cut once, and what stands at them.
-ghost use Rattle.std.specs.Prelude.{◌≡◌, ◌==◌, ◌<◌, ◌+◌, IfOk, drop, length, option_map};
+ghost use Rattle.std.specs.Prelude.{◌≡◌, ◌==◌, ◌<◌, ◌+◌, true, IfOk, IfNone, drop, find, length, option_map};
 ghost use Rattle.std.specs.List.{list_any};
-ghost use Rattle.problem_rules.specs.Names.{is_among, has_double};
-ghost use Rattle.text_rules.specs.Amount.{amount_of};
-ghost use Rattle.text_rules.specs.Field.{has_key, key_of, value_of, is_keyed, kind_words, items_of, material_keys, unit_keys};
-ghost use Rattle.text_rules.specs.Fault.{millionths, may_be_negative};
+ghost use Rattle.problem_rules.specs.Names.{is_name, is_among, has_double};
+ghost use Rattle.text_rules.specs.Field.{has_key, key_of, value_of, is_keyed, kind_words, items_of};
+ghost use Rattle.text_rules.specs.Fault.{millionths};
 ghost use Rattle.text_rules.specs.Value.{value_at};
-ghost use Rattle.pns_text.specs.Item.{field_key, field_value, has_number, number_stands, value_stands, item_stands, has_unknown_key, keys_in};
+ghost use Rattle.text_lines.specs.View.{texts};
+ghost use Rattle.pns_text.specs.Item.{field_key, field_value, has_number, number_stands, value_stands, item_stands, has_unknown_key, keys_in, fields_fault};
 ghost use Rattle.pns_text.specs.Kept.{item_fields};
 
 use std::alloc::{AllocError, Global};
@@ -14,6 +14,7 @@ use std::marker::Model;
 use text_lines::amount::read_amount;
 use text_lines::field::{self, is_kind_word};
 use text_lines::line::{has_colon, place_of, tail_of, trim};
+use text_lines::name::{is_among, is_name};
 use text_rules::TextKind;
 
 /// An item of a line, cut at its first equals sign, with the number that its value spells. Contracts see its text.
@@ -131,21 +132,11 @@ impl<'a> Item<'a> {
         self.value
     }
 
-    /// The number that the value spells, in millionths, or why it spells none.
-    pub(crate) fn amount(&self) -> Result<i64, TextKind>
-        ensures { result ≡ amount_of (field_value self.now) }
-    {
-        self.amount
-    }
-
     /// The number that the value spells, which is 0 where it spells none.
     pub(crate) fn number(&self) -> i64
         ensures { result ≡ millionths (field_value self.now) }
     {
-        match self.amount() {
-            Ok(amount) => amount,
-            Err(_) => 0,
-        }
+        self.amount.unwrap_or(0)
     }
 
     // An item whose value is a number.
@@ -155,35 +146,10 @@ impl<'a> Item<'a> {
         self.is_keyed() && self.field_key() != b"material_type".as_slice()
     }
 
-    // Whether the kind stands at the value, whatever the key.
-    fn number_stands(&self, kind: TextKind) -> bool
-        ensures { result ≡ number_stands kind (field_value self.now) }
-    {
-        match kind {
-            TextKind::BadNumber => matches!(self.amount(), Err(TextKind::BadNumber)),
-            TextKind::TooFine => matches!(self.amount(), Err(TextKind::TooFine)),
-            TextKind::TooLarge => matches!(self.amount(), Err(TextKind::TooLarge)),
-            TextKind::Negative => self.number() < 0,
-            _ => false,
-        }
-    }
-
-    // Whether the kind stands at the value, by its key.
-    fn value_stands(&self, kind: TextKind) -> bool
-        ensures { result ≡ value_stands kind (field_key self.now) (field_value self.now) }
-    {
-        match kind {
-            TextKind::Negative => {
-                self.number_stands(TextKind::Negative) && !may_be_negative(self.field_key())
-            }
-            _ => self.number_stands(kind),
-        }
-    }
-
     fn item_stands(&self, kind: TextKind) -> bool
         ensures { result ≡ item_stands kind self.now }
     {
-        self.has_number() && self.value_stands(kind)
+        self.has_number() && value_stands(kind, self.field_key(), self.amount)
     }
 }
 
@@ -227,78 +193,75 @@ pub(crate) fn field_at<'b, 'a>(items: &'b [Item<'a>], key: &[u8]) -> Option<&'b 
     None
 }
 
-/// Whether the kind stands at the number, whatever its key.
-pub(crate) fn number_stands(kind: TextKind, text: &[u8]) -> bool
-    ensures { result ≡ number_stands kind text.now }
+/// The kinds that may stand at any number.
+pub(crate) const NUMBER_KINDS: [TextKind; 4] = [
+    TextKind::BadNumber,
+    TextKind::TooFine,
+    TextKind::TooLarge,
+    TextKind::Negative,
+];
+
+/// Whether the kind stands at a number that was read so, whatever its key.
+pub(crate) fn number_stands(kind: TextKind, amount: Result<i64, TextKind>) -> bool
+    ensures { result ≡ number_stands kind amount }
 {
     match kind {
-        TextKind::BadNumber => matches!(read_amount(text), Err(TextKind::BadNumber)),
-        TextKind::TooFine => matches!(read_amount(text), Err(TextKind::TooFine)),
-        TextKind::TooLarge => matches!(read_amount(text), Err(TextKind::TooLarge)),
-        TextKind::Negative => is_negative(text),
+        TextKind::BadNumber => matches!(amount, Err(TextKind::BadNumber)),
+        TextKind::TooFine => matches!(amount, Err(TextKind::TooFine)),
+        TextKind::TooLarge => matches!(amount, Err(TextKind::TooLarge)),
+        TextKind::Negative => amount.unwrap_or(0) < 0,
+        TextKind::ZeroRate => amount.unwrap_or(0) == 0,
         _ => false,
     }
 }
 
-fn is_negative(text: &[u8]) -> bool
-    ensures { result ≡ number_stands TextKind.Negative text.now }
-{
-    match read_amount(text) {
-        Ok(amount) => amount < 0,
-        Err(_) => false,
-    }
-}
-
 // The keys whose values may be below 0, or whose negative values have a kind of their own.
-fn may_be_negative(key: &[u8]) -> bool
-    ensures { result ≡ may_be_negative key.now }
-{
-    b"price".as_slice() == key
-        || b"proportional_cost".as_slice() == key
-        || b"investment_proportional_cost".as_slice() == key
-        || b"material_price".as_slice() == key
-        || b"operating_unit_proportional_cost".as_slice() == key
-        || b"operating_unit_investment_proportional_cost".as_slice() == key
-        || b"payout_period".as_slice() == key
-}
+const MAY_BE_NEGATIVE: [&[u8]; 7] = [
+    b"price",
+    b"proportional_cost",
+    b"investment_proportional_cost",
+    b"material_price",
+    b"operating_unit_proportional_cost",
+    b"operating_unit_investment_proportional_cost",
+    b"payout_period",
+];
 
-/// Whether the kind stands at the value, by its key.
-pub(crate) fn value_stands(kind: TextKind, key: &[u8], value: &[u8]) -> bool
-    ensures { result ≡ value_stands kind key.now value.now }
+/// Whether the kind stands at a number that was read so, by its key.
+pub(crate) fn value_stands(kind: TextKind, key: &[u8], amount: Result<i64, TextKind>) -> bool
+    ensures { result ≡ value_stands kind key.now amount }
 {
     match kind {
-        TextKind::Negative => is_negative(value) && !may_be_negative(key),
-        _ => number_stands(kind, value),
+        TextKind::Negative => number_stands(kind, amount) && !is_among(&MAY_BE_NEGATIVE, key),
+        _ => number_stands(kind, amount),
     }
 }
 
-/// Whether the kind stands at the value of an item.
-pub(crate) fn some_item_stands(kind: TextKind, items: &[Item<'_>]) -> bool
+fn some_item_stands(kind: TextKind, items: &[Item<'_>]) -> bool
     ensures { result ≡ list_any (item_stands kind) items.now }
 {
-    for item in items {
-        if item.item_stands(kind) {
-            return true;
-        }
-    }
-    false
+    items.iter().any(|item| item.item_stands(kind))
+}
+
+// The first of the kinds that stands at the value of an item.
+fn first_at_items(kinds: &[TextKind], items: &[Item<'_>]) -> Option<TextKind>
+    ensures { result ≡ find (λ kind. list_any (item_stands kind) items.now) kinds.now }
+{
+    kinds
+        .iter()
+        .copied()
+        .find(|kind| some_item_stands(*kind, items))
 }
 
 /// Whether an item is empty.
 pub(crate) fn some_empty(items: &[Item<'_>]) -> bool
     ensures { result ≡ list_any (λ item. length item == 0) items.now }
 {
-    for item in items {
-        if item.is_empty() {
-            return true;
-        }
-    }
-    false
+    items.iter().any(|item| item.is_empty())
 }
 
-/// Whether a key comes twice. It looks behind each item that has a key, of which a line without unknown keys has few
-/// before the second of a pair.
-pub(crate) fn some_double_key(items: &[Item<'_>]) -> bool
+// Whether a key comes twice. It looks behind each item that has a key, of which a line without unknown keys has few
+// before the second of a pair.
+fn some_double_key(items: &[Item<'_>]) -> bool
     ensures { result ≡ has_double (keys_in items.now) }
 {
     for i in 0..items.len() {
@@ -320,45 +283,28 @@ fn has_field(items: &[Item<'_>], key: &[u8]) -> bool
     false
 }
 
-fn is_material_key(key: &[u8]) -> bool
-    ensures { result ≡ is_among material_keys key.now }
+// Whether an item has a key that is none of these.
+fn some_unknown_key(keys: &[&[u8]], items: &[Item<'_>]) -> bool
+    ensures { result ≡ list_any (has_unknown_key (texts keys.now)) items.now }
 {
-    b"price".as_slice() == key
-        || b"flow_rate_lower_bound".as_slice() == key
-        || b"flow_rate_upper_bound".as_slice() == key
+    items
+        .iter()
+        .any(|item| item.has_key() && !is_among(keys, item.key()))
 }
 
-fn is_unit_key(key: &[u8]) -> bool
-    ensures { result ≡ is_among unit_keys key.now }
+/// The first kind that stands at the name or at the fields of a line of items, which may have these keys.
+pub(crate) fn fields_kind(keys: &[&[u8]], name: &[u8], items: &[Item<'_>]) -> Option<TextKind>
+    ensures kind { result ≡ fields_fault (texts keys.now) name.now items.now }
+    ensures named { IfNone result (is_name name.now ≡ true) }
 {
-    b"capacity_lower_bound".as_slice() == key
-        || b"capacity_upper_bound".as_slice() == key
-        || b"fix_cost".as_slice() == key
-        || b"proportional_cost".as_slice() == key
-        || b"investment_fix_cost".as_slice() == key
-        || b"investment_proportional_cost".as_slice() == key
-}
-
-/// Whether an item has a key that is none of a material's.
-pub(crate) fn some_unknown_material_key(items: &[Item<'_>]) -> bool
-    ensures { result ≡ list_any (has_unknown_key material_keys) items.now }
-{
-    for item in items {
-        if item.has_key() && !is_material_key(item.key()) {
-            return true;
-        }
+    if !is_name(name) {
+        return Some(TextKind::BadName);
     }
-    false
-}
-
-/// Whether an item has a key that is none of a unit's.
-pub(crate) fn some_unknown_unit_key(items: &[Item<'_>]) -> bool
-    ensures { result ≡ list_any (has_unknown_key unit_keys) items.now }
-{
-    for item in items {
-        if item.has_key() && !is_unit_key(item.key()) {
-            return true;
-        }
+    if some_unknown_key(keys, items) {
+        return Some(TextKind::UnknownKey);
     }
-    false
+    if some_double_key(items) {
+        return Some(TextKind::DoubleKey);
+    }
+    first_at_items(&NUMBER_KINDS, items)
 }

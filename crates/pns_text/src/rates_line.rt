@@ -1,24 +1,28 @@
 //! The form of a line of rates.
-ghost use Rattle.std.specs.Prelude.{◌≡◌, ◌++◌, [], Some, None, IfOk, IfErr, OnOk, not};
+ghost use Rattle.std.specs.Prelude.{◌≡◌, ◌++◌, true, false, Some, IfOk, IfNone, find, not};
 ghost use Rattle.std.specs.List.{list_any};
 ghost use Rattle.problem_rules.specs.Names.{is_name, is_among};
-ghost use Rattle.text_rules.specs.Line.{head_of};
-ghost use Rattle.text_rules.specs.Field.{sides_of};
 ghost use Rattle.text_lines.specs.View.{texts};
-ghost use Rattle.text_lines.specs.Terms.{term_view, terms_view, sides_view, sides_read};
-ghost use Rattle.pns_text.specs.Fault.{TellsKind};
-ghost use Rattle.pns_text.specs.RatesLine.{names_of, rate_stands, is_faulty, doubled, term_fault, whole_fault, sides_fault, rates_fault};
+ghost use Rattle.text_lines.specs.Terms.{term_view, terms_view, sides_view};
+ghost use Rattle.pns_text.specs.Fault.{IsNew};
+ghost use Rattle.pns_text.specs.RatesLine.{names_of, rate_stands, is_faulty, doubled, term_fault, whole_fault, sides_fault};
 
-use crate::fault::TextFault;
 use crate::item::number_stands;
 use crate::unit_line::is_beyond;
 use std::alloc::{AllocError, Global};
-use text_lines::amount::read_amount;
-use text_lines::line::{has_colon, head_of};
+use text_lines::amount::{millionths, read_amount};
 use text_lines::name::is_name;
 use text_lines::name_set::{NameSet, once};
-use text_lines::term::{Sides, Term, sides_of};
+use text_lines::term::{Sides, Term};
 use text_rules::TextKind;
+
+const RATE_KINDS: [TextKind; 5] = [
+    TextKind::BadNumber,
+    TextKind::TooFine,
+    TextKind::TooLarge,
+    TextKind::Negative,
+    TextKind::ZeroRate,
+];
 
 fn some_bad_name(terms: &[Term<'_>]) -> bool
     ensures { result ≡ list_any (λ term. not (is_name term.1)) (terms_view terms.now) }
@@ -31,22 +35,10 @@ fn some_bad_name(terms: &[Term<'_>]) -> bool
     false
 }
 
-fn is_zero(text: &[u8]) -> bool
-    ensures { result ≡ rate_stands TextKind.ZeroRate (text.now, []) }
-{
-    match read_amount(text) {
-        Ok(amount) => amount == 0,
-        Err(_) => true,
-    }
-}
-
 fn rate_stands(kind: TextKind, term: &Term<'_>) -> bool
     ensures { result ≡ rate_stands kind (term_view term.now) }
 {
-    match kind {
-        TextKind::ZeroRate => is_zero(term.number),
-        _ => number_stands(kind, term.number),
-    }
+    number_stands(kind, read_amount(term.number))
 }
 
 fn some_rate_stands(kind: TextKind, terms: &[Term<'_>]) -> bool
@@ -60,14 +52,31 @@ fn some_rate_stands(kind: TextKind, terms: &[Term<'_>]) -> bool
     false
 }
 
+fn stands_at_rates(kind: TextKind, sides: &Sides<'_>) -> bool
+    ensures { result ≡ list_any (rate_stands kind) ((sides_view sides.now).0 ++ (sides_view sides.now).1) }
+{
+    some_rate_stands(kind, &sides.inputs) || some_rate_stands(kind, &sides.outputs)
+}
+
+// The first of the kinds that stands at a rate. Only where some rate is faulty are they looked at by kind, so that a line
+// is read once.
+fn first_at_rates(kinds: &[TextKind], sides: &Sides<'_>) -> Option<TextKind>
+    ensures { result ≡ find (λ kind. list_any (rate_stands kind) ((sides_view sides.now).0 ++ (sides_view sides.now).1)) kinds.now }
+{
+    if !has_faulty(sides) {
+        return None;
+    }
+    kinds
+        .iter()
+        .copied()
+        .find(|kind| stands_at_rates(*kind, sides))
+}
+
 // No number above 0.
 fn is_faulty(term: &Term<'_>) -> bool
     ensures { result ≡ is_faulty (term_view term.now) }
 {
-    match read_amount(term.number) {
-        Ok(amount) => amount <= 0,
-        Err(_) => true,
-    }
+    millionths(term.number) <= 0
 }
 
 fn some_faulty(terms: &[Term<'_>]) -> bool
@@ -79,17 +88,6 @@ fn some_faulty(terms: &[Term<'_>]) -> bool
         }
     }
     false
-}
-
-// Whether the kind stands at a rate. Only where some rate is faulty are they looked at again, so that a line is read once.
-fn stands_at_rates(kind: TextKind, faulty: bool, sides: &Sides<'_>) -> bool
-    requires { faulty ≡ list_any is_faulty ((sides_view sides.now).0 ++ (sides_view sides.now).1) }
-    ensures { result ≡ list_any (rate_stands kind) ((sides_view sides.now).0 ++ (sides_view sides.now).1) }
-{
-    if !faulty {
-        return false;
-    }
-    some_rate_stands(kind, &sides.inputs) || some_rate_stands(kind, &sides.outputs)
 }
 
 fn has_faulty(sides: &Sides<'_>) -> bool
@@ -136,51 +134,31 @@ fn doubled<'a>(alloc: Global, sides: &Sides<'a>) -> Result<Option<TextKind>, All
     }
     let outputs = names_of(alloc, &sides.outputs)?;
     match once(alloc, &outputs)? {
-        Some(names) => {
-            if some_among(&names, &sides.inputs) {
-                Ok(Some(TextKind::BothSides))
-            } else {
-                Ok(None)
-            }
-        }
+        Some(names) => Ok(some_among(&names, &sides.inputs).then_some(TextKind::BothSides)),
         None => Ok(Some(TextKind::DoubleTerm)),
     }
 }
 
 // The kind that stands at the name or at the terms one by one.
 fn term_kind(name: &[u8], sides: &Sides<'_>) -> Option<TextKind>
-    ensures { result ≡ term_fault name.now (sides_view sides.now).0 (sides_view sides.now).1 }
+    ensures kind { result ≡ term_fault name.now (sides_view sides.now).0 (sides_view sides.now).1 }
+    ensures named { IfNone result (is_name name.now ≡ true) }
 {
     if !is_name(name) || has_bad_name(sides) {
         return Some(TextKind::BadName);
     }
-    let faulty = has_faulty(sides);
-    if stands_at_rates(TextKind::BadNumber, faulty, sides) {
-        return Some(TextKind::BadNumber);
-    }
-    if stands_at_rates(TextKind::TooFine, faulty, sides) {
-        return Some(TextKind::TooFine);
-    }
-    if stands_at_rates(TextKind::TooLarge, faulty, sides) {
-        return Some(TextKind::TooLarge);
-    }
-    if stands_at_rates(TextKind::Negative, faulty, sides) {
-        return Some(TextKind::Negative);
-    }
-    if stands_at_rates(TextKind::ZeroRate, faulty, sides) {
-        return Some(TextKind::ZeroRate);
-    }
-    None
+    first_at_rates(&RATE_KINDS, sides)
 }
 
 // The kind that stands at the whole line, behind the terms.
-fn unit_kind(
+fn whole_kind(
     names: &NameSet<'_>,
     seen: &NameSet<'_>,
     name: &[u8],
     sides: &Sides<'_>,
 ) -> Option<TextKind>
-    ensures { result ≡ whole_fault names.now seen.now name.now (sides_view sides.now).0 (sides_view sides.now).1 }
+    ensures kind { result ≡ whole_fault names.now seen.now name.now (sides_view sides.now).0 (sides_view sides.now).1 }
+    ensures new { IfNone result (is_among names.now name.now ≡ false) }
 {
     if sides.inputs.is_empty() || sides.outputs.is_empty() {
         return Some(TextKind::EmptySide);
@@ -194,14 +172,17 @@ fn unit_kind(
     None
 }
 
-fn sides_kind<'a>(
+/// The kind of form at the line of this name and these sides, behind lines of rates of these names; `seen` are all names of
+/// units.
+pub(crate) fn sides_kind<'a>(
     alloc: Global,
     names: &NameSet<'_>,
     seen: &NameSet<'_>,
     name: &[u8],
     sides: &Sides<'a>,
 ) -> Result<Option<TextKind>, AllocError>
-    ensures { IfOk result (λ kind. kind ≡ sides_fault names.now seen.now name.now (Some (sides_view sides.now))) }
+    ensures kind { IfOk result (λ kind. kind ≡ sides_fault names.now seen.now name.now (Some (sides_view sides.now))) }
+    ensures new { IfOk result (λ kind. IfNone kind (IsNew names.now name.now)) }
 {
     if let Some(kind) = term_kind(name, sides) {
         return Ok(Some(kind));
@@ -209,35 +190,8 @@ fn sides_kind<'a>(
     if let Some(kind) = doubled(alloc, sides)? {
         return Ok(Some(kind));
     }
-    Ok(unit_kind(names, seen, name, sides))
-}
-
-/// The sides of the line of rates that has the number, behind lines of rates of these names; `seen` are all names of units.
-pub(crate) fn rates_sides<'a>(
-    alloc: Global,
-    names: &NameSet<'_>,
-    seen: &NameSet<'_>,
-    number: u32,
-    text: &'a [u8],
-) -> Result<Sides<'a>, TextFault>
-    ensures sides { IfOk result (λ sides. Some (sides_view sides) ≡ sides_read (sides_of text.now)) }
-    ensures none { OnOk result (rates_fault names.now seen.now (head_of text.now) text.now (sides_of text.now) ≡ None) }
-    ensures fault { IfErr result (TellsKind number (rates_fault names.now seen.now (head_of text.now) text.now (sides_of text.now))) }
-{
-    if !has_colon(text) {
-        return Err(TextFault::At {
-            line: number,
-            kind: TextKind::BadLine,
-        });
+    if let Some(kind) = whole_kind(names, seen, name, sides) {
+        return Ok(Some(kind));
     }
-    match sides_of(alloc, text)? {
-        Some(sides) => match sides_kind(alloc, names, seen, head_of(text), &sides)? {
-            Some(kind) => Err(TextFault::At { line: number, kind }),
-            None => Ok(sides),
-        },
-        None => Err(TextFault::At {
-            line: number,
-            kind: TextKind::BadLine,
-        }),
-    }
+    Ok(None)
 }

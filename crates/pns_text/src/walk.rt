@@ -5,7 +5,7 @@ ghost use Rattle.text_lines.specs.Lines.{lines_from};
 ghost use Rattle.pns_text.specs.Cut.{Keeps};
 ghost use Rattle.text_lines.specs.Tells.{Tells};
 ghost use Rattle.pns_text.specs.View.{placed_view, walk_view};
-ghost use Rattle.pns_text.specs.Walk.{walk_start, kept_after, placed_at, take_line, step, walk_from, walk, HasNames};
+ghost use Rattle.pns_text.specs.Walk.{walk_start, kept_after, placed_at, take_line, step, walk_from, walk};
 
 use crate::cut::{Cut, Kept};
 use crate::fault::TextFault;
@@ -54,8 +54,7 @@ impl<'a> Walk<'a> {
         ensures next { OnOk result (self.new.number ≡ self.old.number + 1) }
         ensures fault { IfErr result (Tells (take_line (walk_view self.old) (placed_view line.now))) }
     {
-        let cut = self.seen.cut(alloc, line)?;
-        self.seen.note(line)?;
+        let cut = self.seen.take(alloc, line)?;
         keep(&mut self.kept, line, cut)?;
         self.section = line.section;
         self.number += 1;
@@ -118,28 +117,26 @@ fn walk_rest<'a>(alloc: Global, bytes: &'a [u8]) -> Result<Walk<'a>, TextFault>
     Ok(walk)
 }
 
+const NO_FILE_TYPE: TextFault = TextFault::At {
+    line: 1,
+    kind: TextKind::FileType,
+};
+
 /// The lines of the text that have a meaning, each cut once, and the names of materials, units and lines of rates, or the
 /// first fault of form.
 pub(crate) fn walk_text<'a>(alloc: Global, bytes: &'a [u8]) -> Result<Walk<'a>, TextFault>
     requires { length bytes.now < 2 ^ 32 - 1 }
     ensures ok { IfOk result (λ w. walk (lines_of bytes.now) ≡ Ok (walk_view w)) }
-    ensures names { IfOk result (λ w. HasNames (walk_view w)) }
     ensures fault { IfErr result (Tells (walk (lines_of bytes.now))) }
 {
     let bytes = without_mark(bytes);
     if bytes.is_empty() {
-        return Err(TextFault::At {
-            line: 1,
-            kind: TextKind::FileType,
-        });
+        return Err(NO_FILE_TYPE);
     }
     let (first, rest) = cut_line(bytes);
     if first == b"file_type=PNS_problem_v1".as_slice() {
         walk_rest(alloc, rest)
     } else {
-        Err(TextFault::At {
-            line: 1,
-            kind: TextKind::FileType,
-        })
+        Err(NO_FILE_TYPE)
     }
 }

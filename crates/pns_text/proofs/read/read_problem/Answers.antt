@@ -1,13 +1,14 @@
-use Rattle.std.proofs.Common.{◌≡◌, List, Result, Ok, IfOk, IfErr, subst, sym, ap, ◌∙◌}
+use Rattle.std.proofs.Common.{◌≡◌, List, length, Result, Ok, IfOk, IfErr, subst, sym, ap, ◌∙◌, arith}
 use Rattle.problem_rules.specs.Problem.{Problem}
-use Rattle.text_rules.specs.Line.{Placed}
+use Rattle.text_rules.specs.Line.{Placed, lines_of}
 use Rattle.text_rules.specs.Fault as rules
 use Rattle.text_rules.specs.Value.{read_text}
 use Rattle.text_lines.specs.Tells.{Tells}
 use Rattle.pns_text.specs.Reading.{meaning_at}
 use Rattle.pns_text.specs.Reading.{names_all}
 use Rattle.pns_text.specs.View.{walk_view}
-use Rattle.pns_text.proofs.WalkNames.{names_are}
+use Rattle.pns_text.specs.Walk.{Walk}
+use Rattle.pns_text.proofs.WalkNames.{names_walk, names_are}
 use Rattle.pns_text.proofs.ReadLaw.{readings, read_is, walk_tells}
 use Rattle.pns_text.proofs.read.read_problem.Goals as goal
 
@@ -27,7 +28,15 @@ pub returns-in-Err-clause-fault : goal.returns-in-Err-clause-fault
 returns-in-Err-clause-fault c = walk_tells c.in-Err.fault c.args.bytes.now c.in-Err.ensures.fault
 
 pub read_meaning-requires-clause-names : goal.read_meaning-requires-clause-names
-read_meaning-requires-clause-names c = names_are (walk_view c.in-Ok.walk) c.in-Ok.ensures.names ∙ ap names_all (sym c.deref.ensures.value)
+read_meaning-requires-clause-names c =
+    let w : Walk = walk_view c.in-Ok.walk in
+    names_are w (names_walk (lines_of c.args.bytes.now) w c.in-Ok.ensures.ok) ∙ ap names_all (sym c.deref.ensures.value)
+
+pub read_meaning-requires-clause-few : goal.read_meaning-requires-clause-few
+read_meaning-requires-clause-few c =
+    let counted = (names_walk (lines_of c.args.bytes.now) (walk_view c.in-Ok.walk) c.in-Ok.ensures.ok).counted in
+    let long : length c.deref.result.now ≡ length c.in-Ok.walk.kept.items = (λ i. length (c.deref.ensures.value i)) in
+    grind (arith, counted, long)
 
 pub read_meaning-requires-clause-valid : goal.read_meaning-requires-clause-valid
 read_meaning-requires-clause-valid c = λ p reads.

@@ -8,7 +8,6 @@ use Rattle.text_lines.specs.Tells.{Tells}
 use Rattle.pns_text.specs.View.{walk_view}
 use Rattle.pns_text.specs.Walk.{Walk, walk_start, walk_from, walk}
 use Rattle.pns_text.proofs.Walking.{walk-typed}
-use Rattle.pns_text.proofs.WalkNames.{names_read}
 use Rattle.pns_text.proofs.walk.walk_text.Goals as goal
 use Rattle.pns_text.proofs.walk.walk_text.Goals.{After-walk_rest}
 
@@ -25,7 +24,3 @@ returns-then-eq-clause-ok c =
 pub returns-then-eq-clause-fault : goal.returns-then-eq-clause-fault
 returns-then-eq-clause-fault c =
     subst (λ (reading : Result Walk rules.Fault). IfErr c.walk_rest.result (Tells reading)) (sym (whole c)) c.walk_rest.ensures.fault
-
-pub returns-then-eq-clause-names : goal.returns-then-eq-clause-names
-returns-then-eq-clause-names c =
-    names_read c.walk_rest.result (lines_of c.args.bytes.now) (walk_from walk_start (lines_from c.cut_line.result.1.now)) (whole c) c.walk_rest.ensures.ok
