@@ -15,7 +15,7 @@ use Rattle.text_rules.specs.Fault.{Fault, first_of, millionths}
 use Rattle.text_rules.specs.Value.{value_at, kind_of, material_read, term_read, side_of, unit_read, bare_rates, unit_names, exclusion_read, payout_of, problem_of, stands_in, meaning_kinds}
 use Rattle.text_lines.specs.Terms.{pair_of}
 use Rattle.pns_text.specs.Kept.{lines_at, heads_at, lines_apart, fields_at}
-use Rattle.pns_text.specs.Settings.{Settings, default_fields, number_or, kind_or, number_at, settings_of, payout_from, material_from, unit_from}
+use Rattle.pns_text.specs.Settings.{Settings, default_fields, number_or, kind_or, number_at, settings_from, settings_of, payout_from, material_from, unit_from}
 use Rattle.pns_text.specs.Meaning.{Names, is_unit_turned, has_unknown, is_unit, line_meaning, fault_or, first_meaning}
 use Rattle.pns_text.specs.Value.{materials_from, term_from, sides_or, sides_named, listed_unit, bare_unit, bare_lines, units_from, unit_names_from, exclusion_from, exclusions_from, problem_from}
 use Rattle.pns_text.specs.Reading.{names_all}
@@ -49,20 +49,7 @@ module _ (all : List Placed) where
   defaults_kept = ap (map (λ (line : Line). (key_of line.text, value_of line.text))) (lines_kept Defaults refl all ∙ sym (in_apart Defaults kept))
 
   settings_kept : settings_of lines ≡ settings_of (lines_apart kept)
-  settings_kept = ap by defaults_kept where
-    by : List (List ℕ × List ℕ) → Settings
-    by fields = record {
-      kind = kind_or (value_at material_type fields) intermediate;
-      price = number_at (for_material (codes "price")) fields (pos 0);
-      flow_lower = number_at (for_material (codes "flow_rate_lower_bound")) fields (pos 0);
-      flow_upper = number_at (for_material (codes "flow_rate_upper_bound")) fields (pos 1000000000000000);
-      capacity_lower = number_at (for_unit (codes "capacity_lower_bound")) fields (pos 0);
-      capacity_upper = number_at (for_unit (codes "capacity_upper_bound")) fields (pos 1000000000000000);
-      fix = number_at (for_unit (codes "fix_cost")) fields (pos 0);
-      proportional = number_at (for_unit (codes "proportional_cost")) fields (pos 0);
-      investment_fix = number_at (for_unit (codes "investment_fix_cost")) fields (pos 0);
-      investment_proportional = number_at (for_unit (codes "investment_proportional_cost")) fields (pos 0);
-    }
+  settings_kept = ap settings_from defaults_kept
 
   material_is : (number : ℕ) (text : List ℕ) → material_read lines (taken_apart (line_of Materials number text)) ≡ material_from s (head_of text) (fields_at text)
   material_is number text = λ i. record {

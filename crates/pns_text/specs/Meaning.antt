@@ -30,17 +30,11 @@ is_unit_turned s fields =
 abbrev pub material_kind : Settings → List (List ℕ × List ℕ) → Option TextKind
 material_kind s fields = if is_material_turned s fields then Some LowAboveHigh else None
 
-abbrev pub material_meaning : Settings → List ℕ → Option TextKind
-material_meaning s text = material_kind s (fields_at text)
-
 -- at a unit of this name and these fields
 abbrev pub unit_kind : Settings → Names → List ℕ → List (List ℕ × List ℕ) → Option TextKind
 unit_kind s names name fields =
     if is_unit_turned s fields then Some LowAboveHigh
     else if is_among names.rates name then None else Some NoRates
-
-abbrev pub unit_meaning : Settings → Names → List ℕ → Option TextKind
-unit_meaning s names text = unit_kind s names (head_of text) (fields_at text)
 
 -- some term is of a material that has no line
 abbrev pub has_unknown : List (List ℕ) → List (List (List (List ℕ))) → Bool
@@ -52,9 +46,6 @@ rates_kind s names name unknown =
     if not (is_among names.units name) && is_unit_turned s [] then Some LowAboveHigh
     else if unknown then Some UnknownMaterial else None
 
-abbrev pub rates_meaning : Settings → Names → List ℕ → Option TextKind
-rates_meaning s names text = rates_kind s names (head_of text) (has_unknown names.materials (sides_of text))
-
 abbrev pub is_unit : Names → List ℕ → Bool
 is_unit names item = is_among names.units item || is_among names.rates item
 
@@ -62,17 +53,14 @@ is_unit names item = is_among names.units item || is_among names.rates item
 abbrev pub exclusion_kind : Names → List (List ℕ) → Option TextKind
 exclusion_kind names members = if list_any (λ item. not (is_unit names item)) members then Some UnknownUnit else None
 
-abbrev pub exclusion_meaning : Names → List ℕ → Option TextKind
-exclusion_meaning names text = exclusion_kind names (items_of text)
-
 abbrev pub entry_meaning : Settings → Names → Section → List ℕ → Option TextKind
 entry_meaning s names Preamble text = None
 entry_meaning s names MeasurementUnits text = None
 entry_meaning s names Defaults text = None
-entry_meaning s names Materials text = material_meaning s text
-entry_meaning s names OperatingUnits text = unit_meaning s names text
-entry_meaning s names Rates text = rates_meaning s names text
-entry_meaning s names Exclusions text = exclusion_meaning names text
+entry_meaning s names Materials text = material_kind s (fields_at text)
+entry_meaning s names OperatingUnits text = unit_kind s names (head_of text) (fields_at text)
+entry_meaning s names Rates text = rates_kind s names (head_of text) (has_unknown names.materials (sides_of text))
+entry_meaning s names Exclusions text = exclusion_kind names (items_of text)
 
 abbrev pub line_meaning : Settings → Names → Placed → Option TextKind
 line_meaning s names line = if line.header then None else entry_meaning s names line.section line.text

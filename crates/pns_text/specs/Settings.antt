@@ -35,30 +35,31 @@ kind_or (Some word) default = kind_of word
 abbrev pub number_at : List ℕ → List (List ℕ × List ℕ) → ℤ → ℤ
 number_at key fields default = number_or (value_at key fields) default
 
-abbrev pub default_number : List Line → List ℕ → ℤ → ℤ
-default_number lines key built_in = number_at key (default_fields lines) built_in
-
 -- in millionths
 abbrev pub much : ℤ
 much = pos 1000000000000000
 
-abbrev pub settings_of : List Line → Settings
-settings_of lines = record {
-  kind = kind_or (value_at material_type (default_fields lines)) intermediate;
-  price = default_number lines (for_material (codes "price")) (pos 0);
-  flow_lower = default_number lines (for_material (codes "flow_rate_lower_bound")) (pos 0);
-  flow_upper = default_number lines (for_material (codes "flow_rate_upper_bound")) much;
-  capacity_lower = default_number lines (for_unit (codes "capacity_lower_bound")) (pos 0);
-  capacity_upper = default_number lines (for_unit (codes "capacity_upper_bound")) much;
-  fix = default_number lines (for_unit (codes "fix_cost")) (pos 0);
-  proportional = default_number lines (for_unit (codes "proportional_cost")) (pos 0);
-  investment_fix = default_number lines (for_unit (codes "investment_fix_cost")) (pos 0);
-  investment_proportional = default_number lines (for_unit (codes "investment_proportional_cost")) (pos 0);
+-- what these defaults give
+abbrev pub settings_from : List (List ℕ × List ℕ) → Settings
+settings_from fields = record {
+  kind = kind_or (value_at material_type fields) intermediate;
+  price = number_at (for_material (codes "price")) fields (pos 0);
+  flow_lower = number_at (for_material (codes "flow_rate_lower_bound")) fields (pos 0);
+  flow_upper = number_at (for_material (codes "flow_rate_upper_bound")) fields much;
+  capacity_lower = number_at (for_unit (codes "capacity_lower_bound")) fields (pos 0);
+  capacity_upper = number_at (for_unit (codes "capacity_upper_bound")) fields much;
+  fix = number_at (for_unit (codes "fix_cost")) fields (pos 0);
+  proportional = number_at (for_unit (codes "proportional_cost")) fields (pos 0);
+  investment_fix = number_at (for_unit (codes "investment_fix_cost")) fields (pos 0);
+  investment_proportional = number_at (for_unit (codes "investment_proportional_cost")) fields (pos 0);
 }
+
+abbrev pub settings_of : List Line → Settings
+settings_of lines = settings_from (default_fields lines)
 
 -- the payout period in whole years
 abbrev pub payout_from : List Line → ℤ
-payout_from lines = pos (unsigned_abs (default_number lines payout_period (pos 1000000)) / 1000000)
+payout_from lines = pos (unsigned_abs (number_at payout_period (default_fields lines) (pos 1000000)) / 1000000)
 
 abbrev pub material_from : Settings → List ℕ → List (List ℕ × List ℕ) → Material
 material_from s name fields = record {

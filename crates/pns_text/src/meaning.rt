@@ -64,10 +64,9 @@ impl<'a> Names<'a> {
 fn material_meaning(settings: &Settings, items: &[Item<'_>]) -> Option<TextKind>
     ensures { result ≡ material_kind (settings_view settings.now) (item_fields items.now) }
 {
-    if settings.is_material_turned(items) {
-        return Some(TextKind::LowAboveHigh);
-    }
-    None
+    settings
+        .is_material_turned(items)
+        .then_some(TextKind::LowAboveHigh)
 }
 
 fn unit_meaning(
@@ -117,10 +116,7 @@ fn rates_meaning(
     if !names.units.has(name) && settings.is_unit_turned(&[]) {
         return Some(TextKind::LowAboveHigh);
     }
-    if some_unknown_of(&names.materials, sides) {
-        return Some(TextKind::UnknownMaterial);
-    }
-    None
+    some_unknown_of(&names.materials, sides).then_some(TextKind::UnknownMaterial)
 }
 
 fn some_no_unit(names: &Names<'_>, items: &[&[u8]]) -> bool
@@ -137,10 +133,7 @@ fn some_no_unit(names: &Names<'_>, items: &[&[u8]]) -> bool
 fn exclusion_meaning(names: &Names<'_>, members: &[&[u8]]) -> Option<TextKind>
     ensures { result ≡ exclusion_kind (names_view names.now) (texts members.now) }
 {
-    if some_no_unit(names, members) {
-        return Some(TextKind::UnknownUnit);
-    }
-    None
+    some_no_unit(names, members).then_some(TextKind::UnknownUnit)
 }
 
 #[tactic(auto, using(crate::proofs::CutLines::meaning_cut))]

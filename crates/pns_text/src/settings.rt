@@ -5,7 +5,7 @@ ghost use Rattle.problem_rules.specs.Problem.{intermediate};
 ghost use Rattle.pns_problem.specs.Kind as kinds;
 ghost use Rattle.text_lines.specs.View.{texts};
 ghost use Rattle.pns_text.specs.Kept.{lines_apart, item_fields};
-ghost use Rattle.pns_text.specs.Settings.{settings_of, payout_from, default_fields, default_number, number_at, kind_or};
+ghost use Rattle.pns_text.specs.Settings.{settings_of, payout_from, default_fields, number_at, kind_or};
 ghost use Rattle.pns_text.specs.View.{settings_view};
 
 use crate::cut::Kept;
@@ -57,7 +57,7 @@ fn default_at<'a>(lines: &[Kept<'a>], key: &[u8]) -> Option<&'a [u8]>
 
 // The number of the default of this key, or else the table's own.
 fn default_number(lines: &[Kept<'_>], key: &[u8], built_in: i64) -> i64
-    ensures { result ≡ default_number (lines_apart lines.now) key.now built_in }
+    ensures { result ≡ number_at key.now (default_fields (lines_apart lines.now)) built_in }
 {
     match default_at(lines, key) {
         Some(text) => millionths(text),
@@ -65,8 +65,8 @@ fn default_number(lines: &[Kept<'_>], key: &[u8], built_in: i64) -> i64
     }
 }
 
-// The number of the first item of this key, or else the default.
-fn number_at(items: &[Item<'_>], key: &[u8], default: i64) -> i64
+/// The number of the first item of this key, or else the default.
+pub(crate) fn number_at(items: &[Item<'_>], key: &[u8], default: i64) -> i64
     ensures { result ≡ number_at key.now (item_fields items.now) default }
 {
     match field_at(items, key) {
@@ -75,22 +75,12 @@ fn number_at(items: &[Item<'_>], key: &[u8], default: i64) -> i64
     }
 }
 
-// The value of the first item of this key.
-fn value_at<'a>(items: &[Item<'a>], key: &[u8]) -> Option<&'a [u8]>
-    ensures { option_map (λ value. value.now) result ≡ value_at key.now (item_fields items.now) }
-{
-    match field_at(items, key) {
-        Some(item) => Some(item.value()),
-        None => None,
-    }
-}
-
 /// The kind of a material by its items, or else the default.
 pub(crate) fn kind_at(items: &[Item<'_>], default: Kind) -> Kind
     ensures { kinds.kind_of result ≡ kind_or (value_at (codes "material_type") (item_fields items.now)) (kinds.kind_of default) }
 {
-    match value_at(items, b"material_type".as_slice()) {
-        Some(word) => kind_named(word),
+    match field_at(items, b"material_type") {
+        Some(item) => kind_named(item.value()),
         None => default,
     }
 }
@@ -99,7 +89,7 @@ pub(crate) fn kind_at(items: &[Item<'_>], default: Kind) -> Kind
 fn default_kind(lines: &[Kept<'_>]) -> Kind
     ensures { kinds.kind_of result ≡ kind_or (value_at (codes "material_type") (default_fields (lines_apart lines.now))) intermediate }
 {
-    match default_at(lines, b"material_type".as_slice()) {
+    match default_at(lines, b"material_type") {
         Some(word) => kind_named(word),
         None => Kind::Intermediate,
     }
@@ -108,68 +98,27 @@ fn default_kind(lines: &[Kept<'_>]) -> Kind
 // 10^9 in millionths: the upper bounds that hold where nothing else is said.
 const MUCH: i64 = 1_000_000_000_000_000;
 
-// The keys of defaults.
-const MATERIAL_PRICE: &[u8] = b"material_price";
-
-const MATERIAL_FLOW_RATE_LOWER_BOUND: &[u8] = b"material_flow_rate_lower_bound";
-
-const MATERIAL_FLOW_RATE_UPPER_BOUND: &[u8] = b"material_flow_rate_upper_bound";
-
-const OPERATING_UNIT_CAPACITY_LOWER_BOUND: &[u8] = b"operating_unit_capacity_lower_bound";
-
-const OPERATING_UNIT_CAPACITY_UPPER_BOUND: &[u8] = b"operating_unit_capacity_upper_bound";
-
-const OPERATING_UNIT_FIX_COST: &[u8] = b"operating_unit_fix_cost";
-
-const OPERATING_UNIT_PROPORTIONAL_COST: &[u8] = b"operating_unit_proportional_cost";
-
-const OPERATING_UNIT_INVESTMENT_FIX_COST: &[u8] = b"operating_unit_investment_fix_cost";
-
-const OPERATING_UNIT_INVESTMENT_PROPORTIONAL_COST: &[u8] =
-    b"operating_unit_investment_proportional_cost";
-
 /// The settings that the lines of defaults give.
 pub(crate) fn settings_of(lines: &[Kept<'_>]) -> Settings
     ensures { settings_view result ≡ settings_of (lines_apart lines.now) }
 {
     Settings {
         kind: default_kind(lines),
-        price: default_number(lines, MATERIAL_PRICE, 0),
-        flow_lower: default_number(lines, MATERIAL_FLOW_RATE_LOWER_BOUND, 0),
-        flow_upper: default_number(lines, MATERIAL_FLOW_RATE_UPPER_BOUND, MUCH),
-        capacity_lower: default_number(lines, OPERATING_UNIT_CAPACITY_LOWER_BOUND, 0),
-        capacity_upper: default_number(lines, OPERATING_UNIT_CAPACITY_UPPER_BOUND, MUCH),
-        fix: default_number(lines, OPERATING_UNIT_FIX_COST, 0),
-        proportional: default_number(lines, OPERATING_UNIT_PROPORTIONAL_COST, 0),
-        investment_fix: default_number(lines, OPERATING_UNIT_INVESTMENT_FIX_COST, 0),
+        price: default_number(lines, b"material_price", 0),
+        flow_lower: default_number(lines, b"material_flow_rate_lower_bound", 0),
+        flow_upper: default_number(lines, b"material_flow_rate_upper_bound", MUCH),
+        capacity_lower: default_number(lines, b"operating_unit_capacity_lower_bound", 0),
+        capacity_upper: default_number(lines, b"operating_unit_capacity_upper_bound", MUCH),
+        fix: default_number(lines, b"operating_unit_fix_cost", 0),
+        proportional: default_number(lines, b"operating_unit_proportional_cost", 0),
+        investment_fix: default_number(lines, b"operating_unit_investment_fix_cost", 0),
         investment_proportional: default_number(
             lines,
-            OPERATING_UNIT_INVESTMENT_PROPORTIONAL_COST,
+            b"operating_unit_investment_proportional_cost",
             0,
         ),
     }
 }
-
-// The keys of materials and units, and that of the payout period.
-const PRICE: &[u8] = b"price";
-
-const FLOW_RATE_LOWER_BOUND: &[u8] = b"flow_rate_lower_bound";
-
-const FLOW_RATE_UPPER_BOUND: &[u8] = b"flow_rate_upper_bound";
-
-const CAPACITY_LOWER_BOUND: &[u8] = b"capacity_lower_bound";
-
-const CAPACITY_UPPER_BOUND: &[u8] = b"capacity_upper_bound";
-
-const FIX_COST: &[u8] = b"fix_cost";
-
-const PROPORTIONAL_COST: &[u8] = b"proportional_cost";
-
-const INVESTMENT_FIX_COST: &[u8] = b"investment_fix_cost";
-
-const INVESTMENT_PROPORTIONAL_COST: &[u8] = b"investment_proportional_cost";
-
-const PAYOUT_PERIOD: &[u8] = b"payout_period";
 
 // So many whole millions.
 fn millions(amount: i64) -> i64
@@ -182,71 +131,7 @@ fn millions(amount: i64) -> i64
 pub(crate) fn payout_of(lines: &[Kept<'_>]) -> i64
     ensures { result ≡ payout_from (lines_apart lines.now) }
 {
-    let amount = default_number(lines, PAYOUT_PERIOD, 1_000_000);
-    millions(amount)
-}
-
-/// The price of a material with these items, or else the default.
-pub(crate) fn price_at(items: &[Item<'_>], default: i64) -> i64
-    ensures { result ≡ number_at (codes "price") (item_fields items.now) default }
-{
-    number_at(items, PRICE, default)
-}
-
-/// The lower bound of a material with these items, or else the default.
-pub(crate) fn flow_lower_at(items: &[Item<'_>], default: i64) -> i64
-    ensures { result ≡ number_at (codes "flow_rate_lower_bound") (item_fields items.now) default }
-{
-    number_at(items, FLOW_RATE_LOWER_BOUND, default)
-}
-
-/// The upper bound of a material with these items, or else the default.
-pub(crate) fn flow_upper_at(items: &[Item<'_>], default: i64) -> i64
-    ensures { result ≡ number_at (codes "flow_rate_upper_bound") (item_fields items.now) default }
-{
-    number_at(items, FLOW_RATE_UPPER_BOUND, default)
-}
-
-/// The lower bound of a unit with these items, or else the default.
-pub(crate) fn capacity_lower_at(items: &[Item<'_>], default: i64) -> i64
-    ensures { result ≡ number_at (codes "capacity_lower_bound") (item_fields items.now) default }
-{
-    number_at(items, CAPACITY_LOWER_BOUND, default)
-}
-
-/// The upper bound of a unit with these items, or else the default.
-pub(crate) fn capacity_upper_at(items: &[Item<'_>], default: i64) -> i64
-    ensures { result ≡ number_at (codes "capacity_upper_bound") (item_fields items.now) default }
-{
-    number_at(items, CAPACITY_UPPER_BOUND, default)
-}
-
-/// The fixed cost of a unit with these items, or else the default.
-pub(crate) fn fix_at(items: &[Item<'_>], default: i64) -> i64
-    ensures { result ≡ number_at (codes "fix_cost") (item_fields items.now) default }
-{
-    number_at(items, FIX_COST, default)
-}
-
-/// The proportional cost of a unit with these items, or else the default.
-pub(crate) fn proportional_at(items: &[Item<'_>], default: i64) -> i64
-    ensures { result ≡ number_at (codes "proportional_cost") (item_fields items.now) default }
-{
-    number_at(items, PROPORTIONAL_COST, default)
-}
-
-/// The fixed investment cost of a unit with these items, or else the default.
-pub(crate) fn investment_fix_at(items: &[Item<'_>], default: i64) -> i64
-    ensures { result ≡ number_at (codes "investment_fix_cost") (item_fields items.now) default }
-{
-    number_at(items, INVESTMENT_FIX_COST, default)
-}
-
-/// The proportional investment cost of a unit with these items, or else the default.
-pub(crate) fn investment_proportional_at(items: &[Item<'_>], default: i64) -> i64
-    ensures { result ≡ number_at (codes "investment_proportional_cost") (item_fields items.now) default }
-{
-    number_at(items, INVESTMENT_PROPORTIONAL_COST, default)
+    millions(default_number(lines, b"payout_period", 1_000_000))
 }
 
 impl Settings {
@@ -256,8 +141,8 @@ impl Settings {
     pub(crate) fn is_material_turned(&self, items: &[Item<'_>]) -> bool
         ensures { result ≡ is_material_turned (settings_view self.now) (item_fields items.now) }
     {
-        let upper = flow_upper_at(items, self.flow_upper);
-        let lower = flow_lower_at(items, self.flow_lower);
+        let upper = number_at(items, b"flow_rate_upper_bound", self.flow_upper);
+        let lower = number_at(items, b"flow_rate_lower_bound", self.flow_lower);
         upper < lower
     }
 
@@ -265,8 +150,8 @@ impl Settings {
     pub(crate) fn is_unit_turned(&self, items: &[Item<'_>]) -> bool
         ensures { result ≡ is_unit_turned (settings_view self.now) (item_fields items.now) }
     {
-        let upper = capacity_upper_at(items, self.capacity_upper);
-        let lower = capacity_lower_at(items, self.capacity_lower);
+        let upper = number_at(items, b"capacity_upper_bound", self.capacity_upper);
+        let lower = number_at(items, b"capacity_lower_bound", self.capacity_lower);
         upper < lower
     }
 }

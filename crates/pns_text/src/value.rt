@@ -8,16 +8,13 @@ ghost use Rattle.text_lines.specs.View.{texts};
 ghost use Rattle.text_lines.specs.Terms.{term_view, terms_view, sides_view};
 ghost use Rattle.pns_text.specs.Kept.{is_at, lines_at, heads_at, lines_apart, item_fields};
 ghost use Rattle.pns_text.specs.Settings.{settings_of, material_from, unit_from};
-ghost use Rattle.pns_text.specs.Value.{materials_from, term_from, pairs_at, both_from, sides_named, listed_unit, bare_unit, bare_lines, units_from, unit_names_from, exclusion_named, exclusions_from, problem_from};
+ghost use Rattle.pns_text.specs.Value.{materials_from, term_from, pairs_at, sides_named, listed_unit, bare_unit, bare_lines, units_from, unit_names_from, exclusion_named, exclusions_from, problem_from};
 ghost use Rattle.pns_text.specs.View.{settings_view};
 
 use crate::cut::Kept;
 use crate::item::Item;
 use crate::meaning::{Names, heads_at};
-use crate::settings::{
-    Settings, capacity_lower_at, capacity_upper_at, fix_at, flow_lower_at, flow_upper_at,
-    investment_fix_at, investment_proportional_at, kind_at, payout_of, price_at, proportional_at,
-};
+use crate::settings::{Settings, kind_at, number_at, payout_of};
 use pns_problem::{Exclusion, Material, OperatingUnit, Parts, Term};
 use std::alloc::{AllocError, Global};
 use std::str;
@@ -52,9 +49,9 @@ fn material(
     Ok(Material {
         name,
         kind: kind_at(items, settings.kind),
-        price: price_at(items, settings.price),
-        lower: flow_lower_at(items, settings.flow_lower),
-        upper: flow_upper_at(items, settings.flow_upper),
+        price: number_at(items, b"price", settings.price),
+        lower: number_at(items, b"flow_rate_lower_bound", settings.flow_lower),
+        upper: number_at(items, b"flow_rate_upper_bound", settings.flow_upper),
     })
 }
 
@@ -109,20 +106,6 @@ fn terms(
     Ok(all)
 }
 
-// The terms on both sides of a line of rates.
-fn both_terms(
-    alloc: Global,
-    names: &NameSet<'_>,
-    sides: &term::Sides<'_>,
-) -> Result<(Vec<Term>, Vec<Term>), AllocError>
-    requires { length names.now < 2 ^ 32 }
-    ensures { IfOk result (λ both. (both.0.items, both.1.items) ≡ both_from names.now (sides_view sides.now)) }
-{
-    let inputs = terms(alloc, names, &sides.inputs)?;
-    let outputs = terms(alloc, names, &sides.outputs)?;
-    Ok((inputs, outputs))
-}
-
 // The sides of the line of rates of this name.
 fn rates_named<'b, 'a>(lines: &'b [Kept<'a>], name: &[u8]) -> Option<&'b term::Sides<'a>>
     ensures { option_map (λ sides. sides_view sides.now) result ≡ option_map (λ line. pairs_at line.text) (find (λ line. bytes_eq (head_of line.text) name.now) (lines_at Section.Rates lines.now)) }
@@ -147,10 +130,12 @@ fn sides_named(
     requires { length names.now < 2 ^ 32 }
     ensures { IfOk result (λ sides. (sides.0.items, sides.1.items) ≡ sides_named names.now lines.now name.now) }
 {
-    match rates_named(lines, name) {
-        Some(sides) => both_terms(alloc, names, sides),
-        None => Ok((Vec::new(alloc), Vec::new(alloc))),
-    }
+    let Some(sides) = rates_named(lines, name) else {
+        return Ok((Vec::new(alloc), Vec::new(alloc)));
+    };
+    let inputs = terms(alloc, names, &sides.inputs)?;
+    let outputs = terms(alloc, names, &sides.outputs)?;
+    Ok((inputs, outputs))
 }
 
 // The unit of this name with these items.
@@ -171,13 +156,14 @@ fn unit(
     let name = name_string(alloc, name)?;
     Ok(OperatingUnit {
         name,
-        lower: capacity_lower_at(items, settings.capacity_lower),
-        upper: capacity_upper_at(items, settings.capacity_upper),
-        fix: fix_at(items, settings.fix),
-        proportional: proportional_at(items, settings.proportional),
-        investment_fix: investment_fix_at(items, settings.investment_fix),
-        investment_proportional: investment_proportional_at(
+        lower: number_at(items, b"capacity_lower_bound", settings.capacity_lower),
+        upper: number_at(items, b"capacity_upper_bound", settings.capacity_upper),
+        fix: number_at(items, b"fix_cost", settings.fix),
+        proportional: number_at(items, b"proportional_cost", settings.proportional),
+        investment_fix: number_at(items, b"investment_fix_cost", settings.investment_fix),
+        investment_proportional: number_at(
             items,
+            b"investment_proportional_cost",
             settings.investment_proportional,
         ),
         inputs,
@@ -305,18 +291,6 @@ fn numbers_among(
     Ok(members)
 }
 
-// The numbers of the units that are among the members, which come once.
-fn numbers_of(alloc: Global, units: &[&[u8]], members: &[&[u8]]) -> Result<Vec<u32>, AllocError>
-    requires once { has_double (texts members.now) ≡ false }
-    requires few { length units.now < 2 ^ 32 }
-    ensures { IfOk result (λ numbers. numbers.items ≡ numbers_among (texts members.now) 0 (texts units.now)) }
-{
-    match once(alloc, members)? {
-        Some(among) => numbers_among(alloc, &among, units),
-        None => unreachable!(),
-    }
-}
-
 // The exclusion of this name with these members.
 fn exclusion(
     alloc: Global,
@@ -329,7 +303,10 @@ fn exclusion(
     requires few { length units.now < 2 ^ 32 }
     ensures { IfOk result (λ x. x ≡ exclusion_named (texts units.now) name.now (texts members.now)) }
 {
-    let units = numbers_of(alloc, units, members)?;
+    let Some(among) = once(alloc, members)? else {
+        unreachable!()
+    };
+    let units = numbers_among(alloc, &among, units)?;
     let name = name_string(alloc, name)?;
     Ok(Exclusion { name, units })
 }
