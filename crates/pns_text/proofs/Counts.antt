@@ -3,7 +3,7 @@ use Rattle.std.proofs.Common.{◌≡◌, ◌≤◌, ◌<◌, ◌+◌, ◌&&◌, 
 use Rattle.std.specs.List.{position, position_or_len}
 use Rattle.std.proofs.lemmas.List.{length-map}
 use Rattle.text_rules.specs.declared.Section.{Section}
-use Rattle.text_rules.specs.declared.Section.TheVariants.{Preamble, MeasurementUnits, Defaults, Materials, OperatingUnits, Rates, Exclusions}
+use Rattle.text_rules.specs.declared.Section.TheVariants.{OperatingUnits, Rates}
 use Rattle.problem_rules.specs.Names.{is_among}
 use Rattle.text_rules.specs.Line.{Placed, is_section, head_of}
 use Rattle.pns_text.specs.Kept.{is_at, lines_at, heads_at}
@@ -32,14 +32,9 @@ heads_few section lines =
 
 -- a line is in one section
 pub apart : (section : Section) (header : Bool) → ((is_section OperatingUnits section && not header) && (is_section Rates section && not header)) ≡ false
-apart Preamble header = refl
-apart MeasurementUnits header = refl
-apart Defaults header = refl
-apart Materials header = refl
 apart OperatingUnits true = refl
 apart OperatingUnits false = refl
-apart Rates header = refl
-apart Exclusions header = refl
+apart section header = refl
 
 two : (b c d : Bool) (x : Placed) (xs ys zs : List Placed) (n : ℕ) → (b && c) ≡ false → zs ≡ cond d (x ∷ ys) ys → length xs + length ys ≤ n → length (cond b (x ∷ xs) xs) + length (cond c zs ys) ≤ suc n
 two true true d x xs ys zs n e is le = cc

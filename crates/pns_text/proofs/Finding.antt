@@ -18,10 +18,6 @@ pub any_map : {A B : Type 0} (p : B → Bool) (f : A → B) (xs : List A) → li
 any_map p f [] = refl
 any_map p f (x ∷ xs) = ap (λ r. p (f x) || r) (any_map p f xs)
 
-pub any_same : {A : Type 0} (p q : A → Bool) → ((x : A) → p x ≡ q x) → (xs : List A) → list_any p xs ≡ list_any q xs
-any_same p q same [] = refl
-any_same p q same (x ∷ xs) = ap (λ b. b || list_any p xs) (same x) ∙ ap (λ r. q x || r) (any_same p q same xs)
-
 and_assoc : (a b c : Bool) → (a && (b && c)) ≡ ((a && b) && c)
 and_assoc true b c = refl
 and_assoc false b c = refl
@@ -35,11 +31,7 @@ any_number p items =
     any_filter p is_number (map keyed (filter is_keyed items))
     ∙ any_map (λ field. is_number field && p field) keyed (filter is_keyed items)
     ∙ any_filter (λ item. is_number (keyed item) && p (keyed item)) is_keyed items
-    ∙ any_same (λ item. is_keyed item && (is_number (keyed item) && p (keyed item))) (λ item. (is_keyed item && is_number (keyed item)) && p (keyed item)) (λ item. and_assoc (is_keyed item) (is_number (keyed item)) (p (keyed item))) items
-
-pub map_twice : {A B C : Type 0} (g : B → C) (f : A → B) (xs : List A) → map g (map f xs) ≡ map (λ x. g (f x)) xs
-map_twice g f [] = refl
-map_twice {A} {B} {C} g f (x ∷ xs) = ap (λ (ys : List C). g (f x) ∷ ys) (map_twice g f xs)
+    ∙ (λ i. list_any (λ item. and_assoc (is_keyed item) (is_number (keyed item)) (p (keyed item)) i) items)
 
 pub or_none : (b : Bool) → (b || false) ≡ b
 or_none true = refl

@@ -3,6 +3,7 @@ use Rattle.std.proofs.Common.{◌≡◌, ◌&&◌, ◌||◌, Bool, true, false, 
 use Rattle.std.specs.List.{list_any}
 use Rattle.std.specs.Str.{bytes_eq}
 use Rattle.std.proofs.lemmas.List.{length-map}
+use Rattle.std.proofs.lemmas.Simd.{map-map}
 use Rattle.problem_rules.specs.Names.{is_name, is_among, has_double, distinct}
 use Rattle.text_rules.specs.declared.TextKind.{TextKind}
 use Rattle.text_rules.specs.declared.TextKind.TheVariants.{UnknownSection, DoubleSection, BadLine, BadName, UnknownKey, DoubleKey, BadNumber, TooFine, TooLarge, Negative, UnknownKind, DoubleMaterial, DoubleUnit, TooMany, DoubleExclusion, DoubleMember, FewMembers}
@@ -19,7 +20,7 @@ use Rattle.pns_text.specs.UnitLine.{unit_fault, is_beyond}
 use Rattle.pns_text.specs.ExclusionLine.{exclusion_fault}
 use Rattle.pns_text.specs.DefaultLine.{default_number_stands, default_rest, default_fault}
 use Rattle.pns_text.specs.Seen.{Seen, header_fault, skipped_fault}
-use Rattle.pns_text.proofs.Finding.{any_filter, any_number, map_twice, or_none, find_then, or_find}
+use Rattle.pns_text.proofs.Finding.{any_filter, any_number, or_none, find_then, or_find}
 use Rattle.pns_text.proofs.NamesBefore.{IsSeen, has_header, units_before}
 
 abbrev pub placed : Bool → Section → ℕ → List ℕ → Placed
@@ -71,7 +72,7 @@ fields_by keys name items rest =
     ∙ (λ i.
     if sym (no_more (not (is_name name))) i then Some BadName
     else if sym (any_filter (λ item. not (is_among keys (key_of item))) has_key items) i then Some UnknownKey
-    else if has_double (sym (map_twice (λ (field : List ℕ × List ℕ). field.0) keyed (filter is_keyed items)) i) then Some DoubleKey
+    else if has_double (sym (map-map (λ (field : List ℕ × List ℕ). field.0) keyed (filter is_keyed items)) i) then Some DoubleKey
     else if sym (any_number (field_stands BadNumber) items) i then Some BadNumber
     else if sym (any_number (field_stands TooFine) items) i then Some TooFine
     else if sym (any_number (field_stands TooLarge) items) i then Some TooLarge
@@ -84,12 +85,7 @@ module _ (before : List Line) (seen : Seen) (is : IsSeen before seen) where
 
   pub header_kind : (section : Section) (number : ℕ) (text : List ℕ) → header_fault seen.headers (head_of text) ≡ find (stands before (taken_apart (placed true section number text))) form_kinds
   header_kind Preamble number text = header_by (head_of text)
-  header_kind MeasurementUnits number text = header_by (head_of text)
-  header_kind Defaults number text = header_by (head_of text)
-  header_kind Materials number text = header_by (head_of text)
-  header_kind OperatingUnits number text = header_by (head_of text)
-  header_kind Rates number text = header_by (head_of text)
-  header_kind Exclusions number text = header_by (head_of text)
+  header_kind section number text = header_by (head_of text)
 
   pub preamble_kind : (number : ℕ) (text : List ℕ) → skipped_fault text ≡ find (stands before (taken_apart (placed false Preamble number text))) form_kinds
   preamble_kind number text = flip_kind (has_key text) BadLine

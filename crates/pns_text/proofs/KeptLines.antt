@@ -1,21 +1,23 @@
 -- The lines that matter have all that the meaning of a text depends on.
 use Rattle.std.proofs.Common.{◌≡◌, ◌&&◌, Bool, true, false, not, ℕ, List, [], ◌∷◌, map, filter, if◌then◌else◌, refl, sym, ◌∙◌, ap}
+use Rattle.std.proofs.lemmas.Simd.{map-map}
 use Rattle.text_rules.specs.declared.Section.{Section}
 use Rattle.text_rules.specs.declared.Section.TheVariants.{Preamble, MeasurementUnits, Defaults, Materials, OperatingUnits, Rates, Exclusions}
 use Rattle.text_rules.specs.Line.{Placed, is_section}
-use Rattle.text_rules.specs.Field.{Line, taken_apart, lines_in, names_in}
+use Rattle.text_rules.specs.Field.{Line, taken_apart, is_in, lines_in, names_in}
 use Rattle.pns_text.specs.Kept.{is_at, lines_at, heads_at, lines_apart}
 use Rattle.pns_text.specs.Walk.{is_meant, matters}
-use Rattle.pns_text.proofs.Finding.{map_twice}
 
-filter_map_step : {A B : Type 0} (b : Bool) (f : A → B) (x : A) (xs : List A) (ys : List B) → ys ≡ map f xs → (if b then f x ∷ ys else ys) ≡ map f (if b then x ∷ xs else xs)
-filter_map_step {A} {B} true f x xs ys e = ap (λ (zs : List B). f x ∷ zs) e
-filter_map_step false f x xs ys e = e
+pub filter_map : {A B : Type 0} (p : B → Bool) (f : A → B) (xs : List A) → filter p (map f xs) ≡ map f (filter (λ x. p (f x)) xs)
+filter_map p f [] = refl
+filter_map {A} {B} p f (x ∷ xs) = by (p (f x)) (filter_map p f xs) where
+  by : (b : Bool) → filter p (map f xs) ≡ map f (filter (λ x. p (f x)) xs) → (if b then f x ∷ filter p (map f xs) else filter p (map f xs)) ≡ map f (if b then x ∷ filter (λ x. p (f x)) xs else filter (λ x. p (f x)) xs)
+  by true more = ap (λ (ys : List B). f x ∷ ys) more
+  by false more = more
 
 -- the lines of a section, taken apart before or after
 pub in_apart : (section : Section) (lines : List Placed) → lines_in section (lines_apart lines) ≡ lines_apart (lines_at section lines)
-in_apart section [] = refl
-in_apart section (line ∷ lines) = filter_map_step (is_at section line) taken_apart line (lines_at section lines) (lines_in section (lines_apart lines)) (in_apart section lines)
+in_apart section lines = filter_map (is_in section) taken_apart lines
 
 twice_step : {A : Type 0} (p q : A → Bool) (b : Bool) (x : A) (xs : List A) (ys : List A) → q x ≡ b → (p x ≡ true → q x ≡ true) → filter p ys ≡ filter p xs → filter p (if b then x ∷ ys else ys) ≡ filter p (x ∷ xs)
 twice_step {A} p q true x xs ys e implied same = ap (λ (zs : List A). if p x then x ∷ zs else zs) same
@@ -30,23 +32,12 @@ filter_twice p q implied (x ∷ xs) = twice_step p q (q x) x xs (filter q xs) re
 
 -- a line of such a section matters
 pub meant : (section other : Section) (header : Bool) → is_meant section ≡ true → (is_section section other && not header) ≡ true → (not header && is_meant other) ≡ true
-meant Preamble other header e at = cc
-meant MeasurementUnits other header e at = cc
 meant Defaults Defaults false e at = refl
-meant Defaults Defaults true e at = cc
-meant Defaults other header e at = cc
 meant Materials Materials false e at = refl
-meant Materials Materials true e at = cc
-meant Materials other header e at = cc
 meant OperatingUnits OperatingUnits false e at = refl
-meant OperatingUnits OperatingUnits true e at = cc
-meant OperatingUnits other header e at = cc
 meant Rates Rates false e at = refl
-meant Rates Rates true e at = cc
-meant Rates other header e at = cc
 meant Exclusions Exclusions false e at = refl
-meant Exclusions Exclusions true e at = cc
-meant Exclusions other header e at = cc
+meant section other header e at = cc
 
 -- the lines of a section that has a meaning are all kept
 pub kept_at : (section : Section) → is_meant section ≡ true → (lines : List Placed) → lines_at section (filter matters lines) ≡ lines_at section lines
@@ -59,7 +50,7 @@ lines_kept section e lines = in_apart section lines ∙ ap lines_apart (sym (kep
 pub names_kept : (section : Section) → is_meant section ≡ true → (lines : List Placed) → names_in section (lines_apart lines) ≡ heads_at section (filter matters lines)
 names_kept section e lines =
     ap (map (λ (line : Line). line.name)) (lines_kept section e lines)
-    ∙ map_twice (λ (line : Line). line.name) taken_apart (lines_at section (filter matters lines))
+    ∙ map-map (λ (line : Line). line.name) taken_apart (lines_at section (filter matters lines))
 
 abbrev pub line_of : Section → ℕ → List ℕ → Placed
 line_of section number text = record { number = number; section = section; header = false; text = text }

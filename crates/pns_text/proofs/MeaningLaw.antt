@@ -1,7 +1,9 @@
 -- The problem of the lines that matter, and their first fault of meaning, are those of the grammar.
 use Rattle.std.proofs.Common.{◌≡◌, ◌&&◌, ◌||◌, ◌++◌, ◌/◌, Bool, true, false, cond, not, ℕ, List, [], ◌∷◌, map, filter, find, unwrap_or, option_map, codes, Option, Some, None, pos, int_lt, unsigned_abs, slice_index_or, if◌then◌else◌, refl, sym, ◌∙◌, ap}
+use Rattle.std.specs.List.{list_any}
 use Rattle.std.specs.Str.{bytes_eq}
 use Rattle.std.proofs.lemmas.List.Folds.{list_any-append}
+use Rattle.std.proofs.lemmas.Simd.{map-map}
 use Rattle.std.proofs.lemmas.Slice.Eq.{bytes_eq-Decides}
 use Rattle.problem_rules.specs.Names.{is_among}
 use Rattle.problem_rules.specs.Problem.{intermediate, Material, Term, OperatingUnit}
@@ -20,8 +22,7 @@ use Rattle.pns_text.specs.Meaning.{Names, is_unit_turned, has_unknown, is_unit, 
 use Rattle.pns_text.specs.Value.{materials_from, term_from, sides_or, sides_named, listed_unit, bare_unit, bare_lines, units_from, unit_names_from, exclusion_from, exclusions_from, problem_from}
 use Rattle.pns_text.specs.Reading.{names_all}
 use Rattle.pns_text.specs.Walk.{matters}
-use Rattle.pns_text.proofs.Finding.{map_twice, any_same}
-use Rattle.pns_text.proofs.KeptLines.{in_apart, lines_kept, names_kept, line_of, map_at}
+use Rattle.pns_text.proofs.KeptLines.{filter_map, in_apart, lines_kept, names_kept, line_of, map_at}
 
 -- a value by the line, the defaults or the table
 number_of_two : (own default : Option (List ℕ)) (built_in : List ℕ) → millionths (unwrap_or own (unwrap_or default built_in)) ≡ number_or own (number_or default (millionths built_in))
@@ -63,12 +64,12 @@ module _ (all : List Placed) where
   materials_are : map (material_read lines) (lines_in Materials lines) ≡ materials_from (settings_of (lines_apart kept)) kept
   materials_are =
       ap (map (material_read lines)) (lines_kept Materials refl all)
-      ∙ map_twice (material_read lines) taken_apart (lines_at Materials kept)
+      ∙ map-map (material_read lines) taken_apart (lines_at Materials kept)
       ∙ map_at Materials (λ line. material_read lines (taken_apart line)) (λ line. material_from s (head_of line.text) (fields_at line.text)) material_is kept
       ∙ ap (λ (t : Settings). materials_from t kept) settings_kept
 
   terms_are : (names : List (List ℕ)) (side : List (List (List ℕ))) → map (term_read names) side ≡ map (term_from names) (map pair_of side)
-  terms_are names side = sym (map_twice (term_from names) pair_of side)
+  terms_are names side = sym (map-map (term_from names) pair_of side)
 
   abbrev names : List (List ℕ)
   names = heads_at Materials kept
@@ -105,19 +106,21 @@ module _ (all : List Placed) where
   right_or None = refl
   right_or (Some line) = terms_are (names_in Materials lines) (slice_index_or (sides_of line.text) 1 [])
 
+  found_is : (side : Line → List (List (List ℕ))) (name : List ℕ) → side_of side lines name ≡ found_by side (option_map taken_apart (find (λ (line : Placed). bytes_eq (head_of line.text) name) (lines_at Rates kept)))
+  found_is side name =
+      side_found side name
+      ∙ ap (λ (some : List Line). found_by side (find (has_name name) some)) (lines_kept Rates refl all)
+      ∙ ap (found_by side) (find_apart name (lines_at Rates kept))
+
   left_is : (name : List ℕ) → side_of left lines name ≡ (sides_named names kept name).0
   left_is name =
-      side_found left name
-      ∙ ap (λ (some : List Line). found_by left (find (has_name name) some)) (lines_kept Rates refl all)
-      ∙ ap (found_by left) (find_apart name (lines_at Rates kept))
+      found_is left name
       ∙ left_or (find (λ (line : Placed). bytes_eq (head_of line.text) name) (lines_at Rates kept))
       ∙ ap (λ (known : List (List ℕ)). (sides_named known kept name).0) (names_kept Materials refl all)
 
   right_is : (name : List ℕ) → side_of right lines name ≡ (sides_named names kept name).1
   right_is name =
-      side_found right name
-      ∙ ap (λ (some : List Line). found_by right (find (has_name name) some)) (lines_kept Rates refl all)
-      ∙ ap (found_by right) (find_apart name (lines_at Rates kept))
+      found_is right name
       ∙ right_or (find (λ (line : Placed). bytes_eq (head_of line.text) name) (lines_at Rates kept))
       ∙ ap (λ (known : List (List ℕ)). (sides_named known kept name).1) (names_kept Materials refl all)
 
@@ -138,34 +141,23 @@ module _ (all : List Placed) where
   abbrev units : List (List ℕ)
   units = heads_at OperatingUnits kept
 
-  bare_apart : (known : List (List ℕ)) (some : List Placed) → filter (λ (line : Line). not (is_among known line.name)) (lines_apart some) ≡ lines_apart (filter (λ (line : Placed). not (is_among known (head_of line.text))) some)
-  bare_apart known [] = refl
-  bare_apart known (line ∷ some) = by (not (is_among known (head_of line.text))) (bare_apart known some) where
-    by : (b : Bool) → filter (λ (line : Line). not (is_among known line.name)) (lines_apart some) ≡ lines_apart (filter (λ (line : Placed). not (is_among known (head_of line.text))) some) → cond b (taken_apart line ∷ filter (λ (line : Line). not (is_among known line.name)) (lines_apart some)) (filter (λ (line : Line). not (is_among known line.name)) (lines_apart some)) ≡ lines_apart (cond b (line ∷ filter (λ (line : Placed). not (is_among known (head_of line.text))) some) (filter (λ (line : Placed). not (is_among known (head_of line.text))) some))
-    by true more = ap (λ (rest : List Line). taken_apart line ∷ rest) more
-    by false more = more
-
   bare_are : bare_rates lines ≡ lines_apart (bare_lines units kept)
   bare_are =
       ap (λ (known : List (List ℕ)). filter (λ (line : Line). not (is_among known line.name)) (lines_in Rates lines)) (names_kept OperatingUnits refl all)
       ∙ ap (filter (λ (line : Line). not (is_among units line.name))) (lines_kept Rates refl all)
-      ∙ bare_apart units (lines_at Rates kept)
-
-  map_same : {A B : Type 0} (f g : A → B) → ((x : A) → f x ≡ g x) → (xs : List A) → map f xs ≡ map g xs
-  map_same f g same [] = refl
-  map_same {A} {B} f g same (x ∷ xs) = ap (λ (y : B). y ∷ map f xs) (same x) ∙ ap (λ (ys : List B). g x ∷ ys) (map_same f g same xs)
+      ∙ filter_map (λ (line : Line). not (is_among units line.name)) taken_apart (lines_at Rates kept)
 
   listed_are : map (λ (line : Line). unit_read lines line.name (fields_of line)) (lines_in OperatingUnits lines) ≡ map (λ (line : Placed). listed_unit s names kept line.text) (lines_at OperatingUnits kept)
   listed_are =
       ap (map (λ (line : Line). unit_read lines line.name (fields_of line))) (lines_kept OperatingUnits refl all)
-      ∙ map_twice (λ (line : Line). unit_read lines line.name (fields_of line)) taken_apart (lines_at OperatingUnits kept)
+      ∙ map-map (λ (line : Line). unit_read lines line.name (fields_of line)) taken_apart (lines_at OperatingUnits kept)
       ∙ map_at OperatingUnits (λ line. unit_read lines (head_of line.text) (fields_of (taken_apart line))) (λ line. listed_unit s names kept line.text) (λ number text. unit_is (head_of text) (fields_at text)) kept
 
   bare_units_are : map (λ (line : Line). unit_read lines line.name []) (bare_rates lines) ≡ map (λ (line : Placed). bare_unit s names kept line.text) (bare_lines units kept)
   bare_units_are =
       ap (map (λ (line : Line). unit_read lines line.name [])) bare_are
-      ∙ map_twice (λ (line : Line). unit_read lines line.name []) taken_apart (bare_lines units kept)
-      ∙ map_same (λ (line : Placed). unit_read lines (head_of line.text) []) (λ (line : Placed). bare_unit s names kept line.text) (λ line. unit_is (head_of line.text) []) (bare_lines units kept)
+      ∙ map-map (λ (line : Line). unit_read lines line.name []) taken_apart (bare_lines units kept)
+      ∙ (λ i. map (λ (line : Placed). unit_is (head_of line.text) [] i) (bare_lines units kept))
 
   units_are : map (λ (line : Line). unit_read lines line.name (fields_of line)) (lines_in OperatingUnits lines) ++ map (λ (line : Line). unit_read lines line.name []) (bare_rates lines) ≡ units_from (settings_of (lines_apart kept)) names kept
   units_are =
@@ -173,12 +165,12 @@ module _ (all : List Placed) where
 
   unit_names_are : unit_names lines ≡ unit_names_from kept
   unit_names_are =
-      (λ i. names_kept OperatingUnits refl all i ++ (ap (map (λ (line : Line). line.name)) bare_are ∙ map_twice (λ (line : Line). line.name) taken_apart (bare_lines units kept)) i)
+      (λ i. names_kept OperatingUnits refl all i ++ (ap (map (λ (line : Line). line.name)) bare_are ∙ map-map (λ (line : Line). line.name) taken_apart (bare_lines units kept)) i)
 
   exclusions_are : map (exclusion_read lines) (lines_in Exclusions lines) ≡ exclusions_from (unit_names_from kept) kept
   exclusions_are =
       ap (map (exclusion_read lines)) (lines_kept Exclusions refl all)
-      ∙ map_twice (exclusion_read lines) taken_apart (lines_at Exclusions kept)
+      ∙ map-map (exclusion_read lines) taken_apart (lines_at Exclusions kept)
       ∙ ap (λ (known : List (List ℕ)). map (λ (line : Placed). exclusion_from known line.text) (lines_at Exclusions kept)) unit_names_are
 
   years_of : (default : Option (List ℕ)) → pos (unsigned_abs (millionths (unwrap_or default (codes "1"))) / 1000000) ≡ pos (unsigned_abs (number_or default (pos 1000000)) / 1000000)
@@ -241,23 +233,16 @@ module _ (all : List Placed) where
   exclusion_kind : (number : ℕ) (text : List ℕ) → find (stands_in lines [] (taken_apart (line_of Exclusions number text))) meaning_kinds ≡ line_meaning s known (line_of Exclusions number text)
   exclusion_kind number text =
       ap (λ (b : Bool). if b then Some UnknownUnit else None)
-      (any_same (λ item. not (is_among (unit_names lines) item)) (λ item. not (is_unit known item)) (λ item. ap not (unit_known item)) (items_of text))
+      (λ i. list_any (λ item. not (unit_known item i)) (items_of text))
 
   kind_by : (header : Bool) (section : Section) (number : ℕ) (text : List ℕ) → find (stands_in lines [] (taken_apart (record { number = number; section = section; header = header; text = text }))) meaning_kinds ≡ line_meaning s known (record { number = number; section = section; header = header; text = text })
   kind_by true Preamble number text = refl
-  kind_by true MeasurementUnits number text = refl
-  kind_by true Defaults number text = refl
-  kind_by true Materials number text = refl
-  kind_by true OperatingUnits number text = refl
-  kind_by true Rates number text = refl
-  kind_by true Exclusions number text = refl
-  kind_by false Preamble number text = refl
-  kind_by false MeasurementUnits number text = refl
-  kind_by false Defaults number text = refl
+  kind_by true section number text = refl
   kind_by false Materials number text = material_kind number text
   kind_by false OperatingUnits number text = unit_kind number text
   kind_by false Rates number text = rates_kind number text
   kind_by false Exclusions number text = exclusion_kind number text
+  kind_by false section number text = refl
 
   first_by : (before : List Line) (line : Placed) (some : List Placed) (o : Option TextKind) → find (stands_in lines [] (taken_apart line)) meaning_kinds ≡ o → first_of (stands_in lines) meaning_kinds (taken_apart line ∷ before) (lines_apart some) ≡ first_meaning s known some
       → first_of (stands_in lines) meaning_kinds before (lines_apart (line ∷ some)) ≡ fault_or line.number o (first_meaning s known some)
@@ -273,13 +258,8 @@ module _ (all : List Placed) where
 
   quiet : (t : Settings) (n : Names) (header : Bool) (section : Section) (number : ℕ) (text : List ℕ) → matters (record { number = number; section = section; header = header; text = text }) ≡ false → line_meaning t n (record { number = number; section = section; header = header; text = text }) ≡ None
   quiet t n true section number text off = refl
-  quiet t n false Preamble number text off = refl
-  quiet t n false MeasurementUnits number text off = refl
-  quiet t n false Defaults number text off = refl
   quiet t n false Materials number text off = cc
-  quiet t n false OperatingUnits number text off = cc
-  quiet t n false Rates number text off = cc
-  quiet t n false Exclusions number text off = cc
+  quiet t n false section number text off = cc
 
   first_step : (t : Settings) (n : Names) (b : Bool) (line : Placed) (some rest : List Placed) → matters line ≡ b → first_meaning t n rest ≡ first_meaning t n some → first_meaning t n (if b then line ∷ rest else rest) ≡ first_meaning t n (line ∷ some)
   first_step t n true line some rest here more = ap (λ (o : Option Fault). fault_or line.number (line_meaning t n line) o) more

@@ -154,12 +154,7 @@ module _ (before : List Line) (seen : Seen) (is : IsSeen before seen) where
 
   header_seen : (section : Section) (number : ℕ) (text : List ℕ) → IsSeen (taken_apart (at true section number text) ∷ before) (seen_after seen (at true section number text))
   header_seen Preamble number text = record { headers = λ x. among_end seen.headers (head_of text) x ∙ ap (λ b. bytes_eq (head_of text) x || b) (is.headers x); keys = is.keys; materials = is.materials; units = is.units; rates = is.rates; exclusions = is.exclusions; unit_names = is.unit_names }
-  header_seen MeasurementUnits number text = record { headers = λ x. among_end seen.headers (head_of text) x ∙ ap (λ b. bytes_eq (head_of text) x || b) (is.headers x); keys = is.keys; materials = is.materials; units = is.units; rates = is.rates; exclusions = is.exclusions; unit_names = is.unit_names }
-  header_seen Defaults number text = record { headers = λ x. among_end seen.headers (head_of text) x ∙ ap (λ b. bytes_eq (head_of text) x || b) (is.headers x); keys = is.keys; materials = is.materials; units = is.units; rates = is.rates; exclusions = is.exclusions; unit_names = is.unit_names }
-  header_seen Materials number text = record { headers = λ x. among_end seen.headers (head_of text) x ∙ ap (λ b. bytes_eq (head_of text) x || b) (is.headers x); keys = is.keys; materials = is.materials; units = is.units; rates = is.rates; exclusions = is.exclusions; unit_names = is.unit_names }
-  header_seen OperatingUnits number text = record { headers = λ x. among_end seen.headers (head_of text) x ∙ ap (λ b. bytes_eq (head_of text) x || b) (is.headers x); keys = is.keys; materials = is.materials; units = is.units; rates = is.rates; exclusions = is.exclusions; unit_names = is.unit_names }
-  header_seen Rates number text = record { headers = λ x. among_end seen.headers (head_of text) x ∙ ap (λ b. bytes_eq (head_of text) x || b) (is.headers x); keys = is.keys; materials = is.materials; units = is.units; rates = is.rates; exclusions = is.exclusions; unit_names = is.unit_names }
-  header_seen Exclusions number text = record { headers = λ x. among_end seen.headers (head_of text) x ∙ ap (λ b. bytes_eq (head_of text) x || b) (is.headers x); keys = is.keys; materials = is.materials; units = is.units; rates = is.rates; exclusions = is.exclusions; unit_names = is.unit_names }
+  header_seen section number text = record { headers = λ x. among_end seen.headers (head_of text) x ∙ ap (λ b. bytes_eq (head_of text) x || b) (is.headers x); keys = is.keys; materials = is.materials; units = is.units; rates = is.rates; exclusions = is.exclusions; unit_names = is.unit_names }
 
   entry_seen : (section : Section) (number : ℕ) (text : List ℕ) → IsSeen (taken_apart (at false section number text) ∷ before) (seen_after seen (at false section number text))
   entry_seen section number text =

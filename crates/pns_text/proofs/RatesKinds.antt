@@ -4,6 +4,7 @@ use Rattle.std.specs.List.{list_any, slice_split}
 use Rattle.std.specs.Str.{bytes_eq}
 use Rattle.std.proofs.lemmas.Bool.{ne_eqb}
 use Rattle.std.proofs.lemmas.List.{length-map}
+use Rattle.std.proofs.lemmas.Simd.{map-map}
 use Rattle.std.proofs.lemmas.List.Folds.{list_any-append}
 use Rattle.problem_rules.specs.Names.{is_name, is_among, has_double}
 use Rattle.text_rules.specs.declared.TextKind.{TextKind}
@@ -20,7 +21,7 @@ use Rattle.pns_text.specs.Fault.{or_kind}
 use Rattle.pns_text.specs.RatesLine.{names_of, rate_stands, rate_kinds, term_fault, doubled, whole_fault, sides_fault}
 use Rattle.pns_text.specs.Seen.{Seen}
 use Rattle.text_laws.proofs.PrintedAmount.{after_none}
-use Rattle.pns_text.proofs.Finding.{any_map, any_same, map_twice, or_none, and_true}
+use Rattle.pns_text.proofs.Finding.{any_map, or_none, and_true}
 use Rattle.pns_text.proofs.FormKinds.{beyond}
 use Rattle.pns_text.proofs.NamesBefore.{IsSeen}
 
@@ -46,11 +47,11 @@ all_numbers p (term ∷ terms) = ap (λ (b : Bool). p (rate_field term) || b) (a
 rates_any : (q : Pair → Bool) (p : List ℕ × List ℕ → Bool) (left right : List (List (List ℕ))) → ((term : List (List ℕ)) → q (pair_of term) ≡ p (rate_field term)) → list_any q (map pair_of left ++ map pair_of right) ≡ list_any p (filter is_number (map rate_field (left ++ (right ++ []))))
 rates_any q p left right same =
     both_terms q left right
-    ∙ any_same (λ term. q (pair_of term)) (λ term. p (rate_field term)) same (left ++ (right ++ []))
+    ∙ (λ i. list_any (λ term. same term i) (left ++ (right ++ [])))
     ∙ sym (all_numbers p (left ++ (right ++ [])))
 
 names_are : (side : List (List (List ℕ))) → names_of (map pair_of side) ≡ map material_of side
-names_are side = map_twice (λ (term : Pair). term.1) pair_of side
+names_are side = map-map (λ (term : Pair). term.1) pair_of side
 
 no_more_left : (a b : Bool) → (a || b) ≡ ((a || b) || false)
 no_more_left true b = refl

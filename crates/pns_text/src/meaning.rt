@@ -6,7 +6,7 @@ ghost use Rattle.text_lines.specs.View.{texts};
 ghost use Rattle.text_lines.specs.Terms.{terms_view, sides_view};
 ghost use Rattle.pns_text.specs.RatesLine.{names_of};
 ghost use Rattle.pns_text.specs.Kept.{heads_at, item_fields};
-ghost use Rattle.pns_text.specs.Meaning.{is_unit, material_kind, unit_kind, rates_kind, exclusion_kind, line_meaning, first_meaning};
+ghost use Rattle.pns_text.specs.Meaning.{is_unit, unit_kind, rates_kind, exclusion_kind, line_meaning, first_meaning};
 ghost use Rattle.pns_text.specs.View.{settings_view, names_view};
 
 use crate::cut::{Cut, Kept};
@@ -59,14 +59,6 @@ impl<'a> Names<'a> {
     {
         self.units.has(item) || self.rates.has(item)
     }
-}
-
-fn material_meaning(settings: &Settings, items: &[Item<'_>]) -> Option<TextKind>
-    ensures { result ≡ material_kind (settings_view settings.now) (item_fields items.now) }
-{
-    settings
-        .is_material_turned(items)
-        .then_some(TextKind::LowAboveHigh)
 }
 
 fn unit_meaning(
@@ -142,7 +134,9 @@ fn line_meaning(settings: &Settings, names: &Names<'_>, line: &Kept<'_>) -> Opti
 {
     match &line.cut {
         Cut::Default => None,
-        Cut::Material(items) => material_meaning(settings, items),
+        Cut::Material(items) => settings
+            .is_material_turned(items)
+            .then_some(TextKind::LowAboveHigh),
         Cut::OperatingUnit(items) => unit_meaning(settings, names, line.head, items),
         Cut::Flows(sides) => rates_meaning(settings, names, line.head, sides),
         Cut::Exclusion(members) => exclusion_meaning(names, members),

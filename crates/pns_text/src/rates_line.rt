@@ -3,7 +3,7 @@ ghost use Rattle.std.specs.Prelude.{◌≡◌, ◌++◌, true, false, Some, IfOk
 ghost use Rattle.std.specs.List.{list_any};
 ghost use Rattle.problem_rules.specs.Names.{is_name, is_among};
 ghost use Rattle.text_lines.specs.View.{texts};
-ghost use Rattle.text_lines.specs.Terms.{term_view, terms_view, sides_view};
+ghost use Rattle.text_lines.specs.Terms.{terms_view, sides_view};
 ghost use Rattle.pns_text.specs.Fault.{IsNew};
 ghost use Rattle.pns_text.specs.RatesLine.{names_of, rate_stands, is_faulty, doubled, term_fault, whole_fault, sides_fault};
 
@@ -35,17 +35,11 @@ fn some_bad_name(terms: &[Term<'_>]) -> bool
     false
 }
 
-fn rate_stands(kind: TextKind, term: &Term<'_>) -> bool
-    ensures { result ≡ rate_stands kind (term_view term.now) }
-{
-    number_stands(kind, read_amount(term.number))
-}
-
 fn some_rate_stands(kind: TextKind, terms: &[Term<'_>]) -> bool
     ensures { result ≡ list_any (rate_stands kind) (terms_view terms.now) }
 {
     for term in terms {
-        if rate_stands(kind, term) {
+        if number_stands(kind, read_amount(term.number)) {
             return true;
         }
     }
@@ -72,18 +66,12 @@ fn first_at_rates(kinds: &[TextKind], sides: &Sides<'_>) -> Option<TextKind>
         .find(|kind| stands_at_rates(*kind, sides))
 }
 
-// No number above 0.
-fn is_faulty(term: &Term<'_>) -> bool
-    ensures { result ≡ is_faulty (term_view term.now) }
-{
-    millionths(term.number) <= 0
-}
-
+// Whether some number is not above 0.
 fn some_faulty(terms: &[Term<'_>]) -> bool
     ensures { result ≡ list_any is_faulty (terms_view terms.now) }
 {
     for term in terms {
-        if is_faulty(term) {
+        if millionths(term.number) <= 0 {
             return true;
         }
     }

@@ -21,12 +21,9 @@ use text_rules::TextKind;
 fn has_product(materials: &[Material]) -> bool
     ensures { result ≡ has_product materials.now }
 {
-    for material in materials {
-        if material.kind == Kind::Product {
-            return true;
-        }
-    }
-    false
+    materials
+        .iter()
+        .any(|material| material.kind == Kind::Product)
 }
 
 // The problem of these parts, where they have a product. With one they are valid, so that only want of memory refuses them.

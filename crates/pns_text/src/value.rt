@@ -1,5 +1,5 @@
 //! The parts of the problem that lines without a fault stand for.
-ghost use Rattle.std.specs.Prelude.{◌≡◌, ◌<◌, ◌^◌, length, ◌++◌, ◌&&◌, false, IfOk, OnOk, map, not, option_map, true, IfSome, is_some, find, position, unwrap_or, string_bytes};
+ghost use Rattle.std.specs.Prelude.{◌≡◌, ◌<◌, ◌^◌, length, ◌++◌, ◌&&◌, false, IfOk, OnOk, map, not, option_map, true, IfSome, is_some, find, string_bytes};
 ghost use Rattle.problem_rules.specs.Names.{is_name, is_among, has_double};
 ghost use Rattle.std.specs.Str.{bytes_eq};
 ghost use Rattle.text_rules.specs.Line.{head_of};
@@ -71,21 +71,14 @@ fn materials(
     Ok(materials)
 }
 
-// The number of the name, which is 0 where it is no name.
+// A term of a name that is no material is one of the first.
 #[tactic(auto, using(crate::proofs::Counts::position_few))]
-fn number_named(names: &NameSet<'_>, name: &[u8]) -> u32
-    requires { length names.now < 2 ^ 32 }
-    ensures { result ≡ unwrap_or (position (λ word. bytes_eq word name.now) names.now) 0 }
-{
-    names.number_of(name).unwrap_or(0) as u32
-}
-
 fn term(names: &NameSet<'_>, term: &term::Term<'_>) -> Term
     requires { length names.now < 2 ^ 32 }
     ensures { result ≡ term_from names.now (term_view term.now) }
 {
     Term {
-        material: number_named(names, term.name),
+        material: names.number_of(term.name).unwrap_or(0) as u32,
         rate: millionths(term.number),
     }
 }

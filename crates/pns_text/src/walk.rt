@@ -5,7 +5,7 @@ ghost use Rattle.text_lines.specs.Lines.{lines_from};
 ghost use Rattle.pns_text.specs.Cut.{Keeps};
 ghost use Rattle.text_lines.specs.Tells.{Tells};
 ghost use Rattle.pns_text.specs.View.{placed_view, walk_view};
-ghost use Rattle.pns_text.specs.Walk.{walk_start, kept_after, placed_at, take_line, step, walk_from, walk};
+ghost use Rattle.pns_text.specs.Walk.{walk_start, kept_after, take_line, step, walk_from, walk};
 
 use crate::cut::{Cut, Kept};
 use crate::fault::TextFault;
@@ -22,17 +22,6 @@ pub struct Walk<'a> {
     pub kept: Vec<Kept<'a>>,
     pub number: u32,
     pub section: Section,
-}
-
-fn placed<'a>(number: u32, section: Section, text: &'a [u8]) -> Placed<'a>
-    ensures { placed_view result ≡ placed_at number section text.now }
-{
-    Placed {
-        number,
-        section: section_after(section, text),
-        header: is_header(text),
-        text,
-    }
 }
 
 impl<'a> Walk<'a> {
@@ -72,7 +61,12 @@ impl<'a> Walk<'a> {
             self.number += 1;
             return Ok(());
         }
-        let line = placed(self.number, self.section, text);
+        let line = Placed {
+            number: self.number,
+            section: section_after(self.section, text),
+            header: is_header(text),
+            text,
+        };
         self.take_line(alloc, &line)
     }
 }
