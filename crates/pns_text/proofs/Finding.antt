@@ -3,7 +3,7 @@ use Rattle.std.proofs.Common.{◌≡◌, ◌&&◌, ◌||◌, Bool, true, false, 
 use Rattle.std.specs.List.{list_any}
 use Rattle.std.specs.Str.{bytes_eq}
 use Rattle.text_rules.specs.declared.TextKind.{TextKind}
-use Rattle.pns_text.specs.Fault.{or_kind}
+use Rattle.pns_text.specs.Form.{or_kind}
 use Rattle.text_rules.specs.Field.{keyed, is_keyed, material_type}
 
 any_step : {A : Type 0} (p : A → Bool) (a : Bool) (x : A) (xs : List A) (rest : Bool) → list_any p xs ≡ rest → list_any p (cond a (x ∷ xs) xs) ≡ ((a && p x) || rest)

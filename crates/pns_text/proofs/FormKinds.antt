@@ -13,12 +13,8 @@ use Rattle.text_rules.specs.Amount.{amount_of}
 use Rattle.text_rules.specs.Line.{Placed, section_named, head_of, is_colon}
 use Rattle.text_rules.specs.Field.{Line, taken_apart, lines_in, has_key, key_of, value_of, keyed, is_keyed, items_of, material_keys, unit_keys, default_keys, material_type}
 use Rattle.text_rules.specs.Fault.{stands, form_kinds, is_bad, is_too_fine, is_too_large, millionths, may_be_negative}
-use Rattle.pns_text.specs.Fault.{or_kind}
+use Rattle.pns_text.specs.Form.{or_kind, is_unknown_kind, material_fault, unit_fault, is_beyond, exclusion_fault, default_number_stands, default_rest, default_fault}
 use Rattle.pns_text.specs.Item.{item_stands, number_kinds, fields_fault}
-use Rattle.pns_text.specs.MaterialLine.{is_unknown_kind, material_fault}
-use Rattle.pns_text.specs.UnitLine.{unit_fault, is_beyond}
-use Rattle.pns_text.specs.ExclusionLine.{exclusion_fault}
-use Rattle.pns_text.specs.DefaultLine.{default_number_stands, default_rest, default_fault}
 use Rattle.pns_text.specs.Seen.{Seen, header_fault, skipped_fault}
 use Rattle.pns_text.proofs.Finding.{any_filter, any_number, or_none, find_then, or_find}
 use Rattle.pns_text.proofs.NamesBefore.{IsSeen, has_header, units_before}

@@ -18,7 +18,8 @@ use Rattle.text_rules.specs.Value.{value_at, kind_of, material_read, term_read, 
 use Rattle.text_lines.specs.Terms.{pair_of}
 use Rattle.pns_text.specs.Kept.{lines_at, heads_at, lines_apart, fields_at}
 use Rattle.pns_text.specs.Settings.{Settings, default_fields, number_or, kind_or, number_at, settings_from, settings_of, payout_from, material_from, unit_from}
-use Rattle.pns_text.specs.Meaning.{Names, is_unit_turned, has_unknown, is_unit, line_meaning, fault_or, first_meaning}
+use Rattle.pns_text.specs.declared.meaning.Names.{Names}
+use Rattle.pns_text.specs.Meaning.{is_unit_turned, has_unknown, is_unit, line_meaning, fault_or, first_meaning}
 use Rattle.pns_text.specs.Value.{materials_from, term_from, sides_or, sides_named, listed_unit, bare_unit, bare_lines, units_from, unit_names_from, exclusion_from, exclusions_from, problem_from}
 use Rattle.pns_text.specs.Reading.{names_all}
 use Rattle.pns_text.specs.Walk.{matters}

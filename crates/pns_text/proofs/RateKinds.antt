@@ -8,7 +8,7 @@ use Rattle.text_rules.specs.declared.TextKind.TheVariants.{BadNumber, TooFine, T
 use Rattle.text_rules.specs.Amount.{amount_of}
 use Rattle.text_rules.specs.Fault.{is_bad, is_too_fine, is_too_large, millionths}
 use Rattle.text_lines.specs.Terms.{Pair}
-use Rattle.pns_text.specs.RatesLine.{rate_stands, is_faulty}
+use Rattle.pns_text.specs.Form.{rate_stands, is_faulty}
 
 not_bad : (r : Result ℤ TextKind) → not (int_lt (pos 0) (result_unwrap_or r (pos 0))) ≡ false → (is_bad r ≡ false) × (is_too_fine r ≡ false) × (is_too_large r ≡ false)
 not_bad (Ok z) e = (refl, refl, refl)

@@ -16,9 +16,7 @@ use Rattle.text_rules.specs.Amount.{amount_of}
 use Rattle.text_rules.specs.Blanks.{trim}
 use Rattle.text_rules.specs.Fault.{stands, form_kinds, is_bad, is_too_fine, is_too_large, millionths, may_be_negative}
 use Rattle.text_lines.specs.Terms.{Pair, pair_of, is_bad_term, has_bad_sides, sides_read}
-use Rattle.pns_text.specs.UnitLine.{is_beyond}
-use Rattle.pns_text.specs.Fault.{or_kind}
-use Rattle.pns_text.specs.RatesLine.{names_of, rate_stands, rate_kinds, term_fault, doubled, whole_fault, sides_fault}
+use Rattle.pns_text.specs.Form.{is_beyond, or_kind, names_of, rate_stands, rate_kinds, term_fault, doubled, whole_fault, sides_fault}
 use Rattle.pns_text.specs.Seen.{Seen}
 use Rattle.text_laws.proofs.PrintedAmount.{after_none}
 use Rattle.pns_text.proofs.Finding.{any_map, or_none, and_true}

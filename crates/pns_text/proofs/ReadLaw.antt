@@ -9,7 +9,8 @@ use Rattle.text_rules.specs.Value.{stands_in, meaning_kinds, meaning_fault, prob
 use Rattle.text_lines.specs.Tells.{Tells}
 use Rattle.pns_text.specs.Kept.{lines_apart}
 use Rattle.pns_text.specs.Settings.{Settings, settings_of}
-use Rattle.pns_text.specs.Meaning.{Names, first_meaning}
+use Rattle.pns_text.specs.declared.meaning.Names.{Names}
+use Rattle.pns_text.specs.Meaning.{first_meaning}
 use Rattle.pns_text.specs.Value.{problem_from}
 use Rattle.pns_text.specs.Reading.{names_all, has_product, with_product, or_first, meaning_at}
 use Rattle.pns_text.specs.Walk.{Walk, matters, walk_start, walk}

@@ -5,7 +5,7 @@ use Rattle.std.proofs.lemmas.Bool.{ne_eqb}
 use Rattle.std.proofs.lemmas.List.Folds.{list_any-append}
 use Rattle.text_rules.specs.Field.{material_of}
 use Rattle.text_lines.specs.Terms.{Pair, pair_of, is_bad_term, has_bad_sides, sides_read}
-use Rattle.pns_text.specs.RatesLine.{names_of}
+use Rattle.pns_text.specs.Form.{names_of}
 use Rattle.pns_text.proofs.Finding.{any_map, or_none}
 
 are_by : (b : Bool) (found sides : List Pair × List Pair) → Some found ≡ (if b then None else Some sides) → found ≡ sides

@@ -7,7 +7,7 @@ use Rattle.text_rules.specs.Fault.{Fault, form_fault}
 use Rattle.pns_text.specs.Kept.{is_at, lines_at, heads_at}
 use Rattle.pns_text.specs.Seen.{more_if}
 use Rattle.pns_text.specs.Walk.{Walk, HasNames, is_meant, matters, kept_after, walk_start, walk_past, placed_at, walk}
-use Rattle.pns_text.specs.Meaning.{Names}
+use Rattle.pns_text.specs.declared.meaning.Names.{Names}
 use Rattle.pns_text.specs.Reading.{names_all}
 use Rattle.pns_text.proofs.KeptLines.{meant}
 use Rattle.pns_text.proofs.WalkLaw.{ending, walked, walked_full, behind_first, walk_is}

@@ -9,7 +9,7 @@ use Rattle.text_lines.specs.View.{texts}
 use Rattle.text_lines.specs.Terms.{sides_view, sides_read}
 use Rattle.text_lines.specs.declared.fault.TextFault.{TextFault}
 use Rattle.text_rules.specs.declared.TextKind.{TextKind}
-use Rattle.pns_text.specs.Fault.{TellsKind}
+use Rattle.pns_text.specs.Form.{TellsKind}
 use Rattle.pns_text.specs.Seen.{Seen, seen_after, line_fault}
 use Rattle.pns_text.specs.Walk.{matters}
 use Rattle.pns_text.specs.declared.cut.Cut.{Cut}

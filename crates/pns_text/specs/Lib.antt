@@ -1,16 +1,11 @@
 pub mod Cut
-pub mod DefaultLine
-pub mod ExclusionLine
-pub mod Fault
+pub mod Form
 pub mod Item
 pub mod Kept
-pub mod MaterialLine
 pub mod Meaning
-pub mod RatesLine
 pub mod Reading
 pub mod Seen
 pub mod Settings
-pub mod UnitLine
 pub mod Value
 pub mod View
 pub mod Walk

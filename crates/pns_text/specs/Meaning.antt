@@ -11,12 +11,7 @@ use Rattle.text_rules.specs.Field.{items_of, sides_of, material_of}
 use Rattle.text_rules.specs.Fault.{Fault}
 use Rattle.pns_text.specs.Kept.{fields_at}
 use Rattle.pns_text.specs.Settings.{Settings, number_at}
-
--- the names of all materials, units and lines of rates
-pub record Names : Type 0 where
-  pub materials : List (List ℕ)
-  pub units : List (List ℕ)
-  pub rates : List (List ℕ)
+use Rattle.pns_text.specs.declared.meaning.Names.{Names}
 
 abbrev pub is_material_turned : Settings → List (List ℕ × List ℕ) → Bool
 is_material_turned s fields =

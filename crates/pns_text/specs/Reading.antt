@@ -8,7 +8,8 @@ use Rattle.text_rules.specs.Line.{Placed}
 use Rattle.text_rules.specs.Fault.{Fault}
 use Rattle.pns_text.specs.Kept.{heads_at, lines_apart}
 use Rattle.pns_text.specs.Settings.{settings_of}
-use Rattle.pns_text.specs.Meaning.{Names, first_meaning}
+use Rattle.pns_text.specs.declared.meaning.Names.{Names}
+use Rattle.pns_text.specs.Meaning.{first_meaning}
 use Rattle.pns_text.specs.Value.{problem_from}
 
 abbrev pub names_all : List Placed → Names

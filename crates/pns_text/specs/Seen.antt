@@ -8,13 +8,9 @@ use Rattle.text_rules.specs.declared.Section.TheVariants.{Preamble, MeasurementU
 use Rattle.text_rules.specs.Line.{section_named, Placed, head_of}
 use Rattle.text_rules.specs.Field.{has_key, key_of, items_of, sides_of}
 use Rattle.text_lines.specs.Once.{with_name}
-use Rattle.pns_text.specs.MaterialLine.{material_fault}
-use Rattle.pns_text.specs.UnitLine.{unit_fault}
+use Rattle.pns_text.specs.Form.{material_fault, unit_fault, sides_fault, exclusion_fault, default_fault}
 use Rattle.text_lines.specs.Terms.{sides_read}
 use Rattle.pns_text.specs.Kept.{is_at}
-use Rattle.pns_text.specs.RatesLine.{sides_fault}
-use Rattle.pns_text.specs.ExclusionLine.{exclusion_fault}
-use Rattle.pns_text.specs.DefaultLine.{default_fault}
 
 -- the names of headers, the keys of defaults and the names of entries; unit_names has each name of a unit once
 pub record Seen : Type 0 where

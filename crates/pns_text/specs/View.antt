@@ -4,8 +4,6 @@ use Rattle.text_lines.specs.View.{texts}
 use Rattle.pns_text.specs.Seen as seen
 use Rattle.pns_text.specs.Walk as walk
 use Rattle.pns_text.specs.Settings as settings
-use Rattle.pns_text.specs.Meaning as meaning
-use Rattle.pns_text.specs.declared.meaning.Names.{Names}
 use Rattle.pns_problem.specs.Kind.{kind_of}
 use Rattle.pns_text.specs.declared.settings.Settings.{Settings}
 use Rattle.pns_text.specs.declared.seen.Placed.{Placed}
@@ -42,6 +40,3 @@ settings_view s = record {
   investment_fix = s.investment_fix;
   investment_proportional = s.investment_proportional;
 }
-
-abbrev pub names_view : Names → meaning.Names
-names_view n = record { materials = n.materials; units = n.units; rates = n.rates }

@@ -3,8 +3,7 @@ ghost use Rattle.std.specs.Prelude.{◌≡◌, ◌==◌, false, IfOk, IfNone, le
 ghost use Rattle.std.specs.List.{list_any};
 ghost use Rattle.problem_rules.specs.Names.{is_name, has_double};
 ghost use Rattle.text_lines.specs.View.{texts};
-ghost use Rattle.pns_text.specs.Fault.{IsNew};
-ghost use Rattle.pns_text.specs.ExclusionLine.{exclusion_fault};
+ghost use Rattle.pns_text.specs.Form.{IsNew, exclusion_fault};
 
 use std::alloc::{AllocError, Global};
 use text_lines::line::has_colon;

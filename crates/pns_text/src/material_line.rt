@@ -1,8 +1,7 @@
 //! The form of a line of materials.
 ghost use Rattle.std.specs.Prelude.{◌≡◌, IfNone};
 ghost use Rattle.std.specs.List.{list_any};
-ghost use Rattle.pns_text.specs.Fault.{IsNew};
-ghost use Rattle.pns_text.specs.MaterialLine.{is_unknown_kind, material_fault};
+ghost use Rattle.pns_text.specs.Form.{IsNew, is_unknown_kind, material_fault};
 
 use crate::item::{Item, fields_kind, some_empty};
 use text_lines::name_set::NameSet;

@@ -4,10 +4,10 @@ ghost use Rattle.std.specs.List.{list_any};
 ghost use Rattle.problem_rules.specs.Names.{is_among};
 ghost use Rattle.text_lines.specs.View.{texts};
 ghost use Rattle.text_lines.specs.Terms.{terms_view, sides_view};
-ghost use Rattle.pns_text.specs.RatesLine.{names_of};
+ghost use Rattle.pns_text.specs.Form.{names_of};
 ghost use Rattle.pns_text.specs.Kept.{heads_at, item_fields};
 ghost use Rattle.pns_text.specs.Meaning.{is_unit, unit_kind, rates_kind, exclusion_kind, line_meaning, first_meaning};
-ghost use Rattle.pns_text.specs.View.{settings_view, names_view};
+ghost use Rattle.pns_text.specs.View.{settings_view};
 
 use crate::cut::{Cut, Kept};
 use crate::item::Item;
@@ -45,7 +45,7 @@ pub(crate) fn heads_at<'a>(
 
 impl<'a> Names<'a> {
     pub(crate) fn new(alloc: Global) -> Names<'a>
-        ensures { names_view result ≡ record { materials = []; units = []; rates = [] } }
+        ensures { result ≡ record { materials = []; units = []; rates = [] } }
     {
         Names {
             materials: NameSet::new(alloc),
@@ -55,7 +55,7 @@ impl<'a> Names<'a> {
     }
 
     fn is_unit(&self, item: &[u8]) -> bool
-        ensures { result ≡ is_unit (names_view self.now) item.now }
+        ensures { result ≡ is_unit self.now item.now }
     {
         self.units.has(item) || self.rates.has(item)
     }
@@ -67,7 +67,7 @@ fn unit_meaning(
     name: &[u8],
     items: &[Item<'_>],
 ) -> Option<TextKind>
-    ensures { result ≡ unit_kind (settings_view settings.now) (names_view names.now) name.now (item_fields items.now) }
+    ensures { result ≡ unit_kind (settings_view settings.now) names.now name.now (item_fields items.now) }
 {
     if settings.is_unit_turned(items) {
         return Some(TextKind::LowAboveHigh);
@@ -102,7 +102,7 @@ fn rates_meaning(
     name: &[u8],
     sides: &Sides<'_>,
 ) -> Option<TextKind>
-    ensures { result ≡ rates_kind (settings_view settings.now) (names_view names.now) name.now (list_any (λ name. not (is_among names.now.materials name)) (names_of (sides_view sides.now).0)
+    ensures { result ≡ rates_kind (settings_view settings.now) names.now name.now (list_any (λ name. not (is_among names.now.materials name)) (names_of (sides_view sides.now).0)
         || list_any (λ name. not (is_among names.now.materials name)) (names_of (sides_view sides.now).1)) }
 {
     if !names.units.has(name) && settings.is_unit_turned(&[]) {
@@ -112,7 +112,7 @@ fn rates_meaning(
 }
 
 fn some_no_unit(names: &Names<'_>, items: &[&[u8]]) -> bool
-    ensures { result ≡ list_any (λ item. not (is_unit (names_view names.now) item)) (texts items.now) }
+    ensures { result ≡ list_any (λ item. not (is_unit names.now item)) (texts items.now) }
 {
     for item in items {
         if !names.is_unit(*item) {
@@ -123,14 +123,14 @@ fn some_no_unit(names: &Names<'_>, items: &[&[u8]]) -> bool
 }
 
 fn exclusion_meaning(names: &Names<'_>, members: &[&[u8]]) -> Option<TextKind>
-    ensures { result ≡ exclusion_kind (names_view names.now) (texts members.now) }
+    ensures { result ≡ exclusion_kind names.now (texts members.now) }
 {
     some_no_unit(names, members).then_some(TextKind::UnknownUnit)
 }
 
 #[tactic(auto, using(crate::proofs::CutLines::meaning_cut))]
 fn line_meaning(settings: &Settings, names: &Names<'_>, line: &Kept<'_>) -> Option<TextKind>
-    ensures { result ≡ line_meaning (settings_view settings.now) (names_view names.now) line.now }
+    ensures { result ≡ line_meaning (settings_view settings.now) names.now line.now }
 {
     match &line.cut {
         Cut::Default => None,
@@ -149,7 +149,7 @@ pub(crate) fn first_meaning(
     names: &Names<'_>,
     lines: &[Kept<'_>],
 ) -> Option<(u32, TextKind)>
-    ensures { result ≡ first_meaning (settings_view settings.now) (names_view names.now) lines.now }
+    ensures { result ≡ first_meaning (settings_view settings.now) names.now lines.now }
 {
     for line in lines {
         if let Some(kind) = line_meaning(settings, names, line) {

@@ -4,8 +4,7 @@ ghost use Rattle.std.specs.List.{list_any};
 ghost use Rattle.problem_rules.specs.Names.{is_name, is_among};
 ghost use Rattle.text_lines.specs.View.{texts};
 ghost use Rattle.text_lines.specs.Terms.{terms_view, sides_view};
-ghost use Rattle.pns_text.specs.Fault.{IsNew};
-ghost use Rattle.pns_text.specs.RatesLine.{names_of, rate_stands, is_faulty, doubled, term_fault, whole_fault, sides_fault};
+ghost use Rattle.pns_text.specs.Form.{IsNew, names_of, rate_stands, is_faulty, doubled, term_fault, whole_fault, sides_fault};
 
 use crate::item::number_stands;
 use crate::unit_line::is_beyond;

@@ -4,7 +4,6 @@ ghost use Rattle.problem_rules.specs.Problem as rules;
 ghost use Rattle.problem_rules.specs.Validity.{IsValid};
 ghost use Rattle.text_rules.specs.Value.{read_text};
 ghost use Rattle.text_lines.specs.Tells.{Tells};
-ghost use Rattle.pns_text.specs.View.{names_view};
 ghost use Rattle.pns_text.specs.Reading.{has_product, with_product, names_all, meaning_at};
 
 use crate::cut::Kept;
@@ -56,7 +55,7 @@ fn read_meaning(
     lines: &[Kept<'_>],
     number: u32,
 ) -> Result<Problem, TextFault>
-    requires names { names_view names.now ≡ names_all lines.now }
+    requires names { names.now ≡ names_all lines.now }
     requires few { length lines.now < 2 ^ 32 }
     requires valid { (p : rules.Problem) → meaning_at lines.now number ≡ Ok p → IsValid p }
     ensures ok { IfOk result (λ p. meaning_at lines.now number ≡ Ok p) }

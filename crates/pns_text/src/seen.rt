@@ -1,7 +1,7 @@
 //! What was seen on the lines before a line, and the form of the line by it.
 ghost use Rattle.std.specs.Prelude.{◌≡◌, IfOk, IfErr, None, OnOk, false};
 ghost use Rattle.text_lines.specs.View.{texts};
-ghost use Rattle.pns_text.specs.Fault.{TellsKind};
+ghost use Rattle.pns_text.specs.Form.{TellsKind};
 ghost use Rattle.pns_text.specs.Seen.{seen_none, header_fault, skipped_fault};
 ghost use Rattle.pns_text.specs.Cut.{Takes};
 ghost use Rattle.pns_text.specs.View.{placed_view, seen_view};

@@ -2,8 +2,7 @@
 ghost use Rattle.std.specs.Prelude.{◌≡◌, IfNone, not};
 ghost use Rattle.std.specs.List.{list_any};
 ghost use Rattle.text_rules.specs.Field.{has_key};
-ghost use Rattle.pns_text.specs.Fault.{IsNew};
-ghost use Rattle.pns_text.specs.UnitLine.{unit_fault, is_beyond};
+ghost use Rattle.pns_text.specs.Form.{IsNew, unit_fault, is_beyond};
 
 use crate::item::{Item, fields_kind};
 use text_lines::name_set::NameSet;
