@@ -8,9 +8,7 @@ pub mod MeaningLaw
 pub mod NamesBefore
 pub mod Places
 pub mod RateKinds
-pub mod RatesKinds
 pub mod ReadLaw
 pub mod SidesRead
 pub mod WalkLaw
-pub mod WalkNames
 pub mod Walking

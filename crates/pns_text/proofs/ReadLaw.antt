@@ -70,6 +70,10 @@ read_all (first ∷ texts) = read_first first texts
 pub read_is : (bytes : List ℕ) → read_text bytes ≡ readings (walk (lines_of bytes))
 read_is bytes = read_all (lines_of bytes)
 
+-- by the lines that a walk kept
+pub read_kept : (bytes : List ℕ) (w : Walk) (lines : List Placed) → walk (lines_of bytes) ≡ Ok w → lines ≡ w.kept → read_text bytes ≡ meaning_at lines w.number
+read_kept bytes w lines walked is = read_is bytes ∙ ap readings walked ∙ ap (λ (kept : List Placed). meaning_at kept w.number) (sym is)
+
 pub walk_tells : (fault : TextFault TextKind) (bytes : List ℕ) → Tells (walk (lines_of bytes)) fault → Tells (read_text bytes) fault
 walk_tells Memory bytes told = tt
 walk_tells (At line kind) bytes told = read_is bytes ∙ ap readings told

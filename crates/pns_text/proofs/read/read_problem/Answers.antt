@@ -1,27 +1,23 @@
 use Rattle.std.proofs.Common.{◌≡◌, List, length, Result, Ok, IfOk, IfErr, subst, sym, ap, ◌∙◌, arith}
 use Rattle.problem_rules.specs.Problem.{Problem}
-use Rattle.text_rules.specs.Line.{Placed, lines_of}
+use Rattle.text_rules.specs.Line.{lines_of}
 use Rattle.text_rules.specs.Fault as rules
-use Rattle.text_rules.specs.Value.{read_text}
 use Rattle.text_lines.specs.Tells.{Tells}
-use Rattle.pns_text.specs.Reading.{meaning_at}
 use Rattle.pns_text.specs.Reading.{names_all}
 use Rattle.pns_text.specs.View.{walk_view}
 use Rattle.pns_text.specs.Walk.{Walk}
-use Rattle.pns_text.proofs.WalkNames.{names_walk, names_are}
-use Rattle.pns_text.proofs.ReadLaw.{readings, read_is, walk_tells}
+use Rattle.pns_text.proofs.WalkLaw.{names_walk, names_are}
+use Rattle.pns_text.proofs.ReadLaw.{read_kept, walk_tells}
 use Rattle.pns_text.proofs.read.read_problem.Goals as goal
 
 pub returns-in-Ok-clause-read : goal.returns-in-Ok-clause-read
 returns-in-Ok-clause-read c =
-    let whole : read_text c.args.bytes.now ≡ meaning_at c.deref.result.now c.in-Ok.walk.number =
-    read_is c.args.bytes.now ∙ ap readings c.in-Ok.ensures.ok ∙ ap (λ (lines : List Placed). meaning_at lines c.in-Ok.walk.number) (sym c.deref.ensures.value) in
+    let whole = read_kept c.args.bytes.now (walk_view c.in-Ok.walk) c.deref.result.now c.in-Ok.ensures.ok c.deref.ensures.value in
     subst (λ (reading : Result Problem rules.Fault). IfOk c.read_meaning.result (λ p. reading ≡ Ok p)) (sym whole) c.read_meaning.ensures.ok
 
 pub returns-in-Ok-clause-fault : goal.returns-in-Ok-clause-fault
 returns-in-Ok-clause-fault c =
-    let whole : read_text c.args.bytes.now ≡ meaning_at c.deref.result.now c.in-Ok.walk.number =
-    read_is c.args.bytes.now ∙ ap readings c.in-Ok.ensures.ok ∙ ap (λ (lines : List Placed). meaning_at lines c.in-Ok.walk.number) (sym c.deref.ensures.value) in
+    let whole = read_kept c.args.bytes.now (walk_view c.in-Ok.walk) c.deref.result.now c.in-Ok.ensures.ok c.deref.ensures.value in
     subst (λ (reading : Result Problem rules.Fault). IfErr c.read_meaning.result (Tells reading)) (sym whole) c.read_meaning.ensures.fault
 
 pub returns-in-Err-clause-fault : goal.returns-in-Err-clause-fault
@@ -40,6 +36,5 @@ read_meaning-requires-clause-few c =
 
 pub read_meaning-requires-clause-valid : goal.read_meaning-requires-clause-valid
 read_meaning-requires-clause-valid c = λ p reads.
-    let whole : read_text c.args.bytes.now ≡ meaning_at c.deref.result.now c.in-Ok.walk.number =
-    read_is c.args.bytes.now ∙ ap readings c.in-Ok.ensures.ok ∙ ap (λ (lines : List Placed). meaning_at lines c.in-Ok.walk.number) (sym c.deref.ensures.value) in
+    let whole = read_kept c.args.bytes.now (walk_view c.in-Ok.walk) c.deref.result.now c.in-Ok.ensures.ok c.deref.ensures.value in
     c.read_is_valid.ensures c.args.bytes.now p (whole ∙ reads)
