@@ -2,6 +2,7 @@
 use Rattle.std.proofs.Common.{◌≡◌, ◌≤◌, ◌<◌, ◌+◌, ◌&&◌, Bool, true, false, cond, not, nat_lt, ℕ, suc, List, [], ◌∷◌, length, map, filter, Some, None, unwrap_or, refl, arith, length-append, ltb-true}
 use Rattle.std.specs.List.{position, position_or_len}
 use Rattle.std.proofs.lemmas.List.{length-map}
+use Rattle.std.proofs.lemmas.List.Sums.{length-filter, count_by-le-length}
 use Rattle.text_rules.specs.declared.Section.{Section}
 use Rattle.text_rules.specs.declared.Section.TheVariants.{OperatingUnits, Rates}
 use Rattle.problem_rules.specs.Names.{is_among}
@@ -16,18 +17,13 @@ place_few false at long limit e few = omega (arith, few)
 pub position_few : {X : Type 0} (p : X → Bool) (xs : List X) (limit : ℕ) → length xs < limit → unwrap_or (position p xs) 0 < limit
 position_few p xs limit few = place_few (nat_lt (position_or_len p xs) (length xs)) (position_or_len p xs) (length xs) limit refl few
 
-one : (b : Bool) (x : Placed) (xs : List Placed) (n : ℕ) → length xs ≤ n → length (cond b (x ∷ xs) xs) ≤ suc n
-one true x xs n le = omega (arith, le)
-one false x xs n le = omega (arith, le)
-
-lines_few : (section : Section) (lines : List Placed) → length (lines_at section lines) ≤ length lines
-lines_few section [] = omega arith
-lines_few section (line ∷ lines) = one (is_at section line) line (lines_at section lines) (length lines) (lines_few section lines)
+filter_few : {X : Type 0} (p : X → Bool) (xs : List X) → length (filter p xs) ≤ length xs
+filter_few p xs = let e = length-filter p xs in let le = count_by-le-length p xs in omega (arith, e, le)
 
 pub heads_few : (section : Section) (lines : List Placed) → length (heads_at section lines) ≤ length lines
 heads_few section lines =
     let e = length-map (lines_at section lines) (λ (line : Placed). head_of line.text) in
-    let le = lines_few section lines in
+    let le = filter_few (is_at section) lines in
     omega (arith, e, le)
 
 -- a line is in one section
@@ -36,24 +32,16 @@ apart OperatingUnits true = refl
 apart OperatingUnits false = refl
 apart section header = refl
 
-two : (b c d : Bool) (x : Placed) (xs ys zs : List Placed) (n : ℕ) → (b && c) ≡ false → zs ≡ cond d (x ∷ ys) ys → length xs + length ys ≤ n → length (cond b (x ∷ xs) xs) + length (cond c zs ys) ≤ suc n
-two true true d x xs ys zs n e is le = cc
-two true false d x xs ys zs n e is le = omega (arith, le)
-two false false d x xs ys zs n e is le = omega (arith, le)
-two false true true x xs ys zs n e is le = let long : length zs ≡ length (x ∷ ys) = (λ i. length (is i)) in omega (arith, long, le)
-two false true false x xs ys zs n e is le = let long : length zs ≡ length ys = (λ i. length (is i)) in omega (arith, long, le)
+two : (b c : Bool) (x : Placed) (xs ys : List Placed) (n : ℕ) → (b && c) ≡ false → length xs + length ys ≤ n → length (cond b (x ∷ xs) xs) + length (cond c (x ∷ ys) ys) ≤ suc n
+two true true x xs ys n e le = cc
+two true false x xs ys n e le = omega (arith, le)
+two false true x xs ys n e le = omega (arith, le)
+two false false x xs ys n e le = omega (arith, le)
 
-chosen : (q : Placed → Bool) (c : Bool) (x : Placed) (xs : List Placed) → filter q (cond c (x ∷ xs) xs) ≡ cond c (cond (q x) (x ∷ filter q xs) (filter q xs)) (filter q xs)
-chosen q true x xs = refl
-chosen q false x xs = refl
-
-both_few : (units : List (List ℕ)) (lines : List Placed) → length (lines_at OperatingUnits lines) + length (bare_lines units lines) ≤ length lines
-both_few units [] = omega arith
-both_few units (line ∷ lines) =
-    let bare : Placed → Bool = λ line. not (is_among units (head_of line.text)) in
-    let long : length (bare_lines units (line ∷ lines)) ≡ length (cond (is_at Rates line) (cond (bare line) (line ∷ bare_lines units lines) (bare_lines units lines)) (bare_lines units lines)) = (λ i. length (chosen bare (is_at Rates line) line (lines_at Rates lines) i)) in
-    let le = two (is_at OperatingUnits line) (is_at Rates line) (bare line) line (lines_at OperatingUnits lines) (bare_lines units lines) (cond (bare line) (line ∷ bare_lines units lines) (bare_lines units lines)) (length lines) (apart line.section line.header) refl (both_few units lines) in
-    omega (arith, long, le)
+both_few : (lines : List Placed) → length (lines_at OperatingUnits lines) + length (lines_at Rates lines) ≤ length lines
+both_few [] = omega arith
+both_few (line ∷ lines) =
+    two (is_at OperatingUnits line) (is_at Rates line) line (lines_at OperatingUnits lines) (lines_at Rates lines) (length lines) (apart line.section line.header) (both_few lines)
 
 pub units_few : (lines : List Placed) → length (unit_names_from lines) ≤ length lines
 units_few lines =
@@ -62,5 +50,6 @@ units_few lines =
     let all = length-append units bare in
     let one = length-map (lines_at OperatingUnits lines) (λ (line : Placed). head_of line.text) in
     let other = length-map (bare_lines units lines) (λ (line : Placed). head_of line.text) in
-    let le = both_few units lines in
-    omega (arith, all, one, other, le)
+    let few = filter_few (λ (line : Placed). not (is_among units (head_of line.text))) (lines_at Rates lines) in
+    let le = both_few lines in
+    omega (arith, all, one, other, few, le)

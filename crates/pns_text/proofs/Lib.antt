@@ -6,9 +6,7 @@ pub mod ItemLines
 pub mod KeptLines
 pub mod MeaningLaw
 pub mod NamesBefore
-pub mod Places
 pub mod RateKinds
 pub mod ReadLaw
-pub mod SidesRead
 pub mod WalkLaw
 pub mod Walking

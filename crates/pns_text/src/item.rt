@@ -40,7 +40,7 @@ impl<'a> Model for Item<'a> {
 }
 
 // Whether a text has an equals sign, and what stands before and behind the first.
-#[tactic(auto, using(crate::proofs::Places::has_place, crate::proofs::Places::no_place))]
+#[tactic(auto, using(crate::proofs::ItemLines::has_place, crate::proofs::ItemLines::no_place))]
 fn parted(text: &[u8]) -> (bool, &[u8], &[u8])
     ensures has { result.0 ≡ has_key text.now }
     ensures key { result.1.now ≡ key_of text.now }
