@@ -1,5 +1,4 @@
 //! One line of a script.
-ghost use Rattle.std.specs.Prelude.{◌≡◌, ◌<◌, ◌^◌, Ok, length};
 ghost use Rattle.text_lines.specs.View.{texts};
 ghost use Rattle.script_rules.specs.Read.{fields_read, line_read};
 ghost use Rattle.edit_scripts.specs.Reads.{Reads};

@@ -126,6 +126,7 @@ fn push_head(text: &mut String, edit: &Edit) -> Result<(), AllocError>
     }
 }
 
+// The amounts.
 fn push_amounts_of(alloc: Global, text: &mut String, edit: &Edit) -> Result<(), AllocError>
     ensures { OnOk result (string_bytes text.new ≡ appended (string_bytes text.old) (amounts_of (edit_of edit.now))) }
 {
