@@ -1,5 +1,4 @@
 mod Reading
 pub mod Tokens
-mod SetTokens
 mod Texts
 mod Once

@@ -1,8 +1,6 @@
 -- A text of a part is read in one way.
-use Rattle.std.proofs.Common.{◌≡◌, ◌≤◌, Bool, true, false, ℕ, List, [], ◌∷◌, length, codes, Result, Ok, Err, refl, sym, ap, ◌∙◌, subst, inl, inr, ◌⊎◌, arith}
+use Rattle.std.proofs.Common.{◌≡◌, ◌≤◌, Bool, true, false, ℕ, List, [], ◌∷◌, length, codes, Result, Ok, Err, refl, sym, ap, ◌∙◌, subst, inl, inr, ◌⊎◌}
 use Rattle.problem_rules.specs.Problem.{Problem}
-use Rattle.number_sets.specs.Sets.{IsSet}
-use Rattle.number_sets.proofs.SetLemmas.{AreBelow-higher}
 use Rattle.pns_rules.specs.Tokens.{token_of}
 use Rattle.structure_list.proofs.TokenLemmas.{token_one}
 use Rattle.tree_text_rules.specs.Line.{Token, Line, tokens_of, lines_of}
@@ -10,6 +8,7 @@ use Rattle.tree_text_rules.specs.Read.{Fault, rest_taken}
 use Rattle.tree_text_rules.specs.declared.TreeKind.{TreeKind}
 use Rattle.tree_text_rules.specs.declared.TreeKind.TheVariants.{FileType, BadLine, UnknownName, BadNumber, Order, WrongCount, MoreNodes, FewerNodes, AfterEnd}
 use Rattle.part_rules.specs.Part.{Part}
+use Rattle.part_text.proofs.Tokens.{wider}
 use Rattle.part_rules.specs.Read.{PartReads, LinesRead, StartReads, FirstLine, BehindType, SetLine, is_file_type, with_start}
 
 module _ (p : Problem) (few : length p.units ≤ 128) where
@@ -19,47 +18,33 @@ module _ (p : Problem) (few : length p.units ≤ 128) where
     same_token : (a b : Token) → tokens_of line ≡ word ∷ a ∷ [] → tokens_of line ≡ word ∷ b ∷ [] → a ≡ b
     same_token a b e f = let both : word ∷ a ∷ [] ≡ word ∷ b ∷ [] = sym e ∙ f in cc
 
-    wide : (units : List ℕ) → IsSet (length p.units) units → IsSet 128 units
-    wide units is = record { rising = is.rising; below = AreBelow-higher (length p.units) 128 units few is.below }
+    -- the line has not its form, or its token is none of a set that fits
+    abbrev IsBad : TreeKind → Type 0
+    IsBad kind = ((kind ≡ BadLine) × SetLine p before word line (Err BadLine)) ⊎ ((kind ≡ BadNumber) × SetLine p before word line (Err BadNumber))
 
-    two_kinds : (kind : TreeKind) → SetLine p before word line (Err kind) → (kind ≡ BadLine) ⊎ (kind ≡ BadNumber)
-    two_kinds FileType h = absurd h
-    two_kinds BadLine h = inl refl
-    two_kinds UnknownName h = absurd h
-    two_kinds BadNumber h = inr refl
-    two_kinds Order h = absurd h
-    two_kinds WrongCount h = absurd h
-    two_kinds MoreNodes h = absurd h
-    two_kinds FewerNodes h = absurd h
-    two_kinds AfterEnd h = absurd h
+    is_bad : (kind : TreeKind) → SetLine p before word line (Err kind) → IsBad kind
+    is_bad FileType h = absurd h
+    is_bad BadLine h = inl (refl, h)
+    is_bad UnknownName h = absurd h
+    is_bad BadNumber h = inr (refl, h)
+    is_bad Order h = absurd h
+    is_bad WrongCount h = absurd h
+    is_bad MoreNodes h = absurd h
+    is_bad FewerNodes h = absurd h
+    is_bad AfterEnd h = absurd h
 
-    module _ (kind : TreeKind) (h : SetLine p before word line (Err kind)) where
-      not_both : (units : List ℕ) → SetLine p before word line (Ok units) → ⊥
-      not_both units ok = elim (two_kinds kind h) [
-        | inl e ↦ (subst (λ (k : TreeKind). SetLine p before word line (Err k)) e h) (token_of units) ok.0
-        | inr e ↦
-            let bad : SetLine p before word line (Err BadNumber) = subst (λ (k : TreeKind). SetLine p before word line (Err k)) e h in
-            bad.2 units ok.1 (same_token bad.0 (token_of units) bad.1.1 ok.0.1)
-      ]
+    not_both : (kind : TreeKind) (units : List ℕ) → IsBad kind → SetLine p before word line (Ok units) → ⊥
+    not_both kind units (inl (e, bad)) ok = bad (token_of units) ok.0
+    not_both kind units (inr (e, bad)) ok = bad.2 units ok.1 (same_token bad.0 (token_of units) bad.1.1 ok.0.1)
 
-      one_kind : (other : TreeKind) → SetLine p before word line (Err other) → kind ≡ other
-      one_kind other g = elim (two_kinds kind h) as (λ _. kind ≡ other) [
-        | inl e ↦ elim (two_kinds other g) as (λ _. kind ≡ other) [
-          | inl f ↦ e ∙ sym f
-          | inr f ↦
-              let bad : SetLine p before word line (Err BadNumber) = subst (λ (k : TreeKind). SetLine p before word line (Err k)) f g in
-              absurd ((subst (λ (k : TreeKind). SetLine p before word line (Err k)) e h) bad.0 bad.1)
-        ]
-        | inr e ↦ elim (two_kinds other g) as (λ _. kind ≡ other) [
-          | inl f ↦
-              let bad : SetLine p before word line (Err BadNumber) = subst (λ (k : TreeKind). SetLine p before word line (Err k)) e h in
-              absurd ((subst (λ (k : TreeKind). SetLine p before word line (Err k)) f g) bad.0 bad.1)
-          | inr f ↦ e ∙ sym f
-        ]
-      ]
+    one_kind : (kind other : TreeKind) → IsBad kind → IsBad other → kind ≡ other
+    one_kind kind other (inl (e, bad)) (inl (f, worse)) = e ∙ sym f
+    one_kind kind other (inl (e, bad)) (inr (f, worse)) = absurd (bad worse.0 worse.1)
+    one_kind kind other (inr (e, bad)) (inl (f, worse)) = absurd (worse bad.0 bad.1)
+    one_kind kind other (inr (e, bad)) (inr (f, worse)) = e ∙ sym f
 
     one_set : (units others : List ℕ) → SetLine p before word line (Ok units) → SetLine p before word line (Ok others) → units ≡ others
-    one_set units others h g = token_one units others (wide units h.1.0) (wide others g.1.0) (same_token (token_of units) (token_of others) h.0.1 g.0.1)
+    one_set units others h g = token_one units others (wider (length p.units) units few h.1.0) (wider (length p.units) others few g.1.0) (same_token (token_of units) (token_of others) h.0.1 g.0.1)
 
   -- ---- lines one behind the other
 
@@ -67,9 +52,10 @@ module _ (p : Problem) (few : length p.units ≤ 128) where
       (once : (units : List ℕ) (lines : List Line) (r s : Result Part Fault) → Read units lines r → Read units lines s → r ≡ s) where
     first_once : (lines : List Line) (r s : Result Part Fault) → FirstLine (SetLine p before word) number lines Read r → FirstLine (SetLine p before word) number lines Read s → r ≡ s
     first_once [] r s e f = e ∙ sym f
-    first_once (line ∷ lines) r s (inl h) (inl g) = h.2 ∙ ap (λ (k : TreeKind). Err (number, k)) (one_kind before word line h.0 h.1 g.0 g.1) ∙ sym g.2
-    first_once (line ∷ lines) r s (inl h) (inr g) = absurd (not_both before word line h.0 h.1 g.0 g.1)
-    first_once (line ∷ lines) r s (inr h) (inl g) = absurd (not_both before word line g.0 g.1 h.0 h.1)
+    first_once (line ∷ lines) r s (inl h) (inl g) =
+        h.2 ∙ ap (λ (k : TreeKind). Err (number, k)) (one_kind before word line h.0 g.0 (is_bad before word line h.0 h.1) (is_bad before word line g.0 g.1)) ∙ sym g.2
+    first_once (line ∷ lines) r s (inl h) (inr g) = absurd (not_both before word line h.0 g.0 (is_bad before word line h.0 h.1) g.1)
+    first_once (line ∷ lines) r s (inr h) (inl g) = absurd (not_both before word line g.0 h.0 (is_bad before word line g.0 g.1) h.1)
     first_once (line ∷ lines) r s (inr h) (inr g) =
         once g.0 lines r s (subst (λ (us : List ℕ). Read us lines r) (one_set before word line h.0 g.0 h.1 g.1) h.2) g.2
 

@@ -1,9 +1,7 @@
 //! Whole texts.
-ghost use Rattle.std.specs.Prelude.{◌≡◌, ◌≤◌, ◌<◌, ◌-◌, ◌^◌, ◌∷◌, [], ℕ, List, suc, Ok, IfOk, IfErr, codes, length};
-ghost use Rattle.tree_rules.specs.Known.{AreUnits};
+ghost use Rattle.std.specs.Prelude.{◌≡◌, ◌≤◌, ◌<◌, ◌-◌, ◌^◌, suc, Ok, IfOk, IfErr, length};
 ghost use Rattle.tree_tokens.specs.View.{line_of};
 ghost use Rattle.tree_reading.specs.Place.{IsCut, lines_at};
-ghost use Rattle.part_rules.specs.Part.{IsApart};
 ghost use Rattle.part_text.specs.Lines.{IsTaken, IsFaultAt};
 ghost use Rattle.part_rules.specs.Read.{SetLine, PartReads, is_file_type};
 ghost use Rattle.part_rules.specs.Spelling.{KnowsPart};
@@ -32,7 +30,6 @@ fn set_at(
     bytes: &[u8],
     cut: Cut,
 ) -> Result<(UnitSet, Cut), TreeFault>
-    requires word { 0 < length word.now }
     requires cut { IsCut bytes.now cut }
     requires few { length bytes.now < 2 ^ 32 - 1 }
     ensures taken { IfOk result (λ found. IsTaken (SetLine problem.now before word.now) (lines_at bytes.now cut) found.0 (lines_at bytes.now found.1)) }
@@ -40,13 +37,9 @@ fn set_at(
     ensures number { IfOk result (λ found. found.1.line ≡ suc cut.line) }
     ensures fault { IfErr result (IsFaultAt (SetLine problem.now before word.now) cut.line (lines_at bytes.now cut)) }
 {
-    let Some((line, behind)) = line_at(bytes, cut) else {
-        return Err(kind_at(cut, TreeKind::BadLine));
-    };
-    match set_line(problem, before, word, &line) {
-        Ok(units) => Ok((units, behind)),
-        Err(kind) => Err(kind_at(cut, kind)),
-    }
+    let (line, behind) = line_at(bytes, cut).ok_or(kind_at(cut, TreeKind::BadLine))?;
+    let units = set_line(problem, before, word, &line).map_err(|kind| kind_at(cut, kind))?;
+    Ok((units, behind))
 }
 
 /// The part that a text stands for. `At` comes exactly where the text is not in the grammar, with the least line that has a fault,
@@ -59,26 +52,15 @@ pub fn read_part(alloc: Global, problem: &Problem, bytes: &[u8]) -> Result<Part,
     ensures fault { IfErr result (TellsPart problem.now bytes.now) }
 {
     let front = Cut { at: 0, line: 1 };
-    let type_fault = TreeFault::At {
-        line: 1,
-        kind: TreeKind::FileType,
-    };
+    let type_fault = kind_at(front, TreeKind::FileType);
     let Some((line, first)) = line_at(bytes, front) else {
         return Err(type_fault);
     };
     if !is_file_type(&line) {
         return Err(type_fault);
     }
-    let (inside, second) = match set_at(problem, UnitSet::empty(), b"inside", bytes, first) {
-        Ok(found) => found,
-        Err(fault) => return Err(fault),
-    };
-    let (outside, third) = match set_at(problem, inside, b"outside", bytes, second) {
-        Ok(found) => found,
-        Err(fault) => return Err(fault),
-    };
-    match read_rest(alloc, problem, bytes, third) {
-        Ok((claim, tree, tail)) => Ok(Part::of(Node { inside, outside }, claim, tree, tail)),
-        Err(fault) => Err(fault),
-    }
+    let (inside, second) = set_at(problem, UnitSet::empty(), b"inside", bytes, first)?;
+    let (outside, third) = set_at(problem, inside, b"outside", bytes, second)?;
+    let (claim, tree, tail) = read_rest(alloc, problem, bytes, third)?;
+    Ok(Part::of(Node { inside, outside }, claim, tree, tail))
 }

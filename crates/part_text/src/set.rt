@@ -1,5 +1,5 @@
 //! Sets of units by their tokens, and the lines of a part's text that have one.
-ghost use Rattle.std.specs.Prelude.{◌≡◌, ◌≤◌, ◌<◌, ◌∷◌, [], ℕ, List, Ok, Err, IfOk, IfErr, IfSome, IfNone, length};
+ghost use Rattle.std.specs.Prelude.{◌≡◌, ◌<◌, ◌∷◌, [], ℕ, List, Ok, Err, IfOk, IfErr, IfSome, IfNone};
 ghost use Rattle.tree_rules.specs.Known.{AreUnits};
 ghost use Rattle.pns_rules.specs.Tokens.{token_of};
 ghost use Rattle.tree_text_rules.specs.Line.{Token};
@@ -9,9 +9,8 @@ ghost use Rattle.part_rules.specs.Read.{IsFormedAs, SetLine};
 use pns_problem::Problem;
 use std::str;
 use structure_list::read_token;
-use text_lines::line::place_of;
 use tree_text_rules::TreeKind;
-use tree_tokens::Line;
+use tree_tokens::{Line, first_token, next_token, parts_of};
 use unit_sets::UnitSet;
 
 /// The units of the problem whose token the word is; none exactly where it is the token of no set of them.
@@ -44,28 +43,18 @@ fn units_of(problem: &Problem, token: &[u8]) -> Option<UnitSet>
 
 // The one token behind the word, with which the line begins; none exactly where the line is another.
 fn token_behind<'a>(word: &[u8], line: &Line<'a>) -> Option<&'a [u8]>
-    requires { 0 < length word.now }
     ensures some { IfSome result (λ token. IsFormedAs (line_of line.now) (word.now ∷ token.now ∷ [])) }
     ensures none { IfNone result ((token : Token) → IsFormedAs (line_of line.now) (word.now ∷ token ∷ []) → ⊥) }
 {
-    if !line.ended {
+    let (first, fields) = first_token(line.text);
+    if first != word {
         return None;
     }
-    let at = place_of(b' ', line.text);
-    if line.text.len() <= at {
+    let (token, behind) = next_token(fields)?;
+    if next_token(behind).is_some() {
         return None;
     }
-    if &line.text[..at] != word {
-        return None;
-    }
-    let token = &line.text[at + 1..];
-    if token.is_empty() {
-        return None;
-    }
-    if place_of(b' ', token) < token.len() {
-        return None;
-    }
-    Some(token)
+    parts_of(line).formed.then_some(token)
 }
 
 /// The set of units that a line of this word stands for, which has none of those before.
@@ -75,7 +64,6 @@ pub fn set_line(
     word: &[u8],
     line: &Line,
 ) -> Result<UnitSet, TreeKind>
-    requires { 0 < length word.now }
     ensures ok { IfOk result (λ units. SetLine problem.now before word.now (line_of line.now) (Ok units)) }
     ensures fault { IfErr result (λ kind. SetLine problem.now before word.now (line_of line.now) (Err kind)) }
 {

@@ -1,9 +1,8 @@
-use Rattle.std.proofs.Common.{◌≡◌, true, false, ℕ, List, ◌∷◌, [], sym, ap, ◌∙◌, subst}
+use Rattle.std.proofs.Common.{◌≡◌, ℕ, List, ◌∷◌, [], sym, ap, ◌∙◌, subst}
 use Rattle.std.proofs.lemmas.Bool.{both_ways}
 use Rattle.number_sets.specs.Sets.{has, Avoids}
-use Rattle.number_sets.proofs.SetLemmas.{AreBelow-higher}
 use Rattle.cert_parts.proofs.SetLemmas.{apart_is}
-use Rattle.part_text.proofs.Tokens.{one_set}
+use Rattle.part_text.proofs.Tokens.{one_set, wider}
 use Rattle.part_text.proofs.set.set_line.Goals as goal
 
 pub returns-then-is_empty-clause-ok : goal.returns-then-is_empty-clause-ok
@@ -23,7 +22,7 @@ returns-else-is_empty-clause-fault c =
       c.in-Some.token.now,
       c.in-Some.ensures.some,
       (λ others fits e.
-          let same : units ≡ others = one_set _ c.in-Some.token.now units others few (record { rising = named.0.rising; below = AreBelow-higher _ 128 units few named.0.below }) fits.0 named.1 e in
+          let same : units ≡ others = one_set _ c.in-Some.token.now units others few (wider _ units few named.0) fits.0 named.1 e in
           both_ways c.is_empty.result c.if-is_empty.false
           (c.is_empty.ensures.1 ((apart_is c.args.before units c.meet.result c.meet.ensures).1 (subst (λ (us : List ℕ). Avoids (has c.args.before) (has us)) (sym same) fits.1)))),
     )
