@@ -1,9 +1,6 @@
-mod Marks
 pub mod OpenBytes
-mod Printing
-mod Together
-mod Lines
 mod OpenLines
+mod Printing
 mod Shapes
 mod Texts
-mod Tokens
+mod Together

@@ -1,35 +1,20 @@
 -- A text is put together from its lines, also with `open` in place of each line that names a network.
-use Rattle.std.proofs.Common.{◌≡◌, ◌≤◌, ◌+◌, Bool, true, false, cond, ℕ, zero, suc, List, [], ◌∷◌, ◌++◌, map, flat_map, length, take, drop, refl, sym, ap, ◌∙◌, subst, arith, append_assoc, append-nil, if◌then◌else◌}
+use Rattle.std.proofs.Common.{◌≡◌, ◌≤◌, Bool, true, false, cond, ℕ, List, [], ◌∷◌, ◌++◌, map, flat_map, length, take, drop, refl, sym, ap, ◌∙◌, append_assoc, append-nil, if◌then◌else◌}
 use Rattle.std.specs.List.{list_any, slice_split, onto_first}
 use Rattle.std.proofs.lemmas.Bool.{or_from}
-use Rattle.std.proofs.lemmas.List.{length-append}
-use Rattle.std.proofs.lemmas.Slice.Eq.{bytes_eq-Decides}
+use Rattle.std.proofs.lemmas.List.{length-take-le}
+use Rattle.std.proofs.Math.Seq.{drop-append_seam}
 use Rattle.problem_rules.specs.Each.{Each}
-use Rattle.text_rules.specs.Canonical.{joined}
 use Rattle.text_laws.proofs.Cuts.{split_at, split_none}
 use Rattle.text_lines.proofs.Cutting.{parts_some}
-use Rattle.tree_text_rules.specs.Line.{Token, Line, is_feed, lines_from, lines_of, tokens_of, word_text}
+use Rattle.tree_text_rules.specs.Line.{Line, is_feed, lines_from, lines_of, word_text}
 use Rattle.tree_text_rules.specs.declared.Word.TheVariants.{Open, Unknown}
-use Rattle.tree_text_laws.proofs.Pieces.{joined_split}
 use Rattle.tree_tokens.proofs.Cutting.{more_pieces}
-use Rattle.rank_rules.specs.Opened.{is_first, begins_by, opened, unknown_line, line_bytes}
+use Rattle.rank_rules.specs.Opened.{begins_by, opened, unknown_line, line_bytes}
 use Rattle.rank_rules.specs.Spelling.{named_word}
 
 abbrev pub bytes_of : List Line → List ℕ
 bytes_of lines = flat_map line_bytes lines
-
--- ---- the lines of a text give the text
-
-text_again : (pieces : List (List ℕ)) → bytes_of (lines_from pieces) ≡ joined 10 pieces
-text_again [] = refl
-text_again ([] ∷ []) = refl
-text_again ((c ∷ cs) ∷ []) = append-nil (c ∷ cs)
-text_again (piece ∷ next ∷ pieces) =
-    append_assoc piece (10 ∷ []) (bytes_of (lines_from (next ∷ pieces)))
-    ∙ ap (λ (rest : List ℕ). piece ++ 10 ∷ rest) (text_again (next ∷ pieces))
-
-pub whole_text : (bytes : List ℕ) → bytes_of (lines_of bytes) ≡ bytes
-whole_text bytes = text_again (slice_split is_feed bytes) ∙ joined_split 10 bytes
 
 -- ---- a text of lines has these lines
 
@@ -76,52 +61,7 @@ opened_again (piece ∷ next ∷ pieces) each = at (begins_by named_word (record
 pub opened_lines : (bytes : List ℕ) → lines_of (bytes_of (map opened (lines_of bytes))) ≡ map opened (lines_of bytes)
 opened_lines bytes = opened_again (slice_split is_feed bytes) (pieces_clear bytes)
 
--- ---- such a text is no longer
-
-named_long : (line : Line) → begins_by named_word line ≡ true → 5 ≤ length line.text
-named_long line e = at (tokens_of line) (sym (joined_split 32 line.text)) e
-  where
-    long : (tokens : List Token) → 5 ≤ length (joined 32 (named_word ∷ tokens))
-    long [] = omega arith
-    long (token ∷ tokens) = omega arith
-
-    at : (tokens : List Token) → line.text ≡ joined 32 tokens → is_first named_word tokens ≡ true → 5 ≤ length line.text
-    at [] text first = absurd cc
-    at (token ∷ tokens) text first =
-        let is : token ≡ named_word = (bytes_eq-Decides token named_word).0 first in
-        subst (λ (t : List ℕ). 5 ≤ length t) (sym (text ∙ ap (λ (t : Token). joined 32 (t ∷ tokens)) is)) (long tokens)
-
-bytes_shorter : (ended : Bool) (text : List ℕ) → 5 ≤ length text → length (if ended then word_text Open ++ 10 ∷ [] else word_text Open) ≤ length (if ended then text ++ 10 ∷ [] else text)
-bytes_shorter true text long = let more = length-append text (10 ∷ []) in omega (arith, long, more)
-bytes_shorter false text long = omega (arith, long)
-
-line_shorter : (line : Line) → length (line_bytes (opened line)) ≤ length (line_bytes line)
-line_shorter line = at (begins_by named_word line) refl
-  where
-    at : (b : Bool) → begins_by named_word line ≡ b → length (line_bytes (opened_as b line)) ≤ length (line_bytes line)
-    at true e = bytes_shorter line.ended line.text (named_long line e)
-    at false e = omega arith
-
-lines_shorter : (lines : List Line) → length (bytes_of (map opened lines)) ≤ length (bytes_of lines)
-lines_shorter [] = omega arith
-lines_shorter (line ∷ lines) =
-    let one = line_shorter line in
-    let rest = lines_shorter lines in
-    let mine = length-append (line_bytes (opened line)) (bytes_of (map opened lines)) in
-    let others = length-append (line_bytes line) (bytes_of lines) in
-    omega (arith, one, rest, mine, others)
-
 -- ---- from a place on
-
-behind_front : (n : ℕ) (xs ys : List ℕ) → n ≤ length xs → drop n (take n xs ++ ys) ≡ ys
-behind_front zero xs ys le = refl
-behind_front (suc n) [] ys le = absurd (omega (arith, le))
-behind_front (suc n) (x ∷ xs) ys le = behind_front n xs ys (omega (arith, le))
-
-front_long : (n : ℕ) (xs : List ℕ) → n ≤ length xs → length (take n xs) + length (drop n xs) ≡ length xs
-front_long zero xs le = omega arith
-front_long (suc n) [] le = absurd (omega (arith, le))
-front_long (suc n) (x ∷ xs) le = let rest = front_long n xs (omega (arith, le)) in omega (arith, rest)
 
 -- the text behind what stands before the place
 abbrev pub opened_from : List ℕ → ℕ → List ℕ
@@ -130,27 +70,13 @@ opened_from bytes at = bytes_of (unknown_line ∷ map opened (lines_of (drop at 
 from_lines : (bytes : List ℕ) (at : ℕ) → lines_of (opened_from bytes at) ≡ unknown_line ∷ map opened (lines_of (drop at bytes))
 from_lines bytes at = front_line (word_text Unknown) (bytes_of (map opened (lines_of (drop at bytes)))) refl ∙ ap (λ (ls : List Line). unknown_line ∷ ls) (opened_lines (drop at bytes))
 
-from_long : (bytes : List ℕ) (at : ℕ) → length (opened_from bytes at) ≤ 8 + length (drop at bytes)
-from_long bytes at =
-    let parts = length-append (line_bytes unknown_line) (bytes_of (map opened (lines_of (drop at bytes)))) in
-    let shorter = lines_shorter (lines_of (drop at bytes)) in
-    let whole = ap (λ (bs : List ℕ). length bs) (whole_text (drop at bytes)) in
-    omega (arith, parts, shorter, whole)
-
-module _ (bytes made : List ℕ) (at : ℕ) (within : at ≤ length bytes) (is : made ≡ take at bytes ++ opened_from bytes at) where
-  pub made_lines : lines_of (drop at made) ≡ unknown_line ∷ map opened (lines_of (drop at bytes))
-  made_lines =
-      ap (λ (bs : List ℕ). lines_of (drop at bs)) is
-      ∙ ap lines_of (behind_front at bytes (opened_from bytes at) within)
-      ∙ from_lines bytes at
-
-  pub made_few : length made ≤ 8 + length bytes
-  made_few =
-      let same = ap (λ (bs : List ℕ). length bs) is in
-      let parts = length-append (take at bytes) (opened_from bytes at) in
-      let long = from_long bytes at in
-      let front = front_long at bytes within in
-      omega (arith, same, parts, long, front)
+pub made_lines : (bytes made : List ℕ) (at : ℕ) → at ≤ length bytes → made ≡ take at bytes ++ opened_from bytes at → lines_of (drop at made) ≡ unknown_line ∷ map opened (lines_of (drop at bytes))
+made_lines bytes made at within is =
+    let front : length (take at bytes) ≡ at = length-take-le at bytes within in
+    ap (λ (bs : List ℕ). lines_of (drop at bs)) is
+    ∙ ap (λ (n : ℕ). lines_of (drop n (take at bytes ++ opened_from bytes at))) (sym front)
+    ∙ ap lines_of (drop-append_seam (take at bytes) (opened_from bytes at))
+    ∙ from_lines bytes at
 
 -- ---- a text that is made line by line
 

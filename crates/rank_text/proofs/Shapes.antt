@@ -1,171 +1,197 @@
--- The lines of a tree and a tail are such that marks can stand for their open leaves, and with the marks they are those of the ranked tree.
-use Rattle.std.proofs.Common.{◌≡◌, ◌+◌, Bool, true, false, ℕ, List, [], ◌∷◌, ◌++◌, map, Some, None, refl, sym, ap, ◌∙◌, append_assoc, arith}
-use Rattle.std.specs.Str.{bytes_eq}
+-- The lines of a tree and a tail consist of tokens, and are a form: marks can stand in the places of their open leaves, and with the marks they are those of the ranked tree.
+use Rattle.std.proofs.Common.{◌≡◌, ◌+◌, ℕ, zero, suc, List, [], ◌∷◌, ◌++◌, map, length, Option, Some, None, Ok, refl, sym, ap, ap₂, ◌∙◌, subst, append_assoc, append-nil, zero-add}
 use Rattle.problem_rules.specs.Each.{Each}
 use Rattle.problem_rules.specs.Problem.{Problem}
+use Rattle.problem_rules.specs.WellFormed.{IsWellFormed}
 use Rattle.pns_rules.specs.Nodes as nodes
 use Rattle.tree_rules.specs.Ways as ways
 use Rattle.tree_rules.specs.Tree as trees
 use Rattle.tree_rules.specs.Leaf as leaves
 use Rattle.tree_rules.specs.Accepted.{Tree}
+use Rattle.tree_rules.specs.Claim.{Network}
+use Rattle.tree_rules.specs.Known.{KnowsStep, KnowsTree}
 use Rattle.tree_rules.specs.Tail as tails
 use Rattle.text_laws.proofs.Each.{each-append}
-use Rattle.tree_text_rules.specs.Line.{Token, word_text}
+use Rattle.tree_text_rules.specs.Line.{Token, Line}
+use Rattle.tree_text_rules.specs.LineRead.{spent, past}
 use Rattle.tree_text_rules.specs.Spelling as plain
-use Rattle.tree_text_rules.specs.declared.Word.TheVariants.{Open}
 use Rattle.tree_text_laws.specs.Codes.{IsToken}
+use Rattle.tree_text_laws.specs.LineFits.{FitsEnd}
+use Rattle.tree_text_laws.specs.Fits.{FitsNetwork, FitsTree, FitsTail, CountsTree}
+use Rattle.tree_text_laws.proofs.ClaimLines.{network_line, sizes_line, cost_line}
+use Rattle.tree_text_laws.proofs.NodeLines.{all_each, option_lines, step_line_tokens, end_lines}
+use Rattle.tree_text_laws.proofs.TailLines.{tail_lines_of, close_line, nonbasic_line, place_line}
+use Rattle.tree_text_laws.specs.Lines.{lines_said}
 use Rattle.rank_rules.specs.Marked.{Mark, marked, marked_end, marked_leaf, marks_behind, first_mark, other_marks}
-use Rattle.rank_rules.specs.Opened.{is_first}
-use Rattle.rank_rules.specs.Spelling.{named_word, end_line, tree_lines}
-use Rattle.rank_text.specs.Fits.{opens, opens_at}
-use Rattle.rank_text.proofs.OpenLines.{IsAlone, IsPlain, respell, respell_as, open_lines, open_as, mark_line}
+use Rattle.rank_rules.specs.Opened.{opened, marks_taken}
+use Rattle.rank_rules.specs.Spelling.{end_line, tree_lines}
+use Rattle.rank_text.specs.Fits.{FitsMark, opens, opens_at}
+use Rattle.rank_text.proofs.OpenLines.{IsShut, Form, AreShut, filled, places, mark_line, open_tokens, Gives, gives, Comes, comes}
 
--- ---- the shape of a line
+-- with these marks, and without any, the form is these lines
+record Spells (ms : List Mark) (form : Form) (ranked plain : List (List Token)) (count : ℕ) : Type 0 where
+  filled_is : filled ms form ≡ ranked
+  plain_is : filled [] form ≡ plain
+  places_are : places form ≡ count
+  shut : AreShut form
 
-abbrev pub IsShaped : List Token → Type 0
-IsShaped [] = ⊥
-IsShaped (token ∷ tokens) = (bytes_eq token named_word ≡ false) × IsAlone (bytes_eq token (word_text Open)) tokens
+shut_line : {ms : List Mark} {form : Form} {ranked plain : List (List Token)} {count : ℕ} (line : List Token) → IsShut line → Spells ms form ranked plain count → Spells ms (Some line ∷ form) (line ∷ ranked) (line ∷ plain) count
+shut_line line shut s = record {
+  filled_is = ap (λ (ls : List (List Token)). line ∷ ls) s.filled_is;
+  plain_is = ap (λ (ls : List (List Token)). line ∷ ls) s.plain_is;
+  places_are = s.places_are;
+  shut = (shut, s.shut);
+}
 
-plain_line : (line : List Token) → Each IsToken line → IsShaped line → IsPlain line
-plain_line [] each shape = shape
-plain_line (token ∷ tokens) each shape = record { first = each.0; others = each.1; unnamed = shape.0; alone = shape.1 }
+shut_lines : {ms : List Mark} {form : Form} {ranked plain : List (List Token)} {count : ℕ} (lines : List (List Token)) → Each IsShut lines → Spells ms form ranked plain count
+    → Spells ms (map (λ line. Some line) lines ++ form) (lines ++ ranked) (lines ++ plain) count
+shut_lines [] each s = s
+shut_lines (line ∷ lines) each s = shut_line line each.0 (shut_lines lines each.1 s)
 
-pub plain_lines : (lines : List (List Token)) → Each (Each IsToken) lines → Each IsShaped lines → Each IsPlain lines
-plain_lines [] each shape = tt
-plain_lines (line ∷ lines) each shape = (plain_line line each.0 shape.0, plain_lines lines each.1 shape.1)
+-- the same lines in other words
+spelled_as : {ms : List Mark} {form : Form} {ranked ranked' plain plain' : List (List Token)} {count : ℕ} → ranked ≡ ranked' → plain ≡ plain' → Spells ms form ranked plain count → Spells ms form ranked' plain' count
+spelled_as e f s = record { filled_is = s.filled_is ∙ e; plain_is = s.plain_is ∙ f; places_are = s.places_are; shut = s.shut }
 
--- the line is none of an open leaf
-abbrev IsShut : List Token → Type 0
-IsShut line = is_first (word_text Open) line ≡ false
-
-shut_front : (ms : List Mark) (xs ys : List (List Token)) → Each IsShut xs → respell ms (xs ++ ys) ≡ xs ++ respell ms ys
-shut_front ms [] ys each = refl
-shut_front ms (x ∷ xs) ys each = at (is_first (word_text Open) x) each.0 (shut_front ms xs ys each.1)
-  where
-    at : (b : Bool) → b ≡ false → respell ms (xs ++ ys) ≡ xs ++ respell ms ys → respell_as b ms x (λ ms. respell ms (xs ++ ys)) ≡ x ∷ (xs ++ respell ms ys)
-    at true e rest = absurd cc
-    at false e rest = ap (λ (ls : List (List Token)). x ∷ ls) rest
-
-shut_count : (xs ys : List (List Token)) → Each IsShut xs → open_lines (xs ++ ys) ≡ open_lines ys
-shut_count [] ys each = refl
-shut_count (x ∷ xs) ys each = at (is_first (word_text Open) x) each.0 (shut_count xs ys each.1)
-  where
-    at : (b : Bool) → b ≡ false → open_lines (xs ++ ys) ≡ open_lines ys → open_as b (open_lines (xs ++ ys)) ≡ open_lines ys
-    at true e rest = absurd cc
-    at false e rest = rest
+-- a place for the line where the end is that of an open leaf, or the line itself
+abbrev place_for : ℕ → List Token → Option (List Token)
+place_for zero line = Some line
+place_for (suc n) line = None
 
 module _ (p : Problem) where
   -- ---- the lines of a node
 
-  steps_shaped : (ss : List nodes.Step) → Each IsShaped (map (plain.step_line p) ss)
-  steps_shaped [] = tt
-  steps_shaped (nodes.raw u ∷ ss) = ((refl, tt), steps_shaped ss)
-  steps_shaped (nodes.rival u ∷ ss) = ((refl, tt), steps_shaped ss)
-  steps_shaped (nodes.starve x ∷ ss) = ((refl, tt), steps_shaped ss)
-  steps_shaped (nodes.loose us ∷ ss) = ((refl, tt), steps_shaped ss)
-  steps_shaped (nodes.sole x u ∷ ss) = ((refl, tt), steps_shaped ss)
-
   steps_shut : (ss : List nodes.Step) → Each IsShut (map (plain.step_line p) ss)
   steps_shut [] = tt
-  steps_shut (nodes.raw u ∷ ss) = (refl, steps_shut ss)
-  steps_shut (nodes.rival u ∷ ss) = (refl, steps_shut ss)
-  steps_shut (nodes.starve x ∷ ss) = (refl, steps_shut ss)
-  steps_shut (nodes.loose us ∷ ss) = (refl, steps_shut ss)
-  steps_shut (nodes.sole x u ∷ ss) = (refl, steps_shut ss)
-
-  head_shut : (us : List ℕ) (ss : List nodes.Step) → Each IsShut (plain.head_lines p us ss)
-  head_shut us ss = (refl, steps_shut ss)
-
-  end_shaped : (e : trees.End leaves.Leaf) → IsShaped (plain.end_line p e)
-  end_shaped (trees.leaf (leaves.dead x)) = (refl, tt)
-  end_shaped (trees.leaf (leaves.clash k)) = (refl, tt)
-  end_shaped (trees.leaf (leaves.refuted ys)) = (refl, tt)
-  end_shaped (trees.leaf (leaves.bounded d ys)) = (refl, tt)
-  end_shaped (trees.leaf leaves.untried) = (refl, refl)
-  end_shaped (trees.branch (ways.at_material x c)) = (refl, tt)
-  end_shaped (trees.branch (ways.either u)) = (refl, tt)
+  steps_shut (nodes.raw u ∷ ss) = ((refl, refl), steps_shut ss)
+  steps_shut (nodes.rival u ∷ ss) = ((refl, refl), steps_shut ss)
+  steps_shut (nodes.starve x ∷ ss) = ((refl, refl), steps_shut ss)
+  steps_shut (nodes.loose us ∷ ss) = ((refl, refl), steps_shut ss)
+  steps_shut (nodes.sole x u ∷ ss) = ((refl, refl), steps_shut ss)
 
   mark_spelled : (m : Mark) → mark_line m ≡ end_line p (trees.leaf (marked_leaf m))
   mark_spelled None = refl
   mark_spelled (Some m) = refl
 
-  end_respelled : (ms : List Mark) (e : trees.End leaves.Leaf) (lines : List (List Token)) → respell ms (plain.end_line p e ∷ lines) ≡ end_line p (marked_end ms e) ∷ respell (marks_behind ms e) lines
-  end_respelled ms (trees.leaf (leaves.dead x)) lines = refl
-  end_respelled ms (trees.leaf (leaves.clash k)) lines = refl
-  end_respelled ms (trees.leaf (leaves.refuted ys)) lines = refl
-  end_respelled ms (trees.leaf (leaves.bounded d ys)) lines = refl
-  end_respelled ms (trees.leaf leaves.untried) lines = ap (λ (l : List Token). l ∷ respell (other_marks ms) lines) (mark_spelled (first_mark ms))
-  end_respelled ms (trees.branch (ways.at_material x c)) lines = refl
-  end_respelled ms (trees.branch (ways.either u)) lines = refl
+  module _ {form : Form} {ranked rest : List (List Token)} {count : ℕ} (ms : List Mark) where
+    shut_end : (line : List Token) → IsShut line → Spells ms form ranked rest count → Spells ms (Some line ∷ form) (line ∷ ranked) (line ∷ rest) (0 + count)
+    shut_end line shut s = subst (λ (n : ℕ). Spells ms (Some line ∷ form) (line ∷ ranked) (line ∷ rest) n) (sym (zero-add count)) (shut_line line shut s)
 
-  none_more : (n : ℕ) → n ≡ 0 + n
-  none_more n = omega arith
-
-  end_count : (e : trees.End leaves.Leaf) (lines : List (List Token)) → open_lines (plain.end_line p e ∷ lines) ≡ opens_at e + open_lines lines
-  end_count (trees.leaf (leaves.dead x)) lines = none_more (open_lines lines)
-  end_count (trees.leaf (leaves.clash k)) lines = none_more (open_lines lines)
-  end_count (trees.leaf (leaves.refuted ys)) lines = none_more (open_lines lines)
-  end_count (trees.leaf (leaves.bounded d ys)) lines = none_more (open_lines lines)
-  end_count (trees.leaf leaves.untried) lines = refl
-  end_count (trees.branch (ways.at_material x c)) lines = none_more (open_lines lines)
-  end_count (trees.branch (ways.either u)) lines = none_more (open_lines lines)
+    end_spells : (e : trees.End leaves.Leaf) → Spells (marks_behind ms e) form ranked rest count
+        → Spells ms (place_for (opens_at e) (plain.end_line p e) ∷ form) (end_line p (marked_end ms e) ∷ ranked) (plain.end_line p e ∷ rest) (opens_at e + count)
+    end_spells (trees.leaf (leaves.dead x)) s = shut_end (plain.end_line p (trees.leaf (leaves.dead x))) (refl, refl) s
+    end_spells (trees.leaf (leaves.clash k)) s = shut_end (plain.end_line p (trees.leaf (leaves.clash k))) (refl, refl) s
+    end_spells (trees.leaf (leaves.refuted ys)) s = shut_end (plain.end_line p (trees.leaf (leaves.refuted ys))) (refl, refl) s
+    end_spells (trees.leaf (leaves.bounded d ys)) s = shut_end (plain.end_line p (trees.leaf (leaves.bounded d ys))) (refl, refl) s
+    end_spells (trees.leaf leaves.untried) s = record {
+      filled_is = ap₂ (λ (l : List Token) (ls : List (List Token)). l ∷ ls) (mark_spelled (first_mark ms)) s.filled_is;
+      plain_is = ap (λ (ls : List (List Token)). open_tokens ∷ ls) s.plain_is;
+      places_are = ap (λ (n : ℕ). 1 + n) s.places_are;
+      shut = s.shut;
+    }
+    end_spells (trees.branch (ways.at_material x c)) s = shut_end (plain.end_line p (trees.branch (ways.at_material x c))) (refl, refl) s
+    end_spells (trees.branch (ways.either u)) s = shut_end (plain.end_line p (trees.branch (ways.either u))) (refl, refl) s
 
   -- ---- the lines of a tree, in front of others
 
-  tree_shaped : (ts : Tree) → Each IsShaped (plain.tree_lines p ts)
-  tree_shaped [] = tt
-  tree_shaped (t ∷ ts) =
-      each-append IsShaped (plain.node_lines p t) (plain.tree_lines p ts)
-      ((refl, tt), each-append IsShaped (map (plain.step_line p) t.steps) (plain.end_line p t.end ∷ []) (steps_shaped t.steps) (end_shaped t.end, tt))
-      (tree_shaped ts)
+  abbrev tree_form : Tree → Form → Form
+  tree_form [] form = form
+  tree_form (t ∷ ts) form = map (λ line. Some line) (plain.head_lines p t.option t.steps) ++ (place_for (opens_at t.end) (plain.end_line p t.end) ∷ tree_form ts form)
 
   -- a head, an end and the lines behind
-  apart : (head : List (List Token)) (end : List Token) (lines rest : List (List Token)) → ((head ++ end ∷ []) ++ lines) ++ rest ≡ head ++ (end ∷ (lines ++ rest))
-  apart head end lines rest = append_assoc (head ++ end ∷ []) lines rest ∙ append_assoc head (end ∷ []) (lines ++ rest)
+  apart : (head : List (List Token)) (end : List Token) (lines rest : List (List Token)) → head ++ (end ∷ (lines ++ rest)) ≡ ((head ++ end ∷ []) ++ lines) ++ rest
+  apart head end lines rest = sym (append_assoc (head ++ end ∷ []) lines rest ∙ append_assoc head (end ∷ []) (lines ++ rest))
 
-  tree_respelled : (ts : Tree) (ms : List Mark) (rest : List (List Token)) → ((ms : List Mark) → respell ms rest ≡ rest) → respell ms (plain.tree_lines p ts ++ rest) ≡ tree_lines p (marked ms ts) ++ rest
-  tree_respelled [] ms rest none = none ms
-  tree_respelled (t ∷ ts) ms rest none =
+  tree_spells : (ts : Tree) (ms : List Mark) (form : Form) (rest : List (List Token)) → ((ms : List Mark) → Spells ms form rest rest 0)
+      → Spells ms (tree_form ts form) (tree_lines p (marked ms ts) ++ rest) (plain.tree_lines p ts ++ rest) (opens ts)
+  tree_spells [] ms form rest spells = spells ms
+  tree_spells (t ∷ ts) ms form rest spells =
       let head : List (List Token) = plain.head_lines p t.option t.steps in
-      ap (respell ms) (apart head (plain.end_line p t.end) (plain.tree_lines p ts) rest)
-      ∙ shut_front ms head (plain.end_line p t.end ∷ (plain.tree_lines p ts ++ rest)) (head_shut t.option t.steps)
-      ∙ ap (λ (ls : List (List Token)). head ++ ls)
-      (end_respelled ms t.end (plain.tree_lines p ts ++ rest) ∙ ap (λ (ls : List (List Token)). end_line p (marked_end ms t.end) ∷ ls) (tree_respelled ts (marks_behind ms t.end) rest none))
-      ∙ sym (apart head (end_line p (marked_end ms t.end)) (tree_lines p (marked (marks_behind ms t.end) ts)) rest)
+      let s = shut_lines head ((refl, refl), steps_shut t.steps) (end_spells ms t.end (tree_spells ts (marks_behind ms t.end) form rest spells)) in
+      spelled_as (apart head (end_line p (marked_end ms t.end)) (tree_lines p (marked (marks_behind ms t.end) ts)) rest) (apart head (plain.end_line p t.end) (plain.tree_lines p ts) rest) s
 
-  tree_count : (ts : Tree) (rest : List (List Token)) → open_lines rest ≡ 0 → open_lines (plain.tree_lines p ts ++ rest) ≡ opens ts
-  tree_count [] rest none = none
-  tree_count (t ∷ ts) rest none =
-      let head : List (List Token) = plain.head_lines p t.option t.steps in
-      ap open_lines (apart head (plain.end_line p t.end) (plain.tree_lines p ts) rest)
-      ∙ shut_count head (plain.end_line p t.end ∷ (plain.tree_lines p ts ++ rest)) (head_shut t.option t.steps)
-      ∙ end_count t.end (plain.tree_lines p ts ++ rest)
-      ∙ ap (λ (n : ℕ). opens_at t.end + n) (tree_count ts rest none)
+  -- ---- the lines of a tree and a tail
 
-  -- ---- the lines of a tail
+  tail_shut : (tail : tails.Tail) → Each IsShut (plain.tail_lines p tail)
+  tail_shut tails.whole = ((refl, refl), tt)
+  tail_shut (tails.spent next options) = ((refl, refl), ((refl, refl), tt))
+  tail_shut (tails.past node nonbasic place) = ((refl, refl), ((refl, refl), ((refl, refl), ((refl, refl), tt))))
 
-  tail_shaped : (tail : tails.Tail) → Each IsShaped (plain.tail_lines p tail)
-  tail_shaped tails.whole = ((refl, tt), tt)
-  tail_shaped (tails.spent next options) = ((refl, tt), ((refl, tt), tt))
-  tail_shaped (tails.past node nonbasic place) = ((refl, tt), ((refl, tt), ((refl, tt), ((refl, tt), tt))))
+  tail_spells : (tail : tails.Tail) (ms : List Mark) → Spells ms (map (λ line. Some line) (plain.tail_lines p tail) ++ []) (plain.tail_lines p tail) (plain.tail_lines p tail) 0
+  tail_spells tail ms =
+      let lines : List (List Token) = plain.tail_lines p tail in
+      let none : Spells ms [] [] [] 0 = record { filled_is = refl; plain_is = refl; places_are = refl; shut = tt } in
+      spelled_as (append-nil lines) (append-nil lines) (shut_lines lines (tail_shut tail) none)
 
-  tail_respelled : (tail : tails.Tail) (ms : List Mark) → respell ms (plain.tail_lines p tail) ≡ plain.tail_lines p tail
-  tail_respelled tails.whole ms = refl
-  tail_respelled (tails.spent next options) ms = refl
-  tail_respelled (tails.past node nonbasic place) ms = refl
+  abbrev lines_of_both : Tree → tails.Tail → List (List Token)
+  lines_of_both ts tail = plain.tree_lines p ts ++ plain.tail_lines p tail
 
-  tail_count : (tail : tails.Tail) → open_lines (plain.tail_lines p tail) ≡ 0
-  tail_count tails.whole = refl
-  tail_count (tails.spent next options) = refl
-  tail_count (tails.past node nonbasic place) = refl
+  abbrev form_of : Tree → tails.Tail → Form
+  form_of ts tail = tree_form ts (map (λ line. Some line) (plain.tail_lines p tail) ++ [])
 
-  -- ---- both
+  spelled : (ts : Tree) (tail : tails.Tail) (ms : List Mark) → Spells ms (form_of ts tail) (tree_lines p (marked ms ts) ++ plain.tail_lines p tail) (lines_of_both ts tail) (opens ts)
+  spelled ts tail ms = tree_spells ts ms (map (λ line. Some line) (plain.tail_lines p tail) ++ []) (plain.tail_lines p tail) (tail_spells tail)
 
-  pub grown_shaped : (ts : Tree) (tail : tails.Tail) → Each IsShaped (plain.tree_lines p ts ++ plain.tail_lines p tail)
-  grown_shaped ts tail = each-append IsShaped (plain.tree_lines p ts) (plain.tail_lines p tail) (tree_shaped ts) (tail_shaped tail)
+  module _ (ts : Tree) (tail : tails.Tail) (ms : List Mark) (each : Each (Each IsToken) (lines_of_both ts tail)) where
+    tokens : Each (Each IsToken) (filled [] (form_of ts tail))
+    tokens = subst (λ (ls : List (List Token)). Each (Each IsToken) ls) (sym (spelled ts tail ms).plain_is) each
 
-  pub grown_respelled : (ms : List Mark) (ts : Tree) (tail : tails.Tail) → respell ms (plain.tree_lines p ts ++ plain.tail_lines p tail) ≡ tree_lines p (marked ms ts) ++ plain.tail_lines p tail
-  grown_respelled ms ts tail = tree_respelled ts ms (plain.tail_lines p tail) (tail_respelled tail)
+    -- the lines of the ranked tree give these lines and the marks
+    pub both_given : Each FitsMark ms → length ms ≡ opens ts → Gives ms (tree_lines p (marked ms ts) ++ plain.tail_lines p tail) (lines_of_both ts tail)
+    both_given fits count =
+        let s = spelled ts tail ms in
+        subst (λ (ls : List (List Token)). Gives ms ls (lines_of_both ts tail)) s.filled_is
+        (subst (λ (ls : List (List Token)). Gives ms (filled ms (form_of ts tail)) ls) s.plain_is (gives (form_of ts tail) ms s.shut tokens fits (count ∙ sym s.places_are)))
 
-  pub grown_count : (ts : Tree) (tail : tails.Tail) → open_lines (plain.tree_lines p ts ++ plain.tail_lines p tail) ≡ opens ts
-  grown_count ts tail = tree_count ts (plain.tail_lines p tail) (tail_count tail)
+    -- and no others do
+    pub both_come : (lines : List Line) (number : ℕ) → map opened lines ≡ lines_said (lines_of_both ts tail) → marks_taken number lines ≡ Ok ms
+        → (lines ≡ lines_said (tree_lines p (marked ms ts) ++ plain.tail_lines p tail)) × Each FitsMark ms × (length ms ≡ opens ts)
+    both_come lines number are read =
+        let s = spelled ts tail ms in
+        let c = comes (form_of ts tail) lines s.shut tokens (are ∙ ap lines_said (sym s.plain_is)) number ms read in
+        (c.lines_are ∙ ap lines_said s.filled_is, c.fits, c.count ∙ s.places_are)
+
+module _ (p : Problem) (formed : IsWellFormed p) where
+  pub network_tokens : (w : Network) → FitsNetwork p w → Each (Each IsToken) (plain.network_lines p w)
+  network_tokens w fits = (
+    (network_line p formed).tokens w.units fits.known,
+    (
+      (sizes_line (length w.units)).tokens (w.d, w.sizes) (((fits.kept.d_in_range, fits.kept.sized.positive), all_each w.sizes fits.kept.sizes_in_range), fits.kept.sized.one_size),
+      (cost_line.tokens w.cost fits.kept.cost_in_range, tt),
+    ),
+  )
+
+  steps_tokens : (ss : List nodes.Step) → Each (KnowsStep p) ss → Each (Each IsToken) (map (plain.step_line p) ss)
+  steps_tokens [] known = tt
+  steps_tokens (s ∷ ss) known = (step_line_tokens p formed s known.0, steps_tokens ss known.1)
+
+  forest_tokens : (count : ℕ) (ts : Tree) → trees.IsForest count ts → KnowsTree p ts → CountsTree ts → Each (Each IsToken) (plain.tree_lines p ts)
+  forest_tokens zero [] form known counted = tt
+  forest_tokens zero (t ∷ ts) form known counted = absurd form
+  forest_tokens (suc count) [] form known counted = absurd form
+  forest_tokens (suc count) (t ∷ ts) form known counted =
+      let end_fits : FitsEnd p t.end = record { known = known.0.end; some = form.0; counted = counted.0 } in
+      let last : Each (Each IsToken) (plain.end_line p t.end ∷ []) = ((end_lines p formed).tokens t.end end_fits, tt) in
+      each-append (Each IsToken) (plain.node_lines p t) (plain.tree_lines p ts)
+      ((option_lines p formed).tokens t.option known.0.option, each-append (Each IsToken) (map (plain.step_line p) t.steps) (plain.end_line p t.end ∷ []) (steps_tokens t.steps known.0.steps) last)
+      (forest_tokens (trees.children t.end + count) ts form.1 known.1 counted.1)
+
+  one_forest : (ts : Tree) → trees.IsTree ts → trees.IsForest 1 ts
+  one_forest [] form = absurd form
+  one_forest (t ∷ ts) form = form.1
+
+  tree_tokens : (ts : Tree) → FitsTree p ts → Each (Each IsToken) (plain.tree_lines p ts)
+  tree_tokens ts fits = forest_tokens 1 ts (one_forest ts fits.whole) fits.known fits.counted
+
+  tail_tokens : (tail : tails.Tail) → FitsTail p tail → Each (Each IsToken) (plain.tail_lines p tail)
+  tail_tokens tails.whole fits = (close_line.tokens tt tt, tt)
+  tail_tokens (tails.spent next options) fits = (tail_lines_of.tokens (spent next options) fits.counted, (close_line.tokens tt tt, tt))
+  tail_tokens (tails.past node nonbasic place) fits = (
+    tail_lines_of.tokens (past node) fits.counted.0,
+    (
+      (nonbasic_line p formed).tokens nonbasic fits.known.0,
+      ((place_line p formed).tokens place (record { known = fits.known.1; counted = fits.counted.1 }), (close_line.tokens tt tt, tt)),
+    ),
+  )
+
+  pub both_tokens : (ts : Tree) (tail : tails.Tail) → FitsTree p ts → FitsTail p tail → Each (Each IsToken) (plain.tree_lines p ts ++ plain.tail_lines p tail)
+  both_tokens ts tail fits fits' = each-append (Each IsToken) (plain.tree_lines p ts) (plain.tail_lines p tail) (tree_tokens ts fits) (tail_tokens tail fits')

@@ -1,6 +1,8 @@
 -- The text of a ranking reads as the ranking, and no other text does.
-use Rattle.std.proofs.Common.{◌≡◌, ◌≤◌, ◌+◌, Bool, true, false, ℕ, zero, suc, List, [], ◌∷◌, ◌++◌, length, map, flat_map, decimal, Result, Ok, Err, refl, sym, ap, ap₂, ◌∙◌, subst, append_assoc, if◌then◌else◌}
+use Rattle.std.proofs.Common.{◌≡◌, ◌≤◌, ◌+◌, Bool, true, false, nat_le, ℕ, zero, suc, List, [], ◌∷◌, ◌++◌, length, map, flat_map, decimal, Some, None, Result, Ok, Err, refl, sym, ap, ap₂, ◌∙◌, subst, arith, append_assoc, if◌then◌else◌}
 use Rattle.std.specs.Str.{bytes_eq}
+use Rattle.std.proofs.lemmas.Bool.{leb-true, le-leb}
+use Rattle.std.proofs.lemmas.List.{map-append}
 use Rattle.std.proofs.lemmas.Slice.Eq.{bytes_eq-Decides}
 use Rattle.problem_rules.specs.Each.{Each}
 use Rattle.problem_rules.specs.Problem.{Problem}
@@ -9,32 +11,93 @@ use Rattle.text_laws.proofs.Each.{each-append, each-to}
 use Rattle.tree_rules.specs.Claim.{Network}
 use Rattle.tree_rules.specs.Accepted.{Tree}
 use Rattle.tree_rules.specs.Tail.{Tail}
-use Rattle.tree_text_rules.specs.Line.{Token, Line, lines_of}
+use Rattle.tree_text_rules.specs.Line.{Token, Line, lines_of, tokens_of}
+use Rattle.tree_text_rules.specs.LineRead.{formed, one}
 use Rattle.tree_text_rules.specs.Read.{Fault, Taken, first_line, then_read, network_taken, tree_taken, tail_taken}
 use Rattle.tree_text_rules.specs.Spelling as plain
-use Rattle.tree_text_rules.specs.declared.TreeKind.TheVariants.{FileType}
-use Rattle.tree_text_laws.specs.Codes.{line_of, IsToken}
-use Rattle.tree_text_laws.specs.LineFits.{IsSomeCount}
+use Rattle.tree_text_rules.specs.Token.{judged, count_of}
+use Rattle.tree_text_rules.specs.declared.TreeKind.{TreeKind}
+use Rattle.tree_text_rules.specs.declared.TreeKind.TheVariants.{FileType, BadLine, BadNumber}
+use Rattle.tree_text_laws.specs.Codes.{line_of, IsToken, IsLineCode}
+use Rattle.tree_text_laws.specs.LineFits.{IsCount, IsSomeCount}
 use Rattle.tree_text_laws.proofs.Pieces.{text_back, text_again, HasNoFeed}
-use Rattle.tree_text_laws.proofs.Said.{no_feed}
+use Rattle.tree_text_laws.proofs.Codes.{AreFields, judged_ok, judged_again, formed_ok, formed_again, one_fields}
+use Rattle.tree_text_laws.proofs.Decimals.{counts}
+use Rattle.tree_text_laws.proofs.Said.{no_feed, tokens_said, formed_said, line_from}
 use Rattle.tree_text_laws.specs.Fits.{FitsNetwork, FitsTree, FitsTail}
 use Rattle.tree_text_laws.specs.Lines.{lines_said, TakesJust, ReadsJust}
 use Rattle.tree_text_laws.proofs.Parts.{good, good_is, on_line_ok, then_ok, first_back, first_again}
 use Rattle.rank_rules.specs.Marked.{Mark}
-use Rattle.rank_rules.specs.Text.{Text}
+use Rattle.rank_rules.specs.Text.{Text, AreNumbered}
 use Rattle.rank_rules.specs.Opened.{opened, marks_taken}
-use Rattle.rank_rules.specs.Read.{file_type_read, count_read, networks_read, with_network, networks_taken, Grown, with_tail, grown_taken, put_together, behind_networks, rest_taken, lines_taken, read_text}
+use Rattle.rank_rules.specs.Read.{file_type_read, behind_word, word_read, count_read, networks_read, with_network, networks_taken, Grown, with_tail, grown_taken, put_together, behind_networks, rest_taken, lines_taken, read_text}
 use Rattle.rank_rules.specs.Spelling.{file_type, count_word, networks_word, grown_lines, rank_text_lines, rank_text}
-use Rattle.rank_text.specs.Fits.{Fits}
+use Rattle.rank_text.specs.Fits.{Fits, FitsMark, opens}
 use Rattle.rank_text.specs.Laws.{IsSpelled}
-use Rattle.rank_text.proofs.Lines.{count_line, networks_line}
-use Rattle.rank_text.proofs.OpenLines.{IsPlain, Gives, respell, gives, comes}
-use Rattle.rank_text.proofs.Tokens.{network_tokens, tree_tokens, tail_tokens}
-use Rattle.rank_text.proofs.Shapes.{plain_lines, grown_shaped, grown_respelled, grown_count}
+use Rattle.rank_text.proofs.OpenLines.{Gives}
+use Rattle.rank_text.proofs.Shapes.{network_tokens, both_tokens, both_given, both_come}
 
-said_append : (xs ys : List (List Token)) → lines_said (xs ++ ys) ≡ lines_said xs ++ lines_said ys
-said_append [] ys = refl
-said_append (x ∷ xs) ys = ap (λ (ls : List Line). line_of x ∷ ls) (said_append xs ys)
+-- marks that can be spelled are numbered
+pub numbered : (ms : List Mark) → Each FitsMark ms → AreNumbered ms
+numbered [] fits = tt
+numbered (None ∷ ms) fits = numbered ms fits.1
+numbered (Some n ∷ ms) fits = (fits.0.0.0, numbered ms fits.1)
+
+-- ---- a word and one token
+
+module _ (word : Token) (word_is : IsToken word) where
+  count_fields : AreFields (one count_of) (λ n. decimal n ∷ []) IsCount
+  count_fields = one_fields count_of decimal IsCount counts
+
+  count_back : (tokens : List Token) (n : ℕ) → behind_word word count_of tokens ≡ Ok n → (tokens ≡ word ∷ decimal n ∷ []) × IsCount n
+  count_back [] n e = absurd cc
+  count_back (token ∷ tokens) n e = at (bytes_eq token word) refl e
+    where
+      at : (b : Bool) → bytes_eq token word ≡ b → (if b then one count_of tokens else Err BadLine) ≡ Ok n → (token ∷ tokens ≡ word ∷ decimal n ∷ []) × IsCount n
+      at true is f =
+          let back = count_fields.back tokens n f in
+          (ap₂ (λ (t : Token) (ts : List Token). t ∷ ts) ((bytes_eq-Decides token word).0 is) back.0, back.1)
+      at false is f = absurd cc
+
+  word_line : IsLineCode (word_read word) (λ n. word ∷ decimal n ∷ []) IsCount
+  word_line = record {
+    back = λ line n e.
+        let whole = formed_ok line (behind_word word count_of (tokens_of line)) n e in
+        let b = count_back (tokens_of line) n whole.1 in
+        (line_from line (word ∷ decimal n ∷ []) whole.0 b.0, b.1);
+    again = λ n fits.
+        let each : Each IsToken (decimal n ∷ []) = (counts.token n fits, tt) in
+        let line : Line = line_of (word ∷ decimal n ∷ []) in
+        formed_again line (behind_word word count_of (tokens_of line)) (formed_said word (decimal n ∷ []) word_is each)
+        ∙ ap (behind_word word count_of) (tokens_said word (decimal n ∷ []) word_is each)
+        ∙ ap (λ (b : Bool). let r : Result ℕ TreeKind = (if b then one count_of (decimal n ∷ []) else Err BadLine) in r) ((bytes_eq-Decides word word).1 refl)
+        ∙ count_fields.again n fits;
+    tokens = λ n fits. (word_is, (counts.token n fits, tt));
+  }
+
+-- a number that passes a test besides
+judged_line : {A : Type 0} (test : A → Bool) (read : Line → Result A TreeKind) (spell : A → List Token) (Fits More : A → Type 0) → IsLineCode read spell Fits
+    → ((a : A) → Fits a → test a ≡ true → More a) → ((a : A) → More a → Fits a × (test a ≡ true)) → IsLineCode (λ line. judged test BadNumber (read line)) spell More
+judged_line test read spell Fits More code more less = record {
+  back = λ line a e.
+      let j = judged_ok test BadNumber (read line) a e in
+      let b = code.back line a j.0 in
+      (b.0, more a b.1 j.1);
+  again = λ a fits. let l = less a fits in judged_again test BadNumber (read (line_of (spell a))) a (code.again a l.0) l.1;
+  tokens = λ a fits. code.tokens a (less a fits).0;
+}
+
+count_line : IsLineCode count_read (λ n. count_word ∷ decimal n ∷ []) IsSomeCount
+count_line =
+    judged_line (nat_le 1) (word_read count_word) (λ n. count_word ∷ decimal n ∷ []) IsCount IsSomeCount
+    (word_line count_word (record { some = refl; space = refl; feed = refl }))
+    (λ n fits e. (leb-true 1 n e, fits)) (λ n fits. (fits.1, le-leb 1 n fits.0))
+
+networks_line : (count : ℕ) → IsCount count → IsLineCode (networks_read count) (λ k. networks_word ∷ decimal k ∷ []) (λ k. k ≤ count)
+networks_line count in_range =
+    judged_line (λ k. nat_le k count) (word_read networks_word) (λ k. networks_word ∷ decimal k ∷ []) IsCount (λ k. k ≤ count)
+    (word_line networks_word (record { some = refl; space = refl; feed = refl }))
+    (λ k fits e. leb-true k count e) (λ k le. (omega (arith, le, in_range), le-leb k count le))
 
 -- ---- the first line
 
@@ -64,63 +127,15 @@ network_ok : (w : Network) (r : Result (Taken (List Network)) Fault) (taken : Ta
 network_ok w (Ok rest) taken e = (rest, refl, cc)
 network_ok w (Err fault) taken e = absurd cc
 
-module _ (p : Problem) (formed : IsWellFormed p) (networks : TakesJust (network_taken p) (plain.network_lines p) (FitsNetwork p)) (trees : TakesJust (tree_taken p) (plain.tree_lines p) (FitsTree p)) (tails : ReadsJust (tail_taken p) (plain.tail_lines p) (FitsTail p)) where
-  abbrev list_lines : List Network → List (List Token)
-  list_lines ws = flat_map (plain.network_lines p) ws
-
-  -- ---- networks
-
-  list_again : (ws : List Network) (number : ℕ) (behind : List Line) → Each (FitsNetwork p) ws → (last : ℕ) × (networks_taken p (length ws) number (lines_said (list_lines ws) ++ behind) ≡ Ok (record { what = ws; number = last; behind = behind }))
-  list_again [] number behind fits = (number, refl)
-  list_again (w ∷ ws) number behind fits =
-      let here : ℕ = number + length (plain.network_lines p w) in
-      let rest = list_again ws here behind fits.1 in (
-        rest.0,
-        ap (λ (ls : List Line). networks_taken p (suc (length ws)) number (ls ++ behind)) (said_append (plain.network_lines p w) (list_lines ws))
-            ∙ ap (networks_taken p (suc (length ws)) number) (append_assoc (lines_said (plain.network_lines p w)) (lines_said (list_lines ws)) behind)
-            ∙ ap (λ (r : Result (Taken Network) Fault). then_read r (λ w number lines. with_network w (networks_taken p (length ws) number lines))) (networks.takes w number (lines_said (list_lines ws) ++ behind) fits.0)
-            ∙ ap (with_network w) rest.1,
-      )
-
-  list_back : (k number : ℕ) (lines : List Line) (taken : Taken (List Network)) → networks_taken p k number lines ≡ Ok taken
-      → (lines ≡ lines_said (list_lines taken.what) ++ taken.behind) × Each (FitsNetwork p) taken.what × (length taken.what ≡ k)
-  list_back zero number lines taken e = empty (record { what = []; number = number; behind = lines }) taken refl e
-    where
-      empty : (made taken : Taken (List Network)) → made ≡ record { what = []; number = number; behind = lines } → good made ≡ good taken → (lines ≡ lines_said (list_lines taken.what) ++ taken.behind) × Each (FitsNetwork p) taken.what × (length taken.what ≡ 0)
-      empty made taken is e =
-          subst (λ (t : Taken (List Network)). (lines ≡ lines_said (list_lines t.what) ++ t.behind) × Each (FitsNetwork p) t.what × (length t.what ≡ 0)) (sym is ∙ good_is made taken e) (refl, tt, refl)
-  list_back (suc k) number lines taken e =
-      let first = then_ok (network_taken p number lines) (λ w number lines. with_network w (networks_taken p k number lines)) taken e in
-      let rest = network_ok first.0.what (networks_taken p k first.0.number first.0.behind) taken first.2 in
-      let back = list_back k first.0.number first.0.behind rest.0 rest.1 in
-      let w = first.0.what in
-      subst (λ (t : Taken (List Network)). (lines ≡ lines_said (list_lines t.what) ++ t.behind) × Each (FitsNetwork p) t.what × (length t.what ≡ suc k)) (sym rest.2) (
-        networks.lines_are number lines first.0 first.1
-            ∙ ap (λ (ls : List Line). lines_said (plain.network_lines p w) ++ ls) back.0
-            ∙ sym (append_assoc (lines_said (plain.network_lines p w)) (lines_said (list_lines rest.0.what)) rest.0.behind)
-            ∙ ap (λ (ls : List Line). ls ++ rest.0.behind) (sym (said_append (plain.network_lines p w) (list_lines rest.0.what))),
-        (networks.fits number lines first.0 first.1, back.1),
-        ap suc back.2,
-      )
-
-  list_tokens : (ws : List Network) → Each (FitsNetwork p) ws → Each (Each IsToken) (list_lines ws)
-  list_tokens [] fits = tt
-  list_tokens (w ∷ ws) fits = each-append (Each IsToken) (plain.network_lines p w) (list_lines ws) (network_tokens p formed w fits.0) (list_tokens ws fits.1)
-
+module _ (p : Problem) (formed : IsWellFormed p) (trees : TakesJust (tree_taken p) (plain.tree_lines p) (FitsTree p)) (tails : ReadsJust (tail_taken p) (plain.tail_lines p) (FitsTail p)) where
   -- ---- the tree and the tail
 
   abbrev plain_grown : Tree → Tail → List (List Token)
   plain_grown tree tail = plain.tree_lines p tree ++ plain.tail_lines p tail
 
-  grown_plain : (tree : Tree) (tail : Tail) → FitsTree p tree → FitsTail p tail → Each IsPlain (plain_grown tree tail)
-  grown_plain tree tail fits fits' =
-      plain_lines (plain_grown tree tail)
-      (each-append (Each IsToken) (plain.tree_lines p tree) (plain.tail_lines p tail) (tree_tokens p formed tree fits) (tail_tokens p formed tail fits'))
-      (grown_shaped p tree tail)
-
   grown_again : (tree : Tree) (tail : Tail) (number : ℕ) → FitsTree p tree → FitsTail p tail → grown_taken p number (lines_said (plain_grown tree tail)) ≡ Ok (record { tree = tree; tail = tail })
   grown_again tree tail number fits fits' =
-      ap (grown_taken p number) (said_append (plain.tree_lines p tree) (plain.tail_lines p tail))
+      ap (grown_taken p number) (map-append line_of (plain.tree_lines p tree) (plain.tail_lines p tail))
       ∙ ap (λ (r : Result (Taken Tree) Fault). then_read r (λ tree number lines. with_tail tree (tail_taken p number lines))) (trees.takes tree number (lines_said (plain.tail_lines p tail)) fits)
       ∙ ap (with_tail tree) (tails.reads tail (number + length (plain.tree_lines p tree)) fits')
 
@@ -131,100 +146,147 @@ module _ (p : Problem) (formed : IsWellFormed p) (networks : TakesJust (network_
       subst (λ (x : Grown). (lines ≡ lines_said (plain_grown x.tree x.tail)) × FitsTree p x.tree × FitsTail p x.tail) (sym two.2) (
         trees.lines_are number lines one.0 one.1
             ∙ ap (λ (ls : List Line). lines_said (plain.tree_lines p one.0.what) ++ ls) (tails.lines_are one.0.number one.0.behind two.0 two.1)
-            ∙ sym (said_append (plain.tree_lines p one.0.what) (plain.tail_lines p two.0)),
+            ∙ sym (map-append line_of (plain.tree_lines p one.0.what) (plain.tail_lines p two.0)),
         trees.fits number lines one.0 one.1,
         tails.fits one.0.number one.0.behind two.0 two.1,
       )
 
-  module _ (t : Text) (fits : Fits p t) where
-    all_given : Gives t.marks (plain_grown t.tree t.tail)
-    all_given = gives (plain_grown t.tree t.tail) t.marks (grown_plain t.tree t.tail fits.tree fits.tail) fits.marks (fits.marked ∙ sym (grown_count p t.tree t.tail))
+  -- the lines behind the networks
+  pub record Behind (count : ℕ) (ws : List Network) (lines : List Line) (t : Text) : Type 0 where
+    pub is : t ≡ record { count = count; networks = ws; tree = t.tree; marks = t.marks; tail = t.tail }
+    pub lines_are : lines ≡ lines_said (grown_lines p t)
+    pub tree : FitsTree p t.tree
+    pub marks : Each FitsMark t.marks
+    pub marked : length t.marks ≡ opens t.tree
+    pub tail : FitsTail p t.tail
 
-    -- the same lines in the words of the spelling
-    spelled_as : respell t.marks (plain_grown t.tree t.tail) ≡ grown_lines p t
-    spelled_as = grown_respelled p t.marks t.tree t.tail
-
-    behind_again : (number : ℕ) → behind_networks p t.count t.networks number (lines_said (grown_lines p t)) ≡ Ok t
-    behind_again number =
-        ap (λ (ls : List (List Token)). behind_networks p t.count t.networks number (lines_said ls)) (sym spelled_as)
-        ∙ ap₂ (λ (m : Result (List Mark) Fault) (g : Result Grown Fault). put_together t.count t.networks m g)
-        (all_given.marks_are number)
-        (ap (grown_taken p number) all_given.opened_are ∙ grown_again t.tree t.tail number fits.tree fits.tail)
-
-    all_tokens : Each (Each IsToken) (rank_text_lines p t)
-    all_tokens = (
-      (record { some = refl; space = refl; feed = refl }, tt),
-      (
-        count_line.tokens t.count fits.count,
-        (
-          (networks_line t.count fits.count.1).tokens (length t.networks) fits.within,
-          each-append (Each IsToken) (list_lines t.networks) (grown_lines p t) (list_tokens t.networks fits.networks)
-              (subst (λ (ls : List (List Token)). Each (Each IsToken) ls) spelled_as all_given.tokens),
-        ),
-      ),
-    )
-
-    rest_again : rest_taken p 2 (lines_said ((count_word ∷ decimal t.count ∷ []) ∷ (networks_word ∷ decimal (length t.networks) ∷ []) ∷ (list_lines t.networks ++ grown_lines p t))) ≡ Ok t
-    rest_again =
-        let found : List Line = lines_said (list_lines t.networks ++ grown_lines p t) in
-        let list = list_again t.networks 4 (lines_said (grown_lines p t)) fits.networks in
-        first_again count_read (λ n. count_word ∷ decimal n ∷ []) IsSomeCount count_line 2 t.count (line_of (networks_word ∷ decimal (length t.networks) ∷ []) ∷ found)
-        (λ count lines. first_line (networks_read count) 3 lines (λ k lines. then_read (networks_taken p k 4 lines) (behind_networks p count))) fits.count
-        ∙ first_again (networks_read t.count) (λ k. networks_word ∷ decimal k ∷ []) (λ k. k ≤ t.count) (networks_line t.count fits.count.1) 3 (length t.networks) found
-        (λ k lines. then_read (networks_taken p k 4 lines) (behind_networks p t.count)) fits.within
-        ∙ ap (λ (r : Result (Taken (List Network)) Fault). then_read r (behind_networks p t.count))
-        (ap (networks_taken p (length t.networks) 4) (said_append (list_lines t.networks) (grown_lines p t)) ∙ list.1)
-        ∙ behind_again list.0
-
-    pub text_read : read_text p (rank_text p t) ≡ Ok t
-    text_read =
-        ap (lines_taken p) (text_again (rank_text_lines p t) (each-to (Each IsToken) HasNoFeed no_feed (rank_text_lines p t) all_tokens))
-        ∙ rest_again
-
-  -- ---- no other text does
-
-  behind_back : (count : ℕ) (ws : List Network) (number : ℕ) (lines : List Line) (t : Text) → behind_networks p count ws number lines ≡ Ok t → IsSomeCount count → length ws ≤ count → Each (FitsNetwork p) ws
-      → (lines ≡ lines_said (grown_lines p t)) × Fits p t × (t.count ≡ count) × (t.networks ≡ ws)
-  behind_back count ws number lines t e some within listed =
+  pub behind_back : (count : ℕ) (ws : List Network) (number : ℕ) (lines : List Line) (t : Text) → behind_networks p count ws number lines ≡ Ok t → Behind count ws lines t
+  behind_back count ws number lines t e =
       let both = together_ok count ws (marks_taken number lines) (grown_taken p number (map opened lines)) t e in
       let ms = both.0 in
       let g = both.1 in
       let grown = grown_back number (map opened lines) g both.3 in
-      let come = comes (plain_grown g.tree g.tail) lines (grown_plain g.tree g.tail grown.1 grown.2) grown.0 number ms both.2 in
-      let made : Text = record { count = count; networks = ws; tree = g.tree; marks = ms; tail = g.tail } in
-      subst (λ (x : Text). (lines ≡ lines_said (grown_lines p x)) × Fits p x × (x.count ≡ count) × (x.networks ≡ ws)) (sym both.4) (
-        come.lines_are ∙ ap lines_said (grown_respelled p ms g.tree g.tail),
-        record { count = some; within = within; networks = listed; tree = grown.1; marks = come.fits; marked = come.count ∙ grown_count p g.tree g.tail; tail = grown.2 },
-        refl,
-        refl,
+      let come = both_come p g.tree g.tail ms (both_tokens p formed g.tree g.tail grown.1 grown.2) lines number grown.0 both.2 in
+      subst (λ (t : Text). Behind count ws lines t) (sym both.4) record { is = refl; lines_are = come.0; tree = grown.1; marks = come.1; marked = come.2; tail = grown.2 }
+
+  module _ (networks : TakesJust (network_taken p) (plain.network_lines p) (FitsNetwork p)) where
+    abbrev list_lines : List Network → List (List Token)
+    list_lines ws = flat_map (plain.network_lines p) ws
+
+    -- ---- networks
+
+    list_then : (w : Network) (ws : List Network) (behind : List Line) → lines_said (list_lines (w ∷ ws)) ++ behind ≡ lines_said (plain.network_lines p w) ++ (lines_said (list_lines ws) ++ behind)
+    list_then w ws behind =
+        ap (λ (ls : List Line). ls ++ behind) (map-append line_of (plain.network_lines p w) (list_lines ws))
+        ∙ append_assoc (lines_said (plain.network_lines p w)) (lines_said (list_lines ws)) behind
+
+    list_again : (ws : List Network) (number : ℕ) (behind : List Line) → Each (FitsNetwork p) ws → (last : ℕ) × (networks_taken p (length ws) number (lines_said (list_lines ws) ++ behind) ≡ Ok (record { what = ws; number = last; behind = behind }))
+    list_again [] number behind fits = (number, refl)
+    list_again (w ∷ ws) number behind fits =
+        let rest = list_again ws (number + length (plain.network_lines p w)) behind fits.1 in (
+          rest.0,
+          ap (networks_taken p (suc (length ws)) number) (list_then w ws behind)
+              ∙ ap (λ (r : Result (Taken Network) Fault). then_read r (λ w number lines. with_network w (networks_taken p (length ws) number lines))) (networks.takes w number (lines_said (list_lines ws) ++ behind) fits.0)
+              ∙ ap (with_network w) rest.1,
+        )
+
+    abbrev AreNetworks : ℕ → List Line → Taken (List Network) → Type 0
+    AreNetworks k lines taken = (lines ≡ lines_said (list_lines taken.what) ++ taken.behind) × Each (FitsNetwork p) taken.what × (length taken.what ≡ k)
+
+    list_back : (k number : ℕ) (lines : List Line) (taken : Taken (List Network)) → networks_taken p k number lines ≡ Ok taken → AreNetworks k lines taken
+    list_back zero number lines taken e =
+        let none : Taken (List Network) = record { what = []; number = number; behind = lines } in
+        subst (λ (t : Taken (List Network)). AreNetworks zero lines t) (good_is none taken e) (refl, tt, refl)
+    list_back (suc k) number lines taken e =
+        let first = then_ok (network_taken p number lines) (λ w number lines. with_network w (networks_taken p k number lines)) taken e in
+        let w = first.0.what in
+        let rest = network_ok w (networks_taken p k first.0.number first.0.behind) taken first.2 in
+        let back = list_back k first.0.number first.0.behind rest.0 rest.1 in
+        subst (λ (t : Taken (List Network)). AreNetworks (suc k) lines t) (sym rest.2) (
+          networks.lines_are number lines first.0 first.1
+              ∙ ap (λ (ls : List Line). lines_said (plain.network_lines p w) ++ ls) back.0
+              ∙ sym (list_then w rest.0.what rest.0.behind),
+          (networks.fits number lines first.0 first.1, back.1),
+          ap suc back.2,
+        )
+
+    list_tokens : (ws : List Network) → Each (FitsNetwork p) ws → Each (Each IsToken) (list_lines ws)
+    list_tokens [] fits = tt
+    list_tokens (w ∷ ws) fits = each-append (Each IsToken) (plain.network_lines p w) (list_lines ws) (network_tokens p formed w fits.0) (list_tokens ws fits.1)
+
+    -- ---- the lines behind the first one, and how they are read
+
+    abbrev counted_lines : Text → List (List Token)
+    counted_lines t = (count_word ∷ decimal t.count ∷ []) ∷ (networks_word ∷ decimal (length t.networks) ∷ []) ∷ (list_lines t.networks ++ grown_lines p t)
+
+    abbrev list_then_rest : ℕ → ℕ → List Line → Result Text Fault
+    list_then_rest count k lines = then_read (networks_taken p k 4 lines) (behind_networks p count)
+
+    abbrev networks_then : ℕ → List Line → Result Text Fault
+    networks_then count lines = first_line (networks_read count) 3 lines (list_then_rest count)
+
+    module _ (t : Text) (fits : Fits p t) where
+      all_given : Gives t.marks (grown_lines p t) (plain_grown t.tree t.tail)
+      all_given = both_given p t.tree t.tail t.marks (both_tokens p formed t.tree t.tail fits.tree fits.tail) fits.marks fits.marked
+
+      behind_again : (number : ℕ) → behind_networks p t.count t.networks number (lines_said (grown_lines p t)) ≡ Ok t
+      behind_again number =
+          ap₂ (λ (m : Result (List Mark) Fault) (g : Result Grown Fault). put_together t.count t.networks m g)
+          (all_given.marks_are number)
+          (ap (grown_taken p number) all_given.opened_are ∙ grown_again t.tree t.tail number fits.tree fits.tail)
+
+      all_tokens : Each (Each IsToken) (rank_text_lines p t)
+      all_tokens = (
+        (record { some = refl; space = refl; feed = refl }, tt),
+        (
+          count_line.tokens t.count fits.count,
+          (
+            (networks_line t.count fits.count.1).tokens (length t.networks) fits.within,
+            each-append (Each IsToken) (list_lines t.networks) (grown_lines p t) (list_tokens t.networks fits.networks) all_given.tokens,
+          ),
+        ),
       )
 
-  rest_back : (lines : List Line) (t : Text) → rest_taken p 2 lines ≡ Ok t
-      → (lines ≡ lines_said ((count_word ∷ decimal t.count ∷ []) ∷ (networks_word ∷ decimal (length t.networks) ∷ []) ∷ (list_lines t.networks ++ grown_lines p t))) × Fits p t
-  rest_back lines t e =
-      let one = first_back count_read (λ n. count_word ∷ decimal n ∷ []) IsSomeCount count_line 2 lines
-      (λ count lines. first_line (networks_read count) 3 lines (λ k lines. then_read (networks_taken p k 4 lines) (behind_networks p count))) t e in
-      let two = first_back (networks_read one.what) (λ k. networks_word ∷ decimal k ∷ []) (λ k. k ≤ one.what) (networks_line one.what one.fits.1) 3 one.rest
-      (λ k lines. then_read (networks_taken p k 4 lines) (behind_networks p one.what)) t one.reads in
-      let three = then_ok (networks_taken p two.what 4 two.rest) (behind_networks p one.what) t two.reads in
-      let list = list_back two.what 4 two.rest three.0 three.1 in
-      let ws = three.0.what in
-      let few : length ws ≤ one.what = subst (λ (k : ℕ). k ≤ one.what) (sym list.2) two.fits in
-      let back = behind_back one.what ws three.0.number three.0.behind t three.2 one.fits few list.1 in
-      let behind : two.rest ≡ lines_said (list_lines ws ++ grown_lines p t) =
-      list.0 ∙ ap (λ (ls : List Line). lines_said (list_lines ws) ++ ls) back.0 ∙ sym (said_append (list_lines ws) (grown_lines p t)) in (
-        one.lines_are
-            ∙ ap (λ (ls : List Line). line_of (count_word ∷ decimal one.what ∷ []) ∷ ls) (two.lines_are ∙ ap₂ (λ (k : ℕ) (ls : List Line). line_of (networks_word ∷ decimal k ∷ []) ∷ ls) (sym list.2) behind)
-            ∙ ap₂ (λ (n : ℕ) (vs : List Network). lines_said ((count_word ∷ decimal n ∷ []) ∷ (networks_word ∷ decimal (length vs) ∷ []) ∷ (list_lines vs ++ grown_lines p t))) (sym back.2) (sym back.3),
-        back.1,
-      )
+      rest_again : rest_taken p 2 (lines_said (counted_lines t)) ≡ Ok t
+      rest_again =
+          let found : List Line = lines_said (list_lines t.networks ++ grown_lines p t) in
+          let list = list_again t.networks 4 (lines_said (grown_lines p t)) fits.networks in
+          first_again count_read (λ n. count_word ∷ decimal n ∷ []) IsSomeCount count_line 2 t.count (line_of (networks_word ∷ decimal (length t.networks) ∷ []) ∷ found) networks_then fits.count
+          ∙ first_again (networks_read t.count) (λ k. networks_word ∷ decimal k ∷ []) (λ k. k ≤ t.count) (networks_line t.count fits.count.1) 3 (length t.networks) found (list_then_rest t.count) fits.within
+          ∙ ap (λ (r : Result (Taken (List Network)) Fault). then_read r (behind_networks p t.count))
+          (ap (networks_taken p (length t.networks) 4) (map-append line_of (list_lines t.networks) (grown_lines p t)) ∙ list.1)
+          ∙ behind_again list.0
 
-  lines_back : (lines : List Line) (t : Text) → lines_taken p lines ≡ Ok t → (lines ≡ lines_said (rank_text_lines p t)) × Fits p t
-  lines_back [] t e = absurd cc
-  lines_back (line ∷ lines) t e =
-      let one = on_line_ok 1 (file_type_read line) (λ read. rest_taken p 2 lines) t e in
-      let back = rest_back lines t one.2 in
-      (ap₂ (λ (l : Line) (ls : List Line). l ∷ ls) (type_back line one.0 one.1) back.0, back.1)
+      pub text_read : read_text p (rank_text p t) ≡ Ok t
+      text_read =
+          ap (lines_taken p) (text_again (rank_text_lines p t) (each-to (Each IsToken) HasNoFeed no_feed (rank_text_lines p t) all_tokens))
+          ∙ rest_again
 
-  pub text_spelled : (bytes : List ℕ) (t : Text) → read_text p bytes ≡ Ok t → IsSpelled p bytes t
-  text_spelled bytes t e = let back = lines_back (lines_of bytes) t e in record { text = text_back bytes (rank_text_lines p t) back.0; fits = back.1 }
+    -- ---- no other text does
+
+    rest_back : (lines : List Line) (t : Text) → rest_taken p 2 lines ≡ Ok t → (lines ≡ lines_said (counted_lines t)) × Fits p t
+    rest_back lines t e =
+        let one = first_back count_read (λ n. count_word ∷ decimal n ∷ []) IsSomeCount count_line 2 lines networks_then t e in
+        let two = first_back (networks_read one.what) (λ k. networks_word ∷ decimal k ∷ []) (λ k. k ≤ one.what) (networks_line one.what one.fits.1) 3 one.rest (list_then_rest one.what) t one.reads in
+        let three = then_ok (networks_taken p two.what 4 two.rest) (behind_networks p one.what) t two.reads in
+        let list = list_back two.what 4 two.rest three.0 three.1 in
+        let ws = three.0.what in
+        let back = behind_back one.what ws three.0.number three.0.behind t three.2 in
+        let few : length ws ≤ one.what = subst (λ (k : ℕ). k ≤ one.what) (sym list.2) two.fits in
+        let made : Text = record { count = one.what; networks = ws; tree = t.tree; marks = t.marks; tail = t.tail } in
+        subst (λ (t : Text). (lines ≡ lines_said (counted_lines t)) × Fits p t) (sym back.is) (
+          one.lines_are ∙ ap (λ (ls : List Line). line_of (count_word ∷ decimal one.what ∷ []) ∷ ls)
+              (two.lines_are ∙ ap₂ (λ (k : ℕ) (ls : List Line). line_of (networks_word ∷ decimal k ∷ []) ∷ ls) (sym list.2)
+              (list.0 ∙ ap (λ (ls : List Line). lines_said (list_lines ws) ++ ls) back.lines_are ∙ sym (map-append line_of (list_lines ws) (grown_lines p made)))),
+          record { count = one.fits; within = few; networks = list.1; tree = back.tree; marks = back.marks; marked = back.marked; tail = back.tail },
+        )
+
+    lines_back : (lines : List Line) (t : Text) → lines_taken p lines ≡ Ok t → (lines ≡ lines_said (rank_text_lines p t)) × Fits p t
+    lines_back [] t e = absurd cc
+    lines_back (line ∷ lines) t e =
+        let one = on_line_ok 1 (file_type_read line) (λ read. rest_taken p 2 lines) t e in
+        let back = rest_back lines t one.2 in
+        (ap₂ (λ (l : Line) (ls : List Line). l ∷ ls) (type_back line one.0 one.1) back.0, back.1)
+
+    pub text_spelled : (bytes : List ℕ) (t : Text) → read_text p bytes ≡ Ok t → IsSpelled p bytes t
+    text_spelled bytes t e = let back = lines_back (lines_of bytes) t e in record { text = text_back bytes (rank_text_lines p t) back.0; fits = back.1 }

@@ -1,3 +1,4 @@
 pub mod Known
 pub mod Fits
 pub mod Laws
+pub mod Takes

@@ -1,15 +1,19 @@
-//! The first three lines of a text.
-ghost use Rattle.std.specs.Prelude.{◌≡◌, ◌≤◌, ◌<◌, ◌-◌, ◌^◌, suc, Ok, IfOk, IfErr, length};
+//! The lines that stand before the networks.
+ghost use Rattle.std.specs.Prelude.{◌≡◌, ◌≤◌, IfOk};
 ghost use Rattle.tree_tokens.specs.View.{line_of};
-ghost use Rattle.tree_reading.specs.Place.{IsCut, IsBehind, lines_at};
-ghost use Rattle.tree_reading.specs.Taken.{line_taken, taken};
-ghost use Rattle.text_lines.specs.Tells.{Tells};
+ghost use Rattle.rank_rules.specs.Opened.{begins_by};
 ghost use Rattle.rank_rules.specs.Read.{file_type_read, word_read, count_read, networks_read};
 
-use crate::cut::count_left;
-use tree_reading::{Cut, TreeFault, kind_at, line_at};
 use tree_text_rules::TreeKind;
-use tree_tokens::{Line, first_token, parts_of};
+use tree_tokens::{Line, first_token, one_count, parts_of};
+
+/// Whether the line begins with the word.
+pub fn begins_by(word: &[u8], line: &Line) -> bool
+    ensures { result ≡ begins_by word.now (line_of line.now) }
+{
+    let (token, _) = first_token(line.text);
+    token == word
+}
 
 /// The first line.
 pub fn file_type_line(line: &Line) -> Result<(), TreeKind>
@@ -26,17 +30,19 @@ pub fn file_type_line(line: &Line) -> Result<(), TreeKind>
 fn word_line(word: &[u8], line: &Line) -> Result<u32, TreeKind>
     ensures { result ≡ word_read word.now (line_of line.now) }
 {
+    if !parts_of(line).formed {
+        return Err(TreeKind::BadLine);
+    }
     let (token, fields) = first_token(line.text);
-    let parts = parts_of(line);
     if token == word {
-        count_left(parts.formed, fields)
+        one_count(fields)
     } else {
         Err(TreeKind::BadLine)
     }
 }
 
-// How many networks were asked for.
-fn count_line(line: &Line) -> Result<u32, TreeKind>
+/// How many networks were asked for, at least 1.
+pub fn count_line(line: &Line) -> Result<u32, TreeKind>
     ensures value { result ≡ count_read (line_of line.now) }
     ensures some { IfOk result (λ count. 1 ≤ count) }
 {
@@ -52,8 +58,8 @@ fn count_line(line: &Line) -> Result<u32, TreeKind>
     }
 }
 
-// How many networks are there.
-fn networks_line(count: u32, line: &Line) -> Result<u32, TreeKind>
+/// How many networks are there, at most so many.
+pub fn networks_line(count: u32, line: &Line) -> Result<u32, TreeKind>
     ensures value { result ≡ networks_read count (line_of line.now) }
     ensures few { IfOk result (λ k. k ≤ count) }
 {
@@ -66,43 +72,5 @@ fn networks_line(count: u32, line: &Line) -> Result<u32, TreeKind>
             }
         }
         Err(kind) => Err(kind),
-    }
-}
-
-/// How many networks were asked for, at least 1, by the line at the cut, and the cut behind it.
-pub fn count_at(bytes: &[u8], cut: Cut) -> Result<(u32, Cut), TreeFault>
-    requires cut { IsCut bytes.now cut }
-    requires few { length bytes.now < 2 ^ 32 - 1 }
-    ensures ok { IfOk result (λ found. line_taken count_read cut.line (lines_at bytes.now cut) ≡ Ok (taken found.0 bytes.now found.1)) }
-    ensures behind { IfOk result (λ found. IsBehind bytes.now cut found.1) }
-    ensures number { IfOk result (λ found. found.1.line ≡ suc cut.line) }
-    ensures some { IfOk result (λ found. 1 ≤ found.0) }
-    ensures fault { IfErr result (Tells (line_taken count_read cut.line (lines_at bytes.now cut))) }
-{
-    let Some((line, behind)) = line_at(bytes, cut) else {
-        return Err(kind_at(cut, TreeKind::BadLine));
-    };
-    match count_line(&line) {
-        Ok(count) => Ok((count, behind)),
-        Err(kind) => Err(kind_at(cut, kind)),
-    }
-}
-
-/// How many networks are there, at most so many, by the line at the cut, and the cut behind it.
-pub fn networks_at(count: u32, bytes: &[u8], cut: Cut) -> Result<(u32, Cut), TreeFault>
-    requires cut { IsCut bytes.now cut }
-    requires few { length bytes.now < 2 ^ 32 - 1 }
-    ensures ok { IfOk result (λ found. line_taken (networks_read count) cut.line (lines_at bytes.now cut) ≡ Ok (taken found.0 bytes.now found.1)) }
-    ensures behind { IfOk result (λ found. IsBehind bytes.now cut found.1) }
-    ensures number { IfOk result (λ found. found.1.line ≡ suc cut.line) }
-    ensures few { IfOk result (λ found. found.0 ≤ count) }
-    ensures fault { IfErr result (Tells (line_taken (networks_read count) cut.line (lines_at bytes.now cut))) }
-{
-    let Some((line, behind)) = line_at(bytes, cut) else {
-        return Err(kind_at(cut, TreeKind::BadLine));
-    };
-    match networks_line(count, &line) {
-        Ok(k) => Ok((k, behind)),
-        Err(kind) => Err(kind_at(cut, kind)),
     }
 }

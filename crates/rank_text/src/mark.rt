@@ -1,12 +1,11 @@
 //! The line of an open leaf.
-ghost use Rattle.std.specs.Prelude.{◌≡◌, ◌∷◌, ◌≤◌, [], Ok, IfOk, IfErr};
+ghost use Rattle.std.specs.Prelude.{◌≡◌, Ok, IfOk, IfErr};
 ghost use Rattle.tree_text_rules.specs.LineRead.{one_and_more};
 ghost use Rattle.tree_text_rules.specs.Token as rules;
 ghost use Rattle.text_lines.specs.Tells.{TellsLine};
 ghost use Rattle.tree_tokens.specs.View.{line_of, tokens_in};
-ghost use Rattle.rank_rules.specs.Text.{AreNumbered};
 ghost use Rattle.ranked_tree.specs.View.{mark_of};
-ghost use Rattle.rank_rules.specs.Opened.{mark_by, mark_with, named_read};
+ghost use Rattle.rank_rules.specs.Opened.{mark_with, named_read};
 
 use branch_tree::{End, Scaled};
 use pns_problem::Problem;
@@ -39,54 +38,36 @@ fn scaled_fields(
     }
 }
 
-// The number of a network, which was read, and a scale and multipliers.
+// A network's number that was read, and behind it a scale and multipliers.
 fn named_fields(
     alloc: Global,
     problem: &Problem,
     network: Result<u32, TreeKind>,
     behind: Option<&[u8]>,
 ) -> Result<Mark, LineFault>
-    requires { IfOk network (λ k. 1 ≤ k) }
     ensures ok { IfOk result (λ m. mark_with network (one_and_more rules.number_of rules.number_of (tokens_in behind.entry)) ≡ Ok (mark_of m)) }
-    ensures numbered { IfOk result (λ m. AreNumbered (mark_of m ∷ [])) }
     ensures fault { IfErr result (TellsLine (mark_with network (one_and_more rules.number_of rules.number_of (tokens_in behind.entry)))) }
 {
-    match scaled_fields(alloc, problem, behind) {
-        Ok(scaled) => match network {
-            Ok(network) => Ok(Mark::Named { network, scaled }),
-            Err(kind) => Err(LineFault::Kind(kind)),
-        },
-        Err(LineFault::Memory) => Err(LineFault::Memory),
-        Err(LineFault::Kind(other)) => match network {
-            Ok(_) => Err(LineFault::Kind(other)),
-            Err(kind) => Err(LineFault::Kind(lesser(kind, other))),
-        },
+    match (network, scaled_fields(alloc, problem, behind)) {
+        (_, Err(LineFault::Memory)) => Err(LineFault::Memory),
+        (Ok(network), Ok(scaled)) => Ok(Mark::Named { network, scaled }),
+        (Ok(_), Err(LineFault::Kind(kind))) => Err(LineFault::Kind(kind)),
+        (Err(kind), Ok(_)) => Err(LineFault::Kind(kind)),
+        (Err(kind), Err(LineFault::Kind(other))) => Err(LineFault::Kind(lesser(kind, other))),
     }
-}
-
-// What the tokens behind the word `named` tell.
-fn mark_fields(alloc: Global, problem: &Problem, fields: Option<&[u8]>) -> Result<Mark, LineFault>
-    ensures ok { IfOk result (λ m. mark_by (tokens_in fields.entry) ≡ Ok (mark_of m)) }
-    ensures numbered { IfOk result (λ m. AreNumbered (mark_of m ∷ [])) }
-    ensures fault { IfErr result (TellsLine (mark_by (tokens_in fields.entry))) }
-{
-    let Some((token, behind)) = next_token(fields) else {
-        return Err(LineFault::Kind(TreeKind::BadLine));
-    };
-    let network = children_of(token);
-    named_fields(alloc, problem, network, behind)
 }
 
 /// What a line that begins with the word `named` tells of its leaf.
 pub fn named_line(alloc: Global, problem: &Problem, line: &Line) -> Result<Mark, LineFault>
     ensures ok { IfOk result (λ m. named_read (line_of line.now) ≡ Ok (mark_of m)) }
-    ensures numbered { IfOk result (λ m. AreNumbered (mark_of m ∷ [])) }
     ensures fault { IfErr result (TellsLine (named_read (line_of line.now))) }
 {
     let parts = parts_of(line);
-    if parts.formed {
-        mark_fields(alloc, problem, parts.fields)
-    } else {
-        Err(LineFault::Kind(TreeKind::BadLine))
+    if !parts.formed {
+        return Err(LineFault::Kind(TreeKind::BadLine));
     }
+    let Some((token, behind)) = next_token(parts.fields) else {
+        return Err(LineFault::Kind(TreeKind::BadLine));
+    };
+    named_fields(alloc, problem, children_of(token), behind)
 }

@@ -11,6 +11,7 @@ use branch_tree::Network;
 use pns_problem::Problem;
 use std::alloc::Global;
 use tree_reading::{Cut, TreeFault, read_network};
+use tree_text_laws::networks_are_taken;
 
 /// So many networks, the first of which has its first line at the cut, and the cut behind them. `At` comes exactly at the first fault
 /// of their lines, `Memory` is want of memory. Nothing is reserved by the promised number.
@@ -30,6 +31,8 @@ pub fn read_networks(
     ensures known { IfOk result (λ found. Each (KnowsNetwork problem.now) found.0.items) }
     ensures fault { IfErr result (Tells (networks_taken problem.now count cut.line (lines_at bytes.now cut))) }
 {
+    problem.is_valid();
+    networks_are_taken();
     let mut networks = Vec::new(alloc);
     let mut left = count;
     let mut at = cut;

@@ -1,14 +1,13 @@
 //! A tree text made of the lines of a ranked tree and its tail, which claims nothing.
-ghost use Rattle.std.specs.Prelude.{◌≡◌, ◌≤◌, ◌<◌, ◌-◌, ◌^◌, ◌++◌, ◌∷◌, [], suc, true, List, None, Ok, IfOk, OnOk, length, map};
-ghost use Rattle.tree_text_rules.specs.Line as rules;
+ghost use Rattle.std.specs.Prelude.{◌≡◌, ◌≤◌, ◌<◌, ◌-◌, ◌^◌, ◌++◌, ◌∷◌, [], Ok, IfOk, OnOk, length, map};
 ghost use Rattle.tree_tokens.specs.View.{line_of};
 ghost use Rattle.tree_reading.specs.Place.{IsCut, lines_at};
-ghost use Rattle.rank_rules.specs.Text.{AreNumbered};
 ghost use Rattle.ranked_tree.specs.View.{mark_of};
 ghost use Rattle.rank_rules.specs.Opened.{begins_by, opened, unknown_line, line_bytes, marks_taken, so_far};
 ghost use Rattle.rank_rules.specs.Spelling.{named_word};
+ghost use Rattle.rank_text.specs.Takes.{TakesMark};
 
-use crate::cut::begins_by;
+use crate::front::begins_by;
 use crate::mark::named_line;
 use pns_problem::Problem;
 use ranked_tree::Mark;
@@ -17,8 +16,8 @@ use tree_reading::{Cut, line_at};
 use tree_text_rules::TreeKind;
 use tree_tokens::{Line, LineFault};
 
-/// The most bytes of a text beside which there is place for the other: readers take fewer than 2^32 - 1.
-const MOST_BYTES: usize = 4_294_967_280;
+/// Readers take fewer bytes.
+const TOO_MANY_BYTES: usize = 4_294_967_295;
 
 /// A text in which the line `open` stands for each line that names a network, with what the lines of open leaves tell, and the first
 /// fault of a line that names a network.
@@ -45,54 +44,8 @@ fn push_opened(bytes: &mut Vec<u8>, line: &Line, is_named: bool) -> Result<(), A
     Ok(())
 }
 
-// Puts what a line that names a network tells behind the other marks, or gives its fault.
-fn take_named(
-    alloc: Global,
-    problem: &Problem,
-    marks: &mut Vec<Mark>,
-    number: u32,
-    line: &Line,
-) -> Result<Option<(u32, TreeKind)>, AllocError>
-    requires named { begins_by named_word (line_of line.now) ≡ true }
-    requires numbered { AreNumbered (map mark_of marks.old.items) }
-    ensures next { IfOk result (λ next. (lines : List rules.Line) → so_far (map mark_of marks.new.items) next (marks_taken (suc number) lines) ≡ so_far (map mark_of marks.old.items) None (marks_taken number (line_of line.now ∷ lines))) }
-    ensures numbered { OnOk result (AreNumbered (map mark_of marks.new.items)) }
-{
-    match named_line(alloc, problem, line) {
-        Ok(mark) => {
-            marks.push(mark)?;
-            Ok(None)
-        }
-        Err(LineFault::Kind(kind)) => Ok(Some((number, kind))),
-        Err(LineFault::Memory) => Err(AllocError),
-    }
-}
-
-// The same of any line, where no fault was met before.
+// What the line tells of the mark of an open leaf is put behind the other marks; a fault of it is given, where none was met before.
 fn take_mark(
-    alloc: Global,
-    problem: &Problem,
-    marks: &mut Vec<Mark>,
-    number: u32,
-    line: &Line,
-    is_named: bool,
-) -> Result<Option<(u32, TreeKind)>, AllocError>
-    requires named { is_named ≡ begins_by named_word (line_of line.now) }
-    requires numbered { AreNumbered (map mark_of marks.old.items) }
-    ensures next { IfOk result (λ next. (lines : List rules.Line) → so_far (map mark_of marks.new.items) next (marks_taken (suc number) lines) ≡ so_far (map mark_of marks.old.items) None (marks_taken number (line_of line.now ∷ lines))) }
-    ensures numbered { OnOk result (AreNumbered (map mark_of marks.new.items)) }
-{
-    if is_named {
-        return take_named(alloc, problem, marks, number, line);
-    }
-    if begins_by(b"open", line) {
-        marks.push(Mark::Open)?;
-    }
-    Ok(None)
-}
-
-// The same of any line, where a fault may have been met before.
-fn take_line(
     alloc: Global,
     problem: &Problem,
     marks: &mut Vec<Mark>,
@@ -101,19 +54,30 @@ fn take_line(
     line: &Line,
     is_named: bool,
 ) -> Result<Option<(u32, TreeKind)>, AllocError>
-    requires named { is_named ≡ begins_by named_word (line_of line.now) }
-    requires numbered { AreNumbered (map mark_of marks.old.items) }
-    ensures next { IfOk result (λ next. (lines : List rules.Line) → so_far (map mark_of marks.new.items) next (marks_taken (suc number) lines) ≡ so_far (map mark_of marks.old.items) fault (marks_taken number (line_of line.now ∷ lines))) }
-    ensures numbered { OnOk result (AreNumbered (map mark_of marks.new.items)) }
+    requires { is_named ≡ begins_by named_word (line_of line.now) }
+    ensures { IfOk result (TakesMark (map mark_of marks.old.items) fault number (line_of line.now) (map mark_of marks.new.items)) }
 {
     match fault {
         Some(found) => Ok(Some(found)),
-        None => take_mark(alloc, problem, marks, number, line, is_named),
+        None if is_named => match named_line(alloc, problem, line) {
+            Ok(mark) => {
+                marks.push(mark)?;
+                Ok(None)
+            }
+            Err(LineFault::Kind(kind)) => Ok(Some((number, kind))),
+            Err(LineFault::Memory) => Err(AllocError),
+        },
+        None => {
+            if begins_by(b"open", line) {
+                marks.push(Mark::Open)?;
+            }
+            Ok(None)
+        }
     }
 }
 
 /// All that stands before the cut, the line `unknown`, and the lines from the cut on as those of a tree text, with the marks of open
-/// leaves. Only want of memory is an error, which a text of nearly 2^32 bytes is said to be too. Linear in the bytes.
+/// leaves. Only want of memory is an error, which a text of 2^32 - 1 bytes or more is said to be too. Linear in the bytes.
 #[tactic(auto, using(crate::proofs::OpenBytes::text_begun, crate::proofs::OpenBytes::text_on))]
 pub fn open_lines(
     alloc: Global,
@@ -127,11 +91,7 @@ pub fn open_lines(
     ensures some { IfOk result (λ t. cut.at ≤ length t.bytes.items) }
     ensures few { IfOk result (λ t. length t.bytes.items < 2 ^ 32 - 1) }
     ensures marks { IfOk result (λ t. so_far (map mark_of t.marks.items) t.fault (Ok []) ≡ marks_taken cut.line (lines_at bytes.now cut)) }
-    ensures numbered { IfOk result (λ t. AreNumbered (map mark_of t.marks.items)) }
 {
-    if bytes.len() > MOST_BYTES {
-        return Err(AllocError);
-    }
     let mut opened = bytes[..cut.at].to_vec(alloc)?;
     opened.extend_from_slice(b"unknown\n")?;
     let mut marks = Vec::new(alloc);
@@ -140,8 +100,11 @@ pub fn open_lines(
     'opening: while let Some((line, behind)) = line_at(bytes, at) {
         let is_named = begins_by(b"named", &line);
         push_opened(&mut opened, &line, is_named)?;
-        fault = take_line(alloc, problem, &mut marks, fault, at.line, &line, is_named)?;
+        fault = take_mark(alloc, problem, &mut marks, fault, at.line, &line, is_named)?;
         at = behind;
+    }
+    if opened.len() >= TOO_MANY_BYTES {
+        return Err(AllocError);
     }
     Ok(OpenText {
         bytes: opened,

@@ -1,5 +1,4 @@
 use Rattle.std.proofs.Common.{◌≡◌, ◌-◌, ◌++◌, length, take, map}
-use Rattle.rank_rules.specs.Text.{AreNumbered}
 use Rattle.ranked_tree.specs.View.{mark_of}
 use Rattle.tree_reading.specs.Place.{IsReached, lines_at}
 use Rattle.rank_rules.specs.Opened.{opened, marks_taken, so_far}
@@ -12,7 +11,6 @@ invariant-opening l = record {
   reached : IsReached l.bytes l.fn.cut l.at;
   text : l.opened.items ++ bytes_of (map opened (lines_at l.bytes l.at)) ≡ take l.fn.cut.at l.bytes ++ opened_from l.bytes l.fn.cut.at;
   marks : so_far (map mark_of l.marks.items) l.fault (marks_taken l.at.line (lines_at l.bytes l.at)) ≡ marks_taken l.fn.cut.line (lines_at l.bytes l.fn.cut);
-  numbered : AreNumbered (map mark_of l.marks.items);
 }
 
 abbrev pub decreases-opening : goal.decreases-opening
