@@ -30,55 +30,40 @@ pieces_clear (c ∷ cs) = at (is_feed c) refl (slice_split is_feed cs) (pieces_c
     at false e [] each = (or_from (is_feed c) false e refl, tt)
     at false e (piece ∷ pieces) each = (or_from (is_feed c) (list_any is_feed piece) e each.0, each.1)
 
-front_line : (text rest : List ℕ) → IsClear text → lines_of ((text ++ 10 ∷ []) ++ rest) ≡ record { text = text; ended = true } ∷ lines_of rest
-front_line text rest clear =
-    ap lines_of (append_assoc text (10 ∷ []) rest)
-    ∙ ap lines_from (split_at is_feed text 10 rest clear refl)
-    ∙ more_pieces text (slice_split is_feed rest) (parts_some is_feed rest)
-
-last_alone : (c : ℕ) (cs : List ℕ) → IsClear (c ∷ cs) → lines_of ((c ∷ cs) ++ []) ≡ record { text = c ∷ cs; ended = false } ∷ []
-last_alone c cs clear = ap lines_of (append-nil (c ∷ cs)) ∙ ap lines_from (split_none is_feed (c ∷ cs) clear)
+-- a line that has ended, in front of others
+front_line : (text : List ℕ) (lines : List Line) → IsClear text → lines_of (bytes_of lines) ≡ lines → lines_of ((text ++ 10 ∷ []) ++ bytes_of lines) ≡ record { text = text; ended = true } ∷ lines
+front_line text lines clear rest =
+    ap lines_of (append_assoc text (10 ∷ []) (bytes_of lines))
+    ∙ ap lines_from (split_at is_feed text 10 (bytes_of lines) clear refl)
+    ∙ more_pieces text (slice_split is_feed (bytes_of lines)) (parts_some is_feed (bytes_of lines))
+    ∙ ap (λ (ls : List Line). record { text = text; ended = true } ∷ ls) rest
 
 -- the line, or `open` in its place
 abbrev opened_as : Bool → Line → Line
 opened_as named line = if named then record { text = word_text Open; ended = line.ended } else line
 
+front_opened : (named : Bool) (text : List ℕ) (lines : List Line) → IsClear text → lines_of (bytes_of lines) ≡ lines
+    → lines_of (line_bytes (opened_as named (record { text = text; ended = true })) ++ bytes_of lines) ≡ opened_as named (record { text = text; ended = true }) ∷ lines
+front_opened true text lines clear rest = front_line (word_text Open) lines refl rest
+front_opened false text lines clear rest = front_line text lines clear rest
+
+last_opened : (named : Bool) (c : ℕ) (cs : List ℕ) → IsClear (c ∷ cs)
+    → lines_of (line_bytes (opened_as named (record { text = c ∷ cs; ended = false })) ++ []) ≡ opened_as named (record { text = c ∷ cs; ended = false }) ∷ []
+last_opened true c cs clear = refl
+last_opened false c cs clear = ap lines_of (append-nil (c ∷ cs)) ∙ ap lines_from (split_none is_feed (c ∷ cs) clear)
+
 opened_again : (pieces : List (List ℕ)) → Each IsClear pieces → lines_of (bytes_of (map opened (lines_from pieces))) ≡ map opened (lines_from pieces)
 opened_again [] each = refl
 opened_again ([] ∷ []) each = refl
-opened_again ((c ∷ cs) ∷ []) each = at (begins_by named_word (record { text = c ∷ cs; ended = false }))
-  where
-    at : (b : Bool) → lines_of (line_bytes (opened_as b (record { text = c ∷ cs; ended = false })) ++ []) ≡ opened_as b (record { text = c ∷ cs; ended = false }) ∷ []
-    at true = refl
-    at false = last_alone c cs each.0
-opened_again (piece ∷ next ∷ pieces) each = at (begins_by named_word (record { text = piece; ended = true })) (opened_again (next ∷ pieces) each.1)
-  where
-    at : (b : Bool) → lines_of (bytes_of (map opened (lines_from (next ∷ pieces)))) ≡ map opened (lines_from (next ∷ pieces))
-        → lines_of (line_bytes (opened_as b (record { text = piece; ended = true })) ++ bytes_of (map opened (lines_from (next ∷ pieces)))) ≡ opened_as b (record { text = piece; ended = true }) ∷ map opened (lines_from (next ∷ pieces))
-    at true rest = front_line (word_text Open) (bytes_of (map opened (lines_from (next ∷ pieces)))) refl ∙ ap (λ (ls : List Line). record { text = word_text Open; ended = true } ∷ ls) rest
-    at false rest = front_line piece (bytes_of (map opened (lines_from (next ∷ pieces)))) each.0 ∙ ap (λ (ls : List Line). record { text = piece; ended = true } ∷ ls) rest
+opened_again ((c ∷ cs) ∷ []) each = last_opened (begins_by named_word (record { text = c ∷ cs; ended = false })) c cs each.0
+opened_again (piece ∷ next ∷ pieces) each =
+    front_opened (begins_by named_word (record { text = piece; ended = true })) piece (map opened (lines_from (next ∷ pieces))) each.0 (opened_again (next ∷ pieces) each.1)
 
-pub opened_lines : (bytes : List ℕ) → lines_of (bytes_of (map opened (lines_of bytes))) ≡ map opened (lines_of bytes)
-opened_lines bytes = opened_again (slice_split is_feed bytes) (pieces_clear bytes)
-
--- ---- from a place on
+-- ---- a text that is made line by line
 
 -- the text behind what stands before the place
 abbrev pub opened_from : List ℕ → ℕ → List ℕ
 opened_from bytes at = bytes_of (unknown_line ∷ map opened (lines_of (drop at bytes)))
-
-from_lines : (bytes : List ℕ) (at : ℕ) → lines_of (opened_from bytes at) ≡ unknown_line ∷ map opened (lines_of (drop at bytes))
-from_lines bytes at = front_line (word_text Unknown) (bytes_of (map opened (lines_of (drop at bytes)))) refl ∙ ap (λ (ls : List Line). unknown_line ∷ ls) (opened_lines (drop at bytes))
-
-pub made_lines : (bytes made : List ℕ) (at : ℕ) → at ≤ length bytes → made ≡ take at bytes ++ opened_from bytes at → lines_of (drop at made) ≡ unknown_line ∷ map opened (lines_of (drop at bytes))
-made_lines bytes made at within is =
-    let front : length (take at bytes) ≡ at = length-take-le at bytes within in
-    ap (λ (bs : List ℕ). lines_of (drop at bs)) is
-    ∙ ap (λ (n : ℕ). lines_of (drop n (take at bytes ++ opened_from bytes at))) (sym front)
-    ∙ ap lines_of (drop-append_seam (take at bytes) (opened_from bytes at))
-    ∙ from_lines bytes at
-
--- ---- a text that is made line by line
 
 -- before the first line
 pub text_begun : (bytes made : List ℕ) (at : ℕ) → made ≡ take at bytes ++ line_bytes unknown_line → made ++ bytes_of (map opened (lines_of (drop at bytes))) ≡ take at bytes ++ opened_from bytes at
@@ -87,7 +72,8 @@ text_begun bytes made at is =
     ∙ append_assoc (take at bytes) (line_bytes unknown_line) (bytes_of (map opened (lines_of (drop at bytes))))
 
 -- one line more
-pub text_on : (made next : List ℕ) (left rest : List Line) (line : Line) (whole : List ℕ) → made ++ bytes_of (map opened left) ≡ whole → left ≡ line ∷ rest → next ≡ made ++ line_bytes (opened line) → next ++ bytes_of (map opened rest) ≡ whole
+pub text_on : (made next : List ℕ) (left rest : List Line) (line : Line) (whole : List ℕ)
+    → made ++ bytes_of (map opened left) ≡ whole → left ≡ line ∷ rest → next ≡ made ++ line_bytes (opened line) → next ++ bytes_of (map opened rest) ≡ whole
 text_on made next left rest line whole e cut is =
     ap (λ (bs : List ℕ). bs ++ bytes_of (map opened rest)) is
     ∙ append_assoc made (line_bytes (opened line)) (bytes_of (map opened rest))
@@ -95,5 +81,12 @@ text_on made next left rest line whole e cut is =
     ∙ e
 
 -- no line is left
-pub text_done : (made : List ℕ) (left : List Line) (whole : List ℕ) → made ++ bytes_of (map opened left) ≡ whole → left ≡ [] → made ≡ whole
-text_done made left whole e none = sym (append-nil made) ∙ ap (λ (ls : List Line). made ++ bytes_of (map opened ls)) (sym none) ∙ e
+pub text_done : (bytes made : List ℕ) (at : ℕ) (left : List Line) → at ≤ length bytes → made ++ bytes_of (map opened left) ≡ take at bytes ++ opened_from bytes at → left ≡ []
+    → lines_of (drop at made) ≡ unknown_line ∷ map opened (lines_of (drop at bytes))
+text_done bytes made at left within e none =
+    let front : length (take at bytes) ≡ at = length-take-le at bytes within in
+    let lines : List Line = map opened (lines_of (drop at bytes)) in
+    ap (λ (bs : List ℕ). lines_of (drop at bs)) (sym (append-nil made) ∙ ap (λ (ls : List Line). made ++ bytes_of (map opened ls)) (sym none) ∙ e)
+    ∙ ap (λ (n : ℕ). lines_of (drop n (take at bytes ++ opened_from bytes at))) (sym front)
+    ∙ ap lines_of (drop-append_seam (take at bytes) (opened_from bytes at))
+    ∙ front_line (word_text Unknown) lines refl (opened_again (slice_split is_feed (drop at bytes)) (pieces_clear (drop at bytes)))

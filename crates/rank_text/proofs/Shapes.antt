@@ -11,7 +11,7 @@ use Rattle.tree_rules.specs.Accepted.{Tree}
 use Rattle.tree_rules.specs.Claim.{Network}
 use Rattle.tree_rules.specs.Known.{KnowsStep, KnowsTree}
 use Rattle.tree_rules.specs.Tail as tails
-use Rattle.text_laws.proofs.Each.{each-append}
+use Rattle.text_laws.proofs.Each.{each-append, each-map, each-to}
 use Rattle.tree_text_rules.specs.Line.{Token, Line}
 use Rattle.tree_text_rules.specs.LineRead.{spent, past}
 use Rattle.tree_text_rules.specs.Spelling as plain
@@ -160,10 +160,6 @@ module _ (p : Problem) (formed : IsWellFormed p) where
     ),
   )
 
-  steps_tokens : (ss : List nodes.Step) → Each (KnowsStep p) ss → Each (Each IsToken) (map (plain.step_line p) ss)
-  steps_tokens [] known = tt
-  steps_tokens (s ∷ ss) known = (step_line_tokens p formed s known.0, steps_tokens ss known.1)
-
   forest_tokens : (count : ℕ) (ts : Tree) → trees.IsForest count ts → KnowsTree p ts → CountsTree ts → Each (Each IsToken) (plain.tree_lines p ts)
   forest_tokens zero [] form known counted = tt
   forest_tokens zero (t ∷ ts) form known counted = absurd form
@@ -172,7 +168,7 @@ module _ (p : Problem) (formed : IsWellFormed p) where
       let end_fits : FitsEnd p t.end = record { known = known.0.end; some = form.0; counted = counted.0 } in
       let last : Each (Each IsToken) (plain.end_line p t.end ∷ []) = ((end_lines p formed).tokens t.end end_fits, tt) in
       each-append (Each IsToken) (plain.node_lines p t) (plain.tree_lines p ts)
-      ((option_lines p formed).tokens t.option known.0.option, each-append (Each IsToken) (map (plain.step_line p) t.steps) (plain.end_line p t.end ∷ []) (steps_tokens t.steps known.0.steps) last)
+      ((option_lines p formed).tokens t.option known.0.option, each-append (Each IsToken) (map (plain.step_line p) t.steps) (plain.end_line p t.end ∷ []) (each-map (Each IsToken) (plain.step_line p) t.steps (each-to (KnowsStep p) (λ s. Each IsToken (plain.step_line p s)) (step_line_tokens p formed) t.steps known.0.steps)) last)
       (forest_tokens (trees.children t.end + count) ts form.1 known.1 counted.1)
 
   one_forest : (ts : Tree) → trees.IsTree ts → trees.IsForest 1 ts

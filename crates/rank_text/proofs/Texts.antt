@@ -43,9 +43,10 @@ numbered [] fits = tt
 numbered (None ∷ ms) fits = numbered ms fits.1
 numbered (Some n ∷ ms) fits = (fits.0.0.0, numbered ms fits.1)
 
--- ---- a word and one token
+-- ---- the counts
 
-module _ (word : Token) (word_is : IsToken word) where
+-- a word and a count that passes a test
+module _ (word : Token) (word_is : IsToken word) (test : ℕ → Bool) (Passes : ℕ → Type 0) (passes : (n : ℕ) → IsCount n → test n ≡ true → Passes n) (known : (n : ℕ) → Passes n → IsCount n × (test n ≡ true)) where
   count_fields : AreFields (one count_of) (λ n. decimal n ∷ []) IsCount
   count_fields = one_fields count_of decimal IsCount counts
 
@@ -59,44 +60,33 @@ module _ (word : Token) (word_is : IsToken word) where
           (ap₂ (λ (t : Token) (ts : List Token). t ∷ ts) ((bytes_eq-Decides token word).0 is) back.0, back.1)
       at false is f = absurd cc
 
-  word_line : IsLineCode (word_read word) (λ n. word ∷ decimal n ∷ []) IsCount
-  word_line = record {
+  counted_line : IsLineCode (λ line. judged test BadNumber (word_read word line)) (λ n. word ∷ decimal n ∷ []) Passes
+  counted_line = record {
     back = λ line n e.
-        let whole = formed_ok line (behind_word word count_of (tokens_of line)) n e in
-        let b = count_back (tokens_of line) n whole.1 in
-        (line_from line (word ∷ decimal n ∷ []) whole.0 b.0, b.1);
-    again = λ n fits.
-        let each : Each IsToken (decimal n ∷ []) = (counts.token n fits, tt) in
+        let judge = judged_ok test BadNumber (word_read word line) n e in
+        let whole = formed_ok line (behind_word word count_of (tokens_of line)) n judge.0 in
+        let back = count_back (tokens_of line) n whole.1 in
+        (line_from line (word ∷ decimal n ∷ []) whole.0 back.0, passes n back.1 judge.1);
+    again = λ n pass.
+        let fits = known n pass in
+        let each : Each IsToken (decimal n ∷ []) = (counts.token n fits.0, tt) in
         let line : Line = line_of (word ∷ decimal n ∷ []) in
-        formed_again line (behind_word word count_of (tokens_of line)) (formed_said word (decimal n ∷ []) word_is each)
+        judged_again test BadNumber (word_read word line) n
+        (formed_again line (behind_word word count_of (tokens_of line)) (formed_said word (decimal n ∷ []) word_is each)
         ∙ ap (behind_word word count_of) (tokens_said word (decimal n ∷ []) word_is each)
         ∙ ap (λ (b : Bool). let r : Result ℕ TreeKind = (if b then one count_of (decimal n ∷ []) else Err BadLine) in r) ((bytes_eq-Decides word word).1 refl)
-        ∙ count_fields.again n fits;
-    tokens = λ n fits. (word_is, (counts.token n fits, tt));
+        ∙ count_fields.again n fits.0) fits.1;
+    tokens = λ n pass. (word_is, (counts.token n (known n pass).0, tt));
   }
-
--- a number that passes a test besides
-judged_line : {A : Type 0} (test : A → Bool) (read : Line → Result A TreeKind) (spell : A → List Token) (Fits More : A → Type 0) → IsLineCode read spell Fits
-    → ((a : A) → Fits a → test a ≡ true → More a) → ((a : A) → More a → Fits a × (test a ≡ true)) → IsLineCode (λ line. judged test BadNumber (read line)) spell More
-judged_line test read spell Fits More code more less = record {
-  back = λ line a e.
-      let j = judged_ok test BadNumber (read line) a e in
-      let b = code.back line a j.0 in
-      (b.0, more a b.1 j.1);
-  again = λ a fits. let l = less a fits in judged_again test BadNumber (read (line_of (spell a))) a (code.again a l.0) l.1;
-  tokens = λ a fits. code.tokens a (less a fits).0;
-}
 
 count_line : IsLineCode count_read (λ n. count_word ∷ decimal n ∷ []) IsSomeCount
 count_line =
-    judged_line (nat_le 1) (word_read count_word) (λ n. count_word ∷ decimal n ∷ []) IsCount IsSomeCount
-    (word_line count_word (record { some = refl; space = refl; feed = refl }))
-    (λ n fits e. (leb-true 1 n e, fits)) (λ n fits. (fits.1, le-leb 1 n fits.0))
+    counted_line count_word (record { some = refl; space = refl; feed = refl }) (nat_le 1) IsSomeCount
+    (λ n fits e. (leb-true 1 n e, fits)) (λ n pass. (pass.1, le-leb 1 n pass.0))
 
 networks_line : (count : ℕ) → IsCount count → IsLineCode (networks_read count) (λ k. networks_word ∷ decimal k ∷ []) (λ k. k ≤ count)
 networks_line count in_range =
-    judged_line (λ k. nat_le k count) (word_read networks_word) (λ k. networks_word ∷ decimal k ∷ []) IsCount (λ k. k ≤ count)
-    (word_line networks_word (record { some = refl; space = refl; feed = refl }))
+    counted_line networks_word (record { some = refl; space = refl; feed = refl }) (λ k. nat_le k count) (λ k. k ≤ count)
     (λ k fits e. leb-true k count e) (λ k le. (omega (arith, le, in_range), le-leb k count le))
 
 -- ---- the first line
