@@ -1,11 +1,9 @@
 -- The lines of a ranked tree that are printed one after another.
-use Rattle.std.proofs.Common.{◌≡◌, ◌<◌, ◌+◌, ◌++◌, ℕ, List, [], ◌∷◌, length, drop, get_or, flat_map, refl, sym, ap, ◌∙◌}
+use Rattle.std.proofs.Common.{◌≡◌, ◌<◌, ◌+◌, ◌++◌, ℕ, List, [], ◌∷◌, length, drop, get_or, sym, ap, ◌∙◌}
 use Rattle.problem_rules.specs.Problem.{Problem}
 use Rattle.tree_rules.specs.Tree.{TreeNode}
 use Rattle.tree_rules.specs.Leaf.{Leaf}
-use Rattle.tree_rules.specs.Claim.{Network}
 use Rattle.text_rules.specs.Canonical.{joined}
-use Rattle.tree_text_rules.specs.Spelling as trees
 use Rattle.tree_text.specs.Printing.{appended}
 use Rattle.tree_text.proofs.Appending.{line_made}
 use Rattle.rank_rules.specs.Marked.{Mark, marked, marked_node, marks_behind}
@@ -18,11 +16,6 @@ pub node_ahead : (p : Problem) (ms next : List Mark) (xs : List (TreeNode Leaf))
 node_ahead p ms next xs i x lt is behind =
     ap (λ (ts : List (TreeNode Leaf)). tree_lines p (marked ms ts)) (item_ahead xs i x lt is)
     ∙ ap (λ (ms' : List Mark). node_lines p (marked_node ms x) ++ tree_lines p (marked ms' (drop (i + 1) xs))) (sym behind)
-
--- the lines of a network and of the rest
-pub network_ahead : (p : Problem) (xs : List Network) (i : ℕ) (x : Network) → i < length xs → x ≡ get_or xs i x
-    → flat_map (trees.network_lines p) (drop i xs) ≡ trees.network_lines p x ++ flat_map (trees.network_lines p) (drop (i + 1) xs)
-network_ahead p xs i x lt is = ap (flat_map (trees.network_lines p)) (item_ahead xs i x lt is)
 
 -- ---- a line that is put together: a word, two fields and then the others
 

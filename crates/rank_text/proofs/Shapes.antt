@@ -152,13 +152,10 @@ module _ (p : Problem) where
 
 module _ (p : Problem) (formed : IsWellFormed p) where
   pub network_tokens : (w : Network) → FitsNetwork p w → Each (Each IsToken) (plain.network_lines p w)
-  network_tokens w fits = (
-    (network_line p formed).tokens w.units fits.known,
-    (
-      (sizes_line (length w.units)).tokens (w.d, w.sizes) (((fits.kept.d_in_range, fits.kept.sized.positive), all_each w.sizes fits.kept.sizes_in_range), fits.kept.sized.one_size),
-      (cost_line.tokens w.cost fits.kept.cost_in_range, tt),
-    ),
-  )
+  network_tokens w fits =
+      let kept = fits.kept in
+      let sizes = (sizes_line (length w.units)).tokens (w.d, w.sizes) (((kept.d_in_range, kept.sized.positive), all_each w.sizes kept.sizes_in_range), kept.sized.one_size) in
+      ((network_line p formed).tokens w.units fits.known, (sizes, (cost_line.tokens w.cost kept.cost_in_range, tt)))
 
   forest_tokens : (count : ℕ) (ts : Tree) → trees.IsForest count ts → KnowsTree p ts → CountsTree ts → Each (Each IsToken) (plain.tree_lines p ts)
   forest_tokens zero [] form known counted = tt
@@ -181,13 +178,9 @@ module _ (p : Problem) (formed : IsWellFormed p) where
   tail_tokens : (tail : tails.Tail) → FitsTail p tail → Each (Each IsToken) (plain.tail_lines p tail)
   tail_tokens tails.whole fits = (close_line.tokens tt tt, tt)
   tail_tokens (tails.spent next options) fits = (tail_lines_of.tokens (spent next options) fits.counted, (close_line.tokens tt tt, tt))
-  tail_tokens (tails.past node nonbasic place) fits = (
-    tail_lines_of.tokens (past node) fits.counted.0,
-    (
-      (nonbasic_line p formed).tokens nonbasic fits.known.0,
-      ((place_line p formed).tokens place (record { known = fits.known.1; counted = fits.counted.1 }), (close_line.tokens tt tt, tt)),
-    ),
-  )
+  tail_tokens (tails.past node nonbasic place) fits =
+      let place_tokens = (place_line p formed).tokens place (record { known = fits.known.1; counted = fits.counted.1 }) in
+      (tail_lines_of.tokens (past node) fits.counted.0, ((nonbasic_line p formed).tokens nonbasic fits.known.0, (place_tokens, (close_line.tokens tt tt, tt))))
 
   pub both_tokens : (ts : Tree) (tail : tails.Tail) → FitsTree p ts → FitsTail p tail → Each (Each IsToken) (plain.tree_lines p ts ++ plain.tail_lines p tail)
   both_tokens ts tail fits fits' = each-append (Each IsToken) (plain.tree_lines p ts) (plain.tail_lines p tail) (tree_tokens ts fits) (tail_tokens tail fits')

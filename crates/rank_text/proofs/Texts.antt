@@ -226,16 +226,9 @@ module _ (p : Problem) (formed : IsWellFormed p) (trees : TakesJust (tree_taken 
           (ap (grown_taken p number) all_given.opened_are ∙ grown_again t.tree t.tail number fits.tree fits.tail)
 
       all_tokens : Each (Each IsToken) (rank_text_lines p t)
-      all_tokens = (
-        (record { some = refl; space = refl; feed = refl }, tt),
-        (
-          count_line.tokens t.count fits.count,
-          (
-            (networks_line t.count fits.count.1).tokens (length t.networks) fits.within,
-            each-append (Each IsToken) (list_lines t.networks) (grown_lines p t) (list_tokens t.networks fits.networks) all_given.tokens,
-          ),
-        ),
-      )
+      all_tokens =
+          let found = each-append (Each IsToken) (list_lines t.networks) (grown_lines p t) (list_tokens t.networks fits.networks) all_given.tokens in
+          ((record { some = refl; space = refl; feed = refl }, tt), (count_line.tokens t.count fits.count, ((networks_line t.count fits.count.1).tokens (length t.networks) fits.within, found)))
 
       rest_again : rest_taken p 2 (lines_said (counted_lines t)) ≡ Ok t
       rest_again =

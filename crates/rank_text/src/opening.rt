@@ -78,7 +78,7 @@ fn take_mark(
 
 /// All that stands before the cut, the line `unknown`, and the lines from the cut on as those of a tree text, with the marks of open
 /// leaves. Only want of memory is an error, which a text of 2^32 - 1 bytes or more is said to be too. Linear in the bytes.
-#[tactic(auto, using(crate::proofs::OpenBytes::text_begun, crate::proofs::OpenBytes::text_on))]
+#[tactic(auto, using(crate::proofs::OpenBytes::text_begun, crate::proofs::OpenBytes::text_on, crate::proofs::OpenBytes::text_done))]
 pub fn open_lines(
     alloc: Global,
     problem: &Problem,
