@@ -58,37 +58,27 @@ module _ (p : Problem) (whole : Result (Taken (List Network)) Fault) (ws : List 
 
 -- ---- behind the networks
 
--- what is read of a text that claims nothing
-abbrev certified : Result Grown Fault → Result Certificate Fault
-certified (Ok grown) = Ok (record { claim = claims.unknown; tree = grown.tree; tail = grown.tail })
-certified (Err fault) = Err fault
+-- the tree and the tail, where a text is read that claims nothing
+abbrev grown_of : Result Certificate Fault → Result Grown Fault
+grown_of (Ok c) = Ok (record { tree = c.tree; tail = c.tail })
+grown_of (Err fault) = Err fault
 
-tail_certified : (tree : Tree) (r : Result Tail Fault) → rules.with_tail claims.unknown tree r ≡ certified (with_tail tree r)
-tail_certified tree (Ok tail) = refl
-tail_certified tree (Err fault) = refl
+tail_grown : (tree : Tree) (r : Result Tail Fault) → grown_of (rules.with_tail claims.unknown tree r) ≡ with_tail tree r
+tail_grown tree (Ok tail) = refl
+tail_grown tree (Err fault) = refl
 
-tree_certified : (p : Problem) (r : Result (Taken Tree) Fault)
-    → then_read r (λ tree number lines. rules.with_tail claims.unknown tree (tail_taken p number lines)) ≡ certified (then_read r (λ tree number lines. with_tail tree (tail_taken p number lines)))
-tree_certified p (Ok taken) = tail_certified taken.what (tail_taken p taken.number taken.behind)
-tree_certified p (Err fault) = refl
+tree_grown : (p : Problem) (r : Result (Taken Tree) Fault)
+    → grown_of (then_read r (λ tree number lines. rules.with_tail claims.unknown tree (tail_taken p number lines))) ≡ then_read r (λ tree number lines. with_tail tree (tail_taken p number lines))
+tree_grown p (Ok taken) = tail_grown taken.what (tail_taken p taken.number taken.behind)
+tree_grown p (Err fault) = refl
 
-claims_nothing : (p : Problem) (number : ℕ) (lines : List Line) → rules.rest_taken p number (unknown_line ∷ lines) ≡ certified (grown_taken p (suc number) lines)
+claims_nothing : (p : Problem) (number : ℕ) (lines : List Line) → grown_of (rules.rest_taken p number (unknown_line ∷ lines)) ≡ grown_taken p (suc number) lines
 unfolding word_named
 claims_nothing p number lines =
     let unknown : opening_read p unknown_line ≡ Ok reads.unknown = refl in
-    ap (λ (r : Result reads.Opening TreeKind). then_read (on_line number r (λ opening. claim_behind opening (suc number) lines)) (λ claim number lines.
-    then_read (tree_taken p number lines) (λ tree number lines. rules.with_tail claim tree (tail_taken p number lines)))) unknown
-    ∙ tree_certified p (tree_taken p (suc number) lines)
-
-certified_ok : (r : Result Grown Fault) (c : Certificate) → certified r ≡ Ok c → r ≡ Ok (record { tree = c.tree; tail = c.tail })
-certified_ok (Ok grown) c e =
-    let same : ◌≡◌ {A = Certificate} (record { claim = claims.unknown; tree = grown.tree; tail = grown.tail }) c = cc in
-    ap (λ (c : Certificate). Ok (record { tree = c.tree; tail = c.tail })) same
-certified_ok (Err fault) c e = absurd cc
-
-certified_bad : (r : Result Grown Fault) (f : Fault) → certified r ≡ Err f → r ≡ Err f
-certified_bad (Ok grown) f e = absurd cc
-certified_bad (Err fault) f e = let same : fault ≡ f = cc in ap (λ (g : Fault). Err g) same
+    ap (λ (r : Result reads.Opening TreeKind). grown_of (then_read (on_line number r (λ opening. claim_behind opening (suc number) lines)) (λ claim number lines.
+    then_read (tree_taken p number lines) (λ tree number lines. rules.with_tail claim tree (tail_taken p number lines))))) unknown
+    ∙ tree_grown p (tree_taken p (suc number) lines)
 
 -- the marks of a text of open leaves, and what is read of its lines
 module _ (p : Problem) (count : ℕ) (ws : List Network) (number : ℕ) (lines : List Line) (ms : List Mark) (fault : Option Fault) (place : ℕ) (made text : List ℕ)
@@ -96,12 +86,12 @@ module _ (p : Problem) (count : ℕ) (ws : List Network) (number : ℕ) (lines :
   abbrev IsRead : Result Certificate Fault → Type 0
   IsRead r = rules.rest_taken p (number - 1) (lines_of (drop place made)) ≡ r
 
-  grown_read : IsRead (certified (grown_taken p number (map opened lines)))
-  grown_read =
-      ap (λ (bs : List ℕ). rules.rest_taken p (number - 1) (lines_of (drop place bs))) made_is
-      ∙ ap (rules.rest_taken p (number - 1)) text_is
-      ∙ claims_nothing p (number - 1) (map opened lines)
-      ∙ ap (λ (n : ℕ). certified (grown_taken p n (map opened lines))) (let q : suc (number - 1) ≡ number = omega (arith, some) in q)
+  grown_read : (r : Result Certificate Fault) → IsRead r → grown_taken p number (map opened lines) ≡ grown_of r
+  grown_read r e =
+      ap (λ (n : ℕ). grown_taken p n (map opened lines)) (let q : number ≡ suc (number - 1) = omega (arith, some) in q)
+      ∙ sym (claims_nothing p (number - 1) (map opened lines))
+      ∙ ap (λ (all : List Line). grown_of (rules.rest_taken p (number - 1) all)) (sym (ap (λ (bs : List ℕ). lines_of (drop place bs)) made_is ∙ text_is))
+      ∙ ap grown_of e
 
   abbrev Stands : Result Text Fault → Type 0
   Stands r = behind_networks p count ws number lines ≡ r
@@ -112,23 +102,17 @@ module _ (p : Problem) (count : ℕ) (ws : List Network) (number : ℕ) (lines :
   marks_done : so_far ms None (Ok []) ≡ Ok ms
   marks_done = ap (λ (xs : List Mark). Ok xs) (append-nil ms)
 
-  grown_ok : (c : Certificate) → IsRead (Ok c) → grown_taken p number (map opened lines) ≡ Ok (record { tree = c.tree; tail = c.tail })
-  grown_ok c e = certified_ok (grown_taken p number (map opened lines)) c (sym grown_read ∙ e)
-
-  grown_bad : (f : Fault) → IsRead (Err f) → grown_taken p number (map opened lines) ≡ Err f
-  grown_bad f e = certified_bad (grown_taken p number (map opened lines)) f (sym grown_read ∙ e)
-
   pub both_ok : (c : Certificate) → fault ≡ None → IsRead (Ok c) → Stands (Ok (record { count = count; networks = ws; tree = c.tree; marks = ms; tail = c.tail }))
   both_ok c none e =
       let grown : Grown = record { tree = c.tree; tail = c.tail } in
-      together None (Ok grown) none (grown_ok c e) ∙ ap (λ (m : Result (List Mark) Fault). put_together count ws m (Ok grown)) marks_done
+      together None (Ok grown) none (grown_read (Ok c) e) ∙ ap (λ (m : Result (List Mark) Fault). put_together count ws m (Ok grown)) marks_done
 
   pub named_bad : (c : Certificate) (f : Fault) → fault ≡ Some f → IsRead (Ok c) → Stands (Err f)
-  named_bad c f is e = together (Some f) (Ok (record { tree = c.tree; tail = c.tail })) is (grown_ok c e)
+  named_bad c f is e = together (Some f) (Ok (record { tree = c.tree; tail = c.tail })) is (grown_read (Ok c) e)
 
   pub both_bad : (other told : Fault) → IsRead (Err other) → IfSome fault (λ f. told ≡ earlier f other) → IfNone fault (told ≡ other) → Stands (Err told)
   both_bad other told e some none = at fault refl some none
     where
       at : (f : Option Fault) → fault ≡ f → IfSome f (λ f. told ≡ earlier f other) → IfNone f (told ≡ other) → Stands (Err told)
-      at None is some none = together None (Err other) is (grown_bad other e) ∙ ap (λ (m : Result (List Mark) Fault). put_together count ws m (Err other)) marks_done ∙ ap (λ (f : Fault). Err f) (sym none)
-      at (Some f) is some none = together (Some f) (Err other) is (grown_bad other e) ∙ ap (λ (f : Fault). Err f) (sym some)
+      at None is some none = together None (Err other) is (grown_read (Err other) e) ∙ ap (λ (m : Result (List Mark) Fault). put_together count ws m (Err other)) marks_done ∙ ap (λ (f : Fault). Err f) (sym none)
+      at (Some f) is some none = together (Some f) (Err other) is (grown_read (Err other) e) ∙ ap (λ (f : Fault). Err f) (sym some)
