@@ -22,11 +22,11 @@ use Rattle.tree_text_laws.proofs.ClaimLines.{network_line, sizes_line, cost_line
 use Rattle.tree_text_laws.proofs.NodeLines.{all_each, option_lines, step_line_tokens, end_lines}
 use Rattle.tree_text_laws.proofs.TailLines.{tail_lines_of, close_line, nonbasic_line, place_line}
 use Rattle.tree_text_laws.specs.Lines.{lines_said}
-use Rattle.rank_rules.specs.Marked.{Mark, marked, marked_end, marked_leaf, marks_behind, first_mark, other_marks}
+use Rattle.rank_rules.specs.Marked.{Mark, marked, marked_end, marked_leaf, marks_behind, first_mark}
 use Rattle.rank_rules.specs.Opened.{opened, marks_taken}
 use Rattle.rank_rules.specs.Spelling.{end_line, tree_lines}
 use Rattle.rank_text.specs.Fits.{FitsMark, opens, opens_at}
-use Rattle.rank_text.proofs.OpenLines.{IsShut, Form, AreShut, filled, places, mark_line, open_tokens, Gives, gives, Comes, comes}
+use Rattle.rank_text.proofs.OpenLines.{IsShut, Form, AreShut, filled, places, mark_line, open_tokens, Gives, gives, comes}
 
 -- with these marks, and without any, the form is these lines
 record Spells (ms : List Mark) (form : Form) (ranked plain : List (List Token)) (count : ℕ) : Type 0 where

@@ -12,7 +12,7 @@ use Rattle.tree_rules.specs.Claim.{Network}
 use Rattle.tree_rules.specs.Accepted.{Tree}
 use Rattle.tree_rules.specs.Tail.{Tail}
 use Rattle.tree_text_rules.specs.Line.{Token, Line, lines_of, tokens_of}
-use Rattle.tree_text_rules.specs.LineRead.{formed, one}
+use Rattle.tree_text_rules.specs.LineRead.{one}
 use Rattle.tree_text_rules.specs.Read.{Fault, Taken, first_line, then_read, network_taken, tree_taken, tail_taken}
 use Rattle.tree_text_rules.specs.Spelling as plain
 use Rattle.tree_text_rules.specs.Token.{judged, count_of}
@@ -26,7 +26,7 @@ use Rattle.tree_text_laws.proofs.Decimals.{counts}
 use Rattle.tree_text_laws.proofs.Said.{no_feed, tokens_said, formed_said, line_from}
 use Rattle.tree_text_laws.specs.Fits.{FitsNetwork, FitsTree, FitsTail}
 use Rattle.tree_text_laws.specs.Lines.{lines_said, TakesJust, ReadsJust}
-use Rattle.tree_text_laws.proofs.Parts.{good, good_is, on_line_ok, then_ok, first_back, first_again}
+use Rattle.tree_text_laws.proofs.Parts.{good_is, on_line_ok, then_ok, first_back, first_again}
 use Rattle.rank_rules.specs.Marked.{Mark}
 use Rattle.rank_rules.specs.Text.{Text, AreNumbered}
 use Rattle.rank_rules.specs.Opened.{opened, marks_taken}

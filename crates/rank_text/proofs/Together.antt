@@ -96,23 +96,22 @@ module _ (p : Problem) (count : ℕ) (ws : List Network) (number : ℕ) (lines :
   abbrev Stands : Result Text Fault → Type 0
   Stands r = behind_networks p count ws number lines ≡ r
 
-  together : (f : Option Fault) (g : Result Grown Fault) → fault ≡ f → grown_taken p number (map opened lines) ≡ g → Stands (put_together count ws (so_far ms f (Ok [])) g)
-  together f g e e' = ap₂ (λ (m : Result (List Mark) Fault) (g : Result Grown Fault). put_together count ws m g) (sym marks ∙ ap (λ (f : Option Fault). so_far ms f (Ok [])) e) e'
+  together : (f : Option Fault) (r : Result Certificate Fault) → fault ≡ f → IsRead r → Stands (put_together count ws (so_far ms f (Ok [])) (grown_of r))
+  together f r is e = ap₂ (λ (m : Result (List Mark) Fault) (g : Result Grown Fault). put_together count ws m g) (sym marks ∙ ap (λ (f : Option Fault). so_far ms f (Ok [])) is) (grown_read r e)
 
-  marks_done : so_far ms None (Ok []) ≡ Ok ms
-  marks_done = ap (λ (xs : List Mark). Ok xs) (append-nil ms)
+  -- with no fault of a line that names a network the marks are whole
+  unmarred : (r : Result Certificate Fault) → fault ≡ None → IsRead r → Stands (put_together count ws (Ok ms) (grown_of r))
+  unmarred r is e = together None r is e ∙ ap (λ (xs : List Mark). put_together count ws (Ok xs) (grown_of r)) (append-nil ms)
 
   pub both_ok : (c : Certificate) → fault ≡ None → IsRead (Ok c) → Stands (Ok (record { count = count; networks = ws; tree = c.tree; marks = ms; tail = c.tail }))
-  both_ok c none e =
-      let grown : Grown = record { tree = c.tree; tail = c.tail } in
-      together None (Ok grown) none (grown_read (Ok c) e) ∙ ap (λ (m : Result (List Mark) Fault). put_together count ws m (Ok grown)) marks_done
+  both_ok c none e = unmarred (Ok c) none e
 
   pub named_bad : (c : Certificate) (f : Fault) → fault ≡ Some f → IsRead (Ok c) → Stands (Err f)
-  named_bad c f is e = together (Some f) (Ok (record { tree = c.tree; tail = c.tail })) is (grown_read (Ok c) e)
+  named_bad c f is e = together (Some f) (Ok c) is e
 
   pub both_bad : (other told : Fault) → IsRead (Err other) → IfSome fault (λ f. told ≡ earlier f other) → IfNone fault (told ≡ other) → Stands (Err told)
   both_bad other told e some none = at fault refl some none
     where
       at : (f : Option Fault) → fault ≡ f → IfSome f (λ f. told ≡ earlier f other) → IfNone f (told ≡ other) → Stands (Err told)
-      at None is some none = together None (Err other) is (grown_read (Err other) e) ∙ ap (λ (m : Result (List Mark) Fault). put_together count ws m (Err other)) marks_done ∙ ap (λ (f : Fault). Err f) (sym none)
-      at (Some f) is some none = together (Some f) (Err other) is (grown_read (Err other) e) ∙ ap (λ (f : Fault). Err f) (sym some)
+      at None is some none = unmarred (Err other) is e ∙ ap (λ (f : Fault). Err f) (sym none)
+      at (Some f) is some none = together (Some f) (Err other) is e ∙ ap (λ (f : Fault). Err f) (sym some)

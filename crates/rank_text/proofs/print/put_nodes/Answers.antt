@@ -22,7 +22,8 @@ printing-preserved g c =
     record {
       known = (rw (item_ahead c.args.nodes.now c.printing.node-index c.node-item.result c.printing-test.true c.node-item.is) at c.printing.invariant.known).1;
       printed = then_printed _ _ _ _ _ _ _ c.printing.invariant.printed
-          (node_ahead p ms (map mark_of c.marks_behind-rest.result.now) c.args.nodes.now c.printing.node-index c.node-item.result c.printing-test.true c.node-item.is (c.marks_behind-rest.ensures ∙ ap (λ (t : TreeNode Leaf). marks_behind ms t.end) c.node.view_is))
+          (node_ahead p ms (map mark_of c.marks_behind-rest.result.now) c.args.nodes.now c.printing.node-index c.node-item.result c.printing-test.true c.node-item.is
+          (c.marks_behind-rest.ensures ∙ ap (λ (t : TreeNode Leaf). marks_behind ms t.end) c.node.view_is))
           c.in_ok-put_node.ensures.prints;
       later = omega arith;
     }
