@@ -164,8 +164,9 @@ module _ (p : Problem) (formed : IsWellFormed p) where
   forest_tokens (suc count) (t ∷ ts) form known counted =
       let end_fits : FitsEnd p t.end = record { known = known.0.end; some = form.0; counted = counted.0 } in
       let last : Each (Each IsToken) (plain.end_line p t.end ∷ []) = ((end_lines p formed).tokens t.end end_fits, tt) in
+      let steps = each-map (Each IsToken) (plain.step_line p) t.steps (each-to (KnowsStep p) (λ s. Each IsToken (plain.step_line p s)) (step_line_tokens p formed) t.steps known.0.steps) in
       each-append (Each IsToken) (plain.node_lines p t) (plain.tree_lines p ts)
-      ((option_lines p formed).tokens t.option known.0.option, each-append (Each IsToken) (map (plain.step_line p) t.steps) (plain.end_line p t.end ∷ []) (each-map (Each IsToken) (plain.step_line p) t.steps (each-to (KnowsStep p) (λ s. Each IsToken (plain.step_line p s)) (step_line_tokens p formed) t.steps known.0.steps)) last)
+      ((option_lines p formed).tokens t.option known.0.option, each-append (Each IsToken) (map (plain.step_line p) t.steps) (plain.end_line p t.end ∷ []) steps last)
       (forest_tokens (trees.children t.end + count) ts form.1 known.1 counted.1)
 
   one_forest : (ts : Tree) → trees.IsTree ts → trees.IsForest 1 ts

@@ -21,7 +21,7 @@ use Rattle.tree_text_rules.specs.declared.TreeKind.TheVariants.{FileType, BadLin
 use Rattle.tree_text_laws.specs.Codes.{line_of, IsToken, IsLineCode}
 use Rattle.tree_text_laws.specs.LineFits.{IsCount, IsSomeCount}
 use Rattle.tree_text_laws.proofs.Pieces.{text_back, text_again, HasNoFeed}
-use Rattle.tree_text_laws.proofs.Codes.{AreFields, judged_ok, judged_again, formed_ok, formed_again, one_fields}
+use Rattle.tree_text_laws.proofs.Codes.{judged_ok, judged_again, formed_ok, formed_again, one_fields}
 use Rattle.tree_text_laws.proofs.Decimals.{counts}
 use Rattle.tree_text_laws.proofs.Said.{no_feed, tokens_said, formed_said, line_from}
 use Rattle.tree_text_laws.specs.Fits.{FitsNetwork, FitsTree, FitsTail}
@@ -47,16 +47,13 @@ numbered (Some n ∷ ms) fits = (fits.0.0.0, numbered ms fits.1)
 
 -- a word and a count that passes a test
 module _ (word : Token) (word_is : IsToken word) (test : ℕ → Bool) (Passes : ℕ → Type 0) (passes : (n : ℕ) → IsCount n → test n ≡ true → Passes n) (known : (n : ℕ) → Passes n → IsCount n × (test n ≡ true)) where
-  count_fields : AreFields (one count_of) (λ n. decimal n ∷ []) IsCount
-  count_fields = one_fields count_of decimal IsCount counts
-
   count_back : (tokens : List Token) (n : ℕ) → behind_word word count_of tokens ≡ Ok n → (tokens ≡ word ∷ decimal n ∷ []) × IsCount n
   count_back [] n e = absurd cc
   count_back (token ∷ tokens) n e = at (bytes_eq token word) refl e
     where
       at : (b : Bool) → bytes_eq token word ≡ b → (if b then one count_of tokens else Err BadLine) ≡ Ok n → (token ∷ tokens ≡ word ∷ decimal n ∷ []) × IsCount n
       at true is f =
-          let back = count_fields.back tokens n f in
+          let back = (one_fields count_of decimal IsCount counts).back tokens n f in
           (ap₂ (λ (t : Token) (ts : List Token). t ∷ ts) ((bytes_eq-Decides token word).0 is) back.0, back.1)
       at false is f = absurd cc
 
@@ -75,7 +72,7 @@ module _ (word : Token) (word_is : IsToken word) (test : ℕ → Bool) (Passes :
         (formed_again line (behind_word word count_of (tokens_of line)) (formed_said word (decimal n ∷ []) word_is each)
         ∙ ap (behind_word word count_of) (tokens_said word (decimal n ∷ []) word_is each)
         ∙ ap (λ (b : Bool). let r : Result ℕ TreeKind = (if b then one count_of (decimal n ∷ []) else Err BadLine) in r) ((bytes_eq-Decides word word).1 refl)
-        ∙ count_fields.again n fits.0) fits.1;
+        ∙ counts.again n fits.0) fits.1;
     tokens = λ n pass. (word_is, (counts.token n (known n pass).0, tt));
   }
 
@@ -170,7 +167,8 @@ module _ (p : Problem) (formed : IsWellFormed p) (trees : TakesJust (tree_taken 
         ap (λ (ls : List Line). ls ++ behind) (map-append line_of (plain.network_lines p w) (list_lines ws))
         ∙ append_assoc (lines_said (plain.network_lines p w)) (lines_said (list_lines ws)) behind
 
-    list_again : (ws : List Network) (number : ℕ) (behind : List Line) → Each (FitsNetwork p) ws → (last : ℕ) × (networks_taken p (length ws) number (lines_said (list_lines ws) ++ behind) ≡ Ok (record { what = ws; number = last; behind = behind }))
+    list_again : (ws : List Network) (number : ℕ) (behind : List Line) → Each (FitsNetwork p) ws
+        → (last : ℕ) × (networks_taken p (length ws) number (lines_said (list_lines ws) ++ behind) ≡ Ok (record { what = ws; number = last; behind = behind }))
     list_again [] number behind fits = (number, refl)
     list_again (w ∷ ws) number behind fits =
         let rest = list_again ws (number + length (plain.network_lines p w)) behind fits.1 in (
@@ -256,11 +254,10 @@ module _ (p : Problem) (formed : IsWellFormed p) (trees : TakesJust (tree_taken 
         let ws = three.0.what in
         let back = behind_back one.what ws three.0.number three.0.behind t three.2 in
         let few : length ws ≤ one.what = subst (λ (k : ℕ). k ≤ one.what) (sym list.2) two.fits in
-        let made : Text = record { count = one.what; networks = ws; tree = t.tree; marks = t.marks; tail = t.tail } in
         subst (λ (t : Text). (lines ≡ lines_said (counted_lines t)) × Fits p t) (sym back.is) (
           one.lines_are ∙ ap (λ (ls : List Line). line_of (count_word ∷ decimal one.what ∷ []) ∷ ls)
               (two.lines_are ∙ ap₂ (λ (k : ℕ) (ls : List Line). line_of (networks_word ∷ decimal k ∷ []) ∷ ls) (sym list.2)
-              (list.0 ∙ ap (λ (ls : List Line). lines_said (list_lines ws) ++ ls) back.lines_are ∙ sym (map-append line_of (list_lines ws) (grown_lines p made)))),
+              (list.0 ∙ ap (λ (ls : List Line). lines_said (list_lines ws) ++ ls) back.lines_are ∙ sym (map-append line_of (list_lines ws) (grown_lines p t)))),
           record { count = one.fits; within = few; networks = list.1; tree = back.tree; marks = back.marks; marked = back.marked; tail = back.tail },
         )
 

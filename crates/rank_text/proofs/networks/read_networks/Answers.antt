@@ -23,16 +23,11 @@ reading-preserved c =
     let ws = c.reading.networks.items in
     let t = taken c.in_ok-network.network c.args.bytes.now c.in_ok-network.behind in
     let items = c.in_ok-push.ensures.items in
-    let long = ap (λ (vs : List Network). length vs) items in
-    let pushed = length-append ws (t.what ∷ []) in
-    let number = (c.networks_are_taken.ensures p c.is_valid.ensures.valid).number_is c.reading.at.line lines t c.in_ok-network.ensures.read in
-    let reached = c.reading.invariant.reached.later in
-    let later = c.in_ok-network.ensures.behind.later in
     record {
       leads = rw items (network_on p _ ws c.reading.left c.reading.at.line lines c.reading.invariant.leads c.reading-test.true t c.in_ok-network.ensures.read);
-      later = omega (arith, number);
-      reached = record { is_cut = c.in_ok-network.ensures.behind.is_cut; later = omega (arith, reached, later) };
-      count = omega (arith, long, pushed);
+      later = omega (arith, (c.networks_are_taken.ensures p c.is_valid.ensures.valid).number_is c.reading.at.line lines t c.in_ok-network.ensures.read);
+      reached = record { is_cut = c.in_ok-network.ensures.behind.is_cut; later = omega (arith, c.reading.invariant.reached.later, c.in_ok-network.ensures.behind.later) };
+      count = omega (arith, ap (λ (vs : List Network). length vs) items, length-append ws (t.what ∷ []));
       known = rw items (each_last (KnowsNetwork p) ws t.what c.reading.invariant.known c.in_ok-network.ensures.known);
     }
 

@@ -19,9 +19,10 @@ returns-in-Some-clause-fault c =
 pub of-requires : goal.of-requires
 of-requires c =
     let p = c.args.problem.now in
+    let valid = c.is_valid.ensures.valid in
     let stands = both_ok p c.args.count c.args.networks.items c.args.cut.line _ _ _ c.args.cut.at _ _
     c.in_ok-opened.ensures.marks c.in_ok-opened.ensures.lines c.deref.ensures.value c.requires.numbered _ c.in-None.is c.in-Ok.ensures.read in
-    let back = behind_back p c.is_valid.ensures.well_formed (c.trees_are_taken.ensures p c.is_valid.ensures.valid) (c.tails_are_read.ensures p c.is_valid.ensures.valid) c.args.count c.args.networks.items c.args.cut.line (lines_at c.args.bytes.now c.args.cut) _ stands in
+    let back = behind_back p c.is_valid.ensures.well_formed (c.trees_are_taken.ensures p valid) (c.tails_are_read.ensures p valid) c.args.count c.args.networks.items c.args.cut.line (lines_at c.args.bytes.now c.args.cut) _ stands in
     record { asked = c.requires.asked; within = c.requires.within; numbered = numbered _ back.marks }
 
 pub returns-clause-read : goal.returns-clause-read
