@@ -1,4 +1,4 @@
-//! The lines that stand before the networks.
+//! What a line begins with, and the first three lines.
 ghost use Rattle.std.specs.Prelude.{◌≡◌, ◌≤◌, IfOk};
 ghost use Rattle.tree_tokens.specs.View.{line_of};
 ghost use Rattle.rank_rules.specs.Opened.{begins_by};

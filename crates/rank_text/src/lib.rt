@@ -8,9 +8,9 @@
 //! The text of a ranking reads as the ranking, and what a text stands for has no other text: [`laws`] has both (`specs/Laws`) as contracts of
 //! functions that do nothing.
 //!
-//! Modules: `line`, lines that no tree text has; `print`; `front`, the first three lines; `networks`; `mark`, the line of an open leaf;
-//! `opening`, a tree text made of the lines of tree and tail, with `open` for each line that names a network, and the marks beside it;
-//! `read`.
+//! Modules: `line`, lines that no tree text has; `print`; `front`, what a line begins with and the first three lines; `networks`; `mark`, the
+//! line of an open leaf; `opening`, a tree text made of the lines of tree and tail, with `open` for each line that names a network, and the
+//! marks beside it; `read`.
 #![tactic(auto)]
 
 mod front;

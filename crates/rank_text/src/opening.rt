@@ -16,7 +16,7 @@ use tree_reading::{Cut, line_at};
 use tree_text_rules::TreeKind;
 use tree_tokens::{Line, LineFault};
 
-/// Readers take fewer bytes.
+/// A reader takes fewer bytes than these.
 const TOO_MANY_BYTES: usize = 4_294_967_295;
 
 /// A text in which the line `open` stands for each line that names a network, with what the lines of open leaves tell, and the first
@@ -44,7 +44,7 @@ fn push_opened(bytes: &mut Vec<u8>, line: &Line, is_named: bool) -> Result<(), A
     Ok(())
 }
 
-// What the line tells of the mark of an open leaf is put behind the other marks; a fault of it is given, where none was met before.
+// Puts what the line tells of an open leaf behind the other marks, or gives its fault. Behind a fault that was met before nothing is taken.
 fn take_mark(
     alloc: Global,
     problem: &Problem,
