@@ -113,7 +113,8 @@ pub node_told : {p : Problem} {whole : Reading} {front : Tree} {option : List �
 node_told {p} {whole} {front} {option} {count} {number} {lines} is fault h = subst (λ (r : Reading). Tells r fault) is.leads (front_tells front (begun p option count number lines) fault h)
 
 pub node_on : {p : Problem} {whole : Reading} {front nodes : Tree} {option bytes : List ℕ} {count more : ℕ} {cut : Cut} {found : TreeNode × Cut}
-    → IsNode p option bytes cut found → IsBegun p whole front option count cut.line (lines_at bytes cut) → nodes ≡ front ++ found.0 ∷ [] → more ≡ trees.children found.0.end + count → IsOpen p whole nodes more found.1.line (lines_at bytes found.1)
+    → IsNode p option bytes cut found → IsBegun p whole front option count cut.line (lines_at bytes cut)
+    → nodes ≡ front ++ found.0 ∷ [] → more ≡ trees.children found.0.end + count → IsOpen p whole nodes more found.1.line (lines_at bytes found.1)
 node_on {p} {whole} {front} {nodes} {option} {bytes} {count} {more} {cut} {found} node is q q' =
     let t : TreeNode = found.0 in
     let number : ℕ = found.1.line in
