@@ -19,24 +19,6 @@ pub enum Cut<'a> {
     Exclusion(Vec<&'a [u8]>),
 }
 
-impl<'a> Cut<'a> {
-    ghost use Rattle.std.specs.Prelude.{◌≡◌};
-    ghost use Rattle.pns_text.specs.Cut.{section_of};
-
-    /// The section of such a line.
-    pub(crate) fn section(&self) -> Section
-        ensures { result ≡ section_of self.now }
-    {
-        match self {
-            Cut::Default => Section::Defaults,
-            Cut::Material(_) => Section::Materials,
-            Cut::OperatingUnit(_) => Section::OperatingUnits,
-            Cut::Flows(_) => Section::Rates,
-            Cut::Exclusion(_) => Section::Exclusions,
-        }
-    }
-}
-
 /// A line that a walk keeps: it has a meaning, and no fault of form. Contracts see it as the placed line that it was cut of.
 #[derive(Drop)]
 pub struct Kept<'a> {
@@ -67,11 +49,11 @@ impl<'a> Kept<'a> {
     ghost use Rattle.text_rules.specs.Line.{head_of};
     ghost use Rattle.pns_text.specs.Kept.{is_at};
 
-    /// Whether the line stands in the section.
-    pub(crate) fn is_at(&self, section: Section) -> bool
-        ensures { result ≡ is_at section self.now }
+    /// Whether it is a line of defaults.
+    pub(crate) fn is_default(&self) -> bool
+        ensures { result ≡ is_at Section.Defaults self.now }
     {
-        self.cut.section() == section
+        matches!(&self.cut, Cut::Default)
     }
 
     /// The number of the line, counted from 1.

@@ -26,17 +26,13 @@ pub struct Names<'a> {
     pub rates: NameSet<'a>,
 }
 
-/// The names of the lines of the section, in order.
-pub(crate) fn heads_at<'a>(
-    alloc: Global,
-    section: Section,
-    lines: &[Kept<'a>],
-) -> Result<Vec<&'a [u8]>, AllocError>
-    ensures { IfOk result (λ heads. texts heads.items ≡ heads_at section lines.now) }
+/// The names of the lines of units, in order.
+pub(crate) fn unit_heads<'a>(alloc: Global, lines: &[Kept<'a>]) -> Result<Vec<&'a [u8]>, AllocError>
+    ensures { IfOk result (λ heads. texts heads.items ≡ heads_at Section.OperatingUnits lines.now) }
 {
     let mut heads = Vec::new(alloc);
     for line in lines {
-        if line.is_at(section) {
+        if let Some(_) = line.unit_items() {
             heads.push(line.head())?;
         }
     }

@@ -13,7 +13,6 @@ use crate::item::{Item, field_at};
 use pns_problem::Kind;
 use text_lines::amount::millionths;
 use text_lines::field::{key_of, value_of};
-use text_rules::Section;
 
 /// What holds of materials and units whose lines say nothing else. Prices, bounds and costs are in millionths.
 #[derive(Clone, Copy, Debug)]
@@ -48,7 +47,7 @@ fn default_at<'a>(lines: &[Kept<'a>], key: &[u8]) -> Option<&'a [u8]>
     ensures { option_map (λ value. value.now) result ≡ value_at key.now (default_fields (lines_apart lines.now)) }
 {
     for line in lines {
-        if line.is_at(Section::Defaults) && key_of(line.text()) == key {
+        if line.is_default() && key_of(line.text()) == key {
             return Some(value_of(line.text()));
         }
     }

@@ -13,7 +13,7 @@ ghost use Rattle.pns_text.specs.View.{settings_view};
 
 use crate::cut::Kept;
 use crate::item::Item;
-use crate::meaning::{Names, heads_at};
+use crate::meaning::{Names, unit_heads};
 use crate::settings::{Settings, kind_at, number_at, payout_of};
 use pns_problem::{Exclusion, Material, OperatingUnit, Parts, Term};
 use std::alloc::{AllocError, Global};
@@ -261,7 +261,7 @@ fn unit_names<'a>(
     requires { names.now.units ≡ heads_at Section.OperatingUnits lines.now }
     ensures { IfOk result (λ all. texts all.items ≡ unit_names_from lines.now) }
 {
-    let mut all = heads_at(alloc, Section::OperatingUnits, lines)?;
+    let mut all = unit_heads(alloc, lines)?;
     push_bare_names(&mut all, &names.units, lines)?;
     Ok(all)
 }

@@ -25,17 +25,6 @@ pub struct Walk<'a> {
 }
 
 impl<'a> Walk<'a> {
-    fn new(alloc: Global) -> Walk<'a>
-        ensures { walk_view result ≡ walk_start }
-    {
-        Walk {
-            seen: Seen::new(alloc),
-            kept: Vec::new(alloc),
-            number: 2,
-            section: Section::Preamble,
-        }
-    }
-
     // Takes a line that is not empty.
     fn take_line(&mut self, alloc: Global, line: &Placed<'a>) -> Result<(), TextFault>
         requires { self.old.number < 2 ^ 32 - 1 }
@@ -98,7 +87,12 @@ fn walk_rest<'a>(alloc: Global, bytes: &'a [u8]) -> Result<Walk<'a>, TextFault>
     ensures ok { IfOk result (λ w. walk_from walk_start (lines_from bytes.now) ≡ Ok (walk_view w)) }
     ensures fault { IfErr result (Tells (walk_from walk_start (lines_from bytes.now))) }
 {
-    let mut walk = Walk::new(alloc);
+    let mut walk = Walk {
+        seen: Seen::new(alloc),
+        kept: Vec::new(alloc),
+        number: 2,
+        section: Section::Preamble,
+    };
     let mut rest = bytes;
     while !rest.is_empty() {
         let (text, behind) = cut_line(rest);

@@ -1,7 +1,0 @@
-use Rattle.std.proofs.Common.{◌≡◌, take}
-use Rattle.pns_text.specs.Kept.{heads_at}
-use Rattle.text_lines.specs.View.{texts}
-use Rattle.pns_text.proofs.meaning.heads_at.Given as goal
-
-abbrev pub invariant-loop-line : goal.invariant-loop-line
-invariant-loop-line l = texts l.heads.items ≡ heads_at l.section (take l.line-index l.lines)
