@@ -14,7 +14,7 @@ use Rattle.text_lines.specs.View.{texts}
 use Rattle.text_lines.specs.declared.term.Sides.{Sides}
 use Rattle.pns_text.specs.Form.{names_of}
 use Rattle.pns_text.specs.Kept.{item_fields}
-use Rattle.pns_text.specs.Settings.{Settings}
+use Rattle.pns_text.specs.declared.settings.Settings.{Settings}
 use Rattle.pns_text.specs.declared.meaning.Names.{Names}
 use Rattle.pns_text.specs.Meaning.{material_kind, unit_kind, rates_kind, exclusion_kind, line_meaning}
 use Rattle.pns_text.specs.Value.{pairs_at, both_from, sides_or}

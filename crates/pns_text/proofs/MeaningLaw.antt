@@ -6,7 +6,7 @@ use Rattle.std.proofs.lemmas.List.Folds.{list_any-append}
 use Rattle.std.proofs.lemmas.Simd.{map-map}
 use Rattle.std.proofs.lemmas.Slice.Eq.{bytes_eq-Decides}
 use Rattle.problem_rules.specs.Names.{is_among}
-use Rattle.problem_rules.specs.Problem.{intermediate, Material, Term, OperatingUnit}
+use Rattle.problem_rules.specs.Problem.{raw_material, product, intermediate, Material, Term, OperatingUnit}
 use Rattle.text_rules.specs.declared.TextKind.{TextKind}
 use Rattle.text_rules.specs.declared.TextKind.TheVariants.{LowAboveHigh, UnknownMaterial, NoRates, UnknownUnit}
 use Rattle.text_rules.specs.declared.Section.{Section}
@@ -17,7 +17,10 @@ use Rattle.text_rules.specs.Fault.{Fault, first_of, millionths}
 use Rattle.text_rules.specs.Value.{value_at, kind_of, material_read, term_read, side_of, unit_read, bare_rates, unit_names, exclusion_read, payout_of, problem_of, stands_in, meaning_kinds}
 use Rattle.text_lines.specs.Terms.{pair_of}
 use Rattle.pns_text.specs.Kept.{lines_at, heads_at, lines_apart, fields_at}
-use Rattle.pns_text.specs.Settings.{Settings, default_fields, number_or, kind_or, number_at, settings_from, settings_of, payout_from, material_from, unit_from}
+use Rattle.pns_problem.specs.Kind as kinds
+use Rattle.pns_problem.specs.declared.material.Kind.TheVariants.{RawMaterial, Intermediate, Product}
+use Rattle.pns_text.specs.declared.settings.Settings.{Settings}
+use Rattle.pns_text.specs.Settings.{default_fields, number_or, kind_named, kind_or, number_at, settings_from, settings_of, payout_from, material_from, unit_from}
 use Rattle.pns_text.specs.declared.meaning.Names.{Names}
 use Rattle.pns_text.specs.Meaning.{is_unit_turned, has_unknown, is_unit, line_meaning, fault_or, first_meaning}
 use Rattle.pns_text.specs.Value.{materials_from, term_from, sides_or, sides_named, listed_unit, bare_unit, bare_lines, units_from, unit_names_from, exclusion_from, exclusions_from, problem_from}
@@ -31,10 +34,17 @@ number_of_two None None built_in = refl
 number_of_two None (Some text) built_in = refl
 number_of_two (Some text) default built_in = refl
 
-kind_of_two : (own default : Option (List ℕ)) (built_in : List ℕ) → kind_of (unwrap_or own (unwrap_or default built_in)) ≡ kind_or own (kind_or default (kind_of built_in))
-kind_of_two None None built_in = refl
-kind_of_two None (Some word) built_in = refl
-kind_of_two (Some word) default built_in = refl
+kind_is : (word : List ℕ) → kind_of word ≡ kinds.kind_of (kind_named word)
+kind_is word = by (bytes_eq word (codes "raw_material")) (bytes_eq word (codes "product")) where
+  by : (raw made : Bool) → (if raw then raw_material else if made then product else intermediate) ≡ kinds.kind_of (if raw then RawMaterial else if made then Product else Intermediate)
+  by true made = refl
+  by false true = refl
+  by false false = refl
+
+kind_of_two : (own default : Option (List ℕ)) → kind_of (unwrap_or own (unwrap_or default (codes "intermediate"))) ≡ kinds.kind_of (kind_or own (kind_or default Intermediate))
+kind_of_two None None = refl
+kind_of_two None (Some word) = kind_is word
+kind_of_two (Some word) default = kind_is word
 
 -- all lines of a text, and those that matter
 module _ (all : List Placed) where
@@ -56,7 +66,7 @@ module _ (all : List Placed) where
   material_is : (number : ℕ) (text : List ℕ) → material_read lines (taken_apart (line_of Materials number text)) ≡ material_from s (head_of text) (fields_at text)
   material_is number text = λ i. record {
     name = head_of text;
-    kind = kind_of_two (value_at material_type (fields_at text)) (value_at material_type (default_fields lines)) (codes "intermediate") i;
+    kind = kind_of_two (value_at material_type (fields_at text)) (value_at material_type (default_fields lines)) i;
     price = number_of_two (value_at (codes "price") (fields_at text)) (value_at (for_material (codes "price")) (default_fields lines)) (codes "0") i;
     lower = number_of_two (value_at (codes "flow_rate_lower_bound") (fields_at text)) (value_at (for_material (codes "flow_rate_lower_bound")) (default_fields lines)) (codes "0") i;
     upper = number_of_two (value_at (codes "flow_rate_upper_bound") (fields_at text)) (value_at (for_material (codes "flow_rate_upper_bound")) (default_fields lines)) (codes "1000000000") i;

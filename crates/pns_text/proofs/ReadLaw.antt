@@ -8,7 +8,8 @@ use Rattle.text_rules.specs.Fault.{form_fault, parts_of, first_of}
 use Rattle.text_rules.specs.Value.{stands_in, meaning_kinds, meaning_fault, problem_of, read_lines, read_text}
 use Rattle.text_lines.specs.Tells.{Tells}
 use Rattle.pns_text.specs.Kept.{lines_apart}
-use Rattle.pns_text.specs.Settings.{Settings, settings_of}
+use Rattle.pns_text.specs.declared.settings.Settings.{Settings}
+use Rattle.pns_text.specs.Settings.{settings_of}
 use Rattle.pns_text.specs.declared.meaning.Names.{Names}
 use Rattle.pns_text.specs.Meaning.{first_meaning}
 use Rattle.pns_text.specs.Value.{problem_from}

@@ -10,7 +10,8 @@ use Rattle.text_rules.specs.Line.{Placed, head_of}
 use Rattle.text_rules.specs.Field.{items_of, sides_of, material_of}
 use Rattle.text_rules.specs.Fault.{Fault}
 use Rattle.pns_text.specs.Kept.{fields_at}
-use Rattle.pns_text.specs.Settings.{Settings, number_at}
+use Rattle.pns_text.specs.declared.settings.Settings.{Settings}
+use Rattle.pns_text.specs.Settings.{number_at}
 use Rattle.pns_text.specs.declared.meaning.Names.{Names}
 
 abbrev pub is_material_turned : Settings → List (List ℕ × List ℕ) → Bool

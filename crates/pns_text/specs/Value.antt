@@ -10,7 +10,8 @@ use Rattle.text_rules.specs.Fault.{millionths}
 use Rattle.text_rules.specs.Value.{numbers_among}
 use Rattle.text_lines.specs.Terms.{Pair, pair_of}
 use Rattle.pns_text.specs.Kept.{lines_at, heads_at, lines_apart, fields_at}
-use Rattle.pns_text.specs.Settings.{Settings, settings_of, payout_from, material_from, unit_from}
+use Rattle.pns_text.specs.declared.settings.Settings.{Settings}
+use Rattle.pns_text.specs.Settings.{settings_of, payout_from, material_from, unit_from}
 
 abbrev pub materials_from : Settings → List Placed → List Material
 materials_from s lines = map (λ (line : Placed). material_from s (head_of line.text) (fields_at line.text)) (lines_at Materials lines)

@@ -3,9 +3,6 @@ use Rattle.text_rules.specs.Line as line
 use Rattle.text_lines.specs.View.{texts}
 use Rattle.pns_text.specs.Seen as seen
 use Rattle.pns_text.specs.Walk as walk
-use Rattle.pns_text.specs.Settings as settings
-use Rattle.pns_problem.specs.Kind.{kind_of}
-use Rattle.pns_text.specs.declared.settings.Settings.{Settings}
 use Rattle.pns_text.specs.declared.seen.Placed.{Placed}
 use Rattle.pns_text.specs.declared.seen.Seen.{Seen}
 use Rattle.pns_text.specs.declared.walk.Walk.{Walk}
@@ -26,17 +23,3 @@ seen_view s = record {
 
 abbrev pub walk_view : Walk → walk.Walk
 walk_view w = record { seen = seen_view w.seen; kept = w.kept.items; number = w.number; section = w.section }
-
-abbrev pub settings_view : Settings → settings.Settings
-settings_view s = record {
-  kind = kind_of s.kind;
-  price = s.price;
-  flow_lower = s.flow_lower;
-  flow_upper = s.flow_upper;
-  capacity_lower = s.capacity_lower;
-  capacity_upper = s.capacity_upper;
-  fix = s.fix;
-  proportional = s.proportional;
-  investment_fix = s.investment_fix;
-  investment_proportional = s.investment_proportional;
-}

@@ -7,7 +7,6 @@ ghost use Rattle.text_lines.specs.Terms.{terms_view, sides_view};
 ghost use Rattle.pns_text.specs.Form.{names_of};
 ghost use Rattle.pns_text.specs.Kept.{heads_at, item_fields};
 ghost use Rattle.pns_text.specs.Meaning.{is_unit, unit_kind, rates_kind, exclusion_kind, line_meaning, first_meaning};
-ghost use Rattle.pns_text.specs.View.{settings_view};
 
 use crate::cut::{Cut, Kept};
 use crate::item::Item;
@@ -63,7 +62,7 @@ fn unit_meaning(
     name: &[u8],
     items: &[Item<'_>],
 ) -> Option<TextKind>
-    ensures { result ≡ unit_kind (settings_view settings.now) names.now name.now (item_fields items.now) }
+    ensures { result ≡ unit_kind settings.now names.now name.now (item_fields items.now) }
 {
     if settings.is_unit_turned(items) {
         return Some(TextKind::LowAboveHigh);
@@ -98,7 +97,7 @@ fn rates_meaning(
     name: &[u8],
     sides: &Sides<'_>,
 ) -> Option<TextKind>
-    ensures { result ≡ rates_kind (settings_view settings.now) names.now name.now (list_any (λ name. not (is_among names.now.materials name)) (names_of (sides_view sides.now).0)
+    ensures { result ≡ rates_kind settings.now names.now name.now (list_any (λ name. not (is_among names.now.materials name)) (names_of (sides_view sides.now).0)
         || list_any (λ name. not (is_among names.now.materials name)) (names_of (sides_view sides.now).1)) }
 {
     if !names.units.has(name) && settings.is_unit_turned(&[]) {
@@ -126,7 +125,7 @@ fn exclusion_meaning(names: &Names<'_>, members: &[&[u8]]) -> Option<TextKind>
 
 #[tactic(auto, using(crate::proofs::CutLines::meaning_cut))]
 fn line_meaning(settings: &Settings, names: &Names<'_>, line: &Kept<'_>) -> Option<TextKind>
-    ensures { result ≡ line_meaning (settings_view settings.now) names.now line.now }
+    ensures { result ≡ line_meaning settings.now names.now line.now }
 {
     match &line.cut {
         Cut::Default => None,
@@ -145,7 +144,7 @@ pub(crate) fn first_meaning(
     names: &Names<'_>,
     lines: &[Kept<'_>],
 ) -> Option<(u32, TextKind)>
-    ensures { result ≡ first_meaning (settings_view settings.now) names.now lines.now }
+    ensures { result ≡ first_meaning settings.now names.now lines.now }
 {
     for line in lines {
         if let Some(kind) = line_meaning(settings, names, line) {

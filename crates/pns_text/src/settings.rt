@@ -1,12 +1,9 @@
 //! The defaults, and the values of materials and units by them.
 ghost use Rattle.std.specs.Prelude.{◌≡◌, ◌/◌, codes, option_map, pos, unsigned_abs};
-ghost use Rattle.text_rules.specs.Value.{value_at, kind_of};
-ghost use Rattle.problem_rules.specs.Problem.{intermediate};
-ghost use Rattle.pns_problem.specs.Kind as kinds;
+ghost use Rattle.text_rules.specs.Value.{value_at};
 ghost use Rattle.text_lines.specs.View.{texts};
 ghost use Rattle.pns_text.specs.Kept.{lines_apart, item_fields};
-ghost use Rattle.pns_text.specs.Settings.{settings_of, payout_from, default_fields, number_at, kind_or};
-ghost use Rattle.pns_text.specs.View.{settings_view};
+ghost use Rattle.pns_text.specs.Settings.{settings_of, payout_from, default_fields, number_at, kind_named, kind_or};
 
 use crate::cut::Kept;
 use crate::item::{Item, field_at};
@@ -31,7 +28,7 @@ pub struct Settings {
 
 // The kind that the word stands for.
 fn kind_named(word: &[u8]) -> Kind
-    ensures { kinds.kind_of result ≡ kind_of word.now }
+    ensures { result ≡ kind_named word.now }
 {
     if word == b"raw_material".as_slice() {
         Kind::RawMaterial
@@ -76,7 +73,7 @@ pub(crate) fn number_at(items: &[Item<'_>], key: &[u8], default: i64) -> i64
 
 /// The kind of a material by its items, or else the default.
 pub(crate) fn kind_at(items: &[Item<'_>], default: Kind) -> Kind
-    ensures { kinds.kind_of result ≡ kind_or (value_at (codes "material_type") (item_fields items.now)) (kinds.kind_of default) }
+    ensures { result ≡ kind_or (value_at (codes "material_type") (item_fields items.now)) default }
 {
     match field_at(items, b"material_type") {
         Some(item) => kind_named(item.value()),
@@ -86,7 +83,7 @@ pub(crate) fn kind_at(items: &[Item<'_>], default: Kind) -> Kind
 
 // The kind of materials whose lines have no kind word.
 fn default_kind(lines: &[Kept<'_>]) -> Kind
-    ensures { kinds.kind_of result ≡ kind_or (value_at (codes "material_type") (default_fields (lines_apart lines.now))) intermediate }
+    ensures { result ≡ kind_or (value_at (codes "material_type") (default_fields (lines_apart lines.now))) Kind.Intermediate }
 {
     match default_at(lines, b"material_type") {
         Some(word) => kind_named(word),
@@ -99,7 +96,7 @@ const MUCH: i64 = 1_000_000_000_000_000;
 
 /// The settings that the lines of defaults give.
 pub(crate) fn settings_of(lines: &[Kept<'_>]) -> Settings
-    ensures { settings_view result ≡ settings_of (lines_apart lines.now) }
+    ensures { result ≡ settings_of (lines_apart lines.now) }
 {
     Settings {
         kind: default_kind(lines),
@@ -138,7 +135,7 @@ impl Settings {
 
     /// Whether the lower bound of a material with these items is above its upper bound.
     pub(crate) fn is_material_turned(&self, items: &[Item<'_>]) -> bool
-        ensures { result ≡ is_material_turned (settings_view self.now) (item_fields items.now) }
+        ensures { result ≡ is_material_turned self.now (item_fields items.now) }
     {
         let upper = number_at(items, b"flow_rate_upper_bound", self.flow_upper);
         let lower = number_at(items, b"flow_rate_lower_bound", self.flow_lower);
@@ -147,7 +144,7 @@ impl Settings {
 
     /// Whether the lower bound of a unit with these items is above its upper bound.
     pub(crate) fn is_unit_turned(&self, items: &[Item<'_>]) -> bool
-        ensures { result ≡ is_unit_turned (settings_view self.now) (item_fields items.now) }
+        ensures { result ≡ is_unit_turned self.now (item_fields items.now) }
     {
         let upper = number_at(items, b"capacity_upper_bound", self.capacity_upper);
         let lower = number_at(items, b"capacity_lower_bound", self.capacity_lower);

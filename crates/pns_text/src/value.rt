@@ -9,7 +9,6 @@ ghost use Rattle.text_lines.specs.Terms.{term_view, terms_view, sides_view};
 ghost use Rattle.pns_text.specs.Kept.{is_at, lines_at, heads_at, lines_apart, item_fields};
 ghost use Rattle.pns_text.specs.Settings.{settings_of, material_from, unit_from};
 ghost use Rattle.pns_text.specs.Value.{materials_from, term_from, pairs_at, sides_named, listed_unit, bare_unit, bare_lines, units_from, unit_names_from, exclusion_named, exclusions_from, problem_from};
-ghost use Rattle.pns_text.specs.View.{settings_view};
 
 use crate::cut::Kept;
 use crate::item::Item;
@@ -43,7 +42,7 @@ fn material(
     items: &[Item<'_>],
 ) -> Result<Material, AllocError>
     requires { is_name name.now ≡ true }
-    ensures { IfOk result (λ m. m ≡ material_from (settings_view settings.now) name.now (item_fields items.now)) }
+    ensures { IfOk result (λ m. m ≡ material_from settings.now name.now (item_fields items.now)) }
 {
     let name = name_string(alloc, name)?;
     Ok(Material {
@@ -60,7 +59,7 @@ fn materials(
     settings: &Settings,
     lines: &[Kept<'_>],
 ) -> Result<Vec<Material>, AllocError>
-    ensures { IfOk result (λ materials. materials.items ≡ materials_from (settings_view settings.now) lines.now) }
+    ensures { IfOk result (λ materials. materials.items ≡ materials_from settings.now lines.now) }
 {
     let mut materials = Vec::new(alloc);
     for line in lines {
@@ -142,7 +141,7 @@ fn unit(
 ) -> Result<OperatingUnit, AllocError>
     requires named { is_name name.now ≡ true }
     requires few { length names.now < 2 ^ 32 }
-    ensures { IfOk result (λ u. u ≡ unit_from (settings_view settings.now) name.now (item_fields items.now)
+    ensures { IfOk result (λ u. u ≡ unit_from settings.now name.now (item_fields items.now)
         (sides_named names.now lines.now name.now).0 (sides_named names.now lines.now name.now).1) }
 {
     let (inputs, outputs) = sides_named(alloc, names, lines, name)?;
@@ -171,7 +170,7 @@ fn listed_units(
     lines: &[Kept<'_>],
 ) -> Result<Vec<OperatingUnit>, AllocError>
     requires { length names.now < 2 ^ 32 }
-    ensures { IfOk result (λ units. units.items ≡ map (λ line. listed_unit (settings_view settings.now) names.now lines.now line.text) (lines_at Section.OperatingUnits lines.now)) }
+    ensures { IfOk result (λ units. units.items ≡ map (λ line. listed_unit settings.now names.now lines.now line.text) (lines_at Section.OperatingUnits lines.now)) }
 {
     let mut units = Vec::new(alloc);
     for line in lines {
@@ -205,7 +204,7 @@ fn push_bare_units(
     units: &mut Vec<OperatingUnit>,
 ) -> Result<(), AllocError>
     requires { length names.now.materials < 2 ^ 32 }
-    ensures { OnOk result (units.new.items ≡ units.old.items ++ map (λ line. bare_unit (settings_view settings.now) names.now.materials lines.now line.text) (bare_lines names.now.units lines.now)) }
+    ensures { OnOk result (units.new.items ≡ units.old.items ++ map (λ line. bare_unit settings.now names.now.materials lines.now line.text) (bare_lines names.now.units lines.now)) }
 {
     for line in lines {
         if let Some(name) = bare_name(&names.units, line) {
@@ -223,7 +222,7 @@ fn units(
 ) -> Result<Vec<OperatingUnit>, AllocError>
     requires units { names.now.units ≡ heads_at Section.OperatingUnits lines.now }
     requires few { length names.now.materials < 2 ^ 32 }
-    ensures { IfOk result (λ units. units.items ≡ units_from (settings_view settings.now) names.now.materials lines.now) }
+    ensures { IfOk result (λ units. units.items ≡ units_from settings.now names.now.materials lines.now) }
 {
     let mut units = listed_units(alloc, settings, &names.materials, lines)?;
     push_bare_units(alloc, settings, names, lines, &mut units)?;
@@ -329,7 +328,7 @@ pub(crate) fn parts_of(
     names: &Names<'_>,
     lines: &[Kept<'_>],
 ) -> Result<Parts, AllocError>
-    requires settings { settings_view settings.now ≡ settings_of (lines_apart lines.now) }
+    requires settings { settings.now ≡ settings_of (lines_apart lines.now) }
     requires materials { names.now.materials ≡ heads_at Section.Materials lines.now }
     requires units { names.now.units ≡ heads_at Section.OperatingUnits lines.now }
     requires few { length lines.now < 2 ^ 32 }

@@ -1,7 +1,6 @@
 use Rattle.std.proofs.Common.{◌≡◌, drop}
 use Rattle.pns_text.specs.Meaning.{first_meaning}
-use Rattle.pns_text.specs.View.{settings_view}
 use Rattle.pns_text.proofs.meaning.first_meaning.Given as goal
 
 abbrev pub invariant-loop-line : goal.invariant-loop-line
-invariant-loop-line l = first_meaning (settings_view l.settings) l.names (drop l.line-index l.lines) ≡ first_meaning (settings_view l.settings) l.names l.lines
+invariant-loop-line l = first_meaning l.settings l.names (drop l.line-index l.lines) ≡ first_meaning l.settings l.names l.lines

@@ -1,7 +1,6 @@
 use Rattle.std.proofs.Common.{◌≡◌, take}
 use Rattle.pns_text.specs.Value.{materials_from}
-use Rattle.pns_text.specs.View.{settings_view}
 use Rattle.pns_text.proofs.value.materials.Given as goal
 
 abbrev pub invariant-loop-line : goal.invariant-loop-line
-invariant-loop-line l = l.materials.items ≡ materials_from (settings_view l.settings) (take l.line-index l.lines)
+invariant-loop-line l = l.materials.items ≡ materials_from l.settings (take l.line-index l.lines)
