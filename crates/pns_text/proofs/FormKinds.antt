@@ -1,5 +1,5 @@
 -- The kinds of form at a line, by what was seen before it, are those of the grammar.
-use Rattle.std.proofs.Common.{◌≡◌, ◌&&◌, ◌||◌, Bool, true, false, not, nat_le, nat_lt, int_lt, ℕ, ℤ, pos, List, [], ◌∷◌, ◌==◌, length, map, filter, find, Option, Some, None, Result, is_none, if◌then◌else◌, refl, sym, ◌∙◌, ap, cond, ◌++◌, flat_map, codes, arith}
+use Rattle.std.proofs.Common.{◌≡◌, ◌&&◌, ◌||◌, Bool, true, false, not, nat_le, nat_lt, int_lt, ℕ, pos, List, [], ◌∷◌, ◌==◌, length, map, filter, find, Option, Some, None, is_none, if◌then◌else◌, refl, sym, ◌∙◌, ap, cond, ◌++◌, flat_map, codes, arith}
 use Rattle.std.specs.List.{list_any, slice_split}
 use Rattle.std.specs.Str.{bytes_eq}
 use Rattle.std.proofs.lemmas.List.{length-map}

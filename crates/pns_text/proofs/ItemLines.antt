@@ -25,9 +25,11 @@ abbrev pub items_in : List ℕ → List (List ℕ)
 items_in rest = map trim (slice_split (λ c. c == byte ",") rest)
 
 -- past an item that a comma ends
-pub items_more : (items all : List (List ℕ)) (rest : List ℕ) (at : ℕ) → at ≡ position_or_len (λ c. c == byte ",") rest → at < length rest → items ++ items_in rest ≡ all → (items ++ trim (take at rest) ∷ []) ++ items_in (drop (at + 1) rest) ≡ all
-items_more items all rest at e lt kept =
-    append_assoc items (trim (take at rest) ∷ []) (items_in (drop (at + 1) rest))
+pub items_more : (items more all : List (List ℕ)) (rest behind : List ℕ) (at : ℕ) → at ≡ position_or_len (λ c. c == byte ",") rest → at < length rest → more ≡ items ++ trim (take at rest) ∷ [] → behind ≡ drop (at + 1) rest
+    → items ++ items_in rest ≡ all → more ++ items_in behind ≡ all
+items_more items more all rest behind at e lt pushed cut kept =
+    (λ i. pushed i ++ items_in (cut i))
+    ∙ append_assoc items (trim (take at rest) ∷ []) (items_in (drop (at + 1) rest))
     ∙ ap (λ (parts : List (List ℕ)). items ++ map trim parts) (sym (split-at (λ (c : ℕ). c == byte ",") rest 0 at e lt))
     ∙ kept
 

@@ -10,7 +10,7 @@ use Rattle.problem_rules.specs.Problem.{raw_material, product, intermediate, Mat
 use Rattle.text_rules.specs.declared.TextKind.{TextKind}
 use Rattle.text_rules.specs.declared.TextKind.TheVariants.{LowAboveHigh, UnknownMaterial, NoRates, UnknownUnit}
 use Rattle.text_rules.specs.declared.Section.{Section}
-use Rattle.text_rules.specs.declared.Section.TheVariants.{Preamble, MeasurementUnits, Defaults, Materials, OperatingUnits, Rates, Exclusions}
+use Rattle.text_rules.specs.declared.Section.TheVariants.{Preamble, Defaults, Materials, OperatingUnits, Rates, Exclusions}
 use Rattle.text_rules.specs.Line.{Placed, head_of}
 use Rattle.text_rules.specs.Field.{Line, taken_apart, lines_in, names_in, key_of, value_of, fields_of, items_of, sides_of, left, right, material_type, payout_period, for_material, for_unit}
 use Rattle.text_rules.specs.Fault.{Fault, first_of, millionths}

@@ -1,5 +1,5 @@
 -- Only at a faulty rate can a kind of rates stand.
-use Rattle.std.proofs.Common.{◌≡◌, ◌&&◌, ◌||◌, Bool, true, false, cond, not, find, Option, Some, None, List, [], ◌∷◌, Result, Ok, Err, ℤ, pos, negsuc, int_lt, refl, ap, ◌∙◌, arith}
+use Rattle.std.proofs.Common.{◌≡◌, ◌&&◌, ◌||◌, Bool, true, false, cond, not, find, Some, None, List, [], ◌∷◌, Result, Ok, Err, ℤ, pos, negsuc, int_lt, refl, ap, ◌∙◌, arith}
 use Rattle.std.specs.List.{list_any}
 use Rattle.std.proofs.lemmas.Bool.{le-ltb}
 use Rattle.std.specs.Result.{result_unwrap_or}

@@ -1,5 +1,5 @@
 -- The walk over a text finds its first fault of form in the words of the grammar, or keeps the lines that matter, whose names it saw.
-use Rattle.std.proofs.Common.{◌≡◌, ◌==◌, ◌+◌, Bool, true, false, not, ℕ, List, [], ◌∷◌, ◌++◌, length, map, filter, find, Option, Some, None, Result, Ok, Err, if◌then◌else◌, refl, sym, ◌∙◌, ap, suc, arith, append_assoc, append-nil, ◌≤◌, ◌&&◌, subst, length-append}
+use Rattle.std.proofs.Common.{◌≡◌, ◌==◌, ◌+◌, Bool, true, false, not, ℕ, List, [], ◌∷◌, ◌++◌, length, map, filter, find, Option, Some, None, Result, Ok, Err, if◌then◌else◌, refl, sym, ◌∙◌, ap, suc, arith, append_assoc, append-nil, ◌≤◌, subst, length-append}
 use Rattle.std.specs.Str.{bytes_eq}
 use Rattle.std.proofs.lemmas.Bool.{cond-false, ne_eqb}
 use Rattle.text_rules.specs.declared.TextKind.{TextKind}

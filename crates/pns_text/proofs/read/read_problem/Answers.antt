@@ -1,4 +1,4 @@
-use Rattle.std.proofs.Common.{◌≡◌, List, length, Result, Ok, IfOk, IfErr, subst, sym, ap, ◌∙◌, arith}
+use Rattle.std.proofs.Common.{◌≡◌, length, Result, Ok, IfOk, IfErr, subst, sym, ap, ◌∙◌, arith}
 use Rattle.problem_rules.specs.Problem.{Problem}
 use Rattle.text_rules.specs.Line.{lines_of}
 use Rattle.text_rules.specs.Fault as rules
