@@ -23,7 +23,7 @@ use Rattle.pns_text.specs.declared.settings.Settings.{Settings}
 use Rattle.pns_text.specs.Settings.{default_fields, number_or, kind_named, kind_or, number_at, settings_from, settings_of, payout_from, material_from, unit_from}
 use Rattle.pns_text.specs.declared.meaning.Names.{Names}
 use Rattle.pns_text.specs.Meaning.{is_unit_turned, has_unknown, is_unit, line_meaning, fault_or, first_meaning}
-use Rattle.pns_text.specs.Value.{materials_from, term_from, sides_or, sides_named, listed_unit, bare_unit, bare_lines, units_from, unit_names_from, exclusion_from, exclusions_from, problem_from}
+use Rattle.pns_text.specs.Value.{materials_from, term_from, sides_or, sides_named, listed_unit, bare_unit, bare_lines, units_from, unit_names_from, exclusions_from, problem_from}
 use Rattle.pns_text.specs.Reading.{names_all}
 use Rattle.pns_text.specs.Walk.{matters}
 use Rattle.pns_text.proofs.KeptLines.{filter_map, in_apart, lines_kept, names_kept, line_of, map_at}
@@ -182,7 +182,7 @@ module _ (all : List Placed) where
   exclusions_are =
       ap (map (exclusion_read lines)) (lines_kept Exclusions refl all)
       ∙ map-map (exclusion_read lines) taken_apart (lines_at Exclusions kept)
-      ∙ ap (λ (known : List (List ℕ)). map (λ (line : Placed). exclusion_from known line.text) (lines_at Exclusions kept)) unit_names_are
+      ∙ ap (λ (known : List (List ℕ)). exclusions_from known kept) unit_names_are
 
   years_of : (default : Option (List ℕ)) → pos (unsigned_abs (millionths (unwrap_or default (codes "1"))) / 1000000) ≡ pos (unsigned_abs (number_or default (pos 1000000)) / 1000000)
   years_of None = refl

@@ -30,13 +30,10 @@ pairs_at text = (map pair_of (slice_index_or (sides_of text) 0 []), map pair_of 
 abbrev pub both_from : List (List ℕ) → List Pair × List Pair → List Term × List Term
 both_from names both = (map (term_from names) both.0, map (term_from names) both.1)
 
-abbrev pub sides_from : List (List ℕ) → List ℕ → List Term × List Term
-sides_from names text = both_from names (pairs_at text)
-
 -- those of the line of rates that has the name
 abbrev pub sides_or : List (List ℕ) → Option Placed → List Term × List Term
 sides_or names None = ([], [])
-sides_or names (Some line) = sides_from names line.text
+sides_or names (Some line) = both_from names (pairs_at line.text)
 
 abbrev pub sides_named : List (List ℕ) → List Placed → List ℕ → List Term × List Term
 sides_named names lines name = sides_or names (find (λ (line : Placed). bytes_eq (head_of line.text) name) (lines_at Rates lines))
@@ -68,11 +65,8 @@ unit_names_from lines = heads_at OperatingUnits lines ++ map (λ (line : Placed)
 abbrev pub exclusion_named : List (List ℕ) → List ℕ → List (List ℕ) → Exclusion
 exclusion_named units name members = record { name = name; units = numbers_among members 0 units }
 
-abbrev pub exclusion_from : List (List ℕ) → List ℕ → Exclusion
-exclusion_from units text = exclusion_named units (head_of text) (items_of text)
-
 abbrev pub exclusions_from : List (List ℕ) → List Placed → List Exclusion
-exclusions_from units lines = map (λ (line : Placed). exclusion_from units line.text) (lines_at Exclusions lines)
+exclusions_from units lines = map (λ (line : Placed). exclusion_named units (head_of line.text) (items_of line.text)) (lines_at Exclusions lines)
 
 abbrev pub problem_from : List Placed → Problem
 problem_from lines = record {

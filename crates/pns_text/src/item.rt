@@ -54,25 +54,18 @@ fn parted(text: &[u8]) -> (bool, &[u8], &[u8])
     }
 }
 
-// The value of an item; that of a kind word is the word.
-fn value_or_word<'a>(text: &'a [u8], behind: &'a [u8]) -> &'a [u8]
-    requires { behind.now ≡ value_of text.now }
-    ensures { result.now ≡ field_value text.now }
-{
-    if is_kind_word(text) { text } else { behind }
-}
-
 impl<'a> Item<'a> {
     /// The item of this text.
     pub(crate) fn of(text: &'a [u8]) -> Item<'a>
         ensures { result ≡ text.now }
     {
         let (has_key, key, behind) = parted(text);
-        let value = value_or_word(text, behind);
+        let is_kind_word = is_kind_word(text);
+        let value = if is_kind_word { text } else { behind };
         Item {
             text,
             has_key,
-            is_kind_word: is_kind_word(text),
+            is_kind_word,
             key,
             value,
             amount: read_amount(value),
