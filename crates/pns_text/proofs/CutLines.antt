@@ -1,23 +1,27 @@
 -- What is read of a line that was cut is what the grammar reads of its text.
-use Rattle.std.proofs.Common.{◌≡◌, ◌==◌, ◌||◌, ◌++◌, Bool, true, false, not, ℕ, List, [], ◌∷◌, length, map, flat_map, slice_index_or, Some, None, if◌then◌else◌, refl, sym, ◌∙◌, ap, arith, option_map, Option}
+use Rattle.std.proofs.Common.{◌≡◌, ◌==◌, ◌||◌, ◌++◌, Bool, true, false, not, ℕ, List, [], ◌∷◌, length, map, flat_map, slice_index_or, Some, None, if◌then◌else◌, refl, sym, ◌∙◌, ap, arith, option_map, Option, find}
 use Rattle.std.specs.List.{list_any}
 use Rattle.std.proofs.lemmas.Bool.{ne_eqb}
 use Rattle.std.proofs.lemmas.List.Folds.{list_any-append}
+use Rattle.std.proofs.lemmas.Simd.{map-map}
+use Rattle.std.specs.Str.{bytes_eq}
 use Rattle.problem_rules.specs.Names.{is_among}
+use Rattle.problem_rules.specs.Problem as rules
 use Rattle.text_rules.specs.Field.{material_of, sides_of}
 use Rattle.text_rules.specs.declared.TextKind.{TextKind}
 use Rattle.text_rules.specs.declared.Section.{Section}
 use Rattle.text_rules.specs.declared.Section.TheVariants.{Defaults, Materials, OperatingUnits, Rates, Exclusions}
 use Rattle.text_rules.specs.Line.{Placed, head_of}
-use Rattle.text_lines.specs.Terms.{Pair, pair_of, is_bad_term, has_bad_sides, sides_read, sides_view}
+use Rattle.text_lines.specs.Terms.{Pair, pair_of, is_bad_term, has_bad_sides, sides_read, sides_view, term_view, terms_view}
 use Rattle.text_lines.specs.View.{texts}
 use Rattle.text_lines.specs.declared.term.Sides.{Sides}
+use Rattle.text_lines.specs.declared.term.Term.{Term}
 use Rattle.pns_text.specs.Form.{names_of}
-use Rattle.pns_text.specs.Kept.{item_fields}
+use Rattle.pns_text.specs.Kept.{lines_at, item_fields}
 use Rattle.pns_text.specs.declared.settings.Settings.{Settings}
 use Rattle.pns_text.specs.declared.meaning.Names.{Names}
 use Rattle.pns_text.specs.Meaning.{material_kind, unit_kind, rates_kind, exclusion_kind, line_meaning}
-use Rattle.pns_text.specs.Value.{pairs_at, both_from, sides_or}
+use Rattle.pns_text.specs.Value.{term_from, pairs_at, both_from, sides_or, sides_named}
 use Rattle.pns_text.specs.Walk.{kept_after}
 use Rattle.pns_text.specs.Cut.{section_of, IsCutOf, IsCutAt, line_cut}
 use Rattle.pns_text.specs.declared.cut.Cut.{Cut}
@@ -63,11 +67,23 @@ any_of_both q (left ∷ right ∷ third ∷ sides) found e =
 pub sides_cut : (text : List ℕ) (found : List Pair × List Pair) → Some found ≡ sides_read (sides_of text) → found ≡ pairs_at text
 sides_cut text found e = sides_are (sides_of text) found e
 
-pub sides_found : (names : List (List ℕ)) (line : Option Placed) (found : List Pair × List Pair) → Some found ≡ option_map (λ (line : Placed). pairs_at line.text) line → both_from names found ≡ sides_or names line
-sides_found names None found e = cc
-sides_found names (Some line) found e = ap (both_from names) (found_is found (pairs_at line.text) e) where
+found_sides : (names : List (List ℕ)) (line : Option Placed) (found : List Pair × List Pair) → Some found ≡ option_map (λ (line : Placed). pairs_at line.text) line → both_from names found ≡ sides_or names line
+found_sides names None found e = cc
+found_sides names (Some line) found e = ap (both_from names) (found_is found (pairs_at line.text) e) where
   found_is : (xs ys : List Pair × List Pair) → Some xs ≡ Some ys → xs ≡ ys
   found_is xs ys e = cc
+
+terms_are : (names : List (List ℕ)) (terms borrowed : List Term) (read : List rules.Term) → borrowed ≡ terms → read ≡ map (λ one. term_from names (term_view one)) borrowed → read ≡ map (term_from names) (terms_view terms)
+terms_are names terms borrowed read same e = e ∙ (λ i. map (λ one. term_from names (term_view one)) (same i)) ∙ sym (map-map (term_from names) term_view terms)
+
+-- the terms of both sides of the line that has the name
+pub sides_found : (names : List (List ℕ)) (lines : List Placed) (name : List ℕ) (sides : Sides) (left right : List Term) (inputs outputs : List rules.Term)
+    → Some (sides_view sides) ≡ option_map (λ (line : Placed). pairs_at line.text) (find (λ (line : Placed). bytes_eq (head_of line.text) name) (lines_at Rates lines))
+    → left ≡ sides.inputs.items → right ≡ sides.outputs.items → inputs ≡ map (λ one. term_from names (term_view one)) left → outputs ≡ map (λ one. term_from names (term_view one)) right
+    → (inputs, outputs) ≡ sides_named names lines name
+sides_found names lines name sides left right inputs outputs found l r i o =
+    (λ k. (terms_are names sides.inputs.items left inputs l i k, terms_are names sides.outputs.items right outputs r o k))
+    ∙ found_sides names (find (λ (line : Placed). bytes_eq (head_of line.text) name) (lines_at Rates lines)) (sides_view sides) found
 
 pub sides_missing : (names : List (List ℕ)) (line : Option Placed) → None ≡ option_map (λ (line : Placed). pairs_at line.text) line → ([], []) ≡ sides_or names line
 sides_missing names None e = refl

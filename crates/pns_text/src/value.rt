@@ -88,14 +88,9 @@ fn terms(
     terms: &[term::Term<'_>],
 ) -> Result<Vec<Term>, AllocError>
     requires { length names.now < 2 ^ 32 }
-    ensures { IfOk result (λ all. all.items ≡ map (term_from names.now) (terms_view terms.now)) }
+    ensures { IfOk result (λ all. all.items ≡ map (λ one. term_from names.now (term_view one)) terms.now) }
 {
-    let mut all = Vec::new(alloc);
-    for one in terms {
-        let one = term(names, one);
-        all.push(one)?;
-    }
-    Ok(all)
+    terms.iter().map(|one| term(names, one)).collect(alloc)
 }
 
 // The sides of the line of rates of this name.
@@ -112,7 +107,7 @@ fn rates_named<'b, 'a>(lines: &'b [Kept<'a>], name: &[u8]) -> Option<&'b term::S
     None
 }
 
-#[tactic(auto, using(crate::proofs::CutLines::sides_found, crate::proofs::CutLines::sides_missing))]
+#[tactic(auto, using(crate::proofs::CutLines::sides_missing))]
 fn sides_named(
     alloc: Global,
     names: &NameSet<'_>,
