@@ -1,5 +1,5 @@
 //! The meaning of the lines that have one: what names they cite, and whether bounds are in order.
-ghost use Rattle.std.specs.Prelude.{◌≡◌, [], IfOk, not, ◌||◌};
+ghost use Rattle.std.specs.Prelude.{◌≡◌, IfOk, not, ◌||◌};
 ghost use Rattle.std.specs.List.{list_any};
 ghost use Rattle.problem_rules.specs.Names.{is_among};
 ghost use Rattle.text_lines.specs.View.{texts};
@@ -39,16 +39,6 @@ pub(crate) fn unit_heads<'a>(alloc: Global, lines: &[Kept<'a>]) -> Result<Vec<&'
 }
 
 impl<'a> Names<'a> {
-    pub(crate) fn new(alloc: Global) -> Names<'a>
-        ensures { result ≡ record { materials = []; units = []; rates = [] } }
-    {
-        Names {
-            materials: NameSet::new(alloc),
-            units: NameSet::new(alloc),
-            rates: NameSet::new(alloc),
-        }
-    }
-
     fn is_unit(&self, item: &[u8]) -> bool
         ensures { result ≡ is_unit self.now item.now }
     {

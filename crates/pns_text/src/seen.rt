@@ -78,7 +78,11 @@ impl<'a> Seen<'a> {
         Seen {
             headers: Vec::new(alloc),
             keys: Vec::new(alloc),
-            names: Names::new(alloc),
+            names: Names {
+                materials: NameSet::new(alloc),
+                units: NameSet::new(alloc),
+                rates: NameSet::new(alloc),
+            },
             exclusions: NameSet::new(alloc),
             unit_names: NameSet::new(alloc),
         }
