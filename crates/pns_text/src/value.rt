@@ -70,7 +70,7 @@ fn materials(
     Ok(materials)
 }
 
-// A term of a name that is no material is one of the first.
+// The term, with the number of its material, which is 0 where the name is none of these.
 #[tactic(auto, using(crate::proofs::Counts::position_few))]
 fn term(names: &NameSet<'_>, term: &term::Term<'_>) -> Term
     requires { length names.now < 2 ^ 32 }
