@@ -43,6 +43,9 @@ pub struct Seen<'a> {
     unit_names: NameSet<'a>,
 }
 
+/// What was cut of a line, where it matters.
+pub(crate) type Taken<'a> = Result<Option<Cut<'a>>, TextFault>;
+
 fn header_fault(headers: &[&[u8]], name: &[u8]) -> Option<TextKind>
     ensures { result ≡ header_fault (texts headers.now) name.now }
 {
@@ -56,7 +59,7 @@ fn header_fault(headers: &[&[u8]], name: &[u8]) -> Option<TextKind>
 }
 
 // Takes a line that is read past.
-fn skip<'a>(number: u32, text: &[u8]) -> Result<Option<Cut<'a>>, TextFault>
+fn skip<'a>(number: u32, text: &[u8]) -> Taken<'a>
     ensures none { IfOk result (λ cut. cut ≡ None) }
     ensures ok { OnOk result (skipped_fault text.now ≡ None) }
     ensures fault { IfErr result (TellsKind number (skipped_fault text.now)) }
@@ -88,6 +91,50 @@ impl<'a> Seen<'a> {
         }
     }
 
+    fn take_unit(&mut self, alloc: Global, number: u32, text: &'a [u8]) -> Taken<'a>
+        ensures { Takes (seen_view self.old) (record { number = number; section = Section.OperatingUnits; header = false; text = text.now }) (seen_view self.new) result }
+    {
+        let name = head_of(text);
+        let items = items_of(alloc, text)?;
+        if let Some(kind) = unit_kind(&self.names.units, &self.unit_names, name, &items) {
+            return Err(TextFault::At { line: number, kind });
+        }
+        self.names.units.push(name)?;
+        self.unit_names.add(name)?;
+        Ok(Some(Cut::OperatingUnit(items)))
+    }
+
+    fn take_rates(&mut self, alloc: Global, number: u32, text: &'a [u8]) -> Taken<'a>
+        ensures { Takes (seen_view self.old) (record { number = number; section = Section.Rates; header = false; text = text.now }) (seen_view self.new) result }
+    {
+        let name = head_of(text);
+        let Some(sides) = sides_of(alloc, text)? else {
+            return Err(TextFault::At {
+                line: number,
+                kind: TextKind::BadLine,
+            });
+        };
+        let kind = sides_kind(alloc, &self.names.rates, &self.unit_names, name, &sides)?;
+        if let Some(kind) = kind {
+            return Err(TextFault::At { line: number, kind });
+        }
+        self.names.rates.push(name)?;
+        self.unit_names.add(name)?;
+        Ok(Some(Cut::Flows(sides)))
+    }
+
+    fn take_exclusion(&mut self, alloc: Global, number: u32, text: &'a [u8]) -> Taken<'a>
+        ensures { Takes (seen_view self.old) (record { number = number; section = Section.Exclusions; header = false; text = text.now }) (seen_view self.new) result }
+    {
+        let name = head_of(text);
+        let members = field::items_of(alloc, text)?;
+        if let Some(kind) = exclusion_kind(alloc, &self.exclusions, text, name, &members)? {
+            return Err(TextFault::At { line: number, kind });
+        }
+        self.exclusions.push(name)?;
+        Ok(Some(Cut::Exclusion(members)))
+    }
+
     // Takes a line of the section. It gives what was cut of it, where it matters.
     fn take_entry(
         &mut self,
@@ -95,7 +142,7 @@ impl<'a> Seen<'a> {
         section: Section,
         number: u32,
         text: &'a [u8],
-    ) -> Result<Option<Cut<'a>>, TextFault>
+    ) -> Taken<'a>
         ensures { Takes (seen_view self.old) (record { number = number; section = section; header = false; text = text.now }) (seen_view self.new) result }
     {
         let name = head_of(text);
@@ -117,52 +164,14 @@ impl<'a> Seen<'a> {
                 self.names.materials.push(name)?;
                 Ok(Some(Cut::Material(items)))
             }
-            Section::OperatingUnits => {
-                let items = items_of(alloc, text)?;
-                if let Some(kind) = unit_kind(&self.names.units, &self.unit_names, name, &items) {
-                    return Err(TextFault::At { line: number, kind });
-                }
-                self.names.units.push(name)?;
-                self.unit_names.add(name)?;
-                Ok(Some(Cut::OperatingUnit(items)))
-            }
-            Section::Rates => {
-                let Some(sides) = sides_of(alloc, text)? else {
-                    return Err(TextFault::At {
-                        line: number,
-                        kind: TextKind::BadLine,
-                    });
-                };
-                if let Some(kind) = sides_kind(
-                    alloc,
-                    &self.names.rates,
-                    &self.unit_names,
-                    name,
-                    &sides,
-                )? {
-                    return Err(TextFault::At { line: number, kind });
-                }
-                self.names.rates.push(name)?;
-                self.unit_names.add(name)?;
-                Ok(Some(Cut::Flows(sides)))
-            }
-            Section::Exclusions => {
-                let members = field::items_of(alloc, text)?;
-                if let Some(kind) = exclusion_kind(alloc, &self.exclusions, text, name, &members)? {
-                    return Err(TextFault::At { line: number, kind });
-                }
-                self.exclusions.push(name)?;
-                Ok(Some(Cut::Exclusion(members)))
-            }
+            Section::OperatingUnits => self.take_unit(alloc, number, text),
+            Section::Rates => self.take_rates(alloc, number, text),
+            Section::Exclusions => self.take_exclusion(alloc, number, text),
         }
     }
 
     /// Takes a line. It gives what was cut of it, where the line matters, or the kind of form that stands at it.
-    pub(crate) fn take(
-        &mut self,
-        alloc: Global,
-        line: &Placed<'a>,
-    ) -> Result<Option<Cut<'a>>, TextFault>
+    pub(crate) fn take(&mut self, alloc: Global, line: &Placed<'a>) -> Taken<'a>
         ensures { Takes (seen_view self.old) (placed_view line.now) (seen_view self.new) result }
     {
         if !line.header {
