@@ -33,15 +33,18 @@ impl<'a> Walk<'a> {
         }
     }
 
-    // Takes a line that is not empty.
-    #[tactic(auto, using(crate::proofs::Reading::take_line, crate::proofs::Reading::fault_there))]
-    fn take(&mut self, alloc: Global, text: &'a [u8]) -> Result<(), PlanFault>
-        requires some { 0 < length text.now }
-        requires few { self.old.number < 2 ^ 32 - 1 }
+    // Takes a line.
+    #[tactic(auto, using(crate::proofs::Reading::take_empty, crate::proofs::Reading::take_line, crate::proofs::Reading::fault_there))]
+    fn step(&mut self, alloc: Global, text: &'a [u8]) -> Result<(), PlanFault>
+        requires { self.old.number < 2 ^ 32 - 1 }
         ensures ok { OnOk result ((texts : List (List ℕ)) → read_on self.new texts ≡ read_on self.old (text.now ∷ texts)) }
         ensures next { OnOk result (self.new.number ≡ self.old.number + 1) }
         ensures fault { IfErr result (λ fault. (texts : List (List ℕ)) → Tells (read_on self.old (text.now ∷ texts)) fault) }
     {
+        if text.is_empty() {
+            self.number += 1;
+            return Ok(());
+        }
         match self.seen.read(alloc, text) {
             Ok(entry) => {
                 self.lines.push(Line {
@@ -58,36 +61,14 @@ impl<'a> Walk<'a> {
             Err(LineFault::Memory) => Err(PlanFault::Memory),
         }
     }
-
-    // Takes a line.
-    #[tactic(auto, using(crate::proofs::Reading::take_empty))]
-    fn step(&mut self, alloc: Global, text: &'a [u8]) -> Result<(), PlanFault>
-        requires { self.old.number < 2 ^ 32 - 1 }
-        ensures ok { OnOk result ((texts : List (List ℕ)) → read_on self.new texts ≡ read_on self.old (text.now ∷ texts)) }
-        ensures next { OnOk result (self.new.number ≡ self.old.number + 1) }
-        ensures fault { IfErr result (λ fault. (texts : List (List ℕ)) → Tells (read_on self.old (text.now ∷ texts)) fault) }
-    {
-        if text.is_empty() {
-            self.number += 1;
-            return Ok(());
-        }
-        self.take(alloc, text)
-    }
 }
 
-/// Lines, and how many lines the text has, empty ones too.
-#[derive(Drop)]
-pub(crate) struct Lines {
-    pub(crate) lines: Vec<Line>,
-    pub(crate) count: u32,
-}
-
-// All lines of what is left of a text behind its first line.
-fn walk_rest(alloc: Global, bytes: &[u8]) -> Result<Lines, PlanFault>
+// All lines of what is left of a text behind its first line, and how many the text has.
+fn walk_rest(alloc: Global, bytes: &[u8]) -> Result<(Vec<Line>, u32), PlanFault>
     requires { length bytes.now < 2 ^ 32 - 2 }
-    ensures ok { IfOk result (λ read. lines_read 2 nothing_seen (script_lines bytes.now) ≡ Ok read.lines.items) }
-    ensures count { IfOk result (λ read. read.count ≡ length (script_lines bytes.now) + 1) }
-    ensures short { IfOk result (λ read. read.count ≤ length bytes.now + 1) }
+    ensures ok { IfOk result (λ read. lines_read 2 nothing_seen (script_lines bytes.now) ≡ Ok read.0.items) }
+    ensures count { IfOk result (λ read. read.1 ≡ length (script_lines bytes.now) + 1) }
+    ensures short { IfOk result (λ read. read.1 ≤ length bytes.now + 1) }
     ensures fault { IfErr result (Tells (lines_read 2 nothing_seen (script_lines bytes.now))) }
 {
     let mut walk = Walk::new(alloc);
@@ -97,20 +78,17 @@ fn walk_rest(alloc: Global, bytes: &[u8]) -> Result<Lines, PlanFault>
         walk.step(alloc, text)?;
         rest = behind;
     }
-    Ok(Lines {
-        lines: walk.lines,
-        count: walk.number - 1,
-    })
+    Ok((walk.lines, walk.number - 1))
 }
 
-/// The lines of the text, or its first fault of form: the least line that has one, counted from 1, and of the faults there
-/// the one with the least number.
+/// The lines of the text that are not empty, and how many it has with those that are, or its first fault of form: the least
+/// line that has one, counted from 1, and of the faults there the one with the least number.
 #[tactic(auto, using(crate::proofs::Reading::read_typed))]
-pub(crate) fn read_lines(alloc: Global, bytes: &[u8]) -> Result<Lines, PlanFault>
+pub(crate) fn read_lines(alloc: Global, bytes: &[u8]) -> Result<(Vec<Line>, u32), PlanFault>
     requires { length bytes.now < 2 ^ 32 - 1 }
-    ensures ok { IfOk result (λ read. read_lines bytes.now ≡ Ok read.lines.items) }
-    ensures count { IfOk result (λ read. read.count ≡ length (script_lines bytes.now)) }
-    ensures some { IfOk result (λ read. read.count < 2 ^ 32 - 1) }
+    ensures ok { IfOk result (λ read. read_lines bytes.now ≡ Ok read.0.items) }
+    ensures count { IfOk result (λ read. read.1 ≡ length (script_lines bytes.now)) }
+    ensures few { IfOk result (λ read. read.1 < 2 ^ 32 - 1) }
     ensures fault { IfErr result (Tells (read_lines bytes.now)) }
 {
     if bytes.is_empty() {

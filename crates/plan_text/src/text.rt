@@ -22,11 +22,11 @@ pub fn read_plan(alloc: Global, problem: &Problem, bytes: &[u8]) -> Result<Plan,
     ensures fault { IfErr result (Tells (read_plan problem.now bytes.now)) }
 {
     problem.is_valid();
-    let read = read_lines(alloc, bytes)?;
-    match meaning_fault(problem, read.count, &read.lines) {
+    let (lines, count) = read_lines(alloc, bytes)?;
+    match meaning_fault(problem, count, &lines) {
         Some((line, kind)) => Err(PlanFault::At { line, kind }),
         None => Ok(Plan {
-            periods: periods_of(alloc, problem, &read.lines)?,
+            periods: periods_of(alloc, problem, &lines)?,
         }),
     }
 }
