@@ -66,28 +66,6 @@ fn first_of<'a>(fields: &[&'a [u8]]) -> &'a [u8]
     }
 }
 
-fn price(alloc: Global, fields: &[&[u8]]) -> Result<Entry, LineFault>
-    ensures { Reads (fields_read PlanWord.Price (texts fields.now)) result }
-{
-    match fields::amount(alloc, fields) {
-        Ok((material, value)) => Ok(Entry::Price { material, value }),
-        Err(fault) => Err(fault_from(fault)),
-    }
-}
-
-fn bounds(alloc: Global, fields: &[&[u8]]) -> Result<Entry, LineFault>
-    ensures { Reads (fields_read PlanWord.Bounds (texts fields.now)) result }
-{
-    match fields::bounds(alloc, fields) {
-        Ok((material, lower, upper)) => Ok(Entry::Bounds {
-            material,
-            lower,
-            upper,
-        }),
-        Err(fault) => Err(fault_from(fault)),
-    }
-}
-
 fn read_fields(alloc: Global, word: PlanWord, fields: &[&[u8]]) -> Result<Entry, LineFault>
     ensures { Reads (fields_read word (texts fields.now)) result }
 {
@@ -96,8 +74,18 @@ fn read_fields(alloc: Global, word: PlanWord, fields: &[&[u8]]) -> Result<Entry,
             [] => Ok(Entry::Begins),
             _ => Err(LineFault::Kind(PlanKind::BadLine)),
         },
-        PlanWord::Price => price(alloc, fields),
-        PlanWord::Bounds => bounds(alloc, fields),
+        PlanWord::Price => match fields::amount(alloc, fields) {
+            Ok((material, value)) => Ok(Entry::Price { material, value }),
+            Err(fault) => Err(fault_from(fault)),
+        },
+        PlanWord::Bounds => match fields::bounds(alloc, fields) {
+            Ok((material, lower, upper)) => Ok(Entry::Bounds {
+                material,
+                lower,
+                upper,
+            }),
+            Err(fault) => Err(fault_from(fault)),
+        },
     }
 }
 
