@@ -1,16 +1,12 @@
 -- Lines that are read one by one.
-use Rattle.std.proofs.Common.{◌≡◌, ◌<◌, ◌+◌, ◌++◌, ℕ, Bool, true, false, List, [], ◌∷◌, length, Result, Ok, Err, refl, sym, ap, ◌∙◌, arith, append_assoc, append-nil, if◌then◌else◌}
+use Rattle.std.proofs.Common.{◌≡◌, ◌<◌, ◌+◌, ◌++◌, ℕ, true, List, [], ◌∷◌, length, Result, Ok, Err, refl, sym, ap, ◌∙◌, arith, append_assoc, append-nil}
 use Rattle.std.specs.Str.{bytes_eq}
 use Rattle.std.proofs.lemmas.Bool.{cond-true}
 use Rattle.script_rules.specs.Line.{script_lines}
 use Rattle.plan_rules.specs.declared.PlanKind.{PlanKind}
-use Rattle.plan_rules.specs.declared.PlanKind.TheVariants.{FileType, BadLine}
+use Rattle.plan_rules.specs.declared.PlanKind.TheVariants.{FileType}
 use Rattle.plan_rules.specs.Line.{file_type, Entry, line_read}
 use Rattle.plan_rules.specs.Read.{Fault, Line, Seen, nothing_seen, seen_past, placed, with_line, lines_read, text_read, read_lines}
-use Rattle.text_lines.specs.declared.fault.LineFault.{LineFault}
-use Rattle.text_lines.specs.declared.fault.LineFault.TheVariants.{Memory, Kind}
-use Rattle.text_lines.specs.Tells.{TellsLine}
-use Rattle.plan_text.specs.Tells.{refused}
 use Rattle.plan_text.specs.Walk.{with_front}
 
 front_one : (before : List Line) (number : ℕ) (entry : Entry) (rest : Result (List Line) Fault)
@@ -40,14 +36,6 @@ pub fault_there : (before : List Line) (number : ℕ) (seen : Seen) (text : List
 fault_there before number seen text kind texts some bad =
     ap (with_front before) (line_taken number seen text texts some)
     ∙ ap (λ (r : Result Entry PlanKind). with_front before (with_line number r (lines_read (number + 1) (seen_past seen (line_read text)) texts))) bad
-
--- a line that says nothing, where it stands
-pub refused_tells : (seen : Seen) (reading : Result Entry PlanKind) (fault : LineFault PlanKind) → TellsLine reading fault → TellsLine (placed seen reading) (refused seen fault)
-refused_tells seen reading Memory e = tt
-refused_tells seen reading (Kind kind) e = ap (placed seen) e ∙ told_by seen.started kind where
-  told_by : (b : Bool) (kind : PlanKind) → ◌≡◌ {A = Result Entry PlanKind} (if b then Err kind else Err BadLine) (Err (if b then kind else BadLine))
-  told_by true kind = refl
-  told_by false kind = refl
 
 -- past an empty line
 pub take_empty : (before : List Line) (number : ℕ) (seen : Seen) (text : List ℕ) (texts : List (List ℕ)) → length text ≡ 0

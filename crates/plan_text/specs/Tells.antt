@@ -1,11 +1,9 @@
 -- What a reader of a line answers of a reading in the rules' words: an entry, or a fault.
-use Rattle.std.specs.Prelude.{◌≡◌, MatchResult, Result, Ok, if◌then◌else◌}
+use Rattle.std.specs.Prelude.{◌≡◌, MatchResult, Result, Ok}
 use Rattle.script_rules.specs.declared.EditKind.{EditKind}
 use Rattle.plan_rules.specs.declared.PlanKind.{PlanKind}
-use Rattle.plan_rules.specs.declared.PlanKind.TheVariants.{BadLine}
 use Rattle.plan_rules.specs.Line.{kind_of}
 use Rattle.plan_rules.specs.Line as rules
-use Rattle.plan_rules.specs.Read.{Seen}
 use Rattle.text_lines.specs.declared.fault.LineFault.{LineFault}
 use Rattle.text_lines.specs.declared.fault.LineFault.TheVariants.{Memory, Kind}
 use Rattle.text_lines.specs.Tells.{TellsLine}
@@ -17,11 +15,6 @@ use Rattle.plan_text.specs.View.{entry_of}
 abbrev pub fault_from : LineFault EditKind → LineFault PlanKind
 fault_from Memory = Memory
 fault_from (Kind kind) = Kind (kind_of kind)
-
--- the fault of a line that says nothing, where it stands
-abbrev pub refused : Seen → LineFault PlanKind → LineFault PlanKind
-refused seen Memory = Memory
-refused seen (Kind kind) = Kind (if seen.started then kind else BadLine)
 
 abbrev pub Reads : Result rules.Entry PlanKind → Result Entry (LineFault PlanKind) → Type 0
 Reads reading result = MatchResult result (λ entry. reading ≡ Ok (entry_of entry)) (TellsLine reading)

@@ -21,18 +21,6 @@ pub(crate) struct Walk<'a> {
 }
 
 impl<'a> Walk<'a> {
-    #[tactic(auto, using(crate::proofs::Reading::front_none))]
-    fn new(alloc: Global) -> Walk<'a>
-        ensures start { (texts : List (List ℕ)) → read_on result texts ≡ lines_read 2 nothing_seen texts }
-        ensures number { result.number ≡ 2 }
-    {
-        Walk {
-            lines: Vec::new(alloc),
-            seen: Seen::new(alloc),
-            number: 2,
-        }
-    }
-
     // Takes a line.
     #[tactic(auto, using(crate::proofs::Reading::take_empty, crate::proofs::Reading::take_line, crate::proofs::Reading::fault_there))]
     fn step(&mut self, alloc: Global, text: &'a [u8]) -> Result<(), PlanFault>
@@ -64,6 +52,7 @@ impl<'a> Walk<'a> {
 }
 
 // All lines of what is left of a text behind its first line, and how many the text has.
+#[tactic(auto, using(crate::proofs::Reading::front_none))]
 fn walk_rest(alloc: Global, bytes: &[u8]) -> Result<(Vec<Line>, u32), PlanFault>
     requires { length bytes.now < 2 ^ 32 - 2 }
     ensures ok { IfOk result (λ read. lines_read 2 nothing_seen (script_lines bytes.now) ≡ Ok read.0.items) }
@@ -71,7 +60,11 @@ fn walk_rest(alloc: Global, bytes: &[u8]) -> Result<(Vec<Line>, u32), PlanFault>
     ensures short { IfOk result (λ read. read.1 ≤ length bytes.now + 1) }
     ensures fault { IfErr result (Tells (lines_read 2 nothing_seen (script_lines bytes.now))) }
 {
-    let mut walk = Walk::new(alloc);
+    let mut walk = Walk {
+        lines: Vec::new(alloc),
+        seen: Seen::new(alloc),
+        number: 2,
+    };
     let mut rest = bytes;
     while !rest.is_empty() {
         let (text, behind) = cut_line(rest);

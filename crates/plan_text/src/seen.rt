@@ -5,7 +5,7 @@ ghost use Rattle.plan_rules.specs.Line as rules;
 ghost use Rattle.plan_rules.specs.Line.{line_read};
 ghost use Rattle.plan_rules.specs.Read.{nothing_seen, seen_after, seen_past, placed};
 ghost use Rattle.text_lines.specs.Tells.{TellsLine};
-ghost use Rattle.plan_text.specs.Tells.{refused, Reads};
+ghost use Rattle.plan_text.specs.Tells.{Reads};
 ghost use Rattle.plan_text.specs.View.{entry_of, name_of};
 
 use crate::entry::Entry;
@@ -71,16 +71,6 @@ impl<'a> Seen<'a> {
         }
     }
 
-    // A fault of a line by itself. In front of the first period it is no line of a plan, whatever its fault.
-    fn refuse(&self, fault: LineFault) -> LineFault
-        ensures { result ≡ refused self.now fault }
-    {
-        match fault {
-            LineFault::Kind(_) if !self.started => LineFault::Kind(PlanKind::BadLine),
-            _ => fault,
-        }
-    }
-
     /// What a line that is not empty says where it stands, or what is wrong with it there.
     pub(crate) fn read(&mut self, alloc: Global, text: &'a [u8]) -> Result<Entry, LineFault>
         ensures entry { Reads (placed self.old (line_read text.now)) result }
@@ -91,7 +81,9 @@ impl<'a> Seen<'a> {
                 self.place(alloc, &said.entry, said.name)?;
                 Ok(said.entry)
             }
-            Err(fault) => Err(self.refuse(fault)),
+            // in front of the first period it is no line of a plan, whatever its fault
+            Err(LineFault::Kind(_)) if !self.started => Err(LineFault::Kind(PlanKind::BadLine)),
+            Err(fault) => Err(fault),
         }
     }
 }
