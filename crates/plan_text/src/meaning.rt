@@ -33,11 +33,7 @@ fn entry_fault(problem: &Problem, entry: &Entry) -> Option<PlanKind>
     match entry {
         Entry::Begins => None,
         Entry::Price { material, .. } => {
-            if has_material(problem, material.as_str()) {
-                None
-            } else {
-                Some(PlanKind::UnknownName)
-            }
+            (!has_material(problem, material.as_str())).then_some(PlanKind::UnknownName)
         }
         Entry::Bounds {
             material,
@@ -45,12 +41,9 @@ fn entry_fault(problem: &Problem, entry: &Entry) -> Option<PlanKind>
             upper,
         } => {
             if !has_material(problem, material.as_str()) {
-                Some(PlanKind::UnknownName)
-            } else if *upper < *lower {
-                Some(PlanKind::LowAboveHigh)
-            } else {
-                None
+                return Some(PlanKind::UnknownName);
             }
+            (*upper < *lower).then_some(PlanKind::LowAboveHigh)
         }
     }
 }
@@ -76,16 +69,6 @@ fn period_count(lines: &[Line]) -> usize
     lines.iter().filter(|line| line.is_begin()).count()
 }
 
-/// Whether the expanded problem would have too many units or materials.
-fn is_too_wide(units: u128, materials: u128, periods: u128) -> bool
-    requires few_units { units ≤ 128 }
-    requires few_materials { materials ≤ 256 }
-    requires few_periods { periods < 2 ^ 64 }
-    ensures { result ≡ is_too_wide units materials periods }
-{
-    128 < units * (periods + 1) || 256 < (materials + units) * periods + units
-}
-
 fn count_fault(problem: &Problem, periods: usize) -> Option<PlanKind>
     ensures { result ≡ count_fault problem.now periods }
 {
@@ -95,7 +78,7 @@ fn count_fault(problem: &Problem, periods: usize) -> Option<PlanKind>
     let count = periods as u128;
     if count == 0 {
         Some(PlanKind::NoPeriod)
-    } else if is_too_wide(units, materials, count) {
+    } else if 128 < units * (count + 1) || 256 < (materials + units) * count + units {
         Some(PlanKind::TooWide)
     } else {
         None
