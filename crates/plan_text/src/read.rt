@@ -84,19 +84,17 @@ pub(crate) fn read_lines(alloc: Global, bytes: &[u8]) -> Result<(Vec<Line>, u32)
     ensures few { IfOk result (λ read. read.1 < 2 ^ 32 - 1) }
     ensures fault { IfErr result (Tells (read_lines bytes.now)) }
 {
+    let untyped = PlanFault::At {
+        line: 1,
+        kind: PlanKind::FileType,
+    };
     if bytes.is_empty() {
-        return Err(PlanFault::At {
-            line: 1,
-            kind: PlanKind::FileType,
-        });
+        return Err(untyped);
     }
     let (first, rest) = cut_line(bytes);
     if first == b"file_type=PNS_plan_v1".as_slice() {
         walk_rest(alloc, rest)
     } else {
-        Err(PlanFault::At {
-            line: 1,
-            kind: PlanKind::FileType,
-        })
+        Err(untyped)
     }
 }
