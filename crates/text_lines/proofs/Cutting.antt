@@ -3,7 +3,7 @@ use Rattle.std.proofs.Common.{◌≡◌, ◌==◌, ◌<◌, ◌≤◌, ◌+◌, 
 use Rattle.std.proofs.lemmas.Bool.{cond-true, cond-false, cases_lt, ne_eqb, lt-ltb, le-ltb}
 use Rattle.std.proofs.lemmas.Grind.{common_steps}
 use Rattle.std.specs.List.{slice_split, onto_first, position_or_len}
-use Rattle.std.proofs.lemmas.List.Splits.{slice_split_first, slice_split-cons_no}
+use Rattle.std.proofs.lemmas.List.Splits.{slice_split_first, slice_split-cons_no, length-slice_split}
 use Rattle.text_rules.specs.Line.{without_empty_last}
 use Rattle.text_lines.specs.Lines.{lines_from, cleaned}
 
@@ -65,14 +65,8 @@ pub more_parts : (x : List ℕ) (parts : List (List ℕ)) → 0 < length parts �
 more_parts x [] lt = absurd (omega arith)
 more_parts x (y ∷ ys) lt = last-more x y ys
 
-some_part : (c : Bool) (x : ℕ) (parts : List (List ℕ)) → 0 < length (cond c ([] ∷ parts) (onto_first x parts))
-some_part true x parts = omega arith
-some_part false x [] = omega arith
-some_part false x (part ∷ parts) = omega arith
-
 pub parts_some : (p : ℕ → Bool) (xs : List ℕ) → 0 < length (slice_split p xs)
-parts_some p [] = omega arith
-parts_some p (x ∷ xs) = some_part (p x) x (slice_split p xs)
+parts_some p xs = let long = length-slice_split p xs in omega (arith, long)
 
 -- a line that is ended by a line feed, and the last one where none is
 pub lines-cut : (rest : List ℕ) (at : ℕ) → at ≡ position_or_len (λ c. c == 10) rest → at < length rest → lines_from rest ≡ cleaned (take at rest) ∷ lines_from (drop (at + 1) rest)

@@ -3,15 +3,13 @@ use Rattle.std.proofs.Common.{◌≡◌, ℕ, ◌+◌, Bool, true, false, cond, 
 use Rattle.std.specs.Borrow.{Bor}
 use Rattle.std.specs.Str.{bytes_eq}
 use Rattle.std.specs.List.{list_any, position, position_or_len}
+use Rattle.std.proofs.Math.Bool.{or_assoc, or_comm}
 use Rattle.std.proofs.lemmas.List.{length-map, map-append}
 use Rattle.std.proofs.lemmas.List.Folds.{list_any-append}
-use Rattle.std.proofs.lemmas.Cmp.{nat_list_eq_equiv}
 use Rattle.problem_rules.specs.Names.{is_among, has_double}
+pub use Rattle.problem_rules.proofs.ItemLemmas.{bytes_eq-sym}
 use Rattle.text_lines.specs.View.{texts}
 use Rattle.text_lines.specs.Once.{with_name, once}
-
-pub bytes_eq-sym : (xs ys : List ℕ) → bytes_eq xs ys ≡ bytes_eq ys xs
-bytes_eq-sym xs ys = nat_list_eq_equiv.symm xs ys
 
 -- a table has the text where it is among the names
 pub has_listed : (text : List ℕ) (keys : List (Bor (List ℕ))) → list_any (λ k. bytes_eq text k.now) keys ≡ is_among (texts keys) text
@@ -44,22 +42,16 @@ once_from seen (name ∷ names) = if is_among seen name then None else once_from
 again : List (List ℕ) → List (List ℕ) → Bool
 again seen names = list_any (is_among seen) names || has_double names
 
-or_other : (a b : Bool) → (a || (b || false)) ≡ (b || a)
-or_other true true = refl
-or_other true false = refl
-or_other false true = refl
-or_other false false = refl
-
 mix : (a r b s : Bool) → ((b || a) || (r || s)) ≡ ((a || r) || (b || s))
 mix true r true s = refl
 mix true r false s = refl
-mix false true true s = refl
-mix false false true s = refl
-mix false true false s = refl
-mix false false false s = refl
+mix false r true s = or_comm true r
+mix false r false s = refl
 
 among_one : (seen : List (List ℕ)) (name x : List ℕ) → is_among (seen ++ name ∷ []) x ≡ (bytes_eq x name || is_among seen x)
-among_one seen name x = list_any-append (λ word. bytes_eq word x) seen (name ∷ []) ∙ or_other (is_among seen x) (bytes_eq name x) ∙ ap (λ (b : Bool). b || is_among seen x) (bytes_eq-sym name x)
+among_one seen name x =
+    list_any-append (λ word. bytes_eq word x) seen (name ∷ []) ∙ or_comm (is_among seen x) (bytes_eq name x || false)
+    ∙ ap (λ (b : Bool). b || is_among seen x) (or_comm (bytes_eq name x) false ∙ bytes_eq-sym name x)
 
 -- a name is met again by those before it and by itself
 any_more : (seen : List (List ℕ)) (name : List ℕ) (names : List (List ℕ)) → list_any (is_among (seen ++ name ∷ [])) names ≡ (list_any (is_among seen) names || is_among names name)
@@ -69,15 +61,11 @@ any_more seen name (x ∷ names) =
     ∙ ap (λ (b : Bool). (bytes_eq x name || is_among seen x) || b) (any_more seen name names)
     ∙ mix (is_among seen x) (list_any (is_among seen) names) (bytes_eq x name) (is_among names name)
 
-turn : (a b c d : Bool) → ((a || b) || d) ≡ (a || (b || d))
-turn true b c d = refl
-turn false b c d = refl
-
 apart : (seen : List (List ℕ)) (name : List ℕ) (names : List (List ℕ)) → again (seen ++ name ∷ []) names ≡ (list_any (is_among seen) names || (is_among names name || has_double names))
 unfolding again
 apart seen name names =
     ap (λ (b : Bool). b || has_double names) (any_more seen name names)
-    ∙ turn (list_any (is_among seen) names) (is_among names name) true (has_double names)
+    ∙ or_assoc (list_any (is_among seen) names) (is_among names name) (has_double names)
 
 once_step : (b : Bool) (seen : List (List ℕ)) (name : List ℕ) (names : List (List ℕ))
     → once_from (seen ++ name ∷ []) names ≡ (if again (seen ++ name ∷ []) names then None else Some ((seen ++ name ∷ []) ++ names))
