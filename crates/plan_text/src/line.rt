@@ -1,8 +1,7 @@
 //! One line of a plan by itself.
 ghost use Rattle.std.specs.Prelude.{◌≡◌, IfOk};
 ghost use Rattle.text_lines.specs.View.{texts};
-ghost use Rattle.script_rules.specs.Line.{tokens_of};
-ghost use Rattle.plan_rules.specs.Line.{kind_of, fields_read, tokens_read, line_read, word_named};
+ghost use Rattle.plan_rules.specs.Line.{kind_of, fields_read, line_read, word_named};
 ghost use Rattle.plan_text.specs.Tells.{fault_from, Reads, Says};
 ghost use Rattle.plan_text.specs.View.{entry_of, name_of, first_of};
 
@@ -89,30 +88,21 @@ fn read_fields(alloc: Global, word: PlanWord, fields: &[&[u8]]) -> Result<Entry,
     }
 }
 
-fn read_tokens<'a>(alloc: Global, tokens: &[&'a [u8]]) -> Result<Said<'a>, LineFault>
-    ensures entry { Says (tokens_read (texts tokens.now)) result }
-    ensures name { IfOk result (λ said. said.name.now ≡ name_of (entry_of said.entry)) }
-{
-    match tokens {
-        [word, fields @ ..] => match word_named(*word) {
-            Some(word) => {
-                let entry = read_fields(alloc, word, fields)?;
-                Ok(Said {
-                    entry,
-                    name: first_of(fields),
-                })
-            }
-            None => Err(LineFault::Kind(PlanKind::BadLine)),
-        },
-        [] => Err(LineFault::Kind(PlanKind::BadLine)),
-    }
-}
-
 /// What a line that is not empty says, or what is wrong with it by itself.
 pub(crate) fn read_line<'a>(alloc: Global, text: &'a [u8]) -> Result<Said<'a>, LineFault>
     ensures entry { Says (line_read text.now) result }
     ensures name { IfOk result (λ said. said.name.now ≡ name_of (entry_of said.entry)) }
 {
     let tokens = tokens_of(alloc, text)?;
-    read_tokens(alloc, &tokens)
+    let [word, fields @ ..] = tokens.as_slice() else {
+        return Err(LineFault::Kind(PlanKind::BadLine));
+    };
+    let Some(word) = word_named(*word) else {
+        return Err(LineFault::Kind(PlanKind::BadLine));
+    };
+    let entry = read_fields(alloc, word, fields)?;
+    Ok(Said {
+        entry,
+        name: first_of(fields),
+    })
 }
