@@ -1,8 +1,7 @@
 //! The faults of meaning of lines without a fault of form.
 ghost use Rattle.std.specs.Prelude.{◌≡◌, ◌<◌, ◌≤◌, ◌+◌, ◌-◌, ◌*◌, ◌^◌, length};
 ghost use Rattle.edit_rules.specs.Place.{has_material, material_place};
-ghost use Rattle.plan_rules.specs.Meaning.{entry_fault, lines_fault, period_count, count_fault, meaning_fault};
-ghost use Rattle.plan_rules.specs.Plan.{is_too_wide};
+ghost use Rattle.plan_rules.specs.Meaning.{entry_fault, lines_fault, count_fault, meaning_fault};
 ghost use Rattle.plan_text.specs.View.{entry_of};
 
 use crate::entry::{Entry, Line};
@@ -14,10 +13,9 @@ use pns_problem::Problem;
 pub(crate) fn material_place(problem: &Problem, name: &str) -> usize
     ensures { result ≡ material_place problem.now name.now }
 {
-    match problem.material_named(name) {
-        Some(number) => number as usize,
-        None => problem.materials().len(),
-    }
+    problem
+        .material_named(name)
+        .map_or(problem.materials().len(), |number| number as usize)
 }
 
 #[tactic(auto, using(crate::proofs::Places::known, crate::proofs::Places::unknown))]
@@ -61,14 +59,6 @@ fn lines_fault(problem: &Problem, lines: &[Line]) -> Option<(u32, PlanKind)>
     None
 }
 
-#[tactic(auto, using(crate::proofs::Periods::counted))]
-fn period_count(lines: &[Line]) -> usize
-    ensures value { result ≡ period_count lines.now }
-    ensures few { result ≤ length lines.now }
-{
-    lines.iter().filter(|line| line.is_begin()).count()
-}
-
 fn count_fault(problem: &Problem, periods: usize) -> Option<PlanKind>
     ensures { result ≡ count_fault problem.now periods }
 {
@@ -86,6 +76,7 @@ fn count_fault(problem: &Problem, periods: usize) -> Option<PlanKind>
 }
 
 /// The first fault of meaning of the lines of a text that has so many lines, with its line.
+#[tactic(auto, using(crate::proofs::Periods::counted))]
 pub(crate) fn meaning_fault(
     problem: &Problem,
     count: u32,
@@ -97,7 +88,8 @@ pub(crate) fn meaning_fault(
     if let Some(fault) = lines_fault(problem, lines) {
         return Some(fault);
     }
-    match count_fault(problem, period_count(lines)) {
+    let periods = lines.iter().filter(|line| line.is_begin()).count();
+    match count_fault(problem, periods) {
         Some(kind) => Some((count + 1, kind)),
         None => None,
     }
