@@ -17,4 +17,4 @@ pub use file::bytes_of;
 pub use plan_file::plan_of;
 pub use problem_file::problem_of;
 pub use script_file::edited_of;
-pub use tree_file::{tree_kind_word, tree_of};
+pub use tree_file::{say_tree_fault, tree_kind_word, tree_of};

@@ -49,7 +49,8 @@ fn tree_fault_line(alloc: Global, number: u32, kind: TreeKind) -> Result<String,
     Ok(text)
 }
 
-fn say_tree_fault<K: Sink>(alloc: Global, out: &mut K, number: u32, kind: TreeKind) -> Status
+/// Says the first fault of the text of a tree or of a ranking: its line and its kind.
+pub fn say_tree_fault<K: Sink>(alloc: Global, out: &mut K, number: u32, kind: TreeKind) -> Status
     ensures { Ends (OrMemory (Only BadTree (line (tree_fault_line number kind)))) (K.state out.old) (K.state out.new) result }
 {
     match tree_fault_line(alloc, number, kind) {

@@ -1,46 +1,22 @@
 //! A file that has a ranking: it is read and judged by its grammar.
-ghost use Rattle.std.specs.Prelude.{◌≡◌, ◌≤◌, ◌<◌, ◌^◌, ℕ, List, IfOk, IfErr, OnOk, length, string_bytes};
-ghost use Rattle.studio_rules.specs.Lines.{line};
+ghost use Rattle.std.specs.Prelude.{◌≡◌, ◌≤◌, ◌<◌, ◌^◌, ℕ, List, IfOk, IfErr, OnOk, length};
 ghost use Rattle.rank_text.specs.Known.{KnowsText};
 ghost use Rattle.studio_rules.specs.Reading.{AreHeld};
-ghost use Rattle.studio_rules.specs.TreeFile.{tree_fault_line};
 ghost use Rattle.studio_rules.specs.Rankcheck.{GivesRanking, RankFaults};
-ghost use Rattle.studio_rules.specs.Ending.{Ends, Says, Only, OrMemory};
-ghost use Rattle.studio_rules.specs.declared.status.Status.TheVariants.{BadTree};
+ghost use Rattle.studio_rules.specs.Ending.{Ends, Says};
 
-use command_files::{bytes_of, tree_kind_word};
-use endings::say::{say, say_memory};
+use command_files::{bytes_of, say_tree_fault};
+use endings::say::say_memory;
 use pns_io::{Shelf, Sink};
 use pns_problem::Problem;
 use rank_text::read_rank;
 use ranked_tree::RankText;
-use std::alloc::{AllocError, Global};
+use std::alloc::Global;
 use studio_rules::Status;
 use tree_reading::TreeFault;
-use tree_text_rules::TreeKind;
 
 /// The most bytes of a file that has a ranking.
 const RANK_LIMIT: u64 = 268_435_456;
-
-fn fault_line(alloc: Global, number: u32, kind: TreeKind) -> Result<String, AllocError>
-    ensures { IfOk result (λ text. string_bytes text ≡ line (tree_fault_line number kind)) }
-{
-    let mut text = String::from_str(alloc, "tree line ")?;
-    write!(text, "{number}")?;
-    text.push(' ')?;
-    text.push_str(tree_kind_word(kind))?;
-    text.push('\n')?;
-    Ok(text)
-}
-
-fn say_fault<K: Sink>(alloc: Global, out: &mut K, number: u32, kind: TreeKind) -> Status
-    ensures { Ends (OrMemory (Only BadTree (line (tree_fault_line number kind)))) (K.state out.old) (K.state out.new) result }
-{
-    match fault_line(alloc, number, kind) {
-        Ok(text) => say(out, text.as_bytes(), Status::BadTree),
-        Err(_) => say_memory(out),
-    }
-}
 
 /// Reads the file and judges its text as a ranking for the problem. Where that gives none the text that tells why is out, and the
 /// status is that of the call.
@@ -65,7 +41,7 @@ pub(crate) fn rank_of<F: Shelf, K: Sink>(
     };
     match read_rank(alloc, problem, &bytes) {
         Ok(text) => Ok(text),
-        Err(TreeFault::At { line, kind }) => Err(say_fault(alloc, out, line, kind)),
+        Err(TreeFault::At { line, kind }) => Err(say_tree_fault(alloc, out, line, kind)),
         Err(TreeFault::Memory) => Err(say_memory(out)),
     }
 }

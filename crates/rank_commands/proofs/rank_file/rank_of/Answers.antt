@@ -34,7 +34,7 @@ returns-in-Err-At-clause-told g c =
       (c.in-Ok.bytes.items, c.in-Ok.ensures.whole, (c.in-Ok.ensures.within, (c.in-Err-At.line, c.in-Err-At.kind, told, refl))),
       one_line (tree_fault_line c.in-Err-At.line c.in-Err-At.kind),
     ) ([], inl refl, refl))
-    c.say_fault.ensures
+    c.say_tree_fault.ensures
 
 pub returns-clause-told : goal.returns-clause-told
 returns-clause-told g c =
