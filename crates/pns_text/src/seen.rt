@@ -145,7 +145,6 @@ impl<'a> Seen<'a> {
     ) -> Taken<'a>
         ensures { Takes (seen_view self.old) (record { number = number; section = section; header = false; text = text.now }) (seen_view self.new) result }
     {
-        let name = head_of(text);
         match section {
             Section::Preamble => skip(number, text),
             Section::MeasurementUnits => skip(number, text),
@@ -157,6 +156,7 @@ impl<'a> Seen<'a> {
                 Ok(Some(Cut::Default))
             }
             Section::Materials => {
+                let name = head_of(text);
                 let items = items_of(alloc, text)?;
                 if let Some(kind) = material_kind(&self.names.materials, name, &items) {
                     return Err(TextFault::At { line: number, kind });

@@ -50,10 +50,15 @@ impl<'a> Walk<'a> {
             self.number += 1;
             return Ok(());
         }
+        let header = is_header(text);
         let line = Placed {
             number: self.number,
-            section: section_after(self.section, text),
-            header: is_header(text),
+            section: if header {
+                section_after(self.section, text)
+            } else {
+                self.section
+            },
+            header,
             text,
         };
         self.take_line(alloc, &line)
