@@ -1,16 +1,20 @@
--- The faults of form of a text: which stand at a line, and which is the first. Each kind is one clause over a line that is
--- taken apart and the lines before it; of the kinds that stand at a line the first of the list is told.
-use Rattle.std.specs.Prelude.{◌==◌, ◌&&◌, ◌||◌, ℕ, Bool, true, false, List, [], ◌∷◌, ◌++◌, length, map, filter, codes, not, nat_le, nat_lt, Option, Some, None, Result, Err, is_none, find, ◌%◌, ℤ, pos, int_lt, unsigned_abs, if◌then◌else◌}
+-- The faults of form of a text: the first kind at a line, by what stands on it and what was seen on the lines before it, and the
+-- first line that has one. At a line that has several kinds the first in the order of `TextKind` is told: a line's tests stand in that order.
+use Rattle.std.specs.Prelude.{◌==◌, ◌%◌, ◌&&◌, ◌||◌, ℕ, ℤ, Bool, true, false, List, [], ◌∷◌, ◌++◌, length, map, filter, find, codes, not, nat_le, nat_lt, Option, Some, None, is_none, Result, Err, pos, int_lt, unsigned_abs, if◌then◌else◌}
 use Rattle.std.specs.List.{list_any}
 use Rattle.std.specs.Str.{bytes_eq}
 use Rattle.std.specs.Result.{result_unwrap_or}
+use Rattle.problem_rules.specs.Names.{is_name, is_among, has_double}
 use Rattle.text_rules.specs.declared.TextKind.{TextKind}
 use Rattle.text_rules.specs.declared.TextKind.TheVariants.{FileType, UnknownSection, DoubleSection, BadLine, BadName, UnknownKey, DoubleKey, BadNumber, TooFine, TooLarge, Negative, UnknownKind, ZeroRate, DoubleTerm, BothSides, EmptySide, DoubleMaterial, DoubleUnit, DoubleRates, TooMany, DoubleExclusion, DoubleMember, FewMembers, BadPayout}
-use Rattle.problem_rules.specs.Names.{is_name, is_among, has_double, distinct}
 use Rattle.text_rules.specs.Amount.{amount_of}
-use Rattle.text_rules.specs.declared.Section.TheVariants.{Defaults, Materials, OperatingUnits, Rates, Exclusions}
-use Rattle.text_rules.specs.Line.{section_named, is_colon, body_of}
-use Rattle.text_rules.specs.Field.{Line, taken_apart, is_in, is_entry, lines_in, names_in, has_key, key_of, value_of, material_of, terms_in, materials_of, left, right, kind_words, material_keys, unit_keys, default_keys, material_type, payout_period, for_material, for_unit, fields_of, numbers_of}
+use Rattle.text_rules.specs.declared.Section.{Section}
+use Rattle.text_rules.specs.declared.Section.TheVariants.{Preamble, MeasurementUnits, Defaults, Materials, OperatingUnits, Rates, Exclusions}
+use Rattle.text_rules.specs.Line.{Placed, is_at, section_named, is_colon, head_of, body_of}
+use Rattle.text_rules.specs.Field.{has_key, key_of, value_of, items_of, sides_of, keyed, is_keyed, kind_words, material_keys, unit_keys, default_keys, material_type, payout_period, for_material, for_unit}
+use Rattle.text_rules.specs.Term.{Pair, sides_read}
+
+-- ---- numbers
 
 -- a number's fault
 abbrev pub is_bad : Result ℤ TextKind → Bool
@@ -33,100 +37,250 @@ abbrev pub may_be_negative : List ℕ → Bool
 may_be_negative = is_among (codes "price" ∷ codes "proportional_cost" ∷ codes "investment_proportional_cost"
     ∷ for_material (codes "price") ∷ for_unit (codes "proportional_cost") ∷ for_unit (codes "investment_proportional_cost") ∷ payout_period ∷ [])
 
+-- A number that was read so, at which the kind stands, whatever its key. Numbers are judged one kind after the other: one that is no
+-- number, too fine or too large counts as 0 for the kinds behind, and is told before them. `-0` is not below 0, and as a rate it is 0.
+abbrev pub number_stands : TextKind → Result ℤ TextKind → Bool
+number_stands BadNumber amount = is_bad amount
+number_stands TooFine amount = is_too_fine amount
+number_stands TooLarge amount = is_too_large amount
+number_stands Negative amount = int_lt (result_unwrap_or amount (pos 0)) (pos 0)
+number_stands ZeroRate amount = not (int_lt (result_unwrap_or amount (pos 0)) (pos 0)) && not (int_lt (pos 0) (result_unwrap_or amount (pos 0)))
+number_stands kind amount = false
+
+-- by its key
+abbrev pub value_stands : TextKind → List ℕ → Result ℤ TextKind → Bool
+value_stands Negative key amount = number_stands Negative amount && not (may_be_negative key)
+value_stands kind key amount = number_stands kind amount
+
+-- the kinds that may stand at any number
+abbrev pub number_kinds : List TextKind
+number_kinds = BadNumber ∷ TooFine ∷ TooLarge ∷ Negative ∷ []
+
+-- the first of two
+abbrev pub or_kind : Option TextKind → Option TextKind → Option TextKind
+or_kind (Some kind) rest = Some kind
+or_kind None rest = rest
+
+-- ---- defaults
+
 -- a whole number of years from 1 to 100
 abbrev pub is_payout : ℤ → Bool
 is_payout z = int_lt (pos 0) z && unsigned_abs z % 1000000 == 0 && nat_le (unsigned_abs z) 100000000
 
--- A line without its section's form. An item of a material may not be empty, an item of a unit needs its `=` (a kind word has
--- none), rates need a colon, two sides and one or two tokens a term, exclusions a colon and no empty item, and all other lines
--- an `=`. A line without a colon has its name alone, so an item that stands there makes a bad name.
-abbrev pub lacks_form : Line → Bool
-lacks_form line =
-    if line.header then false
-    else if is_in Materials line then list_any (λ item. length item == 0) line.items
-    else if is_in OperatingUnits line then list_any (λ item. not (has_key item)) line.items
-    else if is_in Rates line then
-    not (list_any is_colon line.text) || not (length line.sides == 2) || list_any (λ term. length term == 0 || nat_lt 2 (length term)) (terms_in line)
-    else if is_in Exclusions line then not (list_any is_colon line.text) || list_any (λ item. length item == 0) line.items
-    else not (has_key line.text)
+-- a default whose value is a number, at which the kind stands
+abbrev pub default_number_stands : TextKind → List ℕ → Bool
+default_number_stands kind text = not (bytes_eq (key_of text) material_type) && value_stands kind (key_of text) (amount_of (value_of text))
 
--- the keys that an item of a line may have: that of `material_type` is for defaults alone
-abbrev pub keys_of_section : Line → List (List ℕ)
-keys_of_section line =
-    if is_in Defaults line then default_keys else if is_in Materials line then material_keys else unit_keys
+-- Behind its number. A payout period below 1 is a bad payout period and no negative number.
+abbrev pub default_rest : List ℕ → Option TextKind
+default_rest text =
+    if bytes_eq (key_of text) material_type && not (is_among kind_words (value_of text)) then Some UnknownKind
+    else if bytes_eq (key_of text) payout_period && not (is_payout (millionths (value_of text))) then Some BadPayout
+    else None
 
--- the items that have a key, and the line of a default
-abbrev pub keyed_items : Line → List (List ℕ)
-keyed_items line = if is_in Defaults line then line.text ∷ [] else if is_in Materials line || is_in OperatingUnits line then filter has_key line.items else []
+-- at a line of defaults, by the keys before it
+abbrev pub default_fault : List (List ℕ) → List ℕ → Option TextKind
+default_fault keys text =
+    if not (has_key text) then Some BadLine
+    else if not (is_among default_keys (key_of text)) then Some UnknownKey
+    else if is_among keys (key_of text) then Some DoubleKey
+    else or_kind (find (λ kind. default_number_stands kind text) number_kinds) (default_rest text)
 
--- a kind of something that stands twice stands at the line, where these lines stand before it; no other kind does
-abbrev pub stands_twice : List Line → Line → TextKind → Bool
-stands_twice before line DoubleSection = line.header && list_any (λ other. other.header && bytes_eq other.name line.name) before
-stands_twice before line DoubleKey =
-    if is_in Defaults line then is_among (map (λ other. key_of other.text) (lines_in Defaults before)) (key_of line.text)
-    else if is_in Rates line then false
-    else has_double (map (λ field. field.0) (fields_of line))
-stands_twice before line DoubleTerm = is_in Rates line && (has_double (materials_of (left line)) || has_double (materials_of (right line)))
-stands_twice before line DoubleMaterial = is_in Materials line && is_among (names_in Materials before) line.name
-stands_twice before line DoubleUnit = is_in OperatingUnits line && is_among (names_in OperatingUnits before) line.name
-stands_twice before line DoubleRates = is_in Rates line && is_among (names_in Rates before) line.name
-stands_twice before line DoubleExclusion = is_in Exclusions line && is_among (names_in Exclusions before) line.name
-stands_twice before line DoubleMember = is_in Exclusions line && has_double line.items
-stands_twice before line kind = false
+-- ---- materials and operating units
 
--- a material, an exclusion or a unit with another name, where the most of them stand before it
-abbrev pub is_one_too_many : List Line → Line → Bool
-is_one_too_many before line =
-    if is_in Materials line then nat_le 256 (length (lines_in Materials before))
-    else if is_in Exclusions line then nat_le 64 (length (lines_in Exclusions before))
-    else (is_in OperatingUnits line || is_in Rates line)
-    && not (is_among (names_in OperatingUnits before ++ names_in Rates before) line.name)
-    && nat_le 128 (length (distinct (names_in OperatingUnits before ++ names_in Rates before)))
+-- the key of an item, and its value
+abbrev pub field_key : List ℕ → List ℕ
+field_key item = (keyed item).0
 
--- The kinds of form that stand at a line, where these lines stand before it.
--- A name and an item are judged apart, so a line may have several kinds. Numbers are judged one kind after the other: one that
--- is no number, too fine or too large counts as 0 for the kinds behind, and is told before them.
--- `-0` is not below 0, and as a rate it is 0. A payout period below 1 is a bad payout period and no negative number.
--- A side without tokens is no bad line: what stands on the other side by an earlier kind is told first.
--- Lines of exclusions are counted, not their names: a 65th is one too many even where it repeats a name. Names of units are
--- counted in both sections together. A doubled member is judged by its text, whether the unit is known or not.
-abbrev pub stands : List Line → Line → TextKind → Bool
-stands before line UnknownSection = line.header && is_none (section_named line.name)
-stands before line BadLine = lacks_form line
-stands before line BadName = (is_entry line && not (is_name line.name))
-    || list_any (λ term. not (is_name (material_of term))) (terms_in line)
-    || (is_in Exclusions line && list_any (λ item. not (is_name item)) line.items)
-stands before line UnknownKey = list_any (λ item. not (is_among (keys_of_section line) (key_of item))) (keyed_items line)
-stands before line BadNumber = list_any (λ field. is_bad (amount_of field.1)) (numbers_of line)
-stands before line TooFine = list_any (λ field. is_too_fine (amount_of field.1)) (numbers_of line)
-stands before line TooLarge = list_any (λ field. is_too_large (amount_of field.1)) (numbers_of line)
-stands before line Negative = list_any (λ field. int_lt (millionths field.1) (pos 0) && not (may_be_negative field.0)) (numbers_of line)
-stands before line UnknownKind =
-    if is_in Materials line then list_any (λ item. not (has_key item) && not (is_among kind_words item)) line.items
-    else is_in Defaults line && bytes_eq (key_of line.text) material_type && not (is_among kind_words (value_of line.text))
-stands before line ZeroRate = is_in Rates line && list_any (λ field. not (int_lt (millionths field.1) (pos 0)) && not (int_lt (pos 0) (millionths field.1))) (numbers_of line)
-stands before line BothSides = is_in Rates line && list_any (is_among (materials_of (right line))) (materials_of (left line))
-stands before line EmptySide = is_in Rates line && list_any (λ side. length side == 0) line.sides
-stands before line TooMany = is_one_too_many before line
-stands before line FewMembers = is_in Exclusions line && nat_lt (length line.items) 2
-stands before line BadPayout = is_in Defaults line && bytes_eq (key_of line.text) payout_period && not (is_payout (millionths (value_of line.text)))
-stands before line kind = stands_twice before line kind
+abbrev pub field_value : List ℕ → List ℕ
+field_value item = (keyed item).1
 
-abbrev pub form_kinds : List TextKind
-form_kinds = UnknownSection ∷ DoubleSection ∷ BadLine ∷ BadName ∷ UnknownKey ∷ DoubleKey ∷ BadNumber ∷ TooFine ∷ TooLarge ∷ Negative ∷ UnknownKind ∷ ZeroRate ∷ DoubleTerm ∷ BothSides ∷ EmptySide ∷ DoubleMaterial ∷ DoubleUnit
-    ∷ DoubleRates ∷ TooMany ∷ DoubleExclusion ∷ DoubleMember ∷ FewMembers ∷ BadPayout ∷ []
+-- an item whose value is a number
+abbrev pub has_number : List ℕ → Bool
+has_number item = is_keyed item && not (bytes_eq (field_key item) material_type)
+
+abbrev pub item_stands : TextKind → List ℕ → Bool
+item_stands kind item = has_number item && value_stands kind (field_key item) (amount_of (field_value item))
+
+-- the key of `material_type` is for defaults alone
+abbrev pub has_unknown_key : List (List ℕ) → List ℕ → Bool
+has_unknown_key keys item = has_key item && not (is_among keys (key_of item))
+
+-- the keys of the items that have one
+abbrev pub keys_in : List (List ℕ) → List (List ℕ)
+keys_in items = map field_key (filter is_keyed items)
+
+-- the first kind at the name or at the fields of a line of items, which may have these keys
+abbrev pub fields_fault : List (List ℕ) → List ℕ → List (List ℕ) → Option TextKind
+fields_fault keys name items =
+    if not (is_name name) then Some BadName
+    else if list_any (has_unknown_key keys) items then Some UnknownKey
+    else if has_double (keys_in items) then Some DoubleKey
+    else find (λ kind. list_any (item_stands kind) items) number_kinds
+
+abbrev pub is_unknown_kind : List ℕ → Bool
+is_unknown_kind item = not (has_key item) && not (is_among kind_words item)
+
+-- at a material, behind its fields
+abbrev pub material_rest : List (List ℕ) → List ℕ → List (List ℕ) → Option TextKind
+material_rest names name items =
+    if list_any is_unknown_kind items then Some UnknownKind
+    else if is_among names name then Some DoubleMaterial
+    else if nat_le 256 (length names) then Some TooMany
+    else None
+
+-- At a line of materials, by the names of the materials before it. An item of a material may not be empty; a line without a colon
+-- has its name alone, so an item that stands there makes a bad name.
+abbrev pub material_fault : List (List ℕ) → List ℕ → List (List ℕ) → Option TextKind
+material_fault names name items =
+    if list_any (λ item. length item == 0) items then Some BadLine
+    else or_kind (fields_fault material_keys name items) (material_rest names name items)
+
+-- a name of a unit beyond the greatest number of them, which are counted in both sections together
+abbrev pub is_beyond : List (List ℕ) → List ℕ → Bool
+is_beyond seen name = not (is_among seen name) && nat_le 128 (length seen)
+
+-- at a unit, behind its fields
+abbrev pub unit_rest : List (List ℕ) → List (List ℕ) → List ℕ → Option TextKind
+unit_rest names seen name =
+    if is_among names name then Some DoubleUnit
+    else if is_beyond seen name then Some TooMany
+    else None
+
+-- At a line of operating units, by the names of such lines before it and by all names of units that were seen. An item of a unit
+-- needs its `=`: a kind word has none.
+abbrev pub unit_fault : List (List ℕ) → List (List ℕ) → List ℕ → List (List ℕ) → Option TextKind
+unit_fault names seen name items =
+    if list_any (λ item. not (has_key item)) items then Some BadLine
+    else or_kind (fields_fault unit_keys name items) (unit_rest names seen name)
+
+-- ---- rates
+
+-- the materials of the terms
+abbrev pub names_of : List Pair → List (List ℕ)
+names_of = map (λ term. term.1)
+
+-- a rate at which the kind stands
+abbrev pub rate_stands : TextKind → Pair → Bool
+rate_stands kind term = number_stands kind (amount_of term.0)
+
+abbrev pub rate_kinds : List TextKind
+rate_kinds = BadNumber ∷ TooFine ∷ TooLarge ∷ Negative ∷ ZeroRate ∷ []
+
+-- the first kind of the name or of a term
+abbrev pub term_fault : List ℕ → List Pair → List Pair → Option TextKind
+term_fault name left right =
+    if not (is_name name) || list_any (λ term. not (is_name term.1)) (left ++ right) then Some BadName
+    else find (λ kind. list_any (rate_stands kind) (left ++ right)) rate_kinds
+
+-- where a material comes twice
+abbrev pub doubled : List Pair → List Pair → Option TextKind
+doubled left right =
+    if has_double (names_of left) || has_double (names_of right) then Some DoubleTerm
+    else if list_any (is_among (names_of right)) (names_of left) then Some BothSides else None
+
+-- a kind of the whole line
+abbrev pub whole_fault : List (List ℕ) → List (List ℕ) → List ℕ → List Pair → List Pair → Option TextKind
+whole_fault names seen name left right =
+    if length left == 0 || length right == 0 then Some EmptySide
+    else if is_among names name then Some DoubleRates
+    else if is_beyond seen name then Some TooMany
+    else None
+
+-- At a line of rates, by the names of such lines before it and by all names of units that were seen: where there are two sides
+-- of terms, the first kind. A side without tokens is no bad line: what stands on the other side by an earlier kind is told first.
+abbrev pub sides_fault : List (List ℕ) → List (List ℕ) → List ℕ → Option (List Pair × List Pair) → Option TextKind
+sides_fault names seen name None = Some BadLine
+sides_fault names seen name (Some sides) =
+    or_kind (term_fault name sides.0 sides.1) (or_kind (doubled sides.0 sides.1) (whole_fault names seen name sides.0 sides.1))
+
+-- ---- exclusions
+
+-- At a line of exclusions, by the names of the exclusions before it. Lines are counted, not their names: a 65th is one too many even
+-- where it repeats a name. A doubled member is judged by its text, whether the unit is known or not.
+abbrev pub exclusion_fault : List (List ℕ) → List ℕ → List ℕ → List (List ℕ) → Option TextKind
+exclusion_fault names text name items =
+    if not (list_any is_colon text) || list_any (λ item. length item == 0) items then Some BadLine
+    else if not (is_name name) || list_any (λ item. not (is_name item)) items then Some BadName
+    else if nat_le 64 (length names) then Some TooMany
+    else if is_among names name then Some DoubleExclusion
+    else if has_double items then Some DoubleMember
+    else if nat_lt (length items) 2 then Some FewMembers
+    else None
+
+-- ---- lines
+
+-- What was seen on the lines before a line: the names of headers, the keys of defaults and the names of entries; `unit_names` has
+-- each name of a unit once.
+pub record Seen : Type 0 where
+  pub headers : List (List ℕ)
+  pub keys : List (List ℕ)
+  pub materials : List (List ℕ)
+  pub units : List (List ℕ)
+  pub rates : List (List ℕ)
+  pub exclusions : List (List ℕ)
+  pub unit_names : List (List ℕ)
+
+abbrev pub seen_none : Seen
+seen_none = record { headers = []; keys = []; materials = []; units = []; rates = []; exclusions = []; unit_names = [] }
+
+-- one more name at the end, where there is one
+abbrev pub more_if : Bool → List (List ℕ) → List ℕ → List (List ℕ)
+more_if b names name = if b then names ++ name ∷ [] else names
+
+-- a list with a name that it had or has not
+abbrev pub with_name : List (List ℕ) → List ℕ → List (List ℕ)
+with_name names name = if is_among names name then names else names ++ name ∷ []
+
+-- what was seen with the line
+abbrev pub seen_after : Seen → Placed → Seen
+seen_after seen line = if line.header then record seen { headers = seen.headers ++ head_of line.text ∷ [] } else record {
+  headers = seen.headers;
+  keys = more_if (is_at Defaults line) seen.keys (key_of line.text);
+  materials = more_if (is_at Materials line) seen.materials (head_of line.text);
+  units = more_if (is_at OperatingUnits line) seen.units (head_of line.text);
+  rates = more_if (is_at Rates line) seen.rates (head_of line.text);
+  exclusions = more_if (is_at Exclusions line) seen.exclusions (head_of line.text);
+  unit_names = if is_at OperatingUnits line || is_at Rates line then with_name seen.unit_names (head_of line.text) else seen.unit_names;
+}
+
+-- at a header of this name
+abbrev pub header_fault : List (List ℕ) → List ℕ → Option TextKind
+header_fault headers name = if is_none (section_named name) then Some UnknownSection else if is_among headers name then Some DoubleSection else None
+
+-- at a line that is read past: it needs an `=`
+abbrev pub skipped_fault : List ℕ → Option TextKind
+skipped_fault text = if has_key text then None else Some BadLine
+
+-- at a line of a section
+abbrev pub entry_fault : Seen → Section → List ℕ → Option TextKind
+entry_fault seen Preamble text = skipped_fault text
+entry_fault seen MeasurementUnits text = skipped_fault text
+entry_fault seen Defaults text = default_fault seen.keys text
+entry_fault seen Materials text = material_fault seen.materials (head_of text) (items_of text)
+entry_fault seen OperatingUnits text = unit_fault seen.units seen.unit_names (head_of text) (items_of text)
+entry_fault seen Rates text = sides_fault seen.rates seen.unit_names (head_of text) (sides_read (sides_of text))
+entry_fault seen Exclusions text = exclusion_fault seen.exclusions text (head_of text) (items_of text)
+
+-- at any line
+abbrev pub line_fault : Seen → Placed → Option TextKind
+line_fault seen line = if line.header then header_fault seen.headers (head_of line.text) else entry_fault seen line.section line.text
+
+-- ---- texts
 
 -- a line's number and a kind
 abbrev pub Fault : Type 0
 Fault = ℕ × TextKind
 
--- The first line at which a kind of the list stands, with the first such kind. `before` has the lines in front, the last first.
-abbrev pub first_of : (List Line → Line → TextKind → Bool) → List TextKind → List Line → List Line → Option Fault
-first_of test kinds before [] = None
-first_of test kinds before (line ∷ lines) = elim (find (test before line) kinds) [
-  | None ↦ first_of test kinds (line ∷ before) lines
-  | Some kind ↦ Some (line.number, kind)
-]
+-- the kind at a line of this number, or else what is found behind it
+abbrev pub fault_or : ℕ → Option TextKind → Option Fault → Option Fault
+fault_or number (Some kind) rest = Some (number, kind)
+fault_or number None rest = rest
+
+-- the first of the lines at which a kind stands, with that kind
+abbrev pub first_fault : Seen → List Placed → Option Fault
+first_fault seen [] = None
+first_fault seen (line ∷ lines) = fault_or line.number (line_fault seen line) (first_fault (seen_after seen line) lines)
 
 abbrev pub file_type : List ℕ
 file_type = codes "file_type=PNS_problem_v1"
@@ -136,9 +290,6 @@ abbrev pub first_is_type : List (List ℕ) → Bool
 first_is_type [] = false
 first_is_type (first ∷ texts) = bytes_eq first file_type
 
-abbrev pub parts_of : List (List ℕ) → List Line
-parts_of texts = map taken_apart (body_of texts)
-
 -- the first fault of form
 abbrev pub form_fault : List (List ℕ) → Option Fault
-form_fault texts = if first_is_type texts then first_of stands form_kinds [] (parts_of texts) else Some (1, FileType)
+form_fault texts = if first_is_type texts then first_fault seen_none (body_of texts) else Some (1, FileType)

@@ -1,13 +1,11 @@
--- The fields of a line: its name, its items with keys and values, and its sides with terms. What a line consists of does not
--- depend on its section: each line is taken apart in all these ways, and its section says which of them count.
-use Rattle.std.specs.Prelude.{◌==◌, ◌&&◌, ◌||◌, ℕ, Bool, List, [], ◌∷◌, ◌++◌, length, map, filter, flat_map, codes, not, slice_index_or, if◌then◌else◌}
+-- The fields of a line: its items with keys and values, and its sides with terms. What a line consists of does not depend on its
+-- section, which says what of it counts.
+use Rattle.std.specs.Prelude.{◌==◌, ◌||◌, ℕ, Bool, List, [], ◌∷◌, ◌++◌, length, map, filter, codes, not, if◌then◌else◌}
 use Rattle.std.specs.List.{list_any, before_first, after_first, slice_split}
 use Rattle.std.specs.Str.{bytes_eq, byte}
 use Rattle.problem_rules.specs.Names.{is_among}
 use Rattle.text_rules.specs.Blanks.{is_blank, trim}
-use Rattle.text_rules.specs.declared.Section.{Section}
-use Rattle.text_rules.specs.declared.Section.TheVariants.{Defaults, Materials, OperatingUnits, Rates, Exclusions}
-use Rattle.text_rules.specs.Line.{is_section, is_colon, head_of, tail_of, Placed}
+use Rattle.text_rules.specs.Line.{is_colon, tail_of}
 
 -- the first `=` of an item parts its key from its value; blanks round it are dropped
 abbrev pub is_equals : ℕ → Bool
@@ -40,43 +38,6 @@ terms_of (token ∷ tokens) = slice_split (λ t. bytes_eq t (codes "+")) (token 
 abbrev pub sides_of : List ℕ → List (List (List (List ℕ)))
 sides_of text = map terms_of (slice_split (λ token. bytes_eq token (codes "=>")) (tokens_of (tail_of text)))
 
--- A line that is taken apart. Its name is what stands before the first colon, or the whole line where there is none: nothing
--- else parts a name from what follows.
-pub record Line : Type 0 where
-  pub number : ℕ
-  pub section : Section
-  pub header : Bool
-  pub text : List ℕ
-  pub name : List ℕ
-  pub items : List (List ℕ)
-  pub sides : List (List (List (List ℕ)))
-
-abbrev pub taken_apart : Placed → Line
-taken_apart line = record {
-  number = line.number;
-  section = line.section;
-  header = line.header;
-  text = line.text;
-  name = head_of line.text;
-  items = items_of line.text;
-  sides = sides_of line.text;
-}
-
--- a line of the section that is no header
-abbrev pub is_in : Section → Line → Bool
-is_in section line = is_section section line.section && not line.header
-
--- a line that begins with a name
-abbrev pub is_entry : Line → Bool
-is_entry line = is_in Materials line || is_in OperatingUnits line || is_in Rates line || is_in Exclusions line
-
--- the lines of the section
-abbrev pub lines_in : Section → List Line → List Line
-lines_in section = filter (is_in section)
-
-abbrev pub names_in : Section → List Line → List (List ℕ)
-names_in section lines = map (λ line. line.name) (lines_in section lines)
-
 -- The last token of a term is its material, and the first of two is its rate; a rate that is left out is 1. So one token
 -- stands in a name's place, whatever it is.
 abbrev pub material_of : List (List ℕ) → List ℕ
@@ -87,19 +48,6 @@ material_of (token ∷ next ∷ tokens) = material_of (next ∷ tokens)
 abbrev pub rate_of : List (List ℕ) → List ℕ
 rate_of (token ∷ next ∷ tokens) = token
 rate_of tokens = codes "1"
-
--- the terms of a line of the rates
-abbrev pub terms_in : Line → List (List (List ℕ))
-terms_in line = if is_in Rates line then flat_map (λ side. side) line.sides else []
-
-abbrev pub materials_of : List (List (List ℕ)) → List (List ℕ)
-materials_of = map material_of
-
-abbrev pub left : Line → List (List (List ℕ))
-left line = slice_index_or line.sides 0 []
-
-abbrev pub right : Line → List (List (List ℕ))
-right line = slice_index_or line.sides 1 []
 
 -- the words and keys of the sections
 abbrev pub kind_words : List (List ℕ)
@@ -135,14 +83,3 @@ keyed item = if is_among kind_words item then (material_type, item) else (key_of
 -- an item with a key or a kind word
 abbrev pub is_keyed : List ℕ → Bool
 is_keyed item = has_key item || is_among kind_words item
-
--- the keys and values of a line; a rate has a key of its own
-abbrev pub fields_of : Line → List (List ℕ × List ℕ)
-fields_of line =
-    if is_in Defaults line then (key_of line.text, value_of line.text) ∷ []
-    else if is_in Materials line || is_in OperatingUnits line then map keyed (filter is_keyed line.items)
-    else map (λ term. (codes "rate", rate_of term)) (terms_in line)
-
--- the fields whose values are numbers
-abbrev pub numbers_of : Line → List (List ℕ × List ℕ)
-numbers_of line = filter (λ field. not (bytes_eq field.0 material_type)) (fields_of line)

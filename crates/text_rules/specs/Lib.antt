@@ -6,4 +6,5 @@ pub mod Field
 pub mod Line
 pub mod Outside
 pub mod Printed
+pub mod Term
 pub mod Value

@@ -88,3 +88,32 @@ standing = filter (λ line. not (length line.text == 0))
 abbrev pub body_of : List (List ℕ) → List Placed
 body_of [] = []
 body_of (first ∷ texts) = standing (placed_from 2 Preamble texts)
+
+-- a line of the section that is no header
+abbrev pub is_at : Section → Placed → Bool
+is_at section line = is_section section line.section && not line.header
+
+abbrev pub lines_at : Section → List Placed → List Placed
+lines_at section = filter (is_at section)
+
+-- the names in front of the colons
+abbrev pub heads_at : Section → List Placed → List (List ℕ)
+heads_at section lines = map (λ (line : Placed). head_of line.text) (lines_at section lines)
+
+-- the sections whose lines have a meaning
+abbrev pub is_meant : Section → Bool
+is_meant Preamble = false
+is_meant MeasurementUnits = false
+is_meant Defaults = true
+is_meant Materials = true
+is_meant OperatingUnits = true
+is_meant Rates = true
+is_meant Exclusions = true
+
+-- a line that has a meaning
+abbrev pub matters : Placed → Bool
+matters line = not line.header && is_meant line.section
+
+-- the lines of a text that have a meaning
+abbrev pub meant_of : List (List ℕ) → List Placed
+meant_of texts = filter matters (body_of texts)

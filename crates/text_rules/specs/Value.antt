@@ -1,135 +1,266 @@
 -- The problem that a text without faults of form stands for, and its faults of meaning. Sections may stand in any order, so a
 -- value is looked up in all lines: a default counts for the lines in front of it too.
-use Rattle.std.specs.Prelude.{◌&&◌, ◌+◌, ◌/◌, ℕ, Bool, false, List, [], ◌∷◌, ◌++◌, length, map, filter, codes, not, Option, Some, None, Result, Ok, Err, find, position, unwrap_or, option_map, ℤ, pos, unsigned_abs, int_lt, if◌then◌else◌}
+use Rattle.std.specs.Prelude.{◌&&◌, ◌||◌, ◌+◌, ◌/◌, ℕ, Bool, List, [], ◌∷◌, ◌++◌, length, map, filter, codes, not, Option, Some, None, Result, Ok, Err, find, position, unwrap_or, option_map, ℤ, pos, unsigned_abs, int_lt, if◌then◌else◌}
 use Rattle.std.specs.List.{list_any}
 use Rattle.std.specs.Str.{bytes_eq}
 use Rattle.text_rules.specs.declared.TextKind.{TextKind}
 use Rattle.text_rules.specs.declared.TextKind.TheVariants.{LowAboveHigh, UnknownMaterial, NoRates, NoProduct, UnknownUnit}
 use Rattle.problem_rules.specs.Names.{is_among}
-use Rattle.text_rules.specs.declared.Section.TheVariants.{Defaults, Materials, OperatingUnits, Rates, Exclusions}
-use Rattle.text_rules.specs.Line.{lines_of}
-use Rattle.text_rules.specs.Field.{Line, is_in, lines_in, names_in, key_of, value_of, material_of, rate_of, terms_in, left, right, material_type, payout_period, for_material, for_unit, fields_of}
-use Rattle.text_rules.specs.Fault.{Fault, first_of, form_fault, parts_of, millionths}
 use Rattle.problem_rules.specs.Problem.{Kind, raw_material, intermediate, product, is_product, Material, Term, OperatingUnit, Exclusion, Problem}
+use Rattle.text_rules.specs.declared.Section.{Section}
+use Rattle.text_rules.specs.declared.Section.TheVariants.{Preamble, MeasurementUnits, Defaults, Materials, OperatingUnits, Rates, Exclusions}
+use Rattle.text_rules.specs.Line.{Placed, lines_of, lines_at, heads_at, head_of, meant_of}
+use Rattle.text_rules.specs.Field.{key_of, value_of, items_of, keyed, is_keyed, material_type, payout_period, for_material, for_unit}
+use Rattle.text_rules.specs.Term.{Pair, pairs_at}
+use Rattle.text_rules.specs.Fault.{Fault, fault_or, form_fault, millionths, names_of}
+
+-- ---- values
+
+-- the fields of a line of items
+abbrev pub item_fields : List (List ℕ) → List (List ℕ × List ℕ)
+item_fields items = map keyed (filter is_keyed items)
+
+abbrev pub fields_at : List ℕ → List (List ℕ × List ℕ)
+fields_at text = item_fields (items_of text)
+
+-- the keys of the defaults with their values
+abbrev pub default_fields : List Placed → List (List ℕ × List ℕ)
+default_fields lines = map (λ (line : Placed). (key_of line.text, value_of line.text)) (lines_at Defaults lines)
 
 -- the value of the first field of this key
 abbrev pub value_at : List ℕ → List (List ℕ × List ℕ) → Option (List ℕ)
 value_at key fields = option_map (λ field. field.1) (find (λ field. bytes_eq field.0 key) fields)
 
--- the value of a default, or else the one that is built in
-abbrev pub default_at : List Line → List ℕ → List ℕ → List ℕ
-default_at lines key built_in = unwrap_or (value_at key (map (λ line. (key_of line.text, value_of line.text)) (lines_in Defaults lines))) built_in
+-- a value that was given, or else the other
+abbrev pub number_or : Option (List ℕ) → ℤ → ℤ
+number_or None default = default
+number_or (Some text) default = millionths text
 
--- the value of a line's own field, or else of the default
-abbrev pub setting : List Line → List (List ℕ × List ℕ) → List ℕ → List ℕ → List ℕ → List ℕ
-setting lines fields key default_key built_in = unwrap_or (value_at key fields) (default_at lines default_key built_in)
-
-abbrev pub material_number : List Line → List (List ℕ × List ℕ) → List ℕ → List ℕ → ℤ
-material_number lines fields key built_in = millionths (setting lines fields key (for_material key) built_in)
-
-abbrev pub unit_number : List Line → List (List ℕ × List ℕ) → List ℕ → List ℕ → ℤ
-unit_number lines fields key built_in = millionths (setting lines fields key (for_unit key) built_in)
+-- the number of this key
+abbrev pub number_at : List ℕ → List (List ℕ × List ℕ) → ℤ → ℤ
+number_at key fields default = number_or (value_at key fields) default
 
 abbrev pub kind_of : List ℕ → Kind
 kind_of word = if bytes_eq word (codes "raw_material") then raw_material else if bytes_eq word (codes "product") then product else intermediate
 
-abbrev pub material_read : List Line → Line → Material
-material_read lines line = record {
-  name = line.name;
-  kind = kind_of (setting lines (fields_of line) material_type material_type (codes "intermediate"));
-  price = material_number lines (fields_of line) (codes "price") (codes "0");
-  lower = material_number lines (fields_of line) (codes "flow_rate_lower_bound") (codes "0");
-  upper = material_number lines (fields_of line) (codes "flow_rate_upper_bound") (codes "1000000000");
+abbrev pub kind_or : Option (List ℕ) → Kind → Kind
+kind_or None default = default
+kind_or (Some word) default = kind_of word
+
+-- What holds of materials and units whose lines say nothing else. Prices, bounds and costs are in millionths.
+pub record Settings : Type 0 where
+  pub kind : Kind
+  pub price : ℤ
+  pub flow_lower : ℤ
+  pub flow_upper : ℤ
+  pub capacity_lower : ℤ
+  pub capacity_upper : ℤ
+  pub fix : ℤ
+  pub proportional : ℤ
+  pub investment_fix : ℤ
+  pub investment_proportional : ℤ
+
+-- 10^9, in millionths
+abbrev pub much : ℤ
+much = pos 1000000000000000
+
+-- the defaults, with the values that are built in behind them
+abbrev pub settings_from : List (List ℕ × List ℕ) → Settings
+settings_from fields = record {
+  kind = kind_or (value_at material_type fields) intermediate;
+  price = number_at (for_material (codes "price")) fields (pos 0);
+  flow_lower = number_at (for_material (codes "flow_rate_lower_bound")) fields (pos 0);
+  flow_upper = number_at (for_material (codes "flow_rate_upper_bound")) fields much;
+  capacity_lower = number_at (for_unit (codes "capacity_lower_bound")) fields (pos 0);
+  capacity_upper = number_at (for_unit (codes "capacity_upper_bound")) fields much;
+  fix = number_at (for_unit (codes "fix_cost")) fields (pos 0);
+  proportional = number_at (for_unit (codes "proportional_cost")) fields (pos 0);
+  investment_fix = number_at (for_unit (codes "investment_fix_cost")) fields (pos 0);
+  investment_proportional = number_at (for_unit (codes "investment_proportional_cost")) fields (pos 0);
 }
 
-abbrev pub term_read : List (List ℕ) → List (List ℕ) → Term
-term_read names term = record {
-  material = unwrap_or (position (λ name. bytes_eq name (material_of term)) names) 0;
-  rate = millionths (rate_of term);
-}
+abbrev pub settings_of : List Placed → Settings
+settings_of lines = settings_from (default_fields lines)
 
--- the terms that the rates line of the unit has on one side
-abbrev pub side_of : (Line → List (List (List ℕ))) → List Line → List ℕ → List Term
-side_of side lines name = elim (find (λ line. bytes_eq line.name name) (lines_in Rates lines)) [
-  | None ↦ []
-  | Some line ↦ map (term_read (names_in Materials lines)) (side line)
-]
+-- ---- the problem
 
--- the unit of this name with these fields; its terms are those of its rates line
-abbrev pub unit_read : List Line → List ℕ → List (List ℕ × List ℕ) → OperatingUnit
-unit_read lines name fields = record {
+abbrev pub material_from : Settings → List ℕ → List (List ℕ × List ℕ) → Material
+material_from s name fields = record {
   name = name;
-  lower = unit_number lines fields (codes "capacity_lower_bound") (codes "0");
-  upper = unit_number lines fields (codes "capacity_upper_bound") (codes "1000000000");
-  fix = unit_number lines fields (codes "fix_cost") (codes "0");
-  proportional = unit_number lines fields (codes "proportional_cost") (codes "0");
-  investment_fix = unit_number lines fields (codes "investment_fix_cost") (codes "0");
-  investment_proportional = unit_number lines fields (codes "investment_proportional_cost") (codes "0");
-  inputs = side_of left lines name;
-  outputs = side_of right lines name;
+  kind = kind_or (value_at material_type fields) s.kind;
+  price = number_at (codes "price") fields s.price;
+  lower = number_at (codes "flow_rate_lower_bound") fields s.flow_lower;
+  upper = number_at (codes "flow_rate_upper_bound") fields s.flow_upper;
 }
 
--- the rates lines of units without a line of their own
-abbrev pub bare_rates : List Line → List Line
-bare_rates lines = filter (λ line. not (is_among (names_in OperatingUnits lines) line.name)) (lines_in Rates lines)
+abbrev pub unit_from : Settings → List ℕ → List (List ℕ × List ℕ) → List Term → List Term → OperatingUnit
+unit_from s name fields inputs outputs = record {
+  name = name;
+  lower = number_at (codes "capacity_lower_bound") fields s.capacity_lower;
+  upper = number_at (codes "capacity_upper_bound") fields s.capacity_upper;
+  fix = number_at (codes "fix_cost") fields s.fix;
+  proportional = number_at (codes "proportional_cost") fields s.proportional;
+  investment_fix = number_at (codes "investment_fix_cost") fields s.investment_fix;
+  investment_proportional = number_at (codes "investment_proportional_cost") fields s.investment_proportional;
+  inputs = inputs;
+  outputs = outputs;
+}
+
+abbrev pub materials_from : Settings → List Placed → List Material
+materials_from s lines = map (λ (line : Placed). material_from s (head_of line.text) (fields_at line.text)) (lines_at Materials lines)
+
+-- a term, with the number of its material among the names
+abbrev pub term_from : List (List ℕ) → Pair → Term
+term_from names term = record {
+  material = unwrap_or (position (λ name. bytes_eq name term.1) names) 0;
+  rate = millionths term.0;
+}
+
+abbrev pub both_from : List (List ℕ) → List Pair × List Pair → List Term × List Term
+both_from names both = (map (term_from names) both.0, map (term_from names) both.1)
+
+-- the terms of the line of rates that has the name
+abbrev pub sides_or : List (List ℕ) → Option Placed → List Term × List Term
+sides_or names None = ([], [])
+sides_or names (Some line) = both_from names (pairs_at line.text)
+
+abbrev pub sides_named : List (List ℕ) → List Placed → List ℕ → List Term × List Term
+sides_named names lines name = sides_or names (find (λ (line : Placed). bytes_eq (head_of line.text) name) (lines_at Rates lines))
+
+-- a unit with a line of its own
+abbrev pub listed_unit : Settings → List (List ℕ) → List Placed → List ℕ → OperatingUnit
+listed_unit s names lines text =
+    unit_from s (head_of text) (fields_at text) (sides_named names lines (head_of text)).0 (sides_named names lines (head_of text)).1
+
+-- a unit with a line of rates alone
+abbrev pub bare_unit : Settings → List (List ℕ) → List Placed → List ℕ → OperatingUnit
+bare_unit s names lines text =
+    unit_from s (head_of text) [] (sides_named names lines (head_of text)).0 (sides_named names lines (head_of text)).1
+
+-- the lines of rates of units without a line of their own
+abbrev pub bare_lines : List (List ℕ) → List Placed → List Placed
+bare_lines units lines = filter (λ (line : Placed). not (is_among units (head_of line.text))) (lines_at Rates lines)
+
+abbrev pub units_from : Settings → List (List ℕ) → List Placed → List OperatingUnit
+units_from s names lines =
+    map (λ (line : Placed). listed_unit s names lines line.text) (lines_at OperatingUnits lines)
+    ++ map (λ (line : Placed). bare_unit s names lines line.text) (bare_lines (heads_at OperatingUnits lines) lines)
 
 -- the names of the units, in their order
-abbrev pub unit_names : List Line → List (List ℕ)
-unit_names lines = names_in OperatingUnits lines ++ map (λ line. line.name) (bare_rates lines)
+abbrev pub unit_names_from : List Placed → List (List ℕ)
+unit_names_from lines = heads_at OperatingUnits lines ++ map (λ (line : Placed). head_of line.text) (bare_lines (heads_at OperatingUnits lines) lines)
 
 -- the numbers of the names that are among the words, counted from k: so an exclusion's units rise, in whatever order they stand
 abbrev pub numbers_among : List (List ℕ) → ℕ → List (List ℕ) → List ℕ
 numbers_among words k [] = []
 numbers_among words k (name ∷ names) = if is_among words name then k ∷ numbers_among words (k + 1) names else numbers_among words (k + 1) names
 
-abbrev pub exclusion_read : List Line → Line → Exclusion
-exclusion_read lines line = record { name = line.name; units = numbers_among line.items 0 (unit_names lines) }
+-- the exclusion of this name with these members
+abbrev pub exclusion_named : List (List ℕ) → List ℕ → List (List ℕ) → Exclusion
+exclusion_named units name members = record { name = name; units = numbers_among members 0 units }
 
--- the payout period in years
-abbrev pub payout_of : List Line → ℤ
-payout_of lines = pos (unsigned_abs (millionths (default_at lines payout_period (codes "1"))) / 1000000)
+abbrev pub exclusions_from : List (List ℕ) → List Placed → List Exclusion
+exclusions_from units lines = map (λ (line : Placed). exclusion_named units (head_of line.text) (items_of line.text)) (lines_at Exclusions lines)
 
-abbrev pub problem_of : List Line → Problem
-problem_of lines = record {
-  materials = map (material_read lines) (lines_in Materials lines);
-  units = map (λ line. unit_read lines line.name (fields_of line)) (lines_in OperatingUnits lines)
-      ++ map (λ line. unit_read lines line.name []) (bare_rates lines);
-  exclusions = map (exclusion_read lines) (lines_in Exclusions lines);
-  payout = payout_of lines;
+-- the payout period in whole years
+abbrev pub payout_from : List Placed → ℤ
+payout_from lines = pos (unsigned_abs (number_at payout_period (default_fields lines) (pos 1000000)) / 1000000)
+
+-- the problem that the lines of a text stand for, by those that have a meaning
+abbrev pub problem_from : List Placed → Problem
+problem_from lines = record {
+  materials = materials_from (settings_of lines) lines;
+  units = units_from (settings_of lines) (heads_at Materials lines) lines;
+  exclusions = exclusions_from (unit_names_from lines) lines;
+  payout = payout_from lines;
 }
 
--- The kinds of meaning that stand at a line of these lines. Bounds are judged where a material or unit has them, defaults
--- filled in; defaults by themselves are never at fault. A unit that has a rates line alone is a unit of the problem.
-abbrev pub stands_in : List Line → List Line → Line → TextKind → Bool
-stands_in lines before line LowAboveHigh =
-    if is_in Materials line then int_lt (material_read lines line).upper (material_read lines line).lower
-    else if is_in OperatingUnits line then int_lt (unit_read lines line.name (fields_of line)).upper (unit_read lines line.name (fields_of line)).lower
-    else is_in Rates line && not (is_among (names_in OperatingUnits lines) line.name)
-    && int_lt (unit_read lines line.name []).upper (unit_read lines line.name []).lower
-stands_in lines before line UnknownMaterial = list_any (λ term. not (is_among (names_in Materials lines) (material_of term))) (terms_in line)
-stands_in lines before line NoRates = is_in OperatingUnits line && not (is_among (names_in Rates lines) line.name)
-stands_in lines before line UnknownUnit = is_in Exclusions line && list_any (λ item. not (is_among (unit_names lines) item)) line.items
-stands_in lines before line kind = false
+-- ---- faults of meaning
 
-abbrev pub meaning_kinds : List TextKind
-meaning_kinds = LowAboveHigh ∷ UnknownMaterial ∷ NoRates ∷ UnknownUnit ∷ []
+-- the names of all materials, units and lines of rates
+pub record Names : Type 0 where
+  pub materials : List (List ℕ)
+  pub units : List (List ℕ)
+  pub rates : List (List ℕ)
 
--- the first fault of meaning; that no material is a product is told behind all lines, and so behind all other faults
-abbrev pub meaning_fault : List (List ℕ) → List Line → Option Fault
-meaning_fault texts lines = elim (first_of (stands_in lines) meaning_kinds [] lines) [
-  | Some fault ↦ Some fault
-  | None ↦ if list_any (λ (m : Material). is_product m.kind) (problem_of lines).materials then None else Some (length texts + 1, NoProduct)
-]
+abbrev pub names_all : List Placed → Names
+names_all lines = record { materials = heads_at Materials lines; units = heads_at OperatingUnits lines; rates = heads_at Rates lines }
+
+-- Bounds are judged where a material or unit has them, defaults filled in; defaults by themselves are never at fault.
+abbrev pub is_material_turned : Settings → List (List ℕ × List ℕ) → Bool
+is_material_turned s fields =
+    int_lt (number_at (codes "flow_rate_upper_bound") fields s.flow_upper) (number_at (codes "flow_rate_lower_bound") fields s.flow_lower)
+
+abbrev pub is_unit_turned : Settings → List (List ℕ × List ℕ) → Bool
+is_unit_turned s fields =
+    int_lt (number_at (codes "capacity_upper_bound") fields s.capacity_upper) (number_at (codes "capacity_lower_bound") fields s.capacity_lower)
+
+-- the kind at a material of these fields
+abbrev pub material_kind : Settings → List (List ℕ × List ℕ) → Option TextKind
+material_kind s fields = if is_material_turned s fields then Some LowAboveHigh else None
+
+-- at a unit of this name and these fields
+abbrev pub unit_kind : Settings → Names → List ℕ → List (List ℕ × List ℕ) → Option TextKind
+unit_kind s names name fields =
+    if is_unit_turned s fields then Some LowAboveHigh
+    else if is_among names.rates name then None else Some NoRates
+
+-- some term is of a material that has no line
+abbrev pub has_unknown : List (List ℕ) → List Pair × List Pair → Bool
+has_unknown materials sides =
+    list_any (λ name. not (is_among materials name)) (names_of sides.0) || list_any (λ name. not (is_among materials name)) (names_of sides.1)
+
+-- At a line of rates of a unit of this name. A unit that has a line of rates alone is a unit of the problem.
+abbrev pub rates_kind : Settings → Names → List ℕ → List Pair × List Pair → Option TextKind
+rates_kind s names name sides =
+    if not (is_among names.units name) && is_unit_turned s [] then Some LowAboveHigh
+    else if has_unknown names.materials sides then Some UnknownMaterial else None
+
+abbrev pub is_unit : Names → List ℕ → Bool
+is_unit names item = is_among names.units item || is_among names.rates item
+
+-- at an exclusion of these members
+abbrev pub exclusion_kind : Names → List (List ℕ) → Option TextKind
+exclusion_kind names members = if list_any (λ item. not (is_unit names item)) members then Some UnknownUnit else None
+
+abbrev pub entry_meaning : Settings → Names → Section → List ℕ → Option TextKind
+entry_meaning s names Preamble text = None
+entry_meaning s names MeasurementUnits text = None
+entry_meaning s names Defaults text = None
+entry_meaning s names Materials text = material_kind s (fields_at text)
+entry_meaning s names OperatingUnits text = unit_kind s names (head_of text) (fields_at text)
+entry_meaning s names Rates text = rates_kind s names (head_of text) (pairs_at text)
+entry_meaning s names Exclusions text = exclusion_kind names (items_of text)
+
+abbrev pub line_meaning : Settings → Names → Placed → Option TextKind
+line_meaning s names line = if line.header then None else entry_meaning s names line.section line.text
+
+-- the first of the lines at which a kind stands, with that kind
+abbrev pub first_meaning : Settings → Names → List Placed → Option Fault
+first_meaning s names [] = None
+first_meaning s names (line ∷ lines) = fault_or line.number (line_meaning s names line) (first_meaning s names lines)
+
+-- ---- texts
+
+abbrev pub has_product : List Material → Bool
+has_product = list_any (λ (m : Material). is_product m.kind)
+
+-- The problem where it has a product. That no material is one is told at the line behind all lines, which has the number, and so
+-- behind all other faults.
+abbrev pub with_product : ℕ → Problem → Result Problem Fault
+with_product number p = if has_product p.materials then Ok p else Err (number, NoProduct)
+
+abbrev pub or_first : Option Fault → Result Problem Fault → Result Problem Fault
+or_first (Some fault) rest = Err fault
+or_first None rest = rest
+
+-- the first fault of meaning of these lines, or the problem
+abbrev pub meaning_at : List Placed → ℕ → Result Problem Fault
+meaning_at lines number = or_first (first_meaning (settings_of lines) (names_all lines) lines) (with_product number (problem_from lines))
 
 -- the problem that the lines stand for, or the first fault
 abbrev pub read_lines : List (List ℕ) → Result Problem Fault
-read_lines texts = elim (form_fault texts) [
-  | Some fault ↦ Err fault
-  | None ↦ elim (meaning_fault texts (parts_of texts)) [
-    | Some fault ↦ Err fault
-    | None ↦ Ok (problem_of (parts_of texts))
-  ]
-]
+read_lines texts = or_first (form_fault texts) (meaning_at (meant_of texts) (length texts + 1))
 
 -- the problem that a text stands for, or its first fault: what a reader of problem texts is to answer
 abbrev pub read_text : List ℕ → Result Problem Fault
