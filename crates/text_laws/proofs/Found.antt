@@ -1,51 +1,63 @@
--- Names, numbers and settings are found again in the lines of a canonical text.
-use Rattle.std.proofs.Common.{◌≡◌, ◌<◌, ◌≤◌, ◌+◌, ◌||◌, ◌==◌, Bool, true, false, not, ℕ, zero, suc, List, [], ◌∷◌, length, map, filter, bytes_eq, find, position, Option, Some, None, unwrap_or, Result, ℤ, pos, unsigned_abs, refl, sym, ◌∙◌, ap, arith, if◌then◌else◌, eqb-true, lt-ltb, ne_eqb, eq-eqb, one-add, ⊎_elim, nat_lt, subst}
+-- Names and numbers are found again in the lines of a canonical text.
+use Rattle.std.proofs.Common.{◌≡◌, ◌<◌, ◌≤◌, ◌+◌, ◌||◌, ◌==◌, Bool, true, false, not, ℕ, zero, suc, List, [], ◌∷◌, length, map, filter, bytes_eq, find, position, Option, Some, None, unwrap_or, Result, ℤ, pos, refl, sym, ◌∙◌, ap, arith, if◌then◌else◌, eqb-true, lt-ltb, ne_eqb, eq-eqb, one-add, ⊎_elim, nat_lt, subst}
 use Rattle.std.specs.List.{position_or_len}
 use Rattle.std.specs.Result.{result_unwrap_or}
-use Rattle.std.proofs.lemmas.Bool.{cond_both, cond-true, cond-false, or_parts, or_left, or_right, cases_Bool, true≢false, or_cases}
-use Rattle.text_rules.specs.declared.TextKind.{TextKind}
-use Rattle.problem_rules.specs.Names.{is_among, has_double}
-use Rattle.text_rules.specs.Printed.{amount_bytes}
-use Rattle.problem_rules.specs.Problem.{Term}
-use Rattle.text_rules.specs.Field.{Line, material_of, rate_of}
-use Rattle.text_rules.specs.Fault.{millionths}
-use Rattle.text_rules.specs.Value.{term_read, numbers_among}
-use Rattle.text_rules.specs.Canonical.{name_at, term_tokens}
-use Rattle.problem_rules.specs.WellFormed.{IsWellFormedTerm, AreRisingFrom}
-use Rattle.text_laws.proofs.PrintedAmount.{amounts_read_back}
+use Rattle.std.proofs.lemmas.Bool.{cond-true, cond-false, or_parts, or_left, or_right, cases_Bool, true≢false, or_cases}
 use Rattle.problem_rules.specs.Each.{Each}
+use Rattle.problem_rules.specs.Names.{is_among, has_double}
+use Rattle.problem_rules.specs.Problem.{Term}
+use Rattle.problem_rules.specs.WellFormed.{IsWellFormedTerm, AreRisingFrom}
+use Rattle.text_rules.specs.declared.TextKind.{TextKind}
+use Rattle.text_rules.specs.declared.Section.{Section}
+use Rattle.text_rules.specs.Line.{Placed, head_of}
+use Rattle.text_rules.specs.Fault.{millionths}
+use Rattle.text_rules.specs.Value.{term_from, numbers_among}
+use Rattle.text_rules.specs.Canonical.{name_at}
 use Rattle.text_laws.proofs.Each.{each-both, each-unmap, none_each}
-use Rattle.text_laws.proofs.CanonicalParts.{numbered}
+use Rattle.text_laws.proofs.CanonicalParts.{entries, placed_at}
 use Rattle.text_laws.proofs.Numbers.{has_number, rising_none, rising_within}
 use Rattle.text_laws.proofs.Names.{bytes_same, bytes_differ}
-use Rattle.text_laws.proofs.RatesLines.{name_at_apart, among_numbers, one_rate, material_of_term}
+use Rattle.text_laws.proofs.RatesLines.{name_at_apart, among_numbers, rate_text, pair, rate_reads}
 
--- the line of each name is found
-abbrev pub IsFound : {A : Type 0} → (A → List ℕ) → (ℕ → A → Line) → List Line → A → Type 0
-IsFound name f lines x = (k : ℕ) × (find (λ line. bytes_eq line.name (name x)) lines ≡ Some (f k x))
+-- the entries that items have in a section
+module _ {A : Type 0} (section : Section) (text : A → List ℕ) where
+  -- what is read of each
+  pub entries_read : {B : Type 0} (read : List ℕ → B) (value : A → B) (n : ℕ) (xs : List A) → Each (λ x. read (text x) ≡ value x) xs → map (λ (line : Placed). read line.text) (entries section n (map text xs)) ≡ map value xs
+  entries_read read value n [] each = refl
+  entries_read {B} read value n (x ∷ xs) each =
+      ap (λ (y : B). y ∷ map (λ (line : Placed). read line.text) (entries section (n + 1) (map text xs))) each.0
+      ∙ ap (λ (ys : List B). value x ∷ ys) (entries_read read value (n + 1) xs each.1)
 
-module _ {A : Type 0} (name : A → List ℕ) (f : ℕ → A → Line) (named : (n : ℕ) (x : A) → (f n x).name ≡ name x) where
-  pub each_found : (n : ℕ) (xs : List A) → has_double (map name xs) ≡ false → Each (IsFound name f (numbered f n xs)) xs
-  each_found n [] off = tt
-  each_found n (x ∷ xs) off =
-      let parts = or_parts (is_among (map name xs) (name x)) (has_double (map name xs)) off in
-      let others : Each (λ y. bytes_eq (name y) (name x) ≡ false) xs = each-unmap (λ word. bytes_eq word (name x) ≡ false) name xs (none_each (λ word. bytes_eq word (name x)) (map name xs) parts.0) in (
-        (n, cond-true (bytes_eq (f n x).name (name x)) (Some (f n x)) (find (λ line. bytes_eq line.name (name x)) (numbered f (n + 1) xs)) (ap (λ t. bytes_eq t (name x)) (named n x) ∙ bytes_same (name x))),
-        each-both (λ y. bytes_eq (name y) (name x) ≡ false) (IsFound name f (numbered f (n + 1) xs)) (IsFound name f (numbered f n (x ∷ xs)))
-            (λ y differ found. (
-              found.0,
-              cond-false (bytes_eq (f n x).name (name y)) (Some (f n x)) (find (λ line. bytes_eq line.name (name y)) (numbered f (n + 1) xs)) (ap (λ t. bytes_eq t (name y)) (named n x) ∙ bytes_differ (name y) (name x) differ)
-                  ∙ found.1,
-            ))
-            xs others (each_found (n + 1) xs parts.1),
-      )
+  module _ (name : A → List ℕ) where
+    -- the line of its name is found
+    abbrev pub IsFound : List Placed → A → Type 0
+    IsFound lines x = (k : ℕ) × (find (λ (line : Placed). bytes_eq (head_of line.text) (name x)) lines ≡ Some (placed_at k section (text x)))
 
-  pub filter_among : (names : List (List ℕ)) (n : ℕ) (xs : List A) → Each (λ x. is_among names (name x) ≡ true) xs → filter (λ line. not (is_among names line.name)) (numbered f n xs) ≡ []
-  filter_among names n [] each = refl
-  filter_among names n (x ∷ xs) each =
-      cond-false (not (is_among names (f n x).name)) (f n x ∷ filter (λ line. not (is_among names line.name)) (numbered f (n + 1) xs)) (filter (λ line. not (is_among names line.name)) (numbered f (n + 1) xs))
-      (ap (λ t. not (is_among names t)) (named n x) ∙ ap not each.0)
-      ∙ filter_among names (n + 1) xs each.1
+    pub each_found : (n : ℕ) (xs : List A) → Each (λ x. head_of (text x) ≡ name x) xs → has_double (map name xs) ≡ false → Each (IsFound (entries section n (map text xs))) xs
+    each_found n [] named off = tt
+    each_found n (x ∷ xs) named off =
+        let parts : (is_among (map name xs) (name x) ≡ false) × (has_double (map name xs) ≡ false) = or_parts (is_among (map name xs) (name x)) (has_double (map name xs)) off in
+        let others : Each (λ y. bytes_eq (name y) (name x) ≡ false) xs = each-unmap (λ word. bytes_eq word (name x) ≡ false) name xs (none_each (λ word. bytes_eq word (name x)) (map name xs) parts.0) in
+        let lines : List Placed = entries section (n + 1) (map text xs) in
+        let own : Option Placed = Some (placed_at n section (text x)) in (
+          (n, cond-true (bytes_eq (head_of (text x)) (name x)) own (find (λ (line : Placed). bytes_eq (head_of line.text) (name x)) lines) (ap (λ (t : List ℕ). bytes_eq t (name x)) named.0 ∙ bytes_same (name x))),
+          each-both (λ y. bytes_eq (name y) (name x) ≡ false) (IsFound lines) (IsFound (entries section n (map text (x ∷ xs))))
+              (λ y differ found. (
+                found.0,
+                cond-false (bytes_eq (head_of (text x)) (name y)) own (find (λ (line : Placed). bytes_eq (head_of line.text) (name y)) lines) (ap (λ (t : List ℕ). bytes_eq t (name y)) named.0 ∙ bytes_differ (name y) (name x) differ)
+                    ∙ found.1,
+              ))
+              xs others (each_found (n + 1) xs named.1 parts.1),
+        )
+
+    -- lines whose names are all among others
+    pub none_apart : (names : List (List ℕ)) (n : ℕ) (xs : List A) → Each (λ x. head_of (text x) ≡ name x) xs → Each (λ x. is_among names (name x) ≡ true) xs → filter (λ (line : Placed). not (is_among names (head_of line.text))) (entries section n (map text xs)) ≡ []
+    none_apart names n [] named each = refl
+    none_apart names n (x ∷ xs) named each =
+        let lines : List Placed = entries section (n + 1) (map text xs) in
+        cond-false (not (is_among names (head_of (text x)))) (placed_at n section (text x) ∷ filter (λ (line : Placed). not (is_among names (head_of line.text))) lines) (filter (λ (line : Placed). not (is_among names (head_of line.text))) lines)
+        (ap (λ (t : List ℕ). not (is_among names t)) named.0 ∙ ap not each.0)
+        ∙ none_apart names (n + 1) xs named.1 each.1
 
 -- the number of a name
 place_of : (names : List (List ℕ)) (k : ℕ) → has_double names ≡ false → k < length names → position_or_len (λ name. bytes_eq name (name_at names k)) names ≡ k
@@ -61,21 +73,16 @@ position_of names k off lt =
     ap (λ n. if nat_lt n (length names) then Some n else None) (place_of names k off lt)
     ∙ cond-true (nat_lt k (length names)) (Some k) None (lt-ltb k (length names) lt)
 
--- a term is read back
-pub term_back : (names : List (List ℕ)) → has_double names ≡ false → (t : Term) → IsWellFormedTerm (length names) t → term_read names (term_tokens names t) ≡ t
+-- terms are read back
+term_back : (names : List (List ℕ)) → has_double names ≡ false → (t : Term) → IsWellFormedTerm (length names) t → term_from names (pair names t) ≡ t
 term_back names off t good =
-    let number : ℕ = unwrap_or (position (λ name. bytes_eq name (material_of (term_tokens names t))) names) 0 in
-    let place : number ≡ t.material = ap (λ (text : List ℕ). unwrap_or (position (λ name. bytes_eq name text) names) 0) (material_of_term names t) ∙ ap (λ (o : Option ℕ). unwrap_or o 0) (position_of names t.material off good.known) in
-    let rate : millionths (rate_of (term_tokens names t)) ≡ t.rate =
-    cond_both (unsigned_abs t.rate == 1000000) (name_at names t.material ∷ []) (amount_bytes t.rate ∷ name_at names t.material ∷ []) (λ ts. millionths (rate_of ts) ≡ t.rate)
-    (λ e. sym (one_rate t.rate good.positive e)) (λ e. ap (λ (r : Result ℤ TextKind). result_unwrap_or r (pos 0)) (amounts_read_back t.rate good.in_range)) in
-    ap (λ (k : ℕ). let e : Term = record { material = k; rate = millionths (rate_of (term_tokens names t)) } in e) place
-    ∙ ap (λ (z : ℤ). let e : Term = record { material = t.material; rate = z } in e) rate
+    ap (λ (o : Option ℕ). let e : Term = record { material = unwrap_or o 0; rate = millionths (rate_text t) } in e) (position_of names t.material off good.known)
+    ∙ ap (λ (r : Result ℤ TextKind). let e : Term = record { material = t.material; rate = result_unwrap_or r (pos 0) } in e) (rate_reads (length names) t good)
 
-pub terms_back : (names : List (List ℕ)) → has_double names ≡ false → (terms : List Term) → Each (IsWellFormedTerm (length names)) terms → map (term_read names) (map (term_tokens names) terms) ≡ terms
+pub terms_back : (names : List (List ℕ)) → has_double names ≡ false → (terms : List Term) → Each (IsWellFormedTerm (length names)) terms → map (term_from names) (map (pair names) terms) ≡ terms
 terms_back names off [] goods = refl
 terms_back names off (t ∷ terms) goods =
-    ap (λ (e : Term). e ∷ map (term_read names) (map (term_tokens names) terms)) (term_back names off t goods.0)
+    ap (λ (e : Term). e ∷ map (term_from names) (map (pair names) terms)) (term_back names off t goods.0)
     ∙ ap (λ (ts : List Term). t ∷ ts) (terms_back names off terms goods.1)
 
 -- the numbers from k on that pass

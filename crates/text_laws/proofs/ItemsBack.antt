@@ -2,18 +2,22 @@
 use Rattle.std.proofs.Common.{◌≡◌, ◌≤◌, true, ℕ, suc, List, [], ◌∷◌, codes, Result, ℤ, pos, negsuc, unsigned_abs, refl, sym, ◌∙◌, ap, arith, eqb-true}
 use Rattle.std.specs.Result.{result_unwrap_or}
 use Rattle.std.proofs.lemmas.Bool.{cond_both}
-use Rattle.text_rules.specs.declared.TextKind.{TextKind}
 use Rattle.problem_rules.specs.Problem.{Kind, raw_material, intermediate, product, Material, Term, OperatingUnit}
+use Rattle.problem_rules.specs.WellFormed.{IsWellFormedMaterial, IsWellFormedUnit}
+use Rattle.text_rules.specs.declared.TextKind.{TextKind}
 use Rattle.text_rules.specs.Blanks.{trim}
 use Rattle.text_rules.specs.Amount.{amount_limit}
+use Rattle.text_rules.specs.Line.{head_of}
 use Rattle.text_rules.specs.Printed.{amount_bytes}
-use Rattle.text_rules.specs.Field.{Line, fields_of, left, right, for_unit}
 use Rattle.text_rules.specs.Fault.{millionths}
-use Rattle.text_rules.specs.Value.{material_read, unit_read, side_of, default_at}
-use Rattle.text_rules.specs.Canonical.{is_zero, field, field_unless_zero}
-use Rattle.problem_rules.specs.WellFormed.{IsWellFormedMaterial, IsWellFormedUnit}
-use Rattle.text_laws.proofs.CanonicalParts.{material_part, unit_part}
-use Rattle.text_laws.proofs.ItemLines.{amount_trimmed, unit_with}
+use Rattle.text_rules.specs.Value.{Settings, settings_from, item_fields, fields_at, material_from, unit_from}
+use Rattle.text_rules.specs.Canonical.{is_zero, field, field_unless_zero, material_items, unit_items}
+use Rattle.text_laws.proofs.CanonicalParts.{material_text, unit_text, IsItemLine}
+use Rattle.text_laws.proofs.ItemLines.{amount_trimmed, with_costs}
+
+-- what holds where no default is given
+abbrev pub built_in : Settings
+built_in = settings_from []
 
 trimmed_value : (z : ℤ) → unsigned_abs z ≤ amount_limit → millionths (trim (amount_bytes z)) ≡ z
 trimmed_value z small = ap (λ (r : Result ℤ TextKind). result_unwrap_or r (pos 0)) (amount_trimmed z small)
@@ -44,40 +48,49 @@ same_unit e u name lower upper fix proportional investment_fix investment_propor
     ∙ ap (λ ts. make u.name u.lower u.upper u.fix u.proportional u.investment_fix u.investment_proportional u.inputs ts) outs
 
 -- a material's line
-pub material_back : (lines : List Line) (n : ℕ) (m : Material) → IsWellFormedMaterial m → material_read lines (material_part n m) ≡ m
-material_back lines n m good = at m.kind m.name m.price m.lower m.upper good.price_in_range good.bounds.lower_bound.in_range good.bounds.upper_bound.in_range where
-  of_kind : Kind → List ℕ → ℤ → ℤ → ℤ → Material
-  of_kind kind name price lower upper = record { name = name; kind = kind; price = price; lower = lower; upper = upper }
+pub material_back : (m : Material) → IsWellFormedMaterial m → IsItemLine m.name (material_items m) → material_from built_in (head_of (material_text m)) (fields_at (material_text m)) ≡ m
+material_back m good line =
+    ap (λ (name : List ℕ). material_from built_in name (fields_at (material_text m))) line.head
+    ∙ ap (λ (items : List (List ℕ)). material_from built_in m.name (item_fields items)) line.apart ∙ at m.kind where
+      of_kind : Kind → Material
+      of_kind kind = record { name = m.name; kind = kind; price = m.price; lower = m.lower; upper = m.upper }
 
-  at : (kind : Kind) (name : List ℕ) (price lower upper : ℤ) → unsigned_abs price ≤ amount_limit → unsigned_abs lower ≤ amount_limit → unsigned_abs upper ≤ amount_limit
-      → material_read lines (material_part n (of_kind kind name price lower upper)) ≡ of_kind kind name price lower upper
-  at raw_material name price lower upper one two three = same_material (material_read lines (material_part n (of_kind raw_material name price lower upper))) (of_kind raw_material name price lower upper) refl refl (trimmed_value price one) (trimmed_value lower two) (trimmed_value upper three)
-  at intermediate name price lower upper one two three = same_material (material_read lines (material_part n (of_kind intermediate name price lower upper))) (of_kind intermediate name price lower upper) refl refl (trimmed_value price one) (trimmed_value lower two) (trimmed_value upper three)
-  at product name price lower upper one two three = same_material (material_read lines (material_part n (of_kind product name price lower upper))) (of_kind product name price lower upper) refl refl (trimmed_value price one) (trimmed_value lower two) (trimmed_value upper three)
+      price : millionths (trim (amount_bytes m.price)) ≡ m.price
+      price = trimmed_value m.price good.price_in_range
+
+      lower : millionths (trim (amount_bytes m.lower)) ≡ m.lower
+      lower = trimmed_value m.lower good.bounds.lower_bound.in_range
+
+      upper : millionths (trim (amount_bytes m.upper)) ≡ m.upper
+      upper = trimmed_value m.upper good.bounds.upper_bound.in_range
+
+      at : (kind : Kind) → material_from built_in m.name (item_fields (material_items (of_kind kind))) ≡ of_kind kind
+      at raw_material = same_material (material_from built_in m.name (item_fields (material_items (of_kind raw_material)))) (of_kind raw_material) refl refl price lower upper
+      at intermediate = same_material (material_from built_in m.name (item_fields (material_items (of_kind intermediate)))) (of_kind intermediate) refl refl price lower upper
+      at product = same_material (material_from built_in m.name (item_fields (material_items (of_kind product)))) (of_kind product) refl refl price lower upper
 
 zero_is : (z : ℤ) → is_zero z ≡ true → pos 0 ≡ z
 zero_is (pos n) e = ap pos (sym (eqb-true n 0 e))
 zero_is (negsuc n) e = absurd (omega (arith, eqb-true (suc n) 0 e))
 
--- a unit's line, with an investment cost that is printed or that the defaults leave at 0
-module _ (lines : List Line) (no_fix : default_at lines (for_unit (codes "investment_fix_cost")) (codes "0") ≡ codes "0") (no_proportional : default_at lines (for_unit (codes "investment_proportional_cost")) (codes "0") ≡ codes "0") where
-  pub unit_back : (n count : ℕ) (u : OperatingUnit) → IsWellFormedUnit count u → side_of left lines u.name ≡ u.inputs → side_of right lines u.name ≡ u.outputs → unit_read lines u.name (fields_of (unit_part n u)) ≡ u
-  unit_back n count u good ins outs =
-      let back : List (List ℕ) → List (List ℕ) → OperatingUnit = λ one two. unit_read lines u.name (fields_of (unit_with n u one two)) in
-      let fix : List (List ℕ) = field (codes "investment_fix_cost") (amount_bytes u.investment_fix) ∷ [] in
-      let proportional : List (List ℕ) = field (codes "investment_proportional_cost") (amount_bytes u.investment_proportional) ∷ [] in
-      let low : millionths (trim (amount_bytes u.lower)) ≡ u.lower = trimmed_value u.lower good.bounds.lower_bound.in_range in
-      let high : millionths (trim (amount_bytes u.upper)) ≡ u.upper = trimmed_value u.upper good.bounds.upper_bound.in_range in
-      let cost : millionths (trim (amount_bytes u.fix)) ≡ u.fix = trimmed_value u.fix good.fix.in_range in
-      let rate : millionths (trim (amount_bytes u.proportional)) ≡ u.proportional = trimmed_value u.proportional good.proportional in
-      let no_cost : is_zero u.investment_fix ≡ true → millionths (default_at lines (for_unit (codes "investment_fix_cost")) (codes "0")) ≡ u.investment_fix = λ e. ap millionths no_fix ∙ zero_is u.investment_fix e in
-      let no_rate : is_zero u.investment_proportional ≡ true → millionths (default_at lines (for_unit (codes "investment_proportional_cost")) (codes "0")) ≡ u.investment_proportional = λ e. ap millionths no_proportional ∙ zero_is u.investment_proportional e in
-      let own_cost : millionths (trim (amount_bytes u.investment_fix)) ≡ u.investment_fix = trimmed_value u.investment_fix good.investment_fix.in_range in
-      let own_rate : millionths (trim (amount_bytes u.investment_proportional)) ≡ u.investment_proportional = trimmed_value u.investment_proportional good.investment_proportional in
-      cond_both (is_zero u.investment_fix) [] fix (λ one. back one (field_unless_zero (codes "investment_proportional_cost") u.investment_proportional) ≡ u)
-      (λ zf. cond_both (is_zero u.investment_proportional) [] proportional (λ two. back [] two ≡ u)
-      (λ zp. same_unit (back [] []) u refl low high cost rate (no_cost zf) (no_rate zp) ins outs)
-      (λ e. same_unit (back [] proportional) u refl low high cost rate (no_cost zf) own_rate ins outs))
-      (λ e. cond_both (is_zero u.investment_proportional) [] proportional (λ two. back fix two ≡ u)
-      (λ zp. same_unit (back fix []) u refl low high cost rate own_cost (no_rate zp) ins outs)
-      (λ e. same_unit (back fix proportional) u refl low high cost rate own_cost own_rate ins outs))
+-- a unit's line, with investment costs that are printed or 0
+pub unit_back : (count : ℕ) (u : OperatingUnit) → IsWellFormedUnit count u → IsItemLine u.name (unit_items u) → unit_from built_in (head_of (unit_text u)) (fields_at (unit_text u)) u.inputs u.outputs ≡ u
+unit_back count u good line =
+    let back : List (List ℕ) → List (List ℕ) → OperatingUnit = λ one two. unit_from built_in u.name (item_fields (with_costs u one two)) u.inputs u.outputs in
+    let fix : List (List ℕ) = field (codes "investment_fix_cost") (amount_bytes u.investment_fix) ∷ [] in
+    let proportional : List (List ℕ) = field (codes "investment_proportional_cost") (amount_bytes u.investment_proportional) ∷ [] in
+    let low : millionths (trim (amount_bytes u.lower)) ≡ u.lower = trimmed_value u.lower good.bounds.lower_bound.in_range in
+    let high : millionths (trim (amount_bytes u.upper)) ≡ u.upper = trimmed_value u.upper good.bounds.upper_bound.in_range in
+    let cost : millionths (trim (amount_bytes u.fix)) ≡ u.fix = trimmed_value u.fix good.fix.in_range in
+    let rate : millionths (trim (amount_bytes u.proportional)) ≡ u.proportional = trimmed_value u.proportional good.proportional in
+    let own_cost : millionths (trim (amount_bytes u.investment_fix)) ≡ u.investment_fix = trimmed_value u.investment_fix good.investment_fix.in_range in
+    let own_rate : millionths (trim (amount_bytes u.investment_proportional)) ≡ u.investment_proportional = trimmed_value u.investment_proportional good.investment_proportional in
+    ap (λ (name : List ℕ). unit_from built_in name (fields_at (unit_text u)) u.inputs u.outputs) line.head
+    ∙ ap (λ (items : List (List ℕ)). unit_from built_in u.name (item_fields items) u.inputs u.outputs) line.apart
+    ∙ cond_both (is_zero u.investment_fix) [] fix (λ one. back one (field_unless_zero (codes "investment_proportional_cost") u.investment_proportional) ≡ u)
+    (λ zf. cond_both (is_zero u.investment_proportional) [] proportional (λ two. back [] two ≡ u)
+    (λ zp. same_unit (back [] []) u refl low high cost rate (zero_is u.investment_fix zf) (zero_is u.investment_proportional zp) refl refl)
+    (λ e. same_unit (back [] proportional) u refl low high cost rate (zero_is u.investment_fix zf) own_rate refl refl))
+    (λ e. cond_both (is_zero u.investment_proportional) [] proportional (λ two. back fix two ≡ u)
+    (λ zp. same_unit (back fix []) u refl low high cost rate own_cost (zero_is u.investment_proportional zp) refl refl)
+    (λ e. same_unit (back fix proportional) u refl low high cost rate own_cost own_rate refl refl))

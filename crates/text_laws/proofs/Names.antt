@@ -1,5 +1,6 @@
 -- Equal texts, and names that do or do not stand among others.
-use Rattle.std.proofs.Common.{◌≡◌, true, false, ℕ, List, [], ◌∷◌, bytes_eq, refl, sym, ◌∙◌}
+use Rattle.std.proofs.Common.{◌≡◌, ◌||◌, true, false, ℕ, List, [], ◌∷◌, ◌++◌, bytes_eq, refl, sym, ◌∙◌}
+use Rattle.std.proofs.lemmas.List.Folds.{list_any-append}
 use Rattle.std.proofs.lemmas.Bool.{or_parts, or_from, or_left, or_right, true≢false, false_from_ne_true}
 use Rattle.std.proofs.lemmas.Slice.Eq.{bytes_eq-Decides}
 use Rattle.problem_rules.specs.Names.{is_among}
@@ -31,8 +32,10 @@ pub fresh-nil : (names : List (List ℕ)) → Fresh [] names
 fresh-nil [] = tt
 fresh-nil (x ∷ xs) = (refl, fresh-nil xs)
 
-pub fresh-cons : (old : List (List ℕ)) (x : List ℕ) (xs : List (List ℕ)) → is_among xs x ≡ false → Fresh old xs → Fresh (x ∷ old) xs
-fresh-cons old x [] none fresh = tt
-fresh-cons old x (y ∷ ys) none fresh =
-    let parts : (bytes_eq y x ≡ false) × (is_among ys x ≡ false) = or_parts (bytes_eq y x) (is_among ys x) none in
-    (or_from (bytes_eq x y) (is_among old y) (bytes_differ y x parts.0) fresh.0, fresh-cons old x ys parts.1 fresh.1)
+pub fresh-last : (old : List (List ℕ)) (x : List ℕ) (xs : List (List ℕ)) → is_among xs x ≡ false → Fresh old xs → Fresh (old ++ x ∷ []) xs
+fresh-last old x [] none fresh = tt
+fresh-last old x (y ∷ ys) none fresh =
+    let parts : (bytes_eq y x ≡ false) × (is_among ys x ≡ false) = or_parts (bytes_eq y x) (is_among ys x) none in (
+      list_any-append (λ word. bytes_eq word y) old (x ∷ []) ∙ or_from (is_among old y) (bytes_eq x y || false) fresh.0 (or_from (bytes_eq x y) false (bytes_differ y x parts.0) refl),
+      fresh-last old x ys parts.1 fresh.1,
+    )

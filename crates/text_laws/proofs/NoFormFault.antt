@@ -1,238 +1,163 @@
 -- No kind of form stands in a canonical text.
-use Rattle.std.proofs.Common.{◌≡◌, ◌≤◌, ◌+◌, ◌&&◌, ◌==◌, Bool, true, false, ℕ, suc, List, [], ◌∷◌, ◌++◌, length, map, filter, codes, bytes_eq, None, ℤ, pos, negsuc, int_lt, unsigned_abs, refl, sym, ◌∙◌, ap, subst, arith, ltb-true}
-use Rattle.std.specs.List.{list_any}
-use Rattle.std.proofs.lemmas.Bool.{cond_both, or_parts, or_left, or_right}
-use Rattle.std.proofs.lemmas.List.{length-append}
-use Rattle.text_rules.specs.declared.Section.TheVariants.{Defaults, Materials, OperatingUnits, Rates, Exclusions}
-use Rattle.problem_rules.specs.Names.{is_name, is_among, has_double, distinct}
-use Rattle.problem_rules.specs.Problem.{Material, OperatingUnit, Exclusion, Problem, material_names, unit_names}
-use Rattle.text_rules.specs.Field.{Line, is_in, lines_in, names_in}
-use Rattle.text_rules.specs.Fault.{first_of, stands, form_kinds, form_fault, parts_of}
-use Rattle.text_rules.specs.Canonical.{canonical_lines}
-use Rattle.problem_rules.specs.WellFormed.{IsWellFormed, IsWellFormedMaterial, IsWellFormedUnit, IsWellFormedExclusion}
+use Rattle.std.proofs.Common.{◌≡◌, ◌≤◌, ◌+◌, ◌==◌, true, false, ℕ, List, [], ◌∷◌, ◌++◌, length, map, codes, Option, Some, None, ℤ, pos, negsuc, int_lt, unsigned_abs, refl, sym, ◌∙◌, ap, subst, arith, ltb-true, length-append, append_assoc, append-nil, if◌then◌else◌}
+use Rattle.std.proofs.lemmas.Bool.{cond_both, cond-true, cond-false, or_parts}
+use Rattle.problem_rules.specs.Names.{is_name, is_among, has_double}
+use Rattle.problem_rules.specs.Problem.{Material, OperatingUnit, Exclusion, Problem, material_names, unit_names, exclusion_names}
 use Rattle.problem_rules.specs.Each.{Each}
-use Rattle.text_laws.proofs.Each.{each-to, each-map}
-use Rattle.text_laws.proofs.CanonicalParts.{units_named, exclusions_named, numbered, header_part, material_part, unit_part, rates_part, exclusion_part, payout_part, exclusion_parts, parts_at, canonical_parts}
-use Rattle.text_laws.proofs.Names.{Fresh, fresh-cons, fresh-nil, bytes_same}
-use Rattle.text_laws.proofs.Clear.{onto, Clear, clear-append, clear-none, filter_onto, any_onto}
+use Rattle.problem_rules.specs.WellFormed.{IsWellFormed, IsWellFormedMaterial, IsWellFormedUnit, IsWellFormedExclusion}
+use Rattle.text_rules.specs.declared.TextKind.{TextKind}
+use Rattle.text_rules.specs.declared.TextKind.TheVariants.{DoubleSection}
+use Rattle.text_rules.specs.declared.Section.TheVariants.{Defaults, Materials, OperatingUnits, Rates, Exclusions}
+use Rattle.text_rules.specs.Line.{Placed}
+use Rattle.text_rules.specs.Fault.{Seen, seen_none, with_name, first_fault, file_type, form_fault}
+use Rattle.text_rules.specs.Canonical.{name_at, unit_items, material_items}
+use Rattle.text_laws.proofs.Each.{each-to, each-map, each-unmap}
+use Rattle.text_laws.proofs.CanonicalParts.{header_at, placed_at, entries, past, laid, spelled, material_part, unit_part, rates_part, exclusion_part, parts_of, canonical_laid, payout_text, material_text, unit_text, rates_text, exclusion_text, IsItemLine, IsRatesLine, material_line, unit_line, rates_line, exclusion_line, units_named, exclusions_named}
+use Rattle.text_laws.proofs.Words.{IsWord, name_word}
+use Rattle.text_laws.proofs.Names.{Fresh, fresh-last, fresh-nil, among_self}
+use Rattle.text_laws.proofs.Clear.{first_clear}
 use Rattle.text_laws.proofs.ItemLines.{material_clear, unit_clear, payout_clear}
 use Rattle.text_laws.proofs.RatesLines.{rates_clear, exclusion_clear}
 
--- a header of this name
-abbrev pub is_header_of : List ℕ → Line → Bool
-is_header_of name other = other.header && bytes_eq other.name name
+abbrev seen_of : (headers keys materials units rates exclusions names : List (List ℕ)) → Seen
+seen_of headers keys materials units rates exclusions names = record { headers = headers; keys = keys; materials = materials; units = units; rates = rates; exclusions = exclusions; unit_names = names }
 
-header-defaults : (before : List Line) (n : ℕ) → list_any (is_header_of (codes "defaults")) before ≡ false → Each (λ kind. stands before (header_part n Defaults (codes "defaults")) kind ≡ false) form_kinds
-header-defaults before n new = (refl, (new, (refl, (refl, (refl, (refl, (refl, (refl, (refl, (refl, (refl, (refl, (refl, (refl, (refl, (refl, (refl, (refl, (refl, (refl, (refl, (refl, (refl, tt)))))))))))))))))))))))
+words_of : (names : List (List ℕ)) → Each (λ name. is_name name ≡ true) names → Each IsWord names
+words_of names each = each-to (λ name. is_name name ≡ true) IsWord name_word names each
 
-header-materials : (before : List Line) (n : ℕ) → list_any (is_header_of (codes "materials")) before ≡ false → Each (λ kind. stands before (header_part n Materials (codes "materials")) kind ≡ false) form_kinds
-header-materials before n new = (refl, (new, (refl, (refl, (refl, (refl, (refl, (refl, (refl, (refl, (refl, (refl, (refl, (refl, (refl, (refl, (refl, (refl, (refl, (refl, (refl, (refl, (refl, tt)))))))))))))))))))))))
+module _ (headers keys : List (List ℕ)) where
+  materials_walk : (old : List (List ℕ)) (n : ℕ) (ms : List Material) (rest : List Placed) → Each IsWellFormedMaterial ms → has_double (material_names ms) ≡ false → Fresh old (material_names ms) → length old + length ms ≤ 256
+      → ((materials : List (List ℕ)) → first_fault (seen_of headers keys materials [] [] [] []) rest ≡ None) → first_fault (seen_of headers keys old [] [] [] []) (entries Materials n (map material_text ms) ++ rest) ≡ None
+  materials_walk old n [] rest goods off fresh few behind = behind old
+  materials_walk old n (m ∷ ms) rest goods off fresh few behind =
+      let parts : (is_among (material_names ms) m.name ≡ false) × (has_double (material_names ms) ≡ false) = or_parts (is_among (material_names ms) m.name) (has_double (material_names ms)) off in
+      let longer : length (old ++ m.name ∷ []) ≡ length old + 1 = length-append old (m.name ∷ []) in
+      let lines : List Placed = entries Materials (n + 1) (map material_text ms) ++ rest in
+      let line : IsItemLine m.name (material_items m) = material_line m goods.0 in
+      first_clear (seen_of headers keys old [] [] [] []) (placed_at n Materials (material_text m)) lines (material_clear old m goods.0 fresh.0 (omega arith))
+      (subst (λ (name : List ℕ). first_fault (seen_of headers keys (old ++ name ∷ []) [] [] [] []) lines ≡ None) (sym line.head)
+      (materials_walk (old ++ m.name ∷ []) (n + 1) ms rest goods.1 parts.1 (fresh-last old m.name (material_names ms) parts.0 fresh.1) (omega (arith, longer)) behind))
 
-header-units : (before : List Line) (n : ℕ) → list_any (is_header_of (codes "operating_units")) before ≡ false → Each (λ kind. stands before (header_part n OperatingUnits (codes "operating_units")) kind ≡ false) form_kinds
-header-units before n new = (refl, (new, (refl, (refl, (refl, (refl, (refl, (refl, (refl, (refl, (refl, (refl, (refl, (refl, (refl, (refl, (refl, (refl, (refl, (refl, (refl, (refl, (refl, tt)))))))))))))))))))))))
+  units_walk : (materials : List (List ℕ)) (count : ℕ) (old : List (List ℕ)) (n : ℕ) (us : List OperatingUnit) (rest : List Placed) → Each (IsWellFormedUnit count) us → has_double (unit_names us) ≡ false → Fresh old (unit_names us) → length old + length us ≤ 128
+      → ((all : List (List ℕ)) → all ≡ old ++ unit_names us → first_fault (seen_of headers keys materials all [] [] all) rest ≡ None) → first_fault (seen_of headers keys materials old [] [] old) (entries OperatingUnits n (map unit_text us) ++ rest) ≡ None
+  units_walk materials count old n [] rest goods off fresh few behind = behind old (sym (append-nil old))
+  units_walk materials count old n (u ∷ us) rest goods off fresh few behind =
+      let parts : (is_among (unit_names us) u.name ≡ false) × (has_double (unit_names us) ≡ false) = or_parts (is_among (unit_names us) u.name) (has_double (unit_names us)) off in
+      let longer : length (old ++ u.name ∷ []) ≡ length old + 1 = length-append old (u.name ∷ []) in
+      let lines : List Placed = entries OperatingUnits (n + 1) (map unit_text us) ++ rest in
+      let line : IsItemLine u.name (unit_items u) = unit_line count u goods.0 in
+      let more : with_name old u.name ≡ old ++ u.name ∷ [] = cond-false (is_among old u.name) old (old ++ u.name ∷ []) fresh.0 in
+      first_clear (seen_of headers keys materials old [] [] old) (placed_at n OperatingUnits (unit_text u)) lines (unit_clear old count u goods.0 fresh.0 (omega arith))
+      (subst (λ (name : List ℕ). first_fault (seen_of headers keys materials (old ++ name ∷ []) [] [] (with_name old name)) lines ≡ None) (sym line.head)
+      (subst (λ (names : List (List ℕ)). first_fault (seen_of headers keys materials (old ++ u.name ∷ []) [] [] names) lines ≡ None) (sym more)
+      (units_walk materials count (old ++ u.name ∷ []) (n + 1) us rest goods.1 parts.1 (fresh-last old u.name (unit_names us) parts.0 fresh.1) (omega (arith, longer))
+      (λ all e. behind all (e ∙ append_assoc old (u.name ∷ []) (unit_names us))))))
 
-header-rates : (before : List Line) (n : ℕ) → list_any (is_header_of (codes "material_to_operating_unit_flow_rates")) before ≡ false → Each (λ kind. stands before (header_part n Rates (codes "material_to_operating_unit_flow_rates")) kind ≡ false) form_kinds
-header-rates before n new = (refl, (new, (refl, (refl, (refl, (refl, (refl, (refl, (refl, (refl, (refl, (refl, (refl, (refl, (refl, (refl, (refl, (refl, (refl, (refl, (refl, (refl, (refl, tt)))))))))))))))))))))))
+  module _ (names : List (List ℕ)) (each : Each (λ name. is_name name ≡ true) names) (distinct_names : has_double names ≡ false) (materials units seen : List (List ℕ)) where
+    rates_walk : (old : List (List ℕ)) (n : ℕ) (us : List OperatingUnit) (rest : List Placed) → Each (IsWellFormedUnit (length names)) us → has_double (unit_names us) ≡ false → Fresh old (unit_names us) → Each (λ u. is_among seen u.name ≡ true) us
+        → ((rates : List (List ℕ)) → first_fault (seen_of headers keys materials units rates [] seen) rest ≡ None) → first_fault (seen_of headers keys materials units old [] seen) (entries Rates n (map (rates_text names) us) ++ rest) ≡ None
+    rates_walk old n [] rest goods off fresh listed behind = behind old
+    rates_walk old n (u ∷ us) rest goods off fresh listed behind =
+        let parts : (is_among (unit_names us) u.name ≡ false) × (has_double (unit_names us) ≡ false) = or_parts (is_among (unit_names us) u.name) (has_double (unit_names us)) off in
+        let lines : List Placed = entries Rates (n + 1) (map (rates_text names) us) ++ rest in
+        let line : IsRatesLine names u = rates_line names (words_of names each) u goods.0 in
+        let same : with_name seen u.name ≡ seen = cond-true (is_among seen u.name) seen (seen ++ u.name ∷ []) listed.0 in
+        first_clear (seen_of headers keys materials units old [] seen) (placed_at n Rates (rates_text names u)) lines (rates_clear names each distinct_names u goods.0 old seen fresh.0 listed.0 line)
+        (subst (λ (name : List ℕ). first_fault (seen_of headers keys materials units (old ++ name ∷ []) [] (with_name seen name)) lines ≡ None) (sym line.head)
+        (subst (λ (all : List (List ℕ)). first_fault (seen_of headers keys materials units (old ++ u.name ∷ []) [] all) lines ≡ None) (sym same)
+        (rates_walk (old ++ u.name ∷ []) (n + 1) us rest goods.1 parts.1 (fresh-last old u.name (unit_names us) parts.0 fresh.1) listed.1 behind)))
 
-header-exclusions : (before : List Line) (n : ℕ) → list_any (is_header_of (codes "mutual_exclusions")) before ≡ false → Each (λ kind. stands before (header_part n Exclusions (codes "mutual_exclusions")) kind ≡ false) form_kinds
-header-exclusions before n new = (refl, (new, (refl, (refl, (refl, (refl, (refl, (refl, (refl, (refl, (refl, (refl, (refl, (refl, (refl, (refl, (refl, (refl, (refl, (refl, (refl, (refl, (refl, tt)))))))))))))))))))))))
+  exclusions_walk : (names : List (List ℕ)) → Each (λ name. is_name name ≡ true) names → has_double names ≡ false → (materials units rates seen : List (List ℕ)) (old : List (List ℕ)) (n : ℕ) (es : List Exclusion)
+      → Each (IsWellFormedExclusion (length names)) es → has_double (exclusion_names es) ≡ false → Fresh old (exclusion_names es) → length old + length es ≤ 64
+      → first_fault (seen_of headers keys materials units rates old seen) (entries Exclusions n (map (exclusion_text names) es) ++ []) ≡ None
+  exclusions_walk names each distinct_names materials units rates seen old n [] goods off fresh few = refl
+  exclusions_walk names each distinct_names materials units rates seen old n (e ∷ es) goods off fresh few =
+      let parts : (is_among (exclusion_names es) e.name ≡ false) × (has_double (exclusion_names es) ≡ false) = or_parts (is_among (exclusion_names es) e.name) (has_double (exclusion_names es)) off in
+      let longer : length (old ++ e.name ∷ []) ≡ length old + 1 = length-append old (e.name ∷ []) in
+      let line : IsItemLine e.name (map (name_at names) e.units) = exclusion_line names (words_of names each) e goods.0 in
+      let lines : List Placed = entries Exclusions (n + 1) (map (exclusion_text names) es) ++ [] in
+      first_clear (seen_of headers keys materials units rates old seen) (placed_at n Exclusions (exclusion_text names e)) lines
+      (exclusion_clear names each distinct_names e goods.0 line old fresh.0 (omega arith))
+      (subst (λ (name : List ℕ). first_fault (seen_of headers keys materials units rates (old ++ name ∷ []) seen) lines ≡ None) (sym line.head)
+      (exclusions_walk names each distinct_names materials units rates seen (old ++ e.name ∷ []) (n + 1) es goods.1 parts.1 (fresh-last old e.name (exclusion_names es) parts.0 fresh.1) (omega (arith, longer))))
 
--- one section behind the other
-distinct_few : (names : List (List ℕ)) → length (distinct names) ≤ length names
-distinct_few [] = omega arith
-distinct_few (name ∷ names) = cond_both (is_among names name) (distinct names) (name ∷ distinct names) (λ ns. length ns ≤ suc (length names)) (λ e. omega (arith, distinct_few names)) (λ e. omega (arith, distinct_few names))
+-- a header that is new
+new_header : (headers : List (List ℕ)) (name : List ℕ) → is_among headers name ≡ false → (let kind : Option TextKind = if is_among headers name then Some DoubleSection else None in kind) ≡ None
+new_header headers name new = cond-false (is_among headers name) (Some DoubleSection) None new
 
-pub materials_walk : (before : List Line) (n : ℕ) (ms : List Material) → Each IsWellFormedMaterial ms → has_double (map (λ m. m.name) ms) ≡ false → Fresh (names_in Materials before) (map (λ m. m.name) ms)
-    → length (lines_in Materials before) + length ms ≤ 256 → Clear stands form_kinds before (numbered material_part n ms)
-materials_walk before n [] goods off fresh few = tt
-materials_walk before n (m ∷ ms) goods off fresh few =
-    let parts = or_parts (is_among (map (λ (m : Material). m.name) ms) m.name) (has_double (map (λ (m : Material). m.name) ms)) off in (
-      material_clear before n m goods.0 fresh.0 (omega arith),
-      materials_walk (material_part n m ∷ before) (n + 1) ms goods.1 parts.1 (fresh-cons (names_in Materials before) m.name (map (λ (m : Material). m.name) ms) parts.0 fresh.1) (omega arith),
-    )
-
-pub units_walk : (count : ℕ) (before : List Line) (n : ℕ) (us : List OperatingUnit) → Each (IsWellFormedUnit count) us → has_double (map (λ u. u.name) us) ≡ false → Fresh (names_in OperatingUnits before) (map (λ u. u.name) us)
-    → names_in Rates before ≡ [] → length (names_in OperatingUnits before) + length us ≤ 128 → Clear stands form_kinds before (numbered unit_part n us)
-units_walk count before n [] goods off fresh none few = tt
-units_walk count before n (u ∷ us) goods off fresh none few =
-    let parts = or_parts (is_among (map (λ (u : OperatingUnit). u.name) us) u.name) (has_double (map (λ (u : OperatingUnit). u.name) us)) off in
-    let old : List (List ℕ) = names_in OperatingUnits before in
-    let all : length (old ++ names_in Rates before) ≡ length old = length-append old (names_in Rates before) ∙ ap (λ (ns : List (List ℕ)). length old + length ns) none ∙ omega arith in (
-      unit_clear before n count u goods.0 fresh.0 (omega (arith, distinct_few (old ++ names_in Rates before))),
-      units_walk count (unit_part n u ∷ before) (n + 1) us goods.1 parts.1 (fresh-cons old u.name (map (λ (u : OperatingUnit). u.name) us) parts.0 fresh.1) none (omega arith),
-    )
-
--- each unit is among those of the lines before
-among_onto : (before : List Line) (n : ℕ) (us : List OperatingUnit) (x : List ℕ) → is_among (names_in OperatingUnits before) x ≡ true → is_among (names_in OperatingUnits (onto before (numbered unit_part n us))) x ≡ true
-among_onto before n [] x is = is
-among_onto before n (u ∷ us) x is = among_onto (unit_part n u ∷ before) (n + 1) us x (or_right (bytes_eq u.name x) (is_among (names_in OperatingUnits before) x) is)
-
-all_among : (before : List Line) (n : ℕ) (us : List OperatingUnit) → Each (λ u. is_among (names_in OperatingUnits (onto before (numbered unit_part n us))) u.name ≡ true) us
-all_among before n [] = tt
-all_among before n (u ∷ us) = (
-  among_onto (unit_part n u ∷ before) (n + 1) us u.name (or_left (bytes_eq u.name u.name) (is_among (names_in OperatingUnits before) u.name) (bytes_same u.name)),
-  all_among (unit_part n u ∷ before) (n + 1) us,
-)
-
-module _ (names : List (List ℕ)) (each : Each (λ name. is_name name ≡ true) names) (distinct_names : has_double names ≡ false) where
-  pub rates_walk : (before : List Line) (n : ℕ) (us : List OperatingUnit) → Each (IsWellFormedUnit (length names)) us → has_double (map (λ u. u.name) us) ≡ false → Fresh (names_in Rates before) (map (λ u. u.name) us)
-      → Each (λ u. is_among (names_in OperatingUnits before) u.name ≡ true) us → Clear stands form_kinds before (numbered (rates_part names) n us)
-  rates_walk before n [] goods off fresh listed = tt
-  rates_walk before n (u ∷ us) goods off fresh listed =
-      let parts = or_parts (is_among (map (λ (u : OperatingUnit). u.name) us) u.name) (has_double (map (λ (u : OperatingUnit). u.name) us)) off in (
-        rates_clear names each distinct_names u goods.0 before n fresh.0 listed.0,
-        rates_walk (rates_part names n u ∷ before) (n + 1) us goods.1 parts.1 (fresh-cons (names_in Rates before) u.name (map (λ (u : OperatingUnit). u.name) us) parts.0 fresh.1) listed.1,
-      )
-
-  pub exclusions_walk : (before : List Line) (n : ℕ) (es : List Exclusion) → Each (IsWellFormedExclusion (length names)) es → has_double (map (λ e. e.name) es) ≡ false → Fresh (names_in Exclusions before) (map (λ e. e.name) es)
-      → length (lines_in Exclusions before) + length es ≤ 64 → Clear stands form_kinds before (numbered (exclusion_part names) n es)
-  exclusions_walk before n [] goods off fresh few = tt
-  exclusions_walk before n (e ∷ es) goods off fresh few =
-      let parts = or_parts (is_among (map (λ (e : Exclusion). e.name) es) e.name) (has_double (map (λ (e : Exclusion). e.name) es)) off in (
-        exclusion_clear names each distinct_names e goods.0 before n fresh.0 (omega arith),
-        exclusions_walk (exclusion_part names n e ∷ before) (n + 1) es goods.1 parts.1 (fresh-cons (names_in Exclusions before) e.name (map (λ (e : Exclusion). e.name) es) parts.0 fresh.1) (omega arith),
-      )
-
--- nothing of the sections stands before
-pub record Start (before : List Line) : Type 0 where
-  pub materials : lines_in Materials before ≡ []
-  pub units : lines_in OperatingUnits before ≡ []
-  pub rates : lines_in Rates before ≡ []
-  pub exclusions : lines_in Exclusions before ≡ []
-  pub material_header : list_any (is_header_of (codes "materials")) before ≡ false
-  pub unit_header : list_any (is_header_of (codes "operating_units")) before ≡ false
-  pub rates_header : list_any (is_header_of (codes "material_to_operating_unit_flow_rates")) before ≡ false
-  pub exclusion_header : list_any (is_header_of (codes "mutual_exclusions")) before ≡ false
-
-abbrev name_of : Line → List ℕ
-name_of line = line.name
+abbrev with_header : List (List ℕ) → List ℕ → List (List ℕ)
+with_header headers name = headers ++ name ∷ []
 
 module _ (p : Problem) (is : IsWellFormed p) where
   m_names : Each (λ name. is_name name ≡ true) (material_names p.materials)
   m_names = each-map (λ name. is_name name ≡ true) (λ (m : Material). m.name) p.materials (each-to IsWellFormedMaterial (λ m. is_name m.name ≡ true) (λ m good. good.named) p.materials is.materials_formed)
 
   u_names : Each (λ name. is_name name ≡ true) (unit_names p.units)
-  u_names = each-map (λ name. is_name name ≡ true) (λ (u : OperatingUnit). u.name) p.units (each-to (IsWellFormedUnit (length (material_names p.materials))) (λ u. is_name u.name ≡ true) (λ u good. good.named) p.units (units_named p is))
+  u_names = each-map (λ name. is_name name ≡ true) (λ (u : OperatingUnit). u.name) p.units (each-to (IsWellFormedUnit (length p.materials)) (λ u. is_name u.name ≡ true) (λ u good. good.named) p.units is.units_formed)
 
-  abbrev at_materials : List Line → ℕ → List Line
-  at_materials before a = header_part a Materials (codes "materials") ∷ before
+  listed : Each (λ u. is_among (unit_names p.units) u.name ≡ true) p.units
+  listed = each-unmap (λ name. is_among (unit_names p.units) name ≡ true) (λ (u : OperatingUnit). u.name) p.units (among_self (unit_names p.units))
 
-  abbrev past_materials : List Line → ℕ → List Line
-  past_materials before a = onto (at_materials before a) (numbered material_part (a + 1) p.materials)
+  module _ (h0 keys : List (List ℕ)) (h1 : is_among h0 (codes "materials") ≡ false) (h2 : is_among (with_header h0 (codes "materials")) (codes "operating_units") ≡ false)
+      (h3 : is_among (with_header (with_header h0 (codes "materials")) (codes "operating_units")) (codes "material_to_operating_unit_flow_rates") ≡ false)
+      (h4 : is_among (with_header (with_header (with_header h0 (codes "materials")) (codes "operating_units")) (codes "material_to_operating_unit_flow_rates")) (codes "mutual_exclusions") ≡ false) where
+    abbrev m_headers : List (List ℕ)
+    m_headers = with_header h0 (codes "materials")
 
-  abbrev at_units : List Line → ℕ → ℕ → List Line
-  at_units before a b = header_part b OperatingUnits (codes "operating_units") ∷ past_materials before a
+    abbrev u_headers : List (List ℕ)
+    u_headers = with_header m_headers (codes "operating_units")
 
-  abbrev past_units : List Line → ℕ → ℕ → List Line
-  past_units before a b = onto (at_units before a b) (numbered unit_part (b + 1) p.units)
+    abbrev r_headers : List (List ℕ)
+    r_headers = with_header u_headers (codes "material_to_operating_unit_flow_rates")
 
-  abbrev at_rates : List Line → ℕ → ℕ → ℕ → List Line
-  at_rates before a b c = header_part c Rates (codes "material_to_operating_unit_flow_rates") ∷ past_units before a b
+    exclusions_clear : (n : ℕ) (materials rates : List (List ℕ)) → first_fault (seen_of r_headers keys materials (unit_names p.units) rates [] (unit_names p.units)) (laid n (exclusion_part p ∷ [])) ≡ None
+    exclusions_clear n materials rates = from p.exclusions (exclusions_named p is) is.exclusions_apart is.few_exclusions where
+      from : (es : List Exclusion) → Each (IsWellFormedExclusion (length (unit_names p.units))) es → has_double (exclusion_names es) ≡ false → length es ≤ 64
+          → first_fault (seen_of r_headers keys materials (unit_names p.units) rates [] (unit_names p.units)) (laid n (record { section = Exclusions; always = false; texts = map (exclusion_text (unit_names p.units)) es } ∷ [])) ≡ None
+      from [] goods off few = refl
+      from (e ∷ es) goods off few = first_clear (seen_of r_headers keys materials (unit_names p.units) rates [] (unit_names p.units)) (header_at (n + 1) Exclusions) (entries Exclusions (n + 1 + 1) (map (exclusion_text (unit_names p.units)) (e ∷ es)) ++ []) (new_header r_headers (codes "mutual_exclusions") h4)
+          (exclusions_walk (with_header r_headers (codes "mutual_exclusions")) keys (unit_names p.units) u_names is.units_apart materials (unit_names p.units) rates (unit_names p.units) [] (n + 1 + 1) (e ∷ es) goods off (fresh-nil (exclusion_names (e ∷ es))) (omega (arith, few)))
 
-  abbrev past_rates : List Line → ℕ → ℕ → ℕ → List Line
-  past_rates before a b c = onto (at_rates before a b c) (numbered (rates_part (material_names p.materials)) (c + 1) p.units)
+    rates_part_clear : (n : ℕ) (materials all : List (List ℕ)) → all ≡ unit_names p.units → first_fault (seen_of u_headers keys materials all [] [] all) (laid n (rates_part p ∷ exclusion_part p ∷ [])) ≡ None
+    rates_part_clear n materials all e =
+        let m : ℕ = past (n + 1 + 1) (rates_part p).texts in
+        let rest : List Placed = laid m (exclusion_part p ∷ []) in
+        let lines : List Placed = entries Rates (n + 1 + 1) (rates_part p).texts ++ rest in
+        subst (λ (all : List (List ℕ)). first_fault (seen_of u_headers keys materials all [] [] all) (laid n (rates_part p ∷ exclusion_part p ∷ [])) ≡ None) (sym e)
+        (first_clear (seen_of u_headers keys materials (unit_names p.units) [] [] (unit_names p.units)) (header_at (n + 1) Rates) lines (new_header u_headers (codes "material_to_operating_unit_flow_rates") h3)
+        (rates_walk r_headers keys (material_names p.materials) m_names is.materials_apart materials (unit_names p.units) (unit_names p.units) [] (n + 1 + 1) p.units rest (units_named p is) is.units_apart (fresh-nil (unit_names p.units)) listed
+        (λ rates. exclusions_clear m materials rates)))
 
-  -- what fails at the lines of a section is not found behind it
-  any_materials : (q : Line → Bool) → ((n : ℕ) (m : Material) → q (material_part n m) ≡ false) → (before : List Line) (a : ℕ) → list_any q (past_materials before a) ≡ list_any q (at_materials before a)
-  any_materials q off before a = any_onto material_part q off (at_materials before a) (a + 1) p.materials
+    units_part_clear : (n : ℕ) (materials : List (List ℕ)) → first_fault (seen_of m_headers keys materials [] [] [] []) (laid n (unit_part p ∷ rates_part p ∷ exclusion_part p ∷ [])) ≡ None
+    units_part_clear n materials =
+        let m : ℕ = past (n + 1 + 1) (unit_part p).texts in
+        let rest : List Placed = laid m (rates_part p ∷ exclusion_part p ∷ []) in
+        let lines : List Placed = entries OperatingUnits (n + 1 + 1) (unit_part p).texts ++ rest in
+        first_clear (seen_of m_headers keys materials [] [] [] []) (header_at (n + 1) OperatingUnits) lines (new_header m_headers (codes "operating_units") h2)
+        (units_walk u_headers keys materials (length p.materials) [] (n + 1 + 1) p.units rest is.units_formed is.units_apart (fresh-nil (unit_names p.units)) (omega (arith, is.few_units)) (rates_part_clear m materials))
 
-  any_units : (q : Line → Bool) → ((n : ℕ) (u : OperatingUnit) → q (unit_part n u) ≡ false) → (before : List Line) (a b : ℕ) → list_any q (past_units before a b) ≡ list_any q (at_units before a b)
-  any_units q off before a b = any_onto unit_part q off (at_units before a b) (b + 1) p.units
-
-  any_rates : (q : Line → Bool) → ((n : ℕ) (u : OperatingUnit) → q (rates_part (material_names p.materials) n u) ≡ false) → (before : List Line) (a b c : ℕ) → list_any q (past_rates before a b c) ≡ list_any q (at_rates before a b c)
-  any_rates q off before a b c = any_onto (rates_part (material_names p.materials)) q off (at_rates before a b c) (c + 1) p.units
-
-  kept_materials : (q : Line → Bool) → ((n : ℕ) (m : Material) → q (material_part n m) ≡ false) → (before : List Line) (a : ℕ) → filter q (past_materials before a) ≡ filter q (at_materials before a)
-  kept_materials q off before a = filter_onto material_part q off (at_materials before a) (a + 1) p.materials
-
-  kept_units : (q : Line → Bool) → ((n : ℕ) (u : OperatingUnit) → q (unit_part n u) ≡ false) → (before : List Line) (a b : ℕ) → filter q (past_units before a b) ≡ filter q (at_units before a b)
-  kept_units q off before a b = filter_onto unit_part q off (at_units before a b) (b + 1) p.units
-
-  kept_rates : (q : Line → Bool) → ((n : ℕ) (u : OperatingUnit) → q (rates_part (material_names p.materials) n u) ≡ false) → (before : List Line) (a b c : ℕ) → filter q (past_rates before a b c) ≡ filter q (at_rates before a b c)
-  kept_rates q off before a b c = filter_onto (rates_part (material_names p.materials)) q off (at_rates before a b c) (c + 1) p.units
-
-  units_new : (before : List Line) (a : ℕ) → Start before → list_any (is_header_of (codes "operating_units")) (past_materials before a) ≡ false
-  units_new before a start = any_materials (is_header_of (codes "operating_units")) (λ n m. refl) before a ∙ start.unit_header
-
-  rates_new : (before : List Line) (a b : ℕ) → Start before → list_any (is_header_of (codes "material_to_operating_unit_flow_rates")) (past_units before a b) ≡ false
-  rates_new before a b start = any_units (is_header_of (codes "material_to_operating_unit_flow_rates")) (λ n u. refl) before a b ∙ any_materials (is_header_of (codes "material_to_operating_unit_flow_rates")) (λ n m. refl) before a ∙ start.rates_header
-
-  exclusions_new : (before : List Line) (a b c : ℕ) → Start before → list_any (is_header_of (codes "mutual_exclusions")) (past_rates before a b c) ≡ false
-  exclusions_new before a b c start = any_rates (is_header_of (codes "mutual_exclusions")) (λ n u. refl) before a b c ∙ any_units (is_header_of (codes "mutual_exclusions")) (λ n u. refl) before a b ∙ any_materials (is_header_of (codes "mutual_exclusions")) (λ n m. refl) before a ∙ start.exclusion_header
-
-  no_units : (before : List Line) (a b : ℕ) → Start before → lines_in OperatingUnits (at_units before a b) ≡ []
-  no_units before a b start = kept_materials (is_in OperatingUnits) (λ n m. refl) before a ∙ start.units
-
-  no_rates_at_units : (before : List Line) (a b : ℕ) → Start before → lines_in Rates (at_units before a b) ≡ []
-  no_rates_at_units before a b start = kept_materials (is_in Rates) (λ n m. refl) before a ∙ start.rates
-
-  no_rates_at_rates : (before : List Line) (a b c : ℕ) → Start before → lines_in Rates (at_rates before a b c) ≡ []
-  no_rates_at_rates before a b c start = kept_units (is_in Rates) (λ n u. refl) before a b ∙ no_rates_at_units before a b start
-
-  no_exclusions : (before : List Line) (a b c : ℕ) → Start before → lines_in Exclusions (past_rates before a b c) ≡ []
-  no_exclusions before a b c start = kept_rates (is_in Exclusions) (λ n u. refl) before a b c ∙ kept_units (is_in Exclusions) (λ n u. refl) before a b ∙ kept_materials (is_in Exclusions) (λ n m. refl) before a ∙ start.exclusions
-
-  fresh_from : (lines : List Line) (names : List (List ℕ)) → lines ≡ [] → Fresh (map name_of lines) names
-  fresh_from lines names e = subst (λ (ls : List Line). Fresh (map name_of ls) names) (sym e) (fresh-nil names)
-
-  exclusions_clear : (before : List Line) (d : ℕ) (es : List Exclusion) → Each (IsWellFormedExclusion (length (unit_names p.units))) es → has_double (map (λ e. e.name) es) ≡ false → length es ≤ 64
-      → lines_in Exclusions before ≡ [] → list_any (is_header_of (codes "mutual_exclusions")) before ≡ false → Clear stands form_kinds before (exclusion_parts (unit_names p.units) d es)
-  exclusions_clear before d [] goods off few none new = tt
-  exclusions_clear before d (e ∷ es) goods off few none new = (
-    header-exclusions before d new,
-    exclusions_walk (unit_names p.units) u_names is.units_apart (header_part d Exclusions (codes "mutual_exclusions") ∷ before) (d + 1) (e ∷ es) goods off
-        (fresh_from (lines_in Exclusions before) (map (λ (e : Exclusion). e.name) (e ∷ es)) none)
-        (omega (arith, ap (λ (ls : List Line). length ls) none, few)),
-  )
-
-  pub sections_clear : (before : List Line) (a b c d : ℕ) → Start before → Clear stands form_kinds before
-      (header_part a Materials (codes "materials") ∷ (numbered material_part (a + 1) p.materials
-      ++ (header_part b OperatingUnits (codes "operating_units") ∷ (numbered unit_part (b + 1) p.units
-      ++ (header_part c Rates (codes "material_to_operating_unit_flow_rates") ∷ (numbered (rates_part (material_names p.materials)) (c + 1) p.units
-      ++ exclusion_parts (unit_names p.units) d p.exclusions))))))
-  sections_clear before a b c d start = (
-    header-materials before a start.material_header,
-    clear-append stands form_kinds (at_materials before a) (numbered material_part (a + 1) p.materials) _
-        (materials_walk (at_materials before a) (a + 1) p.materials is.materials_formed is.materials_apart
-        (fresh_from (lines_in Materials before) (material_names p.materials) start.materials) (omega (arith, ap (λ (ls : List Line). length ls) start.materials, is.few_materials))) (
-          header-units (past_materials before a) b (units_new before a start),
-          clear-append stands form_kinds (at_units before a b) (numbered unit_part (b + 1) p.units) _
-              (units_walk (length (material_names p.materials)) (at_units before a b) (b + 1) p.units (units_named p is) is.units_apart (fresh_from (lines_in OperatingUnits (at_units before a b)) (unit_names p.units) (no_units before a b start))
-              (ap (map name_of) (no_rates_at_units before a b start)) (omega (arith, ap (λ (ls : List Line). length (map name_of ls)) (no_units before a b start), is.few_units))) (
-                header-rates (past_units before a b) c (rates_new before a b start),
-                clear-append stands form_kinds (at_rates before a b c) (numbered (rates_part (material_names p.materials)) (c + 1) p.units) _
-                    (rates_walk (material_names p.materials) m_names is.materials_apart (at_rates before a b c) (c + 1) p.units (units_named p is) is.units_apart
-                    (fresh_from (lines_in Rates (at_rates before a b c)) (unit_names p.units) (no_rates_at_rates before a b c start)) (all_among (at_units before a b) (b + 1) p.units))
-                    (exclusions_clear (past_rates before a b c) d p.exclusions (exclusions_named p is) is.exclusions_apart is.few_exclusions (no_exclusions before a b c start) (exclusions_new before a b c start)),
-              ),
-        ),
-  )
+    sections_clear : (n : ℕ) → first_fault (seen_of h0 keys [] [] [] [] []) (laid n (material_part p ∷ unit_part p ∷ rates_part p ∷ exclusion_part p ∷ [])) ≡ None
+    sections_clear n =
+        let m : ℕ = past (n + 1 + 1) (material_part p).texts in
+        let rest : List Placed = laid m (unit_part p ∷ rates_part p ∷ exclusion_part p ∷ []) in
+        let lines : List Placed = entries Materials (n + 1 + 1) (material_part p).texts ++ rest in
+        first_clear (seen_of h0 keys [] [] [] [] []) (header_at (n + 1) Materials) lines (new_header h0 (codes "materials") h1)
+        (materials_walk m_headers keys [] (n + 1 + 1) p.materials rest is.materials_formed is.materials_apart (fresh-nil (material_names p.materials)) (omega (arith, is.few_materials)) (units_part_clear m))
 
   payout_some : (z : ℤ) → int_lt (pos 0) z ≡ true → 1 ≤ unsigned_abs z
   payout_some (pos n) lt = ltb-true 0 n lt
   payout_some (negsuc n) lt = omega arith
 
-  pub parts_clear : (a b c d : ℕ) → Clear stands form_kinds [] (parts_at p a b c d)
-  parts_clear a b c d =
-      let k : ℕ = unsigned_abs p.payout in
-      let rest : List Line = header_part a Materials (codes "materials") ∷ (numbered material_part (a + 1) p.materials
-      ++ (header_part b OperatingUnits (codes "operating_units") ∷ (numbered unit_part (b + 1) p.units
-      ++ (header_part c Rates (codes "material_to_operating_unit_flow_rates") ∷ (numbered (rates_part (material_names p.materials)) (c + 1) p.units
-      ++ exclusion_parts (unit_names p.units) d p.exclusions))))) in
-      let two : List Line = header_part 3 Defaults (codes "defaults") ∷ payout_part 4 k ∷ [] in
-      cond_both (k == 1) [] two (λ lines. Clear stands form_kinds [] (lines ++ rest))
-      (λ e. sections_clear [] a b c d (record { materials = refl; units = refl; rates = refl; exclusions = refl; material_header = refl; unit_header = refl; rates_header = refl; exclusion_header = refl }))
-      (λ e. (
-        header-defaults [] 3 refl,
-        (
-          payout_clear k (payout_some p.payout is.payout_positive) is.payout_limit,
-          sections_clear (payout_part 4 k ∷ header_part 3 Defaults (codes "defaults") ∷ []) a b c d
-              (record { materials = refl; units = refl; rates = refl; exclusions = refl; material_header = refl; unit_header = refl; rates_header = refl; exclusion_header = refl }),
-        ),
-      ))
-
   -- no kind of form stands in the canonical text
-  pub no_form_fault : form_fault (canonical_lines p) ≡ None
-  no_form_fault = from (canonical_parts p is) where
-    from : ((a b c d : ℕ) × (parts_of (canonical_lines p) ≡ parts_at p a b c d)) → form_fault (canonical_lines p) ≡ None
-    from found = ap (first_of stands form_kinds []) found.4 ∙ clear-none stands form_kinds [] (parts_at p found.0 found.1 found.2 found.3) (parts_clear found.0 found.1 found.2 found.3)
+  pub no_form_fault : form_fault (file_type ∷ spelled (parts_of p)) ≡ None
+  no_form_fault =
+      let k : ℕ = unsigned_abs p.payout in
+      ap (first_fault seen_none) (canonical_laid p is)
+      ∙ cond_both (k == 1) [] (payout_text k ∷ []) (λ texts. first_fault seen_none (laid 2 (record { section = Defaults; always = false; texts = texts } ∷ material_part p ∷ unit_part p ∷ rates_part p ∷ exclusion_part p ∷ [])) ≡ None)
+      (λ e. sections_clear [] [] refl refl refl refl 2)
+      (λ e.
+      let rest : List Placed = laid 5 (material_part p ∷ unit_part p ∷ rates_part p ∷ exclusion_part p ∷ []) in
+      let line : Placed = placed_at 4 Defaults (payout_text k) in
+      first_clear seen_none (header_at 3 Defaults) (line ∷ rest) refl
+      (first_clear (seen_of (codes "defaults" ∷ []) [] [] [] [] [] []) line rest (payout_clear k (payout_some p.payout is.payout_positive) is.payout_limit)
+      (sections_clear (codes "defaults" ∷ []) (codes "payout_period" ∷ []) refl refl refl refl 5)))

@@ -1,9 +1,9 @@
 -- Pieces with marks between them: names, items and tokens of a printed line are found again.
 use Rattle.std.proofs.Common.{◌≡◌, ◌<◌, ◌+◌, ◌||◌, ◌==◌, Bool, true, false, not, ℕ, suc, List, [], ◌∷◌, ◌++◌, length, map, filter, refl, ◌∙◌, ap, arith, length-append, ne_eqb}
 use Rattle.std.specs.List.{list_all, list_any, prefix_len, suffix_len, slice_split}
-use Rattle.std.proofs.lemmas.Bool.{cond-true, and_right, or_from, or_parts, or_left}
+use Rattle.std.proofs.lemmas.Bool.{cond-true, and_left, and_right, or_from, or_parts, or_left}
 use Rattle.text_rules.specs.Blanks.{is_blank, trim}
-use Rattle.problem_rules.specs.Names.{continues_name}
+use Rattle.problem_rules.specs.Names.{continues_name, is_name}
 use Rattle.text_rules.specs.Line.{is_colon, head_of, tail_of, is_header}
 use Rattle.text_rules.specs.Field.{items_of, tokens_of}
 use Rattle.text_rules.specs.Canonical.{joined, spaced, named, item_line, token_text}
@@ -110,14 +110,33 @@ tokens_tail token tokens one each =
       ret = none (λ c. c == 13) refl (off_mark 13 refl);
     }
 
+-- a line as it is printed that is no header and not empty
+pub record IsEntry (text : List ℕ) : Type 0 where
+  pub no_header : is_header text ≡ false
+  pub long : (length text == 0) ≡ false
+  pub line : IsLine text
+
+pub piece_long : (text : List ℕ) → IsPiece text → (length text == 0) ≡ false
+piece_long text is = let some : 0 < length text = is.some in ne_eqb (length text) 0 (λ e. absurd (omega arith))
+
+pub piece_entry : (text : List ℕ) → IsPiece text → IsEntry text
+piece_entry text is = record {
+  no_header = and_left _ _ (and_left (list_any is_colon text) (is_name (head_of text)) (piece_none is_colon (off_mark 58 refl) text is));
+  long = piece_long text is;
+  line = record {
+    feed = piece_none (λ c. c == 10) (off_mark 10 refl) text is;
+    ret = piece_none (λ c. c == 13) (off_mark 13 refl) text is;
+    front = prefix_none is_blank text (piece_none is_blank no_blank text is);
+    back = (piece_end text is).back;
+  };
+}
+
 -- a name, a colon and a text
 pub record IsNamed (name text : List ℕ) : Type 0 where
   pub head : head_of (named name text) ≡ name
   pub tail : tail_of (named name text) ≡ text
   pub colon : list_any is_colon (named name text) ≡ true
-  pub no_header : is_header (named name text) ≡ false
-  pub long : (length (named name text) == 0) ≡ false
-  pub line : IsLine (named name text)
+  pub entry : IsEntry (named name text)
 
 pub named_apart : (name text : List ℕ) → IsWord name → IsTail text → IsNamed name text
 named_apart name text word rest =
@@ -133,13 +152,15 @@ named_apart name text word rest =
       head = ap trim (before_mark is_colon name 58 (32 ∷ text) no_colon refl) ∙ trim_none name bare;
       tail = tail;
       colon = any_mark is_colon name 58 (32 ∷ text) refl;
-      no_header = and_right _ _ (ap (λ (t : List ℕ). length t == 0) tail ∙ ne_eqb (length text) 0 (λ e. absurd (omega (arith, e, rest.some))));
-      long = ne_eqb (length (named name text)) 0 (λ e. absurd (omega (arith, e, size)));
-      line = record {
-        feed = none (λ c. c == 10) refl refl (piece_none (λ c. c == 10) (off_mark 10 refl) name piece) rest.feed;
-        ret = none (λ c. c == 13) refl refl (piece_none (λ c. c == 13) (off_mark 13 refl) name piece) rest.ret;
-        front = named_front name text piece;
-        back = end.back;
+      entry = record {
+        no_header = and_right _ _ (ap (λ (t : List ℕ). length t == 0) tail ∙ ne_eqb (length text) 0 (λ e. absurd (omega (arith, e, rest.some))));
+        long = ne_eqb (length (named name text)) 0 (λ e. absurd (omega (arith, e, size)));
+        line = record {
+          feed = none (λ c. c == 10) refl refl (piece_none (λ c. c == 10) (off_mark 10 refl) name piece) rest.feed;
+          ret = none (λ c. c == 13) refl refl (piece_none (λ c. c == 13) (off_mark 13 refl) name piece) rest.ret;
+          front = named_front name text piece;
+          back = end.back;
+        };
       };
     } where
       named_front : (name text : List ℕ) → IsPiece name → prefix_len is_blank (named name text) ≡ 0

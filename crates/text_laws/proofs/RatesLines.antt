@@ -1,32 +1,29 @@
--- No kind of form stands at a rates line, nor at an exclusion's.
-use Rattle.std.proofs.Common.{◌≡◌, ◌<◌, ◌≤◌, ◌&&◌, ◌||◌, ◌==◌, Bool, true, false, not, ℕ, zero, suc, List, [], ◌∷◌, ◌++◌, length, get_or, map, filter, codes, bytes_eq, Ok, Result, ℤ, pos, negsuc, int_lt, unsigned_abs, nat_lt, refl, sym, ◌∙◌, ap, arith, eqb-true, le-ltb, ne_eqb, eq-eqb}
+-- No kind of form stands at a line of rates of a canonical text, nor at an exclusion's.
+use Rattle.std.proofs.Common.{◌≡◌, ◌<◌, ◌≤◌, ◌||◌, ◌==◌, Bool, true, false, not, ℕ, zero, suc, List, [], ◌∷◌, ◌++◌, length, get_or, map, codes, bytes_eq, Option, Some, None, Ok, ℤ, pos, negsuc, int_lt, unsigned_abs, nat_le, nat_lt, refl, sym, ◌∙◌, ap, arith, eqb-true, le-ltb, ne_eqb, eq-eqb, if◌then◌else◌, slice_index_or}
 use Rattle.std.specs.List.{list_any}
-use Rattle.std.specs.Result.{result_unwrap_or}
-use Rattle.std.proofs.lemmas.Bool.{cond_both, lt-leb, and_left, and_right, or_parts, or_from, or_left, true≢false}
+use Rattle.std.proofs.lemmas.Bool.{cond_both, cond-false, lt-leb, and_left, and_right, or_parts, or_from, true≢false}
 use Rattle.std.proofs.lemmas.List.{length-map}
-use Rattle.std.proofs.lemmas.List.Folds.{list_any-append}
-use Rattle.text_rules.specs.declared.TextKind.{TextKind}
-use Rattle.text_rules.specs.declared.Section.TheVariants.{OperatingUnits, Rates, Exclusions}
-use Rattle.problem_rules.specs.Names.{is_name, is_among, has_double}
-use Rattle.text_rules.specs.Amount.{amount_of}
-use Rattle.text_rules.specs.Printed.{amount_bytes}
-use Rattle.problem_rules.specs.Problem.{Term, OperatingUnit, Exclusion}
-use Rattle.text_rules.specs.Field.{Line, lines_in, names_in, numbers_of, material_of, rate_of, materials_of, material_type}
-use Rattle.text_rules.specs.Fault.{stands, form_kinds, millionths}
-use Rattle.text_rules.specs.Canonical.{name_at, term_tokens, token_text, rates_tokens}
-use Rattle.problem_rules.specs.WellFormed.{IsWellFormedTerm, IsWellFormedSide, IsWellFormedUnit, IsWellFormedExclusion}
-use Rattle.text_laws.proofs.Numbers.{has_number, has_double_number, repeats_same, sides_apart, rising_within, rising_double}
-use Rattle.text_laws.proofs.PrintedItems.{member_words}
-use Rattle.text_laws.proofs.PrintedAmount.{amounts_read_back}
 use Rattle.problem_rules.specs.Each.{Each}
+use Rattle.problem_rules.specs.Names.{is_name, is_among, has_double}
+use Rattle.problem_rules.specs.Problem.{Term, OperatingUnit, Exclusion, numbers_of}
+use Rattle.problem_rules.specs.WellFormed.{IsWellFormedTerm, IsWellFormedSide, IsWellFormedUnit, IsWellFormedExclusion}
+use Rattle.text_rules.specs.declared.TextKind.{TextKind}
+use Rattle.text_rules.specs.declared.TextKind.TheVariants.{BadLine, BadName, BadNumber, TooFine, TooLarge, Negative, ZeroRate, DoubleTerm, BothSides, EmptySide, DoubleRates, TooMany, DoubleExclusion, DoubleMember, FewMembers}
+use Rattle.text_rules.specs.Amount.{amount_of}
+use Rattle.text_rules.specs.Line.{is_colon, head_of}
+use Rattle.text_rules.specs.Printed.{amount_bytes}
+use Rattle.text_rules.specs.Field.{items_of, sides_of}
+use Rattle.text_rules.specs.Term.{Pair, pair_of, pairs_at, is_bad_term, has_bad_sides, sides_read}
+use Rattle.text_rules.specs.Fault.{or_kind, names_of, rate_stands, number_stands, rate_kinds, term_fault, doubled, is_beyond, whole_fault, sides_fault, exclusion_fault}
+use Rattle.text_rules.specs.Canonical.{name_at, term_tokens}
+use Rattle.text_laws.proofs.Numbers.{has_number, has_double_number, repeats_same, sides_apart, rising_within, rising_double}
+use Rattle.text_laws.proofs.PrintedAmount.{amounts_read_back}
 use Rattle.text_laws.proofs.Each.{each-to, each-map, each-append, none_from_each}
-use Rattle.text_laws.proofs.Pieces.{IsPiece, IsNamed, word_piece, named_apart}
-use Rattle.text_laws.proofs.Words.{IsWord, name_word}
-use Rattle.text_laws.proofs.PrintedSides.{rates_tail}
-use Rattle.text_laws.proofs.CanonicalParts.{rates_part, exclusion_part, IsItemLine, items_line}
+use Rattle.text_laws.proofs.CanonicalParts.{IsItemLine, IsRatesLine, rates_text, exclusion_text}
 use Rattle.text_laws.proofs.Names.{bytes_differ}
-use Rattle.text_laws.proofs.Clear.{GoodNumber, numbers_bad, numbers_fine, numbers_large, numbers_negative}
-use Rattle.text_laws.proofs.ItemLines.{no_empty}
+use Rattle.text_laws.proofs.Pieces.{word_piece, piece_long}
+use Rattle.text_laws.proofs.Words.{name_word}
+use Rattle.text_laws.proofs.Clear.{find_none}
 
 pub positive_sign : (z : ℤ) → int_lt (pos 0) z ≡ true → int_lt z (pos 0) ≡ false
 positive_sign (pos n) is = le-ltb n 0 (omega arith)
@@ -78,96 +75,157 @@ module _ (names : List (List ℕ)) (distinct_names : has_double names ≡ false)
       or_from (is_among (map (name_at names) js) (name_at names k)) (list_any (is_among (map (name_at names) js)) (map (name_at names) ks))
       (among_numbers js k each within.0 parts.0) (shared_numbers js ks each within.1 parts.1)
 
--- what the tokens of a term say
-pub record IsTermTokens (tokens : List (List ℕ)) : Type 0 where
-  pub few : (length tokens == 0 || nat_lt 2 (length tokens)) ≡ false
-  pub name : is_name (material_of tokens) ≡ true
-  pub number : GoodNumber (codes "rate", rate_of tokens)
-  pub rate : (not (int_lt (millionths (rate_of tokens)) (pos 0)) && not (int_lt (pos 0) (millionths (rate_of tokens)))) ≡ false
+-- ---- terms
 
-positive_rate : (text : List ℕ) (z : ℤ) → amount_of text ≡ Ok z → int_lt (pos 0) z ≡ true → (not (int_lt (millionths text) (pos 0)) && not (int_lt (pos 0) (millionths text))) ≡ false
-positive_rate text z reads is =
-    ap (λ (r : Result ℤ TextKind). not (int_lt (result_unwrap_or r (pos 0)) (pos 0)) && not (int_lt (pos 0) (result_unwrap_or r (pos 0)))) reads
-    ∙ and_right (not (int_lt z (pos 0))) (not (int_lt (pos 0) z)) (ap not is)
+-- a term as a rate and a name
+abbrev pub rate_text : Term → List ℕ
+rate_text t = if unsigned_abs t.rate == 1000000 then codes "1" else amount_bytes t.rate
 
-pub term_good : (names : List (List ℕ)) → Each (λ name. is_name name ≡ true) names → (t : Term) → IsWellFormedTerm (length names) t → IsTermTokens (term_tokens names t)
-term_good names each t good =
-    let name : is_name (name_at names t.material) ≡ true = name_at_each (λ name. is_name name ≡ true) names t.material each good.known in
-    let reads : amount_of (amount_bytes t.rate) ≡ Ok t.rate = amounts_read_back t.rate good.in_range in
-    cond_both (unsigned_abs t.rate == 1000000) (name_at names t.material ∷ []) (amount_bytes t.rate ∷ name_at names t.material ∷ []) IsTermTokens
-    (λ e. record { few = refl; name = name; number = record { amount = pos 1000000; reads = refl; sign = refl }; rate = refl })
-    (λ e. record { few = refl; name = name; number = record { amount = t.rate; reads = reads; sign = and_left (int_lt t.rate (pos 0)) true (positive_sign t.rate good.positive) }; rate = positive_rate (amount_bytes t.rate) t.rate reads good.positive })
+abbrev pub pair : List (List ℕ) → Term → Pair
+pair names t = (rate_text t, name_at names t.material)
 
-pub material_of_term : (names : List (List ℕ)) (t : Term) → material_of (term_tokens names t) ≡ name_at names t.material
-material_of_term names t = cond_both (unsigned_abs t.rate == 1000000) (name_at names t.material ∷ []) (amount_bytes t.rate ∷ name_at names t.material ∷ []) (λ ts. material_of ts ≡ name_at names t.material) (λ e. refl) (λ e. refl)
+pub rate_reads : (count : ℕ) (t : Term) → IsWellFormedTerm count t → amount_of (rate_text t) ≡ Ok t.rate
+rate_reads count t good = cond_both (unsigned_abs t.rate == 1000000) (codes "1") (amount_bytes t.rate) (λ text. amount_of text ≡ Ok t.rate)
+    (λ e. ap Ok (sym (one_rate t.rate good.positive e))) (λ e. amounts_read_back t.rate good.in_range)
 
-pub materials_of_terms : (names : List (List ℕ)) (terms : List Term) → materials_of (map (term_tokens names) terms) ≡ map (name_at names) (map (λ t. t.material) terms)
-materials_of_terms names [] = refl
-materials_of_terms names (t ∷ terms) =
-    ap (λ (m : List ℕ). m ∷ materials_of (map (term_tokens names) terms)) (material_of_term names t)
-    ∙ ap (λ (ms : List (List ℕ)). name_at names t.material ∷ ms) (materials_of_terms names terms)
+-- its tokens
+pair_is : (names : List (List ℕ)) (t : Term) → pair_of (term_tokens names t) ≡ pair names t
+pair_is names t = at (unsigned_abs t.rate == 1000000) where
+  at : (one : Bool) → pair_of (if one then name_at names t.material ∷ [] else amount_bytes t.rate ∷ name_at names t.material ∷ []) ≡ (if one then codes "1" else amount_bytes t.rate, name_at names t.material)
+  at true = refl
+  at false = refl
 
--- the numbers of terms
-abbrev pub rate_field : List (List ℕ) → List ℕ × List ℕ
-rate_field term = (codes "rate", rate_of term)
+pairs_are : (names : List (List ℕ)) (terms : List Term) → map pair_of (map (term_tokens names) terms) ≡ map (pair names) terms
+pairs_are names [] = refl
+pairs_are names (t ∷ terms) =
+    ap (λ (one : Pair). one ∷ map pair_of (map (term_tokens names) terms)) (pair_is names t) ∙ ap (λ (pairs : List Pair). pair names t ∷ pairs) (pairs_are names terms)
 
-term_numbers : (terms : List (List (List ℕ))) → Each IsTermTokens terms → Each GoodNumber (filter (λ field. not (bytes_eq (field.0) material_type)) (map rate_field terms))
-term_numbers [] each = tt
-term_numbers (t ∷ terms) each = (each.0.number, term_numbers terms each.1)
+few_tokens : (names : List (List ℕ)) (terms : List Term) → Each (λ term. is_bad_term term ≡ false) (map (term_tokens names) terms)
+few_tokens names [] = tt
+few_tokens names (t ∷ terms) =
+    (cond_both (unsigned_abs t.rate == 1000000) (name_at names t.material ∷ []) (amount_bytes t.rate ∷ name_at names t.material ∷ []) (λ tokens. is_bad_term tokens ≡ false) (λ e. refl) (λ e. refl), few_tokens names terms)
 
-term_rates : (terms : List (List (List ℕ))) → Each IsTermTokens terms
-    → list_any (λ field. not (int_lt (millionths (field.1)) (pos 0)) && not (int_lt (pos 0) (millionths (field.1)))) (filter (λ field. not (bytes_eq (field.0) material_type)) (map rate_field terms)) ≡ false
-term_rates [] each = refl
-term_rates (t ∷ terms) each = or_from _ _ each.0.rate (term_rates terms each.1)
+names_are : (names : List (List ℕ)) (terms : List Term) → names_of (map (pair names) terms) ≡ map (name_at names) (numbers_of terms)
+names_are names [] = refl
+names_are names (t ∷ terms) = ap (λ (rest : List (List ℕ)). name_at names t.material ∷ rest) (names_are names terms)
 
-some_side : (names : List (List ℕ)) (terms : List Term) → 0 < length terms → (length (map (term_tokens names) terms) == 0) ≡ false
-some_side names terms some = ne_eqb (length (map (term_tokens names) terms)) 0 (λ e. absurd (omega (arith, e, length-map terms (term_tokens names))))
+-- the pairs of both sides
+module _ (names : List (List ℕ)) (u : OperatingUnit) (line : IsRatesLine names u) where
+  pub pairs_back : pairs_at (rates_text names u) ≡ (map (pair names) u.inputs, map (pair names) u.outputs)
+  pairs_back =
+      ap (λ (sides : List (List (List (List ℕ)))). (map pair_of (slice_index_or sides 0 []), map pair_of (slice_index_or sides 1 []))) line.sides
+      ∙ ap (λ (pairs : List Pair). (pairs, map pair_of (map (term_tokens names) u.outputs))) (pairs_are names u.inputs)
+      ∙ ap (λ (pairs : List Pair). (map (pair names) u.inputs, pairs)) (pairs_are names u.outputs)
+
+  sides_back : sides_read (sides_of (rates_text names u)) ≡ Some (map (pair names) u.inputs, map (pair names) u.outputs)
+  sides_back =
+      let left : List (List (List ℕ)) = map (term_tokens names) u.inputs in
+      let right : List (List (List ℕ)) = map (term_tokens names) u.outputs in
+      let bad : list_any is_bad_term (left ++ (right ++ [])) ≡ false = none_from_each is_bad_term (left ++ (right ++ []))
+      (each-append (λ term. is_bad_term term ≡ false) left (right ++ []) (few_tokens names u.inputs) (each-append (λ term. is_bad_term term ≡ false) right [] (few_tokens names u.outputs) tt)) in
+      cond-false (has_bad_sides (sides_of (rates_text names u))) None (Some (pairs_at (rates_text names u))) (ap has_bad_sides line.sides ∙ bad)
+      ∙ ap Some pairs_back
+
+-- ---- rates
+
+-- no kind stands at a term
+record IsGoodPair (one : Pair) : Type 0 where
+  named : not (is_name one.1) ≡ false
+  rate : Each (λ kind. rate_stands kind one ≡ false) rate_kinds
+
+pair_good : (names : List (List ℕ)) → Each (λ name. is_name name ≡ true) names → (t : Term) → IsWellFormedTerm (length names) t → IsGoodPair (pair names t)
+pair_good names each t good =
+    let reads : amount_of (rate_text t) ≡ Ok t.rate = rate_reads (length names) t good in
+    record {
+      named = ap not (name_at_each (λ name. is_name name ≡ true) names t.material each good.known);
+      rate = (
+        ap (number_stands BadNumber) reads,
+        (
+          ap (number_stands TooFine) reads,
+          (
+            ap (number_stands TooLarge) reads,
+            (
+              ap (number_stands Negative) reads ∙ positive_sign t.rate good.positive,
+              (ap (number_stands ZeroRate) reads ∙ and_right (not (int_lt t.rate (pos 0))) (not (int_lt (pos 0) t.rate)) (ap not good.positive), tt),
+            ),
+          ),
+        ),
+      );
+    }
+
+some_pair : (names : List (List ℕ)) (terms : List Term) → 0 < length terms → (length (map (pair names) terms) == 0) ≡ false
+some_pair names terms some = ne_eqb (length (map (pair names) terms)) 0 (λ e. absurd (omega (arith, e, length-map terms (pair names))))
 
 module _ (names : List (List ℕ)) (each : Each (λ name. is_name name ≡ true) names) (distinct_names : has_double names ≡ false) (u : OperatingUnit) (good : IsWellFormedUnit (length names) u) where
-  words : Each IsWord names
-  words = each-to (λ name. is_name name ≡ true) IsWord name_word names each
+  abbrev left : List Pair
+  left = map (pair names) u.inputs
 
-  pub terms_good : (side : List Term) → Each (IsWellFormedTerm (length names)) side → Each IsTermTokens (map (term_tokens names) side)
-  terms_good side goods = each-map IsTermTokens (term_tokens names) side (each-to (IsWellFormedTerm (length names)) (λ t. IsTermTokens (term_tokens names t)) (term_good names each) side goods)
+  abbrev right : List Pair
+  right = map (pair names) u.outputs
 
-  pub all_terms : Each IsTermTokens (map (term_tokens names) u.inputs ++ (map (term_tokens names) u.outputs ++ []))
-  all_terms = each-append IsTermTokens (map (term_tokens names) u.inputs) (map (term_tokens names) u.outputs ++ []) (terms_good u.inputs good.inputs.terms_formed)
-      (each-append IsTermTokens (map (term_tokens names) u.outputs) [] (terms_good u.outputs good.outputs.terms_formed) tt)
+  pairs_good : (terms : List Term) → Each (IsWellFormedTerm (length names)) terms → Each IsGoodPair (map (pair names) terms)
+  pairs_good terms goods = each-map IsGoodPair (pair names) terms (each-to (IsWellFormedTerm (length names)) (λ t. IsGoodPair (pair names t)) (pair_good names each) terms goods)
 
-  within : (side : List Term) → Each (IsWellFormedTerm (length names)) side → Each (λ k. k < length names) (map (λ t. t.material) side)
+  both_good : Each IsGoodPair (left ++ right)
+  both_good = each-append IsGoodPair left right (pairs_good u.inputs good.inputs.terms_formed) (pairs_good u.outputs good.outputs.terms_formed)
+
+  none_rated : (kind : TextKind) → ((one : Pair) → IsGoodPair one → rate_stands kind one ≡ false) → list_any (rate_stands kind) (left ++ right) ≡ false
+  none_rated kind says = none_from_each (rate_stands kind) (left ++ right) (each-to IsGoodPair (λ one. rate_stands kind one ≡ false) says (left ++ right) both_good)
+
+  terms_clear : term_fault u.name left right ≡ None
+  terms_clear =
+      let named : list_any (λ (one : Pair). not (is_name one.1)) (left ++ right) ≡ false = none_from_each (λ (one : Pair). not (is_name one.1)) (left ++ right) (each-to IsGoodPair (λ one. not (is_name one.1) ≡ false) (λ one is. is.named) (left ++ right) both_good) in
+      cond-false (not (is_name u.name) || list_any (λ (one : Pair). not (is_name one.1)) (left ++ right)) (Some BadName) _ (or_from _ _ (ap not good.named) named)
+      ∙ find_none (λ kind. list_any (rate_stands kind) (left ++ right)) rate_kinds
+      (none_rated BadNumber (λ one is. is.rate.0), (none_rated TooFine (λ one is. is.rate.1.0), (none_rated TooLarge (λ one is. is.rate.1.1.0), (none_rated Negative (λ one is. is.rate.1.1.1.0), (none_rated ZeroRate (λ one is. is.rate.1.1.1.1.0), tt)))))
+
+  within : (side : List Term) → Each (IsWellFormedTerm (length names)) side → Each (λ k. k < length names) (numbers_of side)
   within side goods = each-map (λ k. k < length names) (λ (t : Term). t.material) side (each-to (IsWellFormedTerm (length names)) (λ t. t.material < length names) (λ t g. g.known) side goods)
 
-  side_double : (side : List Term) → IsWellFormedSide (length names) side → has_double (materials_of (map (term_tokens names) side)) ≡ false
-  side_double side is = ap has_double (materials_of_terms names side) ∙ double_numbers names distinct_names (map (λ t. t.material) side) (within side is.terms_formed) (sym (repeats_same side) ∙ is.once)
+  side_double : (side : List Term) → IsWellFormedSide (length names) side → has_double (names_of (map (pair names) side)) ≡ false
+  side_double side is = ap has_double (names_are names side) ∙ double_numbers names distinct_names (numbers_of side) (within side is.terms_formed) (sym (repeats_same side) ∙ is.once)
 
-  shared : list_any (is_among (materials_of (map (term_tokens names) u.outputs))) (materials_of (map (term_tokens names) u.inputs)) ≡ false
+  shared : list_any (is_among (names_of right)) (names_of left) ≡ false
   shared =
-      ap (λ (os : List (List ℕ)). list_any (is_among os) (materials_of (map (term_tokens names) u.inputs))) (materials_of_terms names u.outputs)
-      ∙ ap (list_any (is_among (map (name_at names) (map (λ t. t.material) u.outputs)))) (materials_of_terms names u.inputs)
-      ∙ shared_numbers names distinct_names (map (λ t. t.material) u.outputs) (map (λ t. t.material) u.inputs) (within u.outputs good.outputs.terms_formed) (within u.inputs good.inputs.terms_formed) (sides_apart u.inputs u.outputs good.sides_apart)
+      ap (λ (os : List (List ℕ)). list_any (is_among os) (names_of left)) (names_are names u.outputs)
+      ∙ ap (list_any (is_among (map (name_at names) (numbers_of u.outputs)))) (names_are names u.inputs)
+      ∙ shared_numbers names distinct_names (numbers_of u.outputs) (numbers_of u.inputs) (within u.outputs good.outputs.terms_formed) (within u.inputs good.inputs.terms_formed) (sides_apart u.inputs u.outputs good.sides_apart)
 
-  pub rates_clear : (before : List Line) (n : ℕ) → is_among (names_in Rates before) u.name ≡ false → is_among (names_in OperatingUnits before) u.name ≡ true
-      → Each (λ kind. stands before (rates_part names n u) kind ≡ false) form_kinds
-  rates_clear before n fresh listed =
-      let is : IsNamed u.name (token_text (rates_tokens names u)) = named_apart u.name (token_text (rates_tokens names u)) (name_word u.name good.named) (rates_tail names words u good) in
-      let terms : List (List (List ℕ)) = map (term_tokens names) u.inputs ++ (map (term_tokens names) u.outputs ++ []) in
-      let fields : List (List ℕ × List ℕ) = numbers_of (rates_part names n u) in
-      let numbers : Each GoodNumber fields = term_numbers terms all_terms in
-      let old : List (List ℕ) = names_in OperatingUnits before ++ names_in Rates before in
-      (refl, (refl, (or_from _ _ (or_from _ _ (ap not is.colon) refl) (none_from_each (λ term. length term == 0 || nat_lt 2 (length term)) terms (each-to IsTermTokens _ (λ t g. g.few) terms all_terms)), (or_from _ _ (or_from _ _ (ap not good.named) (none_from_each (λ term. not (is_name (material_of term))) terms (each-to IsTermTokens _ (λ t g. ap not g.name) terms all_terms))) refl, (refl, (refl, (numbers_bad fields numbers, (numbers_fine fields numbers, (numbers_large fields numbers, (numbers_negative fields numbers, (refl, (term_rates terms all_terms, (or_from _ _ (side_double u.inputs good.inputs) (side_double u.outputs good.outputs), (shared, (or_from _ _ (some_side names u.inputs good.inputs.some) (or_from _ _ (some_side names u.outputs good.outputs.some) refl), (refl, (refl, (fresh, (and_left _ _ (ap not (list_any-append (λ word. bytes_eq word u.name) (names_in OperatingUnits before) (names_in Rates before) ∙ or_left _ _ listed)), (refl, (refl, (refl, (refl, tt)))))))))))))))))))))))
+  doubled_clear : doubled left right ≡ None
+  doubled_clear =
+      cond-false (has_double (names_of left) || has_double (names_of right)) (Some DoubleTerm) _ (or_from _ _ (side_double u.inputs good.inputs) (side_double u.outputs good.outputs))
+      ∙ cond-false (list_any (is_among (names_of right)) (names_of left)) (Some BothSides) None shared
 
--- an exclusion's line
-pub exclusion_clear : (names : List (List ℕ)) → Each (λ name. is_name name ≡ true) names → has_double names ≡ false → (e : Exclusion) → IsWellFormedExclusion (length names) e
-    → (before : List Line) (n : ℕ) → is_among (names_in Exclusions before) e.name ≡ false → length (lines_in Exclusions before) < 64
-    → Each (λ kind. stands before (exclusion_part names n e) kind ≡ false) form_kinds
-exclusion_clear names each distinct_names e good before n fresh few =
-    let words : Each IsWord names = each-to (λ name. is_name name ≡ true) IsWord name_word names each in
+  -- the unit has a line of its own
+  pub rates_clear : (old seen : List (List ℕ)) → is_among old u.name ≡ false → is_among seen u.name ≡ true → IsRatesLine names u → sides_fault old seen (head_of (rates_text names u)) (sides_read (sides_of (rates_text names u))) ≡ None
+  rates_clear old seen fresh listed line =
+      ap (λ (name : List ℕ). sides_fault old seen name (sides_read (sides_of (rates_text names u)))) line.head
+      ∙ ap (sides_fault old seen u.name) (sides_back names u line)
+      ∙ ap (λ (kind : Option TextKind). or_kind kind (or_kind (doubled left right) (whole_fault old seen u.name left right))) terms_clear
+      ∙ ap (λ (kind : Option TextKind). or_kind kind (whole_fault old seen u.name left right)) doubled_clear
+      ∙ cond-false (length left == 0 || length right == 0) (Some EmptySide) _ (or_from _ _ (some_pair names u.inputs good.inputs.some) (some_pair names u.outputs good.outputs.some))
+      ∙ cond-false (is_among old u.name) (Some DoubleRates) _ fresh
+      ∙ cond-false (is_beyond seen u.name) (Some TooMany) None (and_left (not (is_among seen u.name)) (nat_le 128 (length seen)) (ap not listed))
+
+-- ---- exclusions
+
+pub exclusion_clear : (names : List (List ℕ)) → Each (λ name. is_name name ≡ true) names → has_double names ≡ false → (e : Exclusion) → IsWellFormedExclusion (length names) e → IsItemLine e.name (map (name_at names) e.units)
+    → (old : List (List ℕ)) → is_among old e.name ≡ false → length old < 64 → exclusion_fault old (exclusion_text names e) (head_of (exclusion_text names e)) (items_of (exclusion_text names e)) ≡ None
+exclusion_clear names each distinct_names e good line old fresh few =
+    let text : List ℕ = exclusion_text names e in
     let items : List (List ℕ) = map (name_at names) e.units in
     let count : length items ≡ length e.units = length-map e.units (name_at names) in
     let many : 2 ≤ length e.units = good.enough in
-    let pieces : Each IsPiece items = each-to IsWord IsPiece word_piece items (member_words names 0 e.units words good.rising) in
-    let is : IsItemLine Exclusions e.name items = items_line Exclusions e.name items (omega arith) (name_word e.name good.named) pieces in
     let within : Each (λ k. k < length names) e.units = rising_within (length names) 0 e.units good.rising in
-    let good_names : Each (λ item. not (is_name item) ≡ false) items = each-map (λ item. not (is_name item) ≡ false) (name_at names) e.units
-    (each-to (λ k. k < length names) (λ k. not (is_name (name_at names k)) ≡ false) (λ k lt. ap not (name_at_each (λ name. is_name name ≡ true) names k each lt)) e.units within) in
-    (refl, (refl, (or_from _ _ (ap not is.named.colon) (no_empty items pieces), (or_from _ _ (or_from _ _ (ap not good.named) refl) (none_from_each (λ item. not (is_name item)) items good_names), (refl, (refl, (refl, (refl, (refl, (refl, (refl, (refl, (refl, (refl, (refl, (refl, (refl, (refl, (lt-leb 64 (length (lines_in Exclusions before)) few, (fresh, (double_numbers names distinct_names e.units within (rising_double (length names) 0 e.units good.rising), (le-ltb (length items) 2 (omega arith), (refl, tt)))))))))))))))))))))))
+    let named : Each (λ item. is_name item ≡ true) items = each-map (λ item. is_name item ≡ true) (name_at names) e.units
+    (each-to (λ k. k < length names) (λ k. is_name (name_at names k) ≡ true) (λ k lt. name_at_each (λ name. is_name name ≡ true) names k each lt) e.units within) in
+    let long : list_any (λ item. length item == 0) items ≡ false = none_from_each (λ item. length item == 0) items (each-to (λ item. is_name item ≡ true) (λ item. (length item == 0) ≡ false) (λ item is. piece_long item (word_piece item (name_word item is))) items named) in
+    ap (λ (name : List ℕ). exclusion_fault old text name (items_of text)) line.head
+    ∙ ap (exclusion_fault old text e.name) line.apart
+    ∙ cond-false (not (list_any is_colon text) || list_any (λ item. length item == 0) items) (Some BadLine) _ (or_from _ _ (ap not line.colon) long)
+    ∙ cond-false (not (is_name e.name) || list_any (λ item. not (is_name item)) items) (Some BadName) _
+    (or_from _ _ (ap not good.named) (none_from_each (λ item. not (is_name item)) items (each-to (λ item. is_name item ≡ true) (λ item. not (is_name item) ≡ false) (λ item is. ap not is) items named)))
+    ∙ cond-false (nat_le 64 (length old)) (Some TooMany) _ (lt-leb 64 (length old) few)
+    ∙ cond-false (is_among old e.name) (Some DoubleExclusion) _ fresh
+    ∙ cond-false (has_double items) (Some DoubleMember) _ (double_numbers names distinct_names e.units within (rising_double (length names) 0 e.units good.rising))
+    ∙ cond-false (nat_lt (length items) 2) (Some FewMembers) None (le-ltb (length items) 2 (omega arith))
