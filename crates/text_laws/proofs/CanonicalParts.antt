@@ -7,7 +7,7 @@ use Rattle.std.proofs.lemmas.List.{length-map}
 use Rattle.std.proofs.lemmas.Fmt.{decimal_nonempty}
 use Rattle.text_rules.specs.declared.Section.{Section}
 use Rattle.text_rules.specs.declared.Section.TheVariants.{Preamble, MeasurementUnits, Defaults, Materials, OperatingUnits, Rates, Exclusions}
-use Rattle.problem_rules.specs.Names.{continues_name}
+use Rattle.problem_rules.specs.Names.{is_name, continues_name}
 use Rattle.problem_rules.specs.Problem.{Material, OperatingUnit, Exclusion, Problem, material_names, unit_names}
 use Rattle.problem_rules.specs.Each.{Each}
 use Rattle.problem_rules.specs.WellFormed.{IsWellFormed, IsWellFormedMaterial, IsWellFormedUnit, IsWellFormedExclusion}
@@ -36,7 +36,7 @@ abbrev has_some : List (List ℕ) → Bool
 has_some [] = false
 has_some (text ∷ texts) = true
 
-abbrev shown : Part → Bool
+abbrev pub shown : Part → Bool
 shown part = part.always || has_some part.texts
 
 abbrev title : Section → List ℕ
@@ -89,23 +89,19 @@ pub record IsPart (part : Part) : Type 0 where
   pub has_meaning : is_meant part.section ≡ true
   pub each : Each IsEntry part.texts
 
-header_placed : (n : ℕ) (old section : Section) (rest : List (List ℕ)) → is_meant section ≡ true → standing (placed_from n old ((title section ++ 58 ∷ []) ∷ rest)) ≡ header_at n section ∷ standing (placed_from (n + 1) section rest)
-header_placed n old Preamble rest is = absurd (true≢false (sym is))
-header_placed n old MeasurementUnits rest is = absurd (true≢false (sym is))
-header_placed n old Defaults rest is = refl
-header_placed n old Materials rest is = refl
-header_placed n old OperatingUnits rest is = refl
-header_placed n old Rates rest is = refl
-header_placed n old Exclusions rest is = refl
+-- the header of a section
+record IsHeader (section : Section) : Type 0 where
+  line : IsLine (title section ++ 58 ∷ [])
+  placed : (n : ℕ) (old : Section) (rest : List (List ℕ)) → standing (placed_from n old ((title section ++ 58 ∷ []) ∷ rest)) ≡ header_at n section ∷ standing (placed_from (n + 1) section rest)
 
-header_line : (section : Section) → is_meant section ≡ true → IsLine (title section ++ 58 ∷ [])
-header_line Preamble is = absurd (true≢false (sym is))
-header_line MeasurementUnits is = absurd (true≢false (sym is))
-header_line Defaults is = record { feed = refl; ret = refl; front = refl; back = refl }
-header_line Materials is = record { feed = refl; ret = refl; front = refl; back = refl }
-header_line OperatingUnits is = record { feed = refl; ret = refl; front = refl; back = refl }
-header_line Rates is = record { feed = refl; ret = refl; front = refl; back = refl }
-header_line Exclusions is = record { feed = refl; ret = refl; front = refl; back = refl }
+header_is : (section : Section) → is_meant section ≡ true → IsHeader section
+header_is Preamble is = absurd (true≢false (sym is))
+header_is MeasurementUnits is = absurd (true≢false (sym is))
+header_is Defaults is = record { line = record { feed = refl; ret = refl; front = refl; back = refl }; placed = λ n old rest. refl }
+header_is Materials is = record { line = record { feed = refl; ret = refl; front = refl; back = refl }; placed = λ n old rest. refl }
+header_is OperatingUnits is = record { line = record { feed = refl; ret = refl; front = refl; back = refl }; placed = λ n old rest. refl }
+header_is Rates is = record { line = record { feed = refl; ret = refl; front = refl; back = refl }; placed = λ n old rest. refl }
+header_is Exclusions is = record { line = record { feed = refl; ret = refl; front = refl; back = refl }; placed = λ n old rest. refl }
 
 entry_placed : (n : ℕ) (section : Section) (text : List ℕ) (rest : List (List ℕ)) → IsEntry text → standing (placed_from n section (text ∷ rest)) ≡ placed_at n section text ∷ standing (placed_from (n + 1) section rest)
 entry_placed n section text rest is =
@@ -128,7 +124,7 @@ parts_placed n old (part ∷ parts) each = at (shown part) (λ off. empty_is par
   at : (b : Bool) → (b ≡ false → part.texts ≡ []) → ((m : ℕ) (s : Section) → standing (placed_from m s (spelled parts)) ≡ laid m parts) → standing (placed_from n old ((if b then [] ∷ (title part.section ++ 58 ∷ []) ∷ [] else []) ++ (part.texts ++ spelled parts)))
       ≡ (if b then header_at (n + 1) part.section ∷ [] else []) ++ (entries part.section (if b then n + 1 + 1 else n) part.texts ++ laid (past (if b then n + 1 + 1 else n) part.texts) parts)
   at true some behind =
-      header_placed (n + 1) old part.section (part.texts ++ spelled parts) each.0.has_meaning
+      (header_is part.section each.0.has_meaning).placed (n + 1) old (part.texts ++ spelled parts)
       ∙ ap (λ (lines : List Placed). header_at (n + 1) part.section ∷ lines) (
       entries_placed part.section (n + 1 + 1) part.texts (spelled parts) each.0.each
       ∙ ap (λ (lines : List Placed). entries part.section (n + 1 + 1) part.texts ++ lines) (behind (past (n + 1 + 1) part.texts) part.section))
@@ -138,42 +134,44 @@ parts_lines : (parts : List Part) → Each IsPart parts → Each IsLine (spelled
 parts_lines [] each = tt
 parts_lines (part ∷ parts) each = each-append IsLine (if shown part then [] ∷ (title part.section ++ 58 ∷ []) ∷ [] else []) (part.texts ++ spelled parts)
     (cond_both (shown part) ([] ∷ (title part.section ++ 58 ∷ []) ∷ []) [] (λ lines. Each IsLine lines)
-    (λ e. (record { feed = refl; ret = refl; front = refl; back = refl }, (header_line part.section each.0.has_meaning, tt))) (λ e. tt))
+    (λ e. (record { feed = refl; ret = refl; front = refl; back = refl }, ((header_is part.section each.0.has_meaning).line, tt))) (λ e. tt))
     (each-append IsLine part.texts (spelled parts) (each-to IsEntry IsLine (λ text is. is.line) part.texts each.0.each) (parts_lines parts each.1))
 
--- the lines that have a meaning
-entries_matter : (section : Section) (n : ℕ) (texts : List (List ℕ)) (rest : List Placed) → is_meant section ≡ true → filter matters (entries section n texts ++ rest) ≡ entries section n texts ++ filter matters rest
-entries_matter section n [] rest is = refl
-entries_matter section n (text ∷ texts) rest is =
-    cond-true (is_meant section) (placed_at n section text ∷ filter matters (entries section (n + 1) texts ++ rest)) (filter matters (entries section (n + 1) texts ++ rest)) is
-    ∙ ap (λ (lines : List Placed). placed_at n section text ∷ lines) (entries_matter section (n + 1) texts rest is)
+-- what a test keeps of entries, which all pass or all fail
+entries_kept : (test : Placed → Bool) (b : Bool) (section : Section) (n : ℕ) (texts : List (List ℕ)) (rest : List Placed) → ((k : ℕ) (text : List ℕ) → test (placed_at k section text) ≡ b)
+    → filter test (entries section n texts ++ rest) ≡ (if b then entries section n texts else []) ++ filter test rest
+entries_kept test true section n [] rest says = refl
+entries_kept test false section n [] rest says = refl
+entries_kept test true section n (text ∷ texts) rest says =
+    let others : List Placed = entries section (n + 1) texts ++ rest in
+    cond-true (test (placed_at n section text)) (placed_at n section text ∷ filter test others) (filter test others) (says n text)
+    ∙ ap (λ (lines : List Placed). placed_at n section text ∷ lines) (entries_kept test true section (n + 1) texts rest says)
+entries_kept test false section n (text ∷ texts) rest says =
+    let others : List Placed = entries section (n + 1) texts ++ rest in
+    cond-false (test (placed_at n section text)) (placed_at n section text ∷ filter test others) (filter test others) (says n text)
+    ∙ entries_kept test false section (n + 1) texts rest says
 
+-- the lines that have a meaning, and those of a section
 parts_matter : (n : ℕ) (parts : List Part) → Each IsPart parts → filter matters (laid n parts) ≡ meant n parts
 parts_matter n [] each = refl
 parts_matter n (part ∷ parts) each =
     let rest : List Placed = laid (past (first_number n part) part.texts) parts in
     let own : List Placed = entries part.section (first_number n part) part.texts in
     cond_both (shown part) (header_at (n + 1) part.section ∷ []) [] (λ head. filter matters (head ++ (own ++ rest)) ≡ filter matters (own ++ rest)) (λ e. refl) (λ e. refl)
-    ∙ entries_matter part.section (first_number n part) part.texts rest each.0.has_meaning
+    ∙ entries_kept matters true part.section (first_number n part) part.texts rest (λ k text. each.0.has_meaning)
     ∙ ap (λ (lines : List Placed). own ++ lines) (parts_matter (past (first_number n part) part.texts) parts each.1)
 
--- the lines of a section
-entries_at : (b : Bool) (one section : Section) (n : ℕ) (texts : List (List ℕ)) (rest : List Placed) → is_section one section ≡ b → lines_at one (entries section n texts ++ rest) ≡ (if b then entries section n texts else []) ++ lines_at one rest
-entries_at true one section n [] rest e = refl
-entries_at false one section n [] rest e = refl
-entries_at true one section n (text ∷ texts) rest e =
-    cond-true (is_at one (placed_at n section text)) (placed_at n section text ∷ lines_at one (entries section (n + 1) texts ++ rest)) (lines_at one (entries section (n + 1) texts ++ rest)) (ap (λ b. b && true) e)
-    ∙ ap (λ (lines : List Placed). placed_at n section text ∷ lines) (entries_at true one section (n + 1) texts rest e)
-entries_at false one section n (text ∷ texts) rest e =
-    cond-false (is_at one (placed_at n section text)) (placed_at n section text ∷ lines_at one (entries section (n + 1) texts ++ rest)) (lines_at one (entries section (n + 1) texts ++ rest)) (ap (λ b. b && true) e)
-    ∙ entries_at false one section (n + 1) texts rest e
+and_true : (b : Bool) → (b && true) ≡ b
+and_true true = refl
+and_true false = refl
 
 pub parts_at : (section : Section) (n : ℕ) (parts : List Part) → lines_at section (meant n parts) ≡ picked section n parts
 parts_at section n [] = refl
 parts_at section n (part ∷ parts) =
     let own : List Placed = entries part.section (first_number n part) part.texts in
-    entries_at (is_section section part.section) section part.section (first_number n part) part.texts (meant (past (first_number n part) part.texts) parts) refl
-    ∙ ap (λ (lines : List Placed). (if is_section section part.section then own else []) ++ lines) (parts_at section (past (first_number n part) part.texts) parts)
+    let b : Bool = is_section section part.section in
+    entries_kept (is_at section) b part.section (first_number n part) part.texts (meant (past (first_number n part) part.texts) parts) (λ k text. and_true b)
+    ∙ ap (λ (lines : List Placed). (if b then own else []) ++ lines) (parts_at section (past (first_number n part) part.texts) parts)
 
 -- ---- entries
 
@@ -211,12 +209,16 @@ material_line m good = items_line m.name (material_items m) (omega arith) (name_
 pub unit_line : (count : ℕ) (u : OperatingUnit) → IsWellFormedUnit count u → IsItemLine u.name (unit_items u)
 unit_line count u good = items_line u.name (unit_items u) (omega arith) (name_word u.name good.named) (unit_pieces count u good)
 
-pub exclusion_line : (names : List (List ℕ)) → Each IsWord names → (e : Exclusion) → IsWellFormedExclusion (length names) e → IsItemLine e.name (map (name_at names) e.units)
-exclusion_line names words e good =
+-- names are words
+words_of : (names : List (List ℕ)) → Each (λ name. is_name name ≡ true) names → Each IsWord names
+words_of names each = each-to (λ name. is_name name ≡ true) IsWord name_word names each
+
+pub exclusion_line : (names : List (List ℕ)) → Each (λ name. is_name name ≡ true) names → (e : Exclusion) → IsWellFormedExclusion (length names) e → IsItemLine e.name (map (name_at names) e.units)
+exclusion_line names each e good =
     let items : List (List ℕ) = map (name_at names) e.units in
     let many : 2 ≤ length e.units = good.enough in
     let some : 0 < length items = omega (arith, length-map e.units (name_at names)) in
-    items_line e.name items some (name_word e.name good.named) (each-to IsWord IsPiece word_piece items (member_words names 0 e.units words good.rising))
+    items_line e.name items some (name_word e.name good.named) (each-to IsWord IsPiece word_piece items (member_words names 0 e.units (words_of names each) good.rising))
 
 -- a name and the sides of a unit
 pub record IsRatesLine (names : List (List ℕ)) (u : OperatingUnit) : Type 0 where
@@ -224,8 +226,9 @@ pub record IsRatesLine (names : List (List ℕ)) (u : OperatingUnit) : Type 0 wh
   pub head : head_of (rates_text names u) ≡ u.name
   pub sides : sides_of (rates_text names u) ≡ map (term_tokens names) u.inputs ∷ map (term_tokens names) u.outputs ∷ []
 
-pub rates_line : (names : List (List ℕ)) → Each IsWord names → (u : OperatingUnit) → IsWellFormedUnit (length names) u → IsRatesLine names u
-rates_line names words u good =
+pub rates_line : (names : List (List ℕ)) → Each (λ name. is_name name ≡ true) names → (u : OperatingUnit) → IsWellFormedUnit (length names) u → IsRatesLine names u
+rates_line names each u good =
+    let words : Each IsWord names = words_of names each in
     let word : IsWord u.name = name_word u.name good.named in
     let is : IsNamed u.name (token_text (rates_tokens names u)) = named_apart u.name (token_text (rates_tokens names u)) word (rates_tail names words u good) in
     record { entry = is.entry; head = is.head; sides = sides_apart names words u good u.name word }
@@ -281,12 +284,12 @@ module _ (p : Problem) (is : IsWellFormed p) where
   pub exclusions_named : Each (IsWellFormedExclusion (length (unit_names p.units))) p.exclusions
   exclusions_named = subst (λ k. Each (IsWellFormedExclusion k) p.exclusions) (sym (length-map p.units (λ (u : OperatingUnit). u.name))) is.exclusions_formed
 
-  -- the names are words
-  pub material_words : Each IsWord (material_names p.materials)
-  material_words = each-map IsWord (λ (m : Material). m.name) p.materials (each-to IsWellFormedMaterial (λ m. IsWord m.name) (λ m good. name_word m.name good.named) p.materials is.materials_formed)
+  -- names of materials and units
+  pub names_of_materials : Each (λ name. is_name name ≡ true) (material_names p.materials)
+  names_of_materials = each-map (λ name. is_name name ≡ true) (λ (m : Material). m.name) p.materials (each-to IsWellFormedMaterial (λ m. is_name m.name ≡ true) (λ m good. good.named) p.materials is.materials_formed)
 
-  pub unit_words : Each IsWord (unit_names p.units)
-  unit_words = each-map IsWord (λ (u : OperatingUnit). u.name) p.units (each-to (IsWellFormedUnit (length p.materials)) (λ u. IsWord u.name) (λ u good. name_word u.name good.named) p.units is.units_formed)
+  pub names_of_units : Each (λ name. is_name name ≡ true) (unit_names p.units)
+  names_of_units = each-map (λ name. is_name name ≡ true) (λ (u : OperatingUnit). u.name) p.units (each-to (IsWellFormedUnit (length p.materials)) (λ u. is_name u.name ≡ true) (λ u good. good.named) p.units is.units_formed)
 
   are_parts : Each IsPart (parts_of p)
   are_parts =
@@ -301,9 +304,9 @@ module _ (p : Problem) (is : IsWellFormed p) where
           (
             record { has_meaning = refl; each = each-map IsEntry unit_text p.units (each-to (IsWellFormedUnit (length ms)) (λ u. IsEntry (unit_text u)) (λ u good. (unit_line (length ms) u good).entry) p.units units_named) },
             (
-              record { has_meaning = refl; each = each-map IsEntry (rates_text ms) p.units (each-to (IsWellFormedUnit (length ms)) (λ u. IsEntry (rates_text ms u)) (λ u good. (rates_line ms material_words u good).entry) p.units units_named) },
+              record { has_meaning = refl; each = each-map IsEntry (rates_text ms) p.units (each-to (IsWellFormedUnit (length ms)) (λ u. IsEntry (rates_text ms u)) (λ u good. (rates_line ms names_of_materials u good).entry) p.units units_named) },
               (
-                record { has_meaning = refl; each = each-map IsEntry (exclusion_text us) p.exclusions (each-to (IsWellFormedExclusion (length us)) (λ e. IsEntry (exclusion_text us e)) (λ e good. (exclusion_line us unit_words e good).entry) p.exclusions exclusions_named) },
+                record { has_meaning = refl; each = each-map IsEntry (exclusion_text us) p.exclusions (each-to (IsWellFormedExclusion (length us)) (λ e. IsEntry (exclusion_text us e)) (λ e good. (exclusion_line us names_of_units e good).entry) p.exclusions exclusions_named) },
                 tt,
               ),
             ),

@@ -16,13 +16,14 @@ use Rattle.text_rules.specs.Field.{key_of, value_of, items_of, payout_period}
 use Rattle.text_rules.specs.Term.{Pair, pairs_at}
 use Rattle.text_rules.specs.Fault.{Fault, fault_or, file_type, names_of}
 use Rattle.text_rules.specs.Value.{Settings, Names, fields_at, settings_from, settings_of, number_at, material_from, materials_from, both_from, sides_or, sides_named, listed_unit, unit_from, bare_unit, bare_lines, units_from, unit_names_from, exclusion_named, exclusions_from, payout_from, problem_from, names_all, is_material_turned, is_unit_turned, has_unknown, is_unit, entry_meaning, first_meaning, has_product, with_product, or_first, meaning_at, read_lines, read_text}
-use Rattle.text_rules.specs.Canonical.{name_at, canonical, material_items, unit_items}
+use Rattle.text_rules.specs.Canonical.{name_at, canonical}
 use Rattle.text_laws.proofs.Each.{each-to, each-map, none_from_each, each-both, each-unmap}
-use Rattle.text_laws.proofs.CanonicalParts.{payout_part, material_part, unit_part, rates_part, exclusion_part, parts_of, spelled, entries, meant, past, first_number, parts_at, payout_text, material_text, unit_text, rates_text, exclusion_text, IsItemLine, IsRatesLine, material_line, unit_line, rates_line, exclusion_line, material_words, unit_words, units_named, exclusions_named, canonical_read, canonical_meant}
+use Rattle.text_laws.proofs.CanonicalParts.{payout_part, material_part, unit_part, rates_part, exclusion_part, parts_of, spelled, entries, meant, past, first_number, parts_at, payout_text, material_text, unit_text, rates_text, exclusion_text, IsItemLine, IsRatesLine, material_line, unit_line, rates_line, exclusion_line, names_of_materials, names_of_units, units_named, exclusions_named, canonical_read, canonical_meant}
 use Rattle.text_laws.proofs.Numbers.{rising_within}
 use Rattle.text_laws.proofs.Names.{among_self}
+use Rattle.text_laws.proofs.PrintedItems.{name_at_each}
 use Rattle.text_laws.proofs.ItemLines.{payout_amount}
-use Rattle.text_laws.proofs.RatesLines.{name_at_each, pair, pairs_back}
+use Rattle.text_laws.proofs.RatesLines.{pair, pairs_back}
 use Rattle.text_laws.proofs.NoFormFault.{no_form_fault}
 use Rattle.text_laws.proofs.Found.{entries_read, IsFound, each_found, none_apart, terms_back, members_back}
 use Rattle.text_laws.proofs.ItemsBack.{built_in, material_back, unit_back}
@@ -85,18 +86,12 @@ module _ (p : Problem) (is : IsWellFormed p) where
   exclusions_in : lines_at Exclusions L ≡ entries Exclusions x (map (exclusion_text us) p.exclusions)
   exclusions_in = parts_at Exclusions 2 (parts_of p) ∙ append-nil (entries Exclusions x (map (exclusion_text us) p.exclusions))
 
-  -- what each line consists of
-  material_is : (m : Material) → IsWellFormedMaterial m → IsItemLine m.name (material_items m)
-  material_is m good = material_line m good
-
-  unit_is : (u : OperatingUnit) → IsWellFormedUnit (length ms) u → IsItemLine u.name (unit_items u)
-  unit_is u good = unit_line (length ms) u good
-
+  -- the lines of rates and exclusions
   rates_is : (u : OperatingUnit) → IsWellFormedUnit (length ms) u → IsRatesLine ms u
-  rates_is u good = rates_line ms (material_words p is) u good
+  rates_is u good = rates_line ms (names_of_materials p is) u good
 
   exclusion_is : (e : Exclusion) → IsWellFormedExclusion (length us) e → IsItemLine e.name (map (name_at us) e.units)
-  exclusion_is e good = exclusion_line us (unit_words p is) e good
+  exclusion_is e good = exclusion_line us (names_of_units p is) e good
 
   -- ---- defaults: the payout alone
 
@@ -120,10 +115,10 @@ module _ (p : Problem) (is : IsWellFormed p) where
   -- ---- names
 
   material_heads : heads_at Materials L ≡ ms
-  material_heads = ap (map head_in) materials_in ∙ entries_read Materials material_text head_of (λ (m : Material). m.name) m p.materials (each-to IsWellFormedMaterial (λ m. head_of (material_text m) ≡ m.name) (λ m good. (material_is m good).head) p.materials is.materials_formed)
+  material_heads = ap (map head_in) materials_in ∙ entries_read Materials material_text head_of (λ (m : Material). m.name) m p.materials (each-to IsWellFormedMaterial (λ m. head_of (material_text m) ≡ m.name) (λ m good. (material_line m good).head) p.materials is.materials_formed)
 
   unit_heads : heads_at OperatingUnits L ≡ us
-  unit_heads = ap (map head_in) units_in ∙ entries_read OperatingUnits unit_text head_of (λ (u : OperatingUnit). u.name) u p.units (each-to (IsWellFormedUnit (length ms)) (λ u. head_of (unit_text u) ≡ u.name) (λ u good. (unit_is u good).head) p.units (units_named p is))
+  unit_heads = ap (map head_in) units_in ∙ entries_read OperatingUnits unit_text head_of (λ (u : OperatingUnit). u.name) u p.units (each-to (IsWellFormedUnit (length ms)) (λ u. head_of (unit_text u) ≡ u.name) (λ u good. (unit_line (length ms) u good).head) p.units (units_named p is))
 
   rates_named : Each (λ u. head_of (rates_text ms u) ≡ u.name) p.units
   rates_named = each-to (IsWellFormedUnit (length ms)) (λ u. head_of (rates_text ms u) ≡ u.name) (λ u good. (rates_is u good).head) p.units (units_named p is)
@@ -152,7 +147,7 @@ module _ (p : Problem) (is : IsWellFormed p) where
       ap (λ (s : Settings). materials_from s L) settings_are
       ∙ ap (map (λ (line : Placed). material_from built_in (head_of line.text) (fields_at line.text))) materials_in
       ∙ entries_read Materials material_text (λ text. material_from built_in (head_of text) (fields_at text)) (λ m. m) m p.materials
-      (each-to IsWellFormedMaterial (λ m. material_from built_in (head_of (material_text m)) (fields_at (material_text m)) ≡ m) (λ m good. material_back m good (material_is m good)) p.materials is.materials_formed)
+      (each-to IsWellFormedMaterial (λ m. material_from built_in (head_of (material_text m)) (fields_at (material_text m)) ≡ m) (λ m good. material_back m good (material_line m good)) p.materials is.materials_formed)
       ∙ same p.materials
 
   sides_are : Each (λ u. sides_named ms L u.name ≡ (u.inputs, u.outputs)) p.units
@@ -168,8 +163,8 @@ module _ (p : Problem) (is : IsWellFormed p) where
   units_back : Each (λ u. listed_unit built_in ms L (unit_text u) ≡ u) p.units
   units_back = each-both (IsWellFormedUnit (length ms)) (λ u. sides_named ms L u.name ≡ (u.inputs, u.outputs)) (λ u. listed_unit built_in ms L (unit_text u) ≡ u)
       (λ u good sides.
-      ap (λ (both : List Term × List Term). unit_from built_in (head_of (unit_text u)) (fields_at (unit_text u)) both.0 both.1) (ap (sides_named ms L) (unit_is u good).head ∙ sides)
-      ∙ unit_back (length ms) u good (unit_is u good))
+      ap (λ (both : List Term × List Term). unit_from built_in (head_of (unit_text u)) (fields_at (unit_text u)) both.0 both.1) (ap (sides_named ms L) (unit_line (length ms) u good).head ∙ sides)
+      ∙ unit_back (length ms) u good (unit_line (length ms) u good))
       p.units (units_named p is) sides_are
 
   units_are : units_from (settings_of L) (heads_at Materials L) L ≡ p.units
@@ -220,14 +215,14 @@ module _ (p : Problem) (is : IsWellFormed p) where
 
   materials_meant : Each (IsMeant Materials) (map material_text p.materials)
   materials_meant = each-map (IsMeant Materials) material_text p.materials (each-to IsWellFormedMaterial (λ m. IsMeant Materials (material_text m))
-      (λ m good. cond-false (is_material_turned built_in (fields_at (material_text m))) (Some LowAboveHigh) None (ap (λ (e : Material). int_lt e.upper e.lower) (material_back m good (material_is m good)) ∙ good.bounds.ordered))
+      (λ m good. cond-false (is_material_turned built_in (fields_at (material_text m))) (Some LowAboveHigh) None (ap (λ (e : Material). int_lt e.upper e.lower) (material_back m good (material_line m good)) ∙ good.bounds.ordered))
       p.materials is.materials_formed)
 
   units_meant : Each (IsMeant OperatingUnits) (map unit_text p.units)
   units_meant = each-map (IsMeant OperatingUnits) unit_text p.units (each-both (IsWellFormedUnit (length ms)) (λ u. is_among us u.name ≡ true) (λ u. IsMeant OperatingUnits (unit_text u))
       (λ u good among.
-      cond-false (is_unit_turned built_in (fields_at (unit_text u))) (Some LowAboveHigh) _ (ap (λ (e : OperatingUnit). int_lt e.upper e.lower) (unit_back (length ms) u good (unit_is u good)) ∙ good.bounds.ordered)
-      ∙ cond-true (is_among us (head_of (unit_text u))) None (Some NoRates) (ap (is_among us) (unit_is u good).head ∙ among))
+      cond-false (is_unit_turned built_in (fields_at (unit_text u))) (Some LowAboveHigh) _ (ap (λ (e : OperatingUnit). int_lt e.upper e.lower) (unit_back (length ms) u good (unit_line (length ms) u good)) ∙ good.bounds.ordered)
+      ∙ cond-true (is_among us (head_of (unit_text u))) None (Some NoRates) (ap (is_among us) (unit_line (length ms) u good).head ∙ among))
       p.units (units_named p is) listed)
 
   known : (terms : List Term) → Each (IsWellFormedTerm (length ms)) terms → list_any (λ name. not (is_among ms name)) (names_of (map (pair ms) terms)) ≡ false

@@ -9,7 +9,7 @@ use Rattle.problem_rules.specs.Problem.{Kind, raw_material, intermediate, produc
 use Rattle.problem_rules.specs.Each.{Each}
 use Rattle.problem_rules.specs.WellFormed.{IsBound, IsWellFormedMaterial, IsWellFormedUnit}
 use Rattle.text_rules.specs.declared.TextKind.{TextKind}
-use Rattle.text_rules.specs.declared.TextKind.TheVariants.{BadLine, BadName, UnknownKey, DoubleKey, BadNumber, TooFine, TooLarge, Negative, UnknownKind, DoubleMaterial, DoubleUnit, TooMany, BadPayout}
+use Rattle.text_rules.specs.declared.TextKind.TheVariants.{BadLine, BadName, UnknownKey, DoubleKey, UnknownKind, DoubleMaterial, DoubleUnit, TooMany, BadPayout}
 use Rattle.text_rules.specs.Blanks.{is_blank, trim}
 use Rattle.text_rules.specs.Line.{head_of}
 use Rattle.text_rules.specs.Amount.{amount_of, amount_limit}
@@ -24,7 +24,7 @@ use Rattle.text_laws.proofs.Pieces.{IsPiece, word_piece, piece_none, piece_long,
 use Rattle.text_laws.proofs.PrintedItems.{material_pieces}
 use Rattle.text_laws.proofs.Words.{amount_word}
 use Rattle.text_laws.proofs.CanonicalParts.{IsItemLine, material_line, unit_line, material_text, unit_text, payout_text}
-use Rattle.text_laws.proofs.Clear.{find_none, IsGoodValue, good_bound, good_free}
+use Rattle.text_laws.proofs.Clear.{find_none, kinds_clear, IsGoodValue, good_bound, good_free}
 
 pub amount_trimmed : (z : ℤ) → unsigned_abs z ≤ amount_limit → amount_of (trim (amount_bytes z)) ≡ Ok z
 amount_trimmed z small = ap amount_of (trim_none (amount_bytes z) (piece_none is_blank no_blank (amount_bytes z) (word_piece (amount_bytes z) (amount_word z small)))) ∙ amounts_read_back z small
@@ -41,20 +41,13 @@ free key z may small = good_free key (trim (amount_bytes z)) z (amount_trimmed z
 abbrev IsGoodItem : List ℕ → Type 0
 IsGoodItem item = Each (λ kind. item_stands kind item ≡ false) number_kinds
 
-numbers_clear : (items : List (List ℕ)) → Each IsGoodItem items → find (λ kind. list_any (item_stands kind) items) number_kinds ≡ None
-numbers_clear items each =
-    let none : (kind : TextKind) → ((item : List ℕ) → IsGoodItem item → item_stands kind item ≡ false) → list_any (item_stands kind) items ≡ false =
-    λ kind says. none_from_each (item_stands kind) items (each-to IsGoodItem (λ item. item_stands kind item ≡ false) says items each) in
-    find_none (λ kind. list_any (item_stands kind) items) number_kinds
-    (none BadNumber (λ item good. good.0), (none TooFine (λ item good. good.1.0), (none TooLarge (λ item good. good.1.1.0), (none Negative (λ item good. good.1.1.1.0), tt))))
-
 fields_clear : (keys : List (List ℕ)) (name : List ℕ) (items : List (List ℕ)) → is_name name ≡ true → list_any (has_unknown_key keys) items ≡ false → has_double (keys_in items) ≡ false → Each IsGoodItem items → fields_fault keys name items ≡ None
 fields_clear keys name items named known once each =
     let numbers : Option TextKind = find (λ kind. list_any (item_stands kind) items) number_kinds in
     cond-false (not (is_name name)) (Some BadName) _ (ap not named)
     ∙ cond-false (list_any (has_unknown_key keys) items) (Some UnknownKey) _ known
     ∙ cond-false (has_double (keys_in items)) (Some DoubleKey) numbers once
-    ∙ numbers_clear items each
+    ∙ kinds_clear item_stands number_kinds items each
 
 -- ---- materials
 

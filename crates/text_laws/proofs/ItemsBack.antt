@@ -1,5 +1,5 @@
 -- A material's and a unit's line of a canonical text are read back.
-use Rattle.std.proofs.Common.{◌≡◌, ◌≤◌, true, ℕ, suc, List, [], ◌∷◌, codes, Result, ℤ, pos, negsuc, unsigned_abs, refl, sym, ◌∙◌, ap, arith, eqb-true}
+use Rattle.std.proofs.Common.{◌≡◌, ◌≤◌, true, ℕ, suc, List, [], ◌∷◌, codes, Result, ℤ, pos, negsuc, unsigned_abs, sym, ◌∙◌, ap, arith, eqb-true}
 use Rattle.std.specs.Result.{result_unwrap_or}
 use Rattle.std.proofs.lemmas.Bool.{cond_both}
 use Rattle.problem_rules.specs.Problem.{Kind, raw_material, intermediate, product, Material, Term, OperatingUnit}
@@ -22,30 +22,18 @@ built_in = settings_from []
 trimmed_value : (z : ℤ) → unsigned_abs z ≤ amount_limit → millionths (trim (amount_bytes z)) ≡ z
 trimmed_value z small = ap (λ (r : Result ℤ TextKind). result_unwrap_or r (pos 0)) (amount_trimmed z small)
 
--- materials and units with equal values
-same_material : (e m : Material) → e.name ≡ m.name → e.kind ≡ m.kind → e.price ≡ m.price → e.lower ≡ m.lower → e.upper ≡ m.upper → e ≡ m
-same_material e m name kind price lower upper =
-    let make : List ℕ → Kind → ℤ → ℤ → ℤ → Material = λ n k p l h. record { name = n; kind = k; price = p; lower = l; upper = h } in
-    ap (λ n. make n e.kind e.price e.lower e.upper) name
-    ∙ ap (λ k. make m.name k e.price e.lower e.upper) kind
-    ∙ ap (λ z. make m.name m.kind z e.lower e.upper) price
-    ∙ ap (λ z. make m.name m.kind m.price z e.upper) lower
-    ∙ ap (λ z. make m.name m.kind m.price m.lower z) upper
+-- materials and units with these amounts
+abbrev with_amounts : List ℕ → Kind → ℤ → ℤ → ℤ → Material
+with_amounts name kind price lower upper = record { name = name; kind = kind; price = price; lower = lower; upper = upper }
 
-same_unit : (e u : OperatingUnit) → e.name ≡ u.name → e.lower ≡ u.lower → e.upper ≡ u.upper → e.fix ≡ u.fix → e.proportional ≡ u.proportional → e.investment_fix ≡ u.investment_fix → e.investment_proportional ≡ u.investment_proportional
-    → e.inputs ≡ u.inputs → e.outputs ≡ u.outputs → e ≡ u
-same_unit e u name lower upper fix proportional investment_fix investment_proportional ins outs =
-    let make : List ℕ → ℤ → ℤ → ℤ → ℤ → ℤ → ℤ → List Term → List Term → OperatingUnit =
-    λ n l h f v jf jv is os. record { name = n; lower = l; upper = h; fix = f; proportional = v; investment_fix = jf; investment_proportional = jv; inputs = is; outputs = os } in
-    ap (λ n. make n e.lower e.upper e.fix e.proportional e.investment_fix e.investment_proportional e.inputs e.outputs) name
-    ∙ ap (λ z. make u.name z e.upper e.fix e.proportional e.investment_fix e.investment_proportional e.inputs e.outputs) lower
-    ∙ ap (λ z. make u.name u.lower z e.fix e.proportional e.investment_fix e.investment_proportional e.inputs e.outputs) upper
-    ∙ ap (λ z. make u.name u.lower u.upper z e.proportional e.investment_fix e.investment_proportional e.inputs e.outputs) fix
-    ∙ ap (λ z. make u.name u.lower u.upper u.fix z e.investment_fix e.investment_proportional e.inputs e.outputs) proportional
-    ∙ ap (λ z. make u.name u.lower u.upper u.fix u.proportional z e.investment_proportional e.inputs e.outputs) investment_fix
-    ∙ ap (λ z. make u.name u.lower u.upper u.fix u.proportional u.investment_fix z e.inputs e.outputs) investment_proportional
-    ∙ ap (λ ts. make u.name u.lower u.upper u.fix u.proportional u.investment_fix u.investment_proportional ts e.outputs) ins
-    ∙ ap (λ ts. make u.name u.lower u.upper u.fix u.proportional u.investment_fix u.investment_proportional u.inputs ts) outs
+same_material : (name : List ℕ) (kind : Kind) (a b c a' b' c' : ℤ) → a ≡ a' → b ≡ b' → c ≡ c' → with_amounts name kind a b c ≡ with_amounts name kind a' b' c'
+same_material name kind a b c a' b' c' one two three = cc
+
+abbrev with_unit_amounts : List ℕ → List Term → List Term → ℤ → ℤ → ℤ → ℤ → ℤ → ℤ → OperatingUnit
+with_unit_amounts name ins outs a b c d e f = record { name = name; lower = a; upper = b; fix = c; proportional = d; investment_fix = e; investment_proportional = f; inputs = ins; outputs = outs }
+
+same_unit : (name : List ℕ) (ins outs : List Term) (a b c d e f a' b' c' d' e' f' : ℤ) → a ≡ a' → b ≡ b' → c ≡ c' → d ≡ d' → e ≡ e' → f ≡ f' → with_unit_amounts name ins outs a b c d e f ≡ with_unit_amounts name ins outs a' b' c' d' e' f'
+same_unit name ins outs a b c d e f a' b' c' d' e' f' one two three four five six = cc
 
 -- a material's line
 pub material_back : (m : Material) → IsWellFormedMaterial m → IsItemLine m.name (material_items m) → material_from built_in (head_of (material_text m)) (fields_at (material_text m)) ≡ m
@@ -65,9 +53,9 @@ material_back m good line =
       upper = trimmed_value m.upper good.bounds.upper_bound.in_range
 
       at : (kind : Kind) → material_from built_in m.name (item_fields (material_items (of_kind kind))) ≡ of_kind kind
-      at raw_material = same_material (material_from built_in m.name (item_fields (material_items (of_kind raw_material)))) (of_kind raw_material) refl refl price lower upper
-      at intermediate = same_material (material_from built_in m.name (item_fields (material_items (of_kind intermediate)))) (of_kind intermediate) refl refl price lower upper
-      at product = same_material (material_from built_in m.name (item_fields (material_items (of_kind product)))) (of_kind product) refl refl price lower upper
+      at raw_material = same_material m.name raw_material _ _ _ m.price m.lower m.upper price lower upper
+      at intermediate = same_material m.name intermediate _ _ _ m.price m.lower m.upper price lower upper
+      at product = same_material m.name product _ _ _ m.price m.lower m.upper price lower upper
 
 zero_is : (z : ℤ) → is_zero z ≡ true → pos 0 ≡ z
 zero_is (pos n) e = ap pos (sym (eqb-true n 0 e))
@@ -85,12 +73,14 @@ unit_back count u good line =
     let rate : millionths (trim (amount_bytes u.proportional)) ≡ u.proportional = trimmed_value u.proportional good.proportional in
     let own_cost : millionths (trim (amount_bytes u.investment_fix)) ≡ u.investment_fix = trimmed_value u.investment_fix good.investment_fix.in_range in
     let own_rate : millionths (trim (amount_bytes u.investment_proportional)) ≡ u.investment_proportional = trimmed_value u.investment_proportional good.investment_proportional in
+    let costs : (e f : ℤ) → e ≡ u.investment_fix → f ≡ u.investment_proportional → with_unit_amounts u.name u.inputs u.outputs (millionths (trim (amount_bytes u.lower))) (millionths (trim (amount_bytes u.upper))) (millionths (trim (amount_bytes u.fix))) (millionths (trim (amount_bytes u.proportional))) e f ≡ u =
+    λ e f five six. same_unit u.name u.inputs u.outputs _ _ _ _ e f u.lower u.upper u.fix u.proportional u.investment_fix u.investment_proportional low high cost rate five six in
     ap (λ (name : List ℕ). unit_from built_in name (fields_at (unit_text u)) u.inputs u.outputs) line.head
     ∙ ap (λ (items : List (List ℕ)). unit_from built_in u.name (item_fields items) u.inputs u.outputs) line.apart
     ∙ cond_both (is_zero u.investment_fix) [] fix (λ one. back one (field_unless_zero (codes "investment_proportional_cost") u.investment_proportional) ≡ u)
     (λ zf. cond_both (is_zero u.investment_proportional) [] proportional (λ two. back [] two ≡ u)
-    (λ zp. same_unit (back [] []) u refl low high cost rate (zero_is u.investment_fix zf) (zero_is u.investment_proportional zp) refl refl)
-    (λ e. same_unit (back [] proportional) u refl low high cost rate (zero_is u.investment_fix zf) own_rate refl refl))
+    (λ zp. costs _ _ (zero_is u.investment_fix zf) (zero_is u.investment_proportional zp))
+    (λ e. costs _ _ (zero_is u.investment_fix zf) own_rate))
     (λ e. cond_both (is_zero u.investment_proportional) [] proportional (λ two. back fix two ≡ u)
-    (λ zp. same_unit (back fix []) u refl low high cost rate own_cost (zero_is u.investment_proportional zp) refl refl)
-    (λ e. same_unit (back fix proportional) u refl low high cost rate own_cost own_rate refl refl))
+    (λ zp. costs _ _ own_cost (zero_is u.investment_proportional zp))
+    (λ e. costs _ _ own_cost own_rate))

@@ -1,19 +1,19 @@
 -- No kind of form stands in a canonical text.
-use Rattle.std.proofs.Common.{◌≡◌, ◌≤◌, ◌+◌, ◌==◌, true, false, ℕ, List, [], ◌∷◌, ◌++◌, length, map, codes, Option, Some, None, ℤ, pos, negsuc, int_lt, unsigned_abs, refl, sym, ◌∙◌, ap, subst, arith, ltb-true, length-append, append_assoc, append-nil, if◌then◌else◌}
+use Rattle.std.proofs.Common.{◌≡◌, ◌≤◌, ◌<◌, ◌+◌, ◌==◌, true, false, ℕ, List, [], ◌∷◌, ◌++◌, length, map, codes, Option, Some, None, ℤ, pos, negsuc, int_lt, unsigned_abs, refl, sym, ◌∙◌, ap, subst, arith, ltb-true, length-append, append_assoc, append-nil, if◌then◌else◌}
 use Rattle.std.proofs.lemmas.Bool.{cond_both, cond-true, cond-false, or_parts}
-use Rattle.problem_rules.specs.Names.{is_name, is_among, has_double}
+use Rattle.problem_rules.specs.Names.{is_among, has_double}
 use Rattle.problem_rules.specs.Problem.{Material, OperatingUnit, Exclusion, Problem, material_names, unit_names, exclusion_names}
 use Rattle.problem_rules.specs.Each.{Each}
 use Rattle.problem_rules.specs.WellFormed.{IsWellFormed, IsWellFormedMaterial, IsWellFormedUnit, IsWellFormedExclusion}
 use Rattle.text_rules.specs.declared.TextKind.{TextKind}
 use Rattle.text_rules.specs.declared.TextKind.TheVariants.{DoubleSection}
+use Rattle.text_rules.specs.declared.Section.{Section}
 use Rattle.text_rules.specs.declared.Section.TheVariants.{Defaults, Materials, OperatingUnits, Rates, Exclusions}
 use Rattle.text_rules.specs.Line.{Placed}
-use Rattle.text_rules.specs.Fault.{Seen, seen_none, with_name, first_fault, file_type, form_fault}
-use Rattle.text_rules.specs.Canonical.{name_at, unit_items, material_items}
-use Rattle.text_laws.proofs.Each.{each-to, each-map, each-unmap}
-use Rattle.text_laws.proofs.CanonicalParts.{header_at, placed_at, entries, past, laid, spelled, material_part, unit_part, rates_part, exclusion_part, parts_of, canonical_laid, payout_text, material_text, unit_text, rates_text, exclusion_text, IsItemLine, IsRatesLine, material_line, unit_line, rates_line, exclusion_line, units_named, exclusions_named}
-use Rattle.text_laws.proofs.Words.{IsWord, name_word}
+use Rattle.text_rules.specs.Fault.{Seen, seen_none, with_name, first_fault, line_fault, seen_after, file_type, form_fault}
+use Rattle.text_rules.specs.Canonical.{name_at}
+use Rattle.text_laws.proofs.Each.{each-to, each-both, each-unmap}
+use Rattle.text_laws.proofs.CanonicalParts.{header_at, placed_at, entries, past, first_number, shown, laid, spelled, material_part, unit_part, rates_part, exclusion_part, parts_of, canonical_laid, payout_text, material_text, unit_text, rates_text, exclusion_text, IsItemLine, IsRatesLine, material_line, unit_line, rates_line, exclusion_line, units_named, exclusions_named, names_of_materials, names_of_units}
 use Rattle.text_laws.proofs.Names.{Fresh, fresh-last, fresh-nil, among_self}
 use Rattle.text_laws.proofs.Clear.{first_clear}
 use Rattle.text_laws.proofs.ItemLines.{material_clear, unit_clear, payout_clear}
@@ -22,64 +22,25 @@ use Rattle.text_laws.proofs.RatesLines.{rates_clear, exclusion_clear}
 abbrev seen_of : (headers keys materials units rates exclusions names : List (List ℕ)) → Seen
 seen_of headers keys materials units rates exclusions names = record { headers = headers; keys = keys; materials = materials; units = units; rates = rates; exclusions = exclusions; unit_names = names }
 
-words_of : (names : List (List ℕ)) → Each (λ name. is_name name ≡ true) names → Each IsWord names
-words_of names each = each-to (λ name. is_name name ≡ true) IsWord name_word names each
+-- entries with names of their own in a section
+module _ {A : Type 0} (section : Section) (text name : A → List ℕ) (state : List (List ℕ) → Seen) (most : ℕ) where
+  -- no kind stands at an entry whose name is new, and its name is seen then
+  abbrev IsClear : A → Type 0
+  IsClear x = (old : List (List ℕ)) (n : ℕ) → is_among old (name x) ≡ false → length old < most
+      → (line_fault (state old) (placed_at n section (text x)) ≡ None) × (seen_after (state old) (placed_at n section (text x)) ≡ state (old ++ name x ∷ []))
 
-module _ (headers keys : List (List ℕ)) where
-  materials_walk : (old : List (List ℕ)) (n : ℕ) (ms : List Material) (rest : List Placed) → Each IsWellFormedMaterial ms → has_double (material_names ms) ≡ false → Fresh old (material_names ms) → length old + length ms ≤ 256
-      → ((materials : List (List ℕ)) → first_fault (seen_of headers keys materials [] [] [] []) rest ≡ None) → first_fault (seen_of headers keys old [] [] [] []) (entries Materials n (map material_text ms) ++ rest) ≡ None
-  materials_walk old n [] rest goods off fresh few behind = behind old
-  materials_walk old n (m ∷ ms) rest goods off fresh few behind =
-      let parts : (is_among (material_names ms) m.name ≡ false) × (has_double (material_names ms) ≡ false) = or_parts (is_among (material_names ms) m.name) (has_double (material_names ms)) off in
-      let longer : length (old ++ m.name ∷ []) ≡ length old + 1 = length-append old (m.name ∷ []) in
-      let lines : List Placed = entries Materials (n + 1) (map material_text ms) ++ rest in
-      let line : IsItemLine m.name (material_items m) = material_line m goods.0 in
-      first_clear (seen_of headers keys old [] [] [] []) (placed_at n Materials (material_text m)) lines (material_clear old m goods.0 fresh.0 (omega arith))
-      (subst (λ (name : List ℕ). first_fault (seen_of headers keys (old ++ name ∷ []) [] [] [] []) lines ≡ None) (sym line.head)
-      (materials_walk (old ++ m.name ∷ []) (n + 1) ms rest goods.1 parts.1 (fresh-last old m.name (material_names ms) parts.0 fresh.1) (omega (arith, longer)) behind))
-
-  units_walk : (materials : List (List ℕ)) (count : ℕ) (old : List (List ℕ)) (n : ℕ) (us : List OperatingUnit) (rest : List Placed) → Each (IsWellFormedUnit count) us → has_double (unit_names us) ≡ false → Fresh old (unit_names us) → length old + length us ≤ 128
-      → ((all : List (List ℕ)) → all ≡ old ++ unit_names us → first_fault (seen_of headers keys materials all [] [] all) rest ≡ None) → first_fault (seen_of headers keys materials old [] [] old) (entries OperatingUnits n (map unit_text us) ++ rest) ≡ None
-  units_walk materials count old n [] rest goods off fresh few behind = behind old (sym (append-nil old))
-  units_walk materials count old n (u ∷ us) rest goods off fresh few behind =
-      let parts : (is_among (unit_names us) u.name ≡ false) × (has_double (unit_names us) ≡ false) = or_parts (is_among (unit_names us) u.name) (has_double (unit_names us)) off in
-      let longer : length (old ++ u.name ∷ []) ≡ length old + 1 = length-append old (u.name ∷ []) in
-      let lines : List Placed = entries OperatingUnits (n + 1) (map unit_text us) ++ rest in
-      let line : IsItemLine u.name (unit_items u) = unit_line count u goods.0 in
-      let more : with_name old u.name ≡ old ++ u.name ∷ [] = cond-false (is_among old u.name) old (old ++ u.name ∷ []) fresh.0 in
-      first_clear (seen_of headers keys materials old [] [] old) (placed_at n OperatingUnits (unit_text u)) lines (unit_clear old count u goods.0 fresh.0 (omega arith))
-      (subst (λ (name : List ℕ). first_fault (seen_of headers keys materials (old ++ name ∷ []) [] [] (with_name old name)) lines ≡ None) (sym line.head)
-      (subst (λ (names : List (List ℕ)). first_fault (seen_of headers keys materials (old ++ u.name ∷ []) [] [] names) lines ≡ None) (sym more)
-      (units_walk materials count (old ++ u.name ∷ []) (n + 1) us rest goods.1 parts.1 (fresh-last old u.name (unit_names us) parts.0 fresh.1) (omega (arith, longer))
-      (λ all e. behind all (e ∙ append_assoc old (u.name ∷ []) (unit_names us))))))
-
-  module _ (names : List (List ℕ)) (each : Each (λ name. is_name name ≡ true) names) (distinct_names : has_double names ≡ false) (materials units seen : List (List ℕ)) where
-    rates_walk : (old : List (List ℕ)) (n : ℕ) (us : List OperatingUnit) (rest : List Placed) → Each (IsWellFormedUnit (length names)) us → has_double (unit_names us) ≡ false → Fresh old (unit_names us) → Each (λ u. is_among seen u.name ≡ true) us
-        → ((rates : List (List ℕ)) → first_fault (seen_of headers keys materials units rates [] seen) rest ≡ None) → first_fault (seen_of headers keys materials units old [] seen) (entries Rates n (map (rates_text names) us) ++ rest) ≡ None
-    rates_walk old n [] rest goods off fresh listed behind = behind old
-    rates_walk old n (u ∷ us) rest goods off fresh listed behind =
-        let parts : (is_among (unit_names us) u.name ≡ false) × (has_double (unit_names us) ≡ false) = or_parts (is_among (unit_names us) u.name) (has_double (unit_names us)) off in
-        let lines : List Placed = entries Rates (n + 1) (map (rates_text names) us) ++ rest in
-        let line : IsRatesLine names u = rates_line names (words_of names each) u goods.0 in
-        let same : with_name seen u.name ≡ seen = cond-true (is_among seen u.name) seen (seen ++ u.name ∷ []) listed.0 in
-        first_clear (seen_of headers keys materials units old [] seen) (placed_at n Rates (rates_text names u)) lines (rates_clear names each distinct_names u goods.0 old seen fresh.0 listed.0 line)
-        (subst (λ (name : List ℕ). first_fault (seen_of headers keys materials units (old ++ name ∷ []) [] (with_name seen name)) lines ≡ None) (sym line.head)
-        (subst (λ (all : List (List ℕ)). first_fault (seen_of headers keys materials units (old ++ u.name ∷ []) [] all) lines ≡ None) (sym same)
-        (rates_walk (old ++ u.name ∷ []) (n + 1) us rest goods.1 parts.1 (fresh-last old u.name (unit_names us) parts.0 fresh.1) listed.1 behind)))
-
-  exclusions_walk : (names : List (List ℕ)) → Each (λ name. is_name name ≡ true) names → has_double names ≡ false → (materials units rates seen : List (List ℕ)) (old : List (List ℕ)) (n : ℕ) (es : List Exclusion)
-      → Each (IsWellFormedExclusion (length names)) es → has_double (exclusion_names es) ≡ false → Fresh old (exclusion_names es) → length old + length es ≤ 64
-      → first_fault (seen_of headers keys materials units rates old seen) (entries Exclusions n (map (exclusion_text names) es) ++ []) ≡ None
-  exclusions_walk names each distinct_names materials units rates seen old n [] goods off fresh few = refl
-  exclusions_walk names each distinct_names materials units rates seen old n (e ∷ es) goods off fresh few =
-      let parts : (is_among (exclusion_names es) e.name ≡ false) × (has_double (exclusion_names es) ≡ false) = or_parts (is_among (exclusion_names es) e.name) (has_double (exclusion_names es)) off in
-      let longer : length (old ++ e.name ∷ []) ≡ length old + 1 = length-append old (e.name ∷ []) in
-      let line : IsItemLine e.name (map (name_at names) e.units) = exclusion_line names (words_of names each) e goods.0 in
-      let lines : List Placed = entries Exclusions (n + 1) (map (exclusion_text names) es) ++ [] in
-      first_clear (seen_of headers keys materials units rates old seen) (placed_at n Exclusions (exclusion_text names e)) lines
-      (exclusion_clear names each distinct_names e goods.0 line old fresh.0 (omega arith))
-      (subst (λ (name : List ℕ). first_fault (seen_of headers keys materials units rates (old ++ name ∷ []) seen) lines ≡ None) (sym line.head)
-      (exclusions_walk names each distinct_names materials units rates seen (old ++ e.name ∷ []) (n + 1) es goods.1 parts.1 (fresh-last old e.name (exclusion_names es) parts.0 fresh.1) (omega (arith, longer))))
+  walk : (old : List (List ℕ)) (n : ℕ) (xs : List A) (rest : List Placed) → Each IsClear xs → has_double (map name xs) ≡ false → Fresh old (map name xs) → length old + length xs ≤ most
+      → first_fault (state (old ++ map name xs)) rest ≡ None → first_fault (state old) (entries section n (map text xs) ++ rest) ≡ None
+  walk old n [] rest each off fresh few behind = subst (λ (names : List (List ℕ)). first_fault (state names) rest ≡ None) (append-nil old) behind
+  walk old n (x ∷ xs) rest each off fresh few behind =
+      let parts : (is_among (map name xs) (name x) ≡ false) × (has_double (map name xs) ≡ false) = or_parts (is_among (map name xs) (name x)) (has_double (map name xs)) off in
+      let longer : length (old ++ name x ∷ []) ≡ length old + 1 = length-append old (name x ∷ []) in
+      let lines : List Placed = entries section (n + 1) (map text xs) ++ rest in
+      let here : (line_fault (state old) (placed_at n section (text x)) ≡ None) × (seen_after (state old) (placed_at n section (text x)) ≡ state (old ++ name x ∷ [])) = each.0 old n fresh.0 (omega arith) in
+      first_clear (state old) (placed_at n section (text x)) lines here.0
+      (subst (λ (seen : Seen). first_fault seen lines ≡ None) (sym here.1)
+      (walk (old ++ name x ∷ []) (n + 1) xs rest each.1 parts.1 (fresh-last old (name x) (map name xs) parts.0 fresh.1) (omega (arith, longer))
+      (subst (λ (names : List (List ℕ)). first_fault (state names) rest ≡ None) (sym (append_assoc old (name x ∷ []) (map name xs))) behind)))
 
 -- a header that is new
 new_header : (headers : List (List ℕ)) (name : List ℕ) → is_among headers name ≡ false → (let kind : Option TextKind = if is_among headers name then Some DoubleSection else None in kind) ≡ None
@@ -89,14 +50,14 @@ abbrev with_header : List (List ℕ) → List ℕ → List (List ℕ)
 with_header headers name = headers ++ name ∷ []
 
 module _ (p : Problem) (is : IsWellFormed p) where
-  m_names : Each (λ name. is_name name ≡ true) (material_names p.materials)
-  m_names = each-map (λ name. is_name name ≡ true) (λ (m : Material). m.name) p.materials (each-to IsWellFormedMaterial (λ m. is_name m.name ≡ true) (λ m good. good.named) p.materials is.materials_formed)
+  abbrev ms : List (List ℕ)
+  ms = material_names p.materials
 
-  u_names : Each (λ name. is_name name ≡ true) (unit_names p.units)
-  u_names = each-map (λ name. is_name name ≡ true) (λ (u : OperatingUnit). u.name) p.units (each-to (IsWellFormedUnit (length p.materials)) (λ u. is_name u.name ≡ true) (λ u good. good.named) p.units is.units_formed)
+  abbrev us : List (List ℕ)
+  us = unit_names p.units
 
-  listed : Each (λ u. is_among (unit_names p.units) u.name ≡ true) p.units
-  listed = each-unmap (λ name. is_among (unit_names p.units) name ≡ true) (λ (u : OperatingUnit). u.name) p.units (among_self (unit_names p.units))
+  listed : Each (λ u. is_among us u.name ≡ true) p.units
+  listed = each-unmap (λ name. is_among us name ≡ true) (λ (u : OperatingUnit). u.name) p.units (among_self us)
 
   module _ (h0 keys : List (List ℕ)) (h1 : is_among h0 (codes "materials") ≡ false) (h2 : is_among (with_header h0 (codes "materials")) (codes "operating_units") ≡ false)
       (h3 : is_among (with_header (with_header h0 (codes "materials")) (codes "operating_units")) (codes "material_to_operating_unit_flow_rates") ≡ false)
@@ -110,39 +71,73 @@ module _ (p : Problem) (is : IsWellFormed p) where
     abbrev r_headers : List (List ℕ)
     r_headers = with_header u_headers (codes "material_to_operating_unit_flow_rates")
 
-    exclusions_clear : (n : ℕ) (materials rates : List (List ℕ)) → first_fault (seen_of r_headers keys materials (unit_names p.units) rates [] (unit_names p.units)) (laid n (exclusion_part p ∷ [])) ≡ None
-    exclusions_clear n materials rates = from p.exclusions (exclusions_named p is) is.exclusions_apart is.few_exclusions where
-      from : (es : List Exclusion) → Each (IsWellFormedExclusion (length (unit_names p.units))) es → has_double (exclusion_names es) ≡ false → length es ≤ 64
-          → first_fault (seen_of r_headers keys materials (unit_names p.units) rates [] (unit_names p.units)) (laid n (record { section = Exclusions; always = false; texts = map (exclusion_text (unit_names p.units)) es } ∷ [])) ≡ None
-      from [] goods off few = refl
-      from (e ∷ es) goods off few = first_clear (seen_of r_headers keys materials (unit_names p.units) rates [] (unit_names p.units)) (header_at (n + 1) Exclusions) (entries Exclusions (n + 1 + 1) (map (exclusion_text (unit_names p.units)) (e ∷ es)) ++ []) (new_header r_headers (codes "mutual_exclusions") h4)
-          (exclusions_walk (with_header r_headers (codes "mutual_exclusions")) keys (unit_names p.units) u_names is.units_apart materials (unit_names p.units) rates (unit_names p.units) [] (n + 1 + 1) (e ∷ es) goods off (fresh-nil (exclusion_names (e ∷ es))) (omega (arith, few)))
+    -- what was seen, by the names of the section
+    abbrev m_seen : List (List ℕ) → Seen
+    m_seen old = seen_of m_headers keys old [] [] [] []
 
-    rates_part_clear : (n : ℕ) (materials all : List (List ℕ)) → all ≡ unit_names p.units → first_fault (seen_of u_headers keys materials all [] [] all) (laid n (rates_part p ∷ exclusion_part p ∷ [])) ≡ None
-    rates_part_clear n materials all e =
-        let m : ℕ = past (n + 1 + 1) (rates_part p).texts in
-        let rest : List Placed = laid m (exclusion_part p ∷ []) in
-        let lines : List Placed = entries Rates (n + 1 + 1) (rates_part p).texts ++ rest in
-        subst (λ (all : List (List ℕ)). first_fault (seen_of u_headers keys materials all [] [] all) (laid n (rates_part p ∷ exclusion_part p ∷ [])) ≡ None) (sym e)
-        (first_clear (seen_of u_headers keys materials (unit_names p.units) [] [] (unit_names p.units)) (header_at (n + 1) Rates) lines (new_header u_headers (codes "material_to_operating_unit_flow_rates") h3)
-        (rates_walk r_headers keys (material_names p.materials) m_names is.materials_apart materials (unit_names p.units) (unit_names p.units) [] (n + 1 + 1) p.units rest (units_named p is) is.units_apart (fresh-nil (unit_names p.units)) listed
-        (λ rates. exclusions_clear m materials rates)))
+    abbrev u_seen : List (List ℕ) → Seen
+    u_seen old = seen_of u_headers keys ms old [] [] old
 
-    units_part_clear : (n : ℕ) (materials : List (List ℕ)) → first_fault (seen_of m_headers keys materials [] [] [] []) (laid n (unit_part p ∷ rates_part p ∷ exclusion_part p ∷ [])) ≡ None
-    units_part_clear n materials =
-        let m : ℕ = past (n + 1 + 1) (unit_part p).texts in
-        let rest : List Placed = laid m (rates_part p ∷ exclusion_part p ∷ []) in
-        let lines : List Placed = entries OperatingUnits (n + 1 + 1) (unit_part p).texts ++ rest in
-        first_clear (seen_of m_headers keys materials [] [] [] []) (header_at (n + 1) OperatingUnits) lines (new_header m_headers (codes "operating_units") h2)
-        (units_walk u_headers keys materials (length p.materials) [] (n + 1 + 1) p.units rest is.units_formed is.units_apart (fresh-nil (unit_names p.units)) (omega (arith, is.few_units)) (rates_part_clear m materials))
+    abbrev r_seen : List (List ℕ) → Seen
+    r_seen old = seen_of r_headers keys ms us old [] us
+
+    abbrev e_seen : List (List ℕ) → List (List ℕ) → Seen
+    e_seen headers old = seen_of headers keys ms us us old us
+
+    materials_fit : Each (IsClear Materials material_text (λ (m : Material). m.name) m_seen 256) p.materials
+    materials_fit = each-to IsWellFormedMaterial (IsClear Materials material_text (λ (m : Material). m.name) m_seen 256)
+        (λ m good old n fresh few. (material_clear old m good fresh few, ap (λ (name : List ℕ). m_seen (old ++ name ∷ [])) (material_line m good).head)) p.materials is.materials_formed
+
+    units_fit : Each (IsClear OperatingUnits unit_text (λ (u : OperatingUnit). u.name) u_seen 128) p.units
+    units_fit = each-to (IsWellFormedUnit (length ms)) (IsClear OperatingUnits unit_text (λ (u : OperatingUnit). u.name) u_seen 128)
+        (λ u good old n fresh few. (
+          unit_clear old (length ms) u good fresh few,
+          ap (λ (name : List ℕ). seen_of u_headers keys ms (old ++ name ∷ []) [] [] (with_name old name)) (unit_line (length ms) u good).head
+              ∙ ap (seen_of u_headers keys ms (old ++ u.name ∷ []) [] []) (cond-false (is_among old u.name) old (old ++ u.name ∷ []) fresh),
+        ))
+        p.units (units_named p is)
+
+    rates_fit : Each (IsClear Rates (rates_text ms) (λ (u : OperatingUnit). u.name) r_seen 128) p.units
+    rates_fit = each-both (IsWellFormedUnit (length ms)) (λ u. is_among us u.name ≡ true) (IsClear Rates (rates_text ms) (λ (u : OperatingUnit). u.name) r_seen 128)
+        (λ u good among old n fresh few.
+        let line : IsRatesLine ms u = rates_line ms (names_of_materials p is) u good in (
+          rates_clear ms (names_of_materials p is) is.materials_apart u good old us fresh among line,
+          ap (λ (name : List ℕ). seen_of r_headers keys ms us (old ++ name ∷ []) [] (with_name us name)) line.head
+              ∙ ap (seen_of r_headers keys ms us (old ++ u.name ∷ []) []) (cond-true (is_among us u.name) us (us ++ u.name ∷ []) among),
+        ))
+        p.units (units_named p is) listed
+
+    exclusions_fit : (headers : List (List ℕ)) → Each (IsClear Exclusions (exclusion_text us) (λ (e : Exclusion). e.name) (e_seen headers) 64) p.exclusions
+    exclusions_fit headers = each-to (IsWellFormedExclusion (length us)) (IsClear Exclusions (exclusion_text us) (λ (e : Exclusion). e.name) (e_seen headers) 64)
+        (λ e good old n fresh few.
+        let line : IsItemLine e.name (map (name_at us) e.units) = exclusion_line us (names_of_units p is) e good in
+        (exclusion_clear us (names_of_units p is) is.units_apart e good line old fresh few, ap (λ (name : List ℕ). e_seen headers (old ++ name ∷ [])) line.head))
+        p.exclusions (exclusions_named p is)
+
+    exclusions_clear : (n : ℕ) → first_fault (e_seen r_headers []) (laid n (exclusion_part p ∷ [])) ≡ None
+    exclusions_clear n =
+        let lines : List Placed = entries Exclusions (first_number n (exclusion_part p)) (exclusion_part p).texts ++ [] in
+        let clear : (headers : List (List ℕ)) → first_fault (e_seen headers []) lines ≡ None =
+        λ headers. walk Exclusions (exclusion_text us) (λ (e : Exclusion). e.name) (e_seen headers) 64 [] (first_number n (exclusion_part p)) p.exclusions [] (exclusions_fit headers) is.exclusions_apart (fresh-nil (exclusion_names p.exclusions)) (omega (arith, is.few_exclusions)) refl in
+        cond_both (shown (exclusion_part p)) (header_at (n + 1) Exclusions ∷ []) [] (λ head. first_fault (e_seen r_headers []) (head ++ lines) ≡ None)
+        (λ e. first_clear (e_seen r_headers []) (header_at (n + 1) Exclusions) lines (new_header r_headers (codes "mutual_exclusions") h4) (clear (with_header r_headers (codes "mutual_exclusions"))))
+        (λ e. clear r_headers)
 
     sections_clear : (n : ℕ) → first_fault (seen_of h0 keys [] [] [] [] []) (laid n (material_part p ∷ unit_part p ∷ rates_part p ∷ exclusion_part p ∷ [])) ≡ None
     sections_clear n =
-        let m : ℕ = past (n + 1 + 1) (material_part p).texts in
-        let rest : List Placed = laid m (unit_part p ∷ rates_part p ∷ exclusion_part p ∷ []) in
-        let lines : List Placed = entries Materials (n + 1 + 1) (material_part p).texts ++ rest in
-        first_clear (seen_of h0 keys [] [] [] [] []) (header_at (n + 1) Materials) lines (new_header h0 (codes "materials") h1)
-        (materials_walk m_headers keys [] (n + 1 + 1) p.materials rest is.materials_formed is.materials_apart (fresh-nil (material_names p.materials)) (omega (arith, is.few_materials)) (units_part_clear m))
+        let u : ℕ = past (n + 1 + 1) (material_part p).texts in
+        let r : ℕ = past (u + 1 + 1) (unit_part p).texts in
+        let x : ℕ = past (r + 1 + 1) (rates_part p).texts in
+        let last : List Placed = laid x (exclusion_part p ∷ []) in
+        let third : List Placed = laid r (rates_part p ∷ exclusion_part p ∷ []) in
+        let second : List Placed = laid u (unit_part p ∷ rates_part p ∷ exclusion_part p ∷ []) in
+        first_clear (seen_of h0 keys [] [] [] [] []) (header_at (n + 1) Materials) (entries Materials (n + 1 + 1) (material_part p).texts ++ second) (new_header h0 (codes "materials") h1)
+        (walk Materials material_text (λ (m : Material). m.name) m_seen 256 [] (n + 1 + 1) p.materials second materials_fit is.materials_apart (fresh-nil ms) (omega (arith, is.few_materials))
+        (first_clear (m_seen ms) (header_at (u + 1) OperatingUnits) (entries OperatingUnits (u + 1 + 1) (unit_part p).texts ++ third) (new_header m_headers (codes "operating_units") h2)
+        (walk OperatingUnits unit_text (λ (u : OperatingUnit). u.name) u_seen 128 [] (u + 1 + 1) p.units third units_fit is.units_apart (fresh-nil us) (omega (arith, is.few_units))
+        (first_clear (u_seen us) (header_at (r + 1) Rates) (entries Rates (r + 1 + 1) (rates_part p).texts ++ last) (new_header u_headers (codes "material_to_operating_unit_flow_rates") h3)
+        (walk Rates (rates_text ms) (λ (u : OperatingUnit). u.name) r_seen 128 [] (r + 1 + 1) p.units last rates_fit is.units_apart (fresh-nil us) (omega (arith, is.few_units))
+        (exclusions_clear x))))))
 
   payout_some : (z : ℤ) → int_lt (pos 0) z ≡ true → 1 ≤ unsigned_abs z
   payout_some (pos n) lt = ltb-true 0 n lt

@@ -55,20 +55,20 @@ unit_pieces count u good = (
   ),
 )
 
--- a name of a list, by its number
-pub name_at_word : (names : List (List ℕ)) (k : ℕ) → Each IsWord names → k < length names → IsWord (name_at names k)
-name_at_word [] k each lt = absurd (omega arith)
-name_at_word (name ∷ names) zero each lt = each.0
-name_at_word (name ∷ names) (suc k) each lt = name_at_word names k each.1 (omega arith)
+-- what holds of each name of a list holds of the one of a number
+pub name_at_each : (P : List ℕ → Type 0) (names : List (List ℕ)) (k : ℕ) → Each P names → k < length names → P (name_at names k)
+name_at_each P [] k each lt = absurd (omega arith)
+name_at_each P (name ∷ names) zero each lt = each.0
+name_at_each P (name ∷ names) (suc k) each lt = name_at_each P names k each.1 (omega arith)
 
 -- the tokens of a term are words
 pub term_words : (names : List (List ℕ)) (t : Term) → Each IsWord names → IsWellFormedTerm (length names) t → Each IsWord (term_tokens names t)
 term_words names t each good =
-    let name : IsWord (name_at names t.material) = name_at_word names t.material each good.known in
+    let name : IsWord (name_at names t.material) = name_at_each IsWord names t.material each good.known in
     cond_both (unsigned_abs t.rate == 1000000) (name_at names t.material ∷ []) (amount_bytes t.rate ∷ name_at names t.material ∷ []) (λ ts. Each IsWord ts)
     (λ e. (name, tt)) (λ e. (amount_word t.rate good.in_range, (name, tt)))
 
 -- the names of the units of an exclusion
 pub member_words : (names : List (List ℕ)) (low : ℕ) (units : List ℕ) → Each IsWord names → AreRisingFrom (length names) low units → Each IsWord (map (name_at names) units)
 member_words names low [] each rising = tt
-member_words names low (n ∷ units) each rising = (name_at_word names n each rising.1, member_words names (n + 1) units each rising.2)
+member_words names low (n ∷ units) each rising = (name_at_each IsWord names n each rising.1, member_words names (n + 1) units each rising.2)

@@ -21,9 +21,10 @@ use Rattle.text_laws.proofs.PrintedAmount.{amounts_read_back}
 use Rattle.text_laws.proofs.Each.{each-to, each-map, each-append, none_from_each}
 use Rattle.text_laws.proofs.CanonicalParts.{IsItemLine, IsRatesLine, rates_text, exclusion_text}
 use Rattle.text_laws.proofs.Names.{bytes_differ}
+use Rattle.text_laws.proofs.PrintedItems.{name_at_each}
 use Rattle.text_laws.proofs.Pieces.{word_piece, piece_long}
 use Rattle.text_laws.proofs.Words.{name_word}
-use Rattle.text_laws.proofs.Clear.{find_none}
+use Rattle.text_laws.proofs.Clear.{kinds_clear}
 
 pub positive_sign : (z : ℤ) → int_lt (pos 0) z ≡ true → int_lt z (pos 0) ≡ false
 positive_sign (pos n) is = le-ltb n 0 (omega arith)
@@ -32,11 +33,6 @@ positive_sign (negsuc n) is = absurd (true≢false (sym is))
 pub one_rate : (z : ℤ) → int_lt (pos 0) z ≡ true → (unsigned_abs z == 1000000) ≡ true → z ≡ pos 1000000
 one_rate (pos n) is e = ap pos (eqb-true n 1000000 e)
 one_rate (negsuc n) is e = absurd (true≢false (sym is))
-
-pub name_at_each : (P : List ℕ → Type 0) (names : List (List ℕ)) (k : ℕ) → Each P names → k < length names → P (name_at names k)
-name_at_each P [] k each lt = absurd (omega arith)
-name_at_each P (name ∷ names) zero each lt = each.0
-name_at_each P (name ∷ names) (suc k) each lt = name_at_each P names k each.1 (omega arith)
 
 none_at : {A : Type 0} (p : A → Bool) (xs : List A) (k : ℕ) (d : A) → list_any p xs ≡ false → k < length xs → p (get_or xs k d) ≡ false
 none_at p [] k d none lt = absurd (omega arith)
@@ -89,21 +85,21 @@ rate_reads count t good = cond_both (unsigned_abs t.rate == 1000000) (codes "1")
     (λ e. ap Ok (sym (one_rate t.rate good.positive e))) (λ e. amounts_read_back t.rate good.in_range)
 
 -- its tokens
-pair_is : (names : List (List ℕ)) (t : Term) → pair_of (term_tokens names t) ≡ pair names t
-pair_is names t = at (unsigned_abs t.rate == 1000000) where
-  at : (one : Bool) → pair_of (if one then name_at names t.material ∷ [] else amount_bytes t.rate ∷ name_at names t.material ∷ []) ≡ (if one then codes "1" else amount_bytes t.rate, name_at names t.material)
-  at true = refl
-  at false = refl
+tokens_apart : (names : List (List ℕ)) (t : Term) → (pair_of (term_tokens names t) ≡ pair names t) × (is_bad_term (term_tokens names t) ≡ false)
+tokens_apart names t = at (unsigned_abs t.rate == 1000000) where
+  at : (one : Bool) → let tokens : List (List ℕ) = if one then name_at names t.material ∷ [] else amount_bytes t.rate ∷ name_at names t.material ∷ [] in
+      (pair_of tokens ≡ (if one then codes "1" else amount_bytes t.rate, name_at names t.material)) × (is_bad_term tokens ≡ false)
+  at true = (refl, refl)
+  at false = (refl, refl)
 
 pairs_are : (names : List (List ℕ)) (terms : List Term) → map pair_of (map (term_tokens names) terms) ≡ map (pair names) terms
 pairs_are names [] = refl
 pairs_are names (t ∷ terms) =
-    ap (λ (one : Pair). one ∷ map pair_of (map (term_tokens names) terms)) (pair_is names t) ∙ ap (λ (pairs : List Pair). pair names t ∷ pairs) (pairs_are names terms)
+    ap (λ (one : Pair). one ∷ map pair_of (map (term_tokens names) terms)) (tokens_apart names t).0 ∙ ap (λ (pairs : List Pair). pair names t ∷ pairs) (pairs_are names terms)
 
 few_tokens : (names : List (List ℕ)) (terms : List Term) → Each (λ term. is_bad_term term ≡ false) (map (term_tokens names) terms)
 few_tokens names [] = tt
-few_tokens names (t ∷ terms) =
-    (cond_both (unsigned_abs t.rate == 1000000) (name_at names t.material ∷ []) (amount_bytes t.rate ∷ name_at names t.material ∷ []) (λ tokens. is_bad_term tokens ≡ false) (λ e. refl) (λ e. refl), few_tokens names terms)
+few_tokens names (t ∷ terms) = ((tokens_apart names t).1, few_tokens names terms)
 
 names_are : (names : List (List ℕ)) (terms : List Term) → names_of (map (pair names) terms) ≡ map (name_at names) (numbers_of terms)
 names_are names [] = refl
@@ -169,15 +165,11 @@ module _ (names : List (List ℕ)) (each : Each (λ name. is_name name ≡ true)
   both_good : Each IsGoodPair (left ++ right)
   both_good = each-append IsGoodPair left right (pairs_good u.inputs good.inputs.terms_formed) (pairs_good u.outputs good.outputs.terms_formed)
 
-  none_rated : (kind : TextKind) → ((one : Pair) → IsGoodPair one → rate_stands kind one ≡ false) → list_any (rate_stands kind) (left ++ right) ≡ false
-  none_rated kind says = none_from_each (rate_stands kind) (left ++ right) (each-to IsGoodPair (λ one. rate_stands kind one ≡ false) says (left ++ right) both_good)
-
   terms_clear : term_fault u.name left right ≡ None
   terms_clear =
       let named : list_any (λ (one : Pair). not (is_name one.1)) (left ++ right) ≡ false = none_from_each (λ (one : Pair). not (is_name one.1)) (left ++ right) (each-to IsGoodPair (λ one. not (is_name one.1) ≡ false) (λ one is. is.named) (left ++ right) both_good) in
       cond-false (not (is_name u.name) || list_any (λ (one : Pair). not (is_name one.1)) (left ++ right)) (Some BadName) _ (or_from _ _ (ap not good.named) named)
-      ∙ find_none (λ kind. list_any (rate_stands kind) (left ++ right)) rate_kinds
-      (none_rated BadNumber (λ one is. is.rate.0), (none_rated TooFine (λ one is. is.rate.1.0), (none_rated TooLarge (λ one is. is.rate.1.1.0), (none_rated Negative (λ one is. is.rate.1.1.1.0), (none_rated ZeroRate (λ one is. is.rate.1.1.1.1.0), tt)))))
+      ∙ kinds_clear rate_stands rate_kinds (left ++ right) (each-to IsGoodPair (λ one. Each (λ kind. rate_stands kind one ≡ false) rate_kinds) (λ one is. is.rate) (left ++ right) both_good)
 
   within : (side : List Term) → Each (IsWellFormedTerm (length names)) side → Each (λ k. k < length names) (numbers_of side)
   within side goods = each-map (λ k. k < length names) (λ (t : Term). t.material) side (each-to (IsWellFormedTerm (length names)) (λ t. t.material < length names) (λ t g. g.known) side goods)
