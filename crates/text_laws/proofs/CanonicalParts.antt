@@ -85,9 +85,9 @@ abbrev pub picked : Section → ℕ → List Part → List Placed
 picked section n [] = []
 picked section n (part ∷ parts) = (if is_section section part.section then entries part.section (first_number n part) part.texts else []) ++ picked section (past (first_number n part) part.texts) parts
 
-pub record IsPart (part : Part) : Type 0 where
-  pub has_meaning : is_meant part.section ≡ true
-  pub each : Each IsEntry part.texts
+-- a section whose lines have a meaning
+abbrev IsPart : Part → Type 0
+IsPart part = (is_meant part.section ≡ true) × Each IsEntry part.texts
 
 -- the header of a section
 record IsHeader (section : Section) : Type 0 where
@@ -124,9 +124,9 @@ parts_placed n old (part ∷ parts) each = at (shown part) (λ off. empty_is par
   at : (b : Bool) → (b ≡ false → part.texts ≡ []) → ((m : ℕ) (s : Section) → standing (placed_from m s (spelled parts)) ≡ laid m parts) → standing (placed_from n old ((if b then [] ∷ (title part.section ++ 58 ∷ []) ∷ [] else []) ++ (part.texts ++ spelled parts)))
       ≡ (if b then header_at (n + 1) part.section ∷ [] else []) ++ (entries part.section (if b then n + 1 + 1 else n) part.texts ++ laid (past (if b then n + 1 + 1 else n) part.texts) parts)
   at true some behind =
-      (header_is part.section each.0.has_meaning).placed (n + 1) old (part.texts ++ spelled parts)
+      (header_is part.section each.0.0).placed (n + 1) old (part.texts ++ spelled parts)
       ∙ ap (λ (lines : List Placed). header_at (n + 1) part.section ∷ lines) (
-      entries_placed part.section (n + 1 + 1) part.texts (spelled parts) each.0.each
+      entries_placed part.section (n + 1 + 1) part.texts (spelled parts) each.0.1
       ∙ ap (λ (lines : List Placed). entries part.section (n + 1 + 1) part.texts ++ lines) (behind (past (n + 1 + 1) part.texts) part.section))
   at false none behind = subst (λ (texts : List (List ℕ)). standing (placed_from n old (texts ++ spelled parts)) ≡ entries part.section n texts ++ laid (past n texts) parts) (sym (none refl)) (behind n old)
 
@@ -134,8 +134,8 @@ parts_lines : (parts : List Part) → Each IsPart parts → Each IsLine (spelled
 parts_lines [] each = tt
 parts_lines (part ∷ parts) each = each-append IsLine (if shown part then [] ∷ (title part.section ++ 58 ∷ []) ∷ [] else []) (part.texts ++ spelled parts)
     (cond_both (shown part) ([] ∷ (title part.section ++ 58 ∷ []) ∷ []) [] (λ lines. Each IsLine lines)
-    (λ e. (record { feed = refl; ret = refl; front = refl; back = refl }, ((header_is part.section each.0.has_meaning).line, tt))) (λ e. tt))
-    (each-append IsLine part.texts (spelled parts) (each-to IsEntry IsLine (λ text is. is.line) part.texts each.0.each) (parts_lines parts each.1))
+    (λ e. (record { feed = refl; ret = refl; front = refl; back = refl }, ((header_is part.section each.0.0).line, tt))) (λ e. tt))
+    (each-append IsLine part.texts (spelled parts) (each-to IsEntry IsLine (λ text is. is.line) part.texts each.0.1) (parts_lines parts each.1))
 
 -- what a test keeps of entries, which all pass or all fail
 entries_kept : (test : Placed → Bool) (b : Bool) (section : Section) (n : ℕ) (texts : List (List ℕ)) (rest : List Placed) → ((k : ℕ) (text : List ℕ) → test (placed_at k section text) ≡ b)
@@ -158,7 +158,7 @@ parts_matter n (part ∷ parts) each =
     let rest : List Placed = laid (past (first_number n part) part.texts) parts in
     let own : List Placed = entries part.section (first_number n part) part.texts in
     cond_both (shown part) (header_at (n + 1) part.section ∷ []) [] (λ head. filter matters (head ++ (own ++ rest)) ≡ filter matters (own ++ rest)) (λ e. refl) (λ e. refl)
-    ∙ entries_kept matters true part.section (first_number n part) part.texts rest (λ k text. each.0.has_meaning)
+    ∙ entries_kept matters true part.section (first_number n part) part.texts rest (λ k text. each.0.0)
     ∙ ap (λ (lines : List Placed). own ++ lines) (parts_matter (past (first_number n part) part.texts) parts each.1)
 
 and_true : (b : Bool) → (b && true) ≡ b
@@ -294,25 +294,14 @@ module _ (p : Problem) (is : IsWellFormed p) where
   are_parts : Each IsPart (parts_of p)
   are_parts =
       let ms : List (List ℕ) = material_names p.materials in
-      let us : List (List ℕ) = unit_names p.units in (
-        record {
-          has_meaning = refl;
-          each = cond_both (unsigned_abs p.payout == 1) [] (payout_text (unsigned_abs p.payout) ∷ []) (λ texts. Each IsEntry texts) (λ e. tt) (λ e. (payout_entry (unsigned_abs p.payout) (omega (arith, is.payout_limit)), tt));
-        },
-        (
-          record { has_meaning = refl; each = each-map IsEntry material_text p.materials (each-to IsWellFormedMaterial (λ m. IsEntry (material_text m)) (λ m good. (material_line m good).entry) p.materials is.materials_formed) },
-          (
-            record { has_meaning = refl; each = each-map IsEntry unit_text p.units (each-to (IsWellFormedUnit (length ms)) (λ u. IsEntry (unit_text u)) (λ u good. (unit_line (length ms) u good).entry) p.units units_named) },
-            (
-              record { has_meaning = refl; each = each-map IsEntry (rates_text ms) p.units (each-to (IsWellFormedUnit (length ms)) (λ u. IsEntry (rates_text ms u)) (λ u good. (rates_line ms names_of_materials u good).entry) p.units units_named) },
-              (
-                record { has_meaning = refl; each = each-map IsEntry (exclusion_text us) p.exclusions (each-to (IsWellFormedExclusion (length us)) (λ e. IsEntry (exclusion_text us e)) (λ e good. (exclusion_line us names_of_units e good).entry) p.exclusions exclusions_named) },
-                tt,
-              ),
-            ),
-          ),
-        ),
-      )
+      let us : List (List ℕ) = unit_names p.units in
+      let k : ℕ = unsigned_abs p.payout in
+      let payout : Each IsEntry (payout_texts k) = cond_both (k == 1) [] (payout_text k ∷ []) (λ texts. Each IsEntry texts) (λ e. tt) (λ e. (payout_entry k (omega (arith, is.payout_limit)), tt)) in
+      let materials : Each IsEntry (map material_text p.materials) = each-map IsEntry material_text p.materials (each-to IsWellFormedMaterial (λ m. IsEntry (material_text m)) (λ m good. (material_line m good).entry) p.materials is.materials_formed) in
+      let units : Each IsEntry (map unit_text p.units) = each-map IsEntry unit_text p.units (each-to (IsWellFormedUnit (length ms)) (λ u. IsEntry (unit_text u)) (λ u good. (unit_line (length ms) u good).entry) p.units units_named) in
+      let rates : Each IsEntry (map (rates_text ms) p.units) = each-map IsEntry (rates_text ms) p.units (each-to (IsWellFormedUnit (length ms)) (λ u. IsEntry (rates_text ms u)) (λ u good. (rates_line ms names_of_materials u good).entry) p.units units_named) in
+      let exclusions : Each IsEntry (map (exclusion_text us) p.exclusions) = each-map IsEntry (exclusion_text us) p.exclusions (each-to (IsWellFormedExclusion (length us)) (λ e. IsEntry (exclusion_text us e)) (λ e good. (exclusion_line us names_of_units e good).entry) p.exclusions exclusions_named) in
+      ((refl, payout), ((refl, materials), ((refl, units), ((refl, rates), ((refl, exclusions), tt)))))
 
   -- the lines of the canonical text, those that stand, and those that have a meaning
   pub canonical_read : lines_of (canonical p) ≡ file_type ∷ spelled (parts_of p)

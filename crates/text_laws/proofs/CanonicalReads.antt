@@ -18,7 +18,7 @@ use Rattle.text_rules.specs.Fault.{Fault, fault_or, file_type, names_of}
 use Rattle.text_rules.specs.Value.{Settings, Names, fields_at, settings_from, settings_of, number_at, material_from, materials_from, both_from, sides_or, sides_named, listed_unit, unit_from, bare_unit, bare_lines, units_from, unit_names_from, exclusion_named, exclusions_from, payout_from, problem_from, names_all, is_material_turned, is_unit_turned, has_unknown, is_unit, entry_meaning, first_meaning, has_product, with_product, or_first, meaning_at, read_lines, read_text}
 use Rattle.text_rules.specs.Canonical.{name_at, canonical}
 use Rattle.text_laws.proofs.Each.{each-to, each-map, none_from_each, each-both, each-unmap}
-use Rattle.text_laws.proofs.CanonicalParts.{payout_part, material_part, unit_part, rates_part, exclusion_part, parts_of, spelled, entries, meant, past, first_number, parts_at, payout_text, material_text, unit_text, rates_text, exclusion_text, IsItemLine, IsRatesLine, material_line, unit_line, rates_line, exclusion_line, names_of_materials, names_of_units, units_named, exclusions_named, canonical_read, canonical_meant}
+use Rattle.text_laws.proofs.CanonicalParts.{Part, payout_part, parts_of, spelled, entries, meant, past, first_number, parts_at, payout_text, material_text, unit_text, rates_text, exclusion_text, IsItemLine, IsRatesLine, material_line, unit_line, rates_line, exclusion_line, names_of_materials, names_of_units, units_named, exclusions_named, canonical_read, canonical_meant}
 use Rattle.text_laws.proofs.Numbers.{rising_within}
 use Rattle.text_laws.proofs.Names.{among_self}
 use Rattle.text_laws.proofs.PrintedItems.{name_at_each}
@@ -42,6 +42,12 @@ meaning_clear s names section n [] rest each behind = behind
 meaning_clear s names section n (text ∷ texts) rest each behind =
     ap (λ (kind : Option TextKind). fault_or n kind (first_meaning s names (entries section (n + 1) texts ++ rest))) each.0 ∙ meaning_clear s names section (n + 1) texts rest each.1 behind
 
+parts_clear : (s : Settings) (names : Names) (n : ℕ) (parts : List Part) → Each (λ part. Each (λ text. entry_meaning s names part.section text ≡ None) part.texts) parts → first_meaning s names (meant n parts) ≡ None
+parts_clear s names n [] each = refl
+parts_clear s names n (part ∷ parts) each =
+    let k : ℕ = first_number n part in
+    meaning_clear s names part.section k part.texts (meant (past k part.texts) parts) each.0 (parts_clear s names (past k part.texts) parts each.1)
+
 abbrev head_in : Placed → List ℕ
 head_in line = head_of line.text
 
@@ -52,39 +58,27 @@ module _ (p : Problem) (is : IsWellFormed p) where
   abbrev us : List (List ℕ)
   us = unit_names p.units
 
-  -- the lines that have a meaning, and the numbers of the first of each section
+  -- the lines that have a meaning, and those of each section
   abbrev L : List Placed
   L = meant 2 (parts_of p)
 
-  abbrev d : ℕ
-  d = first_number 2 (payout_part p)
+  abbrev IsIn : Section → List (List ℕ) → Type 0
+  IsIn section texts = (n : ℕ) × (lines_at section L ≡ entries section n texts)
 
-  abbrev m : ℕ
-  m = first_number (past d (payout_part p).texts) (material_part p)
+  defaults_in : IsIn Defaults (payout_part p).texts
+  defaults_in = (_, parts_at Defaults 2 (parts_of p) ∙ append-nil _)
 
-  abbrev u : ℕ
-  u = first_number (past m (material_part p).texts) (unit_part p)
+  materials_in : IsIn Materials (map material_text p.materials)
+  materials_in = (_, parts_at Materials 2 (parts_of p) ∙ append-nil _)
 
-  abbrev r : ℕ
-  r = first_number (past u (unit_part p).texts) (rates_part p)
+  units_in : IsIn OperatingUnits (map unit_text p.units)
+  units_in = (_, parts_at OperatingUnits 2 (parts_of p) ∙ append-nil _)
 
-  abbrev x : ℕ
-  x = first_number (past r (rates_part p).texts) (exclusion_part p)
+  rates_in : IsIn Rates (map (rates_text ms) p.units)
+  rates_in = (_, parts_at Rates 2 (parts_of p) ∙ append-nil _)
 
-  defaults_in : lines_at Defaults L ≡ entries Defaults d (payout_part p).texts
-  defaults_in = parts_at Defaults 2 (parts_of p) ∙ append-nil (entries Defaults d (payout_part p).texts)
-
-  materials_in : lines_at Materials L ≡ entries Materials m (map material_text p.materials)
-  materials_in = parts_at Materials 2 (parts_of p) ∙ append-nil (entries Materials m (map material_text p.materials))
-
-  units_in : lines_at OperatingUnits L ≡ entries OperatingUnits u (map unit_text p.units)
-  units_in = parts_at OperatingUnits 2 (parts_of p) ∙ append-nil (entries OperatingUnits u (map unit_text p.units))
-
-  rates_in : lines_at Rates L ≡ entries Rates r (map (rates_text ms) p.units)
-  rates_in = parts_at Rates 2 (parts_of p) ∙ append-nil (entries Rates r (map (rates_text ms) p.units))
-
-  exclusions_in : lines_at Exclusions L ≡ entries Exclusions x (map (exclusion_text us) p.exclusions)
-  exclusions_in = parts_at Exclusions 2 (parts_of p) ∙ append-nil (entries Exclusions x (map (exclusion_text us) p.exclusions))
+  exclusions_in : IsIn Exclusions (map (exclusion_text us) p.exclusions)
+  exclusions_in = (_, parts_at Exclusions 2 (parts_of p) ∙ append-nil _)
 
   -- the lines of rates and exclusions
   rates_is : (u : OperatingUnit) → IsWellFormedUnit (length ms) u → IsRatesLine ms u
@@ -100,31 +94,31 @@ module _ (p : Problem) (is : IsWellFormed p) where
 
   settings_are : settings_of L ≡ built_in
   settings_are =
-      ap (λ (lines : List Placed). settings_from (map field_in lines)) defaults_in
-      ∙ cond_both (unsigned_abs p.payout == 1) [] (payout_text (unsigned_abs p.payout) ∷ []) (λ texts. settings_from (map field_in (entries Defaults d texts)) ≡ built_in) (λ e. refl) (λ e. refl)
+      ap (λ (lines : List Placed). settings_from (map field_in lines)) defaults_in.1
+      ∙ cond_both (unsigned_abs p.payout == 1) [] (payout_text (unsigned_abs p.payout) ∷ []) (λ texts. settings_from (map field_in (entries Defaults defaults_in.0 texts)) ≡ built_in) (λ e. refl) (λ e. refl)
 
   payout_is : payout_from L ≡ p.payout
   payout_is =
       let k : ℕ = unsigned_abs p.payout in
       let years : List Placed → ℤ = λ lines. pos (unsigned_abs (number_at payout_period (map field_in lines) (pos 1000000)) / 1000000) in
-      ap years defaults_in
-      ∙ cond_both (k == 1) [] (payout_text k ∷ []) (λ texts. years (entries Defaults d texts) ≡ p.payout)
+      ap years defaults_in.1
+      ∙ cond_both (k == 1) [] (payout_text k ∷ []) (λ texts. years (entries Defaults defaults_in.0 texts) ≡ p.payout)
       (λ e. ap pos (sym (eqb-true k 1 e)) ∙ positive_is p.payout is.payout_positive)
       (λ e. ap (λ (a : Result ℤ TextKind). pos (unsigned_abs (result_unwrap_or a (pos 0)) / 1000000)) (payout_amount k is.payout_limit) ∙ ap pos (mul-div_cancel k (omega arith)) ∙ positive_is p.payout is.payout_positive)
 
   -- ---- names
 
   material_heads : heads_at Materials L ≡ ms
-  material_heads = ap (map head_in) materials_in ∙ entries_read Materials material_text head_of (λ (m : Material). m.name) m p.materials (each-to IsWellFormedMaterial (λ m. head_of (material_text m) ≡ m.name) (λ m good. (material_line m good).head) p.materials is.materials_formed)
+  material_heads = ap (map head_in) materials_in.1 ∙ entries_read Materials material_text head_of (λ (m : Material). m.name) materials_in.0 p.materials (each-to IsWellFormedMaterial (λ m. head_of (material_text m) ≡ m.name) (λ m good. (material_line m good).head) p.materials is.materials_formed)
 
   unit_heads : heads_at OperatingUnits L ≡ us
-  unit_heads = ap (map head_in) units_in ∙ entries_read OperatingUnits unit_text head_of (λ (u : OperatingUnit). u.name) u p.units (each-to (IsWellFormedUnit (length ms)) (λ u. head_of (unit_text u) ≡ u.name) (λ u good. (unit_line (length ms) u good).head) p.units (units_named p is))
+  unit_heads = ap (map head_in) units_in.1 ∙ entries_read OperatingUnits unit_text head_of (λ (u : OperatingUnit). u.name) units_in.0 p.units (each-to (IsWellFormedUnit (length ms)) (λ u. head_of (unit_text u) ≡ u.name) (λ u good. (unit_line (length ms) u good).head) p.units (units_named p is))
 
   rates_named : Each (λ u. head_of (rates_text ms u) ≡ u.name) p.units
   rates_named = each-to (IsWellFormedUnit (length ms)) (λ u. head_of (rates_text ms u) ≡ u.name) (λ u good. (rates_is u good).head) p.units (units_named p is)
 
   rates_heads : heads_at Rates L ≡ us
-  rates_heads = ap (map head_in) rates_in ∙ entries_read Rates (rates_text ms) head_of (λ (u : OperatingUnit). u.name) r p.units rates_named
+  rates_heads = ap (map head_in) rates_in.1 ∙ entries_read Rates (rates_text ms) head_of (λ (u : OperatingUnit). u.name) rates_in.0 p.units rates_named
 
   listed : Each (λ u. is_among us u.name ≡ true) p.units
   listed = each-unmap (λ name. is_among us name ≡ true) (λ (u : OperatingUnit). u.name) p.units (among_self us)
@@ -132,8 +126,8 @@ module _ (p : Problem) (is : IsWellFormed p) where
   no_bare : bare_lines (heads_at OperatingUnits L) L ≡ []
   no_bare =
       ap (λ (names : List (List ℕ)). bare_lines names L) unit_heads
-      ∙ ap (filter (λ (line : Placed). not (is_among us (head_of line.text)))) rates_in
-      ∙ none_apart Rates (rates_text ms) (λ (u : OperatingUnit). u.name) us r p.units rates_named listed
+      ∙ ap (filter (λ (line : Placed). not (is_among us (head_of line.text)))) rates_in.1
+      ∙ none_apart Rates (rates_text ms) (λ (u : OperatingUnit). u.name) us rates_in.0 p.units rates_named listed
 
   all_names : unit_names_from L ≡ us
   all_names =
@@ -145,20 +139,20 @@ module _ (p : Problem) (is : IsWellFormed p) where
   materials_are : materials_from (settings_of L) L ≡ p.materials
   materials_are =
       ap (λ (s : Settings). materials_from s L) settings_are
-      ∙ ap (map (λ (line : Placed). material_from built_in (head_of line.text) (fields_at line.text))) materials_in
-      ∙ entries_read Materials material_text (λ text. material_from built_in (head_of text) (fields_at text)) (λ m. m) m p.materials
+      ∙ ap (map (λ (line : Placed). material_from built_in (head_of line.text) (fields_at line.text))) materials_in.1
+      ∙ entries_read Materials material_text (λ text. material_from built_in (head_of text) (fields_at text)) (λ m. m) materials_in.0 p.materials
       (each-to IsWellFormedMaterial (λ m. material_from built_in (head_of (material_text m)) (fields_at (material_text m)) ≡ m) (λ m good. material_back m good (material_line m good)) p.materials is.materials_formed)
       ∙ same p.materials
 
   sides_are : Each (λ u. sides_named ms L u.name ≡ (u.inputs, u.outputs)) p.units
-  sides_are = each-both (IsWellFormedUnit (length ms)) (IsFound Rates (rates_text ms) (λ (u : OperatingUnit). u.name) (entries Rates r (map (rates_text ms) p.units))) (λ u. sides_named ms L u.name ≡ (u.inputs, u.outputs))
+  sides_are = each-both (IsWellFormedUnit (length ms)) (IsFound Rates (rates_text ms) (λ (u : OperatingUnit). u.name) (entries Rates rates_in.0 (map (rates_text ms) p.units))) (λ u. sides_named ms L u.name ≡ (u.inputs, u.outputs))
       (λ u good found.
-      ap (λ (lines : List Placed). sides_or ms (find (λ (line : Placed). bytes_eq (head_of line.text) u.name) lines)) rates_in
+      ap (λ (lines : List Placed). sides_or ms (find (λ (line : Placed). bytes_eq (head_of line.text) u.name) lines)) rates_in.1
       ∙ ap (sides_or ms) found.1
       ∙ ap (both_from ms) (pairs_back ms u (rates_is u good))
       ∙ ap (λ (terms : List Term). let both : List Term × List Term = (terms, (both_from ms (map (pair ms) u.inputs, map (pair ms) u.outputs)).1) in both) (terms_back ms is.materials_apart u.inputs good.inputs.terms_formed)
       ∙ ap (λ (terms : List Term). let both : List Term × List Term = (u.inputs, terms) in both) (terms_back ms is.materials_apart u.outputs good.outputs.terms_formed))
-      p.units (units_named p is) (each_found Rates (rates_text ms) (λ (u : OperatingUnit). u.name) r p.units rates_named is.units_apart)
+      p.units (units_named p is) (each_found Rates (rates_text ms) (λ (u : OperatingUnit). u.name) rates_in.0 p.units rates_named is.units_apart)
 
   units_back : Each (λ u. listed_unit built_in ms L (unit_text u) ≡ u) p.units
   units_back = each-both (IsWellFormedUnit (length ms)) (λ u. sides_named ms L u.name ≡ (u.inputs, u.outputs)) (λ u. listed_unit built_in ms L (unit_text u) ≡ u)
@@ -172,16 +166,16 @@ module _ (p : Problem) (is : IsWellFormed p) where
       let bare : List Placed → List OperatingUnit = map (λ (line : Placed). bare_unit built_in ms L line.text) in
       ap (λ (s : Settings). units_from s (heads_at Materials L) L) settings_are
       ∙ ap (λ (names : List (List ℕ)). units_from built_in names L) material_heads
-      ∙ ap (λ (lines : List Placed). map (λ (line : Placed). listed_unit built_in ms L line.text) lines ++ bare (bare_lines (heads_at OperatingUnits L) L)) units_in
-      ∙ ap (λ (all : List OperatingUnit). all ++ bare (bare_lines (heads_at OperatingUnits L) L)) (entries_read OperatingUnits unit_text (listed_unit built_in ms L) (λ u. u) u p.units units_back ∙ same p.units)
+      ∙ ap (λ (lines : List Placed). map (λ (line : Placed). listed_unit built_in ms L line.text) lines ++ bare (bare_lines (heads_at OperatingUnits L) L)) units_in.1
+      ∙ ap (λ (all : List OperatingUnit). all ++ bare (bare_lines (heads_at OperatingUnits L) L)) (entries_read OperatingUnits unit_text (listed_unit built_in ms L) (λ u. u) units_in.0 p.units units_back ∙ same p.units)
       ∙ ap (λ (lines : List Placed). p.units ++ bare lines) no_bare
       ∙ append-nil p.units
 
   exclusions_are : exclusions_from (unit_names_from L) L ≡ p.exclusions
   exclusions_are =
       ap (λ (names : List (List ℕ)). exclusions_from names L) all_names
-      ∙ ap (map (λ (line : Placed). exclusion_named us (head_of line.text) (items_of line.text))) exclusions_in
-      ∙ entries_read Exclusions (exclusion_text us) (λ text. exclusion_named us (head_of text) (items_of text)) (λ e. e) x p.exclusions
+      ∙ ap (map (λ (line : Placed). exclusion_named us (head_of line.text) (items_of line.text))) exclusions_in.1
+      ∙ entries_read Exclusions (exclusion_text us) (λ text. exclusion_named us (head_of text) (items_of text)) (λ e. e) exclusions_in.0 p.exclusions
       (each-to (IsWellFormedExclusion (length us)) (λ e. exclusion_named us (head_of (exclusion_text us e)) (items_of (exclusion_text us e)) ≡ e)
       (λ e good.
       ap (λ (name : List ℕ). exclusion_named us name (items_of (exclusion_text us e))) (exclusion_is e good).head
@@ -251,18 +245,10 @@ module _ (p : Problem) (is : IsWellFormed p) where
 
   no_meaning_fault : first_meaning (settings_of L) (names_all L) L ≡ None
   no_meaning_fault =
-      let m_lines : List Placed = entries Materials m (material_part p).texts in
-      let u_lines : List Placed = entries OperatingUnits u (unit_part p).texts in
-      let r_lines : List Placed = entries Rates r (rates_part p).texts in
-      let x_lines : List Placed = entries Exclusions x (exclusion_part p).texts ++ [] in
+      let defaults_meant : Each (IsMeant Defaults) (payout_part p).texts = cond_both (unsigned_abs p.payout == 1) [] (payout_text (unsigned_abs p.payout) ∷ []) (λ texts. Each (IsMeant Defaults) texts) (λ e. tt) (λ e. (refl, tt)) in
       ap (λ (s : Settings). first_meaning s (names_all L) L) settings_are
       ∙ ap (λ (all : Names). first_meaning built_in all L) names_are
-      ∙ meaning_clear built_in names Defaults d (payout_part p).texts (m_lines ++ (u_lines ++ (r_lines ++ x_lines)))
-      (cond_both (unsigned_abs p.payout == 1) [] (payout_text (unsigned_abs p.payout) ∷ []) (λ texts. Each (IsMeant Defaults) texts) (λ e. tt) (λ e. (refl, tt)))
-      (meaning_clear built_in names Materials m (material_part p).texts (u_lines ++ (r_lines ++ x_lines)) materials_meant
-      (meaning_clear built_in names OperatingUnits u (unit_part p).texts (r_lines ++ x_lines) units_meant
-      (meaning_clear built_in names Rates r (rates_part p).texts x_lines rates_meant
-      (meaning_clear built_in names Exclusions x (exclusion_part p).texts [] exclusions_meant refl))))
+      ∙ parts_clear built_in names 2 (parts_of p) (defaults_meant, (materials_meant, (units_meant, (rates_meant, (exclusions_meant, tt)))))
 
   -- the canonical text of a well formed problem reads as that problem
   pub canonical_reads : read_text (canonical p) ≡ Ok p

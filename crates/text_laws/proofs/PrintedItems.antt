@@ -20,40 +20,25 @@ kind_piece raw_material = record { all = refl; some = omega arith }
 kind_piece intermediate = record { all = refl; some = omega arith }
 kind_piece product = record { all = refl; some = omega arith }
 
-fields_pieces : (m : Material) → IsWellFormedMaterial m → Each IsPiece (field (codes "price") (amount_bytes m.price) ∷ field (codes "flow_rate_lower_bound") (amount_bytes m.lower) ∷ field (codes "flow_rate_upper_bound") (amount_bytes m.upper) ∷ [])
-fields_pieces m good = (
-  piece_field (codes "price") (λ v is. record { all = is.all; some = omega arith }) m.price good.price_in_range,
-  (
-    piece_field (codes "flow_rate_lower_bound") (λ v is. record { all = is.all; some = omega arith }) m.lower good.bounds.lower_bound.in_range,
-    (
-      piece_field (codes "flow_rate_upper_bound") (λ v is. record { all = is.all; some = omega arith }) m.upper good.bounds.upper_bound.in_range,
-      tt,
-    ),
-  ),
-)
-
 pub material_pieces : (m : Material) → IsWellFormedMaterial m → Each IsPiece (material_items m)
-material_pieces m good = (kind_piece m.kind, fields_pieces m good)
+material_pieces m good =
+    let price : IsPiece (field (codes "price") (amount_bytes m.price)) = piece_field (codes "price") (λ v is. record { all = is.all; some = omega arith }) m.price good.price_in_range in
+    let lower : IsPiece (field (codes "flow_rate_lower_bound") (amount_bytes m.lower)) = piece_field (codes "flow_rate_lower_bound") (λ v is. record { all = is.all; some = omega arith }) m.lower good.bounds.lower_bound.in_range in
+    let upper : IsPiece (field (codes "flow_rate_upper_bound") (amount_bytes m.upper)) = piece_field (codes "flow_rate_upper_bound") (λ v is. record { all = is.all; some = omega arith }) m.upper good.bounds.upper_bound.in_range in
+    (kind_piece m.kind, (price, (lower, (upper, tt))))
 
 unless_zero : (key : List ℕ) (z : ℤ) → IsPiece (field key (amount_bytes z)) → Each IsPiece (field_unless_zero key z)
 unless_zero key z is = cond_both (is_zero z) [] (field key (amount_bytes z) ∷ []) (λ ts. Each IsPiece ts) (λ e. tt) (λ e. (is, tt))
 
 pub unit_pieces : (count : ℕ) (u : OperatingUnit) → IsWellFormedUnit count u → Each IsPiece (unit_items u)
-unit_pieces count u good = (
-  piece_field (codes "capacity_lower_bound") (λ v is. record { all = is.all; some = omega arith }) u.lower good.bounds.lower_bound.in_range,
-  (
-    piece_field (codes "capacity_upper_bound") (λ v is. record { all = is.all; some = omega arith }) u.upper good.bounds.upper_bound.in_range,
-    (
-      piece_field (codes "fix_cost") (λ v is. record { all = is.all; some = omega arith }) u.fix good.fix.in_range,
-      (
-        piece_field (codes "proportional_cost") (λ v is. record { all = is.all; some = omega arith }) u.proportional good.proportional,
-        each-append IsPiece (field_unless_zero (codes "investment_fix_cost") u.investment_fix) (field_unless_zero (codes "investment_proportional_cost") u.investment_proportional)
-            (unless_zero (codes "investment_fix_cost") u.investment_fix (piece_field (codes "investment_fix_cost") (λ v is. record { all = is.all; some = omega arith }) u.investment_fix good.investment_fix.in_range))
-            (unless_zero (codes "investment_proportional_cost") u.investment_proportional (piece_field (codes "investment_proportional_cost") (λ v is. record { all = is.all; some = omega arith }) u.investment_proportional good.investment_proportional)),
-      ),
-    ),
-  ),
-)
+unit_pieces count u good =
+    let lower : IsPiece (field (codes "capacity_lower_bound") (amount_bytes u.lower)) = piece_field (codes "capacity_lower_bound") (λ v is. record { all = is.all; some = omega arith }) u.lower good.bounds.lower_bound.in_range in
+    let upper : IsPiece (field (codes "capacity_upper_bound") (amount_bytes u.upper)) = piece_field (codes "capacity_upper_bound") (λ v is. record { all = is.all; some = omega arith }) u.upper good.bounds.upper_bound.in_range in
+    let fix : IsPiece (field (codes "fix_cost") (amount_bytes u.fix)) = piece_field (codes "fix_cost") (λ v is. record { all = is.all; some = omega arith }) u.fix good.fix.in_range in
+    let proportional : IsPiece (field (codes "proportional_cost") (amount_bytes u.proportional)) = piece_field (codes "proportional_cost") (λ v is. record { all = is.all; some = omega arith }) u.proportional good.proportional in
+    let one : Each IsPiece (field_unless_zero (codes "investment_fix_cost") u.investment_fix) = unless_zero (codes "investment_fix_cost") u.investment_fix (piece_field (codes "investment_fix_cost") (λ v is. record { all = is.all; some = omega arith }) u.investment_fix good.investment_fix.in_range) in
+    let two : Each IsPiece (field_unless_zero (codes "investment_proportional_cost") u.investment_proportional) = unless_zero (codes "investment_proportional_cost") u.investment_proportional (piece_field (codes "investment_proportional_cost") (λ v is. record { all = is.all; some = omega arith }) u.investment_proportional good.investment_proportional) in
+    (lower, (upper, (fix, (proportional, each-append IsPiece (field_unless_zero (codes "investment_fix_cost") u.investment_fix) (field_unless_zero (codes "investment_proportional_cost") u.investment_proportional) one two))))
 
 -- what holds of each name of a list holds of the one of a number
 pub name_at_each : (P : List ℕ → Type 0) (names : List (List ℕ)) (k : ℕ) → Each P names → k < length names → P (name_at names k)
