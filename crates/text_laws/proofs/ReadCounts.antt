@@ -1,190 +1,165 @@
--- A text without a fault names at most 128 units, and the units of its exclusions rise and are at least two.
-use Rattle.std.proofs.Common.{◌≡◌, ◌<◌, ◌≤◌, ◌⊎◌, inl, inr, ⊎_elim, ◌+◌, ◌&&◌, ◌||◌, Bool, true, false, cond, not, nat_le, ℕ, suc, List, [], ◌∷◌, ◌++◌, length, map, filter, bytes_eq, refl, sym, ◌∙◌, ap, arith, leb-false}
-use Rattle.std.proofs.lemmas.Bool.{cond_both, or_parts, or_from, or_left, or_right, or_cases, true≢false}
+-- Names that come once, how many of them a text without a fault has, and the units of an exclusion, which rise and are at least two.
+use Rattle.std.proofs.Common.{◌≡◌, ◌<◌, ◌≤◌, ◌⊎◌, inl, inr, ⊎_elim, ◌+◌, ◌&&◌, ◌||◌, Bool, true, false, cond, not, nat_le, ℕ, suc, List, [], ◌∷◌, ◌++◌, length, filter, bytes_eq, None, refl, sym, ◌∙◌, ap, subst, arith, leb-false, length-append, append_assoc, append-nil}
+use Rattle.std.proofs.lemmas.Bool.{cond_both, or_parts, or_from, or_left, or_right, or_cases, and_right, and_from}
 use Rattle.std.proofs.lemmas.List.Folds.{list_any-append}
+use Rattle.std.proofs.lemmas.Map.Made.{length-le_from_is_member}
+use Rattle.std.proofs.lemmas.Map.Views.{any-filter_same}
+use Rattle.std.proofs.lemmas.Cmp.{nat_list_eq_equiv}
+use Rattle.std.specs.Ordering.{flip_args}
+use Rattle.std.specs.Cmp.{back_equiv}
+use Rattle.std.specs.List.{IsDistinct}
 use Rattle.std.proofs.lemmas.Slice.Eq.{bytes_eq-Decides}
-use Rattle.text_rules.specs.declared.Section.{Section}
-use Rattle.text_rules.specs.declared.Section.TheVariants.{OperatingUnits, Rates}
-use Rattle.problem_rules.specs.Names.{is_among, has_double, distinct}
-use Rattle.text_rules.specs.Field.{Line, is_in, lines_in, names_in}
-use Rattle.text_rules.specs.Fault.{stands, form_kinds}
-use Rattle.text_rules.specs.Value.{numbers_among}
+use Rattle.problem_rules.specs.Names.{is_among, has_double}
 use Rattle.problem_rules.specs.Each.{Each}
-use Rattle.text_laws.proofs.Each.{each-to, each-both}
 use Rattle.problem_rules.specs.WellFormed.{AreRisingFrom}
+use Rattle.text_rules.specs.declared.Section.{Section}
+use Rattle.text_rules.specs.declared.Section.TheVariants.{Materials, OperatingUnits, Rates, Exclusions}
+use Rattle.text_rules.specs.Line.{Placed, head_of, heads_at, matters}
+use Rattle.text_rules.specs.Field.{items_of}
+use Rattle.text_rules.specs.Fault.{Seen, seen_after, with_name, is_beyond, line_fault, first_fault}
+use Rattle.text_rules.specs.Value.{numbers_among}
+use Rattle.text_laws.proofs.Each.{each-to, none_each, none_from_each}
 use Rattle.text_laws.proofs.Numbers.{rising_less}
-use Rattle.text_laws.proofs.Names.{bytes_same, bytes_differ, among_self}
-use Rattle.text_laws.proofs.Clear.{Clear}
-use Rattle.text_laws.proofs.NoKind.{NoForm, kinds_in, line_in}
+use Rattle.text_laws.proofs.Names.{bytes_differ}
+use Rattle.text_laws.proofs.NoKind.{no_material_fault, no_unit_fault, no_rates_fault, no_exclusion_fault, fault_none}
 
--- a list without a double, all of whose members are among others, is no longer
-abbrev without : List ℕ → List (List ℕ) → List (List ℕ)
-without x = filter (λ y. not (bytes_eq y x))
+-- ---- lists of names
 
-shorter : (x : List ℕ) (ys : List (List ℕ)) → is_among ys x ≡ true → suc (length (without x ys)) ≤ length ys
-shorter x [] is = absurd (true≢false (sym is))
-shorter x (y ∷ ys) is = at (bytes_eq y x) is (shorter x ys) where
-  most : (ys : List (List ℕ)) → length (without x ys) ≤ length ys
-  most [] = omega arith
-  most (y ∷ ys) = cond_both (not (bytes_eq y x)) (y ∷ without x ys) (without x ys) (λ l. length l ≤ suc (length ys)) (λ e. omega (arith, most ys)) (λ e. omega (arith, most ys))
+pub among_filter : (q : List ℕ → Bool) (names : List (List ℕ)) (x : List ℕ) → is_among (filter q names) x ≡ (q x && is_among names x)
+among_filter q names x = any-filter_same (λ name. bytes_eq name x) q (q x) (λ name same. ap q ((bytes_eq-Decides name x).0 same)) names
 
-  at : (b : Bool) → (b || is_among ys x) ≡ true → (is_among ys x ≡ true → suc (length (without x ys)) ≤ length ys) → suc (length (cond (not b) (y ∷ without x ys) (without x ys))) ≤ suc (length ys)
-  at true e rest = omega (arith, most ys)
-  at false e rest = omega (arith, rest e)
-
-among_without : (x z : List ℕ) (ys : List (List ℕ)) → bytes_eq x z ≡ false → is_among ys z ≡ true → is_among (without x ys) z ≡ true
-among_without x z [] differ is = is
-among_without x z (y ∷ ys) differ is = at (bytes_eq y x) refl (or_cases (bytes_eq y z) (is_among ys z) is) (among_without x z ys differ) where
-  at : (b : Bool) → bytes_eq y x ≡ b → ((bytes_eq y z ≡ true) ⊎ (is_among ys z ≡ true)) → (is_among ys z ≡ true → is_among (without x ys) z ≡ true) → is_among (cond (not b) (y ∷ without x ys) (without x ys)) z ≡ true
-  at true e (inl same) rest = absurd (true≢false (sym (ap (λ (t : List ℕ). bytes_eq t z) (sym ((bytes_eq-Decides y x).0 e)) ∙ same) ∙ differ))
-  at true e (inr is) rest = rest is
-  at false e (inl same) rest = or_left (bytes_eq y z) (is_among (without x ys) z) same
-  at false e (inr is) rest = or_right (bytes_eq y z) (is_among (without x ys) z) (rest is)
-
-pub no_longer : (xs ys : List (List ℕ)) → has_double xs ≡ false → Each (λ x. is_among ys x ≡ true) xs → length xs ≤ length ys
-no_longer [] ys off each = omega arith
-no_longer (x ∷ xs) ys off each =
-    let parts = or_parts (is_among xs x) (has_double xs) off in
-    let rest : length xs ≤ length (without x ys) = no_longer xs (without x ys) parts.1 (others xs parts.0 each.1) in
-    omega (arith, rest, shorter x ys each.0) where
-      others : (zs : List (List ℕ)) → is_among zs x ≡ false → Each (λ z. is_among ys z ≡ true) zs → Each (λ z. is_among (without x ys) z ≡ true) zs
-      others [] none each = tt
-      others (z ∷ zs) none each = let parts = or_parts (bytes_eq z x) (is_among zs x) none in (among_without x z ys (bytes_differ z x parts.0) each.0, others zs parts.1 each.1)
-
-among_distinct : (xs : List (List ℕ)) (z : List ℕ) → is_among xs z ≡ true → is_among (distinct xs) z ≡ true
-among_distinct [] z is = is
-among_distinct (x ∷ xs) z is = at (is_among xs x) refl (or_cases (bytes_eq x z) (is_among xs z) is) (among_distinct xs z) where
-  at : (b : Bool) → is_among xs x ≡ b → ((bytes_eq x z ≡ true) ⊎ (is_among xs z ≡ true)) → (is_among xs z ≡ true → is_among (distinct xs) z ≡ true) → is_among (cond b (distinct xs) (x ∷ distinct xs)) z ≡ true
-  at true e (inl same) rest = rest (ap (is_among xs) (sym ((bytes_eq-Decides x z).0 same)) ∙ e)
-  at true e (inr is) rest = rest is
-  at false e (inl same) rest = or_left (bytes_eq x z) (is_among (distinct xs) z) same
-  at false e (inr is) rest = or_right (bytes_eq x z) (is_among (distinct xs) z) (rest is)
-
--- few names hold all units' names of the lines
-abbrev pub Holds : List (List ℕ) → List Line → Type 0
-Holds names before = (z : List ℕ) → is_among (names_in OperatingUnits before ++ names_in Rates before) z ≡ true → is_among names z ≡ true
-
-abbrev pub Held : List Line → Type 0
-Held before = (names : List (List ℕ)) × (length names ≤ 128) × Holds names before
-
--- the names before, with a new one
-holds_more : (before : List Line) (n : List ℕ) → (is_among (names_in OperatingUnits before ++ names_in Rates before) n ≡ false → length (distinct (names_in OperatingUnits before ++ names_in Rates before)) < 128) → Held before
-    → (names : List (List ℕ)) × (length names ≤ 128) × (is_among names n ≡ true) × Holds names before
-holds_more before n room held = at (is_among (names_in OperatingUnits before ++ names_in Rates before) n) refl where
-  at : (b : Bool) → is_among (names_in OperatingUnits before ++ names_in Rates before) n ≡ b → (names : List (List ℕ)) × (length names ≤ 128) × (is_among names n ≡ true) × Holds names before
-  at true e = (held.0, held.1, held.2 n e, held.2)
-  at false e =
-      let few : length (distinct (names_in OperatingUnits before ++ names_in Rates before)) < 128 = room e in
-      (n ∷ distinct (names_in OperatingUnits before ++ names_in Rates before), omega arith, or_left (bytes_eq n n) _ (bytes_same n), λ z is. or_right (bytes_eq n z) _ (among_distinct (names_in OperatingUnits before ++ names_in Rates before) z is))
-
--- the names of units, held by few names
-pub record HeldBy (names : List (List ℕ)) (before : List Line) : Type 0 where
-  pub units : (z : List ℕ) → is_among (names_in OperatingUnits before) z ≡ true → is_among names z ≡ true
-  pub rates : (z : List ℕ) → is_among (names_in Rates before) z ≡ true → is_among names z ≡ true
-
-abbrev named_lines : List Line → List (List ℕ)
-named_lines lines = map (λ line. line.name) lines
-
-one_more : (names : List (List ℕ)) (line : Line) (lines : List Line) (b : Bool) → (b ≡ true → is_among names line.name ≡ true) → ((z : List ℕ) → is_among (named_lines lines) z ≡ true → is_among names z ≡ true)
-    → (z : List ℕ) → is_among (named_lines (cond b (line ∷ lines) lines)) z ≡ true → is_among names z ≡ true
-one_more names line lines true here rest z is = ⊎_elim
-    (λ (same : bytes_eq line.name z ≡ true). ap (is_among names) (sym ((bytes_eq-Decides line.name z).0 same)) ∙ here refl)
-    (λ (more : is_among (named_lines lines) z ≡ true). rest z more) (or_cases (bytes_eq line.name z) (is_among (named_lines lines) z) is)
-one_more names line lines false here rest z is = rest z is
-
-held_step : (before : List Line) (line : Line) → Each (λ kind. stands before line kind ≡ false) form_kinds → (names : List (List ℕ)) → length names ≤ 128 → HeldBy names before
-    → (more : List (List ℕ)) × (length more ≤ 128) × HeldBy more (line ∷ before)
-held_step before line kinds names few held = at (is_in OperatingUnits line) (is_in Rates line) refl refl where
-  both : (z : List ℕ) → is_among (names_in OperatingUnits before ++ names_in Rates before) z ≡ true → is_among names z ≡ true
-  both z is = ⊎_elim (λ (one : is_among (names_in OperatingUnits before) z ≡ true). held.units z one) (λ (two : is_among (names_in Rates before) z ≡ true). held.rates z two)
-      (or_cases (is_among (names_in OperatingUnits before) z) (is_among (names_in Rates before) z) (sym (list_any-append (λ word. bytes_eq word z) (names_in OperatingUnits before) (names_in Rates before)) ∙ is))
-
-  with_name : (is_among (names_in OperatingUnits before ++ names_in Rates before) line.name ≡ false → length (distinct (names_in OperatingUnits before ++ names_in Rates before)) < 128)
-      → (more : List (List ℕ)) × (length more ≤ 128) × HeldBy more (line ∷ before)
-  with_name room =
-      let new = holds_more before line.name room (names, few, both) in
-      let all : (z : List ℕ) → is_among (names_in OperatingUnits before) z ≡ true → is_among new.0 z ≡ true =
-      λ z is. new.3 z (list_any-append (λ word. bytes_eq word z) (names_in OperatingUnits before) (names_in Rates before) ∙ or_left _ _ is) in
-      let all_rates : (z : List ℕ) → is_among (names_in Rates before) z ≡ true → is_among new.0 z ≡ true =
-      λ z is. new.3 z (list_any-append (λ word. bytes_eq word z) (names_in OperatingUnits before) (names_in Rates before) ∙ or_right _ _ is) in (
-        new.0,
-        new.1,
-        record {
-          units = one_more new.0 line (lines_in OperatingUnits before) (is_in OperatingUnits line) (λ e. new.2) all;
-          rates = one_more new.0 line (lines_in Rates before) (is_in Rates line) (λ e. new.2) all_rates;
-        },
-      )
-
-  at : (b1 b2 : Bool) → is_in OperatingUnits line ≡ b1 → is_in Rates line ≡ b2 → (more : List (List ℕ)) × (length more ≤ 128) × HeldBy more (line ∷ before)
-  at true b2 e1 e2 = with_name (λ none.
-      let here : NoForm (stands before (line_in OperatingUnits line)) = kinds_in OperatingUnits before line e1 kinds in
-      let full : (not (is_among (names_in OperatingUnits before ++ names_in Rates before) line.name) && nat_le 128 (length (distinct (names_in OperatingUnits before ++ names_in Rates before)))) ≡ false = here.too_many in
-      leb-false 128 (length (distinct (names_in OperatingUnits before ++ names_in Rates before))) (ap (λ b. not b && nat_le 128 (length (distinct (names_in OperatingUnits before ++ names_in Rates before)))) (sym none) ∙ full))
-  at false true e1 e2 = with_name (λ none.
-      let here : NoForm (stands before (line_in Rates line)) = kinds_in Rates before line e2 kinds in
-      let full : (not (is_among (names_in OperatingUnits before ++ names_in Rates before) line.name) && nat_le 128 (length (distinct (names_in OperatingUnits before ++ names_in Rates before)))) ≡ false = here.too_many in
-      leb-false 128 (length (distinct (names_in OperatingUnits before ++ names_in Rates before))) (ap (λ b. not b && nat_le 128 (length (distinct (names_in OperatingUnits before ++ names_in Rates before)))) (sym none) ∙ full))
-  at false false e1 e2 = (
-    names,
-    few,
-    record {
-      units = one_more names line (lines_in OperatingUnits before) (is_in OperatingUnits line) (λ e. absurd (true≢false (sym e ∙ e1))) held.units;
-      rates = one_more names line (lines_in Rates before) (is_in Rates line) (λ e. absurd (true≢false (sym e ∙ e2))) held.rates;
-    },
-  )
-
-pub record AllHeld (before lines : List Line) : Type 0 where
-  pub names : List (List ℕ)
-  pub few : length names ≤ 128
-  pub old : HeldBy names before
-  pub new : HeldBy names lines
-
-names_kept : (s : Section) (before : List Line) (line : Line) (z : List ℕ) → is_among (names_in s before) z ≡ true → is_among (names_in s (line ∷ before)) z ≡ true
-names_kept s before line z is = cond_both (is_in s line) (line ∷ lines_in s before) (lines_in s before) (λ ls. is_among (named_lines ls) z ≡ true) (λ e. or_right (bytes_eq line.name z) _ is) (λ e. is)
-
-name_here : (s : Section) (before : List Line) (line : Line) → is_in s line ≡ true → is_among (names_in s (line ∷ before)) line.name ≡ true
-name_here s before line e = ap (λ b. is_among (named_lines (cond b (line ∷ lines_in s before) (lines_in s before))) line.name) e ∙ or_left (bytes_eq line.name line.name) _ (bytes_same line.name)
-
-pub held_walk : (before lines : List Line) → Clear stands form_kinds before lines → (names : List (List ℕ)) → length names ≤ 128 → HeldBy names before → AllHeld before lines
-held_walk before [] clear names few held = record { names = names; few = few; old = held; new = record { units = λ z is. absurd (true≢false (sym is)); rates = λ z is. absurd (true≢false (sym is)) } }
-held_walk before (line ∷ lines) clear names few held =
-    let step = held_step before line clear.0 names few held in
-    let rest : AllHeld (line ∷ before) lines = held_walk (line ∷ before) lines clear.1 step.0 step.1 step.2 in
-    record {
-      names = rest.names;
-      few = rest.few;
-      old = record { units = λ z is. rest.old.units z (names_kept OperatingUnits before line z is); rates = λ z is. rest.old.rates z (names_kept Rates before line z is) };
-      new = record {
-        units = one_more rest.names line (lines_in OperatingUnits lines) (is_in OperatingUnits line) (λ e. rest.old.units line.name (name_here OperatingUnits before line e)) rest.new.units;
-        rates = one_more rest.names line (lines_in Rates lines) (is_in Rates line) (λ e. rest.old.rates line.name (name_here Rates before line e)) rest.new.rates;
-      };
-    }
-
--- names of lines that are left out
-among_left : (q : Line → Bool) (lines : List Line) (x : List ℕ) → is_among (named_lines lines) x ≡ false → is_among (named_lines (filter q lines)) x ≡ false
-among_left q [] x none = refl
-among_left q (line ∷ lines) x none =
-    let parts = or_parts (bytes_eq line.name x) (is_among (named_lines lines) x) none in
-    cond_both (q line) (line ∷ filter q lines) (filter q lines) (λ ls. is_among (named_lines ls) x ≡ false) (λ e. or_from _ _ parts.0 (among_left q lines x parts.1)) (λ e. among_left q lines x parts.1)
-
-pub double_left : (q : Line → Bool) (lines : List Line) → has_double (named_lines lines) ≡ false → has_double (named_lines (filter q lines)) ≡ false
-double_left q [] none = refl
-double_left q (line ∷ lines) none =
-    let parts = or_parts (is_among (named_lines lines) line.name) (has_double (named_lines lines)) none in
-    cond_both (q line) (line ∷ filter q lines) (filter q lines) (λ ls. has_double (named_lines ls) ≡ false) (λ e. or_from _ _ (among_left q lines line.name parts.0) (double_left q lines parts.1)) (λ e. double_left q lines parts.1)
+pub double_filter : (q : List ℕ → Bool) (names : List (List ℕ)) → has_double names ≡ false → has_double (filter q names) ≡ false
+double_filter q [] none = refl
+double_filter q (name ∷ names) none =
+    let parts = or_parts (is_among names name) (has_double names) none in
+    cond_both (q name) (name ∷ filter q names) (filter q names) (λ ns. has_double ns ≡ false)
+    (λ e. or_from (is_among (filter q names) name) (has_double (filter q names)) (among_filter q names name ∙ and_right (q name) (is_among names name) parts.0) (double_filter q names parts.1)) (λ e. double_filter q names parts.1)
 
 pub double_append : (xs ys : List (List ℕ)) → has_double xs ≡ false → has_double ys ≡ false → Each (λ y. is_among xs y ≡ false) ys → has_double (xs ++ ys) ≡ false
 double_append [] ys one two apart = two
 double_append (x ∷ xs) ys one two apart =
     let parts = or_parts (is_among xs x) (has_double xs) one in
+    let none = each-to (λ y. is_among (x ∷ xs) y ≡ false) (λ y. (bytes_eq y x ≡ false) × (is_among xs y ≡ false)) (λ y e. let both = or_parts (bytes_eq x y) (is_among xs y) e in (bytes_differ x y both.0, both.1)) ys apart in
     or_from (is_among (xs ++ ys) x) (has_double (xs ++ ys))
-    (list_any-append (λ word. bytes_eq word x) xs ys ∙ or_from _ _ parts.0 (none ys apart))
-    (double_append xs ys parts.1 two (each-to (λ y. is_among (x ∷ xs) y ≡ false) (λ y. is_among xs y ≡ false) (λ y e. (or_parts (bytes_eq x y) (is_among xs y) e).1) ys apart)) where
-      none : (zs : List (List ℕ)) → Each (λ y. is_among (x ∷ xs) y ≡ false) zs → is_among zs x ≡ false
-      none [] each = refl
-      none (z ∷ zs) each = or_from (bytes_eq z x) (is_among zs x) (bytes_differ x z ((or_parts (bytes_eq x z) (is_among xs z) each.0).0)) (none zs each.1)
+    (list_any-append (λ name. bytes_eq name x) xs ys ∙ or_from (is_among xs x) (is_among ys x) parts.0 (none_from_each (λ y. bytes_eq y x) ys (each-to _ _ (λ y is. is.0) ys none)))
+    (double_append xs ys parts.1 two (each-to _ _ (λ y is. is.1) ys none))
 
--- the units of an exclusion
+-- a list without a double, all of whose members are among others, is no longer
+distinct_from : (names : List (List ℕ)) → has_double names ≡ false → IsDistinct (flip_args bytes_eq) names
+unfolding IsDistinct
+distinct_from [] none = tt
+distinct_from (name ∷ names) none = let parts = or_parts (is_among names name) (has_double names) none in (none_each (λ other. bytes_eq other name) names parts.0, distinct_from names parts.1)
+
+pub no_longer : (xs ys : List (List ℕ)) → has_double xs ≡ false → ((x : List ℕ) → is_among xs x ≡ true → is_among ys x ≡ true) → length xs ≤ length ys
+no_longer xs ys none all = length-le_from_is_member (back_equiv nat_list_eq_equiv) xs ys (distinct_from xs none) all
+
+-- ---- names that were seen
+
+-- names that come once, so many at most
+pub record AreFew (most : ℕ) (names : List (List ℕ)) : Type 0 where
+  pub few : length names ≤ most
+  pub once : has_double names ≡ false
+
+few_more : (most : ℕ) (names : List (List ℕ)) (name : List ℕ) → nat_le most (length names) ≡ false → is_among names name ≡ false → AreFew most names → AreFew most (names ++ name ∷ [])
+few_more most names name room first are = record {
+  few = omega (arith, length-append names (name ∷ []), leb-false most (length names) room);
+  once = double_append names (name ∷ []) are.once refl (first, tt);
+}
+
+-- names of units that come once and are among all of those
+pub record AreHeld (all names : List (List ℕ)) : Type 0 where
+  pub once : has_double names ≡ false
+  pub held : (x : List ℕ) → is_among names x ≡ true → is_among all x ≡ true
+
+module _ (all : List (List ℕ)) (name : List ℕ) where
+  -- the names of `all`, and the new one
+  with_either : (x : List ℕ) → (is_among all x ≡ true) ⊎ (bytes_eq name x ≡ true) → is_among (with_name all name) x ≡ true
+  with_either x is = cond_both (is_among all name) all (all ++ name ∷ []) (λ ns. is_among ns x ≡ true)
+      (λ e. ⊎_elim (λ (old : is_among all x ≡ true). old) (λ (same : bytes_eq name x ≡ true). ap (is_among all) (sym ((bytes_eq-Decides name x).0 same)) ∙ e) is)
+      (λ e. list_any-append (λ word. bytes_eq word x) all (name ∷ []) ∙ ⊎_elim (λ (old : is_among all x ≡ true). or_left (is_among all x) (bytes_eq name x || false) old) (λ (same : bytes_eq name x ≡ true). or_right (is_among all x) (bytes_eq name x || false) (or_left (bytes_eq name x) false same)) is)
+
+  held_kept : (names : List (List ℕ)) → AreHeld all names → AreHeld (with_name all name) names
+  held_kept names are = record { once = are.once; held = λ x is. with_either x (inl (are.held x is)) }
+
+  held_more : (names : List (List ℕ)) → is_among names name ≡ false → AreHeld all names → AreHeld (with_name all name) (names ++ name ∷ [])
+  held_more names first are = record {
+    once = double_append names (name ∷ []) are.once refl (first, tt);
+    held = λ x is. with_either x (⊎_elim (λ (old : is_among names x ≡ true). inl (are.held x old)) (λ (new : (bytes_eq name x || false) ≡ true). inr (or_false (bytes_eq name x) new))
+        (or_cases (is_among names x) (bytes_eq name x || false) (sym (list_any-append (λ word. bytes_eq word x) names (name ∷ [])) ∙ is)));
+  } where
+    or_false : (b : Bool) → (b || false) ≡ true → b ≡ true
+    or_false true e = refl
+    or_false false e = e
+
+  still_few : is_beyond all name ≡ false → length all ≤ 128 → length (with_name all name) ≤ 128
+  still_few room few = cond_both (is_among all name) all (all ++ name ∷ []) (λ ns. length ns ≤ 128) (λ e. few) (λ e.
+      let less : length all < 128 = leb-false 128 (length all) (ap (λ b. not b && nat_le 128 (length all)) (sym e) ∙ room) in
+      omega (arith, length-append all (name ∷ [])))
+
+-- the names of entries, where `all` has those of units
+pub record AreGoodNames (materials units rates exclusions all : List (List ℕ)) : Type 0 where
+  pub few_materials : AreFew 256 materials
+  pub few_exclusions : AreFew 64 exclusions
+  pub held_units : AreHeld all units
+  pub held_rates : AreHeld all rates
+  pub few : length all ≤ 128
+
+abbrev IsGoodSeen : Seen → Type 0
+IsGoodSeen seen = AreGoodNames seen.materials seen.units seen.rates seen.exclusions seen.unit_names
+
+-- with those of the lines behind
+module _ (lines : List Placed) where
+  abbrev Heads : Section → List (List ℕ)
+  Heads section = heads_at section (filter matters lines)
+
+  abbrev pub IsGoodWith : Seen → Type 0
+  IsGoodWith seen = (all : List (List ℕ)) × AreGoodNames (seen.materials ++ Heads Materials) (seen.units ++ Heads OperatingUnits) (seen.rates ++ Heads Rates) (seen.exclusions ++ Heads Exclusions) all
+
+good_step : (seen : Seen) (header : Bool) (section : Section) (number : ℕ) (text : List ℕ) (lines : List Placed) → let line : Placed = record { number = number; section = section; header = header; text = text } in
+    line_fault seen line ≡ None → (IsGoodSeen (seen_after seen line) → IsGoodWith lines (seen_after seen line)) → IsGoodSeen seen → IsGoodWith (line ∷ lines) seen
+good_step seen false Materials number text lines e rest good =
+    let fine = no_material_fault seen.materials (head_of text) (items_of text) e in
+    let more = rest (record { few_materials = few_more 256 seen.materials (head_of text) fine.room fine.first good.few_materials; few_exclusions = good.few_exclusions; held_units = good.held_units; held_rates = good.held_rates; few = good.few }) in
+    (more.0, subst (λ names. AreGoodNames names (seen.units ++ Heads lines OperatingUnits) (seen.rates ++ Heads lines Rates) (seen.exclusions ++ Heads lines Exclusions) more.0) (append_assoc seen.materials (head_of text ∷ []) (Heads lines Materials)) more.1)
+good_step seen false OperatingUnits number text lines e rest good =
+    let fine = no_unit_fault seen.units seen.unit_names (head_of text) (items_of text) e in
+    let more = rest (record {
+      few_materials = good.few_materials;
+      few_exclusions = good.few_exclusions;
+      held_units = held_more seen.unit_names (head_of text) seen.units fine.first good.held_units;
+      held_rates = held_kept seen.unit_names (head_of text) seen.rates good.held_rates;
+      few = still_few seen.unit_names (head_of text) fine.room good.few;
+    }) in
+    (more.0, subst (λ names. AreGoodNames (seen.materials ++ Heads lines Materials) names (seen.rates ++ Heads lines Rates) (seen.exclusions ++ Heads lines Exclusions) more.0) (append_assoc seen.units (head_of text ∷ []) (Heads lines OperatingUnits)) more.1)
+good_step seen false Rates number text lines e rest good =
+    let fine = no_rates_fault seen.rates seen.unit_names (head_of text) text e in
+    let more = rest (record {
+      few_materials = good.few_materials;
+      few_exclusions = good.few_exclusions;
+      held_units = held_kept seen.unit_names (head_of text) seen.units good.held_units;
+      held_rates = held_more seen.unit_names (head_of text) seen.rates fine.first good.held_rates;
+      few = still_few seen.unit_names (head_of text) fine.room good.few;
+    }) in
+    (more.0, subst (λ names. AreGoodNames (seen.materials ++ Heads lines Materials) (seen.units ++ Heads lines OperatingUnits) names (seen.exclusions ++ Heads lines Exclusions) more.0) (append_assoc seen.rates (head_of text ∷ []) (Heads lines Rates)) more.1)
+good_step seen false Exclusions number text lines e rest good =
+    let fine = no_exclusion_fault seen.exclusions text (head_of text) (items_of text) e in
+    let more = rest (record { few_materials = good.few_materials; few_exclusions = few_more 64 seen.exclusions (head_of text) fine.room fine.first good.few_exclusions; held_units = good.held_units; held_rates = good.held_rates; few = good.few }) in
+    (more.0, subst (λ names. AreGoodNames (seen.materials ++ Heads lines Materials) (seen.units ++ Heads lines OperatingUnits) (seen.rates ++ Heads lines Rates) names more.0) (append_assoc seen.exclusions (head_of text ∷ []) (Heads lines Exclusions)) more.1)
+good_step seen header section number text lines e rest good = rest good
+
+pub good_names : (seen : Seen) (lines : List Placed) → first_fault seen lines ≡ None → IsGoodSeen seen → IsGoodWith lines seen
+good_names seen [] e good = (
+  seen.unit_names,
+  subst (λ (s : Seen). AreGoodNames s.materials s.units s.rates s.exclusions seen.unit_names)
+      (λ i. record { headers = []; keys = []; materials = sym (append-nil seen.materials) i; units = sym (append-nil seen.units) i; rates = sym (append-nil seen.rates) i; exclusions = sym (append-nil seen.exclusions) i; unit_names = [] })
+      good,
+)
+good_names seen (line ∷ lines) e good =
+    let parts = fault_none line.number (line_fault seen line) (first_fault (seen_after seen line) lines) e in
+    good_step seen line.header line.section line.number line.text lines parts.0 (good_names (seen_after seen line) lines parts.1) good
+
+-- ---- the units of an exclusion
+
 pub members_rise : (words : List (List ℕ)) (k top : ℕ) (names : List (List ℕ)) → top ≡ k + length names → AreRisingFrom top k (numbers_among words k names)
 members_rise words k top [] e = tt
 members_rise words k top (name ∷ names) e =
@@ -199,17 +174,7 @@ members_count words k (name ∷ names) = at (is_among words name) (members_count
   at true e = ap suc e
   at false e = e
 
-among_filter : (words names : List (List ℕ)) (w : List ℕ) → is_among words w ≡ true → is_among names w ≡ true → is_among (filter (is_among words) names) w ≡ true
-among_filter words [] w in_words is = is
-among_filter words (name ∷ names) w in_words is = at (is_among words name) refl (or_cases (bytes_eq name w) (is_among names w) is) (among_filter words names w in_words) where
-  at : (b : Bool) → is_among words name ≡ b → ((bytes_eq name w ≡ true) ⊎ (is_among names w ≡ true)) → (is_among names w ≡ true → is_among (filter (is_among words) names) w ≡ true) → is_among (cond b (name ∷ filter (is_among words) names) (filter (is_among words) names)) w ≡ true
-  at true e (inl same) rest = or_left _ _ same
-  at true e (inr is) rest = or_right _ _ (rest is)
-  at false e (inl same) rest = absurd (true≢false (sym in_words ∙ ap (is_among words) (sym ((bytes_eq-Decides name w).0 same)) ∙ e))
-  at false e (inr is) rest = rest is
-
-pub members_many : (words names : List (List ℕ)) → has_double words ≡ false → Each (λ w. is_among names w ≡ true) words → length words ≤ length (numbers_among words 0 names)
-members_many words names off each =
-    let all : length words ≤ length (filter (is_among words) names) = no_longer words (filter (is_among words) names) off
-    (each-both (λ w. is_among words w ≡ true) (λ w. is_among names w ≡ true) (λ w. is_among (filter (is_among words) names) w ≡ true) (λ w one two. among_filter words names w one two) words (among_self words) each) in
-    omega (arith, all, members_count words 0 names)
+pub members_many : (words names : List (List ℕ)) → has_double words ≡ false → ((x : List ℕ) → is_among words x ≡ true → is_among names x ≡ true) → length words ≤ length (numbers_among words 0 names)
+members_many words names none all =
+    let most : length words ≤ length (filter (is_among words) names) = no_longer words (filter (is_among words) names) none (λ x is. among_filter (is_among words) names x ∙ and_from (is_among words x) (is_among names x) is (all x is)) in
+    omega (arith, most, members_count words 0 names)

@@ -1,64 +1,37 @@
 -- What a text without a fault stands for is a well formed problem.
-use Rattle.std.proofs.Common.{◌≡◌, ◌<◌, ◌≤◌, ◌+◌, ◌/◌, ◌%◌, ◌&&◌, ◌||◌, ◌==◌, Bool, true, false, cond, not, nat_le, ℕ, List, [], ◌∷◌, ◌++◌, length, map, filter, codes, bytes_eq, find, Option, Some, None, IfSome, unwrap_or, option_map, Result, Ok, Err, ℤ, pos, negsuc, int_lt, unsigned_abs, refl, sym, ◌∙◌, ap, subst, arith, if◌then◌else◌, lt-ltb, leb-true, leb-false, ltb-true, ltb-false, eqb-true}
+use Rattle.std.proofs.Common.{◌≡◌, ◌<◌, ◌≤◌, ⊎_elim, ◌+◌, ◌/◌, ◌%◌, ◌&&◌, ◌||◌, ◌==◌, Bool, true, false, not, nat_le, ℕ, List, [], ◌∷◌, ◌++◌, length, map, filter, Option, Some, None, Result, Ok, Err, ℤ, pos, negsuc, int_lt, unsigned_abs, refl, sym, ◌∙◌, ap, subst, arith, if◌then◌else◌, lt-ltb, leb-true, ltb-true, eqb-true}
 use Rattle.std.specs.List.{list_any}
-use Rattle.std.proofs.lemmas.Bool.{cond_both, and_parts, or_parts, true≢false, not-true, not-false}
+use Rattle.std.specs.Str.{bytes_eq}
+use Rattle.std.proofs.lemmas.Bool.{and_parts, and_from, or_parts, or_cases, true≢false, not-true, not-false}
 use Rattle.std.proofs.lemmas.List.{length-map}
-use Rattle.text_rules.specs.declared.TextKind.TheVariants.{FileType, NoProduct}
-use Rattle.text_rules.specs.Line.{lines_of}
+use Rattle.std.proofs.lemmas.List.Folds.{list_any-append}
+use Rattle.std.proofs.lemmas.Slice.Eq.{bytes_eq-Decides}
+use mathlib.Core.List.{map-append, map-map}
+use Rattle.problem_rules.specs.Names.{is_name, is_among, has_double}
+use Rattle.problem_rules.specs.Problem.{Material, OperatingUnit, Exclusion, Problem, material_names, unit_names, exclusion_names}
+use Rattle.problem_rules.specs.WellFormed.{IsWellFormedMaterial, IsWellFormedUnit, IsWellFormedExclusion, IsWellFormed}
+use Rattle.problem_rules.specs.Each.{Each}
+use Rattle.text_rules.specs.declared.TextKind.TheVariants.{FileType, NoProduct, NoRates}
 use Rattle.text_rules.specs.declared.Section.{Section}
 use Rattle.text_rules.specs.declared.Section.TheVariants.{Defaults, Materials, OperatingUnits, Rates, Exclusions}
-use Rattle.problem_rules.specs.Names.{is_name, is_among, has_double}
-use Rattle.problem_rules.specs.Problem.{Material, OperatingUnit, Exclusion, Problem, is_product, material_names}
-use Rattle.text_rules.specs.Field.{Line, key_of, value_of, payout_period, is_in, lines_in, names_in, fields_of}
-use Rattle.text_rules.specs.Fault.{Fault, first_of, stands, form_kinds, form_fault, first_is_type, parts_of, millionths, is_payout}
-use Rattle.text_rules.specs.Value.{unit_read, material_read, bare_rates, unit_names as unit_names_in, numbers_among, exclusion_read, problem_of, value_at, stands_in, meaning_kinds, meaning_fault, read_text}
-use Rattle.problem_rules.specs.WellFormed.{IsWellFormedUnit, IsWellFormedExclusion, IsWellFormed}
-use Rattle.problem_rules.specs.Each.{Each}
+use Rattle.text_rules.specs.Line.{Placed, lines_of, body_of, matters, meant_of, head_of, lines_at, heads_at}
+use Rattle.text_rules.specs.Field.{items_of, payout_period}
+use Rattle.text_rules.specs.Term.{pairs_at}
+use Rattle.text_rules.specs.Fault.{Fault, seen_none, first_fault, first_is_type, form_fault, is_payout}
+use Rattle.text_rules.specs.Value.{Settings, settings_of, names_all, default_fields, fields_at, number_at, is_material_turned, is_unit_turned, has_unknown, is_unit, both_from, sides_or, sides_named, material_from, materials_from, listed_unit, bare_unit, bare_lines, units_from, unit_names_from, exclusion_named, exclusions_from, problem_from, first_meaning, line_meaning, has_product, with_product, or_first, meaning_at, read_text}
 use Rattle.text_laws.proofs.Each.{each-to, each-map, each-append, each-both, each-unmap}
-use Rattle.text_laws.proofs.Clear.{Clear}
 use Rattle.text_laws.proofs.Names.{among_self}
-use Rattle.text_laws.proofs.ReadFields.{IsClearAt, clear_each, each_filter, names_once, lines_few, first_clear}
-use Rattle.text_laws.proofs.ReadItems.{both_at, materials_good, unit_good}
-use Rattle.text_laws.proofs.NoKind.{NoForm, NoMeaning, kinds_in, means_in, line_in, is_line_in}
-use Rattle.text_laws.proofs.ReadCounts.{AllHeld, held_walk, no_longer, double_left, double_append, members_rise, members_many}
+use Rattle.text_laws.proofs.NoKind.{IsFormed, IsClear, formed_each, meant_each, clear_at, each_filter, if_none, known_none, NoDefaultFault, no_default_fault, no_material_fault, no_unit_fault, no_rates_fault, no_exclusion_fault}
+use Rattle.text_laws.proofs.ReadFields.{IsAllowed, items_allowed, defaults_allowed, payout_good}
+use Rattle.text_laws.proofs.ReadItems.{AreSides, sides_good, find_named, material_good, unit_good}
+use Rattle.text_laws.proofs.ReadCounts.{AreGoodNames, good_names, among_filter, double_filter, double_append, no_longer, members_rise, members_many}
 
-map_append : {A B : Type 0} (f : A → B) (xs ys : List A) → map f (xs ++ ys) ≡ map f xs ++ map f ys
-map_append f [] ys = refl
-map_append {A} {B} f (x ∷ xs) ys = ap (λ (zs : List B). f x ∷ zs) (map_append f xs ys)
-
-map_twice : {A B C : Type 0} (g : B → C) (f : A → B) (xs : List A) → map g (map f xs) ≡ map (λ x. g (f x)) xs
-map_twice g f [] = refl
-map_twice {A} {B} {C} g f (x ∷ xs) = ap (λ (ys : List C). g (f x) ∷ ys) (map_twice g f xs)
-
-each-unfilter : {A : Type 0} (P : A → Type 0) (q : A → Bool) (xs : List A) → Each P xs → Each P (filter q xs)
-each-unfilter P q [] each = tt
-each-unfilter P q (x ∷ xs) each = cond_both (q x) (x ∷ filter q xs) (filter q xs) (λ ls. Each P ls) (λ e. (each.0, each-unfilter P q xs each.1)) (λ e. each-unfilter P q xs each.1)
-
-and_first : (a b c : Bool) → ((a && b) && c) ≡ false → a ≡ true → b ≡ true → c ≡ false
-and_first true true c e one two = e
-and_first false b c e one two = absurd (true≢false (sym one))
-and_first true false c e one two = absurd (true≢false (sym two))
-
--- the payout's values
-abbrev IsYears : List ℕ → Type 0
-IsYears text = is_payout (millionths text) ≡ true
-
-abbrev default_fields : List Line → List (List ℕ × List ℕ)
-default_fields lines = map (λ line. (key_of line.text, value_of line.text)) lines
-
-years_found : (lines : List Line) → Each (λ line. (is_in Defaults line ≡ true) × IsClearAt stands form_kinds line) lines → IfSome (value_at payout_period (default_fields lines)) IsYears
-years_found [] each = tt
-years_found (line ∷ lines) each = from (bytes_eq (key_of line.text) payout_period) refl (years_found lines each.1) where
-  kinds : NoForm (stands each.0.1.0 (line_in Defaults line))
-  kinds = kinds_in Defaults each.0.1.0 line each.0.0 each.0.1.1
-
-  good : (bytes_eq (key_of line.text) payout_period && not (is_payout (millionths (value_of line.text)))) ≡ false
-  good = kinds.bad_payout
-
-  from : (b : Bool) → bytes_eq (key_of line.text) payout_period ≡ b → IfSome (value_at payout_period (default_fields lines)) IsYears
-      → IfSome (option_map (λ (field : List ℕ × List ℕ). field.1) (cond b (Some (key_of line.text, value_of line.text)) (find (λ field. bytes_eq (field.0) payout_period) (default_fields lines)))) IsYears
-  from true e rest = not-false (is_payout (millionths (value_of line.text))) (ap (λ b. b && not (is_payout (millionths (value_of line.text)))) (sym e) ∙ good)
-  from false e rest = rest
+filter_map : {A B : Type 0} (q : B → Bool) (f : A → B) (xs : List A) → map f (filter (λ x. q (f x)) xs) ≡ filter q (map f xs)
+filter_map q f [] = refl
+filter_map {A} {B} q f (x ∷ xs) = at (q (f x)) (filter_map q f xs) where
+  at : (b : Bool) → map f (filter (λ x. q (f x)) xs) ≡ filter q (map f xs) → map f (if b then x ∷ filter (λ x. q (f x)) xs else filter (λ x. q (f x)) xs) ≡ (if b then f x ∷ filter q (map f xs) else filter q (map f xs))
+  at true same = ap (λ (ys : List B). f x ∷ ys) same
+  at false same = same
 
 payout_range : (z : ℤ) → is_payout z ≡ true → (int_lt (pos 0) (pos (unsigned_abs z / 1000000)) ≡ true) × (unsigned_abs z / 1000000 ≤ 100)
 payout_range (pos n) is =
@@ -70,166 +43,195 @@ payout_range (pos n) is =
     (lt-ltb 0 (n / 1000000) (omega arith), omega arith)
 payout_range (negsuc n) is = absurd (true≢false (sym is))
 
-years_of : (o : Option (List ℕ)) → IfSome o IsYears → is_payout (millionths (unwrap_or o (codes "1"))) ≡ true
-years_of None is = refl
-years_of (Some v) is = is
+abbrev name_of : Placed → List ℕ
+name_of line = head_of line.text
 
-module _ (P : List Line) (form : Clear stands form_kinds [] P) (mean : Clear (stands_in P) meaning_kinds [] P) where
-  at_all : Each (λ line. IsClearAt stands form_kinds line × IsClearAt (stands_in P) meaning_kinds line) P
-  at_all = both_at P form mean
+module _ (lines : List Placed) (all : List (List ℕ)) (names : AreGoodNames (heads_at Materials lines) (heads_at OperatingUnits lines) (heads_at Rates lines) (heads_at Exclusions lines) all)
+    (clear : Each (λ line. IsFormed line × (line_meaning (settings_of lines) (names_all lines) line ≡ None)) lines) where
+  abbrev s : Settings
+  s = settings_of lines
 
-  abbrev At : Section → Line → Type 0
-  At s line = (is_in s line ≡ true) × (IsClearAt stands form_kinds line × IsClearAt (stands_in P) meaning_kinds line)
+  abbrev materials : List (List ℕ)
+  materials = heads_at Materials lines
 
-  at_section : (s : Section) → Each (At s) (lines_in s P)
-  at_section s = each_filter _ (is_in s) P at_all
+  abbrev units : List (List ℕ)
+  units = heads_at OperatingUnits lines
 
-  -- names that come once
-  once_materials : has_double (names_in Materials P) ≡ false
-  once_materials = (names_once Materials (λ before line is each. let kinds = kinds_in Materials before line is each in kinds.double_material) [] P form).1
+  abbrev rates : List (List ℕ)
+  rates = heads_at Rates lines
 
-  once_units : has_double (names_in OperatingUnits P) ≡ false
-  once_units = (names_once OperatingUnits (λ before line is each. let kinds = kinds_in OperatingUnits before line is each in kinds.double_unit) [] P form).1
+  abbrev At : Section → Placed → Type 0
+  At section line = IsClear s (names_all lines) section line.text
 
-  once_rates : has_double (names_in Rates P) ≡ false
-  once_rates = (names_once Rates (λ before line is each. let kinds = kinds_in Rates before line is each in kinds.double_rates) [] P form).1
+  at : (section : Section) → Each (At section) (lines_at section lines)
+  at section = clear_at s (names_all lines) section lines clear
 
-  once_exclusions : has_double (names_in Exclusions P) ≡ false
-  once_exclusions = (names_once Exclusions (λ before line is each. let kinds = kinds_in Exclusions before line is each in kinds.double_exclusion) [] P form).1
+  -- ---- defaults and materials
 
-  few_materials_read : length (lines_in Materials P) ≤ 256
-  few_materials_read = omega (arith, lines_few Materials 256 (λ before line is each. let kinds = kinds_in Materials before line is each in leb-false 256 (length (lines_in Materials before)) kinds.too_many) [] P form (omega arith))
+  defaults : Each (λ line. NoDefaultFault line.text) (lines_at Defaults lines)
+  defaults = each-to (At Defaults) (λ line. NoDefaultFault line.text) (λ line is. no_default_fault is.0.0.keys line.text is.0.1) (lines_at Defaults lines) (at Defaults)
 
-  few_exclusions_read : length (lines_in Exclusions P) ≤ 64
-  few_exclusions_read = omega (arith, lines_few Exclusions 64 (λ before line is each. let kinds = kinds_in Exclusions before line is each in leb-false 64 (length (lines_in Exclusions before)) kinds.too_many) [] P form (omega arith))
+  given : Each IsAllowed (default_fields lines)
+  given = defaults_allowed lines defaults
 
-  abbrev name_of : Line → List ℕ
-  name_of line = line.name
+  materials_good : Each IsWellFormedMaterial (materials_from s lines)
+  materials_good = each-map IsWellFormedMaterial (λ (line : Placed). material_from s (name_of line) (fields_at line.text)) (lines_at Materials lines)
+      (each-to (At Materials) (λ line. IsWellFormedMaterial (material_from s (name_of line) (fields_at line.text)))
+      (λ line is.
+      let fine = no_material_fault is.0.0.materials (name_of line) (items_of line.text) is.0.1 in
+      material_good (default_fields lines) given (name_of line) (fields_at line.text) fine.named (items_allowed (items_of line.text) fine.values) (if_none (is_material_turned s (fields_at line.text)) _ _ is.1).0)
+      (lines_at Materials lines) (at Materials))
 
-  bare_apart : Each (λ line. not (is_among (names_in OperatingUnits P) line.name) ≡ true) (bare_rates P)
-  bare_apart = each-to _ _ (λ line is. is.0) (bare_rates P) (each_filter (At Rates) (λ line. not (is_among (names_in OperatingUnits P) line.name)) (lines_in Rates P) (at_section Rates))
+  -- ---- rates and units
 
-  once_all : has_double (unit_names_in P) ≡ false
-  once_all = double_append (names_in OperatingUnits P) (map name_of (bare_rates P)) once_units (double_left (λ line. not (is_among (names_in OperatingUnits P) line.name)) (lines_in Rates P) once_rates)
-      (each-map (λ y. is_among (names_in OperatingUnits P) y ≡ false) name_of (bare_rates P) (each-to _ _ (λ line e. not-true (is_among (names_in OperatingUnits P) line.name) e) (bare_rates P) bare_apart))
+  record IsRates (line : Placed) : Type 0 where
+    pub named : is_name (name_of line) ≡ true
+    pub listed : is_among rates (name_of line) ≡ true
+    pub ordered : (not (is_among units (name_of line)) && is_unit_turned s []) ≡ false
+    pub sides : AreSides (length materials) (both_from materials (pairs_at line.text))
 
-  rates_listed : Each (λ line. is_among (names_in Rates P) line.name ≡ true) (lines_in Rates P)
-  rates_listed = each-unmap (λ name. is_among (names_in Rates P) name ≡ true) name_of (lines_in Rates P) (among_self (names_in Rates P))
+  rates_good : Each IsRates (lines_at Rates lines)
+  rates_good = each-both (At Rates) (λ line. is_among rates (name_of line) ≡ true) IsRates (λ line is listed.
+      let fine = no_rates_fault is.0.0.rates is.0.0.unit_names (name_of line) line.text is.0.1 in
+      let ordered = if_none (not (is_among units (name_of line)) && is_unit_turned s []) _ _ is.1 in
+      let known = if_none (has_unknown materials (pairs_at line.text)) _ _ ordered.1 in
+      record { named = fine.named; listed = listed; ordered = ordered.0; sides = sides_good materials is.0.0.rates is.0.0.unit_names (name_of line) (pairs_at line.text) fine known.0 })
+      (lines_at Rates lines) (at Rates) (each-unmap (λ name. is_among rates name ≡ true) name_of (lines_at Rates lines) (among_self rates))
 
-  few_units_read : length (unit_names_in P) ≤ 128
-  few_units_read =
-      let held : AllHeld [] P = held_walk [] P form [] (omega arith) (record { units = λ z is. absurd (true≢false (sym is)); rates = λ z is. absurd (true≢false (sym is)) }) in
-      let all : length (unit_names_in P) ≤ length held.names = no_longer (unit_names_in P) held.names once_all
-      (each-append (λ x. is_among held.names x ≡ true) (names_in OperatingUnits P) (map name_of (bare_rates P))
-      (each-to _ _ (λ x is. held.new.units x is) (names_in OperatingUnits P) (among_self (names_in OperatingUnits P)))
-      (each-map (λ x. is_among held.names x ≡ true) name_of (bare_rates P) (each-to _ _ (λ line is. held.new.rates line.name is) (bare_rates P)
-      (each-unfilter (λ line. is_among (names_in Rates P) line.name ≡ true) (λ line. not (is_among (names_in OperatingUnits P) line.name)) (lines_in Rates P) rates_listed)))) in
-      omega (arith, all, held.few)
+  sides_of : (name : List ℕ) → is_among rates name ≡ true → AreSides (length materials) (sides_named materials lines name)
+  sides_of name listed = find_named (λ line. AreSides (length materials) (sides_or materials line)) name_of (lines_at Rates lines) name
+      (each-to IsRates (λ line. AreSides (length materials) (both_from materials (pairs_at line.text))) (λ line is. is.sides) (lines_at Rates lines) rates_good) listed
 
-  -- the units
-  unit_names_read : map (λ u. u.name) (problem_of P).units ≡ unit_names_in P
-  unit_names_read =
-      map_append (λ (u : OperatingUnit). u.name) (map (λ line. unit_read P line.name (fields_of line)) (lines_in OperatingUnits P)) (map (λ line. unit_read P line.name []) (bare_rates P))
-      ∙ ap (λ (ns : List (List ℕ)). ns ++ map (λ u. u.name) (map (λ line. unit_read P line.name []) (bare_rates P))) (map_twice (λ (u : OperatingUnit). u.name) (λ (line : Line). unit_read P line.name (fields_of line)) (lines_in OperatingUnits P))
-      ∙ ap (λ (ns : List (List ℕ)). names_in OperatingUnits P ++ ns) (map_twice (λ (u : OperatingUnit). u.name) (λ (line : Line). unit_read P line.name []) (bare_rates P))
-
-  unit_count : length (problem_of P).units ≡ length (unit_names_in P)
-  unit_count = sym (length-map (problem_of P).units (λ (u : OperatingUnit). u.name)) ∙ ap (λ (ns : List (List ℕ)). length ns) unit_names_read
-
-  abbrev count : ℕ
-  count = length (names_in Materials P)
-
-  own_good : (line : Line) → At OperatingUnits line → IsWellFormedUnit count (unit_read P line.name (fields_of line))
+  own_good : (line : Placed) → At OperatingUnits line → IsWellFormedUnit (length materials) (listed_unit s materials lines line.text)
   own_good line is =
-      let kinds : NoForm (stands is.1.0.0 (line_in OperatingUnits line)) = kinds_in OperatingUnits is.1.0.0 line is.0 is.1.0.1 in
-      let means : NoMeaning (stands_in P is.1.1.0 (line_in OperatingUnits line)) = means_in P OperatingUnits is.1.1.0 line is.0 is.1.1.1 in
-      let named = or_parts (not (is_name line.name) || false) false kinds.bad_name in
-      subst (λ (l : Line). IsWellFormedUnit count (unit_read P l.name (fields_of l))) (sym (is_line_in OperatingUnits line is.0))
-      (unit_good P form mean line.name (fields_of (line_in OperatingUnits line)) (not-false (is_name line.name) (or_parts (not (is_name line.name)) false named.0).0) kinds.negative means.low_above_high
-      (not-false (is_among (names_in Rates P) line.name) means.no_rates))
+      let fine = no_unit_fault is.0.0.units is.0.0.unit_names (name_of line) (items_of line.text) is.0.1 in
+      let ordered = if_none (is_unit_turned s (fields_at line.text)) _ _ is.1 in
+      unit_good (default_fields lines) given (length materials) (name_of line) (fields_at line.text) (sides_named materials lines (name_of line)) fine.named (items_allowed (items_of line.text) fine.values) ordered.0
+      (sides_of (name_of line) (known_none (is_among rates (name_of line)) NoRates ordered.1))
 
-  bare_good : (line : Line) → (not (is_among (names_in OperatingUnits P) line.name) ≡ true) × (At Rates line × (is_among (names_in Rates P) line.name ≡ true)) → IsWellFormedUnit count (unit_read P line.name [])
-  bare_good line is =
-      let here : At Rates line = is.1.0 in
-      let kinds : NoForm (stands here.1.0.0 (line_in Rates line)) = kinds_in Rates here.1.0.0 line here.0 here.1.0.1 in
-      let means : NoMeaning (stands_in P here.1.1.0 (line_in Rates line)) = means_in P Rates here.1.1.0 line here.0 here.1.1.1 in
-      let named = or_parts _ false kinds.bad_name in
-      unit_good P form mean line.name [] (not-false (is_name line.name) (or_parts (not (is_name line.name)) _ named.0).0) refl
-      (and_first true (not (is_among (names_in OperatingUnits P) line.name)) (int_lt (unit_read P line.name []).upper (unit_read P line.name []).lower) means.low_above_high refl is.0) is.1.1
+  bare_good : (line : Placed) → (not (is_among units (name_of line)) ≡ true) × IsRates line → IsWellFormedUnit (length materials) (bare_unit s materials lines line.text)
+  bare_good line is = unit_good (default_fields lines) given (length materials) (name_of line) [] (sides_named materials lines (name_of line)) is.1.named tt
+      (ap (λ b. b && is_unit_turned s []) (sym is.0) ∙ is.1.ordered) (sides_of (name_of line) is.1.listed)
 
-  units_good : Each (IsWellFormedUnit count) (problem_of P).units
+  units_good : Each (IsWellFormedUnit (length materials)) (units_from s materials lines)
   units_good =
-      each-append (IsWellFormedUnit count) (map (λ line. unit_read P line.name (fields_of line)) (lines_in OperatingUnits P)) (map (λ line. unit_read P line.name []) (bare_rates P))
-      (each-map (IsWellFormedUnit count) (λ (line : Line). unit_read P line.name (fields_of line)) (lines_in OperatingUnits P) (each-to (At OperatingUnits) _ own_good (lines_in OperatingUnits P) (at_section OperatingUnits)))
-      (each-map (IsWellFormedUnit count) (λ (line : Line). unit_read P line.name []) (bare_rates P) (each-to _ _ bare_good (bare_rates P)
-      (each_filter (λ line. At Rates line × (is_among (names_in Rates P) line.name ≡ true)) (λ line. not (is_among (names_in OperatingUnits P) line.name)) (lines_in Rates P)
-      (each-both (At Rates) (λ line. is_among (names_in Rates P) line.name ≡ true) (λ line. At Rates line × (is_among (names_in Rates P) line.name ≡ true)) (λ line one two. (one, two)) (lines_in Rates P) (at_section Rates) rates_listed))))
+      each-append (IsWellFormedUnit (length materials)) (map (λ (line : Placed). listed_unit s materials lines line.text) (lines_at OperatingUnits lines)) (map (λ (line : Placed). bare_unit s materials lines line.text) (bare_lines units lines))
+      (each-map (IsWellFormedUnit (length materials)) (λ (line : Placed). listed_unit s materials lines line.text) (lines_at OperatingUnits lines) (each-to (At OperatingUnits) _ own_good (lines_at OperatingUnits lines) (at OperatingUnits)))
+      (each-map (IsWellFormedUnit (length materials)) (λ (line : Placed). bare_unit s materials lines line.text) (bare_lines units lines)
+      (each-to _ _ bare_good (bare_lines units lines) (each_filter IsRates (λ line. not (is_among units (name_of line))) (lines_at Rates lines) rates_good)))
 
-  -- the exclusions
-  known : (items : List (List ℕ)) → list_any (λ item. not (is_among (unit_names_in P) item)) items ≡ false → Each (λ w. is_among (unit_names_in P) w ≡ true) items
-  known [] none = tt
-  known (item ∷ items) none = let parts = or_parts (not (is_among (unit_names_in P) item)) _ none in (not-false (is_among (unit_names_in P) item) parts.0, known items parts.1)
+  -- ---- the names of units
 
-  exclusion_good : (line : Line) → At Exclusions line → IsWellFormedExclusion (length (unit_names_in P)) (exclusion_read P line)
+  abbrev is_bare : List ℕ → Bool
+  is_bare name = not (is_among units name)
+
+  names_same : unit_names_from lines ≡ units ++ filter is_bare rates
+  names_same = ap (λ (names : List (List ℕ)). units ++ names) (filter_map is_bare name_of (lines_at Rates lines))
+
+  units_once : has_double (units ++ filter is_bare rates) ≡ false
+  units_once = double_append units (filter is_bare rates) names.held_units.once (double_filter is_bare rates names.held_rates.once)
+      (each-to _ (λ name. is_among units name ≡ false) (λ name is. not-true (is_among units name) is.0) (filter is_bare rates) (each_filter _ is_bare rates (among_self rates)))
+
+  few_units_read : length (units ++ filter is_bare rates) ≤ 128
+  few_units_read =
+      let most : length (units ++ filter is_bare rates) ≤ length all = no_longer (units ++ filter is_bare rates) all units_once (λ name is.
+      ⊎_elim (λ (own : is_among units name ≡ true). names.held_units.held name own) (λ (bare : is_among (filter is_bare rates) name ≡ true). names.held_rates.held name (and_parts (is_bare name) (is_among rates name) (sym (among_filter is_bare rates name) ∙ bare)).1)
+      (or_cases (is_among units name) (is_among (filter is_bare rates) name) (sym (list_any-append (λ word. bytes_eq word name) units (filter is_bare rates)) ∙ is))) in
+      omega (arith, most, names.few)
+
+  names_read : unit_names (units_from s materials lines) ≡ units ++ filter is_bare rates
+  names_read =
+      map-append (λ (u : OperatingUnit). u.name) (map (λ (line : Placed). listed_unit s materials lines line.text) (lines_at OperatingUnits lines)) (map (λ (line : Placed). bare_unit s materials lines line.text) (bare_lines units lines))
+      ∙ (λ i. map-map (λ (u : OperatingUnit). u.name) (λ (line : Placed). listed_unit s materials lines line.text) (lines_at OperatingUnits lines) i ++ map-map (λ (u : OperatingUnit). u.name) (λ (line : Placed). bare_unit s materials lines line.text) (bare_lines units lines) i)
+      ∙ names_same
+
+  unit_count : length (units_from s materials lines) ≡ length (units ++ filter is_bare rates)
+  unit_count = sym (length-map (units_from s materials lines) (λ (u : OperatingUnit). u.name)) ∙ ap (λ (names : List (List ℕ)). length names) names_read
+
+  -- ---- exclusions
+
+  unit_known : (name : List ℕ) (b : Bool) → is_among units name ≡ b → (b || is_among rates name) ≡ true → (b || is_among (filter is_bare rates) name) ≡ true
+  unit_known name true e is = is
+  unit_known name false e is = among_filter is_bare rates name ∙ and_from (is_bare name) (is_among rates name) (ap not e) is
+
+  members_known : (members : List (List ℕ)) → list_any (λ item. not (is_unit (names_all lines) item)) members ≡ false → (name : List ℕ) → is_among members name ≡ true → is_among (unit_names_from lines) name ≡ true
+  members_known [] none name is = absurd (true≢false (sym is))
+  members_known (member ∷ members) none name is =
+      let parts = or_parts (not (is_unit (names_all lines) member)) _ none in
+      ⊎_elim
+      (λ (same : bytes_eq member name ≡ true). subst (λ name. is_among (unit_names_from lines) name ≡ true) ((bytes_eq-Decides member name).0 same)
+      (ap (λ (names : List (List ℕ)). is_among names member) names_same ∙ list_any-append (λ word. bytes_eq word member) units (filter is_bare rates) ∙ unit_known member (is_among units member) refl (not-false (is_unit (names_all lines) member) parts.0)))
+      (λ (more : is_among members name ≡ true). members_known members parts.1 name more) (or_cases (bytes_eq member name) (is_among members name) is)
+
+  exclusion_good : (line : Placed) → At Exclusions line → IsWellFormedExclusion (length (units_from s materials lines)) (exclusion_named (unit_names_from lines) (name_of line) (items_of line.text))
   exclusion_good line is =
-      let kinds : NoForm (stands is.1.0.0 (line_in Exclusions line)) = kinds_in Exclusions is.1.0.0 line is.0 is.1.0.1 in
-      let means : NoMeaning (stands_in P is.1.1.0 (line_in Exclusions line)) = means_in P Exclusions is.1.1.0 line is.0 is.1.1.1 in
-      let named = or_parts (not (is_name line.name) || false) _ kinds.bad_name in
-      let two : 2 ≤ length line.items = ltb-false (length line.items) 2 kinds.few_members in
-      let many : length line.items ≤ length (numbers_among line.items 0 (unit_names_in P)) = members_many line.items (unit_names_in P) kinds.double_member (known line.items means.unknown_unit) in
+      let members : List (List ℕ) = items_of line.text in
+      let fine = no_exclusion_fault is.0.0.exclusions line.text (name_of line) members is.0.1 in
+      let known = if_none (list_any (λ item. not (is_unit (names_all lines) item)) members) _ _ is.1 in
+      let enough : 2 ≤ length members = fine.enough in
       record {
-        named = not-false (is_name line.name) (or_parts (not (is_name line.name)) false named.0).0;
-        enough = omega arith;
-        rising = members_rise line.items 0 (length (unit_names_in P)) (unit_names_in P) (omega arith);
+        named = fine.named;
+        enough = omega (arith, members_many members (unit_names_from lines) fine.once (members_known members known.0));
+        rising = members_rise members 0 (length (units_from s materials lines)) (unit_names_from lines) (omega (arith, unit_count, ap (λ (names : List (List ℕ)). length names) names_same));
       }
 
-  exclusions_good : Each (IsWellFormedExclusion (length (unit_names_in P))) (problem_of P).exclusions
-  exclusions_good = each-map (IsWellFormedExclusion (length (unit_names_in P))) (exclusion_read P) (lines_in Exclusions P) (each-to (At Exclusions) _ exclusion_good (lines_in Exclusions P) (at_section Exclusions))
+  -- ---- the problem
 
-  -- the items of a problem that is read are good
-  pub good_read : list_any (λ (m : Material). is_product m.kind) (problem_of P).materials ≡ true → IsWellFormed (problem_of P)
-  good_read some_product =
-      let years = payout_range (millionths (unwrap_or (value_at payout_period (default_fields (lines_in Defaults P))) (codes "1")))
-      (years_of (value_at payout_period (default_fields (lines_in Defaults P))) (years_found (lines_in Defaults P) (each_filter (IsClearAt stands form_kinds) (is_in Defaults) P (clear_each stands form_kinds [] P form)))) in
-      let m_count : length (problem_of P).materials ≡ length (lines_in Materials P) = length-map (lines_in Materials P) (material_read P) in
-      let names_same : material_names (problem_of P).materials ≡ names_in Materials P = map_twice (λ (m : Material). m.name) (material_read P) (lines_in Materials P) in
+  pub problem_good : has_product (problem_from lines).materials ≡ true → IsWellFormed (problem_from lines)
+  problem_good some_product =
+      let years = payout_range (number_at payout_period (default_fields lines) (pos 1000000)) (payout_good lines defaults) in
+      let materials_same : material_names (materials_from s lines) ≡ materials = map-map (λ (m : Material). m.name) (λ (line : Placed). material_from s (name_of line) (fields_at line.text)) (lines_at Materials lines) in
+      let exclusions_same : exclusion_names (exclusions_from (unit_names_from lines) lines) ≡ heads_at Exclusions lines =
+      map-map (λ (e : Exclusion). e.name) (λ (line : Placed). exclusion_named (unit_names_from lines) (name_of line) (items_of line.text)) (lines_at Exclusions lines) in
+      let material_count : length materials ≡ length (materials_from s lines) = ap (λ (names : List (List ℕ)). length names) (sym materials_same) ∙ length-map (materials_from s lines) (λ (m : Material). m.name) in
+      let exclusion_count : length (heads_at Exclusions lines) ≡ length (exclusions_from (unit_names_from lines) lines) =
+      ap (λ (names : List (List ℕ)). length names) (sym exclusions_same) ∙ length-map (exclusions_from (unit_names_from lines) lines) (λ (e : Exclusion). e.name) in
       record {
-        few_materials = omega (arith, m_count, few_materials_read);
-        few_units = omega (arith, unit_count, few_units_read);
-        few_exclusions = omega (arith, length-map (lines_in Exclusions P) (exclusion_read P), few_exclusions_read);
-        materials_formed = materials_good P form mean;
-        units_formed = subst (λ k. Each (IsWellFormedUnit k) (problem_of P).units) (ap (λ (names : List (List ℕ)). length names) (sym names_same) ∙ length-map (problem_of P).materials (λ (m : Material). m.name)) units_good;
-        exclusions_formed = subst (λ k. Each (IsWellFormedExclusion k) (problem_of P).exclusions) (sym unit_count) exclusions_good;
-        materials_apart = ap has_double names_same ∙ once_materials;
-        units_apart = ap has_double unit_names_read ∙ once_all;
-        exclusions_apart = ap has_double (map_twice (λ (e : Exclusion). e.name) (exclusion_read P) (lines_in Exclusions P)) ∙ once_exclusions;
+        few_materials = subst (λ n. n ≤ 256) material_count names.few_materials.few;
+        few_units = subst (λ n. n ≤ 128) (sym unit_count) few_units_read;
+        few_exclusions = subst (λ n. n ≤ 64) exclusion_count names.few_exclusions.few;
+        materials_formed = materials_good;
+        units_formed = subst (λ n. Each (IsWellFormedUnit n) (units_from s materials lines)) material_count units_good;
+        exclusions_formed = each-map (IsWellFormedExclusion (length (units_from s materials lines))) (λ (line : Placed). exclusion_named (unit_names_from lines) (name_of line) (items_of line.text)) (lines_at Exclusions lines)
+            (each-to (At Exclusions) _ exclusion_good (lines_at Exclusions lines) (at Exclusions));
+        materials_apart = ap has_double materials_same ∙ names.few_materials.once;
+        units_apart = ap has_double names_read ∙ units_once;
+        exclusions_apart = ap has_double exclusions_same ∙ names.few_exclusions.once;
         with_product = some_product;
         payout_positive = years.0;
         payout_limit = years.1;
       }
 
--- the two kinds of fault apart
-typed_cond : (b : Bool) (o : Option Fault) → (if b then o else Some (1, FileType)) ≡ None → o ≡ None
-typed_cond true o e = e
-typed_cond false o e = cc
+-- ---- texts
 
-meant_cond : (o : Option Fault) (b : Bool) (n : ℕ) → elim o as (λ _. Option Fault) [ Some fault ↦ Some fault | None ↦ if b then None else Some (n, NoProduct) ] ≡ None → (o ≡ None) × (b ≡ true)
-meant_cond (Some fault) b n e = cc
-meant_cond None true n e = (refl, refl)
-meant_cond None false n e = cc
+typed : (b : Bool) (fault : Option Fault) → (if b then fault else Some (1, FileType)) ≡ None → fault ≡ None
+typed true fault e = e
+typed false fault e = cc
 
-read_cases : (form mean : Option Fault) (read p : Problem) → elim form as (λ _. Result Problem Fault) [ Some fault ↦ Err fault | None ↦ elim mean as (λ _. Result Problem Fault) [ Some fault ↦ Err fault | None ↦ Ok read ] ] ≡ Ok p
-    → (form ≡ None) × (mean ≡ None) × (read ≡ p)
-read_cases (Some fault) mean read p e = cc
-read_cases None (Some fault) read p e = cc
-read_cases None None read p e = (refl, refl, cc)
+first_none : (fault : Option Fault) (rest : Result Problem Fault) (p : Problem) → or_first fault rest ≡ Ok p → (fault ≡ None) × (rest ≡ Ok p)
+first_none (Some fault) rest p e = cc
+first_none None rest p e = (refl, e)
+
+product_read : (b : Bool) (number : ℕ) (read p : Problem) → let made : Result Problem Fault = Ok read in (if b then made else Err (number, NoProduct)) ≡ Ok p → (b ≡ true) × (read ≡ p)
+product_read true number read p e = (refl, cc)
+product_read false number read p e = cc
 
 -- what a text without a fault stands for is well formed
 pub read_is_well_formed : (bytes : List ℕ) (p : Problem) → read_text bytes ≡ Ok p → IsWellFormed p
 read_is_well_formed bytes p e =
     let texts : List (List ℕ) = lines_of bytes in
-    let P : List Line = parts_of texts in
-    let parts = read_cases (form_fault texts) (meaning_fault texts P) (problem_of P) p e in
-    let form : first_of stands form_kinds [] P ≡ None = typed_cond (first_is_type texts) (first_of stands form_kinds [] P) parts.0 in
-    let meant = meant_cond (first_of (stands_in P) meaning_kinds [] P) (list_any (λ (m : Material). is_product m.kind) (problem_of P).materials) (length texts + 1) parts.1 in
-    subst IsWellFormed parts.2 (good_read P (first_clear stands form_kinds [] P form) (first_clear (stands_in P) meaning_kinds [] P meant.0) meant.1)
+    let lines : List Placed = meant_of texts in
+    let form = first_none (form_fault texts) (meaning_at lines (length texts + 1)) p e in
+    let none : first_fault seen_none (body_of texts) ≡ None = typed (first_is_type texts) (first_fault seen_none (body_of texts)) form.0 in
+    let mean = first_none (first_meaning (settings_of lines) (names_all lines) lines) (with_product (length texts + 1) (problem_from lines)) p form.1 in
+    let read = product_read (has_product (problem_from lines).materials) (length texts + 1) (problem_from lines) p mean.1 in
+    let names = good_names seen_none (body_of texts) none (record {
+      few_materials = record { few = omega arith; once = refl };
+      few_exclusions = record { few = omega arith; once = refl };
+      held_units = record { once = refl; held = λ x is. absurd (true≢false (sym is)) };
+      held_rates = record { once = refl; held = λ x is. absurd (true≢false (sym is)) };
+      few = omega arith;
+    }) in
+    let formed : Each IsFormed lines = each-to _ IsFormed (λ line is. is.1) lines (each_filter IsFormed matters (body_of texts) (formed_each seen_none (body_of texts) none)) in
+    let clear = each-both IsFormed (λ line. line_meaning (settings_of lines) (names_all lines) line ≡ None) _ (λ line one two. (one, two)) lines formed (meant_each (settings_of lines) (names_all lines) lines mean.0) in
+    subst IsWellFormed read.1 (problem_good lines names.0 names.1 clear read.0)
