@@ -1,11 +1,13 @@
 -- A list that is cut at the first element that passes.
-use Rattle.std.proofs.Common.{◌≡◌, ◌==◌, ◌<◌, ◌≤◌, ◌+◌, ◌-◌, ℕ, Bool, true, false, cond, not, List, [], ◌∷◌, length, map, take, drop, suc, slice_index_or, if◌then◌else◌, refl, ap, sym, ◌∙◌, arith, nat_lt, inl, inr}
+use Rattle.std.proofs.Common.{◌≡◌, ◌==◌, ◌<◌, ◌≤◌, ◌+◌, ◌-◌, ℕ, Bool, true, false, cond, not, List, [], ◌∷◌, length, map, take, drop, zero, suc, slice_index_or, if◌then◌else◌, refl, ap, sym, ◌∙◌, arith, nat_lt, inl, inr, length-drop}
 use Rattle.std.proofs.lemmas.Bool.{cond-true, cond-false, cases_lt, ne_eqb, lt-ltb, le-ltb}
 use Rattle.std.proofs.lemmas.Grind.{common_steps}
 use Rattle.std.specs.List.{slice_split, onto_first, position_or_len}
 use Rattle.std.proofs.lemmas.List.Splits.{slice_split_first, slice_split-cons_no, length-slice_split}
 use Rattle.text_rules.specs.Line.{without_empty_last}
-use Rattle.text_lines.specs.Lines.{lines_from, cleaned}
+use Rattle.text_lines.specs.Lines.{line_by, lines_by}
+use Rattle.text_lines.specs.declared.lines.Drops.{Drops}
+use Rattle.text_lines.specs.declared.lines.Drops.TheVariants.{Return, ReturnAndBlanks}
 
 -- at the first element that passes
 pub split-at : {X : Type 0} (p : X → Bool) (xs : List X) (d : X) (at : ℕ) → at ≡ position_or_len p xs → at < length xs → slice_split p xs ≡ take at xs ∷ slice_split p (drop (at + 1) xs)
@@ -68,17 +70,52 @@ more_parts x (y ∷ ys) lt = last-more x y ys
 pub parts_some : (p : ℕ → Bool) (xs : List ℕ) → 0 < length (slice_split p xs)
 parts_some p xs = let long = length-slice_split p xs in omega (arith, long)
 
--- a line that is ended by a line feed, and the last one where none is
-pub lines-cut : (rest : List ℕ) (at : ℕ) → at ≡ position_or_len (λ c. c == 10) rest → at < length rest → lines_from rest ≡ cleaned (take at rest) ∷ lines_from (drop (at + 1) rest)
-lines-cut rest at e lt =
-    ap (λ (parts : List (List ℕ)). map cleaned (without_empty_last parts)) (split-at (λ (c : ℕ). c == 10) rest 0 at e lt)
-    ∙ ap (map cleaned) (more_parts (take at rest) (slice_split (λ c. c == 10) (drop (at + 1) rest)) (parts_some (λ c. c == 10) (drop (at + 1) rest)))
-
 pub last_one : (x : ℕ) (xs : List ℕ) → without_empty_last ((x ∷ xs) ∷ []) ≡ (x ∷ xs) ∷ []
 last_one x xs = cond-false (suc (length xs) == 0) [] ((x ∷ xs) ∷ []) (ne_eqb (suc (length xs)) 0 (λ e. omega (arith, e)))
 
-pub lines-last : (rest : List ℕ) → 0 < length rest → length rest ≤ position_or_len (λ c. c == 10) rest → lines_from rest ≡ cleaned rest ∷ []
-lines-last [] lt le = absurd (omega arith)
-lines-last (x ∷ xs) lt le =
-    ap (λ (parts : List (List ℕ)). map cleaned (without_empty_last parts)) (split-none (λ (c : ℕ). c == 10) (x ∷ xs) le)
-    ∙ ap (map cleaned) (last_one x xs)
+-- the lines, whatever is dropped at their ends
+lines_are : (drops : Drops) (rest : List ℕ) → lines_by drops rest ≡ map (line_by drops) (without_empty_last (slice_split (λ c. c == 10) rest))
+lines_are Return rest = refl
+lines_are ReturnAndBlanks rest = refl
+
+-- a line that is ended by a line feed, and the last one where none is
+pub lines_cut : (drops : Drops) (rest : List ℕ) (at : ℕ) → at ≡ position_or_len (λ c. c == 10) rest → at < length rest → lines_by drops rest ≡ line_by drops (take at rest) ∷ lines_by drops (drop (at + 1) rest)
+lines_cut drops rest at e lt =
+    lines_are drops rest
+    ∙ ap (λ (parts : List (List ℕ)). map (line_by drops) (without_empty_last parts)) (split-at (λ (c : ℕ). c == 10) rest 0 at e lt)
+    ∙ ap (map (line_by drops)) (more_parts (take at rest) (slice_split (λ c. c == 10) (drop (at + 1) rest)) (parts_some (λ c. c == 10) (drop (at + 1) rest)))
+    ∙ ap (λ (lines : List (List ℕ)). line_by drops (take at rest) ∷ lines) (sym (lines_are drops (drop (at + 1) rest)))
+
+lines_none : (drops : Drops) → [] ≡ lines_by drops []
+lines_none Return = refl
+lines_none ReturnAndBlanks = refl
+
+pub lines_last : (drops : Drops) (rest : List ℕ) → 0 < length rest → length rest ≤ position_or_len (λ c. c == 10) rest → lines_by drops rest ≡ line_by drops rest ∷ lines_by drops []
+lines_last drops [] lt le = absurd (omega arith)
+lines_last drops (x ∷ xs) lt le =
+    lines_are drops (x ∷ xs)
+    ∙ ap (λ (parts : List (List ℕ)). map (line_by drops) (without_empty_last parts)) (split-none (λ (c : ℕ). c == 10) (x ∷ xs) le)
+    ∙ ap (map (line_by drops)) (last_one x xs)
+    ∙ ap (λ (lines : List (List ℕ)). line_by drops (x ∷ xs) ∷ lines) (lines_none drops)
+
+-- each line has a byte or more
+lines_short_by : (drops : Drops) (n : ℕ) (rest : List ℕ) → length rest ≤ n → length (lines_by drops rest) ≤ length rest
+lines_short_by drops n [] le = let none = ap (λ (lines : List (List ℕ)). length lines) (lines_none drops) in omega (arith, none)
+lines_short_by drops zero (x ∷ xs) le = absurd (omega arith)
+lines_short_by drops (suc n) (x ∷ xs) le =
+    let rest : List ℕ = x ∷ xs in
+    let at : ℕ = position_or_len (λ c. c == 10) rest in
+    elim (cases_lt at (length rest)) [
+      | inl lt ↦
+          let cut = ap (λ (lines : List (List ℕ)). length lines) (lines_cut drops rest at refl lt) in
+          let less : length (drop (at + 1) rest) ≡ length rest - (at + 1) = length-drop (at + 1) rest in
+          let more = lines_short_by drops n (drop (at + 1) rest) (omega (arith, less)) in
+          omega (arith, cut, less, more)
+      | inr le ↦
+          let last = ap (λ (lines : List (List ℕ)). length lines) (lines_last drops rest (omega arith) le) in
+          let none = ap (λ (lines : List (List ℕ)). length lines) (lines_none drops) in
+          omega (arith, last, none)
+    ]
+
+pub lines_short : (drops : Drops) (rest : List ℕ) → length (lines_by drops rest) ≤ length rest
+lines_short drops rest = lines_short_by drops (length rest) rest (omega arith)

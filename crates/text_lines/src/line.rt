@@ -3,7 +3,9 @@ ghost use Rattle.std.specs.Prelude.{◌≡◌, ◌<◌, ◌≤◌, ◌==◌, ◌
 ghost use Rattle.std.specs.List.{prefix_len, suffix_len, list_any, position_or_len};
 ghost use Rattle.text_rules.specs.Blanks.{is_blank, trim};
 ghost use Rattle.text_rules.specs.Line.{is_colon, head_of, tail_of, without_return, without_mark};
-ghost use Rattle.text_lines.specs.Lines.{lines_from, cleaned};
+ghost use Rattle.text_lines.specs.Lines.{lines_from};
+
+use crate::lines::{self, Drops};
 
 fn is_blank(c: u8) -> bool
     ensures { result ≡ is_blank c }
@@ -64,12 +66,6 @@ pub fn without_mark(bytes: &[u8]) -> &[u8]
     }
 }
 
-fn cleaned(part: &[u8]) -> &[u8]
-    ensures { result.now ≡ cleaned part.now }
-{
-    trim(without_return(part))
-}
-
 /// The first line of what is left of a text, and what is left behind it. A line has neither blanks nor a carriage
 /// return at its ends.
 pub fn cut_line(rest: &[u8]) -> (&[u8], &[u8])
@@ -77,12 +73,7 @@ pub fn cut_line(rest: &[u8]) -> (&[u8], &[u8])
     ensures cut { lines_from rest.now ≡ result.0.now ∷ lines_from result.1.now }
     ensures shorter { length result.1.now < length rest.now }
 {
-    let at = place_of(b'\n', rest);
-    if at < rest.len() {
-        (cleaned(&rest[..at]), &rest[at + 1..])
-    } else {
-        (cleaned(rest), &[])
-    }
+    lines::cut_line(Drops::ReturnAndBlanks, rest)
 }
 
 /// What stands before the first colon, or the whole text where there is none.
