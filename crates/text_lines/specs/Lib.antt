@@ -4,3 +4,4 @@ pub mod Once
 pub mod Tells
 pub mod Terms
 pub mod View
+pub mod Words
