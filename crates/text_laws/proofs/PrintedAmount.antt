@@ -95,13 +95,13 @@ all_to p q each (x ∷ xs) all =
     let parts : (p x ≡ true) × (list_all p xs ≡ true) = and_parts (p x) (list_all p xs) all in
     and_from (q x) (list_all q xs) (each x parts.0) (all_to p q each xs parts.1)
 
-count_none : (p : ℕ → Bool) (xs : List ℕ) → list_any p xs ≡ false → count_by p xs ≡ 0
+pub count_none : (p : ℕ → Bool) (xs : List ℕ) → list_any p xs ≡ false → count_by p xs ≡ 0
 count_none p [] none = refl
 count_none p (x ∷ xs) none =
     let parts : (p x ≡ false) × (list_any p xs ≡ false) = or_parts (p x) (list_any p xs) none in
     sum_by-cons (λ c. if p c then 1 else 0) x xs ∙ ap (λ b. (if b then 1 else 0) + count_by p xs) parts.0 ∙ omega (arith, count_none p xs parts.1)
 
-count_all : (p : ℕ → Bool) (xs : List ℕ) → list_all p xs ≡ true → count_by p xs ≡ length xs
+pub count_all : (p : ℕ → Bool) (xs : List ℕ) → list_all p xs ≡ true → count_by p xs ≡ length xs
 count_all p [] all = refl
 count_all p (x ∷ xs) all =
     let parts : (p x ≡ true) × (list_all p xs ≡ true) = and_parts (p x) (list_all p xs) all in

@@ -1,19 +1,20 @@
 -- The digits in front of a number with at most a point among them, and what they say of the whole.
-use Rattle.std.proofs.Common.{◌≡◌, ◌<◌, ◌≤◌, ◌+◌, ◌-◌, ◌*◌, ◌&&◌, ◌||◌, ◌==◌, Bool, true, false, not, ℕ, ◌⊎◌, List, [], ◌∷◌, ◌++◌, Option, Some, None, Result, Err, ℤ, length, take, get_or, count_by, nat_le, if◌then◌else◌, refl, sym, ◌∙◌, ap, arith, append-nil, le-leb, eqb-true, one-add, inl, inr}
+use Rattle.std.proofs.Common.{◌≡◌, ◌<◌, ◌≤◌, ◌+◌, ◌-◌, ◌*◌, ◌^◌, ◌&&◌, ◌||◌, ◌==◌, Bool, true, false, not, ℕ, ◌⊎◌, List, [], ◌∷◌, ◌++◌, Option, Some, None, Result, Err, ℤ, length, take, get_or, count_by, nat_le, if◌then◌else◌, refl, sym, ◌∙◌, ap, arith, append-nil, le-leb, eqb-true, one-add, inl, inr}
 use Rattle.std.specs.List.{list_all, list_any, position_or_len, before_first, after_first}
 use Rattle.std.specs.Char.{is_ascii_digit}
-use Rattle.std.proofs.lemmas.Bool.{true≢false, cond-true, cond-false, lt-leb, and_left, and_right, and_parts, or_from, or_parts, cases_lt, cases_Bool}
+use Rattle.std.proofs.lemmas.Bool.{true≢false, cond-true, cond-false, lt-leb, and_left, and_right, and_from, or_from, or_parts, cases_lt, cases_Bool}
 use Rattle.std.proofs.lemmas.List.{take_more}
-use Rattle.std.proofs.lemmas.List.Folds.{list_all-append}
+use Rattle.std.proofs.lemmas.List.Folds.{list_all-append, list_all_more}
 use Rattle.std.proofs.lemmas.List.Sums.{sum_by-append, sum_by-cons}
 use Rattle.text_laws.proofs.Cuts.{not_mark, none_from_all, before_mark, after_mark, any_mark}
 use Rattle.text_laws.proofs.Digits.{number-append, all-append}
-use Rattle.text_laws.proofs.PrintedAmount.{all_to, before_none, after_none}
+use Rattle.text_laws.proofs.PrintedAmount.{all_to, count_none, count_all, before_none, after_none}
 use Rattle.text_rules.specs.Amount.{is_point, is_digit_or_point, is_exponent_mark, has_minus, without_sign, number_from, number_of, is_mantissa, is_exponent, scaled, with_sign, amount_of}
 use Rattle.text_lines.specs.declared.amount.Front.{Front}
 use Rattle.text_rules.specs.declared.TextKind.TheVariants.{BadNumber}
 use Rattle.text_rules.specs.declared.TextKind.{TextKind}
-use Rattle.text_lines.specs.Numbers.{begins, behind_point, IsFront, tens_read}
+use Rattle.text_lines.specs.Numbers.{begins, IsFront, tens_read}
+use Rattle.text_lines.proofs.Tens.{room_more}
 
 -- one digit more
 pub number_more : (start : ℕ) (text : List ℕ) (i : ℕ) → i < length text → is_ascii_digit (get_or text i 0) ≡ true → number_from start (take (i + 1) text) ≡ 10 * number_from start (take i text) + (get_or text i 0 - 48)
@@ -22,17 +23,27 @@ number_more start text i lt digit =
     ∙ number-append start (take i text) (get_or text i 0 ∷ [])
     ∙ cond-true (is_ascii_digit (get_or text i 0)) (10 * number_from start (take i text) + (get_or text i 0 - 48)) (number_from start (take i text)) digit
 
-count_none : (p : ℕ → Bool) (xs : List ℕ) → list_any p xs ≡ false → count_by p xs ≡ 0
-count_none p [] none = refl
-count_none p (x ∷ xs) none =
-    let parts : (p x ≡ false) × (list_any p xs ≡ false) = or_parts (p x) (list_any p xs) none in
-    sum_by-cons (λ c. if p c then 1 else 0) x xs ∙ ap (λ b. (if b then 1 else 0) + count_by p xs) parts.0 ∙ omega (arith, count_none p xs parts.1)
+-- the digits in front that were read so far, where at most so many are read
+pub record AreRead (start most : ℕ) (text : List ℕ) (i number : ℕ) : Type 0 where
+  pub digits : list_all is_ascii_digit (take i text) ≡ true
+  pub value : number ≡ number_from start (take i text)
+  pub few : i ≤ most
+  pub room : (number + 1) * 10 ^ (most - i) ≤ (start + 1) * 10 ^ most
 
-count_all : (p : ℕ → Bool) (xs : List ℕ) → list_all p xs ≡ true → count_by p xs ≡ length xs
-count_all p [] all = refl
-count_all p (x ∷ xs) all =
-    let parts : (p x ≡ true) × (list_all p xs ≡ true) = and_parts (p x) (list_all p xs) all in
-    sum_by-cons (λ c. if p c then 1 else 0) x xs ∙ ap (λ b. (if b then 1 else 0) + count_by p xs) parts.0 ∙ omega (arith, count_all p xs parts.1)
+pub none_read : (start most : ℕ) (text : List ℕ) → AreRead start most text 0 start
+none_read start most text =
+    let same : (start + 1) * 10 ^ (most - 0) ≡ (start + 1) * 10 ^ most = ap (λ k. (start + 1) * 10 ^ k) (omega arith) in
+    record { digits = refl; value = refl; few = omega arith; room = omega arith }
+
+pub one_read : (start most : ℕ) (text : List ℕ) (i number : ℕ) → AreRead start most text i number → i < length text → is_ascii_digit (get_or text i 0) ≡ true → get_or text i 0 - 48 ≤ 9 → i < most
+    → AreRead start most text (i + 1) (10 * number + (get_or text i 0 - 48))
+one_read start most text i number read lt digit small more =
+    record {
+      digits = list_all_more is_ascii_digit text i 0 lt ∙ and_from _ _ read.digits digit;
+      value = ap (λ n. 10 * n + (get_or text i 0 - 48)) read.value ∙ sym (number_more start text i lt digit);
+      few = omega arith;
+      room = room_more number (get_or text i 0 - 48) most i _ small more read.room;
+    }
 
 -- digits alone
 module _ (ds : List ℕ) (all : list_all is_ascii_digit ds ≡ true) where
@@ -64,21 +75,6 @@ module _ (ds fs : List ℕ) (front : list_all is_ascii_digit ds ≡ true) (behin
 
   pub point_behind : length (after_first is_point (ds ++ 46 ∷ fs)) ≡ length fs
   point_behind = ap (λ (t : List ℕ). length t) (after_mark is_point ds 46 fs (no_points ds front) refl)
-
--- what stands behind a point, or that none is there
-pub at_point : (rest behind : List ℕ) → Some behind ≡ behind_point rest → rest ≡ 46 ∷ behind
-at_point [] behind e = cc
-at_point (c ∷ cs) behind e = point (is_point c) refl e where
-  point : (b : Bool) → is_point c ≡ b → Some behind ≡ (if b then Some cs else None) → c ∷ cs ≡ 46 ∷ behind
-  point true is e = let mark : c ≡ 46 = eqb-true c 46 is in cc
-  point false is e = cc
-
-pub no_point : (rest : List ℕ) → None ≡ behind_point rest → begins is_point rest ≡ false
-no_point [] e = refl
-no_point (c ∷ cs) e = none (is_point c) e where
-  none : (b : Bool) → None ≡ (if b then Some cs else None) → b ≡ false
-  none true e = cc
-  none false e = refl
 
 -- up to a byte that does not pass nothing changes
 before_one : (p : ℕ → Bool) (y : ℕ) (ys : List ℕ) → p y ≡ false → before_first p (y ∷ ys) ≡ y ∷ before_first p ys

@@ -1,8 +1,8 @@
 -- Powers of ten.
-use Rattle.std.proofs.Common.{◌≡◌, ◌<◌, ◌≤◌, ◌+◌, ◌-◌, ◌*◌, ◌/◌, ◌%◌, ◌^◌, ◌==◌, ◌⊎◌, inl, inr, ℕ, Ok, Err, nat_lt, not, if◌then◌else◌, sym, ◌∙◌, ap, arith}
+use Rattle.std.proofs.Common.{◌≡◌, ◌<◌, ◌≤◌, ◌+◌, ◌-◌, ◌*◌, ◌/◌, ◌%◌, ◌^◌, ◌==◌, ◌⊎◌, ◌&&◌, inl, inr, ℕ, zero, suc, Bool, true, List, [], ◌∷◌, length, get_or, eqb-true, mul_assoc, Ok, Err, nat_lt, not, if◌then◌else◌, refl, sym, ◌∙◌, ap, arith}
 use Rattle.std.proofs.Math.Nat.{pow-le-pow_right, mul-le-mul_left, mul-le-mul_right, mod-eq_of_lt}
 use Rattle.std.proofs.lemmas.Nat.{pow-add}
-use Rattle.std.proofs.lemmas.Bool.{lt-ltb, ne_eqb, cond-true, cond-false}
+use Rattle.std.proofs.lemmas.Bool.{lt-ltb, ne_eqb, cond-true, cond-false, and_parts}
 use Rattle.text_laws.proofs.Digits.{pow-pos}
 use Rattle.text_rules.specs.Amount.{scaled_by, amount_limit}
 use Rattle.text_rules.specs.declared.TextKind.TheVariants.{TooFine, TooLarge}
@@ -30,6 +30,43 @@ pub below_room : (n r m : ℕ) → (n + 1) * 10 ^ r ≤ m → n < m
 below_room n r m le =
     let one : (n + 1) * 1 ≤ (n + 1) * 10 ^ r = mul-le-mul_left (n + 1) (pow-pos r) in
     omega arith
+
+-- the room of a number of which so many digits have no room in 64 bits
+split_power : (most : ℕ) → 13 < most → 10 ^ most ≡ 10 ^ (most - 13) * 10 ^ 13
+split_power most lt = ap (λ k. 10 ^ k) (omega arith) ∙ pow-add 10 (most - 13) 13
+
+pub short_room : (start most : ℕ) → 13 < most → (start + 1) * 10 ^ most ≤ 10 ^ 31 → (start + 1) * 10 ^ (most - 13) ≤ 10 ^ 18
+short_room start most lt le =
+    let power = ap (λ k. (start + 1) * k) (split_power most lt) in
+    let shorter : (start + 1) * (10 ^ (most - 13) * 10 ^ 13) ≡ (start + 1) * 10 ^ (most - 13) * 10 ^ 13 = sym (mul_assoc (start + 1) (10 ^ (most - 13)) (10 ^ 13)) in
+    omega (arith, le, power, shorter)
+
+pub long_room : (start number most i : ℕ) → 13 < most → i ≤ most - 13 → (number + 1) * 10 ^ (most - 13 - i) ≤ (start + 1) * 10 ^ (most - 13) → (number + 1) * 10 ^ (most - i) ≤ (start + 1) * 10 ^ most
+long_room start number most i lt few le =
+    let power = ap (λ k. (start + 1) * k) (split_power most lt) in
+    let assoc : (start + 1) * (10 ^ (most - 13) * 10 ^ 13) ≡ (start + 1) * 10 ^ (most - 13) * 10 ^ 13 = sym (mul_assoc (start + 1) (10 ^ (most - 13)) (10 ^ 13)) in
+    let rest : 10 ^ (most - i) ≡ 10 ^ (most - 13 - i) * 10 ^ 13 = ap (λ k. 10 ^ k) (omega arith) ∙ pow-add 10 (most - 13 - i) 13 in
+    let front = ap (λ k. (number + 1) * k) rest in
+    let same : (number + 1) * (10 ^ (most - 13 - i) * 10 ^ 13) ≡ (number + 1) * 10 ^ (most - 13 - i) * 10 ^ 13 = sym (mul_assoc (number + 1) (10 ^ (most - 13 - i)) (10 ^ 13)) in
+    omega (arith, le, power, assoc, front, same)
+
+-- a table of powers
+abbrev are_tens : ℕ → List ℕ → Bool
+are_tens k [] = true
+are_tens k (x ∷ xs) = x == 10 ^ k && are_tens (k + 1) xs
+
+tens_at : (from : ℕ) (xs : List ℕ) → are_tens from xs ≡ true → (k : ℕ) → k < length xs → get_or xs k 0 ≡ 10 ^ (from + k)
+tens_at from [] are k lt = absurd (omega arith)
+tens_at from (x ∷ xs) are zero lt = eqb-true x (10 ^ from) (and_parts (x == 10 ^ from) (are_tens (from + 1) xs) are).0 ∙ ap (λ n. 10 ^ n) (omega arith)
+tens_at from (x ∷ xs) are (suc k) lt = tens_at (from + 1) xs (and_parts (x == 10 ^ from) (are_tens (from + 1) xs) are).1 k (omega arith) ∙ ap (λ n. 10 ^ n) (omega arith)
+
+abbrev pub tens : List ℕ
+tens =
+    1 ∷ 10 ∷ 100 ∷ 1000 ∷ 10000 ∷ 100000 ∷ 1000000 ∷ 10000000 ∷ 100000000 ∷ 1000000000 ∷ 10000000000 ∷ 100000000000
+    ∷ 1000000000000 ∷ 10000000000000 ∷ 100000000000000 ∷ 1000000000000000 ∷ []
+
+pub ten_at : (k : ℕ) → k ≤ 15 → get_or tens k 0 ≡ 10 ^ k
+ten_at k le = tens_at 0 tens refl k (omega arith) ∙ ap (λ n. 10 ^ n) (omega arith)
 
 -- a number that grows beyond the limit
 large : (number tens : ℕ) → amount_limit < number * 10 ^ tens → Err TooLarge ≡ scaled_by number tens 0

@@ -10,10 +10,6 @@ abbrev pub begins : (ℕ → Bool) → List ℕ → Bool
 begins p [] = false
 begins p (c ∷ cs) = p c
 
-abbrev pub behind_point : List ℕ → Option (List ℕ)
-behind_point [] = None
-behind_point (c ∷ cs) = if is_point c then Some cs else None
-
 -- the digits in front of a text with at most a point among them, and what is read of them; they end where no digit follows, or
 -- where they are more than a number has
 pub record IsFront (text : List ℕ) (front : Front) : Type 0 where

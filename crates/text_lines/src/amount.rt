@@ -1,10 +1,10 @@
 //! Numbers, in millionths.
-ghost use Rattle.std.specs.Prelude.{◌≡◌, ◌≤◌, ◌<◌, ◌+◌, ◌*◌, ◌^◌, ◌-◌, ◌++◌, true, false, length, Ok, Err, Some, None, IfOk, IfSome, nat_lt, option_map, if◌then◌else◌};
+ghost use Rattle.std.specs.Prelude.{◌≡◌, ◌≤◌, ◌<◌, ◌+◌, ◌*◌, ◌^◌, ◌-◌, ◌++◌, ◌∷◌, true, false, length, Ok, Err, Some, None, IfOk, IfSome, IsNone, nat_lt, if◌then◌else◌};
 ghost use Rattle.std.specs.List.{list_all};
 ghost use Rattle.std.specs.Char.{is_ascii_digit};
-ghost use Rattle.text_rules.specs.Amount.{is_exponent_mark, has_minus, without_sign, number_from, number_of, is_exponent, amount_limit, scaled, scaled_by, with_sign, amount_of};
+ghost use Rattle.text_rules.specs.Amount.{is_point, is_exponent_mark, has_minus, without_sign, number_from, number_of, is_exponent, amount_limit, scaled, scaled_by, with_sign, amount_of};
 ghost use Rattle.text_rules.specs.Fault.{millionths};
-ghost use Rattle.text_lines.specs.Numbers.{begins, behind_point, tens_read, IsFront};
+ghost use Rattle.text_lines.specs.Numbers.{begins, tens_read, IsFront};
 
 use text_rules::TextKind;
 
@@ -12,6 +12,28 @@ const LIMIT: u128 = 1_000_000_000_000_000;
 
 // One digit more than a number may have: as many are read.
 const MOST: usize = 31;
+
+// So many of them have no room in 64 bits.
+const LONG: usize = 13;
+
+const TENS: [u64; 16] = [
+    1,
+    10,
+    100,
+    1_000,
+    10_000,
+    100_000,
+    1_000_000,
+    10_000_000,
+    100_000_000,
+    1_000_000_000,
+    10_000_000_000,
+    100_000_000_000,
+    1_000_000_000_000,
+    10_000_000_000_000,
+    100_000_000_000_000,
+    1_000_000_000_000_000,
+];
 
 // What a text begins with: digits with at most a point among them.
 #[derive(Drop)]
@@ -42,22 +64,44 @@ fn without_sign(text: &[u8]) -> &[u8]
     ensures { result.now ≡ without_sign text.now }
 {
     match text {
-        [first, rest @ ..] if *first == b'+' || *first == b'-' => rest,
+        [b'+' | b'-', rest @ ..] => rest,
         _ => text,
     }
 }
 
 fn behind_point(text: &[u8]) -> Option<&[u8]>
-    ensures { option_map (λ rest. rest.now) result ≡ behind_point text.now }
+    ensures some { IfSome result (λ rest. text.now ≡ 46 ∷ rest.now) }
+    ensures none { IsNone result → begins is_point text.now ≡ false }
 {
     match text {
-        [first, rest @ ..] if *first == b'.' => Some(rest),
+        [b'.', rest @ ..] => Some(rest),
         _ => None,
     }
 }
 
 // The digits in front, at most so many, with the number that they spell behind that of the start, and what stands behind them.
-fn digits_in_front(start: u128, most: usize, text: &[u8]) -> (u128, &[u8], &[u8])
+fn short_digits(start: u64, most: usize, text: &[u8]) -> (u64, &[u8], &[u8])
+    requires { (start + 1) * 10 ^ most ≤ 10 ^ 18 }
+    ensures cut { text.now ≡ result.1.now ++ result.2.now }
+    ensures digits { list_all is_ascii_digit result.1.now ≡ true }
+    ensures value { result.0 ≡ number_from start result.1.now }
+    ensures few { length result.1.now ≤ most }
+    ensures room { (result.0 + 1) * 10 ^ (most - length result.1.now) ≤ (start + 1) * 10 ^ most }
+    ensures end { length result.1.now < most → begins is_ascii_digit result.2.now ≡ false }
+{
+    let mut number = start;
+    for (i, c) in text.iter().enumerate() {
+        if !c.is_ascii_digit() || i == most {
+            let (digits, rest) = text.split_at(i);
+            return (number, digits, rest);
+        }
+        number = 10 * number + (*c - b'0') as u64;
+    }
+    (number, text, &[])
+}
+
+// The same in 128 bits.
+fn long_digits(start: u128, most: usize, text: &[u8]) -> (u128, &[u8], &[u8])
     requires { (start + 1) * 10 ^ most ≤ 10 ^ 31 }
     ensures cut { text.now ≡ result.1.now ++ result.2.now }
     ensures digits { list_all is_ascii_digit result.1.now ≡ true }
@@ -75,6 +119,26 @@ fn digits_in_front(start: u128, most: usize, text: &[u8]) -> (u128, &[u8], &[u8]
         number = 10 * number + (*c - b'0') as u128;
     }
     (number, text, &[])
+}
+
+// The same, in 64 bits where they have room there.
+#[tactic(auto, using(crate::proofs::Tens::short_room, crate::proofs::Tens::long_room))]
+fn digits_in_front(start: u128, most: usize, text: &[u8]) -> (u128, &[u8], &[u8])
+    requires { (start + 1) * 10 ^ most ≤ 10 ^ 31 }
+    ensures cut { text.now ≡ result.1.now ++ result.2.now }
+    ensures digits { list_all is_ascii_digit result.1.now ≡ true }
+    ensures value { result.0 ≡ number_from start result.1.now }
+    ensures few { length result.1.now ≤ most }
+    ensures room { (result.0 + 1) * 10 ^ (most - length result.1.now) ≤ (start + 1) * 10 ^ most }
+    ensures end { length result.1.now < most → begins is_ascii_digit result.2.now ≡ false }
+{
+    if most > LONG {
+        let (number, digits, rest) = short_digits(start as u64, most - LONG, text);
+        if digits.len() < most - LONG {
+            return (number as u128, digits, rest);
+        }
+    }
+    long_digits(start, most, text)
 }
 
 fn front_of(text: &[u8]) -> Front<'_>
@@ -142,6 +206,14 @@ fn within_limit(size: u128) -> Result<u64, TextKind>
     }
 }
 
+#[tactic(auto, using(crate::proofs::Tens::ten_at))]
+fn power_of_ten(tens: usize) -> u64
+    requires { tens ≤ 15 }
+    ensures { result ≡ 10 ^ tens }
+{
+    TENS[tens]
+}
+
 // The number times so many tens.
 #[tactic(auto, using(crate::proofs::Tens::grown_large))]
 fn grown(number: u128, tens: usize) -> Result<u64, TextKind>
@@ -151,7 +223,7 @@ fn grown(number: u128, tens: usize) -> Result<u64, TextKind>
     if number > LIMIT || tens > 15 {
         return Err(TextKind::TooLarge);
     }
-    within_limit(number * 10u64.pow(tens as u32) as u128)
+    within_limit(number * power_of_ten(tens) as u128)
 }
 
 #[tactic(auto, using(crate::proofs::Tens::shrunk_far, crate::proofs::Tens::power_fits, crate::proofs::Tens::power_some))]

@@ -1,7 +1,7 @@
-use Rattle.std.proofs.Common.{◌∷◌, ◌++◌, List, ℕ, ap, sym, ◌∙◌, append_assoc, arith}
+use Rattle.std.proofs.Common.{◌∷◌, ◌++◌, List, ℕ, refl, ap, sym, ◌∙◌, append_assoc, arith}
 use Rattle.text_rules.specs.Amount.{number_from}
 use Rattle.text_laws.proofs.Digits.{number-append}
-use Rattle.text_lines.proofs.Fronts.{digits_pass, points_none, digits_count, behind_none, point_passes, point_one, point_count, point_behind, at_point, no_point}
+use Rattle.text_lines.proofs.Fronts.{digits_pass, points_none, digits_count, behind_none, point_passes, point_one, point_count, point_behind}
 use Rattle.text_lines.proofs.amount.front_of.Goals as goal
 
 pub returns-in-Some : goal.returns-in-Some
@@ -15,7 +15,7 @@ returns-in-Some c =
     let few = behind.ensures.few in
     record {
       part = ds ++ 46 ∷ fs;
-      cut = front.ensures.cut ∙ ap (λ (t : List ℕ). ds ++ t) (at_point front.result.2.now c.in-Some.behind.now c.in-Some.ensures ∙ ap (λ (t : List ℕ). 46 ∷ t) behind.ensures.cut) ∙ sym (append_assoc ds (46 ∷ fs) behind.result.2.now);
+      cut = front.ensures.cut ∙ ap (λ (t : List ℕ). ds ++ t) (c.in-Some.ensures.some ∙ ap (λ (t : List ℕ). 46 ∷ t) behind.ensures.cut) ∙ sym (append_assoc ds (46 ∷ fs) behind.result.2.now);
       passes = point_passes ds fs front.ensures.digits behind.ensures.digits;
       points = omega (arith, one);
       digits = point_count ds fs front.ensures.digits behind.ensures.digits;
@@ -40,6 +40,6 @@ returns-in-None c =
       number = sym front.ensures.value;
       places = behind_none ds front.ensures.digits;
       digit_ends = front.ensures.end;
-      point_ends = λ none. no_point front.result.2.now c.in-None.ensures;
+      point_ends = λ none. c.in-None.ensures.none refl;
       few = omega arith;
     }

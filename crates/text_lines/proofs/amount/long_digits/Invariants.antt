@@ -1,0 +1,9 @@
+use Rattle.std.proofs.Common.{◌<◌, ◌^◌}
+use Rattle.text_lines.proofs.Fronts.{AreRead}
+use Rattle.text_lines.proofs.amount.long_digits.Given as goal
+
+abbrev pub invariant-loop-i : goal.invariant-loop-i
+invariant-loop-i l = record {
+  read : AreRead l.start l.most l.text l.i l.number;
+  bound : l.number < 10 ^ 31;
+}
