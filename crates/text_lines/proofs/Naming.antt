@@ -1,10 +1,10 @@
 -- Names in a table, and names that come once.
-use Rattle.std.proofs.Common.{◌≡◌, ℕ, ◌+◌, Bool, true, false, cond, not, nat_lt, ◌||◌, Option, Some, None, List, [], ◌∷◌, ◌++◌, refl, sym, ap, ◌∙◌, if◌then◌else◌, append_assoc, append-nil}
+use Rattle.std.proofs.Common.{◌≡◌, ◌<◌, ℕ, ◌+◌, Bool, true, false, cond, not, nat_lt, ◌||◌, Option, Some, None, List, [], ◌∷◌, ◌++◌, length, drop, get_or, refl, sym, ap, ◌∙◌, if◌then◌else◌, append_assoc, append-nil}
 use Rattle.std.specs.Borrow.{Bor}
 use Rattle.std.specs.Str.{bytes_eq}
 use Rattle.std.specs.List.{list_any, position, position_or_len}
 use Rattle.std.proofs.Math.Bool.{or_assoc, or_comm}
-use Rattle.std.proofs.lemmas.List.{length-map, map-append}
+use Rattle.std.proofs.lemmas.List.{length-map, map-append, at_drop_more}
 use Rattle.std.proofs.lemmas.List.Folds.{list_any-append}
 use Rattle.problem_rules.specs.Names.{is_among, has_double}
 pub use Rattle.problem_rules.proofs.ItemLemmas.{bytes_eq-sym}
@@ -92,3 +92,22 @@ once-all names = once_all [] names ∙ ap (λ (b : Bool). if (b || has_double na
 pub with_new : (b : Bool) (names : List (List ℕ)) (name : List ℕ) → b ≡ false → (if b then names else names ++ name ∷ []) ≡ names ++ name ∷ []
 with_new true names name e = cc
 with_new false names name e = refl
+
+-- the next name, which is new or was met before
+next_name : (set : List (List ℕ)) (names : List (Bor (List ℕ))) (i : ℕ) (d : Bor (List ℕ)) → i < length names
+    → once_from set (texts (drop i names)) ≡ (if is_among set (get_or names i d).now then None else once_from (with_name set (get_or names i d).now) (texts (drop (i + 1) names)))
+next_name set names i d lt = at_drop_more (λ (rest : List (Bor (List ℕ))). once_from set (texts rest)) names i d lt
+
+pub once_met : (set : List (List ℕ)) (names : List (Bor (List ℕ))) (i : ℕ) (d : Bor (List ℕ)) (whole : Option (List (List ℕ))) → i < length names → false ≡ not (is_among set (get_or names i d).now)
+    → once_from set (texts (drop i names)) ≡ whole → None ≡ whole
+once_met set names i d whole lt met e = met_by (is_among set (get_or names i d).now) met (sym (next_name set names i d lt) ∙ e) where
+  met_by : (b : Bool) → false ≡ not b → (if b then None else once_from (with_name set (get_or names i d).now) (texts (drop (i + 1) names))) ≡ whole → None ≡ whole
+  met_by true met e = e
+  met_by false met e = cc
+
+pub once_new : (set next : List (List ℕ)) (names : List (Bor (List ℕ))) (i : ℕ) (d : Bor (List ℕ)) (whole : Option (List (List ℕ))) → i < length names → true ≡ not (is_among set (get_or names i d).now)
+    → next ≡ with_name set (get_or names i d).now → once_from set (texts (drop i names)) ≡ whole → once_from next (texts (drop (i + 1) names)) ≡ whole
+once_new set next names i d whole lt new added e = new_by (is_among set (get_or names i d).now) new (sym (next_name set names i d lt) ∙ e) where
+  new_by : (b : Bool) → true ≡ not b → (if b then None else once_from (with_name set (get_or names i d).now) (texts (drop (i + 1) names))) ≡ whole → once_from next (texts (drop (i + 1) names)) ≡ whole
+  new_by true new e = cc
+  new_by false new e = ap (λ (seen : List (List ℕ)). once_from seen (texts (drop (i + 1) names))) added ∙ e

@@ -1,5 +1,6 @@
 -- Terms and sides that are read one by one.
-use Rattle.std.proofs.Common.{◌≡◌, ◌==◌, ◌<◌, ◌≤◌, ◌+◌, ◌||◌, ◌++◌, ℕ, Bool, true, false, not, List, [], ◌∷◌, Option, Some, None, length, map, flat_map, option_map, if◌then◌else◌, refl, ap, sym, ◌∙◌, arith, append_assoc, take, drop}
+use Rattle.std.proofs.Common.{◌≡◌, ◌==◌, ◌<◌, ◌≤◌, ◌+◌, ◌||◌, ◌++◌, ℕ, Bool, true, false, not, List, [], ◌∷◌, Option, Some, None, length, map, flat_map, option_map, codes, get_or, if◌then◌else◌, refl, ap, sym, ◌∙◌, arith, append_assoc, take, drop}
+use Rattle.std.specs.Borrow.{Bor}
 use Rattle.std.specs.List.{list_any, slice_split, position_or_len}
 use Rattle.std.proofs.lemmas.Bool.{ne_eqb}
 use Rattle.std.proofs.lemmas.List.{length-map}
@@ -7,6 +8,7 @@ use Rattle.std.proofs.lemmas.List.Folds.{list_any-append}
 use Rattle.std.proofs.lemmas.List.Splits.{length-slice_split}
 use Rattle.text_lines.proofs.Cutting.{split-at, split-none}
 use Rattle.text_lines.specs.Terms.{Pair, is_bad_term, pair_of, begins, terms_read, both_read, only_two, sides_read, is_plus, is_arrow}
+use Rattle.text_lines.specs.View.{texts}
 use Rattle.text_rules.specs.Field.{terms_of}
 
 more_good : (b c : Bool) (pair : Pair) (pairs : List Pair) (t : Pair) → (if b then None else Some t) ≡ Some pair → (if b || c then None else Some (t ∷ pairs)) ≡ option_map (λ more. pair ∷ more) (if c then None else Some pairs)
@@ -100,3 +102,15 @@ once_parted tokens at e lt none =
 pub terms_some : (tokens : List (List ℕ)) → 0 < length tokens → slice_split is_plus tokens ≡ terms_of tokens
 terms_some [] lt = absurd (omega arith)
 terms_some (token ∷ tokens) lt = refl
+
+-- the term of one token, and of two
+pub one_token : (tokens : List (Bor (List ℕ))) (d : Bor (List ℕ)) (number : List ℕ) → length tokens ≡ 1 → number ≡ codes "1" → Some (number, (get_or tokens 0 d).now) ≡ begins (texts tokens)
+one_token [] d number e is = absurd (omega (arith, e))
+one_token (name ∷ []) d number e is = ap (λ (n : List ℕ). Some (n, name.now)) is
+one_token (one ∷ name ∷ more) d number e is = absurd (omega (arith, e))
+
+pub two_tokens : (tokens : List (Bor (List ℕ))) (d e : Bor (List ℕ)) → length tokens ≡ 2 → Some ((get_or tokens 0 d).now, (get_or tokens 1 e).now) ≡ begins (texts tokens)
+two_tokens [] d e two = absurd (omega (arith, two))
+two_tokens (name ∷ []) d e two = absurd (omega (arith, two))
+two_tokens (number ∷ name ∷ []) d e two = refl
+two_tokens (number ∷ name ∷ one ∷ more) d e two = absurd (omega (arith, two))

@@ -6,7 +6,7 @@ ghost use Rattle.text_lines.specs.declared.fault.LineFault.TheVariants as line;
 use std::alloc::{AllocError, AllocFailed};
 
 /// The first fault of a text, or want of memory.
-#[derive(Clone, Copy, Debug, PartialEq, Eq)]
+#[derive(Clone, Copy)]
 pub enum TextFault<K> {
     /// Want of memory, at any moment.
     Memory,
@@ -15,7 +15,7 @@ pub enum TextFault<K> {
 }
 
 /// The fault of a line, or want of memory.
-#[derive(Clone, Copy, Debug, PartialEq, Eq)]
+#[derive(Clone, Copy)]
 pub enum LineFault<K> {
     Memory,
     Kind(K),

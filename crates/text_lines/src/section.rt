@@ -4,6 +4,7 @@ ghost use Rattle.text_rules.specs.Line.{is_header, section_named, section_after}
 
 use crate::line::{has_colon, head_of, tail_of};
 use crate::name::is_name;
+use crate::words::looked_up;
 use text_rules::Section;
 
 /// Whether the line is a header: one name and a colon with nothing behind it.
@@ -13,25 +14,20 @@ pub fn is_header(text: &[u8]) -> bool
     has_colon(text) && is_name(head_of(text)) && tail_of(text).is_empty()
 }
 
+const SECTIONS: [(&[u8], Section); 6] = [
+    (b"measurement_units", Section::MeasurementUnits),
+    (b"defaults", Section::Defaults),
+    (b"materials", Section::Materials),
+    (b"operating_units", Section::OperatingUnits),
+    (b"material_to_operating_unit_flow_rates", Section::Rates),
+    (b"mutual_exclusions", Section::Exclusions),
+];
+
 /// The section of this name.
 pub fn section_named(name: &[u8]) -> Option<Section>
     ensures { result ≡ section_named name.now }
 {
-    if name == b"measurement_units".as_slice() {
-        Some(Section::MeasurementUnits)
-    } else if name == b"defaults".as_slice() {
-        Some(Section::Defaults)
-    } else if name == b"materials".as_slice() {
-        Some(Section::Materials)
-    } else if name == b"operating_units".as_slice() {
-        Some(Section::OperatingUnits)
-    } else if name == b"material_to_operating_unit_flow_rates".as_slice() {
-        Some(Section::Rates)
-    } else if name == b"mutual_exclusions".as_slice() {
-        Some(Section::Exclusions)
-    } else {
-        None
-    }
+    looked_up(&SECTIONS, name)
 }
 
 /// The section that a line stands in or begins, where this section stands before it.

@@ -10,14 +10,14 @@ use crate::line::tail_of;
 use std::alloc::{AllocError, Global};
 
 /// A term: a material with the number that stands before it, which is `1` where none stands.
-#[derive(Clone, Copy, Debug, PartialEq, Eq)]
+#[derive(Clone, Copy)]
 pub struct Term<'a> {
     pub number: &'a [u8],
     pub name: &'a [u8],
 }
 
 /// The terms on both sides of the arrow.
-#[derive(Debug, Drop)]
+#[derive(Drop)]
 pub struct Sides<'a> {
     pub inputs: Vec<Term<'a>>,
     pub outputs: Vec<Term<'a>>,
