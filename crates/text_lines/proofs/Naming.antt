@@ -9,7 +9,8 @@ use Rattle.std.proofs.lemmas.List.Folds.{list_any-append}
 use Rattle.problem_rules.specs.Names.{is_among, has_double}
 pub use Rattle.problem_rules.proofs.ItemLemmas.{bytes_eq-sym}
 use Rattle.text_lines.specs.View.{texts}
-use Rattle.text_lines.specs.Once.{with_name, once}
+use Rattle.text_rules.specs.Fault.{with_name}
+use Rattle.text_lines.specs.Once.{once}
 
 -- a table has the text where it is among the names
 pub has_listed : (text : List ℕ) (keys : List (Bor (List ℕ))) → list_any (λ k. bytes_eq text k.now) keys ≡ is_among (texts keys) text

@@ -1,8 +1,8 @@
--- Terms as pairs of a number and a name, where each has one token or two.
-use Rattle.std.specs.Prelude.{◌==◌, ◌||◌, ℕ, Bool, List, [], ◌∷◌, Option, Some, None, length, map, flat_map, codes, not, nat_lt, slice_index_or, if◌then◌else◌}
+-- Terms and sides as they are read one by one, and those of the code as pairs of a number and a name.
+use Rattle.std.specs.Prelude.{ℕ, Bool, List, [], ◌∷◌, Option, Some, None, map, codes, if◌then◌else◌}
 use Rattle.std.specs.List.{list_any}
 use Rattle.std.specs.Str.{bytes_eq}
-use Rattle.text_rules.specs.Field.{material_of, rate_of}
+use Rattle.text_rules.specs.Term.{is_bad_term, Pair, pair_of}
 use Rattle.text_lines.specs.declared.term.Term.{Term}
 use Rattle.text_lines.specs.declared.term.Sides.{Sides}
 
@@ -11,17 +11,6 @@ is_plus token = bytes_eq token (codes "+")
 
 abbrev pub is_arrow : List ℕ → Bool
 is_arrow token = bytes_eq token (codes "=>")
-
--- a term of no token or of more than two
-abbrev pub is_bad_term : List (List ℕ) → Bool
-is_bad_term term = length term == 0 || nat_lt 2 (length term)
-
--- a number and a name
-abbrev pub Pair : Type 0
-Pair = List ℕ × List ℕ
-
-abbrev pub pair_of : List (List ℕ) → Pair
-pair_of term = (rate_of term, material_of term)
 
 abbrev pub begins : List (List ℕ) → Option Pair
 begins term = if is_bad_term term then None else Some (pair_of term)
@@ -39,14 +28,6 @@ abbrev pub both_read : Option (List Pair) → Option (List Pair) → Option (Lis
 both_read None right = None
 both_read (Some left) None = None
 both_read (Some left) (Some right) = Some (left, right)
-
-abbrev pub has_bad_sides : List (List (List (List ℕ))) → Bool
-has_bad_sides sides = not (length sides == 2) || list_any is_bad_term (flat_map (λ side. side) sides)
-
--- the terms of both sides, where there are two
-abbrev pub sides_read : List (List (List (List ℕ))) → Option (List Pair × List Pair)
-sides_read sides =
-    if has_bad_sides sides then None else Some (map pair_of (slice_index_or sides 0 []), map pair_of (slice_index_or sides 1 []))
 
 abbrev pub term_view : Term → Pair
 term_view term = (term.number.now, term.name.now)

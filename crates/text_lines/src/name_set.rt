@@ -4,7 +4,8 @@ ghost use Rattle.std.specs.List.{position};
 ghost use Rattle.std.specs.Str.{bytes_eq};
 ghost use Rattle.problem_rules.specs.Names.{is_among};
 ghost use Rattle.text_lines.specs.View.{texts};
-ghost use Rattle.text_lines.specs.Once.{with_name, once};
+ghost use Rattle.text_rules.specs.Fault.{with_name};
+ghost use Rattle.text_lines.specs.Once.{once};
 
 use indexmap::IndexSet;
 use std::alloc::{AllocError, Global};

@@ -4,7 +4,8 @@ ghost use Rattle.std.specs.List.{slice_split, position_or_len};
 ghost use Rattle.std.specs.Str.{bytes_eq};
 ghost use Rattle.text_rules.specs.Field.{tokens_of, terms_of, sides_of};
 ghost use Rattle.text_lines.specs.View.{texts};
-ghost use Rattle.text_lines.specs.Terms.{terms_view, terms_read, both_read, only_two, sides_view, sides_read, begins, is_arrow};
+ghost use Rattle.text_rules.specs.Term.{sides_read};
+ghost use Rattle.text_lines.specs.Terms.{terms_view, terms_read, both_read, only_two, sides_view, begins, is_arrow};
 
 use crate::line::tail_of;
 use std::alloc::{AllocError, Global};

@@ -7,7 +7,8 @@ use Rattle.std.proofs.lemmas.List.{take-map, drop-map, length-map}
 use Rattle.text_lines.proofs.Borrowed.{texts-long}
 use Rattle.text_lines.specs.declared.term.Term.{Term}
 use Rattle.text_lines.specs.View.{texts}
-use Rattle.text_lines.specs.Terms.{Pair, terms_view, terms_read, begins, is_plus}
+use Rattle.text_rules.specs.Term.{Pair}
+use Rattle.text_lines.specs.Terms.{terms_view, terms_read, begins, is_plus}
 use Rattle.text_lines.proofs.Cutting.{split-first, split-at, behind}
 use Rattle.text_lines.proofs.Sides.{terms-more, terms-bad, terms_some}
 use Rattle.text_lines.proofs.term.terms_of.Goals as goal
