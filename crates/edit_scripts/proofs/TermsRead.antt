@@ -2,7 +2,8 @@
 use Rattle.std.proofs.Common.{◌≡◌, ◌∷◌, [], ℕ, List, Option, Some, None, map, option_map, refl, ap, ◌∙◌, arith}
 use Rattle.std.proofs.lemmas.Bool.Decides.{nat_tests}
 use Rattle.text_rules.specs.Field.{terms_of}
-use Rattle.text_lines.specs.Terms.{begins, terms_read, both_read, sides_read}
+use Rattle.text_rules.specs.Term.{sides_read}
+use Rattle.text_lines.specs.Terms.{begins, terms_read, both_read}
 use Rattle.text_lines.proofs.Sides.{term-good, term-bad, sides-two, sides-none}
 use Rattle.script_rules.specs.Term.{Pair, pair_of, with_pair, pairs_of, both, both_sides}
 
