@@ -6,9 +6,8 @@ use Rattle.std.proofs.lemmas.List.Sums.{length-filter, count_by-le-length}
 use Rattle.text_rules.specs.declared.Section.{Section}
 use Rattle.text_rules.specs.declared.Section.TheVariants.{OperatingUnits, Rates}
 use Rattle.problem_rules.specs.Names.{is_among}
-use Rattle.text_rules.specs.Line.{Placed, is_section, head_of}
-use Rattle.pns_text.specs.Kept.{is_at, lines_at, heads_at}
-use Rattle.pns_text.specs.Value.{bare_lines, unit_names_from}
+use Rattle.text_rules.specs.Line.{Placed, is_section, head_of, is_at, lines_at, heads_at}
+use Rattle.text_rules.specs.Value.{bare_lines, unit_names_from}
 
 place_few : (b : Bool) (at long limit : ℕ) → nat_lt at long ≡ b → long < limit → unwrap_or (cond b (Some at) None) 0 < limit
 place_few true at long limit e few = let below = ltb-true at long e in omega (arith, below, few)

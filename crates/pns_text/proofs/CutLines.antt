@@ -1,67 +1,30 @@
 -- What is read of a line that was cut is what the grammar reads of its text.
-use Rattle.std.proofs.Common.{◌≡◌, ◌==◌, ◌||◌, ◌++◌, Bool, true, false, not, ℕ, List, [], ◌∷◌, length, map, flat_map, slice_index_or, Some, None, if◌then◌else◌, refl, sym, ◌∙◌, ap, arith, option_map, Option, find}
-use Rattle.std.specs.List.{list_any}
-use Rattle.std.proofs.lemmas.Bool.{ne_eqb}
-use Rattle.std.proofs.lemmas.List.Folds.{list_any-append}
+use Rattle.std.proofs.Common.{◌≡◌, Bool, true, false, ℕ, List, [], ◌∷◌, ◌++◌, map, slice_index_or, Some, None, if◌then◌else◌, refl, sym, ◌∙◌, ap, option_map, Option, find}
 use Rattle.std.proofs.lemmas.Simd.{map-map}
 use Rattle.std.specs.Str.{bytes_eq}
-use Rattle.problem_rules.specs.Names.{is_among}
 use Rattle.problem_rules.specs.Problem as rules
-use Rattle.text_rules.specs.Field.{material_of, sides_of}
 use Rattle.text_rules.specs.declared.TextKind.{TextKind}
 use Rattle.text_rules.specs.declared.Section.{Section}
 use Rattle.text_rules.specs.declared.Section.TheVariants.{Defaults, Materials, OperatingUnits, Rates, Exclusions}
-use Rattle.text_rules.specs.Line.{Placed, head_of}
-use Rattle.text_lines.specs.Terms.{Pair, pair_of, is_bad_term, has_bad_sides, sides_read, sides_view, term_view, terms_view}
+use Rattle.text_rules.specs.Line.{Placed, head_of, lines_at}
+use Rattle.text_rules.specs.Field.{sides_of}
+use Rattle.text_rules.specs.Term.{Pair, pair_of, has_bad_sides, sides_read, pairs_at}
+use Rattle.text_rules.specs.Value.{item_fields, Settings, Names, material_kind, unit_kind, rates_kind, exclusion_kind, line_meaning, term_from, both_from, sides_or, sides_named}
 use Rattle.text_lines.specs.View.{texts}
+use Rattle.text_lines.specs.Terms.{sides_view, term_view, terms_view}
 use Rattle.text_lines.specs.declared.term.Sides.{Sides}
 use Rattle.text_lines.specs.declared.term.Term.{Term}
-use Rattle.pns_text.specs.Form.{names_of}
-use Rattle.pns_text.specs.Kept.{lines_at, item_fields}
-use Rattle.pns_text.specs.declared.settings.Settings.{Settings}
-use Rattle.pns_text.specs.declared.meaning.Names.{Names}
-use Rattle.pns_text.specs.Meaning.{material_kind, unit_kind, rates_kind, exclusion_kind, line_meaning}
-use Rattle.pns_text.specs.Value.{term_from, pairs_at, both_from, sides_or, sides_named}
 use Rattle.pns_text.specs.Walk.{kept_after}
 use Rattle.pns_text.specs.Cut.{section_of, IsCutOf, IsCutAt, line_cut}
 use Rattle.pns_text.specs.declared.cut.Cut.{Cut}
 use Rattle.pns_text.specs.declared.cut.Cut.TheVariants.{Default, Material, OperatingUnit, Flows, Exclusion}
-use Rattle.pns_text.proofs.Finding.{any_map, or_none}
 
 are_by : (b : Bool) (found sides : List Pair × List Pair) → Some found ≡ (if b then None else Some sides) → found ≡ sides
 are_by true found sides e = cc
 are_by false found sides e = cc
 
-pub sides_are : (sides : List (List (List (List ℕ)))) (found : List Pair × List Pair) → Some found ≡ sides_read sides → found ≡ (map pair_of (slice_index_or sides 0 []), map pair_of (slice_index_or sides 1 []))
+sides_are : (sides : List (List (List (List ℕ)))) (found : List Pair × List Pair) → Some found ≡ sides_read sides → found ≡ (map pair_of (slice_index_or sides 0 []), map pair_of (slice_index_or sides 1 []))
 sides_are sides found e = are_by (has_bad_sides sides) found (map pair_of (slice_index_or sides 0 []), map pair_of (slice_index_or sides 1 [])) e
-
-not_found : (b : Bool) (found sides : List Pair × List Pair) → b ≡ true → Some found ≡ (if b then None else Some sides) → ⊥
-not_found true found sides bad e = cc
-not_found false found sides bad e = cc
-
-any_names : (q : List ℕ → Bool) (side : List (List (List ℕ))) → list_any q (names_of (map pair_of side)) ≡ list_any (λ term. q (material_of term)) side
-any_names q side = any_map q (λ (term : Pair). term.1) (map pair_of side) ∙ any_map (λ (term : Pair). q term.1) pair_of side
-
-any_two : (q : List ℕ → Bool) (left right : List (List (List ℕ))) → (list_any q (names_of (map pair_of left)) || list_any q (names_of (map pair_of right))) ≡ list_any (λ term. q (material_of term)) (left ++ (right ++ []))
-any_two q left right =
-    ap (λ (b : Bool). b || list_any q (names_of (map pair_of right))) (any_names q left)
-    ∙ ap (λ (b : Bool). list_any (λ term. q (material_of term)) left || b)
-    (any_names q right ∙ sym (or_none (list_any (λ term. q (material_of term)) right)) ∙ sym (list_any-append (λ term. q (material_of term)) right []))
-    ∙ sym (list_any-append (λ term. q (material_of term)) left (right ++ []))
-
--- a test of the materials of both sides
-pub any_of_both : (q : List ℕ → Bool) (sides : List (List (List (List ℕ)))) (found : List Pair × List Pair) → Some found ≡ sides_read sides
-    → (list_any q (names_of found.0) || list_any q (names_of found.1)) ≡ list_any (λ term. q (material_of term)) (flat_map (λ side. side) sides)
-any_of_both q [] found e = absurd (not_found (has_bad_sides []) found ([], []) refl e)
-any_of_both q (one ∷ []) found e = absurd (not_found (has_bad_sides (one ∷ [])) found (map pair_of one, []) refl e)
-any_of_both q (left ∷ right ∷ []) found e =
-    let same : found ≡ (map pair_of left, map pair_of right) = sides_are (left ∷ right ∷ []) found e in
-    ap (λ (both : List Pair × List Pair). list_any q (names_of both.0) || list_any q (names_of both.1)) same ∙ any_two q left right
-any_of_both q (left ∷ right ∷ third ∷ sides) found e =
-    let all : List (List (List (List ℕ))) = left ∷ right ∷ third ∷ sides in
-    let two : (length all == 2) ≡ false = ne_eqb (length all) 2 (λ e. omega (arith, e)) in
-    let bad : has_bad_sides all ≡ true = ap (λ (b : Bool). not b || list_any is_bad_term (flat_map (λ side. side) all)) two in
-    absurd (not_found (has_bad_sides all) found (map pair_of left, map pair_of right) bad e)
 
 -- the sides of a line of rates
 pub sides_cut : (text : List ℕ) (found : List Pair × List Pair) → Some found ≡ sides_read (sides_of text) → found ≡ pairs_at text
@@ -94,14 +57,14 @@ abbrev pub cut_meaning : Settings → Names → List ℕ → Cut → Option Text
 cut_meaning s names text Default = None
 cut_meaning s names text (Material items) = material_kind s (item_fields items.items)
 cut_meaning s names text (OperatingUnit items) = unit_kind s names (head_of text) (item_fields items.items)
-cut_meaning s names text (Flows sides) = rates_kind s names (head_of text) (list_any (λ name. not (is_among names.materials name)) (names_of (sides_view sides).0) || list_any (λ name. not (is_among names.materials name)) (names_of (sides_view sides).1))
+cut_meaning s names text (Flows sides) = rates_kind s names (head_of text) (sides_view sides)
 cut_meaning s names text (Exclusion members) = exclusion_kind names (texts members.items)
 
 pub meaning_cut : (s : Settings) (names : Names) (number : ℕ) (text : List ℕ) (cut : Cut) → IsCutOf text cut → cut_meaning s names text cut ≡ line_meaning s names (line_cut number text cut)
 meaning_cut s names number text Default is = refl
 meaning_cut s names number text (Material items) is = ap (λ (all : List (List ℕ)). material_kind s (item_fields all)) is
 meaning_cut s names number text (OperatingUnit items) is = ap (λ (all : List (List ℕ)). unit_kind s names (head_of text) (item_fields all)) is
-meaning_cut s names number text (Flows sides) is = ap (rates_kind s names (head_of text)) (any_of_both (λ name. not (is_among names.materials name)) (sides_of text) (sides_view sides) is)
+meaning_cut s names number text (Flows sides) is = ap (rates_kind s names (head_of text)) is
 meaning_cut s names number text (Exclusion members) is = ap (exclusion_kind names) is.0
 
 -- a line that matters is kept, with its number and its text
@@ -120,12 +83,3 @@ line_kept line cut kept is = one_kept cut kept line.number line.section line.hea
 pub none_kept : (b : Bool) (line : Placed) (kept : List Placed) → b ≡ false → kept ≡ (if b then kept ++ line ∷ [] else kept)
 none_kept true line kept e = cc
 none_kept false line kept e = refl
-
--- at a line of rates
-pub flows_meaning : (s : Settings) (names : Names) (number : ℕ) (text name : List ℕ) (cut : Cut) (sides : Sides) (line : Placed) → cut ≡ Flows sides → name ≡ head_of text → IsCutOf text cut → line_cut number text cut ≡ line
-    → rates_kind s names name (list_any (λ name. not (is_among names.materials name)) (names_of (sides_view sides).0) || list_any (λ name. not (is_among names.materials name)) (names_of (sides_view sides).1)) ≡ line_meaning s names line
-flows_meaning s names number text name cut sides line e head is at =
-    ap (λ (name : List ℕ). rates_kind s names name (list_any (λ name. not (is_among names.materials name)) (names_of (sides_view sides).0) || list_any (λ name. not (is_among names.materials name)) (names_of (sides_view sides).1))) head
-    ∙ sym (ap (cut_meaning s names text) e)
-    ∙ meaning_cut s names number text cut is
-    ∙ ap (line_meaning s names) at

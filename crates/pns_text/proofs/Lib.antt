@@ -1,12 +1,7 @@
 pub mod Counts
 pub mod CutLines
-pub mod Finding
-pub mod FormKinds
 pub mod ItemLines
-pub mod KeptLines
-pub mod MeaningLaw
-pub mod NamesBefore
+pub mod NoFault
 pub mod RateKinds
-pub mod ReadLaw
-pub mod WalkLaw
-pub mod Walking
+pub mod Reading
+pub mod SeenNames

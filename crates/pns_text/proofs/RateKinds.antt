@@ -6,9 +6,9 @@ use Rattle.std.specs.Result.{result_unwrap_or}
 use Rattle.text_rules.specs.declared.TextKind.{TextKind}
 use Rattle.text_rules.specs.declared.TextKind.TheVariants.{BadNumber, TooFine, TooLarge, Negative, ZeroRate}
 use Rattle.text_rules.specs.Amount.{amount_of}
-use Rattle.text_rules.specs.Fault.{is_bad, is_too_fine, is_too_large, millionths}
-use Rattle.text_lines.specs.Terms.{Pair}
-use Rattle.pns_text.specs.Form.{rate_stands, is_faulty}
+use Rattle.text_rules.specs.Fault.{is_bad, is_too_fine, is_too_large, millionths, rate_stands}
+use Rattle.text_rules.specs.Term.{Pair}
+use Rattle.pns_text.specs.Fault.{is_faulty}
 
 not_bad : (r : Result ℤ TextKind) → not (int_lt (pos 0) (result_unwrap_or r (pos 0))) ≡ false → (is_bad r ≡ false) × (is_too_fine r ≡ false) × (is_too_large r ≡ false)
 not_bad (Ok z) e = (refl, refl, refl)

@@ -1,17 +1,17 @@
 -- Lines that a walk keeps, each cut once: what was cut of a line is what the grammar takes it apart into.
 use Rattle.std.specs.Prelude.{◌≡◌, ℕ, true, false, List, Option, Some, None, Result, Ok, Err}
 use Rattle.problem_rules.specs.Names.{is_name, has_double}
+use Rattle.text_rules.specs.declared.TextKind.{TextKind}
 use Rattle.text_rules.specs.declared.Section.{Section}
 use Rattle.text_rules.specs.declared.Section.TheVariants.{Defaults, Materials, OperatingUnits, Rates, Exclusions}
-use Rattle.text_rules.specs.Line.{Placed, head_of}
-use Rattle.text_rules.specs.Field.{items_of, sides_of}
+use Rattle.text_rules.specs.Line.{Placed, head_of, matters}
+use Rattle.text_rules.specs.Field.{items_of}
+use Rattle.text_rules.specs.Term.{pairs_at}
+use Rattle.text_rules.specs.Fault.{Seen, seen_after, line_fault}
 use Rattle.text_lines.specs.View.{texts}
-use Rattle.text_lines.specs.Terms.{sides_view, sides_read}
+use Rattle.text_lines.specs.Terms.{sides_view}
 use Rattle.text_lines.specs.declared.fault.TextFault.{TextFault}
-use Rattle.text_rules.specs.declared.TextKind.{TextKind}
-use Rattle.pns_text.specs.Form.{TellsKind}
-use Rattle.pns_text.specs.Seen.{Seen, seen_after, line_fault}
-use Rattle.pns_text.specs.Walk.{matters}
+use Rattle.pns_text.specs.Fault.{TellsKind}
 use Rattle.pns_text.specs.declared.cut.Cut.{Cut}
 use Rattle.pns_text.specs.declared.cut.Cut.TheVariants.{Default, Material, OperatingUnit, Flows, Exclusion}
 
@@ -22,12 +22,12 @@ section_of (OperatingUnit items) = OperatingUnits
 section_of (Flows sides) = Rates
 section_of (Exclusion members) = Exclusions
 
--- what was cut of the text: a line of rates has two sides, and no member of an exclusion comes twice
+-- what was cut of the text; no member of an exclusion comes twice
 abbrev pub IsCutOf : List ℕ → Cut → Type 0
 IsCutOf text Default = Unit {0}
 IsCutOf text (Material items) = items.items ≡ items_of text
 IsCutOf text (OperatingUnit items) = items.items ≡ items_of text
-IsCutOf text (Flows sides) = Some (sides_view sides) ≡ sides_read (sides_of text)
+IsCutOf text (Flows sides) = sides_view sides ≡ pairs_at text
 IsCutOf text (Exclusion members) = (texts members.items ≡ items_of text) × (has_double (items_of text) ≡ false)
 
 -- all but a default begin with a name

@@ -1,11 +1,5 @@
 pub mod Cut
-pub mod Form
+pub mod Fault
 pub mod Item
-pub mod Kept
-pub mod Meaning
-pub mod Reading
-pub mod Seen
-pub mod Settings
-pub mod Value
 pub mod View
 pub mod Walk

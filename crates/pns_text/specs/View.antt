@@ -1,7 +1,7 @@
 -- Lines, and what was seen, as the definitions have them.
 use Rattle.text_rules.specs.Line as line
+use Rattle.text_rules.specs.Fault as fault
 use Rattle.text_lines.specs.View.{texts}
-use Rattle.pns_text.specs.Seen as seen
 use Rattle.pns_text.specs.Walk as walk
 use Rattle.pns_text.specs.declared.seen.Placed.{Placed}
 use Rattle.pns_text.specs.declared.seen.Seen.{Seen}
@@ -10,7 +10,7 @@ use Rattle.pns_text.specs.declared.walk.Walk.{Walk}
 abbrev pub placed_view : Placed → line.Placed
 placed_view p = record { number = p.number; section = p.section; header = p.header; text = p.text.now }
 
-abbrev pub seen_view : Seen → seen.Seen
+abbrev pub seen_view : Seen → fault.Seen
 seen_view s = record {
   headers = texts s.headers.items;
   keys = texts s.keys.items;
@@ -22,4 +22,4 @@ seen_view s = record {
 }
 
 abbrev pub walk_view : Walk → walk.Walk
-walk_view w = record { seen = seen_view w.seen; kept = w.kept.items; number = w.number; section = w.section }
+walk_view w = record { seen = seen_view w.seen; kept = w.kept.items; section = w.section }

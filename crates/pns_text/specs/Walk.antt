@@ -1,76 +1,47 @@
--- The walk over the lines of a text, which ends at the first fault of form or keeps the lines that matter.
-use Rattle.std.specs.Prelude.{◌≡◌, ◌≤◌, ◌==◌, ◌+◌, ◌&&◌, ◌++◌, ℕ, Bool, true, false, List, [], ◌∷◌, length, not, Option, Some, None, Result, Ok, Err, if◌then◌else◌}
-use Rattle.std.specs.Str.{bytes_eq}
-use Rattle.text_rules.specs.declared.TextKind.{TextKind}
-use Rattle.text_rules.specs.declared.TextKind.TheVariants.{FileType}
+-- The reading of a text that goes on: what was seen and kept of the lines so far, and the lines that are to come.
+use Rattle.std.specs.Prelude.{◌≡◌, ◌≤◌, ◌+◌, ◌++◌, ℕ, List, [], ◌∷◌, length, filter, Option, None, Result, if◌then◌else◌}
+use Rattle.problem_rules.specs.Problem.{Problem}
 use Rattle.text_rules.specs.declared.Section.{Section}
-use Rattle.text_rules.specs.declared.Section.TheVariants.{Preamble, MeasurementUnits, Defaults, Materials, OperatingUnits, Rates, Exclusions}
-use Rattle.text_rules.specs.Line.{Placed, section_after, is_header}
-use Rattle.text_rules.specs.Fault.{Fault, file_type}
-use Rattle.pns_text.specs.Kept.{heads_at}
-use Rattle.pns_text.specs.Seen.{Seen, seen_none, seen_after, line_fault}
+use Rattle.text_rules.specs.declared.Section.TheVariants.{Preamble, Materials, OperatingUnits, Rates}
+use Rattle.text_rules.specs.Line.{Placed, section_after, is_header, placed_from, standing, matters, heads_at}
+use Rattle.text_rules.specs.Fault.{Fault, Seen, seen_none, seen_after, line_fault, first_fault}
+use Rattle.text_rules.specs.Value.{meaning_at, or_first}
 
--- the sections whose lines have a meaning
-abbrev pub is_meant : Section → Bool
-is_meant Preamble = false
-is_meant MeasurementUnits = false
-is_meant Defaults = true
-is_meant Materials = true
-is_meant OperatingUnits = true
-is_meant Rates = true
-is_meant Exclusions = true
+-- what was seen, the lines that matter so far, and the section of the next line
+pub record Walk : Type 0 where
+  pub seen : Seen
+  pub kept : List Placed
+  pub section : Section
 
--- a line that matters
-abbrev pub matters : Placed → Bool
-matters line = not line.header && is_meant line.section
-
-abbrev pub kept_after : List Placed → Placed → List Placed
-kept_after kept line = if matters line then kept ++ line ∷ [] else kept
+abbrev pub walk_start : Walk
+walk_start = record { seen = seen_none; kept = []; section = Preamble }
 
 abbrev pub placed_at : ℕ → Section → List ℕ → Placed
 placed_at number section text = record { number = number; section = section_after section text; header = is_header text; text = text }
 
--- the lines that matter so far, and the number and the section of the next line
-pub record Walk : Type 0 where
-  pub seen : Seen
-  pub kept : List Placed
-  pub number : ℕ
-  pub section : Section
-
-abbrev pub walk_start : Walk
-walk_start = record { seen = seen_none; kept = []; number = 2; section = Preamble }
+abbrev pub kept_after : List Placed → Placed → List Placed
+kept_after kept line = if matters line then kept ++ line ∷ [] else kept
 
 -- past a line
 abbrev pub walk_past : Walk → Placed → Walk
-walk_past w line = record { seen = seen_after w.seen line; kept = kept_after w.kept line; number = w.number + 1; section = line.section }
+walk_past w line = record { seen = seen_after w.seen line; kept = kept_after w.kept line; section = line.section }
 
-abbrev pub or_fault : {A : Type 0} → ℕ → Option TextKind → A → Result A Fault
-or_fault number (Some kind) next = Err (number, kind)
-or_fault number None next = Ok next
+-- past a line that has no fault
+pub record IsPast (old : Walk) (line : Placed) (new : Walk) : Type 0 where
+  pub none : line_fault old.seen line ≡ None
+  pub past : new ≡ walk_past old line
 
--- a line that is not empty
-abbrev pub take_line : Walk → Placed → Result Walk Fault
-take_line w line = or_fault line.number (line_fault w.seen line) (walk_past w line)
+-- the lines to come that are not empty, the first of which has the number
+abbrev pub to_come : Walk → ℕ → List (List ℕ) → List Placed
+to_come w number texts = standing (placed_from number w.section texts)
 
--- one line
-abbrev pub step : Walk → List ℕ → Result Walk Fault
-step w text =
-    if length text == 0 then Ok (record w { number = w.number + 1 })
-    else take_line w (placed_at w.number w.section text)
+-- what the text stands for, with these lines to come
+abbrev pub read_on : Walk → ℕ → List (List ℕ) → Result Problem Fault
+read_on w number texts = or_first (first_fault w.seen (to_come w number texts)) (meaning_at (w.kept ++ filter matters (to_come w number texts)) (number + length texts))
 
--- so many lines
-abbrev pub walk_from : Walk → List (List ℕ) → Result Walk Fault
-walk_from w [] = Ok w
-walk_from w (text ∷ texts) = elim (step w text) [ Ok next ↦ walk_from next texts | Err fault ↦ Err fault ]
-
--- all lines of a text, or its first fault of form
-abbrev pub walk : List (List ℕ) → Result Walk Fault
-walk [] = Err (1, FileType)
-walk (first ∷ texts) = if bytes_eq first file_type then walk_from walk_start texts else Err (1, FileType)
-
--- what was seen are the names of the lines that were kept, of which there are no more than lines
-pub record HasNames (w : Walk) : Type 0 where
+-- what was seen are the names of the lines that were kept, of which there are no more than lines before the next
+pub record HasNames (w : Walk) (number : ℕ) : Type 0 where
   pub materials : w.seen.materials ≡ heads_at Materials w.kept
   pub units : w.seen.units ≡ heads_at OperatingUnits w.kept
   pub rates : w.seen.rates ≡ heads_at Rates w.kept
-  pub counted : length w.kept + 2 ≤ w.number
+  pub counted : length w.kept + 2 ≤ number

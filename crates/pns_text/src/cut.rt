@@ -45,9 +45,8 @@ impl<'a> Kept<'a> {
     ghost use Rattle.text_rules.specs.Field.{items_of};
     ghost use Rattle.text_lines.specs.View.{texts};
     ghost use Rattle.text_lines.specs.Terms.{sides_view};
-    ghost use Rattle.pns_text.specs.Value.{pairs_at};
-    ghost use Rattle.text_rules.specs.Line.{head_of};
-    ghost use Rattle.pns_text.specs.Kept.{is_at};
+    ghost use Rattle.text_rules.specs.Term.{pairs_at};
+    ghost use Rattle.text_rules.specs.Line.{head_of, is_at};
 
     /// Whether it is a line of defaults.
     pub(crate) fn is_default(&self) -> bool
@@ -102,7 +101,6 @@ impl<'a> Kept<'a> {
     }
 
     /// The sides, where it is a line of rates.
-    #[tactic(auto, using(crate::proofs::CutLines::sides_cut))]
     pub(crate) fn sides(&self) -> Option<&Sides<'a>>
         ensures some { IfSome result (λ sides. sides_view sides.now ≡ pairs_at self.now.text) }
         ensures named { IfSome result (λ _. is_name (head_of self.now.text) ≡ true) }

@@ -3,9 +3,8 @@ ghost use Rattle.std.specs.Prelude.{◌≡◌, ◌&&◌, find, not};
 ghost use Rattle.std.specs.Str.{bytes_eq};
 ghost use Rattle.problem_rules.specs.Names.{is_among};
 ghost use Rattle.text_rules.specs.Field.{key_of, value_of, kind_words, material_type, payout_period};
-ghost use Rattle.text_rules.specs.Fault.{is_payout, millionths};
+ghost use Rattle.text_rules.specs.Fault.{is_payout, millionths, default_fault, default_number_stands};
 ghost use Rattle.text_lines.specs.View.{texts};
-ghost use Rattle.pns_text.specs.Form.{default_fault, default_number_stands};
 
 use crate::item::{NUMBER_KINDS, value_stands};
 use text_lines::amount::{millionths, read_amount};

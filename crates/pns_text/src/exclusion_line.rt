@@ -1,9 +1,9 @@
 //! The form of a line of exclusions.
-ghost use Rattle.std.specs.Prelude.{◌≡◌, ◌==◌, false, IfOk, IfNone, length, not};
+ghost use Rattle.std.specs.Prelude.{◌≡◌, ◌==◌, IfOk, length, not};
 ghost use Rattle.std.specs.List.{list_any};
-ghost use Rattle.problem_rules.specs.Names.{is_name, has_double};
+ghost use Rattle.problem_rules.specs.Names.{is_name};
+ghost use Rattle.text_rules.specs.Fault.{exclusion_fault};
 ghost use Rattle.text_lines.specs.View.{texts};
-ghost use Rattle.pns_text.specs.Form.{IsNew, exclusion_fault};
 
 use std::alloc::{AllocError, Global};
 use text_lines::line::has_colon;
@@ -41,9 +41,7 @@ pub(crate) fn exclusion_kind(
     name: &[u8],
     items: &[&[u8]],
 ) -> Result<Option<TextKind>, AllocError>
-    ensures kind { IfOk result (λ kind. kind ≡ exclusion_fault names.now text.now name.now (texts items.now)) }
-    ensures new { IfOk result (λ kind. IfNone kind (IsNew names.now name.now)) }
-    ensures once { IfOk result (λ kind. IfNone kind (has_double (texts items.now) ≡ false)) }
+    ensures { IfOk result (λ kind. kind ≡ exclusion_fault names.now text.now name.now (texts items.now)) }
 {
     if !has_colon(text) || some_empty(items) {
         return Ok(Some(TextKind::BadLine));

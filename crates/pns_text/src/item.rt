@@ -1,13 +1,11 @@
 //! The items of a line, each cut once, and what stands at them.
-ghost use Rattle.std.specs.Prelude.{◌≡◌, ◌==◌, ◌<◌, ◌+◌, true, IfOk, IfNone, drop, find, length, option_map};
+ghost use Rattle.std.specs.Prelude.{◌≡◌, ◌==◌, ◌<◌, ◌+◌, IfOk, drop, find, length, option_map};
 ghost use Rattle.std.specs.List.{list_any};
-ghost use Rattle.problem_rules.specs.Names.{is_name, is_among, has_double};
+ghost use Rattle.problem_rules.specs.Names.{is_among, has_double};
 ghost use Rattle.text_rules.specs.Field.{has_key, key_of, value_of, is_keyed, kind_words, items_of};
-ghost use Rattle.text_rules.specs.Fault.{millionths};
-ghost use Rattle.text_rules.specs.Value.{value_at};
+ghost use Rattle.text_rules.specs.Fault.{millionths, field_key, field_value, has_number, number_stands, value_stands, item_stands, has_unknown_key, keys_in, fields_fault};
+ghost use Rattle.text_rules.specs.Value.{value_at, item_fields};
 ghost use Rattle.text_lines.specs.View.{texts};
-ghost use Rattle.pns_text.specs.Item.{field_key, field_value, has_number, number_stands, value_stands, item_stands, has_unknown_key, keys_in, fields_fault};
-ghost use Rattle.pns_text.specs.Kept.{item_fields};
 
 use std::alloc::{AllocError, Global};
 use std::marker::Model;
@@ -287,8 +285,7 @@ fn some_unknown_key(keys: &[&[u8]], items: &[Item<'_>]) -> bool
 
 /// The first kind that stands at the name or at the fields of a line of items, which may have these keys.
 pub(crate) fn fields_kind(keys: &[&[u8]], name: &[u8], items: &[Item<'_>]) -> Option<TextKind>
-    ensures kind { result ≡ fields_fault (texts keys.now) name.now items.now }
-    ensures named { IfNone result (is_name name.now ≡ true) }
+    ensures { result ≡ fields_fault (texts keys.now) name.now items.now }
 {
     if !is_name(name) {
         return Some(TextKind::BadName);

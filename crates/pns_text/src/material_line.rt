@@ -1,7 +1,7 @@
 //! The form of a line of materials.
-ghost use Rattle.std.specs.Prelude.{◌≡◌, IfNone};
+ghost use Rattle.std.specs.Prelude.{◌≡◌};
 ghost use Rattle.std.specs.List.{list_any};
-ghost use Rattle.pns_text.specs.Form.{IsNew, is_unknown_kind, material_fault};
+ghost use Rattle.text_rules.specs.Fault.{is_unknown_kind, material_fault};
 
 use crate::item::{Item, fields_kind, some_empty};
 use text_lines::name_set::NameSet;
@@ -23,8 +23,7 @@ pub(crate) fn material_kind(
     name: &[u8],
     items: &[Item<'_>],
 ) -> Option<TextKind>
-    ensures kind { result ≡ material_fault names.now name.now items.now }
-    ensures new { IfNone result (IsNew names.now name.now) }
+    ensures { result ≡ material_fault names.now name.now items.now }
 {
     if some_empty(items) {
         return Some(TextKind::BadLine);

@@ -1,17 +1,18 @@
 //! The meaning of the lines that have one: what names they cite, and whether bounds are in order.
-ghost use Rattle.std.specs.Prelude.{◌≡◌, IfOk, not, ◌||◌};
+ghost use Rattle.std.specs.Prelude.{◌≡◌, IfOk, not};
 ghost use Rattle.std.specs.List.{list_any};
 ghost use Rattle.problem_rules.specs.Names.{is_among};
+ghost use Rattle.text_rules.specs.Line.{heads_at};
+ghost use Rattle.text_rules.specs.Fault.{names_of};
+ghost use Rattle.text_rules.specs.Value.{item_fields, is_unit, unit_kind, has_unknown, rates_kind, exclusion_kind, line_meaning, first_meaning};
 ghost use Rattle.text_lines.specs.View.{texts};
 ghost use Rattle.text_lines.specs.Terms.{terms_view, sides_view};
-ghost use Rattle.pns_text.specs.Form.{names_of};
-ghost use Rattle.pns_text.specs.Kept.{heads_at, item_fields};
-ghost use Rattle.pns_text.specs.Meaning.{is_unit, unit_kind, rates_kind, exclusion_kind, line_meaning, first_meaning};
 
 use crate::cut::{Cut, Kept};
 use crate::item::Item;
 use crate::settings::Settings;
 use std::alloc::{AllocError, Global};
+use std::marker::Model;
 use text_lines::line::head_of;
 use text_lines::name_set::NameSet;
 use text_lines::term::{Sides, Term};
@@ -23,6 +24,14 @@ pub struct Names<'a> {
     pub materials: NameSet<'a>,
     pub units: NameSet<'a>,
     pub rates: NameSet<'a>,
+}
+
+impl<'a> Model for Names<'a> {
+    ghost use Rattle.text_rules.specs.Value as rules;
+
+    ghost Value = { rules.Names };
+
+    ghost view = { λ names. record { materials = names.materials; units = names.units; rates = names.rates } };
 }
 
 /// The names of the lines of units, in order.
@@ -75,8 +84,7 @@ fn some_unknown(materials: &NameSet<'_>, terms: &[Term<'_>]) -> bool
 }
 
 fn some_unknown_of(materials: &NameSet<'_>, sides: &Sides<'_>) -> bool
-    ensures { result ≡ (list_any (λ name. not (is_among materials.now name)) (names_of (sides_view sides.now).0)
-        || list_any (λ name. not (is_among materials.now name)) (names_of (sides_view sides.now).1)) }
+    ensures { result ≡ has_unknown materials.now (sides_view sides.now) }
 {
     some_unknown(materials, &sides.inputs) || some_unknown(materials, &sides.outputs)
 }
@@ -87,8 +95,7 @@ fn rates_meaning(
     name: &[u8],
     sides: &Sides<'_>,
 ) -> Option<TextKind>
-    ensures { result ≡ rates_kind settings.now names.now name.now (list_any (λ name. not (is_among names.now.materials name)) (names_of (sides_view sides.now).0)
-        || list_any (λ name. not (is_among names.now.materials name)) (names_of (sides_view sides.now).1)) }
+    ensures { result ≡ rates_kind settings.now names.now name.now (sides_view sides.now) }
 {
     if !names.units.has(name) && settings.is_unit_turned(&[]) {
         return Some(TextKind::LowAboveHigh);

@@ -1,10 +1,11 @@
 //! The form of a line of rates.
-ghost use Rattle.std.specs.Prelude.{◌≡◌, ◌++◌, true, false, Some, IfOk, IfNone, find, not};
+ghost use Rattle.std.specs.Prelude.{◌≡◌, ◌++◌, Some, IfOk, find, not};
 ghost use Rattle.std.specs.List.{list_any};
 ghost use Rattle.problem_rules.specs.Names.{is_name, is_among};
+ghost use Rattle.text_rules.specs.Fault.{names_of, rate_stands, doubled, term_fault, whole_fault, sides_fault};
 ghost use Rattle.text_lines.specs.View.{texts};
 ghost use Rattle.text_lines.specs.Terms.{terms_view, sides_view};
-ghost use Rattle.pns_text.specs.Form.{IsNew, names_of, rate_stands, is_faulty, doubled, term_fault, whole_fault, sides_fault};
+ghost use Rattle.pns_text.specs.Fault.{is_faulty};
 
 use crate::item::number_stands;
 use crate::unit_line::is_beyond;
@@ -128,8 +129,7 @@ fn doubled<'a>(alloc: Global, sides: &Sides<'a>) -> Result<Option<TextKind>, All
 
 // The kind that stands at the name or at the terms one by one.
 fn term_kind(name: &[u8], sides: &Sides<'_>) -> Option<TextKind>
-    ensures kind { result ≡ term_fault name.now (sides_view sides.now).0 (sides_view sides.now).1 }
-    ensures named { IfNone result (is_name name.now ≡ true) }
+    ensures { result ≡ term_fault name.now (sides_view sides.now).0 (sides_view sides.now).1 }
 {
     if !is_name(name) || has_bad_name(sides) {
         return Some(TextKind::BadName);
@@ -144,8 +144,7 @@ fn whole_kind(
     name: &[u8],
     sides: &Sides<'_>,
 ) -> Option<TextKind>
-    ensures kind { result ≡ whole_fault names.now seen.now name.now (sides_view sides.now).0 (sides_view sides.now).1 }
-    ensures new { IfNone result (is_among names.now name.now ≡ false) }
+    ensures { result ≡ whole_fault names.now seen.now name.now (sides_view sides.now).0 (sides_view sides.now).1 }
 {
     if sides.inputs.is_empty() || sides.outputs.is_empty() {
         return Some(TextKind::EmptySide);
@@ -168,8 +167,7 @@ pub(crate) fn sides_kind<'a>(
     name: &[u8],
     sides: &Sides<'a>,
 ) -> Result<Option<TextKind>, AllocError>
-    ensures kind { IfOk result (λ kind. kind ≡ sides_fault names.now seen.now name.now (Some (sides_view sides.now))) }
-    ensures new { IfOk result (λ kind. IfNone kind (IsNew names.now name.now)) }
+    ensures { IfOk result (λ kind. kind ≡ sides_fault names.now seen.now name.now (Some (sides_view sides.now))) }
 {
     if let Some(kind) = term_kind(name, sides) {
         return Ok(Some(kind));
@@ -177,8 +175,5 @@ pub(crate) fn sides_kind<'a>(
     if let Some(kind) = doubled(alloc, sides)? {
         return Ok(Some(kind));
     }
-    if let Some(kind) = whole_kind(names, seen, name, sides) {
-        return Ok(Some(kind));
-    }
-    Ok(None)
+    Ok(whole_kind(names, seen, name, sides))
 }

@@ -2,9 +2,8 @@
 ghost use Rattle.std.specs.Prelude.{◌≡◌, true, ◌<◌, ◌-◌, ◌^◌, Ok, IfOk, IfErr, length};
 ghost use Rattle.problem_rules.specs.Problem as rules;
 ghost use Rattle.problem_rules.specs.Validity.{IsValid};
-ghost use Rattle.text_rules.specs.Value.{read_text};
+ghost use Rattle.text_rules.specs.Value.{has_product, with_product, names_all, meaning_at, read_text};
 ghost use Rattle.text_lines.specs.Tells.{Tells};
-ghost use Rattle.pns_text.specs.Reading.{has_product, with_product, names_all, meaning_at};
 
 use crate::cut::Kept;
 use crate::fault::TextFault;
@@ -82,7 +81,7 @@ pub fn read_problem(alloc: Global, bytes: &[u8]) -> Result<Problem, TextFault>
 {
     read_is_valid();
     match walk_text(alloc, bytes) {
-        Ok(walk) => read_meaning(alloc, &walk.seen.names, &walk.kept, walk.number),
+        Ok((walk, number)) => read_meaning(alloc, &walk.seen.names, &walk.kept, number),
         Err(fault) => Err(fault),
     }
 }

@@ -1,8 +1,8 @@
 //! What was seen on the lines before a line, and the form of the line by it.
 ghost use Rattle.std.specs.Prelude.{◌≡◌, IfOk, IfErr, None, OnOk, false};
+ghost use Rattle.text_rules.specs.Fault.{seen_none, header_fault, skipped_fault};
 ghost use Rattle.text_lines.specs.View.{texts};
-ghost use Rattle.pns_text.specs.Form.{TellsKind};
-ghost use Rattle.pns_text.specs.Seen.{seen_none, header_fault, skipped_fault};
+ghost use Rattle.pns_text.specs.Fault.{TellsKind};
 ghost use Rattle.pns_text.specs.Cut.{Takes};
 ghost use Rattle.pns_text.specs.View.{placed_view, seen_view};
 
@@ -91,6 +91,30 @@ impl<'a> Seen<'a> {
         }
     }
 
+    fn take_default(&mut self, number: u32, text: &'a [u8]) -> Taken<'a>
+        ensures { Takes (seen_view self.old) (record { number = number; section = Section.Defaults; header = false; text = text.now }) (seen_view self.new) result }
+    {
+        if let Some(kind) = default_fault(&self.keys, text) {
+            return Err(TextFault::At { line: number, kind });
+        }
+        self.keys.push(key_of(text))?;
+        Ok(Some(Cut::Default))
+    }
+
+    #[tactic(auto, using(crate::proofs::NoFault::material_new))]
+    fn take_material(&mut self, alloc: Global, number: u32, text: &'a [u8]) -> Taken<'a>
+        ensures { Takes (seen_view self.old) (record { number = number; section = Section.Materials; header = false; text = text.now }) (seen_view self.new) result }
+    {
+        let name = head_of(text);
+        let items = items_of(alloc, text)?;
+        if let Some(kind) = material_kind(&self.names.materials, name, &items) {
+            return Err(TextFault::At { line: number, kind });
+        }
+        self.names.materials.push(name)?;
+        Ok(Some(Cut::Material(items)))
+    }
+
+    #[tactic(auto, using(crate::proofs::NoFault::unit_new))]
     fn take_unit(&mut self, alloc: Global, number: u32, text: &'a [u8]) -> Taken<'a>
         ensures { Takes (seen_view self.old) (record { number = number; section = Section.OperatingUnits; header = false; text = text.now }) (seen_view self.new) result }
     {
@@ -104,6 +128,7 @@ impl<'a> Seen<'a> {
         Ok(Some(Cut::OperatingUnit(items)))
     }
 
+    #[tactic(auto, using(crate::proofs::CutLines::sides_cut, crate::proofs::NoFault::sides_new))]
     fn take_rates(&mut self, alloc: Global, number: u32, text: &'a [u8]) -> Taken<'a>
         ensures { Takes (seen_view self.old) (record { number = number; section = Section.Rates; header = false; text = text.now }) (seen_view self.new) result }
     {
@@ -123,6 +148,7 @@ impl<'a> Seen<'a> {
         Ok(Some(Cut::Flows(sides)))
     }
 
+    #[tactic(auto, using(crate::proofs::NoFault::exclusion_new))]
     fn take_exclusion(&mut self, alloc: Global, number: u32, text: &'a [u8]) -> Taken<'a>
         ensures { Takes (seen_view self.old) (record { number = number; section = Section.Exclusions; header = false; text = text.now }) (seen_view self.new) result }
     {
@@ -148,22 +174,8 @@ impl<'a> Seen<'a> {
         match section {
             Section::Preamble => skip(number, text),
             Section::MeasurementUnits => skip(number, text),
-            Section::Defaults => {
-                if let Some(kind) = default_fault(&self.keys, text) {
-                    return Err(TextFault::At { line: number, kind });
-                }
-                self.keys.push(key_of(text))?;
-                Ok(Some(Cut::Default))
-            }
-            Section::Materials => {
-                let name = head_of(text);
-                let items = items_of(alloc, text)?;
-                if let Some(kind) = material_kind(&self.names.materials, name, &items) {
-                    return Err(TextFault::At { line: number, kind });
-                }
-                self.names.materials.push(name)?;
-                Ok(Some(Cut::Material(items)))
-            }
+            Section::Defaults => self.take_default(number, text),
+            Section::Materials => self.take_material(alloc, number, text),
             Section::OperatingUnits => self.take_unit(alloc, number, text),
             Section::Rates => self.take_rates(alloc, number, text),
             Section::Exclusions => self.take_exclusion(alloc, number, text),

@@ -1,18 +1,19 @@
 //! The defaults, and the values of materials and units by them.
 ghost use Rattle.std.specs.Prelude.{◌≡◌, ◌/◌, codes, option_map, pos, unsigned_abs};
-ghost use Rattle.text_rules.specs.Value.{value_at};
-ghost use Rattle.text_lines.specs.View.{texts};
-ghost use Rattle.pns_text.specs.Kept.{lines_apart, item_fields};
-ghost use Rattle.pns_text.specs.Settings.{settings_of, payout_from, default_fields, number_at, kind_named, kind_or};
+ghost use Rattle.problem_rules.specs.Problem.{intermediate};
+ghost use Rattle.pns_problem.specs.Kind.{kind_of};
+ghost use Rattle.text_rules.specs.Value as value;
+ghost use Rattle.text_rules.specs.Value.{value_at, item_fields, default_fields, number_at, kind_or, settings_of, payout_from, is_material_turned, is_unit_turned};
 
 use crate::cut::Kept;
 use crate::item::{Item, field_at};
 use pns_problem::Kind;
+use std::marker::Model;
 use text_lines::amount::millionths;
 use text_lines::field::{key_of, value_of};
 
 /// What holds of materials and units whose lines say nothing else. Prices, bounds and costs are in millionths.
-#[derive(Clone, Copy, Debug)]
+#[derive(Drop)]
 pub struct Settings {
     pub kind: Kind,
     pub price: i64,
@@ -26,9 +27,29 @@ pub struct Settings {
     pub investment_proportional: i64,
 }
 
+impl Model for Settings {
+    ghost use Rattle.text_rules.specs.Value as rules;
+    ghost use Rattle.pns_problem.specs.Kind.{kind_of};
+
+    ghost Value = { rules.Settings };
+
+    ghost view = { λ s. record {
+        kind = kind_of s.kind;
+        price = s.price;
+        flow_lower = s.flow_lower;
+        flow_upper = s.flow_upper;
+        capacity_lower = s.capacity_lower;
+        capacity_upper = s.capacity_upper;
+        fix = s.fix;
+        proportional = s.proportional;
+        investment_fix = s.investment_fix;
+        investment_proportional = s.investment_proportional;
+    } };
+}
+
 // The kind that the word stands for.
 fn kind_named(word: &[u8]) -> Kind
-    ensures { result ≡ kind_named word.now }
+    ensures { kind_of result ≡ value.kind_of word.now }
 {
     if word == b"raw_material".as_slice() {
         Kind::RawMaterial
@@ -41,7 +62,7 @@ fn kind_named(word: &[u8]) -> Kind
 
 // The value of the default of this key.
 fn default_at<'a>(lines: &[Kept<'a>], key: &[u8]) -> Option<&'a [u8]>
-    ensures { option_map (λ value. value.now) result ≡ value_at key.now (default_fields (lines_apart lines.now)) }
+    ensures { option_map (λ value. value.now) result ≡ value_at key.now (default_fields lines.now) }
 {
     for line in lines {
         if line.is_default() && key_of(line.text()) == key {
@@ -53,7 +74,7 @@ fn default_at<'a>(lines: &[Kept<'a>], key: &[u8]) -> Option<&'a [u8]>
 
 // The number of the default of this key, or else the table's own.
 fn default_number(lines: &[Kept<'_>], key: &[u8], built_in: i64) -> i64
-    ensures { result ≡ number_at key.now (default_fields (lines_apart lines.now)) built_in }
+    ensures { result ≡ number_at key.now (default_fields lines.now) built_in }
 {
     match default_at(lines, key) {
         Some(text) => millionths(text),
@@ -73,7 +94,7 @@ pub(crate) fn number_at(items: &[Item<'_>], key: &[u8], default: i64) -> i64
 
 /// The kind of a material by its items, or else the default.
 pub(crate) fn kind_at(items: &[Item<'_>], default: Kind) -> Kind
-    ensures { result ≡ kind_or (value_at (codes "material_type") (item_fields items.now)) default }
+    ensures { kind_of result ≡ kind_or (value_at (codes "material_type") (item_fields items.now)) (kind_of default) }
 {
     match field_at(items, b"material_type") {
         Some(item) => kind_named(item.value()),
@@ -83,7 +104,7 @@ pub(crate) fn kind_at(items: &[Item<'_>], default: Kind) -> Kind
 
 // The kind of materials whose lines have no kind word.
 fn default_kind(lines: &[Kept<'_>]) -> Kind
-    ensures { result ≡ kind_or (value_at (codes "material_type") (default_fields (lines_apart lines.now))) Kind.Intermediate }
+    ensures { kind_of result ≡ kind_or (value_at (codes "material_type") (default_fields lines.now)) intermediate }
 {
     match default_at(lines, b"material_type") {
         Some(word) => kind_named(word),
@@ -96,7 +117,7 @@ const MUCH: i64 = 1_000_000_000_000_000;
 
 /// The settings that the lines of defaults give.
 pub(crate) fn settings_of(lines: &[Kept<'_>]) -> Settings
-    ensures { result ≡ settings_of (lines_apart lines.now) }
+    ensures { result ≡ settings_of lines.now }
 {
     Settings {
         kind: default_kind(lines),
@@ -125,14 +146,12 @@ fn millions(amount: i64) -> i64
 
 /// The payout period in whole years.
 pub(crate) fn payout_of(lines: &[Kept<'_>]) -> i64
-    ensures { result ≡ payout_from (lines_apart lines.now) }
+    ensures { result ≡ payout_from lines.now }
 {
     millions(default_number(lines, b"payout_period", 1_000_000))
 }
 
 impl Settings {
-    ghost use Rattle.pns_text.specs.Meaning.{is_material_turned, is_unit_turned};
-
     /// Whether the lower bound of a material with these items is above its upper bound.
     pub(crate) fn is_material_turned(&self, items: &[Item<'_>]) -> bool
         ensures { result ≡ is_material_turned self.now (item_fields items.now) }

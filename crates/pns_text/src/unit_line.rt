@@ -1,8 +1,8 @@
 //! The form of a line of operating units.
-ghost use Rattle.std.specs.Prelude.{◌≡◌, IfNone, not};
+ghost use Rattle.std.specs.Prelude.{◌≡◌, not};
 ghost use Rattle.std.specs.List.{list_any};
 ghost use Rattle.text_rules.specs.Field.{has_key};
-ghost use Rattle.pns_text.specs.Form.{IsNew, unit_fault, is_beyond};
+ghost use Rattle.text_rules.specs.Fault.{unit_fault, is_beyond};
 
 use crate::item::{Item, fields_kind};
 use text_lines::name_set::NameSet;
@@ -38,8 +38,7 @@ pub(crate) fn unit_kind(
     name: &[u8],
     items: &[Item<'_>],
 ) -> Option<TextKind>
-    ensures kind { result ≡ unit_fault names.now seen.now name.now items.now }
-    ensures new { IfNone result (IsNew names.now name.now) }
+    ensures { result ≡ unit_fault names.now seen.now name.now items.now }
 {
     if some_without_key(items) {
         return Some(TextKind::BadLine);

@@ -2,13 +2,11 @@
 ghost use Rattle.std.specs.Prelude.{◌≡◌, ◌<◌, ◌^◌, length, ◌++◌, ◌&&◌, false, IfOk, OnOk, map, not, option_map, true, IfSome, is_some, find, string_bytes};
 ghost use Rattle.problem_rules.specs.Names.{is_name, is_among, has_double};
 ghost use Rattle.std.specs.Str.{bytes_eq};
-ghost use Rattle.text_rules.specs.Line.{head_of};
-ghost use Rattle.text_rules.specs.Value.{numbers_among};
+ghost use Rattle.text_rules.specs.Line.{head_of, is_at, lines_at, heads_at};
+ghost use Rattle.text_rules.specs.Term.{pairs_at};
+ghost use Rattle.text_rules.specs.Value.{item_fields, settings_of, material_from, unit_from, materials_from, term_from, sides_named, listed_unit, bare_unit, bare_lines, units_from, unit_names_from, numbers_among, exclusion_named, exclusions_from, problem_from};
 ghost use Rattle.text_lines.specs.View.{texts};
 ghost use Rattle.text_lines.specs.Terms.{term_view, terms_view, sides_view};
-ghost use Rattle.pns_text.specs.Kept.{is_at, lines_at, heads_at, lines_apart, item_fields};
-ghost use Rattle.pns_text.specs.Settings.{settings_of, material_from, unit_from};
-ghost use Rattle.pns_text.specs.Value.{materials_from, term_from, pairs_at, sides_named, listed_unit, bare_unit, bare_lines, units_from, unit_names_from, exclusion_named, exclusions_from, problem_from};
 
 use crate::cut::Kept;
 use crate::item::Item;
@@ -323,7 +321,7 @@ pub(crate) fn parts_of(
     names: &Names<'_>,
     lines: &[Kept<'_>],
 ) -> Result<Parts, AllocError>
-    requires settings { settings.now ≡ settings_of (lines_apart lines.now) }
+    requires settings { settings.now ≡ settings_of lines.now }
     requires materials { names.now.materials ≡ heads_at Section.Materials lines.now }
     requires units { names.now.units ≡ heads_at Section.OperatingUnits lines.now }
     requires few { length lines.now < 2 ^ 32 }

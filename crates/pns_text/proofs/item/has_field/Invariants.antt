@@ -1,6 +1,6 @@
 use Rattle.std.proofs.Common.{◌≡◌, drop}
 use Rattle.problem_rules.specs.Names.{is_among}
-use Rattle.pns_text.specs.Item.{keys_in}
+use Rattle.text_rules.specs.Fault.{keys_in}
 use Rattle.pns_text.proofs.item.has_field.Given as goal
 
 abbrev pub invariant-loop-item : goal.invariant-loop-item

@@ -1,6 +1,6 @@
 use Rattle.std.proofs.Common.{◌≡◌, drop}
 use Rattle.std.specs.List.{list_any}
-use Rattle.pns_text.specs.Form.{is_faulty}
+use Rattle.pns_text.specs.Fault.{is_faulty}
 use Rattle.text_lines.specs.Terms.{terms_view}
 use Rattle.pns_text.proofs.rates_line.some_faulty.Given as goal
 

@@ -1,5 +1,5 @@
 use Rattle.std.proofs.Common.{◌∙◌}
-use Rattle.pns_text.proofs.ReadLaw.{meaning_none, with_one}
+use Rattle.pns_text.proofs.Reading.{meaning_none, with_one}
 use Rattle.pns_text.proofs.read.read_meaning.Goals as goal
 
 pub with_product-requires : goal.with_product-requires

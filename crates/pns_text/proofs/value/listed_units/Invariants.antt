@@ -1,8 +1,7 @@
 use Rattle.std.proofs.Common.{◌≡◌, map, take}
-use Rattle.text_rules.specs.Line.{Placed}
+use Rattle.text_rules.specs.Line.{Placed, lines_at}
 use Rattle.text_rules.specs.declared.Section.TheVariants.{OperatingUnits}
-use Rattle.pns_text.specs.Kept.{lines_at}
-use Rattle.pns_text.specs.Value.{listed_unit}
+use Rattle.text_rules.specs.Value.{listed_unit}
 use Rattle.pns_text.proofs.value.listed_units.Given as goal
 
 abbrev pub invariant-loop-line : goal.invariant-loop-line

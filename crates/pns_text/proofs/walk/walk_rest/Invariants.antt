@@ -1,15 +1,14 @@
-use Rattle.std.proofs.Common.{◌≡◌, ◌≤◌, ◌+◌, length}
-use Rattle.text_lines.specs.Lines.{lines_from}
+use Rattle.std.proofs.Common.{◌≡◌, length}
 use Rattle.pns_text.specs.View.{walk_view}
-use Rattle.pns_text.specs.Walk.{walk_start, walk_from}
+use Rattle.pns_text.specs.Walk.{walk_start, read_on, HasNames}
 use Rattle.pns_text.proofs.walk.walk_rest.Given as goal
 
--- what is to come finishes it, and each line has a byte or more
-abbrev pub invariant-loop-rest : goal.invariant-loop-rest
-invariant-loop-rest l = record {
-  to_come : walk_from (walk_view l.walk) (lines_from l.rest) ≡ walk_from walk_start (lines_from l.fn.bytes);
-  few : l.walk.number + length l.rest ≤ length l.fn.bytes + 2;
+-- what is to come finishes it
+abbrev pub invariant-loop-number : goal.invariant-loop-number
+invariant-loop-number l = record {
+  to_come : read_on (walk_view l.walk) l.lines.number l.lines.lines ≡ read_on walk_start 2 l.fn.lines.lines;
+  names : HasNames (walk_view l.walk) l.lines.number;
 }
 
-abbrev pub decreases-loop-rest : goal.decreases-loop-rest
-decreases-loop-rest l = length l.rest
+abbrev pub decreases-loop-number : goal.decreases-loop-number
+decreases-loop-number l = length l.lines.lines
