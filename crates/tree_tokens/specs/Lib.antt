@@ -1,4 +1,3 @@
 pub mod Apart
 pub mod Joined
-pub mod Table
 pub mod View

@@ -1,8 +1,8 @@
 //! First words of lines.
 ghost use Rattle.std.specs.Prelude.{◌≡◌};
 ghost use Rattle.tree_text_rules.specs.Line.{word_named};
-ghost use Rattle.tree_tokens.specs.Table.{found_in};
 
+use text_lines::words::looked_up;
 use tree_text_rules::Word;
 
 const WORDS: [(&[u8], Word); 23] = [
@@ -31,23 +31,10 @@ const WORDS: [(&[u8], Word); 23] = [
     (b"end", Word::End),
 ];
 
-// The word beside the token; none exactly where it stands in no row.
-fn found_in(mut rows: &[(&[u8], Word)], token: &[u8]) -> Option<Word>
-    ensures { result ≡ found_in rows.entry.now token.now }
-{
-    while let [row, rest @ ..] = rows {
-        if token == row.0 {
-            return Some(row.1);
-        }
-        rows = rest;
-    }
-    None
-}
-
 /// The word that a token is; none exactly where it is no first word of a line.
 #[tactic(auto, unfolding(tree_text_rules::specs::Line::word_named))]
 pub fn word_named(token: &[u8]) -> Option<Word>
     ensures { result ≡ word_named token.now }
 {
-    found_in(&WORDS, token)
+    looked_up(&WORDS, token)
 }
