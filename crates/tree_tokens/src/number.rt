@@ -1,5 +1,5 @@
 //! Whole numbers.
-ghost use Rattle.std.specs.Prelude.{◌≡◌, ◌==◌, ◌&&◌, ◌||◌, ◌≤◌, ◌≤ℤ◌, not, nat_le, pos, length, slice_index, Some, IfOk, IfSome};
+ghost use Rattle.std.specs.Prelude.{◌≡◌, ◌==◌, ◌&&◌, ◌||◌, ◌≤◌, ◌≤ℤ◌, not, nat_le, pos, length, slice_index, IfOk, IfSome};
 ghost use Rattle.std.specs.Str.{byte};
 ghost use Rattle.script_rules.specs.Fault.{whole_within};
 ghost use Rattle.integer_laws.specs.Range.{InRange};
@@ -23,36 +23,23 @@ fn has_no_zero_in_front(token: &[u8]) -> bool
     !token.is_empty() && (token.len() == 1 || token[0] != b'0')
 }
 
-// The whole number that the token spells, where it has few digits; none says nothing of it.
+// The whole number that the token spells. Most have few digits, and are read in 64 bits.
 #[tactic(auto, using(crate::proofs::Digits::whole))]
-fn short_number(token: &[u8]) -> Option<u64>
-    ensures { IfSome result (λ number. whole_within rules.greatest token.now ≡ Some number) }
+fn unsigned_number(token: &[u8]) -> Option<u128>
+    ensures value { result ≡ whole_within rules.greatest token.now }
+    ensures within { IfSome result (λ number. number ≤ rules.greatest) }
 {
     if !has_no_zero_in_front(token) {
         return None;
     }
     let mut number: u64 = 0;
     'reading: for c in token {
-        if !c.is_ascii_digit() {
-            return None;
-        }
-        if number > SHORT {
-            return None;
+        if !c.is_ascii_digit() || number > SHORT {
+            return whole_within(GREATEST, token);
         }
         number = 10 * number + (*c - b'0') as u64;
     }
-    Some(number)
-}
-
-// The whole number that the token spells. Most numbers are short, and read in 64 bits.
-fn unsigned_number(token: &[u8]) -> Option<u128>
-    ensures value { result ≡ whole_within rules.greatest token.now }
-    ensures within { IfSome result (λ number. number ≤ rules.greatest) }
-{
-    match short_number(token) {
-        Some(number) => Some(number as u128),
-        None => whole_within(GREATEST, token),
-    }
+    Some(number as u128)
 }
 
 fn whole_number(token: &[u8]) -> Option<i128>
