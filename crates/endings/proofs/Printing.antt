@@ -1,21 +1,20 @@
 -- What is out after lines of a tree text were printed.
-use Rattle.std.proofs.Common.{◌≡◌, ◌≤◌, ◌++◌, ◌∷◌, [], ℕ, List, Result, Ok, Err, refl, sym, ap, ◌∙◌, subst, inl, inr, append_assoc, codes}
+use Rattle.std.proofs.Common.{◌≡◌, ◌≤◌, ◌++◌, ◌∷◌, [], ℕ, List, Ok, Err, refl, sym, ap, ◌∙◌, subst, inl, inr, codes}
 use Rattle.std.specs.Io.KnownBytes.{Appends}
-use Rattle.std.proofs.KnownBytes.{Appends-trans}
-use Rattle.tree_text.specs.declared.fault.PrintFault.{PrintFault}
 use Rattle.text_rules.specs.Outside.{AppendsFront}
 use Rattle.io_rules.specs.State.{SinkState}
 use Rattle.text_rules.specs.Canonical.{joined}
 use Rattle.tree_text_rules.specs.Line.{Token}
 use Rattle.tree_text_rules.specs.Spelling as trees
 use Rattle.tree_text.specs.Prints.{Prints}
+pub use Rattle.tree_text.proofs.Printed.{two_printed, part_failed}
 use Rattle.tree_text.specs.declared.fault.PrintFault.TheVariants as faults
 use Rattle.studio_rules.specs.Lines.{line, text_of}
 use Rattle.studio_rules.specs.Printed.{spelled, OneAnswer}
 use Rattle.studio_rules.specs.Ending.{Ends, Tells, Only, IsOneOf}
 use Rattle.studio_rules.specs.declared.status.Status.{Status}
 use Rattle.studio_rules.specs.declared.status.Status.TheVariants.{Done, Past, Spent, Memory, WriteFault}
-use Rattle.endings.proofs.Ending.{Ends-after, HasRisen-later, only_in}
+use Rattle.endings.proofs.Ending.{Ends-after, only_in}
 
 pub spelled_text : (ls : List (List Token)) → trees.text_of ls ≡ text_of (spelled ls)
 spelled_text [] = refl
@@ -60,54 +59,3 @@ pub printed_first : (status : Status) (lines : List (List Token)) (old mid new :
 printed_first status lines old mid new s le out ends =
     Ends-after (Only Memory (line (codes "memory"))) (Tells (OneAnswer status lines)) old mid new s (text_of (spelled out.outcome.0))
     (subst (Appends old.written mid.written) (spelled_text out.outcome.0) out.outcome.3) (front_told status lines out.outcome.0 out.outcome.1 out.outcome.2) le ends
-
--- ---- one part and then another
-
-text_of-append : (xs ys : List (List Token)) → trees.text_of (xs ++ ys) ≡ trees.text_of xs ++ trees.text_of ys
-text_of-append [] ys = refl
-text_of-append (x ∷ xs) ys = ap (λ (t : List ℕ). trees.line_text x ++ t) (text_of-append xs ys) ∙ sym (append_assoc (trees.line_text x) (trees.text_of xs) (trees.text_of ys))
-
-pub two_printed : (some behind : List (List Token)) (old mid new : SinkState) (r : Result (Unit {0}) PrintFault) → old.faults ≤ mid.faults → Prints some old mid (Ok tt) → Prints behind mid new r → Prints (some ++ behind) old new r
-two_printed some behind old mid new (Ok done) le first second =
-    record { outcome = subst (Appends old.written new.written) (sym (text_of-append some behind)) (Appends-trans old.written mid.written new.written (trees.text_of some) (trees.text_of behind) first.outcome second.outcome) }
-two_printed some behind old mid new (Err faults.WriteFault) le first second =
-    let o = second.outcome.1 in
-    record {
-      outcome = (
-        HasRisen-later old.faults mid.faults new.faults le second.outcome.0,
-        (
-          trees.text_of some ++ o.0,
-          o.1,
-          text_of-append some behind ∙ (ap (λ (t : List ℕ). trees.text_of some ++ t) o.2 ∙ sym (append_assoc (trees.text_of some) o.0 o.1)),
-          Appends-trans old.written mid.written new.written (trees.text_of some) o.0 first.outcome o.3,
-        ),
-      );
-    }
-two_printed some behind old mid new (Err faults.Memory) le first second =
-    let o = second.outcome in
-    record {
-      outcome = (
-        some ++ o.0,
-        o.1,
-        ap (λ (t : List (List Token)). some ++ t) o.2 ∙ sym (append_assoc some o.0 o.1),
-        subst (Appends old.written new.written) (sym (text_of-append some o.0)) (Appends-trans old.written mid.written new.written (trees.text_of some) (trees.text_of o.0) first.outcome o.3),
-      );
-    }
-
-pub part_failed : (some behind : List (List Token)) (old new : SinkState) (fault : PrintFault) → Prints some old new (Err fault) → Prints (some ++ behind) old new (Err fault)
-part_failed some behind old new faults.WriteFault out =
-    let o = out.outcome.1 in
-    record {
-      outcome = (
-        out.outcome.0,
-        (
-          o.0,
-          o.1 ++ trees.text_of behind,
-          text_of-append some behind ∙ (ap (λ (t : List ℕ). t ++ trees.text_of behind) o.2 ∙ append_assoc o.0 o.1 (trees.text_of behind)),
-          o.3,
-        ),
-      );
-    }
-part_failed some behind old new faults.Memory out =
-    let o = out.outcome in
-    record { outcome = (o.0, o.1 ++ behind, ap (λ (t : List (List Token)). t ++ behind) o.2 ∙ append_assoc o.0 o.1 behind, o.3) }

@@ -1,3 +1,2 @@
-mod Ahead
 mod Marks
 pub mod Rankings

@@ -3,7 +3,7 @@ use Rattle.problem_rules.specs.Each.{Each}
 use Rattle.ranked_tree.specs.declared.mark.Mark.{Mark}
 use Rattle.ranked_tree.specs.View.{mark_of}
 use Rattle.rank_searches.specs.Normal.{IsMarkInRange}
-use Rattle.rank_searches.proofs.Ahead.{item_ahead}
+use Rattle.tree_text.proofs.Printed.{item_ahead}
 use Rattle.rank_searches.proofs.ranking.marks_are_in_range.Goals as goal
 
 pub marks-preserved : goal.marks-preserved

@@ -2,7 +2,7 @@ use Rattle.std.proofs.Common.{List, sym, subst}
 use Rattle.problem_rules.specs.Each.{Each}
 use Rattle.tree_rules.specs.Claim.{Network}
 use Rattle.branch_tree.specs.Sized.{IsKept}
-use Rattle.rank_searches.proofs.Ahead.{item_ahead}
+use Rattle.tree_text.proofs.Printed.{item_ahead}
 use Rattle.rank_searches.proofs.ranking.networks_are_kept.Goals as goal
 
 pub networks-preserved : goal.networks-preserved
