@@ -1,6 +1,6 @@
-mod Cutting
 mod Least
 mod ScriptLines
+mod Doubles
 mod TermsRead
 mod TokenCounts
 mod Reading

@@ -1,14 +1,17 @@
 -- Lines that are read one by one.
-use Rattle.std.proofs.Common.{◌≡◌, ◌==◌, ◌+◌, ◌++◌, ℕ, true, false, List, [], ◌∷◌, length, map, Result, Ok, Err, refl, sym, ap, ◌∙◌, arith, append_assoc, append-nil}
+use Rattle.std.proofs.Common.{◌≡◌, ◌==◌, ◌+◌, ◌++◌, ℕ, false, List, [], ◌∷◌, inl, inr, length, map, Result, Ok, Err, refl, sym, ap, ◌∙◌, append_assoc, append-nil}
 use Rattle.edit_rules.specs.Edit.{Edit, Script}
 use Rattle.script_rules.specs.declared.EditKind.{EditKind}
+use Rattle.script_rules.specs.declared.EditKind.TheVariants.{FileType}
 use Rattle.script_rules.specs.Fault.{Fault}
-use Rattle.script_rules.specs.Line.{script_lines}
-use Rattle.script_rules.specs.Read.{line_read, with_line, lines_read}
+use Rattle.script_rules.specs.Line.{file_type}
+use Rattle.script_rules.specs.Read.{line_read, with_line, lines_read, text_read}
+use Rattle.text_lines.specs.Lines.{IsUntyped}
 use Rattle.edit_scripts.specs.Walk.{with_front}
 use Rattle.edit_scripts.specs.View.{edit_of}
 use Rattle.edit_scripts.specs.declared.edit.Edit as declared
-use Rattle.std.proofs.lemmas.Bool.{eqb-true}
+use Rattle.std.proofs.lemmas.Bool.{cond-false}
+use Rattle.std.specs.Str.{bytes_eq}
 use Rattle.std.proofs.lemmas.List.{map-append}
 
 front_one : (edits : List Edit) (lines : List ℕ) (number : ℕ) (edit : Edit) (rest : Result Script Fault)
@@ -32,9 +35,15 @@ pub front_none : (rest : Result Script Fault) → with_front [] [] rest ≡ rest
 front_none (Ok script) = refl
 front_none (Err fault) = refl
 
-pub read_to_end : (edits : List Edit) (lines : List ℕ) (number : ℕ) (rest : List ℕ) → (length rest == 0) ≡ true
-    → with_front edits lines (lines_read number (script_lines rest)) ≡ Ok (record { edits = edits; lines = lines })
+pub read_to_end : (edits : List Edit) (lines : List ℕ) (number : ℕ) (texts : List (List ℕ)) → texts ≡ [] → with_front edits lines (lines_read number texts) ≡ Ok (record { edits = edits; lines = lines })
 read_to_end edits lines number [] e =
     ap (λ (es : List Edit). Ok (record { edits = es; lines = lines ++ [] })) (append-nil edits)
     ∙ ap (λ (ns : List ℕ). Ok (record { edits = edits; lines = ns })) (append-nil lines)
-read_to_end edits lines number (c ∷ cs) e = let n = eqb-true (length (c ∷ cs)) 0 e in absurd (omega arith)
+read_to_end edits lines number (text ∷ texts) e = cc
+
+pub typed : (texts rest : List (List ℕ)) → texts ≡ file_type ∷ rest → text_read texts ≡ lines_read 2 rest
+typed texts rest e = ap text_read e
+
+pub untyped : (texts : List (List ℕ)) → IsUntyped file_type texts → text_read texts ≡ Err (1, FileType)
+untyped texts (inl none) = ap text_read none
+untyped texts (inr some) = ap text_read some.2 ∙ cond-false (bytes_eq some.0 file_type) (lines_read 2 some.1) (Err (1, FileType)) some.3

@@ -34,6 +34,12 @@ not_three (x ∷ y ∷ []) other = inr (inr (inl (x.now, y.now, refl)))
 not_three (x ∷ y ∷ z ∷ []) other = cc
 not_three (x ∷ y ∷ z ∷ u ∷ xs) other = inr (inr (inr (x.now, y.now, z.now, u.now, texts xs, refl)))
 
+pub two : (xs : List (Bor (List ℕ))) → 2 ≤ length xs → length xs < 3 → texts xs ≡ at xs 0 ∷ at xs 1 ∷ []
+two [] least most = absurd (omega arith)
+two (x0 ∷ []) least most = absurd (omega arith)
+two (x0 ∷ x1 ∷ []) least most = refl
+two (x0 ∷ x1 ∷ x2 ∷ xs) least most = absurd (omega arith)
+
 pub three : (xs : List (Bor (List ℕ))) → 3 ≤ length xs → length xs < 4 → texts xs ≡ at xs 0 ∷ at xs 1 ∷ at xs 2 ∷ []
 three [] least most = absurd (omega arith)
 three (x0 ∷ []) least most = absurd (omega arith)

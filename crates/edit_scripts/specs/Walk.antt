@@ -10,5 +10,5 @@ abbrev pub with_front : List Edit → List ℕ → Result Script Fault → Resul
 with_front edits lines (Ok script) = Ok (record { edits = edits ++ script.edits; lines = lines ++ script.lines })
 with_front edits lines (Err fault) = Err fault
 
-abbrev pub read_on : Walk → List (List ℕ) → Result Script Fault
-read_on walk texts = with_front (map edit_of walk.edits.items) walk.lines.items (lines_read walk.number texts)
+abbrev pub read_on : Walk → ℕ → List (List ℕ) → Result Script Fault
+read_on walk number texts = with_front (map edit_of walk.edits.items) walk.lines.items (lines_read number texts)

@@ -25,7 +25,7 @@ pub(crate) fn name(alloc: Global, fields: &[&[u8]]) -> Result<String, LineFault>
 }
 
 /// An old and a new name.
-#[tactic(auto, using(crate::proofs::TokenCounts::not_two))]
+#[tactic(auto, using(crate::proofs::TokenCounts::not_two, crate::proofs::TokenCounts::two))]
 pub(crate) fn names(alloc: Global, fields: &[&[u8]]) -> Result<(String, String), LineFault>
     ensures { Reads (λ read. (string_bytes read.0, string_bytes read.1)) (names_read (texts fields.now)) result }
 {
@@ -39,7 +39,7 @@ pub(crate) fn names(alloc: Global, fields: &[&[u8]]) -> Result<(String, String),
 }
 
 /// A name and an amount of either sign.
-#[tactic(auto, using(crate::proofs::TokenCounts::not_two))]
+#[tactic(auto, using(crate::proofs::TokenCounts::not_two, crate::proofs::TokenCounts::two))]
 pub fn amount(alloc: Global, fields: &[&[u8]]) -> Result<(String, i64), LineFault>
     ensures ok { IfOk result (λ read. amount_read (texts fields.now) ≡ Ok (string_bytes read.0, read.1)) }
     ensures fault { IfErr result (TellsLine (amount_read (texts fields.now))) }

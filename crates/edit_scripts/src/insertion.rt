@@ -87,6 +87,7 @@ pub(crate) fn insert_unit(alloc: Global, fields: &[&[u8]]) -> Result<Edit, LineF
     }
 }
 
+#[tactic(auto, using(crate::proofs::Doubles::members_told))]
 fn members_fault(alloc: Global, units: &[&[u8]]) -> Result<Option<EditKind>, AllocError>
     ensures { IfOk result (λ kind. kind ≡ members_fault (texts units.now)) }
 {

@@ -2,12 +2,11 @@
 //! gives the edits with the numbers of their lines, or the first fault of form; `print_script` gives a script's one text.
 //! A `Script` holds no edit with a fault of form.
 //!
-//! Modules: `edit`, `term`, `script` and `fault` (the values), `cut` (lines and tokens), `token` (what is wrong with one token),
-//! `sides` (the terms of a new unit), `fields` and `insertion` (the forms of lines), `line` (one line), `read`, `print`. Other texts
-//! with the same lines, tokens and amounts are read with `cut` and `fields`.
+//! Modules: `edit`, `term`, `script` and `fault` (the values), `token` (what is wrong with one token), `sides` (the terms
+//! of a new unit), `fields` and `insertion` (the forms of lines), `line` (one line), `read`, `print`. Other texts with the same
+//! names and amounts are read with `fields`.
 #![tactic(auto)]
 
-pub mod cut;
 mod edit;
 mod fault;
 pub mod fields;

@@ -4,7 +4,6 @@ ghost use Rattle.script_rules.specs.Read.{fields_read, line_read};
 ghost use Rattle.edit_scripts.specs.Reads.{Reads};
 ghost use Rattle.edit_scripts.specs.View.{edit_of};
 
-use crate::cut::tokens_of;
 use crate::edit::Edit;
 use crate::fault::LineFault;
 use crate::token::{
@@ -15,9 +14,10 @@ use crate::{fields, insertion};
 use script_rules::{EditKind, Word};
 use std::alloc::Global;
 use text_lines::amount::millionths;
+use text_lines::token::tokens_of;
 
 /// `NAME KIND`
-#[tactic(auto, using(crate::proofs::TokenCounts::not_two))]
+#[tactic(auto, using(crate::proofs::TokenCounts::not_two, crate::proofs::TokenCounts::two))]
 fn kind(alloc: Global, fields: &[&[u8]]) -> Result<Edit, LineFault>
     ensures { Reads edit_of (fields_read Word.Kind (texts fields.now)) result }
 {
@@ -46,7 +46,7 @@ fn material_bounds(alloc: Global, fields: &[&[u8]]) -> Result<Edit, LineFault>
 }
 
 /// `NAME FIXED`
-#[tactic(auto, using(crate::proofs::TokenCounts::not_two))]
+#[tactic(auto, using(crate::proofs::TokenCounts::not_two, crate::proofs::TokenCounts::two))]
 fn fix(alloc: Global, fields: &[&[u8]]) -> Result<Edit, LineFault>
     ensures { Reads edit_of (fields_read Word.Fix (texts fields.now)) result }
 {

@@ -32,6 +32,7 @@ pub(crate) fn terms_fault(terms: &[Term<'_>]) -> Option<EditKind>
     found
 }
 
+#[tactic(auto, using(text_lines::proofs::Maps::maps_more, std::proofs::lemmas::Grind::common_steps))]
 fn materials_of<'a>(alloc: Global, terms: &[Term<'a>]) -> Result<Vec<&'a [u8]>, AllocError>
     ensures { IfOk result (λ names. texts names.items ≡ materials_of (terms_view terms.now)) }
 {
@@ -79,6 +80,7 @@ pub(crate) fn sides_fault(alloc: Global, sides: &Sides<'_>) -> Result<Option<Edi
 }
 
 /// The terms of a side by name.
+#[tactic(auto, using(text_lines::proofs::Maps::maps_more, std::proofs::lemmas::Grind::common_steps))]
 pub(crate) fn named_terms(alloc: Global, terms: &[Term<'_>]) -> Result<Vec<NamedTerm>, AllocError>
     ensures { IfOk result (λ named. named.items ≡ map term_read (terms_view terms.now)) }
 {

@@ -1,12 +1,11 @@
 //! What is wrong with a token by its place in a line, and what it stands for.
-ghost use Rattle.std.specs.Prelude.{◌≡◌, ◌≤◌, IfOk, IfErr, OnOk, Some, None, map, string_bytes};
+ghost use Rattle.std.specs.Prelude.{◌≡◌, ◌≤◌, IfOk, IfErr, OnOk, Some, None, string_bytes};
 ghost use Rattle.text_rules.specs.Value.{kind_of};
 ghost use Rattle.pns_problem.specs.Kind as kinds;
 ghost use Rattle.text_lines.specs.View.{texts};
 ghost use Rattle.text_lines.specs.declared.fault.LineFault.TheVariants as line;
 ghost use Rattle.script_rules.specs.Fault.{kind_number, lesser, least, some_token, number_fault, name_fault, kind_fault, amount_fault, bound_fault, rate_fault, place_of, place_fault, years_of, years_fault, names_fault};
 ghost use Rattle.script_rules.specs.Line.{word_named};
-ghost use Rattle.edit_scripts.specs.Words.{looked_up};
 
 use crate::fault::LineFault;
 use pns_problem::Kind;
@@ -16,6 +15,7 @@ use std::str;
 use text_lines::amount::read_amount;
 use text_lines::name::is_name;
 use text_lines::whole_number::whole_within;
+use text_lines::words::looked_up;
 use text_rules::TextKind;
 
 const WORDS: [(&[u8], Word); 16] = [
@@ -36,18 +36,6 @@ const WORDS: [(&[u8], Word); 16] = [
     (b"investment", Word::Investment),
     (b"payout", Word::Payout),
 ];
-
-fn looked_up(mut words: &[(&[u8], Word)], text: &[u8]) -> Option<Word>
-    ensures { result ≡ looked_up (map (λ entry. (entry.0.now, entry.1)) words.entry.now) text.now }
-{
-    while let [(name, word), rest @ ..] = words {
-        if text == *name {
-            return Some(*word);
-        }
-        words = rest;
-    }
-    None
-}
 
 /// The word that begins a line.
 pub(crate) fn word_named(text: &[u8]) -> Option<Word>
