@@ -1,5 +1,5 @@
 -- What is read of a line that was cut is what the grammar reads of its text.
-use Rattle.std.proofs.Common.{◌≡◌, Bool, true, false, ℕ, List, [], ◌∷◌, ◌++◌, map, slice_index_or, Some, None, if◌then◌else◌, refl, sym, ◌∙◌, ap, option_map, Option, find}
+use Rattle.std.proofs.Common.{◌≡◌, Bool, true, false, ℕ, List, [], ◌∷◌, ◌++◌, map, slice_index_or, Some, None, if◌then◌else◌, refl, sym, ◌∙◌, ap, subst, option_map, Option, find}
 use Rattle.std.proofs.lemmas.Simd.{map-map}
 use Rattle.std.specs.Str.{bytes_eq}
 use Rattle.problem_rules.specs.Problem as rules
@@ -83,3 +83,12 @@ line_kept line cut kept is = one_kept cut kept line.number line.section line.hea
 pub none_kept : (b : Bool) (line : Placed) (kept : List Placed) → b ≡ false → kept ≡ (if b then kept ++ line ∷ [] else kept)
 none_kept true line kept e = cc
 none_kept false line kept e = refl
+
+-- that at a line of rates
+pub flows_meaning : (s : Settings) (names : Names) (number : ℕ) (text head : List ℕ) (cut : Cut) (sides : Sides) (line : Placed) → cut ≡ Flows sides → head ≡ head_of text → IsCutOf text cut → line_cut number text cut ≡ line
+    → rates_kind s names head (sides_view sides) ≡ line_meaning s names line
+flows_meaning s names number text head cut sides line is named parts view =
+    let pairs : sides_view sides ≡ pairs_at text = subst (λ (k : Cut). IsCutOf text k) is parts in
+    (λ i. rates_kind s names (named i) (pairs i))
+    ∙ ap (λ (k : Cut). line_meaning s names (line_cut number text k)) (sym is)
+    ∙ ap (line_meaning s names) view

@@ -1,11 +1,10 @@
 -- The reading that goes on, line by line.
-use Rattle.std.proofs.Common.{◌≡◌, ◌==◌, ◌+◌, Bool, true, false, not, ℕ, suc, List, [], ◌∷◌, ◌++◌, length, filter, Option, Some, None, Result, Ok, Err, inl, inr, if◌then◌else◌, refl, sym, ◌∙◌, ap, subst, arith, append_assoc, append-nil}
-use Rattle.std.specs.Str.{bytes_eq}
+use Rattle.std.proofs.Common.{◌≡◌, ◌==◌, ◌+◌, Bool, true, false, not, ℕ, suc, List, [], ◌∷◌, ◌++◌, length, filter, Option, Some, None, Result, Ok, Err, OnOk, inl, inr, if◌then◌else◌, refl, sym, ◌∙◌, ap, arith, append_assoc, append-nil}
 use Rattle.std.proofs.lemmas.Bool.{ne_eqb, eqb-true}
 use Rattle.problem_rules.specs.Problem.{Problem}
 use Rattle.text_rules.specs.declared.TextKind.{TextKind}
 use Rattle.text_rules.specs.declared.TextKind.TheVariants.{FileType, NoProduct}
-use Rattle.text_rules.specs.Line.{Placed, lines_of, without_mark, placed_from, standing, matters}
+use Rattle.text_rules.specs.Line.{Placed, without_mark, matters}
 use Rattle.text_rules.specs.Fault as rules
 use Rattle.text_rules.specs.Fault.{file_type, Seen, line_fault, first_fault, fault_or}
 use Rattle.text_rules.specs.Value.{Settings, Names, first_meaning, settings_of, names_all, problem_from, has_product, with_product, or_first, meaning_at, read_lines, read_text}
@@ -14,7 +13,12 @@ use Rattle.text_lines.specs.declared.fault.TextFault.TheVariants.{At, Memory}
 use Rattle.text_lines.specs.Lines.{lines_from, IsUntyped}
 use Rattle.text_lines.specs.Tells.{Tells}
 use Rattle.pns_text.specs.Fault.{TellsKind}
-use Rattle.pns_text.specs.Walk.{Walk, walk_start, placed_at, kept_after, walk_past, IsPast, to_come, read_on}
+use Rattle.pns_text.specs.Walk.{Walk, walk_start, placed_at, walk_past, IsPast, to_come, read_on}
+
+-- what follows where a call went well
+pub on_ok : {A E : Type 0} (r : Result A E) (P Q : Type 0) → (P → Q) → OnOk r P → OnOk r Q
+on_ok (Ok x) P Q f is = f is
+on_ok (Err e) P Q f is = tt
 
 -- the lines to come, of which the next is not empty
 full : (w : Walk) (number : ℕ) (c : ℕ) (cs : List ℕ) (texts : List (List ℕ)) → to_come w number ((c ∷ cs) ∷ texts) ≡ placed_at number w.section (c ∷ cs) ∷ to_come (walk_past w (placed_at number w.section (c ∷ cs))) (number + 1) texts
@@ -92,8 +96,8 @@ read_typed bytes text lines behind typed =
 untyped_is : (texts : List (List ℕ)) → IsUntyped file_type texts → read_lines texts ≡ Err (1, FileType)
 untyped_is texts (inl none) = ap read_lines none
 untyped_is texts (inr other) =
-    ap read_lines other.2.0
-    ∙ ap (λ (b : Bool). or_first (if b then first_fault walk_start.seen (to_come walk_start 2 other.1) else Some (1, FileType)) (meaning_at (filter matters (to_come walk_start 2 other.1)) (length (other.0 ∷ other.1) + 1))) other.2.1
+    ap read_lines other.2
+    ∙ ap (λ (b : Bool). or_first (if b then first_fault walk_start.seen (to_come walk_start 2 other.1) else Some (1, FileType)) (meaning_at (filter matters (to_come walk_start 2 other.1)) (length (other.0 ∷ other.1) + 1))) other.3
 
 pub read_untyped : (bytes text : List ℕ) → text ≡ without_mark bytes → IsUntyped file_type (lines_from text) → read_text bytes ≡ Err (1, FileType)
 read_untyped bytes text behind is = ap (λ (t : List ℕ). read_lines (lines_from t)) (sym behind) ∙ untyped_is (lines_from text) is

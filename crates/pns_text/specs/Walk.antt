@@ -1,5 +1,5 @@
 -- The reading of a text that goes on: what was seen and kept of the lines so far, and the lines that are to come.
-use Rattle.std.specs.Prelude.{◌≡◌, ◌≤◌, ◌+◌, ◌++◌, ℕ, List, [], ◌∷◌, length, filter, Option, None, Result, if◌then◌else◌}
+use Rattle.std.specs.Prelude.{◌≡◌, ◌≤◌, ◌+◌, ◌++◌, ℕ, List, [], ◌∷◌, length, filter, None, Result, if◌then◌else◌}
 use Rattle.problem_rules.specs.Problem.{Problem}
 use Rattle.text_rules.specs.declared.Section.{Section}
 use Rattle.text_rules.specs.declared.Section.TheVariants.{Preamble, Materials, OperatingUnits, Rates}

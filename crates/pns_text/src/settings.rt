@@ -34,16 +34,16 @@ impl Model for Settings {
     ghost Value = { rules.Settings };
 
     ghost view = { λ s. record {
-        kind = kind_of s.kind;
-        price = s.price;
-        flow_lower = s.flow_lower;
-        flow_upper = s.flow_upper;
-        capacity_lower = s.capacity_lower;
-        capacity_upper = s.capacity_upper;
-        fix = s.fix;
-        proportional = s.proportional;
-        investment_fix = s.investment_fix;
-        investment_proportional = s.investment_proportional;
+      kind = kind_of s.kind;
+      price = s.price;
+      flow_lower = s.flow_lower;
+      flow_upper = s.flow_upper;
+      capacity_lower = s.capacity_lower;
+      capacity_upper = s.capacity_upper;
+      fix = s.fix;
+      proportional = s.proportional;
+      investment_fix = s.investment_fix;
+      investment_proportional = s.investment_proportional;
     } };
 }
 
