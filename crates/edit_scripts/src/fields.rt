@@ -6,7 +6,7 @@ ghost use Rattle.script_rules.specs.Read.{name_read, names_read, amount_read, bo
 ghost use Rattle.edit_scripts.specs.Reads.{Reads};
 
 use crate::fault::LineFault;
-use crate::token::{amount_fault, bound_fault, judge, name_fault, name_string};
+use crate::token::{amount_fault, bound_fault, judge, name_fault, name_string, name_text};
 use script_rules::EditKind;
 use std::alloc::Global;
 use text_lines::amount::millionths;
@@ -40,14 +40,14 @@ pub(crate) fn names(alloc: Global, fields: &[&[u8]]) -> Result<(String, String),
 
 /// A name and an amount of either sign.
 #[tactic(auto, using(crate::proofs::TokenCounts::not_two, crate::proofs::TokenCounts::two))]
-pub fn amount(alloc: Global, fields: &[&[u8]]) -> Result<(String, i64), LineFault>
-    ensures ok { IfOk result (λ read. amount_read (texts fields.now) ≡ Ok (string_bytes read.0, read.1)) }
+pub fn amount<'a>(fields: &[&'a [u8]]) -> Result<(&'a str, i64), LineFault>
+    ensures ok { IfOk result (λ read. amount_read (texts fields.now) ≡ Ok (read.0.now, read.1)) }
     ensures fault { IfErr result (TellsLine (amount_read (texts fields.now))) }
 {
     match fields {
         [name, value] => {
             judge(&[name_fault(*name), amount_fault(*value)])?;
-            Ok((name_string(alloc, *name)?, millionths(*value)))
+            Ok((name_text(*name)?, millionths(*value)))
         }
         _ => Err(LineFault::Kind(EditKind::BadLine)),
     }
@@ -55,14 +55,14 @@ pub fn amount(alloc: Global, fields: &[&[u8]]) -> Result<(String, i64), LineFaul
 
 /// A name, a lower and an upper bound.
 #[tactic(auto, using(crate::proofs::TokenCounts::not_three, crate::proofs::TokenCounts::three))]
-pub fn bounds(alloc: Global, fields: &[&[u8]]) -> Result<(String, i64, i64), LineFault>
-    ensures ok { IfOk result (λ read. bounds_read (texts fields.now) ≡ Ok (string_bytes read.0, (read.1, read.2))) }
+pub fn bounds<'a>(fields: &[&'a [u8]]) -> Result<(&'a str, i64, i64), LineFault>
+    ensures ok { IfOk result (λ read. bounds_read (texts fields.now) ≡ Ok (read.0.now, (read.1, read.2))) }
     ensures fault { IfErr result (TellsLine (bounds_read (texts fields.now))) }
 {
     match fields {
         [name, lower, upper] => {
             judge(&[name_fault(*name), bound_fault(*lower), bound_fault(*upper)])?;
-            let name = name_string(alloc, *name)?;
+            let name = name_text(*name)?;
             Ok((name, millionths(*lower), millionths(*upper)))
         }
         _ => Err(LineFault::Kind(EditKind::BadLine)),

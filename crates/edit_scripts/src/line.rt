@@ -37,9 +37,9 @@ fn kind(alloc: Global, fields: &[&[u8]]) -> Result<Edit, LineFault>
 fn material_bounds(alloc: Global, fields: &[&[u8]]) -> Result<Edit, LineFault>
     ensures { Reads edit_of (fields_read Word.Bounds (texts fields.now)) result }
 {
-    let (material, lower, upper) = fields::bounds(alloc, fields)?;
+    let (name, lower, upper) = fields::bounds(fields)?;
     Ok(Edit::Bounds {
-        material,
+        material: String::from_str(alloc, name)?,
         lower,
         upper,
     })
@@ -106,18 +106,21 @@ fn read_fields(alloc: Global, word: Word, fields: &[&[u8]]) -> Result<Edit, Line
     let name = || fields::name(alloc, fields);
     match word {
         Word::Price => {
-            let (material, value) = fields::amount(alloc, fields)?;
+            let (name, value) = fields::amount(fields)?;
+            let material = String::from_str(alloc, name)?;
             Ok(Edit::Price { material, value })
         }
         Word::Bounds => material_bounds(alloc, fields),
         Word::Kind => kind(alloc, fields),
         Word::Capacity => {
-            let (unit, lower, upper) = fields::bounds(alloc, fields)?;
+            let (name, lower, upper) = fields::bounds(fields)?;
+            let unit = String::from_str(alloc, name)?;
             Ok(Edit::Capacity { unit, lower, upper })
         }
         Word::Fix => fix(alloc, fields),
         Word::Proportional => {
-            let (unit, value) = fields::amount(alloc, fields)?;
+            let (name, value) = fields::amount(fields)?;
+            let unit = String::from_str(alloc, name)?;
             Ok(Edit::Proportional { unit, value })
         }
         Word::RenameMaterial => {

@@ -211,12 +211,19 @@ pub(crate) fn years_fault(token: &[u8]) -> Option<EditKind>
     some_token(token, (years_of(token) < 1).then_some(EditKind::BadNumber))
 }
 
-/// The name as a string. A name is ASCII; a token that is not UTF-8 has a fault and does not come here.
+/// The name as text. A name is ASCII; a token that is not UTF-8 has a fault and does not come here.
+pub(crate) fn name_text(name: &[u8]) -> Result<&str, AllocError>
+    ensures { IfOk result (λ text. text.now ≡ name.now) }
+{
+    match str::from_utf8(name) {
+        Ok(text) => Ok(text),
+        Err(_) => Err(AllocError),
+    }
+}
+
+/// The name as a string.
 pub(crate) fn name_string(alloc: Global, name: &[u8]) -> Result<String, AllocError>
     ensures { IfOk result (λ s. string_bytes s ≡ name.now) }
 {
-    match str::from_utf8(name) {
-        Ok(text) => String::from_str(alloc, text),
-        Err(_) => Err(AllocError),
-    }
+    String::from_str(alloc, name_text(name)?)
 }
