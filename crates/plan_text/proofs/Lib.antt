@@ -1,5 +1,5 @@
-mod Fields
 mod Places
-mod Reading
-mod Periods
+mod Resumed
+mod Taken
 mod Valid
+mod Whole

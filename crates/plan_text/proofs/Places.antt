@@ -1,11 +1,9 @@
 -- The place of a name, as a look-up finds it.
-use Rattle.std.proofs.Common.{◌≡◌, ◌≤◌, ◌+◌, ℕ, suc, Bool, true, false, cond, not, ◌||◌, nat_lt, Some, None, List, [], ◌∷◌, length, refl, sym, ◌∙◌, arith, inl, inr}
+use Rattle.std.proofs.Common.{◌≡◌, ◌+◌, ℕ, suc, Bool, true, false, cond, not, ◌||◌, nat_lt, Some, None, List, [], ◌∷◌, length, refl, sym, ◌∙◌, arith, inl, inr}
 use Rattle.std.specs.List.{list_any, position, position_or_len}
 use Rattle.std.specs.Str.{bytes_eq}
-use Rattle.std.proofs.lemmas.List.{length-map}
-use Rattle.std.proofs.lemmas.List.Sums.{prefix_len-le-length}
-use Rattle.std.proofs.lemmas.Bool.{cases_lt, lt-ltb, le-ltb, ltb-false}
-use Rattle.problem_rules.specs.Problem.{Problem, Material, material_names}
+use Rattle.std.proofs.lemmas.Bool.{cases_lt, lt-ltb, le-ltb}
+use Rattle.problem_rules.specs.Problem.{Problem, material_names}
 use Rattle.edit_rules.specs.Place.{has_material, material_place}
 
 step_same : (a b : ℕ) → nat_lt (1 + a) (suc b) ≡ nat_lt a b
@@ -38,18 +36,14 @@ module _ (p : Problem) (name : List ℕ) where
   abbrev is_name : List ℕ → Bool
   is_name word = bytes_eq word name
 
+  abbrev within : Bool
+  within = nat_lt (position_or_len is_name names) (length names)
+
   pub place_at : (k : ℕ) → Some k ≡ position is_name names → k ≡ material_place p name
-  place_at k e = (some_at (nat_lt (position_or_len is_name names) (length names)) (position_or_len is_name names) k e).1
+  place_at k e = (some_at within (position_or_len is_name names) k e).1
 
   pub known : (k : ℕ) → Some k ≡ position is_name names → true ≡ has_material p name
-  known k e = sym (any_within is_name names ∙ (some_at (nat_lt (position_or_len is_name names) (length names)) (position_or_len is_name names) k e).0)
+  known k e = sym (any_within is_name names ∙ (some_at within (position_or_len is_name names) k e).0)
 
   pub unknown : None ≡ position is_name names → false ≡ has_material p name
-  unknown e = sym (any_within is_name names ∙ none_at (nat_lt (position_or_len is_name names) (length names)) (position_or_len is_name names) e)
-
-  pub place_past : None ≡ position is_name names → length p.materials ≡ material_place p name
-  place_past e =
-      let past : length names ≤ position_or_len is_name names = ltb-false (position_or_len is_name names) (length names) (none_at (nat_lt (position_or_len is_name names) (length names)) (position_or_len is_name names) e) in
-      let most : position_or_len is_name names ≤ length names = prefix_len-le-length (λ word. not (is_name word)) names in
-      let long = length-map p.materials (λ (m : Material). m.name) in
-      omega (arith, past, most, long)
+  unknown e = sym (any_within is_name names ∙ none_at within (position_or_len is_name names) e)

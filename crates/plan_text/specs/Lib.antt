@@ -1,3 +1,2 @@
-pub mod Tells
+pub mod Reading
 pub mod View
-pub mod Walk

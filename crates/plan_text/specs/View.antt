@@ -1,20 +1,27 @@
--- What a line says, as the rules have it, and the material that it changes.
-use Rattle.std.specs.Prelude.{ℕ, List, [], ◌∷◌, string_bytes}
+-- What a line says, as the rules have it.
+use Rattle.std.specs.Prelude.{◌≡◌, ℕ, List, Result, Ok, Err}
+use Rattle.script_rules.specs.declared.EditKind.{EditKind}
+use Rattle.plan_rules.specs.declared.PlanKind.{PlanKind}
+use Rattle.plan_rules.specs.Line.{kind_of}
 use Rattle.plan_rules.specs.Line as rules
-use Rattle.plan_text.specs.declared.entry.Entry.{Entry}
-use Rattle.plan_text.specs.declared.entry.Entry.TheVariants.{Begins, Price, Bounds}
+use Rattle.text_lines.specs.declared.fault.LineFault.{LineFault}
+use Rattle.text_lines.specs.declared.fault.LineFault.TheVariants.{Memory, Kind}
+use Rattle.plan_text.specs.declared.line.Change.{Change}
+use Rattle.plan_text.specs.declared.line.Change.TheVariants.{Price, Bounds}
+use Rattle.plan_text.specs.declared.line.Entry.{Entry}
+use Rattle.plan_text.specs.declared.line.Entry.TheVariants.{Begins, Changes}
+
+-- a change of the material of this name
+abbrev pub changes : List ℕ → Change → rules.Entry
+changes material (Price price) = rules.price material price
+changes material (Bounds lower upper) = rules.bounds material lower upper
 
 abbrev pub entry_of : Entry → rules.Entry
 entry_of Begins = rules.begins
-entry_of (Price material value) = rules.price (string_bytes material) value
-entry_of (Bounds material lower upper) = rules.bounds (string_bytes material) lower upper
+entry_of (Changes material change) = changes material.now change
 
-abbrev pub name_of : rules.Entry → List ℕ
-name_of rules.begins = []
-name_of (rules.price name value) = name
-name_of (rules.bounds name lower upper) = name
-
--- the first of some texts
-abbrev pub first_of : List (List ℕ) → List ℕ
-first_of [] = []
-first_of (text ∷ rest) = text
+-- what stands behind the word of a line: an entry, or a fault in the words of a script
+abbrev pub ReadsFields : Result rules.Entry PlanKind → Result Entry (LineFault EditKind) → Type 0
+ReadsFields reading (Ok entry) = reading ≡ Ok (entry_of entry)
+ReadsFields reading (Err Memory) = Unit {0}
+ReadsFields reading (Err (Kind kind)) = reading ≡ Err (kind_of kind)

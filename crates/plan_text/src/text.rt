@@ -3,14 +3,53 @@ ghost use Rattle.std.specs.Prelude.{◌≡◌, ◌<◌, ◌-◌, ◌^◌, Ok, If
 ghost use Rattle.plan_rules.specs.Meaning.{read_plan};
 ghost use Rattle.plan_rules.specs.Plan.{IsPlan};
 ghost use Rattle.text_lines.specs.Tells.{Tells};
+ghost use Rattle.plan_text.specs.Reading.{rest_read};
 
-use crate::fault::PlanFault;
-use crate::lines_plan::periods_of;
-use crate::meaning::meaning_fault;
-use crate::read::read_lines;
+use crate::line::LineFault;
+use crate::reading::Reading;
 use periods::Plan;
+use plan_rules::PlanKind;
 use pns_problem::Problem;
 use std::alloc::Global;
+use text_lines::fault::TextFault;
+use text_lines::lines::{Drops, Lines};
+use text_lines::name_set::NameSet;
+
+/// The first fault of a plan, or want of memory.
+pub type PlanFault = TextFault<PlanKind>;
+
+// The plan of the lines behind the first.
+fn read_rest(alloc: Global, problem: &Problem, mut lines: Lines<'_>) -> Result<Plan, PlanFault>
+    ensures read { IfOk result (λ plan. rest_read problem.now lines.entry ≡ Ok plan) }
+    ensures fault { IfErr result (Tells (rest_read problem.now lines.entry)) }
+{
+    let mut reading = Reading {
+        periods: Vec::new(alloc),
+        priced: NameSet::new(alloc),
+        bounded: NameSet::new(alloc),
+        fault: None,
+    };
+    'reading: while let Some((number, text)) = lines.next() {
+        if text.is_empty() {
+            continue;
+        }
+        match reading.take(alloc, problem, number, text) {
+            Ok(()) => {}
+            Err(LineFault::Kind(kind)) => return Err(PlanFault::At { line: number, kind }),
+            Err(LineFault::Memory) => return Err(PlanFault::Memory),
+        }
+    }
+    if let Some((line, kind)) = reading.fault {
+        return Err(PlanFault::At { line, kind });
+    }
+    match Plan::of(problem, reading.periods) {
+        Ok(plan) => Ok(plan),
+        Err(kind) => Err(PlanFault::At {
+            line: lines.number(),
+            kind,
+        }),
+    }
+}
 
 /// The plan for the problem that the text stands for. `At` comes exactly where the text has a fault, with the first: a fault
 /// of form before each of meaning, then the least line, counted from 1, and of the faults there the one with the least
@@ -22,11 +61,11 @@ pub fn read_plan(alloc: Global, problem: &Problem, bytes: &[u8]) -> Result<Plan,
     ensures fault { IfErr result (Tells (read_plan problem.now bytes.now)) }
 {
     problem.is_valid();
-    let (lines, count) = read_lines(alloc, bytes)?;
-    match meaning_fault(problem, count, &lines) {
-        Some((line, kind)) => Err(PlanFault::At { line, kind }),
-        None => Ok(Plan {
-            periods: periods_of(alloc, problem, &lines)?,
+    match Lines::behind_type(Drops::Return, bytes, b"file_type=PNS_plan_v1") {
+        Some(lines) => read_rest(alloc, problem, lines),
+        None => Err(PlanFault::At {
+            line: 1,
+            kind: PlanKind::FileType,
         }),
     }
 }
