@@ -1,15 +1,14 @@
 -- Periods that lines to come go on with.
-use Rattle.std.proofs.Common.{◌≡◌, ◌<◌, ◌≤◌, ◌+◌, ◌++◌, ◌*◌, ◌==◌, ℕ, zero, suc, Bool, true, false, ◌||◌, nat_lt, List, [], ◌∷◌, length, Option, Some, None, Result, Ok, Err, refl, sym, ap, ◌∙◌, arith, get_or, if◌then◌else◌}
+use Rattle.std.proofs.Common.{◌≡◌, ◌<◌, ◌≤◌, ◌+◌, ◌++◌, ◌*◌, ℕ, zero, suc, Bool, true, false, ◌||◌, nat_lt, List, [], ◌∷◌, length, Option, Some, None, Err, refl, sym, ap, ◌∙◌, arith, get_or, if◌then◌else◌}
 use Rattle.std.specs.Prelude.{slice_set}
 use Rattle.std.proofs.lemmas.Bool.{or_left, or_right, ltb-true, lt-ltb, ne_eqb}
 use Rattle.std.proofs.lemmas.List.{length-set}
 use Rattle.std.proofs.Math.Nat.{mul-le-mul_left}
 use Rattle.problem_rules.specs.Problem.{Problem}
-use Rattle.plan_rules.specs.declared.PlanKind.{PlanKind}
 use Rattle.plan_rules.specs.declared.PlanKind.TheVariants.{NoPeriod, TooWide}
 use Rattle.plan_rules.specs.Line.{Entry, begins, price, bounds}
 use Rattle.plan_rules.specs.Meaning.{count_fault, own_period, changed}
-use Rattle.plan_rules.specs.Plan.{Period, Plan, is_too_wide}
+use Rattle.plan_rules.specs.Plan.{Period, is_too_wide}
 use Rattle.plan_rules.specs.Read.{Fault, Line, is_begin}
 use Rattle.plan_text.specs.Reading.{resumed, ended}
 
@@ -33,16 +32,16 @@ behind_first : (p : Problem) (q : Period) (qs : List Period) (lines : List Line)
 behind_first p q [] lines some = absurd (omega (arith, some))
 behind_first p q (r ∷ rs) lines some = refl
 
-pub gone_on : (p : Problem) (periods : List Period) (k number : ℕ) (entry : Entry) (q : Period) (lines : List Line) → k + 1 ≡ length periods → is_begin entry ≡ false → q ≡ changed p (get_or periods k q) entry
+pub gone_on : (p : Problem) (periods : List Period) (k number : ℕ) (entry : Entry) (q d : Period) (lines : List Line) → k + 1 ≡ length periods → is_begin entry ≡ false → q ≡ changed p (get_or periods k d) entry
     → resumed p (slice_set periods k q) lines ≡ resumed p periods (record { number = number; entry = entry } ∷ lines)
-gone_on p [] k number entry q lines last e is = absurd (omega (arith, last))
-gone_on p (q0 ∷ []) zero number entry q lines last e is = ap (λ (r : Period). resumed p (r ∷ []) lines) is ∙ last_changed p q0 number entry lines e
-gone_on p (q0 ∷ []) (suc k) number entry q lines last e is = absurd (omega (arith, last))
-gone_on p (q0 ∷ q1 ∷ qs) zero number entry q lines last e is = absurd (omega (arith, last))
-gone_on p (q0 ∷ q1 ∷ qs) (suc k) number entry q lines last e is =
+gone_on p [] k number entry q d lines last e is = absurd (omega (arith, last))
+gone_on p (q0 ∷ []) zero number entry q d lines last e is = ap (λ (r : Period). resumed p (r ∷ []) lines) is ∙ last_changed p q0 number entry lines e
+gone_on p (q0 ∷ []) (suc k) number entry q d lines last e is = absurd (omega (arith, last))
+gone_on p (q0 ∷ q1 ∷ qs) zero number entry q d lines last e is = absurd (omega (arith, last))
+gone_on p (q0 ∷ q1 ∷ qs) (suc k) number entry q d lines last e is =
     let long = length-set (q1 ∷ qs) k q in
     behind_first p q0 (slice_set (q1 ∷ qs) k q) lines (omega (arith, long))
-    ∙ ap (λ (rs : List Period). q0 ∷ rs) (gone_on p (q1 ∷ qs) k number entry q lines (omega (arith, last)) e is)
+    ∙ ap (λ (rs : List Period). q0 ∷ rs) (gone_on p (q1 ∷ qs) k number entry q d lines (omega (arith, last)) e is)
 
 -- ---- plans that are too wide
 

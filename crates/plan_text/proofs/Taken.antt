@@ -1,17 +1,26 @@
 -- Lines that are taken one by one.
-use Rattle.std.proofs.Common.{◌≡◌, ◌<◌, ◌≤◌, ◌+◌, ◌++◌, ◌*◌, ◌==◌, ◌||◌, ℕ, zero, suc, Bool, true, false, not, nat_lt, List, [], ◌∷◌, length, Option, Some, None, Result, Ok, Err, IfNone, refl, sym, ap, ◌∙◌, arith, get_or, if◌then◌else◌, length-append}
+use Rattle.std.proofs.Common.{◌≡◌, ◌<◌, ◌≤◌, ◌+◌, ◌++◌, ◌*◌, ◌==◌, ◌||◌, ℕ, zero, suc, Bool, true, false, not, nat_lt, List, [], ◌∷◌, length, Option, Some, None, Result, Ok, Err, refl, sym, subst, ap, ◌∙◌, arith, get_or, if◌then◌else◌, length-append}
 use Rattle.std.specs.Prelude.{slice_set}
 use Rattle.std.specs.Option.{option_or}
+use Rattle.std.specs.Vec.{with_item}
+use Rattle.std.proofs.lemmas.List.{length-set}
 use Rattle.std.proofs.lemmas.Bool.{le-ltb, ne_eqb}
 use Rattle.problem_rules.specs.Problem.{Problem}
 use Rattle.plan_rules.specs.declared.PlanKind.{PlanKind}
 use Rattle.plan_rules.specs.declared.PlanKind.TheVariants.{BadLine, DoubleLine, TooWide}
-use Rattle.plan_rules.specs.Line.{Entry, begins, line_read}
+use Rattle.plan_rules.specs.Line.{Entry, begins}
 use Rattle.plan_rules.specs.Meaning.{entry_fault, at_line, lines_fault, count_fault, own_period, changed}
 use Rattle.plan_rules.specs.Plan.{Period, Plan, is_too_wide}
-use Rattle.plan_rules.specs.Read.{Fault, Line, Seen, is_begin, is_double, nothing_seen, seen_after, seen_past, placed, with_line, lines_read}
+use Rattle.plan_rules.specs.Read.{Fault, Line, Seen, is_begin, is_double, seen_after, placed, with_line, lines_read}
 use Rattle.text_lines.specs.Lines.{Coming}
+use Rattle.plan_text.specs.declared.line.Change.{Change}
+use Rattle.plan_text.specs.declared.line.Change.TheVariants.{Price, Bounds}
 use Rattle.plan_text.specs.declared.reading.Reading.{Reading}
+use Rattle.plan_text.specs.View.{changes, entry_of}
+use Rattle.edit_scripts.specs.Reads.{Reads}
+use Rattle.text_lines.specs.declared.fault.LineFault.{LineFault}
+use Rattle.plan_text.specs.declared.line.Entry as code
+use Rattle.plan_text.specs.declared.line.Entry.TheVariants.{Begins}
 use Rattle.plan_text.specs.Reading.{seen_of, resumed, judged, ended, go_on, read_on, HasTaken}
 use Rattle.plan_text.proofs.Resumed.{begun, gone_on, wide_more, at_least, told_wide, ended_wide}
 
@@ -68,20 +77,9 @@ begins_none p number old new few wide priced bounded fault same = record {
 
 -- ---- a line that changes a material
 
--- without a fault of meaning, and with one
-pub changes_well : (p : Problem) (behind number k : ℕ) (entry : Entry) (q : Period) (fault : Option Fault) (periods : List Period) (rest : Result (List Line) Fault) → k + 1 ≡ length periods → is_begin entry ≡ false
-    → entry_fault p entry ≡ None → q ≡ changed p (get_or periods k q) entry → go_on p behind fault (slice_set periods k q) rest ≡ go_on p behind fault periods (with_line number (Ok entry) rest)
-changes_well p behind number k entry q fault periods (Ok lines) last other good is =
-    ap (ended p behind (option_or fault (lines_fault p lines))) (gone_on p periods k number entry q lines last other is)
-    ∙ ap (λ (kind : Option PlanKind). ended p behind (option_or fault (at_line number kind (lines_fault p lines))) (resumed p periods (record { number = number; entry = entry } ∷ lines))) (sym good)
-changes_well p behind number k entry q fault periods (Err first) last other good is = refl
-
-pub changes_badly : (p : Problem) (behind number : ℕ) (entry : Entry) (kind : PlanKind) (fault : Option Fault) (periods after : List Period) (rest : Result (List Line) Fault) → entry_fault p entry ≡ Some kind
-    → go_on p behind (option_or fault (Some (number, kind))) after rest ≡ go_on p behind fault periods (with_line number (Ok entry) rest)
-changes_badly p behind number entry kind (Some fault) periods after (Ok lines) bad = refl
-changes_badly p behind number entry kind None periods after (Ok lines) bad =
-    ap (λ (k : Option PlanKind). ended p behind (at_line number k (lines_fault p lines)) (resumed p periods (record { number = number; entry = entry } ∷ lines))) (sym bad)
-changes_badly p behind number entry kind fault periods after (Err first) bad = refl
+pub no_begin : (material : List ℕ) (change : Change) → is_begin (changes material change) ≡ false
+no_begin material (Price price) = refl
+no_begin material (Bounds lower upper) = refl
 
 stands : (entry : Entry) (seen : Seen) → is_begin entry ≡ false → seen.started ≡ true → is_double seen entry ≡ false → placed seen (Ok entry) ≡ Ok entry
 stands entry seen other started once =
@@ -89,57 +87,54 @@ stands entry seen other started once =
     ∙ ap (λ b. if b then (if is_double seen entry then Err DoubleLine else Ok entry) else Err BadLine) started
     ∙ ap (λ b. if b then Err DoubleLine else Ok entry) once
 
--- a line that changes a material where it stands
-pub places : (p : Problem) (number : ℕ) (entry : Entry) (old new : Reading) → is_begin entry ≡ false → (seen_of old).started ≡ true → is_double (seen_of old) entry ≡ false → seen_of new ≡ seen_after (seen_of old) entry
-    → ((behind : ℕ) (rest : Result (List Line) Fault) → go_on p behind new.fault new.periods.items rest ≡ go_on p behind old.fault old.periods.items (with_line number (Ok entry) rest))
-    → HasTaken p number (Ok entry) old new
-places p number entry old new other started once seen same = record {
-  seen = seen;
-  same = λ behind rest. same behind rest ∙ ap (λ (r : Result Entry PlanKind). go_on p behind old.fault old.periods.items (with_line number r rest)) (sym (stands entry (seen_of old) other started once));
-}
+pub is_once : (is_new twice : Bool) → is_new ≡ not twice → is_new ≡ true → twice ≡ false
+is_once is_new true same new = cc
+is_once is_new false same new = refl
 
--- ---- any line
+fault_behind : (p : Problem) (behind number : ℕ) (entry : Entry) (kind : PlanKind) (fault : Option Fault) (periods after : List Period) (rest : Result (List Line) Fault) → entry_fault p entry ≡ Some kind
+    → go_on p behind (option_or fault (Some (number, kind))) after rest ≡ go_on p behind fault periods (with_line number (Ok entry) rest)
+fault_behind p behind number entry kind (Some fault) periods after (Ok lines) bad = refl
+fault_behind p behind number entry kind None periods after (Ok lines) bad =
+    ap (λ (k : Option PlanKind). ended p behind (at_line number k (lines_fault p lines)) (resumed p periods (record { number = number; entry = entry } ∷ lines))) (sym bad)
+fault_behind p behind number entry kind fault periods after (Err first) bad = refl
 
-line_taken : (number : ℕ) (seen : Seen) (text : List ℕ) (texts : List (List ℕ)) → 0 < length text
-    → lines_read number seen (text ∷ texts) ≡ with_line number (placed seen (line_read text)) (lines_read (number + 1) (seen_past seen (line_read text)) texts)
-line_taken number seen [] texts some = absurd (omega (arith, some))
-line_taken number seen (c ∷ cs) texts some = refl
+last_behind : (p : Problem) (behind number k : ℕ) (entry : Entry) (q d : Period) (fault : Option Fault) (periods : List Period) (rest : Result (List Line) Fault) → k + 1 ≡ length periods → is_begin entry ≡ false
+    → entry_fault p entry ≡ None → q ≡ changed p (get_or periods k d) entry → go_on p behind fault (slice_set periods k q) rest ≡ go_on p behind fault periods (with_line number (Ok entry) rest)
+last_behind p behind number k entry q d fault periods (Ok lines) last other good is =
+    ap (λ (qs : List Period). ended p behind (option_or fault (lines_fault p lines)) qs) (gone_on p periods k number entry q d lines last other is)
+    ∙ ap (λ (kind : Option PlanKind). ended p behind (option_or fault (at_line number kind (lines_fault p lines))) (resumed p periods (record { number = number; entry = entry } ∷ lines))) (sym good)
+last_behind p behind number k entry q d fault periods (Err first) last other good is = refl
 
-module _ (p : Problem) (behind : ℕ) (old : Reading) (coming next : Coming) (text : List ℕ) (cut : coming.lines ≡ text ∷ next.lines) where
-  abbrev with_texts : List (List ℕ) → Result Plan Fault
-  with_texts texts = go_on p behind old.fault old.periods.items (lines_read coming.number (seen_of old) texts)
+-- the names of the line are noted, and the last period is another
+module _ (p : Problem) (number k : ℕ) (entry : Entry) (q : Period) (old noted : Reading) (some : 0 < length old.periods.items) (other : is_begin entry ≡ false)
+    (once : is_double (seen_of old) entry ≡ false) (seen : seen_of noted ≡ seen_after (seen_of old) entry) (same : noted.periods ≡ old.periods) (fault : noted.fault ≡ old.fault) where
+  abbrev with_last : Option Fault → Reading
+  with_last f = record { periods = with_item noted.periods k q; priced = noted.priced; bounded = noted.bounded; fault = f }
 
-  pub takes_line : (new : Reading) → next.number ≡ coming.number + 1 → 0 < length text → HasTaken p coming.number (line_read text) old new → read_on p behind new next ≡ read_on p behind old coming
-  takes_line new more some taken =
-      ap (λ (n : ℕ). go_on p behind new.fault new.periods.items (lines_read n (seen_of new) next.lines)) more
-      ∙ ap (λ (s : Seen). go_on p behind new.fault new.periods.items (lines_read (coming.number + 1) s next.lines)) taken.seen
-      ∙ taken.same behind (lines_read (coming.number + 1) (seen_past (seen_of old) (line_read text)) next.lines)
-      ∙ ap (go_on p behind old.fault old.periods.items) (sym (line_taken coming.number (seen_of old) text next.lines some))
-      ∙ ap with_texts (sym cut)
+  stood : placed (seen_of old) (Ok entry) ≡ Ok entry
+  stood = stands entry (seen_of old) other (some_begun (length old.periods.items) some) once
 
-  pub skips_line : next.number ≡ coming.number + 1 → length text ≡ 0 → read_on p behind old next ≡ read_on p behind old coming
-  skips_line more none =
-      ap (λ (n : ℕ). go_on p behind old.fault old.periods.items (lines_read n (seen_of old) next.lines)) more ∙ skipped text none ∙ ap with_texts (sym cut)
-    where
-      skipped : (t : List ℕ) → length t ≡ 0 → go_on p behind old.fault old.periods.items (lines_read (coming.number + 1) (seen_of old) next.lines) ≡ with_texts (t ∷ next.lines)
-      skipped [] e = refl
-      skipped (c ∷ cs) e = absurd (omega (arith, e))
+  places : (f : Option Fault) → ((behind : ℕ) (rest : Result (List Line) Fault) → go_on p behind f (slice_set noted.periods.items k q) rest ≡ go_on p behind old.fault old.periods.items (with_line number (Ok entry) rest))
+      → HasTaken p number (Ok entry) old (with_last f)
+  places f goes = record {
+    seen = ap (λ (n : ℕ). record { started = not (n == 0); priced = noted.priced; bounded = noted.bounded }) (length-set noted.periods.items k q) ∙ seen;
+    same = λ behind rest. goes behind rest ∙ ap (λ (r : Result Entry PlanKind). go_on p behind old.fault old.periods.items (with_line number r rest)) (sym stood);
+  }
 
-  pub refuses_line : (kind : PlanKind) → 0 < length text → placed (seen_of old) (line_read text) ≡ Err kind → read_on p behind old coming ≡ Err (coming.number, kind)
-  refuses_line kind some bad =
-      ap with_texts cut
-      ∙ ap (go_on p behind old.fault old.periods.items) (line_taken coming.number (seen_of old) text next.lines some
-      ∙ ap (λ (r : Result Entry PlanKind). with_line coming.number r (lines_read (coming.number + 1) (seen_past (seen_of old) (line_read text)) next.lines)) bad)
+  pub changes_well : (d : Period) → k + 1 ≡ length noted.periods.items → entry_fault p entry ≡ None → q ≡ changed p (get_or noted.periods.items k d) entry → HasTaken p number (Ok entry) old (with_last noted.fault)
+  changes_well d last good is = places noted.fault (λ behind rest.
+      last_behind p behind number k entry q d noted.fault noted.periods.items rest last other good is
+      ∙ ap (λ (f : Option Fault). go_on p behind f noted.periods.items (with_line number (Ok entry) rest)) fault
+      ∙ ap (λ (qs : List Period). go_on p behind old.fault qs (with_line number (Ok entry) rest)) (λ i. (same i).items))
 
--- ---- all lines
+  pub changes_badly : (kind : PlanKind) (f : Option Fault) → entry_fault p entry ≡ Some kind → f ≡ option_or noted.fault (Some (number, kind)) → HasTaken p number (Ok entry) old (with_last f)
+  changes_badly kind f bad first = places f (λ behind rest.
+      ap (λ (e : Option Fault). go_on p behind e (slice_set noted.periods.items k q) rest) first
+      ∙ fault_behind p behind number entry kind noted.fault noted.periods.items (slice_set noted.periods.items k q) rest bad
+      ∙ ap (λ (e : Option Fault). go_on p behind e noted.periods.items (with_line number (Ok entry) rest)) fault
+      ∙ ap (λ (qs : List Period). go_on p behind old.fault qs (with_line number (Ok entry) rest)) (λ i. (same i).items))
 
-pub starts : (p : Problem) (behind : ℕ) (r : Reading) (coming : Coming) → r.periods.items ≡ [] → r.priced ≡ [] → r.bounded ≡ [] → r.fault ≡ None
-    → read_on p behind r coming ≡ go_on p behind None [] (lines_read coming.number nothing_seen coming.lines)
-starts p behind r coming none priced bounded good =
-    ap (λ (f : Option Fault). go_on p behind f r.periods.items (lines_read coming.number (seen_of r) coming.lines)) good
-    ∙ ap (λ (qs : List Period). go_on p behind None qs (lines_read coming.number (record { started = not (length qs == 0); priced = r.priced; bounded = r.bounded }) coming.lines)) none
-    ∙ ap (λ (names : List (List ℕ)). go_on p behind None [] (lines_read coming.number (record { started = false; priced = names; bounded = r.bounded }) coming.lines)) priced
-    ∙ ap (λ (names : List (List ℕ)). go_on p behind None [] (lines_read coming.number (record { started = false; priced = []; bounded = names }) coming.lines)) bounded
+-- ---- behind the last line
 
 ends : (p : Problem) (behind : ℕ) (r : Reading) (coming : Coming) → coming.lines ≡ [] → read_on p behind r coming ≡ ended p behind r.fault r.periods.items
 ends p behind r coming none =
@@ -160,9 +155,6 @@ module _ (p : Problem) (behind : ℕ) (r : Reading) (coming : Coming) (none : co
   abbrev counted : Option PlanKind → Result Plan Fault
   counted kind = judged r.periods.items (at_line behind kind None)
 
-  pub ends_faulty : (fault : Fault) → r.fault ≡ Some fault → read_on p behind r coming ≡ Err fault
-  ends_faulty fault is = ends p behind r coming none ∙ ap (λ (f : Option Fault). ended p behind f r.periods.items) is
-
   ends_good : r.fault ≡ None → read_on p behind r coming ≡ counted (count_fault p (length r.periods.items))
   ends_good is = ends p behind r coming none ∙ ap (λ (f : Option Fault). ended p behind f r.periods.items) is
 
@@ -171,3 +163,8 @@ module _ (p : Problem) (behind : ℕ) (r : Reading) (coming : Coming) (none : co
 
   pub ends_badly : (kind : PlanKind) → r.fault ≡ None → count_fault p (length r.periods.items) ≡ Some kind → read_on p behind r coming ≡ Err (behind, kind)
   ends_badly kind is bad = ends_good is ∙ ap counted bad
+
+-- ---- a line that says that a period begins
+
+pub says_begin : (said : Result Entry PlanKind) (r : Result code.Entry (LineFault PlanKind)) → Reads entry_of said r → r ≡ Ok Begins → said ≡ Ok begins
+says_begin said r reads is = subst (λ (s : Result code.Entry (LineFault PlanKind)). Reads entry_of said s) is reads

@@ -208,7 +208,8 @@ lines_valid : (p : Problem) (count : ℕ) (r : Result (List Line) Fault) → IsW
 lines_valid p count (Err fault) formed lines = tt
 lines_valid p count (Ok lines) formed all = judged_valid p count lines (lines_fault p lines) formed (lines_good p lines all)
 
-pub plan_valid : (p : Problem) (bytes : List ℕ) (plan : Plan) → IsWellFormed p → read_plan p bytes ≡ Ok plan → IsPlan p plan
-plan_valid p bytes plan formed e =
+pub read_valid : {E : Type 0} (p : Problem) (bytes : List ℕ) (result : Result Plan E) → IsWellFormed p → IfOk result (λ plan. read_plan p bytes ≡ Ok plan) → IfOk result (IsPlan p)
+read_valid p bytes (Ok plan) formed e =
     let whole : IfOk (read_plan p bytes) (IsPlan p) = lines_valid p (length (script_lines bytes)) (read_lines bytes) formed (text_formed (script_lines bytes)) in
     subst (λ (r : Result Plan Fault). IfOk r (IsPlan p)) e whole
+read_valid p bytes (Err fault) formed e = tt

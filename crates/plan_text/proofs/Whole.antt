@@ -1,16 +1,12 @@
 -- The whole text: its first line, and what the lines behind it stand for.
-use Rattle.std.proofs.Common.{◌≡◌, ◌⊎◌, ◌+◌, ℕ, false, Option, Some, None, List, [], ◌∷◌, length, Result, Ok, Err, refl, sym, ap, ◌∙◌, arith, inl, inr, zero-add, if◌then◌else◌}
-use Rattle.std.specs.Str.{bytes_eq}
+use Rattle.std.proofs.Common.{◌≡◌, ◌+◌, ℕ, Option, Some, None, List, [], ◌∷◌, length, Result, Ok, Err, refl, sym, ap, ◌∙◌, arith}
 use Rattle.problem_rules.specs.Problem.{Problem}
 use Rattle.script_rules.specs.Line.{script_lines}
-use Rattle.plan_rules.specs.declared.PlanKind.TheVariants.{FileType}
-use Rattle.plan_rules.specs.declared.PlanKind.{PlanKind}
 use Rattle.plan_rules.specs.Line.{file_type}
 use Rattle.plan_rules.specs.Meaning as rules
 use Rattle.plan_rules.specs.Meaning.{at_line, lines_fault, count_fault, period_count, periods_of, or_behind, lines_judged, read_plan}
-use Rattle.plan_rules.specs.Plan.{Period, Plan}
 use Rattle.plan_rules.specs.Read.{Fault, Line, nothing_seen, lines_read, text_read}
-use Rattle.text_lines.specs.Lines.{Coming, IsUntyped}
+use Rattle.text_lines.specs.Lines.{Coming}
 use Rattle.plan_text.specs.Reading.{judged, ended, go_on, rest_read}
 use Rattle.plan_text.proofs.Valid.{periods_counted}
 
@@ -34,11 +30,3 @@ typed p bytes coming second cut =
     ∙ judged_on p (length (file_type ∷ coming.lines)) (lines_read 2 nothing_seen coming.lines)
     ∙ ap (λ (n : ℕ). go_on p n None [] (lines_read 2 nothing_seen coming.lines)) (omega (arith, second))
     ∙ ap (λ (n : ℕ). go_on p (coming.number + length coming.lines) None [] (lines_read n nothing_seen coming.lines)) (sym second)
-
-pub untyped : (p : Problem) (bytes : List ℕ) → IsUntyped file_type (script_lines bytes) → read_plan p bytes ≡ Err (1, FileType)
-untyped p bytes bad = elim bad as (λ _. read_plan p bytes ≡ Err (1, FileType)) [
-  | inl none ↦ ap (λ (texts : List (List ℕ)). lines_judged p (length texts) (text_read texts)) none
-  | inr other ↦
-      ap (λ (texts : List (List ℕ)). lines_judged p (length texts) (text_read texts)) other.2
-      ∙ ap (λ b. lines_judged p (length (other.0 ∷ other.1)) (if b then lines_read 2 nothing_seen other.1 else Err (1, FileType))) other.3
-]

@@ -90,7 +90,7 @@ impl<'a> Reading<'a> {
         match read_line(alloc, text) {
             Ok(Entry::Begins) => Ok(self.begin(alloc, problem)?),
             // in front of the first period no other line is one of a plan, whatever its fault
-            Ok(_) | Err(LineFault::Kind(_)) if self.periods.is_empty() => {
+            Ok(Entry::Changes(_, _)) | Err(LineFault::Kind(_)) if self.periods.is_empty() => {
                 Err(LineFault::Kind(PlanKind::BadLine))
             }
             Ok(Entry::Changes(material, change)) => self.change(problem, number, material, change),
