@@ -14,3 +14,8 @@ Tells reading (At number kind) = reading ≡ Err (number, kind)
 abbrev pub TellsLine : {A K : Type 0} → Result A K → LineFault K → Type 0
 TellsLine reading line.Memory = Unit {0}
 TellsLine reading (line.Kind kind) = reading ≡ Err kind
+
+-- the fault of a text whose line of this number has the fault
+abbrev pub fault_at : {K : Type 0} → ℕ → LineFault K → TextFault K
+fault_at number line.Memory = Memory
+fault_at number (line.Kind kind) = At number kind

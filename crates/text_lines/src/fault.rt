@@ -1,5 +1,6 @@
 //! Why a text or a line of it stands for nothing, for texts of any grammar: `K` is the kind of fault that the grammar has.
 ghost use Rattle.std.specs.Prelude.{◌≡◌};
+ghost use Rattle.text_lines.specs.Tells.{fault_at};
 ghost use Rattle.text_lines.specs.declared.fault.TextFault.TheVariants as text;
 ghost use Rattle.text_lines.specs.declared.fault.LineFault.TheVariants as line;
 
@@ -19,6 +20,18 @@ pub enum TextFault<K> {
 pub enum LineFault<K> {
     Memory,
     Kind(K),
+}
+
+impl<K: Drop> LineFault<K> {
+    /// The fault of a text whose line of this number has it.
+    pub fn at(self, line: u32) -> TextFault<K>
+        ensures { result ≡ fault_at line self }
+    {
+        match self {
+            LineFault::Memory => TextFault::Memory,
+            LineFault::Kind(kind) => TextFault::At { line, kind },
+        }
+    }
 }
 
 impl<K: Drop> From<AllocError> for TextFault<K> {
