@@ -1,9 +1,12 @@
--- The number that digits spell does not fall as more are read.
-use Rattle.std.proofs.Common.{◌≡◌, ◌<◌, ◌≤◌, ◌+◌, ◌-◌, ◌*◌, ℕ, Bool, true, false, Some, None, List, [], ◌∷◌, length, drop, get_or, nat_le, if◌then◌else◌, arith, ap, sym, ◌∙◌}
+-- The number that digits spell: it does not fall as more are read, and where all are read it is the whole.
+use Rattle.std.proofs.Common.{◌≡◌, ◌==◌, ◌&&◌, ◌||◌, ◌<◌, ◌≤◌, ◌+◌, ◌-◌, ◌*◌, ℕ, Bool, true, false, not, Some, None, List, [], ◌∷◌, ◌++◌, length, drop, get_or, slice_index, nat_le, if◌then◌else◌, arith, refl, ap, sym, ◌∙◌, append-nil}
+use Rattle.std.specs.List.{list_all}
+use Rattle.std.specs.Str.{byte}
 use Rattle.std.proofs.lemmas.Bool.{lt-leb}
 use Rattle.std.proofs.lemmas.List.{at_drop_more}
 use Rattle.std.specs.Char.{is_ascii_digit}
-use Rattle.text_rules.specs.Amount.{number_from}
+use Rattle.text_rules.specs.Amount.{number_from, number_of}
+use Rattle.script_rules.specs.Fault.{whole_within}
 
 one_more : (b : Bool) (n d : ℕ) → n ≤ (if b then 10 * n + d else n)
 one_more true n d = omega arith
@@ -24,3 +27,12 @@ past_digit limit n text i whole lt digit past e =
     at_drop_more (number_from n) text i 0 lt ∙ ap (λ b. number_from (if b then 10 * n + (get_or text i 0 - 48) else n) (drop (i + 1) text)) digit in
     let grown = number_grows (10 * n + (get_or text i 0 - 48)) (drop (i + 1) text) in
     sym (ap (λ b. if b then Some whole else None) (lt-leb whole limit (omega (arith, grown, here, e))))
+
+-- digits that are read whole
+pub short : (limit n : ℕ) (token ds rest : List ℕ) → token ≡ ds ++ rest → rest ≡ [] → list_all is_ascii_digit ds ≡ true → n ≡ number_from 0 ds
+    → (nat_le 1 (length token) && (length token == 1 || not (slice_index token 0 == byte "0"))) ≡ true → (if nat_le n limit then Some n else None) ≡ whole_within limit token
+short limit n token ds rest cut end digits value front =
+    let same : token ≡ ds = cut ∙ ap (λ (t : List ℕ). ds ++ t) end ∙ append-nil ds in
+    let all : list_all is_ascii_digit token ≡ true = ap (list_all is_ascii_digit) same ∙ digits in
+    let spelled : number_of token ≡ n = ap number_of same ∙ sym value in
+    sym (rw (all, front, spelled) refl)

@@ -80,7 +80,7 @@ fn behind_point(text: &[u8]) -> Option<&[u8]>
 }
 
 // The digits in front, at most so many, with the number that they spell behind that of the start, and what stands behind them.
-fn short_digits(start: u64, most: usize, text: &[u8]) -> (u64, &[u8], &[u8])
+pub(crate) fn short_digits(start: u64, most: usize, text: &[u8]) -> (u64, &[u8], &[u8])
     requires { (start + 1) * 10 ^ most ≤ 10 ^ 18 }
     ensures cut { text.now ≡ result.1.now ++ result.2.now }
     ensures digits { list_all is_ascii_digit result.1.now ≡ true }

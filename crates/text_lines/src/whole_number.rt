@@ -1,9 +1,12 @@
 //! Whole numbers.
-ghost use Rattle.std.specs.Prelude.{◌≡◌, ◌<◌, ◌≤◌, ◌+◌, ◌-◌, ◌*◌, IfSome, IfNone, Some, None, nat_le, if◌then◌else◌};
+ghost use Rattle.std.specs.Prelude.{◌≡◌, ◌==◌, ◌&&◌, ◌||◌, ◌<◌, ◌≤◌, ◌+◌, ◌-◌, ◌*◌, IfSome, IfNone, Some, None, not, length, nat_le, slice_index, if◌then◌else◌};
 ghost use Rattle.std.specs.List.{list_all};
 ghost use Rattle.std.specs.Char.{is_ascii_digit};
+ghost use Rattle.std.specs.Str.{byte};
 ghost use Rattle.text_rules.specs.Amount.{number_of};
 ghost use Rattle.script_rules.specs.Fault.{is_whole, whole_within};
+
+use crate::amount::short_digits;
 
 fn are_digits(token: &[u8]) -> bool
     ensures { result ≡ list_all is_ascii_digit token.now }
@@ -11,10 +14,11 @@ fn are_digits(token: &[u8]) -> bool
     token.iter().all(|c| c.is_ascii_digit())
 }
 
-fn is_whole(token: &[u8]) -> bool
-    ensures { result ≡ is_whole token.now }
+// Whether there is a byte, and none in front of others is a zero.
+fn has_no_zero_in_front(token: &[u8]) -> bool
+    ensures { result ≡ (nat_le 1 (length token.now) && (length token.now == 1 || not (slice_index token.now 0 == byte "0"))) }
 {
-    are_digits(token) && !token.is_empty() && (token.len() == 1 || token[0] != b'0')
+    !token.is_empty() && (token.len() == 1 || token[0] != b'0')
 }
 
 // The number that digits spell, where it is within the limit.
@@ -38,12 +42,22 @@ fn number_within(limit: u128, digits: &[u8]) -> Option<u128>
     Some(number)
 }
 
-/// The whole number that the token spells, without a zero in front, where it is within the limit.
+/// The whole number that the token spells, without a zero in front, where it is within the limit. Most have few digits, and are
+/// read in 64 bits.
+#[tactic(auto, using(crate::proofs::Whole::short))]
 pub fn whole_within(limit: u128, token: &[u8]) -> Option<u128>
     ensures value { result ≡ whole_within limit token.now }
     ensures within { IfSome result (λ number. number ≤ limit) }
 {
-    if is_whole(token) {
+    if !has_no_zero_in_front(token) {
+        return None;
+    }
+    let (number, _, rest) = short_digits(0, 18, token);
+    if rest.is_empty() {
+        let number = number as u128;
+        return (number <= limit).then_some(number);
+    }
+    if are_digits(token) {
         number_within(limit, token)
     } else {
         None
