@@ -1,12 +1,11 @@
 -- Parts of a list of borrowed texts.
 use Rattle.std.proofs.Common.{◌≡◌, ◌+◌, ◌-◌, ℕ, List, length, take, drop, ap, sym, ◌∙◌, arith}
 use Rattle.std.specs.Borrow.{Bor}
-use Rattle.std.proofs.lemmas.Grind.{common_steps}
-use Rattle.std.proofs.lemmas.List.{take-map, drop-map, length-map}
+use Rattle.std.proofs.lemmas.List.{take_rest, take-map, drop-map, length-map}
 use Rattle.text_lines.specs.View.{texts}
 
-rest_all : (xs : List (Bor (List ℕ))) (at : ℕ) → take (length xs - (at + 1)) (drop (at + 1) xs) ≡ drop (at + 1) xs
-rest_all xs at = grind (arith, common_steps)
+pub rest_all : (xs : List (Bor (List ℕ))) (at : ℕ) → take (length xs - (at + 1)) (drop (at + 1) xs) ≡ drop (at + 1) xs
+rest_all xs at = take_rest xs (at + 1)
 
 pub texts-behind : (xs : List (Bor (List ℕ))) (at : ℕ) → texts (take (length xs - (at + 1)) (drop (at + 1) xs)) ≡ drop (at + 1) (texts xs)
 texts-behind xs at = ap texts (rest_all xs at) ∙ sym (drop-map (λ (text : Bor (List ℕ)). text.now) (at + 1) xs)

@@ -1,7 +1,7 @@
 -- A list that is cut at the first element that passes.
 use Rattle.std.proofs.Common.{◌≡◌, ◌==◌, ◌<◌, ◌≤◌, ◌+◌, ◌-◌, ℕ, Bool, true, false, cond, not, List, [], ◌∷◌, length, map, take, drop, zero, suc, slice_index_or, if◌then◌else◌, refl, ap, sym, ◌∙◌, arith, nat_lt, inl, inr, length-drop}
 use Rattle.std.proofs.lemmas.Bool.{cond-true, cond-false, cases_lt, ne_eqb, lt-ltb, le-ltb}
-use Rattle.std.proofs.lemmas.Grind.{common_steps}
+use Rattle.std.proofs.lemmas.List.{take_all}
 use Rattle.std.specs.List.{slice_split, onto_first, position_or_len}
 use Rattle.std.proofs.lemmas.List.Splits.{slice_split_first, slice_split-cons_no, length-slice_split}
 use Rattle.text_rules.specs.Line.{without_empty_last}
@@ -42,7 +42,7 @@ split-first {X} p xs d at e = elim (cases_lt at (length xs)) as (λ _. slice_spl
   | inl lt ↦ split-at p xs d at e lt ∙ ap (λ (parts : List (List X)). take at xs ∷ parts) (sym (behind-some p xs at lt))
   | inr le ↦
       let long : length xs ≤ position_or_len p xs = omega arith in
-      let all : take at xs ≡ xs = grind (arith, common_steps) in
+      let all : take at xs ≡ xs = take_all at xs le in
       split-none p xs long ∙ ap (λ (front : List X). front ∷ []) (sym all) ∙ ap (λ (parts : List (List X)). take at xs ∷ parts) (sym (behind-none p xs at le))
 ]
 

@@ -1,8 +1,8 @@
 -- Terms and sides that are read one by one.
-use Rattle.std.proofs.Common.{◌≡◌, ◌==◌, ◌<◌, ◌≤◌, ◌+◌, ◌||◌, ◌++◌, ℕ, Bool, true, false, not, List, [], ◌∷◌, Option, Some, None, length, map, flat_map, option_map, codes, get_or, if◌then◌else◌, refl, ap, sym, ◌∙◌, arith, append_assoc, take, drop}
+use Rattle.std.proofs.Common.{◌≡◌, ◌==◌, nat_lt, ◌<◌, ◌≤◌, ◌+◌, ◌||◌, ◌++◌, ℕ, Bool, true, false, not, List, [], ◌∷◌, Option, Some, None, length, map, flat_map, option_map, codes, get_or, if◌then◌else◌, refl, ap, sym, ◌∙◌, arith, append_assoc, take, drop}
 use Rattle.std.specs.Borrow.{Bor}
 use Rattle.std.specs.List.{list_any, slice_split, position_or_len}
-use Rattle.std.proofs.lemmas.Bool.{ne_eqb}
+use Rattle.std.proofs.lemmas.Bool.{ne_eqb, or_right, lt-ltb}
 use Rattle.std.proofs.lemmas.List.{length-map}
 use Rattle.std.proofs.lemmas.List.Folds.{list_any-append}
 use Rattle.std.proofs.lemmas.List.Splits.{length-slice_split}
@@ -104,7 +104,16 @@ pub terms_some : (tokens : List (List ℕ)) → 0 < length tokens → slice_spli
 terms_some [] lt = absurd (omega arith)
 terms_some (token ∷ tokens) lt = refl
 
--- the term of one token, and of two
+-- the term of one token, and of two; fewer or more are none
+pub no_token : (tokens : List (Bor (List ℕ))) → length tokens < 1 → None ≡ begins (texts tokens)
+no_token [] lt = refl
+no_token (token ∷ tokens) lt = absurd (omega (arith, lt))
+
+pub more_tokens : (tokens : List (Bor (List ℕ))) → 2 < length tokens → None ≡ begins (texts tokens)
+more_tokens tokens lt =
+    let long : 2 < length (texts tokens) = omega (arith, lt, length-map tokens (λ (text : Bor (List ℕ)). text.now)) in
+    sym (ap (λ (b : Bool). if b then None else Some (pair_of (texts tokens))) (or_right (length (texts tokens) == 0) (nat_lt 2 (length (texts tokens))) (lt-ltb 2 (length (texts tokens)) long)))
+
 pub one_token : (tokens : List (Bor (List ℕ))) (d : Bor (List ℕ)) (number : List ℕ) → length tokens ≡ 1 → number ≡ codes "1" → Some (number, (get_or tokens 0 d).now) ≡ begins (texts tokens)
 one_token [] d number e is = absurd (omega (arith, e))
 one_token (name ∷ []) d number e is = ap (λ (n : List ℕ). Some (n, name.now)) is

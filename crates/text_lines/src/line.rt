@@ -1,11 +1,8 @@
 //! Lines, and what stands before and behind a mark in them.
-ghost use Rattle.std.specs.Prelude.{◌≡◌, ◌<◌, ◌≤◌, ◌==◌, ◌∷◌, length};
+ghost use Rattle.std.specs.Prelude.{◌≡◌, ◌≤◌, ◌==◌, length};
 ghost use Rattle.std.specs.List.{prefix_len, suffix_len, list_any, position_or_len};
 ghost use Rattle.text_rules.specs.Blanks.{is_blank, trim};
 ghost use Rattle.text_rules.specs.Line.{is_colon, head_of, tail_of, without_return, without_mark};
-ghost use Rattle.text_lines.specs.Lines.{lines_from};
-
-use crate::lines::{self, Drops};
 
 fn is_blank(c: u8) -> bool
     ensures { result ≡ is_blank c }
@@ -64,16 +61,6 @@ pub fn without_mark(bytes: &[u8]) -> &[u8]
     } else {
         bytes
     }
-}
-
-/// The first line of what is left of a text, and what is left behind it. A line has neither blanks nor a carriage
-/// return at its ends.
-pub fn cut_line(rest: &[u8]) -> (&[u8], &[u8])
-    requires { 0 < length rest.now }
-    ensures cut { lines_from rest.now ≡ result.0.now ∷ lines_from result.1.now }
-    ensures shorter { length result.1.now < length rest.now }
-{
-    lines::cut_line(Drops::ReturnAndBlanks, rest)
 }
 
 /// What stands before the first colon, or the whole text where there is none.

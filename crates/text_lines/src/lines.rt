@@ -87,8 +87,8 @@ fn dropped(drops: Drops, part: &[u8]) -> &[u8]
 }
 
 // The first line of what is left of a text, and what is left behind it.
-#[tactic(auto, using(crate::proofs::Cutting::lines_cut, crate::proofs::Cutting::lines_last, std::proofs::lemmas::Grind::common_steps))]
-pub(crate) fn cut_line(drops: Drops, rest: &[u8]) -> (&[u8], &[u8])
+#[tactic(auto, using(crate::proofs::Cutting::lines_last))]
+fn cut_line(drops: Drops, rest: &[u8]) -> (&[u8], &[u8])
     requires { 0 < length rest.now }
     ensures cut { lines_by drops rest.now ≡ result.0.now ∷ lines_by drops result.1.now }
     ensures shorter { length result.1.now < length rest.now }

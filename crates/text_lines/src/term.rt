@@ -50,6 +50,7 @@ fn term_of<'a>(tokens: &[&'a [u8]]) -> Option<Term<'a>>
     ensures { option_map (λ term. (term.number.now, term.name.now)) result ≡ begins (texts tokens.now) }
 {
     match tokens {
+        [] => None,
         [name] => Some(Term {
             number: b"1".as_slice(),
             name: *name,

@@ -2,13 +2,12 @@ use Rattle.std.proofs.Common.{◌≡◌, ◌∷◌, ◌+◌, ◌-◌, ◌<◌, �
 use Rattle.std.specs.List.{slice_split}
 use Rattle.std.specs.Borrow.{Bor}
 use borrow.Author.Tests.{eqb-false}
-use Rattle.std.proofs.lemmas.Grind.{common_steps}
-use Rattle.std.proofs.lemmas.List.{take-map, drop-map, length-map}
-use Rattle.text_lines.proofs.Borrowed.{texts-long}
+use Rattle.std.proofs.lemmas.List.{take-map, drop-map, length-map, map-append}
+use Rattle.text_lines.proofs.Borrowed.{rest_all, texts-long}
 use Rattle.text_lines.specs.declared.term.Term.{Term}
 use Rattle.text_lines.specs.View.{texts}
 use Rattle.text_rules.specs.Term.{Pair}
-use Rattle.text_lines.specs.Terms.{terms_view, terms_read, begins, is_plus}
+use Rattle.text_lines.specs.Terms.{term_view, terms_view, terms_read, begins, is_plus}
 use Rattle.text_lines.proofs.Cutting.{split-first, split-at, behind}
 use Rattle.text_lines.proofs.Sides.{terms-more, terms-bad, terms_some}
 use Rattle.text_lines.proofs.term.terms_of.Goals as goal
@@ -37,10 +36,10 @@ loop-term-preserved c =
     ∙ ap (λ (t : List (List ℕ)). texts (take at rest) ∷ slice_split is_plus t) (drop-map (λ (text : Bor (List ℕ)). text.now) (at + 1) rest) in
     let good = sym c.in-Some.ensures in
     let step = terms-more (terms_view c.loop-term.terms.items) _ (texts (take at rest)) (slice_split is_plus (texts (drop (at + 1) rest))) _ _ good cut c.loop-term.invariant in
-    let pushed : terms_view c.push.new.self.items ≡ terms_view c.loop-term.terms.items ++ (c.in-Some.term.number.now, c.in-Some.term.name.now) ∷ [] = grind (arith, common_steps) in
-    let all : drop (at + 1) rest ≡ take (length rest - (at + 1)) (drop (at + 1) rest) = grind (arith, common_steps) in
+    let found : Term = c.in-Some.term in
+    let pushed : terms_view c.push.new.self.items ≡ terms_view c.loop-term.terms.items ++ term_view found ∷ [] = ap terms_view c.in_ok-push-in-Some.ensures.items ∙ map-append term_view c.loop-term.terms.items (found ∷ []) in
     ap (λ (done : List Pair). option_map (λ more. done ++ more) (terms_read (slice_split is_plus (texts (take (length rest - (at + 1)) (drop (at + 1) rest)))))) pushed
-    ∙ ap (λ (left : List (Bor (List ℕ))). option_map (λ more. (terms_view c.loop-term.terms.items ++ (c.in-Some.term.number.now, c.in-Some.term.name.now) ∷ []) ++ more) (terms_read (slice_split is_plus (texts left)))) (sym all)
+    ∙ ap (λ (left : List (Bor (List ℕ))). option_map (λ more. (terms_view c.loop-term.terms.items ++ term_view found ∷ []) ++ more) (terms_read (slice_split is_plus (texts left)))) (rest_all rest at)
     ∙ step
 
 pub loop-term-init : goal.loop-term-init
