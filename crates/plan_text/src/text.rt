@@ -5,7 +5,6 @@ ghost use Rattle.plan_rules.specs.Plan.{IsPlan};
 ghost use Rattle.text_lines.specs.Tells.{Tells};
 ghost use Rattle.plan_text.specs.Reading.{rest_read};
 
-use crate::line::LineFault;
 use crate::reading::Reading;
 use periods::Plan;
 use plan_rules::PlanKind;
@@ -33,11 +32,9 @@ fn read_rest(alloc: Global, problem: &Problem, mut lines: Lines<'_>) -> Result<P
         if text.is_empty() {
             continue;
         }
-        match reading.take(alloc, problem, number, text) {
-            Ok(()) => {}
-            Err(LineFault::Kind(kind)) => return Err(PlanFault::At { line: number, kind }),
-            Err(LineFault::Memory) => return Err(PlanFault::Memory),
-        }
+        reading
+            .take(alloc, problem, number, text)
+            .map_err(|fault| fault.at(number))?;
     }
     if let Some((line, kind)) = reading.fault {
         return Err(PlanFault::At { line, kind });

@@ -3,11 +3,11 @@ use Rattle.text_lines.specs.Lines.{Coming}
 use Rattle.plan_text.proofs.Taken.{ends_well, ends_badly}
 use Rattle.plan_text.proofs.text.read_rest.Goals as goal
 
-pub returns-in-Ok-of-clause-read : goal.returns-in-Ok-of-clause-read
-returns-in-Ok-of-clause-read c =
+pub returns-in-Ok-clause-read : goal.returns-in-Ok-clause-read
+returns-in-Ok-clause-read c =
     sym c.reading.invariant.to_come
     ∙ ends_well c.args.problem.now (c.args.lines.number + length c.args.lines.lines) c.reading.reading c.reading.lines (c.in_default.ensures.end refl)
-    c.in-Ok-of.plan c.in_default-fault.is c.in-Ok-of.ensures.good c.in-Ok-of.ensures.plan
+    c.in-Ok.plan c.in_default-fault.is c.in-Ok.ensures.good c.in-Ok.ensures.plan
 
 pub returns-clause-fault : goal.returns-clause-fault
 returns-clause-fault c =
