@@ -1,5 +1,6 @@
 pub mod Counts
 pub mod CutLines
+pub mod Gathered
 pub mod ItemLines
 pub mod NoFault
 pub mod RateKinds

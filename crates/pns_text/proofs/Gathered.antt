@@ -1,0 +1,47 @@
+-- What a loop has gathered of the elements that pass, with one more of them.
+use Rattle.std.proofs.Common.{◌≡◌, ◌<◌, ◌+◌, Bool, true, false, cond, ℕ, List, [], ◌∷◌, ◌++◌, length, get_or, take, map, filter, sym, ap, ◌∙◌, append_assoc, append-nil}
+use Rattle.std.specs.Borrow.{Bor}
+use Rattle.std.proofs.lemmas.List.{map-append}
+use Rattle.std.proofs.lemmas.List.Elements.{filter_more}
+use Rattle.text_rules.specs.Term.{Pair}
+use Rattle.text_rules.specs.Fault.{names_of}
+use Rattle.text_lines.specs.View.{texts}
+use Rattle.text_lines.specs.Terms.{term_view, terms_view}
+use Rattle.text_lines.specs.declared.term.Term.{Term}
+use Rattle.text_lines.proofs.Maps.{maps_more}
+
+next : {X Y : Type 0} (f : X → Y) (p : X → Bool) (xs : List X) (i : ℕ) (x : X) (b : Bool) → i < length xs → x ≡ get_or xs i x → b ≡ p x → map f (filter p (take (i + 1) xs)) ≡ map f (filter p (take i xs)) ++ map f (cond b (x ∷ []) [])
+next {X} f p xs i x b lt is e =
+    let passed : List X = filter p (take i xs) in
+    ap (map f) (filter_more p xs i x lt)
+    ∙ (λ k. map f (passed ++ cond (p (sym is k)) (sym is k ∷ []) []))
+    ∙ ap (λ (b : Bool). map f (passed ++ cond b (x ∷ []) [])) (sym e)
+    ∙ map-append f passed (cond b (x ∷ []) [])
+
+-- past one that passes, behind what was there before
+pub one_more : {X Y : Type 0} (f : X → Y) (p : X → Bool) (xs : List X) (i : ℕ) (x : X) (before ys after : List Y) (y : Y) → i < length xs → x ≡ get_or xs i x → true ≡ p x → after ≡ ys ++ y ∷ [] → y ≡ f x
+    → ys ≡ before ++ map f (filter p (take i xs)) → after ≡ before ++ map f (filter p (take (i + 1) xs))
+one_more {X} {Y} f p xs i x before ys after y lt is e pushed made kept =
+    pushed
+    ∙ (λ k. kept k ++ made k ∷ [])
+    ∙ append_assoc before (map f (filter p (take i xs))) (f x ∷ [])
+    ∙ ap (λ (ys : List Y). before ++ ys) (sym (next f p xs i x true lt is e))
+
+-- past one that does not
+pub none_more : {X Y : Type 0} (f : X → Y) (p : X → Bool) (xs : List X) (i : ℕ) (x : X) (before ys : List Y) → i < length xs → x ≡ get_or xs i x → false ≡ p x
+    → ys ≡ before ++ map f (filter p (take i xs)) → ys ≡ before ++ map f (filter p (take (i + 1) xs))
+none_more {X} {Y} f p xs i x before ys lt is e kept =
+    kept
+    ∙ ap (λ (ys : List Y). before ++ ys) (sym (next f p xs i x false lt is e ∙ append-nil (map f (filter p (take i xs)))))
+
+-- a text pushed
+pub text_pushed : (before after : List (Bor (List ℕ))) (text : Bor (List ℕ)) → after ≡ before ++ text ∷ [] → texts after ≡ texts before ++ text.now ∷ []
+text_pushed before after text e = ap texts e ∙ map-append (λ (text : Bor (List ℕ)). text.now) before (text ∷ [])
+
+-- past the name of a term
+pub name_more : (terms : List Term) (i : ℕ) (d : Term) (before after : List (Bor (List ℕ))) → i < length terms → after ≡ before ++ (get_or terms i d).name ∷ []
+    → texts before ≡ names_of (terms_view (take i terms)) → texts after ≡ names_of (terms_view (take (i + 1) terms))
+name_more terms i d before after lt pushed kept =
+    text_pushed before after (get_or terms i d).name pushed
+    ∙ ap (λ (names : List (List ℕ)). names ++ (get_or terms i d).name.now ∷ []) kept
+    ∙ sym (maps_more (λ (term : Pair). term.1) term_view terms i d lt)
