@@ -1,8 +1,12 @@
 -- What a loop has gathered of the elements that pass, with one more of them.
-use Rattle.std.proofs.Common.{◌≡◌, ◌<◌, ◌+◌, Bool, true, false, cond, ℕ, List, [], ◌∷◌, ◌++◌, length, get_or, take, map, filter, sym, ap, ◌∙◌, append_assoc, append-nil}
+use Rattle.std.proofs.Common.{◌≡◌, ◌<◌, ◌+◌, ◌&&◌, Bool, true, false, not, cond, refl, ℕ, List, [], ◌∷◌, ◌++◌, length, get_or, take, map, filter, sym, ap, ◌∙◌, append_assoc, append-nil}
 use Rattle.std.specs.Borrow.{Bor}
 use Rattle.std.proofs.lemmas.List.{map-append}
 use Rattle.std.proofs.lemmas.List.Elements.{filter_more}
+use Rattle.problem_rules.specs.Names.{is_among}
+use Rattle.text_rules.specs.declared.Section.TheVariants.{Rates}
+use Rattle.text_rules.specs.Line.{Placed, head_of, is_at}
+use Rattle.text_rules.specs.Value.{bare_lines}
 use Rattle.text_rules.specs.Term.{Pair}
 use Rattle.text_rules.specs.Fault.{names_of}
 use Rattle.text_lines.specs.View.{texts}
@@ -45,3 +49,30 @@ name_more terms i d before after lt pushed kept =
     text_pushed before after (get_or terms i d).name pushed
     ∙ ap (λ (names : List (List ℕ)). names ++ (get_or terms i d).name.now ∷ []) kept
     ∙ sym (maps_more (λ (term : Pair). term.1) term_view terms i d lt)
+
+both_step : {X : Type 0} (b : Bool) (q : X → Bool) (x : X) (xs ys : List X) → filter q xs ≡ ys → filter q (cond b (x ∷ xs) xs) ≡ cond (b && q x) (x ∷ ys) ys
+both_step {X} true q x xs ys e = ap (λ (ys : List X). cond (q x) (x ∷ ys) ys) e
+both_step false q x xs ys e = e
+
+both_pass : {X : Type 0} (p q : X → Bool) (xs : List X) → filter q (filter p xs) ≡ filter (λ x. p x && q x) xs
+both_pass p q [] = refl
+both_pass p q (x ∷ xs) = both_step (p x) q x (filter p xs) (filter (λ x. p x && q x) xs) (both_pass p q xs)
+
+abbrev pub is_bare : List (List ℕ) → Placed → Bool
+is_bare units line = is_at Rates line && not (is_among units (head_of line.text))
+
+are_bare : (units : List (List ℕ)) (lines : List Placed) → bare_lines units lines ≡ filter (is_bare units) lines
+are_bare units lines = both_pass (is_at Rates) (λ (line : Placed). not (is_among units (head_of line.text))) lines
+
+-- past a line of rates of a unit without a line of its own, and past any other
+pub bare_more : {Y : Type 0} (f : Placed → Y) (units : List (List ℕ)) (lines : List Placed) (i : ℕ) (line : Placed) (before ys after : List Y) (y : Y) → i < length lines → line ≡ get_or lines i line → true ≡ is_bare units line
+    → after ≡ ys ++ y ∷ [] → y ≡ f line → ys ≡ before ++ map f (bare_lines units (take i lines)) → after ≡ before ++ map f (bare_lines units (take (i + 1) lines))
+bare_more f units lines i line before ys after y lt is e pushed made kept =
+    one_more f (is_bare units) lines i line before ys after y lt is e pushed made (kept ∙ (λ k. before ++ map f (are_bare units (take i lines) k)))
+    ∙ (λ k. before ++ map f (sym (are_bare units (take (i + 1) lines)) k))
+
+pub not_bare : {Y : Type 0} (f : Placed → Y) (units : List (List ℕ)) (lines : List Placed) (i : ℕ) (line : Placed) (before ys : List Y) → i < length lines → line ≡ get_or lines i line → false ≡ is_bare units line
+    → ys ≡ before ++ map f (bare_lines units (take i lines)) → ys ≡ before ++ map f (bare_lines units (take (i + 1) lines))
+not_bare f units lines i line before ys lt is e kept =
+    none_more f (is_bare units) lines i line before ys lt is e (kept ∙ (λ k. before ++ map f (are_bare units (take i lines) k)))
+    ∙ (λ k. before ++ map f (sym (are_bare units (take (i + 1) lines)) k))
