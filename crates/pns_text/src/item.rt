@@ -153,7 +153,6 @@ fn behind(text: &[u8], at: usize) -> &[u8]
 }
 
 /// What stands between the commas behind the colon; none where there is no colon. The line is cut in one pass.
-#[tactic(auto, using(crate::proofs::ItemLines::items_more, crate::proofs::ItemLines::items_last))]
 pub(crate) fn items_of<'a>(alloc: Global, text: &'a [u8]) -> Result<Vec<Item<'a>>, AllocError>
     ensures { IfOk result (λ items. items.items ≡ items_of text.now) }
 {
