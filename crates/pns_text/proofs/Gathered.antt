@@ -1,12 +1,14 @@
 -- What a loop has gathered of the elements that pass, with one more of them.
-use Rattle.std.proofs.Common.{◌≡◌, ◌<◌, ◌+◌, ◌&&◌, Bool, true, false, not, cond, refl, ℕ, List, [], ◌∷◌, ◌++◌, length, get_or, take, map, filter, sym, ap, ◌∙◌, append_assoc, append-nil}
+use Rattle.std.proofs.Common.{◌≡◌, ◌<◌, ◌+◌, ◌&&◌, Bool, true, false, not, cond, refl, ℕ, List, [], ◌∷◌, ◌++◌, length, get_or, take, drop, map, filter, find, option_map, Option, Some, sym, ap, ◌∙◌, append_assoc, append-nil}
 use Rattle.std.specs.Borrow.{Bor}
-use Rattle.std.proofs.lemmas.List.{map-append}
+use Rattle.std.proofs.lemmas.List.{map-append, at_drop_more}
 use Rattle.std.proofs.lemmas.List.Elements.{filter_more}
+use Rattle.std.specs.Str.{bytes_eq}
 use Rattle.problem_rules.specs.Names.{is_among}
-use Rattle.text_rules.specs.declared.Section.TheVariants.{Rates}
-use Rattle.text_rules.specs.Line.{Placed, head_of, is_at}
-use Rattle.text_rules.specs.Value.{bare_lines}
+use Rattle.text_rules.specs.declared.Section.TheVariants.{Defaults, Rates}
+use Rattle.text_rules.specs.Line.{Placed, head_of, is_at, lines_at}
+use Rattle.text_rules.specs.Value.{bare_lines, default_fields, value_at}
+use Rattle.text_rules.specs.Field.{key_of, value_of}
 use Rattle.text_rules.specs.Term.{Pair}
 use Rattle.text_rules.specs.Fault.{names_of}
 use Rattle.text_lines.specs.View.{texts}
@@ -76,3 +78,17 @@ pub not_bare : {Y : Type 0} (f : Placed → Y) (units : List (List ℕ)) (lines 
 not_bare f units lines i line before ys lt is e kept =
     none_more f (is_bare units) lines i line before ys lt is e (kept ∙ (λ k. before ++ map f (are_bare units (take i lines) k)))
     ∙ (λ k. before ++ map f (sym (are_bare units (take (i + 1) lines)) k))
+
+-- what a default is, where a line of another key is passed by
+abbrev default_of : Placed → List ℕ × List ℕ
+default_of line = (key_of line.text, value_of line.text)
+
+skip : (b : Bool) (key : List ℕ) (line : Placed) (rest : List Placed) → (b && bytes_eq (key_of line.text) key) ≡ false → value_at key (map default_of (cond b (line ∷ rest) rest)) ≡ value_at key (map default_of rest)
+skip false key line rest e = refl
+skip true key line rest e = ap (λ (b : Bool). option_map (λ field. field.1) (cond b (Some (default_of line)) (find (λ field. bytes_eq field.0 key) (map default_of rest)))) e
+
+pub not_default : (key : List ℕ) (lines : List Placed) (i : ℕ) (line : Placed) → i < length lines → line ≡ get_or lines i line → (is_at Defaults line && bytes_eq (key_of line.text) key) ≡ false
+    → value_at key (default_fields (drop (i + 1) lines)) ≡ value_at key (default_fields (drop i lines))
+not_default key lines i line lt is e =
+    let seek : List Placed → Option (List ℕ) = λ lines. value_at key (default_fields lines) in
+    sym (at_drop_more seek lines i line lt ∙ (λ k. seek (sym is k ∷ drop (i + 1) lines)) ∙ skip (is_at Defaults line) key line (lines_at Defaults (drop (i + 1) lines)) e)
