@@ -1,6 +1,7 @@
 mod Least
 mod ScriptLines
 mod Doubles
+mod BothSides
 mod TermsRead
 mod TokenCounts
 mod Reading

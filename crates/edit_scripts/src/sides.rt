@@ -2,7 +2,7 @@
 ghost use Rattle.std.specs.Prelude.{◌≡◌, IfOk, map};
 ghost use Rattle.std.specs.List.{list_any};
 ghost use Rattle.problem_rules.specs.Names.{is_among};
-ghost use Rattle.text_lines.specs.View.{texts};
+ghost use Rattle.text_lines.specs.Once.{once};
 ghost use Rattle.text_lines.specs.Terms.{term_view, terms_view, sides_view};
 ghost use Rattle.script_rules.specs.Term.{term_fault, terms_fault, materials_of, are_bad_sides, sides_fault, term_read};
 
@@ -32,15 +32,15 @@ pub(crate) fn terms_fault(terms: &[Term<'_>]) -> Option<EditKind>
     found
 }
 
-#[tactic(auto, using(text_lines::proofs::Maps::maps_more, std::proofs::lemmas::Grind::common_steps))]
-fn materials_of<'a>(alloc: Global, terms: &[Term<'a>]) -> Result<Vec<&'a [u8]>, AllocError>
-    ensures { IfOk result (λ names. texts names.items ≡ materials_of (terms_view terms.now)) }
+// The materials of a side, where none comes twice.
+fn materials_once<'a>(alloc: Global, terms: &[Term<'a>]) -> Result<Option<NameSet<'a>>, AllocError>
+    ensures { IfOk result (λ found. found ≡ once (materials_of (terms_view terms.now))) }
 {
     let mut names = Vec::new(alloc);
     'listing: for term in terms {
         names.push(term.name)?;
     }
-    Ok(names)
+    once(alloc, &names)
 }
 
 fn some_among(names: &NameSet<'_>, terms: &[Term<'_>]) -> bool
@@ -61,12 +61,10 @@ fn are_bad_sides(alloc: Global, sides: &Sides<'_>) -> Result<bool, AllocError>
     if sides.inputs.is_empty() || sides.outputs.is_empty() {
         return Ok(true);
     }
-    let inputs = materials_of(alloc, &sides.inputs)?;
-    if once(alloc, &inputs)?.is_none() {
+    if materials_once(alloc, &sides.inputs)?.is_none() {
         return Ok(true);
     }
-    let outputs = materials_of(alloc, &sides.outputs)?;
-    match once(alloc, &outputs)? {
+    match materials_once(alloc, &sides.outputs)? {
         Some(names) => Ok(some_among(&names, &sides.inputs)),
         None => Ok(true),
     }
@@ -80,7 +78,6 @@ pub(crate) fn sides_fault(alloc: Global, sides: &Sides<'_>) -> Result<Option<Edi
 }
 
 /// The terms of a side by name.
-#[tactic(auto, using(text_lines::proofs::Maps::maps_more, std::proofs::lemmas::Grind::common_steps))]
 pub(crate) fn named_terms(alloc: Global, terms: &[Term<'_>]) -> Result<Vec<NamedTerm>, AllocError>
     ensures { IfOk result (λ named. named.items ≡ map term_read (terms_view terms.now)) }
 {
