@@ -1,38 +1,48 @@
 -- What stands behind a line's first token, by the number of its tokens.
-use Rattle.std.proofs.Common.{◌≡◌, ◌≤◌, ◌<◌, ◌-◌, ◌⊎◌, ◌||◌, inl, inr, Bool, ℕ, true, false, not, nat_lt, List, [], ◌∷◌, length, take, drop, get_or, Option, Some, Result, Err, codes, refl, ap, sym, ◌∙◌, arith}
+use Rattle.std.proofs.Common.{◌≡◌, ◌≤◌, ◌<◌, ◌-◌, ◌||◌, Bool, ℕ, true, false, not, nat_lt, List, [], ◌∷◌, length, take, drop, get_or, Option, Some, Result, Err, codes, refl, ap, sym, ◌∙◌, arith}
 use Rattle.std.proofs.lemmas.Bool.{cond-true, ltb-true}
 use Rattle.std.specs.Str.{bytes_eq}
 use Rattle.std.proofs.lemmas.List.{take_all}
 use Rattle.std.specs.Borrow.{Bor}
 use Rattle.text_lines.specs.View.{texts}
+use Rattle.text_lines.specs.Tells.{TellsLine}
+use Rattle.text_lines.specs.declared.fault.LineFault.{LineFault}
+use Rattle.text_lines.specs.declared.fault.LineFault.TheVariants as line
 use Rattle.script_rules.specs.declared.EditKind.TheVariants.{BadLine}
 use Rattle.script_rules.specs.declared.EditKind.{EditKind}
 use Rattle.edit_rules.specs.Edit.{Edit, exclude}
-use Rattle.script_rules.specs.Fault.{place_of, place_fault, name_fault, names_fault, members_fault}
+use Rattle.script_rules.specs.Fault.{least, place_of, place_fault, name_fault, names_fault, members_fault}
 use Rattle.script_rules.specs.Term.{Pair, sides_of}
-use Rattle.script_rules.specs.Read.{judged, material_read, with_sides, unit_read, exclusion_read}
+use Rattle.script_rules.specs.Read.{told, judged, edit_by, material_read, with_sides, unit_read, exclusion_read}
 
 -- the token at a place, without its address
 abbrev at : List (Bor (List ℕ)) → ℕ → List ℕ
 at xs i = (get_or xs i (record { ref_ptr = (0, 0); now = [] })).now
 
--- tokens that are fewer or more than two
-pub not_two : (xs : List (Bor (List ℕ))) → (nat_lt (length xs) 2 || not (nat_lt (length xs) 3)) ≡ true
-    → (texts xs ≡ []) ⊎ (((x : List ℕ) × (texts xs ≡ x ∷ [])) ⊎ ((x : List ℕ) × (y : List ℕ) × (z : List ℕ) × (rest : List (List ℕ)) × (texts xs ≡ x ∷ y ∷ z ∷ rest)))
-not_two [] other = inl refl
-not_two (x ∷ []) other = inr (inl (x.now, refl))
-not_two (x ∷ y ∷ []) other = cc
-not_two (x ∷ y ∷ z ∷ xs) other = inr (inr (x.now, y.now, z.now, texts xs, refl))
+-- what holds of fewer and of more tokens than two, or than three
+pub not_two : (xs : List (Bor (List ℕ))) (P : List (List ℕ) → Type 0) → (nat_lt (length xs) 2 || not (nat_lt (length xs) 3)) ≡ true
+    → P [] → ((x : List ℕ) → P (x ∷ [])) → ((x y z : List ℕ) (rest : List (List ℕ)) → P (x ∷ y ∷ z ∷ rest)) → P (texts xs)
+not_two [] P other none one more = none
+not_two (x ∷ []) P other none one more = one x.now
+not_two (x ∷ y ∷ []) P other none one more = cc
+not_two (x ∷ y ∷ z ∷ xs) P other none one more = more x.now y.now z.now (texts xs)
 
--- tokens that are fewer or more than three
-pub not_three : (xs : List (Bor (List ℕ))) → (nat_lt (length xs) 3 || not (nat_lt (length xs) 4)) ≡ true
-    → (texts xs ≡ []) ⊎ (((x : List ℕ) × (texts xs ≡ x ∷ [])) ⊎ (((x : List ℕ) × (y : List ℕ) × (texts xs ≡ x ∷ y ∷ []))
-    ⊎ ((x : List ℕ) × (y : List ℕ) × (z : List ℕ) × (u : List ℕ) × (rest : List (List ℕ)) × (texts xs ≡ x ∷ y ∷ z ∷ u ∷ rest))))
-not_three [] other = inl refl
-not_three (x ∷ []) other = inr (inl (x.now, refl))
-not_three (x ∷ y ∷ []) other = inr (inr (inl (x.now, y.now, refl)))
-not_three (x ∷ y ∷ z ∷ []) other = cc
-not_three (x ∷ y ∷ z ∷ u ∷ xs) other = inr (inr (inr (x.now, y.now, z.now, u.now, texts xs, refl)))
+pub not_three : (xs : List (Bor (List ℕ))) (P : List (List ℕ) → Type 0) → (nat_lt (length xs) 3 || not (nat_lt (length xs) 4)) ≡ true
+    → P [] → ((x : List ℕ) → P (x ∷ [])) → ((x y : List ℕ) → P (x ∷ y ∷ [])) → ((x y z u : List ℕ) (rest : List (List ℕ)) → P (x ∷ y ∷ z ∷ u ∷ rest)) → P (texts xs)
+not_three [] P other none one two more = none
+not_three (x ∷ []) P other none one two more = one x.now
+not_three (x ∷ y ∷ []) P other none one two more = two x.now y.now
+not_three (x ∷ y ∷ z ∷ []) P other none one two more = cc
+not_three (x ∷ y ∷ z ∷ u ∷ xs) P other none one two more = more x.now y.now z.now u.now (texts xs)
+
+-- tokens of which one has a fault
+pub refused : {A : Type 0} (found faults : List (Option EditKind)) (value : A) (kind : EditKind) → found ≡ faults → least found ≡ Some kind → judged faults value ≡ Err kind
+refused found faults value kind same e = ap (λ (fault : Option EditKind). told fault value) (ap least (sym same) ∙ e)
+
+-- what is told of a reading is told of the edit that is made of it
+pub by_tells : {A : Type 0} (edit : A → Edit) (reading : Result A EditKind) (fault : LineFault EditKind) → TellsLine reading fault → TellsLine (edit_by edit reading) fault
+by_tells edit reading line.Memory tells = tt
+by_tells edit reading (line.Kind kind) tells = ap (edit_by edit) tells
 
 pub two : (xs : List (Bor (List ℕ))) → 2 ≤ length xs → length xs < 3 → texts xs ≡ at xs 0 ∷ at xs 1 ∷ []
 two [] least most = absurd (omega arith)

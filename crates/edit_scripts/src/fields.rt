@@ -25,7 +25,6 @@ pub(crate) fn name(alloc: Global, fields: &[&[u8]]) -> Result<String, LineFault>
 }
 
 /// An old and a new name.
-#[tactic(auto, using(crate::proofs::TokenCounts::not_two, crate::proofs::TokenCounts::two))]
 pub(crate) fn names(alloc: Global, fields: &[&[u8]]) -> Result<(String, String), LineFault>
     ensures { Reads (λ read. (string_bytes read.0, string_bytes read.1)) (names_read (texts fields.now)) result }
 {
@@ -39,7 +38,6 @@ pub(crate) fn names(alloc: Global, fields: &[&[u8]]) -> Result<(String, String),
 }
 
 /// A name and an amount of either sign.
-#[tactic(auto, using(crate::proofs::TokenCounts::not_two, crate::proofs::TokenCounts::two))]
 pub fn amount<'a>(fields: &[&'a [u8]]) -> Result<(&'a str, i64), LineFault>
     ensures ok { IfOk result (λ read. amount_read (texts fields.now) ≡ Ok (read.0.now, read.1)) }
     ensures fault { IfErr result (TellsLine (amount_read (texts fields.now))) }
@@ -54,7 +52,6 @@ pub fn amount<'a>(fields: &[&'a [u8]]) -> Result<(&'a str, i64), LineFault>
 }
 
 /// A name, a lower and an upper bound.
-#[tactic(auto, using(crate::proofs::TokenCounts::not_three, crate::proofs::TokenCounts::three))]
 pub fn bounds<'a>(fields: &[&'a [u8]]) -> Result<(&'a str, i64, i64), LineFault>
     ensures ok { IfOk result (λ read. bounds_read (texts fields.now) ≡ Ok (read.0.now, (read.1, read.2))) }
     ensures fault { IfErr result (TellsLine (bounds_read (texts fields.now))) }

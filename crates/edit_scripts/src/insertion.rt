@@ -20,7 +20,6 @@ use text_lines::name_set::once;
 use text_lines::term::sides_in;
 
 /// `AT NAME KIND PRICE LOWER UPPER`
-#[tactic(auto, using(crate::proofs::TokenCounts::not_material, crate::proofs::TokenCounts::six))]
 pub(crate) fn insert_material(alloc: Global, fields: &[&[u8]]) -> Result<Edit, LineFault>
     ensures { Reads edit_of (material_read (texts fields.now)) result }
 {
@@ -48,7 +47,7 @@ pub(crate) fn insert_material(alloc: Global, fields: &[&[u8]]) -> Result<Edit, L
 }
 
 /// `AT NAME LOWER UPPER FIXED PROPORTIONAL : SIDE => SIDE`
-#[tactic(auto, using(crate::proofs::TokenCounts::not_unit, crate::proofs::TokenCounts::seven_up, crate::proofs::TermsRead::sides_same))]
+#[tactic(auto, using(crate::proofs::TokenCounts::seven_up, crate::proofs::TermsRead::sides_same))]
 pub(crate) fn insert_unit(alloc: Global, fields: &[&[u8]]) -> Result<Edit, LineFault>
     ensures { Reads edit_of (unit_read (texts fields.now)) result }
 {
@@ -106,7 +105,6 @@ fn name_strings(alloc: Global, names: &[&[u8]]) -> Result<Vec<String>, AllocErro
 }
 
 /// `AT NAME UNIT UNIT`, with two units or more.
-#[tactic(auto, using(crate::proofs::TokenCounts::not_exclusion, crate::proofs::TokenCounts::exclusion_at))]
 pub(crate) fn insert_exclusion(alloc: Global, fields: &[&[u8]]) -> Result<Edit, LineFault>
     ensures { Reads edit_of (exclusion_read (texts fields.now)) result }
 {

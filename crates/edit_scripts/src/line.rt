@@ -17,7 +17,6 @@ use text_lines::amount::millionths;
 use text_lines::token::tokens_of;
 
 /// `NAME KIND`
-#[tactic(auto, using(crate::proofs::TokenCounts::not_two, crate::proofs::TokenCounts::two))]
 fn kind(alloc: Global, fields: &[&[u8]]) -> Result<Edit, LineFault>
     ensures { Reads edit_of (fields_read Word.Kind (texts fields.now)) result }
 {
@@ -46,7 +45,6 @@ fn material_bounds(alloc: Global, fields: &[&[u8]]) -> Result<Edit, LineFault>
 }
 
 /// `NAME FIXED`
-#[tactic(auto, using(crate::proofs::TokenCounts::not_two, crate::proofs::TokenCounts::two))]
 fn fix(alloc: Global, fields: &[&[u8]]) -> Result<Edit, LineFault>
     ensures { Reads edit_of (fields_read Word.Fix (texts fields.now)) result }
 {
@@ -63,7 +61,6 @@ fn fix(alloc: Global, fields: &[&[u8]]) -> Result<Edit, LineFault>
 }
 
 /// `NAME FIXED PROPORTIONAL`
-#[tactic(auto, using(crate::proofs::TokenCounts::not_three, crate::proofs::TokenCounts::three))]
 fn investment(alloc: Global, fields: &[&[u8]]) -> Result<Edit, LineFault>
     ensures { Reads edit_of (fields_read Word.Investment (texts fields.now)) result }
 {
