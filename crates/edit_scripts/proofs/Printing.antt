@@ -1,15 +1,11 @@
 -- Fields that are appended one after another make the line of an edit.
 use Rattle.std.proofs.Common.{◌≡◌, ◌<◌, ◌-◌, take, arith, ℕ, List, [], ◌∷◌, ◌++◌, codes, length, drop, get_or, refl, sym, ap, ◌∙◌, append_assoc, append-nil}
 use Rattle.std.proofs.lemmas.List.{take_all}
+use Rattle.std.proofs.lemmas.List.Sums.{fold-append}
 use Rattle.edit_rules.specs.Edit.{NamedTerm, Edit, price, bounds, kind, capacity, fix, proportional, rename_material, rename_unit, add_material, remove_material, add_unit, remove_unit, exclude, unexclude, investment, payout}
 use Rattle.text_rules.specs.Canonical.{joined}
 use Rattle.script_rules.specs.Printed.{term_tokens, side_tokens, fields_of}
 use Rattle.edit_scripts.specs.Printing.{appended, further_terms, head_of, amounts_of, tail_of}
-
--- fields behind fields
-appended-append : (text : List ℕ) (xs ys : List (List ℕ)) → appended text (xs ++ ys) ≡ appended (appended text xs) ys
-appended-append text [] ys = refl
-appended-append text (x ∷ xs) ys = appended-append (text ++ 32 ∷ x) xs ys
 
 -- behind a word, joined by spaces
 line_appended : (text word : List ℕ) (fields : List (List ℕ)) → appended (text ++ word) fields ≡ text ++ joined 32 (word ∷ fields)
@@ -45,7 +41,7 @@ line_of text word edit = columns (text ++ word) edit ∙ line_appended text word
 
 -- two sides behind one another
 pub two_sides : (text : List ℕ) (ins outs : List (List ℕ)) → appended (appended (appended (appended text (codes ":" ∷ [])) ins) (codes "=>" ∷ [])) outs ≡ appended text (codes ":" ∷ ins ++ codes "=>" ∷ outs)
-two_sides text ins outs = sym (appended-append (appended text (codes ":" ∷ [])) ins (codes "=>" ∷ outs))
+two_sides text ins outs = sym (fold-append (λ text field. text ++ 32 ∷ field) (appended text (codes ":" ∷ [])) ins (codes "=>" ∷ outs))
 
 -- a side is its first term and the further ones
 pub side_is : (t : NamedTerm) (ts : List NamedTerm) → side_tokens (t ∷ ts) ≡ term_tokens t ++ further_terms ts
@@ -58,5 +54,5 @@ side_of_terms [] t d text some is = absurd (omega arith)
 side_of_terms (first ∷ rest) t d text some is =
     ap (λ (u : NamedTerm). appended (appended text (term_tokens u)) (further_terms (take (length (first ∷ rest) - 1) rest))) is
     ∙ ap (λ (ts : List NamedTerm). appended (appended text (term_tokens first)) (further_terms ts)) (take_all (length (first ∷ rest) - 1) rest (omega arith))
-    ∙ sym (appended-append text (term_tokens first) (further_terms rest))
+    ∙ sym (fold-append (λ text field. text ++ 32 ∷ field) text (term_tokens first) (further_terms rest))
     ∙ ap (appended text) (sym (side_is first rest))

@@ -1,6 +1,7 @@
 -- How the line of an edit is put together: each field behind a space. Behind the word come the place, the names and the kind;
 -- then the amounts; then the sides, the units or the years.
 use Rattle.std.specs.Prelude.{ℕ, List, [], ◌∷◌, ◌++◌, codes, decimal, flat_map, map, unsigned_abs}
+use Rattle.std.specs.List.{fold}
 use Rattle.edit_rules.specs.Edit.{NamedTerm, Edit, price, bounds, kind, capacity, fix, proportional, rename_material, rename_unit, add_material, remove_material, add_unit, remove_unit, exclude, unexclude, investment, payout}
 use Rattle.text_rules.specs.Canonical.{kind_word}
 use Rattle.text_rules.specs.Printed.{amount_bytes}
@@ -8,8 +9,7 @@ use Rattle.script_rules.specs.Printed.{term_tokens, side_tokens, edit_line, prin
 
 -- what stands when the fields were appended
 abbrev pub appended : List ℕ → List (List ℕ) → List ℕ
-appended text [] = text
-appended text (field ∷ fields) = appended (text ++ 32 ∷ field) fields
+appended = fold (λ text field. text ++ 32 ∷ field)
 
 abbrev pub head_of : Edit → List (List ℕ)
 head_of (price material value) = material ∷ []
