@@ -7,6 +7,9 @@ use Rattle.script_rules.specs.Fault.{Fault}
 use Rattle.script_rules.specs.Line.{file_type}
 use Rattle.script_rules.specs.Read.{line_read, with_line, lines_read, text_read}
 use Rattle.text_lines.specs.Lines.{IsUntyped}
+use Rattle.text_lines.specs.Tells.{Tells, TellsLine, fault_at}
+use Rattle.text_lines.specs.declared.fault.LineFault.{LineFault}
+use Rattle.text_lines.specs.declared.fault.LineFault.TheVariants as line
 use Rattle.edit_scripts.specs.Walk.{with_front}
 use Rattle.edit_scripts.specs.View.{edit_of}
 use Rattle.edit_scripts.specs.declared.edit.Edit as declared
@@ -29,6 +32,14 @@ take_edit edits lines number (c ∷ cs) edit texts some good =
     ap (λ (es : List Edit). with_front es (lines ++ number ∷ []) (lines_read (number + 1) texts)) (map-append edit_of edits (edit ∷ []))
     ∙ front_one (map edit_of edits) lines number (edit_of edit) (lines_read (number + 1) texts)
     ∙ ap (λ (r : Result Edit EditKind). with_front (map edit_of edits) lines (with_line number r (lines_read (number + 1) texts))) (sym good)
+
+-- at a line with a fault
+pub line_told : (edits : List Edit) (lines : List ℕ) (number : ℕ) (text : List ℕ) (fault : LineFault EditKind) (texts : List (List ℕ)) → (length text == 0) ≡ false → TellsLine (line_read text) fault
+    → Tells (with_front edits lines (lines_read number (text ∷ texts))) (fault_at number fault)
+line_told edits lines number [] fault texts some tells = cc
+line_told edits lines number (c ∷ cs) line.Memory texts some tells = tt
+line_told edits lines number (c ∷ cs) (line.Kind kind) texts some tells =
+    ap (λ (r : Result Edit EditKind). with_front edits lines (with_line number r (lines_read (number + 1) texts))) tells
 
 -- nothing in front, and nothing behind
 pub front_none : (rest : Result Script Fault) → with_front [] [] rest ≡ rest

@@ -6,7 +6,7 @@ ghost use Rattle.edit_scripts.specs.Walk.{read_on};
 ghost use Rattle.edit_scripts.specs.View.{edit_of};
 
 use crate::edit::Edit;
-use crate::fault::{EditFault, LineFault};
+use crate::fault::EditFault;
 use crate::line::read_line;
 use crate::script::Script;
 use script_rules::EditKind;
@@ -22,7 +22,7 @@ pub struct Walk {
 
 impl Walk {
     // Takes a line; an empty one is skipped.
-    #[tactic(auto, using(crate::proofs::Reading::take_edit))]
+    #[tactic(auto, using(crate::proofs::Reading::take_edit, crate::proofs::Reading::line_told))]
     fn take(&mut self, alloc: Global, number: u32, text: &[u8]) -> Result<(), EditFault>
         ensures ok { OnOk result ((lines : List (List ℕ)) → read_on self.new (number + 1) lines ≡ read_on self.old number (text.now ∷ lines)) }
         ensures fault { IfErr result (λ fault. (lines : List (List ℕ)) → Tells (read_on self.old number (text.now ∷ lines)) fault) }
@@ -30,15 +30,10 @@ impl Walk {
         if text.is_empty() {
             return Ok(());
         }
-        match read_line(alloc, text) {
-            Ok(edit) => {
-                self.edits.push(edit)?;
-                self.lines.push(number)?;
-                Ok(())
-            }
-            Err(LineFault::Kind(kind)) => Err(EditFault::At { line: number, kind }),
-            Err(LineFault::Memory) => Err(EditFault::Memory),
-        }
+        let edit = read_line(alloc, text).map_err(|fault| fault.at(number))?;
+        self.edits.push(edit)?;
+        self.lines.push(number)?;
+        Ok(())
     }
 }
 
