@@ -1,8 +1,9 @@
 -- The sides that are read are those of a script's grammar, which tells a term's pair by its tokens one by one.
-use Rattle.std.proofs.Common.{◌≡◌, ◌∷◌, [], ℕ, List, Option, Some, None, map, option_map, refl, ap, ◌∙◌, arith}
-use Rattle.std.proofs.lemmas.Bool.Decides.{nat_tests}
+use Rattle.std.proofs.Common.{◌≡◌, ◌==◌, ◌∷◌, [], ℕ, Bool, nat_lt, length, if◌then◌else◌, List, Option, Some, None, map, option_map, refl, ap, ◌∙◌, arith}
+use Rattle.std.proofs.lemmas.Bool.{or_right, lt-ltb}
 use Rattle.text_rules.specs.Field.{terms_of}
 use Rattle.text_rules.specs.Term.{sides_read}
+use Rattle.text_rules.specs.Term as rates
 use Rattle.text_lines.specs.Terms.{begins, terms_read, both_read}
 use Rattle.text_lines.proofs.Sides.{term-good, term-bad, sides-two, sides-none}
 use Rattle.script_rules.specs.Term.{Pair, pair_of, with_pair, pairs_of, both, both_sides}
@@ -11,7 +12,9 @@ begun : (term : List (List ℕ)) → begins term ≡ pair_of term
 begun [] = refl
 begun (name ∷ []) = refl
 begun (number ∷ name ∷ []) = refl
-begun (number ∷ name ∷ more ∷ tokens) = grind (arith, nat_tests)
+begun (number ∷ name ∷ more ∷ tokens) =
+    let term : List (List ℕ) = number ∷ name ∷ more ∷ tokens in
+    ap (λ (b : Bool). if b then None else Some (rates.pair_of term)) (or_right (length term == 0) (nat_lt 2 (length term)) (lt-ltb 2 (length term) (omega arith)))
 
 in_front : (pair : Pair) (found : Option (List Pair)) → option_map (λ more. pair ∷ more) found ≡ with_pair (Some pair) found
 in_front pair None = refl

@@ -5,15 +5,12 @@ use Rattle.std.specs.Str.{bytes_eq}
 use Rattle.std.proofs.lemmas.List.{take_all}
 use Rattle.std.specs.Borrow.{Bor}
 use Rattle.text_lines.specs.View.{texts}
-use Rattle.text_lines.specs.Tells.{TellsLine}
-use Rattle.text_lines.specs.declared.fault.LineFault.{LineFault}
-use Rattle.text_lines.specs.declared.fault.LineFault.TheVariants as line
 use Rattle.script_rules.specs.declared.EditKind.TheVariants.{BadLine}
 use Rattle.script_rules.specs.declared.EditKind.{EditKind}
 use Rattle.edit_rules.specs.Edit.{Edit, exclude}
 use Rattle.script_rules.specs.Fault.{least, place_of, place_fault, name_fault, names_fault, members_fault}
 use Rattle.script_rules.specs.Term.{Pair, sides_of}
-use Rattle.script_rules.specs.Read.{told, judged, edit_by, material_read, with_sides, unit_read, exclusion_read}
+use Rattle.script_rules.specs.Read.{told, judged, material_read, with_sides, unit_read, exclusion_read}
 
 -- the token at a place, without its address
 abbrev at : List (Bor (List ℕ)) → ℕ → List ℕ
@@ -38,11 +35,6 @@ not_three (x ∷ y ∷ z ∷ u ∷ xs) P other none one two more = more x.now y.
 -- tokens of which one has a fault
 pub refused : {A : Type 0} (found faults : List (Option EditKind)) (value : A) (kind : EditKind) → found ≡ faults → least found ≡ Some kind → judged faults value ≡ Err kind
 refused found faults value kind same e = ap (λ (fault : Option EditKind). told fault value) (ap least (sym same) ∙ e)
-
--- what is told of a reading is told of the edit that is made of it
-pub by_tells : {A : Type 0} (edit : A → Edit) (reading : Result A EditKind) (fault : LineFault EditKind) → TellsLine reading fault → TellsLine (edit_by edit reading) fault
-by_tells edit reading line.Memory tells = tt
-by_tells edit reading (line.Kind kind) tells = ap (edit_by edit) tells
 
 pub two : (xs : List (Bor (List ℕ))) → 2 ≤ length xs → length xs < 3 → texts xs ≡ at xs 0 ∷ at xs 1 ∷ []
 two [] least most = absurd (omega arith)
