@@ -1,6 +1,5 @@
 pub mod Counted
 pub mod Cutting
-pub mod Digits
 pub mod Failing
 pub mod Joining
 pub mod Naming

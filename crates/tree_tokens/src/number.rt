@@ -1,7 +1,5 @@
 //! Whole numbers.
-ghost use Rattle.std.specs.Prelude.{◌≡◌, ◌==◌, ◌&&◌, ◌||◌, ◌≤◌, ◌≤ℤ◌, not, nat_le, pos, length, slice_index, IfOk, IfSome};
-ghost use Rattle.std.specs.Str.{byte};
-ghost use Rattle.script_rules.specs.Fault.{whole_within};
+ghost use Rattle.std.specs.Prelude.{◌≡◌, ◌≤◌, ◌≤ℤ◌, pos, IfOk, IfSome};
 ghost use Rattle.integer_laws.specs.Range.{InRange};
 ghost use Rattle.tree_text_rules.specs.LineRead.{one};
 ghost use Rattle.tree_text_rules.specs.Token as rules;
@@ -13,46 +11,17 @@ use tree_text_rules::TreeKind;
 
 const GREATEST: u128 = 170_141_183_460_469_231_731_687_303_715_884_105_727;
 
-/// A number to which one more digit can be added in 64 bits.
-const SHORT: u64 = 1_000_000_000_000_000_000;
-
-// Whether there is a byte, and none in front of others is a zero.
-fn has_no_zero_in_front(token: &[u8]) -> bool
-    ensures { result ≡ (nat_le 1 (length token.now) && (length token.now == 1 || not (slice_index token.now 0 == byte "0"))) }
-{
-    !token.is_empty() && (token.len() == 1 || token[0] != b'0')
-}
-
-// The whole number that the token spells. Most have few digits, and are read in 64 bits.
-#[tactic(auto, using(crate::proofs::Digits::whole))]
-fn unsigned_number(token: &[u8]) -> Option<u128>
-    ensures value { result ≡ whole_within rules.greatest token.now }
-    ensures within { IfSome result (λ number. number ≤ rules.greatest) }
-{
-    if !has_no_zero_in_front(token) {
-        return None;
-    }
-    let mut number: u64 = 0;
-    'reading: for c in token {
-        if !c.is_ascii_digit() || number > SHORT {
-            return whole_within(GREATEST, token);
-        }
-        number = 10 * number + (*c - b'0') as u64;
-    }
-    Some(number as u128)
-}
-
 fn whole_number(token: &[u8]) -> Option<i128>
     ensures value { result ≡ rules.whole_number token.now }
     ensures range { IfSome result InRange }
 {
     match token {
         [] => None,
-        [b'-', digits @ ..] => match unsigned_number(digits)? {
+        [b'-', digits @ ..] => match whole_within(GREATEST, digits)? {
             0 => None,
             number => Some(-(number as i128)),
         },
-        _ => Some(unsigned_number(token)? as i128),
+        _ => Some(whole_within(GREATEST, token)? as i128),
     }
 }
 
