@@ -3,7 +3,7 @@ ghost use Rattle.std.specs.Prelude.{◌≡◌, ◌∷◌, ◌<◌, [], IfOk, IfE
 ghost use Rattle.tree_tokens.specs.Apart.{AreParts};
 ghost use Rattle.tree_tokens.specs.View.{line_of, tokens_in};
 
-use crate::cut::{Line, all_have_bytes, first_token, next_token};
+use crate::cut::{Line, first_token, have_bytes, next_token};
 use crate::word::word_named;
 use tree_text_rules::{TreeKind, Word};
 
@@ -21,7 +21,7 @@ pub fn parts_of<'a>(line: &Line<'a>) -> LineParts<'a>
 {
     let (word, fields) = first_token(line.text);
     LineParts {
-        formed: line.ended && all_have_bytes(line.text),
+        formed: line.ended && !word.is_empty() && have_bytes(fields),
         word: word_named(word),
         fields,
     }

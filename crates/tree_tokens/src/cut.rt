@@ -7,7 +7,7 @@ ghost use Rattle.tree_tokens.specs.View.{line_of, tokens_in};
 use text_lines::line::place_of;
 
 /// The bytes of a line, and whether a line feed ended it.
-#[derive(Clone, Copy, Debug, PartialEq, Eq)]
+#[derive(Clone, Copy)]
 pub struct Line<'a> {
     pub text: &'a [u8],
     pub ended: bool,
@@ -63,9 +63,12 @@ pub fn token_count(rest: Option<&[u8]>) -> usize
     }
 }
 
-/// Whether each token of a text has bytes.
-pub fn all_have_bytes(text: &[u8]) -> bool
-    ensures { result ≡ list_all has_bytes (slice_split is_space text.now) }
+/// Whether each token that is left of a line has bytes.
+pub fn have_bytes(rest: Option<&[u8]>) -> bool
+    ensures { result ≡ list_all has_bytes (tokens_in rest.entry) }
 {
-    text.split(|c| *c == b' ').all(|token| !token.is_empty())
+    match rest {
+        None => true,
+        Some(text) => text.split(|c| *c == b' ').all(|token| !token.is_empty()),
+    }
 }
