@@ -1,5 +1,8 @@
 -- The one fault of tokens of which each has that fault or none.
 use Rattle.std.proofs.Common.{◌≡◌, List, [], ◌∷◌, Option, Some, None, Result, Ok, Err, IfErr, sym, ap, refl, ◌∙◌}
+use Rattle.text_lines.specs.Tells.{TellsLine}
+use Rattle.text_lines.specs.declared.fault.LineFault.{LineFault}
+use Rattle.text_lines.specs.declared.fault.LineFault.TheVariants as line
 use Rattle.tree_text_rules.specs.Line.{Token}
 use Rattle.tree_text_rules.specs.Token.{lesser, both, mapped, each, told}
 use Rattle.tree_text_rules.specs.declared.TreeKind.{TreeKind}
@@ -29,3 +32,8 @@ module _ {A : Type 0} (read : Token → Option A) (kind : TreeKind) (same : less
       sym before
       ∙ ap (λ ts. joined (Ok front) (each (λ t. told kind (read t)) ts)) cut
       ∙ ap (joined (Ok front)) (first_fails k (read token) (each (λ t. told kind (read t)) tokens) (each_only tokens) found)
+
+  pub line_fails : (fault : LineFault TreeKind) (front : List A) (token : Token) (tokens all : List Token) (whole : Result (List A) TreeKind)
+      → TellsLine (told kind (read token)) fault → all ≡ token ∷ tokens → joined (Ok front) (each (λ t. told kind (read t)) all) ≡ whole → TellsLine whole fault
+  line_fails line.Memory front token tokens all whole found cut before = tt
+  line_fails (line.Kind k) front token tokens all whole found cut before = fails_at k front token tokens all whole found cut before

@@ -20,10 +20,7 @@ pub fn numbers_of(alloc: Global, fields: Option<&[u8]>) -> Result<Vec<i128>, Lin
     let mut rest = fields;
     'reading: while let Some(left) = rest {
         let (token, behind) = first_token(left);
-        match number_of(token) {
-            Ok(number) => numbers.push(number)?,
-            Err(kind) => return Err(LineFault::Kind(kind)),
-        }
+        numbers.push(number_of(token).map_err(LineFault::Kind)?)?;
         rest = behind;
     }
     Ok(numbers)
