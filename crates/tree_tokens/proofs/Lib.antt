@@ -4,3 +4,4 @@ pub mod Failing
 pub mod Joining
 pub mod Naming
 pub mod RisingUnits
+pub mod Scales

@@ -10,11 +10,10 @@ ghost use Rattle.text_lines.specs.Tells.{TellsLine};
 ghost use Rattle.tree_tokens.specs.View.{tokens_in};
 
 use crate::apart::{LineParts, alone, only, pair};
-use crate::cut::next_token;
 use crate::fault_order::both;
 use crate::line_fault::LineFault;
 use crate::list::numbers_of;
-use crate::name::{exclusion_of, material_of, unit_of};
+use crate::name::{exclusion_of, material_of, one_material, one_unit};
 use crate::number::children_of;
 use branch_tree::{End, Multipliers, Scaled};
 use pns_problem::Problem;
@@ -32,14 +31,14 @@ fn short_end(problem: &Problem, word: Option<Word>, fields: Option<&[u8]>) -> Re
     ensures fault { IfErr result (λ kind. reads.end_by problem.now word (tokens_in fields.entry) ≡ Err kind) }
 {
     match word {
-        Some(Word::Dead) => Ok(End::Dead(material_of(problem, only(fields)?)?)),
+        Some(Word::Dead) => Ok(End::Dead(one_material(problem, fields)?)),
         Some(Word::Clash) => Ok(End::Clash(exclusion_of(problem, only(fields)?)?)),
         Some(Word::Branch) => {
             let (material, children) = pair(fields)?;
             let (material, children) = both(material_of(problem, material), children_of(children))?;
             Ok(End::Branch { material, children })
         }
-        Some(Word::Either) => Ok(End::Either(unit_of(problem, only(fields)?)?)),
+        Some(Word::Either) => Ok(End::Either(one_unit(problem, fields)?)),
         Some(Word::Open) => alone(End::Open, fields),
         _ => Err(TreeKind::BadLine),
     }
@@ -50,10 +49,10 @@ fn scaled_in(alloc: Global, fields: Option<&[u8]>) -> Result<Scaled, LineFault>
     ensures ok { IfOk result (λ s. reads.one_and_more rules.number_of rules.number_of (tokens_in fields.entry) ≡ Ok (s.d, s.ys)) }
     ensures fault { IfErr result (TellsLine (reads.one_and_more rules.number_of rules.number_of (tokens_in fields.entry))) }
 {
-    if next_token(fields).is_none() {
+    if fields.is_none() {
         return Err(LineFault::Kind(TreeKind::BadLine));
     }
-    numbers_of(alloc, fields).map(Scaled::from_vec)
+    Ok(Scaled::from_vec(numbers_of(alloc, fields)?))
 }
 
 /// The end that a line says.

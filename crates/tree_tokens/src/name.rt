@@ -1,13 +1,15 @@
 //! Names of units, materials and exclusions.
 ghost use Rattle.std.specs.Prelude.{◌≡◌, ◌<◌, IfOk, length};
+ghost use Rattle.tree_text_rules.specs.LineRead.{one};
 ghost use Rattle.tree_text_rules.specs.Token as rules;
+ghost use Rattle.tree_tokens.specs.View.{tokens_in};
 
+use crate::apart::only;
 use pns_problem::Problem;
 use std::str;
 use tree_text_rules::TreeKind;
 
 /// The number of the unit of this name.
-#[tactic(auto, using(crate::proofs::Naming::no_unit))]
 pub fn unit_of(problem: &Problem, token: &[u8]) -> Result<u32, TreeKind>
     ensures value { result ≡ rules.unit_of problem.now token.now }
     ensures below { IfOk result (λ u. u < length problem.now.units) }
@@ -20,7 +22,6 @@ pub fn unit_of(problem: &Problem, token: &[u8]) -> Result<u32, TreeKind>
 }
 
 /// The number of the material of this name.
-#[tactic(auto, using(crate::proofs::Naming::no_material))]
 pub fn material_of(problem: &Problem, token: &[u8]) -> Result<u32, TreeKind>
     ensures value { result ≡ rules.material_of problem.now token.now }
     ensures below { IfOk result (λ x. x < length problem.now.materials) }
@@ -30,6 +31,24 @@ pub fn material_of(problem: &Problem, token: &[u8]) -> Result<u32, TreeKind>
         Ok(name) => problem.material_named(name).ok_or(TreeKind::UnknownName),
         Err(_) => Err(TreeKind::UnknownName),
     }
+}
+
+/// The number of the unit of this name, where no other token is left.
+#[tactic(auto, using(crate::proofs::Counted::not_one))]
+pub fn one_unit(problem: &Problem, fields: Option<&[u8]>) -> Result<u32, TreeKind>
+    ensures value { result ≡ one (rules.unit_of problem.now) (tokens_in fields.entry) }
+    ensures below { IfOk result (λ u. u < length problem.now.units) }
+{
+    unit_of(problem, only(fields)?)
+}
+
+/// The number of the material of this name, where no other token is left.
+#[tactic(auto, using(crate::proofs::Counted::not_one))]
+pub fn one_material(problem: &Problem, fields: Option<&[u8]>) -> Result<u32, TreeKind>
+    ensures value { result ≡ one (rules.material_of problem.now) (tokens_in fields.entry) }
+    ensures below { IfOk result (λ x. x < length problem.now.materials) }
+{
+    material_of(problem, only(fields)?)
 }
 
 /// The number of the exclusion of this name. A problem has few, so they are looked through.

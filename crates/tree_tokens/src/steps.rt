@@ -7,16 +7,16 @@ ghost use Rattle.tree_text_rules.specs.Token as rules;
 ghost use Rattle.tree_tokens.specs.Apart.{formed_by, formed_if_read};
 ghost use Rattle.tree_tokens.specs.View.{tokens_in};
 
-use crate::apart::{LineParts, only, pair};
+use crate::apart::{LineParts, pair};
 use crate::fault_order::both;
-use crate::name::{material_of, unit_of};
+use crate::name::{material_of, one_material, one_unit, unit_of};
 use crate::unit_list::units_of;
 use pns_problem::Problem;
 use tree_text_rules::{TreeKind, Word};
 use unit_sets::Step;
 
 // The step of a line that begins as one.
-#[tactic(auto, using(crate::proofs::Counted::not_one, crate::proofs::Counted::not_two))]
+#[tactic(auto, using(crate::proofs::Counted::not_two))]
 fn step_of(problem: &Problem, line: &LineParts) -> Result<Step, TreeKind>
     ensures value { IfSome (reads.step_by problem.now line.now.word (tokens_in line.now.fields)) (λ read. formed_by line.now.formed read ≡ rules.mapped step_of result) }
     ensures known { IfOk result (λ step. KnowsStep problem.now (step_of step)) }
@@ -25,9 +25,9 @@ fn step_of(problem: &Problem, line: &LineParts) -> Result<Step, TreeKind>
         return Err(TreeKind::BadLine);
     }
     match line.word {
-        Some(Word::Raw) => Ok(Step::Raw(unit_of(problem, only(line.fields)?)?)),
-        Some(Word::Rival) => Ok(Step::Rival(unit_of(problem, only(line.fields)?)?)),
-        Some(Word::Starve) => Ok(Step::Starve(material_of(problem, only(line.fields)?)?)),
+        Some(Word::Raw) => Ok(Step::Raw(one_unit(problem, line.fields)?)),
+        Some(Word::Rival) => Ok(Step::Rival(one_unit(problem, line.fields)?)),
+        Some(Word::Starve) => Ok(Step::Starve(one_material(problem, line.fields)?)),
         Some(Word::Loose) => Ok(Step::Loose(units_of(problem, line.fields)?)),
         Some(Word::Sole) => {
             let (material, unit) = pair(line.fields)?;
