@@ -1,5 +1,6 @@
 pub mod Counted
 pub mod Cutting
+pub mod Entries
 pub mod Failing
 pub mod Joining
 pub mod Naming

@@ -1,7 +1,9 @@
 //! Places where a number is out of range.
 ghost use Rattle.std.specs.Prelude.{◌≡◌, IfOk};
+ghost use Rattle.flow_rules.specs.declared.place.Place.TheVariants as places;
 ghost use Rattle.tree_rules.specs.Known.{KnowsPlace};
 ghost use Rattle.tree_text_rules.specs.LineRead as reads;
+ghost use Rattle.tree_text_rules.specs.Token as rules;
 ghost use Rattle.tree_tokens.specs.View.{tokens_in};
 
 use crate::apart::{pair, some_token};
@@ -13,7 +15,6 @@ use flow_rules::Place;
 use pns_problem::Problem;
 use tree_text_rules::TreeKind;
 
-#[tactic(auto, using(crate::proofs::Counted::not_entry))]
 fn entry_of(problem: &Problem, fields: Option<&[u8]>) -> Result<Place, TreeKind>
     ensures value { result ≡ reads.entry_of problem.now (tokens_in fields.entry) }
     ensures known { IfOk result (KnowsPlace problem.now) }
@@ -35,8 +36,25 @@ fn entry_of(problem: &Problem, fields: Option<&[u8]>) -> Result<Place, TreeKind>
     })
 }
 
+fn flow_place(problem: &Problem, fields: Option<&[u8]>) -> Result<Place, TreeKind>
+    ensures value { result ≡ rules.mapped (λ found. places.Flow found.0 found.1) (reads.two (rules.unit_of problem.now) rules.flow_of (tokens_in fields.entry)) }
+    ensures known { IfOk result (KnowsPlace problem.now) }
+{
+    let (unit, which) = pair(fields)?;
+    let (unit, which) = both(unit_of(problem, unit), flow_of(which))?;
+    Ok(Place::Flow { unit, which })
+}
+
+fn refute_place(problem: &Problem, fields: Option<&[u8]>) -> Result<Place, TreeKind>
+    ensures value { result ≡ rules.mapped (λ found. places.Refute found.0 found.1) (reads.two (rules.column_of problem.now) rules.count_of (tokens_in fields.entry)) }
+    ensures known { IfOk result (KnowsPlace problem.now) }
+{
+    let (row, at) = pair(fields)?;
+    let (row, at) = both(column_of(problem, row), count_of(at))?;
+    Ok(Place::Refute { row, at })
+}
+
 /// A place.
-#[tactic(auto, using(crate::proofs::Counted::not_two))]
 pub fn place_of(problem: &Problem, fields: Option<&[u8]>) -> Result<Place, TreeKind>
     ensures value { result ≡ reads.place_of problem.now (tokens_in fields.entry) }
     ensures known { IfOk result (KnowsPlace problem.now) }
@@ -45,9 +63,7 @@ pub fn place_of(problem: &Problem, fields: Option<&[u8]>) -> Result<Place, TreeK
     if word == b"entry".as_slice() {
         entry_of(problem, behind)
     } else if word == b"flow".as_slice() {
-        let (unit, which) = pair(behind)?;
-        let (unit, which) = both(unit_of(problem, unit), flow_of(which))?;
-        Ok(Place::Flow { unit, which })
+        flow_place(problem, behind)
     } else if word == b"cost".as_slice() {
         one_count(behind).map(|at| Place::Cost { at })
     } else if word == b"flowsum".as_slice() {
@@ -55,9 +71,7 @@ pub fn place_of(problem: &Problem, fields: Option<&[u8]>) -> Result<Place, TreeK
     } else if word == b"bound".as_slice() {
         one_count(behind).map(|at| Place::Bound { at })
     } else if word == b"refute".as_slice() {
-        let (row, at) = pair(behind)?;
-        let (row, at) = both(column_of(problem, row), count_of(at))?;
-        Ok(Place::Refute { row, at })
+        refute_place(problem, behind)
     } else {
         Err(TreeKind::BadLine)
     }
