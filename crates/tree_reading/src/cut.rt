@@ -9,7 +9,7 @@ use tree_text_rules::TreeKind;
 use tree_tokens::{Line, first_line};
 
 /// A place in the bytes and its line number: the line begins there, or the bytes end there.
-#[derive(Clone, Copy, Debug, PartialEq, Eq)]
+#[derive(Clone, Copy)]
 pub struct Cut {
     pub at: usize,
     pub line: u32,
