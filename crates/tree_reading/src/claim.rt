@@ -9,7 +9,7 @@ ghost use Rattle.tree_reading.specs.Taken.{taken};
 ghost use Rattle.text_lines.specs.Tells.{Tells};
 
 use crate::cut::{Cut, next_line};
-use crate::fault::{TreeFault, fault_at, kind_at};
+use crate::fault::{TreeFault, at_line};
 use branch_tree::{Claim, Network};
 use pns_problem::Problem;
 use std::alloc::Global;
@@ -29,9 +29,9 @@ fn read_sizes(
 {
     let (line, first) = next_line(bytes, cut)?;
     let read = sizes_line(alloc, units.count(), &parts_of(&line));
-    let (d, sizes) = read.map_err(|fault| fault_at(cut, fault))?;
+    let (d, sizes) = read.map_err(|fault| fault.at(cut.line))?;
     let (line, behind) = next_line(bytes, first)?;
-    let cost = cost_line(&parts_of(&line)).map_err(|kind| kind_at(first, kind))?;
+    let cost = at_line(first, cost_line(&parts_of(&line)))?;
     Ok((Network::of(units, sizes, d, cost), behind))
 }
 
@@ -51,7 +51,7 @@ pub fn read_network(
     ensures fault { IfErr result (Tells (network_taken problem.now cut.line (lines_at bytes.now cut))) }
 {
     let (line, first) = next_line(bytes, cut)?;
-    let units = network_line(problem, &parts_of(&line)).map_err(|kind| kind_at(cut, kind))?;
+    let units = at_line(cut, network_line(problem, &parts_of(&line)))?;
     read_sizes(alloc, units, bytes, first)
 }
 
@@ -67,7 +67,7 @@ pub fn read_claim(
     ensures { GivesAt claim_of (KnowsClaim problem.now) (claim_taken problem.now) bytes.now cut result }
 {
     let (line, first) = next_line(bytes, cut)?;
-    match opening_line(problem, &parts_of(&line)).map_err(|kind| kind_at(cut, kind))? {
+    match at_line(cut, opening_line(problem, &parts_of(&line)))? {
         Opening::Network(units) => {
             let (network, behind) = read_sizes(alloc, units, bytes, first)?;
             Ok((Claim::Network(network), behind))

@@ -11,7 +11,7 @@ ghost use Rattle.tree_reading.specs.Taken.{line_taken, taken};
 ghost use Rattle.text_lines.specs.Tells.{Tells};
 
 use crate::cut::{Cut, line_at, next_line};
-use crate::fault::{TreeFault, kind_at};
+use crate::fault::{TreeFault, at_line};
 use pns_problem::Problem;
 use std::alloc::Global;
 use tree_tokens::{option_line, parts_of, step_line};
@@ -35,14 +35,11 @@ pub fn read_steps(
     let mut steps = Vec::new(alloc);
     let mut at = cut;
     'steps: while let Some((line, behind)) = line_at(bytes, at) {
-        match step_line(problem, &parts_of(&line)) {
-            None => return Ok((steps, at)),
-            Some(Err(kind)) => return Err(kind_at(at, kind)),
-            Some(Ok(step)) => {
-                steps.push(step)?;
-                at = behind;
-            }
-        }
+        let Some(read) = step_line(problem, &parts_of(&line)) else {
+            return Ok((steps, at));
+        };
+        steps.push(at_line(at, read)?)?;
+        at = behind;
     }
     Ok((steps, at))
 }
@@ -54,7 +51,7 @@ pub fn read_option(problem: &Problem, bytes: &[u8], cut: Cut) -> Result<(UnitSet
     ensures { GivesAt (λ us. us) (AreUnits problem.now) (line_taken (option_read problem.now)) bytes.now cut result }
 {
     let (line, behind) = next_line(bytes, cut)?;
-    let option = option_line(problem, &parts_of(&line)).map_err(|kind| kind_at(cut, kind))?;
+    let option = at_line(cut, option_line(problem, &parts_of(&line)))?;
     Ok((option, behind))
 }
 

@@ -10,7 +10,7 @@ ghost use Rattle.tree_reading.specs.Taken.{taken};
 ghost use Rattle.text_lines.specs.Tells.{Tells};
 
 use crate::cut::{Cut, next_line};
-use crate::fault::{TreeFault, fault_at};
+use crate::fault::TreeFault;
 use crate::head::read_steps;
 use branch_tree::{End, Steps, TreeNode};
 use pns_problem::Problem;
@@ -35,7 +35,7 @@ pub fn read_end(
     ensures fault { IfErr result (Tells (end_taken problem.now cut.line (lines_at bytes.now cut))) }
 {
     let (line, behind) = next_line(bytes, cut)?;
-    let end = end_line(alloc, problem, &parts_of(&line)).map_err(|fault| fault_at(cut, fault))?;
+    let end = end_line(alloc, problem, &parts_of(&line)).map_err(|fault| fault.at(cut.line))?;
     Ok((end, behind))
 }
 

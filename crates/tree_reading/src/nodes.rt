@@ -9,7 +9,7 @@ ghost use Rattle.tree_reading.specs.Taken.{taken};
 ghost use Rattle.text_lines.specs.Tells.{Tells};
 
 use crate::cut::{Cut, next_line};
-use crate::fault::{TreeFault, kind_at};
+use crate::fault::{TreeFault, at_line};
 use crate::head::read_option;
 use crate::node::read_node;
 use branch_tree::{Tree, TreeNode};
@@ -71,6 +71,6 @@ pub fn read_whole(
     ensures count { IfOk result (λ found. length found.0 ≤ found.1.at) }
 {
     let (line, first) = next_line(bytes, cut)?;
-    root_line(&parts_of(&line)).map_err(|kind| kind_at(cut, kind))?;
+    at_line(cut, root_line(&parts_of(&line)))?;
     read_nodes(alloc, problem, bytes, first)
 }

@@ -8,7 +8,7 @@ ghost use Rattle.tree_reading.specs.Place.{IsCut, lines_at};
 ghost use Rattle.text_lines.specs.Tells.{Tells};
 
 use crate::cut::{Cut, line_at, next_line};
-use crate::fault::{TreeFault, fault_at, kind_at};
+use crate::fault::{TreeFault, at_line, kind_at};
 use branch_tree::{Columns, Tail};
 use pns_problem::Problem;
 use std::alloc::Global;
@@ -36,7 +36,7 @@ fn read_close(tail: Tail, bytes: &[u8], cut: Cut) -> Result<Tail, TreeFault>
     ensures { Gives tail_of (λ found. found ≡ tail_of tail) (close_taken (tail_of tail) cut.line (lines_at bytes.now cut)) result }
 {
     let (line, behind) = next_line(bytes, cut)?;
-    close_line(&parts_of(&line)).map_err(|kind| kind_at(cut, kind))?;
+    at_line(cut, close_line(&parts_of(&line)))?;
     read_nothing(tail, bytes, behind)
 }
 
@@ -54,9 +54,9 @@ fn read_past(
 {
     let (line, first) = next_line(bytes, cut)?;
     let read = nonbasic_line(alloc, problem, &parts_of(&line));
-    let nonbasic = read.map_err(|fault| fault_at(cut, fault))?;
+    let nonbasic = read.map_err(|fault| fault.at(cut.line))?;
     let (line, second) = next_line(bytes, first)?;
-    let place = place_line(problem, &parts_of(&line)).map_err(|kind| kind_at(first, kind))?;
+    let place = at_line(first, place_line(problem, &parts_of(&line)))?;
     let tail = Tail::Past {
         node,
         nonbasic: Columns::from_vec(nonbasic),
@@ -80,7 +80,7 @@ pub fn read_tail(
     ensures fault { IfErr result (Tells (tail_taken problem.now cut.line (lines_at bytes.now cut))) }
 {
     let (line, first) = next_line(bytes, cut)?;
-    match tail_opening_line(&parts_of(&line)).map_err(|kind| kind_at(cut, kind))? {
+    match at_line(cut, tail_opening_line(&parts_of(&line)))? {
         TailOpening::Whole => read_nothing(Tail::Whole, bytes, first),
         TailOpening::Spent { next, options } => {
             read_close(Tail::Spent { next, options }, bytes, first)

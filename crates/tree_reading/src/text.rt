@@ -9,7 +9,7 @@ ghost use Rattle.text_lines.specs.Tells.{Tells};
 
 use crate::claim::read_claim;
 use crate::cut::{Cut, line_at};
-use crate::fault::{TreeFault, kind_at};
+use crate::fault::{TreeFault, at_line, kind_at};
 use crate::nodes::read_whole;
 use crate::tail::read_tail;
 use branch_tree::{Claim, Tail, Tree};
@@ -56,6 +56,6 @@ pub fn read_tree(
     let Some((line, behind)) = line_at(bytes, front) else {
         return Err(kind_at(front, TreeKind::FileType));
     };
-    file_type_line(&line).map_err(|kind| kind_at(front, kind))?;
+    at_line(front, file_type_line(&line))?;
     read_rest(alloc, problem, bytes, behind)
 }
