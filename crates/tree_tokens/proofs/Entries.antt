@@ -1,4 +1,4 @@
--- An entry's five tokens, which are read from the last to the first.
+-- Tokens of a place that are read together: two, or an entry's five.
 use Rattle.std.proofs.Common.{◌≡◌, List, [], ◌∷◌, Option, Result, ap, sym, ◌∙◌}
 use Rattle.integer_laws.specs.declared.which.Which.{Which}
 use Rattle.flow_rules.specs.declared.place.Column.{Column}
@@ -6,9 +6,13 @@ use Rattle.flow_rules.specs.declared.place.Place.{Place}
 use Rattle.flow_rules.specs.declared.place.Place.TheVariants.{Entry}
 use Rattle.problem_rules.specs.Problem.{Problem}
 use Rattle.tree_text_rules.specs.Line.{Token}
-use Rattle.tree_text_rules.specs.LineRead.{entry_of}
+use Rattle.tree_text_rules.specs.LineRead.{two, entry_of}
 use Rattle.tree_text_rules.specs.Token.{both, mapped, column_of, row_of, which_of}
 use Rattle.tree_text_rules.specs.declared.TreeKind.{TreeKind}
+
+pub two_read : {A B C : Type 0} (f : A × B → C) (read : Token → Result A TreeKind) (read' : Token → Result B TreeKind) (tokens : List Token) {token next : Token} {a : Result A TreeKind} {b : Result B TreeKind} (found : Result (A × B) TreeKind)
+    → tokens ≡ token ∷ next ∷ [] → a ≡ read token → b ≡ read' next → found ≡ both a b → mapped f found ≡ mapped f (two read read' tokens)
+two_read f read read' tokens found cut one other all = ap (mapped f) (all ∙ (λ i. both (one i) (other i)) ∙ ap (two read read') (sym cut))
 
 abbrev pub Found : Type 0
 Found = Column × (Column × (Option Column × (Column × Which)))
