@@ -14,12 +14,13 @@ made s names lines line = named s names lines (head_of line.text)
 
 pub loop-line-preserved : goal.loop-line-preserved
 loop-line-preserved c = elim c.match-bare_name.branch [
-    in-Some+in_ok-unit+in_ok-push w ↦
-        (λ k. (w.units-is k).items)
-        ∙ bare_more (made c.args.settings.now c.args.names.now.materials c.args.lines.now) c.args.names.now.units c.args.lines.now c.loop-line.line-index c.line-item.result c.args.units.now.items _ _ _ c.loop-line-test.true c.line-item.is
-          (w.in-Some.ensures.at ∙ (λ k. is_bare (c.names.view_is k).units c.line-item.result)) w.in_ok-push.ensures.items
-          (w.in_ok-unit.ensures ∙ (λ k. named c.args.settings.now (c.names.view_is k).materials c.args.lines.now (w.in-Some.ensures.some k))) c.loop-line.invariant
-    | in_default w ↦
-        (λ k. (w.units-is k).items)
-        ∙ not_bare (made c.args.settings.now c.args.names.now.materials c.args.lines.now) c.args.names.now.units c.args.lines.now c.loop-line.line-index c.line-item.result c.args.units.now.items _ c.loop-line-test.true c.line-item.is
-          (w.in_default.ensures.at ∙ (λ k. is_bare (c.names.view_is k).units c.line-item.result)) c.loop-line.invariant ]
+  | in-Some+in_ok-unit+in_ok-push w ↦
+      (λ k. (w.units-is k).items)
+      ∙ bare_more (made c.args.settings.now c.args.names.now.materials c.args.lines.now) c.args.names.now.units c.args.lines.now c.loop-line.line-index c.line-item.result c.args.units.now.items _ _ _ c.loop-line-test.true c.line-item.is
+      (w.in-Some.ensures.at ∙ (λ k. is_bare (c.names.view_is k).units c.line-item.result)) w.in_ok-push.ensures.items
+      (w.in_ok-unit.ensures ∙ (λ k. named c.args.settings.now (c.names.view_is k).materials c.args.lines.now (w.in-Some.ensures.some k))) c.loop-line.invariant
+  | in_default w ↦
+      (λ k. (w.units-is k).items)
+      ∙ not_bare (made c.args.settings.now c.args.names.now.materials c.args.lines.now) c.args.names.now.units c.args.lines.now c.loop-line.line-index c.line-item.result c.args.units.now.items _ c.loop-line-test.true c.line-item.is
+      (w.in_default.ensures.at ∙ (λ k. is_bare (c.names.view_is k).units c.line-item.result)) c.loop-line.invariant
+]

@@ -52,9 +52,9 @@ pub returns-clause-known : goal.returns-clause-known
 returns-clause-known c =
     let enters = IfOk-at_ok _ c.in_ok-leave-2.ensures.parts.1 c.both-behind_leave.ensures.parts in
     let rows = IfOk-at_ok _ enters.1 c.both-behind_enter.ensures.parts in
-    let columns = IfOk-at_ok _ rows.1 c.both-behind_row.ensures.parts in
-    ( IfOk-at_ok _ c.in_ok-leave-2.ensures.parts.0 c.column_of-3.ensures.known
-    , IfOk-at_ok _ enters.0 c.column_of-2.ensures.known
-    , IfOk-at_ok _ rows.0 c.row_of.ensures.known
-    , IfOk-at_ok _ columns.0 c.column_of.ensures.known
+    let columns = IfOk-at_ok _ rows.1 c.both-behind_row.ensures.parts in (
+      IfOk-at_ok _ c.in_ok-leave-2.ensures.parts.0 c.column_of-3.ensures.known,
+      IfOk-at_ok _ enters.0 c.column_of-2.ensures.known,
+      IfOk-at_ok _ rows.0 c.row_of.ensures.known,
+      IfOk-at_ok _ columns.0 c.column_of.ensures.known,
     )
