@@ -25,7 +25,7 @@ use text_lines::term::sides_of;
 use text_rules::{Section, TextKind};
 
 /// A line, with the section that it stands in or begins, counted from 1.
-#[derive(Clone, Copy, Debug, PartialEq, Eq)]
+#[derive(Clone, Copy)]
 pub struct Placed<'a> {
     pub number: u32,
     pub section: Section,
