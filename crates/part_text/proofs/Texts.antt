@@ -7,7 +7,7 @@ use Rattle.std.proofs.lemmas.Slice.Eq.{bytes_eq-Decides}
 use Rattle.text_rules.specs.Canonical.{joined}
 use Rattle.text_laws.proofs.Cuts.{split_at}
 use Rattle.text_lines.proofs.Cutting.{parts_some}
-use Rattle.tree_tokens.proofs.Cutting.{more_pieces}
+use Rattle.tree_reading.proofs.Cutting.{more_pieces}
 use Rattle.problem_rules.specs.Each.{Each}
 use Rattle.problem_rules.specs.Problem.{Problem}
 use Rattle.problem_rules.specs.Validity.{IsValid}

@@ -1,6 +1,6 @@
 //! Whole texts.
 ghost use Rattle.std.specs.Prelude.{◌≡◌, ◌≤◌, ◌<◌, ◌-◌, ◌^◌, suc, Ok, IfOk, IfErr, length};
-ghost use Rattle.tree_tokens.specs.View.{line_of};
+ghost use Rattle.tree_reading.specs.View.{line_of};
 ghost use Rattle.tree_reading.specs.Place.{IsCut, lines_at};
 ghost use Rattle.part_text.specs.Lines.{IsTaken, IsFaultAt};
 ghost use Rattle.part_rules.specs.Read.{SetLine, PartReads, is_file_type};
@@ -11,9 +11,8 @@ use crate::set::set_line;
 use pns_problem::Problem;
 use std::alloc::Global;
 use tree_parts::Part;
-use tree_reading::{Cut, TreeFault, kind_at, line_at, read_rest};
+use tree_reading::{Cut, Line, TreeFault, kind_at, line_at, read_rest};
 use tree_text_rules::TreeKind;
-use tree_tokens::Line;
 use unit_sets::{Node, UnitSet};
 
 fn is_file_type(line: &Line) -> bool

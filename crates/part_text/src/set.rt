@@ -3,14 +3,14 @@ ghost use Rattle.std.specs.Prelude.{◌≡◌, ◌<◌, ◌∷◌, [], ℕ, List
 ghost use Rattle.tree_rules.specs.Known.{AreUnits};
 ghost use Rattle.pns_rules.specs.Tokens.{token_of};
 ghost use Rattle.tree_text_rules.specs.Line.{Token};
-ghost use Rattle.tree_tokens.specs.View.{line_of};
+ghost use Rattle.tree_reading.specs.View.{line_of};
 ghost use Rattle.part_rules.specs.Read.{IsFormedAs, SetLine};
 
 use pns_problem::Problem;
 use std::str;
 use structure_list::read_token;
+use tree_reading::{Line, first_token, next_token, parts_of};
 use tree_text_rules::TreeKind;
-use tree_tokens::{Line, first_token, next_token, parts_of};
 use unit_sets::UnitSet;
 
 /// The units of the problem whose token the word is; none exactly where it is the token of no set of them.

@@ -9,7 +9,7 @@ use Rattle.text_laws.proofs.Cuts.{split_at, split_none}
 use Rattle.text_lines.proofs.Cutting.{parts_some}
 use Rattle.tree_text_rules.specs.Line.{Line, is_feed, lines_from, lines_of, word_text}
 use Rattle.tree_text_rules.specs.declared.Word.TheVariants.{Open, Unknown}
-use Rattle.tree_tokens.proofs.Cutting.{more_pieces}
+use Rattle.tree_reading.proofs.Cutting.{more_pieces}
 use Rattle.rank_rules.specs.Opened.{begins_by, opened, unknown_line, line_bytes}
 use Rattle.rank_rules.specs.Spelling.{named_word}
 

@@ -1,11 +1,11 @@
 //! What a line begins with, and the first three lines.
 ghost use Rattle.std.specs.Prelude.{◌≡◌, ◌≤◌, IfOk};
-ghost use Rattle.tree_tokens.specs.View.{line_of};
+ghost use Rattle.tree_reading.specs.View.{line_of};
 ghost use Rattle.rank_rules.specs.Opened.{begins_by};
 ghost use Rattle.rank_rules.specs.Read.{file_type_read, word_read, count_read, networks_read};
 
+use tree_reading::{Line, first_token, one_count, parts_of};
 use tree_text_rules::TreeKind;
-use tree_tokens::{Line, first_token, one_count, parts_of};
 
 /// Whether the line begins with the word.
 pub fn begins_by(word: &[u8], line: &Line) -> bool

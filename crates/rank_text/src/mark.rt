@@ -3,7 +3,7 @@ ghost use Rattle.std.specs.Prelude.{◌≡◌, Ok, IfOk, IfErr};
 ghost use Rattle.tree_text_rules.specs.LineRead.{one_and_more};
 ghost use Rattle.tree_text_rules.specs.Token as rules;
 ghost use Rattle.text_lines.specs.Tells.{TellsLine};
-ghost use Rattle.tree_tokens.specs.View.{line_of, tokens_in};
+ghost use Rattle.tree_reading.specs.View.{line_of, tokens_in};
 ghost use Rattle.ranked_tree.specs.View.{mark_of};
 ghost use Rattle.rank_rules.specs.Opened.{mark_with, named_read};
 
@@ -11,10 +11,10 @@ use branch_tree::{End, Scaled};
 use pns_problem::Problem;
 use ranked_tree::Mark;
 use std::alloc::Global;
-use tree_text_rules::{TreeKind, Word};
-use tree_tokens::{
+use tree_reading::{
     Line, LineFault, LineParts, children_of, end_line, lesser, next_token, parts_of,
 };
+use tree_text_rules::{TreeKind, Word};
 
 // A scale and multipliers, which are read as those of a line `bound`.
 fn scaled_fields(

@@ -1,6 +1,6 @@
 //! A tree text made of the lines of a ranked tree and its tail, which claims nothing.
 ghost use Rattle.std.specs.Prelude.{◌≡◌, ◌≤◌, ◌<◌, ◌-◌, ◌^◌, ◌++◌, ◌∷◌, [], Ok, IfOk, OnOk, length, map};
-ghost use Rattle.tree_tokens.specs.View.{line_of};
+ghost use Rattle.tree_reading.specs.View.{line_of};
 ghost use Rattle.tree_reading.specs.Place.{IsCut, lines_at};
 ghost use Rattle.ranked_tree.specs.View.{mark_of};
 ghost use Rattle.rank_rules.specs.Opened.{begins_by, opened, unknown_line, line_bytes, marks_taken, so_far};
@@ -12,9 +12,8 @@ use crate::mark::named_line;
 use pns_problem::Problem;
 use ranked_tree::Mark;
 use std::alloc::{AllocError, Global};
-use tree_reading::{Cut, line_at};
+use tree_reading::{Cut, Line, LineFault, line_at};
 use tree_text_rules::TreeKind;
-use tree_tokens::{Line, LineFault};
 
 /// A reader takes fewer bytes than these.
 const TOO_MANY_BYTES: usize = 4_294_967_295;

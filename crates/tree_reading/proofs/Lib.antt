@@ -1,2 +1,10 @@
+pub mod Counted
+pub mod Cutting
+pub mod Entries
+pub mod Failing
 pub mod FirstLines
+pub mod Joining
+pub mod Naming
 pub mod NodeByNode
+pub mod RisingUnits
+pub mod Scales

@@ -8,12 +8,14 @@ ghost use Rattle.tree_reading.specs.Place.{IsCut, IsBehind, lines_at};
 ghost use Rattle.tree_reading.specs.Taken.{taken};
 ghost use Rattle.text_lines.specs.Tells.{Tells};
 
+use crate::apart::parts_of;
+use crate::claim_line::{cost_line, network_line, opening_line, sizes_line};
 use crate::cut::{Cut, next_line};
 use crate::fault::{TreeFault, at_line};
+use crate::opening::Opening;
 use branch_tree::{Claim, Network};
 use pns_problem::Problem;
 use std::alloc::Global;
-use tree_tokens::{Opening, cost_line, network_line, opening_line, parts_of, sizes_line};
 use unit_sets::UnitSet;
 
 // Sizes and cost of a network with these units.

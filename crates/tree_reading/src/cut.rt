@@ -1,12 +1,12 @@
 //! Places in a text.
 ghost use Rattle.std.specs.Prelude.{◌≡◌, ◌<◌, ◌∷◌, ◌^◌, ◌-◌, [], suc, IfSome, IfNone, IfOk, IfErr, length};
-ghost use Rattle.tree_tokens.specs.View.{line_of};
+ghost use Rattle.tree_reading.specs.View.{line_of};
 ghost use Rattle.tree_reading.specs.Place.{IsCut, IsBehind, lines_at};
 ghost use Rattle.tree_reading.specs.Tells.{kind_at};
 
 use crate::fault::{TreeFault, kind_at};
+use crate::line::{Line, first_line};
 use tree_text_rules::TreeKind;
-use tree_tokens::{Line, first_line};
 
 /// A place in the bytes and its line number: the line begins there, or the bytes end there.
 #[derive(Clone, Copy)]

@@ -10,11 +10,13 @@ ghost use Rattle.tree_reading.specs.Place.{IsCut, IsReached, IsBehind, lines_at}
 ghost use Rattle.tree_reading.specs.Taken.{line_taken, taken};
 ghost use Rattle.text_lines.specs.Tells.{Tells};
 
+use crate::apart::parts_of;
 use crate::cut::{Cut, line_at, next_line};
 use crate::fault::{TreeFault, at_line};
+use crate::node_line::option_line;
+use crate::steps::step_line;
 use pns_problem::Problem;
 use std::alloc::Global;
-use tree_tokens::{option_line, parts_of, step_line};
 use unit_sets::{Step, UnitSet};
 
 /// The steps from a cut on, and the cut before the first line that is no step.

@@ -2,23 +2,53 @@
 //! and `read_rest` a part of one from a [`Cut`] on. Each gives the value that the text stands for, or its first fault.
 //!
 //! The text is read once from front to end and stays borrowed; only what is read takes memory, and nothing is reserved by a
-//! promised number of children. Modules: `cut` (a place in a text), `fault`, `claim`, `head`,
-//! `node`, `nodes` (the tree), `tail`, `text`.
+//! promised number of children. A line is a borrowed slice, and its tokens are cut as they are needed.
+//!
+//! Modules of one line and what it stands for by the place where it comes: `line` (lines and tokens), `apart` (a line's first word and the
+//! tokens behind it), `word`, `number`, `name`, `column` (one token), `list`, `unit_list`, `column_list` (all that are left),
+//! `place`, and the lines: `claim_line`, `node_line`, `steps`, `ends`, `tail_line`. `fault_order` tells the least of several
+//! faults. Texts that have other lines beside those of a tree read their tokens by the same calls.
+//!
+//! Modules of a text: `cut` (a place in it), `fault`, `claim`, `head`, `node`, `nodes` (the tree), `tail`, `text`.
 #![tactic(auto)]
 
+mod apart;
 mod claim;
+mod claim_line;
+mod column;
+mod column_list;
 mod cut;
+mod ends;
 mod fault;
+mod fault_order;
 mod head;
+mod line;
+mod line_fault;
+mod list;
+mod name;
 mod node;
+mod node_line;
 mod nodes;
+mod number;
+mod opening;
+mod place;
+mod steps;
 mod tail;
+mod tail_line;
 mod text;
+mod unit_list;
+mod word;
 
+pub use apart::{LineParts, parts_of};
 pub use claim::read_network;
 pub use cut::{Cut, line_at};
+pub use ends::end_line;
 pub use fault::{TreeFault, kind_at};
+pub use fault_order::lesser;
 pub use head::read_head;
+pub use line::{Line, first_token, next_token};
+pub use line_fault::LineFault;
 pub use node::read_end;
+pub use number::{children_of, one_count};
 pub use tail::read_tail;
 pub use text::{read_rest, read_tree};

@@ -9,13 +9,14 @@ ghost use Rattle.tree_reading.specs.Place.{IsCut, IsBehind, lines_at};
 ghost use Rattle.tree_reading.specs.Taken.{taken};
 ghost use Rattle.text_lines.specs.Tells.{Tells};
 
+use crate::apart::parts_of;
 use crate::cut::{Cut, next_line};
+use crate::ends::end_line;
 use crate::fault::TreeFault;
 use crate::head::read_steps;
 use branch_tree::{End, Steps, TreeNode};
 use pns_problem::Problem;
 use std::alloc::Global;
-use tree_tokens::{end_line, parts_of};
 use unit_sets::UnitSet;
 
 /// The end whose line is at the cut, and the cut behind it. `At` comes exactly at the fault of this line, `Memory` is want of

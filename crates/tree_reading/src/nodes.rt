@@ -8,14 +8,15 @@ ghost use Rattle.tree_reading.specs.Place.{IsCut, IsBehind, lines_at};
 ghost use Rattle.tree_reading.specs.Taken.{taken};
 ghost use Rattle.text_lines.specs.Tells.{Tells};
 
+use crate::apart::parts_of;
 use crate::cut::{Cut, next_line};
 use crate::fault::{TreeFault, at_line};
 use crate::head::read_option;
 use crate::node::read_node;
+use crate::node_line::root_line;
 use branch_tree::{Tree, TreeNode};
 use pns_problem::Problem;
 use std::alloc::Global;
-use tree_tokens::{parts_of, root_line};
 use unit_sets::UnitSet;
 
 // How many subtrees are to come behind a node, where so many were to come before.

@@ -7,15 +7,15 @@ ghost use Rattle.tree_reading.specs.Gives.{Gives};
 ghost use Rattle.tree_reading.specs.Place.{IsCut, lines_at};
 ghost use Rattle.text_lines.specs.Tells.{Tells};
 
+use crate::apart::parts_of;
 use crate::cut::{Cut, line_at, next_line};
 use crate::fault::{TreeFault, at_line, kind_at};
+use crate::opening::TailOpening;
+use crate::tail_line::{close_line, nonbasic_line, place_line, tail_opening_line};
 use branch_tree::{Columns, Tail};
 use pns_problem::Problem;
 use std::alloc::Global;
 use tree_text_rules::TreeKind;
-use tree_tokens::{
-    TailOpening, close_line, nonbasic_line, parts_of, place_line, tail_opening_line,
-};
 
 // The tail, where nothing is left at the cut.
 fn read_nothing(tail: Tail, bytes: &[u8], cut: Cut) -> Result<Tail, TreeFault>

@@ -8,6 +8,7 @@ ghost use Rattle.tree_reading.specs.Tells.{TellsFault};
 ghost use Rattle.text_lines.specs.Tells.{Tells};
 
 use crate::claim::read_claim;
+use crate::claim_line::file_type_line;
 use crate::cut::{Cut, line_at};
 use crate::fault::{TreeFault, at_line, kind_at};
 use crate::nodes::read_whole;
@@ -16,7 +17,6 @@ use branch_tree::{Claim, Tail, Tree};
 use pns_problem::Problem;
 use std::alloc::Global;
 use tree_text_rules::TreeKind;
-use tree_tokens::file_type_line;
 
 /// The claim, the tree and the tail from the cut on, to the end of the bytes: a whole text but for its first line. `At` comes
 /// exactly at the first fault of what is left, `Memory` is want of memory. Linear in the bytes.
