@@ -1,42 +1,34 @@
-//! The program `calls`: public calls on sets, numbers, lists and files over small tables, with a printed line for each: what
-//! no command of `pns` shows. The file `stdout` beside `src` has the lines that are wanted, worked out by hand.
+//! The program `calls`: what neither a contract nor a command of `pns` shows. That is what files of
+//! the system give and the standard output takes, when there is a sum of mixed numbers, and one run
+//! of `read_head` and of `extend`. No command makes these two calls, and their contracts hold also
+//! where they always answer that there is no memory. The file `stdout` beside `src` has the lines
+//! that are wanted, worked out by hand.
 //!
-//! Modules: `sets` (units, materials, options), `rows` and `fractions` (numbers), `lists` and `pool` (linked lists and open
-//! leaves), `files` (shelves and sinks).
+//! Modules: `files` (files and output), `numbers` (sums of mixed numbers), `plants` (the plant of
+//! the others), `texts` (the head of a node), `structures` (the steps at a node).
 #![tactic(auto)]
 
 mod files;
-mod fractions;
-mod lists;
-mod pool;
-mod rows;
-mod sets;
+mod numbers;
+mod plants;
+mod structures;
+mod texts;
 
-use std::alloc::Global;
+use pgraph::Graph;
+use plants::plant;
 use std::io;
-
-/// Sets, numbers and lists.
-fn values(rt: &(impl Print + Alloc<A = Global>)) -> io::Result<()> {
-    sets::units(rt)?;
-    sets::materials(rt)?;
-    sets::options(rt)?;
-    sets::nodes(rt)?;
-    rows::combinations(rt)?;
-    rows::divisors(rt)?;
-    rows::primitives(rt)?;
-    rows::sums(rt)?;
-    fractions::sums(rt)?;
-    fractions::orders(rt)?;
-    lists::ten_deep(rt)?;
-    lists::one_list(rt)?;
-    pool::three(rt)?;
-    pool::equal(rt)?;
-    pool::many(rt)
-}
+use unit_sets::{Node, UnitSet};
 
 fn main(rt: HostRuntime) -> io::Result<()> {
-    values(&rt)?;
-    files::shelves(&rt)?;
-    files::sinks(&rt)?;
-    files::system(&rt)
+    files::wholes(&rt)?;
+    files::pieces(&rt)?;
+    numbers::sums(&rt)?;
+    let problem = plant(rt.alloc())?;
+    texts::head(&rt, &problem)?;
+    let graph = Graph::of(rt.alloc(), &problem)?;
+    let start = Node {
+        inside: UnitSet::empty(),
+        outside: UnitSet::empty(),
+    };
+    structures::extension(&rt, &graph, &start)
 }

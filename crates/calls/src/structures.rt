@@ -1,0 +1,21 @@
+//! The steps at a node.
+
+use neutral_extension::{Extended, extend};
+use pgraph::Graph;
+use std::alloc::Global;
+use std::io;
+use tree_parts::is_sound;
+use unit_sets::Node;
+
+/// The steps at a node, and where they lead.
+pub fn extension(
+    rt: &(impl Print + Alloc<A = Global>),
+    graph: &Graph,
+    start: &Node,
+) -> io::Result<()> {
+    if !is_sound(graph, *start) {
+        return println!(rt; "no sound node");
+    }
+    let Extended { node, steps, end } = extend(rt.alloc(), graph, *start)?;
+    println!(rt; "steps: {steps:?}, {end:?} at {node:?}")
+}
