@@ -56,3 +56,7 @@ IsSomeAdded old new leaf (Some w) = IsAdded old new (record { network = w; leaf 
 abbrev pub AreAdded : Listed → Listed → ℕ → List (Option Network) → Type 0
 AreAdded old new first [] = new ≡ old
 AreAdded old new first (w ∷ ws) = (mid : Listed) × IsSomeAdded old mid first w × AreAdded mid new (suc first) ws
+
+-- the first few of the networks are added in turn, and no other
+abbrev pub IsFrontAdded : Listed → Listed → ℕ → List (Option Network) → Type 0
+IsFrontAdded old new first ws = (few : ℕ) × AreAdded old new first (take few ws)

@@ -2,7 +2,7 @@
 ghost use Rattle.std.specs.Prelude.{◌≡◌, ◌≤◌, ◌+◌, ◌<◌, ◌^◌, [], length, take, drop, OnOk, OnErr, option_copied};
 ghost use Rattle.node_evaluation.specs.Looks.{cost_of};
 ghost use Rattle.rank_search.specs.Found.{undercut_by};
-ghost use Rattle.rank_search.specs.Listed.{IsListed, IsAdded, IsSomeAdded, AreAdded, AreNoDearer, AreDearer};
+ghost use Rattle.rank_search.specs.Listed.{IsListed, IsAdded, IsSomeAdded, AreAdded, IsFrontAdded, AreNoDearer, AreDearer};
 
 use branch_tree::Network;
 use node_evaluation::costs_no_more;
@@ -123,7 +123,8 @@ impl FoundNetworks {
 
     /// Adds a network that was found at a leaf, where there is one.
     fn add_some(&mut self, network: Option<Network>, leaf: u32) -> Result<(), AllocError>
-        ensures { OnOk result (IsSomeAdded self.old self.new leaf network) }
+        ensures added { OnOk result (IsSomeAdded self.old self.new leaf network) }
+        ensures same { OnErr result (self.new ≡ self.old) }
     {
         match network {
             None => Ok(()),
@@ -131,10 +132,12 @@ impl FoundNetworks {
         }
     }
 
-    /// Adds in turn the networks that were found at the leaves of the numbers from `first` on. `Err` comes for want of memory alone.
+    /// Adds in turn the networks that were found at the leaves of the numbers from `first` on. After
+    /// `Err`, which comes for want of memory alone, some of them are added, the first ones.
     pub fn add_all(&mut self, networks: Vec<Option<Network>>, first: u32) -> Result<(), AllocError>
         requires { first + length networks.items < 2 ^ 32 }
-        ensures { OnOk result (AreAdded self.old self.new first networks.items) }
+        ensures added { OnOk result (AreAdded self.old self.new first networks.items) }
+        ensures front { OnErr result (IsFrontAdded self.old self.new first networks.items) }
     {
         let mut leaf = first;
         'networks: for network in networks {

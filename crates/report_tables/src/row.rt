@@ -1,5 +1,5 @@
 //! A row of cells.
-ghost use Rattle.std.specs.Prelude.{◌≡◌, ◌++◌, ◌∷◌, [], OnOk, string_bytes};
+ghost use Rattle.std.specs.Prelude.{◌≡◌, ◌++◌, ◌∷◌, [], OnOk, OnErr, string_bytes};
 ghost use Rattle.report_rules.specs.Aligned.{cell_at};
 
 use std::alloc::{AllocError, Global};
@@ -29,9 +29,10 @@ impl Row {
         }
     }
 
-    /// Appends a cell.
+    /// Appends a cell. After `Err`, which comes for want of memory alone, the row is as before.
     pub fn push(&mut self, cell: String) -> Result<(), AllocError>
-        ensures { OnOk result (self.new ≡ self.old ++ string_bytes cell ∷ []) }
+        ensures appended { OnOk result (self.new ≡ self.old ++ string_bytes cell ∷ []) }
+        ensures same { OnErr result (self.new ≡ self.old) }
     {
         self.cells.push(cell)?;
         Ok(())

@@ -10,7 +10,7 @@ use crate::stack::Stack;
 use max_structure::Steps;
 use pgraph::Graph;
 use pns_rules::Verdict;
-use std::alloc::{AllocError, Global};
+use std::alloc::Global;
 use std::marker::Model;
 use std::sync::ledger::Ledger;
 use thiserror::Error;
@@ -91,27 +91,6 @@ impl<'a> StructureList<'a> {
         set.rises();
         self.last = Some(set);
         Some(set)
-    }
-
-    /// Gives the next structures, at most `count` of them, and fewer only at the end.
-    pub fn give<L: Ledger>(
-        &mut self,
-        alloc: Global,
-        count: usize,
-        steps: &mut Steps<L>,
-    ) -> Result<Vec<UnitSet>, AllocError>
-        ensures given { IfOk result (λ v. (xs : List (List ℕ)) → IsToCome self.new xs ↔ IsToCome self.old (v.items ++ xs)) }
-        ensures at_most { IfOk result (λ v. length v.items ≤ count) }
-        ensures fewer { IfOk result (λ v. length v.items < count → IsToCome self.new []) }
-    {
-        let mut given = Vec::new(alloc);
-        for i in 0..count {
-            let Some(set) = self.next(steps) else {
-                return Ok(given);
-            };
-            given.push(set)?;
-        }
-        Ok(given)
     }
 
     /// Tells a proof that what is to come is one list, and no other.

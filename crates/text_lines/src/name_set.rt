@@ -1,5 +1,5 @@
 //! Names, each once, found by a look-up.
-ghost use Rattle.std.specs.Prelude.{◌≡◌, ◌++◌, ◌∷◌, IfOk, not, OnOk, [], Option, false, length};
+ghost use Rattle.std.specs.Prelude.{◌≡◌, ◌++◌, ◌∷◌, IfOk, not, OnOk, OnErr, [], Option, false, length};
 ghost use Rattle.std.specs.List.{position};
 ghost use Rattle.std.specs.Str.{bytes_eq};
 ghost use Rattle.problem_rules.specs.Names.{is_among};
@@ -47,20 +47,24 @@ impl<'a> NameSet<'a> {
         self.names.contains(&name)
     }
 
-    /// Adds a name that is new or not, and tells which.
+    /// Adds a name that is new or not, and tells which. After `Err`, which comes for want of memory
+    /// alone, the names are as before.
     pub fn add(&mut self, name: &'a [u8]) -> Result<bool, AllocError>
         ensures new { IfOk result (λ is_new. is_new ≡ not (is_among self.old name.now)) }
         ensures added { OnOk result (self.new ≡ with_name self.old name.now) }
+        ensures same { OnErr result (self.new ≡ self.old) }
     {
         let (_, is_new) = self.names.insert_full(name)?;
         Ok(is_new)
     }
 
-    /// Adds a name that is new.
+    /// Adds a name that is new. After `Err`, which comes for want of memory alone, the names are as
+    /// before.
     #[tactic(auto, using(crate::proofs::Naming::with_new))]
     pub fn push(&mut self, name: &'a [u8]) -> Result<(), AllocError>
         requires { is_among self.old name.now ≡ false }
-        ensures { OnOk result (self.new ≡ self.old ++ name.now ∷ []) }
+        ensures added { OnOk result (self.new ≡ self.old ++ name.now ∷ []) }
+        ensures same { OnErr result (self.new ≡ self.old) }
     {
         self.add(name)?;
         Ok(())

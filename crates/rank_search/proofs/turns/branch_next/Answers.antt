@@ -87,9 +87,9 @@ returns-clause-more g c =
     let few = subst (λ (x : Choice). length s.pool.payloads + option_count x ≤ s.budget) (sym c.choice_at-choice.ensures) c.requires.fits in
     let b : IsBranching g.E.Evaluator.past p (node_of (cell_at s.pool.payloads at).node) s new at (way_of m)
     = subst (λ (k : Node). IsBranching g.E.Evaluator.past p (node_of k) s new at (way_of m)) c.node_at-node.ensures c.in_ok-networks.ensures.branching in
-    let added : AreAdded l c.add_all.new.self (length s.pool.payloads) c.in_ok-networks.networks.items = subst (λ n. AreAdded l c.add_all.new.self n c.in_ok-networks.networks.items) gr.tree.counted c.in_ok-add_all.ensures in
+    let added : AreAdded l c.add_all.new.self (length s.pool.payloads) c.in_ok-networks.networks.items = subst (λ n. AreAdded l c.add_all.new.self n c.in_ok-networks.networks.items) gr.tree.counted c.in_ok-add_all.ensures.added in
     grown g.E.Evaluator.past p c.is_valid.ensures.valid s.budget s l c.is_listed.ensures c.requires.ranking gr at c.requires.next.is_open c.is_pool.ensures.payloads c.is_pool.ensures.leaves c.requires.next.settled
     c.requires.next.least c.requires.next.undercuts new m choice few b c.in_ok-networks.networks.items (c.in_ok-networks.ensures.solved refl) c.add_all.new.self added
 
 pub returns-clause-count : goal.returns-clause-count
-returns-clause-count g c = same_count c.args.found.now c.add_all.new.self c.args.growing.now.nodes c.in_ok-networks.networks.items c.in_ok-add_all.ensures
+returns-clause-count g c = same_count c.args.found.now c.add_all.new.self c.args.growing.now.nodes c.in_ok-networks.networks.items c.in_ok-add_all.ensures.added

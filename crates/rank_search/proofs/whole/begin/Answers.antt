@@ -21,7 +21,7 @@ returns-clause-ranking g c =
     let l : Listed = record { count = c.args.count; found = [] } in
     let listed : IsListed l = record { asked = c.requires.asked; few = omega arith; rising = tt; scaled = tt } in
     let networks = one_network c.push.new.self.items c.new-networks.result.items c.in_ok-copy_of_network.field-0 s.best c.in_ok-push.ensures.items c.new-networks.ensures.items c.in_ok-copy_of_network.ensures in
-    let added = added_one c.new-found.result l c.add_all.new.self c.push.new.self.items s.best c.new-found.ensures networks c.in_ok-add_all.ensures in
+    let added = added_one c.new-found.result l c.add_all.new.self c.push.new.self.items s.best c.new-found.ensures networks c.in_ok-add_all.ensures.added in
     begun g.E.Evaluator.past c.args.problem.now (record { inside = c.empty.result; outside = c.empty-2.result }) c.args.budget s c.in_ok-growing.ensures.root c.requires.some
     l c.add_all.new.self listed refl (c.in_ok-growing.ensures.solved refl) added start
 
@@ -31,6 +31,6 @@ returns-clause-count g c =
     let l : Listed = record { count = c.args.count; found = [] } in
     let listed : IsListed l = record { asked = c.requires.asked; few = omega arith; rising = tt; scaled = tt } in
     let networks = one_network c.push.new.self.items c.new-networks.result.items c.in_ok-copy_of_network.field-0 s.best c.in_ok-push.ensures.items c.new-networks.ensures.items c.in_ok-copy_of_network.ensures in
-    let added = added_one c.new-found.result l c.add_all.new.self c.push.new.self.items s.best c.new-found.ensures networks c.in_ok-add_all.ensures in
+    let added = added_one c.new-found.result l c.add_all.new.self c.push.new.self.items s.best c.new-found.ensures networks c.in_ok-add_all.ensures.added in
     same_count g.E.Evaluator.past c.args.problem.now (record { inside = c.empty.result; outside = c.empty-2.result }) c.args.budget s c.in_ok-growing.ensures.root c.requires.some
     l c.add_all.new.self listed refl (c.in_ok-growing.ensures.solved refl) added
