@@ -114,6 +114,7 @@ module _ (p : Problem) (s : Growing) (t : IsTreeKept p s) (at place : ℕ) (tree
   past Past h k = subst (λ (w : Tree). IsPast p IsUntried (node_of s.start) w (λ n. Past p n h.nonbasic h.place) place) (sym of.nodes_are) (record {
     node = place_of (cell_at s.pool.payloads at);
     at_leaf = open_stands p (node_of s.start) (claim_with s.best) (claimed_cost (claim_with s.best)) t.last s.pool.payloads of.order t.kept of.is_preorder at place of.stands k.is_open;
+    sound = t.kept.sound at k.there;
     reduced = k.stopped.reduced;
     past = k.stopped.past;
   })

@@ -224,6 +224,7 @@ module _ {Past : PastPlaces} {undercut : Option CostOver} (p : Problem) (valid :
   pending j lt e settled =
       let o = other j lt e in
       record {
+        sound = g.tree.kept.sound j lt;
         reduced = o.known.reduced;
         undecided = undecided_there (shape_of p) (place_of (cell_at s.pool.payloads j)) o.ready.choice o.known.choice;
         relaxed = reached_any p (place_of (cell_at s.pool.payloads j)) (numerator (reached_by o.value (interval_of (Some o.ready)))) (denominator (reached_by o.value (interval_of (Some o.ready))))

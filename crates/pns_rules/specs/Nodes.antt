@@ -18,7 +18,7 @@ pub data Step : Type 0 where
   loose : List ℕ → Step
   sole : ℕ → ℕ → Step
 
--- a unit of the problem that is neither taken in nor left out
+-- neither taken in nor left out
 abbrev pub is_free : Shape → Node → ℕ → Bool
 is_free g n u = not (n.inside u) && not (n.outside u)
 

@@ -1,6 +1,8 @@
 -- What is found where the search ends so, from what is told of it.
 use Rattle.std.proofs.Common.{◌≡◌, ℕ, true, false, List, refl}
 use Rattle.problem_rules.specs.Problem.{Problem}
+use Rattle.pns_rules.specs.Shape.{shape_of}
+use Rattle.pns_rules.specs.Ends.{IsSound}
 use Rattle.tree_rules.specs.Tree.{leaf}
 use Rattle.tree_rules.specs.Leaf.{untried}
 use Rattle.tree_rules.specs.Claim.{Network}
@@ -27,9 +29,10 @@ module _ (Stops : PastPlaces) (p : Problem) (asked count budget : ℕ) (same : a
   spent_ranked place options t s = record { ranking = record { count_is = same; tells = t }; next = place; options = options; tail_is = refl; is_spent = s }
 
   pub past_ranked : (place : ℕ) (s : Growing) (h : StoppedLeaf) → IsTelling true p count ws tree marks → IsStoppedAt Stops p s h.leaf h.stop
+      → IsSound (shape_of p) (place_of (cell_at s.pool.payloads h.leaf))
       → ((cell_at s.pool.payloads h.leaf).end ≡ leaf untried → IsOpenAt p IsOpenLeaf first_node (marked marks tree) place (place_of (cell_at s.pool.payloads h.leaf)))
       → IsRankedBy Stops p count budget (Past (record { count = asked; networks = ws; tree = tree; marks = marks; tail = past place h.stop.nonbasic h.stop.place }))
-  past_ranked place s h t stopped stands = record {
+  past_ranked place s h t stopped sound stands = record {
     ranking = record { count_is = same; tells = t };
     node = place;
     nonbasic = h.stop.nonbasic;
@@ -38,6 +41,7 @@ module _ (Stops : PastPlaces) (p : Problem) (asked count budget : ℕ) (same : a
     is_past = record {
       node = place_of (cell_at s.pool.payloads h.leaf);
       at_leaf = stands stopped.is_open;
+      sound = sound;
       reduced = stopped.stopped.reduced;
       past = stopped.stopped.past;
     };

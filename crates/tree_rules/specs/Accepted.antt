@@ -1,5 +1,6 @@
--- Trees that are accepted for a claim, whole or partial. That a list of nodes is one whole tree (`IsTree`) is kept by the type
--- of trees, and asked of no list here.
+-- Trees that are accepted for a claim, whole or partial. That a list of nodes is one whole tree
+-- (`IsTree`) is asked of no list here: a text reads as one whole tree or has a fault, and the type
+-- of trees keeps it in code.
 use Rattle.std.specs.Prelude.{ℕ, Bool, true, false, List, [], ◌∷◌}
 use Rattle.problem_rules.specs.Problem.{Problem}
 use Rattle.pns_rules.specs.Shape.{shape_of}

@@ -5,7 +5,7 @@ use Rattle.problem_rules.specs.Problem.{Problem}
 use Rattle.pns_rules.specs.Shape.{Shape, shape_of}
 use Rattle.pns_rules.specs.Structure.{is_needed}
 use Rattle.pns_rules.specs.Nodes.{Node, options}
-use Rattle.pns_rules.specs.Ends.{IsReduced, IsUndecided}
+use Rattle.pns_rules.specs.Ends.{IsSound, IsReduced, IsUndecided}
 use Rattle.tree_rules.specs.Tree.{leaf, TreeNode, Stands}
 use Rattle.tree_rules.specs.Claim.{CostOver}
 use Rattle.tree_rules.specs.Lean.{MayUndercut, IsNoDearer}
@@ -16,8 +16,10 @@ pub record IsOpenAt {L : Type 0} (p : Problem) (IsOpen : L → Type 0) (start : 
   pub stands : Stands (shape_of p) (start ∷ []) tree k n (leaf what)
   pub is_open : IsOpen what
 
--- an open leaf that is worth branching: reduced, with a material to decide, and with relaxed flows
+-- an open leaf that is worth branching: sound and reduced, with a material to decide, and with
+-- relaxed flows
 pub record IsPending (p : Problem) (n : Node) : Type 0 where
+  pub sound : IsSound (shape_of p) n
   pub reduced : IsReduced (shape_of p) n
   pub undecided : (x : ℕ) × IsUndecided (shape_of p) n x
   pub relaxed : MayUndercut p None n
@@ -36,9 +38,11 @@ pub record IsSpent {L : Type 0} (p : Problem) (IsOpen : L → Type 0) (claimed :
   pub count_is : IsNextCount (shape_of p) node count
   pub exceeds : budget < length tree + count
 
--- leaf k is open and reduced, and the simplex method goes past the range at its program. `Past` says so of a node.
+-- leaf k is open, sound and reduced, and the simplex method goes past the range at its program.
+-- `Past` says so of a node.
 pub record IsPast {L : Type 0} (p : Problem) (IsOpen : L → Type 0) (start : Node) (tree : List (TreeNode L)) (Past : Node → Type 0) (k : ℕ) : Type 0 where
   pub node : Node
   pub at_leaf : IsOpenAt p IsOpen start tree k node
+  pub sound : IsSound (shape_of p) node
   pub reduced : IsReduced (shape_of p) node
   pub past : Past node

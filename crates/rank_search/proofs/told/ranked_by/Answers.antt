@@ -57,4 +57,4 @@ returns-in_ok-told-in-Past g c =
     let ends = subst (λ (e : Ending). EndsWith g.E.Evaluator.past p s found e) c.in-Past.is c.requires.ends in
     subst (λ (t : Text). IsRankedBy g.E.Evaluator.past p found.count s.budget (ranks.Past t)) (sym c.text_of-in-Past.ensures)
     (past_ranked g.E.Evaluator.past p c.count-count.result found.count s.budget c.count-count.ensures told.networks.items told.tree (map mark_of told.marks.items) told.place s c.in-Past.stopped
-    c.in_ok-told-in-Past.ensures.tells ends c.in_ok-told-in-Past.ensures.open)
+    c.in_ok-told-in-Past.ensures.tells ends (c.requires.tree.kept.kept.sound c.in-Past.stopped.leaf ends.there) c.in_ok-told-in-Past.ensures.open)
