@@ -73,7 +73,7 @@ pub record IsBoth (p : Problem) (claim other both : Claim) : Type 0 where
   pub own : LeavesToo p claim both
   pub part : LeavesToo p other both
 
-same_cost : (w : Network) → IsNoDearer (cost_of w) (cost_of w)
+pub same_cost : (w : Network) → IsNoDearer (cost_of w) (cost_of w)
 same_cost w = omega (arith, ints)
 
 two_networks : (p : Problem) (w v : Network) (t : Bool) → int_lt (v.cost *ℤ w.d) (w.cost *ℤ v.d) ≡ t → IsFeasible p w → IsFeasible p v → IsBoth p (network w) (network v) (network (if t then v else w))

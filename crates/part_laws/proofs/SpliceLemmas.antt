@@ -4,7 +4,7 @@ use Rattle.std.proofs.lemmas.List.{append-nil}
 use Rattle.problem_rules.specs.Problem.{Problem}
 use Rattle.pns_rules.specs.Shape.{Shape, shape_of}
 use Rattle.pns_rules.specs.Nodes.{Node}
-use Rattle.tree_rules.specs.Tree.{End, branch, leaf, TreeNode, children, IsForest, IsTree, after_all, below, Stands, Pass}
+use Rattle.tree_rules.specs.Tree.{End, leaf, TreeNode, IsForest, IsTree, after_all, below, Stands, Pass}
 use Rattle.tree_rules.specs.Claim.{CostOver, Claim, network, infeasible, unknown}
 use Rattle.tree_rules.specs.Leaf.{Leaf, untried, LeafPasses}
 use Rattle.tree_rules.specs.Accepted.{Tree}
@@ -21,7 +21,7 @@ graft_behind (x ∷ xs) zero j us q qs e = absurd (omega arith)
 graft_behind (x ∷ xs) (suc m) j us q qs e = ap (λ (vs : Tree). x ∷ vs) (graft_behind xs m j us q qs (omega arith))
 
 -- the part at the later place moves behind that at the earlier one
-grafts_turn : (k j m : ℕ) (ts : Tree) (r : TreeNode Leaf) (rs : Tree) (q : TreeNode Leaf) (qs : Tree) → k < j → m ≡ length rs + j → graft_at k (graft_at j ts (q ∷ qs)) (r ∷ rs) ≡ graft_at m (graft_at k ts (r ∷ rs)) (q ∷ qs)
+pub grafts_turn : (k j m : ℕ) (ts : Tree) (r : TreeNode Leaf) (rs : Tree) (q : TreeNode Leaf) (qs : Tree) → k < j → m ≡ length rs + j → graft_at k (graft_at j ts (q ∷ qs)) (r ∷ rs) ≡ graft_at m (graft_at k ts (r ∷ rs)) (q ∷ qs)
 grafts_turn k j m [] r rs q qs lt e = refl
 grafts_turn k zero m (t ∷ ts) r rs q qs lt e = absurd (omega arith)
 grafts_turn k (suc j) zero (t ∷ ts) r rs q qs lt e = absurd (omega arith)
@@ -51,7 +51,7 @@ module _ (g : Shape) (P : Node → Leaf → Type 0) where
       (stands-append (below g a x.end ++ ls) ms xs ys k m n e (omega arith) (forest_below g P a x.end ls xs h.1 f.1) h.2 s)
 
   -- a node behind the part stands behind its nodes
-  stands_behind : (ns : List Node) (ts : Tree) (j k m : ℕ) (a n : Node) (e : End Leaf) (q : TreeNode Leaf) (qs : Tree) → j < k → m ≡ length qs + k → IsForest 1 (q ∷ qs) → Pass g P (a ∷ []) (q ∷ qs)
+  pub stands_behind : (ns : List Node) (ts : Tree) (j k m : ℕ) (a n : Node) (e : End Leaf) (q : TreeNode Leaf) (qs : Tree) → j < k → m ≡ length qs + k → IsForest 1 (q ∷ qs) → Pass g P (a ∷ []) (q ∷ qs)
       → Stands g ns ts j a (leaf untried) → Stands g ns ts k n e → Stands g ns (graft_at j ts (q ∷ qs)) m n e
   stands_behind [] ts j k m a n e q qs lt is f h at s = absurd s
   stands_behind (b ∷ bs) [] j k m a n e q qs lt is f h at s = absurd s
@@ -72,7 +72,7 @@ module _ (g : Shape) (P : Node → Leaf → Type 0) where
 -- ---- many
 
 module _ (p : Problem) (start : Node) (tree : Tree) where
-  kept_by : (part : Tree) (ts : Tree) (k j : ℕ) (n : Node) → IsTree part → k < j → Stands (shape_of p) (start ∷ []) ts k n (leaf untried) → Stands (shape_of p) (start ∷ []) (graft_at j ts part) k n (leaf untried)
+  pub kept_by : (part : Tree) (ts : Tree) (k j : ℕ) (n : Node) → IsTree part → k < j → Stands (shape_of p) (start ∷ []) ts k n (leaf untried) → Stands (shape_of p) (start ∷ []) (graft_at j ts part) k n (leaf untried)
   kept_by [] ts k j n h lt s = absurd h
   kept_by (q ∷ qs) ts k j n h lt s = stands_before (shape_of p) (start ∷ []) ts k j n (leaf untried) q qs lt s
 

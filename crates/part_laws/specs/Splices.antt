@@ -1,8 +1,8 @@
 -- Several parts in the places of open leaves of one tree. A place is that of the leaf in the tree itself, so the parts are put in from the
 -- last place on: a part moves no node that stands before it.
-use Rattle.std.specs.Prelude.{◌≡◌, ◌<◌, ℕ, true, List, [], ◌∷◌, Option, if◌then◌else◌}
+use Rattle.std.specs.Prelude.{◌<◌, ℕ, true, List, [], ◌∷◌, Option, if◌then◌else◌}
 use Rattle.problem_rules.specs.Problem.{Problem}
-use Rattle.pns_rules.specs.Shape.{Shape, shape_of}
+use Rattle.pns_rules.specs.Shape.{shape_of}
 use Rattle.pns_rules.specs.Nodes.{Node}
 use Rattle.tree_rules.specs.Tree.{leaf, IsTree, Stands, Pass}
 use Rattle.tree_rules.specs.Claim.{CostOver, Claim, network, infeasible, unknown}

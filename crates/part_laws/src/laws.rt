@@ -1,4 +1,5 @@
 ghost use Rattle.part_laws.specs.Laws.{OpenLeavesStand, GraftIsTree, GraftIsPartial};
+ghost use Rattle.part_laws.specs.Order.{OthersStayOpen, EitherOrder, AnyOrder, EachOrder};
 
 /// The list of the open leaves has just these, each with its number and its node.
 pub fn open_leaves_stand()
@@ -10,4 +11,18 @@ pub fn open_leaves_stand()
 pub fn grafts_are_partial()
     ensures tree { GraftIsTree }
     ensures partial { GraftIsPartial }
+{}
+
+/// Where a part is put back, the other open leaves of the tree stay open, each at its node.
+pub fn others_stay_open()
+    ensures { OthersStayOpen }
+{}
+
+/// Parts that start at different nodes make one tree, in whatever order they are put back, and what
+/// is claimed of it costs the same. Where each is for an open leaf of the tree itself, and one order
+/// of them can be put back, so can each other order.
+pub fn order_is_free()
+    ensures two { EitherOrder }
+    ensures many { AnyOrder }
+    ensures each { EachOrder }
 {}

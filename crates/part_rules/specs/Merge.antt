@@ -20,8 +20,12 @@ use Rattle.part_rules.specs.Part.{start_of}
 abbrev pub IsLeafOf : Problem → trees.Tree → parts.Part → ℕ → Type 0
 IsLeafOf p tree part k = Stands (shape_of p) (first_node ∷ []) tree k (start_of part) (leaf untried)
 
--- the part stands in the place of the one open leaf whose node is its own, and the claim is that of both
+-- The tree is partial from the first node, and the part from its own. The part stands in the place
+-- of the one open leaf whose node is its own, the claim is that of both, and what comes of it is
+-- partial.
 pub record IsMerged (p : Problem) (claim : rules.Claim) (tree : trees.Tree) (part : parts.Part) (both : rules.Claim) (whole : trees.Tree) : Type 0 where
+  pub tree_proves : IsPartial p first_node claim tree
+  pub part_proves : IsPartial p (start_of part) part.claim part.tree
   pub place : ℕ
   pub leaf_is : IsLeafOf p tree part place
   pub tree_is : whole ≡ graft_at place tree part.tree

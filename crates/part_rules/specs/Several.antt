@@ -1,4 +1,5 @@
--- Parts that are put back in turn, each into what the ones before it gave.
+-- Parts that are put back in turn, each into what the ones before it gave. Of no parts the claim
+-- and the tree stay as they are, and are not judged.
 use Rattle.std.specs.Prelude.{◌≡◌, ◌<◌, ℕ, List, [], ◌∷◌, length, take, get_or}
 use Rattle.problem_rules.specs.Problem.{Problem}
 use Rattle.tree_rules.specs.Claim as rules

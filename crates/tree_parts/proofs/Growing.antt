@@ -135,7 +135,15 @@ module _ (p : Problem) where
         let now_partial : IsPartial p first_node both whole =
         subst (λ (w : Tree). IsPartial p first_node (claim_of_both g.both part.claim w) w) (sym i_in.is)
         (grafts_are_partial p first_node (start_of part) g.both part.claim grown part.tree i_in.place is_whole is_tree partial is_partial i_in.stands) in
-        let merged : IsMerged p g.both grown part both whole = record { place = i_in.place; leaf_is = i_in.stands; tree_is = i_in.is; claim_is = refl; partial = now_partial } in
+        let merged : IsMerged p g.both grown part both whole = record {
+          tree_proves = partial;
+          part_proves = is_partial;
+          place = i_in.place;
+          leaf_is = i_in.stands;
+          tree_is = i_in.is;
+          claim_is = refl;
+          partial = now_partial;
+        } in
         let before : AreBack p claim tree ps i g.both grown = subst (λ (ws : List Splice). AreBack p claim tree ps i g.both (spliced ws tree)) o.old_is g.back in
         let running_now : IsRunning (o.front ++ o.back) running g.both grown = subst (λ (ws : List Splice). IsRunning ws running g.both (spliced ws tree)) o.old_is g.claim_is in
         let all : IsGrowing claim tree ps (i + 1) (o.front ++ s ∷ o.back) next = record {

@@ -174,6 +174,7 @@ fn merge_some(
 
 /// Puts the parts back in turn, each into the tree that the ones before it gave. The first that is not put back is named, with why;
 /// want of memory may come at any of them. The tree is judged once, and again only where a part's leaf is one of an earlier part.
+/// Of no parts the claim and the tree are given back as they are, and are not judged.
 pub fn merge_all(
     alloc: Global,
     problem: &Problem,

@@ -60,6 +60,8 @@ returns-in-Ok-clause-merged c =
     let whole = c.in-Ok.found.1 in
     let law = c.grafts_are_partial.ensures.partial p first_node (start_of part) claim part.claim tree part.tree at c.is_tree.ensures (subst IsTree c.tree.ensures c.is_tree-2.ensures) c.in_ok-leaves.ensures.partial c.in_ok-judge_part.ensures.partial stands in
     record {
+      tree_proves = c.in_ok-leaves.ensures.partial;
+      part_proves = c.in_ok-judge_part.ensures.partial;
       place = at;
       leaf_is = stands;
       tree_is = c.in-Ok.ensures.tree;
