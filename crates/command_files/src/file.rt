@@ -1,7 +1,8 @@
 //! The bytes of a file.
-ghost use Rattle.std.specs.Prelude.{◌≡◌, ◌≤◌, ◌<◌, ◌^◌, ℕ, List, IfOk, IfErr, OnOk, length, string_bytes};
+ghost use Rattle.std.specs.Prelude.{◌≡◌, ◌≤◌, ◌<◌, ◌^◌, IfOk, IfErr, OnOk, length, string_bytes};
 ghost use Rattle.studio_rules.specs.Reading.{AreHeld, LongFile};
 ghost use Rattle.studio_rules.specs.Ending.{Ends, Says};
+ghost use Rattle.studio_rules.specs.Keeps.{Keeps};
 
 use endings::say::{say_memory, say_of};
 use pns_io::{ReadAllFault, Shelf, Sink, read_all};
@@ -21,8 +22,7 @@ pub fn bytes_of<F: Shelf, K: Sink>(
     ensures whole { IfOk result (λ bytes. AreHeld ((F.state shelf.old).held name.now) bytes.items) }
     ensures within { IfOk result (λ bytes. length bytes.items ≤ limit) }
     ensures silent { OnOk result (out.new ≡ out.old) }
-    ensures later { (other : List ℕ) → (F.state shelf.old).faults other ≤ (F.state shelf.new).faults other }
-    ensures keeps { (other : List ℕ) → (F.state shelf.new).held other ≡ (F.state shelf.old).held other }
+    ensures keeps { Keeps (F.state shelf.old) (F.state shelf.new) }
     ensures told { IfErr result (Ends (Says (LongFile (F.state shelf.old).held name.now limit) (λ other. other ≡ name.now) (F.state shelf.old) (F.state shelf.new)) (K.state out.old) (K.state out.new)) }
 {
     match read_all(alloc, shelf, name, limit) {

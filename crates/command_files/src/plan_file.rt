@@ -5,6 +5,7 @@ ghost use Rattle.plan_rules.specs.Plan.{IsPlan};
 ghost use Rattle.studio_rules.specs.Reading.{AreHeld};
 ghost use Rattle.studio_rules.specs.Plan.{GivesPlan, PlanFaults, plan_fault_line, plan_kind_word};
 ghost use Rattle.studio_rules.specs.Ending.{Ends, Says, Only, OrMemory};
+ghost use Rattle.studio_rules.specs.Keeps.{Keeps};
 ghost use Rattle.studio_rules.specs.declared.status.Status.TheVariants.{BadPlan};
 
 use crate::file::bytes_of;
@@ -71,6 +72,7 @@ pub fn plan_of<F: Shelf, K: Sink>(
     ensures plan { IfOk result (λ plan. (file : List ℕ) × AreHeld ((F.state shelf.old).held name.now) file × GivesPlan problem.now file plan) }
     ensures valid { IfOk result (IsPlan problem.now) }
     ensures silent { OnOk result (out.new ≡ out.old) }
+    ensures keeps { Keeps (F.state shelf.old) (F.state shelf.new) }
     ensures told { IfErr result (Ends (Says (PlanFaults (F.state shelf.old).held name.now problem.now) (λ other. other ≡ name.now) (F.state shelf.old) (F.state shelf.new)) (K.state out.old) (K.state out.new)) }
 {
     let bytes = match bytes_of(alloc, shelf, out, name, PLAN_LIMIT) {

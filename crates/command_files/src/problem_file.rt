@@ -1,8 +1,9 @@
 //! A problem file: it is read and judged.
-ghost use Rattle.std.specs.Prelude.{◌≡◌, ◌≤◌, ℕ, List, IfOk, IfErr, OnOk, string_bytes};
+ghost use Rattle.std.specs.Prelude.{◌≡◌, ℕ, List, IfOk, IfErr, OnOk, string_bytes};
 ghost use Rattle.studio_rules.specs.Lines.{line};
 ghost use Rattle.studio_rules.specs.Reading.{AreHeld, GivesProblem, FileFaults, fault_line, kind_word};
 ghost use Rattle.studio_rules.specs.Ending.{Ends, Says, Only, OrMemory};
+ghost use Rattle.studio_rules.specs.Keeps.{Keeps};
 ghost use Rattle.studio_rules.specs.declared.status.Status.TheVariants.{BadProblem};
 
 use crate::file::bytes_of;
@@ -84,8 +85,7 @@ pub fn problem_of<F: Shelf, K: Sink>(
 ) -> Result<Problem, Status>
     ensures problem { IfOk result (λ p. (file : List ℕ) × AreHeld ((F.state shelf.old).held name.now) file × GivesProblem file p) }
     ensures silent { OnOk result (out.new ≡ out.old) }
-    ensures later { (other : List ℕ) → (F.state shelf.old).faults other ≤ (F.state shelf.new).faults other }
-    ensures keeps { (other : List ℕ) → (F.state shelf.new).held other ≡ (F.state shelf.old).held other }
+    ensures keeps { Keeps (F.state shelf.old) (F.state shelf.new) }
     ensures told { IfErr result (Ends (Says (FileFaults (F.state shelf.old).held name.now) (λ other. other ≡ name.now) (F.state shelf.old) (F.state shelf.new)) (K.state out.old) (K.state out.new)) }
 {
     let bytes = match bytes_of(alloc, shelf, out, name, FILE_LIMIT) {

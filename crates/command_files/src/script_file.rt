@@ -5,6 +5,7 @@ ghost use Rattle.studio_rules.specs.Reading.{AreHeld};
 ghost use Rattle.studio_rules.specs.Script.{IsEdited, ScriptFaults, edit_fault_line, edit_kind_word};
 ghost use Rattle.command_files.specs.Script.{TellsEdits};
 ghost use Rattle.studio_rules.specs.Ending.{Ends, Says, Only, OrMemory};
+ghost use Rattle.studio_rules.specs.Keeps.{Keeps};
 ghost use Rattle.studio_rules.specs.declared.status.Status.TheVariants.{BadEdit};
 
 use crate::file::bytes_of;
@@ -94,6 +95,7 @@ pub fn edited_of<F: Shelf, K: Sink>(
 ) -> Result<(Problem, Script), Status>
     ensures edited { IfOk result (λ edited. (file : List ℕ) × AreHeld ((F.state shelf.old).held name.now) file × IsEdited problem.now file edited.0 edited.1) }
     ensures silent { OnOk result (out.new ≡ out.old) }
+    ensures keeps { Keeps (F.state shelf.old) (F.state shelf.new) }
     ensures told { IfErr result (Ends (Says (ScriptFaults (F.state shelf.old).held name.now problem.now) (λ other. other ≡ name.now) (F.state shelf.old) (F.state shelf.new)) (K.state out.old) (K.state out.new)) }
 {
     let bytes = match bytes_of(alloc, shelf, out, name, SCRIPT_LIMIT) {

@@ -1,11 +1,12 @@
 //! A tree file: it is read and judged by its grammar.
-ghost use Rattle.std.specs.Prelude.{◌≡◌, ◌≤◌, ◌<◌, ◌^◌, ℕ, List, IfOk, IfErr, OnOk, length, string_bytes};
+ghost use Rattle.std.specs.Prelude.{◌≡◌, ◌<◌, ◌^◌, ℕ, List, IfOk, IfErr, OnOk, length, string_bytes};
 ghost use Rattle.tree_rules.specs.Known.{KnowsClaim, KnowsTree};
 ghost use Rattle.branch_tree.specs.View.{claim_of};
 ghost use Rattle.studio_rules.specs.Lines.{line};
 ghost use Rattle.studio_rules.specs.Reading.{AreHeld};
 ghost use Rattle.studio_rules.specs.TreeFile.{GivesTree, TreeFaults, tree_fault_line, tree_kind_word};
 ghost use Rattle.studio_rules.specs.Ending.{Ends, Says, Only, OrMemory};
+ghost use Rattle.studio_rules.specs.Keeps.{Keeps};
 ghost use Rattle.studio_rules.specs.declared.status.Status.TheVariants.{BadTree};
 
 use crate::file::bytes_of;
@@ -72,8 +73,7 @@ pub fn tree_of<F: Shelf, K: Sink>(
     ensures few { IfOk result (λ found. length found.1 < 2 ^ 32) }
     ensures known { IfOk result (λ found. KnowsClaim problem.now (claim_of found.0) × KnowsTree problem.now found.1) }
     ensures silent { OnOk result (out.new ≡ out.old) }
-    ensures later { (other : List ℕ) → (F.state shelf.old).faults other ≤ (F.state shelf.new).faults other }
-    ensures keeps { (other : List ℕ) → (F.state shelf.new).held other ≡ (F.state shelf.old).held other }
+    ensures keeps { Keeps (F.state shelf.old) (F.state shelf.new) }
     ensures told { IfErr result (Ends (Says (TreeFaults (F.state shelf.old).held name.now problem.now) (λ other. other ≡ name.now) (F.state shelf.old) (F.state shelf.new)) (K.state out.old) (K.state out.new)) }
 {
     let bytes = match bytes_of(alloc, shelf, out, name, TREE_LIMIT) {

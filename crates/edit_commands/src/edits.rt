@@ -4,6 +4,7 @@ ghost use Rattle.studio_rules.specs.Reading.{TwoFilesSay};
 ghost use Rattle.studio_rules.specs.Script.{OnScript};
 ghost use Rattle.studio_rules.specs.Edits.{EditWork, UndoWork};
 ghost use Rattle.studio_rules.specs.Ending.{Ends, Says};
+ghost use Rattle.studio_rules.specs.Keeps.{Keeps};
 
 use command_files::{edited_of, problem_of};
 use edit_scripts::print_script;
@@ -20,7 +21,8 @@ fn say_edited<F: Shelf, K: Sink>(
     shelf: &mut F,
     out: &mut K,
 ) -> Status
-    ensures { Ends (Says (OnScript EditWork (F.state shelf.old).held script.now problem.now) (λ other. other ≡ script.now) (F.state shelf.old) (F.state shelf.new)) (K.state out.old) (K.state out.new) result }
+    ensures ends { Ends (Says (OnScript EditWork (F.state shelf.old).held script.now problem.now) (λ other. other ≡ script.now) (F.state shelf.old) (F.state shelf.new)) (K.state out.old) (K.state out.new) result }
+    ensures keeps { Keeps (F.state shelf.old) (F.state shelf.new) }
 {
     match edited_of(alloc, shelf, out, script, problem) {
         Ok(edited) => say_made(out, edited.0.canonical_text(alloc)),
@@ -36,7 +38,8 @@ pub fn edit<F: Shelf, K: Sink>(
     shelf: &mut F,
     out: &mut K,
 ) -> Status
-    ensures { Ends (TwoFilesSay (OnScript EditWork) file.now script.now (F.state shelf.old) (F.state shelf.new)) (K.state out.old) (K.state out.new) result }
+    ensures ends { Ends (TwoFilesSay (OnScript EditWork) file.now script.now (F.state shelf.old) (F.state shelf.new)) (K.state out.old) (K.state out.new) result }
+    ensures keeps { Keeps (F.state shelf.old) (F.state shelf.new) }
 {
     match problem_of(alloc, shelf, out, file) {
         Ok(problem) => say_edited(alloc, &problem, script, shelf, out),
@@ -51,7 +54,8 @@ fn say_inverse<F: Shelf, K: Sink>(
     shelf: &mut F,
     out: &mut K,
 ) -> Status
-    ensures { Ends (Says (OnScript UndoWork (F.state shelf.old).held script.now problem.now) (λ other. other ≡ script.now) (F.state shelf.old) (F.state shelf.new)) (K.state out.old) (K.state out.new) result }
+    ensures ends { Ends (Says (OnScript UndoWork (F.state shelf.old).held script.now problem.now) (λ other. other ≡ script.now) (F.state shelf.old) (F.state shelf.new)) (K.state out.old) (K.state out.new) result }
+    ensures keeps { Keeps (F.state shelf.old) (F.state shelf.new) }
 {
     match edited_of(alloc, shelf, out, script, problem) {
         Ok(edited) => say_made(out, print_script(alloc, &edited.1)),
@@ -67,7 +71,8 @@ pub fn undo<F: Shelf, K: Sink>(
     shelf: &mut F,
     out: &mut K,
 ) -> Status
-    ensures { Ends (TwoFilesSay (OnScript UndoWork) file.now script.now (F.state shelf.old) (F.state shelf.new)) (K.state out.old) (K.state out.new) result }
+    ensures ends { Ends (TwoFilesSay (OnScript UndoWork) file.now script.now (F.state shelf.old) (F.state shelf.new)) (K.state out.old) (K.state out.new) result }
+    ensures keeps { Keeps (F.state shelf.old) (F.state shelf.new) }
 {
     match problem_of(alloc, shelf, out, file) {
         Ok(problem) => say_inverse(alloc, &problem, script, shelf, out),

@@ -4,6 +4,7 @@ ghost use Rattle.problem_rules.specs.Problem.{unit_at};
 ghost use Rattle.studio_rules.specs.Reading.{FileSays};
 ghost use Rattle.studio_rules.specs.Migrate.{MigrateWork};
 ghost use Rattle.studio_rules.specs.Ending.{Ends, Tells};
+ghost use Rattle.studio_rules.specs.Keeps.{Keeps};
 
 use command_files::problem_of;
 use edit_scripts::print_script;
@@ -47,7 +48,8 @@ pub fn migrate<F: Shelf, K: Sink>(
     out: &mut K,
 ) -> Status
     requires { (1 ≤ years) × (years ≤ 100) }
-    ensures { Ends (FileSays (MigrateWork years) file.now (F.state shelf.old) (F.state shelf.new)) (K.state out.old) (K.state out.new) result }
+    ensures ends { Ends (FileSays (MigrateWork years) file.now (F.state shelf.old) (F.state shelf.new)) (K.state out.old) (K.state out.new) result }
+    ensures keeps { Keeps (F.state shelf.old) (F.state shelf.new) }
 {
     match problem_of(alloc, shelf, out, file) {
         Ok(problem) => say_migration(alloc, out, &problem, years),

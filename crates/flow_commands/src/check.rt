@@ -6,6 +6,7 @@ ghost use Rattle.studio_rules.specs.TreeFile.{OnTree};
 ghost use Rattle.studio_rules.specs.Check.{CheckWork};
 ghost use Rattle.studio_rules.specs.Best.{AcceptedIsBest, FilesClaimBest};
 ghost use Rattle.studio_rules.specs.Ending.{Ends, Says, Tells};
+ghost use Rattle.studio_rules.specs.Keeps.{Keeps};
 ghost use Rattle.studio_rules.specs.declared.status.Status.TheVariants.{Done};
 
 use branch_tree::{Claim, Tree};
@@ -52,7 +53,8 @@ fn say_tree<F: Shelf, K: Sink>(
     shelf: &mut F,
     out: &mut K,
 ) -> Status
-    ensures { Ends (Says (OnTree CheckWork (F.state shelf.old).held name.now problem.now) (λ other. other ≡ name.now) (F.state shelf.old) (F.state shelf.new)) (K.state out.old) (K.state out.new) result }
+    ensures ends { Ends (Says (OnTree CheckWork (F.state shelf.old).held name.now problem.now) (λ other. other ≡ name.now) (F.state shelf.old) (F.state shelf.new)) (K.state out.old) (K.state out.new) result }
+    ensures keeps { Keeps (F.state shelf.old) (F.state shelf.new) }
 {
     match tree_of(alloc, shelf, out, name, problem) {
         Ok((claim, tree)) => say_checked(alloc, out, problem, &claim, &tree),
@@ -77,6 +79,7 @@ pub fn check<F: Shelf, K: Sink>(
     out: &mut K,
 ) -> Status
     ensures ends { Ends (TwoFilesSay (OnTree CheckWork) file.now tree.now (F.state shelf.old) (F.state shelf.new)) (K.state out.old) (K.state out.new) result }
+    ensures keeps { Keeps (F.state shelf.old) (F.state shelf.new) }
     // With status 0 the one file gives a valid problem and the other a claim, which is best.
     ensures accepted { result ≡ Done → FilesClaimBest (F.state shelf.old).held file.now tree.now }
 {

@@ -13,6 +13,7 @@ ghost use Rattle.structure_flows.specs.Answers.{AnswersFor};
 ghost use Rattle.studio_rules.specs.Reading.{FileSays};
 ghost use Rattle.studio_rules.specs.Flows.{FlowsWork, FlowNamesSay, FlowsSay};
 ghost use Rattle.studio_rules.specs.Ending.{Ends, Tells};
+ghost use Rattle.studio_rules.specs.Keeps.{Keeps};
 
 use branch_tree::{End, Network};
 use command_files::problem_of;
@@ -78,6 +79,7 @@ fn say_answer<K: Sink>(
 {
     match answer {
         StructureFlows::Least { network, bound } => {
+            network.is_sized();
             bound.are_in_range();
             let bound = End::Bound(bound);
             let printed = print_least(alloc, problem, &network, &bound, out);
@@ -147,7 +149,8 @@ pub fn flows<F: Shelf, K: Sink>(
     shelf: &mut F,
     out: &mut K,
 ) -> Status
-    ensures { Ends (FileSays (FlowsWork units.now) file.now (F.state shelf.old) (F.state shelf.new)) (K.state out.old) (K.state out.new) result }
+    ensures ends { Ends (FileSays (FlowsWork units.now) file.now (F.state shelf.old) (F.state shelf.new)) (K.state out.old) (K.state out.new) result }
+    ensures keeps { Keeps (F.state shelf.old) (F.state shelf.new) }
 {
     match problem_of(alloc, shelf, out, file) {
         Ok(problem) => say_flows(alloc, out, &problem, units),

@@ -10,6 +10,7 @@ ghost use Rattle.studio_rules.specs.TreeFile.{OnTree};
 ghost use Rattle.studio_rules.specs.Network.{OnNetwork};
 ghost use Rattle.studio_rules.specs.Graph.{AreGraphLines, PlantGraphWork, NetworkGraphWork};
 ghost use Rattle.studio_rules.specs.Ending.{Ends, Tells};
+ghost use Rattle.studio_rules.specs.Keeps.{Keeps};
 
 use crate::network::{NetworkText, say_of_network};
 use branch_tree::Network;
@@ -74,7 +75,8 @@ pub fn plant_graph<F: Shelf, K: Sink>(
     shelf: &mut F,
     out: &mut K,
 ) -> Status
-    ensures { Ends (FileSays PlantGraphWork file.now (F.state shelf.old) (F.state shelf.new)) (K.state out.old) (K.state out.new) result }
+    ensures ends { Ends (FileSays PlantGraphWork file.now (F.state shelf.old) (F.state shelf.new)) (K.state out.old) (K.state out.new) result }
+    ensures keeps { Keeps (F.state shelf.old) (F.state shelf.new) }
 {
     match problem_of(alloc, shelf, out, file) {
         Ok(problem) => say_plant(alloc, out, &problem),
@@ -90,7 +92,8 @@ pub fn graph<F: Shelf, K: Sink>(
     shelf: &mut F,
     out: &mut K,
 ) -> Status
-    ensures { Ends (TwoFilesSay (OnTree (OnNetwork NetworkGraphWork)) file.now tree.now (F.state shelf.old) (F.state shelf.new)) (K.state out.old) (K.state out.new) result }
+    ensures ends { Ends (TwoFilesSay (OnTree (OnNetwork NetworkGraphWork)) file.now tree.now (F.state shelf.old) (F.state shelf.new)) (K.state out.old) (K.state out.new) result }
+    ensures keeps { Keeps (F.state shelf.old) (F.state shelf.new) }
 {
     say_of_network(alloc, NetworkText::Graph, file, tree, shelf, out)
 }

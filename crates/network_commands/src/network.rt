@@ -11,6 +11,7 @@ ghost use Rattle.studio_rules.specs.Network.{OnNetwork};
 ghost use Rattle.network_commands.specs.Texts.{TextWork};
 ghost use Rattle.studio_rules.specs.declared.status.Status.TheVariants.{Done};
 ghost use Rattle.studio_rules.specs.Ending.{Ends, Says, Tells};
+ghost use Rattle.studio_rules.specs.Keeps.{Keeps};
 
 use crate::claim::network_of;
 use crate::graph::network_graph;
@@ -100,7 +101,8 @@ fn say_tree<F: Shelf, K: Sink>(
     shelf: &mut F,
     out: &mut K,
 ) -> Status
-    ensures { Ends (Says (OnTree (OnNetwork (TextWork what)) (F.state shelf.old).held name.now problem.now) (λ other. other ≡ name.now) (F.state shelf.old) (F.state shelf.new)) (K.state out.old) (K.state out.new) result }
+    ensures ends { Ends (Says (OnTree (OnNetwork (TextWork what)) (F.state shelf.old).held name.now problem.now) (λ other. other ≡ name.now) (F.state shelf.old) (F.state shelf.new)) (K.state out.old) (K.state out.new) result }
+    ensures keeps { Keeps (F.state shelf.old) (F.state shelf.new) }
 {
     match tree_of(alloc, shelf, out, name, problem) {
         Ok((claim, tree)) => say_claimed(alloc, what, out, problem, claim, &tree),
@@ -117,7 +119,8 @@ pub(crate) fn say_of_network<F: Shelf, K: Sink>(
     shelf: &mut F,
     out: &mut K,
 ) -> Status
-    ensures { Ends (TwoFilesSay (OnTree (OnNetwork (TextWork what))) file.now tree.now (F.state shelf.old) (F.state shelf.new)) (K.state out.old) (K.state out.new) result }
+    ensures ends { Ends (TwoFilesSay (OnTree (OnNetwork (TextWork what))) file.now tree.now (F.state shelf.old) (F.state shelf.new)) (K.state out.old) (K.state out.new) result }
+    ensures keeps { Keeps (F.state shelf.old) (F.state shelf.new) }
 {
     match problem_of(alloc, shelf, out, file) {
         Ok(problem) => say_tree(alloc, what, &problem, tree, shelf, out),

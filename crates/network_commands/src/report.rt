@@ -10,6 +10,7 @@ ghost use Rattle.studio_rules.specs.TreeFile.{OnTree};
 ghost use Rattle.studio_rules.specs.Network.{OnNetwork};
 ghost use Rattle.studio_rules.specs.Report.{ReportWork};
 ghost use Rattle.studio_rules.specs.Ending.{Ends};
+ghost use Rattle.studio_rules.specs.Keeps.{Keeps};
 
 use crate::network::{NetworkText, say_of_network};
 use branch_tree::Network;
@@ -42,7 +43,8 @@ pub fn report<F: Shelf, K: Sink>(
     shelf: &mut F,
     out: &mut K,
 ) -> Status
-    ensures { Ends (TwoFilesSay (OnTree (OnNetwork ReportWork)) file.now tree.now (F.state shelf.old) (F.state shelf.new)) (K.state out.old) (K.state out.new) result }
+    ensures ends { Ends (TwoFilesSay (OnTree (OnNetwork ReportWork)) file.now tree.now (F.state shelf.old) (F.state shelf.new)) (K.state out.old) (K.state out.new) result }
+    ensures keeps { Keeps (F.state shelf.old) (F.state shelf.new) }
 {
     say_of_network(alloc, NetworkText::Report, file, tree, shelf, out)
 }

@@ -14,6 +14,7 @@ ghost use Rattle.studio_rules.specs.PartFile.{are_several};
 ghost use Rattle.studio_rules.specs.Lines.{line};
 ghost use Rattle.studio_rules.specs.Printed.{OneAnswer};
 ghost use Rattle.studio_rules.specs.Ending.{Ends, Says, Tells, Only, OrMemory};
+ghost use Rattle.studio_rules.specs.Keeps.{Keeps};
 ghost use Rattle.studio_rules.specs.declared.status.Status.TheVariants.{Done, Refused, NoLeaf};
 
 use crate::part_file::{parts_of, push_part};
@@ -197,8 +198,9 @@ fn say_parts<F: Shelf, K: Sink>(
 ) -> Status
     requires claim { KnowsClaim problem.now (claim_of claim) }
     requires tree { KnowsTree problem.now tree }
-    ensures { Ends (Says (MergeWork (F.state shelf.old).held (map string_bytes names.now) problem.now (claim_of claim) tree) (Contains (map string_bytes names.now))
+    ensures ends { Ends (Says (MergeWork (F.state shelf.old).held (map string_bytes names.now) problem.now (claim_of claim) tree) (Contains (map string_bytes names.now))
         (F.state shelf.old) (F.state shelf.new)) (K.state out.old) (K.state out.new) result }
+    ensures keeps { Keeps (F.state shelf.old) (F.state shelf.new) }
 {
     match parts_of(alloc, shelf, out, names, problem) {
         Ok(parts) => say_merged(alloc, out, problem, claim, tree, names, &parts),
@@ -214,8 +216,9 @@ fn say_tree<F: Shelf, K: Sink>(
     shelf: &mut F,
     out: &mut K,
 ) -> Status
-    ensures { Ends (Says (OnTree (MergeWork (F.state shelf.old).held (map string_bytes names.now)) (F.state shelf.old).held name.now problem.now)
+    ensures ends { Ends (Says (OnTree (MergeWork (F.state shelf.old).held (map string_bytes names.now)) (F.state shelf.old).held name.now problem.now)
         (λ other. (other ≡ name.now) ⊎ Contains (map string_bytes names.now) other) (F.state shelf.old) (F.state shelf.new)) (K.state out.old) (K.state out.new) result }
+    ensures keeps { Keeps (F.state shelf.old) (F.state shelf.new) }
 {
     match tree_of(alloc, shelf, out, name, problem) {
         Ok((claim, tree)) => say_parts(alloc, problem, claim, tree, names, shelf, out),
@@ -233,8 +236,9 @@ pub fn merge<F: Shelf, K: Sink>(
     shelf: &mut F,
     out: &mut K,
 ) -> Status
-    ensures { Ends (Says (OnFile (OnTree (MergeWork (F.state shelf.old).held (map string_bytes parts.now)) (F.state shelf.old).held tree.now) (F.state shelf.old).held file.now)
+    ensures ends { Ends (Says (OnFile (OnTree (MergeWork (F.state shelf.old).held (map string_bytes parts.now)) (F.state shelf.old).held tree.now) (F.state shelf.old).held file.now)
         (λ other. (other ≡ file.now) ⊎ ((other ≡ tree.now) ⊎ Contains (map string_bytes parts.now) other)) (F.state shelf.old) (F.state shelf.new)) (K.state out.old) (K.state out.new) result }
+    ensures keeps { Keeps (F.state shelf.old) (F.state shelf.new) }
 {
     match problem_of(alloc, shelf, out, file) {
         Ok(problem) => say_tree(alloc, &problem, tree, parts, shelf, out),

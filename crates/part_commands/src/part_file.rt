@@ -1,5 +1,5 @@
 //! The files of parts: each is read and judged by its grammar.
-ghost use Rattle.std.specs.Prelude.{◌≡◌, ◌≤◌, ◌++◌, ℕ, List, IfOk, IfErr, OnOk, codes, map, string_bytes};
+ghost use Rattle.std.specs.Prelude.{◌≡◌, ◌++◌, ℕ, List, IfOk, IfErr, OnOk, codes, map, string_bytes};
 ghost use Rattle.std.specs.List.{Contains};
 ghost use Rattle.problem_rules.specs.Each.{Each};
 ghost use Rattle.studio_rules.specs.Lines.{line};
@@ -7,6 +7,7 @@ ghost use Rattle.part_rules.specs.Spelling.{KnowsPart};
 ghost use Rattle.studio_rules.specs.Reading.{AreHeld};
 ghost use Rattle.studio_rules.specs.PartFile.{GivesPart, PartFaults, GiveParts, FirstFault, are_several, part_words, part_fault_line};
 ghost use Rattle.studio_rules.specs.Ending.{Ends, Says, Only, OrMemory};
+ghost use Rattle.studio_rules.specs.Keeps.{Keeps};
 ghost use Rattle.studio_rules.specs.declared.status.Status.TheVariants.{BadTree};
 
 use command_files::{bytes_of, tree_kind_word};
@@ -83,8 +84,7 @@ fn part_of<F: Shelf, K: Sink>(
     ensures part { IfOk result (λ part. (file : List ℕ) × AreHeld ((F.state shelf.old).held name.now) file × GivesPart problem.now file part) }
     ensures known { IfOk result (KnowsPart problem.now) }
     ensures silent { OnOk result (out.new ≡ out.old) }
-    ensures later { (other : List ℕ) → (F.state shelf.old).faults other ≤ (F.state shelf.new).faults other }
-    ensures keeps { (other : List ℕ) → (F.state shelf.new).held other ≡ (F.state shelf.old).held other }
+    ensures keeps { Keeps (F.state shelf.old) (F.state shelf.new) }
     ensures told { IfErr result (Ends (Says (PartFaults several (F.state shelf.old).held name.now problem.now) (λ other. other ≡ name.now) (F.state shelf.old) (F.state shelf.new)) (K.state out.old) (K.state out.new)) }
 {
     let bytes = match bytes_of(alloc, shelf, out, name, PART_LIMIT) {
@@ -112,6 +112,7 @@ pub(crate) fn parts_of<F: Shelf, K: Sink>(
     ensures parts { IfOk result (λ parts. GiveParts (F.state shelf.old).held problem.now (map string_bytes names.now) parts.items) }
     ensures known { IfOk result (λ parts. Each (KnowsPart problem.now) parts.items) }
     ensures silent { OnOk result (out.new ≡ out.old) }
+    ensures keeps { Keeps (F.state shelf.old) (F.state shelf.new) }
     ensures told { IfErr result (Ends (Says (FirstFault (F.state shelf.old).held (map string_bytes names.now) problem.now) (Contains (map string_bytes names.now))
         (F.state shelf.old) (F.state shelf.new)) (K.state out.old) (K.state out.new)) }
 {

@@ -1,5 +1,6 @@
 -- What a search found, as a part that can be printed.
-use Rattle.std.proofs.Common.{◌≡◌, ℕ, List, [], ◌∷◌, Option, Some, None, sym, subst, inl, inr}
+use Rattle.std.proofs.Common.{◌≡◌, ◌<◌, ◌^◌, ℕ, List, [], ◌∷◌, Option, Some, None, length, sym}
+use Rattle.std.proofs.Common.{subst, arith, inl, inr}
 use Rattle.number_sets.specs.Sets.{has}
 use Rattle.problem_rules.specs.Problem.{Problem}
 use Rattle.pns_rules.specs.Nodes.{Node}
@@ -10,8 +11,6 @@ use Rattle.tree_rules.specs.Accepted.{Tree}
 use Rattle.tree_rules.specs.Known.{KnowsClaim, KnowsTree, KnowsTail}
 use Rattle.tree_rules.specs.Tail as tails
 use Rattle.tree_text_rules.specs.Read.{Certificate}
-use Rattle.part_rules.specs.Part.{Part}
-use Rattle.part_rules.specs.Spelling.{part_text_lines}
 use Rattle.node_evaluation.specs.Children.{claim_with}
 use Rattle.abb_search.specs.declared.outcome.Found.{Found}
 use Rattle.abb_search.specs.declared.outcome.Found.TheVariants as found
@@ -19,16 +18,17 @@ use Rattle.abb_search.specs.Found.{IsFound}
 use Rattle.abb_search.specs.Answers.{IsAgainst}
 use Rattle.studio_rules.specs.Solve.{status_of}
 use Rattle.studio_rules.specs.Part.{part_from, HoldsFrom, NoDearer, PartSays}
-use Rattle.studio_rules.specs.Printed.{spelled}
-use Rattle.part_searches.specs.Found.{part_of, FoundSays}
+use Rattle.searches.specs.Found.{certificate_of}
+use Rattle.part_searches.specs.Found.{TextSays, FoundSays}
 use Rattle.studio_rules.specs.Ending.{IsOneOf}
 use Rattle.studio_rules.specs.declared.status.Status.{Status}
 use Rattle.studio_rules.specs.declared.status.Status.TheVariants.{Done, Spent, Past}
 
-pub record CanPrint (p : Problem) (part : Part) : Type 0 where
-  pub claim : KnowsClaim p part.claim
-  pub tree : KnowsTree p part.tree
-  pub tail : KnowsTail p part.tail
+pub record CanPrint (p : Problem) (c : Certificate) : Type 0 where
+  pub claim : KnowsClaim p c.claim
+  pub tree : KnowsTree p c.tree
+  pub tail : KnowsTail p c.tail
+  pub few : length c.tree < 2 ^ 32
 
 some_is : {A : Type 0} (P : A → Type 0) (a b : A) → Some a ≡ Some b → P a → P b
 some_is P a b e h = subst P (let e' : a ≡ b = cc in e') h
@@ -37,13 +37,38 @@ some_is P a b e h = subst P (let e' : a ≡ b = cc in e') h
 pub network_is : (P : Network → Type 0) (w known : Network) → network w ≡ network known → P known → P w
 network_is P w known e h = subst P (let e' : known ≡ w = cc in e') h
 
-module _ (p : Problem) (n : Node) (inside outside : List ℕ) where
-  pub can_print : (budget : ℕ) (f : Found) → IsFound p n budget f → (part : Part) → part_of inside outside f ≡ Some part → CanPrint p part
-  can_print budget (found.Solved w tree) h part e = some_is (CanPrint p) _ part e (record { claim = h.of_claim; tree = h.of_tree; tail = tt })
-  can_print budget (found.Infeasible tree) h part e = some_is (CanPrint p) _ part e (record { claim = h.of_claim; tree = h.of_tree; tail = tt })
-  can_print budget (found.Spent best tree next options) h part e = some_is (CanPrint p) _ part e (record { claim = h.0.of_claim; tree = h.0.of_tree; tail = tt })
-  can_print budget (found.Past best tree node nonbasic place) h part e = some_is (CanPrint p) _ part e (record { claim = h.0.of_claim; tree = h.0.of_tree; tail = (h.1.past.columns, h.1.past.known) })
-  can_print budget found.Memory h part e = absurd cc
+module _ (p : Problem) (n : Node) where
+  pub can_print : (budget : ℕ) (f : Found) → IsFound p n budget f → (c : Certificate)
+      → certificate_of f ≡ Some c → CanPrint p c
+  can_print budget (found.Solved w tree) h c e =
+      some_is (CanPrint p) _ c e (record {
+        claim = h.of_claim;
+        tree = h.of_tree;
+        tail = tt;
+        few = omega (arith, h.few);
+      })
+  can_print budget (found.Infeasible tree) h c e =
+      some_is (CanPrint p) _ c e (record {
+        claim = h.of_claim;
+        tree = h.of_tree;
+        tail = tt;
+        few = omega (arith, h.few);
+      })
+  can_print budget (found.Spent best tree next options) h c e =
+      some_is (CanPrint p) _ c e (record {
+        claim = h.0.of_claim;
+        tree = h.0.of_tree;
+        tail = tt;
+        few = let few = h.0.few in omega (arith, few);
+      })
+  can_print budget (found.Past best tree node nonbasic place) h c e =
+      some_is (CanPrint p) _ c e (record {
+        claim = h.0.of_claim;
+        tree = h.0.of_tree;
+        tail = (h.1.past.columns, h.1.past.known);
+        few = let few = h.0.few in omega (arith, few);
+      })
+  can_print budget found.Memory h c e = absurd cc
 
 -- the statuses of a text
 pub is_printing : (tail : tails.Tail) (status : Status) → status ≡ status_of tail → IsOneOf (Done ∷ Past ∷ Spent ∷ []) status
@@ -81,27 +106,36 @@ past_no_dearer (Some k) None tree node nonbasic place h = h
 past_no_dearer (Some k) (Some w) tree node nonbasic place h = h
 
 module _ (budget : ℕ) (known : Option Network) (inside outside : List ℕ) (p : Problem) (s : Status) (lines : List (List ℕ)) where
-  abbrev Told : Part → Type 0
-  Told part = (s ≡ status_of part.tail) × (lines ≡ spelled (part_text_lines p part))
-
   abbrev start : Node
   start = record { inside = has inside; outside = has outside }
 
   made : (c : Certificate) → HoldsFrom start budget p c.claim c.tree c.tail → NoDearer known c.claim
-      → (part : Part) → Some (part_from inside outside c) ≡ Some part → Told part → PartSays budget known inside outside p s lines
-  made c holds no_dearer part e told =
-      let said : Told (part_from inside outside c) = some_is Told part (part_from inside outside c) (sym e) told in
-      record { found = c; holds = holds; no_dearer = no_dearer; status_is = said.0; text = said.1 }
+      → (d : Certificate) → Some c ≡ Some d → TextSays p (part_from inside outside d) s lines
+      → PartSays budget known inside outside p s lines
+  made c holds no_dearer d e told =
+      let said : TextSays p (part_from inside outside c) s lines =
+      some_is (λ (b : Certificate). TextSays p (part_from inside outside b) s lines) d c
+      (sym e) told in
+      record {
+        found = c;
+        holds = holds;
+        no_dearer = no_dearer;
+        status_is = said.0;
+        text = said.1;
+        reads = said.2;
+      }
 
   pub part_says : (f : Found) → IsFound p start budget f → IsNoDearer known f → FoundSays p inside outside f s lines → PartSays budget known inside outside p s lines
   part_says (found.Solved w tree) h against said =
-      made (record { claim = network w; tree = tree; tail = tails.whole }) h (solved_no_dearer known w tree against) said.0 said.1 (said.2, said.3)
+      made (record { claim = network w; tree = tree; tail = tails.whole }) h
+      (solved_no_dearer known w tree against) said.0 said.1 said.2
   part_says (found.Infeasible tree) h against said =
-      made (record { claim = infeasible; tree = tree; tail = tails.whole }) h (infeasible_no_dearer known tree against) said.0 said.1 (said.2, said.3)
+      made (record { claim = infeasible; tree = tree; tail = tails.whole }) h
+      (infeasible_no_dearer known tree against) said.0 said.1 said.2
   part_says (found.Spent best tree next options) h against said =
       made (record { claim = claim_with best; tree = tree; tail = tails.spent next options }) (record { stopped = h.0; not_infeasible = not_infeasible best }, h.1, h.2)
-      (spent_no_dearer known best tree next options against) said.0 said.1 (said.2, said.3)
+      (spent_no_dearer known best tree next options against) said.0 said.1 said.2
   part_says (found.Past best tree node nonbasic place) h against said =
       made (record { claim = claim_with best; tree = tree; tail = tails.past node nonbasic place }) (record { stopped = h.0; not_infeasible = not_infeasible best }, h.1)
-      (past_no_dearer known best tree node nonbasic place against) said.0 said.1 (said.2, said.3)
+      (past_no_dearer known best tree node nonbasic place against) said.0 said.1 said.2
   part_says found.Memory h against said = absurd cc

@@ -1,8 +1,11 @@
 -- The part that a search found, and its text.
-use Rattle.std.specs.Prelude.{◌≡◌, ℕ, List, Option, Some, option_map}
+use Rattle.std.specs.Prelude.{◌≡◌, ℕ, List, Some, Ok}
 use Rattle.problem_rules.specs.Problem.{Problem}
+use Rattle.tree_text_rules.specs.Read.{Certificate}
 use Rattle.part_rules.specs.Part.{Part}
-use Rattle.part_rules.specs.Spelling.{part_text_lines}
+use Rattle.part_rules.specs.Read.{PartReads}
+use Rattle.part_rules.specs.Spelling.{part_text, part_text_lines}
+use Rattle.studio_rules.specs.Lines.{text_of}
 use Rattle.studio_rules.specs.Part.{part_from}
 use Rattle.abb_search.specs.declared.outcome.Found.{Found}
 use Rattle.studio_rules.specs.Solve.{status_of}
@@ -10,10 +13,17 @@ use Rattle.searches.specs.Found.{certificate_of}
 use Rattle.studio_rules.specs.Printed.{spelled}
 use Rattle.studio_rules.specs.declared.status.Status.{Status}
 
-abbrev pub part_of : List ℕ → List ℕ → Found → Option Part
-part_of inside outside found = option_map (part_from inside outside) (certificate_of found)
+-- the text of the part reads as it
+abbrev pub ReadsBack : Problem → Part → Type 0
+ReadsBack p part = PartReads p (part_text p part) (Ok part)
 
--- its text, with the status that tells where the search stopped
+-- the text of a part, which reads as it, with the status that tells where the search stopped
+abbrev pub TextSays : Problem → Part → Status → List (List ℕ) → Type 0
+TextSays p part status lines =
+    (status ≡ status_of part.tail) × (lines ≡ spelled (part_text_lines p part))
+    × PartReads p (text_of lines) (Ok part)
+
 abbrev pub FoundSays : Problem → List ℕ → List ℕ → Found → Status → List (List ℕ) → Type 0
 FoundSays p inside outside found status lines =
-    (part : Part) × (part_of inside outside found ≡ Some part) × (status ≡ status_of part.tail) × (lines ≡ spelled (part_text_lines p part))
+    (c : Certificate) × (certificate_of found ≡ Some c)
+    × TextSays p (part_from inside outside c) status lines

@@ -1,38 +1,50 @@
 //! The part that a search found.
-ghost use Rattle.std.specs.Prelude.{◌≡◌, ℕ};
+ghost use Rattle.std.specs.Prelude.{◌≡◌, ◌<◌, ◌^◌, ℕ, length};
 ghost use Rattle.pgraph.specs.View.{node_of};
-ghost use Rattle.tree_rules.specs.Known.{KnowsClaim, KnowsTree, KnowsTail};
+ghost use Rattle.tree_rules.specs.Known.{AreUnits, KnowsClaim, KnowsTree, KnowsTail};
 ghost use Rattle.part_rules.specs.Part.{IsApart};
-ghost use Rattle.part_rules.specs.Spelling.{part_text_lines};
 ghost use Rattle.abb_search.specs.Found.{IsFound};
-ghost use Rattle.studio_rules.specs.Solve.{status_of};
-ghost use Rattle.part_searches.specs.Found.{FoundSays, part_of};
-ghost use Rattle.studio_rules.specs.Printed.{OneAnswer};
+ghost use Rattle.studio_rules.specs.Part.{part_from};
+ghost use Rattle.part_searches.specs.Found.{ReadsBack, TextSays, FoundSays};
 ghost use Rattle.studio_rules.specs.Ending.{Ends, Tells};
 
 use abb_search::Found;
 use endings::say::{say_memory, say_printed};
-use part_text::print_part;
+use part_text::{print_part, spelled_parts_read};
 use pns_io::Sink;
 use pns_problem::Problem;
-use searches::{certificate_of, status_of};
+use searches::{Certificate, certificate_of, status_of};
 use std::alloc::Global;
 use studio_rules::Status;
 use tree_parts::Part;
+use tree_text_laws::read_texts_are_spelled;
 use unit_sets::Node;
 
-// The part of a run from the node; none exactly for want of memory.
-fn part_of(start: Node, found: Found) -> Option<Part>
-    requires { IsApart start.inside start.outside }
-    ensures { result ≡ part_of start.inside start.outside found }
+// The text of the part of a run from the node reads as it. A call tells a proof so, and does
+// nothing.
+fn reads_back(problem: &Problem, start: &Node, found: &Certificate)
+    requires inside { AreUnits problem.now start.now.inside }
+    requires outside { AreUnits problem.now start.now.outside }
+    requires apart { IsApart start.now.inside start.now.outside }
+    requires claim { KnowsClaim problem.now found.now.claim }
+    requires tree { KnowsTree problem.now found.now.tree }
+    requires tail { KnowsTail problem.now found.now.tail }
+    requires few { length found.now.tree < 2 ^ 32 }
+    ensures { ReadsBack problem.now (part_from start.now.inside start.now.outside found.now) }
 {
-    match certificate_of(found) {
-        Some(certificate) => {
-            let (claim, tree, tail) = certificate.into_parts();
-            Some(Part::of(start, claim, tree, tail))
-        }
-        None => None,
-    }
+    found.reads_back(problem);
+    problem.is_valid();
+    read_texts_are_spelled();
+    spelled_parts_read();
+}
+
+// The part of a run from the node.
+fn part_of(start: Node, found: Certificate) -> Part
+    requires { IsApart start.inside start.outside }
+    ensures { result ≡ part_from start.inside start.outside found }
+{
+    let (claim, tree, tail) = found.into_parts();
+    Part::of(start, claim, tree, tail)
 }
 
 // Prints the part. The status tells where the search stopped.
@@ -40,7 +52,9 @@ fn say_part<K: Sink>(alloc: Global, out: &mut K, problem: &Problem, part: &Part)
     requires claim { KnowsClaim problem.now part.now.claim }
     requires tree { KnowsTree problem.now part.now.tree }
     requires tail { KnowsTail problem.now part.now.tail }
-    ensures { Ends (Tells (OneAnswer (status_of part.now.tail) (part_text_lines problem.now part.now))) (K.state out.old) (K.state out.new) result }
+    requires reads { ReadsBack problem.now part.now }
+    ensures { Ends (Tells (TextSays problem.now part.now)) (K.state out.old)
+        (K.state out.new) result }
 {
     let printed = print_part(alloc, problem, part, out);
     say_printed(out, printed, status_of(part.tail()))
@@ -54,12 +68,18 @@ pub(crate) fn say_found<K: Sink>(
     start: &Node,
     found: Found,
 ) -> Status
+    requires known { AreUnits problem.now start.now.inside
+        × AreUnits problem.now start.now.outside }
     requires apart { IsApart start.now.inside start.now.outside }
     requires found { (budget : ℕ) × IsFound problem.now (node_of start.now) budget found }
     ensures { Ends (Tells (FoundSays problem.now start.now.inside start.now.outside found)) (K.state out.old) (K.state out.new) result }
 {
-    match part_of(*start, found) {
-        Some(part) => say_part(alloc, out, problem, &part),
+    match certificate_of(found) {
+        Some(certificate) => {
+            reads_back(problem, start, &certificate);
+            let part = part_of(*start, certificate);
+            say_part(alloc, out, problem, &part)
+        }
         None => say_memory(out),
     }
 }

@@ -5,11 +5,13 @@ ghost use Rattle.pns_rules.specs.Ends.{IsSound};
 ghost use Rattle.pgraph.specs.Tables.{shape};
 ghost use Rattle.pgraph.specs.View.{node_of};
 ghost use Rattle.tree_rules.specs.Claim.{IsFeasible};
+ghost use Rattle.tree_rules.specs.Known.{AreUnits};
 ghost use Rattle.branch_tree.specs.View.{claim_of};
 ghost use Rattle.studio_rules.specs.Reading.{FileSays, TwoFilesSay};
 ghost use Rattle.studio_rules.specs.TreeFile.{OnTree};
 ghost use Rattle.studio_rules.specs.Part.{PartSays, PartWork, ClaimSays, AgainstWork};
 ghost use Rattle.studio_rules.specs.Ending.{Ends, Says, Tells};
+ghost use Rattle.studio_rules.specs.Keeps.{Keeps};
 
 use crate::found::say_found;
 use crate::start::start_of;
@@ -36,6 +38,8 @@ fn say_searched<K: Sink>(
 ) -> Status
     requires graph { shape graph.now ≡ shape_of problem.now }
     requires sound { IsSound (shape_of problem.now) (node_of start.now) }
+    requires known { AreUnits problem.now start.now.inside
+        × AreUnits problem.now start.now.outside }
     requires some { 1 ≤ budget }
     requires few { budget ≤ 1000000 }
     ensures { Ends (Tells (PartSays budget None start.now.inside start.now.outside problem.now)) (K.state out.old) (K.state out.new) result }
@@ -56,6 +60,8 @@ fn say_against<K: Sink>(
 ) -> Status
     requires graph { shape graph.now ≡ shape_of problem.now }
     requires sound { IsSound (shape_of problem.now) (node_of start.now) }
+    requires known { AreUnits problem.now start.now.inside
+        × AreUnits problem.now start.now.outside }
     requires some { 1 ≤ budget }
     requires few { budget ≤ 1000000 }
     requires passes { IsFeasible problem.now network }
@@ -78,6 +84,8 @@ fn say_claimed<K: Sink>(
 ) -> Status
     requires graph { shape graph.now ≡ shape_of problem.now }
     requires sound { IsSound (shape_of problem.now) (node_of start.now) }
+    requires known { AreUnits problem.now start.now.inside
+        × AreUnits problem.now start.now.outside }
     requires some { 1 ≤ budget }
     requires few { budget ≤ 1000000 }
     ensures { Ends (Tells (ClaimSays budget start.now.inside start.now.outside problem.now (claim_of claim) tree.now)) (K.state out.old) (K.state out.new) result }
@@ -106,10 +114,13 @@ fn say_tree<F: Shelf, K: Sink>(
 ) -> Status
     requires graph { shape graph.now ≡ shape_of problem.now }
     requires sound { IsSound (shape_of problem.now) (node_of start.now) }
+    requires known { AreUnits problem.now start.now.inside
+        × AreUnits problem.now start.now.outside }
     requires some { 1 ≤ budget }
     requires few { budget ≤ 1000000 }
-    ensures { Ends (Says (OnTree (ClaimSays budget start.now.inside start.now.outside) (F.state shelf.old).held name.now problem.now) (λ other. other ≡ name.now)
+    ensures ends { Ends (Says (OnTree (ClaimSays budget start.now.inside start.now.outside) (F.state shelf.old).held name.now problem.now) (λ other. other ≡ name.now)
         (F.state shelf.old) (F.state shelf.new)) (K.state out.old) (K.state out.new) result }
+    ensures keeps { Keeps (F.state shelf.old) (F.state shelf.new) }
 {
     match tree_of(alloc, shelf, out, name, problem) {
         Ok((claim, tree)) => say_claimed(alloc, out, problem, graph, start, budget, claim, &tree),
@@ -152,7 +163,8 @@ fn say_from_against<F: Shelf, K: Sink>(
 ) -> Status
     requires some { 1 ≤ budget }
     requires few { budget ≤ 1000000 }
-    ensures { Ends (Says (AgainstWork budget (F.state shelf.old).held tree.now inside.now outside.now problem.now) (λ other. other ≡ tree.now) (F.state shelf.old) (F.state shelf.new)) (K.state out.old) (K.state out.new) result }
+    ensures ends { Ends (Says (AgainstWork budget (F.state shelf.old).held tree.now inside.now outside.now problem.now) (λ other. other ≡ tree.now) (F.state shelf.old) (F.state shelf.new)) (K.state out.old) (K.state out.new) result }
+    ensures keeps { Keeps (F.state shelf.old) (F.state shelf.new) }
 {
     let Ok(graph) = Graph::of(alloc, problem) else {
         return say_memory(out);
@@ -176,7 +188,8 @@ pub fn part<F: Shelf, K: Sink>(
 ) -> Status
     requires some { 1 ≤ budget }
     requires few { budget ≤ 1000000 }
-    ensures { Ends (FileSays (PartWork budget inside.now outside.now) file.now (F.state shelf.old) (F.state shelf.new)) (K.state out.old) (K.state out.new) result }
+    ensures ends { Ends (FileSays (PartWork budget inside.now outside.now) file.now (F.state shelf.old) (F.state shelf.new)) (K.state out.old) (K.state out.new) result }
+    ensures keeps { Keeps (F.state shelf.old) (F.state shelf.new) }
 {
     match problem_of(alloc, shelf, out, file) {
         Ok(problem) => say_from(alloc, out, &problem, inside, outside, budget),
@@ -197,7 +210,8 @@ pub fn part_against<F: Shelf, K: Sink>(
 ) -> Status
     requires some { 1 ≤ budget }
     requires few { budget ≤ 1000000 }
-    ensures { Ends (TwoFilesSay (λ held name. AgainstWork budget held name inside.now outside.now) file.now tree.now (F.state shelf.old) (F.state shelf.new)) (K.state out.old) (K.state out.new) result }
+    ensures ends { Ends (TwoFilesSay (λ held name. AgainstWork budget held name inside.now outside.now) file.now tree.now (F.state shelf.old) (F.state shelf.new)) (K.state out.old) (K.state out.new) result }
+    ensures keeps { Keeps (F.state shelf.old) (F.state shelf.new) }
 {
     match problem_of(alloc, shelf, out, file) {
         Ok(problem) => {

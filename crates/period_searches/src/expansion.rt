@@ -7,6 +7,7 @@ ghost use Rattle.studio_rules.specs.Reading.{TwoFilesSay};
 ghost use Rattle.studio_rules.specs.Plan.{OnPlan};
 ghost use Rattle.studio_rules.specs.Expand.{ExpandWork};
 ghost use Rattle.studio_rules.specs.Ending.{Ends, Says};
+ghost use Rattle.studio_rules.specs.Keeps.{Keeps};
 
 use command_files::{plan_of, problem_of};
 use endings::say::say_made;
@@ -32,7 +33,8 @@ fn say_expanded<F: Shelf, K: Sink>(
     shelf: &mut F,
     out: &mut K,
 ) -> Status
-    ensures { Ends (Says (OnPlan ExpandWork (F.state shelf.old).held plan.now problem.now) (λ other. other ≡ plan.now) (F.state shelf.old) (F.state shelf.new)) (K.state out.old) (K.state out.new) result }
+    ensures ends { Ends (Says (OnPlan ExpandWork (F.state shelf.old).held plan.now problem.now) (λ other. other ≡ plan.now) (F.state shelf.old) (F.state shelf.new)) (K.state out.old) (K.state out.new) result }
+    ensures keeps { Keeps (F.state shelf.old) (F.state shelf.new) }
 {
     match plan_of(alloc, shelf, out, plan, problem) {
         Ok(plan) => say_made(out, expanded_text(alloc, problem, &plan)),
@@ -48,7 +50,8 @@ pub fn expand<F: Shelf, K: Sink>(
     shelf: &mut F,
     out: &mut K,
 ) -> Status
-    ensures { Ends (TwoFilesSay (OnPlan ExpandWork) file.now plan.now (F.state shelf.old) (F.state shelf.new)) (K.state out.old) (K.state out.new) result }
+    ensures ends { Ends (TwoFilesSay (OnPlan ExpandWork) file.now plan.now (F.state shelf.old) (F.state shelf.new)) (K.state out.old) (K.state out.new) result }
+    ensures keeps { Keeps (F.state shelf.old) (F.state shelf.new) }
 {
     match problem_of(alloc, shelf, out, file) {
         Ok(problem) => say_expanded(alloc, &problem, plan, shelf, out),

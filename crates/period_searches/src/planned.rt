@@ -3,6 +3,7 @@ ghost use Rattle.std.specs.Prelude.{◌≡◌, ◌≤◌};
 ghost use Rattle.studio_rules.specs.Reading.{TwoFilesSay};
 ghost use Rattle.studio_rules.specs.Plan.{OnPlan};
 ghost use Rattle.studio_rules.specs.Ending.{Ends, Says};
+ghost use Rattle.studio_rules.specs.Keeps.{Keeps};
 ghost use Rattle.studio_rules.specs.Periods.{PeriodsWork};
 
 use crate::least::say_least;
@@ -22,7 +23,8 @@ fn say_planned<F: Shelf, K: Sink>(
 ) -> Status
     requires some { 1 ≤ budget }
     requires few { budget ≤ 1000000 }
-    ensures { Ends (Says (OnPlan (PeriodsWork budget) (F.state shelf.old).held plan.now problem.now) (λ other. other ≡ plan.now) (F.state shelf.old) (F.state shelf.new)) (K.state out.old) (K.state out.new) result }
+    ensures ends { Ends (Says (OnPlan (PeriodsWork budget) (F.state shelf.old).held plan.now problem.now) (λ other. other ≡ plan.now) (F.state shelf.old) (F.state shelf.new)) (K.state out.old) (K.state out.new) result }
+    ensures keeps { Keeps (F.state shelf.old) (F.state shelf.new) }
 {
     match plan_of(alloc, shelf, out, plan, problem) {
         Ok(plan) => say_least(alloc, out, problem, &plan, budget),
@@ -42,7 +44,8 @@ pub fn periods<F: Shelf, K: Sink>(
 ) -> Status
     requires some { 1 ≤ budget }
     requires few { budget ≤ 1000000 }
-    ensures { Ends (TwoFilesSay (OnPlan (PeriodsWork budget)) file.now plan.now (F.state shelf.old) (F.state shelf.new)) (K.state out.old) (K.state out.new) result }
+    ensures ends { Ends (TwoFilesSay (OnPlan (PeriodsWork budget)) file.now plan.now (F.state shelf.old) (F.state shelf.new)) (K.state out.old) (K.state out.new) result }
+    ensures keeps { Keeps (F.state shelf.old) (F.state shelf.new) }
 {
     match problem_of(alloc, shelf, out, file) {
         Ok(problem) => say_planned(alloc, &problem, plan, budget, shelf, out),

@@ -5,6 +5,7 @@ ghost use Rattle.studio_rules.specs.RankWords.{network_line, rank_node_line};
 ghost use Rattle.studio_rules.specs.Reading.{TwoFilesSay};
 ghost use Rattle.studio_rules.specs.Rankcheck.{RankcheckWork, OnRank, FilesListBest, AcceptedAreBest};
 ghost use Rattle.studio_rules.specs.Ending.{Ends, Says, Tells, Only, OrMemory};
+ghost use Rattle.studio_rules.specs.Keeps.{Keeps};
 ghost use Rattle.studio_rules.specs.declared.status.Status.TheVariants.{Done, Refused};
 
 use crate::rank_file::rank_of;
@@ -84,7 +85,8 @@ fn say_rank<F: Shelf, K: Sink>(
     shelf: &mut F,
     out: &mut K,
 ) -> Status
-    ensures { Ends (Says (OnRank (F.state shelf.old).held name.now problem.now) (λ other. other ≡ name.now) (F.state shelf.old) (F.state shelf.new)) (K.state out.old) (K.state out.new) result }
+    ensures ends { Ends (Says (OnRank (F.state shelf.old).held name.now problem.now) (λ other. other ≡ name.now) (F.state shelf.old) (F.state shelf.new)) (K.state out.old) (K.state out.new) result }
+    ensures keeps { Keeps (F.state shelf.old) (F.state shelf.new) }
 {
     match rank_of(alloc, shelf, out, name, problem) {
         Ok(text) => say_checked(alloc, out, problem, &text),
@@ -109,6 +111,7 @@ pub fn rankcheck<F: Shelf, K: Sink>(
     out: &mut K,
 ) -> Status
     ensures ends { Ends (TwoFilesSay OnRank file.now rank.now (F.state shelf.old) (F.state shelf.new)) (K.state out.old) (K.state out.new) result }
+    ensures keeps { Keeps (F.state shelf.old) (F.state shelf.new) }
     // With status 0 the one file gives a valid problem and the other networks, which are the best.
     ensures accepted { result ≡ Done → FilesListBest (F.state shelf.old).held file.now rank.now }
 {

@@ -1,9 +1,10 @@
 //! A file that has a ranking: it is read and judged by its grammar.
-ghost use Rattle.std.specs.Prelude.{◌≡◌, ◌≤◌, ◌<◌, ◌^◌, ℕ, List, IfOk, IfErr, OnOk, length};
+ghost use Rattle.std.specs.Prelude.{◌≡◌, ◌<◌, ◌^◌, ℕ, List, IfOk, IfErr, OnOk, length};
 ghost use Rattle.rank_text.specs.Known.{KnowsText};
 ghost use Rattle.studio_rules.specs.Reading.{AreHeld};
 ghost use Rattle.studio_rules.specs.Rankcheck.{GivesRanking, RankFaults};
 ghost use Rattle.studio_rules.specs.Ending.{Ends, Says};
+ghost use Rattle.studio_rules.specs.Keeps.{Keeps};
 
 use command_files::{bytes_of, say_tree_fault};
 use endings::say::say_memory;
@@ -31,8 +32,7 @@ pub(crate) fn rank_of<F: Shelf, K: Sink>(
     ensures few { IfOk result (λ t. length t.tree < 2 ^ 32) }
     ensures known { IfOk result (KnowsText problem.now) }
     ensures silent { OnOk result (out.new ≡ out.old) }
-    ensures later { (other : List ℕ) → (F.state shelf.old).faults other ≤ (F.state shelf.new).faults other }
-    ensures keeps { (other : List ℕ) → (F.state shelf.new).held other ≡ (F.state shelf.old).held other }
+    ensures keeps { Keeps (F.state shelf.old) (F.state shelf.new) }
     ensures told { IfErr result (Ends (Says (RankFaults (F.state shelf.old).held name.now problem.now) (λ other. other ≡ name.now) (F.state shelf.old) (F.state shelf.new)) (K.state out.old) (K.state out.new)) }
 {
     let bytes = match bytes_of(alloc, shelf, out, name, RANK_LIMIT) {

@@ -3,6 +3,7 @@ ghost use Rattle.std.specs.Prelude.{◌≤◌};
 ghost use Rattle.studio_rules.specs.Rank.{RankWork};
 ghost use Rattle.studio_rules.specs.Reading.{FileSays};
 ghost use Rattle.studio_rules.specs.Ending.{Ends, Tells};
+ghost use Rattle.studio_rules.specs.Keeps.{Keeps};
 
 use crate::ranking::say_found;
 use command_files::problem_of;
@@ -51,7 +52,8 @@ pub fn rank<F: Shelf, K: Sink>(
     requires within { count ≤ 1000 }
     requires some { 1 ≤ budget }
     requires few { budget ≤ 1000000 }
-    ensures { Ends (FileSays (RankWork count budget) file.now (F.state shelf.old) (F.state shelf.new)) (K.state out.old) (K.state out.new) result }
+    ensures ends { Ends (FileSays (RankWork count budget) file.now (F.state shelf.old) (F.state shelf.new)) (K.state out.old) (K.state out.new) result }
+    ensures keeps { Keeps (F.state shelf.old) (F.state shelf.new) }
 {
     match problem_of(alloc, shelf, out, file) {
         Ok(problem) => say_ranked(alloc, out, &problem, count, budget),

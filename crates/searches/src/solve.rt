@@ -7,6 +7,7 @@ ghost use Rattle.abb_search.specs.Found.{IsFound};
 ghost use Rattle.studio_rules.specs.Solve.{SolveWork};
 ghost use Rattle.studio_rules.specs.Reading.{FileSays};
 ghost use Rattle.studio_rules.specs.Ending.{Ends, Tells};
+ghost use Rattle.studio_rules.specs.Keeps.{Keeps};
 
 use crate::certificate::say_found;
 use abb_search::{Found, search};
@@ -60,7 +61,8 @@ pub fn solve<F: Shelf, K: Sink>(
 ) -> Status
     requires some { 1 ≤ budget }
     requires few { budget ≤ 1000000 }
-    ensures { Ends (FileSays (SolveWork budget) file.now (F.state shelf.old) (F.state shelf.new)) (K.state out.old) (K.state out.new) result }
+    ensures ends { Ends (FileSays (SolveWork budget) file.now (F.state shelf.old) (F.state shelf.new)) (K.state out.old) (K.state out.new) result }
+    ensures keeps { Keeps (F.state shelf.old) (F.state shelf.new) }
 {
     match problem_of(alloc, shelf, out, file) {
         Ok(problem) => say_solved(alloc, out, &problem, budget),

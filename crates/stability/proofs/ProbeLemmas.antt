@@ -7,7 +7,7 @@ use Rattle.problem_rules.specs.Problem.{Problem}
 use Rattle.problem_rules.specs.Validity.{IsValid}
 use Rattle.flow_rules.specs.Net.{net_of}
 use Rattle.flow_rules.specs.Flows.{cost}
-use Rattle.tree_rules.specs.Claim.{Network, network, CostOver}
+use Rattle.tree_rules.specs.Claim.{Network, IsSized, network, CostOver}
 use Rattle.tree_rules.specs.Accepted.{Tree, first_node}
 use Rattle.tree_laws.specs.Laws.{AcceptedIsOptimal, AcceptedHasFlows}
 use Rattle.tree_rules.specs.Proved.{IsProved}
@@ -36,8 +36,9 @@ least_found : AcceptedIsOptimal → (q : Problem) → IsValid q → (n : Network
 least_found optimal q valid n tree proved = λ s structure allowed. optimal q valid (network n) tree proved.accepted s structure allowed
 
 pub cheaper_found : AcceptedIsOptimal → AcceptedHasFlows → (q : Problem) → IsValid q → (much : CostOver) (n : Network) (tree : Tree) → IsProved q first_node (network n) tree
-    → (n.cost *ℤ much.d) <ℤ (much.cost *ℤ n.d) → IsCheaper q much n
-cheaper_found optimal feasible q valid much n tree proved cheaper = record {
+    → IsSized n → (n.cost *ℤ much.d) <ℤ (much.cost *ℤ n.d) → IsCheaper q much n
+cheaper_found optimal feasible q valid much n tree proved sized cheaper = record {
+  sized = sized;
   feasible = feasible q first_node n tree proved.accepted;
   least = least_found optimal q valid n tree proved;
   cheaper = cheaper;

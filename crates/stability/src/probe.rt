@@ -72,6 +72,7 @@ impl<'a> Case<'a> {
         };
         match desk.search(self.alloc, self.graph, self.budget, network) {
             Found::Solved { network, tree: _ } => {
+                network.is_sized();
                 if is_cheaper(&much, &network) {
                     Ok(Some(network))
                 } else {

@@ -17,6 +17,7 @@ ghost use Rattle.stability_commands.specs.Beyond.{StopSays};
 ghost use Rattle.studio_rules.specs.declared.status.Status.TheVariants.{NotBest, Past};
 ghost use Rattle.studio_rules.specs.Printed.{OneAnswer};
 ghost use Rattle.studio_rules.specs.Ending.{Ends, Says, Tells};
+ghost use Rattle.studio_rules.specs.Keeps.{Keeps};
 
 use crate::text::{print_not_best, print_past_cost, print_range, print_stopped};
 use abb_search::Found;
@@ -243,7 +244,8 @@ fn say_tree<F: Shelf, K: Sink>(
 ) -> Status
     requires some { 1 ≤ budget }
     requires few { budget ≤ 1000000 }
-    ensures { Ends (Says (OnTree (StableWork kind name.now budget) (F.state shelf.old).held file.now problem.now) (λ other. other ≡ file.now) (F.state shelf.old) (F.state shelf.new)) (K.state out.old) (K.state out.new) result }
+    ensures ends { Ends (Says (OnTree (StableWork kind name.now budget) (F.state shelf.old).held file.now problem.now) (λ other. other ≡ file.now) (F.state shelf.old) (F.state shelf.new)) (K.state out.old) (K.state out.new) result }
+    ensures keeps { Keeps (F.state shelf.old) (F.state shelf.new) }
 {
     match tree_of(alloc, shelf, out, file, problem) {
         Ok((claim, tree)) => {
@@ -268,7 +270,8 @@ pub fn stable<F: Shelf, K: Sink>(
 ) -> Status
     requires some { 1 ≤ budget }
     requires few { budget ≤ 1000000 }
-    ensures { Ends (TwoFilesSay (OnTree (StableWork kind name.now budget)) file.now tree.now (F.state shelf.old) (F.state shelf.new)) (K.state out.old) (K.state out.new) result }
+    ensures ends { Ends (TwoFilesSay (OnTree (StableWork kind name.now budget)) file.now tree.now (F.state shelf.old) (F.state shelf.new)) (K.state out.old) (K.state out.new) result }
+    ensures keeps { Keeps (F.state shelf.old) (F.state shelf.new) }
 {
     match problem_of(alloc, shelf, out, file) {
         Ok(problem) => say_tree(alloc, &problem, tree, kind, name, budget, shelf, out),

@@ -9,7 +9,7 @@ use Rattle.flow_rules.specs.Net.{net_of}
 use Rattle.flow_rules.specs.Flows.{cost}
 use Rattle.flow_rules.specs.Steps.{IsFirstPast}
 use Rattle.flow_rules.specs.CostSteps.{cost_steps}
-use Rattle.tree_rules.specs.Claim.{Network, CostOver, size_in, IsFeasible}
+use Rattle.tree_rules.specs.Claim.{Network, CostOver, IsSized, size_in, IsFeasible}
 use Rattle.tree_rules.specs.Costs.{CostsEnough}
 use Rattle.stability_rules.specs.declared.spot.Spot.{Spot}
 use Rattle.stability_rules.specs.declared.side.Side.{Side}
@@ -32,8 +32,10 @@ repriced p spot w v = record w { cost = cost_at p spot w v }
 abbrev pub IsBestAt : Problem → Spot → Network → ℤ → Type 0
 IsBestAt p spot w v = IsLeast (valued p spot v) (record { cost = cost_at p spot w v; d = w.d })
 
--- the network n is an allowed one of least cost, and costs less than this much
+-- the network n, with one size for each unit in file order, is an allowed one of least cost, and
+-- costs less than this much
 pub record IsCheaper (p : Problem) (much : CostOver) (n : Network) : Type 0 where
+  pub sized : IsSized n
   pub feasible : IsFeasible p n
   pub least : IsLeast p (record { cost = n.cost; d = n.d })
   pub cheaper : (n.cost *ℤ much.d) <ℤ (much.cost *ℤ n.d)

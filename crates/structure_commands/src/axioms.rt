@@ -6,6 +6,7 @@ ghost use Rattle.studio_rules.specs.Lines.{line};
 ghost use Rattle.studio_rules.specs.Reading.{FileSays};
 ghost use Rattle.studio_rules.specs.Axioms.{AxiomsWork, NamesSay, VerdictSays, axiom_word, breaks_line, place_name, is_stranger, first_stranger, is_name_of, units_named};
 ghost use Rattle.studio_rules.specs.Ending.{Ends, Tells, Only, OrMemory};
+ghost use Rattle.studio_rules.specs.Keeps.{Keeps};
 ghost use Rattle.studio_rules.specs.declared.status.Status.TheVariants.{Refused};
 
 use command_files::problem_of;
@@ -171,7 +172,8 @@ pub fn axioms<F: Shelf, K: Sink>(
     shelf: &mut F,
     out: &mut K,
 ) -> Status
-    ensures { Ends (FileSays (AxiomsWork units.now) file.now (F.state shelf.old) (F.state shelf.new)) (K.state out.old) (K.state out.new) result }
+    ensures ends { Ends (FileSays (AxiomsWork units.now) file.now (F.state shelf.old) (F.state shelf.new)) (K.state out.old) (K.state out.new) result }
+    ensures keeps { Keeps (F.state shelf.old) (F.state shelf.new) }
 {
     match problem_of(alloc, shelf, out, file) {
         Ok(problem) => say_judged(alloc, out, &problem, units),

@@ -11,6 +11,7 @@ ghost use Rattle.studio_rules.specs.Reading.{FileSays};
 ghost use Rattle.studio_rules.specs.Listing.{ListingWork, IsAfter, IsBadToken, structure_line, more_line};
 ghost use Rattle.structure_commands.specs.Listing.{RestSays};
 ghost use Rattle.studio_rules.specs.Ending.{Ends, Tells, Only, OrMemory};
+ghost use Rattle.studio_rules.specs.Keeps.{Keeps};
 ghost use Rattle.studio_rules.specs.declared.status.Status.TheVariants.{Done, BadToken};
 
 use command_files::problem_of;
@@ -203,7 +204,8 @@ pub fn list<F: Shelf, K: Sink>(
     shelf: &mut F,
     out: &mut K,
 ) -> Status
-    ensures { Ends (FileSays (ListingWork after.now count) file.now (F.state shelf.old) (F.state shelf.new)) (K.state out.old) (K.state out.new) result }
+    ensures ends { Ends (FileSays (ListingWork after.now count) file.now (F.state shelf.old) (F.state shelf.new)) (K.state out.old) (K.state out.new) result }
+    ensures keeps { Keeps (F.state shelf.old) (F.state shelf.new) }
 {
     match problem_of(alloc, shelf, out, file) {
         Ok(problem) => say_listing(alloc, out, &problem, after, count),

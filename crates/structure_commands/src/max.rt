@@ -8,6 +8,7 @@ ghost use Rattle.studio_rules.specs.Lines.{line};
 ghost use Rattle.studio_rules.specs.Reading.{FileSays};
 ghost use Rattle.studio_rules.specs.Max.{MaxWork, units_line, materials_line};
 ghost use Rattle.studio_rules.specs.Ending.{Ends, Tells, Only, OrMemory};
+ghost use Rattle.studio_rules.specs.Keeps.{Keeps};
 ghost use Rattle.studio_rules.specs.declared.status.Status.TheVariants.{Done};
 
 use command_files::problem_of;
@@ -77,7 +78,8 @@ fn say_maximal<K: Sink>(alloc: Global, out: &mut K, problem: &Problem) -> Status
 
 /// Says the units and the materials of the maximal structure of the file's problem.
 pub fn max<F: Shelf, K: Sink>(alloc: Global, file: &str, shelf: &mut F, out: &mut K) -> Status
-    ensures { Ends (FileSays MaxWork file.now (F.state shelf.old) (F.state shelf.new)) (K.state out.old) (K.state out.new) result }
+    ensures ends { Ends (FileSays MaxWork file.now (F.state shelf.old) (F.state shelf.new)) (K.state out.old) (K.state out.new) result }
+    ensures keeps { Keeps (F.state shelf.old) (F.state shelf.new) }
 {
     match problem_of(alloc, shelf, out, file) {
         Ok(problem) => say_maximal(alloc, out, &problem),

@@ -31,6 +31,19 @@ use Rattle.studio.specs.RankLaws.{RankedIsAccepted}
 use Rattle.studio.specs.Calls.{Call, IsCall, Calls, Puts, Holds, Keep, EndsWith, HasFailed, Accepts, CheckAcceptsSolved, RankcheckAcceptsRanked, ListingsJoin}
 use Rattle.studio.proofs.Accepted.{is_held, no_fault, one_problem}
 
+-- ---- what the shelf holds
+
+-- the shelf tells the same bytes of the file before both calls
+abbrev pub Same : Call → Call → List ℕ → Type 0
+Same c d name = (bytes : List ℕ) × Holds c name bytes × Holds d name bytes
+
+pub same_file : (c d : Call) (command : Command) (name : List ℕ) → Calls c command
+    → Keep c d name → Same c d name
+same_file c d command name calls keep = (keep.0, sym (calls.call.keeps.held name) ∙ keep.1, keep.2)
+
+pub same_through : (c d e : Call) (name : List ℕ) → Same c d name → Same d e name → Same c e name
+same_through c d e name first second = (second.0, first.1 ∙ (sym first.2 ∙ second.1), second.2)
+
 -- ---- what a call put out
 
 -- the lines of an answer, which are the text
@@ -39,14 +52,14 @@ pub record Answered (c : Call) (command : Command) (text : List ℕ) : Type 0 wh
   pub answers : CommandAnswers c.shelf_before.held command Done lines
   pub text_is : text ≡ text_of lines
 
-appended : (old new : Option (List ℕ)) (front text other : List ℕ) → old ≡ Some front → new ≡ Some (front ++ text) → Appends old new other → text ≡ other
+pub appended : (old new : Option (List ℕ)) (front text other : List ℕ) → old ≡ Some front → new ≡ Some (front ++ text) → Appends old new other → text ≡ other
 appended old new front text other before after appends =
     append_cancel_left front text other
     (subst (λ (o : Option (List ℕ)). Appends (Some front) o other) after (subst (λ (o : Option (List ℕ)). Appends o new other) before appends))
 
 pub answered : (c : Call) (command : Command) (text : List ℕ) → Calls c command → Puts c text → Answered c command text
 answered c command text calls puts =
-    let ends = subst (λ (s : Status). Ends (WordsSay c.shelf_before c.shelf_after c.words) c.out_before c.out_after s) puts.done calls.call in
+    let ends = subst (λ (s : Status). Ends (WordsSay c.shelf_before c.shelf_after c.words) c.out_before c.out_after s) puts.done calls.call.ends in
     record {
       lines = ends.1.0;
       answers = subst (λ (f : Option Command). AnswersTo c.shelf_before.held f Done ends.1.0) calls.form ends.1.1;
@@ -55,8 +68,8 @@ answered c command text calls puts =
 
 -- what is shown of each answer of a call holds of how it ended
 module _ (c : Call) (command : Command) (calls : Calls c command) (Q : Status → List ℕ → Type 0) (shown : (s : Status) (lines : List (List ℕ)) → CommandAnswers c.shelf_before.held command s lines → (status : Status) × (text : List ℕ) × (s ≡ status) × (text_of lines ≡ text) × Q status text) where
-  ended : ((status : Status) × (text : List ℕ) × EndsWith c status text × Q status text) ⊎ HasFailed c
-  ended = at c.status refl calls.call
+  pub ended : ((status : Status) × (text : List ℕ) × EndsWith c status text × Q status text) ⊎ HasFailed c
+  ended = at c.status refl calls.call.ends
     where
       at : (s : Status) → c.status ≡ s → Ends (WordsSay c.shelf_before c.shelf_after c.words) c.out_before c.out_after s → ((status : Status) × (text : List ℕ) × EndsWith c status text × Q status text) ⊎ HasFailed c
       at ReadFault is e = inr (inl is)
@@ -94,7 +107,8 @@ judged c judge name text calls law = elim (ended c judge calls (IsVerdict name t
 ]
 
 pub check_accepts_solved : SolvedIsAccepted → CheckAcceptsSolved
-check_accepts_solved law solving checking file tree budget text calls puts judges keep holds =
+check_accepts_solved law solving checking file tree budget text calls puts judges between holds =
+    let keep = same_file solving checking (Solving file budget) file calls between in
     let said = answered solving (Solving file budget) text calls puts in
     judged checking (Checking file tree) tree text judges (λ s lines h.
     subst (λ (t : List ℕ). IsAcceptedOrLong tree t s lines) (sym said.text_is)
@@ -103,7 +117,8 @@ check_accepts_solved law solving checking file tree budget text calls puts judge
     (holds ∙ ap (λ (t : List ℕ). Some (Some t)) said.text_is) s lines h))
 
 pub rankcheck_accepts_ranked : RankedIsAccepted → RankcheckAcceptsRanked
-rankcheck_accepts_ranked law ranking checking file rank count budget text calls puts judges keep holds =
+rankcheck_accepts_ranked law ranking checking file rank count budget text calls puts judges between holds =
+    let keep = same_file ranking checking (Ranking file count budget) file calls between in
     let said = answered ranking (Ranking file count budget) text calls puts in
     judged checking (RankChecking file rank) rank text judges (λ s lines h.
     subst (λ (t : List ℕ). IsAcceptedOrLong rank t s lines) (sym said.text_is)
@@ -151,7 +166,7 @@ not_shorter xs ys l k e one less =
         one (i - length (text_of ys)) (omega (arith, from, below))
         (sym (get_or-append-add (text_of ys) k (i - length (text_of ys)) 0) ∙ (ap (λ (n : ℕ). get_or (text_of ys ++ k) n 0) (sym j) ∙ is))
 
-same_cut : (xs ys : List ℕ) (l k : List ℕ) → xs ++ l ≡ ys ++ k → length l ≡ length k → (xs ≡ ys) × (l ≡ k)
+pub same_cut : (xs ys : List ℕ) (l k : List ℕ) → xs ++ l ≡ ys ++ k → length l ≡ length k → (xs ≡ ys) × (l ≡ k)
 same_cut xs ys l k e long =
     let all = ap length e in let a = length-append xs l in let b = length-append ys k in
     let n : length xs ≡ length ys = omega (arith, all, a, b, long) in
@@ -259,12 +274,18 @@ module _ (join : PartsJoin) (well : ValidIsWellFormed) (file after token : List 
       )
   joined p first second formed text (a, is, (every, listing, e)) rest s all work = absurd work
 
-  pub listings_join : (first second whole : Call) (rest : List ℕ) → Calls first (Listing file after m) → Puts first (text_of (lines ++ (codes "more " ++ token) ∷ [])) → Calls second (Listing file token n) → Puts second rest → Keep first second file → Calls whole (Listing file after (m + n)) → Keep first whole file → EndsWith whole Done (text_of lines ++ rest) ⊎ HasFailed whole
-  listings_join first second whole rest calls puts goes_on adds keep all kept =
+  pub listings_join : (first second whole : Call) (rest : List ℕ) → Calls first (Listing file after m) → Puts first (text_of (lines ++ (codes "more " ++ token) ∷ [])) → Calls second (Listing file token n) → Puts second rest → Keep first second file → Calls whole (Listing file after (m + n)) → Keep second whole file → EndsWith whole Done (text_of lines ++ rest) ⊎ HasFailed whole
+  listings_join first second whole rest calls puts goes_on adds between all behind =
       let one = answered first (Listing file after m) (text_of (lines ++ (codes "more " ++ token) ∷ [])) calls puts in
       let other = answered second (Listing file token n) rest goes_on adds in
       at one other one.answers
     where
+      keep : Same first second file
+      keep = same_file first second (Listing file after m) file calls between
+
+      kept : Same first whole file
+      kept = same_through first second whole file keep (same_file second whole (Listing file token n) file goes_on behind)
+
       at : (one : Answered first (Listing file after m) (text_of (lines ++ (codes "more " ++ token) ∷ []))) → Answered second (Listing file token n) rest → OnFile (ListingWork after m) first.shelf_before.held file Done one.lines → EndsWith whole Done (text_of lines ++ rest) ⊎ HasFailed whole
       at one other (bytes, there, inl fault) = absurd fault
       at one other (bytes, there, inr (p, given, work)) =
@@ -272,10 +293,10 @@ module _ (join : PartsJoin) (well : ValidIsWellFormed) (file after token : List 
           let second_holds : Holds second file bytes = keep.2 ∙ (sym keep.1 ∙ here) in
           let whole_holds : Holds whole file bytes = kept.2 ∙ (sym kept.1 ∙ here) in
           let formed : IsWellFormed p = (well p).0 given.valid in
-          let behind = given_work (ListingWork token n) second.shelf_before.held file bytes p Done other.lines second_holds given other.answers in
+          let work_behind = given_work (ListingWork token n) second.shelf_before.held file bytes p Done other.lines second_holds given other.answers in
           let shown : (s : Status) (ls : List (List ℕ)) → OnFile (ListingWork after (m + n)) whole.shelf_before.held file s ls → (status : Status) × (text : List ℕ) × (s ≡ status) × (text_of ls ≡ text) × ((status ≡ Done) × (text ≡ text_of lines ++ rest)) =
           λ s ls h.
-          let said = joined p one.lines other.lines formed one.text_is work behind s ls (given_work (ListingWork after (m + n)) whole.shelf_before.held file bytes p s ls whole_holds given h) in
+          let said = joined p one.lines other.lines formed one.text_is work work_behind s ls (given_work (ListingWork after (m + n)) whole.shelf_before.held file bytes p s ls whole_holds given h) in
           (s, text_of ls, refl, refl, (said.0, said.1 ∙ ap (λ (t : List ℕ). text_of lines ++ t) (sym other.text_is))) in
           elim (ended whole (Listing file after (m + n)) all (λ s t. (s ≡ Done) × (t ≡ text_of lines ++ rest)) shown) [
             | inl h ↦ inl (h.2.0 ∙ h.3.0, subst (λ (t : List ℕ). Appends whole.out_before.written whole.out_after.written t) h.3.1 h.2.1)

@@ -101,7 +101,7 @@ one_cause limit bad HasFault file s t (inl h) (inr g) = let a = h.1 in let b = g
 one_cause limit bad HasFault file s t (inr h) (inl g) = let a = h.1 in let b = g.1 in absurd (omega (arith, a, b))
 one_cause limit bad HasFault file s t (inr h) (inr g) = h.0 ∙ sym g.0
 
-same_file : (told : Told) (file other : List ℕ) → IsSome told → AreHeld told file → AreHeld told other → other ≡ file
+pub same_file : (told : Told) (file other : List ℕ) → IsSome told → AreHeld told file → AreHeld told other → other ≡ file
 same_file None file other some h g = let none : false ≡ true = some in cc
 same_file (Some None) file other some h g = absurd h
 same_file (Some (Some bytes)) file other some h g = g ∙ sym h
@@ -300,7 +300,7 @@ part_cause several name p file s lines h = absurd h
 
 module _ (held : List ℕ → Told) (p : Problem) where
   -- the first fault is the cause
-  first_part : (several : Bool) (names : List (List ℕ)) (place : ℕ) (name : List ℕ) (ps : List Part) (s : Status) (lines : List (List ℕ)) → place < length names → name ≡ get_or names place name → GiveParts held p (take place names) ps → PartFaults several held name p s lines → InParts held names p s
+  pub first_part : (several : Bool) (names : List (List ℕ)) (place : ℕ) (name : List ℕ) (ps : List Part) (s : Status) (lines : List (List ℕ)) → place < length names → name ≡ get_or names place name → GiveParts held p (take place names) ps → PartFaults several held name p s lines → InParts held names p s
   first_part several [] place name ps s lines within is before fault = absurd (omega (arith, within))
   first_part several (other ∷ names) zero name ps s lines within is before fault =
       (fault.0, subst (λ (n : List ℕ). AreHeld (held n) fault.0) is fault.1, inl (part_cause several name p fault.0 s lines fault.2))
@@ -315,7 +315,7 @@ module _ (held : List ℕ → Told) (p : Problem) where
         let e : ◌≡◌ {A = Result Part trees.Fault} (Ok part) (Err (h.2.0, h.2.1)) = once p valid file (Ok part) (Err (h.2.0, h.2.1)) given.1 h.2.2 in cc
 
     -- no part is at fault where all are given
-    not_parts : (names : List (List ℕ)) (ps : List Part) (s : Status) → ((name : List ℕ) → Contains names name → IsSome (held name)) → InParts held names p s → GiveParts held p names ps → ⊥
+    pub not_parts : (names : List (List ℕ)) (ps : List Part) (s : Status) → ((name : List ℕ) → Contains names name → IsSome (held name)) → InParts held names p s → GiveParts held p names ps → ⊥
     not_parts [] ps s told why give = absurd why
     not_parts (name ∷ names) [] s told why give = absurd give
     not_parts (name ∷ names) (part ∷ ps) s told (file, is, inl why) give =

@@ -1,6 +1,7 @@
 pub mod Statuses
+mod Finished
 pub mod Accepted
 mod RankAccepted
 pub mod Causes
 pub mod Calls
-mod Merged
+pub mod Merged

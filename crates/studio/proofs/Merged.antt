@@ -38,10 +38,10 @@ use Rattle.endings.proofs.Printing.{spelled_text}
 use Rattle.studio_rules.specs.declared.status.Status.{Status}
 use Rattle.studio_rules.specs.declared.status.Status.TheVariants.{Done, Refused, NoLeaf}
 use Rattle.studio.specs.SolveLaws.{IsAcceptedOrLong}
-use Rattle.studio.specs.Calls.{Call, Calls, Puts, Holds, Keep, Accepts, HasFailed, CheckAcceptsMerged}
+use Rattle.studio.specs.Calls.{Call, Calls, Puts, Holds, Accepts, HasFailed, CheckAcceptsMerged}
 use Rattle.studio.proofs.Accepted.{is_held, read}
 use Rattle.studio.proofs.Causes.{not_bad_tree, tree_cause}
-use Rattle.studio.proofs.Calls.{answered, given_work, judged}
+use Rattle.studio.proofs.Calls.{Same, same_file, same_through, answered, given_work, judged}
 use Rattle.studio.proofs.Statuses.{merge_fault_status}
 
 -- ---- a merged tree fits its text
@@ -144,7 +144,7 @@ lists_none (l ∷ ls) e = absurd (let first = ap (λ (t : List ℕ). get_or t 0 
 -- ---- the three calls
 
 -- the work on a tree file that is read
-given_tree : (work : Problem → Claim → Tree → Status → List (List ℕ) → Type 0) (held : List ℕ → Told) (name text : List ℕ) (p : Problem) (claim : Claim) (tree : Tree) (s : Status) (lines : List (List ℕ)) → held name ≡ Some (Some text) → GivesTree p text claim tree → OnTree work held name p s lines → work p claim tree s lines
+pub given_tree : (work : Problem → Claim → Tree → Status → List (List ℕ) → Type 0) (held : List ℕ → Told) (name text : List ℕ) (p : Problem) (claim : Claim) (tree : Tree) (s : Status) (lines : List (List ℕ)) → held name ≡ Some (Some text) → GivesTree p text claim tree → OnTree work held name p s lines → work p claim tree s lines
 given_tree work held name text p claim tree s lines is given (file, there, inl fault) =
     absurd (not_bad_tree p text claim tree s given (tree_cause name p text s lines (subst (λ (b : List ℕ). TreeFault name p b s lines) (is_held (held name) text file is there) fault)))
 given_tree work held name text p claim tree s lines is given (file, there, inr (other, its, gives, does)) =
@@ -163,7 +163,7 @@ module _ (spells : SpelledTextsRead) (spelt : ReadTextsAreSpelled) (parts_spelt 
       ((fits.rest.claim, fits.rest.tree), parts_fit held names ps give.1)
 
   -- the text of what is merged reads as it
-  merged_reads : (held : List ℕ → Told) (names : List (List ℕ)) (ps : List Part) (bytes : List ℕ) (claim : Claim) (tree : Tree) (both : Claim) (grown : Tree) → GivesTree p bytes claim tree → GiveParts held p names ps → AreMerged p claim tree ps both grown → read_text p (tree_text p both grown whole) ≡ Ok (record { claim = both; tree = grown; tail = whole })
+  pub merged_reads : (held : List ℕ → Told) (names : List (List ℕ)) (ps : List Part) (bytes : List ℕ) (claim : Claim) (tree : Tree) (both : Claim) (grown : Tree) → GivesTree p bytes claim tree → GiveParts held p names ps → AreMerged p claim tree ps both grown → read_text p (tree_text p both grown whole) ≡ Ok (record { claim = both; tree = grown; tail = whole })
   merged_reads held names ps bytes claim tree both grown gives give are =
       let own = (spelt p valid bytes (record { claim = claim; tree = tree; tail = gives.1.0 }) gives.1.1).fits in
       let fit = merged_fits p grafts claim tree ps both grown are own.claim own.tree (parts_fit held names ps give) in
@@ -178,11 +178,17 @@ module _ (spells : SpelledTextsRead) (spelt : ReadTextsAreSpelled) (parts_spelt 
 
 module _ (spells : SpelledTextsRead) (spelt : ReadTextsAreSpelled) (parts_spelt : ReadPartsAreSpelled) (grafts : GraftIsTree) (stand : OpenLeavesStand) (decide : PartialIsAccepted) (no_claim_fault : PassingClaimHasNoFault) (no_tree_fault : PassingTreeHasNoFault) where
   pub check_accepts_merged : CheckAcceptsMerged
-  check_accepts_merged merging splitting checking file tree merged part parts text calls puts splits ends kept holds checks keep here =
+  check_accepts_merged merging splitting checking file tree merged part parts text calls puts splits ends between holds checks behind here =
       let said = answered merging (Merging file tree (part ∷ parts)) text calls puts in
       let told = answered splitting (Splitting file merged) (line (codes "end")) splits ends in
       at said.lines said.text_is said.answers told.lines told.text_is told.answers
     where
+      kept : Same merging splitting file
+      kept = same_file merging splitting (Merging file tree (part ∷ parts)) file calls between
+
+      keep : Same merging checking file
+      keep = same_through merging splitting checking file kept (same_file splitting checking (Splitting file merged) file splits behind)
+
       at : (lines : List (List ℕ)) → text ≡ text_of lines → OnFile (OnTree (MergeWork merging.shelf_before.held (part ∷ parts)) merging.shelf_before.held tree) merging.shelf_before.held file Done lines → (list : List (List ℕ)) → line (codes "end") ≡ text_of list → OnFile (OnTree SplitWork splitting.shelf_before.held merged) splitting.shelf_before.held file Done list → Accepts checking merged text ⊎ HasFailed checking
       at lines is (bytes, there, inl fault) list none splitted = absurd fault
       at lines is (bytes, there, inr (p, given, (own, its, inl fault))) list none splitted = absurd fault

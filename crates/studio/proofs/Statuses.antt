@@ -50,7 +50,7 @@ use Rattle.studio_rules.specs.Solve.{SolveWork, Holds, status_of, CanFinish}
 use Rattle.studio_rules.specs.Summary.{SummaryWork}
 use Rattle.studio_rules.specs.Axioms.{NamesSay, VerdictSays, first_stranger}
 use Rattle.studio_rules.specs.Ending.{Ends, IsOneOf}
-use Rattle.studio_rules.specs.Answers.{AnswersTo, CommandAnswers, WordsSay, IsReadWithin, IsUndisturbed, IsNotStopped, SearchCanFinish, statuses_of, first_file}
+use Rattle.studio_rules.specs.Answers.{AnswersTo, CommandAnswers, WordsSay, IsReadWithin, IsUndisturbed, IsNotStopped, statuses_of, first_file}
 use Rattle.studio_rules.specs.declared.status.Status.{Status}
 use Rattle.studio_rules.specs.declared.status.Status.TheVariants.{Done, Refused, Usage, BadProblem, Past, Spent, ReadFault, WriteFault, Memory, TooLong, BadToken, BadTree, BadEdit, NotMigrated, BadPlan, BadNode, NoLeaf, NotBest, UnknownName}
 
@@ -104,12 +104,12 @@ script_status name p file TooLong lines h = inr (refl, h.0)
 script_status name p file BadEdit lines h = inl refl
 script_status name p file s lines h = absurd h
 
-plan_status : (name : List ℕ) (p : Problem) (file : List ℕ) (s : Status) (lines : List (List ℕ)) → PlanFileFault name p file s lines → (s ≡ BadPlan) ⊎ ((s ≡ TooLong) × (file_limit < length file))
+pub plan_status : (name : List ℕ) (p : Problem) (file : List ℕ) (s : Status) (lines : List (List ℕ)) → PlanFileFault name p file s lines → (s ≡ BadPlan) ⊎ ((s ≡ TooLong) × (file_limit < length file))
 plan_status name p file TooLong lines h = inr (refl, h.0)
 plan_status name p file BadPlan lines h = inl refl
 plan_status name p file s lines h = absurd h
 
-tree_status : (name : List ℕ) (p : Problem) (file : List ℕ) (s : Status) (lines : List (List ℕ)) → TreeFault name p file s lines → (s ≡ BadTree) ⊎ ((s ≡ TooLong) × (tree_limit < length file))
+pub tree_status : (name : List ℕ) (p : Problem) (file : List ℕ) (s : Status) (lines : List (List ℕ)) → TreeFault name p file s lines → (s ≡ BadTree) ⊎ ((s ≡ TooLong) × (tree_limit < length file))
 tree_status name p file TooLong lines h = inr (refl, h.0)
 tree_status name p file BadTree lines h = inl refl
 tree_status name p file s lines h = absurd h
@@ -562,39 +562,31 @@ memory_status (Telling text) = inr (inl refl)
 
 -- ---- a search that comes to its end
 
-finished : (budget : ℕ) (p : Problem) (s : Status) (lines : List (List ℕ)) → CanFinish budget p → SolveWork budget p s lines → IsNotStopped s
+pub finished : (budget : ℕ) (p : Problem) (s : Status) (lines : List (List ℕ)) → CanFinish budget p → SolveWork budget p s lines → IsNotStopped s
 finished budget p s lines can (c, e, holds, text) = at c.tail e holds
   where
     at : (tail : Tail) → s ≡ status_of tail → Holds budget p c.claim c.tree tail → IsNotStopped s
     at whole e holds = ((λ q. cc), (λ q. cc))
     at (spent next options) e holds = absurd (can.enough holds.2)
-    at (past node nonbasic place) e holds = let h = holds.1 in absurd (can.in_range h.node nonbasic place h.reduced h.past.past)
+    at (past node nonbasic place) e holds = let h = holds.1 in absurd (can.in_range h.node nonbasic place h.sound h.reduced h.past.past)
 
-rank_finished : (count budget : ℕ) (p : Problem) (s : Status) (lines : List (List ℕ)) → CanFinish budget p → RankWork count budget p s lines → IsNotStopped s
+pub rank_finished : (count budget : ℕ) (p : Problem) (s : Status) (lines : List (List ℕ)) → CanFinish budget p → RankWork count budget p s lines → IsNotStopped s
 rank_finished count budget p s lines can (t, e, holds, text) = at t.tail e holds
   where
     at : (tail : Tail) → s ≡ status_of tail → rankings.Holds count budget p t tail → IsNotStopped s
     at whole e holds = ((λ q. cc), (λ q. cc))
     at (spent next options) e holds = absurd (can.enough holds.2)
-    at (past node nonbasic place) e holds = let h = holds.1 in absurd (can.in_range h.node nonbasic place h.reduced h.past.past)
+    at (past node nonbasic place) e holds = let h = holds.1 in absurd (can.in_range h.node nonbasic place h.sound h.reduced h.past.past)
 
-search_finished : (budget : ℕ) (p : Problem) (s : Status) (lines : List (List ℕ)) → CanFinish budget p → SummaryWork budget p s lines → IsNotStopped s
+pub search_finished : (budget : ℕ) (p : Problem) (s : Status) (lines : List (List ℕ)) → CanFinish budget p → SummaryWork budget p s lines → IsNotStopped s
 search_finished budget p Done lines can h = ((λ q. cc), (λ q. cc))
 search_finished budget p s lines can h = finished budget p s lines can h
 
-fault_not_stopped : (name file : List ℕ) (s : Status) (lines : List (List ℕ)) → FileFault name file s lines → IsNotStopped s
+pub fault_not_stopped : (name file : List ℕ) (s : Status) (lines : List (List ℕ)) → FileFault name file s lines → IsNotStopped s
 fault_not_stopped name file s lines h = elim (fault_status name file s lines h) [
   | inl q ↦ ((λ r. cc), (λ r. cc))
   | inr q ↦ let q0 = q.0 in ((λ r. cc), (λ r. cc))
 ]
-
-command_finished : (held : List ℕ → Told) (command : Command) (s : Status) (lines : List (List ℕ)) → SearchCanFinish held command → CommandAnswers held command s lines → IsNotStopped s
-command_finished held (Solving name budget) s lines can (file, is, inl fault) = fault_not_stopped name file s lines fault
-command_finished held (Solving name budget) s lines can (file, is, inr work) = finished budget work.0 s lines (can file work.0 is work.1) work.2
-command_finished held (Ranking name count budget) s lines can (file, is, inl fault) = fault_not_stopped name file s lines fault
-command_finished held (Ranking name count budget) s lines can (file, is, inr work) = rank_finished count budget work.0 s lines (can file work.0 is work.1) work.2
-command_finished held (Trial number units budget) s lines can h = search_finished budget (generated number units) s lines can h
-command_finished held command s lines can h = absurd can
 
 -- no bytes are those of a file that is told to be missing
 nothing_held : (told : Told) (bytes : List ℕ) → told ≡ Some None → AreHeld told bytes → ⊥
@@ -658,14 +650,6 @@ module _ (old new : ShelfState) (words : List (List ℕ)) (before after : SinkSt
       absurd (calm.read e.1.0 (subst (λ (f : Option Command). IsSomeAnd f (λ command. IsFileOf command e.1.0)) is e.1.1) e.1.2)
   complete_ends s e command is calm =
       let told = subst (λ (f : Option Command). AnswersTo old.held f s e.1.0) is e.1.1 in command_status old.held command s e.1.0 told calm.held
-
-  -- a search that nothing stops comes to its end
-  pub finish_ends : (s : Status) → Ends (WordsSay old new words) before after s → (command : Command) → command_of words ≡ Some command → SearchCanFinish old.held command → IsNotStopped s
-  finish_ends WriteFault e command is can = ((λ q. cc), (λ q. cc))
-  finish_ends Memory e command is can = ((λ q. cc), (λ q. cc))
-  finish_ends ReadFault e command is can = ((λ q. cc), (λ q. cc))
-  finish_ends s e command is can =
-      let told = subst (λ (f : Option Command). AnswersTo old.held f s e.1.0) is e.1.1 in command_finished old.held command s e.1.0 can told
 
   -- a claim that `check` accepts is best
   pub accepted_ends : AcceptedIsBest → (s : Status) → Ends (WordsSay old new words) before after s → (file tree : List ℕ) → command_of words ≡ Some (Checking file tree) → s ≡ Done → FilesClaimBest old.held file tree

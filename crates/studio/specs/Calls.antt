@@ -1,4 +1,5 @@
--- Laws over calls of `studio` one after another, on shelves that keep the files: what one call put out another accepts, or goes on from.
+-- Laws over calls of `studio` one after another: what one call put out another accepts, or goes on
+-- from, where between the calls the problem file stays as it is.
 use Rattle.std.specs.Prelude.{◌≡◌, ◌⊎◌, ◌≤◌, ◌<◌, ◌+◌, ◌++◌, ℕ, List, [], ◌∷◌, Some, length, codes}
 use Rattle.std.specs.Io.KnownBytes.{Appends}
 use Rattle.io_rules.specs.State.{ShelfState, SinkState}
@@ -6,6 +7,7 @@ use Rattle.studio_rules.specs.TreeFile.{tree_limit}
 use Rattle.studio_rules.specs.Command.{Command, Listing, Checking, RankChecking, Solving, Ranking, Splitting, Merging, command_of}
 use Rattle.studio_rules.specs.Lines.{line, text_of}
 use Rattle.studio_rules.specs.Ending.{Ends, IsOneOf}
+use Rattle.studio_rules.specs.Keeps.{Keeps}
 use Rattle.studio_rules.specs.declared.status.Status.{Status}
 use Rattle.studio_rules.specs.declared.status.Status.TheVariants.{Done, ReadFault, WriteFault, Memory, TooLong}
 use Rattle.studio_rules.specs.Answers.{WordsSay}
@@ -19,9 +21,10 @@ pub record Call : Type 0 where
   pub out_after : SinkState
   pub status : Status
 
--- what the clause `ends` of `studio` says
-abbrev pub IsCall : Call → Type 0
-IsCall c = Ends (WordsSay c.shelf_before c.shelf_after c.words) c.out_before c.out_after c.status
+-- what `studio` says of it: the clause `ends`, and the clauses `keeps` and `later`
+pub record IsCall (c : Call) : Type 0 where
+  pub ends : Ends (WordsSay c.shelf_before c.shelf_after c.words) c.out_before c.out_after c.status
+  pub keeps : Keeps c.shelf_before c.shelf_after
 
 -- a call of the command
 pub record Calls (c : Call) (command : Command) : Type 0 where
@@ -35,12 +38,15 @@ pub record Puts (c : Call) (text : List ℕ) : Type 0 where
   pub before : c.out_before.written ≡ Some front
   pub after : c.out_after.written ≡ Some (front ++ text)
 
--- the shelf of a call tells that the file holds the bytes, and those of two calls that it holds the same
+-- the shelf of a call tells before it that the file holds the bytes
 abbrev pub Holds : Call → List ℕ → List ℕ → Type 0
 Holds c name bytes = c.shelf_before.held name ≡ Some (Some bytes)
 
+-- between two calls the file stays as it is: the shelf tells after the first that it holds the
+-- bytes, and so before the second
 abbrev pub Keep : Call → Call → List ℕ → Type 0
-Keep c d name = (bytes : List ℕ) × Holds c name bytes × Holds d name bytes
+Keep c d name =
+    (bytes : List ℕ) × (c.shelf_after.held name ≡ Some (Some bytes)) × Holds d name bytes
 
 -- it ended with the status and the text, or with a fault of reading, of the sink or of memory
 abbrev pub EndsWith : Call → Status → List ℕ → Type 0
@@ -77,7 +83,7 @@ CheckAcceptsMerged =
     (merging splitting checking : Call) (file tree merged part : List ℕ) (parts : List (List ℕ)) (text : List ℕ)
     → Calls merging (Merging file tree (part ∷ parts)) → Puts merging text
     → Calls splitting (Splitting file merged) → Puts splitting (line (codes "end")) → Keep merging splitting file → Holds splitting merged text
-    → Calls checking (Checking file merged) → Keep merging checking file → Holds checking merged text
+    → Calls checking (Checking file merged) → Keep splitting checking file → Holds checking merged text
     → Accepts checking merged text ⊎ HasFailed checking
 
 -- What `list` put out for `m` structures, the second call behind the token of its last line, joins to what it puts out for all: the text
@@ -87,5 +93,5 @@ ListingsJoin =
     (first second whole : Call) (file after token : List ℕ) (m n : ℕ) (lines : List (List ℕ)) (rest : List ℕ) → 0 < m → 0 < n
     → Calls first (Listing file after m) → Puts first (text_of (lines ++ (codes "more " ++ token) ∷ []))
     → Calls second (Listing file token n) → Puts second rest → Keep first second file
-    → Calls whole (Listing file after (m + n)) → Keep first whole file
+    → Calls whole (Listing file after (m + n)) → Keep second whole file
     → EndsWith whole Done (text_of lines ++ rest) ⊎ HasFailed whole

@@ -1,9 +1,10 @@
 //! The call: it judges the words and does their command.
-ghost use Rattle.std.specs.Prelude.{◌≡◌, ◌∷◌, [], List, ℕ, Some, None, map, string_bytes};
+ghost use Rattle.std.specs.Prelude.{◌≡◌, ◌≤◌, ◌∷◌, [], List, ℕ, Some, None, map, string_bytes};
 ghost use Rattle.text_rules.specs.Outside.{HasRisen};
 ghost use Rattle.studio_rules.specs.Command as rules;
 ghost use Rattle.studio_rules.specs.Command.{command_of, AreWithin, IsFileWord};
 ghost use Rattle.studio_rules.specs.Ending.{Ends, IsOneOf};
+ghost use Rattle.studio_rules.specs.Keeps.{Keeps};
 ghost use Rattle.studio_rules.specs.Answers.{CommandSays, WordsSay, IsUndisturbed, IsNotStopped, SearchCanFinish, first_file, statuses_of};
 ghost use Rattle.studio_rules.specs.Causes.{EndsExactly};
 ghost use Rattle.studio_words.specs.View.{command_view};
@@ -45,7 +46,8 @@ fn perform<F: Shelf, K: Sink>(
     out: &mut K,
 ) -> Status
     requires { AreWithin (command_view command) }
-    ensures { Ends (CommandSays (F.state shelf.old) (F.state shelf.new) (command_view command.entry)) (K.state out.old) (K.state out.new) result }
+    ensures ends { Ends (CommandSays (F.state shelf.old) (F.state shelf.new) (command_view command.entry)) (K.state out.old) (K.state out.new) result }
+    ensures keeps { Keeps (F.state shelf.old) (F.state shelf.new) }
 {
     match command {
         Command::Max(file) => max(alloc, file, shelf, out),
@@ -83,7 +85,8 @@ fn perform<F: Shelf, K: Sink>(
 }
 
 fn run<F: Shelf, K: Sink>(alloc: Global, words: &[String], shelf: &mut F, out: &mut K) -> Status
-    ensures { Ends (WordsSay (F.state shelf.old) (F.state shelf.new) (map string_bytes words.now)) (K.state out.old) (K.state out.new) result }
+    ensures ends { Ends (WordsSay (F.state shelf.old) (F.state shelf.new) (map string_bytes words.now)) (K.state out.old) (K.state out.new) result }
+    ensures keeps { Keeps (F.state shelf.old) (F.state shelf.new) }
 {
     let Ok(found) = command_of(alloc, words) else {
         return say_memory(out);
@@ -96,8 +99,8 @@ fn run<F: Shelf, K: Sink>(alloc: Global, words: &[String], shelf: &mut F, out: &
 
 /// Does what the words say over the shelf's files, and puts the text into the sink line by line.
 ///
-/// The clause `ends` says the whole: which text is out with which status. The others are parts of it in words of their
-/// own.
+/// The clause `ends` says which text is out with which status, and `keeps` and `later` what is left
+/// of the shelf. The others are parts of `ends` in words of their own.
 pub fn studio<F: Shelf, K: Sink>(
     alloc: Global,
     words: &[String],
@@ -105,6 +108,9 @@ pub fn studio<F: Shelf, K: Sink>(
     out: &mut K,
 ) -> Status
     ensures ends { Ends (WordsSay (F.state shelf.old) (F.state shelf.new) (map string_bytes words.now)) (K.state out.old) (K.state out.new) result }
+    // The shelf tells the same of each file as before, and no count of its faults fell.
+    ensures keeps { (name : List ℕ) → (F.state shelf.new).held name ≡ (F.state shelf.old).held name }
+    ensures later { (name : List ℕ) → (F.state shelf.old).faults name ≤ (F.state shelf.new).faults name }
     // Usage comes exactly where the words have no form, and yields to the faults of the sink and of memory.
     ensures usage { result ≡ Status.Usage → command_of (map string_bytes words.now) ≡ None }
     ensures no_form { command_of (map string_bytes words.now) ≡ None → IsOneOf (Status.Usage ∷ Status.WriteFault ∷ Status.Memory ∷ []) result }
@@ -122,7 +128,8 @@ pub fn studio<F: Shelf, K: Sink>(
     ensures complete { (command : rules.Command) → command_of (map string_bytes words.now) ≡ Some command
         → IsUndisturbed (F.state shelf.old) (F.state shelf.new) (K.state out.old) (K.state out.new) command
         → IsOneOf (statuses_of command) result }
-    // A search comes to its end where its budget is large enough and no number is out of range.
+    // A search comes to its end where its budget is large enough and no number is out of range, and
+    // `flows` where none is.
     ensures finishes { (command : rules.Command) → command_of (map string_bytes words.now) ≡ Some command → SearchCanFinish (F.state shelf.old).held command → IsNotStopped result }
     // Where `check` ends with status 0, its files give a valid problem and a claim that is best: the claimed network is an
     // allowed solution structure with flows of its cost, and none costs less; or none has flows.

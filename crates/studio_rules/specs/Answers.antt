@@ -8,18 +8,24 @@ use Rattle.studio_rules.specs.Command.{Max, Axioms, Flows, Listing, Make, Migrat
 use Rattle.studio_rules.specs.Command.{Table, Splitting, Expanding, Drawing, DrawingNetwork, Reporting, Ranging, Planning, Parting, PartingAgainst, Merging}
 use Rattle.problem_rules.specs.Generated.{generated}
 use Rattle.problem_rules.specs.Problem.{Problem}
+use Rattle.tree_rules.specs.Claim.{Network, network}
+use Rattle.tree_rules.specs.Accepted.{Tree}
+use Rattle.plan_rules.specs.Plan.{Plan}
+use Rattle.plan_rules.specs.Expanded.{expanded}
+use Rattle.stability_rules.specs.declared.spot.Spot.{Spot}
+use Rattle.stability_rules.specs.declared.spot.SpotKind.{SpotKind}
 use Rattle.studio_rules.specs.Reading.{AreHeld, GivesProblem, OnFile, file_limit}
 use Rattle.studio_rules.specs.Max.{MaxWork}
 use Rattle.studio_rules.specs.Axioms.{AxiomsWork}
-use Rattle.studio_rules.specs.Flows.{FlowsWork}
+use Rattle.studio_rules.specs.Flows.{FlowsWork, StaysInRange}
 use Rattle.studio_rules.specs.Listing.{ListingWork}
 use Rattle.studio_rules.specs.Make.{MakeWork}
 use Rattle.studio_rules.specs.Script.{OnScript}
-use Rattle.studio_rules.specs.Plan.{OnPlan}
+use Rattle.studio_rules.specs.Plan.{OnPlan, GivesPlan}
 use Rattle.studio_rules.specs.Expand.{ExpandWork}
 use Rattle.studio_rules.specs.Migrate.{MigrateWork}
 use Rattle.studio_rules.specs.Edits.{EditWork, UndoWork}
-use Rattle.studio_rules.specs.TreeFile.{OnTree, tree_limit}
+use Rattle.studio_rules.specs.TreeFile.{OnTree, GivesTree, tree_limit}
 use Rattle.studio_rules.specs.Check.{CheckWork}
 use Rattle.studio_rules.specs.Rankcheck.{OnRank}
 use Rattle.studio_rules.specs.Rank.{RankWork}
@@ -31,7 +37,7 @@ use Rattle.studio_rules.specs.Split.{SplitWork}
 use Rattle.studio_rules.specs.Merge.{MergeWork}
 use Rattle.studio_rules.specs.Part.{PartWork, AgainstWork}
 use Rattle.studio_rules.specs.Periods.{PeriodsWork}
-use Rattle.studio_rules.specs.Stable.{StableWork}
+use Rattle.studio_rules.specs.Stable.{StableWork, CanRange, spot_named}
 use Rattle.studio_rules.specs.Solve.{SolveWork, CanFinish}
 use Rattle.studio_rules.specs.Trial.{TrialWork}
 use Rattle.studio_rules.specs.Ending.{Says}
@@ -159,11 +165,38 @@ statuses_of (Ranking file count budget) = Done ∷ Spent ∷ Past ∷ BadProblem
 statuses_of (Trial number units budget) = Done ∷ Spent ∷ Past ∷ Memory ∷ []
 statuses_of command = Done ∷ Memory ∷ []
 
--- nothing stops the search of the command before its end, whatever problem its file gives
+-- it holds of whatever problem the file gives
+abbrev pub OnGiven : (Problem → Type 0) → (List ℕ → Told) → List ℕ → Type 0
+OnGiven P held name =
+    (file : List ℕ) (p : Problem) → AreHeld (held name) file → GivesProblem file p → P p
+
+-- nothing stops the search of the expanded problem, whatever plan the file gives for the problem
+abbrev pub PlanCanFinish : ℕ → (List ℕ → Told) → List ℕ → Problem → Type 0
+PlanCanFinish budget held name p =
+    (file : List ℕ) (plan : Plan) → AreHeld (held name) file → GivesPlan p file plan
+    → CanFinish budget (expanded p plan)
+
+-- nothing stops the range of the named spot, whatever network the tree of the file claims
+abbrev pub RangeCanFinish : SpotKind → List ℕ → ℕ → (List ℕ → Told) → List ℕ → Problem → Type 0
+RangeCanFinish kind word budget held name p =
+    (file : List ℕ) (w : Network) (tree : Tree) (spot : Spot) → AreHeld (held name) file
+    → GivesTree p file (network w) tree → spot_named p kind word ≡ Some spot
+    → CanRange budget p spot w
+
+-- nothing stops the search of the command before its end, whatever its files give; that of `flows`
+-- is the path of one program
 abbrev pub SearchCanFinish : (List ℕ → Told) → Command → Type 0
-SearchCanFinish held (Solving name budget) = (file : List ℕ) (p : Problem) → AreHeld (held name) file → GivesProblem file p → CanFinish budget p
-SearchCanFinish held (Ranking name count budget) = (file : List ℕ) (p : Problem) → AreHeld (held name) file → GivesProblem file p → CanFinish budget p
+SearchCanFinish held (Solving name budget) = OnGiven (CanFinish budget) held name
+SearchCanFinish held (Ranking name count budget) = OnGiven (CanFinish budget) held name
 SearchCanFinish held (Trial number units budget) = CanFinish budget (generated number units)
+SearchCanFinish held (Parting name inside outside budget) = OnGiven (CanFinish budget) held name
+SearchCanFinish held (PartingAgainst name inside outside budget tree) =
+    OnGiven (CanFinish budget) held name
+SearchCanFinish held (Planning name plan budget) =
+    OnGiven (PlanCanFinish budget held plan) held name
+SearchCanFinish held (Ranging name tree kind word budget) =
+    OnGiven (RangeCanFinish kind word budget held tree) held name
+SearchCanFinish held (Flows name units) = OnGiven (StaysInRange units) held name
 SearchCanFinish held command = ⊥
 
 -- a search came to its end

@@ -13,7 +13,7 @@ use Rattle.flow_rules.specs.declared.place.Column.{Column}
 use Rattle.flow_rules.specs.declared.place.Place.{Place}
 use Rattle.tree_rules.specs.Tree as trees
 use Rattle.tree_rules.specs.Leaf as leaves
-use Rattle.tree_rules.specs.Claim.{Network}
+use Rattle.tree_rules.specs.Claim.{Network, IsSized}
 use Rattle.tree_rules.specs.Claim as claims
 use Rattle.tree_text_rules.specs.Spelling.{network_lines, claim_lines, end_line, place_lines}
 use Rattle.flow_rules.specs.Net.{net_of}
@@ -24,10 +24,10 @@ use Rattle.studio_rules.specs.Axioms.{units_named, first_stranger, breaks_line, 
 use Rattle.studio_rules.specs.declared.status.Status.{Status}
 use Rattle.studio_rules.specs.declared.status.Status.TheVariants.{Done, Refused, Past}
 
--- the lines of the network and that of the bound
+-- the lines of the network, with one size for each unit in file order, and that of the bound
 abbrev pub LeastLines : Problem → List ℕ → List (List ℕ) → Type 0
 LeastLines p us lines =
-    (w : Network) × (d : ℤ) × (ys : List ℤ) × (w.units ≡ us) × IsLeastFlows p w d ys × (lines ≡ spelled (network_lines p w ++ end_line p (trees.leaf (leaves.bounded d ys)) ∷ []))
+    (w : Network) × (d : ℤ) × (ys : List ℤ) × (w.units ≡ us) × IsSized w × IsLeastFlows p w d ys × (lines ≡ spelled (network_lines p w ++ end_line p (trees.leaf (leaves.bounded d ys)) ∷ []))
 
 -- `infeasible`, and the line of the refutation
 abbrev pub NoneLines : Problem → List ℕ → List (List ℕ) → Type 0
@@ -57,3 +57,9 @@ FlowNamesSay names p None status lines =
 
 abbrev pub FlowsWork : List (List ℕ) → Problem → Status → List (List ℕ) → Type 0
 FlowsWork names p = FlowNamesSay names p (first_stranger p names)
+
+-- at the node that the named units decide no number is out of range on the path of its program
+abbrev pub StaysInRange : List (List ℕ) → Problem → Type 0
+StaysInRange names p =
+    (us : List ℕ) (nonbasic : List Column) (place : Place) → has us ≡ units_named p names
+    → IsPastNamed (net_of p) (decided p us) nonbasic place → ⊥

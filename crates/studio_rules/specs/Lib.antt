@@ -13,6 +13,7 @@ pub mod Expand
 pub mod FlowPages
 pub mod Flows
 pub mod Graph
+pub mod Keeps
 pub mod Lines
 pub mod Listing
 pub mod Make

@@ -1,6 +1,6 @@
 -- `part FILE INSIDE OUTSIDE BUDGET`: what a search of the structures of a node finds, as the text of a part. `part FILE INSIDE OUTSIDE
 -- BUDGET TREE`: the same, where the search begins with the network of TREE as its best, if TREE claims one.
-use Rattle.std.specs.Prelude.{◌≡◌, ◌⊎◌, ℕ, List, Option, Some, None}
+use Rattle.std.specs.Prelude.{◌≡◌, ◌⊎◌, ℕ, List, Option, Some, None, Ok}
 use Rattle.number_sets.specs.Sets.{has}
 use Rattle.problem_rules.specs.Problem.{Problem}
 use Rattle.text_rules.specs.Outside.{Told}
@@ -15,7 +15,9 @@ use Rattle.tree_rules.specs.Past.{IsPastAt}
 use Rattle.tree_rules.specs.Proved.{IsProved, IsStopped, IsBelowLimit}
 use Rattle.tree_text_rules.specs.Read.{Certificate}
 use Rattle.part_rules.specs.Part.{Part}
+use Rattle.part_rules.specs.Read.{PartReads}
 use Rattle.part_rules.specs.Spelling.{part_text_lines}
+use Rattle.studio_rules.specs.Lines.{text_of}
 use Rattle.studio_rules.specs.Network.{ClaimRefusal}
 use Rattle.studio_rules.specs.Printed.{spelled}
 use Rattle.studio_rules.specs.Solve.{status_of}
@@ -46,14 +48,16 @@ abbrev pub NoDearer : Option Network → Claim → Type 0
 NoDearer None claim = Unit {0}
 NoDearer (Some w) claim = HasFallen (claimed_cost (network w)) (claimed_cost claim)
 
--- What a search from the node finds within the budget: a claim with the lean tree that proves it, or the tree as far as it came and where
--- it stopped; and its text, with the status that tells where the search stopped.
+-- What a search from the node finds within the budget: a claim with the lean tree that proves it,
+-- or the tree as far as it came and where it stopped; and its text, which reads as what was found,
+-- with the status that tells where the search stopped.
 pub record PartSays (budget : ℕ) (known : Option Network) (inside outside : List ℕ) (p : Problem) (status : Status) (lines : List (List ℕ)) : Type 0 where
   pub found : Certificate
   pub holds : HoldsFrom (record { inside = has inside; outside = has outside }) budget p found.claim found.tree found.tail
   pub no_dearer : NoDearer known found.claim
   pub status_is : status ≡ status_of found.tail
   pub text : lines ≡ spelled (part_text_lines p (part_from inside outside found))
+  pub reads : PartReads p (text_of lines) (Ok (part_from inside outside found))
 
 abbrev pub PartWork : ℕ → List ℕ → List ℕ → Problem → Status → List (List ℕ) → Type 0
 PartWork budget = OnStart (PartSays budget None)

@@ -5,7 +5,7 @@ use Rattle.problem_rules.specs.Problem.{Problem}
 use Rattle.pns_rules.specs.Shape.{shape_of}
 use Rattle.pns_rules.specs.Structure.{IsStructure, IsAllowed}
 use Rattle.pns_rules.specs.Nodes.{Node}
-use Rattle.pns_rules.specs.Ends.{IsReduced}
+use Rattle.pns_rules.specs.Ends.{IsSound, IsReduced}
 use Rattle.flow_rules.specs.declared.place.Column.{Column}
 use Rattle.flow_rules.specs.declared.place.Place.{Place}
 use Rattle.flow_rules.specs.Net.{net_of}
@@ -62,7 +62,8 @@ SolveWork budget p status lines =
     (c : Certificate) × (status ≡ status_of c.tail) × Holds budget p c.claim c.tree c.tail × AreTextOf p c lines
 
 -- Nothing stops the search of a problem before its end: the budget is at least twice the number of sets of units of the maximal
--- structure, and at no reduced node a number is out of range on the path of its program.
+-- structure, and at no sound and reduced node a number is out of range on the path of its program.
 pub record CanFinish (budget : ℕ) (p : Problem) : Type 0 where
   pub enough : IsBelowLimit p budget → ⊥
-  pub in_range : (n : Node) (nonbasic : List Column) (place : Place) → IsReduced (shape_of p) n → IsPastNamed (net_of p) n nonbasic place → ⊥
+  pub in_range : (n : Node) (nonbasic : List Column) (place : Place)
+      → IsSound (shape_of p) n → IsReduced (shape_of p) n → IsPastNamed (net_of p) n nonbasic place → ⊥

@@ -17,7 +17,7 @@ use Rattle.stability_rules.specs.declared.spot.SpotKind.{SpotKind}
 use Rattle.stability_rules.specs.declared.spot.SpotKind.TheVariants.{Price, Fix, Proportional}
 use Rattle.stability_rules.specs.Spot.{valued, IsAllowedValue}
 use Rattle.stability_rules.specs.Range.{IsCheaper, IsRange, IsHalfProved, MayWant, IsPastCost}
-use Rattle.studio_rules.specs.Solve.{SolveWork}
+use Rattle.studio_rules.specs.Solve.{SolveWork, CanFinish}
 use Rattle.studio_rules.specs.Network.{OnNetwork}
 use Rattle.studio_rules.specs.Printed.{spelled}
 use Rattle.studio_rules.specs.declared.status.Status.{Status}
@@ -95,3 +95,9 @@ NamedWork (Some spot) budget p claim tree status lines = OnNetwork (SpotWork spo
 
 abbrev pub StableWork : SpotKind → List ℕ → ℕ → Problem → Claim → Tree → Status → List (List ℕ) → Type 0
 StableWork kind name budget p = NamedWork (spot_named p kind name) budget p
+
+-- Nothing stops a range before its end: with each allowed value in the spot the search can finish,
+-- and the steps of the network's cost are in range.
+pub record CanRange (budget : ℕ) (p : Problem) (spot : Spot) (w : Network) : Type 0 where
+  pub searches : (value : ℤ) → IsAllowedValue spot value → CanFinish budget (valued p spot value)
+  pub costs : (value : ℤ) (at : ℕ) → IsAllowedValue spot value → IsPastCost p spot w value at → ⊥

@@ -3,7 +3,8 @@
 //! The definitions stand in `specs/`. `Command` says which words are which command, over `Numeral`, and `Answers` what each command answers;
 //! `Causes` says when a call ends with which status. Behind them:
 //!
-//! - of the end of a call: `Ending`, `Lines`, `Printed` and `Code`, the numbers of the statuses.
+//! - of the end of a call: `Ending`, `Lines`, `Printed` and `Code`, the numbers of the statuses;
+//!   `Keeps`, what it leaves of a shelf.
 //! - of files: `Reading` (the problem file), `Script`, `Plan`, `TreeFile` and `PartFile`.
 //! - of commands, one file each: `Max`, `Axioms`, `Listing`; `Edits`, `Migrate`, `Make`; `Flows`, `Check`, `Best` (what acceptance means);
 //!   `Network` with `Table`, `Report` and `Graph`; `Split`, `Merge`; `Rankcheck`, `Rank`; `Solve`, `Summary`, `Trial`; `Start`, `Part`;

@@ -12,8 +12,8 @@ use Rattle.endings.proofs.Ending.{Ends-map, Ends-from, only_or_memory_in}
 use Rattle.command_files.proofs.Seconds.{on_second-faults}
 use Rattle.edit_commands.proofs.edits.say_inverse.Goals as goal
 
-pub returns-in-Ok : goal.returns-in-Ok
-returns-in-Ok g c =
+pub returns-in-Ok-clause-ends : goal.returns-in-Ok-clause-ends
+returns-in-Ok-clause-ends g c =
     let old = g.F.Shelf.state c.args.shelf.now in
     let new = g.F.Shelf.state c.edited_of.new.shelf in
     let p = c.args.problem.now in
@@ -25,8 +25,8 @@ returns-in-Ok g c =
     (only_or_memory_in Q Done (text_of lines) (lines, (read.0, read.1, inr (is.script, is.gives, (refl, refl))), refl) ([], inl refl, refl))
     (c.say_made.ensures lines (subst (λ (s : Script). IfOk c.print_script.result (λ text. text.items ≡ script_text s.edits)) is.back_is c.print_script.ensures))
 
-pub returns-in-Err : goal.returns-in-Err
-returns-in-Err g c =
+pub returns-in-Err-clause-ends : goal.returns-in-Err-clause-ends
+returns-in-Err-clause-ends g c =
     let old = g.F.Shelf.state c.args.shelf.now in
     let new = g.F.Shelf.state c.edited_of.new.shelf in
     let Q : Status → List ℕ → Type 0 = Says (OnScript UndoWork old.held c.args.script.now c.args.problem.now) (λ other. other ≡ c.args.script.now) old new in

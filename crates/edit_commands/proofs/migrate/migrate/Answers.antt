@@ -8,8 +8,8 @@ use Rattle.endings.proofs.Ending.{Ends-map, Ends-from}
 use Rattle.command_files.proofs.Files.{on_file-faults, on_file-work}
 use Rattle.edit_commands.proofs.migrate.migrate.Goals as goal
 
-pub returns-in-Ok : goal.returns-in-Ok
-returns-in-Ok g c =
+pub returns-in-Ok-clause-ends : goal.returns-in-Ok-clause-ends
+returns-in-Ok-clause-ends g c =
     let old = g.F.Shelf.state c.args.shelf.now in
     let new = g.F.Shelf.state c.problem_of.new.shelf in
     let work : Problem → Status → List (List ℕ) → Type 0 = MigrateWork c.args.years in
@@ -17,8 +17,8 @@ returns-in-Ok g c =
     Ends-from (Tells (work c.in-Ok.problem)) Q (g.K.Sink.state c.args.out.now) _ _ _ (ap g.K.Sink.state c.in-Ok.ensures.silent)
     (on_file-work work old new c.args.file.now c.in-Ok.problem c.in-Ok.ensures.problem) c.say_migration.ensures
 
-pub returns-in-Err : goal.returns-in-Err
-returns-in-Err g c =
+pub returns-in-Err-clause-ends : goal.returns-in-Err-clause-ends
+returns-in-Err-clause-ends g c =
     let old = g.F.Shelf.state c.args.shelf.now in
     let new = g.F.Shelf.state c.problem_of.new.shelf in
     let work : Problem → Status → List (List ℕ) → Type 0 = MigrateWork c.args.years in

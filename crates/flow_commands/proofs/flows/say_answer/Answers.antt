@@ -20,7 +20,7 @@ returns-in-Least g c =
     let b = c.in-Least.bound in
     let a : IsLeastFor p us c.in-Least.network b.d b.ys = subst (AnswersFor p us) c.in-Least.is c.requires.answer in
     let lines : List (List Token) = network_lines p c.in-Least.network ++ end_line p (trees.leaf (leaves.bounded b.d b.ys)) ∷ [] in
-    Ends-map _ _ (g.K.Sink.state c.args.out.now) _ _ (Tells-map (OneAnswer Done lines) (FlowsSay p us) (λ s ls h. subst (λ (t : Status). FlowsSay p us t ls) (sym h.0) (inl (c.in-Least.network, b.d, b.ys, a.units_are, a.flows, h.1))))
+    Ends-map _ _ (g.K.Sink.state c.args.out.now) _ _ (Tells-map (OneAnswer Done lines) (FlowsSay p us) (λ s ls h. subst (λ (t : Status). FlowsSay p us t ls) (sym h.0) (inl (c.in-Least.network, b.d, b.ys, a.units_are, c.is_sized.ensures.sized, a.flows, h.1))))
     (c.say_printed.ensures lines (g.K.Sink.state c.args.out.now) c.print_least-printed.ensures.later c.print_least-printed.ensures.prints)
 
 pub returns-in-Refuted : goal.returns-in-Refuted

@@ -1,4 +1,4 @@
 use Rattle.network_commands.proofs.report.report.Goals as goal
 
-pub returns : goal.returns
-returns g c = c.say_of_network.ensures
+pub returns-clause-ends : goal.returns-clause-ends
+returns-clause-ends g c = c.say_of_network.ensures.ends

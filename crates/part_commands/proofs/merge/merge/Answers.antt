@@ -7,10 +7,11 @@ use Rattle.part_commands.proofs.PartFiles.{file_told}
 use Rattle.studio_rules.specs.Ending.{Says}
 use Rattle.studio_rules.specs.declared.status.Status.{Status}
 use Rattle.endings.proofs.Ending.{Ends-map, Ends-from, Says-map}
+use Rattle.endings.proofs.Keeping.{keeps_through}
 use Rattle.part_commands.proofs.merge.merge.Goals as goal
 
-pub returns-in-Ok : goal.returns-in-Ok
-returns-in-Ok g c =
+pub returns-in-Ok-clause-ends : goal.returns-in-Ok-clause-ends
+returns-in-Ok-clause-ends g c =
     let old = g.F.Shelf.state c.args.shelf.now in
     let mid = g.F.Shelf.state c.problem_of.new.shelf in
     let new = g.F.Shelf.state c.say_tree.new.shelf in
@@ -19,10 +20,10 @@ returns-in-Ok g c =
     let names = map string_bytes c.args.parts.now in
     let Q : Status → List ℕ → Type 0 = Says (OnFile (OnTree (MergeWork old.held names) old.held tree) old.held file) (λ other. (other ≡ file) ⊎ ((other ≡ tree) ⊎ Contains names other)) old new in
     Ends-from _ Q (g.K.Sink.state c.args.out.now) _ _ _ (ap g.K.Sink.state c.in-Ok.ensures.silent)
-    (file_told names c.in-Ok.problem old mid new c.problem_of.ensures.keeps c.problem_of.ensures.later file tree c.in-Ok.ensures.problem) c.say_tree.ensures
+    (file_told names c.in-Ok.problem old mid new c.problem_of.ensures.keeps.held c.problem_of.ensures.keeps.later file tree c.in-Ok.ensures.problem) c.say_tree.ensures.ends
 
-pub returns-in-Err : goal.returns-in-Err
-returns-in-Err g c =
+pub returns-in-Err-clause-ends : goal.returns-in-Err-clause-ends
+returns-in-Err-clause-ends g c =
     let old = g.F.Shelf.state c.args.shelf.now in
     let new = g.F.Shelf.state c.problem_of.new.shelf in
     let file = c.args.file.now in
@@ -31,3 +32,6 @@ returns-in-Err g c =
     let work : Status → List (List ℕ) → Type 0 = OnFile (OnTree (MergeWork old.held names) old.held tree) old.held file in
     Ends-map _ (Says work (λ other. (other ≡ file) ⊎ ((other ≡ tree) ⊎ Contains names other)) old new) (g.K.Sink.state c.args.out.now) _ _
     (Says-map (FileFaults old.held file) work (λ other. other ≡ file) (λ other. (other ≡ file) ⊎ ((other ≡ tree) ⊎ Contains names other)) old new (λ s lines h. (h.0, h.1, inl h.2)) (λ other e. inl e)) c.in-Err.ensures.told
+
+pub returns-in-Ok-clause-keeps : goal.returns-in-Ok-clause-keeps
+returns-in-Ok-clause-keeps g c = keeps_through _ _ _ c.in-Ok.ensures.keeps c.say_tree.ensures.keeps

@@ -13,8 +13,8 @@ use Rattle.studio_rules.specs.declared.status.Status.{Status}
 use Rattle.endings.proofs.Ending.{Ends-map, Ends-from, Says-map, Says-told}
 use Rattle.part_commands.proofs.merge.say_parts.Goals as goal
 
-pub returns-in-Ok : goal.returns-in-Ok
-returns-in-Ok g c =
+pub returns-in-Ok-clause-ends : goal.returns-in-Ok-clause-ends
+returns-in-Ok-clause-ends g c =
     let old = g.F.Shelf.state c.args.shelf.now in
     let new = g.F.Shelf.state c.parts_of.new.shelf in
     let p = c.args.problem.now in
@@ -28,8 +28,8 @@ returns-in-Ok g c =
     (Says-told (MergeSays names p claim tree ps) (MergeWork old.held names p claim tree) (Contains names) old new
     (λ s lines h. inr (ps, give, h))) c.say_merged.ensures
 
-pub returns-in-Err : goal.returns-in-Err
-returns-in-Err g c =
+pub returns-in-Err-clause-ends : goal.returns-in-Err-clause-ends
+returns-in-Err-clause-ends g c =
     let old = g.F.Shelf.state c.args.shelf.now in
     let new = g.F.Shelf.state c.parts_of.new.shelf in
     let p = c.args.problem.now in

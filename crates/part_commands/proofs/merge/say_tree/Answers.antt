@@ -7,10 +7,11 @@ use Rattle.part_commands.proofs.PartFiles.{tree_told}
 use Rattle.studio_rules.specs.Ending.{Says}
 use Rattle.studio_rules.specs.declared.status.Status.{Status}
 use Rattle.endings.proofs.Ending.{Ends-map, Ends-from, Says-map}
+use Rattle.endings.proofs.Keeping.{keeps_through}
 use Rattle.part_commands.proofs.merge.say_tree.Goals as goal
 
-pub returns-in-Ok : goal.returns-in-Ok
-returns-in-Ok g c =
+pub returns-in-Ok-clause-ends : goal.returns-in-Ok-clause-ends
+returns-in-Ok-clause-ends g c =
     let old = g.F.Shelf.state c.args.shelf.now in
     let mid = g.F.Shelf.state c.tree_of.new.shelf in
     let new = g.F.Shelf.state c.say_parts.new.shelf in
@@ -19,10 +20,10 @@ returns-in-Ok g c =
     let names = map string_bytes c.args.names.now in
     let Q : Status → List ℕ → Type 0 = Says (OnTree (MergeWork old.held names) old.held name p) (λ other. (other ≡ name) ⊎ Contains names other) old new in
     Ends-from _ Q (g.K.Sink.state c.args.out.now) _ _ _ (ap g.K.Sink.state c.in-Ok.ensures.silent)
-    (tree_told names p old mid new c.tree_of.ensures.keeps c.tree_of.ensures.later name (claim_of c.in-Ok.claim) c.in-Ok.tree c.in-Ok.ensures.tree) c.say_parts.ensures
+    (tree_told names p old mid new c.tree_of.ensures.keeps.held c.tree_of.ensures.keeps.later name (claim_of c.in-Ok.claim) c.in-Ok.tree c.in-Ok.ensures.tree) c.say_parts.ensures.ends
 
-pub returns-in-Err : goal.returns-in-Err
-returns-in-Err g c =
+pub returns-in-Err-clause-ends : goal.returns-in-Err-clause-ends
+returns-in-Err-clause-ends g c =
     let old = g.F.Shelf.state c.args.shelf.now in
     let new = g.F.Shelf.state c.tree_of.new.shelf in
     let p = c.args.problem.now in
@@ -31,3 +32,6 @@ returns-in-Err g c =
     let work : Status → List (List ℕ) → Type 0 = OnTree (MergeWork old.held names) old.held name p in
     Ends-map _ (Says work (λ other. (other ≡ name) ⊎ Contains names other) old new) (g.K.Sink.state c.args.out.now) _ _
     (Says-map (TreeFaults old.held name p) work (λ other. other ≡ name) (λ other. (other ≡ name) ⊎ Contains names other) old new (λ s lines h. (h.0, h.1, inl h.2)) (λ other e. inl e)) c.in-Err.ensures.told
+
+pub returns-in-Ok-clause-keeps : goal.returns-in-Ok-clause-keeps
+returns-in-Ok-clause-keeps g c = keeps_through _ _ _ c.in-Ok.ensures.keeps c.say_parts.ensures.keeps

@@ -13,6 +13,7 @@ use Rattle.studio_rules.specs.Ending.{Says}
 use Rattle.studio_rules.specs.declared.status.Status.{Status}
 use Rattle.studio_rules.specs.declared.status.Status.TheVariants.{Memory}
 use Rattle.endings.proofs.Ending.{Ends-from, only_in}
+use Rattle.endings.proofs.Keeping.{keeps_through}
 use Rattle.part_commands.proofs.part_file.parts_of.Goals as goal
 
 pub returns-in_default-clause-told : goal.returns-in_default-clause-told
@@ -38,7 +39,7 @@ returns-in-Err-clause-told g c =
     let here : name ≡ get_or names place name = c.as_str.ensures.value ∙ (ap string_bytes c.name-item.is ∙ sym (get_or-map string_bytes list place c.name-item.result name c.reading-test.true)) in
     let Q : Status → List ℕ → Type 0 = Says (FirstFault old.held names c.args.problem.now) (Contains names) old new in
     Ends-from _ Q (g.K.Sink.state c.args.out.now) _ _ _ (ap g.K.Sink.state c.reading.invariant.silent)
-    (fault_told names c.args.problem.now old mid new c.reading.invariant.keeps c.reading.invariant.later (nat_lt 1 (length list)) place name c.reading.parts.items (ap (λ (n : ℕ). nat_lt 1 n) (sym count)) lt here c.reading.invariant.given)
+    (fault_told names c.args.problem.now old mid new c.reading.invariant.keeps.held c.reading.invariant.keeps.later (nat_lt 1 (length list)) place name c.reading.parts.items (ap (λ (n : ℕ). nat_lt 1 n) (sym count)) lt here c.reading.invariant.given)
     c.in-Err.ensures.told
 
 pub reading-preserved : goal.reading-preserved
@@ -54,11 +55,10 @@ reading-preserved g c =
     let lt : place < length names = omega (arith, count, c.reading-test.true) in
     let here : name ≡ get_or names place name = c.as_str.ensures.value ∙ (ap string_bytes c.name-item.is ∙ sym (get_or-map string_bytes list place c.name-item.result name c.reading-test.true)) in
     let read = c.in-Ok.ensures.part in
-    let one : (file : List ℕ) × AreHeld (held name) file × GivesPart p file part = (read.0, subst (λ (o : Told). AreHeld o read.0) (c.reading.invariant.keeps name) read.1, read.2) in
+    let one : (file : List ℕ) × AreHeld (held name) file × GivesPart p file part = (read.0, subst (λ (o : Told). AreHeld o read.0) (c.reading.invariant.keeps.held name) read.1, read.2) in
     record {
       given = subst (λ (ps : List Part). GiveBefore held p names (place + 1) ps) (sym c.in-Ok-push.ensures.items) (one_given held p names place c.reading.parts.items name part lt here c.reading.invariant.given one);
       known = subst (λ (ps : List Part). Each (KnowsPart p) ps) (sym c.in-Ok-push.ensures.items) (each-append (KnowsPart p) c.reading.parts.items (part ∷ []) c.reading.invariant.known (c.in-Ok.ensures.known, tt));
       silent = c.in-Ok.ensures.silent ∙ c.reading.invariant.silent;
-      later = λ other. let a = c.reading.invariant.later other in let b = c.in-Ok.ensures.later other in omega (arith, a, b);
-      keeps = λ other. c.in-Ok.ensures.keeps other ∙ c.reading.invariant.keeps other;
+      keeps = keeps_through _ _ _ c.reading.invariant.keeps c.in-Ok.ensures.keeps;
     }

@@ -1,6 +1,7 @@
-use Rattle.std.proofs.Common.{◌≡◌, ◌≤◌, ℕ, List, map, string_bytes}
+use Rattle.std.proofs.Common.{◌≡◌, map, string_bytes}
 use Rattle.problem_rules.specs.Each.{Each}
 use Rattle.part_rules.specs.Spelling.{KnowsPart}
+use Rattle.studio_rules.specs.Keeps.{Keeps}
 use Rattle.part_commands.proofs.PartFiles.{GiveBefore}
 use Rattle.part_commands.proofs.part_file.parts_of.Given as goal
 
@@ -10,6 +11,5 @@ invariant-reading g l = record {
   given : GiveBefore (g.F.Shelf.state l.fn.shelf).held l.problem (map string_bytes l.names) l.name-index l.parts.items;
   known : Each (KnowsPart l.problem) l.parts.items;
   silent : l.out ≡ l.fn.out;
-  later : (other : List ℕ) → (g.F.Shelf.state l.fn.shelf).faults other ≤ (g.F.Shelf.state l.shelf).faults other;
-  keeps : (other : List ℕ) → (g.F.Shelf.state l.shelf).held other ≡ (g.F.Shelf.state l.fn.shelf).held other;
+  keeps : Keeps (g.F.Shelf.state l.fn.shelf) (g.F.Shelf.state l.shelf);
 }

@@ -1,29 +1,58 @@
-use Rattle.std.proofs.Common.{◌∙◌, sym}
+use Rattle.std.proofs.Common.{◌∙◌, sym, subst}
 use Rattle.pgraph.specs.View.{node_of}
+use Rattle.tree_rules.specs.Known.{KnowsClaim, KnowsTree, KnowsTail}
+use Rattle.tree_text_rules.specs.Read.{Certificate}
 use Rattle.part_rules.specs.Part.{Part}
-use Rattle.part_rules.specs.Spelling.{part_text_lines}
-use Rattle.studio_rules.specs.Solve.{status_of}
-use Rattle.part_searches.specs.Found.{FoundSays}
-use Rattle.part_searches.proofs.Parts.{can_print}
-use Rattle.studio_rules.specs.Printed.{OneAnswer}
 use Rattle.studio_rules.specs.Ending.{Tells}
 use Rattle.studio_rules.specs.declared.status.Status.TheVariants.{Memory}
 use Rattle.endings.proofs.Ending.{Ends-map, Tells-map, Tells-memory, only_in}
+use Rattle.part_searches.specs.Found.{ReadsBack, TextSays, FoundSays}
+use Rattle.part_searches.proofs.Parts.{CanPrint, can_print}
 use Rattle.part_searches.proofs.found.say_found.Goals as goal
+
+pub reads_back-requires : goal.reads_back-requires
+reads_back-requires g c =
+    let can : CanPrint c.args.problem.now c.in-Some.certificate =
+    can_print c.args.problem.now (node_of c.args.start.now) c.requires.found.0 c.args.found
+    c.requires.found.1 c.in-Some.certificate (sym c.certificate_of.ensures ∙ c.in-Some.is) in
+    record {
+      inside = c.requires.known.0;
+      outside = c.requires.known.1;
+      apart = c.requires.apart;
+      claim = can.claim;
+      tree = can.tree;
+      tail = can.tail;
+      few = can.few;
+    }
 
 pub say_part-requires : goal.say_part-requires
 say_part-requires g c =
-    let start = c.args.start.now in
-    let can = can_print c.args.problem.now (node_of start) start.inside start.outside c.requires.found.0 c.args.found c.requires.found.1 c.in-Some.part (sym c.part_of.ensures ∙ c.in-Some.is) in
-    record { claim = can.claim; tree = can.tree; tail = can.tail }
+    let p = c.args.problem.now in
+    let can : CanPrint p c.in-Some.certificate =
+    can_print p (node_of c.args.start.now) c.requires.found.0 c.args.found c.requires.found.1
+    c.in-Some.certificate (sym c.certificate_of.ensures ∙ c.in-Some.is) in
+    let is = sym c.part_of-part.ensures in
+    record {
+      claim = subst (λ (part : Part). KnowsClaim p part.claim) is can.claim;
+      tree = subst (λ (part : Part). KnowsTree p part.tree) is can.tree;
+      tail = subst (λ (part : Part). KnowsTail p part.tail) is can.tail;
+      reads = subst (λ (part : Part). ReadsBack p part) is c.reads_back.ensures;
+    }
 
 pub returns-in-Some : goal.returns-in-Some
 returns-in-Some g c =
     let p = c.args.problem.now in
     let start = c.args.start.now in
-    let part : Part = c.in-Some.part in
+    let found : Certificate = c.in-Some.certificate in
     Ends-map _ _ (g.K.Sink.state c.args.out.now) _ _
-    (Tells-map (OneAnswer (status_of part.tail) (part_text_lines p part)) (FoundSays p start.inside start.outside c.args.found) (λ s lines h. (part, sym c.part_of.ensures ∙ c.in-Some.is, h.0, h.1))) c.say_part.ensures
+    (Tells-map (TextSays p c.part_of-part.result)
+    (FoundSays p start.inside start.outside c.args.found)
+    (λ s lines h. (
+      found,
+      sym c.certificate_of.ensures ∙ c.in-Some.is,
+      subst (λ (part : Part). TextSays p part s lines) c.part_of-part.ensures h,
+    )))
+    c.say_part.ensures
 
 pub returns-in-None : goal.returns-in-None
 returns-in-None g c =

@@ -1,8 +1,13 @@
-use Rattle.std.proofs.Common.{◌≡◌, ◌∙◌, ap}
+use Rattle.std.proofs.Common.{◌≡◌, ◌∙◌, ℕ, List, Ok, ap, sym, subst}
+use Rattle.studio_rules.specs.Lines.{text_of}
 use Rattle.studio_rules.specs.Solve.{status_of}
+use Rattle.part_rules.specs.Part.{Part}
+use Rattle.part_rules.specs.Read.{PartReads}
 use Rattle.part_rules.specs.Spelling.{part_text_lines}
 use Rattle.studio_rules.specs.Printed.{OneAnswer}
 use Rattle.endings.proofs.Ending.{Ends-map, Tells-map}
+use Rattle.endings.proofs.Printing.{spelled_text}
+use Rattle.part_searches.specs.Found.{TextSays}
 use Rattle.part_searches.proofs.Parts.{is_printing}
 use Rattle.part_searches.proofs.found.say_part.Goals as goal
 
@@ -11,8 +16,18 @@ say_printed-requires g c = is_printing c.args.part.now.tail c.status_of.result (
 
 pub returns : goal.returns
 returns g c =
-    let lines = part_text_lines c.args.problem.now c.args.part.now in
-    let same : c.status_of.result ≡ status_of c.args.part.now.tail = c.status_of.ensures ∙ ap status_of c.tail.ensures in
+    let p = c.args.problem.now in
+    let part : Part = c.args.part.now in
+    let lines = part_text_lines p part in
+    let same : c.status_of.result ≡ status_of part.tail =
+    c.status_of.ensures ∙ ap status_of c.tail.ensures in
     let out = c.print_part-printed in
-    Ends-map _ _ (g.K.Sink.state c.args.out.now) _ _ (Tells-map (OneAnswer c.status_of.result lines) (OneAnswer (status_of c.args.part.now.tail) lines) (λ s ls h. (h.0 ∙ same, h.1)))
+    Ends-map _ _ (g.K.Sink.state c.args.out.now) _ _
+    (Tells-map (OneAnswer c.status_of.result lines) (TextSays p part)
+    (λ s ls h. (
+      h.0 ∙ same,
+      h.1,
+      subst (λ (t : List ℕ). PartReads p t (Ok part))
+          (spelled_text lines ∙ ap text_of (sym h.1)) c.requires.reads,
+    )))
     (c.say_printed.ensures lines (g.K.Sink.state c.args.out.now) out.ensures.later out.ensures.prints)

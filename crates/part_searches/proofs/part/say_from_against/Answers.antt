@@ -5,17 +5,18 @@ use Rattle.studio_rules.specs.Ending.{Says}
 use Rattle.studio_rules.specs.declared.status.Status.{Status}
 use Rattle.studio_rules.specs.declared.status.Status.TheVariants.{Memory, BadNode}
 use Rattle.endings.proofs.Ending.{Ends-map, Says-map, Tells-memory, only_in}
+use Rattle.endings.proofs.Keeping.{keeps_same}
 use Rattle.part_searches.proofs.part.say_from_against.Goals as goal
 
-pub returns-in_default : goal.returns-in_default
-returns-in_default g c =
+pub returns-in_default-clause-ends : goal.returns-in_default-clause-ends
+returns-in_default-clause-ends g c =
     let shelf = g.F.Shelf.state c.args.shelf.now in
     let work = AgainstWork c.args.budget shelf.held c.args.tree.now c.args.inside.now c.args.outside.now c.args.problem.now in
     let Q : Status → List ℕ → Type 0 = Says work (λ other. other ≡ c.args.tree.now) shelf shelf in
     Ends-map _ Q (g.K.Sink.state c.args.out.now) _ _ (only_in Q Memory _ (Tells-memory work)) c.say_memory.ensures
 
-pub returns-in-Some : goal.returns-in-Some
-returns-in-Some g c =
+pub returns-in-Some-clause-ends : goal.returns-in-Some-clause-ends
+returns-in-Some-clause-ends g c =
     let old = g.F.Shelf.state c.args.shelf.now in
     let new = g.F.Shelf.state c.say_tree.new.shelf in
     let p = c.args.problem.now in
@@ -24,11 +25,17 @@ returns-in-Some g c =
     let work = AgainstWork c.args.budget old.held name c.args.inside.now c.args.outside.now p in
     Ends-map _ _ (g.K.Sink.state c.args.out.now) _ _
     (Says-map (OnTree (ClaimSays c.args.budget s.inside s.outside) old.held name p) work (λ other. other ≡ name) (λ other. other ≡ name) old new (λ status lines h. inr (s.inside, s.outside, c.in-Some.ensures.some, h)) (λ other e. e))
-    c.say_tree.ensures
+    c.say_tree.ensures.ends
 
-pub returns : goal.returns
-returns g c =
+pub returns-clause-ends : goal.returns-clause-ends
+returns-clause-ends g c =
     let shelf = g.F.Shelf.state c.args.shelf.now in
     let work = AgainstWork c.args.budget shelf.held c.args.tree.now c.args.inside.now c.args.outside.now c.args.problem.now in
     let Q : Status → List ℕ → Type 0 = Says work (λ other. other ≡ c.args.tree.now) shelf shelf in
     Ends-map _ Q (g.K.Sink.state c.args.out.now) _ _ (only_in Q BadNode _ (codes "bad node" ∷ [], inl (refl, c.in-None.ensures.none, refl), refl)) c.say.ensures
+
+pub returns-in_default-clause-keeps : goal.returns-in_default-clause-keeps
+returns-in_default-clause-keeps g c = keeps_same _
+
+pub returns-clause-keeps : goal.returns-clause-keeps
+returns-clause-keeps g c = keeps_same _

@@ -6,6 +6,7 @@ use Rattle.studio_rules.specs.declared.status.Status.{Status}
 use Rattle.endings.proofs.Ending.{Ends-map, Ends-from}
 use Rattle.command_files.proofs.Seconds.{on_both-faults, on_both-work}
 use Rattle.rank_commands.proofs.Best.{done_ends}
+use Rattle.endings.proofs.Keeping.{keeps_through}
 use Rattle.rank_commands.proofs.judge.rankcheck.Goals as goal
 
 pub returns-in-Ok : goal.returns-in-Ok
@@ -19,8 +20,8 @@ returns-in-Ok g c =
     let Q : Status → List ℕ → Type 0 = TwoFilesSay OnRank file rank old new in
     let ends =
     Ends-from P Q (g.K.Sink.state c.args.out.now) _ (g.K.Sink.state c.say_rank.new.out) _ (ap g.K.Sink.state c.in-Ok.ensures.silent)
-    (on_both-work (RankcheckSays rank) file rank old mid new c.in-Ok.problem c.in-Ok.ensures.problem (c.problem_of.ensures.keeps rank) c.problem_of.ensures.later) c.say_rank.ensures in
-    record { ends = ends; accepted = done_ends c.accepted_are_best.ensures old new file rank (g.K.Sink.state c.args.out.now) (g.K.Sink.state c.say_rank.new.out) _ ends }
+    (on_both-work (RankcheckSays rank) file rank old mid new c.in-Ok.problem c.in-Ok.ensures.problem (c.problem_of.ensures.keeps.held rank) c.problem_of.ensures.keeps.later) c.say_rank.ensures.ends in
+    record { ends = ends; keeps = keeps_through _ _ _ c.in-Ok.ensures.keeps c.say_rank.ensures.keeps; accepted = done_ends c.accepted_are_best.ensures old new file rank (g.K.Sink.state c.args.out.now) (g.K.Sink.state c.say_rank.new.out) _ ends }
 
 pub returns-in-Err : goal.returns-in-Err
 returns-in-Err g c =
@@ -30,4 +31,4 @@ returns-in-Err g c =
     let rank = c.args.rank.now in
     let Q : Status → List ℕ → Type 0 = TwoFilesSay OnRank file rank old new in
     let ends = Ends-map _ Q (g.K.Sink.state c.args.out.now) (g.K.Sink.state c.problem_of.new.out) _ (on_both-faults (RankcheckSays rank) file rank old new) c.in-Err.ensures.told in
-    record { ends = ends; accepted = done_ends c.accepted_are_best.ensures old new file rank (g.K.Sink.state c.args.out.now) (g.K.Sink.state c.problem_of.new.out) _ ends }
+    record { ends = ends; keeps = c.in-Err.ensures.keeps; accepted = done_ends c.accepted_are_best.ensures old new file rank (g.K.Sink.state c.args.out.now) (g.K.Sink.state c.problem_of.new.out) _ ends }

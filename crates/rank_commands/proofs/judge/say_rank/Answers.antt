@@ -6,8 +6,8 @@ use Rattle.endings.proofs.Ending.{Ends-map, Ends-from, Says-told}
 use Rattle.command_files.proofs.Seconds.{on_second-faults}
 use Rattle.rank_commands.proofs.judge.say_rank.Goals as goal
 
-pub returns-in-Ok : goal.returns-in-Ok
-returns-in-Ok g c =
+pub returns-in-Ok-clause-ends : goal.returns-in-Ok-clause-ends
+returns-in-Ok-clause-ends g c =
     let old = g.F.Shelf.state c.args.shelf.now in
     let new = g.F.Shelf.state c.rank_of.new.shelf in
     let p = c.args.problem.now in
@@ -19,8 +19,8 @@ returns-in-Ok g c =
     (λ s lines h. (read.0, read.1, inr (c.in-Ok.text, read.2, h))))
     c.say_checked.ensures
 
-pub returns-in-Err : goal.returns-in-Err
-returns-in-Err g c =
+pub returns-in-Err-clause-ends : goal.returns-in-Err-clause-ends
+returns-in-Err-clause-ends g c =
     let old = g.F.Shelf.state c.args.shelf.now in
     let new = g.F.Shelf.state c.rank_of.new.shelf in
     let p = c.args.problem.now in

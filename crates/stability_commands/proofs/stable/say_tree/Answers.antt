@@ -15,8 +15,8 @@ pub say_named-requires-clause-known : goal.say_named-requires-clause-known
 say_named-requires-clause-known g c =
     subst (λ (spot : Option Spot). IfSome spot (KnowsSpot c.args.problem.now)) (sym c.spot_named-spot.ensures) (spot_known c.args.problem.now c.args.kind c.args.name.now)
 
-pub returns-in-Ok : goal.returns-in-Ok
-returns-in-Ok g c =
+pub returns-in-Ok-clause-ends : goal.returns-in-Ok-clause-ends
+returns-in-Ok-clause-ends g c =
     let old = g.F.Shelf.state c.args.shelf.now in
     let new = g.F.Shelf.state c.tree_of.new.shelf in
     let p = c.args.problem.now in
@@ -31,8 +31,8 @@ returns-in-Ok g c =
     (λ s lines h. (read.0, read.1, inr (claim, c.in-Ok.tree, read.2, subst (λ (spot : Option Spot). NamedWork spot c.args.budget p claim c.in-Ok.tree s lines) c.spot_named-spot.ensures h))))
     c.say_named.ensures
 
-pub returns-in-Err : goal.returns-in-Err
-returns-in-Err g c =
+pub returns-in-Err-clause-ends : goal.returns-in-Err-clause-ends
+returns-in-Err-clause-ends g c =
     let old = g.F.Shelf.state c.args.shelf.now in
     let new = g.F.Shelf.state c.tree_of.new.shelf in
     let p = c.args.problem.now in

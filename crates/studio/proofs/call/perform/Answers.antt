@@ -8,42 +8,43 @@ use Rattle.studio_rules.specs.declared.status.Status.{Status}
 use Rattle.studio_rules.specs.PageLines.{IsOfLines}
 use Rattle.studio_rules.specs.declared.status.Status.TheVariants.{Done}
 use Rattle.endings.proofs.Ending.{Ends-map, Says-told, only_in}
+use Rattle.endings.proofs.Keeping.{keeps_same}
 use Rattle.studio.proofs.call.perform.Goals as goal
 
-pub returns-in-Max : goal.returns-in-Max
-returns-in-Max g c =
+pub returns-in-Max-clause-ends : goal.returns-in-Max-clause-ends
+returns-in-Max-clause-ends g c =
     let old = g.F.Shelf.state c.args.shelf.now in
     let new = g.F.Shelf.state c.max.new.shelf in
     let Q : Status → List ℕ → Type 0 = CommandSays old new (command_view c.args.command) in
     Ends-map (CommandSays old new (Max c.in-Max.file.now)) Q (g.K.Sink.state c.args.out.now) _ _
-    (λ s t h. subst (λ (v : Command). CommandSays old new v s t) (sym (ap command_view c.in-Max.is)) h) c.max.ensures
+    (λ s t h. subst (λ (v : Command). CommandSays old new v s t) (sym (ap command_view c.in-Max.is)) h) c.max.ensures.ends
 
-pub returns-in-Axioms : goal.returns-in-Axioms
-returns-in-Axioms g c =
+pub returns-in-Axioms-clause-ends : goal.returns-in-Axioms-clause-ends
+returns-in-Axioms-clause-ends g c =
     let old = g.F.Shelf.state c.args.shelf.now in
     let new = g.F.Shelf.state c.axioms.new.shelf in
     let Q : Status → List ℕ → Type 0 = CommandSays old new (command_view c.args.command) in
     Ends-map (CommandSays old new (Axioms c.in-Axioms.file.now c.in-Axioms.units)) Q (g.K.Sink.state c.args.out.now) _ _
-    (λ s t h. subst (λ (v : Command). CommandSays old new v s t) (sym (ap command_view c.in-Axioms.is)) h) c.axioms.ensures
+    (λ s t h. subst (λ (v : Command). CommandSays old new v s t) (sym (ap command_view c.in-Axioms.is)) h) c.axioms.ensures.ends
 
-pub returns-in-Flows : goal.returns-in-Flows
-returns-in-Flows g c =
+pub returns-in-Flows-clause-ends : goal.returns-in-Flows-clause-ends
+returns-in-Flows-clause-ends g c =
     let old = g.F.Shelf.state c.args.shelf.now in
     let new = g.F.Shelf.state c.flows.new.shelf in
     let Q : Status → List ℕ → Type 0 = CommandSays old new (command_view c.args.command) in
     Ends-map (CommandSays old new (Flows c.in-Flows.file.now c.in-Flows.units)) Q (g.K.Sink.state c.args.out.now) _ _
-    (λ s t h. subst (λ (v : Command). CommandSays old new v s t) (sym (ap command_view c.in-Flows.is)) h) c.flows.ensures
+    (λ s t h. subst (λ (v : Command). CommandSays old new v s t) (sym (ap command_view c.in-Flows.is)) h) c.flows.ensures.ends
 
-pub returns-in-Listing : goal.returns-in-Listing
-returns-in-Listing g c =
+pub returns-in-Listing-clause-ends : goal.returns-in-Listing-clause-ends
+returns-in-Listing-clause-ends g c =
     let old = g.F.Shelf.state c.args.shelf.now in
     let new = g.F.Shelf.state c.list.new.shelf in
     let Q : Status → List ℕ → Type 0 = CommandSays old new (command_view c.args.command) in
     Ends-map (CommandSays old new (Listing c.in-Listing.file.now c.in-Listing.after.now c.in-Listing.count)) Q (g.K.Sink.state c.args.out.now) _ _
-    (λ s t h. subst (λ (v : Command). CommandSays old new v s t) (sym (ap command_view c.in-Listing.is)) h) c.list.ensures
+    (λ s t h. subst (λ (v : Command). CommandSays old new v s t) (sym (ap command_view c.in-Listing.is)) h) c.list.ensures.ends
 
-pub returns-in-Make : goal.returns-in-Make
-returns-in-Make g c =
+pub returns-in-Make-clause-ends : goal.returns-in-Make-clause-ends
+returns-in-Make-clause-ends g c =
     let shelf = g.F.Shelf.state c.args.shelf.now in
     let Q : Status → List ℕ → Type 0 = CommandSays shelf shelf (command_view c.args.command) in
     Ends-map _ Q (g.K.Sink.state c.args.out.now) _ _
@@ -59,187 +60,187 @@ make-requires g c =
 pub migrate-requires : goal.migrate-requires
 migrate-requires g c = subst AreWithin (ap command_view c.in-Migrate.is) c.requires
 
-pub returns-in-Migrate : goal.returns-in-Migrate
-returns-in-Migrate g c =
+pub returns-in-Migrate-clause-ends : goal.returns-in-Migrate-clause-ends
+returns-in-Migrate-clause-ends g c =
     let old = g.F.Shelf.state c.args.shelf.now in
     let new = g.F.Shelf.state c.migrate.new.shelf in
     let Q : Status → List ℕ → Type 0 = CommandSays old new (command_view c.args.command) in
     Ends-map (CommandSays old new (Migrate c.in-Migrate.file.now c.in-Migrate.years)) Q (g.K.Sink.state c.args.out.now) _ _
-    (λ s t h. subst (λ (v : Command). CommandSays old new v s t) (sym (ap command_view c.in-Migrate.is)) h) c.migrate.ensures
+    (λ s t h. subst (λ (v : Command). CommandSays old new v s t) (sym (ap command_view c.in-Migrate.is)) h) c.migrate.ensures.ends
 
-pub returns-in-Editing : goal.returns-in-Editing
-returns-in-Editing g c =
+pub returns-in-Editing-clause-ends : goal.returns-in-Editing-clause-ends
+returns-in-Editing-clause-ends g c =
     let old = g.F.Shelf.state c.args.shelf.now in
     let new = g.F.Shelf.state c.edit.new.shelf in
     let Q : Status → List ℕ → Type 0 = CommandSays old new (command_view c.args.command) in
     Ends-map (CommandSays old new (Editing c.in-Editing.file.now c.in-Editing.script.now)) Q (g.K.Sink.state c.args.out.now) _ _
-    (λ s t h. subst (λ (v : Command). CommandSays old new v s t) (sym (ap command_view c.in-Editing.is)) h) c.edit.ensures
+    (λ s t h. subst (λ (v : Command). CommandSays old new v s t) (sym (ap command_view c.in-Editing.is)) h) c.edit.ensures.ends
 
-pub returns-in-Undoing : goal.returns-in-Undoing
-returns-in-Undoing g c =
+pub returns-in-Undoing-clause-ends : goal.returns-in-Undoing-clause-ends
+returns-in-Undoing-clause-ends g c =
     let old = g.F.Shelf.state c.args.shelf.now in
     let new = g.F.Shelf.state c.undo.new.shelf in
     let Q : Status → List ℕ → Type 0 = CommandSays old new (command_view c.args.command) in
     Ends-map (CommandSays old new (Undoing c.in-Undoing.file.now c.in-Undoing.script.now)) Q (g.K.Sink.state c.args.out.now) _ _
-    (λ s t h. subst (λ (v : Command). CommandSays old new v s t) (sym (ap command_view c.in-Undoing.is)) h) c.undo.ensures
+    (λ s t h. subst (λ (v : Command). CommandSays old new v s t) (sym (ap command_view c.in-Undoing.is)) h) c.undo.ensures.ends
 
-pub returns-in-Expanding : goal.returns-in-Expanding
-returns-in-Expanding g c =
+pub returns-in-Expanding-clause-ends : goal.returns-in-Expanding-clause-ends
+returns-in-Expanding-clause-ends g c =
     let old = g.F.Shelf.state c.args.shelf.now in
     let new = g.F.Shelf.state c.expand.new.shelf in
     let Q : Status → List ℕ → Type 0 = CommandSays old new (command_view c.args.command) in
     Ends-map (CommandSays old new (Expanding c.in-Expanding.file.now c.in-Expanding.plan.now)) Q (g.K.Sink.state c.args.out.now) _ _
-    (λ s t h. subst (λ (v : Command). CommandSays old new v s t) (sym (ap command_view c.in-Expanding.is)) h) c.expand.ensures
+    (λ s t h. subst (λ (v : Command). CommandSays old new v s t) (sym (ap command_view c.in-Expanding.is)) h) c.expand.ensures.ends
 
-pub returns-in-Checking : goal.returns-in-Checking
-returns-in-Checking g c =
+pub returns-in-Checking-clause-ends : goal.returns-in-Checking-clause-ends
+returns-in-Checking-clause-ends g c =
     let old = g.F.Shelf.state c.args.shelf.now in
     let new = g.F.Shelf.state c.check.new.shelf in
     let Q : Status → List ℕ → Type 0 = CommandSays old new (command_view c.args.command) in
     Ends-map (CommandSays old new (Checking c.in-Checking.file.now c.in-Checking.tree.now)) Q (g.K.Sink.state c.args.out.now) _ _
     (λ s t h. subst (λ (v : Command). CommandSays old new v s t) (sym (ap command_view c.in-Checking.is)) h) c.check.ensures.ends
 
-pub returns-in-RankChecking : goal.returns-in-RankChecking
-returns-in-RankChecking g c =
+pub returns-in-RankChecking-clause-ends : goal.returns-in-RankChecking-clause-ends
+returns-in-RankChecking-clause-ends g c =
     let old = g.F.Shelf.state c.args.shelf.now in
     let new = g.F.Shelf.state c.rankcheck.new.shelf in
     let Q : Status → List ℕ → Type 0 = CommandSays old new (command_view c.args.command) in
     Ends-map (CommandSays old new (RankChecking c.in-RankChecking.file.now c.in-RankChecking.rank.now)) Q (g.K.Sink.state c.args.out.now) _ _
     (λ s t h. subst (λ (v : Command). CommandSays old new v s t) (sym (ap command_view c.in-RankChecking.is)) h) c.rankcheck.ensures.ends
 
-pub returns-in-Table : goal.returns-in-Table
-returns-in-Table g c =
+pub returns-in-Table-clause-ends : goal.returns-in-Table-clause-ends
+returns-in-Table-clause-ends g c =
     let old = g.F.Shelf.state c.args.shelf.now in
     let new = g.F.Shelf.state c.table.new.shelf in
     let Q : Status → List ℕ → Type 0 = CommandSays old new (command_view c.args.command) in
     Ends-map (CommandSays old new (Table c.in-Table.file.now c.in-Table.tree.now)) Q (g.K.Sink.state c.args.out.now) _ _
-    (λ s t h. subst (λ (v : Command). CommandSays old new v s t) (sym (ap command_view c.in-Table.is)) h) c.table.ensures
+    (λ s t h. subst (λ (v : Command). CommandSays old new v s t) (sym (ap command_view c.in-Table.is)) h) c.table.ensures.ends
 
-pub returns-in-Reporting : goal.returns-in-Reporting
-returns-in-Reporting g c =
+pub returns-in-Reporting-clause-ends : goal.returns-in-Reporting-clause-ends
+returns-in-Reporting-clause-ends g c =
     let old = g.F.Shelf.state c.args.shelf.now in
     let new = g.F.Shelf.state c.report.new.shelf in
     let Q : Status → List ℕ → Type 0 = CommandSays old new (command_view c.args.command) in
     Ends-map (CommandSays old new (Reporting c.in-Reporting.file.now c.in-Reporting.tree.now)) Q (g.K.Sink.state c.args.out.now) _ _
-    (λ s t h. subst (λ (v : Command). CommandSays old new v s t) (sym (ap command_view c.in-Reporting.is)) h) c.report.ensures
+    (λ s t h. subst (λ (v : Command). CommandSays old new v s t) (sym (ap command_view c.in-Reporting.is)) h) c.report.ensures.ends
 
-pub returns-in-Splitting : goal.returns-in-Splitting
-returns-in-Splitting g c =
+pub returns-in-Splitting-clause-ends : goal.returns-in-Splitting-clause-ends
+returns-in-Splitting-clause-ends g c =
     let old = g.F.Shelf.state c.args.shelf.now in
     let new = g.F.Shelf.state c.split.new.shelf in
     let Q : Status → List ℕ → Type 0 = CommandSays old new (command_view c.args.command) in
     Ends-map (CommandSays old new (Splitting c.in-Splitting.file.now c.in-Splitting.tree.now)) Q (g.K.Sink.state c.args.out.now) _ _
-    (λ s t h. subst (λ (v : Command). CommandSays old new v s t) (sym (ap command_view c.in-Splitting.is)) h) c.split.ensures
+    (λ s t h. subst (λ (v : Command). CommandSays old new v s t) (sym (ap command_view c.in-Splitting.is)) h) c.split.ensures.ends
 
-pub returns-in-Drawing : goal.returns-in-Drawing
-returns-in-Drawing g c =
+pub returns-in-Drawing-clause-ends : goal.returns-in-Drawing-clause-ends
+returns-in-Drawing-clause-ends g c =
     let old = g.F.Shelf.state c.args.shelf.now in
     let new = g.F.Shelf.state c.plant_graph.new.shelf in
     let Q : Status → List ℕ → Type 0 = CommandSays old new (command_view c.args.command) in
     Ends-map (CommandSays old new (Drawing c.in-Drawing.file.now)) Q (g.K.Sink.state c.args.out.now) _ _
-    (λ s t h. subst (λ (v : Command). CommandSays old new v s t) (sym (ap command_view c.in-Drawing.is)) h) c.plant_graph.ensures
+    (λ s t h. subst (λ (v : Command). CommandSays old new v s t) (sym (ap command_view c.in-Drawing.is)) h) c.plant_graph.ensures.ends
 
-pub returns-in-DrawingNetwork : goal.returns-in-DrawingNetwork
-returns-in-DrawingNetwork g c =
+pub returns-in-DrawingNetwork-clause-ends : goal.returns-in-DrawingNetwork-clause-ends
+returns-in-DrawingNetwork-clause-ends g c =
     let old = g.F.Shelf.state c.args.shelf.now in
     let new = g.F.Shelf.state c.graph.new.shelf in
     let Q : Status → List ℕ → Type 0 = CommandSays old new (command_view c.args.command) in
     Ends-map (CommandSays old new (DrawingNetwork c.in-DrawingNetwork.file.now c.in-DrawingNetwork.tree.now)) Q (g.K.Sink.state c.args.out.now) _ _
-    (λ s t h. subst (λ (v : Command). CommandSays old new v s t) (sym (ap command_view c.in-DrawingNetwork.is)) h) c.graph.ensures
+    (λ s t h. subst (λ (v : Command). CommandSays old new v s t) (sym (ap command_view c.in-DrawingNetwork.is)) h) c.graph.ensures.ends
 
 pub stable-requires : goal.stable-requires
 stable-requires g c =
     let within : (1 ≤ c.in-Ranging.budget) × (c.in-Ranging.budget ≤ 1000000) = subst AreWithin (ap command_view c.in-Ranging.is) c.requires in
     record { some = within.0; few = within.1 }
 
-pub returns-in-Ranging : goal.returns-in-Ranging
-returns-in-Ranging g c =
+pub returns-in-Ranging-clause-ends : goal.returns-in-Ranging-clause-ends
+returns-in-Ranging-clause-ends g c =
     let old = g.F.Shelf.state c.args.shelf.now in
     let new = g.F.Shelf.state c.stable.new.shelf in
     let Q : Status → List ℕ → Type 0 = CommandSays old new (command_view c.args.command) in
     Ends-map (CommandSays old new (Ranging c.in-Ranging.file.now c.in-Ranging.tree.now c.in-Ranging.kind c.in-Ranging.name.now c.in-Ranging.budget)) Q (g.K.Sink.state c.args.out.now) _ _
-    (λ s t h. subst (λ (v : Command). CommandSays old new v s t) (sym (ap command_view c.in-Ranging.is)) h) c.stable.ensures
+    (λ s t h. subst (λ (v : Command). CommandSays old new v s t) (sym (ap command_view c.in-Ranging.is)) h) c.stable.ensures.ends
 
 pub periods-requires : goal.periods-requires
 periods-requires g c =
     let within : (1 ≤ c.in-Planning.budget) × (c.in-Planning.budget ≤ 1000000) = subst AreWithin (ap command_view c.in-Planning.is) c.requires in
     record { some = within.0; few = within.1 }
 
-pub returns-in-Planning : goal.returns-in-Planning
-returns-in-Planning g c =
+pub returns-in-Planning-clause-ends : goal.returns-in-Planning-clause-ends
+returns-in-Planning-clause-ends g c =
     let old = g.F.Shelf.state c.args.shelf.now in
     let new = g.F.Shelf.state c.periods.new.shelf in
     let Q : Status → List ℕ → Type 0 = CommandSays old new (command_view c.args.command) in
     Ends-map (CommandSays old new (Planning c.in-Planning.file.now c.in-Planning.plan.now c.in-Planning.budget)) Q (g.K.Sink.state c.args.out.now) _ _
-    (λ s t h. subst (λ (v : Command). CommandSays old new v s t) (sym (ap command_view c.in-Planning.is)) h) c.periods.ensures
+    (λ s t h. subst (λ (v : Command). CommandSays old new v s t) (sym (ap command_view c.in-Planning.is)) h) c.periods.ensures.ends
 
 pub part-requires : goal.part-requires
 part-requires g c =
     let within : (1 ≤ c.in-Parting.budget) × (c.in-Parting.budget ≤ 1000000) = subst AreWithin (ap command_view c.in-Parting.is) c.requires in
     record { some = within.0; few = within.1 }
 
-pub returns-in-Parting : goal.returns-in-Parting
-returns-in-Parting g c =
+pub returns-in-Parting-clause-ends : goal.returns-in-Parting-clause-ends
+returns-in-Parting-clause-ends g c =
     let old = g.F.Shelf.state c.args.shelf.now in
     let new = g.F.Shelf.state c.part.new.shelf in
     let Q : Status → List ℕ → Type 0 = CommandSays old new (command_view c.args.command) in
     Ends-map (CommandSays old new (Parting c.in-Parting.file.now c.in-Parting.inside.now c.in-Parting.outside.now c.in-Parting.budget)) Q (g.K.Sink.state c.args.out.now) _ _
-    (λ s t h. subst (λ (v : Command). CommandSays old new v s t) (sym (ap command_view c.in-Parting.is)) h) c.part.ensures
+    (λ s t h. subst (λ (v : Command). CommandSays old new v s t) (sym (ap command_view c.in-Parting.is)) h) c.part.ensures.ends
 
 pub part_against-requires : goal.part_against-requires
 part_against-requires g c =
     let within : (1 ≤ c.in-PartingAgainst.budget) × (c.in-PartingAgainst.budget ≤ 1000000) = subst AreWithin (ap command_view c.in-PartingAgainst.is) c.requires in
     record { some = within.0; few = within.1 }
 
-pub returns-in-PartingAgainst : goal.returns-in-PartingAgainst
-returns-in-PartingAgainst g c =
+pub returns-in-PartingAgainst-clause-ends : goal.returns-in-PartingAgainst-clause-ends
+returns-in-PartingAgainst-clause-ends g c =
     let old = g.F.Shelf.state c.args.shelf.now in
     let new = g.F.Shelf.state c.part_against.new.shelf in
     let Q : Status → List ℕ → Type 0 = CommandSays old new (command_view c.args.command) in
     Ends-map (CommandSays old new (PartingAgainst c.in-PartingAgainst.file.now c.in-PartingAgainst.inside.now c.in-PartingAgainst.outside.now c.in-PartingAgainst.budget c.in-PartingAgainst.tree.now)) Q (g.K.Sink.state c.args.out.now) _ _
-    (λ s t h. subst (λ (v : Command). CommandSays old new v s t) (sym (ap command_view c.in-PartingAgainst.is)) h) c.part_against.ensures
+    (λ s t h. subst (λ (v : Command). CommandSays old new v s t) (sym (ap command_view c.in-PartingAgainst.is)) h) c.part_against.ensures.ends
 
-pub returns-in-Merging : goal.returns-in-Merging
-returns-in-Merging g c =
+pub returns-in-Merging-clause-ends : goal.returns-in-Merging-clause-ends
+returns-in-Merging-clause-ends g c =
     let old = g.F.Shelf.state c.args.shelf.now in
     let new = g.F.Shelf.state c.merge.new.shelf in
     let Q : Status → List ℕ → Type 0 = CommandSays old new (command_view c.args.command) in
     Ends-map (CommandSays old new (Merging c.in-Merging.file.now c.in-Merging.tree.now (map string_bytes c.in-Merging.parts.now))) Q (g.K.Sink.state c.args.out.now) _ _
-    (λ s t h. subst (λ (v : Command). CommandSays old new v s t) (sym (ap command_view c.in-Merging.is)) h) c.merge.ensures
+    (λ s t h. subst (λ (v : Command). CommandSays old new v s t) (sym (ap command_view c.in-Merging.is)) h) c.merge.ensures.ends
 
 pub solve-requires : goal.solve-requires
 solve-requires g c =
     let within : (1 ≤ c.in-Solving.budget) × (c.in-Solving.budget ≤ 1000000) = subst AreWithin (ap command_view c.in-Solving.is) c.requires in
     record { some = within.0; few = within.1 }
 
-pub returns-in-Solving : goal.returns-in-Solving
-returns-in-Solving g c =
+pub returns-in-Solving-clause-ends : goal.returns-in-Solving-clause-ends
+returns-in-Solving-clause-ends g c =
     let old = g.F.Shelf.state c.args.shelf.now in
     let new = g.F.Shelf.state c.solve.new.shelf in
     let Q : Status → List ℕ → Type 0 = CommandSays old new (command_view c.args.command) in
     Ends-map (CommandSays old new (Solving c.in-Solving.file.now c.in-Solving.budget)) Q (g.K.Sink.state c.args.out.now) _ _
-    (λ s t h. subst (λ (v : Command). CommandSays old new v s t) (sym (ap command_view c.in-Solving.is)) h) c.solve.ensures
+    (λ s t h. subst (λ (v : Command). CommandSays old new v s t) (sym (ap command_view c.in-Solving.is)) h) c.solve.ensures.ends
 
 pub rank-requires : goal.rank-requires
 rank-requires g c =
     let within : ((1 ≤ c.in-Ranking.count) × (c.in-Ranking.count ≤ 1000)) × ((1 ≤ c.in-Ranking.budget) × (c.in-Ranking.budget ≤ 1000000)) = subst AreWithin (ap command_view c.in-Ranking.is) c.requires in
     record { asked = within.0.0; within = within.0.1; some = within.1.0; few = within.1.1 }
 
-pub returns-in-Ranking : goal.returns-in-Ranking
-returns-in-Ranking g c =
+pub returns-in-Ranking-clause-ends : goal.returns-in-Ranking-clause-ends
+returns-in-Ranking-clause-ends g c =
     let old = g.F.Shelf.state c.args.shelf.now in
     let new = g.F.Shelf.state c.rank.new.shelf in
     let Q : Status → List ℕ → Type 0 = CommandSays old new (command_view c.args.command) in
     Ends-map (CommandSays old new (Ranking c.in-Ranking.file.now c.in-Ranking.count c.in-Ranking.budget)) Q (g.K.Sink.state c.args.out.now) _ _
-    (λ s t h. subst (λ (v : Command). CommandSays old new v s t) (sym (ap command_view c.in-Ranking.is)) h) c.rank.ensures
+    (λ s t h. subst (λ (v : Command). CommandSays old new v s t) (sym (ap command_view c.in-Ranking.is)) h) c.rank.ensures.ends
 
 pub trial-requires : goal.trial-requires
 trial-requires g c =
     let within : ((1 ≤ c.in-Trial.units) × (c.in-Trial.units ≤ 128)) × ((1 ≤ c.in-Trial.budget) × (c.in-Trial.budget ≤ 1000000)) = subst AreWithin (ap command_view c.in-Trial.is) c.requires in
     record { some = within.0.0; few = within.0.1; some_nodes = within.1.0; few_nodes = within.1.1 }
 
-pub returns-in-Trial : goal.returns-in-Trial
-returns-in-Trial g c =
+pub returns-in-Trial-clause-ends : goal.returns-in-Trial-clause-ends
+returns-in-Trial-clause-ends g c =
     let shelf = g.F.Shelf.state c.args.shelf.now in
     let Q : Status → List ℕ → Type 0 = CommandSays shelf shelf (command_view c.args.command) in
     let work : Status → List (List ℕ) → Type 0 = TrialWork c.in-Trial.number c.in-Trial.units c.in-Trial.budget in
@@ -248,8 +249,8 @@ returns-in-Trial g c =
     (Says-told work work _ shelf shelf (λ s lines h. h) s t h))
     c.trial.ensures
 
-pub returns-in-Telling : goal.returns-in-Telling
-returns-in-Telling g c =
+pub returns-in-Telling-clause-ends : goal.returns-in-Telling-clause-ends
+returns-in-Telling-clause-ends g c =
     let shelf = g.F.Shelf.state c.args.shelf.now in
     let Q : Status → List ℕ → Type 0 = CommandSays shelf shelf (command_view c.args.command) in
     let text : List ℕ = c.in-Telling.text.now in
@@ -258,3 +259,12 @@ returns-in-Telling g c =
     (λ s t h. subst (λ (v : Command). CommandSays shelf shelf v s t) (sym (ap command_view c.in-Telling.is))
     (only_in (CommandSays shelf shelf (Telling text)) Done text (whole.0, (refl, whole.1), whole.1) s t h))
     c.say_text.ensures
+
+pub returns-in-Make-clause-keeps : goal.returns-in-Make-clause-keeps
+returns-in-Make-clause-keeps g c = keeps_same _
+
+pub returns-in-Trial-clause-keeps : goal.returns-in-Trial-clause-keeps
+returns-in-Trial-clause-keeps g c = keeps_same _
+
+pub returns-in-Telling-clause-keeps : goal.returns-in-Telling-clause-keeps
+returns-in-Telling-clause-keeps g c = keeps_same _

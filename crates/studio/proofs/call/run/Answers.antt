@@ -7,6 +7,7 @@ use Rattle.studio_rules.specs.declared.status.Status.{Status}
 use Rattle.studio_rules.specs.declared.status.Status.TheVariants.{Usage, Memory}
 use Rattle.endings.proofs.Ending.{Ends-map, Says-map, only_in}
 use Rattle.studio_words.proofs.Within.{words_within}
+use Rattle.endings.proofs.Keeping.{keeps_same}
 use Rattle.studio.proofs.call.run.Goals as goal
 
 pub perform-requires : goal.perform-requires
@@ -15,15 +16,15 @@ perform-requires g c =
     let found : Some (command_view c.in-Some.command) ≡ command_of words = ap (option_map command_view) (sym c.in-Some.is) ∙ c.in-Ok.ensures in
     subst (λ (f : Option Command). IfSome f AreWithin) (sym found) (words_within words)
 
-pub returns-in_default : goal.returns-in_default
-returns-in_default g c =
+pub returns-in_default-clause-ends : goal.returns-in_default-clause-ends
+returns-in_default-clause-ends g c =
     let words = map string_bytes c.args.words.now in
     let shelf = g.F.Shelf.state c.args.shelf.now in
     let Q : Status → List ℕ → Type 0 = WordsSay shelf shelf words in
     Ends-map _ Q (g.K.Sink.state c.args.out.now) _ _ (only_in Q Memory (line (codes "memory")) ([], inl refl, refl)) c.say_memory.ensures
 
-pub returns-in-Some : goal.returns-in-Some
-returns-in-Some g c =
+pub returns-in-Some-clause-ends : goal.returns-in-Some-clause-ends
+returns-in-Some-clause-ends g c =
     let words = map string_bytes c.args.words.now in
     let old = g.F.Shelf.state c.args.shelf.now in
     let new = g.F.Shelf.state c.perform.new.shelf in
@@ -34,10 +35,10 @@ returns-in-Some g c =
     (Says-map (CommandAnswers old.held command) (Answers old.held words) (IsFileOf command) (IsFileWord words) old new
     (λ s lines h. subst (λ (f : Option Command). AnswersTo old.held f s lines) found h)
     (λ name h. subst (λ (f : Option Command). IsSomeAnd f (λ command. IsFileOf command name)) found h))
-    c.perform.ensures
+    c.perform.ensures.ends
 
-pub returns-in-None : goal.returns-in-None
-returns-in-None g c =
+pub returns-in-None-clause-ends : goal.returns-in-None-clause-ends
+returns-in-None-clause-ends g c =
     let words = map string_bytes c.args.words.now in
     let shelf = g.F.Shelf.state c.args.shelf.now in
     let Q : Status → List ℕ → Type 0 = WordsSay shelf shelf words in
@@ -45,3 +46,9 @@ returns-in-None g c =
     Ends-map _ Q (g.K.Sink.state c.args.out.now) _ _
     (only_in Q Usage (line (codes "usage")) (codes "usage" ∷ [], subst (λ (f : Option Command). AnswersTo shelf.held f Usage (codes "usage" ∷ [])) found (refl, refl), refl))
     c.say.ensures
+
+pub returns-in_default-clause-keeps : goal.returns-in_default-clause-keeps
+returns-in_default-clause-keeps g c = keeps_same _
+
+pub returns-in-None-clause-keeps : goal.returns-in-None-clause-keeps
+returns-in-None-clause-keeps g c = keeps_same _

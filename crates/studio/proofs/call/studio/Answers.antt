@@ -1,5 +1,6 @@
 use Rattle.std.proofs.Common.{map, string_bytes}
-use Rattle.studio.proofs.Statuses.{usage_ends, no_form_ends, read_fault_ends, write_fault_ends, complete_ends, finish_ends, accepted_ends, ranked_ends, missing_ends}
+use Rattle.studio.proofs.Statuses.{usage_ends, no_form_ends, read_fault_ends, write_fault_ends, complete_ends, accepted_ends, ranked_ends, missing_ends}
+use Rattle.studio.proofs.Finished.{finish_ends}
 use Rattle.studio.proofs.Causes.{exact_ends}
 use Rattle.studio.proofs.call.studio.Goals as goal
 
@@ -11,15 +12,17 @@ returns g c =
     let before = g.K.Sink.state c.args.out.now in
     let after = g.K.Sink.state c.run.new.out in
     record {
-      ends = c.run.ensures;
-      usage = usage_ends old new words before after c.run.result c.run.ensures;
-      no_form = no_form_ends old new words before after c.run.result c.run.ensures;
-      read_fault = read_fault_ends old new words before after c.run.result c.run.ensures;
-      write_fault = write_fault_ends old new words before after c.run.result c.run.ensures;
-      missing = missing_ends old new words before after c.run.result c.run.ensures;
-      exact = exact_ends c.parts_are_read_once.ensures old new words before after c.run.result c.run.ensures;
-      complete = complete_ends old new words before after c.run.result c.run.ensures;
-      finishes = finish_ends old new words before after c.run.result c.run.ensures;
-      accepted = accepted_ends old new words before after c.accepted_is_best.ensures c.run.result c.run.ensures;
-      ranked = ranked_ends old new words before after c.accepted_are_best.ensures c.run.result c.run.ensures;
+      ends = c.run.ensures.ends;
+      keeps = c.run.ensures.keeps.held;
+      later = c.run.ensures.keeps.later;
+      usage = usage_ends old new words before after c.run.result c.run.ensures.ends;
+      no_form = no_form_ends old new words before after c.run.result c.run.ensures.ends;
+      read_fault = read_fault_ends old new words before after c.run.result c.run.ensures.ends;
+      write_fault = write_fault_ends old new words before after c.run.result c.run.ensures.ends;
+      missing = missing_ends old new words before after c.run.result c.run.ensures.ends;
+      exact = exact_ends c.parts_are_read_once.ensures old new words before after c.run.result c.run.ensures.ends;
+      complete = complete_ends old new words before after c.run.result c.run.ensures.ends;
+      finishes = finish_ends old new words before after c.run.result c.run.ensures.ends;
+      accepted = accepted_ends old new words before after c.accepted_is_best.ensures c.run.result c.run.ensures.ends;
+      ranked = ranked_ends old new words before after c.accepted_are_best.ensures c.run.result c.run.ensures.ends;
     }

@@ -20,7 +20,7 @@ returns-then-is_cheaper-clause-probed c =
     let less : (n.cost *ℤ much.d) <ℤ (much.cost *ℤ n.d) = simp to_z-of_z at (c.if-is_cheaper.ensures.0 refl) in
     subst (λ (m : CostOver). IsCheaper (valued k.problem k.spot c.args.value) m n) much_is
     (subst (λ (q : Problem). IsCheaper q much n) c.requires.problem
-    (cheaper_found c.accepted_is_optimal.ensures c.accepted_has_flows.ensures c.args.desk.now.problem (subst IsValid c.problem.ensures c.is_valid.ensures.valid) much n c.in-Solved.tree c.in-Solved.ensures.found less))
+    (cheaper_found c.accepted_is_optimal.ensures c.accepted_has_flows.ensures c.args.desk.now.problem (subst IsValid c.problem.ensures c.is_valid.ensures.valid) much n c.in-Solved.tree c.in-Solved.ensures.found c.is_sized.ensures.sized less))
 
 pub returns-in-Solved-clause-probed : goal.returns-in-Solved-clause-probed
 returns-in-Solved-clause-probed c =
