@@ -1,0 +1,5 @@
+use Rattle.sure_laws.proofs.NoDemandsLemmas as lemmas
+use Rattle.sure_laws.proofs.laws.nothing_stops.Goals as goal
+
+pub returns : goal.returns
+returns c = lemmas.nothing_stops

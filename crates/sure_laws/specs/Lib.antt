@@ -1,0 +1,4 @@
+pub mod NoDemands
+pub mod Laws
+pub mod Calls
+pub mod OneUnit

@@ -1,0 +1,26 @@
+//! The laws of plants without demands. `specs/Laws`, `specs/Calls` and `specs/OneUnit` state them.
+ghost use Rattle.sure_laws.specs.Laws.{NothingIsPast, NothingStops};
+ghost use Rattle.sure_laws.specs.Calls.{SureSearchCanFinish, SureCallIsDone};
+ghost use Rattle.sure_laws.specs.OneUnit.{OneUnitIsSure};
+
+/// No number is out of range on the path of a node's program.
+pub fn nothing_is_past()
+    ensures { NothingIsPast }
+{}
+
+/// Nothing stops a search with a budget of twice the number of sets of units.
+pub fn nothing_stops()
+    ensures { NothingStops }
+{}
+
+/// The commands `solve` and `rank` of such a file have their whole answer out with status 0, or end
+/// with a fault of reading, of the sink or of memory.
+pub fn sure_call_is_done()
+    ensures premise { SureSearchCanFinish }
+    ensures done { SureCallIsDone }
+{}
+
+/// The worked plant of one unit is such a file, with a budget of 4.
+pub fn one_unit_is_sure()
+    ensures { OneUnitIsSure }
+{}
