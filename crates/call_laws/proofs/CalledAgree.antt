@@ -1,0 +1,45 @@
+-- Calls of `solve`, `list` and `flows` agree.
+use Rattle.std.proofs.Common.{◌≡◌, ℕ, List, Some, sym, ◌∙◌, subst}
+use Rattle.text_rules.specs.Outside.{Told}
+use Rattle.problem_rules.specs.Problem.{Problem}
+use Rattle.studio_rules.specs.declared.status.Status.{Status}
+use Rattle.studio_rules.specs.declared.status.Status.TheVariants.{Done}
+use Rattle.studio_rules.specs.Reading.{AreHeld, OnFile}
+use Rattle.studio_rules.specs.Command.{Flows, Listing, Solving}
+use Rattle.studio_rules.specs.Flows.{FlowsWork}
+use Rattle.studio_rules.specs.Listing.{ListingWork}
+use Rattle.call_laws.specs.OptimumLaws.{ListedCostEnough}
+use Rattle.call_laws.specs.OptimumCalls.{CallsAgree}
+use Rattle.studio.proofs.Calls.{answered}
+
+-- the same answer over another shelf that holds the file
+moved : (work : Problem → Status → List (List ℕ) → Type 0) (held later : List ℕ → Told)
+    (file bytes : List ℕ) (s : Status) (lines : List (List ℕ)) → held file ≡ Some (Some bytes)
+    → later file ≡ Some (Some bytes) → OnFile work held file s lines
+    → OnFile work later file s lines
+moved work held later file bytes s lines is here said =
+    (said.0, subst (λ (t : Told). AreHeld t said.0) (is ∙ sym here) said.1, said.2)
+
+pub calls_agree : ListedCostEnough → CallsAgree
+calls_agree law solving listing file bytes after count budget solved listed is solves puts here
+    lists adds =
+    let first = answered solving (Solving file budget) solved solves puts in
+    let second = answered listing (Listing file after count) listed lists adds in (
+      second.lines,
+      second.text_is,
+      λ names named line flowing flowed there flows tells.
+          let third = answered flowing (Flows file names) flowed flows tells in
+          let said = law solving.shelf_before.held file bytes after count budget is first.lines
+          first.answers second.lines
+          (moved (ListingWork after count) listing.shelf_before.held solving.shelf_before.held file
+          bytes Done second.lines here is second.answers)
+          names named line third.lines
+          (moved (FlowsWork names) flowing.shelf_before.held solving.shelf_before.held file bytes
+          Done third.lines there is third.answers) in (
+            said.0,
+            said.1,
+            (third.lines, third.text_is, said.2),
+            (first.lines, first.text_is, said.3),
+            said.4,
+          ),
+    )

@@ -1,0 +1,133 @@
+-- What `expand` prints gives the expanded problem, and `solve` and `periods` print one cost of it.
+use Rattle.std.proofs.Common.{◌≡◌, ◌⊎◌, ℕ, List, Some, Result, Ok, Err, refl, sym, ap, ◌∙◌, subst}
+use Rattle.std.proofs.Common.{inl, inr}
+use Rattle.text_rules.specs.Fault as texts
+use Rattle.text_rules.specs.Outside.{Told}
+use Rattle.text_rules.specs.Value.{read_text}
+use Rattle.text_laws.specs.Laws.{CanonicalReads}
+use Rattle.problem_rules.specs.Problem.{Problem}
+use Rattle.plan_rules.specs.Expanded.{expanded}
+use Rattle.plan_rules.specs.Plan.{Plan}
+use Rattle.plan_rules.specs.Read as plans
+use Rattle.plan_laws.specs.Laws.{ExpandedIsValid}
+use Rattle.tree_rules.specs.Claim.{Claim, network, infeasible, unknown}
+use Rattle.tree_rules.specs.Accepted.{Tree}
+use Rattle.design_rules.specs.Folded.{folded}
+use Rattle.studio_rules.specs.Expand.{ExpandWork}
+use Rattle.studio_rules.specs.Lines.{text_of}
+use Rattle.studio_rules.specs.Periods.{PeriodsWork}
+use Rattle.studio_rules.specs.Plan.{GivesPlan, OnPlan}
+use Rattle.studio_rules.specs.Reading.{LongFile, OnFile, file_limit}
+use Rattle.studio_rules.specs.Solve.{Solves, SolveWork}
+use Rattle.studio_rules.specs.declared.status.Status.{Status}
+use Rattle.studio_rules.specs.declared.status.Status.TheVariants.{Done, BadProblem, TooLong}
+use Rattle.call_laws.specs.Costs.{ClaimSame, OneCost}
+use Rattle.call_laws.specs.Periods.{ReadIsPlan, IsExpanded, ExpandedIsRead, PlansClaim, Certifies}
+use Rattle.call_laws.specs.Periods.{PeriodsAreCertified}
+use Rattle.studio.proofs.Accepted.{is_held, one_problem}
+use Rattle.call_laws.proofs.CostLemmas.{solved, on_file}
+
+-- the plan of a call that ends with status 0, and what the call does with it
+on_plan : (work : Problem → Plan → Status → List (List ℕ) → Type 0) (held : List ℕ → Told)
+    (name script : List ℕ) (p : Problem) (lines : List (List ℕ)) → held name ≡ Some (Some script)
+    → OnPlan work held name p Done lines
+    → (plan : Plan) × GivesPlan p script plan × work p plan Done lines
+on_plan work held name script p lines is (file, there, inl fault) = absurd fault
+on_plan work held name script p lines is (file, there, inr (plan, gives, does)) = (
+  plan,
+  subst (λ (b : List ℕ). GivesPlan p b plan)
+      (is_held (held name) script file is there) gives,
+  does,
+)
+
+one_plan : (p : Problem) (script : List ℕ) (x y : Plan) → GivesPlan p script x
+    → GivesPlan p script y → y ≡ x
+one_plan p script x y gives other = let e : ◌≡◌ {A = Result Plan plans.Fault} (Ok y) (Ok x) =
+    sym other.1 ∙ gives.1 in cc
+
+-- what a call says of a file whose text stands for the problem
+of_text : (budget : ℕ) (held : List ℕ → Told) (name text : List ℕ) (p : Problem) (s : Status)
+    (lines : List (List ℕ)) → read_text text ≡ Ok p → held name ≡ Some (Some text)
+    → OnFile (SolveWork budget) held name s lines
+    → LongFile held name file_limit s lines ⊎ SolveWork budget p s lines
+of_text budget held name text p TooLong lines reads is (file, there, inl fault) = inl
+    (refl, (file, there, fault))
+of_text budget held name text p BadProblem lines reads is (file, there, inl fault) =
+    let e : ◌≡◌ {A = Result Problem texts.Fault} (Ok p) (Err (fault.1.0, fault.1.1)) =
+    sym reads ∙ (ap read_text (sym (is_held (held name) text file is there)) ∙ fault.1.2) in cc
+of_text budget held name text p s lines reads is (file, there, inl fault) = absurd fault
+of_text budget held name text p s lines reads is (file, there, inr (q, gives, does)) =
+    let e : ◌≡◌ {A = Result Problem texts.Fault} (Ok q) (Ok p) =
+    sym gives.reads ∙ (ap read_text (is_held (held name) text file is there) ∙ reads) in
+    let same : q ≡ p = cc in
+    inr (subst (λ (r : Problem). SolveWork budget r s lines) same does)
+
+module _ (plans_read : ReadIsPlan) (valid : ExpandedIsValid) (canonical : CanonicalReads) where
+  pub expanded_is_read : ExpandedIsRead
+  expanded_is_read held file bytes plan script lines is is_plan said =
+      let read = on_file (λ p. OnPlan ExpandWork held plan p) held file bytes lines is said in
+      let planned = on_plan ExpandWork held plan script read.0 lines is_plan read.2 in
+      let q = expanded read.0 planned.0 in
+      let good = valid read.0 planned.0 read.1.valid
+      (plans_read read.0 read.1.valid script planned.0 planned.1.1) in
+      let reads : read_text (text_of lines) ≡ Ok q =
+      ap (λ (ls : List (List ℕ)). read_text (text_of ls)) planned.2.1 ∙ canonical q good in
+      record {
+        plant = read.0;
+        plan = planned.0;
+        gives = record { problem = read.1; periods = planned.1 };
+        printed = planned.2.1;
+        reads = λ within. record { within = within; reads = reads; valid = good };
+        solves = λ later kept budget s solved keeps says. of_text budget later kept
+            (text_of lines) q s solved reads keeps says;
+      }
+
+module _ (reads : ExpandedIsRead) (one : OneCost) where
+  -- the cost of a proof, against what `periods` prints
+  plans_claim : (other : ℕ) (p : Problem) (plan : Plan) (claim : Claim) (tree : Tree)
+      (lines : List (List ℕ)) → Solves (expanded p plan) claim tree
+      → PeriodsWork other p plan Done lines → PlansClaim p plan claim lines
+  plans_claim other p plan claim tree lines solves (inl least) =
+      of claim (one (expanded p plan)
+      (network least.network_of) claim least.tree tree least.solves solves)
+    where
+      of : (claim : Claim) → ClaimSame (network least.network_of) claim
+          → PlansClaim p plan claim lines
+      of (network v) same = (folded p plan least.network_of, least.design, same, least.text)
+      of infeasible same = absurd same
+      of unknown same = absurd same
+  plans_claim other p plan claim tree lines solves (inr none) =
+      subst (λ (c : Claim). PlansClaim p plan c lines)
+      (sym (one (expanded p plan) infeasible claim none.tree tree none.solves solves))
+      (none.none, none.text)
+
+  pub periods_are_certified : PeriodsAreCertified
+  periods_are_certified held later last file bytes plan script kept budget other lines solves
+      planned is is_plan expands keeps answers here is_its plans =
+      let e = reads held file bytes plan script lines is is_plan expands in
+      let read = on_file (λ p. OnPlan (PeriodsWork other) last plan p) last file bytes planned here
+      plans in
+      let same : read.0 ≡ e.plant = one_problem bytes e.plant read.0 e.gives.problem read.1 in
+      let its = on_plan (PeriodsWork other) last plan script e.plant planned is_its
+      (subst (λ (p : Problem). OnPlan (PeriodsWork other) last plan p Done planned) same
+      read.2) in
+      let x : its.0 ≡ e.plan = one_plan e.plant script e.plan its.0 e.gives.periods its.1 in
+      by e (subst (λ (y : Plan). PeriodsWork other e.plant y Done planned) x its.2)
+      (e.solves later kept budget Done solves keeps answers)
+    where
+      by : (e : IsExpanded bytes script lines) → PeriodsWork other e.plant e.plan Done planned
+          → LongFile later kept file_limit Done solves
+          ⊎ SolveWork budget (expanded e.plant e.plan) Done solves
+          → Certifies bytes script solves planned
+      by e works (inl long) = let d : Done ≡ TooLong = long.0 in cc
+      by e works (inr does) =
+          let proof = solved budget (expanded e.plant e.plan) solves does in
+          record {
+            plant = e.plant;
+            plan = e.plan;
+            claim = proof.claim;
+            gives = e.gives;
+            solve_prints = (proof.tree, proof.text);
+            periods_prints = plans_claim other e.plant e.plan proof.claim proof.tree planned
+                proof.solves works;
+          }

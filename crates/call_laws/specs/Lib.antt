@@ -1,0 +1,13 @@
+pub mod Costs
+pub mod PeriodCalls
+pub mod Periods
+pub mod RangeCalls
+pub mod Ranges
+pub mod EditCalls
+pub mod EditLaws
+pub mod OptimumCalls
+pub mod OptimumLaws
+pub mod TextLaws
+pub mod Parts
+pub mod PartOrders
+pub mod Leaves

@@ -1,0 +1,29 @@
+-- The law of listed structures over calls of `studio` that read one plant.
+use Rattle.std.specs.Prelude.{◌≡◌, ℕ, List, Option}
+use Rattle.problem_rules.specs.Each.{Each}
+use Rattle.edit_rules.specs.Formed.{IsName}
+use Rattle.tree_rules.specs.Claim.{CostOver}
+use Rattle.tree_rules.specs.Costs.{HasFallen}
+use Rattle.studio_rules.specs.Lines.{text_of}
+use Rattle.studio_rules.specs.Command.{Flows, Listing, Solving}
+use Rattle.studio.specs.Calls.{Call, Calls, Puts, Holds}
+use Rattle.call_laws.specs.OptimumLaws.{FlowsTell, SolveTells, Lists}
+
+-- the text has lines that tell the cost
+abbrev pub TextTells : (List (List ℕ) → Option CostOver → Type 0) → List ℕ → Option CostOver
+    → Type 0
+TextTells Tell text v = (lines : List (List ℕ)) × (text ≡ text_of lines) × Tell lines v
+
+-- What a call of `list` puts out has lines, and for the units of each that is one of a structure a
+-- call of `flows` tells a cost that is at least that of a call of `solve`.
+abbrev pub CallsAgree : Type 0
+CallsAgree =
+    (solving listing : Call) (file bytes after : List ℕ) (count budget : ℕ) (solved listed : List ℕ)
+    → Holds solving file bytes → Calls solving (Solving file budget) → Puts solving solved
+    → Holds listing file bytes → Calls listing (Listing file after count) → Puts listing listed
+    → (lines : List (List ℕ)) × (listed ≡ text_of lines)
+    × ((names : List (List ℕ)) → Each IsName names → Lists lines names
+    → (flowing : Call) (flowed : List ℕ)
+    → Holds flowing file bytes → Calls flowing (Flows file names) → Puts flowing flowed
+    → (v w : Option CostOver) × TextTells FlowsTell flowed v × TextTells SolveTells solved w
+    × HasFallen v w)

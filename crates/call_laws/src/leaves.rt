@@ -1,0 +1,16 @@
+//! The open leaves of a search whose budget is spent.
+ghost use Rattle.call_laws.specs.Leaves.{SpentLeavesAreNodes};
+
+use part_laws::open_leaves_stand;
+use pns_rules::valid_is_proper;
+use problem_rules::valid_is_well_formed;
+
+/// `part` from an open leaf, which a call of `split` told of what `solve` printed with status 5,
+/// does not answer `bad node`.
+pub fn spent_leaves_are_nodes()
+    ensures { SpentLeavesAreNodes }
+{
+    open_leaves_stand();
+    valid_is_proper();
+    valid_is_well_formed();
+}
