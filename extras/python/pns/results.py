@@ -1,0 +1,237 @@
+"""What the program answers, as values. Sizes are in the units of the file, costs in its money."""
+from __future__ import annotations
+
+from dataclasses import dataclass, field
+from fractions import Fraction
+from typing import Any, Dict, Iterator, List, Mapping, Optional, Sequence, Tuple
+
+from .plant import Plant
+
+Row = Dict[str, Any]
+
+
+def frame(rows: Sequence[Row], exact: bool = False) -> Any:
+    """The rows as a pandas.DataFrame; needs pandas. Fractions become floats, unless `exact`."""
+    try:
+        import pandas
+    except ImportError:
+        raise ImportError("tables need pandas, which is not here; rows are there without") from None
+    if exact:
+        return pandas.DataFrame(rows)
+    shown = [
+        {key: float(it) if isinstance(it, Fraction) else it for key, it in row.items()}
+        for row in rows
+    ]
+    return pandas.DataFrame(shown)
+
+
+@dataclass(frozen=True)
+class Network:
+    """A network: the size of each of its units, and what it costs in one year."""
+
+    sizes: Mapping[str, Fraction]
+    cost: Fraction
+
+    @property
+    def units(self) -> Tuple[str, ...]:
+        """The names of the units, in the order of the plant."""
+        return tuple(self.sizes)
+
+    def __str__(self) -> str:
+        sizes = ", ".join(f"{name} {size}" for name, size in self.sizes.items())
+        return f"{sizes}: cost {self.cost}"
+
+
+@dataclass(frozen=True)
+class Solution:
+    """What `solve` found: a network of least cost, or None where no network has flows.
+
+    `tree` is the text that proves it; `check` judges it.
+    """
+
+    plant: Plant = field(repr=False)
+    network: Optional[Network]
+    tree: str = field(repr=False)
+
+    @property
+    def infeasible(self) -> bool:
+        """Whether no network meets the bounds."""
+        return self.network is None
+
+    @property
+    def cost(self) -> Optional[Fraction]:
+        """The cost in one year, or None where there is no network."""
+        return None if self.network is None else self.network.cost
+
+    @property
+    def nodes(self) -> int:
+        """How many nodes the tree has."""
+        return sum(line.split(" ", 1)[0] == "node" for line in self.tree.splitlines())
+
+    def unit_rows(self) -> List[Row]:
+        """A row for each unit of the network: its size and what it costs in one year."""
+        rows = []
+        for name, size in self.network.sizes.items() if self.network else ():
+            unit, years = self.plant.units[name], self.plant.payout_period
+            built = (unit.investment_fix_cost + unit.investment_proportional_cost * size) / years
+            run = unit.proportional_cost * size
+            rows.append({
+                "unit": name, "size": size, "capacity": unit.capacity_upper_bound,
+                "fixed": unit.fix_cost, "proportional": run, "investment": built,
+                "total": unit.fix_cost + run + built,
+            })
+        return rows
+
+    def material_rows(self) -> List[Row]:
+        """A row for each material of the network: made, used, left over, and what that costs."""
+        sizes = self.network.sizes if self.network else {}
+        rows = []
+        for name, it in self.plant.materials.items():
+            units = [(self.plant.units[unit], size) for unit, size in sizes.items()]
+            touched = [(u, z) for u, z in units if name in u.inputs or name in u.outputs]
+            made = sum((u.outputs.get(name, Fraction(0)) * z for u, z in touched), Fraction(0))
+            used = sum((u.inputs.get(name, Fraction(0)) * z for u, z in touched), Fraction(0))
+            if touched:
+                rows.append({
+                    "material": name, "kind": it.kind, "made": made, "used": used,
+                    "net": made - used, "price": it.price, "cost": it.price * (used - made),
+                })
+        return rows
+
+    def unit_table(self, exact: bool = False) -> Any:
+        """`unit_rows` as a pandas.DataFrame."""
+        return frame(self.unit_rows(), exact)
+
+    def material_table(self, exact: bool = False) -> Any:
+        """`material_rows` as a pandas.DataFrame."""
+        return frame(self.material_rows(), exact)
+
+
+@dataclass(frozen=True)
+class Verdict:
+    """What `check` says of a tree; true where it is accepted.
+
+    A refusal has its `cause` and its place: `node`, from 0 in preorder, or `network`, from 1 in a
+    ranking, or neither where the claim itself is refused.
+    """
+
+    accepted: bool
+    line: str
+    cause: Optional[str] = None
+    node: Optional[int] = None
+    network: Optional[int] = None
+
+    def __bool__(self) -> bool:
+        return self.accepted
+
+    def __str__(self) -> str:
+        return self.line
+
+
+@dataclass(frozen=True)
+class Ranking:
+    """The best networks, cheapest first. Where there are fewer than `asked`, no others have
+    flows. `text` proves it; `check` judges it."""
+
+    plant: Plant = field(repr=False)
+    asked: int
+    networks: Tuple[Network, ...]
+    text: str = field(repr=False)
+
+    def __iter__(self) -> Iterator[Network]:
+        return iter(self.networks)
+
+    def __len__(self) -> int:
+        return len(self.networks)
+
+    @property
+    def complete(self) -> bool:
+        """Whether these are surely all networks with flows."""
+        return len(self.networks) < self.asked
+
+    def rows(self) -> List[Row]:
+        """A row for each network: its place, its cost, and the size of each unit that some have."""
+        has = {name for it in self.networks for name in it.sizes}
+        names = [name for name in self.plant.units if name in has]
+        return [
+            {"place": k, "cost": it.cost, **{name: it.sizes.get(name) for name in names}}
+            for k, it in enumerate(self.networks, 1)
+        ]
+
+    def table(self, exact: bool = False) -> Any:
+        """`rows` as a pandas.DataFrame."""
+        return frame(self.rows(), exact)
+
+
+@dataclass(frozen=True)
+class Structure:
+    """An allowed solution structure: its units, and the token from which a listing goes on."""
+
+    token: str
+    units: Tuple[str, ...]
+
+
+@dataclass(frozen=True)
+class Listing:
+    """Allowed solution structures in order. `more` is the token from which a later call goes on,
+    or None where no structure follows."""
+
+    structures: Tuple[Structure, ...]
+    more: Optional[str]
+
+    def __iter__(self) -> Iterator[Structure]:
+        return iter(self.structures)
+
+    def __len__(self) -> int:
+        return len(self.structures)
+
+
+@dataclass(frozen=True)
+class Range:
+    """From `low` to `high` the network stays one of least cost, all other numbers as they are.
+
+    One millionth below `low` the network `below` costs less, and one above `high` the network
+    `above`; their costs are those at that value. None stands where a limit of the text ends it.
+    """
+
+    kind: str
+    name: str
+    low: Fraction
+    below: Optional[Network]
+    high: Fraction
+    above: Optional[Network]
+
+
+@dataclass(frozen=True)
+class Period:
+    """The units that run in one period, with their sizes."""
+
+    sizes: Mapping[str, Fraction]
+
+
+@dataclass(frozen=True)
+class Design:
+    """What `periods` found: the capacities of what is built once, and how it runs."""
+
+    plant: Plant = field(repr=False)
+    capacities: Mapping[str, Fraction]
+    cost: Fraction
+    periods: Tuple[Period, ...]
+
+    @property
+    def built(self) -> Tuple[str, ...]:
+        """The names of the units that are built."""
+        return tuple(self.capacities)
+
+    def rows(self) -> List[Row]:
+        """A row for each unit that is built: its capacity, and its size in each period."""
+        return [
+            {"unit": name, "capacity": most, **{
+                f"period {k}": it.sizes.get(name) for k, it in enumerate(self.periods, 1)
+            }}
+            for name, most in self.capacities.items()
+        ]
+
+    def table(self, exact: bool = False) -> Any:
+        """`rows` as a pandas.DataFrame."""
+        return frame(self.rows(), exact)
