@@ -1,12 +1,16 @@
-# `make run` prints a least-cost network of the shipped problem with the tree that proves it, `make try` does so without any proof,
-# `make check` proves and tries everything, `make install PREFIX=DIR` puts the proved program in place as DIR/bin/pns, with its manual page, the documents, the plants and the
-# completions of bash, zsh and fish, and `make uninstall PREFIX=DIR` takes them away.
-# The first build proves the program and all below it, side by side, which takes minutes; what is proved is kept.
+# `make run` prints a least-cost network of the shipped problem with the tree that proves it,
+# `make try` does so without any proof, and `make check` proves and tries everything.
+# `make install PREFIX=DIR` puts the proved program in place as DIR/bin/pns, with its manual page,
+# the documents, the plants, the extras and the completions of bash, zsh and fish;
+# `make uninstall PREFIX=DIR` takes them away. `make dist` packs the same tree as a tar.gz, and
+# `make deb` as a Debian package, both into the folder dist.
+# The first build proves the program and all below it, side by side, which takes minutes; what is
+# proved is kept.
 RT ?= rt
 PREFIX ?= /usr/local
 SOURCES := $(shell find crates -name out -prune -o \( -name '*.rt' -o -name '*.antt' \) -print)
 
-.PHONY: run try check install uninstall
+.PHONY: run try check install uninstall dist deb
 
 run: crates/pns/out/pns
 	cd crates/pns/data && ../out/pns solve a.pns 100
@@ -30,9 +34,12 @@ install: crates/pns/out/pns
 	install -d $(DESTDIR)$(PREFIX)/bin $(SHARE)/man/man1 $(SHARE)/doc/pns/docs $(BASH) $(ZSH) $(FISH)
 	install -m 755 crates/pns/out/pns $(DESTDIR)$(PREFIX)/bin/pns
 	install -m 644 docs/pns.1 $(SHARE)/man/man1/pns.1
-	install -m 644 README.md crates/pns/data/a.pns $(SHARE)/doc/pns
+	install -m 644 README.md CHANGELOG.md LICENSE-MIT LICENSE-APACHE $(SHARE)/doc/pns
+	install -m 644 crates/pns/data/a.pns $(SHARE)/doc/pns
 	install -m 644 $(wildcard docs/*.md) $(SHARE)/doc/pns/docs
-	cp -R cases $(SHARE)/doc/pns
+	cp -R cases extras $(SHARE)/doc/pns
+	rm -rf $(SHARE)/doc/pns/extras/python/build $(SHARE)/doc/pns/extras/python/*.egg-info
+	find $(SHARE)/doc/pns/extras -name __pycache__ -prune -exec rm -rf {} +
 	install -m 644 extras/completions/pns.bash $(BASH)/pns
 	install -m 644 extras/completions/_pns $(ZSH)/_pns
 	install -m 644 extras/completions/pns.fish $(FISH)/pns.fish
@@ -40,3 +47,6 @@ install: crates/pns/out/pns
 uninstall:
 	rm -f $(DESTDIR)$(PREFIX)/bin/pns $(SHARE)/man/man1/pns.1 $(BASH)/pns $(ZSH)/_pns $(FISH)/pns.fish
 	rm -rf $(SHARE)/doc/pns
+
+dist deb: crates/pns/out/pns
+	MAKE='$(MAKE)' tools/package $@
