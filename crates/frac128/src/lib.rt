@@ -6,12 +6,15 @@
 //!
 //! - `fraction`: `Frac`, its sum, product and order.
 //! - `text`: its text, as `5/6` or `-2`.
+//! - `cost`: `CostOver`, a cost over a number of its own.
 //! - `euclid`: the comparison of two fractions by Euclid's steps, for those that are no `Frac` too.
 #![tactic(auto)]
 
+mod cost;
 mod euclid;
 mod fraction;
 mod text;
 
+pub use cost::CostOver;
 pub use euclid::compare_fractions;
 pub use fraction::{Frac, Past};

@@ -7,7 +7,10 @@
 //! judged by a few operations on whole sets: [`Graph::judge`] tells the first axiom that a unit set breaks and the least
 //! place where it does, exactly.
 //!
-//! Modules: `arcs` (arcs from either end), `tables` (what is read of a problem), `graph` (building and reading), `paths`
+//! A [`Site`] is a problem beside its graph: what reads both takes it, and that the graph is the problem's is its invariant.
+//!
+//! Modules: `arcs` (arcs from either end), `tables` (what is read of a problem), `graph` (building and reading), `site`
+//! (a problem beside its graph), `paths`
 //! (the units that lead to a product), `verdict` (the axioms), `exclusions` (clashes and rivals), `options` (makers among
 //! which a node may choose), and the public `laws` (steps, ends and children of a graph's nodes).
 #![tactic(auto)]
@@ -18,7 +21,9 @@ mod graph;
 pub mod laws;
 mod options;
 mod paths;
+mod site;
 mod tables;
 mod verdict;
 
 pub use graph::Graph;
+pub use site::Site;

@@ -95,6 +95,26 @@ impl Problem {
         let _payout = self.parts.payout;
     }
 
+    /// The name of a material by its number; of a number that no material has it is empty.
+    pub fn material_name(&self, x: u32) -> &str
+        ensures { result.now ≡ (material_at self.now x).name }
+    {
+        match self.parts.materials.get(x as usize) {
+            Some(material) => material.name.as_str(),
+            None => "",
+        }
+    }
+
+    /// The name of a unit by its number; of a number that no unit has it is empty.
+    pub fn unit_name(&self, u: u32) -> &str
+        ensures { result.now ≡ (unit_at self.now u).name }
+    {
+        match self.parts.units.get(u as usize) {
+            Some(unit) => unit.name.as_str(),
+            None => "",
+        }
+    }
+
     /// The number of the material of this name; none exactly where no material has it.
     pub fn material_named(&self, name: &str) -> Option<u32>
         ensures { result ≡ position (λ word. bytes_eq word name.now) (material_names self.now.materials) }
