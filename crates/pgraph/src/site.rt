@@ -10,7 +10,7 @@ use std::marker::Model;
 
 /// A problem and its graph, which the same calls read: rates, prices and bounds stand in the problem, and what makes and
 /// uses a material in the graph. Contracts see a site as its problem.
-#[derive(Clone, Copy)]
+#[derive(Drop)]
 pub struct Site<'a> {
     problem: &'a Problem,
     graph: &'a Graph,
