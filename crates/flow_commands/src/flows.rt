@@ -18,7 +18,7 @@ ghost use Rattle.studio_rules.specs.Keeps.{Keeps};
 use branch_tree::{End, Network};
 use command_files::problem_of;
 use endings::say::{say_memory, say_printed};
-use pgraph::Graph;
+use pgraph::{Graph, Site};
 use pns_io::{Shelf, Sink};
 use pns_problem::Problem;
 use pns_rules::{Axiom, Verdict};
@@ -97,20 +97,13 @@ fn say_answer<K: Sink>(
     }
 }
 
-fn say_structure<K: Sink>(
-    alloc: Global,
-    out: &mut K,
-    problem: &Problem,
-    graph: &Graph,
-    set: UnitSet,
-) -> Status
-    requires graph { shape graph.now ≡ shape_of problem.now }
-    requires known { AreUnits problem.now set }
-    requires structure { IsStructure (shape_of problem.now) (has set) }
-    ensures { Ends (Tells (FlowsSay problem.now set)) (K.state out.old) (K.state out.new) result }
+fn say_structure<K: Sink>(alloc: Global, out: &mut K, site: &Site<'_>, set: UnitSet) -> Status
+    requires known { AreUnits site.now set }
+    requires structure { IsStructure (shape_of site.now) (has set) }
+    ensures { Ends (Tells (FlowsSay site.now set)) (K.state out.old) (K.state out.new) result }
 {
-    match flows_of(alloc, problem, graph, set) {
-        Ok(answer) => say_answer(alloc, out, problem, set, answer),
+    match flows_of(alloc, site, set) {
+        Ok(answer) => say_answer(alloc, out, site.problem(), set, answer),
         Err(_) => say_memory(out),
     }
 }
@@ -126,7 +119,7 @@ fn say_known<K: Sink>(alloc: Global, out: &mut K, problem: &Problem, units: &Uni
     let set = units_named(problem, units);
     set.rises();
     match graph.judge(set) {
-        Verdict::Meets => say_structure(alloc, out, problem, &graph, set),
+        Verdict::Meets => say_structure(alloc, out, &Site::of(problem, &graph), set),
         verdict => say_verdict(alloc, out, problem, verdict),
     }
 }

@@ -1,27 +1,18 @@
 //! The node at which a run begins.
 ghost use Rattle.std.specs.Prelude.{◌≡◌, ℕ, List, IfSome, IfNone};
-ghost use Rattle.pns_rules.specs.Shape.{shape_of};
-ghost use Rattle.pgraph.specs.Tables.{shape};
 ghost use Rattle.studio_rules.specs.Start.{IsStart};
 
 use part_text::units_named;
-use pgraph::Graph;
-use pns_problem::Problem;
+use pgraph::Site;
 use tree_parts::is_sound;
 use unit_sets::Node;
 
 /// The sound node that the words name; none exactly where they name none.
-pub(crate) fn start_of(
-    problem: &Problem,
-    graph: &Graph,
-    inside: &str,
-    outside: &str,
-) -> Option<Node>
-    requires { shape graph.now ≡ shape_of problem.now }
-    ensures some { IfSome result (λ start. IsStart problem.now inside.now outside.now start.inside start.outside) }
-    ensures none { IfNone result ((ins outs : List ℕ) → IsStart problem.now inside.now outside.now ins outs → ⊥) }
+pub(crate) fn start_of(site: &Site<'_>, inside: &str, outside: &str) -> Option<Node>
+    ensures some { IfSome result (λ start. IsStart site.now inside.now outside.now start.inside start.outside) }
+    ensures none { IfNone result ((ins outs : List ℕ) → IsStart site.now inside.now outside.now ins outs → ⊥) }
 {
-    problem.is_valid();
+    let problem = site.problem();
     let Some(taken) = units_named(problem, inside) else {
         return None;
     };
@@ -32,7 +23,7 @@ pub(crate) fn start_of(
         inside: taken,
         outside: left,
     };
-    if is_sound(graph, start) {
+    if is_sound(site.graph(), start) {
         Some(Node {
             inside: taken,
             outside: left,

@@ -1,7 +1,5 @@
 //! The range.
 ghost use Rattle.std.specs.Prelude.{◌≡◌, ◌≤◌, IfOk, IfErr};
-ghost use Rattle.pns_rules.specs.Shape.{shape_of};
-ghost use Rattle.pgraph.specs.Tables.{shape};
 ghost use Rattle.tree_rules.specs.Claim.{IsFeasible};
 ghost use Rattle.stability_rules.specs.Spot.{KnowsSpot, value_at};
 ghost use Rattle.stability_rules.specs.Range.{IsBestAt, IsRange};
@@ -12,8 +10,7 @@ use crate::case::Case;
 use crate::desk::Desk;
 use crate::outcome::{Range, RangeFault};
 use branch_tree::Network;
-use pgraph::Graph;
-use pns_problem::Problem;
+use pgraph::Site;
 use stability_laws::{best_between, present_stays};
 use stability_rules::{Side, Spot};
 use std::alloc::Global;
@@ -55,27 +52,24 @@ impl<'a> Case<'a> {
 }
 
 /// The largest interval of allowed values of the spot, round the present one, at which the network with its flows is optimal among
-/// the allowed ones: prices and proportional costs from -10^15 to 10^15 millionths, fixed costs from 0. The graph is that of the
-/// problem, and the network passes as a claim. Each search has the whole budget of nodes. `NotBest` comes with a network of least cost
+/// the allowed ones: prices and proportional costs from -10^15 to 10^15 millionths, fixed costs from 0. The network passes as a claim. Each search has the whole budget of nodes. `NotBest` comes with a network of least cost
 /// that is cheaper now; `Spent` and `Past` as a search stops at their value, which is the present one or far away, and `PastCost`
 /// where the network's cost is past the range at a value far away. At a value far away the network is known to be optimal half the
 /// way there.
 pub fn range(
     alloc: Global,
-    problem: &Problem,
-    graph: &Graph,
+    site: &Site<'_>,
     network: &Network,
     spot: Spot,
     budget: u32,
 ) -> Result<Range, RangeFault>
-    requires graph { shape graph.now ≡ shape_of problem.now }
-    requires passes { IsFeasible problem.now network.now }
-    requires known { KnowsSpot problem.now spot }
+    requires passes { IsFeasible site.now network.now }
+    requires known { KnowsSpot site.now spot }
     requires some { 1 ≤ budget }
-    ensures range { IfOk result (λ r. IsRange problem.now spot network.now r.from r.to r.below r.above) }
-    ensures refusal { IfErr result (IsRefusal problem.now spot network.now budget) }
+    ensures range { IfOk result (λ r. IsRange site.now spot network.now r.from r.to r.below r.above) }
+    ensures refusal { IfErr result (IsRefusal site.now spot network.now budget) }
 {
-    let case = Case::of(alloc, problem, graph, network, spot, budget);
+    let case = Case::of(alloc, site, network, spot, budget);
     let Ok(mut desk) = Desk::of(&case) else {
         return Err(RangeFault::Memory);
     };

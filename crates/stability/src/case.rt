@@ -8,7 +8,7 @@ ghost use Rattle.stability_rules.specs.Spot.{KnowsSpot, value_at, IsAllowedValue
 
 use crate::setting::value_at;
 use branch_tree::Network;
-use pgraph::Graph;
+use pgraph::{Graph, Site};
 use pns_problem::Problem;
 use stability_laws::present_stays;
 use stability_rules::{Side, Spot};
@@ -58,25 +58,23 @@ fn greatest_value() -> i64
 impl<'a> Case<'a> {
     pub(crate) fn of(
         alloc: Global,
-        problem: &'a Problem,
-        graph: &'a Graph,
+        site: &Site<'a>,
         network: &'a Network,
         spot: Spot,
         budget: u32,
     ) -> Case<'a>
-        requires graph { shape graph.now ≡ shape_of problem.now }
-        requires passes { IsFeasible problem.now network.now }
-        requires known { KnowsSpot problem.now spot }
+        requires passes { IsFeasible site.now network.now }
+        requires known { KnowsSpot site.now spot }
         requires some { 1 ≤ budget }
-        ensures { result ≡ record { problem = problem.now; network = network.now; spot = spot; budget = budget } }
+        ensures { result ≡ record { problem = site.now; network = network.now; spot = spot; budget = budget } }
     {
-        problem.is_valid();
+        let problem = site.problem();
         present_stays();
         let present = value_at(problem, spot);
         Case {
             alloc,
             problem,
-            graph,
+            graph: site.graph(),
             network,
             spot,
             present,

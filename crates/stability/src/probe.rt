@@ -14,7 +14,7 @@ use crate::desk::Desk;
 use crate::outcome::RangeFault;
 use abb_search::Found;
 use branch_tree::Network;
-use cert_parts::{CostOver, is_reached};
+use frac128::CostOver;
 use pns_problem::Problem;
 use stability_laws::{present_stays, structures_stay};
 use stability_rules::Side;
@@ -26,7 +26,7 @@ fn is_cheaper(much: &CostOver, network: &Network) -> bool
     ensures { IsTrue result ↔ ((network.now.cost *ℤ much.now.d) <ℤ (much.now.cost *ℤ network.now.d)) }
 {
     network.is_sized();
-    !is_reached(much, network.cost(), network.d())
+    !much.is_reached(network.cost(), network.d())
 }
 
 impl<'a> Case<'a> {

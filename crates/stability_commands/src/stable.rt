@@ -25,7 +25,7 @@ use branch_tree::{Claim, Network, Tree};
 use command_files::{problem_of, tree_of};
 use endings::say::{say, say_memory, say_printed};
 use network_commands::network_of;
-use pgraph::Graph;
+use pgraph::{Graph, Site};
 use pns_io::{Shelf, Sink};
 use pns_problem::Problem;
 use searches::certificate_of;
@@ -163,21 +163,20 @@ fn say_refusal<K: Sink>(
 fn say_range<K: Sink>(
     alloc: Global,
     out: &mut K,
-    problem: &Problem,
-    graph: &Graph,
+    site: &Site<'_>,
     network: &Network,
     spot: Spot,
     budget: u64,
 ) -> Status
-    requires graph { shape graph.now ≡ shape_of problem.now }
-    requires passes { IsFeasible problem.now network.now }
-    requires known { KnowsSpot problem.now spot }
+    requires passes { IsFeasible site.now network.now }
+    requires known { KnowsSpot site.now spot }
     requires some { 1 ≤ budget }
     requires few { budget ≤ 1000000 }
-    ensures { Ends (Tells (SpotWork spot budget problem.now network.now)) (K.state out.old) (K.state out.new) result }
+    ensures { Ends (Tells (SpotWork spot budget site.now network.now)) (K.state out.old) (K.state out.new) result }
 {
+    let problem = site.problem();
     structures_stay();
-    match range(alloc, problem, graph, network, spot, budget as u32) {
+    match range(alloc, site, network, spot, budget as u32) {
         Ok(range) => {
             let printed = print_range(alloc, problem, &range, out);
             say_printed(out, printed, Status::Done)
@@ -204,8 +203,9 @@ fn say_claimed<K: Sink>(
     let Ok(graph) = Graph::of(alloc, problem) else {
         return say_memory(out);
     };
-    match network_of(alloc, out, problem, &graph, claim) {
-        Ok(network) => say_range(alloc, out, problem, &graph, &network, spot, budget),
+    let site = Site::of(problem, &graph);
+    match network_of(alloc, out, &site, claim) {
+        Ok(network) => say_range(alloc, out, &site, &network, spot, budget),
         Err(status) => status,
     }
 }
