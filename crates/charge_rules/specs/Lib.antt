@@ -1,0 +1,5 @@
+pub mod Charge
+pub mod ChargeSteps
+pub mod Cover
+pub mod Facts
+pub mod Laws
