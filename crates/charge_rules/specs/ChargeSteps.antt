@@ -9,13 +9,18 @@ use Rattle.flow_rules.specs.Net.{Net, trillion, size_cost}
 use Rattle.flow_rules.specs.Relaxed.{units, rows, row_part}
 use Rattle.flow_rules.specs.BoundSteps.{rows_steps, rows_at, reduced_steps}
 use Rattle.charge_rules.specs.Facts.{Facts}
-use Rattle.charge_rules.specs.Cover.{Cover, paid_by, paid, weights}
+use Rattle.charge_rules.specs.Cover.{Cover, added, paid_by, paid, weights}
 use Rattle.charge_rules.specs.Charge.{Knee, Owed, knees, counted, bend, bent, owed, owed_bent, least_owed, unit_charge, unit_part}
 
--- the sum with each weight
+-- the sum with each weight that is added
+abbrev pub added_steps : Option ℕ → ℤ → ℤ → List ℤ
+added_steps None weight sum = (sum +ℤ weight) ∷ []
+added_steps (Some u) weight sum = []
+
 abbrev pub weight_steps : List Cover → ℤ → List ℤ
 weight_steps [] sum = []
-weight_steps (c ∷ cs) sum = (sum +ℤ c.weight) ∷ weight_steps cs (sum +ℤ c.weight)
+weight_steps (c ∷ cs) sum =
+    added_steps c.beside c.weight sum ++ weight_steps cs (sum +ℤ added c.beside c.weight)
 
 -- what each unit of a set is paid with this set's weight, and what the unit beside it is then
 abbrev pub beside_steps : (ℕ → ℤ) → ℤ → Option ℕ → List ℤ

@@ -47,5 +47,11 @@ paid_by c i = cond (has c.units i) c.weight (pos 0) -ℤ cond (is_beside c.besid
 abbrev pub paid : List Cover → ℕ → ℤ
 paid cs i = total (λ c. paid_by c i) cs
 
+-- what a set adds to the charge: its weight where it speaks of each structure, and nothing where it
+-- stands beside a unit, which pays for it
+abbrev pub added : Option ℕ → ℤ → ℤ
+added None weight = weight
+added (Some u) weight = pos 0
+
 abbrev pub weights : List Cover → ℤ
-weights cs = total (λ c. c.weight) cs
+weights cs = total (λ c. added c.beside c.weight) cs
