@@ -1,0 +1,7 @@
+pub mod ChargeLemmas
+pub mod CoverLemmas
+pub mod DualityLemmas
+pub mod KneeLemmas
+pub mod RowLemmas
+pub mod UsefulLemmas
+mod Worked

@@ -10,7 +10,7 @@ use Rattle.flow_rules.specs.Relaxed.{units, rows, row_part}
 use Rattle.flow_rules.specs.BoundSteps.{rows_steps, rows_at, reduced_steps}
 use Rattle.charge_rules.specs.Facts.{Facts}
 use Rattle.charge_rules.specs.Cover.{Cover, added, paid_by, paid, weights}
-use Rattle.charge_rules.specs.Charge.{Knee, Owed, knees, counted, bend, bent, owed, owed_bent, least_owed, unit_charge, unit_part}
+use Rattle.charge_rules.specs.Charge.{Knee, Owed, knees, counted, bend, owed, owed_bent, least_owed, unit_charge, unit_part}
 
 -- the sum with each weight that is added
 abbrev pub added_steps : Option ℕ → ℤ → ℤ → List ℤ
