@@ -11,7 +11,8 @@ use Rattle.charge_rules.proofs.ChargeLemmas.{charge_least}
 
 pub charge_duality : ChargeDuality
 charge_duality p valid n s between f facts z d flows fit covers are scale nonneg y =
-    charge_least (net_of p) (net_of_valid p valid) n s between f facts z d flows fit covers are scale y
+    charge_least (net_of p) (net_of_valid p valid) n s between f facts z d flows fit covers are
+    scale y
 
 too_large : (d b c : ℤ) → pos 1 ≤ℤ d → pos 0 <ℤ b → (d *ℤ b) ≤ℤ (pos 0 *ℤ c) → ⊥
 too_large d b c p q h =
@@ -20,8 +21,10 @@ too_large d b c p q h =
 
 pub charge_refutes : ChargeRefutes
 charge_refutes p valid n s between f facts covers are y above z d flows fit =
-    too_large d (charge (net_of p) n f (pos 0) y covers) (cost (net_of p) s z d) flows.positive above
-    (charge_least (net_of p) (net_of_valid p valid) n s between f facts z d flows fit covers are (pos 0) y)
+    too_large d (charge (net_of p) n f (pos 0) y covers)
+    (cost (net_of p) s z d) flows.positive above
+    (charge_least (net_of p) (net_of_valid p valid) n s between f facts z d flows fit covers are
+    (pos 0) y)
 
 pub own_facts_hold : OwnFactsHold
 own_facts_hold p valid = record {

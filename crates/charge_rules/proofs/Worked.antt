@@ -1,26 +1,29 @@
--- A worked problem. A costs 2 and B 3. U1 makes C of A with a fixed cost of 10, and 1 for each unit of size; U2
--- makes C of B with a fixed cost of 1, and 1 for each unit of size; U3 makes C of A with a fixed cost of 20. Each of
--- them has a size of at most 100. U4 makes the product P of C with a fixed cost of 5 and a size of at most 150. 20 of
--- P are wanted.
+-- A worked problem. A costs 2 and B 3. U1 makes C of A with a fixed cost of 10, and 1 for each unit
+-- of size; U2 makes C of B with a fixed cost of 1, and 1 for each unit of size; U3 makes C of A
+-- with a fixed cost of 20. Each of them has a size of at most 100. U4 makes the product P of C with
+-- a fixed cost of 5 and a size of at most 150. 20 of P are wanted.
 --
--- U4 is taken in, and no more than 20 of C are used. So a size of U1, U2 or U3 above 20 makes nothing that is worth
--- anything.
+-- U4 is taken in, and no more than 20 of C are used. So a size of U1, U2 or U3 above 20 makes
+-- nothing that is worth anything.
 --
--- First charge: C and P at 3. The row of P gives 3 * 20 = 60, and U4 owes its 5. A size of U1 costs 3 and earns 3, so
--- U1 owes 10 or is left out: nothing. U2 owes 1 or nothing. A size of U3 costs 2 and earns 3, up to 20 at most: 20 - 20
--- * 1 = 0. Together 65, the least cost: U3 and U4 at size 20 cost 40 + 20 + 5. Without the knee U3 would owe 20 - 100.
+-- First charge: C and P at 3. The row of P gives 3 * 20 = 60, and U4 owes its 5. A size of U1 costs
+-- 3 and earns 3, so U1 owes 10 or is left out: nothing. U2 owes 1 or nothing. A size of U3 costs 2
+-- and earns 3, up to 20 at most: 20 - 20 * 1 = 0. Together 65, the least cost: U3 and U4 at size 20
+-- cost 40 + 20 + 5. Without the knee U3 would owe 20 - 100.
 --
--- Second charge: U2 is left out, C and P are at 5/2, and U1 and U3 are a set with the weight 10. The row of P gives 50,
--- the set 10, and U4 owes 5. U1 is paid 10 and owes 10 - 10 = 0. A size of U3 costs 1/2 less than it earns, up to 20:
--- U3 owes 20 - 10 - 20 / 2 = 0. Together 65 again; without the set 55.
+-- Second charge: U2 is left out, C and P are at 5/2, and U1 and U3 are a set with the weight 10.
+-- The row of P gives 50, the set 10, and U4 owes 5. U1 is paid 10 and owes 10 - 10 = 0. A size of
+-- U3 costs 1/2 less than it earns, up to 20: U3 owes 20 - 10 - 20 / 2 = 0. Together 65 again;
+-- without the set 55.
 --
--- Third charge: nothing is taken in, and C and P are at 4. The row of P gives 80. U1 owes 10 - 20 * (4 - 3) = -10, U2
--- owes 1 or nothing, and U3 owes 20 - 20 * (4 - 2) = -20. U4 owes 5 or nothing. Together 50. Each structure that has
--- U3 has U4: a set of U4 beside U3, of the weight 5, pays all that U4 owes, and U3 pays it: it owes -15. Together 55.
+-- Third charge: nothing is taken in, and C and P are at 4. The row of P gives 80. U1 owes 10 - 20 *
+-- (4 - 3) = -10, U2 owes 1 or nothing, and U3 owes 20 - 20 * (4 - 2) = -20. U4 owes 5 or nothing.
+-- Together 50. Each structure that has U3 has U4: a set of U4 beside U3, of the weight 5, pays all
+-- that U4 owes, and U3 pays it: it owes -15. Together 55.
 use Rattle.std.proofs.Common.{◌≡◌, ℕ, ◌==◌, pos, negsuc, ℤ, List, [], ◌∷◌, refl, cond, length}
-use Rattle.std.specs.Prelude.{Some, None}
+use Rattle.std.specs.Prelude.{Option, Some, None}
 use Rattle.number_sets.specs.Sets.{has, listed}
-use Rattle.problem_rules.specs.Problem.{Problem, Term, raw_material, intermediate, product}
+use Rattle.problem_rules.specs.Problem.{Problem, Material, Kind, Term, raw_material, intermediate, product}
 use Rattle.pns_rules.specs.Nodes.{Node}
 use Rattle.flow_rules.specs.Net.{net_of, beside}
 use Rattle.flow_rules.specs.Flows.{cost}
@@ -34,12 +37,16 @@ use Rattle.charge_rules.specs.ChargeSteps.{charge_steps}
 abbrev term_of : ℕ → List Term
 term_of x = record { material = x; rate = pos 1000000 } ∷ []
 
+abbrev material : ℕ → Kind → ℤ → ℤ → ℤ → Material
+material letter kind price lower upper =
+    record { name = letter ∷ []; kind = kind; price = price; lower = lower; upper = upper }
+
 abbrev plant : Problem
 plant = record {
-  materials = record { name = 65 ∷ []; kind = raw_material; price = pos 2000000; lower = pos 0; upper = pos 1000000000000000 }
-      ∷ record { name = 66 ∷ []; kind = raw_material; price = pos 3000000; lower = pos 0; upper = pos 1000000000000000 }
-      ∷ record { name = 67 ∷ []; kind = intermediate; price = pos 0; lower = pos 0; upper = pos 1000000000000000 }
-      ∷ record { name = 80 ∷ []; kind = product; price = pos 0; lower = pos 20000000; upper = pos 20000000 }
+  materials = material 65 raw_material (pos 2000000) (pos 0) (pos 1000000000000000)
+      ∷ material 66 raw_material (pos 3000000) (pos 0) (pos 1000000000000000)
+      ∷ material 67 intermediate (pos 0) (pos 0) (pos 1000000000000000)
+      ∷ material 80 product (pos 0) (pos 20000000) (pos 20000000)
       ∷ [];
   units = record {
     name = 85 ∷ 49 ∷ [];
@@ -91,14 +98,18 @@ plant = record {
 }
 
 -- no more than 20 of C are used
+abbrev used_of : ℕ → Option ℤ
+used_of j = cond (j == 2) (Some (pos 20000000)) None
+
 abbrev facts : Facts
-facts = record { least = (net_of plant).least; most = (net_of plant).most; used = λ j. cond (j == 2) (Some (pos 20000000)) None }
+facts = record { least = (net_of plant).least; most = (net_of plant).most; used = used_of }
 
 -- one number for C and P, none for A and B
 abbrev at_price : ℤ → ℕ → ℤ
 at_price y = beside (2 ∷ 3 ∷ []) (y ∷ y ∷ [])
 
-least_cost : cost (net_of plant) (has (2 ∷ 3 ∷ [])) (beside (2 ∷ 3 ∷ []) (pos 20000000 ∷ pos 20000000 ∷ [])) (pos 1) ≡ pos 65000000000000000000
+least_cost : cost (net_of plant) (has (2 ∷ 3 ∷ []))
+    (beside (2 ∷ 3 ∷ []) (pos 20000000 ∷ pos 20000000 ∷ [])) (pos 1) ≡ pos 65000000000000000000
 unfolding listed
 least_cost = refl
 
@@ -108,26 +119,32 @@ abbrev node : Node
 node = record { inside = has (3 ∷ []); outside = has [] }
 
 -- U3 has one knee, at the size 20, and each unit of size below it is worth 3
-its_knee : knees (net_of plant) node facts (at_price (pos 3000000)) 2 ≡ record { at = pos 20000000; worth = pos 3000000000000 } ∷ []
+its_knee : knees (net_of plant) node facts (at_price (pos 3000000)) 2
+    ≡ record { at = pos 20000000; worth = pos 3000000000000 } ∷ []
 unfolding listed
 its_knee = refl
 
 -- nothing is left to pay for its size, and nothing besides
-its_rest : owed_bent (net_of plant) node facts (pos 1) (at_price (pos 3000000)) [] 2 ≡ record { each = pos 0; once = pos 0 }
+its_rest : owed_bent (net_of plant) node facts (pos 1) (at_price (pos 3000000)) [] 2
+    ≡ record { each = pos 0; once = pos 0 }
 unfolding listed
 its_rest = refl
 
-its_charge : charge (net_of plant) node facts (pos 1) (at_price (pos 3000000)) [] ≡ pos 65000000000000000000
+its_charge : charge (net_of plant) node facts (pos 1) (at_price (pos 3000000)) []
+    ≡ pos 65000000000000000000
 unfolding listed
 its_charge = refl
 
 -- a price that is lower by a millionth
-less_charge : charge (net_of plant) node facts (pos 1) (at_price (pos 2999999)) [] ≡ pos 64999980000000000000
+less_charge : charge (net_of plant) node facts (pos 1) (at_price (pos 2999999)) []
+    ≡ pos 64999980000000000000
 unfolding listed
 less_charge = refl
 
--- with the problem's own numbers up to 150 of C may be used, and U3 makes at most 100: 65 + 20 - 100
-own_charge : charge (net_of plant) node (own_facts (net_of plant)) (pos 1) (at_price (pos 3000000)) [] ≡ negsuc 14999999999999999999
+-- with the problem's own numbers up to 150 of C may be used, and U3 makes at most 100: 65 + 20 -
+-- 100
+own_charge : charge (net_of plant) node (own_facts (net_of plant)) (pos 1)
+    (at_price (pos 3000000)) [] ≡ negsuc 14999999999999999999
 unfolding listed
 own_charge = refl
 
@@ -139,11 +156,13 @@ smaller = record { inside = has (3 ∷ []); outside = has (1 ∷ []) }
 abbrev set : Cover
 set = record { weight = pos 10000000000000000000; beside = None; units = 0 ∷ 2 ∷ [] }
 
-without_set : charge (net_of plant) smaller facts (pos 1) (at_price (pos 2500000)) [] ≡ pos 55000000000000000000
+without_set : charge (net_of plant) smaller facts (pos 1) (at_price (pos 2500000)) []
+    ≡ pos 55000000000000000000
 unfolding listed
 without_set = refl
 
-with_set : charge (net_of plant) smaller facts (pos 1) (at_price (pos 2500000)) (set ∷ []) ≡ pos 65000000000000000000
+with_set : charge (net_of plant) smaller facts (pos 1) (at_price (pos 2500000)) (set ∷ [])
+    ≡ pos 65000000000000000000
 unfolding listed
 with_set = refl
 
@@ -154,13 +173,16 @@ paid_parts : unit_part (net_of plant) smaller facts (pos 1) (at_price (pos 25000
 unfolding listed
 paid_parts = refl
 
--- its steps: two for each row, one for the weight, one for each unit of the set, and for each unit three, two for each of
--- its rates, three for a knee that counts, two for its sizes, and one more for U4, which is taken in
-its_steps : length (charge_steps (net_of plant) smaller facts (pos 1) (at_price (pos 2500000)) (set ∷ [])) ≡ 40
+-- its steps: two for each row, one for the weight, one for each unit of the set, and for each unit
+-- three, two for each of its rates, three for a knee that counts, two for its sizes, and one more
+-- for U4, which is taken in
+its_steps : length (charge_steps (net_of plant) smaller facts (pos 1) (at_price (pos 2500000))
+    (set ∷ [])) ≡ 40
 unfolding listed
 its_steps = refl
 
-its_last : last_from (pos 0) (charge_steps (net_of plant) smaller facts (pos 1) (at_price (pos 2500000)) (set ∷ [])) ≡ pos 65000000000000000000
+its_last : last_from (pos 0) (charge_steps (net_of plant) smaller facts (pos 1)
+    (at_price (pos 2500000)) (set ∷ [])) ≡ pos 65000000000000000000
 unfolding listed
 its_last = refl
 
@@ -172,16 +194,19 @@ root = record { inside = has []; outside = has [] }
 abbrev beside_unit : Cover
 beside_unit = record { weight = pos 5000000000000000000; beside = Some 2; units = 3 ∷ [] }
 
-at_root : charge (net_of plant) root facts (pos 1) (at_price (pos 4000000)) [] ≡ pos 50000000000000000000
+at_root : charge (net_of plant) root facts (pos 1) (at_price (pos 4000000)) []
+    ≡ pos 50000000000000000000
 unfolding listed
 at_root = refl
 
-at_root_beside : charge (net_of plant) root facts (pos 1) (at_price (pos 4000000)) (beside_unit ∷ []) ≡ pos 55000000000000000000
+at_root_beside : charge (net_of plant) root facts (pos 1) (at_price (pos 4000000))
+    (beside_unit ∷ []) ≡ pos 55000000000000000000
 unfolding listed
 at_root_beside = refl
 
--- two steps for each of four rows, what U4 is paid and what U3 is then, nine for each unit, and four more for U1 and for
--- U3: a knee that counts, and the sum with what the unit owes
-its_steps_beside : length (charge_steps (net_of plant) root facts (pos 1) (at_price (pos 4000000)) (beside_unit ∷ [])) ≡ 54
+-- two steps for each of four rows, what U4 is paid and what U3 is then, nine for each unit, and
+-- four more for U1 and for U3: a knee that counts, and the sum with what the unit owes
+its_steps_beside : length (charge_steps (net_of plant) root facts (pos 1) (at_price (pos 4000000))
+    (beside_unit ∷ [])) ≡ 54
 unfolding listed
 its_steps_beside = refl
