@@ -1,5 +1,5 @@
--- The steps of a charge, whose last is the charge: the rows, the weights of the covers, what these
--- pay, and then the units of the program, in rising order.
+-- The steps of a charge: the rows, the weights of the covers, what these pay, and then the units of
+-- the program, in rising order. A sum is formed for each row, weight and unit that adds something.
 use Rattle.std.specs.Prelude.{ℕ, ℤ, pos, ◌+ℤ◌, ◌-ℤ◌, ◌*ℤ◌, int_lt, Bool, cond, List, [], ◌∷◌, ◌++◌, map, Option, Some, None}
 use Rattle.std.specs.Ordering.{int_eq}
 use Rattle.std.specs.Int.{int_min}
