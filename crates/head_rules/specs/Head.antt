@@ -1,0 +1,81 @@
+-- The lines at the head of a branch tree: steps, and facts that are found before the first branch.
+-- Each is judged by what is known where it stands.
+use Rattle.std.specs.Prelude.{◌≡◌, ℕ, ◌<◌, ◌==◌, ℤ, ◌≤ℤ◌, Bool, false, cond, ◌||◌, List, [], ◌∷◌, Option}
+use Rattle.problem_rules.specs.Problem.{Problem}
+use Rattle.pns_rules.specs.Shape.{shape_of}
+use Rattle.pns_rules.specs.Nodes.{Node, Step, IsPossible, after}
+use Rattle.flow_rules.specs.Net.{net_of}
+use Rattle.charge_rules.specs.Facts.{Facts, own_facts}
+use Rattle.charge_rules.specs.Cover.{Cover, IsFree}
+use Rattle.tree_rules.specs.Claim.{CostOver}
+use Rattle.head_rules.specs.Charged.{IsCharged}
+use Rattle.head_rules.specs.Trim.{trimmed_size, MayTrim}
+
+-- a step of the node; a unit with the greatest size that it may have; a unit that is left out; and a
+-- unit whose greatest size is cut to what can be of use
+pub data HeadLine : Type 0 where
+  step : Step → HeadLine
+  cap : ℕ → ℤ → ℤ → List ℤ → List Cover → HeadLine
+  out : ℕ → ℤ → List ℤ → List Cover → HeadLine
+  trim : ℕ → HeadLine
+
+-- what is known where a line stands
+pub record Known : Type 0 where
+  pub node : Node
+  pub facts : Facts
+
+-- before the first line, nothing but the problem's own numbers
+abbrev pub known_first : Problem → Node → Known
+known_first p start = record { node = start; facts = own_facts (net_of p) }
+
+abbrev pub with_in : Node → ℕ → Node
+with_in n u = record { inside = λ v. (u == v) || n.inside v; outside = n.outside }
+
+abbrev pub with_out : Node → ℕ → Node
+with_out n u = record { inside = n.inside; outside = λ v. (u == v) || n.outside v }
+
+abbrev pub with_least : Facts → ℕ → ℤ → Facts
+with_least f u v = record { least = λ i. cond (u == i) v (f.least i); most = f.most; used = f.used }
+
+abbrev pub with_most : Facts → ℕ → ℤ → Facts
+with_most f u v = record { least = f.least; most = λ i. cond (u == i) v (f.most i); used = f.used }
+
+-- ---- what is known behind a line
+
+abbrev pub after_line : Problem → Known → HeadLine → Known
+after_line p k (step s) = record { node = after (shape_of p) k.node s; facts = k.facts }
+after_line p k (cap u v d ys covers) = record { node = k.node; facts = with_most k.facts u v }
+after_line p k (out u d ys covers) = record { node = with_out k.node u; facts = k.facts }
+after_line p k (trim u) =
+    record { node = k.node; facts = with_most k.facts u (trimmed_size (net_of p) k.node k.facts u) }
+
+abbrev pub after_lines : Problem → Known → List HeadLine → Known
+after_lines p k [] = k
+after_lines p k (line ∷ lines) = after_lines p (after_line p k line) lines
+
+-- ---- which lines pass
+
+-- the unit may be there, v is within its sizes, and the node with the unit taken in, at a size of v or
+-- more, is charged what is claimed
+pub record MayCap (p : Problem) (claimed : Option CostOver) (k : Known) (u : ℕ) (v d : ℤ) (ys : List ℤ) (covers : List Cover) : Type 0 where
+  pub known : u < (net_of p).graph.units
+  pub not_outside : k.node.outside u ≡ false
+  pub at_least : (net_of p).least u ≤ℤ v
+  pub at_most : v ≤ℤ k.facts.most u
+  pub charged : IsCharged p claimed (with_in k.node u) (with_least k.facts u v) d ys covers
+
+-- the unit is free, and the node with the unit taken in is charged what is claimed
+pub record MayLeave (p : Problem) (claimed : Option CostOver) (k : Known) (u : ℕ) (d : ℤ) (ys : List ℤ) (covers : List Cover) : Type 0 where
+  pub free : IsFree (shape_of p) k.node u
+  pub charged : IsCharged p claimed (with_in k.node u) k.facts d ys covers
+
+abbrev pub LinePasses : Problem → Option CostOver → Known → HeadLine → Type 0
+LinePasses p claimed k (step s) = IsPossible (shape_of p) k.node s
+LinePasses p claimed k (cap u v d ys covers) = MayCap p claimed k u v d ys covers
+LinePasses p claimed k (out u d ys covers) = MayLeave p claimed k u d ys covers
+LinePasses p claimed k (trim u) = MayTrim (net_of p) k.node k.facts u
+
+abbrev pub LinesPass : Problem → Option CostOver → Known → List HeadLine → Type 0
+LinesPass p claimed k [] = Unit {0}
+LinesPass p claimed k (line ∷ lines) =
+    LinePasses p claimed k line × LinesPass p claimed (after_line p k line) lines

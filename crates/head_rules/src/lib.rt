@@ -1,0 +1,21 @@
+//! The lines at the head of a branch tree: facts that are found before the first branch, which of them pass, and the laws
+//! that make them safe.
+//!
+//! A line takes units in or leaves them out, or bounds the size of a unit. It passes by what is known where it stands, and by
+//! the cost that is claimed: what it cuts off has no flows that cost less. The definitions are in `specs/`: `Charged` (nodes
+//! whose charge reaches the claim), `Trim` (units of which no more than so much can be of use), `Head` (the lines), `Keeps`
+//! (what is not lost) and `Laws`. Each law is the contract of a function without a body.
+#![tactic(auto)]
+
+ghost use Rattle.head_rules.specs.Laws.{ChargedIsEmpty, CheaperIsCharged, CheaperPasses, HeadKeeps, HeadHasFacts, HeadKeepsLeast};
+
+/// A node that is charged what is claimed has no structure with flows that fit its facts and cost less.
+pub fn charged_is_empty()
+    ensures { ChargedIsEmpty }
+{}
+
+/// What passes for a claim passes for each that costs no more.
+pub fn cheaper_passes()
+    ensures charged { CheaperIsCharged }
+    ensures lines { CheaperPasses }
+{}
