@@ -1,23 +1,21 @@
 -- A node that is charged what is claimed has no cheaper flows, and is charged what costs less.
-use Rattle.std.proofs.Common.{◌≡◌, ℕ, inl, inr, sym, subst, arith, pos, ℤ, ◌*ℤ◌, ◌≤ℤ◌, ◌<ℤ◌, List, [], ◌∷◌, Bool, true, false, cond}
+use Rattle.std.proofs.Common.{◌≡◌, inl, inr, subst, arith, pos, ℤ, ◌*ℤ◌, ◌≤ℤ◌, ◌<ℤ◌, List, [], ◌∷◌}
 use Rattle.std.specs.Prelude.{Option, Some, None}
 use Rattle.std.proofs.lemmas.Int.{ints}
 use Rattle.integer_laws.proofs.Ring.{ring_z}
 use Rattle.integer_laws.proofs.Order.{mul-le_left, mul-le_right, mul-lt_left, cancel_le}
-use Rattle.problem_rules.specs.Problem.{Problem}
 use Rattle.pns_rules.specs.Shape.{Shape, shape_of}
 use Rattle.pns_rules.specs.Nodes.{Node}
 use Rattle.flow_rules.specs.Net.{net_of}
 use Rattle.flow_rules.specs.Flows.{cost}
 use Rattle.charge_rules.specs.Cover.{Cover}
-use Rattle.charge_rules.specs.Facts.{Facts}
 use Rattle.charge_rules.specs.Laws.{AreCovers}
 use Rattle.charge_rules.proofs.DualityLemmas.{charge_duality, charge_refutes}
 use Rattle.tree_rules.specs.Claim.{CostOver}
 use Rattle.tree_rules.specs.Costs.{HasFallen}
 use Rattle.tree_rules.specs.Leaf.{multiplier}
-use Rattle.head_rules.specs.Charged.{CoversPass, charge_of, ChargeReaches, IsCharged}
-use Rattle.head_rules.specs.Head.{HeadLine, step, cap, out, trim, Known, after_line, LinePasses}
+use Rattle.head_rules.specs.Charged.{CoversPass, charge_of, ChargeReaches}
+use Rattle.head_rules.specs.Head.{HeadLine, step, cap, out, trim, after_line, LinePasses}
 use Rattle.head_rules.specs.Keeps.{IsBelow}
 use Rattle.head_rules.specs.Laws.{IsCost, ChargedIsEmpty, CheaperIsCharged, CheaperPasses}
 

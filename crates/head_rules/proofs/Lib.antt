@@ -1,1 +1,5 @@
 pub mod ChargedLemmas
+pub mod FactLemmas
+pub mod HeadLemmas
+pub mod SumLemmas
+pub mod TrimLemmas

@@ -1,6 +1,6 @@
 -- The lines at the head of a branch tree: steps, and facts that are found before the first branch.
 -- Each is judged by what is known where it stands.
-use Rattle.std.specs.Prelude.{◌≡◌, ℕ, ◌<◌, ◌==◌, ℤ, ◌≤ℤ◌, Bool, false, cond, ◌||◌, List, [], ◌∷◌, Option}
+use Rattle.std.specs.Prelude.{◌≡◌, ℕ, ◌<◌, ◌==◌, ℤ, ◌≤ℤ◌, false, cond, ◌||◌, List, [], ◌∷◌, Option}
 use Rattle.problem_rules.specs.Problem.{Problem}
 use Rattle.pns_rules.specs.Shape.{shape_of}
 use Rattle.pns_rules.specs.Nodes.{Node, Step, IsPossible, after}

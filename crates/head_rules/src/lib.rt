@@ -19,3 +19,10 @@ pub fn cheaper_passes()
     ensures charged { CheaperIsCharged }
     ensures lines { CheaperPasses }
 {}
+
+/// Lines that pass lose nothing that costs less than what is claimed, and what is known behind them are facts.
+pub fn head_keeps()
+    ensures keeps { HeadKeeps }
+    ensures facts { HeadHasFacts }
+    ensures least { HeadKeepsLeast }
+{}
