@@ -1,5 +1,5 @@
 -- Branching in two at one unit: its options, and the nodes of the two children.
-use Rattle.std.proofs.Common.{◌≡◌, ℕ, zero, suc, ◌==◌, Bool, true, false, not, ◌&&◌, ◌||◌, List, [], ◌∷◌, length, get_or, refl, sym, ap, ◌∙◌, arith}
+use Rattle.std.proofs.Common.{◌≡◌, ℕ, ◌==◌, Bool, true, false, not, ◌&&◌, ◌||◌, List, [], ◌∷◌, length, get_or, refl, sym, ap, ◌∙◌, arith}
 use Rattle.number_sets.specs.Sets.{has, with_number}
 use Rattle.number_sets.proofs.SetLemmas.{has-with_number}
 use Rattle.pns_rules.specs.Shape.{Shape}

@@ -11,22 +11,21 @@ ghost use Rattle.pgraph.specs.View.{node_of};
 ghost use Rattle.cert_parts.specs.Known.{KnowsInside};
 ghost use Rattle.cert_parts.specs.Shown.{cost_over};
 
-use crate::costs::{CostOver, is_reached, is_scale};
 use crate::materials::is_dead;
 use crate::sets::units_left;
 use flow_program::{bound_of, refutes};
-use pgraph::Graph;
+use frac128::CostOver;
+use pgraph::{Graph, Site};
 use pns_problem::Problem;
 use tree_rules::Why;
 use unit_sets::Node;
 
 /// A leaf that is dead at the material.
-pub fn judge_dead(problem: &Problem, graph: &Graph, node: &Node, x: u32) -> Result<(), Why>
-    requires graph { shape graph.now ≡ shape_of problem.now }
-    ensures passes { OnOk result ((partial : Bool) (claimed : Option claims.CostOver) → LeafPasses partial problem.now claimed (node_of node.now) (dead x)) }
-    ensures fails { IfErr result (λ why. (partial : Bool) (claimed : Option claims.CostOver) → LeafFails partial problem.now claimed (node_of node.now) (dead x) why) }
+pub fn judge_dead(site: &Site<'_>, node: &Node, x: u32) -> Result<(), Why>
+    ensures passes { OnOk result ((partial : Bool) (claimed : Option claims.CostOver) → LeafPasses partial site.now claimed (node_of node.now) (dead x)) }
+    ensures fails { IfErr result (λ why. (partial : Bool) (claimed : Option claims.CostOver) → LeafFails partial site.now claimed (node_of node.now) (dead x) why) }
 {
-    if is_dead(graph, node, x) {
+    if is_dead(site.graph(), node, x) {
         Ok(())
     } else {
         Err(Why::Dead)
@@ -47,12 +46,11 @@ fn clashes(graph: &Graph, node: &Node, k: u32) -> bool
 }
 
 /// A leaf that clashes at the exclusion.
-pub fn judge_clash(problem: &Problem, graph: &Graph, node: &Node, k: u32) -> Result<(), Why>
-    requires graph { shape graph.now ≡ shape_of problem.now }
-    ensures passes { OnOk result ((partial : Bool) (claimed : Option claims.CostOver) → LeafPasses partial problem.now claimed (node_of node.now) (clash k)) }
-    ensures fails { IfErr result (λ why. (partial : Bool) (claimed : Option claims.CostOver) → LeafFails partial problem.now claimed (node_of node.now) (clash k) why) }
+pub fn judge_clash(site: &Site<'_>, node: &Node, k: u32) -> Result<(), Why>
+    ensures passes { OnOk result ((partial : Bool) (claimed : Option claims.CostOver) → LeafPasses partial site.now claimed (node_of node.now) (clash k)) }
+    ensures fails { IfErr result (λ why. (partial : Bool) (claimed : Option claims.CostOver) → LeafFails partial site.now claimed (node_of node.now) (clash k) why) }
 {
-    if clashes(graph, node, k) {
+    if clashes(site.graph(), node, k) {
         Ok(())
     } else {
         Err(Why::Clash)
@@ -60,51 +58,49 @@ pub fn judge_clash(problem: &Problem, graph: &Graph, node: &Node, k: u32) -> Res
 }
 
 /// Whether there is one multiplier for each row of the node's program.
-fn is_one_each(problem: &Problem, graph: &Graph, node: &Node, ys: &[i128]) -> bool
-    requires graph { shape graph.now ≡ shape_of problem.now }
-    ensures { IsTrue result ↔ IsOneEach problem.now (node_of node.now) ys.now }
+fn is_one_each(site: &Site<'_>, node: &Node, ys: &[i128]) -> bool
+    ensures { IsTrue result ↔ IsOneEach site.now (node_of node.now) ys.now }
 {
-    graph.is_proper();
+    let graph = site.graph();
     let rows = graph.materials(units_left(graph, node));
     rows.rises();
     ys.len() == rows.count() as usize
 }
 
 /// A leaf at which the multipliers are to show that no structure has flows.
-pub fn judge_refutation(
-    problem: &Problem,
-    graph: &Graph,
-    node: &Node,
-    ys: &[i128],
-) -> Result<(), Why>
-    requires graph { shape graph.now ≡ shape_of problem.now }
-    requires known { KnowsInside (shape graph.now) (node_of node.now) }
-    ensures passes { OnOk result ((partial : Bool) (claimed : Option claims.CostOver) → LeafPasses partial problem.now claimed (node_of node.now) (refuted ys.now)) }
-    ensures fails { IfErr result (λ why. (partial : Bool) (claimed : Option claims.CostOver) → LeafFails partial problem.now claimed (node_of node.now) (refuted ys.now) why) }
+pub fn judge_refutation(site: &Site<'_>, node: &Node, ys: &[i128]) -> Result<(), Why>
+    requires known { KnowsInside (shape_of site.now) (node_of node.now) }
+    ensures passes { OnOk result ((partial : Bool) (claimed : Option claims.CostOver) → LeafPasses partial site.now claimed (node_of node.now) (refuted ys.now)) }
+    ensures fails { IfErr result (λ why. (partial : Bool) (claimed : Option claims.CostOver) → LeafFails partial site.now claimed (node_of node.now) (refuted ys.now) why) }
 {
-    if !is_one_each(problem, graph, node, ys) {
+    if !is_one_each(site, node, ys) {
         return Err(Why::Refuted);
     }
-    match refutes(problem, graph, *node, ys) {
+    match refutes(site.problem(), site.graph(), *node, ys) {
         Err(_) => Err(Why::Sum),
         Ok(true) => Ok(()),
         Ok(false) => Err(Why::Refuted),
     }
 }
 
+/// Whether d is a scale: at least 1.
+fn is_scale(d: i128) -> bool
+    ensures { IsTrue result ↔ (pos 1 ≤ℤ d) }
+{
+    d >= 1
+}
+
 /// A leaf at which the multipliers are to bound the cost from below, over d, by the claimed cost.
 pub fn judge_bound(
-    problem: &Problem,
-    graph: &Graph,
+    site: &Site<'_>,
     node: &Node,
     claimed: Option<CostOver>,
     d: i128,
     ys: &[i128],
 ) -> Result<(), Why>
-    requires graph { shape graph.now ≡ shape_of problem.now }
-    requires known { KnowsInside (shape graph.now) (node_of node.now) }
-    ensures passes { OnOk result ((partial : Bool) → LeafPasses partial problem.now (cost_over claimed) (node_of node.now) (bounded d ys.now)) }
-    ensures fails { IfErr result (λ why. (partial : Bool) → LeafFails partial problem.now (cost_over claimed) (node_of node.now) (bounded d ys.now) why) }
+    requires known { KnowsInside (shape_of site.now) (node_of node.now) }
+    ensures passes { OnOk result ((partial : Bool) → LeafPasses partial site.now (cost_over claimed) (node_of node.now) (bounded d ys.now)) }
+    ensures fails { IfErr result (λ why. (partial : Bool) → LeafFails partial site.now (cost_over claimed) (node_of node.now) (bounded d ys.now) why) }
 {
     let Some(least) = claimed else {
         return Err(Why::Bound);
@@ -112,13 +108,13 @@ pub fn judge_bound(
     if !is_scale(d) {
         return Err(Why::Bound);
     }
-    if !is_one_each(problem, graph, node, ys) {
+    if !is_one_each(site, node, ys) {
         return Err(Why::Bound);
     }
-    let Ok(bound) = bound_of(problem, graph, *node, d, ys) else {
+    let Ok(bound) = bound_of(site.problem(), site.graph(), *node, d, ys) else {
         return Err(Why::Sum);
     };
-    if is_reached(&least, bound, d) {
+    if least.is_reached(bound, d) {
         Ok(())
     } else {
         Err(Why::Bound)

@@ -7,10 +7,9 @@
 //!
 //! Modules: `sets` and `materials` are tests of sets and what a node needs; `steps` which steps are possible; `nodes` the nodes
 //! that steps and options leave, `options` whether given sets are all options of a material: they can be as many as 2^128, so their list is walked
-//! and never made; `either` branches in two at one unit; `costs` compares costs; `network` and `leaves` judge claims and leaves.
+//! and never made; `either` branches in two at one unit; `network` and `leaves` judge claims and leaves.
 #![tactic(auto)]
 
-mod costs;
 mod either;
 mod leaves;
 mod materials;
@@ -20,10 +19,7 @@ mod options;
 mod sets;
 mod steps;
 
-pub use costs::{CostOver, is_reached};
 pub use either::{are_options_of_unit, with_unit, without_unit};
 pub use leaves::{judge_bound, judge_clash, judge_dead, judge_open, judge_refutation};
-pub use materials::{is_dead, is_needed};
 pub use network::judge_network;
-pub use nodes::{after, after_steps, are_all_options, child};
-pub use steps::is_possible;
+pub use nodes::{after_steps, are_all_options, child};

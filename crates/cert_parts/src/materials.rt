@@ -10,7 +10,7 @@ use pgraph::Graph;
 use unit_sets::{Node, UnitSet};
 
 /// Whether the material is a product, or an input of a unit of the set and not raw.
-pub fn is_needed(graph: &Graph, set: UnitSet, x: u32) -> bool
+pub(crate) fn is_needed(graph: &Graph, set: UnitSet, x: u32) -> bool
     ensures { result ≡ is_needed (shape graph.now) (has set) x }
 {
     graph.is_proper();
@@ -19,7 +19,7 @@ pub fn is_needed(graph: &Graph, set: UnitSet, x: u32) -> bool
 }
 
 /// The units that make the material and are not left out.
-pub fn makers_left(graph: &Graph, node: &Node, x: u32) -> UnitSet
+pub(crate) fn makers_left(graph: &Graph, node: &Node, x: u32) -> UnitSet
     requires { x < (shape graph.now).materials }
     ensures { (u : ℕ) → (has result u ≡ true) ↔ (((shape graph.now).makes u x ≡ true) × (has node.now.outside u ≡ false)) }
 {
@@ -27,7 +27,7 @@ pub fn makers_left(graph: &Graph, node: &Node, x: u32) -> UnitSet
 }
 
 /// The units that use the material and are not left out.
-pub fn users_left(graph: &Graph, node: &Node, x: u32) -> UnitSet
+pub(crate) fn users_left(graph: &Graph, node: &Node, x: u32) -> UnitSet
     requires { x < (shape graph.now).materials }
     ensures { (u : ℕ) → (has result u ≡ true) ↔ (((shape graph.now).uses u x ≡ true) × (has node.now.outside u ≡ false)) }
 {
@@ -35,7 +35,7 @@ pub fn users_left(graph: &Graph, node: &Node, x: u32) -> UnitSet
 }
 
 /// Whether the material is needed at the node and each of its makers is left out.
-pub fn is_dead(graph: &Graph, node: &Node, x: u32) -> bool
+pub(crate) fn is_dead(graph: &Graph, node: &Node, x: u32) -> bool
     ensures { IsTrue result ↔ IsDead (shape graph.now) (node_of node.now) x }
 {
     graph.is_proper();

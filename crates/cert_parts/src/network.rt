@@ -1,34 +1,36 @@
 //! A claimed network.
-ghost use Rattle.std.specs.Prelude.{◌≡◌, ◌≤ℤ◌, pos, Bool, length, OnOk, IfErr};
-ghost use Rattle.pns_rules.specs.Shape.{shape_of};
+ghost use Rattle.std.specs.Prelude.{◌≡◌, ◌↔◌, ◌≤ℤ◌, pos, Bool, length, IsTrue, OnOk, IfErr};
 ghost use Rattle.tree_rules.specs.Claim.{network, IsFeasible, ClaimFails};
-ghost use Rattle.pgraph.specs.Tables.{shape};
 
-use crate::costs::are_same;
 use flow_program::{cost_of, feasible};
-use pgraph::Graph;
-use pns_problem::Problem;
+use pgraph::Site;
 use pns_rules::Verdict;
 use tree_rules::Why;
 use unit_sets::UnitSet;
 
+/// Whether the costs are the same.
+fn are_same(a: i128, b: i128) -> bool
+    ensures { IsTrue result ↔ (a ≡ b) }
+{
+    a == b
+}
+
 /// Judges the network of these units, with a size for each in rising order and its cost, all over d: its units are an allowed
 /// solution structure, the sizes are flows for them, and the cost is theirs. The first line that fails is its cause.
 pub fn judge_network(
-    problem: &Problem,
-    graph: &Graph,
+    site: &Site<'_>,
     units: UnitSet,
     sizes: &[i128],
     d: i128,
     cost: i128,
 ) -> Result<(), Why>
-    requires graph { shape graph.now ≡ shape_of problem.now }
     requires sizes { length sizes.now ≡ length units }
     requires positive { pos 1 ≤ℤ d }
-    ensures passes { OnOk result (IsFeasible problem.now (record { units = units; sizes = sizes.now; d = d; cost = cost })) }
-    ensures fails { IfErr result (λ why. (partial : Bool) → ClaimFails partial problem.now (network (record { units = units; sizes = sizes.now; d = d; cost = cost })) why) }
+    ensures passes { OnOk result (IsFeasible site.now (record { units = units; sizes = sizes.now; d = d; cost = cost })) }
+    ensures fails { IfErr result (λ why. (partial : Bool) → ClaimFails partial site.now (network (record { units = units; sizes = sizes.now; d = d; cost = cost })) why) }
 {
-    graph.is_proper();
+    let problem = site.problem();
+    let graph = site.graph();
     if !units.within(UnitSet::below(graph.unit_count())) {
         return Err(Why::Axiom);
     }

@@ -15,7 +15,7 @@ use pgraph::Graph;
 use unit_sets::{Node, Step, UnitSet};
 
 /// The node after a possible step.
-pub fn after(graph: &Graph, node: &Node, step: &Step) -> Node
+pub(crate) fn after(graph: &Graph, node: &Node, step: &Step) -> Node
     requires { IsPossible (shape graph.now) (node_of node.now) (step_of step.now) }
     ensures { node_of result ≡ after (shape graph.now) (node_of node.now) (step_of step.now) }
 {

@@ -11,7 +11,7 @@ use pgraph::Graph;
 use unit_sets::{Node, Step, UnitSet};
 
 /// Whether the unit is one of the graph, neither taken in nor left out.
-pub fn is_free(graph: &Graph, node: &Node, u: u32) -> bool
+pub(crate) fn is_free(graph: &Graph, node: &Node, u: u32) -> bool
     ensures { IsTrue result ↔ ((u < (shape graph.now).units) × (is_free (shape graph.now) (node_of node.now) u ≡ true)) }
 {
     graph.is_proper();
@@ -82,7 +82,7 @@ fn sole_is_possible(graph: &Graph, node: &Node, x: u32, u: u32) -> bool
 }
 
 /// Whether the step is possible at the node.
-pub fn is_possible(graph: &Graph, node: &Node, step: &Step) -> bool
+pub(crate) fn is_possible(graph: &Graph, node: &Node, step: &Step) -> bool
     ensures { IsTrue result ↔ IsPossible (shape graph.now) (node_of node.now) (step_of step.now) }
 {
     match *step {
