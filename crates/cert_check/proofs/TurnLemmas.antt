@@ -13,8 +13,11 @@ use Rattle.pgraph.specs.View.{node_of}
 use Rattle.cert_parts.specs.Known.{KnowsInside}
 use Rattle.cert_check.specs.Subtrees.{stack_of, AllKnown}
 use Rattle.part_rules.specs.OpenLeaves.{OpenAt, open_here, open_leaves}
-use Rattle.cert_check.specs.OpenLeaves.{AllBefore, NoneBefore, AreThoseBefore}
-use Rattle.cert_check.specs.Visits.{IsVisited}
+use Rattle.cert_check.specs.OpenLeaves.{AllBefore, NoneBefore, AreThoseBefore, AreBefore}
+use Rattle.cert_check.specs.Refusals.{NamesFault}
+use Rattle.cert_check.specs.Visits.{IsVisited, Halts, refusal_at}
+use Rattle.cert_check.specs.declared.visit.Halt.{Halt}
+use Rattle.cert_check.specs.declared.visit.Halt.TheVariants.{Memory, Fails}
 use Rattle.cert_check.proofs.EndLemmas.{node_ahead}
 use Rattle.cert_check.proofs.KnownLemmas.{known_after_all, known_below, known_both}
 use Rattle.cert_check.proofs.WalkLemmas.{Leads, leads_on, leads_fault, leads_all}
@@ -60,8 +63,13 @@ module _ (g : Shape) (P : rules.Node → Leaf → Type 0) (F : rules.Node → Le
             (known_both g (below g m t.end) rest (known_below g P m t.end (drop (i + 1) ts) (known_after_all g n t.steps o.top_known v.steps) v.end) o.rest_known);
       }
 
-  pub failed : (n : rules.Node) (t : TreeNode Leaf) (rest : List rules.Node) (i : ℕ) (why : Why) → Opened n t rest i → NodeFails g F n t (drop (i + 1) ts) why → IsFirstFault g P F starts ts i why
+  failed : (n : rules.Node) (t : TreeNode Leaf) (rest : List rules.Node) (i : ℕ) (why : Why) → Opened n t rest i → NodeFails g F n t (drop (i + 1) ts) why → IsFirstFault g P F starts ts i why
   failed n t rest i why o h = leads_fault g P F starts ts n rest t (drop (i + 1) ts) i why o.leads h
+
+  -- the node at which the walk halts is named
+  pub halted : (n : rules.Node) (t : TreeNode Leaf) (rest : List rules.Node) (i : ℕ) (halt : Halt) → Opened n t rest i → Halts (NodeFails g F n t (drop (i + 1) ts)) halt → NamesFault g P F starts ts (refusal_at i halt)
+  halted n t rest i Memory o h = tt
+  halted n t rest i (Fails why) o h = failed n t rest i why o h
 
   pub all_visited : (stack : List rules.Node) (i : ℕ) → length ts ≤ i → IsAt stack i → Pass g P starts ts
   all_visited stack i le is = leads_all g P F starts ts stack i (subst (λ (us : Tree). Leads g P F starts ts stack us i) (drop_all i ts le) is.leads)
@@ -106,13 +114,17 @@ none_before g (n ∷ ns) (t ∷ ts) i =
     (none_before g (below g (after_all g n t.steps) t.end ++ ns) ts (i + 1))
 
 -- those that were found before node i
-pub found_before : (g : Shape) (starts : List rules.Node) (ts : Tree) (found : List OpenAt) (stack : List rules.Node) (i : ℕ) → AreFound g starts ts found stack i → AreThoseBefore g starts ts i found
+found_before : (g : Shape) (starts : List rules.Node) (ts : Tree) (found : List OpenAt) (stack : List rules.Node) (i : ℕ) → AreFound g starts ts found stack i → AreThoseBefore g starts ts i found
 found_before g starts ts found stack i is = record {
   others = open_leaves g stack (drop i ts) i;
   all = is.all;
   before = is.before;
   behind = none_before g stack (drop i ts) i;
 }
+
+pub halted_before : (g : Shape) (starts : List rules.Node) (ts : Tree) (found : List OpenAt) (stack : List rules.Node) (i : ℕ) (halt : Halt) → AreFound g starts ts found stack i → AreBefore g starts ts (refusal_at i halt) found
+halted_before g starts ts found stack i Memory is = tt
+halted_before g starts ts found stack i (Fails why) is = found_before g starts ts found stack i is
 
 -- ---- the open leaves on the way
 

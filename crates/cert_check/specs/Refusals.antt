@@ -1,11 +1,13 @@
 -- What a refusal of nodes names. Want of memory says nothing, and is the only answer that another may give way to.
-use Rattle.std.specs.Prelude.{◌≡◌, ◌⊎◌, List, Result, Ok, Err}
+use Rattle.std.specs.Prelude.{◌≡◌, ◌⊎◌, ℕ, Bool, List, Result, Ok, Err}
+use Rattle.problem_rules.specs.Problem.{Problem}
 use Rattle.pns_rules.specs.Shape.{Shape}
 use Rattle.pns_rules.specs.Nodes.{Node}
 use Rattle.tree_rules.specs.declared.why.Why.{Why}
 use Rattle.tree_rules.specs.Fault.{IsFirstFault}
 use Rattle.tree_rules.specs.Leaf.{Leaf}
-use Rattle.tree_rules.specs.Accepted.{Tree}
+use Rattle.tree_rules.specs.Claim as rules
+use Rattle.tree_rules.specs.Accepted.{Tree, NodeIsFault}
 use Rattle.tree_rules.specs.declared.refusal.Refusal.{Refusal}
 use Rattle.tree_rules.specs.declared.refusal.Refusal.TheVariants.{Memory, Claim}
 use Rattle.tree_rules.specs.declared.refusal.Refusal.TheVariants as refusals
@@ -25,3 +27,14 @@ IsOkOrMemory (Err e) = e ≡ Memory
 abbrev pub IsRefusalOrMemory : {A : Type 0} → Refusal → Result A Refusal → Type 0
 IsRefusalOrMemory wanted (Ok x) = ⊥
 IsRefusalOrMemory wanted (Err e) = (e ≡ wanted) ⊎ (e ≡ Memory)
+
+-- for each cause for which the claim fails the answer tells that it does
+abbrev pub NamesClaim : {A : Type 0} → Bool → Problem → rules.Claim → Result A Refusal → Type 0
+NamesClaim partial p claim answer =
+    (why : Why) → rules.ClaimFails partial p claim why → IsRefusalOrMemory (Claim why) answer
+
+-- where the claim passes the answer tells which node is the first that fails, and for which cause
+abbrev pub NamesNode : {A : Type 0} → Bool → Problem → Node → rules.Claim → Tree → Result A Refusal → Type 0
+NamesNode partial p start claim tree answer =
+    (k : ℕ) (why : Why) → rules.ClaimPasses partial p claim → NodeIsFault partial p start claim tree k why
+    → IsRefusalOrMemory (refusals.Node k why) answer

@@ -1,8 +1,10 @@
 -- What happens at one node of a walk.
-use Rattle.std.specs.Prelude.{◌≡◌, List, ◌++◌}
+use Rattle.std.specs.Prelude.{◌≡◌, ℕ, List, ◌++◌}
 use Rattle.pns_rules.specs.Shape.{Shape}
 use Rattle.pns_rules.specs.Nodes.{Node}
 use Rattle.tree_rules.specs.declared.why.Why.{Why}
+use Rattle.tree_rules.specs.declared.refusal.Refusal.{Refusal}
+use Rattle.tree_rules.specs.declared.refusal.Refusal.TheVariants as refusals
 use Rattle.tree_rules.specs.Tree.{TreeNode, roots, StepsPass, after_all, below, EndPasses}
 use Rattle.tree_rules.specs.Ways.{Way, width, MayBranch, options_at}
 use Rattle.tree_rules.specs.Leaf.{Leaf, LeafPasses, LeafFails}
@@ -14,10 +16,15 @@ use Rattle.cert_check.specs.declared.visit.Halt.TheVariants.{Memory, Fails}
 
 -- the leaves that pass, and those that fail
 abbrev pub leaf_passes : Judge → Node → Leaf → Type 0
-leaf_passes j = LeafPasses j.partial j.problem.now (cost_over j.claimed)
+leaf_passes j = LeafPasses j.partial j.site.now (cost_over j.claimed)
 
 abbrev pub leaf_fails : Judge → Node → Leaf → Why → Type 0
-leaf_fails j = LeafFails j.partial j.problem.now (cost_over j.claimed)
+leaf_fails j = LeafFails j.partial j.site.now (cost_over j.claimed)
+
+-- how the walk is refused that halts at node k
+abbrev pub refusal_at : ℕ → Halt → Refusal
+refusal_at k Memory = refusals.Memory
+refusal_at k (Fails why) = refusals.Node k why
 
 -- the node may be branched so, and the subtrees that begin the list behind it have all options in order
 abbrev pub BranchPasses : Shape → Node → Way → Tree → Type 0

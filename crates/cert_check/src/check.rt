@@ -2,30 +2,27 @@
 ghost use Rattle.std.specs.Prelude.{◌≡◌, ◌<◌, ◌^◌, ◌∷◌, [], ℕ, Bool, true, false, length, OnOk, IfOk, IfErr};
 ghost use Rattle.pns_rules.specs.Shape.{shape_of};
 ghost use Rattle.pns_rules.specs.Structure.{IsStructure, IsAllowed};
-ghost use Rattle.tree_rules.specs.declared.why.Why.{Why};
 ghost use Rattle.tree_rules.specs.Tree.{Pass};
 ghost use Rattle.tree_rules.specs.Leaf.{LeafPasses, LeafFails};
 ghost use Rattle.tree_rules.specs.Claim as rules;
-ghost use Rattle.tree_rules.specs.Accepted.{first_node, Proves, IsAccepted, NodeIsFault};
+ghost use Rattle.tree_rules.specs.Accepted.{first_node, Proves, IsAccepted};
 ghost use Rattle.tree_rules.specs.Costs.{CostsEnough};
-ghost use Rattle.pgraph.specs.Tables.{shape};
 ghost use Rattle.pgraph.specs.View.{node_of};
 ghost use Rattle.branch_tree.specs.View.{claim_of};
 ghost use Rattle.cert_parts.specs.Known.{KnowsInside};
 ghost use Rattle.cert_parts.specs.Shown.{cost_over};
 ghost use Rattle.part_rules.specs.OpenLeaves.{open_leaves};
 ghost use Rattle.cert_check.specs.OpenLeaves.{leaves_at, AreBefore};
-ghost use Rattle.tree_rules.specs.declared.refusal.Refusal.TheVariants as refusals;
-ghost use Rattle.cert_check.specs.Refusals.{NamesFault, IsOkOrMemory, IsRefusalOrMemory};
+ghost use Rattle.cert_check.specs.Refusals.{NamesFault, IsOkOrMemory, NamesClaim, NamesNode};
 ghost use Rattle.tree_rules.specs.Refusals.{Refuses};
 
 use crate::claim::{cost_of_claim, judge_claim};
 use crate::open_leaf::OpenLeaf;
+use crate::visit::Judge;
 use crate::walk::{Stop, walk, walk_to};
 use branch_tree::{Claim, Tree};
-use cert_parts::CostOver;
-use pgraph::Graph;
-use pns_problem::Problem;
+use frac128::CostOver;
+use pgraph::Site;
 use std::alloc::Global;
 use tree_laws::{accepted_is_optimal, claim_has_one_fault, tree_has_one_fault};
 use tree_rules::Refusal;
@@ -35,39 +32,36 @@ use unit_sets::{Node, UnitSet};
 /// the open leaves in preorder.
 pub fn check_from(
     alloc: Global,
-    problem: &Problem,
-    graph: &Graph,
+    site: &Site<'_>,
     start: &Node,
     partial: bool,
     claim: &Claim,
     tree: &Tree,
 ) -> Result<Vec<OpenLeaf>, Refusal>
-    requires graph { shape graph.now ≡ shape_of problem.now }
-    requires known { KnowsInside (shape graph.now) (node_of start.now) }
+    requires known { KnowsInside (shape_of site.now) (node_of start.now) }
     requires few { length tree.now < 2 ^ 32 }
     // `Ok` only where the tree proves the claim, and where it does no other answer but want of memory.
-    ensures proves { OnOk result (Proves partial problem.now (node_of start.now) (claim_of claim.now) tree.now) }
-    ensures accepts { Proves partial problem.now (node_of start.now) (claim_of claim.now) tree.now → IsOkOrMemory result }
-    ensures leaves { IfOk result (λ v. leaves_at v.items ≡ open_leaves (shape graph.now) (node_of start.now ∷ []) tree.now 0) }
+    ensures proves { OnOk result (Proves partial site.now (node_of start.now) (claim_of claim.now) tree.now) }
+    ensures accepts { Proves partial site.now (node_of start.now) (claim_of claim.now) tree.now → IsOkOrMemory result }
+    ensures leaves { IfOk result (λ v. leaves_at v.items ≡ open_leaves (shape_of site.now) (node_of start.now ∷ []) tree.now 0) }
     // A refusal names the first fault, and a first fault is named.
-    ensures refuses { IfErr result (Refuses partial problem.now (node_of start.now) (claim_of claim.now) tree.now) }
-    ensures names_claim { (why : Why) → rules.ClaimFails partial problem.now (claim_of claim.now) why → IsRefusalOrMemory (refusals.Claim why) result }
-    ensures names_node { (k : ℕ) (why : Why) → rules.ClaimPasses partial problem.now (claim_of claim.now) → NodeIsFault partial problem.now (node_of start.now) (claim_of claim.now) tree.now k why
-        → IsRefusalOrMemory (refusals.Node k why) result }
+    ensures refuses { IfErr result (Refuses partial site.now (node_of start.now) (claim_of claim.now) tree.now) }
+    ensures names_claim { NamesClaim partial site.now (claim_of claim.now) result }
+    ensures names_node { NamesNode partial site.now (node_of start.now) (claim_of claim.now) tree.now
+        result }
 {
     claim_has_one_fault();
     tree_has_one_fault();
     tree.is_tree();
-    match judge_claim(problem, graph, claim, partial) {
-        Ok(()) => walk(
-            alloc,
-            problem,
-            graph,
-            cost_of_claim(claim),
-            partial,
-            start,
-            tree.nodes(),
-        ),
+    match judge_claim(site, claim, partial) {
+        Ok(()) => {
+            let judge = Judge {
+                site,
+                claimed: cost_of_claim(claim),
+                partial,
+            };
+            walk(alloc, &judge, start, tree.nodes())
+        }
         Err(why) => Err(Refusal::Claim(why)),
     }
 }
@@ -76,53 +70,49 @@ pub fn check_from(
 /// open. What is given are the open leaves in preorder, and where a node fails those before it.
 pub fn check_nodes(
     alloc: Global,
-    problem: &Problem,
-    graph: &Graph,
+    site: &Site<'_>,
     start: &Node,
     undercut: Option<CostOver>,
     tree: &Tree,
 ) -> Result<Vec<OpenLeaf>, Stop>
-    requires graph { shape graph.now ≡ shape_of problem.now }
-    requires known { KnowsInside (shape graph.now) (node_of start.now) }
+    requires known { KnowsInside (shape_of site.now) (node_of start.now) }
     requires few { length tree.now < 2 ^ 32 }
-    ensures passes { OnOk result (Pass (shape graph.now) (LeafPasses true problem.now (cost_over undercut)) (node_of start.now ∷ []) tree.now) }
-    ensures leaves { IfOk result (λ v. leaves_at v.items ≡ open_leaves (shape graph.now) (node_of start.now ∷ []) tree.now 0) }
-    ensures fault { IfErr result (λ stop. NamesFault (shape graph.now) (LeafPasses true problem.now (cost_over undercut)) (LeafFails true problem.now (cost_over undercut)) (node_of start.now ∷ []) tree.now stop.refusal) }
-    ensures before { IfErr result (λ stop. AreBefore (shape graph.now) (node_of start.now ∷ []) tree.now stop.refusal (leaves_at stop.leaves.items)) }
+    ensures passes { OnOk result (Pass (shape_of site.now) (LeafPasses true site.now (cost_over undercut)) (node_of start.now ∷ []) tree.now) }
+    ensures leaves { IfOk result (λ v. leaves_at v.items ≡ open_leaves (shape_of site.now) (node_of start.now ∷ []) tree.now 0) }
+    ensures fault { IfErr result (λ stop. NamesFault (shape_of site.now) (LeafPasses true site.now (cost_over undercut)) (LeafFails true site.now (cost_over undercut)) (node_of start.now ∷ []) tree.now stop.refusal) }
+    ensures before { IfErr result (λ stop. AreBefore (shape_of site.now) (node_of start.now ∷ []) tree.now stop.refusal (leaves_at stop.leaves.items)) }
 {
     tree.is_tree();
-    walk_to(alloc, problem, graph, undercut, true, start, tree.nodes())
+    let judge = Judge {
+        site,
+        claimed: undercut,
+        partial: true,
+    };
+    walk_to(alloc, &judge, start, tree.nodes())
 }
 
 /// Judges the claim, and then the nodes of the tree in preorder, at each its steps and then its end.
-pub fn check_tree(
-    alloc: Global,
-    problem: &Problem,
-    graph: &Graph,
-    claim: &Claim,
-    tree: &Tree,
-) -> Result<(), Refusal>
-    requires graph { shape graph.now ≡ shape_of problem.now }
+pub fn check_tree(alloc: Global, site: &Site<'_>, claim: &Claim, tree: &Tree) -> Result<(), Refusal>
     requires few { length tree.now < 2 ^ 32 }
     // `Ok` only where the tree proves the claim, and where it does no other answer but want of memory.
-    ensures accepted { OnOk result (IsAccepted problem.now first_node (claim_of claim.now) tree.now) }
-    ensures accepts { IsAccepted problem.now first_node (claim_of claim.now) tree.now → IsOkOrMemory result }
+    ensures accepted { OnOk result (IsAccepted site.now first_node (claim_of claim.now) tree.now) }
+    ensures accepts { IsAccepted site.now first_node (claim_of claim.now) tree.now → IsOkOrMemory result }
     // A refusal names the first fault, and a first fault is named.
-    ensures refused { IfErr result (Refuses false problem.now first_node (claim_of claim.now) tree.now) }
-    ensures names_claim { (why : Why) → rules.ClaimFails false problem.now (claim_of claim.now) why → IsRefusalOrMemory (refusals.Claim why) result }
-    ensures names_node { (k : ℕ) (why : Why) → rules.ClaimPasses false problem.now (claim_of claim.now) → NodeIsFault false problem.now first_node (claim_of claim.now) tree.now k why → IsRefusalOrMemory (refusals.Node k why) result }
+    ensures refused { IfErr result (Refuses false site.now first_node (claim_of claim.now) tree.now) }
+    ensures names_claim { NamesClaim false site.now (claim_of claim.now) result }
+    ensures names_node { NamesNode false site.now first_node (claim_of claim.now) tree.now result }
     // Each allowed solution structure costs at least what is claimed, with any flows; where no network is, none has flows.
-    ensures least { OnOk result ((s : ℕ → Bool) → IsStructure (shape_of problem.now) s → IsAllowed (shape_of problem.now) s → CostsEnough problem.now (rules.claimed_cost (claim_of claim.now)) s) }
+    ensures least { OnOk result ((s : ℕ → Bool) → IsStructure (shape_of site.now) s → IsAllowed (shape_of site.now) s → CostsEnough site.now (rules.claimed_cost (claim_of claim.now)) s) }
     // A claimed network is allowed and has flows of the claimed cost.
-    ensures feasible { OnOk result ((w : rules.Network) → claim_of claim.now ≡ rules.network w → rules.IsFeasible problem.now w) }
+    ensures feasible { OnOk result ((w : rules.Network) → claim_of claim.now ≡ rules.network w → rules.IsFeasible site.now w) }
 {
-    problem.is_valid();
+    site.problem();
     accepted_is_optimal();
     let start = Node {
         inside: UnitSet::empty(),
         outside: UnitSet::empty(),
     };
-    match check_from(alloc, problem, graph, &start, false, claim, tree) {
+    match check_from(alloc, site, &start, false, claim, tree) {
         Ok(_) => Ok(()),
         Err(refusal) => Err(refusal),
     }

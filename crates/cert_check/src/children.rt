@@ -11,7 +11,7 @@ use std::alloc::AllocError;
 use unit_sets::{Node, UnitSet};
 
 /// Puts the children of the options on the stack, the first on top.
-pub fn push_children(
+pub(crate) fn push_children(
     graph: &Graph,
     node: &Node,
     material: u32,

@@ -34,7 +34,7 @@ fn past(nodes: &[TreeNode], ends: &[usize], from: usize, count: u32) -> usize
 }
 
 /// Where the subtree of each node ends. It is filled from the last node on, and each end is passed once: linear.
-pub fn ends_of(alloc: Global, nodes: &[TreeNode]) -> Result<Vec<usize>, AllocError>
+pub(crate) fn ends_of(alloc: Global, nodes: &[TreeNode]) -> Result<Vec<usize>, AllocError>
     ensures same { IfOk result (λ v. length v.items ≡ length nodes.now) }
     ensures ends { IfOk result (λ v. AreEnds nodes.now v.items 0) }
 {
@@ -50,7 +50,7 @@ pub fn ends_of(alloc: Global, nodes: &[TreeNode]) -> Result<Vec<usize>, AllocErr
 }
 
 /// Puts the options of the roots of the first subtrees from a place on into `found`, in place of what it held.
-pub fn roots(
+pub(crate) fn roots(
     nodes: &[TreeNode],
     ends: &[usize],
     from: usize,

@@ -20,20 +20,17 @@ use crate::children::push_children;
 use crate::leaf::judge_leaf;
 use crate::subtrees::{Behind, roots};
 use branch_tree::{End, TreeNode};
-use cert_parts::{
-    CostOver, after_steps, are_all_options, are_options_of_unit, with_unit, without_unit,
-};
-use pgraph::Graph;
-use pns_problem::Problem;
+use cert_parts::{after_steps, are_all_options, are_options_of_unit, with_unit, without_unit};
+use frac128::CostOver;
+use pgraph::{Graph, Site};
 use tree_rules::Why;
 use unit_sets::{Node, UnitSet};
 
-/// By what nodes are judged: the problem with its P-graph, the cost that is to be undercut, if there is one, and whether leaves may
-/// be open.
+/// By what nodes are judged: the problem with its P-graph, the cost that is to be undercut, if there
+/// is one, and whether leaves may be open.
 #[derive(Clone, Copy)]
 pub struct Judge<'a> {
-    pub problem: &'a Problem,
-    pub graph: &'a Graph,
+    pub site: &'a Site<'a>,
     pub claimed: Option<CostOver>,
     pub partial: bool,
 }
@@ -117,16 +114,15 @@ fn visit_end(
     found: &mut Vec<UnitSet>,
     stack: &mut Vec<Node>,
 ) -> Result<(), Halt>
-    requires graph { shape judge.now.graph.now ≡ shape_of judge.now.problem.now }
-    requires known { KnowsInside (shape judge.now.graph.now) (node_of node.now) }
+    requires known { KnowsInside (shape_of judge.now.site.now) (node_of node.now) }
     requires ends { HasEnds behind.now }
-    ensures passes { OnOk result (EndPasses (shape judge.now.graph.now) (leaf_passes judge.now) (node_of node.now) (end_of end.now) (rest_of behind.now)) }
-    ensures children { OnOk result (stack_of stack.new.items ≡ below (shape judge.now.graph.now) (node_of node.now) (end_of end.now) ++ stack_of stack.old.items) }
-    ensures halts { IfErr result (Halts (EndFails (shape judge.now.graph.now) (leaf_fails judge.now) (node_of node.now) (end_of end.now) (rest_of behind.now))) }
+    ensures passes { OnOk result (EndPasses (shape_of judge.now.site.now) (leaf_passes judge.now) (node_of node.now) (end_of end.now) (rest_of behind.now)) }
+    ensures children { OnOk result (stack_of stack.new.items ≡ below (shape_of judge.now.site.now) (node_of node.now) (end_of end.now) ++ stack_of stack.old.items) }
+    ensures halts { IfErr result (Halts (EndFails (shape_of judge.now.site.now) (leaf_fails judge.now) (node_of node.now) (end_of end.now) (rest_of behind.now))) }
 {
     match end {
         End::Branch { material, children } => visit_branch(
-            judge.graph,
+            judge.site.graph(),
             node,
             *material,
             *children,
@@ -134,15 +130,8 @@ fn visit_end(
             found,
             stack,
         ),
-        End::Either(unit) => visit_either(judge.graph, node, *unit, behind, found, stack),
-        end => match judge_leaf(
-            judge.problem,
-            judge.graph,
-            node,
-            judge.claimed,
-            judge.partial,
-            end,
-        ) {
+        End::Either(unit) => visit_either(judge.site.graph(), node, *unit, behind, found, stack),
+        end => match judge_leaf(judge.site, node, judge.claimed, judge.partial, end) {
             Ok(()) => Ok(()),
             Err(why) => Err(Halt::Fails(why)),
         },
@@ -151,7 +140,7 @@ fn visit_end(
 
 /// Judges the item of the tree at its node, and puts the nodes of its children on the stack. What is given is the node that its steps
 /// leave.
-pub fn visit(
+pub(crate) fn visit(
     judge: &Judge<'_>,
     node: &Node,
     item: &TreeNode,
@@ -159,15 +148,14 @@ pub fn visit(
     found: &mut Vec<UnitSet>,
     stack: &mut Vec<Node>,
 ) -> Result<Node, Halt>
-    requires graph { shape judge.now.graph.now ≡ shape_of judge.now.problem.now }
-    requires known { KnowsInside (shape judge.now.graph.now) (node_of node.now) }
+    requires known { KnowsInside (shape_of judge.now.site.now) (node_of node.now) }
     requires ends { HasEnds behind.now }
-    ensures visited { OnOk result (IsVisited (shape judge.now.graph.now) (leaf_passes judge.now) (node_of node.now) item.now (rest_of behind.now) (stack_of stack.old.items) (stack_of stack.new.items)) }
-    ensures reached { IfOk result (λ n. node_of n ≡ after_all (shape judge.now.graph.now) (node_of node.now) item.now.steps) }
-    ensures halts { IfErr result (Halts (NodeFails (shape judge.now.graph.now) (leaf_fails judge.now) (node_of node.now) item.now (rest_of behind.now))) }
+    ensures visited { OnOk result (IsVisited (shape_of judge.now.site.now) (leaf_passes judge.now) (node_of node.now) item.now (rest_of behind.now) (stack_of stack.old.items) (stack_of stack.new.items)) }
+    ensures reached { IfOk result (λ n. node_of n ≡ after_all (shape_of judge.now.site.now) (node_of node.now) item.now.steps) }
+    ensures halts { IfErr result (Halts (NodeFails (shape_of judge.now.site.now) (leaf_fails judge.now) (node_of node.now) item.now (rest_of behind.now))) }
 {
     let steps = item.steps.steps();
-    let Some(reached) = after_steps(judge.graph, node, steps) else {
+    let Some(reached) = after_steps(judge.site.graph(), node, steps) else {
         return Err(Halt::Fails(Why::Step));
     };
     let end = &item.end;

@@ -18,7 +18,7 @@ use Rattle.cert_check.proofs.check.check_tree.Goals as goal
 
 pub returns-clause-accepts : goal.returns-clause-accepts
 returns-clause-accepts c =
-    let p = c.args.problem.now in
+    let p = c.args.site.now in
     let claim = claim_of c.args.claim.now in
     let tree = c.args.tree.now in
     let r = c.check_from.result in
@@ -28,7 +28,7 @@ returns-clause-accepts c =
 
 pub returns-clause-refused : goal.returns-clause-refused
 returns-clause-refused c =
-    let p = c.args.problem.now in
+    let p = c.args.site.now in
     let claim = claim_of c.args.claim.now in
     let tree = c.args.tree.now in
     let r = c.check_from.result in
@@ -39,7 +39,7 @@ returns-clause-refused c =
 
 pub returns-clause-names_claim : goal.returns-clause-names_claim
 returns-clause-names_claim c =
-    let p = c.args.problem.now in
+    let p = c.args.site.now in
     let claim = claim_of c.args.claim.now in
     let tree = c.args.tree.now in
     let r = c.check_from.result in
@@ -49,7 +49,7 @@ returns-clause-names_claim c =
 
 pub returns-clause-names_node : goal.returns-clause-names_node
 returns-clause-names_node c =
-    let p = c.args.problem.now in
+    let p = c.args.site.now in
     let claim = claim_of c.args.claim.now in
     let tree = c.args.tree.now in
     let r = c.check_from.result in
@@ -60,7 +60,7 @@ returns-clause-names_node c =
 
 pub returns-clause-accepted : goal.returns-clause-accepted
 returns-clause-accepted c =
-    let p = c.args.problem.now in
+    let p = c.args.site.now in
     let claim = claim_of c.args.claim.now in
     let tree = c.args.tree.now in
     let r = c.check_from.result in
@@ -71,7 +71,7 @@ returns-clause-accepted c =
 
 pub returns-clause-least : goal.returns-clause-least
 returns-clause-least c =
-    let p = c.args.problem.now in
+    let p = c.args.site.now in
     let claim = claim_of c.args.claim.now in
     let tree = c.args.tree.now in
     let r = c.check_from.result in
@@ -79,4 +79,4 @@ returns-clause-least c =
     let same : c.match-check_from.result ≡ answer_of r = elim c.match-check_from.branch [ in-Ok w ↦ w.result-is ∙ ap answer_of (sym w.in-Ok.is) | in-Err w ↦ w.result-is ∙ ap answer_of (sym w.in-Err.is) ] in
     let proves = subst (λ (n : Node). OnOk r (Proves false p n claim tree)) start c.check_from.ensures.proves in
     let P : Type 0 = (s : ℕ → Bool) → IsStructure (shape_of p) s → IsAllowed (shape_of p) s → CostsEnough p (claimed_cost claim) s in
-    subst (λ (a : Result (Unit {0}) Refusal). OnOk a P) (sym same) (answer_ok P r (least p claim tree c.accepted_is_optimal.ensures c.is_valid.ensures.valid r proves))
+    subst (λ (a : Result (Unit {0}) Refusal). OnOk a P) (sym same) (answer_ok P r (least p claim tree c.accepted_is_optimal.ensures c.problem.ensures.valid r proves))

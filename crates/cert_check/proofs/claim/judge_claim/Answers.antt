@@ -9,7 +9,7 @@ use Rattle.cert_check.proofs.claim.judge_claim.Goals as goal
 
 pub returns-in-Network-clause-passes : goal.returns-in-Network-clause-passes
 returns-in-Network-clause-passes c =
-    let p = c.args.problem.now in
+    let p = c.args.site.now in
     let d_fits : SFits w128 c.d.result = search rules in
     let cost_fits : SFits w128 c.cost.result = search rules in
     let d_is = to_z-of_z w128 c.d.result d_fits ∙ c.d.ensures in
@@ -21,7 +21,7 @@ returns-in-Network-clause-passes c =
 
 pub returns-in-Network-clause-fails : goal.returns-in-Network-clause-fails
 returns-in-Network-clause-fails c =
-    let p = c.args.problem.now in
+    let p = c.args.site.now in
     let d_fits : SFits w128 c.d.result = search rules in
     let cost_fits : SFits w128 c.cost.result = search rules in
     let d_is = to_z-of_z w128 c.d.result d_fits ∙ c.d.ensures in

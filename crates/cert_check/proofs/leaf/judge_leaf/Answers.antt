@@ -1,6 +1,7 @@
-use Rattle.std.proofs.Common.{◌∙◌, sym, ap, ap₂, Bool, Option, List, ℤ, SFits, rules, to_z, of_z}
+use Rattle.std.proofs.Common.{◌∙◌, sym, ap, ap₂, Bool, Option, List, ℤ, SFits, OnOk, IfErr, subst, rules, to_z, of_z}
 use Rattle.std.specs.Int.{w128}
 use Rattle.std.proofs.lemmas.Int.{to_z-of_z}
+use Rattle.problem_rules.specs.Problem.{Problem}
 use Rattle.pgraph.specs.View.{node_of}
 use Rattle.tree_rules.specs.declared.why.Why.{Why}
 use Rattle.tree_rules.specs.Claim as claims
@@ -13,7 +14,7 @@ use Rattle.cert_check.proofs.leaf.judge_leaf.Goals as goal
 
 pub returns-in-Dead-clause-passes : goal.returns-in-Dead-clause-passes
 returns-in-Dead-clause-passes c =
-    let p = c.args.problem.now in
+    let p = c.args.site.now in
     let n = node_of c.args.node.now in
     let k = cost_over c.args.claimed in
     passes_at (end_of c.args.end.now) (dead c.in-Dead.x) (ap end_of c.in-Dead.is)
@@ -23,7 +24,7 @@ returns-in-Dead-clause-passes c =
 
 pub returns-in-Dead-clause-fails : goal.returns-in-Dead-clause-fails
 returns-in-Dead-clause-fails c =
-    let p = c.args.problem.now in
+    let p = c.args.site.now in
     let n = node_of c.args.node.now in
     let k = cost_over c.args.claimed in
     fails_at (end_of c.args.end.now) (dead c.in-Dead.x) (ap end_of c.in-Dead.is)
@@ -33,7 +34,7 @@ returns-in-Dead-clause-fails c =
 
 pub returns-in-Clash-clause-passes : goal.returns-in-Clash-clause-passes
 returns-in-Clash-clause-passes c =
-    let p = c.args.problem.now in
+    let p = c.args.site.now in
     let n = node_of c.args.node.now in
     let k = cost_over c.args.claimed in
     passes_at (end_of c.args.end.now) (clash c.in-Clash.k) (ap end_of c.in-Clash.is)
@@ -43,7 +44,7 @@ returns-in-Clash-clause-passes c =
 
 pub returns-in-Clash-clause-fails : goal.returns-in-Clash-clause-fails
 returns-in-Clash-clause-fails c =
-    let p = c.args.problem.now in
+    let p = c.args.site.now in
     let n = node_of c.args.node.now in
     let k = cost_over c.args.claimed in
     fails_at (end_of c.args.end.now) (clash c.in-Clash.k) (ap end_of c.in-Clash.is)
@@ -53,7 +54,7 @@ returns-in-Clash-clause-fails c =
 
 pub returns-in-Refuted-clause-passes : goal.returns-in-Refuted-clause-passes
 returns-in-Refuted-clause-passes c =
-    let p = c.args.problem.now in
+    let p = c.args.site.now in
     let n = node_of c.args.node.now in
     let k = cost_over c.args.claimed in
     passes_at (end_of c.args.end.now) (refuted c.numbers.result.now) (ap end_of c.in-Refuted.is ∙ ap (λ (ys : List ℤ). leaf (refuted ys)) (sym c.numbers.ensures))
@@ -63,7 +64,7 @@ returns-in-Refuted-clause-passes c =
 
 pub returns-in-Refuted-clause-fails : goal.returns-in-Refuted-clause-fails
 returns-in-Refuted-clause-fails c =
-    let p = c.args.problem.now in
+    let p = c.args.site.now in
     let n = node_of c.args.node.now in
     let k = cost_over c.args.claimed in
     fails_at (end_of c.args.end.now) (refuted c.numbers.result.now) (ap end_of c.in-Refuted.is ∙ ap (λ (ys : List ℤ). leaf (refuted ys)) (sym c.numbers.ensures))
@@ -73,7 +74,7 @@ returns-in-Refuted-clause-fails c =
 
 pub returns-in-Bound-clause-passes : goal.returns-in-Bound-clause-passes
 returns-in-Bound-clause-passes c =
-    let p = c.args.problem.now in
+    let p = c.args.site.now in
     let n = node_of c.args.node.now in
     let k = cost_over c.args.claimed in
     let fits : SFits w128 c.d.result = search rules in
@@ -84,7 +85,7 @@ returns-in-Bound-clause-passes c =
 
 pub returns-in-Bound-clause-fails : goal.returns-in-Bound-clause-fails
 returns-in-Bound-clause-fails c =
-    let p = c.args.problem.now in
+    let p = c.args.site.now in
     let n = node_of c.args.node.now in
     let k = cost_over c.args.claimed in
     let fits : SFits w128 c.d.result = search rules in
@@ -95,20 +96,22 @@ returns-in-Bound-clause-fails c =
 
 pub returns-in-Open-clause-passes : goal.returns-in-Open-clause-passes
 returns-in-Open-clause-passes c =
-    let p = c.args.problem.now in
+    let p = c.args.site.now in
     let n = node_of c.args.node.now in
     let k = cost_over c.args.claimed in
     passes_at (end_of c.args.end.now) untried (ap end_of c.in-Open.is)
     (λ (l : Leaf). LeafPasses c.args.partial p k n l)
     ((claimed : Option claims.CostOver) → LeafPasses c.args.partial p claimed n untried)
-    c.judge_open.result (λ q. q k) c.judge_open.ensures.passes
+    c.judge_open.result (λ q. q k)
+    (subst (λ (o : Problem). OnOk c.judge_open.result ((claimed : Option claims.CostOver) → LeafPasses c.args.partial o claimed n untried)) c.problem.ensures.same c.judge_open.ensures.passes)
 
 pub returns-in-Open-clause-fails : goal.returns-in-Open-clause-fails
 returns-in-Open-clause-fails c =
-    let p = c.args.problem.now in
+    let p = c.args.site.now in
     let n = node_of c.args.node.now in
     let k = cost_over c.args.claimed in
     fails_at (end_of c.args.end.now) untried (ap end_of c.in-Open.is)
     (λ (l : Leaf) (why : Why). LeafFails c.args.partial p k n l why)
     (λ (why : Why). (claimed : Option claims.CostOver) → LeafFails c.args.partial p claimed n untried why)
-    c.judge_open.result (λ why q. q k) c.judge_open.ensures.fails
+    c.judge_open.result (λ why q. q k)
+    (subst (λ (o : Problem). IfErr c.judge_open.result (λ why. (claimed : Option claims.CostOver) → LeafFails c.args.partial o claimed n untried why)) c.problem.ensures.same c.judge_open.ensures.fails)
