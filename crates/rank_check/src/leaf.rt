@@ -1,9 +1,7 @@
 //! Leaves that name a network.
 ghost use Rattle.std.specs.Prelude.{◌≡◌, ◌⊎◌, ◌↔◌, [], Some, None, IsTrue, IfSome, IfNone, OnOk, IfErr};
-ghost use Rattle.pns_rules.specs.Shape.{shape_of};
 ghost use Rattle.tree_rules.specs.declared.why.Why.TheVariants as causes;
 ghost use Rattle.tree_rules.specs.Claim.{IsFeasible};
-ghost use Rattle.pgraph.specs.Tables.{shape};
 ghost use Rattle.pgraph.specs.View.{node_of};
 ghost use Rattle.cert_parts.specs.Shown.{cost_over};
 ghost use Rattle.rank_rules.specs.Networks as ranks;
@@ -14,9 +12,9 @@ ghost use Rattle.rank_check.specs.Marks.{NamedFails};
 
 use crate::order::are_same;
 use branch_tree::{Network, Scaled};
-use cert_parts::{CostOver, judge_bound};
-use pgraph::Graph;
-use pns_problem::Problem;
+use cert_parts::judge_bound;
+use frac128::CostOver;
+use pgraph::Site;
 use rank_rules::RankWhy;
 use tree_rules::Why;
 use unit_sets::{Node, UnitSet};
@@ -33,12 +31,10 @@ pub(crate) fn cost_of(network: &Network) -> CostOver
 }
 
 /// Whether each unit of the graph is taken in or left out at the node, and those that are taken in are those of the network.
-fn is_only(problem: &Problem, graph: &Graph, node: &Node, network: &Network) -> bool
-    requires graph { shape graph.now ≡ shape_of problem.now }
-    ensures { IsTrue result ↔ IsOnly problem.now (Some network.now) (node_of node.now) }
+fn is_only(site: &Site<'_>, node: &Node, network: &Network) -> bool
+    ensures { IsTrue result ↔ IsOnly site.now (Some network.now) (node_of node.now) }
 {
-    let _units = problem.units();
-    graph.is_proper();
+    let graph = site.graph();
     let all = UnitSet::below(graph.unit_count());
     let decided = node.inside.union(node.outside);
     if !all.within(decided) {
@@ -59,22 +55,20 @@ fn told(why: Why) -> RankWhy
 
 /// Judges a leaf that names the network.
 fn judge_named(
-    problem: &Problem,
-    graph: &Graph,
+    site: &Site<'_>,
     node: &Node,
     network: &Network,
     scaled: &Scaled,
 ) -> Result<(), RankWhy>
-    requires graph { shape graph.now ≡ shape_of problem.now }
-    requires feasible { IsFeasible problem.now network.now }
-    ensures passes { OnOk result (IsNamed problem.now (Some network.now) (node_of node.now) scaled.now.d scaled.now.ys) }
-    ensures fails { IfErr result (NamedFails problem.now (Some network.now) (node_of node.now) scaled.now.d scaled.now.ys) }
+    requires feasible { IsFeasible site.now network.now }
+    ensures passes { OnOk result (IsNamed site.now (Some network.now) (node_of node.now) scaled.now.d scaled.now.ys) }
+    ensures fails { IfErr result (NamedFails site.now (Some network.now) (node_of node.now) scaled.now.d scaled.now.ys) }
 {
-    if !is_only(problem, graph, node, network) {
+    if !is_only(site, node, network) {
         return Err(RankWhy::Named);
     }
     let cost = cost_of(network);
-    match judge_bound(problem, graph, node, Some(cost), scaled.d(), scaled.ys()) {
+    match judge_bound(site, node, Some(cost), scaled.d(), scaled.ys()) {
         Ok(()) => Ok(()),
         Err(why) => Err(told(why)),
     }
@@ -99,20 +93,18 @@ fn find(networks: &[Network], number: u32) -> Option<&Network>
 
 /// Judges a leaf that names the network of this number.
 pub(crate) fn judge_numbered(
-    problem: &Problem,
-    graph: &Graph,
+    site: &Site<'_>,
     networks: &[Network],
     node: &Node,
     number: u32,
     scaled: &Scaled,
 ) -> Result<(), RankWhy>
-    requires graph { shape graph.now ≡ shape_of problem.now }
-    requires listed { ArePassing problem.now [] networks.now }
-    ensures passes { OnOk result (IsNamed problem.now (numbered number networks.now) (node_of node.now) scaled.now.d scaled.now.ys) }
-    ensures fails { IfErr result (NamedFails problem.now (numbered number networks.now) (node_of node.now) scaled.now.d scaled.now.ys) }
+    requires listed { ArePassing site.now [] networks.now }
+    ensures passes { OnOk result (IsNamed site.now (numbered number networks.now) (node_of node.now) scaled.now.d scaled.now.ys) }
+    ensures fails { IfErr result (NamedFails site.now (numbered number networks.now) (node_of node.now) scaled.now.d scaled.now.ys) }
 {
     match find(networks, number) {
-        Some(network) => judge_named(problem, graph, node, network, scaled),
+        Some(network) => judge_named(site, node, network, scaled),
         None => Err(RankWhy::Named),
     }
 }

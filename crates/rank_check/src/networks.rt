@@ -1,30 +1,25 @@
 //! The list of networks.
 ghost use Rattle.std.specs.Prelude.{◌≡◌, ◌<◌, ◌+◌, ◌-◌, ◌^◌, [], false, length, OnOk, IfErr};
-ghost use Rattle.pns_rules.specs.Shape.{shape_of};
 ghost use Rattle.tree_rules.specs.Claim as rules;
 ghost use Rattle.tree_rules.specs.Claim.{IsFeasible};
-ghost use Rattle.pgraph.specs.Tables.{shape};
 ghost use Rattle.rank_rules.specs.Networks.{IsInOrder, ArePassing, NetworkFails, IsFirstOff};
 ghost use Rattle.rank_check.specs.Earlier.{earlier};
 
 use crate::order::is_in_order;
 use branch_tree::Network;
 use cert_parts::judge_network;
-use pgraph::Graph;
-use pns_problem::Problem;
+use pgraph::Site;
 use rank_rules::RankWhy;
 use tree_rules::Why;
 
 /// Judges a network as a claim.
-fn judge_alone(problem: &Problem, graph: &Graph, network: &Network) -> Result<(), Why>
-    requires graph { shape graph.now ≡ shape_of problem.now }
-    ensures passes { OnOk result (IsFeasible problem.now network.now) }
-    ensures fails { IfErr result (λ why. rules.ClaimFails false problem.now (rules.network network.now) why) }
+fn judge_alone(site: &Site<'_>, network: &Network) -> Result<(), Why>
+    ensures passes { OnOk result (IsFeasible site.now network.now) }
+    ensures fails { IfErr result (λ why. rules.ClaimFails false site.now (rules.network network.now) why) }
 {
     network.is_sized();
     judge_network(
-        problem,
-        graph,
+        site,
         network.units(),
         network.sizes(),
         network.d(),
@@ -34,18 +29,16 @@ fn judge_alone(problem: &Problem, graph: &Graph, network: &Network) -> Result<()
 
 /// Judges the network at the place: as a claim, and then its order.
 fn judge_at(
-    problem: &Problem,
-    graph: &Graph,
+    site: &Site<'_>,
     networks: &[Network],
     at: usize,
     network: &Network,
 ) -> Result<(), RankWhy>
-    requires graph { shape graph.now ≡ shape_of problem.now }
     requires within { at < length networks.now }
-    ensures passes { OnOk result (IsFeasible problem.now network.now × IsInOrder (earlier at networks.now) network.now) }
-    ensures fails { IfErr result (NetworkFails problem.now (earlier at networks.now) network.now) }
+    ensures passes { OnOk result (IsFeasible site.now network.now × IsInOrder (earlier at networks.now) network.now) }
+    ensures fails { IfErr result (NetworkFails site.now (earlier at networks.now) network.now) }
 {
-    match judge_alone(problem, graph, network) {
+    match judge_alone(site, network) {
         Err(why) => Err(RankWhy::Plain(why)),
         Ok(()) => {
             if is_in_order(networks, at, network) {
@@ -66,19 +59,14 @@ fn number(at: usize) -> u32
 }
 
 /// Judges the networks in turn. Where one fails, its number, counted from 1, and the cause are given.
-pub(crate) fn judge_networks(
-    problem: &Problem,
-    graph: &Graph,
-    networks: &[Network],
-) -> Result<(), (u32, RankWhy)>
-    requires graph { shape graph.now ≡ shape_of problem.now }
+pub(crate) fn judge_networks(site: &Site<'_>, networks: &[Network]) -> Result<(), (u32, RankWhy)>
     requires few { length networks.now < 2 ^ 32 }
-    ensures passes { OnOk result (ArePassing problem.now [] networks.now) }
-    ensures fails { IfErr result (λ found. IsFirstOff problem.now [] networks.now found.0 found.1) }
+    ensures passes { OnOk result (ArePassing site.now [] networks.now) }
+    ensures fails { IfErr result (λ found. IsFirstOff site.now [] networks.now found.0 found.1) }
 {
     'judging: for i in 0..networks.len() {
         let network = &networks[i];
-        match judge_at(problem, graph, networks, i, network) {
+        match judge_at(site, networks, i, network) {
             Ok(()) => {}
             Err(why) => return Err((number(i), why)),
         }

@@ -5,7 +5,7 @@ ghost use Rattle.rank_rules.specs.Networks.{RisesFrom, IsNewTo, IsInOrder};
 ghost use Rattle.rank_check.specs.Earlier.{earlier};
 
 use branch_tree::Network;
-use cert_parts::{CostOver, is_reached};
+use frac128::CostOver;
 use unit_sets::UnitSet;
 
 /// Whether the two are the same units.
@@ -32,7 +32,7 @@ fn is_no_cheaper(before: &Network, network: &Network) -> bool
         cost: before.cost(),
         d: before.d(),
     };
-    is_reached(&least, network.cost(), network.d())
+    least.is_reached(network.cost(), network.d())
 }
 
 /// Whether no network before the place has the units.

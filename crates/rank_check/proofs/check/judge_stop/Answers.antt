@@ -10,7 +10,7 @@ use Rattle.rank_check.proofs.check.judge_stop.Goals as goal
 
 pub returns-in-Err : goal.returns-in-Err
 returns-in-Err c =
-    let p = c.args.problem.now in
+    let p = c.args.site.now in
     let t = c.args.text.now in
     let found = leaves_at c.args.stop.now.leaves.items in
     mark_fails_before p t found c.in-Node.node c.in-Err.earlier c.in-Node.why c.in-Err.cause
@@ -20,7 +20,7 @@ returns-in-Err c =
 
 pub returns-in-Ok : goal.returns-in-Ok
 returns-in-Ok c =
-    let p = c.args.problem.now in
+    let p = c.args.site.now in
     let t = c.args.text.now in
     let found = leaves_at c.args.stop.now.leaves.items in
     node_fails_first p t found c.in-Node.node c.in-Node.why

@@ -1,6 +1,6 @@
 use Rattle.std.proofs.Common.{◌≡◌, ◌∙◌, [], ◌∷◌, List, ℕ, Option, true, OnOk, IfOk, IfErr, ap₂, subst}
 use Rattle.number_sets.specs.Sets.{has}
-use Rattle.pns_rules.specs.Shape.{Shape, shape_of}
+use Rattle.pns_rules.specs.Shape.{shape_of}
 use Rattle.pns_rules.specs.Nodes.{Node}
 use Rattle.tree_rules.specs.Tree.{Pass}
 use Rattle.tree_rules.specs.Claim.{Network, CostOver}
@@ -16,48 +16,44 @@ use Rattle.rank_check.proofs.check.walk_tree.Goals as goal
 
 pub returns-clause-passes : goal.returns-clause-passes
 returns-clause-passes c =
-    let p = c.args.problem.now in
+    let p = c.args.site.now in
     let t = c.args.text.now in
     let u = to_undercut t.count t.networks in
     let start : node_of (record { inside = c.empty.result; outside = c.empty-2.result }) ≡ first_node = λ i. record { inside = has (c.empty.ensures i); outside = has (c.empty-2.ensures i) } in
     let cost : cost_over c.cost_to_undercut-undercut.result ≡ u = c.cost_to_undercut-undercut.ensures ∙ ap₂ (λ (k : ℕ) (ws : List Network). to_undercut k ws) c.count.ensures c.networks.ensures in
     subst (λ (ts : Tree). OnOk c.check_nodes.result (Pass (shape_of p) (LeafPasses true p u) (first_node ∷ []) ts)) c.tree.ensures
     (subst (λ (v : Option CostOver). OnOk c.check_nodes.result (Pass (shape_of p) (LeafPasses true p v) (first_node ∷ []) c.tree.result.now)) cost
-    (subst (λ (n : Node). OnOk c.check_nodes.result (Pass (shape_of p) (LeafPasses true p (cost_over c.cost_to_undercut-undercut.result)) (n ∷ []) c.tree.result.now)) start
-    (subst (λ (g : Shape). OnOk c.check_nodes.result (Pass g (LeafPasses true p (cost_over c.cost_to_undercut-undercut.result)) ((node_of (record { inside = c.empty.result; outside = c.empty-2.result })) ∷ []) c.tree.result.now)) c.requires.graph c.check_nodes.ensures.passes)))
+    (subst (λ (n : Node). OnOk c.check_nodes.result (Pass (shape_of p) (LeafPasses true p (cost_over c.cost_to_undercut-undercut.result)) (n ∷ []) c.tree.result.now)) start c.check_nodes.ensures.passes))
 
 pub returns-clause-leaves : goal.returns-clause-leaves
 returns-clause-leaves c =
-    let p = c.args.problem.now in
+    let p = c.args.site.now in
     let t = c.args.text.now in
     let u = to_undercut t.count t.networks in
     let start : node_of (record { inside = c.empty.result; outside = c.empty-2.result }) ≡ first_node = λ i. record { inside = has (c.empty.ensures i); outside = has (c.empty-2.ensures i) } in
     let cost : cost_over c.cost_to_undercut-undercut.result ≡ u = c.cost_to_undercut-undercut.ensures ∙ ap₂ (λ (k : ℕ) (ws : List Network). to_undercut k ws) c.count.ensures c.networks.ensures in
     subst (λ (ts : Tree). IfOk c.check_nodes.result (λ w. leaves_at w.items ≡ open_leaves (shape_of p) (first_node ∷ []) ts 0)) c.tree.ensures
     (subst (λ (v : Option CostOver). IfOk c.check_nodes.result (λ w. leaves_at w.items ≡ open_leaves (shape_of p) (first_node ∷ []) c.tree.result.now 0)) cost
-    (subst (λ (n : Node). IfOk c.check_nodes.result (λ w. leaves_at w.items ≡ open_leaves (shape_of p) (n ∷ []) c.tree.result.now 0)) start
-    (subst (λ (g : Shape). IfOk c.check_nodes.result (λ w. leaves_at w.items ≡ open_leaves g ((node_of (record { inside = c.empty.result; outside = c.empty-2.result })) ∷ []) c.tree.result.now 0)) c.requires.graph c.check_nodes.ensures.leaves)))
+    (subst (λ (n : Node). IfOk c.check_nodes.result (λ w. leaves_at w.items ≡ open_leaves (shape_of p) (n ∷ []) c.tree.result.now 0)) start c.check_nodes.ensures.leaves))
 
 pub returns-clause-fault : goal.returns-clause-fault
 returns-clause-fault c =
-    let p = c.args.problem.now in
+    let p = c.args.site.now in
     let t = c.args.text.now in
     let u = to_undercut t.count t.networks in
     let start : node_of (record { inside = c.empty.result; outside = c.empty-2.result }) ≡ first_node = λ i. record { inside = has (c.empty.ensures i); outside = has (c.empty-2.ensures i) } in
     let cost : cost_over c.cost_to_undercut-undercut.result ≡ u = c.cost_to_undercut-undercut.ensures ∙ ap₂ (λ (k : ℕ) (ws : List Network). to_undercut k ws) c.count.ensures c.networks.ensures in
     subst (λ (ts : Tree). IfErr c.check_nodes.result (λ stop. NamesFault (shape_of p) (LeafPasses true p u) (LeafFails true p u) (first_node ∷ []) ts stop.refusal)) c.tree.ensures
     (subst (λ (v : Option CostOver). IfErr c.check_nodes.result (λ stop. NamesFault (shape_of p) (LeafPasses true p v) (LeafFails true p v) (first_node ∷ []) c.tree.result.now stop.refusal)) cost
-    (subst (λ (n : Node). IfErr c.check_nodes.result (λ stop. NamesFault (shape_of p) (LeafPasses true p (cost_over c.cost_to_undercut-undercut.result)) (LeafFails true p (cost_over c.cost_to_undercut-undercut.result)) (n ∷ []) c.tree.result.now stop.refusal)) start
-    (subst (λ (g : Shape). IfErr c.check_nodes.result (λ stop. NamesFault g (LeafPasses true p (cost_over c.cost_to_undercut-undercut.result)) (LeafFails true p (cost_over c.cost_to_undercut-undercut.result)) ((node_of (record { inside = c.empty.result; outside = c.empty-2.result })) ∷ []) c.tree.result.now stop.refusal)) c.requires.graph c.check_nodes.ensures.fault)))
+    (subst (λ (n : Node). IfErr c.check_nodes.result (λ stop. NamesFault (shape_of p) (LeafPasses true p (cost_over c.cost_to_undercut-undercut.result)) (LeafFails true p (cost_over c.cost_to_undercut-undercut.result)) (n ∷ []) c.tree.result.now stop.refusal)) start c.check_nodes.ensures.fault))
 
 pub returns-clause-before : goal.returns-clause-before
 returns-clause-before c =
-    let p = c.args.problem.now in
+    let p = c.args.site.now in
     let t = c.args.text.now in
     let u = to_undercut t.count t.networks in
     let start : node_of (record { inside = c.empty.result; outside = c.empty-2.result }) ≡ first_node = λ i. record { inside = has (c.empty.ensures i); outside = has (c.empty-2.ensures i) } in
     let cost : cost_over c.cost_to_undercut-undercut.result ≡ u = c.cost_to_undercut-undercut.ensures ∙ ap₂ (λ (k : ℕ) (ws : List Network). to_undercut k ws) c.count.ensures c.networks.ensures in
     subst (λ (ts : Tree). IfErr c.check_nodes.result (λ stop. AreBefore (shape_of p) (first_node ∷ []) ts stop.refusal (leaves_at stop.leaves.items))) c.tree.ensures
     (subst (λ (v : Option CostOver). IfErr c.check_nodes.result (λ stop. AreBefore (shape_of p) (first_node ∷ []) c.tree.result.now stop.refusal (leaves_at stop.leaves.items))) cost
-    (subst (λ (n : Node). IfErr c.check_nodes.result (λ stop. AreBefore (shape_of p) (n ∷ []) c.tree.result.now stop.refusal (leaves_at stop.leaves.items))) start
-    (subst (λ (g : Shape). IfErr c.check_nodes.result (λ stop. AreBefore g ((node_of (record { inside = c.empty.result; outside = c.empty-2.result })) ∷ []) c.tree.result.now stop.refusal (leaves_at stop.leaves.items))) c.requires.graph c.check_nodes.ensures.before)))
+    (subst (λ (n : Node). IfErr c.check_nodes.result (λ stop. AreBefore (shape_of p) (n ∷ []) c.tree.result.now stop.refusal (leaves_at stop.leaves.items))) start c.check_nodes.ensures.before))

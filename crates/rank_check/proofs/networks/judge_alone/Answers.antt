@@ -8,7 +8,7 @@ use Rattle.rank_check.proofs.networks.judge_alone.Goals as goal
 
 pub returns-clause-passes : goal.returns-clause-passes
 returns-clause-passes c =
-    let p = c.args.problem.now in
+    let p = c.args.site.now in
     let d_fits : SFits w128 c.d.result = search rules in
     let cost_fits : SFits w128 c.cost.result = search rules in
     let d_is = to_z-of_z w128 c.d.result d_fits ∙ c.d.ensures in
@@ -19,7 +19,7 @@ returns-clause-passes c =
 
 pub returns-clause-fails : goal.returns-clause-fails
 returns-clause-fails c =
-    let p = c.args.problem.now in
+    let p = c.args.site.now in
     let d_fits : SFits w128 c.d.result = search rules in
     let cost_fits : SFits w128 c.cost.result = search rules in
     let d_is = to_z-of_z w128 c.d.result d_fits ∙ c.d.ensures in
