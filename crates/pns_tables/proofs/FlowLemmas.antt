@@ -15,7 +15,7 @@ use Rattle.flow_rules.specs.Flows.{balance}
 use Rattle.flow_rules.specs.Steps.{AreInRange}
 use Rattle.flow_rules.specs.FeasibleSteps.{units_at, balance_steps, materials_steps}
 use Rattle.flow_rules.proofs.ZeroLemmas.{int_eq_other, zero_from}
-use Rattle.flow_program.proofs.WalkLemmas.{IsNext, rest_within}
+use Rattle.pns_tables.proofs.Walk.{rest_within}
 
 -- whether the unit has a rate of the material
 abbrev pub has_rate : Net → ℕ → ℕ → Bool
@@ -62,12 +62,12 @@ made_ends net z j set made left is known e h =
     nothing : (a b : ℤ) → b ≡ pos 0 → a ≡ a +ℤ b
     nothing a b e = omega (arith, ints)
 
-module _ (net : Net) (z : ℕ → ℤ) (j : ℕ) (set : List ℕ) (made : ℤ) (left : List ℕ) (i : ℕ) (rest : List ℕ) (next : IsNext 128 left i rest) (h : IsMadeSoFar net z j set made left) where
+module _ (net : Net) (z : ℕ → ℤ) (j : ℕ) (set : List ℕ) (made : ℤ) (left : List ℕ) (i : ℕ) (rest : List ℕ) (is : left ≡ i ∷ rest) (h : IsMadeSoFar net z j set made left) where
   abbrev pub AheadAt : Bool → Type 0
   AheadAt b = AreInRange (balance_steps net z j (cond b (i ∷ kept (has_rate net j) rest) (kept (has_rate net j) rest)) made)
 
   steps_ahead : AheadAt (has_rate net j i)
-  steps_ahead = subst (λ (xs : List ℕ). AreInRange (balance_steps net z j (kept (has_rate net j) xs) made)) next.is h.steps
+  steps_ahead = subst (λ (xs : List ℕ). AreInRange (balance_steps net z j (kept (has_rate net j) xs) made)) is h.steps
 
   steps_there : net.rate j i ≢ pos 0 → AheadAt true
   steps_there n = subst AheadAt (ap not (int_eq_other (net.rate j i) n)) steps_ahead
@@ -80,8 +80,8 @@ module _ (net : Net) (z : ℕ → ℤ) (j : ℕ) (set : List ℕ) (made : ℤ) (
 
   pub made_more : IsMadeSoFar net z j set (made +ℤ net.rate j i *ℤ z i) rest
   made_more = record {
-    within = λ u k. h.within u (rest_within 128 left i rest next u k);
-    value = regroup made (net.rate j i *ℤ z i) (total (λ i. net.rate j i *ℤ z i) rest) ∙ ap (λ (xs : List ℕ). made +ℤ total (λ i. net.rate j i *ℤ z i) xs) (sym next.is) ∙ h.value;
+    within = rest_within (has set) left rest i is h.within;
+    value = regroup made (net.rate j i *ℤ z i) (total (λ i. net.rate j i *ℤ z i) rest) ∙ ap (λ (xs : List ℕ). made +ℤ total (λ i. net.rate j i *ℤ z i) xs) (sym is) ∙ h.value;
     steps = (at (int_eq (net.rate j i) (pos 0)) refl).0;
     in_range = (at (int_eq (net.rate j i) (pos 0)) refl).1;
   }

@@ -13,18 +13,13 @@ use branch_tree::Network;
 use flow_program::rate_at;
 use pns_problem::Problem;
 
-fn product(rate: i64, size: i128) -> i128
-    requires { InRange (rate *ℤ size) }
-    ensures { result ≡ rate *ℤ size }
+/// What a unit of the size moves at the rate.
+pub fn moved_at(rate: i64, size: i128) -> i128
+    requires { rate ≢ pos 0 → InRange (rate *ℤ size) }
+    ensures value { result ≡ rate *ℤ size }
+    ensures in_range { InRange result }
 {
-    rate as i128 * size
-}
-
-fn sum(left: i128, right: i128) -> i128
-    requires { InRange (left +ℤ right) }
-    ensures { result ≡ left +ℤ right }
-{
-    left + right
+    if rate == 0 { 0 } else { rate as i128 * size }
 }
 
 /// The sum with what a unit of the size moves at the rate.
@@ -36,28 +31,21 @@ fn with_unit(made: i128, rate: i64, size: i128) -> i128
     if rate == 0 {
         made
     } else {
-        sum(made, product(rate, size))
+        made + moved_at(rate, size)
     }
 }
 
-/// What the network makes of the material less what it uses of it, in 10^-12 over its `d`. All sums are in range where they were
-/// when its flows were judged.
+/// What the network makes of the material less what it uses of it, in 10^-12 over its `d`. All sums
+/// are in range where they were when its flows were judged.
 pub fn flow_of(problem: &Problem, network: &Network, j: u32) -> i128
     requires known { (u : ℕ) → has network.now.units u ≡ true → u < length problem.now.units }
     requires steps { AreInRange (balance_steps (net_of problem.now) (size_in network.now) j (units_at (net_of problem.now) (has network.now.units) j) (pos 0)) }
     ensures value { result ≡ balance (net_of problem.now) (has network.now.units) (size_in network.now) j }
     ensures in_range { InRange result }
 {
-    let set = network.units();
-    set.rises();
     let mut made = 0;
-    let mut left = set;
-    'units: loop {
-        left.rises();
-        let Some(u) = left.least() else {
-            return made;
-        };
+    for u in network.units() {
         made = with_unit(made, rate_at(problem, j, u), size_at(network, u));
-        left = left.without(u);
     }
+    made
 }

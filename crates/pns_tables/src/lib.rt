@@ -3,7 +3,7 @@
 //!
 //! [`unit_table`] and [`material_table`] give the bytes that `Table` of `report_rules` says, in the words of `csv` itself. All sums are
 //! those by which the flows of a network are judged, so that none leaves the range where they were. The numbers of other texts on a
-//! network come from [`size_at`] and [`flow_of`] too.
+//! network come from [`size_at`] and [`flow_of`] too, and its materials from [`materials_in`].
 //!
 //! Modules: `rows`, records by the writer of `csv`; `sizes` and `flows`, the numbers; `units` and `materials`, the tables.
 #![tactic(auto)]
@@ -14,7 +14,7 @@ mod rows;
 mod sizes;
 mod units;
 
-pub use flows::flow_of;
-pub use materials::material_table;
+pub use flows::{flow_of, moved_at};
+pub use materials::{kind_word, material_table, materials_in};
 pub use sizes::size_at;
 pub use units::unit_table;

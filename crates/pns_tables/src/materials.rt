@@ -4,9 +4,7 @@ ghost use Rattle.csv.specs.Writing.{default_writer, row_text};
 ghost use Rattle.number_sets.specs.Sets.{has};
 ghost use Rattle.pns_problem.specs.Kind.{kind_of};
 ghost use Rattle.text_rules.specs.Canonical.{kind_word};
-ghost use Rattle.pns_rules.specs.Shape.{shape_of};
-ghost use Rattle.pgraph.specs.Tables.{shape};
-ghost use Rattle.flow_rules.specs.Net.{net_of};
+ghost use Rattle.flow_rules.specs.Net.{net_of, materials_of};
 ghost use Rattle.flow_rules.specs.Steps.{AreInRange};
 ghost use Rattle.flow_rules.specs.FeasibleSteps.{units_at, balance_steps, feasible_steps};
 ghost use Rattle.tree_rules.specs.Claim.{size_in};
@@ -19,12 +17,23 @@ use crate::rows::{headed, push_row, written};
 use crate::sizes::quotient;
 use branch_tree::Network;
 use csv::Writer;
-use pgraph::Graph;
+use pgraph::Site;
 use pns_problem::{Kind, Problem};
 use std::alloc::{AllocError, Global};
+use unit_sets::MatSet;
+
+/// The materials of the network.
+pub fn materials_in(site: &Site<'_>, network: &Network) -> MatSet
+    requires known { (u : ℕ) → has network.now.units u ≡ true → u < length site.now.units }
+    ensures { result ≡ materials_of (net_of site.now) (has network.now.units) }
+{
+    let materials = site.graph().materials(network.units());
+    materials.rises();
+    materials
+}
 
 /// The word of a kind, as in the problem text.
-fn kind_word(kind: Kind) -> &'static str
+pub fn kind_word(kind: Kind) -> &'static str
     ensures { result.now ≡ kind_word (kind_of kind) }
 {
     match kind {
@@ -63,26 +72,16 @@ fn push_material(
 /// not made. The sums are those by which the network's flows are judged, and are in range.
 pub fn material_table(
     alloc: Global,
-    problem: &Problem,
-    graph: &Graph,
+    site: &Site<'_>,
     network: &Network,
 ) -> Result<Vec<u8>, AllocError>
-    requires graph { shape graph.now ≡ shape_of problem.now }
-    requires known { AreUnits problem.now network.now.units }
-    requires steps { AreInRange (feasible_steps (net_of problem.now) (has network.now.units) (size_in network.now) network.now.d) }
-    ensures { IfOk result (λ bytes. IsMaterialTable problem.now network.now bytes.items) }
+    requires known { AreUnits site.now network.now.units }
+    requires steps { AreInRange (feasible_steps (net_of site.now) (has network.now.units) (size_in network.now) network.now.d) }
+    ensures { IfOk result (λ bytes. IsMaterialTable site.now network.now bytes.items) }
 {
-    graph.is_proper();
     let mut writer = headed(alloc, b"material", b"kind", b"flow_e12")?;
-    let materials = graph.materials(network.units());
-    materials.rises();
-    let mut left = materials;
-    'materials: loop {
-        left.rises();
-        let Some(j) = left.least() else {
-            return written(writer);
-        };
-        push_material(alloc, &mut writer, problem, network, j)?;
-        left = left.without(j);
+    for j in materials_in(site, network) {
+        push_material(alloc, &mut writer, site.problem(), network, j)?;
     }
+    written(writer)
 }

@@ -16,14 +16,12 @@ pub fn size_at(network: &Network, u: u32) -> i128
     network.is_sized();
     let mut left = network.units();
     'units: for size in network.sizes() {
-        left.rises();
-        let Some(unit) = left.least() else {
+        let Some(unit) = left.take_least() else {
             return 0;
         };
         if unit == u {
             return *size;
         }
-        left = left.without(unit);
     }
     0
 }

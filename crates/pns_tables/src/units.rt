@@ -46,13 +46,8 @@ pub fn unit_table(
     ensures { IfOk result (λ bytes. IsUnitTable problem.now network.now bytes.items) }
 {
     let mut writer = headed(alloc, b"unit", b"size_e6", b"fix_e6")?;
-    let mut left = network.units();
-    'units: loop {
-        left.rises();
-        let Some(u) = left.least() else {
-            return written(writer);
-        };
+    for u in network.units() {
         push_unit(alloc, &mut writer, problem, network, u)?;
-        left = left.without(u);
     }
+    written(writer)
 }
