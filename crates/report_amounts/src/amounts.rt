@@ -168,13 +168,8 @@ pub fn unit_sum(what: UnitAmount, problem: &Problem, network: &Network) -> Numbe
     ensures { result ≡ unit_sum what problem.now network.now }
 {
     let mut sum = Number::nothing();
-    let mut left = network.units();
-    'units: loop {
-        left.rises();
-        let Some(u) = left.least() else {
-            return sum;
-        };
+    for u in network.units() {
         sum = sum.plus(&amount(what, problem, network, u));
-        left = left.without(u);
     }
+    sum
 }

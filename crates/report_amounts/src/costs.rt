@@ -1,10 +1,8 @@
 //! The numbers of a network's materials, and the sums of their costs.
-ghost use Rattle.std.specs.Prelude.{◌≡◌, ◌<◌, ◌<ℤ◌, ℕ, pos, neg_ℤ, true, length};
+ghost use Rattle.std.specs.Prelude.{◌≡◌, ◌<◌, ◌<ℤ◌, pos, neg_ℤ, true, length};
 ghost use Rattle.integer_laws.specs.Range.{InRange};
 ghost use Rattle.number_sets.specs.Sets.{has};
 ghost use Rattle.problem_rules.specs.Problem.{material_at};
-ghost use Rattle.pns_rules.specs.Shape.{shape_of};
-ghost use Rattle.pgraph.specs.Tables.{shape};
 ghost use Rattle.flow_rules.specs.Net.{net_of, materials_of};
 ghost use Rattle.flow_rules.specs.Flows.{balance};
 ghost use Rattle.tree_rules.specs.Claim.{IsFeasible, size_in};
@@ -13,23 +11,10 @@ ghost use Rattle.report_rules.specs.Amounts.{flowing, net, cost, part_of, cost_s
 use crate::amounts::quotient;
 use crate::number::Number;
 use branch_tree::Network;
-use pgraph::Graph;
+use pgraph::Site;
 use pns_problem::{Material, Problem};
-use pns_tables::flow_of;
+use pns_tables::{flow_of, materials_in};
 use report_rules::CostPart;
-use unit_sets::MatSet;
-
-/// The materials of the network.
-pub fn materials_in(problem: &Problem, graph: &Graph, network: &Network) -> MatSet
-    requires graph { shape graph.now ≡ shape_of problem.now }
-    requires known { (u : ℕ) → has network.now.units u ≡ true → u < length problem.now.units }
-    ensures { result ≡ materials_of (net_of problem.now) (has network.now.units) }
-{
-    graph.is_proper();
-    let materials = graph.materials(network.units());
-    materials.rises();
-    materials
-}
 
 pub fn material_of(problem: &Problem, j: u32) -> &Material
     requires { j < length problem.now.materials }
@@ -100,14 +85,13 @@ fn part_of(part: CostPart, cost: Number) -> Number
 }
 
 /// The sum of the costs, or of these parts of them, over the network's materials.
-pub fn cost_sum(part: CostPart, problem: &Problem, graph: &Graph, network: &Network) -> Number
-    requires graph { shape graph.now ≡ shape_of problem.now }
-    requires feasible { IsFeasible problem.now network.now }
-    ensures { result ≡ cost_sum part problem.now network.now }
+pub fn cost_sum(part: CostPart, site: &Site<'_>, network: &Network) -> Number
+    requires feasible { IsFeasible site.now network.now }
+    ensures { result ≡ cost_sum part site.now network.now }
 {
     let mut sum = Number::nothing();
-    for j in materials_in(problem, graph, network) {
-        sum = sum.plus(&part_of(part, cost(problem, network, j)));
+    for j in materials_in(site, network) {
+        sum = sum.plus(&part_of(part, cost(site.problem(), network, j)));
     }
     sum
 }

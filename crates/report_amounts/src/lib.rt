@@ -14,5 +14,5 @@ mod costs;
 mod number;
 
 pub use amounts::{amount, share_of, size, unit_of, unit_sum};
-pub use costs::{cost, cost_sum, flow_at, material_of, materials_in, net};
+pub use costs::{cost, cost_sum, flow_at, material_of, net};
 pub use number::Number;

@@ -1,15 +1,12 @@
-use Rattle.std.proofs.Common.{◌≡◌, length}
+use Rattle.std.proofs.Common.{◌≡◌}
 use Rattle.number_sets.specs.Sets.{has, IsWithin}
 use Rattle.report_rules.specs.Number.{sum_from}
 use Rattle.report_rules.specs.Amounts.{amount, unit_sum}
 use Rattle.report_amounts.proofs.amounts.unit_sum.Given as goal
 
 -- the units to come finish the sum
-abbrev pub invariant-units : goal.invariant-units
-invariant-units l = record {
-  within : IsWithin (has l.left) (has l.fn.network.units);
-  sum : sum_from l.sum (amount l.fn.what l.fn.problem l.fn.network) l.left ≡ unit_sum l.fn.what l.fn.problem l.fn.network;
+abbrev pub invariant-loop-u : goal.invariant-loop-u
+invariant-loop-u l = record {
+  within : IsWithin (has l.u-iterator) (has l.fn.network.units);
+  sum : sum_from l.sum (amount l.fn.what l.fn.problem l.fn.network) l.u-iterator ≡ unit_sum l.fn.what l.fn.problem l.fn.network;
 }
-
-abbrev pub decreases-units : goal.decreases-units
-decreases-units l = length l.left

@@ -1,49 +1,57 @@
-use Rattle.std.proofs.Common.{◌≡◌, ◌∙◌, sym, ap, subst, ℕ, List, true}
-use Rattle.number_sets.specs.Sets.{has, IsSet}
-use Rattle.flow_program.proofs.WalkLemmas.{IsNext, rest_within, next_of, head_had}
+use Rattle.std.proofs.Common.{◌≡◌, ◌<◌, ◌∙◌, sym, ap, subst, true, length}
+use Rattle.problem_rules.specs.Problem.{Problem}
+use Rattle.number_sets.specs.Sets.{has}
+use Rattle.flow_rules.specs.Net.{net_of, materials_of}
+use Rattle.tree_rules.specs.Claim.{IsFeasible}
 use Rattle.report_rules.specs.Number.{Number, plus, sum_from}
 use Rattle.report_rules.specs.Amounts.{cost, part_of}
+use Rattle.pns_tables.proofs.Walk.{all_within, next_within, rest_within}
 use Rattle.report_amounts.proofs.Sums.{next_sum, last_sum}
 use Rattle.report_amounts.proofs.Known.{material_known}
 use Rattle.report_amounts.proofs.costs.cost_sum.Goals as goal
 
-pub materials_in-j-items-requires-clause-known : goal.materials_in-j-items-requires-clause-known
-materials_in-j-items-requires-clause-known c = c.requires.feasible.structure.s3
+pub materials_in-j-items-requires : goal.materials_in-j-items-requires
+materials_in-j-items-requires c = record { known = c.requires.feasible.structure.s3 }
 
 pub loop-j-init : goal.loop-j-init
 loop-j-init c =
-    let p = c.args.problem.now in
+    let p = c.args.site.now in
     let w = c.args.network.now in
-    let into = c.into_iter-j-iterator.ensures.into_iter_gives in
-    let is = into.0 ∙ c.materials_in-j-items.ensures in
+    let js = materials_of (net_of p) (has w.units) in
+    let are : c.into_iter-j-iterator.result ≡ js = c.into_iter-j-iterator.ensures.into_iter_gives.0 ∙ c.materials_in-j-items.ensures in
     record {
-      is_set = subst (IsSet 256) (sym into.0) into.1;
-      within = λ u h. subst (λ (js : List ℕ). has js u ≡ true) is h;
-      sum = λ i. sum_from (c.nothing-sum.ensures i) (λ j. part_of c.args.part (cost p w j)) (is i);
+      within = all_within c.into_iter-j-iterator.result js are;
+      sum = λ i. sum_from (c.nothing-sum.ensures i) (λ j. part_of c.args.part (cost p w j)) (are i);
     }
 
 pub returns : goal.returns
 returns c =
-    let p = c.args.problem.now in
+    let p = c.args.site.now in
     let w = c.args.network.now in
     last_sum (λ j. part_of c.args.part (cost p w j)) c.loop-j.j-iterator c.loop-j.sum _ c.in-None.ensures.steps.0 c.loop-j.invariant.sum
 
+pub cost-requires-clause-feasible : goal.cost-requires-clause-feasible
+cost-requires-clause-feasible c = subst (λ (p : Problem). IsFeasible p c.args.network.now) (sym c.problem.ensures.same) c.requires.feasible
+
 pub cost-requires-clause-material : goal.cost-requires-clause-material
 cost-requires-clause-material c =
-    c.loop-j.invariant.within c.in-Some.j (head_had c.loop-j.j-iterator c.in-Some.j c.next.new.self c.in-Some.ensures.steps)
+    let s = has c.args.network.now.units in
+    subst (λ (p : Problem). has (materials_of (net_of p) s) c.in-Some.j ≡ true) (sym c.problem.ensures.same)
+    (next_within (has (materials_of (net_of c.args.site.now) s)) c.loop-j.j-iterator c.next.new.self c.in-Some.j c.in-Some.ensures.steps c.loop-j.invariant.within)
 
 pub cost-requires-clause-known : goal.cost-requires-clause-known
 cost-requires-clause-known c =
-    material_known c.args.problem.now c.args.network.now c.in-Some.j (c.loop-j.invariant.within c.in-Some.j (head_had c.loop-j.j-iterator c.in-Some.j c.next.new.self c.in-Some.ensures.steps))
+    let p = c.args.site.now in
+    let w = c.args.network.now in
+    subst (λ (p : Problem). c.in-Some.j < length p.materials) (sym c.problem.ensures.same)
+    (material_known p w c.in-Some.j (next_within (has (materials_of (net_of p) (has w.units))) c.loop-j.j-iterator c.next.new.self c.in-Some.j c.in-Some.ensures.steps c.loop-j.invariant.within))
 
 pub loop-j-preserved : goal.loop-j-preserved
 loop-j-preserved c =
-    let p = c.args.problem.now in
+    let p = c.args.site.now in
     let w = c.args.network.now in
-    let next : IsNext 256 c.loop-j.j-iterator c.in-Some.j c.next.new.self = next_of 256 c.loop-j.j-iterator c.in-Some.j c.next.new.self c.loop-j.invariant.is_set c.in-Some.ensures.steps in
     record {
-      is_set = next.set;
-      within = λ u h. c.loop-j.invariant.within u (rest_within 256 c.loop-j.j-iterator c.in-Some.j c.next.new.self next u h);
-      sum = next_sum (λ j. part_of c.args.part (cost p w j)) c.loop-j.j-iterator c.next.new.self c.in-Some.j c.loop-j.sum c.plus-sum.result _ next.is
-          (c.plus-sum.ensures ∙ ap (λ (n : Number). plus c.loop-j.sum n) (c.part_of.ensures ∙ ap (part_of c.args.part) c.cost.ensures)) c.loop-j.invariant.sum;
+      within = rest_within (has (materials_of (net_of p) (has w.units))) c.loop-j.j-iterator c.next.new.self c.in-Some.j c.in-Some.ensures.steps c.loop-j.invariant.within;
+      sum = next_sum (λ j. part_of c.args.part (cost p w j)) c.loop-j.j-iterator c.next.new.self c.in-Some.j c.loop-j.sum c.plus-sum.result _ c.in-Some.ensures.steps
+          (c.plus-sum.ensures ∙ ap (λ (n : Number). plus c.loop-j.sum n) (c.part_of.ensures ∙ (λ i. part_of c.args.part ((c.cost.ensures ∙ ap (λ (p : Problem). cost p w c.in-Some.j) c.problem.ensures.same) i)))) c.loop-j.invariant.sum;
     }

@@ -1,5 +1,5 @@
 use Rattle.std.proofs.Common.{◌≡◌}
-use Rattle.number_sets.specs.Sets.{has, IsWithin, IsSet}
+use Rattle.number_sets.specs.Sets.{has, IsWithin}
 use Rattle.flow_rules.specs.Net.{net_of, materials_of}
 use Rattle.report_rules.specs.Number.{sum_from}
 use Rattle.report_rules.specs.Amounts.{cost, part_of, cost_sum}
@@ -8,7 +8,6 @@ use Rattle.report_amounts.proofs.costs.cost_sum.Given as goal
 -- the materials to come finish the sum
 abbrev pub invariant-loop-j : goal.invariant-loop-j
 invariant-loop-j l = record {
-  is_set : IsSet 256 l.j-iterator;
-  within : IsWithin (has l.j-iterator) (has (materials_of (net_of l.fn.problem) (has l.fn.network.units)));
-  sum : sum_from l.sum (λ j. part_of l.fn.part (cost l.fn.problem l.fn.network j)) l.j-iterator ≡ cost_sum l.fn.part l.fn.problem l.fn.network;
+  within : IsWithin (has l.j-iterator) (has (materials_of (net_of l.fn.site) (has l.fn.network.units)));
+  sum : sum_from l.sum (λ j. part_of l.fn.part (cost l.fn.site l.fn.network j)) l.j-iterator ≡ cost_sum l.fn.part l.fn.site l.fn.network;
 }

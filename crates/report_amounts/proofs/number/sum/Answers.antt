@@ -1,4 +1,4 @@
-use Rattle.std.proofs.Common.{◌≡◌, ◌∙◌, sym, refl, true, false, true≢false}
+use Rattle.std.proofs.Common.{◌∙◌, sym, refl, true≢false}
 use Rattle.integer_laws.proofs.Order.{mul_pos}
 use Rattle.report_rules.specs.Number.{Fraction}
 use Rattle.report_amounts.proofs.Fractions.{sum_kept, sum_past}
