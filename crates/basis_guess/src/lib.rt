@@ -1,8 +1,18 @@
-//! A guess at the basis of a node's least flows: the dual simplex method with two-sided ranges, over rows of 61-bit numbers that
-//! are rounded where they grow.
+//! Unproved proposals: guesses at the basis of a node's least flows. Every answer is judged by
+//! `scaled_flows`, or by the bounds and sums of `flow_program`; nothing rests on it.
 //!
-//! Nothing here is promised but that it is safe, ends, and takes no memory once it is opened. A guess decides nothing: whoever asks
-//! for one solves the basis anew in whole numbers and checks that, or judges the multipliers by the bound that they give.
+//! A guess is made by the dual simplex method with two-sided ranges, over rows of 61-bit numbers
+//! that are rounded where they grow. Nothing is promised but that it is safe, ends, and takes no
+//! memory once it is opened. Whoever asks for a guess solves the basis anew in whole numbers and
+//! checks that, or judges the multipliers by the bound that they give.
+//!
+//! No product of two 64-bit numbers can wrap: it is formed in 128 bits. All other sums, products
+//! and shifts are `wrapping_`, `saturating_` or `checked_` ones, and have room but for two. The
+//! numbers of a problem have it because amounts are at most 10^15 and the payout period at most 100
+//! years; a sum of products has it because a row has at most 128 numbers, of 61 bits, and ends have
+//! at most 58. Two results may lose leading bits: a size that is told times a long factor
+//! (`Row::nearest_times`), and a cost row that takes a change by a long row (`CostRow::add_row`).
+//! Then the guess is a worse one, and no answer is wrong.
 //!
 //! [`Numbers`] holds a problem in scaled numbers, made once: the rates of each material over a divisor of them, sizes and balances
 //! over a divisor of all ends, costs over a divisor of all costs. [`Guess`] is a tableau that is kept from node to node. Sizes and

@@ -1,4 +1,12 @@
-//! The exact solution of a basis that was guessed: sizes over one denominator and multipliers over one scale, in scaled numbers.
+//! Unproved proposals: sizes and multipliers of a basis that was guessed. Every answer is judged by
+//! `scaled_flows`, or by the bounds and sums of `flow_program`; nothing rests on it.
+//!
+//! A basis is solved in whole scaled numbers: its sizes come over one denominator, and its
+//! multipliers over one scale.
+//!
+//! No product can wrap: `checked_mul` forms it, and the solver gives up where it leaves 128 bits.
+//! Only where all four factors of a difference of two products are below 2^62 in absolute value is
+//! nothing checked, since both products and the difference then have room.
 //!
 //! Each material whose balance stands at an end gives an equation in the basic sizes, each basic unit one in the multipliers of these
 //! materials. Both systems are square, and are eliminated in whole numbers, an equation with the fewest unknowns first, so that chains
