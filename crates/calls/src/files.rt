@@ -33,15 +33,16 @@ fn whole<F: Shelf>(
 }
 
 /// Two files of lines of seven bytes that lie where the program runs, one that does not lie there,
-/// and a folder.
+/// a folder, and an input that is empty.
 pub fn wholes(rt: &(impl Print + Alloc<A = Global> + Files)) -> io::Result<()> {
-    let mut shelf = FileShelf::new(rt);
+    let mut shelf = FileShelf::new(rt, io::empty());
     for (name, limit) in [
         ("long", 70_000),
         ("long", 69_999),
         ("none", 9),
         (".", 9),
         ("short", 14),
+        ("-", 9),
     ] {
         whole(rt, &mut shelf, name, limit)?;
     }
@@ -60,10 +61,10 @@ fn piece<F: Shelf>(rt: &impl Print, shelf: &mut F, name: &str, at: u32) -> io::R
     }
 }
 
-/// Pieces of two files in turn: on from the one before, far behind it, at the end and past it; and
-/// of a file that is not there.
+/// Pieces of two files in turn: on from the one before, far behind it, at the end and past it; of a
+/// file that is not there; and of an input, which is read on alone.
 pub fn pieces(rt: &(impl Print + Files)) -> io::Result<()> {
-    let mut shelf = FileShelf::new(rt);
+    let mut shelf = FileShelf::new(rt, &b"typed1\nend\n"[..]);
     for (name, at) in [
         ("long", 0),
         ("short", 7),
@@ -72,8 +73,11 @@ pub fn pieces(rt: &(impl Print + Files)) -> io::Result<()> {
         ("long", 65_534),
         ("none", 65_541),
         ("long", 69_997),
+        ("-", 0),
         ("long", 70_000),
         ("short", 70_000),
+        ("-", 7),
+        ("-", 0),
     ] {
         piece(rt, &mut shelf, name, at)?;
     }

@@ -1,4 +1,4 @@
-//! The program `pns`: its words call the studio over the files of the system and the standard output.
+//! The program `pns`: its words call the studio over the files of the system, the standard input and the standard output.
 #![tactic(auto)]
 
 use pns_io::{FileShelf, OutSink};
@@ -40,7 +40,7 @@ fn main(rt: HostRuntime) -> ExitCode {
         Ok(words) => words,
         Err(code) => return ExitCode::from(code),
     };
-    let mut shelf = FileShelf::new(&rt);
+    let mut shelf = FileShelf::new(&rt, rt.stdin());
     let mut out = OutSink::new(&rt);
     let status = studio(rt.alloc(), &words, &mut shelf, &mut out);
     ExitCode::from(code_of(status))

@@ -11,6 +11,9 @@ use std::{fs, io};
 /// The most bytes of a name. The system opens no file with a longer one.
 const NAME_ROOM: usize = 4096;
 
+/// The name of the standard input. A file of this name is `./-`.
+const INPUT: &str = "-";
+
 /// A file that is open, its name, and the place behind what was read of it.
 #[derive(Drop)]
 struct OpenFile<T: Drop> {
@@ -20,17 +23,25 @@ struct OpenFile<T: Drop> {
     at: u64,
 }
 
-/// The files of the system, by their paths. A file stays open while it is read from its front, piece by piece, so it may be a pipe.
-/// What the files hold is not told; contracts see the count of the reads that failed, which is the count of faults of every name and
-/// stays at 2^64 - 1.
+/// An input that is read from its front alone, and how many bytes were read of it.
 #[derive(Drop)]
-pub struct FileShelf<'a, R: Files> {
+struct Input<I: Drop> {
+    input: I,
+    at: u64,
+}
+
+/// The files of the system, by their paths, and an input by the name `-`. A file stays open while it is read from its front, piece by
+/// piece, so it may be a pipe. The input is read as it comes, and nothing is sought back. What the files hold is not told; contracts see the
+/// count of the reads that failed, which is the count of faults of every name and stays at 2^64 - 1.
+#[derive(Drop)]
+pub struct FileShelf<'a, R: Files, I: Read + Drop> {
     rt: &'a R,
+    input: Input<I>,
     failed: u64,
     open: Option<OpenFile<R::File>>,
 }
 
-impl<'a, R: Files> Model for FileShelf<'a, R> {
+impl<'a, R: Files, I: Read + Drop> Model for FileShelf<'a, R, I> {
     ghost use Rattle.std.specs.Prelude.{ℕ};
 
     ghost Value = { ℕ };
@@ -72,23 +83,41 @@ impl<T: Read + Seek + Drop> OpenFile<T> {
     }
 }
 
-impl<'a, R: Files> FileShelf<'a, R> {
+impl<I: Read + Drop> Input<I> {
+    /// Reads on, if the place is behind what was read.
+    fn read(&mut self, at: u64, into: &mut [u8]) -> io::Result<usize>
+        ensures { IfOk result (λ k. k ≤ length into.new) }
+    {
+        if at != self.at {
+            return Err(io::Error::from(ErrorKind::InvalidInput));
+        }
+        let count = self.input.read(into)?;
+        self.at = self.at.saturating_add(count as u64);
+        Ok(count)
+    }
+}
+
+impl<'a, R: Files, I: Read + Drop> FileShelf<'a, R, I> {
     /// A shelf of which no read has failed.
-    pub fn new(rt: &'a R) -> FileShelf<'a, R>
+    pub fn new(rt: &'a R, input: I) -> FileShelf<'a, R, I>
         ensures { result ≡ 0 }
     {
         FileShelf {
             rt,
+            input: Input { input, at: 0 },
             failed: 0,
             open: None,
         }
     }
 
-    /// Reads on in the file that is open, or opens another. After a failure none is open.
+    /// Reads on in the input or in the file that is open, or opens another. After a failure none is open.
     fn read_on(&mut self, name: &str, at: u64, into: &mut [u8]) -> io::Result<usize>
         ensures count { IfOk result (λ k. k ≤ length into.new) }
         ensures failed { self.new ≡ self.old }
     {
+        if name == INPUT {
+            return self.input.read(at, into);
+        }
         let mut file = match self.open.take() {
             Some(file) if file.stands_at(name.as_bytes(), at) => file,
             _ => OpenFile::of(fs::open(self.rt, name)?, name.as_bytes(), at)?,
@@ -99,7 +128,7 @@ impl<'a, R: Files> FileShelf<'a, R> {
     }
 }
 
-impl<'a, R: Files> Shelf for FileShelf<'a, R> {
+impl<'a, R: Files, I: Read + Drop> Shelf for FileShelf<'a, R, I> {
     ghost state = { λ failed. record { held = λ _. None; faults = λ _. failed } };
 
     fn read(&mut self, name: &str, at: u64, into: &mut [u8]) -> Result<usize, Failed>
