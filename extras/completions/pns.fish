@@ -22,9 +22,9 @@ complete -c pns -n '__fish_use_subcommand' -a rankcheck -d 'Judges whether a ran
 complete -c pns -n '__fish_use_subcommand' -a split -d 'Lists the open leaves of a tree that solve left with status 4 or 5'
 complete -c pns -n '__fish_use_subcommand' -a part -d 'Searches one open leaf of a tree'
 complete -c pns -n '__fish_use_subcommand' -a merge -d 'Puts searched parts back into their tree'
-complete -c pns -n '__fish_use_subcommand' -a help -d 'Tells the commands, or one of them'
+complete -c pns -n '__fish_use_subcommand' -a help -d 'Tells the commands, or one topic'
 complete -c pns -n '__fish_use_subcommand' -a version -d 'Tells which program this is'
-complete -c pns -n '__fish_seen_subcommand_from help' -a 'max axioms list flows solve check table report graph stable edit undo migrate expand periods make trial rank rankcheck split part merge help version status'
+complete -c pns -n '__fish_seen_subcommand_from help' -a 'max axioms list flows solve check table report graph stable edit undo migrate expand periods make trial rank rankcheck split part merge help version status plant FileType UnknownSection DoubleSection BadLine BadName UnknownKey DoubleKey BadNumber TooFine TooLarge Negative UnknownKind ZeroRate DoubleTerm BothSides EmptySide DoubleMaterial DoubleUnit DoubleRates TooMany LowAboveHigh UnknownMaterial NoRates NoProduct DoubleExclusion DoubleMember FewMembers UnknownUnit BadPayout UnknownName Order WrongCount MoreNodes FewerNodes AfterEnd Sign DoubleLine NoPeriod TooWide BadTerms DoubleName BadPlace InUse BadMembers'
 complete -c pns -n '__fish_seen_subcommand_from max; and test (count (commandline -opc)) -eq 2' -F
 complete -c pns -n '__fish_seen_subcommand_from axioms; and test (count (commandline -opc)) -eq 2' -F
 complete -c pns -n '__fish_seen_subcommand_from list; and test (count (commandline -opc)) -eq 2' -F

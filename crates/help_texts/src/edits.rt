@@ -16,8 +16,8 @@ Prints the plant after the edits, in canonical form: defaults are written out,
 measurement units are not kept.
 Ends with
   0   The text is out, whole.
-  11  script line L KIND: line L of SCRIPT has a fault; docs/FORMATS.md lists
-      the kinds. Mend the line.
+  11  script line L KIND: line L of SCRIPT has a fault; pns help KIND explains
+      it. Mend the line.
   2, 3, 6, 7, 8, 12, 20: see pns help status
 Example
   printf 'file_type=PNS_edits_v1\\nremove_unit U2\\n' > without
@@ -37,8 +37,8 @@ Writes the script that leads from the edited plant back to FILE.
 Prints an edit script.
 Ends with
   0   The text is out, whole.
-  11  script line L KIND: line L of SCRIPT has a fault; docs/FORMATS.md lists
-      the kinds. Mend the line.
+  11  script line L KIND: line L of SCRIPT has a fault; pns help KIND explains
+      it. Mend the line.
   2, 3, 6, 7, 8, 12, 20: see pns help status
 Example
   pns undo a.pns without

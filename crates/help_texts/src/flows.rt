@@ -49,8 +49,8 @@ Ends with
   1   refused claim WHY, or refused node N WHY: the tree does not prove its
       claim on this plant. A tree with status 4 or 5 has open leaves and is
       refused (unknown or open): solve with a greater budget.
-  10  tree line L KIND: line L of TREE has a fault; docs/FORMATS.md lists the
-      kinds. Have the text printed anew.
+  10  tree line L KIND: line L of TREE has a fault; pns help KIND explains it.
+      Have the text printed anew.
   2, 3, 6, 7, 8, 12, 20: see pns help status
 Example
   pns check a.pns tree

@@ -20,4 +20,4 @@ mod searches;
 mod structures;
 
 pub use overview::{overview_text, version_text};
-pub use pages::page_on;
+pub use pages::{command_page_on, page_on};

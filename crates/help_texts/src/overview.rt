@@ -13,23 +13,23 @@ A FILE is a plant, PNS_problem_v1. Texts go to standard output; 0 is success.
 
   max FILE                       the maximal structure
   axioms FILE UNITS              do these units meet the axioms S1 to S5?
-  list FILE AFTER COUNT          those that do; AFTER is start at first
+  list FILE [AFTER COUNT]        those that do; AFTER is start at first
   flows FILE UNITS               the least cost of these units, and their sizes
-  solve FILE BUDGET              a network of least cost and its proof: a TREE
+  solve FILE [BUDGET]            a network of least cost and its proof: a TREE
   check FILE TREE                does the tree prove what it claims?
   report FILE TREE               the claimed network in tables; as CSV: table
   graph FILE, graph FILE TREE    the plant, and the network in it, for Graphviz
-  rank FILE N BUDGET             the N best networks, a RANK; see rankcheck
-  stable FILE TREE KIND NAME BUDGET    how far a price or a cost may move
+  rank FILE N [BUDGET]           the N best networks, a RANK; see rankcheck
+  stable FILE TREE KIND NAME [BUDGET]   how far a price or a cost may move
   edit FILE SCRIPT               the plant after edits; the way back: undo
   migrate FILE YEARS             the script from yearly costs to investments
-  periods FILE PLAN BUDGET       one design for several periods; see expand
-  part FILE INSIDE OUTSIDE BUDGET      a part of a search; see split and merge
+  periods FILE PLAN [BUDGET]     one design for several periods; see expand
+  part FILE INSIDE OUTSIDE [BUDGET]     a part of a search; see split and merge
   make NUMBER UNITS              a made-up plant; trial solves it
-  help COMMAND, help status      the words of a command, what a status asks for
+  help TOPIC                     a command, plant, status or the KIND of a fault
   version                        which program this is
 
-Begin:  pns solve a.pns 10000 > tree        pns check a.pns tree
+Begin:  pns help plant    pns solve a.pns > tree    pns check a.pns tree
         pns report a.pns tree               pns graph a.pns tree > a.dot
 "
 }

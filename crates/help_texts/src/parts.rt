@@ -18,8 +18,8 @@ Ends with
   0   The text is out, whole.
   1   refused claim WHY, or refused node N WHY: the tree is faulty for this
       plant. Is FILE the plant that TREE was made for?
-  10  tree line L KIND: line L of TREE has a fault; docs/FORMATS.md lists the
-      kinds. Have the text printed anew.
+  10  tree line L KIND: line L of TREE has a fault; pns help KIND explains it.
+      Have the text printed anew.
   2, 3, 6, 7, 8, 12, 20: see pns help status
 Example
   pns solve a.pns 1 > some
@@ -34,14 +34,14 @@ Example
 pub fn part_page() -> &'static [u8]
     ensures { result.now ≡ text_of part_page }
 {
-    b"pns part FILE INSIDE OUTSIDE BUDGET
+    b"pns part FILE INSIDE OUTSIDE [BUDGET]
 pns part FILE INSIDE OUTSIDE BUDGET TREE
 Searches one open leaf of a tree: the networks with all units of INSIDE and none
 of OUTSIDE. With TREE it looks only for networks cheaper than TREE's.
   FILE     the plant, PNS_problem_v1
   INSIDE   the token of the units taken in, from a line of split
   OUTSIDE  the token of the units left out, from the same line
-  BUDGET   the most nodes of the tree, 1 to 1000000; 10000 is a good try
+  BUDGET   the most nodes, 1 to 1000000; 10k is 10000; 1M where it is left out
   TREE     a tree text, as solve prints it
 Prints a part text for pns merge.
 Ends with
@@ -54,8 +54,8 @@ Ends with
   5   a part text that ends with a line spent: BUDGET was reached. The text
       claims the cheapest network found so far, or unknown, and proves it but
       for its open leaves. Call again with a greater BUDGET.
-  10  tree line L KIND: line L of TREE has a fault; docs/FORMATS.md lists the
-      kinds. Have the text printed anew. With TREE only.
+  10  tree line L KIND: line L of TREE has a fault; pns help KIND explains it.
+      Have the text printed anew. With TREE only.
   17  bad node: INSIDE or OUTSIDE is no token of this plant, or the node is not
       sound. Take both from one line of split.
   2, 3, 6, 7, 8, 12, 20: see pns help status

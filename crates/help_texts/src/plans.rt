@@ -30,11 +30,11 @@ Example
 pub fn periods_page() -> &'static [u8]
     ensures { result.now ≡ text_of periods_page }
 {
-    b"pns periods FILE PLAN BUDGET
+    b"pns periods FILE PLAN [BUDGET]
 Finds the units to build once and to run in several periods, at least cost.
   FILE    the plant, PNS_problem_v1
   PLAN    a plan text, PNS_plan_v1
-  BUDGET  the most nodes of the tree, 1 to 1000000; 10000 is a good try
+  BUDGET  the most nodes, 1 to 1000000; 10k is 10000; 1M where it is left out
 Prints built NAMES, capacities D C C, cost N (N / D / G / 10^18), and for each
 period its units and sizes (X / D / 10^6); or infeasible.
 Ends with

@@ -9,10 +9,11 @@ pub fn help_page() -> &'static [u8]
     ensures { result.now ≡ text_of help_page }
 {
     b"pns help
-pns help COMMAND
-Tells the commands, or one of them. --help and -h are help.
-  COMMAND  the first word of a command, or status
-Prints a text of one screen, or of one command.
+pns help TOPIC
+Tells the commands, or one topic. --help and -h are help, and behind the first
+word of a command its page, whatever follows.
+  TOPIC  the first word of a command, plant, status, or the KIND of a fault
+Prints a text of one screen.
 Ends with
   0   The text is out, whole.
   2, 7, 8, 20: see pns help status
@@ -50,8 +51,8 @@ pub fn status_page() -> &'static [u8]
   2   usage: the words have no form of pns help, or a number is beyond its
       limit. Nothing was read. Compare with pns help COMMAND.
   3   problem line L KIND: line L of FILE has a fault of this kind, the first
-      one. docs/FORMATS.md lists the kinds. Mend the line and call again. A line
-      behind the last one: no material is a product.
+      one. pns help KIND explains it. Mend the line, call again. A line behind
+      the last one: no material is a product.
   6   read fault NAME: this file cannot be read. Look at its path and its
       rights.
   7   nothing more: the output took no more, and what is out is only the front

@@ -8,12 +8,12 @@ ghost use Rattle.studio_rules.specs.RankPages.{rank_page, rankcheck_page};
 pub fn rank_page() -> &'static [u8]
     ensures { result.now ≡ text_of rank_page }
 {
-    b"pns rank FILE N BUDGET
+    b"pns rank FILE N [BUDGET]
 Finds the N allowed structures of least cost, each at its own least cost, and a
 tree that proves it.
   FILE    the plant, PNS_problem_v1
   N       how many networks, 1 to 1000
-  BUDGET  the most nodes of the tree, 1 to 1000000; 10000 is a good try
+  BUDGET  the most nodes, 1 to 1000000; 10k is 10000; 1M where it is left out
 Prints a rank text: count N, networks K, three lines for each network from the
 cheapest on, then the tree. K is less than N only where there are no more.
 Ends with
@@ -45,8 +45,8 @@ Ends with
   1   refused network K WHY, or refused node N WHY: the text does not prove its
       ranking on this plant. Was the rank printed with status 0, and for this
       FILE?
-  10  tree line L KIND: line L of RANK has a fault; docs/FORMATS.md lists the
-      kinds. Have the text printed anew.
+  10  tree line L KIND: line L of RANK has a fault; pns help KIND explains it.
+      Have the text printed anew.
   2, 3, 6, 7, 8, 12, 20: see pns help status
 Example
   pns rankcheck a.pns ranked

@@ -21,8 +21,8 @@ Ends with
       breaks an axiom (axiom) or an exclusion (exclusion), its sizes are no
       flows (flows) or its cost is another (cost), or a number is too large
       (sum). Is FILE the plant that TREE was made for?
-  10  tree line L KIND: line L of TREE has a fault; docs/FORMATS.md lists the
-      kinds. Have the text printed anew.
+  10  tree line L KIND: line L of TREE has a fault; pns help KIND explains it.
+      Have the text printed anew.
   2, 3, 6, 7, 8, 12, 20: see pns help status
 Example
   pns table a.pns tree
@@ -56,8 +56,8 @@ Ends with
       breaks an axiom (axiom) or an exclusion (exclusion), its sizes are no
       flows (flows) or its cost is another (cost), or a number is too large
       (sum). Is FILE the plant that TREE was made for?
-  10  tree line L KIND: line L of TREE has a fault; docs/FORMATS.md lists the
-      kinds. Have the text printed anew.
+  10  tree line L KIND: line L of TREE has a fault; pns help KIND explains it.
+      Have the text printed anew.
   2, 3, 6, 7, 8, 12, 20: see pns help status
 Example
   pns report a.pns tree
@@ -82,8 +82,8 @@ places.
 Ends with
   0   The text is out, whole.
   1   refused claim WHY, with TREE only: as in pns help report.
-  10  tree line L KIND: line L of TREE has a fault; docs/FORMATS.md lists the
-      kinds. Have the text printed anew. With TREE only.
+  10  tree line L KIND: line L of TREE has a fault; pns help KIND explains it.
+      Have the text printed anew. With TREE only.
   2, 3, 6, 7, 8, 12, 20: see pns help status
 Example
   pns graph a.pns tree | dot -Tsvg > a.svg
@@ -95,14 +95,14 @@ Example
 pub fn stable_page() -> &'static [u8]
     ensures { result.now ≡ text_of stable_page }
 {
-    b"pns stable FILE TREE KIND NAME BUDGET
+    b"pns stable FILE TREE KIND NAME [BUDGET]
 Finds how far one price or cost may move while the claimed network stays one of
 least cost.
   FILE    the plant, PNS_problem_v1
   TREE    a tree text, as solve prints it
   KIND    price, fix or proportional
   NAME    a material for price, a unit for fix and proportional
-  BUDGET  the most nodes of the tree, 1 to 1000000; 10000 is a good try
+  BUDGET  the most nodes, 1 to 1000000; 10k is 10000; 1M where it is left out
 Prints from V, then below and a network that is cheaper under V, or below limit;
 to V, then above in the same way. V is in millionths.
 Ends with
@@ -116,8 +116,8 @@ Ends with
       digits, or bounds and capacities nearer to what can come, and call again.
   5   at V, then a tree text: BUDGET was reached. At this value the search did
       not end. Call again with a greater BUDGET.
-  10  tree line L KIND: line L of TREE has a fault; docs/FORMATS.md lists the
-      kinds. Have the text printed anew.
+  10  tree line L KIND: line L of TREE has a fault; pns help KIND explains it.
+      Have the text printed anew.
   13  not best, then a cheaper network: solve anew.
   14  unknown name: NAME is no material (price) or no unit (fix, proportional).
   2, 3, 6, 7, 8, 12, 20: see pns help status

@@ -8,11 +8,11 @@ ghost use Rattle.studio_rules.specs.SearchPages.{solve_page, trial_page};
 pub fn solve_page() -> &'static [u8]
     ensures { result.now ≡ text_of solve_page }
 {
-    b"pns solve FILE BUDGET
+    b"pns solve FILE [BUDGET]
 Finds an allowed network of least cost in one year and a tree that proves it.
 Keep the text: check, report, graph, table and stable read it.
   FILE    the plant, PNS_problem_v1
-  BUDGET  the most nodes of the tree, 1 to 1000000; 10000 is a good try
+  BUDGET  the most nodes, 1 to 1000000; 10k is 10000; 1M where it is left out
 Prints a tree text. Lines 2 to 4 are the network; sizes and cost as in pns help
 flows. Or infeasible: no allowed network meets the bounds.
 Ends with
@@ -35,11 +35,11 @@ Example
 pub fn trial_page() -> &'static [u8]
     ensures { result.now ≡ text_of trial_page }
 {
-    b"pns trial NUMBER UNITS BUDGET
+    b"pns trial NUMBER UNITS [BUDGET]
 Makes the plant of pns make NUMBER UNITS, solves it and sums up.
   NUMBER  a number, 0 to 18446744073709551615; the same one makes the same plant
   UNITS   how many units, 1 to 128
-  BUDGET  the most nodes of the tree, 1 to 1000000; 10000 is a good try
+  BUDGET  the most nodes, 1 to 1000000; 10k is 10000; 1M where it is left out
 Prints units, maximal (units of the maximal structure), network NAMES, cost N D
 (N / D / 10^18), nodes.
 Ends with

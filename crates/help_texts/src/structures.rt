@@ -51,12 +51,13 @@ Example
 pub fn list_page() -> &'static [u8]
     ensures { result.now ≡ text_of list_page }
 {
-    b"pns list FILE AFTER COUNT
+    b"pns list FILE [AFTER COUNT]
 Lists the structures that meet the axioms and the exclusions, in a fixed order.
 To go on, call again with the last token.
   FILE   the plant, PNS_problem_v1
-  AFTER  start, or the token of the structure to go on behind
-  COUNT  the most lines to print, 1 to 1000000000
+  AFTER  start, or the token of the structure to go on behind; start where it is
+         left out
+  COUNT  the most lines to print, 1 to 1000000000; 1000 where it is left out
 Prints a line TOKEN NAMES for each structure; then end, or more TOKEN where
 others follow.
 Ends with

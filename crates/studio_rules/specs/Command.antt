@@ -1,14 +1,14 @@
 -- The commands, and the forms of the words that call them.
-use Rattle.std.specs.Prelude.{◌≡◌, ◌≤◌, ◌⊎◌, ◌==◌, ◌&&◌, ◌||◌, nat_le, ℕ, Bool, List, [], ◌∷◌, Option, Some, None, IsSomeAnd, length, codes, not, option_map, if◌then◌else◌}
+use Rattle.std.specs.Prelude.{◌≡◌, ◌≤◌, ◌⊎◌, ◌==◌, ◌&&◌, ◌||◌, ◌*◌, nat_le, ℕ, Bool, true, false, List, [], ◌∷◌, Option, Some, None, IsSomeAnd, length, codes, not, option_map, if◌then◌else◌}
 use Rattle.std.specs.List.{list_all, slice_split, Contains}
 use Rattle.std.specs.Str.{bytes_eq, byte}
 use Rattle.problem_rules.specs.Names.{is_name, has_double}
 use Rattle.studio_rules.specs.PageLines.{text_of, IsOfLines}
 use Rattle.studio_rules.specs.Overview.{overview, version}
-use Rattle.studio_rules.specs.Pages.{page_text}
+use Rattle.studio_rules.specs.Pages.{page_text, command_text}
 use Rattle.stability_rules.specs.declared.spot.SpotKind.{SpotKind}
 use Rattle.stability_rules.specs.declared.spot.SpotKind.TheVariants as kinds
-use Rattle.studio_rules.specs.Numeral.{number_within}
+use Rattle.studio_rules.specs.Numeral.{number_within, last_byte, but_last}
 
 -- a command with its words: FILE, the names of UNITS, AFTER and COUNT, NUMBER and the count of units, YEARS, SCRIPT, TREE, RANK, PLAN, N, BUDGET,
 -- KIND and NAME, INSIDE and OUTSIDE, the parts of a tree;
@@ -51,7 +51,7 @@ unit_names_of word =
 abbrev pub count_of : List ℕ → Option ℕ
 count_of = number_within 1 1000000000
 
--- NUMBER is any number of 64 bits, the count of units from 1 to 128, YEARS from 1 to 100, N from 1 to 1,000, BUDGET from 1 to 1,000,000
+-- NUMBER is any number of 64 bits, the count of units from 1 to 128, YEARS from 1 to 100, N from 1 to 1,000
 abbrev pub seed_of : List ℕ → Option ℕ
 seed_of = number_within 0 18446744073709551615
 
@@ -64,12 +64,38 @@ years_of = number_within 1 100
 abbrev pub rank_count_of : List ℕ → Option ℕ
 rank_count_of = number_within 1 1000
 
-abbrev pub budget_of : List ℕ → Option ℕ
-budget_of = number_within 1 1000000
+-- BUDGET is from 1 to 1,000,000: a number, or one in thousands with a `k` behind it, or in millions with an `M`
+abbrev pub nodes_of : List ℕ → Option ℕ
+nodes_of = number_within 1 1000000
 
--- FILE, SCRIPT, TREE, RANK and PLAN are any words but the empty one
+abbrev pub budget_of : List ℕ → Option ℕ
+budget_of word =
+    if last_byte word == byte "k" then option_map (λ thousands. 1000 * thousands) (number_within 1 1000 (but_last word))
+    else if last_byte word == byte "M" then option_map (λ millions. 1000000 * millions) (number_within 1 1 (but_last word))
+    else nodes_of word
+
+-- where BUDGET is left out it is the greatest one
+abbrev pub full_budget : ℕ
+full_budget = 1000000
+
+-- where AFTER and COUNT are left out a listing begins with the first structure, and has at most so many
+abbrev pub first_listing : List ℕ → Command
+first_listing file = Listing file (codes "start") 1000
+
+-- FILE, SCRIPT, TREE, RANK, PLAN and PART are any words but the empty one; `-` is standard input
 abbrev pub is_file_word : List ℕ → Bool
 is_file_word word = not (length word == 0)
+
+abbrev pub is_input : List ℕ → Bool
+is_input word = bytes_eq word (codes "-")
+
+-- Words that are files of one call. Standard input is read once: none of them is `-` where it is taken, and one at most where it is not.
+abbrev pub are_files_where : Bool → List (List ℕ) → Bool
+are_files_where taken [] = true
+are_files_where taken (word ∷ words) = is_file_word word && not (taken && is_input word) && are_files_where (taken || is_input word) words
+
+abbrev pub are_files : List (List ℕ) → Bool
+are_files = are_files_where false
 
 -- a problem is made by two numbers
 abbrev pub made_by : Option ℕ → Option ℕ → Option Command
@@ -102,15 +128,16 @@ ranged_by file tree kind name budget = None
 -- the commands of a file and a second file
 abbrev pub with_file : List ℕ → List ℕ → List ℕ → Option Command
 with_file word file second =
-    if bytes_eq word (codes "edit") && is_file_word second then Some (Editing file second)
-    else if bytes_eq word (codes "undo") && is_file_word second then Some (Undoing file second)
-    else if bytes_eq word (codes "check") && is_file_word second then Some (Checking file second)
-    else if bytes_eq word (codes "rankcheck") && is_file_word second then Some (RankChecking file second)
-    else if bytes_eq word (codes "table") && is_file_word second then Some (Table file second)
-    else if bytes_eq word (codes "split") && is_file_word second then Some (Splitting file second)
-    else if bytes_eq word (codes "expand") && is_file_word second then Some (Expanding file second)
-    else if bytes_eq word (codes "graph") && is_file_word second then Some (DrawingNetwork file second)
-    else if bytes_eq word (codes "report") && is_file_word second then Some (Reporting file second)
+    if bytes_eq word (codes "edit") then Some (Editing file second)
+    else if bytes_eq word (codes "undo") then Some (Undoing file second)
+    else if bytes_eq word (codes "check") then Some (Checking file second)
+    else if bytes_eq word (codes "rankcheck") then Some (RankChecking file second)
+    else if bytes_eq word (codes "table") then Some (Table file second)
+    else if bytes_eq word (codes "split") then Some (Splitting file second)
+    else if bytes_eq word (codes "expand") then Some (Expanding file second)
+    else if bytes_eq word (codes "graph") then Some (DrawingNetwork file second)
+    else if bytes_eq word (codes "report") then Some (Reporting file second)
+    else if bytes_eq word (codes "periods") then Some (Planning file second full_budget)
     else None
 
 -- the commands of a file and one more word
@@ -120,7 +147,18 @@ on_file word file second =
     else if bytes_eq word (codes "flows") then option_map (Flows file) (unit_names_of second)
     else if bytes_eq word (codes "migrate") then option_map (Migrate file) (years_of second)
     else if bytes_eq word (codes "solve") then option_map (Solving file) (budget_of second)
-    else with_file word file second
+    else if bytes_eq word (codes "rank") then ranked_by file (rank_count_of second) (Some full_budget)
+    else if are_files (file ∷ second ∷ []) then with_file word file second
+    else None
+
+-- the commands of a file alone
+abbrev pub of_file : List ℕ → List ℕ → Option Command
+of_file word file =
+    if bytes_eq word (codes "max") then Some (Max file)
+    else if bytes_eq word (codes "graph") then Some (Drawing file)
+    else if bytes_eq word (codes "list") then Some (first_listing file)
+    else if bytes_eq word (codes "solve") then Some (Solving file full_budget)
+    else None
 
 -- help and the version, by any of their spellings
 abbrev pub is_help_word : List ℕ → Bool
@@ -128,6 +166,14 @@ is_help_word word = bytes_eq word (codes "help") || bytes_eq word (codes "--help
 
 abbrev pub is_version_word : List ℕ → Bool
 is_version_word word = bytes_eq word (codes "version") || bytes_eq word (codes "--version") || bytes_eq word (codes "-V")
+
+-- the page of a command, which `--help` or `-h` right behind it asks for, whatever follows
+abbrev pub is_page_word : List ℕ → Bool
+is_page_word word = bytes_eq word (codes "--help") || bytes_eq word (codes "-h")
+
+abbrev pub page_asked : List (List ℕ) → Option Command
+page_asked (word ∷ next ∷ words) = if is_page_word next then option_map Telling (command_text word) else None
+page_asked words = None
 
 -- what a word asks for that stands alone
 abbrev pub alone : List ℕ → Option Command
@@ -139,7 +185,7 @@ alone word =
 -- a tree and the parts that are put back into it, at most a hundred
 abbrev pub merging_of : List (List ℕ) → Option Command
 merging_of (word ∷ file ∷ tree ∷ part ∷ parts) =
-    if bytes_eq word (codes "merge") && list_all is_file_word (file ∷ tree ∷ part ∷ parts) && nat_le (length (part ∷ parts)) 100 then
+    if bytes_eq word (codes "merge") && are_files (file ∷ tree ∷ part ∷ parts) && nat_le (length (part ∷ parts)) 100 then
     Some (Merging file tree (part ∷ parts))
     else None
 merging_of words = None
@@ -148,11 +194,12 @@ merging_of words = None
 abbrev pub long_form_of : List (List ℕ) → Option Command
 long_form_of (word ∷ first ∷ second ∷ third ∷ fourth ∷ []) =
     if bytes_eq word (codes "part") && is_file_word first then option_map (Parting first second third) (budget_of fourth)
+    else if bytes_eq word (codes "stable") && are_files (first ∷ second ∷ []) then ranged_by first second (kind_of third) fourth (Some full_budget)
     else None
 long_form_of (word ∷ first ∷ second ∷ third ∷ fourth ∷ fifth ∷ []) =
-    if bytes_eq word (codes "part") && is_file_word first && is_file_word fifth then
+    if bytes_eq word (codes "part") && are_files (first ∷ fifth ∷ []) then
     option_map (λ budget. PartingAgainst first second third budget fifth) (budget_of fourth)
-    else if bytes_eq word (codes "stable") && is_file_word first && is_file_word second then
+    else if bytes_eq word (codes "stable") && are_files (first ∷ second ∷ []) then
     ranged_by first second (kind_of third) fourth (budget_of fifth)
     else None
 long_form_of words = None
@@ -162,18 +209,19 @@ abbrev pub form_of : List (List ℕ) → Option Command
 form_of (word ∷ []) = alone word
 form_of (word ∷ file ∷ []) =
     if bytes_eq word (codes "help") then option_map Telling (page_text file)
-    else if bytes_eq word (codes "max") && is_file_word file then Some (Max file)
-    else if bytes_eq word (codes "graph") && is_file_word file then Some (Drawing file)
+    else if is_file_word file then of_file word file
     else None
 form_of (word ∷ first ∷ second ∷ []) =
     if bytes_eq word (codes "make") then made_by (seed_of first) (unit_count_of second)
+    else if bytes_eq word (codes "trial") then tried_by (seed_of first) (unit_count_of second) (Some full_budget)
     else if is_file_word first then on_file word first second
     else None
 form_of (word ∷ first ∷ second ∷ third ∷ []) =
     if bytes_eq word (codes "trial") then tried_by (seed_of first) (unit_count_of second) (budget_of third)
     else if bytes_eq word (codes "list") && is_file_word first then option_map (Listing first second) (count_of third)
-    else if bytes_eq word (codes "periods") && is_file_word first && is_file_word second then option_map (Planning first second) (budget_of third)
+    else if bytes_eq word (codes "periods") && are_files (first ∷ second ∷ []) then option_map (Planning first second) (budget_of third)
     else if bytes_eq word (codes "rank") && is_file_word first then ranked_by first (rank_count_of second) (budget_of third)
+    else if bytes_eq word (codes "part") && is_file_word first then Some (Parting first second third full_budget)
     else None
 form_of words = long_form_of words
 
@@ -184,7 +232,7 @@ or_else None other = other
 
 -- the command that the words are, if they have a form
 abbrev pub command_of : List (List ℕ) → Option Command
-command_of words = or_else (merging_of words) (form_of words)
+command_of words = or_else (page_asked words) (or_else (merging_of words) (form_of words))
 
 -- the words that a form gives as files
 abbrev pub IsFileOf : Command → List ℕ → Type 0

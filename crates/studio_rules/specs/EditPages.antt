@@ -11,8 +11,8 @@ edit_page =
     codes "measurement units are not kept." ∷
     codes "Ends with" ∷
     codes "  0   The text is out, whole." ∷
-    codes "  11  script line L KIND: line L of SCRIPT has a fault; docs/FORMATS.md lists" ∷
-    codes "      the kinds. Mend the line." ∷
+    codes "  11  script line L KIND: line L of SCRIPT has a fault; pns help KIND explains" ∷
+    codes "      it. Mend the line." ∷
     codes "  2, 3, 6, 7, 8, 12, 20: see pns help status" ∷
     codes "Example" ∷
     codes "  printf 'file_type=PNS_edits_v1\\nremove_unit U2\\n' > without" ∷
@@ -28,8 +28,8 @@ undo_page =
     codes "Prints an edit script." ∷
     codes "Ends with" ∷
     codes "  0   The text is out, whole." ∷
-    codes "  11  script line L KIND: line L of SCRIPT has a fault; docs/FORMATS.md lists" ∷
-    codes "      the kinds. Mend the line." ∷
+    codes "  11  script line L KIND: line L of SCRIPT has a fault; pns help KIND explains" ∷
+    codes "      it. Mend the line." ∷
     codes "  2, 3, 6, 7, 8, 12, 20: see pns help status" ∷
     codes "Example" ∷
     codes "  pns undo a.pns without" ∷

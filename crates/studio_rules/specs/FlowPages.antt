@@ -40,8 +40,8 @@ check_page =
     codes "  1   refused claim WHY, or refused node N WHY: the tree does not prove its" ∷
     codes "      claim on this plant. A tree with status 4 or 5 has open leaves and is" ∷
     codes "      refused (unknown or open): solve with a greater budget." ∷
-    codes "  10  tree line L KIND: line L of TREE has a fault; docs/FORMATS.md lists the" ∷
-    codes "      kinds. Have the text printed anew." ∷
+    codes "  10  tree line L KIND: line L of TREE has a fault; pns help KIND explains it." ∷
+    codes "      Have the text printed anew." ∷
     codes "  2, 3, 6, 7, 8, 12, 20: see pns help status" ∷
     codes "Example" ∷
     codes "  pns check a.pns tree" ∷

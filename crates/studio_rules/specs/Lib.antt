@@ -50,5 +50,6 @@ pub mod Start
 pub mod StructurePages
 pub mod Summary
 pub mod Table
+pub mod TopicPages
 pub mod TreeFile
 pub mod Trial

@@ -4,7 +4,7 @@ use Rattle.std.specs.Prelude.{ℕ, List, [], ◌∷◌, codes}
 -- the calls to begin with
 abbrev pub first_calls : List (List ℕ)
 first_calls =
-    codes "Begin:  pns solve a.pns 10000 > tree        pns check a.pns tree" ∷
+    codes "Begin:  pns help plant    pns solve a.pns > tree    pns check a.pns tree" ∷
     codes "        pns report a.pns tree               pns graph a.pns tree > a.dot" ∷
     []
 
@@ -15,20 +15,20 @@ overview =
     codes "" ∷
     codes "  max FILE                       the maximal structure" ∷
     codes "  axioms FILE UNITS              do these units meet the axioms S1 to S5?" ∷
-    codes "  list FILE AFTER COUNT          those that do; AFTER is start at first" ∷
+    codes "  list FILE [AFTER COUNT]        those that do; AFTER is start at first" ∷
     codes "  flows FILE UNITS               the least cost of these units, and their sizes" ∷
-    codes "  solve FILE BUDGET              a network of least cost and its proof: a TREE" ∷
+    codes "  solve FILE [BUDGET]            a network of least cost and its proof: a TREE" ∷
     codes "  check FILE TREE                does the tree prove what it claims?" ∷
     codes "  report FILE TREE               the claimed network in tables; as CSV: table" ∷
     codes "  graph FILE, graph FILE TREE    the plant, and the network in it, for Graphviz" ∷
-    codes "  rank FILE N BUDGET             the N best networks, a RANK; see rankcheck" ∷
-    codes "  stable FILE TREE KIND NAME BUDGET    how far a price or a cost may move" ∷
+    codes "  rank FILE N [BUDGET]           the N best networks, a RANK; see rankcheck" ∷
+    codes "  stable FILE TREE KIND NAME [BUDGET]   how far a price or a cost may move" ∷
     codes "  edit FILE SCRIPT               the plant after edits; the way back: undo" ∷
     codes "  migrate FILE YEARS             the script from yearly costs to investments" ∷
-    codes "  periods FILE PLAN BUDGET       one design for several periods; see expand" ∷
-    codes "  part FILE INSIDE OUTSIDE BUDGET      a part of a search; see split and merge" ∷
+    codes "  periods FILE PLAN [BUDGET]     one design for several periods; see expand" ∷
+    codes "  part FILE INSIDE OUTSIDE [BUDGET]     a part of a search; see split and merge" ∷
     codes "  make NUMBER UNITS              a made-up plant; trial solves it" ∷
-    codes "  help COMMAND, help status      the words of a command, what a status asks for" ∷
+    codes "  help TOPIC                     a command, plant, status or the KIND of a fault" ∷
     codes "  version                        which program this is" ∷
     codes "" ∷
     first_calls

@@ -1,4 +1,4 @@
--- The page on each topic: a command, by its first word, or the statuses.
+-- The page on each topic: a command, by its first word, or another one.
 use Rattle.std.specs.Prelude.{ℕ, List, Option, Some, None, codes, option_map, if◌then◌else◌}
 use Rattle.std.specs.Str.{bytes_eq}
 use Rattle.studio_rules.specs.PageLines.{text_of}
@@ -11,17 +11,11 @@ use Rattle.studio_rules.specs.PartPages.{split_page, part_page, merge_page}
 use Rattle.studio_rules.specs.EditPages.{edit_page, undo_page, migrate_page, make_page}
 use Rattle.studio_rules.specs.PlanPages.{expand_page, periods_page}
 use Rattle.studio_rules.specs.ProgramPages.{help_page, version_page, status_page}
+use Rattle.studio_rules.specs.TopicPages.{topic_text}
 
--- the page on what is no work on a file
-abbrev pub program_page_of : List ℕ → Option (List (List ℕ))
-program_page_of topic =
-    if bytes_eq topic (codes "help") then Some help_page
-    else if bytes_eq topic (codes "version") then Some version_page
-    else if bytes_eq topic (codes "status") then Some status_page
-    else None
-
-unfoldable pub page_of : List ℕ → Option (List (List ℕ))
-page_of topic =
+-- the page on a command
+unfoldable pub command_page_of : List ℕ → Option (List (List ℕ))
+command_page_of topic =
     if bytes_eq topic (codes "max") then Some max_page
     else if bytes_eq topic (codes "axioms") then Some axioms_page
     else if bytes_eq topic (codes "list") then Some list_page
@@ -44,8 +38,20 @@ page_of topic =
     else if bytes_eq topic (codes "split") then Some split_page
     else if bytes_eq topic (codes "part") then Some part_page
     else if bytes_eq topic (codes "merge") then Some merge_page
-    else program_page_of topic
+    else if bytes_eq topic (codes "help") then Some help_page
+    else if bytes_eq topic (codes "version") then Some version_page
+    else None
 
 -- its text
+abbrev pub command_text : List ℕ → Option (List ℕ)
+command_text topic = option_map text_of (command_page_of topic)
+
+-- the text on a topic: a command, the statuses, the format of a plant or a kind of fault
+abbrev pub text_or : Option (List ℕ) → Option (List ℕ) → Option (List ℕ)
+text_or (Some text) other = Some text
+text_or None other = other
+
 abbrev pub page_text : List ℕ → Option (List ℕ)
-page_text topic = option_map text_of (page_of topic)
+page_text topic =
+    if bytes_eq topic (codes "status") then Some (text_of status_page)
+    else text_or (command_text topic) (topic_text topic)

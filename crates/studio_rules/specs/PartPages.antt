@@ -13,8 +13,8 @@ split_page =
     codes "  0   The text is out, whole." ∷
     codes "  1   refused claim WHY, or refused node N WHY: the tree is faulty for this" ∷
     codes "      plant. Is FILE the plant that TREE was made for?" ∷
-    codes "  10  tree line L KIND: line L of TREE has a fault; docs/FORMATS.md lists the" ∷
-    codes "      kinds. Have the text printed anew." ∷
+    codes "  10  tree line L KIND: line L of TREE has a fault; pns help KIND explains it." ∷
+    codes "      Have the text printed anew." ∷
     codes "  2, 3, 6, 7, 8, 12, 20: see pns help status" ∷
     codes "Example" ∷
     codes "  pns solve a.pns 1 > some" ∷
@@ -36,8 +36,8 @@ part_ends =
     codes "  5   a part text that ends with a line spent: BUDGET was reached. The text" ∷
     codes "      claims the cheapest network found so far, or unknown, and proves it but" ∷
     codes "      for its open leaves. Call again with a greater BUDGET." ∷
-    codes "  10  tree line L KIND: line L of TREE has a fault; docs/FORMATS.md lists the" ∷
-    codes "      kinds. Have the text printed anew. With TREE only." ∷
+    codes "  10  tree line L KIND: line L of TREE has a fault; pns help KIND explains it." ∷
+    codes "      Have the text printed anew. With TREE only." ∷
     codes "  17  bad node: INSIDE or OUTSIDE is no token of this plant, or the node is not" ∷
     codes "      sound. Take both from one line of split." ∷
     codes "  2, 3, 6, 7, 8, 12, 20: see pns help status" ∷
@@ -48,14 +48,14 @@ part_ends =
 
 unfoldable pub part_page : List (List ℕ)
 part_page =
-    codes "pns part FILE INSIDE OUTSIDE BUDGET" ∷
+    codes "pns part FILE INSIDE OUTSIDE [BUDGET]" ∷
     codes "pns part FILE INSIDE OUTSIDE BUDGET TREE" ∷
     codes "Searches one open leaf of a tree: the networks with all units of INSIDE and none" ∷
     codes "of OUTSIDE. With TREE it looks only for networks cheaper than TREE's." ∷
     codes "  FILE     the plant, PNS_problem_v1" ∷
     codes "  INSIDE   the token of the units taken in, from a line of split" ∷
     codes "  OUTSIDE  the token of the units left out, from the same line" ∷
-    codes "  BUDGET   the most nodes of the tree, 1 to 1000000; 10000 is a good try" ∷
+    codes "  BUDGET   the most nodes, 1 to 1000000; 10k is 10000; 1M where it is left out" ∷
     codes "  TREE     a tree text, as solve prints it" ∷
     codes "Prints a part text for pns merge." ∷
     part_ends

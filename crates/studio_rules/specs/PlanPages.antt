@@ -21,11 +21,11 @@ expand_page =
 
 unfoldable pub periods_page : List (List ℕ)
 periods_page =
-    codes "pns periods FILE PLAN BUDGET" ∷
+    codes "pns periods FILE PLAN [BUDGET]" ∷
     codes "Finds the units to build once and to run in several periods, at least cost." ∷
     codes "  FILE    the plant, PNS_problem_v1" ∷
     codes "  PLAN    a plan text, PNS_plan_v1" ∷
-    codes "  BUDGET  the most nodes of the tree, 1 to 1000000; 10000 is a good try" ∷
+    codes "  BUDGET  the most nodes, 1 to 1000000; 10k is 10000; 1M where it is left out" ∷
     codes "Prints built NAMES, capacities D C C, cost N (N / D / G / 10^18), and for each" ∷
     codes "period its units and sizes (X / D / 10^6); or infeasible." ∷
     codes "Ends with" ∷

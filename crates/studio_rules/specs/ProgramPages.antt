@@ -4,10 +4,11 @@ use Rattle.std.specs.Prelude.{ℕ, List, [], ◌∷◌, codes}
 unfoldable pub help_page : List (List ℕ)
 help_page =
     codes "pns help" ∷
-    codes "pns help COMMAND" ∷
-    codes "Tells the commands, or one of them. --help and -h are help." ∷
-    codes "  COMMAND  the first word of a command, or status" ∷
-    codes "Prints a text of one screen, or of one command." ∷
+    codes "pns help TOPIC" ∷
+    codes "Tells the commands, or one topic. --help and -h are help, and behind the first" ∷
+    codes "word of a command its page, whatever follows." ∷
+    codes "  TOPIC  the first word of a command, plant, status, or the KIND of a fault" ∷
+    codes "Prints a text of one screen." ∷
     codes "Ends with" ∷
     codes "  0   The text is out, whole." ∷
     codes "  2, 7, 8, 20: see pns help status" ∷
@@ -37,8 +38,8 @@ status_page =
     codes "  2   usage: the words have no form of pns help, or a number is beyond its" ∷
     codes "      limit. Nothing was read. Compare with pns help COMMAND." ∷
     codes "  3   problem line L KIND: line L of FILE has a fault of this kind, the first" ∷
-    codes "      one. docs/FORMATS.md lists the kinds. Mend the line and call again. A line" ∷
-    codes "      behind the last one: no material is a product." ∷
+    codes "      one. pns help KIND explains it. Mend the line, call again. A line behind" ∷
+    codes "      the last one: no material is a product." ∷
     codes "  6   read fault NAME: this file cannot be read. Look at its path and its" ∷
     codes "      rights." ∷
     codes "  7   nothing more: the output took no more, and what is out is only the front" ∷

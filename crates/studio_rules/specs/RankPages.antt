@@ -3,12 +3,12 @@ use Rattle.std.specs.Prelude.{ℕ, List, [], ◌∷◌, codes}
 
 unfoldable pub rank_page : List (List ℕ)
 rank_page =
-    codes "pns rank FILE N BUDGET" ∷
+    codes "pns rank FILE N [BUDGET]" ∷
     codes "Finds the N allowed structures of least cost, each at its own least cost, and a" ∷
     codes "tree that proves it." ∷
     codes "  FILE    the plant, PNS_problem_v1" ∷
     codes "  N       how many networks, 1 to 1000" ∷
-    codes "  BUDGET  the most nodes of the tree, 1 to 1000000; 10000 is a good try" ∷
+    codes "  BUDGET  the most nodes, 1 to 1000000; 10k is 10000; 1M where it is left out" ∷
     codes "Prints a rank text: count N, networks K, three lines for each network from the" ∷
     codes "cheapest on, then the tree. K is less than N only where there are no more." ∷
     codes "Ends with" ∷
@@ -36,8 +36,8 @@ rankcheck_page =
     codes "  1   refused network K WHY, or refused node N WHY: the text does not prove its" ∷
     codes "      ranking on this plant. Was the rank printed with status 0, and for this" ∷
     codes "      FILE?" ∷
-    codes "  10  tree line L KIND: line L of RANK has a fault; docs/FORMATS.md lists the" ∷
-    codes "      kinds. Have the text printed anew." ∷
+    codes "  10  tree line L KIND: line L of RANK has a fault; pns help KIND explains it." ∷
+    codes "      Have the text printed anew." ∷
     codes "  2, 3, 6, 7, 8, 12, 20: see pns help status" ∷
     codes "Example" ∷
     codes "  pns rankcheck a.pns ranked" ∷

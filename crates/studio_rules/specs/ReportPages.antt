@@ -31,8 +31,8 @@ table_page =
     codes "      breaks an axiom (axiom) or an exclusion (exclusion), its sizes are no" ∷
     codes "      flows (flows) or its cost is another (cost), or a number is too large" ∷
     codes "      (sum). Is FILE the plant that TREE was made for?" ∷
-    codes "  10  tree line L KIND: line L of TREE has a fault; docs/FORMATS.md lists the" ∷
-    codes "      kinds. Have the text printed anew." ∷
+    codes "  10  tree line L KIND: line L of TREE has a fault; pns help KIND explains it." ∷
+    codes "      Have the text printed anew." ∷
     codes "  2, 3, 6, 7, 8, 12, 20: see pns help status" ∷
     table_example
 
@@ -52,8 +52,8 @@ report_page =
     codes "      breaks an axiom (axiom) or an exclusion (exclusion), its sizes are no" ∷
     codes "      flows (flows) or its cost is another (cost), or a number is too large" ∷
     codes "      (sum). Is FILE the plant that TREE was made for?" ∷
-    codes "  10  tree line L KIND: line L of TREE has a fault; docs/FORMATS.md lists the" ∷
-    codes "      kinds. Have the text printed anew." ∷
+    codes "  10  tree line L KIND: line L of TREE has a fault; pns help KIND explains it." ∷
+    codes "      Have the text printed anew." ∷
     codes "  2, 3, 6, 7, 8, 12, 20: see pns help status" ∷
     codes "Example" ∷
     codes "  pns report a.pns tree" ∷
@@ -74,8 +74,8 @@ graph_page =
     codes "Ends with" ∷
     codes "  0   The text is out, whole." ∷
     codes "  1   refused claim WHY, with TREE only: as in pns help report." ∷
-    codes "  10  tree line L KIND: line L of TREE has a fault; docs/FORMATS.md lists the" ∷
-    codes "      kinds. Have the text printed anew. With TREE only." ∷
+    codes "  10  tree line L KIND: line L of TREE has a fault; pns help KIND explains it." ∷
+    codes "      Have the text printed anew. With TREE only." ∷
     codes "  2, 3, 6, 7, 8, 12, 20: see pns help status" ∷
     codes "Example" ∷
     codes "  pns graph a.pns tree | dot -Tsvg > a.svg" ∷
@@ -95,8 +95,8 @@ stable_ends =
     codes "      digits, or bounds and capacities nearer to what can come, and call again." ∷
     codes "  5   at V, then a tree text: BUDGET was reached. At this value the search did" ∷
     codes "      not end. Call again with a greater BUDGET." ∷
-    codes "  10  tree line L KIND: line L of TREE has a fault; docs/FORMATS.md lists the" ∷
-    codes "      kinds. Have the text printed anew." ∷
+    codes "  10  tree line L KIND: line L of TREE has a fault; pns help KIND explains it." ∷
+    codes "      Have the text printed anew." ∷
     codes "  13  not best, then a cheaper network: solve anew." ∷
     codes "  14  unknown name: NAME is no material (price) or no unit (fix, proportional)." ∷
     codes "  2, 3, 6, 7, 8, 12, 20: see pns help status" ∷
@@ -110,14 +110,14 @@ stable_ends =
 
 unfoldable pub stable_page : List (List ℕ)
 stable_page =
-    codes "pns stable FILE TREE KIND NAME BUDGET" ∷
+    codes "pns stable FILE TREE KIND NAME [BUDGET]" ∷
     codes "Finds how far one price or cost may move while the claimed network stays one of" ∷
     codes "least cost." ∷
     codes "  FILE    the plant, PNS_problem_v1" ∷
     codes "  TREE    a tree text, as solve prints it" ∷
     codes "  KIND    price, fix or proportional" ∷
     codes "  NAME    a material for price, a unit for fix and proportional" ∷
-    codes "  BUDGET  the most nodes of the tree, 1 to 1000000; 10000 is a good try" ∷
+    codes "  BUDGET  the most nodes, 1 to 1000000; 10k is 10000; 1M where it is left out" ∷
     codes "Prints from V, then below and a network that is cheaper under V, or below limit;" ∷
     codes "to V, then above in the same way. V is in millionths." ∷
     stable_ends

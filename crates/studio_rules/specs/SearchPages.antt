@@ -3,11 +3,11 @@ use Rattle.std.specs.Prelude.{ℕ, List, [], ◌∷◌, codes}
 
 unfoldable pub solve_page : List (List ℕ)
 solve_page =
-    codes "pns solve FILE BUDGET" ∷
+    codes "pns solve FILE [BUDGET]" ∷
     codes "Finds an allowed network of least cost in one year and a tree that proves it." ∷
     codes "Keep the text: check, report, graph, table and stable read it." ∷
     codes "  FILE    the plant, PNS_problem_v1" ∷
-    codes "  BUDGET  the most nodes of the tree, 1 to 1000000; 10000 is a good try" ∷
+    codes "  BUDGET  the most nodes, 1 to 1000000; 10k is 10000; 1M where it is left out" ∷
     codes "Prints a tree text. Lines 2 to 4 are the network; sizes and cost as in pns help" ∷
     codes "flows. Or infeasible: no allowed network meets the bounds." ∷
     codes "Ends with" ∷
@@ -38,11 +38,11 @@ trial_example =
 
 unfoldable pub trial_page : List (List ℕ)
 trial_page =
-    codes "pns trial NUMBER UNITS BUDGET" ∷
+    codes "pns trial NUMBER UNITS [BUDGET]" ∷
     codes "Makes the plant of pns make NUMBER UNITS, solves it and sums up." ∷
     codes "  NUMBER  a number, 0 to 18446744073709551615; the same one makes the same plant" ∷
     codes "  UNITS   how many units, 1 to 128" ∷
-    codes "  BUDGET  the most nodes of the tree, 1 to 1000000; 10000 is a good try" ∷
+    codes "  BUDGET  the most nodes, 1 to 1000000; 10k is 10000; 1M where it is left out" ∷
     codes "Prints units, maximal (units of the maximal structure), network NAMES, cost N D" ∷
     codes "(N / D / 10^18), nodes." ∷
     codes "Ends with" ∷

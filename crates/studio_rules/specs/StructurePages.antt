@@ -38,12 +38,13 @@ axioms_page =
 
 unfoldable pub list_page : List (List ℕ)
 list_page =
-    codes "pns list FILE AFTER COUNT" ∷
+    codes "pns list FILE [AFTER COUNT]" ∷
     codes "Lists the structures that meet the axioms and the exclusions, in a fixed order." ∷
     codes "To go on, call again with the last token." ∷
     codes "  FILE   the plant, PNS_problem_v1" ∷
-    codes "  AFTER  start, or the token of the structure to go on behind" ∷
-    codes "  COUNT  the most lines to print, 1 to 1000000000" ∷
+    codes "  AFTER  start, or the token of the structure to go on behind; start where it is" ∷
+    codes "         left out" ∷
+    codes "  COUNT  the most lines to print, 1 to 1000000000; 1000 where it is left out" ∷
     codes "Prints a line TOKEN NAMES for each structure; then end, or more TOKEN where" ∷
     codes "others follow." ∷
     codes "Ends with" ∷

@@ -9,9 +9,12 @@
 //! - of commands, one file each: `Max`, `Axioms`, `Listing`; `Edits`, `Migrate`, `Make`; `Flows`, `Check`, `Best` (what acceptance means);
 //!   `Network` with `Table`, `Report` and `Graph`; `Split`, `Merge`; `Rankcheck`, `Rank`; `Solve`, `Summary`, `Trial`; `Start`, `Part`;
 //!   `Expand`, `Periods` with `DesignText`; `Stable`. The words of causes are `RefusalWords` and `RankWords`.
-//! - of help: `Overview`, `Pages` (which page is on which topic), and one file of pages for each kind of command, over `PageLines`.
+//! - of help: `Overview`, `Pages` (which page is on which topic), and one file of pages for each kind of command, over `PageLines`;
+//!   `TopicPages`, the pages of the constant [`TOPIC_PAGES`].
 #![tactic(auto)]
 
 mod status;
+mod topic_pages;
 
 pub use status::Status;
+pub use topic_pages::TOPIC_PAGES;

@@ -1,3 +1,5 @@
+pub mod WholePages
 pub mod Within
 pub mod NameLists
 pub mod Numerals
+mod WorkedWords

@@ -1,14 +1,15 @@
 //! The words of a call.
 ghost use Rattle.std.specs.Prelude.{◌≡◌, ◌∷◌, [], IfOk, map, option_map, string_bytes};
-ghost use Rattle.studio_rules.specs.Command.{command_of, form_of, on_file, with_file, made_by, tried_by, ranged_by, ranked_by, unit_names_of, count_of, seed_of, unit_count_of, years_of, rank_count_of, budget_of, kind_of};
+ghost use Rattle.studio_rules.specs.Command.{command_of, form_of, of_file, on_file, with_file, made_by, tried_by, ranged_by, ranked_by, page_asked, unit_names_of, count_of, seed_of, unit_count_of, years_of, rank_count_of, budget_of, kind_of};
 ghost use Rattle.studio_rules.specs.Command.{alone, Axioms, Flows, Listing, Migrate, Solving, Planning, Parting, PartingAgainst, Telling};
 ghost use Rattle.studio_rules.specs.Pages.{page_text};
 ghost use Rattle.studio_words.specs.View.{command_view};
 
+use crate::file_words::are_both_files;
 use crate::merging::merging_of;
 use crate::number::number_within;
 use crate::unit_names::UnitNames;
-use help_texts::{overview_text, page_on, version_text};
+use help_texts::{command_page_on, overview_text, page_on, version_text};
 use stability_rules::SpotKind;
 use std::alloc::{AllocError, Global};
 
@@ -47,9 +48,28 @@ pub enum Command<'a> {
 pub fn command_of(alloc: Global, words: &[String]) -> Result<Option<Command<'_>>, AllocError>
     ensures { IfOk result (λ found. option_map command_view found ≡ command_of (map string_bytes words.now)) }
 {
+    if let Some(command) = page_asked(words) {
+        return Ok(Some(command));
+    }
     match merging_of(words) {
         Some(command) => Ok(Some(command)),
         None => form_of(alloc, words),
+    }
+}
+
+/// The page of the command that the first word is, where the second one asks for it.
+fn page_asked(words: &[String]) -> Option<Command<'_>>
+    ensures { option_map command_view result ≡ page_asked (map string_bytes words.now) }
+{
+    if words.len() < 2 {
+        return None;
+    }
+    let next = words[1].as_str();
+    if next == "--help" || next == "-h" {
+        let page = command_page_on(words[0].as_str())?;
+        Some(Command::Telling(page))
+    } else {
+        None
     }
 }
 
@@ -109,12 +129,25 @@ fn of_two<'a>(word: &str, file: &'a str) -> Option<Command<'a>>
 {
     if word == "help" {
         help_on(file)
-    } else if word == "max" && !file.is_empty() {
-        Some(Command::Max(file))
-    } else if word == "graph" && !file.is_empty() {
-        Some(Command::Drawing(file))
+    } else if !file.is_empty() {
+        of_file(word, file)
     } else {
         None
+    }
+}
+
+/// The most structures of a listing that does not say how many it wants.
+const FIRST_COUNT: u64 = 1_000;
+
+fn of_file<'a>(word: &str, file: &'a str) -> Option<Command<'a>>
+    ensures { option_map command_view result ≡ of_file word.now file.now }
+{
+    match word {
+        "max" => Some(Command::Max(file)),
+        "graph" => Some(Command::Drawing(file)),
+        "list" => Some(Command::Listing(file, "start", FIRST_COUNT)),
+        "solve" => Some(Command::Solving(file, MOST_NODES)),
+        _ => None,
     }
 }
 
@@ -128,6 +161,8 @@ fn of_three<'a>(
 {
     if word == "make" {
         Ok(made_by(first, second))
+    } else if word == "trial" {
+        Ok(tried_by(first, second, Some(MOST_NODES)))
     } else if !first.is_empty() {
         on_file(alloc, word, first, second)
     } else {
@@ -141,22 +176,31 @@ const MOST_UNITS: u64 = 128;
 fn unit_count_of(word: &str) -> Option<u64>
     ensures { result ≡ unit_count_of word.now }
 {
-    number_within(word, 1, MOST_UNITS)
+    number_within(word.as_bytes(), 1, MOST_UNITS)
 }
 
 fn seed_of(word: &str) -> Option<u64>
     ensures { result ≡ seed_of word.now }
 {
-    number_within(word, 0, u64::MAX)
+    number_within(word.as_bytes(), 0, u64::MAX)
 }
 
-/// The most nodes of a search.
+/// The most nodes of a search, which has as many where no budget is given.
 const MOST_NODES: u64 = 1_000_000;
+
+/// What the letters stand for that may end a budget.
+const THOUSAND: u64 = 1_000;
+
+const MILLION: u64 = 1_000_000;
 
 fn budget_of(word: &str) -> Option<u64>
     ensures { result ≡ budget_of word.now }
 {
-    number_within(word, 1, MOST_NODES)
+    match word.as_bytes() {
+        [front @ .., b'k'] => Some(THOUSAND * number_within(front, 1, MOST_NODES / THOUSAND)?),
+        [front @ .., b'M'] => Some(MILLION * number_within(front, 1, MOST_NODES / MILLION)?),
+        digits => number_within(digits, 1, MOST_NODES),
+    }
 }
 
 fn made_by<'a>(number: &str, units: &str) -> Option<Command<'a>>
@@ -183,8 +227,12 @@ fn on_file<'a>(
         Ok(migrate_of(file, second))
     } else if word == "solve" {
         Ok(solve_of(file, second))
-    } else {
+    } else if word == "rank" {
+        Ok(ranked_by(file, second, Some(MOST_NODES)))
+    } else if are_both_files(file, second) {
         Ok(with_file(word, file, second))
+    } else {
+        Ok(None)
     }
 }
 
@@ -194,7 +242,7 @@ const MOST_YEARS: u64 = 100;
 fn migrate_of<'a>(file: &'a str, years: &str) -> Option<Command<'a>>
     ensures { option_map command_view result ≡ option_map (Migrate file.now) (years_of years.now) }
 {
-    let years = number_within(years, 1, MOST_YEARS)?;
+    let years = number_within(years.as_bytes(), 1, MOST_YEARS)?;
     Some(Command::Migrate(file, years))
 }
 
@@ -205,52 +253,45 @@ fn solve_of<'a>(file: &'a str, budget: &str) -> Option<Command<'a>>
     Some(Command::Solving(file, budget))
 }
 
-fn tried_by<'a>(number: &str, units: &str, budget: &str) -> Option<Command<'a>>
-    ensures { option_map command_view result ≡ tried_by (seed_of number.now) (unit_count_of units.now) (budget_of budget.now) }
+fn tried_by<'a>(number: &str, units: &str, budget: Option<u64>) -> Option<Command<'a>>
+    ensures { option_map command_view result ≡ tried_by (seed_of number.now) (unit_count_of units.now) budget }
 {
     let number = seed_of(number)?;
     let units = unit_count_of(units)?;
-    let budget = budget_of(budget)?;
-    Some(Command::Trial(number, units, budget))
+    Some(Command::Trial(number, units, budget?))
 }
 
 fn with_file<'a>(word: &str, file: &'a str, second: &'a str) -> Option<Command<'a>>
     ensures { option_map command_view result ≡ with_file word.now file.now second.now }
 {
-    if word == "edit" && !second.is_empty() {
-        Some(Command::Editing(file, second))
-    } else if word == "undo" && !second.is_empty() {
-        Some(Command::Undoing(file, second))
-    } else if word == "check" && !second.is_empty() {
-        Some(Command::Checking(file, second))
-    } else if word == "rankcheck" && !second.is_empty() {
-        Some(Command::RankChecking(file, second))
-    } else if word == "table" && !second.is_empty() {
-        Some(Command::Table(file, second))
-    } else if word == "split" && !second.is_empty() {
-        Some(Command::Splitting(file, second))
-    } else if word == "expand" && !second.is_empty() {
-        Some(Command::Expanding(file, second))
-    } else if word == "graph" && !second.is_empty() {
-        Some(Command::DrawingNetwork(file, second))
-    } else if word == "report" && !second.is_empty() {
-        Some(Command::Reporting(file, second))
-    } else {
-        None
+    match word {
+        "edit" => Some(Command::Editing(file, second)),
+        "undo" => Some(Command::Undoing(file, second)),
+        "check" => Some(Command::Checking(file, second)),
+        "rankcheck" => Some(Command::RankChecking(file, second)),
+        "table" => Some(Command::Table(file, second)),
+        "split" => Some(Command::Splitting(file, second)),
+        "expand" => Some(Command::Expanding(file, second)),
+        "graph" => Some(Command::DrawingNetwork(file, second)),
+        "report" => Some(Command::Reporting(file, second)),
+        "periods" => Some(Command::Planning(file, second, MOST_NODES)),
+        _ => None,
     }
 }
 
-fn of_four<'a>(word: &str, first: &'a str, second: &'a str, third: &str) -> Option<Command<'a>>
+fn of_four<'a>(word: &str, first: &'a str, second: &'a str, third: &'a str) -> Option<Command<'a>>
     ensures { option_map command_view result ≡ form_of (word.now ∷ first.now ∷ second.now ∷ third.now ∷ []) }
 {
     if word == "trial" {
-        tried_by(first, second, third)
+        tried_by(first, second, budget_of(third))
     } else if word == "list" && !first.is_empty() {
         listing_of(first, second, third)
-    } else if word == "periods" && !first.is_empty() && !second.is_empty() {
+    } else if word == "periods" && are_both_files(first, second) {
         planning_of(first, second, third)
     } else if word == "rank" && !first.is_empty() {
-        ranked_by(first, second, third)
+        ranked_by(first, second, budget_of(third))
+    } else if word == "part" && !first.is_empty() {
+        Some(Command::Parting(first, second, third, MOST_NODES))
     } else {
         None
     }
@@ -261,12 +302,14 @@ fn of_five<'a>(
     first: &'a str,
     second: &'a str,
     third: &'a str,
-    fourth: &str,
+    fourth: &'a str,
 ) -> Option<Command<'a>>
     ensures { option_map command_view result ≡ form_of (word.now ∷ first.now ∷ second.now ∷ third.now ∷ fourth.now ∷ []) }
 {
     if word == "part" && !first.is_empty() {
         parting_of(first, second, third, fourth)
+    } else if word == "stable" && are_both_files(first, second) {
+        ranged_by(first, second, third, fourth, Some(MOST_NODES))
     } else {
         None
     }
@@ -282,10 +325,10 @@ fn of_six<'a>(
 ) -> Option<Command<'a>>
     ensures { option_map command_view result ≡ form_of (word.now ∷ first.now ∷ second.now ∷ third.now ∷ fourth.now ∷ fifth.now ∷ []) }
 {
-    if word == "part" && !first.is_empty() && !fifth.is_empty() {
+    if word == "part" && are_both_files(first, fifth) {
         parting_against(first, second, third, fourth, fifth)
-    } else if word == "stable" && !first.is_empty() && !second.is_empty() {
-        ranged_by(first, second, third, fourth, fifth)
+    } else if word == "stable" && are_both_files(first, second) {
+        ranged_by(first, second, third, fourth, budget_of(fifth))
     } else {
         None
     }
@@ -304,15 +347,14 @@ const MOST_RANKED: u64 = 1_000;
 fn rank_count_of(word: &str) -> Option<u64>
     ensures { result ≡ rank_count_of word.now }
 {
-    number_within(word, 1, MOST_RANKED)
+    number_within(word.as_bytes(), 1, MOST_RANKED)
 }
 
-fn ranked_by<'a>(file: &'a str, count: &str, budget: &str) -> Option<Command<'a>>
-    ensures { option_map command_view result ≡ ranked_by file.now (rank_count_of count.now) (budget_of budget.now) }
+fn ranked_by<'a>(file: &'a str, count: &str, budget: Option<u64>) -> Option<Command<'a>>
+    ensures { option_map command_view result ≡ ranked_by file.now (rank_count_of count.now) budget }
 {
     let count = rank_count_of(count)?;
-    let budget = budget_of(budget)?;
-    Some(Command::Ranking(file, count, budget))
+    Some(Command::Ranking(file, count, budget?))
 }
 
 fn parting_of<'a>(
@@ -359,13 +401,12 @@ fn ranged_by<'a>(
     tree: &'a str,
     kind: &str,
     name: &'a str,
-    budget: &str,
+    budget: Option<u64>,
 ) -> Option<Command<'a>>
-    ensures { option_map command_view result ≡ ranged_by file.now tree.now (kind_of kind.now) name.now (budget_of budget.now) }
+    ensures { option_map command_view result ≡ ranged_by file.now tree.now (kind_of kind.now) name.now budget }
 {
     let kind = kind_of(kind)?;
-    let budget = budget_of(budget)?;
-    Some(Command::Ranging(file, tree, kind, name, budget))
+    Some(Command::Ranging(file, tree, kind, name, budget?))
 }
 
 fn axioms_of<'a>(
@@ -400,6 +441,6 @@ const MOST_COUNT: u64 = 1_000_000_000;
 fn listing_of<'a>(file: &'a str, after: &'a str, count: &str) -> Option<Command<'a>>
     ensures { option_map command_view result ≡ option_map (Listing file.now after.now) (count_of count.now) }
 {
-    let count = number_within(count, 1, MOST_COUNT)?;
+    let count = number_within(count.as_bytes(), 1, MOST_COUNT)?;
     Some(Command::Listing(file, after, count))
 }

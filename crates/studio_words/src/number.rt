@@ -5,11 +5,10 @@ ghost use Rattle.std.specs.Char.{is_ascii_digit};
 ghost use Rattle.text_rules.specs.Amount.{number_of};
 ghost use Rattle.studio_rules.specs.Numeral.{has_leading_zero, number_within};
 
-/// The number that the word is, where it is from `least` to `most`.
-pub(crate) fn number_within(word: &str, least: u64, most: u64) -> Option<u64>
-    ensures { result ≡ number_within least most word.now }
+/// The number that the bytes of a word spell, where it is from `least` to `most`.
+pub(crate) fn number_within(bytes: &[u8], least: u64, most: u64) -> Option<u64>
+    ensures { result ≡ number_within least most bytes.now }
 {
-    let bytes = word.as_bytes();
     if bytes.is_empty() || has_leading_zero(bytes) {
         return None;
     }
