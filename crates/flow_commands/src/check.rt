@@ -13,7 +13,7 @@ use branch_tree::{Claim, Tree};
 use cert_check::check_tree;
 use command_files::{problem_of, tree_of};
 use endings::say::{say, say_memory, say_of};
-use pgraph::Graph;
+use pgraph::{Graph, Site};
 use pns_io::{Shelf, Sink};
 use pns_problem::Problem;
 use refusal_words::{say_node, why_word};
@@ -36,7 +36,7 @@ fn say_checked<K: Sink>(
     let Ok(graph) = Graph::of(alloc, problem) else {
         return say_memory(out);
     };
-    match check_tree(alloc, problem, &graph, claim, tree) {
+    match check_tree(alloc, &Site::of(problem, &graph), claim, tree) {
         Ok(()) => say(out, b"accepted\n", Status::Done),
         Err(Refusal::Claim(why)) => {
             say_of(alloc, out, "refused claim ", why_word(why), Status::Refused)

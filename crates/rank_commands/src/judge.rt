@@ -12,7 +12,7 @@ use crate::rank_file::rank_of;
 use crate::words::rank_why_word;
 use command_files::problem_of;
 use endings::say::{say, say_memory};
-use pgraph::Graph;
+use pgraph::{Graph, Site};
 use pns_io::{Shelf, Sink};
 use pns_problem::Problem;
 use rank_check::{RankRefusal, check_rank};
@@ -70,7 +70,7 @@ fn say_checked<K: Sink>(alloc: Global, out: &mut K, problem: &Problem, text: &Ra
     let Ok(graph) = Graph::of(alloc, problem) else {
         return say_memory(out);
     };
-    match check_rank(alloc, problem, &graph, text) {
+    match check_rank(alloc, &Site::of(problem, &graph), text) {
         Ok(()) => say(out, b"accepted\n", Status::Done),
         Err(RankRefusal::Network { number, why }) => say_network(alloc, out, number, why),
         Err(RankRefusal::Node { node, why }) => say_node(alloc, out, node, why),
