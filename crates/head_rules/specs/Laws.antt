@@ -14,6 +14,8 @@ use Rattle.tree_rules.specs.Costs.{HasFallen}
 use Rattle.head_rules.specs.Charged.{IsCharged}
 use Rattle.head_rules.specs.Head.{HeadLine, Known, known_first, after_lines, LinesPass}
 use Rattle.head_rules.specs.Keeps.{Undercuts, Keeps}
+use Rattle.head_rules.specs.declared.line_why.LineWhy.{LineWhy}
+use Rattle.head_rules.specs.Faults.{ChargeFails, IsFirstToFail}
 
 abbrev pub IsCost : Option CostOver → Type 0
 IsCost claimed = IfSome claimed (λ c. pos 1 ≤ℤ c.d)
@@ -65,3 +67,32 @@ abbrev pub HeadKeepsLeast : Type 0
 HeadKeepsLeast =
     (p : Problem) (start : Node) (lines : List HeadLine) (i : ℕ)
     → (after_lines p (known_first p start) lines).facts.least i ≡ (net_of p).least i
+
+-- ---- faults
+
+-- where lines pass, none is the first that fails
+abbrev pub PassingHasNoFault : Type 0
+PassingHasNoFault =
+    (p : Problem) (claimed : Option CostOver) (k : Known) (lines : List HeadLine)
+    → LinesPass p claimed k lines
+    → (i : ℕ) (why : LineWhy) → IsFirstToFail p claimed k lines i why → ⊥
+
+-- and one at most is, for one cause
+abbrev pub FaultIsOne : Type 0
+FaultIsOne =
+    (p : Problem) (claimed : Option CostOver) (k : Known) (lines : List HeadLine)
+    → (i j : ℕ) (why other : LineWhy) → IsFirstToFail p claimed k lines i why
+    → IsFirstToFail p claimed k lines j other → (i ≡ j) × (why ≡ other)
+
+-- a node that is charged what is claimed has no cause to fail, and one that is not has one at most
+abbrev pub ChargedHasNoFault : Type 0
+ChargedHasNoFault =
+    (p : Problem) (claimed : Option CostOver) (n : Node) (f : Facts) (d : ℤ) (ys : List ℤ)
+    (covers : List Cover) → IsCharged p claimed n f d ys covers
+    → (why : LineWhy) → ChargeFails p claimed n f d ys covers why → ⊥
+
+abbrev pub ChargeFaultIsOne : Type 0
+ChargeFaultIsOne =
+    (p : Problem) (claimed : Option CostOver) (n : Node) (f : Facts) (d : ℤ) (ys : List ℤ)
+    (covers : List Cover) (why other : LineWhy) → ChargeFails p claimed n f d ys covers why
+    → ChargeFails p claimed n f d ys covers other → why ≡ other

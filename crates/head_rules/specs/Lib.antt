@@ -1,4 +1,5 @@
 pub mod Charged
+pub mod Faults
 pub mod Head
 pub mod Keeps
 pub mod Laws

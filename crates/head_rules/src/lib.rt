@@ -4,10 +4,15 @@
 //! A line takes units in or leaves them out, or bounds the size of a unit. It passes by what is known where it stands, and by
 //! the cost that is claimed: what it cuts off has no flows that cost less. The definitions are in `specs/`: `Charged` (nodes
 //! whose charge reaches the claim), `Trim` (units of which no more than so much can be of use), `Head` (the lines), `Keeps`
-//! (what is not lost) and `Laws`. Each law is the contract of a function without a body.
+//! (what is not lost), `Faults` (the first line that fails, and its cause) and `Laws`. Each law is the contract of a function
+//! without a body.
 #![tactic(auto)]
 
-ghost use Rattle.head_rules.specs.Laws.{ChargedIsEmpty, CheaperIsCharged, CheaperPasses, HeadKeeps, HeadHasFacts, HeadKeepsLeast};
+mod line_why;
+
+ghost use Rattle.head_rules.specs.Laws.{ChargedIsEmpty, CheaperIsCharged, CheaperPasses, HeadKeeps, HeadHasFacts, HeadKeepsLeast, PassingHasNoFault, FaultIsOne, ChargedHasNoFault, ChargeFaultIsOne};
+
+pub use line_why::LineWhy;
 
 /// A node that is charged what is claimed has no structure with flows that fit its facts and cost less.
 pub fn charged_is_empty()
@@ -25,4 +30,12 @@ pub fn head_keeps()
     ensures keeps { HeadKeeps }
     ensures facts { HeadHasFacts }
     ensures least { HeadKeepsLeast }
+{}
+
+/// Lines that pass have no fault, and lines that do not have one at most, for one cause; so it is with a charged node.
+pub fn one_fault()
+    ensures passing { PassingHasNoFault }
+    ensures one { FaultIsOne }
+    ensures charged { ChargedHasNoFault }
+    ensures charge_one { ChargeFaultIsOne }
 {}

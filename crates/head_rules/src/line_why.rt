@@ -1,0 +1,16 @@
+/// Why a line at the head of a branch tree is refused. The first of its conditions that fails tells the cause.
+#[derive(Clone, Copy, Debug, PartialEq, Eq)]
+pub enum LineWhy {
+    /// A step is not possible where it stands.
+    Step,
+    /// The unit is left out, or is not free where it has to be; or the size is not between those that it may have.
+    Fact,
+    /// The unit earns by its size, or a material does not bear less of it.
+    Trim,
+    /// A set of units is not one of free units of which each structure of the node has one, or its weight is below 0.
+    Cover,
+    /// The scale is below 0, the multipliers are not one for each row, or the charge does not reach what is claimed.
+    Bound,
+    /// A number that is formed for the charge is out of range.
+    Sum,
+}
