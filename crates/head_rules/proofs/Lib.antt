@@ -1,6 +1,9 @@
 pub mod ChargedLemmas
+mod ExampleHead
+mod ExampleProblem
 pub mod FactLemmas
 pub mod FaultLemmas
 pub mod HeadLemmas
 pub mod SumLemmas
 pub mod TrimLemmas
+mod Worked
