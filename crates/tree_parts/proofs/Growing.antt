@@ -1,5 +1,5 @@
 -- Parts that wait for their places: the tree that they make together is that of the parts in turn.
-use Rattle.std.proofs.Common.{◌≡◌, ◌+◌, ◌<◌, ℕ, List, [], ◌∷◌, ◌++◌, length, take, get_or, refl, sym, ap, ◌∙◌, subst, arith, length-append}
+use Rattle.std.proofs.Common.{◌≡◌, ◌+◌, ◌<◌, ◌≤◌, ℕ, List, [], ◌∷◌, ◌++◌, length, take, get_or, refl, sym, ap, ◌∙◌, subst, arith, length-append, Result, Ok, Err, IfOk, IfErr}
 use Rattle.problem_rules.specs.Problem.{Problem}
 use Rattle.pns_rules.specs.Shape.{shape_of}
 use Rattle.tree_rules.specs.Tree.{leaf, IsTree, Stands}
@@ -15,8 +15,11 @@ use Rattle.part_rules.specs.Part as parts
 use Rattle.part_rules.specs.Part.{start_of}
 use Rattle.part_rules.specs.Merge.{IsMerged, IsLeafOf, MergeFails}
 use Rattle.part_rules.specs.declared.merge_fault.MergeFault.{MergeFault}
-use Rattle.part_rules.specs.declared.merge_fault.MergeFault.TheVariants.{NoLeaf}
+use Rattle.part_rules.specs.declared.merge_fault.MergeFault.TheVariants.{NoLeaf, Memory}
 use Rattle.part_rules.specs.Several.{AreMerged, StopsAt}
+use Rattle.branch_tree.specs.View.{claim_of}
+use Rattle.tree_parts.specs.declared.several.Merged.{Merged}
+use Rattle.tree_parts.specs.declared.several.PartFault.{PartFault}
 use Rattle.tree_parts.specs.declared.waiting.Waiting.{Waiting}
 use Rattle.tree_parts.specs.Waiting.{splices_of, IsOneMore}
 use Rattle.tree_parts.proofs.InTurn.{AreBack, one_back}
@@ -40,6 +43,14 @@ length_more front back s i e = let a = length-append front back in let b = lengt
 pub no_items : (ws : List Waiting) (i : ℕ) → i ≡ 0 → length (splices_of ws) ≡ i → ws ≡ []
 no_items [] i e l = refl
 no_items (w ∷ ws) i e l = absurd (omega arith)
+
+pub some_count : (r : Result Merged PartFault) (i : ℕ) → 0 < i → IfOk r (λ m. m.count ≡ i) → IfOk r (λ m. 0 < m.count)
+some_count (Ok m) i some is = omega (arith, some, is)
+some_count (Err e) i some is = tt
+
+pub few_count : (r : Result Merged PartFault) (i n : ℕ) → i ≤ n → IfOk r (λ m. m.count ≡ i) → IfOk r (λ m. m.count ≤ n)
+few_count (Ok m) i n few is = omega (arith, few, is)
+few_count (Err e) i n few is = tt
 
 module _ (p : Problem) where
   -- the parts before place i wait, and these are the tree and the claim that they make
@@ -109,12 +120,25 @@ module _ (p : Problem) where
   settled_so [] i running both grown some l e = absurd (omega arith)
   settled_so (w ∷ ws) i running both grown some l e = e
 
-  pub grown_merged : (claim : Claim) (tree : Tree) (ps : List parts.Part) (i m : ℕ) (ws : List Splice) (running both : Claim) (whole : Tree) → IsGrowing claim tree ps i ws running → 0 < i → m ≡ i → whole ≡ spliced ws tree → both ≡ settled running (spliced ws tree)
+  grown_merged : (claim : Claim) (tree : Tree) (ps : List parts.Part) (i m : ℕ) (ws : List Splice) (running both : Claim) (whole : Tree) → IsGrowing claim tree ps i ws running → 0 < i → m ≡ i → whole ≡ spliced ws tree → both ≡ settled running (spliced ws tree)
       → AreMerged p claim tree (take m ps) both whole
   grown_merged claim tree ps i m ws running both whole g some same is claim_is =
       let now : both ≡ g.both = claim_is ∙ sym (settled_so ws i running g.both (spliced ws tree) some g.count g.claim_is) in
       subst (λ (c : Claim). AreMerged p claim tree (take m ps) c whole) (sym now)
       (subst (λ (t : Tree). AreMerged p claim tree (take m ps) g.both t) (sym is) (subst (λ (j : ℕ). AreMerged p claim tree (take j ps) g.both (spliced ws tree)) (sym same) g.back.merged))
+
+  -- ---- what comes of the parts that wait
+
+  pub all_merged : (claim : Claim) (tree : Tree) (ps : List parts.Part) (i : ℕ) (ws : List Splice) (running : Claim) (r : Result Merged PartFault) → IsGrowing claim tree ps i ws running → 0 < i
+      → IfOk r (λ m. m.count ≡ i) → IfOk r (λ m. m.tree ≡ spliced ws tree) → IfOk r (λ m. claim_of m.claim ≡ settled running (spliced ws tree))
+      → IfOk r (λ m. AreMerged p claim tree (take m.count ps) (claim_of m.claim) m.tree)
+  all_merged claim tree ps i ws running (Ok m) g some count is claim_is = grown_merged claim tree ps i m.count ws running (claim_of m.claim) m.tree g some count is claim_is
+  all_merged claim tree ps i ws running (Err e) g some count is claim_is = tt
+
+  pub stops_at_first : (claim : Claim) (tree : Tree) (ps : List parts.Part) (r : Result Merged PartFault) → 0 < length ps → IfErr r (λ stop. stop ≡ record { part = 0; fault = Memory }) → IfErr r (λ stop. StopsAt p claim tree ps stop.part stop.fault)
+  stops_at_first claim tree ps (Ok m) some is = tt
+  stops_at_first claim tree ps (Err stop) some is =
+      subst (λ (s : PartFault). StopsAt p claim tree ps s.part s.fault) (sym is) (stops_first claim tree ps Memory some (λ part. tt))
 
   module _ (stand : OpenLeavesStand) (grafts_are_trees : GraftIsTree) (grafts_are_partial : GraftIsPartial) where
     pub one_waits : (claim : Claim) (tree : Tree) (ps : List parts.Part) (i : ℕ) (old new : List Splice) (running next : Claim) (part : parts.Part) → IsGrowing claim tree ps i old running

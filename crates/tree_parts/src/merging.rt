@@ -1,10 +1,10 @@
 //! A part that is put back.
 ghost use Rattle.std.specs.Prelude.{◌≡◌, ◌<◌, ◌+◌, ◌-◌, ◌^◌, ◌↔◌, ◌∷◌, ◌<ℤ◌, ◌*ℤ◌, [], ℕ, length, IsTrue, OnOk, IfOk, IfErr, IfSome, IfNone};
+ghost use Rattle.problem_rules.specs.Problem.{Problem};
 ghost use Rattle.pns_rules.specs.Shape.{shape_of};
 ghost use Rattle.tree_rules.specs.Claim as rules;
 ghost use Rattle.tree_rules.specs.Accepted as trees;
 ghost use Rattle.tree_rules.specs.Accepted.{first_node, IsPartial};
-ghost use Rattle.pgraph.specs.Tables.{shape};
 ghost use Rattle.pgraph.specs.View.{node_of};
 ghost use Rattle.branch_tree.specs.View.{claim_of, end_of};
 ghost use Rattle.cert_parts.specs.Known.{KnowsInside};
@@ -20,11 +20,10 @@ use crate::open::{check_part, open_leaves};
 use crate::part::Part;
 use branch_tree::{Claim, End, Network, Tree, TreeNode};
 use cert_check::OpenLeaf;
-use cert_parts::{CostOver, is_reached};
+use frac128::CostOver;
 use part_laws::{grafts_are_partial, open_leaves_stand};
 use part_rules::MergeFault;
-use pgraph::Graph;
-use pns_problem::Problem;
+use pgraph::Site;
 use std::alloc::{AllocError, Global};
 use tree_rules::Refusal;
 use unit_sets::Node;
@@ -63,7 +62,7 @@ fn is_cheaper(own: &Network, other: &Network) -> bool
         cost: own.cost(),
         d: own.d(),
     };
-    !is_reached(&claimed, other.cost(), other.d())
+    !claimed.is_reached(other.cost(), other.d())
 }
 
 fn cheaper(alloc: Global, own: &Network, other: &Network) -> Result<Network, AllocError>
@@ -157,17 +156,15 @@ fn graft_at(
 /// The part in the place of the open leaf, and what both claim.
 fn put_back(
     alloc: Global,
-    problem: &Problem,
     claim: &Claim,
     tree: &Tree,
     part: &Part,
     at: u32,
 ) -> Result<(Claim, Tree), AllocError>
-    requires { IsLeafOf problem.now tree.now part.now at }
+    requires { (p : Problem) × IsLeafOf p tree.now part.now at }
     ensures tree { IfOk result (λ found. found.1 ≡ grafts.graft_at at tree.now part.now.tree) }
     ensures claim { IfOk result (λ found. claim_of found.0 ≡ grafts.claim_of_both (claim_of claim.now) part.now.claim found.1) }
 {
-    let _units = problem.units();
     grafts_are_partial();
     tree.is_tree();
     part.tree().is_tree();
@@ -176,41 +173,38 @@ fn put_back(
     Ok((both, Tree::from_nodes(nodes)))
 }
 
-// The open leaves of the tree, or why it is refused.
+// The open leaves of the tree, or why it is refused. One with too many nodes for their numbers wants
+// memory.
 pub(crate) fn leaves_of(
     alloc: Global,
-    problem: &Problem,
-    graph: &Graph,
+    site: &Site<'_>,
     claim: &Claim,
     tree: &Tree,
 ) -> Result<Vec<OpenLeaf>, MergeFault>
-    requires graph { shape graph.now ≡ shape_of problem.now }
-    requires few { length tree.now < 2 ^ 32 }
-    ensures partial { OnOk result (IsPartial problem.now first_node (claim_of claim.now) tree.now) }
-    ensures leaves { IfOk result (λ v. leaves_at v.items ≡ open_leaves (shape_of problem.now) (first_node ∷ []) tree.now 0) }
-    ensures fault { IfErr result (λ fault. (part : parts.Part) → MergeFails problem.now (claim_of claim.now) tree.now part fault) }
+    ensures partial { OnOk result (IsPartial site.now first_node (claim_of claim.now) tree.now) }
+    ensures leaves { IfOk result (λ v. leaves_at v.items ≡ open_leaves (shape_of site.now) (first_node ∷ []) tree.now 0) }
+    ensures fault { IfErr result (λ fault. (part : parts.Part) → MergeFails site.now (claim_of claim.now) tree.now part fault) }
 {
-    match open_leaves(alloc, problem, graph, claim, tree) {
+    if (u32::MAX as usize) < tree.nodes().len() {
+        return Err(MergeFault::Memory);
+    }
+    match open_leaves(alloc, site, claim, tree) {
         Ok(leaves) => Ok(leaves),
         Err(Refusal::Memory) => Err(MergeFault::Memory),
         Err(refusal) => Err(MergeFault::Tree(refusal)),
     }
 }
 
-// Judges the part.
-pub(crate) fn judge_part(
-    alloc: Global,
-    problem: &Problem,
-    graph: &Graph,
-    part: &Part,
-) -> Result<(), MergeFault>
-    requires graph { shape graph.now ≡ shape_of problem.now }
-    requires known { KnowsInside (shape graph.now) (start_of part.now) }
-    requires few { length part.now.tree < 2 ^ 32 }
-    ensures partial { OnOk result (IsPartial problem.now (start_of part.now) part.now.claim part.now.tree) }
-    ensures fault { IfErr result (λ fault. (claim : rules.Claim) (tree : trees.Tree) → IsPartial problem.now first_node claim tree → MergeFails problem.now claim tree part.now fault) }
+// Judges the part. One with too many nodes for their numbers wants memory.
+pub(crate) fn judge_part(alloc: Global, site: &Site<'_>, part: &Part) -> Result<(), MergeFault>
+    requires { KnowsInside (shape_of site.now) (start_of part.now) }
+    ensures partial { OnOk result (IsPartial site.now (start_of part.now) part.now.claim part.now.tree) }
+    ensures fault { IfErr result (λ fault. (claim : rules.Claim) (tree : trees.Tree) → IsPartial site.now first_node claim tree → MergeFails site.now claim tree part.now fault) }
 {
-    match check_part(alloc, problem, graph, part) {
+    if (u32::MAX as usize) < part.tree().nodes().len() {
+        return Err(MergeFault::Memory);
+    }
+    match check_part(alloc, site, part) {
         Ok(()) => Ok(()),
         Err(Refusal::Memory) => Err(MergeFault::Memory),
         Err(refusal) => Err(MergeFault::Part(refusal)),
@@ -222,29 +216,27 @@ pub(crate) fn judge_part(
 /// memory aside.
 pub fn merge(
     alloc: Global,
-    problem: &Problem,
-    graph: &Graph,
+    site: &Site<'_>,
     claim: &Claim,
     tree: &Tree,
     part: &Part,
 ) -> Result<(Claim, Tree), MergeFault>
-    requires graph { shape graph.now ≡ shape_of problem.now }
-    requires known { KnowsInside (shape graph.now) (start_of part.now) }
+    requires known { KnowsInside (shape_of site.now) (start_of part.now) }
     requires few { length tree.now + length part.now.tree < 2 ^ 32 - 1 }
-    ensures merged { IfOk result (λ found. IsMerged problem.now (claim_of claim.now) tree.now part.now (claim_of found.0) found.1) }
-    ensures fault { IfErr result (MergeFails problem.now (claim_of claim.now) tree.now part.now) }
+    ensures merged { IfOk result (λ found. IsMerged site.now (claim_of claim.now) tree.now part.now (claim_of found.0) found.1) }
+    ensures fault { IfErr result (MergeFails site.now (claim_of claim.now) tree.now part.now) }
 {
     grafts_are_partial();
     open_leaves_stand();
     tree.is_tree();
     part.tree().is_tree();
-    let leaves = leaves_of(alloc, problem, graph, claim, tree)?;
-    judge_part(alloc, problem, graph, part)?;
+    let leaves = leaves_of(alloc, site, claim, tree)?;
+    judge_part(alloc, site, part)?;
     let start = part.start();
     let Some(at) = leaf_at(&leaves, &start) else {
         return Err(MergeFault::NoLeaf);
     };
-    match put_back(alloc, problem, claim, tree, part, at) {
+    match put_back(alloc, claim, tree, part, at) {
         Ok(found) => Ok(found),
         Err(_) => Err(MergeFault::Memory),
     }

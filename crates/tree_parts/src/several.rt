@@ -1,18 +1,23 @@
 //! Several parts that are put back in turn.
-ghost use Rattle.std.specs.Prelude.{◌≡◌, ◌≤◌, ◌<◌, ◌+◌, ◌^◌, length, take, IfOk, IfErr};
+ghost use Rattle.std.specs.Prelude.{◌≡◌, ◌≤◌, ◌<◌, ◌+◌, ◌^◌, ℕ, true, false, [], length, take, OnOk, IfOk, IfErr};
 ghost use Rattle.problem_rules.specs.Each.{Each};
 ghost use Rattle.pns_rules.specs.Shape.{shape_of};
 ghost use Rattle.tree_rules.specs.Tree.{IsTree};
-ghost use Rattle.pgraph.specs.Tables.{shape};
+ghost use Rattle.tree_rules.specs.Claim as rules;
+ghost use Rattle.tree_rules.specs.Accepted as trees;
+ghost use Rattle.tree_rules.specs.Accepted.{first_node, IsPartial};
 ghost use Rattle.branch_tree.specs.View.{claim_of};
 ghost use Rattle.cert_parts.specs.Known.{KnowsInside};
+ghost use Rattle.cert_check.specs.OpenLeaves.{leaves_at};
+ghost use Rattle.part_rules.specs.OpenLeaves.{IsAmong};
 ghost use Rattle.part_rules.specs.Graft as grafts;
 ghost use Rattle.part_laws.specs.Splices as splices;
 ghost use Rattle.part_laws.specs.Splices.{AreRising, spliced};
 ghost use Rattle.part_rules.specs.Part.{start_of};
+ghost use Rattle.part_rules.specs.Merge.{MergeFails};
 ghost use Rattle.part_rules.specs.Several.{AreMerged, StopsAt};
 ghost use Rattle.part_rules.specs.declared.merge_fault.MergeFault.TheVariants.{Memory};
-ghost use Rattle.tree_parts.specs.Waiting.{splices_of, AreWithin};
+ghost use Rattle.tree_parts.specs.Waiting.{splices_of, AreWithin, IsOneMore};
 
 use crate::copies::copied_network;
 use crate::merging::{cheaper_of, has_open, judge_part, leaves_of};
@@ -20,10 +25,10 @@ use crate::part::Part;
 use crate::splicing::splice;
 use crate::waiting::{Waiting, put_by};
 use branch_tree::{Claim, Tree, TreeNode};
+use cert_check::OpenLeaf;
 use part_laws::{grafts_are_partial, open_leaves_stand};
 use part_rules::MergeFault;
-use pgraph::Graph;
-use pns_problem::Problem;
+use pgraph::Site;
 use std::alloc::{AllocError, Global};
 
 /// Which of several parts is not put back, counted from 0, and why.
@@ -41,12 +46,15 @@ struct Merged {
     count: usize,
 }
 
-fn without_memory(part: usize) -> PartFault
-    ensures { result ≡ record { part = part; fault = Memory } }
-{
-    PartFault {
-        part,
-        fault: MergeFault::Memory,
+impl PartFault {
+    // There was no memory to put this part back.
+    fn memory(part: usize) -> PartFault
+        ensures { result ≡ record { part = part; fault = Memory } }
+    {
+        PartFault {
+            part,
+            fault: MergeFault::Memory,
+        }
     }
 }
 
@@ -79,22 +87,25 @@ fn settle(claim: Claim, nodes: &[TreeNode]) -> Claim
     }
 }
 
-// Puts the parts that wait in their places.
+// Puts the parts that wait in their places. Want of memory is told of the first.
 fn put_all(
     alloc: Global,
     claim: Claim,
     tree: Tree,
     waiting: Vec<Waiting>,
     count: usize,
-) -> Result<Merged, AllocError>
+) -> Result<Merged, PartFault>
     requires rising { AreRising (splices_of waiting.items) }
     requires within { AreWithin (length tree) (splices_of waiting.items) }
     requires tree { IsTree (spliced (splices_of waiting.items) tree) }
     ensures tree { IfOk result (λ m. m.tree ≡ spliced (splices_of waiting.items) tree) }
     ensures claim { IfOk result (λ m. claim_of m.claim ≡ splices.settled (claim_of claim) (spliced (splices_of waiting.items) tree)) }
     ensures count { IfOk result (λ m. m.count ≡ count) }
+    ensures fault { IfErr result (λ stop. stop ≡ record { part = 0; fault = Memory }) }
 {
-    let nodes = splice(alloc, tree.into_nodes(), waiting)?;
+    let Ok(nodes) = splice(alloc, tree.into_nodes(), waiting) else {
+        return Err(PartFault::memory(0));
+    };
     let claim = settle(claim, &nodes);
     Ok(Merged {
         claim,
@@ -103,29 +114,47 @@ fn put_all(
     })
 }
 
+// Judges the part, and lets a copy of it wait for an open leaf that has its node. It is left as it is
+// where there is none, or another waits for the leaf.
+fn take_next(
+    alloc: Global,
+    site: &Site<'_>,
+    leaves: &[OpenLeaf],
+    waiting: &mut Vec<Waiting>,
+    part: &Part,
+) -> Result<bool, MergeFault>
+    requires known { KnowsInside (shape_of site.now) (start_of part.now) }
+    requires rising { AreRising (splices_of waiting.old.items) }
+    ensures partial { OnOk result (IsPartial site.now (start_of part.now) part.now.claim part.now.tree) }
+    ensures put { IfOk result (λ taken. taken ≡ true → IsOneMore (leaves_at leaves.now) part.now (splices_of waiting.old.items) (splices_of waiting.new.items)) }
+    ensures kept { IfOk result (λ taken. taken ≡ false → waiting.new ≡ waiting.old) }
+    ensures none { IfOk result (λ taken. taken ≡ false → waiting.old.items ≡ [] → (k : ℕ) → IsAmong (record { number = k; node = start_of part.now }) (leaves_at leaves.now) → ⊥) }
+    ensures fault { IfErr result (λ fault. (claim : rules.Claim) (tree : trees.Tree) → IsPartial site.now first_node claim tree → MergeFails site.now claim tree part.now fault) }
+{
+    judge_part(alloc, site, part)?;
+    match put_by(alloc, leaves, waiting, part) {
+        Ok(taken) => Ok(taken),
+        Err(_) => Err(MergeFault::Memory),
+    }
+}
+
 // Puts back the first parts, as many as wait for leaves of the tree itself: the tree is judged once, each part is judged and waits for its
 // leaf, and then all take their places. At least one is put back.
 fn merge_some(
     alloc: Global,
-    problem: &Problem,
-    graph: &Graph,
+    site: &Site<'_>,
     claim: Claim,
     whole: Tree,
     parts: &[Part],
 ) -> Result<Merged, PartFault>
-    requires graph { shape graph.now ≡ shape_of problem.now }
-    requires known { Each (λ part. KnowsInside (shape graph.now) (start_of part)) parts.now }
+    requires known { Each (λ part. KnowsInside (shape_of site.now) (start_of part)) parts.now }
     requires some { 0 < length parts.now }
     ensures some { IfOk result (λ m. 0 < m.count) }
     ensures within { IfOk result (λ m. m.count ≤ length parts.now) }
-    ensures merged { IfOk result (λ m. AreMerged problem.now (claim_of claim) whole (take m.count parts.now) (claim_of m.claim) m.tree) }
-    ensures fault { IfErr result (λ stop. StopsAt problem.now (claim_of claim) whole parts.now stop.part stop.fault) }
+    ensures merged { IfOk result (λ m. AreMerged site.now (claim_of claim) whole (take m.count parts.now) (claim_of m.claim) m.tree) }
+    ensures fault { IfErr result (λ stop. StopsAt site.now (claim_of claim) whole parts.now stop.part stop.fault) }
 {
-    let most = u32::MAX as usize;
-    if most < whole.nodes().len() {
-        return Err(without_memory(0));
-    }
-    let leaves = match leaves_of(alloc, problem, graph, &claim, &whole) {
+    let leaves = match leaves_of(alloc, site, &claim, &whole) {
         Ok(leaves) => leaves,
         Err(fault) => return Err(PartFault { part: 0, fault }),
     };
@@ -136,15 +165,9 @@ fn merge_some(
     let mut both = claim;
     'putting: for (at, part) in parts.iter().enumerate() {
         part.tree().is_tree();
-        if most < part.tree().nodes().len() {
-            return Err(without_memory(at));
-        }
-        match judge_part(alloc, problem, graph, part) {
-            Ok(()) => {}
+        let taken = match take_next(alloc, site, &leaves, &mut waiting, part) {
+            Ok(taken) => taken,
             Err(fault) => return Err(PartFault { part: at, fault }),
-        }
-        let Ok(taken) = put_by(alloc, &leaves, &mut waiting, part) else {
-            return Err(without_memory(at));
         };
         if !taken {
             if at == 0 {
@@ -153,23 +176,14 @@ fn merge_some(
                     fault: MergeFault::NoLeaf,
                 });
             }
-            let Ok(merged) = put_all(alloc, both, whole, waiting, at) else {
-                return Err(without_memory(at));
-            };
-            return Ok(merged);
+            return put_all(alloc, both, whole, waiting, at);
         }
         let Ok(next) = cheapest(alloc, both, part.claim()) else {
-            return Err(without_memory(at));
+            return Err(PartFault::memory(at));
         };
         both = next;
     }
-    let Ok(merged) = put_all(alloc, both, whole, waiting, parts.len()) else {
-        return Err(PartFault {
-            part: 0,
-            fault: MergeFault::Memory,
-        });
-    };
-    Ok(merged)
+    put_all(alloc, both, whole, waiting, parts.len())
 }
 
 /// Puts the parts back in turn, each into the tree that the ones before it gave. The first that is not put back is named, with why;
@@ -177,22 +191,20 @@ fn merge_some(
 /// Of no parts the claim and the tree are given back as they are, and are not judged.
 pub fn merge_all(
     alloc: Global,
-    problem: &Problem,
-    graph: &Graph,
+    site: &Site<'_>,
     claim: Claim,
     tree: Tree,
     parts: &[Part],
 ) -> Result<(Claim, Tree), PartFault>
-    requires graph { shape graph.now ≡ shape_of problem.now }
-    requires known { Each (λ part. KnowsInside (shape graph.now) (start_of part)) parts.now }
-    ensures merged { IfOk result (λ found. AreMerged problem.now (claim_of claim) tree parts.now (claim_of found.0) found.1) }
-    ensures fault { IfErr result (λ stop. StopsAt problem.now (claim_of claim) tree parts.now stop.part stop.fault) }
+    requires known { Each (λ part. KnowsInside (shape_of site.now) (start_of part)) parts.now }
+    ensures merged { IfOk result (λ found. AreMerged site.now (claim_of claim) tree parts.now (claim_of found.0) found.1) }
+    ensures fault { IfErr result (λ stop. StopsAt site.now (claim_of claim) tree parts.now stop.part stop.fault) }
 {
     let mut both = claim;
     let mut whole = tree;
     let mut at = 0;
     'merging: while at < parts.len() {
-        match merge_some(alloc, problem, graph, both, whole, &parts[at..]) {
+        match merge_some(alloc, site, both, whole, &parts[at..]) {
             Ok(merged) => {
                 both = merged.claim;
                 whole = merged.tree;

@@ -22,7 +22,7 @@ returns-in_err-leaves-clause-fault c =
 
 pub returns-in_default-clause-fault : goal.returns-in_default-clause-fault
 returns-in_default-clause-fault c =
-    let g = shape_of c.args.problem.now in
+    let g = shape_of c.args.site.now in
     let tree = c.args.tree.now in
     let told : leaves_at c.deref.result.now ≡ open_leaves g (first_node ∷ []) tree 0 = ap (λ (ls : List OpenLeaf). leaves_at ls) c.deref.ensures.value ∙ c.in_ok-leaves.ensures.leaves in
     let start : node_of c.start-start.result ≡ start_of c.args.part.now = λ i. record { inside = has (c.start-start.ensures.inside i); outside = has (c.start-start.ensures.outside i) } in (
@@ -36,17 +36,17 @@ returns-in_default-clause-fault c =
 
 pub put_back-requires : goal.put_back-requires
 put_back-requires c =
-    let g = shape_of c.args.problem.now in
+    let g = shape_of c.args.site.now in
     let tree = c.args.tree.now in
     let told : leaves_at c.deref.result.now ≡ open_leaves g (first_node ∷ []) tree 0 = ap (λ (ls : List OpenLeaf). leaves_at ls) c.deref.ensures.value ∙ c.in_ok-leaves.ensures.leaves in
     let start : node_of c.start-start.result ≡ start_of c.args.part.now = λ i. record { inside = has (c.start-start.ensures.inside i); outside = has (c.start-start.ensures.outside i) } in
     let l : OpenAt = record { number = c.in-Some.at; node = start_of c.args.part.now } in
     let among = subst (λ (n : Node). IsAmong (record { number = c.in-Some.at; node = n }) (leaves_at c.deref.result.now)) start c.in-Some.ensures.some in
-    (c.open_leaves_stand.ensures g first_node tree l).0 (subst (λ (ls : List OpenAt). IsAmong l ls) told among)
+    (c.args.site.now, (c.open_leaves_stand.ensures g first_node tree l).0 (subst (λ (ls : List OpenAt). IsAmong l ls) told among))
 
 pub returns-in-Ok-clause-merged : goal.returns-in-Ok-clause-merged
 returns-in-Ok-clause-merged c =
-    let p = c.args.problem.now in
+    let p = c.args.site.now in
     let g = shape_of p in
     let tree = c.args.tree.now in
     let part = c.args.part.now in

@@ -1,9 +1,8 @@
 use Rattle.std.proofs.Common.{◌≡◌, ◌∷◌, [], true, IfOk, OnOk, IfErr, subst, sym}
 use Rattle.number_sets.specs.Sets.{has}
-use Rattle.pns_rules.specs.Shape.{Shape}
+use Rattle.pns_rules.specs.Shape.{shape_of}
 use Rattle.pns_rules.specs.Nodes.{Node}
 use Rattle.pgraph.specs.View.{node_of}
-use Rattle.pgraph.specs.Tables.{shape}
 use Rattle.tree_rules.specs.Accepted.{first_node, Proves, NodeIsFault}
 use Rattle.branch_tree.specs.View.{claim_of}
 use Rattle.part_rules.specs.OpenLeaves.{open_leaves}
@@ -13,7 +12,7 @@ use Rattle.tree_parts.proofs.open.open_leaves.Goals as goal
 
 pub returns-clause-partial : goal.returns-clause-partial
 returns-clause-partial c =
-    let p = c.args.problem.now in
+    let p = c.args.site.now in
     let claim = claim_of c.args.claim.now in
     let tree = c.args.tree.now in
     let r = c.check_from.result in
@@ -22,7 +21,7 @@ returns-clause-partial c =
 
 pub returns-clause-opens : goal.returns-clause-opens
 returns-clause-opens c =
-    let p = c.args.problem.now in
+    let p = c.args.site.now in
     let claim = claim_of c.args.claim.now in
     let tree = c.args.tree.now in
     let r = c.check_from.result in
@@ -31,17 +30,16 @@ returns-clause-opens c =
 
 pub returns-clause-leaves : goal.returns-clause-leaves
 returns-clause-leaves c =
-    let p = c.args.problem.now in
+    let p = c.args.site.now in
     let claim = claim_of c.args.claim.now in
     let tree = c.args.tree.now in
     let r = c.check_from.result in
     let start : node_of (record { inside = c.empty.result; outside = c.empty-2.result }) ≡ first_node = λ i. record { inside = has (c.empty.ensures i); outside = has (c.empty-2.ensures i) } in
-    subst (λ (g : Shape). IfOk r (λ v. leaves_at v.items ≡ open_leaves g (first_node ∷ []) tree 0)) c.requires.graph
-    (subst (λ (n : Node). IfOk r (λ v. leaves_at v.items ≡ open_leaves (shape c.args.graph.now) (n ∷ []) tree 0)) start c.check_from.ensures.leaves)
+    subst (λ (n : Node). IfOk r (λ v. leaves_at v.items ≡ open_leaves (shape_of p) (n ∷ []) tree 0)) start c.check_from.ensures.leaves
 
 pub returns-clause-refused : goal.returns-clause-refused
 returns-clause-refused c =
-    let p = c.args.problem.now in
+    let p = c.args.site.now in
     let claim = claim_of c.args.claim.now in
     let tree = c.args.tree.now in
     let r = c.check_from.result in
@@ -50,7 +48,7 @@ returns-clause-refused c =
 
 pub returns-clause-names_node : goal.returns-clause-names_node
 returns-clause-names_node c =
-    let p = c.args.problem.now in
+    let p = c.args.site.now in
     let claim = claim_of c.args.claim.now in
     let tree = c.args.tree.now in
     let r = c.check_from.result in

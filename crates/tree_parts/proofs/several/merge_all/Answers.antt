@@ -1,6 +1,6 @@
 use Rattle.std.proofs.Common.{◌≤◌, ◌+◌, List, take, length, refl, sym, subst}
 use Rattle.problem_rules.specs.Each.{Each}
-use Rattle.pgraph.specs.Tables.{shape}
+use Rattle.pns_rules.specs.Shape.{shape_of}
 use Rattle.cert_parts.specs.Known.{KnowsInside}
 use Rattle.branch_tree.specs.View.{claim_of}
 use Rattle.part_rules.specs.Part.{Part, start_of}
@@ -10,12 +10,12 @@ use Rattle.tree_parts.proofs.several.merge_all.Goals as goal
 
 pub merge_some-requires-clause-known : goal.merge_some-requires-clause-known
 merge_some-requires-clause-known c =
-    subst (λ (ps : List Part). Each (λ part. KnowsInside (shape c.args.graph.now) (start_of part)) ps) (sym (rest_on c.args.parts.now c.merging.at))
-    (each_on (λ part. KnowsInside (shape c.args.graph.now) (start_of part)) c.merging.at c.args.parts.now c.requires.known)
+    subst (λ (ps : List Part). Each (λ part. KnowsInside (shape_of c.args.site.now) (start_of part)) ps) (sym (rest_on c.args.parts.now c.merging.at))
+    (each_on (λ part. KnowsInside (shape_of c.args.site.now) (start_of part)) c.merging.at c.args.parts.now c.requires.known)
 
 pub merging-preserved : goal.merging-preserved
 merging-preserved c =
-    let p = c.args.problem.now in
+    let p = c.args.site.now in
     let both = claim_of c.merging.both in
     let rest = rest_on c.args.parts.now c.merging.at in
     let n = c.in-Ok.merged.count in
@@ -25,7 +25,7 @@ merging-preserved c =
 
 pub returns-in-Err-clause-fault : goal.returns-in-Err-clause-fault
 returns-in-Err-clause-fault c =
-    let p = c.args.problem.now in
+    let p = c.args.site.now in
     let both = claim_of c.merging.both in
     let rest = rest_on c.args.parts.now c.merging.at in
     let stop = c.in-Err.stop in
