@@ -19,21 +19,15 @@ pub after_six : {X : Type 0} (old t1 t2 t3 t4 t5 t6 x y z v w u : List X) → t1
     → t6 ≡ old ++ (x ++ (y ++ (z ++ (v ++ (w ++ u)))))
 after_six old t1 t2 t3 t4 t5 t6 x y z v w u e f g h k l = after old t1 t6 x (y ++ (z ++ (v ++ (w ++ u)))) e (after_five t1 t2 t3 t4 t5 t6 y z v w u f g h k l)
 
-pub after_eight : {X : Type 0} (old t1 t2 t3 t4 t5 t6 t7 t8 x1 x2 x3 x4 x5 x6 x7 x8 : List X) → t1 ≡ old ++ x1 → t2 ≡ t1 ++ x2 → t3 ≡ t2 ++ x3 → t4 ≡ t3 ++ x4 → t5 ≡ t4 ++ x5 → t6 ≡ t5 ++ x6 → t7 ≡ t6 ++ x7 → t8 ≡ t7 ++ x8
-    → t8 ≡ old ++ (x1 ++ (x2 ++ (x3 ++ (x4 ++ (x5 ++ (x6 ++ (x7 ++ x8)))))))
-after_eight old t1 t2 t3 t4 t5 t6 t7 t8 x1 x2 x3 x4 x5 x6 x7 x8 e1 e2 e3 e4 e5 e6 e7 e8 =
-    after old t1 t8 x1 (x2 ++ (x3 ++ (x4 ++ (x5 ++ (x6 ++ (x7 ++ x8)))))) e1
-    (after t1 t2 t8 x2 (x3 ++ (x4 ++ (x5 ++ (x6 ++ (x7 ++ x8))))) e2 (after_six t2 t3 t4 t5 t6 t7 t8 x3 x4 x5 x6 x7 x8 e3 e4 e5 e6 e7 e8))
-
--- ---- along a walk over numbers
+-- ---- along a walk
 
 -- the rows to come finish the list
-pub next_row : {X : Type 0} (row : ℕ → X) (left rest : List ℕ) (k : ℕ) (rows new whole : List X) → left ≡ k ∷ rest → new ≡ rows ++ row k ∷ [] → rows ++ map row left ≡ whole → new ++ map row rest ≡ whole
+pub next_row : {X Y : Type 0} (row : Y → X) (left rest : List Y) (k : Y) (rows new whole : List X) → left ≡ k ∷ rest → new ≡ rows ++ row k ∷ [] → rows ++ map row left ≡ whole → new ++ map row rest ≡ whole
 next_row row left rest k rows new whole e f h =
-    ap (λ xs. xs ++ map row rest) f ∙ append_assoc rows (row k ∷ []) (map row rest) ∙ ap (λ (ks : List ℕ). rows ++ map row ks) (sym e) ∙ h
+    ap (λ xs. xs ++ map row rest) f ∙ append_assoc rows (row k ∷ []) (map row rest) ∙ ap (λ ks. rows ++ map row ks) (sym e) ∙ h
 
-pub last_row : {X : Type 0} (row : ℕ → X) (left : List ℕ) (rows whole : List X) → left ≡ [] → rows ++ map row left ≡ whole → rows ≡ whole
-last_row row left rows whole e h = sym (append-nil rows) ∙ ap (λ (ks : List ℕ). rows ++ map row ks) (sym e) ∙ h
+pub last_row : {X Y : Type 0} (row : Y → X) (left : List Y) (rows whole : List X) → left ≡ [] → rows ++ map row left ≡ whole → rows ≡ whole
+last_row row left rows whole e h = sym (append-nil rows) ∙ ap (λ ks. rows ++ map row ks) (sym e) ∙ h
 
 -- the pieces to come finish the text
 pub next_piece : (piece : ℕ → List ℕ) (left rest : List ℕ) (k : ℕ) (text new whole : List ℕ) → left ≡ k ∷ rest → new ≡ text ++ piece k → text ++ flat_map piece left ≡ whole → new ++ flat_map piece rest ≡ whole
@@ -70,6 +64,6 @@ three_lines a b c old t1 t2 t3 t4 t5 t6 e1 e2 e3 e4 e5 e6 =
 
 -- ---- rows
 
--- a row that began empty
-pub row_of : {X : Type 0} (r0 r whole : List X) → r0 ≡ [] → r ≡ r0 ++ whole → r ≡ whole
-row_of r0 r whole e f = f ∙ ap (λ s. s ++ whole) e
+-- a row that began with some cells
+pub row_of : {X : Type 0} (r0 r head rest : List X) → r0 ≡ head → r ≡ r0 ++ rest → r ≡ head ++ rest
+row_of r0 r head rest e f = f ∙ ap (λ s. s ++ rest) e

@@ -1,5 +1,5 @@
-//! One cell more in a row.
-ghost use Rattle.std.specs.Prelude.{◌≡◌, ◌++◌, ◌∷◌, [], IfOk, OnOk, string_bytes};
+//! More cells in a row.
+ghost use Rattle.std.specs.Prelude.{◌≡◌, ◌++◌, ◌∷◌, [], IfOk, OnOk, map, string_bytes};
 ghost use Rattle.report_rules.specs.Report.{number_cell};
 
 use crate::row::Row;
@@ -28,4 +28,17 @@ pub(crate) fn push_number(alloc: Global, row: &mut Row, number: &Number) -> Resu
     let mut cell = String::new(alloc);
     push_9_places(&mut cell, number)?;
     row.push(cell)
+}
+
+pub(crate) fn push_numbers(
+    alloc: Global,
+    row: &mut Row,
+    numbers: &[Number],
+) -> Result<(), AllocError>
+    ensures { OnOk result (row.new ≡ row.old ++ map number_cell numbers.now) }
+{
+    'numbers: for number in numbers {
+        push_number(alloc, row, number)?;
+    }
+    Ok(())
 }

@@ -1,11 +1,10 @@
 //! The lines behind the tables.
-ghost use Rattle.std.specs.Prelude.{◌≡◌, ◌<◌, ◌++◌, ◌∷◌, [], ℕ, true, OnOk, flat_map, length, string_bytes};
+ghost use Rattle.std.specs.Prelude.{◌≡◌, ◌<◌, ◌≤◌, ◌++◌, ◌∷◌, [], ℕ, true, OnOk, flat_map, length, string_bytes};
 ghost use Rattle.number_sets.specs.Sets.{has};
 ghost use Rattle.pns_problem.specs.Printing.{printed};
 ghost use Rattle.report_rules.specs.Report.{once_line, left_out, name_behind, names_or_none, left_out_line, last_line, foot_lines};
 
 use crate::cells::push_9_places;
-use crate::names::{unit_count, unit_name};
 use branch_tree::Network;
 use pns_problem::Problem;
 use report_amounts::unit_sum;
@@ -22,6 +21,15 @@ fn push_once(text: &mut String, problem: &Problem, network: &Network) -> Result<
     Ok(())
 }
 
+/// The number of units, at most 128.
+fn unit_count(problem: &Problem) -> u32
+    ensures count { result ≡ length problem.now.units }
+    ensures few { result ≤ 128 }
+{
+    problem.is_valid();
+    problem.units().len() as u32
+}
+
 /// The units of the problem that are not in the network.
 fn left_out(problem: &Problem, network: &Network) -> UnitSet
     ensures { result ≡ left_out problem.now network.now }
@@ -36,7 +44,7 @@ fn push_names(text: &mut String, problem: &Problem, units: UnitSet) -> Result<()
 {
     for u in units {
         text.push(' ')?;
-        text.push_str(unit_name(problem, u))?;
+        text.push_str(problem.unit_name(u))?;
     }
     Ok(())
 }

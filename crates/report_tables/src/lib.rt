@@ -3,7 +3,7 @@
 //! In `report_rules`, `Report` has the lines, whose numbers are those of `report_amounts`, and `Aligned` the lines of any table, whose
 //! columns stand under each other. [`report_of`] gives their bytes.
 //!
-//! Modules: `row`, `column`, `line` and `table`, aligned tables; `names`; `cells`, one cell more in a row; `limits`, where a number is at a bound; `tables`, a table with the empty line
+//! Modules: `row`, `column`, `line` and `table`, aligned tables; `cells`, more cells in a row; `limits`, where a number is at a bound; `tables`, a table with the empty line
 //! behind it; `units`, `materials` and `money`, the three tables; `foot`; `text`, the whole.
 #![tactic(auto)]
 
@@ -14,7 +14,6 @@ mod limits;
 mod line;
 mod materials;
 mod money;
-mod names;
 mod row;
 mod table;
 mod tables;

@@ -5,8 +5,6 @@ ghost use Rattle.number_sets.specs.Sets.{has};
 ghost use Rattle.problem_rules.specs.Problem.{material_at, is_raw_material};
 ghost use Rattle.pns_problem.specs.Kind.{kind_of};
 ghost use Rattle.pns_problem.specs.Printing.{printed};
-ghost use Rattle.pns_rules.specs.Shape.{shape_of};
-ghost use Rattle.pgraph.specs.Tables.{shape};
 ghost use Rattle.text_rules.specs.Canonical.{kind_word};
 ghost use Rattle.text_rules.specs.Printed.{amount_bytes};
 ghost use Rattle.flow_rules.specs.Net.{net_of, materials_of, million};
@@ -16,43 +14,21 @@ ghost use Rattle.report_rules.specs.declared.cost_part.CostPart.TheVariants.{All
 ghost use Rattle.report_rules.specs.Amounts.{unit_sum, net, cost, cost_sum};
 ghost use Rattle.report_rules.specs.Report.{number_cell, bought_or_left, material_limit, material_heading, material_row, all_materials_row, material_rows, material_lines};
 
-use crate::cells::{push_number, push_words};
+use crate::cells::{push_number, push_numbers, push_words};
 use crate::limits::limit_words;
-use crate::names::material_name;
 use crate::row::Row;
 use crate::tables::push_table_and_gap;
 use branch_tree::Network;
-use pgraph::Graph;
+use pgraph::Site;
 use pns_problem::{Kind, Problem, amount_text};
-use report_amounts::{cost, cost_sum, flow_at, material_of, materials_in, net, unit_sum};
+use pns_tables::{kind_word, materials_in};
+use report_amounts::{cost, cost_sum, flow_at, material_of, net, unit_sum};
 use report_rules::{CostPart, Sort, UnitAmount};
 use std::alloc::{AllocError, Global};
 
-fn heading(alloc: Global) -> Result<Row, AllocError>
-    ensures { IfOk result (λ row. row ≡ material_heading) }
-{
-    let mut row = Row::new(alloc);
-    push_words(alloc, &mut row, "material")?;
-    push_words(alloc, &mut row, "kind")?;
-    push_words(alloc, &mut row, "made")?;
-    push_words(alloc, &mut row, "used")?;
-    push_words(alloc, &mut row, "net")?;
-    push_words(alloc, &mut row, "limit")?;
-    push_words(alloc, &mut row, "price")?;
-    push_words(alloc, &mut row, "cost")?;
-    Ok(row)
-}
-
-/// The word of a kind, as in the problem text.
-fn kind_word(kind: Kind) -> &'static str
-    ensures { result.now ≡ kind_word (kind_of kind) }
-{
-    match kind {
-        Kind::RawMaterial => "raw_material",
-        Kind::Intermediate => "intermediate",
-        Kind::Product => "product",
-    }
-}
+const HEADING: [&str; 8] = [
+    "material", "kind", "made", "used", "net", "limit", "price", "cost",
+];
 
 fn push_kind(alloc: Global, row: &mut Row, problem: &Problem, j: u32) -> Result<(), AllocError>
     requires { j < length problem.now.materials }
@@ -116,10 +92,12 @@ fn push_flows(
     ensures { OnOk result (row.new ≡ row.old ++ number_cell (unit_sum (Made j) problem.now network.now) ∷ number_cell (unit_sum (Used j) problem.now network.now)
         ∷ number_cell (net problem.now network.now j) ∷ []) }
 {
-    push_number(alloc, row, &unit_sum(UnitAmount::Made(j), problem, network))?;
-    push_number(alloc, row, &unit_sum(UnitAmount::Used(j), problem, network))?;
-    push_number(alloc, row, &net(problem, network, j))?;
-    Ok(())
+    let flows = [
+        unit_sum(UnitAmount::Made(j), problem, network),
+        unit_sum(UnitAmount::Used(j), problem, network),
+        net(problem, network, j),
+    ];
+    push_numbers(alloc, row, &flows)
 }
 
 fn material_row(
@@ -133,8 +111,7 @@ fn material_row(
     requires known { j < length problem.now.materials }
     ensures { IfOk result (λ row. row ≡ material_row problem.now network.now j) }
 {
-    let mut row = Row::new(alloc);
-    push_words(alloc, &mut row, material_name(problem, j))?;
+    let mut row = Row::of_words(alloc, &[problem.material_name(j)])?;
     push_kind(alloc, &mut row, problem, j)?;
     push_flows(alloc, &mut row, problem, network, j)?;
     push_words(alloc, &mut row, limit(problem, network, j))?;
@@ -143,69 +120,39 @@ fn material_row(
     Ok(row)
 }
 
-fn all_materials_row(
-    alloc: Global,
-    problem: &Problem,
-    graph: &Graph,
-    network: &Network,
-) -> Result<Row, AllocError>
-    requires graph { shape graph.now ≡ shape_of problem.now }
-    requires feasible { IsFeasible problem.now network.now }
-    ensures { IfOk result (λ row. row ≡ all_materials_row problem.now network.now) }
+fn all_materials_row(alloc: Global, site: &Site<'_>, network: &Network) -> Result<Row, AllocError>
+    requires feasible { IsFeasible site.now network.now }
+    ensures { IfOk result (λ row. row ≡ all_materials_row site.now network.now) }
 {
-    let mut row = Row::new(alloc);
-    push_words(alloc, &mut row, "all materials")?;
-    push_words(alloc, &mut row, "")?;
-    push_words(alloc, &mut row, "")?;
-    push_words(alloc, &mut row, "")?;
-    push_words(alloc, &mut row, "")?;
-    push_words(alloc, &mut row, "")?;
-    push_words(alloc, &mut row, "")?;
-    push_number(
-        alloc,
-        &mut row,
-        &cost_sum(CostPart::All, problem, graph, network),
-    )?;
+    let mut row = Row::of_words(alloc, &["all materials", "", "", "", "", "", ""])?;
+    push_number(alloc, &mut row, &cost_sum(CostPart::All, site, network))?;
     Ok(row)
 }
 
-fn material_rows(
-    alloc: Global,
-    problem: &Problem,
-    graph: &Graph,
-    network: &Network,
-) -> Result<Vec<Row>, AllocError>
-    requires graph { shape graph.now ≡ shape_of problem.now }
-    requires feasible { IsFeasible problem.now network.now }
-    ensures { IfOk result (λ rows. rows.items ≡ map (material_row problem.now network.now) (materials_of (net_of problem.now) (has network.now.units))) }
+fn material_rows(alloc: Global, site: &Site<'_>, network: &Network) -> Result<Vec<Row>, AllocError>
+    requires feasible { IsFeasible site.now network.now }
+    ensures { IfOk result (λ rows. rows.items ≡ map (material_row site.now network.now) (materials_of (net_of site.now) (has network.now.units))) }
 {
     let mut rows = Vec::new(alloc);
-    let mut left = materials_in(problem, graph, network);
-    'materials: loop {
-        left.rises();
-        let Some(j) = left.least() else {
-            return Ok(rows);
-        };
-        rows.push(material_row(alloc, problem, network, j)?)?;
-        left = left.without(j);
+    for j in materials_in(site, network) {
+        rows.push(material_row(alloc, site.problem(), network, j)?)?;
     }
+    Ok(rows)
 }
 
 /// Appends the table of materials and an empty line.
 pub(crate) fn push_materials(
     alloc: Global,
     text: &mut String,
-    problem: &Problem,
-    graph: &Graph,
+    site: &Site<'_>,
     network: &Network,
 ) -> Result<(), AllocError>
-    requires graph { shape graph.now ≡ shape_of problem.now }
-    requires feasible { IsFeasible problem.now network.now }
-    ensures { OnOk result (string_bytes text.new ≡ string_bytes text.old ++ printed (material_lines problem.now network.now)) }
+    requires feasible { IsFeasible site.now network.now }
+    ensures { OnOk result (string_bytes text.new ≡ string_bytes text.old ++ printed (material_lines site.now network.now)) }
 {
-    let heading = heading(alloc)?;
-    let mut rows = material_rows(alloc, problem, graph, network)?;
-    rows.push(all_materials_row(alloc, problem, graph, network)?)?;
+    let heading = Row::of_words(alloc, &HEADING)?;
+    let mut rows = material_rows(alloc, site, network)?;
+    rows.push(all_materials_row(alloc, site, network)?)?;
     let sorts = [
         Sort::Words,
         Sort::Words,

@@ -2,39 +2,27 @@
 ghost use Rattle.std.specs.Prelude.{◌≡◌, ◌<◌, ◌++◌, ◌∷◌, [], ℕ, true, IfOk, OnOk, length, string_bytes};
 ghost use Rattle.number_sets.specs.Sets.{has};
 ghost use Rattle.pns_problem.specs.Printing.{printed};
-ghost use Rattle.pns_rules.specs.Shape.{shape_of};
-ghost use Rattle.pgraph.specs.Tables.{shape};
 ghost use Rattle.tree_rules.specs.Claim.{IsFeasible};
 ghost use Rattle.report_rules.specs.declared.amount.UnitAmount.TheVariants.{Fixed, Proportional, Investment};
 ghost use Rattle.report_rules.specs.declared.cost_part.CostPart.TheVariants.{Costs, Incomes};
 ghost use Rattle.report_rules.specs.Amounts.{unit_sum, cost_sum};
 ghost use Rattle.report_rules.specs.Report.{money_heading, money_row, total_cell, total_words, total_row, money_rows, money_lines};
 
-use crate::cells::{push_number, push_words};
+use crate::cells::push_number;
 use crate::row::Row;
 use crate::tables::push_table_and_gap;
 use branch_tree::Network;
 use decimals::push_quotient;
-use pgraph::Graph;
+use pgraph::Site;
 use pns_problem::Problem;
 use report_amounts::{Number, cost_sum, unit_sum};
 use report_rules::{CostPart, Sort, UnitAmount};
 use std::alloc::{AllocError, Global};
 
-fn heading(alloc: Global) -> Result<Row, AllocError>
-    ensures { IfOk result (λ row. row ≡ money_heading) }
-{
-    let mut row = Row::new(alloc);
-    push_words(alloc, &mut row, "in one year")?;
-    push_words(alloc, &mut row, "money")?;
-    Ok(row)
-}
-
 fn money_row(alloc: Global, words: &str, number: &Number) -> Result<Row, AllocError>
     ensures { IfOk result (λ row. row ≡ money_row words.now number.now) }
 {
-    let mut row = Row::new(alloc);
-    push_words(alloc, &mut row, words)?;
+    let mut row = Row::of_words(alloc, &[words])?;
     push_number(alloc, &mut row, number)?;
     Ok(row)
 }
@@ -56,15 +44,13 @@ fn material_money(
     alloc: Global,
     words: &str,
     part: CostPart,
-    problem: &Problem,
-    graph: &Graph,
+    site: &Site<'_>,
     network: &Network,
 ) -> Result<Row, AllocError>
-    requires graph { shape graph.now ≡ shape_of problem.now }
-    requires feasible { IsFeasible problem.now network.now }
-    ensures { IfOk result (λ row. row ≡ money_row words.now (cost_sum part problem.now network.now)) }
+    requires feasible { IsFeasible site.now network.now }
+    ensures { IfOk result (λ row. row ≡ money_row words.now (cost_sum part site.now network.now)) }
 {
-    money_row(alloc, words, &cost_sum(part, problem, graph, network))
+    money_row(alloc, words, &cost_sum(part, site, network))
 }
 
 /// The claimed cost in one year, with 9 places.
@@ -91,24 +77,18 @@ fn total_words(cost: i128) -> &'static str
 fn total_row(alloc: Global, problem: &Problem, network: &Network) -> Result<Row, AllocError>
     ensures { IfOk result (λ row. row ≡ total_row problem.now network.now) }
 {
-    let mut row = Row::new(alloc);
-    push_words(alloc, &mut row, total_words(network.cost()))?;
+    let mut row = Row::of_words(alloc, &[total_words(network.cost())])?;
     let mut cell = String::new(alloc);
     push_total(&mut cell, problem, network)?;
     row.push(cell)?;
     Ok(row)
 }
 
-fn money_rows(
-    alloc: Global,
-    problem: &Problem,
-    graph: &Graph,
-    network: &Network,
-) -> Result<Vec<Row>, AllocError>
-    requires graph { shape graph.now ≡ shape_of problem.now }
-    requires feasible { IsFeasible problem.now network.now }
-    ensures { IfOk result (λ rows. rows.items ≡ money_rows problem.now network.now) }
+fn money_rows(alloc: Global, site: &Site<'_>, network: &Network) -> Result<Vec<Row>, AllocError>
+    requires feasible { IsFeasible site.now network.now }
+    ensures { IfOk result (λ rows. rows.items ≡ money_rows site.now network.now) }
 {
+    let problem = site.problem();
     let mut rows = Vec::new(alloc);
     rows.push(unit_money(alloc, "fixed costs", UnitAmount::Fixed, problem, network)?)?;
     rows.push(unit_money(
@@ -125,22 +105,8 @@ fn money_rows(
         problem,
         network,
     )?)?;
-    rows.push(material_money(
-        alloc,
-        "material costs",
-        CostPart::Costs,
-        problem,
-        graph,
-        network,
-    )?)?;
-    rows.push(material_money(
-        alloc,
-        "material incomes",
-        CostPart::Incomes,
-        problem,
-        graph,
-        network,
-    )?)?;
+    rows.push(material_money(alloc, "material costs", CostPart::Costs, site, network)?)?;
+    rows.push(material_money(alloc, "material incomes", CostPart::Incomes, site, network)?)?;
     rows.push(total_row(alloc, problem, network)?)?;
     Ok(rows)
 }
@@ -149,16 +115,14 @@ fn money_rows(
 pub(crate) fn push_money(
     alloc: Global,
     text: &mut String,
-    problem: &Problem,
-    graph: &Graph,
+    site: &Site<'_>,
     network: &Network,
 ) -> Result<(), AllocError>
-    requires graph { shape graph.now ≡ shape_of problem.now }
-    requires feasible { IsFeasible problem.now network.now }
-    ensures { OnOk result (string_bytes text.new ≡ string_bytes text.old ++ printed (money_lines problem.now network.now)) }
+    requires feasible { IsFeasible site.now network.now }
+    ensures { OnOk result (string_bytes text.new ≡ string_bytes text.old ++ printed (money_lines site.now network.now)) }
 {
-    let heading = heading(alloc)?;
-    let rows = money_rows(alloc, problem, graph, network)?;
+    let heading = Row::of_words(alloc, &["in one year", "money"])?;
+    let rows = money_rows(alloc, site, network)?;
     let sorts = [Sort::Words, Sort::Numbers];
     push_table_and_gap(alloc, text, &sorts, &heading, &rows)?;
     Ok(())

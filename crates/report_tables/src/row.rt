@@ -1,7 +1,8 @@
 //! A row of cells.
-ghost use Rattle.std.specs.Prelude.{◌≡◌, ◌++◌, ◌∷◌, [], OnOk, OnErr, string_bytes};
+ghost use Rattle.std.specs.Prelude.{◌≡◌, ◌++◌, ◌∷◌, [], IfOk, OnOk, OnErr, map, string_bytes};
 ghost use Rattle.report_rules.specs.Aligned.{cell_at};
 
+use crate::cells::push_words;
 use std::alloc::{AllocError, Global};
 use std::marker::Model;
 
@@ -27,6 +28,17 @@ impl Row {
         Row {
             cells: Vec::new(alloc),
         }
+    }
+
+    /// A row with a cell for each of the words.
+    pub(crate) fn of_words(alloc: Global, words: &[&str]) -> Result<Row, AllocError>
+        ensures { IfOk result (λ row. row ≡ map (λ word. word.now) words.now) }
+    {
+        let mut row = Row::new(alloc);
+        'words: for word in words {
+            push_words(alloc, &mut row, word)?;
+        }
+        Ok(row)
     }
 
     /// Appends a cell. After `Err`, which comes for want of memory alone, the row is as before.

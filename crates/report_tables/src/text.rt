@@ -2,8 +2,6 @@
 ghost use Rattle.std.specs.Prelude.{◌≡◌, ◌<◌, ◌++◌, ◌∷◌, [], ℕ, true, IfOk, OnOk, length, unsigned_abs, string_bytes};
 ghost use Rattle.number_sets.specs.Sets.{has};
 ghost use Rattle.pns_problem.specs.Printing.{printed};
-ghost use Rattle.pns_rules.specs.Shape.{shape_of};
-ghost use Rattle.pgraph.specs.Tables.{shape};
 ghost use Rattle.flow_rules.specs.Net.{net_of, materials_of};
 ghost use Rattle.tree_rules.specs.Claim.{IsFeasible};
 ghost use Rattle.report_rules.specs.Report.{counted, network_line, head_lines, report_lines};
@@ -13,9 +11,9 @@ use crate::materials::push_materials;
 use crate::money::push_money;
 use crate::units::push_units;
 use branch_tree::Network;
-use pgraph::Graph;
+use pgraph::Site;
 use pns_problem::Problem;
-use report_amounts::materials_in;
+use pns_tables::materials_in;
 use std::alloc::{AllocError, Global};
 
 fn push_counted(text: &mut String, words: &str, number: u64) -> Result<(), AllocError>
@@ -32,12 +30,11 @@ fn units_in(network: &Network) -> u64
     u64::from(network.units().count())
 }
 
-fn materials_count(problem: &Problem, graph: &Graph, network: &Network) -> u64
-    requires graph { shape graph.now ≡ shape_of problem.now }
-    requires known { (u : ℕ) → has network.now.units u ≡ true → u < length problem.now.units }
-    ensures { result ≡ length (materials_of (net_of problem.now) (has network.now.units)) }
+fn materials_count(site: &Site<'_>, network: &Network) -> u64
+    requires known { (u : ℕ) → has network.now.units u ≡ true → u < length site.now.units }
+    ensures { result ≡ length (materials_of (net_of site.now) (has network.now.units)) }
 {
-    u64::from(materials_in(problem, graph, network).count())
+    u64::from(materials_in(site, network).count())
 }
 
 fn all_units(problem: &Problem) -> u64
@@ -58,36 +55,25 @@ fn years(problem: &Problem) -> u64
     problem.payout().unsigned_abs()
 }
 
-fn push_network(
-    text: &mut String,
-    problem: &Problem,
-    graph: &Graph,
-    network: &Network,
-) -> Result<(), AllocError>
-    requires graph { shape graph.now ≡ shape_of problem.now }
-    requires known { (u : ℕ) → has network.now.units u ≡ true → u < length problem.now.units }
-    ensures { OnOk result (string_bytes text.new ≡ string_bytes text.old ++ network_line problem.now network.now) }
+fn push_network(text: &mut String, site: &Site<'_>, network: &Network) -> Result<(), AllocError>
+    requires known { (u : ℕ) → has network.now.units u ≡ true → u < length site.now.units }
+    ensures { OnOk result (string_bytes text.new ≡ string_bytes text.old ++ network_line site.now network.now) }
 {
+    let problem = site.problem();
     push_counted(text, "Claimed network: ", units_in(network))?;
     push_counted(text, " of ", all_units(problem))?;
-    push_counted(text, " units, ", materials_count(problem, graph, network))?;
+    push_counted(text, " units, ", materials_count(site, network))?;
     push_counted(text, " of ", all_materials(problem))?;
     push_counted(text, " materials, payout period ", years(problem))?;
     Ok(())
 }
 
 /// Appends the head and an empty line.
-fn push_head(
-    text: &mut String,
-    problem: &Problem,
-    graph: &Graph,
-    network: &Network,
-) -> Result<(), AllocError>
-    requires graph { shape graph.now ≡ shape_of problem.now }
-    requires known { (u : ℕ) → has network.now.units u ≡ true → u < length problem.now.units }
-    ensures { OnOk result (string_bytes text.new ≡ string_bytes text.old ++ printed (head_lines problem.now network.now)) }
+fn push_head(text: &mut String, site: &Site<'_>, network: &Network) -> Result<(), AllocError>
+    requires known { (u : ℕ) → has network.now.units u ≡ true → u < length site.now.units }
+    ensures { OnOk result (string_bytes text.new ≡ string_bytes text.old ++ printed (head_lines site.now network.now)) }
 {
-    push_network(text, problem, graph, network)?;
+    push_network(text, site, network)?;
     text.push_str(
         "\nMoney is for one year: costs are above 0, incomes below. A number after ~ is rounded.\n\n",
     )?;
@@ -98,34 +84,27 @@ fn push_head(
 fn push_report(
     alloc: Global,
     text: &mut String,
-    problem: &Problem,
-    graph: &Graph,
+    site: &Site<'_>,
     network: &Network,
 ) -> Result<(), AllocError>
-    requires graph { shape graph.now ≡ shape_of problem.now }
-    requires feasible { IsFeasible problem.now network.now }
-    ensures { OnOk result (string_bytes text.new ≡ string_bytes text.old ++ printed (report_lines problem.now network.now)) }
+    requires feasible { IsFeasible site.now network.now }
+    ensures { OnOk result (string_bytes text.new ≡ string_bytes text.old ++ printed (report_lines site.now network.now)) }
 {
-    push_head(text, problem, graph, network)?;
+    let problem = site.problem();
+    push_head(text, site, network)?;
     push_units(alloc, text, problem, network)?;
-    push_materials(alloc, text, problem, graph, network)?;
-    push_money(alloc, text, problem, graph, network)?;
+    push_materials(alloc, text, site, network)?;
+    push_money(alloc, text, site, network)?;
     push_foot(text, problem, network)?;
     Ok(())
 }
 
 /// The report of a network on its problem. Numbers past 128 bits are told as `past` in their cells.
-pub fn report_of(
-    alloc: Global,
-    problem: &Problem,
-    graph: &Graph,
-    network: &Network,
-) -> Result<Vec<u8>, AllocError>
-    requires graph { shape graph.now ≡ shape_of problem.now }
-    requires feasible { IsFeasible problem.now network.now }
-    ensures { IfOk result (λ bytes. bytes.items ≡ printed (report_lines problem.now network.now)) }
+pub fn report_of(alloc: Global, site: &Site<'_>, network: &Network) -> Result<Vec<u8>, AllocError>
+    requires feasible { IsFeasible site.now network.now }
+    ensures { IfOk result (λ bytes. bytes.items ≡ printed (report_lines site.now network.now)) }
 {
     let mut text = String::new(alloc);
-    push_report(alloc, &mut text, problem, graph, network)?;
+    push_report(alloc, &mut text, site, network)?;
     Ok(text.into_bytes())
 }

@@ -7,9 +7,8 @@ ghost use Rattle.report_rules.specs.Amounts.{size, amount, unit_sum};
 ghost use Rattle.report_rules.specs.declared.amount.UnitAmount.TheVariants.{Fixed, Proportional, Investment, Total};
 ghost use Rattle.problem_rules.specs.Problem.{unit_at};
 
-use crate::cells::{push_number, push_words};
+use crate::cells::{push_number, push_numbers, push_words};
 use crate::limits::limit_words;
-use crate::names::unit_name;
 use crate::row::Row;
 use crate::tables::push_table_and_gap;
 use branch_tree::Network;
@@ -19,20 +18,16 @@ use report_amounts::{amount, share_of, size, unit_of, unit_sum};
 use report_rules::{Sort, UnitAmount};
 use std::alloc::{AllocError, Global};
 
-fn heading(alloc: Global) -> Result<Row, AllocError>
-    ensures { IfOk result (λ row. row ≡ unit_heading) }
-{
-    let mut row = Row::new(alloc);
-    push_words(alloc, &mut row, "unit")?;
-    push_words(alloc, &mut row, "size")?;
-    push_words(alloc, &mut row, "share %")?;
-    push_words(alloc, &mut row, "limit")?;
-    push_words(alloc, &mut row, "fixed")?;
-    push_words(alloc, &mut row, "proportional")?;
-    push_words(alloc, &mut row, "investment")?;
-    push_words(alloc, &mut row, "total")?;
-    Ok(row)
-}
+const HEADING: [&str; 8] = [
+    "unit",
+    "size",
+    "share %",
+    "limit",
+    "fixed",
+    "proportional",
+    "investment",
+    "total",
+];
 
 /// The share of the upper bound, or `-` where that is 0.
 fn push_share(
@@ -81,27 +76,20 @@ fn push_costs(
     ensures { OnOk result (row.new ≡ row.old ++ number_cell (amount Fixed problem.now network.now u) ∷ number_cell (amount Proportional problem.now network.now u)
         ∷ number_cell (amount Investment problem.now network.now u) ∷ number_cell (amount Total problem.now network.now u) ∷ []) }
 {
-    push_number(alloc, row, &amount(UnitAmount::Fixed, problem, network, u))?;
-    push_number(
-        alloc,
-        row,
-        &amount(UnitAmount::Proportional, problem, network, u),
-    )?;
-    push_number(
-        alloc,
-        row,
-        &amount(UnitAmount::Investment, problem, network, u),
-    )?;
-    push_number(alloc, row, &amount(UnitAmount::Total, problem, network, u))?;
-    Ok(())
+    let costs = [
+        amount(UnitAmount::Fixed, problem, network, u),
+        amount(UnitAmount::Proportional, problem, network, u),
+        amount(UnitAmount::Investment, problem, network, u),
+        amount(UnitAmount::Total, problem, network, u),
+    ];
+    push_numbers(alloc, row, &costs)
 }
 
 fn unit_row(alloc: Global, problem: &Problem, network: &Network, u: u32) -> Result<Row, AllocError>
     requires { u < length problem.now.units }
     ensures { IfOk result (λ row. row ≡ unit_row problem.now network.now u) }
 {
-    let mut row = Row::new(alloc);
-    push_words(alloc, &mut row, unit_name(problem, u))?;
+    let mut row = Row::of_words(alloc, &[problem.unit_name(u)])?;
     push_number(alloc, &mut row, &size(network, u))?;
     push_share(alloc, &mut row, problem, network, u)?;
     push_words(alloc, &mut row, limit(problem, network, u))?;
@@ -120,30 +108,20 @@ fn push_sums(
     ensures { OnOk result (row.new ≡ row.old ++ number_cell (unit_sum Fixed problem.now network.now) ∷ number_cell (unit_sum Proportional problem.now network.now)
         ∷ number_cell (unit_sum Investment problem.now network.now) ∷ number_cell (unit_sum Total problem.now network.now) ∷ []) }
 {
-    push_number(alloc, row, &unit_sum(UnitAmount::Fixed, problem, network))?;
-    push_number(
-        alloc,
-        row,
-        &unit_sum(UnitAmount::Proportional, problem, network),
-    )?;
-    push_number(
-        alloc,
-        row,
-        &unit_sum(UnitAmount::Investment, problem, network),
-    )?;
-    push_number(alloc, row, &unit_sum(UnitAmount::Total, problem, network))?;
-    Ok(())
+    let sums = [
+        unit_sum(UnitAmount::Fixed, problem, network),
+        unit_sum(UnitAmount::Proportional, problem, network),
+        unit_sum(UnitAmount::Investment, problem, network),
+        unit_sum(UnitAmount::Total, problem, network),
+    ];
+    push_numbers(alloc, row, &sums)
 }
 
 fn all_units_row(alloc: Global, problem: &Problem, network: &Network) -> Result<Row, AllocError>
     requires { (u : ℕ) → has network.now.units u ≡ true → u < length problem.now.units }
     ensures { IfOk result (λ row. row ≡ all_units_row problem.now network.now) }
 {
-    let mut row = Row::new(alloc);
-    push_words(alloc, &mut row, "all units")?;
-    push_words(alloc, &mut row, "")?;
-    push_words(alloc, &mut row, "")?;
-    push_words(alloc, &mut row, "")?;
+    let mut row = Row::of_words(alloc, &["all units", "", "", ""])?;
     push_sums(alloc, &mut row, problem, network)?;
     Ok(row)
 }
@@ -153,15 +131,10 @@ fn unit_rows(alloc: Global, problem: &Problem, network: &Network) -> Result<Vec<
     ensures { IfOk result (λ rows. rows.items ≡ map (unit_row problem.now network.now) network.now.units) }
 {
     let mut rows = Vec::new(alloc);
-    let mut left = network.units();
-    'units: loop {
-        left.rises();
-        let Some(u) = left.least() else {
-            return Ok(rows);
-        };
+    for u in network.units() {
         rows.push(unit_row(alloc, problem, network, u)?)?;
-        left = left.without(u);
     }
+    Ok(rows)
 }
 
 /// Appends the table of units and an empty line.
@@ -174,7 +147,7 @@ pub(crate) fn push_units(
     requires { (u : ℕ) → has network.now.units u ≡ true → u < length problem.now.units }
     ensures { OnOk result (string_bytes text.new ≡ string_bytes text.old ++ printed (unit_lines problem.now network.now)) }
 {
-    let heading = heading(alloc)?;
+    let heading = Row::of_words(alloc, &HEADING)?;
     let mut rows = unit_rows(alloc, problem, network)?;
     rows.push(all_units_row(alloc, problem, network)?)?;
     let sorts = [

@@ -1,6 +1,5 @@
 use Rattle.std.proofs.Common.{◌∙◌, ◌++◌, ◌∷◌, [], ap, ℕ, List, string_bytes, arith}
 use Rattle.std.specs.Prelude.{flat_map}
-use Rattle.flow_program.proofs.WalkLemmas.{IsNext, rest_within, next_of}
 use Rattle.problem_rules.specs.Problem.{unit_at}
 use Rattle.report_rules.specs.Report.{name_behind}
 use Rattle.report_tables.proofs.Pieces.{after, next_piece}
@@ -10,16 +9,11 @@ pub loop-u-preserved : goal.loop-u-preserved
 loop-u-preserved c =
     let p = c.args.problem.now in
     let u = c.in-Some.u in
-    let next : IsNext 128 c.loop-u.u-iterator u c.next.new.self = next_of 128 c.loop-u.u-iterator c.in-Some.u c.next.new.self c.loop-u.invariant.is_set c.in-Some.ensures.steps in
     let text = string_bytes c.loop-u.text in
     let t1 = string_bytes c.push.new.self in
     let t2 = string_bytes c.push_str.new.self in
-    record {
-      is_set = next.set;
-      within = λ v h. c.loop-u.invariant.within v (rest_within 128 c.loop-u.u-iterator u c.next.new.self next v h);
-      text = next_piece (name_behind p) c.loop-u.u-iterator c.next.new.self u text t2 (string_bytes c.args.text.now ++ flat_map (name_behind p) c.args.units) next.is
-          (after text t1 t2 (32 ∷ []) (unit_at p u).name
-          (c.in_ok-push.ensures.bytes ∙ ap (λ (t : List ℕ). text ++ t) (c.in_ok-push.ensures.ascii (omega arith)))
-          (c.in_ok-push_str.ensures.bytes ∙ ap (λ (t : List ℕ). t1 ++ t) c.unit_name.ensures))
-          c.loop-u.invariant.text;
-    }
+    next_piece (name_behind p) c.loop-u.u-iterator c.next.new.self u text t2 (string_bytes c.args.text.now ++ flat_map (name_behind p) c.args.units) c.in-Some.ensures.steps
+    (after text t1 t2 (32 ∷ []) (unit_at p u).name
+    (c.in_ok-push.ensures.bytes ∙ ap (λ (t : List ℕ). text ++ t) (c.in_ok-push.ensures.ascii (omega arith)))
+    (c.in_ok-push_str.ensures.bytes ∙ ap (λ (t : List ℕ). t1 ++ t) c.unit_name.ensures))
+    c.loop-u.invariant

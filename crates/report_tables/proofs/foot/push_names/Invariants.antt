@@ -1,13 +1,8 @@
 use Rattle.std.proofs.Common.{◌≡◌, ◌++◌, string_bytes}
 use Rattle.std.specs.Prelude.{flat_map}
-use Rattle.number_sets.specs.Sets.{has, IsWithin, IsSet}
 use Rattle.report_rules.specs.Report.{name_behind}
 use Rattle.report_tables.proofs.foot.push_names.Given as goal
 
 -- the names to come finish the text
 abbrev pub invariant-loop-u : goal.invariant-loop-u
-invariant-loop-u l = record {
-  is_set : IsSet 128 l.u-iterator;
-  within : IsWithin (has l.u-iterator) (has l.fn.units);
-  text : string_bytes l.text ++ flat_map (name_behind l.fn.problem) l.u-iterator ≡ string_bytes l.fn.text ++ flat_map (name_behind l.fn.problem) l.fn.units;
-}
+invariant-loop-u l = string_bytes l.text ++ flat_map (name_behind l.fn.problem) l.u-iterator ≡ string_bytes l.fn.text ++ flat_map (name_behind l.fn.problem) l.fn.units

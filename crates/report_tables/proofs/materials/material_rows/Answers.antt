@@ -1,44 +1,52 @@
-use Rattle.std.proofs.Common.{◌≡◌, ◌∙◌, ◌++◌, ◌∷◌, [], sym, ap, subst, ℕ, List, true, map}
+use Rattle.std.proofs.Common.{◌≡◌, ◌<◌, ◌∙◌, ◌++◌, ◌∷◌, [], sym, ap, subst, true, length, map}
 use Rattle.number_sets.specs.Sets.{has}
-use Rattle.number_sets.proofs.OptionLemmas.{first_none}
-use Rattle.flow_program.proofs.WalkLemmas.{IsNext, is_next, shorter, next_had, rest_within}
+use Rattle.problem_rules.specs.Problem.{Problem}
+use Rattle.flow_rules.specs.Net.{net_of, materials_of}
+use Rattle.tree_rules.specs.Claim.{IsFeasible}
 use Rattle.report_rules.specs.Report.{material_row}
+use Rattle.pns_tables.proofs.Walk.{all_within, next_within, rest_within}
 use Rattle.report_amounts.proofs.Known.{material_known}
 use Rattle.report_tables.proofs.Pieces.{next_row, last_row}
 use Rattle.report_tables.proofs.materials.material_rows.Goals as goal
 
-pub materials_in-left-requires-clause-known : goal.materials_in-left-requires-clause-known
-materials_in-left-requires-clause-known c = c.requires.feasible.structure.s3
+pub materials_in-j-items-requires : goal.materials_in-j-items-requires
+materials_in-j-items-requires c = record { known = c.requires.feasible.structure.s3 }
 
-pub materials-init : goal.materials-init
-materials-init c = record {
-  within = λ u h. subst (λ (js : List ℕ). has js u ≡ true) c.materials_in-left.ensures h;
-  rows = λ i. c.new-rows.ensures.items i ++ map (material_row c.args.problem.now c.args.network.now) (c.materials_in-left.ensures i);
-}
+pub loop-j-init : goal.loop-j-init
+loop-j-init c =
+    let js = materials_of (net_of c.args.site.now) (has c.args.network.now.units) in
+    let are : c.into_iter-j-iterator.result ≡ js = c.into_iter-j-iterator.ensures.into_iter_gives.0 ∙ c.materials_in-j-items.ensures in
+    record {
+      within = all_within c.into_iter-j-iterator.result js are;
+      rows = λ i. c.new-rows.ensures.items i ++ map (material_row c.args.site.now c.args.network.now) (are i);
+    }
 
-pub returns-in_default : goal.returns-in_default
-returns-in_default c =
-    last_row (material_row c.args.problem.now c.args.network.now) c.materials.left c.materials.rows.items _ (first_none c.materials.left (sym c.least.ensures ∙ c.in_default.is)) c.materials.invariant.rows
+pub returns : goal.returns
+returns c =
+    last_row (material_row c.args.site.now c.args.network.now) c.loop-j.j-iterator c.loop-j.rows.items _ c.in-None.ensures.steps.0 c.loop-j.invariant.rows
+
+pub material_row-requires-clause-feasible : goal.material_row-requires-clause-feasible
+material_row-requires-clause-feasible c = subst (λ (p : Problem). IsFeasible p c.args.network.now) (sym c.problem.ensures.same) c.requires.feasible
 
 pub material_row-requires-clause-material : goal.material_row-requires-clause-material
 material_row-requires-clause-material c =
-    c.materials.invariant.within c.in-Some.j (next_had 256 c.materials.left c.in-Some.j c.rises.ensures (sym c.least.ensures ∙ c.in-Some.is))
+    let s = has c.args.network.now.units in
+    subst (λ (p : Problem). has (materials_of (net_of p) s) c.in-Some.j ≡ true) (sym c.problem.ensures.same)
+    (next_within (has (materials_of (net_of c.args.site.now) s)) c.loop-j.j-iterator c.next.new.self c.in-Some.j c.in-Some.ensures.steps c.loop-j.invariant.within)
 
 pub material_row-requires-clause-known : goal.material_row-requires-clause-known
 material_row-requires-clause-known c =
-    material_known c.args.problem.now c.args.network.now c.in-Some.j (c.materials.invariant.within c.in-Some.j (next_had 256 c.materials.left c.in-Some.j c.rises.ensures (sym c.least.ensures ∙ c.in-Some.is)))
+    let p = c.args.site.now in
+    let w = c.args.network.now in
+    subst (λ (p : Problem). c.in-Some.j < length p.materials) (sym c.problem.ensures.same)
+    (material_known p w c.in-Some.j (next_within (has (materials_of (net_of p) (has w.units))) c.loop-j.j-iterator c.next.new.self c.in-Some.j c.in-Some.ensures.steps c.loop-j.invariant.within))
 
-pub materials-smaller : goal.materials-smaller
-materials-smaller c =
-    shorter 256 c.materials.left c.in-Some.j c.without-left.result
-    (is_next 256 c.materials.left c.in-Some.j c.without-left.result c.rises.ensures (sym c.least.ensures ∙ c.in-Some.is) c.without-left.ensures)
-
-pub materials-preserved : goal.materials-preserved
-materials-preserved c =
-    let row = material_row c.args.problem.now c.args.network.now in
-    let next : IsNext 256 c.materials.left c.in-Some.j c.without-left.result = is_next 256 c.materials.left c.in-Some.j c.without-left.result c.rises.ensures (sym c.least.ensures ∙ c.in-Some.is) c.without-left.ensures in
+pub loop-j-preserved : goal.loop-j-preserved
+loop-j-preserved c =
+    let p = c.args.site.now in
+    let w = c.args.network.now in
     record {
-      within = λ u h. c.materials.invariant.within u (rest_within 256 c.materials.left c.in-Some.j c.without-left.result next u h);
-      rows = next_row row c.materials.left c.without-left.result c.in-Some.j c.materials.rows.items c.push.new.self.items _ next.is
-          (c.in_ok-push.ensures.items ∙ ap (λ (r : List (List ℕ)). c.materials.rows.items ++ r ∷ []) c.in_ok-material_row.ensures) c.materials.invariant.rows;
+      within = rest_within (has (materials_of (net_of p) (has w.units))) c.loop-j.j-iterator c.next.new.self c.in-Some.j c.in-Some.ensures.steps c.loop-j.invariant.within;
+      rows = next_row (material_row p w) c.loop-j.j-iterator c.next.new.self c.in-Some.j c.loop-j.rows.items c.push.new.self.items _ c.in-Some.ensures.steps
+          (c.in_ok-push.ensures.items ∙ (λ i. c.loop-j.rows.items ++ (c.in_ok-material_row.ensures ∙ ap (λ (p : Problem). material_row p w c.in-Some.j) c.problem.ensures.same) i ∷ [])) c.loop-j.invariant.rows;
     }

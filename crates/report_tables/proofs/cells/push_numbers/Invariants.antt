@@ -1,0 +1,7 @@
+use Rattle.std.proofs.Common.{◌≡◌, ◌++◌, drop, map}
+use Rattle.report_rules.specs.Report.{number_cell}
+use Rattle.report_tables.proofs.cells.push_numbers.Given as goal
+
+-- the numbers to come finish the row
+abbrev pub invariant-numbers : goal.invariant-numbers
+invariant-numbers l = l.row ++ map number_cell (drop l.number-index l.numbers) ≡ l.fn.row ++ map number_cell l.numbers
