@@ -2,7 +2,6 @@
 ghost use Rattle.std.specs.Prelude.{◌≡◌, ◌≤ℤ◌, pos, true, false, length, Some, IsTrue, IfOk, IfSome, OnOk, OnErr};
 ghost use Rattle.pns_rules.specs.Shape.{shape_of};
 ghost use Rattle.pns_rules.specs.Ends.{IsSound, IsDecided};
-ghost use Rattle.pgraph.specs.Tables.{shape};
 ghost use Rattle.pgraph.specs.View.{node_of};
 ghost use Rattle.mixed_numbers.specs.Number.{numerator, denominator};
 ghost use Rattle.scaled_flows.specs.LeastCost.{IsLeastCost};
@@ -19,7 +18,7 @@ use crate::refutations::{first_refuted, refuted};
 use crate::same_problem::is_same_problem;
 use branch_tree::Scaled;
 use mixed_numbers::Mixed;
-use pgraph::Graph;
+use pgraph::{Graph, Site};
 use pns_problem::{Parts, Problem};
 use scaled_flows::{Scales, cost_of_sizes, least_value};
 use std::alloc::{AllocError, Global};
@@ -80,19 +79,14 @@ impl CertifiedBounds {
 
     /// Goes over to the nodes of another problem, which it has room for. Where that differs in one price or in the costs of one unit, no
     /// name is copied. `Err` comes for want of memory alone.
-    pub fn go_over(
-        &mut self,
-        alloc: Global,
-        problem: &Problem,
-        graph: &Graph,
-    ) -> Result<(), AllocError>
-        requires graph { shape graph.now ≡ shape_of problem.now }
-        requires units { length self.old.units ≡ length problem.now.units }
-        requires materials { length self.old.materials ≡ length problem.now.materials }
-        ensures own { OnOk result (self.new ≡ problem.now) }
+    pub fn go_over(&mut self, alloc: Global, site: &Site<'_>) -> Result<(), AllocError>
+        requires units { length self.old.units ≡ length site.now.units }
+        requires materials { length self.old.materials ≡ length site.now.materials }
+        ensures own { OnOk result (self.new ≡ site.now) }
         ensures same { OnErr result (self.new ≡ self.old) }
     {
-        let scales = Scales::of(alloc, problem, graph)?;
+        let problem = site.problem();
+        let scales = Scales::of(alloc, problem, site.graph())?;
         match change_to(&self.parts, problem) {
             Some(change) => {
                 self.proposals.go_over(alloc, problem, &scales)?;
@@ -113,19 +107,17 @@ impl CertifiedBounds {
     pub fn look_first(
         &mut self,
         alloc: Global,
-        problem: &Problem,
-        graph: &Graph,
+        site: &Site<'_>,
         node: Node,
     ) -> Result<FirstBound, AllocError>
-        requires graph { shape graph.now ≡ shape_of problem.now }
-        requires sound { IsSound (shape_of problem.now) (node_of node) }
+        requires sound { IsSound (shape_of site.now) (node_of node) }
         ensures same { self.new ≡ self.old }
-        ensures bounded { IfOk result (IsFirstBound problem.now (node_of node)) }
+        ensures bounded { IfOk result (IsFirstBound site.now (node_of node)) }
     {
         match self.proposals.propose_low(&node) {
             Proposed::Nothing => Ok(FirstBound::Nothing),
-            Proposed::Row => first_refuted(alloc, problem, graph, &node, &mut self.proposals),
-            Proposed::Optimum => first_low(alloc, problem, graph, &node, &mut self.proposals),
+            Proposed::Row => first_refuted(alloc, site, &node, &mut self.proposals),
+            Proposed::Optimum => first_low(alloc, site, &node, &mut self.proposals),
         }
     }
 
@@ -134,22 +126,18 @@ impl CertifiedBounds {
     pub fn look(
         &mut self,
         alloc: Global,
-        problem: &Problem,
-        graph: &Graph,
+        site: &Site<'_>,
         node: Node,
         decided: bool,
     ) -> Result<Certified, AllocError>
-        requires own { self.old ≡ problem.now }
-        requires graph { shape graph.now ≡ shape_of problem.now }
-        requires sound { IsSound (shape_of problem.now) (node_of node) }
-        requires split { decided ≡ true → IsDecided (shape_of problem.now) (node_of node) }
+        requires own { self.old ≡ site.now }
+        requires sound { IsSound (shape_of site.now) (node_of node) }
+        requires split { decided ≡ true → IsDecided (shape_of site.now) (node_of node) }
         ensures same { self.new ≡ self.old }
-        ensures certified { IfOk result (IsCertified problem.now (node_of node) decided) }
+        ensures certified { IfOk result (IsCertified site.now (node_of node) decided) }
     {
-        match self.look_once(alloc, problem, graph, &node, decided, decided)? {
-            Certified::Nothing if !decided => {
-                self.look_once(alloc, problem, graph, &node, decided, true)
-            }
+        match self.look_once(alloc, site, &node, decided, decided)? {
+            Certified::Nothing if !decided => { self.look_once(alloc, site, &node, decided, true) }
             told => Ok(told),
         }
     }
@@ -158,21 +146,19 @@ impl CertifiedBounds {
     fn look_once(
         &mut self,
         alloc: Global,
-        problem: &Problem,
-        graph: &Graph,
+        site: &Site<'_>,
         node: &Node,
         decided: bool,
         anew: bool,
     ) -> Result<Certified, AllocError>
-        requires own { self.old ≡ problem.now }
-        requires graph { shape graph.now ≡ shape_of problem.now }
-        requires sound { IsSound (shape_of problem.now) (node_of node.now) }
-        requires split { decided ≡ true → IsDecided (shape_of problem.now) (node_of node.now) }
+        requires own { self.old ≡ site.now }
+        requires sound { IsSound (shape_of site.now) (node_of node.now) }
+        requires split { decided ≡ true → IsDecided (shape_of site.now) (node_of node.now) }
         ensures same { self.new ≡ self.old }
-        ensures certified { IfOk result (IsCertified problem.now (node_of node.now) decided) }
+        ensures certified { IfOk result (IsCertified site.now (node_of node.now) decided) }
     {
         let proposed = self.proposals.propose(node, anew);
-        self.judged(alloc, problem, graph, node, decided, proposed)
+        self.judged(alloc, site, node, decided, proposed)
     }
 
     /// Tells what a node is worth that a first look bounded: the basis that it guessed is solved. It takes no memory but for what it hands
@@ -180,63 +166,59 @@ impl CertifiedBounds {
     pub fn settle(
         &mut self,
         alloc: Global,
-        problem: &Problem,
-        graph: &Graph,
+        site: &Site<'_>,
         node: Node,
         basis: &[u16],
     ) -> Result<Certified, AllocError>
-        requires own { self.old ≡ problem.now }
-        requires graph { shape graph.now ≡ shape_of problem.now }
-        requires sound { IsSound (shape_of problem.now) (node_of node) }
+        requires own { self.old ≡ site.now }
+        requires sound { IsSound (shape_of site.now) (node_of node) }
         ensures same { self.new ≡ self.old }
-        ensures certified { IfOk result (IsCertified problem.now (node_of node) false) }
+        ensures certified { IfOk result (IsCertified site.now (node_of node) false) }
     {
         let proposed = self.proposals.propose_noted(&node, basis);
-        self.judged(alloc, problem, graph, &node, false, proposed)
+        self.judged(alloc, site, &node, false, proposed)
     }
 
     /// What is told of the node once what is proposed is judged.
     fn judged(
         &mut self,
         alloc: Global,
-        problem: &Problem,
-        graph: &Graph,
+        site: &Site<'_>,
         node: &Node,
         decided: bool,
         proposed: Proposed,
     ) -> Result<Certified, AllocError>
-        requires own { self.old ≡ problem.now }
-        requires graph { shape graph.now ≡ shape_of problem.now }
-        requires sound { IsSound (shape_of problem.now) (node_of node.now) }
-        requires split { decided ≡ true → IsDecided (shape_of problem.now) (node_of node.now) }
+        requires own { self.old ≡ site.now }
+        requires sound { IsSound (shape_of site.now) (node_of node.now) }
+        requires split { decided ≡ true → IsDecided (shape_of site.now) (node_of node.now) }
         ensures same { self.new ≡ self.old }
-        ensures certified { IfOk result (IsCertified problem.now (node_of node.now) decided) }
+        ensures certified { IfOk result (IsCertified site.now (node_of node.now) decided) }
     {
         match proposed {
             Proposed::Nothing => Ok(Certified::Nothing),
-            Proposed::Row => refuted(alloc, problem, graph, node, &mut self.proposals),
+            Proposed::Row => refuted(alloc, site, node, &mut self.proposals),
             Proposed::Optimum => {
-                let Some(value) = self.value(problem, graph, node) else {
+                let Some(value) = self.value(site, node) else {
                     return Ok(Certified::Nothing);
                 };
                 self.proposals.keep_whole_sizes();
                 if decided {
-                    flows(alloc, problem, graph, node, &mut self.proposals, value)
+                    flows(alloc, site, node, &mut self.proposals, value)
                 } else {
-                    least(alloc, problem, graph, node, &mut self.proposals, value)
+                    least(alloc, site, node, &mut self.proposals, value)
                 }
             }
         }
     }
 
     /// After `Optimum`: the least cost, where what is proposed passes the check.
-    fn value(&self, problem: &Problem, graph: &Graph, node: &Node) -> Option<Mixed>
-        requires own { self.now ≡ problem.now }
-        requires graph { shape graph.now ≡ shape_of problem.now }
-        requires sound { IsSound (shape_of problem.now) (node_of node.now) }
-        ensures { IfSome result (λ value. IsLeastCost problem.now (node_of node.now) (numerator value) (denominator value)) }
+    fn value(&self, site: &Site<'_>, node: &Node) -> Option<Mixed>
+        requires own { self.now ≡ site.now }
+        requires sound { IsSound (shape_of site.now) (node_of node.now) }
+        ensures { IfSome result (λ value. IsLeastCost site.now (node_of node.now) (numerator value) (denominator value)) }
     {
         let guessed = self.proposals.guessed();
+        let (problem, graph) = (site.problem(), site.graph());
         least_value(problem, graph, &self.scales, *node, &guessed)
     }
 
@@ -245,71 +227,61 @@ impl CertifiedBounds {
     pub fn between(
         &mut self,
         alloc: Global,
-        problem: &Problem,
-        graph: &Graph,
+        site: &Site<'_>,
         node: Node,
     ) -> Result<Option<Between>, AllocError>
-        requires own { self.old ≡ problem.now }
-        requires graph { shape graph.now ≡ shape_of problem.now }
-        requires sound { IsSound (shape_of problem.now) (node_of node) }
+        requires own { self.old ≡ site.now }
+        requires sound { IsSound (shape_of site.now) (node_of node) }
         ensures same { self.new ≡ self.old }
-        ensures between { IfOk result (λ found. IfSome found (IsBetween problem.now (node_of node))) }
+        ensures between { IfOk result (λ found. IfSome found (IsBetween site.now (node_of node))) }
     {
-        let Some(reached) = self.cost_of_flows(problem, graph, &node) else {
+        let Some(reached) = self.cost_of_flows(site, &node) else {
             return Ok(None);
         };
-        low_to(alloc, problem, graph, &node, &mut self.proposals, reached)
+        low_to(alloc, site, &node, &mut self.proposals, reached)
     }
 
     /// What some flows of the node cost: least ones, where their numbers have room, or ones in short numbers.
-    fn cost_of_flows(&mut self, problem: &Problem, graph: &Graph, node: &Node) -> Option<Mixed>
-        requires own { self.old ≡ problem.now }
-        requires graph { shape graph.now ≡ shape_of problem.now }
-        requires sound { IsSound (shape_of problem.now) (node_of node.now) }
+    fn cost_of_flows(&mut self, site: &Site<'_>, node: &Node) -> Option<Mixed>
+        requires own { self.old ≡ site.now }
+        requires sound { IsSound (shape_of site.now) (node_of node.now) }
         ensures same { self.new ≡ self.old }
-        ensures reached { IfSome result (λ cost. HasCheaper problem.now (node_of node.now) (numerator cost) (denominator cost)) }
+        ensures reached { IfSome result (λ cost. HasCheaper site.now (node_of node.now) (numerator cost) (denominator cost)) }
     {
         if self.proposals.propose_sizes(node) {
             let d = self.proposals.write_least();
-            if let Some(cost) = self.keep_reached(problem, graph, node, d) {
+            if let Some(cost) = self.keep_reached(site, node, d) {
                 return Some(cost);
             }
         }
         if self.proposals.propose_inside(node) {
             let d = self.proposals.write_short(node);
-            return self.keep_reached(problem, graph, node, d);
+            return self.keep_reached(site, node, d);
         }
         None
     }
 
     /// What the listed sizes cost, where they were written and pass the check: then they are kept.
-    fn keep_reached(
-        &mut self,
-        problem: &Problem,
-        graph: &Graph,
-        node: &Node,
-        d: Option<i128>,
-    ) -> Option<Mixed>
-        requires own { self.old ≡ problem.now }
-        requires graph { shape graph.now ≡ shape_of problem.now }
-        requires sound { IsSound (shape_of problem.now) (node_of node.now) }
+    fn keep_reached(&mut self, site: &Site<'_>, node: &Node, d: Option<i128>) -> Option<Mixed>
+        requires own { self.old ≡ site.now }
+        requires sound { IsSound (shape_of site.now) (node_of node.now) }
         ensures same { self.new ≡ self.old }
-        ensures reached { IfSome result (λ cost. HasCheaper problem.now (node_of node.now) (numerator cost) (denominator cost)) }
+        ensures reached { IfSome result (λ cost. HasCheaper site.now (node_of node.now) (numerator cost) (denominator cost)) }
     {
         let d = d?;
-        let cost = self.reached(problem, graph, node, d)?;
+        let cost = self.reached(site, node, d)?;
         self.proposals.keep_listed_sizes(d);
         Some(cost)
     }
 
     /// What the listed sizes over `d` cost, where they pass the check.
-    fn reached(&self, problem: &Problem, graph: &Graph, node: &Node, d: i128) -> Option<Mixed>
-        requires own { self.now ≡ problem.now }
-        requires graph { shape graph.now ≡ shape_of problem.now }
-        requires sound { IsSound (shape_of problem.now) (node_of node.now) }
-        ensures { IfSome result (λ cost. HasCheaper problem.now (node_of node.now) (numerator cost) (denominator cost)) }
+    fn reached(&self, site: &Site<'_>, node: &Node, d: i128) -> Option<Mixed>
+        requires own { self.now ≡ site.now }
+        requires sound { IsSound (shape_of site.now) (node_of node.now) }
+        ensures { IfSome result (λ cost. HasCheaper site.now (node_of node.now) (numerator cost) (denominator cost)) }
     {
         let sizes = self.proposals.list();
+        let (problem, graph) = (site.problem(), site.graph());
         cost_of_sizes(problem, graph, &self.scales, *node, sizes, d)
     }
 
@@ -318,21 +290,19 @@ impl CertifiedBounds {
     pub fn prove(
         &mut self,
         alloc: Global,
-        problem: &Problem,
-        graph: &Graph,
+        site: &Site<'_>,
         node: Node,
         cost: i128,
         d: i128,
     ) -> Result<Option<Scaled>, AllocError>
-        requires graph { shape graph.now ≡ shape_of problem.now }
-        requires sound { IsSound (shape_of problem.now) (node_of node) }
+        requires sound { IsSound (shape_of site.now) (node_of node) }
         requires positive { pos 1 ≤ℤ d }
         ensures same { self.new ≡ self.old }
-        ensures proved { IfOk result (λ found. IfSome found (λ s. IsBounded problem.now (Some (record { cost = cost; d = d })) (node_of node) s.d s.ys)) }
+        ensures proved { IfOk result (λ found. IfSome found (λ s. IsBounded site.now (Some (record { cost = cost; d = d })) (node_of node) s.d s.ys)) }
     {
         let goal = Mixed::of(cost, d);
         match self.proposals.propose(&node, true) {
-            Proposed::Optimum => proving(alloc, problem, graph, &node, &mut self.proposals, goal),
+            Proposed::Optimum => proving(alloc, site, &node, &mut self.proposals, goal),
             _ => Ok(None),
         }
     }

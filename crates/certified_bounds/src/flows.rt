@@ -2,7 +2,6 @@
 ghost use Rattle.std.specs.Prelude.{◌≡◌, true, IfOk, IfSome};
 ghost use Rattle.pns_rules.specs.Shape.{shape_of};
 ghost use Rattle.pns_rules.specs.Ends.{IsSound, IsDecided};
-ghost use Rattle.pgraph.specs.Tables.{shape};
 ghost use Rattle.pgraph.specs.View.{node_of};
 ghost use Rattle.mixed_numbers.specs.Number.{numerator, denominator};
 ghost use Rattle.scaled_flows.specs.LeastCost.{IsLeastCost};
@@ -14,30 +13,27 @@ use crate::lows::exact;
 use crate::proposals::Proposals;
 use branch_tree::Network;
 use mixed_numbers::Mixed;
-use pgraph::Graph;
-use pns_problem::Problem;
+use pgraph::Site;
 use std::alloc::{AllocError, Global};
 use unit_sets::Node;
 
 /// After `Optimum`, where all is decided: the network of the sizes, where it costs just the value.
 fn network_at(
     alloc: Global,
-    problem: &Problem,
-    graph: &Graph,
+    site: &Site<'_>,
     node: &Node,
     proposals: &mut Proposals,
     value: Mixed,
 ) -> Result<Option<Network>, AllocError>
-    requires graph { shape graph.now ≡ shape_of problem.now }
-    requires sound { IsSound (shape_of problem.now) (node_of node.now) }
-    requires decided { IsDecided (shape_of problem.now) (node_of node.now) }
-    ensures found { IfOk result (λ found. IfSome found (IsNetworkAt problem.now value)) }
+    requires sound { IsSound (shape_of site.now) (node_of node.now) }
+    requires decided { IsDecided (shape_of site.now) (node_of node.now) }
+    ensures found { IfOk result (λ found. IfSome found (IsNetworkAt site.now value)) }
     ensures units { IfOk result (λ found. IfSome found (λ w. w.units ≡ node.now.inside)) }
 {
     let Some(d) = proposals.write_sizes() else {
         return Ok(None);
     };
-    let Some(cost) = cost_of_network(problem, graph, node, proposals.list(), d) else {
+    let Some(cost) = cost_of_network(site, node, proposals.list(), d) else {
         return Ok(None);
     };
     let found = Mixed::of(cost, d);
@@ -52,19 +48,17 @@ fn network_at(
 /// After `Optimum`, where all is decided: the network and multipliers that prove its cost.
 pub(crate) fn flows(
     alloc: Global,
-    problem: &Problem,
-    graph: &Graph,
+    site: &Site<'_>,
     node: &Node,
     proposals: &mut Proposals,
     value: Mixed,
 ) -> Result<Certified, AllocError>
-    requires graph { shape graph.now ≡ shape_of problem.now }
-    requires sound { IsSound (shape_of problem.now) (node_of node.now) }
-    requires decided { IsDecided (shape_of problem.now) (node_of node.now) }
-    requires value { IsLeastCost problem.now (node_of node.now) (numerator value) (denominator value) }
-    ensures { IfOk result (IsCertified problem.now (node_of node.now) true) }
+    requires sound { IsSound (shape_of site.now) (node_of node.now) }
+    requires decided { IsDecided (shape_of site.now) (node_of node.now) }
+    requires value { IsLeastCost site.now (node_of node.now) (numerator value) (denominator value) }
+    ensures { IfOk result (IsCertified site.now (node_of node.now) true) }
 {
-    let Some(scaled) = exact(alloc, problem, graph, node, proposals, value)? else {
+    let Some(scaled) = exact(alloc, site, node, proposals, value)? else {
         return Ok(Certified::Nothing);
     };
     let bound = LeastBound {
@@ -72,7 +66,7 @@ pub(crate) fn flows(
         low: value,
         scaled,
     };
-    match network_at(alloc, problem, graph, node, proposals, value)? {
+    match network_at(alloc, site, node, proposals, value)? {
         Some(network) => Ok(Certified::Flows(bound, network)),
         None => Ok(Certified::Nothing),
     }

@@ -2,6 +2,7 @@
 ghost use Rattle.std.specs.Prelude.{◌≡◌, ◌<◌, ◌≤ℤ◌, ℕ, pos, true, length, Some, IsTrue, IfSome};
 ghost use Rattle.integer_laws.specs.Range.{InRange};
 ghost use Rattle.number_sets.specs.Sets.{has};
+ghost use Rattle.problem_rules.specs.Problem.{Problem};
 ghost use Rattle.pns_rules.specs.Shape.{shape_of};
 ghost use Rattle.pns_rules.specs.Ends.{IsSound, IsDecided};
 ghost use Rattle.pgraph.specs.Tables.{shape};
@@ -15,8 +16,7 @@ ghost use Rattle.certified_bounds.specs.Certified.{cost_over};
 use flow_program::{bound_of, cost_of, feasible, refutes, sets_of};
 use flow_rules::sums_are_last;
 use mixed_numbers::Mixed;
-use pgraph::Graph;
-use pns_problem::Problem;
+use pgraph::{Graph, Site};
 use unit_sets::Node;
 
 /// How many rows the program of the node has.
@@ -30,17 +30,16 @@ fn row_count(graph: &Graph, node: &Node) -> usize
 /// What the multipliers prove over their scale: no relaxed flows of the node cost less. None where the scale is below 1, where
 /// there is not a multiplier for each row, or where a number of their sum is out of range.
 pub(crate) fn low_of(
-    problem: &Problem,
-    graph: &Graph,
+    site: &Site<'_>,
     node: &Node,
     scale: i128,
     multipliers: &[i128],
 ) -> Option<Mixed>
-    requires graph { shape graph.now ≡ shape_of problem.now }
-    requires known { (u : ℕ) → has node.now.inside u ≡ true → u < (shape graph.now).units }
-    ensures { IfSome result (λ low. IsBounded problem.now (Some (cost_over low)) (node_of node.now) scale multipliers.now) }
+    requires known { (u : ℕ) → has node.now.inside u ≡ true → u < (shape_of site.now).units }
+    ensures { IfSome result (λ low. IsBounded site.now (Some (cost_over low)) (node_of node.now) scale multipliers.now) }
 {
     sums_are_last();
+    let (problem, graph) = (site.problem(), site.graph());
     let count = multipliers.len();
     let rows = row_count(graph, node);
     if scale < 1 || count != rows {
@@ -55,34 +54,27 @@ pub(crate) fn low_of(
 /// Whether the multipliers prove over their scale that no relaxed flows of the node cost less than the goal. What `low_of` has no
 /// answer for is a no.
 pub(crate) fn reaches(
-    problem: &Problem,
-    graph: &Graph,
+    site: &Site<'_>,
     node: &Node,
     scale: i128,
     multipliers: &[i128],
     goal: Mixed,
 ) -> bool
-    requires graph { shape graph.now ≡ shape_of problem.now }
-    requires known { (u : ℕ) → has node.now.inside u ≡ true → u < (shape graph.now).units }
-    ensures { IsTrue result → IsBounded problem.now (Some (cost_over goal)) (node_of node.now) scale multipliers.now }
+    requires known { (u : ℕ) → has node.now.inside u ≡ true → u < (shape_of site.now).units }
+    ensures { IsTrue result → IsBounded site.now (Some (cost_over goal)) (node_of node.now) scale multipliers.now }
 {
-    match low_of(problem, graph, node, scale, multipliers) {
+    match low_of(site, node, scale, multipliers) {
         Some(low) => goal <= low,
         None => false,
     }
 }
 
 /// Whether the multipliers refute the node. A number of their sum that is out of range is a no.
-pub(crate) fn is_refuted(
-    problem: &Problem,
-    graph: &Graph,
-    node: &Node,
-    multipliers: &[i128],
-) -> bool
-    requires graph { shape graph.now ≡ shape_of problem.now }
-    requires known { (u : ℕ) → has node.now.inside u ≡ true → u < (shape graph.now).units }
-    ensures { IsTrue result → IsRefuted problem.now (node_of node.now) multipliers.now }
+pub(crate) fn is_refuted(site: &Site<'_>, node: &Node, multipliers: &[i128]) -> bool
+    requires known { (u : ℕ) → has node.now.inside u ≡ true → u < (shape_of site.now).units }
+    ensures { IsTrue result → IsRefuted site.now (node_of node.now) multipliers.now }
 {
+    let (problem, graph) = (site.problem(), site.graph());
     let count = multipliers.len();
     let rows = row_count(graph, node);
     if count != rows {
@@ -96,23 +88,17 @@ pub(crate) fn is_refuted(
 
 /// The cost over `d` of the network of the units that are taken in where all is decided, if the sizes over `d` are flows for it and no number on the way is out of
 /// range.
-pub(crate) fn cost_of_network(
-    problem: &Problem,
-    graph: &Graph,
-    node: &Node,
-    sizes: &[i128],
-    d: i128,
-) -> Option<i128>
-    requires graph { shape graph.now ≡ shape_of problem.now }
-    requires sound { IsSound (shape_of problem.now) (node_of node.now) }
-    requires decided { IsDecided (shape_of problem.now) (node_of node.now) }
+pub(crate) fn cost_of_network(site: &Site<'_>, node: &Node, sizes: &[i128], d: i128) -> Option<i128>
+    requires sound { IsSound (shape_of site.now) (node_of node.now) }
+    requires decided { IsDecided (shape_of site.now) (node_of node.now) }
     ensures positive { IfSome result (λ cost. pos 1 ≤ℤ d) }
     ensures count { IfSome result (λ cost. length sizes.now ≡ length node.now.inside) }
-    ensures feasible { IfSome result (λ cost. IsFeasible problem.now (record { units = node.now.inside; sizes = sizes.now; d = d; cost = cost })) }
+    ensures feasible { IfSome result (λ cost. IsFeasible site.now (record { units = node.now.inside; sizes = sizes.now; d = d; cost = cost })) }
     ensures in_range { IfSome result InRange }
 {
     node.inside.rises();
     sums_are_last();
+    let (problem, graph) = (site.problem(), site.graph());
     if d < 1 || sizes.len() != node.inside.count() as usize {
         return None;
     }

@@ -3,7 +3,6 @@ ghost use Rattle.std.specs.Prelude.{◌≡◌, ◌<◌, ℕ, true, false, Some, 
 ghost use Rattle.integer_laws.specs.Range.{InRange};
 ghost use Rattle.number_sets.specs.Sets.{has};
 ghost use Rattle.pns_rules.specs.Shape.{shape_of};
-ghost use Rattle.pgraph.specs.Tables.{shape};
 ghost use Rattle.pgraph.specs.View.{node_of};
 ghost use Rattle.mixed_numbers.specs.Number.{numerator, denominator};
 ghost use Rattle.scaled_flows.specs.LeastCost.{IsLeastCost};
@@ -13,12 +12,11 @@ ghost use Rattle.certified_bounds.specs.Certified.{cost_over, IsBetween, IsCerti
 
 use crate::certified::{Between, Certified, FirstBound, LeastBound, LowBound};
 use crate::judged::{low_of, reaches};
-use crate::proposals::Proposals;
+use crate::proposals::{Proposals, Way};
 use branch_tree::Scaled;
 use flow_rules::relaxed_duality;
 use mixed_numbers::Mixed;
-use pgraph::Graph;
-use pns_problem::Problem;
+use pgraph::Site;
 use std::alloc::{AllocError, Global};
 use unit_sets::Node;
 
@@ -37,73 +35,28 @@ struct Low {
     pub(crate) low: Mixed,
 }
 
-/// What the multipliers that are listed prove, where they were written over a scale.
-fn listed_low(
-    problem: &Problem,
-    graph: &Graph,
-    node: &Node,
-    proposals: &Proposals,
-    scale: Option<i128>,
-) -> Option<Low>
-    requires graph { shape graph.now ≡ shape_of problem.now }
-    requires known { (u : ℕ) → has node.now.inside u ≡ true → u < (shape graph.now).units }
-    ensures { IfSome result (λ l. IsBounded problem.now (Some (cost_over l.low)) (node_of node.now) l.scale proposals.now) }
+/// What multipliers prove that are written in this way.
+fn low_by(site: &Site<'_>, node: &Node, proposals: &mut Proposals, way: Way) -> Option<Low>
+    requires known { (u : ℕ) → has node.now.inside u ≡ true → u < (shape_of site.now).units }
+    ensures { IfSome result (λ l. IsBounded site.now (Some (cost_over l.low)) (node_of node.now) l.scale proposals.new) }
 {
-    let scale = scale?;
-    let low = low_of(problem, graph, node, scale, proposals.list())?;
+    let scale = proposals.write(way)?;
+    let low = low_of(site, node, scale, proposals.list())?;
     Some(Low { scale, low })
 }
 
-/// What the exact multipliers prove.
-fn exact_low(
-    problem: &Problem,
-    graph: &Graph,
-    node: &Node,
-    proposals: &mut Proposals,
-    most: i128,
-) -> Option<Low>
-    requires graph { shape graph.now ≡ shape_of problem.now }
-    requires known { (u : ℕ) → has node.now.inside u ≡ true → u < (shape graph.now).units }
-    ensures { IfSome result (λ l. IsBounded problem.now (Some (cost_over l.low)) (node_of node.now) l.scale proposals.new) }
-{
-    let scale = proposals.write_exact(most);
-    listed_low(problem, graph, node, proposals, scale)
-}
-
-/// What rounded multipliers prove.
-fn rounded_low(
-    problem: &Problem,
-    graph: &Graph,
-    node: &Node,
-    proposals: &mut Proposals,
-    bits: u32,
-) -> Option<Low>
-    requires graph { shape graph.now ≡ shape_of problem.now }
-    requires known { (u : ℕ) → has node.now.inside u ≡ true → u < (shape graph.now).units }
-    ensures { IfSome result (λ l. IsBounded problem.now (Some (cost_over l.low)) (node_of node.now) l.scale proposals.new) }
-{
-    let scale = proposals.write_rounded(bits);
-    listed_low(problem, graph, node, proposals, scale)
-}
-
 /// What multipliers prove: short exact ones, else rounded ones, else exact ones of any length.
-fn short_low(
-    problem: &Problem,
-    graph: &Graph,
-    node: &Node,
-    proposals: &mut Proposals,
-) -> Option<Low>
-    requires graph { shape graph.now ≡ shape_of problem.now }
-    requires known { (u : ℕ) → has node.now.inside u ≡ true → u < (shape graph.now).units }
-    ensures { IfSome result (λ l. IsBounded problem.now (Some (cost_over l.low)) (node_of node.now) l.scale proposals.new) }
+fn short_low(site: &Site<'_>, node: &Node, proposals: &mut Proposals) -> Option<Low>
+    requires known { (u : ℕ) → has node.now.inside u ≡ true → u < (shape_of site.now).units }
+    ensures { IfSome result (λ l. IsBounded site.now (Some (cost_over l.low)) (node_of node.now) l.scale proposals.new) }
 {
-    if let Some(low) = exact_low(problem, graph, node, proposals, SHORT) {
+    if let Some(low) = low_by(site, node, proposals, Way::Exact(SHORT)) {
         return Some(low);
     }
-    if let Some(low) = rounded_low(problem, graph, node, proposals, SHORT_BITS) {
+    if let Some(low) = low_by(site, node, proposals, Way::Rounded(SHORT_BITS)) {
         return Some(low);
     }
-    exact_low(problem, graph, node, proposals, i128::MAX)
+    low_by(site, node, proposals, Way::Exact(i128::MAX))
 }
 
 /// The value with the multipliers that are listed, and what these prove.
@@ -128,43 +81,39 @@ fn bound_with(
 /// After `Optimum`, where not all is decided: the value, and a bound that is proved.
 pub(crate) fn least(
     alloc: Global,
-    problem: &Problem,
-    graph: &Graph,
+    site: &Site<'_>,
     node: &Node,
     proposals: &mut Proposals,
     value: Mixed,
 ) -> Result<Certified, AllocError>
-    requires graph { shape graph.now ≡ shape_of problem.now }
-    requires known { (u : ℕ) → has node.now.inside u ≡ true → u < (shape graph.now).units }
-    requires value { IsLeastCost problem.now (node_of node.now) (numerator value) (denominator value) }
-    ensures { IfOk result (IsCertified problem.now (node_of node.now) false) }
+    requires known { (u : ℕ) → has node.now.inside u ≡ true → u < (shape_of site.now).units }
+    requires value { IsLeastCost site.now (node_of node.now) (numerator value) (denominator value) }
+    ensures { IfOk result (IsCertified site.now (node_of node.now) false) }
 {
     relaxed_duality();
-    let Some(low) = short_low(problem, graph, node, proposals) else {
+    let Some(low) = short_low(site, node, proposals) else {
         return Ok(Certified::Nothing);
     };
     let bound = bound_with(alloc, value, low, proposals)?;
     Ok(Certified::Least(bound))
 }
 
-/// The listed multipliers over their scale, where they prove the goal.
+/// After `Optimum`: the multipliers that are written in this way, where they prove the goal.
 fn reaching(
     alloc: Global,
-    problem: &Problem,
-    graph: &Graph,
+    site: &Site<'_>,
     node: &Node,
-    proposals: &Proposals,
-    scale: Option<i128>,
+    proposals: &mut Proposals,
+    way: Way,
     goal: Mixed,
 ) -> Result<Option<Scaled>, AllocError>
-    requires graph { shape graph.now ≡ shape_of problem.now }
-    requires known { (u : ℕ) → has node.now.inside u ≡ true → u < (shape graph.now).units }
-    ensures { IfOk result (λ found. IfSome found (λ s. IsBounded problem.now (Some (cost_over goal)) (node_of node.now) s.d s.ys)) }
+    requires known { (u : ℕ) → has node.now.inside u ≡ true → u < (shape_of site.now).units }
+    ensures { IfOk result (λ found. IfSome found (λ s. IsBounded site.now (Some (cost_over goal)) (node_of node.now) s.d s.ys)) }
 {
-    let Some(scale) = scale else {
+    let Some(scale) = proposals.write(way) else {
         return Ok(None);
     };
-    if !reaches(problem, graph, node, scale, proposals.list(), goal) {
+    if !reaches(site, node, scale, proposals.list(), goal) {
         return Ok(None);
     }
     proposals.are_in_range();
@@ -175,72 +124,43 @@ fn reaching(
 /// After `Optimum`: the exact multipliers, where they prove the goal.
 pub(crate) fn exact(
     alloc: Global,
-    problem: &Problem,
-    graph: &Graph,
+    site: &Site<'_>,
     node: &Node,
     proposals: &mut Proposals,
     goal: Mixed,
 ) -> Result<Option<Scaled>, AllocError>
-    requires graph { shape graph.now ≡ shape_of problem.now }
-    requires known { (u : ℕ) → has node.now.inside u ≡ true → u < (shape graph.now).units }
-    ensures { IfOk result (λ found. IfSome found (λ s. IsBounded problem.now (Some (cost_over goal)) (node_of node.now) s.d s.ys)) }
+    requires known { (u : ℕ) → has node.now.inside u ≡ true → u < (shape_of site.now).units }
+    ensures { IfOk result (λ found. IfSome found (λ s. IsBounded site.now (Some (cost_over goal)) (node_of node.now) s.d s.ys)) }
 {
-    let scale = proposals.write_exact(i128::MAX);
-    reaching(alloc, problem, graph, node, proposals, scale, goal)
+    reaching(alloc, site, node, proposals, Way::Exact(i128::MAX), goal)
 }
 
 /// After `Optimum`: multipliers that prove the goal, rounded ones over longer and longer scales, and at last the exact ones.
 pub(crate) fn proving(
     alloc: Global,
-    problem: &Problem,
-    graph: &Graph,
+    site: &Site<'_>,
     node: &Node,
     proposals: &mut Proposals,
     goal: Mixed,
 ) -> Result<Option<Scaled>, AllocError>
-    requires graph { shape graph.now ≡ shape_of problem.now }
-    requires known { (u : ℕ) → has node.now.inside u ≡ true → u < (shape graph.now).units }
-    ensures { IfOk result (λ found. IfSome found (λ s. IsBounded problem.now (Some (cost_over goal)) (node_of node.now) s.d s.ys)) }
+    requires known { (u : ℕ) → has node.now.inside u ≡ true → u < (shape_of site.now).units }
+    ensures { IfOk result (λ found. IfSome found (λ s. IsBounded site.now (Some (cost_over goal)) (node_of node.now) s.d s.ys)) }
 {
     'scales: for bits in [30u32, 40] {
-        let scale = proposals.write_rounded(bits);
-        match reaching(alloc, problem, graph, node, proposals, scale, goal)? {
-            Some(scaled) => return Ok(Some(scaled)),
-            None => {}
+        if let Some(scaled) = reaching(alloc, site, node, proposals, Way::Rounded(bits), goal)? {
+            return Ok(Some(scaled));
         }
     }
-    exact(alloc, problem, graph, node, proposals, goal)
-}
-
-/// After `propose_low`, `propose_sizes` or `propose_inside`: what rounded multipliers prove.
-fn near_low(
-    problem: &Problem,
-    graph: &Graph,
-    node: &Node,
-    proposals: &mut Proposals,
-    bits: u32,
-) -> Option<Low>
-    requires graph { shape graph.now ≡ shape_of problem.now }
-    requires known { (u : ℕ) → has node.now.inside u ≡ true → u < (shape graph.now).units }
-    ensures { IfSome result (λ l. IsBounded problem.now (Some (cost_over l.low)) (node_of node.now) l.scale proposals.new) }
-{
-    let scale = proposals.write_near(bits);
-    listed_low(problem, graph, node, proposals, scale)
+    exact(alloc, site, node, proposals, goal)
 }
 
 /// After `propose_sizes` or `propose_inside`: what rounded multipliers prove, over the longest of three scales at which no number is out of range.
-fn nearest_low(
-    problem: &Problem,
-    graph: &Graph,
-    node: &Node,
-    proposals: &mut Proposals,
-) -> Option<Low>
-    requires graph { shape graph.now ≡ shape_of problem.now }
-    requires known { (u : ℕ) → has node.now.inside u ≡ true → u < (shape graph.now).units }
-    ensures { IfSome result (λ l. IsBounded problem.now (Some (cost_over l.low)) (node_of node.now) l.scale proposals.new) }
+fn nearest_low(site: &Site<'_>, node: &Node, proposals: &mut Proposals) -> Option<Low>
+    requires known { (u : ℕ) → has node.now.inside u ≡ true → u < (shape_of site.now).units }
+    ensures { IfSome result (λ l. IsBounded site.now (Some (cost_over l.low)) (node_of node.now) l.scale proposals.new) }
 {
     'scales: for bits in [30u32, 20, 10] {
-        if let Some(low) = near_low(problem, graph, node, proposals, bits) {
+        if let Some(low) = low_by(site, node, proposals, Way::Near(bits)) {
             return Some(low);
         }
     }
@@ -248,20 +168,14 @@ fn nearest_low(
 }
 
 /// After `propose_low`: what rounded multipliers prove, over a short scale, since they may come to stand in a tree.
-fn quick_low(
-    problem: &Problem,
-    graph: &Graph,
-    node: &Node,
-    proposals: &mut Proposals,
-) -> Option<Low>
-    requires graph { shape graph.now ≡ shape_of problem.now }
-    requires known { (u : ℕ) → has node.now.inside u ≡ true → u < (shape graph.now).units }
-    ensures { IfSome result (λ l. IsBounded problem.now (Some (cost_over l.low)) (node_of node.now) l.scale proposals.new) }
+fn quick_low(site: &Site<'_>, node: &Node, proposals: &mut Proposals) -> Option<Low>
+    requires known { (u : ℕ) → has node.now.inside u ≡ true → u < (shape_of site.now).units }
+    ensures { IfSome result (λ l. IsBounded site.now (Some (cost_over l.low)) (node_of node.now) l.scale proposals.new) }
 {
-    if let Some(low) = near_low(problem, graph, node, proposals, SHORT_BITS) {
+    if let Some(low) = low_by(site, node, proposals, Way::Near(SHORT_BITS)) {
         return Some(low);
     }
-    near_low(problem, graph, node, proposals, SHORTER_BITS)
+    low_by(site, node, proposals, Way::Near(SHORTER_BITS))
 }
 
 /// What is proved, with the multipliers that are listed, and the basis.
@@ -286,17 +200,15 @@ fn low_with(
 /// After `propose_low`: a cost that no relaxed flows of the node undercut, as multipliers prove.
 pub(crate) fn first_low(
     alloc: Global,
-    problem: &Problem,
-    graph: &Graph,
+    site: &Site<'_>,
     node: &Node,
     proposals: &mut Proposals,
 ) -> Result<FirstBound, AllocError>
-    requires graph { shape graph.now ≡ shape_of problem.now }
-    requires known { (u : ℕ) → has node.now.inside u ≡ true → u < (shape graph.now).units }
-    ensures { IfOk result (IsFirstBound problem.now (node_of node.now)) }
+    requires known { (u : ℕ) → has node.now.inside u ≡ true → u < (shape_of site.now).units }
+    ensures { IfOk result (IsFirstBound site.now (node_of node.now)) }
 {
     relaxed_duality();
-    let Some(low) = quick_low(problem, graph, node, proposals) else {
+    let Some(low) = quick_low(site, node, proposals) else {
         return Ok(FirstBound::Nothing);
     };
     let basis = proposals.basis(alloc)?;
@@ -307,18 +219,16 @@ pub(crate) fn first_low(
 /// After `propose_sizes` or `propose_inside`: what some flows cost, and what rounded multipliers prove.
 pub(crate) fn low_to(
     alloc: Global,
-    problem: &Problem,
-    graph: &Graph,
+    site: &Site<'_>,
     node: &Node,
     proposals: &mut Proposals,
     reached: Mixed,
 ) -> Result<Option<Between>, AllocError>
-    requires graph { shape graph.now ≡ shape_of problem.now }
-    requires known { (u : ℕ) → has node.now.inside u ≡ true → u < (shape graph.now).units }
-    requires reached { HasCheaper problem.now (node_of node.now) (numerator reached) (denominator reached) }
-    ensures { IfOk result (λ found. IfSome found (IsBetween problem.now (node_of node.now))) }
+    requires known { (u : ℕ) → has node.now.inside u ≡ true → u < (shape_of site.now).units }
+    requires reached { HasCheaper site.now (node_of node.now) (numerator reached) (denominator reached) }
+    ensures { IfOk result (λ found. IfSome found (IsBetween site.now (node_of node.now))) }
 {
-    let Some(low) = nearest_low(problem, graph, node, proposals) else {
+    let Some(low) = nearest_low(site, node, proposals) else {
         return Ok(None);
     };
     proposals.are_in_range();

@@ -26,6 +26,18 @@ pub(crate) enum Proposed {
     Nothing,
 }
 
+/// How multipliers of the cost are written over a scale.
+#[derive(Clone, Copy)]
+pub(crate) enum Way {
+    /// After `Optimum`: the exact ones over their least scale, where that is at most so much.
+    Exact(i128),
+    /// After `Optimum`: whole numbers near 2^bits times the multipliers.
+    Rounded(u32),
+    /// After `propose_low`, `propose_sizes` or `propose_inside`: whole numbers near 2^bits times the
+    /// multipliers, or a lower power of 2 over which they are the same.
+    Near(u32),
+}
+
 /// A problem in scaled numbers, with the divisors: one of each material's rates, that of sizes, and that of costs.
 #[derive(Drop)]
 struct ScaledProblem {
@@ -310,8 +322,17 @@ impl Proposals {
         self.list.are_in_range();
     }
 
+    /// Writes multipliers of the cost, and gives the scale that they are over.
+    pub(crate) fn write(&mut self, way: Way) -> Option<i128> {
+        match way {
+            Way::Exact(most) => self.write_exact(most),
+            Way::Rounded(bits) => self.write_rounded(bits),
+            Way::Near(bits) => self.write_near(bits),
+        }
+    }
+
     /// After `Optimum`: writes the exact multipliers over their least scale, which it gives, where that is at most so much.
-    pub(crate) fn write_exact(&mut self, most: i128) -> Option<i128> {
+    fn write_exact(&mut self, most: i128) -> Option<i128> {
         let rows = ScaledRows {
             numbers: self.solver.multipliers(),
             rates: &self.row_rates,
@@ -327,7 +348,7 @@ impl Proposals {
     }
 
     /// After `Optimum`: writes whole numbers near 2^bits times the multipliers. Gives that power.
-    pub(crate) fn write_rounded(&mut self, bits: u32) -> Option<i128> {
+    fn write_rounded(&mut self, bits: u32) -> Option<i128> {
         let rows = ScaledRows {
             numbers: self.solver.multipliers(),
             rates: &self.row_rates,
@@ -354,7 +375,7 @@ impl Proposals {
 
     /// After `propose_low`, `propose_sizes` or `propose_inside`: writes whole numbers near a power of 2 times the multipliers of the cost:
     /// 2^bits, or a lower one over which they are the same. Gives that power.
-    pub(crate) fn write_near(&mut self, bits: u32) -> Option<i128> {
+    fn write_near(&mut self, bits: u32) -> Option<i128> {
         let rows = ScaledRows {
             numbers: self.row.numbers(),
             rates: &self.row_rates,

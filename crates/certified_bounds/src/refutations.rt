@@ -2,7 +2,6 @@
 ghost use Rattle.std.specs.Prelude.{◌≡◌, ◌<◌, ℕ, Bool, true, IsTrue, IfOk, IfSome};
 ghost use Rattle.number_sets.specs.Sets.{has};
 ghost use Rattle.pns_rules.specs.Shape.{shape_of};
-ghost use Rattle.pgraph.specs.Tables.{shape};
 ghost use Rattle.pgraph.specs.View.{node_of};
 ghost use Rattle.tree_rules.specs.Leaf.{IsRefuted};
 ghost use Rattle.certified_bounds.specs.Certified.{IsCertified, IsFirstBound};
@@ -11,40 +10,30 @@ use crate::certified::{Certified, FirstBound};
 use crate::judged::is_refuted;
 use crate::proposals::Proposals;
 use branch_tree::Multipliers;
-use pgraph::Graph;
-use pns_problem::Problem;
+use pgraph::Site;
 use std::alloc::{AllocError, Global};
 use unit_sets::Node;
 
 /// Whether the multipliers of the row that can't be met refute the node, once they are rounded.
-fn is_row_refuted(
-    problem: &Problem,
-    graph: &Graph,
-    node: &Node,
-    proposals: &mut Proposals,
-    bits: u32,
-) -> bool
-    requires graph { shape graph.now ≡ shape_of problem.now }
-    requires known { (u : ℕ) → has node.now.inside u ≡ true → u < (shape graph.now).units }
-    ensures { IsTrue result → IsRefuted problem.now (node_of node.now) proposals.new }
+fn is_row_refuted(site: &Site<'_>, node: &Node, proposals: &mut Proposals, bits: u32) -> bool
+    requires known { (u : ℕ) → has node.now.inside u ≡ true → u < (shape_of site.now).units }
+    ensures { IsTrue result → IsRefuted site.now (node_of node.now) proposals.new }
 {
-    proposals.write_row(bits) && is_refuted(problem, graph, node, proposals.list())
+    proposals.write_row(bits) && is_refuted(site, node, proposals.list())
 }
 
 /// After `Row`: multipliers that refute the node, where rounded ones do.
 fn refuting(
     alloc: Global,
-    problem: &Problem,
-    graph: &Graph,
+    site: &Site<'_>,
     node: &Node,
     proposals: &mut Proposals,
 ) -> Result<Option<Multipliers>, AllocError>
-    requires graph { shape graph.now ≡ shape_of problem.now }
-    requires known { (u : ℕ) → has node.now.inside u ≡ true → u < (shape graph.now).units }
-    ensures { IfOk result (λ found. IfSome found (λ ys. IsRefuted problem.now (node_of node.now) ys)) }
+    requires known { (u : ℕ) → has node.now.inside u ≡ true → u < (shape_of site.now).units }
+    ensures { IfOk result (λ found. IfSome found (λ ys. IsRefuted site.now (node_of node.now) ys)) }
 {
     'scales: for bits in [30u32, 20, 40, 10, 50] {
-        if is_row_refuted(problem, graph, node, proposals, bits) {
+        if is_row_refuted(site, node, proposals, bits) {
             proposals.are_in_range();
             let ys = proposals.list().to_vec(alloc)?;
             return Ok(Some(Multipliers::from_vec(ys)));
@@ -56,16 +45,14 @@ fn refuting(
 /// After `Row`: what is told of the node.
 pub(crate) fn refuted(
     alloc: Global,
-    problem: &Problem,
-    graph: &Graph,
+    site: &Site<'_>,
     node: &Node,
     proposals: &mut Proposals,
 ) -> Result<Certified, AllocError>
-    requires graph { shape graph.now ≡ shape_of problem.now }
-    requires known { (u : ℕ) → has node.now.inside u ≡ true → u < (shape graph.now).units }
-    ensures { (decided : Bool) → IfOk result (IsCertified problem.now (node_of node.now) decided) }
+    requires known { (u : ℕ) → has node.now.inside u ≡ true → u < (shape_of site.now).units }
+    ensures { (decided : Bool) → IfOk result (IsCertified site.now (node_of node.now) decided) }
 {
-    match refuting(alloc, problem, graph, node, proposals)? {
+    match refuting(alloc, site, node, proposals)? {
         Some(ys) => Ok(Certified::Refuted(ys)),
         None => Ok(Certified::Nothing),
     }
@@ -74,16 +61,14 @@ pub(crate) fn refuted(
 /// After `Row`: what is told of the node at a first look.
 pub(crate) fn first_refuted(
     alloc: Global,
-    problem: &Problem,
-    graph: &Graph,
+    site: &Site<'_>,
     node: &Node,
     proposals: &mut Proposals,
 ) -> Result<FirstBound, AllocError>
-    requires graph { shape graph.now ≡ shape_of problem.now }
-    requires known { (u : ℕ) → has node.now.inside u ≡ true → u < (shape graph.now).units }
-    ensures { IfOk result (IsFirstBound problem.now (node_of node.now)) }
+    requires known { (u : ℕ) → has node.now.inside u ≡ true → u < (shape_of site.now).units }
+    ensures { IfOk result (IsFirstBound site.now (node_of node.now)) }
 {
-    match refuting(alloc, problem, graph, node, proposals)? {
+    match refuting(alloc, site, node, proposals)? {
         Some(ys) => Ok(FirstBound::Refuted(ys)),
         None => Ok(FirstBound::Nothing),
     }

@@ -9,7 +9,7 @@ use Rattle.certified_bounds.proofs.flows.flows.Goals as goal
 
 pub returns-in-Some-2 : goal.returns-in-Some-2
 returns-in-Some-2 c =
-    let p = c.args.problem.now in
+    let p = c.args.site.now in
     let n = node_of c.args.node.now in
     let v = c.args.value in
     let s = c.in-Some.scaled in

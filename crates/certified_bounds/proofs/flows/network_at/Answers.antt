@@ -16,7 +16,7 @@ not_false false h = absurd (let e : true ≡ false = h in cc)
 
 pub returns-clause-found : goal.returns-clause-found
 returns-clause-found c =
-    let p = c.args.problem.now in
+    let p = c.args.site.now in
     let us = c.args.node.now.inside in
     let v = c.args.value in
     let d = c.in-Some.d in

@@ -11,7 +11,7 @@ use Rattle.certified_bounds.proofs.judged.reaches.Goals as goal
 
 pub returns-in-Some : goal.returns-in-Some
 returns-in-Some c =
-    let p = c.args.problem.now in
+    let p = c.args.site.now in
     let n = node_of c.args.node.now in
     let g = c.args.goal in
     let l = c.in-Some.low in

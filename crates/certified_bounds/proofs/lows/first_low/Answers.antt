@@ -8,7 +8,7 @@ use Rattle.certified_bounds.proofs.lows.first_low.Goals as goal
 
 pub returns : goal.returns
 returns c =
-    let p = c.args.problem.now in
+    let p = c.args.site.now in
     let n = node_of c.args.node.now in
     let l = c.in-Some.low in
     let ys = c.quick_low.new.proposals in

@@ -9,7 +9,7 @@ use Rattle.certified_bounds.proofs.lows.least.Goals as goal
 
 pub returns : goal.returns
 returns c =
-    let p = c.args.problem.now in
+    let p = c.args.site.now in
     let n = node_of c.args.node.now in
     let v = c.args.value in
     let l = c.in-Some.low in

@@ -17,5 +17,5 @@ returns-in-Optimum-clause-proved c =
     let reached : (c.args.cost *ℤ denominator g) ≤ℤ (numerator g *ℤ c.args.d) =
     no_more_of_same (c.args.cost *ℤ denominator g) (numerator g *ℤ c.args.d) (λ i. sym top i *ℤ den i) in
     found_weaker c.proving.result _ _
-    (λ s h. reaches_less c.args.problem.now (node_of c.args.node) s.d s.ys (record { cost = c.args.cost; d = c.args.d }) (cost_over g) c.requires.positive (over_one g) reached h)
+    (λ s h. reaches_less c.args.site.now (node_of c.args.node) s.d s.ys (record { cost = c.args.cost; d = c.args.d }) (cost_over g) c.requires.positive (over_one g) reached h)
     c.proving.ensures
