@@ -5,7 +5,7 @@
 //! a fault can say whose it was. [`read_all`] gives the whole of a file that is within a limit.
 //!
 //! `MemShelf` and `MemSink` are exact and fail where they are told to; `PlainShelf` and `PlainSink` never fail;
-//! `FileShelf` and `OutSink` are the files of the system and the standard output, of which nothing is told but their
+//! `FileShelf` is the files of the system and the standard input, and `OutSink` the standard output. Nothing is told of them but their
 //! counts.
 #![tactic(auto)]
 
