@@ -4,7 +4,6 @@ ghost use Rattle.mixed_numbers.specs.Number.{numerator, denominator};
 ghost use Rattle.integer_laws.specs.Range.{InRange, AllInRange};
 ghost use Rattle.pns_rules.specs.Shape.{shape_of};
 ghost use Rattle.pns_rules.specs.Ends.{IsSound, IsDecided};
-ghost use Rattle.pgraph.specs.Tables.{shape};
 ghost use Rattle.pgraph.specs.View.{node_of};
 ghost use Rattle.flow_rules.specs.Net.{net_of};
 ghost use Rattle.flow_rules.specs.Program.{program_of};
@@ -28,8 +27,7 @@ use flow_program::Program;
 use flow_rules::Place;
 use mixed_numbers::Mixed;
 use node_evaluation::{Bound, Evaluation, PastStop, Proof};
-use pgraph::Graph;
-use pns_problem::Problem;
+use pgraph::Site;
 use std::alloc::{AllocError, Global};
 use unit_sets::Node;
 
@@ -60,19 +58,17 @@ pub(crate) fn unproved(alloc: Global, bench: &Bench, place: Place) -> Result<Pro
 /// After `None`: the multipliers of the row that can't be met.
 pub(crate) fn refuted(
     alloc: Global,
-    problem: &Problem,
-    graph: &Graph,
+    site: &Site<'_>,
     node: &Node,
     bench: &Bench,
 ) -> Result<Evaluation, AllocError>
-    requires graph { shape graph.now ≡ shape_of problem.now }
-    requires sound { IsSound (shape_of problem.now) (node_of node.now) }
-    requires none { IsNoneOf (program_of (net_of problem.now) (node_of node.now)) bench.now }
-    ensures { (decided : Bool) → IfOk result (IsEvaluated IsPastAt problem.now (node_of node.now) decided) }
+    requires sound { IsSound (shape_of site.now) (node_of node.now) }
+    requires none { IsNoneOf (program_of (net_of site.now) (node_of node.now)) bench.now }
+    ensures { (decided : Bool) → IfOk result (IsEvaluated IsPastAt site.now (node_of node.now) decided) }
 {
-    problem.is_valid();
+    let _problem = site.problem();
     none_is_refuted();
-    if let Err(place) = form_refutation(problem, graph, node, bench) {
+    if let Err(place) = form_refutation(site, node, bench) {
         return stopped(alloc, bench, place);
     }
     let ys = bench.ys().to_vec(alloc)?;
@@ -110,24 +106,22 @@ fn network_at(alloc: Global, node: &Node, bench: &Bench, cost: i128) -> Result<N
 /// After `Least`, where all is decided: the network of the flows that are read off the basis.
 fn with_flows(
     alloc: Global,
-    problem: &Problem,
-    graph: &Graph,
+    site: &Site<'_>,
     node: &Node,
     program: &Program,
     bench: &mut Bench,
     value: Mixed,
 ) -> Result<Evaluation, AllocError>
-    requires graph { shape graph.now ≡ shape_of problem.now }
-    requires sound { IsSound (shape_of problem.now) (node_of node.now) }
-    requires decided { IsDecided (shape_of problem.now) (node_of node.now) }
-    requires program { program.now ≡ program_of (net_of problem.now) (node_of node.now) }
+    requires sound { IsSound (shape_of site.now) (node_of node.now) }
+    requires decided { IsDecided (shape_of site.now) (node_of node.now) }
+    requires program { program.now ≡ program_of (net_of site.now) (node_of node.now) }
     requires least { IsLeastOf program.now bench.old }
-    requires value { (numerator value ≡ bound (net_of problem.now) (node_of node.now) bench.old.d (multiplier problem.now (node_of node.now) bench.old.ys)) × (denominator value ≡ bench.old.d) }
-    requires formed { IsFormed problem.now (node_of node.now) bench.old.d bench.old.ys }
+    requires value { (numerator value ≡ bound (net_of site.now) (node_of node.now) bench.old.d (multiplier site.now (node_of node.now) bench.old.ys)) × (denominator value ≡ bench.old.d) }
+    requires formed { IsFormed site.now (node_of node.now) bench.old.d bench.old.ys }
     ensures rows { bench.new.rows ≡ bench.old.rows }
-    ensures evaluated { IfOk result (IsEvaluated IsPastAt problem.now (node_of node.now) true) }
+    ensures evaluated { IfOk result (IsEvaluated IsPastAt site.now (node_of node.now) true) }
 {
-    problem.is_valid();
+    let _problem = site.problem();
     node.inside.rises();
     least_is_least();
     split_flows_are_least();
@@ -136,7 +130,7 @@ fn with_flows(
     if let Err(place) = bench.read_flows(program) {
         return stopped(alloc, bench, place);
     }
-    match cost_of_flows(problem, graph, node, bench) {
+    match cost_of_flows(site, node, bench) {
         Err(place) => stopped(alloc, bench, place),
         Ok(cost) => {
             let bound = bound_at(alloc, value, bench)?;
@@ -149,19 +143,17 @@ fn with_flows(
 /// After `Least`: the multipliers, which prove that no relaxed flows cost less than what the node is worth.
 pub(crate) fn proved(
     alloc: Global,
-    problem: &Problem,
-    graph: &Graph,
+    site: &Site<'_>,
     node: &Node,
     bench: &Bench,
 ) -> Result<Proof, AllocError>
-    requires graph { shape graph.now ≡ shape_of problem.now }
-    requires sound { IsSound (shape_of problem.now) (node_of node.now) }
-    requires least { IsLeastOf (program_of (net_of problem.now) (node_of node.now)) bench.now }
-    ensures { (cost : CostOver) → IsPositive cost → IsWorth problem.now (node_of node.now) cost → IfOk result (IsProof IsPastAt problem.now (node_of node.now) cost) }
+    requires sound { IsSound (shape_of site.now) (node_of node.now) }
+    requires least { IsLeastOf (program_of (net_of site.now) (node_of node.now)) bench.now }
+    ensures { (cost : CostOver) → IsPositive cost → IsWorth site.now (node_of node.now) cost → IfOk result (IsProof IsPastAt site.now (node_of node.now) cost) }
 {
-    problem.is_valid();
+    let _problem = site.problem();
     least_is_least();
-    match value_of(problem, graph, node, bench) {
+    match value_of(site, node, bench) {
         Err(place) => unproved(alloc, bench, place),
         Ok(value) => {
             let bound = bound_at(alloc, value, bench)?;
@@ -173,28 +165,26 @@ pub(crate) fn proved(
 /// After `Least`: the least cost of relaxed flows, and where all is decided a network of that cost.
 pub(crate) fn bounded(
     alloc: Global,
-    problem: &Problem,
-    graph: &Graph,
+    site: &Site<'_>,
     node: &Node,
     decided: bool,
     program: &Program,
     bench: &mut Bench,
 ) -> Result<Evaluation, AllocError>
-    requires graph { shape graph.now ≡ shape_of problem.now }
-    requires sound { IsSound (shape_of problem.now) (node_of node.now) }
-    requires split { decided ≡ true → IsDecided (shape_of problem.now) (node_of node.now) }
-    requires program { program.now ≡ program_of (net_of problem.now) (node_of node.now) }
+    requires sound { IsSound (shape_of site.now) (node_of node.now) }
+    requires split { decided ≡ true → IsDecided (shape_of site.now) (node_of node.now) }
+    requires program { program.now ≡ program_of (net_of site.now) (node_of node.now) }
     requires least { IsLeastOf program.now bench.old }
     ensures rows { bench.new.rows ≡ bench.old.rows }
-    ensures evaluated { IfOk result (IsEvaluated IsPastAt problem.now (node_of node.now) decided) }
+    ensures evaluated { IfOk result (IsEvaluated IsPastAt site.now (node_of node.now) decided) }
 {
-    problem.is_valid();
+    let _problem = site.problem();
     least_is_least();
-    match value_of(problem, graph, node, bench) {
+    match value_of(site, node, bench) {
         Err(place) => stopped(alloc, bench, place),
         Ok(value) => {
             if decided {
-                with_flows(alloc, problem, graph, node, program, bench, value)
+                with_flows(alloc, site, node, program, bench, value)
             } else {
                 let bound = bound_at(alloc, value, bench)?;
                 Ok(Evaluation::Least(bound))

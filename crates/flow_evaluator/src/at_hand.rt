@@ -8,8 +8,8 @@ ghost use Rattle.pgraph.specs.Tables.{shape};
 ghost use Rattle.pgraph.specs.View.{node_of};
 
 use max_structure::maximal;
-use pgraph::Graph;
-use pns_problem::{OperatingUnit, Problem};
+use pgraph::{Graph, Site};
+use pns_problem::OperatingUnit;
 use pns_rules::Verdict;
 use unit_sets::{Node, UnitSet};
 
@@ -42,10 +42,8 @@ impl Running {
 }
 
 /// The free units that run where the units that are not left out have these sizes, in rising order.
-pub(crate) fn running_units(problem: &Problem, graph: &Graph, node: &Node, sizes: &[i64]) -> Running
-    requires { shape graph.now ≡ shape_of problem.now }
-{
-    graph.is_proper();
+pub(crate) fn running_units(site: &Site<'_>, node: &Node, sizes: &[i64]) -> Running {
+    let (problem, graph) = (site.problem(), site.graph());
     let units = problem.units();
     let mut running = Running {
         units: UnitSet::empty(),

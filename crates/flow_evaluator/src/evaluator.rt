@@ -4,7 +4,6 @@ ghost use Rattle.number_sets.specs.Sets.{has};
 ghost use Rattle.pns_rules.specs.Shape.{shape_of};
 ghost use Rattle.pns_rules.specs.Structure.{InFamily};
 ghost use Rattle.pns_rules.specs.Ends.{IsSound, IsReduced, IsDecided};
-ghost use Rattle.pgraph.specs.Tables.{shape};
 ghost use Rattle.pgraph.specs.View.{node_of};
 ghost use Rattle.dual_simplex.specs.Bench.{HasRoom};
 ghost use Rattle.tree_rules.specs.Claim.{CostOver};
@@ -23,7 +22,7 @@ use dual_simplex::{Bench, Ends, entry_is_past, names_are_of_program, none_is_ref
 use flow_program::Program;
 use flow_rules::{refutation, relaxed_duality};
 use node_evaluation::{Evaluation, Evaluator, FirstLook, LowerBound, Proof};
-use pgraph::Graph;
+use pgraph::{Graph, Site};
 use pns_problem::Problem;
 use std::alloc::{AllocError, Global};
 use std::marker::Model;
@@ -56,26 +55,24 @@ impl Model for FlowEvaluator {
 /// Walks the path of the node's program, and tells what its end gives.
 fn evaluate_on(
     alloc: Global,
-    problem: &Problem,
-    graph: &Graph,
+    site: &Site<'_>,
     node: &Node,
     decided: bool,
     bench: &mut Bench,
 ) -> Result<Evaluation, AllocError>
-    requires graph { shape graph.now ≡ shape_of problem.now }
-    requires sound { IsSound (shape_of problem.now) (node_of node.now) }
-    requires split { decided ≡ true → IsDecided (shape_of problem.now) (node_of node.now) }
-    requires room { HasRoom bench.old (length problem.now.units) (length problem.now.materials) }
+    requires sound { IsSound (shape_of site.now) (node_of node.now) }
+    requires split { decided ≡ true → IsDecided (shape_of site.now) (node_of node.now) }
+    requires room { HasRoom bench.old (length site.now.units) (length site.now.materials) }
     ensures units { bench.new.rows.most_units ≡ bench.old.rows.most_units }
     ensures rows { bench.new.rows.most_rows ≡ bench.old.rows.most_rows }
-    ensures evaluated { IfOk result (IsEvaluated IsPastAt problem.now (node_of node.now) decided) }
+    ensures evaluated { IfOk result (IsEvaluated IsPastAt site.now (node_of node.now) decided) }
 {
     entry_is_past();
     names_are_of_program();
-    let program = Program::of(alloc, problem, graph, *node)?;
+    let program = Program::of(alloc, site.problem(), site.graph(), *node)?;
     match bench.least(&program) {
-        Ok(Ends::Least) => bounded(alloc, problem, graph, node, decided, &program, bench),
-        Ok(Ends::None) => refuted(alloc, problem, graph, node, bench),
+        Ok(Ends::Least) => bounded(alloc, site, node, decided, &program, bench),
+        Ok(Ends::None) => refuted(alloc, site, node, bench),
         Err(place) => stopped(alloc, bench, place),
     }
 }
@@ -84,27 +81,24 @@ fn evaluate_on(
 /// worth.
 fn prove_on(
     alloc: Global,
-    problem: &Problem,
-    graph: &Graph,
+    site: &Site<'_>,
     node: &Node,
     bench: &mut Bench,
 ) -> Result<Proof, AllocError>
-    requires graph { shape graph.now ≡ shape_of problem.now }
-    requires sound { IsSound (shape_of problem.now) (node_of node.now) }
-    requires room { HasRoom bench.old (length problem.now.units) (length problem.now.materials) }
-    requires some { MayUndercut problem.now None (node_of node.now) }
+    requires sound { IsSound (shape_of site.now) (node_of node.now) }
+    requires room { HasRoom bench.old (length site.now.units) (length site.now.materials) }
+    requires some { MayUndercut site.now None (node_of node.now) }
     ensures units { bench.new.rows.most_units ≡ bench.old.rows.most_units }
     ensures rows { bench.new.rows.most_rows ≡ bench.old.rows.most_rows }
-    ensures proved { (cost : CostOver) → IsPositive cost → IsWorth problem.now (node_of node.now) cost → IfOk result (IsProof IsPastAt problem.now (node_of node.now) cost) }
+    ensures proved { (cost : CostOver) → IsPositive cost → IsWorth site.now (node_of node.now) cost → IfOk result (IsProof IsPastAt site.now (node_of node.now) cost) }
 {
-    problem.is_valid();
     entry_is_past();
     names_are_of_program();
     none_is_refuted();
     refutation();
-    let program = Program::of(alloc, problem, graph, *node)?;
+    let program = Program::of(alloc, site.problem(), site.graph(), *node)?;
     match bench.least(&program) {
-        Ok(Ends::Least) => proved(alloc, problem, graph, node, bench),
+        Ok(Ends::Least) => proved(alloc, site, node, bench),
         Ok(Ends::None) => unreachable!(),
         Err(place) => unproved(alloc, bench, place),
     }
@@ -129,21 +123,16 @@ impl FlowEvaluator {
     }
 
     /// Makes it ready for the nodes of the problem, where it was for those of another one.
-    fn make_ready(
-        &mut self,
-        alloc: Global,
-        problem: &Problem,
-        graph: &Graph,
-    ) -> Result<(), AllocError>
-        requires graph { shape graph.now ≡ shape_of problem.now }
-        ensures { OnOk result (self.new.problem ≡ problem.now) }
+    fn make_ready(&mut self, alloc: Global, site: &Site<'_>) -> Result<(), AllocError>
+        ensures { OnOk result (self.new.problem ≡ site.now) }
     {
+        let problem = site.problem();
         if self.certified.is_for(problem) {
             return Ok(());
         }
         self.tries = Tries::none();
         if self.certified.has_room_for(problem) {
-            return self.certified.go_over(alloc, problem, graph);
+            return self.certified.go_over(alloc, site);
         }
         *self = FlowEvaluator::open(alloc, problem)?;
         Ok(())
@@ -151,12 +140,12 @@ impl FlowEvaluator {
 
     /// The structure of the node's family whose flows are to be tried: one whose free units owe nothing, so that its flows cost what the
     /// node is worth; and until a network was told, and then at one node in 32, any.
-    fn structure_to_try(&self, problem: &Problem, graph: &Graph, node: &Node) -> Option<UnitSet>
-        requires graph { shape graph.now ≡ shape_of problem.now }
-        requires sound { IsSound (shape_of problem.now) (node_of node.now) }
-        ensures { IfSome result (λ s. InFamily (shape_of problem.now) (has node.now.inside) (has node.now.outside) (has s)) }
+    fn structure_to_try(&self, site: &Site<'_>, node: &Node) -> Option<UnitSet>
+        requires sound { IsSound (shape_of site.now) (node_of node.now) }
+        ensures { IfSome result (λ s. InFamily (shape_of site.now) (has node.now.inside) (has node.now.outside) (has s)) }
     {
-        let running = running_units(problem, graph, node, self.sizes());
+        let graph = site.graph();
+        let running = running_units(site, node, self.sizes());
         if running.units.meet(running.owing).is_empty() {
             if let Some(set) = structure_with(graph, node, running.units, running.owing) {
                 return Some(set);
@@ -172,20 +161,17 @@ impl FlowEvaluator {
     fn network_of(
         &mut self,
         alloc: Global,
-        problem: &Problem,
-        graph: &Graph,
+        site: &Site<'_>,
         node: &Node,
         set: UnitSet,
     ) -> Result<Option<Network>, AllocError>
-        requires own { self.old.problem ≡ problem.now }
-        requires graph { shape graph.now ≡ shape_of problem.now }
-        requires family { InFamily (shape_of problem.now) (has node.now.inside) (has node.now.outside) (has set) }
-        ensures { IfOk result (λ found. IfSome found (IsAtHand problem.now (node_of node.now))) }
+        requires own { self.old.problem ≡ site.now }
+        requires family { InFamily (shape_of site.now) (has node.now.inside) (has node.now.outside) (has set) }
+        ensures { IfOk result (λ found. IfSome found (IsAtHand site.now (node_of node.now))) }
     {
-        problem.is_valid();
         allowed_is_decided();
-        let decided = node_of(problem, set);
-        match self.certified.look(alloc, problem, graph, decided, true)? {
+        let decided = node_of(site.problem(), set);
+        match self.certified.look(alloc, site, decided, true)? {
             Certified::Flows(bound, network) => {
                 self.tries.keep_cost(bound.value);
                 Ok(Some(network))
@@ -208,20 +194,18 @@ impl FlowEvaluator {
     fn certify(
         &mut self,
         alloc: Global,
-        problem: &Problem,
-        graph: &Graph,
+        site: &Site<'_>,
         node: Node,
         decided: bool,
     ) -> Result<Option<Evaluation>, AllocError>
-        requires own { self.old.problem ≡ problem.now }
-        requires graph { shape graph.now ≡ shape_of problem.now }
-        requires sound { IsSound (shape_of problem.now) (node_of node) }
-        requires split { decided ≡ true → IsDecided (shape_of problem.now) (node_of node) }
+        requires own { self.old.problem ≡ site.now }
+        requires sound { IsSound (shape_of site.now) (node_of node) }
+        requires split { decided ≡ true → IsDecided (shape_of site.now) (node_of node) }
         ensures same { self.new ≡ self.old }
-        ensures evaluated { IfOk result (λ found. IfSome found (IsEvaluated IsPastAt problem.now (node_of node) decided)) }
+        ensures evaluated { IfOk result (λ found. IfSome found (IsEvaluated IsPastAt site.now (node_of node) decided)) }
     {
         self.is_walked = false;
-        let told = self.certified.look(alloc, problem, graph, node, decided)?;
+        let told = self.certified.look(alloc, site, node, decided)?;
         Ok(evaluation_of(told))
     }
 
@@ -229,21 +213,17 @@ impl FlowEvaluator {
     fn certify_noted(
         &mut self,
         alloc: Global,
-        problem: &Problem,
-        graph: &Graph,
+        site: &Site<'_>,
         node: Node,
         bound: &LowerBound,
     ) -> Result<Option<Evaluation>, AllocError>
-        requires own { self.old.problem ≡ problem.now }
-        requires graph { shape graph.now ≡ shape_of problem.now }
-        requires sound { IsSound (shape_of problem.now) (node_of node) }
+        requires own { self.old.problem ≡ site.now }
+        requires sound { IsSound (shape_of site.now) (node_of node) }
         ensures same { self.new ≡ self.old }
-        ensures evaluated { IfOk result (λ found. IfSome found (IsEvaluated IsPastAt problem.now (node_of node) false)) }
+        ensures evaluated { IfOk result (λ found. IfSome found (IsEvaluated IsPastAt site.now (node_of node) false)) }
     {
         self.is_walked = false;
-        let told = self
-            .certified
-            .settle(alloc, problem, graph, node, &bound.basis)?;
+        let told = self.certified.settle(alloc, site, node, &bound.basis)?;
         Ok(evaluation_of(told))
     }
 
@@ -252,17 +232,15 @@ impl FlowEvaluator {
     fn with_between(
         &mut self,
         alloc: Global,
-        problem: &Problem,
-        graph: &Graph,
+        site: &Site<'_>,
         node: Node,
         decided: bool,
         told: Evaluation,
     ) -> Result<Evaluation, AllocError>
-        requires own { self.old.problem ≡ problem.now }
-        requires graph { shape graph.now ≡ shape_of problem.now }
-        requires sound { IsSound (shape_of problem.now) (node_of node) }
-        requires told { IsEvaluated IsPastAt problem.now (node_of node) decided told }
-        ensures { IfOk result (IsEvaluated IsPastAt problem.now (node_of node) decided) }
+        requires own { self.old.problem ≡ site.now }
+        requires sound { IsSound (shape_of site.now) (node_of node) }
+        requires told { IsEvaluated IsPastAt site.now (node_of node) decided told }
+        ensures { IfOk result (IsEvaluated IsPastAt site.now (node_of node) decided) }
     {
         if decided {
             return Ok(told);
@@ -270,7 +248,7 @@ impl FlowEvaluator {
         relaxed_duality();
         match told {
             Evaluation::Stopped(stop) => {
-                match self.certified.between(alloc, problem, graph, node)? {
+                match self.certified.between(alloc, site, node)? {
                     Some(between) => {
                         self.is_walked = false;
                         Ok(Evaluation::Least(bound_between(between, stop)))
@@ -286,25 +264,23 @@ impl FlowEvaluator {
     fn valued(
         &mut self,
         alloc: Global,
-        problem: &Problem,
-        graph: &Graph,
+        site: &Site<'_>,
         node: &Node,
         decided: bool,
     ) -> Result<Evaluation, AllocError>
-        requires own { self.old.problem ≡ problem.now }
-        requires graph { shape graph.now ≡ shape_of problem.now }
-        requires sound { IsSound (shape_of problem.now) (node_of node.now) }
-        requires split { decided ≡ true → IsDecided (shape_of problem.now) (node_of node.now) }
-        ensures { IfOk result (IsEvaluated IsPastAt problem.now (node_of node.now) decided) }
+        requires own { self.old.problem ≡ site.now }
+        requires sound { IsSound (shape_of site.now) (node_of node.now) }
+        requires split { decided ≡ true → IsDecided (shape_of site.now) (node_of node.now) }
+        ensures { IfOk result (IsEvaluated IsPastAt site.now (node_of node.now) decided) }
     {
-        if let Some(evaluation) = self.certify(alloc, problem, graph, *node, decided)? {
+        if let Some(evaluation) = self.certify(alloc, site, *node, decided)? {
             self.tries.keep(&evaluation, decided);
             return Ok(evaluation);
         }
         self.has_room();
         self.is_walked = true;
-        let told = evaluate_on(alloc, problem, graph, node, decided, &mut self.bench)?;
-        let evaluation = self.with_between(alloc, problem, graph, *node, decided, told)?;
+        let told = evaluate_on(alloc, site, node, decided, &mut self.bench)?;
+        let evaluation = self.with_between(alloc, site, *node, decided, told)?;
         self.tries.keep(&evaluation, decided);
         Ok(evaluation)
     }
@@ -322,9 +298,10 @@ impl Evaluator for FlowEvaluator {
         graph: &Graph,
         node: Node,
     ) -> Result<FirstLook, AllocError> {
-        self.make_ready(alloc, problem, graph)?;
+        let site = Site::of(problem, graph);
+        self.make_ready(alloc, &site)?;
         self.is_walked = false;
-        let told = self.certified.look_first(alloc, problem, graph, node)?;
+        let told = self.certified.look_first(alloc, &site, node)?;
         let first = first_look_of(told);
         self.tries.keep_first(&first);
         Ok(first)
@@ -338,13 +315,14 @@ impl Evaluator for FlowEvaluator {
         node: Node,
         bound: &LowerBound,
     ) -> Result<Evaluation, AllocError> {
-        self.make_ready(alloc, problem, graph)?;
-        match self.certify_noted(alloc, problem, graph, node, bound)? {
+        let site = Site::of(problem, graph);
+        self.make_ready(alloc, &site)?;
+        match self.certify_noted(alloc, &site, node, bound)? {
             Some(evaluation) => {
                 self.tries.keep(&evaluation, false);
                 Ok(evaluation)
             }
-            None => self.valued(alloc, problem, graph, &node, false),
+            None => self.valued(alloc, &site, &node, false),
         }
     }
 
@@ -356,8 +334,9 @@ impl Evaluator for FlowEvaluator {
         node: Node,
         decided: bool,
     ) -> Result<Evaluation, AllocError> {
-        self.make_ready(alloc, problem, graph)?;
-        self.valued(alloc, problem, graph, &node, decided)
+        let site = Site::of(problem, graph);
+        self.make_ready(alloc, &site)?;
+        self.valued(alloc, &site, &node, decided)
     }
 
     fn prove(
@@ -369,12 +348,13 @@ impl Evaluator for FlowEvaluator {
         cost: i128,
         d: i128,
     ) -> Result<Proof, AllocError> {
-        self.make_ready(alloc, problem, graph)?;
-        if let Some(scaled) = self.certified.prove(alloc, problem, graph, node, cost, d)? {
+        let site = Site::of(problem, graph);
+        self.make_ready(alloc, &site)?;
+        if let Some(scaled) = self.certified.prove(alloc, &site, node, cost, d)? {
             return Ok(Proof::Scaled(scaled));
         }
         self.has_room();
-        prove_on(alloc, problem, graph, &node, &mut self.bench)
+        prove_on(alloc, &site, &node, &mut self.bench)
     }
 
     fn network_at_hand(
@@ -384,14 +364,15 @@ impl Evaluator for FlowEvaluator {
         graph: &Graph,
         node: Node,
     ) -> Result<Option<Network>, AllocError> {
+        let site = Site::of(problem, graph);
         if !self.tries.is_due() {
             return Ok(None);
         }
-        let Some(set) = self.structure_to_try(problem, graph, &node) else {
+        let Some(set) = self.structure_to_try(&site, &node) else {
             return Ok(None);
         };
-        self.make_ready(alloc, problem, graph)?;
-        self.network_of(alloc, problem, graph, &node, set)
+        self.make_ready(alloc, &site)?;
+        self.network_of(alloc, &site, &node, set)
     }
 
     fn sizes(&self) -> &[i64] {

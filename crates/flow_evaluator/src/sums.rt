@@ -5,7 +5,6 @@ ghost use Rattle.integer_laws.specs.Range.{InRange};
 ghost use Rattle.mixed_numbers.specs.Number.{numerator, denominator};
 ghost use Rattle.pns_rules.specs.Shape.{shape_of};
 ghost use Rattle.pns_rules.specs.Ends.{IsSound, IsDecided};
-ghost use Rattle.pgraph.specs.Tables.{shape};
 ghost use Rattle.pgraph.specs.View.{node_of};
 ghost use Rattle.flow_rules.specs.Net.{net_of, beside};
 ghost use Rattle.flow_rules.specs.Flows.{cost};
@@ -25,25 +24,18 @@ use dual_simplex::{
 use flow_program::{bound_of, cost_of, feasible, refutes};
 use flow_rules::{Place, sums_are_last};
 use mixed_numbers::Mixed;
-use pgraph::Graph;
-use pns_problem::Problem;
+use pgraph::Site;
 use unit_sets::Node;
 
 /// After `Least`: the bound of the multipliers over their scale.
-pub(crate) fn value_of(
-    problem: &Problem,
-    graph: &Graph,
-    node: &Node,
-    bench: &Bench,
-) -> Result<Mixed, Place>
-    requires graph { shape graph.now ≡ shape_of problem.now }
-    requires sound { IsSound (shape_of problem.now) (node_of node.now) }
-    requires least { IsLeastOf (program_of (net_of problem.now) (node_of node.now)) bench.now }
-    ensures value { IfOk result (λ v. (numerator v ≡ bound (net_of problem.now) (node_of node.now) bench.now.d (multiplier problem.now (node_of node.now) bench.now.ys)) × (denominator v ≡ bench.now.d)) }
-    ensures formed { OnOk result (IsFormed problem.now (node_of node.now) bench.now.d bench.now.ys) }
-    ensures past { IfErr result (IsPastAt problem.now (node_of node.now) bench.now.nonbasic) }
+pub(crate) fn value_of(site: &Site<'_>, node: &Node, bench: &Bench) -> Result<Mixed, Place>
+    requires sound { IsSound (shape_of site.now) (node_of node.now) }
+    requires least { IsLeastOf (program_of (net_of site.now) (node_of node.now)) bench.now }
+    ensures value { IfOk result (λ v. (numerator v ≡ bound (net_of site.now) (node_of node.now) bench.now.d (multiplier site.now (node_of node.now) bench.now.ys)) × (denominator v ≡ bench.now.d)) }
+    ensures formed { OnOk result (IsFormed site.now (node_of node.now) bench.now.d bench.now.ys) }
+    ensures past { IfErr result (IsPastAt site.now (node_of node.now) bench.now.nonbasic) }
 {
-    problem.is_valid();
+    let (problem, graph) = (site.problem(), site.graph());
     least_is_least();
     bound_is_past();
     names_are_of_program();
@@ -55,18 +47,13 @@ pub(crate) fn value_of(
 }
 
 /// After `None`: whether the bound by which the multipliers refute is formed within the range.
-pub(crate) fn form_refutation(
-    problem: &Problem,
-    graph: &Graph,
-    node: &Node,
-    bench: &Bench,
-) -> Result<(), Place>
-    requires graph { shape graph.now ≡ shape_of problem.now }
-    requires sound { IsSound (shape_of problem.now) (node_of node.now) }
-    requires none { IsNoneOf (program_of (net_of problem.now) (node_of node.now)) bench.now }
-    ensures formed { OnOk result (IsFormed problem.now (node_of node.now) (pos 0) bench.now.ys) }
-    ensures past { IfErr result (IsPastAt problem.now (node_of node.now) bench.now.nonbasic) }
+pub(crate) fn form_refutation(site: &Site<'_>, node: &Node, bench: &Bench) -> Result<(), Place>
+    requires sound { IsSound (shape_of site.now) (node_of node.now) }
+    requires none { IsNoneOf (program_of (net_of site.now) (node_of node.now)) bench.now }
+    ensures formed { OnOk result (IsFormed site.now (node_of node.now) (pos 0) bench.now.ys) }
+    ensures past { IfErr result (IsPastAt site.now (node_of node.now) bench.now.nonbasic) }
 {
+    let (problem, graph) = (site.problem(), site.graph());
     refutation_is_past();
     names_are_of_program();
     match refutes(problem, graph, *node, bench.ys()) {
@@ -79,24 +66,18 @@ pub(crate) fn form_refutation(
 }
 
 /// After `read_flows`, where all is decided: the cost of the flows. All numbers by which they are judged are formed, too.
-pub(crate) fn cost_of_flows(
-    problem: &Problem,
-    graph: &Graph,
-    node: &Node,
-    bench: &Bench,
-) -> Result<i128, Place>
-    requires graph { shape graph.now ≡ shape_of problem.now }
-    requires sound { IsSound (shape_of problem.now) (node_of node.now) }
-    requires decided { IsDecided (shape_of problem.now) (node_of node.now) }
-    requires least { IsLeastOf (program_of (net_of problem.now) (node_of node.now)) bench.now }
-    requires flows { AreFlowsOf (program_of (net_of problem.now) (node_of node.now)) bench.now }
-    ensures cost { IfOk result (λ total. total ≡ cost (net_of problem.now) (has node.now.inside) (beside node.now.inside bench.now.flows) bench.now.flow_den) }
+pub(crate) fn cost_of_flows(site: &Site<'_>, node: &Node, bench: &Bench) -> Result<i128, Place>
+    requires sound { IsSound (shape_of site.now) (node_of node.now) }
+    requires decided { IsDecided (shape_of site.now) (node_of node.now) }
+    requires least { IsLeastOf (program_of (net_of site.now) (node_of node.now)) bench.now }
+    requires flows { AreFlowsOf (program_of (net_of site.now) (node_of node.now)) bench.now }
+    ensures cost { IfOk result (λ total. total ≡ cost (net_of site.now) (has node.now.inside) (beside node.now.inside bench.now.flows) bench.now.flow_den) }
     ensures in_range { IfOk result InRange }
-    ensures costs { OnOk result (AreInRange (cost_steps (net_of problem.now) (has node.now.inside) (beside node.now.inside bench.now.flows) bench.now.flow_den)) }
-    ensures balances { OnOk result (AreInRange (feasible_steps (net_of problem.now) (has node.now.inside) (beside node.now.inside bench.now.flows) bench.now.flow_den)) }
-    ensures past { IfErr result (IsPastAt problem.now (node_of node.now) bench.now.nonbasic) }
+    ensures costs { OnOk result (AreInRange (cost_steps (net_of site.now) (has node.now.inside) (beside node.now.inside bench.now.flows) bench.now.flow_den)) }
+    ensures balances { OnOk result (AreInRange (feasible_steps (net_of site.now) (has node.now.inside) (beside node.now.inside bench.now.flows) bench.now.flow_den)) }
+    ensures past { IfErr result (IsPastAt site.now (node_of node.now) bench.now.nonbasic) }
 {
-    problem.is_valid();
+    let (problem, graph) = (site.problem(), site.graph());
     node.inside.rises();
     sums_are_last();
     split_flows_are_least();

@@ -3,7 +3,6 @@ ghost use Rattle.std.specs.Prelude.{◌≡◌, ◌<◌, ℕ, length, true, IfOk,
 ghost use Rattle.number_sets.specs.Sets.{has};
 ghost use Rattle.pns_rules.specs.Shape.{shape_of};
 ghost use Rattle.pns_rules.specs.Structure.{IsStructure};
-ghost use Rattle.pgraph.specs.Tables.{shape};
 ghost use Rattle.tree_rules.specs.Leaf.{IsRefuted};
 ghost use Rattle.certified_bounds.specs.Certified.{IsLeastBound, IsNetworkAt, HasUnits, IsCertified};
 ghost use Rattle.tree_rules.specs.LeastFlows.{decided};
@@ -15,7 +14,7 @@ use crate::nodes::node_of;
 use branch_tree::{Multipliers, Network};
 use certified_bounds::{Certified, CertifiedBounds, LeastBound};
 use flow_rules::weak_duality;
-use pgraph::Graph;
+use pgraph::Site;
 use pns_problem::Problem;
 use std::alloc::{AllocError, Global};
 use unit_sets::UnitSet;
@@ -64,22 +63,20 @@ fn told(problem: &Problem, set: UnitSet, certified: Certified) -> Option<Structu
 /// What is certified of the flows of the set, if anything. Only a set that is allowed is asked for, since a network that is certified is allowed.
 pub(crate) fn certified(
     alloc: Global,
-    problem: &Problem,
-    graph: &Graph,
+    site: &Site<'_>,
     set: UnitSet,
 ) -> Result<Option<StructureFlows>, AllocError>
-    requires graph { shape graph.now ≡ shape_of problem.now }
-    requires known { (u : ℕ) → has set u ≡ true → u < length problem.now.units }
-    requires structure { IsStructure (shape_of problem.now) (has set) }
-    ensures { IfOk result (λ found. IfSome found (AnswersFor problem.now set)) }
+    requires known { (u : ℕ) → has set u ≡ true → u < length site.now.units }
+    requires structure { IsStructure (shape_of site.now) (has set) }
+    ensures { IfOk result (λ found. IfSome found (AnswersFor site.now set)) }
 {
-    problem.is_valid();
     allowed_is_decided();
+    let (problem, graph) = (site.problem(), site.graph());
     if let Some(_) = graph.clash(set) {
         return Ok(None);
     }
     let node = node_of(problem, set);
     let mut bounds = CertifiedBounds::open(alloc, problem)?;
-    let certified = bounds.look(alloc, problem, graph, node, true)?;
+    let certified = bounds.look(alloc, site, node, true)?;
     Ok(told(problem, set, certified))
 }

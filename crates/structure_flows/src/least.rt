@@ -4,7 +4,6 @@ ghost use Rattle.number_sets.specs.Sets.{has};
 ghost use Rattle.integer_laws.specs.Range.{InRange, AllInRange};
 ghost use Rattle.pns_rules.specs.Shape.{shape_of};
 ghost use Rattle.pns_rules.specs.Structure.{IsStructure};
-ghost use Rattle.pgraph.specs.Tables.{shape};
 ghost use Rattle.flow_rules.specs.Net.{net_of};
 ghost use Rattle.flow_rules.specs.Program.{program_of};
 ghost use Rattle.tree_rules.specs.Known.{KnowsPlace};
@@ -24,7 +23,7 @@ use dual_simplex::{
 };
 use flow_program::{Program, cost_of};
 use flow_rules::{Place, sums_are_last};
-use pgraph::Graph;
+use pgraph::Site;
 use pns_problem::Problem;
 use std::alloc::{AllocError, Global};
 use unit_sets::UnitSet;
@@ -81,20 +80,18 @@ fn kept_bound(alloc: Global, bench: &Bench) -> Result<Scaled, AllocError>
 
 fn least(
     alloc: Global,
-    problem: &Problem,
-    graph: &Graph,
+    site: &Site<'_>,
     set: UnitSet,
     program: &Program,
     bench: &mut Bench,
 ) -> Result<StructureFlows, AllocError>
-    requires graph { shape graph.now ≡ shape_of problem.now }
-    requires known { (u : ℕ) → has set u ≡ true → u < length problem.now.units }
-    requires structure { IsStructure (shape_of problem.now) (has set) }
-    requires program { program.now ≡ program_of (net_of problem.now) (decided problem.now set) }
+    requires known { (u : ℕ) → has set u ≡ true → u < length site.now.units }
+    requires structure { IsStructure (shape_of site.now) (has set) }
+    requires program { program.now ≡ program_of (net_of site.now) (decided site.now set) }
     requires least { IsLeastOf program.now bench.old }
-    ensures { IfOk result (AnswersFor problem.now set) }
+    ensures { IfOk result (AnswersFor site.now set) }
 {
-    problem.is_valid();
+    let (problem, graph) = (site.problem(), site.graph());
     multipliers_prove();
     node_is_decided();
     sums_are_last();
@@ -119,19 +116,12 @@ fn least(
 }
 
 /// What the path of the set's program gives.
-fn walked(
-    alloc: Global,
-    problem: &Problem,
-    graph: &Graph,
-    set: UnitSet,
-) -> Result<StructureFlows, AllocError>
-    requires graph { shape graph.now ≡ shape_of problem.now }
-    requires known { (u : ℕ) → has set u ≡ true → u < length problem.now.units }
-    requires structure { IsStructure (shape_of problem.now) (has set) }
-    ensures { IfOk result (AnswersFor problem.now set) }
+fn walked(alloc: Global, site: &Site<'_>, set: UnitSet) -> Result<StructureFlows, AllocError>
+    requires known { (u : ℕ) → has set u ≡ true → u < length site.now.units }
+    requires structure { IsStructure (shape_of site.now) (has set) }
+    ensures { IfOk result (AnswersFor site.now set) }
 {
-    problem.is_valid();
-    graph.is_proper();
+    let (problem, graph) = (site.problem(), site.graph());
     let node = node_of(problem, set);
     let program = Program::of(alloc, problem, graph, node)?;
     program.is_program();
@@ -141,7 +131,7 @@ fn walked(
     entry_is_past();
     let mut bench = Bench::open(alloc, units.count(), rows.count())?;
     match bench.least(&program) {
-        Ok(Ends::Least) => least(alloc, problem, graph, set, &program, &mut bench),
+        Ok(Ends::Least) => least(alloc, site, set, &program, &mut bench),
         Ok(Ends::None) => refuted(alloc, problem, set, &program, &bench),
         Err(place) => past(alloc, problem, set, &bench, place),
     }
@@ -149,20 +139,14 @@ fn walked(
 
 /// The flows of a solution structure, allowed or not: what the path of its program gives, and where a number on the path is out of
 /// range, what is certified without it.
-pub fn flows_of(
-    alloc: Global,
-    problem: &Problem,
-    graph: &Graph,
-    set: UnitSet,
-) -> Result<StructureFlows, AllocError>
-    requires graph { shape graph.now ≡ shape_of problem.now }
-    requires known { (u : ℕ) → has set u ≡ true → u < length problem.now.units }
-    requires structure { IsStructure (shape_of problem.now) (has set) }
-    ensures { IfOk result (AnswersFor problem.now set) }
+pub fn flows_of(alloc: Global, site: &Site<'_>, set: UnitSet) -> Result<StructureFlows, AllocError>
+    requires known { (u : ℕ) → has set u ≡ true → u < length site.now.units }
+    requires structure { IsStructure (shape_of site.now) (has set) }
+    ensures { IfOk result (AnswersFor site.now set) }
 {
-    match walked(alloc, problem, graph, set)? {
+    match walked(alloc, site, set)? {
         StructureFlows::Past { nonbasic, place } => {
-            match certified(alloc, problem, graph, set)? {
+            match certified(alloc, site, set)? {
                 Some(flows) => Ok(flows),
                 None => Ok(StructureFlows::Past { nonbasic, place }),
             }

@@ -19,7 +19,7 @@ use Rattle.flow_evaluator.proofs.answers.with_flows.Goals as goal
 
 pub returns-in-Err-clause-evaluated : goal.returns-in-Err-clause-evaluated
 returns-in-Err-clause-evaluated c =
-    let p = c.args.problem.now in
+    let p = c.args.site.now in
     let n = node_of c.args.node.now in
     let b = c.read_flows.new.self in
     let own = program_of (net_of p) n in
@@ -35,12 +35,12 @@ returns-in-Err-clause-evaluated c =
 
 pub returns-in-Err-cost_of_flows-clause-evaluated : goal.returns-in-Err-cost_of_flows-clause-evaluated
 returns-in-Err-cost_of_flows-clause-evaluated c =
-    stopped_is c.args.problem.now (node_of c.args.node.now) c.read_flows.new.self.nonbasic c.in-Err-cost_of_flows.place c.stopped-in-Err-cost_of_flows.result
+    stopped_is c.args.site.now (node_of c.args.node.now) c.read_flows.new.self.nonbasic c.in-Err-cost_of_flows.place c.stopped-in-Err-cost_of_flows.result
     c.in-Err-cost_of_flows.ensures.past c.stopped-in-Err-cost_of_flows.ensures true
 
 pub network_at-requires-clause-one_size : goal.network_at-requires-clause-one_size
 network_at-requires-clause-one_size c =
-    let p = c.args.problem.now in
+    let p = c.args.site.now in
     let n = node_of c.args.node.now in
     let b = c.read_flows.new.self in
     let flows : AreFlowsOf c.args.program.now b = c.in_default.ensures.flows in
@@ -49,7 +49,7 @@ network_at-requires-clause-one_size c =
 
 pub returns-in_ok-network-in-Ok-clause-evaluated : goal.returns-in_ok-network-in-Ok-clause-evaluated
 returns-in_ok-network-in-Ok-clause-evaluated c =
-    let p = c.args.problem.now in
+    let p = c.args.site.now in
     let n = node_of c.args.node.now in
     let old = c.args.bench.now in
     let b = c.read_flows.new.self in
@@ -61,7 +61,7 @@ returns-in_ok-network-in-Ok-clause-evaluated c =
     let flows : AreFlowsOf own b = subst (λ (q : Program). AreFlowsOf q b) c.requires.program c.in_default.ensures.flows in
     let low : IsValueAt p n b v = kept_value p n old b v c.read_flows.ensures.d c.read_flows.ensures.ys c.requires.value in
     let formed : IsFormed p n b.d b.ys = kept_steps p n old b c.read_flows.ensures.d c.read_flows.ensures.ys c.requires.formed in
-    let valid = c.is_valid.ensures.valid in
+    let valid = c.problem-_problem.ensures.valid in
     let bound = bound_is p valid n b least c.least_is_least.ensures.scale c.least_is_least.ensures.reached c.least_is_least.ensures.least v low formed in
     let network = network_is p valid c.args.node.now b least flows c.requires.sound c.requires.decided same c.least_is_least.ensures.scale c.split_flows_are_least.ensures.flows
     c.split_flows_are_least.ensures.least v low c.in-Ok.cost c.in-Ok.ensures.cost c.in-Ok.ensures.costs c.in-Ok.ensures.balances in

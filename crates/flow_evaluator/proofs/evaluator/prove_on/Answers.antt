@@ -1,6 +1,7 @@
-use Rattle.std.proofs.Common.{◌≤◌, length, refl, sym, subst, arith, rules}
+use Rattle.std.proofs.Common.{◌≡◌, ◌≤◌, length, refl, sym, subst, arith, rules}
 use Rattle.number_sets.proofs.SetLemmas.{length_listed}
 use Rattle.pns_rules.specs.Structure.{mats}
+use Rattle.problem_rules.specs.Problem.{Problem}
 use Rattle.pgraph.specs.View.{node_of}
 use Rattle.flow_rules.specs.Net.{net_of, beside}
 use Rattle.flow_rules.specs.Program.{Program, program_of}
@@ -13,8 +14,10 @@ use Rattle.flow_evaluator.proofs.evaluator.prove_on.Goals as goal
 
 pub least-requires : goal.least-requires
 least-requires c =
-    let p = c.args.problem.now in
+    let p = c.args.site.now in
     let n = node_of c.args.node.now in
+    let made : c.in_ok-program.program ≡ program_of (net_of p) n =
+    subst (λ (r : Problem). c.in_ok-program.program ≡ program_of (net_of r) n) c.problem.ensures.same c.in_ok-program.ensures in
     let b = c.args.bench.now in
     let few_units : length (units (net_of p) n) ≤ length p.units = length_listed (length p.units) (stays n) in
     let few_rows : length (rows (net_of p) n) ≤ length p.materials = length_listed (length p.materials) (mats (net_of p).graph (stays n)) in
@@ -22,26 +25,28 @@ least-requires c =
       units_fit = omega (arith, few_units, c.requires.room.units_fit);
       rows_fit = omega (arith, few_rows, c.requires.room.rows_fit);
     } in
-    record { fits = subst (λ (q : Program). HasRoom b (length q.units) (length q.rows)) (sym c.in_ok-program.ensures) own }
+    record { fits = subst (λ (q : Program). HasRoom b (length q.units) (length q.rows)) (sym made) own }
 
 pub unreachable-requires : goal.unreachable-requires
 unreachable-requires c =
-    let p = c.args.problem.now in
+    let p = c.args.site.now in
     let n = node_of c.args.node.now in
     let b = c.least.new.self in
     let own = program_of (net_of p) n in
     let none : IsNoneOf own b = search rules in
-    c.refutation.ensures.relaxed p n (beside (rows (net_of p) n) b.ys) (c.none_is_refuted.ensures p c.is_valid.ensures.valid n own b refl none)
+    c.refutation.ensures.relaxed p n (beside (rows (net_of p) n) b.ys) (c.none_is_refuted.ensures p c.problem.ensures.valid n own b refl none)
     c.requires.some.sizes c.requires.some.d c.requires.some.relaxed
 
 pub returns-clause-proved : goal.returns-clause-proved
 returns-clause-proved c =
-    let p = c.args.problem.now in
+    let p = c.args.site.now in
     let n = node_of c.args.node.now in
+    let made : c.in_ok-program.program ≡ program_of (net_of p) n =
+    subst (λ (r : Problem). c.in_ok-program.program ≡ program_of (net_of r) n) c.problem.ensures.same c.in_ok-program.ensures in
     let b = c.least.new.self in
     let own = program_of (net_of p) n in
     let place = c.in-Err.place in
-    let at : IsPastOf own b place = subst (λ (r : Program). IsPastOf r b place) c.in_ok-program.ensures c.in-Err.ensures.past in
+    let at : IsPastOf own b place = subst (λ (r : Program). IsPastOf r b place) made c.in-Err.ensures.past in
     let past : IsPastAt p n b.nonbasic place = record {
       past = c.entry_is_past.ensures (net_of p) n own b place refl at;
       columns = kept_known p n b c.names_are_of_program.ensures.nonbasic at.nonbasic_are;

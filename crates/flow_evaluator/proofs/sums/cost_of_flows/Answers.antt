@@ -3,6 +3,7 @@ use Rattle.std.specs.Int.{w128}
 use Rattle.std.proofs.lemmas.Int.{to_z-of_z}
 use Rattle.number_sets.specs.Sets.{has}
 use Rattle.integer_laws.specs.Range.{InRange}
+use Rattle.problem_rules.specs.Problem.{Problem}
 use Rattle.int_rows.proofs.RangeLemmas.{fits_from_range}
 use Rattle.pgraph.specs.View.{node_of}
 use Rattle.flow_rules.specs.Net.{net_of, beside}
@@ -17,28 +18,29 @@ use Rattle.flow_evaluator.proofs.sums.cost_of_flows.Goals as goal
 
 pub feasible-requires-clause-sizes : goal.feasible-requires-clause-sizes
 feasible-requires-clause-sizes c =
-    let p = c.args.problem.now in
+    let p = c.args.site.now in
     let split = is_split p (node_of c.args.node.now) c.requires.sound c.requires.decided in
     let same = units_inside p c.args.node.now c.rises.ensures.rising c.requires.sound split c.split_flows_are_least.ensures.units in
     ap (λ (zs : List ℤ). length zs) c.flows.ensures ∙ (c.requires.flows.count ∙ ap (λ (us : List ℕ). length us) same)
 
 pub cost_of-requires-clause-sizes : goal.cost_of-requires-clause-sizes
 cost_of-requires-clause-sizes c =
-    let p = c.args.problem.now in
+    let p = c.args.site.now in
     let split = is_split p (node_of c.args.node.now) c.requires.sound c.requires.decided in
     let same = units_inside p c.args.node.now c.rises.ensures.rising c.requires.sound split c.split_flows_are_least.ensures.units in
     ap (λ (zs : List ℤ). length zs) c.flows-2.ensures ∙ (c.requires.flows.count ∙ ap (λ (us : List ℕ). length us) same)
 
 pub returns-in-Err-clause-past : goal.returns-in-Err-clause-past
 returns-in-Err-clause-past c =
-    let p = c.args.problem.now in
+    let p = c.args.site.now in
     let n = node_of c.args.node.now in
     let b = c.args.bench.now in
     let at = c.in-Err.past.at in
     let split = is_split p n c.requires.sound c.requires.decided in
     let same = units_inside p c.args.node.now c.rises.ensures.rising c.requires.sound split c.split_flows_are_least.ensures.units in
     let fits : SFits w128 c.flow_den.result = search rules in
-    let first : IsFirstPast (feasible_steps (net_of p) n.inside (beside c.args.node.now.inside c.flows.result.now) c.flow_den.result) at = c.in-Err.ensures.past in
+    let first : IsFirstPast (feasible_steps (net_of p) n.inside (beside c.args.node.now.inside c.flows.result.now) c.flow_den.result) at =
+    subst (λ (r : Problem). IsFirstPast (feasible_steps (net_of r) n.inside (beside c.args.node.now.inside c.flows.result.now) c.flow_den.result) at) c.problem-problem.ensures.same c.in-Err.ensures.past in
     record {
       past = c.balance_is_past.ensures (net_of p) n (program_of (net_of p) n) b at refl c.requires.least c.requires.flows
           (c.split_flows_are_least.ensures.decided (net_of p) n split)
@@ -49,14 +51,14 @@ returns-in-Err-clause-past c =
 
 pub returns-in-Err-cost_of-clause-past : goal.returns-in-Err-cost_of-clause-past
 returns-in-Err-cost_of-clause-past c =
-    let p = c.args.problem.now in
+    let p = c.args.site.now in
     let n = node_of c.args.node.now in
     let b = c.args.bench.now in
     let at = c.in-Err-cost_of.past.at in
     let split = is_split p n c.requires.sound c.requires.decided in
     let same = units_inside p c.args.node.now c.rises.ensures.rising c.requires.sound split c.split_flows_are_least.ensures.units in
     let fits : SFits w128 c.flow_den-2.result = search rules in
-    let first : IsFirstPast (cost_steps (net_of p) n.inside (beside c.args.node.now.inside c.flows-2.result.now) c.flow_den-2.result) at = simp to_z-of_z at c.in-Err-cost_of.ensures.past in
+    let first : IsFirstPast (cost_steps (net_of p) n.inside (beside c.args.node.now.inside c.flows-2.result.now) c.flow_den-2.result) at = simp (to_z-of_z, c.problem-problem.ensures.same) at c.in-Err-cost_of.ensures.past in
     record {
       past = c.cost_is_past.ensures (net_of p) n (program_of (net_of p) n) b at refl c.requires.least c.requires.flows
           (c.split_flows_are_least.ensures.decided (net_of p) n split)
@@ -67,13 +69,13 @@ returns-in-Err-cost_of-clause-past c =
 
 pub returns-in-Ok-clause-in_range : goal.returns-in-Ok-clause-in_range
 returns-in-Ok-clause-in_range c =
-    let p = c.args.problem.now in
+    let p = c.args.site.now in
     let s = has c.args.node.now.inside in
     let z = beside c.args.node.now.inside c.flows-2.result.now in
     let d = c.flow_den-2.result in
     let fits : SFits w128 c.flow_den-2.result = search rules in
-    let steps : AreInRange (cost_steps (net_of p) s z d) = simp to_z-of_z at c.in-Ok.ensures.in_range in
-    let value : c.in-Ok.cost ≡ cost (net_of p) s z d = simp to_z-of_z at c.in-Ok.ensures.value in
+    let steps : AreInRange (cost_steps (net_of p) s z d) = simp (to_z-of_z, c.problem-problem.ensures.same) at c.in-Ok.ensures.in_range in
+    let value : c.in-Ok.cost ≡ cost (net_of p) s z d = simp (to_z-of_z, c.problem-problem.ensures.same) at c.in-Ok.ensures.value in
     let range : InRange c.in-Ok.cost =
     subst InRange (c.sums_are_last.ensures.cost p s z d ∙ sym value) (last_in_range (pos 0) (cost_steps (net_of p) s z d) (search rules) steps) in
     let fits_cost : SFits w128 c.in-Ok.cost = fits_from_range _ range in

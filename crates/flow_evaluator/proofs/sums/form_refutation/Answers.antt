@@ -1,4 +1,5 @@
 use Rattle.std.proofs.Common.{pos, List, ℤ, refl, sym, subst}
+use Rattle.problem_rules.specs.Problem.{Problem}
 use Rattle.pgraph.specs.View.{node_of}
 use Rattle.flow_rules.specs.Net.{net_of}
 use Rattle.flow_rules.specs.Program.{program_of}
@@ -13,13 +14,13 @@ use Rattle.flow_evaluator.proofs.sums.form_refutation.Goals as goal
 
 pub returns-in-Err-clause-past : goal.returns-in-Err-clause-past
 returns-in-Err-clause-past c =
-    let p = c.args.problem.now in
+    let p = c.args.site.now in
     let n = node_of c.args.node.now in
     let b = c.args.bench.now in
     let own = program_of (net_of p) n in
     let at = c.in-Err.past.at in
     let first : IsFirstPast (bound_steps (net_of p) n (pos 0) (multiplier p n b.ys)) at =
-    subst (λ (ys : List ℤ). IsFirstPast (bound_steps (net_of p) n (pos 0) (multiplier p n ys)) at) c.ys.ensures c.in-Err.ensures.past in
+    subst (λ (ys : List ℤ). IsFirstPast (bound_steps (net_of p) n (pos 0) (multiplier p n ys)) at) c.ys.ensures (subst (λ (r : Problem). IsFirstPast (bound_steps (net_of r) n (pos 0) (multiplier r n c.ys.result.now)) at) c.problem-problem.ensures.same c.in-Err.ensures.past) in
     let whole : IsPastAt p n b.nonbasic (Refute b.row at) = record {
       past = c.refutation_is_past.ensures (net_of p) n own b at refl c.requires.none first;
       columns = kept_known p n b c.names_are_of_program.ensures.nonbasic c.requires.none.nonbasic_are;

@@ -3,6 +3,7 @@ use Rattle.std.specs.Int.{w128}
 use Rattle.std.proofs.lemmas.Int.{to_z-of_z}
 use Rattle.mixed_numbers.specs.Number.{numerator, denominator}
 use Rattle.integer_laws.specs.Range.{InRange}
+use Rattle.problem_rules.specs.Problem.{Problem}
 use Rattle.int_rows.proofs.RangeLemmas.{fits_from_range}
 use Rattle.pgraph.specs.View.{node_of}
 use Rattle.flow_rules.specs.Net.{net_of}
@@ -17,22 +18,23 @@ use Rattle.flow_evaluator.proofs.sums.value_of.Goals as goal
 
 pub of-requires : goal.of-requires
 of-requires c =
-    let p = c.args.problem.now in
+    let p = c.args.site.now in
     let n = node_of c.args.node.now in
     let b = c.args.bench.now in
-    let scale : pos 1 ≤ℤ b.d = c.least_is_least.ensures.scale p c.is_valid.ensures.valid n (program_of (net_of p) n) b refl c.requires.least in
+    let scale : pos 1 ≤ℤ b.d = c.least_is_least.ensures.scale p c.problem-problem.ensures.valid n (program_of (net_of p) n) b refl c.requires.least in
     let fits : SFits w128 c.d-in-Ok.result = search rules in
     let one : pos 1 ≤ℤ c.d-in-Ok.result = subst (λ (z : ℤ). pos 1 ≤ℤ z) (sym c.d-in-Ok.ensures) scale in
     simp to_z-of_z one
 
 pub returns-in-Err-clause-past : goal.returns-in-Err-clause-past
 returns-in-Err-clause-past c =
-    let p = c.args.problem.now in
+    let p = c.args.site.now in
     let n = node_of c.args.node.now in
     let b = c.args.bench.now in
     let at = c.in-Err.past.at in
     let fits : SFits w128 c.d.result = search rules in
-    let read : IsFirstPast (bound_steps (net_of p) n (to_z w128 (of_z w128 c.d.result)) (multiplier p n c.ys.result.now)) at = c.in-Err.ensures.past in
+    let read : IsFirstPast (bound_steps (net_of p) n (to_z w128 (of_z w128 c.d.result)) (multiplier p n c.ys.result.now)) at =
+    subst (λ (r : Problem). IsFirstPast (bound_steps (net_of r) n (to_z w128 (of_z w128 c.d.result)) (multiplier r n c.ys.result.now)) at) c.problem-problem.ensures.same c.in-Err.ensures.past in
     let kept : to_z w128 (of_z w128 c.d.result) ≡ c.d.result = to_z-of_z _ _ fits in
     let first : IsFirstPast (bound_steps (net_of p) n c.d.result (multiplier p n c.ys.result.now)) at =
     subst (λ (d : ℤ). IsFirstPast (bound_steps (net_of p) n d (multiplier p n c.ys.result.now)) at) kept read in
@@ -46,13 +48,19 @@ returns-in-Err-clause-past c =
 
 pub returns-in-Ok-clause-value : goal.returns-in-Ok-clause-value
 returns-in-Ok-clause-value c =
-    let p = c.args.problem.now in
+    let p = c.args.site.now in
     let n = node_of c.args.node.now in
     let b = c.args.bench.now in
     let fits : SFits w128 c.d.result = search rules in
     let fits_in : SFits w128 c.d-in-Ok.result = search rules in
-    let steps : AreInRange (bound_steps (net_of p) n c.d.result (multiplier p n c.ys.result.now)) = simp to_z-of_z at c.in-Ok.ensures.in_range in
-    let value : c.in-Ok.bound ≡ bound (net_of p) n c.d.result (multiplier p n c.ys.result.now) = simp to_z-of_z at c.in-Ok.ensures.value in
+    let q = c.problem-problem.result.now in
+    let same = c.problem-problem.ensures.same in
+    let own_steps : AreInRange (bound_steps (net_of q) n c.d.result (multiplier q n c.ys.result.now)) = simp to_z-of_z at c.in-Ok.ensures.in_range in
+    let own_value : c.in-Ok.bound ≡ bound (net_of q) n c.d.result (multiplier q n c.ys.result.now) = simp to_z-of_z at c.in-Ok.ensures.value in
+    let steps : AreInRange (bound_steps (net_of p) n c.d.result (multiplier p n c.ys.result.now)) =
+    subst (λ (r : Problem). AreInRange (bound_steps (net_of r) n c.d.result (multiplier r n c.ys.result.now))) same own_steps in
+    let value : c.in-Ok.bound ≡ bound (net_of p) n c.d.result (multiplier p n c.ys.result.now) =
+    subst (λ (r : Problem). c.in-Ok.bound ≡ bound (net_of r) n c.d.result (multiplier r n c.ys.result.now)) same own_value in
     let range : InRange c.in-Ok.bound =
     subst InRange (c.sums_are_last.ensures.bound p n c.d.result (multiplier p n c.ys.result.now) ∙ sym value)
     (last_in_range (pos 0) (bound_steps (net_of p) n c.d.result (multiplier p n c.ys.result.now)) (search rules) steps) in

@@ -4,6 +4,7 @@ use Rattle.std.proofs.lemmas.Int.{to_z-of_z}
 use Rattle.number_sets.specs.Sets.{has}
 use Rattle.integer_laws.specs.Range.{InRange, AllInRange}
 use Rattle.int_rows.proofs.RangeLemmas.{fits_from_range}
+use Rattle.problem_rules.specs.Problem.{Problem}
 use Rattle.flow_rules.specs.Net.{net_of, beside}
 use Rattle.flow_rules.specs.Flows.{cost}
 use Rattle.flow_rules.specs.Relaxed.{units}
@@ -14,6 +15,8 @@ use Rattle.branch_tree.specs.Scaled.{Scaled}
 use Rattle.dual_simplex.specs.Bench.{IsLeastOf, AreFlowsOf}
 use Rattle.tree_rules.specs.Known.{KnowsPlace}
 use Rattle.dual_simplex.specs.PastPlace.{IsPastFlowOf}
+use Rattle.dual_simplex.specs.PastLaws.{IsPastHere}
+use Rattle.flow_rules.specs.declared.place.Place.TheVariants.{Cost}
 use Rattle.tree_rules.specs.LeastFlows.{decided}
 use Rattle.structure_flows.specs.Answers.{IsLeastFor}
 use Rattle.structure_flows.proofs.AnswerLemmas.{last_in_range, set_of_problem, one_each_unit, Reached, least_for}
@@ -22,7 +25,7 @@ use Rattle.structure_flows.proofs.least.least.Goals as goal
 
 pub cost_of-requires-clause-sizes : goal.cost_of-requires-clause-sizes
 cost_of-requires-clause-sizes c =
-    let p = c.args.problem.now in
+    let p = c.args.site.now in
     let us = c.args.set in
     let b = c.read_flows.new.self in
     let n = decided p us in
@@ -35,7 +38,7 @@ cost_of-requires-clause-sizes c =
 
 pub of-requires-clause-one_size : goal.of-requires-clause-one_size
 of-requires-clause-one_size c =
-    let p = c.args.problem.now in
+    let p = c.args.site.now in
     let us = c.args.set in
     let b = c.read_flows.new.self in
     let n = decided p us in
@@ -48,7 +51,7 @@ of-requires-clause-one_size c =
 
 pub of-requires-clause-cost_in_range : goal.of-requires-clause-cost_in_range
 of-requires-clause-cost_in_range c =
-    let p = c.args.problem.now in
+    let p = c.args.site.now in
     let us = c.args.set in
     let b = c.read_flows.new.self in
     let n = decided p us in
@@ -60,30 +63,32 @@ of-requires-clause-cost_in_range c =
     let fd : SFits w128 c.flow_den-den.result = search rules in
     let den : c.flow_den-den.result ≡ b.flow_den = c.flow_den-den.ensures in
     let read : c.deref.result.now ≡ b.flows = c.deref.ensures.value ∙ items in
-    let steps : AreInRange (cost_steps (net_of p) (has us) (beside us c.deref.result.now) c.flow_den-den.result) = simp to_z-of_z at c.in-Ok.ensures.in_range in
-    let value : c.in-Ok.cost ≡ cost (net_of p) (has us) (beside us c.deref.result.now) c.flow_den-den.result = simp to_z-of_z at c.in-Ok.ensures.value in
+    let steps : AreInRange (cost_steps (net_of p) (has us) (beside us c.deref.result.now) c.flow_den-den.result) = simp (to_z-of_z, c.problem-problem.ensures.same) at c.in-Ok.ensures.in_range in
+    let value : c.in-Ok.cost ≡ cost (net_of p) (has us) (beside us c.deref.result.now) c.flow_den-den.result = simp (to_z-of_z, c.problem-problem.ensures.same) at c.in-Ok.ensures.value in
     let range : InRange c.in-Ok.cost = subst InRange (c.sums_are_last.ensures.cost p (has us) (beside us c.deref.result.now) c.flow_den-den.result ∙ sym value) (last_in_range (pos 0) (cost_steps (net_of p) (has us) (beside us c.deref.result.now) c.flow_den-den.result) (search rules) steps) in
     let fc : SFits w128 c.in-Ok.cost = fits_from_range _ range in
     simp to_z-of_z range
 
 pub past-requires-clause-past : goal.past-requires-clause-past
 past-requires-clause-past c =
-    let p = c.args.problem.now in
+    let p = c.args.site.now in
     let us = c.args.set in
     let n = decided p us in
     let set = set_of_problem (length p.units) us c.rises.ensures c.requires.known in
     let node = c.node_is_decided.ensures p us set in
-    c.flow_is_past.ensures (net_of p) n c.args.program.now c.read_flows.new.self c.in-Err.place c.requires.program c.read_flows.ensures.least (c.split_flows_are_least.ensures.decided (net_of p) n node.0) c.in-Err.ensures.past
+    subst (λ (r : Problem). IsPastHere (net_of r) (decided r us) c.read_flows.new.self c.in-Err.place) (sym c.problem-problem.ensures.same)
+    (c.flow_is_past.ensures (net_of p) n c.args.program.now c.read_flows.new.self c.in-Err.place c.requires.program c.read_flows.ensures.least (c.split_flows_are_least.ensures.decided (net_of p) n node.0) c.in-Err.ensures.past)
 
 pub past-requires-clause-known : goal.past-requires-clause-known
 past-requires-clause-known c =
-    let p = c.args.problem.now in
+    let p = c.args.site.now in
     let past : IsPastFlowOf c.args.program.now c.read_flows.new.self c.in-Err.place = c.in-Err.ensures.past in
-    subst (KnowsPlace p) (sym past.named) (flow_known p (decided p c.args.set) c.args.program.now c.requires.program past.unit past.step past.is_unit)
+    subst (λ (r : Problem). KnowsPlace r c.in-Err.place) (sym c.problem-problem.ensures.same)
+    (subst (KnowsPlace p) (sym past.named) (flow_known p (decided p c.args.set) c.args.program.now c.requires.program past.unit past.step past.is_unit))
 
 pub past-requires-in-Err-cost_of-clause-past : goal.past-requires-in-Err-cost_of-clause-past
 past-requires-in-Err-cost_of-clause-past c =
-    let p = c.args.problem.now in
+    let p = c.args.site.now in
     let us = c.args.set in
     let b = c.read_flows.new.self in
     let n = decided p us in
@@ -96,11 +101,12 @@ past-requires-in-Err-cost_of-clause-past c =
     let fd : SFits w128 c.flow_den-den.result = search rules in
     let den : c.flow_den-den.result ≡ b.flow_den = c.flow_den-den.ensures in
     let read : c.deref.result.now ≡ b.flows = c.deref.ensures.value ∙ items in
-    let past : IsFirstPast (cost_steps (net_of p) (has us) (beside us c.deref.result.now) c.flow_den-den.result) c.in-Err-cost_of.sum.at = simp to_z-of_z at c.in-Err-cost_of.ensures.past in
-    c.cost_is_past.ensures (net_of p) n q b c.in-Err-cost_of.sum.at c.requires.program c.read_flows.ensures.least f (c.split_flows_are_least.ensures.decided (net_of p) n node.0)
+    let past : IsFirstPast (cost_steps (net_of p) (has us) (beside us c.deref.result.now) c.flow_den-den.result) c.in-Err-cost_of.sum.at = simp (to_z-of_z, c.problem-problem.ensures.same) at c.in-Err-cost_of.ensures.past in
+    subst (λ (r : Problem). IsPastHere (net_of r) (decided r us) b (Cost c.in-Err-cost_of.sum.at)) (sym c.problem-problem.ensures.same)
+    (c.cost_is_past.ensures (net_of p) n q b c.in-Err-cost_of.sum.at c.requires.program c.read_flows.ensures.least f (c.split_flows_are_least.ensures.decided (net_of p) n node.0)
     (subst (λ (is : List ℕ). IsFirstPast (cost_steps (net_of p) (has us) (beside is b.flows) b.flow_den) c.in-Err-cost_of.sum.at) (sym same)
     (subst (λ (zs : List ℤ). IsFirstPast (cost_steps (net_of p) (has us) (beside us zs) b.flow_den) c.in-Err-cost_of.sum.at) read
-    (subst (λ (e : ℤ). IsFirstPast (cost_steps (net_of p) (has us) (beside us c.deref.result.now) e) c.in-Err-cost_of.sum.at) den past)))
+    (subst (λ (e : ℤ). IsFirstPast (cost_steps (net_of p) (has us) (beside us c.deref.result.now) e) c.in-Err-cost_of.sum.at) den past))))
 
 pub of-requires-clause-sizes_in_range : goal.of-requires-clause-sizes_in_range
 of-requires-clause-sizes_in_range c =
@@ -116,7 +122,7 @@ kept_bound-requires-clause-multipliers c =
 
 pub returns-in-Ok : goal.returns-in-Ok
 returns-in-Ok c =
-    let p = c.args.problem.now in
+    let p = c.args.site.now in
     let us = c.args.set in
     let b = c.read_flows.new.self in
     let n = decided p us in
@@ -128,13 +134,13 @@ returns-in-Ok c =
     let fd : SFits w128 c.flow_den-den.result = search rules in
     let den : c.flow_den-den.result ≡ b.flow_den = c.flow_den-den.ensures in
     let read : c.deref.result.now ≡ b.flows = c.deref.ensures.value ∙ items in
-    let steps : AreInRange (cost_steps (net_of p) (has us) (beside us c.deref.result.now) c.flow_den-den.result) = simp to_z-of_z at c.in-Ok.ensures.in_range in
-    let value : c.in-Ok.cost ≡ cost (net_of p) (has us) (beside us c.deref.result.now) c.flow_den-den.result = simp to_z-of_z at c.in-Ok.ensures.value in
+    let steps : AreInRange (cost_steps (net_of p) (has us) (beside us c.deref.result.now) c.flow_den-den.result) = simp (to_z-of_z, c.problem-problem.ensures.same) at c.in-Ok.ensures.in_range in
+    let value : c.in-Ok.cost ≡ cost (net_of p) (has us) (beside us c.deref.result.now) c.flow_den-den.result = simp (to_z-of_z, c.problem-problem.ensures.same) at c.in-Ok.ensures.value in
     let range : InRange c.in-Ok.cost = subst InRange (c.sums_are_last.ensures.cost p (has us) (beside us c.deref.result.now) c.flow_den-den.result ∙ sym value) (last_in_range (pos 0) (cost_steps (net_of p) (has us) (beside us c.deref.result.now) c.flow_den-den.result) (search rules) steps) in
     let fc : SFits w128 c.in-Ok.cost = fits_from_range _ range in
     let q = c.args.program.now in
     let l : IsLeastOf q b = c.read_flows.ensures.least in
-    let v = c.is_valid.ensures.valid in
+    let v = c.problem-problem.ensures.valid in
     let reached : Reached p us b = record {
       flows = c.split_flows_are_least.ensures.flows p v n q b node.0 c.requires.program l f;
       positive = c.least_is_least.ensures.scale p v n q b c.requires.program l;

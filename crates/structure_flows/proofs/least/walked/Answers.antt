@@ -1,6 +1,8 @@
-use Rattle.std.proofs.Common.{◌≤◌, subst, sym, ℕ, rules}
+use Rattle.std.proofs.Common.{◌≡◌, ◌≤◌, ◌∙◌, ap, subst, sym, ℕ}
 use Rattle.number_sets.proofs.SetLemmas.{length_below}
+use Rattle.pns_rules.specs.Nodes.{Node}
 use Rattle.flow_rules.specs.Net.{net_of}
+use Rattle.flow_rules.specs.Program.{program_of}
 use Rattle.tree_rules.specs.Known.{KnowsPlace}
 use Rattle.dual_simplex.specs.PastPlace.{IsPastOf}
 use Rattle.tree_rules.specs.LeastFlows.{decided}
@@ -19,11 +21,15 @@ open-requires-clause-rows c =
 
 pub past-requires-clause-past : goal.past-requires-clause-past
 past-requires-clause-past c =
-    let p = c.args.problem.now in
-    c.entry_is_past.ensures (net_of p) (decided p c.args.set) c.in_ok-program.program c.least.new.self c.in-Err.place (search rules) c.in-Err.ensures.past
+    let p = c.problem-problem.result.now in
+    let n = decided p c.args.set in
+    let own : c.in_ok-program.program ≡ program_of (net_of p) n = c.in_ok-program.ensures ∙ ap (λ (m : Node). program_of (net_of p) m) c.node_of-node.ensures.node in
+    c.entry_is_past.ensures (net_of p) n c.in_ok-program.program c.least.new.self c.in-Err.place own c.in-Err.ensures.past
 
 pub past-requires-clause-known : goal.past-requires-clause-known
 past-requires-clause-known c =
-    let p = c.args.problem.now in
+    let p = c.problem-problem.result.now in
+    let n = decided p c.args.set in
+    let own : c.in_ok-program.program ≡ program_of (net_of p) n = c.in_ok-program.ensures ∙ ap (λ (m : Node). program_of (net_of p) m) c.node_of-node.ensures.node in
     let past : IsPastOf c.in_ok-program.program c.least.new.self c.in-Err.place = c.in-Err.ensures.past in
-    subst (KnowsPlace p) (sym past.named) (entry_known p (decided p c.args.set) c.in_ok-program.program (search rules) past.leaves past.enters past.row past.column past.which)
+    subst (KnowsPlace p) (sym past.named) (entry_known p n c.in_ok-program.program own past.leaves past.enters past.row past.column past.which)

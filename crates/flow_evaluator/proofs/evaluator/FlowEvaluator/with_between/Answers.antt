@@ -10,7 +10,7 @@ use Rattle.flow_evaluator.proofs.evaluator.FlowEvaluator.with_between.Goals as g
 
 pub returns-in-Some : goal.returns-in-Some
 returns-in-Some c =
-    let p = c.args.problem.now in
+    let p = c.args.site.now in
     let n = node_of c.args.node in
     let past : IsEvaluated IsPastAt p n c.args.decided (Stopped c.in-Stopped.stop) = subst (IsEvaluated IsPastAt p n c.args.decided) c.in-Stopped.is c.requires.told in
     let found : IfSome (Some c.in-Some.between) (IsBetween p n) = subst (λ (o : Option Between). IfSome o (IsBetween p n)) c.in-Some.is c.in_ok-between-in-Stopped.ensures.between in
