@@ -22,7 +22,7 @@ use branch_tree::{Claim, Tail, Tree};
 use command_files::{problem_of, tree_of};
 use endings::say::{say, say_memory, say_of, say_printed};
 use part_rules::MergeFault;
-use pgraph::Graph;
+use pgraph::{Graph, Site};
 use pns_io::{Shelf, Sink};
 use pns_problem::Problem;
 use refusal_words::{say_node, why_word};
@@ -178,7 +178,7 @@ fn say_merged<K: Sink>(
     let Ok(graph) = Graph::of(alloc, problem) else {
         return say_memory(out);
     };
-    match merge_all(alloc, problem, &graph, claim, tree, parts) {
+    match merge_all(alloc, &Site::of(problem, &graph), claim, tree, parts) {
         Ok((both, grown)) => say_tree_text(alloc, out, problem, &both, &grown),
         Err(stop) => {
             let name = names[stop.part].as_str();

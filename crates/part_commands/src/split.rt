@@ -13,7 +13,7 @@ ghost use Rattle.studio_rules.specs.Keeps.{Keeps};
 use branch_tree::{Claim, Tree};
 use command_files::{problem_of, tree_of};
 use endings::say::{say, say_memory, say_of};
-use pgraph::Graph;
+use pgraph::{Graph, Site};
 use pns_io::{Shelf, Sink};
 use pns_problem::Problem;
 use refusal_words::{say_node, why_word};
@@ -76,7 +76,7 @@ fn say_split<K: Sink>(
     let Ok(graph) = Graph::of(alloc, problem) else {
         return say_memory(out);
     };
-    match open_leaves(alloc, problem, &graph, claim, tree) {
+    match open_leaves(alloc, &Site::of(problem, &graph), claim, tree) {
         Ok(leaves) => say_leaves(alloc, out, &leaves),
         Err(Refusal::Claim(why)) => {
             say_of(alloc, out, "refused claim ", why_word(why), Status::Refused)
