@@ -47,8 +47,8 @@ pub fn check_from(
     // A refusal names the first fault, and a first fault is named.
     ensures refuses { IfErr result (Refuses partial site.now (node_of start.now) (claim_of claim.now) tree.now) }
     ensures names_claim { NamesClaim partial site.now (claim_of claim.now) result }
-    ensures names_node { NamesNode partial site.now (node_of start.now) (claim_of claim.now) tree.now
-        result }
+    ensures names_node { NamesNode partial site.now (node_of start.now) (claim_of claim.now)
+        tree.now result }
 {
     claim_has_one_fault();
     tree_has_one_fault();
