@@ -1,0 +1,9 @@
+pub mod BendLemmas
+pub mod CoverLemmas
+pub mod FreeLemmas
+pub mod KneeLemmas
+pub mod OwnLemmas
+pub mod UnitLemmas
+pub mod ColumnLemmas
+pub mod RowLemmas
+pub mod TableLemmas

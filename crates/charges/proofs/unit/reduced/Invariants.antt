@@ -1,0 +1,10 @@
+use Rattle.number_sets.specs.Sets.{IsSet}
+use Rattle.flow_program.specs.Entry.{entry}
+use Rattle.flow_program.proofs.BoundSumLemmas.{IsReducedSoFar}
+use Rattle.charges.proofs.unit.reduced.Given as goal
+
+abbrev pub invariant-loop-j : goal.invariant-loop-j
+invariant-loop-j l = record {
+  is_set : IsSet 256 l.j-iterator;
+  so_far : IsReducedSoFar (entry l.fn.ys) (entry l.fn.rates) l.fn.materials l.fn.cost l.rest l.fn.start l.at l.j-iterator;
+}

@@ -1,0 +1,24 @@
+-- What the code keeps of knees and of what is owed.
+use Rattle.std.specs.Prelude.{ℕ, ℤ, ◌+ℤ◌, ◌-ℤ◌, ◌*ℤ◌, List, [], ◌∷◌, map}
+use Rattle.flow_program.specs.Entry.{entry}
+use Rattle.charge_rules.specs.Charge as rules
+use Rattle.charge_rules.specs.Charge.{sorted}
+use Rattle.charges.specs.declared.bending.Owed.{Owed}
+use Rattle.charges.specs.declared.knees.Knees.{Knees}
+
+abbrev pub as_owed : Owed → rules.Owed
+as_owed o = record { each = o.each; once = o.once }
+
+abbrev pub knee : ℤ → ℤ → rules.Knee
+knee at worth = record { at = at; worth = worth }
+
+-- the knee of a material, and those of a set in the order in which they count
+abbrev pub knee_at : Knees → ℕ → rules.Knee
+knee_at k j = knee (entry k.at j) (entry k.worth j)
+
+abbrev pub knees_in : Knees → List ℕ → List rules.Knee
+knees_in k js = sorted (map (knee_at k) js)
+
+-- the steps for a knee of which so much counts
+abbrev pub three_steps : ℤ → ℤ → ℤ → ℤ → List ℤ
+three_steps part at each once = (part *ℤ at) ∷ (once -ℤ part *ℤ at) ∷ (each +ℤ part) ∷ []

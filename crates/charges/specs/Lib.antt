@@ -1,0 +1,5 @@
+pub mod Bends
+pub mod Columns
+pub mod Firsts
+pub mod Known
+pub mod Sets
