@@ -1,6 +1,6 @@
 -- Lines that are appended one after another.
 use Rattle.std.proofs.Common.{◌≡◌, ℕ, Bool, true, false, List, [], ◌∷◌, ◌++◌, map, refl, sym, ap, ◌∙◌, append_assoc, append-nil, codes}
-use Rattle.std.specs.Prelude.{flat_map, if◌then◌else◌, Result, Ok, Err, OnOk}
+use Rattle.std.specs.Prelude.{flat_map, if◌then◌else◌, Option, Some, None, Result, Ok, Err, OnOk, IfSome}
 use Rattle.pns_problem.specs.Printing.{printed}
 use Rattle.report_rules.specs.Graph.{node_line}
 use Rattle.pns_problem.proofs.PrintingLemmas.{after}
@@ -25,6 +25,10 @@ where_true false x e = let f : false ≡ true = e in cc
 pub on_ok : {A E : Type 0} (r : Result A E) (P Q : Type 0) → (P → Q) → OnOk r P → OnOk r Q
 on_ok (Ok v) P Q more h = more h
 on_ok (Err e) P Q more h = tt
+
+pub if_some : {A : Type 0} (o : Option A) (P Q : A → Type 0) → ((a : A) → P a → Q a) → IfSome o P → IfSome o Q
+if_some (Some a) P Q more h = more a h
+if_some None P Q more h = tt
 
 -- the lines to come finish the text: one line of them, and some
 pub next_line : (line : ℕ → List ℕ) (left rest : List ℕ) (k : ℕ) (whole text t1 t2 : List ℕ) → left ≡ k ∷ rest → t1 ≡ text ++ line k → t2 ≡ t1 ++ 10 ∷ [] → text ++ printed (map line left) ≡ whole → t2 ++ printed (map line rest) ≡ whole

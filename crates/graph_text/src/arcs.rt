@@ -1,5 +1,5 @@
 //! The lines of arcs.
-ghost use Rattle.std.specs.Prelude.{◌≡◌, ◌≢◌, ◌++◌, ◌<◌, ◌*ℤ◌, ℕ, [], pos, Some, true, OnOk, IfSome, option_map, string_bytes, length, map};
+ghost use Rattle.std.specs.Prelude.{◌≡◌, ◌++◌, ◌<◌, ℕ, [], pos, Some, true, OnOk, IfSome, option_map, string_bytes, length, map};
 ghost use Rattle.integer_laws.specs.Range.{InRange};
 ghost use Rattle.number_sets.specs.Sets.{has};
 ghost use Rattle.problem_rules.specs.Problem.{rate_of};
@@ -9,14 +9,13 @@ ghost use Rattle.report_rules.specs.Drawn.{moved, arc_flow};
 ghost use Rattle.report_rules.specs.Graph.{attributes, arc_attributes, input_line, output_line};
 ghost use Rattle.report_rules.specs.declared.role.Role.TheVariants.{Planned, Running};
 
-use crate::names::{material_name, unit_name};
 use crate::nodes::push_node;
 use crate::numbers::push_flow;
 use branch_tree::Network;
 use flow_program::rate_at;
 use pns_problem::{Problem, Term, amount_text};
 use pns_rules::valid_is_proper;
-use pns_tables::size_at;
+use pns_tables::{moved_at, size_at};
 use std::alloc::{AllocError, Global};
 
 /// The rate of an arc, where it is not 1.
@@ -33,14 +32,6 @@ fn push_rate(alloc: Global, text: &mut String, rate: i64) -> Result<(), AllocErr
     Ok(())
 }
 
-fn product(rate: i64, size: i128) -> i128
-    requires { rate ≢ pos 0 → InRange (rate *ℤ size) }
-    ensures value { result ≡ rate *ℤ size }
-    ensures in_range { InRange result }
-{
-    if rate == 0 { 0 } else { rate as i128 * size }
-}
-
 /// What a unit of the network makes of the material less what it uses of it, in 10^-12 over d.
 fn moved(problem: &Problem, network: &Network, u: u32, j: u32) -> i128
     requires unit { u < length problem.now.units }
@@ -51,7 +42,7 @@ fn moved(problem: &Problem, network: &Network, u: u32, j: u32) -> i128
 {
     problem.is_valid();
     valid_is_proper();
-    product(rate_at(problem, j, u), size_at(network, u))
+    moved_at(rate_at(problem, j, u), size_at(network, u))
 }
 
 /// The flow of an arc of a unit that runs.
@@ -131,9 +122,9 @@ fn push_input(
     ensures { OnOk result (string_bytes text.new ≡ string_bytes text.old ++ input_line problem.now (option_map (λ n. n.now) network.entry) u term.now) }
 {
     text.push_str("  ")?;
-    push_node(text, "material", material_name(problem, term.material))?;
+    push_node(text, "material", problem.material_name(term.material))?;
     text.push_str(" -> ")?;
-    push_node(text, "unit", unit_name(problem, u))?;
+    push_node(text, "unit", problem.unit_name(u))?;
     push_attributes(alloc, text, problem, network, u, term)?;
     text.push(';')?;
     Ok(())
@@ -154,9 +145,9 @@ fn push_output(
     ensures { OnOk result (string_bytes text.new ≡ string_bytes text.old ++ output_line problem.now (option_map (λ n. n.now) network.entry) u term.now) }
 {
     text.push_str("  ")?;
-    push_node(text, "unit", unit_name(problem, u))?;
+    push_node(text, "unit", problem.unit_name(u))?;
     text.push_str(" -> ")?;
-    push_node(text, "material", material_name(problem, term.material))?;
+    push_node(text, "material", problem.material_name(term.material))?;
     push_attributes(alloc, text, problem, network, u, term)?;
     text.push(';')?;
     Ok(())

@@ -4,13 +4,12 @@
 //! a network they tell sizes and flows, and what it leaves out is grey. [`graph_of`] gives their bytes. No number that is told leaves
 //! the range: each is a whole number by which the network was judged, divided by the parts of its divisor one after the other.
 //!
-//! Modules: `role`, the part of a unit; `names`, names by number; `numbers`, sizes and flows; `nodes`, quotes and looks; `materials`,
+//! Modules: `role`, the part of a unit; `numbers`, sizes and flows; `nodes`, quotes and looks; `materials`,
 //! `units` and `arcs`, their lines; `text`, all of it.
 #![tactic(auto)]
 
 mod arcs;
 mod materials;
-mod names;
 mod nodes;
 mod numbers;
 mod role;

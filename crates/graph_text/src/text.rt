@@ -2,8 +2,6 @@
 ghost use Rattle.std.specs.Prelude.{◌≡◌, ◌++◌, ◌<◌, ℕ, [], true, Some, OnOk, IfOk, IfSome, option_map, string_bytes, length};
 ghost use Rattle.number_sets.specs.Sets.{has};
 ghost use Rattle.pns_problem.specs.Printing.{printed};
-ghost use Rattle.pns_rules.specs.Shape.{shape_of};
-ghost use Rattle.pgraph.specs.Tables.{shape};
 ghost use Rattle.tree_rules.specs.Claim.{IsFeasible};
 ghost use Rattle.report_rules.specs.Graph.{cost_text, sort_words, total_lines, head_lines, graph_lines, empty_lines};
 
@@ -11,7 +9,7 @@ use crate::materials::push_materials;
 use crate::units::push_units;
 use branch_tree::Network;
 use decimals::push_quotient;
-use pgraph::Graph;
+use pgraph::Site;
 use pns_problem::Problem;
 use std::alloc::{AllocError, Global};
 use unit_sets::UnitSet;
@@ -76,23 +74,21 @@ fn push_head(text: &mut String) -> Result<(), AllocError>
 fn push_graph(
     alloc: Global,
     text: &mut String,
-    problem: &Problem,
-    graph: &Graph,
+    site: &Site<'_>,
     network: Option<&Network>,
     units: UnitSet,
 ) -> Result<(), AllocError>
-    requires graph { shape graph.now ≡ shape_of problem.now }
-    requires known { (u : ℕ) → has units u ≡ true → u < length problem.now.units }
-    requires feasible { IfSome network (λ n. IsFeasible problem.now n.now) }
-    ensures { OnOk result (string_bytes text.new ≡ string_bytes text.old ++ printed (graph_lines problem.now (option_map (λ n. n.now) network.entry) (has units))) }
+    requires known { (u : ℕ) → has units u ≡ true → u < length site.now.units }
+    requires feasible { IfSome network (λ n. IsFeasible site.now n.now) }
+    ensures { OnOk result (string_bytes text.new ≡ string_bytes text.old ++ printed (graph_lines site.now (option_map (λ n. n.now) network.entry) (has units))) }
 {
-    graph.is_proper();
+    let problem = site.problem();
     units.rises();
-    let materials = graph.materials(units);
+    let materials = site.graph().materials(units);
     materials.rises();
     push_head(text)?;
     push_total(text, problem, network)?;
-    push_materials(text, problem, graph, network, materials)?;
+    push_materials(text, site, network, materials)?;
     push_units(alloc, text, problem, network, units)?;
     text.push_str("}\n")?;
     Ok(())
@@ -101,18 +97,16 @@ fn push_graph(
 /// The graph of the units, which are those of the maximal structure, and in it the network, where one is given.
 pub fn graph_of(
     alloc: Global,
-    problem: &Problem,
-    graph: &Graph,
+    site: &Site<'_>,
     network: Option<&Network>,
     units: UnitSet,
 ) -> Result<Vec<u8>, AllocError>
-    requires graph { shape graph.now ≡ shape_of problem.now }
-    requires known { (u : ℕ) → has units u ≡ true → u < length problem.now.units }
-    requires feasible { IfSome network (λ n. IsFeasible problem.now n.now) }
-    ensures { IfOk result (λ bytes. bytes.items ≡ printed (graph_lines problem.now (option_map (λ n. n.now) network.entry) (has units))) }
+    requires known { (u : ℕ) → has units u ≡ true → u < length site.now.units }
+    requires feasible { IfSome network (λ n. IsFeasible site.now n.now) }
+    ensures { IfOk result (λ bytes. bytes.items ≡ printed (graph_lines site.now (option_map (λ n. n.now) network.entry) (has units))) }
 {
     let mut text = String::new(alloc);
-    push_graph(alloc, &mut text, problem, graph, network, units)?;
+    push_graph(alloc, &mut text, site, network, units)?;
     Ok(text.into_bytes())
 }
 

@@ -8,7 +8,6 @@ ghost use Rattle.report_rules.specs.Drawn.{unit_size};
 ghost use Rattle.report_rules.specs.Graph.{unit_line, unit_lines};
 
 use crate::arcs::{push_inputs, push_outputs};
-use crate::names::unit_name;
 use crate::nodes::push_node;
 use crate::numbers::push_size;
 use crate::role::{look, role_of};
@@ -52,7 +51,7 @@ fn push_unit(
     requires { u < 128 }
     ensures { OnOk result (string_bytes text.new ≡ string_bytes text.old ++ unit_line problem.now (option_map (λ n. n.now) network.entry) u) }
 {
-    let name = unit_name(problem, u);
+    let name = problem.unit_name(u);
     text.push_str("  ")?;
     push_node(text, "unit", name)?;
     text.push_str(" [label=\"")?;

@@ -7,8 +7,8 @@ use Rattle.tree_rules.specs.Claim.{size_in}
 use Rattle.graph_text.proofs.Moves.{moved_in_range}
 use Rattle.graph_text.proofs.arcs.moved.Goals as goal
 
-pub product-requires : goal.product-requires
-product-requires c n =
+pub moved_at-requires : goal.moved_at-requires
+moved_at-requires c n =
     let p = c.args.problem.now in
     let w = c.args.network.now in
     let f : SFits w64 c.rate_at.result = search rules in

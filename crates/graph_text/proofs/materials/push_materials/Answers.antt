@@ -1,5 +1,6 @@
 use Rattle.std.proofs.Common.{◌∙◌, ◌++◌, ap, ℕ, List, string_bytes, option_map, map, arith}
-use Rattle.flow_program.proofs.WalkLemmas.{IsNext, rest_within, next_of, head_had}
+use Rattle.number_sets.specs.Sets.{has}
+use Rattle.pns_tables.proofs.Walk.{next_within, rest_within}
 use Rattle.pns_problem.specs.Printing.{printed}
 use Rattle.report_rules.specs.Graph.{material_line}
 use Rattle.graph_text.proofs.Lines.{next_line}
@@ -7,16 +8,14 @@ use Rattle.graph_text.proofs.materials.push_materials.Goals as goal
 
 pub push_material-requires-clause-material : goal.push_material-requires-clause-material
 push_material-requires-clause-material c =
-    c.requires.known c.in-Some.j (c.loop-j.invariant.within c.in-Some.j (head_had c.loop-j.j-iterator c.in-Some.j c.next.new.self c.in-Some.ensures.steps))
+    c.requires.known c.in-Some.j (next_within (has c.args.materials) c.loop-j.j-iterator c.next.new.self c.in-Some.j c.in-Some.ensures.steps c.loop-j.invariant.within)
 
 pub loop-j-preserved : goal.loop-j-preserved
 loop-j-preserved c =
-    let next : IsNext 256 c.loop-j.j-iterator c.in-Some.j c.next.new.self = next_of 256 c.loop-j.j-iterator c.in-Some.j c.next.new.self c.loop-j.invariant.is_set c.in-Some.ensures.steps in
     let t1 = string_bytes c.push_material.new.text in
-    let line = material_line c.args.problem.now (option_map (λ n. n.now) c.args.network) in
+    let line = material_line c.args.site.now (option_map (λ n. n.now) c.args.network) in
     record {
-      is_set = next.set;
-      within = λ u h. c.loop-j.invariant.within u (rest_within 256 c.loop-j.j-iterator c.in-Some.j c.next.new.self next u h);
+      within = rest_within (has c.args.materials) c.loop-j.j-iterator c.next.new.self c.in-Some.j c.in-Some.ensures.steps c.loop-j.invariant.within;
       text = next_line line c.loop-j.j-iterator c.next.new.self c.in-Some.j (string_bytes c.args.text.now ++ printed (map line c.args.materials)) (string_bytes c.loop-j.text) t1 (string_bytes c.push.new.self)
-          next.is c.in_ok-push_material.ensures (c.in_ok-push.ensures.bytes ∙ ap (λ (t : List ℕ). t1 ++ t) (c.in_ok-push.ensures.ascii (omega arith))) c.loop-j.invariant.text;
+          c.in-Some.ensures.steps c.in_ok-push_material.ensures (c.in_ok-push.ensures.bytes ∙ ap (λ (t : List ℕ). t1 ++ t) (c.in_ok-push.ensures.ascii (omega arith))) c.loop-j.invariant.text;
     }
