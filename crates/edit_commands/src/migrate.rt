@@ -1,6 +1,5 @@
 //! The command `migrate`.
 ghost use Rattle.std.specs.Prelude.{◌≡◌, ◌≤◌};
-ghost use Rattle.problem_rules.specs.Problem.{unit_at};
 ghost use Rattle.studio_rules.specs.Reading.{FileSays};
 ghost use Rattle.studio_rules.specs.Migrate.{MigrateWork};
 ghost use Rattle.studio_rules.specs.Ending.{Ends, Tells};
@@ -15,15 +14,6 @@ use pns_problem::Problem;
 use std::alloc::Global;
 use studio_rules::Status;
 
-fn unit_name<'a>(problem: &'a Problem, at: u32) -> &'a str
-    ensures { result.now ≡ (unit_at problem.now at).name }
-{
-    match problem.units().get(at as usize) {
-        Some(unit) => unit.name.as_str(),
-        None => "",
-    }
-}
-
 fn say_migration<K: Sink>(alloc: Global, out: &mut K, problem: &Problem, years: u64) -> Status
     requires { (1 ≤ years) × (years ≤ 100) }
     ensures { Ends (Tells (MigrateWork years problem.now)) (K.state out.old) (K.state out.new) result }
@@ -32,7 +22,7 @@ fn say_migration<K: Sink>(alloc: Global, out: &mut K, problem: &Problem, years: 
         Ok(script) => say_made(out, print_script(alloc, &script)),
         Err(MigrateFault::HasPayout) => say(out, b"has payout\n", Status::NotMigrated),
         Err(MigrateFault::OutOfRange { unit }) => {
-            let name = unit_name(problem, unit);
+            let name = problem.unit_name(unit);
             say_of(alloc, out, "out of range ", name, Status::NotMigrated)
         }
         Err(MigrateFault::Memory) => say_memory(out),

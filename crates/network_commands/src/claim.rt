@@ -1,7 +1,5 @@
 //! The network of a claim.
 ghost use Rattle.std.specs.Prelude.{◌≡◌, ◌++◌, IfOk, IfErr, OnOk};
-ghost use Rattle.pns_rules.specs.Shape.{shape_of};
-ghost use Rattle.pgraph.specs.Tables.{shape};
 ghost use Rattle.branch_tree.specs.View.{claim_of};
 ghost use Rattle.studio_rules.specs.RefusalWords.{claim_line};
 ghost use Rattle.studio_rules.specs.Lines.{line};
@@ -12,9 +10,8 @@ ghost use Rattle.studio_rules.specs.Network.{ClaimRefusal, ClaimsNetwork};
 use branch_tree::{Claim, Network};
 use cert_check::check_claim;
 use endings::say::say_of;
-use pgraph::Graph;
+use pgraph::Site;
 use pns_io::Sink;
-use pns_problem::Problem;
 use refusal_words::why_word;
 use std::alloc::Global;
 use studio_rules::Status;
@@ -31,16 +28,14 @@ fn say_refused<K: Sink>(alloc: Global, out: &mut K, why: Why) -> Status
 pub fn network_of<K: Sink>(
     alloc: Global,
     out: &mut K,
-    problem: &Problem,
-    graph: &Graph,
+    site: &Site<'_>,
     claim: Claim,
 ) -> Result<Network, Status>
-    requires { shape graph.now ≡ shape_of problem.now }
-    ensures network { IfOk result (ClaimsNetwork problem.now (claim_of claim)) }
+    ensures network { IfOk result (ClaimsNetwork site.now (claim_of claim)) }
     ensures silent { OnOk result (out.new ≡ out.old) }
-    ensures told { IfErr result (Ends (Tells (ClaimRefusal problem.now (claim_of claim))) (K.state out.old) (K.state out.new)) }
+    ensures told { IfErr result (Ends (Tells (ClaimRefusal site.now (claim_of claim))) (K.state out.old) (K.state out.new)) }
 {
-    match check_claim(problem, graph, &claim) {
+    match check_claim(site.problem(), site.graph(), &claim) {
         Ok(()) => match claim {
             Claim::Network(network) => Ok(network),
             Claim::Infeasible => Err(say_refused(alloc, out, Why::Unknown)),

@@ -1,8 +1,6 @@
 //! The command `graph`.
 ghost use Rattle.std.specs.Prelude.{◌≡◌, ℕ, List, Some, None, IfOk, IfSome, option_map, true, length};
 ghost use Rattle.number_sets.specs.Sets.{has};
-ghost use Rattle.pns_rules.specs.Shape.{shape_of};
-ghost use Rattle.pgraph.specs.Tables.{shape};
 ghost use Rattle.tree_rules.specs.Claim.{IsFeasible};
 ghost use Rattle.studio_rules.specs.Lines.{text_of};
 ghost use Rattle.studio_rules.specs.Reading.{FileSays, TwoFilesSay};
@@ -18,7 +16,7 @@ use command_files::problem_of;
 use endings::say::{say_memory, say_text};
 use graph_text::{empty_graph, graph_of};
 use max_structure::maximal;
-use pgraph::Graph;
+use pgraph::{Graph, Site};
 use pns_io::{Shelf, Sink};
 use pns_problem::Problem;
 use std::alloc::{AllocError, Global};
@@ -28,16 +26,14 @@ use unit_sets::UnitSet;
 /// The graph of the maximal structure, and in it the network, where one is given.
 fn drawn(
     alloc: Global,
-    problem: &Problem,
-    graph: &Graph,
+    site: &Site<'_>,
     network: Option<&Network>,
 ) -> Result<Vec<u8>, AllocError>
-    requires graph { shape graph.now ≡ shape_of problem.now }
-    requires feasible { IfSome network (λ n. IsFeasible problem.now n.now) }
-    ensures { IfOk result (λ bytes. (lines : List (List ℕ)) × AreGraphLines problem.now (option_map (λ n. n.now) network.entry) lines × (bytes.items ≡ text_of lines)) }
+    requires feasible { IfSome network (λ n. IsFeasible site.now n.now) }
+    ensures { IfOk result (λ bytes. (lines : List (List ℕ)) × AreGraphLines site.now (option_map (λ n. n.now) network.entry) lines × (bytes.items ≡ text_of lines)) }
 {
-    match maximal(graph, UnitSet::empty()) {
-        Some(units) => graph_of(alloc, problem, graph, network, units),
+    match maximal(site.graph(), UnitSet::empty()) {
+        Some(units) => graph_of(alloc, site, network, units),
         None => empty_graph(alloc),
     }
 }
@@ -45,15 +41,13 @@ fn drawn(
 /// The graph with the network in it.
 pub(crate) fn network_graph(
     alloc: Global,
-    problem: &Problem,
-    graph: &Graph,
+    site: &Site<'_>,
     network: &Network,
 ) -> Result<Vec<u8>, AllocError>
-    requires graph { shape graph.now ≡ shape_of problem.now }
-    requires feasible { IsFeasible problem.now network.now }
-    ensures { IfOk result (λ bytes. (lines : List (List ℕ)) × AreGraphLines problem.now (Some network.now) lines × (bytes.items ≡ text_of lines)) }
+    requires feasible { IsFeasible site.now network.now }
+    ensures { IfOk result (λ bytes. (lines : List (List ℕ)) × AreGraphLines site.now (Some network.now) lines × (bytes.items ≡ text_of lines)) }
 {
-    drawn(alloc, problem, graph, Some(network))
+    drawn(alloc, site, Some(network))
 }
 
 fn say_plant<K: Sink>(alloc: Global, out: &mut K, problem: &Problem) -> Status
@@ -62,7 +56,8 @@ fn say_plant<K: Sink>(alloc: Global, out: &mut K, problem: &Problem) -> Status
     let Ok(graph) = Graph::of(alloc, problem) else {
         return say_memory(out);
     };
-    match drawn(alloc, problem, &graph, None) {
+    let site = Site::of(problem, &graph);
+    match drawn(alloc, &site, None) {
         Ok(bytes) => say_text(out, &bytes, Status::Done),
         Err(_) => say_memory(out),
     }

@@ -1,7 +1,5 @@
 //! The text of the network that a tree file claims.
 ghost use Rattle.std.specs.Prelude.{◌≡◌, ℕ, List, IfOk};
-ghost use Rattle.pns_rules.specs.Shape.{shape_of};
-ghost use Rattle.pgraph.specs.Tables.{shape};
 ghost use Rattle.tree_rules.specs.Claim.{IsFeasible};
 ghost use Rattle.branch_tree.specs.View.{claim_of};
 ghost use Rattle.studio_rules.specs.Lines.{text_of};
@@ -20,7 +18,7 @@ use crate::table::tables;
 use branch_tree::{Claim, Network, Tree};
 use command_files::{problem_of, tree_of};
 use endings::say::{say_memory, say_text};
-use pgraph::Graph;
+use pgraph::{Graph, Site};
 use pns_io::{Shelf, Sink};
 use pns_problem::Problem;
 use std::alloc::{AllocError, Global};
@@ -41,18 +39,16 @@ pub enum NetworkText {
 fn text_of(
     alloc: Global,
     what: NetworkText,
-    problem: &Problem,
-    graph: &Graph,
+    site: &Site<'_>,
     network: &Network,
 ) -> Result<Vec<u8>, AllocError>
-    requires graph { shape graph.now ≡ shape_of problem.now }
-    requires feasible { IsFeasible problem.now network.now }
-    ensures { IfOk result (λ bytes. (lines : List (List ℕ)) × TextWork what problem.now network.now Done lines × (bytes.items ≡ text_of lines)) }
+    requires feasible { IsFeasible site.now network.now }
+    ensures { IfOk result (λ bytes. (lines : List (List ℕ)) × TextWork what site.now network.now Done lines × (bytes.items ≡ text_of lines)) }
 {
     match what {
-        NetworkText::Table => tables(alloc, problem, graph, network),
-        NetworkText::Graph => network_graph(alloc, problem, graph, network),
-        NetworkText::Report => network_report(alloc, problem, graph, network),
+        NetworkText::Table => tables(alloc, site, network),
+        NetworkText::Graph => network_graph(alloc, site, network),
+        NetworkText::Report => network_report(alloc, site, network),
     }
 }
 
@@ -60,15 +56,13 @@ fn say_network<K: Sink>(
     alloc: Global,
     what: NetworkText,
     out: &mut K,
-    problem: &Problem,
-    graph: &Graph,
+    site: &Site<'_>,
     network: &Network,
 ) -> Status
-    requires graph { shape graph.now ≡ shape_of problem.now }
-    requires feasible { IsFeasible problem.now network.now }
-    ensures { Ends (Tells (TextWork what problem.now network.now)) (K.state out.old) (K.state out.new) result }
+    requires feasible { IsFeasible site.now network.now }
+    ensures { Ends (Tells (TextWork what site.now network.now)) (K.state out.old) (K.state out.new) result }
 {
-    match text_of(alloc, what, problem, graph, network) {
+    match text_of(alloc, what, site, network) {
         Ok(bytes) => say_text(out, &bytes, Status::Done),
         Err(_) => say_memory(out),
     }
@@ -87,8 +81,9 @@ fn say_claimed<K: Sink>(
     let Ok(graph) = Graph::of(alloc, problem) else {
         return say_memory(out);
     };
-    match network_of(alloc, out, problem, &graph, claim) {
-        Ok(network) => say_network(alloc, what, out, problem, &graph, &network),
+    let site = Site::of(problem, &graph);
+    match network_of(alloc, out, &site, claim) {
+        Ok(network) => say_network(alloc, what, out, &site, &network),
         Err(status) => status,
     }
 }

@@ -1,7 +1,5 @@
 //! The command `report`.
 ghost use Rattle.std.specs.Prelude.{◌≡◌, ℕ, List, IfOk};
-ghost use Rattle.pns_rules.specs.Shape.{shape_of};
-ghost use Rattle.pgraph.specs.Tables.{shape};
 ghost use Rattle.tree_rules.specs.Claim.{IsFeasible};
 ghost use Rattle.report_rules.specs.Report.{report_lines};
 ghost use Rattle.studio_rules.specs.Lines.{text_of};
@@ -14,9 +12,8 @@ ghost use Rattle.studio_rules.specs.Keeps.{Keeps};
 
 use crate::network::{NetworkText, say_of_network};
 use branch_tree::Network;
-use pgraph::Graph;
+use pgraph::Site;
 use pns_io::{Shelf, Sink};
-use pns_problem::Problem;
 use report_tables::report_of;
 use std::alloc::{AllocError, Global};
 use studio_rules::Status;
@@ -24,15 +21,13 @@ use studio_rules::Status;
 /// The tables of the network for people.
 pub(crate) fn network_report(
     alloc: Global,
-    problem: &Problem,
-    graph: &Graph,
+    site: &Site<'_>,
     network: &Network,
 ) -> Result<Vec<u8>, AllocError>
-    requires graph { shape graph.now ≡ shape_of problem.now }
-    requires feasible { IsFeasible problem.now network.now }
-    ensures { IfOk result (λ bytes. (lines : List (List ℕ)) × (lines ≡ report_lines problem.now network.now) × (bytes.items ≡ text_of lines)) }
+    requires feasible { IsFeasible site.now network.now }
+    ensures { IfOk result (λ bytes. (lines : List (List ℕ)) × (lines ≡ report_lines site.now network.now) × (bytes.items ≡ text_of lines)) }
 {
-    report_of(alloc, problem, graph, network)
+    report_of(alloc, site, network)
 }
 
 /// Says the network that the tree of the one file claims on the problem of the other in tables for people.

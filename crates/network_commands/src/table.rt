@@ -1,7 +1,5 @@
 //! The command `table`.
 ghost use Rattle.std.specs.Prelude.{◌≡◌, ℕ, List, IfOk};
-ghost use Rattle.pns_rules.specs.Shape.{shape_of};
-ghost use Rattle.pgraph.specs.Tables.{shape};
 ghost use Rattle.tree_rules.specs.Claim.{IsFeasible};
 ghost use Rattle.studio_rules.specs.Lines.{text_of};
 ghost use Rattle.studio_rules.specs.Reading.{TwoFilesSay};
@@ -13,9 +11,8 @@ ghost use Rattle.studio_rules.specs.Keeps.{Keeps};
 
 use crate::network::{NetworkText, say_of_network};
 use branch_tree::Network;
-use pgraph::Graph;
+use pgraph::Site;
 use pns_io::{Shelf, Sink};
-use pns_problem::Problem;
 use pns_tables::{material_table, unit_table};
 use std::alloc::{AllocError, Global};
 use studio_rules::Status;
@@ -23,17 +20,15 @@ use studio_rules::Status;
 /// The two tables, with an empty line between them.
 pub(crate) fn tables(
     alloc: Global,
-    problem: &Problem,
-    graph: &Graph,
+    site: &Site<'_>,
     network: &Network,
 ) -> Result<Vec<u8>, AllocError>
-    requires graph { shape graph.now ≡ shape_of problem.now }
-    requires feasible { IsFeasible problem.now network.now }
-    ensures { IfOk result (λ bytes. (lines : List (List ℕ)) × AreTables problem.now network.now lines × (bytes.items ≡ text_of lines)) }
+    requires feasible { IsFeasible site.now network.now }
+    ensures { IfOk result (λ bytes. (lines : List (List ℕ)) × AreTables site.now network.now lines × (bytes.items ≡ text_of lines)) }
 {
     network.is_sized();
-    let mut bytes = unit_table(alloc, problem, network)?;
-    let materials = material_table(alloc, problem, graph, network)?;
+    let mut bytes = unit_table(alloc, site.problem(), network)?;
+    let materials = material_table(alloc, site, network)?;
     bytes.push(b'\n')?;
     bytes.extend_from_slice(&materials)?;
     Ok(bytes)

@@ -1,7 +1,6 @@
 //! The command `axioms`.
 ghost use Rattle.std.specs.Prelude.{◌≡◌, ◌<◌, ◌≤◌, ◌||◌, ℕ, None, IfOk, length, option_map, true};
 ghost use Rattle.number_sets.specs.Sets.{has};
-ghost use Rattle.problem_rules.specs.Problem.{material_at, unit_at};
 ghost use Rattle.studio_rules.specs.Lines.{line};
 ghost use Rattle.studio_rules.specs.Reading.{FileSays};
 ghost use Rattle.studio_rules.specs.Axioms.{AxiomsWork, NamesSay, VerdictSays, axiom_word, breaks_line, place_name, is_stranger, first_stranger, is_name_of, units_named};
@@ -58,26 +57,8 @@ fn place_name<'a>(problem: &'a Problem, broken: Axiom, at: u32) -> &'a str
     ensures { result.now ≡ place_name problem.now broken at }
 {
     match broken {
-        Axiom::S1 | Axiom::S2 | Axiom::S5 => material_name(problem, at),
-        Axiom::S3 | Axiom::S4 => unit_name(problem, at),
-    }
-}
-
-fn material_name<'a>(problem: &'a Problem, at: u32) -> &'a str
-    ensures { result.now ≡ (material_at problem.now at).name }
-{
-    match problem.materials().get(at as usize) {
-        Some(material) => material.name.as_str(),
-        None => "",
-    }
-}
-
-fn unit_name<'a>(problem: &'a Problem, at: u32) -> &'a str
-    ensures { result.now ≡ (unit_at problem.now at).name }
-{
-    match problem.units().get(at as usize) {
-        Some(unit) => unit.name.as_str(),
-        None => "",
+        Axiom::S1 | Axiom::S2 | Axiom::S5 => problem.material_name(at),
+        Axiom::S3 | Axiom::S4 => problem.unit_name(at),
     }
 }
 

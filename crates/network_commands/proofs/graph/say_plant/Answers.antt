@@ -1,6 +1,7 @@
-use Rattle.std.proofs.Common.{◌∙◌, [], refl, inl, ℕ, List, codes}
-use Rattle.studio_rules.specs.Lines.{line}
-use Rattle.studio_rules.specs.Graph.{PlantGraphWork}
+use Rattle.std.proofs.Common.{◌≡◌, ◌∙◌, [], None, refl, inl, subst, ℕ, List, codes}
+use Rattle.problem_rules.specs.Problem.{Problem}
+use Rattle.studio_rules.specs.Lines.{line, text_of}
+use Rattle.studio_rules.specs.Graph.{AreGraphLines, PlantGraphWork}
 use Rattle.studio_rules.specs.Ending.{Tells}
 use Rattle.studio_rules.specs.declared.status.Status.{Status}
 use Rattle.studio_rules.specs.declared.status.Status.TheVariants.{Done, Memory}
@@ -15,7 +16,7 @@ returns-in_default g c =
 pub returns-in-Ok-drawn : goal.returns-in-Ok-drawn
 returns-in-Ok-drawn g c =
     let Q : Status → List ℕ → Type 0 = Tells (PlantGraphWork c.args.problem.now) in
-    let told = c.in-Ok-drawn.ensures in
+    let told = subst (λ (p : Problem). (lines : List (List ℕ)) × AreGraphLines p None lines × (c.in-Ok-drawn.bytes.items ≡ text_of lines)) c.of-site.ensures c.in-Ok-drawn.ensures in
     Ends-map _ Q (g.K.Sink.state c.args.out.now) _ _ (only_in Q Done c.deref.result.now (told.0, told.1, c.deref.ensures.value ∙ told.2)) c.say_text.ensures
 
 pub returns : goal.returns
