@@ -35,7 +35,7 @@ pub fn network_of<K: Sink>(
     ensures silent { OnOk result (out.new ≡ out.old) }
     ensures told { IfErr result (Ends (Tells (ClaimRefusal site.now (claim_of claim))) (K.state out.old) (K.state out.new)) }
 {
-    match check_claim(site.problem(), site.graph(), &claim) {
+    match check_claim(site, &claim) {
         Ok(()) => match claim {
             Claim::Network(network) => Ok(network),
             Claim::Infeasible => Err(say_refused(alloc, out, Why::Unknown)),

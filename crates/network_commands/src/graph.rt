@@ -24,11 +24,7 @@ use studio_rules::Status;
 use unit_sets::UnitSet;
 
 /// The graph of the maximal structure, and in it the network, where one is given.
-fn drawn(
-    alloc: Global,
-    site: &Site<'_>,
-    network: Option<&Network>,
-) -> Result<Vec<u8>, AllocError>
+fn drawn(alloc: Global, site: &Site<'_>, network: Option<&Network>) -> Result<Vec<u8>, AllocError>
     requires feasible { IfSome network (λ n. IsFeasible site.now n.now) }
     ensures { IfOk result (λ bytes. (lines : List (List ℕ)) × AreGraphLines site.now (option_map (λ n. n.now) network.entry) lines × (bytes.items ≡ text_of lines)) }
 {

@@ -92,13 +92,7 @@ fn say_claimed<K: Sink>(
 {
     match claim {
         Claim::Network(network) => {
-            match network_of(
-                alloc,
-                out,
-                site.problem(),
-                site.graph(),
-                Claim::Network(network),
-            ) {
+            match network_of(alloc, out, site, Claim::Network(network)) {
                 Ok(known) => say_against(alloc, out, site, start, budget, known),
                 Err(status) => status,
             }
