@@ -251,9 +251,9 @@ fn look_at_child<E: Evaluator>(
     Ok(with_best(more, at_hand))
 }
 
-/// Looks at all children of a node that a choice gives, in the order of their options, and copies each network where `all` are asked
-/// for. The makers are those of the graph, whichever
-/// units are taken out of them, and stay so. `Err` comes for want of memory alone.
+/// Looks at all children of a node that a choice gives, in the order of their options, and copies
+/// each network where `all` are asked for. The makers are those of the graph, whichever units are
+/// taken out of them, and stay so. `Err` comes for want of memory alone.
 pub fn look_at_children<E: Evaluator>(
     alloc: Global,
     evaluator: &mut E,

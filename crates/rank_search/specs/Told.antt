@@ -16,7 +16,7 @@ use Rattle.rank_rules.specs.Ranked.{Proves}
 use Rattle.tree_rules.specs.Known.{KnowsTree}
 use Rattle.rank_rules.specs.Marked.{Mark, marked}
 use Rattle.rank_rules.specs.Text.{IsCounted}
-use Rattle.rank_text.specs.Known.{KnowsNetwork}
+use Rattle.ranked_tree.specs.Known.{KnowsNetwork}
 use Rattle.search_tree.specs.declared.shut.Shut.{Shut}
 use Rattle.search_tree.specs.Cells.{place_of, cell_at}
 use Rattle.turn_laws.specs.Turns.{CanBranch, IsLeastOpen}

@@ -20,7 +20,8 @@ use Rattle.rank_rules.specs.Text.{Text, ranking_of, IsCounted}
 use Rattle.tree_text_rules.specs.Line.{Token}
 use Rattle.tree_text_rules.specs.Spelling as trees
 use Rattle.tree_text_laws.specs.Fits.{FitsNetwork, CountsTail}
-use Rattle.rank_text.specs.Known.{KnowsNetwork, KnowsText}
+use Rattle.ranked_tree.specs.Known.{KnowsNetwork}
+use Rattle.rank_text.specs.Known.{KnowsText}
 use Rattle.rank_rules.specs.Read.{read_text}
 use Rattle.rank_rules.specs.Spelling.{rank_text, rank_text_lines, file_type, count_word, networks_word, tree_lines}
 use Rattle.rank_text.specs.Fits.{Fits}

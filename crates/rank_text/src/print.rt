@@ -8,7 +8,8 @@ ghost use Rattle.tree_text_rules.specs.Spelling as trees;
 ghost use Rattle.tree_text.specs.Prints.{Prints};
 ghost use Rattle.rank_rules.specs.Marked.{marked, marked_node, marked_end, marked_leaf, marks_behind};
 ghost use Rattle.ranked_tree.specs.View.{mark_of};
-ghost use Rattle.rank_text.specs.Known.{KnowsNetwork, KnowsText};
+ghost use Rattle.ranked_tree.specs.Known.{KnowsNetwork};
+ghost use Rattle.rank_text.specs.Known.{KnowsText};
 ghost use Rattle.rank_rules.specs.Spelling.{count_word, networks_word, file_type, end_line, node_lines, tree_lines, rank_text_lines};
 
 use crate::line::{count_line, named_line};

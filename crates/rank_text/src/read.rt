@@ -3,7 +3,8 @@ ghost use Rattle.std.specs.Prelude.{◌≡◌, ◌≤◌, ◌<◌, ◌-◌, ◌^
 ghost use Rattle.problem_rules.specs.Each.{Each};
 ghost use Rattle.tree_reading.specs.Place.{IsCut, lines_at};
 ghost use Rattle.text_lines.specs.Tells.{Tells};
-ghost use Rattle.rank_text.specs.Known.{KnowsNetwork, KnowsText};
+ghost use Rattle.ranked_tree.specs.Known.{KnowsNetwork};
+ghost use Rattle.rank_text.specs.Known.{KnowsText};
 ghost use Rattle.rank_rules.specs.Read.{behind_networks, rest_taken, read_text, earlier};
 ghost use Rattle.rank_text.specs.Takes.{listed_taken};
 
