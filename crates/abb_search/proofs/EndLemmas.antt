@@ -28,7 +28,8 @@ use Rattle.node_evaluation.specs.declared.evaluator.PastStop.{PastStop}
 use Rattle.node_evaluation.specs.Evaluated.{PastPlaces}
 use Rattle.node_evaluation.specs.Children.{claim_with}
 use Rattle.abb_search.specs.declared.growing.Growing.{Growing}
-use Rattle.abb_search.specs.Growing.{IsTreeKept, IsSpentAt, IsStoppedAt}
+use Rattle.abb_search.specs.Growing.{IsTreeKept, IsStoppedAt}
+use Rattle.abb_search.specs.Closing.{IsSpentFor}
 use Rattle.abb_search.proofs.KnownLemmas.{knows_tree, few_nodes, knows_claim}
 use Rattle.tree_rules.specs.Proved.{IsProved, IsStopped, IsBelowLimit}
 use Rattle.abb_search.specs.Found.{found_with, IsFoundBy}
@@ -85,16 +86,16 @@ module _ (p : Problem) (s : Growing) (t : IsTreeKept p s) (at place : ℕ) (tree
     few = few_in_tree;
   })
 
-  pub spent : (count : ℕ) → IsSpentAt p s at count → IsSpent p IsUntried (claimed_cost (claim_with s.best)) (node_of s.start) tree place count s.budget
+  pub spent : (count : ℕ) → IsSpentFor p (claimed_cost (claim_with s.best)) s [] at count → IsSpent p IsUntried (claimed_cost (claim_with s.best)) (node_of s.start) tree place count s.budget
   spent count h = subst (λ (w : Tree). IsSpent p IsUntried (claimed_cost (claim_with s.best)) (node_of s.start) w place count s.budget) (sym of.nodes_are)
-      (kept_is_spent p (node_of s.start) (claim_with s.best) (claimed_cost (claim_with s.best)) t.last s.pool.payloads of.order t.kept of.is_preorder at place count s.budget h.way of.stands h.can h.least h.of_use h.pending h.count_is h.over)
+      (kept_is_spent p (node_of s.start) (claim_with s.best) (claimed_cost (claim_with s.best)) t.last s.pool.payloads of.order t.kept of.is_preorder at place count s.budget h.way of.stands h.can h.least h.may (λ j lt e. h.pending j lt e refl) h.count_is h.over)
 
   head_is : (order : List ℕ) → IsPreorder s.pool.payloads (0 ∷ []) order → slice_get order 0 ≡ Some 0
   head_is [] h = absurd h
   head_is (k ∷ ks) h = ap (λ (i : ℕ). Some i) h.0
 
   -- a budget of twice the number of sets of units of the maximal structure is never spent
-  below_limit : IsValid p → (count : ℕ) → IsSpentAt p s at count → IsBelowLimit p s.budget
+  below_limit : IsValid p → (count : ℕ) → IsSpentFor p (claimed_cost (claim_with s.best)) s [] at count → IsBelowLimit p s.budget
   below_limit valid count h = λ all union.
       let top = cells_stand (shape_of p) (LeafPasses true p (claimed_cost (claim_with s.best))) (node_of s.start) s.pool.payloads t.kept.grown.linked t.kept.grown.fits (node_of s.start ∷ []) (0 ∷ []) of.order
       (aligned_start (shape_of p) (LeafPasses true p (claimed_cost (claim_with s.best))) (node_of s.start) s.pool.payloads t.kept.grown.linked t.kept.grown.fits) of.is_preorder 0 0 (head_is of.order of.is_preorder) in
@@ -127,7 +128,7 @@ module _ (p : Problem) (s : Growing) (t : IsTreeKept p s) (at place : ℕ) (tree
       by None e = infeasible e shut
       by (Some w) e = solved w e shut
 
-  pub spent_found : IsValid p → (count budget : ℕ) (start : starts.Node) → s.start ≡ start → s.budget ≡ budget → IsSpentAt p s at count
+  pub spent_found : IsValid p → (count budget : ℕ) (start : starts.Node) → s.start ≡ start → s.budget ≡ budget → IsSpentFor p (claimed_cost (claim_with s.best)) s [] at count
       → IsStopped p (node_of start) (claim_with s.best) tree × IsSpent p IsUntried (claimed_cost (claim_with s.best)) (node_of start) tree place count budget × IsBelowLimit p budget
   spent_found valid count budget start es eu h =
       subst (λ (n : starts.Node). IsStopped p (node_of n) (claim_with s.best) tree × IsSpent p IsUntried (claimed_cost (claim_with s.best)) (node_of n) tree place count budget × IsBelowLimit p budget) es

@@ -5,6 +5,7 @@ pub mod HandLemmas
 pub mod KnownLemmas
 pub mod ReadyLemmas
 pub mod RootLemmas
+pub mod RoundLemmas
 pub mod SameLemmas
 pub mod SettleLemmas
 pub mod ShutTreeLemmas

@@ -100,6 +100,10 @@ same_trans Past p a b c h k = record {
   growing = λ undercut g. k.growing undercut (h.growing undercut g);
 }
 
+pub err_trans : {A E : Type 0} (Past : PastPlaces) (p : Problem) (a b c : Growing) (r : Result A E) → IsSame Past p a b → OnErr r (IsSame Past p b c) → OnErr r (IsSame Past p a c)
+err_trans Past p a b c (Ok x) h k = tt
+err_trans Past p a b c (Err x) h k = same_trans Past p a b c h k
+
 module _ (Past : PastPlaces) (p : Problem) (s n : Growing) (e : IsSame Past p s n) where
   pub tree_same : IsTreeKept p s → IsTreeKept p n
   tree_same t =

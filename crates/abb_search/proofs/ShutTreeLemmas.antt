@@ -27,7 +27,7 @@ use Rattle.node_evaluation.specs.Children.{claim_with}
 use Rattle.abb_search.specs.declared.growing.Growing.{Growing}
 use Rattle.abb_search.specs.Worth.{refutation_of, is_refuted}
 use Rattle.abb_search.specs.Growing.{ready_at, IsTreeKept, IsGrowingFor}
-use Rattle.abb_search.specs.Closing.{ShutsNode, ShutsLeaf, ShutAll, AreInRange, RefutedShut, hand_of, refuted_by}
+use Rattle.abb_search.specs.Closing.{ShutsNode, ShutsLeaf, ShutAll, ShutsIfSome, ShutSome, AreInRange, RefutedShut, hand_of, refuted_by}
 use Rattle.abb_search.specs.Found.{found_with, IsFoundBy}
 use Rattle.abb_search.proofs.EndLemmas.{whole_found}
 use Rattle.abb_search.proofs.KnownLemmas.{AreKnown, known_end}
@@ -70,11 +70,7 @@ bounded_stays (o ∷ ms) (c ∷ cs) h =
 
 -- ---- what may shut a leaf
 
-abbrev pub MayShut : Problem → Option CostOver → Cell → Option Shut → Type 0
-MayShut p claimed c None = Unit {0}
-MayShut p claimed c (Some m) = ShutsNode p claimed (place_of c) m
-
-pub may_shut : (p : Problem) (claimed : Option CostOver) (c : Cell) (o : Option Shut) → ShutsLeaf p claimed c o → MayShut p claimed c o
+pub may_shut : (p : Problem) (claimed : Option CostOver) (c : Cell) (o : Option Shut) → ShutsLeaf p claimed c o → ShutsIfSome p claimed (place_of c) o
 may_shut p claimed c None h = tt
 may_shut p claimed c (Some m) h = h
 
@@ -86,9 +82,34 @@ shut_known : (p : Problem) (claimed : Option CostOver) (n : Node) (m : Shut) →
 shut_known p claimed n (shuts.Bounded s) h = (h.scale, h.multipliers)
 shut_known p claimed n (shuts.Refuted ys) h = h.multipliers
 
+-- ---- which leaves stay open
+
+-- the cell is as before, and nothing shuts it
+pub record IsLeftOpen (ms : List (Option Shut)) (cells : List Cell) (j : ℕ) : Type 0 where
+  pub there : j < length cells
+  pub cell_is : cell_at (shut_cells ms cells) j ≡ cell_at cells j
+  pub unshut : proof_of ms j ≡ None
+
+module _ (ms : List (Option Shut)) (cells : List Cell) (j : ℕ) where
+  pub left_open : j < length cells → proof_of ms j ≡ None → cell_at (shut_cells ms cells) j ≡ cell_at cells j
+  left_open lt none =
+      shut_at ms cells j lt
+      ∙ (ap (λ (o : Option Shut). as_shut (cell_at cells j) (shut_end o (cell_at cells j).end)) none ∙ ap (λ (e : End Leaf). as_shut (cell_at cells j) e) (unproved_stays (cell_at cells j).end))
+
+  -- so it is with a leaf that is open in the tree then
+  pub open_left : j < length (shut_cells ms cells) → (cell_at (shut_cells ms cells) j).end ≡ leaf untried → IsLeftOpen ms cells j
+  open_left lt e = by (proof_of ms j) refl (ap (λ (c : Cell). c.end) (sym (shut_at ms cells j less)) ∙ e)
+    where
+      less : j < length cells
+      less = let n = shut_length ms cells in omega (arith, lt, n)
+
+      by : (o : Option Shut) → proof_of ms j ≡ o → shut_end o (cell_at cells j).end ≡ leaf untried → IsLeftOpen ms cells j
+      by None q k = record { there = less; cell_is = left_open less q; unshut = q }
+      by (Some m) q k = absurd (no_open m (cell_at cells j).end k)
+
 -- ---- the tree with these leaves shut
 
-module _ (p : Problem) (s : Growing) (t : IsTreeKept p s) (ms : List (Option Shut)) (may : (j : ℕ) → j < length s.pool.payloads → MayShut p (claimed_cost (claim_with s.best)) (cell_at s.pool.payloads j) (proof_of ms j)) where
+module _ (p : Problem) (s : Growing) (t : IsTreeKept p s) (ms : List (Option Shut)) (may : ShutSome p s (claimed_cost (claim_with s.best)) ms) where
   within : (j : ℕ) → j < length (shut_cells ms s.pool.payloads) → j < length s.pool.payloads
   within j lt = let e = shut_length ms s.pool.payloads in omega (arith, lt, e)
 
@@ -96,7 +117,7 @@ module _ (p : Problem) (s : Growing) (t : IsTreeKept p s) (ms : List (Option Shu
   abbrev Becomes : Cell → Option Shut → Type 0
   Becomes c o = (as_shut c (shut_end o c.end) ≡ c) ⊎ IsShut p (claimed_cost (claim_with s.best)) c (as_shut c (shut_end o c.end))
 
-  becomes : (c : Cell) (o : Option Shut) → MayShut p (claimed_cost (claim_with s.best)) c o → Becomes c o
+  becomes : (c : Cell) (o : Option Shut) → ShutsIfSome p (claimed_cost (claim_with s.best)) (place_of c) o → Becomes c o
   becomes c None h = inl (ap (λ (e : End Leaf). as_shut c e) (unproved_stays c.end))
   becomes c (Some m) h = by (is_open c.end) refl
     where
@@ -120,7 +141,7 @@ module _ (p : Problem) (s : Growing) (t : IsTreeKept p s) (ms : List (Option Shu
         (becomes (cell_at s.pool.payloads j) (proof_of ms j) (may j lt));
   }
 
-  known_one : (c : Cell) (o : Option Shut) → MayShut p (claimed_cost (claim_with s.best)) c o → KnowsCell p c → KnowsCell p (as_shut c (shut_end o c.end))
+  known_one : (c : Cell) (o : Option Shut) → ShutsIfSome p (claimed_cost (claim_with s.best)) (place_of c) o → KnowsCell p c → KnowsCell p (as_shut c (shut_end o c.end))
   known_one c None h k = subst (λ (e : End Leaf). KnowsCell p (as_shut c e)) (sym (unproved_stays c.end)) (known_end p c (as_shut c c.end) k refl refl k.end)
   known_one c (Some m) h k = by (is_open c.end) refl
     where
@@ -136,7 +157,7 @@ module _ (p : Problem) (s : Growing) (t : IsTreeKept p s) (ms : List (Option Shu
   none_bounded : s.best ≡ None → (j : ℕ) (m : Scaled) → j < length s.pool.payloads → proof_of ms j ≡ Some (shuts.Bounded m) → ⊥
   none_bounded none j m lt e =
       let h : ShutsNode p (claimed_cost (claim_with s.best)) (place_of (cell_at s.pool.payloads j)) (shuts.Bounded m)
-      = subst (λ (o : Option Shut). MayShut p (claimed_cost (claim_with s.best)) (cell_at s.pool.payloads j) o) e (may j lt) in
+      = subst (λ (o : Option Shut). ShutsIfSome p (claimed_cost (claim_with s.best)) (place_of (cell_at s.pool.payloads j)) o) e (may j lt) in
       let b = subst (λ (o : Option claims.Network). IsBounded p (claimed_cost (claim_with o)) (place_of (cell_at s.pool.payloads j)) m.d m.ys) none h.bounded in
       b.reaches
 
@@ -174,7 +195,7 @@ module _ (p : Problem) (s : Growing) (t : IsTreeKept p s) (ms : List (Option Shu
 -- ---- all open leaves are shut
 
 module _ (p : Problem) (s : Growing) (t : IsTreeKept p s) (ms : List (Option Shut)) (all : ShutAll p s (claimed_cost (claim_with s.best)) ms) where
-  may_all : (j : ℕ) → j < length s.pool.payloads → MayShut p (claimed_cost (claim_with s.best)) (cell_at s.pool.payloads j) (proof_of ms j)
+  may_all : ShutSome p s (claimed_cost (claim_with s.best)) ms
   may_all j lt = may_shut p (claimed_cost (claim_with s.best)) (cell_at s.pool.payloads j) (proof_of ms j) (all j lt)
 
   none_open : (j : ℕ) → j < length (shut_cells ms s.pool.payloads) → (cell_at (shut_cells ms s.pool.payloads) j).end ≡ leaf untried → ⊥
@@ -204,10 +225,10 @@ module _ {Past : PastPlaces} {undercut : Option CostOver} (p : Problem) (s : Gro
           record { refuted = ready_refuted Past p (place_of (cell_at s.pool.payloads j)) a.value q a.known ys k; multipliers = range }
 
   -- what stands at a number may shut the leaf there, whatever is claimed
-  pub refuted_may : (claimed : Option CostOver) (j : ℕ) → j < length s.pool.payloads → MayShut p claimed (cell_at s.pool.payloads j) (proof_of ms j)
-  refuted_may claimed j lt = subst (λ (o : Option Shut). MayShut p claimed (cell_at s.pool.payloads j) o) (sym (shut j lt).0) (by (refutation_of (hand_of s j)) refl (shut j lt).1)
+  pub refuted_may : (claimed : Option CostOver) → ShutSome p s claimed ms
+  refuted_may claimed j lt = subst (λ (o : Option Shut). ShutsIfSome p claimed (place_of (cell_at s.pool.payloads j)) o) (sym (shut j lt).0) (by (refutation_of (hand_of s j)) refl (shut j lt).1)
     where
-      by : (o : Option (List ℤ)) → refutation_of (hand_of s j) ≡ o → AreInRange o → MayShut p claimed (cell_at s.pool.payloads j) (refuted_by o)
+      by : (o : Option (List ℤ)) → refutation_of (hand_of s j) ≡ o → AreInRange o → ShutsIfSome p claimed (place_of (cell_at s.pool.payloads j)) (refuted_by o)
       by None e r = tt
       by (Some ys) e r = refuted_by_hand claimed j lt ys e r
 
@@ -218,31 +239,3 @@ module _ {Past : PastPlaces} {undercut : Option CostOver} (p : Problem) (s : Gro
       by : (o : Option (List ℤ)) → refutation_of (hand_of s j) ≡ o → AreInRange o → ShutsLeaf p claimed (cell_at s.pool.payloads j) (refuted_by o)
       by None e r = λ u. true≢false (sym (each j lt u) ∙ ap (λ (o : Option (List ℤ)). is_some o) (ap refutation_of (sym (hand_there s j u)) ∙ e))
       by (Some ys) e r = refuted_by_hand claimed j lt ys e r
-
-  -- a leaf that is open in the tree then is none that is refuted, and stands there as before
-  pub record IsLeftOpen (j : ℕ) : Type 0 where
-    pub there : j < length s.pool.payloads
-    pub cell_is : cell_at (shut_cells ms s.pool.payloads) j ≡ cell_at s.pool.payloads j
-    pub lives : refutation_of (ready_at s j) ≡ None
-
-  pub left_open : (j : ℕ) → j < length s.pool.payloads → (cell_at s.pool.payloads j).end ≡ leaf untried → refutation_of (ready_at s j) ≡ None → IsLeftOpen j
-  left_open j lt u lives = record {
-    there = lt;
-    cell_is = shut_at ms s.pool.payloads j lt
-        ∙ (ap (λ (o : Option Shut). as_shut (cell_at s.pool.payloads j) (shut_end o (cell_at s.pool.payloads j).end)) ((shut j lt).0 ∙ ap refuted_by (ap refutation_of (hand_there s j u) ∙ lives))
-        ∙ ap (λ (e : End Leaf). as_shut (cell_at s.pool.payloads j) e) (unproved_stays (cell_at s.pool.payloads j).end));
-    lives = lives;
-  }
-
-  pub open_left : (j : ℕ) → j < length (shut_cells ms s.pool.payloads) → (cell_at (shut_cells ms s.pool.payloads) j).end ≡ leaf untried → IsLeftOpen j
-  open_left j lt e = by (refutation_of (hand_of s j)) refl (ap (λ (o : Option Shut). shut_end o (cell_at s.pool.payloads j).end) (sym (shut j less).0) ∙ (ap (λ (c : Cell). c.end) (sym (shut_at ms s.pool.payloads j less)) ∙ e))
-    where
-      less : j < length s.pool.payloads
-      less = let n = shut_length ms s.pool.payloads in omega (arith, lt, n)
-
-      by : (o : Option (List ℤ)) → refutation_of (hand_of s j) ≡ o → shut_end (refuted_by (refutation_of (hand_of s j))) (cell_at s.pool.payloads j).end ≡ leaf untried → IsLeftOpen j
-      by None q k =
-          let u : (cell_at s.pool.payloads j).end ≡ leaf untried
-          = sym (unproved_stays (cell_at s.pool.payloads j).end) ∙ (ap (λ (o : Option (List ℤ)). shut_end (refuted_by o) (cell_at s.pool.payloads j).end) (sym q) ∙ k) in
-          left_open j less u (ap refutation_of (sym (hand_there s j u)) ∙ q)
-      by (Some ys) q k = absurd (no_open (shuts.Refuted ys) (cell_at s.pool.payloads j).end (ap (λ (o : Option (List ℤ)). shut_end (refuted_by o) (cell_at s.pool.payloads j).end) (sym q) ∙ k))

@@ -1,5 +1,6 @@
 -- What a turn leads to, from what its parts do.
-use Rattle.std.proofs.Common.{◌≡◌, ℕ, ◌<◌, Bool, true, false, List, length, Option, Some, None, refl, sym, ap, ◌∙◌, subst, arith}
+use Rattle.std.specs.Prelude.{IfOk}
+use Rattle.std.proofs.Common.{◌≡◌, ℕ, ◌<◌, Bool, true, false, List, length, Option, Some, None, Result, Ok, Err, refl, sym, ap, ◌∙◌, subst, arith}
 use Rattle.problem_rules.specs.Problem.{Problem}
 use Rattle.pns_rules.specs.Shape.{Shape, shape_of}
 use Rattle.pns_rules.specs.Ends.{IsSound}
@@ -28,9 +29,8 @@ use Rattle.abb_search.specs.declared.outcome.Found.TheVariants as founds
 use Rattle.abb_search.specs.declared.growing.Growing.{Growing}
 use Rattle.abb_search.specs.declared.growing.StoppedLeaf.{StoppedLeaf}
 use Rattle.abb_search.specs.Growing.{IsTreeKept, IsTreeKeptFor, leaf_of, GoesOn, IsGoing, IsSame, IsSameButHand}
-use Rattle.abb_search.specs.Settling.{SettleHolds}
 use Rattle.abb_search.specs.Found.{IsFoundBy, found_with}
-use Rattle.abb_search.specs.Answers.{network_in, IsAgainst, IsMore, IsEnd, StepHolds, settled_round, RoundHolds}
+use Rattle.abb_search.specs.Answers.{network_in, IsAgainst, IsMore, IsEnd, StepHolds}
 use Rattle.abb_search.specs.Searched.{Searched, IsSameSearch, AreNodesOf, StandsAt, IsSearching}
 use Rattle.abb_search.proofs.SameLemmas.{kept_same, tree_same, stands_same}
 
@@ -162,10 +162,10 @@ step_same Past p old mid new o e t h =
     step_from Past p old mid new o h e.start e.budget (ap (λ (cs : List Cell). length cs) e.cells) (tree_positive p old t) (tree_positive p mid (tree_same Past p old mid e t))
     (subst (λ (w : Option claims.Network). HasFallen (cost_of old.best) (cost_of w)) (sym e.best) (fallen_same (cost_of old.best)))
 
--- what comes of settling leaves
-pub round_settled : (Past : PastPlaces) (p : Problem) (old new : Growing) (h : Option StoppedLeaf) → IsSame Past p old new → SettleHolds Past p old new h → RoundHolds Past p old new (settled_round h)
-round_settled Past p old new None e s = (e, s)
-round_settled Past p old new (Some w) e s = (e, s)
+-- so is what is told, where there is memory
+pub told_same : {E : Type 0} (Past : PastPlaces) (p : Problem) (old mid new : Growing) (r : Result (Option Found) E) → IsSame Past p old mid → IsTreeKept p old → IfOk r (StepHolds Past p mid new) → IfOk r (StepHolds Past p old new)
+told_same Past p old mid new (Ok o) e t h = step_same Past p old mid new o e t h
+told_same Past p old mid new (Err x) e t h = tt
 
 -- only what is at hand changed
 pub kept_but_hand : (p : Problem) (undercut : Option CostOver) (s n : Growing) → IsSameButHand s n → IsTreeKeptFor p undercut s → IsTreeKeptFor p undercut n

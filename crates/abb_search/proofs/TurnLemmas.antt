@@ -52,7 +52,7 @@ use Rattle.node_evaluation.proofs.BestLemmas.{improved_after, children_after}
 use Rattle.abb_search.specs.declared.growing.Growing.{Growing}
 use Rattle.abb_search.specs.declared.growing.StoppedLeaf.{StoppedLeaf}
 use Rattle.abb_search.specs.Worth.{interval_of, refutation_of, is_refuted, is_settled, is_put_off}
-use Rattle.abb_search.specs.Growing.{IsTreeKeptFor, AreOpen, IsGrowingFor, HasLeastValue, ready_at, IsSettledAt, HasInterval, reached_by, IsLeastLeaf, LeafUndercuts, MayUndercut, choice_of, IsBeaten, IsStoppedAt, stop_at, IsBranching, GoesOn, GoesOnFor}
+use Rattle.abb_search.specs.Growing.{IsTreeKeptFor, AreOpen, IsGrowingFor, HasLeastValue, ready_at, IsSettledAt, HasInterval, reached_by, IsLeastLeaf, LeafUndercuts, choice_of, IsStoppedAt, stop_at, IsBranching, GoesOn, GoesOnFor}
 use Rattle.abb_search.specs.Settling.{AreSettled}
 use Rattle.abb_search.specs.Closing.{AreBeaten}
 use Rattle.abb_search.proofs.WorthLemmas.{mixed_positive, dearer_refuted, never_both, else_settled, ready_under, ready_reached, ready_stop, ready_refuted}
@@ -144,21 +144,9 @@ pub value_leads : (s : Growing) (at : ℕ) → interval_of (ready_at s at) ≡ N
 value_leads s at none has_least v e j h ne w k =
     subst (λ (x : Mixed). IsNoMore (cost_over x) (cost_over w)) (reached_value v (interval_of (ready_at s at)) none) (has_least v e j h ne w k)
 
--- a network that does not beat the value costs no less
-pub not_beaten : (best : Option claims.Network) (v : Mixed) → (IsBeaten best v → ⊥) → IsAtMost (claimed_cost (claim_with best)) (numerator v) (denominator v)
-not_beaten None v h = tt
-not_beaten (Some w) v h = dearer (w.cost *ℤ denominator v) (numerator v *ℤ w.d) h
-
 -- an open leaf is one of the pool where it is settled what it is worth
 pub stopped_leaf : {Past : PastPlaces} {undercut : Option CostOver} (p : Problem) (s : Growing) → IsGrowingFor Past p undercut s → (at : ℕ) → at < length s.pool.payloads → (cell_at s.pool.payloads at).end ≡ leaf untried → IsSettledAt s at → has s.pool.leaves at ≡ true
 stopped_leaf p s g at there opens settled = elim (g.are_open.others at there opens) [ inl l ↦ l | inr r ↦ absurd (never_both (ready_at s at) settled r) ]
-
--- a beaten leaf that has relaxed flows which cost at most as much as the network is a least one
-pub tied_is_least : (s : Growing) (w : claims.Network) → s.best ≡ Some w → IsPositive (cost_in w) → AreBeaten s w → (at : ℕ) → MayUndercut s at → IsLeastLeaf s at
-tied_is_least s w is positive beaten at may v e j h ne x ex =
-    let u : Mixed = reached_by v (interval_of (ready_at s at)) in
-    let tied : IsNoMore (cost_over u) (cost_in w) = subst (λ (o : Option claims.Network). IsAtMost (claimed_cost (claim_with o)) (numerator u) (denominator u)) is (may v e) in
-    fraction_trans (numerator u) (denominator u) w.cost w.d (numerator x) (denominator x) (mixed_positive u) positive (mixed_positive x) tied (beaten.each j x h ex)
 
 module _ {Past : PastPlaces} {undercut : Option CostOver} (p : Problem) (valid : IsValid p) (s : Growing) (g : IsGrowingFor Past p undercut s) (at : ℕ) (is_leaf : has s.pool.leaves at ≡ true)
     (same_parents : length s.pool.payloads ≡ length s.pool.parents) (below : (id : ℕ) → has s.pool.leaves id ≡ true → id < length s.pool.parents) where
@@ -253,34 +241,7 @@ module _ {Past : PastPlaces} {undercut : Option CostOver} (p : Problem) (valid :
     ];
   }
 
-  -- so it is with the best network
-  pub all_beaten : HasLeastValue s at → (v : Mixed) → slice_get s.pool.values at ≡ Some v → IsBeaten s.best v → (w : claims.Network) × (s.best ≡ Some w) × AreBeaten s w
-  all_beaten has_least v e b = by s.best refl b
-    where
-      positive : (w : claims.Network) → s.best ≡ Some w → IsPositive (cost_in w)
-      positive w eb = subst (λ (o : Option claims.Network). IsPositiveCost (claimed_cost (claim_with o))) eb g.tree.kept.claim_positive
-
-      by : (o : Option claims.Network) → s.best ≡ o → IsBeaten o v → (w : claims.Network) × (s.best ≡ Some w) × AreBeaten s w
-      by None eb h = absurd h
-      by (Some w) eb h = (w, eb, beaten_by has_least v e w (positive w eb) h)
-
-  -- where no interval is known, the leaf may undercut a network that does not beat it
-  module _ (none : interval_of (ready_at s at) ≡ None) where
-    pub value_may : (v : Mixed) → slice_get s.pool.values at ≡ Some v → (IsBeaten s.best v → ⊥) → MayUndercut s at
-    value_may v e h x ex =
-        let both : Some v ≡ Some x = sym e ∙ ex in
-        let same : v ≡ x = cc in
-        subst (λ (u : Mixed). IsAtMost (claimed_cost (claim_with s.best)) (numerator u) (denominator u)) (same ∙ reached_value x (interval_of (ready_at s at)) none) (not_beaten s.best v h)
-
-  -- so it has an interval where it may not undercut one
-  pub interval_there : (v : Mixed) → slice_get s.pool.values at ≡ Some v → (IsBeaten s.best v → ⊥) → (MayUndercut s at → ⊥) → HasInterval s at
-  interval_there v e h never = by (interval_of (ready_at s at)) refl
-    where
-      by : (i : Option Interval) → interval_of (ready_at s at) ≡ i → HasInterval s at
-      by None q = absurd (never (value_may q v e h))
-      by (Some i) q = record { interval = i; is = q }
-
-  -- and then it stops the search
+  -- a leaf that has an interval stops the search
   pub stops_there : (h : IsHand) (i : Interval) → interval_of (ready_at s at) ≡ Some i → IsStoppedAt Past p s at i.stop
   stops_there h i e = record {
     there = there;
@@ -477,7 +438,7 @@ module _ {Past : PastPlaces} {undercut : Option CostOver} (p : Problem) (valid :
       )
 
       -- so it does where the best network is to be undercut
-      pub branched_step : MayUndercut s at → (new : Growing) (m : Choice) (choice : IsChoice (shape_of p) (place_of (cell_at s.pool.payloads at)) m)
+      pub branched_step : LeafUndercuts s (claimed_cost (claim_with s.best)) at → (new : Growing) (m : Choice) (choice : IsChoice (shape_of p) (place_of (cell_at s.pool.payloads at)) m)
           → length s.pool.payloads + option_count m ≤ s.budget → IsBranching Past p (place_of (cell_at s.pool.payloads at)) s new at (way_of m)
           → GoesOn Past p new new.stop × (length s.pool.payloads < length new.pool.payloads)
       branched_step may new m u few b =

@@ -12,10 +12,7 @@ use Rattle.abb_search.specs.declared.outcome.Found.{Found}
 use Rattle.abb_search.specs.declared.outcome.Found.TheVariants.{Solved, Infeasible, Spent, Past, Memory}
 use Rattle.abb_search.specs.declared.growing.Growing.{Growing}
 use Rattle.abb_search.specs.declared.growing.StoppedLeaf.{StoppedLeaf}
-use Rattle.abb_search.specs.declared.step.Round.{Round}
-use Rattle.abb_search.specs.declared.step.Round.TheVariants as rounds
-use Rattle.abb_search.specs.Growing.{IsSame, IsStoppedAt, IsGoing}
-use Rattle.abb_search.specs.Settling.{waiting}
+use Rattle.abb_search.specs.Growing.{IsGoing}
 use Rattle.abb_search.specs.Found.{IsFoundBy}
 
 -- what is found where a leaf stops the search
@@ -58,16 +55,3 @@ pub record IsEnd (Stops : PastPlaces) (p : Problem) (old new : Growing) (found :
 abbrev pub StepHolds : PastPlaces → Problem → Growing → Growing → Option Found → Type 0
 StepHolds Stops p old new None = IsMore Stops p old new
 StepHolds Stops p old new (Some found) = IsEnd Stops p old new found
-
--- ---- rounds of a turn
-
--- what comes of settling leaves
-abbrev pub settled_round : Option StoppedLeaf → Round
-settled_round None = rounds.Settled
-settled_round (Some h) = rounds.Stopped h
-
--- fewer leaves wait, and nothing else changed; or one stops the search; or the turn is taken
-abbrev pub RoundHolds : PastPlaces → Problem → Growing → Growing → Round → Type 0
-RoundHolds Stops p old new rounds.Settled = IsSame Stops p old new × (waiting new < waiting old)
-RoundHolds Stops p old new (rounds.Stopped h) = IsSame Stops p old new × IsStoppedAt Stops p new h.leaf h.stop
-RoundHolds Stops p old new (rounds.Taken found) = StepHolds Stops p old new found

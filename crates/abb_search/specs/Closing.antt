@@ -1,20 +1,25 @@
 -- What shuts the open leaves, where a network costs no more than any of them, or where they are refuted.
-use Rattle.std.specs.Prelude.{◌≡◌, ℕ, ℤ, ◌<◌, true, length, cond, List, Option, Some, None, slice_index_or}
+use Rattle.std.specs.Prelude.{◌≡◌, ℕ, ◌+◌, ℤ, ◌<◌, true, length, cond, List, Option, Some, None, slice_index_or}
 use Rattle.std.specs.List.{slice_get}
 use Rattle.link_lists.specs.Lists.{has}
 use Rattle.integer_laws.specs.Range.{InRange, AllInRange}
 use Rattle.problem_rules.specs.Problem.{Problem}
+use Rattle.pns_rules.specs.Shape.{shape_of}
 use Rattle.pns_rules.specs.Nodes.{Node}
 use Rattle.mixed_numbers.specs.declared.number.Mixed.{Mixed}
+use Rattle.tree_rules.specs.Ways.{Way, options_at}
 use Rattle.tree_rules.specs.Tree.{leaf}
 use Rattle.tree_rules.specs.Claim as claims
 use Rattle.tree_rules.specs.Claim.{CostOver}
 use Rattle.tree_rules.specs.Leaf.{untried, IsRefuted, IsBounded}
+use Rattle.tree_rules.specs.Lean.{MayUndercut}
+use Rattle.tree_rules.specs.Stops.{IsPending, IsNextCount}
 use Rattle.branch_tree.specs.Scaled.{Scaled}
 use Rattle.search_tree.specs.declared.shut.Shut.{Shut}
 use Rattle.search_tree.specs.declared.shut.Shut.TheVariants as shuts
 use Rattle.search_tree.specs.Cells.{Cell, place_of, cell_at}
 use Rattle.tree_rules.specs.Costs.{IsNoMore}
+use Rattle.turn_laws.specs.Turns.{CanBranch, IsLeastOpen}
 use Rattle.search_tree.specs.Growth.{is_open}
 use Rattle.slab.specs.Slab.{get}
 use Rattle.node_evaluation.specs.declared.looks.Ready.{Ready}
@@ -63,6 +68,15 @@ ShutsLeaf p claimed c (Some m) = ShutsNode p claimed (place_of c) m
 abbrev pub ShutAll : Problem → Growing → Option CostOver → List (Option Shut) → Type 0
 ShutAll p s claimed ms = (j : ℕ) → j < length s.pool.payloads → ShutsLeaf p claimed (cell_at s.pool.payloads j) (slice_index_or ms j None)
 
+-- what shuts a leaf shuts its node, and nothing need
+abbrev pub ShutsIfSome : Problem → Option CostOver → Node → Option Shut → Type 0
+ShutsIfSome p claimed n None = Unit {0}
+ShutsIfSome p claimed n (Some m) = ShutsNode p claimed n m
+
+-- some leaves may be shut, each by what stands at its number
+abbrev pub ShutSome : Problem → Growing → Option CostOver → List (Option Shut) → Type 0
+ShutSome p s claimed ms = (j : ℕ) → j < length s.pool.payloads → ShutsIfSome p claimed (place_of (cell_at s.pool.payloads j)) (slice_index_or ms j None)
+
 -- ---- where a network costs no more than any open leaf
 
 -- what is answered for one node, and for all: what shuts it, or that a number is past the range there
@@ -98,3 +112,19 @@ AreInRange (Some ys) = AllInRange ys
 abbrev pub RefutedShut : Growing → List (Option Shut) → Type 0
 RefutedShut s ms =
     (j : ℕ) → j < length s.pool.payloads → (slice_index_or ms j None ≡ refuted_by (refutation_of (hand_of s j))) × AreInRange (refutation_of (hand_of s j))
+
+-- ---- where the budget is spent
+
+-- with some open leaves shut, all others are pending; the leaf is one of these, a least one, which may undercut the cost, and the nodes
+-- with its children are more than the budget
+pub record IsSpentFor (p : Problem) (undercut : Option CostOver) (s : Growing) (ms : List (Option Shut)) (at options : ℕ) : Type 0 where
+  pub shut : ShutSome p s undercut ms
+  pub stays : slice_index_or ms at None ≡ None
+  pub way : Way
+  pub can : CanBranch p s.pool.payloads at way
+  pub least : IsLeastOpen p s.pool.payloads at
+  pub may : MayUndercut p undercut (place_of (cell_at s.pool.payloads at))
+  pub pending : (j : ℕ) → j < length s.pool.payloads → (cell_at s.pool.payloads j).end ≡ leaf untried → slice_index_or ms j None ≡ None → IsPending p (place_of (cell_at s.pool.payloads j))
+  pub count_is : IsNextCount (shape_of p) (place_of (cell_at s.pool.payloads at)) options
+  pub as_many : options ≡ length (options_at (shape_of p) (place_of (cell_at s.pool.payloads at)) way)
+  pub over : s.budget < length s.pool.payloads + options

@@ -3,24 +3,20 @@ use Rattle.std.specs.Prelude.{◌≡◌, ◌⊎◌, ℕ, ◌+◌, ◌-◌, ◌^�
 use Rattle.std.specs.List.{slice_get}
 use Rattle.link_lists.specs.Lists.{has}
 use Rattle.problem_rules.specs.Problem.{Problem}
-use Rattle.pns_rules.specs.Shape.{shape_of}
 use Rattle.pns_rules.specs.Nodes.{Node}
 use Rattle.pgraph.specs.View.{node_of}
 use Rattle.unit_sets.specs.declared.node.Node as starts
 use Rattle.mixed_numbers.specs.declared.number.Mixed.{Mixed}
 use Rattle.mixed_numbers.specs.Number.{numerator, denominator}
-use Rattle.tree_rules.specs.Ways.{Way, width, options_at}
+use Rattle.tree_rules.specs.Ways.{Way, width}
 use Rattle.tree_rules.specs.Tree.{branch, leaf}
 use Rattle.tree_rules.specs.Claim as claims
 use Rattle.tree_rules.specs.Claim.{CostOver, claimed_cost, IsAtMost, ClaimPasses}
 use Rattle.tree_rules.specs.Leaf.{untried}
-use Rattle.tree_rules.specs.Lean as lean
-use Rattle.tree_rules.specs.Stops.{IsPending, IsNextCount}
 use Rattle.search_tree.specs.Cells.{Cell, place_of, cell_at}
 use Rattle.search_tree.specs.Growth.{is_open, AreOpenAfter, as_parent}
 use Rattle.tree_rules.specs.Costs.{IsNoMore, HasFallen}
 use Rattle.turn_laws.specs.Kept.{IsKeptFor}
-use Rattle.turn_laws.specs.Turns.{CanBranch, IsLeastOpen}
 use Rattle.node_pool.specs.Pooled.{AreSameNodes}
 use Rattle.node_pool.specs.Order.{second}
 use Rattle.slab.specs.Slab.{Slab, get, Updates}
@@ -80,11 +76,6 @@ abbrev pub choice_of : Option Ready → Choice
 choice_of None = choices.Unit 0
 choice_of (Some r) = r.choice
 
--- the network costs no more than the value
-abbrev pub IsBeaten : Option claims.Network → Mixed → Type 0
-IsBeaten None value = ⊥
-IsBeaten (Some w) value = IsNoMore (cost_in w) (cost_over value)
-
 -- no open leaf has a lesser value than this one
 abbrev pub HasLeastValue : Growing → ℕ → Type 0
 HasLeastValue s at =
@@ -130,10 +121,6 @@ abbrev pub LeafUndercuts : Growing → Option CostOver → ℕ → Type 0
 LeafUndercuts s undercut at =
     (v : Mixed) → slice_get s.pool.values at ≡ Some v
     → IsAtMost undercut (numerator (reached_by v (interval_of (ready_at s at)))) (denominator (reached_by v (interval_of (ready_at s at))))
-
--- some cost at most as much as the best network
-abbrev pub MayUndercut : Growing → ℕ → Type 0
-MayUndercut s at = LeafUndercuts s (claimed_cost (claim_with s.best)) at
 
 -- ---- a leaf that stops the search
 
@@ -260,17 +247,3 @@ pub record IsBranching (Past : PastPlaces) (p : Problem) (n : Node) (old new : G
   pub start : new.start ≡ old.start
   pub budget : new.budget ≡ old.budget
   pub stop : new.stop ≡ stop_at (length old.pool.payloads) seen.stop
-
--- ---- the budget is spent
-
--- all open leaves are pending, the leaf is no dearer than any of them and may undercut the best network, and the nodes with its
--- children are more than the budget
-pub record IsSpentAt (p : Problem) (s : Growing) (at count : ℕ) : Type 0 where
-  pub way : Way
-  pub can : CanBranch p s.pool.payloads at way
-  pub least : IsLeastOpen p s.pool.payloads at
-  pub of_use : lean.MayUndercut p (claimed_cost (claim_with s.best)) (place_of (cell_at s.pool.payloads at))
-  pub pending : (j : ℕ) → j < length s.pool.payloads → (cell_at s.pool.payloads j).end ≡ leaf untried → IsPending p (place_of (cell_at s.pool.payloads j))
-  pub count_is : IsNextCount (shape_of p) (place_of (cell_at s.pool.payloads at)) count
-  pub as_many : count ≡ length (options_at (shape_of p) (place_of (cell_at s.pool.payloads at)) way)
-  pub over : s.budget < length s.pool.payloads + count

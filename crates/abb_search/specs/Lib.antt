@@ -3,6 +3,7 @@ pub mod Closing
 pub mod Found
 pub mod Growing
 pub mod Hand
+pub mod Rounds
 pub mod Searched
 pub mod Settling
 pub mod Worth

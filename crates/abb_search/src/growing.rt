@@ -17,7 +17,7 @@ ghost use Rattle.tree_rules.specs.Costs.{IsNoMore};
 ghost use Rattle.node_evaluation.specs.Children.{AreSolvedBy};
 ghost use Rattle.node_evaluation.specs.Evaluated.{cost_over, cost_in};
 ghost use Rattle.abb_search.specs.Worth.{interval_in, interval_of};
-ghost use Rattle.abb_search.specs.Growing.{IsBeaten, IsBranching, IsSameButRoom, IsSameButHand, HasInterval, IsReachedAt, IsLeastLeaf, IsHeldUp, MayUndercut, ready_at, interval_stop, stop_at, leaf_of, choice_of};
+ghost use Rattle.abb_search.specs.Growing.{IsBranching, IsSameButRoom, IsSameButHand, HasInterval, IsReachedAt, IsLeastLeaf, IsHeldUp, ready_at, interval_stop, stop_at, leaf_of, choice_of};
 
 use crate::hand::place_all;
 use branch_choice::Choice;
@@ -84,16 +84,6 @@ pub fn is_within(value: &Mixed, network: &Network) -> bool
 {
     network.is_sized();
     is_at_most(value, network.cost(), network.d())
-}
-
-/// Whether the network costs no more than the value.
-pub(crate) fn is_beaten(best: &Option<Network>, value: &Mixed) -> bool
-    ensures { IsTrue result ↔ IsBeaten best.now value.now }
-{
-    match best {
-        None => false,
-        Some(network) => reaches(value, network),
-    }
 }
 
 /// Whether so many nodes more are above the budget.
@@ -191,19 +181,6 @@ pub fn leads(growing: &Growing, leaf: u32) -> bool
     match growing.pool.next_least() {
         None => true,
         Some(next) => is_no_more(&interval.reached, &growing.pool.value(next)),
-    }
-}
-
-/// Whether an open leaf, where it is settled what it is worth, has relaxed flows that cost at most as much as the best network.
-pub(crate) fn may_undercut(growing: &Growing, leaf: u32) -> bool
-    requires { leaf < length growing.now.pool.payloads }
-    ensures { IsTrue result ↔ MayUndercut growing.now leaf }
-{
-    growing.pool.is_pool();
-    let reached = reached_at(growing, leaf);
-    match &growing.best {
-        None => true,
-        Some(network) => is_within(&reached, network),
     }
 }
 

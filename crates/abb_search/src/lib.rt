@@ -13,6 +13,7 @@
 //! - `root`: the root, before and after the steps that are possible there
 //! - `outcome`: what a search finds, and what a turn answers
 //! - `found`: the tree that shows what is found
+//! - `rounds`: which leaf is branched next, or how the search ends, whatever is to be undercut
 //! - `step`: a turn over the tree
 //! - `turns`: the object over any evaluator
 //! - `workspace`: what searches over one P-graph have in common, and the loop over the turns of a search
@@ -25,20 +26,17 @@ mod growing;
 mod hand;
 mod outcome;
 mod root;
+mod rounds;
 mod settling;
 mod step;
 mod turns;
 mod whole;
 mod workspace;
 
-pub use closing::{Closing, close_all, shut_refuted};
-pub use growing::{
-    Growing, StoppedLeaf, branch_leaf, choice_at, is_over, is_within, leads, node_at, reached_at,
-    reaches, stopped_leaf, take_stop,
-};
+pub use growing::{Growing, StoppedLeaf, branch_leaf, choice_at, node_at, take_stop};
 pub use outcome::{Found, Turn};
 pub use root::look_at_root;
-pub use settling::{first_put_off, is_settled, next_waiting, settle_from, settle_leaf};
+pub use rounds::{Ending, Goal, Next, next_leaf};
 pub use turns::SearchWith;
 pub use whole::{Search, Workspace, search, search_against};
 pub use workspace::WorkspaceWith;

@@ -19,10 +19,9 @@ use Rattle.search_tree.specs.Fits.{EndFits, Fits}
 use Rattle.search_tree.specs.Shut.{shut_as, shut_leaf}
 use Rattle.search_tree.proofs.ShutLemmas.{proof_of}
 use Rattle.abb_search.specs.declared.growing.Growing.{Growing}
-use Rattle.abb_search.specs.Closing.{ShutsNode, ShutsLeaf, ShutAll}
+use Rattle.abb_search.specs.Closing.{ShutsNode, ShutsLeaf, ShutAll, ShutsIfSome, ShutSome}
 use Rattle.rank_search.specs.Found.{FoundAt, networks_of, undercut_by, IsOfLeaf, IsFoundThere, AreBest}
 use Rattle.rank_search.specs.Naming.{names_of}
-use Rattle.rank_search.specs.Told.{ShutsIfSome, ShutSome}
 use Rattle.rank_search.proofs.NameLemmas.{name_is}
 use Rattle.rank_search.proofs.MarkLemmas.{named_leaf}
 use Rattle.rank_search.proofs.OrderLemmas.{leaf_told}
@@ -49,7 +48,7 @@ shuts_some p undercut n None h = refl
 shuts_some p undercut n (Some m) h = h
 
 pub some_close : (p : Problem) (s : Growing) (undercut : Option CostOver) (ms : List (Option Shut)) → ShutSome p s undercut ms → Closes true p undercut s.pool.payloads ms
-some_close p s undercut ms h j lt is = shuts_some p undercut (place_of (cell_at s.pool.payloads j)) (proof_of ms j) (h j lt is)
+some_close p s undercut ms h j lt is = shuts_some p undercut (place_of (cell_at s.pool.payloads j)) (proof_of ms j) (h j lt)
 
 -- ---- a leaf without a name
 

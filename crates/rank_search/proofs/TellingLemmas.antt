@@ -39,13 +39,13 @@ use Rattle.node_evaluation.specs.Children.{claim_with}
 use Rattle.node_evaluation.specs.Looks.{KnowsCell}
 use Rattle.abb_search.specs.declared.growing.Growing.{Growing}
 use Rattle.abb_search.specs.Growing.{IsTreeKeptFor}
-use Rattle.abb_search.specs.Closing.{ShutsNode}
+use Rattle.abb_search.specs.Closing.{ShutsNode, IsSpentFor}
 use Rattle.tree_rules.specs.Proved.{IsBelowLimit}
 use Rattle.abb_search.proofs.KnownLemmas.{AreKnown, known_end, knows_tree, few_nodes}
 use Rattle.rank_search.specs.Found.{FoundAt, networks_of, undercut_by, AreBest}
 use Rattle.rank_search.specs.Naming.{Names, name_at, names_at, names_of, IsNamedTree}
 use Rattle.rank_rules.specs.Leaf.{IsOpenLeaf}
-use Rattle.rank_search.specs.Told.{IsTelling, IsSpentTelling, IsSpentFor}
+use Rattle.rank_search.specs.Told.{IsTelling, IsSpentTelling}
 use Rattle.rank_search.proofs.FewLemmas.{few_with_next}
 use Rattle.rank_search.proofs.NamedLeafLemmas.{ClosesAt, Closes, leaf_passes, still_open, told_open, told_unshut}
 use Rattle.rank_search.proofs.MarkLemmas.{named_leaf, marked_is, length-opened, opened_known, marks_numbered}

@@ -10,12 +10,12 @@ ghost use Rattle.pgraph.specs.View.{node_of};
 ghost use Rattle.rank_rules.specs.Marked.{marked};
 ghost use Rattle.ranked_tree.specs.View.{mark_of};
 ghost use Rattle.search_tree.specs.Cells.{place_of, cell_at, IsLinked};
-ghost use Rattle.abb_search.specs.Closing.{ShutAll};
+ghost use Rattle.abb_search.specs.Closing.{ShutAll, ShutSome, IsSpentFor};
 ghost use Rattle.abb_search.specs.Growing.{IsTreeKeptFor};
 ghost use Rattle.rank_search.specs.Found.{AreBest, networks_of, undercut_by};
 ghost use Rattle.rank_search.specs.Naming.{AreWithin, IsNamedTree};
 ghost use Rattle.rank_rules.specs.Leaf.{IsOpenLeaf};
-ghost use Rattle.rank_search.specs.Told.{IsTelling, IsSpentTelling, IsSpentFor, ShutSome};
+ghost use Rattle.rank_search.specs.Told.{IsTelling, IsSpentTelling};
 
 use crate::found::FoundNetworks;
 use crate::naming::named_tree;

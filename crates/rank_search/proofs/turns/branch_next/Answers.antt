@@ -61,9 +61,9 @@ branch_leaf-requires-clause-few g c =
     let choice : IsChoice (shape_of p) (node_of c.node_at-node.result) m
     = subst (λ (k : Node). IsChoice (shape_of p) (node_of k) m) (sym c.node_at-node.ensures)
     (chosen p c.is_valid.ensures.valid s gr c.args.leaf c.requires.next.is_open c.is_pool.ensures.payloads c.is_pool.ensures.leaves m c.choice_at-choice.ensures) in
-    let few = subst (λ (x : Choice). length s.pool.payloads + option_count x ≤ s.budget) (sym c.choice_at-choice.ensures) c.requires.fits in
+    let few = subst (λ (x : Choice). length s.pool.payloads + option_count x ≤ s.budget) (sym c.choice_at-choice.ensures) c.requires.fits.within in
     let options = option_count_is (shape_of p) (node_of c.node_at-node.result) m choice in
-    let most = c.has_budget.ensures in
+    let most = c.requires.fits.numbered in
     omega (arith, few, options, most)
 
 pub add_all-requires : goal.add_all-requires
@@ -84,7 +84,7 @@ returns-clause-more g c =
     let m = c.choice_at-choice.result in
     let at = c.args.leaf in
     let choice = chosen p c.is_valid.ensures.valid s gr at c.requires.next.is_open c.is_pool.ensures.payloads c.is_pool.ensures.leaves m c.choice_at-choice.ensures in
-    let few = subst (λ (x : Choice). length s.pool.payloads + option_count x ≤ s.budget) (sym c.choice_at-choice.ensures) c.requires.fits in
+    let few = subst (λ (x : Choice). length s.pool.payloads + option_count x ≤ s.budget) (sym c.choice_at-choice.ensures) c.requires.fits.within in
     let b : IsBranching g.E.Evaluator.past p (node_of (cell_at s.pool.payloads at).node) s new at (way_of m)
     = subst (λ (k : Node). IsBranching g.E.Evaluator.past p (node_of k) s new at (way_of m)) c.node_at-node.ensures c.in_ok-networks.ensures.branching in
     let added : AreAdded l c.add_all.new.self (length s.pool.payloads) c.in_ok-networks.networks.items = subst (λ n. AreAdded l c.add_all.new.self n c.in_ok-networks.networks.items) gr.tree.counted c.in_ok-add_all.ensures.added in

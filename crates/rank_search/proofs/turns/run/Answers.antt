@@ -1,7 +1,7 @@
 use Rattle.std.proofs.Common.{◌∙◌, ℕ, List, length, Option, Some, None, sym, subst, arith}
 use Rattle.pgraph.specs.Tables.{shape}
 use Rattle.neutral_extension.specs.Candidates.{AreMakersOf}
-use Rattle.rank_search.specs.declared.turns.Ending.{Ending}
+use Rattle.abb_search.specs.declared.rounds.Ending.{Ending}
 use Rattle.rank_search.specs.Turns.{IsRanking, IsRankEnd, TurnHolds}
 use Rattle.rank_search.proofs.TurnLemmas.{kept_of}
 use Rattle.rank_search.proofs.turns.run.Goals as goal

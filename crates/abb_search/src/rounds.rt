@@ -1,0 +1,316 @@
+//! Rounds, which settle what open leaves are worth until it stands which leaf is branched next, or how the search ends.
+ghost use Rattle.std.specs.Prelude.{◌≡◌, ◌↔◌, ◌<◌, ◌+◌, IsTrue, IfOk, option_copied, length};
+ghost use Rattle.link_lists.specs.Lists.{first};
+ghost use Rattle.pns_rules.specs.Shape.{shape_of};
+ghost use Rattle.pgraph.specs.Tables.{shape};
+ghost use Rattle.branch_choice.specs.Choices.{option_count};
+ghost use Rattle.node_evaluation.specs.Looks.{cost_of};
+ghost use Rattle.abb_search.specs.Growing.{IsGrowingFor, IsSame, IsSettledAt, LeafUndercuts, choice_of, ready_at};
+ghost use Rattle.abb_search.specs.Rounds.{IsBeating, IsClosing, ClosingHolds, ValueUndercuts, IsNextLeaf, IsNext, RoundHolds, ends_at, undercut_of};
+
+use crate::closing::{Closing, close_all, shut_refuted};
+use crate::growing::{
+    Growing, StoppedLeaf, choice_at, is_over, is_within, leads, reached_at, reaches,
+};
+use crate::settling::{first_put_off, is_settled, next_waiting, settle_from, settle_leaf};
+use branch_tree::Network;
+use mixed_numbers::Mixed;
+use node_evaluation::Evaluator;
+use pgraph::Graph;
+use pns_problem::Problem;
+use search_tree::Shut;
+use std::alloc::{AllocError, Global};
+
+/// What is to be undercut.
+#[derive(Drop)]
+pub enum Goal<'a> {
+    /// The search's own best network, where there is one.
+    Best,
+    /// This network, or nothing yet.
+    Given(Option<&'a Network>),
+}
+
+/// How a search ends.
+#[derive(Drop)]
+pub enum Ending {
+    /// This shuts each leaf that is open, by its number.
+    Whole(Vec<Option<Shut>>),
+    /// The leaf would be branched next, into too many children. It is settled what each open leaf is
+    /// worth, and this shuts those that are refuted, by their numbers.
+    Spent {
+        leaf: u32,
+        options: u128,
+        refuted: Vec<Option<Shut>>,
+    },
+    /// A number is past the range at an open leaf.
+    Past(StoppedLeaf),
+}
+
+/// What a turn does where no leaf stops the search.
+#[derive(Drop)]
+pub enum Next {
+    /// Branches this leaf.
+    Branch(u32),
+    /// Stops at this leaf, whose least cost is past the range, and which may be dearer than another
+    /// one or what is to be undercut.
+    Stop(u32),
+    /// Ends the search.
+    End(Ending),
+}
+
+impl<'a> Goal<'a> {
+    /// The network that is to be undercut, where there is one.
+    fn to_beat<'b>(&'b self, growing: &'b Growing) -> Option<&'b Network>
+        ensures { cost_of (option_copied result) ≡ undercut_of self.now growing.now }
+    {
+        match self {
+            Goal::Best => growing.best.as_ref(),
+            Goal::Given(network) => *network,
+        }
+    }
+
+    /// The network that is to be undercut, where it costs no more than the value.
+    fn beating<'b>(&'b self, growing: &'b Growing, value: &Mixed) -> Option<&'b Network>
+        ensures { IsBeating (undercut_of self.now growing.now) value.now (option_copied result) }
+    {
+        let network = self.to_beat(growing)?;
+        if reaches(value, network) {
+            Some(network)
+        } else {
+            None
+        }
+    }
+
+    /// Whether an open leaf, where it is settled what it is worth, has relaxed flows that cost at
+    /// most as much as what is to be undercut.
+    fn may_be_undercut(&self, growing: &Growing, leaf: u32) -> bool
+        requires { leaf < length growing.now.pool.payloads }
+        ensures { IsTrue result ↔ LeafUndercuts growing.now (undercut_of self.now growing.now) leaf }
+    {
+        let reached = reached_at(growing, leaf);
+        match self.to_beat(growing) {
+            None => true,
+            Some(network) => is_within(&reached, network),
+        }
+    }
+}
+
+/// The search ends at a leaf where a number is past the range as it is settled.
+fn ends_at(stopped: Option<StoppedLeaf>) -> Option<Next>
+    ensures { result ≡ ends_at stopped }
+{
+    match stopped {
+        None => None,
+        Some(stopped) => Some(Next::End(Ending::Past(stopped))),
+    }
+}
+
+/// The search ends before a leaf whose children are above the budget, once it is settled what each
+/// open leaf is worth: another one may be a least one then.
+fn spend<E: Evaluator>(
+    alloc: Global,
+    evaluator: &mut E,
+    problem: &Problem,
+    graph: &Graph,
+    growing: &mut Growing,
+    _goal: &Goal<'_>,
+    leaf: u32,
+    options: u128,
+) -> Result<Option<Next>, AllocError>
+    requires graph { shape graph.now ≡ shape_of problem.now }
+    requires growing { IsGrowingFor E.past problem.now (undercut_of _goal.now growing.old) growing.old }
+    requires next { IsNextLeaf growing.old (undercut_of _goal.now growing.old) leaf }
+    requires options { options ≡ option_count (choice_of (ready_at growing.old leaf)) }
+    requires over { growing.old.budget < length growing.old.pool.payloads + options }
+    ensures holds { IfOk result (RoundHolds E.past problem.now growing.old growing.new (undercut_of _goal.now growing.old)) }
+    ensures same { IsSame E.past problem.now growing.old growing.new }
+{
+    problem.is_valid();
+    growing.pool.is_pool();
+    if let Some(first) = first_put_off(growing) {
+        let stopped = settle_from(alloc, evaluator, problem, graph, growing, first)?;
+        return Ok(ends_at(stopped));
+    }
+    let refuted = shut_refuted(alloc, growing)?;
+    Ok(Some(Next::End(Ending::Spent {
+        leaf,
+        options,
+        refuted,
+    })))
+}
+
+/// Branches a leaf that is no dearer than any other and may undercut what is to be undercut, or
+/// tells that the budget is spent.
+fn branch_least<E: Evaluator>(
+    alloc: Global,
+    evaluator: &mut E,
+    problem: &Problem,
+    graph: &Graph,
+    growing: &mut Growing,
+    goal: &Goal<'_>,
+    leaf: u32,
+) -> Result<Option<Next>, AllocError>
+    requires graph { shape graph.now ≡ shape_of problem.now }
+    requires growing { IsGrowingFor E.past problem.now (undercut_of goal.now growing.old) growing.old }
+    requires next { IsNextLeaf growing.old (undercut_of goal.now growing.old) leaf }
+    ensures holds { IfOk result (RoundHolds E.past problem.now growing.old growing.new (undercut_of goal.now growing.old)) }
+    ensures same { IsSame E.past problem.now growing.old growing.new }
+{
+    problem.is_valid();
+    growing.pool.is_pool();
+    let choice = choice_at(growing, leaf);
+    let options = choice.options();
+    if is_over(options, growing.nodes, growing.budget) {
+        return spend(
+            alloc, evaluator, problem, graph, growing, goal, leaf, options,
+        );
+    }
+    Ok(Some(Next::Branch(leaf)))
+}
+
+/// What shuts each open leaf, where the network that is to be undercut costs no more than the least
+/// value, which this leaf has.
+fn close<E: Evaluator>(
+    alloc: Global,
+    evaluator: &mut E,
+    problem: &Problem,
+    graph: &Graph,
+    growing: &Growing,
+    goal: &Goal<'_>,
+    leaf: u32,
+) -> Result<Option<Closing>, AllocError>
+    requires graph { shape graph.now ≡ shape_of problem.now }
+    requires growing { IsGrowingFor E.past problem.now (undercut_of goal.now growing.now) growing.now }
+    requires leaf { first growing.now.pool.leaves ≡ Some leaf }
+    ensures { IfOk result (IsClosing E.past problem.now growing.now (undercut_of goal.now growing.now) leaf) }
+{
+    problem.is_valid();
+    growing.pool.is_pool();
+    let value = growing.pool.value(leaf);
+    let Some(network) = goal.beating(growing, &value) else {
+        return Ok(None);
+    };
+    let closing = close_all(alloc, evaluator, problem, graph, growing, network)?;
+    Ok(Some(closing))
+}
+
+/// Ends the search where all open leaves are shut. A leaf that can't be, since a number is past the
+/// range there, is branched where it has relaxed flows that cost just as much as what is to be
+/// undercut, and else the search ends there.
+fn after_closing<E: Evaluator>(
+    alloc: Global,
+    evaluator: &mut E,
+    problem: &Problem,
+    graph: &Graph,
+    growing: &mut Growing,
+    goal: &Goal<'_>,
+    closing: Closing,
+) -> Result<Option<Next>, AllocError>
+    requires graph { shape graph.now ≡ shape_of problem.now }
+    requires growing { IsGrowingFor E.past problem.now (undercut_of goal.now growing.old) growing.old }
+    requires closing { ClosingHolds E.past problem.now growing.old (undercut_of goal.now growing.old) closing }
+    ensures holds { IfOk result (RoundHolds E.past problem.now growing.old growing.new (undercut_of goal.now growing.old)) }
+    ensures same { IsSame E.past problem.now growing.old growing.new }
+{
+    match closing {
+        Closing::Proved(proofs) => Ok(Some(Next::End(Ending::Whole(proofs)))),
+        Closing::Stopped(stopped) => {
+            if goal.may_be_undercut(growing, stopped.leaf) {
+                let leaf = stopped.leaf;
+                branch_least(alloc, evaluator, problem, graph, growing, goal, leaf)
+            } else {
+                Ok(Some(Next::End(Ending::Past(stopped))))
+            }
+        }
+    }
+}
+
+/// Branches the leaf of least value, of which it is settled what it is worth; or the search stops
+/// there, since its least cost is past the range, and it may be dearer than another one or what is to
+/// be undercut. Where it may be dearer than the leaf behind it, it is settled first what that is
+/// worth.
+fn take_least<E: Evaluator>(
+    alloc: Global,
+    evaluator: &mut E,
+    problem: &Problem,
+    graph: &Graph,
+    growing: &mut Growing,
+    goal: &Goal<'_>,
+    leaf: u32,
+) -> Result<Option<Next>, AllocError>
+    requires graph { shape graph.now ≡ shape_of problem.now }
+    requires growing { IsGrowingFor E.past problem.now (undercut_of goal.now growing.old) growing.old }
+    requires leaf { first growing.old.pool.leaves ≡ Some leaf }
+    requires settled { IsSettledAt growing.old leaf }
+    requires below { ValueUndercuts growing.old (undercut_of goal.now growing.old) leaf }
+    ensures holds { IfOk result (RoundHolds E.past problem.now growing.old growing.new (undercut_of goal.now growing.old)) }
+    ensures same { IsSame E.past problem.now growing.old growing.new }
+{
+    problem.is_valid();
+    growing.pool.is_pool();
+    if leads(growing, leaf) {
+        if goal.may_be_undercut(growing, leaf) {
+            return branch_least(alloc, evaluator, problem, graph, growing, goal, leaf);
+        }
+    } else if let Some(next) = next_waiting(growing) {
+        let stopped = settle_leaf(alloc, evaluator, problem, graph, growing, next)?;
+        return Ok(ends_at(stopped));
+    }
+    Ok(Some(Next::Stop(leaf)))
+}
+
+/// Takes a round at the leaf of least value: it is settled what that is worth, or it stands what
+/// comes next. Where the network that is to be undercut costs no more than that value, all open
+/// leaves are shut. No leaf stops the search but that of least value, where it may not be branched
+/// since its least cost is past the range, or one at which a number is past the range as it is
+/// settled or shut.
+fn round<E: Evaluator>(
+    alloc: Global,
+    evaluator: &mut E,
+    problem: &Problem,
+    graph: &Graph,
+    growing: &mut Growing,
+    goal: &Goal<'_>,
+) -> Result<Option<Next>, AllocError>
+    requires graph { shape graph.now ≡ shape_of problem.now }
+    requires growing { IsGrowingFor E.past problem.now (undercut_of goal.now growing.old) growing.old }
+    ensures holds { IfOk result (RoundHolds E.past problem.now growing.old growing.new (undercut_of goal.now growing.old)) }
+    ensures same { IsSame E.past problem.now growing.old growing.new }
+{
+    problem.is_valid();
+    growing.pool.is_pool();
+    let Some(leaf) = growing.pool.least() else {
+        let proofs = shut_refuted(alloc, growing)?;
+        return Ok(Some(Next::End(Ending::Whole(proofs))));
+    };
+    if let Some(closing) = close(alloc, evaluator, problem, graph, growing, goal, leaf)? {
+        return after_closing(alloc, evaluator, problem, graph, growing, goal, closing);
+    }
+    if is_settled(growing, leaf) {
+        return take_least(alloc, evaluator, problem, graph, growing, goal, leaf);
+    }
+    let stopped = settle_leaf(alloc, evaluator, problem, graph, growing, leaf)?;
+    Ok(ends_at(stopped))
+}
+
+/// Takes rounds until it stands what comes next. Each round but the last leaves fewer leaves of
+/// which it is not settled what they are worth. `Err` comes for want of memory alone.
+pub fn next_leaf<E: Evaluator>(
+    alloc: Global,
+    evaluator: &mut E,
+    problem: &Problem,
+    graph: &Graph,
+    growing: &mut Growing,
+    goal: &Goal<'_>,
+) -> Result<Next, AllocError>
+    requires graph { shape graph.now ≡ shape_of problem.now }
+    requires growing { IsGrowingFor E.past problem.now (undercut_of goal.now growing.old) growing.old }
+    ensures next { IfOk result (IsNext E.past problem.now growing.new (undercut_of goal.now growing.old)) }
+    ensures same { IsSame E.past problem.now growing.old growing.new }
+{
+    'rounds: loop {
+        if let Some(next) = round(alloc, evaluator, problem, graph, growing, goal)? {
+            return Ok(next);
+        }
+    }
+}
