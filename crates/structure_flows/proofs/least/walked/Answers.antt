@@ -1,4 +1,6 @@
 use Rattle.std.proofs.Common.{◌≡◌, ◌≤◌, ◌∙◌, ap, subst, sym, ℕ}
+use Rattle.std.specs.Prelude.{IfOk}
+use Rattle.problem_rules.specs.Problem.{Problem}
 use Rattle.number_sets.proofs.SetLemmas.{length_below}
 use Rattle.pns_rules.specs.Nodes.{Node}
 use Rattle.flow_rules.specs.Net.{net_of}
@@ -6,6 +8,7 @@ use Rattle.flow_rules.specs.Program.{program_of}
 use Rattle.tree_rules.specs.Known.{KnowsPlace}
 use Rattle.dual_simplex.specs.PastPlace.{IsPastOf}
 use Rattle.tree_rules.specs.LeastFlows.{decided}
+use Rattle.structure_flows.specs.Answers.{AnswersFor}
 use Rattle.structure_flows.proofs.KnownLemmas.{entry_known}
 use Rattle.structure_flows.proofs.least.walked.Goals as goal
 
@@ -33,3 +36,11 @@ past-requires-clause-known c =
     let own : c.in_ok-program.program ≡ program_of (net_of p) n = c.in_ok-program.ensures ∙ ap (λ (m : Node). program_of (net_of p) m) c.node_of-node.ensures.node in
     let past : IsPastOf c.in_ok-program.program c.least.new.self c.in-Err.place = c.in-Err.ensures.past in
     subst (KnowsPlace p) (sym past.named) (entry_known p n c.in_ok-program.program own past.leaves past.enters past.row past.column past.which)
+
+pub returns-in-Ok-None : goal.returns-in-Ok-None
+returns-in-Ok-None c =
+    subst (λ (p : Problem). IfOk c.refuted.result (AnswersFor p c.args.set)) c.problem-problem.ensures.same c.refuted.ensures
+
+pub returns : goal.returns
+returns c =
+    subst (λ (p : Problem). IfOk c.past.result (AnswersFor p c.args.set)) c.problem-problem.ensures.same c.past.ensures
