@@ -1,11 +1,11 @@
 -- What a network moves of a material at one unit is a number by which it was judged.
-use Rattle.std.proofs.Common.{◌≡◌, ◌≢◌, ℕ, ◌<◌, List, [], ◌∷◌, refl, sym, ap, ◌∙◌, subst, arith, pos, ℤ, ◌+ℤ◌, ◌-ℤ◌, ◌*ℤ◌, true, false, Bool, ◌==◌, ◌⊎◌, inl, inr, length}
+use Rattle.std.proofs.Common.{◌≡◌, ◌≢◌, ℕ, ◌<◌, List, [], ◌∷◌, refl, ap, ◌∙◌, subst, arith, pos, ℤ, ◌+ℤ◌, ◌-ℤ◌, ◌*ℤ◌, true, false, Bool, ◌==◌, ◌⊎◌, inl, inr, length}
 use Rattle.std.specs.Prelude.{◌||◌, ◌&&◌, nat_lt, not}
 use Rattle.std.specs.Ordering.{int_eq}
 use Rattle.std.proofs.lemmas.Int.{ints}
 use Rattle.std.proofs.lemmas.Bool.{eqb-true, lt-ltb}
 use Rattle.integer_laws.specs.Range.{InRange}
-use Rattle.number_sets.specs.Sets.{has, listed}
+use Rattle.number_sets.specs.Sets.{has}
 use Rattle.number_sets.proofs.SetLemmas.{has-listed, any_below-from}
 use Rattle.problem_rules.specs.Problem.{Problem, Term, terms_have, rate_in, rate_of, unit_at}
 use Rattle.pns_rules.specs.Shape.{shape_of, IsProper}
