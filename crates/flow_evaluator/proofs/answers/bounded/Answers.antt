@@ -19,7 +19,7 @@ returns-in_ok-bound-in-Ok-clause-evaluated c =
     let n = node_of c.args.node.now in
     let b = c.args.bench.now in
     let least : IsLeastOf (program_of (net_of p) n) b = subst (λ (q : Program). IsLeastOf q b) c.requires.program c.requires.least in
-    let bound = bound_is p c.problem-_problem.ensures.valid n b least c.least_is_least.ensures.scale c.least_is_least.ensures.reached c.least_is_least.ensures.least
+    let bound = bound_is p c.problem-problem.ensures.valid n b least c.least_is_least.ensures.scale c.least_is_least.ensures.reached c.least_is_least.ensures.least
     c.in-Ok.value c.in-Ok.ensures.value c.in-Ok.ensures.formed in
     let same : c.in_ok-bound-in-Ok.bound ≡ record { value = c.in-Ok.value; low = c.in-Ok.value; scaled = record { d = b.d; ys = b.ys }; interval = None } = c.in_ok-bound-in-Ok.ensures in
     (c.if-decided.false, subst (IsBoundOf IsPastAt p n) (sym same) bound)

@@ -16,7 +16,7 @@ returns-in_ok-bound-in-Ok c =
     let n = node_of c.args.node.now in
     let b = c.args.bench.now in
     let v = c.in-Ok.value in
-    let bound = bound_is p c.problem-_problem.ensures.valid n b c.requires.least c.least_is_least.ensures.scale c.least_is_least.ensures.reached c.least_is_least.ensures.least
+    let bound = bound_is p c.problem-problem.ensures.valid n b c.requires.least c.least_is_least.ensures.scale c.least_is_least.ensures.reached c.least_is_least.ensures.least
     v c.in-Ok.ensures.value c.in-Ok.ensures.formed in
     let same : c.in_ok-bound-in-Ok.bound ≡ record { value = v; low = v; scaled = record { d = b.d; ys = b.ys }; interval = None } = c.in_ok-bound-in-Ok.ensures in
     λ cost positive worth. subst (λ (x : Bound). IsBounded p (Some cost) n x.scaled.d x.scaled.ys) (sym same)

@@ -18,7 +18,7 @@ returns c =
     let whole : IsRefuted p n b.ys = record {
       each_row = c.requires.none.count;
       formed = c.in_default.ensures.formed;
-      refutes = c.none_is_refuted.ensures p c.problem-_problem.ensures.valid n (program_of (net_of p) n) b refl c.requires.none;
+      refutes = c.none_is_refuted.ensures p c.problem-problem.ensures.valid n (program_of (net_of p) n) b refl c.requires.none;
     } in
     let listed : c.in_ok-ys.ys.items ≡ b.ys = search rules in
     let ys : c.from_vec.result ≡ b.ys = c.from_vec.ensures ∙ listed in

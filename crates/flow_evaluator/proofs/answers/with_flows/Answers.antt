@@ -61,7 +61,7 @@ returns-in_ok-network-in-Ok-clause-evaluated c =
     let flows : AreFlowsOf own b = subst (λ (q : Program). AreFlowsOf q b) c.requires.program c.in_default.ensures.flows in
     let low : IsValueAt p n b v = kept_value p n old b v c.read_flows.ensures.d c.read_flows.ensures.ys c.requires.value in
     let formed : IsFormed p n b.d b.ys = kept_steps p n old b c.read_flows.ensures.d c.read_flows.ensures.ys c.requires.formed in
-    let valid = c.problem-_problem.ensures.valid in
+    let valid = c.problem-problem.ensures.valid in
     let bound = bound_is p valid n b least c.least_is_least.ensures.scale c.least_is_least.ensures.reached c.least_is_least.ensures.least v low formed in
     let network = network_is p valid c.args.node.now b least flows c.requires.sound c.requires.decided same c.least_is_least.ensures.scale c.split_flows_are_least.ensures.flows
     c.split_flows_are_least.ensures.least v low c.in-Ok.cost c.in-Ok.ensures.cost c.in-Ok.ensures.costs c.in-Ok.ensures.balances in
