@@ -23,6 +23,27 @@ use tree_laws::{accepted_has_flows, accepted_is_optimal};
 use tree_rules::Refusal;
 
 /// Says whether the tree proves the claim, or else the first line of the claim or the first node that fails.
+fn say_judged<K: Sink>(
+    alloc: Global,
+    out: &mut K,
+    site: &Site<'_>,
+    claim: &Claim,
+    tree: &Tree,
+) -> Status
+    requires few { length tree.now < 2 ^ 32 }
+    ensures { Ends (Tells (CheckWork site.now (claim_of claim.now) tree.now)) (K.state out.old) (K.state out.new) result }
+{
+    match check_tree(alloc, site, claim, tree) {
+        Ok(()) => say(out, b"accepted\n", Status::Done),
+        Err(Refusal::Claim(why)) => {
+            say_of(alloc, out, "refused claim ", why_word(why), Status::Refused)
+        }
+        Err(Refusal::Node { node, why }) => say_node(alloc, out, node, why),
+        Err(Refusal::Memory) => say_memory(out),
+    }
+}
+
+/// The same, once the problem's graph is made.
 fn say_checked<K: Sink>(
     alloc: Global,
     out: &mut K,
@@ -36,14 +57,8 @@ fn say_checked<K: Sink>(
     let Ok(graph) = Graph::of(alloc, problem) else {
         return say_memory(out);
     };
-    match check_tree(alloc, &Site::of(problem, &graph), claim, tree) {
-        Ok(()) => say(out, b"accepted\n", Status::Done),
-        Err(Refusal::Claim(why)) => {
-            say_of(alloc, out, "refused claim ", why_word(why), Status::Refused)
-        }
-        Err(Refusal::Node { node, why }) => say_node(alloc, out, node, why),
-        Err(Refusal::Memory) => say_memory(out),
-    }
+    let site = Site::of(problem, &graph);
+    say_judged(alloc, out, &site, claim, tree)
 }
 
 fn say_tree<F: Shelf, K: Sink>(

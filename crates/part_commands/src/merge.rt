@@ -160,6 +160,31 @@ fn say_tree_text<K: Sink>(
 }
 
 // Puts the parts back in turn and prints what comes of it, or says which is not put back, and why.
+fn say_put_back<K: Sink>(
+    alloc: Global,
+    out: &mut K,
+    site: &Site<'_>,
+    claim: Claim,
+    tree: Tree,
+    names: &[String],
+    parts: &[Part],
+) -> Status
+    requires claim { KnowsClaim site.now (claim_of claim) }
+    requires tree { KnowsTree site.now tree }
+    requires parts { Each (KnowsPart site.now) parts.now }
+    requires count { length parts.now ≡ length names.now }
+    ensures { Ends (Tells (MergeSays (map string_bytes names.now) site.now (claim_of claim) tree parts.now)) (K.state out.old) (K.state out.new) result }
+{
+    match merge_all(alloc, site, claim, tree, parts) {
+        Ok((both, grown)) => say_tree_text(alloc, out, site.problem(), &both, &grown),
+        Err(stop) => {
+            let name = names[stop.part].as_str();
+            say_fault(alloc, out, 1 < names.len(), name, stop.fault)
+        }
+    }
+}
+
+// The same, once the problem's graph is made.
 fn say_merged<K: Sink>(
     alloc: Global,
     out: &mut K,
@@ -178,13 +203,8 @@ fn say_merged<K: Sink>(
     let Ok(graph) = Graph::of(alloc, problem) else {
         return say_memory(out);
     };
-    match merge_all(alloc, &Site::of(problem, &graph), claim, tree, parts) {
-        Ok((both, grown)) => say_tree_text(alloc, out, problem, &both, &grown),
-        Err(stop) => {
-            let name = names[stop.part].as_str();
-            say_fault(alloc, out, 1 < names.len(), name, stop.fault)
-        }
-    }
+    let site = Site::of(problem, &graph);
+    say_put_back(alloc, out, &site, claim, tree, names, parts)
 }
 
 fn say_parts<F: Shelf, K: Sink>(

@@ -63,6 +63,27 @@ fn say_leaves<K: Sink>(alloc: Global, out: &mut K, leaves: &[OpenLeaf]) -> Statu
 }
 
 /// Says the open leaves of the tree, or else the first line of the claim or the first node that fails.
+fn say_open<K: Sink>(
+    alloc: Global,
+    out: &mut K,
+    site: &Site<'_>,
+    claim: &Claim,
+    tree: &Tree,
+) -> Status
+    requires few { length tree.now < 2 ^ 32 }
+    ensures { Ends (Tells (SplitWork site.now (claim_of claim.now) tree.now)) (K.state out.old) (K.state out.new) result }
+{
+    match open_leaves(alloc, site, claim, tree) {
+        Ok(leaves) => say_leaves(alloc, out, &leaves),
+        Err(Refusal::Claim(why)) => {
+            say_of(alloc, out, "refused claim ", why_word(why), Status::Refused)
+        }
+        Err(Refusal::Node { node, why }) => say_node(alloc, out, node, why),
+        Err(Refusal::Memory) => say_memory(out),
+    }
+}
+
+/// The same, once the problem's graph is made.
 fn say_split<K: Sink>(
     alloc: Global,
     out: &mut K,
@@ -76,14 +97,8 @@ fn say_split<K: Sink>(
     let Ok(graph) = Graph::of(alloc, problem) else {
         return say_memory(out);
     };
-    match open_leaves(alloc, &Site::of(problem, &graph), claim, tree) {
-        Ok(leaves) => say_leaves(alloc, out, &leaves),
-        Err(Refusal::Claim(why)) => {
-            say_of(alloc, out, "refused claim ", why_word(why), Status::Refused)
-        }
-        Err(Refusal::Node { node, why }) => say_node(alloc, out, node, why),
-        Err(Refusal::Memory) => say_memory(out),
-    }
+    let site = Site::of(problem, &graph);
+    say_open(alloc, out, &site, claim, tree)
 }
 
 fn say_tree<F: Shelf, K: Sink>(

@@ -63,6 +63,19 @@ fn say_node<K: Sink>(alloc: Global, out: &mut K, node: u32, why: RankWhy) -> Sta
 }
 
 /// Says whether the tree proves the ranking, or else the first network or the first node that fails.
+fn say_judged<K: Sink>(alloc: Global, out: &mut K, site: &Site<'_>, text: &RankText) -> Status
+    requires few { length text.now.tree < 2 ^ 32 }
+    ensures { Ends (Tells (RankcheckWork site.now text.now)) (K.state out.old) (K.state out.new) result }
+{
+    match check_rank(alloc, site, text) {
+        Ok(()) => say(out, b"accepted\n", Status::Done),
+        Err(RankRefusal::Network { number, why }) => say_network(alloc, out, number, why),
+        Err(RankRefusal::Node { node, why }) => say_node(alloc, out, node, why),
+        Err(RankRefusal::Memory) => say_memory(out),
+    }
+}
+
+/// The same, once the problem's graph is made.
 fn say_checked<K: Sink>(alloc: Global, out: &mut K, problem: &Problem, text: &RankText) -> Status
     requires few { length text.now.tree < 2 ^ 32 }
     ensures { Ends (Tells (RankcheckWork problem.now text.now)) (K.state out.old) (K.state out.new) result }
@@ -70,12 +83,8 @@ fn say_checked<K: Sink>(alloc: Global, out: &mut K, problem: &Problem, text: &Ra
     let Ok(graph) = Graph::of(alloc, problem) else {
         return say_memory(out);
     };
-    match check_rank(alloc, &Site::of(problem, &graph), text) {
-        Ok(()) => say(out, b"accepted\n", Status::Done),
-        Err(RankRefusal::Network { number, why }) => say_network(alloc, out, number, why),
-        Err(RankRefusal::Node { node, why }) => say_node(alloc, out, node, why),
-        Err(RankRefusal::Memory) => say_memory(out),
-    }
+    let site = Site::of(problem, &graph);
+    say_judged(alloc, out, &site, text)
 }
 
 fn say_rank<F: Shelf, K: Sink>(

@@ -1,17 +1,10 @@
-use Rattle.std.proofs.Common.{◌≡◌, ◌<◌, arith, ◌∷◌, [], refl, ap, subst, sym, ◌∙◌, inl, inr, ℕ, List, Bool, nat_lt, get_or, length, map, codes, string_bytes}
-use Rattle.std.proofs.lemmas.List.{length-map, get_or-map}
+use Rattle.std.proofs.Common.{subst, sym, ℕ, List, map, string_bytes}
+use Rattle.problem_rules.specs.Problem.{Problem}
 use Rattle.branch_tree.specs.View.{claim_of}
-use Rattle.tree_rules.specs.Tail.{whole}
-use Rattle.pgraph.specs.Tables.{shape}
-use Rattle.tree_text_rules.specs.Spelling.{tree_text_lines}
-use Rattle.studio_rules.specs.Merge.{MergeSays, FaultSays}
-use Rattle.part_commands.proofs.MergeLines.{inside_known, merged_known}
-use Rattle.studio_rules.specs.Lines.{line}
-use Rattle.studio_rules.specs.Printed.{OneAnswer}
-use Rattle.studio_rules.specs.Ending.{Tells}
-use Rattle.studio_rules.specs.declared.status.Status.{Status}
-use Rattle.studio_rules.specs.declared.status.Status.TheVariants.{Done, Memory}
-use Rattle.endings.proofs.Ending.{Ends-map, Tells-map, Tells-memory, only_in}
+use Rattle.studio_rules.specs.Merge.{MergeSays}
+use Rattle.studio_rules.specs.Ending.{Ends, Tells}
+use Rattle.studio_rules.specs.declared.status.Status.TheVariants.{Memory}
+use Rattle.endings.proofs.Ending.{Ends-map, Tells-memory, only_in}
 use Rattle.part_commands.proofs.merge.say_merged.Goals as goal
 
 pub returns-in_default : goal.returns-in_default
@@ -19,46 +12,6 @@ returns-in_default g c =
     let says = MergeSays (map string_bytes c.args.names.now) c.args.problem.now (claim_of c.args.claim) c.args.tree c.args.parts.now in
     Ends-map _ _ (g.K.Sink.state c.args.out.now) _ _ (only_in (Tells says) Memory _ (Tells-memory says)) c.say_memory.ensures
 
-pub merge_all-requires-clause-known : goal.merge_all-requires-clause-known
-merge_all-requires-clause-known g c = inside_known c.args.problem.now (shape c.in-Ok.graph) c.in-Ok.ensures c.args.parts.now c.requires.parts
-
-pub say_tree_text-requires-clause-claim : goal.say_tree_text-requires-clause-claim
-say_tree_text-requires-clause-claim g c =
-    (merged_known c.args.problem.now (claim_of c.args.claim) c.args.tree c.args.parts.now (claim_of c.in-Ok-merge_all.both) c.in-Ok-merge_all.grown c.in-Ok-merge_all.ensures.merged c.requires.claim c.requires.tree c.requires.parts).0
-
-pub say_tree_text-requires-clause-tree : goal.say_tree_text-requires-clause-tree
-say_tree_text-requires-clause-tree g c =
-    (merged_known c.args.problem.now (claim_of c.args.claim) c.args.tree c.args.parts.now (claim_of c.in-Ok-merge_all.both) c.in-Ok-merge_all.grown c.in-Ok-merge_all.ensures.merged c.requires.claim c.requires.tree c.requires.parts).1
-
-pub returns-in-Ok-merge_all : goal.returns-in-Ok-merge_all
-returns-in-Ok-merge_all g c =
-    let p = c.args.problem.now in
-    let both = claim_of c.in-Ok-merge_all.both in
-    let grown = c.in-Ok-merge_all.grown in
-    let says = MergeSays (map string_bytes c.args.names.now) p (claim_of c.args.claim) c.args.tree c.args.parts.now in
-    Ends-map _ _ (g.K.Sink.state c.args.out.now) _ _
-    (Tells-map (OneAnswer Done (tree_text_lines p both grown whole)) says (λ s lines h. inl (record { both = both; grown = grown; merged = c.in-Ok-merge_all.ensures.merged; done = h.0; text = h.1 })))
-    c.say_tree_text.ensures
-
 pub returns : goal.returns
 returns g c =
-    let list = c.args.names.now in
-    let names = map string_bytes list in
-    let stop = c.in-Err.stop in
-    let stops = c.in-Err.ensures.fault in
-    let few = stops.within in
-    let as_many = c.requires.count in
-    let name : c.as_str-name.result.now ≡ get_or names stop.part [] =
-    c.as_str-name.ensures.value ∙ (ap string_bytes c.index-names-stop.is ∙ sym (get_or-map string_bytes list stop.part c.index-names-stop.result [] (omega (arith, few, as_many)))) in
-    let several : nat_lt 1 (length list) ≡ nat_lt 1 (length names) = ap (λ (n : ℕ). nat_lt 1 n) (sym (length-map list string_bytes)) in
-    let says = MergeSays names c.args.problem.now (claim_of c.args.claim) c.args.tree c.args.parts.now in
-    Ends-map _ _ (g.K.Sink.state c.args.out.now) _ _
-    (Tells-map (FaultSays (nat_lt 1 (length list)) c.as_str-name.result.now stop.fault) says (λ s lines h. inr (record {
-      place = stop.part;
-      fault = stop.fault;
-      stops = stops;
-      says =
-          subst (λ (n : List ℕ). FaultSays (nat_lt 1 (length names)) n stop.fault s lines) name
-          (subst (λ (b : Bool). FaultSays b c.as_str-name.result.now stop.fault s lines) several h);
-    })))
-    c.say_fault.ensures
+    subst (λ (p : Problem). Ends (Tells (MergeSays (map string_bytes c.args.names.now) p (claim_of c.args.claim) c.args.tree c.args.parts.now)) (g.K.Sink.state c.args.out.now) (g.K.Sink.state c.say_put_back.new.out) c.say_put_back.result) c.of-site.ensures c.say_put_back.ensures

@@ -1,65 +1,10 @@
-use Rattle.std.proofs.Common.{◌≡◌, subst, sym, ◌++◌, ◌∷◌, ◌∙◌, [], true, refl, ap, inl, inr, ℕ, List, codes}
+use Rattle.std.proofs.Common.{subst, ℕ, List}
+use Rattle.problem_rules.specs.Problem.{Problem}
 use Rattle.branch_tree.specs.View.{claim_of}
-use Rattle.tree_rules.specs.Claim.{ClaimPasses, ClaimFails}
-use Rattle.tree_rules.specs.Accepted.{first_node, NodeIsFault}
-use Rattle.pns_rules.specs.Shape.{shape_of}
-use Rattle.part_rules.specs.OpenLeaves.{open_leaves}
-use Rattle.cert_check.specs.declared.open_leaf.OpenLeaf.{OpenLeaf}
-use Rattle.cert_check.specs.OpenLeaves.{leaves_at}
-use Rattle.studio_rules.specs.Lines.{line}
-use Rattle.studio_rules.specs.Split.{SplitWork, LeavesSay, split_lines}
-use Rattle.studio_rules.specs.RefusalWords.{claim_line, node_line}
-use Rattle.studio_rules.specs.Ending.{Tells}
-use Rattle.studio_rules.specs.declared.status.Status.{Status}
-use Rattle.studio_rules.specs.declared.status.Status.TheVariants.{Refused, Memory}
-use Rattle.endings.proofs.Ending.{Ends-map, Tells-map, only_in, only_or_memory_in, one_line}
+use Rattle.studio_rules.specs.Split.{SplitWork}
+use Rattle.studio_rules.specs.Ending.{Ends, Tells}
 use Rattle.part_commands.proofs.split.say_split.Goals as goal
-
-pub returns-in-Err-Claim : goal.returns-in-Err-Claim
-returns-in-Err-Claim g c =
-    let Q : Status → List ℕ → Type 0 = Tells (SplitWork c.args.problem.now (claim_of c.args.claim.now) c.args.tree.now) in
-    let p = c.args.problem.now in
-    let claim = claim_of c.args.claim.now in
-    let fails : ClaimFails true p claim c.in-Err-Claim.why = (rw c.in-Err-Claim.field-0-is at c.in-Err-Claim.ensures.refused) in
-    let told : List ℕ = claim_line c.in-Err-Claim.why in
-    Ends-map _ Q (g.K.Sink.state c.args.out.now) _ _
-    (only_or_memory_in Q Refused (line (codes "refused claim " ++ c.why_word.result.now)) (
-      told ∷ [],
-      inl (c.in-Err-Claim.why, fails, refl),
-      ap (λ (word : List ℕ). line (codes "refused claim " ++ word)) c.why_word.ensures ∙ one_line told,
-    )
-    ([], inl refl, refl))
-    c.say_of.ensures
-
-pub returns-in-Err-Node : goal.returns-in-Err-Node
-returns-in-Err-Node g c =
-    let Q : Status → List ℕ → Type 0 = Tells (SplitWork c.args.problem.now (claim_of c.args.claim.now) c.args.tree.now) in
-    let p = c.args.problem.now in
-    let claim = claim_of c.args.claim.now in
-    let refuses : ClaimPasses true p claim × NodeIsFault true p first_node claim c.args.tree.now c.in-Err-Node.node c.in-Err-Node.why = (rw c.in-Err-Node.field-0-is at c.in-Err-Node.ensures.refused) in
-    let told : List ℕ = node_line c.in-Err-Node.node c.in-Err-Node.why in
-    Ends-map _ Q (g.K.Sink.state c.args.out.now) _ _
-    (only_or_memory_in Q Refused (line told) (
-      told ∷ [],
-      inr (refuses.0, (c.in-Err-Node.node, c.in-Err-Node.why, refuses.1, refl)),
-      one_line told,
-    )
-    ([], inl refl, refl))
-    c.say_node.ensures
-
-pub returns-in-Ok-open_leaves : goal.returns-in-Ok-open_leaves
-returns-in-Ok-open_leaves g c =
-    let p = c.args.problem.now in
-    let claim = claim_of c.args.claim.now in
-    let tree = c.args.tree.now in
-    let told : leaves_at c.deref.result.now ≡ open_leaves (shape_of p) (first_node ∷ []) tree 0 =
-    ap (λ (ls : List OpenLeaf). leaves_at ls) c.deref.ensures.value ∙ c.in-Ok-open_leaves.ensures.leaves in
-    Ends-map _ _ (g.K.Sink.state c.args.out.now) _ _
-    (Tells-map (LeavesSay (leaves_at c.deref.result.now)) (SplitWork p claim tree)
-    (λ s lines h. subst (λ (t : Status). SplitWork p claim tree t lines) (sym h.0) (c.in-Ok-open_leaves.ensures.partial, h.1 ∙ ap split_lines told)))
-    c.say_leaves.ensures
 
 pub returns : goal.returns
 returns g c =
-    let Q : Status → List ℕ → Type 0 = Tells (SplitWork c.args.problem.now (claim_of c.args.claim.now) c.args.tree.now) in
-    Ends-map _ Q (g.K.Sink.state c.args.out.now) _ _ (only_in Q Memory (line (codes "memory")) ([], inl refl, refl)) c.say_memory-in-Err-Memory.ensures
+    subst (λ (p : Problem). Ends (Tells (SplitWork p (claim_of c.args.claim.now) c.args.tree.now)) (g.K.Sink.state c.args.out.now) (g.K.Sink.state c.say_open.new.out) c.say_open.result) c.of-site.ensures c.say_open.ensures

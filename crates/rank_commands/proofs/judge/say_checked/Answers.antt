@@ -1,54 +1,9 @@
-use Rattle.std.proofs.Common.{◌∷◌, [], false, refl, inl, inr, ℕ, List, codes}
-use Rattle.rank_rules.specs.Networks.{ArePassing}
-use Rattle.rank_rules.specs.Ranked.{NetworkIsFault, NodeIsFault}
-use Rattle.rank_rules.specs.Text.{ranking_of}
-use Rattle.studio_rules.specs.RankWords.{network_line, rank_node_line}
-use Rattle.studio_rules.specs.Lines.{line}
+use Rattle.std.proofs.Common.{subst, ℕ, List}
+use Rattle.problem_rules.specs.Problem.{Problem}
 use Rattle.studio_rules.specs.Rankcheck.{RankcheckWork}
-use Rattle.studio_rules.specs.Ending.{Tells}
-use Rattle.studio_rules.specs.declared.status.Status.{Status}
-use Rattle.studio_rules.specs.declared.status.Status.TheVariants.{Done, Refused, Memory}
-use Rattle.endings.proofs.Ending.{Ends-map, only_in, only_or_memory_in, one_line}
+use Rattle.studio_rules.specs.Ending.{Ends, Tells}
 use Rattle.rank_commands.proofs.judge.say_checked.Goals as goal
-
-pub returns-in-Err-Network : goal.returns-in-Err-Network
-returns-in-Err-Network g c =
-    let Q : Status → List ℕ → Type 0 = Tells (RankcheckWork c.args.problem.now c.args.text.now) in
-    let fails : NetworkIsFault c.args.problem.now (ranking_of c.args.text.now) c.in-Err-Network.number c.in-Err-Network.why = (rw c.in-Err-Network.field-0-is at c.in-Err-Network.ensures.refused) in
-    let told : List ℕ = network_line c.in-Err-Network.number c.in-Err-Network.why in
-    Ends-map _ Q (g.K.Sink.state c.args.out.now) _ _
-    (only_or_memory_in Q Refused (line told) (
-      told ∷ [],
-      inl (c.in-Err-Network.number, c.in-Err-Network.why, fails, refl),
-      one_line told,
-    )
-    ([], inl refl, refl))
-    c.say_network.ensures
-
-pub returns-in-Err-Node : goal.returns-in-Err-Node
-returns-in-Err-Node g c =
-    let Q : Status → List ℕ → Type 0 = Tells (RankcheckWork c.args.problem.now c.args.text.now) in
-    let p = c.args.problem.now in
-    let t = c.args.text.now in
-    let refuses : ArePassing p [] t.networks × NodeIsFault false p (ranking_of t) c.in-Err-Node.node c.in-Err-Node.why = (rw c.in-Err-Node.field-0-is at c.in-Err-Node.ensures.refused) in
-    let told : List ℕ = rank_node_line c.in-Err-Node.node c.in-Err-Node.why in
-    Ends-map _ Q (g.K.Sink.state c.args.out.now) _ _
-    (only_or_memory_in Q Refused (line told) (
-      told ∷ [],
-      inr (refuses.0, (c.in-Err-Node.node, c.in-Err-Node.why, refuses.1, refl)),
-      one_line told,
-    )
-    ([], inl refl, refl))
-    c.say_node.ensures
-
-pub returns-in-Ok-check_rank : goal.returns-in-Ok-check_rank
-returns-in-Ok-check_rank g c =
-    let Q : Status → List ℕ → Type 0 = Tells (RankcheckWork c.args.problem.now c.args.text.now) in
-    Ends-map _ Q (g.K.Sink.state c.args.out.now) _ _
-    (only_in Q Done (line (codes "accepted")) (codes "accepted" ∷ [], (c.in-Ok-check_rank.ensures.ranked, refl), one_line (codes "accepted")))
-    c.say.ensures
 
 pub returns : goal.returns
 returns g c =
-    let Q : Status → List ℕ → Type 0 = Tells (RankcheckWork c.args.problem.now c.args.text.now) in
-    Ends-map _ Q (g.K.Sink.state c.args.out.now) _ _ (only_in Q Memory (line (codes "memory")) ([], inl refl, refl)) c.say_memory-in-Err-Memory.ensures
+    subst (λ (p : Problem). Ends (Tells (RankcheckWork p c.args.text.now)) (g.K.Sink.state c.args.out.now) (g.K.Sink.state c.say_judged.new.out) c.say_judged.result) c.of-site.ensures c.say_judged.ensures
