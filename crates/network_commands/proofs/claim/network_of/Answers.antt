@@ -1,8 +1,6 @@
 use Rattle.std.proofs.Common.{refl, sym, subst, ℕ, List}
 use Rattle.branch_tree.specs.View.{claim_of}
 use Rattle.branch_tree.specs.declared.claim.Claim.{Claim}
-use Rattle.problem_rules.specs.Problem.{Problem}
-use Rattle.tree_rules.specs.Claim.{ClaimFails}
 use Rattle.tree_rules.specs.declared.why.Why.TheVariants.{Unknown}
 use Rattle.studio_rules.specs.RefusalWords.{claim_line}
 use Rattle.studio_rules.specs.Lines.{line}
@@ -27,4 +25,4 @@ returns-in-Err-clause-told g c =
     let claim = claim_of c.args.claim in
     let Q : Status → List ℕ → Type 0 = Tells (ClaimRefusal p claim) in
     Ends-map (OrMemory (Only Refused (line (claim_line c.in-Err.why)))) Q (g.K.Sink.state c.args.out.now) _ _
-    (refusal_told p claim c.in-Err.why (refused_for p claim c.in-Err.why (subst (λ (p : Problem). ClaimFails false p claim c.in-Err.why) c.problem.ensures.same ((c.in-Err.ensures.fails c.in-Err.why).0 refl)))) c.say_refused-in-Err.ensures
+    (refusal_told p claim c.in-Err.why (refused_for p claim c.in-Err.why ((c.in-Err.ensures.fails c.in-Err.why).0 refl))) c.say_refused-in-Err.ensures
