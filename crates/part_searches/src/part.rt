@@ -2,6 +2,7 @@
 ghost use Rattle.std.specs.Prelude.{◌≡◌, ◌≤◌, Some, None};
 ghost use Rattle.pns_rules.specs.Shape.{shape_of};
 ghost use Rattle.pns_rules.specs.Ends.{IsSound};
+ghost use Rattle.pgraph.specs.Tables.{shape};
 ghost use Rattle.pgraph.specs.View.{node_of};
 ghost use Rattle.tree_rules.specs.Claim.{IsFeasible};
 ghost use Rattle.tree_rules.specs.Known.{AreUnits};
@@ -30,98 +31,100 @@ use unit_sets::Node;
 fn say_searched<K: Sink>(
     alloc: Global,
     out: &mut K,
-    site: &Site<'_>,
+    problem: &Problem,
+    graph: &Graph,
     start: &Node,
     budget: u64,
 ) -> Status
-    requires sound { IsSound (shape_of site.now) (node_of start.now) }
-    requires known { AreUnits site.now start.now.inside
-        × AreUnits site.now start.now.outside }
+    requires graph { shape graph.now ≡ shape_of problem.now }
+    requires sound { IsSound (shape_of problem.now) (node_of start.now) }
+    requires known { AreUnits problem.now start.now.inside
+        × AreUnits problem.now start.now.outside }
     requires some { 1 ≤ budget }
     requires few { budget ≤ 1000000 }
-    ensures { Ends (Tells (PartSays budget None start.now.inside start.now.outside site.now)) (K.state out.old) (K.state out.new) result }
+    ensures { Ends (Tells (PartSays budget None start.now.inside start.now.outside problem.now)) (K.state out.old) (K.state out.new) result }
 {
-    let found = search(alloc, site.problem(), site.graph(), *start, budget as u32);
-    say_found(alloc, out, site.problem(), start, found)
+    let found = search(alloc, problem, graph, *start, budget as u32);
+    say_found(alloc, out, problem, start, found)
 }
 
 // Searches them for a network that is cheaper than this one.
 fn say_against<K: Sink>(
     alloc: Global,
     out: &mut K,
-    site: &Site<'_>,
+    problem: &Problem,
+    graph: &Graph,
     start: &Node,
     budget: u64,
     network: Network,
 ) -> Status
-    requires sound { IsSound (shape_of site.now) (node_of start.now) }
-    requires known { AreUnits site.now start.now.inside
-        × AreUnits site.now start.now.outside }
+    requires graph { shape graph.now ≡ shape_of problem.now }
+    requires sound { IsSound (shape_of problem.now) (node_of start.now) }
+    requires known { AreUnits problem.now start.now.inside
+        × AreUnits problem.now start.now.outside }
     requires some { 1 ≤ budget }
     requires few { budget ≤ 1000000 }
-    requires passes { IsFeasible site.now network }
-    ensures { Ends (Tells (PartSays budget (Some network) start.now.inside start.now.outside site.now)) (K.state out.old) (K.state out.new) result }
+    requires passes { IsFeasible problem.now network }
+    ensures { Ends (Tells (PartSays budget (Some network) start.now.inside start.now.outside problem.now)) (K.state out.old) (K.state out.new) result }
 {
-    let found = search_against(
-        alloc,
-        site.problem(),
-        site.graph(),
-        *start,
-        budget as u32,
-        network,
-    );
-    say_found(alloc, out, site.problem(), start, found)
+    let found = search_against(alloc, problem, graph, *start, budget as u32, network);
+    say_found(alloc, out, problem, start, found)
 }
 
 // A network is judged by the lines of the claim, and known to the search; another claim is passed over.
 fn say_claimed<K: Sink>(
     alloc: Global,
     out: &mut K,
-    site: &Site<'_>,
+    problem: &Problem,
+    graph: &Graph,
     start: &Node,
     budget: u64,
     claim: Claim,
     tree: &Tree,
 ) -> Status
-    requires sound { IsSound (shape_of site.now) (node_of start.now) }
-    requires known { AreUnits site.now start.now.inside
-        × AreUnits site.now start.now.outside }
+    requires graph { shape graph.now ≡ shape_of problem.now }
+    requires sound { IsSound (shape_of problem.now) (node_of start.now) }
+    requires known { AreUnits problem.now start.now.inside
+        × AreUnits problem.now start.now.outside }
     requires some { 1 ≤ budget }
     requires few { budget ≤ 1000000 }
-    ensures { Ends (Tells (ClaimSays budget start.now.inside start.now.outside site.now (claim_of claim) tree.now)) (K.state out.old) (K.state out.new) result }
+    ensures { Ends (Tells (ClaimSays budget start.now.inside start.now.outside problem.now (claim_of claim) tree.now)) (K.state out.old) (K.state out.new) result }
 {
     match claim {
         Claim::Network(network) => {
-            match network_of(alloc, out, site, Claim::Network(network)) {
-                Ok(known) => say_against(alloc, out, site, start, budget, known),
+            let site = Site::of(problem, graph);
+            match network_of(alloc, out, &site, Claim::Network(network)) {
+                Ok(known) => say_against(alloc, out, problem, graph, start, budget, known),
                 Err(status) => status,
             }
         }
-        Claim::Infeasible => say_searched(alloc, out, site, start, budget),
-        Claim::Unknown => say_searched(alloc, out, site, start, budget),
+        Claim::Infeasible => say_searched(alloc, out, problem, graph, start, budget),
+        Claim::Unknown => say_searched(alloc, out, problem, graph, start, budget),
     }
 }
 
 fn say_tree<F: Shelf, K: Sink>(
     alloc: Global,
-    site: &Site<'_>,
+    problem: &Problem,
+    graph: &Graph,
     start: &Node,
     budget: u64,
     name: &str,
     shelf: &mut F,
     out: &mut K,
 ) -> Status
-    requires sound { IsSound (shape_of site.now) (node_of start.now) }
-    requires known { AreUnits site.now start.now.inside
-        × AreUnits site.now start.now.outside }
+    requires graph { shape graph.now ≡ shape_of problem.now }
+    requires sound { IsSound (shape_of problem.now) (node_of start.now) }
+    requires known { AreUnits problem.now start.now.inside
+        × AreUnits problem.now start.now.outside }
     requires some { 1 ≤ budget }
     requires few { budget ≤ 1000000 }
-    ensures ends { Ends (Says (OnTree (ClaimSays budget start.now.inside start.now.outside) (F.state shelf.old).held name.now site.now) (λ other. other ≡ name.now)
+    ensures ends { Ends (Says (OnTree (ClaimSays budget start.now.inside start.now.outside) (F.state shelf.old).held name.now problem.now) (λ other. other ≡ name.now)
         (F.state shelf.old) (F.state shelf.new)) (K.state out.old) (K.state out.new) result }
     ensures keeps { Keeps (F.state shelf.old) (F.state shelf.new) }
 {
-    match tree_of(alloc, shelf, out, name, site.problem()) {
-        Ok((claim, tree)) => say_claimed(alloc, out, site, start, budget, claim, &tree),
+    match tree_of(alloc, shelf, out, name, problem) {
+        Ok((claim, tree)) => say_claimed(alloc, out, problem, graph, start, budget, claim, &tree),
         Err(status) => status,
     }
 }
@@ -142,9 +145,8 @@ fn say_from<K: Sink>(
     let Ok(graph) = Graph::of(alloc, problem) else {
         return say_memory(out);
     };
-    let site = Site::of(problem, &graph);
-    match start_of(&site, inside, outside) {
-        Some(start) => say_searched(alloc, out, &site, &start, budget),
+    match start_of(problem, &graph, inside, outside) {
+        Some(start) => say_searched(alloc, out, problem, &graph, &start, budget),
         None => say(out, b"bad node\n", Status::BadNode),
     }
 }
@@ -168,9 +170,8 @@ fn say_from_against<F: Shelf, K: Sink>(
     let Ok(graph) = Graph::of(alloc, problem) else {
         return say_memory(out);
     };
-    let site = Site::of(problem, &graph);
-    match start_of(&site, inside, outside) {
-        Some(start) => say_tree(alloc, &site, &start, budget, tree, shelf, out),
+    match start_of(problem, &graph, inside, outside) {
+        Some(start) => say_tree(alloc, problem, &graph, &start, budget, tree, shelf, out),
         None => say(out, b"bad node\n", Status::BadNode),
     }
 }

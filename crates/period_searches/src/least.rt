@@ -16,7 +16,7 @@ use design_laws::{least_network_is_least_design, no_network_is_no_design};
 use designs::fold;
 use endings::say::{say, say_made, say_memory};
 use periods::{Plan, expand};
-use pgraph::{Graph, Site};
+use pgraph::Graph;
 use plan_laws::plans_are_short;
 use pns_io::Sink;
 use pns_problem::Problem;
@@ -65,7 +65,7 @@ fn say_searched<K: Sink>(
     accepted_is_optimal();
     least_network_is_least_design();
     no_network_is_no_design();
-    match search_all(alloc, &Site::of(whole, &graph), budget) {
+    match search_all(alloc, whole, &graph, budget) {
         Found::Solved { network, .. } => say_made(
             out,
             network_text(alloc, problem, plan, &network),

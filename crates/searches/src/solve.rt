@@ -1,5 +1,7 @@
 //! The command `solve`: the text of a whole search.
 ghost use Rattle.std.specs.Prelude.{◌≡◌, ◌≤◌};
+ghost use Rattle.pns_rules.specs.Shape.{shape_of};
+ghost use Rattle.pgraph.specs.Tables.{shape};
 ghost use Rattle.tree_rules.specs.Accepted.{first_node};
 ghost use Rattle.abb_search.specs.Found.{IsFound};
 ghost use Rattle.studio_rules.specs.Solve.{SolveWork};
@@ -11,7 +13,7 @@ use crate::certificate::say_found;
 use abb_search::{Found, search};
 use command_files::problem_of;
 use endings::say::say_memory;
-use pgraph::{Graph, Site};
+use pgraph::Graph;
 use pns_io::{Shelf, Sink};
 use pns_problem::Problem;
 use std::alloc::Global;
@@ -20,16 +22,17 @@ use tree_laws::accepted_is_optimal;
 use unit_sets::{Node, UnitSet};
 
 /// Searches all structures of the problem.
-pub fn search_all(alloc: Global, site: &Site<'_>, budget: u64) -> Found
+pub fn search_all(alloc: Global, problem: &Problem, graph: &Graph, budget: u64) -> Found
+    requires graph { shape graph.now ≡ shape_of problem.now }
     requires some { 1 ≤ budget }
     requires few { budget ≤ 1000000 }
-    ensures { IsFound site.now first_node budget result }
+    ensures { IsFound problem.now first_node budget result }
 {
     let start = Node {
         inside: UnitSet::empty(),
         outside: UnitSet::empty(),
     };
-    search(alloc, site.problem(), site.graph(), start, budget as u32)
+    search(alloc, problem, graph, start, budget as u32)
 }
 
 /// Says an allowed network of least cost with the tree that proves it, or that no network has flows; or how far the search came.
@@ -43,7 +46,7 @@ pub fn say_solved<K: Sink>(alloc: Global, out: &mut K, problem: &Problem, budget
     };
     problem.is_valid();
     accepted_is_optimal();
-    let found = search_all(alloc, &Site::of(problem, &graph), budget);
+    let found = search_all(alloc, problem, &graph, budget);
     say_found(alloc, out, problem, found)
 }
 

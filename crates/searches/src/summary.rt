@@ -3,6 +3,7 @@ ghost use Rattle.std.specs.Prelude.{◌≡◌, ◌≤◌, ◌++◌, ◌∷◌, [
 ghost use Rattle.std.specs.Fmt.{signed_decimal};
 ghost use Rattle.pns_rules.specs.Shape.{shape_of};
 ghost use Rattle.pns_rules.specs.Structure.{IsStructure};
+ghost use Rattle.pgraph.specs.Tables.{shape};
 ghost use Rattle.tree_rules.specs.Claim as claims;
 ghost use Rattle.studio_rules.specs.Solve.{Solves};
 ghost use Rattle.studio_rules.specs.Summary.{CountsMaximal, SummarySays, SummaryWork, summary_lines};
@@ -16,7 +17,7 @@ use branch_tree::{Network, Tree};
 use endings::line::push_unit_names;
 use endings::say::{say_made, say_memory};
 use max_structure::maximal;
-use pgraph::{Graph, Site};
+use pgraph::Graph;
 use pns_io::Sink;
 use pns_problem::Problem;
 use std::alloc::{AllocError, Global};
@@ -25,10 +26,11 @@ use tree_laws::accepted_is_optimal;
 use unit_sets::UnitSet;
 
 /// How many units the maximal structure has.
-fn maximal_count(site: &Site<'_>) -> u32
-    ensures { (s : ℕ → Bool) → IsStructure (shape_of site.now) s → CountsMaximal site.now result }
+fn maximal_count(problem: &Problem, graph: &Graph) -> u32
+    requires graph { shape graph.now ≡ shape_of problem.now }
+    ensures { (s : ℕ → Bool) → IsStructure (shape_of problem.now) s → CountsMaximal problem.now result }
 {
-    match maximal(site.graph(), UnitSet::empty()) {
+    match maximal(graph, UnitSet::empty()) {
         Some(all) => {
             all.rises();
             all.count()
@@ -73,15 +75,17 @@ fn summary(
 fn say_summary<K: Sink>(
     alloc: Global,
     out: &mut K,
-    site: &Site<'_>,
+    problem: &Problem,
+    graph: &Graph,
     network: &Network,
     tree: &Tree,
 ) -> Status
-    requires solves { Solves site.now (claims.network network.now) tree.now }
-    ensures { Ends (Tells (SummarySays site.now)) (K.state out.old) (K.state out.new) result }
+    requires graph { shape graph.now ≡ shape_of problem.now }
+    requires solves { Solves problem.now (claims.network network.now) tree.now }
+    ensures { Ends (Tells (SummarySays problem.now)) (K.state out.old) (K.state out.new) result }
 {
-    let problem = site.problem();
-    let most = maximal_count(site);
+    problem.is_valid();
+    let most = maximal_count(problem, graph);
     say_made(
         out,
         summary(alloc, problem, most, network, tree.nodes().len()),
@@ -99,9 +103,10 @@ pub fn say_summed<K: Sink>(alloc: Global, out: &mut K, problem: &Problem, budget
     };
     problem.is_valid();
     accepted_is_optimal();
-    let site = Site::of(problem, &graph);
-    match search_all(alloc, &site, budget) {
-        Found::Solved { network, tree } => { say_summary(alloc, out, &site, &network, &tree) }
+    match search_all(alloc, problem, &graph, budget) {
+        Found::Solved { network, tree } => {
+            say_summary(alloc, out, problem, &graph, &network, &tree)
+        }
         stopped => say_found(alloc, out, problem, stopped),
     }
 }

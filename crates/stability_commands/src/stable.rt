@@ -163,20 +163,22 @@ fn say_refusal<K: Sink>(
 fn say_range<K: Sink>(
     alloc: Global,
     out: &mut K,
-    site: &Site<'_>,
+    problem: &Problem,
+    graph: &Graph,
     network: &Network,
     spot: Spot,
     budget: u64,
 ) -> Status
-    requires passes { IsFeasible site.now network.now }
-    requires known { KnowsSpot site.now spot }
+    requires graph { shape graph.now ≡ shape_of problem.now }
+    requires passes { IsFeasible problem.now network.now }
+    requires known { KnowsSpot problem.now spot }
     requires some { 1 ≤ budget }
     requires few { budget ≤ 1000000 }
-    ensures { Ends (Tells (SpotWork spot budget site.now network.now)) (K.state out.old) (K.state out.new) result }
+    ensures { Ends (Tells (SpotWork spot budget problem.now network.now)) (K.state out.old) (K.state out.new) result }
 {
-    let problem = site.problem();
     structures_stay();
-    match range(alloc, site, network, spot, budget as u32) {
+    let site = Site::of(problem, graph);
+    match range(alloc, &site, network, spot, budget as u32) {
         Ok(range) => {
             let printed = print_range(alloc, problem, &range, out);
             say_printed(out, printed, Status::Done)
@@ -205,7 +207,7 @@ fn say_claimed<K: Sink>(
     };
     let site = Site::of(problem, &graph);
     match network_of(alloc, out, &site, claim) {
-        Ok(network) => say_range(alloc, out, &site, &network, spot, budget),
+        Ok(network) => say_range(alloc, out, problem, &graph, &network, spot, budget),
         Err(status) => status,
     }
 }

@@ -3,10 +3,11 @@ use Rattle.tree_rules.specs.Claim.{Network, IsFeasible}
 use Rattle.branch_tree.specs.View.{claim_of}
 use Rattle.branch_tree.specs.declared.claim.Claim.{Claim}
 use Rattle.branch_tree.specs.declared.claim.Claim.TheVariants as claims
-use Rattle.studio_rules.specs.Network.{ClaimRefusal}
+use Rattle.problem_rules.specs.Problem.{Problem}
+use Rattle.studio_rules.specs.Network.{ClaimRefusal, ClaimsNetwork}
 use Rattle.studio_rules.specs.Part.{PartSays, ClaimSays}
 use Rattle.part_searches.proofs.Parts.{network_is}
-use Rattle.studio_rules.specs.Ending.{Tells}
+use Rattle.studio_rules.specs.Ending.{Ends, Tells}
 use Rattle.studio_rules.specs.declared.status.Status.{Status}
 use Rattle.endings.proofs.Ending.{Ends-map, Ends-from, Tells-map}
 use Rattle.part_searches.proofs.part.say_claimed.Goals as goal
@@ -17,7 +18,7 @@ returns-in-Ok g c =
     let s = c.args.start.now in
     let known : Network = c.in-Ok.known in
     let w : Network = c.in-Network.network in
-    let claimed = c.in-Ok.ensures.network in
+    let claimed : ClaimsNetwork p (claim_of (claims.Network w)) known = subst (λ (q : Problem). ClaimsNetwork q (claim_of (claims.Network w)) known) c.of-site.ensures c.in-Ok.ensures.network in
     let all : Claim → Status → List (List ℕ) → Type 0 = λ k. ClaimSays c.args.budget s.inside s.outside p (claim_of k) c.args.tree.now in
     Ends-from (Tells (PartSays c.args.budget (Some known) s.inside s.outside p)) (Tells (all c.args.claim)) (g.K.Sink.state c.args.out.now) _ _ _ (ap g.K.Sink.state c.in-Ok.ensures.silent)
     (Tells-map (PartSays c.args.budget (Some known) s.inside s.outside p) (all c.args.claim)
@@ -32,7 +33,7 @@ returns-in-Err g c =
     let all : Claim → Status → List (List ℕ) → Type 0 = λ k. ClaimSays c.args.budget s.inside s.outside p (claim_of k) c.args.tree.now in
     Ends-map _ _ (g.K.Sink.state c.args.out.now) _ _
     (Tells-map (ClaimRefusal p (claim_of (claims.Network c.in-Network.network))) (all c.args.claim) (λ status lines h. subst (λ (k : Claim). all k status lines) (sym c.in-Network.is) (inl h)))
-    c.in-Err.ensures.told
+    (subst (λ (q : Problem). Ends (Tells (ClaimRefusal q (claim_of (claims.Network c.in-Network.network)))) (g.K.Sink.state c.args.out.now) (g.K.Sink.state c.network_of.new.out) c.in-Err.status) c.of-site.ensures c.in-Err.ensures.told)
 
 pub returns-in-Infeasible : goal.returns-in-Infeasible
 returns-in-Infeasible g c =
@@ -51,3 +52,7 @@ returns-in-Unknown g c =
     Ends-map _ _ (g.K.Sink.state c.args.out.now) _ _
     (Tells-map (PartSays c.args.budget None s.inside s.outside p) (all c.args.claim) (λ status lines h. subst (λ (k : Claim). all k status lines) (sym c.in-Unknown.is) h))
     c.say_searched-in-Unknown.ensures
+
+pub say_against-requires-clause-passes : goal.say_against-requires-clause-passes
+say_against-requires-clause-passes g c =
+    (subst (λ (q : Problem). ClaimsNetwork q (claim_of (claims.Network c.in-Network.network)) c.in-Ok.known) c.of-site.ensures c.in-Ok.ensures.network).1

@@ -1,8 +1,9 @@
-use Rattle.std.proofs.Common.{ap, inl, inr, ℕ, List}
+use Rattle.std.proofs.Common.{ap, subst, inl, inr, ℕ, List}
+use Rattle.problem_rules.specs.Problem.{Problem}
 use Rattle.branch_tree.specs.View.{claim_of}
-use Rattle.studio_rules.specs.Network.{OnNetwork, ClaimRefusal}
+use Rattle.studio_rules.specs.Network.{OnNetwork, ClaimRefusal, ClaimsNetwork}
 use Rattle.studio_rules.specs.Stable.{SpotWork}
-use Rattle.studio_rules.specs.Ending.{Tells}
+use Rattle.studio_rules.specs.Ending.{Ends, Tells}
 use Rattle.studio_rules.specs.declared.status.Status.{Status}
 use Rattle.endings.proofs.Ending.{Ends-map, Ends-from, Tells-map}
 use Rattle.stability_commands.proofs.stable.say_claimed.Goals as goal
@@ -15,7 +16,7 @@ returns-in-Ok-network_of g c =
     let work = SpotWork c.args.spot c.args.budget in
     let Q : Status → List ℕ → Type 0 = Tells (OnNetwork work p claim c.args.tree.now) in
     Ends-from (Tells (work p w)) Q (g.K.Sink.state c.args.out.now) _ _ _ (ap g.K.Sink.state c.in-Ok-network_of.ensures.silent)
-    (Tells-map (work p w) (OnNetwork work p claim c.args.tree.now) (λ s lines h. inr (w, c.in-Ok-network_of.ensures.network, h))) c.say_range.ensures
+    (Tells-map (work p w) (OnNetwork work p claim c.args.tree.now) (λ s lines h. inr (w, subst (λ (q : Problem). ClaimsNetwork q claim w) c.of-site.ensures c.in-Ok-network_of.ensures.network, h))) c.say_range.ensures
 
 pub returns : goal.returns
 returns g c =
@@ -23,4 +24,9 @@ returns g c =
     let claim = claim_of c.args.claim in
     let work = SpotWork c.args.spot c.args.budget in
     let Q : Status → List ℕ → Type 0 = Tells (OnNetwork work p claim c.args.tree.now) in
-    Ends-map (Tells (ClaimRefusal p claim)) Q (g.K.Sink.state c.args.out.now) _ _ (Tells-map (ClaimRefusal p claim) (OnNetwork work p claim c.args.tree.now) (λ s lines h. inl h)) c.in-Err.ensures.told
+    Ends-map (Tells (ClaimRefusal p claim)) Q (g.K.Sink.state c.args.out.now) _ _ (Tells-map (ClaimRefusal p claim) (OnNetwork work p claim c.args.tree.now) (λ s lines h. inl h))
+    (subst (λ (q : Problem). Ends (Tells (ClaimRefusal q claim)) (g.K.Sink.state c.args.out.now) (g.K.Sink.state c.network_of.new.out) c.in-Err.status) c.of-site.ensures c.in-Err.ensures.told)
+
+pub say_range-requires-clause-passes : goal.say_range-requires-clause-passes
+say_range-requires-clause-passes g c =
+    (subst (λ (q : Problem). ClaimsNetwork q (claim_of c.args.claim) c.in-Ok-network_of.network) c.of-site.ensures c.in-Ok-network_of.ensures.network).1
