@@ -1,6 +1,6 @@
 # `make run` prints a least-cost network of the shipped problem with the tree that proves it,
 # `make try` does so without any proof, and `make check` proves and tries everything.
-# `make install PREFIX=DIR` puts the proved program in place as DIR/bin/pns, with its manual page,
+# `make install PREFIX=DIR` puts the proved program in place as DIR/bin/pns, with its manual pages,
 # the documents, the plants, the extras and the completions of bash, zsh and fish;
 # `make uninstall PREFIX=DIR` takes them away. `make dist` packs the same tree as a tar.gz, and
 # `make deb` as a Debian package, both into the folder dist.
@@ -31,9 +31,10 @@ ZSH := $(SHARE)/zsh/site-functions
 FISH := $(SHARE)/fish/vendor_completions.d
 
 install: crates/pns/out/pns
-	install -d $(DESTDIR)$(PREFIX)/bin $(SHARE)/man/man1 $(SHARE)/doc/pns/docs $(BASH) $(ZSH) $(FISH)
+	install -d $(DESTDIR)$(PREFIX)/bin $(SHARE)/man/man1 $(SHARE)/man/man5 $(SHARE)/doc/pns/docs $(BASH) $(ZSH) $(FISH)
 	install -m 755 crates/pns/out/pns $(DESTDIR)$(PREFIX)/bin/pns
 	install -m 644 docs/pns.1 $(SHARE)/man/man1/pns.1
+	install -m 644 docs/pns.5 $(SHARE)/man/man5/pns.5
 	install -m 644 README.md CHANGELOG.md LICENSE-MIT LICENSE-APACHE $(SHARE)/doc/pns
 	install -m 644 crates/pns/data/a.pns $(SHARE)/doc/pns
 	install -m 644 $(wildcard docs/*.md) $(SHARE)/doc/pns/docs
@@ -45,7 +46,7 @@ install: crates/pns/out/pns
 	install -m 644 extras/completions/pns.fish $(FISH)/pns.fish
 
 uninstall:
-	rm -f $(DESTDIR)$(PREFIX)/bin/pns $(SHARE)/man/man1/pns.1 $(BASH)/pns $(ZSH)/_pns $(FISH)/pns.fish
+	rm -f $(DESTDIR)$(PREFIX)/bin/pns $(SHARE)/man/man1/pns.1 $(SHARE)/man/man5/pns.5 $(BASH)/pns $(ZSH)/_pns $(FISH)/pns.fish
 	rm -rf $(SHARE)/doc/pns
 
 dist deb: crates/pns/out/pns

@@ -1,4 +1,8 @@
-# Completes the words of pns in fish: commands, then files. Written by tools/help write.
+# Completes the words of pns in fish. Written by tools/help write.
+function __pns_units
+    set -l words (commandline -opc)
+    awk -F: '/^[ \t]*[a-z_]+[ \t]*:[ \t\r]*$/ { part = $1; gsub(/[ \t]/, "", part); next } part ~ /^(operating_units|material_to_operating_unit_flow_rates)$/ { gsub(/[ \t\r]/, "", $1); if ($1 != "" && !seen[$1]++) print $1 }' $words[3] 2> /dev/null
+end
 complete -c pns -f
 complete -c pns -n '__fish_use_subcommand' -a max -d 'Finds the maximal structure'
 complete -c pns -n '__fish_use_subcommand' -a axioms -d 'Judges one choice of units by the axioms S1 to S5'
@@ -25,38 +29,49 @@ complete -c pns -n '__fish_use_subcommand' -a merge -d 'Puts searched parts back
 complete -c pns -n '__fish_use_subcommand' -a help -d 'Tells the commands, or one topic'
 complete -c pns -n '__fish_use_subcommand' -a version -d 'Tells which program this is'
 complete -c pns -n '__fish_seen_subcommand_from help' -a 'max axioms list flows solve check table report graph stable edit undo migrate expand periods make trial rank rankcheck split part merge help version status plant FileType UnknownSection DoubleSection BadLine BadName UnknownKey DoubleKey BadNumber TooFine TooLarge Negative UnknownKind ZeroRate DoubleTerm BothSides EmptySide DoubleMaterial DoubleUnit DoubleRates TooMany LowAboveHigh UnknownMaterial NoRates NoProduct DoubleExclusion DoubleMember FewMembers UnknownUnit BadPayout UnknownName Order WrongCount MoreNodes FewerNodes AfterEnd Sign DoubleLine NoPeriod TooWide BadTerms DoubleName BadPlace InUse BadMembers'
-complete -c pns -n '__fish_seen_subcommand_from max; and test (count (commandline -opc)) -eq 2' -F
-complete -c pns -n '__fish_seen_subcommand_from axioms; and test (count (commandline -opc)) -eq 2' -F
-complete -c pns -n '__fish_seen_subcommand_from list; and test (count (commandline -opc)) -eq 2' -F
-complete -c pns -n '__fish_seen_subcommand_from flows; and test (count (commandline -opc)) -eq 2' -F
-complete -c pns -n '__fish_seen_subcommand_from solve; and test (count (commandline -opc)) -eq 2' -F
-complete -c pns -n '__fish_seen_subcommand_from check; and test (count (commandline -opc)) -eq 2' -F
+complete -c pns -n 'not __fish_use_subcommand' -l help -d 'Prints the page of the command'
+complete -c pns -n '__fish_seen_subcommand_from max; and test (count (commandline -opc)) -eq 2' -k -a '(__fish_complete_suffix .pns)'
+complete -c pns -n '__fish_seen_subcommand_from axioms; and test (count (commandline -opc)) -eq 2' -k -a '(__fish_complete_suffix .pns)'
+complete -c pns -n '__fish_seen_subcommand_from axioms; and test (count (commandline -opc)) -eq 3' -k -a '(__fish_complete_list , __pns_units)'
+complete -c pns -n '__fish_seen_subcommand_from list; and test (count (commandline -opc)) -eq 2' -k -a '(__fish_complete_suffix .pns)'
+complete -c pns -n '__fish_seen_subcommand_from list; and test (count (commandline -opc)) -eq 3' -k -a 'start'
+complete -c pns -n '__fish_seen_subcommand_from flows; and test (count (commandline -opc)) -eq 2' -k -a '(__fish_complete_suffix .pns)'
+complete -c pns -n '__fish_seen_subcommand_from flows; and test (count (commandline -opc)) -eq 3' -k -a '(__fish_complete_list , __pns_units)'
+complete -c pns -n '__fish_seen_subcommand_from solve; and test (count (commandline -opc)) -eq 2' -k -a '(__fish_complete_suffix .pns)'
+complete -c pns -n '__fish_seen_subcommand_from solve; and test (count (commandline -opc)) -eq 3' -k -a '10k 100k 1M'
+complete -c pns -n '__fish_seen_subcommand_from check; and test (count (commandline -opc)) -eq 2' -k -a '(__fish_complete_suffix .pns)'
 complete -c pns -n '__fish_seen_subcommand_from check; and test (count (commandline -opc)) -eq 3' -F
-complete -c pns -n '__fish_seen_subcommand_from table; and test (count (commandline -opc)) -eq 2' -F
+complete -c pns -n '__fish_seen_subcommand_from table; and test (count (commandline -opc)) -eq 2' -k -a '(__fish_complete_suffix .pns)'
 complete -c pns -n '__fish_seen_subcommand_from table; and test (count (commandline -opc)) -eq 3' -F
-complete -c pns -n '__fish_seen_subcommand_from report; and test (count (commandline -opc)) -eq 2' -F
+complete -c pns -n '__fish_seen_subcommand_from report; and test (count (commandline -opc)) -eq 2' -k -a '(__fish_complete_suffix .pns)'
 complete -c pns -n '__fish_seen_subcommand_from report; and test (count (commandline -opc)) -eq 3' -F
-complete -c pns -n '__fish_seen_subcommand_from graph; and test (count (commandline -opc)) -eq 2' -F
+complete -c pns -n '__fish_seen_subcommand_from graph; and test (count (commandline -opc)) -eq 2' -k -a '(__fish_complete_suffix .pns)'
 complete -c pns -n '__fish_seen_subcommand_from graph; and test (count (commandline -opc)) -eq 3' -F
-complete -c pns -n '__fish_seen_subcommand_from stable; and test (count (commandline -opc)) -eq 2' -F
+complete -c pns -n '__fish_seen_subcommand_from stable; and test (count (commandline -opc)) -eq 2' -k -a '(__fish_complete_suffix .pns)'
 complete -c pns -n '__fish_seen_subcommand_from stable; and test (count (commandline -opc)) -eq 3' -F
-complete -c pns -n '__fish_seen_subcommand_from edit; and test (count (commandline -opc)) -eq 2' -F
+complete -c pns -n '__fish_seen_subcommand_from stable; and test (count (commandline -opc)) -eq 4' -k -a 'price fix proportional'
+complete -c pns -n '__fish_seen_subcommand_from stable; and test (count (commandline -opc)) -eq 6' -k -a '10k 100k 1M'
+complete -c pns -n '__fish_seen_subcommand_from edit; and test (count (commandline -opc)) -eq 2' -k -a '(__fish_complete_suffix .pns)'
 complete -c pns -n '__fish_seen_subcommand_from edit; and test (count (commandline -opc)) -eq 3' -F
-complete -c pns -n '__fish_seen_subcommand_from undo; and test (count (commandline -opc)) -eq 2' -F
+complete -c pns -n '__fish_seen_subcommand_from undo; and test (count (commandline -opc)) -eq 2' -k -a '(__fish_complete_suffix .pns)'
 complete -c pns -n '__fish_seen_subcommand_from undo; and test (count (commandline -opc)) -eq 3' -F
-complete -c pns -n '__fish_seen_subcommand_from migrate; and test (count (commandline -opc)) -eq 2' -F
-complete -c pns -n '__fish_seen_subcommand_from expand; and test (count (commandline -opc)) -eq 2' -F
+complete -c pns -n '__fish_seen_subcommand_from migrate; and test (count (commandline -opc)) -eq 2' -k -a '(__fish_complete_suffix .pns)'
+complete -c pns -n '__fish_seen_subcommand_from expand; and test (count (commandline -opc)) -eq 2' -k -a '(__fish_complete_suffix .pns)'
 complete -c pns -n '__fish_seen_subcommand_from expand; and test (count (commandline -opc)) -eq 3' -F
-complete -c pns -n '__fish_seen_subcommand_from periods; and test (count (commandline -opc)) -eq 2' -F
+complete -c pns -n '__fish_seen_subcommand_from periods; and test (count (commandline -opc)) -eq 2' -k -a '(__fish_complete_suffix .pns)'
 complete -c pns -n '__fish_seen_subcommand_from periods; and test (count (commandline -opc)) -eq 3' -F
-complete -c pns -n '__fish_seen_subcommand_from rank; and test (count (commandline -opc)) -eq 2' -F
-complete -c pns -n '__fish_seen_subcommand_from rankcheck; and test (count (commandline -opc)) -eq 2' -F
+complete -c pns -n '__fish_seen_subcommand_from periods; and test (count (commandline -opc)) -eq 4' -k -a '10k 100k 1M'
+complete -c pns -n '__fish_seen_subcommand_from trial; and test (count (commandline -opc)) -eq 4' -k -a '10k 100k 1M'
+complete -c pns -n '__fish_seen_subcommand_from rank; and test (count (commandline -opc)) -eq 2' -k -a '(__fish_complete_suffix .pns)'
+complete -c pns -n '__fish_seen_subcommand_from rank; and test (count (commandline -opc)) -eq 4' -k -a '10k 100k 1M'
+complete -c pns -n '__fish_seen_subcommand_from rankcheck; and test (count (commandline -opc)) -eq 2' -k -a '(__fish_complete_suffix .pns)'
 complete -c pns -n '__fish_seen_subcommand_from rankcheck; and test (count (commandline -opc)) -eq 3' -F
-complete -c pns -n '__fish_seen_subcommand_from split; and test (count (commandline -opc)) -eq 2' -F
+complete -c pns -n '__fish_seen_subcommand_from split; and test (count (commandline -opc)) -eq 2' -k -a '(__fish_complete_suffix .pns)'
 complete -c pns -n '__fish_seen_subcommand_from split; and test (count (commandline -opc)) -eq 3' -F
-complete -c pns -n '__fish_seen_subcommand_from part; and test (count (commandline -opc)) -eq 2' -F
+complete -c pns -n '__fish_seen_subcommand_from part; and test (count (commandline -opc)) -eq 2' -k -a '(__fish_complete_suffix .pns)'
+complete -c pns -n '__fish_seen_subcommand_from part; and test (count (commandline -opc)) -eq 5' -k -a '10k 100k 1M'
 complete -c pns -n '__fish_seen_subcommand_from part; and test (count (commandline -opc)) -eq 6' -F
-complete -c pns -n '__fish_seen_subcommand_from merge; and test (count (commandline -opc)) -eq 2' -F
+complete -c pns -n '__fish_seen_subcommand_from merge; and test (count (commandline -opc)) -eq 2' -k -a '(__fish_complete_suffix .pns)'
 complete -c pns -n '__fish_seen_subcommand_from merge; and test (count (commandline -opc)) -eq 3' -F
 complete -c pns -n '__fish_seen_subcommand_from merge; and test (count (commandline -opc)) -eq 4' -F
 complete -c pns -n '__fish_seen_subcommand_from merge; and test (count (commandline -opc)) -eq 5' -F
