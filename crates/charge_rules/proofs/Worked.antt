@@ -20,6 +20,11 @@
 -- (4 - 3) = -10, U2 owes 1 or nothing, and U3 owes 20 - 20 * (4 - 2) = -20. U4 owes 5 or nothing.
 -- Together 50. Each structure that has U3 has U4: a set of U4 beside U3, of the weight 5, pays all
 -- that U4 owes, and U3 pays it: it owes -15. Together 55.
+--
+-- Fourth charge: nothing is known of what is used, but no size is above 20. U4 is taken in, and C
+-- and P are at 3, as in the first. At a size of 20 all that U3 makes is of use, so no knee counts:
+-- U3 owes 20 - 20 * (3 - 2) = 0. Together 60 + 5 again. The list has each number that is formed: 2
+-- for each of the rows A, B, C and P, 9 for each of the units, and one more for U4, which is added.
 use Rattle.std.proofs.Common.{◌≡◌, ℕ, ◌==◌, pos, negsuc, ℤ, List, [], ◌∷◌, refl, cond, length}
 use Rattle.std.specs.Prelude.{Option, Some, None}
 use Rattle.number_sets.specs.Sets.{has, listed}
@@ -210,3 +215,37 @@ its_steps_beside : length (charge_steps (net_of plant) root facts (pos 1) (at_pr
     (beside_unit ∷ [])) ≡ 54
 unfolding listed
 its_steps_beside = refl
+
+-- ---- the fourth charge
+
+abbrev cut : Facts
+cut = record { least = (net_of plant).least; most = λ i. pos 20000000; used = λ j. None }
+
+its_numbers : charge_steps (net_of plant) node cut (pos 1) (at_price (pos 3000000)) []
+    ≡ pos 0 ∷ pos 0
+    ∷ pos 0 ∷ pos 0
+    ∷ pos 0 ∷ pos 0
+    ∷ pos 60000000000000000000 ∷ pos 60000000000000000000
+    ∷ pos 3000000000000 ∷ pos 0 ∷ pos 3000000000000 ∷ pos 3000000000000 ∷ pos 0
+    ∷ pos 10000000000000000000 ∷ pos 10000000000000000000 ∷ pos 0 ∷ pos 10000000000000000000
+    ∷ pos 4000000000000 ∷ pos 0 ∷ pos 4000000000000 ∷ pos 3000000000000 ∷ pos 1000000000000
+    ∷ pos 1000000000000000000 ∷ pos 1000000000000000000 ∷ pos 0 ∷ pos 1000000000000000000
+    ∷ pos 2000000000000 ∷ pos 0 ∷ pos 2000000000000 ∷ pos 3000000000000 ∷ negsuc 999999999999
+    ∷ pos 20000000000000000000 ∷ pos 20000000000000000000 ∷ negsuc 19999999999999999999 ∷ pos 0
+    ∷ pos 0 ∷ negsuc 2999999999999 ∷ pos 3000000000000 ∷ pos 3000000000000 ∷ pos 0
+    ∷ pos 5000000000000000000 ∷ pos 5000000000000000000 ∷ pos 0 ∷ pos 5000000000000000000
+    ∷ pos 65000000000000000000
+    ∷ []
+unfolding listed
+its_numbers = refl
+
+cut_charge : charge (net_of plant) node cut (pos 1) (at_price (pos 3000000)) []
+    ≡ pos 65000000000000000000
+unfolding listed
+cut_charge = refl
+
+-- a price that is lower by a millionth is not enough
+less_cut_charge : charge (net_of plant) node cut (pos 1) (at_price (pos 2999999)) []
+    ≡ pos 64999980000000000000
+unfolding listed
+less_cut_charge = refl

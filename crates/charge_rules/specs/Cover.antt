@@ -48,7 +48,7 @@ abbrev pub paid : List Cover → ℕ → ℤ
 paid cs i = total (λ c. paid_by c i) cs
 
 -- what a set adds to the charge: its weight where it speaks of each structure, and nothing where it
--- stands beside a unit, which pays for it
+-- has a unit beside it, which pays for it
 abbrev pub added : Option ℕ → ℤ → ℤ
 added None weight = weight
 added (Some u) weight = pos 0

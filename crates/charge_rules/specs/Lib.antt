@@ -3,3 +3,4 @@ pub mod ChargeSteps
 pub mod Cover
 pub mod Facts
 pub mod Laws
+pub mod Leaf

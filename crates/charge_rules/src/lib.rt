@@ -6,10 +6,15 @@
 //! And what is made of a material beyond all that can be used of it is worth nothing (`Knee`).
 //!
 //! The definitions are in `specs/`: `Facts` (what is known of sizes and uses), `Cover`, `Charge`, `ChargeSteps` (which
-//! number of the sum is the first out of range) and `Laws`. Each law is the contract of a function without a body.
+//! number of the sum is the first out of range), `Leaf` (which leaves of a tree pass by a charge, and why one is refused,
+//! [`ChargeWhy`]) and `Laws`. Each law is the contract of a function without a body.
 #![tactic(auto)]
 
+mod charge_why;
+
 ghost use Rattle.charge_rules.specs.Laws.{ChargeDuality, ChargeRefutes, OwnFactsHold, FlowsFit};
+
+pub use charge_why::ChargeWhy;
 
 /// No flows that fit the facts cost less than a charge, for any multipliers, any covers and any scale of the cost.
 pub fn charge_duality()
