@@ -103,9 +103,14 @@ network in it. The program itself draws nothing.
   FILE  the plant, PNS_problem_v1
   TREE  a tree text, as solve prints it
 Prints DOT text. Raw materials are houses, products have a double line, units
-are bars. Arcs show rates that are not 1, and with TREE flows; what is not in
-the network is grey, a unit of size 0 has a broken line. Numbers have up to 3
-places.
+are boxes. Arcs show rates that are not 1. With TREE they show flows, and are
+wider where there is more; a unit shows its size and its costs, a material what
+is bought or left over of it, its price and the money. What is at a limit is
+orange, what is left out grey; a unit of size 0 has a broken line. A raw
+material with more than four users is drawn at each of them, and so is another
+with more than four users in the network. A pointer on a part shows its numbers
+in FILE. Numbers have six digits where they have more; their whole part is never
+cut.
 Ends with
   0   The text is out, whole.
   1   refused claim WHY, with TREE only: as in pns help report.

@@ -91,9 +91,14 @@ graph_page =
     codes "  FILE  the plant, PNS_problem_v1" ∷
     codes "  TREE  a tree text, as solve prints it" ∷
     codes "Prints DOT text. Raw materials are houses, products have a double line, units" ∷
-    codes "are bars. Arcs show rates that are not 1, and with TREE flows; what is not in" ∷
-    codes "the network is grey, a unit of size 0 has a broken line. Numbers have up to 3" ∷
-    codes "places." ∷
+    codes "are boxes. Arcs show rates that are not 1. With TREE they show flows, and are" ∷
+    codes "wider where there is more; a unit shows its size and its costs, a material what" ∷
+    codes "is bought or left over of it, its price and the money. What is at a limit is" ∷
+    codes "orange, what is left out grey; a unit of size 0 has a broken line. A raw" ∷
+    codes "material with more than four users is drawn at each of them, and so is another" ∷
+    codes "with more than four users in the network. A pointer on a part shows its numbers" ∷
+    codes "in FILE. Numbers have six digits where they have more; their whole part is never" ∷
+    codes "cut." ∷
     codes "Ends with" ∷
     codes "  0   The text is out, whole." ∷
     codes "  1   refused claim WHY, with TREE only: as in pns help report." ∷

@@ -5,7 +5,7 @@ use Rattle.integer_laws.specs.Range.{InRange}
 use Rattle.problem_rules.specs.Problem.{rate_of}
 use Rattle.tree_rules.specs.Claim.{size_in}
 use Rattle.graph_text.proofs.Moves.{moved_in_range}
-use Rattle.graph_text.proofs.arcs.moved.Goals as goal
+use Rattle.graph_text.proofs.greatest.moved.Goals as goal
 
 pub moved_at-requires : goal.moved_at-requires
 moved_at-requires c n =
