@@ -21,17 +21,15 @@ pub(crate) enum Line<'a> {
     Words(Option<&'a str>),
     /// A read of this number fails.
     Read(u64),
-    /// The put of this number fails after so many bytes, on each output.
+    /// The put of this number fails after so many bytes.
     Put(u64, u64),
-    /// The same on standard error alone.
-    ErrorPut(u64, u64),
-    /// Each output has room for so many bytes.
+    /// The sink has room for so many bytes.
     Room(u64),
     /// The wanted status.
     Status(u8),
-    /// What is wanted of the outputs, with the bytes of a file to begin with.
+    /// What is wanted of the output, with the bytes of a file to begin with.
     Wanted(Side, Option<&'a str>),
-    /// What is on standard output becomes a file of the shelf.
+    /// The output becomes a file of the shelf.
     Keep(&'a str),
 }
 
@@ -62,7 +60,6 @@ fn of_word<'a>(word: &str) -> Result<Line<'a>, Fault> {
         b"heads" => Ok(Line::Wanted(Side::Heads, None)),
         b"begins" => Ok(Line::Wanted(Side::Front, None)),
         b"ends" => Ok(Line::Wanted(Side::Back, None)),
-        b"err" => Ok(Line::Wanted(Side::Errors, None)),
         _ => Err(Fault::Unknown),
     }
 }
@@ -144,18 +141,9 @@ fn wanted_of(side: Side, rest: &str) -> Result<Line<'_>, Fault> {
     Ok(Line::Wanted(side, Some(name_of(name)?)))
 }
 
-/// `K B`, or `err K B`.
 fn put_of<'a>(rest: &str) -> Result<Line<'a>, Fault> {
-    match rest.strip_prefix("err ") {
-        Some(behind) => {
-            let (number, count) = counted(behind)?;
-            Ok(Line::ErrorPut(number, number_of(count)?))
-        }
-        None => {
-            let (number, count) = counted(rest)?;
-            Ok(Line::Put(number, number_of(count)?))
-        }
-    }
+    let (number, count) = counted(rest)?;
+    Ok(Line::Put(number, number_of(count)?))
 }
 
 fn status_of<'a>(word: &str) -> Result<Line<'a>, Fault> {

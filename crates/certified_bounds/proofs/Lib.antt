@@ -1,2 +1,3 @@
 pub mod FractionLemmas
 pub mod BoundLemmas
+pub mod ListLemmas

@@ -17,8 +17,7 @@ fn push_digits(text: &mut String, count: u32, number: u128) -> Result<(), AllocE
     Ok(())
 }
 
-/// Appends the last so many digits of the number, up to the last that is not 0.
-pub fn push_places(text: &mut String, count: u32, number: u128) -> Result<(), AllocError>
+fn push_places(text: &mut String, count: u32, number: u128) -> Result<(), AllocError>
     ensures { OnOk result (string_bytes text.new ≡ string_bytes text.old ++ places count number) }
 {
     if count == 0 {

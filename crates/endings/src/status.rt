@@ -8,8 +8,5 @@ use studio_rules::Status;
 pub fn code_of(status: Status) -> u8
     ensures { result ≡ code_of status }
 {
-    match status {
-        Status::BadClaim => Status::Refused as u8,
-        other => other as u8,
-    }
+    status as u8
 }

@@ -1,6 +1,2 @@
-mod Most
 mod Lines
 mod Moves
-mod Users
-mod Roles
-mod Tests

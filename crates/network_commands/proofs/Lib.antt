@@ -1,3 +1,4 @@
 mod GraphLines
 mod Refusals
+mod ReportLines
 mod TableLines

@@ -6,4 +6,3 @@ pub mod Graph
 pub mod Number
 pub mod Report
 pub mod Table
-pub mod Verdict

@@ -3,10 +3,8 @@
 pub enum Role {
     /// No network is given.
     Planned,
-    /// It is in the network, and its size is not 0 and at no limit.
+    /// It is in the network, and its size is not 0.
     Running,
-    /// It is in the network, and its size is not 0 and at a limit.
-    AtLimit,
     /// It is in the network, and its size is 0.
     Idle,
     /// It is not in the network.
