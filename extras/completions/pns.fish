@@ -9,9 +9,11 @@ complete -c pns -n '__fish_use_subcommand' -a axioms -d 'Judges one choice of un
 complete -c pns -n '__fish_use_subcommand' -a list -d 'Lists the structures that meet the axioms and the exclusions, in a fixed order'
 complete -c pns -n '__fish_use_subcommand' -a flows -d 'Finds the least cost of one choice of units and the sizes that have it'
 complete -c pns -n '__fish_use_subcommand' -a solve -d 'Finds an allowed network of least cost in one year and a tree that proves it'
+complete -c pns -n '__fish_use_subcommand' -a show -d 'Finds an allowed network of least cost in one year and shows it to people'
 complete -c pns -n '__fish_use_subcommand' -a check -d 'Judges whether a tree proves its claim'
 complete -c pns -n '__fish_use_subcommand' -a table -d 'Prints the claimed network as CSV for a spreadsheet'
-complete -c pns -n '__fish_use_subcommand' -a report -d 'Prints the claimed network for people'
+complete -c pns -n '__fish_use_subcommand' -a report -d 'Tells what the tree proves, and shows the claimed network to people'
+complete -c pns -n '__fish_use_subcommand' -a json -d 'Tells what pns report tells as one JSON object, for programs'
 complete -c pns -n '__fish_use_subcommand' -a graph -d 'Prints the maximal structure as a graph for Graphviz, and with TREE the claimed network in it'
 complete -c pns -n '__fish_use_subcommand' -a stable -d 'Finds how far one price or cost may move while the claimed network stays one of least cost'
 complete -c pns -n '__fish_use_subcommand' -a edit -d 'Applies a script of edits to a plant'
@@ -28,7 +30,7 @@ complete -c pns -n '__fish_use_subcommand' -a part -d 'Searches one open leaf of
 complete -c pns -n '__fish_use_subcommand' -a merge -d 'Puts searched parts back into their tree'
 complete -c pns -n '__fish_use_subcommand' -a help -d 'Tells the commands, or one topic'
 complete -c pns -n '__fish_use_subcommand' -a version -d 'Tells which program this is'
-complete -c pns -n '__fish_seen_subcommand_from help' -a 'max axioms list flows solve check table report graph stable edit undo migrate expand periods make trial rank rankcheck split part merge help version status plant FileType UnknownSection DoubleSection BadLine BadName UnknownKey DoubleKey BadNumber TooFine TooLarge Negative UnknownKind ZeroRate DoubleTerm BothSides EmptySide DoubleMaterial DoubleUnit DoubleRates TooMany LowAboveHigh UnknownMaterial NoRates NoProduct DoubleExclusion DoubleMember FewMembers UnknownUnit BadPayout UnknownName Order WrongCount MoreNodes FewerNodes AfterEnd Sign DoubleLine NoPeriod TooWide BadTerms DoubleName BadPlace InUse BadMembers'
+complete -c pns -n '__fish_seen_subcommand_from help' -a 'max axioms list flows solve show check table report json graph stable edit undo migrate expand periods make trial rank rankcheck split part merge help version status plant FileType UnknownSection DoubleSection BadLine BadName UnknownKey DoubleKey BadNumber TooFine TooLarge Negative UnknownKind ZeroRate DoubleTerm BothSides EmptySide DoubleMaterial DoubleUnit DoubleRates TooMany LowAboveHigh UnknownMaterial NoRates NoProduct DoubleExclusion DoubleMember FewMembers UnknownUnit BadPayout UnknownName Order WrongCount MoreNodes FewerNodes AfterEnd Sign DoubleLine NoPeriod TooWide BadTerms DoubleName BadPlace InUse BadMembers'
 complete -c pns -n 'not __fish_use_subcommand' -l help -d 'Prints the page of the command'
 complete -c pns -n '__fish_seen_subcommand_from max; and test (count (commandline -opc)) -eq 2' -k -a '(__fish_complete_suffix .pns)'
 complete -c pns -n '__fish_seen_subcommand_from axioms; and test (count (commandline -opc)) -eq 2' -k -a '(__fish_complete_suffix .pns)'
@@ -39,12 +41,16 @@ complete -c pns -n '__fish_seen_subcommand_from flows; and test (count (commandl
 complete -c pns -n '__fish_seen_subcommand_from flows; and test (count (commandline -opc)) -eq 3' -k -a '(__fish_complete_list , __pns_units)'
 complete -c pns -n '__fish_seen_subcommand_from solve; and test (count (commandline -opc)) -eq 2' -k -a '(__fish_complete_suffix .pns)'
 complete -c pns -n '__fish_seen_subcommand_from solve; and test (count (commandline -opc)) -eq 3' -k -a '10k 100k 1M'
+complete -c pns -n '__fish_seen_subcommand_from show; and test (count (commandline -opc)) -eq 2' -k -a '(__fish_complete_suffix .pns)'
+complete -c pns -n '__fish_seen_subcommand_from show; and test (count (commandline -opc)) -eq 3' -k -a '10k 100k 1M'
 complete -c pns -n '__fish_seen_subcommand_from check; and test (count (commandline -opc)) -eq 2' -k -a '(__fish_complete_suffix .pns)'
 complete -c pns -n '__fish_seen_subcommand_from check; and test (count (commandline -opc)) -eq 3' -F
 complete -c pns -n '__fish_seen_subcommand_from table; and test (count (commandline -opc)) -eq 2' -k -a '(__fish_complete_suffix .pns)'
 complete -c pns -n '__fish_seen_subcommand_from table; and test (count (commandline -opc)) -eq 3' -F
 complete -c pns -n '__fish_seen_subcommand_from report; and test (count (commandline -opc)) -eq 2' -k -a '(__fish_complete_suffix .pns)'
 complete -c pns -n '__fish_seen_subcommand_from report; and test (count (commandline -opc)) -eq 3' -F
+complete -c pns -n '__fish_seen_subcommand_from json; and test (count (commandline -opc)) -eq 2' -k -a '(__fish_complete_suffix .pns)'
+complete -c pns -n '__fish_seen_subcommand_from json; and test (count (commandline -opc)) -eq 3' -F
 complete -c pns -n '__fish_seen_subcommand_from graph; and test (count (commandline -opc)) -eq 2' -k -a '(__fish_complete_suffix .pns)'
 complete -c pns -n '__fish_seen_subcommand_from graph; and test (count (commandline -opc)) -eq 3' -F
 complete -c pns -n '__fish_seen_subcommand_from stable; and test (count (commandline -opc)) -eq 2' -k -a '(__fish_complete_suffix .pns)'

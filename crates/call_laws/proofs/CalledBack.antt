@@ -1,12 +1,12 @@
 -- A call of `edit` by the script of `undo`.
 use Rattle.std.proofs.Common.{◌≡◌, ◌⊎◌, ◌++◌, ℕ, List, Option, Some, codes, sym, ap, ◌∙◌}
 use Rattle.std.proofs.Common.{subst, refl, inl, inr, append-nil}
-use Rattle.std.specs.Io.KnownBytes.{Appends}
 use Rattle.text_rules.specs.Outside.{Told}
 use Rattle.problem_rules.specs.Problem.{Problem}
 use Rattle.edit_rules.specs.Edit.{Edit}
 use Rattle.studio_rules.specs.Lines.{line, text_of}
-use Rattle.studio_rules.specs.Ending.{Ends}
+use Rattle.studio_rules.specs.Ending.{Ends, Writes}
+use Rattle.endings.proofs.Ending.{writes_as}
 use Rattle.studio_rules.specs.declared.status.Status.{Status}
 use Rattle.studio_rules.specs.declared.status.Status.TheVariants.{Done, ReadFault}
 use Rattle.studio_rules.specs.declared.status.Status.TheVariants.{WriteFault, Memory}
@@ -40,7 +40,7 @@ moved work held later file script bytes steps s lines is at here there
 module _ (c : Call) (p : Problem) (script : File) where
   -- the call ended with the status, and put out the lines
   abbrev Ended : Status → List (List ℕ) → Type 0
-  Ended s lines = (c.status ≡ s) × Appends c.out_before.written c.out_after.written (text_of lines)
+  Ended s lines = (c.status ≡ s) × Writes c.out_before c.out_after s (text_of lines)
 
   too_long : (file : File) (s : Status) (lines : List (List ℕ)) → Ended s lines
       → IsTooLong file s lines → EndsTooLong c file
@@ -48,7 +48,7 @@ module _ (c : Call) (p : Problem) (script : File) where
     long.1.0,
     (
       ended.0 ∙ long.0,
-      subst (λ (t : List ℕ). Appends c.out_before.written c.out_after.written t)
+      writes_as c.out_before c.out_after s TooLong (text_of lines) _ long.0
           (ap text_of long.1.1 ∙ append-nil (line (codes "too long " ++ file.name))) ended.1,
     ),
   )
@@ -61,8 +61,7 @@ module _ (c : Call) (p : Problem) (script : File) where
         (
           ended.0
               ∙ done,
-          subst (λ (t : List ℕ). Appends c.out_before.written c.out_after.written t)
-              (ap text_of is) ended.1,
+          writes_as c.out_before c.out_after s Done (text_of lines) _ done (ap text_of is) ended.1,
         ),
       )
   gives_back s lines ended (inr long) = inr (too_long script s lines ended long)
@@ -81,8 +80,7 @@ module _ (c : Call) (p : Problem) (script : File) where
       at s is e =
           inl (gives_back s e.1.0 (
             is,
-            subst
-                (λ (t : List ℕ). Appends c.out_before.written c.out_after.written t) e.1.2 e.2,
+            writes_as c.out_before c.out_after s s e.0 _ refl e.1.2 e.2,
           )
           (law s e.1.0 (subst (λ (f : Option Command). AnswersTo c.shelf_before.held f s e.1.0)
           calls.form e.1.1)))

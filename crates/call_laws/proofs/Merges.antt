@@ -29,7 +29,7 @@ use Rattle.studio_rules.specs.Start.{IsStart}
 use Rattle.studio_rules.specs.TreeFile.{TreeFault, tree_limit}
 use Rattle.studio_rules.specs.declared.status.Status.{Status}
 use Rattle.studio_rules.specs.declared.status.Status.TheVariants.{Done, Spent, Past, TooLong}
-use Rattle.studio_rules.specs.declared.status.Status.TheVariants.{BadTree, BadNode, Refused}
+use Rattle.studio_rules.specs.declared.status.Status.TheVariants.{BadTree, BadNode, BadClaim}
 use Rattle.part_text.specs.Laws.{PartsAreReadOnce}
 
 -- ---- what `part` finds
@@ -49,7 +49,7 @@ pub record IsFound (p : Problem) (word other : List ℕ) (s : Status)
   pub says : PartSays budget known inside outside p s lines
 
 -- no other status is one of these
-refused_is_not : IsPrinted Refused → ⊥
+refused_is_not : IsPrinted BadClaim → ⊥
 refused_is_not h = elim h [
   | inl q ↦ cc
   | inr k ↦ elim k [ inl q ↦ cc | inr l ↦ elim l [ inl q ↦ cc | inr none ↦ none ] ]

@@ -1,7 +1,6 @@
 -- What `part` put out for an open leaf, `merge` puts back: the three calls.
 use Rattle.std.proofs.Common.{◌≡◌, ◌⊎◌, ◌≤◌, ◌<◌, ◌++◌, ◌∷◌, [], ℕ, List, Option, Ok}
 use Rattle.std.proofs.Common.{codes, length, refl, sym, ap, subst, ◌∙◌, inl, inr}
-use Rattle.std.specs.Io.KnownBytes.{Appends}
 use Rattle.problem_rules.specs.Problem.{Problem}
 use Rattle.problem_rules.specs.WellFormed.{ValidIsWellFormed}
 use Rattle.pns_rules.specs.Laws.{ValidIsProper}
@@ -19,7 +18,7 @@ use Rattle.part_text.specs.Laws.{PartsAreReadOnce}
 use Rattle.studio_rules.specs.Answers.{AnswersTo, CommandAnswers, WordsSay}
 use Rattle.studio_rules.specs.Command.{Command, Splitting, Parting, PartingAgainst, Merging}
 use Rattle.studio_rules.specs.Command.{command_of}
-use Rattle.studio_rules.specs.Ending.{Ends}
+use Rattle.studio_rules.specs.Ending.{Ends, Writes}
 use Rattle.studio_rules.specs.Lines.{line, text_of}
 use Rattle.studio_rules.specs.Merge.{MergeWork}
 use Rattle.studio_rules.specs.Part.{PartWork, AgainstWork, part_from}
@@ -28,7 +27,8 @@ use Rattle.studio_rules.specs.Split.{SplitWork, split_lines}
 use Rattle.studio_rules.specs.TreeFile.{GivesTree, OnTree, tree_limit}
 use Rattle.studio_rules.specs.declared.status.Status.{Status}
 use Rattle.studio_rules.specs.declared.status.Status.TheVariants.{Done, Spent, Past, TooLong}
-use Rattle.endings.proofs.Ending.{one_line}
+use Rattle.endings.proofs.Ending.{one_line, writes_as}
+use Rattle.endings.proofs.Put.{IsText, text_out}
 use Rattle.studio.specs.Calls.{Call, Calls, Holds, EndsWith, HasFailed}
 use Rattle.studio.proofs.Accepted.{is_held}
 use Rattle.studio.proofs.Calls.{Same, same_file, appended, answered, ended, given_work}
@@ -62,16 +62,18 @@ printed c command text calls finds =
       text_is = told.2;
     }
   where
-    is : (other : List ℕ) → Appends c.out_before.written c.out_after.written other → text ≡ other
-    is other appends = appended c.out_before.written c.out_after.written finds.front text other
-        finds.before finds.after appends
+    is : (s : Status) → IsText s → (other : List ℕ)
+        → Writes c.out_before c.out_after s other → text ≡ other
+    is s goes other writes =
+        appended c.out_before.out.written c.out_after.out.written finds.front text other
+        finds.before finds.after (text_out c.out_before c.out_after s other goes writes)
 
     at : (s : Status) → IsPrinted s
         → Ends (WordsSay c.shelf_before c.shelf_after c.words) c.out_before c.out_after s
         → LinesOf c text s
-    at Done is_printed e = (e.1.0, e.1.1, is e.0 e.2 ∙ e.1.2)
-    at Spent is_printed e = (e.1.0, e.1.1, is e.0 e.2 ∙ e.1.2)
-    at Past is_printed e = (e.1.0, e.1.1, is e.0 e.2 ∙ e.1.2)
+    at Done is_printed e = (e.1.0, e.1.1, is Done tt e.0 e.2 ∙ e.1.2)
+    at Spent is_printed e = (e.1.0, e.1.1, is Spent tt e.0 e.2 ∙ e.1.2)
+    at Past is_printed e = (e.1.0, e.1.1, is Past tt e.0 e.2 ∙ e.1.2)
     at s is_printed e = absurd (elim is_printed [
       | inl q ↦ cc
       | inr h ↦ elim h [
@@ -128,13 +130,13 @@ taken_text name text s lines (inr h) = inr
 
 takes : (c : Call) (name text : List ℕ) (status : Status) (said : List ℕ) → EndsWith c status said
     → IsTakenText name text status said → Takes c name text
-takes c name text status said ends (inl h) = inl (h.0, (said, (ends.0 ∙ h.1, ends.1)))
+takes c name text status said ends (inl h) = inl
+    (h.0, (said, (ends.0 ∙ h.1, writes_as c.out_before c.out_after status Done said said h.1 refl ends.1)))
 takes c name text status said ends (inr h) = inr (
   h.0,
   (
     ends.0 ∙ h.1,
-    subst (λ (t : List ℕ). Appends c.out_before.written c.out_after.written t)
-        h.2 ends.1,
+    writes_as c.out_before c.out_after status TooLong said _ h.1 h.2 ends.1,
   ),
 )
 

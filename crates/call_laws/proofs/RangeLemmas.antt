@@ -40,7 +40,7 @@ use Rattle.studio_rules.specs.Solve.{Solves, SolveWork}
 use Rattle.studio_rules.specs.Stable.{spot_named, NamedWork, StableWork}
 use Rattle.studio_rules.specs.TreeFile.{OnTree, GivesTree}
 use Rattle.studio_rules.specs.declared.status.Status.{Status}
-use Rattle.studio_rules.specs.declared.status.Status.TheVariants.{Done, Refused}
+use Rattle.studio_rules.specs.declared.status.Status.TheVariants.{Done, BadClaim}
 use Rattle.studio_rules.specs.declared.status.Status.TheVariants.{BadEdit, TooLong, UnknownName}
 use Rattle.call_laws.specs.Costs.{cost_of, ClaimsCost, PrintsClaim, PrintsCost}
 use Rattle.call_laws.specs.Ranges.{setting, SettingsSetSpots, ValuesAreEdited, BestIsClaimed}
@@ -218,7 +218,7 @@ module _ (edits : ValuesAreEdited) (best : BestIsClaimed) (stays : ValuedIsValid
               → NamedWork o budget p claim nodes Done ranged
               → RangeIsSolved EditedCosts held bytes tree kind name ranged
           by None e does = let d : Done ≡ UnknownName = does.0 in cc
-          by (Some spot) e (inl refused) = let d : Done ≡ Refused = refused.0 in cc
+          by (Some spot) e (inl refused) = let d : Done ≡ BadClaim = refused.0 in cc
           by (Some spot) e (inr (w, of_w, (from, to, below, above, range, are))) =
               record {
                 told = record {

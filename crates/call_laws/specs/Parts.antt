@@ -19,13 +19,13 @@ PartsFrom c file inside outside =
     ((budget : ℕ) × Calls c (Parting file inside outside budget))
     ⊎ ((budget : ℕ) × (known : List ℕ) × Calls c (PartingAgainst file inside outside budget known))
 
--- it ended with the text of a part, of a search that came to its end or stopped, and the sink tells
--- that it put out just the text
+-- it ended with the text of a part, of a search that came to its end or stopped, and standard
+-- output tells that it put out just the text
 pub record Finds (c : Call) (text : List ℕ) : Type 0 where
   pub status : IsOneOf (Done ∷ Spent ∷ Past ∷ []) c.status
   pub front : List ℕ
-  pub before : c.out_before.written ≡ Some front
-  pub after : c.out_after.written ≡ Some (front ++ text)
+  pub before : c.out_before.out.written ≡ Some front
+  pub after : c.out_after.out.written ≡ Some (front ++ text)
 
 -- it put the part back, or told that the text of the named file is above the limit of trees
 abbrev pub Takes : Call → List ℕ → List ℕ → Type 0

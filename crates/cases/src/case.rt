@@ -1,13 +1,14 @@
 //! A case: the call that it makes, and what it wants.
 
-use pns_io::{MemShelf, MemSink};
+use pns_io::{MemShelf, MemSink, Outputs};
 use std::alloc::{AllocError, Global};
 use studio::{code_of, studio};
 
-/// The room of the sink where a case says nothing of it, in bytes.
+/// The room of each output where a case says nothing of it, in bytes.
 const ROOM: u64 = 1_000_000;
 
-/// The part of the output that a case looks at.
+/// The part of the text that a case looks at. The text is what is on standard output, and the lines on standard error that do not begin
+/// with two blanks.
 #[derive(Clone, Copy)]
 pub(crate) enum Side {
     /// All of it.
@@ -18,6 +19,8 @@ pub(crate) enum Side {
     Front,
     /// As many bytes of its back as are wanted.
     Back,
+    /// Not the text, but all of standard error.
+    Errors,
 }
 
 /// A file of the shelf: its name and its bytes.
@@ -30,6 +33,7 @@ pub(crate) struct Case<'a> {
     pub(crate) words: Vec<String>,
     pub(crate) failing_reads: Vec<u64>,
     pub(crate) failing_put: Option<(u64, u64)>,
+    pub(crate) failing_error_put: Option<(u64, u64)>,
     pub(crate) room: u64,
     pub(crate) status: Option<u8>,
     pub(crate) side: Option<Side>,
@@ -44,6 +48,7 @@ impl<'a> Case<'a> {
             words: Vec::new(alloc),
             failing_reads: Vec::new(alloc),
             failing_put: None,
+            failing_error_put: None,
             room: ROOM,
             status: None,
             side: None,
@@ -51,12 +56,8 @@ impl<'a> Case<'a> {
         }
     }
 
-    /// Makes the call over those of the files that its words name, and gives its status and its output.
-    pub(crate) fn call(
-        &self,
-        alloc: Global,
-        files: &[NamedFile],
-    ) -> Result<(u8, Vec<u8>), AllocError> {
+    /// Makes the call over those of the files that its words name.
+    pub(crate) fn call(&self, alloc: Global, files: &[NamedFile]) -> Result<Outcome, AllocError> {
         let mut held = Vec::new(alloc);
         for (name, bytes) in files {
             if self.names(name.as_str()) {
@@ -64,9 +65,37 @@ impl<'a> Case<'a> {
             }
         }
         let mut shelf = MemShelf::new(held, self.failing_reads.clone()?);
-        let mut out = MemSink::new(alloc, self.room, self.failing_put)?;
-        let status = studio(alloc, &self.words, &mut shelf, &mut out);
-        Ok((code_of(status), out.bytes().to_vec(alloc)?))
+        let out = MemSink::new(alloc, self.room, self.failing_put)?;
+        let err = MemSink::new(alloc, self.room, self.failing_error_put)?;
+        let mut outs = Outputs::new(out, err);
+        let status = studio(alloc, &self.words, &mut shelf, &mut outs);
+        Ok(Outcome {
+            status: code_of(status),
+            out: outs.out.bytes().to_vec(alloc)?,
+            err: outs.err.bytes().to_vec(alloc)?,
+        })
+    }
+
+    /// Whether the call answers with its status 1, so that the text is on standard output.
+    fn judges(&self) -> bool {
+        match self.words.first() {
+            Some(word) => matches!(
+                word.as_bytes(),
+                b"check" | b"rankcheck" | b"axioms" | b"flows"
+            ),
+            None => false,
+        }
+    }
+
+    /// Whether nothing is on an output that has to be empty with the status.
+    pub(crate) fn is_placed(&self, outcome: &Outcome) -> bool {
+        match outcome.status {
+            0 | 13 => outcome.err.is_empty(),
+            1 if self.judges() => outcome.err.is_empty(),
+            4 | 5 => has_no_first_line(&outcome.err),
+            7 | 8 => true,
+            _ => outcome.out.is_empty(),
+        }
     }
 
     /// Whether a word is this name.
@@ -75,22 +104,55 @@ impl<'a> Case<'a> {
     }
 }
 
-/// The part of the output that is compared with so many wanted bytes.
-pub(crate) fn part_of(
-    alloc: Global,
-    side: Side,
-    output: &[u8],
-    wanted: usize,
-) -> Result<Vec<u8>, AllocError> {
-    match side {
-        Side::Whole => output.to_vec(alloc),
-        Side::Heads => heads_of(alloc, output),
-        Side::Front => output.get(..wanted).unwrap_or(output).to_vec(alloc),
-        Side::Back => {
-            let start = output.len().saturating_sub(wanted);
-            output.get(start..).unwrap_or(output).to_vec(alloc)
+/// How a call ended, and what it put on each output.
+#[derive(Drop)]
+pub(crate) struct Outcome {
+    pub(crate) status: u8,
+    pub(crate) out: Vec<u8>,
+    pub(crate) err: Vec<u8>,
+}
+
+impl Outcome {
+    /// The part that is compared with so many wanted bytes.
+    pub(crate) fn part(
+        &self,
+        alloc: Global,
+        side: Side,
+        wanted: usize,
+    ) -> Result<Vec<u8>, AllocError> {
+        let text = self.text(alloc)?;
+        match side {
+            Side::Whole => Ok(text),
+            Side::Heads => heads_of(alloc, &text),
+            Side::Front => text.get(..wanted).unwrap_or(&text).to_vec(alloc),
+            Side::Back => {
+                let start = text.len().saturating_sub(wanted);
+                text.get(start..).unwrap_or(&text).to_vec(alloc)
+            }
+            Side::Errors => self.err.to_vec(alloc),
         }
     }
+
+    /// What is on standard output, and the lines on standard error that do not begin with two blanks.
+    fn text(&self, alloc: Global) -> Result<Vec<u8>, AllocError> {
+        let mut text = self.out.to_vec(alloc)?;
+        for line in self.err.split_inclusive(|byte| *byte == b'\n') {
+            if !is_second(line) {
+                text.extend_from_slice(line)?;
+            }
+        }
+        Ok(text)
+    }
+}
+
+/// Whether the line is a second line, for people.
+fn is_second(line: &[u8]) -> bool {
+    line.starts_with(b"  ")
+}
+
+/// Whether all lines are second lines.
+fn has_no_first_line(err: &[u8]) -> bool {
+    err.split_inclusive(|byte| *byte == b'\n').all(is_second)
 }
 
 fn heads_of(alloc: Global, output: &[u8]) -> Result<Vec<u8>, AllocError> {

@@ -1,10 +1,10 @@
 //! The desk, at which the lines of a case file are done one after another.
 
-use crate::case::{Case, NamedFile, Side, part_of};
+use crate::case::{Case, NamedFile, Side};
 use crate::content::{Content, write};
 use crate::fault::{Fault, Stop};
 use crate::line::Line;
-use crate::report::{Answer, report};
+use crate::report::{Answer, report, report_place};
 use std::alloc::Global;
 use std::mem;
 
@@ -82,20 +82,23 @@ impl<'a> Desk<'a> {
         let (Some(status), Some(side)) = (case.status, case.side) else {
             return Err(Stop::Fault(Fault::Unfinished));
         };
-        let (came, output) = case.call(self.alloc, &self.shelf)?;
-        let part = part_of(self.alloc, side, &output, wanted.len())?;
+        let outcome = case.call(self.alloc, &self.shelf)?;
+        let part = outcome.part(self.alloc, side, wanted.len())?;
         let wanted = Answer {
             status,
             text: wanted,
         };
         let came = Answer {
-            status: came,
+            status: outcome.status,
             text: &part,
         };
         report(rt, case.title, wanted, came)?;
+        if !case.is_placed(&outcome) {
+            report_place(rt, case.title)?;
+        }
         self.count = self.count.saturating_add(1);
         match case.keep {
-            Some(name) => self.put_file(name, output),
+            Some(name) => self.put_file(name, outcome.out),
             None => Ok(()),
         }
     }
@@ -171,7 +174,11 @@ impl<'a> Desk<'a> {
                 }
             }
             Line::Read(number) => case.failing_reads.push(number)?,
-            Line::Put(number, count) => case.failing_put = Some((number, count)),
+            Line::Put(number, count) => {
+                case.failing_put = Some((number, count));
+                case.failing_error_put = Some((number, count));
+            }
+            Line::ErrorPut(number, count) => case.failing_error_put = Some((number, count)),
             Line::Room(room) => case.room = room,
             Line::Status(status) => case.status = Some(status),
             Line::Keep(name) => case.keep = Some(name),

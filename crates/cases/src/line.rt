@@ -21,15 +21,17 @@ pub(crate) enum Line<'a> {
     Words(Option<&'a str>),
     /// A read of this number fails.
     Read(u64),
-    /// The put of this number fails after so many bytes.
+    /// The put of this number fails after so many bytes, on each output.
     Put(u64, u64),
-    /// The sink has room for so many bytes.
+    /// The same on standard error alone.
+    ErrorPut(u64, u64),
+    /// Each output has room for so many bytes.
     Room(u64),
     /// The wanted status.
     Status(u8),
-    /// What is wanted of the output, with the bytes of a file to begin with.
+    /// What is wanted of the outputs, with the bytes of a file to begin with.
     Wanted(Side, Option<&'a str>),
-    /// The output becomes a file of the shelf.
+    /// What is on standard output becomes a file of the shelf.
     Keep(&'a str),
 }
 
@@ -60,6 +62,7 @@ fn of_word<'a>(word: &str) -> Result<Line<'a>, Fault> {
         b"heads" => Ok(Line::Wanted(Side::Heads, None)),
         b"begins" => Ok(Line::Wanted(Side::Front, None)),
         b"ends" => Ok(Line::Wanted(Side::Back, None)),
+        b"err" => Ok(Line::Wanted(Side::Errors, None)),
         _ => Err(Fault::Unknown),
     }
 }
@@ -141,9 +144,18 @@ fn wanted_of(side: Side, rest: &str) -> Result<Line<'_>, Fault> {
     Ok(Line::Wanted(side, Some(name_of(name)?)))
 }
 
+/// `K B`, or `err K B`.
 fn put_of<'a>(rest: &str) -> Result<Line<'a>, Fault> {
-    let (number, count) = counted(rest)?;
-    Ok(Line::Put(number, number_of(count)?))
+    match rest.strip_prefix("err ") {
+        Some(behind) => {
+            let (number, count) = counted(behind)?;
+            Ok(Line::ErrorPut(number, number_of(count)?))
+        }
+        None => {
+            let (number, count) = counted(rest)?;
+            Ok(Line::Put(number, number_of(count)?))
+        }
+    }
 }
 
 fn status_of<'a>(word: &str) -> Result<Line<'a>, Fault> {

@@ -29,6 +29,11 @@ pub(crate) fn report<R: Print>(
     Ok(())
 }
 
+/// Prints that something is on an output that has to be empty with the status.
+pub(crate) fn report_place<R: Print>(rt: &R, title: &str) -> io::Result<()> {
+    println!(rt; "FAILED {title}\n  something is on an output that has to be empty")
+}
+
 /// Prints the first line in which the texts differ, as it is in each.
 fn report_text<R: Print>(rt: &R, wanted: &[u8], came: &[u8]) -> io::Result<()> {
     let (number, start) = first_difference(wanted, came);

@@ -1,11 +1,11 @@
 -- A leaf that charges a node, with facts that are known of the flows: when it passes, and why it is
 -- refused.
 --
--- The causes come in the order in which a reader of a tree meets what is judged: first the scale and
--- the multipliers, which the line of the leaf has, then the covers, which the lines after it have,
--- then the numbers of the sum, and last what the charge reaches. A scale of 1 or more counts a cost,
--- so a cost has to be claimed. Where none is, the leaf fails for its scale, before its sum is formed:
--- no sum could let it pass.
+-- The causes come in the order in which a reader of a tree meets what is judged: first the scale
+-- and the multipliers, which the line of the leaf has, then the covers, which the lines after it
+-- have, then the numbers of the sum, and last what the charge reaches. A scale of 1 or more counts
+-- a cost, so a cost has to be claimed. Where none is, the leaf fails for its scale, before its sum
+-- is formed: no sum could let it pass.
 use Rattle.std.specs.Prelude.{◌≡◌, ◌⊎◌, ℕ, ℤ, pos, ◌≤ℤ◌, ◌<ℤ◌, List, length}
 use Rattle.std.specs.List.{AllByRecursion}
 use Rattle.problem_rules.specs.Problem.{Problem}
@@ -21,7 +21,8 @@ use Rattle.charge_rules.specs.ChargeSteps.{charge_steps}
 use Rattle.charge_rules.specs.declared.charge_why.ChargeWhy.{ChargeWhy}
 use Rattle.charge_rules.specs.declared.charge_why.ChargeWhy.TheVariants as causes
 
--- what a leaf hands in: the scale of the cost, a multiplier for each row in rising order, and covers
+-- what a leaf hands in: the scale of the cost, a multiplier for each row in rising order, and
+-- covers
 pub record Handed : Type 0 where
   pub d : ℤ
   pub ys : List ℤ
@@ -61,10 +62,12 @@ charge_of p n f h = charge (net_of p) n f h.d (multiplier p n h) h.covers
 abbrev pub ChargeReaches : (ℤ → ℤ → Type 0) → ℤ → ℤ → Type 0
 ChargeReaches Reaches x d = ((pos 1 ≤ℤ d) × Reaches x d) ⊎ ((d ≡ pos 0) × (pos 0 <ℤ x))
 
--- ---- which leaves pass: IsClaimed says that a cost is claimed, and Reaches x d that x over d is at
--- least that cost
+-- ---- which leaves pass: IsClaimed says that a cost is claimed, and Reaches x d that x over d is
+-- at least that cost
 
-pub record ChargePasses (p : Problem) (IsClaimed : Type 0) (Reaches : ℤ → ℤ → Type 0) (n : Node) (f : Facts) (h : Handed) : Type 0 where
+pub record ChargePasses
+    (p : Problem) (IsClaimed : Type 0) (Reaches : ℤ → ℤ → Type 0) (n : Node) (f : Facts)
+    (h : Handed) : Type 0 where
   pub scale : IsScale IsClaimed h.d
   pub each_row : IsOneEach p n h.ys
   pub covered : CoversPass (shape_of p) n h.covers
@@ -77,7 +80,8 @@ pub record ChargePasses (p : Problem) (IsClaimed : Type 0) (Reaches : ℤ → �
 abbrev pub FailsFor : {W : Type 0} → Type 0 → W → Type 0 → W → Type 0
 FailsFor Condition cause Below why = ((why ≡ cause) × ¬ Condition) ⊎ (Condition × Below)
 
-abbrev pub ChargeFails : Problem → Type 0 → (ℤ → ℤ → Type 0) → Node → Facts → Handed → ChargeWhy → Type 0
+abbrev pub ChargeFails
+    : Problem → Type 0 → (ℤ → ℤ → Type 0) → Node → Facts → Handed → ChargeWhy → Type 0
 ChargeFails p IsClaimed Reaches n f h why =
     FailsFor (IsScale IsClaimed h.d × IsOneEach p n h.ys) causes.Bound
     (FailsFor (CoversPass (shape_of p) n h.covers) causes.Cover

@@ -1,8 +1,8 @@
-/// Why a leaf that charges a node is refused. The first of its conditions that fails tells the cause.
+/// Why a leaf that charges a node is refused: the cause of the first of its conditions that fails.
 #[derive(Clone, Copy, Debug, PartialEq, Eq)]
 pub enum ChargeWhy {
-    /// The scale is below 0, or it counts a cost and none is claimed; the multipliers are not one for
-    /// each row; or the charge does not reach what is claimed.
+    /// The scale is below 0, or it counts a cost and none is claimed; the multipliers are not one
+    /// for each row; or the charge does not reach what is claimed.
     Bound,
     /// A set of units is not one of free units of which each structure of the node has one, or its
     /// weight is below 0.

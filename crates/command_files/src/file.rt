@@ -4,17 +4,18 @@ ghost use Rattle.studio_rules.specs.Reading.{AreHeld, LongFile};
 ghost use Rattle.studio_rules.specs.Ending.{Ends, Says};
 ghost use Rattle.studio_rules.specs.Keeps.{Keeps};
 
-use endings::say::{say_memory, say_of};
-use pns_io::{ReadAllFault, Shelf, Sink, read_all};
+use endings::say::{say_memory, tell_with};
+use messages::{read_fault, too_long};
+use pns_io::{Outputs, ReadAllFault, Shelf, Sink, read_all};
 use std::alloc::Global;
 use studio_rules::Status;
 
 /// The whole of the file, which may hold so many bytes. Where it can't be read, or holds more, the text that tells so is out,
 /// and the status is that of the call.
-pub fn bytes_of<F: Shelf, K: Sink>(
+pub fn bytes_of<F: Shelf, K: Sink, E: Sink>(
     alloc: Global,
     shelf: &mut F,
-    out: &mut K,
+    out: &mut Outputs<K, E>,
     name: &str,
     limit: u64,
 ) -> Result<Vec<u8>, Status>
@@ -23,14 +24,20 @@ pub fn bytes_of<F: Shelf, K: Sink>(
     ensures within { IfOk result (λ bytes. length bytes.items ≤ limit) }
     ensures silent { OnOk result (out.new ≡ out.old) }
     ensures keeps { Keeps (F.state shelf.old) (F.state shelf.new) }
-    ensures told { IfErr result (Ends (Says (LongFile (F.state shelf.old).held name.now limit) (λ other. other ≡ name.now) (F.state shelf.old) (F.state shelf.new)) (K.state out.old) (K.state out.new)) }
+    ensures told { IfErr result (Ends (Says (LongFile (F.state shelf.old).held name.now limit) (λ other. other ≡ name.now) (F.state shelf.old) (F.state shelf.new)) out.old out.new) }
 {
     match read_all(alloc, shelf, name, limit) {
         Ok(bytes) => Ok(bytes),
         Err(ReadAllFault::ReadFault) => {
-            Err(say_of(alloc, out, "read fault ", name, Status::ReadFault))
+            let notes = read_fault(alloc, name);
+            let words = ("read fault ", name);
+            Err(tell_with(alloc, out, words, notes.bytes(), Status::ReadFault))
         }
-        Err(ReadAllFault::TooLong) => Err(say_of(alloc, out, "too long ", name, Status::TooLong)),
+        Err(ReadAllFault::TooLong) => {
+            let notes = too_long(alloc, name, limit);
+            let words = ("too long ", name);
+            Err(tell_with(alloc, out, words, notes.bytes(), Status::TooLong))
+        }
         Err(ReadAllFault::Memory) => Err(say_memory(out)),
     }
 }

@@ -9,10 +9,11 @@ ghost use Rattle.studio_rules.specs.Keeps.{Keeps};
 ghost use Rattle.studio_rules.specs.declared.status.Status.TheVariants.{BadPlan};
 
 use crate::file::bytes_of;
-use endings::say::{say, say_memory};
+use endings::say::{say_memory, tell};
+use messages::{Format, Source, fault};
 use periods::Plan;
 use plan_text::{PlanFault, PlanKind, read_plan};
-use pns_io::{Shelf, Sink};
+use pns_io::{Outputs, Shelf, Sink};
 use pns_problem::Problem;
 use std::alloc::{AllocError, Global};
 use studio_rules::Status;
@@ -51,21 +52,32 @@ fn plan_fault_line(alloc: Global, number: u32, kind: PlanKind) -> Result<String,
     Ok(text)
 }
 
-fn say_plan_fault<K: Sink>(alloc: Global, out: &mut K, number: u32, kind: PlanKind) -> Status
-    ensures { Ends (OrMemory (Only BadPlan (line (plan_fault_line number kind)))) (K.state out.old) (K.state out.new) result }
+fn say_plan_fault<K: Sink, E: Sink>(
+    alloc: Global,
+    out: &mut Outputs<K, E>,
+    text: &[u8],
+    number: u32,
+    kind: PlanKind,
+) -> Status
+    ensures { Ends (OrMemory (Only BadPlan (line (plan_fault_line number kind)))) out.old out.new result }
 {
+    let source = Source {
+        text,
+        format: Format::Plan,
+    };
+    let notes = fault(alloc, source, number, plan_kind_word(kind));
     match plan_fault_line(alloc, number, kind) {
-        Ok(text) => say(out, text.as_bytes(), Status::BadPlan),
+        Ok(text) => tell(out, text.as_bytes(), notes.bytes(), Status::BadPlan),
         Err(_) => say_memory(out),
     }
 }
 
 /// Reads the file and judges its text as a plan for the problem. Where that gives no plan the text that tells why is out, and the
 /// status is that of the call.
-pub fn plan_of<F: Shelf, K: Sink>(
+pub fn plan_of<F: Shelf, K: Sink, E: Sink>(
     alloc: Global,
     shelf: &mut F,
-    out: &mut K,
+    out: &mut Outputs<K, E>,
     name: &str,
     problem: &Problem,
 ) -> Result<Plan, Status>
@@ -73,7 +85,7 @@ pub fn plan_of<F: Shelf, K: Sink>(
     ensures valid { IfOk result (IsPlan problem.now) }
     ensures silent { OnOk result (out.new ≡ out.old) }
     ensures keeps { Keeps (F.state shelf.old) (F.state shelf.new) }
-    ensures told { IfErr result (Ends (Says (PlanFaults (F.state shelf.old).held name.now problem.now) (λ other. other ≡ name.now) (F.state shelf.old) (F.state shelf.new)) (K.state out.old) (K.state out.new)) }
+    ensures told { IfErr result (Ends (Says (PlanFaults (F.state shelf.old).held name.now problem.now) (λ other. other ≡ name.now) (F.state shelf.old) (F.state shelf.new)) out.old out.new) }
 {
     let bytes = match bytes_of(alloc, shelf, out, name, PLAN_LIMIT) {
         Ok(bytes) => bytes,
@@ -81,7 +93,7 @@ pub fn plan_of<F: Shelf, K: Sink>(
     };
     match read_plan(alloc, problem, &bytes) {
         Ok(plan) => Ok(plan),
-        Err(PlanFault::At { line, kind }) => Err(say_plan_fault(alloc, out, line, kind)),
+        Err(PlanFault::At { line, kind }) => Err(say_plan_fault(alloc, out, &bytes, line, kind)),
         Err(PlanFault::Memory) => Err(say_memory(out)),
     }
 }

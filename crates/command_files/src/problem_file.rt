@@ -7,8 +7,9 @@ ghost use Rattle.studio_rules.specs.Keeps.{Keeps};
 ghost use Rattle.studio_rules.specs.declared.status.Status.TheVariants.{BadProblem};
 
 use crate::file::bytes_of;
-use endings::say::{say, say_memory};
-use pns_io::{Shelf, Sink};
+use endings::say::{say_memory, tell};
+use messages::{Format, Source, fault};
+use pns_io::{Outputs, Shelf, Sink};
 use pns_problem::Problem;
 use pns_text::{TextFault, read_problem};
 use std::alloc::{AllocError, Global};
@@ -66,27 +67,38 @@ fn fault_line(alloc: Global, number: u32, kind: TextKind) -> Result<String, Allo
     Ok(text)
 }
 
-fn say_fault<K: Sink>(alloc: Global, out: &mut K, number: u32, kind: TextKind) -> Status
-    ensures { Ends (OrMemory (Only BadProblem (line (fault_line number kind)))) (K.state out.old) (K.state out.new) result }
+fn say_fault<K: Sink, E: Sink>(
+    alloc: Global,
+    out: &mut Outputs<K, E>,
+    text: &[u8],
+    number: u32,
+    kind: TextKind,
+) -> Status
+    ensures { Ends (OrMemory (Only BadProblem (line (fault_line number kind)))) out.old out.new result }
 {
+    let source = Source {
+        text,
+        format: Format::Plant,
+    };
+    let notes = fault(alloc, source, number, kind_word(kind));
     match fault_line(alloc, number, kind) {
-        Ok(text) => say(out, text.as_bytes(), Status::BadProblem),
+        Ok(text) => tell(out, text.as_bytes(), notes.bytes(), Status::BadProblem),
         Err(_) => say_memory(out),
     }
 }
 
 /// Reads the file and judges its text. Where that gives no problem the text that tells why is out, and the status is that
 /// of the call.
-pub fn problem_of<F: Shelf, K: Sink>(
+pub fn problem_of<F: Shelf, K: Sink, E: Sink>(
     alloc: Global,
     shelf: &mut F,
-    out: &mut K,
+    out: &mut Outputs<K, E>,
     name: &str,
 ) -> Result<Problem, Status>
     ensures problem { IfOk result (λ p. (file : List ℕ) × AreHeld ((F.state shelf.old).held name.now) file × GivesProblem file p) }
     ensures silent { OnOk result (out.new ≡ out.old) }
     ensures keeps { Keeps (F.state shelf.old) (F.state shelf.new) }
-    ensures told { IfErr result (Ends (Says (FileFaults (F.state shelf.old).held name.now) (λ other. other ≡ name.now) (F.state shelf.old) (F.state shelf.new)) (K.state out.old) (K.state out.new)) }
+    ensures told { IfErr result (Ends (Says (FileFaults (F.state shelf.old).held name.now) (λ other. other ≡ name.now) (F.state shelf.old) (F.state shelf.new)) out.old out.new) }
 {
     let bytes = match bytes_of(alloc, shelf, out, name, FILE_LIMIT) {
         Ok(bytes) => bytes,
@@ -97,7 +109,7 @@ pub fn problem_of<F: Shelf, K: Sink>(
             problem.is_valid();
             Ok(problem)
         }
-        Err(TextFault::At { line, kind }) => Err(say_fault(alloc, out, line, kind)),
+        Err(TextFault::At { line, kind }) => Err(say_fault(alloc, out, &bytes, line, kind)),
         Err(TextFault::Memory) => Err(say_memory(out)),
     }
 }

@@ -10,9 +10,10 @@ ghost use Rattle.studio_rules.specs.declared.status.Status.TheVariants.{BadEdit}
 
 use crate::file::bytes_of;
 use edit_scripts::{EditFault, EditKind, Script, read_script};
-use endings::say::{say, say_memory};
+use endings::say::{say_memory, tell};
+use messages::{Format, Source, fault};
 use pns_edits::apply;
-use pns_io::{Shelf, Sink};
+use pns_io::{Outputs, Shelf, Sink};
 use pns_problem::Problem;
 use std::alloc::{AllocError, Global};
 use studio_rules::Status;
@@ -55,11 +56,22 @@ fn edit_fault_line(alloc: Global, number: u32, kind: EditKind) -> Result<String,
     Ok(text)
 }
 
-fn say_edit_fault<K: Sink>(alloc: Global, out: &mut K, number: u32, kind: EditKind) -> Status
-    ensures { Ends (OrMemory (Only BadEdit (line (edit_fault_line number kind)))) (K.state out.old) (K.state out.new) result }
+fn say_edit_fault<K: Sink, E: Sink>(
+    alloc: Global,
+    out: &mut Outputs<K, E>,
+    text: &[u8],
+    number: u32,
+    kind: EditKind,
+) -> Status
+    ensures { Ends (OrMemory (Only BadEdit (line (edit_fault_line number kind)))) out.old out.new result }
 {
+    let source = Source {
+        text,
+        format: Format::Script,
+    };
+    let notes = fault(alloc, source, number, edit_kind_word(kind));
     match edit_fault_line(alloc, number, kind) {
-        Ok(text) => say(out, text.as_bytes(), Status::BadEdit),
+        Ok(text) => tell(out, text.as_bytes(), notes.bytes(), Status::BadEdit),
         Err(_) => say_memory(out),
     }
 }
@@ -86,17 +98,17 @@ pub(crate) fn edited_by(
 
 /// Reads the file, judges its text as a script and applies it to the problem. Where that gives no problem the text that tells
 /// why is out, and the status is that of the call.
-pub fn edited_of<F: Shelf, K: Sink>(
+pub fn edited_of<F: Shelf, K: Sink, E: Sink>(
     alloc: Global,
     shelf: &mut F,
-    out: &mut K,
+    out: &mut Outputs<K, E>,
     name: &str,
     problem: &Problem,
 ) -> Result<(Problem, Script), Status>
     ensures edited { IfOk result (λ edited. (file : List ℕ) × AreHeld ((F.state shelf.old).held name.now) file × IsEdited problem.now file edited.0 edited.1) }
     ensures silent { OnOk result (out.new ≡ out.old) }
     ensures keeps { Keeps (F.state shelf.old) (F.state shelf.new) }
-    ensures told { IfErr result (Ends (Says (ScriptFaults (F.state shelf.old).held name.now problem.now) (λ other. other ≡ name.now) (F.state shelf.old) (F.state shelf.new)) (K.state out.old) (K.state out.new)) }
+    ensures told { IfErr result (Ends (Says (ScriptFaults (F.state shelf.old).held name.now problem.now) (λ other. other ≡ name.now) (F.state shelf.old) (F.state shelf.new)) out.old out.new) }
 {
     let bytes = match bytes_of(alloc, shelf, out, name, SCRIPT_LIMIT) {
         Ok(bytes) => bytes,
@@ -104,7 +116,7 @@ pub fn edited_of<F: Shelf, K: Sink>(
     };
     match edited_by(alloc, &bytes, problem) {
         Ok(edited) => Ok(edited),
-        Err(EditFault::At { line, kind }) => Err(say_edit_fault(alloc, out, line, kind)),
+        Err(EditFault::At { line, kind }) => Err(say_edit_fault(alloc, out, &bytes, line, kind)),
         Err(EditFault::Memory) => Err(say_memory(out)),
     }
 }

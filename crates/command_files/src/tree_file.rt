@@ -11,8 +11,9 @@ ghost use Rattle.studio_rules.specs.declared.status.Status.TheVariants.{BadTree}
 
 use crate::file::bytes_of;
 use branch_tree::{Claim, Tree};
-use endings::say::{say, say_memory};
-use pns_io::{Shelf, Sink};
+use endings::say::{say_memory, tell};
+use messages::{Format, Source, fault};
+use pns_io::{Outputs, Shelf, Sink};
 use pns_problem::Problem;
 use std::alloc::{AllocError, Global};
 use studio_rules::Status;
@@ -51,21 +52,28 @@ fn tree_fault_line(alloc: Global, number: u32, kind: TreeKind) -> Result<String,
 }
 
 /// Says the first fault of the text of a tree or of a ranking: its line and its kind.
-pub fn say_tree_fault<K: Sink>(alloc: Global, out: &mut K, number: u32, kind: TreeKind) -> Status
-    ensures { Ends (OrMemory (Only BadTree (line (tree_fault_line number kind)))) (K.state out.old) (K.state out.new) result }
+pub fn say_tree_fault<K: Sink, E: Sink>(
+    alloc: Global,
+    out: &mut Outputs<K, E>,
+    source: Source<'_>,
+    number: u32,
+    kind: TreeKind,
+) -> Status
+    ensures { Ends (OrMemory (Only BadTree (line (tree_fault_line number kind)))) out.old out.new result }
 {
+    let notes = fault(alloc, source, number, tree_kind_word(kind));
     match tree_fault_line(alloc, number, kind) {
-        Ok(text) => say(out, text.as_bytes(), Status::BadTree),
+        Ok(text) => tell(out, text.as_bytes(), notes.bytes(), Status::BadTree),
         Err(_) => say_memory(out),
     }
 }
 
 /// Reads the file and judges its text as a claim and a tree for the problem. Where that gives none the text that tells why is
 /// out, and the status is that of the call.
-pub fn tree_of<F: Shelf, K: Sink>(
+pub fn tree_of<F: Shelf, K: Sink, E: Sink>(
     alloc: Global,
     shelf: &mut F,
-    out: &mut K,
+    out: &mut Outputs<K, E>,
     name: &str,
     problem: &Problem,
 ) -> Result<(Claim, Tree), Status>
@@ -74,7 +82,7 @@ pub fn tree_of<F: Shelf, K: Sink>(
     ensures known { IfOk result (λ found. KnowsClaim problem.now (claim_of found.0) × KnowsTree problem.now found.1) }
     ensures silent { OnOk result (out.new ≡ out.old) }
     ensures keeps { Keeps (F.state shelf.old) (F.state shelf.new) }
-    ensures told { IfErr result (Ends (Says (TreeFaults (F.state shelf.old).held name.now problem.now) (λ other. other ≡ name.now) (F.state shelf.old) (F.state shelf.new)) (K.state out.old) (K.state out.new)) }
+    ensures told { IfErr result (Ends (Says (TreeFaults (F.state shelf.old).held name.now problem.now) (λ other. other ≡ name.now) (F.state shelf.old) (F.state shelf.new)) out.old out.new) }
 {
     let bytes = match bytes_of(alloc, shelf, out, name, TREE_LIMIT) {
         Ok(bytes) => bytes,
@@ -82,7 +90,13 @@ pub fn tree_of<F: Shelf, K: Sink>(
     };
     match read_tree(alloc, problem, &bytes) {
         Ok((claim, tree, _)) => Ok((claim, tree)),
-        Err(TreeFault::At { line, kind }) => Err(say_tree_fault(alloc, out, line, kind)),
+        Err(TreeFault::At { line, kind }) => {
+            let source = Source {
+                text: &bytes,
+                format: Format::Tree,
+            };
+            Err(say_tree_fault(alloc, out, source, line, kind))
+        }
         Err(TreeFault::Memory) => Err(say_memory(out)),
     }
 }

@@ -1,7 +1,8 @@
 -- A number that is divided by the parts of a product one after another.
-use Rattle.std.proofs.Common.{◌≡◌, ◌<◌, ◌≤◌, ◌+◌, ◌*◌, ◌/◌, ◌%◌, ◌^◌, ◌==◌, ◌&&◌, ℕ, Bool, true, false, refl, sym, ap, ◌∙◌, arith}
+use Rattle.std.proofs.Common.{◌≡◌, ◌<◌, ◌≤◌, ◌+◌, ◌-◌, ◌*◌, ◌/◌, ◌%◌, ◌^◌, ◌==◌, ◌&&◌, ℕ, Bool, true, false, refl, sym, ap, ◌∙◌, arith}
 use Rattle.std.specs.Prelude.{ℤ, pos, unsigned_abs, int_lt, Result, Ok, Err, OnOk}
-use Rattle.report_rules.specs.Decimal.{rounded_text, decimal_text}
+use Rattle.report_rules.specs.Decimal.{rounded_text, decimal_text, signed_text, rounded, places_behind, six_digits}
+use Rattle.std.proofs.lemmas.Nat.{pow-add}
 use Rattle.std.proofs.lemmas.Bool.{eq-eqb, ne_eqb, eqb-true, eqb-false}
 use Rattle.std.proofs.Math.Nat.{div-div-eq-div-mul, add-mul-div_right, mul-div-mul_right, mul-div_cancel, mul-mod_left, le-mul_of_pos_right, one-le-pow}
 use Rattle.std.proofs.Math.Arith.{mod-mul}
@@ -59,6 +60,38 @@ pub quotient_text : (k h : ℕ) (num : ℤ) (d : ℕ) (exact : Bool) (n : ℕ) �
 quotient_text k h num d exact n ph pd e f = λ i.
     rounded_text k ((e ∙ sym (exact_by_parts (unsigned_abs num) (10 ^ k) h d (power_positive k) ph pd)) i) (int_lt num (pos 0))
     ((f ∙ sym (rounded_by_parts (unsigned_abs num) (10 ^ k) h d (power_positive k) ph pd)) i)
+
+-- six digits of a number over 2 * 10^6 * h * d
+pub six_text : (h : ℕ) (num : ℤ) (d k n : ℕ) → 0 < h → 0 < d → k ≤ 6 → k ≡ places_behind 6 ((unsigned_abs num / d) / (2000000 * h))
+    → n ≡ (unsigned_abs num / d + h * 10 ^ (6 - k)) / (2 * (h * 10 ^ (6 - k))) → signed_text k (int_lt num (pos 0)) n ≡ six_digits num (2 * 10 ^ 6 * h * d)
+six_text h num d k n ph pd few e f = λ i. signed_text (places i) (int_lt num (pos 0)) (last i)
+  where
+    whole : (unsigned_abs num / d) / (2000000 * h) ≡ unsigned_abs num / (2 * 10 ^ 6 * h * d)
+    whole = let same : d * (2000000 * h) ≡ 2 * 10 ^ 6 * h * d = omega arith in div-div-eq-div-mul (unsigned_abs num) d (2000000 * h) ∙ ap (λ m. unsigned_abs num / m) same
+
+    places : k ≡ places_behind 6 (unsigned_abs num / (2 * 10 ^ 6 * h * d))
+    places = e ∙ ap (places_behind 6) whole
+
+    power : 10 ^ k * 10 ^ (6 - k) ≡ 10 ^ 6
+    power = let all : k + (6 - k) ≡ 6 = omega (arith, few) in sym (pow-add 10 k (6 - k)) ∙ ap (λ m. 10 ^ m) all
+
+    bottom : 2 * 10 ^ k * (h * 10 ^ (6 - k)) * d ≡ 2 * 10 ^ 6 * h * d
+    bottom = ring (10 ^ k) (10 ^ (6 - k)) ∙ ap (λ m. m * (2 * h * d)) power ∙ back (10 ^ 6)
+      where
+        ring : (a b : ℕ) → 2 * a * (h * b) * d ≡ (a * b) * (2 * h * d)
+        ring a b = omega arith
+
+        back : (a : ℕ) → a * (2 * h * d) ≡ 2 * a * h * d
+        back a = omega arith
+
+    positive : 0 < h * 10 ^ (6 - k)
+    positive = let p = power_positive (6 - k) in let l : h ≤ h * 10 ^ (6 - k) = le-mul_of_pos_right h p in omega (arith, l, ph)
+
+    last : n ≡ rounded (places_behind 6 (unsigned_abs num / (2 * 10 ^ 6 * h * d))) num (2 * 10 ^ 6 * h * d)
+    last =
+        f ∙ sym (rounded_by_parts (unsigned_abs num) (10 ^ k) (h * 10 ^ (6 - k)) d (power_positive k) positive pd)
+        ∙ (λ i. (2 * (unsigned_abs num * 10 ^ k) + bottom i) / (2 * bottom i))
+        ∙ ap (λ m. rounded m num (2 * 10 ^ 6 * h * d)) places
 
 -- what follows of a result
 pub on_ok : {A E : Type 0} (r : Result A E) (P Q : Type 0) → (P → Q) → OnOk r P → OnOk r Q

@@ -17,7 +17,8 @@ fn push_digits(text: &mut String, count: u32, number: u128) -> Result<(), AllocE
     Ok(())
 }
 
-fn push_places(text: &mut String, count: u32, number: u128) -> Result<(), AllocError>
+/// Appends the last so many digits of the number, up to the last that is not 0.
+pub fn push_places(text: &mut String, count: u32, number: u128) -> Result<(), AllocError>
     ensures { OnOk result (string_bytes text.new ≡ string_bytes text.old ++ places count number) }
 {
     if count == 0 {

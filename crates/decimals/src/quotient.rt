@@ -2,7 +2,7 @@
 ghost use Rattle.std.specs.Prelude.{◌≡◌, ◌≤ℤ◌, ◌<◌, ◌++◌, ◌*◌, ◌^◌, ◌==◌, ◌&&◌, ◌+◌, ◌/◌, ◌%◌, pos, unsigned_abs, OnOk, string_bytes};
 ghost use Rattle.report_rules.specs.Decimal.{decimal_text, rounded, is_exact};
 
-use crate::rounded::push_rounded;
+use crate::signed::push_rounded;
 use std::alloc::AllocError;
 
 /// The quotient, rounded.

@@ -9,19 +9,19 @@ ghost use Rattle.studio_rules.specs.Keeps.{Keeps};
 use command_files::{edited_of, problem_of};
 use edit_scripts::print_script;
 use endings::say::say_made;
-use pns_io::{Shelf, Sink};
+use pns_io::{Outputs, Shelf, Sink};
 use pns_problem::Problem;
 use std::alloc::Global;
 use studio_rules::Status;
 
-fn say_edited<F: Shelf, K: Sink>(
+fn say_edited<F: Shelf, K: Sink, E: Sink>(
     alloc: Global,
     problem: &Problem,
     script: &str,
     shelf: &mut F,
-    out: &mut K,
+    out: &mut Outputs<K, E>,
 ) -> Status
-    ensures ends { Ends (Says (OnScript EditWork (F.state shelf.old).held script.now problem.now) (λ other. other ≡ script.now) (F.state shelf.old) (F.state shelf.new)) (K.state out.old) (K.state out.new) result }
+    ensures ends { Ends (Says (OnScript EditWork (F.state shelf.old).held script.now problem.now) (λ other. other ≡ script.now) (F.state shelf.old) (F.state shelf.new)) out.old out.new result }
     ensures keeps { Keeps (F.state shelf.old) (F.state shelf.new) }
 {
     match edited_of(alloc, shelf, out, script, problem) {
@@ -31,14 +31,14 @@ fn say_edited<F: Shelf, K: Sink>(
 }
 
 /// Puts the canonical text of the file's problem after the edits of the script.
-pub fn edit<F: Shelf, K: Sink>(
+pub fn edit<F: Shelf, K: Sink, E: Sink>(
     alloc: Global,
     file: &str,
     script: &str,
     shelf: &mut F,
-    out: &mut K,
+    out: &mut Outputs<K, E>,
 ) -> Status
-    ensures ends { Ends (TwoFilesSay (OnScript EditWork) file.now script.now (F.state shelf.old) (F.state shelf.new)) (K.state out.old) (K.state out.new) result }
+    ensures ends { Ends (TwoFilesSay (OnScript EditWork) file.now script.now (F.state shelf.old) (F.state shelf.new)) out.old out.new result }
     ensures keeps { Keeps (F.state shelf.old) (F.state shelf.new) }
 {
     match problem_of(alloc, shelf, out, file) {
@@ -47,14 +47,14 @@ pub fn edit<F: Shelf, K: Sink>(
     }
 }
 
-fn say_inverse<F: Shelf, K: Sink>(
+fn say_inverse<F: Shelf, K: Sink, E: Sink>(
     alloc: Global,
     problem: &Problem,
     script: &str,
     shelf: &mut F,
-    out: &mut K,
+    out: &mut Outputs<K, E>,
 ) -> Status
-    ensures ends { Ends (Says (OnScript UndoWork (F.state shelf.old).held script.now problem.now) (λ other. other ≡ script.now) (F.state shelf.old) (F.state shelf.new)) (K.state out.old) (K.state out.new) result }
+    ensures ends { Ends (Says (OnScript UndoWork (F.state shelf.old).held script.now problem.now) (λ other. other ≡ script.now) (F.state shelf.old) (F.state shelf.new)) out.old out.new result }
     ensures keeps { Keeps (F.state shelf.old) (F.state shelf.new) }
 {
     match edited_of(alloc, shelf, out, script, problem) {
@@ -64,14 +64,14 @@ fn say_inverse<F: Shelf, K: Sink>(
 }
 
 /// Puts the script that leads back from the file's problem after the edits of the script.
-pub fn undo<F: Shelf, K: Sink>(
+pub fn undo<F: Shelf, K: Sink, E: Sink>(
     alloc: Global,
     file: &str,
     script: &str,
     shelf: &mut F,
-    out: &mut K,
+    out: &mut Outputs<K, E>,
 ) -> Status
-    ensures ends { Ends (TwoFilesSay (OnScript UndoWork) file.now script.now (F.state shelf.old) (F.state shelf.new)) (K.state out.old) (K.state out.new) result }
+    ensures ends { Ends (TwoFilesSay (OnScript UndoWork) file.now script.now (F.state shelf.old) (F.state shelf.new)) out.old out.new result }
     ensures keeps { Keeps (F.state shelf.old) (F.state shelf.new) }
 {
     match problem_of(alloc, shelf, out, file) {

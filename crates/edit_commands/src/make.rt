@@ -8,7 +8,7 @@ ghost use Rattle.studio_rules.specs.Ending.{Ends, Tells};
 
 use endings::say::say_made;
 use generator::generate;
-use pns_io::Sink;
+use pns_io::{Outputs, Sink};
 use std::alloc::{AllocError, Global};
 use studio_rules::Status;
 
@@ -22,10 +22,15 @@ fn made_text(alloc: Global, number: u64, units: u64) -> Result<Vec<u8>, AllocErr
 }
 
 /// Puts the canonical text of the problem of this number with so many operating units, 1 to 128.
-pub fn make<K: Sink>(alloc: Global, number: u64, units: u64, out: &mut K) -> Status
+pub fn make<K: Sink, E: Sink>(
+    alloc: Global,
+    number: u64,
+    units: u64,
+    out: &mut Outputs<K, E>,
+) -> Status
     requires some { 1 ≤ units }
     requires few { units ≤ 128 }
-    ensures { Ends (Tells (MakeWork number units)) (K.state out.old) (K.state out.new) result }
+    ensures { Ends (Tells (MakeWork number units)) out.old out.new result }
 {
     say_made(out, made_text(alloc, number, units))
 }

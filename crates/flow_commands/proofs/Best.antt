@@ -7,7 +7,7 @@ use Rattle.tree_rules.specs.Accepted.{Tree, first_node, IsAccepted}
 use Rattle.tree_laws.specs.Laws.{AcceptedIsOptimal, AcceptedHasFlows}
 use Rattle.studio_rules.specs.Reading.{TwoFilesSay}
 use Rattle.studio_rules.specs.TreeFile.{OnTree}
-use Rattle.io_rules.specs.State.{ShelfState, SinkState}
+use Rattle.io_rules.specs.State.{ShelfState, OutputsState}
 use Rattle.studio_rules.specs.Ending.{Ends}
 use Rattle.studio_rules.specs.declared.status.Status.{Status}
 use Rattle.studio_rules.specs.declared.status.Status.TheVariants.{Done}
@@ -47,7 +47,7 @@ module _ (optimal : AcceptedIsOptimal) (feasible : AcceptedHasFlows) where
       }
 
 -- what is out with status 0 is such an answer
-pub done_ends : AcceptedIsBest → (old new : ShelfState) (file tree : List ℕ) (before after : SinkState) (s : Status) → Ends (TwoFilesSay (OnTree CheckWork) file tree old new) before after s → s ≡ Done → FilesClaimBest old.held file tree
+pub done_ends : AcceptedIsBest → (old new : ShelfState) (file tree : List ℕ) (before after : OutputsState) (s : Status) → Ends (TwoFilesSay (OnTree CheckWork) file tree old new) before after s → s ≡ Done → FilesClaimBest old.held file tree
 done_ends law old new file tree before after s e done =
     let said = subst (λ (t : Status). Ends (TwoFilesSay (OnTree CheckWork) file tree old new) before after t) done e in
     law old.held file tree said.1.0 said.1.1

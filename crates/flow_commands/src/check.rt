@@ -14,7 +14,7 @@ use cert_check::check_tree;
 use command_files::{problem_of, tree_of};
 use endings::say::{say, say_memory, say_of};
 use pgraph::{Graph, Site};
-use pns_io::{Shelf, Sink};
+use pns_io::{Outputs, Shelf, Sink};
 use pns_problem::Problem;
 use refusal_words::{say_node, why_word};
 use std::alloc::Global;
@@ -23,15 +23,15 @@ use tree_laws::{accepted_has_flows, accepted_is_optimal};
 use tree_rules::Refusal;
 
 /// Says whether the tree proves the claim, or else the first line of the claim or the first node that fails.
-fn say_judged<K: Sink>(
+fn say_judged<K: Sink, E: Sink>(
     alloc: Global,
-    out: &mut K,
+    out: &mut Outputs<K, E>,
     site: &Site<'_>,
     claim: &Claim,
     tree: &Tree,
 ) -> Status
     requires few { length tree.now < 2 ^ 32 }
-    ensures { Ends (Tells (CheckWork site.now (claim_of claim.now) tree.now)) (K.state out.old) (K.state out.new) result }
+    ensures { Ends (Tells (CheckWork site.now (claim_of claim.now) tree.now)) out.old out.new result }
 {
     match check_tree(alloc, site, claim, tree) {
         Ok(()) => say(out, b"accepted\n", Status::Done),
@@ -44,15 +44,15 @@ fn say_judged<K: Sink>(
 }
 
 /// The same, once the problem's graph is made.
-fn say_checked<K: Sink>(
+fn say_checked<K: Sink, E: Sink>(
     alloc: Global,
-    out: &mut K,
+    out: &mut Outputs<K, E>,
     problem: &Problem,
     claim: &Claim,
     tree: &Tree,
 ) -> Status
     requires few { length tree.now < 2 ^ 32 }
-    ensures { Ends (Tells (CheckWork problem.now (claim_of claim.now) tree.now)) (K.state out.old) (K.state out.new) result }
+    ensures { Ends (Tells (CheckWork problem.now (claim_of claim.now) tree.now)) out.old out.new result }
 {
     let Ok(graph) = Graph::of(alloc, problem) else {
         return say_memory(out);
@@ -61,14 +61,14 @@ fn say_checked<K: Sink>(
     say_judged(alloc, out, &site, claim, tree)
 }
 
-fn say_tree<F: Shelf, K: Sink>(
+fn say_tree<F: Shelf, K: Sink, E: Sink>(
     alloc: Global,
     problem: &Problem,
     name: &str,
     shelf: &mut F,
-    out: &mut K,
+    out: &mut Outputs<K, E>,
 ) -> Status
-    ensures ends { Ends (Says (OnTree CheckWork (F.state shelf.old).held name.now problem.now) (λ other. other ≡ name.now) (F.state shelf.old) (F.state shelf.new)) (K.state out.old) (K.state out.new) result }
+    ensures ends { Ends (Says (OnTree CheckWork (F.state shelf.old).held name.now problem.now) (λ other. other ≡ name.now) (F.state shelf.old) (F.state shelf.new)) out.old out.new result }
     ensures keeps { Keeps (F.state shelf.old) (F.state shelf.new) }
 {
     match tree_of(alloc, shelf, out, name, problem) {
@@ -86,14 +86,14 @@ pub fn accepted_is_best()
 }
 
 /// Says whether the tree of the one file proves its claim on the problem of the other.
-pub fn check<F: Shelf, K: Sink>(
+pub fn check<F: Shelf, K: Sink, E: Sink>(
     alloc: Global,
     file: &str,
     tree: &str,
     shelf: &mut F,
-    out: &mut K,
+    out: &mut Outputs<K, E>,
 ) -> Status
-    ensures ends { Ends (TwoFilesSay (OnTree CheckWork) file.now tree.now (F.state shelf.old) (F.state shelf.new)) (K.state out.old) (K.state out.new) result }
+    ensures ends { Ends (TwoFilesSay (OnTree CheckWork) file.now tree.now (F.state shelf.old) (F.state shelf.new)) out.old out.new result }
     ensures keeps { Keeps (F.state shelf.old) (F.state shelf.new) }
     // With status 0 the one file gives a valid problem and the other a claim, which is best.
     ensures accepted { result ≡ Done → FilesClaimBest (F.state shelf.old).held file.now tree.now }

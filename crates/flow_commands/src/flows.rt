@@ -19,7 +19,7 @@ use branch_tree::{End, Network};
 use command_files::problem_of;
 use endings::say::{say_memory, say_printed};
 use pgraph::{Graph, Site};
-use pns_io::{Shelf, Sink};
+use pns_io::{Outputs, Shelf, Sink};
 use pns_problem::Problem;
 use pns_rules::{Axiom, Verdict};
 use std::alloc::Global;
@@ -66,41 +66,46 @@ fn print_none<K: Sink>(
     }
 }
 
-fn say_answer<K: Sink>(
+fn say_answer<K: Sink, E: Sink>(
     alloc: Global,
-    out: &mut K,
+    out: &mut Outputs<K, E>,
     problem: &Problem,
     set: UnitSet,
     answer: StructureFlows,
 ) -> Status
     requires known { AreUnits problem.now set }
     requires answer { AnswersFor problem.now set answer }
-    ensures { Ends (Tells (FlowsSay problem.now set)) (K.state out.old) (K.state out.new) result }
+    ensures { Ends (Tells (FlowsSay problem.now set)) out.old out.new result }
 {
     match answer {
         StructureFlows::Least { network, bound } => {
             network.is_sized();
             bound.are_in_range();
             let bound = End::Bound(bound);
-            let printed = print_least(alloc, problem, &network, &bound, out);
+            let printed = print_least(alloc, problem, &network, &bound, &mut out.out);
             say_printed(out, printed, Status::Done)
         }
         StructureFlows::Refuted { ys } => {
             let refuted = End::Refuted(ys);
-            let printed = print_none(alloc, problem, &refuted, out);
+            let printed = print_none(alloc, problem, &refuted, &mut out.out);
             say_printed(out, printed, Status::Done)
         }
         StructureFlows::Past { nonbasic, place } => {
-            let printed = print_place(alloc, problem, nonbasic.columns(), &place, out);
+            let printed = print_place(alloc, problem, nonbasic.columns(), &place, &mut out.out);
             say_printed(out, printed, Status::Past)
         }
     }
 }
 
-fn say_structure<K: Sink>(alloc: Global, out: &mut K, site: &Site<'_>, set: UnitSet) -> Status
+fn say_structure<K: Sink, E: Sink>(
+    alloc: Global,
+    out: &mut Outputs<K, E>,
+    site: &Site<'_>,
+    set: UnitSet,
+) -> Status
     requires known { AreUnits site.now set }
     requires structure { IsStructure (shape_of site.now) (has set) }
-    ensures { Ends (Tells (FlowsSay site.now set)) (K.state out.old) (K.state out.new) result }
+    ensures { Ends (Tells (FlowsSay site.now set)) out.old out.new result }
 {
     match flows_of(alloc, site, set) {
         Ok(answer) => say_answer(alloc, out, site.problem(), set, answer),
@@ -109,8 +114,13 @@ fn say_structure<K: Sink>(alloc: Global, out: &mut K, site: &Site<'_>, set: Unit
 }
 
 // The flows of the units of names that are all known.
-fn say_known<K: Sink>(alloc: Global, out: &mut K, problem: &Problem, units: &UnitNames) -> Status
-    ensures { Ends (Tells (FlowNamesSay units.now problem.now None)) (K.state out.old) (K.state out.new) result }
+fn say_known<K: Sink, E: Sink>(
+    alloc: Global,
+    out: &mut Outputs<K, E>,
+    problem: &Problem,
+    units: &UnitNames,
+) -> Status
+    ensures { Ends (Tells (FlowNamesSay units.now problem.now None)) out.old out.new result }
 {
     let Ok(graph) = Graph::of(alloc, problem) else {
         return say_memory(out);
@@ -124,8 +134,13 @@ fn say_known<K: Sink>(alloc: Global, out: &mut K, problem: &Problem, units: &Uni
     }
 }
 
-fn say_flows<K: Sink>(alloc: Global, out: &mut K, problem: &Problem, units: &UnitNames) -> Status
-    ensures { Ends (Tells (FlowsWork units.now problem.now)) (K.state out.old) (K.state out.new) result }
+fn say_flows<K: Sink, E: Sink>(
+    alloc: Global,
+    out: &mut Outputs<K, E>,
+    problem: &Problem,
+    units: &UnitNames,
+) -> Status
+    ensures { Ends (Tells (FlowsWork units.now problem.now)) out.old out.new result }
 {
     match first_stranger(problem, units) {
         Some(name) => say_breaks(alloc, out, Axiom::S3, name),
@@ -135,14 +150,14 @@ fn say_flows<K: Sink>(alloc: Global, out: &mut K, problem: &Problem, units: &Uni
 
 /// Says the least flows of the named units of the file's problem with multipliers that prove them, or that they have none, where
 /// they are a solution structure; or else the first axiom that they break.
-pub fn flows<F: Shelf, K: Sink>(
+pub fn flows<F: Shelf, K: Sink, E: Sink>(
     alloc: Global,
     file: &str,
     units: &UnitNames,
     shelf: &mut F,
-    out: &mut K,
+    out: &mut Outputs<K, E>,
 ) -> Status
-    ensures ends { Ends (FileSays (FlowsWork units.now) file.now (F.state shelf.old) (F.state shelf.new)) (K.state out.old) (K.state out.new) result }
+    ensures ends { Ends (FileSays (FlowsWork units.now) file.now (F.state shelf.old) (F.state shelf.new)) out.old out.new result }
     ensures keeps { Keeps (F.state shelf.old) (F.state shelf.new) }
 {
     match problem_of(alloc, shelf, out, file) {

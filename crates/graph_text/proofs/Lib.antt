@@ -1,2 +1,6 @@
+mod Most
 mod Lines
 mod Moves
+mod Users
+mod Roles
+mod Tests

@@ -1,8 +1,8 @@
 -- Lines that are appended one after another.
 use Rattle.std.proofs.Common.{◌≡◌, ℕ, Bool, true, false, List, [], ◌∷◌, ◌++◌, map, refl, sym, ap, ◌∙◌, append_assoc, append-nil, codes}
-use Rattle.std.specs.Prelude.{flat_map, if◌then◌else◌, Option, Some, None, Result, Ok, Err, OnOk, IfSome}
+use Rattle.std.specs.Prelude.{flat_map, if◌then◌else◌, Option, Some, None, Result, Ok, Err, OnOk, IfSome, option_map}
 use Rattle.pns_problem.specs.Printing.{printed}
-use Rattle.report_rules.specs.Graph.{node_line}
+use Rattle.report_rules.specs.Graph.{node_line, arc_line}
 use Rattle.pns_problem.proofs.PrintingLemmas.{after}
 
 pub printed-append : (xs ys : List (List ℕ)) → printed (xs ++ ys) ≡ printed xs ++ printed ys
@@ -29,6 +29,14 @@ on_ok (Err e) P Q more h = tt
 pub if_some : {A : Type 0} (o : Option A) (P Q : A → Type 0) → ((a : A) → P a → Q a) → IfSome o P → IfSome o Q
 if_some (Some a) P Q more h = more a h
 if_some None P Q more h = tt
+
+pub some_map : {A B : Type 0} (o : Option A) (f : A → B) (P : B → Type 0) → IfSome o (λ a. P (f a)) → IfSome (option_map f o) P
+some_map (Some a) f P h = h
+some_map None f P h = tt
+
+pub some_of_map : {A B : Type 0} (o : Option A) (f : A → B) (P : B → Type 0) → IfSome (option_map f o) P → IfSome o (λ a. P (f a))
+some_of_map (Some a) f P h = h
+some_of_map None f P h = tt
 
 -- the lines to come finish the text: one line of them, and some
 pub next_line : (line : ℕ → List ℕ) (left rest : List ℕ) (k : ℕ) (whole text t1 t2 : List ℕ) → left ≡ k ∷ rest → t1 ≡ text ++ line k → t2 ≡ t1 ++ 10 ∷ [] → text ++ printed (map line left) ≡ whole → t2 ++ printed (map line rest) ≡ whole
@@ -62,14 +70,31 @@ line_end x y z =
     ∙ sym (append-nil ((x ++ (y ++ z)) ++ 10 ∷ []))
 
 -- a node from its pieces
-pub node_line_of : (old t1 t2 t3 t4 t5 t6 t7 t8 which name flow look : List ℕ) → t1 ≡ old ++ 32 ∷ 32 ∷ [] → t2 ≡ t1 ++ which → t3 ≡ t2 ++ codes " [label=\"" → t4 ≡ t3 ++ name → t5 ≡ t4 ++ flow
-    → t6 ≡ t5 ++ 34 ∷ 44 ∷ 32 ∷ [] → t7 ≡ t6 ++ look → t8 ≡ t7 ++ 93 ∷ 59 ∷ [] → t8 ≡ old ++ node_line which (name ++ flow) look
-node_line_of old t1 t2 t3 t4 t5 t6 t7 t8 which name flow look e1 e2 e3 e4 e5 e6 e7 e8 =
+pub node_line_of : (old t1 t2 t3 t4 t5 t6 t7 t8 t9 t10 which name flow tip look : List ℕ) → t1 ≡ old ++ 32 ∷ 32 ∷ [] → t2 ≡ t1 ++ which → t3 ≡ t2 ++ codes " [label=\"" → t4 ≡ t3 ++ name → t5 ≡ t4 ++ flow
+    → t6 ≡ t5 ++ codes "\", tooltip=\"" → t7 ≡ t6 ++ tip → t8 ≡ t7 ++ 34 ∷ 44 ∷ 32 ∷ [] → t9 ≡ t8 ++ look → t10 ≡ t9 ++ 93 ∷ 59 ∷ [] → t10 ≡ old ++ node_line which (name ++ flow) tip look
+node_line_of old t1 t2 t3 t4 t5 t6 t7 t8 t9 t10 which name flow tip look e1 e2 e3 e4 e5 e6 e7 e8 e9 e10 =
     let end : List ℕ = 34 ∷ 44 ∷ 32 ∷ (look ++ 93 ∷ 59 ∷ []) in
     let opened = codes " [label=\"" in
-    after old t1 t8 (32 ∷ 32 ∷ []) (which ++ (opened ++ (name ++ (flow ++ end)))) e1
-    (after t1 t2 t8 which (opened ++ (name ++ (flow ++ end))) e2
-    (after t2 t3 t8 opened (name ++ (flow ++ end)) e3
-    (after t3 t4 t8 name (flow ++ end) e4
-    (after t4 t5 t8 flow end e5 (after_three t5 t6 t7 t8 (34 ∷ 44 ∷ 32 ∷ []) look (93 ∷ 59 ∷ []) e6 e7 e8)))))
-    ∙ ap (λ (t : List ℕ). old ++ 32 ∷ 32 ∷ (which ++ (opened ++ t))) (sym (append_assoc name flow end))
+    let middle = codes "\", tooltip=\"" in
+    after old t1 t10 (32 ∷ 32 ∷ []) (which ++ (opened ++ (name ++ (flow ++ (middle ++ (tip ++ end)))))) e1
+    (after t1 t2 t10 which (opened ++ (name ++ (flow ++ (middle ++ (tip ++ end))))) e2
+    (after t2 t3 t10 opened (name ++ (flow ++ (middle ++ (tip ++ end)))) e3
+    (after t3 t4 t10 name (flow ++ (middle ++ (tip ++ end))) e4
+    (after t4 t5 t10 flow (middle ++ (tip ++ end)) e5
+    (after t5 t6 t10 middle (tip ++ end) e6
+    (after t6 t7 t10 tip end e7 (after_three t7 t8 t9 t10 (34 ∷ 44 ∷ 32 ∷ []) look (93 ∷ 59 ∷ []) e8 e9 e10)))))))
+    ∙ ap (λ (t : List ℕ). old ++ 32 ∷ 32 ∷ (which ++ (opened ++ t))) (sym (append_assoc name flow (middle ++ (tip ++ end))))
+
+-- an arc from its pieces
+pub arc_line_of : (old t1 t2 t3 t4 t5 from into end : List ℕ) → t1 ≡ old ++ 32 ∷ 32 ∷ [] → t2 ≡ t1 ++ from → t3 ≡ t2 ++ codes " -> " → t4 ≡ t3 ++ into → t5 ≡ t4 ++ end → t5 ≡ old ++ arc_line from into end
+arc_line_of old t1 t2 t3 t4 t5 from into end e1 e2 e3 e4 e5 =
+    after old t1 t5 (32 ∷ 32 ∷ []) (from ++ (codes " -> " ++ (into ++ end))) e1 (after_four t1 t2 t3 t4 t5 from (codes " -> ") into end e2 e3 e4 e5)
+
+-- one of two
+pub if_true : (b : Bool) (x y : List ℕ) → b ≡ true → x ≡ (if b then x else y)
+if_true true x y e = refl
+if_true false x y e = let f : false ≡ true = e in cc
+
+pub if_false : (b : Bool) (x y : List ℕ) → b ≡ false → y ≡ (if b then x else y)
+if_false false x y e = refl
+if_false true x y e = let f : true ≡ false = e in cc

@@ -1,5 +1,5 @@
 -- What a network moves of a material at one unit is a number by which it was judged.
-use Rattle.std.proofs.Common.{◌≡◌, ◌≢◌, ℕ, ◌<◌, List, [], ◌∷◌, refl, ap, ◌∙◌, subst, arith, pos, ℤ, ◌+ℤ◌, ◌-ℤ◌, ◌*ℤ◌, true, false, Bool, ◌==◌, ◌⊎◌, inl, inr, length}
+use Rattle.std.proofs.Common.{◌≡◌, ◌≢◌, ℕ, zero, suc, get_or, sym, ◌<◌, List, [], ◌∷◌, refl, ap, ◌∙◌, subst, arith, eq-eqb, pos, ℤ, ◌+ℤ◌, ◌-ℤ◌, ◌*ℤ◌, true, false, Bool, ◌==◌, ◌⊎◌, inl, inr, length}
 use Rattle.std.specs.Prelude.{◌||◌, ◌&&◌, nat_lt, not}
 use Rattle.std.specs.Ordering.{int_eq}
 use Rattle.std.proofs.lemmas.Int.{ints}
@@ -80,3 +80,12 @@ moved_in_range p w u j proper h l e n =
     (has-listed (length p.units) (λ i. has w.units i && not (int_eq (rate_of p j i) (pos 0))) u
     ∙ both_true (nat_lt u (length p.units)) (has w.units u && not (int_eq (rate_of p j u) (pos 0))) (lt-ltb u (length p.units) l)
     (both_true (has w.units u) (not (int_eq (rate_of p j u) (pos 0))) e (ap not (int_eq_other (rate_of p j u) n))))
+
+-- an item of a list of terms is among them
+item_at : (ts : List Term) (k : ℕ) (t : Term) → k < length ts → terms_have ts (get_or ts k t).material ≡ true
+item_at [] k t less = absurd (omega arith)
+item_at (x ∷ xs) zero t less = or_true (x.material == x.material) (terms_have xs x.material) (inl (eq-eqb x.material x.material refl))
+item_at (x ∷ xs) (suc k) t less = or_true (x.material == (get_or xs k t).material) (terms_have xs (get_or xs k t).material) (inr (item_at xs k t (omega (arith, less))))
+
+pub item_had : (ts : List Term) (k : ℕ) (t : Term) → k < length ts → t ≡ get_or ts k t → terms_have ts t.material ≡ true
+item_had ts k t less is = subst (λ (x : Term). terms_have ts x.material ≡ true) (sym is) (item_at ts k t less)

@@ -6,120 +6,131 @@ ghost use Rattle.pns_problem.specs.Kind.{kind_of};
 ghost use Rattle.pns_problem.specs.Printing.{printed};
 ghost use Rattle.pns_rules.specs.Shape.{shape_of};
 ghost use Rattle.pns_rules.specs.Structure.{mats};
-ghost use Rattle.pgraph.specs.Tables.{shape};
-ghost use Rattle.tree_rules.specs.Claim.{IsFeasible};
-ghost use Rattle.report_rules.specs.Drawn.{is_drawn, material_flow};
-ghost use Rattle.report_rules.specs.Graph.{shape_words, shade, material_line};
+ghost use Rattle.flow_rules.specs.Net.{net_of, materials_of};
+ghost use Rattle.flow_rules.specs.Flows.{balance};
+ghost use Rattle.tree_rules.specs.Claim.{IsFeasible, size_in};
+ghost use Rattle.report_rules.specs.Drawn.{material_flow, net_label};
+ghost use Rattle.report_rules.specs.Graph.{material_tip, drawn_look, material_line};
+ghost use Rattle.graph_text.specs.Kept.{picture_of};
 
-use crate::nodes::{push_node, shade, shape};
-use crate::numbers::push_net;
+use crate::limits::is_material_limited;
+use crate::nodes::{grey_unless, limit_look, push_node, shape};
+use crate::numbers::{push_net, push_told};
+use crate::picture::Picture;
 use branch_tree::Network;
-use pgraph::{Graph, Site};
-use pns_problem::{Kind, Problem};
-use pns_tables::flow_of;
+use pns_problem::{Material, Problem};
+use report_amounts::{flow_at, material_of};
 use std::alloc::AllocError;
 use unit_sets::MatSet;
 
 /// Whether the material is one of the network's.
-fn is_in(graph: &Graph, network: &Network, j: u32) -> bool
-    requires known { (u : ℕ) → has network.now.units u ≡ true → u < (shape graph.now).units }
-    requires material { j < 256 }
-    ensures { result ≡ mats (shape graph.now) (has network.now.units) j }
+fn is_in(picture: &Picture<'_>, network: &Network, j: u32) -> bool
+    requires material { j < length picture.now.problem.materials }
+    requires feasible { IsFeasible picture.now.problem network.now }
+    ensures value { result ≡ mats (shape_of picture.now.problem) (has network.now.units) j }
+    ensures material { result ≡ true → has (materials_of (net_of picture.now.problem) (has network.now.units)) j ≡ true }
 {
-    let materials = graph.materials(network.units());
+    let materials = picture.graph().materials(network.units());
     materials.has(j)
 }
 
-fn is_drawn(graph: &Graph, network: Option<&Network>, j: u32) -> bool
-    requires known { IfSome network (λ n. (u : ℕ) → has n.now.units u ≡ true → u < (shape graph.now).units) }
-    requires material { j < 256 }
-    ensures { result ≡ is_drawn (shape graph.now) (option_map (λ n. n.now) network.entry) j }
+/// Appends what comes in of a material of the network or goes out of it.
+fn push_net_of(
+    text: &mut String,
+    problem: &Problem,
+    network: &Network,
+    j: u32,
+) -> Result<(), AllocError>
+    requires known { j < length problem.now.materials }
+    requires material { has (materials_of (net_of problem.now) (has network.now.units)) j ≡ true }
+    requires feasible { IsFeasible problem.now network.now }
+    ensures { OnOk result (string_bytes text.new ≡ string_bytes text.old ++ net_label (material_at problem.now j).price (balance (net_of problem.now) (has network.now.units) (size_in network.now) j) network.now.d) }
 {
-    match network {
-        None => true,
-        Some(network) => is_in(graph, network, j),
-    }
+    network.is_sized();
+    let material = material_of(problem, j);
+    let flow = flow_at(problem, network, j);
+    push_net(text, material.price, flow, network.d())
 }
 
 fn push_flow_in(
     text: &mut String,
-    site: &Site<'_>,
+    picture: &Picture<'_>,
     network: &Network,
     j: u32,
 ) -> Result<(), AllocError>
-    requires material { j < length site.now.materials }
-    requires feasible { IsFeasible site.now network.now }
-    ensures { OnOk result (string_bytes text.new ≡ string_bytes text.old ++ material_flow site.now (Some network.now) j) }
+    requires material { j < length picture.now.problem.materials }
+    requires feasible { IsFeasible picture.now.problem network.now }
+    ensures { OnOk result (string_bytes text.new ≡ string_bytes text.old ++ material_flow picture.now.problem (Some network.now) j) }
 {
-    if is_in(site.graph(), network, j) {
-        network.is_sized();
-        push_net(text, flow_of(site.problem(), network, j), network.d())
+    if is_in(picture, network, j) {
+        push_net_of(text, picture.problem(), network, j)
     } else {
         Ok(())
     }
 }
 
 /// Appends what comes in of the material or goes out of it, where a network is given.
-fn push_flow(
-    text: &mut String,
-    site: &Site<'_>,
-    network: Option<&Network>,
-    j: u32,
-) -> Result<(), AllocError>
-    requires material { j < length site.now.materials }
-    requires feasible { IfSome network (λ n. IsFeasible site.now n.now) }
-    ensures { OnOk result (string_bytes text.new ≡ string_bytes text.old ++ material_flow site.now (option_map (λ n. n.now) network.entry) j) }
+fn push_flow(text: &mut String, picture: &Picture<'_>, j: u32) -> Result<(), AllocError>
+    requires { j < length picture.now.problem.materials }
+    ensures { OnOk result (string_bytes text.new ≡ string_bytes text.old ++ material_flow picture.now.problem picture.now.network j) }
 {
-    match network {
+    match picture.network() {
         None => Ok(()),
-        Some(network) => push_flow_in(text, site, network, j),
+        Some(network) => push_flow_in(text, picture, network, j),
     }
 }
 
-fn kind_at(problem: &Problem, j: u32) -> Kind
-    ensures { kind_of result ≡ (material_at problem.now j).kind }
+fn look_in(picture: &Picture<'_>, network: &Network, j: u32) -> &'static str
+    requires material { j < length picture.now.problem.materials }
+    requires feasible { IsFeasible picture.now.problem network.now }
+    ensures { result.now ≡ drawn_look picture.now.problem (Some network.now) j }
 {
-    match problem.materials().get(j as usize) {
-        Some(material) => material.kind,
-        None => Kind::Intermediate,
+    if is_in(picture, network, j) {
+        limit_look(is_material_limited(picture.problem(), network, j))
+    } else {
+        grey_unless(false)
     }
 }
 
-/// Appends the shape of a material and its colours.
-fn push_look(
-    text: &mut String,
-    site: &Site<'_>,
-    network: Option<&Network>,
-    j: u32,
-) -> Result<(), AllocError>
-    requires material { j < length site.now.materials }
-    requires feasible { IfSome network (λ n. IsFeasible site.now n.now) }
-    ensures { OnOk result (string_bytes text.new ≡ string_bytes text.old ++ (shape_words (material_at site.now j).kind ++ shade (is_drawn (shape_of site.now) (option_map (λ n. n.now) network.entry) j))) }
+/// The colours of the material.
+fn drawn_look(picture: &Picture<'_>, j: u32) -> &'static str
+    requires { j < length picture.now.problem.materials }
+    ensures { result.now ≡ drawn_look picture.now.problem picture.now.network j }
 {
-    text.push_str(shape(kind_at(site.problem(), j)))?;
-    text.push_str(shade(is_drawn(site.graph(), network, j)))?;
-    Ok(())
+    match picture.network() {
+        None => "",
+        Some(network) => look_in(picture, network, j),
+    }
+}
+
+/// Appends what a pointer on the material shows.
+fn push_tip(text: &mut String, material: &Material) -> Result<(), AllocError>
+    ensures { OnOk result (string_bytes text.new ≡ string_bytes text.old ++ material_tip material.now) }
+{
+    text.push_str(&material.name)?;
+    push_told(text, ": price ", material.price)?;
+    push_told(text, ", from ", material.lower)?;
+    push_told(text, " to ", material.upper)
 }
 
 /// Appends the line of a material.
-fn push_material(
-    text: &mut String,
-    site: &Site<'_>,
-    network: Option<&Network>,
-    j: u32,
-) -> Result<(), AllocError>
-    requires material { j < length site.now.materials }
-    requires feasible { IfSome network (λ n. IsFeasible site.now n.now) }
-    ensures { OnOk result (string_bytes text.new ≡ string_bytes text.old ++ material_line site.now (option_map (λ n. n.now) network.entry) j) }
+fn push_material(text: &mut String, picture: &Picture<'_>, j: u32) -> Result<(), AllocError>
+    requires { j < length picture.now.problem.materials }
+    ensures { OnOk result (string_bytes text.new ≡ string_bytes text.old ++ material_line (picture_of picture.now) j) }
 {
-    let name = site.problem().material_name(j);
+    let problem = picture.problem();
+    let name = problem.material_name(j);
+    let material = material_of(problem, j);
     text.push_str("  ")?;
     push_node(text, "material", name)?;
     text.push_str(" [label=\"")?;
     text.push_str(name)?;
-    push_flow(text, site, network, j)?;
+    push_flow(text, picture, j)?;
+    text.push_str("\", tooltip=\"")?;
+    push_tip(text, material)?;
     text.push_str("\", ")?;
-    push_look(text, site, network, j)?;
+    text.push_str(shape(material.kind))?;
+    text.push_str(drawn_look(picture, j))?;
     text.push_str("];")?;
     Ok(())
 }
@@ -127,16 +138,14 @@ fn push_material(
 /// Appends the lines of the materials of a set.
 pub(crate) fn push_materials(
     text: &mut String,
-    site: &Site<'_>,
-    network: Option<&Network>,
+    picture: &Picture<'_>,
     materials: MatSet,
 ) -> Result<(), AllocError>
-    requires known { (j : ℕ) → has materials j ≡ true → j < length site.now.materials }
-    requires feasible { IfSome network (λ n. IsFeasible site.now n.now) }
-    ensures { OnOk result (string_bytes text.new ≡ string_bytes text.old ++ printed (map (material_line site.now (option_map (λ n. n.now) network.entry)) materials)) }
+    requires known { (j : ℕ) → has materials j ≡ true → j < length picture.now.problem.materials }
+    ensures { OnOk result (string_bytes text.new ≡ string_bytes text.old ++ printed (map (material_line (picture_of picture.now)) materials)) }
 {
     for j in materials {
-        push_material(text, site, network, j)?;
+        push_material(text, picture, j)?;
         text.push('\n')?;
     }
     Ok(())

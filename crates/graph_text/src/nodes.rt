@@ -1,7 +1,7 @@
 //! Nodes between quotes, and their looks.
 ghost use Rattle.std.specs.Prelude.{◌≡◌, ◌++◌, OnOk, string_bytes};
 ghost use Rattle.pns_problem.specs.Kind.{kind_of};
-ghost use Rattle.report_rules.specs.Graph.{node, shape_words, shade};
+ghost use Rattle.report_rules.specs.Graph.{node, use_node, shape_words, grey_unless, limit_look};
 
 use pns_problem::Kind;
 use std::alloc::AllocError;
@@ -18,6 +18,18 @@ pub(crate) fn push_node(text: &mut String, word: &str, name: &str) -> Result<(),
     Ok(())
 }
 
+/// The node of a material at one of its users.
+pub(crate) fn push_use_node(text: &mut String, material: &str, unit: &str) -> Result<(), AllocError>
+    ensures { OnOk result (string_bytes text.new ≡ string_bytes text.old ++ use_node material.now unit.now) }
+{
+    text.push_str("\"use ")?;
+    text.push_str(material)?;
+    text.push(' ')?;
+    text.push_str(unit)?;
+    text.push('"')?;
+    Ok(())
+}
+
 /// The shape of a material.
 pub(crate) fn shape(kind: Kind) -> &'static str
     ensures { result.now ≡ shape_words (kind_of kind) }
@@ -29,13 +41,24 @@ pub(crate) fn shape(kind: Kind) -> &'static str
     }
 }
 
-/// The colours of a material that is not drawn with the network.
-pub(crate) fn shade(drawn: bool) -> &'static str
-    ensures { result.now ≡ shade drawn }
+/// The colours of what may be left out of the network.
+pub(crate) fn grey_unless(drawn: bool) -> &'static str
+    ensures { result.now ≡ grey_unless drawn }
 {
     if drawn {
         ""
     } else {
         ", color=gray75, fontcolor=gray60"
+    }
+}
+
+/// The colours of a material of the network.
+pub(crate) fn limit_look(limited: bool) -> &'static str
+    ensures { result.now ≡ limit_look limited }
+{
+    if limited {
+        ", style=filled, fillcolor=orange"
+    } else {
+        ""
     }
 }

@@ -1,22 +1,41 @@
-//! Sizes and flows, with 3 places.
-ghost use Rattle.std.specs.Prelude.{◌≡◌, ◌++◌, ◌≤ℤ◌, pos, unsigned_abs, OnOk, string_bytes};
+//! Sizes, flows, money and the numbers of a plant.
+ghost use Rattle.std.specs.Prelude.{◌≡◌, ◌++◌, ◌≤ℤ◌, ◌<ℤ◌, pos, unsigned_abs, codes, OnOk, string_bytes};
 ghost use Rattle.integer_laws.specs.Range.{InRange};
-ghost use Rattle.report_rules.specs.Drawn.{size_text, flow_text, way_words, net_label};
+ghost use Rattle.flow_rules.specs.Net.{million};
+ghost use Rattle.report_rules.specs.Number.{number_text};
+ghost use Rattle.report_rules.specs.Amounts.{quotient};
+ghost use Rattle.report_rules.specs.Drawn.{below, flow_text, way_words, money, money_label, net_label, width_words};
+ghost use Rattle.report_rules.specs.Graph.{exact, told};
 
-use decimals::push_quotient;
+use decimals::{push_signed, push_six_digits};
+use report_amounts::Number;
 use std::alloc::AllocError;
 
-/// A size in millionths over d.
-pub(crate) fn push_size(text: &mut String, size: i128, d: i128) -> Result<(), AllocError>
-    requires { pos 1 ≤ℤ d }
-    ensures { OnOk result (string_bytes text.new ≡ string_bytes text.old ++ size_text size (unsigned_abs d)) }
+/// A number of the plant, in millionths.
+fn push_exact(text: &mut String, number: i64) -> Result<(), AllocError>
+    ensures { OnOk result (string_bytes text.new ≡ string_bytes text.old ++ exact number) }
 {
-    push_quotient(text, 3, 1000, 500, size, d)
+    push_signed(
+        text,
+        6,
+        1_000_000,
+        number < 0,
+        u128::from(number.unsigned_abs()),
+    )
+}
+
+/// Words, and a number of the plant behind them.
+pub(crate) fn push_told(text: &mut String, words: &str, number: i64) -> Result<(), AllocError>
+    ensures { OnOk result (string_bytes text.new ≡ string_bytes text.old ++ told words.now number) }
+{
+    text.push_str(words)?;
+    push_exact(text, number)
 }
 
 fn without_sign(number: i128) -> i128
     requires { InRange number }
-    ensures { result ≡ pos (unsigned_abs number) }
+    ensures value { result ≡ pos (unsigned_abs number) }
+    ensures in_range { InRange result }
 {
     if number < 0 { -number } else { number }
 }
@@ -27,7 +46,7 @@ pub(crate) fn push_flow(text: &mut String, flow: i128, d: i128) -> Result<(), Al
     requires positive { pos 1 ≤ℤ d }
     ensures { OnOk result (string_bytes text.new ≡ string_bytes text.old ++ flow_text flow (unsigned_abs d)) }
 {
-    push_quotient(text, 3, 1000, 500_000_000, without_sign(flow), d)
+    push_six_digits(text, 500_000, without_sign(flow), d)
 }
 
 fn way(net: i128) -> &'static str
@@ -36,16 +55,102 @@ fn way(net: i128) -> &'static str
     if net < 0 { "in " } else { "out " }
 }
 
-/// What comes in or goes out, in 10^-12 over d; nothing where it is 0.
-pub(crate) fn push_net(text: &mut String, net: i128, d: i128) -> Result<(), AllocError>
-    requires in_range { InRange net }
-    requires positive { pos 1 ≤ℤ d }
-    ensures { OnOk result (string_bytes text.new ≡ string_bytes text.old ++ net_label net (unsigned_abs d)) }
+/// num / den.
+#[tactic(auto, unfolding(report_rules::specs::Amounts::quotient))]
+fn quotient(num: i128, den: i128) -> Number
+    requires num_in_range { InRange num }
+    requires den_in_range { InRange den }
+    requires positive { pos 0 <ℤ den }
+    ensures { result ≡ quotient num den }
 {
-    if net == 0 {
-        return Ok(());
+    Number::of(num, den)
+}
+
+/// What is paid for a flow in 10^-12 over d at a price in millionths.
+fn money(price: i64, flow: i128, d: i128) -> Number
+    requires in_range { InRange flow }
+    requires d_in_range { InRange d }
+    requires positive { pos 1 ≤ℤ d }
+    ensures { result ≡ money price flow d }
+{
+    let amount = quotient(without_sign(flow), d);
+    amount.times(&quotient(i128::from(price), 1_000_000_000_000_000_000))
+}
+
+/// A price in millionths.
+fn price_of(price: i64) -> Number
+    ensures { result ≡ quotient price million }
+{
+    quotient(i128::from(price), 1_000_000)
+}
+
+/// A price and what is paid at it.
+fn push_paid(text: &mut String, price: i64, flow: i128, d: i128) -> Result<(), AllocError>
+    requires in_range { InRange flow }
+    requires d_in_range { InRange d }
+    requires positive { pos 1 ≤ℤ d }
+    ensures { OnOk result (string_bytes text.new ≡ string_bytes text.old ++ (below ++ (codes "at " ++ (number_text (quotient price million) ++ (codes ": " ++ number_text (money price flow d)))))) }
+{
+    let each = price_of(price);
+    let paid = money(price, flow, d);
+    text.push_str("\\nat ")?;
+    each.push(text)?;
+    text.push_str(": ")?;
+    paid.push(text)
+}
+
+/// A price and what is paid at it; nothing where it is 0.
+fn push_money(text: &mut String, price: i64, flow: i128, d: i128) -> Result<(), AllocError>
+    requires in_range { InRange flow }
+    requires d_in_range { InRange d }
+    requires positive { pos 1 ≤ℤ d }
+    ensures { OnOk result (string_bytes text.new ≡ string_bytes text.old ++ money_label price flow d) }
+{
+    if price == 0 {
+        Ok(())
+    } else {
+        push_paid(text, price, flow, d)
     }
+}
+
+/// What comes in or goes out, in 10^-12 over d, with the money for it.
+fn push_some_net(text: &mut String, price: i64, net: i128, d: i128) -> Result<(), AllocError>
+    requires in_range { InRange net }
+    requires d_in_range { InRange d }
+    requires positive { pos 1 ≤ℤ d }
+    ensures { OnOk result (string_bytes text.new ≡ string_bytes text.old ++ (below ++ (way_words net ++ (flow_text net (unsigned_abs d) ++ money_label price net d)))) }
+{
     text.push_str("\\n")?;
     text.push_str(way(net))?;
-    push_flow(text, net, d)
+    push_flow(text, net, d)?;
+    push_money(text, price, net, d)
+}
+
+/// The same; nothing where it is 0.
+pub(crate) fn push_net(text: &mut String, price: i64, net: i128, d: i128) -> Result<(), AllocError>
+    requires in_range { InRange net }
+    requires d_in_range { InRange d }
+    requires positive { pos 1 ≤ℤ d }
+    ensures { OnOk result (string_bytes text.new ≡ string_bytes text.old ++ net_label price net d) }
+{
+    if net == 0 {
+        Ok(())
+    } else {
+        push_some_net(text, price, net, d)
+    }
+}
+
+/// How wide the arc of a flow is, by the greatest one.
+pub(crate) fn width(greatest: u128, flow: u128) -> &'static str
+    ensures { result.now ≡ width_words greatest flow }
+{
+    if flow > greatest / 2 {
+        "4"
+    } else if flow > greatest / 4 {
+        "3"
+    } else if flow > greatest / 10 {
+        "2"
+    } else {
+        "1"
+    }
 }

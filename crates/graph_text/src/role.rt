@@ -1,33 +1,60 @@
 //! The part of a unit in what is drawn.
-ghost use Rattle.std.specs.Prelude.{◌≡◌, ◌<◌, Some, option_map};
-ghost use Rattle.report_rules.specs.Drawn.{role_of};
+ghost use Rattle.std.specs.Prelude.{◌≡◌, ◌<◌, Some, length};
+ghost use Rattle.number_sets.specs.Sets.{has};
+ghost use Rattle.report_rules.specs.Drawn.{role_of, is_built};
 ghost use Rattle.report_rules.specs.Graph.{look_words};
 
+use crate::limits::is_unit_limited;
+use crate::picture::Picture;
 use branch_tree::Network;
+use pns_problem::Problem;
 use pns_tables::size_at;
 use report_rules::Role;
 
-/// The part of the unit.
-pub(crate) fn role_of(network: Option<&Network>, u: u32) -> Role
-    requires { u < 128 }
-    ensures { result ≡ role_of (option_map (λ n. n.now) network.entry) u }
+/// Whether the unit is one of the network.
+pub(crate) fn is_in(problem: &Problem, network: &Network, u: u32) -> bool
+    requires { u < length problem.now.units }
+    ensures { result ≡ has network.now.units u }
 {
-    match network {
+    problem.is_valid();
+    network.units().has(u)
+}
+
+/// The part of the unit.
+pub(crate) fn role_of(picture: &Picture<'_>, u: u32) -> Role
+    requires { u < length picture.now.problem.units }
+    ensures { result ≡ role_of picture.now.problem picture.now.network u }
+{
+    match picture.network() {
         None => Role::Planned,
-        Some(network) => role_in(network, u),
+        Some(network) => role_in(picture.problem(), network, u),
     }
 }
 
-fn role_in(network: &Network, u: u32) -> Role
-    requires { u < 128 }
-    ensures { result ≡ role_of (Some network.now) u }
+/// That in a network.
+pub(crate) fn role_in(problem: &Problem, network: &Network, u: u32) -> Role
+    requires { u < length problem.now.units }
+    ensures { result ≡ role_of problem.now (Some network.now) u }
 {
-    if !network.units().has(u) {
+    if !is_in(problem, network, u) {
         Role::LeftOut
     } else if size_at(network, u) == 0 {
         Role::Idle
+    } else if is_unit_limited(problem, network, u) {
+        Role::AtLimit
     } else {
         Role::Running
+    }
+}
+
+/// Whether the unit is one of the network, where there is one.
+pub(crate) fn is_built(picture: &Picture<'_>, u: u32) -> bool
+    requires { u < length picture.now.problem.units }
+    ensures { result ≡ is_built picture.now.network u }
+{
+    match picture.network() {
+        None => true,
+        Some(network) => is_in(picture.problem(), network, u),
     }
 }
 
@@ -36,11 +63,9 @@ pub(crate) fn look(role: Role) -> &'static str
     ensures { result.now ≡ look_words role }
 {
     match role {
-        Role::Planned | Role::Running =>
-            "shape=box, style=filled, fillcolor=black, fontcolor=white",
+        Role::Planned | Role::Running => "shape=box, style=filled, fillcolor=palegreen",
+        Role::AtLimit => "shape=box, style=filled, fillcolor=orange",
         Role::Idle => "shape=box, style=dashed",
-        Role::LeftOut => {
-            "shape=box, style=filled, fillcolor=gray90, color=gray75, fontcolor=gray60"
-        }
+        Role::LeftOut => "shape=box, color=gray75, fontcolor=gray60",
     }
 }

@@ -1,27 +1,29 @@
 //! The whole text.
-ghost use Rattle.std.specs.Prelude.{◌≡◌, ◌++◌, ◌<◌, ℕ, [], true, Some, OnOk, IfOk, IfSome, option_map, string_bytes, length};
+ghost use Rattle.std.specs.Prelude.{◌≡◌, ◌++◌, ◌∷◌, ◌<◌, ℕ, [], true, Some, OnOk, IfOk, IfSome, option_map, string_bytes, length};
 ghost use Rattle.number_sets.specs.Sets.{has};
 ghost use Rattle.pns_problem.specs.Printing.{printed};
 ghost use Rattle.tree_rules.specs.Claim.{IsFeasible};
-ghost use Rattle.report_rules.specs.Graph.{cost_text, sort_words, total_lines, head_lines, graph_lines, empty_lines};
+ghost use Rattle.report_rules.specs.Graph.{cost_text, sort_words, total_lines, total_line, head_lines, legend, rate_legend, flow_legend, picture_lines, graph_lines, empty_lines};
+ghost use Rattle.graph_text.specs.Kept.{picture_of};
 
 use crate::materials::push_materials;
+use crate::picture::Picture;
 use crate::units::push_units;
 use branch_tree::Network;
-use decimals::push_quotient;
+use decimals::push_six_digits;
 use pgraph::Site;
 use pns_problem::Problem;
 use std::alloc::{AllocError, Global};
 use unit_sets::UnitSet;
 
-/// The cost in one year, with 3 places.
+/// The cost in one year.
 fn push_cost(text: &mut String, problem: &Problem, network: &Network) -> Result<(), AllocError>
     ensures { OnOk result (string_bytes text.new ≡ string_bytes text.old ++ cost_text problem.now network.now) }
 {
     problem.is_valid();
     network.is_sized();
-    let half = 500_000_000_000_000 * problem.payout().unsigned_abs();
-    push_quotient(text, 3, 1000, half, network.cost(), network.d())
+    let half = 500_000_000_000 * problem.payout().unsigned_abs();
+    push_six_digits(text, half, network.cost(), network.d())
 }
 
 fn sort_words(cost: i128) -> &'static str
@@ -34,9 +36,40 @@ fn sort_words(cost: i128) -> &'static str
     }
 }
 
+/// What the shapes mean, and what the arcs and the colours of a plant or of a network mean.
+const LEGEND: &str =
+    "  legend [shape=note, fontsize=9, label=\"house: raw material; double line: product; box: unit\\l\"\n    + \"drawn at each user: a material with more than four\\l\"\n";
+
+const RATE_LEGEND: &str = "    + \"at an arc: its rate, if not 1\\l\"];\n";
+
+const FLOW_LEGEND: &str =
+    "    + \"at an arc: its flow; wider above 1/10, 1/4 and 1/2 of the greatest\\l\"\n    + \"in, out: bought, left over; at its price: the money for it\\l\"\n    + \"orange: at a limit; grey: left out; broken line: size 0\\l\"];\n";
+
+/// Appends the legend of a plant.
+fn push_rate_legend(text: &mut String) -> Result<(), AllocError>
+    ensures { OnOk result (string_bytes text.new ≡ string_bytes text.old ++ printed (legend ++ rate_legend)) }
+{
+    text.push_str(LEGEND)?;
+    text.push_str(RATE_LEGEND)?;
+    Ok(())
+}
+
+/// Appends the legend of a plant with a network.
+fn push_flow_legend(text: &mut String) -> Result<(), AllocError>
+    ensures { OnOk result (string_bytes text.new ≡ string_bytes text.old ++ (printed legend ++ printed flow_legend)) }
+{
+    text.push_str(LEGEND)?;
+    text.push_str(FLOW_LEGEND)?;
+    Ok(())
+}
+
 /// Appends the line of the total.
-fn push_total_of(text: &mut String, problem: &Problem, network: &Network) -> Result<(), AllocError>
-    ensures { OnOk result (string_bytes text.new ≡ string_bytes text.old ++ printed (total_lines problem.now (Some network.now))) }
+fn push_total_line(
+    text: &mut String,
+    problem: &Problem,
+    network: &Network,
+) -> Result<(), AllocError>
+    ensures { OnOk result (string_bytes text.new ≡ string_bytes text.old ++ printed (total_line problem.now network.now ∷ [])) }
 {
     text.push_str("  label=\"claimed total in one year: ")?;
     push_cost(text, problem, network)?;
@@ -45,16 +78,20 @@ fn push_total_of(text: &mut String, problem: &Problem, network: &Network) -> Res
     Ok(())
 }
 
-fn push_total(
-    text: &mut String,
-    problem: &Problem,
-    network: Option<&Network>,
-) -> Result<(), AllocError>
-    ensures { OnOk result (string_bytes text.new ≡ string_bytes text.old ++ printed (total_lines problem.now (option_map (λ n. n.now) network.entry))) }
+/// Appends the legend and the line of the total.
+fn push_total_of(text: &mut String, problem: &Problem, network: &Network) -> Result<(), AllocError>
+    ensures { OnOk result (string_bytes text.new ≡ string_bytes text.old ++ printed (total_lines problem.now (Some network.now))) }
 {
-    match network {
-        None => Ok(()),
-        Some(network) => push_total_of(text, problem, network),
+    push_flow_legend(text)?;
+    push_total_line(text, problem, network)
+}
+
+fn push_total(text: &mut String, picture: &Picture<'_>) -> Result<(), AllocError>
+    ensures { OnOk result (string_bytes text.new ≡ string_bytes text.old ++ printed (total_lines picture.now.problem picture.now.network)) }
+{
+    match picture.network() {
+        None => push_rate_legend(text),
+        Some(network) => push_total_of(text, picture.problem(), network),
     }
 }
 
@@ -70,31 +107,26 @@ fn push_head(text: &mut String) -> Result<(), AllocError>
     Ok(())
 }
 
+/// The lines with which each text ends.
+const LAST: &str = "  { rank=sink; legend; }\n}\n";
+
 /// Appends all lines.
-fn push_graph(
-    alloc: Global,
-    text: &mut String,
-    site: &Site<'_>,
-    network: Option<&Network>,
-    units: UnitSet,
-) -> Result<(), AllocError>
-    requires known { (u : ℕ) → has units u ≡ true → u < length site.now.units }
-    requires feasible { IfSome network (λ n. IsFeasible site.now n.now) }
-    ensures { OnOk result (string_bytes text.new ≡ string_bytes text.old ++ printed (graph_lines site.now (option_map (λ n. n.now) network.entry) (has units))) }
+fn push_picture(text: &mut String, picture: &Picture<'_>) -> Result<(), AllocError>
+    ensures { OnOk result (string_bytes text.new ≡ string_bytes text.old ++ printed (picture_lines (picture_of picture.now))) }
 {
-    let problem = site.problem();
+    let units = picture.units();
     units.rises();
-    let materials = site.graph().materials(units);
+    let materials = picture.graph().materials(units);
     materials.rises();
     push_head(text)?;
-    push_total(text, problem, network)?;
-    push_materials(text, site, network, materials)?;
-    push_units(alloc, text, problem, network, units)?;
-    text.push_str("}\n")?;
+    push_total(text, picture)?;
+    push_materials(text, picture, materials)?;
+    push_units(text, picture, units)?;
+    text.push_str(LAST)?;
     Ok(())
 }
 
-/// The graph of the units, which are those of the maximal structure, and in it the network, where one is given.
+/// The graph of these units, and in it the network, where one is given.
 pub fn graph_of(
     alloc: Global,
     site: &Site<'_>,
@@ -105,8 +137,9 @@ pub fn graph_of(
     requires feasible { IfSome network (λ n. IsFeasible site.now n.now) }
     ensures { IfOk result (λ bytes. bytes.items ≡ printed (graph_lines site.now (option_map (λ n. n.now) network.entry) (has units))) }
 {
+    let picture = Picture::of(site, network, units);
     let mut text = String::new(alloc);
-    push_graph(alloc, &mut text, site, network, units)?;
+    push_picture(&mut text, &picture)?;
     Ok(text.into_bytes())
 }
 

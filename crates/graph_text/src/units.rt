@@ -1,102 +1,134 @@
 //! The lines of units, each before those of its arcs.
-ghost use Rattle.std.specs.Prelude.{◌≡◌, ◌++◌, ◌<◌, ℕ, true, Some, OnOk, IfSome, option_map, string_bytes, length, flat_map};
+ghost use Rattle.std.specs.Prelude.{◌≡◌, ◌++◌, ◌<◌, ℕ, true, Some, OnOk, string_bytes, length, flat_map};
 ghost use Rattle.number_sets.specs.Sets.{has};
 ghost use Rattle.problem_rules.specs.Problem.{unit_at};
 ghost use Rattle.pns_problem.specs.Printing.{printed};
 ghost use Rattle.tree_rules.specs.Claim.{IsFeasible};
-ghost use Rattle.report_rules.specs.Drawn.{unit_size};
-ghost use Rattle.report_rules.specs.Graph.{unit_line, unit_lines};
+ghost use Rattle.report_rules.specs.Drawn.{size_label, unit_size};
+ghost use Rattle.report_rules.specs.Graph.{costs_tip, unit_tip, unit_line, unit_lines};
+ghost use Rattle.graph_text.specs.Kept.{picture_of};
 
 use crate::arcs::{push_inputs, push_outputs};
 use crate::nodes::push_node;
-use crate::numbers::push_size;
-use crate::role::{look, role_of};
+use crate::numbers::push_told;
+use crate::picture::Picture;
+use crate::role::{is_in, look, role_of};
 use branch_tree::Network;
-use pns_problem::Problem;
-use pns_tables::size_at;
-use std::alloc::{AllocError, Global};
+use pns_problem::{OperatingUnit, Problem};
+use pns_rules::valid_is_proper;
+use report_amounts::{amount, size, unit_of};
+use report_rules::UnitAmount;
+use std::alloc::AllocError;
 use unit_sets::UnitSet;
 
-fn push_size_in(text: &mut String, network: &Network, u: u32) -> Result<(), AllocError>
-    requires { u < 128 }
-    ensures { OnOk result (string_bytes text.new ≡ string_bytes text.old ++ unit_size (Some network.now) u) }
+/// Appends the size and the cost of a unit of the network.
+fn push_size_of(
+    text: &mut String,
+    problem: &Problem,
+    network: &Network,
+    u: u32,
+) -> Result<(), AllocError>
+    requires { u < length problem.now.units }
+    ensures { OnOk result (string_bytes text.new ≡ string_bytes text.old ++ size_label problem.now network.now u) }
 {
-    if network.units().has(u) {
-        network.is_sized();
-        text.push_str("\\n")?;
-        push_size(text, size_at(network, u), network.d())
+    text.push_str("\\nsize ")?;
+    size(network, u).push(text)?;
+    text.push_str("\\ncost ")?;
+    amount(UnitAmount::Total, problem, network, u).push(text)
+}
+
+fn push_size_in(
+    text: &mut String,
+    problem: &Problem,
+    network: &Network,
+    u: u32,
+) -> Result<(), AllocError>
+    requires { u < length problem.now.units }
+    ensures { OnOk result (string_bytes text.new ≡ string_bytes text.old ++ unit_size problem.now (Some network.now) u) }
+{
+    if is_in(problem, network, u) {
+        push_size_of(text, problem, network, u)
     } else {
         Ok(())
     }
 }
 
-/// Appends the size of a unit, where it is in a network.
-fn push_unit_size(text: &mut String, network: Option<&Network>, u: u32) -> Result<(), AllocError>
-    requires { u < 128 }
-    ensures { OnOk result (string_bytes text.new ≡ string_bytes text.old ++ unit_size (option_map (λ n. n.now) network.entry) u) }
+/// Appends the size and the cost of a unit, where it is in a network.
+fn push_size(text: &mut String, picture: &Picture<'_>, u: u32) -> Result<(), AllocError>
+    requires { u < length picture.now.problem.units }
+    ensures { OnOk result (string_bytes text.new ≡ string_bytes text.old ++ unit_size picture.now.problem picture.now.network u) }
 {
-    match network {
+    match picture.network() {
         None => Ok(()),
-        Some(network) => push_size_in(text, network, u),
+        Some(network) => push_size_in(text, picture.problem(), network, u),
     }
 }
 
-/// Appends the line of a unit.
-fn push_unit(
-    text: &mut String,
-    problem: &Problem,
-    network: Option<&Network>,
-    u: u32,
-) -> Result<(), AllocError>
-    requires { u < 128 }
-    ensures { OnOk result (string_bytes text.new ≡ string_bytes text.old ++ unit_line problem.now (option_map (λ n. n.now) network.entry) u) }
+fn push_costs(text: &mut String, unit: &OperatingUnit) -> Result<(), AllocError>
+    ensures { OnOk result (string_bytes text.new ≡ string_bytes text.old ++ costs_tip unit.now) }
 {
+    push_told(text, ", fixed cost ", unit.fix)?;
+    push_told(text, ", proportional cost ", unit.proportional)?;
+    push_told(text, ", investment ", unit.investment_fix)?;
+    push_told(text, " and ", unit.investment_proportional)
+}
+
+/// Appends what a pointer on the unit shows.
+fn push_tip(text: &mut String, unit: &OperatingUnit) -> Result<(), AllocError>
+    ensures { OnOk result (string_bytes text.new ≡ string_bytes text.old ++ unit_tip unit.now) }
+{
+    text.push_str(&unit.name)?;
+    push_told(text, ": size from ", unit.lower)?;
+    push_told(text, " to ", unit.upper)?;
+    push_costs(text, unit)
+}
+
+/// Appends the line of a unit.
+fn push_unit(text: &mut String, picture: &Picture<'_>, u: u32) -> Result<(), AllocError>
+    requires { u < length picture.now.problem.units }
+    ensures { OnOk result (string_bytes text.new ≡ string_bytes text.old ++ unit_line (picture_of picture.now) u) }
+{
+    let problem = picture.problem();
     let name = problem.unit_name(u);
+    let unit = unit_of(problem, u);
     text.push_str("  ")?;
     push_node(text, "unit", name)?;
     text.push_str(" [label=\"")?;
     text.push_str(name)?;
-    push_unit_size(text, network, u)?;
+    push_size(text, picture, u)?;
+    text.push_str("\", tooltip=\"")?;
+    push_tip(text, unit)?;
     text.push_str("\", ")?;
-    text.push_str(look(role_of(network, u)))?;
+    text.push_str(look(role_of(picture, u)))?;
     text.push_str("];")?;
     Ok(())
 }
 
 /// Appends the line of a unit and those of its arcs.
-fn push_unit_lines(
-    alloc: Global,
-    text: &mut String,
-    problem: &Problem,
-    network: Option<&Network>,
-    u: u32,
-) -> Result<(), AllocError>
-    requires unit { u < length problem.now.units }
-    requires room { u < 128 }
-    requires feasible { IfSome network (λ n. IsFeasible problem.now n.now) }
-    ensures { OnOk result (string_bytes text.new ≡ string_bytes text.old ++ printed (unit_lines problem.now (option_map (λ n. n.now) network.entry) u)) }
+fn push_unit_lines(text: &mut String, picture: &Picture<'_>, u: u32) -> Result<(), AllocError>
+    requires { u < length picture.now.problem.units }
+    ensures { OnOk result (string_bytes text.new ≡ string_bytes text.old ++ printed (unit_lines (picture_of picture.now) u)) }
 {
-    let unit = &problem.units()[u as usize];
-    push_unit(text, problem, network, u)?;
+    let problem = picture.problem();
+    valid_is_proper();
+    let unit = unit_of(problem, u);
+    push_unit(text, picture, u)?;
     text.push('\n')?;
-    push_inputs(alloc, text, problem, network, u, &unit.inputs)?;
-    push_outputs(alloc, text, problem, network, u, &unit.outputs)
+    push_inputs(text, picture, u, &unit.inputs)?;
+    push_outputs(text, picture, u, &unit.outputs)
 }
 
 /// Appends the lines of the units of a set.
 pub(crate) fn push_units(
-    alloc: Global,
     text: &mut String,
-    problem: &Problem,
-    network: Option<&Network>,
+    picture: &Picture<'_>,
     units: UnitSet,
 ) -> Result<(), AllocError>
-    requires known { (u : ℕ) → has units u ≡ true → u < length problem.now.units }
-    requires feasible { IfSome network (λ n. IsFeasible problem.now n.now) }
-    ensures { OnOk result (string_bytes text.new ≡ string_bytes text.old ++ printed (flat_map (unit_lines problem.now (option_map (λ n. n.now) network.entry)) units)) }
+    requires known { (u : ℕ) → has units u ≡ true → u < length picture.now.problem.units }
+    ensures { OnOk result (string_bytes text.new ≡ string_bytes text.old ++ printed (flat_map (unit_lines (picture_of picture.now)) units)) }
 {
     for u in units {
-        push_unit_lines(alloc, text, problem, network, u)?;
+        push_unit_lines(text, picture, u)?;
     }
     Ok(())
 }

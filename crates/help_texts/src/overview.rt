@@ -9,15 +9,16 @@ pub fn overview_text() -> &'static [u8]
     ensures { result.now ≡ text_of overview }
 {
     b"pns: which units of a plant to build? Exact answers, with proofs (P-graph).
-A FILE is a plant, PNS_problem_v1. Texts go to standard output; 0 is success.
+A FILE is a plant. Answers go to standard output, faults to standard error.
 
   max FILE                       the maximal structure
   axioms FILE UNITS              do these units meet the axioms S1 to S5?
   list FILE [AFTER COUNT]        those that do; AFTER is start at first
   flows FILE UNITS               the least cost of these units, and their sizes
   solve FILE [BUDGET]            a network of least cost and its proof: a TREE
+  show FILE [BUDGET]             the same for people: what is proved, in tables
   check FILE TREE                does the tree prove what it claims?
-  report FILE TREE               the claimed network in tables; as CSV: table
+  report FILE TREE               the claimed network; for programs: table, json
   graph FILE, graph FILE TREE    the plant, and the network in it, for Graphviz
   rank FILE N [BUDGET]           the N best networks, a RANK; see rankcheck
   stable FILE TREE KIND NAME [BUDGET]   how far a price or a cost may move
@@ -26,8 +27,7 @@ A FILE is a plant, PNS_problem_v1. Texts go to standard output; 0 is success.
   periods FILE PLAN [BUDGET]     one design for several periods; see expand
   part FILE INSIDE OUTSIDE [BUDGET]     a part of a search; see split and merge
   make NUMBER UNITS              a made-up plant; trial solves it
-  help TOPIC                     a command, plant, status or the KIND of a fault
-  version                        which program this is
+  help TOPIC, version            a command, plant, status, a KIND; which program
 
 Begin:  pns help plant    pns solve a.pns > tree    pns check a.pns tree
         pns report a.pns tree               pns graph a.pns tree > a.dot

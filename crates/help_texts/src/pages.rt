@@ -9,8 +9,8 @@ use crate::parts::{merge_page, part_page, split_page};
 use crate::plans::{expand_page, periods_page};
 use crate::program::{help_page, status_page, version_page};
 use crate::ranks::{rank_page, rankcheck_page};
-use crate::reports::{graph_page, report_page, stable_page, table_page};
-use crate::searches::{solve_page, trial_page};
+use crate::reports::{graph_page, json_page, report_page, stable_page, table_page};
+use crate::searches::{show_page, solve_page, trial_page};
 use crate::structures::{axioms_page, list_page, max_page};
 use studio_rules::TOPIC_PAGES;
 
@@ -25,9 +25,11 @@ pub fn command_page_on(topic: &str) -> Option<&'static [u8]>
         "list" => Some(list_page()),
         "flows" => Some(flows_page()),
         "solve" => Some(solve_page()),
+        "show" => Some(show_page()),
         "check" => Some(check_page()),
         "table" => Some(table_page()),
         "report" => Some(report_page()),
+        "json" => Some(json_page()),
         "graph" => Some(graph_page()),
         "stable" => Some(stable_page()),
         "edit" => Some(edit_page()),

@@ -46,6 +46,7 @@ pub fn status_page() -> &'static [u8]
     ensures { result.now ≡ text_of status_page }
 {
     b"The status is what the shell shows with: echo $?
+An answer goes to standard output, and why there is none to standard error.
 
   0   the text of the command is out, whole.
   2   usage: the words have no form of pns help, or a number is beyond its
@@ -57,8 +58,8 @@ pub fn status_page() -> &'static [u8]
       rights.
   7   nothing more: the output took no more, and what is out is only the front
       of the text. Make room and call again.
-  8   memory: there was not enough. Lines before this one are only the front of
-      the text. Free some, or take a smaller plant or budget.
+  8   memory: there was not enough. Standard output has only the front of the
+      text. Free some, or take a smaller plant or budget.
   12  too long NAME: the file has more bytes than its limit, 268,435,456 for a
       TREE, RANK or PART and 4,194,304 for the others.
   20  nothing: a word is not UTF-8.

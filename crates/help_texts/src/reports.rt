@@ -1,7 +1,7 @@
 //! The pages on claimed networks as people read them.
 ghost use Rattle.std.specs.Prelude.{◌≡◌};
 ghost use Rattle.studio_rules.specs.PageLines.{text_of};
-ghost use Rattle.studio_rules.specs.ReportPages.{table_page, report_page, graph_page, stable_page};
+ghost use Rattle.studio_rules.specs.ReportPages.{table_page, report_page, json_page, graph_page, stable_page};
 
 /// The page on `table`.
 #[tactic(auto, unfolding(studio_rules::specs::ReportPages::table_page))]
@@ -43,24 +43,51 @@ pub fn report_page() -> &'static [u8]
     ensures { result.now ≡ text_of report_page }
 {
     b"pns report FILE TREE
-Prints the claimed network for people: units, materials and money in one year.
-Nothing is proved by this; pns check does.
+Tells what the tree proves, and shows the claimed network to people: units,
+materials and money in one year.
   FILE  the plant, PNS_problem_v1
   TREE  a tree text, as solve prints it
-Prints a table of units, one of materials, one of sums. Costs are above 0,
-incomes below. A number behind ~ is rounded. limit tells where an amount is at a
-bound: max, min, fixed (both) or idle (built, but of size 0).
+Prints a line that begins with PROVED (check accepts the tree), NOT FINISHED
+(nodes are open) or NOT PROVED (node N fails, and why); then a table of units,
+one of materials and one of sums. Costs are above 0, incomes below; numbers have
+6 digits where they have more. limit tells where an amount is at a bound: max,
+min, fixed (both), idle (built, but of size 0), or UNBOUNDED?, at 1000000000.
 Ends with
-  0   The text is out, whole.
-  1   refused claim WHY: the claim has no network (unknown), or its network
-      breaks an axiom (axiom) or an exclusion (exclusion), its sizes are no
-      flows (flows) or its cost is another (cost), or a number is too large
-      (sum). Is FILE the plant that TREE was made for?
+  0   The text is out, whole. Line 1 says what is proved.
+  1   refused claim WHY: the claimed network breaks an axiom (axiom) or an
+      exclusion (exclusion), its sizes are no flows (flows) or its cost is
+      another (cost), or a number is too large (sum). Is FILE the plant that
+      TREE was made for?
   10  tree line L KIND: line L of TREE has a fault; pns help KIND explains it.
       Have the text printed anew.
   2, 3, 6, 7, 8, 12, 20: see pns help status
 Example
   pns report a.pns tree
+"
+}
+
+/// The page on `json`.
+#[tactic(auto, unfolding(studio_rules::specs::ReportPages::json_page))]
+pub fn json_page() -> &'static [u8]
+    ensures { result.now ≡ text_of json_page }
+{
+    b"pns json FILE TREE
+Tells what pns report tells as one JSON object, for programs.
+  FILE  the plant, PNS_problem_v1
+  TREE  a tree text, as solve prints it
+Prints the keys verdict (proved, not finished or not proved, then with the node
+that fails and why) and claim; and where a network is claimed counts,
+payout_period, units, materials, money, paid_once and left_out. Each number
+stands twice: value has 17 digits, exact is a fraction; both are null where it
+has no room in 128 bits. A line has one unit or one material.
+Ends with
+  0   The text is out, whole. The verdict says what is proved.
+  1   refused claim WHY: as of pns report
+  10  tree line L KIND: line L of TREE has a fault; pns help KIND explains it.
+      Have the text printed anew.
+  2, 3, 6, 7, 8, 12, 20: see pns help status
+Example
+  pns json a.pns tree
 "
 }
 
@@ -76,9 +103,14 @@ network in it. The program itself draws nothing.
   FILE  the plant, PNS_problem_v1
   TREE  a tree text, as solve prints it
 Prints DOT text. Raw materials are houses, products have a double line, units
-are bars. Arcs show rates that are not 1, and with TREE flows; what is not in
-the network is grey, a unit of size 0 has a broken line. Numbers have up to 3
-places.
+are boxes. Arcs show rates that are not 1. With TREE they show flows, and are
+wider where there is more; a unit shows its size and its costs, a material what
+is bought or left over of it, its price and the money. What is at a limit is
+orange, what is left out grey; a unit of size 0 has a broken line. A raw
+material with more than four users is drawn at each of them, and so is another
+with more than four users in the network. A pointer on a part shows its numbers
+in FILE. Numbers have six digits where they have more; their whole part is never
+cut.
 Ends with
   0   The text is out, whole.
   1   refused claim WHY, with TREE only: as in pns help report.

@@ -1,7 +1,7 @@
 //! The pages on searches.
 ghost use Rattle.std.specs.Prelude.{◌≡◌};
 ghost use Rattle.studio_rules.specs.PageLines.{text_of};
-ghost use Rattle.studio_rules.specs.SearchPages.{solve_page, trial_page};
+ghost use Rattle.studio_rules.specs.SearchPages.{solve_page, show_page, trial_page};
 
 /// The page on `solve`.
 #[tactic(auto, unfolding(studio_rules::specs::SearchPages::solve_page))]
@@ -27,6 +27,31 @@ Ends with
   2, 3, 6, 7, 8, 12, 20: see pns help status
 Example
   pns solve a.pns 100 > tree
+"
+}
+
+/// The page on `show`.
+#[tactic(auto, unfolding(studio_rules::specs::SearchPages::show_page))]
+pub fn show_page() -> &'static [u8]
+    ensures { result.now ≡ text_of show_page }
+{
+    b"pns show FILE [BUDGET]
+Finds an allowed network of least cost in one year and shows it to people: pns
+solve and pns report in one. No tree is kept; for a proof to keep take solve.
+  FILE    the plant, PNS_problem_v1
+  BUDGET  the most nodes, 1 to 1000000; 10k is 10000; 1M where it is left out
+Prints what pns report prints of the tree of pns solve: a line that begins with
+PROVED or NOT FINISHED, and then the network in tables, if there is one.
+Ends with
+  0   PROVED: no network costs less, or no network meets the bounds.
+  4   NOT FINISHED: a number on the way left the range of 128 bits; the plant
+      need not be wrong. Write rates and costs with fewer digits, or bounds and
+      capacities nearer to what can come, and call again.
+  5   NOT FINISHED: BUDGET was reached. The network is the cheapest one found so
+      far. Call again with a greater BUDGET.
+  2, 3, 6, 7, 8, 12, 20: see pns help status
+Example
+  pns show a.pns
 "
 }
 

@@ -11,3 +11,8 @@ pub record ShelfState : Type 0 where
 pub record SinkState : Type 0 where
   pub written : Option (List ℕ)
   pub faults : ℕ
+
+-- the states of the two outputs of a call
+pub record OutputsState : Type 0 where
+  pub out : SinkState
+  pub err : SinkState

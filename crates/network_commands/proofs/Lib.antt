@@ -1,4 +1,3 @@
 mod GraphLines
 mod Refusals
-mod ReportLines
 mod TableLines

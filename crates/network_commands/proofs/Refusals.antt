@@ -7,7 +7,7 @@ use Rattle.studio_rules.specs.RefusalWords.{claim_line}
 use Rattle.studio_rules.specs.Lines.{line}
 use Rattle.studio_rules.specs.Ending.{Tells, Only, OrMemory}
 use Rattle.studio_rules.specs.declared.status.Status.{Status}
-use Rattle.studio_rules.specs.declared.status.Status.TheVariants.{Refused}
+use Rattle.studio_rules.specs.declared.status.Status.TheVariants.{BadClaim}
 use Rattle.endings.proofs.Ending.{only_or_memory_in, one_line}
 use Rattle.studio_rules.specs.Network.{IsRefusedFor, ClaimRefusal}
 
@@ -18,6 +18,6 @@ refused_for p unknown why (inl h) = h.0
 refused_for p unknown why (inr h) = absurd h.1
 
 -- the line that tells so is out, or the word on the want of memory
-pub refusal_told : (p : Problem) (claim : Claim) (why : Why) → IsRefusedFor p claim why → (s : Status) (t : List ℕ) → OrMemory (Only Refused (line (claim_line why))) s t → Tells (ClaimRefusal p claim) s t
+pub refusal_told : (p : Problem) (claim : Claim) (why : Why) → IsRefusedFor p claim why → (s : Status) (t : List ℕ) → OrMemory (Only BadClaim (line (claim_line why))) s t → Tells (ClaimRefusal p claim) s t
 refusal_told p claim why h =
-    only_or_memory_in (Tells (ClaimRefusal p claim)) Refused (line (claim_line why)) (claim_line why ∷ [], (refl, (why, h, refl)), one_line (claim_line why)) ([], inl refl, refl)
+    only_or_memory_in (Tells (ClaimRefusal p claim)) BadClaim (line (claim_line why)) (claim_line why ∷ [], (refl, (why, h, refl)), one_line (claim_line why)) ([], inl refl, refl)

@@ -6,10 +6,8 @@ use Rattle.studio_rules.specs.declared.status.Status.{Status}
 use Rattle.network_commands.specs.declared.network.NetworkText.{NetworkText}
 use Rattle.network_commands.specs.declared.network.NetworkText.TheVariants as texts
 use Rattle.studio_rules.specs.Graph.{NetworkGraphWork}
-use Rattle.studio_rules.specs.Report.{ReportWork}
 use Rattle.studio_rules.specs.Table.{TableWork}
 
 abbrev pub TextWork : NetworkText → Problem → Network → Status → List (List ℕ) → Type 0
 TextWork texts.Table = TableWork
 TextWork texts.Graph = NetworkGraphWork
-TextWork texts.Report = ReportWork

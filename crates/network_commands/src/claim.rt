@@ -4,36 +4,43 @@ ghost use Rattle.branch_tree.specs.View.{claim_of};
 ghost use Rattle.studio_rules.specs.RefusalWords.{claim_line};
 ghost use Rattle.studio_rules.specs.Lines.{line};
 ghost use Rattle.studio_rules.specs.Ending.{Ends, Tells, Only, OrMemory};
-ghost use Rattle.studio_rules.specs.declared.status.Status.TheVariants.{Refused};
+ghost use Rattle.studio_rules.specs.declared.status.Status.TheVariants.{BadClaim};
 ghost use Rattle.studio_rules.specs.Network.{ClaimRefusal, ClaimsNetwork};
 
 use branch_tree::{Claim, Network};
 use cert_check::check_claim;
-use endings::say::say_of;
+use endings::say::tell_of;
 use pgraph::Site;
-use pns_io::Sink;
+use pns_io::{Outputs, Sink};
 use refusal_words::why_word;
 use std::alloc::Global;
 use studio_rules::Status;
 use tree_rules::Why;
 
-fn say_refused<K: Sink>(alloc: Global, out: &mut K, why: Why) -> Status
-    ensures { Ends (OrMemory (Only Refused (line (claim_line why)))) (K.state out.old) (K.state out.new) result }
+/// Says why a claim is refused.
+pub fn say_refused<K: Sink, E: Sink>(alloc: Global, out: &mut Outputs<K, E>, why: Why) -> Status
+    ensures { Ends (OrMemory (Only BadClaim (line (claim_line why)))) out.old out.new result }
 {
-    say_of(alloc, out, "refused claim ", why_word(why), Status::Refused)
+    tell_of(
+        alloc,
+        out,
+        "refused claim ",
+        why_word(why),
+        Status::BadClaim,
+    )
 }
 
 /// The network of a claim of which each line holds. Where the claim has no network, or a line of it fails, the line that tells why
 /// is out, and the status is that of the call.
-pub fn network_of<K: Sink>(
+pub fn network_of<K: Sink, E: Sink>(
     alloc: Global,
-    out: &mut K,
+    out: &mut Outputs<K, E>,
     site: &Site<'_>,
     claim: Claim,
 ) -> Result<Network, Status>
     ensures network { IfOk result (ClaimsNetwork site.now (claim_of claim)) }
     ensures silent { OnOk result (out.new ≡ out.old) }
-    ensures told { IfErr result (Ends (Tells (ClaimRefusal site.now (claim_of claim))) (K.state out.old) (K.state out.new)) }
+    ensures told { IfErr result (Ends (Tells (ClaimRefusal site.now (claim_of claim))) out.old out.new) }
 {
     match check_claim(site, &claim) {
         Ok(()) => match claim {

@@ -17,7 +17,7 @@ use endings::say::{say_memory, say_text};
 use graph_text::{empty_graph, graph_of};
 use max_structure::maximal;
 use pgraph::{Graph, Site};
-use pns_io::{Shelf, Sink};
+use pns_io::{Outputs, Shelf, Sink};
 use pns_problem::Problem;
 use std::alloc::{AllocError, Global};
 use studio_rules::Status;
@@ -46,8 +46,8 @@ pub(crate) fn network_graph(
     drawn(alloc, site, Some(network))
 }
 
-fn say_plant<K: Sink>(alloc: Global, out: &mut K, problem: &Problem) -> Status
-    ensures { Ends (Tells (PlantGraphWork problem.now)) (K.state out.old) (K.state out.new) result }
+fn say_plant<K: Sink, E: Sink>(alloc: Global, out: &mut Outputs<K, E>, problem: &Problem) -> Status
+    ensures { Ends (Tells (PlantGraphWork problem.now)) out.old out.new result }
 {
     let Ok(graph) = Graph::of(alloc, problem) else {
         return say_memory(out);
@@ -60,13 +60,13 @@ fn say_plant<K: Sink>(alloc: Global, out: &mut K, problem: &Problem) -> Status
 }
 
 /// Says the graph of the maximal structure of the file's problem, for Graphviz.
-pub fn plant_graph<F: Shelf, K: Sink>(
+pub fn plant_graph<F: Shelf, K: Sink, E: Sink>(
     alloc: Global,
     file: &str,
     shelf: &mut F,
-    out: &mut K,
+    out: &mut Outputs<K, E>,
 ) -> Status
-    ensures ends { Ends (FileSays PlantGraphWork file.now (F.state shelf.old) (F.state shelf.new)) (K.state out.old) (K.state out.new) result }
+    ensures ends { Ends (FileSays PlantGraphWork file.now (F.state shelf.old) (F.state shelf.new)) out.old out.new result }
     ensures keeps { Keeps (F.state shelf.old) (F.state shelf.new) }
 {
     match problem_of(alloc, shelf, out, file) {
@@ -76,14 +76,14 @@ pub fn plant_graph<F: Shelf, K: Sink>(
 }
 
 /// Says the same with the network that the tree of the other file claims on the problem.
-pub fn graph<F: Shelf, K: Sink>(
+pub fn graph<F: Shelf, K: Sink, E: Sink>(
     alloc: Global,
     file: &str,
     tree: &str,
     shelf: &mut F,
-    out: &mut K,
+    out: &mut Outputs<K, E>,
 ) -> Status
-    ensures ends { Ends (TwoFilesSay (OnTree (OnNetwork NetworkGraphWork)) file.now tree.now (F.state shelf.old) (F.state shelf.new)) (K.state out.old) (K.state out.new) result }
+    ensures ends { Ends (TwoFilesSay (OnTree (OnNetwork NetworkGraphWork)) file.now tree.now (F.state shelf.old) (F.state shelf.new)) out.old out.new result }
     ensures keeps { Keeps (F.state shelf.old) (F.state shelf.new) }
 {
     say_of_network(alloc, NetworkText::Graph, file, tree, shelf, out)

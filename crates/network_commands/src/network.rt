@@ -13,13 +13,12 @@ ghost use Rattle.studio_rules.specs.Keeps.{Keeps};
 
 use crate::claim::network_of;
 use crate::graph::network_graph;
-use crate::report::network_report;
 use crate::table::tables;
 use branch_tree::{Claim, Network, Tree};
 use command_files::{problem_of, tree_of};
 use endings::say::{say_memory, say_text};
 use pgraph::{Graph, Site};
-use pns_io::{Shelf, Sink};
+use pns_io::{Outputs, Shelf, Sink};
 use pns_problem::Problem;
 use std::alloc::{AllocError, Global};
 use studio_rules::Status;
@@ -31,8 +30,6 @@ pub enum NetworkText {
     Table,
     /// The graph with the network in it, for Graphviz.
     Graph,
-    /// Its units, its materials and its money in tables for people.
-    Report,
 }
 
 /// The text, whole.
@@ -48,19 +45,18 @@ fn text_of(
     match what {
         NetworkText::Table => tables(alloc, site, network),
         NetworkText::Graph => network_graph(alloc, site, network),
-        NetworkText::Report => network_report(alloc, site, network),
     }
 }
 
-fn say_network<K: Sink>(
+fn say_network<K: Sink, E: Sink>(
     alloc: Global,
     what: NetworkText,
-    out: &mut K,
+    out: &mut Outputs<K, E>,
     site: &Site<'_>,
     network: &Network,
 ) -> Status
     requires feasible { IsFeasible site.now network.now }
-    ensures { Ends (Tells (TextWork what site.now network.now)) (K.state out.old) (K.state out.new) result }
+    ensures { Ends (Tells (TextWork what site.now network.now)) out.old out.new result }
 {
     match text_of(alloc, what, site, network) {
         Ok(bytes) => say_text(out, &bytes, Status::Done),
@@ -68,15 +64,15 @@ fn say_network<K: Sink>(
     }
 }
 
-fn say_claimed<K: Sink>(
+fn say_claimed<K: Sink, E: Sink>(
     alloc: Global,
     what: NetworkText,
-    out: &mut K,
+    out: &mut Outputs<K, E>,
     problem: &Problem,
     claim: Claim,
     tree: &Tree,
 ) -> Status
-    ensures { Ends (Tells (OnNetwork (TextWork what) problem.now (claim_of claim) tree.now)) (K.state out.old) (K.state out.new) result }
+    ensures { Ends (Tells (OnNetwork (TextWork what) problem.now (claim_of claim) tree.now)) out.old out.new result }
 {
     let Ok(graph) = Graph::of(alloc, problem) else {
         return say_memory(out);
@@ -88,15 +84,15 @@ fn say_claimed<K: Sink>(
     }
 }
 
-fn say_tree<F: Shelf, K: Sink>(
+fn say_tree<F: Shelf, K: Sink, E: Sink>(
     alloc: Global,
     what: NetworkText,
     problem: &Problem,
     name: &str,
     shelf: &mut F,
-    out: &mut K,
+    out: &mut Outputs<K, E>,
 ) -> Status
-    ensures ends { Ends (Says (OnTree (OnNetwork (TextWork what)) (F.state shelf.old).held name.now problem.now) (λ other. other ≡ name.now) (F.state shelf.old) (F.state shelf.new)) (K.state out.old) (K.state out.new) result }
+    ensures ends { Ends (Says (OnTree (OnNetwork (TextWork what)) (F.state shelf.old).held name.now problem.now) (λ other. other ≡ name.now) (F.state shelf.old) (F.state shelf.new)) out.old out.new result }
     ensures keeps { Keeps (F.state shelf.old) (F.state shelf.new) }
 {
     match tree_of(alloc, shelf, out, name, problem) {
@@ -106,15 +102,15 @@ fn say_tree<F: Shelf, K: Sink>(
 }
 
 /// Says what is asked of the network that the tree of the one file claims on the problem of the other.
-pub(crate) fn say_of_network<F: Shelf, K: Sink>(
+pub(crate) fn say_of_network<F: Shelf, K: Sink, E: Sink>(
     alloc: Global,
     what: NetworkText,
     file: &str,
     tree: &str,
     shelf: &mut F,
-    out: &mut K,
+    out: &mut Outputs<K, E>,
 ) -> Status
-    ensures ends { Ends (TwoFilesSay (OnTree (OnNetwork (TextWork what))) file.now tree.now (F.state shelf.old) (F.state shelf.new)) (K.state out.old) (K.state out.new) result }
+    ensures ends { Ends (TwoFilesSay (OnTree (OnNetwork (TextWork what))) file.now tree.now (F.state shelf.old) (F.state shelf.new)) out.old out.new result }
     ensures keeps { Keeps (F.state shelf.old) (F.state shelf.new) }
 {
     match problem_of(alloc, shelf, out, file) {

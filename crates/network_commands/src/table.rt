@@ -12,7 +12,7 @@ ghost use Rattle.studio_rules.specs.Keeps.{Keeps};
 use crate::network::{NetworkText, say_of_network};
 use branch_tree::Network;
 use pgraph::Site;
-use pns_io::{Shelf, Sink};
+use pns_io::{Outputs, Shelf, Sink};
 use pns_tables::{material_table, unit_table};
 use std::alloc::{AllocError, Global};
 use studio_rules::Status;
@@ -35,14 +35,14 @@ pub(crate) fn tables(
 }
 
 /// Says the network that the tree of the one file claims on the problem of the other as two tables.
-pub fn table<F: Shelf, K: Sink>(
+pub fn table<F: Shelf, K: Sink, E: Sink>(
     alloc: Global,
     file: &str,
     tree: &str,
     shelf: &mut F,
-    out: &mut K,
+    out: &mut Outputs<K, E>,
 ) -> Status
-    ensures ends { Ends (TwoFilesSay (OnTree (OnNetwork TableWork)) file.now tree.now (F.state shelf.old) (F.state shelf.new)) (K.state out.old) (K.state out.new) result }
+    ensures ends { Ends (TwoFilesSay (OnTree (OnNetwork TableWork)) file.now tree.now (F.state shelf.old) (F.state shelf.new)) out.old out.new result }
     ensures keeps { Keeps (F.state shelf.old) (F.state shelf.new) }
 {
     say_of_network(alloc, NetworkText::Table, file, tree, shelf, out)

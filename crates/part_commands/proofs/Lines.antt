@@ -6,7 +6,7 @@ use Rattle.std.proofs.lemmas.List.{map-append, take-append-drop}
 use Rattle.std.proofs.lemmas.Grind.{flat_map-append}
 use Rattle.std.proofs.Math.Seq.{take-suc, drop-cons}
 use Rattle.text_rules.specs.Outside.{HasRisen, AppendsFront}
-use Rattle.io_rules.specs.State.{SinkState}
+use Rattle.io_rules.specs.State.{SinkState, OutputsState}
 use Rattle.part_rules.specs.OpenLeaves.{OpenAt}
 use Rattle.cert_check.specs.declared.open_leaf.OpenLeaf.{OpenLeaf}
 use Rattle.cert_check.specs.OpenLeaves.{leaf_at, leaves_at}
@@ -15,7 +15,8 @@ use Rattle.studio_rules.specs.Lines.{line, text_of}
 use Rattle.studio_rules.specs.Ending.{Ends, Tells, Only}
 use Rattle.studio_rules.specs.declared.status.Status.{Status}
 use Rattle.studio_rules.specs.declared.status.Status.TheVariants.{Done, WriteFault, Memory}
-use Rattle.endings.proofs.Ending.{Ends-after, only_in}
+use Rattle.endings.proofs.Ending.{GoesOut, Ends-after, only_in}
+use Rattle.endings.proofs.Put.{Ends-stopped}
 
 text_of-push : (ls : List (List ℕ)) (l : List ℕ) → text_of (ls ++ l ∷ []) ≡ text_of ls ++ line l
 text_of-push ls l = flat_map-append line ls (l ∷ []) ∙ ap (λ (t : List ℕ). text_of ls ++ t) (append-nil (line l))
@@ -45,8 +46,8 @@ module _ (leaves : List OpenLeaf) where
   pub none_out : (old : SinkState) → AreOut 0 old old
   none_out old = record { out = Appends-nil old.written }
 
-  module _ (i : ℕ) (old mid : SinkState) (is : AreOut i old mid) where
-    pub one_more : (leaf : OpenLeaf) (piece : List ℕ) (new : SinkState) → i < length leaves → leaf ≡ get_or leaves i leaf → piece ≡ line (part_line (leaf_at leaf)) → Appends mid.written new.written piece → AreOut (i + 1) old new
+  module _ (i : ℕ) (old mid : OutputsState) (is : AreOut i old.out mid.out) where
+    pub one_more : (leaf : OpenLeaf) (piece : List ℕ) (new : SinkState) → i < length leaves → leaf ≡ get_or leaves i leaf → piece ≡ line (part_line (leaf_at leaf)) → Appends mid.out.written new.written piece → AreOut (i + 1) old.out new
     one_more leaf piece new lt here piece_is put =
         let more : take (i + 1) leaves ≡ take i leaves ++ leaf ∷ [] =
         ap (λ (k : ℕ). take k leaves) (add-one i) ∙ take-suc leaves i leaf lt ∙ ap (λ (l : OpenLeaf). take i leaves ++ l ∷ []) (sym here) in
@@ -55,31 +56,33 @@ module _ (leaves : List OpenLeaf) where
         ∙ ap (λ (ls : List OpenAt). map part_line ls) (map-append leaf_at (take i leaves) (leaf ∷ []))
         ∙ map-append part_line (leaves_at (take i leaves)) (leaf_at leaf ∷ []) in
         record {
-          out = subst (λ (t : List ℕ). Appends old.written new.written t)
+          out = subst (λ (t : List ℕ). Appends old.out.written new.written t)
               (ap (λ (t : List ℕ). text_of (lines_before i) ++ t) piece_is ∙ sym (text_of-push (lines_before i) (part_line (leaf_at leaf))) ∙ ap text_of (sym lines))
-              (Appends-trans old.written mid.written new.written (text_of (lines_before i)) piece is.out put);
+              (Appends-trans old.out.written mid.out.written new.written (text_of (lines_before i)) piece is.out put);
         }
 
-    module _ (later : old.faults ≤ mid.faults) (new : SinkState) (status : Status) where
+    module _ (quiet : mid.err ≡ old.err) (later : old.out.faults ≤ mid.out.faults) (new : OutputsState) (status : Status) where
       -- there is no memory for the next line
       pub starved : Ends (Only Memory (line (codes "memory"))) mid new status → Ends (Tells (LeavesSay (leaves_at leaves))) old new status
       starved =
-          Ends-after (Only Memory (line (codes "memory"))) (Tells (LeavesSay (leaves_at leaves))) old mid new status (text_of (lines_before i)) is.out
-          (only_in (λ s t. Tells (LeavesSay (leaves_at leaves)) s (text_of (lines_before i) ++ t)) Memory (line (codes "memory")) (
-            lines_before i,
-            inr (Done, split_lines (leaves_at leaves), lines_from i, (refl, refl), cut i),
-            refl,
+          Ends-after (Only Memory (line (codes "memory"))) (Tells (LeavesSay (leaves_at leaves))) old mid new status (text_of (lines_before i)) is.out quiet
+          (only_in (λ s t. GoesOut s × Tells (LeavesSay (leaves_at leaves)) s (text_of (lines_before i) ++ t)) Memory (line (codes "memory")) (
+            tt,
+            (lines_before i, inr (Done, split_lines (leaves_at leaves), lines_from i, (refl, refl), cut i), refl),
           )) later
 
       -- all leaves are told
       pub ended : length leaves ≤ i → Ends (Only Done (line (codes "end"))) mid new status → Ends (Tells (LeavesSay (leaves_at leaves))) old new status
       ended le =
           let behind : lines_from i ≡ codes "end" ∷ [] = ap (λ (ls : List OpenLeaf). map part_line (leaves_at ls) ++ codes "end" ∷ []) (none_behind leaves i le) in
-          Ends-after (Only Done (line (codes "end"))) (Tells (LeavesSay (leaves_at leaves))) old mid new status (text_of (lines_before i)) is.out
-          (only_in (λ s t. Tells (LeavesSay (leaves_at leaves)) s (text_of (lines_before i) ++ t)) Done (line (codes "end")) (
-            split_lines (leaves_at leaves),
-            (refl, refl),
-            sym (ap text_of (cut i ∙ ap (λ (ls : List (List ℕ)). lines_before i ++ ls) behind) ∙ text_of-push (lines_before i) (codes "end")),
+          Ends-after (Only Done (line (codes "end"))) (Tells (LeavesSay (leaves_at leaves))) old mid new status (text_of (lines_before i)) is.out quiet
+          (only_in (λ s t. GoesOut s × Tells (LeavesSay (leaves_at leaves)) s (text_of (lines_before i) ++ t)) Done (line (codes "end")) (
+            tt,
+            (
+              split_lines (leaves_at leaves),
+              (refl, refl),
+              sym (ap text_of (cut i ∙ ap (λ (ls : List (List ℕ)). lines_before i ++ ls) behind) ∙ text_of-push (lines_before i) (codes "end")),
+            ),
           )) later
         where
           none_behind : {X : Type 0} (xs : List X) (k : ℕ) → length xs ≤ k → drop k xs ≡ []
@@ -89,8 +92,8 @@ module _ (leaves : List OpenLeaf) where
           none_behind (x ∷ xs) (suc k) h = none_behind xs k (omega arith)
 
     -- the line of the next leaf is cut off
-    pub stopped : (new : SinkState) (leaf : OpenLeaf) (piece : List ℕ) → i < length leaves → leaf ≡ get_or leaves i leaf → HasRisen old.faults new.faults → piece ≡ line (part_line (leaf_at leaf)) → AppendsFront mid.written new.written piece → Ends (Tells (LeavesSay (leaves_at leaves))) old new WriteFault
-    stopped new leaf piece lt here rose piece_is front =
+    pub stopped : (new : OutputsState) (leaf : OpenLeaf) (piece : List ℕ) → i < length leaves → leaf ≡ get_or leaves i leaf → HasRisen old.out.faults new.out.faults → piece ≡ line (part_line (leaf_at leaf)) → AppendsFront mid.out.written new.out.written piece → new.err ≡ old.err → Ends (Tells (LeavesSay (leaves_at leaves))) old new WriteFault
+    stopped new leaf piece lt here rose piece_is front quiet =
         let behind : List (List ℕ) = lines_from (suc i) in
         let ahead : lines_from i ≡ part_line (leaf_at leaf) ∷ behind = ap (λ (ls : List OpenLeaf). map part_line (leaves_at ls) ++ codes "end" ∷ []) (drop-here leaves i leaf lt here) in
         let text : text_of (split_lines (leaves_at leaves)) ≡ (text_of (lines_before i) ++ front.0) ++ (front.1 ++ text_of behind) =
@@ -98,10 +101,6 @@ module _ (leaves : List OpenLeaf) where
         ∙ flat_map-append line (lines_before i) (part_line (leaf_at leaf) ∷ behind)
         ∙ ap (λ (t : List ℕ). text_of (lines_before i) ++ (t ++ text_of behind)) (sym piece_is ∙ front.2)
         ∙ ap (λ (t : List ℕ). text_of (lines_before i) ++ t) (append_assoc front.0 front.1 (text_of behind))
-        ∙ sym (append_assoc (text_of (lines_before i)) front.0 (front.1 ++ text_of behind)) in (
-          rose,
-          Done,
-          text_of (split_lines (leaves_at leaves)),
-          (split_lines (leaves_at leaves), (refl, refl), refl),
-          (text_of (lines_before i) ++ front.0, front.1 ++ text_of behind, text, Appends-trans old.written mid.written new.written (text_of (lines_before i)) front.0 is.out front.3),
-        )
+        ∙ sym (append_assoc (text_of (lines_before i)) front.0 (front.1 ++ text_of behind)) in
+        Ends-stopped (Tells (LeavesSay (leaves_at leaves))) old new Done tt (text_of (split_lines (leaves_at leaves))) (split_lines (leaves_at leaves), (refl, refl), refl) rose
+        (text_of (lines_before i) ++ front.0, front.1 ++ text_of behind, text, Appends-trans old.out.written mid.out.written new.out.written (text_of (lines_before i)) front.0 is.out front.3) quiet

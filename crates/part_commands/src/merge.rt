@@ -13,19 +13,20 @@ ghost use Rattle.studio_rules.specs.Merge.{TreeRefused, PartRefused, FaultSays, 
 ghost use Rattle.studio_rules.specs.PartFile.{are_several};
 ghost use Rattle.studio_rules.specs.Lines.{line};
 ghost use Rattle.studio_rules.specs.Printed.{OneAnswer};
-ghost use Rattle.studio_rules.specs.Ending.{Ends, Says, Tells, Only, OrMemory};
+ghost use Rattle.studio_rules.specs.Ending.{Ends, Says, Tells, Only, OrMemory, IsRefusal};
 ghost use Rattle.studio_rules.specs.Keeps.{Keeps};
-ghost use Rattle.studio_rules.specs.declared.status.Status.TheVariants.{Done, Refused, NoLeaf};
+ghost use Rattle.studio_rules.specs.declared.status.Status.TheVariants.{Done};
 
 use crate::part_file::{parts_of, push_part};
 use branch_tree::{Claim, Tail, Tree};
 use command_files::{problem_of, tree_of};
-use endings::say::{say, say_memory, say_of, say_printed};
+use endings::say::{say_memory, say_printed, tell_made, tell_with};
+use messages::{no_leaf, refused};
 use part_rules::MergeFault;
 use pgraph::{Graph, Site};
-use pns_io::{Shelf, Sink};
+use pns_io::{Outputs, Shelf, Sink};
 use pns_problem::Problem;
-use refusal_words::{say_node, why_word};
+use refusal_words::{tell_node, why_word};
 use std::alloc::{AllocError, Global};
 use studio_rules::Status;
 use tree_parts::{Part, merge_all};
@@ -74,95 +75,92 @@ fn no_leaf_line(alloc: Global, several: bool, name: &str) -> Result<String, Allo
     Ok(text)
 }
 
-// Puts the line that was made, or tells the want of memory for it.
-fn say_line<K: Sink>(out: &mut K, made: Result<String, AllocError>, status: Status) -> Status
-    requires { (status ≡ Refused) ⊎ (status ≡ NoLeaf) }
-    ensures { (told : List ℕ) → IfOk made (λ text. string_bytes text ≡ line told)
-        → Ends (OrMemory (Only status (line told))) (K.state out.old) (K.state out.new) result }
-{
-    match made {
-        Ok(text) => say(out, text.as_bytes(), status),
-        Err(_) => say_memory(out),
-    }
-}
-
 // Says why the tree is refused.
-fn say_tree_refused<K: Sink>(alloc: Global, out: &mut K, refusal: Refusal) -> Status
-    ensures { Ends (Tells (TreeRefused refusal)) (K.state out.old) (K.state out.new) result }
+fn say_tree_refused<K: Sink, E: Sink>(
+    alloc: Global,
+    out: &mut Outputs<K, E>,
+    refusal: Refusal,
+) -> Status
+    ensures { Ends (Tells (TreeRefused refusal)) out.old out.new result }
 {
     match refusal {
         Refusal::Claim(why) => {
-            say_of(alloc, out, "refused claim ", why_word(why), Status::Refused)
+            let notes = refused(alloc, why);
+            let words = ("refused claim ", why_word(why));
+            tell_with(alloc, out, words, notes.bytes(), Status::BadClaim)
         }
-        Refusal::Node { node, why } => say_node(alloc, out, node, why),
+        Refusal::Node { node, why } => tell_node(alloc, out, node, why),
         Refusal::Memory => say_memory(out),
     }
 }
 
 // Says why a part is refused.
-fn say_part_refused<K: Sink>(
+fn say_part_refused<K: Sink, E: Sink>(
     alloc: Global,
-    out: &mut K,
+    out: &mut Outputs<K, E>,
     several: bool,
     name: &str,
     refusal: Refusal,
 ) -> Status
-    ensures { Ends (Tells (PartRefused several name.now refusal)) (K.state out.old) (K.state out.new) result }
+    ensures { Ends (Tells (PartRefused several name.now refusal)) out.old out.new result }
 {
     match refusal {
         Refusal::Claim(why) => {
+            let notes = refused(alloc, why);
             let made = part_claim_line(alloc, several, name, why);
-            say_line(out, made, Status::Refused)
+            tell_made(out, made, notes.bytes(), Status::BadClaim)
         }
         Refusal::Node { node, why } => {
+            let notes = refused(alloc, why);
             let made = part_node_line(alloc, several, name, node, why);
-            say_line(out, made, Status::Refused)
+            tell_made(out, made, notes.bytes(), Status::BadClaim)
         }
         Refusal::Memory => say_memory(out),
     }
 }
 
 // Says why a part is not put back.
-fn say_fault<K: Sink>(
+fn say_fault<K: Sink, E: Sink>(
     alloc: Global,
-    out: &mut K,
+    out: &mut Outputs<K, E>,
     several: bool,
     name: &str,
     fault: MergeFault,
 ) -> Status
-    ensures { Ends (Tells (FaultSays several name.now fault)) (K.state out.old) (K.state out.new) result }
+    ensures { Ends (Tells (FaultSays several name.now fault)) out.old out.new result }
 {
     match fault {
         MergeFault::Tree(refusal) => say_tree_refused(alloc, out, refusal),
         MergeFault::Part(refusal) => say_part_refused(alloc, out, several, name, refusal),
         MergeFault::NoLeaf => {
+            let notes = no_leaf(alloc);
             let made = no_leaf_line(alloc, several, name);
-            say_line(out, made, Status::NoLeaf)
+            tell_made(out, made, notes.bytes(), Status::NoLeaf)
         }
         MergeFault::Memory => say_memory(out),
     }
 }
 
 // Prints the tree and what it proves but for its open leaves.
-fn say_tree_text<K: Sink>(
+fn say_tree_text<K: Sink, E: Sink>(
     alloc: Global,
-    out: &mut K,
+    out: &mut Outputs<K, E>,
     problem: &Problem,
     claim: &Claim,
     tree: &Tree,
 ) -> Status
     requires claim { KnowsClaim problem.now (claim_of claim.now) }
     requires tree { KnowsTree problem.now tree.now }
-    ensures { Ends (Tells (OneAnswer Done (tree_text_lines problem.now (claim_of claim.now) tree.now whole))) (K.state out.old) (K.state out.new) result }
+    ensures { Ends (Tells (OneAnswer Done (tree_text_lines problem.now (claim_of claim.now) tree.now whole))) out.old out.new result }
 {
-    let printed = print_tree(alloc, problem, claim, tree, &Tail::Whole, out);
+    let printed = print_tree(alloc, problem, claim, tree, &Tail::Whole, &mut out.out);
     say_printed(out, printed, Status::Done)
 }
 
 // Puts the parts back in turn and prints what comes of it, or says which is not put back, and why.
-fn say_put_back<K: Sink>(
+fn say_put_back<K: Sink, E: Sink>(
     alloc: Global,
-    out: &mut K,
+    out: &mut Outputs<K, E>,
     site: &Site<'_>,
     claim: Claim,
     tree: Tree,
@@ -173,7 +171,7 @@ fn say_put_back<K: Sink>(
     requires tree { KnowsTree site.now tree }
     requires parts { Each (KnowsPart site.now) parts.now }
     requires count { length parts.now ≡ length names.now }
-    ensures { Ends (Tells (MergeSays (map string_bytes names.now) site.now (claim_of claim) tree parts.now)) (K.state out.old) (K.state out.new) result }
+    ensures { Ends (Tells (MergeSays (map string_bytes names.now) site.now (claim_of claim) tree parts.now)) out.old out.new result }
 {
     match merge_all(alloc, site, claim, tree, parts) {
         Ok((both, grown)) => say_tree_text(alloc, out, site.problem(), &both, &grown),
@@ -185,9 +183,9 @@ fn say_put_back<K: Sink>(
 }
 
 // The same, once the problem's graph is made.
-fn say_merged<K: Sink>(
+fn say_merged<K: Sink, E: Sink>(
     alloc: Global,
-    out: &mut K,
+    out: &mut Outputs<K, E>,
     problem: &Problem,
     claim: Claim,
     tree: Tree,
@@ -198,7 +196,7 @@ fn say_merged<K: Sink>(
     requires tree { KnowsTree problem.now tree }
     requires parts { Each (KnowsPart problem.now) parts.now }
     requires count { length parts.now ≡ length names.now }
-    ensures { Ends (Tells (MergeSays (map string_bytes names.now) problem.now (claim_of claim) tree parts.now)) (K.state out.old) (K.state out.new) result }
+    ensures { Ends (Tells (MergeSays (map string_bytes names.now) problem.now (claim_of claim) tree parts.now)) out.old out.new result }
 {
     let Ok(graph) = Graph::of(alloc, problem) else {
         return say_memory(out);
@@ -207,19 +205,19 @@ fn say_merged<K: Sink>(
     say_put_back(alloc, out, &site, claim, tree, names, parts)
 }
 
-fn say_parts<F: Shelf, K: Sink>(
+fn say_parts<F: Shelf, K: Sink, E: Sink>(
     alloc: Global,
     problem: &Problem,
     claim: Claim,
     tree: Tree,
     names: &[String],
     shelf: &mut F,
-    out: &mut K,
+    out: &mut Outputs<K, E>,
 ) -> Status
     requires claim { KnowsClaim problem.now (claim_of claim) }
     requires tree { KnowsTree problem.now tree }
     ensures ends { Ends (Says (MergeWork (F.state shelf.old).held (map string_bytes names.now) problem.now (claim_of claim) tree) (Contains (map string_bytes names.now))
-        (F.state shelf.old) (F.state shelf.new)) (K.state out.old) (K.state out.new) result }
+        (F.state shelf.old) (F.state shelf.new)) out.old out.new result }
     ensures keeps { Keeps (F.state shelf.old) (F.state shelf.new) }
 {
     match parts_of(alloc, shelf, out, names, problem) {
@@ -228,16 +226,16 @@ fn say_parts<F: Shelf, K: Sink>(
     }
 }
 
-fn say_tree<F: Shelf, K: Sink>(
+fn say_tree<F: Shelf, K: Sink, E: Sink>(
     alloc: Global,
     problem: &Problem,
     name: &str,
     names: &[String],
     shelf: &mut F,
-    out: &mut K,
+    out: &mut Outputs<K, E>,
 ) -> Status
     ensures ends { Ends (Says (OnTree (MergeWork (F.state shelf.old).held (map string_bytes names.now)) (F.state shelf.old).held name.now problem.now)
-        (λ other. (other ≡ name.now) ⊎ Contains (map string_bytes names.now) other) (F.state shelf.old) (F.state shelf.new)) (K.state out.old) (K.state out.new) result }
+        (λ other. (other ≡ name.now) ⊎ Contains (map string_bytes names.now) other) (F.state shelf.old) (F.state shelf.new)) out.old out.new result }
     ensures keeps { Keeps (F.state shelf.old) (F.state shelf.new) }
 {
     match tree_of(alloc, shelf, out, name, problem) {
@@ -248,16 +246,16 @@ fn say_tree<F: Shelf, K: Sink>(
 
 /// Puts the parts of the other files back in the tree of the one file, in turn, and prints the tree that comes of it with what it
 /// proves but for its open leaves.
-pub fn merge<F: Shelf, K: Sink>(
+pub fn merge<F: Shelf, K: Sink, E: Sink>(
     alloc: Global,
     file: &str,
     tree: &str,
     parts: &[String],
     shelf: &mut F,
-    out: &mut K,
+    out: &mut Outputs<K, E>,
 ) -> Status
     ensures ends { Ends (Says (OnFile (OnTree (MergeWork (F.state shelf.old).held (map string_bytes parts.now)) (F.state shelf.old).held tree.now) (F.state shelf.old).held file.now)
-        (λ other. (other ≡ file.now) ⊎ ((other ≡ tree.now) ⊎ Contains (map string_bytes parts.now) other)) (F.state shelf.old) (F.state shelf.new)) (K.state out.old) (K.state out.new) result }
+        (λ other. (other ≡ file.now) ⊎ ((other ≡ tree.now) ⊎ Contains (map string_bytes parts.now) other)) (F.state shelf.old) (F.state shelf.new)) out.old out.new result }
     ensures keeps { Keeps (F.state shelf.old) (F.state shelf.new) }
 {
     match problem_of(alloc, shelf, out, file) {

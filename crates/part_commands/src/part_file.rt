@@ -11,9 +11,10 @@ ghost use Rattle.studio_rules.specs.Keeps.{Keeps};
 ghost use Rattle.studio_rules.specs.declared.status.Status.TheVariants.{BadTree};
 
 use command_files::{bytes_of, tree_kind_word};
-use endings::say::{say, say_memory};
+use endings::say::{say_memory, tell_made};
+use messages::{Format, Source, fault};
 use part_text::read_part;
-use pns_io::{Shelf, Sink};
+use pns_io::{Outputs, Shelf, Sink};
 use pns_problem::Problem;
 use std::alloc::{AllocError, Global};
 use studio_rules::Status;
@@ -55,28 +56,12 @@ fn part_fault_line(
     Ok(text)
 }
 
-fn say_part_fault<K: Sink>(
-    alloc: Global,
-    out: &mut K,
-    several: bool,
-    name: &str,
-    number: u32,
-    kind: TreeKind,
-) -> Status
-    ensures { Ends (OrMemory (Only BadTree (line (part_fault_line several name.now number kind)))) (K.state out.old) (K.state out.new) result }
-{
-    match part_fault_line(alloc, several, name, number, kind) {
-        Ok(text) => say(out, text.as_bytes(), Status::BadTree),
-        Err(_) => say_memory(out),
-    }
-}
-
 // Reads the file and judges its text as a part for the problem. Where that gives none the text that tells why is out, and the status
 // is that of the call.
-fn part_of<F: Shelf, K: Sink>(
+fn part_of<F: Shelf, K: Sink, E: Sink>(
     alloc: Global,
     shelf: &mut F,
-    out: &mut K,
+    out: &mut Outputs<K, E>,
     several: bool,
     name: &str,
     problem: &Problem,
@@ -85,7 +70,7 @@ fn part_of<F: Shelf, K: Sink>(
     ensures known { IfOk result (KnowsPart problem.now) }
     ensures silent { OnOk result (out.new ≡ out.old) }
     ensures keeps { Keeps (F.state shelf.old) (F.state shelf.new) }
-    ensures told { IfErr result (Ends (Says (PartFaults several (F.state shelf.old).held name.now problem.now) (λ other. other ≡ name.now) (F.state shelf.old) (F.state shelf.new)) (K.state out.old) (K.state out.new)) }
+    ensures told { IfErr result (Ends (Says (PartFaults several (F.state shelf.old).held name.now problem.now) (λ other. other ≡ name.now) (F.state shelf.old) (F.state shelf.new)) out.old out.new) }
 {
     let bytes = match bytes_of(alloc, shelf, out, name, PART_LIMIT) {
         Ok(bytes) => bytes,
@@ -94,7 +79,13 @@ fn part_of<F: Shelf, K: Sink>(
     match read_part(alloc, problem, &bytes) {
         Ok(part) => Ok(part),
         Err(TreeFault::At { line, kind }) => {
-            Err(say_part_fault(alloc, out, several, name, line, kind))
+            let source = Source {
+                text: &bytes,
+                format: Format::Part,
+            };
+            let notes = fault(alloc, source, line, tree_kind_word(kind));
+            let first = part_fault_line(alloc, several, name, line, kind);
+            Err(tell_made(out, first, notes.bytes(), Status::BadTree))
         }
         Err(TreeFault::Memory) => Err(say_memory(out)),
     }
@@ -102,10 +93,10 @@ fn part_of<F: Shelf, K: Sink>(
 
 /// Reads the files and judges the text of each as a part for the problem, in order. Where one gives none the text that tells why is
 /// out, and the status is that of the call.
-pub(crate) fn parts_of<F: Shelf, K: Sink>(
+pub(crate) fn parts_of<F: Shelf, K: Sink, E: Sink>(
     alloc: Global,
     shelf: &mut F,
-    out: &mut K,
+    out: &mut Outputs<K, E>,
     names: &[String],
     problem: &Problem,
 ) -> Result<Vec<Part>, Status>
@@ -114,7 +105,7 @@ pub(crate) fn parts_of<F: Shelf, K: Sink>(
     ensures silent { OnOk result (out.new ≡ out.old) }
     ensures keeps { Keeps (F.state shelf.old) (F.state shelf.new) }
     ensures told { IfErr result (Ends (Says (FirstFault (F.state shelf.old).held (map string_bytes names.now) problem.now) (Contains (map string_bytes names.now))
-        (F.state shelf.old) (F.state shelf.new)) (K.state out.old) (K.state out.new)) }
+        (F.state shelf.old) (F.state shelf.new)) out.old out.new) }
 {
     let several = 1 < names.len();
     let mut parts = Vec::new(alloc);

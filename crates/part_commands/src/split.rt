@@ -12,11 +12,13 @@ ghost use Rattle.studio_rules.specs.Keeps.{Keeps};
 
 use branch_tree::{Claim, Tree};
 use command_files::{problem_of, tree_of};
-use endings::say::{say, say_memory, say_of};
+use endings::outputs::put_answer;
+use endings::say::{say, say_memory, tell_with};
+use messages::refused;
 use pgraph::{Graph, Site};
-use pns_io::{Shelf, Sink};
+use pns_io::{Outputs, Shelf, Sink};
 use pns_problem::Problem;
-use refusal_words::{say_node, why_word};
+use refusal_words::{tell_node, why_word};
 use std::alloc::{AllocError, Global};
 use structure_list::print_token;
 use studio_rules::Status;
@@ -48,14 +50,18 @@ fn part_line(alloc: Global, leaf: &OpenLeaf) -> Result<String, AllocError>
 }
 
 /// Puts a line for each open leaf, and the last line.
-fn say_leaves<K: Sink>(alloc: Global, out: &mut K, leaves: &[OpenLeaf]) -> Status
-    ensures { Ends (Tells (LeavesSay (leaves_at leaves.now))) (K.state out.old) (K.state out.new) result }
+fn say_leaves<K: Sink, E: Sink>(
+    alloc: Global,
+    out: &mut Outputs<K, E>,
+    leaves: &[OpenLeaf],
+) -> Status
+    ensures { Ends (Tells (LeavesSay (leaves_at leaves.now))) out.old out.new result }
 {
     'telling: for leaf in leaves {
         let Ok(text) = part_line(alloc, leaf) else {
             return say_memory(out);
         };
-        let Ok(()) = out.put(text.as_bytes()) else {
+        let Ok(()) = put_answer(out, text.as_bytes()) else {
             return Status::WriteFault;
         };
     }
@@ -63,36 +69,38 @@ fn say_leaves<K: Sink>(alloc: Global, out: &mut K, leaves: &[OpenLeaf]) -> Statu
 }
 
 /// Says the open leaves of the tree, or else the first line of the claim or the first node that fails.
-fn say_open<K: Sink>(
+fn say_open<K: Sink, E: Sink>(
     alloc: Global,
-    out: &mut K,
+    out: &mut Outputs<K, E>,
     site: &Site<'_>,
     claim: &Claim,
     tree: &Tree,
 ) -> Status
     requires few { length tree.now < 2 ^ 32 }
-    ensures { Ends (Tells (SplitWork site.now (claim_of claim.now) tree.now)) (K.state out.old) (K.state out.new) result }
+    ensures { Ends (Tells (SplitWork site.now (claim_of claim.now) tree.now)) out.old out.new result }
 {
     match open_leaves(alloc, site, claim, tree) {
         Ok(leaves) => say_leaves(alloc, out, &leaves),
         Err(Refusal::Claim(why)) => {
-            say_of(alloc, out, "refused claim ", why_word(why), Status::Refused)
+            let notes = refused(alloc, why);
+            let words = ("refused claim ", why_word(why));
+            tell_with(alloc, out, words, notes.bytes(), Status::BadClaim)
         }
-        Err(Refusal::Node { node, why }) => say_node(alloc, out, node, why),
+        Err(Refusal::Node { node, why }) => tell_node(alloc, out, node, why),
         Err(Refusal::Memory) => say_memory(out),
     }
 }
 
 /// The same, once the problem's graph is made.
-fn say_split<K: Sink>(
+fn say_split<K: Sink, E: Sink>(
     alloc: Global,
-    out: &mut K,
+    out: &mut Outputs<K, E>,
     problem: &Problem,
     claim: &Claim,
     tree: &Tree,
 ) -> Status
     requires few { length tree.now < 2 ^ 32 }
-    ensures { Ends (Tells (SplitWork problem.now (claim_of claim.now) tree.now)) (K.state out.old) (K.state out.new) result }
+    ensures { Ends (Tells (SplitWork problem.now (claim_of claim.now) tree.now)) out.old out.new result }
 {
     let Ok(graph) = Graph::of(alloc, problem) else {
         return say_memory(out);
@@ -101,14 +109,14 @@ fn say_split<K: Sink>(
     say_open(alloc, out, &site, claim, tree)
 }
 
-fn say_tree<F: Shelf, K: Sink>(
+fn say_tree<F: Shelf, K: Sink, E: Sink>(
     alloc: Global,
     problem: &Problem,
     name: &str,
     shelf: &mut F,
-    out: &mut K,
+    out: &mut Outputs<K, E>,
 ) -> Status
-    ensures ends { Ends (Says (OnTree SplitWork (F.state shelf.old).held name.now problem.now) (λ other. other ≡ name.now) (F.state shelf.old) (F.state shelf.new)) (K.state out.old) (K.state out.new) result }
+    ensures ends { Ends (Says (OnTree SplitWork (F.state shelf.old).held name.now problem.now) (λ other. other ≡ name.now) (F.state shelf.old) (F.state shelf.new)) out.old out.new result }
     ensures keeps { Keeps (F.state shelf.old) (F.state shelf.new) }
 {
     match tree_of(alloc, shelf, out, name, problem) {
@@ -119,14 +127,14 @@ fn say_tree<F: Shelf, K: Sink>(
 
 /// Says the open leaves of the tree of the one file on the problem of the other, each with the node at which it stands, where the tree
 /// proves its claim but for them.
-pub fn split<F: Shelf, K: Sink>(
+pub fn split<F: Shelf, K: Sink, E: Sink>(
     alloc: Global,
     file: &str,
     tree: &str,
     shelf: &mut F,
-    out: &mut K,
+    out: &mut Outputs<K, E>,
 ) -> Status
-    ensures ends { Ends (TwoFilesSay (OnTree SplitWork) file.now tree.now (F.state shelf.old) (F.state shelf.new)) (K.state out.old) (K.state out.new) result }
+    ensures ends { Ends (TwoFilesSay (OnTree SplitWork) file.now tree.now (F.state shelf.old) (F.state shelf.new)) out.old out.new result }
     ensures keeps { Keeps (F.state shelf.old) (F.state shelf.new) }
 {
     match problem_of(alloc, shelf, out, file) {

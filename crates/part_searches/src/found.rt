@@ -11,7 +11,7 @@ ghost use Rattle.studio_rules.specs.Ending.{Ends, Tells};
 use abb_search::Found;
 use endings::say::{say_memory, say_printed};
 use part_text::{print_part, spelled_parts_read};
-use pns_io::Sink;
+use pns_io::{Outputs, Sink};
 use pns_problem::Problem;
 use searches::{Certificate, certificate_of, status_of};
 use std::alloc::Global;
@@ -48,22 +48,26 @@ fn part_of(start: Node, found: Certificate) -> Part
 }
 
 // Prints the part. The status tells where the search stopped.
-fn say_part<K: Sink>(alloc: Global, out: &mut K, problem: &Problem, part: &Part) -> Status
+fn say_part<K: Sink, E: Sink>(
+    alloc: Global,
+    out: &mut Outputs<K, E>,
+    problem: &Problem,
+    part: &Part,
+) -> Status
     requires claim { KnowsClaim problem.now part.now.claim }
     requires tree { KnowsTree problem.now part.now.tree }
     requires tail { KnowsTail problem.now part.now.tail }
     requires reads { ReadsBack problem.now part.now }
-    ensures { Ends (Tells (TextSays problem.now part.now)) (K.state out.old)
-        (K.state out.new) result }
+    ensures { Ends (Tells (TextSays problem.now part.now)) out.old out.new result }
 {
-    let printed = print_part(alloc, problem, part, out);
+    let printed = print_part(alloc, problem, part, &mut out.out);
     say_printed(out, printed, status_of(part.tail()))
 }
 
 /// Prints what a search from the node found.
-pub(crate) fn say_found<K: Sink>(
+pub(crate) fn say_found<K: Sink, E: Sink>(
     alloc: Global,
-    out: &mut K,
+    out: &mut Outputs<K, E>,
     problem: &Problem,
     start: &Node,
     found: Found,
@@ -72,7 +76,7 @@ pub(crate) fn say_found<K: Sink>(
         × AreUnits problem.now start.now.outside }
     requires apart { IsApart start.now.inside start.now.outside }
     requires found { (budget : ℕ) × IsFound problem.now (node_of start.now) budget found }
-    ensures { Ends (Tells (FoundSays problem.now start.now.inside start.now.outside found)) (K.state out.old) (K.state out.new) result }
+    ensures { Ends (Tells (FoundSays problem.now start.now.inside start.now.outside found)) out.old out.new result }
 {
     match certificate_of(found) {
         Some(certificate) => {

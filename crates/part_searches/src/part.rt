@@ -18,19 +18,20 @@ use crate::start::start_of;
 use abb_search::{search, search_against};
 use branch_tree::{Claim, Network, Tree};
 use command_files::{problem_of, tree_of};
-use endings::say::{say, say_memory};
+use endings::say::{say_memory, tell};
+use messages::bad_node;
 use network_commands::network_of;
 use pgraph::{Graph, Site};
-use pns_io::{Shelf, Sink};
+use pns_io::{Outputs, Shelf, Sink};
 use pns_problem::Problem;
 use std::alloc::Global;
 use studio_rules::Status;
 use unit_sets::Node;
 
 // Searches the structures of the node.
-fn say_searched<K: Sink>(
+fn say_searched<K: Sink, E: Sink>(
     alloc: Global,
-    out: &mut K,
+    out: &mut Outputs<K, E>,
     problem: &Problem,
     graph: &Graph,
     start: &Node,
@@ -42,16 +43,16 @@ fn say_searched<K: Sink>(
         × AreUnits problem.now start.now.outside }
     requires some { 1 ≤ budget }
     requires few { budget ≤ 1000000 }
-    ensures { Ends (Tells (PartSays budget None start.now.inside start.now.outside problem.now)) (K.state out.old) (K.state out.new) result }
+    ensures { Ends (Tells (PartSays budget None start.now.inside start.now.outside problem.now)) out.old out.new result }
 {
     let found = search(alloc, problem, graph, *start, budget as u32);
     say_found(alloc, out, problem, start, found)
 }
 
 // Searches them for a network that is cheaper than this one.
-fn say_against<K: Sink>(
+fn say_against<K: Sink, E: Sink>(
     alloc: Global,
-    out: &mut K,
+    out: &mut Outputs<K, E>,
     problem: &Problem,
     graph: &Graph,
     start: &Node,
@@ -65,16 +66,16 @@ fn say_against<K: Sink>(
     requires some { 1 ≤ budget }
     requires few { budget ≤ 1000000 }
     requires passes { IsFeasible problem.now network }
-    ensures { Ends (Tells (PartSays budget (Some network) start.now.inside start.now.outside problem.now)) (K.state out.old) (K.state out.new) result }
+    ensures { Ends (Tells (PartSays budget (Some network) start.now.inside start.now.outside problem.now)) out.old out.new result }
 {
     let found = search_against(alloc, problem, graph, *start, budget as u32, network);
     say_found(alloc, out, problem, start, found)
 }
 
 // A network is judged by the lines of the claim, and known to the search; another claim is passed over.
-fn say_claimed<K: Sink>(
+fn say_claimed<K: Sink, E: Sink>(
     alloc: Global,
-    out: &mut K,
+    out: &mut Outputs<K, E>,
     problem: &Problem,
     graph: &Graph,
     start: &Node,
@@ -88,7 +89,7 @@ fn say_claimed<K: Sink>(
         × AreUnits problem.now start.now.outside }
     requires some { 1 ≤ budget }
     requires few { budget ≤ 1000000 }
-    ensures { Ends (Tells (ClaimSays budget start.now.inside start.now.outside problem.now (claim_of claim) tree.now)) (K.state out.old) (K.state out.new) result }
+    ensures { Ends (Tells (ClaimSays budget start.now.inside start.now.outside problem.now (claim_of claim) tree.now)) out.old out.new result }
 {
     match claim {
         Claim::Network(network) => {
@@ -103,7 +104,7 @@ fn say_claimed<K: Sink>(
     }
 }
 
-fn say_tree<F: Shelf, K: Sink>(
+fn say_tree<F: Shelf, K: Sink, E: Sink>(
     alloc: Global,
     problem: &Problem,
     graph: &Graph,
@@ -111,7 +112,7 @@ fn say_tree<F: Shelf, K: Sink>(
     budget: u64,
     name: &str,
     shelf: &mut F,
-    out: &mut K,
+    out: &mut Outputs<K, E>,
 ) -> Status
     requires graph { shape graph.now ≡ shape_of problem.now }
     requires sound { IsSound (shape_of problem.now) (node_of start.now) }
@@ -120,7 +121,7 @@ fn say_tree<F: Shelf, K: Sink>(
     requires some { 1 ≤ budget }
     requires few { budget ≤ 1000000 }
     ensures ends { Ends (Says (OnTree (ClaimSays budget start.now.inside start.now.outside) (F.state shelf.old).held name.now problem.now) (λ other. other ≡ name.now)
-        (F.state shelf.old) (F.state shelf.new)) (K.state out.old) (K.state out.new) result }
+        (F.state shelf.old) (F.state shelf.new)) out.old out.new result }
     ensures keeps { Keeps (F.state shelf.old) (F.state shelf.new) }
 {
     match tree_of(alloc, shelf, out, name, problem) {
@@ -130,9 +131,9 @@ fn say_tree<F: Shelf, K: Sink>(
 }
 
 // The search from the node of the words.
-fn say_from<K: Sink>(
+fn say_from<K: Sink, E: Sink>(
     alloc: Global,
-    out: &mut K,
+    out: &mut Outputs<K, E>,
     problem: &Problem,
     inside: &str,
     outside: &str,
@@ -140,19 +141,22 @@ fn say_from<K: Sink>(
 ) -> Status
     requires some { 1 ≤ budget }
     requires few { budget ≤ 1000000 }
-    ensures { Ends (Tells (PartWork budget inside.now outside.now problem.now)) (K.state out.old) (K.state out.new) result }
+    ensures { Ends (Tells (PartWork budget inside.now outside.now problem.now)) out.old out.new result }
 {
     let Ok(graph) = Graph::of(alloc, problem) else {
         return say_memory(out);
     };
     match start_of(problem, &graph, inside, outside) {
         Some(start) => say_searched(alloc, out, problem, &graph, &start, budget),
-        None => say(out, b"bad node\n", Status::BadNode),
+        None => {
+            let notes = bad_node(alloc);
+            tell(out, b"bad node\n", notes.bytes(), Status::BadNode)
+        }
     }
 }
 
 // The search from the node of the words, with the network of the tree as its best.
-fn say_from_against<F: Shelf, K: Sink>(
+fn say_from_against<F: Shelf, K: Sink, E: Sink>(
     alloc: Global,
     problem: &Problem,
     inside: &str,
@@ -160,11 +164,11 @@ fn say_from_against<F: Shelf, K: Sink>(
     budget: u64,
     tree: &str,
     shelf: &mut F,
-    out: &mut K,
+    out: &mut Outputs<K, E>,
 ) -> Status
     requires some { 1 ≤ budget }
     requires few { budget ≤ 1000000 }
-    ensures ends { Ends (Says (AgainstWork budget (F.state shelf.old).held tree.now inside.now outside.now problem.now) (λ other. other ≡ tree.now) (F.state shelf.old) (F.state shelf.new)) (K.state out.old) (K.state out.new) result }
+    ensures ends { Ends (Says (AgainstWork budget (F.state shelf.old).held tree.now inside.now outside.now problem.now) (λ other. other ≡ tree.now) (F.state shelf.old) (F.state shelf.new)) out.old out.new result }
     ensures keeps { Keeps (F.state shelf.old) (F.state shelf.new) }
 {
     let Ok(graph) = Graph::of(alloc, problem) else {
@@ -172,24 +176,27 @@ fn say_from_against<F: Shelf, K: Sink>(
     };
     match start_of(problem, &graph, inside, outside) {
         Some(start) => say_tree(alloc, problem, &graph, &start, budget, tree, shelf, out),
-        None => say(out, b"bad node\n", Status::BadNode),
+        None => {
+            let notes = bad_node(alloc);
+            tell(out, b"bad node\n", notes.bytes(), Status::BadNode)
+        }
     }
 }
 
 /// Says what a search of the structures of a node of the file's problem finds within the budget, as the text of a part. The words are
 /// the tokens of the units that are taken in at the node and of those that are left out.
-pub fn part<F: Shelf, K: Sink>(
+pub fn part<F: Shelf, K: Sink, E: Sink>(
     alloc: Global,
     file: &str,
     inside: &str,
     outside: &str,
     budget: u64,
     shelf: &mut F,
-    out: &mut K,
+    out: &mut Outputs<K, E>,
 ) -> Status
     requires some { 1 ≤ budget }
     requires few { budget ≤ 1000000 }
-    ensures ends { Ends (FileSays (PartWork budget inside.now outside.now) file.now (F.state shelf.old) (F.state shelf.new)) (K.state out.old) (K.state out.new) result }
+    ensures ends { Ends (FileSays (PartWork budget inside.now outside.now) file.now (F.state shelf.old) (F.state shelf.new)) out.old out.new result }
     ensures keeps { Keeps (F.state shelf.old) (F.state shelf.new) }
 {
     match problem_of(alloc, shelf, out, file) {
@@ -199,7 +206,7 @@ pub fn part<F: Shelf, K: Sink>(
 }
 
 /// The same, where the search begins with the network that the tree of the other file claims as its best; a claim of none is passed over.
-pub fn part_against<F: Shelf, K: Sink>(
+pub fn part_against<F: Shelf, K: Sink, E: Sink>(
     alloc: Global,
     file: &str,
     inside: &str,
@@ -207,11 +214,11 @@ pub fn part_against<F: Shelf, K: Sink>(
     budget: u64,
     tree: &str,
     shelf: &mut F,
-    out: &mut K,
+    out: &mut Outputs<K, E>,
 ) -> Status
     requires some { 1 ≤ budget }
     requires few { budget ≤ 1000000 }
-    ensures ends { Ends (TwoFilesSay (λ held name. AgainstWork budget held name inside.now outside.now) file.now tree.now (F.state shelf.old) (F.state shelf.new)) (K.state out.old) (K.state out.new) result }
+    ensures ends { Ends (TwoFilesSay (λ held name. AgainstWork budget held name inside.now outside.now) file.now tree.now (F.state shelf.old) (F.state shelf.new)) out.old out.new result }
     ensures keeps { Keeps (F.state shelf.old) (F.state shelf.new) }
 {
     match problem_of(alloc, shelf, out, file) {

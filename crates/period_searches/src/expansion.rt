@@ -12,7 +12,7 @@ ghost use Rattle.studio_rules.specs.Keeps.{Keeps};
 use command_files::{plan_of, problem_of};
 use endings::say::say_made;
 use periods::Plan;
-use pns_io::{Shelf, Sink};
+use pns_io::{Outputs, Shelf, Sink};
 use pns_problem::Problem;
 use std::alloc::{AllocError, Global};
 use studio_rules::Status;
@@ -26,14 +26,14 @@ fn expanded_text(alloc: Global, problem: &Problem, plan: &Plan) -> Result<Vec<u8
     whole.canonical_text(alloc)
 }
 
-fn say_expanded<F: Shelf, K: Sink>(
+fn say_expanded<F: Shelf, K: Sink, E: Sink>(
     alloc: Global,
     problem: &Problem,
     plan: &str,
     shelf: &mut F,
-    out: &mut K,
+    out: &mut Outputs<K, E>,
 ) -> Status
-    ensures ends { Ends (Says (OnPlan ExpandWork (F.state shelf.old).held plan.now problem.now) (λ other. other ≡ plan.now) (F.state shelf.old) (F.state shelf.new)) (K.state out.old) (K.state out.new) result }
+    ensures ends { Ends (Says (OnPlan ExpandWork (F.state shelf.old).held plan.now problem.now) (λ other. other ≡ plan.now) (F.state shelf.old) (F.state shelf.new)) out.old out.new result }
     ensures keeps { Keeps (F.state shelf.old) (F.state shelf.new) }
 {
     match plan_of(alloc, shelf, out, plan, problem) {
@@ -43,14 +43,14 @@ fn say_expanded<F: Shelf, K: Sink>(
 }
 
 /// Puts the canonical text of the file's problem and the plan's periods as one ordinary problem.
-pub fn expand<F: Shelf, K: Sink>(
+pub fn expand<F: Shelf, K: Sink, E: Sink>(
     alloc: Global,
     file: &str,
     plan: &str,
     shelf: &mut F,
-    out: &mut K,
+    out: &mut Outputs<K, E>,
 ) -> Status
-    ensures ends { Ends (TwoFilesSay (OnPlan ExpandWork) file.now plan.now (F.state shelf.old) (F.state shelf.new)) (K.state out.old) (K.state out.new) result }
+    ensures ends { Ends (TwoFilesSay (OnPlan ExpandWork) file.now plan.now (F.state shelf.old) (F.state shelf.new)) out.old out.new result }
     ensures keeps { Keeps (F.state shelf.old) (F.state shelf.new) }
 {
     match problem_of(alloc, shelf, out, file) {

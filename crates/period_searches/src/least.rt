@@ -18,7 +18,7 @@ use endings::say::{say, say_made, say_memory};
 use periods::{Plan, expand};
 use pgraph::Graph;
 use plan_laws::plans_are_short;
-use pns_io::Sink;
+use pns_io::{Outputs, Sink};
 use pns_problem::Problem;
 use searches::{say_found, search_all};
 use std::alloc::{AllocError, Global};
@@ -43,9 +43,9 @@ fn network_text(
 }
 
 /// Searches the expanded problem, and says what comes of it for the plant.
-fn say_searched<K: Sink>(
+fn say_searched<K: Sink, E: Sink>(
     alloc: Global,
-    out: &mut K,
+    out: &mut Outputs<K, E>,
     problem: &Problem,
     plan: &Plan,
     whole: &Problem,
@@ -55,7 +55,7 @@ fn say_searched<K: Sink>(
     requires whole { whole.now ≡ expanded problem.now plan.now }
     requires some { 1 ≤ budget }
     requires few { budget ≤ 1000000 }
-    ensures { Ends (Tells (PeriodsWork budget problem.now plan.now)) (K.state out.old) (K.state out.new) result }
+    ensures { Ends (Tells (PeriodsWork budget problem.now plan.now)) out.old out.new result }
 {
     let Ok(graph) = Graph::of(alloc, whole) else {
         return say_memory(out);
@@ -71,14 +71,14 @@ fn say_searched<K: Sink>(
             network_text(alloc, problem, plan, &network),
         ),
         Found::Infeasible { .. } => say(out, b"infeasible\n", Status::Done),
-        stopped => say_found(alloc, out, whole, stopped),
+        stopped => say_found(alloc, out, whole, stopped, budget),
     }
 }
 
 /// Says a design of least cost, or that the plant has none; or how far the search of the expanded problem came.
-pub fn say_least<K: Sink>(
+pub fn say_least<K: Sink, E: Sink>(
     alloc: Global,
-    out: &mut K,
+    out: &mut Outputs<K, E>,
     problem: &Problem,
     plan: &Plan,
     budget: u64,
@@ -86,7 +86,7 @@ pub fn say_least<K: Sink>(
     requires plan { IsPlan problem.now plan.now }
     requires some { 1 ≤ budget }
     requires few { budget ≤ 1000000 }
-    ensures { Ends (Tells (PeriodsWork budget problem.now plan.now)) (K.state out.old) (K.state out.new) result }
+    ensures { Ends (Tells (PeriodsWork budget problem.now plan.now)) out.old out.new result }
 {
     match expand(alloc, problem, plan) {
         Ok(whole) => say_searched(alloc, out, problem, plan, &whole, budget),

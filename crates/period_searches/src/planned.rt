@@ -8,22 +8,22 @@ ghost use Rattle.studio_rules.specs.Periods.{PeriodsWork};
 
 use crate::least::say_least;
 use command_files::{plan_of, problem_of};
-use pns_io::{Shelf, Sink};
+use pns_io::{Outputs, Shelf, Sink};
 use pns_problem::Problem;
 use std::alloc::Global;
 use studio_rules::Status;
 
-fn say_planned<F: Shelf, K: Sink>(
+fn say_planned<F: Shelf, K: Sink, E: Sink>(
     alloc: Global,
     problem: &Problem,
     plan: &str,
     budget: u64,
     shelf: &mut F,
-    out: &mut K,
+    out: &mut Outputs<K, E>,
 ) -> Status
     requires some { 1 ≤ budget }
     requires few { budget ≤ 1000000 }
-    ensures ends { Ends (Says (OnPlan (PeriodsWork budget) (F.state shelf.old).held plan.now problem.now) (λ other. other ≡ plan.now) (F.state shelf.old) (F.state shelf.new)) (K.state out.old) (K.state out.new) result }
+    ensures ends { Ends (Says (OnPlan (PeriodsWork budget) (F.state shelf.old).held plan.now problem.now) (λ other. other ≡ plan.now) (F.state shelf.old) (F.state shelf.new)) out.old out.new result }
     ensures keeps { Keeps (F.state shelf.old) (F.state shelf.new) }
 {
     match plan_of(alloc, shelf, out, plan, problem) {
@@ -34,17 +34,17 @@ fn say_planned<F: Shelf, K: Sink>(
 
 /// Says a design of least cost for the file's problem over the periods of the plan, or that there is none; or how far the search of
 /// the expanded problem came.
-pub fn periods<F: Shelf, K: Sink>(
+pub fn periods<F: Shelf, K: Sink, E: Sink>(
     alloc: Global,
     file: &str,
     plan: &str,
     budget: u64,
     shelf: &mut F,
-    out: &mut K,
+    out: &mut Outputs<K, E>,
 ) -> Status
     requires some { 1 ≤ budget }
     requires few { budget ≤ 1000000 }
-    ensures ends { Ends (TwoFilesSay (OnPlan (PeriodsWork budget)) file.now plan.now (F.state shelf.old) (F.state shelf.new)) (K.state out.old) (K.state out.new) result }
+    ensures ends { Ends (TwoFilesSay (OnPlan (PeriodsWork budget)) file.now plan.now (F.state shelf.old) (F.state shelf.new)) out.old out.new result }
     ensures keeps { Keeps (F.state shelf.old) (F.state shelf.new) }
 {
     match problem_of(alloc, shelf, out, file) {

@@ -1,7 +1,8 @@
-//! The program `pns`: its words call the studio over the files of the system, the standard input and the standard output.
+//! The program `pns`: its words call the studio over the files of the system, the standard input, the standard output and
+//! the standard error.
 #![tactic(auto)]
 
-use pns_io::{FileShelf, OutSink};
+use pns_io::{FileShelf, OutSink, Outputs};
 use std::alloc::Global;
 use std::env;
 use std::io::ErrorKind;
@@ -41,7 +42,8 @@ fn main(rt: HostRuntime) -> ExitCode {
         Err(code) => return ExitCode::from(code),
     };
     let mut shelf = FileShelf::new(&rt, rt.stdin());
-    let mut out = OutSink::new(&rt);
+    let errors = rt.stderr();
+    let mut out = Outputs::new(OutSink::new(&rt), OutSink::new(&errors));
     let status = studio(rt.alloc(), &words, &mut shelf, &mut out);
     ExitCode::from(code_of(status))
 }

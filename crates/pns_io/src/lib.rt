@@ -5,8 +5,8 @@
 //! a fault can say whose it was. [`read_all`] gives the whole of a file that is within a limit.
 //!
 //! `MemShelf` and `MemSink` are exact and fail where they are told to; `PlainShelf` and `PlainSink` never fail;
-//! `FileShelf` is the files of the system and the standard input, and `OutSink` the standard output. Nothing is told of them but their
-//! counts.
+//! `FileShelf` is the files of the system and the standard input, and `OutSink` the standard output or the standard error. Nothing is
+//! told of them but their counts. [`Outputs`] is the two sinks of a call.
 #![tactic(auto)]
 
 mod file_shelf;
@@ -14,6 +14,7 @@ mod mem_shelf;
 mod mem_sink;
 mod named_file;
 mod out_sink;
+mod outputs;
 mod plain_shelf;
 mod plain_sink;
 mod shelf;
@@ -24,6 +25,7 @@ pub use file_shelf::FileShelf;
 pub use mem_shelf::MemShelf;
 pub use mem_sink::MemSink;
 pub use out_sink::OutSink;
+pub use outputs::Outputs;
 pub use plain_shelf::PlainShelf;
 pub use plain_sink::PlainSink;
 pub use shelf::Shelf;

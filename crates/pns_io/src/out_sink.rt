@@ -1,4 +1,4 @@
-//! The standard output.
+//! An output of the system.
 ghost use Rattle.std.specs.Prelude.{◌≡◌, ◌≤◌, OnOk, OnErr, None};
 ghost use Rattle.std.specs.Io.KnownBytes.{Appends};
 ghost use Rattle.text_rules.specs.Outside.{HasRisen, AppendsFront, counted};
@@ -6,8 +6,8 @@ ghost use Rattle.text_rules.specs.Outside.{HasRisen, AppendsFront, counted};
 use crate::{Failed, Sink};
 use std::marker::Model;
 
-/// The standard output. What was written is not told; contracts see the count of the puts that failed, which stays at
-/// 2^64 - 1.
+/// An output of the system: the standard output, or the standard error. What was written is not told; contracts see the
+/// count of the puts that failed, which stays at 2^64 - 1.
 #[derive(Drop)]
 pub struct OutSink<'a, R> {
     rt: &'a R,

@@ -6,7 +6,7 @@ use Rattle.rank_rules.specs.Ranked.{IsRanked}
 use Rattle.rank_laws.specs.Laws.{ListedAreLeast, OthersCostEnough, OthersHaveNone}
 use Rattle.rank_rules.specs.Text.{Text, ranking_of}
 use Rattle.studio_rules.specs.Reading.{TwoFilesSay}
-use Rattle.io_rules.specs.State.{ShelfState, SinkState}
+use Rattle.io_rules.specs.State.{ShelfState, OutputsState}
 use Rattle.studio_rules.specs.Ending.{Ends}
 use Rattle.studio_rules.specs.declared.status.Status.{Status}
 use Rattle.studio_rules.specs.declared.status.Status.TheVariants.{Done}
@@ -41,7 +41,7 @@ module _ (listed : ListedAreLeast) (full : OthersCostEnough) (fewer : OthersHave
       }
 
 -- what is out with status 0 is such an answer
-pub done_ends : AcceptedAreBest → (old new : ShelfState) (file rank : List ℕ) (before after : SinkState) (s : Status) → Ends (TwoFilesSay OnRank file rank old new) before after s → s ≡ Done → FilesListBest old.held file rank
+pub done_ends : AcceptedAreBest → (old new : ShelfState) (file rank : List ℕ) (before after : OutputsState) (s : Status) → Ends (TwoFilesSay OnRank file rank old new) before after s → s ≡ Done → FilesListBest old.held file rank
 done_ends law old new file rank before after s e done =
     let said = subst (λ (t : Status). Ends (TwoFilesSay OnRank file rank old new) before after t) done e in
     law old.held file rank said.1.0 said.1.1

@@ -13,7 +13,7 @@ use crate::words::rank_why_word;
 use command_files::problem_of;
 use endings::say::{say, say_memory};
 use pgraph::{Graph, Site};
-use pns_io::{Shelf, Sink};
+use pns_io::{Outputs, Shelf, Sink};
 use pns_problem::Problem;
 use rank_check::{RankRefusal, check_rank};
 use rank_laws::{listed_are_least, others_are_no_better};
@@ -44,8 +44,13 @@ fn node_line(alloc: Global, node: u32, why: RankWhy) -> Result<String, AllocErro
     Ok(text)
 }
 
-fn say_network<K: Sink>(alloc: Global, out: &mut K, number: u32, why: RankWhy) -> Status
-    ensures { Ends (OrMemory (Only Refused (line (network_line number why)))) (K.state out.old) (K.state out.new) result }
+fn say_network<K: Sink, E: Sink>(
+    alloc: Global,
+    out: &mut Outputs<K, E>,
+    number: u32,
+    why: RankWhy,
+) -> Status
+    ensures { Ends (OrMemory (Only Refused (line (network_line number why)))) out.old out.new result }
 {
     match network_line(alloc, number, why) {
         Ok(text) => say(out, text.as_bytes(), Status::Refused),
@@ -53,8 +58,13 @@ fn say_network<K: Sink>(alloc: Global, out: &mut K, number: u32, why: RankWhy) -
     }
 }
 
-fn say_node<K: Sink>(alloc: Global, out: &mut K, node: u32, why: RankWhy) -> Status
-    ensures { Ends (OrMemory (Only Refused (line (rank_node_line node why)))) (K.state out.old) (K.state out.new) result }
+fn say_node<K: Sink, E: Sink>(
+    alloc: Global,
+    out: &mut Outputs<K, E>,
+    node: u32,
+    why: RankWhy,
+) -> Status
+    ensures { Ends (OrMemory (Only Refused (line (rank_node_line node why)))) out.old out.new result }
 {
     match node_line(alloc, node, why) {
         Ok(text) => say(out, text.as_bytes(), Status::Refused),
@@ -63,9 +73,14 @@ fn say_node<K: Sink>(alloc: Global, out: &mut K, node: u32, why: RankWhy) -> Sta
 }
 
 /// Says whether the tree proves the ranking, or else the first network or the first node that fails.
-fn say_judged<K: Sink>(alloc: Global, out: &mut K, site: &Site<'_>, text: &RankText) -> Status
+fn say_judged<K: Sink, E: Sink>(
+    alloc: Global,
+    out: &mut Outputs<K, E>,
+    site: &Site<'_>,
+    text: &RankText,
+) -> Status
     requires few { length text.now.tree < 2 ^ 32 }
-    ensures { Ends (Tells (RankcheckWork site.now text.now)) (K.state out.old) (K.state out.new) result }
+    ensures { Ends (Tells (RankcheckWork site.now text.now)) out.old out.new result }
 {
     match check_rank(alloc, site, text) {
         Ok(()) => say(out, b"accepted\n", Status::Done),
@@ -76,9 +91,14 @@ fn say_judged<K: Sink>(alloc: Global, out: &mut K, site: &Site<'_>, text: &RankT
 }
 
 /// The same, once the problem's graph is made.
-fn say_checked<K: Sink>(alloc: Global, out: &mut K, problem: &Problem, text: &RankText) -> Status
+fn say_checked<K: Sink, E: Sink>(
+    alloc: Global,
+    out: &mut Outputs<K, E>,
+    problem: &Problem,
+    text: &RankText,
+) -> Status
     requires few { length text.now.tree < 2 ^ 32 }
-    ensures { Ends (Tells (RankcheckWork problem.now text.now)) (K.state out.old) (K.state out.new) result }
+    ensures { Ends (Tells (RankcheckWork problem.now text.now)) out.old out.new result }
 {
     let Ok(graph) = Graph::of(alloc, problem) else {
         return say_memory(out);
@@ -87,14 +107,14 @@ fn say_checked<K: Sink>(alloc: Global, out: &mut K, problem: &Problem, text: &Ra
     say_judged(alloc, out, &site, text)
 }
 
-fn say_rank<F: Shelf, K: Sink>(
+fn say_rank<F: Shelf, K: Sink, E: Sink>(
     alloc: Global,
     problem: &Problem,
     name: &str,
     shelf: &mut F,
-    out: &mut K,
+    out: &mut Outputs<K, E>,
 ) -> Status
-    ensures ends { Ends (Says (OnRank (F.state shelf.old).held name.now problem.now) (λ other. other ≡ name.now) (F.state shelf.old) (F.state shelf.new)) (K.state out.old) (K.state out.new) result }
+    ensures ends { Ends (Says (OnRank (F.state shelf.old).held name.now problem.now) (λ other. other ≡ name.now) (F.state shelf.old) (F.state shelf.new)) out.old out.new result }
     ensures keeps { Keeps (F.state shelf.old) (F.state shelf.new) }
 {
     match rank_of(alloc, shelf, out, name, problem) {
@@ -112,14 +132,14 @@ pub fn accepted_are_best()
 }
 
 /// Says whether the tree of the ranking of the one file proves it on the problem of the other.
-pub fn rankcheck<F: Shelf, K: Sink>(
+pub fn rankcheck<F: Shelf, K: Sink, E: Sink>(
     alloc: Global,
     file: &str,
     rank: &str,
     shelf: &mut F,
-    out: &mut K,
+    out: &mut Outputs<K, E>,
 ) -> Status
-    ensures ends { Ends (TwoFilesSay OnRank file.now rank.now (F.state shelf.old) (F.state shelf.new)) (K.state out.old) (K.state out.new) result }
+    ensures ends { Ends (TwoFilesSay OnRank file.now rank.now (F.state shelf.old) (F.state shelf.new)) out.old out.new result }
     ensures keeps { Keeps (F.state shelf.old) (F.state shelf.new) }
     // With status 0 the one file gives a valid problem and the other networks, which are the best.
     ensures accepted { result ≡ Done → FilesListBest (F.state shelf.old).held file.now rank.now }

@@ -8,7 +8,8 @@ ghost use Rattle.studio_rules.specs.Keeps.{Keeps};
 
 use command_files::{bytes_of, say_tree_fault};
 use endings::say::say_memory;
-use pns_io::{Shelf, Sink};
+use messages::{Format, Source};
+use pns_io::{Outputs, Shelf, Sink};
 use pns_problem::Problem;
 use rank_text::read_rank;
 use ranked_tree::RankText;
@@ -21,10 +22,10 @@ const RANK_LIMIT: u64 = 268_435_456;
 
 /// Reads the file and judges its text as a ranking for the problem. Where that gives none the text that tells why is out, and the
 /// status is that of the call.
-pub(crate) fn rank_of<F: Shelf, K: Sink>(
+pub(crate) fn rank_of<F: Shelf, K: Sink, E: Sink>(
     alloc: Global,
     shelf: &mut F,
-    out: &mut K,
+    out: &mut Outputs<K, E>,
     name: &str,
     problem: &Problem,
 ) -> Result<RankText, Status>
@@ -33,7 +34,7 @@ pub(crate) fn rank_of<F: Shelf, K: Sink>(
     ensures known { IfOk result (KnowsText problem.now) }
     ensures silent { OnOk result (out.new ≡ out.old) }
     ensures keeps { Keeps (F.state shelf.old) (F.state shelf.new) }
-    ensures told { IfErr result (Ends (Says (RankFaults (F.state shelf.old).held name.now problem.now) (λ other. other ≡ name.now) (F.state shelf.old) (F.state shelf.new)) (K.state out.old) (K.state out.new)) }
+    ensures told { IfErr result (Ends (Says (RankFaults (F.state shelf.old).held name.now problem.now) (λ other. other ≡ name.now) (F.state shelf.old) (F.state shelf.new)) out.old out.new) }
 {
     let bytes = match bytes_of(alloc, shelf, out, name, RANK_LIMIT) {
         Ok(bytes) => bytes,
@@ -41,7 +42,13 @@ pub(crate) fn rank_of<F: Shelf, K: Sink>(
     };
     match read_rank(alloc, problem, &bytes) {
         Ok(text) => Ok(text),
-        Err(TreeFault::At { line, kind }) => Err(say_tree_fault(alloc, out, line, kind)),
+        Err(TreeFault::At { line, kind }) => {
+            let source = Source {
+                text: &bytes,
+                format: Format::Rank,
+            };
+            Err(say_tree_fault(alloc, out, source, line, kind))
+        }
         Err(TreeFault::Memory) => Err(say_memory(out)),
     }
 }

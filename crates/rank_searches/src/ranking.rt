@@ -13,7 +13,7 @@ ghost use Rattle.studio_rules.specs.Ending.{Ends, Tells};
 
 use branch_tree::Network;
 use endings::say::{say_memory, say_printed};
-use pns_io::Sink;
+use pns_io::{Outputs, Sink};
 use pns_problem::Problem;
 use rank_search::Ranked;
 use rank_text::{print_rank, spelled_ranks_read};
@@ -89,25 +89,30 @@ fn reads_back(problem: &Problem, text: &RankText)
 }
 
 /// Prints the ranking. The status tells where the search stopped.
-fn say_ranking<K: Sink>(alloc: Global, out: &mut K, problem: &Problem, text: &RankText) -> Status
+fn say_ranking<K: Sink, E: Sink>(
+    alloc: Global,
+    out: &mut Outputs<K, E>,
+    problem: &Problem,
+    text: &RankText,
+) -> Status
     requires known { KnowsText problem.now text.now }
     requires few { length text.now.tree < 2 ^ 32 }
-    ensures { Ends (Tells (RankingSays problem.now text.now)) (K.state out.old) (K.state out.new) result }
+    ensures { Ends (Tells (RankingSays problem.now text.now)) out.old out.new result }
 {
     reads_back(problem, text);
-    let printed = print_rank(alloc, problem, text, out);
+    let printed = print_rank(alloc, problem, text, &mut out.out);
     say_printed(out, printed, status_of(text.tail()))
 }
 
 /// Prints what was found.
-pub(crate) fn say_found<K: Sink>(
+pub(crate) fn say_found<K: Sink, E: Sink>(
     alloc: Global,
-    out: &mut K,
+    out: &mut Outputs<K, E>,
     problem: &Problem,
     ranked: Ranked,
 ) -> Status
     requires { (count : ℕ) × (budget : ℕ) × IsRankedTo problem.now count budget ranked }
-    ensures { Ends (Tells (FoundSays problem.now ranked)) (K.state out.old) (K.state out.new) result }
+    ensures { Ends (Tells (FoundSays problem.now ranked)) out.old out.new result }
 {
     match ranking_found(ranked) {
         Some(text) => say_ranking(alloc, out, problem, &text),

@@ -5,4 +5,4 @@
 
 mod words;
 
-pub use words::{say_node, why_word};
+pub use words::{say_node, tell_node, why_word};

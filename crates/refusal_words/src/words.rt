@@ -2,11 +2,12 @@
 ghost use Rattle.std.specs.Prelude.{◌≡◌, IfOk, string_bytes};
 ghost use Rattle.studio_rules.specs.Lines.{line};
 ghost use Rattle.studio_rules.specs.Ending.{Ends, Only, OrMemory};
-ghost use Rattle.studio_rules.specs.declared.status.Status.TheVariants.{Refused};
+ghost use Rattle.studio_rules.specs.declared.status.Status.TheVariants.{Refused, BadClaim};
 ghost use Rattle.studio_rules.specs.RefusalWords.{why_word, node_line};
 
-use endings::say::{say, say_memory};
-use pns_io::Sink;
+use endings::say::{say, say_memory, tell};
+use messages::refused;
+use pns_io::{Outputs, Sink};
 use std::alloc::{AllocError, Global};
 use studio_rules::Status;
 use tree_rules::Why;
@@ -43,12 +44,33 @@ fn node_line(alloc: Global, node: u32, why: Why) -> Result<String, AllocError>
     Ok(text)
 }
 
-/// Says that the node, counted from 0 in preorder, is refused, and why.
-pub fn say_node<K: Sink>(alloc: Global, out: &mut K, node: u32, why: Why) -> Status
-    ensures { Ends (OrMemory (Only Refused (line (node_line node why)))) (K.state out.old) (K.state out.new) result }
+/// Answers that the node, counted from 0 in preorder, is refused, and why.
+pub fn say_node<K: Sink, E: Sink>(
+    alloc: Global,
+    out: &mut Outputs<K, E>,
+    node: u32,
+    why: Why,
+) -> Status
+    ensures { Ends (OrMemory (Only Refused (line (node_line node why)))) out.old out.new result }
 {
     match node_line(alloc, node, why) {
         Ok(text) => say(out, text.as_bytes(), Status::Refused),
+        Err(_) => say_memory(out),
+    }
+}
+
+/// Tells that a command can't go on from a tree, whose node is refused, and why.
+pub fn tell_node<K: Sink, E: Sink>(
+    alloc: Global,
+    out: &mut Outputs<K, E>,
+    node: u32,
+    why: Why,
+) -> Status
+    ensures { Ends (OrMemory (Only BadClaim (line (node_line node why)))) out.old out.new result }
+{
+    let notes = refused(alloc, why);
+    match node_line(alloc, node, why) {
+        Ok(text) => tell(out, text.as_bytes(), notes.bytes(), Status::BadClaim),
         Err(_) => say_memory(out),
     }
 }

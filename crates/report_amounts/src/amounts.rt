@@ -60,7 +60,7 @@ pub fn share_of(network: &Network, u: u32, upper: i64) -> Number
 }
 
 /// A number of millionths.
-fn millionths(value: i64) -> Number
+pub(crate) fn millionths(value: i64) -> Number
     ensures { result ≡ quotient value million }
 {
     quotient(i128::from(value), 1_000_000)

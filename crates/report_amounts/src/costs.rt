@@ -6,9 +6,9 @@ ghost use Rattle.problem_rules.specs.Problem.{material_at};
 ghost use Rattle.flow_rules.specs.Net.{net_of, materials_of};
 ghost use Rattle.flow_rules.specs.Flows.{balance};
 ghost use Rattle.tree_rules.specs.Claim.{IsFeasible, size_in};
-ghost use Rattle.report_rules.specs.Amounts.{flowing, net, cost, part_of, cost_sum};
+ghost use Rattle.report_rules.specs.Amounts.{flowing, net, price, cost, part_of, cost_sum};
 
-use crate::amounts::quotient;
+use crate::amounts::{millionths, quotient};
 use crate::number::Number;
 use branch_tree::Network;
 use pgraph::Site;
@@ -54,6 +54,14 @@ pub fn net(problem: &Problem, network: &Network, j: u32) -> Number
     ensures { result ≡ net problem.now network.now j }
 {
     flowing(problem, network, j, 1, 1_000_000_000_000)
+}
+
+/// The price of the material.
+pub fn price(problem: &Problem, j: u32) -> Number
+    requires { j < length problem.now.materials }
+    ensures { result ≡ price problem.now j }
+{
+    millionths(material_of(problem, j).price)
 }
 
 fn turned(price: i64) -> i128

@@ -1,9 +1,9 @@
 //! Fractions that may be past.
-ghost use Rattle.std.specs.Prelude.{◌≡◌, ◌++◌, ◌∷◌, [], ◌<ℤ◌, ◌*ℤ◌, ◌^◌, ◌*◌, ◌+◌, ◌/◌, ◌%◌, None, Some, pos, decimal, OnOk, string_bytes};
+ghost use Rattle.std.specs.Prelude.{◌≡◌, ◌++◌, ◌∷◌, [], ◌<ℤ◌, ◌*ℤ◌, ◌≤◌, ◌^◌, ◌*◌, ◌+◌, ◌/◌, ◌%◌, None, Some, pos, decimal, OnOk, option_map, string_bytes};
 ghost use Rattle.integer_laws.specs.Range.{InRange};
-ghost use Rattle.report_rules.specs.Number.{of, nothing, lowest, kept, times, plus, above, below, half_of, is_even, doubled_text, number_text, thousandths_text, share_text};
+ghost use Rattle.report_rules.specs.Number.{of, nothing, lowest, kept, times, plus, above, below, half_of, doubled_text, number_with, places_of, number_text, thousandths_text, share_text};
 
-use decimals::push_rounded;
+use decimals::{places_behind, push_signed, scale_of};
 use frac128::Frac;
 use std::alloc::AllocError;
 use std::marker::Model;
@@ -47,6 +47,13 @@ impl Number {
         ensures { result ≡ None }
     {
         Number { fraction: None }
+    }
+
+    /// The fraction, if there is one.
+    pub fn fraction(&self) -> Option<Frac>
+        ensures { option_map (λ f. record { num = f.num; den = f.den }) result ≡ self.now }
+    {
+        self.fraction
     }
 
     /// The product.
@@ -106,12 +113,25 @@ impl Number {
     }
 
     /// Appends the number with so many places, where the scale is the power of ten of the places, or `past`.
-    pub fn push(&self, text: &mut String, places: u32, scale: u64) -> Result<(), AllocError>
+    fn push_with(&self, text: &mut String, places: u32, scale: u64) -> Result<(), AllocError>
         requires { scale ≡ 10 ^ places }
-        ensures { OnOk result (string_bytes text.new ≡ string_bytes text.old ++ number_text places self.now) }
+        ensures { OnOk result (string_bytes text.new ≡ string_bytes text.old ++ number_with places self.now) }
     {
         let doubled = self.times(&Number::of(2 * i128::from(scale), 1));
         doubled.push_doubled(text, places, scale)
+    }
+
+    /// Appends the number with six digits where it has more, or `past`.
+    pub fn push(&self, text: &mut String) -> Result<(), AllocError>
+        ensures { OnOk result (string_bytes text.new ≡ string_bytes text.old ++ number_text self.now) }
+    {
+        match self.fraction {
+            None => text.push_str("past"),
+            Some(fraction) => {
+                let places = places_of(&fraction);
+                self.push_with(text, places, scale_of(places))
+            }
+        }
     }
 
     fn push_thousandths(&self, text: &mut String) -> Result<(), AllocError>
@@ -186,12 +206,13 @@ fn half_of(fraction: &Frac) -> u128
     (fraction.num().unsigned_abs() + den) / (2 * den)
 }
 
-fn is_even(fraction: &Frac) -> bool
-    ensures { result ≡ is_even (record { num = fraction.now.num; den = fraction.now.den }) }
+/// Six places, less one for each digit of the whole part.
+fn places_of(fraction: &Frac) -> u32
+    ensures value { result ≡ places_of (record { num = fraction.now.num; den = fraction.now.den }) }
+    ensures few { result ≤ 6 }
 {
     let num = fraction.num().unsigned_abs();
-    let den = fraction.den().unsigned_abs();
-    den == 1 && num % 2 == 0
+    places_behind(6, num / fraction.den().unsigned_abs())
 }
 
 fn push_fraction(
@@ -203,9 +224,8 @@ fn push_fraction(
     requires { scale ≡ 10 ^ places }
     ensures { OnOk result (string_bytes text.new ≡ string_bytes text.old ++ doubled_text places (Some (record { num = fraction.now.num; den = fraction.now.den }))) }
 {
-    let exact = is_even(fraction);
     let negative = fraction.num() < 0;
-    push_rounded(text, places, scale, exact, negative, half_of(fraction))
+    push_signed(text, places, scale, negative, half_of(fraction))
 }
 
 /// Tenths with their one place.

@@ -1,10 +1,11 @@
 -- Rows of cells as lines whose columns stand under each other. A column of words stands to the left. In a column of numbers the points
 -- stand under each other: what stands before a point is as wide as the widest such text of the column, and so is what stands from the
--- point on, and all is as wide as the heading at least. Columns are parted by two spaces, and no line ends with a space.
-use Rattle.std.specs.Prelude.{ℕ, ◌+◌, ◌-◌, ◌==◌, nat_lt, Bool, true, false, List, [], ◌∷◌, ◌++◌, map, length, replicate, slice_index_or, if◌then◌else◌}
+-- point on, and all is as wide as the heading at least. Columns are parted by two spaces, and no line ends with a space. A column that
+-- tells nothing is left out.
+use Rattle.std.specs.Prelude.{ℕ, ◌+◌, ◌-◌, ◌==◌, ◌&&◌, ◌||◌, not, nat_lt, Bool, true, false, List, [], ◌∷◌, ◌++◌, map, length, replicate, slice_index_or, if◌then◌else◌}
 use Rattle.std.specs.List.{position_or_len}
 use Rattle.report_rules.specs.declared.column.Sort.{Sort}
-use Rattle.report_rules.specs.declared.column.Sort.TheVariants.{Words, Numbers}
+use Rattle.report_rules.specs.declared.column.Sort.TheVariants.{Words, Numbers, Sums}
 use Rattle.report_rules.specs.declared.column.Measure.{Measure}
 use Rattle.report_rules.specs.declared.column.Measure.TheVariants.{Whole, Front, Back}
 
@@ -32,22 +33,47 @@ abbrev pub widest : Measure → ℕ → ℕ → List (List (List ℕ)) → ℕ
 widest m k n [] = n
 widest m k n (row ∷ rows) = widest m k (greater n (measured m (cell_at k row))) rows
 
--- What stands in a column and how wide it is: before the point, from the point on, and what is left of the heading's width. A column
--- of words is all before the point.
+abbrev pub is_nothing : ℕ → Bool
+is_nothing c = c == 48 || (c == 45 || c == 46)
+
+-- a cell of 0, of `-`, or of nothing: it has no other bytes than `0`, `-` and the point
+abbrev pub tells_nothing : List ℕ → Bool
+tells_nothing [] = true
+tells_nothing (c ∷ cs) = is_nothing c && tells_nothing cs
+
+-- so are all cells in column k
+abbrev pub all_tell_nothing : ℕ → List (List (List ℕ)) → Bool
+all_tell_nothing k [] = true
+all_tell_nothing k (row ∷ rows) = tells_nothing (cell_at k row) && all_tell_nothing k rows
+
+-- What stands in a column and how wide it is: before the point, from the point on, and what is left of the heading's width; and whether
+-- the column is kept. A column of words is all before the point.
 pub record Column : Type 0 where
   pub sort : Sort
   pub front : ℕ
   pub back : ℕ
   pub room : ℕ
+  pub kept : Bool
 
-abbrev pub column_at : Sort → ℕ → List (List ℕ) → List (List (List ℕ)) → Column
-column_at Words k heading rows = record { sort = Words; front = widest Whole k (length (cell_at k heading)) rows; back = 0; room = 0 }
-column_at Numbers k heading rows = record {
-  sort = Numbers;
+abbrev pub numbers_at : Sort → ℕ → List (List ℕ) → List (List (List ℕ)) → Bool → Column
+numbers_at s k heading rows kept = record {
+  sort = s;
   front = widest Front k 0 rows;
   back = widest Back k 0 rows;
   room = length (cell_at k heading) - widest Front k 0 rows - widest Back k 0 rows;
+  kept = kept;
 }
+
+abbrev pub column_at : Sort → ℕ → List (List ℕ) → List (List (List ℕ)) → Column
+column_at Words k heading rows = record {
+  sort = Words;
+  front = widest Whole k (length (cell_at k heading)) rows;
+  back = 0;
+  room = 0;
+  kept = not (all_tell_nothing k rows);
+}
+column_at Numbers k heading rows = numbers_at Numbers k heading rows (not (all_tell_nothing k rows))
+column_at Sums k heading rows = numbers_at Sums k heading rows true
 
 abbrev pub columns_from : ℕ → List Sort → List (List ℕ) → List (List (List ℕ)) → List Column
 columns_from k [] heading rows = []
@@ -56,6 +82,7 @@ columns_from k (s ∷ ss) heading rows = column_at s k heading rows ∷ columns_
 abbrev pub by_sort : {A : Type 0} → Sort → A → A → A
 by_sort Words x y = x
 by_sort Numbers x y = y
+by_sort Sums x y = y
 
 -- the spaces before a number or its heading, which stands to the right, and those behind a word, its heading or a number
 abbrev pub before : Bool → Column → List ℕ → List ℕ
@@ -73,12 +100,19 @@ shown gap cell = if length cell == 0 then [] else gap ++ cell
 abbrev pub gap_left : List ℕ → List ℕ → List ℕ
 gap_left gap cell = if length cell == 0 then gap else []
 
--- the cells from column k on behind a gap, as headings or not
+-- a cell of a column, as a heading or not, behind a gap; and the gap behind it
+abbrev pub cell_text : Bool → Column → List ℕ → List ℕ → List ℕ
+cell_text heading c gap cell = if c.kept then shown (gap ++ before heading c cell) cell else []
+
+abbrev pub gap_behind : Bool → Column → List ℕ → List ℕ → List ℕ
+gap_behind heading c gap cell =
+    if c.kept then gap_left (gap ++ before heading c cell) cell ++ (behind heading c cell ++ 32 ∷ 32 ∷ []) else gap
+
+-- the cells from column k on behind a gap
 abbrev pub line_text : Bool → ℕ → List ℕ → List Column → List (List ℕ) → List ℕ
 line_text heading k gap [] row = []
 line_text heading k gap (c ∷ cs) row =
-    shown (gap ++ before heading c (cell_at k row)) (cell_at k row)
-    ++ line_text heading (k + 1) (gap_left (gap ++ before heading c (cell_at k row)) (cell_at k row) ++ (behind heading c (cell_at k row) ++ 32 ∷ 32 ∷ [])) cs row
+    cell_text heading c gap (cell_at k row) ++ line_text heading (k + 1) (gap_behind heading c gap (cell_at k row)) cs row
 
 -- a table: its headings and its rows
 abbrev pub table_lines : List Sort → List (List ℕ) → List (List (List ℕ)) → List (List ℕ)

@@ -82,6 +82,9 @@ flowing p w j num den = times (quotient (balance (net_of p) (has w.units) (size_
 abbrev pub net : Problem → Network → ℕ → Number
 net p w j = flowing p w j (pos 1) trillion
 
+abbrev pub price : Problem → ℕ → Number
+price p j = quotient (material_at p j).price million
+
 -- below 0 where what is left over is sold
 abbrev pub cost : Problem → Network → ℕ → Number
 cost p w j = flowing p w j (neg_ℤ (material_at p j).price) (pos 1000000000000000000)

@@ -6,3 +6,4 @@ pub mod Graph
 pub mod Number
 pub mod Report
 pub mod Table
+pub mod Verdict

@@ -2,7 +2,7 @@
 -- one that is formed for it has more.
 use Rattle.std.specs.Prelude.{ℕ, zero, suc, ◌+◌, ◌*◌, ◌/◌, ◌%◌, ◌^◌, ◌==◌, nat_lt, ◌&&◌, Bool, List, [], ◌∷◌, ◌++◌, Option, Some, None, ℤ, pos, ◌+ℤ◌, ◌*ℤ◌, unsigned_abs, int_lt, codes, decimal, if◌then◌else◌}
 use Rattle.text_rules.specs.Amount.{signed}
-use Rattle.report_rules.specs.Decimal.{rounded_text}
+use Rattle.report_rules.specs.Decimal.{signed_text, places_behind}
 
 pub record Fraction : Type 0 where
   pub num : ℤ
@@ -84,21 +84,26 @@ below (Some f) = if int_lt f.num (pos 0) then Some f else nothing
 abbrev pub half_of : Fraction → ℕ
 half_of f = (unsigned_abs f.num + unsigned_abs f.den) / (2 * unsigned_abs f.den)
 
--- whether half a number is whole
-abbrev pub is_even : Fraction → Bool
-is_even f = unsigned_abs f.den == 1 && unsigned_abs f.num % 2 == 0
-
 abbrev pub past : List ℕ
 past = codes "past"
 
 -- by the number that is twice its last places
 abbrev pub doubled_text : ℕ → Number → List ℕ
 doubled_text k None = past
-doubled_text k (Some f) = rounded_text k (is_even f) (int_lt f.num (pos 0)) (half_of f)
+doubled_text k (Some f) = signed_text k (int_lt f.num (pos 0)) (half_of f)
 
 -- with k places, and `past` where there is none
-abbrev pub number_text : ℕ → Number → List ℕ
-number_text k n = doubled_text k (times n (of (pos (2 * 10 ^ k)) (pos 1)))
+abbrev pub number_with : ℕ → Number → List ℕ
+number_with k n = doubled_text k (times n (of (pos (2 * 10 ^ k)) (pos 1)))
+
+-- six places, less one for each digit of the whole part
+abbrev pub places_of : Fraction → ℕ
+places_of f = places_behind 6 (unsigned_abs f.num / unsigned_abs f.den)
+
+-- with six digits where it has more
+abbrev pub number_text : Number → List ℕ
+number_text None = past
+number_text (Some f) = number_with (places_of f) (Some f)
 
 -- a share in per cent with one place, from 0 on, by twice its thousandths
 abbrev pub thousandths_text : Number → List ℕ

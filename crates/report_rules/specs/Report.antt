@@ -1,21 +1,21 @@
--- The report of a claimed network: a head, three tables and a foot, parted by empty lines.
-use Rattle.std.specs.Prelude.{ℕ, ◌*◌, Bool, false, not, List, [], ◌∷◌, ◌++◌, map, flat_map, length, ℤ, pos, neg_ℤ, ◌*ℤ◌, cond, unsigned_abs, int_lt, codes, decimal, if◌then◌else◌}
+-- The report of a claimed network: a head, three tables and a foot, parted by empty lines. Numbers have six digits where they have
+-- more; the whole part is never cut.
+use Rattle.std.specs.Prelude.{ℕ, ◌*◌, ◌&&◌, Bool, false, not, List, [], ◌∷◌, ◌++◌, map, flat_map, length, ℤ, pos, neg_ℤ, ◌*ℤ◌, cond, unsigned_abs, int_lt, codes, decimal, if◌then◌else◌}
 use Rattle.std.specs.Ordering.{int_eq}
 use Rattle.number_sets.specs.Sets.{has, listed}
 use Rattle.problem_rules.specs.Problem.{Problem, unit_at, material_at, is_raw_material}
 use Rattle.text_rules.specs.Canonical.{kind_word}
-use Rattle.text_rules.specs.Printed.{amount_bytes}
 use Rattle.flow_rules.specs.Net.{net_of, materials_of, million}
 use Rattle.flow_rules.specs.Flows.{balance}
 use Rattle.tree_rules.specs.Claim.{Network, size_in}
-use Rattle.report_rules.specs.Decimal.{decimal_text}
+use Rattle.report_rules.specs.Decimal.{six_digits}
 use Rattle.report_rules.specs.declared.column.Sort.{Sort}
-use Rattle.report_rules.specs.declared.column.Sort.TheVariants.{Words, Numbers}
+use Rattle.report_rules.specs.declared.column.Sort.TheVariants.{Words, Numbers, Sums}
 use Rattle.report_rules.specs.Aligned.{table_lines}
 use Rattle.report_rules.specs.Number.{Number, number_text, share_text}
 use Rattle.report_rules.specs.declared.amount.UnitAmount.TheVariants.{Fixed, Proportional, Investment, Total, Once, Made, Used}
 use Rattle.report_rules.specs.declared.cost_part.CostPart.TheVariants.{All, Costs, Incomes}
-use Rattle.report_rules.specs.Amounts.{size, share, amount, unit_sum, net, cost, cost_sum}
+use Rattle.report_rules.specs.Amounts.{size, share, amount, unit_sum, net, price, cost, cost_sum}
 
 -- ---- head
 
@@ -30,17 +30,23 @@ network_line p w =
     ++ counted (codes " materials, payout period ") (unsigned_abs p.payout))))
 
 abbrev pub head_lines : Problem → Network → List (List ℕ)
-head_lines p w = network_line p w ∷ codes "Money is for one year: costs are above 0, incomes below. A number after ~ is rounded." ∷ [] ∷ []
+head_lines p w =
+    codes "Rounded to 6 digits where needed; exact numbers: pns json" ∷ network_line p w
+    ∷ codes "Money is for one year: costs are above 0, incomes below." ∷ [] ∷ []
 
 -- ---- cells
 
--- with 9 places
 unfoldable pub number_cell : Number → List ℕ
-number_cell n = number_text 9 n
+number_cell n = number_text n
 
--- of the upper bound, where that is above 0
+-- 1000000000 in millionths: a bound that stands for none
+abbrev pub no_bound : ℤ
+no_bound = pos 1000000000000000
+
+-- of the upper bound, where that is above 0 and a bound
 abbrev pub share_cell : Problem → Network → ℕ → List ℕ
-share_cell p w i = if int_lt (pos 0) (unit_at p i).upper then share_text (share p w i) else 45 ∷ []
+share_cell p w i =
+    if int_lt (pos 0) (unit_at p i).upper && not (int_eq (unit_at p i).upper no_bound) then share_text (share p w i) else 45 ∷ []
 
 -- where a number over d is at one of its bounds: both are one, or it is at the upper one, or at a lower one that is not 0; else whether it is idle
 unfoldable pub idle_words : Bool → List ℕ
@@ -55,17 +61,26 @@ most_words idle lower upper z d = if int_eq z (upper *ℤ d) then codes "max" el
 unfoldable pub limit_words : Bool → ℤ → ℤ → ℤ → ℤ → List ℕ
 limit_words idle lower upper z d = if int_eq lower upper then codes "fixed" else most_words idle lower upper z d
 
+-- the words, but where the number is as large as a bound that stands for none
+unfoldable pub unbounded_or : ℤ → ℤ → ℤ → List ℕ → List ℕ
+unbounded_or none z d words = if int_eq z (none *ℤ d) then codes "UNBOUNDED?" else words
+
 -- of a unit its size, of a material what is left over of it, or of a raw material what is bought
 abbrev pub unit_limit : Problem → Network → ℕ → List ℕ
-unit_limit p w i = limit_words (int_eq (size_in w i) (pos 0)) (unit_at p i).lower (unit_at p i).upper (size_in w i) w.d
+unit_limit p w i =
+    unbounded_or no_bound (size_in w i) w.d
+    (limit_words (int_eq (size_in w i) (pos 0)) (unit_at p i).lower (unit_at p i).upper (size_in w i) w.d)
 
 abbrev pub bought_or_left : Bool → ℤ → ℤ
 bought_or_left raw z = if raw then neg_ℤ z else z
 
+abbrev pub turned_flow : Problem → Network → ℕ → ℤ
+turned_flow p w j = bought_or_left (is_raw_material (material_at p j).kind) (balance (net_of p) (has w.units) (size_in w) j)
+
 abbrev pub material_limit : Problem → Network → ℕ → List ℕ
 material_limit p w j =
-    limit_words false (million *ℤ (material_at p j).lower) (million *ℤ (material_at p j).upper)
-    (bought_or_left (is_raw_material (material_at p j).kind) (balance (net_of p) (has w.units) (size_in w) j)) w.d
+    unbounded_or (million *ℤ no_bound) (turned_flow p w j) w.d
+    (limit_words false (million *ℤ (material_at p j).lower) (million *ℤ (material_at p j).upper) (turned_flow p w j) w.d)
 
 -- the lines of a table and an empty one
 unfoldable pub table_and_gap : List Sort → List (List ℕ) → List (List (List ℕ)) → List (List ℕ)
@@ -106,7 +121,7 @@ material_sorts = Words ∷ Words ∷ Numbers ∷ Numbers ∷ Numbers ∷ Words �
 abbrev pub material_row : Problem → Network → ℕ → List (List ℕ)
 material_row p w j =
     (material_at p j).name ∷ kind_word (material_at p j).kind ∷ number_cell (unit_sum (Made j) p w) ∷ number_cell (unit_sum (Used j) p w)
-    ∷ number_cell (net p w j) ∷ material_limit p w j ∷ amount_bytes (material_at p j).price ∷ number_cell (cost p w j) ∷ []
+    ∷ number_cell (net p w j) ∷ material_limit p w j ∷ number_cell (price p j) ∷ number_cell (cost p w j) ∷ []
 
 abbrev pub all_materials_row : Problem → Network → List (List ℕ)
 all_materials_row p w = codes "all materials" ∷ [] ∷ [] ∷ [] ∷ [] ∷ [] ∷ [] ∷ number_cell (cost_sum All p w) ∷ []
@@ -123,14 +138,14 @@ abbrev pub money_heading : List (List ℕ)
 money_heading = codes "in one year" ∷ codes "money" ∷ []
 
 abbrev pub money_sorts : List Sort
-money_sorts = Words ∷ Numbers ∷ []
+money_sorts = Words ∷ Sums ∷ []
 
 abbrev pub money_row : List ℕ → Number → List (List ℕ)
 money_row words n = words ∷ number_cell n ∷ []
 
 -- the claimed cost over d and the payout period is in 10^-18
 unfoldable pub total_cell : Problem → Network → List ℕ
-total_cell p w = decimal_text 9 w.cost (1000000000000000000 * unsigned_abs p.payout * unsigned_abs w.d)
+total_cell p w = six_digits w.cost (1000000000000000000 * unsigned_abs p.payout * unsigned_abs w.d)
 
 abbrev pub total_words : ℤ → List ℕ
 total_words cost = if int_lt cost (pos 0) then codes "total (an income)" else codes "total (a cost)"
@@ -166,11 +181,8 @@ names_or_none p (i ∷ is) = flat_map (name_behind p) (i ∷ is)
 abbrev pub left_out_line : Problem → Network → List ℕ
 left_out_line p w = codes "Units left out:" ++ names_or_none p (left_out p w)
 
-abbrev pub last_line : List ℕ
-last_line = codes "This is a claim, and no proof of it: pns check FILE TREE accepts it only where the tree proves it."
-
 abbrev pub foot_lines : Problem → Network → List (List ℕ)
-foot_lines p w = once_line p w ∷ left_out_line p w ∷ last_line ∷ []
+foot_lines p w = once_line p w ∷ left_out_line p w ∷ []
 
 -- ---- all
 

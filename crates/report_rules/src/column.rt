@@ -7,6 +7,8 @@ pub enum Sort {
     Words,
     /// Numbers, whose points stand under each other.
     Numbers,
+    /// Such numbers that stand even where all of them are 0.
+    Sums,
 }
 
 /// What is measured of a cell, in bytes.

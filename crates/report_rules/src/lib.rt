@@ -2,15 +2,18 @@
 //!
 //! The definitions stand in `specs/`: `Table` (a network as two tables of comma-separated fields), `Decimal` (decimal numbers), `Drawn` and
 //! `Graph` (the P-graph as text for Graphviz), `Number` and `Amounts` (the numbers of a report, and those of a network for one year with
-//! their sums), `Aligned` (rows of cells under each other) and `Report` (the three tables of a report).
+//! their sums), `Aligned` (rows of cells under each other), `Report` (the three tables of a report) and `Verdict` (what a tree proves of
+//! its claim).
 #![tactic(auto)]
 
 mod amount;
 mod column;
 mod cost_part;
 mod role;
+mod verdict;
 
 pub use amount::UnitAmount;
 pub use column::{Measure, Sort};
 pub use cost_part::CostPart;
 pub use role::Role;
+pub use verdict::Verdict;

@@ -56,11 +56,11 @@ parts_printed a b c d e old t1 t2 t3 t4 t5 pa pb pc pd pe =
 pub with_empty_line : (lines : List (List ℕ)) (old t1 t2 : List ℕ) → t1 ≡ old ++ printed lines → t2 ≡ t1 ++ 10 ∷ [] → t2 ≡ old ++ printed (lines ++ [] ∷ [])
 with_empty_line lines old t1 t2 e f = after old t1 t2 (printed lines) (10 ∷ []) e f ∙ ap (λ (t : List ℕ). old ++ t) (sym (printed-append lines ([] ∷ [])))
 
--- three lines
-pub three_lines : (a b c old t1 t2 t3 t4 t5 t6 : List ℕ) → t1 ≡ old ++ a → t2 ≡ t1 ++ 10 ∷ [] → t3 ≡ t2 ++ b → t4 ≡ t3 ++ 10 ∷ [] → t5 ≡ t4 ++ c → t6 ≡ t5 ++ 10 ∷ [] → t6 ≡ old ++ printed (a ∷ b ∷ c ∷ [])
-three_lines a b c old t1 t2 t3 t4 t5 t6 e1 e2 e3 e4 e5 e6 =
-    after_three old t2 t4 t6 (a ++ 10 ∷ []) (b ++ 10 ∷ []) (c ++ 10 ∷ []) (after old t1 t2 a (10 ∷ []) e1 e2) (after t2 t3 t4 b (10 ∷ []) e3 e4) (after t4 t5 t6 c (10 ∷ []) e5 e6)
-    ∙ ap (λ (t : List ℕ). old ++ ((a ++ 10 ∷ []) ++ ((b ++ 10 ∷ []) ++ t))) (sym (append-nil (c ++ 10 ∷ [])))
+-- two lines
+pub two_lines : (a b old t1 t2 t3 t4 : List ℕ) → t1 ≡ old ++ a → t2 ≡ t1 ++ 10 ∷ [] → t3 ≡ t2 ++ b → t4 ≡ t3 ++ 10 ∷ [] → t4 ≡ old ++ printed (a ∷ b ∷ [])
+two_lines a b old t1 t2 t3 t4 e1 e2 e3 e4 =
+    after old t2 t4 (a ++ 10 ∷ []) (b ++ 10 ∷ []) (after old t1 t2 a (10 ∷ []) e1 e2) (after t2 t3 t4 b (10 ∷ []) e3 e4)
+    ∙ ap (λ (t : List ℕ). old ++ ((a ++ 10 ∷ []) ++ t)) (sym (append-nil (b ++ 10 ∷ [])))
 
 -- ---- rows
 

@@ -14,19 +14,19 @@ pub(crate) fn push_words(alloc: Global, row: &mut Row, words: &str) -> Result<()
     row.push(cell)
 }
 
-/// Appends the number with 9 places, or `past`.
+/// Appends the number with six digits where it has more, or `past`.
 #[tactic(auto, unfolding(report_rules::specs::Report::number_cell))]
-pub(crate) fn push_9_places(text: &mut String, number: &Number) -> Result<(), AllocError>
+pub(crate) fn push_digits(text: &mut String, number: &Number) -> Result<(), AllocError>
     ensures { OnOk result (string_bytes text.new ≡ string_bytes text.old ++ number_cell number.now) }
 {
-    number.push(text, 9, 1_000_000_000)
+    number.push(text)
 }
 
 pub(crate) fn push_number(alloc: Global, row: &mut Row, number: &Number) -> Result<(), AllocError>
     ensures { OnOk result (row.new ≡ row.old ++ number_cell number.now ∷ []) }
 {
     let mut cell = String::new(alloc);
-    push_9_places(&mut cell, number)?;
+    push_digits(&mut cell, number)?;
     row.push(cell)
 }
 

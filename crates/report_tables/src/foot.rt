@@ -2,9 +2,9 @@
 ghost use Rattle.std.specs.Prelude.{◌≡◌, ◌<◌, ◌≤◌, ◌++◌, ◌∷◌, [], ℕ, true, OnOk, flat_map, length, string_bytes};
 ghost use Rattle.number_sets.specs.Sets.{has};
 ghost use Rattle.pns_problem.specs.Printing.{printed};
-ghost use Rattle.report_rules.specs.Report.{once_line, left_out, name_behind, names_or_none, left_out_line, last_line, foot_lines};
+ghost use Rattle.report_rules.specs.Report.{once_line, left_out, name_behind, names_or_none, left_out_line, foot_lines};
 
-use crate::cells::push_9_places;
+use crate::cells::push_digits;
 use branch_tree::Network;
 use pns_problem::Problem;
 use report_amounts::unit_sum;
@@ -17,7 +17,7 @@ fn push_once(text: &mut String, problem: &Problem, network: &Network) -> Result<
     ensures { OnOk result (string_bytes text.new ≡ string_bytes text.old ++ once_line problem.now network.now) }
 {
     text.push_str("Investment, paid once: ")?;
-    push_9_places(text, &unit_sum(UnitAmount::Once, problem, network))?;
+    push_digits(text, &unit_sum(UnitAmount::Once, problem, network))?;
     Ok(())
 }
 
@@ -31,7 +31,7 @@ fn unit_count(problem: &Problem) -> u32
 }
 
 /// The units of the problem that are not in the network.
-fn left_out(problem: &Problem, network: &Network) -> UnitSet
+pub fn left_out(problem: &Problem, network: &Network) -> UnitSet
     ensures { result ≡ left_out problem.now network.now }
 {
     let all = UnitSet::below(unit_count(problem));
@@ -71,14 +71,6 @@ fn push_left_out(text: &mut String, problem: &Problem, network: &Network) -> Res
     Ok(())
 }
 
-fn push_last(text: &mut String) -> Result<(), AllocError>
-    ensures { OnOk result (string_bytes text.new ≡ string_bytes text.old ++ last_line) }
-{
-    text.push_str(
-        "This is a claim, and no proof of it: pns check FILE TREE accepts it only where the tree proves it.",
-    )
-}
-
 /// Appends the foot.
 pub(crate) fn push_foot(
     text: &mut String,
@@ -91,8 +83,6 @@ pub(crate) fn push_foot(
     push_once(text, problem, network)?;
     text.push('\n')?;
     push_left_out(text, problem, network)?;
-    text.push('\n')?;
-    push_last(text)?;
     text.push('\n')?;
     Ok(())
 }

@@ -20,4 +20,8 @@ mod tables;
 mod text;
 mod units;
 
+pub use foot::left_out;
+pub use materials::material_limit;
+pub use money::push_total;
 pub use text::report_of;
+pub use units::{NO_BOUND, unit_limit};

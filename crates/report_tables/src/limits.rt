@@ -2,7 +2,7 @@
 ghost use Rattle.std.specs.Prelude.{◌≡◌, ◌*ℤ◌, ℕ};
 ghost use Rattle.std.specs.Ordering.{int_eq};
 ghost use Rattle.integer_laws.specs.Range.{InRange};
-ghost use Rattle.report_rules.specs.Report.{idle_words, least_words, most_words, limit_words};
+ghost use Rattle.report_rules.specs.Report.{idle_words, least_words, most_words, limit_words, unbounded_or};
 
 use int_rows::checked_product;
 
@@ -47,6 +47,19 @@ fn most_words(idle: bool, lower: i128, upper: i128, z: i128, d: i128) -> &'stati
         "max"
     } else {
         least_words(idle, lower, z, d)
+    }
+}
+
+/// The words, but where z over d is a bound that stands for none.
+#[tactic(auto, unfolding(report_rules::specs::Report::unbounded_or))]
+pub(crate) fn unbounded_or(none: i128, z: i128, d: i128, words: &'static str) -> &'static str
+    requires { InRange z }
+    ensures { result.now ≡ unbounded_or none z d words.now }
+{
+    if is_at(z, none, d) {
+        "UNBOUNDED?"
+    } else {
+        words
     }
 }
 

@@ -1,6 +1,6 @@
 //! A row as a line.
 ghost use Rattle.std.specs.Prelude.{◌≡◌, ◌++◌, ◌∷◌, [], true, false, OnOk, string_bytes};
-ghost use Rattle.report_rules.specs.Aligned.{spaces, shown, gap_left, before, behind, line_text};
+ghost use Rattle.report_rules.specs.Aligned.{spaces, shown, gap_left, before, behind, cell_text, gap_behind, line_text};
 
 use crate::column::{Column, measured};
 use crate::row::Row;
@@ -37,7 +37,7 @@ fn push_before_heading(gap: &mut String, column: &Column, cell: &str) -> Result<
 {
     match column.sort {
         Sort::Words => Ok(()),
-        Sort::Numbers => {
+        Sort::Numbers | Sort::Sums => {
             let whole = measured(Measure::Whole, cell);
             push_spaces(gap, column.front.saturating_sub(whole))?;
             let beyond = whole.saturating_sub(column.front);
@@ -51,7 +51,7 @@ fn push_before_cell(gap: &mut String, column: &Column, cell: &str) -> Result<(),
 {
     match column.sort {
         Sort::Words => Ok(()),
-        Sort::Numbers => {
+        Sort::Numbers | Sort::Sums => {
             push_spaces(gap, column.room)?;
             let front = measured(Measure::Front, cell);
             push_spaces(gap, column.front.saturating_sub(front))
@@ -82,7 +82,7 @@ fn push_behind_heading(gap: &mut String, column: &Column, cell: &str) -> Result<
             let whole = measured(Measure::Whole, cell);
             push_spaces(gap, column.front.saturating_sub(whole))
         }
-        Sort::Numbers => Ok(()),
+        Sort::Numbers | Sort::Sums => Ok(()),
     }
 }
 
@@ -94,7 +94,7 @@ fn push_behind_cell(gap: &mut String, column: &Column, cell: &str) -> Result<(),
             let whole = measured(Measure::Whole, cell);
             push_spaces(gap, column.front.saturating_sub(whole))
         }
-        Sort::Numbers => {
+        Sort::Numbers | Sort::Sums => {
             let back = measured(Measure::Back, cell);
             push_spaces(gap, column.back.saturating_sub(back))
         }
@@ -116,6 +116,42 @@ fn push_behind(
     }
 }
 
+/// Appends a cell of a kept column behind the gap, and then makes the gap behind it.
+fn push_kept(
+    text: &mut String,
+    gap: &mut String,
+    heading: bool,
+    column: &Column,
+    cell: &str,
+) -> Result<(), AllocError>
+    ensures text { OnOk result (string_bytes text.new ≡ string_bytes text.old ++ shown (string_bytes gap.old ++ before heading column.now cell.now) cell.now) }
+    ensures gap { OnOk result (string_bytes gap.new ≡ gap_left (string_bytes gap.old ++ before heading column.now cell.now) cell.now ++ (behind heading column.now cell.now ++ 32 ∷ 32 ∷ [])) }
+{
+    push_before(gap, heading, column, cell)?;
+    push_shown(text, gap, cell)?;
+    push_behind(gap, heading, column, cell)?;
+    gap.push_str("  ")?;
+    Ok(())
+}
+
+/// Appends a cell behind the gap, and then makes the gap behind it; of a column that is left out nothing.
+fn push_cell(
+    text: &mut String,
+    gap: &mut String,
+    heading: bool,
+    column: &Column,
+    cell: &str,
+) -> Result<(), AllocError>
+    ensures text { OnOk result (string_bytes text.new ≡ string_bytes text.old ++ cell_text heading column.now (string_bytes gap.old) cell.now) }
+    ensures gap { OnOk result (string_bytes gap.new ≡ gap_behind heading column.now (string_bytes gap.old) cell.now) }
+{
+    if column.kept {
+        push_kept(text, gap, heading, column, cell)
+    } else {
+        Ok(())
+    }
+}
+
 /// Appends a row, of headings or of others.
 pub(crate) fn push_line(
     alloc: Global,
@@ -130,10 +166,7 @@ pub(crate) fn push_line(
     'columns: for k in 0..columns.len() {
         let column = &columns[k];
         let cell = row.cell(k);
-        push_before(&mut gap, heading, column, cell)?;
-        push_shown(text, &mut gap, cell)?;
-        push_behind(&mut gap, heading, column, cell)?;
-        gap.push_str("  ")?;
+        push_cell(text, &mut gap, heading, column, cell)?;
     }
     Ok(())
 }

@@ -6,25 +6,27 @@ ghost use Rattle.problem_rules.specs.Problem.{material_at, is_raw_material};
 ghost use Rattle.pns_problem.specs.Kind.{kind_of};
 ghost use Rattle.pns_problem.specs.Printing.{printed};
 ghost use Rattle.text_rules.specs.Canonical.{kind_word};
-ghost use Rattle.text_rules.specs.Printed.{amount_bytes};
 ghost use Rattle.flow_rules.specs.Net.{net_of, materials_of, million};
 ghost use Rattle.tree_rules.specs.Claim.{IsFeasible};
 ghost use Rattle.report_rules.specs.declared.amount.UnitAmount.TheVariants.{Made, Used};
 ghost use Rattle.report_rules.specs.declared.cost_part.CostPart.TheVariants.{All};
-ghost use Rattle.report_rules.specs.Amounts.{unit_sum, net, cost, cost_sum};
-ghost use Rattle.report_rules.specs.Report.{number_cell, bought_or_left, material_limit, material_heading, material_row, all_materials_row, material_rows, material_lines};
+ghost use Rattle.report_rules.specs.Amounts.{unit_sum, net, price, cost, cost_sum};
+ghost use Rattle.report_rules.specs.Report.{number_cell, bought_or_left, turned_flow, no_bound, material_limit, material_heading, material_row, all_materials_row, material_rows, material_lines};
 
 use crate::cells::{push_number, push_numbers, push_words};
-use crate::limits::limit_words;
+use crate::limits::{limit_words, unbounded_or};
 use crate::row::Row;
 use crate::tables::push_table_and_gap;
 use branch_tree::Network;
 use pgraph::Site;
-use pns_problem::{Kind, Problem, amount_text};
+use pns_problem::{Kind, Problem};
 use pns_tables::{kind_word, materials_in};
-use report_amounts::{cost, cost_sum, flow_at, material_of, net, unit_sum};
+use report_amounts::{cost, cost_sum, flow_at, material_of, net, price, unit_sum};
 use report_rules::{CostPart, Sort, UnitAmount};
 use std::alloc::{AllocError, Global};
+
+/// 1000000000 in 10^-12: a bound that stands for none.
+const NO_BOUND: i128 = 1_000_000_000_000_000_000_000;
 
 const HEADING: [&str; 8] = [
     "material", "kind", "made", "used", "net", "limit", "price", "cost",
@@ -55,28 +57,34 @@ fn times_million(bound: i64) -> i128
     1_000_000 * i128::from(bound)
 }
 
-fn limit(problem: &Problem, network: &Network, j: u32) -> &'static str
+/// What is left over of the material, or of a raw material what is bought.
+fn turned_flow(problem: &Problem, network: &Network, j: u32) -> i128
+    requires feasible { IsFeasible problem.now network.now }
+    requires material { has (materials_of (net_of problem.now) (has network.now.units)) j ≡ true }
+    requires known { j < length problem.now.materials }
+    ensures value { result ≡ turned_flow problem.now network.now j }
+    ensures in_range { InRange result }
+{
+    bought_or_left(material_of(problem, j).kind, flow_at(problem, network, j))
+}
+
+/// Where the net amount of the material is at one of its bounds, in a word.
+pub fn material_limit(problem: &Problem, network: &Network, j: u32) -> &'static str
     requires feasible { IsFeasible problem.now network.now }
     requires material { has (materials_of (net_of problem.now) (has network.now.units)) j ≡ true }
     requires known { j < length problem.now.materials }
     ensures { result.now ≡ material_limit problem.now network.now j }
 {
     let material = material_of(problem, j);
-    limit_words(
+    let flow = turned_flow(problem, network, j);
+    let words = limit_words(
         false,
         times_million(material.lower),
         times_million(material.upper),
-        bought_or_left(material.kind, flow_at(problem, network, j)),
+        flow,
         network.d(),
-    )
-}
-
-fn push_price(alloc: Global, row: &mut Row, problem: &Problem, j: u32) -> Result<(), AllocError>
-    requires { j < length problem.now.materials }
-    ensures { OnOk result (row.new ≡ row.old ++ amount_bytes (material_at problem.now j).price ∷ []) }
-{
-    let price = amount_text(alloc, material_of(problem, j).price)?;
-    row.push(price)
+    );
+    unbounded_or(NO_BOUND, flow, network.d(), words)
 }
 
 /// What is made, what is used, and what is left over of a material.
@@ -114,8 +122,8 @@ fn material_row(
     let mut row = Row::of_words(alloc, &[problem.material_name(j)])?;
     push_kind(alloc, &mut row, problem, j)?;
     push_flows(alloc, &mut row, problem, network, j)?;
-    push_words(alloc, &mut row, limit(problem, network, j))?;
-    push_price(alloc, &mut row, problem, j)?;
+    push_words(alloc, &mut row, material_limit(problem, network, j))?;
+    push_number(alloc, &mut row, &price(problem, j))?;
     push_number(alloc, &mut row, &cost(problem, network, j))?;
     Ok(row)
 }

@@ -12,7 +12,7 @@ use crate::cells::push_number;
 use crate::row::Row;
 use crate::tables::push_table_and_gap;
 use branch_tree::Network;
-use decimals::push_quotient;
+use decimals::push_six_digits;
 use pgraph::Site;
 use pns_problem::Problem;
 use report_amounts::{Number, cost_sum, unit_sum};
@@ -53,15 +53,15 @@ fn material_money(
     money_row(alloc, words, &cost_sum(part, site, network))
 }
 
-/// The claimed cost in one year, with 9 places.
+/// The claimed cost in one year, with six digits where it has more.
 #[tactic(auto, unfolding(report_rules::specs::Report::total_cell))]
-fn push_total(text: &mut String, problem: &Problem, network: &Network) -> Result<(), AllocError>
+pub fn push_total(text: &mut String, problem: &Problem, network: &Network) -> Result<(), AllocError>
     ensures { OnOk result (string_bytes text.new ≡ string_bytes text.old ++ total_cell problem.now network.now) }
 {
     problem.is_valid();
     network.is_sized();
-    let half = 500_000_000 * problem.payout().unsigned_abs();
-    push_quotient(text, 9, 1_000_000_000, half, network.cost(), network.d())
+    let half = 500_000_000_000 * problem.payout().unsigned_abs();
+    push_six_digits(text, half, network.cost(), network.d())
 }
 
 fn total_words(cost: i128) -> &'static str
@@ -123,7 +123,7 @@ pub(crate) fn push_money(
 {
     let heading = Row::of_words(alloc, &["in one year", "money"])?;
     let rows = money_rows(alloc, site, network)?;
-    let sorts = [Sort::Words, Sort::Numbers];
+    let sorts = [Sort::Words, Sort::Sums];
     push_table_and_gap(alloc, text, &sorts, &heading, &rows)?;
     Ok(())
 }

@@ -73,10 +73,9 @@ fn push_head(text: &mut String, site: &Site<'_>, network: &Network) -> Result<()
     requires known { (u : ℕ) → has network.now.units u ≡ true → u < length site.now.units }
     ensures { OnOk result (string_bytes text.new ≡ string_bytes text.old ++ printed (head_lines site.now network.now)) }
 {
+    text.push_str("Rounded to 6 digits where needed; exact numbers: pns json\n")?;
     push_network(text, site, network)?;
-    text.push_str(
-        "\nMoney is for one year: costs are above 0, incomes below. A number after ~ is rounded.\n\n",
-    )?;
+    text.push_str("\nMoney is for one year: costs are above 0, incomes below.\n\n")?;
     Ok(())
 }
 

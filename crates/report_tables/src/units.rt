@@ -8,7 +8,7 @@ ghost use Rattle.report_rules.specs.declared.amount.UnitAmount.TheVariants.{Fixe
 ghost use Rattle.problem_rules.specs.Problem.{unit_at};
 
 use crate::cells::{push_number, push_numbers, push_words};
-use crate::limits::limit_words;
+use crate::limits::{limit_words, unbounded_or};
 use crate::row::Row;
 use crate::tables::push_table_and_gap;
 use branch_tree::Network;
@@ -29,7 +29,10 @@ const HEADING: [&str; 8] = [
     "total",
 ];
 
-/// The share of the upper bound, or `-` where that is 0.
+/// 1000000000 in millionths: a bound that stands for none.
+pub const NO_BOUND: i64 = 1_000_000_000_000_000;
+
+/// The share of the upper bound, or `-` where that is 0 or none.
 fn push_share(
     alloc: Global,
     row: &mut Row,
@@ -41,7 +44,7 @@ fn push_share(
     ensures { OnOk result (row.new ≡ row.old ++ share_cell problem.now network.now u ∷ []) }
 {
     let upper = unit_of(problem, u).upper;
-    if upper <= 0 {
+    if upper <= 0 || upper == NO_BOUND {
         return push_words(alloc, row, "-");
     }
     let mut cell = String::new(alloc);
@@ -49,19 +52,21 @@ fn push_share(
     row.push(cell)
 }
 
-fn limit(problem: &Problem, network: &Network, u: u32) -> &'static str
+/// Where the size of the unit is at one of its bounds, in a word.
+pub fn unit_limit(problem: &Problem, network: &Network, u: u32) -> &'static str
     requires { u < length problem.now.units }
     ensures { result.now ≡ unit_limit problem.now network.now u }
 {
     let unit = unit_of(problem, u);
     let size = size_at(network, u);
-    limit_words(
+    let words = limit_words(
         size == 0,
         i128::from(unit.lower),
         i128::from(unit.upper),
         size,
         network.d(),
-    )
+    );
+    unbounded_or(i128::from(NO_BOUND), size, network.d(), words)
 }
 
 /// The four costs of a unit.
@@ -92,7 +97,7 @@ fn unit_row(alloc: Global, problem: &Problem, network: &Network, u: u32) -> Resu
     let mut row = Row::of_words(alloc, &[problem.unit_name(u)])?;
     push_number(alloc, &mut row, &size(network, u))?;
     push_share(alloc, &mut row, problem, network, u)?;
-    push_words(alloc, &mut row, limit(problem, network, u))?;
+    push_words(alloc, &mut row, unit_limit(problem, network, u))?;
     push_costs(alloc, &mut row, problem, network, u)?;
     Ok(row)
 }

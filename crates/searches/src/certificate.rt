@@ -14,11 +14,12 @@ ghost use Rattle.studio_rules.specs.Ending.{Ends, Tells};
 ghost use Rattle.studio_rules.specs.Solve.{status_of};
 ghost use Rattle.searches.specs.Found.{certificate_of, CertificateSays, FoundSays};
 
+use crate::stopped::stopped_notes;
 use abb_search::Found;
 use branch_tree::{Claim, Network, Tail, Tree};
-use endings::say::{say_memory, say_printed};
+use endings::say::{say_memory, say_searched};
 use flow_rules::Place;
-use pns_io::Sink;
+use pns_io::{Outputs, Sink};
 use pns_problem::Problem;
 use std::alloc::Global;
 use std::marker::Model;
@@ -199,26 +200,46 @@ impl Certificate {
     }
 
     /// Says the certificate. The status tells where the search stopped.
-    pub(crate) fn say<K: Sink>(&self, alloc: Global, out: &mut K, problem: &Problem) -> Status
+    pub(crate) fn say<K: Sink, E: Sink>(
+        &self,
+        alloc: Global,
+        out: &mut Outputs<K, E>,
+        problem: &Problem,
+        budget: u64,
+    ) -> Status
         requires claim { KnowsClaim problem.now self.now.claim }
         requires tree { KnowsTree problem.now self.now.tree }
         requires tail { KnowsTail problem.now self.now.tail }
         requires few { length self.now.tree < 2 ^ 32 }
-        ensures { Ends (Tells (CertificateSays problem.now self.now)) (K.state out.old) (K.state out.new) result }
+        ensures { Ends (Tells (CertificateSays problem.now self.now)) out.old out.new result }
     {
         self.reads_back(problem);
-        let printed = print_tree(alloc, problem, &self.claim, &self.tree, &self.tail, out);
-        say_printed(out, printed, status_of(&self.tail))
+        let printed = print_tree(
+            alloc,
+            problem,
+            &self.claim,
+            &self.tree,
+            &self.tail,
+            &mut out.out,
+        );
+        let notes = stopped_notes(alloc, problem, &self.claim, &self.tail, budget);
+        say_searched(out, printed, notes.bytes(), status_of(&self.tail))
     }
 }
 
-/// Prints what was found.
-pub fn say_found<K: Sink>(alloc: Global, out: &mut K, problem: &Problem, found: Found) -> Status
+/// Prints what a search with this budget found.
+pub fn say_found<K: Sink, E: Sink>(
+    alloc: Global,
+    out: &mut Outputs<K, E>,
+    problem: &Problem,
+    found: Found,
+    budget: u64,
+) -> Status
     requires { (budget : ℕ) × IsFound problem.now first_node budget found }
-    ensures { Ends (Tells (FoundSays problem.now found)) (K.state out.old) (K.state out.new) result }
+    ensures { Ends (Tells (FoundSays problem.now found)) out.old out.new result }
 {
     match certificate_of(found) {
-        Some(certificate) => certificate.say(alloc, out, problem),
+        Some(certificate) => certificate.say(alloc, out, problem, budget),
         None => say_memory(out),
     }
 }

@@ -11,9 +11,11 @@
 
 mod certificate;
 pub mod solve;
+mod stopped;
 mod summary;
 pub mod trial;
 
 pub use certificate::{Certificate, certificate_of, say_found, status_of, tail_is_counted};
 pub use solve::{say_solved, search_all};
+pub use stopped::stopped_notes;
 pub use summary::say_summed;

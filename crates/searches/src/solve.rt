@@ -14,7 +14,7 @@ use abb_search::{Found, search};
 use command_files::problem_of;
 use endings::say::say_memory;
 use pgraph::Graph;
-use pns_io::{Shelf, Sink};
+use pns_io::{Outputs, Shelf, Sink};
 use pns_problem::Problem;
 use std::alloc::Global;
 use studio_rules::Status;
@@ -36,10 +36,15 @@ pub fn search_all(alloc: Global, problem: &Problem, graph: &Graph, budget: u64) 
 }
 
 /// Says an allowed network of least cost with the tree that proves it, or that no network has flows; or how far the search came.
-pub fn say_solved<K: Sink>(alloc: Global, out: &mut K, problem: &Problem, budget: u64) -> Status
+pub fn say_solved<K: Sink, E: Sink>(
+    alloc: Global,
+    out: &mut Outputs<K, E>,
+    problem: &Problem,
+    budget: u64,
+) -> Status
     requires some { 1 ≤ budget }
     requires few { budget ≤ 1000000 }
-    ensures { Ends (Tells (SolveWork budget problem.now)) (K.state out.old) (K.state out.new) result }
+    ensures { Ends (Tells (SolveWork budget problem.now)) out.old out.new result }
 {
     let Ok(graph) = Graph::of(alloc, problem) else {
         return say_memory(out);
@@ -47,21 +52,21 @@ pub fn say_solved<K: Sink>(alloc: Global, out: &mut K, problem: &Problem, budget
     problem.is_valid();
     accepted_is_optimal();
     let found = search_all(alloc, problem, &graph, budget);
-    say_found(alloc, out, problem, found)
+    say_found(alloc, out, problem, found, budget)
 }
 
 /// Says an allowed network of least cost for the file's problem with the tree that proves it, or that no network has flows; or how
 /// far the search came.
-pub fn solve<F: Shelf, K: Sink>(
+pub fn solve<F: Shelf, K: Sink, E: Sink>(
     alloc: Global,
     file: &str,
     budget: u64,
     shelf: &mut F,
-    out: &mut K,
+    out: &mut Outputs<K, E>,
 ) -> Status
     requires some { 1 ≤ budget }
     requires few { budget ≤ 1000000 }
-    ensures ends { Ends (FileSays (SolveWork budget) file.now (F.state shelf.old) (F.state shelf.new)) (K.state out.old) (K.state out.new) result }
+    ensures ends { Ends (FileSays (SolveWork budget) file.now (F.state shelf.old) (F.state shelf.new)) out.old out.new result }
     ensures keeps { Keeps (F.state shelf.old) (F.state shelf.new) }
 {
     match problem_of(alloc, shelf, out, file) {

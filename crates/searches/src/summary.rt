@@ -18,7 +18,7 @@ use endings::line::push_unit_names;
 use endings::say::{say_made, say_memory};
 use max_structure::maximal;
 use pgraph::Graph;
-use pns_io::Sink;
+use pns_io::{Outputs, Sink};
 use pns_problem::Problem;
 use std::alloc::{AllocError, Global};
 use studio_rules::Status;
@@ -72,9 +72,9 @@ fn summary(
     Ok(text)
 }
 
-fn say_summary<K: Sink>(
+fn say_summary<K: Sink, E: Sink>(
     alloc: Global,
-    out: &mut K,
+    out: &mut Outputs<K, E>,
     problem: &Problem,
     graph: &Graph,
     network: &Network,
@@ -82,7 +82,7 @@ fn say_summary<K: Sink>(
 ) -> Status
     requires graph { shape graph.now ≡ shape_of problem.now }
     requires solves { Solves problem.now (claims.network network.now) tree.now }
-    ensures { Ends (Tells (SummarySays problem.now)) (K.state out.old) (K.state out.new) result }
+    ensures { Ends (Tells (SummarySays problem.now)) out.old out.new result }
 {
     problem.is_valid();
     let most = maximal_count(problem, graph);
@@ -93,10 +93,15 @@ fn say_summary<K: Sink>(
 }
 
 /// Says a summary of what the search solves; or how far it came.
-pub fn say_summed<K: Sink>(alloc: Global, out: &mut K, problem: &Problem, budget: u64) -> Status
+pub fn say_summed<K: Sink, E: Sink>(
+    alloc: Global,
+    out: &mut Outputs<K, E>,
+    problem: &Problem,
+    budget: u64,
+) -> Status
     requires some { 1 ≤ budget }
     requires few { budget ≤ 1000000 }
-    ensures { Ends (Tells (SummaryWork budget problem.now)) (K.state out.old) (K.state out.new) result }
+    ensures { Ends (Tells (SummaryWork budget problem.now)) out.old out.new result }
 {
     let Ok(graph) = Graph::of(alloc, problem) else {
         return say_memory(out);
@@ -107,6 +112,6 @@ pub fn say_summed<K: Sink>(alloc: Global, out: &mut K, problem: &Problem, budget
         Found::Solved { network, tree } => {
             say_summary(alloc, out, problem, &graph, &network, &tree)
         }
-        stopped => say_found(alloc, out, problem, stopped),
+        stopped => say_found(alloc, out, problem, stopped, budget),
     }
 }

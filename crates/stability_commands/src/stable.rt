@@ -23,10 +23,11 @@ use crate::text::{print_not_best, print_past_cost, print_range, print_stopped};
 use abb_search::Found;
 use branch_tree::{Claim, Network, Tree};
 use command_files::{problem_of, tree_of};
-use endings::say::{say, say_memory, say_printed};
+use endings::say::{say_memory, say_printed, tell};
+use messages::{Notes, unknown_material, unknown_unit};
 use network_commands::network_of;
 use pgraph::{Graph, Site};
-use pns_io::{Shelf, Sink};
+use pns_io::{Outputs, Shelf, Sink};
 use pns_problem::Problem;
 use searches::certificate_of;
 use stability::{RangeFault, Spot, range, valued};
@@ -57,12 +58,25 @@ fn spot_named(problem: &Problem, kind: SpotKind, name: &str) -> Option<Spot>
     }
 }
 
+// What is said of a name that the problem has not.
+fn unknown_name(alloc: Global, problem: &Problem, kind: SpotKind, name: &str) -> Notes {
+    match kind {
+        SpotKind::Price => unknown_material(alloc, problem, name),
+        SpotKind::Fix | SpotKind::Proportional => unknown_unit(alloc, problem, name),
+    }
+}
+
 /// Says that a network is not the best, and a cheaper one of least cost.
-fn say_not_best<K: Sink>(alloc: Global, out: &mut K, problem: &Problem, cheaper: &Network) -> Status
+fn say_not_best<K: Sink, E: Sink>(
+    alloc: Global,
+    out: &mut Outputs<K, E>,
+    problem: &Problem,
+    cheaper: &Network,
+) -> Status
     requires { AreBelow (length problem.now.units) cheaper.now.units }
-    ensures { Ends (Tells (OneAnswer NotBest (not_best_lines problem.now cheaper.now))) (K.state out.old) (K.state out.new) result }
+    ensures { Ends (Tells (OneAnswer NotBest (not_best_lines problem.now cheaper.now))) out.old out.new result }
 {
-    match print_not_best(alloc, problem, cheaper, out) {
+    match print_not_best(alloc, problem, cheaper, &mut out.out) {
         Ok(()) => Status::NotBest,
         Err(PrintFault::WriteFault) => Status::WriteFault,
         Err(PrintFault::Memory) => say_memory(out),
@@ -70,17 +84,22 @@ fn say_not_best<K: Sink>(alloc: Global, out: &mut K, problem: &Problem, cheaper:
 }
 
 /// Says that the network's cost is past the range at a value.
-fn say_past_cost<K: Sink>(alloc: Global, out: &mut K, value: i64, at: u32) -> Status
-    ensures { Ends (Tells (OneAnswer Past (past_cost_lines value at))) (K.state out.old) (K.state out.new) result }
+fn say_past_cost<K: Sink, E: Sink>(
+    alloc: Global,
+    out: &mut Outputs<K, E>,
+    value: i64,
+    at: u32,
+) -> Status
+    ensures { Ends (Tells (OneAnswer Past (past_cost_lines value at))) out.old out.new result }
 {
-    let printed = print_past_cost(alloc, value, at, out);
+    let printed = print_past_cost(alloc, value, at, &mut out.out);
     say_printed(out, printed, Status::Past)
 }
 
 /// Says at which value a search stopped, and how far it came there on the problem with this value in the spot.
-fn say_stopped<K: Sink>(
+fn say_stopped<K: Sink, E: Sink>(
     alloc: Global,
-    out: &mut K,
+    out: &mut Outputs<K, E>,
     problem: &Problem,
     spot: Spot,
     value: i64,
@@ -89,7 +108,7 @@ fn say_stopped<K: Sink>(
     requires known { KnowsSpot problem.now spot }
     requires allowed { IsAllowedValue spot value }
     requires found { (budget : ℕ) × IsFound (valued problem.now spot value) first_node budget found }
-    ensures { Ends (Tells (StopSays (valued problem.now spot value) value found)) (K.state out.old) (K.state out.new) result }
+    ensures { Ends (Tells (StopSays (valued problem.now spot value) value found)) out.old out.new result }
 {
     let Ok(other) = valued(alloc, problem, spot, value) else {
         return say_memory(out);
@@ -97,7 +116,7 @@ fn say_stopped<K: Sink>(
     match certificate_of(found) {
         Some(certificate) => {
             certificate.reads_back(&other);
-            let printed = print_stopped(alloc, &other, value, &certificate, out);
+            let printed = print_stopped(alloc, &other, value, &certificate, &mut out.out);
             say_printed(out, printed, certificate.status())
         }
         None => say_memory(out),
@@ -105,9 +124,9 @@ fn say_stopped<K: Sink>(
 }
 
 /// Says why no range is told.
-fn say_refusal<K: Sink>(
+fn say_refusal<K: Sink, E: Sink>(
     alloc: Global,
-    out: &mut K,
+    out: &mut Outputs<K, E>,
     problem: &Problem,
     spot: Spot,
     fault: RangeFault,
@@ -115,7 +134,7 @@ fn say_refusal<K: Sink>(
     requires known { KnowsSpot problem.now spot }
     requires refusal { (w : Network) × (budget : ℕ) × IsRefusal problem.now spot w budget fault }
     ensures { (w : Network) (budget : ℕ) → IsRefusal problem.now spot w budget fault
-        → Ends (Tells (SpotWork spot budget problem.now w)) (K.state out.old) (K.state out.new) result }
+        → Ends (Tells (SpotWork spot budget problem.now w)) out.old out.new result }
 {
     problem.is_valid();
     valued_is_valid();
@@ -160,9 +179,9 @@ fn say_refusal<K: Sink>(
 }
 
 /// Says the range of a spot for a network, or why none is told.
-fn say_range<K: Sink>(
+fn say_range<K: Sink, E: Sink>(
     alloc: Global,
-    out: &mut K,
+    out: &mut Outputs<K, E>,
     problem: &Problem,
     graph: &Graph,
     network: &Network,
@@ -174,13 +193,13 @@ fn say_range<K: Sink>(
     requires known { KnowsSpot problem.now spot }
     requires some { 1 ≤ budget }
     requires few { budget ≤ 1000000 }
-    ensures { Ends (Tells (SpotWork spot budget problem.now network.now)) (K.state out.old) (K.state out.new) result }
+    ensures { Ends (Tells (SpotWork spot budget problem.now network.now)) out.old out.new result }
 {
     structures_stay();
     let site = Site::of(problem, graph);
     match range(alloc, &site, network, spot, budget as u32) {
         Ok(range) => {
-            let printed = print_range(alloc, problem, &range, out);
+            let printed = print_range(alloc, problem, &range, &mut out.out);
             say_printed(out, printed, Status::Done)
         }
         Err(fault) => say_refusal(alloc, out, problem, spot, fault),
@@ -188,9 +207,9 @@ fn say_range<K: Sink>(
 }
 
 /// Says the range for the network of a claim, of which each line is judged.
-fn say_claimed<K: Sink>(
+fn say_claimed<K: Sink, E: Sink>(
     alloc: Global,
-    out: &mut K,
+    out: &mut Outputs<K, E>,
     problem: &Problem,
     claim: Claim,
     tree: &Tree,
@@ -200,7 +219,7 @@ fn say_claimed<K: Sink>(
     requires known { KnowsSpot problem.now spot }
     requires some { 1 ≤ budget }
     requires few { budget ≤ 1000000 }
-    ensures { Ends (Tells (OnNetwork (SpotWork spot budget) problem.now (claim_of claim) tree.now)) (K.state out.old) (K.state out.new) result }
+    ensures { Ends (Tells (OnNetwork (SpotWork spot budget) problem.now (claim_of claim) tree.now)) out.old out.new result }
 {
     let Ok(graph) = Graph::of(alloc, problem) else {
         return say_memory(out);
@@ -213,28 +232,29 @@ fn say_claimed<K: Sink>(
 }
 
 /// Says the same, or that the name is none of the problem.
-fn say_named<K: Sink>(
+fn say_named<K: Sink, E: Sink>(
     alloc: Global,
-    out: &mut K,
+    out: &mut Outputs<K, E>,
     problem: &Problem,
     claim: Claim,
     tree: &Tree,
     spot: Option<Spot>,
     budget: u64,
+    notes: &Notes,
 ) -> Status
     requires known { IfSome spot (KnowsSpot problem.now) }
     requires some { 1 ≤ budget }
     requires few { budget ≤ 1000000 }
-    ensures { Ends (Tells (NamedWork spot budget problem.now (claim_of claim) tree.now)) (K.state out.old) (K.state out.new) result }
+    ensures { Ends (Tells (NamedWork spot budget problem.now (claim_of claim) tree.now)) out.old out.new result }
 {
     match spot {
         Some(spot) => say_claimed(alloc, out, problem, claim, tree, spot, budget),
-        None => say(out, b"unknown name\n", Status::UnknownName),
+        None => tell(out, b"unknown name\n", notes.bytes(), Status::UnknownName),
     }
 }
 
 /// Says the same for the claim of a tree file.
-fn say_tree<F: Shelf, K: Sink>(
+fn say_tree<F: Shelf, K: Sink, E: Sink>(
     alloc: Global,
     problem: &Problem,
     file: &str,
@@ -242,17 +262,18 @@ fn say_tree<F: Shelf, K: Sink>(
     name: &str,
     budget: u64,
     shelf: &mut F,
-    out: &mut K,
+    out: &mut Outputs<K, E>,
 ) -> Status
     requires some { 1 ≤ budget }
     requires few { budget ≤ 1000000 }
-    ensures ends { Ends (Says (OnTree (StableWork kind name.now budget) (F.state shelf.old).held file.now problem.now) (λ other. other ≡ file.now) (F.state shelf.old) (F.state shelf.new)) (K.state out.old) (K.state out.new) result }
+    ensures ends { Ends (Says (OnTree (StableWork kind name.now budget) (F.state shelf.old).held file.now problem.now) (λ other. other ≡ file.now) (F.state shelf.old) (F.state shelf.new)) out.old out.new result }
     ensures keeps { Keeps (F.state shelf.old) (F.state shelf.new) }
 {
     match tree_of(alloc, shelf, out, file, problem) {
         Ok((claim, tree)) => {
             let spot = spot_named(problem, kind, name);
-            say_named(alloc, out, problem, claim, &tree, spot, budget)
+            let notes = unknown_name(alloc, problem, kind, name);
+            say_named(alloc, out, problem, claim, &tree, spot, budget, &notes)
         }
         Err(status) => status,
     }
@@ -260,7 +281,7 @@ fn say_tree<F: Shelf, K: Sink>(
 
 /// Says how far the price or the cost of this name may move while the network that the tree of the one file claims on the problem of
 /// the other stays optimal among the allowed ones, with a network that is cheaper one step beyond each end.
-pub fn stable<F: Shelf, K: Sink>(
+pub fn stable<F: Shelf, K: Sink, E: Sink>(
     alloc: Global,
     file: &str,
     tree: &str,
@@ -268,11 +289,11 @@ pub fn stable<F: Shelf, K: Sink>(
     name: &str,
     budget: u64,
     shelf: &mut F,
-    out: &mut K,
+    out: &mut Outputs<K, E>,
 ) -> Status
     requires some { 1 ≤ budget }
     requires few { budget ≤ 1000000 }
-    ensures ends { Ends (TwoFilesSay (OnTree (StableWork kind name.now budget)) file.now tree.now (F.state shelf.old) (F.state shelf.new)) (K.state out.old) (K.state out.new) result }
+    ensures ends { Ends (TwoFilesSay (OnTree (StableWork kind name.now budget)) file.now tree.now (F.state shelf.old) (F.state shelf.new)) out.old out.new result }
     ensures keeps { Keeps (F.state shelf.old) (F.state shelf.new) }
 {
     match problem_of(alloc, shelf, out, file) {

@@ -7,7 +7,7 @@ use Rattle.std.proofs.lemmas.Bool.{le-ltb, lt-ltb}
 use Rattle.std.proofs.lemmas.Grind.{flat_map-append}
 use Rattle.std.proofs.Math.Seq.{take-append-add}
 use Rattle.text_rules.specs.Outside.{HasRisen, AppendsFront}
-use Rattle.io_rules.specs.State.{SinkState}
+use Rattle.io_rules.specs.State.{SinkState, OutputsState}
 use Rattle.problem_rules.specs.Problem.{Problem}
 use Rattle.structure_list.specs.Rest.{Rest, IsToCome}
 use Rattle.studio_rules.specs.Lines.{line, text_of}
@@ -16,7 +16,8 @@ use Rattle.structure_commands.specs.Listing.{RestSays}
 use Rattle.studio_rules.specs.Ending.{Ends, Tells, Only, OrMemory}
 use Rattle.studio_rules.specs.declared.status.Status.{Status}
 use Rattle.studio_rules.specs.declared.status.Status.TheVariants.{Done, WriteFault, Memory}
-use Rattle.endings.proofs.Ending.{Ends-after, only_in, only_or_memory_in}
+use Rattle.endings.proofs.Ending.{GoesOut, Ends-after, only_in, only_or_memory_in}
+use Rattle.endings.proofs.Put.{Ends-stopped}
 
 pub last_of-push : (ss : List (List ℕ)) (s : List ℕ) → last_of (ss ++ s ∷ []) ≡ s
 last_of-push [] s = refl
@@ -152,40 +153,42 @@ module _ (p : Problem) where
     whole_behind given all last is e =
         (map (structure_line p) given ++ last ∷ [], (refl, (all, is, sym e)), sym (text_of-push (map (structure_line p) given) last))
 
-    module _ (now : Rest) (many : ℕ) (old mid : SinkState) (last : List ℕ) (g : IsGiven p start now many old mid last) (le : many ≤ count) where
+    module _ (now : Rest) (many : ℕ) (old mid : OutputsState) (last : List ℕ) (g : IsGiven p start now many old.out mid.out last) (le : many ≤ count) where
       le_given : length g.given ≤ count
       le_given = let e = g.many_is in omega (arith, e, le)
 
-      module _ (later : old.faults ≤ mid.faults) (new : SinkState) (status : Status) where
+      module _ (quiet : mid.err ≡ old.err) (later : old.out.faults ≤ mid.out.faults) (new : OutputsState) (status : Status) where
         -- no structure is to come, and `end` is said
         pub ended : IsToCome now [] → Ends (Only Done (line (codes "end"))) mid new status → Ends (Tells (RestSays p count start)) old new status
         ended none =
-            Ends-after (Only Done (line (codes "end"))) (Tells (RestSays p count start)) old mid new status (text_of (map (structure_line p) g.given)) g.out
-            (only_in (λ s t. Tells (RestSays p count start) s (text_of (map (structure_line p) g.given) ++ t)) Done (line (codes "end"))
-            (whole_behind g.given (g.given ++ []) (codes "end") ((g.rest []).0 none) (lines_end g.given count le_given))) later
+            Ends-after (Only Done (line (codes "end"))) (Tells (RestSays p count start)) old mid new status (text_of (map (structure_line p) g.given)) g.out quiet
+            (only_in (λ s t. GoesOut s × Tells (RestSays p count start) s (text_of (map (structure_line p) g.given) ++ t)) Done (line (codes "end"))
+            (tt, whole_behind g.given (g.given ++ []) (codes "end") ((g.rest []).0 none) (lines_end g.given count le_given))) later
 
         -- all that are wanted are given, and another is to come
         pub continued : many ≡ count → (r : List ℕ) (xs : List (List ℕ)) → IsToCome now (r ∷ xs) → Ends (OrMemory (Only Done (line (more_line last)))) mid new status → Ends (Tells (RestSays p count start)) old new status
         continued all r xs is =
-            Ends-after (OrMemory (Only Done (line (more_line last)))) (Tells (RestSays p count start)) old mid new status (text_of (map (structure_line p) g.given)) g.out
-            (only_or_memory_in (λ s t. Tells (RestSays p count start) s (text_of (map (structure_line p) g.given) ++ t)) Done (line (more_line last))
-            (subst (λ l. Tells (RestSays p count start) Done (text_of (map (structure_line p) g.given) ++ line (more_line l))) (sym g.last_is)
-            (whole_behind g.given (g.given ++ r ∷ xs) (more_line (last_of g.given)) ((g.rest (r ∷ xs)).0 is) (lines_more g.given r xs count (g.many_is ∙ all))))
-            (memory_behind g.given (r ∷ xs) le_given ((g.rest (r ∷ xs)).0 is))) later
+            Ends-after (OrMemory (Only Done (line (more_line last)))) (Tells (RestSays p count start)) old mid new status (text_of (map (structure_line p) g.given)) g.out quiet
+            (only_or_memory_in (λ s t. GoesOut s × Tells (RestSays p count start) s (text_of (map (structure_line p) g.given) ++ t)) Done (line (more_line last)) (
+              tt,
+              subst (λ l. Tells (RestSays p count start) Done (text_of (map (structure_line p) g.given) ++ line (more_line l))) (sym g.last_is)
+                  (whole_behind g.given (g.given ++ r ∷ xs) (more_line (last_of g.given)) ((g.rest (r ∷ xs)).0 is) (lines_more g.given r xs count (g.many_is ∙ all))),
+            )
+            (tt, memory_behind g.given (r ∷ xs) le_given ((g.rest (r ∷ xs)).0 is))) later
 
-module _ (p : Problem) (count : ℕ) (start now : Rest) (many : ℕ) (old mid : SinkState) (bytes last : List ℕ) (g : IsGathered p start now many old mid bytes last) (le : many ≤ count) where
+module _ (p : Problem) (count : ℕ) (start now : Rest) (many : ℕ) (old mid : OutputsState) (bytes last : List ℕ) (g : IsGathered p start now many old.out mid.out bytes last) (le : many ≤ count) where
   -- there is no memory for the next line, and those that wait are not put
-  pub starved_waiting : (later : old.faults ≤ mid.faults) (new : SinkState) (status : Status) (xs : List (List ℕ)) → IsToCome now xs → Ends (Only Memory (line (codes "memory"))) mid new status → Ends (Tells (RestSays p count start)) old new status
-  starved_waiting later new status xs is =
+  pub starved_waiting : (quiet : mid.err ≡ old.err) (later : old.out.faults ≤ mid.out.faults) (new : OutputsState) (status : Status) (xs : List (List ℕ)) → IsToCome now xs → Ends (Only Memory (line (codes "memory"))) mid new status → Ends (Tells (RestSays p count start)) old new status
+  starved_waiting quiet later new status xs is =
       let short = length-append g.out_are g.waiting in
       let e = g.many_is in
-      Ends-after (Only Memory (line (codes "memory"))) (Tells (RestSays p count start)) old mid new status (text_of (map (structure_line p) g.out_are)) g.out
-      (only_in (λ s t. Tells (RestSays p count start) s (text_of (map (structure_line p) g.out_are) ++ t)) Memory (line (codes "memory"))
-      (memory_behind p count start g.out_are (g.waiting ++ xs) (omega (arith, short, e, le)) (subst (IsToCome start) (append_assoc g.out_are g.waiting xs) ((g.rest xs).0 is)))) later
+      Ends-after (Only Memory (line (codes "memory"))) (Tells (RestSays p count start)) old mid new status (text_of (map (structure_line p) g.out_are)) g.out quiet
+      (only_in (λ s t. GoesOut s × Tells (RestSays p count start) s (text_of (map (structure_line p) g.out_are) ++ t)) Memory (line (codes "memory"))
+      (tt, memory_behind p count start g.out_are (g.waiting ++ xs) (omega (arith, short, e, le)) (subst (IsToCome start) (append_assoc g.out_are g.waiting xs) ((g.rest xs).0 is)))) later
 
   -- the lines that wait are cut off
-  pub stopped_waiting : (new : SinkState) (xs : List (List ℕ)) → HasRisen old.faults new.faults → IsToCome now xs → AppendsFront mid.written new.written bytes → Ends (Tells (RestSays p count start)) old new WriteFault
-  stopped_waiting new xs rose is front =
+  pub stopped_waiting : (new : OutputsState) (xs : List (List ℕ)) → HasRisen old.out.faults new.out.faults → IsToCome now xs → AppendsFront mid.out.written new.out.written bytes → new.err ≡ old.err → Ends (Tells (RestSays p count start)) old new WriteFault
+  stopped_waiting new xs rose is front quiet =
       let f : List ℕ → List ℕ = structure_line p in
       let given : List (List ℕ) = g.out_are ++ g.waiting in
       let all : List (List ℕ) = given ++ xs in
@@ -198,10 +201,6 @@ module _ (p : Problem) (count : ℕ) (start now : Rest) (many : ℕ) (old mid : 
       ∙ (ap (λ t. t ++ text_of behind) (ap text_of (map-append f g.out_are g.waiting) ∙ (flat_map-append line (map f g.out_are) (map f g.waiting) ∙ ap (λ t. text_of (map f g.out_are) ++ t) (sym g.bytes_are ∙ front.2)))
       ∙ (append_assoc (text_of (map f g.out_are)) (front.0 ++ front.1) (text_of behind)
       ∙ (ap (λ t. text_of (map f g.out_are) ++ t) (append_assoc front.0 front.1 (text_of behind))
-      ∙ sym (append_assoc (text_of (map f g.out_are)) front.0 (front.1 ++ text_of behind)))))) in (
-        rose,
-        Done,
-        text_of (listing_lines p count all),
-        (listing_lines p count all, (refl, (all, (g.rest xs).0 is, refl)), refl),
-        (text_of (map f g.out_are) ++ front.0, front.1 ++ text_of behind, text, Appends-trans old.written mid.written new.written (text_of (map f g.out_are)) front.0 g.out front.3),
-      )
+      ∙ sym (append_assoc (text_of (map f g.out_are)) front.0 (front.1 ++ text_of behind)))))) in
+      Ends-stopped (Tells (RestSays p count start)) old new Done tt (text_of (listing_lines p count all)) (listing_lines p count all, (refl, (all, (g.rest xs).0 is, refl)), refl) rose
+      (text_of (map f g.out_are) ++ front.0, front.1 ++ text_of behind, text, Appends-trans old.out.written mid.out.written new.out.written (text_of (map f g.out_are)) front.0 g.out front.3) quiet

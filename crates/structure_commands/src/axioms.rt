@@ -11,7 +11,7 @@ ghost use Rattle.studio_rules.specs.declared.status.Status.TheVariants.{Refused}
 use command_files::problem_of;
 use endings::say::{say, say_memory};
 use pgraph::Graph;
-use pns_io::{Shelf, Sink};
+use pns_io::{Outputs, Shelf, Sink};
 use pns_problem::Problem;
 use pns_rules::{Axiom, Verdict};
 use std::alloc::{AllocError, Global};
@@ -43,8 +43,13 @@ fn breaks_line(alloc: Global, broken: Axiom, name: &str) -> Result<Vec<u8>, Allo
 }
 
 /// Says the broken axiom with the name of its place.
-pub fn say_breaks<K: Sink>(alloc: Global, out: &mut K, broken: Axiom, name: &str) -> Status
-    ensures { Ends (OrMemory (Only Refused (line (breaks_line broken name.now)))) (K.state out.old) (K.state out.new) result }
+pub fn say_breaks<K: Sink, E: Sink>(
+    alloc: Global,
+    out: &mut Outputs<K, E>,
+    broken: Axiom,
+    name: &str,
+) -> Status
+    ensures { Ends (OrMemory (Only Refused (line (breaks_line broken name.now)))) out.old out.new result }
 {
     match breaks_line(alloc, broken, name) {
         Ok(bytes) => say(out, &bytes, Status::Refused),
@@ -108,13 +113,13 @@ pub fn units_named(problem: &Problem, units: &UnitNames) -> UnitSet
 }
 
 /// Says `meets`, or the broken axiom with the name of its least place.
-pub fn say_verdict<K: Sink>(
+pub fn say_verdict<K: Sink, E: Sink>(
     alloc: Global,
-    out: &mut K,
+    out: &mut Outputs<K, E>,
     problem: &Problem,
     verdict: Verdict,
 ) -> Status
-    ensures { Ends (Tells (VerdictSays problem.now verdict)) (K.state out.old) (K.state out.new) result }
+    ensures { Ends (Tells (VerdictSays problem.now verdict)) out.old out.new result }
 {
     match verdict {
         Verdict::Meets => say(out, b"meets\n", Status::Done),
@@ -125,8 +130,13 @@ pub fn say_verdict<K: Sink>(
 }
 
 // Judges the units of names that are all known.
-fn say_known<K: Sink>(alloc: Global, out: &mut K, problem: &Problem, units: &UnitNames) -> Status
-    ensures { Ends (Tells (NamesSay units.now problem.now None)) (K.state out.old) (K.state out.new) result }
+fn say_known<K: Sink, E: Sink>(
+    alloc: Global,
+    out: &mut Outputs<K, E>,
+    problem: &Problem,
+    units: &UnitNames,
+) -> Status
+    ensures { Ends (Tells (NamesSay units.now problem.now None)) out.old out.new result }
 {
     let Ok(graph) = Graph::of(alloc, problem) else {
         return say_memory(out);
@@ -136,8 +146,13 @@ fn say_known<K: Sink>(alloc: Global, out: &mut K, problem: &Problem, units: &Uni
     say_verdict(alloc, out, problem, verdict)
 }
 
-fn say_judged<K: Sink>(alloc: Global, out: &mut K, problem: &Problem, units: &UnitNames) -> Status
-    ensures { Ends (Tells (AxiomsWork units.now problem.now)) (K.state out.old) (K.state out.new) result }
+fn say_judged<K: Sink, E: Sink>(
+    alloc: Global,
+    out: &mut Outputs<K, E>,
+    problem: &Problem,
+    units: &UnitNames,
+) -> Status
+    ensures { Ends (Tells (AxiomsWork units.now problem.now)) out.old out.new result }
 {
     match first_stranger(problem, units) {
         Some(name) => say_breaks(alloc, out, Axiom::S3, name),
@@ -146,14 +161,14 @@ fn say_judged<K: Sink>(alloc: Global, out: &mut K, problem: &Problem, units: &Un
 }
 
 /// Says whether the named units are a solution structure of the file's problem, or else the first axiom that they break.
-pub fn axioms<F: Shelf, K: Sink>(
+pub fn axioms<F: Shelf, K: Sink, E: Sink>(
     alloc: Global,
     file: &str,
     units: &UnitNames,
     shelf: &mut F,
-    out: &mut K,
+    out: &mut Outputs<K, E>,
 ) -> Status
-    ensures ends { Ends (FileSays (AxiomsWork units.now) file.now (F.state shelf.old) (F.state shelf.new)) (K.state out.old) (K.state out.new) result }
+    ensures ends { Ends (FileSays (AxiomsWork units.now) file.now (F.state shelf.old) (F.state shelf.new)) out.old out.new result }
     ensures keeps { Keeps (F.state shelf.old) (F.state shelf.new) }
 {
     match problem_of(alloc, shelf, out, file) {

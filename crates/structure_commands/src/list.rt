@@ -16,10 +16,12 @@ ghost use Rattle.studio_rules.specs.declared.status.Status.TheVariants.{Done, Ba
 
 use command_files::problem_of;
 use endings::line::push_unit_names;
-use endings::say::{say, say_memory, say_of};
+use endings::outputs::put_answer;
+use endings::say::{say, say_memory, say_of, tell};
 use max_structure::Steps;
+use messages::bad_token;
 use pgraph::Graph;
-use pns_io::{Failed, Shelf, Sink};
+use pns_io::{Failed, Outputs, Shelf, Sink};
 use pns_problem::Problem;
 use std::alloc::{AllocError, Global};
 use std::marker::Brand;
@@ -76,8 +78,8 @@ fn push_line(bytes: &mut Vec<u8>, problem: &Problem, set: UnitSet) -> Result<(),
 }
 
 // Says that more structures follow the last one given.
-fn say_more<K: Sink>(alloc: Global, out: &mut K, last: UnitSet) -> Status
-    ensures { Ends (OrMemory (Only Done (line (more_line last)))) (K.state out.old) (K.state out.new) result }
+fn say_more<K: Sink, E: Sink>(alloc: Global, out: &mut Outputs<K, E>, last: UnitSet) -> Status
+    ensures { Ends (OrMemory (Only Done (line (more_line last)))) out.old out.new result }
 {
     match print_token(alloc, last) {
         Ok(token) => say_of(alloc, out, "more ", &token, Status::Done),
@@ -86,15 +88,16 @@ fn say_more<K: Sink>(alloc: Global, out: &mut K, last: UnitSet) -> Status
 }
 
 // Puts the lines that wait, and leaves none.
-fn put_waiting<K: Sink>(out: &mut K, bytes: &mut Vec<u8>) -> Result<(), Failed>
-    ensures ok { OnOk result (Appends (K.state out.old).written (K.state out.new).written bytes.old.items) }
+fn put_waiting<K: Sink, E: Sink>(out: &mut Outputs<K, E>, bytes: &mut Vec<u8>) -> Result<(), Failed>
+    ensures ok { OnOk result (Appends out.old.out.written out.new.out.written bytes.old.items) }
     ensures none { OnOk result (bytes.new.items ≡ []) }
-    ensures err { OnErr result (AppendsFront (K.state out.old).written (K.state out.new).written bytes.old.items) }
-    ensures cause { OnErr result (HasRisen (K.state out.old).faults (K.state out.new).faults) }
-    ensures later { (K.state out.old).faults ≤ (K.state out.new).faults }
+    ensures err { OnErr result (AppendsFront out.old.out.written out.new.out.written bytes.old.items) }
+    ensures cause { OnErr result (HasRisen out.old.out.faults out.new.out.faults) }
+    ensures later { out.old.out.faults ≤ out.new.out.faults }
+    ensures quiet { out.new.err ≡ out.old.err }
 {
     if !bytes.is_empty() {
-        out.put(bytes)?;
+        put_answer(out, bytes)?;
         bytes.clear();
     }
     Ok(())
@@ -102,15 +105,15 @@ fn put_waiting<K: Sink>(out: &mut K, bytes: &mut Vec<u8>) -> Result<(), Failed>
 
 // Puts the lines of the structures that are to come, at most `count`, and the last line. The first line is put at once, and
 // then at most two, four, eight and so on together, until they have 8 KiB.
-fn say_rest<K: Sink>(
+fn say_rest<K: Sink, E: Sink>(
     alloc: Global,
-    out: &mut K,
+    out: &mut Outputs<K, E>,
     problem: &Problem,
     list: &mut StructureList<'_>,
     count: u64,
 ) -> Status
     requires { length problem.now.units ≤ 128 }
-    ensures { Ends (Tells (RestSays problem.now count list.old)) (K.state out.old) (K.state out.new) result }
+    ensures { Ends (Tells (RestSays problem.now count list.old)) out.old out.new result }
 {
     let mut bytes = Vec::new(alloc);
     let mut last = UnitSet::empty();
@@ -166,45 +169,46 @@ fn after_of(word: &str) -> Option<Option<UnitSet>>
     }
 }
 
-fn say_bad_token<K: Sink>(out: &mut K) -> Status
-    ensures { Ends (Only BadToken (line (codes "bad token"))) (K.state out.old) (K.state out.new) result }
+fn say_bad_token<K: Sink, E: Sink>(alloc: Global, out: &mut Outputs<K, E>, word: &str) -> Status
+    ensures { Ends (Only BadToken (line (codes "bad token"))) out.old out.new result }
 {
-    say(out, b"bad token\n", Status::BadToken)
+    let notes = bad_token(alloc, word);
+    tell(out, b"bad token\n", notes.bytes(), Status::BadToken)
 }
 
-fn say_listing<K: Sink>(
+fn say_listing<K: Sink, E: Sink>(
     alloc: Global,
-    out: &mut K,
+    out: &mut Outputs<K, E>,
     problem: &Problem,
     after: &str,
     count: u64,
 ) -> Status
-    ensures { Ends (Tells (ListingWork after.now count problem.now)) (K.state out.old) (K.state out.new) result }
+    ensures { Ends (Tells (ListingWork after.now count problem.now)) out.old out.new result }
 {
     let Ok(graph) = Graph::of(alloc, problem) else {
         return say_memory(out);
     };
     graph.is_proper();
-    let Some(after) = after_of(after) else {
-        return say_bad_token(out);
+    let Some(behind) = after_of(after) else {
+        return say_bad_token(alloc, out, after);
     };
-    match StructureList::open(alloc, &graph, after) {
+    match StructureList::open(alloc, &graph, behind) {
         Ok(mut list) => say_rest(alloc, out, problem, &mut list, count),
-        Err(OpenFault::NotAStructure) => say_bad_token(out),
+        Err(OpenFault::NotAStructure) => say_bad_token(alloc, out, after),
         Err(OpenFault::Memory) => say_memory(out),
     }
 }
 
 /// Lists the structures of the file's problem that stand behind AFTER, at most `count` of them.
-pub fn list<F: Shelf, K: Sink>(
+pub fn list<F: Shelf, K: Sink, E: Sink>(
     alloc: Global,
     file: &str,
     after: &str,
     count: u64,
     shelf: &mut F,
-    out: &mut K,
+    out: &mut Outputs<K, E>,
 ) -> Status
-    ensures ends { Ends (FileSays (ListingWork after.now count) file.now (F.state shelf.old) (F.state shelf.new)) (K.state out.old) (K.state out.new) result }
+    ensures ends { Ends (FileSays (ListingWork after.now count) file.now (F.state shelf.old) (F.state shelf.new)) out.old out.new result }
     ensures keeps { Keeps (F.state shelf.old) (F.state shelf.new) }
 {
     match problem_of(alloc, shelf, out, file) {

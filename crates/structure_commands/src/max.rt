@@ -16,7 +16,7 @@ use endings::line::{push_material_names, push_unit_names};
 use endings::say::{say, say_both, say_memory};
 use max_structure::maximal;
 use pgraph::Graph;
-use pns_io::{Shelf, Sink};
+use pns_io::{Outputs, Shelf, Sink};
 use pns_problem::Problem;
 use std::alloc::{AllocError, Global};
 use studio_rules::Status;
@@ -43,16 +43,16 @@ fn materials_line(alloc: Global, problem: &Problem, set: MatSet) -> Result<Vec<u
 }
 
 // Puts the two lines of a set of units.
-fn say_structure<K: Sink>(
+fn say_structure<K: Sink, E: Sink>(
     alloc: Global,
-    out: &mut K,
+    out: &mut Outputs<K, E>,
     problem: &Problem,
     graph: &Graph,
     set: UnitSet,
 ) -> Status
     requires graph { shape graph.now ≡ shape_of problem.now }
     requires known { (u : ℕ) → has set u ≡ true → u < (shape graph.now).units }
-    ensures { Ends (OrMemory (Only Done (line (units_line problem.now (has set)) ++ line (materials_line problem.now (mats (shape_of problem.now) (has set)))))) (K.state out.old) (K.state out.new) result }
+    ensures { Ends (OrMemory (Only Done (line (units_line problem.now (has set)) ++ line (materials_line problem.now (mats (shape_of problem.now) (has set)))))) out.old out.new result }
 {
     graph.is_proper();
     let Ok(units) = units_line(alloc, problem, set) else {
@@ -64,8 +64,12 @@ fn say_structure<K: Sink>(
     say_both(out, &units, &materials, Status::Done)
 }
 
-fn say_maximal<K: Sink>(alloc: Global, out: &mut K, problem: &Problem) -> Status
-    ensures { Ends (Tells (MaxWork problem.now)) (K.state out.old) (K.state out.new) result }
+fn say_maximal<K: Sink, E: Sink>(
+    alloc: Global,
+    out: &mut Outputs<K, E>,
+    problem: &Problem,
+) -> Status
+    ensures { Ends (Tells (MaxWork problem.now)) out.old out.new result }
 {
     let Ok(graph) = Graph::of(alloc, problem) else {
         return say_memory(out);
@@ -77,8 +81,13 @@ fn say_maximal<K: Sink>(alloc: Global, out: &mut K, problem: &Problem) -> Status
 }
 
 /// Says the units and the materials of the maximal structure of the file's problem.
-pub fn max<F: Shelf, K: Sink>(alloc: Global, file: &str, shelf: &mut F, out: &mut K) -> Status
-    ensures ends { Ends (FileSays MaxWork file.now (F.state shelf.old) (F.state shelf.new)) (K.state out.old) (K.state out.new) result }
+pub fn max<F: Shelf, K: Sink, E: Sink>(
+    alloc: Global,
+    file: &str,
+    shelf: &mut F,
+    out: &mut Outputs<K, E>,
+) -> Status
+    ensures ends { Ends (FileSays MaxWork file.now (F.state shelf.old) (F.state shelf.new)) out.old out.new result }
     ensures keeps { Keeps (F.state shelf.old) (F.state shelf.new) }
 {
     match problem_of(alloc, shelf, out, file) {

@@ -22,7 +22,8 @@ use Rattle.studio_rules.specs.Solve.{SolveWork}
 use Rattle.studio_rules.specs.Command.{Command, Listing, Checking, RankChecking, Solving, Ranking, command_of}
 use Rattle.studio_rules.specs.Lines.{line, text_of}
 use Rattle.studio_rules.specs.Ending.{Ends}
-use Rattle.endings.proofs.Ending.{one_line}
+use Rattle.endings.proofs.Ending.{writes_as, one_line}
+use Rattle.endings.proofs.Put.{text_out}
 use Rattle.studio_rules.specs.declared.status.Status.{Status}
 use Rattle.studio_rules.specs.declared.status.Status.TheVariants.{Done, ReadFault, WriteFault, Memory, TooLong, BadToken}
 use Rattle.studio_rules.specs.Answers.{AnswersTo, CommandAnswers, WordsSay}
@@ -63,7 +64,7 @@ answered c command text calls puts =
     record {
       lines = ends.1.0;
       answers = subst (λ (f : Option Command). AnswersTo c.shelf_before.held f Done ends.1.0) calls.form ends.1.1;
-      text_is = appended c.out_before.written c.out_after.written puts.front text ends.0 puts.before puts.after ends.2 ∙ ends.1.2;
+      text_is = appended c.out_before.out.written c.out_after.out.written puts.front text ends.0 puts.before puts.after (text_out c.out_before c.out_after Done ends.0 tt ends.2) ∙ ends.1.2;
     }
 
 -- what is shown of each answer of a call holds of how it ended
@@ -77,7 +78,7 @@ module _ (c : Call) (command : Command) (calls : Calls c command) (Q : Status �
       at Memory is e = inr (inr (inr (inl is)))
       at s is e =
           let told = shown s e.1.0 (subst (λ (f : Option Command). AnswersTo c.shelf_before.held f s e.1.0) calls.form e.1.1) in
-          inl (told.0, told.1, (is ∙ told.2, subst (λ (t : List ℕ). Appends c.out_before.written c.out_after.written t) (e.1.2 ∙ told.3) e.2), told.4)
+          inl (told.0, told.1, (is ∙ told.2, writes_as c.out_before c.out_after s told.0 e.0 told.1 told.2 (e.1.2 ∙ told.3) e.2), told.4)
 
 -- ---- texts that are accepted
 
@@ -92,8 +93,8 @@ verdict name text s lines (inl h) = inl (h.0, h.1, ap text_of h.2 ∙ sym (one_l
 verdict name text s lines (inr h) = inr (h.0, h.1, ap text_of h.2 ∙ sym (one_line (codes "too long " ++ name)))
 
 accepts : (c : Call) (name text : List ℕ) (status : Status) (said : List ℕ) → EndsWith c status said → IsVerdict name text status said → Accepts c name text
-accepts c name text status said ends (inl h) = inl (h.0, (ends.0 ∙ h.1, subst (λ (t : List ℕ). Appends c.out_before.written c.out_after.written t) h.2 ends.1))
-accepts c name text status said ends (inr h) = inr (h.0, (ends.0 ∙ h.1, subst (λ (t : List ℕ). Appends c.out_before.written c.out_after.written t) h.2 ends.1))
+accepts c name text status said ends (inl h) = inl (h.0, (ends.0 ∙ h.1, writes_as c.out_before c.out_after status Done said _ h.1 h.2 ends.1))
+accepts c name text status said ends (inr h) = inr (h.0, (ends.0 ∙ h.1, writes_as c.out_before c.out_after status TooLong said _ h.1 h.2 ends.1))
 
 -- the same answers where another shelf holds the file
 moved : (work : Problem → Status → List (List ℕ) → Type 0) (held later : List ℕ → Told) (file bytes : List ℕ) (s : Status) (lines : List (List ℕ)) → held file ≡ Some (Some bytes) → later file ≡ Some (Some bytes) → OnFile work held file s lines → OnFile work later file s lines
@@ -299,6 +300,6 @@ module _ (join : PartsJoin) (well : ValidIsWellFormed) (file after token : List 
           let said = joined p one.lines other.lines formed one.text_is work work_behind s ls (given_work (ListingWork after (m + n)) whole.shelf_before.held file bytes p s ls whole_holds given h) in
           (s, text_of ls, refl, refl, (said.0, said.1 ∙ ap (λ (t : List ℕ). text_of lines ++ t) (sym other.text_is))) in
           elim (ended whole (Listing file after (m + n)) all (λ s t. (s ≡ Done) × (t ≡ text_of lines ++ rest)) shown) [
-            | inl h ↦ inl (h.2.0 ∙ h.3.0, subst (λ (t : List ℕ). Appends whole.out_before.written whole.out_after.written t) h.3.1 h.2.1)
+            | inl h ↦ inl (h.2.0 ∙ h.3.0, writes_as whole.out_before whole.out_after h.0 Done h.1 _ h.3.0 h.3.1 h.2.1)
             | inr failed ↦ inr failed
           ]

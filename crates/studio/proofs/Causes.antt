@@ -15,7 +15,7 @@ use Rattle.plan_rules.specs.declared.PlanKind.{PlanKind}
 use Rattle.plan_rules.specs.Plan.{Plan}
 use Rattle.plan_rules.specs.Read as plans
 use Rattle.text_rules.specs.Outside.{Told}
-use Rattle.io_rules.specs.State.{ShelfState, SinkState}
+use Rattle.io_rules.specs.State.{ShelfState, OutputsState}
 use Rattle.tree_rules.specs.Claim.{Claim, Network}
 use Rattle.tree_rules.specs.Accepted.{Tree}
 use Rattle.tree_text_rules.specs.Read as trees
@@ -28,7 +28,7 @@ use Rattle.stability_rules.specs.declared.spot.SpotKind.{SpotKind}
 use Rattle.problem_rules.specs.Generated.{generated}
 use Rattle.studio_rules.specs.Ending.{Ends, IsOneOf}
 use Rattle.studio_rules.specs.declared.status.Status.{Status}
-use Rattle.studio_rules.specs.declared.status.Status.TheVariants.{Done, Refused, Past, Spent, ReadFault, WriteFault, Memory, BadProblem, BadToken, BadTree, BadEdit, TooLong, UnknownName, NotMigrated, BadNode, BadPlan}
+use Rattle.studio_rules.specs.declared.status.Status.TheVariants.{Done, Refused, Past, Spent, ReadFault, WriteFault, Memory, BadProblem, BadToken, BadTree, BadEdit, TooLong, UnknownName, NotMigrated, BadNode, BadPlan, BadClaim}
 use Rattle.studio_rules.specs.Reading.{AreHeld, FileFault, GivesProblem, OnFile, file_limit}
 use Rattle.studio_rules.specs.Script.{ScriptFault, GivesScript, HasEditFault, OnScript}
 use Rattle.studio_rules.specs.Plan.{PlanFileFault, GivesPlan, OnPlan}
@@ -45,6 +45,7 @@ use Rattle.studio_rules.specs.Rank.{RankWork}
 use Rattle.studio_rules.specs.Network.{OnNetwork}
 use Rattle.studio_rules.specs.Table.{TableWork}
 use Rattle.studio_rules.specs.Report.{ReportWork}
+use Rattle.studio_rules.specs.Json.{JsonWork}
 use Rattle.studio_rules.specs.Graph.{PlantGraphWork, NetworkGraphWork}
 use Rattle.studio_rules.specs.Expand.{ExpandWork}
 use Rattle.studio_rules.specs.Periods.{PeriodsWork}
@@ -54,12 +55,13 @@ use Rattle.studio_rules.specs.Merge.{MergeWork}
 use Rattle.studio_rules.specs.Start.{OnStart}
 use Rattle.studio_rules.specs.Part.{PartSays, PartWork, ClaimSays, AgainstWork}
 use Rattle.studio_rules.specs.Solve.{SolveWork}
+use Rattle.studio_rules.specs.Show.{ShowWork}
 use Rattle.studio_rules.specs.Stable.{spot_named, NamedWork, StableWork}
-use Rattle.studio_rules.specs.Command.{Command, Max, Axioms, Flows, Listing, Make, Migrate, Editing, Undoing, Checking, RankChecking, Solving, Ranking, Trial, Telling, Table, Splitting, Expanding, Drawing, DrawingNetwork, Reporting, Ranging, Planning, Parting, PartingAgainst, Merging, command_of}
+use Rattle.studio_rules.specs.Command.{Command, Max, Axioms, Flows, Listing, Make, Migrate, Editing, Undoing, Checking, RankChecking, Solving, Showing, Ranking, Trial, Telling, Table, Splitting, Expanding, Drawing, DrawingNetwork, Reporting, Json, Ranging, Planning, Parting, PartingAgainst, Merging, command_of}
 use Rattle.studio_rules.specs.Answers.{AnswersTo, CommandAnswers, WordsSay}
 use Rattle.studio_rules.specs.Causes.{caused, FileCause, HasProblemFault, HasScriptFault, HasPlanFault, HasTreeFault, HasRankFault, HasPartFault, NoCause, TokenCause, MigrationCause, NameCause, InFile, InScript, InPlan, InRank, InTree, InParts, AtNode, CauseOf, AreTold, EndsExactly}
 use Rattle.studio.proofs.Accepted.{no_fault, one_problem}
-use Rattle.studio.proofs.Statuses.{max_status, names_status, flows_status, check_status, rankcheck_status, split_status, table_status, report_status, network_status, solve_status, rank_status, search_status, plant_graph_status, graph_status, periods_status, part_status, claim_status, merge_fault_status, spot_status}
+use Rattle.studio.proofs.Statuses.{max_status, names_status, flows_status, check_status, rankcheck_status, split_status, table_status, report_status, json_status, network_status, solve_status, show_status, rank_status, search_status, plant_graph_status, graph_status, periods_status, part_status, claim_status, merge_fault_status, spot_status}
 
 -- the same statuses, by cases
 abbrev pub Caused : Status → Type 0
@@ -421,6 +423,10 @@ module _ (p : Problem) (s : Status) (lines : List (List ℕ)) (c : Caused s) whe
   refused_plain (inl q) = subst Caused q c
   refused_plain (inr q) = subst Caused q c
 
+  unclaimed_plain : (s ≡ Done) ⊎ (s ≡ BadClaim) → ⊥
+  unclaimed_plain (inl q) = subst Caused q c
+  unclaimed_plain (inr q) = subst Caused q c
+
   claim_plain : (budget : ℕ) (inside outside : List ℕ) (claim : Claim) (tree : Tree) → ClaimSays budget inside outside p claim tree s lines → ⊥
   claim_plain budget inside outside claim tree h = elim (claim_status budget inside outside p claim tree s lines h) [ inl q ↦ subst Caused q c | inr o ↦ stops_plain o ]
 
@@ -442,19 +448,22 @@ module _ (held : List ℕ → Told) where
   command_only (RankChecking file rank) = file_only held file (OnRank held rank) (InRank held rank) (rank_only held rank)
   command_only (Table file tree) =
       file_only held file (OnTree (OnNetwork TableWork) held tree) (InTree NoCause held tree)
-      (λ p. tree_only (OnNetwork TableWork) NoCause held tree p (λ claim its s lines c h. refused_plain p s lines c (network_status TableWork table_status p claim its s lines h)))
+      (λ p. tree_only (OnNetwork TableWork) NoCause held tree p (λ claim its s lines c h. unclaimed_plain p s lines c (network_status TableWork table_status p claim its s lines h)))
   command_only (Splitting file tree) =
       file_only held file (OnTree SplitWork held tree) (InTree NoCause held tree)
-      (λ p. tree_only SplitWork NoCause held tree p (λ claim its s lines c h. refused_plain p s lines c (split_status p claim its s lines h)))
+      (λ p. tree_only SplitWork NoCause held tree p (λ claim its s lines c h. unclaimed_plain p s lines c (split_status p claim its s lines h)))
   command_only (Expanding file plan) =
       file_only held file (OnPlan ExpandWork held plan) (InPlan held plan) (plan_only ExpandWork (λ p its s lines c h. subst Caused h.0 c) held plan)
   command_only (Drawing file) = file_only held file PlantGraphWork NoCause drawing_plain
   command_only (DrawingNetwork file tree) =
       file_only held file (OnTree (OnNetwork NetworkGraphWork) held tree) (InTree NoCause held tree)
-      (λ p. tree_only (OnNetwork NetworkGraphWork) NoCause held tree p (λ claim its s lines c h. refused_plain p s lines c (network_status NetworkGraphWork graph_status p claim its s lines h)))
+      (λ p. tree_only (OnNetwork NetworkGraphWork) NoCause held tree p (λ claim its s lines c h. unclaimed_plain p s lines c (network_status NetworkGraphWork graph_status p claim its s lines h)))
   command_only (Reporting file tree) =
-      file_only held file (OnTree (OnNetwork ReportWork) held tree) (InTree NoCause held tree)
-      (λ p. tree_only (OnNetwork ReportWork) NoCause held tree p (λ claim its s lines c h. refused_plain p s lines c (network_status ReportWork report_status p claim its s lines h)))
+      file_only held file (OnTree ReportWork held tree) (InTree NoCause held tree)
+      (λ p. tree_only ReportWork NoCause held tree p (λ claim its s lines c h. unclaimed_plain p s lines c (report_status p claim its s lines h)))
+  command_only (Json file tree) =
+      file_only held file (OnTree JsonWork held tree) (InTree NoCause held tree)
+      (λ p. tree_only JsonWork NoCause held tree p (λ claim its s lines c h. unclaimed_plain p s lines c (json_status p claim its s lines h)))
   command_only (Ranging file tree kind name budget) =
       file_only held file (OnTree (StableWork kind name budget) held tree) (InTree (NameCause kind name) held tree)
       (λ p. tree_only (StableWork kind name budget) (NameCause kind name) held tree p (name_only kind name budget p))
@@ -473,6 +482,8 @@ module _ (held : List ℕ → Told) where
       (λ p. tree_only (MergeWork held parts) (InParts held parts) held tree p (merge_only held p parts))
   command_only (Solving file budget) =
       file_only held file (SolveWork budget) NoCause (λ p s lines c h. stops_plain p s lines c (solve_status budget p s lines h))
+  command_only (Showing file budget) =
+      file_only held file (ShowWork budget) NoCause (λ p s lines c h. stops_plain p s lines c (show_status budget p s lines h))
   command_only (Ranking file count budget) =
       file_only held file (RankWork count budget) NoCause (λ p s lines c h. stops_plain p s lines c (rank_status count budget p s lines h))
   command_only (Trial number units budget) = λ s lines c h. stops_plain (generated number units) s lines c (search_status budget (generated number units) s lines h)
@@ -511,7 +522,8 @@ module _ (held : List ℕ → Told) where
       (λ p valid. plan_always ExpandWork (λ p its s lines c h. subst Caused h.0 c) held plan p (told plan (inr refl))) (told file (inl refl))
   command_always once (Drawing file) told = alone file PlantGraphWork (told file refl)
   command_always once (DrawingNetwork file tree) told = beside_tree file tree (OnNetwork NetworkGraphWork) (told file (inl refl)) (told tree (inr refl))
-  command_always once (Reporting file tree) told = beside_tree file tree (OnNetwork ReportWork) (told file (inl refl)) (told tree (inr refl))
+  command_always once (Reporting file tree) told = beside_tree file tree ReportWork (told file (inl refl)) (told tree (inr refl))
+  command_always once (Json file tree) told = beside_tree file tree JsonWork (told file (inl refl)) (told tree (inr refl))
   command_always once (Ranging file tree kind name budget) told =
       file_always held file (OnTree (StableWork kind name budget) held tree) (InTree (NameCause kind name) held tree)
       (λ p valid. tree_always (StableWork kind name budget) (NameCause kind name) held tree p (name_always kind name budget p) (told tree (inr refl))) (told file (inl refl))
@@ -530,14 +542,15 @@ module _ (held : List ℕ → Told) where
       (λ p valid. tree_always (MergeWork held parts) (InParts held parts) held tree p
       (λ claim its. merge_always held p parts claim its once valid (λ name h. told name (inr (inr h)))) (told tree (inr (inl refl)))) (told file (inl refl))
   command_always once (Solving file budget) told = alone file (SolveWork budget) (told file refl)
+  command_always once (Showing file budget) told = alone file (ShowWork budget) (told file refl)
   command_always once (Ranking file count budget) told = alone file (RankWork count budget) (told file refl)
   command_always once (Trial number units budget) told = λ status s lines none h. absurd none
   command_always once (Telling text) told = λ status s lines none h. absurd none
 
 -- ---- the call
 
--- each status that has a cause comes just where it holds, unless reading, the sink or memory fails
-module _ (once : PartsAreReadOnce) (old new : ShelfState) (words : List (List ℕ)) (before after : SinkState) where
+-- each status that has a cause comes just where it holds, unless reading, an output or memory fails
+module _ (once : PartsAreReadOnce) (old new : ShelfState) (words : List (List ℕ)) (before after : OutputsState) where
   pub exact_ends : (s : Status) → Ends (WordsSay old new words) before after s → (command : Command) → command_of words ≡ Some command → EndsExactly old.held command s
   exact_ends ReadFault e command is status named = record { only = λ q. absurd (subst Caused (sym q) (by_cases status named)); always = λ told cause. inr (inl refl) }
   exact_ends WriteFault e command is status named = record { only = λ q. absurd (subst Caused (sym q) (by_cases status named)); always = λ told cause. inr (inr (inl refl)) }

@@ -4,7 +4,7 @@ use Rattle.number_sets.specs.Sets.{has}
 use Rattle.problem_rules.specs.Problem.{Problem}
 use Rattle.problem_rules.specs.Generated.{generated}
 use Rattle.text_rules.specs.Outside.{Told}
-use Rattle.io_rules.specs.State.{ShelfState, SinkState}
+use Rattle.io_rules.specs.State.{ShelfState, OutputsState}
 use Rattle.pns_rules.specs.Nodes.{Node}
 use Rattle.pns_rules.specs.declared.verdict.Verdict.{Verdict}
 use Rattle.pns_rules.specs.declared.verdict.Verdict.TheVariants.{Meets, Breaks}
@@ -16,7 +16,7 @@ use Rattle.tree_rules.specs.Tail.{Tail, whole, spent, past}
 use Rattle.stability_rules.specs.declared.spot.Spot.{Spot}
 use Rattle.stability_rules.specs.declared.spot.SpotKind.{SpotKind}
 use Rattle.stability_rules.specs.Spot.{valued}
-use Rattle.studio_rules.specs.Command.{Command, Flows, Solving, Ranking, Trial, Ranging, Planning, Parting, PartingAgainst, command_of}
+use Rattle.studio_rules.specs.Command.{Command, Flows, Solving, Showing, Ranking, Trial, Ranging, Planning, Parting, PartingAgainst, command_of}
 use Rattle.studio_rules.specs.Reading.{AreHeld}
 use Rattle.studio_rules.specs.TreeFile.{TreeFault, GivesTree, OnTree}
 use Rattle.studio_rules.specs.Plan.{PlanFileFault, OnPlan}
@@ -31,8 +31,8 @@ use Rattle.studio_rules.specs.Ending.{Ends}
 use Rattle.studio_rules.specs.Answers.{AnswersTo, CommandAnswers, WordsSay, IsNotStopped}
 use Rattle.studio_rules.specs.Answers.{SearchCanFinish, PlanCanFinish, RangeCanFinish}
 use Rattle.studio_rules.specs.declared.status.Status.{Status}
-use Rattle.studio_rules.specs.declared.status.Status.TheVariants.{Done, Refused, Past, Spent, ReadFault, WriteFault, Memory, TooLong, BadTree, BadPlan, BadNode, NotBest, UnknownName}
-use Rattle.studio.proofs.Statuses.{finished, rank_finished, search_finished, fault_not_stopped, plan_status, tree_status}
+use Rattle.studio_rules.specs.declared.status.Status.TheVariants.{Done, Refused, Past, Spent, ReadFault, WriteFault, Memory, TooLong, BadTree, BadPlan, BadNode, NotBest, UnknownName, BadClaim}
+use Rattle.studio.proofs.Statuses.{finished, show_finished, rank_finished, search_finished, fault_not_stopped, plan_status, tree_status}
 
 -- ---- files that give nothing
 
@@ -52,6 +52,9 @@ tree_not_stopped name p file s lines h = elim (tree_status name p file s lines h
 
 refused : (s : Status) → s ≡ Refused → IsNotStopped s
 refused s e = ((λ r. cc), (λ r. cc))
+
+claim_refused : (s : Status) → s ≡ BadClaim → IsNotStopped s
+claim_refused s e = ((λ r. cc), (λ r. cc))
 
 -- ---- the path of one program
 
@@ -95,7 +98,7 @@ module _ (budget : ℕ) (p : Problem) (can : CanFinish budget p) where
   claim_finished : (inside outside : List ℕ) (claim : Claim) (tree : Tree)
       → (s : Status) (lines : List (List ℕ))
       → ClaimSays budget inside outside p claim tree s lines → IsNotStopped s
-  claim_finished inside outside (network w) tree s lines (inl h) = refused s h.0
+  claim_finished inside outside (network w) tree s lines (inl h) = claim_refused s h.0
   claim_finished inside outside (network w) tree s lines (inr h) =
       part_finished (Some w) inside outside s lines h.1
   claim_finished inside outside infeasible tree s lines h =
@@ -152,7 +155,7 @@ named_finished : (o : Option Spot) (budget : ℕ) (p : Problem) (claim : Claim) 
     → ((spot : Spot) (w : Network) → o ≡ Some spot → claim ≡ network w → CanRange budget p spot w)
     → NamedWork o budget p claim tree s lines → IsNotStopped s
 named_finished None budget p claim tree s lines can h = let h0 = h.0 in ((λ r. cc), (λ r. cc))
-named_finished (Some spot) budget p claim tree s lines can (inl h) = refused s h.0
+named_finished (Some spot) budget p claim tree s lines can (inl h) = claim_refused s h.0
 named_finished (Some spot) budget p claim tree s lines can (inr h) =
     spot_finished spot budget p h.0 s lines (can spot h.0 refl h.1.0) h.2
 
@@ -176,6 +179,10 @@ command_finished held (Solving name budget) s lines can (file, is, inl fault) =
     fault_not_stopped name file s lines fault
 command_finished held (Solving name budget) s lines can (file, is, inr (p, given, work)) =
     finished budget p s lines (can file p is given) work
+command_finished held (Showing name budget) s lines can (file, is, inl fault) =
+    fault_not_stopped name file s lines fault
+command_finished held (Showing name budget) s lines can (file, is, inr (p, given, work)) =
+    show_finished budget p s lines (can file p is given) work
 command_finished held (Ranking name count budget) s lines can (file, is, inl fault) =
     fault_not_stopped name file s lines fault
 command_finished held (Ranking name count budget) s lines can (file, is, inr (p, given, work)) =
@@ -209,7 +216,7 @@ command_finished held (Flows name units) s lines can (file, is, inr (p, given, w
     flows_finished units p (first_stranger p units) s lines (can file p is given) work
 command_finished held command s lines can h = absurd can
 
-module _ (old new : ShelfState) (words : List (List ℕ)) (before after : SinkState) where
+module _ (old new : ShelfState) (words : List (List ℕ)) (before after : OutputsState) where
   -- a search that nothing stops comes to its end
   pub finish_ends : (s : Status) → Ends (WordsSay old new words) before after s
       → (command : Command) → command_of words ≡ Some command → SearchCanFinish old.held command

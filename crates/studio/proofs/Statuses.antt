@@ -6,8 +6,8 @@ use Rattle.edit_rules.specs.Edit.{Edit}
 use Rattle.pns_rules.specs.declared.verdict.Verdict.{Verdict}
 use Rattle.pns_rules.specs.declared.verdict.Verdict.TheVariants.{Meets, Breaks}
 use Rattle.text_rules.specs.Outside.{HasRisen, Told, IsToldAnd}
-use Rattle.io_rules.specs.State.{ShelfState, SinkState}
-use Rattle.studio_rules.specs.Command.{Command, Max, Axioms, Flows, Listing, Make, Migrate, Editing, Undoing, Checking, RankChecking, Solving, Ranking, Trial, Telling, command_of, IsFileOf, IsFileWord, Table, Splitting, Expanding, Drawing, DrawingNetwork, Reporting, Ranging, Planning, Parting, PartingAgainst, Merging}
+use Rattle.io_rules.specs.State.{ShelfState, OutputsState}
+use Rattle.studio_rules.specs.Command.{Command, Max, Axioms, Flows, Listing, Make, Migrate, Editing, Undoing, Checking, RankChecking, Solving, Showing, Ranking, Trial, Telling, command_of, IsFileOf, IsFileWord, Table, Splitting, Expanding, Drawing, DrawingNetwork, Reporting, Json, Ranging, Planning, Parting, PartingAgainst, Merging}
 use Rattle.studio_rules.specs.Reading.{AreHeld, FileFault, file_limit}
 use Rattle.studio_rules.specs.Max.{MaxWork}
 use Rattle.studio_rules.specs.Listing.{ListingWork}
@@ -29,6 +29,7 @@ use Rattle.studio_rules.specs.Rankcheck.{RankFault, RankcheckWork, FilesListBest
 use Rattle.studio_rules.specs.Network.{OnNetwork, ClaimRefusal}
 use Rattle.studio_rules.specs.Table.{TableWork}
 use Rattle.studio_rules.specs.Report.{ReportWork}
+use Rattle.studio_rules.specs.Json.{JsonWork}
 use Rattle.studio_rules.specs.Graph.{PlantGraphWork, NetworkGraphWork}
 use Rattle.studio_rules.specs.Split.{SplitWork}
 use Rattle.studio_rules.specs.PartFile.{PartFault, FirstFault, are_several}
@@ -47,12 +48,13 @@ use Rattle.studio_rules.specs.Best.{FilesClaimBest, AcceptedIsBest}
 use Rattle.tree_rules.specs.Tail.{Tail, whole, spent, past}
 use Rattle.problem_rules.specs.Generated.{generated}
 use Rattle.studio_rules.specs.Solve.{SolveWork, Holds, status_of, CanFinish}
+use Rattle.studio_rules.specs.Show.{ShowWork}
 use Rattle.studio_rules.specs.Summary.{SummaryWork}
 use Rattle.studio_rules.specs.Axioms.{NamesSay, VerdictSays, first_stranger}
-use Rattle.studio_rules.specs.Ending.{Ends, IsOneOf}
+use Rattle.studio_rules.specs.Ending.{Ends, IsOneOf, HasFault}
 use Rattle.studio_rules.specs.Answers.{AnswersTo, CommandAnswers, WordsSay, IsReadWithin, IsUndisturbed, IsNotStopped, statuses_of, first_file}
 use Rattle.studio_rules.specs.declared.status.Status.{Status}
-use Rattle.studio_rules.specs.declared.status.Status.TheVariants.{Done, Refused, Usage, BadProblem, Past, Spent, ReadFault, WriteFault, Memory, TooLong, BadToken, BadTree, BadEdit, NotMigrated, BadPlan, BadNode, NoLeaf, NotBest, UnknownName}
+use Rattle.studio_rules.specs.declared.status.Status.TheVariants.{Done, Refused, Usage, BadProblem, Past, Spent, ReadFault, WriteFault, Memory, TooLong, BadToken, BadTree, BadEdit, NotMigrated, BadPlan, BadNode, NoLeaf, NotBest, UnknownName, BadClaim}
 
 -- a file that gives no problem, where it is held within the limit or not
 fault_status : (name file : List ℕ) (s : Status) (lines : List (List ℕ)) → FileFault name file s lines → (s ≡ BadProblem) ⊎ ((s ≡ TooLong) × (file_limit < length file))
@@ -129,21 +131,27 @@ rankcheck_status p t Done lines h = inl refl
 rankcheck_status p t Refused lines h = inr refl
 rankcheck_status p t s lines h = absurd h
 
-pub split_status : (p : Problem) (claim : Claim) (tree : Tree) (s : Status) (lines : List (List ℕ)) → SplitWork p claim tree s lines → (s ≡ Done) ⊎ (s ≡ Refused)
+pub split_status : (p : Problem) (claim : Claim) (tree : Tree) (s : Status) (lines : List (List ℕ)) → SplitWork p claim tree s lines → (s ≡ Done) ⊎ (s ≡ BadClaim)
 split_status p claim tree Done lines h = inl refl
-split_status p claim tree Refused lines h = inr refl
+split_status p claim tree BadClaim lines h = inr refl
 split_status p claim tree s lines h = absurd h
 
 pub table_status : (p : Problem) (w : Network) (s : Status) (lines : List (List ℕ)) → TableWork p w s lines → s ≡ Done
 table_status p w Done lines h = refl
 table_status p w s lines h = absurd h
 
-pub report_status : (p : Problem) (w : Network) (s : Status) (lines : List (List ℕ)) → ReportWork p w s lines → s ≡ Done
-report_status p w Done lines h = refl
-report_status p w s lines h = absurd h
+pub report_status : (p : Problem) (claim : Claim) (tree : Tree) (s : Status) (lines : List (List ℕ)) → ReportWork p claim tree s lines → (s ≡ Done) ⊎ (s ≡ BadClaim)
+report_status p claim tree Done lines h = inl refl
+report_status p claim tree BadClaim lines h = inr refl
+report_status p claim tree s lines h = absurd h
+
+pub json_status : (p : Problem) (claim : Claim) (tree : Tree) (s : Status) (lines : List (List ℕ)) → JsonWork p claim tree s lines → (s ≡ Done) ⊎ (s ≡ BadClaim)
+json_status p claim tree Done lines h = inl refl
+json_status p claim tree BadClaim lines h = inr refl
+json_status p claim tree s lines h = absurd h
 
 -- a claim is refused, or the work on its network is done
-pub network_status : (work : Problem → Network → Status → List (List ℕ) → Type 0) → ((p : Problem) (w : Network) (s : Status) (lines : List (List ℕ)) → work p w s lines → s ≡ Done) → (p : Problem) (claim : Claim) (tree : Tree) (s : Status) (lines : List (List ℕ)) → OnNetwork work p claim tree s lines → (s ≡ Done) ⊎ (s ≡ Refused)
+pub network_status : (work : Problem → Network → Status → List (List ℕ) → Type 0) → ((p : Problem) (w : Network) (s : Status) (lines : List (List ℕ)) → work p w s lines → s ≡ Done) → (p : Problem) (claim : Claim) (tree : Tree) (s : Status) (lines : List (List ℕ)) → OnNetwork work p claim tree s lines → (s ≡ Done) ⊎ (s ≡ BadClaim)
 network_status work done p claim tree s lines (inl refusal) = inr refusal.0
 network_status work done p claim tree s lines (inr rest) = inl (done p rest.0 s lines rest.2)
 
@@ -154,6 +162,9 @@ tail_status (past node nonbasic place) s e = inr (inr e)
 
 pub solve_status : (budget : ℕ) (p : Problem) (s : Status) (lines : List (List ℕ)) → SolveWork budget p s lines → (s ≡ Done) ⊎ ((s ≡ Spent) ⊎ (s ≡ Past))
 solve_status budget p s lines h = tail_status h.0.tail s h.1
+
+pub show_status : (budget : ℕ) (p : Problem) (s : Status) (lines : List (List ℕ)) → ShowWork budget p s lines → (s ≡ Done) ⊎ ((s ≡ Spent) ⊎ (s ≡ Past))
+show_status budget p s lines h = tail_status h.0.tail s h.2.0
 
 pub rank_status : (count budget : ℕ) (p : Problem) (s : Status) (lines : List (List ℕ)) → RankWork count budget p s lines → (s ≡ Done) ⊎ ((s ≡ Spent) ⊎ (s ≡ Past))
 rank_status count budget p s lines h = tail_status h.0.tail s h.1
@@ -182,12 +193,13 @@ plans_status work held name p s lines done (file, is, inl fault) short = elim (p
 ]
 plans_status work held name p s lines done (file, is, inr rest) short = inl (done rest.0 rest.2)
 
-trees_status : (work : Problem → Claim → Tree → Status → List (List ℕ) → Type 0) → ((p : Problem) (claim : Claim) (tree : Tree) (s : Status) (lines : List (List ℕ)) → work p claim tree s lines → (s ≡ Done) ⊎ (s ≡ Refused)) → (held : List ℕ → Told) (name : List ℕ) (p : Problem) (s : Status) (lines : List (List ℕ)) → OnTree work held name p s lines → IsToldAnd (held name) (λ told. length told ≤ tree_limit) → IsOneOf (Done ∷ Refused ∷ BadProblem ∷ BadTree ∷ Memory ∷ []) s
-trees_status work status held name p s lines (file, is, inl fault) short = elim (tree_status name p file s lines fault) [
+-- end is the status with which the claim, or a node, is refused
+trees_status : (end : Status) (work : Problem → Claim → Tree → Status → List (List ℕ) → Type 0) → ((p : Problem) (claim : Claim) (tree : Tree) (s : Status) (lines : List (List ℕ)) → work p claim tree s lines → (s ≡ Done) ⊎ (s ≡ end)) → (held : List ℕ → Told) (name : List ℕ) (p : Problem) (s : Status) (lines : List (List ℕ)) → OnTree work held name p s lines → IsToldAnd (held name) (λ told. length told ≤ tree_limit) → IsOneOf (Done ∷ end ∷ BadProblem ∷ BadTree ∷ Memory ∷ []) s
+trees_status end work status held name p s lines (file, is, inl fault) short = elim (tree_status name p file s lines fault) [
   | inl q ↦ inr (inr (inr (inl q)))
   | inr q ↦ absurd (within_limit (held name) tree_limit file short is q.1)
 ]
-trees_status work status held name p s lines (file, is, inr rest) short = elim (status p rest.0 rest.1 s lines rest.3) [
+trees_status end work status held name p s lines (file, is, inr rest) short = elim (status p rest.0 rest.1 s lines rest.3) [
   | inl q ↦ inl q
   | inr q ↦ inr (inl q)
 ]
@@ -213,14 +225,14 @@ periods_status budget p plan s lines h = solve_status budget _ s lines h
 pub part_status : (budget : ℕ) (known : Option Network) (inside outside : List ℕ) (p : Problem) (s : Status) (lines : List (List ℕ)) → PartSays budget known inside outside p s lines → (s ≡ Done) ⊎ ((s ≡ Spent) ⊎ (s ≡ Past))
 part_status budget known inside outside p s lines h = tail_status h.found.tail s h.status_is
 
-pub claim_status : (budget : ℕ) (inside outside : List ℕ) (p : Problem) (claim : Claim) (tree : Tree) (s : Status) (lines : List (List ℕ)) → ClaimSays budget inside outside p claim tree s lines → (s ≡ Refused) ⊎ ((s ≡ Done) ⊎ ((s ≡ Spent) ⊎ (s ≡ Past)))
+pub claim_status : (budget : ℕ) (inside outside : List ℕ) (p : Problem) (claim : Claim) (tree : Tree) (s : Status) (lines : List (List ℕ)) → ClaimSays budget inside outside p claim tree s lines → (s ≡ BadClaim) ⊎ ((s ≡ Done) ⊎ ((s ≡ Spent) ⊎ (s ≡ Past)))
 claim_status budget inside outside p (network w) tree s lines (inl refusal) = inl refusal.0
 claim_status budget inside outside p (network w) tree s lines (inr rest) = inr (part_status budget (Some w) inside outside p s lines rest.1)
 claim_status budget inside outside p infeasible tree s lines h = inr (part_status budget None inside outside p s lines h)
 claim_status budget inside outside p unknown tree s lines h = inr (part_status budget None inside outside p s lines h)
 
 -- a part that is not put back
-pub merge_fault_status : (several : Bool) (name : List ℕ) (fault : MergeFault) (s : Status) (lines : List (List ℕ)) → FaultSays several name fault s lines → (s ≡ Refused) ⊎ (s ≡ NoLeaf)
+pub merge_fault_status : (several : Bool) (name : List ℕ) (fault : MergeFault) (s : Status) (lines : List (List ℕ)) → FaultSays several name fault s lines → (s ≡ BadClaim) ⊎ (s ≡ NoLeaf)
 merge_fault_status several name (merging.Tree (refusals.Claim why)) s lines h = inl h.0
 merge_fault_status several name (merging.Tree (refusals.Node node why)) s lines h = inl h.0
 merge_fault_status several name (merging.Part (refusals.Claim why)) s lines h = inl h.0
@@ -233,7 +245,7 @@ part_file_status several name p file TooLong lines h = inr (refl, h.0)
 part_file_status several name p file BadTree lines h = inl refl
 part_file_status several name p file s lines h = absurd h
 
-merge_status : (held : List ℕ → Told) (names : List (List ℕ)) (p : Problem) (claim : Claim) (tree : Tree) (s : Status) (lines : List (List ℕ)) → MergeWork held names p claim tree s lines → ((name : List ℕ) → Contains names name → IsToldAnd (held name) (λ told. length told ≤ tree_limit)) → (s ≡ Done) ⊎ ((s ≡ Refused) ⊎ ((s ≡ NoLeaf) ⊎ (s ≡ BadTree)))
+merge_status : (held : List ℕ → Told) (names : List (List ℕ)) (p : Problem) (claim : Claim) (tree : Tree) (s : Status) (lines : List (List ℕ)) → MergeWork held names p claim tree s lines → ((name : List ℕ) → Contains names name → IsToldAnd (held name) (λ told. length told ≤ tree_limit)) → (s ≡ Done) ⊎ ((s ≡ BadClaim) ⊎ ((s ≡ NoLeaf) ⊎ (s ≡ BadTree)))
 merge_status held names p claim tree s lines (inl f) short = elim (part_file_status (are_several names) f.name p f.fault.0 s lines f.fault.2) [
   | inl q ↦ inr (inr (inr q))
   | inr q ↦ absurd (within_limit (held f.name) tree_limit f.fault.0 (short f.name (f.place, f.within, sym f.name_is)) f.fault.1 q.1)
@@ -253,7 +265,7 @@ spot_status spot budget p w Past lines h = inr (inr (inl refl))
 spot_status spot budget p w NotBest lines h = inr (inr (inr refl))
 spot_status spot budget p w s lines h = absurd h
 
-stable_status : (spot : Option Spot) (budget : ℕ) (p : Problem) (claim : Claim) (tree : Tree) (s : Status) (lines : List (List ℕ)) → NamedWork spot budget p claim tree s lines → (s ≡ UnknownName) ⊎ ((s ≡ Refused) ⊎ ((s ≡ Done) ⊎ ((s ≡ Spent) ⊎ ((s ≡ Past) ⊎ (s ≡ NotBest)))))
+stable_status : (spot : Option Spot) (budget : ℕ) (p : Problem) (claim : Claim) (tree : Tree) (s : Status) (lines : List (List ℕ)) → NamedWork spot budget p claim tree s lines → (s ≡ UnknownName) ⊎ ((s ≡ BadClaim) ⊎ ((s ≡ Done) ⊎ ((s ≡ Spent) ⊎ ((s ≡ Past) ⊎ (s ≡ NotBest)))))
 stable_status None budget p claim tree s lines h = inl h.0
 stable_status (Some spot) budget p claim tree s lines (inl refusal) = inr (inl refusal.0)
 stable_status (Some spot) budget p claim tree s lines (inr rest) = inr (inr (spot_status spot budget p rest.0 s lines rest.2))
@@ -325,7 +337,7 @@ command_status held (Checking name tree) s lines (file, is, inl fault) short = e
   | inl q ↦ inr (inr (inl q))
   | inr q ↦ absurd (within_limit (held name) file_limit file (short name file_limit (inl (refl, refl))) is q.1)
 ]
-command_status held (Checking name tree) s lines (file, is, inr work) short = trees_status CheckWork check_status held tree work.0 s lines work.2 (short tree tree_limit (inr (refl, refl)))
+command_status held (Checking name tree) s lines (file, is, inr work) short = trees_status Refused CheckWork check_status held tree work.0 s lines work.2 (short tree tree_limit (inr (refl, refl)))
 command_status held (RankChecking name rank) s lines (file, is, inl fault) short = elim (fault_status name file s lines fault) [
   | inl q ↦ inr (inr (inl q))
   | inr q ↦ absurd (within_limit (held name) file_limit file (short name file_limit (inl (refl, refl))) is q.1)
@@ -342,17 +354,22 @@ command_status held (Table name tree) s lines (file, is, inl fault) short = elim
   | inl q ↦ inr (inr (inl q))
   | inr q ↦ absurd (within_limit (held name) file_limit file (short name file_limit (inl (refl, refl))) is q.1)
 ]
-command_status held (Table name tree) s lines (file, is, inr work) short = trees_status (OnNetwork TableWork) (network_status TableWork table_status) held tree work.0 s lines work.2 (short tree tree_limit (inr (refl, refl)))
+command_status held (Table name tree) s lines (file, is, inr work) short = trees_status BadClaim (OnNetwork TableWork) (network_status TableWork table_status) held tree work.0 s lines work.2 (short tree tree_limit (inr (refl, refl)))
 command_status held (Reporting name tree) s lines (file, is, inl fault) short = elim (fault_status name file s lines fault) [
   | inl q ↦ inr (inr (inl q))
   | inr q ↦ absurd (within_limit (held name) file_limit file (short name file_limit (inl (refl, refl))) is q.1)
 ]
-command_status held (Reporting name tree) s lines (file, is, inr work) short = trees_status (OnNetwork ReportWork) (network_status ReportWork report_status) held tree work.0 s lines work.2 (short tree tree_limit (inr (refl, refl)))
+command_status held (Reporting name tree) s lines (file, is, inr work) short = trees_status BadClaim ReportWork report_status held tree work.0 s lines work.2 (short tree tree_limit (inr (refl, refl)))
+command_status held (Json name tree) s lines (file, is, inl fault) short = elim (fault_status name file s lines fault) [
+  | inl q ↦ inr (inr (inl q))
+  | inr q ↦ absurd (within_limit (held name) file_limit file (short name file_limit (inl (refl, refl))) is q.1)
+]
+command_status held (Json name tree) s lines (file, is, inr work) short = trees_status BadClaim JsonWork json_status held tree work.0 s lines work.2 (short tree tree_limit (inr (refl, refl)))
 command_status held (Splitting name tree) s lines (file, is, inl fault) short = elim (fault_status name file s lines fault) [
   | inl q ↦ inr (inr (inl q))
   | inr q ↦ absurd (within_limit (held name) file_limit file (short name file_limit (inl (refl, refl))) is q.1)
 ]
-command_status held (Splitting name tree) s lines (file, is, inr work) short = trees_status SplitWork split_status held tree work.0 s lines work.2 (short tree tree_limit (inr (refl, refl)))
+command_status held (Splitting name tree) s lines (file, is, inr work) short = trees_status BadClaim SplitWork split_status held tree work.0 s lines work.2 (short tree tree_limit (inr (refl, refl)))
 command_status held (Drawing name) s lines (file, is, inl fault) short = elim (fault_status name file s lines fault) [
   | inl q ↦ inr (inl q)
   | inr q ↦ absurd (within_limit (held name) file_limit file (short name file_limit (refl, refl)) is q.1)
@@ -362,7 +379,7 @@ command_status held (DrawingNetwork name tree) s lines (file, is, inl fault) sho
   | inl q ↦ inr (inr (inl q))
   | inr q ↦ absurd (within_limit (held name) file_limit file (short name file_limit (inl (refl, refl))) is q.1)
 ]
-command_status held (DrawingNetwork name tree) s lines (file, is, inr work) short = trees_status (OnNetwork NetworkGraphWork) (network_status NetworkGraphWork graph_status) held tree work.0 s lines work.2 (short tree tree_limit (inr (refl, refl)))
+command_status held (DrawingNetwork name tree) s lines (file, is, inr work) short = trees_status BadClaim (OnNetwork NetworkGraphWork) (network_status NetworkGraphWork graph_status) held tree work.0 s lines work.2 (short tree tree_limit (inr (refl, refl)))
 command_status held (Ranging name tree kind word budget) s lines (file, is, inl fault) short = elim (fault_status name file s lines fault) [
   | inl q ↦ inr (inr (inr (inr (inl q))))
   | inr q ↦ absurd (within_limit (held name) file_limit file (short name file_limit (inl (refl, refl))) is q.1)
@@ -444,6 +461,14 @@ command_status held (Solving name budget) s lines (file, is, inr work) short = e
   | inl q ↦ inl q
   | inr o ↦ elim o [ inl q ↦ inr (inl q) | inr q ↦ inr (inr (inl q)) ]
 ]
+command_status held (Showing name budget) s lines (file, is, inl fault) short = elim (fault_status name file s lines fault) [
+  | inl q ↦ inr (inr (inr (inl q)))
+  | inr q ↦ absurd (within_limit (held name) file_limit file (short name file_limit (refl, refl)) is q.1)
+]
+command_status held (Showing name budget) s lines (file, is, inr work) short = elim (show_status budget work.0 s lines work.2) [
+  | inl q ↦ inl q
+  | inr o ↦ elim o [ inl q ↦ inr (inl q) | inr q ↦ inr (inr (inl q)) ]
+]
 command_status held (Ranking name count budget) s lines (file, is, inl fault) short = elim (fault_status name file s lines fault) [
   | inl q ↦ inr (inr (inr (inl q)))
   | inr q ↦ absurd (within_limit (held name) file_limit file (short name file_limit (refl, refl)) is q.1)
@@ -497,7 +522,10 @@ answer_status held (Table name tree) lines (file, is, inr (p, given, (bytes, the
 answer_status held (Table name tree) lines (file, is, inr (p, given, (bytes, there, inr rest))) = elim (network_status TableWork table_status p rest.0 rest.1 Usage lines rest.3) [ inl q ↦ cc | inr q ↦ cc ]
 answer_status held (Reporting name tree) lines (file, is, inl fault) = absurd fault
 answer_status held (Reporting name tree) lines (file, is, inr (p, given, (bytes, there, inl fault))) = absurd fault
-answer_status held (Reporting name tree) lines (file, is, inr (p, given, (bytes, there, inr rest))) = elim (network_status ReportWork report_status p rest.0 rest.1 Usage lines rest.3) [ inl q ↦ cc | inr q ↦ cc ]
+answer_status held (Reporting name tree) lines (file, is, inr (p, given, (bytes, there, inr rest))) = elim (report_status p rest.0 rest.1 Usage lines rest.3) [ inl q ↦ cc | inr q ↦ cc ]
+answer_status held (Json name tree) lines (file, is, inl fault) = absurd fault
+answer_status held (Json name tree) lines (file, is, inr (p, given, (bytes, there, inl fault))) = absurd fault
+answer_status held (Json name tree) lines (file, is, inr (p, given, (bytes, there, inr rest))) = elim (json_status p rest.0 rest.1 Usage lines rest.3) [ inl q ↦ cc | inr q ↦ cc ]
 answer_status held (Splitting name tree) lines (file, is, inl fault) = absurd fault
 answer_status held (Splitting name tree) lines (file, is, inr (p, given, (bytes, there, inl fault))) = absurd fault
 answer_status held (Splitting name tree) lines (file, is, inr (p, given, (bytes, there, inr rest))) = absurd rest.3
@@ -524,6 +552,8 @@ answer_status held (Merging name tree parts) lines (file, is, inr (p, given, (by
 answer_status held (Merging name tree parts) lines (file, is, inr (p, given, (bytes, there, inr rest))) = usage_of_merge held parts p rest.0 rest.1 lines rest.3
 answer_status held (Solving name budget) lines (file, is, inl fault) = absurd fault
 answer_status held (Solving name budget) lines (file, is, inr work) = elim (solve_status budget work.0 Usage lines work.2) [ inl q ↦ cc | inr o ↦ elim o [ inl q ↦ cc | inr q ↦ cc ] ]
+answer_status held (Showing name budget) lines (file, is, inl fault) = absurd fault
+answer_status held (Showing name budget) lines (file, is, inr work) = elim (show_status budget work.0 Usage lines work.2) [ inl q ↦ cc | inr o ↦ elim o [ inl q ↦ cc | inr q ↦ cc ] ]
 answer_status held (Ranking name count budget) lines (file, is, inl fault) = absurd fault
 answer_status held (Ranking name count budget) lines (file, is, inr work) = elim (rank_status count budget work.0 Usage lines work.2) [ inl q ↦ cc | inr o ↦ elim o [ inl q ↦ cc | inr q ↦ cc ] ]
 answer_status held (Trial number units budget) lines h = elim (search_status budget (generated number units) Usage lines h) [ inl q ↦ cc | inr o ↦ elim o [ inl q ↦ cc | inr q ↦ cc ] ]
@@ -547,6 +577,7 @@ memory_status (Checking file tree) = inr (inr (inr (inr (inl refl))))
 memory_status (RankChecking file rank) = inr (inr (inr (inr (inl refl))))
 memory_status (Table file tree) = inr (inr (inr (inr (inl refl))))
 memory_status (Reporting file tree) = inr (inr (inr (inr (inl refl))))
+memory_status (Json file tree) = inr (inr (inr (inr (inl refl))))
 memory_status (Splitting file tree) = inr (inr (inr (inr (inl refl))))
 memory_status (Drawing file) = inr (inr (inl refl))
 memory_status (DrawingNetwork file tree) = inr (inr (inr (inr (inl refl))))
@@ -556,6 +587,7 @@ memory_status (Parting file inside outside budget) = inr (inr (inr (inr (inr (in
 memory_status (PartingAgainst file inside outside budget tree) = inr (inr (inr (inr (inr (inr (inr (inl refl)))))))
 memory_status (Merging file tree parts) = inr (inr (inr (inr (inr (inl refl)))))
 memory_status (Solving file budget) = inr (inr (inr (inr (inl refl))))
+memory_status (Showing file budget) = inr (inr (inr (inr (inl refl))))
 memory_status (Ranking file count budget) = inr (inr (inr (inr (inl refl))))
 memory_status (Trial number units budget) = inr (inr (inr (inl refl)))
 memory_status (Telling text) = inr (inl refl)
@@ -564,6 +596,14 @@ memory_status (Telling text) = inr (inl refl)
 
 pub finished : (budget : ℕ) (p : Problem) (s : Status) (lines : List (List ℕ)) → CanFinish budget p → SolveWork budget p s lines → IsNotStopped s
 finished budget p s lines can (c, e, holds, text) = at c.tail e holds
+  where
+    at : (tail : Tail) → s ≡ status_of tail → Holds budget p c.claim c.tree tail → IsNotStopped s
+    at whole e holds = ((λ q. cc), (λ q. cc))
+    at (spent next options) e holds = absurd (can.enough holds.2)
+    at (past node nonbasic place) e holds = let h = holds.1 in absurd (can.in_range h.node nonbasic place h.sound h.reduced h.past.past)
+
+pub show_finished : (budget : ℕ) (p : Problem) (s : Status) (lines : List (List ℕ)) → CanFinish budget p → ShowWork budget p s lines → IsNotStopped s
+show_finished budget p s lines can (c, holds, shows) = at c.tail shows.0 holds
   where
     at : (tail : Tail) → s ≡ status_of tail → Holds budget p c.claim c.tree tail → IsNotStopped s
     at whole e holds = ((λ q. cc), (λ q. cc))
@@ -608,6 +648,7 @@ missing_says held (Checking file tree) name s lines first gone h = let same : fi
 missing_says held (RankChecking file rank) name s lines first gone h = let same : file ≡ name = cc in nothing_held (held file) h.0 (ap held same ∙ gone) h.1
 missing_says held (Table file tree) name s lines first gone h = let same : file ≡ name = cc in nothing_held (held file) h.0 (ap held same ∙ gone) h.1
 missing_says held (Reporting file tree) name s lines first gone h = let same : file ≡ name = cc in nothing_held (held file) h.0 (ap held same ∙ gone) h.1
+missing_says held (Json file tree) name s lines first gone h = let same : file ≡ name = cc in nothing_held (held file) h.0 (ap held same ∙ gone) h.1
 missing_says held (Splitting file tree) name s lines first gone h = let same : file ≡ name = cc in nothing_held (held file) h.0 (ap held same ∙ gone) h.1
 missing_says held (Expanding file plan) name s lines first gone h = let same : file ≡ name = cc in nothing_held (held file) h.0 (ap held same ∙ gone) h.1
 missing_says held (Drawing file) name s lines first gone h = let same : file ≡ name = cc in nothing_held (held file) h.0 (ap held same ∙ gone) h.1
@@ -619,8 +660,9 @@ missing_says held (PartingAgainst file inside outside budget tree) name s lines 
 missing_says held (Merging file tree parts) name s lines first gone h = let same : file ≡ name = cc in nothing_held (held file) h.0 (ap held same ∙ gone) h.1
 missing_says held (Ranking file count budget) name s lines first gone h = let same : file ≡ name = cc in nothing_held (held file) h.0 (ap held same ∙ gone) h.1
 missing_says held (Solving file budget) name s lines first gone h = let same : file ≡ name = cc in nothing_held (held file) h.0 (ap held same ∙ gone) h.1
+missing_says held (Showing file budget) name s lines first gone h = let same : file ≡ name = cc in nothing_held (held file) h.0 (ap held same ∙ gone) h.1
 
-module _ (old new : ShelfState) (words : List (List ℕ)) (before after : SinkState) where
+module _ (old new : ShelfState) (words : List (List ℕ)) (before after : OutputsState) where
   pub usage_ends : (s : Status) → Ends (WordsSay old new words) before after s → s ≡ Usage → command_of words ≡ None
   usage_ends s e is =
       let said = subst (λ (t : Status). Ends (WordsSay old new words) before after t) is e in
@@ -631,10 +673,10 @@ module _ (old new : ShelfState) (words : List (List ℕ)) (before after : SinkSt
       let said = subst (λ (t : Status). Ends (WordsSay old new words) before after t) is e in
       (said.1.0, said.1.1, said.1.2)
 
-  pub write_fault_ends : (s : Status) → Ends (WordsSay old new words) before after s → s ≡ WriteFault → HasRisen before.faults after.faults
+  pub write_fault_ends : (s : Status) → Ends (WordsSay old new words) before after s → s ≡ WriteFault → HasFault before after
   write_fault_ends s e is = (subst (λ (t : Status). Ends (WordsSay old new words) before after t) is e).0
 
-  -- words without a form are told so, unless the sink or memory fails
+  -- words without a form are told so, unless an output or memory fails
   pub no_form_ends : (s : Status) → Ends (WordsSay old new words) before after s → command_of words ≡ None → IsOneOf (Usage ∷ WriteFault ∷ Memory ∷ []) s
   no_form_ends WriteFault e none = inr (inl refl)
   no_form_ends Memory e none = inr (inr (inl refl))
@@ -663,7 +705,7 @@ module _ (old new : ShelfState) (words : List (List ℕ)) (before after : SinkSt
       let said = subst (λ (t : Status). Ends (WordsSay old new words) before after t) done e in
       law old.held file rank said.1.0 (subst (λ (f : Option Command). AnswersTo old.held f Done said.1.0) is said.1.1)
 
-  -- a command that reads a missing file first says so, unless the sink or memory fails
+  -- a command that reads a missing file first says so, unless an output or memory fails
   pub missing_ends : (s : Status) → Ends (WordsSay old new words) before after s → (command : Command) (name : List ℕ) → command_of words ≡ Some command → first_file command ≡ Some name → old.held name ≡ Some None → IsOneOf (ReadFault ∷ WriteFault ∷ Memory ∷ []) s
   missing_ends ReadFault e command name is first gone = inl refl
   missing_ends WriteFault e command name is first gone = inr (inl refl)

@@ -1,24 +1,23 @@
 -- Laws over calls of `studio` one after another: what one call put out another accepts, or goes on
 -- from, where between the calls the problem file stays as it is.
 use Rattle.std.specs.Prelude.{◌≡◌, ◌⊎◌, ◌≤◌, ◌<◌, ◌+◌, ◌++◌, ℕ, List, [], ◌∷◌, Some, length, codes}
-use Rattle.std.specs.Io.KnownBytes.{Appends}
-use Rattle.io_rules.specs.State.{ShelfState, SinkState}
+use Rattle.io_rules.specs.State.{ShelfState, OutputsState}
 use Rattle.studio_rules.specs.TreeFile.{tree_limit}
 use Rattle.studio_rules.specs.Command.{Command, Listing, Checking, RankChecking, Solving, Ranking, Splitting, Merging, command_of}
 use Rattle.studio_rules.specs.Lines.{line, text_of}
-use Rattle.studio_rules.specs.Ending.{Ends, IsOneOf}
+use Rattle.studio_rules.specs.Ending.{Ends, Writes, IsOneOf}
 use Rattle.studio_rules.specs.Keeps.{Keeps}
 use Rattle.studio_rules.specs.declared.status.Status.{Status}
 use Rattle.studio_rules.specs.declared.status.Status.TheVariants.{Done, ReadFault, WriteFault, Memory, TooLong}
 use Rattle.studio_rules.specs.Answers.{WordsSay}
 
--- A call: its words, the shelf and the sink before and after, and the status with which the call ended.
+-- A call: its words, the shelf and the outputs before and after, and the status with which the call ended.
 pub record Call : Type 0 where
   pub words : List (List ℕ)
   pub shelf_before : ShelfState
   pub shelf_after : ShelfState
-  pub out_before : SinkState
-  pub out_after : SinkState
+  pub out_before : OutputsState
+  pub out_after : OutputsState
   pub status : Status
 
 -- what `studio` says of it: the clause `ends`, and the clauses `keeps` and `later`
@@ -31,12 +30,12 @@ pub record Calls (c : Call) (command : Command) : Type 0 where
   pub call : IsCall c
   pub form : command_of c.words ≡ Some command
 
--- it ended with status 0, and the sink tells that it put out just the text
+-- it ended with status 0, and standard output tells that it put out just the text
 pub record Puts (c : Call) (text : List ℕ) : Type 0 where
   pub done : c.status ≡ Done
   pub front : List ℕ
-  pub before : c.out_before.written ≡ Some front
-  pub after : c.out_after.written ≡ Some (front ++ text)
+  pub before : c.out_before.out.written ≡ Some front
+  pub after : c.out_after.out.written ≡ Some (front ++ text)
 
 -- the shelf of a call tells before it that the file holds the bytes
 abbrev pub Holds : Call → List ℕ → List ℕ → Type 0
@@ -48,9 +47,9 @@ abbrev pub Keep : Call → Call → List ℕ → Type 0
 Keep c d name =
     (bytes : List ℕ) × (c.shelf_after.held name ≡ Some (Some bytes)) × Holds d name bytes
 
--- it ended with the status and the text, or with a fault of reading, of the sink or of memory
+-- it ended with the status and the text, or with a fault of reading, of an output or of memory
 abbrev pub EndsWith : Call → Status → List ℕ → Type 0
-EndsWith c status text = (c.status ≡ status) × Appends c.out_before.written c.out_after.written text
+EndsWith c status text = (c.status ≡ status) × Writes c.out_before c.out_after status text
 
 abbrev pub HasFailed : Call → Type 0
 HasFailed c = IsOneOf (ReadFault ∷ WriteFault ∷ Memory ∷ []) c.status

@@ -1,9 +1,10 @@
 //! The call: it judges the words and does their command.
-ghost use Rattle.std.specs.Prelude.{◌≡◌, ◌≤◌, ◌∷◌, [], List, ℕ, Some, None, map, string_bytes};
+ghost use Rattle.std.specs.Prelude.{◌≡◌, ◌≤◌, ◌∷◌, [], List, ℕ, Some, None, codes, map, string_bytes};
 ghost use Rattle.text_rules.specs.Outside.{HasRisen};
+ghost use Rattle.studio_rules.specs.Lines.{line};
 ghost use Rattle.studio_rules.specs.Command as rules;
 ghost use Rattle.studio_rules.specs.Command.{command_of, AreWithin, IsFileWord};
-ghost use Rattle.studio_rules.specs.Ending.{Ends, IsOneOf};
+ghost use Rattle.studio_rules.specs.Ending.{Ends, Only, IsOneOf, HasFault};
 ghost use Rattle.studio_rules.specs.Keeps.{Keeps};
 ghost use Rattle.studio_rules.specs.Answers.{CommandSays, WordsSay, IsUndisturbed, IsNotStopped, SearchCanFinish, first_file, statuses_of};
 ghost use Rattle.studio_rules.specs.Causes.{EndsExactly};
@@ -14,9 +15,11 @@ ghost use Rattle.studio_rules.specs.Rankcheck.{FilesListBest};
 use edit_commands::edits::{edit, undo};
 use edit_commands::make::make;
 use edit_commands::migrate::migrate;
-use endings::say::{say, say_memory, say_text};
+use endings::say::{say_memory, say_text, tell};
 use flow_commands::check::{accepted_is_best, check};
 use flow_commands::flows::flows;
+use json_commands::json;
+use messages::usage;
 use network_commands::graph::{graph, plant_graph};
 use network_commands::report::report;
 use network_commands::table::table;
@@ -26,11 +29,12 @@ use part_searches::part::{part, part_against};
 use part_text::parts_are_read_once;
 use period_searches::expansion::expand;
 use period_searches::planned::periods;
-use pns_io::{Shelf, Sink};
+use pns_io::{Outputs, Shelf, Sink};
 use rank_commands::{accepted_are_best, rankcheck};
 use rank_searches::rank;
 use searches::solve::solve;
 use searches::trial::trial;
+use shows::show::show;
 use stability_commands::stable::stable;
 use std::alloc::Global;
 use structure_commands::axioms::axioms;
@@ -39,14 +43,14 @@ use structure_commands::max::max;
 use studio_rules::Status;
 use studio_words::{Command, command_of};
 
-fn perform<F: Shelf, K: Sink>(
+fn perform<F: Shelf, K: Sink, E: Sink>(
     alloc: Global,
     command: Command<'_>,
     shelf: &mut F,
-    out: &mut K,
+    out: &mut Outputs<K, E>,
 ) -> Status
     requires { AreWithin (command_view command) }
-    ensures ends { Ends (CommandSays (F.state shelf.old) (F.state shelf.new) (command_view command.entry)) (K.state out.old) (K.state out.new) result }
+    ensures ends { Ends (CommandSays (F.state shelf.old) (F.state shelf.new) (command_view command.entry)) out.old out.new result }
     ensures keeps { Keeps (F.state shelf.old) (F.state shelf.new) }
 {
     match command {
@@ -62,6 +66,7 @@ fn perform<F: Shelf, K: Sink>(
         Command::RankChecking(file, rank) => rankcheck(alloc, file, rank, shelf, out),
         Command::Table(file, tree) => table(alloc, file, tree, shelf, out),
         Command::Reporting(file, tree) => report(alloc, file, tree, shelf, out),
+        Command::Json(file, tree) => json(alloc, file, tree, shelf, out),
         Command::Splitting(file, tree) => split(alloc, file, tree, shelf, out),
         Command::Expanding(file, plan) => expand(alloc, file, plan, shelf, out),
         Command::Drawing(file) => plant_graph(alloc, file, shelf, out),
@@ -78,14 +83,28 @@ fn perform<F: Shelf, K: Sink>(
         }
         Command::Merging(file, tree, parts) => merge(alloc, file, tree, parts, shelf, out),
         Command::Solving(file, budget) => solve(alloc, file, budget, shelf, out),
+        Command::Showing(file, budget) => show(alloc, file, budget, shelf, out),
         Command::Ranking(file, count, budget) => rank(alloc, file, count, budget, shelf, out),
         Command::Trial(number, units, budget) => trial(alloc, number, units, budget, out),
         Command::Telling(text) => say_text(out, text, Status::Done),
     }
 }
 
-fn run<F: Shelf, K: Sink>(alloc: Global, words: &[String], shelf: &mut F, out: &mut K) -> Status
-    ensures ends { Ends (WordsSay (F.state shelf.old) (F.state shelf.new) (map string_bytes words.now)) (K.state out.old) (K.state out.new) result }
+// Says that the words have no form, and what is wrong with them.
+fn tell_usage<K: Sink, E: Sink>(alloc: Global, words: &[String], out: &mut Outputs<K, E>) -> Status
+    ensures { Ends (Only Status.Usage (line (codes "usage"))) out.old out.new result }
+{
+    let notes = usage(alloc, words);
+    tell(out, b"usage\n", notes.bytes(), Status::Usage)
+}
+
+fn run<F: Shelf, K: Sink, E: Sink>(
+    alloc: Global,
+    words: &[String],
+    shelf: &mut F,
+    out: &mut Outputs<K, E>,
+) -> Status
+    ensures ends { Ends (WordsSay (F.state shelf.old) (F.state shelf.new) (map string_bytes words.now)) out.old out.new result }
     ensures keeps { Keeps (F.state shelf.old) (F.state shelf.new) }
 {
     let Ok(found) = command_of(alloc, words) else {
@@ -93,40 +112,41 @@ fn run<F: Shelf, K: Sink>(alloc: Global, words: &[String], shelf: &mut F, out: &
     };
     match found {
         Some(command) => perform(alloc, command, shelf, out),
-        None => say(out, b"usage\n", Status::Usage),
+        None => tell_usage(alloc, words, out),
     }
 }
 
-/// Does what the words say over the shelf's files, and puts the text into the sink line by line.
+/// Does what the words say over the shelf's files, and puts the text on the outputs line by line:
+/// an answer on `out`, and on `err` why there is none.
 ///
 /// The clause `ends` says which text is out with which status, and `keeps` and `later` what is left
 /// of the shelf. The others are parts of `ends` in words of their own.
-pub fn studio<F: Shelf, K: Sink>(
+pub fn studio<F: Shelf, K: Sink, E: Sink>(
     alloc: Global,
     words: &[String],
     shelf: &mut F,
-    out: &mut K,
+    out: &mut Outputs<K, E>,
 ) -> Status
-    ensures ends { Ends (WordsSay (F.state shelf.old) (F.state shelf.new) (map string_bytes words.now)) (K.state out.old) (K.state out.new) result }
+    ensures ends { Ends (WordsSay (F.state shelf.old) (F.state shelf.new) (map string_bytes words.now)) out.old out.new result }
     // The shelf tells the same of each file as before, and no count of its faults fell.
     ensures keeps { (name : List ℕ) → (F.state shelf.new).held name ≡ (F.state shelf.old).held name }
     ensures later { (name : List ℕ) → (F.state shelf.old).faults name ≤ (F.state shelf.new).faults name }
-    // Usage comes exactly where the words have no form, and yields to the faults of the sink and of memory.
+    // Usage comes exactly where the words have no form, and yields to the faults of the outputs and of memory.
     ensures usage { result ≡ Status.Usage → command_of (map string_bytes words.now) ≡ None }
     ensures no_form { command_of (map string_bytes words.now) ≡ None → IsOneOf (Status.Usage ∷ Status.WriteFault ∷ Status.Memory ∷ []) result }
-    // A fault of reading or writing has its count: that of a file of the words, or that of the sink.
+    // A fault of reading or writing has its count: that of a file of the words, or that of an output.
     ensures read_fault { result ≡ Status.ReadFault → (name : List ℕ) × IsFileWord (map string_bytes words.now) name × HasRisen ((F.state shelf.old).faults name) ((F.state shelf.new).faults name) }
-    ensures write_fault { result ≡ Status.WriteFault → HasRisen (K.state out.old).faults (K.state out.new).faults }
+    ensures write_fault { result ≡ Status.WriteFault → HasFault out.old out.new }
     // A command whose first file the shelf tells to be missing says that it could not be read.
     ensures missing { (command : rules.Command) (name : List ℕ) → command_of (map string_bytes words.now) ≡ Some command → first_file command ≡ Some name
         → (F.state shelf.old).held name ≡ Some None → IsOneOf (Status.ReadFault ∷ Status.WriteFault ∷ Status.Memory ∷ []) result }
     // A status that tells of the words and the files comes exactly where its cause holds: a file above its limit, the first fault of its
     // text, a bad token, an unknown name, words of no sound node, or a problem that is not migrated. It yields to the faults of reading,
-    // of the sink and of memory.
+    // of the outputs and of memory.
     ensures exact { (command : rules.Command) → command_of (map string_bytes words.now) ≡ Some command → EndsExactly (F.state shelf.old).held command result }
     // Where the command's files are held within the limit and no count rises, nothing but want of memory stops it.
     ensures complete { (command : rules.Command) → command_of (map string_bytes words.now) ≡ Some command
-        → IsUndisturbed (F.state shelf.old) (F.state shelf.new) (K.state out.old) (K.state out.new) command
+        → IsUndisturbed (F.state shelf.old) (F.state shelf.new) out.old out.new command
         → IsOneOf (statuses_of command) result }
     // A search comes to its end where its budget is large enough and no number is out of range, and
     // `flows` where none is.

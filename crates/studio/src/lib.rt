@@ -1,8 +1,8 @@
-//! The top call of the synthesis studio: words, files and an output in, a text and a status out.
+//! The top call of the synthesis studio: words, files and two outputs in, a text and a status out.
 //!
 //! [`studio`] judges the form of the words, reads and judges the files that they name, does the command's work and puts
-//! its text line by line. Its contract says which text is out with which status, from the words and the bytes that the
-//! shelf holds; each status has its cause, and want of memory alone is free. The definitions of both are those of `studio_rules`.
+//! its text line by line. Its contract says which text is out with which status, and on which output, from the words and the bytes that
+//! the shelf holds; each status has its cause, and want of memory alone is free. The definitions of both are those of `studio_rules`.
 //!
 //! The words are read by `studio_words`; the commands stand in crates of their own, by what they are about: `structure_commands`,
 //! `edit_commands`, `flow_commands`, `network_commands`, `rank_commands`, `searches`, `rank_searches`, `part_commands`,

@@ -2,10 +2,10 @@
 use Rattle.std.specs.List.{Contains}
 use Rattle.std.specs.Prelude.{◌≡◌, ◌≤◌, ◌⊎◌, ℕ, List, [], ◌∷◌, Option, Some, None, length, codes}
 use Rattle.text_rules.specs.Outside.{HasRisen, Told, IsToldAnd}
-use Rattle.io_rules.specs.State.{ShelfState, SinkState}
+use Rattle.io_rules.specs.State.{ShelfState, OutputsState}
 use Rattle.studio_rules.specs.Command.{Command, command_of, IsFileOf, IsFileWord}
-use Rattle.studio_rules.specs.Command.{Max, Axioms, Flows, Listing, Make, Migrate, Editing, Undoing, Checking, RankChecking, Solving, Ranking, Trial, Telling}
-use Rattle.studio_rules.specs.Command.{Table, Splitting, Expanding, Drawing, DrawingNetwork, Reporting, Ranging, Planning, Parting, PartingAgainst, Merging}
+use Rattle.studio_rules.specs.Command.{Max, Axioms, Flows, Listing, Make, Migrate, Editing, Undoing, Checking, RankChecking, Solving, Showing, Ranking, Trial, Telling}
+use Rattle.studio_rules.specs.Command.{Table, Splitting, Expanding, Drawing, DrawingNetwork, Reporting, Json, Ranging, Planning, Parting, PartingAgainst, Merging}
 use Rattle.problem_rules.specs.Generated.{generated}
 use Rattle.problem_rules.specs.Problem.{Problem}
 use Rattle.tree_rules.specs.Claim.{Network, network}
@@ -32,6 +32,7 @@ use Rattle.studio_rules.specs.Rank.{RankWork}
 use Rattle.studio_rules.specs.Network.{OnNetwork}
 use Rattle.studio_rules.specs.Table.{TableWork}
 use Rattle.studio_rules.specs.Report.{ReportWork}
+use Rattle.studio_rules.specs.Json.{JsonWork}
 use Rattle.studio_rules.specs.Graph.{PlantGraphWork, NetworkGraphWork}
 use Rattle.studio_rules.specs.Split.{SplitWork}
 use Rattle.studio_rules.specs.Merge.{MergeWork}
@@ -39,11 +40,12 @@ use Rattle.studio_rules.specs.Part.{PartWork, AgainstWork}
 use Rattle.studio_rules.specs.Periods.{PeriodsWork}
 use Rattle.studio_rules.specs.Stable.{StableWork, CanRange, spot_named}
 use Rattle.studio_rules.specs.Solve.{SolveWork, CanFinish}
+use Rattle.studio_rules.specs.Show.{ShowWork}
 use Rattle.studio_rules.specs.Trial.{TrialWork}
-use Rattle.studio_rules.specs.Ending.{Says}
+use Rattle.studio_rules.specs.Ending.{Says, HasFault}
 use Rattle.studio_rules.specs.Lines.{text_of}
 use Rattle.studio_rules.specs.declared.status.Status.{Status}
-use Rattle.studio_rules.specs.declared.status.Status.TheVariants.{Done, Refused, Usage, BadProblem, Past, Spent, Memory, BadToken, BadTree, BadEdit, NotMigrated, BadPlan, BadNode, NoLeaf, NotBest, UnknownName}
+use Rattle.studio_rules.specs.declared.status.Status.TheVariants.{Done, Refused, Usage, BadProblem, Past, Spent, Memory, BadToken, BadTree, BadEdit, NotMigrated, BadPlan, BadNode, NoLeaf, NotBest, UnknownName, BadClaim}
 
 -- the statuses and lines of a command that searches, while neither shelf, sink nor memory fails; other commands have none
 abbrev pub SearchAnswers : (List ℕ → Told) → Command → Status → List (List ℕ) → Type 0
@@ -52,6 +54,7 @@ SearchAnswers held (Planning file plan budget) status lines = OnFile (OnPlan (Pe
 SearchAnswers held (Parting file inside outside budget) status lines = OnFile (PartWork budget inside outside) held file status lines
 SearchAnswers held (PartingAgainst file inside outside budget tree) status lines = OnFile (AgainstWork budget held tree inside outside) held file status lines
 SearchAnswers held (Solving file budget) status lines = OnFile (SolveWork budget) held file status lines
+SearchAnswers held (Showing file budget) status lines = OnFile (ShowWork budget) held file status lines
 SearchAnswers held (Ranking file count budget) status lines = OnFile (RankWork count budget) held file status lines
 SearchAnswers held (Trial number units budget) status lines = TrialWork number units budget status lines
 SearchAnswers held command status lines = ⊥
@@ -73,7 +76,8 @@ CommandAnswers held (Splitting file tree) status lines = OnFile (OnTree SplitWor
 CommandAnswers held (Expanding file plan) status lines = OnFile (OnPlan ExpandWork held plan) held file status lines
 CommandAnswers held (Drawing file) status lines = OnFile PlantGraphWork held file status lines
 CommandAnswers held (DrawingNetwork file tree) status lines = OnFile (OnTree (OnNetwork NetworkGraphWork) held tree) held file status lines
-CommandAnswers held (Reporting file tree) status lines = OnFile (OnTree (OnNetwork ReportWork) held tree) held file status lines
+CommandAnswers held (Reporting file tree) status lines = OnFile (OnTree ReportWork held tree) held file status lines
+CommandAnswers held (Json file tree) status lines = OnFile (OnTree JsonWork held tree) held file status lines
 CommandAnswers held (Merging file tree parts) status lines = OnFile (OnTree (MergeWork held parts) held tree) held file status lines
 CommandAnswers held (Telling text) status lines = (status ≡ Done) × (text ≡ text_of lines)
 CommandAnswers held command status lines = SearchAnswers held command status lines
@@ -110,12 +114,14 @@ first_file (Expanding file plan) = Some file
 first_file (Drawing file) = Some file
 first_file (DrawingNetwork file tree) = Some file
 first_file (Reporting file tree) = Some file
+first_file (Json file tree) = Some file
 first_file (Ranging file tree kind name budget) = Some file
 first_file (Planning file plan budget) = Some file
 first_file (Parting file inside outside budget) = Some file
 first_file (PartingAgainst file inside outside budget tree) = Some file
 first_file (Merging file tree parts) = Some file
 first_file (Solving file budget) = Some file
+first_file (Showing file budget) = Some file
 first_file (Ranking file count budget) = Some file
 first_file command = None
 
@@ -127,16 +133,17 @@ IsReadWithin (Table file tree) name limit = ((name ≡ file) × (limit ≡ file_
 IsReadWithin (Splitting file tree) name limit = ((name ≡ file) × (limit ≡ file_limit)) ⊎ ((name ≡ tree) × (limit ≡ tree_limit))
 IsReadWithin (DrawingNetwork file tree) name limit = ((name ≡ file) × (limit ≡ file_limit)) ⊎ ((name ≡ tree) × (limit ≡ tree_limit))
 IsReadWithin (Reporting file tree) name limit = ((name ≡ file) × (limit ≡ file_limit)) ⊎ ((name ≡ tree) × (limit ≡ tree_limit))
+IsReadWithin (Json file tree) name limit = ((name ≡ file) × (limit ≡ file_limit)) ⊎ ((name ≡ tree) × (limit ≡ tree_limit))
 IsReadWithin (Ranging file tree kind word budget) name limit = ((name ≡ file) × (limit ≡ file_limit)) ⊎ ((name ≡ tree) × (limit ≡ tree_limit))
 IsReadWithin (PartingAgainst file inside outside budget tree) name limit = ((name ≡ file) × (limit ≡ file_limit)) ⊎ ((name ≡ tree) × (limit ≡ tree_limit))
 IsReadWithin (Merging file tree parts) name limit = ((name ≡ file) × (limit ≡ file_limit)) ⊎ (((name ≡ tree) ⊎ Contains parts name) × (limit ≡ tree_limit))
 IsReadWithin command name limit = IsFileOf command name × (limit ≡ file_limit)
 
--- the files of the command are held within their limits, and neither their counts of faults nor that of the sink rise
-pub record IsUndisturbed (old new : ShelfState) (before after : SinkState) (command : Command) : Type 0 where
+-- the files of the command are held within their limits, and neither their counts of faults nor those of the outputs rise
+pub record IsUndisturbed (old new : ShelfState) (before after : OutputsState) (command : Command) : Type 0 where
   pub held : (name : List ℕ) (limit : ℕ) → IsReadWithin command name limit → IsToldAnd (old.held name) (λ file. length file ≤ limit)
   pub read : (name : List ℕ) → IsFileOf command name → HasRisen (old.faults name) (new.faults name) → ⊥
-  pub written : HasRisen before.faults after.faults → ⊥
+  pub written : HasFault before after → ⊥
 
 -- the statuses with which an undisturbed command may end
 abbrev pub statuses_of : Command → List Status
@@ -149,18 +156,20 @@ statuses_of (Editing file script) = Done ∷ BadEdit ∷ BadProblem ∷ Memory �
 statuses_of (Undoing file script) = Done ∷ BadEdit ∷ BadProblem ∷ Memory ∷ []
 statuses_of (Checking file tree) = Done ∷ Refused ∷ BadProblem ∷ BadTree ∷ Memory ∷ []
 statuses_of (RankChecking file rank) = Done ∷ Refused ∷ BadProblem ∷ BadTree ∷ Memory ∷ []
-statuses_of (Table file tree) = Done ∷ Refused ∷ BadProblem ∷ BadTree ∷ Memory ∷ []
-statuses_of (Splitting file tree) = Done ∷ Refused ∷ BadProblem ∷ BadTree ∷ Memory ∷ []
+statuses_of (Table file tree) = Done ∷ BadClaim ∷ BadProblem ∷ BadTree ∷ Memory ∷ []
+statuses_of (Splitting file tree) = Done ∷ BadClaim ∷ BadProblem ∷ BadTree ∷ Memory ∷ []
 statuses_of (Expanding file plan) = Done ∷ BadPlan ∷ BadProblem ∷ Memory ∷ []
 statuses_of (Drawing file) = Done ∷ BadProblem ∷ Memory ∷ []
-statuses_of (DrawingNetwork file tree) = Done ∷ Refused ∷ BadProblem ∷ BadTree ∷ Memory ∷ []
-statuses_of (Reporting file tree) = Done ∷ Refused ∷ BadProblem ∷ BadTree ∷ Memory ∷ []
-statuses_of (Ranging file tree kind name budget) = Done ∷ Refused ∷ Spent ∷ Past ∷ BadProblem ∷ BadTree ∷ NotBest ∷ UnknownName ∷ Memory ∷ []
+statuses_of (DrawingNetwork file tree) = Done ∷ BadClaim ∷ BadProblem ∷ BadTree ∷ Memory ∷ []
+statuses_of (Reporting file tree) = Done ∷ BadClaim ∷ BadProblem ∷ BadTree ∷ Memory ∷ []
+statuses_of (Json file tree) = Done ∷ BadClaim ∷ BadProblem ∷ BadTree ∷ Memory ∷ []
+statuses_of (Ranging file tree kind name budget) = Done ∷ BadClaim ∷ Spent ∷ Past ∷ BadProblem ∷ BadTree ∷ NotBest ∷ UnknownName ∷ Memory ∷ []
 statuses_of (Planning file plan budget) = Done ∷ Spent ∷ Past ∷ BadPlan ∷ BadProblem ∷ Memory ∷ []
 statuses_of (Parting file inside outside budget) = Done ∷ Spent ∷ Past ∷ BadNode ∷ BadProblem ∷ Memory ∷ []
-statuses_of (PartingAgainst file inside outside budget tree) = Done ∷ Refused ∷ Spent ∷ Past ∷ BadNode ∷ BadProblem ∷ BadTree ∷ Memory ∷ []
-statuses_of (Merging file tree parts) = Done ∷ Refused ∷ NoLeaf ∷ BadProblem ∷ BadTree ∷ Memory ∷ []
+statuses_of (PartingAgainst file inside outside budget tree) = Done ∷ BadClaim ∷ Spent ∷ Past ∷ BadNode ∷ BadProblem ∷ BadTree ∷ Memory ∷ []
+statuses_of (Merging file tree parts) = Done ∷ BadClaim ∷ NoLeaf ∷ BadProblem ∷ BadTree ∷ Memory ∷ []
 statuses_of (Solving file budget) = Done ∷ Spent ∷ Past ∷ BadProblem ∷ Memory ∷ []
+statuses_of (Showing file budget) = Done ∷ Spent ∷ Past ∷ BadProblem ∷ Memory ∷ []
 statuses_of (Ranking file count budget) = Done ∷ Spent ∷ Past ∷ BadProblem ∷ Memory ∷ []
 statuses_of (Trial number units budget) = Done ∷ Spent ∷ Past ∷ Memory ∷ []
 statuses_of command = Done ∷ Memory ∷ []
@@ -187,6 +196,7 @@ RangeCanFinish kind word budget held name p =
 -- is the path of one program
 abbrev pub SearchCanFinish : (List ℕ → Told) → Command → Type 0
 SearchCanFinish held (Solving name budget) = OnGiven (CanFinish budget) held name
+SearchCanFinish held (Showing name budget) = OnGiven (CanFinish budget) held name
 SearchCanFinish held (Ranking name count budget) = OnGiven (CanFinish budget) held name
 SearchCanFinish held (Trial number units budget) = CanFinish budget (generated number units)
 SearchCanFinish held (Parting name inside outside budget) = OnGiven (CanFinish budget) held name

@@ -25,8 +25,8 @@ use Rattle.studio_rules.specs.PartFile.{GivesPart}
 use Rattle.studio_rules.specs.Start.{IsStart}
 use Rattle.studio_rules.specs.Stable.{spot_named}
 use Rattle.studio_rules.specs.Command.{Command, IsFileOf}
-use Rattle.studio_rules.specs.Command.{Max, Axioms, Flows, Listing, Migrate, Editing, Undoing, Checking, RankChecking, Solving, Ranking}
-use Rattle.studio_rules.specs.Command.{Table, Splitting, Expanding, Drawing, DrawingNetwork, Reporting, Ranging, Planning, Parting, PartingAgainst, Merging}
+use Rattle.studio_rules.specs.Command.{Max, Axioms, Flows, Listing, Migrate, Editing, Undoing, Checking, RankChecking, Solving, Showing, Ranking}
+use Rattle.studio_rules.specs.Command.{Table, Splitting, Expanding, Drawing, DrawingNetwork, Reporting, Json, Ranging, Planning, Parting, PartingAgainst, Merging}
 use Rattle.studio_rules.specs.Ending.{IsOneOf}
 use Rattle.studio_rules.specs.declared.status.Status.{Status}
 use Rattle.studio_rules.specs.declared.status.Status.TheVariants.{BadProblem, ReadFault, WriteFault, Memory, BadToken, BadTree, BadEdit, TooLong, UnknownName, NotMigrated, BadNode, BadPlan}
@@ -131,12 +131,14 @@ CauseOf held (Expanding file plan) status = InFile (InPlan held plan) held file 
 CauseOf held (Drawing file) status = InFile NoCause held file status
 CauseOf held (DrawingNetwork file tree) status = InFile (InTree NoCause held tree) held file status
 CauseOf held (Reporting file tree) status = InFile (InTree NoCause held tree) held file status
+CauseOf held (Json file tree) status = InFile (InTree NoCause held tree) held file status
 CauseOf held (Ranging file tree kind name budget) status = InFile (InTree (NameCause kind name) held tree) held file status
 CauseOf held (Planning file plan budget) status = InFile (InPlan held plan) held file status
 CauseOf held (Parting file inside outside budget) status = InFile (AtNode NoCause inside outside) held file status
 CauseOf held (PartingAgainst file inside outside budget tree) status = InFile (AtNode (InTree NoCause held tree) inside outside) held file status
 CauseOf held (Merging file tree parts) status = InFile (InTree (InParts held parts) held tree) held file status
 CauseOf held (Solving file budget) status = InFile NoCause held file status
+CauseOf held (Showing file budget) status = InFile NoCause held file status
 CauseOf held (Ranking file count budget) status = InFile NoCause held file status
 CauseOf held command status = ⊥
 

@@ -2,9 +2,9 @@
 use Rattle.std.specs.Prelude.{ℕ}
 use Rattle.studio_rules.specs.declared.status.Status.{Status}
 use Rattle.studio_rules.specs.declared.status.Status.TheVariants.{Done, Refused, Usage, BadProblem, Past, Spent, ReadFault, WriteFault, Memory}
-use Rattle.studio_rules.specs.declared.status.Status.TheVariants.{BadToken, BadTree, BadEdit, TooLong, NotBest, UnknownName, NotMigrated, BadNode, NoLeaf, BadPlan}
+use Rattle.studio_rules.specs.declared.status.Status.TheVariants.{BadToken, BadTree, BadEdit, TooLong, NotBest, UnknownName, NotMigrated, BadNode, NoLeaf, BadPlan, BadClaim}
 
--- there is no 15
+-- There is no 15. A refused claim has the number of a refusal.
 abbrev pub code_of : Status → ℕ
 code_of Done = 0
 code_of Refused = 1
@@ -25,3 +25,4 @@ code_of NotMigrated = 16
 code_of BadNode = 17
 code_of NoLeaf = 18
 code_of BadPlan = 19
+code_of BadClaim = 1

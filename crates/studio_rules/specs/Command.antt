@@ -29,12 +29,14 @@ pub data Command : Type 0 where
   Drawing : List ℕ → Command
   DrawingNetwork : List ℕ → List ℕ → Command
   Reporting : List ℕ → List ℕ → Command
+  Json : List ℕ → List ℕ → Command
   Ranging : List ℕ → List ℕ → SpotKind → List ℕ → ℕ → Command
   Planning : List ℕ → List ℕ → ℕ → Command
   Parting : List ℕ → List ℕ → List ℕ → ℕ → Command
   PartingAgainst : List ℕ → List ℕ → List ℕ → ℕ → List ℕ → Command
   Merging : List ℕ → List ℕ → List (List ℕ) → Command
   Solving : List ℕ → ℕ → Command
+  Showing : List ℕ → ℕ → Command
   Ranking : List ℕ → ℕ → ℕ → Command
   Trial : ℕ → ℕ → ℕ → Command
   Telling : List ℕ → Command
@@ -137,6 +139,7 @@ with_file word file second =
     else if bytes_eq word (codes "expand") then Some (Expanding file second)
     else if bytes_eq word (codes "graph") then Some (DrawingNetwork file second)
     else if bytes_eq word (codes "report") then Some (Reporting file second)
+    else if bytes_eq word (codes "json") then Some (Json file second)
     else if bytes_eq word (codes "periods") then Some (Planning file second full_budget)
     else None
 
@@ -147,6 +150,7 @@ on_file word file second =
     else if bytes_eq word (codes "flows") then option_map (Flows file) (unit_names_of second)
     else if bytes_eq word (codes "migrate") then option_map (Migrate file) (years_of second)
     else if bytes_eq word (codes "solve") then option_map (Solving file) (budget_of second)
+    else if bytes_eq word (codes "show") then option_map (Showing file) (budget_of second)
     else if bytes_eq word (codes "rank") then ranked_by file (rank_count_of second) (Some full_budget)
     else if are_files (file ∷ second ∷ []) then with_file word file second
     else None
@@ -158,6 +162,7 @@ of_file word file =
     else if bytes_eq word (codes "graph") then Some (Drawing file)
     else if bytes_eq word (codes "list") then Some (first_listing file)
     else if bytes_eq word (codes "solve") then Some (Solving file full_budget)
+    else if bytes_eq word (codes "show") then Some (Showing file full_budget)
     else None
 
 -- help and the version, by any of their spellings
@@ -251,12 +256,14 @@ IsFileOf (Expanding file plan) name = (name ≡ file) ⊎ (name ≡ plan)
 IsFileOf (Drawing file) name = name ≡ file
 IsFileOf (DrawingNetwork file tree) name = (name ≡ file) ⊎ (name ≡ tree)
 IsFileOf (Reporting file tree) name = (name ≡ file) ⊎ (name ≡ tree)
+IsFileOf (Json file tree) name = (name ≡ file) ⊎ (name ≡ tree)
 IsFileOf (Ranging file tree kind word budget) name = (name ≡ file) ⊎ (name ≡ tree)
 IsFileOf (Planning file plan budget) name = (name ≡ file) ⊎ (name ≡ plan)
 IsFileOf (Parting file inside outside budget) name = name ≡ file
 IsFileOf (PartingAgainst file inside outside budget tree) name = (name ≡ file) ⊎ (name ≡ tree)
 IsFileOf (Merging file tree parts) name = (name ≡ file) ⊎ ((name ≡ tree) ⊎ Contains parts name)
 IsFileOf (Solving file budget) name = name ≡ file
+IsFileOf (Showing file budget) name = name ≡ file
 IsFileOf (Ranking file count budget) name = name ≡ file
 IsFileOf command name = ⊥
 
@@ -265,6 +272,7 @@ abbrev pub AreWithin : Command → Type 0
 AreWithin (Make number units) = (1 ≤ units) × (units ≤ 128)
 AreWithin (Migrate file years) = (1 ≤ years) × (years ≤ 100)
 AreWithin (Solving file budget) = (1 ≤ budget) × (budget ≤ 1000000)
+AreWithin (Showing file budget) = (1 ≤ budget) × (budget ≤ 1000000)
 AreWithin (Ranging file tree kind name budget) = (1 ≤ budget) × (budget ≤ 1000000)
 AreWithin (Planning file plan budget) = (1 ≤ budget) × (budget ≤ 1000000)
 AreWithin (Parting file inside outside budget) = (1 ≤ budget) × (budget ≤ 1000000)

@@ -1,11 +1,12 @@
--- How a call ends: with the whole text of its status, or with a front of such a text where the sink failed.
+-- How a call ends: with the whole text of its status, or with a front of such a text where an output failed.
 use Rattle.std.specs.Prelude.{◌≡◌, ◌⊎◌, ◌++◌, ℕ, List, [], ◌∷◌, codes}
 use Rattle.std.specs.Io.KnownBytes.{Appends}
 use Rattle.text_rules.specs.Outside.{HasRisen, AppendsFront}
-use Rattle.io_rules.specs.State.{ShelfState, SinkState}
+use Rattle.io_rules.specs.State.{ShelfState, OutputsState}
 use Rattle.studio_rules.specs.Lines.{line, text_of}
+use Rattle.studio_rules.specs.Seconds.{AreSeconds}
 use Rattle.studio_rules.specs.declared.status.Status.{Status}
-use Rattle.studio_rules.specs.declared.status.Status.TheVariants.{ReadFault, WriteFault, Memory}
+use Rattle.studio_rules.specs.declared.status.Status.TheVariants.{Done, Refused, NotBest, Past, Spent, ReadFault, WriteFault, Memory}
 
 -- no lines, or the first ones of an answer
 abbrev pub IsFrontOfAnswer : (Status → List (List ℕ) → Type 0) → List (List ℕ) → Type 0
@@ -27,12 +28,62 @@ Says answers is_file old new ReadFault text =
     (name : List ℕ) × is_file name × HasRisen (old.faults name) (new.faults name) × (text ≡ line (codes "read fault " ++ name))
 Says answers is_file old new status text = Tells answers status text
 
--- What a sink, old before a call and new after it, has taken in the call is a text that P allows with the status; after a fault of the
--- sink, whose count then rose, a front of such a text.
-abbrev pub Ends : (Status → List ℕ → Type 0) → SinkState → SinkState → Status → Type 0
-Ends P old new WriteFault =
-    HasRisen old.faults new.faults × (status : Status) × (whole : List ℕ) × P status whole × AppendsFront old.written new.written whole
-Ends P old new status = (text : List ℕ) × P status text × Appends old.written new.written text
+-- Which part of a text goes to standard output and which to standard error, by its status. An answer goes to standard output. Where it
+-- is not finished, second lines on standard error may say so. After want of memory the first lines of an answer go to standard output,
+-- and the line `memory` goes to standard error. The line of each other status says why there is no answer: it goes to standard error,
+-- and second lines may follow it.
+abbrev pub IsShared : Status → (text on_out on_err : List ℕ) → Type 0
+IsShared Done text on_out on_err = (on_out ≡ text) × (on_err ≡ [])
+IsShared Refused text on_out on_err = (on_out ≡ text) × (on_err ≡ [])
+IsShared NotBest text on_out on_err = (on_out ≡ text) × (on_err ≡ [])
+IsShared Past text on_out on_err = (on_out ≡ text) × AreSeconds on_err
+IsShared Spent text on_out on_err = (on_out ≡ text) × AreSeconds on_err
+IsShared Memory text on_out on_err = (text ≡ on_out ++ on_err) × (on_err ≡ line (codes "memory"))
+IsShared status text on_out on_err = (on_out ≡ []) × ((seconds : List ℕ) × AreSeconds seconds × (on_err ≡ text ++ seconds))
+
+-- the outputs, old before and new after, took the text of the status, each its part
+abbrev pub Writes : (old new : OutputsState) → Status → List ℕ → Type 0
+Writes old new status text =
+    (on_out : List ℕ) × (on_err : List ℕ) × IsShared status text on_out on_err
+    × Appends old.out.written new.out.written on_out × Appends old.err.written new.err.written on_err
+
+-- they took a front of it, each a front of its part
+abbrev pub WritesFront : (old new : OutputsState) → Status → List ℕ → Type 0
+WritesFront old new status text =
+    (on_out : List ℕ) × (on_err : List ℕ) × IsShared status text on_out on_err
+    × AppendsFront old.out.written new.out.written on_out × AppendsFront old.err.written new.err.written on_err
+
+-- the count of faults of an output rose
+abbrev pub HasFault : (old new : OutputsState) → Type 0
+HasFault old new = HasRisen old.out.faults new.out.faults ⊎ HasRisen old.err.faults new.err.faults
+
+-- What the outputs, old before a call and new after it, have taken in the call is a text that P allows with the status; after a fault of
+-- an output, whose count then rose, a front of such a text.
+abbrev pub Ends : (Status → List ℕ → Type 0) → (old new : OutputsState) → Status → Type 0
+Ends P old new WriteFault = HasFault old new × (status : Status) × (whole : List ℕ) × P status whole × WritesFront old new status whole
+Ends P old new status = (text : List ℕ) × P status text × Writes old new status text
+
+-- the statuses of an answer that is finished, of one that is not, and of a line that says why there is none
+abbrev pub IsAnswer : Status → Type 0
+IsAnswer Done = Unit {0}
+IsAnswer Refused = Unit {0}
+IsAnswer NotBest = Unit {0}
+IsAnswer status = ⊥
+
+abbrev pub IsUnfinished : Status → Type 0
+IsUnfinished Past = Unit {0}
+IsUnfinished Spent = Unit {0}
+IsUnfinished status = ⊥
+
+abbrev pub IsRefusal : Status → Type 0
+IsRefusal Done = ⊥
+IsRefusal Refused = ⊥
+IsRefusal NotBest = ⊥
+IsRefusal Past = ⊥
+IsRefusal Spent = ⊥
+IsRefusal Memory = ⊥
+IsRefusal WriteFault = ⊥
+IsRefusal status = Unit {0}
 
 -- one text with one status
 abbrev pub Only : Status → List ℕ → Status → List ℕ → Type 0

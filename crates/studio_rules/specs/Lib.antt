@@ -13,6 +13,7 @@ pub mod Expand
 pub mod FlowPages
 pub mod Flows
 pub mod Graph
+pub mod Json
 pub mod Keeps
 pub mod Lines
 pub mod Listing
@@ -42,7 +43,9 @@ pub mod RefusalWords
 pub mod Report
 pub mod ReportPages
 pub mod Script
+pub mod Seconds
 pub mod SearchPages
+pub mod Show
 pub mod Solve
 pub mod Split
 pub mod Stable

@@ -18,7 +18,7 @@ use Rattle.studio_rules.specs.RefusalWords.{why_word, claim_line, node_line}
 use Rattle.studio_rules.specs.PartFile.{FirstFault, GiveParts, part_words, are_several}
 use Rattle.studio_rules.specs.Printed.{spelled}
 use Rattle.studio_rules.specs.declared.status.Status.{Status}
-use Rattle.studio_rules.specs.declared.status.Status.TheVariants.{Done, Refused, NoLeaf}
+use Rattle.studio_rules.specs.declared.status.Status.TheVariants.{Done, NoLeaf, BadClaim}
 
 abbrev pub part_claim_line : Bool → List ℕ → Why → List ℕ
 part_claim_line several name why = codes "refused " ++ part_words several name ++ codes " claim " ++ why_word why
@@ -32,13 +32,13 @@ no_leaf_line false name = codes "no leaf"
 
 -- why the tree is refused, and why a part is
 abbrev pub TreeRefused : Refusal → Status → List (List ℕ) → Type 0
-TreeRefused (Claim why) status lines = (status ≡ Refused) × (lines ≡ claim_line why ∷ [])
-TreeRefused (Node node why) status lines = (status ≡ Refused) × (lines ≡ node_line node why ∷ [])
+TreeRefused (Claim why) status lines = (status ≡ BadClaim) × (lines ≡ claim_line why ∷ [])
+TreeRefused (Node node why) status lines = (status ≡ BadClaim) × (lines ≡ node_line node why ∷ [])
 TreeRefused Memory status lines = ⊥
 
 abbrev pub PartRefused : Bool → List ℕ → Refusal → Status → List (List ℕ) → Type 0
-PartRefused several name (Claim why) status lines = (status ≡ Refused) × (lines ≡ part_claim_line several name why ∷ [])
-PartRefused several name (Node node why) status lines = (status ≡ Refused) × (lines ≡ part_node_line several name node why ∷ [])
+PartRefused several name (Claim why) status lines = (status ≡ BadClaim) × (lines ≡ part_claim_line several name why ∷ [])
+PartRefused several name (Node node why) status lines = (status ≡ BadClaim) × (lines ≡ part_node_line several name node why ∷ [])
 PartRefused several name Memory status lines = ⊥
 
 -- why a part is not put back

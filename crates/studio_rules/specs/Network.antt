@@ -7,7 +7,7 @@ use Rattle.tree_rules.specs.Claim.{Network, Claim, network, infeasible, unknown,
 use Rattle.tree_rules.specs.Accepted.{Tree}
 use Rattle.studio_rules.specs.RefusalWords.{claim_line}
 use Rattle.studio_rules.specs.declared.status.Status.{Status}
-use Rattle.studio_rules.specs.declared.status.Status.TheVariants.{Refused}
+use Rattle.studio_rules.specs.declared.status.Status.TheVariants.{BadClaim}
 
 -- a claim without a network is refused as unknown, any other for the first of its lines that fails
 abbrev pub IsRefusedFor : Problem → Claim → Why → Type 0
@@ -16,7 +16,7 @@ IsRefusedFor p infeasible why = why ≡ Unknown
 IsRefusedFor p unknown why = why ≡ Unknown
 
 abbrev pub ClaimRefusal : Problem → Claim → Status → List (List ℕ) → Type 0
-ClaimRefusal p claim status lines = (status ≡ Refused) × ((why : Why) × IsRefusedFor p claim why × (lines ≡ claim_line why ∷ []))
+ClaimRefusal p claim status lines = (status ≡ BadClaim) × ((why : Why) × IsRefusedFor p claim why × (lines ≡ claim_line why ∷ []))
 
 -- the claim is a network of which each line holds
 abbrev pub ClaimsNetwork : Problem → Claim → Network → Type 0

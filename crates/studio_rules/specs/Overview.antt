@@ -11,15 +11,16 @@ first_calls =
 unfoldable pub overview : List (List ℕ)
 overview =
     codes "pns: which units of a plant to build? Exact answers, with proofs (P-graph)." ∷
-    codes "A FILE is a plant, PNS_problem_v1. Texts go to standard output; 0 is success." ∷
+    codes "A FILE is a plant. Answers go to standard output, faults to standard error." ∷
     codes "" ∷
     codes "  max FILE                       the maximal structure" ∷
     codes "  axioms FILE UNITS              do these units meet the axioms S1 to S5?" ∷
     codes "  list FILE [AFTER COUNT]        those that do; AFTER is start at first" ∷
     codes "  flows FILE UNITS               the least cost of these units, and their sizes" ∷
     codes "  solve FILE [BUDGET]            a network of least cost and its proof: a TREE" ∷
+    codes "  show FILE [BUDGET]             the same for people: what is proved, in tables" ∷
     codes "  check FILE TREE                does the tree prove what it claims?" ∷
-    codes "  report FILE TREE               the claimed network in tables; as CSV: table" ∷
+    codes "  report FILE TREE               the claimed network; for programs: table, json" ∷
     codes "  graph FILE, graph FILE TREE    the plant, and the network in it, for Graphviz" ∷
     codes "  rank FILE N [BUDGET]           the N best networks, a RANK; see rankcheck" ∷
     codes "  stable FILE TREE KIND NAME [BUDGET]   how far a price or a cost may move" ∷
@@ -28,8 +29,7 @@ overview =
     codes "  periods FILE PLAN [BUDGET]     one design for several periods; see expand" ∷
     codes "  part FILE INSIDE OUTSIDE [BUDGET]     a part of a search; see split and merge" ∷
     codes "  make NUMBER UNITS              a made-up plant; trial solves it" ∷
-    codes "  help TOPIC                     a command, plant, status or the KIND of a fault" ∷
-    codes "  version                        which program this is" ∷
+    codes "  help TOPIC, version            a command, plant, status, a KIND; which program" ∷
     codes "" ∷
     first_calls
 

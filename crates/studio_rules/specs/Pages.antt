@@ -4,8 +4,8 @@ use Rattle.std.specs.Str.{bytes_eq}
 use Rattle.studio_rules.specs.PageLines.{text_of}
 use Rattle.studio_rules.specs.StructurePages.{max_page, axioms_page, list_page}
 use Rattle.studio_rules.specs.FlowPages.{flows_page, check_page}
-use Rattle.studio_rules.specs.ReportPages.{table_page, report_page, graph_page, stable_page}
-use Rattle.studio_rules.specs.SearchPages.{solve_page, trial_page}
+use Rattle.studio_rules.specs.ReportPages.{table_page, report_page, json_page, graph_page, stable_page}
+use Rattle.studio_rules.specs.SearchPages.{solve_page, show_page, trial_page}
 use Rattle.studio_rules.specs.RankPages.{rank_page, rankcheck_page}
 use Rattle.studio_rules.specs.PartPages.{split_page, part_page, merge_page}
 use Rattle.studio_rules.specs.EditPages.{edit_page, undo_page, migrate_page, make_page}
@@ -21,9 +21,11 @@ command_page_of topic =
     else if bytes_eq topic (codes "list") then Some list_page
     else if bytes_eq topic (codes "flows") then Some flows_page
     else if bytes_eq topic (codes "solve") then Some solve_page
+    else if bytes_eq topic (codes "show") then Some show_page
     else if bytes_eq topic (codes "check") then Some check_page
     else if bytes_eq topic (codes "table") then Some table_page
     else if bytes_eq topic (codes "report") then Some report_page
+    else if bytes_eq topic (codes "json") then Some json_page
     else if bytes_eq topic (codes "graph") then Some graph_page
     else if bytes_eq topic (codes "stable") then Some stable_page
     else if bytes_eq topic (codes "edit") then Some edit_page

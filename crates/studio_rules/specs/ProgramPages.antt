@@ -33,6 +33,7 @@ version_page =
 unfoldable pub status_page : List (List ℕ)
 status_page =
     codes "The status is what the shell shows with: echo $?" ∷
+    codes "An answer goes to standard output, and why there is none to standard error." ∷
     codes "" ∷
     codes "  0   the text of the command is out, whole." ∷
     codes "  2   usage: the words have no form of pns help, or a number is beyond its" ∷
@@ -44,8 +45,8 @@ status_page =
     codes "      rights." ∷
     codes "  7   nothing more: the output took no more, and what is out is only the front" ∷
     codes "      of the text. Make room and call again." ∷
-    codes "  8   memory: there was not enough. Lines before this one are only the front of" ∷
-    codes "      the text. Free some, or take a smaller plant or budget." ∷
+    codes "  8   memory: there was not enough. Standard output has only the front of the" ∷
+    codes "      text. Free some, or take a smaller plant or budget." ∷
     codes "  12  too long NAME: the file has more bytes than its limit, 268,435,456 for a" ∷
     codes "      TREE, RANK or PART and 4,194,304 for the others." ∷
     codes "  20  nothing: a word is not UTF-8." ∷

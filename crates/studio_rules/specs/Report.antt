@@ -1,11 +1,55 @@
--- `report FILE TREE`: the claimed network in tables for people.
-use Rattle.std.specs.Prelude.{◌≡◌, ℕ, List}
+-- `report FILE TREE`: what the tree proves of its claim, in a line, and then the claimed network in tables for people.
+use Rattle.std.specs.Prelude.{◌≡◌, ◌++◌, ℕ, true, List, [], ◌∷◌, codes, decimal}
 use Rattle.problem_rules.specs.Problem.{Problem}
-use Rattle.tree_rules.specs.Claim.{Network}
-use Rattle.report_rules.specs.Report.{report_lines}
+use Rattle.tree_rules.specs.declared.why.Why.{Why}
+use Rattle.tree_rules.specs.Claim.{Claim, network, infeasible, unknown, ClaimFails}
+use Rattle.tree_rules.specs.Accepted.{Tree}
+use Rattle.report_rules.specs.declared.verdict.Verdict.{Verdict}
+use Rattle.report_rules.specs.declared.verdict.Verdict.TheVariants.{Proved, Unfinished, Fails}
+use Rattle.report_rules.specs.Verdict.{IsVerdict}
+use Rattle.report_rules.specs.Report.{total_cell, report_lines}
+use Rattle.studio_rules.specs.RefusalWords.{why_word, claim_line}
 use Rattle.studio_rules.specs.declared.status.Status.{Status}
-use Rattle.studio_rules.specs.declared.status.Status.TheVariants.{Done}
+use Rattle.studio_rules.specs.declared.status.Status.TheVariants.{Done, BadClaim}
 
-abbrev pub ReportWork : Problem → Network → Status → List (List ℕ) → Type 0
-ReportWork p w Done lines = lines ≡ report_lines p w
-ReportWork p w status lines = ⊥
+-- ---- the first line
+
+-- a claim that is accepted is that of a network, or that none has flows
+abbrev pub proved_line : Problem → Claim → List ℕ
+proved_line p (network w) = codes "PROVED: this network costs " ++ total_cell p w ++ codes ", and no allowed network costs less"
+proved_line p infeasible = codes "PROVED: no network meets the bounds"
+proved_line p unknown = codes "PROVED: no network meets the bounds"
+
+abbrev pub unfinished_line : Problem → Claim → List ℕ
+unfinished_line p (network w) = codes "NOT FINISHED: best so far " ++ total_cell p w
+unfinished_line p infeasible = codes "NOT FINISHED: no network found so far"
+unfinished_line p unknown = codes "NOT FINISHED: no network found so far"
+
+abbrev pub failing_line : ℕ → Why → List ℕ
+failing_line node why = codes "NOT PROVED: node " ++ decimal node ++ 32 ∷ why_word why
+
+abbrev pub first_line : Problem → Claim → Verdict → List ℕ
+first_line p claim Proved = proved_line p claim
+first_line p claim Unfinished = unfinished_line p claim
+first_line p claim (Fails node why) = failing_line node why
+
+-- ---- all
+
+-- there are tables of a claimed network alone
+abbrev pub tables_of : Problem → Claim → List (List ℕ)
+tables_of p (network w) = report_lines p w
+tables_of p infeasible = []
+tables_of p unknown = []
+
+abbrev pub verdict_lines : Problem → Claim → Verdict → List (List ℕ)
+verdict_lines p claim verdict = first_line p claim verdict ∷ tables_of p claim
+
+-- the lines tell what the tree proves: `PROVED` exactly where `check` accepts it
+abbrev pub ReportSays : Problem → Claim → Tree → List (List ℕ) → Type 0
+ReportSays p claim tree lines = (verdict : Verdict) × IsVerdict p claim tree verdict × (lines ≡ verdict_lines p claim verdict)
+
+-- a claim that fails, though nothing may be claimed, is refused for the first of its lines that does
+abbrev pub ReportWork : Problem → Claim → Tree → Status → List (List ℕ) → Type 0
+ReportWork p claim tree Done lines = ReportSays p claim tree lines
+ReportWork p claim tree BadClaim lines = (why : Why) × ClaimFails true p claim why × (lines ≡ claim_line why ∷ [])
+ReportWork p claim tree status lines = ⊥

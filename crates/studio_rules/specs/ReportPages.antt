@@ -39,24 +39,47 @@ table_page =
 unfoldable pub report_page : List (List ℕ)
 report_page =
     codes "pns report FILE TREE" ∷
-    codes "Prints the claimed network for people: units, materials and money in one year." ∷
-    codes "Nothing is proved by this; pns check does." ∷
+    codes "Tells what the tree proves, and shows the claimed network to people: units," ∷
+    codes "materials and money in one year." ∷
     codes "  FILE  the plant, PNS_problem_v1" ∷
     codes "  TREE  a tree text, as solve prints it" ∷
-    codes "Prints a table of units, one of materials, one of sums. Costs are above 0," ∷
-    codes "incomes below. A number behind ~ is rounded. limit tells where an amount is at a" ∷
-    codes "bound: max, min, fixed (both) or idle (built, but of size 0)." ∷
+    codes "Prints a line that begins with PROVED (check accepts the tree), NOT FINISHED" ∷
+    codes "(nodes are open) or NOT PROVED (node N fails, and why); then a table of units," ∷
+    codes "one of materials and one of sums. Costs are above 0, incomes below; numbers have" ∷
+    codes "6 digits where they have more. limit tells where an amount is at a bound: max," ∷
+    codes "min, fixed (both), idle (built, but of size 0), or UNBOUNDED?, at 1000000000." ∷
     codes "Ends with" ∷
-    codes "  0   The text is out, whole." ∷
-    codes "  1   refused claim WHY: the claim has no network (unknown), or its network" ∷
-    codes "      breaks an axiom (axiom) or an exclusion (exclusion), its sizes are no" ∷
-    codes "      flows (flows) or its cost is another (cost), or a number is too large" ∷
-    codes "      (sum). Is FILE the plant that TREE was made for?" ∷
+    codes "  0   The text is out, whole. Line 1 says what is proved." ∷
+    codes "  1   refused claim WHY: the claimed network breaks an axiom (axiom) or an" ∷
+    codes "      exclusion (exclusion), its sizes are no flows (flows) or its cost is" ∷
+    codes "      another (cost), or a number is too large (sum). Is FILE the plant that" ∷
+    codes "      TREE was made for?" ∷
     codes "  10  tree line L KIND: line L of TREE has a fault; pns help KIND explains it." ∷
     codes "      Have the text printed anew." ∷
     codes "  2, 3, 6, 7, 8, 12, 20: see pns help status" ∷
     codes "Example" ∷
     codes "  pns report a.pns tree" ∷
+    []
+
+unfoldable pub json_page : List (List ℕ)
+json_page =
+    codes "pns json FILE TREE" ∷
+    codes "Tells what pns report tells as one JSON object, for programs." ∷
+    codes "  FILE  the plant, PNS_problem_v1" ∷
+    codes "  TREE  a tree text, as solve prints it" ∷
+    codes "Prints the keys verdict (proved, not finished or not proved, then with the node" ∷
+    codes "that fails and why) and claim; and where a network is claimed counts," ∷
+    codes "payout_period, units, materials, money, paid_once and left_out. Each number" ∷
+    codes "stands twice: value has 17 digits, exact is a fraction; both are null where it" ∷
+    codes "has no room in 128 bits. A line has one unit or one material." ∷
+    codes "Ends with" ∷
+    codes "  0   The text is out, whole. The verdict says what is proved." ∷
+    codes "  1   refused claim WHY: as of pns report" ∷
+    codes "  10  tree line L KIND: line L of TREE has a fault; pns help KIND explains it." ∷
+    codes "      Have the text printed anew." ∷
+    codes "  2, 3, 6, 7, 8, 12, 20: see pns help status" ∷
+    codes "Example" ∷
+    codes "  pns json a.pns tree" ∷
     []
 
 unfoldable pub graph_page : List (List ℕ)
@@ -68,9 +91,14 @@ graph_page =
     codes "  FILE  the plant, PNS_problem_v1" ∷
     codes "  TREE  a tree text, as solve prints it" ∷
     codes "Prints DOT text. Raw materials are houses, products have a double line, units" ∷
-    codes "are bars. Arcs show rates that are not 1, and with TREE flows; what is not in" ∷
-    codes "the network is grey, a unit of size 0 has a broken line. Numbers have up to 3" ∷
-    codes "places." ∷
+    codes "are boxes. Arcs show rates that are not 1. With TREE they show flows, and are" ∷
+    codes "wider where there is more; a unit shows its size and its costs, a material what" ∷
+    codes "is bought or left over of it, its price and the money. What is at a limit is" ∷
+    codes "orange, what is left out grey; a unit of size 0 has a broken line. A raw" ∷
+    codes "material with more than four users is drawn at each of them, and so is another" ∷
+    codes "with more than four users in the network. A pointer on a part shows its numbers" ∷
+    codes "in FILE. Numbers have six digits where they have more; their whole part is never" ∷
+    codes "cut." ∷
     codes "Ends with" ∷
     codes "  0   The text is out, whole." ∷
     codes "  1   refused claim WHY, with TREE only: as in pns help report." ∷

@@ -24,6 +24,27 @@ solve_page =
     codes "  pns solve a.pns 100 > tree" ∷
     []
 
+unfoldable pub show_page : List (List ℕ)
+show_page =
+    codes "pns show FILE [BUDGET]" ∷
+    codes "Finds an allowed network of least cost in one year and shows it to people: pns" ∷
+    codes "solve and pns report in one. No tree is kept; for a proof to keep take solve." ∷
+    codes "  FILE    the plant, PNS_problem_v1" ∷
+    codes "  BUDGET  the most nodes, 1 to 1000000; 10k is 10000; 1M where it is left out" ∷
+    codes "Prints what pns report prints of the tree of pns solve: a line that begins with" ∷
+    codes "PROVED or NOT FINISHED, and then the network in tables, if there is one." ∷
+    codes "Ends with" ∷
+    codes "  0   PROVED: no network costs less, or no network meets the bounds." ∷
+    codes "  4   NOT FINISHED: a number on the way left the range of 128 bits; the plant" ∷
+    codes "      need not be wrong. Write rates and costs with fewer digits, or bounds and" ∷
+    codes "      capacities nearer to what can come, and call again." ∷
+    codes "  5   NOT FINISHED: BUDGET was reached. The network is the cheapest one found so" ∷
+    codes "      far. Call again with a greater BUDGET." ∷
+    codes "  2, 3, 6, 7, 8, 12, 20: see pns help status" ∷
+    codes "Example" ∷
+    codes "  pns show a.pns" ∷
+    []
+
 -- the page on `trial` from its example on
 abbrev pub trial_example : List (List ℕ)
 trial_example =

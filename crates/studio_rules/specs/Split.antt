@@ -11,7 +11,7 @@ use Rattle.part_rules.specs.OpenLeaves.{OpenAt, open_leaves}
 use Rattle.pns_rules.specs.Tokens.{token_of}
 use Rattle.studio_rules.specs.RefusalWords.{claim_line, node_line}
 use Rattle.studio_rules.specs.declared.status.Status.{Status}
-use Rattle.studio_rules.specs.declared.status.Status.TheVariants.{Done, Refused}
+use Rattle.studio_rules.specs.declared.status.Status.TheVariants.{Done, BadClaim}
 
 -- the token of the units that pass, of which a problem has at most 128
 abbrev pub token_in : (ℕ → Bool) → List ℕ
@@ -36,5 +36,5 @@ IsRefused p claim tree lines =
 
 abbrev pub SplitWork : Problem → Claim → Tree → Status → List (List ℕ) → Type 0
 SplitWork p claim tree Done lines = IsPartial p first_node claim tree × (lines ≡ split_lines (open_leaves (shape_of p) (first_node ∷ []) tree 0))
-SplitWork p claim tree Refused lines = IsRefused p claim tree lines
+SplitWork p claim tree BadClaim lines = IsRefused p claim tree lines
 SplitWork p claim tree status lines = ⊥

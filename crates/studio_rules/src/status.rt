@@ -5,7 +5,7 @@
 pub enum Status {
     /// The command's text is out, whole.
     Done = 0,
-    /// The units break an axiom.
+    /// The answer is no: units break an axiom, or a tree proves nothing.
     Refused = 1,
     /// The words match no form.
     Usage = 2,
@@ -41,4 +41,6 @@ pub enum Status {
     NoLeaf = 18,
     /// The plan has a fault.
     BadPlan = 19,
+    /// A command can't go on from a claim, or from a tree: the claim or a node is refused. Its number is that of `Refused`.
+    BadClaim,
 }

@@ -9,7 +9,7 @@ use Rattle.studio_rules.specs.PageLines.{text_of, IsOfLines}
 use Rattle.studio_rules.specs.Overview.{overview, version}
 use Rattle.studio_rules.specs.Pages.{page_text, command_text}
 use Rattle.studio_words.proofs.WholePages.{command_whole, page_whole}
-use Rattle.studio_rules.specs.Command.{Command, Max, Axioms, Flows, Listing, Migrate, Editing, Undoing, Checking, RankChecking, Solving, Telling, is_help_word, is_version_word, is_page_word, or_else, page_asked, merging_of, form_of, command_of, of_file, on_file, with_file, made_by, tried_by, ranged_by, ranked_by, kind_of, unit_names_of, count_of, seed_of, unit_count_of, years_of, rank_count_of, budget_of, full_budget, is_file_word, are_files, AreWithin, Table, Splitting, Expanding, Drawing, DrawingNetwork, Reporting, Planning, Parting, PartingAgainst, Merging}
+use Rattle.studio_rules.specs.Command.{Command, Max, Axioms, Flows, Listing, Migrate, Editing, Undoing, Checking, RankChecking, Solving, Showing, Telling, is_help_word, is_version_word, is_page_word, or_else, page_asked, merging_of, form_of, command_of, of_file, on_file, with_file, made_by, tried_by, ranged_by, ranked_by, kind_of, unit_names_of, count_of, seed_of, unit_count_of, years_of, rank_count_of, budget_of, full_budget, is_file_word, are_files, AreWithin, Table, Splitting, Expanding, Drawing, DrawingNetwork, Reporting, Json, Planning, Parting, PartingAgainst, Merging}
 use Rattle.stability_rules.specs.declared.spot.SpotKind.{SpotKind}
 
 numeral_within : (least most : ℕ) (word : List ℕ) → IfSome (number_within least most word) (λ n. (least ≤ n) × (n ≤ most))
@@ -67,6 +67,10 @@ solve_within : (file : List ℕ) (budget : Option ℕ) → IfSome budget (λ n. 
 solve_within file None p = tt
 solve_within file (Some budget) p = p
 
+show_within : (file : List ℕ) (budget : Option ℕ) → IfSome budget (λ n. (1 ≤ n) × (n ≤ 1000000)) → IfSome (option_map (Showing file) budget) AreWithin
+show_within file None p = tt
+show_within file (Some budget) p = p
+
 tried_within : (number units budget : Option ℕ) → IfSome units (λ n. (1 ≤ n) × (n ≤ 128)) → IfSome budget (λ n. (1 ≤ n) × (n ≤ 1000000)) → IfSome (tried_by number units budget) AreWithin
 tried_within None units budget p q = tt
 tried_within (Some number) None budget p q = tt
@@ -114,7 +118,8 @@ with_file_within word file second =
     (either_within (bytes_eq word (codes "expand")) (Some (Expanding file second)) _ tt
     (either_within (bytes_eq word (codes "graph")) (Some (DrawingNetwork file second)) _ tt
     (either_within (bytes_eq word (codes "report")) (Some (Reporting file second)) _ tt
-    (either_within (bytes_eq word (codes "periods")) (Some (Planning file second full_budget)) None full_within tt))))))))))
+    (either_within (bytes_eq word (codes "json")) (Some (Json file second)) _ tt
+    (either_within (bytes_eq word (codes "periods")) (Some (Planning file second full_budget)) None full_within tt)))))))))))
 
 on_file_within : (word file second : List ℕ) → IfSome (on_file word file second) AreWithin
 on_file_within word file second =
@@ -122,16 +127,18 @@ on_file_within word file second =
     (either_within (bytes_eq word (codes "flows")) (option_map (Flows file) (unit_names_of second)) _ (flows_within file (unit_names_of second))
     (either_within (bytes_eq word (codes "migrate")) (option_map (Migrate file) (years_of second)) _ (migrate_within file (years_of second) (numeral_within 1 100 second))
     (either_within (bytes_eq word (codes "solve")) (option_map (Solving file) (budget_of second)) _ (solve_within file (budget_of second) (budget_within second))
+    (either_within (bytes_eq word (codes "show")) (option_map (Showing file) (budget_of second)) _ (show_within file (budget_of second) (budget_within second))
     (either_within (bytes_eq word (codes "rank")) (ranked_by file (rank_count_of second) (Some full_budget)) _
     (ranked_within file (rank_count_of second) (Some full_budget) (numeral_within 1 1000 second) full_within)
-    (either_within (are_files (file ∷ second ∷ [])) (with_file word file second) None (with_file_within word file second) tt)))))
+    (either_within (are_files (file ∷ second ∷ [])) (with_file word file second) None (with_file_within word file second) tt))))))
 
 of_file_within : (word file : List ℕ) → IfSome (of_file word file) AreWithin
 of_file_within word file =
     either_within (bytes_eq word (codes "max")) (Some (Max file)) _ tt
     (either_within (bytes_eq word (codes "graph")) (Some (Drawing file)) _ tt
     (either_within (bytes_eq word (codes "list")) (Some (Listing file (codes "start") 1000)) _ tt
-    (either_within (bytes_eq word (codes "solve")) (Some (Solving file full_budget)) None full_within tt)))
+    (either_within (bytes_eq word (codes "solve")) (Some (Solving file full_budget)) _ full_within
+    (either_within (bytes_eq word (codes "show")) (Some (Showing file full_budget)) None full_within tt))))
 
 forms_within : (words : List (List ℕ)) → IfSome (form_of words) AreWithin
 forms_within [] = tt

@@ -2,8 +2,8 @@
 use Rattle.std.specs.Prelude.{map, string_bytes}
 use Rattle.studio_rules.specs.Command as rules
 use Rattle.studio_words.specs.declared.command.Command.{Command}
-use Rattle.studio_words.specs.declared.command.Command.TheVariants.{Max, Axioms, Flows, Listing, Make, Migrate, Editing, Undoing, Checking, RankChecking, Solving, Ranking, Trial, Telling}
-use Rattle.studio_words.specs.declared.command.Command.TheVariants.{Table, Splitting, Expanding, Drawing, DrawingNetwork, Reporting, Ranging, Planning, Parting, PartingAgainst, Merging}
+use Rattle.studio_words.specs.declared.command.Command.TheVariants.{Max, Axioms, Flows, Listing, Make, Migrate, Editing, Undoing, Checking, RankChecking, Solving, Showing, Ranking, Trial, Telling}
+use Rattle.studio_words.specs.declared.command.Command.TheVariants.{Table, Splitting, Expanding, Drawing, DrawingNetwork, Reporting, Json, Ranging, Planning, Parting, PartingAgainst, Merging}
 
 abbrev pub command_view : Command → rules.Command
 command_view (Max file) = rules.Max file.now
@@ -22,12 +22,14 @@ command_view (Expanding file plan) = rules.Expanding file.now plan.now
 command_view (Drawing file) = rules.Drawing file.now
 command_view (DrawingNetwork file tree) = rules.DrawingNetwork file.now tree.now
 command_view (Reporting file tree) = rules.Reporting file.now tree.now
+command_view (Json file tree) = rules.Json file.now tree.now
 command_view (Ranging file tree kind name budget) = rules.Ranging file.now tree.now kind name.now budget
 command_view (Planning file plan budget) = rules.Planning file.now plan.now budget
 command_view (Parting file inside outside budget) = rules.Parting file.now inside.now outside.now budget
 command_view (PartingAgainst file inside outside budget tree) = rules.PartingAgainst file.now inside.now outside.now budget tree.now
 command_view (Merging file tree parts) = rules.Merging file.now tree.now (map string_bytes parts.now)
 command_view (Solving file budget) = rules.Solving file.now budget
+command_view (Showing file budget) = rules.Showing file.now budget
 command_view (Ranking file count budget) = rules.Ranking file.now count budget
 command_view (Trial number units budget) = rules.Trial number units budget
 command_view (Telling text) = rules.Telling text.now

@@ -1,7 +1,7 @@
 //! The words of a call.
 ghost use Rattle.std.specs.Prelude.{◌≡◌, ◌∷◌, [], IfOk, map, option_map, string_bytes};
 ghost use Rattle.studio_rules.specs.Command.{command_of, form_of, of_file, on_file, with_file, made_by, tried_by, ranged_by, ranked_by, page_asked, unit_names_of, count_of, seed_of, unit_count_of, years_of, rank_count_of, budget_of, kind_of};
-ghost use Rattle.studio_rules.specs.Command.{alone, Axioms, Flows, Listing, Migrate, Solving, Planning, Parting, PartingAgainst, Telling};
+ghost use Rattle.studio_rules.specs.Command.{alone, Axioms, Flows, Listing, Migrate, Solving, Showing, Planning, Parting, PartingAgainst, Telling};
 ghost use Rattle.studio_rules.specs.Pages.{page_text};
 ghost use Rattle.studio_words.specs.View.{command_view};
 
@@ -32,12 +32,14 @@ pub enum Command<'a> {
     Drawing(&'a str),
     DrawingNetwork(&'a str, &'a str),
     Reporting(&'a str, &'a str),
+    Json(&'a str, &'a str),
     Ranging(&'a str, &'a str, SpotKind, &'a str, u64),
     Planning(&'a str, &'a str, u64),
     Parting(&'a str, &'a str, &'a str, u64),
     PartingAgainst(&'a str, &'a str, &'a str, u64, &'a str),
     Merging(&'a str, &'a str, &'a [String]),
     Solving(&'a str, u64),
+    Showing(&'a str, u64),
     Ranking(&'a str, u64, u64),
     Trial(u64, u64, u64),
     /// A text of the program itself: help, or the version.
@@ -147,6 +149,7 @@ fn of_file<'a>(word: &str, file: &'a str) -> Option<Command<'a>>
         "graph" => Some(Command::Drawing(file)),
         "list" => Some(Command::Listing(file, "start", FIRST_COUNT)),
         "solve" => Some(Command::Solving(file, MOST_NODES)),
+        "show" => Some(Command::Showing(file, MOST_NODES)),
         _ => None,
     }
 }
@@ -227,6 +230,8 @@ fn on_file<'a>(
         Ok(migrate_of(file, second))
     } else if word == "solve" {
         Ok(solve_of(file, second))
+    } else if word == "show" {
+        Ok(show_of(file, second))
     } else if word == "rank" {
         Ok(ranked_by(file, second, Some(MOST_NODES)))
     } else if are_both_files(file, second) {
@@ -253,6 +258,13 @@ fn solve_of<'a>(file: &'a str, budget: &str) -> Option<Command<'a>>
     Some(Command::Solving(file, budget))
 }
 
+fn show_of<'a>(file: &'a str, budget: &str) -> Option<Command<'a>>
+    ensures { option_map command_view result ≡ option_map (Showing file.now) (budget_of budget.now) }
+{
+    let budget = budget_of(budget)?;
+    Some(Command::Showing(file, budget))
+}
+
 fn tried_by<'a>(number: &str, units: &str, budget: Option<u64>) -> Option<Command<'a>>
     ensures { option_map command_view result ≡ tried_by (seed_of number.now) (unit_count_of units.now) budget }
 {
@@ -274,6 +286,7 @@ fn with_file<'a>(word: &str, file: &'a str, second: &'a str) -> Option<Command<'
         "expand" => Some(Command::Expanding(file, second)),
         "graph" => Some(Command::DrawingNetwork(file, second)),
         "report" => Some(Command::Reporting(file, second)),
+        "json" => Some(Command::Json(file, second)),
         "periods" => Some(Command::Planning(file, second, MOST_NODES)),
         _ => None,
     }

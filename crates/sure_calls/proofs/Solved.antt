@@ -1,6 +1,6 @@
 -- A call over a shelf in memory with the plant of one unit.
 use Rattle.std.proofs.Common.{◌≡◌, ◌∷◌, [], List, ℕ, Some, codes, inl, refl, ap, ◌∙◌}
-use Rattle.io_rules.specs.State.{ShelfState, SinkState}
+use Rattle.io_rules.specs.State.{ShelfState, OutputsState}
 use Rattle.pns_io.specs.MemoryShelf.{Shelved}
 use Rattle.pns_io.specs.NamedFiles.{file_of}
 use Rattle.studio_rules.specs.Answers.{WordsSay}
@@ -21,7 +21,7 @@ state_of shelf = record {
 abbrev pub solve_words : List (List ℕ)
 solve_words = codes "solve" ∷ codes "a.pns" ∷ codes "4" ∷ []
 
-pub solved : (shelf new : Shelved) (before after : SinkState) (words : List (List ℕ))
+pub solved : (shelf new : Shelved) (before after : OutputsState) (words : List (List ℕ))
     (status : Status) → OneUnitIsSure → SureCallIsDone
     → file_of shelf.files (codes "a.pns") ≡ Some one_unit_text → words ≡ solve_words
     → Ends (WordsSay (state_of shelf) (state_of new) words) before after status

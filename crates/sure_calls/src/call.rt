@@ -4,14 +4,17 @@ ghost use Rattle.studio_rules.specs.Ending.{IsOneOf};
 ghost use Rattle.studio_rules.specs.declared.status.Status.TheVariants.{Done, ReadFault, WriteFault, Memory};
 
 use crate::one_unit::{plant_shelf, solve_words};
-use pns_io::Sink;
+use pns_io::{Outputs, Sink};
 use std::alloc::{AllocError, Global};
 use studio::{Status, studio};
 use sure_laws::{one_unit_is_sure, sure_call_is_done};
 
 /// Solves the plant of one unit within a budget of 4. Where the shelf and the words can be made,
-/// the whole answer is out with status 0, or a read, the sink or memory failed.
-pub fn solve_one_unit<K: Sink>(alloc: Global, out: &mut K) -> Result<Status, AllocError>
+/// the whole answer is out with status 0, or a read, an output or memory failed.
+pub fn solve_one_unit<K: Sink, E: Sink>(
+    alloc: Global,
+    out: &mut Outputs<K, E>,
+) -> Result<Status, AllocError>
     ensures { IfOk result (λ status. IsOneOf (Done ∷ ReadFault ∷ WriteFault ∷ Memory ∷ []) status) }
 {
     one_unit_is_sure();

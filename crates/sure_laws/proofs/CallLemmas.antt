@@ -4,7 +4,7 @@ use Rattle.problem_rules.specs.Problem.{Problem}
 use Rattle.text_rules.specs.Fault.{Fault}
 use Rattle.text_rules.specs.Outside.{Told}
 use Rattle.text_rules.specs.Value.{read_text}
-use Rattle.io_rules.specs.State.{ShelfState, SinkState}
+use Rattle.io_rules.specs.State.{ShelfState, OutputsState}
 use Rattle.tree_rules.specs.Claim.{Claim}
 use Rattle.tree_rules.specs.Accepted.{Tree}
 use Rattle.tree_rules.specs.Tail.{Tail, whole, spent, past}
@@ -77,7 +77,7 @@ pub sure_search_can_finish : SureSearchCanFinish
 sure_search_can_finish held name budget sure = (can_finish held name budget sure, λ count. can_finish held name budget sure)
 
 -- a call whose answers have status 0 alone
-done_or_failed : (answers : Status → List (List ℕ) → Type 0) (is_file : List ℕ → Type 0) (old new : ShelfState) (before after : SinkState) → ((s : Status) (lines : List (List ℕ)) → answers s lines → s ≡ Done)
+done_or_failed : (answers : Status → List (List ℕ) → Type 0) (is_file : List ℕ → Type 0) (old new : ShelfState) (before after : OutputsState) → ((s : Status) (lines : List (List ℕ)) → answers s lines → s ≡ Done)
     → (s : Status) → Ends (Says answers is_file old new) before after s
     → IsOneOf (Done ∷ ReadFault ∷ WriteFault ∷ Memory ∷ []) s
 done_or_failed answers is_file old new before after done Done h = inl refl

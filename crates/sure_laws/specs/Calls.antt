@@ -3,7 +3,7 @@
 use Rattle.std.specs.Prelude.{◌≡◌, ◌⊎◌, ◌≤◌, ◌^◌, ℕ, suc, List, [], ◌∷◌, Some, length}
 use Rattle.problem_rules.specs.Problem.{Problem}
 use Rattle.text_rules.specs.Outside.{Told}
-use Rattle.io_rules.specs.State.{ShelfState, SinkState}
+use Rattle.io_rules.specs.State.{ShelfState, OutputsState}
 use Rattle.studio_rules.specs.Command.{Solving, Ranking, command_of}
 use Rattle.studio_rules.specs.Reading.{GivesProblem}
 use Rattle.studio_rules.specs.Ending.{Ends, IsOneOf}
@@ -35,10 +35,10 @@ SureSearchCanFinish =
     × ((count : ℕ) → SearchCanFinish held (Ranking name count budget))
 
 -- So a call whose end is as the clause `ends` of `studio` says has its whole answer out with status
--- 0, or ends with a fault of reading, of the sink or of memory.
+-- 0, or ends with a fault of reading, of an output or of memory.
 abbrev pub SureCallIsDone : Type 0
 SureCallIsDone =
-    (old new : ShelfState) (before after : SinkState) (words : List (List ℕ)) (name : List ℕ)
+    (old new : ShelfState) (before after : OutputsState) (words : List (List ℕ)) (name : List ℕ)
     (budget : ℕ) (status : Status) → IsSure old.held name budget → Searches words name budget
     → Ends (WordsSay old new words) before after status
     → IsOneOf (Done ∷ ReadFault ∷ WriteFault ∷ Memory ∷ []) status

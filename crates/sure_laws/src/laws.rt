@@ -14,7 +14,7 @@ pub fn nothing_stops()
 {}
 
 /// The commands `solve` and `rank` of such a file have their whole answer out with status 0, or end
-/// with a fault of reading, of the sink or of memory.
+/// with a fault of reading, of an output or of memory.
 pub fn sure_call_is_done()
     ensures premise { SureSearchCanFinish }
     ensures done { SureCallIsDone }

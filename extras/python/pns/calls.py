@@ -59,17 +59,24 @@ def call(
         try:
             done = subprocess.run(
                 [path, command, *words], cwd=folder, stdin=subprocess.DEVNULL,
-                stdout=subprocess.PIPE, stderr=subprocess.DEVNULL, check=False,
+                stdout=subprocess.PIPE, stderr=subprocess.PIPE, check=False,
             )
         except OSError as error:
             raise faults.ProgramMissing(f"{path} cannot be called: {error.strerror}") from error
-    answer = Answer(done.returncode, done.stdout.decode("utf-8", "replace"))
+    answer = Answer(done.returncode, _text_of(done))
     kinds = {3: ("plant", faults.PlantFault), 10: ("tree", faults.TreeFault),
              19: ("plan", faults.PlanFault)}
     if answer.status in kinds:
         name, fault = kinds[answer.status]
         raise _fault(fault, answer.text, files.get(name, b""))
     return answer
+
+
+def _text_of(done: "subprocess.CompletedProcess[bytes]") -> str:
+    """The answer on standard output, and the lines on standard error that are not help for people."""
+    lines = done.stderr.decode("utf-8", "replace").splitlines(keepends=True)
+    said = "".join(line for line in lines if not line.startswith("  "))
+    return done.stdout.decode("utf-8", "replace") + said
 
 
 def _fault(kind: type, text: str, data: bytes) -> faults.Fault:

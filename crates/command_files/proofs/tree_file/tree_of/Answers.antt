@@ -17,7 +17,7 @@ returns-in-Err-clause-told g c =
     let name = c.args.name.now in
     let p = c.args.problem.now in
     let Q : Status → List ℕ → Type 0 = Says (TreeFaults old.held name p) (λ other. other ≡ name) old new in
-    Ends-map _ Q (g.K.Sink.state c.args.out.now) _ _ (long-faults (TreeFault name p) old new name 268435456 (λ file lines h. h)) c.in-Err.ensures.told
+    Ends-map _ Q c.args.out.now _ _ (long-faults (TreeFault name p) old new name 268435456 (λ file lines h. h)) c.in-Err.ensures.told
 
 pub returns-in-Err-At-clause-told : goal.returns-in-Err-At-clause-told
 returns-in-Err-At-clause-told g c =
@@ -28,7 +28,7 @@ returns-in-Err-At-clause-told g c =
     let Q : Status → List ℕ → Type 0 = Says (TreeFaults old.held name p) (λ other. other ≡ name) old new in
     let told : read_text p c.in-Ok.bytes.items ≡ Err (c.in-Err-At.line, c.in-Err-At.kind) =
     ap (read_text p) (sym c.deref.ensures.value) ∙ (rw c.in-Err-At.field-0-is at c.in-Err-At.ensures.fault) in
-    Ends-from _ Q (g.K.Sink.state c.args.out.now) _ _ _ (ap g.K.Sink.state c.in-Ok.ensures.silent)
+    Ends-from _ Q c.args.out.now _ _ _ c.in-Ok.ensures.silent
     (only_or_memory_in Q BadTree (line (tree_fault_line c.in-Err-At.line c.in-Err-At.kind)) (
       tree_fault_line c.in-Err-At.line c.in-Err-At.kind ∷ [],
       (c.in-Ok.bytes.items, c.in-Ok.ensures.whole, (c.in-Ok.ensures.within, (c.in-Err-At.line, c.in-Err-At.kind, told, refl))),
@@ -43,7 +43,7 @@ returns-clause-told g c =
     let name = c.args.name.now in
     let p = c.args.problem.now in
     let Q : Status → List ℕ → Type 0 = Says (TreeFaults old.held name p) (λ other. other ≡ name) old new in
-    Ends-from _ Q (g.K.Sink.state c.args.out.now) _ _ _ (ap g.K.Sink.state c.in-Ok.ensures.silent)
+    Ends-from _ Q c.args.out.now _ _ _ c.in-Ok.ensures.silent
     (only_in Q Memory (line (codes "memory")) ([], inl refl, refl)) c.say_memory.ensures
 
 pub returns-in-Ok-read_tree-clause-tree : goal.returns-in-Ok-read_tree-clause-tree

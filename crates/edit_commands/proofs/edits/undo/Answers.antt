@@ -18,7 +18,7 @@ returns-in-Ok-clause-ends g c =
     let script = c.args.script.now in
     let P : Status → List ℕ → Type 0 = Says (OnScript UndoWork mid.held script c.in-Ok.problem) (λ other. other ≡ script) mid new in
     let Q : Status → List ℕ → Type 0 = TwoFilesSay (OnScript UndoWork) file script old new in
-    Ends-from P Q (g.K.Sink.state c.args.out.now) _ _ _ (ap g.K.Sink.state c.in-Ok.ensures.silent)
+    Ends-from P Q c.args.out.now _ _ _ c.in-Ok.ensures.silent
     (on_both-work (ScriptSays UndoWork script) file script old mid new c.in-Ok.problem c.in-Ok.ensures.problem (c.problem_of.ensures.keeps.held script) c.problem_of.ensures.keeps.later) c.say_inverse.ensures.ends
 
 pub returns-in-Err-clause-ends : goal.returns-in-Err-clause-ends
@@ -28,7 +28,7 @@ returns-in-Err-clause-ends g c =
     let file = c.args.file.now in
     let script = c.args.script.now in
     let Q : Status → List ℕ → Type 0 = TwoFilesSay (OnScript UndoWork) file script old new in
-    Ends-map _ Q (g.K.Sink.state c.args.out.now) _ _ (on_both-faults (ScriptSays UndoWork script) file script old new) c.in-Err.ensures.told
+    Ends-map _ Q c.args.out.now _ _ (on_both-faults (ScriptSays UndoWork script) file script old new) c.in-Err.ensures.told
 
 pub returns-in-Ok-clause-keeps : goal.returns-in-Ok-clause-keeps
 returns-in-Ok-clause-keeps g c = keeps_through _ _ _ c.in-Ok.ensures.keeps c.say_inverse.ensures.keeps

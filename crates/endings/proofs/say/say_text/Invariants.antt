@@ -1,12 +1,13 @@
-use Rattle.std.proofs.Common.{◌≤◌, length}
+use Rattle.std.proofs.Common.{◌≡◌, ◌≤◌, length}
 use Rattle.endings.proofs.Put.{IsPut}
 use Rattle.endings.proofs.say.say_text.Given as goal
 
 -- what is before the rest is out
 abbrev pub invariant-loop-rest : goal.invariant-loop-rest
 invariant-loop-rest g l = record {
-  put : IsPut l.fn.text l.rest (g.K.Sink.state l.fn.out).written (g.K.Sink.state l.out).written;
-  later : (g.K.Sink.state l.fn.out).faults ≤ (g.K.Sink.state l.out).faults;
+  put : IsPut l.fn.text l.rest l.fn.out.out.written l.out.out.written;
+  later : l.fn.out.out.faults ≤ l.out.out.faults;
+  quiet : l.out.err ≡ l.fn.out.err;
 }
 
 abbrev pub decreases-loop-rest : goal.decreases-loop-rest

@@ -18,7 +18,7 @@ returns-in-Err-Claim g c =
     let claim = claim_of c.args.claim.now in
     let fails : ClaimFails false p claim c.in-Err-Claim.why = (rw c.in-Err-Claim.field-0-is at c.in-Err-Claim.ensures.refused) in
     let told : List ℕ = claim_line c.in-Err-Claim.why in
-    Ends-map _ Q (g.K.Sink.state c.args.out.now) _ _
+    Ends-map _ Q c.args.out.now _ _
     (only_or_memory_in Q Refused (line (codes "refused claim " ++ c.why_word.result.now)) (
       told ∷ [],
       inl (c.in-Err-Claim.why, fails, refl),
@@ -34,7 +34,7 @@ returns-in-Err-Node g c =
     let claim = claim_of c.args.claim.now in
     let refuses : ClaimPasses false p claim × NodeIsFault false p first_node claim c.args.tree.now c.in-Err-Node.node c.in-Err-Node.why = (rw c.in-Err-Node.field-0-is at c.in-Err-Node.ensures.refused) in
     let told : List ℕ = node_line c.in-Err-Node.node c.in-Err-Node.why in
-    Ends-map _ Q (g.K.Sink.state c.args.out.now) _ _
+    Ends-map _ Q c.args.out.now _ _
     (only_or_memory_in Q Refused (line told) (
       told ∷ [],
       inr (refuses.0, (c.in-Err-Node.node, c.in-Err-Node.why, refuses.1, refl)),
@@ -46,11 +46,11 @@ returns-in-Err-Node g c =
 pub returns-in-Ok : goal.returns-in-Ok
 returns-in-Ok g c =
     let Q : Status → List ℕ → Type 0 = Tells (CheckWork c.args.site.now (claim_of c.args.claim.now) c.args.tree.now) in
-    Ends-map _ Q (g.K.Sink.state c.args.out.now) _ _
+    Ends-map _ Q c.args.out.now _ _
     (only_in Q Done (line (codes "accepted")) (codes "accepted" ∷ [], (c.in-Ok.ensures.accepted, refl), one_line (codes "accepted")))
     c.say.ensures
 
 pub returns-in-Err-Memory : goal.returns-in-Err-Memory
 returns-in-Err-Memory g c =
     let Q : Status → List ℕ → Type 0 = Tells (CheckWork c.args.site.now (claim_of c.args.claim.now) c.args.tree.now) in
-    Ends-map _ Q (g.K.Sink.state c.args.out.now) _ _ (only_in Q Memory (line (codes "memory")) ([], inl refl, refl)) c.say_memory.ensures
+    Ends-map _ Q c.args.out.now _ _ (only_in Q Memory (line (codes "memory")) ([], inl refl, refl)) c.say_memory.ensures

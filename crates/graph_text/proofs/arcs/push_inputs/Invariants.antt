@@ -1,7 +1,8 @@
-use Rattle.std.proofs.Common.{string_bytes, option_map}
+use Rattle.std.proofs.Common.{string_bytes}
 use Rattle.pns_problem.proofs.Printed.{AreLinesPrinted}
 use Rattle.report_rules.specs.Graph.{input_line}
+use Rattle.graph_text.specs.Kept.{picture_of}
 use Rattle.graph_text.proofs.arcs.push_inputs.Given as goal
 
 abbrev pub invariant-printing : goal.invariant-printing
-invariant-printing l = AreLinesPrinted (input_line l.fn.problem (option_map (λ n. n.now) l.fn.network) l.fn.u) l.terms l.term-index (string_bytes l.fn.text) (string_bytes l.text)
+invariant-printing l = AreLinesPrinted (input_line (picture_of l.fn.picture) l.fn.u) l.terms l.term-index (string_bytes l.fn.text) (string_bytes l.text)

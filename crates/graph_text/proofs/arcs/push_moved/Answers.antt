@@ -1,20 +1,32 @@
-use Rattle.std.proofs.Common.{◌≡◌, ◌∙◌, ◌++◌, ◌∷◌, [], codes, string_bytes, unsigned_abs, SFits, rules}
+use Rattle.std.proofs.Common.{◌≡◌, ◌∙◌, ◌++◌, ◌∷◌, [], ap, codes, ℤ, ℕ, List, string_bytes, unsigned_abs, append_assoc, SFits, rules}
 use Rattle.std.specs.Int.{w128}
 use Rattle.std.proofs.lemmas.Int.{to_z-of_z}
-use Rattle.report_rules.specs.Drawn.{flow_text, moved}
-use Rattle.graph_text.proofs.Lines.{after_three}
+use Rattle.problem_rules.specs.Problem.{Problem}
+use Rattle.pns_problem.proofs.PrintingLemmas.{after}
+use Rattle.report_rules.specs.Drawn.{moved, arc_flow, flow_text, greatest_flow, width_words}
+use Rattle.graph_text.proofs.Lines.{on_ok}
 use Rattle.graph_text.proofs.arcs.push_moved.Goals as goal
 
 pub returns : goal.returns
 returns c =
-    let p = c.args.problem.now in
+    let d = c.args.picture.now in
+    let p = d.problem in
     let w = c.args.network.now in
-    let f : SFits w128 c.moved.result = search rules in
+    let u = c.args.u in
+    let j = c.args.j in
+    let f : SFits w128 c.moved-flow.result = search rules in
     let g : SFits w128 c.d.result = search rules in
-    let t1 = string_bytes c.push_str.new.self in
-    let told = simp to_z-of_z at c.in_ok-push_flow.ensures in
-    let flow : string_bytes c.push_flow.new.text ≡ t1 ++ flow_text (moved p w c.args.u c.args.j) (unsigned_abs w.d) =
-    told ∙ (λ i. t1 ++ flow_text (c.moved.ensures.value i) (unsigned_abs (c.d.ensures i))) in
-    after_three (string_bytes c.args.text.now) t1 (string_bytes c.push_flow.new.text) (string_bytes c.push_str-2.new.self)
-    (codes " [weight=4, label=\"") (flow_text (moved p w c.args.u c.args.j) (unsigned_abs w.d)) (34 ∷ 93 ∷ [])
-    c.in_ok-push_str.ensures.bytes flow c.in_ok-push_str-2.ensures.bytes
+    let old = string_bytes c.args.text.now in
+    let t1 = string_bytes c.push_width.new.text in
+    let is : c.moved-flow.result ≡ moved p w u j = c.moved-flow.ensures.value ∙ ap (λ (p : Problem). moved p w u j) c.problem.ensures.same in
+    let words = codes ", weight=4, penwidth=" in
+    let wide = width_words (greatest_flow p d.network) (unsigned_abs (moved p w u j)) in
+    let label = codes ", label=\" " ++ (arc_flow p w u j ++ 34 ∷ []) in
+    let told1 = simp to_z-of_z at c.in_ok-push_width.ensures in
+    let told2 = simp to_z-of_z at c.push_label.ensures in
+    on_ok c.push_label.result _ _
+    (λ e. after old t1 (string_bytes c.push_label.new.text) (words ++ wide) label
+    (told1 ∙ ap (λ (z : ℤ). old ++ (words ++ width_words (greatest_flow p d.network) (unsigned_abs z))) is)
+    (e ∙ (λ i. t1 ++ (codes ", label=\" " ++ (flow_text (is i) (unsigned_abs (c.d.ensures i)) ++ 34 ∷ []))))
+    ∙ ap (λ (t : List ℕ). old ++ t) (append_assoc words wide label))
+    told2

@@ -1,11 +1,12 @@
-use Rattle.std.proofs.Common.{◌++◌, ◌∙◌, string_bytes, option_map, ap, arith, List, ℕ}
+use Rattle.std.proofs.Common.{◌++◌, ◌∙◌, string_bytes, ap, arith, List, ℕ}
 use Rattle.pns_problem.proofs.PrintingLemmas.{one_line}
 use Rattle.report_rules.specs.Graph.{output_line}
+use Rattle.graph_text.specs.Kept.{picture_of}
 use Rattle.graph_text.proofs.arcs.push_outputs.Goals as goal
 
 pub printing-preserved : goal.printing-preserved
 printing-preserved c =
     let t1 = string_bytes c.push_output.new.text in
-    one_line (output_line c.args.problem.now (option_map (λ n. n.now) c.args.network) c.args.u) c.args.terms.now c.printing.term-index c.term-item.result c.printing-test.true c.term-item.is
+    one_line (output_line (picture_of c.args.picture.now) c.args.u) c.args.terms.now c.printing.term-index c.term-item.result c.printing-test.true c.term-item.is
     (string_bytes c.args.text.now) (string_bytes c.printing.text) t1 (string_bytes c.push.new.self)
     c.in_ok-push_output.ensures (c.in_ok-push.ensures.bytes ∙ ap (λ (l : List ℕ). t1 ++ l) (c.in_ok-push.ensures.ascii (omega arith))) c.printing.invariant

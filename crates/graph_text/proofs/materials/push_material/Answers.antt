@@ -1,27 +1,35 @@
-use Rattle.std.proofs.Common.{◌≡◌, ◌∙◌, ◌++◌, ap, codes, ℕ, List, string_bytes, option_map}
-use Rattle.problem_rules.specs.Problem.{Problem, material_at}
-use Rattle.pns_rules.specs.Shape.{shape_of}
-use Rattle.report_rules.specs.Drawn.{is_drawn, material_flow}
-use Rattle.report_rules.specs.Graph.{node, material_node, shape_words, shade}
+use Rattle.std.proofs.Common.{◌≡◌, ◌∙◌, ◌++◌, ap, codes, ℕ, List, string_bytes}
+use Rattle.problem_rules.specs.Problem.{Problem, Material, material_at}
+use Rattle.pns_problem.proofs.PrintingLemmas.{after}
+use Rattle.report_rules.specs.Drawn.{material_flow}
+use Rattle.report_rules.specs.Graph.{node, material_node, material_tip, shape_words, drawn_look}
 use Rattle.graph_text.proofs.Lines.{node_line_of}
 use Rattle.graph_text.proofs.materials.push_material.Goals as goal
 
 pub returns : goal.returns
 returns c =
-    let p = c.args.site.now in
-    let named : c.material_name-name.result.now ≡ (material_at p c.args.j).name = c.material_name-name.ensures ∙ ap (λ (p : Problem). (material_at p c.args.j).name) c.problem.ensures.same in
-    let w = option_map (λ n. n.now) c.args.network in
+    let d = c.args.picture.now in
+    let p = d.problem in
     let j = c.args.j in
     let m = material_at p j in
+    let named : c.material_name-name.result.now ≡ m.name = c.material_name-name.ensures ∙ ap (λ (p : Problem). (material_at p j).name) c.problem-problem.ensures.same in
+    let same : c.material_of-material.result.now ≡ m = c.material_of-material.ensures ∙ ap (λ (p : Problem). material_at p j) c.problem-problem.ensures.same in
     let t1 = string_bytes c.push_str.new.self in
     let t3 = string_bytes c.push_str-2.new.self in
-    node_line_of (string_bytes c.args.text.now) t1 (string_bytes c.push_node.new.text) t3 (string_bytes c.push_str-3.new.self) (string_bytes c.push_flow.new.text) (string_bytes c.push_str-4.new.self)
-    (string_bytes c.push_look.new.text) (string_bytes c.push_str-5.new.self) (material_node m.name) m.name (material_flow p w j) (shape_words m.kind ++ shade (is_drawn (shape_of p) w j))
+    let t6 = string_bytes c.push_str-4.new.self in
+    let t8 = string_bytes c.push_str-5.new.self in
+    let t9 = string_bytes c.push_str-6.new.self in
+    node_line_of (string_bytes c.args.text.now) t1 (string_bytes c.push_node.new.text) t3 (string_bytes c.push_str-3.new.self) (string_bytes c.push_flow.new.text) t6
+    (string_bytes c.push_tip.new.text) t8 (string_bytes c.push_str-7.new.self) (string_bytes c.push_str-8.new.self) (material_node m.name) m.name (material_flow p d.network j) (material_tip m) (shape_words m.kind ++ drawn_look p d.network j)
     c.in_ok-push_str.ensures.bytes
     (c.in_ok-push_node.ensures ∙ ap (λ (name : List ℕ). t1 ++ node (codes "material") name) named)
     c.in_ok-push_str-2.ensures.bytes
     (c.in_ok-push_str-3.ensures.bytes ∙ ap (λ (name : List ℕ). t3 ++ name) named)
     c.in_ok-push_flow.ensures
     c.in_ok-push_str-4.ensures.bytes
-    c.in_ok-push_look.ensures
+    (c.in_ok-push_tip.ensures ∙ ap (λ (m : Material). t6 ++ material_tip m) same)
     c.in_ok-push_str-5.ensures.bytes
+    (after t8 t9 (string_bytes c.push_str-7.new.self) (shape_words m.kind) (drawn_look p d.network j)
+    (c.in_ok-push_str-6.ensures.bytes ∙ ap (λ (t : List ℕ). t8 ++ t) (c.shape.ensures ∙ ap (λ (m : Material). shape_words m.kind) (c.material.view_is ∙ same)))
+    (c.in_ok-push_str-7.ensures.bytes ∙ ap (λ (t : List ℕ). t9 ++ t) c.drawn_look.ensures))
+    c.in_ok-push_str-8.ensures.bytes

@@ -1,15 +1,14 @@
-use Rattle.std.proofs.Common.{◌≡◌, ◌++◌, string_bytes, option_map}
+use Rattle.std.proofs.Common.{◌≡◌, ◌++◌, string_bytes}
 use Rattle.std.specs.Prelude.{flat_map}
-use Rattle.number_sets.specs.Sets.{has, IsWithin, IsSet}
+use Rattle.number_sets.specs.Sets.{has, IsWithin}
 use Rattle.pns_problem.specs.Printing.{printed}
 use Rattle.report_rules.specs.Graph.{unit_lines}
+use Rattle.graph_text.specs.Kept.{picture_of}
 use Rattle.graph_text.proofs.units.push_units.Given as goal
 
 -- the lines to come finish the text
 abbrev pub invariant-loop-u : goal.invariant-loop-u
 invariant-loop-u l = record {
-  is_set : IsSet 128 l.u-iterator;
   within : IsWithin (has l.u-iterator) (has l.fn.units);
-  text : string_bytes l.text ++ printed (flat_map (unit_lines l.fn.problem (option_map (λ n. n.now) l.fn.network)) l.u-iterator)
-      ≡ string_bytes l.fn.text ++ printed (flat_map (unit_lines l.fn.problem (option_map (λ n. n.now) l.fn.network)) l.fn.units);
+  text : string_bytes l.text ++ printed (flat_map (unit_lines (picture_of l.fn.picture)) l.u-iterator) ≡ string_bytes l.fn.text ++ printed (flat_map (unit_lines (picture_of l.fn.picture)) l.fn.units);
 }

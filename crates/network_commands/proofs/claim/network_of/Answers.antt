@@ -6,7 +6,7 @@ use Rattle.studio_rules.specs.RefusalWords.{claim_line}
 use Rattle.studio_rules.specs.Lines.{line}
 use Rattle.studio_rules.specs.Ending.{Tells, Only, OrMemory}
 use Rattle.studio_rules.specs.declared.status.Status.{Status}
-use Rattle.studio_rules.specs.declared.status.Status.TheVariants.{Refused}
+use Rattle.studio_rules.specs.declared.status.Status.TheVariants.{BadClaim}
 use Rattle.endings.proofs.Ending.{Ends-map}
 use Rattle.studio_rules.specs.Network.{IsRefusedFor, ClaimRefusal}
 use Rattle.network_commands.proofs.Refusals.{refused_for, refusal_told}
@@ -16,7 +16,7 @@ pub returns-in-Infeasible-clause-told : goal.returns-in-Infeasible-clause-told
 returns-in-Infeasible-clause-told g c =
     let p = c.args.site.now in
     let Q : Status → List ℕ → Type 0 = Tells (ClaimRefusal p (claim_of c.args.claim)) in
-    Ends-map (OrMemory (Only Refused (line (claim_line Unknown)))) Q (g.K.Sink.state c.args.out.now) _ _
+    Ends-map (OrMemory (Only BadClaim (line (claim_line Unknown)))) Q c.args.out.now _ _
     (refusal_told p (claim_of c.args.claim) Unknown (subst (λ (k : Claim). IsRefusedFor p (claim_of k) Unknown) (sym c.in-Infeasible.is) refl)) c.say_refused.ensures
 
 pub returns-in-Err-clause-told : goal.returns-in-Err-clause-told
@@ -24,5 +24,5 @@ returns-in-Err-clause-told g c =
     let p = c.args.site.now in
     let claim = claim_of c.args.claim in
     let Q : Status → List ℕ → Type 0 = Tells (ClaimRefusal p claim) in
-    Ends-map (OrMemory (Only Refused (line (claim_line c.in-Err.why)))) Q (g.K.Sink.state c.args.out.now) _ _
+    Ends-map (OrMemory (Only BadClaim (line (claim_line c.in-Err.why)))) Q c.args.out.now _ _
     (refusal_told p claim c.in-Err.why (refused_for p claim c.in-Err.why ((c.in-Err.ensures.fails c.in-Err.why).0 refl))) c.say_refused-in-Err.ensures

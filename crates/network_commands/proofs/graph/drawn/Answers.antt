@@ -1,11 +1,8 @@
-use Rattle.std.proofs.Common.{◌≡◌, ◌<◌, ◌∙◌, refl, inl, inr, sym, subst, ℕ, List, Option, length, option_map}
+use Rattle.std.proofs.Common.{option_map}
 use Rattle.number_sets.specs.Sets.{has}
-use Rattle.problem_rules.specs.Problem.{Problem}
-use Rattle.pns_rules.specs.Shape.{Shape, shape_of}
+use Rattle.pns_rules.specs.Shape.{shape_of}
 use Rattle.pgraph.specs.Tables.{shape}
-use Rattle.tree_rules.specs.Claim.{Network}
 use Rattle.structure_commands.proofs.Maximal.{maximal_from, none_from}
-use Rattle.report_rules.specs.Graph.{graph_lines, empty_lines}
 use Rattle.network_commands.proofs.GraphLines.{graph_told, empty_told}
 use Rattle.network_commands.proofs.graph.drawn.Goals as goal
 

@@ -1,4 +1,4 @@
-use Rattle.std.proofs.Common.{ap, ℕ, List}
+use Rattle.std.proofs.Common.{ℕ, List}
 use Rattle.studio_rules.specs.Graph.{PlantGraphWork}
 use Rattle.studio_rules.specs.Reading.{FileSays}
 use Rattle.studio_rules.specs.Ending.{Tells}
@@ -12,7 +12,7 @@ returns-in-Ok-clause-ends g c =
     let old = g.F.Shelf.state c.args.shelf.now in
     let new = g.F.Shelf.state c.problem_of.new.shelf in
     let Q : Status → List ℕ → Type 0 = FileSays PlantGraphWork c.args.file.now old new in
-    Ends-from (Tells (PlantGraphWork c.in-Ok.problem)) Q (g.K.Sink.state c.args.out.now) _ _ _ (ap g.K.Sink.state c.in-Ok.ensures.silent)
+    Ends-from (Tells (PlantGraphWork c.in-Ok.problem)) Q c.args.out.now _ _ _ c.in-Ok.ensures.silent
     (on_file-work PlantGraphWork old new c.args.file.now c.in-Ok.problem c.in-Ok.ensures.problem) c.say_plant.ensures
 
 pub returns-in-Err-clause-ends : goal.returns-in-Err-clause-ends
@@ -20,4 +20,4 @@ returns-in-Err-clause-ends g c =
     let old = g.F.Shelf.state c.args.shelf.now in
     let new = g.F.Shelf.state c.problem_of.new.shelf in
     let Q : Status → List ℕ → Type 0 = FileSays PlantGraphWork c.args.file.now old new in
-    Ends-map _ Q (g.K.Sink.state c.args.out.now) _ _ (on_file-faults PlantGraphWork old new c.args.file.now) c.in-Err.ensures.told
+    Ends-map _ Q c.args.out.now _ _ (on_file-faults PlantGraphWork old new c.args.file.now) c.in-Err.ensures.told

@@ -1,4 +1,4 @@
-use Rattle.std.proofs.Common.{ap, subst, inl, inr, ℕ, List}
+use Rattle.std.proofs.Common.{subst, inl, inr, ℕ, List}
 use Rattle.problem_rules.specs.Problem.{Problem}
 use Rattle.branch_tree.specs.View.{claim_of}
 use Rattle.studio_rules.specs.Network.{OnNetwork, ClaimRefusal}
@@ -14,8 +14,8 @@ returns-in-Ok-network_of g c =
     let claim = claim_of c.args.claim in
     let w = c.in-Ok-network_of.network in
     let Q : Status → List ℕ → Type 0 = Tells (OnNetwork (TextWork c.args.what) p claim c.args.tree.now) in
-    subst (λ (p : Problem). Ends (Tells (OnNetwork (TextWork c.args.what) p claim c.args.tree.now)) (g.K.Sink.state c.args.out.now) (g.K.Sink.state c.say_network.new.out) c.say_network.result) c.of-site.ensures
-    (Ends-from (Tells (TextWork c.args.what p w)) Q (g.K.Sink.state c.args.out.now) _ _ _ (ap g.K.Sink.state c.in-Ok-network_of.ensures.silent)
+    subst (λ (p : Problem). Ends (Tells (OnNetwork (TextWork c.args.what) p claim c.args.tree.now)) c.args.out.now c.say_network.new.out c.say_network.result) c.of-site.ensures
+    (Ends-from (Tells (TextWork c.args.what p w)) Q c.args.out.now _ _ _ c.in-Ok-network_of.ensures.silent
     (Tells-map (TextWork c.args.what p w) (OnNetwork (TextWork c.args.what) p claim c.args.tree.now) (λ s lines h. inr (w, c.in-Ok-network_of.ensures.network, h))) c.say_network.ensures)
 
 pub returns : goal.returns
@@ -23,5 +23,5 @@ returns g c =
     let p = c.of-site.result in
     let claim = claim_of c.args.claim in
     let Q : Status → List ℕ → Type 0 = Tells (OnNetwork (TextWork c.args.what) p claim c.args.tree.now) in
-    subst (λ (p : Problem). Ends (Tells (OnNetwork (TextWork c.args.what) p claim c.args.tree.now)) (g.K.Sink.state c.args.out.now) (g.K.Sink.state c.network_of.new.out) c.in-Err.status) c.of-site.ensures
-    (Ends-map (Tells (ClaimRefusal p claim)) Q (g.K.Sink.state c.args.out.now) _ _ (Tells-map (ClaimRefusal p claim) (OnNetwork (TextWork c.args.what) p claim c.args.tree.now) (λ s lines h. inl h)) c.in-Err.ensures.told)
+    subst (λ (p : Problem). Ends (Tells (OnNetwork (TextWork c.args.what) p claim c.args.tree.now)) c.args.out.now c.network_of.new.out c.in-Err.status) c.of-site.ensures
+    (Ends-map (Tells (ClaimRefusal p claim)) Q c.args.out.now _ _ (Tells-map (ClaimRefusal p claim) (OnNetwork (TextWork c.args.what) p claim c.args.tree.now) (λ s lines h. inl h)) c.in-Err.ensures.told)

@@ -1,4 +1,4 @@
-use Rattle.std.proofs.Common.{◌≡◌, ap, ℕ, List}
+use Rattle.std.proofs.Common.{◌≡◌, ℕ, List}
 use Rattle.studio_rules.specs.Reading.{TwoFilesSay}
 use Rattle.studio_rules.specs.TreeFile.{OnTree, TreeSays}
 use Rattle.studio_rules.specs.Network.{OnNetwork}
@@ -19,7 +19,7 @@ returns-in-Ok-clause-ends g c =
     let tree = c.args.tree.now in
     let P : Status → List ℕ → Type 0 = Says (OnTree (OnNetwork (TextWork c.args.what)) mid.held tree c.in-Ok.problem) (λ other. other ≡ tree) mid new in
     let Q : Status → List ℕ → Type 0 = TwoFilesSay (OnTree (OnNetwork (TextWork c.args.what))) file tree old new in
-    Ends-from P Q (g.K.Sink.state c.args.out.now) _ _ _ (ap g.K.Sink.state c.in-Ok.ensures.silent)
+    Ends-from P Q c.args.out.now _ _ _ c.in-Ok.ensures.silent
     (on_both-work (TreeSays (OnNetwork (TextWork c.args.what)) tree) file tree old mid new c.in-Ok.problem c.in-Ok.ensures.problem (c.problem_of.ensures.keeps.held tree) c.problem_of.ensures.keeps.later) c.say_tree.ensures.ends
 
 pub returns-in-Err-clause-ends : goal.returns-in-Err-clause-ends
@@ -29,7 +29,7 @@ returns-in-Err-clause-ends g c =
     let file = c.args.file.now in
     let tree = c.args.tree.now in
     let Q : Status → List ℕ → Type 0 = TwoFilesSay (OnTree (OnNetwork (TextWork c.args.what))) file tree old new in
-    Ends-map _ Q (g.K.Sink.state c.args.out.now) _ _ (on_both-faults (TreeSays (OnNetwork (TextWork c.args.what)) tree) file tree old new) c.in-Err.ensures.told
+    Ends-map _ Q c.args.out.now _ _ (on_both-faults (TreeSays (OnNetwork (TextWork c.args.what)) tree) file tree old new) c.in-Err.ensures.told
 
 pub returns-in-Ok-clause-keeps : goal.returns-in-Ok-clause-keeps
 returns-in-Ok-clause-keeps g c = keeps_through _ _ _ c.in-Ok.ensures.keeps c.say_tree.ensures.keeps

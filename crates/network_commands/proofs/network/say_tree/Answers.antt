@@ -1,4 +1,4 @@
-use Rattle.std.proofs.Common.{◌≡◌, ap, inl, inr, ℕ, List}
+use Rattle.std.proofs.Common.{◌≡◌, inl, inr, ℕ, List}
 use Rattle.branch_tree.specs.View.{claim_of}
 use Rattle.studio_rules.specs.TreeFile.{OnTree, TreeFault, TreeSays}
 use Rattle.studio_rules.specs.Network.{OnNetwork}
@@ -17,7 +17,7 @@ returns-in-Ok-clause-ends g c =
     let name = c.args.name.now in
     let read = c.in-Ok.ensures.tree in
     let Q : Status → List ℕ → Type 0 = Says (OnTree (OnNetwork (TextWork c.args.what)) old.held name p) (λ other. other ≡ name) old new in
-    Ends-from _ Q (g.K.Sink.state c.args.out.now) _ _ _ (ap g.K.Sink.state c.in-Ok.ensures.silent)
+    Ends-from _ Q c.args.out.now _ _ _ c.in-Ok.ensures.silent
     (Says-told (OnNetwork (TextWork c.args.what) p (claim_of c.in-Ok.claim) c.in-Ok.tree) (OnTree (OnNetwork (TextWork c.args.what)) old.held name p) (λ other. other ≡ name) old new
     (λ s lines h. (read.0, read.1, inr (claim_of c.in-Ok.claim, c.in-Ok.tree, read.2, h))))
     c.say_claimed.ensures
@@ -29,4 +29,4 @@ returns-in-Err-clause-ends g c =
     let p = c.args.problem.now in
     let name = c.args.name.now in
     let Q : Status → List ℕ → Type 0 = Says (OnTree (OnNetwork (TextWork c.args.what)) old.held name p) (λ other. other ≡ name) old new in
-    Ends-map _ Q (g.K.Sink.state c.args.out.now) _ _ (on_second-faults (TreeSays (OnNetwork (TextWork c.args.what)) name) (TreeFault name p) old new name p (λ file s lines h. inl h)) c.in-Err.ensures.told
+    Ends-map _ Q c.args.out.now _ _ (on_second-faults (TreeSays (OnNetwork (TextWork c.args.what)) name) (TreeFault name p) old new name p (λ file s lines h. inl h)) c.in-Err.ensures.told

@@ -19,7 +19,7 @@ returns-in-Ok-clause-ends g c =
     let tree = c.args.tree.now in
     let names = map string_bytes c.args.parts.now in
     let Q : Status → List ℕ → Type 0 = Says (OnFile (OnTree (MergeWork old.held names) old.held tree) old.held file) (λ other. (other ≡ file) ⊎ ((other ≡ tree) ⊎ Contains names other)) old new in
-    Ends-from _ Q (g.K.Sink.state c.args.out.now) _ _ _ (ap g.K.Sink.state c.in-Ok.ensures.silent)
+    Ends-from _ Q c.args.out.now _ _ _ c.in-Ok.ensures.silent
     (file_told names c.in-Ok.problem old mid new c.problem_of.ensures.keeps.held c.problem_of.ensures.keeps.later file tree c.in-Ok.ensures.problem) c.say_tree.ensures.ends
 
 pub returns-in-Err-clause-ends : goal.returns-in-Err-clause-ends
@@ -30,7 +30,7 @@ returns-in-Err-clause-ends g c =
     let tree = c.args.tree.now in
     let names = map string_bytes c.args.parts.now in
     let work : Status → List (List ℕ) → Type 0 = OnFile (OnTree (MergeWork old.held names) old.held tree) old.held file in
-    Ends-map _ (Says work (λ other. (other ≡ file) ⊎ ((other ≡ tree) ⊎ Contains names other)) old new) (g.K.Sink.state c.args.out.now) _ _
+    Ends-map _ (Says work (λ other. (other ≡ file) ⊎ ((other ≡ tree) ⊎ Contains names other)) old new) c.args.out.now _ _
     (Says-map (FileFaults old.held file) work (λ other. other ≡ file) (λ other. (other ≡ file) ⊎ ((other ≡ tree) ⊎ Contains names other)) old new (λ s lines h. (h.0, h.1, inl h.2)) (λ other e. inl e)) c.in-Err.ensures.told
 
 pub returns-in-Ok-clause-keeps : goal.returns-in-Ok-clause-keeps

@@ -24,7 +24,7 @@ returns-in-Ok-clause-ends g c =
     let ps = c.deref.result.now in
     let give : GiveParts old.held p names ps = subst (λ (qs : List Part). GiveParts old.held p names qs) (sym c.deref.ensures.value) c.in-Ok.ensures.parts in
     let Q : Status → List ℕ → Type 0 = Says (MergeWork old.held names p claim tree) (Contains names) old new in
-    Ends-from _ Q (g.K.Sink.state c.args.out.now) _ _ _ (ap g.K.Sink.state c.in-Ok.ensures.silent)
+    Ends-from _ Q c.args.out.now _ _ _ c.in-Ok.ensures.silent
     (Says-told (MergeSays names p claim tree ps) (MergeWork old.held names p claim tree) (Contains names) old new
     (λ s lines h. inr (ps, give, h))) c.say_merged.ensures
 
@@ -35,7 +35,7 @@ returns-in-Err-clause-ends g c =
     let p = c.args.problem.now in
     let names = map string_bytes c.args.names.now in
     let work : Status → List (List ℕ) → Type 0 = MergeWork old.held names p (claim_of c.args.claim) c.args.tree in
-    Ends-map _ (Says work (Contains names) old new) (g.K.Sink.state c.args.out.now) _ _ (Says-map (FirstFault old.held names p) work (Contains names) (Contains names) old new (λ s lines h. inl h) (λ other h. h)) c.in-Err.ensures.told
+    Ends-map _ (Says work (Contains names) old new) c.args.out.now _ _ (Says-map (FirstFault old.held names p) work (Contains names) (Contains names) old new (λ s lines h. inl h) (λ other h. h)) c.in-Err.ensures.told
 
 pub say_merged-requires-clause-count : goal.say_merged-requires-clause-count
 say_merged-requires-clause-count g c =

@@ -35,9 +35,9 @@ returns-in-Ok g c =
     let both = claim_of c.in-Ok.both in
     let grown = c.in-Ok.grown in
     let says = MergeSays (map string_bytes c.args.names.now) p (claim_of c.args.claim) c.args.tree c.args.parts.now in
-    Ends-map _ _ (g.K.Sink.state c.args.out.now) _ _
+    Ends-map _ _ c.args.out.now _ _
     (Tells-map (OneAnswer Done (tree_text_lines p both grown whole)) says (λ s lines h. inl (record { both = both; grown = grown; merged = c.in-Ok.ensures.merged; done = h.0; text = h.1 })))
-    (subst (λ (q : Problem). Ends (Tells (OneAnswer Done (tree_text_lines q both grown whole))) (g.K.Sink.state c.args.out.now) (g.K.Sink.state c.say_tree_text.new.out) c.say_tree_text.result) c.problem.ensures.same c.say_tree_text.ensures)
+    (subst (λ (q : Problem). Ends (Tells (OneAnswer Done (tree_text_lines q both grown whole))) c.args.out.now c.say_tree_text.new.out c.say_tree_text.result) c.problem.ensures.same c.say_tree_text.ensures)
 
 pub returns-in-Err : goal.returns-in-Err
 returns-in-Err g c =
@@ -51,7 +51,7 @@ returns-in-Err g c =
     c.as_str-name.ensures.value ∙ (ap string_bytes c.index-names-stop.is ∙ sym (get_or-map string_bytes list stop.part c.index-names-stop.result [] (omega (arith, few, as_many)))) in
     let several : nat_lt 1 (length list) ≡ nat_lt 1 (length names) = ap (λ (n : ℕ). nat_lt 1 n) (sym (length-map list string_bytes)) in
     let says = MergeSays names c.args.site.now (claim_of c.args.claim) c.args.tree c.args.parts.now in
-    Ends-map _ _ (g.K.Sink.state c.args.out.now) _ _
+    Ends-map _ _ c.args.out.now _ _
     (Tells-map (FaultSays (nat_lt 1 (length list)) c.as_str-name.result.now stop.fault) says (λ s lines h. inr (record {
       place = stop.part;
       fault = stop.fault;

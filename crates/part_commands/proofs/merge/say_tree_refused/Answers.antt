@@ -4,7 +4,7 @@ use Rattle.studio_rules.specs.Merge.{TreeRefused}
 use Rattle.studio_rules.specs.Lines.{line}
 use Rattle.studio_rules.specs.Ending.{Tells}
 use Rattle.studio_rules.specs.declared.status.Status.{Status}
-use Rattle.studio_rules.specs.declared.status.Status.TheVariants.{Refused, NoLeaf, Memory}
+use Rattle.studio_rules.specs.declared.status.Status.TheVariants.{BadClaim, NoLeaf, Memory}
 use Rattle.endings.proofs.Ending.{Ends-map, only_in, only_or_memory_in, one_line}
 use Rattle.part_commands.proofs.merge.say_tree_refused.Goals as goal
 
@@ -12,27 +12,27 @@ pub returns-in-Claim : goal.returns-in-Claim
 returns-in-Claim g c =
     let Q : Status → List ℕ → Type 0 = Tells (TreeRefused c.args.refusal) in
     let told : List ℕ = claim_line c.in-Claim.why in
-    Ends-map _ Q (g.K.Sink.state c.args.out.now) _ _
-    (only_or_memory_in Q Refused (line (codes "refused claim " ++ c.why_word.result.now)) (
+    Ends-map _ Q c.args.out.now _ _
+    (only_or_memory_in Q BadClaim (line (codes "refused claim " ++ c.why_word.result.now)) (
       told ∷ [],
-      subst (λ x. TreeRefused x Refused (told ∷ [])) (sym c.in-Claim.is) (refl, refl),
+      subst (λ x. TreeRefused x BadClaim (told ∷ [])) (sym c.in-Claim.is) (refl, refl),
       ap (λ (word : List ℕ). line (codes "refused claim " ++ word)) c.why_word.ensures ∙ one_line told,
     ) ([], inl refl, refl))
-    c.say_of.ensures
+    c.tell_with.ensures
 
 pub returns-in-Node : goal.returns-in-Node
 returns-in-Node g c =
     let Q : Status → List ℕ → Type 0 = Tells (TreeRefused c.args.refusal) in
     let told : List ℕ = node_line c.in-Node.node c.in-Node.why in
-    Ends-map _ Q (g.K.Sink.state c.args.out.now) _ _
-    (only_or_memory_in Q Refused (line told) (
+    Ends-map _ Q c.args.out.now _ _
+    (only_or_memory_in Q BadClaim (line told) (
       told ∷ [],
-      subst (λ x. TreeRefused x Refused (told ∷ [])) (sym c.in-Node.is) (refl, refl),
+      subst (λ x. TreeRefused x BadClaim (told ∷ [])) (sym c.in-Node.is) (refl, refl),
       one_line told,
     ) ([], inl refl, refl))
-    c.say_node.ensures
+    c.tell_node.ensures
 
 pub returns-in-Memory : goal.returns-in-Memory
 returns-in-Memory g c =
     let Q : Status → List ℕ → Type 0 = Tells (TreeRefused c.args.refusal) in
-    Ends-map _ Q (g.K.Sink.state c.args.out.now) _ _ (only_in Q Memory (line (codes "memory")) ([], inl refl, refl)) c.say_memory.ensures
+    Ends-map _ Q c.args.out.now _ _ (only_in Q Memory (line (codes "memory")) ([], inl refl, refl)) c.say_memory.ensures

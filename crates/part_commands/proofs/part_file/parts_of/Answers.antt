@@ -23,7 +23,7 @@ returns-in_default-clause-told g c =
     let names = map string_bytes c.args.names.now in
     let Q : Status → List ℕ → Type 0 = Says (FirstFault old.held names c.args.problem.now) (Contains names) old new in
     let silent = c.in-Ok.ensures.silent ∙ c.reading.invariant.silent in
-    Ends-from _ Q (g.K.Sink.state c.args.out.now) _ _ _ (ap g.K.Sink.state silent) (only_in Q Memory _ ([], inl refl, refl)) c.say_memory.ensures
+    Ends-from _ Q c.args.out.now _ _ _ silent (only_in Q Memory _ ([], inl refl, refl)) c.say_memory.ensures
 
 pub returns-in-Err-clause-told : goal.returns-in-Err-clause-told
 returns-in-Err-clause-told g c =
@@ -38,7 +38,7 @@ returns-in-Err-clause-told g c =
     let lt : place < length names = omega (arith, count, c.reading-test.true) in
     let here : name ≡ get_or names place name = c.as_str.ensures.value ∙ (ap string_bytes c.name-item.is ∙ sym (get_or-map string_bytes list place c.name-item.result name c.reading-test.true)) in
     let Q : Status → List ℕ → Type 0 = Says (FirstFault old.held names c.args.problem.now) (Contains names) old new in
-    Ends-from _ Q (g.K.Sink.state c.args.out.now) _ _ _ (ap g.K.Sink.state c.reading.invariant.silent)
+    Ends-from _ Q c.args.out.now _ _ _ c.reading.invariant.silent
     (fault_told names c.args.problem.now old mid new c.reading.invariant.keeps.held c.reading.invariant.keeps.later (nat_lt 1 (length list)) place name c.reading.parts.items (ap (λ (n : ℕ). nat_lt 1 n) (sym count)) lt here c.reading.invariant.given)
     c.in-Err.ensures.told
 

@@ -11,7 +11,7 @@ use Rattle.studio_rules.specs.Split.{SplitWork, LeavesSay, split_lines}
 use Rattle.studio_rules.specs.RefusalWords.{claim_line, node_line}
 use Rattle.studio_rules.specs.Ending.{Tells}
 use Rattle.studio_rules.specs.declared.status.Status.{Status}
-use Rattle.studio_rules.specs.declared.status.Status.TheVariants.{Refused, Memory}
+use Rattle.studio_rules.specs.declared.status.Status.TheVariants.{BadClaim, Memory}
 use Rattle.endings.proofs.Ending.{Ends-map, Tells-map, only_in, only_or_memory_in, one_line}
 use Rattle.part_commands.proofs.split.say_open.Goals as goal
 
@@ -22,14 +22,14 @@ returns-in-Err-Claim g c =
     let claim = claim_of c.args.claim.now in
     let fails : ClaimFails true p claim c.in-Err-Claim.why = (rw c.in-Err-Claim.field-0-is at c.in-Err-Claim.ensures.refused) in
     let told : List ℕ = claim_line c.in-Err-Claim.why in
-    Ends-map _ Q (g.K.Sink.state c.args.out.now) _ _
-    (only_or_memory_in Q Refused (line (codes "refused claim " ++ c.why_word.result.now)) (
+    Ends-map _ Q c.args.out.now _ _
+    (only_or_memory_in Q BadClaim (line (codes "refused claim " ++ c.why_word.result.now)) (
       told ∷ [],
       inl (c.in-Err-Claim.why, fails, refl),
       ap (λ (word : List ℕ). line (codes "refused claim " ++ word)) c.why_word.ensures ∙ one_line told,
     )
     ([], inl refl, refl))
-    c.say_of.ensures
+    c.tell_with.ensures
 
 pub returns-in-Err-Node : goal.returns-in-Err-Node
 returns-in-Err-Node g c =
@@ -38,14 +38,14 @@ returns-in-Err-Node g c =
     let claim = claim_of c.args.claim.now in
     let refuses : ClaimPasses true p claim × NodeIsFault true p first_node claim c.args.tree.now c.in-Err-Node.node c.in-Err-Node.why = (rw c.in-Err-Node.field-0-is at c.in-Err-Node.ensures.refused) in
     let told : List ℕ = node_line c.in-Err-Node.node c.in-Err-Node.why in
-    Ends-map _ Q (g.K.Sink.state c.args.out.now) _ _
-    (only_or_memory_in Q Refused (line told) (
+    Ends-map _ Q c.args.out.now _ _
+    (only_or_memory_in Q BadClaim (line told) (
       told ∷ [],
       inr (refuses.0, (c.in-Err-Node.node, c.in-Err-Node.why, refuses.1, refl)),
       one_line told,
     )
     ([], inl refl, refl))
-    c.say_node.ensures
+    c.tell_node.ensures
 
 pub returns-in-Ok : goal.returns-in-Ok
 returns-in-Ok g c =
@@ -54,7 +54,7 @@ returns-in-Ok g c =
     let tree = c.args.tree.now in
     let told : leaves_at c.deref.result.now ≡ open_leaves (shape_of p) (first_node ∷ []) tree 0 =
     ap (λ (ls : List OpenLeaf). leaves_at ls) c.deref.ensures.value ∙ c.in-Ok.ensures.leaves in
-    Ends-map _ _ (g.K.Sink.state c.args.out.now) _ _
+    Ends-map _ _ c.args.out.now _ _
     (Tells-map (LeavesSay (leaves_at c.deref.result.now)) (SplitWork p claim tree)
     (λ s lines h. subst (λ (t : Status). SplitWork p claim tree t lines) (sym h.0) (c.in-Ok.ensures.partial, h.1 ∙ ap split_lines told)))
     c.say_leaves.ensures
@@ -62,4 +62,4 @@ returns-in-Ok g c =
 pub returns-in-Err-Memory : goal.returns-in-Err-Memory
 returns-in-Err-Memory g c =
     let Q : Status → List ℕ → Type 0 = Tells (SplitWork c.args.site.now (claim_of c.args.claim.now) c.args.tree.now) in
-    Ends-map _ Q (g.K.Sink.state c.args.out.now) _ _ (only_in Q Memory (line (codes "memory")) ([], inl refl, refl)) c.say_memory.ensures
+    Ends-map _ Q c.args.out.now _ _ (only_in Q Memory (line (codes "memory")) ([], inl refl, refl)) c.say_memory.ensures

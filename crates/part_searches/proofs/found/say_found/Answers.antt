@@ -44,7 +44,7 @@ returns-in-Some g c =
     let p = c.args.problem.now in
     let start = c.args.start.now in
     let found : Certificate = c.in-Some.certificate in
-    Ends-map _ _ (g.K.Sink.state c.args.out.now) _ _
+    Ends-map _ _ c.args.out.now _ _
     (Tells-map (TextSays p c.part_of-part.result)
     (FoundSays p start.inside start.outside c.args.found)
     (λ s lines h. (
@@ -57,4 +57,4 @@ returns-in-Some g c =
 pub returns-in-None : goal.returns-in-None
 returns-in-None g c =
     let says = FoundSays c.args.problem.now c.args.start.now.inside c.args.start.now.outside c.args.found in
-    Ends-map _ _ (g.K.Sink.state c.args.out.now) _ _ (only_in (Tells says) Memory _ (Tells-memory says)) c.say_memory.ensures
+    Ends-map _ _ c.args.out.now _ _ (only_in (Tells says) Memory _ (Tells-memory says)) c.say_memory.ensures

@@ -1,11 +1,11 @@
-use Rattle.std.proofs.Common.{◌≡◌, ◌∙◌, ℕ, List, Ok, ap, sym, subst}
+use Rattle.std.proofs.Common.{◌≡◌, ◌∙◌, ℕ, List, Ok, ap, sym, subst, refl}
 use Rattle.studio_rules.specs.Lines.{text_of}
 use Rattle.studio_rules.specs.Solve.{status_of}
 use Rattle.part_rules.specs.Part.{Part}
 use Rattle.part_rules.specs.Read.{PartReads}
 use Rattle.part_rules.specs.Spelling.{part_text_lines}
 use Rattle.studio_rules.specs.Printed.{OneAnswer}
-use Rattle.endings.proofs.Ending.{Ends-map, Tells-map}
+use Rattle.endings.proofs.Ending.{Tells-map, Ends-from}
 use Rattle.endings.proofs.Printing.{spelled_text}
 use Rattle.part_searches.specs.Found.{TextSays}
 use Rattle.part_searches.proofs.Parts.{is_printing}
@@ -22,7 +22,7 @@ returns g c =
     let same : c.status_of.result ≡ status_of part.tail =
     c.status_of.ensures ∙ ap status_of c.tail.ensures in
     let out = c.print_part-printed in
-    Ends-map _ _ (g.K.Sink.state c.args.out.now) _ _
+    Ends-from _ _ c.args.out.now _ c.say_printed.new.out _ c.out.view_is
     (Tells-map (OneAnswer c.status_of.result lines) (TextSays p part)
     (λ s ls h. (
       h.0 ∙ same,
@@ -30,4 +30,4 @@ returns g c =
       subst (λ (t : List ℕ). PartReads p t (Ok part))
           (spelled_text lines ∙ ap text_of (sym h.1)) c.requires.reads,
     )))
-    (c.say_printed.ensures lines (g.K.Sink.state c.args.out.now) out.ensures.later out.ensures.prints)
+    (c.say_printed.ensures lines _ refl out.ensures.later out.ensures.prints)

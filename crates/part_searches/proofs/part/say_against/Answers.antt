@@ -11,6 +11,6 @@ returns g c =
     let p = c.args.problem.now in
     let s = c.args.start.now in
     let found : Found = c.search_against-found.result in
-    Ends-map _ _ (g.K.Sink.state c.args.out.now) _ _
+    Ends-map _ _ c.args.out.now _ _
     (Tells-map (FoundSays p s.inside s.outside found) (PartSays c.args.budget (Some c.args.network) s.inside s.outside p) (λ status lines h. part_says c.args.budget (Some c.args.network) s.inside s.outside p status lines found c.search_against-found.ensures.found c.search_against-found.ensures.against h))
     c.say_found.ensures

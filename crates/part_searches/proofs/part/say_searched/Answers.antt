@@ -11,6 +11,6 @@ returns g c =
     let p = c.args.problem.now in
     let s = c.args.start.now in
     let found : Found = c.search-found.result in
-    Ends-map _ _ (g.K.Sink.state c.args.out.now) _ _
+    Ends-map _ _ c.args.out.now _ _
     (Tells-map (FoundSays p s.inside s.outside found) (PartSays c.args.budget None s.inside s.outside p) (λ status lines h. part_says c.args.budget None s.inside s.outside p status lines found c.search-found.ensures.found tt h))
     c.say_found.ensures

@@ -17,7 +17,7 @@ returns-in-Ok-clause-ends g c =
     let read = c.in-Ok.ensures.plan in
     let work : Problem → Plan → Status → List (List ℕ) → Type 0 = PeriodsWork c.args.budget in
     let Q : Status → List ℕ → Type 0 = Says (OnPlan work old.held c.args.plan.now p) (λ other. other ≡ c.args.plan.now) old new in
-    Ends-from (Tells (work p c.in-Ok.plan)) Q (g.K.Sink.state c.args.out.now) _ _ _ (ap g.K.Sink.state c.in-Ok.ensures.silent)
+    Ends-from (Tells (work p c.in-Ok.plan)) Q c.args.out.now _ _ _ c.in-Ok.ensures.silent
     (Says-told (work p c.in-Ok.plan) (OnPlan work old.held c.args.plan.now p) (λ other. other ≡ c.args.plan.now) old new (λ s lines h. (read.0, read.1, inr (c.in-Ok.plan, read.2, h))))
     c.say_least.ensures
 
@@ -27,4 +27,4 @@ returns-in-Err-clause-ends g c =
     let new = g.F.Shelf.state c.plan_of.new.shelf in
     let work : Problem → Plan → Status → List (List ℕ) → Type 0 = PeriodsWork c.args.budget in
     let Q : Status → List ℕ → Type 0 = Says (OnPlan work old.held c.args.plan.now c.args.problem.now) (λ other. other ≡ c.args.plan.now) old new in
-    Ends-map _ Q (g.K.Sink.state c.args.out.now) _ _ (on_second-faults (PlanSays work c.args.plan.now) (PlanFileFault c.args.plan.now c.args.problem.now) old new c.args.plan.now c.args.problem.now (λ file s lines h. inl h)) c.in-Err.ensures.told
+    Ends-map _ Q c.args.out.now _ _ (on_second-faults (PlanSays work c.args.plan.now) (PlanFileFault c.args.plan.now c.args.problem.now) old new c.args.plan.now c.args.problem.now (λ file s lines h. inl h)) c.in-Err.ensures.told

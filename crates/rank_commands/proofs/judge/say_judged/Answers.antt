@@ -16,7 +16,7 @@ returns-in-Err-Network g c =
     let Q : Status → List ℕ → Type 0 = Tells (RankcheckWork c.args.site.now c.args.text.now) in
     let fails : NetworkIsFault c.args.site.now (ranking_of c.args.text.now) c.in-Err-Network.number c.in-Err-Network.why = (rw c.in-Err-Network.field-0-is at c.in-Err-Network.ensures.refused) in
     let told : List ℕ = network_line c.in-Err-Network.number c.in-Err-Network.why in
-    Ends-map _ Q (g.K.Sink.state c.args.out.now) _ _
+    Ends-map _ Q c.args.out.now _ _
     (only_or_memory_in Q Refused (line told) (
       told ∷ [],
       inl (c.in-Err-Network.number, c.in-Err-Network.why, fails, refl),
@@ -32,7 +32,7 @@ returns-in-Err-Node g c =
     let t = c.args.text.now in
     let refuses : ArePassing p [] t.networks × NodeIsFault false p (ranking_of t) c.in-Err-Node.node c.in-Err-Node.why = (rw c.in-Err-Node.field-0-is at c.in-Err-Node.ensures.refused) in
     let told : List ℕ = rank_node_line c.in-Err-Node.node c.in-Err-Node.why in
-    Ends-map _ Q (g.K.Sink.state c.args.out.now) _ _
+    Ends-map _ Q c.args.out.now _ _
     (only_or_memory_in Q Refused (line told) (
       told ∷ [],
       inr (refuses.0, (c.in-Err-Node.node, c.in-Err-Node.why, refuses.1, refl)),
@@ -44,11 +44,11 @@ returns-in-Err-Node g c =
 pub returns-in-Ok : goal.returns-in-Ok
 returns-in-Ok g c =
     let Q : Status → List ℕ → Type 0 = Tells (RankcheckWork c.args.site.now c.args.text.now) in
-    Ends-map _ Q (g.K.Sink.state c.args.out.now) _ _
+    Ends-map _ Q c.args.out.now _ _
     (only_in Q Done (line (codes "accepted")) (codes "accepted" ∷ [], (c.in-Ok.ensures.ranked, refl), one_line (codes "accepted")))
     c.say.ensures
 
 pub returns-in-Err-Memory : goal.returns-in-Err-Memory
 returns-in-Err-Memory g c =
     let Q : Status → List ℕ → Type 0 = Tells (RankcheckWork c.args.site.now c.args.text.now) in
-    Ends-map _ Q (g.K.Sink.state c.args.out.now) _ _ (only_in Q Memory (line (codes "memory")) ([], inl refl, refl)) c.say_memory.ensures
+    Ends-map _ Q c.args.out.now _ _ (only_in Q Memory (line (codes "memory")) ([], inl refl, refl)) c.say_memory.ensures

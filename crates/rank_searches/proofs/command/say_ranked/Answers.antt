@@ -12,11 +12,11 @@ say_found-requires g c = (c.args.count, c.args.budget, c.rank-ranked.ensures)
 pub returns-in_default : goal.returns-in_default
 returns-in_default g c =
     let work = RankWork c.args.count c.args.budget c.args.problem.now in
-    Ends-map _ _ (g.K.Sink.state c.args.out.now) _ _ (only_in (Tells work) Memory _ (Tells-memory work)) c.say_memory.ensures
+    Ends-map _ _ c.args.out.now _ _ (only_in (Tells work) Memory _ (Tells-memory work)) c.say_memory.ensures
 
 pub returns : goal.returns
 returns g c =
     let p = c.args.problem.now in
     let r = c.rank-ranked.result in
-    Ends-map _ _ (g.K.Sink.state c.args.out.now) _ _ (Tells-map (FoundSays p r) (RankWork c.args.count c.args.budget p)
+    Ends-map _ _ c.args.out.now _ _ (Tells-map (FoundSays p r) (RankWork c.args.count c.args.budget p)
     (found_works c.listed_are_least.ensures c.others_are_no_better.ensures.full c.others_are_no_better.ensures.fewer p c.is_valid.ensures.valid c.args.count c.args.budget r c.rank-ranked.ensures)) c.say_found.ensures

@@ -16,9 +16,9 @@ pub returns-in-Some : goal.returns-in-Some
 returns-in-Some g c =
     let p = c.args.problem.now in
     let t : Text = c.in-Some.text in
-    Ends-map _ _ (g.K.Sink.state c.args.out.now) _ _ (Tells-map (RankingSays p t) (FoundSays p c.args.ranked) (λ s lines h. (t, sym c.ranking_found.ensures ∙ c.in-Some.is, h))) c.say_ranking.ensures
+    Ends-map _ _ c.args.out.now _ _ (Tells-map (RankingSays p t) (FoundSays p c.args.ranked) (λ s lines h. (t, sym c.ranking_found.ensures ∙ c.in-Some.is, h))) c.say_ranking.ensures
 
 pub returns-in-None : goal.returns-in-None
 returns-in-None g c =
     let says = FoundSays c.args.problem.now c.args.ranked in
-    Ends-map _ _ (g.K.Sink.state c.args.out.now) _ _ (only_in (Tells says) Memory _ (Tells-memory says)) c.say_memory.ensures
+    Ends-map _ _ c.args.out.now _ _ (only_in (Tells says) Memory _ (Tells-memory says)) c.say_memory.ensures

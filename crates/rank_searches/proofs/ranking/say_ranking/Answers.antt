@@ -1,9 +1,9 @@
-use Rattle.std.proofs.Common.{◌≡◌, ◌∙◌, ap}
+use Rattle.std.proofs.Common.{◌≡◌, ◌∙◌, ap, refl}
 use Rattle.studio_rules.specs.Solve.{status_of}
 use Rattle.searches.proofs.FoundTexts.{is_printing}
 use Rattle.rank_rules.specs.Spelling.{rank_text_lines}
 use Rattle.studio_rules.specs.Printed.{OneAnswer}
-use Rattle.endings.proofs.Ending.{Ends-map, Tells-map}
+use Rattle.endings.proofs.Ending.{Tells-map, Ends-from}
 use Rattle.rank_searches.specs.Found.{RankingSays}
 use Rattle.rank_searches.proofs.Rankings.{says}
 use Rattle.rank_searches.proofs.ranking.say_ranking.Goals as goal
@@ -18,5 +18,5 @@ returns g c =
     let lines = rank_text_lines p t in
     let same : c.status_of.result ≡ status_of t.tail = c.status_of.ensures ∙ ap status_of c.tail.ensures in
     let out = c.print_rank-printed in
-    Ends-map _ _ (g.K.Sink.state c.args.out.now) _ _ (Tells-map (OneAnswer c.status_of.result lines) (RankingSays p t) (says p t c.status_of.result same c.reads_back.ensures))
-    (c.say_printed.ensures lines (g.K.Sink.state c.args.out.now) out.ensures.later out.ensures.prints)
+    Ends-from _ _ c.args.out.now _ c.say_printed.new.out _ c.out.view_is (Tells-map (OneAnswer c.status_of.result lines) (RankingSays p t) (says p t c.status_of.result same c.reads_back.ensures))
+    (c.say_printed.ensures lines _ refl out.ensures.later out.ensures.prints)

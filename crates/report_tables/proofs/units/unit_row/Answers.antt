@@ -21,5 +21,5 @@ returns c =
     (number_cell (size w u) ∷ []) (share_cell p w u ∷ []) (unit_limit p w u ∷ []) costs
     (c.in_ok-push_number.ensures ∙ ap (λ (n : Number). r0 ++ number_cell n ∷ []) c.size.ensures)
     c.in_ok-push_share.ensures
-    (c.in_ok-push_words.ensures ∙ ap (λ (t : List ℕ). r2 ++ t ∷ []) c.limit.ensures)
+    (c.in_ok-push_words.ensures ∙ ap (λ (t : List ℕ). r2 ++ t ∷ []) c.unit_limit.ensures)
     c.in_ok-push_costs.ensures)

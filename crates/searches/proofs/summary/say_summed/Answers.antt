@@ -23,7 +23,7 @@ say_summary-requires-clause-solves g c =
 pub returns-in-Solved : goal.returns-in-Solved
 returns-in-Solved g c =
     let p = c.args.problem.now in
-    Ends-map _ _ (g.K.Sink.state c.args.out.now) _ _ (Tells-map (SummarySays p) (SummaryWork c.args.budget p) (λ s lines h. subst (λ (t : Status). SummaryWork c.args.budget p t lines) (sym h.0) (inl h.1))) c.say_summary.ensures
+    Ends-map _ _ c.args.out.now _ _ (Tells-map (SummarySays p) (SummaryWork c.args.budget p) (λ s lines h. subst (λ (t : Status). SummaryWork c.args.budget p t lines) (sym h.0) (inl h.1))) c.say_summary.ensures
 
 pub say_found-requires : goal.say_found-requires
 say_found-requires g c = (c.args.budget, c.search_all.ensures)
@@ -32,9 +32,9 @@ pub returns : goal.returns
 returns g c =
     let p = c.args.problem.now in
     let f : Found = c.search_all.result in
-    Ends-map _ _ (g.K.Sink.state c.args.out.now) _ _ (Tells-map (FoundSays p f) (SummaryWork c.args.budget p)
+    Ends-map _ _ c.args.out.now _ _ (Tells-map (FoundSays p f) (SummaryWork c.args.budget p)
     (found_sums c.accepted_is_optimal.ensures p c.is_valid.ensures.valid c.args.budget f c.search_all.ensures c.in_default-search_all.not-Solved)) c.say_found.ensures
 
 pub returns-in_default : goal.returns-in_default
 returns-in_default g c =
-    Ends-map _ _ (g.K.Sink.state c.args.out.now) _ _ (only_in (Tells (SummaryWork c.args.budget c.args.problem.now)) Memory _ (Tells-memory (SummaryWork c.args.budget c.args.problem.now))) c.say_memory.ensures
+    Ends-map _ _ c.args.out.now _ _ (only_in (Tells (SummaryWork c.args.budget c.args.problem.now)) Memory _ (Tells-memory (SummaryWork c.args.budget c.args.problem.now))) c.say_memory.ensures

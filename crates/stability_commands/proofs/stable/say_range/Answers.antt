@@ -1,4 +1,4 @@
-use Rattle.std.proofs.Common.{List, subst, sym}
+use Rattle.std.proofs.Common.{List, subst, sym, refl}
 use Rattle.problem_rules.specs.Problem.{Problem}
 use Rattle.tree_rules.specs.Claim.{Network, IsFeasible}
 use Rattle.tree_text_rules.specs.Line.{Token}
@@ -9,7 +9,7 @@ use Rattle.stability.specs.Refusal.{IsRefusal}
 use Rattle.studio_rules.specs.Stable.{range_lines, SpotWork}
 use Rattle.studio_rules.specs.Printed.{OneAnswer}
 use Rattle.studio_rules.specs.declared.status.Status.TheVariants.{Done}
-use Rattle.endings.proofs.Ending.{Ends-map, Tells-map}
+use Rattle.endings.proofs.Ending.{Tells-map, Ends-from}
 use Rattle.stability_commands.proofs.Told.{knows_beyond, range_told}
 use Rattle.stability_commands.proofs.stable.say_range.Goals as goal
 
@@ -31,8 +31,8 @@ returns-in-Ok g c =
     let w : Network = c.args.network.now in
     let r = c.in-Ok.range in
     let lines : List (List Token) = range_lines p r.from r.to r.below r.above in
-    Ends-map _ _ (g.K.Sink.state c.args.out.now) _ _ (Tells-map (OneAnswer Done lines) (SpotWork c.args.spot c.args.budget p w) (range_told p c.args.spot w c.args.budget r.from r.to r.below r.above (subst (λ (q : Problem). IsRange q c.args.spot w r.from r.to r.below r.above) c.of-site.ensures c.in-Ok.ensures.range)))
-    (c.say_printed.ensures lines (g.K.Sink.state c.args.out.now) c.print_range-printed.ensures.later c.print_range-printed.ensures.prints)
+    Ends-from _ _ c.args.out.now _ c.say_printed.new.out _ c.out.view_is (Tells-map (OneAnswer Done lines) (SpotWork c.args.spot c.args.budget p w) (range_told p c.args.spot w c.args.budget r.from r.to r.below r.above (subst (λ (q : Problem). IsRange q c.args.spot w r.from r.to r.below r.above) c.of-site.ensures c.in-Ok.ensures.range)))
+    (c.say_printed.ensures lines _ refl c.print_range-printed.ensures.later c.print_range-printed.ensures.prints)
 
 pub say_refusal-requires-clause-refusal : goal.say_refusal-requires-clause-refusal
 say_refusal-requires-clause-refusal g c = (c.args.network.now, c.args.budget, subst (λ (q : Problem). IsRefusal q c.args.spot c.args.network.now c.args.budget c.in-Err.fault) c.of-site.ensures c.in-Err.ensures.refusal)

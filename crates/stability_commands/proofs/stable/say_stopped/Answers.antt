@@ -1,4 +1,4 @@
-use Rattle.std.proofs.Common.{◌≡◌, ◌∷◌, ◌∙◌, sym, subst, List, SFits, rules}
+use Rattle.std.proofs.Common.{◌≡◌, ◌∷◌, ◌∙◌, sym, subst, List, SFits, rules, refl}
 use Rattle.std.specs.Int.{w64}
 use Rattle.std.proofs.lemmas.Int.{to_z-of_z}
 use Rattle.problem_rules.specs.Problem.{Problem}
@@ -8,7 +8,7 @@ use Rattle.tree_text_rules.specs.Spelling.{tree_text_lines}
 use Rattle.studio_rules.specs.Ending.{Tells}
 use Rattle.studio_rules.specs.Printed.{OneAnswer}
 use Rattle.studio_rules.specs.declared.status.Status.TheVariants.{Memory}
-use Rattle.endings.proofs.Ending.{Ends-map, Tells-map, Tells-memory, only_in}
+use Rattle.endings.proofs.Ending.{Ends-map, Tells-map, Tells-memory, only_in, Ends-from}
 use Rattle.searches.proofs.FoundTexts.{CanPrint, is_printing}
 use Rattle.stability_rules.specs.Spot.{valued}
 use Rattle.studio_rules.specs.Stable.{at_line}
@@ -36,7 +36,7 @@ say_printed-requires g c = is_printing c.in-Some.certificate.tail c.status.resul
 pub returns-in_default : goal.returns-in_default
 returns-in_default g c =
     let says = StopSays (valued c.args.problem.now c.args.spot c.args.value) c.args.value c.args.found in
-    Ends-map _ _ (g.K.Sink.state c.args.out.now) _ _ (only_in (Tells says) Memory _ (Tells-memory says)) c.say_memory.ensures
+    Ends-map _ _ c.args.out.now _ _ (only_in (Tells says) Memory _ (Tells-memory says)) c.say_memory.ensures
 
 pub returns-in-Some : goal.returns-in-Some
 returns-in-Some g c =
@@ -47,11 +47,11 @@ returns-in-Some g c =
     let same : r ≡ q = simp to_z-of_z at c.in-Ok.ensures in
     let d : Certificate = c.in-Some.certificate in
     let lines : List (List Token) = at_line v ∷ tree_text_lines r d.claim d.tree d.tail in
-    Ends-map _ _ (g.K.Sink.state c.args.out.now) _ _ (Tells-map (OneAnswer c.status.result lines) (StopSays q v c.args.found)
+    Ends-from _ _ c.args.out.now _ c.say_printed.new.out _ c.out.view_is (Tells-map (OneAnswer c.status.result lines) (StopSays q v c.args.found)
     (λ s ls h. subst (λ (t : Problem). StopSays t v c.args.found s ls) same (stop_says r v c.args.found d (sym c.certificate_of.ensures ∙ c.in-Some.is) c.reads_back.ensures c.status.result c.status.ensures s ls h)))
-    (c.say_printed.ensures lines (g.K.Sink.state c.args.out.now) c.print_stopped-printed.ensures.later (simp to_z-of_z at c.print_stopped-printed.ensures.prints))
+    (c.say_printed.ensures lines _ refl c.print_stopped-printed.ensures.later (simp to_z-of_z at c.print_stopped-printed.ensures.prints))
 
 pub returns : goal.returns
 returns g c =
     let says = StopSays (valued c.args.problem.now c.args.spot c.args.value) c.args.value c.args.found in
-    Ends-map _ _ (g.K.Sink.state c.args.out.now) _ _ (only_in (Tells says) Memory _ (Tells-memory says)) c.say_memory-in-None.ensures
+    Ends-map _ _ c.args.out.now _ _ (only_in (Tells says) Memory _ (Tells-memory says)) c.say_memory-in-None.ensures

@@ -12,7 +12,7 @@ pub returns-in-Meets : goal.returns-in-Meets
 returns-in-Meets g c =
     let p = c.args.problem.now in
     let Q : Status → List ℕ → Type 0 = Tells (VerdictSays p c.args.verdict) in
-    Ends-map _ Q (g.K.Sink.state c.args.out.now) _ _
+    Ends-map _ Q c.args.out.now _ _
     (only_in Q Done (line (codes "meets")) (codes "meets" ∷ [], subst (λ (v : Verdict). VerdictSays p v Done (codes "meets" ∷ [])) (sym c.in-Meets.is) (refl, refl), refl))
     c.say.ensures
 
@@ -21,7 +21,7 @@ returns-in-Breaks g c =
     let p = c.args.problem.now in
     let Q : Status → List ℕ → Type 0 = Tells (VerdictSays p c.args.verdict) in
     let told : List ℕ = breaks_line c.in-Breaks.axiom (place_name p c.in-Breaks.axiom c.in-Breaks.at) in
-    Ends-map _ Q (g.K.Sink.state c.args.out.now) _ _
+    Ends-map _ Q c.args.out.now _ _
     (only_or_memory_in Q Refused (line (breaks_line c.in-Breaks.axiom c.place_name.result.now)) (
       told ∷ [],
       subst (λ (v : Verdict). VerdictSays p v Refused (told ∷ [])) (sym c.in-Breaks.is) (refl, refl),

@@ -1,4 +1,4 @@
-use Rattle.std.proofs.Common.{ap, ℕ, List}
+use Rattle.std.proofs.Common.{ℕ, List}
 use Rattle.problem_rules.specs.Problem.{Problem}
 use Rattle.studio_rules.specs.Listing.{ListingWork}
 use Rattle.studio_rules.specs.Reading.{FileSays}
@@ -14,7 +14,7 @@ returns-in-Ok-clause-ends g c =
     let new = g.F.Shelf.state c.problem_of.new.shelf in
     let work : Problem → Status → List (List ℕ) → Type 0 = ListingWork c.args.after.now c.args.count in
     let Q : Status → List ℕ → Type 0 = FileSays work c.args.file.now old new in
-    Ends-from (Tells (work c.in-Ok.problem)) Q (g.K.Sink.state c.args.out.now) _ _ _ (ap g.K.Sink.state c.in-Ok.ensures.silent)
+    Ends-from (Tells (work c.in-Ok.problem)) Q c.args.out.now _ _ _ c.in-Ok.ensures.silent
     (on_file-work work old new c.args.file.now c.in-Ok.problem c.in-Ok.ensures.problem) c.say_listing.ensures
 
 pub returns-in-Err-clause-ends : goal.returns-in-Err-clause-ends
@@ -23,4 +23,4 @@ returns-in-Err-clause-ends g c =
     let new = g.F.Shelf.state c.problem_of.new.shelf in
     let work : Problem → Status → List (List ℕ) → Type 0 = ListingWork c.args.after.now c.args.count in
     let Q : Status → List ℕ → Type 0 = FileSays work c.args.file.now old new in
-    Ends-map _ Q (g.K.Sink.state c.args.out.now) _ _ (on_file-faults work old new c.args.file.now) c.in-Err.ensures.told
+    Ends-map _ Q c.args.out.now _ _ (on_file-faults work old new c.args.file.now) c.in-Err.ensures.told

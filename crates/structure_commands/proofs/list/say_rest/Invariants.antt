@@ -1,10 +1,11 @@
-use Rattle.std.proofs.Common.{◌≤◌}
+use Rattle.std.proofs.Common.{◌≡◌, ◌≤◌}
 use Rattle.structure_commands.proofs.Listings.{IsGathered}
 use Rattle.structure_commands.proofs.list.say_rest.Given as goal
 
 -- the lines of the structures given are out, or wait
 abbrev pub invariant-giving : goal.invariant-giving
 invariant-giving g l = record {
-  gathered : IsGathered l.problem l.fn.list l.list l.given (g.K.Sink.state l.fn.out) (g.K.Sink.state l.out) l.bytes.items l.last;
-  later : (g.K.Sink.state l.fn.out).faults ≤ (g.K.Sink.state l.out).faults;
+  gathered : IsGathered l.problem l.fn.list l.list l.given l.fn.out.out l.out.out l.bytes.items l.last;
+  later : l.fn.out.out.faults ≤ l.out.out.faults;
+  quiet : l.out.err ≡ l.fn.out.err;
 }

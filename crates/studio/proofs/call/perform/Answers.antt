@@ -1,5 +1,5 @@
 use Rattle.std.proofs.Common.{refl, sym, ap, subst, ◌≤◌, ℕ, List, map, string_bytes}
-use Rattle.studio_rules.specs.Command.{Command, Max, Axioms, Flows, Listing, Migrate, Editing, Undoing, Checking, RankChecking, Solving, Ranking, Telling, AreWithin, Table, Splitting, Expanding, Drawing, DrawingNetwork, Reporting, Ranging, Planning, Parting, PartingAgainst, Merging}
+use Rattle.studio_rules.specs.Command.{Command, Max, Axioms, Flows, Listing, Migrate, Editing, Undoing, Checking, RankChecking, Solving, Showing, Ranking, Telling, AreWithin, Table, Splitting, Expanding, Drawing, DrawingNetwork, Reporting, Json, Ranging, Planning, Parting, PartingAgainst, Merging}
 use Rattle.studio_words.specs.View.{command_view}
 use Rattle.studio_rules.specs.Answers.{CommandSays}
 use Rattle.studio_rules.specs.Make.{MakeWork}
@@ -16,7 +16,7 @@ returns-in-Max-clause-ends g c =
     let old = g.F.Shelf.state c.args.shelf.now in
     let new = g.F.Shelf.state c.max.new.shelf in
     let Q : Status → List ℕ → Type 0 = CommandSays old new (command_view c.args.command) in
-    Ends-map (CommandSays old new (Max c.in-Max.file.now)) Q (g.K.Sink.state c.args.out.now) _ _
+    Ends-map (CommandSays old new (Max c.in-Max.file.now)) Q c.args.out.now _ _
     (λ s t h. subst (λ (v : Command). CommandSays old new v s t) (sym (ap command_view c.in-Max.is)) h) c.max.ensures.ends
 
 pub returns-in-Axioms-clause-ends : goal.returns-in-Axioms-clause-ends
@@ -24,7 +24,7 @@ returns-in-Axioms-clause-ends g c =
     let old = g.F.Shelf.state c.args.shelf.now in
     let new = g.F.Shelf.state c.axioms.new.shelf in
     let Q : Status → List ℕ → Type 0 = CommandSays old new (command_view c.args.command) in
-    Ends-map (CommandSays old new (Axioms c.in-Axioms.file.now c.in-Axioms.units)) Q (g.K.Sink.state c.args.out.now) _ _
+    Ends-map (CommandSays old new (Axioms c.in-Axioms.file.now c.in-Axioms.units)) Q c.args.out.now _ _
     (λ s t h. subst (λ (v : Command). CommandSays old new v s t) (sym (ap command_view c.in-Axioms.is)) h) c.axioms.ensures.ends
 
 pub returns-in-Flows-clause-ends : goal.returns-in-Flows-clause-ends
@@ -32,7 +32,7 @@ returns-in-Flows-clause-ends g c =
     let old = g.F.Shelf.state c.args.shelf.now in
     let new = g.F.Shelf.state c.flows.new.shelf in
     let Q : Status → List ℕ → Type 0 = CommandSays old new (command_view c.args.command) in
-    Ends-map (CommandSays old new (Flows c.in-Flows.file.now c.in-Flows.units)) Q (g.K.Sink.state c.args.out.now) _ _
+    Ends-map (CommandSays old new (Flows c.in-Flows.file.now c.in-Flows.units)) Q c.args.out.now _ _
     (λ s t h. subst (λ (v : Command). CommandSays old new v s t) (sym (ap command_view c.in-Flows.is)) h) c.flows.ensures.ends
 
 pub returns-in-Listing-clause-ends : goal.returns-in-Listing-clause-ends
@@ -40,14 +40,14 @@ returns-in-Listing-clause-ends g c =
     let old = g.F.Shelf.state c.args.shelf.now in
     let new = g.F.Shelf.state c.list.new.shelf in
     let Q : Status → List ℕ → Type 0 = CommandSays old new (command_view c.args.command) in
-    Ends-map (CommandSays old new (Listing c.in-Listing.file.now c.in-Listing.after.now c.in-Listing.count)) Q (g.K.Sink.state c.args.out.now) _ _
+    Ends-map (CommandSays old new (Listing c.in-Listing.file.now c.in-Listing.after.now c.in-Listing.count)) Q c.args.out.now _ _
     (λ s t h. subst (λ (v : Command). CommandSays old new v s t) (sym (ap command_view c.in-Listing.is)) h) c.list.ensures.ends
 
 pub returns-in-Make-clause-ends : goal.returns-in-Make-clause-ends
 returns-in-Make-clause-ends g c =
     let shelf = g.F.Shelf.state c.args.shelf.now in
     let Q : Status → List ℕ → Type 0 = CommandSays shelf shelf (command_view c.args.command) in
-    Ends-map _ Q (g.K.Sink.state c.args.out.now) _ _
+    Ends-map _ Q c.args.out.now _ _
     (λ s t h. subst (λ (v : Command). CommandSays shelf shelf v s t) (sym (ap command_view c.in-Make.is))
     (Says-told (MakeWork c.in-Make.number c.in-Make.units) (MakeWork c.in-Make.number c.in-Make.units) _ shelf shelf (λ s lines h. h) s t h))
     c.make.ensures
@@ -65,7 +65,7 @@ returns-in-Migrate-clause-ends g c =
     let old = g.F.Shelf.state c.args.shelf.now in
     let new = g.F.Shelf.state c.migrate.new.shelf in
     let Q : Status → List ℕ → Type 0 = CommandSays old new (command_view c.args.command) in
-    Ends-map (CommandSays old new (Migrate c.in-Migrate.file.now c.in-Migrate.years)) Q (g.K.Sink.state c.args.out.now) _ _
+    Ends-map (CommandSays old new (Migrate c.in-Migrate.file.now c.in-Migrate.years)) Q c.args.out.now _ _
     (λ s t h. subst (λ (v : Command). CommandSays old new v s t) (sym (ap command_view c.in-Migrate.is)) h) c.migrate.ensures.ends
 
 pub returns-in-Editing-clause-ends : goal.returns-in-Editing-clause-ends
@@ -73,7 +73,7 @@ returns-in-Editing-clause-ends g c =
     let old = g.F.Shelf.state c.args.shelf.now in
     let new = g.F.Shelf.state c.edit.new.shelf in
     let Q : Status → List ℕ → Type 0 = CommandSays old new (command_view c.args.command) in
-    Ends-map (CommandSays old new (Editing c.in-Editing.file.now c.in-Editing.script.now)) Q (g.K.Sink.state c.args.out.now) _ _
+    Ends-map (CommandSays old new (Editing c.in-Editing.file.now c.in-Editing.script.now)) Q c.args.out.now _ _
     (λ s t h. subst (λ (v : Command). CommandSays old new v s t) (sym (ap command_view c.in-Editing.is)) h) c.edit.ensures.ends
 
 pub returns-in-Undoing-clause-ends : goal.returns-in-Undoing-clause-ends
@@ -81,7 +81,7 @@ returns-in-Undoing-clause-ends g c =
     let old = g.F.Shelf.state c.args.shelf.now in
     let new = g.F.Shelf.state c.undo.new.shelf in
     let Q : Status → List ℕ → Type 0 = CommandSays old new (command_view c.args.command) in
-    Ends-map (CommandSays old new (Undoing c.in-Undoing.file.now c.in-Undoing.script.now)) Q (g.K.Sink.state c.args.out.now) _ _
+    Ends-map (CommandSays old new (Undoing c.in-Undoing.file.now c.in-Undoing.script.now)) Q c.args.out.now _ _
     (λ s t h. subst (λ (v : Command). CommandSays old new v s t) (sym (ap command_view c.in-Undoing.is)) h) c.undo.ensures.ends
 
 pub returns-in-Expanding-clause-ends : goal.returns-in-Expanding-clause-ends
@@ -89,7 +89,7 @@ returns-in-Expanding-clause-ends g c =
     let old = g.F.Shelf.state c.args.shelf.now in
     let new = g.F.Shelf.state c.expand.new.shelf in
     let Q : Status → List ℕ → Type 0 = CommandSays old new (command_view c.args.command) in
-    Ends-map (CommandSays old new (Expanding c.in-Expanding.file.now c.in-Expanding.plan.now)) Q (g.K.Sink.state c.args.out.now) _ _
+    Ends-map (CommandSays old new (Expanding c.in-Expanding.file.now c.in-Expanding.plan.now)) Q c.args.out.now _ _
     (λ s t h. subst (λ (v : Command). CommandSays old new v s t) (sym (ap command_view c.in-Expanding.is)) h) c.expand.ensures.ends
 
 pub returns-in-Checking-clause-ends : goal.returns-in-Checking-clause-ends
@@ -97,7 +97,7 @@ returns-in-Checking-clause-ends g c =
     let old = g.F.Shelf.state c.args.shelf.now in
     let new = g.F.Shelf.state c.check.new.shelf in
     let Q : Status → List ℕ → Type 0 = CommandSays old new (command_view c.args.command) in
-    Ends-map (CommandSays old new (Checking c.in-Checking.file.now c.in-Checking.tree.now)) Q (g.K.Sink.state c.args.out.now) _ _
+    Ends-map (CommandSays old new (Checking c.in-Checking.file.now c.in-Checking.tree.now)) Q c.args.out.now _ _
     (λ s t h. subst (λ (v : Command). CommandSays old new v s t) (sym (ap command_view c.in-Checking.is)) h) c.check.ensures.ends
 
 pub returns-in-RankChecking-clause-ends : goal.returns-in-RankChecking-clause-ends
@@ -105,7 +105,7 @@ returns-in-RankChecking-clause-ends g c =
     let old = g.F.Shelf.state c.args.shelf.now in
     let new = g.F.Shelf.state c.rankcheck.new.shelf in
     let Q : Status → List ℕ → Type 0 = CommandSays old new (command_view c.args.command) in
-    Ends-map (CommandSays old new (RankChecking c.in-RankChecking.file.now c.in-RankChecking.rank.now)) Q (g.K.Sink.state c.args.out.now) _ _
+    Ends-map (CommandSays old new (RankChecking c.in-RankChecking.file.now c.in-RankChecking.rank.now)) Q c.args.out.now _ _
     (λ s t h. subst (λ (v : Command). CommandSays old new v s t) (sym (ap command_view c.in-RankChecking.is)) h) c.rankcheck.ensures.ends
 
 pub returns-in-Table-clause-ends : goal.returns-in-Table-clause-ends
@@ -113,7 +113,7 @@ returns-in-Table-clause-ends g c =
     let old = g.F.Shelf.state c.args.shelf.now in
     let new = g.F.Shelf.state c.table.new.shelf in
     let Q : Status → List ℕ → Type 0 = CommandSays old new (command_view c.args.command) in
-    Ends-map (CommandSays old new (Table c.in-Table.file.now c.in-Table.tree.now)) Q (g.K.Sink.state c.args.out.now) _ _
+    Ends-map (CommandSays old new (Table c.in-Table.file.now c.in-Table.tree.now)) Q c.args.out.now _ _
     (λ s t h. subst (λ (v : Command). CommandSays old new v s t) (sym (ap command_view c.in-Table.is)) h) c.table.ensures.ends
 
 pub returns-in-Reporting-clause-ends : goal.returns-in-Reporting-clause-ends
@@ -121,15 +121,23 @@ returns-in-Reporting-clause-ends g c =
     let old = g.F.Shelf.state c.args.shelf.now in
     let new = g.F.Shelf.state c.report.new.shelf in
     let Q : Status → List ℕ → Type 0 = CommandSays old new (command_view c.args.command) in
-    Ends-map (CommandSays old new (Reporting c.in-Reporting.file.now c.in-Reporting.tree.now)) Q (g.K.Sink.state c.args.out.now) _ _
+    Ends-map (CommandSays old new (Reporting c.in-Reporting.file.now c.in-Reporting.tree.now)) Q c.args.out.now _ _
     (λ s t h. subst (λ (v : Command). CommandSays old new v s t) (sym (ap command_view c.in-Reporting.is)) h) c.report.ensures.ends
+
+pub returns-in-Json-clause-ends : goal.returns-in-Json-clause-ends
+returns-in-Json-clause-ends g c =
+    let old = g.F.Shelf.state c.args.shelf.now in
+    let new = g.F.Shelf.state c.json.new.shelf in
+    let Q : Status → List ℕ → Type 0 = CommandSays old new (command_view c.args.command) in
+    Ends-map (CommandSays old new (Json c.in-Json.file.now c.in-Json.tree.now)) Q c.args.out.now _ _
+    (λ s t h. subst (λ (v : Command). CommandSays old new v s t) (sym (ap command_view c.in-Json.is)) h) c.json.ensures.ends
 
 pub returns-in-Splitting-clause-ends : goal.returns-in-Splitting-clause-ends
 returns-in-Splitting-clause-ends g c =
     let old = g.F.Shelf.state c.args.shelf.now in
     let new = g.F.Shelf.state c.split.new.shelf in
     let Q : Status → List ℕ → Type 0 = CommandSays old new (command_view c.args.command) in
-    Ends-map (CommandSays old new (Splitting c.in-Splitting.file.now c.in-Splitting.tree.now)) Q (g.K.Sink.state c.args.out.now) _ _
+    Ends-map (CommandSays old new (Splitting c.in-Splitting.file.now c.in-Splitting.tree.now)) Q c.args.out.now _ _
     (λ s t h. subst (λ (v : Command). CommandSays old new v s t) (sym (ap command_view c.in-Splitting.is)) h) c.split.ensures.ends
 
 pub returns-in-Drawing-clause-ends : goal.returns-in-Drawing-clause-ends
@@ -137,7 +145,7 @@ returns-in-Drawing-clause-ends g c =
     let old = g.F.Shelf.state c.args.shelf.now in
     let new = g.F.Shelf.state c.plant_graph.new.shelf in
     let Q : Status → List ℕ → Type 0 = CommandSays old new (command_view c.args.command) in
-    Ends-map (CommandSays old new (Drawing c.in-Drawing.file.now)) Q (g.K.Sink.state c.args.out.now) _ _
+    Ends-map (CommandSays old new (Drawing c.in-Drawing.file.now)) Q c.args.out.now _ _
     (λ s t h. subst (λ (v : Command). CommandSays old new v s t) (sym (ap command_view c.in-Drawing.is)) h) c.plant_graph.ensures.ends
 
 pub returns-in-DrawingNetwork-clause-ends : goal.returns-in-DrawingNetwork-clause-ends
@@ -145,7 +153,7 @@ returns-in-DrawingNetwork-clause-ends g c =
     let old = g.F.Shelf.state c.args.shelf.now in
     let new = g.F.Shelf.state c.graph.new.shelf in
     let Q : Status → List ℕ → Type 0 = CommandSays old new (command_view c.args.command) in
-    Ends-map (CommandSays old new (DrawingNetwork c.in-DrawingNetwork.file.now c.in-DrawingNetwork.tree.now)) Q (g.K.Sink.state c.args.out.now) _ _
+    Ends-map (CommandSays old new (DrawingNetwork c.in-DrawingNetwork.file.now c.in-DrawingNetwork.tree.now)) Q c.args.out.now _ _
     (λ s t h. subst (λ (v : Command). CommandSays old new v s t) (sym (ap command_view c.in-DrawingNetwork.is)) h) c.graph.ensures.ends
 
 pub stable-requires : goal.stable-requires
@@ -158,7 +166,7 @@ returns-in-Ranging-clause-ends g c =
     let old = g.F.Shelf.state c.args.shelf.now in
     let new = g.F.Shelf.state c.stable.new.shelf in
     let Q : Status → List ℕ → Type 0 = CommandSays old new (command_view c.args.command) in
-    Ends-map (CommandSays old new (Ranging c.in-Ranging.file.now c.in-Ranging.tree.now c.in-Ranging.kind c.in-Ranging.name.now c.in-Ranging.budget)) Q (g.K.Sink.state c.args.out.now) _ _
+    Ends-map (CommandSays old new (Ranging c.in-Ranging.file.now c.in-Ranging.tree.now c.in-Ranging.kind c.in-Ranging.name.now c.in-Ranging.budget)) Q c.args.out.now _ _
     (λ s t h. subst (λ (v : Command). CommandSays old new v s t) (sym (ap command_view c.in-Ranging.is)) h) c.stable.ensures.ends
 
 pub periods-requires : goal.periods-requires
@@ -171,7 +179,7 @@ returns-in-Planning-clause-ends g c =
     let old = g.F.Shelf.state c.args.shelf.now in
     let new = g.F.Shelf.state c.periods.new.shelf in
     let Q : Status → List ℕ → Type 0 = CommandSays old new (command_view c.args.command) in
-    Ends-map (CommandSays old new (Planning c.in-Planning.file.now c.in-Planning.plan.now c.in-Planning.budget)) Q (g.K.Sink.state c.args.out.now) _ _
+    Ends-map (CommandSays old new (Planning c.in-Planning.file.now c.in-Planning.plan.now c.in-Planning.budget)) Q c.args.out.now _ _
     (λ s t h. subst (λ (v : Command). CommandSays old new v s t) (sym (ap command_view c.in-Planning.is)) h) c.periods.ensures.ends
 
 pub part-requires : goal.part-requires
@@ -184,7 +192,7 @@ returns-in-Parting-clause-ends g c =
     let old = g.F.Shelf.state c.args.shelf.now in
     let new = g.F.Shelf.state c.part.new.shelf in
     let Q : Status → List ℕ → Type 0 = CommandSays old new (command_view c.args.command) in
-    Ends-map (CommandSays old new (Parting c.in-Parting.file.now c.in-Parting.inside.now c.in-Parting.outside.now c.in-Parting.budget)) Q (g.K.Sink.state c.args.out.now) _ _
+    Ends-map (CommandSays old new (Parting c.in-Parting.file.now c.in-Parting.inside.now c.in-Parting.outside.now c.in-Parting.budget)) Q c.args.out.now _ _
     (λ s t h. subst (λ (v : Command). CommandSays old new v s t) (sym (ap command_view c.in-Parting.is)) h) c.part.ensures.ends
 
 pub part_against-requires : goal.part_against-requires
@@ -197,7 +205,7 @@ returns-in-PartingAgainst-clause-ends g c =
     let old = g.F.Shelf.state c.args.shelf.now in
     let new = g.F.Shelf.state c.part_against.new.shelf in
     let Q : Status → List ℕ → Type 0 = CommandSays old new (command_view c.args.command) in
-    Ends-map (CommandSays old new (PartingAgainst c.in-PartingAgainst.file.now c.in-PartingAgainst.inside.now c.in-PartingAgainst.outside.now c.in-PartingAgainst.budget c.in-PartingAgainst.tree.now)) Q (g.K.Sink.state c.args.out.now) _ _
+    Ends-map (CommandSays old new (PartingAgainst c.in-PartingAgainst.file.now c.in-PartingAgainst.inside.now c.in-PartingAgainst.outside.now c.in-PartingAgainst.budget c.in-PartingAgainst.tree.now)) Q c.args.out.now _ _
     (λ s t h. subst (λ (v : Command). CommandSays old new v s t) (sym (ap command_view c.in-PartingAgainst.is)) h) c.part_against.ensures.ends
 
 pub returns-in-Merging-clause-ends : goal.returns-in-Merging-clause-ends
@@ -205,7 +213,7 @@ returns-in-Merging-clause-ends g c =
     let old = g.F.Shelf.state c.args.shelf.now in
     let new = g.F.Shelf.state c.merge.new.shelf in
     let Q : Status → List ℕ → Type 0 = CommandSays old new (command_view c.args.command) in
-    Ends-map (CommandSays old new (Merging c.in-Merging.file.now c.in-Merging.tree.now (map string_bytes c.in-Merging.parts.now))) Q (g.K.Sink.state c.args.out.now) _ _
+    Ends-map (CommandSays old new (Merging c.in-Merging.file.now c.in-Merging.tree.now (map string_bytes c.in-Merging.parts.now))) Q c.args.out.now _ _
     (λ s t h. subst (λ (v : Command). CommandSays old new v s t) (sym (ap command_view c.in-Merging.is)) h) c.merge.ensures.ends
 
 pub solve-requires : goal.solve-requires
@@ -218,8 +226,21 @@ returns-in-Solving-clause-ends g c =
     let old = g.F.Shelf.state c.args.shelf.now in
     let new = g.F.Shelf.state c.solve.new.shelf in
     let Q : Status → List ℕ → Type 0 = CommandSays old new (command_view c.args.command) in
-    Ends-map (CommandSays old new (Solving c.in-Solving.file.now c.in-Solving.budget)) Q (g.K.Sink.state c.args.out.now) _ _
+    Ends-map (CommandSays old new (Solving c.in-Solving.file.now c.in-Solving.budget)) Q c.args.out.now _ _
     (λ s t h. subst (λ (v : Command). CommandSays old new v s t) (sym (ap command_view c.in-Solving.is)) h) c.solve.ensures.ends
+
+pub show-requires : goal.show-requires
+show-requires g c =
+    let within : (1 ≤ c.in-Showing.budget) × (c.in-Showing.budget ≤ 1000000) = subst AreWithin (ap command_view c.in-Showing.is) c.requires in
+    record { some = within.0; few = within.1 }
+
+pub returns-in-Showing-clause-ends : goal.returns-in-Showing-clause-ends
+returns-in-Showing-clause-ends g c =
+    let old = g.F.Shelf.state c.args.shelf.now in
+    let new = g.F.Shelf.state c.show.new.shelf in
+    let Q : Status → List ℕ → Type 0 = CommandSays old new (command_view c.args.command) in
+    Ends-map (CommandSays old new (Showing c.in-Showing.file.now c.in-Showing.budget)) Q c.args.out.now _ _
+    (λ s t h. subst (λ (v : Command). CommandSays old new v s t) (sym (ap command_view c.in-Showing.is)) h) c.show.ensures.ends
 
 pub rank-requires : goal.rank-requires
 rank-requires g c =
@@ -231,7 +252,7 @@ returns-in-Ranking-clause-ends g c =
     let old = g.F.Shelf.state c.args.shelf.now in
     let new = g.F.Shelf.state c.rank.new.shelf in
     let Q : Status → List ℕ → Type 0 = CommandSays old new (command_view c.args.command) in
-    Ends-map (CommandSays old new (Ranking c.in-Ranking.file.now c.in-Ranking.count c.in-Ranking.budget)) Q (g.K.Sink.state c.args.out.now) _ _
+    Ends-map (CommandSays old new (Ranking c.in-Ranking.file.now c.in-Ranking.count c.in-Ranking.budget)) Q c.args.out.now _ _
     (λ s t h. subst (λ (v : Command). CommandSays old new v s t) (sym (ap command_view c.in-Ranking.is)) h) c.rank.ensures.ends
 
 pub trial-requires : goal.trial-requires
@@ -244,7 +265,7 @@ returns-in-Trial-clause-ends g c =
     let shelf = g.F.Shelf.state c.args.shelf.now in
     let Q : Status → List ℕ → Type 0 = CommandSays shelf shelf (command_view c.args.command) in
     let work : Status → List (List ℕ) → Type 0 = TrialWork c.in-Trial.number c.in-Trial.units c.in-Trial.budget in
-    Ends-map _ Q (g.K.Sink.state c.args.out.now) _ _
+    Ends-map _ Q c.args.out.now _ _
     (λ s t h. subst (λ (v : Command). CommandSays shelf shelf v s t) (sym (ap command_view c.in-Trial.is))
     (Says-told work work _ shelf shelf (λ s lines h. h) s t h))
     c.trial.ensures
@@ -255,7 +276,7 @@ returns-in-Telling-clause-ends g c =
     let Q : Status → List ℕ → Type 0 = CommandSays shelf shelf (command_view c.args.command) in
     let text : List ℕ = c.in-Telling.text.now in
     let whole : IsOfLines text = subst AreWithin (ap command_view c.in-Telling.is) c.requires in
-    Ends-map _ Q (g.K.Sink.state c.args.out.now) _ _
+    Ends-map _ Q c.args.out.now _ _
     (λ s t h. subst (λ (v : Command). CommandSays shelf shelf v s t) (sym (ap command_view c.in-Telling.is))
     (only_in (CommandSays shelf shelf (Telling text)) Done text (whole.0, (refl, whole.1), whole.1) s t h))
     c.say_text.ensures

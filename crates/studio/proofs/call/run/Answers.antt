@@ -21,7 +21,7 @@ returns-in_default-clause-ends g c =
     let words = map string_bytes c.args.words.now in
     let shelf = g.F.Shelf.state c.args.shelf.now in
     let Q : Status → List ℕ → Type 0 = WordsSay shelf shelf words in
-    Ends-map _ Q (g.K.Sink.state c.args.out.now) _ _ (only_in Q Memory (line (codes "memory")) ([], inl refl, refl)) c.say_memory.ensures
+    Ends-map _ Q c.args.out.now _ _ (only_in Q Memory (line (codes "memory")) ([], inl refl, refl)) c.say_memory.ensures
 
 pub returns-in-Some-clause-ends : goal.returns-in-Some-clause-ends
 returns-in-Some-clause-ends g c =
@@ -31,7 +31,7 @@ returns-in-Some-clause-ends g c =
     let Q : Status → List ℕ → Type 0 = WordsSay old new words in
     let command = command_view c.in-Some.command in
     let found : Some command ≡ command_of words = ap (option_map command_view) (sym c.in-Some.is) ∙ c.in-Ok.ensures in
-    Ends-map (CommandSays old new command) Q (g.K.Sink.state c.args.out.now) _ _
+    Ends-map (CommandSays old new command) Q c.args.out.now _ _
     (Says-map (CommandAnswers old.held command) (Answers old.held words) (IsFileOf command) (IsFileWord words) old new
     (λ s lines h. subst (λ (f : Option Command). AnswersTo old.held f s lines) found h)
     (λ name h. subst (λ (f : Option Command). IsSomeAnd f (λ command. IsFileOf command name)) found h))
@@ -43,9 +43,9 @@ returns-in-None-clause-ends g c =
     let shelf = g.F.Shelf.state c.args.shelf.now in
     let Q : Status → List ℕ → Type 0 = WordsSay shelf shelf words in
     let found : None ≡ command_of words = ap (option_map command_view) (sym c.in-None.is) ∙ c.in-Ok.ensures in
-    Ends-map _ Q (g.K.Sink.state c.args.out.now) _ _
+    Ends-map _ Q c.args.out.now _ _
     (only_in Q Usage (line (codes "usage")) (codes "usage" ∷ [], subst (λ (f : Option Command). AnswersTo shelf.held f Usage (codes "usage" ∷ [])) found (refl, refl), refl))
-    c.say.ensures
+    c.tell_usage.ensures
 
 pub returns-in_default-clause-keeps : goal.returns-in_default-clause-keeps
 returns-in_default-clause-keeps g c = keeps_same _

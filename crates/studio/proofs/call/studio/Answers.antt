@@ -9,8 +9,8 @@ returns g c =
     let words = map string_bytes c.args.words.now in
     let old = g.F.Shelf.state c.args.shelf.now in
     let new = g.F.Shelf.state c.run.new.shelf in
-    let before = g.K.Sink.state c.args.out.now in
-    let after = g.K.Sink.state c.run.new.out in
+    let before = c.args.out.now in
+    let after = c.run.new.out in
     record {
       ends = c.run.ensures.ends;
       keeps = c.run.ensures.keeps.held;

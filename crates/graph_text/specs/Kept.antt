@@ -1,0 +1,22 @@
+-- What contracts see of the type of pictures, and what it keeps: the graph is that of the plant, the units are units of it, all lines of
+-- the network hold, and its greatest flow is known.
+use Rattle.std.specs.Prelude.{◌≡◌, ◌<◌, ℕ, true, List, Option, IfSome, length}
+use Rattle.number_sets.specs.Sets.{has}
+use Rattle.problem_rules.specs.Problem.{Problem}
+use Rattle.pns_rules.specs.Shape.{Shape, shape_of}
+use Rattle.tree_rules.specs.Claim.{Network, IsFeasible}
+use Rattle.report_rules.specs.Drawn.{Picture, greatest_flow}
+
+pub record Drawing : Type 0 where
+  pub problem : Problem
+  pub network : Option Network
+  pub units : List ℕ
+
+abbrev pub picture_of : Drawing → Picture
+picture_of d = record { problem = d.problem; network = d.network; units = has d.units }
+
+pub record IsKept (g : Shape) (most : ℕ) (d : Drawing) : Type 0 where
+  pub same : g ≡ shape_of d.problem
+  pub known : (u : ℕ) → has d.units u ≡ true → u < length d.problem.units
+  pub feasible : IfSome d.network (IsFeasible d.problem)
+  pub greatest : most ≡ greatest_flow d.problem d.network

@@ -1,0 +1,81 @@
+//! The greatest flow of a network.
+ghost use Rattle.std.specs.Prelude.{◌≡◌, ◌<◌, true, Some, IfSome, option_map, unsigned_abs, length};
+ghost use Rattle.integer_laws.specs.Range.{InRange};
+ghost use Rattle.number_sets.specs.Sets.{has};
+ghost use Rattle.tree_rules.specs.Claim.{IsFeasible};
+ghost use Rattle.report_rules.specs.Aligned.{greater};
+ghost use Rattle.report_rules.specs.Drawn.{moved, most_of, most_at, greatest_flow};
+
+use branch_tree::Network;
+use flow_program::rate_at;
+use pns_problem::{Problem, Term};
+use pns_rules::valid_is_proper;
+use pns_tables::{moved_at, size_at};
+
+/// What a unit of the network makes of the material less what it uses of it, in 10^-12 over d.
+pub(crate) fn moved(problem: &Problem, network: &Network, u: u32, j: u32) -> i128
+    requires unit { u < length problem.now.units }
+    requires in_network { has network.now.units u ≡ true }
+    requires feasible { IsFeasible problem.now network.now }
+    ensures value { result ≡ moved problem.now network.now u j }
+    ensures in_range { InRange result }
+{
+    problem.is_valid();
+    valid_is_proper();
+    moved_at(rate_at(problem, j, u), size_at(network, u))
+}
+
+fn greater(least: u128, number: u128) -> u128
+    ensures { result ≡ greater least number }
+{
+    if least < number { number } else { least }
+}
+
+/// The greatest flow of the arcs of these terms of the unit, `least` at least.
+fn most_of(problem: &Problem, network: &Network, u: u32, least: u128, terms: &[Term]) -> u128
+    requires unit { u < length problem.now.units }
+    requires in_network { has network.now.units u ≡ true }
+    requires feasible { IsFeasible problem.now network.now }
+    ensures { result ≡ most_of problem.now network.now u least terms.now }
+{
+    let mut most = least;
+    'terms: for term in terms {
+        let flow = moved(problem, network, u, term.material);
+        most = greater(most, flow.unsigned_abs());
+    }
+    most
+}
+
+/// The greatest flow of the arcs of the unit, `least` at least.
+fn most_at(problem: &Problem, network: &Network, least: u128, u: u32) -> u128
+    requires unit { u < length problem.now.units }
+    requires in_network { has network.now.units u ≡ true }
+    requires feasible { IsFeasible problem.now network.now }
+    ensures { result ≡ most_at problem.now network.now least u }
+{
+    let unit = &problem.units()[u as usize];
+    let most = most_of(problem, network, u, least, &unit.inputs);
+    most_of(problem, network, u, most, &unit.outputs)
+}
+
+fn greatest_in(problem: &Problem, network: &Network) -> u128
+    requires { IsFeasible problem.now network.now }
+    ensures { result ≡ greatest_flow problem.now (Some network.now) }
+{
+    let mut most = 0;
+    for u in network.units() {
+        most = most_at(problem, network, most, u);
+    }
+    most
+}
+
+/// The greatest flow of an arc of the network, where one is given, in 10^-12 over its `d`.
+pub(crate) fn greatest_flow(problem: &Problem, network: Option<&Network>) -> u128
+    requires { IfSome network (λ n. IsFeasible problem.now n.now) }
+    ensures { result ≡ greatest_flow problem.now (option_map (λ n. n.now) network.entry) }
+{
+    match network {
+        None => 0,
+        Some(network) => greatest_in(problem, network),
+    }
+}

@@ -1,0 +1,2 @@
+mod LongDivision
+pub mod Pieces

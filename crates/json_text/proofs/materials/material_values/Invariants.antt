@@ -1,0 +1,12 @@
+use Rattle.std.proofs.Common.{◌≡◌, ◌++◌, map}
+use Rattle.number_sets.specs.Sets.{has, IsWithin}
+use Rattle.flow_rules.specs.Net.{net_of, materials_of}
+use Rattle.json_rules.specs.Facts.{material_json}
+use Rattle.json_text.proofs.materials.material_values.Given as goal
+
+-- the values to come finish the list
+abbrev pub invariant-loop-j : goal.invariant-loop-j
+invariant-loop-j l = record {
+  within : IsWithin (has l.j-iterator) (has (materials_of (net_of l.fn.site) (has l.fn.network.units)));
+  values : l.values.items ++ map (material_json l.fn.site l.fn.network) l.j-iterator ≡ map (material_json l.fn.site l.fn.network) (materials_of (net_of l.fn.site) (has l.fn.network.units));
+}

@@ -1,0 +1,11 @@
+use Rattle.std.proofs.Common.{◌≡◌, ◌++◌, map}
+use Rattle.number_sets.specs.Sets.{has, IsWithin}
+use Rattle.json_rules.specs.Facts.{unit_json}
+use Rattle.json_text.proofs.units.unit_values.Given as goal
+
+-- the values to come finish the list
+abbrev pub invariant-loop-u : goal.invariant-loop-u
+invariant-loop-u l = record {
+  within : IsWithin (has l.u-iterator) (has l.fn.network.units);
+  values : l.values.items ++ map (unit_json l.fn.problem l.fn.network) l.u-iterator ≡ map (unit_json l.fn.problem l.fn.network) l.fn.network.units;
+}

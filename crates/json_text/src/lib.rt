@@ -1,0 +1,17 @@
+//! The facts of a claimed network for one year as one JSON object.
+//!
+//! `Facts` of `json_rules` has its lines: those of the report, in its order, with the numbers of `report_amounts`. [`facts_of`] gives
+//! their bytes, and [`bare_of`] those of a claim without a network.
+//!
+//! Modules: `members`, values under their keys; `head`, `units`, `materials` and `foot`, the parts; `text`, the whole.
+#![tactic(auto)]
+
+mod foot;
+mod head;
+mod materials;
+mod members;
+mod text;
+mod units;
+
+pub use members::{null_member, text_member};
+pub use text::{bare_of, facts_of};

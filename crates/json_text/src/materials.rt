@@ -1,0 +1,82 @@
+//! The materials of a network.
+ghost use Rattle.std.specs.Prelude.{◌≡◌, ◌<◌, ◌++◌, ℕ, true, IfOk, OnOk, map, length, codes};
+ghost use Rattle.number_sets.specs.Sets.{has};
+ghost use Rattle.pns_problem.specs.Printing.{printed};
+ghost use Rattle.problem_rules.specs.Problem.{material_at};
+ghost use Rattle.text_rules.specs.Canonical.{kind_word};
+ghost use Rattle.flow_rules.specs.Net.{net_of, materials_of};
+ghost use Rattle.tree_rules.specs.Claim.{IsFeasible};
+ghost use Rattle.json_rules.specs.Facts as facts;
+
+use crate::members::{limit_member, number_member, text_member};
+use branch_tree::Network;
+use json_pieces::{Json, push_array};
+use pgraph::Site;
+use pns_problem::Problem;
+use pns_tables::{kind_word, materials_in};
+use report_amounts::{cost, material_of, net, price, unit_sum};
+use report_rules::UnitAmount;
+use report_tables::material_limit;
+use std::alloc::{AllocError, Global};
+
+fn kind_member(alloc: Global, problem: &Problem, j: u32) -> Result<Json, AllocError>
+    requires { j < length problem.now.materials }
+    ensures { IfOk result (λ json. json ≡ facts.text_member (codes "kind") (kind_word (material_at problem.now j).kind)) }
+{
+    text_member(alloc, "kind", kind_word(material_of(problem, j).kind))
+}
+
+fn material_json(
+    alloc: Global,
+    problem: &Problem,
+    network: &Network,
+    j: u32,
+) -> Result<Json, AllocError>
+    requires feasible { IsFeasible problem.now network.now }
+    requires material { has (materials_of (net_of problem.now) (has network.now.units)) j ≡ true }
+    requires known { j < length problem.now.materials }
+    ensures { IfOk result (λ json. json ≡ facts.material_json problem.now network.now j) }
+{
+    let name = text_member(alloc, "name", problem.material_name(j))?;
+    let kind = kind_member(alloc, problem, j)?;
+    let amount = unit_sum(UnitAmount::Made(j), problem, network);
+    let made = number_member(alloc, "made", &amount)?;
+    let amount = unit_sum(UnitAmount::Used(j), problem, network);
+    let used = number_member(alloc, "used", &amount)?;
+    let left = number_member(alloc, "net", &net(problem, network, j))?;
+    let limit = limit_member(alloc, material_limit(problem, network, j))?;
+    let money = number_member(alloc, "price", &price(problem, j))?;
+    let paid = number_member(alloc, "cost", &cost(problem, network, j))?;
+    let members = [name, kind, made, used, left, limit, money, paid];
+    let json = Json::object(alloc, &members)?;
+    Ok(json)
+}
+
+fn material_values(
+    alloc: Global,
+    site: &Site<'_>,
+    network: &Network,
+) -> Result<Vec<Json>, AllocError>
+    requires feasible { IsFeasible site.now network.now }
+    ensures { IfOk result (λ values. values.items ≡ map (facts.material_json site.now network.now) (materials_of (net_of site.now) (has network.now.units))) }
+{
+    let mut values = Vec::new(alloc);
+    for j in materials_in(site, network) {
+        values.push(material_json(alloc, site.problem(), network, j)?)?;
+    }
+    Ok(values)
+}
+
+/// Appends the lines of the materials.
+pub(crate) fn push_materials(
+    alloc: Global,
+    text: &mut Vec<u8>,
+    site: &Site<'_>,
+    network: &Network,
+) -> Result<(), AllocError>
+    requires feasible { IsFeasible site.now network.now }
+    ensures { OnOk result (text.new.items ≡ text.old.items ++ printed (facts.material_lines site.now network.now)) }
+{
+    let values = material_values(alloc, site, network)?;
+    push_array(text, "materials", &values)
+}

@@ -1,0 +1,44 @@
+//! The whole object.
+ghost use Rattle.std.specs.Prelude.{◌≡◌, IfOk};
+ghost use Rattle.pns_problem.specs.Printing.{printed};
+ghost use Rattle.tree_rules.specs.Claim.{IsFeasible};
+ghost use Rattle.json_rules.specs.Facts.{fact_lines, bare_lines};
+
+use crate::foot::push_foot;
+use crate::head::push_head;
+use crate::materials::push_materials;
+use crate::units::push_units;
+use branch_tree::Network;
+use json_pieces::{Json, push_comma_lines, push_line};
+use pgraph::Site;
+use std::alloc::{AllocError, Global};
+
+/// The object of a network on its problem, which begins with the members of the head.
+pub fn facts_of(
+    alloc: Global,
+    head: &[Json],
+    site: &Site<'_>,
+    network: &Network,
+) -> Result<Vec<u8>, AllocError>
+    requires feasible { IsFeasible site.now network.now }
+    ensures { IfOk result (λ bytes. bytes.items ≡ printed (fact_lines head.now site.now network.now)) }
+{
+    let mut text = Vec::new(alloc);
+    push_head(alloc, &mut text, head, site, network)?;
+    let problem = site.problem();
+    push_units(alloc, &mut text, problem, network)?;
+    push_materials(alloc, &mut text, site, network)?;
+    push_foot(alloc, &mut text, site, network)?;
+    Ok(text)
+}
+
+/// The object of a claim without a network, which has the members of the head alone.
+pub fn bare_of(alloc: Global, head: &[Json]) -> Result<Vec<u8>, AllocError>
+    ensures { IfOk result (λ bytes. bytes.items ≡ printed (bare_lines head.now)) }
+{
+    let mut text = Vec::new(alloc);
+    push_line(&mut text, b"{")?;
+    push_comma_lines(&mut text, head)?;
+    push_line(&mut text, b"}")?;
+    Ok(text)
+}

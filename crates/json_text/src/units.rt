@@ -1,0 +1,106 @@
+//! The units of a network.
+ghost use Rattle.std.specs.Prelude.{◌≡◌, ◌<◌, ◌++◌, ℕ, true, IfOk, OnOk, map, length, codes};
+ghost use Rattle.number_sets.specs.Sets.{has};
+ghost use Rattle.pns_problem.specs.Printing.{printed};
+ghost use Rattle.json_rules.specs.Json.{member};
+ghost use Rattle.json_rules.specs.Facts as facts;
+
+use crate::members::{limit_member, number_member, text_member};
+use branch_tree::Network;
+use json_pieces::{Json, push_array};
+use pns_problem::Problem;
+use report_amounts::{amount, share_of, size, unit_of};
+use report_rules::UnitAmount;
+use report_tables::{NO_BOUND, unit_limit};
+use std::alloc::{AllocError, Global};
+
+/// The share of the upper bound, where that is above 0 and a bound.
+#[tactic(auto, unfolding(json_rules::specs::Facts::share_json))]
+fn share_json(
+    alloc: Global,
+    problem: &Problem,
+    network: &Network,
+    u: u32,
+) -> Result<Json, AllocError>
+    requires { u < length problem.now.units }
+    ensures { IfOk result (λ json. json ≡ facts.share_json problem.now network.now u) }
+{
+    let upper = unit_of(problem, u).upper;
+    if upper <= 0 || upper == NO_BOUND {
+        Json::null(alloc)
+    } else {
+        Json::number(alloc, share_of(network, u, upper).fraction())
+    }
+}
+
+fn share_member(
+    alloc: Global,
+    problem: &Problem,
+    network: &Network,
+    u: u32,
+) -> Result<Json, AllocError>
+    requires { u < length problem.now.units }
+    ensures { IfOk result (λ json. json ≡ member (codes "share") (facts.share_json problem.now network.now u)) }
+{
+    Json::member(alloc, "share", &share_json(alloc, problem, network, u)?)
+}
+
+fn unit_json(
+    alloc: Global,
+    problem: &Problem,
+    network: &Network,
+    u: u32,
+) -> Result<Json, AllocError>
+    requires { u < length problem.now.units }
+    ensures { IfOk result (λ json. json ≡ facts.unit_json problem.now network.now u) }
+{
+    let name = text_member(alloc, "name", problem.unit_name(u))?;
+    let sized = number_member(alloc, "size", &size(network, u))?;
+    let share = share_member(alloc, problem, network, u)?;
+    let limit = limit_member(alloc, unit_limit(problem, network, u))?;
+    let cost = amount(UnitAmount::Fixed, problem, network, u);
+    let fixed = number_member(alloc, "fixed", &cost)?;
+    let cost = amount(UnitAmount::Proportional, problem, network, u);
+    let proportional = number_member(alloc, "proportional", &cost)?;
+    let cost = amount(UnitAmount::Investment, problem, network, u);
+    let investment = number_member(alloc, "investment", &cost)?;
+    let cost = amount(UnitAmount::Total, problem, network, u);
+    let total = number_member(alloc, "total", &cost)?;
+    let members = [
+        name,
+        sized,
+        share,
+        limit,
+        fixed,
+        proportional,
+        investment,
+        total,
+    ];
+    let json = Json::object(alloc, &members)?;
+    Ok(json)
+}
+
+fn unit_values(alloc: Global, problem: &Problem, network: &Network) -> Result<Vec<Json>, AllocError>
+    requires { (u : ℕ) → has network.now.units u ≡ true → u < length problem.now.units }
+    ensures { IfOk result (λ values. values.items ≡ map (facts.unit_json problem.now network.now) network.now.units) }
+{
+    let mut values = Vec::new(alloc);
+    for u in network.units() {
+        values.push(unit_json(alloc, problem, network, u)?)?;
+    }
+    Ok(values)
+}
+
+/// Appends the lines of the units.
+pub(crate) fn push_units(
+    alloc: Global,
+    text: &mut Vec<u8>,
+    problem: &Problem,
+    network: &Network,
+) -> Result<(), AllocError>
+    requires { (u : ℕ) → has network.now.units u ≡ true → u < length problem.now.units }
+    ensures { OnOk result (text.new.items ≡ text.old.items ++ printed (facts.unit_lines problem.now network.now)) }
+{
+    let values = unit_values(alloc, problem, network)?;
+    push_array(text, "units", &values)
+}

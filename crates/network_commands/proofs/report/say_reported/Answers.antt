@@ -1,0 +1,10 @@
+use Rattle.std.proofs.Common.{subst}
+use Rattle.problem_rules.specs.Problem.{Problem}
+use Rattle.branch_tree.specs.View.{claim_of}
+use Rattle.studio_rules.specs.Report.{ReportWork}
+use Rattle.studio_rules.specs.Ending.{Ends, Tells}
+use Rattle.network_commands.proofs.report.say_reported.Goals as goal
+
+pub returns : goal.returns
+returns g c =
+    subst (λ (p : Problem). Ends (Tells (ReportWork p (claim_of c.args.claim.now) c.args.tree.now)) c.args.out.now c.say_judged.new.out c.say_judged.result) c.of-site.ensures c.say_judged.ensures

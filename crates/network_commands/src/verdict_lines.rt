@@ -1,0 +1,125 @@
+//! What a tree proves, in a line, and the tables of a claimed network behind it.
+ghost use Rattle.std.specs.Prelude.{◌≡◌, ◌++◌, ◌∷◌, [], true, IfOk, OnOk, string_bytes};
+ghost use Rattle.tree_rules.specs.Claim as claims;
+ghost use Rattle.tree_rules.specs.Claim.{ClaimPasses};
+ghost use Rattle.branch_tree.specs.View.{claim_of};
+ghost use Rattle.studio_rules.specs.Lines.{text_of};
+ghost use Rattle.studio_rules.specs.Report.{proved_line, unfinished_line, failing_line, first_line, tables_of, verdict_lines};
+
+use branch_tree::{Claim, Network};
+use pgraph::Site;
+use pns_problem::Problem;
+use refusal_words::why_word;
+use report_rules::Verdict;
+use report_tables::{push_total, report_of};
+use std::alloc::{AllocError, Global};
+use tree_rules::Why;
+
+fn push_least(text: &mut String, problem: &Problem, network: &Network) -> Result<(), AllocError>
+    ensures { OnOk result (string_bytes text.new ≡ string_bytes text.old ++ proved_line problem.now (claims.network network.now)) }
+{
+    text.push_str("PROVED: this network costs ")?;
+    push_total(text, problem, network)?;
+    text.push_str(", and no allowed network costs less")?;
+    Ok(())
+}
+
+fn push_proved(text: &mut String, problem: &Problem, claim: &Claim) -> Result<(), AllocError>
+    ensures { OnOk result (string_bytes text.new ≡ string_bytes text.old ++ proved_line problem.now (claim_of claim.now)) }
+{
+    match claim {
+        Claim::Network(network) => push_least(text, problem, network),
+        Claim::Infeasible | Claim::Unknown => text.push_str("PROVED: no network meets the bounds"),
+    }
+}
+
+fn push_best(text: &mut String, problem: &Problem, network: &Network) -> Result<(), AllocError>
+    ensures { OnOk result (string_bytes text.new ≡ string_bytes text.old ++ unfinished_line problem.now (claims.network network.now)) }
+{
+    text.push_str("NOT FINISHED: best so far ")?;
+    push_total(text, problem, network)?;
+    Ok(())
+}
+
+fn push_none_found(text: &mut String, problem: &Problem) -> Result<(), AllocError>
+    ensures { OnOk result (string_bytes text.new ≡ string_bytes text.old ++ unfinished_line problem.now claims.unknown) }
+{
+    text.push_str("NOT FINISHED: no network found so far")
+}
+
+fn push_unfinished(text: &mut String, problem: &Problem, claim: &Claim) -> Result<(), AllocError>
+    ensures { OnOk result (string_bytes text.new ≡ string_bytes text.old ++ unfinished_line problem.now (claim_of claim.now)) }
+{
+    match claim {
+        Claim::Network(network) => push_best(text, problem, network),
+        Claim::Infeasible | Claim::Unknown => push_none_found(text, problem),
+    }
+}
+
+fn push_failing(text: &mut String, node: u32, why: Why) -> Result<(), AllocError>
+    ensures { OnOk result (string_bytes text.new ≡ string_bytes text.old ++ failing_line node why) }
+{
+    text.push_str("NOT PROVED: node ")?;
+    write!(text, "{node}")?;
+    text.push(' ')?;
+    text.push_str(why_word(why))?;
+    Ok(())
+}
+
+/// Appends what the tree proves.
+fn push_first(
+    text: &mut String,
+    problem: &Problem,
+    claim: &Claim,
+    verdict: Verdict,
+) -> Result<(), AllocError>
+    ensures { OnOk result (string_bytes text.new ≡ string_bytes text.old ++ first_line problem.now (claim_of claim.now) verdict) }
+{
+    match verdict {
+        Verdict::Proved => push_proved(text, problem, claim),
+        Verdict::Unfinished => push_unfinished(text, problem, claim),
+        Verdict::Fails { node, why } => push_failing(text, node, why),
+    }
+}
+
+/// The first line, with its line feed.
+fn first_text(
+    alloc: Global,
+    problem: &Problem,
+    claim: &Claim,
+    verdict: Verdict,
+) -> Result<Vec<u8>, AllocError>
+    ensures { IfOk result (λ bytes. bytes.items ≡ first_line problem.now (claim_of claim.now) verdict ++ 10 ∷ []) }
+{
+    let mut text = String::new(alloc);
+    push_first(&mut text, problem, claim, verdict)?;
+    text.push('\n')?;
+    Ok(text.into_bytes())
+}
+
+/// The tables of the network, where one is claimed.
+fn tables_of(alloc: Global, site: &Site<'_>, claim: &Claim) -> Result<Vec<u8>, AllocError>
+    requires passes { ClaimPasses true site.now (claim_of claim.now) }
+    ensures { IfOk result (λ bytes. bytes.items ≡ text_of (tables_of site.now (claim_of claim.now))) }
+{
+    match claim {
+        Claim::Network(network) => report_of(alloc, site, network),
+        Claim::Infeasible | Claim::Unknown => Ok(Vec::new(alloc)),
+    }
+}
+
+/// What the tree proves, and the tables of a claimed network.
+pub fn verdict_text(
+    alloc: Global,
+    site: &Site<'_>,
+    claim: &Claim,
+    verdict: Verdict,
+) -> Result<Vec<u8>, AllocError>
+    requires passes { ClaimPasses true site.now (claim_of claim.now) }
+    ensures { IfOk result (λ bytes. bytes.items ≡ text_of (verdict_lines site.now (claim_of claim.now) verdict)) }
+{
+    let mut bytes = first_text(alloc, site.problem(), claim, verdict)?;
+    let tables = tables_of(alloc, site, claim)?;
+    bytes.extend_from_slice(&tables)?;
+    Ok(bytes)
+}

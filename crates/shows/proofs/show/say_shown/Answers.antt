@@ -1,0 +1,27 @@
+use Rattle.std.proofs.Common.{sym, subst}
+use Rattle.problem_rules.specs.Problem.{Problem}
+use Rattle.tree_rules.specs.Accepted.{first_node}
+use Rattle.abb_search.specs.Found.{IsFound}
+use Rattle.studio_rules.specs.Ending.{Ends, Tells}
+use Rattle.studio_rules.specs.Show.{ShowWork}
+use Rattle.studio_rules.specs.declared.status.Status.TheVariants.{Memory}
+use Rattle.endings.proofs.Ending.{Ends-map, Tells-map, Tells-memory, only_in}
+use Rattle.shows.specs.Shown.{FoundShows}
+use Rattle.shows.proofs.Shown.{found_shows}
+use Rattle.shows.proofs.show.say_shown.Goals as goal
+
+pub say_found-requires : goal.say_found-requires
+say_found-requires g c =
+    (c.args.budget, subst (λ (p : Problem). IsFound p first_node c.args.budget c.search_all-found.result) (sym c.of-site.ensures) c.search_all-found.ensures)
+
+pub returns-in_default : goal.returns-in_default
+returns-in_default g c =
+    Ends-map _ _ c.args.out.now _ _ (only_in (Tells (ShowWork c.args.budget c.args.problem.now)) Memory _ (Tells-memory (ShowWork c.args.budget c.args.problem.now))) c.say_memory.ensures
+
+pub returns : goal.returns
+returns g c =
+    let p = c.args.problem.now in
+    let f = c.search_all-found.result in
+    Ends-map _ _ c.args.out.now _ _ (Tells-map (FoundShows p f) (ShowWork c.args.budget p)
+    (found_shows c.accepted_is_optimal.ensures p c.is_valid.ensures.valid c.args.budget f c.search_all-found.ensures))
+    (subst (λ (q : Problem). Ends (Tells (FoundShows q f)) c.args.out.now c.say_found.new.out c.say_found.result) c.of-site.ensures c.say_found.ensures)

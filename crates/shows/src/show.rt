@@ -1,0 +1,131 @@
+//! The command `show`.
+ghost use Rattle.std.specs.Prelude.{◌≡◌, ◌≤◌, ◌<◌, ◌^◌, ℕ, List, IfSome, length};
+ghost use Rattle.tree_rules.specs.Accepted.{first_node};
+ghost use Rattle.branch_tree.specs.View.{claim_of, tail_of};
+ghost use Rattle.abb_search.specs.Found.{IsFound};
+ghost use Rattle.studio_rules.specs.Reading.{FileSays};
+ghost use Rattle.studio_rules.specs.Show.{ShowWork, ShownIsProved, CertificateShows};
+ghost use Rattle.studio_rules.specs.Report.{ReportSays};
+ghost use Rattle.studio_rules.specs.Lines.{text_of};
+ghost use Rattle.studio_rules.specs.Solve.{status_of};
+ghost use Rattle.studio_rules.specs.Ending.{Ends, Tells, Only};
+ghost use Rattle.studio_rules.specs.Keeps.{Keeps};
+ghost use Rattle.shows.specs.Shown.{FoundShows};
+
+use crate::stopped::say_stopped;
+use abb_search::Found;
+use branch_tree::{Claim, Tail, Tree};
+use command_files::problem_of;
+use endings::say::{say_memory, say_text};
+use network_commands::verdict_text;
+use pgraph::{Graph, Site};
+use pns_io::{Outputs, Shelf, Sink};
+use pns_problem::Problem;
+use searches::{Certificate, certificate_of, search_all};
+use std::alloc::Global;
+use studio_rules::Status;
+use tree_laws::accepted_is_optimal;
+use verdicts::verdict_of;
+
+/// Says a report with the status of the search, by where that stopped.
+fn say_report<K: Sink, E: Sink>(out: &mut Outputs<K, E>, text: &[u8], tail: &Tail) -> Status
+    ensures { Ends (Only (status_of (tail_of tail.now)) text.now) out.old out.new result }
+{
+    match tail {
+        Tail::Whole => say_text(out, text, Status::Done),
+        Tail::Spent { .. } => say_stopped(out, text, Status::Spent),
+        Tail::Past { .. } => say_stopped(out, text, Status::Past),
+    }
+}
+
+/// What the tree proves of the claim, and the network. The claim of a search passes, so that there is none for want of memory alone.
+fn report_of(alloc: Global, site: &Site<'_>, claim: &Claim, tree: &Tree) -> Option<Vec<u8>>
+    requires few { length tree.now < 2 ^ 32 }
+    ensures { IfSome result (λ bytes. (lines : List (List ℕ)) × ReportSays site.now (claim_of claim.now) tree.now lines × (bytes.items ≡ text_of lines)) }
+{
+    let Ok(verdict) = verdict_of(alloc, site, claim, tree) else {
+        return None;
+    };
+    match verdict_text(alloc, site, claim, verdict) {
+        Ok(text) => Some(text),
+        Err(_) => None,
+    }
+}
+
+/// Says what a search found, for people.
+fn say_certificate<K: Sink, E: Sink>(
+    alloc: Global,
+    out: &mut Outputs<K, E>,
+    site: &Site<'_>,
+    certificate: Certificate,
+) -> Status
+    requires few { length certificate.tree < 2 ^ 32 }
+    ensures { Ends (Tells (CertificateShows site.now certificate)) out.old out.new result }
+{
+    let (claim, tree, tail) = certificate.into_parts();
+    match report_of(alloc, site, &claim, &tree) {
+        Some(text) => say_report(out, &text, &tail),
+        None => say_memory(out),
+    }
+}
+
+/// The same, where there was memory for the search.
+fn say_found<K: Sink, E: Sink>(
+    alloc: Global,
+    out: &mut Outputs<K, E>,
+    site: &Site<'_>,
+    found: Found,
+) -> Status
+    requires { (budget : ℕ) × IsFound site.now first_node budget found }
+    ensures { Ends (Tells (FoundShows site.now found)) out.old out.new result }
+{
+    match certificate_of(found) {
+        Some(certificate) => say_certificate(alloc, out, site, certificate),
+        None => say_memory(out),
+    }
+}
+
+/// Searches the problem, and says what was found.
+fn say_shown<K: Sink, E: Sink>(
+    alloc: Global,
+    out: &mut Outputs<K, E>,
+    problem: &Problem,
+    budget: u64,
+) -> Status
+    requires some { 1 ≤ budget }
+    requires few { budget ≤ 1000000 }
+    ensures { Ends (Tells (ShowWork budget problem.now)) out.old out.new result }
+{
+    let Ok(graph) = Graph::of(alloc, problem) else {
+        return say_memory(out);
+    };
+    problem.is_valid();
+    accepted_is_optimal();
+    let found = search_all(alloc, problem, &graph, budget);
+    let site = Site::of(problem, &graph);
+    say_found(alloc, out, &site, found)
+}
+
+/// What is shown with status 0 is proved.
+pub fn shown_is_proved()
+    ensures { ShownIsProved }
+{}
+
+/// Says for people what the search of the file's problem finds and what its tree proves.
+pub fn show<F: Shelf, K: Sink, E: Sink>(
+    alloc: Global,
+    file: &str,
+    budget: u64,
+    shelf: &mut F,
+    out: &mut Outputs<K, E>,
+) -> Status
+    requires some { 1 ≤ budget }
+    requires few { budget ≤ 1000000 }
+    ensures ends { Ends (FileSays (ShowWork budget) file.now (F.state shelf.old) (F.state shelf.new)) out.old out.new result }
+    ensures keeps { Keeps (F.state shelf.old) (F.state shelf.new) }
+{
+    match problem_of(alloc, shelf, out, file) {
+        Ok(problem) => say_shown(alloc, out, &problem, budget),
+        Err(status) => status,
+    }
+}
