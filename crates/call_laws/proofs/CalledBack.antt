@@ -8,7 +8,7 @@ use Rattle.studio_rules.specs.Lines.{line, text_of}
 use Rattle.studio_rules.specs.Ending.{Ends, Writes}
 use Rattle.endings.proofs.Ending.{writes_as}
 use Rattle.studio_rules.specs.declared.status.Status.{Status}
-use Rattle.studio_rules.specs.declared.status.Status.TheVariants.{Done, ReadFault}
+use Rattle.studio_rules.specs.declared.status.Status.TheVariants.{Done, ReadFault, TooLong}
 use Rattle.studio_rules.specs.declared.status.Status.TheVariants.{WriteFault, Memory}
 use Rattle.studio_rules.specs.Reading.{AreHeld, OnFile}
 use Rattle.studio_rules.specs.Command.{Command, Editing, Undoing}

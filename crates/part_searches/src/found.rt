@@ -9,11 +9,11 @@ ghost use Rattle.part_searches.specs.Found.{ReadsBack, TextSays, FoundSays};
 ghost use Rattle.studio_rules.specs.Ending.{Ends, Tells};
 
 use abb_search::Found;
-use endings::say::{say_memory, say_printed};
+use endings::say::{say_memory, say_searched};
 use part_text::{print_part, spelled_parts_read};
 use pns_io::{Outputs, Sink};
 use pns_problem::Problem;
-use searches::{Certificate, certificate_of, status_of};
+use searches::{Certificate, certificate_of, claimed, status_of, stopped_notes};
 use std::alloc::Global;
 use studio_rules::Status;
 use tree_parts::Part;
@@ -53,6 +53,7 @@ fn say_part<K: Sink, E: Sink>(
     out: &mut Outputs<K, E>,
     problem: &Problem,
     part: &Part,
+    budget: u64,
 ) -> Status
     requires claim { KnowsClaim problem.now part.now.claim }
     requires tree { KnowsTree problem.now part.now.tree }
@@ -61,7 +62,8 @@ fn say_part<K: Sink, E: Sink>(
     ensures { Ends (Tells (TextSays problem.now part.now)) out.old out.new result }
 {
     let printed = print_part(alloc, problem, part, &mut out.out);
-    say_printed(out, printed, status_of(part.tail()))
+    let notes = stopped_notes(alloc, problem, claimed(part.claim()), part.tail(), budget);
+    say_searched(out, printed, notes.bytes(), status_of(part.tail()))
 }
 
 /// Prints what a search from the node found.
@@ -71,6 +73,7 @@ pub(crate) fn say_found<K: Sink, E: Sink>(
     problem: &Problem,
     start: &Node,
     found: Found,
+    budget: u64,
 ) -> Status
     requires known { AreUnits problem.now start.now.inside
         × AreUnits problem.now start.now.outside }
@@ -82,7 +85,7 @@ pub(crate) fn say_found<K: Sink, E: Sink>(
         Some(certificate) => {
             reads_back(problem, start, &certificate);
             let part = part_of(*start, certificate);
-            say_part(alloc, out, problem, &part)
+            say_part(alloc, out, problem, &part, budget)
         }
         None => say_memory(out),
     }

@@ -46,7 +46,7 @@ fn say_searched<K: Sink, E: Sink>(
     ensures { Ends (Tells (PartSays budget None start.now.inside start.now.outside problem.now)) out.old out.new result }
 {
     let found = search(alloc, problem, graph, *start, budget as u32);
-    say_found(alloc, out, problem, start, found)
+    say_found(alloc, out, problem, start, found, budget)
 }
 
 // Searches them for a network that is cheaper than this one.
@@ -69,7 +69,7 @@ fn say_against<K: Sink, E: Sink>(
     ensures { Ends (Tells (PartSays budget (Some network) start.now.inside start.now.outside problem.now)) out.old out.new result }
 {
     let found = search_against(alloc, problem, graph, *start, budget as u32, network);
-    say_found(alloc, out, problem, start, found)
+    say_found(alloc, out, problem, start, found, budget)
 }
 
 // A network is judged by the lines of the claim, and known to the search; another claim is passed over.

@@ -36,7 +36,7 @@ fn say_ranked<K: Sink, E: Sink>(
     listed_are_least();
     others_are_no_better();
     let ranked = rank_search::rank(alloc, problem, &graph, count as u32, budget as u32);
-    say_found(alloc, out, problem, ranked)
+    say_found(alloc, out, problem, ranked, budget)
 }
 
 /// Says the best networks of the file's problem, as many as are asked for, with the tree that proves it, or how far the search came.

@@ -12,13 +12,13 @@ ghost use Rattle.rank_searches.specs.Found.{ranking_found, RankingSays, FoundSay
 ghost use Rattle.studio_rules.specs.Ending.{Ends, Tells};
 
 use branch_tree::Network;
-use endings::say::{say_memory, say_printed};
+use endings::say::{say_memory, say_searched};
 use pns_io::{Outputs, Sink};
 use pns_problem::Problem;
 use rank_search::Ranked;
 use rank_text::{print_rank, spelled_ranks_read};
 use ranked_tree::{Mark, RankText};
-use searches::{status_of, tail_is_counted};
+use searches::{status_of, stopped_notes, tail_is_counted};
 use std::alloc::Global;
 use studio_rules::Status;
 
@@ -94,6 +94,7 @@ fn say_ranking<K: Sink, E: Sink>(
     out: &mut Outputs<K, E>,
     problem: &Problem,
     text: &RankText,
+    budget: u64,
 ) -> Status
     requires known { KnowsText problem.now text.now }
     requires few { length text.now.tree < 2 ^ 32 }
@@ -101,7 +102,8 @@ fn say_ranking<K: Sink, E: Sink>(
 {
     reads_back(problem, text);
     let printed = print_rank(alloc, problem, text, &mut out.out);
-    say_printed(out, printed, status_of(text.tail()))
+    let notes = stopped_notes(alloc, problem, text.networks().first(), text.tail(), budget);
+    say_searched(out, printed, notes.bytes(), status_of(text.tail()))
 }
 
 /// Prints what was found.
@@ -110,12 +112,13 @@ pub(crate) fn say_found<K: Sink, E: Sink>(
     out: &mut Outputs<K, E>,
     problem: &Problem,
     ranked: Ranked,
+    budget: u64,
 ) -> Status
     requires { (count : ℕ) × (budget : ℕ) × IsRankedTo problem.now count budget ranked }
     ensures { Ends (Tells (FoundSays problem.now ranked)) out.old out.new result }
 {
     match ranking_found(ranked) {
-        Some(text) => say_ranking(alloc, out, problem, &text),
+        Some(text) => say_ranking(alloc, out, problem, &text, budget),
         None => say_memory(out),
     }
 }

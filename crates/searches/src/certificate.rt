@@ -14,7 +14,7 @@ ghost use Rattle.studio_rules.specs.Ending.{Ends, Tells};
 ghost use Rattle.studio_rules.specs.Solve.{status_of};
 ghost use Rattle.searches.specs.Found.{certificate_of, CertificateSays, FoundSays};
 
-use crate::stopped::stopped_notes;
+use crate::stopped::{claimed, stopped_notes};
 use abb_search::Found;
 use branch_tree::{Claim, Network, Tail, Tree};
 use endings::say::{say_memory, say_searched};
@@ -222,7 +222,8 @@ impl Certificate {
             &self.tail,
             &mut out.out,
         );
-        let notes = stopped_notes(alloc, problem, &self.claim, &self.tail, budget);
+        let best = claimed(&self.claim);
+        let notes = stopped_notes(alloc, problem, best, &self.tail, budget);
         say_searched(out, printed, notes.bytes(), status_of(&self.tail))
     }
 }

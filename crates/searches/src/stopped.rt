@@ -2,18 +2,18 @@
 ghost use Rattle.std.specs.Prelude.{◌≡◌};
 
 use branch_tree::{Claim, Network, Tail};
-use decimals::push_quotient;
+use decimals::push_six_digits;
 use messages::{Notes, Stop, not_finished};
 use pns_problem::Problem;
 use std::alloc::{AllocError, Global};
 
-// The cost of the network in one year, with 6 places.
+// The cost of the network in one year, with 6 digits.
 fn cost_of(alloc: Global, problem: &Problem, network: &Network) -> Result<String, AllocError> {
     problem.is_valid();
     network.is_sized();
     let half = 500_000_000_000 * problem.payout().unsigned_abs();
     let mut text = String::new(alloc);
-    push_quotient(&mut text, 6, 1_000_000, half, network.cost(), network.d())?;
+    push_six_digits(&mut text, half, network.cost(), network.d())?;
     Ok(text)
 }
 
@@ -25,23 +25,31 @@ fn stop_of(tail: &Tail, budget: u64) -> Option<Stop> {
     }
 }
 
-/// The second lines of a search with this budget: why it stopped, what its best network costs, and what to do; none where it was
-/// finished.
+/// The network that is claimed, if one is.
+pub fn claimed(claim: &Claim) -> Option<&Network> {
+    match claim {
+        Claim::Network(network) => Some(network),
+        Claim::Infeasible | Claim::Unknown => None,
+    }
+}
+
+/// The second lines of a search with this budget: why it stopped, what its best network costs, and
+/// what to do; none where it was finished.
 pub fn stopped_notes(
     alloc: Global,
     problem: &Problem,
-    claim: &Claim,
+    best: Option<&Network>,
     tail: &Tail,
     budget: u64,
 ) -> Notes {
     let Some(stop) = stop_of(tail, budget) else {
         return Notes::new(alloc);
     };
-    match claim {
-        Claim::Network(network) => match cost_of(alloc, problem, network) {
+    match best {
+        Some(network) => match cost_of(alloc, problem, network) {
             Ok(cost) => not_finished(alloc, stop, Some(cost.as_str())),
             Err(_) => Notes::new(alloc),
         },
-        Claim::Infeasible | Claim::Unknown => not_finished(alloc, stop, None),
+        None => not_finished(alloc, stop, None),
     }
 }

@@ -50,9 +50,9 @@ proved_lines p claim tree Unfinished lines solves is e = absurd (is.0 solves.pro
 proved_lines p claim tree (Fails node why) lines solves is e = absurd (is.0 solves.proved.accepted)
 
 pub shown_is_proved : ShownIsProved
-shown_is_proved budget p lines (c, holds, is, says) = at c.tail is holds
+shown_is_proved budget p lines (c, held, said) = at c.tail said.0 held
   where
     at : (tail : Tail) → Done ≡ status_of tail → Holds budget p c.claim c.tree tail → (claim : Claim) × (tree : Tree) × Solves p claim tree × (lines ≡ proved_line p claim ∷ tables_of p claim)
-    at whole e solves = (c.claim, c.tree, solves, proved_lines p c.claim c.tree says.0 lines solves says.1 says.2)
-    at (spent next options) e holds = absurd cc
-    at (past node nonbasic place) e holds = absurd cc
+    at whole e solves = (c.claim, c.tree, solves, proved_lines p c.claim c.tree said.1.0 lines solves said.1.1 said.1.2)
+    at (spent next options) e spent_so = absurd cc
+    at (past node nonbasic place) e past_so = absurd cc

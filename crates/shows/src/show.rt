@@ -7,6 +7,7 @@ ghost use Rattle.studio_rules.specs.Reading.{FileSays};
 ghost use Rattle.studio_rules.specs.Show.{ShowWork, ShownIsProved, CertificateShows};
 ghost use Rattle.studio_rules.specs.Report.{ReportSays};
 ghost use Rattle.studio_rules.specs.Lines.{text_of};
+ghost use Rattle.studio_rules.specs.Seconds.{AreSeconds};
 ghost use Rattle.studio_rules.specs.Solve.{status_of};
 ghost use Rattle.studio_rules.specs.Ending.{Ends, Tells, Only};
 ghost use Rattle.studio_rules.specs.Keeps.{Keeps};
@@ -21,24 +22,31 @@ use network_commands::verdict_text;
 use pgraph::{Graph, Site};
 use pns_io::{Outputs, Shelf, Sink};
 use pns_problem::Problem;
-use searches::{Certificate, certificate_of, search_all};
+use searches::{Certificate, certificate_of, claimed, search_all, stopped_notes};
 use std::alloc::Global;
 use studio_rules::Status;
 use tree_laws::accepted_is_optimal;
 use verdicts::verdict_of;
 
 /// Says a report with the status of the search, by where that stopped.
-fn say_report<K: Sink, E: Sink>(out: &mut Outputs<K, E>, text: &[u8], tail: &Tail) -> Status
+fn say_report<K: Sink, E: Sink>(
+    out: &mut Outputs<K, E>,
+    text: &[u8],
+    tail: &Tail,
+    notes: &[u8],
+) -> Status
+    requires { AreSeconds notes.now }
     ensures { Ends (Only (status_of (tail_of tail.now)) text.now) out.old out.new result }
 {
     match tail {
         Tail::Whole => say_text(out, text, Status::Done),
-        Tail::Spent { .. } => say_stopped(out, text, Status::Spent),
-        Tail::Past { .. } => say_stopped(out, text, Status::Past),
+        Tail::Spent { .. } => say_stopped(out, text, notes, Status::Spent),
+        Tail::Past { .. } => say_stopped(out, text, notes, Status::Past),
     }
 }
 
-/// What the tree proves of the claim, and the network. The claim of a search passes, so that there is none for want of memory alone.
+/// What the tree proves of the claim, and the network. The claim of a search passes, so that there is
+/// none for want of memory alone.
 fn report_of(alloc: Global, site: &Site<'_>, claim: &Claim, tree: &Tree) -> Option<Vec<u8>>
     requires few { length tree.now < 2 ^ 32 }
     ensures { IfSome result (λ bytes. (lines : List (List ℕ)) × ReportSays site.now (claim_of claim.now) tree.now lines × (bytes.items ≡ text_of lines)) }
@@ -58,13 +66,17 @@ fn say_certificate<K: Sink, E: Sink>(
     out: &mut Outputs<K, E>,
     site: &Site<'_>,
     certificate: Certificate,
+    budget: u64,
 ) -> Status
     requires few { length certificate.tree < 2 ^ 32 }
     ensures { Ends (Tells (CertificateShows site.now certificate)) out.old out.new result }
 {
     let (claim, tree, tail) = certificate.into_parts();
     match report_of(alloc, site, &claim, &tree) {
-        Some(text) => say_report(out, &text, &tail),
+        Some(text) => {
+            let notes = stopped_notes(alloc, site.problem(), claimed(&claim), &tail, budget);
+            say_report(out, &text, &tail, notes.bytes())
+        }
         None => say_memory(out),
     }
 }
@@ -75,12 +87,13 @@ fn say_found<K: Sink, E: Sink>(
     out: &mut Outputs<K, E>,
     site: &Site<'_>,
     found: Found,
+    budget: u64,
 ) -> Status
     requires { (budget : ℕ) × IsFound site.now first_node budget found }
     ensures { Ends (Tells (FoundShows site.now found)) out.old out.new result }
 {
     match certificate_of(found) {
-        Some(certificate) => say_certificate(alloc, out, site, certificate),
+        Some(certificate) => say_certificate(alloc, out, site, certificate, budget),
         None => say_memory(out),
     }
 }
@@ -103,7 +116,7 @@ fn say_shown<K: Sink, E: Sink>(
     accepted_is_optimal();
     let found = search_all(alloc, problem, &graph, budget);
     let site = Site::of(problem, &graph);
-    say_found(alloc, out, &site, found)
+    say_found(alloc, out, &site, found, budget)
 }
 
 /// What is shown with status 0 is proved.

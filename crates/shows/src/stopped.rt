@@ -7,24 +7,19 @@ use endings::say::say_unfinished;
 use pns_io::{Outputs, Sink};
 use studio_rules::Status;
 
-// The second line.
-fn not_finished() -> &'static [u8]
-    ensures { AreSeconds result.now }
-{
-    b"  not finished: see pns help show\n"
-}
-
-/// Puts the text on standard output, and says on standard error that it is not finished.
+/// Puts the text on standard output, and says on standard error why it is not finished.
 pub(crate) fn say_stopped<K: Sink, E: Sink>(
     out: &mut Outputs<K, E>,
     text: &[u8],
+    notes: &[u8],
     status: Status,
 ) -> Status
-    requires { IsUnfinished status }
+    requires unfinished { IsUnfinished status }
+    requires seconds { AreSeconds notes.now }
     ensures { Ends (Only status text.now) out.old out.new result }
 {
     match put_answer(out, text) {
-        Ok(()) => say_unfinished(out, not_finished(), status),
+        Ok(()) => say_unfinished(out, notes, status),
         Err(_) => Status::WriteFault,
     }
 }

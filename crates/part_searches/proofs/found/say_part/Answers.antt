@@ -11,8 +11,8 @@ use Rattle.part_searches.specs.Found.{TextSays}
 use Rattle.part_searches.proofs.Parts.{is_printing}
 use Rattle.part_searches.proofs.found.say_part.Goals as goal
 
-pub say_printed-requires : goal.say_printed-requires
-say_printed-requires g c = is_printing c.args.part.now.tail c.status_of.result (c.status_of.ensures ∙ ap status_of c.tail.ensures)
+pub say_searched-requires-clause-printing : goal.say_searched-requires-clause-printing
+say_searched-requires-clause-printing g c = is_printing c.args.part.now.tail c.status_of.result (c.status_of.ensures ∙ ap status_of c.tail-2.ensures)
 
 pub returns : goal.returns
 returns g c =
@@ -20,9 +20,9 @@ returns g c =
     let part : Part = c.args.part.now in
     let lines = part_text_lines p part in
     let same : c.status_of.result ≡ status_of part.tail =
-    c.status_of.ensures ∙ ap status_of c.tail.ensures in
+    c.status_of.ensures ∙ ap status_of c.tail-2.ensures in
     let out = c.print_part-printed in
-    Ends-from _ _ c.args.out.now _ c.say_printed.new.out _ c.out.view_is
+    Ends-from _ _ c.args.out.now _ c.say_searched.new.out _ c.out.view_is
     (Tells-map (OneAnswer c.status_of.result lines) (TextSays p part)
     (λ s ls h. (
       h.0 ∙ same,
@@ -30,4 +30,4 @@ returns g c =
       subst (λ (t : List ℕ). PartReads p t (Ok part))
           (spelled_text lines ∙ ap text_of (sym h.1)) c.requires.reads,
     )))
-    (c.say_printed.ensures lines _ refl out.ensures.later out.ensures.prints)
+    (c.say_searched.ensures lines _ refl out.ensures.later out.ensures.prints)

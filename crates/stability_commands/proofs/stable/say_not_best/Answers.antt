@@ -1,6 +1,6 @@
 use Rattle.std.proofs.Common.{refl}
 use Rattle.io_rules.specs.State.{OutputsState}
-use Rattle.studio_rules.specs.declared.status.Status.TheVariants.{NotBest}
+use Rattle.studio_rules.specs.declared.status.Status.TheVariants.{NotBest, WriteFault}
 use Rattle.studio_rules.specs.Printed.{OneAnswer}
 use Rattle.studio_rules.specs.Ending.{Tells}
 use Rattle.endings.proofs.Ending.{Ends-from}
@@ -15,7 +15,7 @@ returns-in-Ok g c =
     let says = Tells (OneAnswer NotBest lines) in
     let seen : OutputsState = record { out = g.K.Sink.state c.out.inside.out; err = g.E.Sink.state c.out.inside.err } in
     let new : OutputsState = record { out = g.K.Sink.state c.print_not_best.new.out; err = g.E.Sink.state c.out.inside.err } in
-    Ends-from says says c.args.out.now _ new _ c.out.view_is (λ s t h. h) (not_best_whole lines seen new refl c.in-Ok.ensures.prints)
+    Ends-from says says c.args.out.now _ new NotBest c.out.view_is (λ s t h. h) (not_best_whole lines seen new refl c.in-Ok.ensures.prints)
 
 pub returns-in-Err-WriteFault : goal.returns-in-Err-WriteFault
 returns-in-Err-WriteFault g c =
@@ -23,7 +23,7 @@ returns-in-Err-WriteFault g c =
     let says = Tells (OneAnswer NotBest lines) in
     let seen : OutputsState = record { out = g.K.Sink.state c.out.inside.out; err = g.E.Sink.state c.out.inside.err } in
     let new : OutputsState = record { out = g.K.Sink.state c.print_not_best.new.out; err = g.E.Sink.state c.out.inside.err } in
-    Ends-from says says c.args.out.now _ new _ c.out.view_is (λ s t h. h) (not_best_front lines seen new refl (rw c.in-Err-WriteFault.field-0-is at c.in-Err-WriteFault.ensures.prints))
+    Ends-from says says c.args.out.now _ new WriteFault c.out.view_is (λ s t h. h) (not_best_front lines seen new refl (rw c.in-Err-WriteFault.field-0-is at c.in-Err-WriteFault.ensures.prints))
 
 pub returns-in-Err-Memory : goal.returns-in-Err-Memory
 returns-in-Err-Memory g c =
