@@ -1,6 +1,7 @@
 """Calls of the program: each writes its files into a folder of its own, and reads the answer."""
 from __future__ import annotations
 
+import json
 import os
 import pathlib
 import shutil
@@ -12,7 +13,7 @@ from typing import Any, Dict, Iterator, List, Mapping, NamedTuple, Optional, Seq
 from . import faults
 from .plant import Plant, decimal_text, name_text
 from .results import (
-    Design, Listing, Network, Period, Range, Ranking, Solution, Structure, Verdict,
+    Design, Listing, Network, Period, Range, Ranking, Report, Solution, Structure, Verdict,
 )
 
 PlantLike = Union[Plant, Mapping[str, Any], str, os.PathLike]
@@ -73,7 +74,7 @@ def call(
 
 
 def _text_of(done: "subprocess.CompletedProcess[bytes]") -> str:
-    """The answer on standard output, and the lines on standard error that are not help for people."""
+    """The answer on standard output, and the lines on standard error that are not for people."""
     lines = done.stderr.decode("utf-8", "replace").splitlines(keepends=True)
     said = "".join(line for line in lines if not line.startswith("  "))
     return done.stdout.decode("utf-8", "replace") + said
@@ -172,7 +173,33 @@ def solve(plant: PlantLike, budget: int = BUDGET, program: Optional[str] = None)
     network = _claimed(answer.lines, own.payout_period)
     if answer.status != 0:
         raise _stopped(answer, network)
-    return Solution(own, network, answer.text)
+    return Solution(own, network, answer.text, program)
+
+
+def report(plant: PlantLike, tree: TreeLike, program: Optional[str] = None) -> Report:
+    """What a tree proves, and the network that it claims in numbers. The tree may come from
+    anywhere, also from a search that was stopped: its text is that of the exception.
+
+    Raises `ClaimRefused` where the network of the claim is none of this plant.
+    """
+    own = as_plant(plant, program)
+    files = {"plant": _plant_bytes(own), "tree": _tree_bytes(tree)}
+    answer = call("json", ["plant", "tree"], files, program)
+    if answer.status == 1:
+        raise faults.ClaimRefused(answer.text.split()[-1])
+    if answer.status != 0:
+        raise _failed("json", answer)
+    return Report.from_json(json.loads(answer.text))
+
+
+def show(plant: PlantLike, budget: int = BUDGET, program: Optional[str] = None) -> str:
+    """The report for people: what is proved, in its first line, and the network in tables. It
+    comes also where the search came to no end; the first line says so."""
+    own = as_plant(plant, program)
+    answer = call("show", ["plant", str(budget)], {"plant": _plant_bytes(own)}, program)
+    if answer.status not in (0, 4, 5):
+        raise _failed("show", answer)
+    return answer.text
 
 
 def check(plant: PlantLike, tree: TreeLike, program: Optional[str] = None) -> Verdict:
