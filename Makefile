@@ -29,13 +29,15 @@ SHARE := $(DESTDIR)$(PREFIX)/share
 BASH := $(SHARE)/bash-completion/completions
 ZSH := $(SHARE)/zsh/site-functions
 FISH := $(SHARE)/fish/vendor_completions.d
+PAGES := README.md CHANGELOG.md CONTRIBUTING.md SECURITY.md CITATION.cff LICENSE-MIT LICENSE-APACHE
 
 install: crates/pns/out/pns
-	install -d $(DESTDIR)$(PREFIX)/bin $(SHARE)/man/man1 $(SHARE)/man/man5 $(SHARE)/doc/pns/docs $(BASH) $(ZSH) $(FISH)
+	install -d $(DESTDIR)$(PREFIX)/bin $(SHARE)/man/man1 $(SHARE)/man/man5 $(SHARE)/doc/pns/docs
+	install -d $(BASH) $(ZSH) $(FISH)
 	install -m 755 crates/pns/out/pns $(DESTDIR)$(PREFIX)/bin/pns
 	install -m 644 docs/pns.1 $(SHARE)/man/man1/pns.1
 	install -m 644 docs/pns.5 $(SHARE)/man/man5/pns.5
-	install -m 644 README.md CHANGELOG.md LICENSE-MIT LICENSE-APACHE $(SHARE)/doc/pns
+	install -m 644 $(PAGES) $(SHARE)/doc/pns
 	install -m 644 crates/pns/data/a.pns $(SHARE)/doc/pns
 	install -m 644 $(wildcard docs/*.md) $(SHARE)/doc/pns/docs
 	cp -R cases extras $(SHARE)/doc/pns
@@ -46,7 +48,8 @@ install: crates/pns/out/pns
 	install -m 644 extras/completions/pns.fish $(FISH)/pns.fish
 
 uninstall:
-	rm -f $(DESTDIR)$(PREFIX)/bin/pns $(SHARE)/man/man1/pns.1 $(SHARE)/man/man5/pns.5 $(BASH)/pns $(ZSH)/_pns $(FISH)/pns.fish
+	rm -f $(DESTDIR)$(PREFIX)/bin/pns $(SHARE)/man/man1/pns.1 $(SHARE)/man/man5/pns.5
+	rm -f $(BASH)/pns $(ZSH)/_pns $(FISH)/pns.fish
 	rm -rf $(SHARE)/doc/pns
 
 dist deb: crates/pns/out/pns
