@@ -1,5 +1,6 @@
-# `make run` prints a least-cost network of the shipped problem with the tree that proves it,
-# `make try` does so without any proof, and `make check` proves and tries everything.
+# `make run` prints a least-cost network of the shipped problem with the tree that proves it, and
+# `make check` proves and tries everything. `make try` runs it without any proof: that takes two or
+# three minutes to build each time, and a run is checked step by step, some 100 times slower.
 # `make install PREFIX=DIR` puts the proved program in place as DIR/bin/pns, with its manual pages,
 # the documents, the plants, the extras and the completions of bash, zsh and fish;
 # `make uninstall PREFIX=DIR` takes them away. `make dist` packs the same tree as a tar.gz, and
@@ -16,7 +17,8 @@ run: crates/pns/out/pns
 	cd crates/pns/data && ../out/pns solve a.pns 100
 
 try:
-	@echo 'Nothing is proved of this run: it is a first look.'
+	@echo 'Nothing is proved of this run: it is a first look. It is built in some minutes,'
+	@echo 'and is some 100 times slower than the proved program, since each step is checked.'
 	cd crates/pns && $(RT) try -- solve data/a.pns 100
 
 crates/pns/out/pns: crates.txt $(SOURCES)
