@@ -28,7 +28,7 @@ from .results import (
 
 __version__ = "0.1.0"
 
-# `list` stands apart, so that `from pns import *` leaves Python's own list as it is
+# `list` is left out, so that `from pns import *` leaves Python's own list as it is
 __all__ = [
     "BadToken", "BudgetSpent", "CallFailed", "ClaimRefused", "Design", "Fault", "Listing",
     "Material", "Network", "NotBest", "NumberPast", "Period", "PlanFault", "Plant", "PlantFault",

@@ -111,7 +111,7 @@ def as_plant(plant: PlantLike, program: Optional[str] = None) -> Plant:
 
 
 def _text(it: str) -> str:
-    """The string itself, where it may be a text: each has several lines."""
+    """The string itself, if it may be a text: each has several lines."""
     if "\n" not in it:
         raise ValueError(f"{it!r} is no text; give a file as a pathlib.Path")
     return it
@@ -161,7 +161,7 @@ def _stopped(
 
 
 def solve(plant: PlantLike, budget: int = BUDGET, program: Optional[str] = None) -> Solution:
-    """A network of least cost, or none where no network has flows, with the tree that proves it.
+    """A network of least cost, or none if no network has flows, with the tree that proves it.
 
     Raises `BudgetSpent` or `NumberPast`, with the cheapest network found, where the search came
     to no end. `budget` is the most nodes that the tree may have.
@@ -194,7 +194,7 @@ def report(plant: PlantLike, tree: TreeLike, program: Optional[str] = None) -> R
 
 def show(plant: PlantLike, budget: int = BUDGET, program: Optional[str] = None) -> str:
     """The report for people: what is proved, in its first line, and the network in tables. It
-    comes also where the search came to no end; the first line says so."""
+    comes even if the search did not finish; the first line says so."""
     own = as_plant(plant, program)
     answer = call("show", ["plant", str(budget)], {"plant": _plant_bytes(own)}, program)
     if answer.status not in (0, 4, 5):
@@ -238,7 +238,7 @@ def rank(
 def list_structures(
     plant: PlantLike, after: str = "start", count: int = 1000, program: Optional[str] = None
 ) -> Listing:
-    """At most `count` allowed solution structures behind the token `after`, in order."""
+    """At most `count` clash-free solution structures after the token `after`, in order."""
     own = as_plant(plant, program)
     words = ["plant", after, str(count)]
     answer = call("list", words, {"plant": _plant_bytes(own)}, program)
@@ -254,7 +254,7 @@ def list_structures(
 def all_structures(
     plant: PlantLike, step: int = 10_000, program: Optional[str] = None
 ) -> Iterator[Structure]:
-    """All allowed solution structures in order, one by one; each call asks for `step` of them."""
+    """All clash-free solution structures in order, one by one; each call asks for `step`."""
     own, after = as_plant(plant, program), "start"
     while True:
         found = list_structures(own, after, step, program)
@@ -297,7 +297,7 @@ def stable(
 
 
 def _end(lines: List[str], years: int) -> Tuple[Fraction, Optional[Network], List[str]]:
-    """One end of a range, with the network behind it, and the lines that are left."""
+    """One end of a range, with the network beyond it, and the lines that are left."""
     value = Fraction(int(lines[0].split()[1]), 10**6)
     if lines[1].endswith("limit"):
         return value, None, lines[2:]
@@ -326,7 +326,7 @@ def periods(
     plant: PlantLike, plan: PlanLike, budget: int = BUDGET, program: Optional[str] = None
 ) -> Optional[Design]:
     """What to build once for several periods, and how to run it in each, at least cost; or None
-    where the plant has no design. `plan` is a list as for `plan_text`, a text, or a path."""
+    if the plant has no design. `plan` is a list as for `plan_text`, a text, or a path."""
     own = as_plant(plant, program)
     text = plan_text(plan) if not isinstance(plan, (str, os.PathLike)) else plan
     files = {"plant": _plant_bytes(own), "plan": _bytes(text)}

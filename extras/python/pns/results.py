@@ -104,7 +104,7 @@ def _row(what: str, values: Mapping[str, Any]) -> Row:
 
 @dataclass(frozen=True)
 class Solution:
-    """What `solve` found: a network of least cost, or None where no network has flows.
+    """What `solve` found: a network of least cost, or None if no network has flows.
 
     `tree` is the text that proves it; `check` judges it. `program` is the one that was called.
     """
@@ -121,7 +121,7 @@ class Solution:
 
     @property
     def cost(self) -> Optional[Fraction]:
-        """The cost in one year, or None where there is no network."""
+        """The cost in one year, or None if there is no network."""
         return None if self.network is None else self.network.cost
 
     @property
@@ -155,7 +155,7 @@ class Solution:
 
 @dataclass(frozen=True)
 class Verdict:
-    """What `check` says of a tree; true where it is accepted.
+    """What `check` says of a tree; true if it is accepted.
 
     A refusal has its `cause` and its place: `node`, from 0 in preorder, or `network`, from 1 in a
     ranking, or neither where the claim itself is refused.
@@ -176,7 +176,7 @@ class Verdict:
 
 @dataclass(frozen=True)
 class Ranking:
-    """The best networks, cheapest first. Where there are fewer than `asked`, no others have
+    """The best networks, cheapest first. If there are fewer than `asked`, no others have
     flows. `text` proves it; `check` judges it."""
 
     plant: Plant = field(repr=False)
@@ -211,7 +211,7 @@ class Ranking:
 
 @dataclass(frozen=True)
 class Structure:
-    """An allowed solution structure: its units, and the token from which a listing goes on."""
+    """A clash-free solution structure: its units, and the token from which a listing goes on."""
 
     token: str
     units: Tuple[str, ...]
@@ -219,8 +219,8 @@ class Structure:
 
 @dataclass(frozen=True)
 class Listing:
-    """Allowed solution structures in order. `more` is the token from which a later call goes on,
-    or None where no structure follows."""
+    """Clash-free solution structures in order. `more` is the token from which a later call goes on,
+    or None if no structure follows."""
 
     structures: Tuple[Structure, ...]
     more: Optional[str]
