@@ -1,18 +1,22 @@
 #!/bin/sh
-# Solves a problem in parts on a cluster with Slurm and a shared folder: the rounds of `pns-parts`, each one job array.
+# Solves a problem in parts on a cluster with Slurm and a shared folder: the rounds of `pns-parts`,
+# each one job array.
 #
 #   pns-parts.slurm FILE BUDGET [-j JOBS] [-d FOLDER] [-- WORDS FOR SBATCH]
 #
-# FILE, BUDGET and FOLDER are those of pns-parts, which lies beside this script; JOBS is how many parts of a round may run at a time (all,
-# if left out). The words behind `--` go to each sbatch, as `-- -p short --mem=2G`. All names are taken from where the call is made, and
-# have to mean the same on each node. PNS names the program, if not `pns`.
+# FILE, BUDGET and FOLDER are those of pns-parts, which lies beside this script; JOBS is how many
+# parts of a round may run at a time (all, if left out). The words after `--` go to each sbatch, as
+# `-- -p short --mem=2G`. All names are taken from where the call is made, and have to mean the same
+# on each node. PNS names the program, if not `pns`.
 #
-# The call hands in one job and ends. That job makes the first search or puts the parts of the last round back, splits the tree, and hands
-# in the next round: an array with a task for each part, and behind it, by --dependency=afterok, the same job again. When no leaf is open
-# it judges the tree: FOLDER/answer has the claim and `accepted`, and FOLDER/log what each job said.
+# The call hands in one job and ends. That job makes the first search or puts the parts of the last
+# round back, splits the tree, and hands in the next round: an array with a task for each part, and
+# after it, by --dependency=afterok, the same job again. When no leaf is open it judges the tree:
+# FOLDER/answer has the claim and `accepted`, and FOLDER/log what each job said.
 #
-# A task tries its part three times. Where one fails even so, or its node is lost and Slurm doesn't requeue it, the job behind the array is
-# dropped (--kill-on-invalid-dep); the same call again goes on from what is in FOLDER.
+# A task tries its part three times. If one fails even so, or its node is lost and Slurm doesn't
+# requeue it, the job after the array is dropped (--kill-on-invalid-dep); the same call again goes
+# on from what is in FOLDER.
 set -u
 
 fail() {
@@ -24,10 +28,11 @@ least() {
     if [ "$1" -lt "$2" ]; then echo "$1"; else echo "$2"; fi
 }
 
-# Hands in the job of a round, behind the array of the last one if there is one.
+# Hands in the job of a round, after the array of the last one if there is one.
 # next_round ROUND BUDGET [ARRAY]
 next_round() {
-    sbatch --parsable -J pns-round -o "$folder/log/round-$1" ${3:+--dependency=afterok:$3} --kill-on-invalid-dep=yes $words \
+    sbatch --parsable -J pns-round -o "$folder/log/round-$1" ${3:+--dependency=afterok:$3} \
+        --kill-on-invalid-dep=yes $words \
         "$self" --round "$self" "$file" "$most" "$folder" "$jobs" "$1" "$2" "$words"
 }
 
@@ -73,16 +78,19 @@ case $step in
     fi
     last=$(cat "$folder/budget" 2> /dev/null || echo 0)
     echo "$budget" > "$folder/budget"
-    [ "$last" -eq "$most" ] && cmp -s "$folder/before" "$folder/open" && fail 'no open leaf can be branched with this BUDGET' 4
+    [ "$last" -eq "$most" ] && cmp -s "$folder/before" "$folder/open" &&
+        fail 'no open leaf can be branched with this BUDGET' 4
     count=$(wc -l < "$folder/list")
-    array=$(sbatch --parsable -J pns-part -o "$folder/log/part-$round-%a" --array="1-$count%$(least "$jobs" "$count")" $words \
+    array=$(sbatch --parsable -J pns-part -o "$folder/log/part-$round-%a" \
+        --array="1-$count%$(least "$jobs" "$count")" $words \
         "$self" --task "$self" "$file" "$most" "$folder" "$budget") || fail 'sbatch'
     next_round $((round + 1)) "$(least $((budget * 8)) "$most")" "$array" || fail 'sbatch'
     exit 0
     ;;
 esac
 
-[ $# -ge 2 ] || fail 'usage: pns-parts.slurm FILE BUDGET [-j JOBS] [-d FOLDER] [-- WORDS FOR SBATCH]' 2
+usage='usage: pns-parts.slurm FILE BUDGET [-j JOBS] [-d FOLDER] [-- WORDS FOR SBATCH]'
+[ $# -ge 2 ] || fail "$usage" 2
 self=$(realpath "$0")
 file=$(realpath "$1")
 most=$2

@@ -1,5 +1,5 @@
-"""The plants of cases/, read from their texts apart from `pns`. Every plant there keeps to the plain forms of docs/FORMATS.md: no byte order mark, one blank
-at each `+` and `=>`, no exponents."""
+"""The plants of cases/, read from their texts apart from `pns`. Every plant there keeps to the
+plain forms of docs/FORMATS.md: no byte order mark, one blank at each `+` and `=>`, no exponents."""
 import os
 from fractions import Fraction
 
@@ -7,8 +7,14 @@ TOP = os.path.dirname(os.path.dirname(os.path.dirname(os.path.abspath(__file__))
 CASES = os.path.join(TOP, "cases")
 MOST = Fraction(10**9)
 MATERIAL_KEYS = {"price": 0, "flow_rate_lower_bound": 0, "flow_rate_upper_bound": MOST}
-UNIT_KEYS = {"capacity_lower_bound": 0, "capacity_upper_bound": MOST, "fix_cost": 0, "proportional_cost": 0,
-             "investment_fix_cost": 0, "investment_proportional_cost": 0}
+UNIT_KEYS = {
+    "capacity_lower_bound": 0,
+    "capacity_upper_bound": MOST,
+    "fix_cost": 0,
+    "proportional_cost": 0,
+    "investment_fix_cost": 0,
+    "investment_proportional_cost": 0,
+}
 
 
 class Material:
@@ -21,7 +27,10 @@ class Unit:
     def __init__(self, values):
         self.least, self.most = values["capacity_lower_bound"], values["capacity_upper_bound"]
         self.fixed, self.proportional = values["fix_cost"], values["proportional_cost"]
-        self.built, self.built_size = values["investment_fix_cost"], values["investment_proportional_cost"]
+        self.built, self.built_size = (
+            values["investment_fix_cost"],
+            values["investment_proportional_cost"],
+        )
         self.inputs, self.outputs = {}, {}
 
     def rate(self, material):
@@ -45,15 +54,25 @@ class Plant:
         self.payout = Fraction(defaults.get("payout_period", 1))
         self.materials = {}
         for name, items in map(entry, sections["materials"]):
-            kinds = [it for it in items if "=" not in it] or [defaults.get("material_type", "intermediate")]
-            self.materials[name] = Material(kinds[0], valued(items, MATERIAL_KEYS, defaults, "material_"))
-        self.units = {name: Unit(valued(items, UNIT_KEYS, defaults, "operating_unit_"))
-                      for name, items in map(entry, sections.get("operating_units", []))}
+            kinds = [it for it in items if "=" not in it] or [
+                defaults.get("material_type", "intermediate")
+            ]
+            self.materials[name] = Material(
+                kinds[0], valued(items, MATERIAL_KEYS, defaults, "material_")
+            )
+        self.units = {
+            name: Unit(valued(items, UNIT_KEYS, defaults, "operating_unit_"))
+            for name, items in map(entry, sections.get("operating_units", []))
+        }
         for line in sections["material_to_operating_unit_flow_rates"]:
             name, sides = line.split(":")
-            unit = self.units.setdefault(name.strip(), Unit(valued([], UNIT_KEYS, defaults, "operating_unit_")))
+            unit = self.units.setdefault(
+                name.strip(), Unit(valued([], UNIT_KEYS, defaults, "operating_unit_"))
+            )
             unit.inputs, unit.outputs = (side_of(side) for side in sides.split(" => "))
-        self.exclusions = {name: items for name, items in map(entry, sections.get("mutual_exclusions", []))}
+        self.exclusions = {
+            name: items for name, items in map(entry, sections.get("mutual_exclusions", []))
+        }
         self.periods = periods_of(self.materials, plan)
         self.several = plan is not None
 
@@ -70,10 +89,16 @@ class Plant:
         return [name for name, it in self.materials.items() if it.kind == "product"]
 
     def largest(self, units):
-        """The greatest set of these units that meets the axioms, or none where none does."""
-        units = [name for name in units if not any(self.is_raw(it) for it in self.units[name].outputs)]
+        """The greatest set of these units that meets the axioms, or none if none does."""
+        units = [
+            name for name in units if not any(self.is_raw(it) for it in self.units[name].outputs)
+        ]
         while True:
-            kept = [name for name in units if all(self.is_raw(it) or self.makers(it, units) for it in self.units[name].inputs)]
+            kept = [
+                name
+                for name in units
+                if all(self.is_raw(it) or self.makers(it, units) for it in self.units[name].inputs)
+            ]
             if kept == units:
                 break
             units = kept
@@ -85,7 +110,11 @@ class Plant:
         """Those of the units that lead to a product."""
         wanted, led = set(self.products()), set()
         while True:
-            more = {name for name in units if name not in led and wanted & self.units[name].outputs.keys()}
+            more = {
+                name
+                for name in units
+                if name not in led and wanted & self.units[name].outputs.keys()
+            }
             if not more:
                 return led
             led |= more
@@ -95,7 +124,9 @@ class Plant:
         return all(len(set(members) & set(units)) <= 1 for members in self.exclusions.values())
 
     def touched(self, units):
-        return [name for name in self.materials if any(name in self.units[it].touches() for it in units)]
+        return [
+            name for name in self.materials if any(name in self.units[it].touches() for it in units)
+        ]
 
 
 def entry(line):
@@ -127,15 +158,20 @@ def periods_of(materials, plan):
         elif words and words[0] == "price":
             periods[-1][words[1]] = Fraction(words[2]), periods[-1][words[1]][1]
         elif words:
-            periods[-1][words[1]] = periods[-1][words[1]][0], (Fraction(words[2]), Fraction(words[3]))
+            periods[-1][words[1]] = periods[-1][words[1]][0], (
+                Fraction(words[2]),
+                Fraction(words[3]),
+            )
     return periods
 
 
 def read_plant(case):
-    """The plant of a case, with its plan where it has one."""
+    """The plant of a case, with its plan if it has one."""
     folder = os.path.join(CASES, case)
     plan = os.path.join(folder, "plan")
-    return Plant(text_in(os.path.join(folder, "plant.pns")), text_in(plan) if os.path.exists(plan) else None)
+    return Plant(
+        text_in(os.path.join(folder, "plant.pns")), text_in(plan) if os.path.exists(plan) else None
+    )
 
 
 def text_in(path):

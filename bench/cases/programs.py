@@ -1,12 +1,14 @@
-"""Plants as programs: the program of the sizes where the units that run in each period are settled, with its least cost in fractions by a simplex
-method of its own, and the mixed-integer model of a plant, with the text of it that glpsol and cbc read. Nothing here asks `pns`."""
+"""Plants as programs: the program of the sizes when the units that run in each period are settled,
+with its least cost in fractions by a simplex method of its own, and the mixed-integer model of a
+plant, with the text of it that glpsol and cbc read. Nothing here asks `pns`."""
 from fractions import Fraction
 
 from plants import MOST
 
 
 class Program:
-    """Least cost over columns of at least 0, by rows `low <= sum <= high`; costs and rows are by names of columns."""
+    """Least cost over columns of at least 0, by rows `low <= sum <= high`; costs and rows are by
+    names of columns."""
 
     def __init__(self):
         self.cost, self.rows, self.yes, self.fixed = {}, [], [], Fraction(0)
@@ -21,7 +23,10 @@ class Program:
 def yearly(plant, name):
     """What a unit costs in a year: when it is there, and for each of its size."""
     unit = plant.units[name]
-    return unit.fixed + unit.built / plant.payout, unit.proportional + unit.built_size / plant.payout
+    return (
+        unit.fixed + unit.built / plant.payout,
+        unit.proportional + unit.built_size / plant.payout,
+    )
 
 
 def range_of(plant, material, period):
@@ -30,7 +35,7 @@ def range_of(plant, material, period):
 
 
 def sizes_program(plant, runs):
-    """The program of the sizes where the units that run in each period are settled."""
+    """The program of the sizes when the units that run in each period are settled."""
     program = Program()
     built = [name for name in plant.units if any(name in units for units in runs)]
     for name in built:
@@ -39,8 +44,10 @@ def sizes_program(plant, runs):
         program.pay(("size", name), slope)
         program.add({("size", name): 1}, unit.least, unit.most)
     for period, units in enumerate(runs):
+
         def column(name):
             return ("run", name, period) if plant.several else ("size", name)
+
         for name in units:
             if plant.several:
                 program.add({column(name): 1, ("size", name): -1}, None, Fraction(0))
@@ -54,7 +61,8 @@ def sizes_program(plant, runs):
 
 
 def least(program):
-    """The least cost and the columns of such a program in fractions, by the simplex method with the rule of the first index; or none."""
+    """The least cost and the columns of such a program in fractions, by the simplex method with the
+    rule of the first index; or none."""
     columns = sorted({key for row, _, _ in program.rows for key in row} | set(program.cost))
     place = {key: k for k, key in enumerate(columns)}
     table, basis, width = [], [], len(columns)
@@ -82,7 +90,9 @@ def least(program):
         table.append(line)
         basis.append(own)
     first = [Fraction(k >= width + slacks) for k in range(total)] + [Fraction(0)]
-    second = [program.cost.get(key, Fraction(0)) for key in columns] + [Fraction(0)] * (total + 1 - width)
+    second = [program.cost.get(key, Fraction(0)) for key in columns] + [Fraction(0)] * (
+        total + 1 - width
+    )
     if -walk(table, basis, first, total) > 0:
         return None
     drop_artificial(table, basis, width + slacks)
@@ -105,7 +115,8 @@ def drop_artificial(table, basis, real):
 
 
 def walk(table, basis, cost, usable):
-    """Goes to the end for this cost row and returns its last entry, the cost with the other sign."""
+    """Goes to the end for this cost row and returns its last entry, the cost with the other
+    sign."""
     cost = list(cost)
     for line, column in zip(table, basis):
         if cost[column]:
@@ -115,7 +126,11 @@ def walk(table, basis, cost, usable):
         column = next((k for k in range(usable) if cost[k] < 0), None)
         if column is None:
             return cost[-1]
-        rows = [(line[-1] / line[column], basis[k], k) for k, line in enumerate(table) if line[column] > 0]
+        rows = [
+            (line[-1] / line[column], basis[k], k)
+            for k, line in enumerate(table)
+            if line[column] > 0
+        ]
         if not rows:
             raise ArithmeticError("no least cost")
         cost = pivot(table, basis, cost, min(rows)[2], column)
@@ -135,7 +150,7 @@ def pivot(table, basis, cost, number, column):
 
 
 def choices(plant, maximal):
-    """Every set of units of the maximal structure that meets the axioms and the exclusions."""
+    """Every set of units of the maximal structure that has all axioms and no exclusion clash."""
     for mask in range(1, 1 << len(maximal)):
         units = [name for k, name in enumerate(maximal) if mask >> k & 1]
         if plant.is_allowed(units) and plant.largest(units) == units:
@@ -143,7 +158,8 @@ def choices(plant, maximal):
 
 
 def mixed(plant, maximal, loose, shut):
-    """The model with a yes-or-no column for each unit and period; `loose` and `shut` are rows that were found wanting."""
+    """The model with a yes-or-no column for each unit and period; `loose` and `shut` are rows that
+    were found wanting."""
     program = Program()
     for name in maximal:
         unit, (fixed, slope) = plant.units[name], yearly(plant, name)
@@ -156,7 +172,9 @@ def mixed(plant, maximal, loose, shut):
             runs = {("runs", name, period): Fraction(-1) for period in range(len(plant.periods))}
             program.add({("is", name): 1, **runs}, None, Fraction(0))
     for members in plant.exclusions.values():
-        program.add({("is", name): Fraction(1) for name in members if name in maximal}, None, Fraction(1))
+        program.add(
+            {("is", name): Fraction(1) for name in members if name in maximal}, None, Fraction(1)
+        )
     for period in range(len(plant.periods)):
         add_period(program, plant, maximal, period)
     for row, low in loose + shut:
@@ -185,7 +203,12 @@ def add_period(program, plant, maximal, period):
         if is_product or low <= 0 <= high:
             program.add(row, low if abs(low) < MOST else None, high if abs(high) < MOST else None)
         else:
-            add_where_touched(program, (material, period), [runs(name) for name in maximal if material in plant.units[name].touches()], (row, low, high))
+            add_where_touched(
+                program,
+                (material, period),
+                [runs(name) for name in maximal if material in plant.units[name].touches()],
+                (row, low, high),
+            )
         for key, rate in row.items():
             program.pay(key, -price * rate)
         making = {runs(name): Fraction(1) for name in plant.makers(material, maximal)}
@@ -196,7 +219,7 @@ def add_period(program, plant, maximal, period):
 
 
 def add_where_touched(program, place, touching, bounded):
-    """Bounds that hold only where a unit that touches the material runs."""
+    """Bounds that hold only if a unit that touches the material runs."""
     (row, low, high), here = bounded, ("has", *place)
     program.yes.append(here)
     for runs in touching:
@@ -210,12 +233,25 @@ def add_where_touched(program, place, touching, bounded):
 
 def text_of(program):
     """The program in the form that both solvers read."""
-    columns = sorted({key for row, _, _ in program.rows for key in row} | set(program.cost) | set(program.yes))
+    columns = sorted(
+        {key for row, _, _ in program.rows for key in row} | set(program.cost) | set(program.yes)
+    )
     named = {key: f"c{k}" for k, key in enumerate(columns)}
 
     def total(row):
-        return " ".join(f"{'+' if value >= 0 else '-'} {decimal(abs(value))} {named[key]}" for key, value in row.items()) or f"0 {named[columns[0]]}"
-    lines = ["Minimize", " cost: " + total({key: value for key, value in program.cost.items() if value}), "Subject To"]
+        return (
+            " ".join(
+                f"{'+' if value >= 0 else '-'} {decimal(abs(value))} {named[key]}"
+                for key, value in row.items()
+            )
+            or f"0 {named[columns[0]]}"
+        )
+
+    lines = [
+        "Minimize",
+        " cost: " + total({key: value for key, value in program.cost.items() if value}),
+        "Subject To",
+    ]
     for row, low, high in program.rows:
         if row and low is not None:
             lines.append(f" r{len(lines)}: {total(row)} >= {decimal(low)}")

@@ -1,4 +1,5 @@
-"""What the benches of ranges share: a plant as a text, the network of a text of `solve`, its cost with another value of one price or cost, and calls of `pns`."""
+"""What the benches of ranges share: a plant as a text, the network of a text of `solve`, its cost
+with another value of one price or cost, and calls of `pns`."""
 import os
 import resource
 import subprocess
@@ -48,14 +49,19 @@ class Network:
         words = {line.split(" ")[0]: line.split(" ")[1:] for line in lines}
         self.units = words["network"]
         d = int(words["sizes"][0])
-        self.sizes = {name: Fraction(int(z), d * MILLION) for name, z in zip(self.units, words["sizes"][1:])}
+        self.sizes = {
+            name: Fraction(int(z), d * MILLION) for name, z in zip(self.units, words["sizes"][1:])
+        }
         self.cost = Fraction(int(words["cost"][0]), d * MILLION**3) / payout
 
     def left(self, plant, material):
-        return sum((plant.units[name].rate(material) * size for name, size in self.sizes.items()), Fraction(0))
+        return sum(
+            (plant.units[name].rate(material) * size for name, size in self.sizes.items()),
+            Fraction(0),
+        )
 
     def slope(self, plant, kind, name):
-        """What it costs more, in money a year, where the value is 1 more."""
+        """What it costs more, in money a year, if the value is 1 more."""
         if kind == "price":
             return -self.left(plant, name)
         if kind == "fix":
@@ -65,7 +71,7 @@ class Network:
 
 def network_of(text, payout):
     lines = text.splitlines()
-    lines = lines[next(k for k, line in enumerate(lines) if line.startswith("network")):][:3]
+    lines = lines[next(k for k, line in enumerate(lines) if line.startswith("network")) :][:3]
     return Network(lines, payout)
 
 
@@ -100,7 +106,9 @@ def amount(millionths):
 
 def with_value(program, path, kind, name, value):
     """The path of the plant with this value, in millionths, in the spot."""
-    script = program.file("script", f"file_type=PNS_edits_v1\n{WORDS[kind]} {name} {amount(value)}\n")
+    script = program.file(
+        "script", f"file_type=PNS_edits_v1\n{WORDS[kind]} {name} {amount(value)}\n"
+    )
     status, text = program.call("edit", path, script)
     assert status == 0, text
     return program.file("edited.pns", text)
@@ -114,7 +122,11 @@ class Range:
         above = next(k for k, line in enumerate(lines) if line.startswith("to "))
         self.start, self.end = int(lines[0].split(" ")[1]), int(lines[above].split(" ")[1])
         self.below = None if lines[1] == "below limit" else Network(lines[2:5], payout)
-        self.above = None if lines[above + 1] == "above limit" else Network(lines[above + 2:above + 5], payout)
+        self.above = (
+            None
+            if lines[above + 1] == "above limit"
+            else Network(lines[above + 2 : above + 5], payout)
+        )
 
 
 def program_from(words, bench):
@@ -125,4 +137,18 @@ def program_from(words, bench):
     return Program(path)
 
 
-__all__ = ["LIMIT", "MILLION", "Network", "Plant", "Program", "Range", "amount", "least_value", "network_of", "program_from", "slopes", "value_now", "with_value"]
+__all__ = [
+    "LIMIT",
+    "MILLION",
+    "Network",
+    "Plant",
+    "Program",
+    "Range",
+    "amount",
+    "least_value",
+    "network_of",
+    "program_from",
+    "slopes",
+    "value_now",
+    "with_value",
+]

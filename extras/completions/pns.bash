@@ -5,15 +5,19 @@ _pns_words() {
 # Files; of a kind, those that end so and the folders come alone, if there are any.
 _pns_files() {
     compopt -o filenames 2> /dev/null
-    mapfile -t COMPREPLY < <(compgen -f -X "${1:+!*.$1}" -- "$word"; [ -n "$1" ] && compgen -d -- "$word")
+    mapfile -t COMPREPLY < <(
+        compgen -f -X "${1:+!*.$1}" -- "$word"
+        [ -n "$1" ] && compgen -d -- "$word"
+    )
     [ ${#COMPREPLY[@]} -gt 0 ] || mapfile -t COMPREPLY < <(compgen -f -- "$word")
 }
-# The names of the plant's units, behind the last comma.
+# The names of the plant's units, after the last comma.
 _pns_units() {
-    local front=
+    local front= names=
     case $word in *,*) front=${word%,*}, ;; esac
     compopt -o nospace 2> /dev/null
-    mapfile -t COMPREPLY < <(compgen -P "$front" -W "$(awk -F: '/^[ \t]*[a-z_]+[ \t]*:[ \t\r]*$/ { part = $1; gsub(/[ \t]/, "", part); next } part ~ /^(operating_units|material_to_operating_unit_flow_rates)$/ { gsub(/[ \t\r]/, "", $1); if ($1 != "" && !seen[$1]++) print $1 }' "${COMP_WORDS[2]}" 2> /dev/null)" -- "${word##*,}")
+    names=$(awk -F: '/^[ \t]*[a-z_]+[ \t]*:[ \t\r]*$/ { part = $1; gsub(/[ \t]/, "", part); next } part ~ /^(operating_units|material_to_operating_unit_flow_rates)$/ { gsub(/[ \t\r]/, "", $1); if ($1 != "" && !seen[$1]++) print $1 }' "${COMP_WORDS[2]}" 2> /dev/null)
+    mapfile -t COMPREPLY < <(compgen -P "$front" -W "$names" -- "${word##*,}")
 }
 _pns() {
     local word=${COMP_WORDS[COMP_CWORD]}

@@ -4,7 +4,7 @@
     python3 examples/carbon_price.py [PLANT]
 
 PLANT is cases/carbon/plant.pns of the repository, if left out: CO2 is left over there, at a price
-below 0 in thousand EUR a ton. The script begins at a free ton and makes it dearer: `stable` tells
+below 0 in thousand EUR a ton. The script begins at a free ton and makes it dearer: `stable` prints
 how far the cheapest network stays so, and one millionth beyond, another one is solved for.
 """
 import pathlib

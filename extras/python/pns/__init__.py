@@ -14,7 +14,7 @@ a `PnsError`; a fault of a text has its line and its kind.
 """
 from .calls import (
     all_structures, call, canonical_text, check, find_program, list_structures, periods, plan_text,
-    rank, solve, stable,
+    rank, report, show, solve, stable,
 )
 from .calls import list_structures as list  # noqa: A004, by the name of the command
 from .faults import (
@@ -23,17 +23,17 @@ from .faults import (
 )
 from .plant import Material, Plant, Unit
 from .results import (
-    Design, Listing, Network, Period, Range, Ranking, Solution, Structure, Verdict, frame,
+    Design, Listing, Network, Period, Range, Ranking, Report, Solution, Structure, Verdict, frame,
 )
 
 __version__ = "0.1.0"
 
-# `list` stands apart, so that `from pns import *` leaves Python's own list as it is
+# `list` is left out, so that `from pns import *` leaves Python's own list as it is
 __all__ = [
     "BadToken", "BudgetSpent", "CallFailed", "ClaimRefused", "Design", "Fault", "Listing",
     "Material", "Network", "NotBest", "NumberPast", "Period", "PlanFault", "Plant", "PlantFault",
-    "PnsError", "ProgramMissing", "Range", "Ranking", "SearchStopped", "Solution", "Structure",
-    "TreeFault", "Unit", "UnknownName", "Verdict", "all_structures", "call", "canonical_text",
-    "check", "find_program", "frame", "list_structures", "periods", "plan_text", "rank", "solve",
-    "stable",
+    "PnsError", "ProgramMissing", "Range", "Ranking", "Report", "SearchStopped", "Solution",
+    "Structure", "TreeFault", "Unit", "UnknownName", "Verdict", "all_structures", "call",
+    "canonical_text", "check", "find_program", "frame", "list_structures", "periods", "plan_text",
+    "rank", "report", "show", "solve", "stable",
 ]

@@ -1,6 +1,7 @@
 """Calls of the program: each writes its files into a folder of its own, and reads the answer."""
 from __future__ import annotations
 
+import json
 import os
 import pathlib
 import shutil
@@ -12,7 +13,7 @@ from typing import Any, Dict, Iterator, List, Mapping, NamedTuple, Optional, Seq
 from . import faults
 from .plant import Plant, decimal_text, name_text
 from .results import (
-    Design, Listing, Network, Period, Range, Ranking, Solution, Structure, Verdict,
+    Design, Listing, Network, Period, Range, Ranking, Report, Solution, Structure, Verdict,
 )
 
 PlantLike = Union[Plant, Mapping[str, Any], str, os.PathLike]
@@ -73,7 +74,7 @@ def call(
 
 
 def _text_of(done: "subprocess.CompletedProcess[bytes]") -> str:
-    """The answer on standard output, and the lines on standard error that are not help for people."""
+    """The answer on standard output, and the lines on standard error that are not for people."""
     lines = done.stderr.decode("utf-8", "replace").splitlines(keepends=True)
     said = "".join(line for line in lines if not line.startswith("  "))
     return done.stdout.decode("utf-8", "replace") + said
@@ -110,7 +111,7 @@ def as_plant(plant: PlantLike, program: Optional[str] = None) -> Plant:
 
 
 def _text(it: str) -> str:
-    """The string itself, where it may be a text: each has several lines."""
+    """The string itself, if it may be a text: each has several lines."""
     if "\n" not in it:
         raise ValueError(f"{it!r} is no text; give a file as a pathlib.Path")
     return it
@@ -160,7 +161,7 @@ def _stopped(
 
 
 def solve(plant: PlantLike, budget: int = BUDGET, program: Optional[str] = None) -> Solution:
-    """A network of least cost, or none where no network has flows, with the tree that proves it.
+    """A network of least cost, or none if no network has flows, with the tree that proves it.
 
     Raises `BudgetSpent` or `NumberPast`, with the cheapest network found, where the search came
     to no end. `budget` is the most nodes that the tree may have.
@@ -172,7 +173,33 @@ def solve(plant: PlantLike, budget: int = BUDGET, program: Optional[str] = None)
     network = _claimed(answer.lines, own.payout_period)
     if answer.status != 0:
         raise _stopped(answer, network)
-    return Solution(own, network, answer.text)
+    return Solution(own, network, answer.text, program)
+
+
+def report(plant: PlantLike, tree: TreeLike, program: Optional[str] = None) -> Report:
+    """What a tree proves, and the network that it claims in numbers. The tree may come from
+    anywhere, also from a search that was stopped: its text is that of the exception.
+
+    Raises `ClaimRefused` where the network of the claim is none of this plant.
+    """
+    own = as_plant(plant, program)
+    files = {"plant": _plant_bytes(own), "tree": _tree_bytes(tree)}
+    answer = call("json", ["plant", "tree"], files, program)
+    if answer.status == 1:
+        raise faults.ClaimRefused(answer.text.split()[-1])
+    if answer.status != 0:
+        raise _failed("json", answer)
+    return Report.from_json(json.loads(answer.text))
+
+
+def show(plant: PlantLike, budget: int = BUDGET, program: Optional[str] = None) -> str:
+    """The report for people: what is proved, in its first line, and the network in tables. It
+    comes even if the search did not finish; the first line says so."""
+    own = as_plant(plant, program)
+    answer = call("show", ["plant", str(budget)], {"plant": _plant_bytes(own)}, program)
+    if answer.status not in (0, 4, 5):
+        raise _failed("show", answer)
+    return answer.text
 
 
 def check(plant: PlantLike, tree: TreeLike, program: Optional[str] = None) -> Verdict:
@@ -211,7 +238,7 @@ def rank(
 def list_structures(
     plant: PlantLike, after: str = "start", count: int = 1000, program: Optional[str] = None
 ) -> Listing:
-    """At most `count` allowed solution structures behind the token `after`, in order."""
+    """At most `count` clash-free solution structures after the token `after`, in order."""
     own = as_plant(plant, program)
     words = ["plant", after, str(count)]
     answer = call("list", words, {"plant": _plant_bytes(own)}, program)
@@ -227,7 +254,7 @@ def list_structures(
 def all_structures(
     plant: PlantLike, step: int = 10_000, program: Optional[str] = None
 ) -> Iterator[Structure]:
-    """All allowed solution structures in order, one by one; each call asks for `step` of them."""
+    """All clash-free solution structures in order, one by one; each call asks for `step`."""
     own, after = as_plant(plant, program), "start"
     while True:
         found = list_structures(own, after, step, program)
@@ -270,7 +297,7 @@ def stable(
 
 
 def _end(lines: List[str], years: int) -> Tuple[Fraction, Optional[Network], List[str]]:
-    """One end of a range, with the network behind it, and the lines that are left."""
+    """One end of a range, with the network beyond it, and the lines that are left."""
     value = Fraction(int(lines[0].split()[1]), 10**6)
     if lines[1].endswith("limit"):
         return value, None, lines[2:]
@@ -299,7 +326,7 @@ def periods(
     plant: PlantLike, plan: PlanLike, budget: int = BUDGET, program: Optional[str] = None
 ) -> Optional[Design]:
     """What to build once for several periods, and how to run it in each, at least cost; or None
-    where the plant has no design. `plan` is a list as for `plan_text`, a text, or a path."""
+    if the plant has no design. `plan` is a list as for `plan_text`, a text, or a path."""
     own = as_plant(plant, program)
     text = plan_text(plan) if not isinstance(plan, (str, os.PathLike)) else plan
     files = {"plant": _plant_bytes(own), "plan": _bytes(text)}

@@ -26,7 +26,7 @@ class CallFailed(PnsError):
 
 
 class Fault(PnsError):
-    """A text has a fault; the program tells the first one.
+    """A text has a fault; the program names the first one.
 
     `line` counts from 1, `kind` is a word of the tables in docs/FORMATS.md, and `words` is what
     stands in that line, empty where the line is missing.
@@ -111,7 +111,7 @@ class UnknownName(PnsError):
 
 
 class BadToken(PnsError):
-    """A listing was to go on behind a token of no solution structure."""
+    """A listing was to go on after a token of no solution structure."""
 
     def __init__(self, token: str) -> None:
         super().__init__(f"{token!r} is neither 'start' nor the token of a solution structure")

@@ -33,7 +33,7 @@ def fraction(value: Number) -> Fraction:
 
 
 def decimal_text(value: Number) -> str:
-    """The number as it stands in a text: a whole number of millionths, no zeros behind."""
+    """The number as a text has it: a whole number of millionths, no zeros at the end."""
     exact = fraction(value)
     millionths = exact * 10**6
     if millionths.denominator != 1:
@@ -44,7 +44,7 @@ def decimal_text(value: Number) -> str:
 
 
 def name_text(name: str) -> str:
-    """The name itself, where it is one that a text may have."""
+    """The name itself, if it is one that a text may have."""
     if not isinstance(name, str) or not re.fullmatch(r"[A-Za-z_][A-Za-z0-9_.-]{0,63}", name):
         raise ValueError(
             f"{name!r} is no name: a letter or _, then letters, digits, _, - or ., at most 64"

@@ -1,6 +1,7 @@
 """What the program answers, as values. Sizes are in the units of the file, costs in its money."""
 from __future__ import annotations
 
+import functools
 from dataclasses import dataclass, field
 from fractions import Fraction
 from typing import Any, Dict, Iterator, List, Mapping, Optional, Sequence, Tuple
@@ -43,15 +44,75 @@ class Network:
 
 
 @dataclass(frozen=True)
-class Solution:
-    """What `solve` found: a network of least cost, or None where no network has flows.
+class Report:
+    """What a tree proves, and the network of its claim in numbers, as the program prints them.
 
-    `tree` is the text that proves it; `check` judges it.
+    `verdict` is `proved`, `not finished` or `not proved`; in the last case `node` is the first node
+    that fails, from 0 in preorder, and `why` its cause. `claim` is `network`, `infeasible` or
+    `unknown`. Without a network all that follows is empty. A row is a dictionary, a number in it is
+    a Fraction, or None where it overflows 128 bits. Money is for one year, costs are above 0.
+    """
+
+    verdict: str
+    claim: str
+    node: Optional[int] = None
+    why: Optional[str] = None
+    counts: Mapping[str, int] = field(default_factory=dict)
+    payout_period: int = 1
+    units: Tuple[Row, ...] = ()
+    materials: Tuple[Row, ...] = ()
+    money: Mapping[str, Optional[Fraction]] = field(default_factory=dict)
+    paid_once: Optional[Fraction] = None
+    left_out: Tuple[str, ...] = ()
+
+    @property
+    def proved(self) -> bool:
+        """Whether the tree proves its claim."""
+        return self.verdict == "proved"
+
+    @classmethod
+    def from_json(cls, facts: Mapping[str, Any]) -> Report:
+        """The report of the object that `pns json` prints."""
+        return cls(
+            facts["verdict"], facts["claim"], facts["node"], facts["why"],
+            facts.get("counts", {}), facts.get("payout_period", 1),
+            tuple(_row("unit", it) for it in facts.get("units", ())),
+            tuple(_row("material", it) for it in facts.get("materials", ())),
+            {key: _exact(it) for key, it in facts.get("money", {}).items()},
+            _exact(facts.get("paid_once")), tuple(facts.get("left_out", ())),
+        )
+
+    def unit_table(self, exact: bool = False) -> Any:
+        """`units` as a pandas.DataFrame."""
+        return frame(self.units, exact)
+
+    def material_table(self, exact: bool = False) -> Any:
+        """`materials` as a pandas.DataFrame."""
+        return frame(self.materials, exact)
+
+
+def _exact(value: Any) -> Any:
+    """A number of the object as a Fraction; a word, or what is missing, as it is."""
+    if not isinstance(value, dict):
+        return value
+    return None if value["exact"] is None else Fraction(value["exact"])
+
+
+def _row(what: str, values: Mapping[str, Any]) -> Row:
+    return {what if key == "name" else key: _exact(it) for key, it in values.items()}
+
+
+@dataclass(frozen=True)
+class Solution:
+    """What `solve` found: a network of least cost, or None if no network has flows.
+
+    `tree` is the text that proves it; `check` judges it. `program` is the one that was called.
     """
 
     plant: Plant = field(repr=False)
     network: Optional[Network]
     tree: str = field(repr=False)
+    program: Optional[str] = field(default=None, repr=False, compare=False)
 
     @property
     def infeasible(self) -> bool:
@@ -60,7 +121,7 @@ class Solution:
 
     @property
     def cost(self) -> Optional[Fraction]:
-        """The cost in one year, or None where there is no network."""
+        """The cost in one year, or None if there is no network."""
         return None if self.network is None else self.network.cost
 
     @property
@@ -68,48 +129,33 @@ class Solution:
         """How many nodes the tree has."""
         return sum(line.split(" ", 1)[0] == "node" for line in self.tree.splitlines())
 
+    @functools.cached_property
+    def report(self) -> Report:
+        """What the tree proves and the network in numbers; the program is called for it once."""
+        from .calls import report
+
+        return report(self.plant, self.tree, self.program)
+
     def unit_rows(self) -> List[Row]:
         """A row for each unit of the network: its size and what it costs in one year."""
-        rows = []
-        for name, size in self.network.sizes.items() if self.network else ():
-            unit, years = self.plant.units[name], self.plant.payout_period
-            built = (unit.investment_fix_cost + unit.investment_proportional_cost * size) / years
-            run = unit.proportional_cost * size
-            rows.append({
-                "unit": name, "size": size, "capacity": unit.capacity_upper_bound,
-                "fixed": unit.fix_cost, "proportional": run, "investment": built,
-                "total": unit.fix_cost + run + built,
-            })
-        return rows
+        return [dict(it) for it in self.report.units]
 
     def material_rows(self) -> List[Row]:
         """A row for each material of the network: made, used, left over, and what that costs."""
-        sizes = self.network.sizes if self.network else {}
-        rows = []
-        for name, it in self.plant.materials.items():
-            units = [(self.plant.units[unit], size) for unit, size in sizes.items()]
-            touched = [(u, z) for u, z in units if name in u.inputs or name in u.outputs]
-            made = sum((u.outputs.get(name, Fraction(0)) * z for u, z in touched), Fraction(0))
-            used = sum((u.inputs.get(name, Fraction(0)) * z for u, z in touched), Fraction(0))
-            if touched:
-                rows.append({
-                    "material": name, "kind": it.kind, "made": made, "used": used,
-                    "net": made - used, "price": it.price, "cost": it.price * (used - made),
-                })
-        return rows
+        return [dict(it) for it in self.report.materials]
 
     def unit_table(self, exact: bool = False) -> Any:
         """`unit_rows` as a pandas.DataFrame."""
-        return frame(self.unit_rows(), exact)
+        return self.report.unit_table(exact)
 
     def material_table(self, exact: bool = False) -> Any:
         """`material_rows` as a pandas.DataFrame."""
-        return frame(self.material_rows(), exact)
+        return self.report.material_table(exact)
 
 
 @dataclass(frozen=True)
 class Verdict:
-    """What `check` says of a tree; true where it is accepted.
+    """What `check` says of a tree; true if it is accepted.
 
     A refusal has its `cause` and its place: `node`, from 0 in preorder, or `network`, from 1 in a
     ranking, or neither where the claim itself is refused.
@@ -130,7 +176,7 @@ class Verdict:
 
 @dataclass(frozen=True)
 class Ranking:
-    """The best networks, cheapest first. Where there are fewer than `asked`, no others have
+    """The best networks, cheapest first. If there are fewer than `asked`, no others have
     flows. `text` proves it; `check` judges it."""
 
     plant: Plant = field(repr=False)
@@ -165,7 +211,7 @@ class Ranking:
 
 @dataclass(frozen=True)
 class Structure:
-    """An allowed solution structure: its units, and the token from which a listing goes on."""
+    """A clash-free solution structure: its units, and the token from which a listing goes on."""
 
     token: str
     units: Tuple[str, ...]
@@ -173,8 +219,8 @@ class Structure:
 
 @dataclass(frozen=True)
 class Listing:
-    """Allowed solution structures in order. `more` is the token from which a later call goes on,
-    or None where no structure follows."""
+    """Clash-free solution structures in order. `more` is the token from which a later call goes on,
+    or None if no structure follows."""
 
     structures: Tuple[Structure, ...]
     more: Optional[str]

@@ -119,6 +119,9 @@ class Solving(unittest.TestCase):
         self.assertTrue(none.infeasible)
         self.assertEqual((none.cost, none.unit_rows(), none.material_rows()), (None, [], []))
         self.assertTrue(pns.check(plant, none))
+        self.assertTrue(none.report.proved)
+        self.assertEqual((none.report.claim, none.report.money), ("infeasible", {}))
+        self.assertEqual(pns.show(plant), "PROVED: no network meets the bounds\n")
         self.assertIsNone(pns.periods(plant, [{}, {}]))
         with self.assertRaises(pns.ClaimRefused) as caught:
             pns.stable(plant, none, "price", "A")
@@ -148,6 +151,46 @@ class Solving(unittest.TestCase):
         self.assertEqual(table.loc["U1", "total"], 30.0)
         self.assertEqual(best.unit_table(exact=True)["size"].sum(), Fraction(40))
         self.assertEqual(len(pns.rank(SHIPPED, 3).table()), 3)
+
+
+class Reports(unittest.TestCase):
+    def test_a_proved_network(self):
+        found = pns.report(SHIPPED, pns.solve(SHIPPED))
+        self.assertEqual((found.verdict, found.proved, found.node), ("proved", True, None))
+        self.assertEqual(found.counts["units"], 2)
+        self.assertEqual(found.units[0], {
+            "unit": "U1", "size": 20, "share": Fraction(1, 5), "limit": None, "fixed": 10,
+            "proportional": 20, "investment": 0, "total": 30,
+        })
+        self.assertEqual(found.materials[2]["limit"], "fixed")
+        self.assertEqual((found.money["material_costs"], found.money["total"]), (40, 75))
+        self.assertEqual((found.paid_once, found.left_out), (0, ("U2", "U4", "U5")))
+
+    def test_an_investment(self):
+        best = pns.solve(CASES / "solvent" / "plant.pns")
+        self.assertEqual(best.report.payout_period, 8)
+        self.assertEqual(best.report.paid_once, best.report.money["investment"] * 8)
+        self.assertEqual(best.report.money["total"], best.cost)
+
+    def test_other_verdicts(self):
+        with self.assertRaises(pns.BudgetSpent) as caught:
+            pns.solve(SHIPPED, budget=1)
+        stopped = pns.report(SHIPPED, caught.exception.text)
+        self.assertEqual((stopped.verdict, stopped.claim), ("not finished", "unknown"))
+        tree = pns.solve(SHIPPED).tree
+        wrong = pns.report(SHIPPED, tree.replace("3000000 3000000", "3000000 2999999", 1))
+        self.assertEqual((wrong.verdict, wrong.node, wrong.why), ("not proved", 1, "bound"))
+        with self.assertRaises(pns.ClaimRefused) as caught:
+            pns.report(SHIPPED, tree.replace("cost 75", "cost 74"))
+        self.assertEqual(caught.exception.cause, "cost")
+        self.assertRaises(pns.TreeFault, pns.report, SHIPPED, "no\ntree\n")
+
+    def test_the_text_for_people(self):
+        first, *rest = pns.show(SHIPPED).splitlines()
+        self.assertEqual(first, "PROVED: this network costs 75, and no allowed network costs less")
+        self.assertIn("Units left out: U2 U4 U5", rest)
+        self.assertTrue(pns.show(SHIPPED, budget=1).startswith("NOT FINISHED: "))
+        self.assertRaises(pns.CallFailed, pns.show, SHIPPED, 0)
 
 
 class Others(unittest.TestCase):
