@@ -8,7 +8,7 @@ use Rattle.flow_rules.specs.Net.{beside}
 use Rattle.flow_program.proofs.WalkLemmas.{IsNext, has_next, passed, rest_within}
 use Rattle.charges.proofs.OwnLemmas.{same_all}
 
--- `left` are the numbers of the set from place k on; beside each other the table has its value
+-- `left` are the numbers of the set from place k on; at each other the table has its value
 pub record IsTabled (n : ℕ) (numbers : List ℕ) (values table : List ℤ) (left : List ℕ) (k : ℕ) : Type 0 where
   pub size : length table ≡ n
   pub rest : left ≡ drop k numbers
@@ -36,7 +36,7 @@ above_drop y [] (suc k) x rest h e = let f : [] ≡ x ∷ rest = e in cc
 above_drop y (z ∷ ys) zero x rest h e = let f : z ≡ x = cc in subst (λ w. y < w) f h.0
 above_drop y (z ∷ ys) (suc k) x rest h e = above_drop y ys k x rest h.1 e
 
--- the value at a number's place stands beside it
+-- the value at a number's place is the one beside it
 pub beside_at : (xs : List ℕ) (zs : List ℤ) (k x : ℕ) (rest : List ℕ) → IsRising xs → drop k xs ≡ x ∷ rest → k < length zs → beside xs zs x ≡ get_or zs k (pos 0)
 beside_at [] zs zero x rest h e l = let f : [] ≡ x ∷ rest = e in cc
 beside_at [] zs (suc k) x rest h e l = let f : [] ≡ x ∷ rest = e in cc

@@ -4,17 +4,18 @@
 -- 1 = 0, so with U1 a network costs 60 + 5 + 10 at least, and U1 is left out; with U2 at size 1 or
 -- more it costs 60 + 5 + 1 + 1, so U2 is not larger. What is known then charges the node with 65:
 -- no network costs less, and the tree is one leaf.
-use Rattle.std.proofs.Common.{◌≡◌, ℤ, pos, negsuc, true, false, List, [], ◌∷◌, refl, arith, inl, map}
+use Rattle.std.proofs.Common.{◌≡◌, ℤ, pos, negsuc, true, false, List, [], ◌∷◌, refl, arith, inl, inr, map}
 use Rattle.std.specs.Prelude.{Option, Some}
 use Rattle.number_sets.specs.Sets.{listed}
 use Rattle.pns_rules.specs.Nodes.{Node, sole}
 use Rattle.flow_rules.specs.Net.{Net, net_of}
 use Rattle.charge_rules.specs.Facts.{Facts}
 use Rattle.charge_rules.specs.ChargeSteps.{charge_steps}
+use Rattle.charge_rules.specs.Leaf.{charge_of}
 use Rattle.tree_rules.specs.Claim.{CostOver}
 use Rattle.tree_rules.specs.Leaf.{multiplier}
 use Rattle.tree_rules.specs.Accepted.{first_node}
-use Rattle.head_rules.specs.Charged.{charge_of, IsCharged}
+use Rattle.head_rules.specs.Charged.{handed, IsCharged}
 use Rattle.head_rules.specs.Trim.{MayTrim}
 use Rattle.head_rules.specs.Head.{HeadLine, step, cap, out, trim, Known, known_first, with_in, with_least, after_lines, LinesPass}
 use Rattle.head_rules.proofs.ExampleProblem.{example}
@@ -68,17 +69,17 @@ unfolding listed
 sizes = (refl, refl, refl)
 
 -- the charges of the two lines, and of the node behind them
-charges : (charge_of example (with_in (known five).node 0) (known five).facts (pos 1) prices []
+charges : (charge_of example (with_in (known five).node 0) (known five).facts (handed (pos 1) prices [])
     ≡ pos 75000000000000000000)
     × (charge_of example (with_in (known six).node 1)
-    (with_least (known six).facts 1 (pos 1000000)) (pos 1) prices [] ≡ pos 67000000000000000000)
-    × (charge_of example (known head).node (known head).facts (pos 1) prices []
+    (with_least (known six).facts 1 (pos 1000000)) (handed (pos 1) prices []) ≡ pos 67000000000000000000)
+    × (charge_of example (known head).node (known head).facts (handed (pos 1) prices [])
     ≡ pos 65000000000000000000)
 unfolding listed
 charges = (refl, refl, refl)
 
 -- before the units are trimmed the node is charged less than nothing
-untrimmed : charge_of example (known one).node (known one).facts (pos 1) prices []
+untrimmed : charge_of example (known one).node (known one).facts (handed (pos 1) prices [])
     ≡ negsuc 14999999999999999999
 unfolding listed
 untrimmed = refl
@@ -146,9 +147,9 @@ steps_of n f = charge_steps net n f (pos 1) (multiplier example n prices) []
 out_charged : IsCharged example claimed (with_in (known five).node 0) (known five).facts (pos 1) prices []
 unfolding listed
 out_charged = record {
-  covered = tt;
-  not_negative = at_most _ _ tt;
+  scale = inr (at_most _ _ tt, tt);
   each_row = refl;
+  covered = tt;
   formed = in_range (steps_of (with_in (known five).node 0) (known five).facts) refl;
   reaches = inl (at_most _ _ tt, at_most _ _ tt);
 }
@@ -157,9 +158,9 @@ cap_charged : IsCharged example claimed (with_in (known six).node 1)
     (with_least (known six).facts 1 (pos 1000000)) (pos 1) prices []
 unfolding listed
 cap_charged = record {
-  covered = tt;
-  not_negative = at_most _ _ tt;
+  scale = inr (at_most _ _ tt, tt);
   each_row = refl;
+  covered = tt;
   formed =
       in_range
       (steps_of (with_in (known six).node 1) (with_least (known six).facts 1 (pos 1000000))) refl;
@@ -204,9 +205,9 @@ lines_pass = (
 is_charged : IsCharged example claimed (known head).node (known head).facts (pos 1) prices []
 unfolding listed
 is_charged = record {
-  covered = tt;
-  not_negative = at_most _ _ tt;
+  scale = inr (at_most _ _ tt, tt);
   each_row = refl;
+  covered = tt;
   formed = in_range (steps_of (known head).node (known head).facts) refl;
   reaches = inl (at_most _ _ tt, at_most _ _ tt);
 }

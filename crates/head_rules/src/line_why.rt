@@ -9,7 +9,8 @@ pub enum LineWhy {
     Trim,
     /// A set of units is not one of free units of which each structure of the node has one, or its weight is below 0.
     Cover,
-    /// The scale is below 0, the multipliers are not one for each row, or the charge does not reach what is claimed.
+    /// The scale is below 0, or it counts a cost and none is claimed; the multipliers are not one for each row; or the
+    /// charge does not reach what is claimed.
     Bound,
     /// A number that is formed for the charge is out of range.
     Sum,
