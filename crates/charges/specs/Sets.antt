@@ -20,4 +20,5 @@ AreBesideSmall cs = AllByRecursion IsBesideSmall cs
 
 -- the steps for what one set pays
 abbrev pub cover_steps : (ℕ → ℤ) → rules.Cover → List ℤ
-cover_steps before c = map (λ i. before i +ℤ c.weight) c.units ++ beside_steps before c.weight c.beside
+cover_steps before c =
+    map (λ i. before i +ℤ c.weight) c.units ++ beside_steps before c.weight c.beside

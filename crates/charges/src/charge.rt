@@ -30,7 +30,8 @@ use flow_program::{PastSum, put_rates, sets_of};
 use pgraph::Site;
 use unit_sets::{Node, UnitSet};
 
-/// A charge that is handed in: the multiplier of the cost, one multiplier for each row of the node in rising order, and covers.
+/// A charge that is handed in: the multiplier of the cost, one multiplier for each row of the node
+/// in rising order, and covers.
 #[derive(Clone, Copy, Debug)]
 pub struct Charge<'a> {
     pub d: i128,
@@ -70,10 +71,21 @@ fn with_units(
     requires ground { IsGround (net_of site.now) ground.now }
     requires all_paid { length paid.now ≡ 128 }
     requires room { from.at ≤ 140000000 }
-    ensures value { (covers : List rules.Cover) → ArePaid paid.now covers → IfOk result (λ to. to.sum ≡ from.sum +ℤ total (unit_part (net_of site.now) (node_of ground.now.node) (facts_of ground.now.facts) multipliers.now.d (entry multipliers.now.ys) covers) ground.now.units) }
-    ensures in_range { (covers : List rules.Cover) → ArePaid paid.now covers → OnOk result (AreInRange (units_steps (net_of site.now) (node_of ground.now.node) (facts_of ground.now.facts) multipliers.now.d (entry multipliers.now.ys) covers ground.now.units from.sum)) }
+    ensures value { (covers : List rules.Cover) → ArePaid paid.now covers
+        → IfOk result (λ to. to.sum ≡ from.sum +ℤ total
+        (unit_part (net_of site.now) (node_of ground.now.node) (facts_of ground.now.facts)
+        multipliers.now.d (entry multipliers.now.ys) covers)
+        ground.now.units) }
+    ensures in_range { (covers : List rules.Cover) → ArePaid paid.now covers
+        → OnOk result (AreInRange
+        (units_steps (net_of site.now) (node_of ground.now.node) (facts_of ground.now.facts)
+        multipliers.now.d (entry multipliers.now.ys) covers ground.now.units from.sum)) }
     ensures from_start { IfErr result (λ e. from.at ≤ e.at) }
-    ensures past { (covers : List rules.Cover) → ArePaid paid.now covers → IfErr result (λ e. IsFirstPast (units_steps (net_of site.now) (node_of ground.now.node) (facts_of ground.now.facts) multipliers.now.d (entry multipliers.now.ys) covers ground.now.units from.sum) (e.at - from.at)) }
+    ensures past { (covers : List rules.Cover) → ArePaid paid.now covers
+        → IfErr result (λ e. IsFirstPast
+        (units_steps (net_of site.now) (node_of ground.now.node) (facts_of ground.now.facts)
+        multipliers.now.d (entry multipliers.now.ys) covers ground.now.units from.sum)
+        (e.at - from.at)) }
 {
     let problem = site.problem();
     let graph = site.graph();
@@ -109,9 +121,9 @@ fn with_units(
     Ok(Running { sum, at })
 }
 
-/// The charge of a node, in the measure of costs times `d`; or the number of the first step of its sum that is out of range.
-/// Where `d` is not below 0, all covers cover the node and no weight is below 0, no flows that fit the facts cost less, over
-/// `d`. Takes no memory.
+/// The charge of a node, in the measure of costs times `d`; or the number of the first step of its
+/// sum that overflows. If `d` is not below 0, all covers cover the node and no weight is below 0,
+/// then no flows that fit the facts cost less than the charge over `d`. It takes no memory.
 pub fn charge_of(
     site: &Site<'_>,
     node: &Node,
@@ -119,12 +131,23 @@ pub fn charge_of(
     handed: &Charge<'_>,
 ) -> Result<i128, PastSum>
     requires known { (u : ℕ) → has node.now.inside u ≡ true → u < (shape_of site.now).units }
-    requires multipliers { length handed.now.ys.now ≡ length (rows (net_of site.now) (node_of node.now)) }
+    requires multipliers { length handed.now.ys.now
+        ≡ length (rows (net_of site.now) (node_of node.now)) }
     requires few { length handed.now.covers.now ≤ 1000000 }
     requires beside { AreBesideSmall handed.now.covers.now }
-    ensures value { IfOk result (λ b. b ≡ charge (net_of site.now) (node_of node.now) (facts_of facts.now) handed.now.d (beside (rows (net_of site.now) (node_of node.now)) handed.now.ys.now) (covers_of handed.now.covers.now)) }
-    ensures in_range { OnOk result (AreInRange (charge_steps (net_of site.now) (node_of node.now) (facts_of facts.now) handed.now.d (beside (rows (net_of site.now) (node_of node.now)) handed.now.ys.now) (covers_of handed.now.covers.now))) }
-    ensures past { IfErr result (λ e. IsFirstPast (charge_steps (net_of site.now) (node_of node.now) (facts_of facts.now) handed.now.d (beside (rows (net_of site.now) (node_of node.now)) handed.now.ys.now) (covers_of handed.now.covers.now)) e.at) }
+    ensures value { IfOk result (λ b. b
+        ≡ charge (net_of site.now) (node_of node.now) (facts_of facts.now) handed.now.d
+        (beside (rows (net_of site.now) (node_of node.now)) handed.now.ys.now)
+        (covers_of handed.now.covers.now)) }
+    ensures in_range { OnOk result (AreInRange
+        (charge_steps (net_of site.now) (node_of node.now) (facts_of facts.now) handed.now.d
+        (beside (rows (net_of site.now) (node_of node.now)) handed.now.ys.now)
+        (covers_of handed.now.covers.now))) }
+    ensures past { IfErr result (λ e. IsFirstPast
+        (charge_steps (net_of site.now) (node_of node.now) (facts_of facts.now) handed.now.d
+        (beside (rows (net_of site.now) (node_of node.now)) handed.now.ys.now)
+        (covers_of handed.now.covers.now))
+        e.at) }
 {
     let problem = site.problem();
     let sets = sets_of(site.graph(), node);

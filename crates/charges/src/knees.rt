@@ -11,7 +11,8 @@ use crate::products::quick_product;
 use crate::useful::Useful;
 use unit_sets::MatSet;
 
-/// The outputs of a unit that have knees, with the size of each knee and what the output is worth for each part of the size.
+/// The outputs of a unit that have knees, with the size of each knee, and what the output is worth
+/// for each part of the size.
 #[derive(Drop)]
 pub(crate) struct Knees {
     pub(crate) set: MatSet,
@@ -28,7 +29,7 @@ fn rounded_up(x: i128, y: i64) -> i128
     (x + (y as i128 - 1)) / y as i128
 }
 
-/// What so much of an output is worth, where that is in range.
+/// What so much of an output is worth, if that is in range.
 fn worth_of(y: i128, rate: i64) -> i128
     ensures { InRange (y *ℤ rate) → result ≡ y *ℤ rate }
 {
@@ -52,7 +53,7 @@ pub(crate) fn first_knee(at: &[i128], set: MatSet) -> Option<u32>
     Some(best)
 }
 
-/// The set, with the material where that is asked for.
+/// The set, with the material if that is asked for.
 fn with_where(set: MatSet, j: u32, is_in: bool) -> MatSet
     requires { j < 256 }
     ensures { (v : ℕ) → has result v ≡ (has set v || (is_in && j == v)) }
@@ -71,7 +72,8 @@ fn pays(rate: i64, y: i128) -> bool
 fn paying(set: MatSet, rates: &[i64], ys: &[i128]) -> MatSet
     requires all_rates { length rates.now ≡ 256 }
     requires all_ys { length ys.now ≡ 256 }
-    ensures { (j : ℕ) → has result j ≡ (has set j && (int_lt (pos 0) (entry rates.now j) && int_lt (pos 0) (entry ys.now j))) }
+    ensures { (j : ℕ) → has result j
+        ≡ (has set j && (int_lt (pos 0) (entry rates.now j) && int_lt (pos 0) (entry ys.now j))) }
 {
     let mut found = MatSet::empty();
     for j in set {
@@ -86,8 +88,11 @@ pub(crate) fn knees_of(useful: &Useful, materials: MatSet, rates: &[i64], ys: &[
     requires small { (j : ℕ) → unsigned_abs (entry useful.now.most j) ≤ 10 ^ 37 }
     requires all_rates { length rates.now ≡ 256 }
     requires all_ys { length ys.now ≡ 256 }
-    ensures set { (j : ℕ) → has result.set j ≡ ((has materials j && has useful.now.made j) && (int_lt (pos 0) (entry rates.now j) && int_lt (pos 0) (entry ys.now j))) }
-    ensures knees { (j : ℕ) → has result.set j ≡ true → IsKnee result (entry useful.now.most) (entry rates.now) (entry ys.now) j }
+    ensures set { (j : ℕ) → has result.set j
+        ≡ ((has materials j && has useful.now.made j)
+        && (int_lt (pos 0) (entry rates.now j) && int_lt (pos 0) (entry ys.now j))) }
+    ensures knees { (j : ℕ) → has result.set j ≡ true
+        → IsKnee result (entry useful.now.most) (entry rates.now) (entry ys.now) j }
 {
     let set = paying(materials.meet(useful.made), rates, ys);
     let mut at = [0; 256];

@@ -18,14 +18,15 @@ use flow_program::{NodeSets, rate_at, row_range};
 use pgraph::Site;
 use unit_sets::{MatSet, Node, UnitSet};
 
-/// The materials that may have knees, and what can be used of each of them, with what has to be left over.
+/// The materials that may have knees, and what can be used of each of them, with what has to be
+/// left over.
 #[derive(Drop)]
 pub(crate) struct Useful {
     pub(crate) made: MatSet,
     pub(crate) most: [i128; 256],
 }
 
-/// The rate at which a unit uses a material, where it makes it at this rate.
+/// The rate at which a unit uses a material, if it makes it at this rate.
 fn use_rate_of(rate: i64) -> i64
     requires { unsigned_abs rate ≤ 2000000000000000 }
     ensures value { result ≡ int_max (pos 0) (neg_ℤ rate) }
@@ -65,7 +66,8 @@ fn use_most(site: &Site<'_>, facts: &Facts, u: u32, j: u32) -> i128
 /// What the units of the set can use of the material at most.
 fn set_most(site: &Site<'_>, facts: &Facts, set: UnitSet, j: u32) -> i128
     requires { (u : ℕ) → has set u ≡ true → u < length site.now.units }
-    ensures value { result ≡ total (λ u. use_rate (net_of site.now) j u *ℤ (facts_of facts.now).most u) set }
+    ensures value { result
+        ≡ total (λ u. use_rate (net_of site.now) j u *ℤ (facts_of facts.now).most u) set }
     ensures small { unsigned_abs result ≤ 256 * 10 ^ 34 }
 {
     let mut sum = 0;
@@ -75,11 +77,12 @@ fn set_most(site: &Site<'_>, facts: &Facts, set: UnitSet, j: u32) -> i128
     sum
 }
 
-/// What the units of the node can use of the material at most. Only those that use it are looked at.
+/// What the units of the node can use of the material at most. Only those that use it are read.
 fn users_most(site: &Site<'_>, node: &Node, set: UnitSet, facts: &Facts, j: u32) -> i128
     requires known { j < length site.now.materials }
     requires units { set ≡ units (net_of site.now) (node_of node.now) }
-    ensures value { result ≡ users_most (net_of site.now) (node_of node.now) (facts_of facts.now) j }
+    ensures value { result
+        ≡ users_most (net_of site.now) (node_of node.now) (facts_of facts.now) j }
     ensures small { unsigned_abs result ≤ 256 * 10 ^ 34 }
 {
     site.problem().is_valid();
@@ -99,7 +102,7 @@ fn lesser(a: i128, b: i128) -> i128
     if a < b { a } else { b }
 }
 
-/// The lesser of what is used at most, where that is known, and of what can be used.
+/// The lesser of what is used at most, if that is known, and of what can be used.
 fn at_most(used: Option<i64>, most: i128) -> i128
     requires { unsigned_abs most ≤ 256 * 10 ^ 34 }
     ensures value { result ≡ at_most used most }
@@ -125,7 +128,8 @@ fn both(low: i128, most: i128) -> i128
 fn useful_of(site: &Site<'_>, node: &Node, sets: &NodeSets, facts: &Facts, j: u32) -> i128
     requires known { j < length site.now.materials }
     requires small { j < 256 }
-    requires sets { AreSetsOf (shape_of site.now) (node_of node.now) sets.now.units sets.now.rows sets.now.needed }
+    requires sets { AreSetsOf (shape_of site.now) (node_of node.now)
+        sets.now.units sets.now.rows sets.now.needed }
     ensures value { result ≡ useful (net_of site.now) (node_of node.now) (facts_of facts.now) j }
     ensures small { unsigned_abs result ≤ 10 ^ 37 }
 {
@@ -139,7 +143,8 @@ fn useful_of(site: &Site<'_>, node: &Node, sets: &NodeSets, facts: &Facts, j: u3
 
 /// What can be used of each material that may have a knee: the rows that are no raw materials.
 pub(crate) fn useful_at(site: &Site<'_>, node: &Node, sets: &NodeSets, facts: &Facts) -> Useful
-    requires { AreSetsOf (shape_of site.now) (node_of node.now) sets.now.units sets.now.rows sets.now.needed }
+    requires { AreSetsOf (shape_of site.now) (node_of node.now)
+        sets.now.units sets.now.rows sets.now.needed }
     ensures { AreUseful (net_of site.now) (node_of node.now) (facts_of facts.now) result }
 {
     let made = sets.rows.minus(site.graph().raws());

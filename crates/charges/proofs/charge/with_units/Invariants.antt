@@ -15,5 +15,8 @@ invariant-loop-u l = record {
   within : IsWithin (has l.u-iterator) (has l.fn.ground.units);
   from_start : l.fn.from.at ≤ l.at;
   room : l.at + 1290 * length l.u-iterator ≤ l.fn.from.at + 1290 * length l.fn.ground.units;
-  so_far : (covers : List Cover) → ArePaid l.fn.paid covers → IsChargeSum (net_of l.fn.site) (node_of l.fn.ground.node) (facts_of l.fn.ground.facts) l.fn.multipliers.d (entry l.fn.multipliers.ys) covers l.fn.ground.units l.fn.from.sum l.sum l.fn.from.at l.at l.u-iterator;
+  so_far : (covers : List Cover) → ArePaid l.fn.paid covers
+      → IsChargeSum (net_of l.fn.site) (node_of l.fn.ground.node) (facts_of l.fn.ground.facts)
+      l.fn.multipliers.d (entry l.fn.multipliers.ys) covers l.fn.ground.units l.fn.from.sum l.sum
+      l.fn.from.at l.at l.u-iterator;
 }

@@ -8,5 +8,7 @@ use Rattle.charges.proofs.knees.paying.Given as goal
 abbrev pub invariant-loop-j : goal.invariant-loop-j
 invariant-loop-j l = record {
   is_set : IsSet 256 l.j-iterator;
-  so_far : IsFoundSoFar (λ j. int_lt (pos 0) (entry l.fn.rates j) && int_lt (pos 0) (entry l.fn.ys j)) l.fn.set l.found l.j-iterator;
+  so_far : IsFoundSoFar
+      (λ j. int_lt (pos 0) (entry l.fn.rates j) && int_lt (pos 0) (entry l.fn.ys j)) l.fn.set
+      l.found l.j-iterator;
 }

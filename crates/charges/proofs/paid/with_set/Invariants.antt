@@ -6,5 +6,6 @@ use Rattle.charges.proofs.paid.with_set.Given as goal
 abbrev pub invariant-loop-u : goal.invariant-loop-u
 invariant-loop-u l = record {
   is_set : IsSet 128 l.u-iterator;
-  so_far : IsSetSoFar (entry l.fn.before.to) l.fn.weight l.fn.units l.to l.fn.before.at l.at l.u-iterator;
+  so_far : IsSetSoFar (entry l.fn.before.to) l.fn.weight l.fn.units l.to
+      l.fn.before.at l.at l.u-iterator;
 }

@@ -9,5 +9,6 @@ use Rattle.charges.proofs.useful.set_most.Given as goal
 abbrev pub invariant-loop-u : goal.invariant-loop-u
 invariant-loop-u l = record {
   is_set : IsSet 128 l.u-iterator;
-  so_far : IsUseSum (λ u. use_rate (net_of l.fn.site) l.fn.j u *ℤ (facts_of l.fn.facts).most u) l.fn.set l.sum l.u-iterator;
+  so_far : IsUseSum (λ u. use_rate (net_of l.fn.site) l.fn.j u *ℤ (facts_of l.fn.facts).most u)
+      l.fn.set l.sum l.u-iterator;
 }

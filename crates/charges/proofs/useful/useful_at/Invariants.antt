@@ -9,5 +9,6 @@ use Rattle.charges.proofs.useful.useful_at.Given as goal
 abbrev pub invariant-loop-j : goal.invariant-loop-j
 invariant-loop-j l = record {
   is_set : IsSet 256 l.j-iterator;
-  so_far : IsTableSoFar (useful (net_of l.fn.site) (node_of l.fn.node) (facts_of l.fn.facts)) l.made l.most l.j-iterator;
+  so_far : IsTableSoFar (useful (net_of l.fn.site) (node_of l.fn.node) (facts_of l.fn.facts)) l.made
+      l.most l.j-iterator;
 }
