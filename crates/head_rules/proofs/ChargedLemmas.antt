@@ -41,7 +41,8 @@ too_cheap m k x d c e some_k some_d some_e reach dual below =
     crossed : (p q r s t v : ℤ) → p <ℤ q → r ≤ℤ s → t ≤ℤ v → p ≡ s → v ≡ r → q ≡ t → ⊥
     crossed p q r s t v a b f g h i = omega (arith, ints)
 
-are_covers : (g : Shape) (n : Node) (covers : List Cover) → CoversPass g n covers → AreCovers g n covers
+are_covers : (g : Shape) (n : Node) (covers : List Cover) → CoversPass g n covers
+    → AreCovers g n covers
 are_covers g n [] h = tt
 are_covers g n (c ∷ cs) h = ((h.0.weight, h.0.covers), are_covers g n cs h.1)
 
@@ -53,11 +54,13 @@ pub charged_is_empty : ChargedIsEmpty
 charged_is_empty p valid claimed over n f facts d ys covers charged s between z e under fit =
     at claimed over charged.reaches under.cheaper
   where
-    at : (k : Option CostOver) → IsCost k → ChargeReaches (IsAtLeast k) (charge_of p n f (handed d ys covers)) d
+    at : (k : Option CostOver) → IsCost k
+        → ChargeReaches (IsAtLeast k) (charge_of p n f (handed d ys covers)) d
         → IsBelow k (cost (net_of p) s z e) e → ⊥
     at None o (inl h) b = absurd h.1
     at (Some k) o (inl h) b =
-        too_cheap k.cost k.d (charge_of p n f (handed d ys covers)) d (cost (net_of p) s z e) e o h.0
+        too_cheap k.cost k.d (charge_of p n f (handed d ys covers)) d (cost (net_of p) s z e) e o
+        h.0
         under.flows.positive h.1
         (charge_duality p valid n s between f facts z e under.flows fit covers
         (are_covers (shape_of p) n covers charged.covered) d (not_negative charged.scale)
@@ -65,7 +68,8 @@ charged_is_empty p valid claimed over n f facts d ys covers charged s between z 
     at k o (inr h) b =
         charge_refutes p valid n s between f facts covers
         (are_covers (shape_of p) n covers charged.covered) (multiplier p n (handed d ys covers))
-        (subst (λ (x : ℤ). pos 0 <ℤ charge_of p n f (handed x ys covers)) h.0 h.1) z e under.flows fit
+        (subst (λ (x : ℤ). pos 0 <ℤ charge_of p n f (handed x ys covers)) h.0 h.1) z e under.flows
+        fit
 
 -- ---- claims that cost less
 
@@ -109,7 +113,8 @@ cheaper_is_charged p claimed cheaper o q fallen n f d ys covers h = record {
   each_row = h.each_row;
   covered = h.covered;
   formed = h.formed;
-  reaches = reaches_cheaper claimed cheaper o q fallen (charge_of p n f (handed d ys covers)) d h.reaches;
+  reaches = reaches_cheaper claimed cheaper o q fallen (charge_of p n f (handed d ys covers)) d
+      h.reaches;
 }
 
 pub cheaper_passes : CheaperPasses

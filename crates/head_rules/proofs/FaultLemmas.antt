@@ -21,20 +21,23 @@ neither why other x y = absurd x
 
 pub charged_has_no_fault : ChargedHasNoFault
 charged_has_no_fault p claimed n f d ys covers h why fails =
-    passing_has_no_cause p (IsClaimed claimed) (IsAtLeast claimed) n f (handed d ys covers) h fails.0
+    passing_has_no_cause p (IsClaimed claimed) (IsAtLeast claimed) n f (handed d ys covers) h
+    fails.0
     fails.2
 
 pub charge_fault_is_one : ChargeFaultIsOne
 charge_fault_is_one p claimed n f d ys covers why other fails others =
     fails.1
     ∙ ap line_why
-    (cause_is_one p (IsClaimed claimed) (IsAtLeast claimed) n f (handed d ys covers) fails.0 others.0
+    (cause_is_one p (IsClaimed claimed) (IsAtLeast claimed) n f (handed d ys covers) fails.0
+    others.0
     fails.2 others.2)
     ∙ sym others.1
 
 -- ---- lines
 
-line_passes : (p : Problem) (claimed : Option CostOver) (k : Known) (line : HeadLine) (why : LineWhy)
+line_passes : (p : Problem) (claimed : Option CostOver) (k : Known) (line : HeadLine)
+    (why : LineWhy)
     → LinePasses p claimed k line → LineFails p claimed k line why → ⊥
 line_passes p claimed k (step s) why h fails = holds _ _ _ why h none fails
 line_passes p claimed k (cap u v d ys covers) why h fails =

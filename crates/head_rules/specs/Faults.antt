@@ -25,7 +25,8 @@ line_why charge_causes.Bound = causes.Bound
 line_why charge_causes.Cover = causes.Cover
 line_why charge_causes.Sum = causes.Sum
 
-abbrev pub ChargeFails : Problem → Option CostOver → Node → Facts → ℤ → List ℤ → List Cover → LineWhy → Type 0
+abbrev pub ChargeFails
+    : Problem → Option CostOver → Node → Facts → ℤ → List ℤ → List Cover → LineWhy → Type 0
 ChargeFails p claimed n f d ys covers why =
     (cause : ChargeWhy) × (why ≡ line_why cause)
     × leaves.ChargeFails p (IsClaimed claimed) (IsAtLeast claimed) n f (handed d ys covers) cause
@@ -44,7 +45,8 @@ LineFails p claimed k (cap u v d ys covers) why =
 LineFails p claimed k (out u d ys covers) why =
     FailsFor (IsFree (shape_of p) k.node u) causes.Fact
     (ChargeFails p claimed (with_in k.node u) k.facts d ys covers why) why
-LineFails p claimed k (trim u) why = FailsFor (MayTrim (net_of p) k.node k.facts u) causes.Trim ⊥ why
+LineFails p claimed k (trim u) why =
+    FailsFor (MayTrim (net_of p) k.node k.facts u) causes.Trim ⊥ why
 
 -- line i is the first that fails, for the cause; lines are numbered from 0
 abbrev pub IsFirstToFail : Problem → Option CostOver → Known → List HeadLine → ℕ → LineWhy → Type 0
