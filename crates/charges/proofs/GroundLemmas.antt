@@ -1,29 +1,29 @@
 -- The steps and the part of a unit, over its rates as a table has them, are those of the
 -- definition.
-use Rattle.std.proofs.Common.{◌≡◌, ℕ, zero, suc, ◌+◌, ◌*◌, ◌-◌, ◌<◌, ◌≤◌, ◌⊎◌, inl, inr, Bool, true, false, refl, sym, ap, ◌∙◌, subst, arith, pos, ℤ, ◌+ℤ◌, ◌-ℤ◌, ◌*ℤ◌, List, [], ◌∷◌, ◌++◌, length, map, append_assoc}
+use Rattle.std.proofs.Common.{◌≡◌, ℕ, zero, suc, ◌+◌, ◌-◌, ◌<◌, ◌≤◌, ◌⊎◌, inl, inr, Bool, true, false, refl, sym, ap, ◌∙◌, subst, arith, pos, ℤ, ◌+ℤ◌, ◌-ℤ◌, ◌*ℤ◌, List, [], ◌∷◌, ◌++◌, length, map, append_assoc}
 use Rattle.std.specs.Prelude.{◌==◌, not, ◌&&◌, ◌||◌, nat_lt, int_lt}
 use Rattle.std.proofs.lemmas.Bool.{both_ways, eqb-true}
 use Rattle.std.proofs.lemmas.Int.{ints}
 use Rattle.integer_laws.specs.Range.{InRange}
 use Rattle.integer_laws.specs.Total.{total}
 use Rattle.integer_laws.proofs.Totals.{total-agree}
-use Rattle.number_sets.specs.Sets.{has, listed, IsRising, IsSet, IsWithin}
+use Rattle.number_sets.specs.Sets.{has, listed, IsRising, IsSet}
 use Rattle.number_sets.proofs.SetLemmas.{has-listed, same_sets, IsRising-listed}
 use Rattle.problem_rules.specs.Problem.{Problem, rate_of}
 use Rattle.problem_rules.specs.WellFormed.{IsWellFormed}
 use Rattle.pns_rules.specs.Structure.{mats}
 use Rattle.pns_rules.specs.Nodes.{Node}
 use Rattle.flow_rules.specs.Net.{Net, net_of, trillion, size_cost}
-use Rattle.flow_rules.specs.Relaxed.{stays, units, rows}
+use Rattle.flow_rules.specs.Relaxed.{stays, rows}
 use Rattle.flow_rules.specs.Steps.{AreInRange, IsFirstPast}
 use Rattle.flow_rules.specs.BoundSteps.{rows_at, reduced_steps}
-use Rattle.flow_rules.proofs.LeadingLemmas.{Leads, leads_none, leads_part, leads_past_in, leads_all, leads_same, IsFirstPast-left, IsFirstPast-right}
+use Rattle.flow_rules.proofs.LeadingLemmas.{Leads, leads_none, leads_part, leads_past_in, leads_all, leads_same, IsFirstPast-left}
 use Rattle.flow_rules.proofs.SameLemmas.{all_had, reduced-same}
 use Rattle.flow_rules.proofs.LastLemmas.{total_at_rows}
 use Rattle.flow_program.specs.Columns.{left_of}
 use Rattle.flow_program.specs.Entry.{entry}
 use Rattle.flow_program.specs.Rates.{AreRates}
-use Rattle.flow_program.proofs.WalkLemmas.{IsNext, rest_within, has-first, has-rest}
+use Rattle.flow_program.proofs.WalkLemmas.{IsNext, has-first, has-rest}
 use Rattle.flow_program.proofs.BoundSumLemmas.{materials_are_rows}
 use Rattle.charge_rules.specs.Facts.{Facts}
 use Rattle.charge_rules.specs.Cover.{Cover, paid}

@@ -1,19 +1,19 @@
 -- What can be used of a material: sums over its users, and a table of them.
-use Rattle.std.proofs.Common.{◌≡◌, ◌≢◌, ℕ, zero, suc, ◌+◌, ◌*◌, ◌^◌, ◌<◌, ◌≤◌, ◌==◌, Bool, true, false, cond, refl, sym, ap, ◌∙◌, subst, arith, pos, ℤ, ◌+ℤ◌, ◌-ℤ◌, ◌*ℤ◌, ◌≤ℤ◌, neg_ℤ, List, [], ◌∷◌, length, get_or, set, inl, inr}
-use Rattle.std.specs.Prelude.{unsigned_abs, not, ◌&&◌, nat_lt, int_lt}
-use Rattle.std.specs.Int.{int_max, int_min}
+use Rattle.std.proofs.Common.{◌≡◌, ◌≢◌, ℕ, ◌+◌, ◌*◌, ◌^◌, ◌<◌, ◌≤◌, ◌==◌, Bool, true, false, cond, refl, sym, ap, ◌∙◌, subst, arith, pos, ℤ, ◌+ℤ◌, ◌-ℤ◌, ◌*ℤ◌, ◌≤ℤ◌, neg_ℤ, List, [], ◌∷◌, length, get_or, set, inl, inr}
+use Rattle.std.specs.Prelude.{unsigned_abs, ◌&&◌, nat_lt}
+use Rattle.std.specs.Int.{int_max}
 use Rattle.std.proofs.lemmas.List.{get_or-set_same, get_or-set_other, length-set}
 use Rattle.std.proofs.lemmas.Bool.{cases_eq, both_ways}
 use Rattle.std.proofs.lemmas.Int.{ints, clamps}
 use Rattle.integer_laws.specs.Total.{total}
-use Rattle.number_sets.specs.Sets.{has, meet, minus, listed, kept, IsRising, IsSet, IsWithin}
-use Rattle.number_sets.proofs.SetLemmas.{has-meet, has-minus, has-listed, same_sets, IsRising-kept, IsRising-listed, length_below}
+use Rattle.number_sets.specs.Sets.{has, meet, listed, IsRising, IsSet, IsWithin}
+use Rattle.number_sets.proofs.SetLemmas.{has-meet, has-listed, same_sets, IsRising-kept, IsRising-listed, length_below}
 use Rattle.problem_rules.specs.Each.{Each}
 use Rattle.problem_rules.specs.Problem.{Problem, Term, unit_at, terms_have, rate_in, rate_of}
 use Rattle.problem_rules.specs.WellFormed.{IsWellFormed, IsWellFormedTerm}
 use Rattle.pns_rules.specs.Shape.{shape_of}
 use Rattle.pns_rules.specs.Nodes.{Node}
-use Rattle.flow_rules.specs.Net.{Net, net_of}
+use Rattle.flow_rules.specs.Net.{net_of}
 use Rattle.flow_rules.specs.Relaxed.{stays, units}
 use Rattle.flow_rules.proofs.ListedLemmas.{total-sets}
 use Rattle.flow_rules.proofs.NetLemmas.{no_rate_in, unit_formed, not_negative_from}

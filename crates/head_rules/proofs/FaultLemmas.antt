@@ -1,5 +1,5 @@
 -- Lines that pass have no fault, and what fails does so for one cause.
-use Rattle.std.proofs.Common.{◌≡◌, ℕ, zero, suc, [], ◌∷◌, sym, ap, ◌∙◌, refl, inl, inr}
+use Rattle.std.proofs.Common.{◌≡◌, ℕ, zero, suc, [], ◌∷◌, sym, ap, ◌∙◌, refl}
 use Rattle.std.specs.Prelude.{Option}
 use Rattle.problem_rules.specs.Problem.{Problem}
 use Rattle.charge_rules.proofs.LeafLemmas.{holds, one_of, passing_has_no_cause, cause_is_one}

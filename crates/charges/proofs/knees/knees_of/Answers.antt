@@ -1,7 +1,7 @@
-use Rattle.std.proofs.Common.{◌≡◌, ◌∙◌, sym, ap, subst, SFits, rules, get_or, pos, true, Bool, ℕ, List, refl, arith}
+use Rattle.std.proofs.Common.{◌∙◌, sym, ap, subst, SFits, rules, get_or, pos, Bool, ℕ, List, refl}
 use Rattle.std.specs.Prelude.{◌&&◌, int_lt}
 use Rattle.std.specs.Int.{w64, w128}
-use Rattle.std.proofs.lemmas.Int.{to_z-of_z, ints}
+use Rattle.std.proofs.lemmas.Int.{to_z-of_z}
 use Rattle.number_sets.specs.Sets.{has, IsSet}
 use Rattle.number_sets.proofs.SetLemmas.{has-meet}
 use Rattle.flow_program.specs.Entry.{entry}

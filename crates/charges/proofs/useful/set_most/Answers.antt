@@ -1,4 +1,4 @@
-use Rattle.std.proofs.Common.{◌∙◌, sym, subst, SFits, rules, to_z, arith, ◌+ℤ◌, ◌*ℤ◌}
+use Rattle.std.proofs.Common.{sym, subst, SFits, rules, to_z, arith, ◌+ℤ◌, ◌*ℤ◌}
 use Rattle.std.specs.Int.{w128}
 use Rattle.std.proofs.lemmas.Int.{to_z-of_z}
 use Rattle.number_sets.specs.Sets.{IsSet}

@@ -1,4 +1,4 @@
-use Rattle.std.proofs.Common.{◌≡◌, ◌∙◌, ap, ◌*ℤ◌, ℤ, pos, neg_ℤ, SFits, rules}
+use Rattle.std.proofs.Common.{◌∙◌, ap, ◌*ℤ◌, ℤ, pos, neg_ℤ, SFits, rules}
 use Rattle.std.specs.Int.{int_max, w64, w128}
 use Rattle.std.proofs.lemmas.Int.{to_z-of_z}
 use Rattle.flow_program.specs.Entry.{entry}

@@ -1,10 +1,10 @@
-use Rattle.std.proofs.Common.{◌≡◌, ◌∙◌, ◌<◌, sym, ap, subst, ℕ, List, Bool, true, length, SFits, rules}
+use Rattle.std.proofs.Common.{◌∙◌, ◌<◌, sym, ap, subst, ℕ, List, length, SFits, rules}
 use Rattle.std.specs.Int.{w128}
 use Rattle.std.proofs.lemmas.Int.{to_z-of_z}
 use Rattle.number_sets.specs.Sets.{has}
 use Rattle.number_sets.proofs.SetLemmas.{has-meet}
 use Rattle.problem_rules.proofs.ValidLemmas.{well_formed_from_valid}
-use Rattle.pns_rules.specs.Shape.{Shape, shape_of}
+use Rattle.pns_rules.specs.Shape.{Shape}
 use Rattle.pgraph.specs.View.{node_of}
 use Rattle.flow_rules.specs.Relaxed.{stays}
 use Rattle.flow_program.proofs.NodeSetLemmas.{listed_had}
