@@ -21,11 +21,14 @@ three false b c h = absurd (both_ways false refl h)
 three_back : (a b c : Bool) → a ≡ true → b ≡ false → c ≡ false → ((a && not b) && not c) ≡ true
 three_back a b c e f g = rw (e, f, g) refl
 
-module _ (g : Shape) (n : Node) (below inside outside first free : List ℕ) (all : (u : ℕ) → has below u ≡ nat_lt u g.units)
-    (inner : first ≡ minus below inside) (outer : free ≡ minus first outside) (is : (u : ℕ) → n.inside u ≡ has inside u) (os : (u : ℕ) → n.outside u ≡ has outside u) where
+module _ (g : Shape) (n : Node) (below inside outside first free : List ℕ)
+    (all : (u : ℕ) → has below u ≡ nat_lt u g.units)
+    (inner : first ≡ minus below inside) (outer : free ≡ minus first outside)
+    (is : (u : ℕ) → n.inside u ≡ has inside u) (os : (u : ℕ) → n.outside u ≡ has outside u) where
   free_is : (u : ℕ) → has free u ≡ ((nat_lt u g.units && not (n.inside u)) && not (n.outside u))
   free_is u = ap (λ (xs : List ℕ). has xs u) outer ∙ has-minus first outside u
-      ∙ ap (λ b. b && not (has outside u)) (ap (λ (xs : List ℕ). has xs u) inner ∙ has-minus below inside u)
+      ∙ ap (λ b. b && not (has outside u))
+      (ap (λ (xs : List ℕ). has xs u) inner ∙ has-minus below inside u)
       ∙ (λ i. (all u i && not (sym (is u) i)) && not (sym (os u) i))
 
   pub has_free : (u : ℕ) → has free u ≡ true → IsFree g n u
@@ -34,4 +37,5 @@ module _ (g : Shape) (n : Node) (below inside outside first free : List ℕ) (al
       record { known = ltb-true u g.units p.0; not_inside = p.1; not_outside = p.2 }
 
   pub free_had : (u : ℕ) → IsFree g n u → has free u ≡ true
-  free_had u h = free_is u ∙ three_back (nat_lt u g.units) (n.inside u) (n.outside u) (lt-ltb u g.units h.known) h.not_inside h.not_outside
+  free_had u h = free_is u ∙ three_back (nat_lt u g.units) (n.inside u) (n.outside u)
+      (lt-ltb u g.units h.known) h.not_inside h.not_outside

@@ -1,9 +1,14 @@
 pub mod BendLemmas
 pub mod CoverLemmas
 pub mod FreeLemmas
+pub mod GroundLemmas
 pub mod KneeLemmas
 pub mod OwnLemmas
+pub mod PaidLemmas
+pub mod PayingLemmas
+pub mod SumLemmas
 pub mod UnitLemmas
+pub mod UseLemmas
 pub mod ColumnLemmas
 pub mod RowLemmas
 pub mod TableLemmas

@@ -10,17 +10,21 @@ pub record IsWritten (f : ℕ → ℤ) (table : List ℤ) (u : ℕ) : Type 0 whe
   pub below : (i : ℕ) → i < u → get_or table i (pos 0) ≡ f i
   pub above : (i : ℕ) → u ≤ i → get_or table i (pos 0) ≡ pos 0
 
-pub written_more : (f : ℕ → ℤ) (table : List ℤ) (u : ℕ) (value : ℤ) → u < 128 → value ≡ f u → IsWritten f table u → IsWritten f (set table u value) (u + 1)
+pub written_more : (f : ℕ → ℤ) (table : List ℤ) (u : ℕ) (value : ℤ) → u < 128 → value ≡ f u
+    → IsWritten f table u → IsWritten f (set table u value) (u + 1)
 written_more f table u value l e h = record {
   size = length-set table u value ∙ h.size;
   below = λ i k. elim (cases_eq i u) [
-    | inl same ↦ (let w : u < length table = let s = h.size in omega arith in rw same (rw get_or-set_same e))
+    | inl same ↦
+        (let w : u < length table = let s = h.size in omega arith in rw same (rw get_or-set_same e))
     | inr other ↦ (let o : i ≢ u = other in rw get_or-set_other (h.below i (omega arith)))
   ];
-  above = λ i k. (let o : i ≢ u = λ e. omega arith in rw get_or-set_other (h.above i (omega arith)));
+  above =
+      λ i k. (let o : i ≢ u = λ e. omega arith in rw get_or-set_other (h.above i (omega arith)));
 }
 
-pub written_all : (f : ℕ → ℤ) (table : List ℤ) (n u : ℕ) → u ≡ n → ((i : ℕ) → n ≤ i → f i ≡ pos 0) → IsWritten f table u → (i : ℕ) → get_or table i (pos 0) ≡ f i
+pub written_all : (f : ℕ → ℤ) (table : List ℤ) (n u : ℕ) → u ≡ n → ((i : ℕ) → n ≤ i → f i ≡ pos 0)
+    → IsWritten f table u → (i : ℕ) → get_or table i (pos 0) ≡ f i
 written_all f table n u e none h i = elim (cases_order i u) [
   | inl same ↦ (h.above i (omega arith) ∙ sym (none i (omega arith)))
   | inr d ↦ elim d [
@@ -35,7 +39,13 @@ same_all x (suc n) zero = refl
 same_all x (suc n) (suc i) = same_all x n i
 
 pub none_written : (f : ℕ → ℤ) → IsWritten f (replicate 128 (pos 0)) 0
-none_written f = record { size = refl; below = λ i k. absurd (omega arith); above = λ i k. same_all (pos 0) 128 i }
+none_written f =
+    record {
+      size = refl;
+      below = λ i k. absurd (omega arith);
+      above =
+          λ i k. same_all (pos 0) 128 i;
+    }
 
 pub past : {X : Type 0} (xs : List X) (i : ℕ) (d : X) → length xs ≤ i → get_or xs i d ≡ d
 past [] i d h = refl

@@ -8,19 +8,22 @@ use Rattle.flow_rules.specs.Net.{beside}
 use Rattle.flow_program.proofs.WalkLemmas.{IsNext, has_next, passed, rest_within}
 use Rattle.charges.proofs.OwnLemmas.{same_all}
 
--- `left` are the numbers of the set from place k on; beside each other the table has its value
-pub record IsTabled (n : ℕ) (numbers : List ℕ) (values table : List ℤ) (left : List ℕ) (k : ℕ) : Type 0 where
+-- `left` are the numbers of the set from place k on; at each other the table has its value
+pub record IsTabled (n : ℕ) (numbers : List ℕ) (values table : List ℤ) (left : List ℕ) (k : ℕ) :
+    Type 0 where
   pub size : length table ≡ n
   pub rest : left ≡ drop k numbers
   pub count : k + length left ≡ length numbers
-  pub filled : (j : ℕ) → has numbers j ≡ true → has left j ≡ false → get_or table j (pos 0) ≡ beside numbers values j
+  pub filled : (j : ℕ) → has numbers j ≡ true → has left j ≡ false → get_or table j (pos 0)
+      ≡ beside numbers values j
   pub within : IsWithin (has left) (has numbers)
   pub others : (j : ℕ) → has numbers j ≡ false → get_or table j (pos 0) ≡ pos 0
 
 clash : (b : Bool) → {X : Type 0} → b ≡ true → b ≡ false → X
 clash b e f = absurd (let g : true ≡ false = sym e ∙ f in cc)
 
-pub none_tabled : (numbers : List ℕ) (values : List ℤ) → IsTabled 256 numbers values (replicate 256 (pos 0)) numbers 0
+pub none_tabled : (numbers : List ℕ) (values : List ℤ)
+    → IsTabled 256 numbers values (replicate 256 (pos 0)) numbers 0
 none_tabled numbers values = record {
   size = refl;
   rest = refl;
@@ -30,14 +33,16 @@ none_tabled numbers values = record {
   others = λ j h. same_all (pos 0) 256 j;
 }
 
-above_drop : (y : ℕ) (ys : List ℕ) (k x : ℕ) (rest : List ℕ) → IsBelowAll y ys → drop k ys ≡ x ∷ rest → y < x
+above_drop : (y : ℕ) (ys : List ℕ) (k x : ℕ) (rest : List ℕ) → IsBelowAll y ys → drop k ys ≡ x
+    ∷ rest → y < x
 above_drop y [] zero x rest h e = let f : [] ≡ x ∷ rest = e in cc
 above_drop y [] (suc k) x rest h e = let f : [] ≡ x ∷ rest = e in cc
 above_drop y (z ∷ ys) zero x rest h e = let f : z ≡ x = cc in subst (λ w. y < w) f h.0
 above_drop y (z ∷ ys) (suc k) x rest h e = above_drop y ys k x rest h.1 e
 
--- the value at a number's place stands beside it
-pub beside_at : (xs : List ℕ) (zs : List ℤ) (k x : ℕ) (rest : List ℕ) → IsRising xs → drop k xs ≡ x ∷ rest → k < length zs → beside xs zs x ≡ get_or zs k (pos 0)
+-- the value at a number's place is the one beside it
+pub beside_at : (xs : List ℕ) (zs : List ℤ) (k x : ℕ) (rest : List ℕ) → IsRising xs → drop k xs ≡ x
+    ∷ rest → k < length zs → beside xs zs x ≡ get_or zs k (pos 0)
 beside_at [] zs zero x rest h e l = let f : [] ≡ x ∷ rest = e in cc
 beside_at [] zs (suc k) x rest h e l = let f : [] ≡ x ∷ rest = e in cc
 beside_at (y ∷ ys) [] k x rest h e l = absurd (omega arith)
@@ -48,19 +53,28 @@ beside_at (y ∷ ys) (z ∷ zs) (suc k) x rest h e l =
     let less = above_drop y ys k x rest h.0 e in
     rw (ne_eqb y x (λ f. absurd (omega arith))) (beside_at ys zs k x rest h.1 e (omega arith))
 
-pub tabled_more : (n : ℕ) (numbers : List ℕ) (values table : List ℤ) (left : List ℕ) (k j : ℕ) (rest : List ℕ) (value : ℤ) → IsSet n numbers → length values ≡ length numbers
-    → IsNext n left j rest → value ≡ get_or values k (pos 0) → IsTabled n numbers values table left k → IsTabled n numbers values (set table j value) rest (k + 1)
+pub tabled_more : (n : ℕ) (numbers : List ℕ) (values table : List ℤ) (left : List ℕ) (k j : ℕ)
+    (rest : List ℕ) (value : ℤ) → IsSet n numbers → length values ≡ length numbers
+    → IsNext n left j rest → value ≡ get_or values k (pos 0) → IsTabled n numbers values table left
+    k → IsTabled n numbers values (set table j value) rest (k + 1)
 tabled_more n numbers values table left k j rest value whole same next v so_far = record {
   size = length-set table j value ∙ so_far.size;
   rest = tails;
   count = let a = so_far.count in let b = lengths in omega arith;
-  filled = λ i there gone. passed n left j rest next (λ i. has numbers i ≡ true → get_or (set table j value) i (pos 0) ≡ beside numbers values i) before here i gone there;
+  filled = λ i there gone. passed n left j rest next
+      (λ i. has numbers i ≡ true → get_or (set table j value) i (pos 0) ≡ beside numbers values i)
+      before here i gone there;
   within = λ i h. so_far.within i (rest_within n left j rest next i h);
-  others = λ i none. (let other : i ≢ j = λ e. apart i none e in rw get_or-set_other (so_far.others i none));
+  others =
+      λ i none.
+      (let other : i ≢ j = λ e. apart i none e in rw get_or-set_other (so_far.others i none));
 }
   where
     apart : (i : ℕ) → has numbers i ≡ false → i ≡ j → ⊥
-    apart i none e = clash (has numbers i) (subst (λ w. has numbers w ≡ true) (sym e) (so_far.within j (has_next n left j rest next))) none
+    apart i none e =
+        clash (has numbers i)
+        (subst (λ w. has numbers w ≡ true) (sym e) (so_far.within j (has_next n left j rest next)))
+        none
 
     lengths : length left ≡ 1 + length rest
     lengths = ap (λ (xs : List ℕ). length xs) next.is ∙ (omega arith)
@@ -72,16 +86,22 @@ tabled_more n numbers values table left k j rest value whole same next v so_far 
     ahead = sym so_far.rest ∙ next.is
 
     tails : rest ≡ drop (k + 1) numbers
-    tails = let e : j ∷ rest ≡ get_or numbers k 0 ∷ drop (k + 1) numbers = sym ahead ∙ drop_more numbers k 0 within in cc
+    tails = let e : j ∷ rest ≡ get_or numbers k 0 ∷ drop (k + 1) numbers = sym ahead
+        ∙ drop_more numbers k 0 within in cc
 
     here : has numbers j ≡ true → get_or (set table j value) j (pos 0) ≡ beside numbers values j
     here there =
         let l : j < length table = let s = so_far.size in let b = next.below in omega arith in
-        rw get_or-set_same (v ∙ sym (beside_at numbers values k j rest whole.rising ahead (let w = within in omega arith)))
+        rw get_or-set_same
+        (v
+        ∙ sym
+        (beside_at numbers values k j rest whole.rising ahead (let w = within in omega arith)))
 
-    before : (i : ℕ) → has left i ≡ false → has numbers i ≡ true → get_or (set table j value) i (pos 0) ≡ beside numbers values i
+    before : (i : ℕ) → has left i ≡ false → has numbers i ≡ true
+        → get_or (set table j value) i (pos 0) ≡ beside numbers values i
     before i gone there =
-        let other : i ≢ j = λ e. clash (has left j) (has_next n left j rest next) (subst (λ w. has left w ≡ false) e gone) in
+        let other : i ≢ j = λ e. clash (has left j) (has_next n left j rest next)
+        (subst (λ w. has left w ≡ false) e gone) in
         rw get_or-set_other (so_far.filled i there gone)
 
 neither : (a b : Bool) → (a || b) ≡ false → (a ≡ false) × (b ≡ false)
@@ -91,9 +111,12 @@ neither false b h = (refl, h)
 beside_none : (xs : List ℕ) (zs : List ℤ) (j : ℕ) → has xs j ≡ false → beside xs zs j ≡ pos 0
 beside_none [] zs j h = refl
 beside_none (x ∷ xs) [] j h = refl
-beside_none (x ∷ xs) (z ∷ zs) j h = let n = neither (x == j) (has xs j) h in rw n.0 (beside_none xs zs j n.1)
+beside_none (x ∷ xs) (z ∷ zs) j h = let n = neither (x == j) (has xs j) h in
+    rw n.0 (beside_none xs zs j n.1)
 
-pub tabled_all : (n : ℕ) (numbers : List ℕ) (values table : List ℤ) (left : List ℕ) (k : ℕ) → left ≡ [] → IsTabled n numbers values table left k → (j : ℕ) → get_or table j (pos 0) ≡ beside numbers values j
+pub tabled_all : (n : ℕ) (numbers : List ℕ) (values table : List ℤ) (left : List ℕ) (k : ℕ) → left
+    ≡ [] → IsTabled n numbers values table left k → (j : ℕ) → get_or table j (pos 0)
+    ≡ beside numbers values j
 tabled_all n numbers values table left k e h j = at (has numbers j) refl
   where
     at : (b : Bool) → has numbers j ≡ b → get_or table j (pos 0) ≡ beside numbers values j

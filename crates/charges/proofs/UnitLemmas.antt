@@ -22,70 +22,111 @@ use Rattle.charges.specs.Columns.{owed_in, owed_steps, bent_steps, charge_in}
 use Rattle.charges.proofs.KneeLemmas.{lt_from}
 
 -- ---- what is owed before the knees
-pub length_of_reduced : (y rate : ℕ → ℤ) (js : List ℕ) (c : ℤ) → length (reduced_steps y rate js c) ≡ 2 * length js
+pub length_of_reduced : (y rate : ℕ → ℤ) (js : List ℕ) (c : ℤ) → length (reduced_steps y rate js c)
+    ≡ 2 * length js
 length_of_reduced y rate [] c = refl
-length_of_reduced y rate (j ∷ js) c = let h = length_of_reduced y rate js (c -ℤ y j *ℤ rate j) in omega arith
+length_of_reduced y rate (j ∷ js) c = let h = length_of_reduced y rate js (c -ℤ y j *ℤ rate j) in
+    omega arith
 
 abbrev pub two_steps : ℤ → ℤ → ℤ → List ℤ
 two_steps d fixed paid = (d *ℤ fixed) ∷ (d *ℤ fixed -ℤ paid) ∷ []
 
-module _ (d size fixed paid : ℤ) (y rate : ℕ → ℤ) (js : List ℕ) (cost : ℤ) (start : ℕ) (f : InRange (d *ℤ size)) (e : cost ≡ d *ℤ size) where
-  pub reduced_past : (n : ℕ) → start + 1 ≤ n → IsFirstPast (reduced_steps y rate js cost) (n - (start + 1)) → IsFirstPast (owed_steps d size fixed paid y rate js) (n - start)
+module _ (d size fixed paid : ℤ) (y rate : ℕ → ℤ) (js : List ℕ) (cost : ℤ) (start : ℕ)
+    (f : InRange (d *ℤ size)) (e : cost ≡ d *ℤ size) where
+  pub reduced_past : (n : ℕ) → start + 1 ≤ n → IsFirstPast (reduced_steps y rate js cost)
+      (n - (start + 1)) → IsFirstPast (owed_steps d size fixed paid y rate js) (n - start)
   reduced_past n le h =
       let q : n - start ≡ suc (n - (start + 1)) = omega arith in
-      rw q (f, IsFirstPast-left (reduced_steps y rate js (d *ℤ size)) (two_steps d fixed paid) (n - (start + 1)) (subst (λ (c : ℤ). IsFirstPast (reduced_steps y rate js c) (n - (start + 1))) e h))
+      rw q (
+        f,
+        IsFirstPast-left (reduced_steps y rate js (d *ℤ size)) (two_steps d fixed paid)
+            (n - (start + 1))
+            (subst (λ (c : ℤ). IsFirstPast (reduced_steps y rate js c) (n - (start + 1))) e h),
+      )
 
-  module _ (each : ℤ) (at : ℕ) (value : each ≡ left_of y rate js cost) (count : at ≡ start + 1 + length (reduced_steps y rate js cost)) (fit : AreInRange (reduced_steps y rate js cost)) where
+  module _ (each : ℤ) (at : ℕ) (value : each ≡ left_of y rate js cost)
+      (count : at ≡ start + 1 + length (reduced_steps y rate js cost))
+      (fit : AreInRange (reduced_steps y rate js cost)) where
     long : at ≡ start + 1 + length (reduced_steps y rate js (d *ℤ size))
     long = count ∙ ap (λ (c : ℤ). start + 1 + length (reduced_steps y rate js c)) e
 
     fits : AreInRange (reduced_steps y rate js (d *ℤ size))
     fits = subst (λ (c : ℤ). AreInRange (reduced_steps y rate js c)) e fit
 
-    pub once_past : (n : ℕ) → at ≤ n → IsFirstPast (two_steps d fixed paid) (n - at) → IsFirstPast (owed_steps d size fixed paid y rate js) (n - start)
+    pub once_past : (n : ℕ) → at ≤ n → IsFirstPast (two_steps d fixed paid) (n - at)
+        → IsFirstPast (owed_steps d size fixed paid y rate js) (n - start)
     once_past n le h =
         let l = long in
-        let q : n - start ≡ suc (length (reduced_steps y rate js (d *ℤ size)) + (n - at)) = omega arith in
-        rw q (f, IsFirstPast-right (reduced_steps y rate js (d *ℤ size)) (two_steps d fixed paid) (n - at) (length (reduced_steps y rate js (d *ℤ size)) + (n - at)) refl fits h)
+        let q : n - start ≡ suc (length (reduced_steps y rate js (d *ℤ size)) + (n - at)) =
+        omega arith in
+        rw q (
+          f,
+          IsFirstPast-right (reduced_steps y rate js (d *ℤ size)) (two_steps d fixed paid)
+              (n - at) (length (reduced_steps y rate js (d *ℤ size)) + (n - at)) refl fits h,
+        )
 
-    pub owed_fit : AreInRange (two_steps d fixed paid) → AreInRange (owed_steps d size fixed paid y rate js)
-    owed_fit h = (f, AreInRange-append (reduced_steps y rate js (d *ℤ size)) (two_steps d fixed paid) fits h)
+    pub owed_fit : AreInRange (two_steps d fixed paid)
+        → AreInRange (owed_steps d size fixed paid y rate js)
+    owed_fit h =
+        (f, AreInRange-append (reduced_steps y rate js (d *ℤ size)) (two_steps d fixed paid) fits h)
 
     pub owed_count : at + 2 ≡ start + length (owed_steps d size fixed paid y rate js)
-    owed_count = let l = long in let a = length-append (reduced_steps y rate js (d *ℤ size)) (two_steps d fixed paid) in omega arith
+    owed_count = let l = long in let a = length-append (reduced_steps y rate js (d *ℤ size))
+        (two_steps d fixed paid) in omega arith
 
-    pub owed_value : (once : ℤ) (o : Owed) → o ≡ record { each = each; once = once } → once ≡ d *ℤ fixed -ℤ paid → o ≡ owed_in d size fixed paid y rate js
-    owed_value once o s h = s ∙ (λ i. record { each = (value ∙ ap (λ (c : ℤ). left_of y rate js c) e) i; once = h i })
+    pub owed_value : (once : ℤ) (o : Owed) → o ≡ record { each = each; once = once } → once ≡ d
+        *ℤ fixed -ℤ paid → o ≡ owed_in d size fixed paid y rate js
+    owed_value once o s h =
+        s ∙ (λ i. record { each = (value ∙ ap (λ (c : ℤ). left_of y rate js c) e) i; once = h i })
 
 -- ---- the knees and the sizes
-module _ (low high : ℤ) (ks : List Knee) (o left : Owed) (start at : ℕ) (value : left ≡ bent low high ks o) (count : at ≡ start + length (knee_steps low high ks o)) (fit : AreInRange (knee_steps low high ks o)) where
-  pub sizes_past : (n : ℕ) → at ≤ n → IsFirstPast (least_steps left.each low high left.once) (n - at) → IsFirstPast (bent_steps low high ks o) (n - start)
+module _ (low high : ℤ) (ks : List Knee) (o left : Owed) (start at : ℕ)
+    (value : left ≡ bent low high ks o) (count : at ≡ start + length (knee_steps low high ks o))
+    (fit : AreInRange (knee_steps low high ks o)) where
+  pub sizes_past : (n : ℕ) → at ≤ n → IsFirstPast (least_steps left.each low high left.once)
+      (n - at) → IsFirstPast (bent_steps low high ks o) (n - start)
   sizes_past n le p =
-      IsFirstPast-right (knee_steps low high ks o) (size_steps low high (bent low high ks o)) (n - at) (n - start) (omega arith) fit (subst (λ (q : Owed). IsFirstPast (size_steps low high q) (n - at)) value p)
+      IsFirstPast-right (knee_steps low high ks o) (size_steps low high (bent low high ks o))
+      (n - at) (n - start) (omega arith) fit
+      (subst (λ (q : Owed). IsFirstPast (size_steps low high q) (n - at)) value p)
 
-  pub sizes_fit : AreInRange (least_steps left.each low high left.once) → AreInRange (bent_steps low high ks o)
-  sizes_fit h = AreInRange-append (knee_steps low high ks o) (size_steps low high (bent low high ks o)) fit (subst (λ (q : Owed). AreInRange (size_steps low high q)) value h)
+  pub sizes_fit : AreInRange (least_steps left.each low high left.once)
+      → AreInRange (bent_steps low high ks o)
+  sizes_fit h = AreInRange-append (knee_steps low high ks o)
+      (size_steps low high (bent low high ks o)) fit
+      (subst (λ (q : Owed). AreInRange (size_steps low high q)) value h)
 
   pub sizes_count : (to : ℕ) → to ≡ at + 2 → to ≡ start + length (bent_steps low high ks o)
-  sizes_count to e = let a = length-append (knee_steps low high ks o) (size_steps low high (bent low high ks o)) in omega arith
+  sizes_count to e = let a =
+      length-append (knee_steps low high ks o) (size_steps low high (bent low high ks o)) in
+      omega arith
 
-  pub sizes_value : (z : ℤ) → z ≡ left.once +ℤ least_of left.each low high → z ≡ charge_in low high ks o
+  pub sizes_value : (z : ℤ) → z ≡ left.once +ℤ least_of left.each low high → z
+      ≡ charge_in low high ks o
   sizes_value z e = e ∙ ap (λ (q : Owed). least_owed low high q) value
 
 -- ---- the sum
-pub adds_steps : (is_in b : Bool) (part sum : ℤ) → b ≡ (is_in || int_lt part (pos 0)) → b ≡ true → sum_steps is_in part sum ≡ (sum +ℤ part) ∷ []
+pub adds_steps : (is_in b : Bool) (part sum : ℤ) → b ≡ (is_in || int_lt part (pos 0)) → b ≡ true
+    → sum_steps is_in part sum ≡ (sum +ℤ part) ∷ []
 adds_steps true b part sum e h = refl
-adds_steps false b part sum e h = let t : int_lt part (pos 0) ≡ true = sym e ∙ h in ap (λ (c : Bool). cond c ((sum +ℤ part) ∷ []) []) t
+adds_steps false b part sum e h = let t : int_lt part (pos 0) ≡ true = sym e ∙ h in
+    ap (λ (c : Bool). cond c ((sum +ℤ part) ∷ []) []) t
 
-pub adds_none : (is_in b : Bool) (part sum : ℤ) → b ≡ (is_in || int_lt part (pos 0)) → b ≡ false → sum_steps is_in part sum ≡ []
+pub adds_none : (is_in b : Bool) (part sum : ℤ) → b ≡ (is_in || int_lt part (pos 0)) → b ≡ false
+    → sum_steps is_in part sum ≡ []
 adds_none true b part sum e h = absurd (both_ways true (sym e ∙ h) refl)
-adds_none false b part sum e h = let t : int_lt part (pos 0) ≡ false = sym e ∙ h in ap (λ (c : Bool). cond c ((sum +ℤ part) ∷ []) []) t
+adds_none false b part sum e h = let t : int_lt part (pos 0) ≡ false = sym e ∙ h in
+    ap (λ (c : Bool). cond c ((sum +ℤ part) ∷ []) []) t
 
-pub adds_value : (is_in b : Bool) (part sum : ℤ) → b ≡ (is_in || int_lt part (pos 0)) → b ≡ true → sum +ℤ part ≡ sum +ℤ or_none is_in part
+pub adds_value : (is_in b : Bool) (part sum : ℤ) → b ≡ (is_in || int_lt part (pos 0)) → b ≡ true
+    → sum +ℤ part ≡ sum +ℤ or_none is_in part
 adds_value true b part sum e h = refl
-adds_value false b part sum e h = let l = lt_from part (pos 0) (sym e ∙ h) in let m : int_min (pos 0) part ≡ part = omega (arith, ints, clamps) in ap (λ (z : ℤ). sum +ℤ z) (sym m)
+adds_value false b part sum e h = let l = lt_from part (pos 0) (sym e ∙ h) in
+    let m : int_min (pos 0) part ≡ part = omega (arith, ints, clamps) in
+    ap (λ (z : ℤ). sum +ℤ z) (sym m)
 
-pub none_value : (is_in b : Bool) (part sum : ℤ) → b ≡ (is_in || int_lt part (pos 0)) → b ≡ false → sum ≡ sum +ℤ or_none is_in part
+pub none_value : (is_in b : Bool) (part sum : ℤ) → b ≡ (is_in || int_lt part (pos 0)) → b ≡ false
+    → sum ≡ sum +ℤ or_none is_in part
 none_value true b part sum e h = absurd (both_ways true (sym e ∙ h) refl)
 none_value false b part sum e h =
     let l = at_most_from (pos 0) part (sym e ∙ h) in
@@ -96,26 +137,35 @@ none_value false b part sum e h =
     plain z = omega (arith, ints)
 
 -- ---- the walk over the rows of a unit
-pub reduced_small : (y rate : ℕ → ℤ) (materials : List ℕ) (cost rest : ℤ) (start at : ℕ) (left : List ℕ) → length materials ≤ 256 → IsReducedSoFar y rate materials cost rest start at left → (at + 2 * length left ≤ start + 512) × (start ≤ at)
-reduced_small y rate materials cost rest start at left few so_far = let a = so_far.room in let b = so_far.steps.from_start in (omega arith, b)
+pub reduced_small : (y rate : ℕ → ℤ) (materials : List ℕ) (cost rest : ℤ) (start at : ℕ)
+    (left : List ℕ) → length materials ≤ 256 → IsReducedSoFar y rate materials cost rest start
+    at left → (at + 2 * length left ≤ start + 512) × (start ≤ at)
+reduced_small y rate materials cost rest start at left few so_far = let a = so_far.room in let b =
+    so_far.steps.from_start in (omega arith, b)
 
-pub reduced_count : (y rate : ℕ → ℤ) (materials : List ℕ) (cost rest : ℤ) (start at : ℕ) (left : List ℕ) → left ≡ [] → IsReducedSoFar y rate materials cost rest start at left
+pub reduced_count : (y rate : ℕ → ℤ) (materials : List ℕ) (cost rest : ℤ) (start at : ℕ)
+    (left : List ℕ) → left ≡ [] → IsReducedSoFar y rate materials cost rest start at left
     → at ≡ start + length (reduced_steps y rate materials cost)
 reduced_count y rate materials cost rest start at left e so_far =
-    let r = (reduced_ends y rate materials cost rest start at left e so_far).2 in let l = length_of_reduced y rate materials cost in omega arith
+    let r = (reduced_ends y rate materials cost rest start at left e so_far).2 in let l =
+    length_of_reduced y rate materials cost in omega arith
 
 -- ---- the costs of a unit
 plain : (z : ℤ) → z +ℤ pos 0 ≡ z
 plain z = omega (arith, ints)
 
-pub alone_cost : (net : Net) (alone outside : List ℕ) (u : ℕ) → alone ≡ u ∷ [] → unit_cost net (record { inside = has alone; outside = has outside }) u ≡ size_cost net u
+pub alone_cost : (net : Net) (alone outside : List ℕ) (u : ℕ) → alone ≡ u ∷ []
+    → unit_cost net (record { inside = has alone; outside = has outside }) u ≡ size_cost net u
 alone_cost net alone outside u e =
     ap (λ (xs : List ℕ). unit_cost net (record { inside = has xs; outside = has outside }) u) e
-    ∙ ap (λ (b : Bool). size_cost net u +ℤ cond (b || false) (pos 0) (slope net u *ℤ million)) (eq-eqb u u refl)
+    ∙ ap (λ (b : Bool). size_cost net u +ℤ cond (b || false) (pos 0) (slope net u *ℤ million))
+    (eq-eqb u u refl)
     ∙ plain (size_cost net u)
 
-pub alone_fixed : (fix : ℕ → ℤ) (t : ℤ) (alone : List ℕ) (u : ℕ) → alone ≡ u ∷ [] → t *ℤ total fix alone ≡ fix u *ℤ t
-alone_fixed fix t alone u e = ap (λ (xs : List ℕ). t *ℤ total fix xs) e ∙ ap (λ (z : ℤ). t *ℤ z) (plain (fix u)) ∙ turned t (fix u)
+pub alone_fixed : (fix : ℕ → ℤ) (t : ℤ) (alone : List ℕ) (u : ℕ) → alone ≡ u ∷ [] → t
+    *ℤ total fix alone ≡ fix u *ℤ t
+alone_fixed fix t alone u e = ap (λ (xs : List ℕ). t *ℤ total fix xs) e
+    ∙ ap (λ (z : ℤ). t *ℤ z) (plain (fix u)) ∙ turned t (fix u)
   where
     turned : (a b : ℤ) → a *ℤ b ≡ b *ℤ a
     turned a b = omega (arith, ints)

@@ -1,8 +1,9 @@
 -- What the code keeps of knees and of what is owed.
-use Rattle.std.specs.Prelude.{ℕ, ℤ, ◌+ℤ◌, ◌-ℤ◌, ◌*ℤ◌, List, [], ◌∷◌, map}
+use Rattle.std.specs.Prelude.{◌≡◌, ℕ, ℤ, ◌+ℤ◌, ◌-ℤ◌, ◌*ℤ◌, List, [], ◌∷◌, map}
+use Rattle.integer_laws.specs.Range.{InRange}
 use Rattle.flow_program.specs.Entry.{entry}
 use Rattle.charge_rules.specs.Charge as rules
-use Rattle.charge_rules.specs.Charge.{sorted}
+use Rattle.charge_rules.specs.Charge.{sorted, rounded_up}
 use Rattle.charges.specs.declared.bending.Owed.{Owed}
 use Rattle.charges.specs.declared.knees.Knees.{Knees}
 
@@ -22,3 +23,9 @@ knees_in k js = sorted (map (knee_at k) js)
 -- the steps for a knee of which so much counts
 abbrev pub three_steps : ℤ → ℤ → ℤ → ℤ → List ℤ
 three_steps part at each once = (part *ℤ at) ∷ (once -ℤ part *ℤ at) ∷ (each +ℤ part) ∷ []
+
+-- what is read of a material that has a knee
+abbrev pub IsKnee : Knees → (ℕ → ℤ) → (ℕ → ℤ) → (ℕ → ℤ) → ℕ → Type 0
+IsKnee k useful rate y j =
+    (entry k.at j ≡ rounded_up (useful j) (rate j))
+    × (InRange (y j *ℤ rate j) → entry k.worth j ≡ y j *ℤ rate j)

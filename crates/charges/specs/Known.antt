@@ -5,4 +5,8 @@ use Rattle.charge_rules.specs.Facts as rules
 use Rattle.charges.specs.declared.facts.Facts.{Facts}
 
 abbrev pub facts_of : Facts → rules.Facts
-facts_of f = record { least = entry f.least; most = entry f.most; used = λ j. slice_index_or f.used j None }
+facts_of f = record {
+  least = entry f.least;
+  most = entry f.most;
+  used = λ j. slice_index_or f.used j None;
+}

@@ -1,6 +1,8 @@
 -- The covers that the code hands in.
-use Rattle.std.specs.Prelude.{List, map}
+use Rattle.std.specs.Prelude.{ℕ, ◌<◌, ℤ, ◌+ℤ◌, ◌++◌, List, map, IfSome}
+use Rattle.std.specs.List.{AllByRecursion}
 use Rattle.charge_rules.specs.Cover as rules
+use Rattle.charge_rules.specs.ChargeSteps.{beside_steps}
 use Rattle.charges.specs.declared.cover.Cover.{Cover}
 
 abbrev pub cover_of : Cover → rules.Cover
@@ -8,3 +10,15 @@ cover_of c = record { weight = c.weight; beside = c.beside; units = c.units }
 
 abbrev pub covers_of : List Cover → List rules.Cover
 covers_of cs = map cover_of cs
+
+-- a unit beside a set is below 128
+abbrev pub IsBesideSmall : Cover → Type 0
+IsBesideSmall c = IfSome c.beside (λ u. u < 128)
+
+abbrev pub AreBesideSmall : List Cover → Type 0
+AreBesideSmall cs = AllByRecursion IsBesideSmall cs
+
+-- the steps for what one set pays
+abbrev pub cover_steps : (ℕ → ℤ) → rules.Cover → List ℤ
+cover_steps before c =
+    map (λ i. before i +ℤ c.weight) c.units ++ beside_steps before c.weight c.beside

@@ -12,7 +12,7 @@ use crate::products::quick_product;
 use flow_program::PastSum;
 use int_rows::{checked_difference, checked_sum};
 
-/// What is left of the cost of a size, and what the unit owes besides.
+/// What is left of the cost of a size, and what the unit owes on top of it.
 #[derive(Clone, Copy)]
 pub(crate) struct Owed {
     pub(crate) each: i128,
@@ -67,7 +67,8 @@ fn with_knee(start: u32, owed: Owed, counted: i128, at: i128) -> Result<Owed, Pa
     ensures once { IfOk result (λ to. to.once ≡ owed.once -ℤ counted *ℤ at) }
     ensures in_range { OnOk result (AreInRange (three_steps counted at owed.each owed.once)) }
     ensures from_start { IfErr result (λ e. start ≤ e.at) }
-    ensures past { IfErr result (λ e. IsFirstPast (three_steps counted at owed.each owed.once) (e.at - start)) }
+    ensures past { IfErr result (λ e. IsFirstPast
+        (three_steps counted at owed.each owed.once) (e.at - start)) }
 {
     let Some(product) = quick_product(counted, at) else {
         return Err(PastSum { at: start });
@@ -89,12 +90,17 @@ pub(crate) fn bent(
     knees: &Knees,
 ) -> Result<(Owed, u32), PastSum>
     requires room { start ≤ 400000000 }
-    ensures value { IfOk result (λ p. as_owed p.0 ≡ bent sizes.low sizes.high (knees_in knees.now knees.now.set) (as_owed owed)) }
-    ensures in_range { OnOk result (AreInRange (knee_steps sizes.low sizes.high (knees_in knees.now knees.now.set) (as_owed owed))) }
-    ensures count { IfOk result (λ p. p.1 ≡ start + length (knee_steps sizes.low sizes.high (knees_in knees.now knees.now.set) (as_owed owed))) }
+    ensures value { IfOk result (λ p. as_owed p.0
+        ≡ bent sizes.low sizes.high (knees_in knees.now knees.now.set) (as_owed owed)) }
+    ensures in_range { OnOk result (AreInRange
+        (knee_steps sizes.low sizes.high (knees_in knees.now knees.now.set) (as_owed owed))) }
+    ensures count { IfOk result (λ p. p.1 ≡ start + length
+        (knee_steps sizes.low sizes.high (knees_in knees.now knees.now.set) (as_owed owed))) }
     ensures small { IfOk result (λ p. p.1 ≤ start + 768) }
     ensures from_start { IfErr result (λ e. start ≤ e.at) }
-    ensures past { IfErr result (λ e. IsFirstPast (knee_steps sizes.low sizes.high (knees_in knees.now knees.now.set) (as_owed owed)) (e.at - start)) }
+    ensures past { IfErr result (λ e. IsFirstPast
+        (knee_steps sizes.low sizes.high (knees_in knees.now knees.now.set) (as_owed owed))
+        (e.at - start)) }
 {
     knees.set.rises();
     let mut left = knees.set;

@@ -11,8 +11,8 @@ use max_structure::maximal;
 use pgraph::Graph;
 use unit_sets::{Node, UnitSet};
 
-/// A set of units with the weight that it gets. Where a unit is `beside` it, the set speaks of the structures that have
-/// this unit.
+/// A set of units with the weight that it gets. If it has a unit `beside` it, it is only about the
+/// structures that have this unit.
 #[derive(Clone, Copy, Debug)]
 pub struct Cover {
     pub weight: i128,
@@ -20,9 +20,10 @@ pub struct Cover {
     pub units: UnitSet,
 }
 
-/// Whether no solution structure, allowed or not, contains `inside` and avoids `outside`.
+/// Whether no solution structure, clash-free or not, contains `inside` and avoids `outside`.
 fn none_between(graph: &Graph, inside: UnitSet, outside: UnitSet) -> bool
-    ensures { IsTrue result ↔ ((o : ℕ → Bool) → IsBetween (shape graph.now) (has inside) (has outside) o → ⊥) }
+    ensures { IsTrue result
+        ↔ ((o : ℕ → Bool) → IsBetween (shape graph.now) (has inside) (has outside) o → ⊥) }
 {
     match maximal(graph, outside) {
         Some(set) => !inside.within(set),
@@ -41,8 +42,8 @@ fn with_beside(set: UnitSet, beside: Option<u32>) -> UnitSet
     }
 }
 
-/// Whether each solution structure of the node, allowed or not, that has the unit beside the set has a unit of the set.
-/// It takes no memory.
+/// Whether each solution structure of the node, clash-free or not, that has the unit beside the set
+/// has a unit of the set. It takes no memory.
 pub fn covers_node(graph: &Graph, node: &Node, cover: &Cover) -> bool
     requires { IfSome cover.now.beside (λ u. u < 128) }
     ensures { IsTrue result ↔ Covers (shape graph.now) (node_of node.now) (cover_of cover.now) }
@@ -64,7 +65,8 @@ fn is_free(graph: &Graph, node: &Node, u: u32) -> bool
 
 /// Whether each unit of the set is free at the node.
 fn are_free(graph: &Graph, node: &Node, units: UnitSet) -> bool
-    ensures { IsTrue result ↔ ((u : ℕ) → has units u ≡ true → IsFree (shape graph.now) (node_of node.now) u) }
+    ensures { IsTrue result
+        ↔ ((u : ℕ) → has units u ≡ true → IsFree (shape graph.now) (node_of node.now) u) }
 {
     graph.is_proper();
     let free = UnitSet::below(graph.unit_count())
@@ -75,7 +77,9 @@ fn are_free(graph: &Graph, node: &Node, units: UnitSet) -> bool
 
 /// Whether a unit beside the set is free at the node and not in it.
 fn is_apart(graph: &Graph, node: &Node, cover: &Cover) -> bool
-    ensures { IsTrue result ↔ (IfSome cover.now.beside (IsFree (shape graph.now) (node_of node.now)) × IfSome cover.now.beside (λ u. has cover.now.units u ≡ false)) }
+    ensures { IsTrue result
+        ↔ (IfSome cover.now.beside (IsFree (shape graph.now) (node_of node.now))
+        × IfSome cover.now.beside (λ u. has cover.now.units u ≡ false)) }
 {
     graph.is_proper();
     match cover.beside {
@@ -84,8 +88,8 @@ fn is_apart(graph: &Graph, node: &Node, cover: &Cover) -> bool
     }
 }
 
-/// Whether the set and the unit beside it have the form of a cover: they are free units of the node, some in the set, and the
-/// one beside it is not among them.
+/// Whether the set and the unit beside it have the form of a cover: they are free units of the
+/// node, the set is not empty, and the unit beside it is not one of it.
 pub fn is_cover(graph: &Graph, node: &Node, cover: &Cover) -> bool
     ensures { IsTrue result ↔ IsCover (shape graph.now) (node_of node.now) (cover_of cover.now) }
 {

@@ -15,7 +15,7 @@ pub struct Facts {
 }
 
 impl Facts {
-    /// What the problem's own numbers say: sizes between the bounds of the units, and nothing of uses.
+    /// What the problem's own numbers say: sizes between the bounds of the units, and no use.
     pub fn own(problem: &Problem) -> Facts
         ensures { facts_of result ≡ own_facts (net_of problem.now) }
     {
@@ -51,7 +51,7 @@ impl Facts {
         self.most[u as usize]
     }
 
-    /// How much is used of a material at most, where that is known.
+    /// How much is used of a material at most, if that is known.
     pub(crate) fn used_of(&self, j: u32) -> Option<i64>
         requires { j < 256 }
         ensures { result ≡ (facts_of self.now).used j }

@@ -1,14 +1,18 @@
 //! The sizes above which a unit's outputs are worth nothing.
-ghost use Rattle.std.specs.Prelude.{◌≡◌, ◌<◌, ◌≤◌, ◌^◌, ◌*ℤ◌, ◌<ℤ◌, pos, [], length, unsigned_abs, IfSome, IfNone};
+ghost use Rattle.std.specs.Prelude.{◌≡◌, ◌<◌, ◌≤◌, ◌^◌, ◌*ℤ◌, ◌<ℤ◌, ◌&&◌, ◌||◌, ◌==◌, ℕ, true, int_lt, pos, [], length, unsigned_abs, IfSome, IfNone};
 ghost use Rattle.integer_laws.specs.Range.{InRange};
+ghost use Rattle.number_sets.specs.Sets.{has};
 ghost use Rattle.flow_program.specs.Entry.{entry};
 ghost use Rattle.charge_rules.specs.Charge.{rounded_up};
+ghost use Rattle.charges.specs.Bends.{IsKnee};
 ghost use Rattle.charges.specs.Firsts.{IsFirstLeast};
 
 use crate::products::quick_product;
+use crate::useful::Useful;
 use unit_sets::MatSet;
 
-/// The outputs of a unit that have knees, with the size of each knee and what the output is worth for each part of the size.
+/// The outputs of a unit that have knees, with the size of each knee, and what the output is worth
+/// for each part of the size.
 #[derive(Drop)]
 pub(crate) struct Knees {
     pub(crate) set: MatSet,
@@ -25,7 +29,7 @@ fn rounded_up(x: i128, y: i64) -> i128
     (x + (y as i128 - 1)) / y as i128
 }
 
-/// What so much of an output is worth, where that is in range.
+/// What so much of an output is worth, if that is in range.
 fn worth_of(y: i128, rate: i64) -> i128
     ensures { InRange (y *ℤ rate) → result ≡ y *ℤ rate }
 {
@@ -47,4 +51,55 @@ pub(crate) fn first_knee(at: &[i128], set: MatSet) -> Option<u32>
         }
     }
     Some(best)
+}
+
+/// The set, with the material if that is asked for.
+fn with_where(set: MatSet, j: u32, is_in: bool) -> MatSet
+    requires { j < 256 }
+    ensures { (v : ℕ) → has result v ≡ (has set v || (is_in && j == v)) }
+{
+    if is_in { set.with(j) } else { set }
+}
+
+/// Whether a material is made and pays.
+fn pays(rate: i64, y: i128) -> bool
+    ensures { result ≡ (int_lt (pos 0) rate && int_lt (pos 0) y) }
+{
+    rate > 0 && y > 0
+}
+
+/// The materials of the set that are made and pay.
+fn paying(set: MatSet, rates: &[i64], ys: &[i128]) -> MatSet
+    requires all_rates { length rates.now ≡ 256 }
+    requires all_ys { length ys.now ≡ 256 }
+    ensures { (j : ℕ) → has result j
+        ≡ (has set j && (int_lt (pos 0) (entry rates.now j) && int_lt (pos 0) (entry ys.now j))) }
+{
+    let mut found = MatSet::empty();
+    for j in set {
+        let is_in = pays(rates[j as usize], ys[j as usize]);
+        found = with_where(found, j, is_in);
+    }
+    found
+}
+
+/// The knees of a unit that has the materials at these rates.
+pub(crate) fn knees_of(useful: &Useful, materials: MatSet, rates: &[i64], ys: &[i128]) -> Knees
+    requires small { (j : ℕ) → unsigned_abs (entry useful.now.most j) ≤ 10 ^ 37 }
+    requires all_rates { length rates.now ≡ 256 }
+    requires all_ys { length ys.now ≡ 256 }
+    ensures set { (j : ℕ) → has result.set j
+        ≡ ((has materials j && has useful.now.made j)
+        && (int_lt (pos 0) (entry rates.now j) && int_lt (pos 0) (entry ys.now j))) }
+    ensures knees { (j : ℕ) → has result.set j ≡ true
+        → IsKnee result (entry useful.now.most) (entry rates.now) (entry ys.now) j }
+{
+    let set = paying(materials.meet(useful.made), rates, ys);
+    let mut at = [0; 256];
+    let mut worth = [0; 256];
+    for j in set {
+        at[j as usize] = rounded_up(useful.most[j as usize], rates[j as usize]);
+        worth[j as usize] = worth_of(ys[j as usize], rates[j as usize]);
+    }
+    Knees { set, at, worth }
 }

@@ -18,7 +18,8 @@ fn short_product(a: i64, b: i64) -> i128
     a as i128 * b as i128
 }
 
-/// The product, or `None` exactly where it is out of range. Where both numbers are short there is nothing to check.
+/// The product, or `None` exactly if it overflows. If both numbers are short there is nothing to
+/// check.
 pub(crate) fn quick_product(a: i128, b: i128) -> Option<i128>
     ensures { SomeIff result (InRange (a *ℤ b)) (a *ℤ b) }
 {
@@ -31,8 +32,8 @@ pub(crate) fn quick_product(a: i128, b: i128) -> Option<i128>
     }
 }
 
-/// The lesser of `factor * low` and `factor * high`, where it is in range and `low` is at most `high`; the greater is not
-/// formed.
+/// The lesser of `factor * low` and `factor * high`, or `None` exactly if it overflows. As `low` is
+/// at most `high`, the greater is not formed.
 fn ordered_product(factor: i128, low: i128, high: i128) -> Option<i128>
     requires { low ≤ℤ high }
     ensures { SomeIff result (InRange (least_of factor low high)) (least_of factor low high) }
@@ -44,7 +45,8 @@ fn ordered_product(factor: i128, low: i128, high: i128) -> Option<i128>
     }
 }
 
-/// The lesser of `factor * low` and `factor * high`, where it is in range; the greater is not formed.
+/// The lesser of `factor * low` and `factor * high`, or `None` exactly if it overflows. The greater
+/// is not formed.
 fn lesser_product(factor: i128, low: i128, high: i128) -> Option<i128>
     ensures { SomeIff result (InRange (least_of factor low high)) (least_of factor low high) }
 {
@@ -67,7 +69,8 @@ pub(crate) fn with_least(
     ensures in_range { OnOk result (AreInRange (least_steps factor low high from.sum)) }
     ensures count { IfOk result (λ to. to.at ≡ from.at + 2) }
     ensures from_start { IfErr result (λ e. from.at ≤ e.at) }
-    ensures past { IfErr result (λ e. IsFirstPast (least_steps factor low high from.sum) (e.at - from.at)) }
+    ensures past { IfErr result (λ e. IsFirstPast
+        (least_steps factor low high from.sum) (e.at - from.at)) }
 {
     let Some(least) = lesser_product(factor, low, high) else {
         return Err(PastSum { at: from.at });

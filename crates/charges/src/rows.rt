@@ -28,11 +28,15 @@ pub(crate) fn rows_sum(
     requires known { (j : ℕ) → has rows j ≡ true → j < length problem.now.materials }
     requires needed { AreNeeded (shape_of problem.now) (node_of node.now) needed }
     requires all_ys { length ys.now ≡ 256 }
-    ensures value { IfOk result (λ to. to.sum ≡ total (row_part (net_of problem.now) (node_of node.now) (entry ys.now)) rows) }
-    ensures in_range { OnOk result (AreInRange (rows_steps (net_of problem.now) (node_of node.now) (entry ys.now) rows (pos 0))) }
-    ensures count { IfOk result (λ to. to.at ≡ length (rows_steps (net_of problem.now) (node_of node.now) (entry ys.now) rows (pos 0))) }
+    ensures value { IfOk result (λ to. to.sum
+        ≡ total (row_part (net_of problem.now) (node_of node.now) (entry ys.now)) rows) }
+    ensures in_range { OnOk result (AreInRange
+        (rows_steps (net_of problem.now) (node_of node.now) (entry ys.now) rows (pos 0))) }
+    ensures count { IfOk result (λ to. to.at ≡ length
+        (rows_steps (net_of problem.now) (node_of node.now) (entry ys.now) rows (pos 0))) }
     ensures small { IfOk result (λ to. to.at ≤ 512) }
-    ensures past { IfErr result (λ e. IsFirstPast (rows_steps (net_of problem.now) (node_of node.now) (entry ys.now) rows (pos 0)) e.at) }
+    ensures past { IfErr result (λ e. IsFirstPast
+        (rows_steps (net_of problem.now) (node_of node.now) (entry ys.now) rows (pos 0)) e.at) }
 {
     problem.is_valid();
     let mut sum = 0;

@@ -5,7 +5,7 @@ ghost use Rattle.flow_program.specs.Entry.{entry};
 
 use unit_sets::MatSet;
 
-/// The value that stands beside each material of the set, 0 beside each other.
+/// The value of each material of the set, 0 for each other.
 pub(crate) fn table_of(set: MatSet, values: &[i128]) -> [i128; 256]
     requires { length values.now ≡ length set }
     ensures { entry result ≡ beside set values.now }

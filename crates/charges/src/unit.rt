@@ -54,7 +54,8 @@ pub(crate) fn costs_of(problem: &Problem, u: u32, materials: MatSet, rates: &[i6
     }
 }
 
-/// What is read of a unit: whether it is taken in, its costs, what the covers pay to it, and its sizes.
+/// What is read of a unit: whether it is taken in, its costs, what the covers pay to it, and its
+/// sizes.
 #[derive(Clone, Copy)]
 pub(crate) struct Terms {
     pub(crate) is_in: bool,
@@ -63,7 +64,8 @@ pub(crate) struct Terms {
     pub(crate) sizes: Sizes,
 }
 
-/// What is left of a cost after the rows of the materials have paid, and the number of the step that comes next.
+/// What is left of a cost after the rows of the materials have paid, and the number of the step
+/// that comes next.
 fn reduced(
     start: u32,
     cost: i128,
@@ -74,12 +76,16 @@ fn reduced(
     requires all_rates { length rates.now ≡ 256 }
     requires all_ys { length ys.now ≡ 256 }
     requires room { start ≤ 300000000 }
-    ensures value { IfOk result (λ p. p.0 ≡ left_of (entry ys.now) (entry rates.now) materials cost) }
-    ensures in_range { OnOk result (AreInRange (reduced_steps (entry ys.now) (entry rates.now) materials cost)) }
-    ensures count { IfOk result (λ p. p.1 ≡ start + length (reduced_steps (entry ys.now) (entry rates.now) materials cost)) }
+    ensures value { IfOk result (λ p. p.0
+        ≡ left_of (entry ys.now) (entry rates.now) materials cost) }
+    ensures in_range { OnOk result (AreInRange
+        (reduced_steps (entry ys.now) (entry rates.now) materials cost)) }
+    ensures count { IfOk result (λ p. p.1
+        ≡ start + length (reduced_steps (entry ys.now) (entry rates.now) materials cost)) }
     ensures small { IfOk result (λ p. p.1 ≤ start + 512) }
     ensures from_start { IfErr result (λ e. start ≤ e.at) }
-    ensures past { IfErr result (λ e. IsFirstPast (reduced_steps (entry ys.now) (entry rates.now) materials cost) (e.at - start)) }
+    ensures past { IfErr result (λ e. IsFirstPast
+        (reduced_steps (entry ys.now) (entry rates.now) materials cost) (e.at - start)) }
 {
     let mut rest = cost;
     let mut at = start;
@@ -102,7 +108,8 @@ fn once_of(start: u32, d: i128, fixed: i128, paid: i128) -> Result<i128, PastSum
     ensures value { IfOk result (λ once. once ≡ d *ℤ fixed -ℤ paid) }
     ensures in_range { OnOk result (AreInRange ((d *ℤ fixed) ∷ (d *ℤ fixed -ℤ paid) ∷ [])) }
     ensures from_start { IfErr result (λ e. start ≤ e.at) }
-    ensures past { IfErr result (λ e. IsFirstPast ((d *ℤ fixed) ∷ (d *ℤ fixed -ℤ paid) ∷ []) (e.at - start)) }
+    ensures past { IfErr result (λ e. IsFirstPast
+        ((d *ℤ fixed) ∷ (d *ℤ fixed -ℤ paid) ∷ []) (e.at - start)) }
 {
     let Some(whole) = quick_product(d, fixed) else {
         return Err(PastSum { at: start });
@@ -123,12 +130,21 @@ fn owed_of(
 ) -> Result<(Owed, u32), PastSum>
     requires all_rates { length rates.now ≡ 256 }
     requires room { start ≤ 200000000 }
-    ensures value { IfOk result (λ p. as_owed p.0 ≡ owed_in multipliers.now.d terms.costs.size terms.costs.fixed terms.paid (entry multipliers.now.ys) (entry rates.now) materials) }
-    ensures in_range { OnOk result (AreInRange (owed_steps multipliers.now.d terms.costs.size terms.costs.fixed terms.paid (entry multipliers.now.ys) (entry rates.now) materials)) }
-    ensures count { IfOk result (λ p. p.1 ≡ start + length (owed_steps multipliers.now.d terms.costs.size terms.costs.fixed terms.paid (entry multipliers.now.ys) (entry rates.now) materials)) }
+    ensures value { IfOk result (λ p. as_owed p.0
+        ≡ owed_in multipliers.now.d terms.costs.size terms.costs.fixed terms.paid
+        (entry multipliers.now.ys) (entry rates.now) materials) }
+    ensures in_range { OnOk result (AreInRange
+        (owed_steps multipliers.now.d terms.costs.size terms.costs.fixed terms.paid
+        (entry multipliers.now.ys) (entry rates.now) materials)) }
+    ensures count { IfOk result (λ p. p.1 ≡ start + length
+        (owed_steps multipliers.now.d terms.costs.size terms.costs.fixed terms.paid
+        (entry multipliers.now.ys) (entry rates.now) materials)) }
     ensures small { IfOk result (λ p. p.1 ≤ start + 515) }
     ensures from_start { IfErr result (λ e. start ≤ e.at) }
-    ensures past { IfErr result (λ e. IsFirstPast (owed_steps multipliers.now.d terms.costs.size terms.costs.fixed terms.paid (entry multipliers.now.ys) (entry rates.now) materials) (e.at - start)) }
+    ensures past { IfErr result (λ e. IsFirstPast
+        (owed_steps multipliers.now.d terms.costs.size terms.costs.fixed terms.paid
+        (entry multipliers.now.ys) (entry rates.now) materials)
+        (e.at - start)) }
 {
     let Some(cost) = quick_product(multipliers.d, terms.costs.size) else {
         return Err(PastSum { at: start });
@@ -145,12 +161,17 @@ fn owed_of(
 /// The least that is owed at some size, and the number of the step that comes next.
 fn least_of(start: u32, owed: Owed, sizes: Sizes, knees: &Knees) -> Result<Running, PastSum>
     requires room { start ≤ 300000000 }
-    ensures value { IfOk result (λ to. to.sum ≡ charge_in sizes.low sizes.high (knees_in knees.now knees.now.set) (as_owed owed)) }
-    ensures in_range { OnOk result (AreInRange (bent_steps sizes.low sizes.high (knees_in knees.now knees.now.set) (as_owed owed))) }
-    ensures count { IfOk result (λ to. to.at ≡ start + length (bent_steps sizes.low sizes.high (knees_in knees.now knees.now.set) (as_owed owed))) }
+    ensures value { IfOk result (λ to. to.sum
+        ≡ charge_in sizes.low sizes.high (knees_in knees.now knees.now.set) (as_owed owed)) }
+    ensures in_range { OnOk result (AreInRange
+        (bent_steps sizes.low sizes.high (knees_in knees.now knees.now.set) (as_owed owed))) }
+    ensures count { IfOk result (λ to. to.at ≡ start + length
+        (bent_steps sizes.low sizes.high (knees_in knees.now knees.now.set) (as_owed owed))) }
     ensures small { IfOk result (λ to. to.at ≤ start + 770) }
     ensures from_start { IfErr result (λ e. start ≤ e.at) }
-    ensures past { IfErr result (λ e. IsFirstPast (bent_steps sizes.low sizes.high (knees_in knees.now knees.now.set) (as_owed owed)) (e.at - start)) }
+    ensures past { IfErr result (λ e. IsFirstPast
+        (bent_steps sizes.low sizes.high (knees_in knees.now knees.now.set) (as_owed owed))
+        (e.at - start)) }
 {
     match bent(start, owed, sizes, knees) {
         Err(past) => Err(past),
@@ -164,7 +185,8 @@ fn least_of(start: u32, owed: Owed, sizes: Sizes, knees: &Knees) -> Result<Runni
     }
 }
 
-/// Whether the part of a unit is added to the sum: always where it is taken in, else where the part is below 0.
+/// Whether the part of a unit is added to the sum: always if it is taken in, else if the part is
+/// below 0.
 fn adds(is_in: bool, part: i128) -> bool
     ensures { result ≡ (is_in || int_lt part (pos 0)) }
 {
@@ -179,7 +201,8 @@ fn with_part(from: Running, is_in: bool, part: i128) -> Result<Running, PastSum>
     ensures count { IfOk result (λ to. to.at ≡ from.at + length (sum_steps is_in part from.sum)) }
     ensures small { IfOk result (λ to. to.at ≤ from.at + 1) }
     ensures from_start { IfErr result (λ e. from.at ≤ e.at) }
-    ensures past { IfErr result (λ e. IsFirstPast (sum_steps is_in part from.sum) (e.at - from.at)) }
+    ensures past { IfErr result (λ e. IsFirstPast
+        (sum_steps is_in part from.sum) (e.at - from.at)) }
 {
     let adds = adds(is_in, part);
     if adds {
@@ -206,12 +229,22 @@ pub(crate) fn with_unit(
 ) -> Result<Running, PastSum>
     requires all_rates { length rates.now ≡ 256 }
     requires room { from.at ≤ 200000000 }
-    ensures value { IfOk result (λ to. to.sum ≡ from.sum +ℤ or_none terms.is_in (charge_in terms.sizes.low terms.sizes.high (knees_in knees.now knees.now.set) (owed_in multipliers.now.d terms.costs.size terms.costs.fixed terms.paid (entry multipliers.now.ys) (entry rates.now) materials))) }
-    ensures in_range { OnOk result (AreInRange (column_steps terms (knees_in knees.now knees.now.set) multipliers.now.d (entry multipliers.now.ys) (entry rates.now) materials from.sum)) }
-    ensures count { IfOk result (λ to. to.at ≡ from.at + length (column_steps terms (knees_in knees.now knees.now.set) multipliers.now.d (entry multipliers.now.ys) (entry rates.now) materials from.sum)) }
+    ensures value { IfOk result (λ to. to.sum ≡ from.sum +ℤ or_none terms.is_in
+        (charge_in terms.sizes.low terms.sizes.high (knees_in knees.now knees.now.set)
+        (owed_in multipliers.now.d terms.costs.size terms.costs.fixed terms.paid
+        (entry multipliers.now.ys) (entry rates.now) materials))) }
+    ensures in_range { OnOk result (AreInRange
+        (column_steps terms (knees_in knees.now knees.now.set) multipliers.now.d
+        (entry multipliers.now.ys) (entry rates.now) materials from.sum)) }
+    ensures count { IfOk result (λ to. to.at ≡ from.at + length
+        (column_steps terms (knees_in knees.now knees.now.set) multipliers.now.d
+        (entry multipliers.now.ys) (entry rates.now) materials from.sum)) }
     ensures small { IfOk result (λ to. to.at ≤ from.at + 1290) }
     ensures from_start { IfErr result (λ e. from.at ≤ e.at) }
-    ensures past { IfErr result (λ e. IsFirstPast (column_steps terms (knees_in knees.now knees.now.set) multipliers.now.d (entry multipliers.now.ys) (entry rates.now) materials from.sum) (e.at - from.at)) }
+    ensures past { IfErr result (λ e. IsFirstPast
+        (column_steps terms (knees_in knees.now knees.now.set) multipliers.now.d
+        (entry multipliers.now.ys) (entry rates.now) materials from.sum)
+        (e.at - from.at)) }
 {
     match owed_of(from.at, multipliers, terms, materials, rates) {
         Err(past) => Err(past),

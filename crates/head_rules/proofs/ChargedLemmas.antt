@@ -9,12 +9,13 @@ use Rattle.pns_rules.specs.Nodes.{Node}
 use Rattle.flow_rules.specs.Net.{net_of}
 use Rattle.flow_rules.specs.Flows.{cost}
 use Rattle.charge_rules.specs.Cover.{Cover}
+use Rattle.charge_rules.specs.Leaf.{IsScale, CoversPass, multiplier, charge_of, ChargeReaches}
 use Rattle.charge_rules.specs.Laws.{AreCovers}
 use Rattle.charge_rules.proofs.DualityLemmas.{charge_duality, charge_refutes}
-use Rattle.tree_rules.specs.Claim.{CostOver}
+use Rattle.tree_rules.specs.Claim.{CostOver, IsAtLeast}
 use Rattle.tree_rules.specs.Costs.{HasFallen}
-use Rattle.tree_rules.specs.Leaf.{multiplier}
-use Rattle.head_rules.specs.Charged.{CoversPass, charge_of, ChargeReaches}
+use Rattle.tree_rules.specs.Leaf.{IsClaimed}
+use Rattle.head_rules.specs.Charged.{handed}
 use Rattle.head_rules.specs.Head.{HeadLine, step, cap, out, trim, after_line, LinePasses}
 use Rattle.head_rules.specs.Keeps.{IsBelow}
 use Rattle.head_rules.specs.Laws.{IsCost, ChargedIsEmpty, CheaperIsCharged, CheaperPasses}
@@ -40,27 +41,35 @@ too_cheap m k x d c e some_k some_d some_e reach dual below =
     crossed : (p q r s t v : ℤ) → p <ℤ q → r ≤ℤ s → t ≤ℤ v → p ≡ s → v ≡ r → q ≡ t → ⊥
     crossed p q r s t v a b f g h i = omega (arith, ints)
 
-are_covers : (g : Shape) (n : Node) (covers : List Cover) → CoversPass g n covers → AreCovers g n covers
+are_covers : (g : Shape) (n : Node) (covers : List Cover) → CoversPass g n covers
+    → AreCovers g n covers
 are_covers g n [] h = tt
 are_covers g n (c ∷ cs) h = ((h.0.weight, h.0.covers), are_covers g n cs h.1)
+
+not_negative : {C : Type 0} {d : ℤ} → IsScale C d → pos 0 ≤ℤ d
+not_negative (inl e) = omega (arith, ints)
+not_negative (inr h) = let some = h.0 in omega (arith, ints)
 
 pub charged_is_empty : ChargedIsEmpty
 charged_is_empty p valid claimed over n f facts d ys covers charged s between z e under fit =
     at claimed over charged.reaches under.cheaper
   where
-    at : (k : Option CostOver) → IsCost k → ChargeReaches k (charge_of p n f d ys covers) d
+    at : (k : Option CostOver) → IsCost k
+        → ChargeReaches (IsAtLeast k) (charge_of p n f (handed d ys covers)) d
         → IsBelow k (cost (net_of p) s z e) e → ⊥
     at None o (inl h) b = absurd h.1
     at (Some k) o (inl h) b =
-        too_cheap k.cost k.d (charge_of p n f d ys covers) d (cost (net_of p) s z e) e o h.0
+        too_cheap k.cost k.d (charge_of p n f (handed d ys covers)) d (cost (net_of p) s z e) e o
+        h.0
         under.flows.positive h.1
         (charge_duality p valid n s between f facts z e under.flows fit covers
-        (are_covers (shape_of p) n covers charged.covered) d charged.not_negative
-        (multiplier p n ys)) b
+        (are_covers (shape_of p) n covers charged.covered) d (not_negative charged.scale)
+        (multiplier p n (handed d ys covers))) b
     at k o (inr h) b =
         charge_refutes p valid n s between f facts covers
-        (are_covers (shape_of p) n covers charged.covered) (multiplier p n ys)
-        (subst (λ (x : ℤ). pos 0 <ℤ charge_of p n f x ys covers) h.0 h.1) z e under.flows fit
+        (are_covers (shape_of p) n covers charged.covered) (multiplier p n (handed d ys covers))
+        (subst (λ (x : ℤ). pos 0 <ℤ charge_of p n f (handed x ys covers)) h.0 h.1) z e under.flows
+        fit
 
 -- ---- claims that cost less
 
@@ -83,20 +92,29 @@ lower_reach m k b c x d some_k some_c some_d fallen reach =
     chained p q r s t v h f i g j = omega (arith, ints)
 
 reaches_cheaper : (claimed cheaper : Option CostOver) → IsCost claimed → IsCost cheaper
-    → HasFallen claimed cheaper → (x d : ℤ) → ChargeReaches claimed x d → ChargeReaches cheaper x d
+    → HasFallen claimed cheaper → (x d : ℤ) → ChargeReaches (IsAtLeast claimed) x d
+    → ChargeReaches (IsAtLeast cheaper) x d
 reaches_cheaper None b o q fallen x d (inl h) = absurd h.1
 reaches_cheaper (Some a) None o q fallen x d (inl h) = absurd fallen
 reaches_cheaper (Some a) (Some b) o q fallen x d (inl h) =
     inl (h.0, lower_reach a.cost a.d b.cost b.d x d o q h.0 fallen h.1)
 reaches_cheaper a b o q fallen x d (inr h) = inr h
 
+scale_cheaper : (claimed cheaper : Option CostOver) → HasFallen claimed cheaper → (d : ℤ)
+    → IsScale (IsClaimed claimed) d → IsScale (IsClaimed cheaper) d
+scale_cheaper a b fallen d (inl e) = inl e
+scale_cheaper None b fallen d (inr h) = absurd h.1
+scale_cheaper (Some a) None fallen d (inr h) = absurd fallen
+scale_cheaper (Some a) (Some b) fallen d (inr h) = inr (h.0, tt)
+
 pub cheaper_is_charged : CheaperIsCharged
 cheaper_is_charged p claimed cheaper o q fallen n f d ys covers h = record {
-  covered = h.covered;
-  not_negative = h.not_negative;
+  scale = scale_cheaper claimed cheaper fallen d h.scale;
   each_row = h.each_row;
+  covered = h.covered;
   formed = h.formed;
-  reaches = reaches_cheaper claimed cheaper o q fallen (charge_of p n f d ys covers) d h.reaches;
+  reaches = reaches_cheaper claimed cheaper o q fallen (charge_of p n f (handed d ys covers)) d
+      h.reaches;
 }
 
 pub cheaper_passes : CheaperPasses

@@ -1,20 +1,21 @@
--- The head of a tree for the example, for the claimed cost of 65, that of U3 and U4 at size 20. U4 is
--- taken in as the sole maker of P. Nothing beyond 20 of P can be of use, so no size above 20 of U4,
--- and then no more than 20 of C: no unit is larger than 20. U3 at a price of 3 for C owes 20 - 20 *
--- 1 = 0, so with U1 a network costs 60 + 5 + 10 at least, and U1 is left out; with U2 at size 1 or
--- more it costs 60 + 5 + 1 + 1, so U2 is not larger. What is known then charges the node with 65:
--- no network costs less, and the tree is one leaf.
-use Rattle.std.proofs.Common.{◌≡◌, ℤ, pos, negsuc, true, false, List, [], ◌∷◌, refl, arith, inl, map}
+-- The head of a tree for the example, for the claimed cost of 65, that of U3 and U4 at size 20. U4
+-- is taken in as the sole maker of P. Nothing beyond 20 of P can be of use, so no size above 20 of
+-- U4, and then no more than 20 of C: no unit is larger than 20. U3 at a price of 3 for C owes
+-- 20 - 20 * 1 = 0, so with U1 a network costs 60 + 5 + 10 at least, and U1 is left out; with U2 at
+-- size 1 or more it costs 60 + 5 + 1 + 1, so U2 is not larger. What is known then charges the node
+-- with 65: no network costs less, and the tree is one leaf.
+use Rattle.std.proofs.Common.{◌≡◌, ℤ, pos, negsuc, true, false, List, [], ◌∷◌, refl, arith, inl, inr, map}
 use Rattle.std.specs.Prelude.{Option, Some}
 use Rattle.number_sets.specs.Sets.{listed}
 use Rattle.pns_rules.specs.Nodes.{Node, sole}
 use Rattle.flow_rules.specs.Net.{Net, net_of}
 use Rattle.charge_rules.specs.Facts.{Facts}
 use Rattle.charge_rules.specs.ChargeSteps.{charge_steps}
+use Rattle.charge_rules.specs.Leaf.{charge_of}
 use Rattle.tree_rules.specs.Claim.{CostOver}
 use Rattle.tree_rules.specs.Leaf.{multiplier}
 use Rattle.tree_rules.specs.Accepted.{first_node}
-use Rattle.head_rules.specs.Charged.{charge_of, IsCharged}
+use Rattle.head_rules.specs.Charged.{handed, IsCharged}
 use Rattle.head_rules.specs.Trim.{MayTrim}
 use Rattle.head_rules.specs.Head.{HeadLine, step, cap, out, trim, Known, known_first, with_in, with_least, after_lines, LinesPass}
 use Rattle.head_rules.proofs.ExampleProblem.{example}
@@ -29,7 +30,7 @@ claimed = Some (record { cost = pos 65000000000000000000; d = pos 1 })
 abbrev prices : List ℤ
 prices = pos 0 ∷ pos 0 ∷ pos 3000000 ∷ pos 3000000 ∷ []
 
--- ---- what is known behind each line
+-- ---- what is known after each line
 
 abbrev known : List HeadLine → Known
 known lines = after_lines example (known_first example first_node) lines
@@ -57,7 +58,7 @@ head =
     step (sole 3 3) ∷ trim 3 ∷ trim 0 ∷ trim 1 ∷ trim 2 ∷ out 0 (pos 1) prices []
     ∷ cap 1 (pos 1000000) (pos 1) prices [] ∷ []
 
--- the greatest sizes before the first line, behind the trims, and behind the last line
+-- the greatest sizes before the first line, after the trims, and after the last line
 sizes : (map (known []).facts.most (0 ∷ 1 ∷ 2 ∷ 3 ∷ [])
     ≡ pos 100000000 ∷ pos 100000000 ∷ pos 100000000 ∷ pos 150000000 ∷ [])
     × (map (known five).facts.most (0 ∷ 1 ∷ 2 ∷ 3 ∷ [])
@@ -67,18 +68,20 @@ sizes : (map (known []).facts.most (0 ∷ 1 ∷ 2 ∷ 3 ∷ [])
 unfolding listed
 sizes = (refl, refl, refl)
 
--- the charges of the two lines, and of the node behind them
-charges : (charge_of example (with_in (known five).node 0) (known five).facts (pos 1) prices []
+-- the charges of the two lines, and of the node after them
+charges :
+    (charge_of example (with_in (known five).node 0) (known five).facts (handed (pos 1) prices [])
     ≡ pos 75000000000000000000)
     × (charge_of example (with_in (known six).node 1)
-    (with_least (known six).facts 1 (pos 1000000)) (pos 1) prices [] ≡ pos 67000000000000000000)
-    × (charge_of example (known head).node (known head).facts (pos 1) prices []
+    (with_least (known six).facts 1 (pos 1000000)) (handed (pos 1) prices [])
+    ≡ pos 67000000000000000000)
+    × (charge_of example (known head).node (known head).facts (handed (pos 1) prices [])
     ≡ pos 65000000000000000000)
 unfolding listed
 charges = (refl, refl, refl)
 
 -- before the units are trimmed the node is charged less than nothing
-untrimmed : charge_of example (known one).node (known one).facts (pos 1) prices []
+untrimmed : charge_of example (known one).node (known one).facts (handed (pos 1) prices [])
     ≡ negsuc 14999999999999999999
 unfolding listed
 untrimmed = refl
@@ -109,8 +112,10 @@ may_trim_first = record {
   costs = at_most _ _ tt;
   no_raw = each_below 4 _ ((((tt, λ h. absurd h.lt), λ h. absurd h.lt), λ h. refl), λ h. refl);
   inputs =
-      each_below 4 _
-      ((((tt, λ h. at_most _ _ tt), λ h. at_most _ _ tt), λ h. at_most _ _ tt), λ h. at_most _ _ tt);
+      each_below 4 _ (
+        (((tt, λ h. at_most _ _ tt), λ h. at_most _ _ tt), λ h. at_most _ _ tt),
+        λ h. at_most _ _ tt,
+      );
   less = at_most _ _ tt;
 }
 
@@ -122,8 +127,10 @@ may_trim_second = record {
   costs = at_most _ _ tt;
   no_raw = each_below 4 _ ((((tt, λ h. absurd h.lt), λ h. absurd h.lt), λ h. refl), λ h. refl);
   inputs =
-      each_below 4 _
-      ((((tt, λ h. at_most _ _ tt), λ h. at_most _ _ tt), λ h. at_most _ _ tt), λ h. at_most _ _ tt);
+      each_below 4 _ (
+        (((tt, λ h. at_most _ _ tt), λ h. at_most _ _ tt), λ h. at_most _ _ tt),
+        λ h. at_most _ _ tt,
+      );
   less = at_most _ _ tt;
 }
 
@@ -135,20 +142,23 @@ may_trim_third = record {
   costs = at_most _ _ tt;
   no_raw = each_below 4 _ ((((tt, λ h. absurd h.lt), λ h. absurd h.lt), λ h. refl), λ h. refl);
   inputs =
-      each_below 4 _
-      ((((tt, λ h. at_most _ _ tt), λ h. at_most _ _ tt), λ h. at_most _ _ tt), λ h. at_most _ _ tt);
+      each_below 4 _ (
+        (((tt, λ h. at_most _ _ tt), λ h. at_most _ _ tt), λ h. at_most _ _ tt),
+        λ h. at_most _ _ tt,
+      );
   less = at_most _ _ tt;
 }
 
 abbrev steps_of : Node → Facts → List ℤ
 steps_of n f = charge_steps net n f (pos 1) (multiplier example n prices) []
 
-out_charged : IsCharged example claimed (with_in (known five).node 0) (known five).facts (pos 1) prices []
+out_charged : IsCharged example claimed (with_in (known five).node 0) (known five).facts (pos 1)
+    prices []
 unfolding listed
 out_charged = record {
-  covered = tt;
-  not_negative = at_most _ _ tt;
+  scale = inr (at_most _ _ tt, tt);
   each_row = refl;
+  covered = tt;
   formed = in_range (steps_of (with_in (known five).node 0) (known five).facts) refl;
   reaches = inl (at_most _ _ tt, at_most _ _ tt);
 }
@@ -157,9 +167,9 @@ cap_charged : IsCharged example claimed (with_in (known six).node 1)
     (with_least (known six).facts 1 (pos 1000000)) (pos 1) prices []
 unfolding listed
 cap_charged = record {
-  covered = tt;
-  not_negative = at_most _ _ tt;
+  scale = inr (at_most _ _ tt, tt);
   each_row = refl;
+  covered = tt;
   formed =
       in_range
       (steps_of (with_in (known six).node 1) (with_least (known six).facts 1 (pos 1000000))) refl;
@@ -200,13 +210,13 @@ lines_pass = (
   ),
 )
 
--- the node behind them is charged all of the claimed cost
+-- the node after them is charged all of the claimed cost
 is_charged : IsCharged example claimed (known head).node (known head).facts (pos 1) prices []
 unfolding listed
 is_charged = record {
-  covered = tt;
-  not_negative = at_most _ _ tt;
+  scale = inr (at_most _ _ tt, tt);
   each_row = refl;
+  covered = tt;
   formed = in_range (steps_of (known head).node (known head).facts) refl;
   reaches = inl (at_most _ _ tt, at_most _ _ tt);
 }

@@ -11,10 +11,35 @@ term_of x = record { material = x; rate = pos 1000000 } ∷ []
 
 abbrev pub example : Problem
 example = record {
-  materials = record { name = 65 ∷ []; kind = raw_material; price = pos 2000000; lower = pos 0; upper = pos 1000000000000000 }
-      ∷ record { name = 66 ∷ []; kind = raw_material; price = pos 3000000; lower = pos 0; upper = pos 1000000000000000 }
-      ∷ record { name = 67 ∷ []; kind = intermediate; price = pos 0; lower = pos 0; upper = pos 1000000000000000 }
-      ∷ record { name = 80 ∷ []; kind = product; price = pos 0; lower = pos 20000000; upper = pos 20000000 }
+  materials =
+      record {
+        name = 65 ∷ [];
+        kind = raw_material;
+        price = pos 2000000;
+        lower = pos 0;
+        upper = pos 1000000000000000;
+      }
+      ∷ record {
+        name = 66 ∷ [];
+        kind = raw_material;
+        price = pos 3000000;
+        lower = pos 0;
+        upper = pos 1000000000000000;
+      }
+      ∷ record {
+        name = 67 ∷ [];
+        kind = intermediate;
+        price = pos 0;
+        lower = pos 0;
+        upper = pos 1000000000000000;
+      }
+      ∷ record {
+        name = 80 ∷ [];
+        kind = product;
+        price = pos 0;
+        lower = pos 20000000;
+        upper = pos 20000000;
+      }
       ∷ [];
   units = record {
     name = 85 ∷ 49 ∷ [];

@@ -1,25 +1,15 @@
 -- Lines that pass have no fault, and what fails does so for one cause.
-use Rattle.std.proofs.Common.{◌≡◌, ℕ, zero, suc, [], ◌∷◌, sym, ap, ◌∙◌, refl, inl, inr}
+use Rattle.std.proofs.Common.{◌≡◌, ℕ, zero, suc, [], ◌∷◌, sym, ap, ◌∙◌, refl}
 use Rattle.std.specs.Prelude.{Option}
 use Rattle.problem_rules.specs.Problem.{Problem}
-use Rattle.tree_rules.specs.Claim.{CostOver}
+use Rattle.charge_rules.proofs.LeafLemmas.{holds, one_of, passing_has_no_cause, cause_is_one}
+use Rattle.tree_rules.specs.Claim.{CostOver, IsAtLeast}
+use Rattle.tree_rules.specs.Leaf.{IsClaimed}
 use Rattle.head_rules.specs.declared.line_why.LineWhy.{LineWhy}
 use Rattle.head_rules.specs.Head.{HeadLine, step, cap, out, trim, Known, after_line, LinePasses}
-use Rattle.head_rules.specs.Faults.{FailsFor, LineFails}
+use Rattle.head_rules.specs.Charged.{handed}
+use Rattle.head_rules.specs.Faults.{line_why, LineFails}
 use Rattle.head_rules.specs.Laws.{PassingHasNoFault, FaultIsOne, ChargedHasNoFault, ChargeFaultIsOne}
-
-holds : (Condition : Type 0) (cause : LineWhy) (Below : Type 0) (why : LineWhy) → Condition
-    → (Below → ⊥) → FailsFor Condition cause Below why → ⊥
-holds Condition cause Below why h k (inl f) = f.1 h
-holds Condition cause Below why h k (inr f) = k f.1
-
-one_of : (Condition : Type 0) (cause : LineWhy) (Below Other : Type 0) (why other : LineWhy)
-    → (Below → Other → why ≡ other) → FailsFor Condition cause Below why
-    → FailsFor Condition cause Other other → why ≡ other
-one_of Condition cause Below Other why other k (inl f) (inl e) = f.0 ∙ sym e.0
-one_of Condition cause Below Other why other k (inl f) (inr e) = absurd (f.1 e.0)
-one_of Condition cause Below Other why other k (inr f) (inl e) = absurd (e.1 f.0)
-one_of Condition cause Below Other why other k (inr f) (inr e) = k f.1 e.1
 
 none : ⊥ → ⊥
 none x = x
@@ -31,21 +21,23 @@ neither why other x y = absurd x
 
 pub charged_has_no_fault : ChargedHasNoFault
 charged_has_no_fault p claimed n f d ys covers h why fails =
-    holds _ _ _ why h.covered
-    (holds _ _ _ why (h.not_negative, h.each_row)
-    (holds _ _ _ why h.formed
-    (holds _ _ _ why h.reaches none))) fails
+    passing_has_no_cause p (IsClaimed claimed) (IsAtLeast claimed) n f (handed d ys covers) h
+    fails.0
+    fails.2
 
 pub charge_fault_is_one : ChargeFaultIsOne
-charge_fault_is_one p claimed n f d ys covers why other =
-    one_of _ _ _ _ why other
-    (one_of _ _ _ _ why other
-    (one_of _ _ _ _ why other
-    (one_of _ _ _ _ why other (neither why other))))
+charge_fault_is_one p claimed n f d ys covers why other fails others =
+    fails.1
+    ∙ ap line_why
+    (cause_is_one p (IsClaimed claimed) (IsAtLeast claimed) n f (handed d ys covers) fails.0
+    others.0
+    fails.2 others.2)
+    ∙ sym others.1
 
 -- ---- lines
 
-line_passes : (p : Problem) (claimed : Option CostOver) (k : Known) (line : HeadLine) (why : LineWhy)
+line_passes : (p : Problem) (claimed : Option CostOver) (k : Known) (line : HeadLine)
+    (why : LineWhy)
     → LinePasses p claimed k line → LineFails p claimed k line why → ⊥
 line_passes p claimed k (step s) why h fails = holds _ _ _ why h none fails
 line_passes p claimed k (cap u v d ys covers) why h fails =

@@ -1,5 +1,5 @@
--- Lines that pass lose nothing that costs less than what is claimed, and what is known behind them are
--- facts.
+-- Lines that pass lose nothing that costs less than what is claimed, and what is known after them
+-- are facts.
 use Rattle.std.proofs.Common.{◌≡◌, ℕ, ◌==◌, inl, inr, refl, sym, ap, ◌∙◌, subst, arith, pos, ℤ, ◌*ℤ◌, ◌≤ℤ◌, ◌<ℤ◌, List, [], ◌∷◌, not, Bool, true, false, eqb-true}
 use Rattle.std.specs.Prelude.{Option}
 use Rattle.std.proofs.lemmas.Int.{ints, by_lt_z}
@@ -149,8 +149,11 @@ line_keeps p valid claimed over k known (out u d ys covers) h s fam fit = (
       fit.fit)) fam,
   fit,
 )
-line_keeps p valid claimed over k known (trim u) h s fam fit =
-    (fam, elim (cases_Bool (s u)) [ inl e ↦ has e | inr e ↦ same (λ q. absurd (both_ways (s u) e q)) ])
+line_keeps p valid claimed over k known (trim u) h s fam fit = (
+  fam,
+  elim (cases_Bool (s u))
+      [ inl e ↦ has e | inr e ↦ same (λ q. absurd (both_ways (s u) e q)) ],
+)
   where
     v : ℤ
     v = trimmed_size (net_of p) k.node k.facts u
@@ -167,13 +170,15 @@ line_keeps p valid claimed over k known (trim u) h s fam fit =
     weak x y a = omega (arith, ints)
 
     within : IsWithin s (stays k.node)
-    within i e = ap (λ (b : Bool). not b) (false_from_ne_true (k.node.outside i) (fam.between.avoids i e))
+    within i e =
+        ap (λ (b : Bool). not b) (false_from_ne_true (k.node.outside i) (fam.between.avoids i e))
 
     has : s u ≡ true → MayFit p claimed s (with_most k.facts u v)
     has e =
         by_lt_z (v *ℤ fit.d) (fit.sizes u)
         (λ over_it. trim_fits p (net_of_valid p valid) claimed over k.node k.facts known.facts
-        known.least u h s within e fit.sizes fit.d fit.undercuts fit.fit (weak (v *ℤ fit.d) (fit.sizes u) over_it))
+        known.least u h s within e fit.sizes fit.d fit.undercuts fit.fit
+        (weak (v *ℤ fit.d) (fit.sizes u) over_it))
         (λ under. same (λ q. under))
 
 -- ---- all lines
@@ -182,17 +187,20 @@ lines_keep : (p : Problem) → IsValid p → (claimed : Option CostOver) → IsC
     → (k : Known) → AreKnown p k → (lines : List HeadLine) → LinesPass p claimed k lines
     → (s : ℕ → Bool) → InFamily (shape_of p) k.node.inside k.node.outside s
     → MayFit p claimed s k.facts
-    → InFamily (shape_of p) (after_lines p k lines).node.inside (after_lines p k lines).node.outside s
+    → InFamily (shape_of p) (after_lines p k lines).node.inside (after_lines p k lines).node.outside
+    s
     × MayFit p claimed s (after_lines p k lines).facts
 lines_keep p valid claimed over k known [] h s fam fit = (fam, fit)
 lines_keep p valid claimed over k known (line ∷ lines) h s fam fit =
     let next = line_keeps p valid claimed over k known line h.0 s fam fit in
-    lines_keep p valid claimed over (after_line p k line) (line_keeps_facts p claimed k known line h.0)
+    lines_keep p valid claimed over (after_line p k line)
+    (line_keeps_facts p claimed k known line h.0)
     lines h.1 s next.0 next.1
 
 pub head_keeps : HeadKeeps
 head_keeps p valid claimed over start lines h s fam z d under =
-    lines_keep p valid claimed over (known_first p start) (known_at_first p valid start) lines h s fam
+    lines_keep p valid claimed over (known_first p start) (known_at_first p valid start) lines h s
+    fam
     (record { sizes = z; d = d; undercuts = under; fit = flows_fit p s z d under.flows })
 
 pub head_has_facts : HeadHasFacts

@@ -13,7 +13,8 @@ use Rattle.head_rules.specs.Trim.{greatest}
 
 -- ---- what holds of each number of a set
 
-All-map : {X : Type 0} (P Q : X → Type 0) (xs : List X) → ((x : X) → P x → Q x) → AllByRecursion P xs
+All-map : {X : Type 0} (P Q : X → Type 0) (xs : List X) → ((x : X) → P x → Q x)
+    → AllByRecursion P xs
     → AllByRecursion Q xs
 All-map P Q [] f h = tt
 All-map P Q (x ∷ xs) f h = (f x h.0, All-map P Q xs f h.1)
@@ -23,7 +24,8 @@ All-parts : {X : Type 0} (P : X → Type 0) (xs ys : List X) → AllByRecursion 
 All-parts P [] ys h = (tt, h)
 All-parts P (x ∷ xs) ys h = let r = All-parts P xs ys h.1 in ((h.0, r.0), r.1)
 
-last_has : (P : ℕ → Type 0) (n : ℕ) (b : Bool) → b ≡ true → AllByRecursion P (cond b (n ∷ []) []) → P n
+last_has : (P : ℕ → Type 0) (n : ℕ) (b : Bool) → b ≡ true
+    → AllByRecursion P (cond b (n ∷ []) []) → P n
 last_has P n true e h = h.0
 last_has P n false e h = cc
 

@@ -40,10 +40,11 @@ down-le z u w h i =
     of_one (u == i) (λ x. x ≤ℤ z i) w (z i)
     (λ e. subst (λ (k : ℕ). w ≤ℤ z k) (eqb-true u i e) h) (same_le (z i))
 
--- a sum of sizes falls where the unit adds to it, and rises where it takes from it
+-- a sum of sizes falls if the unit adds to it, and rises if it takes from it
 sum_falls : (net : Net) (s : ℕ → Bool) (f : ℕ → ℤ) (z : ℕ → ℤ) (u : ℕ) (w : ℤ) → w ≤ℤ z u
     → pos 0 ≤ℤ f u
-    → total (λ i. f i *ℤ put_down z u w i) (units_of net s) ≤ℤ total (λ i. f i *ℤ z i) (units_of net s)
+    → total (λ i. f i *ℤ put_down z u w i) (units_of net s)
+    ≤ℤ total (λ i. f i *ℤ z i) (units_of net s)
 sum_falls net s f z u w h p =
     total-le (λ i. f i *ℤ put_down z u w i) (λ i. f i *ℤ z i) (units_of net s)
     (All-listed (λ i. (f i *ℤ put_down z u w i) ≤ℤ (f i *ℤ z i)) net.graph.units s
@@ -53,7 +54,8 @@ sum_falls net s f z u w h p =
 
 sum_rises : (net : Net) (s : ℕ → Bool) (f : ℕ → ℤ) (z : ℕ → ℤ) (u : ℕ) (w : ℤ) → w ≤ℤ z u
     → f u ≤ℤ pos 0
-    → total (λ i. f i *ℤ z i) (units_of net s) ≤ℤ total (λ i. f i *ℤ put_down z u w i) (units_of net s)
+    → total (λ i. f i *ℤ z i) (units_of net s)
+    ≤ℤ total (λ i. f i *ℤ put_down z u w i) (units_of net s)
 sum_rises net s f z u w h p =
     total-le (λ i. f i *ℤ z i) (λ i. f i *ℤ put_down z u w i) (units_of net s)
     (All-listed (λ i. (f i *ℤ z i) ≤ℤ (f i *ℤ put_down z u w i)) net.graph.units s
@@ -70,7 +72,8 @@ cost_falls net s z d u w h p =
     ≤ℤ (fixed i +ℤ size_cost net i *ℤ z i)) net.graph.units s
     (λ i l k. of_one (u == i)
     (λ x. (fixed i +ℤ size_cost net i *ℤ x) ≤ℤ (fixed i +ℤ size_cost net i *ℤ z i)) w (z i)
-    (λ e. subst (λ (m : ℕ). (fixed m +ℤ size_cost net m *ℤ w) ≤ℤ (fixed m +ℤ size_cost net m *ℤ z m))
+    (λ e. subst
+    (λ (m : ℕ). (fixed m +ℤ size_cost net m *ℤ w) ≤ℤ (fixed m +ℤ size_cost net m *ℤ z m))
     (eqb-true u i e)
     (more (fixed u) (size_cost net u *ℤ w) (size_cost net u *ℤ z u)
     (mul-le_left (size_cost net u) w (z u) h p)))
@@ -206,7 +209,8 @@ high_of_input net n f s z d facts fit sub nonneg j =
 is_above : (x : ℤ) → pos 0 <ℤ x → int_lt (pos 0) x ≡ true
 is_above x h = true_from_ne_false (int_lt (pos 0) x) (λ e. omega (arith, ints))
 
-pub trimmed_least : (net : Net) (n : Node) (f : Facts) (u : ℕ) → net.least u ≤ℤ trimmed_size net n f u
+pub trimmed_least : (net : Net) (n : Node) (f : Facts) (u : ℕ) → net.least u
+    ≤ℤ trimmed_size net n f u
 trimmed_least net n f u =
     greatest_first (net.least u) (map (enough_of net n f u) (outputs net u))
 

@@ -1,31 +1,35 @@
--- The first line at the head of a tree that fails, and its cause. Of a charge first the covers are
--- judged, then the scale and the number of multipliers, then the numbers of the sum, and then what is
--- reached.
-use Rattle.std.specs.Prelude.{◌≡◌, ◌⊎◌, ℕ, zero, suc, ◌<◌, ℤ, pos, ◌≤ℤ◌, false, List, [], ◌∷◌, Option}
+-- The first line at the head of a tree that fails, and its cause. A charge is judged last, for the
+-- causes of a leaf that hands in the same, in their order.
+use Rattle.std.specs.Prelude.{◌≡◌, ℕ, zero, suc, ◌<◌, ℤ, ◌≤ℤ◌, false, List, [], ◌∷◌, Option}
 use Rattle.problem_rules.specs.Problem.{Problem}
 use Rattle.pns_rules.specs.Shape.{shape_of}
 use Rattle.pns_rules.specs.Nodes.{Node, IsPossible}
 use Rattle.flow_rules.specs.Net.{net_of}
 use Rattle.charge_rules.specs.Facts.{Facts}
 use Rattle.charge_rules.specs.Cover.{Cover, IsFree}
-use Rattle.tree_rules.specs.Claim.{CostOver}
-use Rattle.tree_rules.specs.Leaf.{IsOneEach}
+use Rattle.charge_rules.specs.Leaf as leaves
+use Rattle.charge_rules.specs.Leaf.{FailsFor}
+use Rattle.charge_rules.specs.declared.charge_why.ChargeWhy.{ChargeWhy}
+use Rattle.charge_rules.specs.declared.charge_why.ChargeWhy.TheVariants as charge_causes
+use Rattle.tree_rules.specs.Claim.{CostOver, IsAtLeast}
+use Rattle.tree_rules.specs.Leaf.{IsClaimed}
 use Rattle.head_rules.specs.declared.line_why.LineWhy.{LineWhy}
 use Rattle.head_rules.specs.declared.line_why.LineWhy.TheVariants as causes
-use Rattle.head_rules.specs.Charged.{CoversPass, IsFormed, charge_of, ChargeReaches}
+use Rattle.head_rules.specs.Charged.{handed}
 use Rattle.head_rules.specs.Trim.{MayTrim}
 use Rattle.head_rules.specs.Head.{HeadLine, step, cap, out, trim, Known, with_in, with_least, after_line, LinePasses}
 
--- a condition that fails for its cause, or holds where one of those below it fails
-abbrev pub FailsFor : Type 0 → LineWhy → Type 0 → LineWhy → Type 0
-FailsFor Condition cause Below why = ((why ≡ cause) × ¬ Condition) ⊎ (Condition × Below)
+-- the cause of a leaf, as that of a line
+abbrev pub line_why : ChargeWhy → LineWhy
+line_why charge_causes.Bound = causes.Bound
+line_why charge_causes.Cover = causes.Cover
+line_why charge_causes.Sum = causes.Sum
 
-abbrev pub ChargeFails : Problem → Option CostOver → Node → Facts → ℤ → List ℤ → List Cover → LineWhy → Type 0
+abbrev pub ChargeFails
+    : Problem → Option CostOver → Node → Facts → ℤ → List ℤ → List Cover → LineWhy → Type 0
 ChargeFails p claimed n f d ys covers why =
-    FailsFor (CoversPass (shape_of p) n covers) causes.Cover
-    (FailsFor ((pos 0 ≤ℤ d) × IsOneEach p n ys) causes.Bound
-    (FailsFor (IsFormed p n f d ys covers) causes.Sum
-    (FailsFor (ChargeReaches claimed (charge_of p n f d ys covers) d) causes.Bound ⊥ why) why) why) why
+    (cause : ChargeWhy) × (why ≡ line_why cause)
+    × leaves.ChargeFails p (IsClaimed claimed) (IsAtLeast claimed) n f (handed d ys covers) cause
 
 -- what is asked of a cap before its charge
 abbrev pub IsSize : Problem → Known → ℕ → ℤ → Type 0
@@ -41,7 +45,8 @@ LineFails p claimed k (cap u v d ys covers) why =
 LineFails p claimed k (out u d ys covers) why =
     FailsFor (IsFree (shape_of p) k.node u) causes.Fact
     (ChargeFails p claimed (with_in k.node u) k.facts d ys covers why) why
-LineFails p claimed k (trim u) why = FailsFor (MayTrim (net_of p) k.node k.facts u) causes.Trim ⊥ why
+LineFails p claimed k (trim u) why =
+    FailsFor (MayTrim (net_of p) k.node k.facts u) causes.Trim ⊥ why
 
 -- line i is the first that fails, for the cause; lines are numbered from 0
 abbrev pub IsFirstToFail : Problem → Option CostOver → Known → List HeadLine → ℕ → LineWhy → Type 0

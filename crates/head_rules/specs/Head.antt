@@ -1,5 +1,5 @@
 -- The lines at the head of a branch tree: steps, and facts that are found before the first branch.
--- Each is judged by what is known where it stands.
+-- Each is judged by what is known at its place.
 use Rattle.std.specs.Prelude.{◌≡◌, ℕ, ◌<◌, ◌==◌, ℤ, ◌≤ℤ◌, false, cond, ◌||◌, List, [], ◌∷◌, Option}
 use Rattle.problem_rules.specs.Problem.{Problem}
 use Rattle.pns_rules.specs.Shape.{shape_of}
@@ -11,15 +11,15 @@ use Rattle.tree_rules.specs.Claim.{CostOver}
 use Rattle.head_rules.specs.Charged.{IsCharged}
 use Rattle.head_rules.specs.Trim.{trimmed_size, MayTrim}
 
--- a step of the node; a unit with the greatest size that it may have; a unit that is left out; and a
--- unit whose greatest size is cut to what can be of use
+-- a step of the node; a unit with the greatest size that it may have; a unit that is left out; and
+-- a unit whose greatest size is lowered to what can be of use
 pub data HeadLine : Type 0 where
   step : Step → HeadLine
   cap : ℕ → ℤ → ℤ → List ℤ → List Cover → HeadLine
   out : ℕ → ℤ → List ℤ → List Cover → HeadLine
   trim : ℕ → HeadLine
 
--- what is known where a line stands
+-- what is known at the place of a line
 pub record Known : Type 0 where
   pub node : Node
   pub facts : Facts
@@ -40,7 +40,7 @@ with_least f u v = record { least = λ i. cond (u == i) v (f.least i); most = f.
 abbrev pub with_most : Facts → ℕ → ℤ → Facts
 with_most f u v = record { least = f.least; most = λ i. cond (u == i) v (f.most i); used = f.used }
 
--- ---- what is known behind a line
+-- ---- what is known after a line
 
 abbrev pub after_line : Problem → Known → HeadLine → Known
 after_line p k (step s) = record { node = after (shape_of p) k.node s; facts = k.facts }
@@ -55,9 +55,11 @@ after_lines p k (line ∷ lines) = after_lines p (after_line p k line) lines
 
 -- ---- which lines pass
 
--- the unit may be there, v is within its sizes, and the node with the unit taken in, at a size of v or
--- more, is charged what is claimed
-pub record MayCap (p : Problem) (claimed : Option CostOver) (k : Known) (u : ℕ) (v d : ℤ) (ys : List ℤ) (covers : List Cover) : Type 0 where
+-- the unit may be there, v is within its sizes, and the node with the unit taken in, at a size of v
+-- or more, is charged what is claimed
+pub record MayCap
+    (p : Problem) (claimed : Option CostOver) (k : Known) (u : ℕ) (v d : ℤ) (ys : List ℤ)
+    (covers : List Cover) : Type 0 where
   pub known : u < (net_of p).graph.units
   pub not_outside : k.node.outside u ≡ false
   pub at_least : (net_of p).least u ≤ℤ v
@@ -65,7 +67,9 @@ pub record MayCap (p : Problem) (claimed : Option CostOver) (k : Known) (u : ℕ
   pub charged : IsCharged p claimed (with_in k.node u) (with_least k.facts u v) d ys covers
 
 -- the unit is free, and the node with the unit taken in is charged what is claimed
-pub record MayLeave (p : Problem) (claimed : Option CostOver) (k : Known) (u : ℕ) (d : ℤ) (ys : List ℤ) (covers : List Cover) : Type 0 where
+pub record MayLeave
+    (p : Problem) (claimed : Option CostOver) (k : Known) (u : ℕ) (d : ℤ) (ys : List ℤ)
+    (covers : List Cover) : Type 0 where
   pub free : IsFree (shape_of p) k.node u
   pub charged : IsCharged p claimed (with_in k.node u) k.facts d ys covers
 

@@ -1,5 +1,5 @@
--- The laws of the lines at the head of a tree, each the contract of a public function of this crate.
--- Where a cost is claimed, it is over a number of at least 1.
+-- The laws of the lines at the head of a tree, each the contract of a public function of this
+-- crate. A claimed cost is over a number of at least 1.
 use Rattle.std.specs.Prelude.{◌≡◌, ℕ, ℤ, pos, ◌≤ℤ◌, Bool, List, Option, IfSome}
 use Rattle.problem_rules.specs.Problem.{Problem}
 use Rattle.problem_rules.specs.Validity.{IsValid}
@@ -20,8 +20,8 @@ use Rattle.head_rules.specs.Faults.{ChargeFails, IsFirstToFail}
 abbrev pub IsCost : Option CostOver → Type 0
 IsCost claimed = IfSome claimed (λ c. pos 1 ≤ℤ c.d)
 
--- no solution structure of a node that is charged what is claimed, allowed or not, has flows that fit
--- and cost less
+-- no solution structure, clash-free or not, of a node that is charged what is claimed has flows
+-- that fit and cost less
 abbrev pub ChargedIsEmpty : Type 0
 ChargedIsEmpty =
     (p : Problem) → IsValid p → (claimed : Option CostOver) → IsCost claimed
@@ -55,7 +55,7 @@ HeadKeeps =
     → (start : Node) (lines : List HeadLine) → LinesPass p claimed (known_first p start) lines
     → Keeps p claimed start (after_lines p (known_first p start) lines)
 
--- what is known behind them are facts
+-- what is known after them are facts
 abbrev pub HeadHasFacts : Type 0
 HeadHasFacts =
     (p : Problem) → IsValid p → (claimed : Option CostOver) → (start : Node) (lines : List HeadLine)

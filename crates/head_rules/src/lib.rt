@@ -1,11 +1,12 @@
-//! The lines at the head of a branch tree: facts that are found before the first branch, which of them pass, and the laws
-//! that make them safe.
+//! The lines at the head of a branch tree: facts that are found before the first branch, which of
+//! them pass, and the laws that make them safe.
 //!
-//! A line takes units in or leaves them out, or bounds the size of a unit. It passes by what is known where it stands, and by
-//! the cost that is claimed: what it cuts off has no flows that cost less. The definitions are in `specs/`: `Charged` (nodes
-//! whose charge reaches the claim), `Trim` (units of which no more than so much can be of use), `Head` (the lines), `Keeps`
-//! (what is not lost), `Faults` (the first line that fails, and its cause) and `Laws`. Each law is the contract of a function
-//! without a body.
+//! A line takes units in or leaves them out, or bounds the size of a unit. It passes by what is
+//! known at its place, and by the cost that is claimed: what it rules out has no flows that cost
+//! less. The definitions are in `specs/`: `Charged` (nodes whose charge reaches the claim), `Trim`
+//! (units of which no more than so much can be of use), `Head` (the lines), `Keeps` (what is not
+//! lost), `Faults` (the first line that fails, and its cause) and `Laws`. Each law is the contract
+//! of a function without a body.
 #![tactic(auto)]
 
 mod line_why;
@@ -14,7 +15,8 @@ ghost use Rattle.head_rules.specs.Laws.{ChargedIsEmpty, CheaperIsCharged, Cheape
 
 pub use line_why::LineWhy;
 
-/// A node that is charged what is claimed has no structure with flows that fit its facts and cost less.
+/// A node that is charged what is claimed has no structure with flows that fit its facts and cost
+/// less.
 pub fn charged_is_empty()
     ensures { ChargedIsEmpty }
 {}
@@ -25,14 +27,16 @@ pub fn cheaper_passes()
     ensures lines { CheaperPasses }
 {}
 
-/// Lines that pass lose nothing that costs less than what is claimed, and what is known behind them are facts.
+/// Lines that pass lose nothing that costs less than what is claimed, and what is known after them
+/// are facts.
 pub fn head_keeps()
     ensures keeps { HeadKeeps }
     ensures facts { HeadHasFacts }
     ensures least { HeadKeepsLeast }
 {}
 
-/// Lines that pass have no fault, and lines that do not have one at most, for one cause; so it is with a charged node.
+/// Lines that pass have no fault, and lines that do not have one at most, for one cause. The same
+/// holds of a charged node.
 pub fn one_fault()
     ensures passing { PassingHasNoFault }
     ensures one { FaultIsOne }

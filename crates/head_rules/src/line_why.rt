@@ -1,16 +1,20 @@
-/// Why a line at the head of a branch tree is refused. The first of its conditions that fails tells the cause.
+/// Why a line at the head of a branch tree is refused: the cause of the first of its conditions
+/// that fails.
 #[derive(Clone, Copy, Debug, PartialEq, Eq)]
 pub enum LineWhy {
-    /// A step is not possible where it stands.
+    /// A step is not possible at its place.
     Step,
-    /// The unit is left out, or is not free where it has to be; or the size is not between those that it may have.
+    /// The unit is left out, or has to be free and is not; or the size is not between those that it
+    /// may have.
     Fact,
     /// The unit earns by its size, or a material does not bear less of it.
     Trim,
-    /// A set of units is not one of free units of which each structure of the node has one, or its weight is below 0.
+    /// A set of units is not one of free units of which each structure of the node has one, or its
+    /// weight is below 0.
     Cover,
-    /// The scale is below 0, the multipliers are not one for each row, or the charge does not reach what is claimed.
+    /// The scale is below 0, or it counts a cost and none is claimed; the multipliers are not one
+    /// for each row; or the charge does not reach what is claimed.
     Bound,
-    /// A number that is formed for the charge is out of range.
+    /// A number that is formed for the charge overflows.
     Sum,
 }

@@ -13,13 +13,17 @@ use Rattle.charges.proofs.bending.bent.Goals.{then-counts+in-Ok, else-counts}
 pub returns-in_default-clause-small : goal.returns-in_default-clause-small
 returns-in_default-clause-small c =
     let few = length_below 256 c.args.knees.now.set c.rises.ensures.rising c.rises.ensures.below in
-    let r = bent_room c.args.sizes.low c.args.sizes.high (knee_at c.args.knees.now) c.args.knees.now.set (as_owed c.args.owed) (as_owed c.bending.rest) c.args.start c.bending.at c.bending.left few c.bending.invariant in
+    let r = bent_room c.args.sizes.low c.args.sizes.high (knee_at c.args.knees.now)
+    c.args.knees.now.set (as_owed c.args.owed) (as_owed c.bending.rest) c.args.start
+    c.bending.at c.bending.left few c.bending.invariant in
     r.0
 
 pub with_knee-requires : goal.with_knee-requires
 with_knee-requires c =
     let few = length_below 256 c.args.knees.now.set c.rises.ensures.rising c.rises.ensures.below in
-    let r = bent_room c.args.sizes.low c.args.sizes.high (knee_at c.args.knees.now) c.args.knees.now.set (as_owed c.args.owed) (as_owed c.bending.rest) c.args.start c.bending.at c.bending.left few c.bending.invariant in
+    let r = bent_room c.args.sizes.low c.args.sizes.high (knee_at c.args.knees.now)
+    c.args.knees.now.set (as_owed c.args.owed) (as_owed c.bending.rest) c.args.start
+    c.bending.at c.bending.left few c.bending.invariant in
     let l = r.0 in
     let room = c.requires.room in
     record { room = omega arith }
@@ -27,7 +31,9 @@ with_knee-requires c =
 pub overflow_add-at : goal.overflow_add-at
 overflow_add-at c =
     let few = length_below 256 c.args.knees.now.set c.rises.ensures.rising c.rises.ensures.below in
-    let r = bent_room c.args.sizes.low c.args.sizes.high (knee_at c.args.knees.now) c.args.knees.now.set (as_owed c.args.owed) (as_owed c.bending.rest) c.args.start c.bending.at c.bending.left few c.bending.invariant in
+    let r = bent_room c.args.sizes.low c.args.sizes.high (knee_at c.args.knees.now)
+    c.args.knees.now.set (as_owed c.args.owed) (as_owed c.bending.rest) c.args.start
+    c.bending.at c.bending.left few c.bending.invariant in
     let l = r.0 in
     let room = c.requires.room in
     omega arith
@@ -40,14 +46,22 @@ returns-in-Err-clause-past c =
     let ka : SFits w128 (get_or k.at c.in-Some.j (pos 0)) = search rules in
     let kw : SFits w128 (get_or k.worth c.in-Some.j (pos 0)) = search rules in
     let pa : SFits w128 c.counted-part.result = search rules in
-    knee_past c.args.sizes.low c.args.sizes.high (knee_at k) k.set (as_owed c.args.owed) (as_owed c.bending.rest) c.args.start c.bending.at c.bending.left c.in-Some.j (kept (λ v. not (c.in-Some.j == v)) c.bending.left)
-    c.rises-in-bending.ensures.rising c.in-Some.ensures.first refl c.counted-part.result (simp to_z-of_z at c.counted-part.ensures) c.bending.invariant
-    (is_more c.counted-part.result c.is_some-counts.result (simp to_z-of_z at c.is_some-counts.ensures) c.if-counts.true) c.in-Err.past.at c.in-Err.ensures.from_start (simp to_z-of_z at c.in-Err.ensures.past)
+    knee_past c.args.sizes.low c.args.sizes.high (knee_at k) k.set (as_owed c.args.owed)
+    (as_owed c.bending.rest) c.args.start c.bending.at c.bending.left c.in-Some.j
+    (kept (λ v. not (c.in-Some.j == v)) c.bending.left)
+    c.rises-in-bending.ensures.rising c.in-Some.ensures.first refl c.counted-part.result
+    (simp to_z-of_z at c.counted-part.ensures) c.bending.invariant
+    (is_more c.counted-part.result c.is_some-counts.result
+    (simp to_z-of_z at c.is_some-counts.ensures) c.if-counts.true)
+    c.in-Err.past.at c.in-Err.ensures.from_start (simp to_z-of_z at c.in-Err.ensures.past)
 
 pub bending-smaller : goal.bending-smaller
 bending-smaller c =
-    let s = first_counts (entry c.args.knees.now.at) c.in-Some.j c.bending.left c.rises-in-bending.ensures.rising c.in-Some.ensures.first in
-    let e : length c.without-left.result ≡ length (kept (λ v. not (c.in-Some.j == v)) c.bending.left) = ap (λ (xs : List ℕ). length xs) c.without-left.ensures in
+    let s = first_counts (entry c.args.knees.now.at) c.in-Some.j c.bending.left
+    c.rises-in-bending.ensures.rising c.in-Some.ensures.first in
+    let e : length c.without-left.result
+    ≡ length (kept (λ v. not (c.in-Some.j == v)) c.bending.left) =
+    ap (λ (xs : List ℕ). length xs) c.without-left.ensures in
     omega arith
 
 pub bending-preserved : goal.bending-preserved
@@ -59,10 +73,24 @@ bending-preserved c =
     let kw : SFits w128 (get_or k.worth c.in-Some.j (pos 0)) = search rules in
     let pa : SFits w128 c.counted-part.result = search rules in
     elim c.if-counts.branch [
-      | then-counts+in-Ok w ↦ rw (w.rest-is, w.at-is) (knee_counts c.args.sizes.low c.args.sizes.high (knee_at k) k.set (as_owed c.args.owed) (as_owed c.bending.rest) c.args.start c.bending.at c.bending.left c.in-Some.j c.without-left.result
-          c.rises-in-bending.ensures.rising c.in-Some.ensures.first c.without-left.ensures c.counted-part.result (simp to_z-of_z at c.counted-part.ensures) c.bending.invariant
-          (is_more c.counted-part.result c.is_some-counts.result (simp to_z-of_z at c.is_some-counts.ensures) w.if-counts.true) w.in-Ok.next.each w.in-Ok.next.once (simp to_z-of_z at w.in-Ok.ensures.each) (simp to_z-of_z at w.in-Ok.ensures.once) (simp to_z-of_z at w.in-Ok.ensures.in_range))
-      | else-counts w ↦ rw (w.rest-is, w.at-is) (none_counts c.args.sizes.low c.args.sizes.high (knee_at k) k.set (as_owed c.args.owed) (as_owed c.bending.rest) c.args.start c.bending.at c.bending.left c.in-Some.j c.without-left.result
-          c.rises-in-bending.ensures.rising c.in-Some.ensures.first c.without-left.ensures c.counted-part.result (simp to_z-of_z at c.counted-part.ensures) c.bending.invariant
-          (is_none c.counted-part.result c.is_some-counts.result (simp to_z-of_z at c.is_some-counts.ensures) w.if-counts.false))
+      | then-counts+in-Ok w ↦
+          rw (w.rest-is, w.at-is)
+          (knee_counts c.args.sizes.low c.args.sizes.high (knee_at k) k.set (as_owed c.args.owed)
+          (as_owed c.bending.rest) c.args.start c.bending.at c.bending.left c.in-Some.j
+          c.without-left.result
+          c.rises-in-bending.ensures.rising c.in-Some.ensures.first c.without-left.ensures
+          c.counted-part.result (simp to_z-of_z at c.counted-part.ensures) c.bending.invariant
+          (is_more c.counted-part.result c.is_some-counts.result
+          (simp to_z-of_z at c.is_some-counts.ensures) w.if-counts.true) w.in-Ok.next.each
+          w.in-Ok.next.once (simp to_z-of_z at w.in-Ok.ensures.each)
+          (simp to_z-of_z at w.in-Ok.ensures.once) (simp to_z-of_z at w.in-Ok.ensures.in_range))
+      | else-counts w ↦
+          rw (w.rest-is, w.at-is)
+          (none_counts c.args.sizes.low c.args.sizes.high (knee_at k) k.set (as_owed c.args.owed)
+          (as_owed c.bending.rest) c.args.start c.bending.at c.bending.left c.in-Some.j
+          c.without-left.result
+          c.rises-in-bending.ensures.rising c.in-Some.ensures.first c.without-left.ensures
+          c.counted-part.result (simp to_z-of_z at c.counted-part.ensures) c.bending.invariant
+          (is_none c.counted-part.result c.is_some-counts.result
+          (simp to_z-of_z at c.is_some-counts.ensures) w.if-counts.false))
     ]

@@ -6,7 +6,9 @@ use Rattle.flow_rules.specs.Steps.{IsFirstPast}
 use Rattle.charges.specs.Bends.{three_steps}
 use Rattle.charges.proofs.bending.with_knee.Goals as goal
 
-third : (part at each once product : ℤ) (start : ℕ) → InRange (part *ℤ at) → product ≡ part *ℤ at → InRange (once -ℤ product) → ¬ InRange (each +ℤ part) → IsFirstPast (three_steps part at each once) (start + 2 - start)
+third : (part at each once product : ℤ) (start : ℕ) → InRange (part *ℤ at) → product ≡ part
+    *ℤ at → InRange (once -ℤ product) → ¬ InRange (each +ℤ part)
+    → IsFirstPast (three_steps part at each once) (start + 2 - start)
 third part at each once product start f p g n =
     let e : start + 2 - start ≡ 2 = omega arith in
     rw e (f, (rw p at g, n))
@@ -21,4 +23,5 @@ returns-in-None-clause-past c =
     let h = simp to_z-of_z at c.in-Some.ensures in
     let g = simp to_z-of_z at c.in-Some-checked_difference.ensures in
     let n = simp to_z-of_z at c.in-None.ensures in
-    third c.args.counted c.args.at c.args.owed.each c.args.owed.once c.in-Some.product c.args.start h.0 h.1 g.0 n
+    third c.args.counted c.args.at c.args.owed.each c.args.owed.once c.in-Some.product c.args.start
+    h.0 h.1 g.0 n

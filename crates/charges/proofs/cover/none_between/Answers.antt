@@ -17,12 +17,28 @@ pub returns-in-Some : goal.returns-in-Some
 returns-in-Some c =
     let structure = c.in-Some.ensures.structure in
     let union = c.in-Some.ensures.union in (
-      λ e. λ o between. clash c.within.result e (c.within.ensures.1 (λ u h. (union.unit_in u).1 (mats (shape c.args.graph.now) o, o, between.meets, between.avoids, between.contains u h))),
-      λ none. is_not c.within.result (λ h. none _ (record { meets = structure.meets; contains = c.within.ensures.0 h; avoids = structure.avoids })),
+      λ e. λ o between. clash c.within.result e
+          (c.within.ensures.1
+          (λ u h. (union.unit_in u).1 (
+            mats (shape c.args.graph.now) o,
+            o,
+            between.meets,
+            between.avoids,
+            between.contains u h,
+          ))),
+      λ none. is_not c.within.result
+          (λ h. none _
+          (record {
+            meets = structure.meets;
+            contains = c.within.ensures.0 h;
+            avoids =
+                structure.avoids;
+          })),
     )
 
 pub returns-in-None : goal.returns-in-None
 returns-in-None c = (
-  λ e. λ o between. c.in-None.ensures.none (mats (shape c.args.graph.now) o) o between.meets between.avoids,
+  λ e. λ o between. c.in-None.ensures.none (mats (shape c.args.graph.now) o) o between.meets
+      between.avoids,
   λ none. refl,
 )

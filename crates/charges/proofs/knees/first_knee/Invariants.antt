@@ -8,5 +8,6 @@ abbrev pub invariant-loop-j : goal.invariant-loop-j
 invariant-loop-j l = record {
   is_set : IsSet 256 l.j-iterator;
   small : l.best < 256;
-  first : least_from (entry l.fn.at) l.best l.j-iterator ≡ least_from (entry l.fn.at) l.initial.best l.initial.j-iterator;
+  first : least_from (entry l.fn.at) l.best l.j-iterator ≡ least_from (entry l.fn.at) l.initial.best
+      l.initial.j-iterator;
 }

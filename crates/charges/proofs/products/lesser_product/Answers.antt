@@ -15,4 +15,5 @@ returns-else-low-high c =
     let factor = c.ranges.factor in
     let low = c.ranges.low in
     let high = c.ranges.high in
-    rw (least_turned c.args.factor c.args.low c.args.high) at (simp to_z-of_z at c.ordered_product-else-low-high.ensures)
+    rw (least_turned c.args.factor c.args.low c.args.high)
+    at (simp to_z-of_z at c.ordered_product-else-low-high.ensures)

@@ -14,7 +14,8 @@ returns-in-Err-clause-past c =
     let high = c.args.sizes.high in
     let ks = knees_in c.args.knees.now c.args.knees.now.set in
     let o = as_owed c.args.owed in
-    IsFirstPast-left (knee_steps low high ks o) (size_steps low high (bent low high ks o)) _ c.in-Err.ensures.past
+    IsFirstPast-left (knee_steps low high ks o) (size_steps low high (bent low high ks o)) _
+    c.in-Err.ensures.past
 
 pub returns-in-Err-with_least-clause-past : goal.returns-in-Err-with_least-clause-past
 returns-in-Err-with_least-clause-past c =
@@ -22,8 +23,11 @@ returns-in-Err-with_least-clause-past c =
     let hi : SFits w128 c.args.sizes.high = search rules in
     let le : SFits w128 c.in-Ok.left.each = search rules in
     let lc : SFits w128 c.in-Ok.left.once = search rules in
-    sizes_past c.args.sizes.low c.args.sizes.high (knees_in c.args.knees.now c.args.knees.now.set) (as_owed c.args.owed) (as_owed c.in-Ok.left) c.args.start c.in-Ok.at c.in-Ok.ensures.value c.in-Ok.ensures.count c.in-Ok.ensures.in_range
-    c.in-Err-with_least.past.at c.in-Err-with_least.ensures.from_start (simp to_z-of_z at c.in-Err-with_least.ensures.past)
+    sizes_past c.args.sizes.low c.args.sizes.high (knees_in c.args.knees.now c.args.knees.now.set)
+    (as_owed c.args.owed) (as_owed c.in-Ok.left) c.args.start c.in-Ok.at c.in-Ok.ensures.value
+    c.in-Ok.ensures.count c.in-Ok.ensures.in_range
+    c.in-Err-with_least.past.at c.in-Err-with_least.ensures.from_start
+    (simp to_z-of_z at c.in-Err-with_least.ensures.past)
 
 pub returns-in-Ok-with_least-clause-value : goal.returns-in-Ok-with_least-clause-value
 returns-in-Ok-with_least-clause-value c =
@@ -31,7 +35,9 @@ returns-in-Ok-with_least-clause-value c =
     let hi : SFits w128 c.args.sizes.high = search rules in
     let le : SFits w128 c.in-Ok.left.each = search rules in
     let lc : SFits w128 c.in-Ok.left.once = search rules in
-    sizes_value c.args.sizes.low c.args.sizes.high (knees_in c.args.knees.now c.args.knees.now.set) (as_owed c.args.owed) (as_owed c.in-Ok.left) c.args.start c.in-Ok.at c.in-Ok.ensures.value c.in-Ok.ensures.count c.in-Ok.ensures.in_range
+    sizes_value c.args.sizes.low c.args.sizes.high (knees_in c.args.knees.now c.args.knees.now.set)
+    (as_owed c.args.owed) (as_owed c.in-Ok.left) c.args.start c.in-Ok.at c.in-Ok.ensures.value
+    c.in-Ok.ensures.count c.in-Ok.ensures.in_range
     c.in-Ok-with_least.to.sum (simp to_z-of_z at c.in-Ok-with_least.ensures.value)
 
 pub returns-in-Ok-with_least-clause-in_range : goal.returns-in-Ok-with_least-clause-in_range
@@ -40,7 +46,9 @@ returns-in-Ok-with_least-clause-in_range c =
     let hi : SFits w128 c.args.sizes.high = search rules in
     let le : SFits w128 c.in-Ok.left.each = search rules in
     let lc : SFits w128 c.in-Ok.left.once = search rules in
-    sizes_fit c.args.sizes.low c.args.sizes.high (knees_in c.args.knees.now c.args.knees.now.set) (as_owed c.args.owed) (as_owed c.in-Ok.left) c.args.start c.in-Ok.at c.in-Ok.ensures.value c.in-Ok.ensures.count c.in-Ok.ensures.in_range
+    sizes_fit c.args.sizes.low c.args.sizes.high (knees_in c.args.knees.now c.args.knees.now.set)
+    (as_owed c.args.owed) (as_owed c.in-Ok.left) c.args.start c.in-Ok.at c.in-Ok.ensures.value
+    c.in-Ok.ensures.count c.in-Ok.ensures.in_range
     (simp to_z-of_z at c.in-Ok-with_least.ensures.in_range)
 
 pub returns-in-Ok-with_least-clause-count : goal.returns-in-Ok-with_least-clause-count
@@ -49,5 +57,7 @@ returns-in-Ok-with_least-clause-count c =
     let hi : SFits w128 c.args.sizes.high = search rules in
     let le : SFits w128 c.in-Ok.left.each = search rules in
     let lc : SFits w128 c.in-Ok.left.once = search rules in
-    sizes_count c.args.sizes.low c.args.sizes.high (knees_in c.args.knees.now c.args.knees.now.set) (as_owed c.args.owed) (as_owed c.in-Ok.left) c.args.start c.in-Ok.at c.in-Ok.ensures.value c.in-Ok.ensures.count c.in-Ok.ensures.in_range
+    sizes_count c.args.sizes.low c.args.sizes.high (knees_in c.args.knees.now c.args.knees.now.set)
+    (as_owed c.args.owed) (as_owed c.in-Ok.left) c.args.start c.in-Ok.at c.in-Ok.ensures.value
+    c.in-Ok.ensures.count c.in-Ok.ensures.in_range
     c.in-Ok-with_least.to.at (c.in-Ok-with_least.ensures.count)

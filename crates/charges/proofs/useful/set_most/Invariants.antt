@@ -1,0 +1,14 @@
+use Rattle.std.proofs.Common.{◌*ℤ◌}
+use Rattle.number_sets.specs.Sets.{IsSet}
+use Rattle.flow_rules.specs.Net.{net_of}
+use Rattle.charge_rules.specs.Facts.{use_rate}
+use Rattle.charges.specs.Known.{facts_of}
+use Rattle.charges.proofs.UseLemmas.{IsUseSum}
+use Rattle.charges.proofs.useful.set_most.Given as goal
+
+abbrev pub invariant-loop-u : goal.invariant-loop-u
+invariant-loop-u l = record {
+  is_set : IsSet 128 l.u-iterator;
+  so_far : IsUseSum (λ u. use_rate (net_of l.fn.site) l.fn.j u *ℤ (facts_of l.fn.facts).most u)
+      l.fn.set l.sum l.u-iterator;
+}

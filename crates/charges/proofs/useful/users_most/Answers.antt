@@ -1,0 +1,36 @@
+use Rattle.std.proofs.Common.{◌∙◌, ◌<◌, sym, ap, subst, ℕ, List, length, SFits, rules}
+use Rattle.std.specs.Int.{w128}
+use Rattle.std.proofs.lemmas.Int.{to_z-of_z}
+use Rattle.number_sets.specs.Sets.{has}
+use Rattle.number_sets.proofs.SetLemmas.{has-meet}
+use Rattle.problem_rules.proofs.ValidLemmas.{well_formed_from_valid}
+use Rattle.pns_rules.specs.Shape.{Shape}
+use Rattle.pgraph.specs.View.{node_of}
+use Rattle.flow_rules.specs.Relaxed.{stays}
+use Rattle.flow_program.proofs.NodeSetLemmas.{listed_had}
+use Rattle.charges.specs.Known.{facts_of}
+use Rattle.charges.proofs.UseLemmas.{users_total, first_of}
+use Rattle.charges.proofs.useful.users_most.Goals as goal
+
+pub consumers-requires : goal.consumers-requires
+consumers-requires c = subst (λ (q : Shape). c.args.j < q.materials) (sym c.graph.ensures.same)
+    c.requires.known
+
+pub set_most-requires : goal.set_most-requires
+set_most-requires c = λ u there.
+    (listed_had (length c.args.site.now.units) (stays (node_of c.args.node.now)) c.args.set u
+    c.requires.units
+    (first_of (has c.args.set u) (has c.consumers.result u)
+    (sym (has-meet c.args.set c.consumers.result u)
+    ∙ sym (ap (λ (xs : List ℕ). has xs u) c.meet-users.ensures) ∙ there))).0
+
+pub returns-clause-value : goal.returns-clause-value
+returns-clause-value c =
+    let s : SFits w128 c.set_most.result = search rules in
+    simp to_z-of_z
+    (c.set_most.ensures.value
+    ∙ users_total c.args.site.now (well_formed_from_valid c.args.site.now c.problem.ensures.valid)
+    (node_of c.args.node.now) (facts_of c.args.facts.now) c.args.j c.args.set c.consumers.result
+    c.meet-users.result c.requires.units c.rises.ensures.rising
+    (c.consumers.ensures ∙ ap (λ (q : Shape). λ u. q.uses u c.args.j) c.graph.ensures.same)
+    c.meet-users.ensures)

@@ -1,0 +1,28 @@
+-- What the sum over the units reads of a node.
+use Rattle.std.specs.Prelude.{◌≡◌, ◌≤◌, ◌^◌, ℕ, ℤ, List, true, ◌&&◌, not, unsigned_abs}
+use Rattle.number_sets.specs.Sets.{has}
+use Rattle.pns_rules.specs.Nodes.{Node}
+use Rattle.pgraph.specs.View.{node_of}
+use Rattle.flow_rules.specs.Net.{Net}
+use Rattle.flow_rules.specs.Relaxed.{units, rows}
+use Rattle.flow_program.specs.Entry.{entry}
+use Rattle.charge_rules.specs.Facts as rules
+use Rattle.charge_rules.specs.Cover.{Cover, paid}
+use Rattle.charge_rules.specs.Charge.{useful}
+use Rattle.charges.specs.Known.{facts_of}
+use Rattle.charges.specs.declared.useful.Useful.{Useful}
+use Rattle.charges.specs.declared.charge.Ground.{Ground}
+
+-- the rows that are no raw materials, and what can be used of each of them
+pub record AreUseful (net : Net) (n : Node) (f : rules.Facts) (u : Useful) : Type 0 where
+  pub made : (j : ℕ) → has u.made j ≡ (has (rows net n) j && not (net.graph.raw j))
+  pub value : (j : ℕ) → has u.made j ≡ true → entry u.most j ≡ useful net n f j
+  pub small : (j : ℕ) → unsigned_abs (entry u.most j) ≤ 10 ^ 37
+
+pub record IsGround (net : Net) (g : Ground) : Type 0 where
+  pub units : g.units ≡ units net (node_of g.node)
+  pub useful : AreUseful net (node_of g.node) (facts_of g.facts) g.useful
+
+-- each unit is paid what the covers pay to it
+abbrev pub ArePaid : List ℤ → List Cover → Type 0
+ArePaid table covers = (i : ℕ) → entry table i ≡ paid covers i
