@@ -5,7 +5,7 @@
 # the documents, the plants, the extras and the completions of bash, zsh and fish;
 # `make uninstall PREFIX=DIR` takes them away. `make dist` packs the same tree as a tar.gz, and
 # `make deb` as a Debian package, both into the folder dist.
-# The first build proves the program and all below it side by side, in half an hour on four
+# The first build proves the program and all below it side by side, in over half an hour on four
 # idle processors. What is proved is kept.
 RT ?= rt
 PREFIX ?= /usr/local
