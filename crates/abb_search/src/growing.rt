@@ -9,7 +9,6 @@ ghost use Rattle.tree_rules.specs.Ways.{options_at};
 ghost use Rattle.tree_rules.specs.Tree.{branch};
 ghost use Rattle.branch_tree.specs.View.{end_of};
 ghost use Rattle.branch_choice.specs.Choices.{IsChoice, way_of};
-ghost use Rattle.pgraph.specs.Tables.{shape};
 ghost use Rattle.pgraph.specs.View.{node_of};
 ghost use Rattle.search_tree.specs.Cells.{cell_at};
 ghost use Rattle.neutral_extension.specs.Candidates.{AreMakersOf};
@@ -23,13 +22,10 @@ use crate::hand::place_all;
 use branch_choice::Choice;
 use branch_tree::{End, Network};
 use mixed_numbers::Mixed;
-use neutral_extension::Makers;
 use node_evaluation::{
-    Evaluator, Interval, PastStop, Ready, StoppedAt, Worth, cheaper, look_at_children,
-};
+    Evaluator, Interval, PastStop, Ready, StoppedAt, Worth, cheaper, look_at_children, Workspace};
 use node_pool::Pool;
-use pgraph::Graph;
-use pns_problem::Problem;
+use pgraph::Site;
 use search_tree::{Cell, branch};
 use slab::Slab;
 use std::alloc::{AllocError, Global};
@@ -247,38 +243,36 @@ pub fn node_at(pool: &Pool<Cell>, leaf: u32) -> Node
 /// Branches an open leaf. The answer is the network that was found at each child, where `all` are asked for. After `Err`, which comes
 /// for want of memory alone, the tree is as before.
 pub fn branch_leaf<E: Evaluator>(
-    alloc: Global,
-    evaluator: &mut E,
-    problem: &Problem,
-    graph: &Graph,
-    makers: &mut Makers,
+    workspace: &mut Workspace<E>,
+    site: &Site<'_>,
     growing: &mut Growing,
     leaf: u32,
     node: Node,
     choice: Choice,
     all: bool,
 ) -> Result<Vec<Option<Network>>, AllocError>
-    requires graph { shape graph.now ≡ shape_of problem.now }
-    requires same { AreMakersOf (shape graph.now) makers.old.makers }
+    requires own { E.values site.now workspace.old.evaluator }
+    requires makers { AreMakersOf (shape_of site.now) workspace.old.makers.makers }
     requires leaf { has growing.old.pool.leaves leaf ≡ true }
-    requires sound { IsSound (shape_of problem.now) (node_of node) }
-    requires reduced { IsReduced (shape_of problem.now) (node_of node) }
-    requires choice { IsChoice (shape_of problem.now) (node_of node) choice }
+    requires sound { IsSound (shape_of site.now) (node_of node) }
+    requires reduced { IsReduced (shape_of site.now) (node_of node) }
+    requires choice { IsChoice (shape_of site.now) (node_of node) choice }
     requires counted { growing.old.nodes ≡ length growing.old.pool.payloads }
-    requires few { length growing.old.pool.payloads + length (options_at (shape_of problem.now) (node_of node) (way_of choice)) < 2 ^ 32 }
-    ensures branching { OnOk result (IsBranching E.past problem.now (node_of node) growing.old growing.new leaf (way_of choice)) }
-    ensures solved { IfOk result (λ ws. all ≡ true → AreSolvedBy problem.now (drop (length growing.old.pool.payloads) growing.new.pool.payloads) ws.items) }
+    requires few { length growing.old.pool.payloads + length (options_at (shape_of site.now) (node_of node) (way_of choice)) < 2 ^ 32 }
+    ensures branching { OnOk result (IsBranching E.past site.now (node_of node) growing.old growing.new leaf (way_of choice)) }
+    ensures solved { IfOk result (λ ws. all ≡ true → AreSolvedBy site.now (drop (length growing.old.pool.payloads) growing.new.pool.payloads) ws.items) }
     ensures same { OnErr result (IsSameButRoom growing.old growing.new) }
-    ensures makers { makers.new.makers ≡ makers.old.makers }
+    ensures own { E.values site.now workspace.new.evaluator }
+    ensures makers { workspace.new.makers.makers ≡ workspace.old.makers.makers }
 {
     growing.pool.is_pool();
-    let children = look_at_children(alloc, evaluator, problem, graph, makers, node, choice, all)?;
+    let children = look_at_children(workspace, site, node, choice, all)?;
     let first = growing.nodes;
     let count = children.nodes.len();
     if !has_numbers(first, count) {
         return Err(AllocError);
     }
-    let placed = Vec::with_capacity(alloc, count)?;
+    let placed = Vec::with_capacity(workspace.alloc, count)?;
     growing.pool.reserve(count as u32)?;
     growing.ready.reserve(count)?;
     growing.ready.try_remove(key_at(&growing.pool, leaf));

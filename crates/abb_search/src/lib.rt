@@ -16,7 +16,7 @@
 //! - `rounds`: which leaf is branched next, or how the search ends, whatever is to be undercut
 //! - `step`: a turn over the tree
 //! - `turns`: the object over any evaluator
-//! - `workspace`: what searches over one P-graph have in common, and the loop over the turns of a search
+//! - `runs`: the loop over the turns of a search
 //! - `whole`: the same over the simplex method
 #![tactic(auto)]
 
@@ -27,16 +27,16 @@ mod hand;
 mod outcome;
 mod root;
 mod rounds;
+mod runs;
 mod settling;
 mod step;
 mod turns;
 mod whole;
-mod workspace;
 
 pub use growing::{Growing, StoppedLeaf, branch_leaf, choice_at, node_at, take_stop};
 pub use outcome::{Found, Turn};
 pub use root::look_at_root;
 pub use rounds::{Ending, Goal, Next, next_leaf};
+pub use runs::search_with;
 pub use turns::SearchWith;
-pub use whole::{Search, Workspace, search, search_against};
-pub use workspace::WorkspaceWith;
+pub use whole::{FlowWorkspace, Search, search, search_against, workspace_of};

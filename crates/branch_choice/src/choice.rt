@@ -11,8 +11,7 @@ ghost use Rattle.branch_choice.specs.Choices.{IsChoice, option_count};
 
 use crate::candidates::best_unit;
 use crate::dues::Dues;
-use pgraph::Graph;
-use pns_problem::Problem;
+use pgraph::{Graph, Site};
 use unit_sets::{MatSet, Node, UnitSet};
 
 /// Where an open leaf is branched: at a material with three options, or in two at one unit.
@@ -79,13 +78,13 @@ fn has_two_free(graph: &Graph, node: &Node) -> bool {
 ///
 /// `first` is a material that is to decide. `sizes` has the sizes of the units that are not left out, in rising order and in
 /// millionths; an entry that is missing counts as 0.
-pub fn choose(problem: &Problem, graph: &Graph, node: Node, first: u32, sizes: &[i64]) -> Choice
-    requires graph { shape graph.now ≡ shape_of problem.now }
-    requires sound { IsSound (shape_of problem.now) (node_of node) }
-    requires reduced { IsReduced (shape_of problem.now) (node_of node) }
-    requires first { IsUndecided (shape_of problem.now) (node_of node) first }
-    ensures { IsChoice (shape_of problem.now) (node_of node) result }
+pub fn choose(site: &Site<'_>, node: Node, first: u32, sizes: &[i64]) -> Choice
+    requires sound { IsSound (shape_of site.now) (node_of node) }
+    requires reduced { IsReduced (shape_of site.now) (node_of node) }
+    requires first { IsUndecided (shape_of site.now) (node_of node) first }
+    ensures { IsChoice (shape_of site.now) (node_of node) result }
 {
+    let (problem, graph) = (site.problem(), site.graph());
     let needed = graph.needed(node.inside);
     if has_two_free(graph, &node) {
         if let Some(material) = least_with_three(graph, &node, needed) {

@@ -11,6 +11,7 @@
 //! - `children`: a look at all children of a node
 //! - `options`: the options of a choice, and the children that they give
 //! - `costs`: costs over their scales, compared
+//! - `workspace`: what a search works with
 #![tactic(auto)]
 
 mod children;
@@ -18,6 +19,7 @@ mod costs;
 mod evaluator;
 mod looks;
 mod options;
+mod workspace;
 
 pub use children::{
     Children, StoppedAt, cheaper, copy_of_network, costs_no_more, look_at_children,
@@ -27,3 +29,4 @@ pub use evaluator::{
     Bound, Evaluation, Evaluator, FirstLook, Interval, LowerBound, PastStop, Proof,
 };
 pub use looks::{Looked, Ready, Settling, Worth, look, open_cell, settle};
+pub use workspace::Workspace;

@@ -12,9 +12,9 @@ ghost use Rattle.stability.specs.Desk.{IsDesk};
 
 use crate::case::Case;
 use crate::setting::set;
-use abb_search::{Found, Workspace};
+use abb_search::{FlowWorkspace, Found, search_with, workspace_of};
 use branch_tree::Network;
-use pgraph::Graph;
+use pgraph::{Graph, Site};
 use pns_problem::Problem;
 use stability_laws::{present_stays, valued_is_valid};
 use std::alloc::{AllocError, Global};
@@ -25,7 +25,7 @@ use unit_sets::{Node, UnitSet};
 #[derive(Drop)]
 pub(crate) struct Desk {
     problem: Problem,
-    workspace: Workspace,
+    workspace: FlowWorkspace,
 }
 
 impl Model for Desk {
@@ -33,7 +33,7 @@ impl Model for Desk {
 
     ghost Value = { desks.Desk };
 
-    ghost view = { λ d. record { problem = d.problem; makers = d.workspace } };
+    ghost view = { λ d. record { problem = d.problem; makers = d.workspace.makers.makers } };
 }
 
 impl Desk {
@@ -44,7 +44,7 @@ impl Desk {
     {
         present_stays();
         let problem = case.problem.copy(case.alloc)?;
-        let workspace = Workspace::open(case.alloc, &problem, case.graph)?;
+        let workspace = workspace_of(case.alloc, &Site::of(&problem, case.graph))?;
         Ok(Desk { problem, workspace })
     }
 
@@ -71,7 +71,6 @@ impl Desk {
     /// Searches all structures of the problem for a network that is cheaper than this one.
     pub(crate) fn search(
         &mut self,
-        alloc: Global,
         graph: &Graph,
         budget: u32,
         network: Network,
@@ -88,7 +87,10 @@ impl Desk {
             inside: UnitSet::empty(),
             outside: UnitSet::empty(),
         };
-        self.workspace
-            .search(alloc, &self.problem, graph, start, budget, Some(network))
+        let site = Site::of(&self.problem, graph);
+        match self.workspace.rebind(&site) {
+            Ok(()) => search_with(&mut self.workspace, &site, start, budget, Some(network)),
+            Err(_) => Found::Memory,
+        }
     }
 }

@@ -70,7 +70,7 @@ impl<'a> Case<'a> {
             cost: network.cost(),
             d: network.d(),
         };
-        match desk.search(self.alloc, self.graph, self.budget, network) {
+        match desk.search(self.graph, self.budget, network) {
             Found::Solved { network, tree: _ } => {
                 network.is_sized();
                 if is_cheaper(&much, &network) {

@@ -76,7 +76,7 @@ pub(crate) fn certified(
         return Ok(None);
     }
     let node = node_of(problem, set);
-    let mut bounds = CertifiedBounds::open(alloc, problem)?;
+    let mut bounds = CertifiedBounds::open(alloc, site)?;
     let certified = bounds.look(alloc, site, node, true)?;
     Ok(told(problem, set, certified))
 }

@@ -14,7 +14,7 @@ settle_from-requires-clause-growing g c = (undercut_of c.args._goal.now c.args.g
 
 pub returns-in-Some-clause-holds : goal.returns-in-Some-clause-holds
 returns-in-Some-clause-holds g c =
-    let p = c.args.problem.now in
+    let p = c.args.site.now in
     let s = c.args.growing.now in
     let t = c.settle_from.new.growing in
     let undercut = undercut_of c.args._goal.now s in
@@ -23,17 +23,17 @@ returns-in-Some-clause-holds g c =
 
 pub returns-clause-holds : goal.returns-clause-holds
 returns-clause-holds g c =
-    let p = c.args.problem.now in
+    let p = c.args.site.now in
     let s = c.args.growing.now in
     let undercut = undercut_of c.args._goal.now s in
     let at = c.args.leaf in
     let next = c.requires.next in
     let m = choice_of (ready_at s at) in
-    let choice = chosen p c.is_valid.ensures.valid s c.requires.growing at next.is_open c.is_pool.ensures.payloads c.is_pool.ensures.leaves m refl in
+    let choice = chosen p c.problem.ensures.valid s c.requires.growing at next.is_open c.is_pool.ensures.payloads c.is_pool.ensures.leaves m refl in
     let over = subst (λ n. s.budget < length s.pool.payloads + n) c.requires.options c.requires.over in
     subst (λ n. IsSpentFor p undercut s c.in_ok-refuted.refuted.items at n) (sym c.requires.options)
-    (spent_for p c.is_valid.ensures.valid s c.requires.growing at next.is_open c.is_pool.ensures.payloads c.is_pool.ensures.leaves undercut c.requires.growing.tree.kept.undercut_positive
+    (spent_for p c.problem.ensures.valid s c.requires.growing at next.is_open c.is_pool.ensures.payloads c.is_pool.ensures.leaves undercut c.requires.growing.tree.kept.undercut_positive
     next.settled next.least next.undercuts c.in_default.ensures.none c.in_ok-refuted.refuted.items c.in_ok-refuted.ensures m choice over)
 
 pub returns-clause-same : goal.returns-clause-same
-returns-clause-same g c = same_refl g.E.Evaluator.past c.args.problem.now c.args.growing.now
+returns-clause-same g c = same_refl g.E.Evaluator.past c.args.site.now c.args.growing.now
